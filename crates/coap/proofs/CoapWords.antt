@@ -1,0 +1,109 @@
+-- What clap's clauses say of the words of this program.
+use Rattle.std.proofs.Common.{◌≡◌, ◌∙◌, ◌⊎◌, ap, ap₂, sym, refl, subst, ℕ, Bool, true, false, ◌||◌, List, [], ◌∷◌, Option, Some, None, is_some, true≢false, option_map, unwrap_or, codes, inl, inr, Result, Ok, Err}
+use Rattle.std.specs.Str.{bytes_eq}
+use Rattle.std.specs.Result.{IfErr, IfOk, MatchResult}
+use Rattle.std.proofs.lemmas.Slice.Eq.{bytes_eq-Decides}
+use Rattle.clap.proofs.OnLiterals.{clap_on_literals}
+use Rattle.clap.specs.Words.{App, HasMatchesOf, Row, Text, fault_of, is_simple, is_simple_and_free, subcommand_name_of, subcommand_of, subcommand_rows_of}
+use Rattle.clap.specs.declared.parser.matches.ArgMatches.{ArgMatches}
+use Rattle.coap.specs.CommandLine.{coap_app}
+use Rattle.coap.specs.Words.{Enters, IsGiven, IsWrong, IsWrongIn, Says, SaysIn}
+use Rattle.coap.specs.declared.orders.Order.{Order}
+use Rattle.coap.specs.declared.orders.Wrong.{Wrong}
+use Rattle.coap.specs.declared.orders.Wrong.TheVariants.{Words, Path, Hex, Memory}
+use Rattle.coap.proofs.Entered.{enters}
+use Rattle.coap.proofs.GivenWords.{required_word}
+
+-- ---- a name and its rows, where each is known by itself
+
+abbrev pub both : {X : Type 0} → (X → Text) → (X → List Row) → X → Text × List Row
+both f g x = (f x, g x)
+
+joined : {X : Type 0} (s : Option X) (f : X → Text) (g : X → List Row) (n : Text) (r : List Row)
+    → Some n ≡ option_map f s → Some r ≡ option_map (λ (p : Text × List Row). p.1) (option_map (both f g) s) → option_map (both f g) s ≡ Some (n, r)
+joined None f g n r a b = cc
+joined (Some x) f g n r a b =
+    let pair : Text → List Row → Option (Text × List Row) = λ u v. Some (u, v) in
+    ap₂ pair (ap (λ o. unwrap_or o n) (sym a)) (ap (λ o. unwrap_or o r) (sym b))
+
+-- ---- the command line itself
+
+is_simple_coap : is_simple coap_app ≡ true
+unfolding clap_on_literals
+is_simple_coap = refl
+
+is_free_coap : is_simple_and_free coap_app ≡ true
+unfolding clap_on_literals
+is_free_coap = refl
+
+-- the names of the subcommands, but for `help`
+abbrev is_ours : Text → Bool
+is_ours name = bytes_eq name (codes "show") || bytes_eq name (codes "answer")
+
+one_of_ours : (name : Text) → is_ours name ≡ true → (name ≡ codes "show") ⊎ (name ≡ codes "answer")
+one_of_ours name is = go (bytes_eq name (codes "show")) refl is
+  where
+    go : (b : Bool) → bytes_eq name (codes "show") ≡ b → (b || bytes_eq name (codes "answer")) ≡ true → (name ≡ codes "show") ⊎ (name ≡ codes "answer")
+    go true same h = inl ((bytes_eq-Decides name (codes "show")).0 same)
+    go false same h = inr ((bytes_eq-Decides name (codes "answer")).0 h)
+
+-- words that clap takes enter `show` or `answer`
+enters_ours : (words : List Text) → fault_of coap_app words ≡ [] → (name : Text) × (rows : List Row) × (subcommand_of coap_app words ≡ Some (name, rows)) × (is_ours name ≡ true)
+unfolding clap_on_literals
+enters_ours words none = enters is_ours coap_app words refl refl refl none
+
+-- and each word that has to be there is there
+pub show_hex : (words : List Text) (rows : List Row) → Enters words (codes "show") rows → IsGiven (codes "HEX") rows
+unfolding clap_on_literals
+show_hex words rows e = required_word coap_app words (codes "show") (codes "HEX") rows refl e.taken e.entered
+
+pub answer_path : (words : List Text) (rows : List Row) → Enters words (codes "answer") rows → IsGiven (codes "PATH") rows
+unfolding clap_on_literals
+answer_path words rows e = required_word coap_app words (codes "answer") (codes "PATH") rows refl e.taken e.entered
+
+pub answer_body : (words : List Text) (rows : List Row) → Enters words (codes "answer") rows → IsGiven (codes "BODY") rows
+unfolding clap_on_literals
+answer_body words rows e = required_word coap_app words (codes "answer") (codes "BODY") rows refl e.taken e.entered
+
+pub answer_hex : (words : List Text) (rows : List Row) → Enters words (codes "answer") rows → IsGiven (codes "HEX") rows
+unfolding clap_on_literals
+answer_hex words rows e = required_word coap_app words (codes "answer") (codes "HEX") rows refl e.taken e.entered
+
+-- ---- a parse that succeeds
+
+module _ (app : App) (is : app ≡ coap_app) (words : List Text) (m : ArgMatches) (found : HasMatchesOf app words m) (kinds : is_simple_and_free app ≡ true → fault_of app words ≡ []) where
+  no_faults : fault_of coap_app words ≡ []
+  no_faults = ap (λ (a : App). fault_of a words) (sym is) ∙ kinds (ap is_simple_and_free is ∙ is_free_coap)
+
+  rows_are : subcommand_rows_of m ≡ subcommand_of coap_app words
+  rows_are = (found (ap is_simple is ∙ is_simple_coap)).1 ∙ ap (λ (a : App). subcommand_of a words) is
+
+  -- the subcommand that it met, by its name and by its rows
+  pub enters_met : (name known : Text) (rows : List Row) → name ≡ known → Some name ≡ subcommand_name_of m → Some rows ≡ option_map (λ (p : Text × List Row). p.1) (subcommand_rows_of m)
+      → Enters words known rows
+  enters_met name known rows same by_name by_rows =
+      let met : subcommand_rows_of m ≡ Some (name, rows) = joined _ _ _ _ _ by_name by_rows in
+      subst (λ n. Enters words n rows) same (record { taken = no_faults; entered = sym rows_are ∙ met })
+
+-- which is one of the two
+pub ours : (words : List Text) (name : Text) (rows : List Row) → Enters words name rows → (name ≡ codes "show") ⊎ (name ≡ codes "answer")
+ours words name rows e =
+    let one = enters_ours words e.taken in
+    let same : one.0 ≡ name = ap (λ (o : Option (Text × List Row)). (unwrap_or o (name, rows)).0) (sym one.2 ∙ e.entered) in
+    one_of_ours name (subst (λ n. is_ours n ≡ true) same one.3)
+
+-- ---- what a subcommand answers
+
+pub said_by : (words : List Text) (name : Text) (rows : List Row) (r : Result Order Wrong) → Enters words name rows → MatchResult r (SaysIn name rows) (IsWrongIn name rows) → IfOk r (Says words)
+said_by words name rows (Ok o) e h = (name, rows, e, h)
+said_by words name rows (Err w) e h = tt
+
+wrong_in : (words : List Text) (name : Text) (rows : List Row) (w : Wrong) → Enters words name rows → IsWrongIn name rows w → IsWrong words w
+wrong_in words name rows (Words error) e h = absurd h
+wrong_in words name rows (Path refusal) e h = (rows, subst (λ n. Enters words n rows) h.0 e, h.1)
+wrong_in words name rows Hex e h = (name, rows, e, h.0, h.1)
+wrong_in words name rows Memory e h = tt
+
+pub wrong_by : (words : List Text) (name : Text) (rows : List Row) (r : Result Order Wrong) → Enters words name rows → MatchResult r (SaysIn name rows) (IsWrongIn name rows) → IfErr r (IsWrong words)
+wrong_by words name rows (Ok o) e h = tt
+wrong_by words name rows (Err w) e h = wrong_in words name rows w e h

@@ -1,0 +1,7 @@
+pub mod CoapWords
+pub mod Entered
+pub mod FilledRows
+pub mod GivenWords
+pub mod PathTexts
+pub mod PathWalk
+pub mod ReplyLemmas

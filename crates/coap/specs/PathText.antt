@@ -1,0 +1,31 @@
+-- The text of a path: its segments, joined by `/` (47).
+use Rattle.std.specs.Prelude.{ℕ, List, [], ◌∷◌, ◌≡◌, ◌≢◌, ◌<◌, ◌==◌, All, Any, length, if◌then◌else◌}
+use Rattle.std.specs.List.{join_with_byte}
+use Rattle.coap_types.specs.Path.{HoldsAtMost}
+use Rattle.coap_types.specs.declared.path.PathRefusal.{PathRefusal}
+use Rattle.coap_types.specs.declared.path.PathRefusal.TheVariants.{SegmentTooLong, TooManySegments, Memory}
+
+-- the text, of which one leading `/` is dropped
+abbrev pub without_leading_slash : List ℕ → List ℕ
+without_leading_slash [] = []
+without_leading_slash (b ∷ bs) = if b == 47 then bs else b ∷ bs
+
+-- Nothing is the path without segments. Any other text is its segments with a `/` between each two,
+-- and none of them has a `/`. So the path of one empty segment has no text.
+abbrev pub Joins : List ℕ → List (List ℕ) → Type 0
+Joins [] segments = segments ≡ []
+Joins (b ∷ bs) segments = ((b ∷ bs) ≡ join_with_byte 47 segments) × All (λ s. All (λ x. x ≢ 47) s) segments
+
+-- the text says the path of these segments
+abbrev pub IsPathText : List ℕ → List (List ℕ) → Type 0
+IsPathText text segments = Joins (without_leading_slash text) segments
+
+-- what the text says is no path: it has over 16 segments, or one of over 255 bytes
+abbrev pub IsNoPath : List ℕ → Type 0
+IsNoPath text = (segments : List (List ℕ)) → IsPathText text segments → HoldsAtMost 16 255 segments → ⊥
+
+-- the refusal is true of what the text says
+abbrev pub IsTrueOf : PathRefusal → List ℕ → Type 0
+IsTrueOf SegmentTooLong text = (segments : List (List ℕ)) × IsPathText text segments × Any (λ s. 255 < length s) segments
+IsTrueOf TooManySegments text = (segments : List (List ℕ)) × IsPathText text segments × (16 < length segments)
+IsTrueOf Memory text = ⊥

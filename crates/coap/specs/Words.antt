@@ -1,0 +1,83 @@
+-- What the words of the program say, as clap reads them.
+use Rattle.std.specs.Prelude.{ℕ, List, [], ◌≡◌, ◌≢◌, ◌⊎◌, ⊤, Some, Ok, true, is_some, codes}
+use Rattle.clap.specs.Words.{IsAmong, Row, Text, fault_of, first_of, kind_of, subcommand_of}
+use Rattle.clap.specs.declared.error.Error.{Error}
+use Rattle.coap_types.specs.Path.{HoldsAtMost}
+use Rattle.coap_types.specs.declared.path.PathRefusal.{PathRefusal}
+use Rattle.hex.specs.Hex.{decode_of}
+use Rattle.coap.specs.CommandLine.{coap_app}
+use Rattle.coap.specs.PathText.{IsNoPath, IsPathText, IsTrueOf}
+use Rattle.coap.specs.declared.orders.Order.{Order}
+use Rattle.coap.specs.declared.orders.Order.TheVariants.{Show, Answer}
+use Rattle.coap.specs.declared.orders.Wrong.{Wrong}
+use Rattle.coap.specs.declared.orders.Wrong.TheVariants.{Words, Path, Hex, Memory}
+
+-- clap takes the words, which enter this subcommand, and these are the values of its arguments
+pub record Enters (words : List Text) (subcommand : Text) (values : List Row) : Type 0 where
+  pub taken : fault_of coap_app words ≡ []
+  pub entered : subcommand_of coap_app words ≡ Some (subcommand, values)
+
+-- the argument has a value
+abbrev pub IsGiven : Text → List Row → Type 0
+IsGiven name values = is_some (first_of name values) ≡ true
+
+-- the value of the argument is this text
+abbrev pub IsValue : Text → List Row → Text → Type 0
+IsValue name values text = first_of name values ≡ Some text
+
+-- PATH is a text of the path of these segments
+abbrev pub HasPath : List Row → List (List ℕ) → Type 0
+HasPath values segments = (text : Text) × IsValue (codes "PATH") values text × IsPathText text segments
+
+-- PATH is a text of no path, for this reason
+abbrev pub HasNoPath : List Row → PathRefusal → Type 0
+HasNoPath values refusal = (text : Text) × IsValue (codes "PATH") values text × IsNoPath text × IsTrueOf refusal text
+
+-- HEX is the hex of these bytes
+abbrev pub HasBytes : List Row → List ℕ → Type 0
+HasBytes values bytes = (text : Text) × IsValue (codes "HEX") values text × (decode_of text ≡ Ok bytes)
+
+-- HEX is the hex of no list of bytes
+abbrev pub HasNoBytes : List Row → Type 0
+HasNoBytes values = (text : Text) × IsValue (codes "HEX") values text × ((bytes : List ℕ) → decode_of text ≢ Ok bytes)
+
+-- the subcommand with these values says this order
+abbrev pub SaysIn : Text → List Row → Order → Type 0
+SaysIn subcommand values (Show datagram) = (subcommand ≡ codes "show") × HasBytes values datagram.items
+SaysIn subcommand values (Answer path body datagram) =
+    (subcommand ≡ codes "answer") × HasPath values path × IsValue (codes "BODY") values body.now × HasBytes values datagram.items
+
+-- the words say this order
+abbrev pub Says : List Text → Order → Type 0
+Says words order = (subcommand : Text) × (values : List Row) × Enters words subcommand values × SaysIn subcommand values order
+
+-- the subcommand takes no PATH, or its PATH is a text of a path
+abbrev pub IsPathFine : Text → List Row → Type 0
+IsPathFine subcommand values = (subcommand ≡ codes "show")
+    ⊎ ((subcommand ≡ codes "answer") × (segments : List (List ℕ)) × HasPath values segments × HoldsAtMost 16 255 segments)
+
+-- clap refuses the words, and the error is of a kind that they call for
+abbrev pub IsRefusedBy : Error → List Text → Type 0
+IsRefusedBy error words = IsAmong (kind_of error) (fault_of coap_app words)
+
+-- clap takes the words, and the PATH of `answer` is a text of no path, for this reason
+abbrev pub NamesNoPath : List Text → PathRefusal → Type 0
+NamesNoPath words refusal = (values : List Row) × Enters words (codes "answer") values × HasNoPath values refusal
+
+-- clap takes the words, a PATH among them is a text of a path, and HEX is the hex of no list of bytes
+abbrev pub HasBadHex : List Text → Type 0
+HasBadHex words = (subcommand : Text) × (values : List Row) × Enters words subcommand values × IsPathFine subcommand values × HasNoBytes values
+
+-- this is wrong in the words; on memory that is refused they have no say
+abbrev pub IsWrong : List Text → Wrong → Type 0
+IsWrong words (Words error) = IsRefusedBy error words
+IsWrong words (Path refusal) = NamesNoPath words refusal
+IsWrong words Hex = HasBadHex words
+IsWrong words Memory = ⊤
+
+-- the same, once it is known which subcommand they enter, with which values
+abbrev pub IsWrongIn : Text → List Row → Wrong → Type 0
+IsWrongIn subcommand values (Words error) = ⊥
+IsWrongIn subcommand values (Path refusal) = (subcommand ≡ codes "answer") × HasNoPath values refusal
+IsWrongIn subcommand values Hex = IsPathFine subcommand values × HasNoBytes values
+IsWrongIn subcommand values Memory = ⊤

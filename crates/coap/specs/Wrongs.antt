@@ -1,0 +1,27 @@
+-- What an error of a crate below is among those of this one: want of memory stays that.
+use Rattle.std.specs.Prelude.{◌≡◌, ◌≢◌}
+use Rattle.clap.specs.Words.{kind_of}
+use Rattle.clap.specs.declared.error.Error.{Error}
+use Rattle.clap.specs.declared.error.kind.ErrorKind.TheVariants as kind
+use Rattle.coap_types.specs.declared.path.PathRefusal.{PathRefusal}
+use Rattle.coap_types.specs.declared.path.PathRefusal.TheVariants as refusal
+use Rattle.hex.specs.declared.FromHexError.{FromHexError}
+use Rattle.hex.specs.declared.FromHexError.TheVariants as hex
+use Rattle.coap.specs.declared.orders.Wrong.{Wrong}
+use Rattle.coap.specs.declared.orders.Wrong.TheVariants.{Words, Path, Hex, Memory}
+
+-- an error of clap is handed on as it is
+abbrev pub IsWrongOfClap : Error → Wrong → Type 0
+IsWrongOfClap error (Words own) = (own ≡ error) × (kind_of error ≢ kind.OutOfMemory)
+IsWrongOfClap error Memory = kind_of error ≡ kind.OutOfMemory
+IsWrongOfClap error (Path refusal) = ⊥
+IsWrongOfClap error Hex = ⊥
+
+abbrev pub wrong_path : PathRefusal → Wrong
+wrong_path refusal.Memory = Memory
+wrong_path refusal.SegmentTooLong = Path refusal.SegmentTooLong
+wrong_path refusal.TooManySegments = Path refusal.TooManySegments
+
+abbrev pub wrong_hex : FromHexError → Wrong
+wrong_hex hex.OutOfMemory = Memory
+wrong_hex _ = Hex

@@ -1,0 +1,44 @@
+//! The command line that the program takes.
+ghost use Rattle.std.specs.Prelude.{◌≡◌, IfOk, false};
+ghost use Rattle.clap.specs.Words.{app_of, rule_of};
+ghost use Rattle.clap.specs.declared.builder.command.Command.TheViews.{out-Command};
+ghost use Rattle.coap.specs.CommandLine.{answer_app, coap_app, required_word, show_app};
+
+use clap::{Arg, ArgAction, Command};
+use std::alloc::{AllocError, Global};
+
+fn positional<'a>(alloc: Global, name: &'a str) -> Arg<'a>
+    ensures rule { rule_of result ≡ required_word name.entry.now }
+    ensures own { result.global ≡ false }
+{
+    Arg::new(alloc, name).required(true).action(ArgAction::Set)
+}
+
+fn show_command<'a>(alloc: Global) -> Result<Command<'a>, AllocError>
+    ensures app { IfOk result (λ c. app_of c ≡ show_app) }
+    ensures own { IfOk result (λ c. (out-Command c).has_globals ≡ false) }
+{
+    Command::new(alloc, "show").arg(positional(alloc, "HEX"))
+}
+
+fn answer_command<'a>(alloc: Global) -> Result<Command<'a>, AllocError>
+    ensures app { IfOk result (λ c. app_of c ≡ answer_app) }
+    ensures own { IfOk result (λ c. (out-Command c).has_globals ≡ false) }
+{
+    Command::new(alloc, "answer")
+        .arg(positional(alloc, "PATH"))?
+        .arg(positional(alloc, "BODY"))?
+        .arg(positional(alloc, "HEX"))
+}
+
+/// The command line that the program takes.
+pub fn coap_command<'a>(alloc: Global) -> Result<Command<'a>, AllocError>
+    ensures { IfOk result (λ c. app_of c ≡ coap_app) }
+{
+    let show = show_command(alloc)?;
+    let answer = answer_command(alloc)?;
+    Command::new(alloc, "coap")
+        .subcommand_required(true)
+        .subcommand(show)?
+        .subcommand(answer)
+}

@@ -1,0 +1,30 @@
+//! The program `coap`: a client and a server of CoAP (RFC 7252) on the command line.
+#![tactic(auto)]
+
+pub mod command_line;
+pub mod commands;
+pub mod orders;
+pub mod path_text;
+pub mod reply;
+pub mod text;
+pub mod words;
+
+use commands::{command, without_words};
+use std::process::ExitCode;
+use std::rt::Env;
+use std::{env, io};
+
+/// The words of the command line, the program's own name first.
+fn arguments<R: Env + AllocGlobal>(rt: &R) -> io::Result<Vec<String>> {
+    Ok(env::args(rt)?.collect(rt.alloc())?)
+}
+
+fn main(rt: HostRuntime) -> ExitCode {
+    let mut out = io::writer(&rt);
+    let mut err = rt.stderr();
+    let status = match arguments(&rt) {
+        Ok(words) => command(&rt, words.as_slice(), &mut out, &mut err),
+        Err(error) => without_words(&error, &mut err),
+    };
+    ExitCode::from(status)
+}

@@ -1,0 +1,94 @@
+//! What the words of the program can ask for, and what can be wrong with them.
+ghost use Rattle.std.specs.Prelude.{◌≡◌};
+
+use coap_types::{Path, PathRefusal};
+use hex::FromHexError;
+use clap::error::ErrorKind;
+use std::alloc::AllocError;
+use thiserror::Error;
+
+/// What the program is asked to do.
+#[derive(Drop)]
+pub enum Order<'a> {
+    /// Show what a datagram says.
+    Show {
+        /// The datagram.
+        datagram: Vec<u8>,
+    },
+    /// Answer a datagram as a server with one resource does.
+    Answer {
+        /// Where the resource is.
+        path: Path,
+        /// What it holds: the bytes of this text.
+        body: &'a str,
+        /// The datagram.
+        datagram: Vec<u8>,
+    },
+}
+
+/// Why the words give no order.
+#[derive(Debug, Drop, Error)]
+pub enum Wrong {
+    /// The words are no command line of the program, or ask for help.
+    #[error("{0}")]
+    Words(clap::Error),
+    /// PATH is no path.
+    #[error("PATH is no path: {0}")]
+    Path(PathRefusal),
+    /// HEX is not the hex of any list of bytes.
+    #[error("bad hex")]
+    Hex,
+    /// An allocation was refused.
+    #[error("no memory")]
+    Memory,
+}
+
+impl From<AllocError> for Wrong {
+    ghost use Rattle.coap.specs.declared.orders.Wrong.{Wrong};
+
+    ghost from_gives = { λ _ wrong. wrong ≡ Wrong.Memory };
+
+    fn from(_error: AllocError) -> Wrong {
+        Wrong::Memory
+    }
+}
+
+impl From<clap::Error> for Wrong {
+    ghost use Rattle.coap.specs.Wrongs.{IsWrongOfClap};
+
+    ghost from_gives = { IsWrongOfClap };
+
+    fn from(error: clap::Error) -> Wrong {
+        if error.kind() == ErrorKind::OutOfMemory {
+            Wrong::Memory
+        } else {
+            Wrong::Words(error)
+        }
+    }
+}
+
+impl From<PathRefusal> for Wrong {
+    ghost use Rattle.coap.specs.Wrongs.{wrong_path};
+
+    ghost from_gives = { λ refusal wrong. wrong ≡ wrong_path refusal };
+
+    fn from(refusal: PathRefusal) -> Wrong {
+        match refusal {
+            PathRefusal::Memory => Wrong::Memory,
+            refusal => Wrong::Path(refusal),
+        }
+    }
+}
+
+impl From<FromHexError> for Wrong {
+    ghost use Rattle.coap.specs.Wrongs.{wrong_hex};
+
+    ghost from_gives = { λ error wrong. wrong ≡ wrong_hex error };
+
+    fn from(error: FromHexError) -> Wrong {
+        match error {
+            FromHexError::OutOfMemory => Wrong::Memory,
+            _ => Wrong::Hex,
+        }
+    }
+}

@@ -1,0 +1,62 @@
+//! The words of the program, read.
+ghost use Rattle.std.specs.Prelude.{◌≡◌, IfOk, IfErr, MatchResult, map, codes, string_bytes};
+ghost use Rattle.clap.specs.Words.{found_of, rows_of};
+ghost use Rattle.coap.specs.Words.{IsGiven, IsValue, IsWrong, IsWrongIn, Says, SaysIn};
+
+use crate::command_line::coap_command;
+use crate::orders::{Order, Wrong};
+use crate::path_text::path_of;
+use clap::ArgMatches;
+use std::alloc::Global;
+
+/// The order that the words give, of which the first is the program's own name. They are read by
+/// `clap`, PATH by `path_of` and HEX by `hex`, in either case; BODY is taken as it is.
+pub fn order<'a>(alloc: Global, words: &'a [String]) -> Result<Order<'a>, Wrong>
+    // The order is the one that the words say.
+    ensures ok { IfOk result (λ o. Says (map string_bytes words.now) o) }
+    // What is called wrong is wrong, and nothing that is tested before it.
+    ensures wrong { IfErr result (λ w. IsWrong (map string_bytes words.now) w) }
+{
+    let matches = coap_command(alloc)?.try_get_matches_from(words)?;
+    let Some((subcommand, given)) = matches.subcommand() else {
+        unreachable!();
+    };
+    match subcommand {
+        "show" => show(alloc, given),
+        "answer" => answer(alloc, given),
+        _ => unreachable!(),
+    }
+}
+
+fn show<'a>(alloc: Global, given: &ArgMatches<'a>) -> Result<Order<'a>, Wrong>
+    requires { IsGiven (codes "HEX") (rows_of (found_of given.now)) }
+    ensures { MatchResult result (SaysIn (codes "show") (rows_of (found_of given.now)))
+        (IsWrongIn (codes "show") (rows_of (found_of given.now))) }
+{
+    let datagram = hex::decode(alloc, value(given, "HEX"))?;
+    Ok(Order::Show { datagram })
+}
+
+fn answer<'a>(alloc: Global, given: &ArgMatches<'a>) -> Result<Order<'a>, Wrong>
+    requires path { IsGiven (codes "PATH") (rows_of (found_of given.now)) }
+    requires body { IsGiven (codes "BODY") (rows_of (found_of given.now)) }
+    requires hex { IsGiven (codes "HEX") (rows_of (found_of given.now)) }
+    ensures { MatchResult result (SaysIn (codes "answer") (rows_of (found_of given.now)))
+        (IsWrongIn (codes "answer") (rows_of (found_of given.now))) }
+{
+    let path = path_of(alloc, value(given, "PATH"))?;
+    let datagram = hex::decode(alloc, value(given, "HEX"))?;
+    Ok(Order::Answer {
+        path,
+        body: value(given, "BODY"),
+        datagram,
+    })
+}
+
+/// The value of a word that has to be there.
+fn value<'a>(given: &ArgMatches<'a>, name: &str) -> &'a str
+    requires { IsGiven name.now (rows_of (found_of given.now)) }
+    ensures { IsValue name.now (rows_of (found_of given.now)) result.now }
+{
+    given.get_str(name).unwrap()
+}

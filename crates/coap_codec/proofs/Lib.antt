@@ -1,0 +1,15 @@
+pub mod StepLemmas
+pub mod WalkLemmas
+pub mod RestLemmas
+pub mod FrameLemmas
+pub mod SoundBytes
+pub mod ReadLemmas
+pub mod ReadAgain
+pub mod EveryDatagram
+pub mod OneSpelling
+pub mod RefusedLemmas
+pub mod PutLemmas
+pub mod LoopLemmas
+pub mod SpellLemmas
+pub mod NarrowLemmas
+pub mod StandardFacts

@@ -1,0 +1,5 @@
+use Rattle.coap_codec.proofs.OneSpelling.{one_spelling}
+use Rattle.coap_codec.proofs.laws.one_spelling.Goals as goal
+
+pub returns : goal.returns
+returns c = one_spelling

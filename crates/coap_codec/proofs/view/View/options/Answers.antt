@@ -1,0 +1,9 @@
+use Rattle.std.proofs.Common.{length, ap, arith}
+use Rattle.coap_codec.proofs.WalkLemmas.{walk_count}
+use Rattle.coap_codec.proofs.view.View.options.Goals as goal
+
+pub returns-clause-few : goal.returns-clause-few
+returns-clause-few c =
+    let n = walk_count 0 c.self.inside.options.now in
+    let same = ap (λ m. length m.options) c.self.view_is in
+    omega arith

@@ -1,0 +1,10 @@
+pub mod Extension
+pub mod Options
+pub mod Message
+pub mod Header
+pub mod Faulty
+pub mod Refused
+pub mod Narrow
+pub mod Laws
+pub mod Reading
+pub mod Writing

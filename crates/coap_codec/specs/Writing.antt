@@ -1,0 +1,58 @@
+-- The steps of the writer, on lists. Only private contracts cite them; what they mean is said in Message.
+use Rattle.std.specs.Prelude.{◌≡◌, ℕ, ◌+◌, ◌-◌, ◌*◌, ◌^◌, ◌<◌, ◌≤◌, true, nat_lt, nat_le, Bool, ◌&&◌, if◌then◌else◌, Option, Some, None, List, [], ◌∷◌, ◌++◌, length, take, drop}
+use Rattle.std.specs.List.{list_all}
+use Rattle.byteorder.specs.Endian.{big_bytes}
+use Rattle.coap_types.specs.CoapOption.{CoapOption}
+use Rattle.coap_types.specs.declared.options.Opt.{Opt}
+use Rattle.coap_codec.specs.Message.{Message, header, marked, Spells}
+use Rattle.coap_codec.specs.Refused.{ascends, is_short}
+
+-- the number is one that an option may have
+abbrev pub HasNumber : Opt → Type 0
+HasNumber option = option.number < 2 ^ 16
+
+-- new is old with these bytes at this place
+abbrev pub Puts : List ℕ → ℕ → List ℕ → List ℕ → Type 0
+Puts old at bytes new = new ≡ take at old ++ (bytes ++ drop (at + length bytes) old)
+
+-- the nibble of a number
+abbrev pub nibble : ℕ → ℕ
+nibble n = if nat_lt n 13 then n else if nat_lt n 269 then 13 else 14
+
+-- the bytes that extend it
+abbrev pub more : ℕ → List ℕ
+more n = if nat_lt n 13 then [] else if nat_lt n 269 then (n - 13) ∷ [] else big_bytes 2 (n - 269)
+
+-- an option behind one of number base
+unfoldable pub option_bytes : ℕ → CoapOption → List ℕ
+option_bytes base option =
+    (nibble (option.number - base) * 16 + nibble (length option.value)) ∷ (more (option.number - base) ++ (more (length option.value) ++ option.value))
+
+-- options, the first behind one of number base
+unfoldable pub options_bytes : ℕ → List CoapOption → List ℕ
+options_bytes base [] = []
+options_bytes base (option ∷ options) = option_bytes base option ++ options_bytes option.number options
+
+-- the bytes of a message
+abbrev pub message_bytes : Message → List ℕ
+message_bytes m = header m ++ (m.token ++ (options_bytes 0 m.options ++ marked m.payload))
+
+-- The message can be written into this room, and what is written spells it.
+pub record IsWritable (m : Message) (room : ℕ) : Type 0 where
+  pub order : ascends 0 m.options ≡ true
+  pub short : list_all is_short m.options ≡ true
+  pub fits : length (message_bytes m) ≤ room
+  pub spelled : Spells (message_bytes m) m
+
+-- what is left of the room behind n bytes
+abbrev pub room_after : ℕ → ℕ → Option ℕ
+room_after room n = if nat_lt room n then None else Some (room - n)
+
+-- the test of one option, behind one of number base
+unfoldable pub is_narrow : ℕ → CoapOption → Bool
+is_narrow base option = nat_le option.number (base + 12) && nat_le (length option.value) 12
+
+-- the test of options, the first behind one of number base
+unfoldable pub are_narrow : ℕ → List CoapOption → Bool
+are_narrow base [] = true
+are_narrow base (option ∷ options) = is_narrow base option && are_narrow option.number options

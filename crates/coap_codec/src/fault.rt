@@ -1,0 +1,80 @@
+ghost use Rattle.std.specs.Prelude.{◌≡◌};
+ghost use Rattle.coap_codec.specs.Faulty.{reason_number};
+
+use coap_types::{Id, Kind};
+use std::fmt;
+
+/// Why a datagram spells no message (RFC 7252, section 3).
+#[derive(Clone, Copy, Debug, PartialEq, Eq)]
+pub enum Reason {
+    /// Fewer than the 4 bytes of a header.
+    Short,
+    /// A version other than 1.
+    Version,
+    /// A token length of 9 to 15, which are reserved.
+    TokenLength,
+    /// Fewer bytes than the token length says.
+    TokenCut,
+    /// Code 0.00 with a token length, or with bytes behind the Message ID (section 4.1).
+    EmptyNotBare,
+    /// A delta nibble 15 in a byte that is no payload marker (section 3.1).
+    DeltaReserved,
+    /// A length nibble 15 (section 3.1).
+    LengthReserved,
+    /// The bytes end inside an option.
+    OptionCut,
+    /// The deltas sum up to an option number above 65,535.
+    NumberTooLarge,
+    /// The payload marker is the last byte.
+    NoPayload,
+}
+
+impl Reason {
+    /// The number of the reason, 1 to 10, in the order of the variants.
+    pub fn number(self) -> u8
+        ensures { result ≡ reason_number self }
+    {
+        match self {
+            Reason::Short => 1,
+            Reason::Version => 2,
+            Reason::TokenLength => 3,
+            Reason::TokenCut => 4,
+            Reason::EmptyNotBare => 5,
+            Reason::DeltaReserved => 6,
+            Reason::LengthReserved => 7,
+            Reason::OptionCut => 8,
+            Reason::NumberTooLarge => 9,
+            Reason::NoPayload => 10,
+        }
+    }
+}
+
+/// The variant's name.
+impl fmt::Display for Reason {
+    fn fmt<W: fmt::Write>(&self, f: &mut fmt::Formatter<W>) -> fmt::Result {
+        f.write_str(match self {
+            Reason::Short => "Short",
+            Reason::Version => "Version",
+            Reason::TokenLength => "TokenLength",
+            Reason::TokenCut => "TokenCut",
+            Reason::EmptyNotBare => "EmptyNotBare",
+            Reason::DeltaReserved => "DeltaReserved",
+            Reason::LengthReserved => "LengthReserved",
+            Reason::OptionCut => "OptionCut",
+            Reason::NumberTooLarge => "NumberTooLarge",
+            Reason::NoPayload => "NoPayload",
+        })
+    }
+}
+
+/// The first fault of a datagram, from left to right.
+#[derive(Clone, Copy, Debug, PartialEq, Eq)]
+pub struct Fault {
+    pub reason: Reason,
+    /// The place of the fault, in bytes from the start: where an option is at fault, that of its
+    /// first byte; where bytes are missing, the datagram's length.
+    pub at: usize,
+    /// The type and the Message ID, by which the datagram can be rejected (RFC 7252, section 4.2).
+    /// `None` for [`Reason::Short`] and [`Reason::Version`].
+    pub head: Option<(Kind, Id)>,
+}

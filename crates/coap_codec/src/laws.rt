@@ -1,0 +1,14 @@
+ghost use Rattle.coap_codec.specs.Laws.{EachIsRead, NotBoth, OneMessage, OneFault, OneSpelling};
+
+/// Every datagram spells exactly one message, or has exactly one fault.
+pub fn one_reading()
+    ensures each { EachIsRead }
+    ensures not_both { NotBoth }
+    ensures one_message { OneMessage }
+    ensures one_fault { OneFault }
+{}
+
+/// No message has two spellings.
+pub fn one_spelling()
+    ensures { OneSpelling }
+{}

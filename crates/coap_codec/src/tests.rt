@@ -1,0 +1,275 @@
+use super::*;
+use coap_types::{Code, Id, Kind, Opt, Token};
+use std::test::*;
+
+/// A message and its spelling.
+#[derive(Clone, Copy)]
+struct Row {
+    bytes: &'static [u8],
+    kind: Kind,
+    code: u8,
+    id: u16,
+    token: &'static [u8],
+    options: &'static [Opt<'static>],
+    payload: &'static [u8],
+}
+
+const GET: Row = Row {
+    bytes: b"\x40\x01\x7d\x34\xbbtemperature",
+    kind: Kind::Con,
+    code: 0x01,
+    id: 0x7d34,
+    token: b"",
+    options: &[Opt {
+        number: 11,
+        value: b"temperature",
+    }],
+    payload: b"",
+};
+
+const CONTENT: Row = Row {
+    bytes: b"\x60\x45\x7d\x34\x48\x00\x00\x00\x00\x00\x00\x00\x01\x80\xff22.3 C",
+    kind: Kind::Ack,
+    code: 0x45,
+    id: 0x7d34,
+    token: b"",
+    options: &[
+        Opt {
+            number: 4,
+            value: b"\x00\x00\x00\x00\x00\x00\x00\x01",
+        },
+        Opt {
+            number: 12,
+            value: b"",
+        },
+    ],
+    payload: b"22.3 C",
+};
+
+const PING: Row = Row {
+    bytes: b"\x40\x00\x00\x01",
+    kind: Kind::Con,
+    code: 0x00,
+    id: 1,
+    token: b"",
+    options: &[],
+    payload: b"",
+};
+
+const CONTINUE: Row = Row {
+    bytes: b"\x68\x5f\x00\x00\x00\x00\x00\x00\x00\x00\x00\x00\xd1\x0e\x09",
+    kind: Kind::Ack,
+    code: 0x5f,
+    id: 0,
+    token: b"\x00\x00\x00\x00\x00\x00\x00\x00",
+    options: &[Opt {
+        number: 27,
+        value: b"\x09",
+    }],
+    payload: b"",
+};
+
+const LONG: Row = Row {
+    bytes: b"\x51\x03\x12\x34\x71\xe0\x06\xf3\x0d\x01abcdefghijklmn\xff\xff",
+    kind: Kind::Non,
+    code: 0x03,
+    id: 0x1234,
+    token: b"\x71",
+    options: &[
+        Opt {
+            number: 2048,
+            value: b"",
+        },
+        Opt {
+            number: 2048,
+            value: b"abcdefghijklmn",
+        },
+    ],
+    payload: b"\xff",
+};
+
+fn head_of(row: &Row) -> Option<Head> {
+    Some(Head {
+        kind: row.kind,
+        code: Code(row.code),
+        id: Id(row.id),
+        token: Token::new(row.token)?,
+    })
+}
+
+fn are_these(mut options: Options<'_>, wanted: &[Opt<'_>]) -> bool {
+    for option in wanted {
+        match options.next() {
+            Some(next) if next.number == option.number && next.value == option.value => {}
+            _ => return false,
+        }
+    }
+    options.next().is_none()
+}
+
+#[test]
+fn messages_are_read_and_written(rt: HostRuntime) -> Result<(), Fail> {
+    for row in [GET, CONTENT, PING, CONTINUE, LONG] {
+        let view = decode(row.bytes).ok().ok_or("a message")?;
+        assert_eq!(rt; view.kind(), row.kind);
+        assert_eq!(rt; view.code(), Code(row.code));
+        assert_eq!(rt; view.id(), Id(row.id));
+        assert_eq!(rt; view.token(), row.token);
+        assert!(rt; are_these(view.options(), row.options));
+        assert_eq!(rt; view.payload(), row.payload);
+
+        let head = head_of(&row).ok_or("a token")?;
+        let mut out = [0x99; 40];
+        let end = encode(&head, row.options, row.payload, &mut out)
+            .ok()
+            .ok_or("room")?;
+        assert_eq!(rt; &out[..end], row.bytes);
+        assert!(rt; out[end..].iter().all(|&byte| byte == 0x99));
+    }
+    Ok(())
+}
+
+#[test]
+fn option_numbers_have_one_spelling(rt: HostRuntime) -> Result<(), Fail> {
+    let cases: [(u16, &[u8]); 5] = [
+        (12, b"\xc0"),
+        (13, b"\xd0\x00"),
+        (268, b"\xd0\xff"),
+        (269, b"\xe0\x00\x00"),
+        (65_535, b"\xe0\xfe\xf2"),
+    ];
+    let head = head_of(&GET).ok_or("a token")?;
+    for (number, bytes) in cases {
+        let mut out = [0; 8];
+        let options = [Opt { number, value: b"" }];
+        let end = encode(&head, &options, b"", &mut out).ok().ok_or("room")?;
+        assert_eq!(rt; out[..end].strip_prefix(b"\x40\x01\x7d\x34"), Some(bytes));
+    }
+    Ok(())
+}
+
+#[test]
+fn faults_have_a_reason_a_place_and_a_head(rt: HostRuntime) -> Result<(), Fail> {
+    let con = Some((Kind::Con, Id(0x1234)));
+    let non = Some((Kind::Non, Id(0x1234)));
+    let ack = Some((Kind::Ack, Id(0x1234)));
+    let cases: [(&[u8], u8, &[u8], usize, Option<(Kind, Id)>); 18] = [
+        (b"", 1, b"Short", 0, None),
+        (b"\x40", 1, b"Short", 1, None),
+        (b"\x80\x01\x12\x34", 2, b"Version", 0, None),
+        (b"\x49\x01\x12\x34", 3, b"TokenLength", 0, con),
+        (b"\x59\x01\x12\x34", 3, b"TokenLength", 0, non),
+        (b"\x42\x01\x12\x34\x07", 4, b"TokenCut", 5, con),
+        (b"\x41\x00\x12\x34", 5, b"EmptyNotBare", 4, con),
+        (b"\x40\x00\x12\x34\xff", 5, b"EmptyNotBare", 4, con),
+        (b"\x40\x01\x12\x34\xb1t\xf1", 6, b"DeltaReserved", 6, con),
+        (b"\x40\x01\x12\x34\xb1t\x1f", 7, b"LengthReserved", 6, con),
+        (b"\x40\x01\x12\x34\xd0", 8, b"OptionCut", 5, con),
+        (b"\x40\x01\x12\x34\xdd\x00", 8, b"OptionCut", 6, con),
+        (
+            b"\x40\x01\x12\x34\xe0\xfe\xf2\x10",
+            9,
+            b"NumberTooLarge",
+            7,
+            con,
+        ),
+        (
+            b"\x40\x01\x12\x34\xe1\xff\xff",
+            9,
+            b"NumberTooLarge",
+            4,
+            con,
+        ),
+        (b"\x40\x01\x12\x34\xb2t", 8, b"OptionCut", 6, con),
+        (b"\x40\x01\x12\x34\xff", 10, b"NoPayload", 5, con),
+        (b"\x60\x01\x12\x34\xff", 10, b"NoPayload", 5, ack),
+        (b"\x60\x01\x12\x34\xb1t\xff", 10, b"NoPayload", 7, ack),
+    ];
+    for (bytes, number, name, at, head) in cases {
+        let fault = decode(bytes).err().ok_or("a fault")?;
+        assert_eq!(rt; fault.reason.number(), number, "{number}");
+        assert_eq!(rt;
+            format!(in rt.alloc(); "{}", fault.reason)?.as_bytes(),
+            name
+        );
+        assert_eq!(rt; fault.at, at, "{number}");
+        assert_eq!(rt; fault.head, head, "{number}");
+    }
+    Ok(())
+}
+
+static TOO_LONG: [u8; 65_805] = [0; 65_805];
+
+#[test]
+fn refusals_come_in_order(rt: HostRuntime) -> Result<(), Fail> {
+    let long = Opt {
+        number: 11,
+        value: &TOO_LONG,
+    };
+    let longest = Opt {
+        number: 11,
+        value: &TOO_LONG[1..],
+    };
+    let falling = [
+        long,
+        Opt {
+            number: 10,
+            value: b"",
+        },
+    ];
+    let cases: [(u8, &[Opt<'_>], Refusal, u8, &[u8]); 4] = [
+        (0x00, &falling, Refusal::EmptyNotBare, 4, b"EmptyNotBare"),
+        (0x01, &falling, Refusal::OptionOrder, 2, b"OptionOrder"),
+        (0x01, &[long], Refusal::OptionTooLong, 3, b"OptionTooLong"),
+        (0x01, &[longest], Refusal::NoRoom, 1, b"NoRoom"),
+    ];
+    for (code, options, refusal, number, name) in cases {
+        let head = head_of(&Row { code, ..GET }).ok_or("a token")?;
+        let mut out = [0x99; 10];
+        assert_eq!(rt;
+            encode(&head, options, b"", &mut out),
+            Err(refusal),
+            "{number}"
+        );
+        assert_eq!(rt; refusal.number(), number, "{number}");
+        assert_eq!(rt; format!(in rt.alloc(); "{refusal}")?.as_bytes(), name);
+        assert_eq!(rt; out, [0x99; 10], "{number}");
+    }
+    Ok(())
+}
+
+#[test]
+fn narrow_messages_are_read_and_written(rt: HostRuntime) -> Result<(), Fail> {
+    for (row, narrow) in [
+        (GET, true),
+        (CONTENT, true),
+        (PING, true),
+        (CONTINUE, false),
+        (LONG, false),
+    ] {
+        let view = decode_narrow(row.bytes);
+        assert_eq!(rt; view.is_some(), narrow);
+        if let Some(view) = view {
+            assert_eq!(rt; view.payload(), row.payload);
+        }
+
+        let head = head_of(&row).ok_or("a token")?;
+        let mut out = [0x99; 40];
+        match encode_narrow(&head, row.options, row.payload, &mut out) {
+            Some(end) => assert_eq!(rt; &out[..end], row.bytes),
+            None => assert_eq!(rt; out, [0x99; 40]),
+        }
+        let end = encode_narrow(&head, row.options, row.payload, &mut out);
+        assert_eq!(rt; end.is_some(), narrow);
+    }
+    let head = head_of(&GET).ok_or("a token")?;
+    assert!(rt; encode_narrow(&head, GET.options, b"", &mut [0; 15]).is_none());
+    assert!(rt; decode_narrow(b"\x40\x01\x12\x34\xff").is_none());
+    Ok(())
+}
+
+#[test]
+fn laws(_rt: HostRuntime) {
+    one_reading();
+    one_spelling();
+}

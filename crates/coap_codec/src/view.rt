@@ -1,0 +1,114 @@
+ghost use Rattle.std.specs.Prelude.{◌≡◌, ◌<◌, ◌^◌, length};
+
+use crate::option_walk::option_at;
+use coap_types::{Code, Id, Kind, Opt};
+use std::marker::Model;
+
+/// A message, lent from the datagram that spells it (RFC 7252, section 3).
+#[derive(Drop)]
+pub struct View<'a> {
+    pub(crate) kind: Kind,
+    pub(crate) code: Code,
+    pub(crate) id: Id,
+    pub(crate) token: &'a [u8],
+    pub(crate) options: &'a [u8],
+    pub(crate) payload: &'a [u8],
+}
+
+impl<'a> Model for View<'a> {
+    ghost use Rattle.coap_codec.specs.Message.{Message};
+    ghost use Rattle.coap_codec.specs.Reading.{walk};
+
+    ghost Value = { Message };
+
+    ghost view = { λ v. record { kind = v.kind; code = v.code.0; id = v.id.0; token = v.token.now; options = (walk 0 v.options.now).options; payload = v.payload.now } };
+}
+
+impl<'a> View<'a> {
+    /// The type.
+    pub fn kind(&self) -> Kind
+        ensures { result ≡ self.now.kind }
+    {
+        self.kind
+    }
+
+    /// The code.
+    pub fn code(&self) -> Code
+        ensures { result.0 ≡ self.now.code }
+    {
+        self.code
+    }
+
+    /// The Message ID.
+    pub fn id(&self) -> Id
+        ensures { result.0 ≡ self.now.id }
+    {
+        self.id
+    }
+
+    /// The token, of 0 to 8 bytes.
+    pub fn token(&self) -> &'a [u8]
+        ensures { result.now ≡ self.now.token }
+    {
+        self.token
+    }
+
+    /// The payload, which is empty where the message has none.
+    pub fn payload(&self) -> &'a [u8]
+        ensures { result.now ≡ self.now.payload }
+    {
+        self.payload
+    }
+
+    /// The options, in the order of their numbers.
+    pub fn options(&self) -> Options<'a>
+        ensures list { result ≡ self.now.options }
+        ensures few { length self.now.options < 2 ^ 63 }
+    {
+        let _len = self.options.len();
+        Options {
+            number: 0,
+            rest: self.options,
+        }
+    }
+}
+
+/// The options of a message that are still to come, in the order of their numbers.
+#[derive(Drop)]
+pub struct Options<'a> {
+    number: u16,
+    rest: &'a [u8],
+}
+
+impl<'a> Model for Options<'a> {
+    ghost use Rattle.std.specs.Prelude.{List};
+    ghost use Rattle.coap_types.specs.CoapOption.{CoapOption};
+    ghost use Rattle.coap_codec.specs.Reading.{walk};
+
+    ghost Value = { List CoapOption };
+
+    ghost view = { λ o. (walk o.number o.rest.now).options };
+}
+
+impl<'a> Iterator for Options<'a> {
+    ghost use Rattle.std.specs.Prelude.{List};
+    ghost use Rattle.std.specs.Iterator.{item_count, YieldsFirstBy};
+    ghost use Rattle.coap_types.specs.CoapOption.{CoapOption, option_of};
+
+    type Item = Opt<'a>;
+
+    ghost next_gives = { YieldsFirstBy option_of (λ (s : List CoapOption). s) };
+
+    ghost remaining = { item_count (λ (s : List CoapOption). s) };
+
+    fn next(&mut self) -> Option<Opt<'a>> {
+        match option_at(self.number, self.rest) {
+            Ok((option, rest)) => {
+                self.number = option.number;
+                self.rest = rest;
+                Some(option)
+            }
+            Err(_) => None,
+        }
+    }
+}

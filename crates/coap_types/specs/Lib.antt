@@ -1,0 +1,7 @@
+pub mod CoapOption
+pub mod Path
+pub mod PathOrder
+pub mod OptionTable
+pub mod Text
+pub mod Uint
+pub mod MethodCode

@@ -1,0 +1,25 @@
+-- Option values in the uint format: a number in network byte order (RFC 7252, section 3.2).
+use Rattle.std.specs.Prelude.{ℕ, ◌+◌, ◌*◌, ◌^◌, ◌<◌, ◌≡◌, List, [], ◌∷◌, length, All, Option, Some, None, nat_le, if◌then◌else◌}
+
+-- the number that bytes spell, the most significant byte first; no byte spells 0
+abbrev pub number_of : List ℕ → ℕ
+number_of [] = 0
+number_of (b ∷ bs) = b * 256 ^ length bs + number_of bs
+
+-- what is read: at most four bytes, also where they lead with zeros
+abbrev pub uint_value : List ℕ → Option ℕ
+uint_value bytes = if nat_le (length bytes) 4 then Some (number_of bytes) else None
+
+-- no zero byte in front
+abbrev pub LeadsWithNoZero : List ℕ → Type 0
+LeadsWithNoZero [] = Unit {0}
+LeadsWithNoZero (b ∷ bs) = 0 < b
+
+-- what is sent for a number: bytes that spell it, with no zero byte in front
+pub record IsSpelling (bytes : List ℕ) (number : ℕ) : Type 0 where
+  pub spelt : number_of bytes ≡ number
+  pub no_zero : LeadsWithNoZero bytes
+
+-- each is a byte
+abbrev pub AreBytes : List ℕ → Type 0
+AreBytes = All (λ b. b < 256)

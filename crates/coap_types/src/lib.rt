@@ -1,0 +1,33 @@
+//! The values that every layer of CoAP (RFC 7252) speaks of: endpoints and moments, what a message
+//! is made of, the options that are recognised, paths and requests, and the transmission parameters.
+//! Nothing here reads or writes a message. What can be refused memory says so by its answer: only
+//! `Path::push` and the `clone` of a `Path`.
+#![tactic(auto)]
+
+mod endpoint;
+mod message;
+pub mod option_number;
+mod option_rule;
+mod options;
+mod path;
+mod recognition;
+mod request;
+mod szx;
+mod tag;
+#[cfg(test)]
+mod tests;
+mod token;
+pub mod transmission;
+mod uint;
+
+pub use endpoint::{Endpoint, Moment};
+pub use message::{Code, Id, Kind};
+pub use option_rule::{Occurrence, Rule};
+pub use options::Opt;
+pub use path::{MAX_SEGMENT_LEN, MAX_SEGMENTS, Path, PathRefusal};
+pub use recognition::rule;
+pub use request::{Method, Request};
+pub use szx::Szx;
+pub use tag::{MAX_TAG_LEN, MAX_TAGS, Tag, Tags};
+pub use token::{MAX_TOKEN_LEN, Token};
+pub use uint::{MAX_UINT_LEN, UintBytes, uint_bytes, uint_laws, uint_of};

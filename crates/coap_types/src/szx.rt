@@ -1,0 +1,67 @@
+ghost use Rattle.std.specs.Prelude.{◌≡◌, ◌+◌, ◌^◌, ◌≤◌};
+ghost use Rattle.std.specs.Option.{SomeIff};
+
+use std::marker::Model;
+
+/// The greatest size exponent; 7 is reserved (RFC 7959, section 2.2).
+pub const MAX_SZX: u8 = 6;
+/// The size of a block at size exponent 0, in bytes (RFC 7959, section 2.2).
+pub const MIN_BLOCK_SIZE: usize = 16;
+
+const _: () = prove!(MAX_SZX == 6 && MIN_BLOCK_SIZE == 16);
+
+/// The size of a block as an exponent, 0 to 6 for 16 to 1,024 bytes (RFC 7959, section 2.2).
+#[derive(Clone, Copy, Debug, PartialEq, Eq, PartialOrd, Ord, Hash)]
+pub struct Szx {
+    exponent: u8,
+}
+
+impl Model for Szx {
+    ghost use Rattle.std.specs.Prelude.{ℕ, ◌≤◌};
+
+    ghost Value = { ℕ };
+
+    ghost view = { λ s. s.exponent };
+
+    ghost invariant = { λ s. s.exponent ≤ 6 };
+
+    ghost inverse = { λ n. record { exponent = n } };
+}
+
+impl Szx {
+    /// This size exponent, where it is not the reserved 7 or more.
+    pub fn new(n: u8) -> Option<Szx>
+        ensures { SomeIff result (n ≤ MAX_SZX) n }
+    {
+        if n <= MAX_SZX {
+            Some(Szx { exponent: n })
+        } else {
+            None
+        }
+    }
+
+    /// The size exponent.
+    pub fn get(self) -> u8
+        ensures exponent { result ≡ self }
+        ensures few { result ≤ MAX_SZX }
+    {
+        self.exponent
+    }
+
+    /// The size of a block, in bytes.
+    pub fn size(self) -> usize
+        ensures size { result ≡ 2 ^ (self + 4) }
+        ensures least { 16 ≤ result }
+        ensures most { result ≤ 1024 }
+    {
+        match self.get() {
+            0 => MIN_BLOCK_SIZE,
+            1 => 2 * MIN_BLOCK_SIZE,
+            2 => 4 * MIN_BLOCK_SIZE,
+            3 => 8 * MIN_BLOCK_SIZE,
+            4 => 16 * MIN_BLOCK_SIZE,
+            5 => 32 * MIN_BLOCK_SIZE,
+            _ => 64 * MIN_BLOCK_SIZE,
+        }
+    }
+}

@@ -1,0 +1,152 @@
+ghost use Rattle.std.specs.Prelude.{◌≡◌, ◌<◌, ◌≤◌, ◌∷◌, ◌++◌, [], length, nat_eq, IsTrue, IfErr, OnErr, OnOk, ◌↔◌, ⊤};
+ghost use Rattle.std.specs.Option.{SomeIff};
+ghost use Rattle.std.specs.Cmp.{partial_equiv_from_equiv};
+ghost use Rattle.std.specs.Cmp.Lexicographic.{pointwise, nat_list_eq_equiv};
+
+use arrayvec::ArrayVec;
+use std::alloc::AllocError;
+use std::marker::Model;
+
+/// The most bytes that an entity-tag has (RFC 7252, section 5.10, table 4).
+pub const MAX_TAG_LEN: usize = 8;
+
+/// An entity-tag: 1 to 8 bytes, which tell one representation of a resource from another
+/// (RFC 7252, section 5.10.6). Tags are equal by their bytes.
+#[derive(Debug, Drop)]
+pub struct Tag {
+    bytes: ArrayVec<u8, MAX_TAG_LEN>,
+}
+
+impl Model for Tag {
+    ghost use Rattle.std.specs.Prelude.{ℕ, List, ◌≤◌, length};
+
+    ghost Value = { List ℕ };
+
+    ghost view = { λ t. t.bytes.items };
+
+    ghost invariant = { λ t. (1 ≤ length t.bytes.items) × (length t.bytes.items ≤ 8) };
+}
+
+impl Tag {
+    /// The tag of these bytes, where they are 1 to 8.
+    pub fn new(bytes: &[u8]) -> Option<Tag>
+        ensures { SomeIff result ((1 ≤ length bytes.now) × (length bytes.now ≤ 8)) bytes.now }
+    {
+        if bytes.is_empty() {
+            return None;
+        }
+        let mut tag = ArrayVec::new();
+        tag.try_extend_from_slice(bytes).ok()?;
+        Some(Tag { bytes: tag })
+    }
+
+    // What stands in a place that holds no tag.
+    fn unused() -> Tag {
+        let mut bytes = ArrayVec::new();
+        bytes.push(0);
+        Tag { bytes }
+    }
+
+    /// The bytes.
+    pub fn as_slice(&self) -> &[u8]
+        ensures bytes { result.now ≡ self.now }
+        ensures some { 1 ≤ length self.now }
+        ensures few { length self.now ≤ 8 }
+    {
+        self.bytes.as_slice()
+    }
+
+    /// The same tag again, as `clone`, but with no `Result`: it takes no memory.
+    pub fn copy(&self) -> Tag
+        ensures { result ≡ self.now }
+    {
+        let mut bytes = ArrayVec::new();
+        let _fits = bytes.try_extend_from_slice(self.as_slice());
+        Tag { bytes }
+    }
+}
+
+impl Clone for Tag {
+    ghost is_clone = { λ tag copy. copy ≡ tag };
+
+    ghost is_infallible = { λ _. ⊤ };
+
+    fn clone(&self) -> Result<Tag, AllocError> {
+        Ok(self.copy())
+    }
+}
+
+impl PartialEq for Tag {
+    ghost eq = { pointwise nat_eq };
+
+    ghost laws = { partial_equiv_from_equiv nat_list_eq_equiv };
+
+    fn eq(&self, other: &Tag) -> bool
+        ensures value { result ≡ pointwise nat_eq self.now other.now }
+        ensures equal { IsTrue result ↔ (self.now ≡ other.now) }
+    {
+        self.bytes == other.bytes
+    }
+}
+
+impl Eq for Tag {
+    ghost laws = { nat_list_eq_equiv };
+}
+
+/// The most tags of a request (profile: RFC 7252 sets no bound).
+pub const MAX_TAGS: usize = 4;
+
+const _: () = prove!(MAX_TAGS == 4);
+
+/// At most 4 entity-tags, in order. A contract sees them as the list of their bytes.
+#[derive(Debug, Drop)]
+pub struct Tags {
+    tags: [Tag; MAX_TAGS],
+    len: usize,
+}
+
+impl Model for Tags {
+    ghost use Rattle.std.specs.Prelude.{ℕ, List, ◌≡◌, ◌≤◌, length, take};
+
+    ghost Value = { List (List ℕ) };
+
+    ghost view = { λ t. take t.len t.tags };
+
+    ghost invariant = { λ t. (length t.tags ≡ 4) × (t.len ≤ 4) };
+}
+
+impl Tags {
+    /// No tag.
+    pub fn new() -> Tags
+        ensures { result ≡ [] }
+    {
+        Tags {
+            tags: [Tag::unused(), Tag::unused(), Tag::unused(), Tag::unused()],
+            len: 0,
+        }
+    }
+
+    /// Adds a tag at the end, or gives it back where `MAX_TAGS` are there.
+    pub fn push(&mut self, tag: Tag) -> Result<(), Tag>
+        ensures room { OnOk result (length self.old < MAX_TAGS) }
+        ensures full { OnErr result (length self.old ≡ MAX_TAGS) }
+        ensures added { OnOk result (self.new ≡ self.old ++ tag ∷ []) }
+        ensures given_back { IfErr result (λ back. back ≡ tag) }
+        ensures err { OnErr result (self.new ≡ self.old) }
+    {
+        if self.len >= MAX_TAGS {
+            return Err(tag);
+        }
+        self.tags[self.len] = tag;
+        self.len += 1;
+        Ok(())
+    }
+
+    /// The tags in order.
+    pub fn as_slice(&self) -> &[Tag]
+        ensures tags { result.now ≡ self.now }
+        ensures few { length self.now ≤ MAX_TAGS }
+    {
+        &self.tags[..self.len]
+    }
+}
