@@ -1,3 +1,4 @@
+pub mod ArrivalLemmas
 pub mod CoapWords
 pub mod Entered
 pub mod FilledRows

@@ -3,7 +3,6 @@ use Rattle.std.proofs.Common.{◌≡◌, ◌∙◌, ap, sym, refl, ℕ, ◌+◌,
 use Rattle.coap_types.specs.CoapOption.{CoapOption}
 use Rattle.coap_codec.specs.Options.{Options, IsOption}
 use Rattle.coap_codec.specs.Message.{Message, Spells, header, marked}
-use Rattle.coap_codec.specs.Narrow.{AreNarrow}
 use Rattle.coap.specs.FirstReply.{HasSpelling, IsSpelled, described, piggybacked}
 
 -- the bytes of a message, by its parts
@@ -20,9 +19,9 @@ length-bytes_of m option_bytes few =
 
 -- a response has a spelling, where its options have one
 pub response_spelled : (request : Message) (code room : ℕ) (options : List CoapOption) (payload option_bytes : List ℕ)
-    → IsSpelled request → 0 < code → code < 256 → Options 0 option_bytes options → AreNarrow 0 options → 13 + (length option_bytes + length payload) ≤ room
+    → IsSpelled request → 0 < code → code < 256 → Options 0 option_bytes options → 13 + (length option_bytes + length payload) ≤ room
     → HasSpelling (piggybacked request code options payload) room
-response_spelled request code room options payload option_bytes s some byte spelled narrow fits =
+response_spelled request code room options payload option_bytes s some byte spelled fits =
     let m = piggybacked request code options payload in
     let long : length (bytes_of m option_bytes) ≤ 13 + (length option_bytes + length payload) = length-bytes_of m option_bytes s.1.token in
     (bytes_of m option_bytes, record {
@@ -33,7 +32,7 @@ response_spelled request code room options payload option_bytes s some byte spel
       options = spelled;
       parts = refl;
       empty = λ none. absurd (omega arith);
-    }, narrow, omega arith)
+    }, omega arith)
 
 -- the bytes of the options that describe the representation
 abbrev pub described_bytes : List ℕ
@@ -47,6 +46,3 @@ described_spelled = (
   record { rises = lit≤ tt; fits = lit< tt; delta = 4; more_delta = []; len = 8; more_len = []; number = (lit< tt, refl); value = (lit< tt, refl); parts = refl },
   (128 ∷ [], [], refl, record { rises = lit≤ tt; fits = lit< tt; delta = 8; more_delta = []; len = 0; more_len = []; number = (lit< tt, refl); value = (lit< tt, refl); parts = refl }, refl),
 )
-
-pub described_narrow : AreNarrow 0 described
-described_narrow = (lit≤ tt, lit≤ tt, (lit≤ tt, lit≤ tt, tt))

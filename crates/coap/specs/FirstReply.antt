@@ -1,19 +1,22 @@
 -- What a server with one resource, of version 1 and Content-Format 0, answers to a first GET
 -- (RFC 7252, sections 5.2.1, 5.8.1 and 5.9).
-use Rattle.std.specs.Prelude.{◌≡◌, ◌≢◌, ℕ, ◌+◌, ◌*◌, ◌<◌, ◌≤◌, List, [], ◌∷◌, length, take, drop, map}
+use Rattle.std.specs.Prelude.{◌≡◌, ◌≢◌, ℕ, ◌+◌, ◌*◌, ◌<◌, ◌≤◌, List, [], ◌∷◌, length, map}
 use Rattle.std.specs.List.{All}
 use Rattle.coap_types.specs.CoapOption.{CoapOption}
 use Rattle.coap_types.specs.declared.message.Kind.TheVariants.{Con, Ack}
 use Rattle.coap_codec.specs.Message.{Message, Spells}
-use Rattle.coap_codec.specs.Narrow.{IsNarrow}
+use Rattle.coap_types.specs.declared.message.Id.{Id}
+use Rattle.coap.specs.FirstArrival.{FirstArrival, reset}
+use Rattle.coap.specs.declared.arrival.Arrival.TheVariants.{Rejected, HandedUp}
 
 -- the byte of the code c.dd (RFC 7252, section 3)
 abbrev pub code_of : ℕ → ℕ → ℕ
 code_of class detail = class * 32 + detail
 
--- Uri-Path is option 11: one segment of the path (RFC 7252, section 5.10.1).
-abbrev pub IsUriPath : CoapOption → Type 0
-IsUriPath option = option.number ≡ 11
+-- Uri-Path is option 11, of at most 255 bytes: one segment of the path (RFC 7252, section 5.10.1).
+pub record IsUriPath (option : CoapOption) : Type 0 where
+  pub number : option.number ≡ 11
+  pub fits : length option.value ≤ 255
 
 -- a Confirmable GET whose options are all Uri-Path
 pub record IsFirstGet (m : Message) : Type 0 where
@@ -21,10 +24,11 @@ pub record IsFirstGet (m : Message) : Type 0 where
   pub get : m.code ≡ code_of 0 1
   pub path_alone : All IsUriPath m.options
 
--- the path that such a request asks for, segment by segment
+-- the values of options
 abbrev pub values_of : List CoapOption → List (List ℕ)
 values_of options = map (λ option. option.value) options
 
+-- the path that such a request asks for, segment by segment
 abbrev pub segments_of : Message → List (List ℕ)
 segments_of m = values_of m.options
 
@@ -52,25 +56,21 @@ pub data FirstReply (path : List (List ℕ)) (body : List ℕ) (request reply : 
   -- 4.04 Not Found
   not_found : length request.options ≤ 16 → segments_of request ≢ path → reply ≡ piggybacked request (code_of 4 4) [] [] → FirstReply path body request reply
 
--- the datagram is a request that is answered: narrow, a first GET, and the body fits one message
-pub record IsServed (datagram body : List ℕ) (request : Message) : Type 0 where
-  pub spelled : Spells datagram request
-  pub narrow : IsNarrow request
+-- the request is answered: a first GET, of a body that fits one message
+pub record IsServed (body : List ℕ) (request : Message) : Type 0 where
   pub get : IsFirstGet request
   pub fits : length body ≤ 1024
 
--- The datagram is answered: what was written is the spelling of the reply to the request in it.
-pub record IsAnswered (path : List (List ℕ)) (body datagram written : List ℕ) : Type 0 where
-  pub request : Message
-  pub served : IsServed datagram body request
-  pub reply : Message
-  pub row : FirstReply path body request reply
-  pub spelled : Spells written reply
+-- The datagram is answered by these bytes: a Reset, or the reply to a request that is served.
+pub data Answers (path : List (List ℕ)) (body datagram bytes : List ℕ) : Type 0 where
+  by_reset : (id : Id) → FirstArrival datagram (Rejected id) → Spells bytes (reset id) → Answers path body datagram bytes
+  by_reply : (request reply : Message) → FirstArrival datagram (HandedUp request) → IsServed body request → FirstReply path body request reply
+      → Spells bytes reply → Answers path body datagram bytes
 
 -- some bytes spell the message
 abbrev pub IsSpelled : Message → Type 0
 IsSpelled m = (bytes : List ℕ) × Spells bytes m
 
--- the message is narrow and has a spelling, which fits the room
+-- the message has a spelling, which fits the room
 abbrev pub HasSpelling : Message → ℕ → Type 0
-HasSpelling m room = (bytes : List ℕ) × Spells bytes m × IsNarrow m × (length bytes ≤ room)
+HasSpelling m room = (bytes : List ℕ) × Spells bytes m × (length bytes ≤ room)

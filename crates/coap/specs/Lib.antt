@@ -1,4 +1,5 @@
 pub mod CommandLine
+pub mod FirstArrival
 pub mod FirstReply
 pub mod PathText
 pub mod Words

@@ -1,6 +1,7 @@
 //! The program `coap`: a client and a server of CoAP (RFC 7252) on the command line.
 #![tactic(auto)]
 
+pub mod arrival;
 pub mod command_line;
 pub mod commands;
 pub mod orders;

@@ -1,12 +1,14 @@
-//! What a server with one resource answers to a first GET.
+//! What a server with one resource answers to a first datagram.
 ghost use Rattle.std.specs.Prelude.{◌≡◌, ◌≢◌, ◌≤◌, ◌↔◌, Ok, None, IsTrue, IfOk, IfSome, OnErr, length, take, drop};
-ghost use Rattle.coap_types.specs.CoapOption.{options_of};
+ghost use Rattle.coap_types.specs.CoapOption.{option_of, options_of};
 ghost use Rattle.coap_types.specs.Path.{same_path};
 ghost use Rattle.coap_codec.specs.Message.{Message, Spells};
-ghost use Rattle.coap.specs.FirstReply.{FirstReply, HasSpelling, IsAnswered, IsFirstGet, IsServed, IsSpelled, code_of, described, piggybacked, segments_of};
+ghost use Rattle.coap.specs.FirstArrival.{FirstArrival, reset};
+ghost use Rattle.coap.specs.FirstReply.{Answers, FirstReply, HasSpelling, IsFirstGet, IsServed, IsSpelled, IsUriPath, code_of, described, piggybacked, segments_of};
 
-use coap_codec::{Head, View, decode_narrow, encode_narrow};
-use coap_types::{Code, Kind, MAX_SEGMENTS, Opt, Path, Token, option_number};
+use coap_codec::{Head, View, encode};
+use crate::arrival::{Arrival, first_arrival};
+use coap_types::{Code, Id, Kind, MAX_SEGMENT_LEN, MAX_SEGMENTS, Opt, Path, Token, option_number};
 use thiserror::Error;
 
 /// The most bytes of a message that an end sends (RFC 7252, section 4.6).
@@ -23,6 +25,13 @@ const FIRST_VERSION: u64 = 1;
 #[error("not yet")]
 pub struct NotYet;
 
+/// Whether the option is one segment of a path.
+fn is_uri_path(option: &Opt<'_>) -> bool
+    ensures { IsTrue result ↔ IsUriPath (option_of option.now) }
+{
+    option.number == option_number::URI_PATH && option.value.len() <= MAX_SEGMENT_LEN
+}
+
 /// Whether the message is a Confirmable GET whose options are all Uri-Path.
 fn is_first_get(request: &View<'_>) -> bool
     ensures { IsTrue result ↔ IsFirstGet request.now }
@@ -31,7 +40,7 @@ fn is_first_get(request: &View<'_>) -> bool
         && request.code() == Code::GET
         && request
             .options()
-            .all(|option| option.number == option_number::URI_PATH)
+            .all(|option| is_uri_path(&option))
 }
 
 /// Whether the request asks for this path.
@@ -71,9 +80,9 @@ fn put_reply(
         id: request.id(),
         token,
     };
-    match encode_narrow(&head, options, payload, out) {
-        Some(len) => len,
-        None => unreachable!(),
+    match encode(&head, options, payload, out) {
+        Ok(len) => len,
+        Err(_) => unreachable!(),
     }
 }
 
@@ -125,11 +134,30 @@ fn put_answer(request: &View<'_>, path: &Path, body: &[u8], out: &mut [u8]) -> u
     }
 }
 
-/// Answers a first GET of the resource whose body is at `path`, of version 1 and Content-Format 0
-/// (text/plain), as the acknowledgement that carries the response (RFC 7252, section 5.2.1). What
-/// is served so far is a narrow Confirmable GET whose options are all Uri-Path, of a body of at
-/// most `MAX_PAYLOAD_LEN` bytes; the answer is the length of what was written to `out`, and never
-/// `None`.
+/// Writes a Reset with this Message ID, and answers its length (RFC 7252, section 4.2).
+fn put_reset(id: Id, out: &mut [u8]) -> usize
+    requires room { 1152 ≤ length out.old }
+    ensures fits { result ≤ length out.old }
+    ensures spelled { Spells (take result out.new) (reset id) }
+    ensures behind { drop result out.new ≡ drop result out.old }
+{
+    let head = Head {
+        kind: Kind::Rst,
+        code: Code::EMPTY,
+        id,
+        token: Token::empty(),
+    };
+    match encode(&head, &[], &[], out) {
+        Ok(len) => len,
+        Err(_) => unreachable!(),
+    }
+}
+
+/// What a server that holds one resource, `body` at `path`, of version 1 and Content-Format 0
+/// (text/plain), sends at once when the datagram arrives for the first time: the length of what
+/// was written to `out`, or `None` for silence. Of what is handed up, a Confirmable GET whose
+/// options are all Uri-Path is answered, where the body has at most `MAX_PAYLOAD_LEN` bytes, in
+/// the acknowledgement (RFC 7252, section 5.2.1); all else is not served yet.
 pub fn first_reply(
     path: &Path,
     body: &[u8],
@@ -137,19 +165,25 @@ pub fn first_reply(
     out: &mut [u8],
 ) -> Result<Option<usize>, NotYet>
     requires room { MAX_MESSAGE_LEN ≤ length out.old }
-    // What is written is the spelling of the reply to the request in the datagram.
+    // What is written is the spelling of the reply, and what is behind it stays.
     ensures answered { IfOk result (λ r. IfSome r (λ len. (len ≤ length out.old)
-        × IsAnswered path.now body.now bytes.now (take len out.new))) }
+        × Answers path.now body.now bytes.now (take len out.new))) }
     ensures behind { IfOk result (λ r. IfSome r (λ len. drop len out.new ≡ drop len out.old)) }
-    // Nothing that is served so far is answered by silence.
-    ensures never_silent { result ≢ Ok None }
-    // Not yet, only where the datagram is no request that is served.
-    ensures not_yet { OnErr result ((request : Message) → IsServed bytes.now body.now request → ⊥) }
+    // Silence, only where the datagram is ignored.
+    ensures silence { result ≡ Ok None → FirstArrival bytes.now Arrival.Ignored × (out.new ≡ out.old) }
+    // Not yet, only where a request or a response is handed up that is not served.
+    ensures not_yet { OnErr result ((m : Message) × FirstArrival bytes.now (Arrival.HandedUp m)
+        × (IsServed body.now m → ⊥)) }
     ensures unchanged { OnErr result (out.new ≡ out.old) }
 {
-    let request = decode_narrow(bytes).ok_or(NotYet)?;
-    if !is_first_get(&request) || body.len() > MAX_PAYLOAD_LEN {
-        return Err(NotYet);
+    match first_arrival(bytes) {
+        Arrival::Ignored => Ok(None),
+        Arrival::Rejected(id) => Ok(Some(put_reset(id, out))),
+        Arrival::HandedUp(request) => {
+            if !is_first_get(&request) || body.len() > MAX_PAYLOAD_LEN {
+                return Err(NotYet);
+            }
+            Ok(Some(put_answer(&request, path, body, out)))
+        }
     }
-    Ok(Some(put_answer(&request, path, body, out)))
 }

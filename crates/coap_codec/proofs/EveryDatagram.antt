@@ -1,29 +1,29 @@
 -- Every datagram spells one message or has one fault, and decoding finds it.
 use Rattle.std.proofs.Common.{◌≡◌, ℕ, List, None, Result, Ok, Err, sym, ap, ◌∙◌, inl, inr}
 use Rattle.coap_codec.specs.declared.fault.Reason.{Reason}
-use Rattle.coap_codec.specs.Message.{Message, Spells}
+use Rattle.coap_codec.specs.Message.{AreBytes, Message, Spells}
 use Rattle.coap_codec.specs.Faulty.{Faulty}
 use Rattle.coap_codec.specs.Reading.{frame_fault, message_at, Reads, ReadsBody}
 use Rattle.coap_codec.specs.declared.fault.Fault.{Fault}
 use Rattle.std.specs.Prelude.{IfOk, IfErr, OnErr}
-use Rattle.coap_codec.proofs.StepLemmas.{IsBytes, cases_result}
+use Rattle.coap_codec.proofs.StepLemmas.{cases_result}
 use Rattle.coap_codec.specs.Laws.{EachIsRead, NotBoth, OneMessage, OneFault}
 use Rattle.coap_codec.proofs.ReadLemmas.{message_reads, message_faults, message_body}
 use Rattle.coap_codec.proofs.ReadAgain.{spelled_again, faulty_again}
 
-pub reads_found : (bytes : List ℕ) (r : Result Message Fault) → IsBytes bytes → Reads bytes r → IfOk r (λ m. Spells bytes m)
+pub reads_found : (bytes : List ℕ) (r : Result Message Fault) → AreBytes bytes → Reads bytes r → IfOk r (λ m. Spells bytes m)
 reads_found bytes (Ok m) fits h = message_reads bytes fits m h
 reads_found bytes (Err f) fits h = tt
 
-pub reads_only : (bytes : List ℕ) (r : Result Message Fault) → IsBytes bytes → Reads bytes r → (m : Message) → Spells bytes m → r ≡ Ok m
+pub reads_only : (bytes : List ℕ) (r : Result Message Fault) → AreBytes bytes → Reads bytes r → (m : Message) → Spells bytes m → r ≡ Ok m
 reads_only bytes (Ok n) fits h m s = let again = spelled_again bytes m fits s in cc
 reads_only bytes (Err f) fits h m s = absurd (let again = spelled_again bytes m fits s in let h' = h.0 in cc)
 
-pub reads_none : (bytes : List ℕ) (r : Result Message Fault) → IsBytes bytes → Reads bytes r → OnErr r ((m : Message) → Spells bytes m → ⊥)
+pub reads_none : (bytes : List ℕ) (r : Result Message Fault) → AreBytes bytes → Reads bytes r → OnErr r ((m : Message) → Spells bytes m → ⊥)
 reads_none bytes (Ok n) fits h = tt
 reads_none bytes (Err f) fits h = λ m s. let again = spelled_again bytes m fits s in let h' = h.0 in cc
 
-pub reads_fault : (bytes : List ℕ) (r : Result Message Fault) → IsBytes bytes → Reads bytes r → IfErr r (λ f. Faulty bytes f.reason f.at)
+pub reads_fault : (bytes : List ℕ) (r : Result Message Fault) → AreBytes bytes → Reads bytes r → IfErr r (λ f. Faulty bytes f.reason f.at)
 reads_fault bytes (Ok m) fits h = tt
 reads_fault bytes (Err f) fits h = message_faults bytes fits f.reason f.at h.0
 

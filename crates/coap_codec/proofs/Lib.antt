@@ -11,5 +11,4 @@ pub mod RefusedLemmas
 pub mod PutLemmas
 pub mod LoopLemmas
 pub mod SpellLemmas
-pub mod NarrowLemmas
 pub mod StandardFacts

@@ -1,4 +1,4 @@
--- A message that is spelled is read, and a fault of the table is met.
+-- Bytes that spell a message are read as it, and at bytes that are faulty reading meets that fault.
 use Rattle.std.proofs.Common.{◌≡◌, ℕ, ◌+◌, ◌-◌, ◌*◌, ◌/◌, ◌%◌, ◌^◌, ◌<◌, ◌≤◌, List, [], ◌++◌, length, get_or, take, drop, Ok, Err, refl, sym, ap, subst, ◌∙◌, arith}
 use Rattle.std.proofs.lemmas.List.{take_at, drop_at, length-append, append-nil}
 use Rattle.coap_types.specs.CoapOption.{CoapOption}
@@ -7,15 +7,15 @@ use Rattle.coap_types.specs.declared.message.Kind.TheVariants.{Con, Non, Ack, Rs
 use Rattle.coap_codec.specs.declared.fault.Reason.{Reason}
 use Rattle.coap_codec.specs.declared.fault.Reason.TheVariants.{Short, Version, TokenLength, TokenCut, EmptyNotBare, DeltaReserved, LengthReserved, OptionCut, NumberTooLarge, NoPayload}
 use Rattle.coap_codec.specs.Options.{Options}
-use Rattle.coap_codec.specs.Message.{Message, kind_number, header, marked, Spells}
+use Rattle.coap_codec.specs.Message.{AreBytes, Message, kind_number, header, marked, Spells}
 use Rattle.coap_codec.specs.Header.{version, token_length, code, kind_of, id_of}
 use Rattle.coap_codec.specs.Faulty.{last_number, Leaves, BadRest, place, IsFramed, Faulty}
 use Rattle.coap_codec.specs.Reading.{option_at, walk, payload_at, behind_token, message_of, body_at, message_at}
-use Rattle.coap_codec.proofs.StepLemmas.{IsBytes, IsBytes-rest}
+use Rattle.coap_codec.proofs.StepLemmas.{AreBytes-rest}
 use Rattle.coap_codec.proofs.WalkLemmas.{walked, walk_again, walk_longest}
 use Rattle.coap_codec.proofs.RestLemmas.{payload_again, marked_ends, payload_bad_again}
 use Rattle.coap_codec.proofs.FrameLemmas.{framed_none, short_again, version_again, token_length_again, empty_again, token_cut_again}
-use Rattle.coap_codec.proofs.SoundBytes.{IsBytes-drop, IsBytes-front, body_ok, body_err}
+use Rattle.coap_codec.proofs.SoundBytes.{AreBytes-drop, AreBytes-front, body_ok, body_err}
 use Rattle.coap_codec.proofs.ReadLemmas.{message_fault, message_body}
 
 kind_is : (first : ℕ) (kind : Kind) → first / 16 % 4 ≡ kind_number kind → kind_of first ≡ kind
@@ -79,7 +79,7 @@ module _ (m : Message) (front : List ℕ) (few : length m.token ≤ 8) where
   unfolding text
   text_code = refl
 
-  text_body : IsBytes (front ++ marked m.payload) → Options 0 front m.options → m.id < 2 ^ 16 → body_at text ≡ Ok m
+  text_body : AreBytes (front ++ marked m.payload) → Options 0 front m.options → m.id < 2 ^ 16 → body_at text ≡ Ok m
   text_body fits run small =
       let end = marked_ends (last_number 0 m.options) m.payload in
       let w = walk_again m.options 0 front (marked m.payload) end.0 fits run end.1 in
@@ -89,11 +89,11 @@ module _ (m : Message) (front : List ℕ) (few : length m.token ≤ 8) where
       body_ok text m.payload payload ∙ ap (λ x. Ok x) (same_message (message_of text m.payload) m first_parts.2 text_code (text_id small) text_token options refl)
 
 -- the message that bytes spell is read
-pub spelled_again : (bytes : List ℕ) (m : Message) → IsBytes bytes → Spells bytes m → message_at bytes ≡ Ok m
+pub spelled_again : (bytes : List ℕ) (m : Message) → AreBytes bytes → Spells bytes m → message_at bytes ≡ Ok m
 unfolding text
 spelled_again bytes m fits s =
     let t = text m s.option_bytes s.token in
-    let fits' : IsBytes (s.option_bytes ++ marked m.payload) = IsBytes-rest (header m ++ m.token) (s.option_bytes ++ marked m.payload) (subst IsBytes s.parts fits) in
+    let fits' : AreBytes (s.option_bytes ++ marked m.payload) = AreBytes-rest (header m ++ m.token) (s.option_bytes ++ marked m.payload) (subst AreBytes s.parts fits) in
     let bare : m.code ≡ 0 → length t ≡ 4 = λ z. sym (ap length s.parts) ∙ s.empty z in
     let framed = text_framed m s.option_bytes s.token bare in
     subst (λ (b : List ℕ). message_at b ≡ Ok m) (sym s.parts)
@@ -104,15 +104,15 @@ unfolding option_at
 no_option base = refl
 
 -- bytes are one run of options
-pub one_run : (bytes : List ℕ) (a b : List CoapOption) → IsBytes bytes → Options 0 bytes a → Options 0 bytes b → a ≡ b
+pub one_run : (bytes : List ℕ) (a b : List CoapOption) → AreBytes bytes → Options 0 bytes a → Options 0 bytes b → a ≡ b
 one_run bytes a b fits p q =
-    let fits' : IsBytes (bytes ++ []) = subst IsBytes (sym (append-nil bytes)) fits in
+    let fits' : AreBytes (bytes ++ []) = subst AreBytes (sym (append-nil bytes)) fits in
     let x = ap (λ w. w.options) (walk_again a 0 bytes [] OptionCut fits' p (no_option (last_number 0 a))) in
     let y = ap (λ w. w.options) (walk_again b 0 bytes [] OptionCut fits' q (no_option (last_number 0 b))) in
     sym x ∙ y
 
 -- the longest run is the walk's
-leaves_walk : (bytes : List ℕ) (number : ℕ) (rest : List ℕ) → IsBytes bytes → Leaves bytes number rest → ((walk 0 bytes).number ≡ number) × ((walk 0 bytes).rest ≡ rest)
+leaves_walk : (bytes : List ℕ) (number : ℕ) (rest : List ℕ) → AreBytes bytes → Leaves bytes number rest → ((walk 0 bytes).number ≡ number) × ((walk 0 bytes).rest ≡ rest)
 leaves_walk bytes number rest fits l =
     let w = walk 0 bytes in
     let h = walked 0 bytes fits in
@@ -124,14 +124,14 @@ leaves_walk bytes number rest fits l =
     let front : h.front ≡ l.front = sym (take_at h.front w.rest (length l.front) n) ∙ ap (take (length l.front)) (sym h.parts ∙ l.parts) ∙ take_at l.front rest (length l.front) refl in
     let back : w.rest ≡ rest = sym (drop_at h.front w.rest (length l.front) n) ∙ ap (drop (length l.front)) (sym h.parts ∙ l.parts) ∙ drop_at l.front rest (length l.front) refl in
     let run : Options 0 l.front w.options = subst (λ (f : List ℕ). Options 0 f w.options) front h.run in
-    let front-fits : IsBytes l.front = IsBytes-front l.front rest (subst IsBytes l.parts fits) in
+    let front-fits : AreBytes l.front = AreBytes-front l.front rest (subst AreBytes l.parts fits) in
     let options = one_run l.front w.options l.options front-fits run l.run in
     (h.last ∙ ap (last_number 0) options ∙ sym l.last, back)
 
-rest_again : (bytes : List ℕ) (reason : Reason) (at number : ℕ) (rest : List ℕ) → IsBytes bytes → IsFramed bytes → Leaves (behind_token bytes) number rest → BadRest number rest reason
+rest_again : (bytes : List ℕ) (reason : Reason) (at number : ℕ) (rest : List ℕ) → AreBytes bytes → IsFramed bytes → Leaves (behind_token bytes) number rest → BadRest number rest reason
     → at ≡ place reason (length bytes - length rest) (length bytes) → message_at bytes ≡ Err (reason, at)
 rest_again bytes reason at number rest fits f l bad is =
-    let fits' = IsBytes-drop (4 + token_length bytes) bytes fits in
+    let fits' = AreBytes-drop (4 + token_length bytes) bytes fits in
     let w = walk 0 (behind_token bytes) in
     let h = walked 0 (behind_token bytes) fits' in
     let same = leaves_walk (behind_token bytes) number rest fits' l in
@@ -140,8 +140,8 @@ rest_again bytes reason at number rest fits f l bad is =
     let placed : place reason (length bytes - length w.rest) (length bytes) ≡ at = ap (λ (r : List ℕ). place reason (length bytes - length r) (length bytes)) same.1 ∙ sym is in
     message_body bytes (framed_none bytes f) ∙ e ∙ ap (λ (a : ℕ). Err (reason, a)) placed
 
--- a fault of the table is found
-pub faulty_again : (bytes : List ℕ) (reason : Reason) (at : ℕ) → IsBytes bytes → Faulty bytes reason at → message_at bytes ≡ Err (reason, at)
+-- reading finds that bytes are faulty
+pub faulty_again : (bytes : List ℕ) (reason : Reason) (at : ℕ) → AreBytes bytes → Faulty bytes reason at → message_at bytes ≡ Err (reason, at)
 faulty_again bytes Short at fits h = message_fault bytes (Short, at) (short_again bytes at h)
 faulty_again bytes Version at fits h = message_fault bytes (Version, at) (version_again bytes at h)
 faulty_again bytes TokenLength at fits h = message_fault bytes (TokenLength, at) (token_length_again bytes at h)

@@ -1,15 +1,15 @@
--- A message that is read is spelled so, and a fault that is met is in the table.
+-- Bytes that are read as a message spell it, and bytes at which reading meets a fault are faulty so.
 use Rattle.std.proofs.Common.{◌≡◌, ℕ, ◌+◌, ◌-◌, ◌⊎◌, List, length, Option, Some, None, Result, Ok, Err, refl, sym, ap, subst, ◌∙◌, inl, inr}
 use Rattle.coap_codec.specs.declared.fault.Reason.{Reason}
-use Rattle.coap_codec.specs.Message.{Message, Spells}
+use Rattle.coap_codec.specs.Message.{AreBytes, Message, Spells}
 use Rattle.coap_codec.specs.Header.{token_length}
 use Rattle.coap_codec.specs.Faulty.{place, IsFramed, Faulty}
 use Rattle.coap_codec.specs.Reading.{walk, payload_at, frame_fault, behind_token, message_of, body_at, message_at}
-use Rattle.coap_codec.proofs.StepLemmas.{IsBytes, cases_result}
+use Rattle.coap_codec.proofs.StepLemmas.{cases_result}
 use Rattle.coap_codec.proofs.WalkLemmas.{walked}
 use Rattle.coap_codec.proofs.RestLemmas.{payload_reads, payload_bad}
 use Rattle.coap_codec.proofs.FrameLemmas.{frame_none, frame_some}
-use Rattle.coap_codec.proofs.SoundBytes.{IsBytes-drop, body_ok, body_err, sound_spells, bad_rest_faulty, walk_leaves}
+use Rattle.coap_codec.proofs.SoundBytes.{AreBytes-drop, body_ok, body_err, sound_spells, bad_rest_faulty, walk_leaves}
 
 cases_option : {A : Type 0} (o : Option A) → ((x : A) × (o ≡ Some x)) ⊎ (o ≡ None)
 cases_option (Some x) = inl (x, refl)
@@ -24,7 +24,7 @@ unfolding message_at
 message_body bytes e = rw (e, message_at) refl
 
 -- what reading gives at sound bytes
-module _ (bytes : List ℕ) (fits : IsBytes bytes) where
+module _ (bytes : List ℕ) (fits : AreBytes bytes) where
   body_reads : (m : Message) → IsFramed bytes → body_at bytes ≡ Ok m → Spells bytes m
   body_reads m f e =
       let w = walk 0 (behind_token bytes) in
@@ -39,7 +39,7 @@ module _ (bytes : List ℕ) (fits : IsBytes bytes) where
   body_faults : (reason : Reason) (at : ℕ) → IsFramed bytes → body_at bytes ≡ Err (reason, at) → Faulty bytes reason at
   body_faults reason at f e =
       let w = walk 0 (behind_token bytes) in
-      let fits' = IsBytes-drop (4 + token_length bytes) bytes fits in
+      let fits' = AreBytes-drop (4 + token_length bytes) bytes fits in
       elim (cases_result (payload_at w.reason w.rest)) [
         | inl h ↦ let e' = body_ok bytes h.0 h.1 in absurd cc
         | inr h ↦
@@ -58,7 +58,7 @@ module _ (bytes : List ℕ) (fits : IsBytes bytes) where
         | inr h ↦ body_reads m (frame_none bytes h) (sym (message_body bytes h) ∙ e)
       ]
 
-  -- a fault that is found is in the table
+  -- bytes are faulty as reading finds
   pub message_faults : (reason : Reason) (at : ℕ) → message_at bytes ≡ Err (reason, at) → Faulty bytes reason at
   message_faults reason at e =
       elim (cases_option (frame_fault bytes)) [

@@ -6,10 +6,10 @@ use Rattle.coap_types.specs.CoapOption.{CoapOption}
 use Rattle.coap_codec.specs.declared.fault.Reason.{Reason}
 use Rattle.coap_codec.specs.declared.fault.Reason.TheVariants.{Short, Version, TokenLength, TokenCut, EmptyNotBare, DeltaReserved, LengthReserved, OptionCut, NumberTooLarge, NoPayload}
 use Rattle.coap_codec.specs.Extension.{Ext}
-use Rattle.coap_codec.specs.Message.{marked}
+use Rattle.coap_codec.specs.Message.{AreBytes, marked}
 use Rattle.coap_codec.specs.Faulty.{needs, Says, BadRest}
 use Rattle.coap_codec.specs.Reading.{◌>>=◌, one_more, two_more, extended, value_at, nibbles_at, option_at, payload_at}
-use Rattle.coap_codec.proofs.StepLemmas.{IsBytes, IsBytes-rest, IsBytes-tail, chosen, cases_result, done, ok_is, extended_reads, extended_again}
+use Rattle.coap_codec.proofs.StepLemmas.{AreBytes-rest, AreBytes-tail, chosen, cases_result, done, ok_is, extended_reads, extended_again}
 
 abbrev pub fault : {A : Type 0} → Reason → Result A Reason
 fault r = Err r
@@ -68,7 +68,7 @@ value_bad number len bytes d e =
 abbrev pub BadNibbles : ℕ → ℕ → List ℕ → Reason → Type 0
 BadNibbles base first bytes reason = (first / 16 ≢ 15) → (first % 16 ≢ 15) → BadRest base (first ∷ bytes) reason
 
-nibbles_bad : (base first : ℕ) (bytes : List ℕ) (d : Reason) → IsBytes bytes → first < 256 → first / 16 ≢ 15 → first % 16 ≢ 15 → nibbles_at base (first / 16) (first % 16) bytes ≡ Err d → BadRest base (first ∷ bytes) d
+nibbles_bad : (base first : ℕ) (bytes : List ℕ) (d : Reason) → AreBytes bytes → first < 256 → first / 16 ≢ 15 → first % 16 ≢ 15 → nibbles_at base (first / 16) (first % 16) bytes ≡ Err d → BadRest base (first ∷ bytes) d
 unfolding nibbles_at
 nibbles_bad base first bytes r fits byte delta len e =
     let bad = BadRest base (first ∷ bytes) in
@@ -89,7 +89,7 @@ nibbles_bad base first bytes r fits byte delta len e =
                 subst bad (sym m.0) (delta, len, inl (omega (arith, m.1, n)))
             | inr q ↦
                 let l = q.0 in
-                let said' = extended_reads (first % 16) d.1 l.0 l.1 (IsBytes-rest said.more d.1 (subst IsBytes said.parts fits)) small' q.1 in
+                let said' = extended_reads (first % 16) d.1 l.0 l.1 (AreBytes-rest said.more d.1 (subst AreBytes said.parts fits)) small' q.1 in
                 let says : Says first bytes d.0 l.0 l.1 = record {
                   more_delta = said.more;
                   more_len = said'.more;
@@ -104,7 +104,7 @@ nibbles_bad base first bytes r fits byte delta len e =
           ]
     ]
 
-pub option_bad : (base first : ℕ) (bytes : List ℕ) (d : Reason) → IsBytes (first ∷ bytes) → first ≢ 255 → option_at base (first ∷ bytes) ≡ Err d → BadRest base (first ∷ bytes) d
+pub option_bad : (base first : ℕ) (bytes : List ℕ) (d : Reason) → AreBytes (first ∷ bytes) → first ≢ 255 → option_at base (first ∷ bytes) ≡ Err d → BadRest base (first ∷ bytes) d
 unfolding option_at
 option_bad base first bytes d fits unmarked e =
     let read = nibbles_at base (first / 16) (first % 16) bytes in
@@ -115,7 +115,7 @@ option_bad base first bytes d fits unmarked e =
           let delta : first / 16 ≢ 15 = eqb-false (first / 16) 15 p.0 in
           elim (chosen (eqb (first % 16) 15) (fault LengthReserved) read (Err d) p.1) [
             | inl q ↦ subst bad (err_is LengthReserved d q.1) (eqb-true (first % 16) 15 q.0, delta)
-            | inr q ↦ nibbles_bad base first bytes d (IsBytes-tail first bytes fits) (fits 0) delta (eqb-false (first % 16) 15 q.0) q.1
+            | inr q ↦ nibbles_bad base first bytes d (AreBytes-tail first bytes fits) (fits 0) delta (eqb-false (first % 16) 15 q.0) q.1
           ]
     ]
 
@@ -134,7 +134,7 @@ unfolding nibbles_at
 nibbles_say base first bytes delta len rest s =
     rw (s.parts, extended_again delta (first / 16) s.more_delta (s.more_len ++ rest) s.number, extended_again len (first % 16) s.more_len rest s.value) refl
 
-nibbles_short : (base delta len : ℕ) (bytes : List ℕ) → IsBytes bytes → delta < 15 → len < 15 → length bytes < needs delta + needs len → nibbles_at base delta len bytes ≡ Err OptionCut
+nibbles_short : (base delta len : ℕ) (bytes : List ℕ) → AreBytes bytes → delta < 15 → len < 15 → length bytes < needs delta + needs len → nibbles_at base delta len bytes ≡ Err OptionCut
 unfolding nibbles_at
 nibbles_short base delta len bytes fits small small' p =
     elim (cases_result (extended delta bytes)) [
@@ -147,7 +147,7 @@ nibbles_short base delta len bytes fits small small' p =
           elim (cases_result (extended len d.1)) [
             | inr k ↦ rw (h.1, k.1) (ap fault (extended_missing len d.1 k.0 small' k.1).0)
             | inl k ↦
-                let said' = extended_reads len d.1 k.0.0 k.0.1 (IsBytes-rest said.more d.1 (subst IsBytes said.parts fits)) small' k.1 in
+                let said' = extended_reads len d.1 k.0.0 k.0.1 (AreBytes-rest said.more d.1 (subst AreBytes said.parts fits)) small' k.1 in
                 let n' = Ext-needs k.0.0 len said'.more said'.says in
                 let whole' : length d.1 ≡ length said'.more + length k.0.1 = ap length said'.parts ∙ length-append said'.more k.0.1 in
                 absurd (omega (arith, n, n'))
@@ -155,7 +155,7 @@ nibbles_short base delta len bytes fits small small' p =
     ]
 
 -- a rest that is bad begins no option, for that reason
-pub option_bad_again : (base first : ℕ) (bytes : List ℕ) (d : Reason) → IsBytes (first ∷ bytes) → d ≢ NoPayload → BadRest base (first ∷ bytes) d → (option_at base (first ∷ bytes) ≡ Err d) × (first ≢ 255)
+pub option_bad_again : (base first : ℕ) (bytes : List ℕ) (d : Reason) → AreBytes (first ∷ bytes) → d ≢ NoPayload → BadRest base (first ∷ bytes) d → (option_at base (first ∷ bytes) ≡ Err d) × (first ≢ 255)
 unfolding option_at
 option_bad_again base first bytes Short fits n h = absurd h
 option_bad_again base first bytes Version fits n h = absurd h
@@ -168,7 +168,7 @@ option_bad_again base first bytes OptionCut fits n h =
     let byte : first < 256 = fits 0 in
     let unmarked : first ≢ 255 = λ e. h.0 (omega arith) in
     elim h.2 [
-      | inl s ↦ (rw (ne_eqb (first / 16) 15 h.0, ne_eqb (first % 16) 15 h.1) (nibbles_short base (first / 16) (first % 16) bytes (IsBytes-tail first bytes fits) (omega arith) (omega arith) s), unmarked)
+      | inl s ↦ (rw (ne_eqb (first / 16) 15 h.0, ne_eqb (first % 16) 15 h.1) (nibbles_short base (first / 16) (first % 16) bytes (AreBytes-tail first bytes fits) (omega arith) (omega arith) s), unmarked)
       | inr s ↦ (rw (ne_eqb (first / 16) 15 h.0, ne_eqb (first % 16) 15 h.1) (nibbles_say base first bytes s.0 s.1 s.2 s.3 ∙ value_cut (base + s.0) s.1 s.2 s.4 s.5), unmarked)
     ]
 option_bad_again base first bytes NumberTooLarge fits n h =
@@ -198,7 +198,7 @@ unfolding option_at
 marked_ends base [] = (OptionCut, refl)
 marked_ends base (b ∷ bytes) = (DeltaReserved, refl)
 
-pub payload_bad : (base : ℕ) (reason : Reason) (rest : List ℕ) (d : Reason) → IsBytes rest → option_at base rest ≡ Err reason → payload_at reason rest ≡ Err d → BadRest base rest d
+pub payload_bad : (base : ℕ) (reason : Reason) (rest : List ℕ) (d : Reason) → AreBytes rest → option_at base rest ≡ Err reason → payload_at reason rest ≡ Err d → BadRest base rest d
 unfolding payload_at
 payload_bad base reason [] d fits e p = absurd cc
 payload_bad base reason (first ∷ []) d fits e p =
@@ -234,7 +234,7 @@ unfolding payload_at
 payload_none reason first [] e f = rw e refl
 payload_none reason first (b ∷ bytes) e f = absurd cc
 
-pub payload_bad_again : (base : ℕ) (reason : Reason) (rest : List ℕ) (d : Reason) → IsBytes rest → option_at base rest ≡ Err reason → BadRest base rest d → payload_at reason rest ≡ Err d
+pub payload_bad_again : (base : ℕ) (reason : Reason) (rest : List ℕ) (d : Reason) → AreBytes rest → option_at base rest ≡ Err reason → BadRest base rest d → payload_at reason rest ≡ Err d
 payload_bad_again base reason [] d fits e h = absurd h
 payload_bad_again base reason (first ∷ bytes) d fits e h =
     elim (cases_no_payload d) [

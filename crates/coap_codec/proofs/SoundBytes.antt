@@ -5,11 +5,11 @@ use Rattle.std.proofs.lemmas.Bool.{cases_lt}
 use Rattle.coap_types.specs.declared.message.Kind.TheVariants.{Con, Non, Ack, Rst}
 use Rattle.coap_codec.specs.declared.fault.Reason.{Reason}
 use Rattle.coap_codec.specs.declared.fault.Reason.TheVariants.{Short, Version, TokenLength, TokenCut, EmptyNotBare, DeltaReserved, LengthReserved, OptionCut, NumberTooLarge, NoPayload}
-use Rattle.coap_codec.specs.Message.{kind_number, header, marked, Spells}
+use Rattle.coap_codec.specs.Message.{AreBytes, kind_number, header, marked, Spells}
 use Rattle.coap_codec.specs.Header.{token_length, kind_of, id_of}
 use Rattle.coap_codec.specs.Faulty.{Leaves, BadRest, place, IsFramed, Faulty}
 use Rattle.coap_codec.specs.Reading.{walk, payload_at, behind_token, message_of, body_at}
-use Rattle.coap_codec.proofs.StepLemmas.{IsBytes, IsBytes-rest}
+use Rattle.coap_codec.proofs.StepLemmas.{AreBytes-rest}
 use Rattle.coap_codec.proofs.WalkLemmas.{walked, walk_longest}
 
 kind_number_is : (k : ℕ) → k < 4 → kind_number (cond (eqb k 0) Con (cond (eqb k 1) Non (cond (eqb k 2) Ack Rst))) ≡ k
@@ -19,7 +19,7 @@ kind_number_is (suc (suc zero)) p = refl
 kind_number_is (suc (suc (suc zero))) p = refl
 kind_number_is (suc (suc (suc (suc k)))) p = absurd (omega arith)
 
-header_reads : (bytes payload : List ℕ) → IsBytes bytes → IsFramed bytes → header (message_of bytes payload) ≡ take 4 bytes
+header_reads : (bytes payload : List ℕ) → AreBytes bytes → IsFramed bytes → header (message_of bytes payload) ≡ take 4 bytes
 header_reads [] payload fits f = absurd (let h = f.header.long in omega arith)
 header_reads (a ∷ []) payload fits f = absurd (let h = f.header.long in omega arith)
 header_reads (a ∷ b ∷ []) payload fits f = absurd (let h = f.header.long in omega arith)
@@ -41,27 +41,27 @@ pub body_err : (bytes : List ℕ) (reason : Reason) → payload_at (walk 0 (behi
 unfolding body_at
 body_err bytes reason e = rw (e, body_at) refl
 
-pub IsBytes-drop : (n : ℕ) (bytes : List ℕ) → IsBytes bytes → IsBytes (drop n bytes)
-IsBytes-drop n bytes fits = IsBytes-rest (take n bytes) (drop n bytes) (subst IsBytes (sym (take-append-drop n bytes)) fits)
+pub AreBytes-drop : (n : ℕ) (bytes : List ℕ) → AreBytes bytes → AreBytes (drop n bytes)
+AreBytes-drop n bytes fits = AreBytes-rest (take n bytes) (drop n bytes) (subst AreBytes (sym (take-append-drop n bytes)) fits)
 
-pub IsBytes-front : (front rest : List ℕ) → IsBytes (front ++ rest) → IsBytes front
-IsBytes-front front rest fits i =
+pub AreBytes-front : (front rest : List ℕ) → AreBytes (front ++ rest) → AreBytes front
+AreBytes-front front rest fits i =
     elim (cases_lt i (length front)) [
       | inl lt ↦ rw (← get_or_append_left front rest 0 i lt) (fits i)
       | inr le ↦ rw (get_or_past front i 0 le) (omega arith)
     ]
 
-id_small : (bytes : List ℕ) → IsBytes bytes → id_of bytes < 2 ^ 16
-id_small bytes fits = let d = IsBytes-drop 2 bytes fits in omega (arith, d 0, d 1)
+id_small : (bytes : List ℕ) → AreBytes bytes → id_of bytes < 2 ^ 16
+id_small bytes fits = let d = AreBytes-drop 2 bytes fits in omega (arith, d 0, d 1)
 
 -- sound bytes whose rest is a payload spell a message
-pub sound_spells : (bytes payload : List ℕ) → IsBytes bytes → IsFramed bytes → (walk 0 (behind_token bytes)).rest ≡ marked payload → Spells bytes (message_of bytes payload)
+pub sound_spells : (bytes payload : List ℕ) → AreBytes bytes → IsFramed bytes → (walk 0 (behind_token bytes)).rest ≡ marked payload → Spells bytes (message_of bytes payload)
 sound_spells bytes payload fits f e =
     let n = token_length bytes in
     let w = walk 0 (behind_token bytes) in
     let token = take n (drop 4 bytes) in
     let cut : drop n (drop 4 bytes) ≡ behind_token bytes = drop-drop n 4 bytes in
-    let fits' : IsBytes (behind_token bytes) = IsBytes-drop (4 + n) bytes fits in
+    let fits' : AreBytes (behind_token bytes) = AreBytes-drop (4 + n) bytes fits in
     let h = walked 0 (behind_token bytes) fits' in
     let tail : behind_token bytes ≡ h.front ++ marked payload = h.parts ∙ ap (λ (r : List ℕ). h.front ++ r) e in
     let body : drop 4 bytes ≡ token ++ (h.front ++ marked payload) = sym (take-append-drop n (drop 4 bytes)) ∙ ap (λ (r : List ℕ). token ++ r) (cut ∙ tail) in
@@ -92,7 +92,7 @@ bad_rest_faulty bytes NumberTooLarge number (b ∷ rest) f l h = (f, (number, b 
 bad_rest_faulty bytes NoPayload number (b ∷ rest) f l h = (f, (number, b ∷ rest, l, h, refl))
 
 -- the walk takes the longest run
-pub walk_leaves : (bytes : List ℕ) → IsBytes bytes → Leaves bytes (walk 0 bytes).number (walk 0 bytes).rest
+pub walk_leaves : (bytes : List ℕ) → AreBytes bytes → Leaves bytes (walk 0 bytes).number (walk 0 bytes).rest
 walk_leaves bytes fits =
     let w = walk 0 bytes in
     let h = walked 0 bytes fits in

@@ -10,14 +10,11 @@ use Rattle.coap_codec.specs.Options.{IsOption}
 use Rattle.coap_codec.specs.Message.{AreBytes}
 use Rattle.coap_codec.specs.Reading.{◌>>=◌, one_more, two_more, extended, value_at, nibbles_at, option_at}
 
-abbrev pub IsBytes : List ℕ → Type 0
-IsBytes bytes = AreBytes bytes
+pub AreBytes-rest : (front rest : List ℕ) → AreBytes (front ++ rest) → AreBytes rest
+AreBytes-rest front rest h i = rw get_or-append-add at (h (length front + i))
 
-pub IsBytes-rest : (front rest : List ℕ) → IsBytes (front ++ rest) → IsBytes rest
-IsBytes-rest front rest h i = rw get_or-append-add at (h (length front + i))
-
-pub IsBytes-tail : (b : ℕ) (bytes : List ℕ) → IsBytes (b ∷ bytes) → IsBytes bytes
-IsBytes-tail b bytes h i = h (suc i)
+pub AreBytes-tail : (b : ℕ) (bytes : List ℕ) → AreBytes (b ∷ bytes) → AreBytes bytes
+AreBytes-tail b bytes h i = h (suc i)
 
 pub chosen : {A : Type 0} (b : Bool) (x y z : A) → cond b x y ≡ z → ((b ≡ true) × (x ≡ z)) ⊎ ((b ≡ false) × (y ≡ z))
 chosen true x y z e = inl (refl, e)
@@ -47,16 +44,16 @@ pub record Said (n nibble : ℕ) (bytes rest : List ℕ) : Type 0 where
 said_at : (nibble : ℕ) (bytes : List ℕ) (m : ℕ) (left : List ℕ) (n : ℕ) (rest : List ℕ) → done {A = ℕ × List ℕ} (m, left) ≡ done (n, rest) → Said m nibble bytes left → Said n nibble bytes rest
 said_at nibble bytes m left n rest e s = subst (λ (p : ℕ × List ℕ). Said p.0 nibble bytes p.1) (ok_is (m, left) (n, rest) e) s
 
-one_reads : (nibble : ℕ) (bytes : List ℕ) (n : ℕ) (rest : List ℕ) → IsBytes bytes → nibble ≡ 13 → one_more bytes ≡ Ok (n, rest) → Said n nibble bytes rest
+one_reads : (nibble : ℕ) (bytes : List ℕ) (n : ℕ) (rest : List ℕ) → AreBytes bytes → nibble ≡ 13 → one_more bytes ≡ Ok (n, rest) → Said n nibble bytes rest
 one_reads nibble [] n rest fits is e = absurd cc
 one_reads nibble (b ∷ bytes) n rest fits is e = said_at nibble (b ∷ bytes) (13 + b) bytes n rest e (record { more = b ∷ []; says = (fits 0, refl, is); parts = refl })
 
-two_reads : (nibble : ℕ) (bytes : List ℕ) (n : ℕ) (rest : List ℕ) → IsBytes bytes → nibble ≡ 14 → two_more bytes ≡ Ok (n, rest) → Said n nibble bytes rest
+two_reads : (nibble : ℕ) (bytes : List ℕ) (n : ℕ) (rest : List ℕ) → AreBytes bytes → nibble ≡ 14 → two_more bytes ≡ Ok (n, rest) → Said n nibble bytes rest
 two_reads nibble [] n rest fits is e = absurd cc
 two_reads nibble (a ∷ []) n rest fits is e = absurd cc
 two_reads nibble (a ∷ b ∷ bytes) n rest fits is e = said_at nibble (a ∷ b ∷ bytes) (269 + (a * 256 + b)) bytes n rest e (record { more = a ∷ b ∷ []; says = (fits 0, fits 1, refl, is); parts = refl })
 
-pub extended_reads : (nibble : ℕ) (bytes : List ℕ) (n : ℕ) (rest : List ℕ) → IsBytes bytes → nibble < 15 → extended nibble bytes ≡ Ok (n, rest) → Said n nibble bytes rest
+pub extended_reads : (nibble : ℕ) (bytes : List ℕ) (n : ℕ) (rest : List ℕ) → AreBytes bytes → nibble < 15 → extended nibble bytes ≡ Ok (n, rest) → Said n nibble bytes rest
 unfolding extended
 extended_reads nibble bytes n rest fits lt e =
     elim (chosen (ltb nibble 13) (done {A = ℕ × List ℕ} (nibble, bytes)) (cond (eqb nibble 13) (one_more bytes) (two_more bytes)) (Ok (n, rest)) e) [
@@ -122,13 +119,13 @@ pub record Behind (base delta len : ℕ) (bytes : List ℕ) (option : CoapOption
   pub value : Ext (length option.value) len more_len
   pub parts : bytes ≡ more_delta ++ (more_len ++ (option.value ++ rest))
 
-pub nibbles_reads : (base delta len : ℕ) (bytes : List ℕ) (option : CoapOption) (rest : List ℕ) → IsBytes bytes → delta < 15 → len < 15 → nibbles_at base delta len bytes ≡ Ok (option, rest) → Behind base delta len bytes option rest
+pub nibbles_reads : (base delta len : ℕ) (bytes : List ℕ) (option : CoapOption) (rest : List ℕ) → AreBytes bytes → delta < 15 → len < 15 → nibbles_at base delta len bytes ≡ Ok (option, rest) → Behind base delta len bytes option rest
 unfolding nibbles_at
 nibbles_reads base delta len bytes option rest fits small_delta small_len e =
     let b = bind_ok (extended delta bytes) (λ d. extended len d.1 >>= λ l. value_at (base + d.0) l.0 l.1) (option, rest) e in
     let d = b.0 in
     let said = extended_reads delta bytes d.0 d.1 fits small_delta b.1 in
-    let fits' : IsBytes d.1 = IsBytes-rest said.more d.1 (subst IsBytes said.parts fits) in
+    let fits' : AreBytes d.1 = AreBytes-rest said.more d.1 (subst AreBytes said.parts fits) in
     let b' = bind_ok (extended len d.1) (λ l. value_at (base + d.0) l.0 l.1) (option, rest) b.2 in
     let l = b'.0 in
     let said' = extended_reads len d.1 l.0 l.1 fits' small_len b'.1 in
@@ -163,7 +160,7 @@ pub record Taken (base : ℕ) (bytes : List ℕ) (option : CoapOption) (rest : L
   pub is_option : IsOption base option first
   pub parts : bytes ≡ first ++ rest
 
-pub option_reads : (base : ℕ) (bytes : List ℕ) (option : CoapOption) (rest : List ℕ) → IsBytes bytes → option_at base bytes ≡ Ok (option, rest) → Taken base bytes option rest
+pub option_reads : (base : ℕ) (bytes : List ℕ) (option : CoapOption) (rest : List ℕ) → AreBytes bytes → option_at base bytes ≡ Ok (option, rest) → Taken base bytes option rest
 unfolding option_at
 option_reads base [] option rest fits e = absurd cc
 option_reads base (first ∷ bytes) option rest fits e =
@@ -176,7 +173,7 @@ option_reads base (first ∷ bytes) option rest fits e =
             let byte : first < 256 = fits 0 in
             let delta : first / 16 ≢ 15 = eqb-false (first / 16) 15 p.0 in
             let len : first % 16 ≢ 15 = eqb-false (first % 16) 15 q.0 in
-            let h = nibbles_reads base (first / 16) (first % 16) bytes option rest (IsBytes-tail first bytes fits) (omega arith) (omega arith) q.1 in
+            let h = nibbles_reads base (first / 16) (first % 16) bytes option rest (AreBytes-tail first bytes fits) (omega arith) (omega arith) q.1 in
             let text = h.more_delta ++ (h.more_len ++ option.value) in
             let whole : first ≡ first / 16 * 16 + first % 16 = omega arith in
             let regrouped : h.more_delta ++ (h.more_len ++ (option.value ++ rest)) ≡ text ++ rest = simp append_assoc in

@@ -7,7 +7,8 @@ use Rattle.coap_codec.specs.declared.fault.Reason.TheVariants.{OptionCut}
 use Rattle.coap_codec.specs.Options.{Options}
 use Rattle.coap_codec.specs.Faulty.{last_number}
 use Rattle.coap_codec.specs.Reading.{option_at, Walk, with_first, ends_at, walk_of, walk}
-use Rattle.coap_codec.proofs.StepLemmas.{IsBytes, IsBytes-rest, cases_result, option_reads, option_again, option_shorter}
+use Rattle.coap_codec.specs.Message.{AreBytes}
+use Rattle.coap_codec.proofs.StepLemmas.{AreBytes-rest, cases_result, option_reads, option_again, option_shorter}
 
 one_step : (n base : ℕ) (bytes : List ℕ) (option : CoapOption) (rest : List ℕ) → option_at base bytes ≡ Ok (option, rest) → walk_of (suc n) base bytes ≡ with_first option (walk_of n option.number rest)
 unfolding walk_of
@@ -60,10 +61,10 @@ pub record Walked (base : ℕ) (bytes : List ℕ) (w : Walk) : Type 0 where
   pub parts : bytes ≡ front ++ w.rest
   pub last : w.number ≡ last_number base w.options
   pub ends : option_at w.number w.rest ≡ Err w.reason
-  pub fits : IsBytes w.rest
+  pub fits : AreBytes w.rest
 
-walked_case : (n base : ℕ) (bytes : List ℕ) → IsBytes bytes → length bytes ≤ suc n
-    → ((base : ℕ) (bytes : List ℕ) → IsBytes bytes → length bytes ≤ n → Walked base bytes (walk base bytes)) → Walked base bytes (walk base bytes)
+walked_case : (n base : ℕ) (bytes : List ℕ) → AreBytes bytes → length bytes ≤ suc n
+    → ((base : ℕ) (bytes : List ℕ) → AreBytes bytes → length bytes ≤ n → Walked base bytes (walk base bytes)) → Walked base bytes (walk base bytes)
 walked_case n base bytes fits p ih =
     elim (cases_result (option_at base bytes)) [
       | inl h ↦
@@ -71,7 +72,7 @@ walked_case n base bytes fits p ih =
           let rest = h.0.1 in
           let s = option_shorter base bytes option rest h.1 in
           let t = option_reads base bytes option rest fits h.1 in
-          let w = ih option.number rest (IsBytes-rest t.first rest (subst IsBytes t.parts fits)) (omega arith) in
+          let w = ih option.number rest (AreBytes-rest t.first rest (subst AreBytes t.parts fits)) (omega arith) in
           let regrouped : t.first ++ (w.front ++ (walk option.number rest).rest) ≡ (t.first ++ w.front) ++ (walk option.number rest).rest = sym (append_assoc t.first w.front (walk option.number rest).rest) in
           subst (Walked base bytes) (sym (walk_step base bytes option rest h.1)) (record {
             front = t.first ++ w.front;
@@ -85,17 +86,17 @@ walked_case n base bytes fits p ih =
           subst (Walked base bytes) (sym (walk_stop base bytes h.0 h.1)) (record { front = []; run = refl; parts = refl; last = refl; ends = h.1; fits = fits })
     ]
 
-walked_within : (n base : ℕ) (bytes : List ℕ) → IsBytes bytes → length bytes ≤ n → Walked base bytes (walk base bytes)
+walked_within : (n base : ℕ) (bytes : List ℕ) → AreBytes bytes → length bytes ≤ n → Walked base bytes (walk base bytes)
 unfolding option_at
 walked_within zero base [] fits p = subst (Walked base []) (sym (walk_stop base [] OptionCut refl)) (record { front = []; run = refl; parts = refl; last = refl; ends = refl; fits = fits })
 walked_within zero base (b ∷ bytes) fits p = absurd (omega arith)
 walked_within (suc n) base bytes fits p = walked_case n base bytes fits p (walked_within n)
 
-pub walked : (base : ℕ) (bytes : List ℕ) → IsBytes bytes → Walked base bytes (walk base bytes)
+pub walked : (base : ℕ) (bytes : List ℕ) → AreBytes bytes → Walked base bytes (walk base bytes)
 walked base bytes fits = walked_within (length bytes) base bytes fits (omega arith)
 
 -- a run is walked over
-pub walk_again : (options : List CoapOption) (base : ℕ) (front rest : List ℕ) (reason : Reason) → IsBytes (front ++ rest) → Options base front options
+pub walk_again : (options : List CoapOption) (base : ℕ) (front rest : List ℕ) (reason : Reason) → AreBytes (front ++ rest) → Options base front options
     → option_at (last_number base options) rest ≡ Err reason
     → walk base (front ++ rest) ≡ record { options = options; number = last_number base options; rest = rest; reason = reason }
 walk_again [] base front rest reason fits run e = rw run (walk_stop base rest reason e)
@@ -104,12 +105,12 @@ walk_again (option ∷ options) base front rest reason fits run e =
     let more = run.1 in
     let parts : front ++ rest ≡ first ++ (more ++ rest) = rw run.2 (append_assoc first more rest) in
     let again = option_again base option first (more ++ rest) run.3 in
-    let fits' : IsBytes (first ++ (more ++ rest)) = subst IsBytes parts fits in
+    let fits' : AreBytes (first ++ (more ++ rest)) = subst AreBytes parts fits in
     rw parts (walk_step base (first ++ (more ++ rest)) option (more ++ rest) again
-    ∙ ap (with_first option) (walk_again options option.number more rest reason (IsBytes-rest first (more ++ rest) fits') run.4 e))
+    ∙ ap (with_first option) (walk_again options option.number more rest reason (AreBytes-rest first (more ++ rest) fits') run.4 e))
 
 -- no run is longer than the walk
-pub walk_longest : (options : List CoapOption) (base : ℕ) (bytes run left : List ℕ) → IsBytes bytes → Options base run options → bytes ≡ run ++ left → length (walk base bytes).rest ≤ length left
+pub walk_longest : (options : List CoapOption) (base : ℕ) (bytes run left : List ℕ) → AreBytes bytes → Options base run options → bytes ≡ run ++ left → length (walk base bytes).rest ≤ length left
 walk_longest [] base bytes run left fits is e =
     let w = walked base bytes fits in
     let whole : length bytes ≡ length w.front + length (walk base bytes).rest = ap length w.parts ∙ length-append w.front (walk base bytes).rest in
@@ -120,10 +121,10 @@ walk_longest (option ∷ options) base bytes run left fits is e =
     let first = is.0 in
     let more = is.1 in
     let parts : bytes ≡ first ++ (more ++ left) = e ∙ ap (λ (r : List ℕ). r ++ left) is.2 ∙ append_assoc first more left in
-    let fits' : IsBytes (first ++ (more ++ left)) = subst IsBytes parts fits in
+    let fits' : AreBytes (first ++ (more ++ left)) = subst AreBytes parts fits in
     let again = option_again base option first (more ++ left) is.3 in
     let step = walk_step base (first ++ (more ++ left)) option (more ++ left) again in
-    rw (parts, step) (walk_longest options option.number (more ++ left) more left (IsBytes-rest first (more ++ left) fits') is.4 refl)
+    rw (parts, step) (walk_longest options option.number (more ++ left) more left (AreBytes-rest first (more ++ left) fits') is.4 refl)
 
 -- each option takes a step
 count_within : (n base : ℕ) (bytes : List ℕ) → length (walk_of n base bytes).options ≤ n

@@ -4,7 +4,6 @@ pub mod Message
 pub mod Header
 pub mod Faulty
 pub mod Refused
-pub mod Narrow
 pub mod Laws
 pub mod Reading
 pub mod Writing

@@ -1,5 +1,5 @@
 -- Messages that have no spelling, or none that fits the room (RFC 7252, sections 3.1 and 4.1).
-use Rattle.std.specs.Prelude.{◌≡◌, ℕ, ◌+◌, ◌<◌, nat_le, Bool, true, false, ◌&&◌, List, [], ◌∷◌, length}
+use Rattle.std.specs.Prelude.{◌≡◌, ℕ, ◌+◌, ◌<◌, ◌≤◌, nat_le, Bool, true, false, ◌&&◌, List, [], ◌∷◌, length}
 use Rattle.std.specs.List.{list_all}
 use Rattle.coap_types.specs.CoapOption.{CoapOption}
 use Rattle.coap_codec.specs.Message.{Message, Spells}
@@ -32,3 +32,7 @@ Refused EmptyNotBare m room = IsEmptyNotBare m
 Refused OptionOrder m room = (IsEmptyNotBare m → ⊥) × (ascends 0 m.options ≡ false)
 Refused OptionTooLong m room = (IsEmptyNotBare m → ⊥) × (ascends 0 m.options ≡ true) × (list_all is_short m.options ≡ false)
 Refused NoRoom m room = (bytes : List ℕ) × Spells bytes m × (room < length bytes)
+
+-- No spelling of the message fits the room.
+abbrev pub HasNoSpelling : Message → ℕ → Type 0
+HasNoSpelling m room = (bytes : List ℕ) → Spells bytes m → length bytes ≤ room → ⊥

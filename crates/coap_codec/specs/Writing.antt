@@ -47,12 +47,3 @@ pub record IsWritable (m : Message) (room : ℕ) : Type 0 where
 -- what is left of the room behind n bytes
 abbrev pub room_after : ℕ → ℕ → Option ℕ
 room_after room n = if nat_lt room n then None else Some (room - n)
-
--- the test of one option, behind one of number base
-unfoldable pub is_narrow : ℕ → CoapOption → Bool
-is_narrow base option = nat_le option.number (base + 12) && nat_le (length option.value) 12
-
--- the test of options, the first behind one of number base
-unfoldable pub are_narrow : ℕ → List CoapOption → Bool
-are_narrow base [] = true
-are_narrow base (option ∷ options) = is_narrow base option && are_narrow option.number options

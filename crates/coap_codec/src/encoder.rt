@@ -1,8 +1,8 @@
-ghost use Rattle.std.specs.Prelude.{◌≡◌, ◌≤◌, ◌+◌, true, ℕ, List, length, take, drop, nat_le, IsTrue, IfSome, IfNone, IfOk, IfErr, OnErr, ◌↔◌};
+ghost use Rattle.std.specs.Prelude.{◌≡◌, ◌≤◌, ◌+◌, true, length, take, drop, nat_le, IsTrue, IfSome, IfNone, IfOk, IfErr, OnErr, ◌↔◌};
 ghost use Rattle.std.specs.List.{list_all, All};
 ghost use Rattle.coap_types.specs.CoapOption.{options_of};
 ghost use Rattle.coap_codec.specs.Message.{Spells, marked, message};
-ghost use Rattle.coap_codec.specs.Refused.{IsEmptyNotBare, Refused, ascends, is_short, refusal_number};
+ghost use Rattle.coap_codec.specs.Refused.{HasNoSpelling, IsEmptyNotBare, Refused, ascends, is_short, refusal_number};
 ghost use Rattle.coap_codec.specs.Writing.{Puts, HasNumber, IsWritable, message_bytes, options_bytes};
 
 use crate::head::{HEADER_LEN, Head, header};
@@ -56,7 +56,6 @@ impl fmt::Display for Refusal {
     }
 }
 
-/// The option's number; its contract says the type's range of what is lent.
 fn number_of(option: &Opt<'_>) -> u16
     ensures { result ≡ option.now.number }
 {
@@ -117,7 +116,8 @@ fn has_room(token: &[u8], options: &[Opt<'_>], payload: &[u8], room: usize) -> b
     requires token { length token.now ≤ 8 }
     requires order { ascends 0 (options_of options.now) ≡ true }
     requires short { list_all is_short (options_of options.now) ≡ true }
-    ensures { result ≡ nat_le (4 + (length token.now + (length (options_bytes 0 (options_of options.now)) + length (marked payload.now)))) room }
+    ensures { result ≡ nat_le (4 + (length token.now + (length (options_bytes 0 (options_of options.now)) + length (marked payload.now))))
+        room }
 {
     let front = HEADER_LEN + token.len();
     if room < front {
@@ -134,6 +134,7 @@ fn refuses(head: &Head, options: &[Opt<'_>], payload: &[u8], room: usize) -> Opt
     ensures refused { IfSome result (λ r. Refused r (message head.now options.now payload.now) room) }
     ensures none { IfNone result (IsWritable (message head.now options.now payload.now) room) }
 {
+    // A number behind a reference is known to fit its type once a call has answered it.
     let _code = code_of(head);
     let _id = id_of(head);
     if is_empty_not_bare(head, options, payload) {
@@ -175,12 +176,13 @@ pub fn encode(
     payload: &[u8],
     out: &mut [u8],
 ) -> Result<usize, Refusal>
-    ensures spelled { IfOk result (λ n. (n ≤ length out.old) × Spells (take n out.new) (message head.now options.now payload.now)) }
+    ensures spelled { IfOk result (λ n. (n ≤ length out.old)
+        × Spells (take n out.new) (message head.now options.now payload.now)) }
     // What is behind the spelling stays.
     ensures behind { IfOk result (λ n. drop n out.new ≡ drop n out.old) }
+
     ensures refused { IfErr result (λ r. Refused r (message head.now options.now payload.now) (length out.old)) }
-    // What is refused has no spelling that fits.
-    ensures none { OnErr result ((bytes : List ℕ) → Spells bytes (message head.now options.now payload.now) → length bytes ≤ length out.old → ⊥) }
+    ensures none { OnErr result (HasNoSpelling (message head.now options.now payload.now) (length out.old)) }
     ensures unchanged { OnErr result (out.new ≡ out.old) }
 {
     if let Some(refusal) = refuses(head, options, payload, out.len()) {

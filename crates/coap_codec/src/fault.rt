@@ -70,6 +70,7 @@ impl fmt::Display for Reason {
 /// The first fault of a datagram, from left to right.
 #[derive(Clone, Copy, Debug, PartialEq, Eq)]
 pub struct Fault {
+    /// What was found.
     pub reason: Reason,
     /// The place of the fault, in bytes from the start: where an option is at fault, that of its
     /// first byte; where bytes are missing, the datagram's length.

@@ -20,12 +20,16 @@ const KIND_UNIT: u8 = 16;
 /// How many types there are.
 const KINDS: u8 = 4;
 
-/// What a message begins with (RFC 7252, section 3).
+/// What a message begins with: the header, of 4 bytes, and the token (RFC 7252, section 3).
 #[derive(Drop)]
 pub struct Head {
+    /// The type.
     pub kind: Kind,
+    /// The code.
     pub code: Code,
+    /// The Message ID.
     pub id: Id,
+    /// The token, of 0 to 8 bytes.
     pub token: Token,
 }
 

@@ -1,7 +1,8 @@
 //! CoAP messages as datagrams (RFC 7252, section 3).
 //!
-//! [`decode`] reads the message that a datagram spells and lends it from the datagram, or answers
-//! the first [`Fault`]; [`encode`] writes the one spelling of a message. Nothing here allocates.
+//! [`decode`] answers the message that a datagram spells, lent from the datagram, or the datagram's
+//! first [`Fault`]. [`encode`] writes the one spelling of a message into a slice, or says why there
+//! is none. Nothing here allocates.
 #![tactic(auto)]
 
 mod decoder;
@@ -9,7 +10,6 @@ mod encoder;
 mod fault;
 mod head;
 mod laws;
-mod narrow;
 mod nibble;
 mod option_put;
 mod option_walk;
@@ -22,7 +22,6 @@ pub use encoder::{Refusal, encode};
 pub use fault::{Fault, Reason};
 pub use head::Head;
 pub use laws::{one_reading, one_spelling};
-pub use narrow::{decode_narrow, encode_narrow};
 pub use view::{Options, View};
 
 #[cfg(test)]

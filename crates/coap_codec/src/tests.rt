@@ -239,36 +239,6 @@ fn refusals_come_in_order(rt: HostRuntime) -> Result<(), Fail> {
 }
 
 #[test]
-fn narrow_messages_are_read_and_written(rt: HostRuntime) -> Result<(), Fail> {
-    for (row, narrow) in [
-        (GET, true),
-        (CONTENT, true),
-        (PING, true),
-        (CONTINUE, false),
-        (LONG, false),
-    ] {
-        let view = decode_narrow(row.bytes);
-        assert_eq!(rt; view.is_some(), narrow);
-        if let Some(view) = view {
-            assert_eq!(rt; view.payload(), row.payload);
-        }
-
-        let head = head_of(&row).ok_or("a token")?;
-        let mut out = [0x99; 40];
-        match encode_narrow(&head, row.options, row.payload, &mut out) {
-            Some(end) => assert_eq!(rt; &out[..end], row.bytes),
-            None => assert_eq!(rt; out, [0x99; 40]),
-        }
-        let end = encode_narrow(&head, row.options, row.payload, &mut out);
-        assert_eq!(rt; end.is_some(), narrow);
-    }
-    let head = head_of(&GET).ok_or("a token")?;
-    assert!(rt; encode_narrow(&head, GET.options, b"", &mut [0; 15]).is_none());
-    assert!(rt; decode_narrow(b"\x40\x01\x12\x34\xff").is_none());
-    Ok(())
-}
-
-#[test]
 fn laws(_rt: HostRuntime) {
     one_reading();
     one_spelling();

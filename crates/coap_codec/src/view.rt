@@ -21,7 +21,14 @@ impl<'a> Model for View<'a> {
 
     ghost Value = { Message };
 
-    ghost view = { λ v. record { kind = v.kind; code = v.code.0; id = v.id.0; token = v.token.now; options = (walk 0 v.options.now).options; payload = v.payload.now } };
+    ghost view = { λ v. record {
+      kind = v.kind;
+      code = v.code.0;
+      id = v.id.0;
+      token = v.token.now;
+      options = (walk 0 v.options.now).options;
+      payload = v.payload.now;
+    } };
 }
 
 impl<'a> View<'a> {
@@ -60,11 +67,12 @@ impl<'a> View<'a> {
         self.payload
     }
 
-    /// The options, in the order of their numbers.
+    /// The options in order, whose numbers don't fall.
     pub fn options(&self) -> Options<'a>
         ensures list { result ≡ self.now.options }
         ensures few { length self.now.options < 2 ^ 63 }
     {
+        // An option takes at least a byte, so there are no more of them than a slice has bytes.
         let _len = self.options.len();
         Options {
             number: 0,
@@ -73,7 +81,7 @@ impl<'a> View<'a> {
     }
 }
 
-/// The options of a message that are still to come, in the order of their numbers.
+/// The options of a message that are still to come.
 #[derive(Drop)]
 pub struct Options<'a> {
     number: u16,

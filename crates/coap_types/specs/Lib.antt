@@ -5,3 +5,4 @@ pub mod OptionTable
 pub mod Text
 pub mod Uint
 pub mod MethodCode
+pub mod Roles

@@ -1,20 +1,19 @@
 use crate::commands::{Status, Stop};
 use crate::text::hex_or_dash;
-use coap_codec::decode_narrow;
+use coap_codec::{Fault, View, decode};
 use std::alloc::Global;
 use std::io::Write;
 
-/// Prints the message that the datagram spells: kind, code, Message ID and token, then a line for
-/// each option, then the payload.
-pub fn show<W: Write>(
-    alloc: Global,
-    datagram: &[u8],
-    out: &mut W,
-) -> Result<Status, Stop> {
-    let Some(message) = decode_narrow(datagram) else {
-        writeln!(out, "not yet")?;
-        return Ok(Status::Refused);
-    };
+/// Prints what the datagram spells: a message, or the first fault.
+pub fn show<W: Write>(alloc: Global, datagram: &[u8], out: &mut W) -> Result<Status, Stop> {
+    match decode(datagram) {
+        Ok(message) => show_message(alloc, &message, out),
+        Err(fault) => show_fault(&fault, out),
+    }
+}
+
+/// Kind, code, Message ID and token, then a line for each option, then the payload.
+fn show_message<W: Write>(alloc: Global, message: &View<'_>, out: &mut W) -> Result<Status, Stop> {
     let kind = message.kind();
     let code = message.code();
     let id = message.id().0;
@@ -30,4 +29,13 @@ pub fn show<W: Write>(
         writeln!(out, "payload {payload}")?;
     }
     Ok(Status::Done)
+}
+
+/// The number of the reason, its name and its place.
+fn show_fault<W: Write>(fault: &Fault, out: &mut W) -> Result<Status, Stop> {
+    let number = fault.reason.number();
+    let reason = fault.reason;
+    let at = fault.at;
+    writeln!(out, "fault {number} {reason} at {at}")?;
+    Ok(Status::Refused)
 }

@@ -2,6 +2,7 @@ use super::command;
 use std::alloc::{AllocError, Global};
 use std::io;
 use std::io::Write;
+use std::process::Abort;
 use std::test::Fail;
 
 fn words_of(alloc: Global, words: &[&str]) -> Result<Vec<String>, AllocError> {
@@ -13,58 +14,150 @@ fn words_of(alloc: Global, words: &[&str]) -> Result<Vec<String>, AllocError> {
     Ok(list)
 }
 
-/// A text of one character, many times.
-fn repeated(alloc: Global, letter: char, count: usize) -> Result<String, AllocError> {
+/// A text, many times.
+fn repeated(alloc: Global, part: &str, count: usize) -> Result<String, AllocError> {
     let mut text = String::new(alloc);
     for _ in 0..count {
-        text.push(letter)?;
+        text.push_str(part)?;
     }
     Ok(text)
 }
 
-#[test]
-fn prints_and_status(rt: HostRuntime) -> Result<(), Fail> {
-    let get = "40017d34bb74656d7065726174757265";
-    let content = "6045000148000000000000000180ff6869\n";
-    let cases: [(&[&str], u8, &str); 22] = [
-        (&["show", get], 0, "CON 0.01 7d34 -\n11 74656d7065726174757265\n"),
-        (&["show", "6045000148000000000000000180ff6869"], 0, "ACK 2.05 0001 -\n4 0000000000000001\n12 -\npayload 6869\n"),
-        (&["show", "5102ABCDEF"], 0, "NON 0.02 abcd ef\n"),
-        (&["show", "70000001"], 0, "RST 0.00 0001 -\n"),
-        (&["show", "40010001bd0074656d70657261747572653030"], 1, "not yet\n"),
-        (&["show", "40011234ff"], 1, "not yet\n"),
-        (&["show", ""], 1, "not yet\n"),
-        (&["show", "4"], 2, "bad hex\n"),
-        (&["show", "4g"], 2, "bad hex\n"),
-        (&["answer", "temperature", "22.3 C", get], 0, "60457d3448000000000000000180ff32322e332043\n"),
-        (&["answer", "t", "hi", "40010001b17a"], 0, "60840001\n"),
-        (&["answer", "/", "hi", "40010001"], 0, content),
-        (&["answer", "", "hi", "40010001"], 0, content),
-        (&["answer", "t", "hi", "40010001b174"], 0, content),
-        (&["answer", "/t", "hi", "40010001B174"], 0, content),
-        (&["answer", "t", "hi", "40010001b174ff78"], 0, content),
-        (&["answer", "t/", "hi", "40010001b17400"], 0, content),
-        (&["answer", "t", "hi", "4801000101020304050607 08b174"], 2, "bad hex\n"),
-        (&["answer", "t", "hi", "480100010102030405060708b174"], 0, "68450001010203040506070848000000000000000180ff6869\n"),
-        (&["answer", "t", "hi", "40010001b0000000000000000000000000000000"], 0, "60840001\n"),
-        (&["answer", "t", "hi", "40010001b000000000000000000000000000000000"], 0, "60800001\n"),
-        (&["answer", "t", "hi", "4g"], 2, "bad hex\n"),
-    ];
-    for (words, status, printed) in cases {
+/// One run: its words, its exit status and what it prints.
+type Row<'a> = (&'a [&'a str], u8, &'a str);
+
+fn check_rows<R: Abort + AllocGlobal>(rt: &R, rows: &[Row<'_>]) -> Result<(), AllocError> {
+    for (words, status, printed) in rows {
         let words = words_of(rt.alloc(), words)?;
         let mut out = Vec::new(rt.alloc());
         let mut err = Vec::new(rt.alloc());
-        assert_eq!(rt; command(&rt, words.as_slice(), &mut out, &mut err), status, "at {words:?}");
+        assert_eq!(rt; command(rt, words.as_slice(), &mut out, &mut err), *status, "at {words:?}");
         assert_eq!(rt; out.as_slice(), printed.as_bytes(), "at {words:?}");
         assert!(rt; err.is_empty(), "at {words:?}");
     }
     Ok(())
 }
 
+const GET: &str = "40017d34bb74656d7065726174757265";
+const CONTENT: &str = "6045000148000000000000000180ff6869\n";
+
+#[test]
+fn shown_datagrams(rt: HostRuntime) -> Result<(), Fail> {
+    let rows: [Row<'_>; 14] = [
+        (&["show", GET], 0, "CON 0.01 7d34 -\n11 74656d7065726174757265\n"),
+        (
+            &["show", "6045000148000000000000000180ff6869"],
+            0,
+            "ACK 2.05 0001 -\n4 0000000000000001\n12 -\npayload 6869\n",
+        ),
+        (&["show", "5102ABCDEF"], 0, "NON 0.02 abcd ef\n"),
+        (&["show", "70000001"], 0, "RST 0.00 0001 -\n"),
+        (&["show", "40010001e0fef2"], 0, "CON 0.01 0001 -\n65535 -\n"),
+        (&["show", ""], 1, "fault 1 Short at 0\n"),
+        (&["show", "40"], 1, "fault 1 Short at 1\n"),
+        (&["show", "80010001"], 1, "fault 2 Version at 0\n"),
+        (&["show", "49011234"], 1, "fault 3 TokenLength at 0\n"),
+        (&["show", "40010001e0fef210"], 1, "fault 9 NumberTooLarge at 7\n"),
+        (&["show", "40011234ff"], 1, "fault 10 NoPayload at 5\n"),
+        (&["show", "4"], 2, "bad hex\n"),
+        (&["show", "4g"], 2, "bad hex\n"),
+        (&["show", "4000 0001"], 2, "bad hex\n"),
+    ];
+    check_rows(&rt, &rows)?;
+    Ok(())
+}
+
+#[test]
+fn answered_requests(rt: HostRuntime) -> Result<(), Fail> {
+    let rows: [Row<'_>; 16] = [
+        (&["answer", "temperature", "22.3 C", GET], 0, "60457d3448000000000000000180ff32322e332043\n"),
+        (&["answer", "t", "hi", "40010001b17a"], 0, "60840001\n"),
+        (&["answer", "/", "hi", "40010001"], 0, CONTENT),
+        (&["answer", "", "hi", "40010001"], 0, CONTENT),
+        (&["answer", "t", "hi", "40010001b174"], 0, CONTENT),
+        (&["answer", "/t", "hi", "40010001B174"], 0, CONTENT),
+        (&["answer", "t", "hi", "40010001b174ff78"], 0, CONTENT),
+        (&["answer", "t/", "hi", "40010001b17400"], 0, CONTENT),
+        (&["answer", "temperature00", "hi", "40010001bd0074656d70657261747572653030"], 0, CONTENT),
+        (
+            &["answer", "t", "hi", "480100010102030405060708b174"],
+            0,
+            "68450001010203040506070848000000000000000180ff6869\n",
+        ),
+        // 16 segments, 17 segments.
+        (&["answer", "t", "hi", "40010001b0000000000000000000000000000000"], 0, "60840001\n"),
+        (&["answer", "////////////////", "hi", "40010001b0000000000000000000000000000000"], 0, CONTENT),
+        (&["answer", "t", "hi", "40010001b000000000000000000000000000000000"], 0, "60800001\n"),
+        // Uri-Query, a PUT, a NON GET: not served yet.
+        (&["answer", "t", "hi", "40010001b1744178"], 1, "not yet\n"),
+        (&["answer", "t", "hi", "40030001b174ff78"], 1, "not yet\n"),
+        (&["answer", "t", "hi", "50010001b174"], 1, "not yet\n"),
+    ];
+    check_rows(&rt, &rows)?;
+    Ok(())
+}
+
+#[test]
+fn arrivals(rt: HostRuntime) -> Result<(), Fail> {
+    let rows: [(&str, u8, &str); 27] = [
+        ("", 0, "silence\n"),
+        ("40", 0, "silence\n"),
+        ("80010001", 0, "silence\n"),
+        ("49011234", 0, "70001234\n"),
+        ("59011234", 0, "silence\n"),
+        ("40011234ff", 0, "70001234\n"),
+        ("50011234ff", 0, "silence\n"),
+        ("60011234ff", 0, "silence\n"),
+        ("70011234ff", 0, "silence\n"),
+        // Empty messages.
+        ("40000001", 0, "70000001\n"),
+        ("50000001", 0, "silence\n"),
+        ("60000001", 0, "silence\n"),
+        ("70000001", 0, "silence\n"),
+        // Reserved classes.
+        ("40200001", 0, "70000001\n"),
+        ("40c00001", 0, "70000001\n"),
+        ("40ff0001", 0, "70000001\n"),
+        ("50200001", 0, "silence\n"),
+        ("60e00001", 0, "silence\n"),
+        // An acknowledgement or a Reset of nothing.
+        ("60010001", 0, "silence\n"),
+        ("60450001", 0, "silence\n"),
+        ("70010001", 0, "silence\n"),
+        // What is handed up and not served yet.
+        ("40450001", 1, "not yet\n"),
+        ("50450001", 1, "not yet\n"),
+        ("40bf0001", 1, "not yet\n"),
+        ("40020001b174", 1, "not yet\n"),
+        ("40040001b174", 1, "not yet\n"),
+        ("40050001b174", 1, "not yet\n"),
+    ];
+    for (datagram, status, printed) in rows {
+        check_rows(&rt, &[(&["answer", "t", "hi", datagram], status, printed)])?;
+    }
+    Ok(())
+}
+
+#[test]
+fn long_segments(rt: HostRuntime) -> Result<(), Fail> {
+    let path = repeated(rt.alloc(), "a", 255)?;
+    let rows = [
+        ("40010001bdf2", 255, 0, CONTENT),
+        ("40010001bdf3", 256, 1, "not yet\n"),
+    ];
+    for (head, len, status, printed) in rows {
+        let segment = repeated(rt.alloc(), "61", len)?;
+        let datagram = format!(in rt.alloc(); "{head}{segment}")?;
+        let words = ["answer", path.as_str(), "hi", datagram.as_str()];
+        check_rows(&rt, &[(words.as_slice(), status, printed)])?;
+    }
+    Ok(())
+}
+
 #[test]
 fn wrong_words(rt: HostRuntime) -> Result<(), Fail> {
-    let long_segment = repeated(rt.alloc(), 'a', 256)?;
-    let segments = repeated(rt.alloc(), '/', 17)?;
+    let long_segment = repeated(rt.alloc(), "a", 256)?;
+    let segments = repeated(rt.alloc(), "/", 17)?;
     let cases: [&[&str]; 10] = [
         &[],
         &["--help"],
@@ -97,7 +190,7 @@ fn long_bodies(rt: HostRuntime) -> Result<(), Fail> {
         (65_537, 1, 10),
     ];
     for (len, status, printed) in cases {
-        let body = repeated(rt.alloc(), 'a', len)?;
+        let body = repeated(rt.alloc(), "a", len)?;
         let words = words_of(rt.alloc(), &["answer", "t", body.as_str(), "40010001b174"])?;
         let mut out = Vec::new(rt.alloc());
         let mut err = Vec::new(rt.alloc());

@@ -6,10 +6,10 @@ use Rattle.coap.proofs.ReplyLemmas.{response_spelled}
 use Rattle.coap.proofs.reply.put_answer.Goals as goal
 
 pub put_reply-requires-clause-spelling : goal.put_reply-requires-clause-spelling
-put_reply-requires-clause-spelling c = response_spelled _ _ _ _ _ [] c.requires.request (lit< tt) (lit< tt) refl tt (omega arith)
+put_reply-requires-clause-spelling c = response_spelled _ _ _ _ _ [] c.requires.request (lit< tt) (lit< tt) refl (omega arith)
 
 pub put_reply-requires-else-asks_for-clause-spelling : goal.put_reply-requires-else-asks_for-clause-spelling
-put_reply-requires-else-asks_for-clause-spelling c = response_spelled _ _ _ _ _ [] c.requires.request (lit< tt) (lit< tt) refl tt (omega arith)
+put_reply-requires-else-asks_for-clause-spelling c = response_spelled _ _ _ _ _ [] c.requires.request (lit< tt) (lit< tt) refl (omega arith)
 
 pub returns-then-option_count-gt-MAX_SEGMENTS-clause-answered : goal.returns-then-option_count-gt-MAX_SEGMENTS-clause-answered
 returns-then-option_count-gt-MAX_SEGMENTS-clause-answered c = (_, no_path (omega arith) refl, c.put_reply.ensures.spelled)
