@@ -270,3 +270,21 @@ fn plain_values_are_compared_and_ordered(rt: HostRuntime) {
     };
     assert_eq!(rt; (option.number, option.value.len()), (11, 11));
 }
+
+#[test]
+fn codes_have_roles(rt: HostRuntime) {
+    let cases = [
+        (0x00, Role::Empty),
+        (0x01, Role::Request),
+        (0x1f, Role::Request),
+        (0x20, Role::Reserved),
+        (0x3f, Role::Reserved),
+        (0x40, Role::Response),
+        (0xbf, Role::Response),
+        (0xc0, Role::Reserved),
+        (0xff, Role::Reserved),
+    ];
+    for (code, role) in cases {
+        assert_eq!(rt; Role::of(Code(code)), role, "at {code}");
+    }
+}
