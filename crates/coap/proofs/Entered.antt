@@ -1,14 +1,14 @@
 -- Where a parse finds no fault, it enters a subcommand where one is required, and never `help`.
-use Rattle.std.proofs.Common.{◌≡◌, ◌∙◌, ◌⊎◌, ap, sym, refl, subst, ℕ, Bool, true, false, not, cond, ◌&&◌, ◌||◌, List, [], ◌∷◌, ◌++◌, fold, Option, Some, None, is_some, true≢false, codes, inl, inr}
+use Rattle.std.proofs.Common.{◌≡◌, ◌∙◌, sym, refl, subst, ℕ, Bool, true, false, not, cond, ◌&&◌, ◌||◌, List, [], ◌∷◌, fold, Option, Some, None, is_some, true≢false, codes}
 use Rattle.std.specs.List.{find, list_all, list_any}
 use Rattle.std.specs.Option.{option_map_or}
 use Rattle.std.specs.Str.{bytes_eq}
-use Rattle.std.specs.Prelude.{option_map, slice_get}
+use Rattle.std.specs.Prelude.{option_map}
 use Rattle.std.proofs.lemmas.Slice.Eq.{bytes_eq-Decides}
-use Rattle.clap.specs.Facts.{explicit_source}
-use Rattle.clap.specs.Kinds.{Kinds, check_kinds, or_else}
-use Rattle.clap.specs.Walk.{Held, Names, Outcome, Row, Rule, Step, Text, Waiting, Walk, after_flag, after_step, answers_to, arg_by_index, arg_by_long, bundle, done, finished, idle, long_met, long_or_other, next, nothing_held, option, plain, plain_word, positional, refused, rows_after, short_or_plain, stop_after, subcommand, subcommand_met, subcommand_or_other, to_positional, trailing, value, waits, walk, walk_from, walked, walked_from, word_met}
-use Rattle.clap.specs.Faults.{entered_fault, fault_of, flag_word_fault, level_fault, other_fault, step_fault, turn_fault, walk_fault, word_fault}
+use Rattle.clap.proofs.WalkLemmas.{both}
+use Rattle.clap.specs.Kinds.{check_kinds, or_else}
+use Rattle.clap.specs.Walk.{Held, Names, Outcome, Row, Rule, Step, Text, Waiting, Walk, after_flag, after_step, answers_to, arg_by_index, arg_by_long, bundle, done, idle, long_met, long_or_other, next, nothing_held, option, plain, plain_word, positional, refused, rows_after, short_or_plain, stop_after, subcommand, subcommand_met, subcommand_or_other, to_positional, trailing, value, waits, walk_from, walked, walked_from, word_met}
+use Rattle.clap.specs.Faults.{entered_fault, fault_of, other_fault, step_fault, turn_fault, walk_fault, word_fault}
 use Rattle.clap.specs.Lexer.{long_of, short_of}
 use Rattle.clap.specs.Simple.{App, Shape, argument_words, built, entered, label_of, names_of, rows_at, subcommand_of}
 use Rattle.clap.specs.declared.error.kind.ErrorKind.TheVariants as kind
@@ -18,6 +18,7 @@ use Rattle.coap.proofs.GivenWords.{level_checks}
 abbrev is_help : Text → Bool
 is_help name = bytes_eq name (codes "help")
 
+-- the walk stopped at the subcommand `help`
 abbrev pub stops_at_help : Option (Text × List Text) → Bool
 stops_at_help stop = option_map_or (λ p. is_help p.0) stop false
 
@@ -125,14 +126,10 @@ no_aliases word (x ∷ xs) h = cc
 not_help : (p : Text → Bool) (s : Shape) (name : Text) → but_help p s ≡ true → is_help name ≡ false → answers_to name (label_of s) ≡ true → p s.name ≡ true
 not_help p s name fine other answers = go (p s.name) refl fine
   where
-    both_help : (a b : Bool) → (a && b) ≡ true → (a ≡ true) × (b ≡ true)
-    both_help true b e = (refl, e)
-    both_help false b e = cc
-
     go : (b : Bool) → p s.name ≡ b → (b || (is_help s.name && is_nil s.aliases)) ≡ true → p s.name ≡ true
     go true is h = is
     go false is h =
-        let parts = both_help (is_help s.name) (is_nil s.aliases) h in
+        let parts = both (is_help s.name) (is_nil s.aliases) h in
         let own : s.name ≡ codes "help" = (bytes_eq-Decides s.name (codes "help")).0 parts.0 in
         let met : (bytes_eq s.name name || false) ≡ true = subst (λ b. (bytes_eq s.name name || b) ≡ true) (no_aliases name s.aliases parts.1) answers in
         let one : (b : Bool) → (b || false) ≡ true → b ≡ true = λ b. elim b as (λ v. (v || false) ≡ true → v ≡ true) [ true ↦ λ e. refl | false ↦ λ e. e ] in

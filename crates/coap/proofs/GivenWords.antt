@@ -1,9 +1,9 @@
 -- Where a parse finds no fault, each required word is given.
-use Rattle.std.proofs.Common.{◌≡◌, ◌∙◌, ap, ap₂, sym, refl, subst, ℕ, Bool, true, false, not, cond, ◌&&◌, ◌||◌, zero, suc, List, [], ◌∷◌, ◌++◌, length, drop, fold, Option, Some, None, is_some, true≢false, nat_lt, codes}
+use Rattle.std.proofs.Common.{◌≡◌, ap, sym, refl, subst, ℕ, Bool, true, false, not, cond, ◌&&◌, ◌||◌, List, [], ◌∷◌, fold, Option, Some, None, is_some}
 use Rattle.std.specs.List.{find, list_all, list_any}
 use Rattle.std.specs.Option.{option_map_or}
-use Rattle.std.specs.Str.{bytes_eq, chars}
-use Rattle.std.specs.Prelude.{encode_utf8, option_and_then, option_map, slice_get}
+use Rattle.std.specs.Str.{bytes_eq}
+use Rattle.std.specs.Prelude.{option_and_then, option_map, slice_get}
 use Rattle.std.proofs.lemmas.Slice.Eq.{bytes_eq-Decides}
 use Rattle.clap.proofs.WalkLemmas.{both}
 use Rattle.clap.specs.Facts.{explicit_source}
@@ -11,10 +11,9 @@ use Rattle.clap.specs.Kinds.{Kinds, check_kinds, or_else}
 use Rattle.clap.specs.Takes.{is_given}
 use Rattle.clap.specs.Walk.{Held, Names, Row, Rule, Step, Text, Waiting, Walk, after_step, answers_to, arg_by_index, default_rows, finished, first_of, has_row, long_or_other, next, nothing_held, reading_by, rows_after, settled, stop_after, subcommand, subcommand_met, subcommand_or_other, to_positional, trailing, value, walk, walk_from, walked, walked_from, with_default, word_met}
 use Rattle.clap.specs.Faults.{check_fault, defaults_fault, entered_fault, fault_of, flag_word_fault, level_fault, other_fault, positional_fault, settle_fault, step_fault, stray_fault, turn_fault, walk_fault, word_fault}
-use Rattle.clap.specs.Lexer.{long_of, short_of}
+use Rattle.clap.specs.Lexer.{long_of}
 use Rattle.clap.specs.Simple.{App, Shape, argument_words, built, entered, label_of, names_of, rows_at, subcommand_of}
 use Rattle.clap.specs.declared.parser.matches.ValueSource.TheVariants.{DefaultValue}
-use Rattle.clap.specs.declared.error.kind.ErrorKind.TheVariants as kind
 use Rattle.coap.proofs.FilledRows.{Filled, feeds, filled_flag_word, filled_positional, filled_settled, filled_with, find_passes, has_some, has_value, no_fault}
 
 -- the subcommand of this name requires the argument of this id, and its arguments leave values

@@ -1,5 +1,5 @@
 -- A text says one path, which is its parts between slashes.
-use Rattle.std.proofs.Common.{◌≡◌, ◌≢◌, ◌∙◌, ◌⊎◌, ap, sym, refl, subst, ℕ, Bool, true, false, cond, ◌<◌, ◌≤◌, zero, suc, List, [], ◌∷◌, ◌++◌, length, get_or, Option, Some, None, arith, inl, inr, eqb, true≢false, Result, Ok, Err}
+use Rattle.std.proofs.Common.{◌≡◌, ◌≢◌, ◌∙◌, ◌⊎◌, ap, sym, refl, subst, ℕ, Bool, true, false, cond, ◌<◌, ◌≤◌, List, [], ◌∷◌, length, get_or, Option, Some, None, arith, inl, inr, eqb, true≢false, Result, Ok, Err}
 use Rattle.std.specs.List.{All, Any, join_with_byte, slice_split}
 use Rattle.std.specs.Option.{MatchOption, unwrap_or}
 use Rattle.std.specs.Result.{IfErr, IsErrAnd}
@@ -7,7 +7,6 @@ use Rattle.std.specs.Borrow.{Bor}
 use Rattle.std.proofs.lemmas.Bool.Decides.{nat_tests}
 use Rattle.std.proofs.lemmas.List.Elements.{All-cons, All-head, All-tail, All-nil}
 use Rattle.std.proofs.lemmas.List.Splits.{join_with_byte-slice_split, slice_split_at, slice_split_none}
-use Rattle.coap_types.specs.Path.{HoldsAtMost}
 use Rattle.coap_types.specs.declared.path.PathRefusal.{PathRefusal}
 use Rattle.coap_types.specs.declared.path.PathRefusal.TheVariants.{SegmentTooLong, TooManySegments, Memory}
 use Rattle.coap.specs.PathText.{IsNoPath, IsPathText, IsTrueOf, Joins, without_leading_slash}

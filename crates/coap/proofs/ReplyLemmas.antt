@@ -23,16 +23,19 @@ pub response_spelled : (request : Message) (code room : ℕ) (options : List Coa
     → HasSpelling (piggybacked request code options payload) room
 response_spelled request code room options payload option_bytes s some byte spelled fits =
     let m = piggybacked request code options payload in
-    let long : length (bytes_of m option_bytes) ≤ 13 + (length option_bytes + length payload) = length-bytes_of m option_bytes s.1.token in
-    (bytes_of m option_bytes, record {
-      code = omega arith;
-      id = s.1.id;
-      token = s.1.token;
-      option_bytes = option_bytes;
-      options = spelled;
-      parts = refl;
-      empty = λ none. absurd (omega arith);
-    }, omega arith)
+    let long : length (bytes_of m option_bytes) ≤ 13 + (length option_bytes + length payload) = length-bytes_of m option_bytes s.1.token in (
+      bytes_of m option_bytes,
+      record {
+        code = omega arith;
+        id = s.1.id;
+        token = s.1.token;
+        option_bytes = option_bytes;
+        options = spelled;
+        parts = refl;
+        empty = λ none. absurd (omega arith);
+      },
+      omega arith,
+    )
 
 -- the bytes of the options that describe the representation
 abbrev pub described_bytes : List ℕ

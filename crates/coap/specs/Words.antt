@@ -68,7 +68,7 @@ NamesNoPath words refusal = (values : List Row) × Enters words (codes "answer")
 abbrev pub HasBadHex : List Text → Type 0
 HasBadHex words = (subcommand : Text) × (values : List Row) × Enters words subcommand values × IsPathFine subcommand values × HasNoBytes values
 
--- this is wrong in the words; on memory that is refused they have no say
+-- this is wrong in the words; of memory that is refused they say nothing
 abbrev pub IsWrong : List Text → Wrong → Type 0
 IsWrong words (Words error) = IsRefusedBy error words
 IsWrong words (Path refusal) = NamesNoPath words refusal

@@ -31,7 +31,7 @@ fn answer_command<'a>(alloc: Global) -> Result<Command<'a>, AllocError>
         .arg(positional(alloc, "HEX"))
 }
 
-/// The command line that the program takes.
+/// The command line that the program takes: its words name a subcommand.
 pub fn coap_command<'a>(alloc: Global) -> Result<Command<'a>, AllocError>
     ensures { IfOk result (λ c. app_of c ≡ coap_app) }
 {

@@ -1,9 +1,9 @@
 //! What the words of the program can ask for, and what can be wrong with them.
 ghost use Rattle.std.specs.Prelude.{◌≡◌};
 
+use clap::error::ErrorKind;
 use coap_types::{Path, PathRefusal};
 use hex::FromHexError;
-use clap::error::ErrorKind;
 use std::alloc::AllocError;
 use thiserror::Error;
 

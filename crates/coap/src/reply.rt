@@ -6,8 +6,8 @@ ghost use Rattle.coap_codec.specs.Message.{Message, Spells};
 ghost use Rattle.coap.specs.FirstArrival.{FirstArrival, reset};
 ghost use Rattle.coap.specs.FirstReply.{Answers, FirstReply, HasSpelling, IsFirstGet, IsServed, IsSpelled, IsUriPath, code_of, described, piggybacked, segments_of};
 
-use coap_codec::{Head, View, encode};
 use crate::arrival::{Arrival, first_arrival};
+use coap_codec::{Head, View, encode};
 use coap_types::{Code, Id, Kind, MAX_SEGMENT_LEN, MAX_SEGMENTS, Opt, Path, Token, option_number};
 use thiserror::Error;
 
@@ -38,9 +38,7 @@ fn is_first_get(request: &View<'_>) -> bool
 {
     request.kind() == Kind::Con
         && request.code() == Code::GET
-        && request
-            .options()
-            .all(|option| is_uri_path(&option))
+        && request.options().all(|option| is_uri_path(&option))
 }
 
 /// Whether the request asks for this path.

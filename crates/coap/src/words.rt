@@ -9,13 +9,16 @@ use crate::path_text::path_of;
 use clap::ArgMatches;
 use std::alloc::Global;
 
-/// The order that the words give, of which the first is the program's own name. They are read by
-/// `clap`, PATH by `path_of` and HEX by `hex`, in either case; BODY is taken as it is.
+/// The order that the words give, of which the first is the program's own name. `clap` reads them,
+/// `path_of` reads PATH, `hex` reads HEX in upper and lower case, and BODY is taken as it is.
 pub fn order<'a>(alloc: Global, words: &'a [String]) -> Result<Order<'a>, Wrong>
     // The order is the one that the words say.
-    ensures ok { IfOk result (λ o. Says (map string_bytes words.now) o) }
-    // What is called wrong is wrong, and nothing that is tested before it.
-    ensures wrong { IfErr result (λ w. IsWrong (map string_bytes words.now) w) }
+    ensures ok { IfOk result (Says (map string_bytes words.now)) }
+    // What is called wrong is wrong. `Words`: clap refuses the words, with an error of a kind that
+    // they call for. `Path`: clap takes them, and PATH is no path, for the reason that is given.
+    // `Hex`: clap takes them, PATH is a path where there is one, and HEX is the hex of no bytes.
+    // `Memory` says nothing of the words.
+    ensures wrong { IfErr result (IsWrong (map string_bytes words.now)) }
 {
     let matches = coap_command(alloc)?.try_get_matches_from(words)?;
     let Some((subcommand, given)) = matches.subcommand() else {
@@ -28,6 +31,7 @@ pub fn order<'a>(alloc: Global, words: &'a [String]) -> Result<Order<'a>, Wrong>
     }
 }
 
+// `coap show HEX`
 fn show<'a>(alloc: Global, given: &ArgMatches<'a>) -> Result<Order<'a>, Wrong>
     requires { IsGiven (codes "HEX") (rows_of (found_of given.now)) }
     ensures { MatchResult result (SaysIn (codes "show") (rows_of (found_of given.now)))
@@ -37,6 +41,7 @@ fn show<'a>(alloc: Global, given: &ArgMatches<'a>) -> Result<Order<'a>, Wrong>
     Ok(Order::Show { datagram })
 }
 
+// `coap answer PATH BODY HEX`
 fn answer<'a>(alloc: Global, given: &ArgMatches<'a>) -> Result<Order<'a>, Wrong>
     requires path { IsGiven (codes "PATH") (rows_of (found_of given.now)) }
     requires body { IsGiven (codes "BODY") (rows_of (found_of given.now)) }
@@ -53,7 +58,7 @@ fn answer<'a>(alloc: Global, given: &ArgMatches<'a>) -> Result<Order<'a>, Wrong>
     })
 }
 
-/// The value of a word that has to be there.
+// The value of an argument that clap requires.
 fn value<'a>(given: &ArgMatches<'a>, name: &str) -> &'a str
     requires { IsGiven name.now (rows_of (found_of given.now)) }
     ensures { IsValue name.now (rows_of (found_of given.now)) result.now }

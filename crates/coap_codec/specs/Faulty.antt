@@ -1,5 +1,5 @@
 -- What is wrong with a datagram that spells no message (RFC 7252, section 3): the first fault from left to right.
-use Rattle.std.specs.Prelude.{◌≡◌, ◌≢◌, ℕ, ◌+◌, ◌-◌, ◌/◌, ◌%◌, ◌^◌, ◌<◌, ◌≤◌, ◌⊎◌, ◌==◌, if◌then◌else◌, Option, Some, None, List, [], ◌∷◌, ◌++◌, length, drop, slice_index}
+use Rattle.std.specs.Prelude.{◌≡◌, ◌≢◌, ℕ, ◌+◌, ◌-◌, ◌/◌, ◌%◌, ◌^◌, ◌<◌, ◌≤◌, ◌⊎◌, ◌==◌, if◌then◌else◌, Option, Some, None, List, [], ◌∷◌, ◌++◌, length, drop, slice_index, codes}
 use Rattle.coap_types.specs.CoapOption.{CoapOption}
 use Rattle.coap_types.specs.declared.message.Id.{Id}
 use Rattle.coap_types.specs.declared.message.Kind.{Kind}
@@ -21,6 +21,19 @@ reason_number LengthReserved = 7
 reason_number OptionCut = 8
 reason_number NumberTooLarge = 9
 reason_number NoPayload = 10
+
+-- what they are called in print
+abbrev pub reason_name : Reason → List ℕ
+reason_name Short = codes "Short"
+reason_name Version = codes "Version"
+reason_name TokenLength = codes "TokenLength"
+reason_name TokenCut = codes "TokenCut"
+reason_name EmptyNotBare = codes "EmptyNotBare"
+reason_name DeltaReserved = codes "DeltaReserved"
+reason_name LengthReserved = codes "LengthReserved"
+reason_name OptionCut = codes "OptionCut"
+reason_name NumberTooLarge = codes "NumberTooLarge"
+reason_name NoPayload = codes "NoPayload"
 
 -- the number of the last option, base where there is none
 abbrev pub last_number : ℕ → List CoapOption → ℕ

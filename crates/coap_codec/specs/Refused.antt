@@ -1,5 +1,5 @@
 -- Messages that have no spelling, or none that fits the room (RFC 7252, sections 3.1 and 4.1).
-use Rattle.std.specs.Prelude.{◌≡◌, ℕ, ◌+◌, ◌<◌, ◌≤◌, nat_le, Bool, true, false, ◌&&◌, List, [], ◌∷◌, length}
+use Rattle.std.specs.Prelude.{◌≡◌, ℕ, ◌+◌, ◌<◌, ◌≤◌, nat_le, Bool, true, false, ◌&&◌, List, [], ◌∷◌, length, codes}
 use Rattle.std.specs.List.{list_all}
 use Rattle.coap_types.specs.CoapOption.{CoapOption}
 use Rattle.coap_codec.specs.Message.{Message, Spells}
@@ -12,6 +12,13 @@ refusal_number NoRoom = 1
 refusal_number OptionOrder = 2
 refusal_number OptionTooLong = 3
 refusal_number EmptyNotBare = 4
+
+-- what they are called in print
+abbrev pub refusal_name : Refusal → List ℕ
+refusal_name NoRoom = codes "NoRoom"
+refusal_name OptionOrder = codes "OptionOrder"
+refusal_name OptionTooLong = codes "OptionTooLong"
+refusal_name EmptyNotBare = codes "EmptyNotBare"
 
 -- Code 0.00 with a token, an option or a payload: an Empty message has none of them.
 abbrev pub IsEmptyNotBare : Message → Type 0

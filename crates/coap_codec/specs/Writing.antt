@@ -37,6 +37,10 @@ options_bytes base (option ∷ options) = option_bytes base option ++ options_by
 abbrev pub message_bytes : Message → List ℕ
 message_bytes m = header m ++ (m.token ++ (options_bytes 0 m.options ++ marked m.payload))
 
+-- how many bytes a message of this token, these options and this payload has
+abbrev pub spelled_length : List ℕ → List CoapOption → List ℕ → ℕ
+spelled_length token options payload = 4 + (length token + (length (options_bytes 0 options) + length (marked payload)))
+
 -- The message can be written into this room, and what is written spells it.
 pub record IsWritable (m : Message) (room : ℕ) : Type 0 where
   pub order : ascends 0 m.options ≡ true

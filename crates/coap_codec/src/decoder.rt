@@ -4,11 +4,11 @@ ghost use Rattle.coap_codec.specs.Message.{Message, Spells};
 ghost use Rattle.coap_codec.specs.Reading.{Reads, ReadsBody, frame_fault};
 
 use crate::fault::{Fault, Reason};
-use crate::head::{HEADER_LEN, MAX_TOKEN_LEN, VERSION, id_of, kind_of, token_len_of, version_of};
+use crate::head::{HEADER_LEN, VERSION, id_of, kind_of, token_len_of, version_of};
 use crate::option_walk::behind_options;
 use crate::payload::payload_at;
 use crate::view::View;
-use coap_types::Code;
+use coap_types::{Code, MAX_TOKEN_LEN};
 
 /// The first fault in front of the options, and its place.
 #[tactic(auto, unfolding(crate::specs::Reading::frame_fault))]

@@ -1,9 +1,9 @@
 ghost use Rattle.std.specs.Prelude.{◌≡◌, ◌≤◌, ◌+◌, true, length, take, drop, nat_le, IsTrue, IfSome, IfNone, IfOk, IfErr, OnErr, ◌↔◌};
 ghost use Rattle.std.specs.List.{list_all, All};
 ghost use Rattle.coap_types.specs.CoapOption.{options_of};
-ghost use Rattle.coap_codec.specs.Message.{Spells, marked, message};
+ghost use Rattle.coap_codec.specs.Message.{Spells, message};
 ghost use Rattle.coap_codec.specs.Refused.{HasNoSpelling, IsEmptyNotBare, Refused, ascends, is_short, refusal_number};
-ghost use Rattle.coap_codec.specs.Writing.{Puts, HasNumber, IsWritable, message_bytes, options_bytes};
+ghost use Rattle.coap_codec.specs.Writing.{Puts, HasNumber, IsWritable, message_bytes, spelled_length};
 
 use crate::head::{HEADER_LEN, Head, header};
 use crate::nibble::MAX_EXTENDED;
@@ -46,6 +46,11 @@ impl Refusal {
 
 /// The variant's name.
 impl fmt::Display for Refusal {
+    ghost use Rattle.std.specs.Prelude.{Some};
+    ghost use Rattle.coap_codec.specs.Refused.{refusal_name};
+
+    ghost output = { λ r. Some (refusal_name r) };
+
     fn fmt<W: fmt::Write>(&self, f: &mut fmt::Formatter<W>) -> fmt::Result {
         f.write_str(match self {
             Refusal::NoRoom => "NoRoom",
@@ -56,18 +61,21 @@ impl fmt::Display for Refusal {
     }
 }
 
+/// The option's number, which fits its type.
 fn number_of(option: &Opt<'_>) -> u16
     ensures { result ≡ option.now.number }
 {
     option.number
 }
 
+/// The code's byte, which fits its type.
 fn code_of(head: &Head) -> u8
     ensures { result ≡ head.now.code.0 }
 {
     head.code.0
 }
 
+/// The Message ID's number, which fits its type.
 fn id_of(head: &Head) -> u16
     ensures { result ≡ head.now.id.0 }
 {
@@ -116,8 +124,7 @@ fn has_room(token: &[u8], options: &[Opt<'_>], payload: &[u8], room: usize) -> b
     requires token { length token.now ≤ 8 }
     requires order { ascends 0 (options_of options.now) ≡ true }
     requires short { list_all is_short (options_of options.now) ≡ true }
-    ensures { result ≡ nat_le (4 + (length token.now + (length (options_bytes 0 (options_of options.now)) + length (marked payload.now))))
-        room }
+    ensures { result ≡ nat_le (spelled_length token.now (options_of options.now) payload.now) room }
 {
     let front = HEADER_LEN + token.len();
     if room < front {

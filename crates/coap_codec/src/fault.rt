@@ -51,6 +51,11 @@ impl Reason {
 
 /// The variant's name.
 impl fmt::Display for Reason {
+    ghost use Rattle.std.specs.Prelude.{Some};
+    ghost use Rattle.coap_codec.specs.Faulty.{reason_name};
+
+    ghost output = { λ r. Some (reason_name r) };
+
     fn fmt<W: fmt::Write>(&self, f: &mut fmt::Formatter<W>) -> fmt::Result {
         f.write_str(match self {
             Reason::Short => "Short",

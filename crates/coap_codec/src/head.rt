@@ -9,8 +9,6 @@ use coap_types::{Code, Id, Kind, Token};
 pub(crate) const HEADER_LEN: usize = 4;
 /// The version of CoAP, in the upper 2 bits of the first byte (RFC 7252, section 3).
 pub(crate) const VERSION: u8 = 1;
-/// The most bytes that a token has: the token lengths 9 to 15 are reserved (RFC 7252, section 3).
-pub(crate) const MAX_TOKEN_LEN: usize = 8;
 /// Where the Message ID stands, in 2 bytes, most significant first (RFC 7252, section 3).
 const ID_AT: usize = 2;
 /// The version counts this many times in the first byte.

@@ -1,4 +1,4 @@
-ghost use Rattle.std.specs.Prelude.{◌≡◌, ◌≤◌, ◌+◌, ◌-◌, true, length};
+ghost use Rattle.std.specs.Prelude.{◌≡◌, ◌≤◌, ◌+◌, true, length};
 ghost use Rattle.std.specs.List.{list_all};
 ghost use Rattle.coap_types.specs.CoapOption.{option_of, options_of};
 ghost use Rattle.coap_codec.specs.Refused.{ascends, is_short};

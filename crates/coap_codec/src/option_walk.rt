@@ -39,6 +39,7 @@ fn nibbles_at(base: u16, delta: u8, len: u8, bytes: &[u8]) -> Result<(Opt<'_>, &
 
 /// The option in front of the bytes, behind one of number `base`, and what is behind it.
 #[tactic(auto, unfolding(crate::specs::Reading::option_at))]
+#[inline(always)]
 pub(crate) fn option_at(base: u16, bytes: &[u8]) -> Result<(Opt<'_>, &[u8]), Reason>
     ensures { Gives (λ x. (option_of x.0, x.1.now)) result (option_at base bytes.now) }
 {

@@ -109,6 +109,7 @@ impl<'a> Iterator for Options<'a> {
 
     ghost remaining = { item_count (λ (s : List CoapOption). s) };
 
+    #[inline(always)]
     fn next(&mut self) -> Option<Opt<'a>> {
         match option_at(self.number, self.rest) {
             Ok((option, rest)) => {

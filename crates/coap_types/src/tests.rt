@@ -1,6 +1,6 @@
 use crate::{
-    Code, Endpoint, Id, Kind, Method, Moment, Occurrence, Opt, Path, PathRefusal, Request, Role, Rule,
-    Szx, Tag, Tags, Token, option_number, rule, uint_bytes, uint_laws, uint_of,
+    Code, Endpoint, Id, Kind, Method, Moment, Occurrence, Opt, Path, PathRefusal, Request, Role,
+    Rule, Szx, Tag, Tags, Token, option_number, rule, uint_bytes, uint_laws, uint_of,
 };
 use Occurrence::{Never, Once, Repeatable};
 use bytes::Bytes;

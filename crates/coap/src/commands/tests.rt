@@ -26,25 +26,37 @@ fn repeated(alloc: Global, part: &str, count: usize) -> Result<String, AllocErro
 /// One run: its words, its exit status and what it prints.
 type Row<'a> = (&'a [&'a str], u8, &'a str);
 
-fn check_rows<R: Abort + AllocGlobal>(rt: &R, rows: &[Row<'_>]) -> Result<(), AllocError> {
-    for (words, status, printed) in rows {
-        let words = words_of(rt.alloc(), words)?;
-        let mut out = Vec::new(rt.alloc());
-        let mut err = Vec::new(rt.alloc());
-        assert_eq!(rt; command(rt, words.as_slice(), &mut out, &mut err), *status, "at {words:?}");
-        assert_eq!(rt; out.as_slice(), printed.as_bytes(), "at {words:?}");
-        assert!(rt; err.is_empty(), "at {words:?}");
-    }
+fn check_row<R: Abort + AllocGlobal>(
+    rt: &R,
+    words: &[&str],
+    status: u8,
+    printed: &str,
+) -> Result<(), AllocError> {
+    let words = words_of(rt.alloc(), words)?;
+    let mut out = Vec::new(rt.alloc());
+    let mut err = Vec::new(rt.alloc());
+    assert_eq!(rt;
+        command(rt, words.as_slice(), &mut out, &mut err),
+        status,
+        "at {words:?}"
+    );
+    assert_eq!(rt; out.as_slice(), printed.as_bytes(), "at {words:?}");
+    assert!(rt; err.is_empty(), "at {words:?}");
     Ok(())
 }
 
 const GET: &str = "40017d34bb74656d7065726174757265";
+
 const CONTENT: &str = "6045000148000000000000000180ff6869\n";
 
 #[test]
 fn shown_datagrams(rt: HostRuntime) -> Result<(), Fail> {
     let rows: [Row<'_>; 14] = [
-        (&["show", GET], 0, "CON 0.01 7d34 -\n11 74656d7065726174757265\n"),
+        (
+            &["show", GET],
+            0,
+            "CON 0.01 7d34 -\n11 74656d7065726174757265\n",
+        ),
         (
             &["show", "6045000148000000000000000180ff6869"],
             0,
@@ -57,20 +69,30 @@ fn shown_datagrams(rt: HostRuntime) -> Result<(), Fail> {
         (&["show", "40"], 1, "fault 1 Short at 1\n"),
         (&["show", "80010001"], 1, "fault 2 Version at 0\n"),
         (&["show", "49011234"], 1, "fault 3 TokenLength at 0\n"),
-        (&["show", "40010001e0fef210"], 1, "fault 9 NumberTooLarge at 7\n"),
+        (
+            &["show", "40010001e0fef210"],
+            1,
+            "fault 9 NumberTooLarge at 7\n",
+        ),
         (&["show", "40011234ff"], 1, "fault 10 NoPayload at 5\n"),
         (&["show", "4"], 2, "bad hex\n"),
         (&["show", "4g"], 2, "bad hex\n"),
         (&["show", "4000 0001"], 2, "bad hex\n"),
     ];
-    check_rows(&rt, &rows)?;
+    for (words, status, printed) in rows {
+        check_row(&rt, words, status, printed)?;
+    }
     Ok(())
 }
 
 #[test]
 fn answered_requests(rt: HostRuntime) -> Result<(), Fail> {
     let rows: [Row<'_>; 16] = [
-        (&["answer", "temperature", "22.3 C", GET], 0, "60457d3448000000000000000180ff32322e332043\n"),
+        (
+            &["answer", "temperature", "22.3 C", GET],
+            0,
+            "60457d3448000000000000000180ff32322e332043\n",
+        ),
         (&["answer", "t", "hi", "40010001b17a"], 0, "60840001\n"),
         (&["answer", "/", "hi", "40010001"], 0, CONTENT),
         (&["answer", "", "hi", "40010001"], 0, CONTENT),
@@ -78,22 +100,60 @@ fn answered_requests(rt: HostRuntime) -> Result<(), Fail> {
         (&["answer", "/t", "hi", "40010001B174"], 0, CONTENT),
         (&["answer", "t", "hi", "40010001b174ff78"], 0, CONTENT),
         (&["answer", "t/", "hi", "40010001b17400"], 0, CONTENT),
-        (&["answer", "temperature00", "hi", "40010001bd0074656d70657261747572653030"], 0, CONTENT),
+        (
+            &[
+                "answer",
+                "temperature00",
+                "hi",
+                "40010001bd0074656d70657261747572653030",
+            ],
+            0,
+            CONTENT,
+        ),
         (
             &["answer", "t", "hi", "480100010102030405060708b174"],
             0,
             "68450001010203040506070848000000000000000180ff6869\n",
         ),
         // 16 segments, 17 segments.
-        (&["answer", "t", "hi", "40010001b0000000000000000000000000000000"], 0, "60840001\n"),
-        (&["answer", "////////////////", "hi", "40010001b0000000000000000000000000000000"], 0, CONTENT),
-        (&["answer", "t", "hi", "40010001b000000000000000000000000000000000"], 0, "60800001\n"),
+        (
+            &[
+                "answer",
+                "t",
+                "hi",
+                "40010001b0000000000000000000000000000000",
+            ],
+            0,
+            "60840001\n",
+        ),
+        (
+            &[
+                "answer",
+                "////////////////",
+                "hi",
+                "40010001b0000000000000000000000000000000",
+            ],
+            0,
+            CONTENT,
+        ),
+        (
+            &[
+                "answer",
+                "t",
+                "hi",
+                "40010001b000000000000000000000000000000000",
+            ],
+            0,
+            "60800001\n",
+        ),
         // Uri-Query, a PUT, a NON GET: not served yet.
         (&["answer", "t", "hi", "40010001b1744178"], 1, "not yet\n"),
         (&["answer", "t", "hi", "40030001b174ff78"], 1, "not yet\n"),
         (&["answer", "t", "hi", "50010001b174"], 1, "not yet\n"),
     ];
-    check_rows(&rt, &rows)?;
+    for (words, status, printed) in rows {
+        check_row(&rt, words, status, printed)?;
+    }
     Ok(())
 }
 
@@ -133,7 +193,7 @@ fn arrivals(rt: HostRuntime) -> Result<(), Fail> {
         ("40050001b174", 1, "not yet\n"),
     ];
     for (datagram, status, printed) in rows {
-        check_rows(&rt, &[(&["answer", "t", "hi", datagram], status, printed)])?;
+        check_row(&rt, &["answer", "t", "hi", datagram], status, printed)?;
     }
     Ok(())
 }
@@ -149,16 +209,29 @@ fn long_segments(rt: HostRuntime) -> Result<(), Fail> {
         let segment = repeated(rt.alloc(), "61", len)?;
         let datagram = format!(in rt.alloc(); "{head}{segment}")?;
         let words = ["answer", path.as_str(), "hi", datagram.as_str()];
-        check_rows(&rt, &[(words.as_slice(), status, printed)])?;
+        check_row(&rt, &words, status, printed)?;
     }
+    Ok(())
+}
+
+/// The words are wrong: only standard error says so.
+fn check_wrong<R: Abort + AllocGlobal>(rt: &R, words: &[&str]) -> Result<(), AllocError> {
+    let words = words_of(rt.alloc(), words)?;
+    let mut out = Vec::new(rt.alloc());
+    let mut err = Vec::new(rt.alloc());
+    assert_eq!(rt;
+        command(rt, words.as_slice(), &mut out, &mut err),
+        2,
+        "at {words:?}"
+    );
+    assert!(rt; out.is_empty(), "at {words:?}");
+    assert!(rt; !err.is_empty(), "at {words:?}");
     Ok(())
 }
 
 #[test]
 fn wrong_words(rt: HostRuntime) -> Result<(), Fail> {
-    let long_segment = repeated(rt.alloc(), "a", 256)?;
-    let segments = repeated(rt.alloc(), "/", 17)?;
-    let cases: [&[&str]; 10] = [
+    let cases: [&[&str]; 9] = [
         &[],
         &["--help"],
         &["fetch"],
@@ -167,17 +240,18 @@ fn wrong_words(rt: HostRuntime) -> Result<(), Fail> {
         &["show", "40010001", "more"],
         &["answer", "t", "hi"],
         &["answer", "--body", "hi", "40010001"],
-        &["answer", long_segment.as_str(), "hi", "40010001"],
-        &["answer", segments.as_str(), "hi", "4g"],
+        &[
+            "answer",
+            "1/2/3/4/5/6/7/8/9/10/11/12/13/14/15/16/17",
+            "hi",
+            "4g",
+        ],
     ];
     for words in cases {
-        let words = words_of(rt.alloc(), words)?;
-        let mut out = Vec::new(rt.alloc());
-        let mut err = Vec::new(rt.alloc());
-        assert_eq!(rt; command(&rt, words.as_slice(), &mut out, &mut err), 2, "at {words:?}");
-        assert!(rt; out.is_empty(), "at {words:?}");
-        assert!(rt; !err.is_empty(), "at {words:?}");
+        check_wrong(&rt, words)?;
     }
+    let segment = repeated(rt.alloc(), "a", 256)?;
+    check_wrong(&rt, &["answer", segment.as_str(), "hi", "40010001"])?;
     Ok(())
 }
 
@@ -194,7 +268,11 @@ fn long_bodies(rt: HostRuntime) -> Result<(), Fail> {
         let words = words_of(rt.alloc(), &["answer", "t", body.as_str(), "40010001b174"])?;
         let mut out = Vec::new(rt.alloc());
         let mut err = Vec::new(rt.alloc());
-        assert_eq!(rt; command(&rt, words.as_slice(), &mut out, &mut err), status, "at {len}");
+        assert_eq!(rt;
+            command(&rt, words.as_slice(), &mut out, &mut err),
+            status,
+            "at {len}"
+        );
         assert_eq!(rt; out.len(), printed, "at {len}");
         assert!(rt; err.is_empty(), "at {len}");
     }
@@ -225,7 +303,11 @@ fn a_failed_output(rt: HostRuntime) -> Result<(), Fail> {
     for words in cases {
         let words = words_of(rt.alloc(), words)?;
         let mut err = Vec::new(rt.alloc());
-        assert_eq!(rt; command(&rt, words.as_slice(), &mut Broken, &mut err), 3, "at {words:?}");
+        assert_eq!(rt;
+            command(&rt, words.as_slice(), &mut Broken, &mut err),
+            3,
+            "at {words:?}"
+        );
         assert_eq!(rt; err.as_slice(), b"failed\n".as_slice(), "at {words:?}");
     }
     Ok(())

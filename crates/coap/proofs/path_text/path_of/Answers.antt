@@ -1,12 +1,11 @@
-use Rattle.std.proofs.Common.{rules, ◌≡◌, ◌≢◌, ◌∙◌, sym, ap, refl, arith, List, ℕ, [], ◌∷◌, length, map, Err, subst, ◌<◌, ◌≤◌}
+use Rattle.std.proofs.Common.{◌≡◌, ◌∙◌, sym, ap, arith, length, Err, subst, ◌<◌, ◌≤◌}
 use Rattle.std.proofs.lemmas.List.{length-map}
 use Rattle.std.proofs.lemmas.Iterator.Consumers.{YieldsList-turn, YieldsList-end}
 use Rattle.std.proofs.lemmas.Iterator.Splits.{YieldsList-from_str_split}
 use Rattle.std.proofs.lemmas.Str.Pattern.{strip_prefix_char}
 use Rattle.std.specs.Str.Iter.{split_text, split_has_more, split_pattern}
-use Rattle.coap.specs.PathText.{IsNoPath, IsPathText, without_leading_slash}
-use Rattle.coap.proofs.PathTexts.{not_empty, one_path, parts, passed_up, refused_part, rest_is, says_parts}
-use Rattle.coap.proofs.Entered.{enters}
+use Rattle.coap.specs.PathText.{IsPathText, without_leading_slash}
+use Rattle.coap.proofs.PathTexts.{not_empty, one_path, passed_up, refused_part, rest_is, says_parts}
 use Rattle.coap.proofs.path_text.path_of.Goals as goal
 
 pub returns-in_err-push-clause-refused : goal.returns-in_err-push-clause-refused

@@ -5,11 +5,14 @@ use Rattle.coap.proofs.reply.first_reply.Goals.{then-not-is_first_get-via-then-n
 use Rattle.coap.proofs.reply.first_reply.Goals as goal
 
 pub returns-then-not-is_first_get-clause-not_yet : goal.returns-then-not-is_first_get-clause-not_yet
-returns-then-not-is_first_get-clause-not_yet c =
-    (_, c.in-HandedUp.ensures, λ served. elim c.then-not-is_first_get.branch [
-      | then-not-is_first_get-via-then-not-is_first_get w ↦ let bad : IsTrue false = w.if-not-is_first_get.ensures.1 served.get in cc
-      | then-not-is_first_get-via-else-not-is_first_get+then-body-gt-MAX_PAYLOAD_LEN w ↦ omega (arith, served.fits)
-    ])
+returns-then-not-is_first_get-clause-not_yet c = (
+  _,
+  c.in-HandedUp.ensures,
+  λ served. elim c.then-not-is_first_get.branch [
+    | then-not-is_first_get-via-then-not-is_first_get w ↦ let bad : IsTrue false = w.if-not-is_first_get.ensures.1 served.get in cc
+    | then-not-is_first_get-via-else-not-is_first_get+then-body-gt-MAX_PAYLOAD_LEN w ↦ omega (arith, served.fits)
+  ],
+)
 
 pub put_answer-requires-clause-request : goal.put_answer-requires-clause-request
 put_answer-requires-clause-request c = (_, handed_up_spelled _ _ c.in-HandedUp.ensures)

@@ -1,4 +1,4 @@
-use Rattle.std.proofs.Common.{◌≡◌, refl, inl, inr}
+use Rattle.std.proofs.Common.{refl, inl, inr}
 use Rattle.coap.proofs.CoapWords.{enters_met, ours, said_by, wrong_by, show_hex, answer_hex, answer_path, answer_body}
 use Rattle.coap.proofs.words.order.Goals as goal
 
