@@ -8,7 +8,7 @@ use Rattle.coap_types.specs.declared.message.Kind.TheVariants.{Con, Non, Ack, Rs
 use Rattle.coap_types.specs.declared.role.Role.{Role}
 use Rattle.coap_types.specs.declared.role.Role.TheVariants.{Empty, Request, Response, Reserved}
 use Rattle.coap_codec.specs.Faulty.{Faulty, head_of}
-use Rattle.coap_codec.specs.Message.{Message, Spells}
+use Rattle.coap_codec.specs.Message.{AreBytes, Message, Spells}
 use Rattle.coap_codec.specs.declared.fault.Reason.{Reason}
 use Rattle.coap.specs.declared.arrival.Arrival.{Arrival}
 use Rattle.coap.specs.declared.arrival.Arrival.TheVariants.{Ignored, Rejected, HandedUp}
@@ -38,6 +38,10 @@ of_message m Rst _ = Ignored
 pub data FirstArrival (datagram : List ℕ) (arrival : Arrival) : Type 0 where
   faulty : (reason : Reason) (at : ℕ) → Faulty datagram reason at → arrival ≡ of_fault (head_of reason datagram) → FirstArrival datagram arrival
   spelled : (m : Message) → Spells datagram m → arrival ≡ of_message m m.kind (role_of m.code) → FirstArrival datagram arrival
+
+-- It comes to one thing alone.
+abbrev pub OneArrival : Type 0
+OneArrival = (datagram : List ℕ) (a b : Arrival) → AreBytes datagram → FirstArrival datagram a → FirstArrival datagram b → a ≡ b
 
 -- a Reset, with the Message ID of what it rejects (section 4.2)
 abbrev pub reset : Id → Message

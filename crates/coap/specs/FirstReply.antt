@@ -29,8 +29,8 @@ abbrev pub values_of : List CoapOption → List (List ℕ)
 values_of options = map (λ option. option.value) options
 
 -- the path that such a request asks for, segment by segment
-abbrev pub segments_of : Message → List (List ℕ)
-segments_of m = values_of m.options
+abbrev pub asked_path : Message → List (List ℕ)
+asked_path m = values_of m.options
 
 -- ETag 1 in eight bytes, Content-Format 0 (text/plain) in none (RFC 7252, sections 5.10.6 and 5.10.3)
 abbrev pub described : List CoapOption
@@ -52,9 +52,9 @@ pub data FirstReply (path : List (List ℕ)) (body : List ℕ) (request reply : 
   -- 4.00 Bad Request
   no_path : 16 < length request.options → reply ≡ piggybacked request (code_of 4 0) [] [] → FirstReply path body request reply
   -- 2.05 Content
-  found : length request.options ≤ 16 → segments_of request ≡ path → reply ≡ piggybacked request (code_of 2 5) described body → FirstReply path body request reply
+  found : length request.options ≤ 16 → asked_path request ≡ path → reply ≡ piggybacked request (code_of 2 5) described body → FirstReply path body request reply
   -- 4.04 Not Found
-  not_found : length request.options ≤ 16 → segments_of request ≢ path → reply ≡ piggybacked request (code_of 4 4) [] [] → FirstReply path body request reply
+  not_found : length request.options ≤ 16 → asked_path request ≢ path → reply ≡ piggybacked request (code_of 4 4) [] [] → FirstReply path body request reply
 
 -- the request is answered: a first GET, of a body that fits one message
 pub record IsServed (body : List ℕ) (request : Message) : Type 0 where

@@ -1,9 +1,9 @@
 //! What a datagram comes to that arrives for the first time.
 ghost use Rattle.std.specs.Prelude.{◌≡◌};
 ghost use Rattle.coap_types.specs.Roles.{role_of};
-ghost use Rattle.coap.specs.FirstArrival.{FirstArrival, of_fault, of_message};
+ghost use Rattle.coap.specs.FirstArrival.{FirstArrival, OneArrival, of_fault, of_message};
 
-use coap_codec::{Fault, View, decode};
+use coap_codec::{Fault, View, decode, one_reading};
 use coap_types::{Id, Kind, Role};
 
 /// What the message layer makes of a datagram that arrives for the first time, where nothing is
@@ -48,4 +48,11 @@ pub fn first_arrival(datagram: &[u8]) -> Arrival<'_>
         Ok(message) => of_message(message),
         Err(fault) => of_fault(&fault),
     }
+}
+
+/// A datagram comes to one thing alone.
+pub fn one_arrival()
+    ensures { OneArrival }
+{
+    one_reading();
 }

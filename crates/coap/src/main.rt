@@ -7,7 +7,7 @@ pub mod commands;
 pub mod orders;
 pub mod path_text;
 pub mod reply;
-pub mod text;
+mod text;
 pub mod words;
 
 use commands::{command, without_words};

@@ -26,7 +26,8 @@ pub enum Order<'a> {
     },
 }
 
-/// Why the words give no order.
+/// Why the words give no order. `Words` and `Path` are one refusal, that of wrong words, with a text
+/// of its own for each.
 #[derive(Debug, Drop, Error)]
 pub enum Wrong {
     /// The words are no command line of the program, or ask for help.

@@ -4,7 +4,7 @@ ghost use Rattle.coap_types.specs.CoapOption.{option_of, options_of};
 ghost use Rattle.coap_types.specs.Path.{same_path};
 ghost use Rattle.coap_codec.specs.Message.{Message, Spells};
 ghost use Rattle.coap.specs.FirstArrival.{FirstArrival, reset};
-ghost use Rattle.coap.specs.FirstReply.{Answers, FirstReply, HasSpelling, IsFirstGet, IsServed, IsSpelled, IsUriPath, code_of, described, piggybacked, segments_of};
+ghost use Rattle.coap.specs.FirstReply.{Answers, FirstReply, HasSpelling, IsFirstGet, IsServed, IsSpelled, IsUriPath, code_of, described, piggybacked, asked_path};
 
 use crate::arrival::{Arrival, first_arrival};
 use coap_codec::{Head, View, encode};
@@ -16,6 +16,8 @@ pub const MAX_MESSAGE_LEN: usize = 1_152;
 
 /// The most bytes of payload in a message that an end sends (RFC 7252, section 4.6).
 pub const MAX_PAYLOAD_LEN: usize = 1_024;
+
+const _: () = prove!(MAX_MESSAGE_LEN == 1_152 && MAX_PAYLOAD_LEN == 1_024);
 
 /// The version of a representation that never changed.
 const FIRST_VERSION: u64 = 1;
@@ -43,7 +45,7 @@ fn is_first_get(request: &View<'_>) -> bool
 
 /// Whether the request asks for this path.
 fn asks_for(request: &View<'_>, path: &Path) -> bool
-    ensures { result ≡ same_path (segments_of request.now) path.now }
+    ensures { result ≡ same_path (asked_path request.now) path.now }
 {
     let mut options = request.options();
     for segment in path.segments() {

@@ -72,13 +72,15 @@ impl fmt::Display for Reason {
     }
 }
 
-/// The first fault of a datagram, from left to right.
+/// The first fault of a datagram: the first that holds of the header, then of the token, then of the
+/// options from left to right.
 #[derive(Clone, Copy, Debug, PartialEq, Eq)]
 pub struct Fault {
     /// What was found.
     pub reason: Reason,
-    /// The place of the fault, in bytes from the start: where an option is at fault, that of its
-    /// first byte; where bytes are missing, the datagram's length.
+    /// The place of the fault, in bytes from the start: 0 where the first byte is at fault, 4 where an
+    /// Empty message goes on, that of an option's first byte where it is at fault, and the datagram's
+    /// length where bytes are missing.
     pub at: usize,
     /// The type and the Message ID, by which the datagram can be rejected (RFC 7252, section 4.2).
     /// `None` for [`Reason::Short`] and [`Reason::Version`].

@@ -135,7 +135,8 @@ fn messages_are_read_and_written(rt: HostRuntime) -> Result<(), Fail> {
 
 #[test]
 fn option_numbers_have_one_spelling(rt: HostRuntime) -> Result<(), Fail> {
-    let cases: [(u16, &[u8]); 5] = [
+    let cases: [(u16, &[u8]); 6] = [
+        (0, b"\x00"),
         (12, b"\xc0"),
         (13, b"\xd0\x00"),
         (268, b"\xd0\xff"),
@@ -148,6 +149,8 @@ fn option_numbers_have_one_spelling(rt: HostRuntime) -> Result<(), Fail> {
         let options = [Opt { number, value: b"" }];
         let end = encode(&head, &options, b"", &mut out).ok().ok_or("room")?;
         assert_eq!(rt; out[..end].strip_prefix(b"\x40\x01\x7d\x34"), Some(bytes));
+        let view = decode(&out[..end]).ok().ok_or("a message")?;
+        assert!(rt; are_these(view.options(), &options), "{number}");
     }
     Ok(())
 }

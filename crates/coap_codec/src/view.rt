@@ -53,7 +53,7 @@ impl<'a> View<'a> {
         self.id
     }
 
-    /// The token, of 0 to 8 bytes.
+    /// The token; of 0 to 8 bytes in what `decode` gives.
     pub fn token(&self) -> &'a [u8]
         ensures { result.now ≡ self.now.token }
     {
@@ -67,7 +67,7 @@ impl<'a> View<'a> {
         self.payload
     }
 
-    /// The options in order, whose numbers don't fall.
+    /// The options in order; their numbers don't fall in what `decode` gives.
     pub fn options(&self) -> Options<'a>
         ensures list { result ≡ self.now.options }
         ensures few { length self.now.options < 2 ^ 63 }

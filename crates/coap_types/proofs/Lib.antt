@@ -1,2 +1,4 @@
 pub mod PathLemmas
 pub mod UintLemmas
+pub mod RecognisedLemmas
+pub mod PastLemmas

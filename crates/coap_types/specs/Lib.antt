@@ -6,3 +6,6 @@ pub mod Text
 pub mod Uint
 pub mod MethodCode
 pub mod Roles
+pub mod Recognised
+pub mod SeenNumbers
+pub mod Past

@@ -4,12 +4,16 @@
 //! `Path::push` and the `clone` of a `Path`.
 #![tactic(auto)]
 
+mod direction;
 mod endpoint;
 mod message;
 pub mod option_number;
 mod option_rule;
 mod options;
 mod path;
+mod recognised_options;
+#[cfg(test)]
+mod recognised_tests;
 mod recognition;
 mod request;
 mod role;
@@ -21,11 +25,13 @@ mod token;
 pub mod transmission;
 mod uint;
 
+pub use direction::Direction;
 pub use endpoint::{Endpoint, Moment};
 pub use message::{Code, Id, Kind};
 pub use option_rule::{Occurrence, Rule};
 pub use options::Opt;
 pub use path::{MAX_SEGMENT_LEN, MAX_SEGMENTS, Path, PathRefusal};
+pub use recognised_options::recognised;
 pub use recognition::rule;
 pub use request::{Method, Request};
 pub use role::Role;

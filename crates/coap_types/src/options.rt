@@ -2,6 +2,8 @@
 /// section 3.1).
 #[derive(Clone, Copy, Debug)]
 pub struct Opt<'a> {
+    /// Which option it is (`option_number`).
     pub number: u16,
+    /// Its value, any bytes.
     pub value: &'a [u8],
 }

@@ -22,13 +22,13 @@ const _: () = prove!(MAX_SEGMENTS == 16 && MAX_SEGMENT_LEN == 255);
 #[derive(Clone, Copy, Debug, PartialEq, Eq, Error)]
 pub enum PathRefusal {
     /// The segment has over `MAX_SEGMENT_LEN` bytes.
-    #[error("a segment has over 255 bytes")]
+    #[error("a segment of over 255 bytes")]
     SegmentTooLong,
     /// The path has `MAX_SEGMENTS` segments.
-    #[error("a path has over 16 segments")]
+    #[error("over 16 segments")]
     TooManySegments,
     /// An allocation was refused.
-    #[error("out of memory")]
+    #[error("no memory")]
     Memory,
 }
 

@@ -55,7 +55,7 @@ fn paths_are_compared_by_bytes_segment_by_segment(rt: HostRuntime) -> Result<(),
     assert!(rt; hash_of(&whole) == hash_of(&whole.clone()?));
     assert!(rt; hash_of(&whole) != hash_of(&split));
     let text = format!(in rt.alloc(); "{}", PathRefusal::SegmentTooLong)?;
-    assert_eq!(rt; text.as_str(), "a segment has over 255 bytes");
+    assert_eq!(rt; text.as_str(), "a segment of over 255 bytes");
     Ok(())
 }
 

@@ -10,6 +10,8 @@ const MAX_BODY_LEN: usize = 65_536;
 /// The number of the refusal of a body that is too large.
 const TOO_LARGE: u8 = 2;
 
+const _: () = prove!(MAX_BODY_LEN == 65_536 && TOO_LARGE == 2);
+
 /// Prints what a server with this one resource answers to the datagram.
 pub fn answer<W: Write>(
     alloc: Global,

@@ -1,7 +1,8 @@
-use super::command;
+use super::{Stop, command, refuse, without_words};
+use crate::orders::Wrong;
 use std::alloc::{AllocError, Global};
 use std::io;
-use std::io::Write;
+use std::io::{ErrorKind, Write};
 use std::process::Abort;
 use std::test::Fail;
 
@@ -87,7 +88,8 @@ fn shown_datagrams(rt: HostRuntime) -> Result<(), Fail> {
 
 #[test]
 fn answered_requests(rt: HostRuntime) -> Result<(), Fail> {
-    let rows: [Row<'_>; 16] = [
+    let rows: [Row<'_>; 17] = [
+        (&["answer", "t", "hi", "4g"], 2, "bad hex\n"),
         (
             &["answer", "temperature", "22.3 C", GET],
             0,
@@ -257,25 +259,44 @@ fn wrong_words(rt: HostRuntime) -> Result<(), Fail> {
 
 #[test]
 fn long_bodies(rt: HostRuntime) -> Result<(), Fail> {
+    let body = repeated(rt.alloc(), "a", 1_024)?;
+    let payload = repeated(rt.alloc(), "61", 1_024)?;
+    let reply = format!(in rt.alloc(); "6045000148000000000000000180ff{payload}\n")?;
+    check_row(&rt, &["answer", "t", body.as_str(), "40010001b174"], 0, reply.as_str())?;
     let cases = [
-        (1_024, 0, 2 * 1_039 + 1),
-        (1_025, 1, 8),
-        (65_536, 1, 8),
-        (65_537, 1, 10),
+        (1_025, "40010001b174", 1, "not yet\n"),
+        (65_536, "40010001b174", 1, "not yet\n"),
+        (65_537, "40010001b174", 1, "refused 2\n"),
+        (65_537, "4g", 2, "bad hex\n"),
     ];
-    for (len, status, printed) in cases {
+    for (len, datagram, status, printed) in cases {
         let body = repeated(rt.alloc(), "a", len)?;
-        let words = words_of(rt.alloc(), &["answer", "t", body.as_str(), "40010001b174"])?;
-        let mut out = Vec::new(rt.alloc());
-        let mut err = Vec::new(rt.alloc());
-        assert_eq!(rt;
-            command(&rt, words.as_slice(), &mut out, &mut err),
-            status,
-            "at {len}"
-        );
-        assert_eq!(rt; out.len(), printed, "at {len}");
-        assert!(rt; err.is_empty(), "at {len}");
+        check_row(&rt, &["answer", "t", body.as_str(), datagram], status, printed)?;
     }
+    Ok(())
+}
+
+#[test]
+fn arguments_that_cannot_be_read(rt: HostRuntime) -> Result<(), Fail> {
+    let cases = [
+        (ErrorKind::OutOfMemory, 4, "no memory\n"),
+        (ErrorKind::InvalidData, 2, "an argument is no UTF-8 text\n"),
+    ];
+    for (kind, status, printed) in cases {
+        let mut err = Vec::new(rt.alloc());
+        assert_eq!(rt; without_words(&io::Error::from(kind), &mut err), status);
+        assert_eq!(rt; err.as_slice(), printed.as_bytes());
+    }
+    Ok(())
+}
+
+#[test]
+fn refused_memory(rt: HostRuntime) -> Result<(), Fail> {
+    let mut out = Vec::new(rt.alloc());
+    let mut err = Vec::new(rt.alloc());
+    let ended = refuse(Wrong::Memory, &mut out, &mut err);
+    assert!(rt; matches!(&ended, Err(Stop::Memory)));
+    assert!(rt; out.is_empty() && err.is_empty());
     Ok(())
 }
 

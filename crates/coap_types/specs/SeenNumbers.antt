@@ -1,0 +1,7 @@
+-- A flag for each number up to that of Size1, 60, which says whether an option of the number was seen.
+use Rattle.std.specs.Prelude.{◌≡◌, ℕ, ◌<◌, Bool, false, List, slice_index_or}
+use Rattle.coap_types.specs.CoapOption.{CoapOption}
+use Rattle.coap_types.specs.Recognised.{has_number}
+
+abbrev pub Remembers : List Bool → List CoapOption → Type 0
+Remembers seen before = (number : ℕ) → number < 61 → slice_index_or seen number false ≡ has_number number before

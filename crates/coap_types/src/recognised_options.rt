@@ -1,0 +1,81 @@
+ghost use Rattle.std.specs.Prelude.{◌≡◌, ◌<◌, ◌++◌, [], ◌∷◌, List, ℕ, IfOk};
+ghost use Rattle.std.specs.Iterator.{Drains, IsFinite};
+ghost use Rattle.coap_types.specs.CoapOption.{CoapOption, option_of, options_of};
+ghost use Rattle.coap_types.specs.Recognised.{Recognised, has_number, is_recognised};
+ghost use Rattle.coap_types.specs.SeenNumbers.{Remembers};
+
+use crate::direction::Direction;
+use crate::option_number::SIZE1;
+use crate::option_rule::Occurrence::{Never, Once, Repeatable};
+use crate::options::Opt;
+use crate::recognition::rule;
+use std::alloc::{AllocError, Allocator};
+
+/// One more than the greatest number of an option that is recognised (RFC 7252, section 12.2).
+const NUMBERS: usize = SIZE1 as usize + 1;
+
+const _: () = prove!(NUMBERS == 61);
+
+// Whether an option of this number was seen.
+fn was_seen(seen: &[bool; NUMBERS], number: u16) -> bool
+    ensures { (before : List CoapOption) → Remembers seen.now before → number < 61 → result ≡ has_number number before }
+{
+    let index = usize::from(number);
+    index < NUMBERS && seen[index]
+}
+
+// An option of this number is seen.
+fn see(seen: &mut [bool; NUMBERS], number: u16)
+    ensures { (before : List CoapOption) (o : CoapOption) → o.number ≡ number → Remembers seen.old before
+        → Remembers seen.new (before ++ o ∷ []) }
+{
+    let index = usize::from(number);
+    if index < NUMBERS {
+        seen[index] = true;
+    }
+}
+
+// Whether an option is recognised, where one of its number stood before it or not.
+fn is_recognised(direction: Direction, option: Opt<'_>, again: bool) -> bool
+    ensures { (before : List CoapOption) → (option.entry.number < 61 → again ≡ has_number option.entry.number before)
+        → result ≡ is_recognised direction before (option_of option.entry) }
+{
+    let Some(rule) = rule(option.number) else {
+        return false;
+    };
+    let expected = match direction.occurrence(rule) {
+        Never => false,
+        Once => !again,
+        Repeatable => true,
+    };
+    expected && rule.min_len <= option.value.len() && option.value.len() <= rule.max_len
+}
+
+/// The options that are recognised in a message of this direction, in order, and whether a critical
+/// option is not recognised (RFC 7252, sections 5.4.1, 5.4.3 and 5.4.5): an option is recognised
+/// where it has a rule for the direction, its value has an allowed length, and it is repeatable or
+/// the first of its number, those of a wrong length included.
+pub fn recognised<'a, I: Iterator<Item = Opt<'a>> + Drop, A: Allocator + Copy>(
+    alloc: A,
+    direction: Direction,
+    options: I,
+) -> Result<(Vec<Opt<'a>, A>, bool), AllocError>
+    requires can { I.can_next options }
+    requires ends { IsFinite (I.remaining options) }
+    ensures { IfOk result (λ found. (all : List _) × Drains I.next_gives options all
+        × Recognised direction (options_of all) (options_of found.0.items) found.1) }
+{
+    let mut seen = [false; NUMBERS];
+    let mut list = Vec::new(alloc);
+    let mut bad = false;
+    for option in options {
+        let again = was_seen(&seen, option.number);
+        if is_recognised(direction, option, again) {
+            list.push(option)?;
+        } else if option.number % 2 == 1 {
+            bad = true;
+        }
+        see(&mut seen, option.number);
+    }
+    Ok((list, bad))
+}
