@@ -1,7 +1,7 @@
 //! The values that every layer of CoAP (RFC 7252) speaks of: endpoints and moments, what a message
 //! is made of, the options that are recognised, paths and requests, and the transmission parameters.
 //! Nothing here reads or writes a message. What can be refused memory says so by its answer: only
-//! `Path::push` and the `clone` of a `Path`.
+//! `Path::push`, the `clone` of a `Path` and `recognised`.
 #![tactic(auto)]
 
 mod direction;

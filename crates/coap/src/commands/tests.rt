@@ -262,7 +262,12 @@ fn long_bodies(rt: HostRuntime) -> Result<(), Fail> {
     let body = repeated(rt.alloc(), "a", 1_024)?;
     let payload = repeated(rt.alloc(), "61", 1_024)?;
     let reply = format!(in rt.alloc(); "6045000148000000000000000180ff{payload}\n")?;
-    check_row(&rt, &["answer", "t", body.as_str(), "40010001b174"], 0, reply.as_str())?;
+    check_row(
+        &rt,
+        &["answer", "t", body.as_str(), "40010001b174"],
+        0,
+        reply.as_str(),
+    )?;
     let cases = [
         (1_025, "40010001b174", 1, "not yet\n"),
         (65_536, "40010001b174", 1, "not yet\n"),
@@ -271,7 +276,12 @@ fn long_bodies(rt: HostRuntime) -> Result<(), Fail> {
     ];
     for (len, datagram, status, printed) in cases {
         let body = repeated(rt.alloc(), "a", len)?;
-        check_row(&rt, &["answer", "t", body.as_str(), datagram], status, printed)?;
+        check_row(
+            &rt,
+            &["answer", "t", body.as_str(), datagram],
+            status,
+            printed,
+        )?;
     }
     Ok(())
 }

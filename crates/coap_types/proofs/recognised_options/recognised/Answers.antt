@@ -1,7 +1,6 @@
-use Rattle.std.proofs.Common.{rules, ◌≡◌, ◌∙◌, ◌++◌, [], ◌∷◌, List, ℕ, refl, sym, ap}
-use Rattle.coap_types.specs.CoapOption.{CoapOption, option_of, options_of}
-use Rattle.coap_types.specs.Recognised.{is_recognised}
-use Rattle.coap_types.proofs.RecognisedLemmas.{SoFar, none_yet, one_more, options_append, kept_then, kept_else, bad_then, bad_critical, bad_elective}
+use Rattle.std.proofs.Common.{rules, ◌∙◌, [], ◌∷◌, refl, sym, ap}
+use Rattle.coap_types.specs.CoapOption.{option_of, options_of}
+use Rattle.coap_types.proofs.RecognisedLemmas.{none_yet, one_more, options_append, kept_then, kept_else, bad_then, bad_critical, bad_elective}
 use Rattle.coap_types.proofs.recognised_options.recognised.Goals as goal
 use Rattle.coap_types.proofs.recognised_options.recognised.Goals.{then-is_recognised+in_ok-push, else-is_recognised+then-option-eq1, else-is_recognised+else-option-eq1}
 

@@ -1,0 +1,4 @@
+pub mod WholeLemmas
+pub mod FetchLemmas
+pub mod FetchHistory
+pub mod UploadLemmas

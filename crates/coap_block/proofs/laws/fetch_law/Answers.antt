@@ -1,0 +1,12 @@
+use Rattle.coap_block.proofs.FetchLemmas.{whole_by_parts, gathered_by_part}
+use Rattle.coap_block.proofs.FetchHistory.{whole_by_history}
+use Rattle.coap_block.proofs.laws.fetch_law.Goals as goal
+
+pub returns-clause-next : goal.returns-clause-next
+returns-clause-next c = gathered_by_part
+
+pub returns-clause-whole : goal.returns-clause-whole
+returns-clause-whole c = whole_by_parts
+
+pub returns-clause-history : goal.returns-clause-history
+returns-clause-history c = whole_by_history

@@ -1,0 +1,10 @@
+pub mod BlockValue
+pub mod Piece
+pub mod Whole
+pub mod FetchStep
+pub mod FetchState
+pub mod FetchAnswer
+pub mod Gathered
+pub mod FetchTrace
+pub mod UploadStep
+pub mod Sent

@@ -1,0 +1,118 @@
+ghost use Rattle.std.specs.Prelude.{◌≡◌, None, Some, IfOk, OnOk, OnErr, IsOk, IsSome, length};
+ghost use Rattle.coap_block.specs.FetchStep.{start, verdict};
+ghost use Rattle.coap_block.specs.FetchTrace.{FetchTrace, Led, Made, Took};
+ghost use Rattle.coap_block.specs.FetchAnswer.{Takes, IsQuiet};
+
+use crate::block::Block;
+use crate::body::{joined, put_at};
+use crate::fetch_judging::judge;
+use crate::fetch_progress::{Asked, Before, Progress};
+use crate::fetch_step::Step;
+use crate::fetch_verdict::Verdict;
+use coap_types::{Szx, Tag};
+use std::alloc::{AllocError, Allocator, Global};
+use std::marker::Model;
+use std::mem;
+
+/// A Block2 transfer at the client (RFC 7959, section 2.4): it gathers the parts of one body, which
+/// carry one ETag. A contract sees its state and what `undo` would give back.
+#[derive(Drop)]
+#[derive_where(Debug)]
+pub struct Fetch<A: Allocator = Global> {
+    szx: Szx,
+    bytes: Vec<u8, A>,
+    progress: Progress,
+    before: Before,
+}
+
+impl<A: Allocator> Model for Fetch<A> {
+    ghost use Rattle.std.specs.Prelude.{◌≤◌, length};
+    ghost use Rattle.coap_block.specs.FetchState.{FetchValue, state_of, before_of, IsWithin};
+
+    ghost Value = { FetchValue };
+
+    ghost view = { λ f. record { state = state_of f.szx f.bytes.items f.progress; before = before_of f.szx f.bytes.items f.progress f.before } };
+
+    ghost invariant = { λ f. (f.progress.len ≤ length f.bytes.items) × IsWithin f.before f.bytes.items };
+}
+
+impl<A: Allocator + Copy> Fetch<A> {
+    /// A fetch that asks for blocks of at most that size. The first request carries no Block2.
+    pub fn new(alloc: A, szx: Szx) -> Fetch<A>
+        ensures state { result.state ≡ start szx 0 }
+        ensures led { Led (Made szx) result.state }
+        ensures before { result.before ≡ None }
+    {
+        Fetch {
+            szx,
+            bytes: Vec::new(alloc),
+            progress: Progress::start(0),
+            before: Before::Nothing,
+        }
+    }
+
+    /// Takes the part that came in a 2.05 (RFC 7959, section 2.4): its Block2, its ETag and its
+    /// payload. No Block2 is a body of one part; a Block2 that `Block::read` refuses is not that, and
+    /// is not to be handed in. After a refusal the fetch is as before, after Whole as at its start.
+    pub fn accept(
+        &mut self,
+        block: Option<Block>,
+        tag: Option<Tag>,
+        payload: &[u8],
+    ) -> Result<Step<A>, AllocError>
+        ensures step { IfOk result (λ answer. Takes self.old.state block tag payload.now answer self.new.state) }
+        ensures led { OnOk result ((t : FetchTrace) → Led t self.old.state → Led (Took t block tag payload.now) self.new.state) }
+        ensures before { OnOk result (self.new.before ≡ Some self.old.state) }
+        ensures err { OnErr result (self.new ≡ self.old) }
+        // What is refused or begins anew takes no memory.
+        ensures quiet { IsQuiet (verdict self.old.state block tag (length payload.now)) → IsOk result }
+    {
+        match judge(self.szx, &self.progress, block, &tag, payload.len()) {
+            Verdict::Refuse(why) => {
+                self.before = Before::Same;
+                Ok(Step::Refused(why))
+            }
+            Verdict::Again => {
+                let again = Progress::start(self.progress.restarts + 1);
+                let was = mem::replace(&mut self.progress, again);
+                self.before = Before::Was(was);
+                Ok(Step::Restart)
+            }
+            Verdict::Done => {
+                let alloc = *self.bytes.allocator();
+                let whole = joined(alloc, &self.bytes[..self.progress.len], payload)?;
+                let was = mem::replace(&mut self.progress, Progress::start(0));
+                self.before = Before::Was(was);
+                Ok(Step::Whole(whole))
+            }
+            Verdict::Ask(num, szx) => {
+                put_at(&mut self.bytes, self.progress.len, payload)?;
+                let next = Progress {
+                    len: self.progress.len + payload.len(),
+                    asked: Some(Asked { num, szx }),
+                    tag,
+                    restarts: self.progress.restarts,
+                };
+                let was = mem::replace(&mut self.progress, next);
+                self.before = Before::Was(was);
+                Ok(Step::Next(Block {
+                    num,
+                    more: false,
+                    szx,
+                }))
+            }
+        }
+    }
+
+    /// Takes the last accepted part back, so that the fetch is as before it. There is to have been
+    /// one that was not refused memory, and no `undo` since.
+    pub fn undo(&mut self)
+        requires { IsSome self.old.before }
+        ensures back { self.old.before ≡ Some self.new.state }
+        ensures spent { self.new.before ≡ None }
+    {
+        if let Before::Was(was) = mem::replace(&mut self.before, Before::Nothing) {
+            self.progress = was;
+        }
+    }
+}

@@ -1,0 +1,31 @@
+ghost use Rattle.coap_block.specs.BlockValue.{OneBlock};
+ghost use Rattle.coap_block.specs.Whole.{OneBody, OneBodyAtServer};
+ghost use Rattle.coap_block.specs.Gathered.{GatheredAtStart, GatheredByPart, WholeByParts};
+ghost use Rattle.coap_block.specs.FetchTrace.{WholeByHistory};
+ghost use Rattle.coap_block.specs.Sent.{SentAtStart, SentByPart, WholeBySent};
+
+/// A value of a Block option is that of one block (RFC 7959, section 2.2).
+pub fn block_law()
+    ensures one_block { OneBlock }
+{}
+
+/// Parts that are whole for two bodies are whole for one (RFC 7959, sections 2.4 and 2.5).
+pub fn body_law()
+    ensures client { OneBody }
+    ensures server { OneBodyAtServer }
+{}
+
+/// The body that a fetch gives is whole by the parts since its start (RFC 7959, section 2.4).
+pub fn fetch_law()
+    ensures start { GatheredAtStart }
+    ensures next { GatheredByPart }
+    ensures whole { WholeByParts }
+    ensures history { WholeByHistory }
+{}
+
+/// The parts that an upload sends are its body in order (RFC 7959, section 2.5).
+pub fn upload_law()
+    ensures start { SentAtStart }
+    ensures next { SentByPart }
+    ensures whole { WholeBySent }
+{}

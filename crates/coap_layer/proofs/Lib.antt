@@ -1,0 +1,16 @@
+pub mod IdsApart
+pub mod IdSteps
+pub mod ListLemmas
+pub mod DedupLemmas
+pub mod UpOnce
+pub mod ReplyLemmas
+pub mod TickLemmas
+pub mod NumberLemmas
+pub mod ReadingLemmas
+pub mod RowLemmas
+pub mod Forgetting
+pub mod CopyLemmas
+pub mod StepsLemmas
+pub mod EndsLemmas
+pub mod Witness
+pub mod SendingLemmas

@@ -1,0 +1,30 @@
+use Rattle.coap_layer.proofs.Forgetting.{led_step}
+use Rattle.coap_layer.proofs.RowLemmas.{exact}
+use Rattle.coap_layer.proofs.CopyLemmas.{handed_up_once, copies_in_time, ids_apart, one_outstanding}
+use Rattle.coap_layer.proofs.StepsLemmas.{led_steps}
+use Rattle.coap_layer.proofs.EndsLemmas.{ends_outstanding}
+use Rattle.coap_layer.proofs.laws.layer_law.Goals as goal
+
+pub returns-clause-step : goal.returns-clause-step
+returns-clause-step c = led_step
+
+pub returns-clause-exact : goal.returns-clause-exact
+returns-clause-exact c = exact
+
+pub returns-clause-once : goal.returns-clause-once
+returns-clause-once c = handed_up_once
+
+pub returns-clause-copies : goal.returns-clause-copies
+returns-clause-copies c = copies_in_time
+
+pub returns-clause-ids : goal.returns-clause-ids
+returns-clause-ids c = ids_apart
+
+pub returns-clause-one : goal.returns-clause-one
+returns-clause-one c = one_outstanding
+
+pub returns-clause-steps : goal.returns-clause-steps
+returns-clause-steps c = led_steps
+
+pub returns-clause-ends : goal.returns-clause-ends
+returns-clause-ends c = ends_outstanding

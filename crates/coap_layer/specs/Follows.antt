@@ -1,0 +1,44 @@
+-- What follows from the layer's law (RFC 7252, sections 4.2, 4.4, 4.5 and 4.7).
+use Rattle.std.specs.Prelude.{◌≡◌, ◌⊎◌, ◌≤◌, ℕ, ◌+◌, true, Some, List, [], ◌∷◌}
+use Rattle.coap_types.specs.Past.{Ever, Always}
+use Rattle.coap_types.specs.declared.endpoint.Endpoint.{Endpoint}
+use Rattle.coap_layer.specs.Ids.{AreApart}
+use Rattle.coap_layer.specs.Trace.{Receive, Copied, Acked, Reset, Entry, same_place}
+use Rattle.coap_layer.specs.Rows.{Stands, LayerLaw, Outstanding}
+use Rattle.coap_layer.specs.Words.{Incoming, handed, Remembered, Open, begun, numbers, outstanding}
+
+-- No message is handed up that was handed up, and remembered, at most 247,000 ms before.
+abbrev pub HandedUpOnce : List Entry → Type 0
+HandedUpOnce t = Always (λ past e. (m : Incoming) → handed e ≡ Some m → Remembered past e.at m.from m.message.id → ⊥) t
+
+-- A retransmission's CON was begun at most 47,000 ms before, to the same place, under the same id, with the same bytes.
+pub record CopyOf (past : List Entry) (e : Entry) (to : Endpoint) (id : ℕ) : Type 0 where
+  pub con : Open
+  pub begun_before : Ever (λ b. begun b ≡ Some con) past
+  pub to_is : con.to ≡ to
+  pub id_is : con.id ≡ id
+  pub from : con.first ≤ e.at
+  pub till : e.at ≤ con.first + 47000
+  pub out : e.out ≡ record { to = con.to; bytes = con.bytes } ∷ []
+
+abbrev pub CopiesInTime : List Entry → Type 0
+CopiesInTime t = Always (λ past e. (to : Endpoint) (id : ℕ) → e.answer ≡ Copied to id → CopyOf past e to id) t
+
+-- Equal Message IDs are more than 400,000 ms apart.
+abbrev pub IdsApart : List Entry → Type 0
+IdsApart t = AreApart (numbers t)
+
+-- A CON is begun only where none to that endpoint is outstanding.
+abbrev pub OneOutstanding : List Entry → Type 0
+OneOutstanding t = Always (λ past e. (c : Open) → begun e ≡ Some c → Ever (λ (d : Open). same_place d.to c.to ≡ true) (outstanding past) → ⊥) t
+
+-- One call has one answer, and sends one thing.
+abbrev pub IsExact : Type 0
+IsExact =
+    (word : ℕ) (past : List Entry) (e f : Entry) → LayerLaw word past → Stands word past e → Stands word past f
+    → e.call ≡ f.call → e.at ≡ f.at → (e.answer ≡ f.answer) × (e.out ≡ f.out)
+
+-- An acknowledgement and a Reset are taken only for a CON that is outstanding.
+abbrev pub EndsOutstanding : List Entry → Type 0
+EndsOutstanding t =
+    Always (λ past e. (from : Endpoint) (bytes : List ℕ) (id : ℕ) → e.call ≡ Receive from bytes → (e.answer ≡ Acked id) ⊎ (e.answer ≡ Reset id) → Outstanding past from id) t

@@ -1,0 +1,106 @@
+-- Which Message IDs a source gives (RFC 7252, section 4.4), over whole lists of its calls. Profile: 16 groups of 4,096
+-- numbers, each group used again only after 400,000 ms.
+use Rattle.std.specs.Prelude.{◌≡◌, ℕ, ◌+◌, ◌*◌, ◌/◌, ◌%◌, ◌<◌, ◌≤◌, ◌==◌, Bool, true, false, Option, Some, None, List, [], ◌∷◌, if◌then◌else◌}
+use Rattle.coap_types.specs.Past.{Always, Ever, all_of}
+
+-- a number that was given, and when
+pub record Given : Type 0 where
+  pub at : ℕ
+  pub id : ℕ
+
+-- the number that comes next in order; at first, the first of the group that the word picks
+abbrev pub upcoming : ℕ → List Given → ℕ
+upcoming word [] = word % 16 * 4096
+upcoming word (g ∷ past) = (g.id + 1) % 65536
+
+-- when a number of the group was last given
+abbrev pub last_use : List Given → ℕ → Option ℕ
+last_use [] group = None
+last_use (g ∷ past) group = if g.id / 4096 == group then Some g.at else last_use past group
+
+-- never used, or last used more than 400,000 ms before
+abbrev pub IsRested : Option ℕ → ℕ → Type 0
+IsRested None now = Unit {0}
+IsRested (Some last) now = last + 400000 < now
+
+-- last used at most 400,000 ms before
+abbrev pub IsHeld : Option ℕ → ℕ → Type 0
+IsHeld None now = ⊥
+IsHeld (Some last) now = now ≤ last + 400000
+
+-- a number may be given: the group goes on, or the next group may be entered
+abbrev pub MayGive : ℕ → List Given → ℕ → Type 0
+MayGive word past now = upcoming word past % 4096 ≡ 0 → IsRested (last_use past (upcoming word past / 4096)) now
+
+-- none may be given: the group is spent, and the next one is held
+pub record Withholds (word : ℕ) (past : List Given) (now : ℕ) : Type 0 where
+  pub spent : upcoming word past % 4096 ≡ 0
+  pub held : IsHeld (last_use past (upcoming word past / 4096)) now
+
+-- the number is the next one, given when it may be
+pub record Gives (word : ℕ) (past : List Given) (now id : ℕ) : Type 0 where
+  pub next : id ≡ upcoming word past
+  pub may : MayGive word past now
+
+-- the moment of the number given last
+abbrev pub latest : List Given → ℕ
+latest [] = 0
+latest (g ∷ past) = g.at
+
+-- the law of the numbers: moments don't fall, and each number is the next one, given when it may be
+pub record IsGiven (word : ℕ) (past : List Given) (g : Given) : Type 0 where
+  pub time : latest past ≤ g.at
+  pub right : Gives word past g.at g.id
+
+abbrev pub NumbersLaw : ℕ → List Given → Type 0
+NumbersLaw word = Always (IsGiven word)
+
+-- equal numbers are more than 400,000 ms apart
+abbrev pub AreApart : List Given → Type 0
+AreApart = Always (λ past g. Ever (λ (h : Given). (h.id ≡ g.id) × (g.at ≤ h.at + 400000)) past → ⊥)
+
+-- the calls of a source, each with its answer
+pub data IdCall : Type 0 where
+  Next : (answer : Option ℕ) → IdCall
+  IsFree : (answer : Bool) → IdCall
+
+-- a call, at the moment that counts: a moment before the last one counts as the last
+pub record IdEntry : Type 0 where
+  pub at : ℕ
+  pub call : IdCall
+
+abbrev pub clock : List IdEntry → ℕ
+clock [] = 0
+clock (e ∷ past) = e.at
+
+-- the number that the call gives
+abbrev pub given_in : ℕ → IdCall → List Given
+given_in at (Next (Some id)) = record { at = at; id = id } ∷ []
+given_in at _ = []
+
+abbrev pub given : IdEntry → List Given
+given e = given_in e.at e.call
+
+abbrev pub numbers : List IdEntry → List Given
+numbers = all_of given
+
+-- the rows: what each call answers, and when
+abbrev pub IdRow : ℕ → List Given → ℕ → IdCall → Type 0
+IdRow word past at (Next (Some id)) = Gives word past at id
+IdRow word past at (Next None) = Withholds word past at
+IdRow word past at (IsFree true) = MayGive word past at
+IdRow word past at (IsFree false) = Withholds word past at
+
+pub record IdStands (word : ℕ) (past : List IdEntry) (e : IdEntry) : Type 0 where
+  pub time : clock past ≤ e.at
+  pub row : IdRow word (numbers past) e.at e.call
+
+-- the law of a source that began with this word
+abbrev pub Ids : ℕ → List IdEntry → Type 0
+Ids word = Always (IdStands word)
+
+-- one call has one answer
+abbrev pub IdsAreExact : Type 0
+IdsAreExact =
+    (word : ℕ) (past : List IdEntry) (e f : IdEntry) (a b : Option ℕ) → IdStands word past e → IdStands word past f
+    → e.at ≡ f.at → e.call ≡ Next a → f.call ≡ Next b → a ≡ b

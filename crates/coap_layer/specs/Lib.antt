@@ -1,0 +1,15 @@
+pub mod Ids
+pub mod IdState
+pub mod Arrivals
+pub mod Trace
+pub mod Words
+pub mod Table
+pub mod Rows
+pub mod State
+pub mod LayerLed
+pub mod Follows
+pub mod Steps
+pub mod Sendings
+pub mod Verdicts
+pub mod Entries
+pub mod IdStep

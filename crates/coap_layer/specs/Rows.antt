@@ -1,0 +1,221 @@
+-- The message layer's law (RFC 7252, section 4): each call, in its whole trace, is one of these rows.
+use Rattle.std.specs.Prelude.{◌≡◌, ◌≢◌, ◌⊎◌, ◌<◌, ◌≤◌, ℕ, ◌*◌, ◌-◌, ◌/◌, ◌%◌, true, false, Some, None, List, [], ◌∷◌, slice_get, if◌then◌else◌, ◌&&◌}
+use Rattle.coap_types.specs.Past.{Ever, Always, Since}
+use Rattle.coap_types.specs.Roles.{role_of}
+use Rattle.coap_types.specs.declared.endpoint.Endpoint.{Endpoint}
+use Rattle.coap_types.specs.declared.message.Kind.{Kind}
+use Rattle.coap_types.specs.declared.message.Kind.TheVariants.{Con, Non, Ack, Rst}
+use Rattle.coap_types.specs.declared.role.Role.TheVariants as role
+use Rattle.coap_codec.specs.Message.{AreBytes, Spells}
+use Rattle.coap_codec.specs.Writing.{message_bytes}
+use Rattle.coap_layer.specs.Arrivals.{Arrival, Unreadable, Faulted, Whole, Shows}
+use Rattle.coap_layer.specs.Ids as ids
+use Rattle.coap_layer.specs.Trace.{Content, with_head, Packet, Call, Receive, Reply, Confirm, Plain, Settle, Ticks, Take, Room, AsksFree, Pass, Dropped, Replayed, Rejected, Request, Response, Acked, Reset, Nothing, Is, Sent, Busied, NoIds, Idle, Copied, Expired, Gives, Entry, same_place}
+use Rattle.coap_layer.specs.Words.{awaits, clock, Incoming, Remembered, remembered, was_con, replied, is_con, Open, is_to, outstanding, waiting, numbers}
+
+-- a CON to this place with this id is unacknowledged
+abbrev pub Outstanding : List Entry → Endpoint → ℕ → Type 0
+Outstanding past to id = Ever (λ c. is_to to id c ≡ true) (outstanding past)
+
+-- a CON to this place is unacknowledged (NSTART is 1, section 4.7)
+abbrev pub Busy : List Entry → Endpoint → Type 0
+Busy past to = Ever (λ (c : Open). same_place c.to to ≡ true) (outstanding past)
+
+-- a Message ID may be given; none may
+abbrev pub MayGive : ℕ → List Entry → ℕ → Type 0
+MayGive word past now = ids.MayGive word (numbers past) now
+
+abbrev pub Withholds : ℕ → List Entry → ℕ → Type 0
+Withholds word past now = ids.Withholds word (numbers past) now
+
+-- arrivals
+
+-- a Reset: Empty, with the Message ID of what is rejected (section 4.2)
+abbrev pub reset_to : Endpoint → ℕ → Packet
+reset_to to id = record { to = to; bytes = 0x70 ∷ 0 ∷ id / 256 ∷ id % 256 ∷ [] }
+
+pub record Rejects (past : List Entry) (e : Entry) (m : Incoming) : Type 0 where
+  pub kind : m.message.kind ≡ Con
+  pub class : (role_of m.message.code ≡ role.Empty) ⊎ (role_of m.message.code ≡ role.Reserved)
+  pub answer : e.answer ≡ Rejected
+  pub out : e.out ≡ reset_to m.from m.message.id ∷ []
+
+pub record Drops (past : List Entry) (e : Entry) (m : Incoming) : Type 0 where
+  pub why : ((m.message.kind ≡ Non) × ((role_of m.message.code ≡ role.Empty) ⊎ (role_of m.message.code ≡ role.Reserved)))
+      ⊎ ((m.message.kind ≡ Rst) × (role_of m.message.code ≢ role.Empty))
+      ⊎ ((m.message.kind ≡ Ack) × ((role_of m.message.code ≡ role.Request) ⊎ (role_of m.message.code ≡ role.Reserved)))
+      ⊎ (((m.message.kind ≡ Ack) ⊎ (m.message.kind ≡ Rst)) × (Outstanding past m.from m.message.id → ⊥))
+      ⊎ (((m.message.kind ≡ Con) ⊎ (m.message.kind ≡ Non)) × ((role_of m.message.code ≡ role.Request) ⊎ (role_of m.message.code ≡ role.Response)) × (Remembered past e.at m.from m.message.id → ⊥) × (4096 ≤ remembered e.at past))
+  pub answer : e.answer ≡ Dropped
+  pub out : e.out ≡ []
+
+pub record TakesAck (past : List Entry) (e : Entry) (m : Incoming) : Type 0 where
+  pub kind : m.message.kind ≡ Ack
+  pub class : role_of m.message.code ≡ role.Empty
+  pub matches : Outstanding past m.from m.message.id
+  pub answer : e.answer ≡ Acked m.message.id
+  pub out : e.out ≡ []
+
+pub record TakesReset (past : List Entry) (e : Entry) (m : Incoming) : Type 0 where
+  pub kind : m.message.kind ≡ Rst
+  pub class : role_of m.message.code ≡ role.Empty
+  pub matches : Outstanding past m.from m.message.id
+  pub answer : e.answer ≡ Reset m.message.id
+  pub out : e.out ≡ []
+
+-- a piggybacked response (section 5.2.1); retransmission goes on until the layer above settles it
+pub record TakesAnswer (past : List Entry) (e : Entry) (m : Incoming) : Type 0 where
+  pub kind : m.message.kind ≡ Ack
+  pub class : role_of m.message.code ≡ role.Response
+  pub matches : Outstanding past m.from m.message.id
+  pub answer : e.answer ≡ Response m.message
+  pub out : e.out ≡ []
+
+-- the stored reply, where both are CONs
+abbrev pub stored : List Entry → Incoming → List Packet
+stored past m = if is_con m.message.kind && was_con m.from m.message.id past then elim (replied m.from m.message.id past) [ Some bytes ↦ record { to = m.from; bytes = bytes } ∷ [] | None ↦ [] ] else []
+
+pub record Replays (past : List Entry) (e : Entry) (m : Incoming) : Type 0 where
+  pub kind : (m.message.kind ≡ Con) ⊎ (m.message.kind ≡ Non)
+  pub class : (role_of m.message.code ≡ role.Request) ⊎ (role_of m.message.code ≡ role.Response)
+  pub old : Remembered past e.at m.from m.message.id
+  pub answer : e.answer ≡ Replayed
+  pub out : e.out ≡ stored past m
+
+-- What is handed up: a CON request or a NON request for which a Message ID is free, which is remembered; a NON request
+-- for which none is free, which is not; a response, which is remembered.
+abbrev pub HandedAs : ℕ → List Entry → Entry → Incoming → Type 0
+HandedAs word past e m =
+    ((role_of m.message.code ≡ role.Request) × ((m.message.kind ≡ Con) ⊎ MayGive word past e.at) × (e.answer ≡ Request m.message true))
+    ⊎ ((role_of m.message.code ≡ role.Request) × (m.message.kind ≡ Non) × Withholds word past e.at × (e.answer ≡ Request m.message false))
+    ⊎ ((role_of m.message.code ≡ role.Response) × (e.answer ≡ Response m.message))
+
+pub record HandsOver (word : ℕ) (past : List Entry) (e : Entry) (m : Incoming) : Type 0 where
+  pub kind : (m.message.kind ≡ Con) ⊎ (m.message.kind ≡ Non)
+  pub new : Remembered past e.at m.from m.message.id → ⊥
+  pub room : remembered e.at past < 4096
+  pub answer : HandedAs word past e m
+  pub out : e.out ≡ []
+
+-- a message, in the order of the table
+pub data Sorts (word : ℕ) (past : List Entry) (e : Entry) (m : Incoming) : Type 0 where
+  rejects : Rejects past e m → Sorts word past e m
+  drops : Drops past e m → Sorts word past e m
+  takes_ack : TakesAck past e m → Sorts word past e m
+  takes_reset : TakesReset past e m → Sorts word past e m
+  takes_answer : TakesAnswer past e m → Sorts word past e m
+  replays : Replays past e m → Sorts word past e m
+  hands_over : HandsOver word past e m → Sorts word past e m
+
+-- a datagram: what can't be read, and a fault, are dropped, but for a fault in a CON, which is rejected
+abbrev pub Arrives : ℕ → List Entry → Entry → Endpoint → Arrival → Type 0
+Arrives word past e from Unreadable = (e.answer ≡ Dropped) × (e.out ≡ [])
+Arrives word past e from (Faulted Con id) = (e.answer ≡ Rejected) × (e.out ≡ reset_to from id ∷ [])
+Arrives word past e from (Faulted Non id) = (e.answer ≡ Dropped) × (e.out ≡ [])
+Arrives word past e from (Faulted Ack id) = (e.answer ≡ Dropped) × (e.out ≡ [])
+Arrives word past e from (Faulted Rst id) = (e.answer ≡ Dropped) × (e.out ≡ [])
+Arrives word past e from (Whole m) = Sorts word past e (record { from = from; message = m })
+
+-- sendings
+
+-- whatever its type and Message ID, the content has a spelling
+abbrev pub IsSpelled : Content → Type 0
+IsSpelled content = (kind : Kind) (id : ℕ) → id < 65536 → Spells (message_bytes (with_head kind id content)) (with_head kind id content)
+
+pub record SendsAs (kind : Kind) (word : ℕ) (past : List Entry) (e : Entry) (to : Endpoint) (content : Content) : Type 0 where
+  pub id : ℕ
+  pub gives : ids.Gives word (numbers past) e.at id
+  pub answer : e.answer ≡ Sent id
+  pub out : e.out ≡ record { to = to; bytes = message_bytes (with_head kind id content) } ∷ []
+
+pub record RefusesIds (word : ℕ) (past : List Entry) (e : Entry) : Type 0 where
+  pub held : Withholds word past e.at
+  pub answer : e.answer ≡ NoIds
+  pub out : e.out ≡ []
+
+pub record RefusesBusy (past : List Entry) (e : Entry) (to : Endpoint) : Type 0 where
+  pub busy : Busy past to
+  pub answer : e.answer ≡ Busied
+  pub out : e.out ≡ []
+
+-- a CON is refused where one to that place is outstanding, and else where no Message ID is free
+abbrev pub Confirms : ℕ → List Entry → Entry → Endpoint → Content → Type 0
+Confirms word past e to content =
+    RefusesBusy past e to ⊎ ((Busy past to → ⊥) × (RefusesIds word past e ⊎ SendsAs Con word past e to content))
+
+abbrev pub Plains : ℕ → List Entry → Entry → Endpoint → Content → Type 0
+Plains word past e to content = RefusesIds word past e ⊎ SendsAs Non word past e to content
+
+abbrev pub Settles : List Entry → Entry → Endpoint → ℕ → Type 0
+Settles past e to id = ((Outstanding past to id × (e.answer ≡ Is true)) ⊎ ((Outstanding past to id → ⊥) × (e.answer ≡ Is false))) × (e.out ≡ [])
+
+-- is there room for a CON, and is a Message ID free
+abbrev pub AsksRoom : ℕ → List Entry → Entry → Endpoint → Type 0
+AsksRoom word past e to =
+    (((Busy past to → ⊥) × MayGive word past e.at × (e.answer ≡ Is true)) ⊎ ((Busy past to ⊎ Withholds word past e.at) × (e.answer ≡ Is false))) × (e.out ≡ [])
+
+abbrev pub AsksIds : ℕ → List Entry → Entry → Type 0
+AsksIds word past e = ((MayGive word past e.at × (e.answer ≡ Is true)) ⊎ (Withholds word past e.at × (e.answer ≡ Is false))) × (e.out ≡ [])
+
+-- ticks (section 4.2)
+
+-- 31 initial timeouts have passed: the binary exponential back-off is over
+abbrev pub Fails : ℕ → Open → Type 0
+Fails now c = c.timeout * 31 ≤ now - c.first
+
+-- a retransmission is due that was due at no earlier sending, and 47,000 ms have not passed (profile)
+pub record CopyDue (now : ℕ) (c : Open) : Type 0 where
+  pub due : Ever (λ (k : ℕ). (c.last - c.first < c.timeout * k) × (c.timeout * k ≤ now - c.first)) (1 ∷ 3 ∷ 7 ∷ 15 ∷ [])
+  pub early : now - c.first ≤ 47000
+
+abbrev pub HasStep : ℕ → Open → Type 0
+HasStep now c = Fails now c ⊎ CopyDue now c
+
+-- the first of a list of which P holds
+abbrev pub IsFirst : (Open → Type 0) → Open → List Open → Type 0
+IsFirst P c cs = Since (λ x. (x ≡ c) × P x) (λ x. P x → ⊥) cs
+
+pub record Copies (past : List Entry) (e : Entry) : Type 0 where
+  pub con : Open
+  pub first : IsFirst (HasStep e.at) con (outstanding past)
+  pub alive : Fails e.at con → ⊥
+  pub answer : e.answer ≡ Copied con.to con.id
+  pub out : e.out ≡ record { to = con.to; bytes = con.bytes } ∷ []
+
+pub record Expires (past : List Entry) (e : Entry) : Type 0 where
+  pub con : Open
+  pub first : IsFirst (HasStep e.at) con (outstanding past)
+  pub fails : Fails e.at con
+  pub answer : e.answer ≡ Expired con.to con.id
+  pub out : e.out ≡ []
+
+pub record Rests (past : List Entry) (e : Entry) : Type 0 where
+  pub none : Ever (HasStep e.at) (outstanding past) → ⊥
+  pub answer : e.answer ≡ Idle
+  pub out : e.out ≡ []
+
+pub data Turns (past : List Entry) (e : Entry) : Type 0 where
+  copies : Copies past e → Turns past e
+  expires : Expires past e → Turns past e
+  rests : Rests past e → Turns past e
+
+-- the table, by call
+abbrev pub Row : ℕ → List Entry → Entry → Call → Type 0
+Row word past e (Receive from bytes) = AreBytes bytes × ((what : Arrival) × Shows bytes what × Arrives word past e from what)
+Row word past e (Reply to id bytes) = (awaits past ≡ Some (record { from = to; id = id })) × (e.answer ≡ Nothing) × (e.out ≡ record { to = to; bytes = bytes } ∷ []) × (e.at ≡ clock past)
+Row word past e (Confirm to content wish) = IsSpelled content × Confirms word past e to content
+Row word past e (Plain to content) = IsSpelled content × Plains word past e to content
+Row word past e (Settle to id) = Settles past e to id × (e.at ≡ clock past)
+Row word past e Ticks = Turns past e
+Row word past e Take = (e.answer ≡ Gives (slice_get (waiting past) 0)) × (e.out ≡ []) × (e.at ≡ clock past)
+Row word past e (Room to) = AsksRoom word past e to
+Row word past e AsksFree = AsksIds word past e
+Row word past e Pass = (e.answer ≡ Nothing) × (e.out ≡ [])
+
+pub record Stands (word : ℕ) (past : List Entry) (e : Entry) : Type 0 where
+  pub time : clock past ≤ e.at
+  pub row : Row word past e e.call
+
+-- the law of a layer that began with this word, which picks the first Message ID
+abbrev pub LayerLaw : ℕ → List Entry → Type 0
+LayerLaw word = Always (Stands word)

@@ -1,0 +1,64 @@
+-- The calls of a message layer: each with its moment, its arguments, its answer and what it sends (RFC 7252, section 4).
+use Rattle.std.specs.Prelude.{ℕ, Bool, ◌&&◌, ◌==◌, nat_eq, Option, List}
+use Rattle.std.specs.Cmp.Lexicographic.{pointwise}
+use Rattle.coap_types.specs.CoapOption.{CoapOption}
+use Rattle.coap_types.specs.declared.endpoint.Endpoint.{Endpoint}
+use Rattle.coap_types.specs.declared.message.Kind.{Kind}
+use Rattle.coap_codec.specs.Message.{Message}
+
+-- what is to be sent: all of a message but its type and its Message ID, which the layer gives it
+pub record Content : Type 0 where
+  pub code : ℕ
+  pub token : List ℕ
+  pub options : List CoapOption
+  pub payload : List ℕ
+
+abbrev pub with_head : Kind → ℕ → Content → Message
+with_head kind id c = record { kind = kind; code = c.code; id = id; token = c.token; options = c.options; payload = c.payload }
+
+pub record Packet : Type 0 where
+  pub to : Endpoint
+  pub bytes : List ℕ
+
+-- a datagram arrives; the reply to it; a CON and a NON to be sent; an end of retransmission; time passes; a datagram is
+-- taken to be sent; could a CON be sent; is a Message ID free; the clock alone
+pub data Call : Type 0 where
+  Receive : (from : Endpoint) (bytes : List ℕ) → Call
+  Reply : (to : Endpoint) (id : ℕ) (bytes : List ℕ) → Call
+  Confirm : (to : Endpoint) (content : Content) (word : ℕ) → Call
+  Plain : (to : Endpoint) (content : Content) → Call
+  Settle : (to : Endpoint) (id : ℕ) → Call
+  Ticks : Call
+  Take : Call
+  Room : (to : Endpoint) → Call
+  AsksFree : Call
+  Pass : Call
+
+-- of a request that is handed up, also whether it is remembered
+pub data Answer : Type 0 where
+  Dropped : Answer
+  Replayed : Answer
+  Rejected : Answer
+  Request : (message : Message) (kept : Bool) → Answer
+  Response : (message : Message) → Answer
+  Acked : (id : ℕ) → Answer
+  Reset : (id : ℕ) → Answer
+  Nothing : Answer
+  Is : (holds : Bool) → Answer
+  Sent : (id : ℕ) → Answer
+  Busied : Answer
+  NoIds : Answer
+  Idle : Answer
+  Copied : (to : Endpoint) (id : ℕ) → Answer
+  Expired : (to : Endpoint) (id : ℕ) → Answer
+  Gives : (packet : Option Packet) → Answer
+
+-- one call, at the moment that counts (one before the last counts as the last), with its answer and what it sends
+pub record Entry : Type 0 where
+  pub at : ℕ
+  pub call : Call
+  pub answer : Answer
+  pub out : List Packet
+
+abbrev pub same_place : Endpoint → Endpoint → Bool
+same_place a b = pointwise nat_eq a.ip b.ip && (a.port == b.port)

@@ -1,0 +1,100 @@
+ghost use Rattle.std.specs.Prelude.{not, Some, ◌≡◌, IsTrue, false, List, [], ◌∷◌, ℕ};
+ghost use Rattle.coap_layer.specs.Ids.{Given, IdEntry, Ids, IdsAreExact, NumbersLaw, AreApart, IsHeld, IsRested, MayGive, Withholds, numbers, upcoming as upcoming_number};
+ghost use Rattle.coap_layer.specs.State.{is_free, is_rested};
+ghost use Rattle.coap_layer.specs.IdStep.{Asks, Draws};
+ghost use Rattle.coap_layer.specs.IdState.{AreUses, Led, next_entry, free_entry};
+
+use coap_types::transmission::ID_REUSE_AFTER_MS;
+use coap_types::{Id, Moment};
+use std::marker::Model;
+
+/// How many groups the Message IDs are in (profile).
+const GROUPS: usize = 16;
+/// How many Message IDs a group has (profile).
+const GROUP_SIZE: u16 = 4_096;
+
+/// A source of Message IDs (RFC 7252, section 4.4): 16 groups of 4,096 numbers, given in rising
+/// order, each group used again only more than 400,000 ms after its last use (profile).
+#[derive(Drop)]
+pub struct IdSource {
+    clock: u64,
+    upcoming: u16,
+    last_used: [Option<u64>; GROUPS],
+}
+
+impl Model for IdSource {
+    ghost use Rattle.std.specs.Prelude.{◌≡◌, length, ◌<◌};
+    ghost use Rattle.coap_layer.specs.IdState.{IdState};
+
+    ghost Value = { IdState };
+
+    ghost view = { λ s. record { clock = s.clock; upcoming = s.upcoming; last_used = s.last_used } };
+}
+
+/// Whether a group last used then is still held.
+fn is_held(last_use: Option<u64>, now: u64) -> bool
+    ensures yes { IsTrue result → IsHeld last_use now }
+    ensures no { result ≡ false → IsRested last_use now }
+    ensures test { result ≡ not (is_rested now (Some last_use)) }
+{
+    match last_use {
+        Some(last) => now.saturating_sub(last) <= ID_REUSE_AFTER_MS,
+        None => false,
+    }
+}
+
+/// Whether the number that comes next may be given.
+fn may_give(upcoming: u16, last_used: &[Option<u64>; GROUPS], now: u64) -> bool
+    ensures yes { (word : ℕ) (past : List Given) → upcoming ≡ upcoming_number word past → AreUses past last_used.now → IsTrue result → MayGive word past now }
+    ensures no { (word : ℕ) (past : List Given) → upcoming ≡ upcoming_number word past → AreUses past last_used.now → result ≡ false → Withholds word past now }
+    ensures test { result ≡ is_free now upcoming last_used.now }
+{
+    upcoming % GROUP_SIZE != 0 || !is_held(last_used[(upcoming / GROUP_SIZE) as usize], now)
+}
+
+impl IdSource {
+    /// A source that begins at the group that the word picks: group `word` mod 16.
+    pub fn new(word: u64) -> IdSource
+        ensures led { Led word [] result }
+    {
+        IdSource {
+            clock: 0,
+            upcoming: (word % GROUPS as u64) as u16 * GROUP_SIZE,
+            last_used: [None; GROUPS],
+        }
+    }
+
+    /// Whether `next` would give a number now. A moment before the last one counts as the last.
+    pub fn is_free(&mut self, now: Moment) -> bool
+        ensures led { (word : ℕ) (t : List IdEntry) → Led word t self.old → Led word (free_entry t now.0 result ∷ t) self.new }
+        ensures step { Asks self.old now.0 result self.new }
+    {
+        self.clock = self.clock.max(now.0);
+        may_give(self.upcoming, &self.last_used, self.clock)
+    }
+
+    /// The next number; `None` where the group is spent and the next one was used at most
+    /// 400,000 ms ago. A moment before the last one counts as the last.
+    pub fn next(&mut self, now: Moment) -> Option<Id>
+        ensures led { (word : ℕ) (t : List IdEntry) → Led word t self.old → Led word (next_entry t now.0 result ∷ t) self.new }
+        ensures step { Draws self.old now.0 result self.new }
+    {
+        self.clock = self.clock.max(now.0);
+        let id = self.upcoming;
+        if !may_give(id, &self.last_used, self.clock) {
+            return None;
+        }
+        self.last_used[(id / GROUP_SIZE) as usize] = Some(self.clock);
+        self.upcoming = id.wrapping_add(1);
+        Some(Id(id))
+    }
+}
+
+/// What leads to a source stands in the law, which leaves each call one answer, and by which equal
+/// numbers are more than 400,000 ms apart.
+pub fn ids_law()
+    ensures law { (word : ℕ) (t : List IdEntry) (s : _) → Led word t s → Ids word t }
+    ensures exact { IdsAreExact }
+    ensures numbers { (word : ℕ) (t : List IdEntry) → Ids word t → NumbersLaw word (numbers t) }
+    ensures apart { (word : ℕ) (given : List Given) → NumbersLaw word given → AreApart given }
+{}

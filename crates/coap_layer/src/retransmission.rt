@@ -1,0 +1,187 @@
+ghost use Rattle.std.specs.Prelude.{◌≡◌, ℕ, List, nat_le, nat_lt, ◌≤◌, ◌*◌, ◌-◌, ◌==◌, ◌&&◌, is_some, None, Some, if◌then◌else◌, map};
+ghost use Rattle.std.specs.List.{list_any, filter_map};
+ghost use Rattle.coap_layer.specs.Trace.{Packet, Ticks, same_place};
+ghost use Rattle.coap_layer.specs.Words.{left_by};
+ghost use Rattle.coap_layer.specs.State.{is_copy_due, tick_of};
+ghost use Rattle.coap_layer.specs.Sendings.{answer_for, ended, marked, open_now};
+
+use coap_types::transmission::{LAST_RETRANSMISSION_MS, MAX_RETRANSMIT};
+use coap_types::{Endpoint, Id};
+use std::alloc::Allocator;
+
+/// So many initial timeouts pass from the first sending to the failure of the transmission: 1, 2,
+/// 4, 8 and 16 of them (RFC 7252, section 4.2).
+const FAILURE_TIMEOUTS: u64 = (1 << (MAX_RETRANSMIT + 1)) - 1;
+
+const _: () = prove!(FAILURE_TIMEOUTS == 31);
+
+/// A Confirmable message that was sent (RFC 7252, section 4.2).
+#[derive(Drop)]
+pub(crate) struct Sending<A: Allocator + Copy> {
+    pub(crate) to: Endpoint,
+    pub(crate) id: Id,
+    pub(crate) bytes: Vec<u8, A>,
+    /// The initial timeout, in milliseconds.
+    pub(crate) timeout: u16,
+    /// The moment of the first sending.
+    pub(crate) first: u64,
+    /// The moment of the last sending; `None` once retransmission has ended.
+    pub(crate) last: Option<u64>,
+    /// The same as the last input found it.
+    pub(crate) before: Option<u64>,
+}
+
+/// The step that is due.
+#[derive(Clone, Copy)]
+pub(crate) enum Due {
+    /// None is.
+    Nothing,
+    /// A retransmission to this endpoint, with this Message ID.
+    Copy(Endpoint, Id),
+    /// The failure of the transmission to this endpoint, with this Message ID.
+    Failure(Endpoint, Id),
+}
+
+/// Whether two endpoints are the same.
+pub(crate) fn same(a: Endpoint, b: Endpoint) -> bool
+    ensures { result ≡ same_place a b }
+{
+    a.ip == b.ip && a.port == b.port
+}
+
+/// Whether it went to this endpoint, with this Message ID.
+fn goes_to<A: Allocator + Copy>(c: &Sending<A>, to: Endpoint, id: Id) -> bool
+    ensures { result ≡ (same_place c.now.to to && (c.now.id.0 == id.0)) }
+{
+    same(c.to, to) && c.id.0 == id.0
+}
+
+/// Whether a Confirmable message to this endpoint with this Message ID is outstanding.
+pub(crate) fn is_outstanding<A: Allocator + Copy>(
+    sendings: &[Sending<A>],
+    to: Endpoint,
+    id: Id,
+) -> bool
+    ensures { result ≡ list_any (λ c. is_some c.last && (same_place c.to to && (c.id.0 == id.0))) sendings.now }
+{
+    sendings
+        .iter()
+        .any(|c| c.last.is_some() && goes_to(c, to, id))
+}
+
+/// Whether a Confirmable message to this endpoint is outstanding: at most one is, as NSTART is 1
+/// (RFC 7252, section 4.7).
+pub(crate) fn is_busy<A: Allocator + Copy>(sendings: &[Sending<A>], to: Endpoint) -> bool
+    ensures { result ≡ list_any (λ c. is_some c.last && same_place c.to to) sendings.now }
+{
+    sendings.iter().any(|c| c.last.is_some() && same(c.to, to))
+}
+
+/// The moment of the last sending, or none where it is over.
+fn unless(over: bool, last: Option<u64>) -> Option<u64>
+    ensures { result ≡ (if over then None else last) }
+{
+    if over { None } else { last }
+}
+
+/// The moment of the last sending, which is now where it is sent again.
+fn moved(again: bool, last: Option<u64>, at: u64) -> Option<u64>
+    ensures { result ≡ (if is_some last && again then Some at else last) }
+{
+    if last.is_some() && again {
+        Some(at)
+    } else {
+        last
+    }
+}
+
+/// Ends the retransmission of what went there with this Message ID.
+pub(crate) fn end<A: Allocator + Copy>(sendings: &mut [Sending<A>], to: Endpoint, id: Id)
+    ensures { sendings.new ≡ map (ended to id.0) sendings.old }
+{
+    for c in sendings.iter_mut() {
+        c.last = unless(goes_to(c, to, id), c.last);
+    }
+}
+
+/// Notes that what is outstanding there with this Message ID is sent again.
+fn mark<A: Allocator + Copy>(sendings: &mut [Sending<A>], to: Endpoint, id: Id, at: u64)
+    ensures { sendings.new ≡ map (marked to id.0 at) sendings.old }
+{
+    for c in sendings.iter_mut() {
+        c.last = moved(goes_to(c, to, id), c.last, at);
+    }
+}
+
+/// Whether the transmission has failed (RFC 7252, section 4.2).
+fn has_failed<A: Allocator + Copy>(c: &Sending<A>, now: u64) -> bool
+    ensures { result ≡ nat_le (c.now.timeout * 31) (now - c.now.first) }
+{
+    u64::from(c.timeout) * FAILURE_TIMEOUTS <= now.saturating_sub(c.first)
+}
+
+/// Whether the retransmission that is due so many timeouts after the first sending is due and was
+/// not at the last sending.
+fn falls_due(timeouts: u64, timeout: u16, sent: u64, elapsed: u64) -> bool
+    requires { timeouts ≤ 15 }
+    ensures { result ≡ (nat_lt sent (timeout * timeouts) && nat_le (timeout * timeouts) elapsed) }
+{
+    let due = u64::from(timeout) * timeouts;
+    sent < due && due <= elapsed
+}
+
+/// Whether a retransmission is due: of those that are, one is sent and the others count as sent
+/// (RFC 7252, section 4.2), and none later than 47,000 ms after the first sending (profile).
+fn is_copy_due<A: Allocator + Copy>(c: &Sending<A>, last: u64, now: u64) -> bool
+    ensures { result ≡ is_copy_due now (record { to = c.now.to; id = c.now.id.0; bytes = c.now.bytes.items; timeout = c.now.timeout; first = c.now.first; last = last }) }
+{
+    let sent = last.saturating_sub(c.first);
+    let elapsed = now.saturating_sub(c.first);
+    elapsed <= LAST_RETRANSMISSION_MS
+        && (falls_due(1, c.timeout, sent, elapsed)
+            || falls_due(3, c.timeout, sent, elapsed)
+            || falls_due(7, c.timeout, sent, elapsed)
+            || falls_due(15, c.timeout, sent, elapsed))
+}
+
+/// The step of the message that was sent first of those that have one.
+pub(crate) fn find_step<A: Allocator + Copy>(sendings: &Vec<Sending<A>, A>, at: u64) -> Due
+    ensures { answer_for result ≡ tick_of at (open_now sendings.now.items) }
+{
+    for c in sendings {
+        if let Some(last) = c.last {
+            if has_failed(c, at) {
+                return Due::Failure(c.to, c.id);
+            }
+            if is_copy_due(c, last, at) {
+                return Due::Copy(c.to, c.id);
+            }
+        }
+    }
+    Due::Nothing
+}
+
+/// Ends the retransmission of what went there with this Message ID.
+pub(crate) fn end_all<A: Allocator + Copy>(sendings: &mut Vec<Sending<A>, A>, to: Endpoint, id: Id)
+    ensures { sendings.new.items ≡ map (ended to id.0) sendings.old.items }
+{
+    end(sendings, to, id);
+}
+
+/// Notes that what is outstanding there with this Message ID is sent again.
+fn mark_all<A: Allocator + Copy>(sendings: &mut Vec<Sending<A>, A>, to: Endpoint, id: Id, at: u64)
+    ensures { sendings.new.items ≡ map (marked to id.0 at) sendings.old.items }
+{
+    mark(sendings, to, id, at);
+}
+
+/// Does the step.
+pub(crate) fn take_step<A: Allocator + Copy>(sendings: &mut Vec<Sending<A>, A>, step: Due, at: u64)
+    ensures { (out : List Packet) → open_now sendings.new.items ≡ filter_map (left_by (record { at = at; call = Ticks; answer = answer_for step; out = out })) (open_now sendings.old.items) }
+{
+    match step {
+        Due::Nothing => {}
+        Due::Copy(to, id) => mark_all(sendings, to, id, at),
+        Due::Failure(to, id) => end_all(sendings, to, id),
+    }
+}

@@ -1,0 +1,22 @@
+ghost use Rattle.coap_observe.specs.Registrations.{AlwaysRegistrations, ChangeMarks, EachStays, IsKnownByPair, RegisterPuts, RemoveTakes, SendUnmarks};
+ghost use Rattle.coap_observe.specs.Versions.{LaterIsNewer, NewerIsLater};
+
+/// What the rule of freshness says of versions that a server numbers modulo 2^24, less than 2^23
+/// apart (RFC 7641, sections 3.4 and 4.4): a later version is always newer, and where at most 128 s
+/// passed, only a later version is.
+pub fn newer_laws()
+    ensures later_is_newer { LaterIsNewer }
+    ensures newer_is_later { NewerIsLater }
+{}
+
+/// What the calls of `Observers` make of the registration of one endpoint and token, and that they
+/// leave those of others as they were (RFC 7641, sections 4.1 and 4.2).
+pub fn observer_laws()
+    ensures known_by_pair { IsKnownByPair }
+    ensures register_puts { RegisterPuts }
+    ensures remove_takes { RemoveTakes }
+    ensures change_marks { ChangeMarks }
+    ensures send_unmarks { SendUnmarks }
+    ensures each_stays { EachStays }
+    ensures registrations { AlwaysRegistrations }
+{}

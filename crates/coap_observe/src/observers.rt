@@ -1,0 +1,132 @@
+ghost use Rattle.std.specs.Prelude.{◌≡◌, ◌<◌, ◌≤◌, [], find, length, true, false, IfOk, IsOk, OnErr, slice_get};
+ghost use Rattle.std.specs.List.{list_any};
+ghost use Rattle.coap_observe.specs.Notices.{told_at, told_due};
+ghost use Rattle.coap_observe.specs.Observers.{AreRegistrations, changed_at, is_registered, is_due_at, is_due_of, registered, removed, sent_to};
+
+use crate::entries::{
+    first_due, has, is_due, make_room, mark_all, others, push_within, take_out, unmark_all,
+};
+use crate::entry::Entry;
+use crate::notice::Notice;
+use coap_types::{Endpoint, Path, Szx, Token};
+use std::alloc::{AllocError, Allocator, Global};
+use std::marker::Model;
+
+/// The most registrations at a server (profile: RFC 7641 sets no bound).
+pub const MAX_OBSERVERS: usize = 64;
+
+const _: () = prove!(MAX_OBSERVERS == 64);
+
+/// The observers of a server's resources, in order of registration (RFC 7641, section 4.1). Each is
+/// known by its endpoint and the token of its registration. A contract sees the list of them.
+#[derive(Drop)]
+pub struct Observers<A: Allocator = Global> {
+    list: Vec<Entry<A>, A>,
+}
+
+impl<A: Allocator> Model for Observers<A> {
+    ghost use Rattle.std.specs.Prelude.{List};
+    ghost use Rattle.coap_observe.specs.Observers.{AreRegistrations, Observer};
+    ghost use Rattle.coap_observe.specs.Shown.{kept};
+
+    ghost Value = { List Observer };
+
+    ghost view = { λ o. kept o.list.items };
+
+    ghost invariant = { λ o. AreRegistrations (kept o.list.items) };
+}
+
+impl<A: Allocator + Copy> Observers<A> {
+    /// Nobody observes anything.
+    pub fn new(alloc: A) -> Observers<A>
+        ensures { result ≡ [] }
+    {
+        Observers {
+            list: Vec::new(alloc),
+        }
+    }
+
+    /// Registers an observer last, with nothing due to it, in place of an earlier registration of
+    /// the same endpoint and token (RFC 7641, section 4.1). False where `MAX_OBSERVERS` others are
+    /// there, or an `Err`: then all is as before. Where that endpoint and token are registered, it
+    /// takes no memory.
+    pub fn register(
+        &mut self,
+        from: Endpoint,
+        token: Token,
+        path: Path<A>,
+        szx: Szx,
+    ) -> Result<bool, AllocError>
+        ensures full { MAX_OBSERVERS ≤ length (removed from token self.old)
+            → (result ≡ Ok false) × (self.new ≡ self.old) }
+        ensures taken { length (removed from token self.old) < MAX_OBSERVERS
+            → IfOk result (λ done. (done ≡ true)
+            × (self.new ≡ registered from token path szx self.old)) }
+        ensures again { is_registered from token self.old ≡ true → IsOk result }
+        ensures err { OnErr result (self.new ≡ self.old) }
+    {
+        if others(&self.list, from, &token) >= MAX_OBSERVERS {
+            return Ok(false);
+        }
+        make_room(&mut self.list, from, &token)?;
+        take_out(&mut self.list, from, &token);
+        push_within(
+            &mut self.list,
+            Entry {
+                to: from,
+                token,
+                path,
+                szx,
+                marked: false,
+            },
+        );
+        Ok(true)
+    }
+
+    /// Removes the registration of this endpoint and token: whether there was one.
+    pub fn remove(&mut self, from: Endpoint, token: &Token) -> bool
+        ensures was { result ≡ is_registered from token.now self.old }
+        ensures left { self.new ≡ removed from token.now self.old }
+    {
+        let was_there = has(&self.list, from, token);
+        take_out(&mut self.list, from, token);
+        was_there
+    }
+
+    /// The representation of the resource at this path changed: a notification is due to each of its
+    /// observers (RFC 7641, section 4.2).
+    pub fn changed(&mut self, path: &Path<A>)
+        ensures { self.new ≡ changed_at path.now self.old }
+    {
+        mark_all(&mut self.list, path);
+    }
+
+    /// The first observer at this endpoint, in order of registration, to which a notification is due.
+    pub fn due(&self, to: Endpoint) -> Option<Notice<'_, A>>
+        ensures first { told_due result ≡ find (is_due_at to) self.now }
+        ensures registrations { AreRegistrations self.now }
+    {
+        let entry = first_due(&self.list, to)?;
+        Some(entry.notice())
+    }
+
+    /// The observer at this place, in order of registration from 0, and whether a notification is due
+    /// to it.
+    pub fn at(&self, i: usize) -> Option<(Notice<'_, A>, bool)>
+        ensures place { told_at result ≡ slice_get self.now i }
+        ensures registrations { AreRegistrations self.now }
+    {
+        let entry = self.list.get(i)?;
+        Some((entry.notice(), entry.marked))
+    }
+
+    /// The notification of this endpoint and token was sent, so it is due no more: whether it was.
+    pub fn sent(&mut self, to: Endpoint, token: &Token) -> bool
+        ensures was { result ≡ list_any (is_due_of to token.now) self.old }
+        ensures left { self.new ≡ sent_to to token.now self.old }
+    {
+        let was_due = is_due(&self.list, to, token);
+        unmark_all(&mut self.list, to, token);
+        was_due
+    }
+}

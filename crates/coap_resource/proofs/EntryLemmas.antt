@@ -1,0 +1,157 @@
+-- Entries as a map.
+use Rattle.std.proofs.Common.{◌≡◌, ◌≢◌, ℕ, Bool, true, false, not, ◌+◌, ◌++◌, ◌∙◌, List, [], ◌∷◌, length, refl, ap, sym, subst, arith, Option, Some, None, is_some, if◌then◌else◌, length-append}
+use Rattle.std.specs.List.{filter}
+use Rattle.coap_resource.specs.declared.entry.Entry.{Entry}
+use Rattle.coap_resource.specs.declared.tally.Tally.{Tally}
+use Rattle.coap_types.specs.Path.{same_path}
+use Rattle.coap_resource.specs.Content.{Held, Changes}
+use Rattle.coap_resource.specs.Rate.{counted}
+use Rattle.coap_resource.specs.Entries.{entry_of, kept, find, without, Unique, Listed, content_of}
+use Rattle.coap_types.proofs.PathLemmas.{same_path-decides}
+
+pub kept_append : {A : Type 0} (xs ys : List (Entry A)) → kept (xs ++ ys) ≡ kept xs ++ kept ys
+kept_append [] ys = refl
+kept_append (x ∷ xs) ys = ap (λ (r : List (List (List ℕ) × Held)). entry_of x ∷ r) (kept_append xs ys)
+
+kept_cond : {A : Type 0} (b : Bool) (x : Entry A) (xs : List (Entry A)) → kept (if b then x ∷ xs else xs) ≡ (if b then entry_of x ∷ kept xs else kept xs)
+kept_cond true x xs = refl
+kept_cond false x xs = refl
+
+pub kept_without : {A : Type 0} (es : List (Entry A)) (p : List (List ℕ)) → kept (filter (λ (e : Entry A). not (same_path e.path p)) es) ≡ without (kept es) p
+kept_without [] p = refl
+kept_without {A} (e ∷ es) p =
+    kept_cond (not (same_path e.path p)) e (filter (λ (e : Entry A). not (same_path e.path p)) es)
+    ∙ ap (λ (r : List (List (List ℕ) × Held)). if not (same_path e.path p) then entry_of e ∷ r else r) (kept_without es p)
+
+is_same : (p q : List (List ℕ)) → same_path p q ≡ true → p ≡ q
+is_same p q h = (same_path-decides p q).0 h
+
+same_self : (p : List (List ℕ)) → same_path p p ≡ true
+same_self p = (same_path-decides p p).1 refl
+
+other_by : (b : Bool) (p q : List (List ℕ)) → (b ≡ true → p ≡ q) → q ≢ p → b ≡ false
+other_by true p q d h = absurd (h (sym (d refl)))
+other_by false p q d h = refl
+
+is_other : (p q : List (List ℕ)) → q ≢ p → same_path p q ≡ false
+is_other p q h = other_by (same_path p q) p q (is_same p q) h
+
+there_step : (b : Bool) (e : List (List ℕ) × Held) (w : List (List (List ℕ) × Held)) (p : List (List ℕ)) → same_path e.0 p ≡ b → find w p ≡ None
+    → find (if not b then e ∷ w else w) p ≡ None
+there_step true e w p is ih = ih
+there_step false e w p is ih = rw is ih
+
+pub find_without : (es : List (List (List ℕ) × Held)) (p : List (List ℕ)) → find (without es p) p ≡ None
+find_without [] p = refl
+find_without (e ∷ es) p = there_step (same_path e.0 p) e (without es p) p refl (find_without es p)
+
+other_step : (b : Bool) (e : List (List ℕ) × Held) (es w : List (List (List ℕ) × Held)) (p q : List (List ℕ)) → same_path e.0 p ≡ b → q ≢ p
+    → find w q ≡ find es q → find (if not b then e ∷ w else w) q ≡ find (e ∷ es) q
+other_step false e es w p q is ne ih = ap (λ (r : Option Held). if same_path e.0 q then Some e.1 else r) ih
+other_step true e es w p q is ne ih =
+    let same = is_same e.0 p is in
+    let no : same_path e.0 q ≡ false = is_other e.0 q (λ h. ne (h ∙ same)) in
+    rw no ih
+
+pub find_without_other : (es : List (List (List ℕ) × Held)) (p q : List (List ℕ)) → q ≢ p → find (without es p) q ≡ find es q
+find_without_other [] p q ne = refl
+find_without_other (e ∷ es) p q ne = other_step (same_path e.0 p) e es (without es p) p q refl ne (find_without_other es p q ne)
+
+cond_none : (b : Bool) (x : Held) (o : Option Held) → (if b then Some x else o) ≡ None → (b ≡ false) × (o ≡ None)
+cond_none true x o h = absurd cc
+cond_none false x o h = (refl, h)
+
+pub find_behind : (es : List (List (List ℕ) × Held)) (p : List (List ℕ)) (h : Held) → find es p ≡ None → find (es ++ (p, h) ∷ []) p ≡ Some h
+find_behind [] p h none = rw same_self refl
+find_behind (e ∷ es) p h none =
+    let n = cond_none (same_path e.0 p) e.1 (find es p) none in
+    rw n.0 (find_behind es p h n.1)
+
+pub find_behind_other : (es : List (List (List ℕ) × Held)) (p q : List (List ℕ)) (h : Held) → q ≢ p → find (es ++ (p, h) ∷ []) q ≡ find es q
+find_behind_other [] p q h ne = let no = is_other p q ne in rw no refl
+find_behind_other (e ∷ es) p q h ne = ap (λ (r : Option Held). if same_path e.0 q then Some e.1 else r) (find_behind_other es p q h ne)
+
+differ : (p q : List (List ℕ)) → same_path p q ≡ false → p ≢ q
+differ p q h e = let t = same_self q in let u : same_path q q ≡ false = subst (λ (r : List (List ℕ)). same_path r q ≡ false) e h in absurd cc
+
+length_step : (b : Bool) (e : List (List ℕ) × Held) (es w : List (List (List ℕ) × Held)) (p : List (List ℕ)) → same_path e.0 p ≡ b → find es e.0 ≡ None
+    → length w + (if is_some (find es p) then 1 else 0) ≡ length es
+    → length (if not b then e ∷ w else w) + (if is_some (if b then Some e.1 else find es p) then 1 else 0) ≡ length (e ∷ es)
+length_step true e es w p is none ih =
+    let same = is_same e.0 p is in
+    let gone : find es p ≡ None = subst (λ (q : List (List ℕ)). find es q ≡ None) same none in
+    let ih' = rw gone at ih in omega (arith, ih')
+length_step false e es w p is none ih = omega (arith, ih)
+
+pub length_without : (es : List (List (List ℕ) × Held)) (p : List (List ℕ)) → Unique es
+    → length (without es p) + (if is_some (find es p) then 1 else 0) ≡ length es
+length_without [] p u = refl
+length_without (e ∷ es) p u = length_step (same_path e.0 p) e es (without es p) p refl u.0 (length_without es p u.1)
+
+unique_step : (b : Bool) (e : List (List ℕ) × Held) (es : List (List (List ℕ) × Held)) (p : List (List ℕ)) → same_path e.0 p ≡ b → find es e.0 ≡ None
+    → Unique (without es p) → Unique (if not b then e ∷ without es p else without es p)
+unique_step true e es p is none ih = ih
+unique_step false e es p is none ih = (find_without_other es p e.0 (differ e.0 p is) ∙ none, ih)
+
+pub unique_without : (es : List (List (List ℕ) × Held)) (p : List (List ℕ)) → Unique es → Unique (without es p)
+unique_without [] p u = tt
+unique_without (e ∷ es) p u = unique_step (same_path e.0 p) e es p refl u.0 (unique_without es p u.1)
+
+unique_behind : (es : List (List (List ℕ) × Held)) (p : List (List ℕ)) (h : Held) → find es p ≡ None → Unique es → Unique (es ++ (p, h) ∷ [])
+unique_behind [] p h none u = (refl, tt)
+unique_behind (e ∷ es) p h none u =
+    let n = cond_none (same_path e.0 p) e.1 (find es p) none in
+    (find_behind_other es p e.0 h (differ e.0 p n.0) ∙ u.0, unique_behind es p h n.1 u.1)
+
+-- the entries after a put
+abbrev pub replaced : List (List (List ℕ) × Held) → List (List ℕ) → Held → List (List (List ℕ) × Held)
+replaced es p h = without es p ++ (p, h) ∷ []
+
+pub unique_put : (es : List (List (List ℕ) × Held)) (p : List (List ℕ)) (h : Held) → Unique es → Unique (replaced es p h)
+unique_put es p h u = unique_behind (without es p) p h (find_without es p) (unique_without es p u)
+
+pub there_put : (es : List (List (List ℕ) × Held)) (p : List (List ℕ)) (h : Held) → find (replaced es p h) p ≡ Some h
+there_put es p h = find_behind (without es p) p h (find_without es p)
+
+pub others_put : (es : List (List (List ℕ) × Held)) (p q : List (List ℕ)) (h : Held) → q ≢ p → find (replaced es p h) q ≡ find es q
+others_put es p q h ne = find_behind_other (without es p) p q h ne ∙ find_without_other es p q ne
+
+pub length_put : (es : List (List (List ℕ) × Held)) (p : List (List ℕ)) (h : Held) → Unique es
+    → length (replaced es p h) + (if is_some (find es p) then 1 else 0) ≡ length es + 1
+length_put es p h u = omega (arith, length_without es p u, length-append (without es p) ((p, h) ∷ []))
+
+pub change_put : (old new : Listed) (now : ℕ) (p : List (List ℕ)) (h : Held) → Unique old.entries → new.entries ≡ replaced old.entries p h
+    → new.tally ≡ counted old.tally now → Changes (content_of old) now p (Some h) (content_of new)
+change_put old new now p h u es tally = record {
+  there = rw es (there_put old.entries p h);
+  others = λ q ne. rw es (others_put old.entries p q h ne);
+  paths = rw es (length_put old.entries p h u);
+  tally = tally;
+}
+
+-- the path's entry taken out is a change to nothing
+pub change_out : (old new : Listed) (now : ℕ) (p : List (List ℕ)) → Unique old.entries → new.entries ≡ without old.entries p
+    → new.tally ≡ counted old.tally now → Changes (content_of old) now p None (content_of new)
+change_out old new now p u es tally = record {
+  there = rw es (find_without old.entries p);
+  others = λ q ne. rw es (find_without_other old.entries p q ne);
+  paths = rw es (omega (arith, length_without old.entries p u));
+  tally = tally;
+}
+
+some_same : (h k : Held) → Some h ≡ Some k → h ≡ k
+some_same h k e = cc
+
+-- what was found at a path is what the store holds there
+pub found_is : {A : Type 0} (es fs : List (Entry A)) (old : Listed) (t : Tally) (p : List (List ℕ)) (h k : Held)
+    → Some h ≡ find (kept fs) p → fs ≡ es → record { entries = kept es; tally = t } ≡ old → find old.entries p ≡ Some k → h ≡ k
+found_is es fs old t p h k found same view is =
+    some_same h k (found ∙ ap (λ xs. find (kept xs) p) same ∙ ap (λ (s : Listed). find s.entries p) view ∙ is)
+
+-- a longer body in place of what the path holds
+pub change_append : (old new : Listed) (now : ℕ) (p : List (List ℕ)) (version : ℕ) (was held : Held) (body more : List ℕ) → Unique old.entries
+    → new.entries ≡ replaced old.entries p (record { version = version; format = was.format; body = body }) → body ≡ was.body ++ more
+    → was ≡ held → new.tally ≡ counted old.tally now
+    → Changes (content_of old) now p (Some (record { version = version; format = held.format; body = held.body ++ more })) (content_of new)
+change_append old new now p version was held body more u es joined same tally =
+    rw (← same, ← joined) (change_put old new now p (record { version = version; format = was.format; body = body }) u es tally)

@@ -1,0 +1,36 @@
+-- A list of entries as a map from paths, with at most one entry for a path.
+use Rattle.std.specs.Prelude.{◌≡◌, ℕ, not, List, [], ◌∷◌, length, map, Option, Some, None, if◌then◌else◌}
+use Rattle.std.specs.List.{filter}
+use Rattle.coap_types.specs.Path.{same_path}
+use Rattle.coap_resource.specs.declared.entry.Entry.{Entry}
+use Rattle.coap_resource.specs.declared.tally.Tally.{Tally}
+use Rattle.coap_resource.specs.Content.{Held, Content}
+use Rattle.coap_resource.specs.Shown.{held_of}
+
+abbrev pub entry_of : {A : Type 0} → Entry A → List (List ℕ) × Held
+entry_of e = (e.path, held_of e.held)
+
+abbrev pub kept : {A : Type 0} → List (Entry A) → List (List (List ℕ) × Held)
+kept {A} es = map (λ (e : Entry A). entry_of e) es
+
+-- what the entries hold at a path
+abbrev pub find : List (List (List ℕ) × Held) → List (List ℕ) → Option Held
+find [] path = None
+find (e ∷ es) path = if same_path e.0 path then Some e.1 else find es path
+
+-- the entries of the other paths
+abbrev pub without : List (List (List ℕ) × Held) → List (List ℕ) → List (List (List ℕ) × Held)
+without es path = filter (λ e. not (same_path e.0 path)) es
+
+-- no path has two entries
+abbrev pub Unique : List (List (List ℕ) × Held) → Type 0
+Unique [] = Unit {0}
+Unique (e ∷ es) = (find es e.0 ≡ None) × Unique es
+
+-- a store that is a list of entries
+pub record Listed : Type 0 where
+  pub entries : List (List (List ℕ) × Held)
+  pub tally : Tally
+
+abbrev pub content_of : Listed → Content
+content_of s = record { holds = find s.entries; paths = length s.entries; tally = s.tally }

@@ -1,0 +1,32 @@
+-- How often a store changes: moments fall into windows of 256 s, and a window takes so many changes (RFC 7641, section 4.4).
+use Rattle.std.specs.Prelude.{ℕ, ◌+◌, ◌/◌, ◌==◌, max, nat_le, Option, Some, None, if◌then◌else◌}
+use Rattle.coap_resource.specs.declared.refusal.StoreRefusal.{StoreRefusal}
+use Rattle.coap_resource.specs.declared.refusal.StoreRefusal.TheVariants.{RateExceeded, VersionsSpent}
+use Rattle.coap_resource.specs.declared.tally.Tally.{Tally}
+
+-- no change yet, and no moment
+abbrev pub unused : ℕ → Tally
+unused limit = record { version = 0; clock = 0; limit = limit; changes = 0 }
+
+-- the window of a moment, by its number
+abbrev pub window : ℕ → ℕ
+window moment = moment / 256000
+
+-- the changes in the window of a moment; a moment before the last one counts as the last one
+abbrev pub used : Tally → ℕ → ℕ
+used t now = if window (max t.clock now) == window t.clock then t.changes else 0
+
+-- why there is no further change: the window is full, or the version is the greatest of 64 bits
+abbrev pub rate_refusal : Tally → ℕ → Option StoreRefusal
+rate_refusal t now =
+    if nat_le t.limit (used t now) then Some RateExceeded
+    else if t.version == 18446744073709551615 then Some VersionsSpent
+    else None
+
+-- a moment that counts, and changes nothing
+abbrev pub waited : Tally → ℕ → Tally
+waited t now = record t { clock = max t.clock now; changes = used t now }
+
+-- a change at a moment
+abbrev pub counted : Tally → ℕ → Tally
+counted t now = record t { version = t.version + 1; clock = max t.clock now; changes = used t now + 1 }

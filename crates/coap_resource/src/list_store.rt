@@ -1,0 +1,175 @@
+ghost use Rattle.std.specs.Prelude.{◌≡◌, ◌<◌, ◌++◌, None, Some, IfOk, length};
+ghost use Rattle.coap_resource.specs.Content.{append_refusal, put_refusal};
+ghost use Rattle.coap_resource.specs.Entries.{content_of};
+ghost use Rattle.coap_resource.specs.Rate.{rate_refusal, used};
+ghost use Rattle.coap_resource.specs.Shown.{held_of};
+
+use crate::entries::{find, put_in, take_out};
+use crate::entry::Entry;
+use crate::refusal::StoreRefusal;
+use crate::representation::Representation;
+use crate::store::{MAX_BODY_LEN, MAX_PATHS, Store};
+use crate::tally::{MAX_CHANGES_PER_WINDOW, Tally};
+use bytes::Bytes;
+use coap_types::Path;
+use std::alloc::{AllocError, Allocator, Global};
+use std::marker::Model;
+
+/// A store that looks through a list of entries.
+#[derive(Drop)]
+pub struct ListStore<A: Allocator = Global> {
+    entries: Vec<Entry<A>, A>,
+    tally: Tally,
+}
+
+impl<A: Allocator> Model for ListStore<A> {
+    ghost use Rattle.coap_resource.specs.Entries.{Listed, Unique, kept};
+
+    ghost Value = { Listed };
+
+    ghost view = { λ s. record { entries = kept s.entries.items; tally = s.tally } };
+
+    ghost invariant = { λ s. Unique (kept s.entries.items) };
+}
+
+impl<A: Allocator + Copy> ListStore<A> {
+    // Why the path can't be given a body of this length.
+    fn put_refusal(&self, now: u64, path: &Path<A>, len: usize) -> Option<StoreRefusal>
+        ensures refusal { result ≡ put_refusal (content_of self.now) now path.now len }
+        ensures rate { result ≡ None → rate_refusal self.now.tally now ≡ None }
+        ensures room { result ≡ None → used self.now.tally now < self.now.tally.limit }
+        ensures next { result ≡ None → self.now.tally.version < u64.MAX }
+    {
+        if len > MAX_BODY_LEN {
+            return Some(StoreRefusal::TooLarge);
+        }
+        if find(&self.entries, path).is_none() && self.entries.len() >= MAX_PATHS {
+            return Some(StoreRefusal::TooManyPaths);
+        }
+        self.tally.refusal(now)
+    }
+
+    // Why so many bytes can't be joined to what a path holds.
+    fn append_refusal(&self, now: u64, held: &Representation<A>, len: usize) -> Option<StoreRefusal>
+        ensures refusal { result ≡ append_refusal (content_of self.now) now (held_of held.now) len }
+        ensures rate { result ≡ None → rate_refusal self.now.tally now ≡ None }
+        ensures room { result ≡ None → used self.now.tally now < self.now.tally.limit }
+        ensures next { result ≡ None → self.now.tally.version < u64.MAX }
+    {
+        if held.body.len().saturating_add(len) > MAX_BODY_LEN {
+            return Some(StoreRefusal::TooLarge);
+        }
+        self.tally.refusal(now)
+    }
+}
+
+// The bytes of both, one after the other.
+fn joined<A: Allocator + Copy>(alloc: A, front: &[u8], back: &[u8]) -> Result<Bytes<A>, AllocError>
+    ensures { IfOk result (λ body. body ≡ front.now ++ back.now) }
+{
+    let mut body = Vec::from_slice(alloc, front)?;
+    body.extend_from_slice(back)?;
+    Ok(Bytes::from_vec(body)?)
+}
+
+impl<A: Allocator + Copy> Store<A> for ListStore<A> {
+    ghost content = { λ s. content_of s };
+
+    fn new(alloc: A, changes_per_window: u32) -> Option<Self> {
+        if changes_per_window < 1 || changes_per_window > MAX_CHANGES_PER_WINDOW {
+            return None;
+        }
+        let tally = Tally {
+            version: 0,
+            clock: 0,
+            limit: changes_per_window,
+            changes: 0,
+        };
+        Some(ListStore {
+            entries: Vec::new(alloc),
+            tally,
+        })
+    }
+
+    fn get(&self, path: &Path<A>) -> Option<&Representation<A>> {
+        find(&self.entries, path)
+    }
+
+    fn version(&self) -> u64 {
+        self.tally.version
+    }
+
+    fn put(
+        &mut self,
+        now: u64,
+        path: &Path<A>,
+        format: Option<u16>,
+        body: &[u8],
+    ) -> Result<u64, StoreRefusal> {
+        if let Some(why) = self.put_refusal(now, path, body.len()) {
+            self.tally = self.tally.waited(now);
+            return Err(why);
+        }
+        let tally = self.tally.counted(now);
+        let version = tally.version;
+        let alloc = *self.entries.allocator();
+        let body = Bytes::copy_from_slice(alloc, body)?;
+        put_in(
+            &mut self.entries,
+            path,
+            Representation {
+                version,
+                format,
+                body,
+            },
+        )?;
+        self.tally = tally;
+        Ok(version)
+    }
+
+    fn append(
+        &mut self,
+        now: u64,
+        path: &Path<A>,
+        body: &[u8],
+    ) -> Result<Option<u64>, StoreRefusal> {
+        let Some(held) = find(&self.entries, path) else {
+            self.tally = self.tally.waited(now);
+            return Ok(None);
+        };
+        if let Some(why) = self.append_refusal(now, held, body.len()) {
+            self.tally = self.tally.waited(now);
+            return Err(why);
+        }
+        let tally = self.tally.counted(now);
+        let version = tally.version;
+        let format = held.format;
+        let body = joined(*self.entries.allocator(), &held.body, body)?;
+        put_in(
+            &mut self.entries,
+            path,
+            Representation {
+                version,
+                format,
+                body,
+            },
+        )?;
+        self.tally = tally;
+        Ok(Some(version))
+    }
+
+    fn delete(&mut self, now: u64, path: &Path<A>) -> Result<Option<u64>, StoreRefusal> {
+        if find(&self.entries, path).is_none() {
+            self.tally = self.tally.waited(now);
+            return Ok(None);
+        }
+        if let Some(why) = self.tally.refusal(now) {
+            self.tally = self.tally.waited(now);
+            return Err(why);
+        }
+        let tally = self.tally.counted(now);
+        take_out(&mut self.entries, path);
+        self.tally = tally;
+        Ok(Some(tally.version))
+    }
+}

@@ -1,0 +1,42 @@
+ghost use Rattle.std.specs.Prelude.{◌≡◌};
+ghost use Rattle.coap_resource.specs.declared.refusal.StoreRefusal.TheVariants.{Memory};
+
+use std::alloc::{AllocError, AllocFailed};
+use thiserror::Error;
+
+/// Why a store does not make a change. Where several hold, the first is answered, and `Memory` only
+/// where none of the others does.
+#[derive(Clone, Copy, Debug, PartialEq, Eq, Error)]
+pub enum StoreRefusal {
+    /// An allocation was refused.
+    #[error("out of memory")]
+    Memory,
+    /// The body would have over `MAX_BODY_LEN` bytes.
+    #[error("the body has over 65,536 bytes")]
+    TooLarge,
+    /// `MAX_PATHS` other paths hold something.
+    #[error("256 other paths hold something")]
+    TooManyPaths,
+    /// The window of the moment has no change left.
+    #[error("the window has no change left")]
+    RateExceeded,
+    /// The last change had the greatest version.
+    #[error("the versions are spent")]
+    VersionsSpent,
+}
+
+impl From<AllocError> for StoreRefusal {
+    ghost from_gives = { λ _ e. e ≡ Memory };
+
+    fn from(_: AllocError) -> Self {
+        StoreRefusal::Memory
+    }
+}
+
+impl<T: Drop> From<AllocFailed<T>> for StoreRefusal {
+    ghost from_gives = { λ _ e. e ≡ Memory };
+
+    fn from(_: AllocFailed<T>) -> Self {
+        StoreRefusal::Memory
+    }
+}

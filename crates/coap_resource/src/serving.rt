@@ -1,0 +1,185 @@
+ghost use Rattle.std.specs.Prelude.{◌≡◌, ◌≢◌, ◌≤◌, IfOk, OnErr, OnOk, length, take, drop};
+ghost use Rattle.coap_types.specs.CoapOption.{options_of};
+ghost use Rattle.coap_resource.specs.Content.{append_refusal, put_refusal};
+ghost use Rattle.coap_resource.specs.Rate.{rate_refusal};
+ghost use Rattle.coap_resource.specs.RequestOptions.{block_of};
+ghost use Rattle.coap_resource.specs.Serves.{DeleteBy, PostBy, PutBy, Serves, asked_offset, content_reply, got, question_of, refusal_code, reply_of};
+ghost use Rattle.coap_resource.specs.Shown.{held_of};
+ghost use Rattle.coap_resource.specs.declared.refusal.StoreRefusal.TheVariants.{Memory};
+
+use crate::asking::Asking;
+use crate::refusal::StoreRefusal;
+use crate::representation::Representation;
+use crate::request_options::{
+    Wanted, accepts, etag_names, format_of, precondition_fails, wanted_block,
+};
+use crate::response::{Response, bare};
+use crate::store::Store;
+use bytes::Bytes;
+use coap_types::{Code, Method, Tag};
+use std::alloc::{AllocError, Allocator};
+
+// The code of a response to what the store refuses.
+fn refusal_code(why: StoreRefusal) -> Result<Code, AllocError>
+    ensures code { IfOk result (λ code. code.0 ≡ refusal_code why) }
+    ensures memory { OnErr result (why ≡ Memory) }
+    ensures others { OnOk result (why ≢ Memory) }
+{
+    match why {
+        StoreRefusal::Memory => Err(AllocError),
+        StoreRefusal::TooLarge => Ok(Code::REQUEST_ENTITY_TOO_LARGE),
+        StoreRefusal::TooManyPaths | StoreRefusal::RateExceeded | StoreRefusal::VersionsSpent => {
+            Ok(Code::SERVICE_UNAVAILABLE)
+        }
+    }
+}
+
+// The bytes of a body from this place on, at most so many, shared with it.
+fn block_at<A: Allocator + Copy>(
+    body: &Bytes<A>,
+    start: usize,
+    size: usize,
+) -> Result<Bytes<A>, AllocError>
+    requires { start ≤ length body.now }
+    ensures { IfOk result (λ part. part ≡ take size (drop start body.now)) }
+{
+    if body.len() - start > size {
+        body.slice(start..start + size)
+    } else {
+        body.slice(start..)
+    }
+}
+
+// 2.05 with a block of a representation.
+fn content<A: Allocator + Copy>(
+    held: &Representation<A>,
+    wanted: Wanted,
+) -> Result<Response<A>, AllocError>
+    requires { wanted.offset ≤ length held.now.body }
+    ensures { IfOk result (λ r. reply_of r ≡ content_reply (held_of held.now) wanted.by_block wanted.offset wanted.szx) }
+{
+    let size = wanted.szx.size();
+    let start = wanted.offset as usize;
+    let part = block_at(&held.body, start, size)?;
+    let more = held.body.len() - start > size;
+    let by_block = wanted.by_block || held.body.len() > size;
+    Ok(Response {
+        code: Code::CONTENT,
+        tag: Tag::new(&held.version.to_be_bytes()),
+        format: held.format,
+        block2: if by_block {
+            Some((wanted.offset / size as u32, more, wanted.szx))
+        } else {
+            None
+        },
+        part,
+        offset: wanted.offset,
+    })
+}
+
+// A GET.
+fn serve_get<A: Allocator + Copy, S: Store<A>>(
+    store: &S,
+    asking: &Asking<'_, A>,
+) -> Result<Response<A>, AllocError>
+    ensures { IfOk result (λ r. reply_of r ≡ got ((S.content store.now).holds asking.now.path.now) (question_of asking.now)) }
+{
+    let wanted = wanted_block(asking.options, asking.szx);
+    let Some(held) = store.get(asking.path) else {
+        return Ok(bare(Code::NOT_FOUND, wanted.offset));
+    };
+    if !accepts(asking.options, held.format) {
+        return Ok(bare(Code::NOT_ACCEPTABLE, wanted.offset));
+    }
+    if etag_names(asking.options, held.version) {
+        let tag = Tag::new(&held.version.to_be_bytes());
+        return Ok(Response {
+            tag,
+            ..bare(Code::VALID, wanted.offset)
+        });
+    }
+    if wanted.offset > 0 && wanted.offset as usize >= held.body.len() {
+        return Ok(bare(Code::BAD_REQUEST, wanted.offset));
+    }
+    content(held, wanted)
+}
+
+// A POST.
+fn serve_post<A: Allocator + Copy, S: Store<A>>(
+    store: &mut S,
+    now: u64,
+    asking: &Asking<'_, A>,
+) -> Result<Response<A>, AllocError>
+    ensures served { IfOk result (λ r. PostBy ((S.content store.old).holds asking.now.path.now) (S.content store.old) now (question_of asking.now) (reply_of r) (S.content store.new)) }
+    ensures err { OnErr result (store.new ≡ store.old) }
+{
+    match store.append(now, asking.path, asking.body) {
+        Ok(Some(_)) => Ok(bare(Code::CHANGED, 0)),
+        Ok(None) => Ok(bare(Code::NOT_FOUND, 0)),
+        Err(why) => Ok(bare(refusal_code(why)?, 0)),
+    }
+}
+
+// A PUT.
+fn serve_put<A: Allocator + Copy, S: Store<A>>(
+    store: &mut S,
+    now: u64,
+    asking: &Asking<'_, A>,
+) -> Result<Response<A>, AllocError>
+    ensures served { IfOk result (λ r. PutBy (put_refusal (S.content store.old) now asking.now.path.now (length asking.now.body.now)) (S.content store.old) now (question_of asking.now) (reply_of r) (S.content store.new)) }
+    ensures err { OnErr result (store.new ≡ store.old) }
+{
+    let was_there = store.get(asking.path).is_some();
+    let format = format_of(asking.options);
+    match store.put(now, asking.path, format, asking.body) {
+        Ok(_) => Ok(bare(
+            if was_there {
+                Code::CHANGED
+            } else {
+                Code::CREATED
+            },
+            0,
+        )),
+        Err(why) => Ok(bare(refusal_code(why)?, 0)),
+    }
+}
+
+// A DELETE.
+fn serve_delete<A: Allocator + Copy, S: Store<A>>(
+    store: &mut S,
+    now: u64,
+    asking: &Asking<'_, A>,
+) -> Result<Response<A>, AllocError>
+    ensures served { IfOk result (λ r. DeleteBy ((S.content store.old).holds asking.now.path.now) (S.content store.old) now (question_of asking.now) (reply_of r) (S.content store.new)) }
+    ensures err { OnErr result (store.new ≡ store.old) }
+{
+    match store.delete(now, asking.path) {
+        Ok(_) => Ok(bare(Code::DELETED, 0)),
+        Err(why) => Ok(bare(refusal_code(why)?, 0)),
+    }
+}
+
+/// Serves a request: its preconditions (RFC 7252, section 5.10.8), and then its method (section
+/// 5.8). After an `Err` the store is as before.
+pub fn serve<A: Allocator + Copy, S: Store<A>>(
+    store: &mut S,
+    now: u64,
+    asking: &Asking<'_, A>,
+) -> Result<Response<A>, AllocError>
+    ensures served { IfOk result (λ r. Serves (S.content store.old) now (question_of asking.now) (reply_of r) (S.content store.new)) }
+    ensures err { OnErr result (store.new ≡ store.old) }
+{
+    if precondition_fails(store.get(asking.path), asking.options) {
+        let offset = match asking.method {
+            Method::Get => wanted_block(asking.options, asking.szx).offset,
+            Method::Post | Method::Put | Method::Delete => 0,
+        };
+        return Ok(bare(Code::PRECONDITION_FAILED, offset));
+    }
+    match asking.method {
+        Method::Get => serve_get(store, asking),
+        Method::Post => serve_post(store, now, asking),
+        Method::Put => serve_put(store, now, asking),
+        Method::Delete => serve_delete(store, now, asking),
+    }
+}

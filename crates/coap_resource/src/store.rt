@@ -1,0 +1,95 @@
+ghost use Rattle.std.specs.Prelude.{◌≡◌, ◌≤◌, ◌↔◌, ◌+◌, ◌++◌, Option, None, Some, List, ℕ, IfOk, IfErr, IfSome, IsSome, length, option_copied};
+ghost use Rattle.coap_resource.specs.Content.{Changes, Content, Held, append_refusal, nothing, put_refusal, unchanged};
+ghost use Rattle.coap_resource.specs.Rate.{rate_refusal};
+ghost use Rattle.coap_resource.specs.declared.refusal.StoreRefusal.{StoreRefusal};
+ghost use Rattle.coap_resource.specs.declared.refusal.StoreRefusal.TheVariants.{Memory};
+ghost use Rattle.coap_resource.specs.Shown.{shown};
+
+use crate::refusal::StoreRefusal;
+use crate::representation::Representation;
+use coap_types::Path;
+use std::alloc::Allocator;
+
+/// The most bytes of a body (profile: RFC 7252 sets no bound).
+pub const MAX_BODY_LEN: usize = 65_536;
+/// The most paths that hold something (profile).
+pub const MAX_PATHS: usize = 256;
+
+const _: () = prove!(MAX_BODY_LEN == 65_536 && MAX_PATHS == 256);
+
+/// The resources of a server: what each path holds (RFC 7252, section 5.8).
+///
+/// Each change has a version, one more than the change before it; the first is 1. A moment is in
+/// milliseconds, and one before the last that was handed in counts as that. A refusal changes
+/// nothing: only its moment has counted, and after `Memory` not even that.
+pub trait Store<A: Allocator + Copy>: Drop {
+    /// What it holds.
+    ghost content: { Self → Content };
+
+    /// A store that holds nothing, where a window of 256 s is to take 1 to `MAX_CHANGES_PER_WINDOW`
+    /// changes.
+    fn new(alloc: A, changes_per_window: u32) -> Option<Self>
+    where
+        Self: Sized,
+        ensures empty { IfSome result (λ store. content store ≡ nothing changes_per_window) }
+        ensures when { IsSome result ↔ ((1 ≤ changes_per_window) × (changes_per_window ≤ 4194303)) };
+
+    /// What the path holds.
+    fn get(&self, path: &Path<A>) -> Option<&Representation<A>>
+        ensures { shown (option_copied result) ≡ (content self.now).holds path.now };
+
+    /// The version of the last change, 0 before the first.
+    fn version(&self) -> u64
+        ensures { result ≡ (content self.now).tally.version };
+
+    /// Puts a body in place of what the path holds, and answers its version.
+    fn put(
+        &mut self,
+        now: u64,
+        path: &Path<A>,
+        format: Option<u16>,
+        body: &[u8],
+    ) -> Result<u64, StoreRefusal>
+        ensures refused { (why : StoreRefusal) → put_refusal (content self.old) now path.now (length body.now) ≡ Some why
+            → (result ≡ Err why) × (content self.new ≡ unchanged (content self.old) now) }
+        ensures taken { put_refusal (content self.old) now path.now (length body.now) ≡ None → IfErr result (λ why. why ≡ Memory) }
+        ensures room { IfOk result (λ version. rate_refusal (content self.old).tally now ≡ None) }
+        ensures version { IfOk result (λ version. version ≡ (content self.old).tally.version + 1) }
+        ensures change { IfOk result (λ version.
+            Changes (content self.old) now path.now (Some (record { version = version; format = format; body = body.now })) (content self.new)) }
+        ensures memory { result ≡ Err Memory → self.new ≡ self.old };
+
+    /// Joins a body to the end of what the path holds, and answers the version; None where the path
+    /// holds nothing.
+    fn append(&mut self, now: u64, path: &Path<A>, body: &[u8]) -> Result<Option<u64>, StoreRefusal>
+        ensures absent { (content self.old).holds path.now ≡ None
+            → (result ≡ Ok None) × (content self.new ≡ unchanged (content self.old) now) }
+        ensures refused { (held : Held) (why : StoreRefusal) → (content self.old).holds path.now ≡ Some held
+            → append_refusal (content self.old) now held (length body.now) ≡ Some why
+            → (result ≡ Err why) × (content self.new ≡ unchanged (content self.old) now) }
+        ensures taken { (held : Held) → (content self.old).holds path.now ≡ Some held
+            → append_refusal (content self.old) now held (length body.now) ≡ None
+            → IfErr result (λ why. why ≡ Memory) × IfOk result IsSome }
+        ensures room { IfOk result (λ done. IfSome done (λ version. rate_refusal (content self.old).tally now ≡ None)) }
+        ensures version { IfOk result (λ done. IfSome done (λ version. version ≡ (content self.old).tally.version + 1)) }
+        ensures change { IfOk result (λ done. IfSome done (λ version.
+            (held : Held) → (content self.old).holds path.now ≡ Some held
+            → Changes (content self.old) now path.now
+            (Some (record { version = version; format = held.format; body = held.body ++ body.now })) (content self.new))) }
+        ensures memory { result ≡ Err Memory → self.new ≡ self.old };
+
+    /// Takes away what the path holds, and answers the version; None where the path holds nothing.
+    /// It takes no memory.
+    fn delete(&mut self, now: u64, path: &Path<A>) -> Result<Option<u64>, StoreRefusal>
+        ensures absent { (content self.old).holds path.now ≡ None
+            → (result ≡ Ok None) × (content self.new ≡ unchanged (content self.old) now) }
+        ensures refused { (held : Held) (why : StoreRefusal) → (content self.old).holds path.now ≡ Some held
+            → rate_refusal (content self.old).tally now ≡ Some why
+            → (result ≡ Err why) × (content self.new ≡ unchanged (content self.old) now) }
+        ensures taken { (held : Held) → (content self.old).holds path.now ≡ Some held
+            → rate_refusal (content self.old).tally now ≡ None
+            → result ≡ Ok (Some ((content self.old).tally.version + 1)) }
+        ensures room { IfOk result (λ done. IfSome done (λ version. rate_refusal (content self.old).tally now ≡ None)) }
+        ensures change { IfOk result (λ done. IfSome done (λ version.
+            Changes (content self.old) now path.now None (content self.new))) };
+}
