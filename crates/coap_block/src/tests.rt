@@ -1,5 +1,25 @@
-use crate::{Block, MAX_NUM, block_law, body_law, fetch_law, upload_law};
-use coap_types::Szx;
+use crate::{
+    Block, Fetch, MAX_NUM, Step, Upload, block_law, body_law, fetch_law, slice, upload_law,
+};
+use bytes::Bytes;
+use coap_types::{Szx, Tag};
+use std::alloc::{AllocError, Global};
+
+/// A body of which no two neighbouring bytes are equal.
+fn body_of(alloc: Global, len: usize) -> Result<Vec<u8>, AllocError> {
+    let mut body = Vec::new(alloc);
+    let mut byte: u8 = 0;
+    for _ in 0..len {
+        body.push(byte)?;
+        byte = byte.wrapping_add(7);
+    }
+    Ok(body)
+}
+
+/// The bytes from one place to another, none where the body ends before.
+fn part(body: &[u8], from: usize, to: usize) -> &[u8] {
+    body.get(from..to).unwrap_or(&[])
+}
 
 #[test]
 fn a_block_option_is_read(rt: HostRuntime) {
@@ -47,4 +67,62 @@ fn a_block_option_is_written(rt: HostRuntime) {
         .write()
         .is_none()
     );
+}
+
+#[test]
+fn a_slice_is_a_block_of_the_body(rt: HostRuntime) -> Result<(), AllocError> {
+    let body = body_of(rt.alloc(), 40)?;
+    let cases: [(u8, Option<(usize, usize)>); 4] = [
+        (0x00, Some((0, 16))),
+        (0x20, Some((32, 40))),
+        (0x30, None),
+        (0x01, Some((0, 32))),
+    ];
+    for (value, place) in cases {
+        let block = Block::read(&[value]).expect(&rt, "no SZX 7");
+        match (place, slice(&body, block)) {
+            (Some((from, to)), Some(block)) => assert_eq!(rt; block, part(&body, from, to)),
+            (None, None) => {}
+            _ => assert!(rt; false, "{value}"),
+        }
+    }
+    Ok(())
+}
+
+#[test]
+fn a_body_is_fetched_in_blocks(rt: HostRuntime) -> Result<(), AllocError> {
+    let body = body_of(rt.alloc(), 300)?;
+    let szx = Szx::new(3).expect(&rt, "at most 6");
+    let mut fetch = Fetch::new(rt.alloc(), szx);
+    for (value, from, to, next) in [(0x0b, 0, 128, 0x13), (0x1b, 128, 256, 0x23)] {
+        let step = fetch.accept(Block::read(&[value]), Tag::new(&[1]), part(&body, from, to))?;
+        assert!(rt;
+            matches!(&step, Step::Next(block) if Some(*block) == Block::read(&[next])),
+            "{value}"
+        );
+    }
+    let step = fetch.accept(Block::read(&[0x23]), Tag::new(&[1]), part(&body, 256, 300))?;
+    assert!(rt; matches!(&step, Step::Whole(whole) if whole.as_slice() == body.as_slice()));
+    Ok(())
+}
+
+#[test]
+fn a_body_is_sent_in_blocks(rt: HostRuntime) -> Result<(), AllocError> {
+    let body = body_of(rt.alloc(), 200)?;
+    let szx = Szx::new(3).expect(&rt, "at most 6");
+    let mut upload = Upload::new(Bytes::copy_from_slice(rt.alloc(), &body)?, szx);
+    let rows = [
+        (0x0b, 0, 128, 0x09, true),
+        (0x49, 128, 160, 0x49, true),
+        (0x59, 160, 192, 0x59, true),
+        (0x61, 192, 200, 0x61, false),
+    ];
+    for (sent, from, to, answer, goes_on) in rows {
+        let (block, payload) = upload.next();
+        assert_eq!(rt; Some(block), Block::read(&[sent]));
+        assert_eq!(rt; payload, part(&body, from, to), "{sent}");
+        let answer = Block::read(&[answer]).expect(&rt, "no SZX 7");
+        assert_eq!(rt; upload.accepted(answer), goes_on, "{sent}");
+    }
+    Ok(())
 }
