@@ -257,32 +257,33 @@ fn wrong_words(rt: HostRuntime) -> Result<(), Fail> {
     Ok(())
 }
 
+/// A GET of `t`, which holds so many bytes.
+fn check_body<R: Abort + AllocGlobal>(
+    rt: &R,
+    len: usize,
+    datagram: &str,
+    status: u8,
+    printed: &str,
+) -> Result<(), AllocError> {
+    let body = repeated(rt.alloc(), "a", len)?;
+    check_row(
+        rt,
+        &["answer", "t", body.as_str(), datagram],
+        status,
+        printed,
+    )
+}
+
 #[test]
 fn long_bodies(rt: HostRuntime) -> Result<(), Fail> {
-    let body = repeated(rt.alloc(), "a", 1_024)?;
+    let get = "40010001b174";
     let payload = repeated(rt.alloc(), "61", 1_024)?;
     let reply = format!(in rt.alloc(); "6045000148000000000000000180ff{payload}\n")?;
-    check_row(
-        &rt,
-        &["answer", "t", body.as_str(), "40010001b174"],
-        0,
-        reply.as_str(),
-    )?;
-    let cases = [
-        (1_025, "40010001b174", 1, "not yet\n"),
-        (65_536, "40010001b174", 1, "not yet\n"),
-        (65_537, "40010001b174", 1, "refused 2\n"),
-        (65_537, "4g", 2, "bad hex\n"),
-    ];
-    for (len, datagram, status, printed) in cases {
-        let body = repeated(rt.alloc(), "a", len)?;
-        check_row(
-            &rt,
-            &["answer", "t", body.as_str(), datagram],
-            status,
-            printed,
-        )?;
-    }
+    check_body(&rt, 1_024, get, 0, reply.as_str())?;
+    check_body(&rt, 1_025, get, 1, "not yet\n")?;
+    check_body(&rt, 65_536, get, 1, "not yet\n")?;
+    check_body(&rt, 65_537, get, 1, "refused 2\n")?;
+    check_body(&rt, 65_537, "4g", 2, "bad hex\n")?;
     Ok(())
 }
 
