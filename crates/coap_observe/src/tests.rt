@@ -1,12 +1,12 @@
 use crate::{HALF_RANGE, MAX_OBSERVERS, Notice, Observers, REORDERING_MS, SEQUENCE_BITS, Watch};
-use coap_types::{Endpoint, Path, Szx, Token};
+use coap_types::{Endpoint, Moment, Path, Szx, Token};
 use std::alloc::{AllocError, Global};
 
 /// A first number at moment 0, then a second one: whether the second is newer.
 fn second_is_newer(first: u32, second: u32, after: u64) -> bool {
     let mut watch = Watch::new();
-    let _first = watch.arrive(0, first);
-    watch.arrive(after, second)
+    let _first = watch.arrive(Moment(0), first);
+    watch.arrive(Moment(after), second)
 }
 
 #[test]
@@ -49,16 +49,16 @@ fn the_greater_number_is_newer_round_the_circle(rt: HostRuntime) {
 #[test]
 fn a_watch_keeps_the_last_newer_number_and_its_moment(rt: HostRuntime) {
     let mut watch = Watch::new();
-    assert!(rt; watch.arrive(1_000, 10));
+    assert!(rt; watch.arrive(Moment(1_000), 10));
     // Not newer: neither the number nor its moment is kept.
-    assert!(rt; !watch.arrive(100_000, 9));
-    assert!(rt; !watch.arrive(129_000, 10));
-    assert!(rt; watch.arrive(129_001, 9));
+    assert!(rt; !watch.arrive(Moment(100_000), 9));
+    assert!(rt; !watch.arrive(Moment(129_000), 10));
+    assert!(rt; watch.arrive(Moment(129_001), 9));
     // A moment before the last one counts as the last one, here 129,001.
-    assert!(rt; !watch.arrive(0, 9));
-    assert!(rt; watch.arrive(5, 10));
-    assert!(rt; !watch.arrive(257_001, 10));
-    assert!(rt; watch.arrive(257_002, 10));
+    assert!(rt; !watch.arrive(Moment(0), 9));
+    assert!(rt; watch.arrive(Moment(5), 10));
+    assert!(rt; !watch.arrive(Moment(257_001), 10));
+    assert!(rt; watch.arrive(Moment(257_002), 10));
     crate::newer_laws();
 }
 

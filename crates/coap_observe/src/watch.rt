@@ -2,6 +2,7 @@ ghost use Rattle.std.specs.Prelude.{◌≡◌, IsTrue, ◌↔◌, None, max};
 ghost use Rattle.coap_observe.specs.Newer.{IsNewer, arrived};
 
 use crate::sequence::{Arrival, is_newer};
+use coap_types::Moment;
 use std::marker::Model;
 
 /// The freshness of one observation, at its client (RFC 7641, section 3.4): the last sequence number
@@ -33,15 +34,15 @@ impl Watch {
         }
     }
 
-    /// Takes the sequence number of a notification that arrives at `now`, in milliseconds: whether it
-    /// is newer than the last newer one, which it then replaces (RFC 7641, section 3.4). A `now`
+    /// Takes the sequence number of a notification that arrives at `now`: whether it is
+    /// newer than the last newer one, which it then replaces (RFC 7641, section 3.4). A `now`
     /// before the last one that was handed in counts as the last one; every `now` counts, also with a
     /// number that is not newer. It takes no memory.
-    pub fn arrive(&mut self, now: u64, number: u32) -> bool
-        ensures newer { IsTrue result ↔ IsNewer self.old.mark number (max self.old.clock now) }
-        ensures left { self.new ≡ arrived self.old number (max self.old.clock now) result }
+    pub fn arrive(&mut self, now: Moment, number: u32) -> bool
+        ensures newer { IsTrue result ↔ IsNewer self.old.mark number (max self.old.clock now.0) }
+        ensures left { self.new ≡ arrived self.old number (max self.old.clock now.0) result }
     {
-        self.clock = self.clock.max(now);
+        self.clock = self.clock.max(now.0);
         let arrival = Arrival {
             number,
             at: self.clock,
