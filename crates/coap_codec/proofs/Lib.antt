@@ -11,4 +11,5 @@ pub mod RefusedLemmas
 pub mod PutLemmas
 pub mod LoopLemmas
 pub mod SpellLemmas
+pub mod SpellingLength
 pub mod StandardFacts

@@ -22,7 +22,7 @@ Ext-of n most =
       ]
     ]
 
-option_is : (base : ℕ) (option : CoapOption) → base ≤ option.number → option.number < 2 ^ 16 → length option.value ≤ 65804 → IsOption base option (option_bytes base option)
+pub option_is : (base : ℕ) (option : CoapOption) → base ≤ option.number → option.number < 2 ^ 16 → length option.value ≤ 65804 → IsOption base option (option_bytes base option)
 unfolding option_bytes
 option_is base option rises fits short = record {
   rises = rises;

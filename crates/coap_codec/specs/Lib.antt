@@ -4,6 +4,7 @@ pub mod Message
 pub mod Header
 pub mod Faulty
 pub mod Refused
+pub mod BoundedSpelling
 pub mod Laws
 pub mod Reading
 pub mod Writing

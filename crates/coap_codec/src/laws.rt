@@ -1,3 +1,4 @@
+ghost use Rattle.coap_codec.specs.BoundedSpelling.{BoundedSpelling};
 ghost use Rattle.coap_codec.specs.Laws.{EachIsRead, NotBoth, OneMessage, OneFault, OneSpelling};
 
 /// Every datagram spells exactly one message, or has exactly one fault.
@@ -11,4 +12,10 @@ pub fn one_reading()
 /// No message has two spellings.
 pub fn one_spelling()
     ensures { OneSpelling }
+{}
+
+/// A message that isn't Empty, and whose options ascend and are short, has a spelling: of at most
+/// the header, the token, 5 bytes and the value for each option, one byte and the payload.
+pub fn bounded_spelling()
+    ensures { BoundedSpelling }
 {}

@@ -21,7 +21,7 @@ pub use decoder::decode;
 pub use encoder::{Refusal, encode};
 pub use fault::{Fault, Reason};
 pub use head::Head;
-pub use laws::{one_reading, one_spelling};
+pub use laws::{bounded_spelling, one_reading, one_spelling};
 pub use view::{Options, View};
 
 #[cfg(test)]

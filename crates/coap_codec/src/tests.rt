@@ -349,4 +349,5 @@ fn reasons_and_refusals_are_printed_by_name(rt: HostRuntime) -> Result<(), Fail>
 fn laws(_rt: HostRuntime) {
     one_reading();
     one_spelling();
+    bounded_spelling();
 }

@@ -14,10 +14,10 @@ use Rattle.coap_layer.proofs.ListLemmas.{le_true, true_le, and_left, filter_impl
 use Rattle.coap_layer.proofs.DedupLemmas.{same_live}
 use Rattle.coap_layer.proofs.RowLemmas.{IsMoment, row_of}
 
-live_before : (now later : ℕ) (a : Arrived) → now ≤ later → is_live later a ≡ true → is_live now a ≡ true
+pub live_before : (now later : ℕ) (a : Arrived) → now ≤ later → is_live later a ≡ true → is_live now a ≡ true
 live_before now later a le h = true_le now (a.at + 247000) (let k = le_true later (a.at + 247000) h in omega (arith, k, le))
 
-of_live : (now : ℕ) (from : Endpoint) (id : ℕ) (a : Arrived) → is_of now from id a ≡ true → is_live now a ≡ true
+pub of_live : (now : ℕ) (from : Endpoint) (id : ℕ) (a : Arrived) → is_of now from id a ≡ true → is_live now a ≡ true
 of_live now from id a h = and_left (is_live now a) _ h
 
 reply_step : (now : ℕ) (from : Endpoint) (id : ℕ) (a : Arrived) (es : List Arrived) (r : Option (List ℕ)) (b c : Bool) → (c ≡ true → b ≡ true) → is_of now from id a ≡ c
@@ -166,7 +166,7 @@ led_step word t old new now call answer led step =
       kept = step.new_is ∙ (ap (λ s. forgotten (after s (made s now call))) led.kept ∙ same_after (history word t) (made (forgotten (history word t)) now call) (after_clock (history word t) now call));
     })
 
-same_made : (h : State) (now : ℕ) (call : Call) → made (forgotten h) now call ≡ made h now call
+pub same_made : (h : State) (now : ℕ) (call : Call) → made (forgotten h) now call ≡ made h now call
 same_made h now call =
     let at : ℕ = moment (forgotten h) now call in
     let le : h.clock ≤ at = after_clock h now call in

@@ -2,6 +2,7 @@
 use Rattle.std.proofs.Common.{◌≡◌, ◌≢◌, ℕ, ◌+◌, ◌/◌, ◌%◌, ◌<◌, ◌==◌, max, Option, Some, None, Bool, true, false, List, [], ◌∷◌, length, refl, ap, sym, ◌∙◌, subst, arith, cond, slice_get, slice_set, zero, suc}
 use Rattle.std.proofs.lemmas.Bool.Decides.{nat_tests}
 use Rattle.std.proofs.lemmas.Option.{slice_get_within}
+use Rattle.coap_types.specs.declared.message.Id.{Id}
 use Rattle.coap_layer.specs.Ids.{Given, last_use, MayGive, Withholds, IdEntry, clock, numbers, IdRow, IsFree}
 use Rattle.coap_layer.specs.IdState.{IdState, AreUses, Led, next_entry, free_entry}
 
@@ -60,3 +61,10 @@ next_led word t s now small led may = record {
         (uses_more (numbers t) s.last_used (record { at = max (clock t) now; id = s.upcoming }) small led.kept.last_used);
   };
 }
+
+-- the same, by what a number's giving leaves
+pub gave_led : (word : ℕ) (t : List IdEntry) (s new : IdState) (now at : ℕ) (id : Id) → at ≡ max s.clock now → s.upcoming < 65536 → Led word t s → MayGive word (numbers t) at
+    → id.0 ≡ s.upcoming → new ≡ record { clock = at; upcoming = (s.upcoming + 1) % 65536; last_used = slice_set s.last_used (s.upcoming / 4096) (Some at) }
+    → Led word (next_entry t now (Some id) ∷ t) new
+gave_led word t s new now at id moment small led may is new_is =
+    rw (new_is, moment, is) (next_led word t s now small led (subst (λ (x : ℕ). MayGive word (numbers t) x) moment may))

@@ -14,3 +14,14 @@ pub mod StepsLemmas
 pub mod EndsLemmas
 pub mod Witness
 pub mod SendingLemmas
+pub mod OutstandingLemmas
+pub mod SpellingLemmas
+pub mod ArrivingLemmas
+pub mod EntryLemmas
+pub mod TakingLemmas
+pub mod ReceiveLemmas
+pub mod CallLemmas
+pub mod PlaceLemmas
+pub mod StoredLemmas
+pub mod SendLemmas
+pub mod SendableLemmas

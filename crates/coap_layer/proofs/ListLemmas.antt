@@ -1,7 +1,7 @@
 -- Tests over lists.
-use Rattle.std.proofs.Common.{◌≡◌, inl, inr, ℕ, ◌+◌, ◌<◌, ◌≤◌, ◌==◌, nat_le, nat_lt, Bool, true, false, List, [], ◌∷◌, ◌++◌, length, filter, map, refl, ap, arith, ◌&&◌, ◌||◌, cond}
+use Rattle.std.proofs.Common.{◌≡◌, inl, inr, ℕ, ◌+◌, ◌<◌, ◌≤◌, ◌==◌, nat_le, nat_lt, Bool, true, false, Option, Some, List, [], ◌∷◌, ◌++◌, length, filter, map, refl, ap, arith, ◌&&◌, ◌||◌, cond}
 use Rattle.std.proofs.lemmas.Bool.Decides.{nat_tests}
-use Rattle.std.specs.List.{list_any}
+use Rattle.std.specs.List.{list_any, filter_map}
 use Rattle.coap_types.specs.Past.{Ever}
 
 pub le_true : (a b : ℕ) → nat_le a b ≡ true → a ≤ b
@@ -129,3 +129,15 @@ length_map f (x ∷ xs) = let h = length_map f xs in cc h
 pub length_append : {A : Type 0} (xs ys : List A) → length (xs ++ ys) ≡ length xs + length ys
 length_append {A = A} [] ys = omega arith
 length_append {A = A} (x ∷ xs) ys = let h = length_append xs ys in omega (arith, h)
+
+pub map_same : {A : Type 0} (f : A → A) → ((x : A) → f x ≡ x) → (xs : List A) → map f xs ≡ xs
+map_same f same [] = refl
+map_same f same (x ∷ xs) = let h = same x in let k = map_same f same xs in cc (h, k)
+
+pub filter_map_same : {A B : Type 0} (f g : A → Option B) → ((x : A) → f x ≡ g x) → (xs : List A) → filter_map f xs ≡ filter_map g xs
+filter_map_same f g same [] = refl
+filter_map_same f g same (x ∷ xs) = let h = same x in let k = filter_map_same f g same xs in cc (h, k)
+
+pub filter_map_all : {A : Type 0} (xs : List A) → filter_map (λ (x : A). Some x) xs ≡ xs
+filter_map_all [] = refl
+filter_map_all (x ∷ xs) = ap (λ ys. x ∷ ys) (filter_map_all xs)

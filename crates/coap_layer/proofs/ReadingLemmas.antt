@@ -10,7 +10,7 @@ use Rattle.coap_codec.proofs.ReadLemmas.{message_reads, message_faults}
 use Rattle.coap_codec.proofs.ReadAgain.{spelled_again, faulty_again}
 use Rattle.coap_layer.specs.Arrivals.{Arrival, Unreadable, Faulted, Whole, by_head, Shows, arrival_of, arrival_at}
 
-faulty_shows : (bytes : List ℕ) (reason : Reason) (at : ℕ) → Faulty bytes reason at → (o : Option (Kind × Id)) → head_of reason bytes ≡ o → Shows bytes (by_head o)
+pub faulty_shows : (bytes : List ℕ) (reason : Reason) (at : ℕ) → Faulty bytes reason at → (o : Option (Kind × Id)) → head_of reason bytes ≡ o → Shows bytes (by_head o)
 faulty_shows bytes reason at f None h = (reason, at, f, sym (ap by_head h))
 faulty_shows bytes reason at f (Some head) h = (reason, at, f, sym (ap by_head h))
 

@@ -13,3 +13,9 @@ pub mod Sendings
 pub mod Verdicts
 pub mod Entries
 pub mod IdStep
+pub mod Sendable
+pub mod Sound
+pub mod Parts
+pub mod Shown
+pub mod Arriving
+pub mod Ups

@@ -1,9 +1,9 @@
-ghost use Rattle.std.specs.Prelude.{◌≡◌, ◌<◌, ◌≤◌, ◌++◌, [], ◌∷◌, nat_le, filter, count_by};
+ghost use Rattle.std.specs.Prelude.{◌≡◌, ◌<◌, ◌≤◌, ◌+◌, ◌++◌, [], ◌∷◌, nat_le, filter, count_by, map, take, drop, length, Some, None, if◌then◌else◌};
 ghost use Rattle.std.specs.List.{list_any};
 ghost use Rattle.std.specs.Option.{option_map};
 ghost use Rattle.std.specs.Vec.{vec_len, vec_capacity};
 ghost use Rattle.coap_layer.specs.State.{is_live, is_of, reply_of};
-ghost use Rattle.coap_layer.specs.Entries.{arrived_as, arrivals_in};
+ghost use Rattle.coap_layer.specs.Entries.{arrived_as, arrivals_in, storing};
 
 use crate::retransmission::same;
 use coap_types::transmission::EXCHANGE_LIFETIME_MS;
@@ -96,4 +96,33 @@ pub(crate) fn remember<A: Allocator + Copy>(
     ensures { entries.new.items ≡ entries.old.items ++ entry ∷ [] }
 {
     let _ = entries.push(entry);
+}
+
+/// The reply as it is stored: that to a Confirmable message is.
+fn stored<A: Allocator + Copy>(con: bool, reply: Vec<u8, A>) -> Option<Vec<u8, A>>
+    ensures { option_map (λ v. v.items) result ≡ (if con then Some reply.items else None) }
+{
+    if con { Some(reply) } else { None }
+}
+
+/// Stores the reply to the message from there with this Message ID, if it stands at this place,
+/// which is the last.
+pub(crate) fn store_reply<A: Allocator + Copy>(
+    entries: &mut Vec<Remembered<A>, A>,
+    place: usize,
+    to: Endpoint,
+    id: Id,
+    reply: Vec<u8, A>,
+)
+    requires { length entries.old.items ≤ place + 1 }
+    ensures items { arrivals_in entries.new.items ≡ take place (arrivals_in entries.old.items) ++ map (storing to id.0 reply.items) (drop place (arrivals_in entries.old.items)) }
+    ensures front { take place entries.new.items ≡ take place entries.old.items }
+    ensures len { length entries.new.items ≡ length entries.old.items }
+{
+    if place < entries.len() {
+        let con = entries[place].con;
+        if same(to, entries[place].from) && id.0 == entries[place].id.0 {
+            entries[place].reply = stored(con, reply);
+        }
+    }
 }

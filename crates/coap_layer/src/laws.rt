@@ -1,6 +1,7 @@
 ghost use Rattle.std.specs.Prelude.{◌≡◌, ℕ, List, [], ◌∷◌, ◌++◌};
 ghost use Rattle.coap_layer.specs.Trace.{Call, Answer, Entry};
 ghost use Rattle.coap_layer.specs.Rows.{LayerLaw};
+ghost use Rattle.coap_layer.specs.Sendable.{IsSendableWhenShort};
 ghost use Rattle.coap_layer.specs.State.{State, Step, made, start};
 ghost use Rattle.coap_layer.specs.LayerLed.{LayerLed};
 ghost use Rattle.coap_layer.specs.Follows.{HandedUpOnce, CopiesInTime, IdsApart, OneOutstanding, EndsOutstanding, IsExact};
@@ -25,4 +26,10 @@ pub fn layer_law()
     ensures one { (word : ℕ) (t : List Entry) → LayerLaw word t → OneOutstanding t }
     // An acknowledgement or a Reset is taken only for what is outstanding (sections 4.2 and 5.3.2).
     ensures ends { (word : ℕ) (t : List Entry) → LayerLaw word t → EndsOutstanding t }
+{}
+
+/// What isn't Empty, and has options that ascend and are short, may be sent where its header, its
+/// token, 5 bytes and the value for each option, one byte and its payload are at most 1,152 bytes.
+pub fn sendable_law()
+    ensures { IsSendableWhenShort }
 {}

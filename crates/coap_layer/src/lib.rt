@@ -8,13 +8,28 @@
 #![tactic(auto)]
 
 mod arrival;
+mod arriving;
+mod content;
+mod datagram;
 mod dedup;
 mod laws;
+mod layer;
+mod lists;
+mod mark;
 mod message_id;
+mod outstanding;
 mod retransmission;
+mod room;
+mod sending;
+mod taking;
+mod up;
 
-pub use laws::layer_law;
+pub use content::{Content, MAX_MESSAGE_LEN};
+pub use datagram::Datagram;
+pub use laws::{layer_law, sendable_law};
+pub use layer::Layer;
 pub use message_id::{IdSource, ids_law};
+pub use up::{SendRefusal, Tick, Up};
 
 #[cfg(test)]
 mod tests;

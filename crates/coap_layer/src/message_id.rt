@@ -1,4 +1,4 @@
-ghost use Rattle.std.specs.Prelude.{not, Some, ◌≡◌, IsTrue, false, List, [], ◌∷◌, ℕ};
+ghost use Rattle.std.specs.Prelude.{not, Some, ◌≡◌, ◌+◌, ◌*◌, ◌/◌, ◌%◌, IsTrue, false, List, [], ◌∷◌, ℕ, None, replicate, slice_set};
 ghost use Rattle.coap_layer.specs.Ids.{Given, IdEntry, Ids, IdsAreExact, NumbersLaw, AreApart, IsHeld, IsRested, MayGive, Withholds, numbers, upcoming as upcoming_number};
 ghost use Rattle.coap_layer.specs.State.{is_free, is_rested};
 ghost use Rattle.coap_layer.specs.IdStep.{Asks, Draws};
@@ -53,9 +53,40 @@ fn may_give(upcoming: u16, last_used: &[Option<u64>; GROUPS], now: u64) -> bool
 }
 
 impl IdSource {
+    /// The same source again.
+    pub(crate) fn copied(&self) -> IdSource
+        ensures { result ≡ self.now }
+    {
+        IdSource {
+            clock: self.clock,
+            upcoming: self.upcoming,
+            last_used: self.last_used,
+        }
+    }
+
+    /// Whether a number may be given at this moment.
+    pub(crate) fn would_give(&self, at: u64) -> bool
+        ensures { result ≡ is_free at self.now.upcoming self.now.last_used }
+    {
+        may_give(self.upcoming, &self.last_used, at)
+    }
+
+    /// Gives the number that comes next.
+    pub(crate) fn give(&mut self, at: u64) -> Id
+        ensures id { result.0 ≡ self.old.upcoming }
+        ensures new { self.new ≡ record { clock = at; upcoming = (self.old.upcoming + 1) % 65536; last_used = slice_set self.old.last_used (self.old.upcoming / 4096) (Some at) } }
+    {
+        let id = self.upcoming;
+        self.clock = at;
+        self.last_used[(id / GROUP_SIZE) as usize] = Some(at);
+        self.upcoming = id.wrapping_add(1);
+        Id(id)
+    }
+
     /// A source that begins at the group that the word picks: group `word` mod 16.
     pub fn new(word: u64) -> IdSource
         ensures led { Led word [] result }
+        ensures start { result ≡ record { clock = 0; upcoming = word % 16 * 4096; last_used = replicate 16 None } }
     {
         IdSource {
             clock: 0,
@@ -80,13 +111,10 @@ impl IdSource {
         ensures step { Draws self.old now.0 result self.new }
     {
         self.clock = self.clock.max(now.0);
-        let id = self.upcoming;
-        if !may_give(id, &self.last_used, self.clock) {
+        if !may_give(self.upcoming, &self.last_used, self.clock) {
             return None;
         }
-        self.last_used[(id / GROUP_SIZE) as usize] = Some(self.clock);
-        self.upcoming = id.wrapping_add(1);
-        Some(Id(id))
+        Some(self.give(self.clock))
     }
 }
 

@@ -1,10 +1,14 @@
 ghost use Rattle.std.specs.Prelude.{◌≡◌, ℕ, List, nat_le, nat_lt, ◌≤◌, ◌*◌, ◌-◌, ◌==◌, ◌&&◌, is_some, None, Some, if◌then◌else◌, map};
 ghost use Rattle.std.specs.List.{list_any, filter_map};
+ghost use Rattle.std.specs.Vec.{vec_len, vec_capacity};
 ghost use Rattle.coap_layer.specs.Trace.{Packet, Ticks, same_place};
 ghost use Rattle.coap_layer.specs.Words.{left_by};
 ghost use Rattle.coap_layer.specs.State.{is_copy_due, tick_of};
+ghost use Rattle.coap_layer.specs.Parts.{open_before};
 ghost use Rattle.coap_layer.specs.Sendings.{answer_for, ended, marked, open_now};
+ghost use Rattle.coap_layer.specs.Ups.{IsTick};
 
+use crate::Tick;
 use coap_types::transmission::{LAST_RETRANSMISSION_MS, MAX_RETRANSMIT};
 use coap_types::{Endpoint, Id};
 use std::alloc::Allocator;
@@ -114,7 +118,7 @@ fn mark<A: Allocator + Copy>(sendings: &mut [Sending<A>], to: Endpoint, id: Id, 
 }
 
 /// Whether the transmission has failed (RFC 7252, section 4.2).
-fn has_failed<A: Allocator + Copy>(c: &Sending<A>, now: u64) -> bool
+pub(crate) fn has_failed<A: Allocator + Copy>(c: &Sending<A>, now: u64) -> bool
     ensures { result ≡ nat_le (c.now.timeout * 31) (now - c.now.first) }
 {
     u64::from(c.timeout) * FAILURE_TIMEOUTS <= now.saturating_sub(c.first)
@@ -132,7 +136,7 @@ fn falls_due(timeouts: u64, timeout: u16, sent: u64, elapsed: u64) -> bool
 
 /// Whether a retransmission is due: of those that are, one is sent and the others count as sent
 /// (RFC 7252, section 4.2), and none later than 47,000 ms after the first sending (profile).
-fn is_copy_due<A: Allocator + Copy>(c: &Sending<A>, last: u64, now: u64) -> bool
+pub(crate) fn is_copy_due<A: Allocator + Copy>(c: &Sending<A>, last: u64, now: u64) -> bool
     ensures { result ≡ is_copy_due now (record { to = c.now.to; id = c.now.id.0; bytes = c.now.bytes.items; timeout = c.now.timeout; first = c.now.first; last = last }) }
 {
     let sent = last.saturating_sub(c.first);
@@ -161,23 +165,41 @@ pub(crate) fn find_step<A: Allocator + Copy>(sendings: &Vec<Sending<A>, A>, at: 
     Due::Nothing
 }
 
+/// What the layer above is told of the step.
+pub(crate) fn ticked(step: Due) -> Tick
+    ensures { IsTick result (answer_for step) }
+{
+    match step {
+        Due::Nothing => Tick::Idle,
+        Due::Copy(_, id) => Tick::Copied(id),
+        Due::Failure(to, id) => Tick::Expired(to, id),
+    }
+}
+
 /// Ends the retransmission of what went there with this Message ID.
 pub(crate) fn end_all<A: Allocator + Copy>(sendings: &mut Vec<Sending<A>, A>, to: Endpoint, id: Id)
-    ensures { sendings.new.items ≡ map (ended to id.0) sendings.old.items }
+    ensures items { sendings.new.items ≡ map (ended to id.0) sendings.old.items }
+    ensures len { vec_len sendings.new ≡ vec_len sendings.old }
+    ensures capacity { vec_capacity sendings.new ≡ vec_capacity sendings.old }
 {
     end(sendings, to, id);
 }
 
 /// Notes that what is outstanding there with this Message ID is sent again.
 fn mark_all<A: Allocator + Copy>(sendings: &mut Vec<Sending<A>, A>, to: Endpoint, id: Id, at: u64)
-    ensures { sendings.new.items ≡ map (marked to id.0 at) sendings.old.items }
+    ensures items { sendings.new.items ≡ map (marked to id.0 at) sendings.old.items }
+    ensures len { vec_len sendings.new ≡ vec_len sendings.old }
+    ensures capacity { vec_capacity sendings.new ≡ vec_capacity sendings.old }
 {
     mark(sendings, to, id, at);
 }
 
 /// Does the step.
 pub(crate) fn take_step<A: Allocator + Copy>(sendings: &mut Vec<Sending<A>, A>, step: Due, at: u64)
-    ensures { (out : List Packet) → open_now sendings.new.items ≡ filter_map (left_by (record { at = at; call = Ticks; answer = answer_for step; out = out })) (open_now sendings.old.items) }
+    ensures open { (out : List Packet) → open_now sendings.new.items ≡ filter_map (left_by (record { at = at; call = Ticks; answer = answer_for step; out = out })) (open_now sendings.old.items) }
+    ensures before { open_before sendings.new.items ≡ open_before sendings.old.items }
+    ensures len { vec_len sendings.new ≡ vec_len sendings.old }
+    ensures capacity { vec_capacity sendings.new ≡ vec_capacity sendings.old }
 {
     match step {
         Due::Nothing => {}

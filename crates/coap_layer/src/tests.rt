@@ -1,31 +1,54 @@
-use crate::IdSource;
-use coap_types::{Id, Moment};
+ghost use Rattle.std.specs.Prelude.{◌≡◌};
 
-#[test]
-fn message_ids_rest_for_400_seconds(rt: HostRuntime) {
-    let mut ids = IdSource::new(5);
-    assert!(rt; ids.is_free(Moment(0)));
-    assert_eq!(rt; ids.next(Moment(0)), Some(Id(0x5000)));
-    assert_eq!(rt; ids.next(Moment(0)), Some(Id(0x5001)));
-    for _ in 2..65_536 {
-        assert!(rt; ids.next(Moment(0)).is_some());
+mod arrivals;
+mod message_ids;
+mod sendings;
+mod undo;
+
+use crate::{Content, Datagram, Layer, SendRefusal, sendable_law};
+use coap_types::{Code, Endpoint, Id, Moment, Token};
+use std::alloc::{AllocGlobal, Global};
+use std::process::Abort;
+use std::test::*;
+
+/// Another endpoint.
+pub(crate) const THERE: Endpoint = Endpoint {
+    ip: [127, 0, 0, 1],
+    port: 5_683,
+};
+
+/// An endpoint at this port.
+pub(crate) fn at_port(port: u16) -> Endpoint {
+    Endpoint {
+        ip: [127, 0, 0, 1],
+        port,
     }
-    assert!(rt; !ids.is_free(Moment(400_000)));
-    assert_eq!(rt; ids.next(Moment(400_000)), None);
-    assert!(rt; ids.is_free(Moment(400_001)));
-    assert_eq!(rt; ids.next(Moment(400_001)), Some(Id(0x5000)));
-    // An earlier moment counts as the last one.
-    assert!(rt; ids.is_free(Moment(0)));
-    assert_eq!(rt; ids.next(Moment(0)), Some(Id(0x5001)));
 }
 
-#[test]
-fn message_ids_go_on_from_the_last_group_to_the_first(rt: HostRuntime) {
-    let mut ids = IdSource::new(31);
-    assert_eq!(rt; ids.next(Moment(7)), Some(Id(0xf000)));
-    for _ in 1..4_095 {
-        assert!(rt; ids.next(Moment(7)).is_some());
-    }
-    assert_eq!(rt; ids.next(Moment(7)), Some(Id(0xffff)));
-    assert_eq!(rt; ids.next(Moment(7)), Some(Id(0)));
+/// Begins a Confirmable GET without options.
+pub(crate) fn confirm_get<R: Abort + AllocGlobal>(
+    rt: &R,
+    layer: &mut Layer<Global>,
+    now: u64,
+    to: Endpoint,
+    word: u64,
+) -> Result<Id, SendRefusal>
+    ensures { layer.new.before ≡ layer.old.before }
+{
+    let token = Token::empty();
+    let content = Content {
+        code: Code::GET,
+        token: &token,
+        options: &[],
+        payload: b"",
+    };
+    sendable_law();
+    layer.confirm(Moment(now), to, &content, word)
+}
+
+/// What is to be sent next goes there and has these bytes.
+pub(crate) fn is_sent<R: Abort + AllocGlobal>(rt: &R, layer: &mut Layer<Global>, to: Endpoint, bytes: &[u8]) {
+    let datagram = layer.next_out().expect(rt, "a datagram");
+    assert_eq!(rt; datagram.to(), to);
+    assert_eq!(rt; datagram.bytes(), bytes);
 }

@@ -1,12 +1,12 @@
 -- Entries as a map.
-use Rattle.std.proofs.Common.{◌≡◌, ◌≢◌, ℕ, Bool, true, false, not, ◌+◌, ◌++◌, ◌∙◌, List, [], ◌∷◌, length, refl, ap, sym, subst, arith, Option, Some, None, is_some, if◌then◌else◌, length-append}
+use Rattle.std.proofs.Common.{◌≡◌, ◌≢◌, ◌≤◌, ℕ, Bool, true, false, not, ◌+◌, ◌++◌, ◌∙◌, List, [], ◌∷◌, length, refl, ap, sym, subst, arith, Option, Some, None, IfSome, is_some, if◌then◌else◌, length-append}
 use Rattle.std.specs.List.{filter}
 use Rattle.coap_resource.specs.declared.entry.Entry.{Entry}
 use Rattle.coap_resource.specs.declared.tally.Tally.{Tally}
 use Rattle.coap_types.specs.Path.{same_path}
 use Rattle.coap_resource.specs.Content.{Held, Changes}
 use Rattle.coap_resource.specs.Rate.{counted}
-use Rattle.coap_resource.specs.Entries.{entry_of, kept, find, without, Unique, Listed, content_of}
+use Rattle.coap_resource.specs.Entries.{entry_of, kept, find, without, Unique, AreShort, Listed, content_of}
 use Rattle.coap_types.proofs.PathLemmas.{same_path-decides}
 
 pub kept_append : {A : Type 0} (xs ys : List (Entry A)) → kept (xs ++ ys) ≡ kept xs ++ kept ys
@@ -155,3 +155,33 @@ pub change_append : (old new : Listed) (now : ℕ) (p : List (List ℕ)) (versio
     → Changes (content_of old) now p (Some (record { version = version; format = held.format; body = held.body ++ more })) (content_of new)
 change_append old new now p version was held body more u es joined same tally =
     rw (← same, ← joined) (change_put old new now p (record { version = version; format = was.format; body = body }) u es tally)
+
+short_step : (b : Bool) (e : List (List ℕ) × Held) (es : List (List (List ℕ) × Held)) → length e.1.body ≤ 65536 → AreShort es → AreShort (if b then e ∷ es else es)
+short_step true e es first rest = (first, rest)
+short_step false e es first rest = rest
+
+-- the entries that stay are short
+pub short_without : (es : List (List (List ℕ) × Held)) (p : List (List ℕ)) → AreShort es → AreShort (without es p)
+short_without [] p short = tt
+short_without (e ∷ es) p short = short_step (not (same_path e.0 p)) e (without es p) short.0 (short_without es p short.1)
+
+short_behind : (es : List (List (List ℕ) × Held)) (p : List (List ℕ)) (h : Held) → AreShort es → length h.body ≤ 65536 → AreShort (es ++ (p, h) ∷ [])
+short_behind [] p h short last = (last, tt)
+short_behind (e ∷ es) p h short last = (short.0, short_behind es p h short.1 last)
+
+pub short_put : (es : List (List (List ℕ) × Held)) (p : List (List ℕ)) (h : Held) → AreShort es → length h.body ≤ 65536 → AreShort (replaced es p h)
+short_put es p h short last = short_behind (without es p) p h (short_without es p short) last
+
+short_found : (b : Bool) (h : Held) (found : Option Held) → length h.body ≤ 65536 → IfSome found (λ k. length k.body ≤ 65536)
+    → IfSome (if b then Some h else found) (λ k. length k.body ≤ 65536)
+short_found true h found first rest = first
+short_found false h found first rest = rest
+
+-- what is found is short
+pub short_find : (es : List (List (List ℕ) × Held)) (p : List (List ℕ)) → AreShort es → IfSome (find es p) (λ held. length held.body ≤ 65536)
+short_find [] p short = tt
+short_find (e ∷ es) p short = short_found (same_path e.0 p) e.1 (find es p) short.0 (short_find es p short.1)
+
+-- a body that is joined to another
+pub short_joined : (body front more : List ℕ) → body ≡ front ++ more → length front + length more ≤ 65536 → length body ≤ 65536
+short_joined body front more is few = rw is (omega (arith, length-append front more))

@@ -13,7 +13,7 @@ in_window w (call ∷ past) = (if call.1 && (window (last (call ∷ past)) == w)
 
 -- what a tally says of the calls
 pub record Counts (limit : ℕ) (calls : List (ℕ × Bool)) (t : Tally) : Type 0 where
-  pub clock : t.clock ≡ last calls
+  pub clock : t.clock.0 ≡ last calls
   pub limited : t.limit ≡ limit
   pub now : t.changes ≡ in_window (window (last calls)) calls
   pub each : (w : ℕ) → in_window w calls ≤ limit

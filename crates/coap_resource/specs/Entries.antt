@@ -1,5 +1,5 @@
 -- A list of entries as a map from paths, with at most one entry for a path.
-use Rattle.std.specs.Prelude.{◌≡◌, ℕ, not, List, [], ◌∷◌, length, map, Option, Some, None, if◌then◌else◌}
+use Rattle.std.specs.Prelude.{◌≡◌, ◌≤◌, ℕ, not, List, [], ◌∷◌, length, map, Option, Some, None, if◌then◌else◌}
 use Rattle.std.specs.List.{filter}
 use Rattle.coap_types.specs.Path.{same_path}
 use Rattle.coap_resource.specs.declared.entry.Entry.{Entry}
@@ -26,6 +26,11 @@ without es path = filter (λ e. not (same_path e.0 path)) es
 abbrev pub Unique : List (List (List ℕ) × Held) → Type 0
 Unique [] = Unit {0}
 Unique (e ∷ es) = (find es e.0 ≡ None) × Unique es
+
+-- no body is longer than a store takes
+abbrev pub AreShort : List (List (List ℕ) × Held) → Type 0
+AreShort [] = Unit {0}
+AreShort (e ∷ es) = (length e.1.body ≤ 65536) × AreShort es
 
 -- a store that is a list of entries
 pub record Listed : Type 0 where

@@ -5,3 +5,4 @@ pub mod Entries
 pub mod RequestOptions
 pub mod Serves
 pub mod RateLaw
+pub mod ResponseOptions

@@ -6,7 +6,7 @@ use Rattle.coap_resource.specs.declared.tally.Tally.{Tally}
 
 -- no change yet, and no moment
 abbrev pub unused : ℕ → Tally
-unused limit = record { version = 0; clock = 0; limit = limit; changes = 0 }
+unused limit = record { version = 0; clock = record { 0 = 0 }; limit = limit; changes = 0 }
 
 -- the window of a moment, by its number
 abbrev pub window : ℕ → ℕ
@@ -14,7 +14,7 @@ window moment = moment / 256000
 
 -- the changes in the window of a moment; a moment before the last one counts as the last one
 abbrev pub used : Tally → ℕ → ℕ
-used t now = if window (max t.clock now) == window t.clock then t.changes else 0
+used t now = if window (max t.clock.0 now) == window t.clock.0 then t.changes else 0
 
 -- why there is no further change: the window is full, or the version is the greatest of 64 bits
 abbrev pub rate_refusal : Tally → ℕ → Option StoreRefusal
@@ -25,8 +25,8 @@ rate_refusal t now =
 
 -- a moment that counts, and changes nothing
 abbrev pub waited : Tally → ℕ → Tally
-waited t now = record t { clock = max t.clock now; changes = used t now }
+waited t now = record t { clock = record { 0 = max t.clock.0 now }; changes = used t now }
 
 -- a change at a moment
 abbrev pub counted : Tally → ℕ → Tally
-counted t now = record t { version = t.version + 1; clock = max t.clock now; changes = used t now + 1 }
+counted t now = record t { version = t.version + 1; clock = record { 0 = max t.clock.0 now }; changes = used t now + 1 }

@@ -38,17 +38,19 @@ reply_of r = record { code = r.code.0; tag = r.tag; format = r.format; block2 = 
 abbrev pub bare : ℕ → ℕ → Reply
 bare code offset = record { code = code; tag = None; format = None; block2 = None; part = []; offset = offset }
 
--- 2.05: the part of the body from the offset on, at most a block of it. Block2 is there where it was asked for, or the
--- body is longer than the block; NUM counts blocks of the size of the response.
+-- Block2 is there where it was asked for, or the body is longer than the block; NUM counts blocks of the size of the
+-- response, and M says whether the body goes on.
+abbrev pub block2_of : Bool → ℕ → ℕ → ℕ → Option (ℕ × Bool × ℕ)
+block2_of by_block offset szx len =
+    if by_block || nat_lt (2 ^ (szx + 4)) len then Some (offset / 2 ^ (szx + 4), nat_lt (offset + 2 ^ (szx + 4)) len, szx) else None
+
+-- 2.05: the part of the body from the offset on, at most a block of it
 abbrev pub content_reply : Held → Bool → ℕ → ℕ → Reply
 content_reply held by_block offset szx = record {
   code = 69;
   tag = Some (tag_of held.version);
   format = held.format;
-  block2 =
-      if by_block || nat_lt (2 ^ (szx + 4)) (length held.body)
-      then Some (offset / 2 ^ (szx + 4), nat_lt (offset + 2 ^ (szx + 4)) (length held.body), szx)
-      else None;
+  block2 = block2_of by_block offset szx (length held.body);
   part = take (2 ^ (szx + 4)) (drop offset held.body);
   offset = offset;
 }

@@ -1,9 +1,11 @@
 //! The resources of a CoAP server: what each path holds, under versions that rise, how often it
 //! changes, and how GET, POST, PUT and DELETE are served from it (RFC 7252, sections 5.6 to 5.10).
-//! Nothing here reads a clock: a moment is an argument, in milliseconds.
+//! Nothing here reads a clock: a moment is an argument.
 #![tactic(auto)]
 
 mod asking;
+#[cfg(test)]
+mod block_tests;
 mod entries;
 mod entry;
 mod laws;
@@ -23,6 +25,7 @@ pub use laws::rate_law;
 pub use list_store::ListStore;
 pub use refusal::StoreRefusal;
 pub use representation::Representation;
+pub use request_options::value_of;
 pub use response::Response;
 pub use serving::serve;
 pub use store::{MAX_BODY_LEN, MAX_PATHS, Store};

@@ -1,4 +1,4 @@
-ghost use Rattle.std.specs.Prelude.{◌≡◌, ◌<◌, ◌++◌, None, Some, IfOk, length};
+ghost use Rattle.std.specs.Prelude.{◌≡◌, ◌<◌, ◌≤◌, ◌+◌, ◌++◌, None, Some, IfOk, length};
 ghost use Rattle.coap_resource.specs.Content.{append_refusal, put_refusal};
 ghost use Rattle.coap_resource.specs.Entries.{content_of};
 ghost use Rattle.coap_resource.specs.Rate.{rate_refusal, used};
@@ -11,7 +11,7 @@ use crate::representation::Representation;
 use crate::store::{MAX_BODY_LEN, MAX_PATHS, Store};
 use crate::tally::{MAX_CHANGES_PER_WINDOW, Tally};
 use bytes::Bytes;
-use coap_types::Path;
+use coap_types::{Moment, Path};
 use std::alloc::{AllocError, Allocator, Global};
 use std::marker::Model;
 
@@ -23,22 +23,23 @@ pub struct ListStore<A: Allocator = Global> {
 }
 
 impl<A: Allocator> Model for ListStore<A> {
-    ghost use Rattle.coap_resource.specs.Entries.{Listed, Unique, kept};
+    ghost use Rattle.coap_resource.specs.Entries.{AreShort, Listed, Unique, kept};
 
     ghost Value = { Listed };
 
     ghost view = { λ s. record { entries = kept s.entries.items; tally = s.tally } };
 
-    ghost invariant = { λ s. Unique (kept s.entries.items) };
+    ghost invariant = { λ s. Unique (kept s.entries.items) × AreShort (kept s.entries.items) };
 }
 
 impl<A: Allocator + Copy> ListStore<A> {
     // Why the path can't be given a body of this length.
-    fn put_refusal(&self, now: u64, path: &Path<A>, len: usize) -> Option<StoreRefusal>
-        ensures refusal { result ≡ put_refusal (content_of self.now) now path.now len }
-        ensures rate { result ≡ None → rate_refusal self.now.tally now ≡ None }
-        ensures room { result ≡ None → used self.now.tally now < self.now.tally.limit }
+    fn put_refusal(&self, now: Moment, path: &Path<A>, len: usize) -> Option<StoreRefusal>
+        ensures refusal { result ≡ put_refusal (content_of self.now) now.0 path.now len }
+        ensures rate { result ≡ None → rate_refusal self.now.tally now.0 ≡ None }
+        ensures room { result ≡ None → used self.now.tally now.0 < self.now.tally.limit }
         ensures next { result ≡ None → self.now.tally.version < u64.MAX }
+        ensures short { result ≡ None → len ≤ MAX_BODY_LEN }
     {
         if len > MAX_BODY_LEN {
             return Some(StoreRefusal::TooLarge);
@@ -50,11 +51,17 @@ impl<A: Allocator + Copy> ListStore<A> {
     }
 
     // Why so many bytes can't be joined to what a path holds.
-    fn append_refusal(&self, now: u64, held: &Representation<A>, len: usize) -> Option<StoreRefusal>
-        ensures refusal { result ≡ append_refusal (content_of self.now) now (held_of held.now) len }
-        ensures rate { result ≡ None → rate_refusal self.now.tally now ≡ None }
-        ensures room { result ≡ None → used self.now.tally now < self.now.tally.limit }
+    fn append_refusal(
+        &self,
+        now: Moment,
+        held: &Representation<A>,
+        len: usize,
+    ) -> Option<StoreRefusal>
+        ensures refusal { result ≡ append_refusal (content_of self.now) now.0 (held_of held.now) len }
+        ensures rate { result ≡ None → rate_refusal self.now.tally now.0 ≡ None }
+        ensures room { result ≡ None → used self.now.tally now.0 < self.now.tally.limit }
         ensures next { result ≡ None → self.now.tally.version < u64.MAX }
+        ensures short { result ≡ None → length held.now.body + len ≤ MAX_BODY_LEN }
     {
         if held.body.len().saturating_add(len) > MAX_BODY_LEN {
             return Some(StoreRefusal::TooLarge);
@@ -81,7 +88,7 @@ impl<A: Allocator + Copy> Store<A> for ListStore<A> {
         }
         let tally = Tally {
             version: 0,
-            clock: 0,
+            clock: Moment(0),
             limit: changes_per_window,
             changes: 0,
         };
@@ -101,7 +108,7 @@ impl<A: Allocator + Copy> Store<A> for ListStore<A> {
 
     fn put(
         &mut self,
-        now: u64,
+        now: Moment,
         path: &Path<A>,
         format: Option<u16>,
         body: &[u8],
@@ -129,7 +136,7 @@ impl<A: Allocator + Copy> Store<A> for ListStore<A> {
 
     fn append(
         &mut self,
-        now: u64,
+        now: Moment,
         path: &Path<A>,
         body: &[u8],
     ) -> Result<Option<u64>, StoreRefusal> {
@@ -158,7 +165,7 @@ impl<A: Allocator + Copy> Store<A> for ListStore<A> {
         Ok(Some(version))
     }
 
-    fn delete(&mut self, now: u64, path: &Path<A>) -> Result<Option<u64>, StoreRefusal> {
+    fn delete(&mut self, now: Moment, path: &Path<A>) -> Result<Option<u64>, StoreRefusal> {
         if find(&self.entries, path).is_none() {
             self.tally = self.tally.waited(now);
             return Ok(None);

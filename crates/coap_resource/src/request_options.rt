@@ -8,8 +8,8 @@ use coap_types::option_number::{ACCEPT, BLOCK2, CONTENT_FORMAT, ETAG, IF_MATCH, 
 use coap_types::{Opt, Szx, uint_of};
 use std::alloc::Allocator;
 
-// The value of the first option of this number.
-fn value_of<'a>(options: &[Opt<'a>], number: u16) -> Option<&'a [u8]>
+/// The value of the first option of this number.
+pub fn value_of<'a>(options: &[Opt<'a>], number: u16) -> Option<&'a [u8]>
     ensures { option_copied result ≡ value_of number (options_of options.now) }
 {
     for option in options {

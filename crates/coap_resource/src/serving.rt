@@ -1,9 +1,9 @@
-ghost use Rattle.std.specs.Prelude.{◌≡◌, ◌≢◌, ◌≤◌, IfOk, OnErr, OnOk, length, take, drop};
+ghost use Rattle.std.specs.Prelude.{◌≡◌, ◌≢◌, ◌<◌, ◌≤◌, IfOk, IfSome, OnErr, OnOk, length, take, drop};
 ghost use Rattle.coap_types.specs.CoapOption.{options_of};
 ghost use Rattle.coap_resource.specs.Content.{append_refusal, put_refusal};
 ghost use Rattle.coap_resource.specs.Rate.{rate_refusal};
-ghost use Rattle.coap_resource.specs.RequestOptions.{block_of};
-ghost use Rattle.coap_resource.specs.Serves.{DeleteBy, PostBy, PutBy, Serves, asked_offset, content_reply, got, question_of, refusal_code, reply_of};
+ghost use Rattle.coap_resource.specs.ResponseOptions.{Fits};
+ghost use Rattle.coap_resource.specs.Serves.{DeleteBy, PostBy, PutBy, Serves, block2_of, content_reply, got, question_of, refusal_code, reply_of};
 ghost use Rattle.coap_resource.specs.Shown.{held_of};
 ghost use Rattle.coap_resource.specs.declared.refusal.StoreRefusal.TheVariants.{Memory};
 
@@ -14,9 +14,9 @@ use crate::request_options::{
     Wanted, accepts, etag_names, format_of, precondition_fails, wanted_block,
 };
 use crate::response::{Response, bare};
-use crate::store::Store;
+use crate::store::{MAX_BODY_LEN, Store};
 use bytes::Bytes;
-use coap_types::{Code, Method, Tag};
+use coap_types::{Code, Method, Moment, Szx, Tag};
 use std::alloc::{AllocError, Allocator};
 
 // The code of a response to what the store refuses.
@@ -50,28 +50,63 @@ fn block_at<A: Allocator + Copy>(
     }
 }
 
+// A number of 16 bits: what a call answers is known to fit its type.
+fn of_16_bits(number: u16) -> u16
+    ensures { result ≡ number }
+{
+    number
+}
+
+// The format of a representation.
+fn own_format<A: Allocator>(held: &Representation<A>) -> Option<u16>
+    ensures same { result ≡ held.now.format }
+    ensures few { IfSome result (λ f. f < 65536) }
+{
+    match held.format {
+        None => None,
+        Some(format) => Some(of_16_bits(format)),
+    }
+}
+
+// NUM, M and SZX of a block of a body, where the response has Block2.
+fn block_sent(wanted: &Wanted, len: usize) -> Option<(u32, bool, Szx)>
+    requires place { wanted.now.offset ≤ len }
+    requires short { len ≤ MAX_BODY_LEN }
+    ensures sent { result ≡ block2_of wanted.now.by_block wanted.now.offset wanted.now.szx len }
+    ensures few { IfSome result (λ b. (b.0 < 1048576) × (b.2 ≤ 6)) }
+{
+    let size = wanted.szx.size();
+    if !wanted.by_block && len <= size {
+        return None;
+    }
+    let num = wanted.offset as usize / size;
+    let more = len - wanted.offset as usize > size;
+    let _exponent = wanted.szx.get();
+    Some((num as u32, more, wanted.szx))
+}
+
 // 2.05 with a block of a representation.
 fn content<A: Allocator + Copy>(
     held: &Representation<A>,
     wanted: Wanted,
 ) -> Result<Response<A>, AllocError>
-    requires { wanted.offset ≤ length held.now.body }
-    ensures { IfOk result (λ r. reply_of r ≡ content_reply (held_of held.now) wanted.by_block wanted.offset wanted.szx) }
+    requires place { wanted.offset ≤ length held.now.body }
+    requires short { length held.now.body ≤ MAX_BODY_LEN }
+    ensures content { IfOk result (λ r. reply_of r ≡ content_reply (held_of held.now) wanted.by_block wanted.offset wanted.szx) }
+    ensures fits { IfOk result (λ r. Fits (reply_of r)) }
 {
+    let len = held.body.len();
+    let block2 = block_sent(&wanted, len);
     let size = wanted.szx.size();
     let start = wanted.offset as usize;
+    let format = own_format(held);
     let part = block_at(&held.body, start, size)?;
-    let more = held.body.len() - start > size;
-    let by_block = wanted.by_block || held.body.len() > size;
+    let tag = Tag::new(&held.version.to_be_bytes());
     Ok(Response {
         code: Code::CONTENT,
-        tag: Tag::new(&held.version.to_be_bytes()),
-        format: held.format,
-        block2: if by_block {
-            Some((wanted.offset / size as u32, more, wanted.szx))
-        } else {
-            None
-        },
+        tag,
+        format,
+        block2,
         part,
         offset: wanted.offset,
     })
@@ -82,7 +117,8 @@ fn serve_get<A: Allocator + Copy, S: Store<A>>(
     store: &S,
     asking: &Asking<'_, A>,
 ) -> Result<Response<A>, AllocError>
-    ensures { IfOk result (λ r. reply_of r ≡ got ((S.content store.now).holds asking.now.path.now) (question_of asking.now)) }
+    ensures got { IfOk result (λ r. reply_of r ≡ got ((S.content store.now).holds asking.now.path.now) (question_of asking.now)) }
+    ensures fits { IfOk result (λ r. Fits (reply_of r)) }
 {
     let wanted = wanted_block(asking.options, asking.szx);
     let Some(held) = store.get(asking.path) else {
@@ -107,10 +143,11 @@ fn serve_get<A: Allocator + Copy, S: Store<A>>(
 // A POST.
 fn serve_post<A: Allocator + Copy, S: Store<A>>(
     store: &mut S,
-    now: u64,
+    now: Moment,
     asking: &Asking<'_, A>,
 ) -> Result<Response<A>, AllocError>
-    ensures served { IfOk result (λ r. PostBy ((S.content store.old).holds asking.now.path.now) (S.content store.old) now (question_of asking.now) (reply_of r) (S.content store.new)) }
+    ensures served { IfOk result (λ r. PostBy ((S.content store.old).holds asking.now.path.now) (S.content store.old) now.0 (question_of asking.now) (reply_of r) (S.content store.new)) }
+    ensures fits { IfOk result (λ r. Fits (reply_of r)) }
     ensures err { OnErr result (store.new ≡ store.old) }
 {
     match store.append(now, asking.path, asking.body) {
@@ -123,10 +160,11 @@ fn serve_post<A: Allocator + Copy, S: Store<A>>(
 // A PUT.
 fn serve_put<A: Allocator + Copy, S: Store<A>>(
     store: &mut S,
-    now: u64,
+    now: Moment,
     asking: &Asking<'_, A>,
 ) -> Result<Response<A>, AllocError>
-    ensures served { IfOk result (λ r. PutBy (put_refusal (S.content store.old) now asking.now.path.now (length asking.now.body.now)) (S.content store.old) now (question_of asking.now) (reply_of r) (S.content store.new)) }
+    ensures served { IfOk result (λ r. PutBy (put_refusal (S.content store.old) now.0 asking.now.path.now (length asking.now.body.now)) (S.content store.old) now.0 (question_of asking.now) (reply_of r) (S.content store.new)) }
+    ensures fits { IfOk result (λ r. Fits (reply_of r)) }
     ensures err { OnErr result (store.new ≡ store.old) }
 {
     let was_there = store.get(asking.path).is_some();
@@ -147,10 +185,11 @@ fn serve_put<A: Allocator + Copy, S: Store<A>>(
 // A DELETE.
 fn serve_delete<A: Allocator + Copy, S: Store<A>>(
     store: &mut S,
-    now: u64,
+    now: Moment,
     asking: &Asking<'_, A>,
 ) -> Result<Response<A>, AllocError>
-    ensures served { IfOk result (λ r. DeleteBy ((S.content store.old).holds asking.now.path.now) (S.content store.old) now (question_of asking.now) (reply_of r) (S.content store.new)) }
+    ensures served { IfOk result (λ r. DeleteBy ((S.content store.old).holds asking.now.path.now) (S.content store.old) now.0 (question_of asking.now) (reply_of r) (S.content store.new)) }
+    ensures fits { IfOk result (λ r. Fits (reply_of r)) }
     ensures err { OnErr result (store.new ≡ store.old) }
 {
     match store.delete(now, asking.path) {
@@ -160,13 +199,15 @@ fn serve_delete<A: Allocator + Copy, S: Store<A>>(
 }
 
 /// Serves a request: its preconditions (RFC 7252, section 5.10.8), and then its method (section
-/// 5.8). After an `Err` the store is as before.
+/// 5.8). The response fits one message: NUM of its Block2 has 20 bits, its payload at most 1,024
+/// bytes. After an `Err` the store is as before.
 pub fn serve<A: Allocator + Copy, S: Store<A>>(
     store: &mut S,
-    now: u64,
+    now: Moment,
     asking: &Asking<'_, A>,
 ) -> Result<Response<A>, AllocError>
-    ensures served { IfOk result (λ r. Serves (S.content store.old) now (question_of asking.now) (reply_of r) (S.content store.new)) }
+    ensures served { IfOk result (λ r. Serves (S.content store.old) now.0 (question_of asking.now) (reply_of r) (S.content store.new)) }
+    ensures fits { IfOk result (λ r. Fits (reply_of r)) }
     ensures err { OnErr result (store.new ≡ store.old) }
 {
     if precondition_fails(store.get(asking.path), asking.options) {

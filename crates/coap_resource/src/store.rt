@@ -7,7 +7,7 @@ ghost use Rattle.coap_resource.specs.Shown.{shown};
 
 use crate::refusal::StoreRefusal;
 use crate::representation::Representation;
-use coap_types::Path;
+use coap_types::{Moment, Path};
 use std::alloc::Allocator;
 
 /// The most bytes of a body (profile: RFC 7252 sets no bound).
@@ -19,8 +19,8 @@ const _: () = prove!(MAX_BODY_LEN == 65_536 && MAX_PATHS == 256);
 
 /// The resources of a server: what each path holds (RFC 7252, section 5.8).
 ///
-/// Each change has a version, one more than the change before it; the first is 1. A moment is in
-/// milliseconds, and one before the last that was handed in counts as that. A refusal changes
+/// Each change has a version, one more than the change before it; the first is 1. A moment before
+/// the last that was handed in counts as that. A refusal changes
 /// nothing: only its moment has counted, and after `Memory` not even that.
 pub trait Store<A: Allocator + Copy>: Drop {
     /// What it holds.
@@ -34,9 +34,10 @@ pub trait Store<A: Allocator + Copy>: Drop {
         ensures empty { IfSome result (λ store. content store ≡ nothing changes_per_window) }
         ensures when { IsSome result ↔ ((1 ≤ changes_per_window) × (changes_per_window ≤ 4194303)) };
 
-    /// What the path holds.
+    /// What the path holds; its body has at most `MAX_BODY_LEN` bytes.
     fn get(&self, path: &Path<A>) -> Option<&Representation<A>>
-        ensures { shown (option_copied result) ≡ (content self.now).holds path.now };
+        ensures held { shown (option_copied result) ≡ (content self.now).holds path.now }
+        ensures short { IfSome ((content self.now).holds path.now) (λ held. length held.body ≤ MAX_BODY_LEN) };
 
     /// The version of the last change, 0 before the first.
     fn version(&self) -> u64
@@ -45,51 +46,56 @@ pub trait Store<A: Allocator + Copy>: Drop {
     /// Puts a body in place of what the path holds, and answers its version.
     fn put(
         &mut self,
-        now: u64,
+        now: Moment,
         path: &Path<A>,
         format: Option<u16>,
         body: &[u8],
     ) -> Result<u64, StoreRefusal>
-        ensures refused { (why : StoreRefusal) → put_refusal (content self.old) now path.now (length body.now) ≡ Some why
-            → (result ≡ Err why) × (content self.new ≡ unchanged (content self.old) now) }
-        ensures taken { put_refusal (content self.old) now path.now (length body.now) ≡ None → IfErr result (λ why. why ≡ Memory) }
-        ensures room { IfOk result (λ version. rate_refusal (content self.old).tally now ≡ None) }
+        ensures refused { (why : StoreRefusal) → put_refusal (content self.old) now.0 path.now (length body.now) ≡ Some why
+            → (result ≡ Err why) × (content self.new ≡ unchanged (content self.old) now.0) }
+        ensures taken { put_refusal (content self.old) now.0 path.now (length body.now) ≡ None → IfErr result (λ why. why ≡ Memory) }
+        ensures room { IfOk result (λ version. rate_refusal (content self.old).tally now.0 ≡ None) }
         ensures version { IfOk result (λ version. version ≡ (content self.old).tally.version + 1) }
         ensures change { IfOk result (λ version.
-            Changes (content self.old) now path.now (Some (record { version = version; format = format; body = body.now })) (content self.new)) }
+            Changes (content self.old) now.0 path.now (Some (record { version = version; format = format; body = body.now })) (content self.new)) }
         ensures memory { result ≡ Err Memory → self.new ≡ self.old };
 
     /// Joins a body to the end of what the path holds, and answers the version; None where the path
     /// holds nothing.
-    fn append(&mut self, now: u64, path: &Path<A>, body: &[u8]) -> Result<Option<u64>, StoreRefusal>
+    fn append(
+        &mut self,
+        now: Moment,
+        path: &Path<A>,
+        body: &[u8],
+    ) -> Result<Option<u64>, StoreRefusal>
         ensures absent { (content self.old).holds path.now ≡ None
-            → (result ≡ Ok None) × (content self.new ≡ unchanged (content self.old) now) }
+            → (result ≡ Ok None) × (content self.new ≡ unchanged (content self.old) now.0) }
         ensures refused { (held : Held) (why : StoreRefusal) → (content self.old).holds path.now ≡ Some held
-            → append_refusal (content self.old) now held (length body.now) ≡ Some why
-            → (result ≡ Err why) × (content self.new ≡ unchanged (content self.old) now) }
+            → append_refusal (content self.old) now.0 held (length body.now) ≡ Some why
+            → (result ≡ Err why) × (content self.new ≡ unchanged (content self.old) now.0) }
         ensures taken { (held : Held) → (content self.old).holds path.now ≡ Some held
-            → append_refusal (content self.old) now held (length body.now) ≡ None
+            → append_refusal (content self.old) now.0 held (length body.now) ≡ None
             → IfErr result (λ why. why ≡ Memory) × IfOk result IsSome }
-        ensures room { IfOk result (λ done. IfSome done (λ version. rate_refusal (content self.old).tally now ≡ None)) }
+        ensures room { IfOk result (λ done. IfSome done (λ version. rate_refusal (content self.old).tally now.0 ≡ None)) }
         ensures version { IfOk result (λ done. IfSome done (λ version. version ≡ (content self.old).tally.version + 1)) }
         ensures change { IfOk result (λ done. IfSome done (λ version.
             (held : Held) → (content self.old).holds path.now ≡ Some held
-            → Changes (content self.old) now path.now
+            → Changes (content self.old) now.0 path.now
             (Some (record { version = version; format = held.format; body = held.body ++ body.now })) (content self.new))) }
         ensures memory { result ≡ Err Memory → self.new ≡ self.old };
 
     /// Takes away what the path holds, and answers the version; None where the path holds nothing.
     /// It takes no memory.
-    fn delete(&mut self, now: u64, path: &Path<A>) -> Result<Option<u64>, StoreRefusal>
+    fn delete(&mut self, now: Moment, path: &Path<A>) -> Result<Option<u64>, StoreRefusal>
         ensures absent { (content self.old).holds path.now ≡ None
-            → (result ≡ Ok None) × (content self.new ≡ unchanged (content self.old) now) }
+            → (result ≡ Ok None) × (content self.new ≡ unchanged (content self.old) now.0) }
         ensures refused { (held : Held) (why : StoreRefusal) → (content self.old).holds path.now ≡ Some held
-            → rate_refusal (content self.old).tally now ≡ Some why
-            → (result ≡ Err why) × (content self.new ≡ unchanged (content self.old) now) }
+            → rate_refusal (content self.old).tally now.0 ≡ Some why
+            → (result ≡ Err why) × (content self.new ≡ unchanged (content self.old) now.0) }
         ensures taken { (held : Held) → (content self.old).holds path.now ≡ Some held
-            → rate_refusal (content self.old).tally now ≡ None
+            → rate_refusal (content self.old).tally now.0 ≡ None
             → result ≡ Ok (Some ((content self.old).tally.version + 1)) }
-        ensures room { IfOk result (λ done. IfSome done (λ version. rate_refusal (content self.old).tally now ≡ None)) }
+        ensures room { IfOk result (λ done. IfSome done (λ version. rate_refusal (content self.old).tally now.0 ≡ None)) }
         ensures change { IfOk result (λ done. IfSome done (λ version.
-            Changes (content self.old) now path.now None (content self.new))) };
+            Changes (content self.old) now.0 path.now None (content self.new))) };
 }

@@ -2,6 +2,7 @@ ghost use Rattle.std.specs.Prelude.{◌≡◌, ◌<◌, ◌+◌, None};
 ghost use Rattle.coap_resource.specs.Rate.{counted, rate_refusal, used, waited};
 
 use crate::refusal::StoreRefusal;
+use coap_types::Moment;
 
 /// How long a window is in which changes are counted, in milliseconds (profile: the 256 s within
 /// which sequence numbers have to tell notifications apart, RFC 7641, section 4.4).
@@ -17,8 +18,8 @@ const _: () = prove!(WINDOW_MS == 256_000 && 2 * MAX_CHANGES_PER_WINDOW < 1 << 2
 pub(crate) struct Tally {
     /// How many changes there were: the version of the last one.
     pub(crate) version: u64,
-    /// The last moment that counted, in milliseconds.
-    pub(crate) clock: u64,
+    /// The last moment that counted.
+    pub(crate) clock: Moment,
     /// How many changes a window takes.
     pub(crate) limit: u32,
     /// How many changes there were in the window of `clock`.
@@ -27,10 +28,10 @@ pub(crate) struct Tally {
 
 impl Tally {
     /// How many changes there were in the window of this moment.
-    fn used(&self, now: u64) -> u32
-        ensures { result ≡ used self.now now }
+    fn used(&self, now: Moment) -> u32
+        ensures { result ≡ used self.now now.0 }
     {
-        if self.clock.max(now) / WINDOW_MS == self.clock / WINDOW_MS {
+        if self.clock.0.max(now.0) / WINDOW_MS == self.clock.0 / WINDOW_MS {
             self.changes
         } else {
             0
@@ -38,9 +39,9 @@ impl Tally {
     }
 
     /// Why there can be no further change at this moment.
-    pub(crate) fn refusal(&self, now: u64) -> Option<StoreRefusal>
-        ensures refusal { result ≡ rate_refusal self.now now }
-        ensures room { result ≡ None → used self.now now < self.now.limit }
+    pub(crate) fn refusal(&self, now: Moment) -> Option<StoreRefusal>
+        ensures refusal { result ≡ rate_refusal self.now now.0 }
+        ensures room { result ≡ None → used self.now now.0 < self.now.limit }
         ensures next { result ≡ None → self.now.version < u64.MAX }
     {
         if self.used(now) >= self.limit {
@@ -53,25 +54,25 @@ impl Tally {
     }
 
     /// The tally when this moment has counted, and nothing changed.
-    pub(crate) fn waited(self, now: u64) -> Tally
-        ensures { result ≡ waited self now }
+    pub(crate) fn waited(self, now: Moment) -> Tally
+        ensures { result ≡ waited self now.0 }
     {
         Tally {
-            clock: self.clock.max(now),
+            clock: Moment(self.clock.0.max(now.0)),
             changes: self.used(now),
             ..self
         }
     }
 
     /// The tally after a further change at this moment.
-    pub(crate) fn counted(self, now: u64) -> Tally
-        requires room { used self now < self.limit }
+    pub(crate) fn counted(self, now: Moment) -> Tally
+        requires room { used self now.0 < self.limit }
         requires next { self.version < u64.MAX }
-        ensures { result ≡ counted self now }
+        ensures { result ≡ counted self now.0 }
     {
         Tally {
             version: self.version + 1,
-            clock: self.clock.max(now),
+            clock: Moment(self.clock.0.max(now.0)),
             changes: self.used(now) + 1,
             ..self
         }

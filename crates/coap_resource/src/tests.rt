@@ -1,10 +1,12 @@
-use crate::{Asking, ListStore, MAX_PATHS, Response, Store, StoreRefusal, rate_law, serve};
+use crate::{
+    Asking, ListStore, MAX_PATHS, Response, Store, StoreRefusal, rate_law, serve, value_of,
+};
 use StoreRefusal::{RateExceeded, TooLarge, TooManyPaths};
-use coap_types::{Code, Method, Opt, Path, Szx};
+use coap_types::{Code, Direction, Method, Moment, Opt, Path, Szx, recognised};
 use std::alloc::{AllocError, Global};
 
 // A path of one segment.
-fn path_of(alloc: Global, segment: &[u8]) -> Result<Path, AllocError> {
+pub(crate) fn path_of(alloc: Global, segment: &[u8]) -> Result<Path, AllocError> {
     let mut path = Path::new(alloc);
     match path.push(segment) {
         Ok(()) => Ok(path),
@@ -13,7 +15,7 @@ fn path_of(alloc: Global, segment: &[u8]) -> Result<Path, AllocError> {
 }
 
 // What a store answers to a request of these options.
-fn ask(
+pub(crate) fn ask(
     store: &mut ListStore,
     method: Method,
     path: &Path,
@@ -28,7 +30,7 @@ fn ask(
         body,
         szx,
     };
-    serve(store, 0, &asking)
+    serve(store, Moment(0), &asking)
 }
 
 // The code that a store answers which holds `hi` at `t` as its first change.
@@ -38,16 +40,26 @@ fn code_of(
     segment: &[u8],
     option: Opt<'_>,
 ) -> Result<Code, AllocError> {
+    code_by(alloc, method, segment, &[option])
+}
+
+// The same for a request of several options.
+fn code_by(
+    alloc: Global,
+    method: Method,
+    segment: &[u8],
+    options: &[Opt<'_>],
+) -> Result<Code, AllocError> {
     let Some(mut store) = ListStore::new(alloc, 4_194_303) else {
         return Err(AllocError);
     };
     let there = path_of(alloc, b"t")?;
-    let _first = store.put(0, &there, Some(0), b"hi");
+    let _first = store.put(Moment(0), &there, Some(0), b"hi");
     let path = path_of(alloc, segment)?;
     let Some(szx) = Szx::new(6) else {
         return Err(AllocError);
     };
-    let response = ask(&mut store, method, &path, &[option], b"x", szx)?;
+    let response = ask(&mut store, method, &path, options, b"x", szx)?;
     Ok(response.code)
 }
 
@@ -128,20 +140,135 @@ fn preconditions_come_before_the_method(rt: HostRuntime) -> Result<(), AllocErro
     Ok(())
 }
 
+const OTHER_TAG: &[u8] = &[0, 0, 0, 0, 0, 0, 0, 2];
+
+// The codes of requests with these two options, in this order and in the other.
+fn codes_of_two(
+    alloc: Global,
+    method: Method,
+    first: Opt<'_>,
+    second: Opt<'_>,
+) -> Result<(Code, Code), AllocError> {
+    let one = code_by(alloc, method, b"t", &[first, second])?;
+    let other = code_by(alloc, method, b"t", &[second, first])?;
+    Ok((one, other))
+}
+
+#[test]
+fn several_options_count_in_any_order(rt: HostRuntime) -> Result<(), AllocError> {
+    let cases: [(Method, (u16, &[u8]), (u16, &[u8]), Code); 11] = [
+        // If-Match: one of them matches, none does, the empty one matches, one byte does not.
+        (Method::Put, (1, TAG), (1, OTHER_TAG), Code::CHANGED),
+        (
+            Method::Put,
+            (1, OTHER_TAG),
+            (1, &[1]),
+            Code::PRECONDITION_FAILED,
+        ),
+        (Method::Put, (1, OTHER_TAG), (1, &[]), Code::CHANGED),
+        (Method::Delete, (1, TAG), (1, OTHER_TAG), Code::DELETED),
+        (
+            Method::Post,
+            (1, &[0]),
+            (1, &[0, 0, 0, 0, 0, 0, 1]),
+            Code::PRECONDITION_FAILED,
+        ),
+        // If-Match beside If-None-Match.
+        (Method::Put, (1, TAG), (5, &[]), Code::PRECONDITION_FAILED),
+        // ETag: one of them is the current one, none is.
+        (Method::Get, (4, OTHER_TAG), (4, TAG), Code::VALID),
+        (Method::Get, (4, OTHER_TAG), (4, &[1]), Code::CONTENT),
+        // Accept before ETag, ETag before Block2.
+        (Method::Get, (4, TAG), (17, &[50]), Code::NOT_ACCEPTABLE),
+        (Method::Get, (4, TAG), (23, &[0x10]), Code::VALID),
+        // A tag that is asked for is no tag that is known.
+        (Method::Get, (1, TAG), (4, OTHER_TAG), Code::CONTENT),
+    ];
+    for (method, first, second, code) in cases {
+        let first = Opt {
+            number: first.0,
+            value: first.1,
+        };
+        let second = Opt {
+            number: second.0,
+            value: second.1,
+        };
+        let codes = codes_of_two(rt.alloc(), method, first, second)?;
+        assert_eq!(rt; codes, (code, code));
+    }
+    Ok(())
+}
+
+// What a store that holds `hi` at `t` answers to a request of which these options are recognised.
+fn code_of_recognised(alloc: Global, options: &[Opt<'_>]) -> Result<(Code, bool), AllocError> {
+    let (kept, bad) = recognised(alloc, Direction::Request, options.iter().copied())?;
+    let code = code_by(alloc, Method::Get, b"t", &kept)?;
+    Ok((code, bad))
+}
+
+#[test]
+fn only_recognised_options_count(rt: HostRuntime) -> Result<(), AllocError> {
+    let cases: [((u16, &[u8]), (u16, &[u8]), Code, bool); 6] = [
+        // The first of two Accepts counts; one of 3 bytes does not, nor one behind it.
+        ((17, &[]), (17, &[50]), Code::CONTENT, true),
+        ((17, &[50]), (17, &[]), Code::NOT_ACCEPTABLE, true),
+        ((17, &[0, 0, 50]), (17, &[50]), Code::CONTENT, true),
+        // An ETag of no byte does not count, one behind it does.
+        ((4, &[]), (4, TAG), Code::VALID, false),
+        // An If-None-Match with a value does not count; Block2 of 4 bytes does not.
+        ((5, &[0]), (28, &[]), Code::CONTENT, true),
+        ((23, &[0, 0, 0, 0x10]), (28, &[]), Code::CONTENT, true),
+    ];
+    for (first, second, code, bad) in cases {
+        let options = [
+            Opt {
+                number: first.0,
+                value: first.1,
+            },
+            Opt {
+                number: second.0,
+                value: second.1,
+            },
+        ];
+        assert_eq!(rt; code_of_recognised(rt.alloc(), &options)?, (code, bad));
+    }
+    Ok(())
+}
+
+#[test]
+fn the_first_option_of_a_number_is_found(rt: HostRuntime) {
+    let options = [
+        Opt {
+            number: 11,
+            value: b"a",
+        },
+        Opt {
+            number: 17,
+            value: &[50],
+        },
+        Opt {
+            number: 17,
+            value: &[],
+        },
+    ];
+    assert_eq!(rt; value_of(&options, 17), Some([50].as_slice()));
+    assert_eq!(rt; value_of(&options, 12), None);
+}
+
 #[test]
 fn changes_are_numbered_joined_and_taken_away(rt: HostRuntime) -> Result<(), AllocError> {
     let path = path_of(rt.alloc(), b"log")?;
     let mut store: ListStore = Store::new(rt.alloc(), 4_194_303).expect(&rt, "in range");
     assert_eq!(rt; store.version(), 0);
-    assert_eq!(rt; store.append(0, &path, b"a"), Ok(None));
-    assert_eq!(rt; store.delete(0, &path), Ok(None));
-    assert_eq!(rt; store.put(0, &path, None, b"x"), Ok(1));
-    assert_eq!(rt; store.append(0, &path, b"a"), Ok(Some(2)));
-    assert_eq!(rt; store.append(0, &path, b"a"), Ok(Some(3)));
+    assert_eq!(rt; store.append(Moment(0), &path, b"a"), Ok(None));
+    assert_eq!(rt; store.delete(Moment(0), &path), Ok(None));
+    assert_eq!(rt; store.put(Moment(0), &path, None, b"x"), Ok(1));
+    assert_eq!(rt; store.append(Moment(0), &path, b"a"), Ok(Some(2)));
+    assert_eq!(rt; store.append(Moment(0), &path, b"a"), Ok(Some(3)));
     let held = store.get(&path).expect(&rt, "it is there");
     assert_eq!(rt; held.body.as_slice(), b"xaa".as_slice());
     assert_eq!(rt; (held.version, held.format), (3, None));
-    assert_eq!(rt; store.delete(0, &path), Ok(Some(4)));
+    assert_eq!(rt; store.delete(Moment(0), &path), Ok(Some(4)));
     assert!(rt; store.get(&path).is_none());
     assert_eq!(rt; store.version(), 4);
     Ok(())
@@ -152,15 +279,24 @@ fn a_window_of_256_s_takes_so_many_changes(rt: HostRuntime) -> Result<(), AllocE
     let path = path_of(rt.alloc(), b"t")?;
     let large = Vec::from_elem(rt.alloc(), 0u8, 65_537)?;
     let mut store: ListStore = Store::new(rt.alloc(), 2).expect(&rt, "in range");
-    assert_eq!(rt; store.put(0, &path, None, b"a"), Ok(1));
-    assert_eq!(rt; store.put(255_999, &path, None, b"b"), Ok(2));
-    assert_eq!(rt; store.put(255_999, &path, None, b"c"), Err(RateExceeded));
-    assert_eq!(rt; store.delete(255_999, &path), Err(RateExceeded));
-    assert_eq!(rt; store.put(256_000, &path, None, &large), Err(TooLarge));
+    assert_eq!(rt; store.put(Moment(0), &path, None, b"a"), Ok(1));
+    assert_eq!(rt; store.put(Moment(255_999), &path, None, b"b"), Ok(2));
+    assert_eq!(rt;
+        store.put(Moment(255_999), &path, None, b"c"),
+        Err(RateExceeded)
+    );
+    assert_eq!(rt; store.delete(Moment(255_999), &path), Err(RateExceeded));
+    assert_eq!(rt;
+        store.put(Moment(256_000), &path, None, &large),
+        Err(TooLarge)
+    );
     // The moment of the refused one has counted.
-    assert_eq!(rt; store.put(255_999, &path, None, b"c"), Ok(3));
-    assert_eq!(rt; store.append(511_999, &path, b"d"), Ok(Some(4)));
-    assert_eq!(rt; store.append(511_999, &path, b"e"), Err(RateExceeded));
+    assert_eq!(rt; store.put(Moment(255_999), &path, None, b"c"), Ok(3));
+    assert_eq!(rt; store.append(Moment(511_999), &path, b"d"), Ok(Some(4)));
+    assert_eq!(rt;
+        store.append(Moment(511_999), &path, b"e"),
+        Err(RateExceeded)
+    );
     let refused: [u32; 2] = [0, 4_194_304];
     for changes in refused {
         let none: Option<ListStore> = Store::new(rt.alloc(), changes);
@@ -177,51 +313,16 @@ fn bodies_and_paths_are_bounded(rt: HostRuntime) -> Result<(), AllocError> {
     for number in 0..MAX_PATHS {
         let segment = [(number / 256) as u8, (number % 256) as u8];
         let path = path_of(rt.alloc(), &segment)?;
-        assert!(rt; store.put(0, &path, None, b"").is_ok());
+        assert!(rt; store.put(Moment(0), &path, None, b"").is_ok());
     }
     let first = path_of(rt.alloc(), &[0, 0])?;
     let another = path_of(rt.alloc(), &[1, 0])?;
-    assert_eq!(rt; store.put(0, &another, None, b""), Err(TooManyPaths));
-    assert_eq!(rt; store.put(0, &first, None, &full), Ok(257));
-    assert_eq!(rt; store.append(0, &first, b"a"), Err(TooLarge));
-    assert_eq!(rt; store.append(0, &first, b""), Ok(Some(258)));
-    Ok(())
-}
-
-#[test]
-fn bodies_are_served_in_blocks(rt: HostRuntime) -> Result<(), AllocError> {
-    let path = path_of(rt.alloc(), b"t")?;
-    let szx = Szx::new(6).expect(&rt, "at most 6");
-    // The length of the body, Block2, the offset that it asks for, and NUM, M, SZX and the length of
-    // the part.
-    let cases: [(usize, &[u8], u32, u32, bool, u8, usize); 12] = [
-        (0, &[0x00], 0, 0, false, 0, 0),
-        (1, &[0x06], 0, 0, false, 6, 1),
-        (16, &[0x00], 0, 0, false, 0, 16),
-        (17, &[0x00], 0, 0, true, 0, 16),
-        (17, &[0x10], 16, 1, false, 0, 1),
-        (300, &[0x13], 128, 1, true, 3, 128),
-        (300, &[0x23], 256, 2, false, 3, 44),
-        (1_024, &[0x06], 0, 0, false, 6, 1_024),
-        (1_025, &[], 0, 0, true, 0, 16),
-        (1_025, &[0x16], 1_024, 1, false, 6, 1),
-        (65_536, &[0x03, 0xf6], 64_512, 63, false, 6, 1_024),
-        (65_536, &[0xff, 0xf0], 65_520, 4_095, false, 0, 16),
-    ];
-    for (len, block2, offset, num, more, exponent, part) in cases {
-        let mut store: ListStore = Store::new(rt.alloc(), 1).expect(&rt, "in range");
-        let body = Vec::from_elem(rt.alloc(), 7u8, len)?;
-        assert_eq!(rt; store.put(0, &path, None, &body), Ok(1));
-        let options = [Opt {
-            number: 23,
-            value: block2,
-        }];
-        let response = ask(&mut store, Method::Get, &path, &options, b"", szx)?;
-        assert_eq!(rt; response.code, Code::CONTENT);
-        let sent = response.block2.expect(&rt, "asked for");
-        assert_eq!(rt; (sent.0, sent.1, sent.2.get()), (num, more, exponent));
-        assert_eq!(rt; response.part.len(), part);
-        assert_eq!(rt; response.offset, offset);
-    }
+    assert_eq!(rt;
+        store.put(Moment(0), &another, None, b""),
+        Err(TooManyPaths)
+    );
+    assert_eq!(rt; store.put(Moment(0), &first, None, &full), Ok(257));
+    assert_eq!(rt; store.append(Moment(0), &first, b"a"), Err(TooLarge));
+    assert_eq!(rt; store.append(Moment(0), &first, b""), Ok(Some(258)));
     Ok(())
 }

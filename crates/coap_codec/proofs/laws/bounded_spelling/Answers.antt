@@ -1,0 +1,5 @@
+use Rattle.coap_codec.proofs.SpellingLength.{bounded_spelling}
+use Rattle.coap_codec.proofs.laws.bounded_spelling.Goals as goal
+
+pub returns : goal.returns
+returns c = bounded_spelling

@@ -1,0 +1,31 @@
+-- Which messages have a spelling, and how long it is at most (RFC 7252, sections 3 and 3.1).
+use Rattle.std.specs.Prelude.{◌≡◌, ℕ, ◌+◌, ◌<◌, ◌≤◌, ◌^◌, nat_lt, Bool, true, List, [], ◌∷◌, length}
+use Rattle.std.specs.List.{list_all}
+use Rattle.coap_types.specs.CoapOption.{CoapOption}
+use Rattle.coap_codec.specs.Message.{Message, Spells}
+use Rattle.coap_codec.specs.Refused.{ascends, is_short}
+
+-- the number has 16 bits
+abbrev pub is_numbered : CoapOption → Bool
+is_numbered option = nat_lt option.number 65536
+
+-- how many bytes options are at most: each is one byte, at most two that extend the delta, at most two that extend the
+-- length, and its value
+abbrev pub most_bytes : List CoapOption → ℕ
+most_bytes [] = 0
+most_bytes (option ∷ options) = (5 + length option.value) + most_bytes options
+
+-- The message isn't Empty, its numbers have the bits of the format, and its options ascend and are short.
+pub record CanBeSpelled (m : Message) : Type 0 where
+  pub some : 0 < m.code
+  pub code : m.code < 2 ^ 8
+  pub id : m.id < 2 ^ 16
+  pub token : length m.token ≤ 8
+  pub order : ascends 0 m.options ≡ true
+  pub numbers : list_all is_numbered m.options ≡ true
+  pub short : list_all is_short m.options ≡ true
+
+-- Such a message has a spelling, of the header, the token, the options, the payload marker and the payload at most.
+abbrev pub BoundedSpelling : Type 0
+BoundedSpelling = (m : Message) → CanBeSpelled m
+    → (bytes : List ℕ) × Spells bytes m × (length bytes ≤ 4 + (length m.token + (most_bytes m.options + (1 + length m.payload))))

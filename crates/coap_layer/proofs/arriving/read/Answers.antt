@@ -1,0 +1,7 @@
+use Rattle.std.proofs.Common.{arith}
+use Rattle.coap_layer.proofs.ArrivingLemmas.{read_shows}
+use Rattle.coap_layer.proofs.arriving.read.Goals as goal
+
+pub returns-clause-shows : goal.returns-clause-shows
+returns-clause-shows c =
+    read_shows c.args.bytes.now c.decode.result (λ i. omega (arith, c.type_inv.bytes i)) c.decode.ensures.found c.decode.ensures.fault c.decode.ensures.head

@@ -1,0 +1,5 @@
+use Rattle.coap_layer.proofs.SendableLemmas.{sendable_when_short}
+use Rattle.coap_layer.proofs.laws.sendable_law.Goals as goal
+
+pub returns : goal.returns
+returns c = sendable_when_short

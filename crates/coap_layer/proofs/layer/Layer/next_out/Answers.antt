@@ -1,0 +1,24 @@
+use Rattle.std.proofs.Common.{rules, ap, sym, ◌∙◌, refl, [], arith}
+use Rattle.coap_layer.specs.Parts.{held}
+use Rattle.coap_layer.specs.State.{State, forgotten}
+use Rattle.coap_layer.specs.Trace.{Gives, Take}
+use Rattle.coap_layer.proofs.CallLemmas.{first_is, moved, step_of, taken_so}
+use Rattle.coap_layer.proofs.Forgetting.{led_step}
+use Rattle.coap_layer.proofs.PlaceLemmas.{placed_unmarked}
+use Rattle.coap_layer.proofs.TakingLemmas.{room_kept}
+use Rattle.coap_layer.proofs.layer.Layer.next_out.Goals as goal
+
+pub invariant_of-self : goal.invariant_of-self
+invariant_of-self g c =
+    let i = c.self.invariant in
+    (tt, room_kept c.self.inside.room c.self.inside.lists _ i.1 (omega arith) refl (λ x. search rules), placed_unmarked _ _ _ _ c.self.inside.mark c.self.inside.lists.entries.items i.2)
+
+pub returns-clause-step : goal.returns-clause-step
+returns-clause-step g c =
+    let h : State = held c.self.inside.clock c.self.inside.awaits c.self.inside.ids c.self.inside.lists in
+    step_of h c.args.self.now.state _ 0 h.clock Take (Gives c.pop_front.result) [] (ap (λ s. s.state) c.self.view_is) tt refl
+    (ap Gives (first_is c.pop_front.result c.self.inside.lists.waiting.items c.pop_front.new.self.items c.pop_front.ensures.items (λ more. c.pop_front.ensures.variant.1 (search rules)))) refl
+    (ap (λ q. forgotten (moved h h.clock h.awaits h.arrived h.open_cons q)) c.pop_front.ensures.rest ∙ ap forgotten (sym (taken_so h c.pop_front.result)))
+
+pub returns-clause-led : goal.returns-clause-led
+returns-clause-led g c word t led = led_step word t _ _ _ _ _ led (returns-clause-step g c)

@@ -1,0 +1,23 @@
+use Rattle.std.proofs.Common.{rules, ap, sym, refl, []}
+use Rattle.coap_layer.specs.Parts.{held}
+use Rattle.coap_layer.specs.State.{State, forgotten}
+use Rattle.coap_layer.specs.Trace.{Nothing, Pass}
+use Rattle.coap_layer.proofs.CallLemmas.{step_of, still}
+use Rattle.coap_layer.proofs.Forgetting.{led_step}
+use Rattle.coap_layer.proofs.PlaceLemmas.{placed_later}
+use Rattle.coap_layer.proofs.layer.Layer.pass.Goals as goal
+
+pub invariant_of-self : goal.invariant_of-self
+invariant_of-self g c =
+    let i = c.self.invariant in
+    (i.0, i.1, placed_later _ _ _ _ _ _ c.self.inside.lists.entries.items (search rules) i.2)
+
+pub returns-clause-step : goal.returns-clause-step
+returns-clause-step g c =
+    let h : State = held c.self.inside.clock c.self.inside.awaits c.self.inside.ids c.self.inside.lists in
+    let at = c.max-self-inside.result in
+    step_of h c.args.self.now.state _ c.args.now.0 at Pass Nothing [] (ap (λ s. s.state) c.self.view_is) tt (search rules) refl refl
+    (ap forgotten (sym (still h at Pass Nothing h.awaits (λ a. refl) (λ x. refl) refl refl refl refl refl)))
+
+pub returns-clause-led : goal.returns-clause-led
+returns-clause-led g c word t led = led_step word t _ _ _ _ _ led (returns-clause-step g c)

@@ -1,0 +1,34 @@
+use Rattle.std.proofs.Common.{rules, ap, sym, ◌∙◌, [], ◌∷◌, ◌++◌, List}
+use Rattle.coap_types.specs.declared.message.Kind.TheVariants.{Non}
+use Rattle.coap_codec.specs.Writing.{message_bytes}
+use Rattle.coap_layer.specs.Entries.{arrivals_in}
+use Rattle.coap_layer.specs.Parts.{held}
+use Rattle.coap_layer.specs.Sendings.{open_now}
+use Rattle.coap_layer.specs.State.{State}
+use Rattle.coap_layer.specs.Trace.{Packet, with_head}
+use Rattle.coap_layer.proofs.Forgetting.{led_step}
+use Rattle.coap_layer.proofs.SendLemmas.{non_left, non_refused}
+use Rattle.coap_layer.proofs.layer.Layer.plain.Goals as goal
+
+pub returns-in-Some-clause-step : goal.returns-in-Some-clause-step
+returns-in-Some-clause-step g c _ =
+    let h : State = held c.self.inside.clock c.self.inside.awaits c.self.inside.ids c.self.inside.lists in
+    non_refused h c.args.self.now.state c.args.now.0 c.max-at.result c.args.to c.args.content.now (ap (λ s. s.state) c.self.view_is) c.requires.spelled (search rules)
+    c.would_give.result c.in-Some.refusal c.would_give.ensures (sym c.refusal.ensures ∙ c.in-Some.is)
+
+pub returns-in-Some-clause-led : goal.returns-in-Some-clause-led
+returns-in-Some-clause-led g c sent first t led = led_step first t _ _ _ _ _ led (returns-in-Some-clause-step g c sent)
+
+pub returns-clause-step : goal.returns-clause-step
+returns-clause-step g c _ =
+    let h : State = held c.self.inside.clock c.self.inside.awaits c.self.inside.ids c.self.inside.lists in
+    let out : List Packet = record { to = c.args.to; bytes = message_bytes (with_head Non c.give-id.result.0 c.args.content.now) } ∷ [] in
+    non_left h c.args.self.now.state c.args.now.0 c.max-at.result c.args.to c.args.content.now (ap (λ s. s.state) c.self.view_is) c.requires.spelled (search rules)
+    c.would_give.result c.give-id.result _ _ _ _ _ c.would_give.ensures (sym c.refusal.ensures ∙ c.in_default.is) c.give-id.ensures.id
+    (ap (λ s. s.upcoming) c.give-id.ensures.new) (ap (λ s. s.last_used) c.give-id.ensures.new)
+    (ap (λ v. arrivals_in v.items) (c.send_non.ensures.entries ∙ c.take_room.ensures.entries))
+    (ap (λ v. open_now v.items) c.send_non.ensures.sendings ∙ ap open_now c.take_room.ensures.sendings)
+    (c.send_non.ensures.waiting ∙ ap (λ (q : List Packet). q ++ out) c.take_room.ensures.waiting)
+
+pub returns-clause-led : goal.returns-clause-led
+returns-clause-led g c sent first t led = led_step first t _ _ _ _ _ led (returns-clause-step g c sent)

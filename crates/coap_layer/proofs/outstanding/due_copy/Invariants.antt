@@ -1,0 +1,7 @@
+use Rattle.std.proofs.Common.{◌≡◌, drop}
+use Rattle.coap_layer.specs.Sendings.{open_now}
+use Rattle.coap_layer.specs.State.{copies}
+use Rattle.coap_layer.proofs.outstanding.due_copy.Given as goal
+
+abbrev pub invariant-loop-c : goal.invariant-loop-c
+invariant-loop-c g l = copies l.at (open_now (drop l.c-index l.sendings.items)) ≡ copies l.at (open_now l.sendings.items)

@@ -1,0 +1,7 @@
+use Rattle.std.proofs.Common.{ap, ◌∙◌}
+use Rattle.coap_layer.specs.Sendings.{open_now}
+use Rattle.coap_layer.proofs.OutstandingLemmas.{back_open}
+use Rattle.coap_layer.proofs.outstanding.put_back.Goals as goal
+
+pub returns-clause-open : goal.returns-clause-open
+returns-clause-open g c = ap open_now c.put_all_back.ensures.items ∙ back_open c.args.sendings.now.items

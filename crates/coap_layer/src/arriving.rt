@@ -1,0 +1,239 @@
+ghost use Rattle.std.specs.Prelude.{◌≡◌, ◌≤◌, ◌<◌, length, ◌++◌, ◌∷◌, [], true, List, Ok, option_to_list, IfOk, IsOk};
+ghost use Rattle.std.specs.Vec.{vec_len, vec_capacity};
+ghost use Rattle.coap_codec.specs.Message.{AreBytes};
+ghost use Rattle.coap_layer.specs.Arrivals.{arrival_at};
+ghost use Rattle.coap_layer.specs.Arriving.{IsArriving, shown_by, told_by, of_head, sent_by, newly_by, awaits_by, open_by, ends as ends_lem, hands as hands_lem, keeps as keeps_lem};
+ghost use Rattle.coap_layer.specs.Entries.{arrivals_in};
+ghost use Rattle.coap_layer.specs.Parts.{awaited, open_before};
+ghost use Rattle.coap_layer.specs.Rows.{reset_to};
+ghost use Rattle.coap_layer.specs.Sendings.{open_now};
+ghost use Rattle.coap_layer.specs.State.{State, answer_to, is_free};
+ghost use Rattle.coap_layer.specs.Ups.{answer_as};
+
+use crate::Up;
+use crate::arrival::{Known, Verdict, classify};
+use crate::datagram::Datagram;
+use crate::dedup::{Remembered, is_full, is_remembered, remember, stored_reply};
+use crate::lists::Lists;
+use crate::mark::Awaiting;
+use crate::retransmission::{Sending, end_all, is_outstanding};
+use coap_codec::{Fault, View, decode};
+use coap_types::{Code, Endpoint, Id, Kind, Role};
+use std::alloc::{AllocError, Allocator};
+
+/// The first byte of a Reset: version 1, type 3, no token (RFC 7252, section 3).
+const RESET: u8 = 0x70;
+
+/// A datagram that arrived: its type and Message ID, and what becomes of it.
+#[derive(Clone, Copy)]
+pub(crate) struct Arriving {
+    pub(crate) kind: Kind,
+    pub(crate) id: Id,
+    pub(crate) verdict: Verdict,
+}
+
+/// The message of a datagram, or its fault.
+pub(crate) fn read(bytes: &[u8]) -> Result<View<'_>, Fault>
+    ensures bytes { AreBytes bytes.now }
+    ensures shows { shown_by result ≡ arrival_at bytes.now }
+{
+    decode(bytes)
+}
+
+/// What becomes of a datagram that spells no message.
+fn of_fault(fault: &Fault) -> Arriving
+    ensures { result ≡ of_head fault.now.head }
+{
+    match fault.head {
+        None => Arriving {
+            kind: Kind::Non,
+            id: Id(0),
+            verdict: Verdict::Drop,
+        },
+        Some((Kind::Con, id)) => Arriving {
+            kind: Kind::Con,
+            id,
+            verdict: Verdict::Reject,
+        },
+        Some((kind, id)) => Arriving {
+            kind,
+            id,
+            verdict: Verdict::Drop,
+        },
+    }
+}
+
+/// What becomes of a message.
+fn of_message<A: Allocator + Copy>(
+    message: &View<'_>,
+    at: u64,
+    from: Endpoint,
+    lists: &Lists<A>,
+    free: bool,
+) -> Arriving
+    ensures { (s : State) → s.arrived ≡ arrivals_in lists.now.entries.items → s.open_cons ≡ open_now lists.now.sendings.items → is_free at s.upcoming s.last_used ≡ free
+        → IsArriving s at from (shown_by (Ok message.now)) result × (told_by result.verdict (Ok message.now) ≡ answer_to s at from (shown_by (Ok message.now))) }
+{
+    let kind = message.kind();
+    let id = message.id();
+    let known = Known {
+        outstanding: is_outstanding(&lists.sendings, from, id),
+        remembered: is_remembered(&lists.entries, at, from, id),
+        full: is_full(&lists.entries, at),
+        free,
+    };
+    Arriving {
+        kind,
+        id,
+        verdict: classify(kind, Role::of(message.code()), known),
+    }
+}
+
+/// What becomes of a datagram.
+pub(crate) fn judge<A: Allocator + Copy>(
+    read: &Result<View<'_>, Fault>,
+    at: u64,
+    from: Endpoint,
+    lists: &Lists<A>,
+    free: bool,
+) -> Arriving
+    ensures { (s : State) → s.arrived ≡ arrivals_in lists.now.entries.items → s.open_cons ≡ open_now lists.now.sendings.items → is_free at s.upcoming s.last_used ≡ free
+        → IsArriving s at from (shown_by read.now) result × (told_by result.verdict read.now ≡ answer_to s at from (shown_by read.now)) }
+{
+    match read {
+        Ok(message) => of_message(message, at, from, lists, free),
+        Err(fault) => of_fault(fault),
+    }
+}
+
+/// What the layer above is told.
+pub(crate) fn told<'d>(read: Result<View<'d>, Fault>, verdict: Verdict) -> Up<'d>
+    ensures { answer_as result ≡ told_by verdict read.entry }
+{
+    match (read, verdict) {
+        (_, Verdict::Reject) => Up::Rejected,
+        (Ok(message), Verdict::TakeAck) => Up::Acked(message.id()),
+        (Ok(message), Verdict::TakeReset) => Up::Reset(message.id()),
+        (Ok(_), Verdict::Replay) => Up::Replayed,
+        (Ok(message), Verdict::HandUpRequest(remembered)) => Up::Request {
+            message,
+            remembered,
+        },
+        (Ok(message), Verdict::HandUpResponse) => Up::Response(message),
+        (_, _) => Up::Dropped,
+    }
+}
+
+/// A Reset (RFC 7252, section 4.2).
+fn reset<A: Allocator + Copy>(alloc: A, to: Endpoint, id: Id) -> Result<Datagram<A>, AllocError>
+    ensures { IfOk result (λ d. d ≡ reset_to to id.0) }
+{
+    let [high, low] = id.0.to_be_bytes();
+    let bytes = Vec::from_slice(alloc, &[RESET, Code::EMPTY.0, high, low])?;
+    Ok(Datagram { to, bytes })
+}
+
+/// What is sent at once.
+pub(crate) fn sent<A: Allocator + Copy>(
+    alloc: A,
+    at: u64,
+    from: Endpoint,
+    arriving: Arriving,
+    entries: &Vec<Remembered<A>, A>,
+) -> Result<Option<Datagram<A>>, AllocError>
+    ensures sent { IfOk result (λ d. option_to_list d ≡ sent_by at from (arrivals_in entries.now.items) arriving) }
+    ensures silent { sent_by at from (arrivals_in entries.now.items) arriving ≡ [] → IsOk result }
+{
+    match (arriving.verdict, arriving.kind) {
+        (Verdict::Reject, _) => Ok(Some(reset(alloc, from, arriving.id)?)),
+        (Verdict::Replay, Kind::Con) => match stored_reply(entries, at, from, arriving.id) {
+            Some(reply) => {
+                let bytes = Vec::from_slice(alloc, reply)?;
+                Ok(Some(Datagram { to: from, bytes }))
+            }
+            None => Ok(None),
+        },
+        _ => Ok(None),
+    }
+}
+
+/// Whether a retransmission ends.
+fn ends(verdict: Verdict) -> bool
+    ensures { result ≡ ends_lem verdict }
+{
+    matches!(verdict, Verdict::TakeAck | Verdict::TakeReset)
+}
+
+/// Whether a Confirmable or Non-confirmable message is handed up: a reply may be given to it.
+pub(crate) fn hands(arriving: Arriving) -> bool
+    ensures { result ≡ hands_lem arriving.verdict arriving.kind }
+{
+    match arriving.verdict {
+        Verdict::HandUpRequest(_) => true,
+        Verdict::HandUpResponse => matches!(arriving.kind, Kind::Con | Kind::Non),
+        _ => false,
+    }
+}
+
+/// Whether it is remembered from now on.
+pub(crate) fn keeps(arriving: Arriving) -> bool
+    ensures { result ≡ keeps_lem arriving.verdict arriving.kind }
+{
+    match arriving.verdict {
+        Verdict::HandUpRequest(kept) => kept,
+        Verdict::HandUpResponse => matches!(arriving.kind, Kind::Con | Kind::Non),
+        _ => false,
+    }
+}
+
+/// What a reply may be given to from now on.
+pub(crate) fn awaiting(from: Endpoint, arriving: Arriving) -> Option<Awaiting>
+    ensures { awaited result ≡ awaits_by from arriving }
+{
+    if hands(arriving) {
+        Some(Awaiting {
+            from,
+            id: arriving.id,
+        })
+    } else {
+        None
+    }
+}
+
+/// Ends the retransmission that is acknowledged or rejected.
+pub(crate) fn end_by<A: Allocator + Copy>(
+    from: Endpoint,
+    arriving: Arriving,
+    sendings: &mut Vec<Sending<A>, A>,
+)
+    ensures open { open_now sendings.new.items ≡ open_by from arriving (open_now sendings.old.items) }
+    ensures before { open_before sendings.new.items ≡ open_before sendings.old.items }
+    ensures len { vec_len sendings.new ≡ vec_len sendings.old }
+    ensures capacity { vec_capacity sendings.new ≡ vec_capacity sendings.old }
+{
+    if ends(arriving.verdict) {
+        end_all(sendings, from, arriving.id);
+    }
+}
+
+/// Remembers a message that is handed up, for which there is room.
+pub(crate) fn keep_by<A: Allocator + Copy>(
+    at: u64,
+    from: Endpoint,
+    arriving: Arriving,
+    entries: &mut Vec<Remembered<A>, A>,
+)
+    requires { keeps_lem arriving.verdict arriving.kind ≡ true → vec_len entries.old < vec_capacity entries.old }
+    ensures items { (more : List _) × (entries.new.items ≡ entries.old.items ++ more) × (arrivals_in more ≡ newly_by at from arriving) × (length more ≤ 1) }
+{
+    if keeps(arriving) {
+        let entry = Remembered {
+            from,
+            id: arriving.id,
+            at,
+            con: arriving.kind == Kind::Con,
+            reply: None,
+        };
+        remember(entries, entry);
+    }
+}

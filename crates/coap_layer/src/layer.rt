@@ -1,0 +1,355 @@
+ghost use Rattle.std.specs.Prelude.{◌≡◌, ◌≢◌, ◌≤◌, ℕ, List, ◌∷◌, [], Err, None, Some, IsSome, IsOk, IfOk, OnOk, OnErr, length, true, false, max};
+ghost use Rattle.coap_codec.specs.Message.{Message};
+ghost use Rattle.coap_layer.specs.declared.up.SendRefusal.TheVariants as refused;
+ghost use Rattle.coap_layer.specs.LayerLed.{LayerLed};
+ghost use Rattle.coap_layer.specs.Sendable.{IsSendable};
+ghost use Rattle.coap_layer.specs.Shown.{MayReply};
+ghost use Rattle.coap_layer.specs.State.{Step, answer_of, copies, made, start};
+ghost use Rattle.coap_layer.specs.Trace.{Answer, Entry, Receive, Reply, Confirm, Plain, Settle, Ticks, Take, Room as AsksRoom, AsksFree, Pass, Nothing, Is, Gives};
+ghost use Rattle.coap_layer.specs.Ups.{IsQuiet, IsTick, answer_as, sent_as};
+ghost use Rattle.coap_layer.specs.Words.{handed_by};
+
+use crate::arriving::{awaiting, hands, judge, keeps, read, sent, told};
+use crate::datagram::push_within;
+use crate::dedup::store_reply;
+use crate::lists::Lists;
+use crate::mark::{Awaiting, Mark};
+use crate::outstanding::{due_copy, put_back};
+use crate::retransmission::{end_all, is_busy, is_outstanding, ticked};
+use crate::room::{Brings, Room, filled, grow, take_room};
+use crate::sending::{refusal, send_con, send_non};
+use crate::taking::{Moments, take_in, take_tick};
+use crate::{Content, Datagram, IdSource, SendRefusal, Tick, Up};
+use coap_types::{Endpoint, Id, Moment};
+use std::alloc::{AllocError, Allocator};
+use std::collections::VecDeque;
+use std::marker::Model;
+
+/// The message layer of an end (RFC 7252, section 4).
+///
+/// It is handed what arrives, what is to be sent, and the time; it says what an arrival is, and
+/// gives out datagrams. A moment before the last one counts as the last.
+#[derive(Drop)]
+pub struct Layer<A: Allocator + Copy> {
+    alloc: A,
+    clock: u64,
+    awaits: Option<Awaiting>,
+    ids: IdSource,
+    lists: Lists<A>,
+    room: Option<Room<A>>,
+    /// A reply may be given to the message that was handed up last.
+    replies: bool,
+    /// Where that message stands, if it is remembered.
+    place: usize,
+    mark: Option<Mark>,
+}
+
+impl<A: Allocator + Copy> Model for Layer<A> {
+    ghost use Rattle.coap_layer.specs.Shown.{Shown};
+
+    ghost Value = { Shown };
+
+    ghost use Rattle.std.specs.Prelude.{is_some, length};
+    ghost use Rattle.coap_layer.specs.Parts.{awaited, before_of, held};
+    ghost use Rattle.coap_layer.specs.Sound.{IsWithin, HasRoom, IsPlaced};
+    ghost use Rattle.coap_layer.specs.State.{forgotten};
+
+    ghost view = { λ l. record {
+      state = forgotten (held l.clock l.awaits l.ids l.lists);
+      before = before_of l.mark l.lists.entries.items l.lists.sendings.items l.lists.waiting.items;
+      has_room = is_some l.room;
+      replies = l.replies;
+    } };
+
+    ghost invariant = { λ l. IsWithin l.mark (length l.lists.entries.items) (length l.lists.waiting.items)
+        × HasRoom l.room l.lists
+        × IsPlaced l.clock (awaited l.awaits) l.replies l.place l.mark l.lists.entries.items };
+}
+
+impl<A: Allocator + Copy> Layer<A> {
+    /// A layer to which nothing has happened. The word picks its first Message ID: the first of
+    /// group `word` mod 16.
+    pub fn new(alloc: A, word: u64) -> Layer<A>
+        ensures start { result.state ≡ start word }
+        ensures led { LayerLed word [] result.state }
+        ensures before { result.before ≡ None }
+    {
+        Layer {
+            alloc,
+            clock: 0,
+            awaits: None,
+            ids: IdSource::new(word),
+            lists: Lists {
+                entries: Vec::new(alloc),
+                sendings: Vec::new(alloc),
+                waiting: VecDeque::new(alloc),
+            },
+            room: None,
+            replies: false,
+            place: 0,
+            mark: None,
+        }
+    }
+
+    /// The last moment that counted.
+    pub fn clock(&self) -> Moment
+        ensures { result.0 ≡ self.now.state.clock }
+    {
+        Moment(self.clock)
+    }
+
+    /// Takes a datagram that arrived, and says what becomes of it (RFC 7252, sections 4.2, 4.3 and
+    /// 4.5). To what is handed up, `reply` or `plain` may be called, which is not refused memory
+    /// then.
+    pub fn receive<'d>(
+        &mut self,
+        now: Moment,
+        from: Endpoint,
+        bytes: &'d [u8],
+    ) -> Result<Up<'d>, AllocError>
+        ensures step { IfOk result (λ up. Step self.old.state now.0 (Receive from bytes.now) (answer_as up) self.new.state) }
+        ensures led { IsOk result → (word : ℕ) (t : List Entry) → LayerLed word t self.old.state → LayerLed word (made self.old.state now.0 (Receive from bytes.now) ∷ t) self.new.state }
+        ensures before { OnOk result (self.new.before ≡ Some self.old.state) }
+        ensures may_reply { IfOk result (λ up. (m : Message) → handed_by (answer_as up) ≡ Some m → MayReply self.new from m.id) }
+        ensures err { OnErr result (self.new ≡ self.old) }
+        // Where nothing is sent and nothing is handed up, it takes no memory.
+        ensures quiet { IsQuiet (made self.old.state now.0 (Receive from bytes.now)) → IsOk result }
+    {
+        let moments = Moments {
+            last: self.clock,
+            at: self.clock.max(now.0),
+        };
+        let datagram = read(bytes);
+        let free = self.ids.would_give(moments.at);
+        let arriving = judge(&datagram, moments.at, from, &self.lists, free);
+        let sent = sent(self.alloc, moments.at, from, arriving, &self.lists.entries)?;
+        let brings = Brings {
+            keeps: keeps(arriving),
+            hands: hands(arriving),
+            sends: sent.is_some(),
+        };
+        grow(self.alloc, brings, &mut self.room, &mut self.lists)?;
+        // Nothing fails from here on.
+        let mark = take_in(
+            moments,
+            self.awaits,
+            &self.ids,
+            from,
+            arriving,
+            sent,
+            &mut self.lists,
+        );
+        self.clock = moments.at;
+        self.awaits = awaiting(from, arriving);
+        self.replies = true;
+        self.place = mark.entries;
+        self.mark = Some(mark);
+        Ok(told(datagram, arriving.verdict))
+    }
+
+    /// Sends the reply to the message that was handed up last, and stores it for a Confirmable one,
+    /// so that a duplicate gets it again (RFC 7252, sections 4.2 and 4.5). It takes no memory.
+    pub fn reply(&mut self, to: Endpoint, id: Id, bytes: &[u8])
+        requires may { MayReply self.old to id.0 }
+        requires short { length bytes.now ≤ 1152 }
+        ensures step { Step self.old.state 0 (Reply to id.0 bytes.now) Nothing self.new.state }
+        ensures led { (word : ℕ) (t : List Entry) → LayerLed word t self.old.state → LayerLed word (made self.old.state 0 (Reply to id.0 bytes.now) ∷ t) self.new.state }
+        ensures before { self.new.before ≡ self.old.before }
+    {
+        if let Some(room) = self.room.take() {
+            let Room { sent, kept } = room;
+            let sent = filled(sent, bytes);
+            let stored = filled(kept, bytes);
+            store_reply(&mut self.lists.entries, self.place, to, id, stored);
+            push_within(&mut self.lists.waiting, Datagram { to, bytes: sent });
+            self.awaits = None;
+        }
+    }
+
+    /// Sends a Confirmable message, and answers its Message ID (RFC 7252, section 4.2). The word
+    /// picks the initial timeout: 2,000 ms and `word` mod 1,001.
+    pub fn confirm(
+        &mut self,
+        now: Moment,
+        to: Endpoint,
+        content: &Content<'_>,
+        word: u64,
+    ) -> Result<Id, SendRefusal>
+        requires { IsSendable content.now }
+        ensures step { result ≢ Err refused.Memory → Step self.old.state now.0 (Confirm to content.now word) (sent_as result) self.new.state }
+        ensures led { result ≢ Err refused.Memory → (first : ℕ) (t : List Entry) → LayerLed first t self.old.state → LayerLed first (made self.old.state now.0 (Confirm to content.now word) ∷ t) self.new.state }
+        ensures before { self.new.before ≡ self.old.before }
+        ensures room { self.old.has_room ≡ true → result ≢ Err refused.Memory }
+        ensures memory { result ≡ Err refused.Memory → self.new ≡ self.old }
+    {
+        let at = self.clock.max(now.0);
+        let busy = is_busy(&self.lists.sendings, to);
+        if let Some(refusal) = refusal(busy, self.ids.would_give(at)) {
+            self.clock = at;
+            self.awaits = None;
+            return Err(refusal);
+        }
+        let Ok(room) = take_room(self.alloc, &mut self.room, &mut self.lists) else {
+            return Err(SendRefusal::Memory);
+        };
+        // Nothing fails from here on.
+        let id = self.ids.give(at);
+        send_con(room, at, to, id, word, content, &mut self.lists);
+        self.clock = at;
+        self.awaits = None;
+        Ok(id)
+    }
+
+    /// Sends a Non-confirmable message, and answers its Message ID (RFC 7252, section 4.3).
+    pub fn plain(
+        &mut self,
+        now: Moment,
+        to: Endpoint,
+        content: &Content<'_>,
+    ) -> Result<Id, SendRefusal>
+        requires { IsSendable content.now }
+        ensures step { result ≢ Err refused.Memory → Step self.old.state now.0 (Plain to content.now) (sent_as result) self.new.state }
+        ensures led { result ≢ Err refused.Memory → (first : ℕ) (t : List Entry) → LayerLed first t self.old.state → LayerLed first (made self.old.state now.0 (Plain to content.now) ∷ t) self.new.state }
+        ensures before { self.new.before ≡ self.old.before }
+        ensures room { self.old.has_room ≡ true → result ≢ Err refused.Memory }
+        ensures memory { result ≡ Err refused.Memory → self.new ≡ self.old }
+    {
+        let at = self.clock.max(now.0);
+        if let Some(refusal) = refusal(false, self.ids.would_give(at)) {
+            self.clock = at;
+            self.awaits = None;
+            return Err(refusal);
+        }
+        let Ok(room) = take_room(self.alloc, &mut self.room, &mut self.lists) else {
+            return Err(SendRefusal::Memory);
+        };
+        // Nothing fails from here on.
+        let id = self.ids.give(at);
+        send_non(room, to, id, content, &mut self.lists);
+        self.clock = at;
+        self.awaits = None;
+        Ok(id)
+    }
+
+    /// Whether `confirm` would refuse a message to this endpoint with neither `Outstanding` nor
+    /// `NoIds`. After true, `confirm` and `plain` are not refused memory, until one of them or
+    /// `reply` is called. Where it is false, it takes no memory.
+    pub fn room(&mut self, now: Moment, to: Endpoint) -> Result<bool, AllocError>
+        ensures step { IfOk result (λ may. Step self.old.state now.0 (AsksRoom to) (Is may) self.new.state) }
+        ensures led { IsOk result → (word : ℕ) (t : List Entry) → LayerLed word t self.old.state → LayerLed word (made self.old.state now.0 (AsksRoom to) ∷ t) self.new.state }
+        ensures before { self.new.before ≡ self.old.before }
+        ensures room { IfOk result (λ may. may ≡ true → self.new.has_room ≡ true) }
+        ensures kept { self.old.has_room ≡ true → self.new.has_room ≡ true }
+        ensures replies { self.new.replies ≡ self.old.replies }
+        ensures quiet { answer_of self.old.state (max self.old.state.clock now.0) (AsksRoom to) ≡ Is false → IsOk result }
+        ensures err { OnErr result (self.new ≡ self.old) }
+    {
+        let at = self.clock.max(now.0);
+        let busy = is_busy(&self.lists.sendings, to);
+        let may = refusal(busy, self.ids.would_give(at)).is_none();
+        let brings = Brings {
+            keeps: false,
+            hands: may,
+            sends: false,
+        };
+        grow(self.alloc, brings, &mut self.room, &mut self.lists)?;
+        self.clock = at;
+        Ok(may)
+    }
+
+    /// Whether a Message ID is free. It takes no memory.
+    pub fn is_free(&mut self, now: Moment) -> bool
+        ensures step { Step self.old.state now.0 AsksFree (Is result) self.new.state }
+        ensures led { (word : ℕ) (t : List Entry) → LayerLed word t self.old.state → LayerLed word (made self.old.state now.0 AsksFree ∷ t) self.new.state }
+        ensures before { self.new.before ≡ self.old.before }
+        ensures room { self.new.has_room ≡ self.old.has_room }
+        ensures replies { self.new.replies ≡ self.old.replies }
+    {
+        self.clock = self.clock.max(now.0);
+        self.ids.would_give(self.clock)
+    }
+
+    /// Lets time pass: the moment counts, and nothing else is done. It takes no memory.
+    pub fn pass(&mut self, now: Moment)
+        ensures step { Step self.old.state now.0 Pass Nothing self.new.state }
+        ensures led { (word : ℕ) (t : List Entry) → LayerLed word t self.old.state → LayerLed word (made self.old.state now.0 Pass ∷ t) self.new.state }
+        ensures before { self.new.before ≡ self.old.before }
+        ensures room { self.new.has_room ≡ self.old.has_room }
+        ensures replies { self.new.replies ≡ self.old.replies }
+    {
+        self.clock = now.0.max(self.clock);
+    }
+
+    /// Ends the retransmission of the message to this endpoint with this Message ID; false where
+    /// none is outstanding. It takes no memory.
+    pub fn settle(&mut self, to: Endpoint, id: Id) -> bool
+        ensures step { Step self.old.state 0 (Settle to id.0) (Is result) self.new.state }
+        ensures led { (word : ℕ) (t : List Entry) → LayerLed word t self.old.state → LayerLed word (made self.old.state 0 (Settle to id.0) ∷ t) self.new.state }
+        ensures before { self.new.before ≡ self.old.before }
+        ensures room { self.new.has_room ≡ self.old.has_room }
+        ensures replies { self.new.replies ≡ self.old.replies }
+    {
+        let open = is_outstanding(&self.lists.sendings, to, id);
+        end_all(&mut self.lists.sendings, to, id);
+        open
+    }
+
+    /// Does one step that is due: a retransmission, or the failure of one (RFC 7252, section 4.2).
+    /// Where nothing is due, it takes no memory.
+    pub fn tick(&mut self, now: Moment) -> Result<Tick, AllocError>
+        ensures step { IfOk result (λ tick. (answer : Answer) × IsTick tick answer × Step self.old.state now.0 Ticks answer self.new.state) }
+        ensures led { IsOk result → (word : ℕ) (t : List Entry) → LayerLed word t self.old.state → LayerLed word (made self.old.state now.0 Ticks ∷ t) self.new.state }
+        ensures before { OnOk result (self.new.before ≡ Some self.old.state) }
+        ensures err { OnErr result (self.new ≡ self.old) }
+        ensures quiet { copies (max self.old.state.clock now.0) self.old.state.open_cons ≡ [] → IsOk result }
+    {
+        let moments = Moments {
+            last: self.clock,
+            at: self.clock.max(now.0),
+        };
+        let sent = due_copy(self.alloc, &self.lists.sendings, moments.at)?;
+        let brings = Brings {
+            keeps: false,
+            hands: false,
+            sends: sent.is_some(),
+        };
+        grow(self.alloc, brings, &mut self.room, &mut self.lists)?;
+        // Nothing fails from here on.
+        let (mark, due) = take_tick(moments, self.awaits, &self.ids, sent, &mut self.lists);
+        self.clock = moments.at;
+        self.awaits = None;
+        self.mark = Some(mark);
+        Ok(ticked(due))
+    }
+
+    /// The datagram that is to be sent next. After it, nothing can be taken back. It takes no
+    /// memory.
+    pub fn next_out(&mut self) -> Option<Datagram<A>>
+        ensures step { Step self.old.state 0 Take (Gives result) self.new.state }
+        ensures led { (word : ℕ) (t : List Entry) → LayerLed word t self.old.state → LayerLed word (made self.old.state 0 Take ∷ t) self.new.state }
+        ensures before { self.new.before ≡ None }
+        ensures room { self.new.has_room ≡ self.old.has_room }
+        ensures replies { self.new.replies ≡ self.old.replies }
+    {
+        self.mark = None;
+        self.lists.waiting.pop_front()
+    }
+
+    /// Takes back the last `receive` or `tick` that was not refused memory, and every call since.
+    /// No reply may be given then. It takes no memory.
+    pub fn undo(&mut self)
+        requires { IsSome self.old.before }
+        ensures back { self.old.before ≡ Some self.new.state }
+        ensures spent { self.new.before ≡ None }
+    {
+        if let Some(mark) = self.mark.take() {
+            self.clock = mark.clock;
+            self.awaits = mark.awaits;
+            self.ids = mark.ids;
+            self.replies = false;
+            self.lists.entries.truncate(mark.entries);
+            put_back(&mut self.lists.sendings);
+            self.lists.waiting.truncate(mark.queued);
+        }
+    }
+}

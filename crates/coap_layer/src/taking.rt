@@ -1,0 +1,88 @@
+ghost use Rattle.std.specs.Prelude.{◌≡◌, ◌≤◌, ◌<◌, ◌+◌, ◌++◌, true, false, Some, List, length, filter, is_some, option_to_list};
+ghost use Rattle.std.specs.List.{filter_map};
+ghost use Rattle.std.specs.Vec.{vec_len, vec_capacity};
+ghost use Rattle.std.specs.VecDeque.{deque_len, deque_capacity};
+ghost use Rattle.coap_layer.specs.Arriving.{awaits_by, hands, keeps, newly_by, open_by};
+ghost use Rattle.coap_layer.specs.Entries.{arrivals_in};
+ghost use Rattle.coap_layer.specs.Parts.{awaited, before_of, kept};
+ghost use Rattle.coap_layer.specs.Sendings.{answer_for, open_now};
+ghost use Rattle.coap_layer.specs.Sound.{HasRoom, IsPlaced, IsWithin};
+ghost use Rattle.coap_layer.specs.State.{forgotten, is_live, is_remembered, tick_of};
+ghost use Rattle.coap_layer.specs.Trace.{Packet, Ticks};
+ghost use Rattle.coap_layer.specs.Words.{left_by};
+
+use crate::IdSource;
+use crate::arriving::{Arriving, end_by, keep_by};
+use crate::datagram::{Datagram, push_some};
+use crate::lists::Lists;
+use crate::mark::{Awaiting, Mark, begin};
+use crate::retransmission::{Due, find_step, take_step};
+use coap_types::Endpoint;
+use std::alloc::Allocator;
+
+/// The moments of an input: the last that counted, and that which counts now.
+#[derive(Clone, Copy)]
+pub(crate) struct Moments {
+    pub(crate) last: u64,
+    pub(crate) at: u64,
+}
+
+/// Takes in what arrived, where there is room for all that it brings.
+pub(crate) fn take_in<A: Allocator + Copy>(
+    moments: Moments,
+    awaits: Option<Awaiting>,
+    ids: &IdSource,
+    from: Endpoint,
+    arriving: Arriving,
+    sent: Option<Datagram<A>>,
+    lists: &mut Lists<A>,
+) -> Mark
+    requires moment { moments.last ≤ moments.at }
+    requires entry { keeps arriving.verdict arriving.kind ≡ true → vec_len lists.old.entries < vec_capacity lists.old.entries }
+    requires place { is_some sent ≡ true → deque_len lists.old.waiting + 1 < deque_capacity lists.old.waiting }
+    ensures arrived { filter (is_live moments.at) (arrivals_in lists.new.entries.items) ≡ filter (is_live moments.at) (filter (is_live moments.last) (arrivals_in lists.old.entries.items) ++ newly_by moments.at from arriving) }
+    ensures open { open_now lists.new.sendings.items ≡ open_by from arriving (open_now lists.old.sendings.items) }
+    ensures waiting { lists.new.waiting.items ≡ lists.old.waiting.items ++ option_to_list sent }
+    ensures before { before_of (Some result) lists.new.entries.items lists.new.sendings.items lists.new.waiting.items
+        ≡ Some (forgotten (kept moments.last (awaited awaits) ids.now (arrivals_in lists.old.entries.items) (open_now lists.old.sendings.items) lists.old.waiting.items)) }
+    ensures within { IsWithin (Some result) (length lists.new.entries.items) (length lists.new.waiting.items) }
+    ensures placed { (hands arriving.verdict arriving.kind ≡ true → is_remembered moments.at from arriving.id.0 (arrivals_in lists.old.entries.items) ≡ false)
+        → IsPlaced moments.at (awaits_by from arriving) true result.entries (Some result) lists.new.entries.items }
+    ensures sendings_len { vec_len lists.new.sendings ≤ vec_len lists.old.sendings }
+    ensures sendings_capacity { vec_capacity lists.new.sendings ≡ vec_capacity lists.old.sendings }
+    ensures waiting_room { deque_len lists.old.waiting < deque_capacity lists.old.waiting → deque_len lists.new.waiting < deque_capacity lists.new.waiting }
+{
+    let mark = begin(moments.last, awaits, ids, lists);
+    end_by(from, arriving, &mut lists.sendings);
+    keep_by(moments.at, from, arriving, &mut lists.entries);
+    push_some(&mut lists.waiting, sent);
+    mark
+}
+
+/// Takes the step that is due, where there is room for what it sends.
+pub(crate) fn take_tick<A: Allocator + Copy>(
+    moments: Moments,
+    awaits: Option<Awaiting>,
+    ids: &IdSource,
+    sent: Option<Datagram<A>>,
+    lists: &mut Lists<A>,
+) -> (Mark, Due)
+    requires moment { moments.last ≤ moments.at }
+    requires place { is_some sent ≡ true → deque_len lists.old.waiting + 1 < deque_capacity lists.old.waiting }
+    ensures due { answer_for result.1 ≡ tick_of moments.at (open_now lists.old.sendings.items) }
+    ensures arrived { arrivals_in lists.new.entries.items ≡ filter (is_live moments.last) (arrivals_in lists.old.entries.items) }
+    ensures open { (out : List Packet) → open_now lists.new.sendings.items ≡ filter_map (left_by (record { at = moments.at; call = Ticks; answer = answer_for result.1; out = out })) (open_now lists.old.sendings.items) }
+    ensures waiting { lists.new.waiting.items ≡ lists.old.waiting.items ++ option_to_list sent }
+    ensures before { before_of (Some result.0) lists.new.entries.items lists.new.sendings.items lists.new.waiting.items
+        ≡ Some (forgotten (kept moments.last (awaited awaits) ids.now (arrivals_in lists.old.entries.items) (open_now lists.old.sendings.items) lists.old.waiting.items)) }
+    ensures within { IsWithin (Some result.0) (length lists.new.entries.items) (length lists.new.waiting.items) }
+    ensures sendings_len { vec_len lists.new.sendings ≤ vec_len lists.old.sendings }
+    ensures sendings_capacity { vec_capacity lists.new.sendings ≡ vec_capacity lists.old.sendings }
+    ensures waiting_room { deque_len lists.old.waiting < deque_capacity lists.old.waiting → deque_len lists.new.waiting < deque_capacity lists.new.waiting }
+{
+    let mark = begin(moments.last, awaits, ids, lists);
+    let due = find_step(&lists.sendings, moments.at);
+    take_step(&mut lists.sendings, due, moments.at);
+    push_some(&mut lists.waiting, sent);
+    (mark, due)
+}

@@ -1,0 +1,56 @@
+use coap_codec::View;
+use coap_types::{Endpoint, Id};
+use thiserror::Error;
+
+/// What becomes of a datagram that arrives (RFC 7252, sections 4.2, 4.3 and 4.5).
+#[derive(Drop)]
+pub enum Up<'a> {
+    /// It is silently ignored.
+    Dropped,
+    /// It is a duplicate of a message that is remembered; the stored reply, if any, is sent again.
+    Replayed,
+    /// It is rejected with a Reset.
+    Rejected,
+    /// It is a request that was not seen before.
+    Request {
+        /// The request.
+        message: View<'a>,
+        /// It is remembered, so that no duplicate of it is handed up. False only for a
+        /// Non-confirmable request for which no Message ID is free: it can't be answered, and is
+        /// not to be served.
+        remembered: bool,
+    },
+    /// It is a response: one that was not seen before, or one that an acknowledgement of an
+    /// outstanding message carries.
+    Response(View<'a>),
+    /// It acknowledges the outstanding message of this Message ID, and carries nothing.
+    Acked(Id),
+    /// It rejects the outstanding message of this Message ID.
+    Reset(Id),
+}
+
+/// What time brings about (RFC 7252, section 4.2).
+#[derive(Clone, Copy, Debug, PartialEq, Eq)]
+pub enum Tick {
+    /// Nothing is due.
+    Idle,
+    /// The message of this Message ID is sent again.
+    Copied(Id),
+    /// The transmission to this endpoint, of this Message ID, has failed.
+    Expired(Endpoint, Id),
+}
+
+/// Why a message is not sent. Where several hold, the first is answered, and `Memory` only where
+/// none of the others does.
+#[derive(Clone, Copy, Debug, PartialEq, Eq, Error)]
+pub enum SendRefusal {
+    /// A Confirmable message to that endpoint is outstanding (RFC 7252, section 4.7).
+    #[error("a Confirmable message to that endpoint is outstanding")]
+    Outstanding,
+    /// No Message ID is free (RFC 7252, section 4.4).
+    #[error("no Message ID is free")]
+    NoIds,
+    /// An allocation was refused.
+    #[error("out of memory")]
+    Memory,
+}
