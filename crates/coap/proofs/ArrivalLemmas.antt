@@ -10,8 +10,7 @@ use Rattle.coap_codec.specs.Message.{Message, Spells}
 use Rattle.coap_codec.specs.Faulty.{head_of}
 use Rattle.coap_codec.specs.Laws.{NotBoth, OneMessage, OneFault}
 use Rattle.coap.specs.FirstArrival.{FirstArrival, OneArrival, faulty, spelled, of_fault, of_message}
-use Rattle.coap.specs.declared.arrival.Arrival.{Arrival}
-use Rattle.coap.specs.declared.arrival.Arrival.TheVariants.{Ignored, Rejected, HandedUp}
+use Rattle.coap.specs.declared.arrival.Arrival.TheVariants.{HandedUp}
 
 of_fault-not_up : (head : Option (Kind × Id)) (m : Message) → HandedUp m ≡ of_fault head → ⊥
 of_fault-not_up None m e = cc

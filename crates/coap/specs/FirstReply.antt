@@ -1,76 +1,93 @@
--- What a server with one resource, of version 1 and Content-Format 0, answers to a first GET
--- (RFC 7252, sections 5.2.1, 5.8.1 and 5.9).
-use Rattle.std.specs.Prelude.{◌≡◌, ◌≢◌, ℕ, ◌+◌, ◌*◌, ◌<◌, ◌≤◌, List, [], ◌∷◌, length, map}
-use Rattle.std.specs.List.{All}
+-- What a server sends at once when a datagram arrives for the first time, and what it holds then (RFC 7252, sections 4.2, 4.3, 5.2 and 5.8).
+use Rattle.std.specs.Prelude.{◌≡◌, ℕ, Bool, true, false, not, ◌||◌, List, [], take, Option, Some, None, IsSomeAnd, Ok, Err}
 use Rattle.coap_types.specs.CoapOption.{CoapOption}
-use Rattle.coap_types.specs.declared.message.Kind.TheVariants.{Con, Ack}
-use Rattle.coap_codec.specs.Message.{Message, Spells}
+use Rattle.coap_types.specs.Recognised.{Recognised}
+use Rattle.coap_types.specs.Roles.{role_of}
+use Rattle.coap_types.specs.declared.direction.Direction.TheVariants as direction
+use Rattle.coap_types.specs.declared.message.Code.{Code}
 use Rattle.coap_types.specs.declared.message.Id.{Id}
+use Rattle.coap_types.specs.declared.message.Kind.{Kind}
+use Rattle.coap_types.specs.declared.message.Kind.TheVariants.{Con, Non, Ack}
+use Rattle.coap_types.specs.declared.request.Method.{Method}
+use Rattle.coap_types.specs.declared.role.Role.TheVariants.{Request}
+use Rattle.coap_codec.specs.Message.{Message, Spells}
+use Rattle.coap_resource.specs.Content.{Content}
+use Rattle.coap_resource.specs.RequestOptions.{has}
+use Rattle.coap_resource.specs.ResponseOptions.{Says}
+use Rattle.coap_resource.specs.Serves.{Question, Reply, Serves}
+use Rattle.coap.specs.Checks.{checked, path_of}
 use Rattle.coap.specs.FirstArrival.{FirstArrival, reset}
-use Rattle.coap.specs.declared.arrival.Arrival.TheVariants.{Rejected, HandedUp}
+use Rattle.coap.specs.declared.arrival.Arrival.TheVariants.{Ignored, Rejected, HandedUp}
 
--- the byte of the code c.dd (RFC 7252, section 3)
-abbrev pub code_of : ℕ → ℕ → ℕ
-code_of class detail = class * 32 + detail
+-- The response to a Confirmable request is carried in its acknowledgement (section 5.2.1); that to a Non-confirmable one is
+-- Non-confirmable (section 5.2.3).
+abbrev pub response_kind : Kind → Kind
+response_kind Con = Ack
+response_kind kind = Non
 
--- Uri-Path is option 11, of at most 255 bytes: one segment of the path (RFC 7252, section 5.10.1).
-pub record IsUriPath (option : CoapOption) : Type 0 where
-  pub number : option.number ≡ 11
-  pub fits : length option.value ≤ 255
+-- An acknowledgement has the Message ID of what it acknowledges (section 4.2); else the server gives its own, of which 0 is the first.
+abbrev pub response_id : Kind → ℕ → ℕ
+response_id Con id = id
+response_id kind id = 0
 
--- a Confirmable GET whose options are all Uri-Path
-pub record IsFirstGet (m : Message) : Type 0 where
-  pub confirmable : m.kind ≡ Con
-  pub get : m.code ≡ code_of 0 1
-  pub path_alone : All IsUriPath m.options
-
--- the values of options
-abbrev pub values_of : List CoapOption → List (List ℕ)
-values_of options = map (λ option. option.value) options
-
--- the path that such a request asks for, segment by segment
-abbrev pub asked_path : Message → List (List ℕ)
-asked_path m = values_of m.options
-
--- ETag 1 in eight bytes, Content-Format 0 (text/plain) in none (RFC 7252, sections 5.10.6 and 5.10.3)
-abbrev pub described : List CoapOption
-described = record { number = 4; value = 0 ∷ 0 ∷ 0 ∷ 0 ∷ 0 ∷ 0 ∷ 0 ∷ 1 ∷ [] } ∷ record { number = 12; value = [] } ∷ []
-
--- a response in the acknowledgement of its request, with its Message ID and token (RFC 7252, section 5.2.1)
-abbrev pub piggybacked : Message → ℕ → List CoapOption → List ℕ → Message
-piggybacked request code options payload = record {
-  kind = Ack;
+-- a response to the request, which has its token (section 5.3.1)
+abbrev pub response_to : Message → ℕ → List CoapOption → List ℕ → Message
+response_to request code options payload = record {
+  kind = response_kind request.kind;
   code = code;
-  id = request.id;
+  id = response_id request.kind request.id;
   token = request.token;
   options = options;
   payload = payload;
 }
 
--- The reply to a request, where the resource at path is body: one row for each case. A path has at most 16 segments.
-pub data FirstReply (path : List (List ℕ)) (body : List ℕ) (request reply : Message) : Type 0 where
-  -- 4.00 Bad Request
-  no_path : 16 < length request.options → reply ≡ piggybacked request (code_of 4 0) [] [] → FirstReply path body request reply
-  -- 2.05 Content
-  found : length request.options ≤ 16 → asked_path request ≡ path → reply ≡ piggybacked request (code_of 2 5) described body → FirstReply path body request reply
-  -- 4.04 Not Found
-  not_found : length request.options ≤ 16 → asked_path request ≢ path → reply ≡ piggybacked request (code_of 4 4) [] [] → FirstReply path body request reply
+-- a request as the store is asked it: its recognised options, and blocks of at most 1,024 bytes (size exponent 6)
+abbrev pub question : Message → List CoapOption → Method → Question
+question request options method =
+    record { method = method; path = path_of options; options = options; body = request.payload; szx = 6 }
 
--- the request is answered: a first GET, of a body that fits one message
-pub record IsServed (body : List ℕ) (request : Message) : Type 0 where
-  pub get : IsFirstGet request
-  pub fits : length body ≤ 1024
+-- neither Observe (6) nor Block1 (27) is among the options
+abbrev pub is_plain : List CoapOption → Bool
+is_plain options = not (has 6 options || has 27 options)
 
--- The datagram is answered by these bytes: a Reset, or the reply to a request that is served.
-pub data Answers (path : List (List ℕ)) (body datagram bytes : List ℕ) : Type 0 where
-  by_reset : (id : Id) → FirstArrival datagram (Rejected id) → Spells bytes (reset id) → Answers path body datagram bytes
-  by_reply : (request reply : Message) → FirstArrival datagram (HandedUp request) → IsServed body request → FirstReply path body request reply
-      → Spells bytes reply → Answers path body datagram bytes
+-- the request is one that is served: neither of them is recognised in it
+pub record IsServed (request : Message) : Type 0 where
+  pub role : role_of request.code ≡ Request
+  pub plain : (options : List CoapOption) (bad : Bool) → Recognised direction.Request request.options options bad → is_plain options ≡ true
+
+-- whether a request is ignored: it is Non-confirmable, and a critical option is not recognised (section 5.4.1; here it is rejected in
+-- silence, section 4.3)
+abbrev pub is_ignored : Kind → Bool → Bool
+is_ignored Non bad = bad
+is_ignored kind bad = false
+
+-- What a request comes to at a server that holds `old`, at the moment 0: one row for each case.
+pub data Answers (old : Content) (request : Message) (sent : Option Message) (new : Content) : Type 0 where
+  -- nothing is sent
+  ignored : (options : List CoapOption) (bad : Bool) → Recognised direction.Request request.options options bad → is_ignored request.kind bad ≡ true
+      → sent ≡ None → new ≡ old → Answers old request sent new
+  -- the code of the first check that fails, without options and payload
+  refused : (options : List CoapOption) (bad : Bool) (code : Code) → Recognised direction.Request request.options options bad
+      → is_ignored request.kind bad ≡ false → checked request.code options bad ≡ Err code
+      → sent ≡ Some (response_to request code.0 [] []) → new ≡ old → Answers old request sent new
+  -- what the store answers
+  served : (options : List CoapOption) (bad : Bool) (method : Method) (reply : Reply) (said : List CoapOption)
+      → Recognised direction.Request request.options options bad → checked request.code options bad ≡ Ok method
+      → Serves old 0 (question request options method) reply new → Says reply said
+      → sent ≡ Some (response_to request reply.code said reply.part) → Answers old request sent new
+
+-- What a datagram comes to: silence, a Reset, or what its request comes to.
+pub data FirstReply (old : Content) (datagram : List ℕ) (sent : Option Message) (new : Content) : Type 0 where
+  silent : FirstArrival datagram Ignored → sent ≡ None → new ≡ old → FirstReply old datagram sent new
+  rejected : (id : Id) → FirstArrival datagram (Rejected id) → sent ≡ Some (reset id) → new ≡ old → FirstReply old datagram sent new
+  answered : (request : Message) → FirstArrival datagram (HandedUp request) → IsServed request → Answers old request sent new
+      → FirstReply old datagram sent new
+
+-- the bytes at the front of a buffer, so many where something is sent, spell what is sent
+abbrev pub IsSent : Option Message → Option ℕ → List ℕ → Type 0
+IsSent None len out = len ≡ None
+IsSent (Some m) len out = IsSomeAnd len (λ n. Spells (take n out) m)
 
 -- some bytes spell the message
 abbrev pub IsSpelled : Message → Type 0
 IsSpelled m = (bytes : List ℕ) × Spells bytes m
-
--- the message has a spelling, which fits the room
-abbrev pub HasSpelling : Message → ℕ → Type 0
-HasSpelling m room = (bytes : List ℕ) × Spells bytes m × (length bytes ≤ room)

@@ -113,4 +113,8 @@ pub fn without_words<E: Write>(error: &io::Error, err: &mut E) -> u8 {
 }
 
 #[cfg(test)]
+mod answer_tests;
+#[cfg(test)]
+mod body_tests;
+#[cfg(test)]
 mod tests;

@@ -1,12 +1,16 @@
 //! The program `coap`: a client and a server of CoAP (RFC 7252) on the command line.
 #![tactic(auto)]
 
+mod answering;
 pub mod arrival;
+mod checks;
 pub mod command_line;
 pub mod commands;
 pub mod orders;
 pub mod path_text;
 pub mod reply;
+mod reply_options;
+mod reply_put;
 mod text;
 pub mod words;
 

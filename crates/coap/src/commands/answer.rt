@@ -1,16 +1,38 @@
+ghost use Rattle.std.specs.Prelude.{◌<◌, Some, IfOk, IfSome, IfNone, length};
+ghost use Rattle.coap_resource.specs.Content.{Changes, nothing};
+ghost use Rattle.coap_resource.specs.Entries.{content_of};
+
 use crate::commands::{Status, Stop};
-use crate::reply::{MAX_MESSAGE_LEN, first_reply};
-use coap_types::Path;
-use std::alloc::Global;
+use crate::reply::{MAX_MESSAGE_LEN, Unanswered, first_reply};
+use coap_resource::{ListStore, MAX_CHANGES_PER_WINDOW, Store, StoreRefusal};
+use coap_types::{Moment, Path};
+use std::alloc::{AllocError, Global};
 use std::io::Write;
 
-/// The most bytes that a body has (profile).
-const MAX_BODY_LEN: usize = 65_536;
+/// Content-Format 0: text/plain (RFC 7252, section 12.3).
+const TEXT_PLAIN: u16 = 0;
 
 /// The number of the refusal of a body that is too large.
 const TOO_LARGE: u8 = 2;
 
-const _: () = prove!(MAX_BODY_LEN == 65_536 && TOO_LARGE == 2);
+const _: () = prove!(TEXT_PLAIN == 0 && TOO_LARGE == 2);
+
+/// A store that holds this body at this path alone, as its first change; None where the body is
+/// too large.
+fn store_of(alloc: Global, path: &Path, body: &[u8]) -> Result<Option<ListStore>, AllocError>
+    ensures holds { IfOk result (λ made. IfSome made (λ store. Changes (nothing 4194303) 0 path.now
+        (Some (record { version = 1; format = Some TEXT_PLAIN; body = body.now })) (content_of store))) }
+    ensures large { IfOk result (λ made. IfNone made (65536 < length body.now)) }
+{
+    let Some(mut store) = ListStore::new(alloc, MAX_CHANGES_PER_WINDOW) else {
+        unreachable!()
+    };
+    match store.put(Moment(0), path, Some(TEXT_PLAIN), body) {
+        Ok(_) => Ok(Some(store)),
+        Err(StoreRefusal::Memory) => Err(AllocError),
+        Err(_) => Ok(None),
+    }
+}
 
 /// Prints what a server with this one resource answers to the datagram.
 pub fn answer<W: Write>(
@@ -20,12 +42,12 @@ pub fn answer<W: Write>(
     datagram: &[u8],
     out: &mut W,
 ) -> Result<Status, Stop> {
-    if body.len() > MAX_BODY_LEN {
+    let Some(mut store) = store_of(alloc, path, body.as_bytes())? else {
         writeln!(out, "refused {TOO_LARGE}")?;
         return Ok(Status::Refused);
-    }
+    };
     let mut room = [0; MAX_MESSAGE_LEN];
-    match first_reply(path, body.as_bytes(), datagram, &mut room) {
+    match first_reply(alloc, &mut store, datagram, &mut room) {
         Ok(Some(len)) => {
             let reply = hex::encode(alloc, &room[..len])?;
             writeln!(out, "{reply}")?;
@@ -35,9 +57,10 @@ pub fn answer<W: Write>(
             writeln!(out, "silence")?;
             Ok(Status::Done)
         }
-        Err(not_yet) => {
-            writeln!(out, "{not_yet}")?;
+        Err(Unanswered::NotYet) => {
+            writeln!(out, "{}", Unanswered::NotYet)?;
             Ok(Status::Refused)
         }
+        Err(Unanswered::Memory) => Err(Stop::Memory),
     }
 }

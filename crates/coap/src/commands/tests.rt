@@ -16,7 +16,7 @@ fn words_of(alloc: Global, words: &[&str]) -> Result<Vec<String>, AllocError> {
 }
 
 /// A text, many times.
-fn repeated(alloc: Global, part: &str, count: usize) -> Result<String, AllocError> {
+pub(super) fn repeated(alloc: Global, part: &str, count: usize) -> Result<String, AllocError> {
     let mut text = String::new(alloc);
     for _ in 0..count {
         text.push_str(part)?;
@@ -25,9 +25,10 @@ fn repeated(alloc: Global, part: &str, count: usize) -> Result<String, AllocErro
 }
 
 /// One run: its words, its exit status and what it prints.
-type Row<'a> = (&'a [&'a str], u8, &'a str);
+pub(super) type Row<'a> = (&'a [&'a str], u8, &'a str);
 
-fn check_row<R: Abort + AllocGlobal>(
+/// One run prints this, and nothing else.
+pub(super) fn check_row<R: Abort + AllocGlobal>(
     rt: &R,
     words: &[&str],
     status: u8,
@@ -47,8 +48,6 @@ fn check_row<R: Abort + AllocGlobal>(
 }
 
 const GET: &str = "40017d34bb74656d7065726174757265";
-
-const CONTENT: &str = "6045000148000000000000000180ff6869\n";
 
 #[test]
 fn shown_datagrams(rt: HostRuntime) -> Result<(), Fail> {
@@ -82,136 +81,6 @@ fn shown_datagrams(rt: HostRuntime) -> Result<(), Fail> {
     ];
     for (words, status, printed) in rows {
         check_row(&rt, words, status, printed)?;
-    }
-    Ok(())
-}
-
-#[test]
-fn answered_requests(rt: HostRuntime) -> Result<(), Fail> {
-    let rows: [Row<'_>; 17] = [
-        (&["answer", "t", "hi", "4g"], 2, "bad hex\n"),
-        (
-            &["answer", "temperature", "22.3 C", GET],
-            0,
-            "60457d3448000000000000000180ff32322e332043\n",
-        ),
-        (&["answer", "t", "hi", "40010001b17a"], 0, "60840001\n"),
-        (&["answer", "/", "hi", "40010001"], 0, CONTENT),
-        (&["answer", "", "hi", "40010001"], 0, CONTENT),
-        (&["answer", "t", "hi", "40010001b174"], 0, CONTENT),
-        (&["answer", "/t", "hi", "40010001B174"], 0, CONTENT),
-        (&["answer", "t", "hi", "40010001b174ff78"], 0, CONTENT),
-        (&["answer", "t/", "hi", "40010001b17400"], 0, CONTENT),
-        (
-            &[
-                "answer",
-                "temperature00",
-                "hi",
-                "40010001bd0074656d70657261747572653030",
-            ],
-            0,
-            CONTENT,
-        ),
-        (
-            &["answer", "t", "hi", "480100010102030405060708b174"],
-            0,
-            "68450001010203040506070848000000000000000180ff6869\n",
-        ),
-        // 16 segments, 17 segments.
-        (
-            &[
-                "answer",
-                "t",
-                "hi",
-                "40010001b0000000000000000000000000000000",
-            ],
-            0,
-            "60840001\n",
-        ),
-        (
-            &[
-                "answer",
-                "////////////////",
-                "hi",
-                "40010001b0000000000000000000000000000000",
-            ],
-            0,
-            CONTENT,
-        ),
-        (
-            &[
-                "answer",
-                "t",
-                "hi",
-                "40010001b000000000000000000000000000000000",
-            ],
-            0,
-            "60800001\n",
-        ),
-        // Uri-Query, a PUT, a NON GET: not served yet.
-        (&["answer", "t", "hi", "40010001b1744178"], 1, "not yet\n"),
-        (&["answer", "t", "hi", "40030001b174ff78"], 1, "not yet\n"),
-        (&["answer", "t", "hi", "50010001b174"], 1, "not yet\n"),
-    ];
-    for (words, status, printed) in rows {
-        check_row(&rt, words, status, printed)?;
-    }
-    Ok(())
-}
-
-#[test]
-fn arrivals(rt: HostRuntime) -> Result<(), Fail> {
-    let rows: [(&str, u8, &str); 27] = [
-        ("", 0, "silence\n"),
-        ("40", 0, "silence\n"),
-        ("80010001", 0, "silence\n"),
-        ("49011234", 0, "70001234\n"),
-        ("59011234", 0, "silence\n"),
-        ("40011234ff", 0, "70001234\n"),
-        ("50011234ff", 0, "silence\n"),
-        ("60011234ff", 0, "silence\n"),
-        ("70011234ff", 0, "silence\n"),
-        // Empty messages.
-        ("40000001", 0, "70000001\n"),
-        ("50000001", 0, "silence\n"),
-        ("60000001", 0, "silence\n"),
-        ("70000001", 0, "silence\n"),
-        // Reserved classes.
-        ("40200001", 0, "70000001\n"),
-        ("40c00001", 0, "70000001\n"),
-        ("40ff0001", 0, "70000001\n"),
-        ("50200001", 0, "silence\n"),
-        ("60e00001", 0, "silence\n"),
-        // An acknowledgement or a Reset of nothing.
-        ("60010001", 0, "silence\n"),
-        ("60450001", 0, "silence\n"),
-        ("70010001", 0, "silence\n"),
-        // What is handed up and not served yet.
-        ("40450001", 1, "not yet\n"),
-        ("50450001", 1, "not yet\n"),
-        ("40bf0001", 1, "not yet\n"),
-        ("40020001b174", 1, "not yet\n"),
-        ("40040001b174", 1, "not yet\n"),
-        ("40050001b174", 1, "not yet\n"),
-    ];
-    for (datagram, status, printed) in rows {
-        check_row(&rt, &["answer", "t", "hi", datagram], status, printed)?;
-    }
-    Ok(())
-}
-
-#[test]
-fn long_segments(rt: HostRuntime) -> Result<(), Fail> {
-    let path = repeated(rt.alloc(), "a", 255)?;
-    let rows = [
-        ("40010001bdf2", 255, 0, CONTENT),
-        ("40010001bdf3", 256, 1, "not yet\n"),
-    ];
-    for (head, len, status, printed) in rows {
-        let segment = repeated(rt.alloc(), "61", len)?;
-        let datagram = format!(in rt.alloc(); "{head}{segment}")?;
-        let words = ["answer", path.as_str(), "hi", datagram.as_str()];
-        check_row(&rt, &words, status, printed)?;
     }
     Ok(())
 }
@@ -254,36 +123,6 @@ fn wrong_words(rt: HostRuntime) -> Result<(), Fail> {
     }
     let segment = repeated(rt.alloc(), "a", 256)?;
     check_wrong(&rt, &["answer", segment.as_str(), "hi", "40010001"])?;
-    Ok(())
-}
-
-/// A GET of `t`, which holds so many bytes.
-fn check_body<R: Abort + AllocGlobal>(
-    rt: &R,
-    len: usize,
-    datagram: &str,
-    status: u8,
-    printed: &str,
-) -> Result<(), AllocError> {
-    let body = repeated(rt.alloc(), "a", len)?;
-    check_row(
-        rt,
-        &["answer", "t", body.as_str(), datagram],
-        status,
-        printed,
-    )
-}
-
-#[test]
-fn long_bodies(rt: HostRuntime) -> Result<(), Fail> {
-    let get = "40010001b174";
-    let payload = repeated(rt.alloc(), "61", 1_024)?;
-    let reply = format!(in rt.alloc(); "6045000148000000000000000180ff{payload}\n")?;
-    check_body(&rt, 1_024, get, 0, reply.as_str())?;
-    check_body(&rt, 1_025, get, 1, "not yet\n")?;
-    check_body(&rt, 65_536, get, 1, "not yet\n")?;
-    check_body(&rt, 65_537, get, 1, "refused 2\n")?;
-    check_body(&rt, 65_537, "4g", 2, "bad hex\n")?;
     Ok(())
 }
 

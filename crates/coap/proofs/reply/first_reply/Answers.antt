@@ -1,27 +1,24 @@
-use Rattle.std.proofs.Common.{IsTrue, false, refl, arith}
-use Rattle.coap.specs.FirstReply.{IsFirstGet, by_reset, by_reply}
+use Rattle.std.proofs.Common.{refl}
+use Rattle.std.proofs.lemmas.Result.{IfOk-weaker}
+use Rattle.coap.specs.FirstReply.{silent, rejected, answered}
 use Rattle.coap.proofs.ArrivalLemmas.{handed_up_spelled}
-use Rattle.coap.proofs.reply.first_reply.Goals.{then-not-is_first_get-via-then-not-is_first_get, then-not-is_first_get-via-else-not-is_first_get+then-body-gt-MAX_PAYLOAD_LEN}
 use Rattle.coap.proofs.reply.first_reply.Goals as goal
 
-pub returns-then-not-is_first_get-clause-not_yet : goal.returns-then-not-is_first_get-clause-not_yet
-returns-then-not-is_first_get-clause-not_yet c = (
-  _,
-  c.in-HandedUp.ensures,
-  λ served. elim c.then-not-is_first_get.branch [
-    | then-not-is_first_get-via-then-not-is_first_get w ↦ let bad : IsTrue false = w.if-not-is_first_get.ensures.1 served.get in cc
-    | then-not-is_first_get-via-else-not-is_first_get+then-body-gt-MAX_PAYLOAD_LEN w ↦ omega (arith, served.fits)
-  ],
-)
+pub answer-requires-clause-request : goal.answer-requires-clause-request
+answer-requires-clause-request g c = (_, handed_up_spelled _ _ c.in-HandedUp.ensures)
 
-pub put_answer-requires-clause-request : goal.put_answer-requires-clause-request
-put_answer-requires-clause-request c = (_, handed_up_spelled _ _ c.in-HandedUp.ensures)
+pub returns-in-Ignored-clause-answered : goal.returns-in-Ignored-clause-answered
+returns-in-Ignored-clause-answered g c = (_, silent c.in-Ignored.ensures refl refl, refl)
 
 pub returns-in-Rejected-clause-answered : goal.returns-in-Rejected-clause-answered
-returns-in-Rejected-clause-answered c = (c.put_reset.ensures.fits, by_reset _ c.in-Rejected.ensures c.put_reset.ensures.spelled)
+returns-in-Rejected-clause-answered g c = (_, rejected _ c.in-Rejected.ensures refl refl, c.put_reset.ensures.spelled)
 
-pub returns-else-body-gt-MAX_PAYLOAD_LEN-clause-answered : goal.returns-else-body-gt-MAX_PAYLOAD_LEN-clause-answered
-returns-else-body-gt-MAX_PAYLOAD_LEN-clause-answered c =
-    let reply = c.put_answer.ensures.answered in
-    let get : IsFirstGet c.in-HandedUp.request = c.if-not-is_first_get.ensures.0 refl in
-    (c.put_answer.ensures.fits, by_reply _ reply.0 c.in-HandedUp.ensures (record { get = get; fits = c.if-body-gt-MAX_PAYLOAD_LEN.false }) reply.1 reply.2)
+pub returns-in-HandedUp-clause-answered : goal.returns-in-HandedUp-clause-answered
+returns-in-HandedUp-clause-answered g c =
+    IfOk-weaker c.answer.result _ _ (λ len a. (a.1, answered _ c.in-HandedUp.ensures a.0 a.2, a.3)) c.answer.ensures.answered
+
+pub returns-in-HandedUp-clause-not_yet : goal.returns-in-HandedUp-clause-not_yet
+returns-in-HandedUp-clause-not_yet g c = λ e. (_, c.in-HandedUp.ensures, c.answer.ensures.not_yet e)
+
+pub returns-in-HandedUp-clause-memory : goal.returns-in-HandedUp-clause-memory
+returns-in-HandedUp-clause-memory g c = λ e. (_, c.in-HandedUp.ensures, c.answer.ensures.memory e)

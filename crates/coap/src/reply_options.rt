@@ -1,0 +1,65 @@
+//! The options of a response.
+ghost use Rattle.std.specs.Prelude.{◌≡◌, ◌<◌, ◌++◌, [], length, option_copied};
+ghost use Rattle.coap_types.specs.CoapOption.{options_of};
+ghost use Rattle.coap_resource.specs.ResponseOptions.{option_with};
+
+use coap_types::Opt;
+use std::marker::Model;
+
+/// The most options that a response has here: ETag, Content-Format and Block2.
+const MAX_OPTIONS: usize = 3;
+
+const _: () = prove!(MAX_OPTIONS == 3);
+
+/// At most 3 options, in order.
+#[derive(Drop)]
+pub(crate) struct ReplyOptions<'a> {
+    options: [Opt<'a>; MAX_OPTIONS],
+    len: usize,
+}
+
+impl<'a> Model for ReplyOptions<'a> {
+    ghost use Rattle.std.specs.Prelude.{List, ◌≡◌, ◌≤◌, length, take};
+    ghost use Rattle.coap_types.specs.CoapOption.{CoapOption, options_of};
+
+    ghost Value = { List CoapOption };
+
+    ghost view = { λ o. options_of (take o.len o.options) };
+
+    ghost invariant = { λ o. (length o.options ≡ 3) × (o.len ≤ 3) };
+}
+
+impl<'a> ReplyOptions<'a> {
+    /// No option.
+    pub(crate) fn new() -> ReplyOptions<'a>
+        ensures { result ≡ [] }
+    {
+        let unused = Opt {
+            number: 0,
+            value: &[],
+        };
+        ReplyOptions {
+            options: [unused, unused, unused],
+            len: 0,
+        }
+    }
+
+    /// Adds an option at the end, where it has a value.
+    pub(crate) fn push(&mut self, number: u16, value: Option<&'a [u8]>)
+        requires room { length self.old < 3 }
+        ensures { self.new ≡ self.old ++ option_with number (option_copied value.entry) }
+    {
+        let Some(value) = value else {
+            return;
+        };
+        self.options[self.len] = Opt { number, value };
+        self.len += 1;
+    }
+
+    /// The options in order.
+    pub(crate) fn as_slice(&self) -> &[Opt<'a>]
+        ensures { options_of result.now ≡ self.now }
+    {
+        &self.options[..self.len]
+    }
+}
