@@ -1,5 +1,5 @@
 -- The parts since the start are whole at the last one.
-use Rattle.std.proofs.Common.{◌≡◌, ◌≢◌, ◌⊎◌, inl, inr, ℕ, Bool, true, false, not, ◌&&◌, ◌||◌, nat_lt, nat_le, ◌==◌, if◌then◌else◌, ◌+◌, ◌-◌, ◌*◌, ◌/◌, ◌^◌, ◌<◌, ◌≤◌, ◌++◌, ◌∙◌, List, [], ◌∷◌, length, take, drop, refl, ap, sym, subst, arith, append-nil, append_assoc, length-append, pow_pos, Option, Some, None, is_some, min}
+use Rattle.std.proofs.Common.{◌≡◌, ◌≢◌, ◌⊎◌, inl, inr, ℕ, Bool, true, false, not, ◌&&◌, ◌||◌, nat_lt, nat_le, ◌==◌, if◌then◌else◌, ◌+◌, ◌-◌, ◌*◌, ◌/◌, ◌^◌, ◌<◌, ◌≤◌, ◌++◌, ◌∙◌, List, [], ◌∷◌, length, refl, ap, sym, subst, arith, append-nil, append_assoc, length-append, pow_pos, Option, Some, None, is_some, min}
 use Rattle.std.proofs.lemmas.Grind.{common_steps}
 use Rattle.std.proofs.lemmas.Bool.Decides.{nat_tests}
 use Rattle.std.proofs.lemmas.List.{take_all}
@@ -8,17 +8,16 @@ use Rattle.std.proofs.lemmas.Nat.{pow-add}
 use Rattle.std.proofs.Math.Nat.{mul-div_cancel}
 use Rattle.std.proofs.Math.Seq.{drop-append_seam, take-append_seam}
 use Rattle.coap_block.specs.declared.block.Block.{Block}
-use Rattle.coap_block.specs.declared.fetch_verdict.Verdict.{Verdict}
 use Rattle.coap_block.specs.declared.fetch_verdict.Verdict.TheVariants.{Refuse, Again, Done, Ask}
 use Rattle.coap_block.specs.declared.fetch_step.FetchRefusal.TheVariants.{BadBlock, NoTag, TooLarge, Changed}
-use Rattle.coap_block.specs.Piece.{size_of, offset_of, part_of, Begins, Piece, max_body_len}
-use Rattle.coap_block.specs.Whole.{Part, Each, joined, IsPieceOf, HasTag, Chained, Ends, OneTag, InOrder, Whole, Blocks, Alone}
-use Rattle.coap_block.specs.FetchStep.{FetchState, fits, is_sized, same_tag, differs, verdict, after, next_num, next_szx}
-use Rattle.coap_block.specs.Gathered.{part, given_by, IsFull, Awaits, Gathered, GatheredByPart, WholeByParts}
+use Rattle.coap_block.specs.Piece.{size_of, offset_of, Begins, Piece, max_body_len}
+use Rattle.coap_block.specs.Whole.{Part, Each, joined, IsPieceOf, HasTag, Chained, Ends, OneTag, Whole, Blocks}
+use Rattle.coap_block.specs.FetchStep.{FetchState, fits, is_sized, same_tag, differs, verdict, next_num, next_szx}
+use Rattle.coap_block.specs.Gathered.{part, IsFull, Awaits, Gathered, GatheredByPart, WholeByParts}
 use Rattle.coap_block.specs.declared.fetch_progress.Asked.{Asked}
 
 -- a full part in front of more bytes is a piece
-full_piece : (front bytes rest : List ℕ) (num szx : ℕ) → offset_of num szx ≡ length front → length bytes ≡ size_of szx → 0 < length bytes → 0 < length rest
+pub full_piece : (front bytes rest : List ℕ) (num szx : ℕ) → offset_of num szx ≡ length front → length bytes ≡ size_of szx → 0 < length bytes → 0 < length rest
     → Piece (front ++ (bytes ++ rest)) num true szx bytes
 full_piece front bytes rest num szx at full some more = record {
   bytes = rw (at, ← full, drop-append_seam, take-append_seam) refl;
@@ -35,7 +34,7 @@ last_piece front bytes num szx at short some = record {
   reaches_end = ((λ h. omega (arith, length-append front bytes)), (λ h. refl));
 }
 
-size_some : (szx : ℕ) → 0 < size_of szx
+pub size_some : (szx : ℕ) → 0 < size_of szx
 size_some szx = pow_pos (szx + 4)
 
 pieces_of : (front : List ℕ) (ps : List Part) (l : Part) → Each IsFull ps → Chained (length front) (ps ++ l ∷ []) → 0 < length l.bytes
@@ -103,11 +102,11 @@ ask_says true false false true false more num szx num' szx' h = absurd cc
 ask_says true false false false least true num szx num' szx' h = (refl, refl, refl, refl, cc, cc)
 ask_says true false false false least false num szx num' szx' h = absurd cc
 
-and_left : (a b : Bool) → (a && b) ≡ true → a ≡ true
+pub and_left : (a b : Bool) → (a && b) ≡ true → a ≡ true
 and_left true b h = refl
 and_left false b h = h
 
-and_right : (a b : Bool) → (a && b) ≡ true → b ≡ true
+pub and_right : (a b : Bool) → (a && b) ≡ true → b ≡ true
 and_right true b h = h
 and_right false b h = absurd cc
 
@@ -131,7 +130,7 @@ last_fits len size num h =
 is_zero : (n : ℕ) → (n == 0) ≡ true → n ≡ 0
 is_zero n h = grind (arith, nat_tests)
 
-same_number : (a b : ℕ) → (a == b) ≡ true → a ≡ b
+pub same_number : (a b : ℕ) → (a == b) ≡ true → a ≡ b
 same_number a b h = grind (arith, nat_tests)
 
 -- where a part that fits begins, and that it has the tag
@@ -170,7 +169,7 @@ chained_last at [] l c = omega (arith, c.0)
 chained_last at (p ∷ ps) l c = omega (arith, chained_last (at + length p.bytes) ps l c.1, length-append p.bytes (joined ps))
 
 -- the pieces of the whole, the first part of several or one alone
-pieces_whole : (parts : List Part) (l : Part) → Each IsFull parts → Chained 0 (parts ++ l ∷ []) → l.more ≡ false → length l.bytes ≤ size_of l.szx
+pub pieces_whole : (parts : List Part) (l : Part) → Each IsFull parts → Chained 0 (parts ++ l ∷ []) → l.more ≡ false → length l.bytes ≤ size_of l.szx
     → ((0 < length l.bytes) ⊎ (l.num ≡ 0)) → Each (IsPieceOf (joined parts ++ l.bytes)) (parts ++ l ∷ [])
 pieces_whole [] l full chained last short (inl some) = pieces_of [] [] l full chained some last short
 pieces_whole [] l full chained last short (inr zero_num) = (
@@ -235,7 +234,7 @@ tag_there more over (Some t) m h = (t, refl)
 tag_there true over None m h = absurd cc
 tag_there false over None m h = absurd cc
 
-some_there : (ps : List Part) (l : Part) → (ps ++ l ∷ []) ≢ []
+pub some_there : (ps : List Part) (l : Part) → (ps ++ l ∷ []) ≢ []
 some_there [] l h = absurd cc
 some_there (p ∷ ps) l h = absurd cc
 

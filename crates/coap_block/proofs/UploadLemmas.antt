@@ -1,12 +1,10 @@
 -- The parts that an upload sends are its body in order.
-use Rattle.std.proofs.Common.{◌≡◌, ◌⊎◌, inl, inr, ℕ, Bool, true, false, nat_lt, ◌+◌, ◌-◌, ◌*◌, ◌/◌, ◌^◌, ◌<◌, ◌≤◌, ◌++◌, ◌∙◌, List, [], ◌∷◌, length, take, drop, refl, ap, sym, subst, arith, length-append, min, None}
-use Rattle.std.proofs.lemmas.Grind.{common_steps}
+use Rattle.std.proofs.Common.{◌≡◌, inl, inr, ℕ, true, nat_lt, ◌+◌, ◌*◌, ◌/◌, ◌<◌, ◌≤◌, ◌++◌, ◌∙◌, List, [], ◌∷◌, length, take, drop, refl, ap, subst, arith, length-append, min}
 use Rattle.std.proofs.lemmas.Bool.Decides.{nat_tests}
 use Rattle.std.proofs.lemmas.List.{length-take, length-drop}
-use Rattle.coap_block.specs.declared.block.Block.{Block}
-use Rattle.coap_block.specs.Piece.{size_of, offset_of, part_of, Begins, Piece}
-use Rattle.coap_block.specs.Whole.{Part, Each, joined, IsPieceOf, Chained, Ends, InOrder}
-use Rattle.coap_block.specs.UploadStep.{UploadState, more_follows, Continues, KeepsSize, moved, number_after}
+use Rattle.coap_block.specs.Piece.{size_of, offset_of, part_of, Begins}
+use Rattle.coap_block.specs.Whole.{Part, joined, IsPieceOf, Chained}
+use Rattle.coap_block.specs.UploadStep.{UploadState, KeepsSize}
 use Rattle.coap_block.specs.Sent.{part_to_send, Sent, SentByPart, WholeBySent}
 use Rattle.coap_block.proofs.FetchLemmas.{aligned, each_behind, chained_behind, joined_behind, ends_behind}
 

@@ -8,3 +8,8 @@ pub mod Gathered
 pub mod FetchTrace
 pub mod UploadStep
 pub mod Sent
+pub mod AssemblyState
+pub mod AssemblyStep
+pub mod AssemblyAnswer
+pub mod AssemblyKept
+pub mod AssemblyTrace

@@ -1,5 +1,5 @@
 -- Which bytes of a body a block carries (RFC 7959, section 2.2).
-use Rattle.std.specs.Prelude.{◌≡◌, ℕ, Bool, true, false, ◌+◌, ◌*◌, ◌^◌, ◌<◌, ◌≤◌, ◌↔◌, ◌⊎◌, List, [], length, take, drop}
+use Rattle.std.specs.Prelude.{◌≡◌, ℕ, Bool, false, ◌+◌, ◌*◌, ◌^◌, ◌<◌, ◌≤◌, ◌↔◌, ◌⊎◌, List, [], length, take, drop}
 
 abbrev pub size_of : ℕ → ℕ
 size_of szx = 2 ^ (szx + 4)

@@ -33,7 +33,8 @@ pub(crate) fn joined<A: Allocator + Copy>(
 ) -> Result<Bytes<A>, AllocError>
     ensures { IfOk result (λ whole. whole ≡ front.now ++ back.now) }
 {
-    let mut whole = Vec::from_slice(alloc, front)?;
+    let mut whole = Vec::with_capacity(alloc, front.len() + back.len())?;
+    whole.extend_from_slice(front)?;
     whole.extend_from_slice(back)?;
-    Ok(Bytes::copy_from_slice(alloc, &whole)?)
+    Ok(Bytes::from_vec(whole)?)
 }

@@ -1,4 +1,4 @@
-ghost use Rattle.std.specs.Prelude.{◌≡◌, None, Some, IfOk, OnOk, OnErr, IsOk, IsSome, length};
+ghost use Rattle.std.specs.Prelude.{◌≡◌, false, None, Some, IfOk, OnOk, OnErr, IsOk, IsSome, length};
 ghost use Rattle.coap_block.specs.FetchStep.{start, verdict};
 ghost use Rattle.coap_block.specs.FetchTrace.{FetchTrace, Led, Made, Took};
 ghost use Rattle.coap_block.specs.FetchAnswer.{Takes, IsQuiet};
@@ -73,33 +73,21 @@ impl<A: Allocator + Copy> Fetch<A> {
                 Ok(Step::Refused(why))
             }
             Verdict::Again => {
-                let again = Progress::start(self.progress.restarts + 1);
-                let was = mem::replace(&mut self.progress, again);
-                self.before = Before::Was(was);
+                let restarts = self.progress.restarts + 1;
+                self.before = Before::Was(self.progress.start_again(restarts));
                 Ok(Step::Restart)
             }
             Verdict::Done => {
                 let alloc = *self.bytes.allocator();
                 let whole = joined(alloc, &self.bytes[..self.progress.len], payload)?;
-                let was = mem::replace(&mut self.progress, Progress::start(0));
-                self.before = Before::Was(was);
+                self.before = Before::Was(self.progress.start_again(0));
                 Ok(Step::Whole(whole))
             }
             Verdict::Ask(num, szx) => {
                 put_at(&mut self.bytes, self.progress.len, payload)?;
-                let next = Progress {
-                    len: self.progress.len + payload.len(),
-                    asked: Some(Asked { num, szx }),
-                    tag,
-                    restarts: self.progress.restarts,
-                };
-                let was = mem::replace(&mut self.progress, next);
-                self.before = Before::Was(was);
-                Ok(Step::Next(Block {
-                    num,
-                    more: false,
-                    szx,
-                }))
+                let next = Asked { num, szx };
+                self.before = Before::Was(self.progress.go_on(payload.len(), next, tag));
+                Ok(Step::Next(block_to_ask(num, szx)))
             }
         }
     }
@@ -114,5 +102,16 @@ impl<A: Allocator + Copy> Fetch<A> {
         if let Before::Was(was) = mem::replace(&mut self.before, Before::Nothing) {
             self.progress = was;
         }
+    }
+}
+
+// The block of that number and size, as it is asked for (RFC 7959, section 2.4).
+fn block_to_ask(num: u32, szx: Szx) -> Block
+    ensures { result ≡ record { num = num; more = false; szx = szx } }
+{
+    Block {
+        num,
+        more: false,
+        szx,
     }
 }

@@ -1,6 +1,7 @@
-ghost use Rattle.std.specs.Prelude.{◌≡◌, None};
+ghost use Rattle.std.specs.Prelude.{◌≡◌, ◌+◌, ◌≤◌, None, Some};
 
 use coap_types::{Szx, Tag};
+use std::mem;
 
 /// The number and the size of the block that was asked for (RFC 7959, section 2.4).
 #[derive(Clone, Copy, Debug, PartialEq, Eq)]
@@ -45,5 +46,27 @@ impl Progress {
             tag: None,
             restarts,
         }
+    }
+    /// At the start again, after so many restarts: how far it was before.
+    pub(crate) fn start_again(&mut self, restarts: u8) -> Progress
+        ensures was { result ≡ self.old }
+        ensures start { self.new ≡ record { len = 0; asked = None; tag = None; restarts = restarts } }
+    {
+        mem::replace(self, Progress::start(restarts))
+    }
+
+    /// So many bytes further, with the block that is asked for next: how far it was before.
+    pub(crate) fn go_on(&mut self, len: usize, asked: Asked, tag: Option<Tag>) -> Progress
+        requires { self.old.len + len ≤ 18446744073709551615 }
+        ensures was { result ≡ self.old }
+        ensures next { self.new ≡ record { len = self.old.len + len; asked = Some asked; tag = tag; restarts = self.old.restarts } }
+    {
+        let next = Progress {
+            len: self.len + len,
+            asked: Some(asked),
+            tag,
+            restarts: self.restarts,
+        };
+        mem::replace(self, next)
     }
 }

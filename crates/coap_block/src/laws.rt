@@ -2,6 +2,7 @@ ghost use Rattle.coap_block.specs.BlockValue.{OneBlock};
 ghost use Rattle.coap_block.specs.Whole.{OneBody, OneBodyAtServer};
 ghost use Rattle.coap_block.specs.Gathered.{GatheredAtStart, GatheredByPart, WholeByParts};
 ghost use Rattle.coap_block.specs.FetchTrace.{WholeByHistory};
+ghost use Rattle.coap_block.specs.AssemblyTrace.{FewPartials, NoneLeft, OneForAKey, OthersStay, PartialsByHistory, WholeByBlocks};
 ghost use Rattle.coap_block.specs.Sent.{SentAtStart, SentByPart, WholeBySent};
 
 /// A value of a Block option is that of one block (RFC 7959, section 2.2).
@@ -28,4 +29,15 @@ pub fn upload_law()
     ensures start { SentAtStart }
     ensures next { SentByPart }
     ensures whole { WholeBySent }
+{}
+
+/// The body that an assembly gives is the blocks that were taken for its key since its last block 0
+/// (RFC 7959, section 2.5).
+pub fn assembly_law()
+    ensures partials { PartialsByHistory }
+    ensures few { FewPartials }
+    ensures distinct { OneForAKey }
+    ensures whole { WholeByBlocks }
+    ensures none { NoneLeft }
+    ensures others { OthersStay }
 {}

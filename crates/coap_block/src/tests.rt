@@ -1,14 +1,21 @@
-use crate::{
-    Block, Fetch, MAX_NUM, Step, Upload, block_law, body_law, fetch_law, slice, upload_law,
-};
+mod assembly;
+mod fetch;
+mod transfer;
+
+use crate::{Block, MAX_NUM, Upload, block_law, body_law, fetch_law, slice, upload_law};
 use bytes::Bytes;
-use coap_types::{Szx, Tag};
+use coap_types::Szx;
 use std::alloc::{AllocError, Global};
 
 /// A body of which no two neighbouring bytes are equal.
 fn body_of(alloc: Global, len: usize) -> Result<Vec<u8>, AllocError> {
+    body_from(alloc, 0, len)
+}
+
+/// The same from another first byte on.
+fn body_from(alloc: Global, first: u8, len: usize) -> Result<Vec<u8>, AllocError> {
     let mut body = Vec::new(alloc);
-    let mut byte: u8 = 0;
+    let mut byte = first;
     for _ in 0..len {
         body.push(byte)?;
         byte = byte.wrapping_add(7);
@@ -90,23 +97,6 @@ fn a_slice_is_a_block_of_the_body(rt: HostRuntime) -> Result<(), AllocError> {
 }
 
 #[test]
-fn a_body_is_fetched_in_blocks(rt: HostRuntime) -> Result<(), AllocError> {
-    let body = body_of(rt.alloc(), 300)?;
-    let szx = Szx::new(3).expect(&rt, "at most 6");
-    let mut fetch = Fetch::new(rt.alloc(), szx);
-    for (value, from, to, next) in [(0x0b, 0, 128, 0x13), (0x1b, 128, 256, 0x23)] {
-        let step = fetch.accept(Block::read(&[value]), Tag::new(&[1]), part(&body, from, to))?;
-        assert!(rt;
-            matches!(&step, Step::Next(block) if Some(*block) == Block::read(&[next])),
-            "{value}"
-        );
-    }
-    let step = fetch.accept(Block::read(&[0x23]), Tag::new(&[1]), part(&body, 256, 300))?;
-    assert!(rt; matches!(&step, Step::Whole(whole) if whole.as_slice() == body.as_slice()));
-    Ok(())
-}
-
-#[test]
 fn a_body_is_sent_in_blocks(rt: HostRuntime) -> Result<(), AllocError> {
     let body = body_of(rt.alloc(), 200)?;
     let szx = Szx::new(3).expect(&rt, "at most 6");
@@ -124,5 +114,53 @@ fn a_body_is_sent_in_blocks(rt: HostRuntime) -> Result<(), AllocError> {
         let answer = Block::read(&[answer]).expect(&rt, "no SZX 7");
         assert_eq!(rt; upload.accepted(answer), goes_on, "{sent}");
     }
+    Ok(())
+}
+
+#[test]
+fn an_answer_that_misfits_moves_nothing(rt: HostRuntime) -> Result<(), AllocError> {
+    let body = body_of(rt.alloc(), 300)?;
+    let szx = Szx::new(3).expect(&rt, "at most 6");
+    let mut upload = Upload::new(Bytes::copy_from_slice(rt.alloc(), &body)?, szx);
+    // To block 0 of 128 bytes: larger blocks, M 0, another number. To block 2 of 64 bytes: smaller
+    // blocks, and the sizes from before.
+    let rows: [(u8, bool, u8); 8] = [
+        (0x0c, false, 0x0b),
+        (0x03, false, 0x0b),
+        (0x1b, false, 0x0b),
+        (0x0a, true, 0x2a),
+        (0x29, false, 0x2a),
+        (0x2b, false, 0x2a),
+        (0x2a, true, 0x3a),
+        (0x2a, false, 0x3a),
+    ];
+    for (answer, goes_on, next) in rows {
+        let answer = Block::read(&[answer]).expect(&rt, "no SZX 7");
+        assert_eq!(rt; upload.accepted(answer), goes_on);
+        let (block, _) = upload.next();
+        assert_eq!(rt; Some(block), Block::read(&[next]));
+    }
+    Ok(())
+}
+
+#[test]
+fn an_accepted_block_is_taken_back(rt: HostRuntime) -> Result<(), AllocError> {
+    let body = body_of(rt.alloc(), 300)?;
+    let szx = Szx::new(3).expect(&rt, "at most 6");
+    let mut upload = Upload::new(Bytes::copy_from_slice(rt.alloc(), &body)?, szx);
+    let answer = Block::read(&[0x0a]).expect(&rt, "no SZX 7");
+    assert!(rt; upload.accepted(answer));
+    upload.undo();
+    let (block, payload) = upload.next();
+    assert_eq!(rt; Some(block), Block::read(&[0x0b]));
+    assert_eq!(rt; payload, part(&body, 0, 128));
+    // An answer that misfits, too.
+    let misfit = Block::read(&[0x03]).expect(&rt, "no SZX 7");
+    assert!(rt; !upload.accepted(misfit));
+    upload.undo();
+    assert!(rt; upload.accepted(answer));
+    let (block, payload) = upload.next();
+    assert_eq!(rt; Some(block), Block::read(&[0x2a]));
+    assert_eq!(rt; payload, part(&body, 128, 192));
     Ok(())
 }

@@ -1,0 +1,51 @@
+-- The test of keys decides equality.
+use Rattle.std.proofs.Common.{◌≡◌, ◌∙◌, true, refl, ap, sym, Decides}
+use Rattle.std.proofs.lemmas.Bool.Decides.{Decides-and, Decides-eqb}
+use Rattle.std.specs.Cmp.Lexicographic.{bytes_decides}
+use Rattle.coap_types.specs.declared.endpoint.Endpoint.{Endpoint}
+use Rattle.coap_types.specs.declared.request.Method.{Method}
+use Rattle.coap_types.specs.declared.request.Method.TheVariants.{Get, Post, Put, Delete}
+use Rattle.coap_types.proofs.PathLemmas.{same_path-decides}
+use Rattle.coap_block.specs.AssemblyState.{Key, same_key, same_endpoint, same_method}
+
+same_endpoint-decides : (a b : Endpoint) → Decides (same_endpoint a b) (a ≡ b)
+same_endpoint-decides a b =
+    let parts = Decides-and _ _ (bytes_decides a.ip b.ip) (Decides-eqb a.port b.port) in
+    (λ h. let e = parts.0 h in λ i. record { ip = e.0 i; port = e.1 i }, λ e. parts.1 (ap (λ (x : Endpoint). x.ip) e, ap (λ (x : Endpoint). x.port) e))
+
+is_method : (a b : Method) → same_method a b ≡ true → a ≡ b
+is_method Get Get h = refl
+is_method Get Post h = absurd cc
+is_method Get Put h = absurd cc
+is_method Get Delete h = absurd cc
+is_method Post Get h = absurd cc
+is_method Post Post h = refl
+is_method Post Put h = absurd cc
+is_method Post Delete h = absurd cc
+is_method Put Get h = absurd cc
+is_method Put Post h = absurd cc
+is_method Put Put h = refl
+is_method Put Delete h = absurd cc
+is_method Delete Get h = absurd cc
+is_method Delete Post h = absurd cc
+is_method Delete Put h = absurd cc
+is_method Delete Delete h = refl
+
+same_method_self : (a : Method) → same_method a a ≡ true
+same_method_self Get = refl
+same_method_self Post = refl
+same_method_self Put = refl
+same_method_self Delete = refl
+
+same_method-decides : (a b : Method) → Decides (same_method a b) (a ≡ b)
+same_method-decides a b = (is_method a b, λ e. ap (λ (m : Method). same_method a m) (sym e) ∙ same_method_self a)
+
+pub same_key-decides : (a b : Key) → Decides (same_key a b) (a ≡ b)
+same_key-decides a b =
+    let parts = Decides-and _ _ (same_endpoint-decides a.from b.from) (Decides-and _ _ (same_path-decides a.path b.path) (same_method-decides a.method b.method)) in (
+      λ h. let e = parts.0 h in λ i. record { from = e.0 i; path = e.1.0 i; method = e.1.1 i },
+      λ e. parts.1 (ap (λ (k : Key). k.from) e, (ap (λ (k : Key). k.path) e, ap (λ (k : Key). k.method) e)),
+    )
+
+pub same_key_self : (a : Key) → same_key a a ≡ true
+same_key_self a = (same_key-decides a a).1 refl

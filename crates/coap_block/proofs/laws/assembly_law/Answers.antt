@@ -1,0 +1,20 @@
+use Rattle.coap_block.proofs.AssemblyHistory.{partials_by_history, few_partials, one_for_a_key, whole_by_blocks, none_left, others_stay}
+use Rattle.coap_block.proofs.laws.assembly_law.Goals as goal
+
+pub returns-clause-partials : goal.returns-clause-partials
+returns-clause-partials c = partials_by_history
+
+pub returns-clause-few : goal.returns-clause-few
+returns-clause-few c = few_partials
+
+pub returns-clause-whole : goal.returns-clause-whole
+returns-clause-whole c = whole_by_blocks
+
+pub returns-clause-none : goal.returns-clause-none
+returns-clause-none c = none_left
+
+pub returns-clause-others : goal.returns-clause-others
+returns-clause-others c = others_stay
+
+pub returns-clause-distinct : goal.returns-clause-distinct
+returns-clause-distinct c = one_for_a_key

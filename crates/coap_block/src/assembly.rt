@@ -1,0 +1,157 @@
+ghost use Rattle.std.specs.Prelude.{◌≡◌, ◌≤◌, ◌++◌, true, None, Some, IfOk, OnOk, OnErr, IsOk, IsSome, length, max, vec_len, vec_capacity};
+ghost use Rattle.coap_block.specs.AssemblyState.{nothing_yet, forgotten, joined_before};
+ghost use Rattle.coap_block.specs.AssemblyStep.{partials_by, verdict_at};
+ghost use Rattle.coap_block.specs.AssemblyAnswer.{IsRefused, TakesBlock, took};
+ghost use Rattle.coap_block.specs.AssemblyTrace.{Arrived, AssemblyTrace, Led, Made};
+ghost use Rattle.coap_block.specs.AssemblyKept.{begun, kept, key_of, restored, IsUndoable};
+
+use crate::assembly_judging::judge;
+use crate::assembly_step::{AssemblyRefusal, Took};
+use crate::assembly_undo::{Before, Change};
+use crate::block::Block;
+use crate::block_verdict::BlockVerdict;
+use crate::partial::Partial;
+use crate::partials::{counts, join, restore, take_out, whole};
+use crate::upload_key::UploadKey;
+use coap_types::{Moment, Szx};
+use std::alloc::{AllocError, Allocator, Global};
+use std::marker::Model;
+
+/// The Block1 transfers at a server (RFC 7959, section 2.5): it joins the blocks of each upload in
+/// order. A contract sees its state and what `undo` would give back.
+#[derive(Drop)]
+#[derive_where(Debug)]
+pub struct Assembly<A: Allocator = Global> {
+    szx: Szx,
+    clock: Moment,
+    partials: Vec<Partial<A>, A>,
+    before: Option<Before<A>>,
+}
+
+impl<A: Allocator> Model for Assembly<A> {
+    ghost use Rattle.coap_block.specs.AssemblyKept.{AssemblyValue, before_of, kept, state_of, IsUndoableBefore};
+
+    ghost Value = { AssemblyValue };
+
+    ghost view = { λ a. record { state = state_of a.szx a.clock.0 (kept a.partials.items); before = before_of a.szx (kept a.partials.items) a.before } };
+
+    ghost invariant = { λ a. IsUndoableBefore a.before a.partials };
+}
+
+impl<A: Allocator + Copy> Assembly<A> {
+    /// An assembly of no blocks, that asks for blocks of at most that size.
+    pub fn new(alloc: A, szx: Szx) -> Assembly<A>
+        ensures state { result.state ≡ nothing_yet szx }
+        ensures led { Led (Made szx) result.state }
+        ensures before { result.before ≡ None }
+    {
+        Assembly {
+            szx,
+            clock: Moment(0),
+            partials: Vec::new(alloc),
+            before: None,
+        }
+    }
+
+    /// Takes a block of an upload that came at `now` (RFC 7959, sections 2.5 and 2.9): its Block1 and
+    /// its payload. A `now` before the last one counts as the last one; every `now` counts, also of a
+    /// block that is refused. A refusal leaves the partial bodies, but for 4.13, which drops that of
+    /// the key; it takes no memory.
+    pub fn take(
+        &mut self,
+        now: Moment,
+        key: &UploadKey<A>,
+        block: Block,
+        payload: &[u8],
+    ) -> Result<Took<A>, AllocError>
+        ensures step { IfOk result (λ answer. TakesBlock self.old.state now.0 (key_of key.now) block payload.now answer self.new.state) }
+        ensures led { OnOk result ((t : AssemblyTrace) → Led t self.old.state → Led (Arrived t now.0 (key_of key.now) block payload.now) self.new.state) }
+        ensures before { OnOk result (self.new.before ≡ Some self.old.state) }
+        ensures err { OnErr result (self.new ≡ self.old) }
+        // A refusal takes no memory.
+        ensures quiet { IsRefused (verdict_at self.old.state now.0 (key_of key.now) block (length payload.now)) → IsOk result }
+    {
+        let num = block.num;
+        let was = self.clock;
+        let now = later(was, now);
+        let (reached, others) = counts(&self.partials, key, now);
+        let verdict = judge(self.szx, reached, others, block, payload.len());
+        let (took, change) = act(&mut self.partials, was, now, key, num, payload, verdict)?;
+        self.clock = now;
+        self.before = Some(Before { clock: was, change });
+        Ok(took)
+    }
+
+    /// Takes the last block back, so that the assembly is as before it. There is to have been one that
+    /// was not refused memory, and no `undo` since.
+    pub fn undo(&mut self)
+        requires { IsSome self.old.before }
+        ensures back { self.old.before ≡ Some self.new.state }
+        ensures spent { self.new.before ≡ None }
+    {
+        if let Some(before) = self.before.take() {
+            self.clock = before.clock;
+            restore(&mut self.partials, before.change);
+        }
+    }
+}
+
+// The later of two moments.
+fn later(a: Moment, b: Moment) -> Moment
+    ensures { result.0 ≡ max a.0 b.0 }
+{
+    Moment(a.0.max(b.0))
+}
+
+// Does what the verdict says: the answer, and what `undo` is to take back.
+fn act<A: Allocator + Copy>(
+    partials: &mut Vec<Partial<A>, A>,
+    was: Moment,
+    now: Moment,
+    key: &UploadKey<A>,
+    num: u32,
+    payload: &[u8],
+    verdict: BlockVerdict,
+) -> Result<(Took<A>, Change<A>), AllocError>
+    requires { was.0 ≤ now.0 }
+    ensures answer { IfOk result (λ r. r.0 ≡ took (joined_before (key_of key.now) num (forgotten now.0 (kept partials.old.items)) ++ payload.now) num verdict) }
+    ensures left { OnOk result (forgotten now.0 (kept partials.new.items) ≡ partials_by verdict
+        (begun (key_of key.now) (joined_before (key_of key.now) num (forgotten now.0 (kept partials.old.items)) ++ payload.now) now.0) (forgotten now.0 (kept partials.old.items))) }
+    ensures back { IfOk result (λ r. forgotten was.0 (restored r.1 (kept partials.new.items)) ≡ forgotten was.0 (kept partials.old.items)) }
+    ensures undoable { IfOk result (λ r. IsUndoable r.1 partials.new) }
+    ensures err { OnErr result (kept partials.new.items ≡ kept partials.old.items) }
+    ensures len { OnErr result (vec_len partials.new ≡ vec_len partials.old) }
+    ensures room { OnErr result (vec_capacity partials.old ≤ vec_capacity partials.new) }
+    ensures quiet { IsRefused verdict → IsOk result }
+{
+    match verdict {
+        BlockVerdict::Refuse(why) => {
+            let change = match why {
+                AssemblyRefusal::EntityTooLarge => take_out(partials, key, now),
+                _ => Change::Clock,
+            };
+            Ok((Took::Refused(why), change))
+        }
+        BlockVerdict::Done => {
+            let alloc = *partials.allocator();
+            let whole = whole(alloc, partials, key, now, num, payload)?;
+            let change = take_out(partials, key, now);
+            Ok((Took::Whole(whole), change))
+        }
+        BlockVerdict::Join(szx) => {
+            let change = join(partials, was, now, key, num, payload)?;
+            Ok((Took::More(block_to_answer(num, szx)), change))
+        }
+    }
+}
+
+// The Block1 of a 2.31 Continue (RFC 7959, section 2.3).
+fn block_to_answer(num: u32, szx: Szx) -> Block
+    ensures { result ≡ record { num = num; more = true; szx = szx } }
+{
+    Block {
+        num,
+        more: true,
+        szx,
+    }
+}

@@ -1,0 +1,75 @@
+ghost use Rattle.std.specs.Prelude.{◌≡◌, IfOk, OnOk, OnErr};
+ghost use Rattle.coap_block.specs.AssemblyState.{is_live, same_key};
+ghost use Rattle.coap_block.specs.AssemblyKept.{begun, body_of, cut, grown, is_there, key_of};
+
+use crate::upload_key::UploadKey;
+use coap_types::Moment;
+use std::alloc::{AllocError, Allocator};
+
+/// How long a partial body is kept after its last block, in milliseconds (profile: EXCHANGE_LIFETIME,
+/// RFC 7252, section 4.8.2; RFC 7959, section 7, asks for a bound).
+pub const PARTIAL_LIFETIME_MS: u64 = 247_000;
+
+const _: () = prove!(PARTIAL_LIFETIME_MS == 247_000);
+
+/// The blocks of one upload, joined so far.
+#[derive(Drop)]
+#[derive_where(Debug)]
+pub(crate) struct Partial<A: Allocator> {
+    /// Of which upload.
+    pub(crate) key: UploadKey<A>,
+    /// The bytes from the start of the body.
+    pub(crate) bytes: Vec<u8, A>,
+    /// When its last block came.
+    pub(crate) last: Moment,
+}
+
+impl<A: Allocator + Copy> Partial<A> {
+    /// One of block 0.
+    pub(crate) fn new(
+        alloc: A,
+        key: &UploadKey<A>,
+        payload: &[u8],
+        now: Moment,
+    ) -> Result<Partial<A>, AllocError>
+        ensures { IfOk result (λ partial. body_of partial ≡ begun (key_of key.now) payload.now now.0) }
+    {
+        Ok(Partial {
+            key: key.copy()?,
+            bytes: Vec::from_slice(alloc, payload)?,
+            last: now,
+        })
+    }
+
+    /// Whether its last block is no longer ago than it is kept.
+    pub(crate) fn is_live(&self, now: Moment) -> bool
+        ensures { result ≡ is_live now.0 (body_of self.now) }
+    {
+        now.0.saturating_sub(self.last.0) <= PARTIAL_LIFETIME_MS
+    }
+
+    /// Whether it is that of the key, and there.
+    pub(crate) fn is_there(&self, key: &UploadKey<A>, now: Moment) -> bool
+        ensures { result ≡ is_there (key_of key.now) now.0 (body_of self.now) }
+    {
+        self.is_live(now) && self.key.is(key)
+    }
+
+    /// Puts a payload behind the bytes.
+    pub(crate) fn grow(&mut self, payload: &[u8], now: Moment) -> Result<(), AllocError>
+        ensures ok { OnOk result (body_of self.new ≡ grown payload.now now.0 (body_of self.old)) }
+        ensures err { OnErr result (body_of self.new ≡ body_of self.old) }
+    {
+        self.bytes.extend_from_slice(payload)?;
+        self.last = now;
+        Ok(())
+    }
+
+    /// Cuts it to its first bytes, with its last block at that moment.
+    pub(crate) fn cut(&mut self, len: usize, last: Moment)
+        ensures { body_of self.new ≡ cut len last.0 (body_of self.old) }
+    {
+        self.bytes.truncate(len);
+        self.last = last;
+    }
+}

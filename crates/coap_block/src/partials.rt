@@ -1,0 +1,227 @@
+ghost use Rattle.std.specs.Prelude.{◌≡◌, ◌<◌, ◌≤◌, ◌++◌, ◌∷◌, [], filter, length, option_copied, set, IfOk, IfSome, IfNone, OnOk, OnErr, vec_len, vec_capacity};
+ghost use Rattle.std.specs.List.{insert, remove};
+ghost use Rattle.std.specs.Option.{option_map};
+ghost use Rattle.coap_block.specs.AssemblyState.{forgotten, is_live, joined_before, partial_of, put, reached, without};
+ghost use Rattle.coap_block.specs.AssemblyKept.{begun, body_of, changed_at, grown, kept, key_of, place_of, restored, IsUndoable};
+
+use crate::assembly_undo::Change;
+use crate::body::joined;
+use crate::partial::Partial;
+use crate::upload_key::UploadKey;
+use bytes::Bytes;
+use coap_types::Moment;
+use std::alloc::{AllocError, Allocator};
+use std::mem;
+
+/// The partial body of a key, where there is one.
+pub(crate) fn find<'a, A: Allocator + Copy>(
+    partials: &'a [Partial<A>],
+    key: &UploadKey<A>,
+    now: Moment,
+) -> Option<&'a Partial<A>>
+    ensures { option_map body_of (option_copied result) ≡ partial_of (key_of key.now) (forgotten now.0 (kept partials.now)) }
+{
+    match partials {
+        [] => None,
+        [first, ..] if first.is_there(key, now) => Some(first),
+        [_, rest @ ..] => find(rest, key, now),
+    }
+}
+
+/// Its place.
+fn place_of<A: Allocator + Copy>(
+    partials: &[Partial<A>],
+    key: &UploadKey<A>,
+    now: Moment,
+) -> Option<usize>
+    ensures place { result ≡ place_of (key_of key.now) now.0 (kept partials.now) }
+    ensures within { IfSome result (λ i. i < length partials.now) }
+{
+    match partials {
+        [] => None,
+        [first, ..] if first.is_there(key, now) => Some(0),
+        [_, rest @ ..] => Some(place_of(rest, key, now)? + 1),
+    }
+}
+
+/// How many partial bodies there are.
+fn live<A: Allocator + Copy>(partials: &[Partial<A>], now: Moment) -> usize
+    ensures { result ≡ length (filter (λ p. is_live now.0 (body_of p)) partials.now) }
+{
+    partials
+        .iter()
+        .filter(|partial| partial.is_live(now))
+        .count()
+}
+
+/// How many bytes the key has, if it has a partial body, and how many other keys have one.
+pub(crate) fn counts<A: Allocator + Copy>(
+    partials: &[Partial<A>],
+    key: &UploadKey<A>,
+    now: Moment,
+) -> (Option<usize>, usize)
+    ensures reached { result.0 ≡ reached (key_of key.now) (forgotten now.0 (kept partials.now)) }
+    ensures others { result.1 ≡ length (without (key_of key.now) (forgotten now.0 (kept partials.now))) }
+{
+    let live = live(partials, now);
+    match find(partials, key, now) {
+        Some(partial) => (Some(partial.bytes.len()), live - 1),
+        None => (None, live),
+    }
+}
+
+/// Takes the partial body of a key out.
+pub(crate) fn take_out<A: Allocator + Copy>(
+    partials: &mut Vec<Partial<A>, A>,
+    key: &UploadKey<A>,
+    now: Moment,
+) -> Change<A>
+    ensures left { forgotten now.0 (kept partials.new.items) ≡ without (key_of key.now) (forgotten now.0 (kept partials.old.items)) }
+    ensures back { restored result (kept partials.new.items) ≡ kept partials.old.items }
+    ensures undoable { IsUndoable result partials.new }
+{
+    match place_of(partials, key, now) {
+        None => Change::Clock,
+        Some(i) => Change::TakenOut(i, partials.remove(i)),
+    }
+}
+
+/// Drops those that are no longer there.
+fn forget<A: Allocator + Copy>(partials: &mut Vec<Partial<A>, A>, now: Moment)
+    ensures left { partials.new.items ≡ filter (λ p. is_live now.0 (body_of p)) partials.old.items }
+    ensures len { vec_len partials.new ≤ vec_len partials.old }
+    ensures room { vec_capacity partials.new ≡ vec_capacity partials.old }
+{
+    partials.retain(|partial| partial.is_live(now));
+}
+
+// Puts one last, where there is room.
+fn push_within<A: Allocator + Copy>(partials: &mut Vec<Partial<A>, A>, partial: Partial<A>)
+    requires { vec_len partials.old < vec_capacity partials.old }
+    ensures { partials.new.items ≡ partials.old.items ++ partial ∷ [] }
+{
+    let _room_was_reserved = partials.push(partial);
+}
+
+/// Puts a block behind the partial body at a place.
+fn grow<A: Allocator + Copy>(
+    partials: &mut Vec<Partial<A>, A>,
+    i: usize,
+    payload: &[u8],
+    now: Moment,
+) -> Result<Change<A>, AllocError>
+    requires { i < length partials.old.items }
+    ensures ok { OnOk result (kept partials.new.items ≡ changed_at (grown payload.now now.0) i (kept partials.old.items)) }
+    ensures back { IfOk result (λ change. restored change (kept partials.new.items) ≡ kept partials.old.items) }
+    ensures undoable { IfOk result (λ change. IsUndoable change partials.new) }
+    ensures err { OnErr result (kept partials.new.items ≡ kept partials.old.items) }
+    ensures len { vec_len partials.new ≡ vec_len partials.old }
+    ensures room { vec_capacity partials.new ≡ vec_capacity partials.old }
+{
+    let partial = &mut partials[i];
+    let change = Change::Grown(i, partial.bytes.len(), partial.last);
+    partial.grow(payload, now)?;
+    Ok(change)
+}
+
+/// Begins anew in place of the partial body at a place.
+fn replace<A: Allocator + Copy>(
+    partials: &mut Vec<Partial<A>, A>,
+    i: usize,
+    key: &UploadKey<A>,
+    payload: &[u8],
+    now: Moment,
+) -> Result<Change<A>, AllocError>
+    requires { i < length partials.old.items }
+    ensures ok { OnOk result (kept partials.new.items ≡ set (kept partials.old.items) i (begun (key_of key.now) payload.now now.0)) }
+    ensures back { IfOk result (λ change. restored change (kept partials.new.items) ≡ kept partials.old.items) }
+    ensures undoable { IfOk result (λ change. IsUndoable change partials.new) }
+    ensures err { OnErr result (partials.new ≡ partials.old) }
+{
+    let new = Partial::new(*partials.allocator(), key, payload, now)?;
+    let old = mem::replace(&mut partials[i], new);
+    Ok(Change::Replaced(i, old))
+}
+
+/// Begins behind the others. Those that were no longer there at the moment of the last input are
+/// dropped, so that as many are kept as `undo` may ask for.
+fn begin<A: Allocator + Copy>(
+    partials: &mut Vec<Partial<A>, A>,
+    was: Moment,
+    key: &UploadKey<A>,
+    payload: &[u8],
+    now: Moment,
+) -> Result<Change<A>, AllocError>
+    ensures ok { OnOk result (kept partials.new.items ≡ forgotten was.0 (kept partials.old.items) ++ begun (key_of key.now) payload.now now.0 ∷ []) }
+    ensures back { IfOk result (λ change. restored change (kept partials.new.items) ≡ forgotten was.0 (kept partials.old.items)) }
+    ensures undoable { IfOk result (λ change. IsUndoable change partials.new) }
+    ensures err { OnErr result (partials.new.items ≡ partials.old.items) }
+    ensures len { OnErr result (vec_len partials.new ≡ vec_len partials.old) }
+    ensures room { OnErr result (vec_capacity partials.old ≤ vec_capacity partials.new) }
+{
+    let new = Partial::new(*partials.allocator(), key, payload, now)?;
+    partials.reserve(1)?;
+    forget(partials, was);
+    push_within(partials, new);
+    Ok(Change::Begun)
+}
+
+/// Joins a block to the partial body of its key, or begins one where it is block 0.
+pub(crate) fn join<A: Allocator + Copy>(
+    partials: &mut Vec<Partial<A>, A>,
+    was: Moment,
+    now: Moment,
+    key: &UploadKey<A>,
+    num: u32,
+    payload: &[u8],
+) -> Result<Change<A>, AllocError>
+    requires { was.0 ≤ now.0 }
+    ensures ok { OnOk result (forgotten now.0 (kept partials.new.items)
+        ≡ put (begun (key_of key.now) (joined_before (key_of key.now) num (forgotten now.0 (kept partials.old.items)) ++ payload.now) now.0) (forgotten now.0 (kept partials.old.items))) }
+    ensures back { IfOk result (λ change. forgotten was.0 (restored change (kept partials.new.items)) ≡ forgotten was.0 (kept partials.old.items)) }
+    ensures undoable { IfOk result (λ change. IsUndoable change partials.new) }
+    ensures err { OnErr result (kept partials.new.items ≡ kept partials.old.items) }
+    ensures len { OnErr result (vec_len partials.new ≡ vec_len partials.old) }
+    ensures room { OnErr result (vec_capacity partials.old ≤ vec_capacity partials.new) }
+{
+    match place_of(partials, key, now) {
+        Some(i) if num > 0 => grow(partials, i, payload, now),
+        Some(i) => replace(partials, i, key, payload, now),
+        None => begin(partials, was, key, payload, now),
+    }
+}
+
+/// The body of a key with its last block.
+pub(crate) fn whole<A: Allocator + Copy>(
+    alloc: A,
+    partials: &[Partial<A>],
+    key: &UploadKey<A>,
+    now: Moment,
+    num: u32,
+    payload: &[u8],
+) -> Result<Bytes<A>, AllocError>
+    ensures { IfOk result (λ whole. whole ≡ joined_before (key_of key.now) num (forgotten now.0 (kept partials.now)) ++ payload.now) }
+{
+    match find(partials, key, now) {
+        Some(partial) if num > 0 => joined(alloc, &partial.bytes, payload),
+        _ => joined(alloc, &[], payload),
+    }
+}
+
+/// Takes a change back.
+pub(crate) fn restore<A: Allocator + Copy>(partials: &mut Vec<Partial<A>, A>, change: Change<A>)
+    requires { IsUndoable change partials.old }
+    ensures { kept partials.new.items ≡ restored change (kept partials.old.items) }
+{
+    match change {
+        Change::Clock => {}
+        Change::Begun => {
+            let _begun = partials.pop();
+        }
+        Change::Replaced(i, old) => partials[i] = old,
+        Change::TakenOut(i, old) => {
+            let _there_is_room = partials.insert(i, old);
+        }
+        Change::Grown(i, len, last) => partials[i].cut(len, last),
+    }
+}
