@@ -90,12 +90,12 @@ was_begun (e ∷ past) c h = ⊎_elim (old (was_begun past)) new (Ever_append (�
     old f k = let q = in_filter_map (left_by e) c (outstanding past) k in
         inr (subst (λ (d : Open). Ever (λ b. begun b ≡ Some d) past) (left_same e q.0 c q.2) (f q.0 q.1))
 
-begun_by : (word : ℕ) (t : List Entry) (c : Open) → LayerLaw word t → Ever (λ b. begun b ≡ Some c) t → c.first ≤ clock t
+pub begun_by : (word : ℕ) (t : List Entry) (c : Open) → LayerLaw word t → Ever (λ b. begun b ≡ Some c) t → c.first ≤ clock t
 begun_by word [] c law h = absurd h
 begun_by word (e ∷ past) c law (inl h) = let f = begun_fresh e.at e.call e.answer c h in omega (arith, f.0)
 begun_by word (e ∷ past) c law (inr h) = let k = begun_by word past c law.1 h in omega (arith, k, law.0.time)
 
-in_first : (P : Open → Type 0) (c : Open) (cs : List Open) → IsFirst P c cs → In c cs
+pub in_first : (P : Open → Type 0) (c : Open) (cs : List Open) → IsFirst P c cs → In c cs
 in_first P c [] h = h
 in_first P c (x ∷ cs) (inl h) = inl h.0
 in_first P c (x ∷ cs) (inr h) = inr (in_first P c cs h.1)
@@ -129,7 +129,7 @@ copies_sent : (kind : Kind) (word : ℕ) (past : List Entry) (e : Entry) (place 
 copies_sent kind word past e place content to id (inl r) h = not_copied e _ to id r.answer (λ z. cc z) h
 copies_sent kind word past e place content to id (inr r) h = not_copied e _ to id r.answer (λ z. cc z) h
 
-copies_row : (word : ℕ) (past : List Entry) (e : Entry) (call : Call) (to : Endpoint) (id : ℕ) → Row word past e call → e.answer ≡ Copied to id → Copies past e
+pub copies_row : (word : ℕ) (past : List Entry) (e : Entry) (call : Call) (to : Endpoint) (id : ℕ) → Row word past e call → e.answer ≡ Copied to id → Copies past e
 copies_row word past e (Receive from bytes) to id row h = absurd (copies_arrived word past e from row.1.0 to id row.1.2 h)
 copies_row word past e (Reply place n bytes) to id row h = absurd (not_copied e _ to id row.1 (λ z. cc z) h)
 copies_row word past e (Confirm place content wish) to id row h = absurd (⊎_elim (λ r. not_copied e _ to id r.answer (λ z. cc z) h) (λ r. copies_sent Con word past e place content to id r.1 h) row.1)

@@ -25,3 +25,16 @@ pub mod PlaceLemmas
 pub mod StoredLemmas
 pub mod SendLemmas
 pub mod SendableLemmas
+pub mod NumberedLemmas
+pub mod FiveLemmas
+pub mod OutLemmas
+pub mod OrderLemmas
+pub mod HandedLemmas
+pub mod ComesLemmas
+pub mod HopLemmas
+pub mod TakenLemmas
+pub mod AckLemmas
+pub mod OpenLemmas
+pub mod DueLemmas
+pub mod SendWitness
+pub mod ChannelWitness

@@ -19,3 +19,5 @@ pub mod Parts
 pub mod Shown
 pub mod Arriving
 pub mod Ups
+pub mod Sends
+pub mod Channel

@@ -5,6 +5,9 @@ ghost use Rattle.coap_layer.specs.Sendable.{IsSendableWhenShort};
 ghost use Rattle.coap_layer.specs.State.{State, Step, made, start};
 ghost use Rattle.coap_layer.specs.LayerLed.{LayerLed};
 ghost use Rattle.coap_layer.specs.Follows.{HandedUpOnce, CopiesInTime, IdsApart, OneOutstanding, EndsOutstanding, IsExact};
+ghost use Rattle.coap_types.specs.declared.endpoint.Endpoint.{Endpoint};
+ghost use Rattle.coap_layer.specs.Channel.{Hop, ChannelLaw, HandedAsSpelled, AcksHeard, ArrivesAsSent, ConsBegun, NonsSent, OnlyThatCon, AcksReplied, AcksTaken, TakenOnce};
+ghost use Rattle.coap_layer.specs.Sends.{FiveAtMost, AllAlike, ConsSpelled, OneOpen, LastBegun, EachGoesOut, InOrder, TakenSince};
 ghost use Rattle.coap_layer.specs.Steps.{Asked, Steps, entries};
 
 /// What leads to a layer's state stands in the law, and what follows from that.
@@ -26,6 +29,46 @@ pub fn layer_law()
     ensures one { (word : ℕ) (t : List Entry) → LayerLaw word t → OneOutstanding t }
     // An acknowledgement or a Reset is taken only for what is outstanding (sections 4.2 and 5.3.2).
     ensures ends { (word : ℕ) (t : List Entry) → LayerLaw word t → EndsOutstanding t }
+{}
+
+/// What a layer sends: how often, what, and in which order.
+pub fn sending_law()
+    // A Confirmable message goes out at most five times (RFC 7252, section 4.2).
+    ensures five { (word : ℕ) (t : List Entry) → LayerLaw word t → FiveAtMost t }
+    // Each time it goes out within 47,000 ms of the first, with equal bytes, under one Message ID.
+    ensures alike { (word : ℕ) (t : List Entry) → LayerLaw word t → AllAlike t }
+    ensures spelled { (word : ℕ) (t : List Entry) → LayerLaw word t → ConsSpelled t }
+    // What is outstanding to an endpoint is one Confirmable message (section 4.7).
+    ensures alone { (word : ℕ) (t : List Entry) → LayerLaw word t → OneOpen t }
+    ensures last { (word : ℕ) (t : List Entry) → LayerLaw word t → LastBegun t }
+    // Each datagram that goes out is one of six kinds.
+    ensures kinds { (word : ℕ) (t : List Entry) → LayerLaw word t → EachGoesOut t }
+    // What is taken was sent, in the order of sending, each datagram once.
+    ensures order { (word : ℕ) (t : List Entry) → LayerLaw word t → InOrder t }
+    // .. and since nothing waited.
+    ensures since { TakenSince }
+{}
+
+/// What two layers do together, where no datagram arrives more than 100,000 ms after it was sent, and each reply is given
+/// at once, with the Message ID of what it replies to. Each clause is of what the near layer sends and the far one takes.
+pub fn channel_law()
+    // What one layer hands up arrived as a datagram that spells it.
+    ensures spelled { (word : ℕ) (t : List Entry) → LayerLaw word t → HandedAsSpelled t }
+    // An acknowledgement is taken of a message that is outstanding to its source.
+    ensures heard { (word : ℕ) (t : List Entry) → LayerLaw word t → AcksHeard t }
+    // What arrives was sent by one of the rows.
+    ensures sent { (one other : ℕ) (near far : Endpoint) (all : List Hop) → ChannelLaw one other near far all → ArrivesAsSent near far all }
+    // A Confirmable message that arrives was begun at most 147,000 ms before (RFC 7252, section 4.8.2).
+    ensures begun { (one other : ℕ) (near far : Endpoint) (all : List Hop) → ChannelLaw one other near far all → ConsBegun near far all }
+    // A Non-confirmable message that arrives was sent at most 100,000 ms before (section 4.3).
+    ensures plain { (one other : ℕ) (near far : Endpoint) (all : List Hop) → ChannelLaw one other near far all → NonsSent near far all }
+    // What arrives under a Confirmable message's Message ID meanwhile is that very message (section 4.4).
+    ensures only { (one other : ℕ) (near far : Endpoint) (all : List Hop) → ChannelLaw one other near far all → OnlyThatCon near far all }
+    // It is handed up once (section 4.5).
+    ensures once { (one other : ℕ) (near far : Endpoint) (all : List Hop) → ChannelLaw one other near far all → TakenOnce near all }
+    // An acknowledgement that is taken is the reply that was given to that very message, which was taken (section 4.2).
+    ensures replied { (one other : ℕ) (near far : Endpoint) (all : List Hop) → ChannelLaw one other near far all → AcksReplied near far all }
+    ensures taken { (one other : ℕ) (near far : Endpoint) (all : List Hop) → ChannelLaw one other near far all → AcksTaken near far all }
 {}
 
 /// What isn't Empty, and has options that ascend and are short, may be sent where its header, its

@@ -1,0 +1,32 @@
+use Rattle.coap_layer.proofs.AckLemmas.{acks_replied, acks_taken}
+use Rattle.coap_layer.proofs.HandedLemmas.{handed_spelled, acks_heard}
+use Rattle.coap_layer.proofs.HopLemmas.{arrives_as_sent, cons_begun, nons_sent}
+use Rattle.coap_layer.proofs.TakenLemmas.{only_that_con, taken_once}
+use Rattle.coap_layer.proofs.laws.channel_law.Goals as goal
+
+pub returns-clause-sent : goal.returns-clause-sent
+returns-clause-sent c = arrives_as_sent
+
+pub returns-clause-begun : goal.returns-clause-begun
+returns-clause-begun c = cons_begun
+
+pub returns-clause-only : goal.returns-clause-only
+returns-clause-only c = only_that_con
+
+pub returns-clause-once : goal.returns-clause-once
+returns-clause-once c = taken_once
+
+pub returns-clause-replied : goal.returns-clause-replied
+returns-clause-replied c = acks_replied
+
+pub returns-clause-taken : goal.returns-clause-taken
+returns-clause-taken c = acks_taken
+
+pub returns-clause-spelled : goal.returns-clause-spelled
+returns-clause-spelled c = handed_spelled
+
+pub returns-clause-heard : goal.returns-clause-heard
+returns-clause-heard c = acks_heard
+
+pub returns-clause-plain : goal.returns-clause-plain
+returns-clause-plain c = nons_sent

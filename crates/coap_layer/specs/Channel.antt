@@ -1,0 +1,177 @@
+-- Two layers, and the datagrams between them (RFC 7252, sections 4.2 to 4.5). Profile: none arrives more than 100,000 ms
+-- after it was sent.
+use Rattle.std.specs.Prelude.{◌≡◌, ◌⊎◌, ◌≤◌, ℕ, ◌+◌, true, Some, None, List, [], ◌∷◌}
+use Rattle.coap_types.specs.Past.{Ever, Once, Always, Since}
+use Rattle.coap_types.specs.declared.endpoint.Endpoint.{Endpoint}
+use Rattle.coap_types.specs.declared.message.Kind.TheVariants.{Con, Non, Ack, Rst}
+use Rattle.coap_codec.specs.Message.{AreBytes, Message, Spells}
+use Rattle.coap_layer.specs.Trace.{Receive, Reply, Answer, Response, Acked, Entry}
+use Rattle.coap_layer.specs.Words.{Incoming, handed, taken, hands_up, Open, begun, outstanding}
+use Rattle.coap_layer.specs.Rows.{LayerLaw}
+use Rattle.coap_layer.specs.Sends.{IsIn, PlainOut, GoesOut}
+
+-- an entry of the one layer, or of the other
+pub data Hop : Type 0 where
+  Near : (entry : Entry) → Hop
+  Far : (entry : Entry) → Hop
+
+abbrev pub near_of : List Hop → List Entry
+near_of [] = []
+near_of (Near e ∷ past) = e ∷ near_of past
+near_of (Far e ∷ past) = near_of past
+
+abbrev pub far_of : List Hop → List Entry
+far_of [] = []
+far_of (Near e ∷ past) = far_of past
+far_of (Far e ∷ past) = e ∷ far_of past
+
+abbrev pub OnNear : (Entry → Type 0) → Hop → Type 0
+OnNear P (Near e) = P e
+OnNear P (Far e) = ⊥
+
+abbrev pub OnFar : (Entry → Type 0) → Hop → Type 0
+OnFar P (Near e) = ⊥
+OnFar P (Far e) = P e
+
+-- it was sent there, at most 100,000 ms before
+pub record GaveOut (to : Endpoint) (bytes : List ℕ) (when : ℕ) (e : Entry) : Type 0 where
+  pub out : IsIn (record { to = to; bytes = bytes }) e.out
+  pub from : e.at ≤ when
+  pub till : when ≤ e.at + 100000
+
+-- what comes from the other's address was sent by it, once or more often, or never arrives
+abbrev pub IsFair : Endpoint → Endpoint → List Hop → Hop → Type 0
+IsFair near far past (Near e) = (bytes : List ℕ) → e.call ≡ Receive far bytes → Ever (OnFar (GaveOut near bytes e.at)) past
+IsFair near far past (Far e) = (bytes : List ℕ) → e.call ≡ Receive near bytes → Ever (OnNear (GaveOut far bytes e.at)) past
+
+-- the message that was handed up last, at this moment
+abbrev pub IsLatest : List Entry → ℕ → Incoming → Type 0
+IsLatest past at m = Since (λ h. (handed h ≡ Some m) × (h.at ≡ at)) (λ h. handed h ≡ None) past
+
+-- A reply is given at the moment at which the message was handed up. It is a Reset, or the acknowledgement of a CON (a NON
+-- isn't acknowledged: section 4.3), with the message's Message ID (section 4.2).
+pub record RepliesAtOnce (past : List Entry) (at id : ℕ) (bytes : List ℕ) : Type 0 where
+  pub to_what : Incoming
+  pub latest : IsLatest past at to_what
+  pub reply : Message
+  pub spells : Spells bytes reply
+  pub id_is : reply.id ≡ id
+  pub kind : (reply.kind ≡ Rst) ⊎ ((reply.kind ≡ Ack) × (to_what.message.kind ≡ Con))
+
+abbrev pub RepliesSo : List Entry → Entry → Type 0
+RepliesSo past e = (to : Endpoint) (id : ℕ) (bytes : List ℕ) → e.call ≡ Reply to id bytes → RepliesAtOnce past e.at id bytes
+
+-- the layers that began with these words, what went between them, and how each replies
+pub record ChannelLaw (one other : ℕ) (near far : Endpoint) (all : List Hop) : Type 0 where
+  pub near_law : LayerLaw one (near_of all)
+  pub far_law : LayerLaw other (far_of all)
+  pub near_replies : Always RepliesSo (near_of all)
+  pub far_replies : Always RepliesSo (far_of all)
+  pub fair : Always (IsFair near far) all
+
+-- the CON or NON that is handed up arrived in these bytes; a CON is remembered
+pub record HandedBy (e : Entry) (m : Incoming) : Type 0 where
+  pub bytes : List ℕ
+  pub call : e.call ≡ Receive m.from bytes
+  pub are_bytes : AreBytes bytes
+  pub spells : Spells bytes m.message
+  pub kind : (m.message.kind ≡ Con) ⊎ (m.message.kind ≡ Non)
+  pub kept : m.message.kind ≡ Con → taken e ≡ Some m
+
+abbrev pub HandedAsSpelled : List Entry → Type 0
+HandedAsSpelled t = Always (λ past e. (m : Incoming) → handed e ≡ Some m → HandedBy e m) t
+
+-- What arrives is what the other layer sends by one of its rows, at most 100,000 ms before.
+pub record SentSo (to : Endpoint) (bytes : List ℕ) (when : ℕ) (past : List Entry) (e : Entry) : Type 0 where
+  pub goes : GoesOut past e (record { to = to; bytes = bytes })
+  pub from : e.at ≤ when
+  pub till : when ≤ e.at + 100000
+
+abbrev pub ArrivesAsSent : Endpoint → Endpoint → List Hop → Type 0
+ArrivesAsSent near far all =
+    Always (λ past e. (x : Entry) (bytes : List ℕ) → e ≡ Far x → x.call ≡ Receive near bytes → Once (SentSo far bytes x.at) (near_of past)) all
+
+-- A CON that arrives was begun at most 147,000 ms before, with these bytes, for this place.
+pub record BegunAs (to : Endpoint) (bytes : List ℕ) (id when : ℕ) (t : List Entry) : Type 0 where
+  pub con : Open
+  pub begun : Ever (λ b. begun b ≡ Some con) t
+  pub to_is : con.to ≡ to
+  pub bytes_are : con.bytes ≡ bytes
+  pub id_is : con.id ≡ id
+  pub from : con.first ≤ when
+  pub till : when ≤ con.first + 147000
+
+abbrev pub ConsBegun : Endpoint → Endpoint → List Hop → Type 0
+ConsBegun near far all =
+    Always (λ past e. (x : Entry) (bytes : List ℕ) (m : Message) → e ≡ Far x → x.call ≡ Receive near bytes → Spells bytes m → m.kind ≡ Con
+    → BegunAs far bytes m.id x.at (near_of past)) all
+
+-- A NON that arrives was sent at most 100,000 ms before.
+pub record PlainSent (to : Endpoint) (bytes : List ℕ) (when : ℕ) (e : Entry) : Type 0 where
+  pub goes : PlainOut e (record { to = to; bytes = bytes })
+  pub from : e.at ≤ when
+  pub till : when ≤ e.at + 100000
+
+abbrev pub NonsSent : Endpoint → Endpoint → List Hop → Type 0
+NonsSent near far all =
+    Always (λ past e. (x : Entry) (bytes : List ℕ) (m : Message) → e ≡ Far x → x.call ≡ Receive near bytes → Spells bytes m → m.kind ≡ Non
+    → Ever (PlainSent far bytes x.at) (near_of past)) all
+
+-- the answer takes the acknowledgement with this Message ID, Empty or with a response (sections 4.2 and 5.2.1)
+abbrev pub TakesAckOf : ℕ → Answer → Type 0
+TakesAckOf id answer = (answer ≡ Acked id) ⊎ ((m : Message) × (answer ≡ Response m) × (m.kind ≡ Ack) × (m.id ≡ id))
+
+-- an acknowledgement of this CON is taken while it is outstanding
+pub record HearsAck (con : Open) (past : List Entry) (e : Entry) : Type 0 where
+  pub is_outstanding : IsIn con (outstanding past)
+  pub bytes : List ℕ
+  pub call : e.call ≡ Receive con.to bytes
+  pub answer : TakesAckOf con.id e.answer
+
+-- Each acknowledgement that is taken is of a CON that is outstanding to its source.
+abbrev pub AcksHeard : List Entry → Type 0
+AcksHeard t =
+    Always (λ past e. (from : Endpoint) (bytes : List ℕ) (id : ℕ) → e.call ≡ Receive from bytes → TakesAckOf id e.answer
+    → (con : Open) × (con.to ≡ from) × (con.id ≡ id) × HearsAck con past e) t
+
+-- this very CON arrives, is handed up and remembered
+pub record Takes (near : Endpoint) (con : Open) (e : Entry) : Type 0 where
+  pub call : e.call ≡ Receive near con.bytes
+  pub up : hands_up near con.id e ≡ true
+  pub from : con.first ≤ e.at
+  pub till : e.at ≤ con.first + 147000
+
+-- An acknowledgement says that the other layer has taken that very CON.
+abbrev pub AcksTaken : Endpoint → Endpoint → List Hop → Type 0
+AcksTaken near far all = Always (λ past e. (x : Entry) (con : Open) → e ≡ Near x → con.to ≡ far → HearsAck con (near_of past) x → Ever (OnFar (Takes near con)) past) all
+
+-- these bytes are given as the reply to this very CON, at the moment at which it is handed up
+pub record RepliesTo (near : Endpoint) (con : Open) (bytes : List ℕ) (past : List Entry) (e : Entry) : Type 0 where
+  pub call : e.call ≡ Reply near con.id bytes
+  pub to_it : Since (λ y. Takes near con y × (y.at ≡ e.at)) (λ y. handed y ≡ None) past
+
+abbrev pub OnFarThen : (List Entry → Entry → Type 0) → List Hop → Hop → Type 0
+OnFarThen P past (Near e) = ⊥
+OnFarThen P past (Far e) = P (far_of past) e
+
+-- The acknowledgement is the very reply that the other layer was given to that CON, for the first time or again.
+abbrev pub AcksReplied : Endpoint → Endpoint → List Hop → Type 0
+AcksReplied near far all =
+    Always (λ past e. (x : Entry) (con : Open) → e ≡ Near x → con.to ≡ far → (h : HearsAck con (near_of past) x) → Once (OnFarThen (RepliesTo near con h.bytes)) past) all
+
+-- a message from there with the CON's Message ID is handed up, while the CON can arrive
+pub record HandsUpAs (near : Endpoint) (con : Open) (e : Entry) : Type 0 where
+  pub message : Incoming
+  pub up : handed e ≡ Some message
+  pub from_is : message.from ≡ near
+  pub id_is : message.message.id ≡ con.id
+  pub from : con.first ≤ e.at
+  pub till : e.at ≤ con.first + 147000
+
+-- What was taken is not handed up again: 147,000 ms are less than EXCHANGE_LIFETIME (section 4.8.2).
+abbrev pub TakenOnce : Endpoint → List Hop → Type 0
+TakenOnce near all = (con : Open) → Always (λ past e. OnFar (HandsUpAs near con) e → Ever (OnFar (Takes near con)) past → ⊥) all
+
+-- What arrives with a CON's Message ID, while the CON can arrive, is that very CON.
+abbrev pub OnlyThatCon : Endpoint → Endpoint → List Hop → Type 0
+OnlyThatCon near far all = (con : Open) → Always (λ past e. Ever (λ b. begun b ≡ Some con) (near_of past) → OnFar (HandsUpAs near con) e → OnFar (Takes near con) e) all
