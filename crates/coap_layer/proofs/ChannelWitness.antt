@@ -7,10 +7,11 @@ use Rattle.coap_codec.specs.Message.{AreBytes, Message, Spells}
 use Rattle.coap_codec.specs.Reading.{extended, value_at, nibbles_at, option_at, walk_of, walk, payload_at, frame_fault, body_at, message_at}
 use Rattle.coap_codec.specs.Writing.{options_bytes}
 use Rattle.coap_layer.specs.Trace.{Content, Receive, Reply, Confirm, Request, Acked, Nothing, Sent, Entry}
+use Rattle.coap_layer.specs.Words.{Open}
 use Rattle.coap_layer.specs.Rows.{LayerLaw, IsSpelled}
 use Rattle.coap_layer.specs.State.{start, made}
 use Rattle.coap_layer.specs.Steps.{Asked, Steps, entries, left_after}
-use Rattle.coap_layer.specs.Channel.{Hop, Near, Far, GaveOut, RepliesAtOnce, ChannelLaw}
+use Rattle.coap_layer.specs.Channel.{Hop, Near, Far, GaveOut, RepliesAtOnce, ChannelLaw, HearsAck, Takes}
 use Rattle.coap_layer.proofs.StepsLemmas.{led_steps}
 
 abbrev client : Endpoint
@@ -153,3 +154,15 @@ channel = record {
     ),
   );
 }
+
+-- the acknowledgement is heard, and the CON was taken
+abbrev con : Open
+con = record { to = server; id = 0; bytes = request; timeout = 3000; first = 0; last = 0 }
+
+pub hears : HearsAck con (made (start 0) 0 near_begins.call ∷ []) (made (left_after (start 0) (near_begins ∷ [])) 20 near_hears.call)
+unfolding message_at frame_fault body_at walk walk_of option_at nibbles_at value_at extended payload_at options_bytes
+hears = record { is_outstanding = inl refl; bytes = ack; call = refl; answer = inl refl }
+
+pub takes : Takes client con (made (start 0) 10 far_takes.call)
+unfolding message_at frame_fault body_at walk walk_of option_at nibbles_at value_at extended payload_at
+takes = record { call = refl; up = refl; from = omega arith; till = omega arith }

@@ -5,7 +5,7 @@ use Rattle.coap_types.proofs.PastLemmas.{Ever_append}
 use Rattle.coap_layer.specs.Trace.{Packet, Call, Receive, Reply, Confirm, Plain, Settle, Ticks, Take, Room, AsksFree, Pass, Answer, Gives, Entry}
 use Rattle.coap_layer.specs.Words.{takes_in, waiting}
 use Rattle.coap_layer.specs.Rows.{LayerLaw, Row}
-use Rattle.coap_layer.specs.Sends.{IsIn, collected_in, collected, InOrder, TakenSince}
+use Rattle.coap_layer.specs.Sends.{IsIn, collected_in, collected, InOrder, TakenSent, TakenSince}
 
 -- the first that waits is taken
 taken_first : (q : List Packet) (answer : Answer) → answer ≡ Gives (slice_get q 0) → q ≡ collected_in Take answer ++ drop 1 q
@@ -48,6 +48,15 @@ waits_since p (e ∷ later) past h =
 first_waits : (q : List Packet) (p : Packet) → Gives (slice_get q 0) ≡ Gives (Some p) → IsIn p q
 first_waits [] p h = absurd (cc h)
 first_waits (x ∷ q) p h = inl (cc h)
+
+waits_sent : (p : Packet) (t : List Entry) → IsIn p (waiting t) → Ever (λ b. IsIn p b.out) t
+waits_sent p [] h = h
+waits_sent p (e ∷ past) h = ⊎_elim (λ k. inr (waits_sent p past (in_drop (takes_in e.call) p (waiting past) k))) (λ k. inl k) (Ever_append (λ y. y ≡ p) (drop (takes_in e.call) (waiting past)) e.out h)
+
+pub taken_sent : (word : ℕ) (t : List Entry) → LayerLaw word t → TakenSent t
+taken_sent word [] law = tt
+taken_sent word (e ∷ past) law =
+    ((λ p call answer. waits_sent p past (first_waits (waiting past) p (sym (subst (Row word past e) call law.0.row).0 ∙ answer))), taken_sent word past law.1)
 
 pub taken_since : TakenSince
 taken_since word past later e p law none call answer =

@@ -8,14 +8,16 @@ use Rattle.coap_codec.specs.Message.{Spells}
 use Rattle.coap_codec.specs.Writing.{message_bytes}
 use Rattle.coap_layer.specs.Arrivals.{Arrival, Unreadable, Faulted, Whole, Shows}
 use Rattle.coap_layer.specs.Trace.{Content, with_head, Packet, Call, Receive, Reply, Confirm, Plain, Settle, Ticks, Take, Room, AsksFree, Pass, Answer, Copied, Entry}
-use Rattle.coap_layer.specs.Words.{Incoming, is_con, was_con, hands_up, reply_in, replied, Open, sent_by, open_of, begun_in, begun, outstanding, numbers}
+use Rattle.coap_layer.specs.Words.{Incoming, is_con, was_con, hands_up, reply_in, replied, Open, sent_by, open_of, begun_in, begun, outstanding, numbers, copies_in}
 use Rattle.coap_layer.specs.Rows.{Stands, LayerLaw, Row, Arrives, Sorts, rejects, drops, takes_ack, takes_reset, takes_answer, replays, hands_over, IsSpelled, Confirms, SendsAs, RefusesIds, copies, expires, rests, HasStep, Fails, CopyDue, Copies}
-use Rattle.coap_layer.specs.Follows.{CopyOf}
 use Rattle.coap_layer.specs.Sends.{IsIn, as_begun, SendsIt, packet_of, GoesAlike, AllAlike, SpellsCon, ConsSpelled, GoesOut, first, copy, plain, reply, reset, EachGoesOut}
-use Rattle.coap_layer.proofs.CopyLemmas.{was_begun, begun_by, in_first, copies_row, copies_in_time}
-use Rattle.coap_layer.proofs.OpenLemmas.{some_in, first_has, one_open, copied_by}
+use Rattle.coap_layer.proofs.CopyLemmas.{was_begun, begun_by, in_first, copies_row}
+use Rattle.coap_layer.proofs.OpenLemmas.{some_in, first_has, one_open, copied_by, place_same}
 use Rattle.coap_layer.proofs.IdsApart.{small}
 use Rattle.coap_layer.proofs.NumberedLemmas.{Begins, begins_of}
+use Rattle.coap_layer.proofs.ListLemmas.{both}
+use Rattle.coap_types.proofs.PastLemmas.{Ever_map}
+use Rattle.std.proofs.lemmas.Bool.Decides.{nat_tests}
 
 -- a CON that begins goes out, and is spelled so
 pub record ConGoes (e : Entry) (c : Open) : Type 0 where
@@ -170,16 +172,21 @@ module _ (word : ℕ) (past : List Entry) (e : Entry) (p : Packet) (law : LayerL
       subst (GoesOut past e) (one_out p _ e.out r.out sends)
       (plain (record { content = content; id = r.id; call = call; answer = r.answer; spells = spelled Non r.id (let k = r.gives.next in let l = small word (numbers past) in omega (arith, k, l)) }))
 
-  copied_out : Copies past e → GoesOut past e p
-  copied_out r =
-      let c : CopyOf past e r.con.to r.con.id = (copies_in_time word (e ∷ past) law).0 r.con.to r.con.id r.answer in
-      subst (GoesOut past e) (one_out p _ e.out c.out sends)
+  copied_out : e.call ≡ Ticks → Copies past e → GoesOut past e p
+  copied_out call r =
+      let there : IsIn r.con (outstanding past) = in_first (HasStep e.at) r.con (outstanding past) r.first in
+      let again : copies_in e.call e.answer r.con.to r.con.id ≡ true = ap (λ (x : Call). copies_in x e.answer r.con.to r.con.id) call
+      ∙ (ap (λ (x : Answer). copies_in Ticks x r.con.to r.con.id) r.answer ∙ both _ _ (place_same r.con.to r.con.to refl) (grind (arith, nat_tests))) in
+      let sends_it : SendsIt (as_begun r.con) past e = inr (Ever_map _ _ (λ (x : Open) k. ap as_begun k) (outstanding past) there, again) in
+      let a : GoesAlike (as_begun r.con) e = alike word past e (as_begun r.con) law sends_it in
+      subst (GoesOut past e) (one_out p _ e.out a.out sends)
       (copy (record {
-        con = c.con;
-        begun_before = c.begun_before;
-        from = c.from;
-        till = c.till;
-        answer = r.answer ∙ (ap (λ (x : Endpoint). Copied x r.con.id) (sym c.to_is) ∙ ap (Copied c.con.to) (sym c.id_is));
+        con = as_begun r.con;
+        begun_before = was_begun past r.con there;
+        sends = sends_it;
+        from = a.from;
+        till = a.till;
+        answer = r.answer;
         is = refl;
       }))
 
@@ -189,7 +196,7 @@ module _ (word : ℕ) (past : List Entry) (e : Entry) (p : Packet) (law : LayerL
   row_out (Confirm to content wish) is row = confirmed_out to content wish is row.1
   row_out (Plain to content) is row = plain_out to content is row.0 row.1
   row_out (Settle to id) is row = none_out _ p e.out row.0.1 sends
-  row_out Ticks is (copies r) = copied_out r
+  row_out Ticks is (copies r) = copied_out is r
   row_out Ticks is (expires r) = none_out _ p e.out r.out sends
   row_out Ticks is (rests r) = none_out _ p e.out r.out sends
   row_out Take is row = none_out _ p e.out row.1 sends

@@ -1,19 +1,19 @@
 -- What is taken of a CON: that very CON, and once.
-use Rattle.std.proofs.Common.{◌≡◌, inl, inr, ⊎_elim, ℕ, ◌+◌, ◌≤◌, true, false, Option, Some, None, List, [], ◌∷◌, refl, ap, sym, ◌∙◌, subst, arith, option_to_list}
+use Rattle.std.proofs.Common.{◌≡◌, inl, inr, ⊎_elim, ℕ, ◌+◌, ◌≤◌, true, false, Option, Some, None, List, [], ◌∷◌, refl, ap, sym, ◌∙◌, subst, arith, option_to_list, append_assoc, ◌++◌}
 use Rattle.std.proofs.lemmas.Bool.Decides.{nat_tests}
 use Rattle.std.specs.List.{filter_map}
-use Rattle.coap_types.specs.Past.{Ever}
-use Rattle.coap_types.proofs.PastLemmas.{Ever_map, Ever_append}
+use Rattle.coap_types.specs.Past.{Ever, Always}
+use Rattle.coap_types.proofs.PastLemmas.{Ever_map, Ever_append, Ever_by_law}
 use Rattle.coap_types.specs.declared.endpoint.Endpoint.{Endpoint}
 use Rattle.coap_layer.specs.Trace.{Receive, Entry, same_place}
 use Rattle.coap_layer.specs.Words.{Incoming, taken, handed, is_from, hands_up, HandsUpSince, Open, left_by, begun, outstanding}
 use Rattle.coap_layer.specs.Rows.{LayerLaw}
 use Rattle.coap_layer.specs.Sends.{IsIn, as_begun}
-use Rattle.coap_layer.specs.Channel.{HandedBy, Hop, Near, Far, near_of, far_of, OnFar, ChannelLaw, BegunAs, Takes, HandsUpAs, TakenOnce, OnlyThatCon}
+use Rattle.coap_layer.specs.Channel.{HandedBy, Hop, Near, Far, near_of, far_of, OnFar, ChannelLaw, BegunAs, Takes, HandsUpAs, TakenOnce, OnlyThatCon, HandedOnce}
 use Rattle.coap_layer.proofs.CopyLemmas.{in_option, in_filter_map, left_same, begun_by, one_outstanding}
 use Rattle.coap_layer.proofs.OpenLemmas.{place_same, busy_with}
 use Rattle.coap_layer.proofs.HandedLemmas.{handed_so}
-use Rattle.coap_layer.proofs.HopLemmas.{far_ever, each_hop, Came, con_came, non_came, reply_came, came}
+use Rattle.coap_layer.proofs.HopLemmas.{far_ever, each_hop, Came, con_came, non_came, reply_came, came, earlier, near_later}
 use Rattle.coap_layer.proofs.ListLemmas.{both, and_left, and_right, same_nat}
 use Rattle.coap_layer.proofs.NumberedLemmas.{IsBegun, SendsPlain, begins_of, one_con, no_plain}
 use Rattle.coap_layer.proofs.ReplyLemmas.{place_is}
@@ -96,13 +96,21 @@ module _ (one other : ℕ) (near far : Endpoint) (whole past : List Hop) (x : En
       go (reply_came (inr k)) = absurd (⊎_elim (λ a. cc (a, k)) (λ a. cc (a, k)) h.kind)
 
 module _ (one other : ℕ) (near far : Endpoint) where
-  only_here : (con : Open) (past : List Hop) (h : Hop) → ChannelLaw one other near far (h ∷ past) → Ever (IsBegun con) (near_of past) → OnFar (HandsUpAs near con) h → OnFar (Takes near con) h
-  only_here con past (Near e) law begun u = absurd u
-  only_here con past (Far x) law begun u =
-      takes_it one other near far past past x con law.near_law law (λ P k. k) begun u.message u.up u.from_is u.id_is (let t = u.till in omega (arith, t)) (let f = u.from in omega (arith, f))
+  only_in : (con : Open) (whole : List Hop) → LayerLaw one (near_of whole) → Ever (IsBegun con) (near_of whole) → (r later : List Hop) → whole ≡ later ++ r → ChannelLaw one other near far r
+      → Always (λ past e. OnFar (HandsUpAs near con) e → OnFar (Takes near con) e) r
+  only_in con whole near_law begun [] later is law = tt
+  only_in con whole near_law begun (Near e ∷ r) later is law =
+      ((λ u. absurd u), only_in con whole near_law begun r (later ++ Near e ∷ []) (is ∙ sym (append_assoc later (Near e ∷ []) r)) (earlier one other near far r (Near e) law))
+  only_in con whole near_law begun (Far x ∷ r) later is law =
+      let before : whole ≡ (later ++ Far x ∷ []) ++ r = is ∙ sym (append_assoc later (Far x ∷ []) r) in (
+        (λ u.
+            takes_it one other near far whole r x con near_law law (λ P k. near_later P whole (later ++ Far x ∷ []) r before k) begun u.message u.up u.from_is u.id_is (let t = u.till in omega (arith, t))
+            (let f = u.from in omega (arith, f))),
+        only_in con whole near_law begun r (later ++ Far x ∷ []) before (earlier one other near far r (Far x) law),
+      )
 
   pub only_that_con : (all : List Hop) → ChannelLaw one other near far all → OnlyThatCon near far all
-  only_that_con all law con = each_hop one other near far _ (λ past h l. only_here con past h l) all law
+  only_that_con all law con begun = only_in con all law.near_law begun all [] refl law
 
   once_here : (con : Open) (past : List Hop) (h : Hop) → ChannelLaw one other near far (h ∷ past) → OnFar (HandsUpAs near con) h → Ever (OnFar (Takes near con)) past → ⊥
   once_here con past (Near e) law u t = u
@@ -115,3 +123,13 @@ module _ (one other : ℕ) (near far : Endpoint) where
 
   pub taken_once : (all : List Hop) → ChannelLaw one other near far all → TakenOnce near all
   taken_once all law con = each_hop one other near far _ (λ past h l. once_here con past h l) all law
+
+  taken_too : (P Q : Hop → Type 0) (t : List Hop) → Always (λ past e. P e → Q e) t → Ever P t → Ever Q t
+  taken_too P Q t law h = Ever_by_law (λ past e. P e → Q e) P Q (λ past e l p. l.0 p) t law h
+
+  both_once : (P Q : Hop → Type 0) (t : List Hop) → Always (λ past e. P e → Q e) t → Always (λ past e. P e → Ever Q past → ⊥) t → Always (λ past e. P e → Ever P past → ⊥) t
+  both_once P Q [] only once = tt
+  both_once P Q (h ∷ past) only once = ((λ p k. once.0 p (taken_too P Q past only.1 k)), both_once P Q past only.1 once.1)
+
+  pub handed_once : (all : List Hop) → ChannelLaw one other near far all → HandedOnce near all
+  handed_once all law con begun = both_once (OnFar (HandsUpAs near con)) (OnFar (Takes near con)) all (only_that_con all law con begun) (taken_once all law con)

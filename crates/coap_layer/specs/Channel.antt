@@ -172,6 +172,10 @@ pub record HandsUpAs (near : Endpoint) (con : Open) (e : Entry) : Type 0 where
 abbrev pub TakenOnce : Endpoint → List Hop → Type 0
 TakenOnce near all = (con : Open) → Always (λ past e. OnFar (HandsUpAs near con) e → Ever (OnFar (Takes near con)) past → ⊥) all
 
--- What arrives with a CON's Message ID, while the CON can arrive, is that very CON.
+-- What is handed up with a CON's Message ID, while the CON can arrive, is that very CON, and is remembered.
 abbrev pub OnlyThatCon : Endpoint → Endpoint → List Hop → Type 0
-OnlyThatCon near far all = (con : Open) → Always (λ past e. Ever (λ b. begun b ≡ Some con) (near_of past) → OnFar (HandsUpAs near con) e → OnFar (Takes near con) e) all
+OnlyThatCon near far all = (con : Open) → Ever (λ b. begun b ≡ Some con) (near_of all) → Always (λ past e. OnFar (HandsUpAs near con) e → OnFar (Takes near con) e) all
+
+-- So a CON is handed up at most once.
+abbrev pub HandedOnce : Endpoint → List Hop → Type 0
+HandedOnce near all = (con : Open) → Ever (λ b. begun b ≡ Some con) (near_of all) → Always (λ past e. OnFar (HandsUpAs near con) e → Ever (OnFar (HandsUpAs near con)) past → ⊥) all

@@ -74,6 +74,7 @@ pub record FirstOut (e : Entry) (p : Packet) : Type 0 where
 pub record CopyOut (past : List Entry) (e : Entry) (p : Packet) : Type 0 where
   pub con : Open
   pub begun_before : Ever (λ b. begun b ≡ Some con) past
+  pub sends : SendsIt con past e
   pub from : con.first ≤ e.at
   pub till : e.at ≤ con.first + 47000
   pub answer : e.answer ≡ Copied con.to con.id
@@ -145,6 +146,9 @@ collected (e ∷ past) = collected past ++ collected_in e.call e.answer
 -- What is taken was sent, in the order of sending, each datagram once; the rest waits.
 abbrev pub InOrder : List Entry → Type 0
 InOrder t = sent t ≡ collected t ++ waiting t
+
+abbrev pub TakenSent : List Entry → Type 0
+TakenSent t = Always (λ past e. (p : Packet) → e.call ≡ Take → e.answer ≡ Gives (Some p) → Ever (λ b. IsIn p b.out) past) t
 
 -- What is taken was sent since nothing waited.
 abbrev pub TakenSince : Type 0

@@ -6,8 +6,8 @@ ghost use Rattle.coap_layer.specs.State.{State, Step, made, start};
 ghost use Rattle.coap_layer.specs.LayerLed.{LayerLed};
 ghost use Rattle.coap_layer.specs.Follows.{HandedUpOnce, CopiesInTime, IdsApart, OneOutstanding, EndsOutstanding, IsExact};
 ghost use Rattle.coap_types.specs.declared.endpoint.Endpoint.{Endpoint};
-ghost use Rattle.coap_layer.specs.Channel.{Hop, ChannelLaw, HandedAsSpelled, AcksHeard, ArrivesAsSent, ConsBegun, NonsSent, OnlyThatCon, AcksReplied, AcksTaken, TakenOnce};
-ghost use Rattle.coap_layer.specs.Sends.{FiveAtMost, AllAlike, ConsSpelled, OneOpen, LastBegun, EachGoesOut, InOrder, TakenSince};
+ghost use Rattle.coap_layer.specs.Channel.{Hop, ChannelLaw, HandedAsSpelled, AcksHeard, ArrivesAsSent, ConsBegun, NonsSent, OnlyThatCon, HandedOnce, AcksReplied, AcksTaken, TakenOnce};
+ghost use Rattle.coap_layer.specs.Sends.{FiveAtMost, AllAlike, ConsSpelled, OneOpen, LastBegun, EachGoesOut, InOrder, TakenSent, TakenSince};
 ghost use Rattle.coap_layer.specs.Steps.{Asked, Steps, entries};
 
 /// What leads to a layer's state stands in the law, and what follows from that.
@@ -45,6 +45,7 @@ pub fn sending_law()
     ensures kinds { (word : ℕ) (t : List Entry) → LayerLaw word t → EachGoesOut t }
     // What is taken was sent, in the order of sending, each datagram once.
     ensures order { (word : ℕ) (t : List Entry) → LayerLaw word t → InOrder t }
+    ensures before { (word : ℕ) (t : List Entry) → LayerLaw word t → TakenSent t }
     // .. and since nothing waited.
     ensures since { TakenSince }
 {}
@@ -64,7 +65,8 @@ pub fn channel_law()
     ensures plain { (one other : ℕ) (near far : Endpoint) (all : List Hop) → ChannelLaw one other near far all → NonsSent near far all }
     // What arrives under a Confirmable message's Message ID meanwhile is that very message (section 4.4).
     ensures only { (one other : ℕ) (near far : Endpoint) (all : List Hop) → ChannelLaw one other near far all → OnlyThatCon near far all }
-    // It is handed up once (section 4.5).
+    // It is handed up at most once.
+    ensures handed { (one other : ℕ) (near far : Endpoint) (all : List Hop) → ChannelLaw one other near far all → HandedOnce near all }
     ensures once { (one other : ℕ) (near far : Endpoint) (all : List Hop) → ChannelLaw one other near far all → TakenOnce near all }
     // An acknowledgement that is taken is the reply that was given to that very message, which was taken (section 4.2).
     ensures replied { (one other : ℕ) (near far : Endpoint) (all : List Hop) → ChannelLaw one other near far all → AcksReplied near far all }

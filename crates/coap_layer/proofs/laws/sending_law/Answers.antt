@@ -1,7 +1,7 @@
 use Rattle.coap_layer.proofs.FiveLemmas.{five_at_most}
 use Rattle.coap_layer.proofs.OpenLemmas.{one_open}
 use Rattle.coap_layer.proofs.OutLemmas.{all_alike, cons_spelled, each_goes_out}
-use Rattle.coap_layer.proofs.OrderLemmas.{in_order, taken_since}
+use Rattle.coap_layer.proofs.OrderLemmas.{in_order, taken_sent, taken_since}
 use Rattle.coap_layer.proofs.TakenLemmas.{alone}
 use Rattle.coap_layer.proofs.laws.sending_law.Goals as goal
 
@@ -28,3 +28,6 @@ returns-clause-since c = taken_since
 
 pub returns-clause-last : goal.returns-clause-last
 returns-clause-last c word t law a b = alone word t a b law
+
+pub returns-clause-before : goal.returns-clause-before
+returns-clause-before c = taken_sent
