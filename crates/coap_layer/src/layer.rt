@@ -16,7 +16,7 @@ use crate::lists::Lists;
 use crate::mark::{Awaiting, Mark};
 use crate::outstanding::{due_copy, put_back};
 use crate::retransmission::{end_all, is_busy, is_outstanding, ticked};
-use crate::room::{Brings, Room, filled, grow, take_room};
+use crate::room::{Brings, Room, filled, grow, make_room, take_room};
 use crate::sending::{refusal, send_con, send_non};
 use crate::taking::{Moments, take_in, take_tick};
 use crate::{Content, Datagram, IdSource, SendRefusal, Tick, Up};
@@ -242,6 +242,7 @@ impl<A: Allocator + Copy> Layer<A> {
         ensures kept { self.old.has_room ≡ true → self.new.has_room ≡ true }
         ensures replies { self.new.replies ≡ self.old.replies }
         ensures quiet { answer_of self.old.state (max self.old.state.clock now.0) (AsksRoom to) ≡ Is false → IsOk result }
+        ensures had { self.old.has_room ≡ true → IsOk result }
         ensures err { OnErr result (self.new ≡ self.old) }
     {
         let at = self.clock.max(now.0);
@@ -255,6 +256,19 @@ impl<A: Allocator + Copy> Layer<A> {
         grow(self.alloc, brings, &mut self.room, &mut self.lists)?;
         self.clock = at;
         Ok(may)
+    }
+
+    /// Makes room for one message: after it, `confirm`, `plain` and a `room` are not refused memory,
+    /// until one of the first two or `reply` is called.
+    pub fn reserve(&mut self) -> Result<(), AllocError>
+        ensures state { self.new.state ≡ self.old.state }
+        ensures before { self.new.before ≡ self.old.before }
+        ensures replies { self.new.replies ≡ self.old.replies }
+        ensures room { OnOk result (self.new.has_room ≡ true) }
+        ensures err { OnErr result (self.new ≡ self.old) }
+    {
+        make_room(self.alloc, &mut self.room, &mut self.lists)?;
+        Ok(())
     }
 
     /// Whether a Message ID is free. It takes no memory.
@@ -302,6 +316,7 @@ impl<A: Allocator + Copy> Layer<A> {
         ensures before { OnOk result (self.new.before ≡ Some self.old.state) }
         ensures err { OnErr result (self.new ≡ self.old) }
         ensures quiet { copies (max self.old.state.clock now.0) self.old.state.open_cons ≡ [] → IsOk result }
+        ensures kept { self.old.has_room ≡ true → self.new.has_room ≡ true }
     {
         let moments = Moments {
             last: self.clock,

@@ -98,6 +98,7 @@ pub(crate) fn grow<A: Allocator + Copy>(
     ensures room { HasRoom room.new lists.new }
     ensures err { OnErr result (room.new ≡ room.old) }
     ensures idle { brings.keeps ≡ false → brings.hands ≡ false → brings.sends ≡ false → IsOk result }
+    ensures had { is_some room.old ≡ true → brings.keeps ≡ false → brings.sends ≡ false → IsOk result }
 {
     if brings.sends {
         lists.waiting.reserve(2)?;

@@ -47,7 +47,12 @@ pub(crate) fn confirm_get<R: Abort + AllocGlobal>(
 }
 
 /// What is to be sent next goes there and has these bytes.
-pub(crate) fn is_sent<R: Abort + AllocGlobal>(rt: &R, layer: &mut Layer<Global>, to: Endpoint, bytes: &[u8]) {
+pub(crate) fn is_sent<R: Abort + AllocGlobal>(
+    rt: &R,
+    layer: &mut Layer<Global>,
+    to: Endpoint,
+    bytes: &[u8],
+) {
     let datagram = layer.next_out().expect(rt, "a datagram");
     assert_eq!(rt; datagram.to(), to);
     assert_eq!(rt; datagram.bytes(), bytes);

@@ -8,27 +8,44 @@ use std::test::*;
 const GET_0000: &[u8] = &[0x40, 0x01, 0x00, 0x00];
 
 /// A tick at which nothing is due.
-fn is_idle<R: Abort + AllocGlobal>(rt: &R, layer: &mut Layer<Global>, now: u64) -> Result<(), AllocError> {
+fn is_idle<R: Abort + AllocGlobal>(
+    rt: &R,
+    layer: &mut Layer<Global>,
+    now: u64,
+) -> Result<(), AllocError> {
     assert_eq!(rt; layer.tick(Moment(now))?, Tick::Idle);
     assert!(rt; layer.next_out().is_none());
     Ok(())
 }
 
 /// A tick that sends the first message again.
-fn is_copied<R: Abort + AllocGlobal>(rt: &R, layer: &mut Layer<Global>, now: u64) -> Result<(), AllocError> {
+fn is_copied<R: Abort + AllocGlobal>(
+    rt: &R,
+    layer: &mut Layer<Global>,
+    now: u64,
+) -> Result<(), AllocError> {
     assert_eq!(rt; layer.tick(Moment(now))?, Tick::Copied(Id(0)));
     is_sent(rt, layer, THERE, GET_0000);
     Ok(())
 }
 
-fn has_failed<R: Abort + AllocGlobal>(rt: &R, layer: &mut Layer<Global>, now: u64) -> Result<(), AllocError> {
+fn has_failed<R: Abort + AllocGlobal>(
+    rt: &R,
+    layer: &mut Layer<Global>,
+    now: u64,
+) -> Result<(), AllocError> {
     assert_eq!(rt; layer.tick(Moment(now))?, Tick::Expired(THERE, Id(0)));
     assert!(rt; layer.next_out().is_none());
     is_idle(rt, layer, now)
 }
 
 /// Begins a message at a moment, with a word, and ticks to its failure.
-fn runs<R: Abort + AllocGlobal>(rt: &R, word: u64, copies: [u64; 4], failure: u64) -> Result<(), AllocError> {
+fn runs<R: Abort + AllocGlobal>(
+    rt: &R,
+    word: u64,
+    copies: [u64; 4],
+    failure: u64,
+) -> Result<(), AllocError> {
     let mut layer = Layer::new(rt.alloc(), 0);
     assert_eq!(rt; confirm_get(rt, &mut layer, 0, THERE, word), Ok(Id(0)));
     is_sent(rt, &mut layer, THERE, GET_0000);
@@ -149,7 +166,11 @@ fn an_answer_in_an_acknowledgement_settles_nothing(rt: HostRuntime) -> Result<()
 }
 
 /// Sends a NON response.
-fn plain_content<R: Abort + AllocGlobal>(rt: &R, layer: &mut Layer<Global>, now: u64) -> Result<Id, SendRefusal> {
+fn plain_content<R: Abort + AllocGlobal>(
+    rt: &R,
+    layer: &mut Layer<Global>,
+    now: u64,
+) -> Result<Id, SendRefusal> {
     let token = Token::empty();
     let content = Content {
         code: Code::CONTENT,

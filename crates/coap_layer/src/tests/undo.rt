@@ -10,7 +10,11 @@ const POST: &[u8] = &[0x40, 0x02, 0x00, 0x09];
 const CHANGED: &[u8] = &[0x60, 0x44, 0x00, 0x09];
 
 /// Takes back a request.
-fn taken_back<R: Abort + AllocGlobal>(rt: &R, layer: &mut Layer<Global>, now: u64) -> Result<(), AllocError> {
+fn taken_back<R: Abort + AllocGlobal>(
+    rt: &R,
+    layer: &mut Layer<Global>,
+    now: u64,
+) -> Result<(), AllocError> {
     let up = layer.receive(Moment(now), THERE, POST)?;
     assert!(rt;
         matches!(
