@@ -1,4 +1,5 @@
 pub mod PathLemmas
 pub mod UintLemmas
 pub mod RecognisedLemmas
+pub mod UnrecognisedLemmas
 pub mod PastLemmas

@@ -15,7 +15,7 @@ pub record SoFar (direction : Direction) (options kept : List CoapOption) (bad :
   pub found : Recognised direction options kept bad
   pub numbers : Remembers seen options
 
-placed_more : (before os : List CoapOption) (o : CoapOption) → placed before (os ++ o ∷ []) ≡ placed before os ++ (before ++ os, o) ∷ []
+pub placed_more : (before os : List CoapOption) (o : CoapOption) → placed before (os ++ o ∷ []) ≡ placed before os ++ (before ++ os, o) ∷ []
 placed_more before [] o = ap (λ (b : List CoapOption). (b, o) ∷ []) (sym (append-nil before))
 placed_more before (x ∷ os) o =
     ap (λ (r : List (List CoapOption × CoapOption)). (before, x) ∷ r)
@@ -43,11 +43,11 @@ kept_more direction os o =
     ∙ map-append option_in (filter (passing direction) (placed [] os)) (filter (passing direction) ((os, o) ∷ []))
     ∙ ap (λ (r : List CoapOption). map option_in (filter (passing direction) (placed [] os)) ++ r) (one_kept (is_recognised direction os o) (os, o))
 
-or_false : (b : Bool) → (b || false) ≡ b
+pub or_false : (b : Bool) → (b || false) ≡ b
 or_false true = refl
 or_false false = refl
 
-bad_more : (direction : Direction) (os : List CoapOption) (o : CoapOption)
+pub bad_more : (direction : Direction) (os : List CoapOption) (o : CoapOption)
     → list_any (failing direction) (placed [] (os ++ o ∷ []))
     ≡ (list_any (failing direction) (placed [] os) || (is_critical o && not (is_recognised direction os o)))
 bad_more direction os o =
@@ -72,7 +72,7 @@ one_more direction os kept more_kept bad more_bad seen more_seen o so numbers ke
 pub options_append : (xs ys : List Opt) → options_of (xs ++ ys) ≡ options_of xs ++ options_of ys
 options_append xs ys = map-append option_of xs ys
 
-unseen : (xs : List Bool) (n : ℕ) → list_any (λ b. b) xs ≡ false → slice_index_or xs n false ≡ false
+pub unseen : (xs : List Bool) (n : ℕ) → list_any (λ b. b) xs ≡ false → slice_index_or xs n false ≡ false
 unseen [] n none = refl
 unseen (true ∷ xs) n none = absurd cc
 unseen (false ∷ xs) zero none = refl

@@ -7,5 +7,6 @@ pub mod Uint
 pub mod MethodCode
 pub mod Roles
 pub mod Recognised
+pub mod Unrecognised
 pub mod SeenNumbers
 pub mod Past

@@ -1,8 +1,9 @@
-ghost use Rattle.std.specs.Prelude.{◌≡◌, ◌<◌, ◌++◌, [], ◌∷◌, List, ℕ, IfOk};
+ghost use Rattle.std.specs.Prelude.{◌≡◌, ◌<◌, ◌++◌, ◌||◌, ◌&&◌, ◌%◌, ◌==◌, not, [], ◌∷◌, List, ℕ, IfOk};
 ghost use Rattle.std.specs.Iterator.{Drains, IsFinite};
 ghost use Rattle.coap_types.specs.CoapOption.{CoapOption, option_of, options_of};
 ghost use Rattle.coap_types.specs.Recognised.{Recognised, has_number, is_recognised};
 ghost use Rattle.coap_types.specs.SeenNumbers.{Remembers};
+ghost use Rattle.coap_types.specs.Unrecognised.{lacks_critical, carries};
 
 use crate::direction::Direction;
 use crate::option_number::SIZE1;
@@ -78,4 +79,61 @@ pub fn recognised<'a, I: Iterator<Item = Opt<'a>> + Drop, A: Allocator + Copy>(
         see(&mut seen, option.number);
     }
     Ok((list, bad))
+}
+
+// Whether a critical option that is not recognised was found, or this one is such.
+fn or_critical(found: bool, number: u16, recognised: bool) -> bool
+    ensures { result ≡ (found || ((number % 2 == 1) && not recognised)) }
+{
+    found || (number % 2 == 1 && !recognised)
+}
+
+/// Whether a message of this direction has a critical option that is not recognised, as
+/// `recognised` says (RFC 7252, section 5.4.1). It takes no memory.
+pub fn lacks_critical<'a, I: Iterator<Item = Opt<'a>> + Drop>(
+    direction: Direction,
+    options: I,
+) -> bool
+    requires can { I.can_next options }
+    requires ends { IsFinite (I.remaining options) }
+    ensures { (all : List _) × Drains I.next_gives options all × (result ≡ lacks_critical direction (options_of all)) }
+{
+    let mut seen = [false; NUMBERS];
+    let mut bad = false;
+    for option in options {
+        let again = was_seen(&seen, option.number);
+        let known = is_recognised(direction, option, again);
+        bad = or_critical(bad, option.number, known);
+        see(&mut seen, option.number);
+    }
+    bad
+}
+
+// Whether a recognised option of the number was found, or this one is such.
+fn or_carried(found: bool, same: bool, recognised: bool) -> bool
+    ensures { result ≡ (found || (same && recognised)) }
+{
+    found || (same && recognised)
+}
+
+/// Whether a message of this direction carries a recognised option of this number (RFC 7252,
+/// section 5.4). It takes no memory.
+pub fn carries<'a, I: Iterator<Item = Opt<'a>> + Drop>(
+    direction: Direction,
+    number: u16,
+    options: I,
+) -> bool
+    requires can { I.can_next options }
+    requires ends { IsFinite (I.remaining options) }
+    ensures { (all : List _) × Drains I.next_gives options all × (result ≡ carries direction number (options_of all)) }
+{
+    let mut seen = [false; NUMBERS];
+    let mut found = false;
+    for option in options {
+        let again = was_seen(&seen, option.number);
+        let known = is_recognised(direction, option, again);
+        found = or_carried(found, option.number == number, known);
+        see(&mut seen, option.number);
+    }
+    found
 }

@@ -130,3 +130,11 @@ impl Hash for Token {
         self.bytes.hash(state);
     }
 }
+
+impl Default for Token {
+    fn default() -> Token
+        ensures { result ≡ [] }
+    {
+        Token::empty()
+    }
+}

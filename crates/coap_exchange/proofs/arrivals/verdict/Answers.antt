@@ -1,0 +1,11 @@
+use Rattle.std.proofs.Common.{rules}
+use Rattle.coap_exchange.proofs.arrivals.verdict.Goals as goal
+
+pub returns-in-Response : goal.returns-in-Response
+returns-in-Response c clock word = let k = c.known.ensures clock word in search rules
+
+pub returns-in-Acked : goal.returns-in-Acked
+returns-in-Acked c clock word = let k = c.is_of_request.ensures clock word in search rules
+
+pub returns-in-Reset : goal.returns-in-Reset
+returns-in-Reset c clock word = let k = c.is_of_request-in-Reset.ensures clock word in search rules

@@ -1,0 +1,37 @@
+use Rattle.coap_exchange.proofs.AnswererLeading.{led_start, led_call, led_law, layer_stands}
+use Rattle.coap_exchange.proofs.AnswererExactly.{exact}
+use Rattle.coap_exchange.proofs.AnswererOnce.{counted}
+use Rattle.coap_exchange.proofs.AnswererCame.{came_in}
+use Rattle.coap_exchange.proofs.AnswererEnds.{ends_once}
+use Rattle.coap_exchange.proofs.AnswererMirror.{waits}
+use Rattle.coap_exchange.proofs.laws.answerer_law.Goals as goal
+
+pub returns-clause-start : goal.returns-clause-start
+returns-clause-start c = led_start
+
+pub returns-clause-step : goal.returns-clause-step
+returns-clause-step c = led_call
+
+pub returns-clause-law : goal.returns-clause-law
+returns-clause-law c = led_law
+
+pub returns-clause-layer : goal.returns-clause-layer
+returns-clause-layer c = layer_stands
+
+pub returns-clause-exact : goal.returns-clause-exact
+returns-clause-exact c = exact
+
+pub returns-clause-responses : goal.returns-clause-responses
+returns-clause-responses c word t law = (counted t law.rows).0
+
+pub returns-clause-requests : goal.returns-clause-requests
+returns-clause-requests c word t law = came_in word t law.rows law.left law.layer
+
+pub returns-clause-ends : goal.returns-clause-ends
+returns-clause-ends c word t law = ends_once t
+
+pub returns-clause-waits : goal.returns-clause-waits
+returns-clause-waits c = waits
+
+pub returns-clause-few : goal.returns-clause-few
+returns-clause-few c word t law = (counted t law.rows).1.few

@@ -1,0 +1,34 @@
+use Rattle.coap_exchange.proofs.AskerLeading.{led_start, led_call, led_law, layer_stands}
+use Rattle.coap_exchange.proofs.AskerExactly.{exact}
+use Rattle.coap_exchange.proofs.AskerApart.{known}
+use Rattle.coap_exchange.proofs.AskerTokens.{counted}
+use Rattle.coap_exchange.proofs.AskerInTime.{in_time}
+use Rattle.coap_exchange.proofs.AskerCame.{came_from}
+use Rattle.coap_exchange.proofs.laws.asker_law.Goals as goal
+
+pub returns-clause-start : goal.returns-clause-start
+returns-clause-start c = led_start
+
+pub returns-clause-step : goal.returns-clause-step
+returns-clause-step c = led_call
+
+pub returns-clause-law : goal.returns-clause-law
+returns-clause-law c = led_law
+
+pub returns-clause-layer : goal.returns-clause-layer
+returns-clause-layer c = layer_stands
+
+pub returns-clause-exact : goal.returns-clause-exact
+returns-clause-exact c = exact
+
+pub returns-clause-exchanges : goal.returns-clause-exchanges
+returns-clause-exchanges c server word t law = (known server word t law.rows).0
+
+pub returns-clause-tokens : goal.returns-clause-tokens
+returns-clause-tokens c server word t law = (counted server word t law.rows).0
+
+pub returns-clause-in_time : goal.returns-clause-in_time
+returns-clause-in_time c server word t law = in_time server word t law.rows law.left law.layer
+
+pub returns-clause-from_server : goal.returns-clause-from_server
+returns-clause-from_server c server word t law = came_from server word t law.rows law.left law.layer

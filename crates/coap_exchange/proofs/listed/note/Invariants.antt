@@ -1,0 +1,6 @@
+use Rattle.std.proofs.Common.{◌≡◌, ◌++◌, take, drop, map}
+use Rattle.coap_exchange.specs.Listed.{noted}
+use Rattle.coap_exchange.proofs.listed.note.Given as goal
+
+abbrev pub invariant-loop-k : goal.invariant-loop-k
+invariant-loop-k g l = l.list ≡ map noted (take l.k-index l.initial.list) ++ drop l.k-index l.initial.list

@@ -1,0 +1,294 @@
+ghost use Rattle.std.specs.Prelude.{◌≡◌, ◌≢◌, ℕ, Bool, List, [], ◌∷◌, None, Some, Err, IsOk, IfOk, OnOk, OnErr, IsSome, max};
+ghost use Rattle.coap_types.specs.declared.endpoint.Endpoint.{Endpoint};
+ghost use Rattle.coap_layer.specs.State.{copies, made};
+ghost use Rattle.coap_layer.specs.Trace as below;
+ghost use Rattle.coap_layer.specs.Ups.{IsQuiet};
+ghost use Rattle.coap_exchange.specs.declared.asker.AskRefusal.TheVariants as refusals;
+ghost use Rattle.coap_exchange.specs.declared.matching.Opening.TheVariants as openings;
+ghost use Rattle.coap_exchange.specs.AskerLaw.{Led, Step, fresh_state};
+ghost use Rattle.coap_exchange.specs.AskerRequests.{opening_of};
+ghost use Rattle.coap_exchange.specs.AskerShown.{IsAskable};
+ghost use Rattle.coap_exchange.specs.AskerTrace.{Call, Ask as Asks, Receive, Ticks, Keep, Release, Take};
+
+use crate::arrivals::{
+    act, id_in, send_refusal, spent_refusal, token_for, told, turn_of, unless_ended, verdict,
+};
+use crate::held::{Held, after_arrival};
+use crate::matching::{Opening, judge_ask};
+use crate::token_source::is_spent;
+use coap_codec::View;
+use coap_layer::{Content, Datagram, Layer};
+use coap_types::{Endpoint, Id, Method, Moment, Opt, Token};
+use std::alloc::{AllocError, Allocator};
+use std::marker::Model;
+
+/// What the client's exchange came to, or what came beside it (RFC 7252, section 5.3).
+#[derive(Drop)]
+pub enum Event<'a> {
+    /// The response to the request of the exchange, which is over.
+    Answer(View<'a>),
+    /// A response with a kept token: a notification (RFC 7641, section 3.2).
+    Notice(View<'a>),
+    /// The request was not acknowledged: its transmission failed (RFC 7252, section 4.2).
+    Timeout,
+    /// The request was rejected by a Reset (section 4.2).
+    Reset,
+    /// The request was acknowledged, and no response came within EXCHANGE_LIFETIME (section 5.2.2).
+    NoResponse,
+}
+
+/// What a tick of the client did.
+#[derive(Drop)]
+pub enum Turn {
+    /// Nothing was due.
+    Idle,
+    /// The request was sent again.
+    Copied,
+    /// The exchange is over.
+    End(Event<'static>),
+}
+
+/// Why a request was not sent.
+#[derive(Clone, Copy, Debug, PartialEq, Eq)]
+pub enum AskRefusal {
+    /// 1: an exchange runs (NSTART is 1: RFC 7252, section 4.7).
+    Running,
+    /// 2: no Message ID is free (section 4.4).
+    NoIds,
+    /// 3: the allocator refused.
+    Memory,
+    /// 4: each token was given once (section 5.3.1).
+    TokensSpent,
+}
+
+/// The exchange that runs (RFC 7252, section 5).
+#[derive(Drop)]
+pub struct Exchange {
+    /// The token of its request.
+    pub token: Token,
+    /// The Message ID of its request.
+    pub id: Id,
+    /// The moment of the Empty acknowledgement of its request, if one came.
+    pub acked: Option<u64>,
+    /// It cancels an observation (RFC 7641, section 3.6).
+    pub cancel: bool,
+}
+
+/// A request (RFC 7252, section 5.1): at most 1,152 bytes as a message with a token of 8 bytes.
+#[derive(Drop)]
+pub struct Ask<'a> {
+    /// What is asked for.
+    pub method: Method,
+    /// For the cancel of an observation, the token of that (RFC 7641, section 3.6); else None.
+    pub token: Option<&'a Token>,
+    /// The options, in the order of their numbers.
+    pub options: &'a [Opt<'a>],
+    /// The payload; empty where there is none.
+    pub payload: &'a [u8],
+}
+
+impl<'a> Model for Ask<'a> {
+    ghost use Rattle.std.specs.Option.{option_map};
+    ghost use Rattle.coap_types.specs.CoapOption.{options_of};
+    ghost use Rattle.coap_types.specs.MethodCode.{method_code};
+    ghost use Rattle.coap_exchange.specs.AskerTrace.{Request};
+
+    ghost Value = { Request };
+
+    ghost view = { λ a. record {
+      code = (method_code a.method).0;
+      token = option_map (λ t. t.now) a.token;
+      options = options_of a.options.now;
+      payload = a.payload.now;
+    } };
+}
+
+/// The client's side of the exchanges with one server (RFC 7252, section 5).
+///
+/// It runs one exchange at a time. After each call take `next_out` until None; a moment before the
+/// last one counts as the last.
+#[derive(Drop)]
+pub struct Asker<A: Allocator + Copy> {
+    layer: Layer<A>,
+    server: Endpoint,
+    word: u64,
+    held: Held,
+    // What the last input found.
+    before: Held,
+}
+
+impl<A: Allocator + Copy> Model for Asker<A> {
+    ghost use Rattle.coap_exchange.specs.AskerShown.{Shown, state_of, before_of};
+
+    ghost Value = { Shown };
+
+    ghost view = { λ a. record {
+      state = state_of a.layer.state a.server a.word a.held;
+      before = before_of a.layer.before a.server a.word a.before;
+    } };
+}
+
+impl<A: Allocator + Copy> Asker<A> {
+    /// A client's side to which nothing has happened. The word picks the first token and the first
+    /// Message ID.
+    pub fn new(alloc: A, server: Endpoint, word: u64) -> Asker<A>
+        ensures led { Led server word [] result.state }
+        ensures start { result.state ≡ fresh_state server word }
+        ensures before { result.before ≡ None }
+    {
+        Asker {
+            layer: Layer::new(alloc, word),
+            server,
+            word,
+            held: Held::new(),
+            before: Held::new(),
+        }
+    }
+
+    /// The last moment that counted.
+    pub fn clock(&self) -> Moment
+        ensures { result.0 ≡ self.now.state.own.clock }
+    {
+        self.layer.clock()
+    }
+
+    /// Sends a request, and answers its token (RFC 7252, sections 4.2 and 5.3.1): that of the
+    /// observation for a cancel, else one that was never given. The word picks the initial timeout.
+    /// Where several refusals hold, the lowest number is answered, and `Memory` only where none
+    /// other does.
+    pub fn ask(&mut self, now: Moment, ask: &Ask<'_>, word: u64) -> Result<Token, AskRefusal>
+        requires { IsAskable ask.now }
+        ensures step { result ≢ Err refusals.Memory → (answer : below.Answer) × Step self.old.state (Asks now.0 ask.now word answer result) self.new.state }
+        ensures led { (server : Endpoint) (begin : ℕ) (t : List Call) → Led server begin t self.old.state → result ≢ Err refusals.Memory → (answer : below.Answer) × Led server begin (Asks now.0 ask.now word answer result ∷ t) self.new.state }
+        ensures before { self.new.before ≡ self.old.before }
+        ensures memory { result ≡ Err refusals.Memory → self.new ≡ self.old }
+    {
+        let running = self.held.running.is_some();
+        let spent = is_spent(self.held.given);
+        match judge_ask(running, spent, ask.token.is_some()) {
+            Opening::Running => {
+                self.layer.pass(now);
+                Err(AskRefusal::Running)
+            }
+            Opening::Spent => Err(spent_refusal(self.layer.is_free(now))),
+            Opening::Sends => self.send(now, ask, word),
+        }
+    }
+
+    // Sends a request, which may be sent.
+    fn send(&mut self, now: Moment, ask: &Ask<'_>, word: u64) -> Result<Token, AskRefusal>
+        requires askable { IsAskable ask.now }
+        requires opening { opening_of self.old.state.own ask.now ≡ openings.Sends }
+        ensures step { result ≢ Err refusals.Memory → (answer : below.Answer) × Step self.old.state (Asks now.0 ask.now word answer result) self.new.state }
+        ensures before { self.new.before ≡ self.old.before }
+        ensures memory { result ≡ Err refusals.Memory → self.new ≡ self.old }
+    {
+        let token = token_for(self.word, self.held.given, ask.token);
+        let _few = token.as_slice();
+        let content = Content {
+            code: ask.method.code(),
+            token: &token,
+            options: ask.options,
+            payload: ask.payload,
+        };
+        match self.layer.confirm(now, self.server, &content, word) {
+            Ok(id) => {
+                self.held.open(token.copy(), id, ask.token.is_some());
+                Ok(token)
+            }
+            Err(refusal) => Err(send_refusal(refusal)),
+        }
+    }
+
+    /// Takes a datagram that arrived: the response to the request of the exchange, a notification,
+    /// or a Reset is told, and what is to be acknowledged or rejected is (RFC 7252, sections 4.2
+    /// and 5.3.2).
+    pub fn receive<'d>(
+        &mut self,
+        now: Moment,
+        from: Endpoint,
+        bytes: &'d [u8],
+    ) -> Result<Option<Event<'d>>, AllocError>
+        ensures step { IfOk result (λ event. (up : below.Answer) × (settled : Bool) × Step self.old.state (Receive now.0 from bytes.now up settled event) self.new.state) }
+        ensures led { (server : Endpoint) (word : ℕ) (t : List Call) → Led server word t self.old.state → IfOk result (λ event. (up : below.Answer) × (settled : Bool) × Led server word (Receive now.0 from bytes.now up settled event ∷ t) self.new.state) }
+        ensures before { OnOk result (self.new.before ≡ Some self.old.state) }
+        ensures err { OnErr result (self.new ≡ self.old) }
+        // Where the layer sends nothing and hands nothing up, it takes no memory.
+        ensures quiet { IsQuiet (made self.old.state.layer now.0 (below.Receive from bytes.now)) → IsOk result }
+    {
+        let up = self.layer.receive(now, from, bytes)?;
+        let verdict = verdict(self.server, &self.held, from, &up);
+        let at = self.layer.clock();
+        let id = id_in(&up);
+        act(
+            &mut self.layer,
+            self.server,
+            &self.held.running,
+            from,
+            id,
+            verdict,
+        );
+        self.before = self.held.copy();
+        let running = self.held.running.take();
+        self.held.running = after_arrival(at.0, verdict, running);
+        Ok(told(verdict, up))
+    }
+
+    /// Does the first that is due: the failure of the request, a retransmission, the end of the wait
+    /// for a response (RFC 7252, sections 4.2 and 5.2.2).
+    pub fn tick(&mut self, now: Moment) -> Result<Turn, AllocError>
+        ensures step { IfOk result (λ turn. (answer : below.Answer) × Step self.old.state (Ticks now.0 answer turn) self.new.state) }
+        ensures led { (server : Endpoint) (word : ℕ) (t : List Call) → Led server word t self.old.state → IfOk result (λ turn. (answer : below.Answer) × Led server word (Ticks now.0 answer turn ∷ t) self.new.state) }
+        ensures before { OnOk result (self.new.before ≡ Some self.old.state) }
+        ensures err { OnErr result (self.new ≡ self.old) }
+        ensures quiet { copies (max self.old.state.own.clock now.0) self.old.state.layer.open_cons ≡ [] → IsOk result }
+    {
+        let tick = self.layer.tick(now)?;
+        let turn = turn_of(self.server, &self.held, self.layer.clock(), tick);
+        self.before = self.held.copy();
+        let running = self.held.running.take();
+        self.held.running = unless_ended(&turn, running);
+        Ok(turn)
+    }
+
+    /// Keeps the token of an observation, so that its notifications are told (RFC 7641, section
+    /// 3.2); false where 16 others are kept. It takes no memory.
+    pub fn keep(&mut self, token: &Token) -> bool
+        ensures step { Step self.old.state (Keep token.now result) self.new.state }
+        ensures led { (server : Endpoint) (word : ℕ) (t : List Call) → Led server word t self.old.state → Led server word (Keep token.now result ∷ t) self.new.state }
+        ensures before { self.new.before ≡ self.old.before }
+    {
+        self.held.kept.keep(token)
+    }
+
+    /// Keeps the token no more, so that its notifications are rejected; false where it isn't kept.
+    /// It takes no memory.
+    pub fn release(&mut self, token: &Token) -> bool
+        ensures step { Step self.old.state (Release token.now result) self.new.state }
+        ensures led { (server : Endpoint) (word : ℕ) (t : List Call) → Led server word t self.old.state → Led server word (Release token.now result ∷ t) self.new.state }
+        ensures before { self.new.before ≡ self.old.before }
+    {
+        self.held.kept.release(token)
+    }
+
+    /// The datagram that is to be sent next. After it, nothing can be taken back. It takes no
+    /// memory.
+    pub fn next_out(&mut self) -> Option<Datagram<A>>
+        ensures step { Step self.old.state (Take result) self.new.state }
+        ensures led { (server : Endpoint) (word : ℕ) (t : List Call) → Led server word t self.old.state → Led server word (Take result ∷ t) self.new.state }
+        ensures before { self.new.before ≡ None }
+    {
+        self.layer.next_out()
+    }
+
+    /// Takes back the last `receive` or `tick` that was not refused memory, and every call since.
+    /// It takes no memory.
+    pub fn undo(&mut self)
+        requires { IsSome self.old.before }
+        ensures back { self.old.before ≡ Some self.new.state }
+        ensures spent { self.new.before ≡ None }
+    {
+        self.layer.undo();
+        self.held = self.before.copy();
+    }
+}

@@ -1,0 +1,61 @@
+ghost use Rattle.std.specs.Prelude.{ℕ, List, [], ◌∷◌};
+ghost use Rattle.coap_types.specs.declared.endpoint.Endpoint.{Endpoint};
+ghost use Rattle.coap_layer.specs.Rows.{LayerLaw};
+ghost use Rattle.coap_exchange.specs.AskerTrace.{Call};
+ghost use Rattle.coap_exchange.specs.AskerLaw.{State, Step, Led, ExchangeLaw, fresh_state, below_of};
+ghost use Rattle.coap_exchange.specs.AskerExact.{IsExact};
+ghost use Rattle.coap_exchange.specs.AskerFollows.{AreExchanges, AreTokens, EndInTime, AreFromServer};
+ghost use Rattle.coap_exchange.specs.AskerShown.{IsAskableWhenShort};
+ghost use Rattle.coap_exchange.specs.AnswererTrace as trace;
+ghost use Rattle.coap_exchange.specs.AnswererLaw as answerer;
+ghost use Rattle.coap_exchange.specs.AnswererLaw.{ResponseLaw};
+ghost use Rattle.coap_exchange.specs.AnswererExact as exactly;
+ghost use Rattle.coap_exchange.specs.AnswererFollows.{AreResponses, AreRequests, EndsOnce, WaitsForOutstanding, FewDeferred};
+
+/// What leads to the state of a client's side stands in the law, and what follows from that.
+pub fn asker_law()
+    ensures start { (server : Endpoint) (word : ℕ) → Led server word [] (fresh_state server word) }
+    // A step lengthens the calls that led to the state before it.
+    ensures step { (server : Endpoint) (word : ℕ) (t : List Call) (c : Call) (old new : State) → Led server word t old → Step old c new → Led server word (c ∷ t) new }
+    ensures law { (server : Endpoint) (word : ℕ) (t : List Call) (s : State) → Led server word t s → ExchangeLaw server word t }
+    // The calls of the layer beneath stand in its law (RFC 7252, section 4).
+    ensures layer { (server : Endpoint) (word : ℕ) (t : List Call) → ExchangeLaw server word t → LayerLaw word (below_of server word t) }
+    // The law leaves each call one answer.
+    ensures exact { (server : Endpoint) (word : ℕ) (past : List Call) → IsExact server word past }
+    // Exchanges don't overlap, each ends at most once, and an answer has the token of the one that is open
+    // (RFC 7252, sections 4.7 and 5.3.2); a notification has a kept token (RFC 7641, section 3.2).
+    ensures exchanges { (server : Endpoint) (word : ℕ) (t : List Call) → ExchangeLaw server word t → AreExchanges t }
+    // No token serves two requests but an observation and its cancel (RFC 7252, section 5.3.1; RFC 7641, section 3.6).
+    ensures tokens { (server : Endpoint) (word : ℕ) (t : List Call) → ExchangeLaw server word t → AreTokens word t }
+    // A Timeout and NoResponse come in time (RFC 7252, sections 4.2 and 5.2.2).
+    ensures in_time { (server : Endpoint) (word : ℕ) (t : List Call) → ExchangeLaw server word t → EndInTime server word t }
+    // What is told came from the server, and is what a datagram spelled (RFC 7252, section 5.3.2).
+    ensures from_server { (server : Endpoint) (word : ℕ) (t : List Call) → ExchangeLaw server word t → AreFromServer server t }
+{}
+
+/// What leads to the state of a server's side stands in the law, and what follows from that.
+pub fn answerer_law()
+    ensures start { (word : ℕ) → answerer.Led word [] (answerer.fresh_state word) }
+    // A step lengthens the calls that led to the state before it.
+    ensures step { (word : ℕ) (t : List trace.Call) (c : trace.Call) (old new : answerer.State) → answerer.Led word t old → answerer.Step old c new → answerer.Led word (c ∷ t) new }
+    ensures law { (word : ℕ) (t : List trace.Call) (s : answerer.State) → answerer.Led word t s → ResponseLaw word t }
+    // The calls of the layer beneath stand in its law (RFC 7252, section 4).
+    ensures layer { (word : ℕ) (t : List trace.Call) → ResponseLaw word t → LayerLaw word (answerer.below_of word t) }
+    // The law leaves each call one answer.
+    ensures exact { (word : ℕ) (past : List trace.Call) → exactly.IsExact word past }
+    // A request that is handed up has at most one response (RFC 7252, section 5.2).
+    ensures responses { (word : ℕ) (t : List trace.Call) → ResponseLaw word t → AreResponses t }
+    // What is handed up is what a datagram spelled (RFC 7252, section 5.2).
+    ensures requests { (word : ℕ) (t : List trace.Call) → ResponseLaw word t → AreRequests t }
+    // A separate response that a Reset or a failure ends is said once (RFC 7252, section 5.2.2).
+    ensures ends { (word : ℕ) (t : List trace.Call) → ResponseLaw word t → EndsOnce t }
+    // A deferred request waits for the CON that is outstanding to its endpoint (RFC 7252, section 4.7).
+    ensures waits { (word : ℕ) (t : List trace.Call) (law : ResponseLaw word t) → WaitsForOutstanding word t law }
+    ensures few { (word : ℕ) (t : List trace.Call) → ResponseLaw word t → FewDeferred t }
+{}
+
+/// A request may be asked that isn't Empty, whose options ascend and are short, and that is short
+/// enough (RFC 7252, section 4.6).
+pub fn askable_law()
+    ensures { IsAskableWhenShort }
+{}

@@ -1,0 +1,21 @@
+//! The request/response layer of CoAP (RFC 7252, section 5): each answer belongs to one request.
+#![tactic(auto)]
+
+mod answerer;
+mod arrivals;
+mod asker;
+mod empty;
+mod held;
+mod kept_tokens;
+mod laws;
+mod listed;
+mod matching;
+mod separate;
+mod token_source;
+
+pub use answerer::{Asked, Due, Ended};
+pub use asker::{Ask, AskRefusal, Asker, Event, Turn};
+pub use laws::{answerer_law, askable_law, asker_law};
+
+#[cfg(test)]
+mod tests;

@@ -1,0 +1,125 @@
+ghost use Rattle.std.specs.Prelude.{◌≡◌, ◌&&◌, not, map};
+ghost use Rattle.std.specs.Option.{option_map};
+ghost use Rattle.coap_layer.specs.Trace.{same_place};
+ghost use Rattle.coap_exchange.specs.AnswererSteps.{ended_as, first_ready, found, goes_to, is_ready, is_waited_for};
+ghost use Rattle.coap_exchange.specs.Listed.{listed};
+ghost use Rattle.coap_exchange.specs.Outstanding.{over};
+
+use crate::answerer::{Asked, Ended};
+use crate::arrivals::same;
+use crate::listed::Listed;
+use coap_types::{Endpoint, Id, Token};
+
+/// A request whose response is deferred (RFC 7252, section 5.2.2).
+#[derive(Drop)]
+pub struct Deferred {
+    /// The request.
+    pub asked: Asked,
+    /// The moment of its deferral, in milliseconds.
+    pub at: u64,
+    /// By how many milliseconds it is deferred.
+    pub delay: u64,
+}
+
+/// A separate response that is not acknowledged yet (RFC 7252, section 5.2.2).
+#[derive(Drop)]
+pub struct Separate {
+    /// Where it went.
+    pub to: Endpoint,
+    /// Its Message ID.
+    pub id: Id,
+    /// Its token.
+    pub token: Token,
+    /// Whether it carries Observe (RFC 7641, section 3.2).
+    pub observe: bool,
+}
+
+impl Asked {
+    /// The same again.
+    pub(crate) fn copy(&self) -> Asked
+        ensures { result ≡ self.now }
+    {
+        Asked {
+            from: self.from,
+            kind: self.kind,
+            id: self.id,
+            token: self.token.copy(),
+        }
+    }
+}
+
+/// Whether it went to this endpoint, with this Message ID.
+fn goes_to(response: &Separate, to: Endpoint, id: Id) -> bool
+    ensures { result ≡ goes_to to id.0 response.now }
+{
+    same(response.to, to) && response.id.0 == id.0
+}
+
+/// Whether a response to this endpoint is not acknowledged yet (RFC 7252, section 4.7).
+pub(crate) fn is_waited_for(list: &[Listed<Separate>], to: Endpoint) -> bool
+    ensures { result ≡ is_waited_for to (listed list.now) }
+{
+    for k in list {
+        if k.now && same(k.entry.to, to) {
+            return true;
+        }
+    }
+    false
+}
+
+/// The response to this endpoint with this Message ID, as it is told that it ended.
+pub(crate) fn found(list: &[Listed<Separate>], to: Endpoint, id: Id) -> Option<Ended>
+    ensures { result ≡ option_map ended_as (found to id.0 (listed list.now)) }
+{
+    for k in list {
+        if k.now && goes_to(&k.entry, to, id) {
+            return Some(Ended {
+                to: k.entry.to,
+                token: k.entry.token.copy(),
+                observe: k.entry.observe,
+            });
+        }
+    }
+    None
+}
+
+// Whether a response that is on the list, or not, stays there.
+fn stays(listed: bool, response: &Separate, to: Endpoint, id: Id) -> bool
+    ensures { result ≡ (listed && not (goes_to to id.0 response.now)) }
+{
+    listed && !goes_to(response, to, id)
+}
+
+/// Takes the response to this endpoint with this Message ID off the list.
+pub(crate) fn take_off(list: &mut [Listed<Separate>], to: Endpoint, id: Id)
+    ensures { list.new ≡ map (over to id.0) list.old }
+{
+    for k in list.iter_mut() {
+        k.now = stays(k.now, &k.entry, to, id);
+    }
+}
+
+/// Whether the delay of a deferred request has passed, and its endpoint has no response that is not
+/// acknowledged.
+fn is_ready(deferred: &Deferred, at: u64, separate: &[Listed<Separate>]) -> bool
+    ensures { result ≡ is_ready at (listed separate.now) deferred.now }
+{
+    at.saturating_sub(deferred.at) >= deferred.delay
+        && !is_waited_for(separate, deferred.asked.from)
+}
+
+/// The first deferred request that is ready.
+pub(crate) fn first_ready(
+    list: &[Listed<Deferred>],
+    at: u64,
+    separate: &[Listed<Separate>],
+) -> Option<Asked>
+    ensures { result ≡ option_map (λ d. d.asked) (first_ready at (listed separate.now) (listed list.now)) }
+{
+    for k in list {
+        if k.now && is_ready(&k.entry, at, separate) {
+            return Some(k.entry.asked.copy());
+        }
+    }
+    None
+}
