@@ -1,0 +1,11 @@
+pub mod ClientOpen
+pub mod ClientSent
+pub mod ClientAnswers
+pub mod ClientOnce
+pub mod ClientBegun
+pub mod ClientReplies
+pub mod ServerStore
+pub mod ServerHolds
+pub mod ServerOnce
+pub mod ServerReplies
+pub mod ServerRepliesSo

@@ -1,0 +1,41 @@
+use Rattle.coap_layer.proofs.CopyLemmas.{copies_in_time}
+use Rattle.coap_exchange.proofs.AskerLeading.{layer_stands}
+use Rattle.coap_exchange.proofs.AskerApart.{known}
+use Rattle.coap_exchange.proofs.AskerCame.{came_from}
+use Rattle.coap_exchange.proofs.AskerTokens.{counted}
+use Rattle.coap_ends.specs.ClientLaw.{lower_of, layer_of}
+use Rattle.coap_layer.specs.State.{start}
+use Rattle.coap_exchange.specs.AskerLaw as asker
+use Rattle.coap_ends.proofs.ClientBegun.{asked_for, exchange_of, request_of}
+use Rattle.coap_ends.proofs.ClientReplies.{replies_so}
+use Rattle.coap_ends.proofs.ClientSent.{once_of, are_sent}
+use Rattle.coap_ends.proofs.ClientAnswers.{are_answers, are_from_server}
+use Rattle.coap_ends.proofs.ClientOnce.{reported_once}
+use Rattle.coap_ends.proofs.laws.client_law.Goals as goal
+
+pub returns-clause-layer : goal.returns-clause-layer
+returns-clause-layer c server szx word t law = layer_stands server word (lower_of t) law.exchanges
+
+pub returns-clause-copies : goal.returns-clause-copies
+returns-clause-copies c server szx word t law = copies_in_time word (layer_of server word t) (layer_stands server word (lower_of t) law.exchanges)
+
+pub returns-clause-begins : goal.returns-clause-begins
+returns-clause-begins c server szx word t law con h =
+    request_of server con t (exchange_of server word con (lower_of t) law.exchanges.rows
+    (asked_for con (start word) law.exchanges.left (asker.lower_of server word (lower_of t)) law.exchanges.layer h))
+
+pub returns-clause-replies : goal.returns-clause-replies
+returns-clause-replies c server szx word t law = replies_so server word (lower_of t) law.exchanges.rows law.exchanges.left law.exchanges.layer
+
+pub returns-clause-sent : goal.returns-clause-sent
+returns-clause-sent c server szx word t law = are_sent t (once_of word (lower_of t) (counted server word (lower_of t) law.exchanges.rows).0)
+
+pub returns-clause-answers : goal.returns-clause-answers
+returns-clause-answers c server szx word t law =
+    are_answers t (are_sent t (once_of word (lower_of t) (counted server word (lower_of t) law.exchanges.rows).0)) (known server word (lower_of t) law.exchanges.rows).0
+
+pub returns-clause-from_server : goal.returns-clause-from_server
+returns-clause-from_server c server szx word t law = are_from_server server t (came_from server word (lower_of t) law.exchanges.rows law.exchanges.left law.exchanges.layer)
+
+pub returns-clause-once : goal.returns-clause-once
+returns-clause-once c server szx word t law = reported_once szx t law.rows

@@ -1,0 +1,26 @@
+use Rattle.coap_layer.proofs.CopyLemmas.{handed_up_once}
+use Rattle.coap_exchange.proofs.AnswererLeading.{layer_stands}
+use Rattle.coap_exchange.proofs.AnswererOnce.{counted}
+use Rattle.coap_ends.specs.ServerLaw.{lower_of, layer_of}
+use Rattle.coap_ends.proofs.ServerHolds.{all_served, holds_changes}
+use Rattle.coap_ends.proofs.ServerRepliesSo.{replies_so}
+use Rattle.coap_ends.proofs.ServerOnce.{served_once}
+use Rattle.coap_ends.proofs.laws.server_law.Goals as goal
+
+pub returns-clause-layer : goal.returns-clause-layer
+returns-clause-layer c limit szx word t law = layer_stands word (lower_of limit szx t) law.exchanges
+
+pub returns-clause-replies : goal.returns-clause-replies
+returns-clause-replies c limit szx word t law = replies_so word limit szx t law.exchanges.rows law.exchanges.left law.exchanges.layer
+
+pub returns-clause-once : goal.returns-clause-once
+returns-clause-once c limit szx word t law = handed_up_once word (layer_of limit szx word t) (layer_stands word (lower_of limit szx t) law.exchanges)
+
+pub returns-clause-served : goal.returns-clause-served
+returns-clause-served c limit szx word t law = served_once limit szx t (counted (lower_of limit szx t) law.exchanges.rows).0
+
+pub returns-clause-right : goal.returns-clause-right
+returns-clause-right c limit szx word t law = all_served limit szx t law.rows
+
+pub returns-clause-holds : goal.returns-clause-holds
+returns-clause-holds c limit szx word t law = holds_changes limit szx t law.rows

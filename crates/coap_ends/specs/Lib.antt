@@ -1,0 +1,12 @@
+pub mod ClientTrace
+pub mod ClientRequests
+pub mod ClientReports
+pub mod ClientSteps
+pub mod ClientLaw
+pub mod ClientFollows
+pub mod ServerTrace
+pub mod ServerChecks
+pub mod ServerSteps
+pub mod ServerLaw
+pub mod ServerFollows
+pub mod ClientBegins

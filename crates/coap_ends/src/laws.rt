@@ -1,0 +1,50 @@
+ghost use Rattle.std.specs.Prelude.{ℕ, List};
+ghost use Rattle.coap_types.specs.declared.endpoint.Endpoint.{Endpoint};
+ghost use Rattle.coap_types.specs.Past.{Always};
+ghost use Rattle.coap_layer.specs.Channel.{RepliesSo};
+ghost use Rattle.coap_layer.specs.Follows.{CopiesInTime, HandedUpOnce};
+ghost use Rattle.coap_layer.specs.Rows.{LayerLaw};
+ghost use Rattle.coap_ends.specs.ClientBegins.{ConsAreRequests};
+ghost use Rattle.coap_ends.specs.ClientFollows.{AreSent, ReportsAreAnswers, AreFromServer, ReportedOnce};
+ghost use Rattle.coap_ends.specs.ClientLaw.{ClientLaw, layer_of};
+ghost use Rattle.coap_ends.specs.ClientTrace.{Call};
+ghost use Rattle.coap_ends.specs.ServerFollows.{ServedOnce, AllServed, HoldsChanges};
+ghost use Rattle.coap_ends.specs.ServerLaw as servers;
+ghost use Rattle.coap_ends.specs.ServerLaw.{ServerLaw};
+ghost use Rattle.coap_ends.specs.ServerTrace as server;
+
+/// What follows from the law of a client, over its own trace.
+pub fn client_law()
+    // The calls of its message layer stand in the law of that layer (RFC 7252, section 4).
+    ensures layer { (server : Endpoint) (szx word : ℕ) (t : List Call) → ClientLaw server szx word t → LayerLaw word (layer_of server word t) }
+    // A retransmission is of a CON that was begun at most 47,000 ms before, with the same bytes (RFC 7252, section 4.2).
+    ensures copies { (server : Endpoint) (szx word : ℕ) (t : List Call) → ClientLaw server szx word t → CopiesInTime (layer_of server word t) }
+    // It begins no other CON than the requests of its calls, each with its token, to the server (RFC 7252, section 5.2).
+    ensures begins { (server : Endpoint) (szx word : ℕ) (t : List Call) → ClientLaw server szx word t → ConsAreRequests server word t }
+    // It replies at once: with a Reset, or the acknowledgement of a CON (RFC 7252, section 4.2).
+    ensures replies { (server : Endpoint) (szx word : ℕ) (t : List Call) → ClientLaw server szx word t → Always RepliesSo (layer_of server word t) }
+    // What is sent was asked for before, and no request has the token of another (RFC 7252, section 5.3.1).
+    ensures sent { (server : Endpoint) (szx word : ℕ) (t : List Call) → ClientLaw server szx word t → AreSent t }
+    // A report of a response is of the answer to a request of that call (RFC 7252, section 5.3.2).
+    ensures answers { (server : Endpoint) (szx word : ℕ) (t : List Call) → ClientLaw server szx word t → ReportsAreAnswers t }
+    ensures from_server { (server : Endpoint) (szx word : ℕ) (t : List Call) → ClientLaw server szx word t → AreFromServer server t }
+    // A call is reported at most once.
+    ensures once { (server : Endpoint) (szx word : ℕ) (t : List Call) → ClientLaw server szx word t → ReportedOnce t }
+{}
+
+/// What follows from the law of a server, over its own trace.
+pub fn server_law()
+    // The calls of its message layer stand in the law of that layer (RFC 7252, section 4).
+    ensures layer { (limit szx word : ℕ) (t : List server.Call) → ServerLaw limit szx word t → LayerLaw word (servers.layer_of limit szx word t) }
+    // It replies at once: with the Reset of a response, or the acknowledgement of a CON, which may carry the response to it
+    // (RFC 7252, sections 4.2 and 5.2.1).
+    ensures replies { (limit szx word : ℕ) (t : List server.Call) → ServerLaw limit szx word t → Always RepliesSo (servers.layer_of limit szx word t) }
+    // A message is handed up once in EXCHANGE_LIFETIME (RFC 7252, section 4.5) ..
+    ensures once { (limit szx word : ℕ) (t : List server.Call) → ServerLaw limit szx word t → HandedUpOnce (servers.layer_of limit szx word t) }
+    // .. and a request that is handed up is served at most once (section 5.2).
+    ensures served { (limit szx word : ℕ) (t : List server.Call) → ServerLaw limit szx word t → ServedOnce limit szx t }
+    // It is served as the table of the methods says, and what is applied is applied whole (section 5.8).
+    ensures right { (limit szx word : ℕ) (t : List server.Call) → ServerLaw limit szx word t → AllServed limit szx t }
+    // The versions of the changes are 1, 2, 3 and so on, and each path holds its last change (section 5.10.6).
+    ensures holds { (limit szx word : ℕ) (t : List server.Call) → ServerLaw limit szx word t → HoldsChanges limit szx t }
+{}

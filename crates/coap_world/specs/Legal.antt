@@ -1,0 +1,62 @@
+-- Which events are legal, in the record of their run: no datagram comes more than 100,000 ms after it was given out, and
+-- what comes from an end's address was given out by that end.
+use Rattle.std.specs.Prelude.{◌≡◌, ◌≢◌, ◌⊎◌, ◌≤◌, ◌<◌, ℕ, ◌+◌, ◌^◌, IfSome, List, [], ◌∷◌, length, All}
+use Rattle.coap_types.specs.Past.{Always}
+use Rattle.coap_types.specs.Path.{HoldsAtMost}
+use Rattle.coap_types.specs.declared.endpoint.Endpoint.{Endpoint}
+use Rattle.coap_codec.specs.Message.{AreBytes}
+use Rattle.coap_ends.specs.ClientTrace.{Request}
+use Rattle.coap_world.specs.Events.{client_end, server_end, What, Calls, Sets, Removes, Deliver, StrangerToClient, StrangerToServer}
+use Rattle.coap_world.specs.Record.{Given, Turn, IsNumber}
+
+-- a datagram is delivered at most so many milliseconds after it was given out (profile)
+abbrev pub max_delivery : ℕ
+max_delivery = 100000
+
+-- moments don't fall
+abbrev pub NotBefore : List Turn → ℕ → Type 0
+NotBefore [] at = Unit {0}
+NotBefore (turn ∷ past) at = turn.event.at ≤ at
+
+-- a datagram that was given out before, addressed to an end, and not too old; a stranger that has no end's address
+abbrev pub MayCome : List Turn → ℕ → What → Type 0
+MayCome past at (Deliver number) =
+    (g : Given) × IsNumber number g past × ((g.packet.to ≡ client_end) ⊎ (g.packet.to ≡ server_end)) × (at ≤ g.at + max_delivery)
+MayCome past at (StrangerToClient from bytes) = (from ≢ client_end) × (from ≢ server_end)
+MayCome past at (StrangerToServer from bytes) = (from ≢ client_end) × (from ≢ server_end)
+MayCome past at what = Unit {0}
+
+-- each number is in the range of its type
+
+pub record IsPath (path : List (List ℕ)) : Type 0 where
+  pub bounds : HoldsAtMost 16 255 path
+  pub bytes : All AreBytes path
+
+pub record IsEndpoint (e : Endpoint) : Type 0 where
+  pub four : length e.ip ≡ 4
+  pub bytes : AreBytes e.ip
+  pub port : e.port < 2 ^ 16
+
+pub record IsRequest (r : Request) : Type 0 where
+  pub path : IsPath r.path
+  pub accept : IfSome r.accept (λ f. f < 2 ^ 16)
+  pub format : IfSome r.format (λ f. f < 2 ^ 16)
+  pub body : AreBytes r.body
+
+abbrev pub InRange : What → Type 0
+InRange (Calls r) = IsRequest r
+InRange (Sets path format body) = IsPath path × IfSome format (λ f. f < 2 ^ 16) × AreBytes body
+InRange (Removes path) = IsPath path
+InRange (StrangerToClient from bytes) = IsEndpoint from × AreBytes bytes
+InRange (StrangerToServer from bytes) = IsEndpoint from × AreBytes bytes
+InRange what = Unit {0}
+
+pub record IsLegal (past : List Turn) (turn : Turn) : Type 0 where
+  pub at : turn.event.at < 2 ^ 64
+  pub word : turn.event.word < 2 ^ 64
+  pub range : InRange turn.event.what
+  pub later : NotBefore past turn.event.at
+  pub comes : MayCome past turn.event.at turn.event.what
+
+abbrev pub Legal : List Turn → Type 0
+Legal turns = Always IsLegal turns

@@ -1,0 +1,6 @@
+//! A client and a server of CoAP together, and the datagrams between them (RFC 7252).
+#![tactic(auto)]
+
+mod laws;
+
+pub use laws::{changes_law, delivery_law};
