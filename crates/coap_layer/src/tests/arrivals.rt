@@ -1,5 +1,6 @@
 ghost use Rattle.std.specs.Prelude.{◌≤◌, length};
 
+use super::sendings::plain_content;
 use super::{THERE, at_port, confirm_get, is_sent};
 use crate::{Layer, Up};
 use coap_types::{Code, Id, Moment};
@@ -239,4 +240,32 @@ fn a_full_table_forgets_nothing(rt: HostRuntime) -> Result<(), AllocError> {
     let up = layer.receive(Moment(247_000), at_port(0), get)?;
     assert_eq!(rt; outcome(&up), Came::Replayed);
     arrives(&rt, &mut layer, 247_001, get, Came::Request, &[])
+}
+
+/// Sends so many Non-confirmable messages.
+fn sends_plain<R: Abort + AllocGlobal>(rt: &R, layer: &mut Layer<Global>, count: u32) {
+    for _ in 0..count {
+        assert!(rt; plain_content(rt, layer, 0).is_ok());
+        assert!(rt; layer.next_out().is_some());
+    }
+}
+
+#[test]
+fn a_request_that_can_not_be_answered_is_not_remembered(rt: HostRuntime) -> Result<(), AllocError> {
+    let mut layer = Layer::new(rt.alloc(), 0);
+    sends_plain(&rt, &mut layer, 65_536);
+    assert!(rt; !layer.is_free(Moment(0)));
+    let get = &[0x50, 0x01, 0x00, 0x07];
+    arrives(&rt, &mut layer, 0, get, Came::Unremembered, &[])?;
+    arrives(&rt, &mut layer, 400_000, get, Came::Unremembered, &[])?;
+    // A Confirmable one is answered in its acknowledgement, and remembered.
+    let con = &[0x40, 0x01, 0x00, 0x08];
+    arrives(&rt, &mut layer, 400_000, con, Came::Request, &[])?;
+    arrives(&rt, &mut layer, 400_000, con, Came::Replayed, &[])?;
+    // Once a Message ID is free again, it is remembered.
+    layer.pass(Moment(400_001));
+    assert!(rt; layer.is_free(Moment(0)));
+    arrives(&rt, &mut layer, 0, get, Came::Request, &[])?;
+    arrives(&rt, &mut layer, 0, get, Came::Replayed, &[])?;
+    layer.reserve()
 }

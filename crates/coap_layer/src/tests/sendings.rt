@@ -166,7 +166,7 @@ fn an_answer_in_an_acknowledgement_settles_nothing(rt: HostRuntime) -> Result<()
 }
 
 /// Sends a NON response.
-fn plain_content<R: Abort + AllocGlobal>(
+pub(crate) fn plain_content<R: Abort + AllocGlobal>(
     rt: &R,
     layer: &mut Layer<Global>,
     now: u64,
