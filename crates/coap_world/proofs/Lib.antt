@@ -1,2 +1,15 @@
 pub mod Owned
 pub mod Fair
+pub mod HopsAre
+pub mod Moments
+pub mod ClientMoments
+pub mod ServerMoments
+pub mod AtOnce
+pub mod Turns
+pub mod TurnFacts
+pub mod ClientTurns
+pub mod ServerTurns
+pub mod Run
+pub mod Joined
+pub mod Across
+pub mod Witness

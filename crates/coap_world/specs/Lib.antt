@@ -3,3 +3,4 @@ pub mod Record
 pub mod Legal
 pub mod Delivery
 pub mod Agrees
+pub mod Hops

@@ -1,9 +1,13 @@
-ghost use Rattle.std.specs.Prelude.{List};
+ghost use Rattle.std.specs.Prelude.{◌≡◌, List};
+ghost use Rattle.coap_layer.specs.Channel.{ChannelLaw, near_of, far_of};
+ghost use Rattle.coap_ends.specs.ClientLaw as clients;
+ghost use Rattle.coap_ends.specs.ServerLaw as servers;
 ghost use Rattle.coap_world.specs.Agrees.{ChangesOwned};
 ghost use Rattle.coap_world.specs.Delivery.{AllFair};
-ghost use Rattle.coap_world.specs.Events.{Config, Event};
+ghost use Rattle.coap_world.specs.Events.{client_end, server_end, Config, Event};
+ghost use Rattle.coap_world.specs.Hops.{hops_of, across, TakenAtOnce};
 ghost use Rattle.coap_world.specs.Legal.{Legal};
-ghost use Rattle.coap_world.specs.Record.{Turn, RecordOf, entries_of};
+ghost use Rattle.coap_world.specs.Record.{Turn, RecordOf, entries_of, client_of, server_trace};
 
 /// What comes from an end's address was given out by that end, for the one that it comes to, at most 100,000 ms before.
 pub fn delivery_law()
@@ -14,4 +18,16 @@ pub fn delivery_law()
 pub fn changes_law()
     // Each change of the server is a local one, or that of a request that is applied (RFC 7252, section 5.8).
     ensures owned { (config : Config) (events : List Event) (turns : List Turn) → RecordOf config events turns → Legal turns → ChangesOwned config (entries_of turns) }
+{}
+
+/// What the message layers of the two ends do in a run, in one order (RFC 7252, section 4).
+pub fn hops_law()
+    // The near hops are the entries of the client's layer, the far ones of the server's.
+    ensures near { (config : Config) (turns : List Turn) → near_of (hops_of config turns) ≡ clients.layer_of server_end config.client_word (client_of (entries_of turns)) }
+    ensures far { (config : Config) (turns : List Turn) → far_of (hops_of config turns) ≡ servers.layer_of config.limit config.server_szx config.server_word (server_trace config (entries_of turns)) }
+    // In a legal run they stand in the law of two layers and the datagrams between them.
+    ensures channel { (config : Config) (events : List Event) (turns : List Turn) → RecordOf config events turns → Legal turns → ChannelLaw config.client_word config.server_word client_end server_end (hops_of config turns) }
+    ensures back { (config : Config) (events : List Event) (turns : List Turn) → RecordOf config events turns → Legal turns → ChannelLaw config.server_word config.client_word server_end client_end (across (hops_of config turns)) }
+    // What an end gives out in a turn was sent by its layer in that turn, at its moment.
+    ensures at_once { (config : Config) (events : List Event) (turns : List Turn) → RecordOf config events turns → Legal turns → TakenAtOnce (hops_of config turns) turns }
 {}

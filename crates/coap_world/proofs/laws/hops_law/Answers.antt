@@ -1,0 +1,22 @@
+use Rattle.coap_world.specs.Events.{client_end, server_end}
+use Rattle.coap_world.specs.Hops.{hops_of}
+use Rattle.coap_world.specs.Record.{entries_of}
+use Rattle.coap_world.proofs.Across.{channel_across}
+use Rattle.coap_world.proofs.HopsAre.{near_is, far_is}
+use Rattle.coap_world.proofs.Joined as joined
+use Rattle.coap_world.proofs.laws.hops_law.Goals as goal
+
+pub returns-clause-near : goal.returns-clause-near
+returns-clause-near c config turns = near_is config (entries_of turns)
+
+pub returns-clause-far : goal.returns-clause-far
+returns-clause-far c config turns = far_is config (entries_of turns)
+
+pub returns-clause-channel : goal.returns-clause-channel
+returns-clause-channel c config events turns made legal = joined.channel config events turns made legal
+
+pub returns-clause-back : goal.returns-clause-back
+returns-clause-back c config events turns made legal = channel_across config.client_word config.server_word client_end server_end (hops_of config turns) (joined.channel config events turns made legal)
+
+pub returns-clause-at_once : goal.returns-clause-at_once
+returns-clause-at_once c config events turns made legal = (joined.run config events turns made legal).sent
