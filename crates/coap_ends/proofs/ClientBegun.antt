@@ -9,6 +9,7 @@ use Rattle.coap_codec.specs.Writing.{message_bytes}
 use Rattle.coap_layer.specs.Trace as L
 use Rattle.coap_layer.specs.Trace.{with_head}
 use Rattle.coap_layer.specs.Words.{Open, begun, begun_in, open_of, sent_by}
+use Rattle.coap_layer.specs.Rows.{IsSpelled}
 use Rattle.coap_layer.specs.State as S
 use Rattle.coap_layer.specs.Steps.{Asked, Steps, entries, left_after}
 use Rattle.coap_exchange.specs.declared.asker.AskRefusal.{AskRefusal}
@@ -36,6 +37,7 @@ pub record Asks (con : Open) (a : Asked) : Type 0 where
   pub call : a.call ≡ L.Confirm con.to content word
   pub answer : a.answer ≡ L.Sent con.id
   pub bytes : con.bytes ≡ message_bytes (with_head Con con.id content)
+  pub spelled : IsSpelled content
 
 open_parts : (con : Open) (at : ℕ) (to : Endpoint) (content : L.Content) (word : ℕ) (o : Option ℕ) → open_of at to content word o ≡ Some con
     → (to ≡ con.to) × (o ≡ Some con.id) × (con.bytes ≡ message_bytes (with_head Con con.id content))
@@ -66,32 +68,36 @@ sent_id (L.Copied to n) id h = absurd (cc h)
 sent_id (L.Expired to n) id h = absurd (cc h)
 sent_id (L.Gives p) id h = absurd (cc h)
 
-asks_by : (con : Open) (a : Asked) (at : ℕ) (call : L.Call) → a.call ≡ call → begun_in at call a.answer ≡ Some con → Asks con a
-asks_by con a at (L.Confirm to content word) is h =
+asks_by : (con : Open) (a : Asked) (at : ℕ) (call : L.Call) → a.call ≡ call → ((to : Endpoint) (content : L.Content) (word : ℕ) → call ≡ L.Confirm to content word → IsSpelled content)
+    → begun_in at call a.answer ≡ Some con → Asks con a
+asks_by con a at (L.Confirm to content word) is may h =
     let k = open_parts con at to content word (sent_by a.answer) h in
-    record { content = content; word = word; call = is ∙ ap (λ e. L.Confirm e content word) k.0; answer = sent_id a.answer con.id k.1; bytes = k.2 }
-asks_by con a at (L.Receive from bytes) is h = absurd (cc h)
-asks_by con a at (L.Reply to id bytes) is h = absurd (cc h)
-asks_by con a at (L.Plain to content) is h = absurd (cc h)
-asks_by con a at (L.Settle to id) is h = absurd (cc h)
-asks_by con a at L.Ticks is h = absurd (cc h)
-asks_by con a at L.Take is h = absurd (cc h)
-asks_by con a at (L.Room to) is h = absurd (cc h)
-asks_by con a at L.AsksFree is h = absurd (cc h)
-asks_by con a at L.Pass is h = absurd (cc h)
+    record { content = content; word = word; call = is ∙ ap (λ e. L.Confirm e content word) k.0; answer = sent_id a.answer con.id k.1; bytes = k.2; spelled = may to content word refl }
+asks_by con a at (L.Receive from bytes) is may h = absurd (cc h)
+asks_by con a at (L.Reply to id bytes) is may h = absurd (cc h)
+asks_by con a at (L.Plain to content) is may h = absurd (cc h)
+asks_by con a at (L.Settle to id) is may h = absurd (cc h)
+asks_by con a at L.Ticks is may h = absurd (cc h)
+asks_by con a at L.Take is may h = absurd (cc h)
+asks_by con a at (L.Room to) is may h = absurd (cc h)
+asks_by con a at L.AsksFree is may h = absurd (cc h)
+asks_by con a at L.Pass is may h = absurd (cc h)
 
 -- the steps' states are those that the calls leave
 left_is : (old new : S.State) (calls : List Asked) → Steps old calls new → new ≡ left_after old calls
 left_is old new [] h = h
 left_is old new (a ∷ earlier) h = h.2.new_is ∙ ap (λ s. S.forgotten (S.after s (S.made s a.now a.call))) (left_is old h.0 earlier h.1)
 
+pub asks_at : (con : Open) (old new : S.State) (a : Asked) (earlier : List Asked) → Steps old (a ∷ earlier) new → begun (S.made (left_after old earlier) a.now a.call) ≡ Some con → Asks con a
+asks_at con old new a earlier h e =
+    let s : S.State = left_after old earlier in
+    let right : a.answer ≡ S.answer_of s (S.moment s a.now a.call) a.call = subst (λ w. a.answer ≡ S.answer_of w (S.moment w a.now a.call) a.call) (left_is old h.0 earlier h.1) h.2.right in
+    asks_by con a (S.moment s a.now a.call) a.call refl (λ to content word e. subst (S.May h.0) e h.2.may) (ap (begun_in (S.moment s a.now a.call) a.call) right ∙ e)
+
 pub asked_for : (con : Open) (old new : S.State) (calls : List Asked) → Steps old calls new → Ever (λ b. begun b ≡ Some con) (entries old calls) → Ever (Asks con) calls
 asked_for con old new [] h e = e
 asked_for con old new (a ∷ earlier) h (inr e) = inr (asked_for con old h.0 earlier h.1 e)
-asked_for con old new (a ∷ earlier) h (inl e) =
-    let s : S.State = left_after old earlier in
-    let right : a.answer ≡ S.answer_of s (S.moment s a.now a.call) a.call = subst (λ w. a.answer ≡ S.answer_of w (S.moment w a.now a.call) a.call) (left_is old h.0 earlier h.1) h.2.right in
-    inl (asks_by con a (S.moment s a.now a.call) a.call refl (ap (begun_in (S.moment s a.now a.call) a.call) right ∙ e))
+asked_for con old new (a ∷ earlier) h (inl e) = inl (asks_at con old new a earlier h e)
 
 -- an exchange that begins it
 pub record Begins (server : Endpoint) (con : Open) (c : E.Call) : Type 0 where
@@ -103,6 +109,7 @@ pub record Begins (server : Endpoint) (con : Open) (c : E.Call) : Type 0 where
   pub is : c ≡ E.Ask now request word below (Ok token)
   pub to : con.to ≡ server
   pub bytes : con.bytes ≡ message_bytes (with_head Con con.id (Q.content_of token request))
+  pub spelled : IsSpelled (Q.content_of token request)
 
 one_of : (con : Open) (a : Asked) → Ever (Asks con) (a ∷ []) → Asks con a
 one_of con a (inl h) = h
@@ -147,6 +154,7 @@ module _ (server : Endpoint) (word : ℕ) where
         is = ap (λ z. E.Ask now r w below z) ok;
         to = sym to_is ∙ at;
         bytes = h.bytes ∙ ap (λ k. message_bytes (with_head Con con.id k)) (sym content_is);
+        spelled = subst IsSpelled (sym content_is) h.spelled;
       }
 
   begins_here : (con : Open) (t : List E.Call) (c : E.Call) → P.IsRight (own t) c → Ever (Asks con) (P.lower (own t) c) → Begins server con c
@@ -190,10 +198,11 @@ module _ (server : Endpoint) (con : Open) where
         sent = inl (ap (option_map (λ p. record { operation = p; token = token })) is);
         to = h.to;
         bytes = h.bytes ∙ (ap (λ k. message_bytes (with_head Con con.id (Q.content_of k h.request))) (sym k_is) ∙ ap (λ r. message_bytes (with_head Con con.id (Q.content_of token r))) (sym r_is));
+        spelled = subst (λ k. IsSpelled (Q.content_of k (message_of op.request))) (sym k_is) (subst (λ r. IsSpelled (Q.content_of h.token r)) (sym r_is) h.spelled);
       }
 
   later : (c : Call) (t : List Call) → IsRequestOf server con t → IsRequestOf server con (c ∷ t)
-  later c t k = record { request = k.request; sent = inr k.sent; to = k.to; bytes = k.bytes }
+  later c t k = record { request = k.request; sent = inr k.sent; to = k.to; bytes = k.bytes; spelled = k.spelled }
 
   call_of : (t : List Call) (c : Call) → Ever (Begins server con) (lower (own_of t) c) → IsRequestOf server con (c ∷ t)
   call_of t (Calls now r answer) h = absurd h

@@ -30,7 +30,7 @@ abbrev pub Counts : ℕ → List Operation → ℕ → Type 0
 Counts low [] high = low ≡ high
 Counts low (op ∷ ops) high = (op.number ≡ low) × Counts (low + 1) ops high
 
-counts_with : (low : ℕ) (ops : List Operation) (high : ℕ) (op : Operation) → op.number ≡ high → Counts low ops high → Counts low (ops ++ op ∷ []) (high + 1)
+pub counts_with : (low : ℕ) (ops : List Operation) (high : ℕ) (op : Operation) → op.number ≡ high → Counts low ops high → Counts low (ops ++ op ∷ []) (high + 1)
 counts_with low [] high op is h = (is ∙ sym h, ap (λ n. n + 1) h)
 counts_with low (x ∷ ops) high op is h = (h.0, counts_with (low + 1) ops high op is h.1)
 
@@ -108,7 +108,7 @@ silent : (P Q : ℕ → Type 0) (running : Option Operation) (waiting : List Ope
 silent P Q running waiting taken f k = finished P Q running waiting taken k None (λ x h. absurd (cc h)) (λ n q. inl (f n q))
 
 -- a call is taken under the next number
-taking_number : (s : Own) (r : Request) (n : ℕ) → Taken n ≡ taking s r → n ≡ s.taken
+pub taking_number : (s : Own) (r : Request) (n : ℕ) → Taken n ≡ taking s r → n ≡ s.taken
 taking_number s r n h = by _ _ _ _ h
   where
     by : (a b c d : Bool) → Taken n ≡ cond a QueueFull (cond b BodyTooLarge (cond c BadPath (cond d CallsSpent (Taken s.taken)))) → n ≡ s.taken
@@ -153,7 +153,7 @@ pub record First (running : Option Operation) (waiting : List Operation) (w : Tu
   pub none : running ≡ None
   pub idle : is_idle w ≡ true
 
-first_of : (w : Turn) (b : Bool) (running : Option Operation) (waiting : List Operation) (op : Operation) → is_idle w ≡ b → starting_if b running waiting ≡ Some op → First running waiting w op
+pub first_of : (w : Turn) (b : Bool) (running : Option Operation) (waiting : List Operation) (op : Operation) → is_idle w ≡ b → starting_if b running waiting ≡ Some op → First running waiting w op
 first_of w true None [] op i h = absurd (cc h)
 first_of w true None (x ∷ xs) op i h = record { rest = xs; is = ap (λ y. y ∷ xs) (let e : x ≡ op = cc h in e); none = refl; idle = i }
 first_of w true (Some x) waiting op i h = absurd (cc h)

@@ -9,3 +9,9 @@ pub mod ServerHolds
 pub mod ServerOnce
 pub mod ServerReplies
 pub mod ServerRepliesSo
+pub mod ClientNumbers
+pub mod ServerHanding
+pub mod ClientNons
+pub mod ClientCons
+pub mod ServerCounts
+pub mod ClientHears

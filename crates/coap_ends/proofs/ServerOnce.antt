@@ -16,7 +16,7 @@ use Rattle.coap_ends.specs.ServerSteps.{lower, answering, responding}
 use Rattle.coap_ends.specs.ServerLaw.{own_of, lower_of}
 use Rattle.coap_ends.specs.ServerFollows.{Serving, serving, asked_of, times_handed, times_served, ServedOnce}
 
-abbrev H : Asked → List E.Call → ℕ
+abbrev pub H : Asked → List E.Call → ℕ
 H a calls = F.times_handed a calls
 
 abbrev A : Asked → List E.Call → ℕ
@@ -63,7 +63,7 @@ joined [] x rest = refl
 joined (y ∷ xs) x rest = ap (λ l. y ∷ l) (joined xs x rest)
 
 module _ (limit szx : ℕ) where
-  handed_is : (a : Asked) (t : List Call) → H a (lower_of limit szx t) ≡ times_handed limit szx a t
+  pub handed_is : (a : Asked) (t : List Call) → H a (lower_of limit szx t) ≡ times_handed limit szx a t
   handed_is a [] = refl
   handed_is a (Sets now path format body answer left ∷ t) = let k = handed_is a t in omega (arith, k)
   handed_is a (Removes now path answer left ∷ t) = let k = handed_is a t in omega (arith, k)

@@ -39,11 +39,11 @@ module _ (word : ℕ) where
   one_back : (c : E.Call) (calls : List E.Call) → Left (c ∷ calls) → Left calls
   one_back c calls left = let k = steps_split (L.start word) left.0 (P.lower (W.own_of calls) c) (W.lower_of calls) left.1 in (k.0, k.1)
 
-  steps_back : (xs calls : List E.Call) → Left (xs ++ calls) → Left calls
+  pub steps_back : (xs calls : List E.Call) → Left (xs ++ calls) → Left calls
   steps_back [] calls left = left
   steps_back (x ∷ xs) calls left = steps_back xs calls (one_back x (xs ++ calls) left)
 
-  law_back : (xs calls : List E.Call) → W.AnswererLaw (xs ++ calls) → W.AnswererLaw calls
+  pub law_back : (xs calls : List E.Call) → W.AnswererLaw (xs ++ calls) → W.AnswererLaw calls
   law_back [] calls law = law
   law_back (x ∷ xs) calls law = law_back xs calls law.1
 

@@ -10,3 +10,6 @@ pub mod ServerSteps
 pub mod ServerLaw
 pub mod ServerFollows
 pub mod ClientBegins
+pub mod ClientSendings
+pub mod ServerHands
+pub mod ClientHears

@@ -6,9 +6,12 @@ ghost use Rattle.coap_layer.specs.Follows.{CopiesInTime, HandedUpOnce};
 ghost use Rattle.coap_layer.specs.Rows.{LayerLaw};
 ghost use Rattle.coap_ends.specs.ClientBegins.{ConsAreRequests};
 ghost use Rattle.coap_ends.specs.ClientFollows.{AreSent, ReportsAreAnswers, AreFromServer, ReportedOnce};
+ghost use Rattle.coap_ends.specs.ClientHears.{AreHeard};
 ghost use Rattle.coap_ends.specs.ClientLaw.{ClientLaw, layer_of};
+ghost use Rattle.coap_ends.specs.ClientSendings.{OneSending, NoNons, OneCon};
 ghost use Rattle.coap_ends.specs.ClientTrace.{Call};
 ghost use Rattle.coap_ends.specs.ServerFollows.{ServedOnce, AllServed, HoldsChanges};
+ghost use Rattle.coap_ends.specs.ServerHands.{AreHandedUp};
 ghost use Rattle.coap_ends.specs.ServerLaw as servers;
 ghost use Rattle.coap_ends.specs.ServerLaw.{ServerLaw};
 ghost use Rattle.coap_ends.specs.ServerTrace as server;
@@ -21,13 +24,21 @@ pub fn client_law()
     ensures copies { (server : Endpoint) (szx word : ℕ) (t : List Call) → ClientLaw server szx word t → CopiesInTime (layer_of server word t) }
     // It begins no other CON than the requests of its calls, each with its token, to the server (RFC 7252, section 5.2).
     ensures begins { (server : Endpoint) (szx word : ℕ) (t : List Call) → ClientLaw server szx word t → ConsAreRequests server word t }
+    // No two have one token (RFC 7252, section 5.3.1).
+    ensures one_con { (server : Endpoint) (szx word : ℕ) (t : List Call) → ClientLaw server szx word t → OneCon (layer_of server word t) }
+    // .. and no NON (RFC 7252, section 4.3).
+    ensures nons { (server : Endpoint) (szx word : ℕ) (t : List Call) → ClientLaw server szx word t → NoNons (layer_of server word t) }
     // It replies at once: with a Reset, or the acknowledgement of a CON (RFC 7252, section 4.2).
     ensures replies { (server : Endpoint) (szx word : ℕ) (t : List Call) → ClientLaw server szx word t → Always RepliesSo (layer_of server word t) }
     // What is sent was asked for before, and no request has the token of another (RFC 7252, section 5.3.1).
     ensures sent { (server : Endpoint) (szx word : ℕ) (t : List Call) → ClientLaw server szx word t → AreSent t }
+    // A call has one request, and no other has its token (RFC 7252, section 5.3.1).
+    ensures sending { (server : Endpoint) (szx word : ℕ) (t : List Call) → ClientLaw server szx word t → OneSending t }
     // A report of a response is of the answer to a request of that call (RFC 7252, section 5.3.2).
     ensures answers { (server : Endpoint) (szx word : ℕ) (t : List Call) → ClientLaw server szx word t → ReportsAreAnswers t }
     ensures from_server { (server : Endpoint) (szx word : ℕ) (t : List Call) → ClientLaw server szx word t → AreFromServer server t }
+    // .. and its message layer handed it up.
+    ensures heard { (server : Endpoint) (szx word : ℕ) (t : List Call) → ClientLaw server szx word t → AreHeard server word t }
     // A call is reported at most once.
     ensures once { (server : Endpoint) (szx word : ℕ) (t : List Call) → ClientLaw server szx word t → ReportedOnce t }
 {}
@@ -41,6 +52,8 @@ pub fn server_law()
     ensures replies { (limit szx word : ℕ) (t : List server.Call) → ServerLaw limit szx word t → Always RepliesSo (servers.layer_of limit szx word t) }
     // A message is handed up once in EXCHANGE_LIFETIME (RFC 7252, section 4.5) ..
     ensures once { (limit szx word : ℕ) (t : List server.Call) → ServerLaw limit szx word t → HandedUpOnce (servers.layer_of limit szx word t) }
+    // What is served was handed up, and asks what the datagram says (section 5.2).
+    ensures handed { (limit szx word : ℕ) (t : List server.Call) → ServerLaw limit szx word t → AreHandedUp limit szx word t }
     // .. and a request that is handed up is served at most once (section 5.2).
     ensures served { (limit szx word : ℕ) (t : List server.Call) → ServerLaw limit szx word t → ServedOnce limit szx t }
     // It is served as the table of the methods says, and what is applied is applied whole (section 5.8).

@@ -16,13 +16,13 @@ use Rattle.coap_exchange.specs.AnswererFollows.{hands, responds, hits, same_aske
 use Rattle.coap_exchange.proofs.LayerFacts.{same_place_self}
 use Rattle.coap_exchange.proofs.TokenLemmas.{same_token_self}
 
-same_asked_self : (a : Asked) → same_asked a a ≡ true
+pub same_asked_self : (a : Asked) → same_asked a a ≡ true
 same_asked_self a = all _ _ _ _ (same_place_self a.from) ((unsigned_Decides (kind_number a.kind) (kind_number a.kind)).1 refl) ((unsigned_Decides a.id.0 a.id.0).1 refl) (same_token_self a.token)
   where
     all : (p q r s : Bool) → p ≡ true → q ≡ true → r ≡ true → s ≡ true → (p && (q && (r && s))) ≡ true
     all p q r s hp hq hr hs = cc (hp, hq, hr, hs)
 
-self_hits : (a : Asked) → hits (same_asked a) (Some a) ≡ 1
+pub self_hits : (a : Asked) → hits (same_asked a) (Some a) ≡ 1
 self_hits a = ap (λ b. cond b 1 0) (same_asked_self a)
 
 -- the deferred requests of this kind

@@ -21,6 +21,8 @@ pub mod AnswererExactly
 pub mod OptionFacts
 pub mod AskerCode
 pub mod AskCode
+pub mod AnswererCode
+pub mod AnswererTicks
 pub mod AskableLemmas
 pub mod ListedLemmas
 pub mod AskerWitness

@@ -14,5 +14,7 @@ pub mod AnswererLaw
 pub mod AnswererFollows
 pub mod AnswererExact
 pub mod AskerShown
+pub mod AnswererShown
+pub mod ShortAnswers
 pub mod Listed
 pub mod Outstanding

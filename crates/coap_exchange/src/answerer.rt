@@ -1,4 +1,30 @@
-use coap_types::{Endpoint, Id, Kind, Token};
+ghost use Rattle.std.specs.Prelude.{◌≡◌, ℕ, max, Bool, true, None, Some, List, [], ◌∷◌, IsSome, IsOk, IfOk, OnOk, OnErr};
+ghost use Rattle.coap_types.specs.declared.message.Kind.TheVariants.{Con};
+ghost use Rattle.coap_layer.specs.State.{copies, made};
+ghost use Rattle.coap_layer.specs.Trace as below;
+ghost use Rattle.coap_layer.specs.Ups.{IsQuiet};
+ghost use Rattle.coap_exchange.specs.declared.answerer.Asked.{Asked as AskedSpec};
+ghost use Rattle.coap_exchange.specs.declared.answerer.Due.TheVariants as dues;
+ghost use Rattle.coap_exchange.specs.AnswererSteps.{ready_at};
+ghost use Rattle.coap_exchange.specs.AnswererLaw.{Led, Step, fresh_state};
+ghost use Rattle.coap_exchange.specs.AnswererShown.{MayAnswer, MayRespond, IsAnswer};
+ghost use Rattle.coap_exchange.specs.AnswererTrace.{Call, Incoming, Answers, Defers, Ticks, Responds, Take};
+
+use crate::deferrals::Deferrals;
+use crate::empty::ack;
+use crate::listed::{Listed, enlist, put_back, settle_down};
+use crate::replies::{
+    after_arrival, asked_in, copied, copied_end, handed_up, reject, reset_by, send,
+};
+use crate::separate::{Deferred, Separate};
+use crate::waiting::{
+    confirm, due_of, failed_by, has_observe, is_sendable, make_room, ready_if, unless_failed,
+};
+use coap_codec::View;
+use coap_layer::{Datagram, Layer};
+use coap_types::{Code, Endpoint, Id, Kind, Moment, Opt, Token};
+use std::alloc::{AllocError, Allocator};
+use std::marker::Model;
 
 /// A request that was handed up, as its response needs it (RFC 7252, section 5.2).
 #[derive(Drop)]
@@ -35,4 +61,254 @@ pub struct Ended {
     pub token: Token,
     /// Whether it carried Observe (RFC 7641, section 3.2).
     pub observe: bool,
+}
+
+/// A response (RFC 7252, section 5.2): at most 1,152 bytes as a message with its request's token.
+#[derive(Drop)]
+pub struct Response<'a> {
+    /// The code, of class 2 to 5.
+    pub code: Code,
+    /// The options, in the order of their numbers.
+    pub options: &'a [Opt<'a>],
+    /// The payload; empty where there is none.
+    pub payload: &'a [u8],
+}
+
+impl<'a> Model for Response<'a> {
+    ghost use Rattle.coap_types.specs.CoapOption.{options_of};
+    ghost use Rattle.coap_exchange.specs.AnswererTrace.{Response};
+
+    ghost Value = { Response };
+
+    ghost view = { λ r. record { code = r.code.0; options = options_of r.options.now; payload = r.payload.now } };
+}
+
+/// The server's side of the exchanges with its clients (RFC 7252, section 5).
+///
+/// After each call take `next_out` until None; a moment before the last one counts as the last.
+#[derive(Drop)]
+pub struct Answerer<A: Allocator + Copy> {
+    layer: Layer<A>,
+    pending: Option<Asked>,
+    deferred: Deferrals,
+    separate: Vec<Listed<Separate>, A>,
+    ended: Option<Ended>,
+    // The pending request may be answered.
+    answerable: bool,
+    // There is room for a separate response.
+    room: bool,
+    // What the last input found.
+    pending_before: Option<Asked>,
+    deferred_before: Deferrals,
+    ended_before: Option<Ended>,
+}
+
+impl<A: Allocator + Copy> Model for Answerer<A> {
+    ghost use Rattle.std.specs.Vec.{vec_len, vec_capacity};
+    ghost use Rattle.coap_exchange.specs.AnswererShown.{Shown, state_of, before_of, IsAnswerable, HasPlace};
+    ghost use Rattle.coap_exchange.specs.Listed.{listed, listed_before};
+
+    ghost Value = { Shown };
+
+    ghost view = { λ a. record {
+      state = state_of a.layer.state a.pending a.deferred (listed a.separate.items) a.ended;
+      before = before_of a.layer.before a.pending_before a.deferred_before (listed_before a.separate.items) a.ended_before;
+      answerable = a.answerable;
+      room = a.room;
+    } };
+
+    ghost invariant = { λ a. IsAnswerable a.answerable a.layer a.pending
+        × HasPlace a.room a.layer (vec_len a.separate) (vec_capacity a.separate) };
+}
+
+impl<A: Allocator + Copy> Answerer<A> {
+    /// A server's side to which nothing has happened. The word picks its first Message ID.
+    pub fn new(alloc: A, word: u64) -> Answerer<A>
+        ensures led { Led word [] result.state }
+        ensures start { result.state ≡ fresh_state word }
+        ensures before { result.before ≡ None }
+    {
+        Answerer {
+            layer: Layer::new(alloc, word),
+            pending: None,
+            deferred: Deferrals::new(),
+            separate: Vec::new(alloc),
+            ended: None,
+            answerable: false,
+            room: false,
+            pending_before: None,
+            deferred_before: Deferrals::new(),
+            ended_before: None,
+        }
+    }
+
+    /// The last moment that counted.
+    pub fn clock(&self) -> Moment
+        ensures { result.0 ≡ self.now.state.own.clock }
+    {
+        self.layer.clock()
+    }
+
+    /// The separate response that a Reset or a failure ended in the last `incoming` or `tick` (RFC
+    /// 7252, section 5.2.2).
+    pub fn ended(&self) -> Option<Ended>
+        ensures { result ≡ self.now.state.own.ended }
+    {
+        copied_end(&self.ended)
+    }
+
+    /// Takes a datagram that arrived. A request is handed up, but for a Non-confirmable one for
+    /// which no Message ID is free; a response is rejected; an acknowledgement and a Reset end the
+    /// separate response that they are to (RFC 7252, sections 4.2, 4.3 and 5.2).
+    pub fn incoming<'d>(
+        &mut self,
+        now: Moment,
+        from: Endpoint,
+        bytes: &'d [u8],
+    ) -> Result<Option<(Asked, View<'d>)>, AllocError>
+        ensures step { IfOk result (λ answer. (up : below.Answer) × Step self.old.state (Incoming now.0 from bytes.now up answer) self.new.state) }
+        ensures led { (word : ℕ) (t : List Call) → Led word t self.old.state → IfOk result (λ answer. (up : below.Answer) × Led word (Incoming now.0 from bytes.now up answer ∷ t) self.new.state) }
+        ensures answerable { OnOk result (self.new.answerable ≡ true) }
+        ensures before { OnOk result (self.new.before ≡ Some self.old.state) }
+        ensures err { OnErr result (self.new ≡ self.old) }
+        // Where the layer sends nothing and hands nothing up, it takes no memory.
+        ensures quiet { IsQuiet (made self.old.state.layer now.0 (below.Receive from bytes.now)) → IsOk result }
+    {
+        let up = self.layer.receive(now, from, bytes)?;
+        reject(&mut self.layer, from, &up);
+        settle_down(&mut self.separate);
+        self.pending_before = self.pending.take();
+        self.deferred_before = self.deferred.copy();
+        self.ended_before = self.ended.take();
+        self.ended = reset_by(from, &up, &self.separate);
+        after_arrival(from, &up, &mut self.separate);
+        let asked = asked_in(from, &up);
+        self.pending = copied(&asked);
+        self.answerable = true;
+        self.room = false;
+        Ok(handed_up(asked, up))
+    }
+
+    /// Sends the response to the request that the last input, an `incoming`, handed up: in the
+    /// acknowledgement of a Confirmable request, and to a Non-confirmable one as such (RFC 7252,
+    /// sections 5.2.1 and 5.2.3). It takes no memory.
+    pub fn answer(&mut self, asked: &Asked, response: &Response<'_>)
+        requires may { MayAnswer self.old asked.now }
+        requires response { IsAnswer asked.now response.now }
+        ensures step { (sent : below.Answer) × Step self.old.state (Answers asked.now response.now sent) self.new.state }
+        ensures led { (word : ℕ) (t : List Call) → Led word t self.old.state → (sent : below.Answer) × Led word (Answers asked.now response.now sent ∷ t) self.new.state }
+        ensures before { self.new.before ≡ self.old.before }
+    {
+        send(&mut self.layer, asked, response);
+        self.pending = None;
+        self.room = false;
+    }
+
+    /// Acknowledges the Confirmable request that the last input, an `incoming`, handed up, and
+    /// keeps it to be responded to when so many milliseconds have passed (RFC 7252, section 5.2.2);
+    /// false, and nothing is sent, where 16 requests are deferred. It takes no memory.
+    pub fn defer(&mut self, now: Moment, asked: &Asked, delay_ms: u64) -> bool
+        requires may { MayAnswer self.old asked.now }
+        requires con { asked.now.kind ≡ Con }
+        ensures step { Step self.old.state (Defers now.0 asked.now delay_ms result) self.new.state }
+        ensures led { (word : ℕ) (t : List Call) → Led word t self.old.state → Led word (Defers now.0 asked.now delay_ms result ∷ t) self.new.state }
+        ensures answerable { self.new.answerable ≡ true }
+        ensures before { self.new.before ≡ self.old.before }
+    {
+        self.layer.pass(now);
+        let deferred = self.deferred.push(Deferred {
+            asked: asked.copy(),
+            at: self.layer.clock().0,
+            delay: delay_ms,
+        });
+        if deferred {
+            self.layer.reply(asked.from, asked.id, &ack(asked.id));
+            self.pending = None;
+            self.room = false;
+        }
+        deferred
+    }
+
+    /// Does the first that is due: the failure of a separate response, a retransmission, the
+    /// response to a deferred request whose delay has passed, to whose endpoint no Confirmable
+    /// message is outstanding, and for which a Message ID is free (RFC 7252, sections 4.2, 4.7 and
+    /// 5.2.2). `respond` is to be called for that, at the same moment, and takes no memory then.
+    pub fn tick(&mut self, now: Moment) -> Result<Due, AllocError>
+        ensures step { IfOk result (λ due. (done : below.Answer) × (room : Bool) × Step self.old.state (Ticks now.0 done room due) self.new.state) }
+        ensures led { (word : ℕ) (t : List Call) → Led word t self.old.state → IfOk result (λ due. (done : below.Answer) × (room : Bool) × Led word (Ticks now.0 done room due ∷ t) self.new.state) }
+        ensures ready { IfOk result (λ due. (a : AskedSpec) → due ≡ dues.Ready a → MayRespond self.new now.0 a) }
+        ensures before { OnOk result (self.new.before ≡ Some self.old.state) }
+        ensures err { OnErr result (self.new ≡ self.old) }
+        // Where neither a retransmission nor a deferred request is due, it takes no memory.
+        ensures quiet { copies (max self.old.state.own.clock now.0) self.old.state.layer.open_cons ≡ [] → ready_at self.old.state.own now.0 ≡ None → IsOk result }
+    {
+        let at = self.layer.clock().0.max(now.0);
+        let ready = self.deferred.ready(at, &self.separate);
+        make_room(&mut self.layer, &mut self.separate, &ready)?;
+        let tick = self.layer.tick(now)?;
+        // Nothing fails from here on.
+        let ready = ready_if(tick, ready);
+        let room = is_sendable(&mut self.layer, now, &ready);
+        settle_down(&mut self.separate);
+        self.pending_before = self.pending.take();
+        self.deferred_before = self.deferred.copy();
+        self.ended_before = self.ended.take();
+        self.ended = failed_by(tick, &self.separate);
+        unless_failed(tick, &mut self.separate);
+        self.answerable = false;
+        self.room = room;
+        Ok(due_of(tick, ready, room))
+    }
+
+    /// Sends the separate response to the deferred request which the last call, a `tick` at this
+    /// moment, said to be ready, in a Confirmable message, and answers its Message ID (RFC 7252,
+    /// section 5.2.2). The word picks the initial timeout. It takes no memory.
+    pub fn respond(&mut self, now: Moment, asked: &Asked, response: &Response<'_>, word: u64) -> Id
+        requires may { MayRespond self.old now.0 asked.now }
+        requires response { IsAnswer asked.now response.now }
+        ensures step { Step self.old.state (Responds now.0 asked.now response.now word result.0) self.new.state }
+        ensures led { (begin : ℕ) (t : List Call) → Led begin t self.old.state → Led begin (Responds now.0 asked.now response.now word result.0 ∷ t) self.new.state }
+        ensures before { self.new.before ≡ self.old.before }
+    {
+        let id = confirm(&mut self.layer, now, asked, response, word);
+        self.deferred
+            .take_ready(self.layer.clock().0, &self.separate);
+        let separate = Separate {
+            to: asked.from,
+            id,
+            token: asked.token.copy(),
+            observe: has_observe(response.options),
+        };
+        enlist(&mut self.separate, separate);
+        self.pending = None;
+        self.room = false;
+        id
+    }
+
+    /// The datagram that is to be sent next. After it, nothing can be taken back. It takes no
+    /// memory.
+    pub fn next_out(&mut self) -> Option<Datagram<A>>
+        ensures step { Step self.old.state (Take result) self.new.state }
+        ensures led { (word : ℕ) (t : List Call) → Led word t self.old.state → Led word (Take result ∷ t) self.new.state }
+        ensures answerable { self.new.answerable ≡ self.old.answerable }
+        ensures before { self.new.before ≡ None }
+    {
+        self.layer.next_out()
+    }
+
+    /// Takes back the last `incoming` or `tick` that was not refused memory, and every call since.
+    /// No request may be answered or deferred then. It takes no memory.
+    pub fn undo(&mut self)
+        requires { IsSome self.old.before }
+        ensures back { self.old.before ≡ Some self.new.state }
+        ensures spent { self.new.before ≡ None }
+    {
+        self.layer.undo();
+        put_back(&mut self.separate);
+        self.pending = copied(&self.pending_before);
+        self.deferred = self.deferred_before.copy();
+        self.ended = copied_end(&self.ended_before);
+        self.answerable = false;
+        self.room = false;
+    }
 }

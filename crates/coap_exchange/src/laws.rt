@@ -6,6 +6,7 @@ ghost use Rattle.coap_exchange.specs.AskerLaw.{State, Step, Led, ExchangeLaw, fr
 ghost use Rattle.coap_exchange.specs.AskerExact.{IsExact};
 ghost use Rattle.coap_exchange.specs.AskerFollows.{AreExchanges, AreTokens, EndInTime, AreFromServer};
 ghost use Rattle.coap_exchange.specs.AskerShown.{IsAskableWhenShort};
+ghost use Rattle.coap_exchange.specs.ShortAnswers.{IsAnswerWhenShort};
 ghost use Rattle.coap_exchange.specs.AnswererTrace as trace;
 ghost use Rattle.coap_exchange.specs.AnswererLaw as answerer;
 ghost use Rattle.coap_exchange.specs.AnswererLaw.{ResponseLaw};
@@ -58,4 +59,10 @@ pub fn answerer_law()
 /// enough (RFC 7252, section 4.6).
 pub fn askable_law()
     ensures { IsAskableWhenShort }
+{}
+
+/// A response may be given whose code is of class 2 to 5, whose options ascend and are short, and
+/// that is short enough (RFC 7252, section 4.6).
+pub fn answerable_law()
+    ensures { IsAnswerWhenShort }
 {}

@@ -4,18 +4,21 @@
 mod answerer;
 mod arrivals;
 mod asker;
+mod deferrals;
 mod empty;
 mod held;
 mod kept_tokens;
 mod laws;
 mod listed;
 mod matching;
+mod replies;
 mod separate;
 mod token_source;
+mod waiting;
 
-pub use answerer::{Asked, Due, Ended};
+pub use answerer::{Answerer, Asked, Due, Ended, Response};
 pub use asker::{Ask, AskRefusal, Asker, Event, Turn};
-pub use laws::{answerer_law, askable_law, asker_law};
+pub use laws::{answerable_law, answerer_law, askable_law, asker_law};
 
 #[cfg(test)]
 mod tests;

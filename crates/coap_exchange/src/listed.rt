@@ -1,4 +1,4 @@
-ghost use Rattle.std.specs.Prelude.{◌≡◌, ◌≤◌, map, filter};
+ghost use Rattle.std.specs.Prelude.{◌≡◌, ◌≤◌, ◌<◌, ◌++◌, [], ◌∷◌, map, filter};
 ghost use Rattle.std.specs.Vec.{vec_len, vec_capacity};
 ghost use Rattle.coap_exchange.specs.Listed.{listed, listed_before, noted, reverted as reverted_lem};
 
@@ -77,4 +77,17 @@ pub(crate) fn put_back<T: Drop, A: Allocator + Copy>(list: &mut Vec<Listed<T>, A
     ensures capacity { vec_capacity list.new ≡ vec_capacity list.old }
 {
     revert_all(list);
+}
+
+/// Puts an entry at the end of the list, where there is room for it.
+pub(crate) fn enlist<T: Drop, A: Allocator + Copy>(list: &mut Vec<Listed<T>, A>, entry: T)
+    requires { vec_len list.old < vec_capacity list.old }
+    ensures now { listed list.new.items ≡ listed list.old.items ++ entry ∷ [] }
+    ensures before { listed_before list.new.items ≡ listed_before list.old.items }
+{
+    let _ = list.push(Listed {
+        entry,
+        now: true,
+        before: false,
+    });
 }

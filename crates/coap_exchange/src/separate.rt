@@ -1,14 +1,14 @@
 ghost use Rattle.std.specs.Prelude.{◌≡◌, ◌&&◌, not, map};
 ghost use Rattle.std.specs.Option.{option_map};
 ghost use Rattle.coap_layer.specs.Trace.{same_place};
-ghost use Rattle.coap_exchange.specs.AnswererSteps.{ended_as, first_ready, found, goes_to, is_ready, is_waited_for};
+ghost use Rattle.coap_exchange.specs.AnswererSteps.{ended_as, found, goes_to, is_ready, is_waited_for};
 ghost use Rattle.coap_exchange.specs.Listed.{listed};
 ghost use Rattle.coap_exchange.specs.Outstanding.{over};
 
 use crate::answerer::{Asked, Ended};
 use crate::arrivals::same;
 use crate::listed::Listed;
-use coap_types::{Endpoint, Id, Token};
+use coap_types::{Endpoint, Id, Kind, Token};
 
 /// A request whose response is deferred (RFC 7252, section 5.2.2).
 #[derive(Drop)]
@@ -44,6 +44,37 @@ impl Asked {
             kind: self.kind,
             id: self.id,
             token: self.token.copy(),
+        }
+    }
+}
+
+impl Default for Deferred {
+    fn default() -> Deferred {
+        Deferred {
+            asked: Asked {
+                from: Endpoint {
+                    ip: [0; 4],
+                    port: 0,
+                },
+                kind: Kind::Con,
+                id: Id(0),
+                token: Token::empty(),
+            },
+            at: 0,
+            delay: 0,
+        }
+    }
+}
+
+impl Deferred {
+    /// The same again.
+    pub(crate) fn copy(&self) -> Deferred
+        ensures { result ≡ self.now }
+    {
+        Deferred {
+            asked: self.asked.copy(),
+            at: self.at,
+            delay: self.delay,
         }
     }
 }
@@ -101,25 +132,9 @@ pub(crate) fn take_off(list: &mut [Listed<Separate>], to: Endpoint, id: Id)
 
 /// Whether the delay of a deferred request has passed, and its endpoint has no response that is not
 /// acknowledged.
-fn is_ready(deferred: &Deferred, at: u64, separate: &[Listed<Separate>]) -> bool
+pub(crate) fn is_ready(deferred: &Deferred, at: u64, separate: &[Listed<Separate>]) -> bool
     ensures { result ≡ is_ready at (listed separate.now) deferred.now }
 {
     at.saturating_sub(deferred.at) >= deferred.delay
         && !is_waited_for(separate, deferred.asked.from)
-}
-
-/// The first deferred request that is ready.
-pub(crate) fn first_ready(
-    list: &[Listed<Deferred>],
-    at: u64,
-    separate: &[Listed<Separate>],
-) -> Option<Asked>
-    ensures { result ≡ option_map (λ d. d.asked) (first_ready at (listed separate.now) (listed list.now)) }
-{
-    for k in list {
-        if k.now && is_ready(&k.entry, at, separate) {
-            return Some(k.entry.asked.copy());
-        }
-    }
-    None
 }

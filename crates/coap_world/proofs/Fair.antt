@@ -61,12 +61,12 @@ number_unique n x y (z ∷ t) (inr h) (inr k) = number_unique n x y t h k
 
 -- what a turn feeds is its call
 
-of_map : {A B : Type 0} (f : A → B) (P : B → Type 0) (xs : List A) → Ever P (map f xs) → Ever (λ x. P (f x)) xs
+pub of_map : {A B : Type 0} (f : A → B) (P : B → Type 0) (xs : List A) → Ever P (map f xs) → Ever (λ x. P (f x)) xs
 of_map f P [] h = h
 of_map f P (x ∷ xs) (inl h) = inl h
 of_map f P (x ∷ xs) (inr h) = inr (of_map f P xs h)
 
-none_in : {A : Type 0} (P : A → Type 0) (xs : List A) → ((x : A) → P x → ⊥) → Ever P xs → ⊥
+pub none_in : {A : Type 0} (P : A → Type 0) (xs : List A) → ((x : A) → P x → ⊥) → Ever P xs → ⊥
 none_in P (x ∷ xs) f (inl h) = f x h
 none_in P (x ∷ xs) f (inr h) = none_in P xs f h
 none_in P [] f h = h
@@ -126,7 +126,7 @@ client_call from bytes calls entries on h = first (of_map OfClient (FedToClient 
     first (inl k) = absurd (cc (k.5))
     first (inr k) = middle k
 
-one_call : {X : Type 0} (Is P : X → Type 0) (refused : Bool) (calls : List X) → IsOne Is refused calls → Ever P calls → (c : X) × Is c × P c
+pub one_call : {X : Type 0} (Is P : X → Type 0) (refused : Bool) (calls : List X) → IsOne Is refused calls → Ever P calls → (c : X) × Is c × P c
 one_call Is P true calls one h = absurd (subst (Ever P) one h)
 one_call Is P false calls one h = elim (subst (Ever P) one.2 h) [ inl p ↦ (one.0, one.1, p) | inr q ↦ absurd q ]
 
@@ -135,7 +135,7 @@ some_of T P [] all h = absurd h
 some_of T P (c ∷ calls) all (inl h) = (c, all.0, h)
 some_of T P (c ∷ calls) all (inr h) = some_of T P calls all.1 h
 
-tick_of : {X : Type 0} (IsTick : Bool → X → Type 0) (P : X → Type 0) (refused : Bool) (calls : List X) → AreTicks IsTick refused calls → Ever P calls → (c : X) × (b : Bool) × IsTick b c × P c
+pub tick_of : {X : Type 0} (IsTick : Bool → X → Type 0) (P : X → Type 0) (refused : Bool) (calls : List X) → AreTicks IsTick refused calls → Ever P calls → (c : X) × (b : Bool) × IsTick b c × P c
 tick_of IsTick P true calls ticks h = let k = some_of (IsTick true) P calls ticks h in (k.0, true, k.1, k.2)
 tick_of IsTick P false [] ticks h = absurd ticks
 tick_of IsTick P false (c ∷ earlier) ticks (inl h) = (c, false, ticks.0, h)

@@ -1,6 +1,12 @@
 pub mod Owned
 pub mod Fair
 pub mod HopsAre
+pub mod CameFrom
+pub mod ReadBack
+pub mod Called
+pub mod Whole
+pub mod Twice
+pub mod AtMostOnce
 pub mod Moments
 pub mod ClientMoments
 pub mod ServerMoments

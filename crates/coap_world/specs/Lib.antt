@@ -4,3 +4,4 @@ pub mod Legal
 pub mod Delivery
 pub mod Agrees
 pub mod Hops
+pub mod CameFrom

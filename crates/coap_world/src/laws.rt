@@ -2,7 +2,8 @@ ghost use Rattle.std.specs.Prelude.{◌≡◌, List};
 ghost use Rattle.coap_layer.specs.Channel.{ChannelLaw, near_of, far_of};
 ghost use Rattle.coap_ends.specs.ClientLaw as clients;
 ghost use Rattle.coap_ends.specs.ServerLaw as servers;
-ghost use Rattle.coap_world.specs.Agrees.{ChangesOwned};
+ghost use Rattle.coap_world.specs.Agrees.{AppliedWhole, AtMostOnce, ChangesOwned};
+ghost use Rattle.coap_world.specs.CameFrom.{CamesFrom};
 ghost use Rattle.coap_world.specs.Delivery.{AllFair};
 ghost use Rattle.coap_world.specs.Events.{client_end, server_end, Config, Event};
 ghost use Rattle.coap_world.specs.Hops.{hops_of, across, TakenAtOnce};
@@ -30,4 +31,14 @@ pub fn hops_law()
     ensures back { (config : Config) (events : List Event) (turns : List Turn) → RecordOf config events turns → Legal turns → ChannelLaw config.server_word config.client_word server_end client_end (across (hops_of config turns)) }
     // What an end gives out in a turn was sent by its layer in that turn, at its moment.
     ensures at_once { (config : Config) (events : List Event) (turns : List Turn) → RecordOf config events turns → Legal turns → TakenAtOnce (hops_of config turns) turns }
+{}
+
+/// Whose requests the server serves in a legal run.
+pub fn requests_law()
+    // What comes from the client's address is the request of a call, as it was sent (RFC 7252, sections 4.2 and 5.2).
+    ensures came { (config : Config) (events : List Event) (turns : List Turn) → RecordOf config events turns → Legal turns → CamesFrom config (entries_of turns) }
+    // What is applied for a call has its method and path, its format and all of its body (RFC 7252, section 5.8).
+    ensures whole { (config : Config) (events : List Event) (turns : List Turn) → RecordOf config events turns → Legal turns → AppliedWhole config (entries_of turns) }
+    // For each call at most one request is applied (RFC 7252, section 4.5).
+    ensures once { (config : Config) (events : List Event) (turns : List Turn) → RecordOf config events turns → Legal turns → AtMostOnce config (entries_of turns) }
 {}

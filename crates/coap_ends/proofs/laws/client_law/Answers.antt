@@ -8,9 +8,13 @@ use Rattle.coap_layer.specs.State.{start}
 use Rattle.coap_exchange.specs.AskerLaw as asker
 use Rattle.coap_ends.proofs.ClientBegun.{asked_for, exchange_of, request_of}
 use Rattle.coap_ends.proofs.ClientReplies.{replies_so}
+use Rattle.coap_ends.proofs.ClientNons.{no_nons}
+use Rattle.coap_ends.proofs.ClientCons.{one_con}
 use Rattle.coap_ends.proofs.ClientSent.{once_of, are_sent}
 use Rattle.coap_ends.proofs.ClientAnswers.{are_answers, are_from_server}
 use Rattle.coap_ends.proofs.ClientOnce.{reported_once}
+use Rattle.coap_ends.proofs.ClientHears.{are_heard}
+use Rattle.coap_ends.proofs.ClientNumbers.{one_sending}
 use Rattle.coap_ends.proofs.laws.client_law.Goals as goal
 
 pub returns-clause-layer : goal.returns-clause-layer
@@ -24,11 +28,21 @@ returns-clause-begins c server szx word t law con h =
     request_of server con t (exchange_of server word con (lower_of t) law.exchanges.rows
     (asked_for con (start word) law.exchanges.left (asker.lower_of server word (lower_of t)) law.exchanges.layer h))
 
+pub returns-clause-one_con : goal.returns-clause-one_con
+returns-clause-one_con c server szx word t law =
+    one_con server word t law.exchanges (once_of word (lower_of t) (counted server word (lower_of t) law.exchanges.rows).0) (layer_stands server word (lower_of t) law.exchanges)
+
+pub returns-clause-nons : goal.returns-clause-nons
+returns-clause-nons c server szx word t law = no_nons server word (lower_of t)
+
 pub returns-clause-replies : goal.returns-clause-replies
 returns-clause-replies c server szx word t law = replies_so server word (lower_of t) law.exchanges.rows law.exchanges.left law.exchanges.layer
 
 pub returns-clause-sent : goal.returns-clause-sent
 returns-clause-sent c server szx word t law = are_sent t (once_of word (lower_of t) (counted server word (lower_of t) law.exchanges.rows).0)
+
+pub returns-clause-sending : goal.returns-clause-sending
+returns-clause-sending c server szx word t law = one_sending szx t law.rows (are_sent t (once_of word (lower_of t) (counted server word (lower_of t) law.exchanges.rows).0))
 
 pub returns-clause-answers : goal.returns-clause-answers
 returns-clause-answers c server szx word t law =
@@ -36,6 +50,9 @@ returns-clause-answers c server szx word t law =
 
 pub returns-clause-from_server : goal.returns-clause-from_server
 returns-clause-from_server c server szx word t law = are_from_server server t (came_from server word (lower_of t) law.exchanges.rows law.exchanges.left law.exchanges.layer)
+
+pub returns-clause-heard : goal.returns-clause-heard
+returns-clause-heard c server szx word t law = are_heard server word t law.exchanges.rows law.exchanges.left law.exchanges.layer
 
 pub returns-clause-once : goal.returns-clause-once
 returns-clause-once c server szx word t law = reported_once szx t law.rows

@@ -5,6 +5,7 @@ use Rattle.coap_ends.specs.ServerLaw.{lower_of, layer_of}
 use Rattle.coap_ends.proofs.ServerHolds.{all_served, holds_changes}
 use Rattle.coap_ends.proofs.ServerRepliesSo.{replies_so}
 use Rattle.coap_ends.proofs.ServerOnce.{served_once}
+use Rattle.coap_ends.proofs.ServerHanding.{handed_up}
 use Rattle.coap_ends.proofs.laws.server_law.Goals as goal
 
 pub returns-clause-layer : goal.returns-clause-layer
@@ -15,6 +16,9 @@ returns-clause-replies c limit szx word t law = replies_so word limit szx t law.
 
 pub returns-clause-once : goal.returns-clause-once
 returns-clause-once c limit szx word t law = handed_up_once word (layer_of limit szx word t) (layer_stands word (lower_of limit szx t) law.exchanges)
+
+pub returns-clause-handed : goal.returns-clause-handed
+returns-clause-handed c limit szx word t law = handed_up limit szx word t law.rows law.exchanges.rows law.exchanges.left law.exchanges.layer
 
 pub returns-clause-served : goal.returns-clause-served
 returns-clause-served c limit szx word t law = served_once limit szx t (counted (lower_of limit szx t) law.exchanges.rows).0

@@ -1,0 +1,17 @@
+use Rattle.std.proofs.Common.{ap}
+use Rattle.coap_exchange.specs.Listed.{listed}
+use Rattle.coap_exchange.proofs.AnswererLeading.{led_call}
+use Rattle.coap_exchange.proofs.AnswererCode.{answered}
+use Rattle.coap_exchange.proofs.answerer.Answerer.answer.Goals as goal
+
+pub returns-clause-step : goal.returns-clause-step
+returns-clause-step g c =
+    let inside = c.self.inside in
+    let sent = c.send.ensures.sent in (
+      sent.0,
+      answered inside.layer.state c.send.new.layer.state inside.pending inside.deferred (listed inside.separate.items) inside.ended c.args.self.now.state c.args.asked.now c.args.response.now sent.0
+          (ap (λ s. s.state) c.self.view_is) c.requires.may.pending c.requires.response sent.1 sent.2,
+    )
+
+pub returns-clause-led : goal.returns-clause-led
+returns-clause-led g c word t led = let s = returns-clause-step g c in (s.0, led_call word t _ _ _ led s.1)

@@ -1,0 +1,52 @@
+use Rattle.std.proofs.Common.{◌≡◌, refl, rules, ap, ◌∙◌, subst}
+use Rattle.std.specs.Option.{option_map}
+use Rattle.coap_layer.specs.State as L
+use Rattle.coap_layer.specs.Trace as T
+use Rattle.coap_exchange.specs.declared.separate.Deferred.{Deferred}
+use Rattle.coap_exchange.specs.AnswererShown.{own_with}
+use Rattle.coap_exchange.specs.AnswererSteps.{failed_by, ready_at, ready_if, separate_unless}
+use Rattle.coap_exchange.specs.Listed.{listed}
+use Rattle.coap_exchange.proofs.AnswererLeading.{led_call}
+use Rattle.coap_exchange.proofs.AnswererTicks.{asking_clock, may_respond, ticked}
+use Rattle.coap_exchange.proofs.LayerFacts.{step_clock}
+use Rattle.coap_exchange.proofs.answerer.Answerer.tick.Goals as goal
+
+pub is_sendable-room-requires : goal.is_sendable-room-requires
+is_sendable-room-requires g c h = c.in_ok-tick.ensures.kept (c.in_ok-make_room.ensures.room (c.ready_if-ready.ensures.some h))
+
+pub returns-clause-step : goal.returns-clause-step
+returns-clause-step g c =
+    let i = c.self.inside in
+    let step = c.in_ok-tick.ensures.step in
+    let now = c.args.now.0 in
+    let d = ready_at (own_with i.layer.state.clock i.pending i.deferred (listed i.separate.items) i.ended) now in
+    let found : c.ready-ready.result ≡ option_map (λ (x : Deferred). x.asked) d = search (rules, c.ready-ready.ensures, c.max-at.ensures, c.clock.ensures, c.deref.ensures.value) in
+    let ready = c.ready_if-ready.ensures.ready step.0 d step.1 found in
+    let list = c.settle_down.ensures.now ∙ ap listed c.in_ok-make_room.ensures.items in (
+      step.0,
+      c.is_sendable-room.result,
+      ticked i.layer.state i.pending i.deferred (listed i.separate.items) i.ended c.args.self.now.state (ap (λ s. s.state) c.self.view_is) c.make_room.new.layer.state c.tick.new.self.state c.is_sendable-room.new.layer.state now step.0
+          c.is_sendable-room.result c.due_of.result c.take-self-inside.new.self (listed c.unless_failed.new.separate.items) c.failed_by-self-inside.result c.in_ok-make_room.ensures.state step.2
+          (c.is_sendable-room.ensures.steps (ready_if step.0 d) ready) (c.due_of.ensures step.0 d step.1 ready) (search rules)
+          (c.unless_failed.ensures.now step.0 step.1 ∙ ap (separate_unless step.0) list)
+          (c.failed_by-self-inside.ensures step.0 step.1 ∙ ap (failed_by step.0) (ap listed c.deref-2.ensures.value ∙ list)),
+    )
+
+pub returns-clause-led : goal.returns-clause-led
+returns-clause-led g c word t led = let s = returns-clause-step g c in (s.0, s.1, led_call word t _ _ _ led s.2)
+
+pub returns-clause-ready : goal.returns-clause-ready
+returns-clause-ready g c a h =
+    let i = c.self.inside in
+    let step = c.in_ok-tick.ensures.step in
+    let now = c.args.now.0 in
+    let d = ready_at (own_with i.layer.state.clock i.pending i.deferred (listed i.separate.items) i.ended) now in
+    let found : c.ready-ready.result ≡ option_map (λ (x : Deferred). x.asked) d = search (rules, c.ready-ready.ensures, c.max-at.ensures, c.clock.ensures, c.deref.ensures.value) in
+    let ready = c.ready_if-ready.ensures.ready step.0 d step.1 found in
+    let list = c.settle_down.ensures.now ∙ ap listed c.in_ok-make_room.ensures.items in
+    let first : L.Step i.layer.state now T.Ticks step.0 c.tick.new.self.state = subst (λ x. L.Step x now T.Ticks step.0 c.tick.new.self.state) c.in_ok-make_room.ensures.state step.2 in
+    let clock = asking_clock now (ready_if step.0 d) c.is_sendable-room.result c.tick.new.self.state c.is_sendable-room.new.layer.state i.layer.state.clock (step_clock i.layer.state c.tick.new.self.state now T.Ticks step.0 first)
+    (c.is_sendable-room.ensures.steps (ready_if step.0 d) ready) in
+    may_respond i.layer.state i.pending i.deferred (listed i.separate.items) i.ended c.is_sendable-room.new.layer.state now step.0 c.is_sendable-room.result c.due_of.result c.take-self-inside.new.self
+    (listed c.unless_failed.new.separate.items) c.failed_by-self-inside.result _ a refl refl clock (c.due_of.ensures step.0 d step.1 ready) (c.unless_failed.ensures.now step.0 step.1 ∙ ap (separate_unless step.0) list)
+    (λ may x is. c.is_sendable-room.ensures.idle may x (ready ∙ is)) c.is_sendable-room.ensures.free h

@@ -1,0 +1,7 @@
+use Rattle.std.proofs.Common.{◌≡◌, drop}
+use Rattle.coap_exchange.specs.AnswererSteps.{first_ready}
+use Rattle.coap_exchange.specs.Listed.{listed}
+use Rattle.coap_exchange.proofs.deferrals.first_ready.Given as goal
+
+abbrev pub invariant-loop-request : goal.invariant-loop-request
+invariant-loop-request l = first_ready l.at (listed l.separate) (drop l.request-index l.requests) ≡ first_ready l.at (listed l.separate) l.requests

@@ -1,0 +1,10 @@
+use Rattle.std.proofs.Common.{◌≡◌, ◌++◌, ◌-◌, length, take, drop}
+use Rattle.coap_exchange.specs.AnswererSteps.{without_ready}
+use Rattle.coap_exchange.specs.Listed.{listed}
+use Rattle.coap_exchange.proofs.deferrals.ready_place.Given as goal
+
+abbrev pub invariant-loop-i : goal.invariant-loop-i
+invariant-loop-i l = take l.i l.requests ++ without_ready l.at (listed l.separate) (drop l.i l.requests) ≡ without_ready l.at (listed l.separate) l.requests
+
+abbrev pub decreases-loop-i : goal.decreases-loop-i
+decreases-loop-i l = length l.requests - l.i

@@ -1,0 +1,114 @@
+ghost use Rattle.std.specs.Prelude.{◌≡◌, ◌≤◌, ◌<◌, [], ◌∷◌, length, remove, IfSome, IfNone};
+ghost use Rattle.std.specs.Option.{option_map};
+ghost use Rattle.coap_exchange.specs.AnswererSteps.{deferred_with, first_ready, may_defer, without_ready};
+ghost use Rattle.coap_exchange.specs.Listed.{listed};
+
+use crate::answerer::Asked;
+use crate::listed::Listed;
+use crate::separate::{Deferred, Separate, is_ready};
+use arrayvec::ArrayVec;
+use std::marker::Model;
+
+/// So many requests are deferred at most (profile).
+pub(crate) const MAX_DEFERRED: usize = 16;
+
+const _: () = prove!(MAX_DEFERRED == 16);
+
+/// The requests whose responses are deferred, in order, at most `MAX_DEFERRED`.
+#[derive(Drop)]
+pub(crate) struct Deferrals {
+    requests: ArrayVec<Deferred, MAX_DEFERRED>,
+}
+
+impl Model for Deferrals {
+    ghost use Rattle.std.specs.Prelude.{List};
+    ghost use Rattle.coap_exchange.specs.declared.separate.Deferred.{Deferred};
+
+    ghost Value = { List Deferred };
+
+    ghost view = { λ d. d.requests.items };
+}
+
+// The same requests again.
+fn copied(requests: &[Deferred]) -> ArrayVec<Deferred, MAX_DEFERRED>
+    requires { length requests.now ≤ 16 }
+    ensures { result.items ≡ requests.now }
+{
+    let mut copies = ArrayVec::new();
+    for request in requests {
+        copies.push(request.copy());
+    }
+    copies
+}
+
+// The first that is ready.
+fn first_ready(requests: &[Deferred], at: u64, separate: &[Listed<Separate>]) -> Option<Asked>
+    ensures { result ≡ option_map (λ d. d.asked) (first_ready at (listed separate.now) requests.now) }
+{
+    for request in requests {
+        if is_ready(request, at, separate) {
+            return Some(request.asked.copy());
+        }
+    }
+    None
+}
+
+// Where the first that is ready stands.
+fn ready_place(requests: &[Deferred], at: u64, separate: &[Listed<Separate>]) -> Option<usize>
+    ensures within { IfSome result (λ i. i < length requests.now) }
+    ensures taken { IfSome result (λ i. remove requests.now i ≡ without_ready at (listed separate.now) requests.now) }
+    ensures none { IfNone result (requests.now ≡ without_ready at (listed separate.now) requests.now) }
+{
+    let mut i = 0;
+    while i < requests.len() {
+        if is_ready(&requests[i], at, separate) {
+            return Some(i);
+        }
+        i += 1;
+    }
+    None
+}
+
+impl Deferrals {
+    /// None is deferred.
+    pub(crate) fn new() -> Deferrals
+        ensures { result ≡ [] }
+    {
+        Deferrals {
+            requests: ArrayVec::new(),
+        }
+    }
+
+    /// Defers one more; false where `MAX_DEFERRED` are deferred.
+    pub(crate) fn push(&mut self, request: Deferred) -> bool
+        ensures answer { result ≡ may_defer self.old }
+        ensures left { self.new ≡ deferred_with result request self.old }
+    {
+        self.requests.try_push(request).is_ok()
+    }
+
+    /// The first that is ready at this moment.
+    pub(crate) fn ready(&self, at: u64, separate: &[Listed<Separate>]) -> Option<Asked>
+        ensures { result ≡ option_map (λ d. d.asked) (first_ready at (listed separate.now) self.now) }
+    {
+        first_ready(self.requests.as_slice(), at, separate)
+    }
+
+    /// Takes out the first that is ready at this moment.
+    pub(crate) fn take_ready(&mut self, at: u64, separate: &[Listed<Separate>])
+        ensures { self.new ≡ without_ready at (listed separate.now) self.old }
+    {
+        if let Some(place) = ready_place(self.requests.as_slice(), at, separate) {
+            let _ = self.requests.remove(place);
+        }
+    }
+
+    /// The same requests again.
+    pub(crate) fn copy(&self) -> Deferrals
+        ensures { result ≡ self.now }
+    {
+        Deferrals {
+            requests: copied(self.requests.as_slice()),
+        }
+    }
+}
