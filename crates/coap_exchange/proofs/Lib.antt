@@ -26,3 +26,4 @@ pub mod AnswererTicks
 pub mod AskableLemmas
 pub mod ListedLemmas
 pub mod AskerWitness
+pub mod AnswererWitness
