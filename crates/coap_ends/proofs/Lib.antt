@@ -11,6 +11,9 @@ pub mod ServerReplies
 pub mod ServerRepliesSo
 pub mod ClientNumbers
 pub mod ServerHanding
+pub mod Sources
+pub mod ServerMakes
+pub mod ServerGiving
 pub mod ClientNons
 pub mod ClientCons
 pub mod ServerCounts

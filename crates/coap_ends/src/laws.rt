@@ -11,6 +11,7 @@ ghost use Rattle.coap_ends.specs.ClientLaw.{ClientLaw, layer_of};
 ghost use Rattle.coap_ends.specs.ClientSendings.{OneSending, NoNons, OneCon};
 ghost use Rattle.coap_ends.specs.ClientTrace.{Call};
 ghost use Rattle.coap_ends.specs.ServerFollows.{ServedOnce, AllServed, HoldsChanges};
+ghost use Rattle.coap_ends.specs.ServerGives.{SendsResponses};
 ghost use Rattle.coap_ends.specs.ServerHands.{AreHandedUp};
 ghost use Rattle.coap_ends.specs.ServerLaw as servers;
 ghost use Rattle.coap_ends.specs.ServerLaw.{ServerLaw};
@@ -60,4 +61,6 @@ pub fn server_law()
     ensures right { (limit szx word : ℕ) (t : List server.Call) → ServerLaw limit szx word t → AllServed limit szx t }
     // The versions of the changes are 1, 2, 3 and so on, and each path holds its last change (section 5.10.6).
     ensures holds { (limit szx word : ℕ) (t : List server.Call) → ServerLaw limit szx word t → HoldsChanges limit szx t }
+    // What it sends is Empty, or carries the response to a request that was handed up (sections 4.2 and 5.2).
+    ensures gives { (limit szx word : ℕ) (t : List server.Call) → ServerLaw limit szx word t → SendsResponses limit szx word t }
 {}

@@ -166,9 +166,9 @@ module _ (config : Config) where
       → CameFrom config past (OfServer c) x
   served_here past c law own up x serves from =
       let e : Entry = OfServer c in
-      let there = subst (Ever (HandsUp config.server_szx x.asked x.question)) (sym (far_is config (e ∷ past))) (up.0 x serves) in
+      let there = subst (Ever (HandsUp config.server_szx x.asked (Asks x.question))) (sym (far_is config (e ∷ past))) (up.0 x serves) in
       let hops = to_far (UpOf (λ m. verdict_on config.server_szx m ≡ Asks x.question) x.asked) (hops_in config (e ∷ past))
-      (Ever_map (HandsUp config.server_szx x.asked x.question) (UpOf (λ m. verdict_on config.server_szx m ≡ Asks x.question) x.asked)
+      (Ever_map (HandsUp config.server_szx x.asked (Asks x.question)) (UpOf (λ m. verdict_on config.server_szx m ≡ Asks x.question) x.asked)
       (λ z u. record { message = u.message; bytes = u.bytes; call = u.call; answer = u.answer; asked_is = u.asked_is; verdict = u.verdict }) (far_of (hops_in config (e ∷ past))) there) in
       let none = subst NoNons (sym (near_is config (e ∷ past))) (no_nons server_end config.client_word (client.lower_of (client_of past))) in
       let f = find config.client_word config.server_word client_end server_end (λ m. verdict_on config.server_szx m ≡ Asks x.question) x.asked from (hops_in config (e ∷ past)) law none hops in
