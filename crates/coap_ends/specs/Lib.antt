@@ -12,4 +12,5 @@ pub mod ServerFollows
 pub mod ClientBegins
 pub mod ClientSendings
 pub mod ServerHands
+pub mod ServerShows
 pub mod ClientHears

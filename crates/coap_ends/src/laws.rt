@@ -14,6 +14,7 @@ ghost use Rattle.coap_ends.specs.ServerFollows.{ServedOnce, AllServed, HoldsChan
 ghost use Rattle.coap_ends.specs.ServerHands.{AreHandedUp};
 ghost use Rattle.coap_ends.specs.ServerLaw as servers;
 ghost use Rattle.coap_ends.specs.ServerLaw.{ServerLaw};
+ghost use Rattle.coap_ends.specs.ServerShows.{FormatsInRange, ShowsHeld};
 ghost use Rattle.coap_ends.specs.ServerTrace as server;
 
 /// What follows from the law of a client, over its own trace.
@@ -60,4 +61,6 @@ pub fn server_law()
     ensures right { (limit szx word : ℕ) (t : List server.Call) → ServerLaw limit szx word t → AllServed limit szx t }
     // The versions of the changes are 1, 2, 3 and so on, and each path holds its last change (section 5.10.6).
     ensures holds { (limit szx word : ℕ) (t : List server.Call) → ServerLaw limit szx word t → HoldsChanges limit szx t }
+    // What a 2.05 shows that comes whole, the path held then (sections 5.8.1 and 5.10.6).
+    ensures shows { (limit szx word : ℕ) (t : List server.Call) → ServerLaw limit szx word t → FormatsInRange t → ShowsHeld limit szx t }
 {}

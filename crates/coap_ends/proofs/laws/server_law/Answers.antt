@@ -6,6 +6,7 @@ use Rattle.coap_ends.proofs.ServerHolds.{all_served, holds_changes}
 use Rattle.coap_ends.proofs.ServerRepliesSo.{replies_so}
 use Rattle.coap_ends.proofs.ServerOnce.{served_once}
 use Rattle.coap_ends.proofs.ServerHanding.{handed_up}
+use Rattle.coap_ends.proofs.ServerShown.{shows_held}
 use Rattle.coap_ends.proofs.laws.server_law.Goals as goal
 
 pub returns-clause-layer : goal.returns-clause-layer
@@ -28,3 +29,6 @@ returns-clause-right c limit szx word t law = all_served limit szx t law.rows
 
 pub returns-clause-holds : goal.returns-clause-holds
 returns-clause-holds c limit szx word t law = holds_changes limit szx t law.rows
+
+pub returns-clause-shows : goal.returns-clause-shows
+returns-clause-shows c limit szx word t law formats = shows_held limit szx t law.rows formats
