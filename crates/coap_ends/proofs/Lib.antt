@@ -18,3 +18,8 @@ pub mod ClientNons
 pub mod ClientCons
 pub mod ServerCounts
 pub mod ClientHears
+pub mod ServerSaid
+pub mod ServerStoreBounds
+pub mod ServerContent
+pub mod ServerWhole
+pub mod ServerShown

@@ -13,4 +13,5 @@ pub mod ClientBegins
 pub mod ClientSendings
 pub mod ServerHands
 pub mod ServerGives
+pub mod ServerShows
 pub mod ClientHears

@@ -15,6 +15,7 @@ ghost use Rattle.coap_ends.specs.ServerGives.{SendsResponses};
 ghost use Rattle.coap_ends.specs.ServerHands.{AreHandedUp};
 ghost use Rattle.coap_ends.specs.ServerLaw as servers;
 ghost use Rattle.coap_ends.specs.ServerLaw.{ServerLaw};
+ghost use Rattle.coap_ends.specs.ServerShows.{FormatsInRange, ShowsHeld};
 ghost use Rattle.coap_ends.specs.ServerTrace as server;
 
 /// What follows from the law of a client, over its own trace.
@@ -63,4 +64,6 @@ pub fn server_law()
     ensures holds { (limit szx word : ℕ) (t : List server.Call) → ServerLaw limit szx word t → HoldsChanges limit szx t }
     // What it sends is Empty, or carries the response to a request that was handed up (sections 4.2 and 5.2).
     ensures gives { (limit szx word : ℕ) (t : List server.Call) → ServerLaw limit szx word t → SendsResponses limit szx word t }
+    // What a 2.05 shows that comes whole, the path held then (sections 5.8.1 and 5.10.6).
+    ensures shows { (limit szx word : ℕ) (t : List server.Call) → ServerLaw limit szx word t → FormatsInRange t → ShowsHeld limit szx t }
 {}
