@@ -19,3 +19,7 @@ pub mod Run
 pub mod Joined
 pub mod Across
 pub mod Witness
+pub mod Parts
+pub mod Heard
+pub mod Answered
+pub mod Codes

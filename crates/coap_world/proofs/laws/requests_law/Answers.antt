@@ -12,7 +12,7 @@ use Rattle.coap_ends.proofs.ClientSent.{once_of, are_sent}
 use Rattle.coap_ends.proofs.ServerHolds.{all_served}
 use Rattle.coap_world.specs.Events.{server_end}
 use Rattle.coap_world.specs.Record.{client_of, entries_of, server_trace}
-use Rattle.coap_world.proofs.AtMostOnce.{at_most_once}
+use Rattle.coap_world.proofs.AtMostOnce.{served_at_most, at_most_once}
 use Rattle.coap_world.proofs.Called.{in_range}
 use Rattle.coap_world.proofs.CameFrom.{came_from}
 use Rattle.coap_world.proofs.Joined as joined
@@ -41,9 +41,9 @@ returns-clause-once c config events turns record_of legal =
     let far = record_of.server in
     let calls = server_trace config (entries_of turns) in
     let once = once_of config.client_word (lower_of t) (counted server_end config.client_word (lower_of t) own.exchanges.rows).0 in
-    at_most_once config (entries_of turns) (one_sending config.client_szx t own.rows (are_sent t once))
+    at_most_once config (entries_of turns) (served_at_most config (entries_of turns) (one_sending config.client_szx t own.rows (are_sent t once))
     (one_con server_end config.client_word t own.exchanges once (layer_stands server_end config.client_word (lower_of t) own.exchanges))
     (λ past. no_nons server_end config.client_word (lower_of (client_of past))) law
     (came_from config (entries_of turns) law own far)
     (served_once config.limit config.server_szx calls (A.counted (server.lower_of config.limit config.server_szx calls) far.exchanges.rows).0)
-    (N.counted config.limit config.server_szx config.server_word calls far.exchanges.rows far.exchanges.left far.exchanges.layer)
+    (N.counted config.limit config.server_szx config.server_word calls far.exchanges.rows far.exchanges.left far.exchanges.layer))
