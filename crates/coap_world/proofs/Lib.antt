@@ -23,3 +23,5 @@ pub mod Parts
 pub mod Heard
 pub mod Answered
 pub mod Codes
+pub mod Reports
+pub mod Done
