@@ -1,13 +1,11 @@
 -- What a client hears as an answer is the response to the request of a call: of one that the server served, or refused.
-use Rattle.std.proofs.Common.{◌≡◌, ◌⊎◌, inl, inr, ℕ, true, Some, List, [], ◌∷◌, map, refl, ap, sym, subst, ◌∙◌}
+use Rattle.std.proofs.Common.{◌≡◌, ◌⊎◌, inl, inr, true, Some, List, [], ◌∷◌, map, refl, ap, sym, subst, ◌∙◌}
 use Rattle.coap_types.specs.Past.{Ever, Once}
-use Rattle.coap_types.proofs.PastLemmas.{Ever_of_Once, Once_of_Ever, by_suffix}
+use Rattle.coap_types.proofs.PastLemmas.{by_suffix}
 use Rattle.coap_types.specs.Roles.{role_of}
-use Rattle.coap_types.specs.declared.endpoint.Endpoint.{Endpoint}
 use Rattle.coap_types.specs.declared.role.Role.TheVariants as role
 use Rattle.coap_codec.specs.Message.{Message}
 use Rattle.coap_codec.proofs.EveryDatagram.{one_message}
-use Rattle.coap_layer.specs.Channel.{far_of}
 use Rattle.coap_layer.specs.Trace as T
 use Rattle.coap_layer.specs.Trace.{with_head}
 use Rattle.coap_layer.proofs.HopLemmas.{far_ever}
@@ -17,7 +15,7 @@ use Rattle.coap_exchange.specs.AnswererSteps.{content_of}
 use Rattle.coap_exchange.specs.AnswererTrace as R
 use Rattle.coap_exchange.specs.AnswererLaw.{below_of}
 use Rattle.coap_ends.specs.ClientFollows.{heard}
-use Rattle.coap_ends.specs.ClientHears.{Hears, AreHeard}
+use Rattle.coap_ends.specs.ClientHears.{Hears}
 use Rattle.coap_ends.specs.ClientTrace as C
 use Rattle.coap_ends.specs.ServerChecks.{Refused, Asks}
 use Rattle.coap_ends.specs.ServerFollows.{Serving}
@@ -34,7 +32,7 @@ use Rattle.coap_world.specs.Events.{client_end, server_end, Config}
 use Rattle.coap_world.specs.Hops.{hops_in}
 use Rattle.coap_world.specs.Record.{Entry, OfClient, OfServer, client_of, server_trace}
 use Rattle.coap_world.proofs.CameFrom.{came_here}
-use Rattle.coap_world.proofs.Heard.{Reads, SendsTo, WasGiven, was_given}
+use Rattle.coap_world.proofs.Heard.{Reads, SendsTo, was_given}
 use Rattle.coap_world.proofs.HopsAre.{near_is, far_is, begins_silent}
 use Rattle.coap_world.proofs.Parts.{Lawful, lawful_back}
 

@@ -18,8 +18,8 @@ use Rattle.coap_resource.specs.declared.refusal.StoreRefusal.{StoreRefusal}
 use Rattle.coap_resource.specs.declared.refusal.StoreRefusal.TheVariants as why
 use Rattle.coap_ends.specs.ClientReports.{report_of, is_success, created, deleted, changed, content, etag, said}
 use Rattle.coap_ends.specs.ClientRequests.{block1, block2, max_body}
-use Rattle.coap_ends.specs.ClientTrace.{Report, Body, Done, Failed, TooLarge}
-use Rattle.coap_ends.specs.ServerChecks.{Verdict, Ignored, Refused, Asks, verdict_on, bad_by, bad_request, proxying_not_supported, asked_by, method_by, question, proxy_uri, proxy_scheme, path_of, asks, max_segments, is_reserved, carries_body}
+use Rattle.coap_ends.specs.ClientTrace.{Body, Done, Failed, TooLarge}
+use Rattle.coap_ends.specs.ServerChecks.{Verdict, Refused, Asks, verdict_on, bad_by, bad_request, proxying_not_supported, asked_by, method_by, question, proxy_uri, proxy_scheme, path_of, asks, max_segments, is_reserved, carries_body}
 use Rattle.coap_ends.specs.ServerFollows.{is_applied}
 
 -- what is reported

@@ -1,11 +1,10 @@
 -- Where success is reported, a request of the call was applied since the call; a body that is reported was held since.
-use Rattle.std.proofs.Common.{◌≡◌, inl, inr, ℕ, true, false, Option, Some, None, List, [], ◌∷◌, refl, ap, sym, subst, ◌∙◌}
-use Rattle.coap_types.specs.Past.{Ever, Once, Always}
+use Rattle.std.proofs.Common.{◌≡◌, inl, inr, ℕ, true, false, Option, Some, List, [], ◌∷◌, refl, ap, sym, subst, ◌∙◌}
+use Rattle.coap_types.specs.Past.{Once, Always}
 use Rattle.coap_types.proofs.PastLemmas.{Once_map}
-use Rattle.coap_types.specs.declared.request.Method.TheVariants.{Get}
 use Rattle.coap_codec.specs.Message.{Message}
 use Rattle.coap_resource.specs.Content.{Held}
-use Rattle.coap_resource.specs.RequestOptions.{has, tag_of}
+use Rattle.coap_resource.specs.RequestOptions.{has}
 use Rattle.coap_exchange.specs.declared.answerer.Asked.{Asked}
 use Rattle.coap_ends.specs.ClientFollows.{Sending}
 use Rattle.coap_ends.specs.ClientReports.{content, said}
@@ -15,13 +14,13 @@ use Rattle.coap_ends.specs.ClientTrace.{Body, Done, Report}
 use Rattle.coap_ends.specs.ServerFollows.{is_applied, held_at}
 use Rattle.coap_ends.specs.ServerShows.{Shows}
 use Rattle.coap_ends.proofs.ServerShown.{shows_held}
-use Rattle.coap_world.specs.Agrees.{AppliesFor, AppliesSince, OnceDone, HeldSince, EachHeld, ReportsAt}
+use Rattle.coap_world.specs.Agrees.{AppliesSince, OnceDone, HeldSince, EachHeld, ReportsAt}
 use Rattle.coap_world.specs.CameFrom.{request_of}
 use Rattle.coap_world.specs.Events.{Config}
 use Rattle.coap_world.specs.Record.{Entry, OfClient, OfServer, client_of, server_trace}
-use Rattle.coap_world.proofs.Answered.{Answers, IsReply, IsRefusal}
+use Rattle.coap_world.proofs.Answered.{Answers, IsReply}
 use Rattle.coap_world.proofs.Codes.{done_is, IsBody, body_is, refusal_code, not_applied, not_content}
-use Rattle.coap_world.proofs.Parts.{Lawful, PartOf, part_back, whole}
+use Rattle.coap_world.proofs.Parts.{Lawful, part_back, whole}
 use Rattle.coap_world.proofs.ReadBack.{is_asked}
 use Rattle.coap_world.proofs.Reports.{Reporting, each_reporting, was_called, one_is, sent_for}
 use Rattle.coap_world.proofs.Whole.{asked_by}
@@ -33,7 +32,7 @@ always_so P Q R f (e ∷ past) h = (λ p. Once_map Q R f past (h.0 p), always_so
 
 module _ (config : Config) (all : List Entry) (one : OneSending (client_of all)) where
   -- the sending of what is served here is that of the call
-  came_is : (number : ℕ) (report : Report) (past : List Entry) (e : Entry) (r : Reporting config number report all past e) (k : IsReply config r.message past e) → k.came.sending ≡ r.sending
+  pub came_is : (number : ℕ) (report : Report) (past : List Entry) (e : Entry) (r : Reporting config number report all past e) (k : IsReply config r.message past e) → k.came.sending ≡ r.sending
   came_is number report past e r k =
       one_is config all one r.sending k.came.sending r.message.token r.sent ((part_back config all past e r.part).sent k.came.sending k.came.sent) r.token k.token
 
@@ -79,8 +78,8 @@ module _ (config : Config) (all : List Entry) (one : OneSending (client_of all))
         let b = shown past e r.part.law r.message k reported.code r.whole in
         let h : Held = b.held in
         let same : h ≡ record { version = h.version; format = format; body = body }
-            = ap {B = Held} (λ f. record { version = h.version; format = f; body = h.body }) (sym b.format ∙ reported.format_is)
-            ∙ ap {B = Held} (λ y. record { version = h.version; format = format; body = y }) (sym b.body ∙ reported.body_is)
+        = ap {B = Held} (λ f. record { version = h.version; format = f; body = h.body }) (sym b.format ∙ reported.format_is)
+        ∙ ap {B = Held} (λ y. record { version = h.version; format = format; body = y }) (sym b.body ∙ reported.body_is)
         in
         let asked = asked_by config.server_szx k.came.con.id s k.request (is_asked config.server_szx (request_of k.came.con.id s) k.request.question k.came.verdict) in
         record {

@@ -1,5 +1,5 @@
 -- What a client hears: the server's message layer sent it before.
-use Rattle.std.proofs.Common.{◌≡◌, inl, inr, ℕ, Some, List, [], ◌∷◌, ap, sym, subst}
+use Rattle.std.proofs.Common.{◌≡◌, inl, inr, ℕ, List, [], ◌∷◌, subst}
 use Rattle.coap_types.specs.Past.{Ever}
 use Rattle.coap_types.proofs.PastLemmas.{Ever_map}
 use Rattle.coap_types.specs.Roles.{role_of}
@@ -8,11 +8,10 @@ use Rattle.coap_types.specs.declared.message.Kind.TheVariants.{Con, Non, Ack, Rs
 use Rattle.coap_types.specs.declared.role.Role.TheVariants as role
 use Rattle.coap_codec.specs.Message.{AreBytes, Message, Spells}
 use Rattle.coap_layer.specs.Arrivals.{Arrival, Unreadable, Faulted, Whole, Shows}
-use Rattle.coap_layer.specs.Channel.{Hop, Near, Far, near_of, OnNear, OnFar, GaveOut, ChannelLaw}
+use Rattle.coap_layer.specs.Channel.{Hop, Near, Far, near_of, OnFar, GaveOut, ChannelLaw}
 use Rattle.coap_layer.specs.Rows.{Stands, Row, Sorts, HandedAs, Arrives, rejects, drops, takes_ack, takes_reset, takes_answer, replays, hands_over}
 use Rattle.coap_layer.specs.Sends.{IsIn}
 use Rattle.coap_layer.specs.Trace as T
-use Rattle.coap_layer.specs.Words.{Incoming}
 use Rattle.coap_layer.proofs.HopLemmas.{earlier}
 use Rattle.coap_ends.specs.ClientHears.{Hears}
 

@@ -25,3 +25,6 @@ pub mod Answered
 pub mod Codes
 pub mod Reports
 pub mod Done
+pub mod NeverFailed
+pub mod Formats
+pub mod Promised

@@ -1,5 +1,5 @@
 -- The laws of a record hold of each part of it: of what came before an entry.
-use Rattle.std.proofs.Common.{inr, ℕ, List, [], ◌∷◌, ◌++◌, map}
+use Rattle.std.proofs.Common.{inr, ℕ, List, ◌∷◌, ◌++◌, map}
 use Rattle.coap_layer.specs.Channel.{Near, Far}
 use Rattle.coap_exchange.specs.AnswererLaw as answerer
 use Rattle.coap_exchange.specs.AnswererTrace as R

@@ -1,17 +1,15 @@
 -- A report of a response is of a request of that call, which was served or refused since the call.
-use Rattle.std.proofs.Common.{◌≡◌, inl, inr, ℕ, Bool, true, false, Option, Some, None, List, [], ◌∷◌, refl, ap, sym, subst, ◌∙◌}
-use Rattle.coap_types.specs.Past.{Ever, Once, Always}
+use Rattle.std.proofs.Common.{◌≡◌, ℕ, true, false, Some, None, List, [], ◌∷◌, refl, ap, sym, subst, ◌∙◌}
+use Rattle.coap_types.specs.Past.{Once, Always}
 use Rattle.coap_types.proofs.PastLemmas.{by_suffix}
-use Rattle.coap_types.specs.declared.request.Method.{Method}
 use Rattle.coap_codec.specs.Message.{Message}
 use Rattle.coap_resource.specs.RequestOptions.{has}
-use Rattle.coap_exchange.specs.declared.asker.Event.{Event}
 use Rattle.coap_exchange.specs.declared.asker.Event.TheVariants as event
 use Rattle.coap_exchange.proofs.AskerApart.{known}
 use Rattle.coap_exchange.proofs.AskerTokens.{counted}
 use Rattle.coap_ends.specs.ClientTrace as C
 use Rattle.coap_ends.specs.ClientTrace.{Operation, Request, Report, Reported}
-use Rattle.coap_ends.specs.ClientFollows.{Sending, WasSent, WasTaken, OfAnswer, heard, is_of_response, AreSent, ReportsAreAnswers}
+use Rattle.coap_ends.specs.ClientFollows.{Sending, WasSent, OfAnswer, heard, is_of_response, AreSent, ReportsAreAnswers}
 use Rattle.coap_ends.specs.ClientLaw.{ClientLaw, lower_of}
 use Rattle.coap_ends.specs.ClientReports.{said, report_of}
 use Rattle.coap_ends.specs.ClientRequests.{block2}

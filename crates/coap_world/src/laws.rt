@@ -2,7 +2,7 @@ ghost use Rattle.std.specs.Prelude.{◌≡◌, List};
 ghost use Rattle.coap_layer.specs.Channel.{ChannelLaw, near_of, far_of};
 ghost use Rattle.coap_ends.specs.ClientLaw as clients;
 ghost use Rattle.coap_ends.specs.ServerLaw as servers;
-ghost use Rattle.coap_world.specs.Agrees.{AppliedWhole, AtMostOnce, ChangesOwned};
+ghost use Rattle.coap_world.specs.Agrees.{Agrees, AppliedWhole, AtMostOnce, ChangesOwned};
 ghost use Rattle.coap_world.specs.CameFrom.{CamesFrom};
 ghost use Rattle.coap_world.specs.Delivery.{AllFair};
 ghost use Rattle.coap_world.specs.Events.{client_end, server_end, Config, Event};
@@ -41,4 +41,12 @@ pub fn requests_law()
     ensures whole { (config : Config) (events : List Event) (turns : List Turn) → RecordOf config events turns → Legal turns → AppliedWhole config (entries_of turns) }
     // For each call at most one request is applied (RFC 7252, section 4.5).
     ensures once { (config : Config) (events : List Event) (turns : List Turn) → RecordOf config events turns → Legal turns → AtMostOnce config (entries_of turns) }
+{}
+
+/// What a client and a server come to together, however the datagrams between them are lost, repeated and delayed.
+pub fn agreement()
+    // Each body that is reported was held at its path between call and report; each request body is applied whole, at most
+    // once, exactly once where success is reported and never where another response is (RFC 7252, sections 4.2, 4.5, 5.3.2,
+    // 5.8 and 5.9).
+    ensures agrees { (config : Config) (events : List Event) (turns : List Turn) → RecordOf config events turns → Legal turns → Agrees config (entries_of turns) }
 {}
