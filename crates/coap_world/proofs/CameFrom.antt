@@ -175,8 +175,7 @@ module _ (config : Config) where
       let calls = asker.lower_of server_end config.client_word (client.lower_of (client_of past)) in
       let r : IsRequestOf server_end f.con (client_of past) = request_of server_end f.con (client_of past)
       (exchange_of server_end config.client_word f.con (client.lower_of (client_of past)) own.exchanges.rows (asked_for f.con (L.start config.client_word) own.exchanges.left calls own.exchanges.layer layer)) in
-      let request : Message = W.request_of f.con.id r.request in
-      let same : f.message ≡ request = same_request f.con f.message server_end (client_of past) r f.are_bytes f.spells f.id in
+      let same = same_request f.con f.message server_end (client_of past) r f.are_bytes f.spells f.id in
       record {
         sending = r.request;
         sent = r.sent;
@@ -185,7 +184,7 @@ module _ (config : Config) where
         to = f.to;
         bytes = r.bytes;
         are_bytes = f.are_bytes;
-        spells = subst (Spells f.con.bytes) {y = request} same f.spells;
+        spells = subst (Spells f.con.bytes) same f.spells;
         arrived = f.arrived;
         asked = f.asked ∙ ap (asked_of client_end) same;
         verdict = sym (ap (verdict_on config.server_szx) same) ∙ f.verdict;
