@@ -1,11 +1,14 @@
 -- What is promised of a legal run, clause by clause.
-use Rattle.std.proofs.Common.{ℕ, List}
+use Rattle.std.proofs.Common.{◌≡◌, ℕ, true, List, [], ◌∷◌, refl, ap, sym}
+use Rattle.coap_exchange.specs.declared.answerer.Asked.{Asked}
 use Rattle.coap_exchange.proofs.AnswererOnce as A
 use Rattle.coap_exchange.proofs.AskerLeading.{layer_stands}
 use Rattle.coap_exchange.proofs.AskerTokens.{counted}
 use Rattle.coap_ends.specs.ClientFollows.{AreSent}
 use Rattle.coap_ends.specs.ClientLaw.{lower_of}
 use Rattle.coap_ends.specs.ClientSendings.{OneSending}
+use Rattle.coap_ends.specs.ServerChecks.{Asks}
+use Rattle.coap_ends.specs.ServerFollows.{Serving, is_applied}
 use Rattle.coap_ends.specs.ServerLaw as server
 use Rattle.coap_ends.proofs.ClientCons.{one_con}
 use Rattle.coap_ends.proofs.ClientNons.{no_nons}
@@ -14,9 +17,9 @@ use Rattle.coap_ends.proofs.ClientSent.{once_of, are_sent}
 use Rattle.coap_ends.proofs.ServerCounts as N
 use Rattle.coap_ends.proofs.ServerHolds.{all_served}
 use Rattle.coap_ends.proofs.ServerOnce.{served_once}
-use Rattle.coap_world.specs.Agrees.{Agrees, AppliedWhole, AtMostOnce, ChangesOwned}
-use Rattle.coap_world.specs.CameFrom.{CamesFrom}
-use Rattle.coap_world.specs.Events.{server_end, Config, Event}
+use Rattle.coap_world.specs.Agrees.{ServesAt, SentFor, Agrees, AppliedWhole, AtMostOnce, ChangesOwned}
+use Rattle.coap_world.specs.CameFrom.{CameFrom, CamesFrom}
+use Rattle.coap_world.specs.Events.{client_end, server_end, Config, Event}
 use Rattle.coap_world.specs.Legal.{Legal}
 use Rattle.coap_world.specs.Record.{Entry, Turn, RecordOf, client_of, entries_of, server_trace}
 use Rattle.coap_types.specs.Past.{Once, Always}
@@ -29,8 +32,21 @@ use Rattle.coap_world.proofs.Formats.{formats_in}
 use Rattle.coap_world.proofs.Joined as joined
 use Rattle.coap_world.proofs.NeverFailed as F
 use Rattle.coap_world.proofs.Owned as O
-use Rattle.coap_world.proofs.Parts.{Lawful}
+use Rattle.coap_world.proofs.Parts.{Lawful, PartOf, part_back, whole}
+use Rattle.coap_world.proofs.Reports.{sent_for}
 use Rattle.coap_world.proofs.Whole as H
+
+-- what is served for the client's address is the request of a call
+belongs_in : (config : Config) (all t : List Entry) → PartOf config all t → CamesFrom config t
+    → Always (λ past e. (x : Serving) → ServesAt config x past e → is_applied x.reply.code ≡ true → x.asked.from ≡ client_end → (number : ℕ) × SentFor number x.asked.token all) t
+belongs_in config all [] part came = tt
+belongs_in config all (e ∷ past) part came = (
+  λ x here applied from.
+      let k : CameFrom config past e x.asked (Asks x.question) = came.0 x here from in
+      let sent = (part_back config all past e part).sent k.sending k.sent in
+      (k.sending.operation.number, sent_for all k.sending k.sending.operation.number x.asked.token sent refl (sym (ap (λ (a : Asked). a.token) k.asked))),
+  belongs_in config all past (part_back config all past e part) came.1,
+)
 
 module _ (config : Config) (events : List Event) (turns : List Turn) (run : RecordOf config events turns) (legal : Legal turns) where
   abbrev all : List Entry
@@ -73,6 +89,7 @@ module _ (config : Config) (events : List Event) (turns : List Turn) (run : Reco
   pub agrees : Agrees config all
   agrees = record {
     each_held = D.each_held config all lawful one;
+    each_belongs = belongs_in config all all (whole config all lawful) came;
     applied_whole = applied_whole;
     at_most_once = at_most_once;
     once_done = D.once_done config all lawful one;
