@@ -13,4 +13,6 @@ pub mod ClientBegins
 pub mod ClientSendings
 pub mod ServerHands
 pub mod ServerGives
+pub mod ClientExact
+pub mod ServerExact
 pub mod ClientHears

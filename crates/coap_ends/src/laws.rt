@@ -5,11 +5,13 @@ ghost use Rattle.coap_layer.specs.Channel.{RepliesSo};
 ghost use Rattle.coap_layer.specs.Follows.{CopiesInTime, HandedUpOnce};
 ghost use Rattle.coap_layer.specs.Rows.{LayerLaw};
 ghost use Rattle.coap_ends.specs.ClientBegins.{ConsAreRequests};
+ghost use Rattle.coap_ends.specs.ClientExact as clients_exact;
 ghost use Rattle.coap_ends.specs.ClientFollows.{AreSent, ReportsAreAnswers, AreFromServer, ReportedOnce};
 ghost use Rattle.coap_ends.specs.ClientHears.{AreHeard};
 ghost use Rattle.coap_ends.specs.ClientLaw.{ClientLaw, layer_of};
 ghost use Rattle.coap_ends.specs.ClientSendings.{OneSending, NoNons, OneCon};
 ghost use Rattle.coap_ends.specs.ClientTrace.{Call};
+ghost use Rattle.coap_ends.specs.ServerExact as servers_exact;
 ghost use Rattle.coap_ends.specs.ServerFollows.{ServedOnce, AllServed, HoldsChanges};
 ghost use Rattle.coap_ends.specs.ServerGives.{SendsResponses};
 ghost use Rattle.coap_ends.specs.ServerHands.{AreHandedUp};
@@ -42,6 +44,8 @@ pub fn client_law()
     ensures heard { (server : Endpoint) (szx word : ℕ) (t : List Call) → ClientLaw server szx word t → AreHeard server word t }
     // A call is reported at most once.
     ensures once { (server : Endpoint) (szx word : ℕ) (t : List Call) → ClientLaw server szx word t → ReportedOnce t }
+    // The law leaves each call one answer.
+    ensures exact { (server : Endpoint) (szx word : ℕ) (past : List Call) → clients_exact.IsExact server szx word past }
 {}
 
 /// What follows from the law of a server, over its own trace.
@@ -63,4 +67,6 @@ pub fn server_law()
     ensures holds { (limit szx word : ℕ) (t : List server.Call) → ServerLaw limit szx word t → HoldsChanges limit szx t }
     // What it sends is Empty, or carries the response to a request that was handed up (sections 4.2 and 5.2).
     ensures gives { (limit szx word : ℕ) (t : List server.Call) → ServerLaw limit szx word t → SendsResponses limit szx word t }
+    // The law leaves each call one answer.
+    ensures exact { (limit szx word : ℕ) (past : List server.Call) → servers_exact.IsExact limit szx word past }
 {}

@@ -7,6 +7,7 @@ use Rattle.coap_ends.proofs.ServerRepliesSo.{replies_so}
 use Rattle.coap_ends.proofs.ServerOnce.{served_once}
 use Rattle.coap_ends.proofs.ServerHanding.{handed_up}
 use Rattle.coap_ends.proofs.ServerGiving.{sends_responses}
+use Rattle.coap_ends.proofs.ServerExactly.{is_exact}
 use Rattle.coap_ends.proofs.laws.server_law.Goals as goal
 
 pub returns-clause-layer : goal.returns-clause-layer
@@ -32,3 +33,6 @@ returns-clause-holds c limit szx word t law = holds_changes limit szx t law.rows
 
 pub returns-clause-gives : goal.returns-clause-gives
 returns-clause-gives c limit szx word t law = sends_responses limit szx word t law
+
+pub returns-clause-exact : goal.returns-clause-exact
+returns-clause-exact c limit szx word past = is_exact limit szx word past
