@@ -9,34 +9,18 @@ use Rattle.coap_resource.specs.declared.refusal.StoreRefusal.{StoreRefusal}
 use Rattle.coap_exchange.specs.declared.answerer.Asked.{Asked}
 use Rattle.coap_exchange.specs.declared.answerer.Due.{Due}
 use Rattle.coap_exchange.specs.AnswererLaw as E
-use Rattle.coap_ends.specs.ServerTrace.{Handling, Silent, Refuses, Serves, Waits, Call, Sets, Removes, Delays, Feeds, Ticks, NextOut}
+use Rattle.coap_ends.specs.ServerTrace.{Handling, Serves, Call, Sets, Removes, Delays, Feeds, Ticks, NextOut}
 use Rattle.coap_ends.specs.ServerSteps.{answering, responding}
 use Rattle.coap_ends.specs.ServerLaw.{ServerLaw, own_of, lower_of, layer_of}
-
--- two stores hold the same, and count the same
-pub record HoldAlike (x y : Content) : Type 0 where
-  pub holds : (path : List (List ℕ)) → x.holds path ≡ y.holds path
-  pub paths : x.paths ≡ y.paths
-  pub tally : x.tally ≡ y.tally
 
 -- The values of a response's options are bytes, as their type has it: then a number has one spelling.
 abbrev pub InBytes : Handling → Type 0
 InBytes (Serves q reply response left) = All (λ o. AreBytes o.value) response.options
 InBytes h = Unit {0}
 
-abbrev pub HandledAlike : Handling → Handling → Type 0
-HandledAlike Silent Silent = Unit {0}
-HandledAlike (Refuses response) (Refuses other) = response ≡ other
-HandledAlike (Serves q reply response left) (Serves p answer other kept) = (q ≡ p) × (reply ≡ answer) × (response ≡ other) × HoldAlike left kept
-HandledAlike (Waits q delay) (Waits p time) = (q ≡ p) × (delay ≡ time)
-HandledAlike h k = ⊥
-
 -- Two calls leave the same: the server's own state, that of its exchanges, and the trace of its message layer.
 pub record LeaveAlike (limit szx word : ℕ) (past : List Call) (c d : Call) : Type 0 where
-  pub clock : (own_of limit szx (c ∷ past)).clock ≡ (own_of limit szx (d ∷ past)).clock
-  pub store : HoldAlike (own_of limit szx (c ∷ past)).store (own_of limit szx (d ∷ past)).store
-  pub delays : (own_of limit szx (c ∷ past)).delays ≡ (own_of limit szx (d ∷ past)).delays
-  pub waiting : (own_of limit szx (c ∷ past)).waiting ≡ (own_of limit szx (d ∷ past)).waiting
+  pub own : own_of limit szx (c ∷ past) ≡ own_of limit szx (d ∷ past)
   pub exchanges : E.own_of (lower_of limit szx (c ∷ past)) ≡ E.own_of (lower_of limit szx (d ∷ past))
   pub layer : layer_of limit szx word (c ∷ past) ≡ layer_of limit szx word (d ∷ past)
 
@@ -44,22 +28,21 @@ pub record LeaveAlike (limit szx word : ℕ) (past : List Call) (c d : Call) : T
 pub record IsExact (limit szx word : ℕ) (past : List Call) : Type 0 where
   pub sets :
       (now : ℕ) (path : List (List ℕ)) (format : Option ℕ) (body : List ℕ) (answer another : Result ℕ StoreRefusal) (left other : Content) → ServerLaw limit szx word (Sets now path format body answer left ∷ past)
-      → ServerLaw limit szx word (Sets now path format body another other ∷ past)
-      → (answer ≡ another) × LeaveAlike limit szx word past (Sets now path format body answer left) (Sets now path format body another other)
+      → ServerLaw limit szx word (Sets now path format body another other ∷ past) → (answer ≡ another) × (left ≡ other)
   pub removes :
       (now : ℕ) (path : List (List ℕ)) (answer another : Result Bool StoreRefusal) (left other : Content) → ServerLaw limit szx word (Removes now path answer left ∷ past)
-      → ServerLaw limit szx word (Removes now path another other ∷ past) → (answer ≡ another) × LeaveAlike limit szx word past (Removes now path answer left) (Removes now path another other)
+      → ServerLaw limit szx word (Removes now path another other ∷ past) → (answer ≡ another) × (left ≡ other)
   pub delays : (path : List (List ℕ)) (ms : ℕ) (answer another : Bool) → ServerLaw limit szx word (Delays path ms answer ∷ past) → ServerLaw limit szx word (Delays path ms another ∷ past) → answer ≡ another
   pub feeds :
       (now : ℕ) (from : Endpoint) (bytes : List ℕ) (w : ℕ) (up other : L.Answer) (came come : Option (Asked × Message)) (h k : Handling) (below beyond : L.Answer) → InBytes h → InBytes k
       → ServerLaw limit szx word (Feeds now from bytes w up came h below ∷ past) → ServerLaw limit szx word (Feeds now from bytes w other come k beyond ∷ past)
-      → (up ≡ other) × (came ≡ come) × HandledAlike h k
+      → (up ≡ other) × (came ≡ come) × (h ≡ k)
       × (answering (max (own_of limit szx past).clock now) came h below ≡ answering (max (own_of limit szx past).clock now) come k beyond)
       × LeaveAlike limit szx word past (Feeds now from bytes w up came h below) (Feeds now from bytes w other come k beyond)
   pub ticks :
       (now w : ℕ) (below other : L.Answer) (room space : Bool) (d due : Due) (h k : Handling) (id number : ℕ) (answer another : Bool) → InBytes h → InBytes k
       → ServerLaw limit szx word (Ticks now w below room d h id answer ∷ past) → ServerLaw limit szx word (Ticks now w other space due k number another ∷ past)
-      → (below ≡ other) × (d ≡ due) × HandledAlike h k
+      → (below ≡ other) × (d ≡ due) × (h ≡ k)
       × (responding (max (own_of limit szx past).clock now) d h w id ≡ responding (max (own_of limit szx past).clock now) due k w number) × (answer ≡ another)
       × LeaveAlike limit szx word past (Ticks now w below room d h id answer) (Ticks now w other space due k number another)
   pub next_out : (answer another : Option L.Packet) → ServerLaw limit szx word (NextOut answer ∷ past) → ServerLaw limit szx word (NextOut another ∷ past) → answer ≡ another
