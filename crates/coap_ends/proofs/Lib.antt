@@ -18,6 +18,7 @@ pub mod ClientExactly
 pub mod StoreExactly
 pub mod ServerHandled
 pub mod ServerExactly
+pub mod ServerWitness
 pub mod ClientNons
 pub mod ClientCons
 pub mod ServerCounts
