@@ -25,55 +25,55 @@ use Rattle.coap_exchange.specs.AnswererLaw as W
 use Rattle.coap_ends.specs.ServerTrace.{Serves, Call, Sets, Feeds, NextOut}
 use Rattle.coap_ends.specs.ServerLaw.{lower_of, ServerRows, ServerLaw}
 
-abbrev client : Endpoint
+abbrev pub client : Endpoint
 client = record { ip = 127 ∷ 0 ∷ 0 ∷ 1 ∷ []; port = 9 }
 
 -- "temperature" and "22.3 C"
-abbrev temperature : List ℕ
+abbrev pub temperature : List ℕ
 temperature = 0x74 ∷ 0x65 ∷ 0x6d ∷ 0x70 ∷ 0x65 ∷ 0x72 ∷ 0x61 ∷ 0x74 ∷ 0x75 ∷ 0x72 ∷ 0x65 ∷ []
 
-abbrev body : List ℕ
+abbrev pub body : List ℕ
 body = 0x32 ∷ 0x32 ∷ 0x2e ∷ 0x33 ∷ 0x20 ∷ 0x43 ∷ []
 
-abbrev path : List (List ℕ)
+abbrev pub path : List (List ℕ)
 path = temperature ∷ []
 
 -- a GET, and the 2.05 that is piggybacked: with the entity-tag of version 1, and format 0
-abbrev request_bytes : List ℕ
+abbrev pub request_bytes : List ℕ
 request_bytes = 0x40 ∷ 0x01 ∷ 0x7d ∷ 0x34 ∷ 0xbb ∷ temperature
 
 abbrev response_bytes : List ℕ
 response_bytes = 0x60 ∷ 0x45 ∷ 0x7d ∷ 0x34 ∷ 0x48 ∷ 0 ∷ 0 ∷ 0 ∷ 0 ∷ 0 ∷ 0 ∷ 0 ∷ 1 ∷ 0x80 ∷ 0xff ∷ body
 
-abbrev uri : CoapOption
+abbrev pub uri : CoapOption
 uri = record { number = 11; value = temperature }
 
-abbrev request : Message
+abbrev pub request : Message
 request = record { kind = Con; code = 1; id = 0x7d34; token = []; options = uri ∷ []; payload = [] }
 
-abbrev asked : Asked
+abbrev pub asked : Asked
 asked = P.asked_of client request
 
 -- what the path holds then, and what is asked and answered
-abbrev held : Held
+abbrev pub held : Held
 held = record { version = 1; format = Some 0; body = body }
 
-abbrev store : Content
+abbrev pub store : Content
 store = record { holds = λ p. cond (same_path p path) (Some held) None; paths = 1; tally = counted (unused 16) 0 }
 
-abbrev question : Question
+abbrev pub question : Question
 question = record { method = Get; path = path; options = uri ∷ []; body = []; szx = 6 }
 
-abbrev tag : List ℕ
+abbrev pub tag : List ℕ
 tag = 0 ∷ 0 ∷ 0 ∷ 0 ∷ 0 ∷ 0 ∷ 0 ∷ 1 ∷ []
 
-abbrev reply : Reply
+abbrev pub reply : Reply
 reply = record { code = 69; tag = Some tag; format = Some 0; block2 = None; part = body; offset = 0 }
 
-abbrev options : List CoapOption
+abbrev pub options : List CoapOption
 options = record { number = 4; value = tag } ∷ record { number = 12; value = [] } ∷ []
 
-abbrev response : E.Response
+abbrev pub response : E.Response
 response = record { code = 69; options = options; payload = body }
 
 -- the calls, the newest first
@@ -84,7 +84,7 @@ run =
     Sets 0 path (Some 0) body (Ok 1) store ∷
     []
 
-changes : Changes (nothing 16) 0 path (Some held) store
+pub changes : Changes (nothing 16) 0 path (Some held) store
 changes = record {
   there = refl;
   others = λ p other. by p other (same_path p path) refl;
@@ -121,16 +121,16 @@ exchanges = lower_of 16 6 run
 abbrev below : List Below
 below = W.lower_of exchanges
 
-abbrev all_bytes : List ℕ → Bool
+abbrev pub all_bytes : List ℕ → Bool
 all_bytes [] = true
 all_bytes (b ∷ bytes) = nat_le b 255 && all_bytes bytes
 
-are_bytes : (bytes : List ℕ) → all_bytes bytes ≡ true → AreBytes bytes
+pub are_bytes : (bytes : List ℕ) → all_bytes bytes ≡ true → AreBytes bytes
 are_bytes [] h i = omega arith
 are_bytes (b ∷ bytes) h zero = (let k = le_true b 255 (and_left _ _ h) in omega (arith, k))
 are_bytes (b ∷ bytes) h (suc i) = are_bytes bytes (and_right (nat_le b 255) _ h) i
 
-spelled : P.IsResponse asked response
+pub spelled : P.IsResponse asked response
 spelled = record {
   code = refl;
   spelled = (sendable_when_short _ (record { some = omega arith; code = omega arith; id = omega arith; token = omega arith; order = refl; numbers = refl; short = refl }) (omega arith)).spelled;
