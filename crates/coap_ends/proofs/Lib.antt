@@ -19,6 +19,7 @@ pub mod StoreExactly
 pub mod ServerHandled
 pub mod ServerExactly
 pub mod ServerWitness
+pub mod ClientWitness
 pub mod SeparateWitness
 pub mod ClientNons
 pub mod ClientCons
