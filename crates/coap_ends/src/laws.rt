@@ -23,6 +23,8 @@ ghost use Rattle.coap_ends.specs.ServerTrace as server;
 pub fn client_law()
     // The calls of its message layer stand in the law of that layer (RFC 7252, section 4).
     ensures layer { (server : Endpoint) (szx word : ℕ) (t : List Call) → ClientLaw server szx word t → LayerLaw word (layer_of server word t) }
+    // The law leaves each call one answer.
+    ensures exact { (server : Endpoint) (szx word : ℕ) (past : List Call) → clients_exact.IsExact server szx word past }
     // A retransmission is of a CON that was begun at most 47,000 ms before, with the same bytes (RFC 7252, section 4.2).
     ensures copies { (server : Endpoint) (szx word : ℕ) (t : List Call) → ClientLaw server szx word t → CopiesInTime (layer_of server word t) }
     // It begins no other CON than the requests of its calls, each with its token, to the server (RFC 7252, section 5.2).
@@ -44,14 +46,14 @@ pub fn client_law()
     ensures heard { (server : Endpoint) (szx word : ℕ) (t : List Call) → ClientLaw server szx word t → AreHeard server word t }
     // A call is reported at most once.
     ensures once { (server : Endpoint) (szx word : ℕ) (t : List Call) → ClientLaw server szx word t → ReportedOnce t }
-    // The law leaves each call one answer.
-    ensures exact { (server : Endpoint) (szx word : ℕ) (past : List Call) → clients_exact.IsExact server szx word past }
 {}
 
 /// What follows from the law of a server, over its own trace.
 pub fn server_law()
     // The calls of its message layer stand in the law of that layer (RFC 7252, section 4).
     ensures layer { (limit szx word : ℕ) (t : List server.Call) → ServerLaw limit szx word t → LayerLaw word (servers.layer_of limit szx word t) }
+    // The law leaves each call one answer.
+    ensures exact { (limit szx word : ℕ) (past : List server.Call) → servers_exact.IsExact limit szx word past }
     // It replies at once: with the Reset of a response, or the acknowledgement of a CON, which may carry the response to it
     // (RFC 7252, sections 4.2 and 5.2.1).
     ensures replies { (limit szx word : ℕ) (t : List server.Call) → ServerLaw limit szx word t → Always RepliesSo (servers.layer_of limit szx word t) }
@@ -67,6 +69,4 @@ pub fn server_law()
     ensures holds { (limit szx word : ℕ) (t : List server.Call) → ServerLaw limit szx word t → HoldsChanges limit szx t }
     // What it sends is Empty, or carries the response to a request that was handed up (sections 4.2 and 5.2).
     ensures gives { (limit szx word : ℕ) (t : List server.Call) → ServerLaw limit szx word t → SendsResponses limit szx word t }
-    // The law leaves each call one answer.
-    ensures exact { (limit szx word : ℕ) (past : List server.Call) → servers_exact.IsExact limit szx word past }
 {}

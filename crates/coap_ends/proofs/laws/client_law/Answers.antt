@@ -21,6 +21,9 @@ use Rattle.coap_ends.proofs.laws.client_law.Goals as goal
 pub returns-clause-layer : goal.returns-clause-layer
 returns-clause-layer c server szx word t law = layer_stands server word (lower_of t) law.exchanges
 
+pub returns-clause-exact : goal.returns-clause-exact
+returns-clause-exact c server szx word past = is_exact server szx word past
+
 pub returns-clause-copies : goal.returns-clause-copies
 returns-clause-copies c server szx word t law = copies_in_time word (layer_of server word t) (layer_stands server word (lower_of t) law.exchanges)
 
@@ -57,6 +60,3 @@ returns-clause-heard c server szx word t law = are_heard server word t law.excha
 
 pub returns-clause-once : goal.returns-clause-once
 returns-clause-once c server szx word t law = reported_once szx t law.rows
-
-pub returns-clause-exact : goal.returns-clause-exact
-returns-clause-exact c server szx word past = is_exact server szx word past

@@ -13,6 +13,9 @@ use Rattle.coap_ends.proofs.laws.server_law.Goals as goal
 pub returns-clause-layer : goal.returns-clause-layer
 returns-clause-layer c limit szx word t law = layer_stands word (lower_of limit szx t) law.exchanges
 
+pub returns-clause-exact : goal.returns-clause-exact
+returns-clause-exact c limit szx word past = is_exact limit szx word past
+
 pub returns-clause-replies : goal.returns-clause-replies
 returns-clause-replies c limit szx word t law = replies_so word limit szx t law.exchanges.rows law.exchanges.left law.exchanges.layer
 
@@ -33,6 +36,3 @@ returns-clause-holds c limit szx word t law = holds_changes limit szx t law.rows
 
 pub returns-clause-gives : goal.returns-clause-gives
 returns-clause-gives c limit szx word t law = sends_responses limit szx word t law
-
-pub returns-clause-exact : goal.returns-clause-exact
-returns-clause-exact c limit szx word past = is_exact limit szx word past
