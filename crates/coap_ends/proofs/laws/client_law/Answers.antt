@@ -3,6 +3,7 @@ use Rattle.coap_exchange.proofs.AskerLeading.{layer_stands}
 use Rattle.coap_exchange.proofs.AskerApart.{known}
 use Rattle.coap_exchange.proofs.AskerCame.{came_from}
 use Rattle.coap_exchange.proofs.AskerTokens.{counted}
+use Rattle.coap_ends.proofs.ClientExactly.{is_exact}
 use Rattle.coap_ends.specs.ClientLaw.{lower_of, layer_of}
 use Rattle.coap_layer.specs.State.{start}
 use Rattle.coap_exchange.specs.AskerLaw as asker
@@ -15,7 +16,6 @@ use Rattle.coap_ends.proofs.ClientAnswers.{are_answers, are_from_server}
 use Rattle.coap_ends.proofs.ClientOnce.{reported_once}
 use Rattle.coap_ends.proofs.ClientHears.{are_heard}
 use Rattle.coap_ends.proofs.ClientNumbers.{one_sending}
-use Rattle.coap_ends.proofs.ClientExactly.{is_exact}
 use Rattle.coap_ends.proofs.laws.client_law.Goals as goal
 
 pub returns-clause-layer : goal.returns-clause-layer

@@ -1,13 +1,13 @@
 use Rattle.coap_layer.proofs.CopyLemmas.{handed_up_once}
 use Rattle.coap_exchange.proofs.AnswererLeading.{layer_stands}
 use Rattle.coap_exchange.proofs.AnswererOnce.{counted}
+use Rattle.coap_ends.proofs.ServerExactly.{is_exact}
 use Rattle.coap_ends.specs.ServerLaw.{lower_of, layer_of}
 use Rattle.coap_ends.proofs.ServerHolds.{all_served, holds_changes}
 use Rattle.coap_ends.proofs.ServerRepliesSo.{replies_so}
 use Rattle.coap_ends.proofs.ServerOnce.{served_once}
 use Rattle.coap_ends.proofs.ServerHanding.{handed_up}
 use Rattle.coap_ends.proofs.ServerGiving.{sends_responses}
-use Rattle.coap_ends.proofs.ServerExactly.{is_exact}
 use Rattle.coap_ends.proofs.laws.server_law.Goals as goal
 
 pub returns-clause-layer : goal.returns-clause-layer
