@@ -14,6 +14,13 @@ pub mod ServerHanding
 pub mod Sources
 pub mod ServerMakes
 pub mod ServerGiving
+pub mod ClientExactly
+pub mod StoreExactly
+pub mod ServerHandled
+pub mod ServerExactly
+pub mod ServerWitness
+pub mod ClientWitness
+pub mod SeparateWitness
 pub mod ClientNons
 pub mod ClientCons
 pub mod ServerCounts

@@ -3,11 +3,13 @@ pub mod ClientRequests
 pub mod ClientReports
 pub mod ClientSteps
 pub mod ClientLaw
+pub mod ClientExact
 pub mod ClientFollows
 pub mod ServerTrace
 pub mod ServerChecks
 pub mod ServerSteps
 pub mod ServerLaw
+pub mod ServerExact
 pub mod ServerFollows
 pub mod ClientBegins
 pub mod ClientSendings

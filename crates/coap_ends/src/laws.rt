@@ -5,11 +5,13 @@ ghost use Rattle.coap_layer.specs.Channel.{RepliesSo};
 ghost use Rattle.coap_layer.specs.Follows.{CopiesInTime, HandedUpOnce};
 ghost use Rattle.coap_layer.specs.Rows.{LayerLaw};
 ghost use Rattle.coap_ends.specs.ClientBegins.{ConsAreRequests};
+ghost use Rattle.coap_ends.specs.ClientExact as clients_exact;
 ghost use Rattle.coap_ends.specs.ClientFollows.{AreSent, ReportsAreAnswers, AreFromServer, ReportedOnce};
 ghost use Rattle.coap_ends.specs.ClientHears.{AreHeard};
 ghost use Rattle.coap_ends.specs.ClientLaw.{ClientLaw, layer_of};
 ghost use Rattle.coap_ends.specs.ClientSendings.{OneSending, NoNons, OneCon};
 ghost use Rattle.coap_ends.specs.ClientTrace.{Call};
+ghost use Rattle.coap_ends.specs.ServerExact as servers_exact;
 ghost use Rattle.coap_ends.specs.ServerFollows.{ServedOnce, AllServed, HoldsChanges};
 ghost use Rattle.coap_ends.specs.ServerGives.{SendsResponses};
 ghost use Rattle.coap_ends.specs.ServerHands.{AreHandedUp};
@@ -22,6 +24,8 @@ ghost use Rattle.coap_ends.specs.ServerTrace as server;
 pub fn client_law()
     // The calls of its message layer stand in the law of that layer (RFC 7252, section 4).
     ensures layer { (server : Endpoint) (szx word : ℕ) (t : List Call) → ClientLaw server szx word t → LayerLaw word (layer_of server word t) }
+    // The law leaves each call one answer.
+    ensures exact { (server : Endpoint) (szx word : ℕ) (past : List Call) → clients_exact.IsExact server szx word past }
     // A retransmission is of a CON that was begun at most 47,000 ms before, with the same bytes (RFC 7252, section 4.2).
     ensures copies { (server : Endpoint) (szx word : ℕ) (t : List Call) → ClientLaw server szx word t → CopiesInTime (layer_of server word t) }
     // It begins no other CON than the requests of its calls, each with its token, to the server (RFC 7252, section 5.2).
@@ -49,6 +53,8 @@ pub fn client_law()
 pub fn server_law()
     // The calls of its message layer stand in the law of that layer (RFC 7252, section 4).
     ensures layer { (limit szx word : ℕ) (t : List server.Call) → ServerLaw limit szx word t → LayerLaw word (servers.layer_of limit szx word t) }
+    // The law leaves each call one answer.
+    ensures exact { (limit szx word : ℕ) (past : List server.Call) → servers_exact.IsExact limit szx word past }
     // It replies at once: with the Reset of a response, or the acknowledgement of a CON, which may carry the response to it
     // (RFC 7252, sections 4.2 and 5.2.1).
     ensures replies { (limit szx word : ℕ) (t : List server.Call) → ServerLaw limit szx word t → Always RepliesSo (servers.layer_of limit szx word t) }

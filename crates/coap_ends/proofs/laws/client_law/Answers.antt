@@ -3,6 +3,7 @@ use Rattle.coap_exchange.proofs.AskerLeading.{layer_stands}
 use Rattle.coap_exchange.proofs.AskerApart.{known}
 use Rattle.coap_exchange.proofs.AskerCame.{came_from}
 use Rattle.coap_exchange.proofs.AskerTokens.{counted}
+use Rattle.coap_ends.proofs.ClientExactly.{is_exact}
 use Rattle.coap_ends.specs.ClientLaw.{lower_of, layer_of}
 use Rattle.coap_layer.specs.State.{start}
 use Rattle.coap_exchange.specs.AskerLaw as asker
@@ -19,6 +20,9 @@ use Rattle.coap_ends.proofs.laws.client_law.Goals as goal
 
 pub returns-clause-layer : goal.returns-clause-layer
 returns-clause-layer c server szx word t law = layer_stands server word (lower_of t) law.exchanges
+
+pub returns-clause-exact : goal.returns-clause-exact
+returns-clause-exact c server szx word past = is_exact server szx word past
 
 pub returns-clause-copies : goal.returns-clause-copies
 returns-clause-copies c server szx word t law = copies_in_time word (layer_of server word t) (layer_stands server word (lower_of t) law.exchanges)

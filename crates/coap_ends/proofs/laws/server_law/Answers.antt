@@ -1,6 +1,7 @@
 use Rattle.coap_layer.proofs.CopyLemmas.{handed_up_once}
 use Rattle.coap_exchange.proofs.AnswererLeading.{layer_stands}
 use Rattle.coap_exchange.proofs.AnswererOnce.{counted}
+use Rattle.coap_ends.proofs.ServerExactly.{is_exact}
 use Rattle.coap_ends.specs.ServerLaw.{lower_of, layer_of}
 use Rattle.coap_ends.proofs.ServerHolds.{all_served, holds_changes}
 use Rattle.coap_ends.proofs.ServerRepliesSo.{replies_so}
@@ -12,6 +13,9 @@ use Rattle.coap_ends.proofs.laws.server_law.Goals as goal
 
 pub returns-clause-layer : goal.returns-clause-layer
 returns-clause-layer c limit szx word t law = layer_stands word (lower_of limit szx t) law.exchanges
+
+pub returns-clause-exact : goal.returns-clause-exact
+returns-clause-exact c limit szx word past = is_exact limit szx word past
 
 pub returns-clause-replies : goal.returns-clause-replies
 returns-clause-replies c limit szx word t law = replies_so word limit szx t law.exchanges.rows law.exchanges.left law.exchanges.layer
