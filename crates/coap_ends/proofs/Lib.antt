@@ -20,3 +20,6 @@ pub mod ServerStoreBounds
 pub mod ServerContent
 pub mod ServerWhole
 pub mod ServerShown
+pub mod ClientGiven
+pub mod ServerStamps
+pub mod ServerTagged

@@ -13,4 +13,6 @@ pub mod ClientBegins
 pub mod ClientSendings
 pub mod ServerHands
 pub mod ServerShows
+pub mod ServerTags
 pub mod ClientHears
+pub mod ClientGives

@@ -6,6 +6,7 @@ ghost use Rattle.coap_layer.specs.Follows.{CopiesInTime, HandedUpOnce};
 ghost use Rattle.coap_layer.specs.Rows.{LayerLaw};
 ghost use Rattle.coap_ends.specs.ClientBegins.{ConsAreRequests};
 ghost use Rattle.coap_ends.specs.ClientFollows.{AreSent, ReportsAreAnswers, AreFromServer, ReportedOnce};
+ghost use Rattle.coap_ends.specs.ClientGives.{GivesInOrder};
 ghost use Rattle.coap_ends.specs.ClientHears.{AreHeard};
 ghost use Rattle.coap_ends.specs.ClientLaw.{ClientLaw, layer_of};
 ghost use Rattle.coap_ends.specs.ClientSendings.{OneSending, NoNons, OneCon};
@@ -15,6 +16,7 @@ ghost use Rattle.coap_ends.specs.ServerHands.{AreHandedUp};
 ghost use Rattle.coap_ends.specs.ServerLaw as servers;
 ghost use Rattle.coap_ends.specs.ServerLaw.{ServerLaw};
 ghost use Rattle.coap_ends.specs.ServerShows.{FormatsInRange, ShowsHeld};
+ghost use Rattle.coap_ends.specs.ServerTags.{AreStamped, OneTag};
 ghost use Rattle.coap_ends.specs.ServerTrace as server;
 
 /// What follows from the law of a client, over its own trace.
@@ -42,6 +44,8 @@ pub fn client_law()
     ensures heard { (server : Endpoint) (szx word : ℕ) (t : List Call) → ClientLaw server szx word t → AreHeard server word t }
     // A call is reported at most once.
     ensures once { (server : Endpoint) (szx word : ℕ) (t : List Call) → ClientLaw server szx word t → ReportedOnce t }
+    // What is given as reports is what was made, in order.
+    ensures in_order { (server : Endpoint) (szx word : ℕ) (t : List Call) → ClientLaw server szx word t → GivesInOrder t }
 {}
 
 /// What follows from the law of a server, over its own trace.
@@ -61,6 +65,10 @@ pub fn server_law()
     ensures right { (limit szx word : ℕ) (t : List server.Call) → ServerLaw limit szx word t → AllServed limit szx t }
     // The versions of the changes are 1, 2, 3 and so on, and each path holds its last change (section 5.10.6).
     ensures holds { (limit szx word : ℕ) (t : List server.Call) → ServerLaw limit szx word t → HoldsChanges limit szx t }
+    // They are numbers of 64 bits, and what a change puts has its version ..
+    ensures stamped { (limit szx word : ℕ) (t : List server.Call) → ServerLaw limit szx word t → AreStamped limit szx t }
+    // .. so an entity-tag names one representation.
+    ensures tags { (limit szx word : ℕ) (t : List server.Call) → ServerLaw limit szx word t → OneTag limit szx t }
     // What a 2.05 shows that comes whole, the path held then (sections 5.8.1 and 5.10.6).
     ensures shows { (limit szx word : ℕ) (t : List server.Call) → ServerLaw limit szx word t → FormatsInRange t → ShowsHeld limit szx t }
 {}

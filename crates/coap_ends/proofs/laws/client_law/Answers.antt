@@ -15,6 +15,7 @@ use Rattle.coap_ends.proofs.ClientAnswers.{are_answers, are_from_server}
 use Rattle.coap_ends.proofs.ClientOnce.{reported_once}
 use Rattle.coap_ends.proofs.ClientHears.{are_heard}
 use Rattle.coap_ends.proofs.ClientNumbers.{one_sending}
+use Rattle.coap_ends.proofs.ClientGiven.{gives_in_order}
 use Rattle.coap_ends.proofs.laws.client_law.Goals as goal
 
 pub returns-clause-layer : goal.returns-clause-layer
@@ -56,3 +57,6 @@ returns-clause-heard c server szx word t law = are_heard server word t law.excha
 
 pub returns-clause-once : goal.returns-clause-once
 returns-clause-once c server szx word t law = reported_once szx t law.rows
+
+pub returns-clause-in_order : goal.returns-clause-in_order
+returns-clause-in_order c server szx word t law = gives_in_order szx t law.rows
