@@ -23,3 +23,4 @@ pub mod ServerShown
 pub mod ClientGiven
 pub mod ServerStamps
 pub mod ServerTagged
+pub mod ClientCounted

@@ -16,3 +16,4 @@ pub mod ServerShows
 pub mod ServerTags
 pub mod ClientHears
 pub mod ClientGives
+pub mod ClientNumbering

@@ -9,6 +9,7 @@ ghost use Rattle.coap_ends.specs.ClientFollows.{AreSent, ReportsAreAnswers, AreF
 ghost use Rattle.coap_ends.specs.ClientGives.{GivesInOrder};
 ghost use Rattle.coap_ends.specs.ClientHears.{AreHeard};
 ghost use Rattle.coap_ends.specs.ClientLaw.{ClientLaw, layer_of};
+ghost use Rattle.coap_ends.specs.ClientNumbering.{OneCall};
 ghost use Rattle.coap_ends.specs.ClientSendings.{OneSending, NoNons, OneCon};
 ghost use Rattle.coap_ends.specs.ClientTrace.{Call};
 ghost use Rattle.coap_ends.specs.ServerFollows.{ServedOnce, AllServed, HoldsChanges};
@@ -37,6 +38,8 @@ pub fn client_law()
     ensures sent { (server : Endpoint) (szx word : ℕ) (t : List Call) → ClientLaw server szx word t → AreSent t }
     // A call has one request, and no other has its token (RFC 7252, section 5.3.1).
     ensures sending { (server : Endpoint) (szx word : ℕ) (t : List Call) → ClientLaw server szx word t → OneSending t }
+    // A number names one call.
+    ensures numbers { (server : Endpoint) (szx word : ℕ) (t : List Call) → ClientLaw server szx word t → OneCall t }
     // A report of a response is of the answer to a request of that call (RFC 7252, section 5.3.2).
     ensures answers { (server : Endpoint) (szx word : ℕ) (t : List Call) → ClientLaw server szx word t → ReportsAreAnswers t }
     ensures from_server { (server : Endpoint) (szx word : ℕ) (t : List Call) → ClientLaw server szx word t → AreFromServer server t }
