@@ -68,10 +68,10 @@ pub fn server_law()
     ensures right { (limit szx word : ℕ) (t : List server.Call) → ServerLaw limit szx word t → AllServed limit szx t }
     // The versions of the changes are 1, 2, 3 and so on, and each path holds its last change (section 5.10.6).
     ensures holds { (limit szx word : ℕ) (t : List server.Call) → ServerLaw limit szx word t → HoldsChanges limit szx t }
-    // They are numbers of 64 bits, and what a change puts has its version ..
+    // What a 2.05 shows that comes whole, the path held then (sections 5.8.1 and 5.10.6).
+    ensures shows { (limit szx word : ℕ) (t : List server.Call) → ServerLaw limit szx word t → FormatsInRange t → ShowsHeld limit szx t }
+    // A version is a number of 64 bits, and what a change puts has the version of the change (section 5.10.6) ..
     ensures stamped { (limit szx word : ℕ) (t : List server.Call) → ServerLaw limit szx word t → AreStamped limit szx t }
     // .. so an entity-tag names one representation.
     ensures tags { (limit szx word : ℕ) (t : List server.Call) → ServerLaw limit szx word t → OneTag limit szx t }
-    // What a 2.05 shows that comes whole, the path held then (sections 5.8.1 and 5.10.6).
-    ensures shows { (limit szx word : ℕ) (t : List server.Call) → ServerLaw limit szx word t → FormatsInRange t → ShowsHeld limit szx t }
 {}
