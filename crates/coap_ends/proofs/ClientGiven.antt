@@ -23,7 +23,8 @@ taken xs ys (z ∷ zs) (Some r) is h =
     append-nil xs ∙ h ∙ ap (λ w. ys ++ (w ∷ zs)) (let e : z ≡ r = cc is in e) ∙ sym (append_assoc ys (r ∷ []) zs)
 
 module _ (szx : ℕ) where
-  waits : (t : List Call) → ClientRows szx t → made t ≡ given t ++ (own_of t).reports
+  -- what was made and is not taken waits
+  pub waits : (t : List Call) → ClientRows szx t → made t ≡ given t ++ (own_of t).reports
   waits [] law = refl
   waits (Calls now r answer ∷ t) law = same (made t) (given t) (own_of t).reports (waits t law.1)
   waits (NextOut answer ∷ t) law = same (made t) (given t) (own_of t).reports (waits t law.1)
