@@ -30,3 +30,7 @@ pub mod ServerStoreBounds
 pub mod ServerContent
 pub mod ServerWhole
 pub mod ServerShown
+pub mod ClientGiven
+pub mod ServerStamps
+pub mod ServerTagged
+pub mod ClientCounted

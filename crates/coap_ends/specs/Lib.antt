@@ -16,4 +16,7 @@ pub mod ClientSendings
 pub mod ServerHands
 pub mod ServerGives
 pub mod ServerShows
+pub mod ServerTags
 pub mod ClientHears
+pub mod ClientGives
+pub mod ClientNumbering

@@ -7,8 +7,10 @@ ghost use Rattle.coap_layer.specs.Rows.{LayerLaw};
 ghost use Rattle.coap_ends.specs.ClientBegins.{ConsAreRequests};
 ghost use Rattle.coap_ends.specs.ClientExact as clients_exact;
 ghost use Rattle.coap_ends.specs.ClientFollows.{AreSent, ReportsAreAnswers, AreFromServer, ReportedOnce};
+ghost use Rattle.coap_ends.specs.ClientGives.{GivesInOrder};
 ghost use Rattle.coap_ends.specs.ClientHears.{AreHeard};
 ghost use Rattle.coap_ends.specs.ClientLaw.{ClientLaw, layer_of};
+ghost use Rattle.coap_ends.specs.ClientNumbering.{OneCall};
 ghost use Rattle.coap_ends.specs.ClientSendings.{OneSending, NoNons, OneCon};
 ghost use Rattle.coap_ends.specs.ClientTrace.{Call};
 ghost use Rattle.coap_ends.specs.ServerExact as servers_exact;
@@ -18,6 +20,7 @@ ghost use Rattle.coap_ends.specs.ServerHands.{AreHandedUp};
 ghost use Rattle.coap_ends.specs.ServerLaw as servers;
 ghost use Rattle.coap_ends.specs.ServerLaw.{ServerLaw};
 ghost use Rattle.coap_ends.specs.ServerShows.{FormatsInRange, ShowsHeld};
+ghost use Rattle.coap_ends.specs.ServerTags.{AreStamped, OneTag};
 ghost use Rattle.coap_ends.specs.ServerTrace as server;
 
 /// What follows from the law of a client, over its own trace.
@@ -40,6 +43,8 @@ pub fn client_law()
     ensures sent { (server : Endpoint) (szx word : ℕ) (t : List Call) → ClientLaw server szx word t → AreSent t }
     // A call has one request, and no other has its token (RFC 7252, section 5.3.1).
     ensures sending { (server : Endpoint) (szx word : ℕ) (t : List Call) → ClientLaw server szx word t → OneSending t }
+    // A number names one call.
+    ensures numbers { (server : Endpoint) (szx word : ℕ) (t : List Call) → ClientLaw server szx word t → OneCall t }
     // A report of a response is of the answer to a request of that call (RFC 7252, section 5.3.2).
     ensures answers { (server : Endpoint) (szx word : ℕ) (t : List Call) → ClientLaw server szx word t → ReportsAreAnswers t }
     ensures from_server { (server : Endpoint) (szx word : ℕ) (t : List Call) → ClientLaw server szx word t → AreFromServer server t }
@@ -47,6 +52,8 @@ pub fn client_law()
     ensures heard { (server : Endpoint) (szx word : ℕ) (t : List Call) → ClientLaw server szx word t → AreHeard server word t }
     // A call is reported at most once.
     ensures once { (server : Endpoint) (szx word : ℕ) (t : List Call) → ClientLaw server szx word t → ReportedOnce t }
+    // What is given as reports is what was made, in order.
+    ensures in_order { (server : Endpoint) (szx word : ℕ) (t : List Call) → ClientLaw server szx word t → GivesInOrder t }
 {}
 
 /// What follows from the law of a server, over its own trace.
@@ -72,4 +79,8 @@ pub fn server_law()
     ensures gives { (limit szx word : ℕ) (t : List server.Call) → ServerLaw limit szx word t → SendsResponses limit szx word t }
     // What a 2.05 shows that comes whole, the path held then (sections 5.8.1 and 5.10.6).
     ensures shows { (limit szx word : ℕ) (t : List server.Call) → ServerLaw limit szx word t → FormatsInRange t → ShowsHeld limit szx t }
+    // A version is a number of 64 bits, and what a change puts has the version of the change (section 5.10.6) ..
+    ensures stamped { (limit szx word : ℕ) (t : List server.Call) → ServerLaw limit szx word t → AreStamped limit szx t }
+    // .. so an entity-tag names one representation.
+    ensures tags { (limit szx word : ℕ) (t : List server.Call) → ServerLaw limit szx word t → OneTag limit szx t }
 {}

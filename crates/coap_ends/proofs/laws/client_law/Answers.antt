@@ -16,6 +16,8 @@ use Rattle.coap_ends.proofs.ClientAnswers.{are_answers, are_from_server}
 use Rattle.coap_ends.proofs.ClientOnce.{reported_once}
 use Rattle.coap_ends.proofs.ClientHears.{are_heard}
 use Rattle.coap_ends.proofs.ClientNumbers.{one_sending}
+use Rattle.coap_ends.proofs.ClientGiven.{gives_in_order}
+use Rattle.coap_ends.proofs.ClientCounted.{one_call}
 use Rattle.coap_ends.proofs.laws.client_law.Goals as goal
 
 pub returns-clause-layer : goal.returns-clause-layer
@@ -60,3 +62,9 @@ returns-clause-heard c server szx word t law = are_heard server word t law.excha
 
 pub returns-clause-once : goal.returns-clause-once
 returns-clause-once c server szx word t law = reported_once szx t law.rows
+
+pub returns-clause-in_order : goal.returns-clause-in_order
+returns-clause-in_order c server szx word t law = gives_in_order szx t law.rows
+
+pub returns-clause-numbers : goal.returns-clause-numbers
+returns-clause-numbers c server szx word t law = one_call szx t law.rows

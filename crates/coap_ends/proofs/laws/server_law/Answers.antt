@@ -9,6 +9,8 @@ use Rattle.coap_ends.proofs.ServerOnce.{served_once}
 use Rattle.coap_ends.proofs.ServerHanding.{handed_up}
 use Rattle.coap_ends.proofs.ServerGiving.{sends_responses}
 use Rattle.coap_ends.proofs.ServerShown.{shows_held}
+use Rattle.coap_ends.proofs.ServerStamps.{are_stamped}
+use Rattle.coap_ends.proofs.ServerTagged.{one_tag}
 use Rattle.coap_ends.proofs.laws.server_law.Goals as goal
 
 pub returns-clause-layer : goal.returns-clause-layer
@@ -40,3 +42,9 @@ returns-clause-gives c limit szx word t law = sends_responses limit szx word t l
 
 pub returns-clause-shows : goal.returns-clause-shows
 returns-clause-shows c limit szx word t law formats = shows_held limit szx t law.rows formats
+
+pub returns-clause-stamped : goal.returns-clause-stamped
+returns-clause-stamped c limit szx word t law = are_stamped limit szx t law.rows
+
+pub returns-clause-tags : goal.returns-clause-tags
+returns-clause-tags c limit szx word t law = one_tag limit szx t law.rows
