@@ -18,4 +18,12 @@ pub mod ServerTurns
 pub mod Run
 pub mod Joined
 pub mod Across
-pub mod Witness
+pub mod WitnessWords
+pub mod WitnessPing
+pub mod WitnessStore
+pub mod WitnessGetClient
+pub mod WitnessGetServer
+pub mod WitnessGet
+pub mod WitnessPostClient
+pub mod WitnessPostServer
+pub mod WitnessPost

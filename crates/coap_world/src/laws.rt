@@ -8,6 +8,7 @@ ghost use Rattle.coap_world.specs.Delivery.{AllFair};
 ghost use Rattle.coap_world.specs.Events.{client_end, server_end, Config, Event};
 ghost use Rattle.coap_world.specs.Hops.{hops_of, across, TakenAtOnce};
 ghost use Rattle.coap_world.specs.Legal.{Legal};
+ghost use Rattle.coap_world.specs.LegalRuns.{Pings, Gets, Posts};
 ghost use Rattle.coap_world.specs.Record.{Turn, RecordOf, entries_of, client_of, server_trace};
 
 /// What comes from an end's address was given out by that end, for the one that it comes to, at most 100,000 ms before.
@@ -41,4 +42,14 @@ pub fn requests_law()
     ensures whole { (config : Config) (events : List Event) (turns : List Turn) → RecordOf config events turns → Legal turns → AppliedWhole config (entries_of turns) }
     // For each call at most one request is applied (RFC 7252, section 4.5).
     ensures once { (config : Config) (events : List Event) (turns : List Turn) → RecordOf config events turns → Legal turns → AtMostOnce config (entries_of turns) }
+{}
+
+/// Legal runs: what this crate says of them, it says of something.
+pub fn witness_law()
+    // A stranger pings the server, which answers with a Reset (RFC 7252, section 4.3).
+    ensures pings { Pings }
+    // A client gets what the server holds (RFC 7252, section 5.2.1).
+    ensures gets { Gets }
+    // A POST comes twice, the first of its acknowledgements is lost, and it is applied once (RFC 7252, section 4.5).
+    ensures posts { Posts }
 {}

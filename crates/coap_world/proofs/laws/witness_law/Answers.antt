@@ -1,0 +1,7 @@
+use Rattle.coap_world.proofs.WitnessGet.{gotten}
+use Rattle.coap_world.proofs.WitnessPing.{pinged}
+use Rattle.coap_world.proofs.WitnessPost.{posted}
+use Rattle.coap_world.proofs.laws.witness_law.Goals as goal
+
+pub returns : goal.returns
+returns c = record { pings = pinged; gets = gotten; posts = posted }

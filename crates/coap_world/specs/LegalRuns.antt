@@ -1,0 +1,122 @@
+-- Legal runs of a few events (RFC 7252, sections 4.2, 4.5, 5.2 and 5.8): the laws of the world are laws of something.
+use Rattle.std.specs.Prelude.{◌≡◌, ℕ, Some, None, List, [], ◌∷◌, ◌++◌, codes}
+use Rattle.coap_types.specs.Past.{Once, all_of}
+use Rattle.coap_types.specs.declared.endpoint.Endpoint.{Endpoint}
+use Rattle.coap_types.specs.declared.request.Method.TheVariants.{Get, Post}
+use Rattle.coap_ends.specs.ClientTrace.{Body, Done, Reported, Request}
+use Rattle.coap_ends.specs.ServerFollows.{held_at}
+use Rattle.coap_world.specs.Agrees.{ReportsAt, AppliesFor}
+use Rattle.coap_world.specs.Events.{client_end, server_end, localhost, Config, What, Calls, Sets, TickClient, Deliver, StrangerToServer, Event}
+use Rattle.coap_world.specs.Legal.{Legal}
+use Rattle.coap_world.specs.Record.{Given, Turn, given_in, RecordOf, entries_of, server_trace}
+
+-- words 0, blocks of 1,024 bytes, 4,194,303 changes a window, no delays
+abbrev pub config : Config
+config = record { client_word = 0; client_szx = 6; server_word = 0; server_szx = 6; limit = 4194303; delays = [] }
+
+-- each word is 0
+abbrev pub event : ℕ → What → Event
+event at what = record { at = at; word = 0; what = what }
+
+abbrev pub from_client : ℕ → List ℕ → Given
+from_client at bytes = record { at = at; from = client_end; packet = record { to = server_end; bytes = bytes } }
+
+abbrev pub from_server : ℕ → Endpoint → List ℕ → Given
+from_server at to bytes = record { at = at; from = server_end; packet = record { to = to; bytes = bytes } }
+
+-- A run of these events is legal, and in it the ends give out these datagrams, the newest first.
+pub record Runs (events : List Event) (given : List Given) : Type 0 where
+  pub turns : List Turn
+  pub made : RecordOf config events turns
+  pub legal : Legal turns
+  pub gives : all_of given_in turns ≡ given
+
+-- 8 bytes, all 0: the first token of a client of word 0
+abbrev pub token : List ℕ
+token = 0 ∷ 0 ∷ 0 ∷ 0 ∷ 0 ∷ 0 ∷ 0 ∷ 0 ∷ []
+
+-- the format text/plain
+abbrev pub plain : ℕ
+plain = 0
+
+-- a stranger pings the server (section 4.3)
+
+abbrev pub stranger : Endpoint
+stranger = record { ip = localhost; port = 9 }
+
+-- an Empty CON, and the Reset of it
+abbrev pub ping : List ℕ
+ping = 0x40 ∷ 0 ∷ 0 ∷ 1 ∷ []
+
+abbrev pub pong : List ℕ
+pong = 0x70 ∷ 0 ∷ 0 ∷ 1 ∷ []
+
+abbrev pub pings : List Event
+pings = event 0 (StrangerToServer stranger ping) ∷ []
+
+abbrev pub Pings : Type 0
+Pings = Runs pings (from_server 0 stranger pong ∷ [])
+
+-- the server holds `hi` at `t`; a client gets it (section 5.2.1)
+
+abbrev pub get : Request
+get = record { method = Get; path = codes "t" ∷ []; accept = None; format = None; body = [] }
+
+abbrev pub gets : List Event
+gets =
+    event 9 (Deliver 1) ∷
+    event 5 (Deliver 0) ∷
+    event 0 TickClient ∷
+    event 0 (Calls get) ∷
+    event 0 (Sets (codes "t" ∷ []) (Some plain) (codes "hi")) ∷
+    []
+
+-- a CON with Uri-Path `t`, and its piggybacked response: ETag 1, Content-Format 0 as an empty value, and the body
+abbrev pub get_bytes : List ℕ
+get_bytes = 0x48 ∷ 1 ∷ 0 ∷ 0 ∷ token ++ 0xb1 ∷ codes "t"
+
+abbrev pub content_bytes : List ℕ
+content_bytes = 0x68 ∷ 0x45 ∷ 0 ∷ 0 ∷ token ++ 0x48 ∷ 0 ∷ 0 ∷ 0 ∷ 0 ∷ 0 ∷ 0 ∷ 0 ∷ 1 ∷ 0x80 ∷ 0xff ∷ codes "hi"
+
+abbrev pub got : Reported
+got = record { number = 0; report = Body (Some (0 ∷ 0 ∷ 0 ∷ 0 ∷ 0 ∷ 0 ∷ 0 ∷ 1 ∷ [])) (Some plain) (codes "hi") }
+
+pub record Gets : Type 0 where
+  pub run : Runs gets (from_server 5 client_end content_bytes ∷ from_client 0 get_bytes ∷ [])
+  pub reports : Once (ReportsAt got) (entries_of run.turns)
+
+-- the server holds `x` at `log`; the POST of `a` comes twice, and the first of its two equal acknowledgements is lost
+-- (sections 4.2 and 4.5)
+
+abbrev pub log : List (List ℕ)
+log = codes "log" ∷ []
+
+abbrev pub post : Request
+post = record { method = Post; path = log; accept = None; format = None; body = codes "a" }
+
+abbrev pub posts : List Event
+posts =
+    event 7 (Deliver 2) ∷
+    event 5 (Deliver 0) ∷
+    event 0 (Deliver 0) ∷
+    event 0 TickClient ∷
+    event 0 (Calls post) ∷
+    event 0 (Sets log (Some plain) (codes "x")) ∷
+    []
+
+abbrev pub post_bytes : List ℕ
+post_bytes = 0x48 ∷ 2 ∷ 0 ∷ 0 ∷ token ++ 0xb3 ∷ codes "log" ++ 0xff ∷ codes "a"
+
+abbrev pub changed_bytes : List ℕ
+changed_bytes = 0x68 ∷ 0x44 ∷ 0 ∷ 0 ∷ token
+
+abbrev pub done : Reported
+done = record { number = 0; report = Done 68 }
+
+-- It is applied, and only once: the body has grown by one `a`.
+pub record Posts : Type 0 where
+  pub run : Runs posts (from_server 5 client_end changed_bytes ∷ from_server 0 client_end changed_bytes ∷ from_client 0 post_bytes ∷ [])
+  pub reports : Once (ReportsAt done) (entries_of run.turns)
+  pub applies : Once (AppliesFor config 0 (entries_of run.turns)) (entries_of run.turns)
+  pub held : held_at config.limit config.server_szx log (server_trace config (entries_of run.turns))
+      ≡ Some (record { version = 2; format = Some plain; body = codes "xa" })
