@@ -24,6 +24,12 @@ pub mod WitnessStore
 pub mod WitnessGetClient
 pub mod WitnessGetServer
 pub mod WitnessGet
+pub mod WitnessLateClient
+pub mod WitnessLateServer
+pub mod WitnessLate
 pub mod WitnessPostClient
 pub mod WitnessPostServer
 pub mod WitnessPost
+pub mod WitnessFailClient
+pub mod WitnessFailServer
+pub mod WitnessFail

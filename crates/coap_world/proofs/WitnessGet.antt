@@ -11,7 +11,7 @@ use Rattle.coap_world.proofs.WitnessGetClient as client
 use Rattle.coap_world.proofs.WitnessGetServer as server
 
 -- none meets want of memory
-abbrev turn : Event → List Entry → Turn
+abbrev pub turn : Event → List Entry → Turn
 turn e entries = record { event = e; refused = false; entries = entries }
 
 abbrev turns : List Turn
@@ -46,7 +46,7 @@ made = (
   ),
 )
 
-path : IsPath get.path
+pub path : IsPath get.path
 path = path_of_one (codes "t") (omega arith) (bytes_are (codes "t") refl)
 
 legal : Legal turns

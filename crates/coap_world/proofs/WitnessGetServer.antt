@@ -1,5 +1,5 @@
 -- The server of a legal run: it is given a representation, and serves it (RFC 7252, sections 5.2.1 and 5.8.1).
-use Rattle.std.proofs.Common.{true, Some, None, List, [], ◌∷◌, ◌++◌, Ok, refl, arith}
+use Rattle.std.proofs.Common.{ℕ, true, Some, None, List, [], ◌∷◌, ◌++◌, Ok, refl, arith}
 use Rattle.std.specs.Prelude.{codes}
 use Rattle.coap_types.specs.declared.message.Kind.TheVariants.{Con}
 use Rattle.coap_types.specs.declared.request.Method.TheVariants.{Get}
@@ -11,13 +11,15 @@ use Rattle.coap_layer.specs.Rows.{IsSpelled}
 use Rattle.coap_layer.specs.State.{start}
 use Rattle.coap_layer.specs.Steps.{Asked, Steps, left_after}
 use Rattle.coap_layer.specs.Trace as L
-use Rattle.coap_resource.specs.Content.{Content}
+use Rattle.coap_resource.specs.Content.{Content, Changes, nothing}
 use Rattle.coap_resource.specs.Rate.{counted, unused}
 use Rattle.coap_resource.specs.Serves.{Question, Reply}
 use Rattle.coap_exchange.specs.AnswererLaw as answerer
 use Rattle.coap_exchange.specs.AnswererSteps.{asked_of, content_of}
 use Rattle.coap_exchange.specs.AnswererTrace as E
 use Rattle.coap_ends.specs.ServerTrace as S
+use Rattle.coap_ends.specs.ServerChecks.{IsPlain}
+use Rattle.coap_ends.specs.ServerSteps.{IsServed}
 use Rattle.coap_ends.specs.ServerLaw.{ServerLaw, ServerRows, lower_of}
 use Rattle.coap_world.specs.Events.{client_end}
 use Rattle.coap_world.specs.LegalRuns.{token, plain, get_bytes, content_bytes}
@@ -61,30 +63,27 @@ fed = S.NextOut None ∷ S.NextOut (Some response_out) ∷ serves ∷ []
 abbrev pub calls : List S.Call
 calls = fed ++ set
 
-rows : ServerRows 4194303 6 calls
-unfolding option_bytes options_bytes
-rows = (
-  tt,
-  (
-    tt,
-    (
-      (
-        record { no_block = refl; no_observe = refl },
-        record {
-          reply = reply;
-          options = content.options;
-          left = stored;
-          serves = (refl, refl);
-          says = record { format = Some []; block2 = None; format_is = record { spelt = refl; no_zero = tt }; block2_is = tt; list = refl };
-          is = refl;
-        },
-      ),
-      (tt, ((refl, first 4194303 0 (codes "t" ∷ []) (record { version = 1; format = Some plain; body = codes "hi" })), tt)),
-    ),
-  ),
-)
+-- at any moment
+pub served : (at : ℕ) → IsServed stored at question (S.Serves question reply response stored)
+served at = record {
+  reply = reply;
+  options = content.options;
+  left = stored;
+  serves = (refl, refl);
+  says = record { format = Some []; block2 = None; format_is = record { spelt = refl; no_zero = tt }; block2_is = tt; list = refl };
+  is = refl;
+}
 
-sendable : IsSpelled (content_of (asked_of client_end request) response)
+pub plain_request : IsPlain request
+plain_request = record { no_block = refl; no_observe = refl }
+
+pub stores : Changes (nothing 4194303) 0 (codes "t" ∷ []) (Some (record { version = 1; format = Some plain; body = codes "hi" })) stored
+stores = first 4194303 0 (codes "t" ∷ []) (record { version = 1; format = Some plain; body = codes "hi" })
+
+rows : ServerRows 4194303 6 calls
+rows = (tt, (tt, ((plain_request, served 5), (tt, ((refl, stores), tt)))))
+
+pub sendable : IsSpelled (content_of (asked_of client_end request) response)
 unfolding option_bytes options_bytes
 sendable =
     (sendable_when_short _ (record { some = omega arith; code = omega arith; id = omega arith; token = omega arith; order = refl; numbers = refl; short = refl }) (omega arith)).spelled

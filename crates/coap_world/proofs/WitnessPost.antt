@@ -1,21 +1,18 @@
 -- A legal run in which the POST of a call comes twice and is applied once (RFC 7252, section 4.5).
-use Rattle.std.proofs.Common.{inl, inr, false, Some, List, [], ◌∷◌, ◌++◌, map, refl, arith}
+use Rattle.std.proofs.Common.{inl, inr, Some, List, [], ◌∷◌, ◌++◌, map, refl, arith}
 use Rattle.std.specs.Prelude.{codes}
 use Rattle.coap_types.specs.Past.{Always}
 use Rattle.coap_ends.specs.ServerFollows.{Serving}
 use Rattle.coap_exchange.specs.AnswererSteps.{asked_of}
 use Rattle.coap_world.specs.Agrees.{AppliesFor}
-use Rattle.coap_world.specs.Events.{Event, Calls, Sets, TickClient, Deliver, client_end}
+use Rattle.coap_world.specs.Events.{Calls, Sets, TickClient, Deliver, client_end}
 use Rattle.coap_world.specs.Legal.{IsPath, Legal}
 use Rattle.coap_world.specs.LegalRuns.{config, event, from_client, from_server, plain, log, post, post_bytes, changed_bytes, done, Posts}
 use Rattle.coap_world.specs.Record.{Entry, OfClient, OfServer, Turn, Makes, entries_of}
 use Rattle.coap_world.proofs.WitnessWords.{bytes_are, path_of_one}
+use Rattle.coap_world.proofs.WitnessGet.{turn}
 use Rattle.coap_world.proofs.WitnessPostClient as client
 use Rattle.coap_world.proofs.WitnessPostServer as server
-
--- none meets want of memory
-abbrev turn : Event → List Entry → Turn
-turn e entries = record { event = e; refused = false; entries = entries }
 
 abbrev turns : List Turn
 turns =
@@ -57,7 +54,7 @@ made = (
   ),
 )
 
-path : IsPath log
+pub path : IsPath log
 path = path_of_one (codes "log") (omega arith) (bytes_are (codes "log") refl)
 
 legal : Legal turns

@@ -34,75 +34,56 @@ asks = C.Ticks 0 0 L.Idle turn.Idle (L.Sent 0) (Ok token) true
 abbrev pub rests : C.Call
 rests = C.Ticks 0 0 L.Idle turn.Idle L.Nothing (Ok []) false
 
-abbrev pub hears : C.Call
-hears = C.Feeds 7 server_end changed_bytes 0 (L.Response changed) true (Some (event.Answer changed))
-
 abbrev pub called : List C.Call
 called = C.NextReport None ∷ C.NextOut None ∷ C.Calls 0 post (C.Taken 0) ∷ []
 
 abbrev pub ticked : List C.Call
 ticked = C.NextReport None ∷ C.NextOut None ∷ C.NextOut (Some request_out) ∷ rests ∷ asks ∷ []
 
+abbrev pub hears : C.Call
+hears = C.Feeds 7 server_end changed_bytes 0 (L.Response changed) true (Some (event.Answer changed))
+
 abbrev pub fed : List C.Call
 fed = C.NextReport None ∷ C.NextReport (Some done) ∷ C.NextOut None ∷ hears ∷ []
 
-abbrev pub calls : List C.Call
-calls = fed ++ (ticked ++ called)
+-- until the request is out
 
-rows : ClientRows 6 calls
+abbrev pub before : List C.Call
+before = ticked ++ called
+
+pub rows_before : ClientRows 6 before
 unfolding option_bytes options_bytes
-rows = (refl, (refl, (tt, (refl, (refl, (tt, (tt, (refl, (refl, (refl, (tt, ((refl, omega arith), tt))))))))))))
+rows_before = (refl, (tt, (tt, (refl, (refl, (refl, (tt, ((refl, omega arith), tt))))))))
 
-asked : asker.AskerLaw server_end 0 (lower_of calls)
-asked = (tt, (refl, (tt, (tt, (refl, (refl, (refl, (tt, tt))))))))
+pub asked_before : asker.AskerLaw server_end 0 (lower_of before)
+asked_before = (tt, (tt, (refl, (refl, (refl, (tt, tt))))))
 
-abbrev run : List Asked
-run = asker.lower_of server_end 0 (lower_of calls)
+abbrev pub run_before : List Asked
+run_before = asker.lower_of server_end 0 (lower_of before)
 
 sendable : IsSpelled (content_of token (message_of post))
 unfolding option_bytes options_bytes
 sendable =
     (sendable_when_short _ (record { some = omega arith; code = omega arith; id = omega arith; token = omega arith; order = refl; numbers = refl; short = refl }) (omega arith)).spelled
 
+pub steps_before : Steps (start 0) run_before (left_after (start 0) run_before)
+unfolding option_bytes options_bytes
+steps_before = (_, (_, (_, (_, (_, (_, refl, record { may = tt; right = refl; new_is = refl }), record { may = tt; right = refl; new_is = refl }), record { may = sendable; right = refl; new_is = refl }), record { may = tt; right = refl; new_is = refl }), record { may = tt; right = refl; new_is = refl }), record { may = tt; right = refl; new_is = refl })
+
+-- and then
+
+abbrev pub calls : List C.Call
+calls = fed ++ before
+
+abbrev run : List Asked
+run = asker.lower_of server_end 0 (lower_of calls)
+
 steps : Steps (start 0) run (left_after (start 0) run)
 unfolding message_at frame_fault body_at walk walk_of option_at nibbles_at value_at extended payload_at option_bytes options_bytes
-steps = (
-  _,
-  (
-    _,
-    (
-      _,
-      (
-        _,
-        (
-          _,
-          (
-            _,
-            (
-              _,
-              (
-                _,
-                (
-                  _,
-                  refl,
-                  record { may = tt; right = refl; new_is = refl },
-                ),
-                record { may = tt; right = refl; new_is = refl },
-              ),
-              record { may = sendable; right = refl; new_is = refl },
-            ),
-            record { may = tt; right = refl; new_is = refl },
-          ),
-          record { may = tt; right = refl; new_is = refl },
-        ),
-        record { may = tt; right = refl; new_is = refl },
-      ),
-      record { may = bytes_are changed_bytes refl; right = refl; new_is = refl },
-    ),
-    record { may = tt; right = refl; new_is = refl },
-  ),
-  record { may = tt; right = refl; new_is = refl },
-)
+steps = (_, (_, (_, steps_before, record { may = bytes_are changed_bytes refl; right = refl; new_is = refl }), record { may = tt; right = refl; new_is = refl }), record { may = tt; right = refl; new_is = refl })
 
 pub lawful : ClientLaw server_end 6 0 calls
-lawful = record { rows = rows; exchanges = record { rows = asked; left = left_after (start 0) run; layer = steps } }
+lawful = record {
+  rows = (refl, (refl, (tt, (refl, rows_before))));
+  exchanges = record { rows = (tt, (refl, asked_before)); left = left_after (start 0) run; layer = steps };
+}

@@ -3,16 +3,20 @@ use Rattle.std.specs.Prelude.{◌≡◌, ℕ, Some, None, List, [], ◌∷◌, �
 use Rattle.coap_types.specs.Past.{Once, all_of}
 use Rattle.coap_types.specs.declared.endpoint.Endpoint.{Endpoint}
 use Rattle.coap_types.specs.declared.request.Method.TheVariants.{Get, Post}
-use Rattle.coap_ends.specs.ClientTrace.{Body, Done, Reported, Request}
+use Rattle.coap_ends.specs.ClientTrace.{Body, Done, Failed, Reported, Request}
 use Rattle.coap_ends.specs.ServerFollows.{held_at}
+use Rattle.coap_ends.specs.ServerTrace.{Delay}
 use Rattle.coap_world.specs.Agrees.{ReportsAt, AppliesFor}
-use Rattle.coap_world.specs.Events.{client_end, server_end, localhost, Config, What, Calls, Sets, TickClient, Deliver, StrangerToServer, Event}
+use Rattle.coap_world.specs.Events.{client_end, server_end, localhost, Config, What, Calls, Sets, TickClient, TickServer, Deliver, StrangerToServer, Event}
 use Rattle.coap_world.specs.Legal.{Legal}
 use Rattle.coap_world.specs.Record.{Given, Turn, given_in, RecordOf, entries_of, server_trace}
 
--- words 0, blocks of 1,024 bytes, 4,194,303 changes a window, no delays
+-- words 0, blocks of 1,024 bytes, 4,194,303 changes a window
+abbrev pub with_delays : List Delay → Config
+with_delays delays = record { client_word = 0; client_szx = 6; server_word = 0; server_szx = 6; limit = 4194303; delays = delays }
+
 abbrev pub config : Config
-config = record { client_word = 0; client_szx = 6; server_word = 0; server_szx = 6; limit = 4194303; delays = [] }
+config = with_delays []
 
 -- each word is 0
 abbrev pub event : ℕ → What → Event
@@ -25,7 +29,7 @@ abbrev pub from_server : ℕ → Endpoint → List ℕ → Given
 from_server at to bytes = record { at = at; from = server_end; packet = record { to = to; bytes = bytes } }
 
 -- A run of these events is legal, and in it the ends give out these datagrams, the newest first.
-pub record Runs (events : List Event) (given : List Given) : Type 0 where
+pub record Runs (config : Config) (events : List Event) (given : List Given) : Type 0 where
   pub turns : List Turn
   pub made : RecordOf config events turns
   pub legal : Legal turns
@@ -55,7 +59,7 @@ abbrev pub pings : List Event
 pings = event 0 (StrangerToServer stranger ping) ∷ []
 
 abbrev pub Pings : Type 0
-Pings = Runs pings (from_server 0 stranger pong ∷ [])
+Pings = Runs config pings (from_server 0 stranger pong ∷ [])
 
 -- the server holds `hi` at `t`; a client gets it (section 5.2.1)
 
@@ -82,7 +86,36 @@ abbrev pub got : Reported
 got = record { number = 0; report = Body (Some (0 ∷ 0 ∷ 0 ∷ 0 ∷ 0 ∷ 0 ∷ 0 ∷ 1 ∷ [])) (Some plain) (codes "hi") }
 
 pub record Gets : Type 0 where
-  pub run : Runs gets (from_server 5 client_end content_bytes ∷ from_client 0 get_bytes ∷ [])
+  pub run : Runs config gets (from_server 5 client_end content_bytes ∷ from_client 0 get_bytes ∷ [])
+  pub reports : Once (ReportsAt got) (entries_of run.turns)
+
+-- the same, where the server answers requests to `t` 1,000 ms later: an Empty acknowledgement, a CON of its own, and the
+-- Empty acknowledgement of that (section 5.2.2)
+
+abbrev pub slow : Config
+slow = with_delays (record { path = codes "t" ∷ []; ms = 1000 } ∷ [])
+
+abbrev pub gets_late : List Event
+gets_late =
+    event 1000 (Deliver 3) ∷
+    event 1000 (Deliver 2) ∷
+    event 1000 TickServer ∷
+    event 0 (Deliver 1) ∷
+    event 0 (Deliver 0) ∷
+    event 0 TickClient ∷
+    event 0 (Calls get) ∷
+    event 0 (Sets (codes "t" ∷ []) (Some plain) (codes "hi")) ∷
+    []
+
+abbrev pub empty_ack : List ℕ
+empty_ack = 0x60 ∷ 0 ∷ 0 ∷ 0 ∷ []
+
+abbrev pub separate_bytes : List ℕ
+separate_bytes = 0x48 ∷ 0x45 ∷ 0 ∷ 0 ∷ token ++ 0x48 ∷ 0 ∷ 0 ∷ 0 ∷ 0 ∷ 0 ∷ 0 ∷ 0 ∷ 1 ∷ 0x80 ∷ 0xff ∷ codes "hi"
+
+pub record GetsLate : Type 0 where
+  pub run : Runs slow gets_late
+      (from_client 1000 empty_ack ∷ from_server 1000 client_end separate_bytes ∷ from_server 0 client_end empty_ack ∷ from_client 0 get_bytes ∷ [])
   pub reports : Once (ReportsAt got) (entries_of run.turns)
 
 -- the server holds `x` at `log`; the POST of `a` comes twice, and the first of its two equal acknowledgements is lost
@@ -115,8 +148,23 @@ done = record { number = 0; report = Done 68 }
 
 -- It is applied, and only once: the body has grown by one `a`.
 pub record Posts : Type 0 where
-  pub run : Runs posts (from_server 5 client_end changed_bytes ∷ from_server 0 client_end changed_bytes ∷ from_client 0 post_bytes ∷ [])
+  pub run : Runs config posts (from_server 5 client_end changed_bytes ∷ from_server 0 client_end changed_bytes ∷ from_client 0 post_bytes ∷ [])
   pub reports : Once (ReportsAt done) (entries_of run.turns)
   pub applies : Once (AppliesFor config 0 (entries_of run.turns)) (entries_of run.turns)
   pub held : held_at config.limit config.server_szx log (server_trace config (entries_of run.turns))
       ≡ Some (record { version = 2; format = Some plain; body = codes "xa" })
+
+-- the server holds nothing at `log`; the POST is refused (section 5.9.2.5)
+
+abbrev pub fails : List Event
+fails = event 9 (Deliver 1) ∷ event 5 (Deliver 0) ∷ event 0 TickClient ∷ event 0 (Calls post) ∷ []
+
+abbrev pub not_found_bytes : List ℕ
+not_found_bytes = 0x68 ∷ 0x84 ∷ 0 ∷ 0 ∷ token
+
+abbrev pub failed : Reported
+failed = record { number = 0; report = Failed 132 }
+
+pub record Fails : Type 0 where
+  pub run : Runs config fails (from_server 5 client_end not_found_bytes ∷ from_client 0 post_bytes ∷ [])
+  pub reports : Once (ReportsAt failed) (entries_of run.turns)

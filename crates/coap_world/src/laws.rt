@@ -8,7 +8,7 @@ ghost use Rattle.coap_world.specs.Delivery.{AllFair};
 ghost use Rattle.coap_world.specs.Events.{client_end, server_end, Config, Event};
 ghost use Rattle.coap_world.specs.Hops.{hops_of, across, TakenAtOnce};
 ghost use Rattle.coap_world.specs.Legal.{Legal};
-ghost use Rattle.coap_world.specs.LegalRuns.{Pings, Gets, Posts};
+ghost use Rattle.coap_world.specs.LegalRuns.{Pings, Gets, GetsLate, Posts, Fails};
 ghost use Rattle.coap_world.specs.Record.{Turn, RecordOf, entries_of, client_of, server_trace};
 
 /// What comes from an end's address was given out by that end, for the one that it comes to, at most 100,000 ms before.
@@ -50,6 +50,10 @@ pub fn witness_law()
     ensures pings { Pings }
     // A client gets what the server holds (RFC 7252, section 5.2.1).
     ensures gets { Gets }
+    // The same by a separate response (RFC 7252, section 5.2.2).
+    ensures late { GetsLate }
     // A POST comes twice, the first of its acknowledgements is lost, and it is applied once (RFC 7252, section 4.5).
     ensures posts { Posts }
+    // A POST to a path that holds nothing has the response 4.04 (RFC 7252, section 5.9.2.5).
+    ensures fails { Fails }
 {}

@@ -1,7 +1,9 @@
+use Rattle.coap_world.proofs.WitnessFail.{refused}
 use Rattle.coap_world.proofs.WitnessGet.{gotten}
+use Rattle.coap_world.proofs.WitnessLate.{gotten_late}
 use Rattle.coap_world.proofs.WitnessPing.{pinged}
 use Rattle.coap_world.proofs.WitnessPost.{posted}
 use Rattle.coap_world.proofs.laws.witness_law.Goals as goal
 
 pub returns : goal.returns
-returns c = record { pings = pinged; gets = gotten; posts = posted }
+returns c = record { pings = pinged; gets = gotten; late = gotten_late; posts = posted; fails = refused }

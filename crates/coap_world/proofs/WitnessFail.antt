@@ -1,0 +1,39 @@
+-- A legal run in which a POST is refused (RFC 7252, section 5.9.2.5).
+use Rattle.std.proofs.Common.{inl, inr, List, [], ◌∷◌, map, refl, arith}
+use Rattle.std.specs.Prelude.{codes}
+use Rattle.coap_types.specs.Past.{Always}
+use Rattle.coap_world.specs.Events.{Calls, TickClient, Deliver, client_end}
+use Rattle.coap_world.specs.Legal.{Legal}
+use Rattle.coap_world.specs.LegalRuns.{event, from_client, from_server, failed, post, post_bytes, not_found_bytes, Fails}
+use Rattle.coap_world.specs.Record.{OfClient, OfServer, Turn, Makes}
+use Rattle.coap_world.proofs.WitnessWords.{bytes_are}
+use Rattle.coap_world.proofs.WitnessPost.{path}
+use Rattle.coap_world.proofs.WitnessGet.{turn}
+use Rattle.coap_world.proofs.WitnessPostClient as post_client
+use Rattle.coap_world.proofs.WitnessFailClient as client
+use Rattle.coap_world.proofs.WitnessFailServer as server
+
+abbrev turns : List Turn
+turns =
+    turn (event 9 (Deliver 1)) (map OfClient client.fed) ∷
+    turn (event 5 (Deliver 0)) (map OfServer server.calls) ∷
+    turn (event 0 TickClient) (map OfClient post_client.ticked) ∷
+    turn (event 0 (Calls post)) (map OfClient post_client.called) ∷
+    []
+
+made : Always (λ past t. Makes past t.event.at t.event.word t.event.what t.refused t.entries) turns
+made = ((from_server 5 client_end not_found_bytes, inl (refl, refl), inr (refl, client.hears ∷ [], (client.hears, (_, _, _, refl), refl), record { outs = []; reports = failed ∷ []; is = refl })), ((from_client 0 post_bytes, inl (refl, refl), inl (refl, server.serves ∷ [], (server.serves, (_, _, _, _, refl), refl), record { outs = server.response_out ∷ []; is = refl })), ((post_client.rests ∷ post_client.asks ∷ [], ((_, _, _, _, refl), ((_, _, _, _, refl), tt)), record { outs = post_client.request_out ∷ []; reports = []; is = refl }), ((_ ∷ [], (_, (_, refl), refl), record { outs = []; reports = []; is = refl }), tt))))
+
+legal : Legal turns
+legal = (record { at = omega arith; word = omega arith; range = tt; later = omega arith; comes = (from_server 5 client_end not_found_bytes, inl (refl, refl), inl refl, omega arith) }, (record { at = omega arith; word = omega arith; range = tt; later = omega arith; comes = (from_client 0 post_bytes, inl (refl, refl), inr refl, omega arith) }, (record { at = omega arith; word = omega arith; range = tt; later = omega arith; comes = tt }, (record { at = omega arith; word = omega arith; range = record { path = path; accept = tt; format = tt; body = bytes_are (codes "a") refl }; later = tt; comes = tt }, tt))))
+
+pub refused : Fails
+refused = record {
+  run = record {
+    turns = turns;
+    made = record { events_are = refl; made = made; client = client.lawful; server = server.lawful };
+    legal = legal;
+    gives = refl;
+  };
+  reports = inr (inr (inr (inl refl)));
+}
