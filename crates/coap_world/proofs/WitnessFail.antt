@@ -22,10 +22,43 @@ turns =
     []
 
 made : Always (λ past t. Makes past t.event.at t.event.word t.event.what t.refused t.entries) turns
-made = ((from_server 5 client_end not_found_bytes, inl (refl, refl), inr (refl, client.hears ∷ [], (client.hears, (_, _, _, refl), refl), record { outs = []; reports = failed ∷ []; is = refl })), ((from_client 0 post_bytes, inl (refl, refl), inl (refl, server.serves ∷ [], (server.serves, (_, _, _, _, refl), refl), record { outs = server.response_out ∷ []; is = refl })), ((post_client.rests ∷ post_client.asks ∷ [], ((_, _, _, _, refl), ((_, _, _, _, refl), tt)), record { outs = post_client.request_out ∷ []; reports = []; is = refl }), ((_ ∷ [], (_, (_, refl), refl), record { outs = []; reports = []; is = refl }), tt))))
+made = (
+  (
+    from_server 5 client_end not_found_bytes,
+    inl (refl, refl),
+    inr (refl, client.hears ∷ [], (client.hears, (_, _, _, refl), refl), record { outs = []; reports = failed ∷ []; is = refl }),
+  ),
+  (
+    (
+      from_client 0 post_bytes,
+      inl (refl, refl),
+      inl (refl, server.serves ∷ [], (server.serves, (_, _, _, _, refl), refl), record { outs = server.response_out ∷ []; is = refl }),
+    ),
+    (
+      (
+        post_client.rests ∷ post_client.asks ∷ [],
+        ((_, _, _, _, refl), ((_, _, _, _, refl), tt)),
+        record { outs = post_client.request_out ∷ []; reports = []; is = refl },
+      ),
+      ((_ ∷ [], (_, (_, refl), refl), record { outs = []; reports = []; is = refl }), tt),
+    ),
+  ),
+)
 
 legal : Legal turns
-legal = (record { at = omega arith; word = omega arith; range = tt; later = omega arith; comes = (from_server 5 client_end not_found_bytes, inl (refl, refl), inl refl, omega arith) }, (record { at = omega arith; word = omega arith; range = tt; later = omega arith; comes = (from_client 0 post_bytes, inl (refl, refl), inr refl, omega arith) }, (record { at = omega arith; word = omega arith; range = tt; later = omega arith; comes = tt }, (record { at = omega arith; word = omega arith; range = record { path = path; accept = tt; format = tt; body = bytes_are (codes "a") refl }; later = tt; comes = tt }, tt))))
+legal = (
+  record { at = omega arith; word = omega arith; range = tt; later = omega arith; comes = (from_server 5 client_end not_found_bytes, inl (refl, refl), inl refl, omega arith) },
+  (
+    record { at = omega arith; word = omega arith; range = tt; later = omega arith; comes = (from_client 0 post_bytes, inl (refl, refl), inr refl, omega arith) },
+    (
+      record { at = omega arith; word = omega arith; range = tt; later = omega arith; comes = tt },
+      (
+        record { at = omega arith; word = omega arith; range = record { path = path; accept = tt; format = tt; body = bytes_are (codes "a") refl }; later = tt; comes = tt },
+        tt,
+      ),
+    ),
+  ),
+)
 
 pub refused : Fails
 refused = record {

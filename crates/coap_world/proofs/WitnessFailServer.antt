@@ -75,7 +75,15 @@ run = answerer.lower_of (lower_of 4194303 6 calls)
 
 steps : Steps (start 0) run (left_after (start 0) run)
 unfolding message_at frame_fault body_at walk walk_of option_at nibbles_at value_at extended payload_at option_bytes options_bytes
-steps = (_, (_, (_, (_, refl, record { may = bytes_are post_bytes refl; right = refl; new_is = refl }), record { may = refl; right = refl; new_is = refl }), record { may = tt; right = refl; new_is = refl }), record { may = tt; right = refl; new_is = refl })
+steps = (
+  _,
+  (
+    _,
+    (_, (_, refl, record { may = bytes_are post_bytes refl; right = refl; new_is = refl }), record { may = refl; right = refl; new_is = refl }),
+    record { may = tt; right = refl; new_is = refl },
+  ),
+  record { may = tt; right = refl; new_is = refl },
+)
 
 pub lawful : ServerLaw 4194303 6 0 calls
 lawful = record { rows = rows; exchanges = record { rows = answered; left = left_after (start 0) run; layer = steps } }

@@ -76,7 +76,23 @@ sendable =
 
 pub steps_before : Steps (start 0) run_before (left_after (start 0) run_before)
 unfolding option_bytes options_bytes
-steps_before = (_, (_, (_, (_, (_, (_, refl, record { may = tt; right = refl; new_is = refl }), record { may = tt; right = refl; new_is = refl }), record { may = sendable; right = refl; new_is = refl }), record { may = tt; right = refl; new_is = refl }), record { may = tt; right = refl; new_is = refl }), record { may = tt; right = refl; new_is = refl })
+steps_before = (
+  _,
+  (
+    _,
+    (
+      _,
+      (
+        _,
+        (_, (_, refl, record { may = tt; right = refl; new_is = refl }), record { may = tt; right = refl; new_is = refl }),
+        record { may = sendable; right = refl; new_is = refl },
+      ),
+      record { may = tt; right = refl; new_is = refl },
+    ),
+    record { may = tt; right = refl; new_is = refl },
+  ),
+  record { may = tt; right = refl; new_is = refl },
+)
 
 -- and then
 
@@ -88,7 +104,11 @@ run = asker.lower_of server_end 0 (lower_of calls)
 
 steps : Steps (start 0) run (left_after (start 0) run)
 unfolding message_at frame_fault body_at walk walk_of option_at nibbles_at value_at extended payload_at option_bytes options_bytes
-steps = (_, (_, (_, steps_before, record { may = bytes_are content_bytes refl; right = refl; new_is = refl }), record { may = tt; right = refl; new_is = refl }), record { may = tt; right = refl; new_is = refl })
+steps = (
+  _,
+  (_, (_, steps_before, record { may = bytes_are content_bytes refl; right = refl; new_is = refl }), record { may = tt; right = refl; new_is = refl }),
+  record { may = tt; right = refl; new_is = refl },
+)
 
 pub lawful : ClientLaw server_end 6 0 calls
 lawful = record {

@@ -25,10 +25,72 @@ turns =
     []
 
 made : Always (λ past t. Makes past t.event.at t.event.word t.event.what t.refused t.entries) turns
-made = ((from_client 1000 empty_ack, inl (refl, refl), inl (refl, server.hears ∷ [], (server.hears, (_, _, _, _, refl), refl), record { outs = []; is = refl })), ((from_server 1000 client_end separate_bytes, inl (refl, refl), inr (refl, client.hears ∷ [], (client.hears, (_, _, _, refl), refl), record { outs = client.ack_out ∷ []; reports = got ∷ []; is = refl })), ((server.rests ∷ server.serves ∷ [], ((_, _, _, _, _, refl), ((_, _, _, _, _, refl), tt)), record { outs = server.response_out ∷ []; is = refl }), ((from_server 0 client_end empty_ack, inl (refl, refl), inr (refl, client.awaits ∷ [], (client.awaits, (_, _, _, refl), refl), record { outs = []; reports = []; is = refl })), ((from_client 0 get_bytes, inl (refl, refl), inl (refl, server.waits ∷ [], (server.waits, (_, _, _, _, refl), refl), record { outs = server.ack_out ∷ []; is = refl })), ((get_client.rests ∷ get_client.asks ∷ [], ((_, _, _, _, refl), ((_, _, _, _, refl), tt)), record { outs = get_client.request_out ∷ []; reports = []; is = refl }), ((_ ∷ [], (_, (_, refl), refl), record { outs = []; reports = []; is = refl }), ((server.sets ∷ [], (server.sets, (_, _, refl), refl), record { outs = []; is = refl }), tt))))))))
+made = (
+  (
+    from_client 1000 empty_ack,
+    inl (refl, refl),
+    inl (refl, server.hears ∷ [], (server.hears, (_, _, _, _, refl), refl), record { outs = []; is = refl }),
+  ),
+  (
+    (
+      from_server 1000 client_end separate_bytes,
+      inl (refl, refl),
+      inr (refl, client.hears ∷ [], (client.hears, (_, _, _, refl), refl), record { outs = client.ack_out ∷ []; reports = got ∷ []; is = refl }),
+    ),
+    (
+      (server.rests ∷ server.serves ∷ [], ((_, _, _, _, _, refl), ((_, _, _, _, _, refl), tt)), record { outs = server.response_out ∷ []; is = refl }),
+      (
+        (
+          from_server 0 client_end empty_ack,
+          inl (refl, refl),
+          inr (refl, client.awaits ∷ [], (client.awaits, (_, _, _, refl), refl), record { outs = []; reports = []; is = refl }),
+        ),
+        (
+          (
+            from_client 0 get_bytes,
+            inl (refl, refl),
+            inl (refl, server.waits ∷ [], (server.waits, (_, _, _, _, refl), refl), record { outs = server.ack_out ∷ []; is = refl }),
+          ),
+          (
+            (
+              get_client.rests ∷ get_client.asks ∷ [],
+              ((_, _, _, _, refl), ((_, _, _, _, refl), tt)),
+              record { outs = get_client.request_out ∷ []; reports = []; is = refl },
+            ),
+            (
+              (_ ∷ [], (_, (_, refl), refl), record { outs = []; reports = []; is = refl }),
+              ((server.sets ∷ [], (server.sets, (_, _, refl), refl), record { outs = []; is = refl }), tt),
+            ),
+          ),
+        ),
+      ),
+    ),
+  ),
+)
 
 legal : Legal turns
-legal = (record { at = omega arith; word = omega arith; range = tt; later = omega arith; comes = (from_client 1000 empty_ack, inl (refl, refl), inr refl, omega arith) }, (record { at = omega arith; word = omega arith; range = tt; later = omega arith; comes = (from_server 1000 client_end separate_bytes, inl (refl, refl), inl refl, omega arith) }, (record { at = omega arith; word = omega arith; range = tt; later = omega arith; comes = tt }, (record { at = omega arith; word = omega arith; range = tt; later = omega arith; comes = (from_server 0 client_end empty_ack, inl (refl, refl), inl refl, omega arith) }, (record { at = omega arith; word = omega arith; range = tt; later = omega arith; comes = (from_client 0 get_bytes, inl (refl, refl), inr refl, omega arith) }, (record { at = omega arith; word = omega arith; range = tt; later = omega arith; comes = tt }, (record { at = omega arith; word = omega arith; range = record { path = path; accept = tt; format = tt; body = bytes_are [] refl }; later = omega arith; comes = tt }, (record { at = omega arith; word = omega arith; range = (path, omega arith, bytes_are (codes "hi") refl); later = tt; comes = tt }, tt))))))))
+legal = (
+  record { at = omega arith; word = omega arith; range = tt; later = omega arith; comes = (from_client 1000 empty_ack, inl (refl, refl), inr refl, omega arith) },
+  (
+    record { at = omega arith; word = omega arith; range = tt; later = omega arith; comes = (from_server 1000 client_end separate_bytes, inl (refl, refl), inl refl, omega arith) },
+    (
+      record { at = omega arith; word = omega arith; range = tt; later = omega arith; comes = tt },
+      (
+        record { at = omega arith; word = omega arith; range = tt; later = omega arith; comes = (from_server 0 client_end empty_ack, inl (refl, refl), inl refl, omega arith) },
+        (
+          record { at = omega arith; word = omega arith; range = tt; later = omega arith; comes = (from_client 0 get_bytes, inl (refl, refl), inr refl, omega arith) },
+          (
+            record { at = omega arith; word = omega arith; range = tt; later = omega arith; comes = tt },
+            (
+              record { at = omega arith; word = omega arith; range = record { path = path; accept = tt; format = tt; body = bytes_are [] refl }; later = omega arith; comes = tt },
+              (record { at = omega arith; word = omega arith; range = (path, omega arith, bytes_are (codes "hi") refl); later = tt; comes = tt }, tt),
+            ),
+          ),
+        ),
+      ),
+    ),
+  ),
+)
 
 pub gotten_late : GetsLate
 gotten_late = record {
