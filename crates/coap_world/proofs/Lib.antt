@@ -33,3 +33,5 @@ pub mod WitnessPost
 pub mod WitnessFailClient
 pub mod WitnessFailServer
 pub mod WitnessFail
+pub mod WitnessDelivery
+pub mod WitnessRefused

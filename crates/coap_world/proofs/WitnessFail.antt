@@ -16,7 +16,7 @@ use Rattle.coap_world.proofs.WitnessFailServer as server
 abbrev turns : List Turn
 turns =
     turn (event 9 (Deliver 1)) (map OfClient client.fed) ∷
-    turn (event 5 (Deliver 0)) (map OfServer server.calls) ∷
+    turn (event 5 (Deliver 0)) (map OfServer (server.calls 5)) ∷
     turn (event 0 TickClient) (map OfClient post_client.ticked) ∷
     turn (event 0 (Calls post)) (map OfClient post_client.called) ∷
     []
@@ -32,7 +32,7 @@ made = (
     (
       from_client 0 post_bytes,
       inl (refl, refl),
-      inl (refl, server.serves ∷ [], (server.serves, (_, _, _, _, refl), refl), record { outs = server.response_out ∷ []; is = refl }),
+      inl (refl, (server.serves 5) ∷ [], ((server.serves 5), (_, _, _, _, refl), refl), record { outs = server.response_out ∷ []; is = refl }),
     ),
     (
       (
@@ -64,7 +64,7 @@ pub refused : Fails
 refused = record {
   run = record {
     turns = turns;
-    made = record { events_are = refl; made = made; client = client.lawful; server = server.lawful };
+    made = record { events_are = refl; made = made; client = client.lawful; server = server.lawful 5 };
     legal = legal;
     gives = refl;
   };

@@ -86,6 +86,9 @@ steps_before = (
   record { may = tt; right = refl; new_is = refl },
 )
 
+pub lawful_before : ClientLaw server_end 6 0 before
+lawful_before = record { rows = rows_before; exchanges = record { rows = asked_before; left = left_after (start 0) run_before; layer = steps_before } }
+
 -- and then
 
 abbrev pub calls : List C.Call

@@ -1,4 +1,5 @@
-ghost use Rattle.std.specs.Prelude.{◌≡◌, List};
+ghost use Rattle.std.specs.Prelude.{◌≡◌, ◌⊎◌, List};
+ghost use Rattle.coap_types.specs.declared.endpoint.Endpoint.{Endpoint};
 ghost use Rattle.coap_layer.specs.Channel.{ChannelLaw, near_of, far_of};
 ghost use Rattle.coap_ends.specs.ClientLaw as clients;
 ghost use Rattle.coap_ends.specs.ServerLaw as servers;
@@ -8,7 +9,7 @@ ghost use Rattle.coap_world.specs.Delivery.{AllFair};
 ghost use Rattle.coap_world.specs.Events.{client_end, server_end, Config, Event};
 ghost use Rattle.coap_world.specs.Hops.{hops_of, across, TakenAtOnce};
 ghost use Rattle.coap_world.specs.Legal.{Legal};
-ghost use Rattle.coap_world.specs.LegalRuns.{Pings, Gets, GetsLate, Posts, Fails};
+ghost use Rattle.coap_world.specs.LegalRuns.{NoneRuns, Pings, Gets, GetsLate, Posts, Fails, MayComeTill, NotAfter, never_given, posing};
 ghost use Rattle.coap_world.specs.Record.{Turn, RecordOf, entries_of, client_of, server_trace};
 
 /// What comes from an end's address was given out by that end, for the one that it comes to, at most 100,000 ms before.
@@ -51,9 +52,15 @@ pub fn witness_law()
     // A client gets what the server holds (RFC 7252, section 5.2.1).
     ensures gets { Gets }
     // The same by a separate response (RFC 7252, section 5.2.2).
-    ensures late { GetsLate }
+    ensures separate { GetsLate }
     // A POST comes twice, the first of its acknowledgements is lost, and it is applied once (RFC 7252, section 4.5).
     ensures posts { Posts }
     // A POST to a path that holds nothing has the response 4.04 (RFC 7252, section 5.9.2.5).
     ensures fails { Fails }
+    // A datagram may come to 100,000 ms after it was given out, and no later (MAX_LATENCY, RFC 7252, section 4.8.2).
+    ensures comes { MayComeTill 100000 }
+    ensures late { NotAfter 100000 }
+    // One that was never given out can't come, and a stranger has no end's address.
+    ensures given { NoneRuns never_given }
+    ensures apart { (from : Endpoint) → (from ≡ client_end) ⊎ (from ≡ server_end) → NoneRuns (posing from) }
 {}
