@@ -33,5 +33,8 @@ pub mod WitnessPost
 pub mod WitnessFailClient
 pub mod WitnessFailServer
 pub mod WitnessFail
+pub mod WitnessTimeoutClient
+pub mod WitnessTimeoutServer
+pub mod WitnessTimeout
 pub mod WitnessDelivery
 pub mod WitnessRefused

@@ -107,7 +107,7 @@ rows = (
   ),
 )
 
-sendable : IsSpelled (content_of (asked_of client_end request) response)
+pub sendable : IsSpelled (content_of (asked_of client_end request) response)
 unfolding option_bytes options_bytes
 sendable =
     (sendable_when_short _ (record { some = omega arith; code = omega arith; id = omega arith; token = omega arith; order = refl; numbers = refl; short = refl }) (omega arith)).spelled

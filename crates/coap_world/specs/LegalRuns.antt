@@ -3,7 +3,7 @@ use Rattle.std.specs.Prelude.{◌≡◌, ◌≤◌, ◌<◌, ℕ, Some, None, Li
 use Rattle.coap_types.specs.Past.{Once, all_of}
 use Rattle.coap_types.specs.declared.endpoint.Endpoint.{Endpoint}
 use Rattle.coap_types.specs.declared.request.Method.TheVariants.{Get, Post}
-use Rattle.coap_ends.specs.ClientTrace.{Body, Done, Failed, Reported, Request}
+use Rattle.coap_ends.specs.ClientTrace.{Body, Done, Failed, Timeout, Reported, Request}
 use Rattle.coap_ends.specs.ServerFollows.{held_at}
 use Rattle.coap_ends.specs.ServerTrace.{Delay}
 use Rattle.coap_world.specs.Agrees.{ReportsAt, AppliesFor}
@@ -172,6 +172,31 @@ failed = record { number = 0; report = Failed 132 }
 pub record Fails : Type 0 where
   pub run : Runs config fails (from_server 5 client_end not_found_bytes ∷ from_client 0 post_bytes ∷ [])
   pub reports : Once (ReportsAt failed) (entries_of run.turns)
+
+-- no acknowledgement comes, and the POST goes out five times; the last copy comes after the report (sections 4.2 and 4.8.2)
+
+abbrev pub times_out : List Event
+times_out =
+    event 130000 (Deliver 4) ∷
+    event 62000 TickClient ∷
+    event 30000 TickClient ∷
+    event 14000 TickClient ∷
+    event 6000 TickClient ∷
+    event 2000 TickClient ∷
+    event 0 TickClient ∷
+    event 0 (Calls post) ∷
+    event 0 (Sets log (Some plain) (codes "x")) ∷
+    []
+
+abbrev pub copies : List Given
+copies = from_client 30000 post_bytes ∷ from_client 14000 post_bytes ∷ from_client 6000 post_bytes ∷ from_client 2000 post_bytes ∷ from_client 0 post_bytes ∷ []
+
+abbrev pub timed_out : Reported
+timed_out = record { number = 0; report = Timeout }
+
+pub record TimesOut : Type 0 where
+  pub run : Runs config times_out (from_server 130000 client_end changed_bytes ∷ copies)
+  pub applies_after : Once (λ past e. AppliesFor config 0 (entries_of run.turns) past e × Once (ReportsAt timed_out) past) (entries_of run.turns)
 
 -- a datagram that was given out at 0 comes
 
