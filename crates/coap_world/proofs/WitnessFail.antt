@@ -1,11 +1,14 @@
 -- A legal run in which a POST is refused (RFC 7252, section 5.9.2.5).
-use Rattle.std.proofs.Common.{inl, inr, List, [], ◌∷◌, map, refl, arith}
+use Rattle.std.proofs.Common.{ℕ, Option, Some, None, ap, ◌≡◌, ◌++◌, true, sym, subst, inl, inr, List, [], ◌∷◌, map, refl, arith}
 use Rattle.std.specs.Prelude.{codes}
-use Rattle.coap_types.specs.Past.{Always}
+use Rattle.coap_types.specs.Past.{Once, Always}
+use Rattle.coap_ends.specs.ClientTrace as C
+use Rattle.coap_ends.specs.ServerFollows.{Serving, is_applied}
+use Rattle.coap_world.specs.Agrees.{AppliesFor}
 use Rattle.coap_world.specs.Events.{Calls, TickClient, Deliver, client_end}
 use Rattle.coap_world.specs.Legal.{Legal}
-use Rattle.coap_world.specs.LegalRuns.{event, from_client, from_server, failed, post, post_bytes, not_found_bytes, Fails}
-use Rattle.coap_world.specs.Record.{OfClient, OfServer, Turn, Makes}
+use Rattle.coap_world.specs.LegalRuns.{config, event, from_client, from_server, failed, post, post_bytes, not_found_bytes, Fails}
+use Rattle.coap_world.specs.Record.{Entry, OfClient, OfServer, Turn, Makes, entries_of}
 use Rattle.coap_world.proofs.WitnessWords.{bytes_are}
 use Rattle.coap_world.proofs.WitnessPost.{path}
 use Rattle.coap_world.proofs.WitnessGet.{turn}
@@ -60,6 +63,35 @@ legal = (
   ),
 )
 
+-- no call of the client applies anything, and the server's doesn't
+
+abbrev all : List Entry
+all = entries_of turns
+
+clients_none : (cs : List C.Call) (es : List Entry) → (Once (AppliesFor config 0 all) es → ⊥) → Once (AppliesFor config 0 all) (map OfClient cs ++ es) → ⊥
+clients_none [] es none h = none h
+clients_none (c ∷ cs) es none (inl h) = h.here
+clients_none (c ∷ cs) es none (inr h) = clients_none cs es none h
+
+abbrev code_of : Option Serving → ℕ
+code_of None = 0
+code_of (Some x) = x.reply.code
+
+serves_none : (past : List Entry) → AppliesFor config 0 all past (OfServer (server.serves 5)) → ⊥
+serves_none past a =
+    let code : 132 ≡ a.request.reply.code = ap code_of a.here in
+    let applied : is_applied 132 ≡ true = subst (λ n. is_applied n ≡ true) (sym code) a.applied in
+    absurd (cc applied)
+
+server_none : (es : List Entry) → (Once (AppliesFor config 0 all) es → ⊥) → Once (AppliesFor config 0 all) (map OfServer (server.calls 5) ++ es) → ⊥
+server_none es none (inl h) = absurd (cc h.here)
+server_none es none (inr (inl h)) = absurd (cc h.here)
+server_none es none (inr (inr (inl h))) = serves_none es h
+server_none es none (inr (inr (inr h))) = none h
+
+none : Once (AppliesFor config 0 all) all → ⊥
+none = clients_none client.fed _ (server_none _ (clients_none post_client.ticked _ (clients_none post_client.called [] (λ h. h))))
+
 pub refused : Fails
 refused = record {
   run = record {
@@ -69,4 +101,5 @@ refused = record {
     gives = refl;
   };
   reports = inr (inr (inr (inl refl)));
+  applies = none;
 }

@@ -72,5 +72,5 @@ gotten = record {
     legal = legal;
     gives = refl;
   };
-  reports = inr (inr (inr (inl refl)));
+  reports = inr (inr (inr (inl (refl, inl (record { request = get; called = (inr (inr (inr (inr (inr (inr (inr (inl refl)))))))); version = 1; tag_is = refl; held = refl })))));
 }

@@ -100,5 +100,5 @@ gotten_late = record {
     legal = legal;
     gives = refl;
   };
-  reports = inr (inr (inr (inr (inr (inr (inl refl))))));
+  reports = inr (inr (inr (inr (inr (inr (inl (refl, inl (record { request = get; called = (inr (inr (inr (inr (inr (inr (inr (inr (inr (inr (inl refl))))))))))); version = 1; tag_is = refl; held = refl }))))))));
 }

@@ -99,7 +99,6 @@ posted = record {
     legal = legal;
     gives = refl;
   };
-  reports = inr (inr (inr (inl refl)));
-  applies = inr (inr (inr (inr (inr (inr (inr (inr (inr (inl applied)))))))));
+  reports = inr (inr (inr (inl (refl, (inr (inr (inr (inr (inr (inl (record { applies = applied; request = post; called = (inr (inr (inr (inr (inr (inr (inr (inl refl)))))))) })))))))))));
   held = refl;
 }

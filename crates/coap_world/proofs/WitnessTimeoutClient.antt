@@ -109,34 +109,7 @@ steps = (
 )
 
 rows : ClientRows 6 calls
-rows = (
-  refl,
-  (
-    refl,
-    (
-      tt,
-      (
-        refl,
-        (
-          refl,
-          (
-            refl,
-            (
-              tt,
-              (
-                tt,
-                (
-                  refl,
-                  (refl, (refl, (tt, (tt, (refl, (refl, (refl, (tt, (tt, (refl, (refl, (refl, (tt, (tt, (refl, (refl, rows_before)))))))))))))))),
-                ),
-              ),
-            ),
-          ),
-        ),
-      ),
-    ),
-  ),
-)
+rows = (refl, (refl, (tt, (refl, (refl, (refl, (tt, (tt, (refl, (refl, (refl, (tt, (tt, (refl, (refl, (refl, (tt, (tt, (refl, (refl, (refl, (tt, (tt, (refl, (refl, rows_before)))))))))))))))))))))))))
 
 asked : asker.AskerLaw server_end 0 (lower_of calls)
 asked = (tt, (refl, (refl, (tt, (tt, (refl, (refl, (tt, (tt, (refl, (refl, (tt, (tt, (refl, (refl, (tt, (tt, (refl, (refl, asked_before)))))))))))))))))))

@@ -1,15 +1,15 @@
 -- Legal runs of a few events (RFC 7252, sections 4.2, 4.5, 5.2 and 5.8): the laws of the world are laws of something.
-use Rattle.std.specs.Prelude.{◌≡◌, ◌≤◌, ◌<◌, ℕ, Some, None, List, [], ◌∷◌, ◌++◌, codes}
+use Rattle.std.specs.Prelude.{◌≡◌, ◌≤◌, ◌<◌, ℕ, Option, Some, None, List, [], ◌∷◌, ◌++◌, codes}
 use Rattle.coap_types.specs.Past.{Once, all_of}
 use Rattle.coap_types.specs.declared.endpoint.Endpoint.{Endpoint}
 use Rattle.coap_types.specs.declared.request.Method.TheVariants.{Get, Post}
 use Rattle.coap_ends.specs.ClientTrace.{Body, Done, Failed, Timeout, Reported, Request}
 use Rattle.coap_ends.specs.ServerFollows.{held_at}
 use Rattle.coap_ends.specs.ServerTrace.{Delay}
-use Rattle.coap_world.specs.Agrees.{ReportsAt, AppliesFor}
+use Rattle.coap_world.specs.Agrees.{ReportsAt, AppliesFor, HeldSince, AppliesSince}
 use Rattle.coap_world.specs.Events.{client_end, server_end, localhost, Config, What, Calls, Sets, TickClient, TickServer, Deliver, StrangerToServer, Event}
 use Rattle.coap_world.specs.Legal.{Legal}
-use Rattle.coap_world.specs.Record.{Given, Turn, given_in, RecordOf, entries_of, server_trace}
+use Rattle.coap_world.specs.Record.{Entry, Given, Turn, given_in, RecordOf, entries_of, server_trace}
 
 -- words 0, blocks of 1,024 bytes, 4,194,303 changes a window
 abbrev pub with_delays : List Delay → Config
@@ -86,12 +86,19 @@ get_bytes = 0x48 ∷ 1 ∷ 0 ∷ 0 ∷ token ++ 0xb1 ∷ codes "t"
 abbrev pub content_bytes : List ℕ
 content_bytes = 0x68 ∷ 0x45 ∷ 0 ∷ 0 ∷ token ++ 0x48 ∷ 0 ∷ 0 ∷ 0 ∷ 0 ∷ 0 ∷ 0 ∷ 0 ∷ 1 ∷ 0x80 ∷ 0xff ∷ codes "hi"
 
+abbrev pub tag : Option (List ℕ)
+tag = Some (0 ∷ 0 ∷ 0 ∷ 0 ∷ 0 ∷ 0 ∷ 0 ∷ 1 ∷ [])
+
 abbrev pub got : Reported
-got = record { number = 0; report = Body (Some (0 ∷ 0 ∷ 0 ∷ 0 ∷ 0 ∷ 0 ∷ 0 ∷ 1 ∷ [])) (Some plain) (codes "hi") }
+got = record { number = 0; report = Body tag (Some plain) (codes "hi") }
+
+-- it is reported, and the server held it before
+abbrev pub GotAt : Config → List Entry → Entry → Type 0
+GotAt config past e = ReportsAt got past e × Once (HeldSince config 0 tag (Some plain) (codes "hi")) past
 
 pub record Gets : Type 0 where
   pub run : Runs config gets (from_server 5 client_end content_bytes ∷ from_client 0 get_bytes ∷ [])
-  pub reports : Once (ReportsAt got) (entries_of run.turns)
+  pub reports : Once (GotAt config) (entries_of run.turns)
 
 -- the same, where the server answers requests to `t` 1,000 ms later: an Empty acknowledgement, a CON of its own, and the
 -- Empty acknowledgement of that (section 5.2.2)
@@ -120,7 +127,7 @@ separate_bytes = 0x48 ∷ 0x45 ∷ 0 ∷ 0 ∷ token ++ 0x48 ∷ 0 ∷ 0 ∷ 0 �
 pub record GetsLate : Type 0 where
   pub run : Runs slow gets_late
       (from_client 1000 empty_ack ∷ from_server 1000 client_end separate_bytes ∷ from_server 0 client_end empty_ack ∷ from_client 0 get_bytes ∷ [])
-  pub reports : Once (ReportsAt got) (entries_of run.turns)
+  pub reports : Once (GotAt slow) (entries_of run.turns)
 
 -- the server holds `x` at `log`; the POST of `a` comes twice, and the first of its two equal acknowledgements is lost
 -- (sections 4.2 and 4.5)
@@ -150,11 +157,10 @@ changed_bytes = 0x68 ∷ 0x44 ∷ 0 ∷ 0 ∷ token
 abbrev pub done : Reported
 done = record { number = 0; report = Done 68 }
 
--- It is applied, and only once: the body has grown by one `a`.
+-- Success is reported, it was applied before, and only once: the body has grown by one `a`.
 pub record Posts : Type 0 where
   pub run : Runs config posts (from_server 5 client_end changed_bytes ∷ from_server 0 client_end changed_bytes ∷ from_client 0 post_bytes ∷ [])
-  pub reports : Once (ReportsAt done) (entries_of run.turns)
-  pub applies : Once (AppliesFor config 0 (entries_of run.turns)) (entries_of run.turns)
+  pub reports : Once (λ past e. ReportsAt done past e × Once (AppliesSince config 0 (entries_of run.turns)) past) (entries_of run.turns)
   pub held : held_at config.limit config.server_szx log (server_trace config (entries_of run.turns))
       ≡ Some (record { version = 2; format = Some plain; body = codes "xa" })
 
@@ -172,6 +178,7 @@ failed = record { number = 0; report = Failed 132 }
 pub record Fails : Type 0 where
   pub run : Runs config fails (from_server 5 client_end not_found_bytes ∷ from_client 0 post_bytes ∷ [])
   pub reports : Once (ReportsAt failed) (entries_of run.turns)
+  pub applies : Once (AppliesFor config 0 (entries_of run.turns)) (entries_of run.turns) → ⊥
 
 -- no acknowledgement comes, and the POST goes out five times; the last copy comes after the report (sections 4.2 and 4.8.2)
 
