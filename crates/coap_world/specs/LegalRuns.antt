@@ -3,6 +3,7 @@ use Rattle.std.specs.Prelude.{◌≡◌, ◌≤◌, ◌<◌, ℕ, Option, Some, 
 use Rattle.coap_types.specs.Past.{Once, all_of}
 use Rattle.coap_types.specs.declared.endpoint.Endpoint.{Endpoint}
 use Rattle.coap_types.specs.declared.request.Method.TheVariants.{Get, Post}
+use Rattle.coap_ends.specs.ClientReports.{changed}
 use Rattle.coap_ends.specs.ClientTrace.{Body, Done, Failed, Timeout, Reported, Request}
 use Rattle.coap_ends.specs.ServerFollows.{held_at}
 use Rattle.coap_ends.specs.ServerTrace.{Delay}
@@ -155,7 +156,7 @@ abbrev pub changed_bytes : List ℕ
 changed_bytes = 0x68 ∷ 0x44 ∷ 0 ∷ 0 ∷ token
 
 abbrev pub done : Reported
-done = record { number = 0; report = Done 68 }
+done = record { number = 0; report = Done changed }
 
 -- Success is reported, it was applied before, and only once: the body has grown by one `a`.
 pub record Posts : Type 0 where
@@ -172,8 +173,12 @@ fails = event 9 (Deliver 1) ∷ event 5 (Deliver 0) ∷ event 0 TickClient ∷ e
 abbrev pub not_found_bytes : List ℕ
 not_found_bytes = 0x68 ∷ 0x84 ∷ 0 ∷ 0 ∷ token
 
+-- 4.04
+abbrev pub not_found : ℕ
+not_found = 132
+
 abbrev pub failed : Reported
-failed = record { number = 0; report = Failed 132 }
+failed = record { number = 0; report = Failed not_found }
 
 pub record Fails : Type 0 where
   pub run : Runs config fails (from_server 5 client_end not_found_bytes ∷ from_client 0 post_bytes ∷ [])
