@@ -36,5 +36,8 @@ pub mod WitnessFail
 pub mod WitnessTimeoutClient
 pub mod WitnessTimeoutServer
 pub mod WitnessTimeout
+pub mod WitnessStrangerClient
+pub mod WitnessStrangerServer
+pub mod WitnessStranger
 pub mod WitnessDelivery
 pub mod WitnessRefused

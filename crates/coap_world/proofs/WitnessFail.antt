@@ -2,14 +2,13 @@
 use Rattle.std.proofs.Common.{ℕ, Option, Some, None, ap, ◌≡◌, ◌++◌, true, sym, subst, inl, inr, List, [], ◌∷◌, map, refl, arith}
 use Rattle.std.specs.Prelude.{codes}
 use Rattle.coap_types.specs.Past.{Once, Always}
-use Rattle.coap_ends.specs.ClientTrace as C
 use Rattle.coap_ends.specs.ServerFollows.{Serving, is_applied}
 use Rattle.coap_world.specs.Agrees.{AppliesFor}
 use Rattle.coap_world.specs.Events.{Calls, TickClient, Deliver, client_end}
 use Rattle.coap_world.specs.Legal.{Legal}
 use Rattle.coap_world.specs.LegalRuns.{config, event, from_client, from_server, failed, post, post_bytes, not_found_bytes, Fails}
 use Rattle.coap_world.specs.Record.{Entry, OfClient, OfServer, Turn, Makes, entries_of}
-use Rattle.coap_world.proofs.WitnessWords.{bytes_are}
+use Rattle.coap_world.proofs.WitnessWords.{bytes_are, clients_none}
 use Rattle.coap_world.proofs.WitnessPost.{path}
 use Rattle.coap_world.proofs.WitnessGet.{turn}
 use Rattle.coap_world.proofs.WitnessPostClient as post_client
@@ -63,15 +62,10 @@ legal = (
   ),
 )
 
--- no call of the client applies anything, and the server's doesn't
+-- the server's call applies nothing
 
 abbrev all : List Entry
 all = entries_of turns
-
-clients_none : (cs : List C.Call) (es : List Entry) → (Once (AppliesFor config 0 all) es → ⊥) → Once (AppliesFor config 0 all) (map OfClient cs ++ es) → ⊥
-clients_none [] es none h = none h
-clients_none (c ∷ cs) es none (inl h) = h.here
-clients_none (c ∷ cs) es none (inr h) = clients_none cs es none h
 
 abbrev code_of : Option Serving → ℕ
 code_of None = 0
@@ -90,7 +84,7 @@ server_none es none (inr (inr (inl h))) = serves_none es h
 server_none es none (inr (inr (inr h))) = none h
 
 none : Once (AppliesFor config 0 all) all → ⊥
-none = clients_none client.fed _ (server_none _ (clients_none post_client.ticked _ (clients_none post_client.called [] (λ h. h))))
+none = clients_none config 0 all client.fed _ (server_none _ (clients_none config 0 all post_client.ticked _ (clients_none config 0 all post_client.called [] (λ h. h))))
 
 pub refused : Fails
 refused = record {

@@ -49,6 +49,9 @@ made = record {
 other : (e : Endpoint) → (e.port ≡ 9 → ⊥) → stranger ≢ e
 other e f h = f (ap (λ (x : Endpoint). x.port) (sym h))
 
+pub elsewhere : (stranger ≢ client_end) × (stranger ≢ server_end)
+elsewhere = (other client_end (λ h. omega (arith, h)), other server_end (λ h. omega (arith, h)))
+
 legal : Legal turns
 legal = (
   record {
@@ -56,7 +59,7 @@ legal = (
     word = omega arith;
     range = (record { four = refl; bytes = bytes_are localhost refl; port = omega arith }, bytes_are ping refl);
     later = tt;
-    comes = (other client_end (λ h. omega (arith, h)), other server_end (λ h. omega (arith, h)));
+    comes = elsewhere;
   },
   tt,
 )

@@ -1,13 +1,13 @@
 -- Legal runs of a few events (RFC 7252, sections 4.2, 4.5, 5.2 and 5.8): the laws of the world are laws of something.
-use Rattle.std.specs.Prelude.{◌≡◌, ◌≤◌, ◌<◌, ℕ, Option, Some, None, List, [], ◌∷◌, ◌++◌, codes}
+use Rattle.std.specs.Prelude.{◌≡◌, ◌≤◌, ◌<◌, ℕ, true, Option, Some, None, List, [], ◌∷◌, ◌++◌, codes}
 use Rattle.coap_types.specs.Past.{Once, all_of}
 use Rattle.coap_types.specs.declared.endpoint.Endpoint.{Endpoint}
-use Rattle.coap_types.specs.declared.request.Method.TheVariants.{Get, Post}
+use Rattle.coap_types.specs.declared.request.Method.TheVariants.{Get, Post, Delete}
 use Rattle.coap_ends.specs.ClientReports.{changed}
 use Rattle.coap_ends.specs.ClientTrace.{Body, Done, Failed, Timeout, Reported, Request}
-use Rattle.coap_ends.specs.ServerFollows.{held_at}
+use Rattle.coap_ends.specs.ServerFollows.{Serving, is_applied, held_at}
 use Rattle.coap_ends.specs.ServerTrace.{Delay}
-use Rattle.coap_world.specs.Agrees.{ReportsAt, AppliesFor, HeldSince, AppliesSince}
+use Rattle.coap_world.specs.Agrees.{ReportsAt, ServesAt, AppliesFor, HeldSince, AppliesSince}
 use Rattle.coap_world.specs.Events.{client_end, server_end, localhost, Config, What, Calls, Sets, TickClient, TickServer, Deliver, StrangerToServer, Event}
 use Rattle.coap_world.specs.Legal.{Legal}
 use Rattle.coap_world.specs.Record.{Entry, Given, Turn, given_in, RecordOf, entries_of, server_trace}
@@ -209,6 +209,25 @@ timed_out = record { number = 0; report = Timeout }
 pub record TimesOut : Type 0 where
   pub run : Runs config times_out (from_server 130000 client_end changed_bytes ∷ copies)
   pub applies_after : Once (λ past e. AppliesFor config 0 (entries_of run.turns) past e × Once (ReportsAt timed_out) past) (entries_of run.turns)
+
+-- a stranger sends a DELETE under the token of a call; it is applied, and not for that call (section 5.8.4)
+
+abbrev pub delete : Request
+delete = record { method = Delete; path = codes "t" ∷ []; accept = None; format = None; body = [] }
+
+abbrev pub delete_bytes : ℕ → List ℕ
+delete_bytes id = 0x48 ∷ 4 ∷ 0 ∷ id ∷ token ++ 0xb1 ∷ codes "t"
+
+abbrev pub deleted_bytes : List ℕ
+deleted_bytes = 0x68 ∷ 0x42 ∷ 0 ∷ 1 ∷ token
+
+abbrev pub interferes : List Event
+interferes = event 0 (StrangerToServer stranger (delete_bytes 1)) ∷ event 0 TickClient ∷ event 0 (Calls delete) ∷ []
+
+pub record Interferes : Type 0 where
+  pub run : Runs config interferes (from_server 0 stranger deleted_bytes ∷ from_client 0 (delete_bytes 0) ∷ [])
+  pub applies : Once (λ past e. (x : Serving) × ServesAt config x past e × (is_applied x.reply.code ≡ true)) (entries_of run.turns)
+  pub for_none : Once (AppliesFor config 0 (entries_of run.turns)) (entries_of run.turns) → ⊥
 
 -- a datagram that was given out at 0 comes
 

@@ -9,7 +9,7 @@ ghost use Rattle.coap_world.specs.Delivery.{AllFair};
 ghost use Rattle.coap_world.specs.Events.{client_end, server_end, Config, Event};
 ghost use Rattle.coap_world.specs.Hops.{hops_of, across, TakenAtOnce};
 ghost use Rattle.coap_world.specs.Legal.{Legal};
-ghost use Rattle.coap_world.specs.LegalRuns.{NoneRuns, Pings, Gets, GetsLate, Posts, Fails, TimesOut, MayComeTill, NotAfter, never_given, posing};
+ghost use Rattle.coap_world.specs.LegalRuns.{NoneRuns, Pings, Gets, GetsLate, Posts, Fails, TimesOut, Interferes, MayComeTill, NotAfter, never_given, posing};
 ghost use Rattle.coap_world.specs.Record.{Turn, RecordOf, entries_of, client_of, server_trace};
 
 /// What comes from an end's address was given out by that end, for the one that it comes to, at most 100,000 ms before.
@@ -60,6 +60,8 @@ pub fn witness_law()
     // A POST is never acknowledged: it goes out five times, and Timeout is reported. That says nothing of the server: the last
     // copy comes later, and is applied (RFC 7252, sections 4.2 and 4.8.2).
     ensures times_out { TimesOut }
+    // A stranger's DELETE, under the token of a call, is applied, and not for that call (RFC 7252, section 5.8.4).
+    ensures interferes { Interferes }
 {}
 
 /// Which events are legal.
