@@ -47,6 +47,10 @@ module _ (config : Config) where
     pub from : request.asked.from ≡ client_end
     pub belongs : SentFor number request.asked.token all
 
+  -- Each that is applied belongs to a call.
+  abbrev pub EachBelongs : List Entry → Type 0
+  EachBelongs all = Always (λ past e. (x : Serving) → ServesAt x past e → is_applied x.reply.code ≡ true → x.asked.from ≡ client_end → (number : ℕ) × SentFor number x.asked.token all) all
+
   -- It has the path and the method of the call, which was made before; the preconditions hold there, and the change puts,
   -- with the format of the call, or joins all of its body, or removes.
   pub record IsWhole (number : ℕ) (past : List Entry) (x : Serving) : Type 0 where
@@ -107,6 +111,7 @@ module _ (config : Config) where
 
   pub record Agrees (all : List Entry) : Type 0 where
     pub each_held : EachHeld all
+    pub each_belongs : EachBelongs all
     pub applied_whole : AppliedWhole all
     pub at_most_once : AtMostOnce all
     pub once_done : OnceDone all

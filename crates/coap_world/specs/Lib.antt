@@ -5,3 +5,4 @@ pub mod Delivery
 pub mod Agrees
 pub mod Hops
 pub mod CameFrom
+pub mod LegalRuns
