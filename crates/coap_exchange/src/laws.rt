@@ -6,7 +6,7 @@ ghost use Rattle.coap_exchange.specs.AskerLaw.{State, Step, Led, ExchangeLaw, fr
 ghost use Rattle.coap_exchange.specs.AskerExact.{IsExact};
 ghost use Rattle.coap_exchange.specs.AskerFollows.{AreExchanges, AreTokens, EndInTime, AreFromServer};
 ghost use Rattle.coap_exchange.specs.AskerShown.{IsAskableWhenShort};
-ghost use Rattle.coap_exchange.specs.ShortAnswers.{IsAnswerWhenShort};
+ghost use Rattle.coap_exchange.specs.ShortAnswers.{IsAnswerWhenShort, IsNotificationWhenShort};
 ghost use Rattle.coap_exchange.specs.AnswererTrace as trace;
 ghost use Rattle.coap_exchange.specs.AnswererLaw as answerer;
 ghost use Rattle.coap_exchange.specs.AnswererLaw.{ResponseLaw};
@@ -65,4 +65,9 @@ pub fn askable_law()
 /// that is short enough (RFC 7252, section 4.6).
 pub fn answerable_law()
     ensures { IsAnswerWhenShort }
+{}
+
+/// The same of a notification with a token of at most 8 bytes.
+pub fn notifiable_law()
+    ensures { IsNotificationWhenShort }
 {}
