@@ -61,6 +61,8 @@ handed_at_most a (E.Answers b r below ∷ t) law = let k = handed_at_most a t la
 handed_at_most a (E.Defers now b delay answer ∷ t) law = let k = handed_at_most a t law.1 in let e = ups_append a (P.lower (W.own_of t) (E.Defers now b delay answer)) (W.lower_of t) in omega (arith, k, e)
 handed_at_most a (E.Ticks now below room answer ∷ t) law = let k = handed_at_most a t law.1 in let e = ups_append a (P.lower (W.own_of t) (E.Ticks now below room answer)) (W.lower_of t) in omega (arith, k, e)
 handed_at_most a (E.Responds now b r word id ∷ t) law = let k = handed_at_most a t law.1 in let e = ups_append a (P.lower (W.own_of t) (E.Responds now b r word id)) (W.lower_of t) in omega (arith, k, e)
+handed_at_most a (E.Ready now to answer ∷ t) law = let k = handed_at_most a t law.1 in let e = ups_append a (P.lower (W.own_of t) (E.Ready now to answer)) (W.lower_of t) in omega (arith, k, e)
+handed_at_most a (E.Notifies now to token r word id ∷ t) law = let k = handed_at_most a t law.1 in let e = ups_append a (P.lower (W.own_of t) (E.Notifies now to token r word id)) (W.lower_of t) in omega (arith, k, e)
 handed_at_most a (E.Take answer ∷ t) law = let k = handed_at_most a t law.1 in let e = ups_append a (P.lower (W.own_of t) (E.Take answer)) (W.lower_of t) in omega (arith, k, e)
 
 abbrev pub Counted : ℕ → ℕ → ℕ → List Call → Type 0

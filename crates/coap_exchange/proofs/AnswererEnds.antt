@@ -2,13 +2,12 @@
 use Rattle.std.proofs.Common.{◌≡◌, ◌≤◌, ℕ, ◌+◌, Bool, true, false, Option, Some, None, List, [], ◌∷◌, ◌++◌, refl, ap, subst, cond, arith, ◌&&◌, not}
 use Rattle.std.specs.Bool.{beq}
 use Rattle.std.specs.Option.{option_map}
-use Rattle.coap_types.specs.Recognised.{has_number}
 use Rattle.coap_types.specs.declared.endpoint.Endpoint.{Endpoint}
 use Rattle.coap_layer.specs.Trace as L
 use Rattle.coap_exchange.specs.declared.answerer.Ended.{Ended}
 use Rattle.coap_exchange.specs.declared.separate.Separate.{Separate}
-use Rattle.coap_exchange.specs.AnswererTrace.{Call, Incoming, Answers, Defers, Ticks, Responds, Take}
-use Rattle.coap_exchange.specs.AnswererSteps.{goes_to, found, ended_as, without, separate_after, separate_unless, reset_by, failed_by}
+use Rattle.coap_exchange.specs.AnswererTrace.{Call, Incoming, Answers, Defers, Ticks, Responds, Ready, Notifies, Take}
+use Rattle.coap_exchange.specs.AnswererSteps.{goes_to, found, ended_as, separate_of, without, separate_after, separate_unless, reset_by, failed_by}
 use Rattle.coap_exchange.specs.AnswererLaw.{own_of}
 use Rattle.coap_exchange.specs.AnswererFollows.{hits, times, sends, says, same_ended, SaysOnce, EndsOnce}
 use Rattle.coap_exchange.proofs.LayerFacts.{same_place_self}
@@ -120,7 +119,9 @@ module _ (t : List Call) (sent : Sent t) where
       (says_one (Ticks now below room answer) (separate_unless below (own_of t).separate) f, λ x. let k = sent x in let l = f x in omega (arith, k, l))
   on (Answers a r below) = (quiet _ refl, λ x. let k = sent x in omega (arith, k))
   on (Defers now a delay answer) = (quiet _ refl, λ x. let k = sent x in omega (arith, k))
-  on (Responds now a r word id) = (quiet _ refl, λ x. let k = sent x in let l = hits_with x (own_of t).separate (record { to = a.from; id = record { 0 = id }; token = a.token; observe = has_number 6 r.options }) in omega (arith, k, l))
+  on (Responds now a r word id) = (quiet _ refl, λ x. let k = sent x in let l = hits_with x (own_of t).separate (separate_of a.from id a.token r) in omega (arith, k, l))
+  on (Ready now to answer) = (quiet _ refl, λ x. let k = sent x in omega (arith, k))
+  on (Notifies now to token r word id) = (quiet _ refl, λ x. let k = sent x in let l = hits_with x (own_of t).separate (separate_of to id token r) in omega (arith, k, l))
   on (Take answer) = (quiet _ refl, λ x. let k = sent x in omega (arith, k))
 
 said : (t : List Call) → EndsOnce t × Sent t

@@ -5,7 +5,7 @@ use Rattle.coap_layer.specs.Steps.{Asked as Below, Steps}
 use Rattle.coap_layer.specs.Trace as T
 use Rattle.coap_exchange.specs.declared.separate.Deferred.{Deferred}
 use Rattle.coap_exchange.specs.AnswererTrace.{Own, Call}
-use Rattle.coap_exchange.specs.AnswererSteps.{handed_up, answering, content_of, reject_by, asking_room, ready_if, ready_at, due_of}
+use Rattle.coap_exchange.specs.AnswererSteps.{handed_up, answering, content_of, content_with, reject_by, asking_room, ready_if, ready_at, due_of}
 use Rattle.coap_exchange.specs.AnswererLaw.{own_of, lower_of}
 use Rattle.coap_exchange.specs.AnswererExact.{IsExact}
 use Rattle.coap_exchange.specs.AskerRequests.{asked}
@@ -89,5 +89,7 @@ module _ (word : ℕ) (past : List Call) where
         subst (λ b. Steps (L.start word) ((asking_room now (ready_if b (ready_at s now)) space ++ asked now T.Ticks b ∷ []) ++ below_past) q.left) (sym e) q.layer in
         (e, p.rows.0 ∙ (same_due now below room space p.left q.left p.layer last ∙ (ap (λ b. due_of b (ready_at s now) space) e ∙ sym q.rows.0)));
     responds = λ now a r w id another p q. let e = single now (T.Confirm a.from (content_of a r) w) (T.Sent id) (T.Sent another) p.left q.left p.layer q.layer in cc e;
+    ready = λ now to answer another p q. let e = single now (T.Room to) (T.Is answer) (T.Is another) p.left q.left p.layer q.layer in cc e;
+    notifies = λ now to token r w id another p q. let e = single now (T.Confirm to (content_with token r) w) (T.Sent id) (T.Sent another) p.left q.left p.layer q.layer in cc e;
     take = λ answer another p q. let e = single 0 T.Take (T.Gives answer) (T.Gives another) p.left q.left p.layer q.layer in cc e;
   }

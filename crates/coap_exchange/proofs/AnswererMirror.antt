@@ -14,8 +14,8 @@ use Rattle.coap_layer.specs.Words.{Open, same, left_by, begun_in}
 use Rattle.coap_exchange.specs.declared.answerer.Asked.{Asked}
 use Rattle.coap_exchange.specs.declared.separate.Deferred.{Deferred}
 use Rattle.coap_exchange.specs.declared.separate.Separate.{Separate}
-use Rattle.coap_exchange.specs.AnswererTrace.{Response, Own, Call, Incoming, Answers, Defers, Ticks, Responds, Take}
-use Rattle.coap_exchange.specs.AnswererSteps.{lower, after, without, separate_after, separate_unless, is_waited_for, content_of, answering, deferring, may_defer, asking_room, ready_if, ready_at, reject_by}
+use Rattle.coap_exchange.specs.AnswererTrace.{Response, Own, Call, Incoming, Answers, Defers, Ticks, Responds, Ready, Notifies, Take}
+use Rattle.coap_exchange.specs.AnswererSteps.{lower, after, without, separate_after, separate_unless, is_waited_for, content_of, content_with, answering, deferring, may_defer, asking_room, ready_if, ready_at, reject_by}
 use Rattle.coap_exchange.specs.AnswererLaw.{own_of, lower_of, ResponseLaw}
 use Rattle.coap_exchange.specs.AnswererFollows.{WaitsForOutstanding}
 use Rattle.coap_exchange.specs.AskerRequests.{asked}
@@ -176,6 +176,15 @@ mirrors word (Responds now a r w id ∷ t) h steps =
     let call : T.Call = T.Confirm a.from (content_of a r) w in
     let at : ℕ = max mid.clock now in
     subst (Mirrors (after s (Responds now a r w id)).separate)
+    (sym (step_opens mid h now call (T.Sent id) steps.2 ∙ ap (λ z. z ++ option_to_list (begun_in at call (T.Sent id))) (left_same (entry_of at call (T.Sent id) (out_of mid at call)) (λ c. refl) mid.open_cons)))
+    (with_mirrors s.separate mid.open_cons _ _ refl refl (mirrors word t mid steps.1))
+mirrors word (Ready now to answer ∷ t) h steps = still steps.0 h now (T.Room to) (T.Is answer) (own_of t).separate steps.2 (λ at out c. refl) (λ at. refl) (mirrors word t steps.0 steps.1)
+mirrors word (Notifies now to token r w id ∷ t) h steps =
+    let s : Own = own_of t in
+    let mid : L.State = steps.0 in
+    let call : T.Call = T.Confirm to (content_with token r) w in
+    let at : ℕ = max mid.clock now in
+    subst (Mirrors (after s (Notifies now to token r w id)).separate)
     (sym (step_opens mid h now call (T.Sent id) steps.2 ∙ ap (λ z. z ++ option_to_list (begun_in at call (T.Sent id))) (left_same (entry_of at call (T.Sent id) (out_of mid at call)) (λ c. refl) mid.open_cons)))
     (with_mirrors s.separate mid.open_cons _ _ refl refl (mirrors word t mid steps.1))
 mirrors word (Take answer ∷ t) h steps = still steps.0 h 0 T.Take (T.Gives answer) (own_of t).separate steps.2 (λ at out c. refl) (λ at. refl) (mirrors word t steps.0 steps.1)

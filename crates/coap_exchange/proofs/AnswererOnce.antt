@@ -9,7 +9,7 @@ use Rattle.coap_layer.proofs.ListLemmas.{lt_true}
 use Rattle.coap_exchange.specs.declared.answerer.Asked.{Asked}
 use Rattle.coap_exchange.specs.declared.separate.Deferred.{Deferred}
 use Rattle.coap_exchange.specs.declared.separate.Separate.{Separate}
-use Rattle.coap_exchange.specs.AnswererTrace.{Own, Call, Incoming, Answers, Defers, Ticks, Responds, Take}
+use Rattle.coap_exchange.specs.AnswererTrace.{Own, Call, Incoming, Answers, Defers, Ticks, Responds, Ready, Notifies, Take}
 use Rattle.coap_exchange.specs.AnswererSteps.{IsRight, after, may_defer, is_ready, first_ready, without_ready, max_deferred}
 use Rattle.coap_exchange.specs.AnswererLaw.{own_of, AnswererLaw}
 use Rattle.coap_exchange.specs.AnswererFollows.{hands, responds, hits, same_asked, times_handed, times_answered, Responses, AreResponses}
@@ -177,6 +177,22 @@ module _ (t : List Call) (s : Own) (known : Counted t s) where
         },
       )
 
+  ready_on : (now : ℕ) (to : Endpoint) (answer : Bool) → Counted (Ready now to answer ∷ t) (after s (Ready now to answer))
+  ready_on now to answer = record {
+    count = λ a. let k = known.count a in omega (arith, k);
+    pending = λ a h. inr (known.pending a h);
+    deferred = all_later (Ready now to answer) t s.deferred known.deferred;
+    few = known.few;
+  }
+
+  notifies_on : (now : ℕ) (to : Endpoint) (token : List ℕ) (r : _) (word id : ℕ) → Counted (Notifies now to token r word id ∷ t) (after s (Notifies now to token r word id))
+  notifies_on now to token r word id = record {
+    count = λ a. let k = known.count a in omega (arith, k);
+    pending = λ a h. absurd (cc h);
+    deferred = all_later (Notifies now to token r word id) t s.deferred known.deferred;
+    few = known.few;
+  }
+
   take_on : (answer : _) → Counted (Take answer ∷ t) s
   take_on answer = record {
     count = λ a. let k = known.count a in omega (arith, k);
@@ -191,6 +207,8 @@ module _ (t : List Call) (s : Own) (known : Counted t s) where
   on (Defers now b delay answer) right = (quiet _ refl, defers_on now b delay answer right.0 right.2)
   on (Ticks now below room answer) right = (quiet _ refl, ticks_on now below room answer)
   on (Responds now b r word id) right = responds_on now b r word id right.0
+  on (Ready now to answer) right = (quiet _ refl, ready_on now to answer)
+  on (Notifies now to token r word id) right = (quiet _ refl, notifies_on now to token r word id)
   on (Take answer) right = (quiet _ refl, take_on answer)
 
 pub counted : (t : List Call) → AnswererLaw t → AreResponses t × Counted t (own_of t)

@@ -17,6 +17,7 @@ pub mod AnswererOnce
 pub mod AnswererEnds
 pub mod AnswererMirror
 pub mod AnswererCame
+pub mod AnswererSends
 pub mod AnswererExactly
 pub mod OptionFacts
 pub mod AskerCode

@@ -5,7 +5,7 @@ use Rattle.coap_codec.specs.Message.{Message}
 use Rattle.coap_layer.specs.Trace as L
 use Rattle.coap_exchange.specs.declared.answerer.Asked.{Asked}
 use Rattle.coap_exchange.specs.declared.answerer.Due.{Due}
-use Rattle.coap_exchange.specs.AnswererTrace.{Response, Call, Incoming, Answers, Defers, Ticks, Responds, Take}
+use Rattle.coap_exchange.specs.AnswererTrace.{Response, Call, Incoming, Answers, Defers, Ticks, Responds, Ready, Notifies, Take}
 use Rattle.coap_exchange.specs.AnswererLaw.{ResponseLaw}
 
 pub record IsExact (word : ℕ) (past : List Call) : Type 0 where
@@ -18,4 +18,8 @@ pub record IsExact (word : ℕ) (past : List Call) : Type 0 where
       (now : ℕ) (below other : L.Answer) (room space : Bool) (answer another : Due) → ResponseLaw word (Ticks now below room answer ∷ past) → ResponseLaw word (Ticks now other space another ∷ past)
       → (below ≡ other) × (answer ≡ another)
   pub responds : (now : ℕ) (a : Asked) (r : Response) (w id another : ℕ) → ResponseLaw word (Responds now a r w id ∷ past) → ResponseLaw word (Responds now a r w another ∷ past) → id ≡ another
+  pub ready : (now : ℕ) (to : Endpoint) (answer another : Bool) → ResponseLaw word (Ready now to answer ∷ past) → ResponseLaw word (Ready now to another ∷ past) → answer ≡ another
+  pub notifies :
+      (now : ℕ) (to : Endpoint) (token : List ℕ) (r : Response) (w id another : ℕ) → ResponseLaw word (Notifies now to token r w id ∷ past)
+      → ResponseLaw word (Notifies now to token r w another ∷ past) → id ≡ another
   pub take : (answer another : Option L.Packet) → ResponseLaw word (Take answer ∷ past) → ResponseLaw word (Take another ∷ past) → answer ≡ another

@@ -9,7 +9,7 @@ use Rattle.coap_layer.specs.State as L
 use Rattle.coap_layer.specs.Trace.{same_place}
 use Rattle.coap_exchange.specs.declared.answerer.Asked.{Asked}
 use Rattle.coap_exchange.specs.declared.answerer.Ended.{Ended}
-use Rattle.coap_exchange.specs.AnswererTrace.{Call, Incoming, Answers, Ticks, Responds}
+use Rattle.coap_exchange.specs.AnswererTrace.{Call, Incoming, Answers, Ticks, Responds, Notifies}
 use Rattle.coap_exchange.specs.AnswererSteps.{asked_of, asked_in, reset_by, failed_by, is_waited_for, max_deferred}
 use Rattle.coap_exchange.specs.AnswererLaw.{own_of, ResponseLaw}
 use Rattle.coap_exchange.specs.AskerArrivals.{observe}
@@ -59,9 +59,11 @@ pub record CameIn (c : Call) : Type 0 where
 abbrev pub AreRequests : List Call → Type 0
 AreRequests trace = Always (λ past c. CameIn c) trace
 
--- the separate response that a call sends, and that which it says has ended by a Reset or a failure
+-- the separate response or notification that a call sends, and that which it says has ended by a Reset or a failure
+-- (section 5.2.2; RFC 7641, sections 3.6 and 4.5)
 abbrev pub sends : Call → Option Ended
 sends (Responds now a r word id) = Some (record { to = a.from; token = a.token; observe = has_number observe r.options })
+sends (Notifies now to token r word id) = Some (record { to = to; token = token; observe = has_number observe r.options })
 sends _ = None
 
 abbrev pub says : List Call → Call → Option Ended
@@ -79,7 +81,7 @@ pub record SaysOnce (past : List Call) (c : Call) : Type 0 where
 abbrev pub EndsOnce : List Call → Type 0
 EndsOnce trace = Always SaysOnce trace
 
--- Where a separate response to an endpoint is not acknowledged, the layer has a CON to it outstanding, and only there.
+-- Where a separate response or a notification to an endpoint is not acknowledged, the layer has a CON to it outstanding, and only there.
 abbrev pub WaitsForOutstanding : (word : ℕ) (trace : List Call) → ResponseLaw word trace → Type 0
 WaitsForOutstanding word trace law = (to : Endpoint) → is_waited_for to (own_of trace).separate ≡ L.is_busy to law.left.open_cons
 

@@ -1,20 +1,22 @@
 -- What contracts see of a server's side.
-use Rattle.std.specs.Prelude.{◌≡◌, ◌≢◌, ◌<◌, ℕ, max, Bool, true, false, Option, Some, None, List}
+use Rattle.std.specs.Prelude.{◌≡◌, ◌≢◌, ◌<◌, ◌⊎◌, ℕ, max, Bool, true, false, Option, Some, None, List}
 use Rattle.std.specs.Option.{option_map}
 use Rattle.coap_types.specs.Roles.{role_of}
+use Rattle.coap_types.specs.declared.endpoint.Endpoint.{Endpoint}
 use Rattle.coap_types.specs.declared.message.Kind.TheVariants.{Con}
 use Rattle.coap_types.specs.declared.role.Role.TheVariants as role
 use Rattle.coap_layer.specs.Sendable.{IsSendable}
 use Rattle.coap_layer.specs.Shown as shown
 use Rattle.coap_layer.specs.Shown.{MayReply}
 use Rattle.coap_layer.specs.State as L
-use Rattle.coap_layer.specs.State.{is_free, is_busy}
+use Rattle.coap_layer.specs.State.{is_free, is_busy, answer_of}
+use Rattle.coap_layer.specs.Trace as T
 use Rattle.coap_exchange.specs.declared.answerer.Asked.{Asked}
 use Rattle.coap_exchange.specs.declared.answerer.Ended.{Ended}
 use Rattle.coap_exchange.specs.declared.separate.Deferred.{Deferred}
 use Rattle.coap_exchange.specs.declared.separate.Separate.{Separate}
 use Rattle.coap_exchange.specs.AnswererTrace.{Response, Own}
-use Rattle.coap_exchange.specs.AnswererSteps.{content_of, ready_at}
+use Rattle.coap_exchange.specs.AnswererSteps.{content_with, ready_at}
 use Rattle.coap_exchange.specs.AnswererLaw.{State}
 
 -- its state, the state that `undo` would leave, whether the request that the last input handed up may be answered, and
@@ -41,17 +43,25 @@ pub record MayAnswer (s : Shown) (a : Asked) : Type 0 where
   pub answerable : s.answerable ≡ true
   pub pending : s.state.own.pending ≡ Some a
 
--- The last input said at this moment that the deferred request is ready: what responds to it takes no memory.
-pub record MayRespond (s : Shown) (now : ℕ) (a : Asked) : Type 0 where
+-- It was said at this moment that a CON can be sent there, and nothing was sent or taken back since: what sends it takes
+-- no memory.
+pub record MayNotify (s : Shown) (now : ℕ) (to : Endpoint) : Type 0 where
   pub room : s.room ≡ true
-  pub ready : option_map (λ (d : Deferred). d.asked) (ready_at s.state.own now) ≡ Some a
-  pub idle : is_busy a.from s.state.layer.open_cons ≡ false
+  pub idle : is_busy to s.state.layer.open_cons ≡ false
   pub free : is_free (max s.state.layer.clock now) s.state.layer.upcoming s.state.layer.last_used ≡ true
 
+-- The last input said at this moment that the deferred request is ready: what responds to it takes no memory.
+pub record MayRespond (s : Shown) (now : ℕ) (a : Asked) : Type 0 where
+  pub ready : option_map (λ (d : Deferred). d.asked) (ready_at s.state.own now) ≡ Some a
+  pub con : MayNotify s now a.from
+
 -- a code of class 2 to 5, in a message of at most 1,152 bytes
-pub record IsAnswer (a : Asked) (r : Response) : Type 0 where
+pub record IsAnswerWith (token : List ℕ) (r : Response) : Type 0 where
   pub code : role_of r.code ≡ role.Response
-  pub sendable : IsSendable (content_of a r)
+  pub sendable : IsSendable (content_with token r)
+
+abbrev pub IsAnswer : Asked → Response → Type 0
+IsAnswer a r = IsAnswerWith a.token r
 
 -- what stands of the layer while a request may be answered: it takes a reply, and for a NON a Message ID is free
 pub record Takes (l : shown.Shown) (a : Asked) : Type 0 where
@@ -60,6 +70,10 @@ pub record Takes (l : shown.Shown) (a : Asked) : Type 0 where
 
 abbrev pub IsAnswerable : Bool → shown.Shown → Option Asked → Type 0
 IsAnswerable answerable l pending = answerable ≡ true → (a : Asked) → pending ≡ Some a → Takes l a
+
+-- asking whether a CON can be sent there takes no memory: there is room for it, or it can't
+abbrev pub AsksFreely : shown.Shown → ℕ → Endpoint → Type 0
+AsksFreely l now to = (l.has_room ≡ true) ⊎ (answer_of l.state (max l.state.clock now) (T.Room to) ≡ T.Is false)
 
 -- what stands where there is room
 abbrev pub HasPlace : Bool → shown.Shown → ℕ → ℕ → Type 0

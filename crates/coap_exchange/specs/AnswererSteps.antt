@@ -1,4 +1,5 @@
--- What each call of the server's side asks of the message layer, answers and leaves (RFC 7252, sections 4.2, 4.3, 5.2).
+-- What each call of the server's side asks of the message layer, answers and leaves (RFC 7252, sections 4.2, 4.3, 5.2; RFC
+-- 7641, section 4.2).
 use Rattle.std.specs.Prelude.{◌≡◌, ℕ, ◌-◌, nat_le, nat_lt, max, Bool, true, false, Option, Some, None, List, [], ◌∷◌, ◌++◌, length, filter, ◌&&◌, not, if◌then◌else◌}
 use Rattle.std.specs.List.{list_any}
 use Rattle.std.specs.Option.{option_map}
@@ -21,7 +22,7 @@ use Rattle.coap_exchange.specs.declared.answerer.Due.TheVariants as due
 use Rattle.coap_exchange.specs.declared.answerer.Ended.{Ended}
 use Rattle.coap_exchange.specs.declared.separate.Deferred.{Deferred}
 use Rattle.coap_exchange.specs.declared.separate.Separate.{Separate}
-use Rattle.coap_exchange.specs.AnswererTrace.{Response, Own, Call, Incoming, Answers, Defers, Ticks, Responds, Take}
+use Rattle.coap_exchange.specs.AnswererTrace.{Response, Own, Call, Incoming, Answers, Defers, Ticks, Responds, Ready, Notifies, Take}
 use Rattle.coap_exchange.specs.AskerRequests.{asked}
 use Rattle.coap_exchange.specs.AskerArrivals.{observe, id_in, replying}
 use Rattle.coap_exchange.specs.EmptyMessages.{ack_bytes, reset_bytes}
@@ -46,7 +47,7 @@ abbrev pub reject_by : L.Answer → Option (List ℕ)
 reject_by (L.Response m) = if is_kept m.kind then Some (reset_bytes m.id) else None
 reject_by _ = None
 
--- the separate responses that are outstanding
+-- the separate responses and notifications that are outstanding
 
 abbrev pub goes_to : Endpoint → ℕ → Separate → Bool
 goes_to to id x = same to id x.to x.id.0
@@ -82,8 +83,11 @@ failed_by _ xs = None
 
 -- a response: its own type and Message ID aside, what goes out (sections 5.2.1 to 5.2.3)
 
+abbrev pub content_with : List ℕ → Response → L.Content
+content_with token r = record { code = r.code; token = token; options = r.options; payload = r.payload }
+
 abbrev pub content_of : Asked → Response → L.Content
-content_of a r = record { code = r.code; token = a.token; options = r.options; payload = r.payload }
+content_of a r = content_with a.token r
 
 -- piggybacked in the acknowledgement of a CON; to a NON, in a NON
 abbrev pub answering : Own → Kind → Asked → Response → L.Call
@@ -95,9 +99,16 @@ IsSentAs Con below = below ≡ L.Nothing
 IsSentAs kind below = (id : ℕ) × (below ≡ L.Sent id)
 
 -- the caller's condition: a code of class 2 to 5, and all that can be spelled
-pub record IsResponse (a : Asked) (r : Response) : Type 0 where
+pub record IsResponseWith (token : List ℕ) (r : Response) : Type 0 where
   pub code : role_of r.code ≡ role.Response
-  pub spelled : IsSpelled (content_of a r)
+  pub spelled : IsSpelled (content_with token r)
+
+abbrev pub IsResponse : Asked → Response → Type 0
+IsResponse a r = IsResponseWith a.token r
+
+-- what is outstanding of a separate response or a notification that was sent there with this Message ID
+abbrev pub separate_of : Endpoint → ℕ → List ℕ → Response → Separate
+separate_of to id token r = record { to = to; id = record { 0 = id }; token = token; observe = has_number observe r.options }
 
 -- deferral (section 5.2.2): an Empty acknowledgement now, and a CON later; at most 16 are deferred (profile)
 
@@ -166,16 +177,20 @@ lower s (Answers a r below) = asked s.clock (answering s a.kind a r) below ∷ [
 lower s (Defers now a delay answer) = deferring (may_defer s.deferred) a ++ asked now L.Pass L.Nothing ∷ []
 lower s (Ticks now below room answer) = asking_room now (ready_if below (ready_at s now)) room ++ asked now L.Ticks below ∷ []
 lower s (Responds now a r word id) = asked now (L.Confirm a.from (content_of a r) word) (L.Sent id) ∷ []
+lower s (Ready now to answer) = asked now (L.Room to) (L.Is answer) ∷ []
+lower s (Notifies now to token r word id) = asked now (L.Confirm to (content_with token r) word) (L.Sent id) ∷ []
 lower s (Take answer) = asked 0 L.Take (L.Gives answer) ∷ []
 
 -- what is answered; of an answer, a deferral and a response also the caller's condition: it is to the request that the
--- last input handed up, or to the one that is ready
+-- last input handed up, or to the one that is ready; a notification is as a response is
 abbrev pub IsRight : Own → Call → Type 0
 IsRight s (Incoming now from bytes up answer) = answer ≡ handed_up from up
 IsRight s (Answers a r below) = (s.pending ≡ Some a) × IsResponse a r × IsSentAs a.kind below
 IsRight s (Defers now a delay answer) = (s.pending ≡ Some a) × (a.kind ≡ Con) × (answer ≡ may_defer s.deferred)
 IsRight s (Ticks now below room answer) = answer ≡ due_of below (ready_at s now) room
 IsRight s (Responds now a r word id) = (option_map (λ (d : Deferred). d.asked) (ready_at s now) ≡ Some a) × IsResponse a r
+IsRight s (Ready now to answer) = Unit {0}
+IsRight s (Notifies now to token r word id) = IsResponseWith token r
 IsRight s (Take answer) = Unit {0}
 
 abbrev pub after : Own → Call → Own
@@ -195,6 +210,8 @@ after s (Responds now a r word id) =
       clock = max s.clock now;
       pending = None;
       deferred = without_ready (max s.clock now) s.separate s.deferred;
-      separate = s.separate ++ record { to = a.from; id = record { 0 = id }; token = a.token; observe = has_number observe r.options } ∷ [];
+      separate = s.separate ++ separate_of a.from id a.token r ∷ [];
     }
+after s (Ready now to answer) = record s { clock = max s.clock now }
+after s (Notifies now to token r word id) = record s { clock = max s.clock now; pending = None; separate = s.separate ++ separate_of to id token r ∷ [] }
 after s (Take answer) = s

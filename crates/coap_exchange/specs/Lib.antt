@@ -12,6 +12,7 @@ pub mod AnswererTrace
 pub mod AnswererSteps
 pub mod AnswererLaw
 pub mod AnswererFollows
+pub mod AnswererSends
 pub mod AnswererExact
 pub mod AskerShown
 pub mod AnswererShown

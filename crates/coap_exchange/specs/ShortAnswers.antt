@@ -1,5 +1,5 @@
--- Which responses are short enough by a count (RFC 7252, section 4.6).
-use Rattle.std.specs.Prelude.{◌≡◌, ◌<◌, ◌≤◌, ◌+◌, ◌^◌, true, length}
+-- Which responses and notifications are short enough by a count (RFC 7252, section 4.6).
+use Rattle.std.specs.Prelude.{◌≡◌, ◌<◌, ◌≤◌, ℕ, ◌+◌, ◌^◌, true, List, length}
 use Rattle.std.specs.List.{list_all}
 use Rattle.coap_types.specs.Roles.{role_of}
 use Rattle.coap_types.specs.declared.role.Role.TheVariants as role
@@ -7,7 +7,7 @@ use Rattle.coap_codec.specs.BoundedSpelling.{is_numbered, most_bytes}
 use Rattle.coap_codec.specs.Refused.{ascends, is_short}
 use Rattle.coap_exchange.specs.declared.answerer.Asked.{Asked}
 use Rattle.coap_exchange.specs.AnswererTrace.{Response}
-use Rattle.coap_exchange.specs.AnswererShown.{IsAnswer}
+use Rattle.coap_exchange.specs.AnswererShown.{IsAnswer, IsAnswerWith}
 
 -- a code of class 2 to 5, options that ascend and are short, and few bytes by this count
 pub record IsShortAnswer (r : Response) : Type 0 where
@@ -21,3 +21,6 @@ pub record IsShortAnswer (r : Response) : Type 0 where
 
 abbrev pub IsAnswerWhenShort : Type 0
 IsAnswerWhenShort = (a : Asked) (r : Response) → length a.token ≤ 8 → IsShortAnswer r → IsAnswer a r
+
+abbrev pub IsNotificationWhenShort : Type 0
+IsNotificationWhenShort = (token : List ℕ) (r : Response) → length token ≤ 8 → IsShortAnswer r → IsAnswerWith token r

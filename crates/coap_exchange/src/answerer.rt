@@ -1,14 +1,14 @@
-ghost use Rattle.std.specs.Prelude.{◌≡◌, ℕ, max, Bool, true, None, Some, List, [], ◌∷◌, IsSome, IsOk, IfOk, OnOk, OnErr};
+ghost use Rattle.std.specs.Prelude.{◌≡◌, ℕ, max, Bool, ◌&&◌, true, false, None, Some, List, [], ◌∷◌, IsSome, is_some, IsOk, IfOk, OnOk, OnErr};
 ghost use Rattle.coap_types.specs.declared.message.Kind.TheVariants.{Con};
-ghost use Rattle.coap_layer.specs.State.{copies, made};
+ghost use Rattle.coap_layer.specs.State.{answer_of, copies, is_free, made};
 ghost use Rattle.coap_layer.specs.Trace as below;
 ghost use Rattle.coap_layer.specs.Ups.{IsQuiet};
 ghost use Rattle.coap_exchange.specs.declared.answerer.Asked.{Asked as AskedSpec};
 ghost use Rattle.coap_exchange.specs.declared.answerer.Due.TheVariants as dues;
 ghost use Rattle.coap_exchange.specs.AnswererSteps.{ready_at};
 ghost use Rattle.coap_exchange.specs.AnswererLaw.{Led, Step, fresh_state};
-ghost use Rattle.coap_exchange.specs.AnswererShown.{MayAnswer, MayRespond, IsAnswer};
-ghost use Rattle.coap_exchange.specs.AnswererTrace.{Call, Incoming, Answers, Defers, Ticks, Responds, Take};
+ghost use Rattle.coap_exchange.specs.AnswererShown.{MayAnswer, MayNotify, MayRespond, IsAnswer, IsAnswerWith};
+ghost use Rattle.coap_exchange.specs.AnswererTrace.{Call, Incoming, Answers, Defers, Ticks, Responds, Ready, Notifies, Take};
 
 use crate::deferrals::Deferrals;
 use crate::empty::ack;
@@ -18,7 +18,7 @@ use crate::replies::{
 };
 use crate::separate::{Deferred, Separate};
 use crate::waiting::{
-    confirm, due_of, failed_by, has_observe, is_sendable, make_room, ready_if, unless_failed,
+    confirm, due_of, failed_by, is_sendable, make_room, ready_if, separate_of, unless_failed,
 };
 use coap_codec::View;
 use coap_layer::{Datagram, Layer};
@@ -52,7 +52,8 @@ pub enum Due {
     Ready(Asked),
 }
 
-/// A separate response that a Reset or a failure ended (RFC 7252, section 5.2.2).
+/// A separate response or a notification that a Reset or a failure ended (RFC 7252, section 5.2.2;
+/// RFC 7641, sections 3.6 and 4.5).
 #[derive(Drop)]
 pub struct Ended {
     /// Where it went.
@@ -63,7 +64,8 @@ pub struct Ended {
     pub observe: bool,
 }
 
-/// A response (RFC 7252, section 5.2): at most 1,152 bytes as a message with its request's token.
+/// A response or a notification (RFC 7252, section 5.2): at most 1,152 bytes as a message with its
+/// token.
 #[derive(Drop)]
 pub struct Response<'a> {
     /// The code, of class 2 to 5.
@@ -95,7 +97,7 @@ pub struct Answerer<A: Allocator + Copy> {
     ended: Option<Ended>,
     // The pending request may be answered.
     answerable: bool,
-    // There is room for a separate response.
+    // There is room for a separate response or a notification.
     room: bool,
     // What the last input found.
     pending_before: Option<Asked>,
@@ -149,8 +151,8 @@ impl<A: Allocator + Copy> Answerer<A> {
         self.layer.clock()
     }
 
-    /// The separate response that a Reset or a failure ended in the last `incoming` or `tick` (RFC
-    /// 7252, section 5.2.2).
+    /// The separate response or the notification that a Reset or a failure ended in the last
+    /// `incoming` or `tick` (RFC 7252, section 5.2.2; RFC 7641, sections 3.6 and 4.5).
     pub fn ended(&self) -> Option<Ended>
         ensures { result ≡ self.now.state.own.ended }
     {
@@ -159,7 +161,7 @@ impl<A: Allocator + Copy> Answerer<A> {
 
     /// Takes a datagram that arrived. A request is handed up, but for a Non-confirmable one for
     /// which no Message ID is free; a response is rejected; an acknowledgement and a Reset end the
-    /// separate response that they are to (RFC 7252, sections 4.2, 4.3 and 5.2).
+    /// separate response or the notification that they are to (RFC 7252, sections 4.2, 4.3 and 5.2).
     pub fn incoming<'d>(
         &mut self,
         now: Moment,
@@ -239,12 +241,13 @@ impl<A: Allocator + Copy> Answerer<A> {
         ensures ready { IfOk result (λ due. (a : AskedSpec) → due ≡ dues.Ready a → MayRespond self.new now.0 a) }
         ensures before { OnOk result (self.new.before ≡ Some self.old.state) }
         ensures err { OnErr result (self.new ≡ self.old) }
-        // Where neither a retransmission nor a deferred request is due, it takes no memory.
-        ensures quiet { copies (max self.old.state.own.clock now.0) self.old.state.layer.open_cons ≡ [] → ready_at self.old.state.own now.0 ≡ None → IsOk result }
+        // Where no retransmission is due, and no deferred request is ready or no Message ID is free, it
+        // takes no memory.
+        ensures quiet { copies (max self.old.state.own.clock now.0) self.old.state.layer.open_cons ≡ [] → (is_some (ready_at self.old.state.own now.0) && is_free (max self.old.state.own.clock now.0) self.old.state.layer.upcoming self.old.state.layer.last_used) ≡ false → IsOk result }
     {
         let at = self.layer.clock().0.max(now.0);
         let ready = self.deferred.ready(at, &self.separate);
-        make_room(&mut self.layer, &mut self.separate, &ready)?;
+        make_room(&mut self.layer, &mut self.separate, now, &ready)?;
         let tick = self.layer.tick(now)?;
         // Nothing fails from here on.
         let ready = ready_if(tick, ready);
@@ -270,16 +273,63 @@ impl<A: Allocator + Copy> Answerer<A> {
         ensures led { (begin : ℕ) (t : List Call) → Led begin t self.old.state → Led begin (Responds now.0 asked.now response.now word result.0 ∷ t) self.new.state }
         ensures before { self.new.before ≡ self.old.before }
     {
-        let id = confirm(&mut self.layer, now, asked, response, word);
+        let id = confirm(
+            &mut self.layer,
+            now,
+            asked.from,
+            &asked.token,
+            response,
+            word,
+        );
         self.deferred
             .take_ready(self.layer.clock().0, &self.separate);
-        let separate = Separate {
-            to: asked.from,
-            id,
-            token: asked.token.copy(),
-            observe: has_observe(response.options),
-        };
+        let separate = separate_of(asked.from, id, &asked.token, response);
         enlist(&mut self.separate, separate);
+        self.pending = None;
+        self.room = false;
+        id
+    }
+
+    /// Whether a notification could be sent there now: no Confirmable message to this endpoint is
+    /// outstanding, and a Message ID is free (RFC 7252, sections 4.4 and 4.7). After true, `notify`
+    /// may be called at the same moment, and takes no memory. Where it is false, it takes no memory.
+    pub fn ready(&mut self, now: Moment, to: Endpoint) -> Result<bool, AllocError>
+        ensures step { IfOk result (λ may. Step self.old.state (Ready now.0 to may) self.new.state) }
+        ensures led { (word : ℕ) (t : List Call) → Led word t self.old.state → IfOk result (λ may. Led word (Ready now.0 to may ∷ t) self.new.state) }
+        ensures may { IfOk result (λ may. may ≡ true → MayNotify self.new now.0 to) }
+        ensures answerable { self.new.answerable ≡ self.old.answerable }
+        ensures room { self.old.room ≡ true → self.new.room ≡ true }
+        ensures before { self.new.before ≡ self.old.before }
+        ensures err { OnErr result (self.new ≡ self.old) }
+        ensures quiet { answer_of self.old.state.layer (max self.old.state.layer.clock now.0) (below.Room to) ≡ below.Is false → IsOk result }
+    {
+        if self.layer.would_confirm(now, to) {
+            self.separate.reserve(1)?;
+        }
+        let may = self.layer.room(now, to)?;
+        self.room = self.room || may;
+        Ok(may)
+    }
+
+    /// Sends a notification to an observer in a Confirmable message, where `ready` answered true at
+    /// this moment and nothing was sent since, and answers its Message ID (RFC 7641, sections 4.2 and
+    /// 4.5). The word picks the initial timeout. It takes no memory.
+    pub fn notify(
+        &mut self,
+        now: Moment,
+        to: Endpoint,
+        token: &Token,
+        response: &Response<'_>,
+        word: u64,
+    ) -> Id
+        requires may { MayNotify self.old now.0 to }
+        requires response { IsAnswerWith token.now response.now }
+        ensures step { Step self.old.state (Notifies now.0 to token.now response.now word result.0) self.new.state }
+        ensures led { (begin : ℕ) (t : List Call) → Led begin t self.old.state → Led begin (Notifies now.0 to token.now response.now word result.0 ∷ t) self.new.state }
+        ensures before { self.new.before ≡ self.old.before }
+    {
+        let id = confirm(&mut self.layer, now, to, token, response, word);
+        enlist(&mut self.separate, separate_of(to, id, token, response));
         self.pending = None;
         self.room = false;
         id

@@ -6,11 +6,12 @@ ghost use Rattle.coap_exchange.specs.AskerLaw.{State, Step, Led, ExchangeLaw, fr
 ghost use Rattle.coap_exchange.specs.AskerExact.{IsExact};
 ghost use Rattle.coap_exchange.specs.AskerFollows.{AreExchanges, AreTokens, EndInTime, AreFromServer};
 ghost use Rattle.coap_exchange.specs.AskerShown.{IsAskableWhenShort};
-ghost use Rattle.coap_exchange.specs.ShortAnswers.{IsAnswerWhenShort};
+ghost use Rattle.coap_exchange.specs.ShortAnswers.{IsAnswerWhenShort, IsNotificationWhenShort};
 ghost use Rattle.coap_exchange.specs.AnswererTrace as trace;
 ghost use Rattle.coap_exchange.specs.AnswererLaw as answerer;
 ghost use Rattle.coap_exchange.specs.AnswererLaw.{ResponseLaw};
 ghost use Rattle.coap_exchange.specs.AnswererExact as exactly;
+ghost use Rattle.coap_exchange.specs.AnswererSends.{AllGoBack, BeginAlone};
 ghost use Rattle.coap_exchange.specs.AnswererFollows.{AreResponses, AreRequests, EndsOnce, WaitsForOutstanding, FewDeferred};
 
 /// What leads to the state of a client's side stands in the law, and what follows from that.
@@ -52,6 +53,10 @@ pub fn answerer_law()
     ensures ends { (word : ℕ) (t : List trace.Call) → ResponseLaw word t → EndsOnce t }
     // A deferred request waits for the CON that is outstanding to its endpoint (RFC 7252, section 4.7).
     ensures waits { (word : ℕ) (t : List trace.Call) (law : ResponseLaw word t) → WaitsForOutstanding word t law }
+    // A response goes to its request's endpoint and carries its token (RFC 7252, sections 5.2 and 5.3.2).
+    ensures back { (word : ℕ) (t : List trace.Call) → ResponseLaw word t → AllGoBack word t }
+    // A CON begins only where none to its endpoint is outstanding (RFC 7252, section 4.7).
+    ensures alone { (word : ℕ) (t : List trace.Call) → ResponseLaw word t → BeginAlone word t }
     ensures few { (word : ℕ) (t : List trace.Call) → ResponseLaw word t → FewDeferred t }
 {}
 
@@ -65,4 +70,9 @@ pub fn askable_law()
 /// that is short enough (RFC 7252, section 4.6).
 pub fn answerable_law()
     ensures { IsAnswerWhenShort }
+{}
+
+/// The same of a notification with a token of at most 8 bytes.
+pub fn notifiable_law()
+    ensures { IsNotificationWhenShort }
 {}

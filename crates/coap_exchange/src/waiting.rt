@@ -1,17 +1,19 @@
-ghost use Rattle.std.specs.Prelude.{◌≡◌, ◌≤◌, ◌<◌, ℕ, IsOk, OnOk, max, Bool, Option, Some, None, true, false, length, is_some};
+ghost use Rattle.std.specs.Prelude.{◌≡◌, ◌≤◌, ◌<◌, ◌⊎◌, ℕ, IsOk, OnOk, IfSome, max, Bool, Option, Some, None, true, false, length, is_some};
 ghost use Rattle.std.specs.Option.{option_map};
 ghost use Rattle.std.specs.Vec.{vec_len, vec_capacity};
 ghost use Rattle.coap_types.specs.Recognised.{has_number};
 ghost use Rattle.coap_types.specs.CoapOption.{options_of};
 ghost use Rattle.coap_layer.specs.Sendable.{IsSendable};
 ghost use Rattle.coap_layer.specs.State as layer_state;
-ghost use Rattle.coap_layer.specs.State.{is_busy, is_free};
+ghost use Rattle.coap_layer.specs.State.{answer_of, is_busy, is_free};
 ghost use Rattle.coap_layer.specs.Steps.{Steps};
 ghost use Rattle.coap_layer.specs.Trace as below;
 ghost use Rattle.coap_layer.specs.Ups.{IsTick};
+ghost use Rattle.coap_layer.specs.declared.up.Tick.TheVariants as ticks;
 ghost use Rattle.coap_exchange.specs.declared.answerer.Asked.{Asked as AskedSpec};
 ghost use Rattle.coap_exchange.specs.declared.separate.Deferred.{Deferred};
-ghost use Rattle.coap_exchange.specs.AnswererSteps.{asking_room, content_of, due_of, failed_by, ready_if, separate_unless};
+ghost use Rattle.coap_exchange.specs.AnswererSteps.{asking_room, content_with, due_of, failed_by, ready_if, separate_of, separate_unless};
+ghost use Rattle.coap_exchange.specs.AnswererShown.{AsksFreely};
 ghost use Rattle.coap_exchange.specs.AskerArrivals.{observe};
 ghost use Rattle.coap_exchange.specs.Listed.{listed, listed_before};
 
@@ -20,13 +22,15 @@ use crate::listed::Listed;
 use crate::separate::{Separate, found, take_off};
 use coap_layer::{Content, Layer, Tick};
 use coap_types::option_number::OBSERVE;
-use coap_types::{Endpoint, Id, Moment, Opt};
+use coap_types::{Endpoint, Id, Moment, Opt, Token};
 use std::alloc::{AllocError, Allocator};
 
-/// Makes room for the response to the deferred request that is ready, if one is.
+/// Makes room for the response to the deferred request that is ready, if one is, where it can be
+/// sent now.
 pub(crate) fn make_room<A: Allocator + Copy>(
     layer: &mut Layer<A>,
     separate: &mut Vec<Listed<Separate>, A>,
+    now: Moment,
     ready: &Option<Asked>,
 ) -> Result<(), AllocError>
     ensures items { separate.new.items ≡ separate.old.items }
@@ -36,13 +40,15 @@ pub(crate) fn make_room<A: Allocator + Copy>(
     ensures before { layer.new.before ≡ layer.old.before }
     ensures replies { layer.new.replies ≡ layer.old.replies }
     ensures kept { layer.old.has_room ≡ true → layer.new.has_room ≡ true }
-    ensures room { OnOk result (is_some ready.now ≡ true → layer.new.has_room ≡ true) }
-    ensures place { OnOk result (is_some ready.now ≡ true → vec_len separate.new < vec_capacity separate.new) }
-    ensures none { is_some ready.now ≡ false → IsOk result }
+    ensures room { OnOk result (IfSome ready.now (λ a. AsksFreely layer.new now.0 a.from)) }
+    ensures place { OnOk result (IfSome ready.now (λ a. answer_of layer.new.state (max layer.new.state.clock now.0) (below.Room a.from) ≡ below.Is true → vec_len separate.new < vec_capacity separate.new)) }
+    ensures quiet { IfSome ready.now (λ a. answer_of layer.old.state (max layer.old.state.clock now.0) (below.Room a.from) ≡ below.Is false) → IsOk result }
 {
-    if ready.is_some() {
-        separate.reserve(1)?;
-        layer.reserve()?;
+    if let Some(asked) = ready {
+        if layer.would_confirm(now, asked.from) {
+            separate.reserve(1)?;
+            layer.reserve()?;
+        }
     }
     Ok(())
 }
@@ -50,7 +56,7 @@ pub(crate) fn make_room<A: Allocator + Copy>(
 /// The deferred request that is ready, where the layer was idle.
 pub(crate) fn ready_if(tick: Tick, ready: Option<Asked>) -> Option<Asked>
     ensures ready { (answer : below.Answer) (d : Option Deferred) → IsTick tick answer → ready ≡ option_map (λ d. d.asked) d → result ≡ option_map (λ d. d.asked) (ready_if answer d) }
-    ensures some { is_some result ≡ true → is_some ready ≡ true }
+    ensures idle { (result ≡ None) ⊎ ((tick ≡ ticks.Idle) × (result ≡ ready)) }
 {
     match tick {
         Tick::Idle => ready,
@@ -58,17 +64,19 @@ pub(crate) fn ready_if(tick: Tick, ready: Option<Asked>) -> Option<Asked>
     }
 }
 
-/// Whether the response to the deferred request that is ready can be sent, for which room was made.
+/// Whether the response to the deferred request that is ready can be sent, for which room was made
+/// if it can.
 pub(crate) fn is_sendable<A: Allocator + Copy>(
     layer: &mut Layer<A>,
     now: Moment,
     ready: &Option<Asked>,
 ) -> bool
-    requires { is_some ready.now ≡ true → layer.old.has_room ≡ true }
+    requires { IfSome ready.now (λ a. AsksFreely layer.old now.0 a.from) }
     ensures steps { (d : Option Deferred) → ready.now ≡ option_map (λ d. d.asked) d → Steps layer.old.state (asking_room now.0 d result) layer.new.state }
     ensures before { layer.new.before ≡ layer.old.before }
     ensures room { result ≡ true → layer.new.has_room ≡ true }
     ensures some { result ≡ true → is_some ready.now ≡ true }
+    ensures may { result ≡ true → IfSome ready.now (λ a. answer_of layer.old.state (max layer.old.state.clock now.0) (below.Room a.from) ≡ below.Is true) }
     ensures idle { result ≡ true → (a : AskedSpec) → ready.now ≡ Some a → is_busy a.from layer.new.state.open_cons ≡ false }
     ensures free { result ≡ true → is_free (max layer.new.state.clock now.0) layer.new.state.upcoming layer.new.state.last_used ≡ true }
 {
@@ -148,29 +156,42 @@ pub(crate) fn has_observe(options: &[Opt<'_>]) -> bool
     false
 }
 
-/// Sends the separate response, for which there is room, and answers its Message ID (RFC 7252,
-/// section 5.2.2).
+/// What is outstanding of a separate response or a notification that was sent there.
+pub(crate) fn separate_of(to: Endpoint, id: Id, token: &Token, response: &Response<'_>) -> Separate
+    ensures { result ≡ separate_of to id.0 token.now response.now }
+{
+    Separate {
+        to,
+        id,
+        token: token.copy(),
+        observe: has_observe(response.options),
+    }
+}
+
+/// Sends the separate response or the notification, for which there is room, and answers its
+/// Message ID (RFC 7252, section 5.2.2; RFC 7641, section 4.2).
 pub(crate) fn confirm<A: Allocator + Copy>(
     layer: &mut Layer<A>,
     now: Moment,
-    asked: &Asked,
+    to: Endpoint,
+    token: &Token,
     response: &Response<'_>,
     word: u64,
 ) -> Id
     requires room { layer.old.has_room ≡ true }
-    requires idle { is_busy asked.now.from layer.old.state.open_cons ≡ false }
+    requires idle { is_busy to layer.old.state.open_cons ≡ false }
     requires free { is_free (max layer.old.state.clock now.0) layer.old.state.upcoming layer.old.state.last_used ≡ true }
-    requires sendable { IsSendable (content_of asked.now response.now) }
-    ensures step { layer_state.Step layer.old.state now.0 (below.Confirm asked.now.from (content_of asked.now response.now) word) (below.Sent result.0) layer.new.state }
+    requires sendable { IsSendable (content_with token.now response.now) }
+    ensures step { layer_state.Step layer.old.state now.0 (below.Confirm to (content_with token.now response.now) word) (below.Sent result.0) layer.new.state }
     ensures before { layer.new.before ≡ layer.old.before }
 {
     let content = Content {
         code: response.code,
-        token: &asked.token,
+        token,
         options: response.options,
         payload: response.payload,
     };
-    match layer.confirm(now, asked.from, &content, word) {
+    match layer.confirm(now, to, &content, word) {
         Ok(id) => id,
         Err(_) => unreachable!("there is room, no other is outstanding and a Message ID is free"),
     }

@@ -80,9 +80,16 @@ flip b false e = rw e refl
 pub may_be : (busy free b f may : Bool) (r : Option SendRefusal) → r ≡ refusal_of busy free → is_some r ≡ not may → busy ≡ b → free ≡ f → may ≡ (not b && f)
 may_be busy free b f may r hr hm hb hf = let so = may_so b f in let here = flip (is_some r) may hm in cc (hr, here, hb, hf, so)
 
-pub no_room : (h s : State) (to : Endpoint) (now at : ℕ) (may : Bool) → forgotten h ≡ s → at ≡ max h.clock now → may ≡ (not (is_busy to h.open_cons) && is_free at h.upcoming h.last_used)
-    → Is (not (is_busy to s.open_cons) && is_free (max s.clock now) s.upcoming s.last_used) ≡ Is false → may ≡ false
-no_room h s to now at may is moment e quiet =
-    let here : Is (not (is_busy to h.open_cons) && is_free (max h.clock now) h.upcoming h.last_used) ≡ Is false =
-    subst (λ (x : State). Is (not (is_busy to x.open_cons) && is_free (max x.clock now) x.upcoming x.last_used) ≡ Is false) (sym is) quiet in
-    cc (here, e, moment)
+pub told_so : (h s : State) (to : Endpoint) (now at : ℕ) (may : Bool) → forgotten h ≡ s → at ≡ max h.clock now → may ≡ (not (is_busy to h.open_cons) && is_free at h.upcoming h.last_used)
+    → Is (not (is_busy to s.open_cons) && is_free (max s.clock now) s.upcoming s.last_used) ≡ Is may
+told_so h s to now at may is moment e =
+    let here : Is (not (is_busy to h.open_cons) && is_free (max h.clock now) h.upcoming h.last_used) ≡ Is may = cc (e, moment) in
+    subst (λ (x : State). Is (not (is_busy to x.open_cons) && is_free (max x.clock now) x.upcoming x.last_used) ≡ Is may) is here
+
+-- .. and the other way round, of the state by its parts
+pub so_told : (h s : State) (to : Endpoint) (now at : ℕ) (may : Bool) → forgotten h ≡ s → at ≡ max h.clock now
+    → Is (not (is_busy to s.open_cons) && is_free (max s.clock now) s.upcoming s.last_used) ≡ Is may → Is may ≡ Is (not (is_busy to h.open_cons) && is_free at h.upcoming h.last_used)
+so_told h s to now at may is moment told =
+    let here : Is (not (is_busy to h.open_cons) && is_free (max h.clock now) h.upcoming h.last_used) ≡ Is may =
+    subst (λ (x : State). Is (not (is_busy to x.open_cons) && is_free (max x.clock now) x.upcoming x.last_used) ≡ Is may) (sym is) told in
+    cc (here, moment)

@@ -231,6 +231,15 @@ impl<A: Allocator + Copy> Layer<A> {
         Ok(id)
     }
 
+    /// What `room` would answer now. Nothing changes: the moment doesn't count.
+    pub fn would_confirm(&self, now: Moment, to: Endpoint) -> bool
+        ensures { answer_of self.now.state (max self.now.state.clock now.0) (AsksRoom to) ≡ Is result }
+    {
+        let at = self.clock.max(now.0);
+        let busy = is_busy(&self.lists.sendings, to);
+        refusal(busy, self.ids.would_give(at)).is_none()
+    }
+
     /// Whether `confirm` would refuse a message to this endpoint with neither `Outstanding` nor
     /// `NoIds`. After true, `confirm` and `plain` are not refused memory, until one of them or
     /// `reply` is called. Where it is false, it takes no memory.
@@ -246,8 +255,7 @@ impl<A: Allocator + Copy> Layer<A> {
         ensures err { OnErr result (self.new ≡ self.old) }
     {
         let at = self.clock.max(now.0);
-        let busy = is_busy(&self.lists.sendings, to);
-        let may = refusal(busy, self.ids.would_give(at)).is_none();
+        let may = self.would_confirm(now, to);
         let brings = Brings {
             keeps: false,
             hands: may,

@@ -127,8 +127,10 @@ fn nothing_is_due_after_the_greatest_moment(rt: HostRuntime) -> Result<(), Alloc
 #[test]
 fn one_message_to_an_endpoint_is_outstanding(rt: HostRuntime) -> Result<(), AllocError> {
     let mut layer = Layer::new(rt.alloc(), 0);
+    assert!(rt; layer.would_confirm(Moment(0), THERE));
     assert!(rt; layer.room(Moment(0), THERE)?);
     assert_eq!(rt; confirm_get(&rt, &mut layer, 0, THERE, 0), Ok(Id(0)));
+    assert!(rt; !layer.would_confirm(Moment(0), THERE));
     assert!(rt; !layer.room(Moment(0), THERE)?);
     assert_eq!(rt;
         confirm_get(&rt, &mut layer, 0, THERE, 0),

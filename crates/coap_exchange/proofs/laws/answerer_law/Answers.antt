@@ -4,6 +4,7 @@ use Rattle.coap_exchange.proofs.AnswererOnce.{counted}
 use Rattle.coap_exchange.proofs.AnswererCame.{came_in}
 use Rattle.coap_exchange.proofs.AnswererEnds.{ends_once}
 use Rattle.coap_exchange.proofs.AnswererMirror.{waits}
+use Rattle.coap_exchange.proofs.AnswererSends.{sends_so}
 use Rattle.coap_exchange.proofs.laws.answerer_law.Goals as goal
 
 pub returns-clause-start : goal.returns-clause-start
@@ -32,6 +33,12 @@ returns-clause-ends c word t law = ends_once t
 
 pub returns-clause-waits : goal.returns-clause-waits
 returns-clause-waits c = waits
+
+pub returns-clause-back : goal.returns-clause-back
+returns-clause-back c word t law = (sends_so word t law.rows law.left law.layer).0
+
+pub returns-clause-alone : goal.returns-clause-alone
+returns-clause-alone c word t law = (sends_so word t law.rows law.left law.layer).1
 
 pub returns-clause-few : goal.returns-clause-few
 returns-clause-few c word t law = (counted t law.rows).1.few

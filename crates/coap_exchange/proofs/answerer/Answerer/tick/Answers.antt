@@ -1,4 +1,5 @@
-use Rattle.std.proofs.Common.{◌≡◌, refl, rules, ap, ◌∙◌, subst}
+use Rattle.std.proofs.Common.{◌≡◌, ◌<◌, refl, rules, ap, ◌∙◌, subst, arith}
+use Rattle.std.specs.Vec.{vec_len, vec_capacity}
 use Rattle.std.specs.Option.{option_map}
 use Rattle.coap_layer.specs.State as L
 use Rattle.coap_layer.specs.Trace as T
@@ -7,12 +8,26 @@ use Rattle.coap_exchange.specs.AnswererShown.{own_with}
 use Rattle.coap_exchange.specs.AnswererSteps.{failed_by, ready_at, ready_if, separate_unless}
 use Rattle.coap_exchange.specs.Listed.{listed}
 use Rattle.coap_exchange.proofs.AnswererLeading.{led_call}
-use Rattle.coap_exchange.proofs.AnswererTicks.{asking_clock, may_respond, ticked}
+use Rattle.coap_exchange.proofs.AnswererTicks.{asks_freely, asking_clock, may_respond, placed, ticked}
 use Rattle.coap_exchange.proofs.LayerFacts.{step_clock}
 use Rattle.coap_exchange.proofs.answerer.Answerer.tick.Goals as goal
 
 pub is_sendable-room-requires : goal.is_sendable-room-requires
-is_sendable-room-requires g c h = c.in_ok-tick.ensures.kept (c.in_ok-make_room.ensures.room (c.ready_if-ready.ensures.some h))
+is_sendable-room-requires g c =
+    let step = c.in_ok-tick.ensures.step in
+    asks_freely c.make_room.new.layer c.tick.new.self c.args.now.0 c.in_ok-tick.tick step.0 step.1 step.2 c.ready-ready.result c.ready_if-ready.result c.ready_if-ready.ensures.idle c.in_ok-tick.ensures.kept c.in_ok-make_room.ensures.room
+
+pub invariant_of-self-2 : goal.invariant_of-self-2
+invariant_of-self-2 g c = (
+  λ h. absurd (cc h),
+  λ may.
+      let step = c.in_ok-tick.ensures.step in
+      let sends = c.is_sendable-room.ensures in
+      let place : vec_len c.make_room.new.separate < vec_capacity c.make_room.new.separate =
+      placed c.make_room.new.layer c.tick.new.self c.args.now.0 c.in_ok-tick.tick step.0 step.1 step.2 (vec_len c.make_room.new.separate < vec_capacity c.make_room.new.separate) c.ready-ready.result c.ready_if-ready.result
+      c.ready_if-ready.ensures.idle (sends.some may) c.in_ok-make_room.ensures.place (sends.may may) in
+      (sends.room may, omega (arith, place)),
+)
 
 pub returns-clause-step : goal.returns-clause-step
 returns-clause-step g c =

@@ -1,45 +1,34 @@
-use Rattle.std.proofs.Common.{rules, ◌≡◌, ap, sym, subst, ◌∙◌, refl, [], ℕ, is_some, ◌&&◌, not}
+use Rattle.std.proofs.Common.{rules, ◌≡◌, ap, sym, subst, ◌∙◌, refl, [], ℕ, false}
 use Rattle.std.proofs.lemmas.List.{append-nil}
-use Rattle.std.specs.List.{list_any}
 use Rattle.coap_layer.specs.Entries.{arrivals_in}
 use Rattle.coap_layer.specs.Parts.{awaited, held}
 use Rattle.coap_layer.specs.Sound.{IsPlaced}
 use Rattle.coap_layer.specs.Sendings.{open_now}
-use Rattle.coap_layer.specs.State.{State, is_busy, is_free}
-use Rattle.coap_layer.specs.Trace.{Is, Room, same_place}
+use Rattle.coap_layer.specs.State.{State}
+use Rattle.coap_layer.specs.Trace.{Is, Room}
 use Rattle.coap_layer.proofs.CallLemmas.{step_of, still}
 use Rattle.coap_layer.proofs.Forgetting.{led_step}
-use Rattle.coap_layer.proofs.OutstandingLemmas.{busy_is}
 use Rattle.coap_layer.proofs.PlaceLemmas.{placed_later, within_pushed}
-use Rattle.coap_layer.proofs.SendLemmas.{may_be, no_room}
+use Rattle.coap_layer.proofs.SendLemmas.{so_told}
 use Rattle.coap_layer.proofs.layer.Layer.room.Goals as goal
 
 pub returns-clause-step : goal.returns-clause-step
 returns-clause-step g c =
     let h : State = held c.self.inside.clock c.self.inside.awaits c.self.inside.ids c.self.inside.lists in
     let at : ℕ = c.max-at.result in
-    let busy : c.is_busy-busy.result ≡ is_busy c.args.to h.open_cons
-    = c.is_busy-busy.ensures ∙ (ap (λ cs. list_any (λ x. is_some x.last && same_place x.to c.args.to) cs) c.deref.ensures.value ∙ busy_is c.args.to c.self.inside.lists.sendings.items) in
-    let may : c.is_none-may.result ≡ (not (is_busy c.args.to h.open_cons) && is_free at h.upcoming h.last_used)
-    = may_be c.is_busy-busy.result c.would_give.result _ _ _ c.refusal.result c.refusal.ensures c.is_none-may.ensures busy c.would_give.ensures in
+    let told = so_told h c.args.self.now.state c.args.to c.args.now.0 at c.would_confirm-may.result (ap (λ s. s.state) c.self.view_is) (search rules) c.would_confirm-may.ensures in
     let entries = ap arrivals_in c.in_ok-grow.ensures.entries in
     let sendings = ap open_now c.in_ok-grow.ensures.sendings in
     let waiting = c.in_ok-grow.ensures.waiting in
-    step_of h c.args.self.now.state _ c.args.now.0 at (Room c.args.to) (Is c.is_none-may.result) [] (ap (λ s. s.state) c.self.view_is) tt (search rules) (ap Is may) refl
-    (cc (entries, sendings, waiting, still h at (Room c.args.to) (Is c.is_none-may.result) h.awaits (λ a. refl) (λ x. refl) refl refl refl refl refl))
+    step_of h c.args.self.now.state _ c.args.now.0 at (Room c.args.to) (Is c.would_confirm-may.result) [] (ap (λ s. s.state) c.self.view_is) tt (search rules) told refl
+    (cc (entries, sendings, waiting, still h at (Room c.args.to) (Is c.would_confirm-may.result) h.awaits (λ a. refl) (λ x. refl) refl refl refl refl refl))
 
 pub returns-clause-led : goal.returns-clause-led
 returns-clause-led g c _ word t led = led_step word t _ _ _ _ _ led (returns-clause-step g c)
 
 pub returns-in_err-grow-clause-quiet : goal.returns-in_err-grow-clause-quiet
 returns-in_err-grow-clause-quiet g c quiet =
-    let h : State = held c.self.inside.clock c.self.inside.awaits c.self.inside.ids c.self.inside.lists in
-    let at : ℕ = c.max-at.result in
-    let busy : c.is_busy-busy.result ≡ is_busy c.args.to h.open_cons
-    = c.is_busy-busy.ensures ∙ (ap (λ cs. list_any (λ x. is_some x.last && same_place x.to c.args.to) cs) c.deref.ensures.value ∙ busy_is c.args.to c.self.inside.lists.sendings.items) in
-    let may : c.is_none-may.result ≡ (not (is_busy c.args.to h.open_cons) && is_free at h.upcoming h.last_used)
-    = may_be c.is_busy-busy.result c.would_give.result _ _ _ c.refusal.result c.refusal.ensures c.is_none-may.ensures busy c.would_give.ensures in
-    let none = no_room h c.args.self.now.state c.args.to c.args.now.0 at c.is_none-may.result (ap (λ s. s.state) c.self.view_is) (search rules) may quiet in
+    let none : c.would_confirm-may.result ≡ false = cc (quiet, c.would_confirm-may.ensures) in
     absurd (cc (c.in_err-grow.ensures.idle refl none refl))
 
 pub invariant_of-self-2 : goal.invariant_of-self-2

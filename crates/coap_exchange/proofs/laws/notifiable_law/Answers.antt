@@ -1,0 +1,5 @@
+use Rattle.coap_exchange.proofs.AskableLemmas.{notification_when_short}
+use Rattle.coap_exchange.proofs.laws.notifiable_law.Goals as goal
+
+pub returns : goal.returns
+returns c = notification_when_short
