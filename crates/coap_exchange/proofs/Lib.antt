@@ -9,6 +9,8 @@ pub mod LayerFacts
 pub mod AskerLone
 pub mod AskerFits
 pub mod AskerInTime
+pub mod AskerDue
+pub mod AskerKept
 pub mod ArrivalFacts
 pub mod AskerCame
 pub mod AskerExactly

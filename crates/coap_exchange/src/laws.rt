@@ -4,7 +4,7 @@ ghost use Rattle.coap_layer.specs.Rows.{LayerLaw};
 ghost use Rattle.coap_exchange.specs.AskerTrace.{Call};
 ghost use Rattle.coap_exchange.specs.AskerLaw.{State, Step, Led, ExchangeLaw, fresh_state, below_of};
 ghost use Rattle.coap_exchange.specs.AskerExact.{IsExact};
-ghost use Rattle.coap_exchange.specs.AskerFollows.{AreExchanges, AreTokens, EndInTime, AreFromServer};
+ghost use Rattle.coap_exchange.specs.AskerFollows.{AreExchanges, AreTokens, EndInTime, EndWhenDue, FewKept, AreFromServer};
 ghost use Rattle.coap_exchange.specs.AskerShown.{IsAskableWhenShort};
 ghost use Rattle.coap_exchange.specs.ShortAnswers.{IsAnswerWhenShort};
 ghost use Rattle.coap_exchange.specs.AnswererTrace as trace;
@@ -30,6 +30,10 @@ pub fn asker_law()
     ensures tokens { (server : Endpoint) (word : ℕ) (t : List Call) → ExchangeLaw server word t → AreTokens word t }
     // A Timeout and NoResponse come in time (RFC 7252, sections 4.2 and 5.2.2).
     ensures in_time { (server : Endpoint) (word : ℕ) (t : List Call) → ExchangeLaw server word t → EndInTime server word t }
+    // .. and no later than at the first tick then (RFC 7252, sections 4.2 and 5.2.2).
+    ensures when_due { (server : Endpoint) (word : ℕ) (t : List Call) → ExchangeLaw server word t → EndWhenDue server word t }
+    // The tokens that are kept, at most 16 (RFC 7641, section 3.2).
+    ensures few_kept { (server : Endpoint) (word : ℕ) (t : List Call) → ExchangeLaw server word t → FewKept server word t }
     // What is told came from the server, and is what a datagram spelled (RFC 7252, section 5.3.2).
     ensures from_server { (server : Endpoint) (word : ℕ) (t : List Call) → ExchangeLaw server word t → AreFromServer server t }
 {}

@@ -3,6 +3,8 @@ use Rattle.coap_exchange.proofs.AskerExactly.{exact}
 use Rattle.coap_exchange.proofs.AskerApart.{known}
 use Rattle.coap_exchange.proofs.AskerTokens.{counted}
 use Rattle.coap_exchange.proofs.AskerInTime.{in_time}
+use Rattle.coap_exchange.proofs.AskerDue.{when_due}
+use Rattle.coap_exchange.proofs.AskerKept.{few_kept}
 use Rattle.coap_exchange.proofs.AskerCame.{came_from}
 use Rattle.coap_exchange.proofs.laws.asker_law.Goals as goal
 
@@ -29,6 +31,12 @@ returns-clause-tokens c server word t law = (counted server word t law.rows).0
 
 pub returns-clause-in_time : goal.returns-clause-in_time
 returns-clause-in_time c server word t law = in_time server word t law.rows law.left law.layer
+
+pub returns-clause-when_due : goal.returns-clause-when_due
+returns-clause-when_due c server word t law = when_due server word t law.rows law.left law.layer
+
+pub returns-clause-few_kept : goal.returns-clause-few_kept
+returns-clause-few_kept c server word t law = few_kept server word t law.rows
 
 pub returns-clause-from_server : goal.returns-clause-from_server
 returns-clause-from_server c server word t law = came_from server word t law.rows law.left law.layer
