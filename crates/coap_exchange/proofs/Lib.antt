@@ -13,6 +13,7 @@ pub mod AskerDue
 pub mod AskerKept
 pub mod ArrivalFacts
 pub mod AskerCame
+pub mod AskerRejected
 pub mod AskerExactly
 pub mod AnswererLeading
 pub mod AnswererOnce

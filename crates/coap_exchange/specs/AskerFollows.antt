@@ -2,6 +2,7 @@
 use Rattle.std.specs.Prelude.{◌≡◌, ◌↔◌, ◌≤◌, ◌<◌, ℕ, ◌+◌, ◌-◌, ◌*◌, ◌%◌, ◌^◌, max, Bool, true, false, IsTrue, Option, Some, None, List, [], ◌∷◌, length, Ok, Err, if◌then◌else◌}
 use Rattle.coap_types.specs.Past.{Ever, Always, Since}
 use Rattle.coap_types.specs.declared.endpoint.Endpoint.{Endpoint}
+use Rattle.coap_types.specs.declared.message.Kind.TheVariants.{Rst}
 use Rattle.coap_codec.specs.Message.{Message, Spells}
 use Rattle.coap_layer.specs.Trace as L
 use Rattle.coap_layer.specs.Trace.{same_place}
@@ -175,6 +176,22 @@ module _ (server : Endpoint) (word : ℕ) where
 
   abbrev pub EndWhenDue : List Call → Type 0
   EndWhenDue trace = Always WhenDue trace
+
+  -- A Reset that is told came from the server, and rejects the request of the exchange that runs (section 4.2): it is
+  -- an Empty message with its Message ID
+  pub record Rejects (past : List Call) (from : Endpoint) (bytes : List ℕ) : Type 0 where
+    pub exchange : Exchange
+    pub runs : (own_of server word past).running ≡ Some exchange
+    pub there : same_place from server ≡ true
+    pub message : Message
+    pub spelled : Spells bytes message
+    pub kind : message.kind ≡ Rst
+    pub code : message.code ≡ 0
+    pub id : message.id ≡ exchange.id.0
+
+  abbrev pub AreRejected : List Call → Type 0
+  AreRejected trace =
+      Always (λ past c. (now : ℕ) (from : Endpoint) (bytes : List ℕ) (up : _) (settled : Bool) → c ≡ Receive now from bytes up settled (Some event.Reset) → Rejects past from bytes) trace
 
   -- The tokens that are kept are those that were kept and not released since, at most 16 (profile).
   pub record FewKept (trace : List Call) : Type 0 where

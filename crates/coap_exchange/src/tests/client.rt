@@ -117,10 +117,15 @@ fn a_response_answers_its_request(rt: HostRuntime) -> Result<(), AllocError> {
     is_nothing(&rt, &mut separate, 0, SERVER, EMPTY_ACK)?;
     is_answer(&rt, &mut separate, 5, SEPARATE)?;
     is_sent(&rt, &mut separate, SERVER, &[0x60, 0, 0, 7]);
+    // A duplicate is acknowledged again, and not told.
+    is_nothing(&rt, &mut separate, 6, SERVER, SEPARATE)?;
+    is_sent(&rt, &mut separate, SERVER, &[0x60, 0, 0, 7]);
     let mut overtaking = asked(&rt);
     is_answer(&rt, &mut overtaking, 5, SEPARATE_NON)?;
     is_nothing(&rt, &mut overtaking, 6, SERVER, EMPTY_ACK)?;
     assert!(rt; overtaking.next_out().is_none());
+    // It also ended the retransmission of the request.
+    assert!(rt; matches!(overtaking.tick(Moment(2_000))?, Turn::Idle));
     Ok(())
 }
 
