@@ -11,6 +11,7 @@ pub mod AskerFits
 pub mod AskerInTime
 pub mod AskerDue
 pub mod AskerKept
+pub mod AskerRefused
 pub mod ArrivalFacts
 pub mod AskerCame
 pub mod AskerRejected

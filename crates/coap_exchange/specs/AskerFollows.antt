@@ -75,6 +75,14 @@ pub record Exchanges (past : List Call) (c : Call) : Type 0 where
 abbrev pub AreExchanges : List Call → Type 0
 AreExchanges trace = Always Exchanges trace
 
+-- Running is told exactly where an exchange runs (NSTART is 1: section 4.7).
+pub record TellsRunning (past : List Call) (c : Call) : Type 0 where
+  pub runs : (now w : ℕ) (r : Request) (below : _) → c ≡ Ask now r w below (Err refusal.Running) → (token : List ℕ) × Open token past
+  pub told : (now w : ℕ) (r : Request) (below : _) (answer : _) (token : List ℕ) → c ≡ Ask now r w below answer → Open token past → answer ≡ Err refusal.Running
+
+abbrev pub AreRefused : List Call → Type 0
+AreRefused trace = Always TellsRunning trace
+
 -- how many fresh tokens were given
 abbrev pub given_by : Option (List ℕ) → ℕ
 given_by None = 0

@@ -4,7 +4,7 @@ ghost use Rattle.coap_layer.specs.Rows.{LayerLaw};
 ghost use Rattle.coap_exchange.specs.AskerTrace.{Call};
 ghost use Rattle.coap_exchange.specs.AskerLaw.{State, Step, Led, ExchangeLaw, fresh_state, below_of};
 ghost use Rattle.coap_exchange.specs.AskerExact.{IsExact};
-ghost use Rattle.coap_exchange.specs.AskerFollows.{AreExchanges, AreTokens, EndInTime, EndWhenDue, FewKept, AreFromServer, AreRejected};
+ghost use Rattle.coap_exchange.specs.AskerFollows.{AreExchanges, AreRefused, AreTokens, EndInTime, EndWhenDue, FewKept, AreFromServer, AreRejected};
 ghost use Rattle.coap_exchange.specs.AskerShown.{IsAskableWhenShort};
 ghost use Rattle.coap_exchange.specs.ShortAnswers.{IsAnswerWhenShort};
 ghost use Rattle.coap_exchange.specs.AnswererTrace as trace;
@@ -26,6 +26,8 @@ pub fn asker_law()
     // Exchanges don't overlap, each ends at most once, and an answer has the token of the one that is open
     // (RFC 7252, sections 4.7 and 5.3.2); a notification has a kept token (RFC 7641, section 3.2).
     ensures exchanges { (server : Endpoint) (word : ℕ) (t : List Call) → ExchangeLaw server word t → AreExchanges t }
+    // A request is refused as Running exactly where an exchange runs (RFC 7252, section 4.7).
+    ensures refused { (server : Endpoint) (word : ℕ) (t : List Call) → ExchangeLaw server word t → AreRefused t }
     // No token serves two requests but an observation and its cancel (RFC 7252, section 5.3.1; RFC 7641, section 3.6).
     ensures tokens { (server : Endpoint) (word : ℕ) (t : List Call) → ExchangeLaw server word t → AreTokens word t }
     // A Timeout and NoResponse come in time (RFC 7252, sections 4.2 and 5.2.2).

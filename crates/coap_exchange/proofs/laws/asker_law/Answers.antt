@@ -1,6 +1,7 @@
 use Rattle.coap_exchange.proofs.AskerLeading.{led_start, led_call, led_law, layer_stands}
 use Rattle.coap_exchange.proofs.AskerExactly.{exact}
 use Rattle.coap_exchange.proofs.AskerApart.{known}
+use Rattle.coap_exchange.proofs.AskerRefused.{refused}
 use Rattle.coap_exchange.proofs.AskerTokens.{counted}
 use Rattle.coap_exchange.proofs.AskerInTime.{in_time}
 use Rattle.coap_exchange.proofs.AskerDue.{when_due}
@@ -26,6 +27,9 @@ returns-clause-exact c = exact
 
 pub returns-clause-exchanges : goal.returns-clause-exchanges
 returns-clause-exchanges c server word t law = (known server word t law.rows).0
+
+pub returns-clause-refused : goal.returns-clause-refused
+returns-clause-refused c server word t law = refused server word t law.rows law.left law.layer
 
 pub returns-clause-tokens : goal.returns-clause-tokens
 returns-clause-tokens c server word t law = (counted server word t law.rows).0
