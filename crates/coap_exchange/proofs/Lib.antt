@@ -9,8 +9,12 @@ pub mod LayerFacts
 pub mod AskerLone
 pub mod AskerFits
 pub mod AskerInTime
+pub mod AskerDue
+pub mod AskerKept
+pub mod AskerRefused
 pub mod ArrivalFacts
 pub mod AskerCame
+pub mod AskerRejected
 pub mod AskerExactly
 pub mod AnswererLeading
 pub mod AnswererOnce

@@ -11,7 +11,7 @@ use Rattle.coap_layer.specs.Words.{Open}
 use Rattle.coap_layer.proofs.Forgetting.{led_step}
 use Rattle.coap_layer.proofs.OutstandingLemmas.{busy_is}
 use Rattle.coap_layer.proofs.PlaceLemmas.{before_same, within_pushed}
-use Rattle.coap_layer.proofs.SendLemmas.{con_left, con_refused}
+use Rattle.coap_layer.proofs.SendLemmas.{con_left, con_refused, not_refused}
 use Rattle.coap_layer.proofs.layer.Layer.confirm.Goals as goal
 
 pub returns-in-Some-clause-step : goal.returns-in-Some-clause-step
@@ -61,3 +61,10 @@ returns-clause-before g c =
     c.self.invariant.0 (ap (λ v. v.items) (c.send_con.ensures.entries ∙ c.take_room.ensures.entries)) (c.send_con.ensures.before ∙ ap open_before c.take_room.ensures.sendings)
     (c.send_con.ensures.waiting ∙ ap (λ (q : List Packet). q ++ out) c.take_room.ensures.waiting)
     ∙ ap (λ s. s.before) c.self.view_is
+
+pub returns-in_default-take_room-clause-quiet : goal.returns-in_default-take_room-clause-quiet
+returns-in_default-take_room-clause-quiet g c quiet _ =
+    let h : State = held c.self.inside.clock c.self.inside.awaits c.self.inside.ids c.self.inside.lists in
+    let busy : c.is_busy-busy.result ≡ is_busy c.args.to h.open_cons
+    = c.is_busy-busy.ensures ∙ (ap (λ cs. list_any (λ x. is_some x.last && same_place x.to c.args.to) cs) c.deref.ensures.value ∙ busy_is c.args.to c.self.inside.lists.sendings.items) in
+    not_refused h c.args.self.now.state c.args.to c.args.now.0 c.max-at.result c.is_busy-busy.result c.would_give.result (ap (λ s. s.state) c.self.view_is) (search rules) busy c.would_give.ensures (sym c.refusal.ensures ∙ c.in_default.is) quiet
