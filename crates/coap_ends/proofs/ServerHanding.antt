@@ -6,9 +6,10 @@ use Rattle.coap_types.proofs.PastLemmas.{Ever_front, Ever_back, Ever_map}
 use Rattle.coap_types.specs.declared.endpoint.Endpoint.{Endpoint}
 use Rattle.coap_types.specs.declared.message.Kind.{Kind}
 use Rattle.coap_types.specs.declared.message.Kind.TheVariants.{Con, Non, Ack, Rst}
+use Rattle.coap_types.specs.SameEndpoint.{same_endpoint}
+use Rattle.coap_types.proofs.EndpointLemmas.{same_endpoint_is}
 use Rattle.coap_codec.specs.Message.{Message, kind_number}
 use Rattle.coap_layer.specs.Trace as L
-use Rattle.coap_layer.specs.Trace.{same_place}
 use Rattle.coap_layer.specs.State as S
 use Rattle.coap_layer.specs.Steps.{Steps, entries, left_after}
 use Rattle.coap_layer.specs.Steps as G
@@ -25,7 +26,7 @@ use Rattle.coap_exchange.specs.AnswererLaw as W
 use Rattle.coap_exchange.specs.AskerRequests.{asked}
 use Rattle.coap_exchange.specs.AskerArrivals.{id_in, replying}
 use Rattle.coap_exchange.specs.Tokens.{same_token}
-use Rattle.coap_exchange.proofs.LayerFacts.{both, same_place_is}
+use Rattle.coap_exchange.proofs.LayerFacts.{both}
 use Rattle.coap_exchange.proofs.TokenLemmas.{same_token_is}
 use Rattle.coap_ends.specs.ServerTrace.{Waiting, Own, Handling, Silent, Refuses, Serves, Waits, Call, Sets, Removes, Delays, Feeds, Ticks, NextOut}
 use Rattle.coap_ends.specs.ServerChecks.{Verdict, Ignored, Refused, Asks, verdict_on}
@@ -57,10 +58,10 @@ kind_is Rst Ack h = absurd (cc h)
 
 pub same_asked_is : (a b : Asked) → same_asked a b ≡ true → a ≡ b
 same_asked_is a b h =
-    let p = both (same_place a.from b.from) ((kind_number a.kind == kind_number b.kind) && ((a.id.0 == b.id.0) && same_token a.token b.token)) h in
+    let p = both (same_endpoint a.from b.from) ((kind_number a.kind == kind_number b.kind) && ((a.id.0 == b.id.0) && same_token a.token b.token)) h in
     let q = both (kind_number a.kind == kind_number b.kind) ((a.id.0 == b.id.0) && same_token a.token b.token) p.1 in
     let r = both (a.id.0 == b.id.0) (same_token a.token b.token) q.1 in
-    let from = same_place_is a.from b.from p.0 in
+    let from = same_endpoint_is a.from b.from p.0 in
     let kind = kind_is a.kind b.kind q.0 in
     let id = (unsigned_Decides a.id.0 b.id.0).0 r.0 in
     let token = same_token_is a.token b.token r.1 in

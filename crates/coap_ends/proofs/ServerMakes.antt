@@ -36,6 +36,7 @@ module _ (p : L.Packet) where
   abbrev pub CarriesIn : E.Call → Type 0
   CarriesIn (E.Answers a r below) = Carries p a r
   CarriesIn (E.Responds now a r word id) = Carries p a r
+  CarriesIn (E.Notifies now to token r word id) = Source p (L.Confirm to (P.content_with token r) word)
   CarriesIn _ = ⊥
 
   abbrev From : List G.Asked → Type 0
@@ -173,6 +174,10 @@ module _ (p : L.Packet) where
   makes s (E.Ticks at below room d) right h = absurd (tick_quiet at (P.ready_if below (P.ready_at s at)) room below h)
   makes s (E.Responds at a r word id) right (inl h) = inr (in_con a r word h)
   makes s (E.Responds at a r word id) right (inr h) = absurd h
+  makes s (E.Ready at to answer) right (inl h) = absurd (of_room to h)
+  makes s (E.Ready at to answer) right (inr h) = absurd h
+  makes s (E.Notifies at to token r word id) right (inl h) = inr h
+  makes s (E.Notifies at to token r word id) right (inr h) = absurd h
   makes s (E.Take answer) right (inl h) = absurd (of_take h)
   makes s (E.Take answer) right (inr h) = absurd h
 

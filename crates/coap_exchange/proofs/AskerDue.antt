@@ -3,11 +3,11 @@ use Rattle.std.proofs.Common.{◌≡◌, ◌≢◌, inl, inr, ◌≤◌, ℕ, �
 use Rattle.std.specs.Option.{option_map}
 use Rattle.std.specs.Cmp.{unsigned_Decides}
 use Rattle.coap_types.specs.declared.endpoint.Endpoint.{Endpoint}
+use Rattle.coap_types.proofs.EndpointLemmas.{same_endpoint_self}
 use Rattle.coap_layer.specs.State as L
 use Rattle.coap_layer.specs.State.{tick_of, is_failed, is_copy_due}
 use Rattle.coap_layer.specs.Steps.{Steps}
 use Rattle.coap_layer.specs.Trace as T
-use Rattle.coap_layer.specs.Trace.{same_place}
 use Rattle.coap_layer.specs.Words.{Open}
 use Rattle.coap_layer.proofs.ListLemmas.{true_le}
 use Rattle.coap_exchange.specs.declared.asker.Event.{Event}
@@ -29,7 +29,6 @@ use Rattle.coap_exchange.proofs.AskerLone.{Lone, IsSent}
 use Rattle.coap_exchange.proofs.AskerInTime.{fits}
 use Rattle.coap_exchange.proofs.AskerMoves as move
 use Rattle.coap_exchange.proofs.AskerMoves.{AskRow, ask_row, opened_none, opened_some}
-use Rattle.coap_exchange.proofs.LayerFacts.{same_place_self}
 use Rattle.coap_exchange.proofs.MatchingLemmas.{Fits, verdict_fits}
 
 -- one tick
@@ -37,7 +36,7 @@ use Rattle.coap_exchange.proofs.MatchingLemmas.{Fits, verdict_fits}
 own_request : (s : Own) (x : Exchange) → s.running ≡ Some x → is_of_request s s.server x.id.0 ≡ true
 own_request s x runs =
     let has : has_id s.running x.id.0 ≡ true = subst (λ r. has_id r x.id.0 ≡ true) (sym runs) ((unsigned_Decides x.id.0 x.id.0).1 refl) in
-    ap (λ w. w && has_id s.running x.id.0) (same_place_self s.server) ∙ has
+    ap (λ w. w && has_id s.running x.id.0) (same_endpoint_self s.server) ∙ has
 
 fails : (s : Own) (x : Exchange) (at : ℕ) (c : Open) → s.running ≡ Some x → c.to ≡ s.server → c.id ≡ x.id.0 → is_failed at c ≡ true → turn_of s at (tick_of at (c ∷ [])) ≡ turn.End event.Timeout
 fails s x at c runs to_is id_is late =

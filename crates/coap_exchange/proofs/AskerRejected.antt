@@ -6,6 +6,7 @@ use Rattle.coap_types.specs.declared.message.Kind.{Kind}
 use Rattle.coap_types.specs.declared.message.Kind.TheVariants.{Con, Non, Ack, Rst}
 use Rattle.coap_types.specs.declared.role.Role.{Role}
 use Rattle.coap_types.specs.declared.role.Role.TheVariants as role
+use Rattle.coap_types.specs.SameEndpoint.{same_endpoint}
 use Rattle.coap_codec.specs.Message.{Message, Spells}
 use Rattle.coap_layer.proofs.ListLemmas.{same_nat}
 use Rattle.coap_layer.proofs.ReadingLemmas.{shows_at}
@@ -15,7 +16,6 @@ use Rattle.coap_layer.specs.State.{answer_to}
 use Rattle.coap_layer.specs.Steps.{Steps}
 use Rattle.coap_layer.specs.Table.{up_of, again_or}
 use Rattle.coap_layer.specs.Trace as T
-use Rattle.coap_layer.specs.Trace.{same_place}
 use Rattle.coap_layer.specs.Words.{is_con}
 use Rattle.coap_exchange.specs.declared.asker.Event.{Event}
 use Rattle.coap_exchange.specs.declared.asker.Event.TheVariants as event
@@ -136,7 +136,7 @@ module _ (server : Endpoint) (word : ℕ) where
       record {
         exchange = r.of.exchange;
         runs = r.of.runs;
-        there = subst (λ e. same_place from e ≡ true) (server_is server word t) r.of.there;
+        there = subst (λ e. same_endpoint from e ≡ true) (server_is server word t) r.of.there;
         message = m.message;
         spelled = m.spelled;
         kind = m.kind;

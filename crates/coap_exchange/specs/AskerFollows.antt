@@ -3,9 +3,9 @@ use Rattle.std.specs.Prelude.{◌≡◌, ◌↔◌, ◌≤◌, ◌<◌, ℕ, ◌
 use Rattle.coap_types.specs.Past.{Ever, Always, Since}
 use Rattle.coap_types.specs.declared.endpoint.Endpoint.{Endpoint}
 use Rattle.coap_types.specs.declared.message.Kind.TheVariants.{Rst}
+use Rattle.coap_types.specs.SameEndpoint.{same_endpoint}
 use Rattle.coap_codec.specs.Message.{Message, Spells}
 use Rattle.coap_layer.specs.Trace as L
-use Rattle.coap_layer.specs.Trace.{same_place}
 use Rattle.coap_exchange.specs.declared.asker.Event.{Event}
 use Rattle.coap_exchange.specs.declared.asker.Event.TheVariants as event
 use Rattle.coap_exchange.specs.declared.asker.Turn.{Turn}
@@ -190,7 +190,7 @@ module _ (server : Endpoint) (word : ℕ) where
   pub record Rejects (past : List Call) (from : Endpoint) (bytes : List ℕ) : Type 0 where
     pub exchange : Exchange
     pub runs : (own_of server word past).running ≡ Some exchange
-    pub there : same_place from server ≡ true
+    pub there : same_endpoint from server ≡ true
     pub message : Message
     pub spelled : Spells bytes message
     pub kind : message.kind ≡ Rst
@@ -210,7 +210,7 @@ module _ (server : Endpoint) (word : ℕ) where
 pub record CameFrom (server : Endpoint) (c : Call) : Type 0 where
   pub came :
       (now : ℕ) (from : Endpoint) (bytes : List ℕ) (up : _) (settled : Bool) (answer : Option Event) (m : Message) → c ≡ Receive now from bytes up settled answer → carried c ≡ Some m
-      → (same_place from server ≡ true) × Spells bytes m
+      → (same_endpoint from server ≡ true) × Spells bytes m
 
 abbrev pub AreFromServer : Endpoint → List Call → Type 0
 AreFromServer server trace = Always (λ past c. CameFrom server c) trace

@@ -60,5 +60,3 @@ pub record Entry : Type 0 where
   pub answer : Answer
   pub out : List Packet
 
-abbrev pub same_place : Endpoint → Endpoint → Bool
-same_place a b = pointwise nat_eq a.ip b.ip && (a.port == b.port)
