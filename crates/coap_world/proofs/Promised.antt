@@ -91,9 +91,6 @@ module _ (config : Config) (events : List Event) (turns : List Turn) (run : Reco
 
   pub agrees : Agrees config all
   agrees = record {
-    one_call = one_call config.client_szx (client_of all) run.client.rows;
-    one_report = reported_once config.client_szx (client_of all) run.client.rows;
-    all_given = all_given config.client_szx turns run.made run.client.rows;
     each_held = D.each_held config all lawful one;
     each_belongs = belongs_in config all all (whole config all lawful) came;
     applied_whole = applied_whole;
@@ -101,4 +98,7 @@ module _ (config : Config) (events : List Event) (turns : List Turn) (run : Reco
     once_done = D.once_done config all lawful one;
     never_failed = F.never_failed config all lawful one came most;
     changes_owned = changes_owned;
+    one_call = one_call config.client_szx (client_of all) run.client.rows;
+    one_report = reported_once config.client_szx (client_of all) run.client.rows;
+    all_given = all_given config.client_szx turns run.made run.client.rows;
   }

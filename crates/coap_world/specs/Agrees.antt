@@ -115,11 +115,7 @@ module _ (config : Config) where
   abbrev pub ChangesOwned : List Entry → Type 0
   ChangesOwned all = Always OwnedAt all
 
-  -- A number names one call, which is reported at most once.
   pub record Agrees (all : List Entry) : Type 0 where
-    pub one_call : OneCall (client_of all)
-    pub one_report : ReportedOnce (client_of all)
-    pub all_given : AllGiven all
     pub each_held : EachHeld all
     pub each_belongs : EachBelongs all
     pub applied_whole : AppliedWhole all
@@ -127,3 +123,7 @@ module _ (config : Config) where
     pub once_done : OnceDone all
     pub never_failed : NeverFailed all
     pub changes_owned : ChangesOwned all
+    -- a number names one call, which is reported at most once, and all reports are taken
+    pub one_call : OneCall (client_of all)
+    pub one_report : ReportedOnce (client_of all)
+    pub all_given : AllGiven all
