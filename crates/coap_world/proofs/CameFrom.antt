@@ -153,6 +153,16 @@ same_request con m to t r are s id =
     let small : con.id < 65536 = omega (arith, low, id) in
     one_message con.bytes m (W.request_of con.id r.request) are s (subst (λ z. Spells z (W.request_of con.id r.request)) (sym r.bytes) (r.spelled Con con.id small))
 
+-- what is said of a message is said of an equal one
+spells_so : (bytes : List ℕ) (m n : Message) → m ≡ n → Spells bytes m → Spells bytes n
+spells_so bytes m n is h = subst (Spells bytes) is h
+
+asked_so : (a : Asked) (m n : Message) → m ≡ n → a ≡ asked_of client_end m → a ≡ asked_of client_end n
+asked_so a m n is h = h ∙ ap (asked_of client_end) is
+
+verdict_so : (szx : ℕ) (v : Verdict) (m n : Message) → m ≡ n → verdict_on szx m ≡ v → verdict_on szx n ≡ v
+verdict_so szx v m n is h = subst (λ x. verdict_on szx x ≡ v) is h
+
 module _ (config : Config) where
   abbrev pub FromClient : List Entry → Type 0
   FromClient t = ClientLaw server_end config.client_szx config.client_word (client_of t)
@@ -175,6 +185,7 @@ module _ (config : Config) where
       let calls = asker.lower_of server_end config.client_word (client.lower_of (client_of past)) in
       let r : IsRequestOf server_end f.con (client_of past) = request_of server_end f.con (client_of past)
       (exchange_of server_end config.client_word f.con (client.lower_of (client_of past)) own.exchanges.rows (asked_for f.con (L.start config.client_word) own.exchanges.left calls own.exchanges.layer layer)) in
+      let request : Message = W.request_of f.con.id r.request in
       let same = same_request f.con f.message server_end (client_of past) r f.are_bytes f.spells f.id in
       record {
         sending = r.request;
@@ -184,10 +195,10 @@ module _ (config : Config) where
         to = f.to;
         bytes = r.bytes;
         are_bytes = f.are_bytes;
-        spells = subst (Spells f.con.bytes) same f.spells;
+        spells = spells_so f.con.bytes f.message request same f.spells;
         arrived = f.arrived;
-        asked = f.asked ∙ ap (asked_of client_end) same;
-        verdict = sym (ap (verdict_on config.server_szx) same) ∙ f.verdict;
+        asked = asked_so a f.message request same f.asked;
+        verdict = verdict_so config.server_szx v f.message request same f.verdict;
       }
 
   all_came : (all : List Entry) → IsChannel config all → FromClient all → OfLayer all → CamesFrom config all

@@ -50,3 +50,4 @@ pub mod WitnessStrangerServer
 pub mod WitnessStranger
 pub mod WitnessDelivery
 pub mod WitnessRefused
+pub mod Given

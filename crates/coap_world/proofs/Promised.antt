@@ -11,8 +11,10 @@ use Rattle.coap_ends.specs.ServerChecks.{Asks}
 use Rattle.coap_ends.specs.ServerFollows.{Serving, is_applied}
 use Rattle.coap_ends.specs.ServerLaw as server
 use Rattle.coap_ends.proofs.ClientCons.{one_con}
+use Rattle.coap_ends.proofs.ClientCounted.{one_call}
 use Rattle.coap_ends.proofs.ClientNons.{no_nons}
 use Rattle.coap_ends.proofs.ClientNumbers.{one_sending}
+use Rattle.coap_ends.proofs.ClientOnce.{reported_once}
 use Rattle.coap_ends.proofs.ClientSent.{once_of, are_sent}
 use Rattle.coap_ends.proofs.ServerCounts as N
 use Rattle.coap_ends.proofs.ServerHolds.{all_served}
@@ -29,6 +31,7 @@ use Rattle.coap_world.proofs.Called.{in_range}
 use Rattle.coap_world.proofs.CameFrom.{came_from}
 use Rattle.coap_world.proofs.Done as D
 use Rattle.coap_world.proofs.Formats.{formats_in}
+use Rattle.coap_world.proofs.Given.{all_given}
 use Rattle.coap_world.proofs.Joined as joined
 use Rattle.coap_world.proofs.NeverFailed as F
 use Rattle.coap_world.proofs.Owned as O
@@ -95,4 +98,7 @@ module _ (config : Config) (events : List Event) (turns : List Turn) (run : Reco
     once_done = D.once_done config all lawful one;
     never_failed = F.never_failed config all lawful one came most;
     changes_owned = changes_owned;
+    one_call = one_call config.client_szx (client_of all) run.client.rows;
+    one_report = reported_once config.client_szx (client_of all) run.client.rows;
+    all_given = all_given config.client_szx turns run.made run.client.rows;
   }
