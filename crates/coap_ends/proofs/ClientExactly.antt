@@ -2,7 +2,6 @@
 use Rattle.std.proofs.Common.{◌≡◌, ℕ, max, Bool, Option, Some, None, List, [], ◌∷◌, ◌++◌, Result, refl, ap, sym, subst, ◌∙◌}
 use Rattle.coap_types.specs.declared.endpoint.Endpoint.{Endpoint}
 use Rattle.coap_layer.specs.State as S
-use Rattle.coap_layer.specs.Steps.{entries}
 use Rattle.coap_layer.specs.Trace as L
 use Rattle.coap_exchange.specs.declared.asker.AskRefusal.{AskRefusal}
 use Rattle.coap_exchange.specs.declared.asker.Event.{Event}
@@ -67,7 +66,7 @@ module _ (server : Endpoint) (szx word : ℕ) (past : List Call) where
         record {
           own = ap (λ x. after own (Feeds now from bytes w up settled x)) e.1;
           exchanges = ap (λ x. P.after s (A.Receive at from bytes x settled event)) e.0;
-          layer = ap (λ x. entries (S.start word) (x ++ E.lower_of server word calls)) e.2;
+          beneath = ap (λ x. x ++ E.lower_of server word calls) e.2;
         },
       )
 
@@ -92,7 +91,7 @@ module _ (server : Endpoint) (szx word : ℕ) (past : List Call) where
           record {
             own = left_alike f.0 f.1;
             exchanges = ap (λ x. E.own_of server word ((x ++ ticks ∷ []) ++ calls)) e;
-            layer = ap (λ x. entries (S.start word) (E.lower_of server word ((x ++ ticks ∷ []) ++ calls))) e;
+            beneath = ap (λ x. E.lower_of server word ((x ++ ticks ∷ []) ++ calls)) e;
           },
         )
       where

@@ -15,6 +15,8 @@ pub mod Sources
 pub mod ServerMakes
 pub mod ServerGiving
 pub mod ClientExactly
+pub mod ClientSpelled
+pub mod ClientGoing
 pub mod StoreExactly
 pub mod ServerHandled
 pub mod ServerExactly

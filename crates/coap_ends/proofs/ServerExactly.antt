@@ -4,7 +4,7 @@ use Rattle.coap_types.specs.declared.endpoint.Endpoint.{Endpoint}
 use Rattle.coap_codec.specs.Message.{Message}
 use Rattle.coap_layer.specs.State as S
 use Rattle.coap_layer.specs.Steps as G
-use Rattle.coap_layer.specs.Steps.{entries}
+use Rattle.coap_layer.specs.Steps.{Steps}
 use Rattle.coap_layer.specs.Trace as L
 use Rattle.coap_resource.specs.Content.{put_refusal}
 use Rattle.coap_resource.specs.Rate.{rate_refusal}
@@ -18,6 +18,7 @@ use Rattle.coap_exchange.specs.AnswererSteps as P
 use Rattle.coap_exchange.specs.AnswererLaw as W
 use Rattle.coap_exchange.specs.AnswererLaw.{ResponseLaw}
 use Rattle.coap_exchange.proofs.AnswererExactly.{exact}
+use Rattle.coap_exchange.proofs.AskerExactly.{one_left, one_answer}
 use Rattle.coap_exchange.proofs.AskerLeading.{steps_split}
 use Rattle.coap_ends.specs.ServerTrace.{Own, Handling, Silent, Refuses, Serves, Waits, Call, Feeds, Ticks}
 use Rattle.coap_ends.specs.ServerSteps.{answering, responding}
@@ -83,27 +84,43 @@ module _ (word : ℕ) where
     responding_alike a (Serves u reply r left) w id number p q = ap (λ z. E.Responds at a r w z ∷ []) ((exact word (first ∷ calls)).responds at a r w id number p q)
     responding_alike a (Waits u delay) w id number p q = refl
 
-  -- whether there is room is asked, and not more
   module _ (at w : ℕ) (below : L.Answer) (calls : List E.Call) where
     abbrev Passing : Due → Handling → ℕ → Bool → List E.Call
     Passing d h id room = (responding at d h w id ++ E.Ticks at below room d ∷ []) ++ calls
 
-    room_aside : (o : Option Deferred) (room space : Bool) (rest : List G.Asked) → entries (S.start word) ((P.asking_room at o room ++ asked at L.Ticks below ∷ []) ++ rest) ≡ entries (S.start word) ((P.asking_room at o space ++ asked at L.Ticks below ∷ []) ++ rest)
-    room_aside None room space rest = refl
-    room_aside (Some d) room space rest = refl
+    abbrev tick : List G.Asked
+    tick = asked at L.Ticks below ∷ []
 
-    layer_aside : (d : Due) (room space : Bool) → W.below_of word (E.Ticks at below room d ∷ calls) ≡ W.below_of word (E.Ticks at below space d ∷ calls)
-    layer_aside d room space = room_aside (P.ready_if below (P.ready_at (W.own_of calls) at)) room space (W.lower_of calls)
+    abbrev before : List G.Asked
+    before = W.lower_of calls
+
+    -- whether there is room, where that is asked
+    rooms_alike : (o : Option Deferred) (room space : Bool) (left other : S.State) → Steps (S.start word) ((P.asking_room at o room ++ tick) ++ before) left → Steps (S.start word) ((P.asking_room at o space ++ tick) ++ before) other
+        → P.asking_room at o room ≡ P.asking_room at o space
+    rooms_alike None room space left other p q = refl
+    rooms_alike (Some d) room space left other p q =
+        let c = steps_split (S.start word) left (P.asking_room at (Some d) room ++ tick) before p in
+        let e = steps_split (S.start word) other (P.asking_room at (Some d) space ++ tick) before q in
+        let f = steps_split c.0 left (P.asking_room at (Some d) room) tick c.2 in
+        let g = steps_split e.0 other (P.asking_room at (Some d) space) tick e.2 in
+        let first : c.0 ≡ e.0 = one_left (S.start word) before c.0 e.0 c.1 e.1 in
+        let after : f.0 ≡ g.0 = one_left c.0 tick f.0 g.0 f.1 (subst (λ x. Steps x tick g.0) (sym first) g.1) in
+        let same = one_answer f.2.0 g.2.0 left other at (L.Room d.asked.from) (L.Is room) (L.Is space) (f.2.1 ∙ (after ∙ sym g.2.1)) f.2.2 g.2.2 in
+        ap (λ x. asked at (L.Room d.asked.from) x ∷ []) same
+
+    ticks_alike : (d : Due) (room space : Bool) → ResponseLaw word (E.Ticks at below room d ∷ calls) → ResponseLaw word (E.Ticks at below space d ∷ calls)
+        → W.lower_of (E.Ticks at below room d ∷ calls) ≡ W.lower_of (E.Ticks at below space d ∷ calls)
+    ticks_alike d room space p q = ap (λ z. (z ++ tick) ++ before) (rooms_alike (P.ready_if below (P.ready_at (W.own_of calls) at)) room space p.left q.left p.layer q.layer)
 
     record PassAlike (d : Due) (h : Handling) (id number : ℕ) (room space : Bool) : Type 0 where
       asks : responding at d h w id ≡ responding at d h w number
       own : W.own_of (Passing d h id room) ≡ W.own_of (Passing d h number space)
-      layer : W.below_of word (Passing d h id room) ≡ W.below_of word (Passing d h number space)
+      beneath : W.lower_of (Passing d h id room) ≡ W.lower_of (Passing d h number space)
 
     pass_alike : (d : Due) (h : Handling) (id number : ℕ) (room space : Bool) → ResponseLaw word (Passing d h id room) → ResponseLaw word (Passing d h number space) → PassAlike d h id number room space
-    pass_alike due.Idle h id number room space p q = record { asks = refl; own = refl; layer = layer_aside due.Idle room space }
-    pass_alike due.Copied h id number room space p q = record { asks = refl; own = refl; layer = layer_aside due.Copied room space }
-    pass_alike due.Expired h id number room space p q = record { asks = refl; own = refl; layer = layer_aside due.Expired room space }
+    pass_alike due.Idle h id number room space p q = record { asks = refl; own = refl; beneath = ticks_alike due.Idle room space p q }
+    pass_alike due.Copied h id number room space p q = record { asks = refl; own = refl; beneath = ticks_alike due.Copied room space p q }
+    pass_alike due.Expired h id number room space p q = record { asks = refl; own = refl; beneath = ticks_alike due.Expired room space p q }
     pass_alike (due.Ready a) h id number room space p q =
         let d : Due = due.Ready a in
         let ready : Option Deferred = P.ready_at (W.own_of calls) at in
@@ -114,7 +131,7 @@ module _ (word : ℕ) where
         record {
           asks = asks;
           own = ap (λ z. W.own_of ((z ++ E.Ticks at below room d ∷ []) ++ calls)) asks ∙ ap (λ z. W.own_of (Passing d h number z)) rooms;
-          layer = ap (λ z. W.below_of word ((z ++ E.Ticks at below room d ∷ []) ++ calls)) asks ∙ ap (λ z. W.below_of word (Passing d h number z)) rooms;
+          beneath = ap (λ z. W.lower_of ((z ++ E.Ticks at below room d ∷ []) ++ calls)) asks ∙ ap (λ z. W.lower_of (Passing d h number z)) rooms;
         }
 
 module _ (limit szx word : ℕ) (past : List Call) where
@@ -128,7 +145,7 @@ module _ (limit szx word : ℕ) (past : List Call) where
   Law c = ServerLaw limit szx word (c ∷ past)
 
   abbrev Alike : Call → Call → Type 0
-  Alike c d = LeaveAlike limit szx word past c d
+  Alike c d = LeaveAlike limit szx past c d
 
   -- of equal arrivals that are handled alike
   module _ (now : ℕ) (from : Endpoint) (bytes : List ℕ) (w : ℕ) (up : L.Answer) (came : Option (Asked × Message)) (h : Handling) (below beyond : L.Answer) where
@@ -140,7 +157,7 @@ module _ (limit szx word : ℕ) (past : List Call) where
         let at : ℕ = max own.clock now in
         let first : E.Call = E.Incoming at from bytes up came in
         let asks = answering_alike word at first calls came h below beyond p.exchanges q.exchanges in
-        (asks, record { own = refl; exchanges = ap (λ z. W.own_of ((z ++ first ∷ []) ++ calls)) asks; layer = ap (λ z. W.below_of word ((z ++ first ∷ []) ++ calls)) asks })
+        (asks, record { own = refl; exchanges = ap (λ z. W.own_of ((z ++ first ∷ []) ++ calls)) asks; beneath = ap (λ z. W.lower_of ((z ++ first ∷ []) ++ calls)) asks })
 
   fed : (now : ℕ) (from : Endpoint) (bytes : List ℕ) (w : ℕ) (up other : L.Answer) (came come : Option (Asked × Message)) (h k : Handling) (below beyond : L.Answer) → InBytes h → InBytes k → Law (Feeds now from bytes w up came h below)
       → Law (Feeds now from bytes w other come k beyond)
@@ -167,7 +184,7 @@ module _ (limit szx word : ℕ) (past : List Call) where
     tick_alike : Law (Ticks now w below room d h id answer) → Law (Ticks now w below space d h number another) → TickAlike below d h
     tick_alike p q =
         let f = pass_alike word (max own.clock now) w below calls d h id number room space p.exchanges q.exchanges in
-        (f.asks, p.rows.0.1 ∙ sym q.rows.0.1, record { own = refl; exchanges = f.own; layer = f.layer })
+        (f.asks, p.rows.0.1 ∙ sym q.rows.0.1, record { own = refl; exchanges = f.own; beneath = f.beneath })
 
   ticked : (now w : ℕ) (below other : L.Answer) (room space : Bool) (d t : Due) (h k : Handling) (id number : ℕ) (answer another : Bool) → InBytes h → InBytes k → Law (Ticks now w below room d h id answer)
       → Law (Ticks now w other space t k number another)

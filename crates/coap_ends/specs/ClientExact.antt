@@ -8,15 +8,17 @@ use Rattle.coap_exchange.specs.declared.asker.Turn.{Turn}
 use Rattle.coap_exchange.specs.AskerLaw as E
 use Rattle.coap_ends.specs.ClientTrace.{Request, Reported, Taking, Call, Calls, Feeds, Ticks, NextOut, NextReport}
 use Rattle.coap_ends.specs.ClientSteps.{asking, starting}
-use Rattle.coap_ends.specs.ClientLaw.{ClientLaw, own_of, lower_of, layer_of}
+use Rattle.coap_ends.specs.ClientLaw.{ClientLaw, own_of, lower_of}
 
--- Two calls leave the same: the client's own state, that of its exchanges, and the trace of its message layer.
+-- Two calls leave the same: the client's own state, that of its exchanges, and what was asked of its message layer, with
+-- each answer.
 pub record LeaveAlike (server : Endpoint) (word : ℕ) (past : List Call) (c d : Call) : Type 0 where
   pub own : own_of (c ∷ past) ≡ own_of (d ∷ past)
   pub exchanges : E.own_of server word (lower_of (c ∷ past)) ≡ E.own_of server word (lower_of (d ∷ past))
-  pub layer : layer_of server word (c ∷ past) ≡ layer_of server word (d ∷ past)
+  pub beneath : E.lower_of server word (lower_of (c ∷ past)) ≡ E.lower_of server word (lower_of (d ∷ past))
 
--- With equal arguments, what the layers answer is equal, wherever they are asked, and so is what is answered.
+-- With equal arguments, what the layers answer is equal, wherever they are asked, and so is what is answered. (What was
+-- not asked, `settled`, or `sent` and `token`, says nothing.)
 pub record IsExact (server : Endpoint) (szx word : ℕ) (past : List Call) : Type 0 where
   pub calls : (now : ℕ) (r : Request) (answer another : Taking) → ClientLaw server szx word (Calls now r answer ∷ past) → ClientLaw server szx word (Calls now r another ∷ past) → answer ≡ another
   pub feeds :

@@ -4,6 +4,7 @@ pub mod ClientReports
 pub mod ClientSteps
 pub mod ClientLaw
 pub mod ClientExact
+pub mod ClientGoesOn
 pub mod ClientFollows
 pub mod ServerTrace
 pub mod ServerChecks

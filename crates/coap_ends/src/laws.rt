@@ -8,6 +8,7 @@ ghost use Rattle.coap_ends.specs.ClientBegins.{ConsAreRequests};
 ghost use Rattle.coap_ends.specs.ClientExact as clients_exact;
 ghost use Rattle.coap_ends.specs.ClientFollows.{AreSent, ReportsAreAnswers, AreFromServer, ReportedOnce};
 ghost use Rattle.coap_ends.specs.ClientGives.{GivesInOrder};
+ghost use Rattle.coap_ends.specs.ClientGoesOn.{GoesOn};
 ghost use Rattle.coap_ends.specs.ClientHears.{AreHeard};
 ghost use Rattle.coap_ends.specs.ClientLaw.{ClientLaw, layer_of};
 ghost use Rattle.coap_ends.specs.ClientNumbering.{OneCall};
@@ -29,6 +30,8 @@ pub fn client_law()
     ensures layer { (server : Endpoint) (szx word : ℕ) (t : List Call) → ClientLaw server szx word t → LayerLaw word (layer_of server word t) }
     // The law leaves each call one answer.
     ensures exact { (server : Endpoint) (szx word : ℕ) (past : List Call) → clients_exact.IsExact server szx word past }
+    // .. and each has one: what stands in the law goes on.
+    ensures goes { (server : Endpoint) (szx word : ℕ) (t : List Call) → ClientLaw server szx word t → GoesOn server szx word t }
     // A retransmission is of a CON that was begun at most 47,000 ms before, with the same bytes (RFC 7252, section 4.2).
     ensures copies { (server : Endpoint) (szx word : ℕ) (t : List Call) → ClientLaw server szx word t → CopiesInTime (layer_of server word t) }
     // It begins no other CON than the requests of its calls, each with its token, to the server (RFC 7252, section 5.2).

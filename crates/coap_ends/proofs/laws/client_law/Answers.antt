@@ -4,6 +4,7 @@ use Rattle.coap_exchange.proofs.AskerApart.{known}
 use Rattle.coap_exchange.proofs.AskerCame.{came_from}
 use Rattle.coap_exchange.proofs.AskerTokens.{counted}
 use Rattle.coap_ends.proofs.ClientExactly.{is_exact}
+use Rattle.coap_ends.proofs.ClientGoing.{goes_on}
 use Rattle.coap_ends.specs.ClientLaw.{lower_of, layer_of}
 use Rattle.coap_layer.specs.State.{start}
 use Rattle.coap_exchange.specs.AskerLaw as asker
@@ -25,6 +26,9 @@ returns-clause-layer c server szx word t law = layer_stands server word (lower_o
 
 pub returns-clause-exact : goal.returns-clause-exact
 returns-clause-exact c server szx word past = is_exact server szx word past
+
+pub returns-clause-goes : goal.returns-clause-goes
+returns-clause-goes c server szx word t law = goes_on server szx word t law
 
 pub returns-clause-copies : goal.returns-clause-copies
 returns-clause-copies c server szx word t law = copies_in_time word (layer_of server word t) (layer_stands server word (lower_of t) law.exchanges)
