@@ -19,6 +19,8 @@ pub mod Run
 pub mod Joined
 pub mod Across
 pub mod WitnessWords
+pub mod WitnessTurns
+pub mod WitnessAsking
 pub mod WitnessPing
 pub mod WitnessStore
 pub mod WitnessGetClient
