@@ -8,7 +8,7 @@ use Rattle.coap_ends.specs.ClientTrace.{Body, Done, Failed, Timeout, Reported, R
 use Rattle.coap_ends.specs.ServerFollows.{Serving, is_applied, held_at}
 use Rattle.coap_ends.specs.ServerTrace.{Delay}
 use Rattle.coap_world.specs.Agrees.{ReportsAt, ServesAt, AppliesFor, HeldSince, AppliesSince}
-use Rattle.coap_world.specs.Events.{client_end, server_end, localhost, Config, What, Calls, Sets, TickClient, TickServer, Deliver, StrangerToServer, Event}
+use Rattle.coap_world.specs.Events.{client_end, server_end, localhost, Config, What, Calls, Sets, TickClient, TickServer, Deliver, StrangerToServer, StrangerToClient, Event}
 use Rattle.coap_world.specs.Legal.{Legal}
 use Rattle.coap_world.specs.Record.{Entry, Given, Turn, given_in, RecordOf, entries_of, server_trace}
 
@@ -240,10 +240,13 @@ MayComeTill last = (at : ℕ) → at ≤ last → Runs config (comes_at at) (fro
 abbrev pub NotAfter : ℕ → Type 0
 NotAfter last = (at : ℕ) → last < at → NoneRuns (comes_at at)
 
--- a datagram comes that was never given out; and one from an end's address, by a stranger
+-- a datagram comes that was never given out
 
 abbrev pub never_given : List Event
 never_given = event 0 (Deliver 0) ∷ []
 
-abbrev pub posing : Endpoint → List Event
-posing end = event 0 (StrangerToServer end ping) ∷ []
+-- a stranger has the address of an end
+
+abbrev pub NoneFrom : Endpoint → Type 0
+NoneFrom end =
+    (at : ℕ) (bytes : List ℕ) → NoneRuns (event at (StrangerToServer end bytes) ∷ []) × NoneRuns (event at (StrangerToClient end bytes) ∷ [])
