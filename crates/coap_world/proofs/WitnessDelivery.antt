@@ -3,7 +3,8 @@ use Rattle.std.proofs.Common.{◌≤◌, inl, ℕ, List, [], ◌∷◌, map, ref
 use Rattle.coap_types.specs.Past.{Always}
 use Rattle.coap_world.specs.Events.{Calls, TickClient, Deliver, client_end}
 use Rattle.coap_world.specs.Legal.{Legal}
-use Rattle.coap_world.specs.LegalRuns.{config, event, from_client, from_server, post, post_bytes, not_found_bytes, Runs, comes_at, MayComeTill}
+use Rattle.coap_world.specs.LegalRuns.{config, event, from_client, from_server, post, post_bytes, not_found_bytes, Runs}
+use Rattle.coap_world.specs.LegalEvents.{comes_at, MayComeTill}
 use Rattle.coap_world.specs.Record.{OfClient, OfServer, Turn, Makes}
 use Rattle.coap_world.proofs.WitnessTurns.{a_turn, called, ticked, made_call, made_tick, made_fed, legal_call, legal_tick, legal_to_server}
 use Rattle.coap_world.proofs.WitnessAsking.{lawful_before}

@@ -4,7 +4,7 @@ use Rattle.coap_types.specs.Past.{Ever, all_of}
 use Rattle.coap_types.proofs.PastLemmas.{Ever_of_Once}
 use Rattle.coap_world.specs.Events.{Event, client_end, server_end}
 use Rattle.coap_world.specs.Legal.{NotBefore, MayCome, Legal}
-use Rattle.coap_world.specs.LegalRuns.{NoneRuns, NotAfter, never_given, NoneFrom}
+use Rattle.coap_world.specs.LegalEvents.{NoneRuns, NotAfter, never_given, NoneFrom}
 use Rattle.coap_world.specs.Record.{Given, Turn, given_in, IsNumber}
 use Rattle.coap_world.proofs.Fair.{not_later}
 

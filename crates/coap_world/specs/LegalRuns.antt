@@ -1,5 +1,5 @@
 -- Legal runs of a few events (RFC 7252, sections 4.2, 4.5, 5.2 and 5.8): the laws of the world are laws of something.
-use Rattle.std.specs.Prelude.{◌≡◌, ◌≤◌, ◌<◌, ℕ, true, Option, Some, None, List, [], ◌∷◌, ◌++◌, codes}
+use Rattle.std.specs.Prelude.{◌≡◌, ℕ, true, Option, Some, None, List, [], ◌∷◌, ◌++◌, codes}
 use Rattle.coap_types.specs.Past.{Once, all_of}
 use Rattle.coap_types.specs.declared.endpoint.Endpoint.{Endpoint}
 use Rattle.coap_types.specs.declared.request.Method.TheVariants.{Get, Post, Delete}
@@ -8,7 +8,7 @@ use Rattle.coap_ends.specs.ClientTrace.{Body, Done, Failed, Timeout, Reported, R
 use Rattle.coap_ends.specs.ServerFollows.{Serving, is_applied, held_at}
 use Rattle.coap_ends.specs.ServerTrace.{Delay}
 use Rattle.coap_world.specs.Agrees.{ReportsAt, ServesAt, AppliesFor, HeldSince, AppliesSince}
-use Rattle.coap_world.specs.Events.{client_end, server_end, localhost, Config, What, Calls, Sets, TickClient, TickServer, Deliver, StrangerToServer, StrangerToClient, Event}
+use Rattle.coap_world.specs.Events.{client_end, server_end, localhost, Config, What, Calls, Sets, TickClient, TickServer, Deliver, StrangerToServer, Event}
 use Rattle.coap_world.specs.Legal.{Legal}
 use Rattle.coap_world.specs.Record.{Entry, Given, Turn, given_in, RecordOf, entries_of, server_trace}
 
@@ -35,10 +35,6 @@ pub record Runs (config : Config) (events : List Event) (given : List Given) : T
   pub made : RecordOf config events turns
   pub legal : Legal turns
   pub gives : all_of given_in turns ≡ given
-
--- None is.
-abbrev pub NoneRuns : List Event → Type 0
-NoneRuns events = (config : Config) (turns : List Turn) → RecordOf config events turns → Legal turns → ⊥
 
 -- 8 bytes, all 0: the first token of a client of word 0
 abbrev pub token : List ℕ
@@ -228,25 +224,3 @@ pub record Interferes : Type 0 where
   pub run : Runs config interferes (from_server 0 stranger deleted_bytes ∷ from_client 0 (delete_bytes 0) ∷ [])
   pub applies : Once (λ past e. (x : Serving) × ServesAt config x past e × (is_applied x.reply.code ≡ true)) (entries_of run.turns)
   pub for_none : Once (AppliesFor config 0 (entries_of run.turns)) (entries_of run.turns) → ⊥
-
--- a datagram that was given out at 0 comes
-
-abbrev pub comes_at : ℕ → List Event
-comes_at at = event at (Deliver 0) ∷ event 0 TickClient ∷ event 0 (Calls post) ∷ []
-
-abbrev pub MayComeTill : ℕ → Type 0
-MayComeTill last = (at : ℕ) → at ≤ last → Runs config (comes_at at) (from_server at client_end not_found_bytes ∷ from_client 0 post_bytes ∷ [])
-
-abbrev pub NotAfter : ℕ → Type 0
-NotAfter last = (at : ℕ) → last < at → NoneRuns (comes_at at)
-
--- a datagram comes that was never given out
-
-abbrev pub never_given : List Event
-never_given = event 0 (Deliver 0) ∷ []
-
--- a stranger has the address of an end
-
-abbrev pub NoneFrom : Endpoint → Type 0
-NoneFrom end =
-    (at : ℕ) (bytes : List ℕ) → NoneRuns (event at (StrangerToServer end bytes) ∷ []) × NoneRuns (event at (StrangerToClient end bytes) ∷ [])

@@ -8,7 +8,8 @@ ghost use Rattle.coap_world.specs.Delivery.{AllFair};
 ghost use Rattle.coap_world.specs.Events.{client_end, server_end, Config, Event};
 ghost use Rattle.coap_world.specs.Hops.{hops_of, across, TakenAtOnce};
 ghost use Rattle.coap_world.specs.Legal.{Legal};
-ghost use Rattle.coap_world.specs.LegalRuns.{NoneRuns, Pings, Gets, GetsLate, Posts, Fails, TimesOut, Interferes, MayComeTill, NotAfter, never_given, NoneFrom};
+ghost use Rattle.coap_world.specs.LegalEvents.{NoneRuns, MayComeTill, NotAfter, never_given, NoneFrom};
+ghost use Rattle.coap_world.specs.LegalRuns.{Pings, Gets, GetsLate, Posts, Fails, TimesOut, Interferes};
 ghost use Rattle.coap_world.specs.Record.{Turn, RecordOf, entries_of, client_of, server_trace};
 
 /// What comes from an end's address was given out by that end, for the one that it comes to, at most 100,000 ms before.
