@@ -28,6 +28,8 @@ pub mod NeverFailed
 pub mod Formats
 pub mod Promised
 pub mod WitnessWords
+pub mod WitnessTurns
+pub mod WitnessAsking
 pub mod WitnessPing
 pub mod WitnessStore
 pub mod WitnessGetClient

@@ -1,6 +1,5 @@
 -- A legal run in which a POST is refused (RFC 7252, section 5.9.2.5).
-use Rattle.std.proofs.Common.{ℕ, Option, Some, None, ap, ◌≡◌, ◌++◌, true, sym, subst, inl, inr, List, [], ◌∷◌, map, refl, arith}
-use Rattle.std.specs.Prelude.{codes}
+use Rattle.std.proofs.Common.{◌≡◌, ◌++◌, inl, inr, ℕ, true, Option, Some, None, List, [], ◌∷◌, map, refl, ap, sym, subst, arith}
 use Rattle.coap_types.specs.Past.{Once, Always}
 use Rattle.coap_ends.specs.ServerFollows.{Serving, is_applied}
 use Rattle.coap_world.specs.Agrees.{AppliesFor}
@@ -8,57 +7,32 @@ use Rattle.coap_world.specs.Events.{Calls, TickClient, Deliver, client_end}
 use Rattle.coap_world.specs.Legal.{Legal}
 use Rattle.coap_world.specs.LegalRuns.{config, event, from_client, from_server, failed, post, post_bytes, not_found_bytes, Fails}
 use Rattle.coap_world.specs.Record.{Entry, OfClient, OfServer, Turn, Makes, entries_of}
-use Rattle.coap_world.proofs.WitnessWords.{bytes_are, clients_none}
-use Rattle.coap_world.proofs.WitnessPost.{path}
-use Rattle.coap_world.proofs.WitnessGet.{turn}
-use Rattle.coap_world.proofs.WitnessPostClient as post_client
+use Rattle.coap_world.proofs.WitnessWords.{clients_none}
+use Rattle.coap_world.proofs.WitnessTurns.{a_turn, called, ticked, heard, made_call, made_tick, made_heard, made_fed, legal_call, legal_tick, legal_to_client, legal_to_server}
+use Rattle.coap_world.proofs.WitnessPost.{range}
 use Rattle.coap_world.proofs.WitnessFailClient as client
 use Rattle.coap_world.proofs.WitnessFailServer as server
 
 abbrev turns : List Turn
 turns =
-    turn (event 9 (Deliver 1)) (map OfClient client.fed) ∷
-    turn (event 5 (Deliver 0)) (map OfServer (server.calls 5)) ∷
-    turn (event 0 TickClient) (map OfClient post_client.ticked) ∷
-    turn (event 0 (Calls post)) (map OfClient post_client.called) ∷
+    a_turn (event 9 (Deliver 1)) (map OfClient (heard 9 not_found_bytes client.not_found failed)) ∷
+    a_turn (event 5 (Deliver 0)) (map OfServer (server.calls 5)) ∷
+    a_turn (event 0 TickClient) (map OfClient (ticked post_bytes)) ∷
+    a_turn (event 0 (Calls post)) (map OfClient (called post)) ∷
     []
 
 made : Always (λ past t. Makes past t.event.at t.event.word t.event.what t.refused t.entries) turns
 made = (
-  (
-    from_server 5 client_end not_found_bytes,
-    inl (refl, refl),
-    inr (refl, client.hears ∷ [], (client.hears, (_, _, _, refl), refl), record { outs = []; reports = failed ∷ []; is = refl }),
-  ),
-  (
-    (
-      from_client 0 post_bytes,
-      inl (refl, refl),
-      inl (refl, (server.serves 5) ∷ [], ((server.serves 5), (_, _, _, _, refl), refl), record { outs = server.response_out ∷ []; is = refl }),
-    ),
-    (
-      (
-        post_client.rests ∷ post_client.asks ∷ [],
-        ((_, _, _, _, refl), ((_, _, _, _, refl), tt)),
-        record { outs = post_client.request_out ∷ []; reports = []; is = refl },
-      ),
-      ((_ ∷ [], (_, (_, refl), refl), record { outs = []; reports = []; is = refl }), tt),
-    ),
-  ),
+  (from_server 5 client_end not_found_bytes, inl (refl, refl), made_heard 9 5 not_found_bytes client.not_found failed),
+  ((from_client 0 post_bytes, inl (refl, refl), made_fed 5 0 post_bytes not_found_bytes _ _ _ _), (made_tick post_bytes, (made_call post, tt))),
 )
 
 legal : Legal turns
 legal = (
-  record { at = omega arith; word = omega arith; range = tt; later = omega arith; comes = (from_server 5 client_end not_found_bytes, inl (refl, refl), inl refl, omega arith) },
+  legal_to_client 9 1 5 not_found_bytes (inl (refl, refl)) (omega arith) (omega arith) (omega arith),
   (
-    record { at = omega arith; word = omega arith; range = tt; later = omega arith; comes = (from_client 0 post_bytes, inl (refl, refl), inr refl, omega arith) },
-    (
-      record { at = omega arith; word = omega arith; range = tt; later = omega arith; comes = tt },
-      (
-        record { at = omega arith; word = omega arith; range = record { path = path; accept = tt; format = tt; body = bytes_are (codes "a") refl }; later = tt; comes = tt },
-        tt,
-      ),
-    ),
+    legal_to_server 5 0 0 post_bytes (inl (refl, refl)) (omega arith) (omega arith) (omega arith),
+    (legal_tick 0 (omega arith) (omega arith), (legal_call post range tt, tt)),
   ),
 )
 
@@ -84,7 +58,7 @@ server_none es none (inr (inr (inl h))) = serves_none es h
 server_none es none (inr (inr (inr h))) = none h
 
 none : Once (AppliesFor config 0 all) all → ⊥
-none = clients_none config 0 all client.fed _ (server_none _ (clients_none config 0 all post_client.ticked _ (clients_none config 0 all post_client.called [] (λ h. h))))
+none = clients_none config 0 all (heard 9 not_found_bytes client.not_found failed) _ (server_none _ (clients_none config 0 all (ticked post_bytes) _ (clients_none config 0 all (called post) [] (λ h. h))))
 
 pub refused : Fails
 refused = record {

@@ -1,5 +1,5 @@
 -- The server of a legal run: it refuses a POST to a path that holds nothing (RFC 7252, sections 5.8.2 and 5.9.2.5).
-use Rattle.std.proofs.Common.{ℕ, true, Some, None, List, [], ◌∷◌, refl, arith}
+use Rattle.std.proofs.Common.{ℕ, true, Some, None, List, [], refl, arith}
 use Rattle.coap_codec.specs.Reading.{extended, value_at, nibbles_at, option_at, walk_of, walk, payload_at, frame_fault, body_at, message_at}
 use Rattle.coap_codec.specs.Writing.{option_bytes, options_bytes}
 use Rattle.coap_layer.proofs.SendableLemmas.{sendable_when_short}
@@ -18,6 +18,7 @@ use Rattle.coap_ends.specs.ServerLaw.{ServerLaw, ServerRows, lower_of}
 use Rattle.coap_world.specs.Events.{client_end}
 use Rattle.coap_world.specs.LegalRuns.{post_bytes, not_found_bytes}
 use Rattle.coap_world.proofs.WitnessWords.{bytes_are}
+use Rattle.coap_world.proofs.WitnessTurns.{with_out}
 use Rattle.coap_world.proofs.WitnessPostServer.{request, question}
 
 abbrev pub reply : Reply
@@ -25,9 +26,6 @@ reply = bare 132 0
 
 abbrev pub response : E.Response
 response = record { code = 132; options = []; payload = [] }
-
-abbrev pub response_out : L.Packet
-response_out = record { to = client_end; bytes = not_found_bytes }
 
 sendable : IsSpelled (content_of (asked_of client_end request) response)
 unfolding option_bytes options_bytes
@@ -45,7 +43,7 @@ module _ (at : ℕ) where
   serves = S.Feeds at client_end post_bytes 0 (L.Request request true) (Some (asked_of client_end request, request)) (S.Serves question reply response left) L.Nothing
 
   abbrev pub calls : List S.Call
-  calls = S.NextOut None ∷ S.NextOut (Some response_out) ∷ serves ∷ []
+  calls = with_out serves client_end not_found_bytes
 
   rows : ServerRows 4194303 6 calls
   unfolding option_bytes options_bytes

@@ -24,6 +24,7 @@ use Rattle.coap_ends.specs.ServerLaw.{ServerLaw, ServerRows, lower_of}
 use Rattle.coap_world.specs.Events.{client_end}
 use Rattle.coap_world.specs.LegalRuns.{token, plain, get_bytes, content_bytes}
 use Rattle.coap_world.proofs.WitnessWords.{bytes_are}
+use Rattle.coap_world.proofs.WitnessTurns.{alone, with_out}
 use Rattle.coap_world.proofs.WitnessGetClient.{content}
 use Rattle.coap_world.proofs.WitnessStore.{one, first}
 
@@ -44,9 +45,6 @@ reply = record { code = 69; tag = Some (0 ∷ 0 ∷ 0 ∷ 0 ∷ 0 ∷ 0 ∷ 0 �
 abbrev pub response : E.Response
 response = record { code = 69; options = content.options; payload = codes "hi" }
 
-abbrev pub response_out : L.Packet
-response_out = record { to = client_end; bytes = content_bytes }
-
 -- the calls of each turn, the newest first
 abbrev pub sets : S.Call
 sets = S.Sets 0 (codes "t" ∷ []) (Some plain) (codes "hi") (Ok 1) stored
@@ -55,10 +53,10 @@ abbrev pub serves : S.Call
 serves = S.Feeds 5 client_end get_bytes 0 (L.Request request true) (Some (asked_of client_end request, request)) (S.Serves question reply response stored) L.Nothing
 
 abbrev pub set : List S.Call
-set = S.NextOut None ∷ sets ∷ []
+set = alone sets
 
 abbrev pub fed : List S.Call
-fed = S.NextOut None ∷ S.NextOut (Some response_out) ∷ serves ∷ []
+fed = with_out serves client_end content_bytes
 
 abbrev pub calls : List S.Call
 calls = fed ++ set

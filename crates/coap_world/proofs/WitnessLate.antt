@@ -7,21 +7,21 @@ use Rattle.coap_world.specs.Legal.{Legal}
 use Rattle.coap_world.specs.LegalRuns.{event, from_client, from_server, plain, get, get_bytes, empty_ack, separate_bytes, got, GetsLate}
 use Rattle.coap_world.specs.Record.{OfClient, OfServer, Turn, Makes}
 use Rattle.coap_world.proofs.WitnessWords.{bytes_are}
-use Rattle.coap_world.proofs.WitnessGet.{turn, path}
-use Rattle.coap_world.proofs.WitnessGetClient as get_client
+use Rattle.coap_world.proofs.WitnessTurns.{a_turn, called, ticked, made_call, made_tick, made_set, made_fed, legal_call, legal_set, legal_tick, legal_to_client, legal_to_server}
+use Rattle.coap_world.proofs.WitnessGet.{path, range}
 use Rattle.coap_world.proofs.WitnessLateClient as client
 use Rattle.coap_world.proofs.WitnessLateServer as server
 
 abbrev turns : List Turn
 turns =
-    turn (event 1000 (Deliver 3)) (map OfServer server.told) ∷
-    turn (event 1000 (Deliver 2)) (map OfClient client.fed) ∷
-    turn (event 1000 TickServer) (map OfServer server.ticked) ∷
-    turn (event 0 (Deliver 1)) (map OfClient client.told) ∷
-    turn (event 0 (Deliver 0)) (map OfServer server.fed) ∷
-    turn (event 0 TickClient) (map OfClient get_client.ticked) ∷
-    turn (event 0 (Calls get)) (map OfClient get_client.called) ∷
-    turn (event 0 (Sets (codes "t" ∷ []) (Some plain) (codes "hi"))) (map OfServer server.set) ∷
+    a_turn (event 1000 (Deliver 3)) (map OfServer server.told) ∷
+    a_turn (event 1000 (Deliver 2)) (map OfClient client.fed) ∷
+    a_turn (event 1000 TickServer) (map OfServer server.ticked) ∷
+    a_turn (event 0 (Deliver 1)) (map OfClient client.told) ∷
+    a_turn (event 0 (Deliver 0)) (map OfServer server.fed) ∷
+    a_turn (event 0 TickClient) (map OfClient (ticked get_bytes)) ∷
+    a_turn (event 0 (Calls get)) (map OfClient (called get)) ∷
+    a_turn (event 0 (Sets (codes "t" ∷ []) (Some plain) (codes "hi"))) (map OfServer server.set) ∷
     []
 
 made : Always (λ past t. Makes past t.event.at t.event.word t.event.what t.refused t.entries) turns
@@ -46,22 +46,8 @@ made = (
           inr (refl, client.awaits ∷ [], (client.awaits, (_, _, _, refl), refl), record { outs = []; reports = []; is = refl }),
         ),
         (
-          (
-            from_client 0 get_bytes,
-            inl (refl, refl),
-            inl (refl, server.waits ∷ [], (server.waits, (_, _, _, _, refl), refl), record { outs = server.ack_out ∷ []; is = refl }),
-          ),
-          (
-            (
-              get_client.rests ∷ get_client.asks ∷ [],
-              ((_, _, _, _, refl), ((_, _, _, _, refl), tt)),
-              record { outs = get_client.request_out ∷ []; reports = []; is = refl },
-            ),
-            (
-              (_ ∷ [], (_, (_, refl), refl), record { outs = []; reports = []; is = refl }),
-              ((server.sets ∷ [], (server.sets, (_, _, refl), refl), record { outs = []; is = refl }), tt),
-            ),
-          ),
+          (from_client 0 get_bytes, inl (refl, refl), made_fed 0 0 get_bytes empty_ack _ _ _ _),
+          (made_tick get_bytes, (made_call get, (made_set _ _ _ _ _, tt))),
         ),
       ),
     ),
@@ -70,21 +56,18 @@ made = (
 
 legal : Legal turns
 legal = (
-  record { at = omega arith; word = omega arith; range = tt; later = omega arith; comes = (from_client 1000 empty_ack, inl (refl, refl), inr refl, omega arith) },
+  legal_to_server 1000 3 1000 empty_ack (inl (refl, refl)) (omega arith) (omega arith) (omega arith),
   (
-    record { at = omega arith; word = omega arith; range = tt; later = omega arith; comes = (from_server 1000 client_end separate_bytes, inl (refl, refl), inl refl, omega arith) },
+    legal_to_client 1000 2 1000 separate_bytes (inl (refl, refl)) (omega arith) (omega arith) (omega arith),
     (
       record { at = omega arith; word = omega arith; range = tt; later = omega arith; comes = tt },
       (
-        record { at = omega arith; word = omega arith; range = tt; later = omega arith; comes = (from_server 0 client_end empty_ack, inl (refl, refl), inl refl, omega arith) },
+        legal_to_client 0 1 0 empty_ack (inl (refl, refl)) (omega arith) (omega arith) (omega arith),
         (
-          record { at = omega arith; word = omega arith; range = tt; later = omega arith; comes = (from_client 0 get_bytes, inl (refl, refl), inr refl, omega arith) },
+          legal_to_server 0 0 0 get_bytes (inl (refl, refl)) (omega arith) (omega arith) (omega arith),
           (
-            record { at = omega arith; word = omega arith; range = tt; later = omega arith; comes = tt },
-            (
-              record { at = omega arith; word = omega arith; range = record { path = path; accept = tt; format = tt; body = bytes_are [] refl }; later = omega arith; comes = tt },
-              (record { at = omega arith; word = omega arith; range = (path, omega arith, bytes_are (codes "hi") refl); later = tt; comes = tt }, tt),
-            ),
+            legal_tick 0 (omega arith) (omega arith),
+            (legal_call get range (omega arith), (legal_set _ _ _ (path, omega arith, bytes_are (codes "hi") refl) tt, tt)),
           ),
         ),
       ),

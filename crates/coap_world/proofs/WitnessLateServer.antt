@@ -15,10 +15,8 @@ use Rattle.coap_ends.specs.ServerLaw.{ServerLaw, ServerRows, lower_of}
 use Rattle.coap_world.specs.Events.{client_end}
 use Rattle.coap_world.specs.LegalRuns.{plain, get_bytes, empty_ack, separate_bytes}
 use Rattle.coap_world.proofs.WitnessWords.{bytes_are}
+use Rattle.coap_world.proofs.WitnessTurns.{alone, with_out}
 use Rattle.coap_world.proofs.WitnessGetServer.{request, stored, question, reply, response, sendable, served, plain_request, stores}
-
-abbrev pub ack_out : L.Packet
-ack_out = record { to = client_end; bytes = empty_ack }
 
 abbrev pub response_out : L.Packet
 response_out = record { to = client_end; bytes = separate_bytes }
@@ -43,16 +41,16 @@ abbrev pub hears : S.Call
 hears = S.Feeds 1000 client_end empty_ack 0 (L.Acked 0) None S.Silent L.Nothing
 
 abbrev pub set : List S.Call
-set = S.NextOut None ∷ sets ∷ []
+set = alone sets
 
 abbrev pub fed : List S.Call
-fed = S.NextOut None ∷ S.NextOut (Some ack_out) ∷ waits ∷ []
+fed = with_out waits client_end empty_ack
 
 abbrev pub ticked : List S.Call
 ticked = S.NextOut None ∷ S.NextOut (Some response_out) ∷ rests ∷ serves ∷ []
 
 abbrev pub told : List S.Call
-told = S.NextOut None ∷ hears ∷ []
+told = alone hears
 
 abbrev pub calls : List S.Call
 calls = told ++ (ticked ++ (fed ++ (set ++ (S.Delays (codes "t" ∷ []) 1000 true ∷ []))))

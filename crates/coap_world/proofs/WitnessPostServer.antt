@@ -22,6 +22,7 @@ use Rattle.coap_ends.specs.ServerLaw.{ServerLaw, ServerRows, lower_of}
 use Rattle.coap_world.specs.Events.{client_end}
 use Rattle.coap_world.specs.LegalRuns.{token, plain, log, post_bytes, changed_bytes}
 use Rattle.coap_world.proofs.WitnessWords.{bytes_are}
+use Rattle.coap_world.proofs.WitnessTurns.{alone, with_out}
 use Rattle.coap_world.proofs.WitnessStore.{one, first, further}
 
 -- the request
@@ -50,9 +51,6 @@ reply = bare 68 0
 abbrev pub response : E.Response
 response = record { code = 68; options = []; payload = [] }
 
-abbrev pub response_out : L.Packet
-response_out = record { to = client_end; bytes = changed_bytes }
-
 -- the calls of each turn, the newest first
 abbrev pub sets : S.Call
 sets = S.Sets 0 log (Some plain) (codes "x") (Ok 1) before
@@ -64,13 +62,13 @@ abbrev pub replays : S.Call
 replays = S.Feeds 5 client_end post_bytes 0 L.Replayed None S.Silent L.Nothing
 
 abbrev pub set : List S.Call
-set = S.NextOut None ∷ sets ∷ []
+set = alone sets
 
 abbrev pub fed : List S.Call
-fed = S.NextOut None ∷ S.NextOut (Some response_out) ∷ serves ∷ []
+fed = with_out serves client_end changed_bytes
 
 abbrev pub fed_again : List S.Call
-fed_again = S.NextOut None ∷ S.NextOut (Some response_out) ∷ replays ∷ []
+fed_again = with_out replays client_end changed_bytes
 
 abbrev pub calls : List S.Call
 calls = fed_again ++ (fed ++ set)

@@ -1,11 +1,10 @@
 -- Events of which no run is legal: a datagram that comes too late, one that was never given out, and a stranger with an end's address.
-use Rattle.std.proofs.Common.{◌≡◌, ◌⊎◌, inl, inr, ℕ, List, [], ◌∷◌, map, ap, subst, arith}
+use Rattle.std.proofs.Common.{◌≡◌, inl, ℕ, List, [], ◌∷◌, map, ap, subst, refl, arith}
 use Rattle.coap_types.specs.Past.{Ever, all_of}
 use Rattle.coap_types.proofs.PastLemmas.{Ever_of_Once}
-use Rattle.coap_types.specs.declared.endpoint.Endpoint.{Endpoint}
 use Rattle.coap_world.specs.Events.{Event, client_end, server_end}
 use Rattle.coap_world.specs.Legal.{NotBefore, MayCome, Legal}
-use Rattle.coap_world.specs.LegalRuns.{NoneRuns, NotAfter, never_given, posing}
+use Rattle.coap_world.specs.LegalEvents.{NoneRuns, NotAfter, never_given, NoneFrom}
 use Rattle.coap_world.specs.Record.{Given, Turn, given_in, IsNumber}
 use Rattle.coap_world.proofs.Fair.{not_later}
 
@@ -50,6 +49,14 @@ never config turns made legal =
     let n = newest turns _ _ made.events_are legal in
     nothing n.past 0 n.comes.0 n.events_are n.comes.1
 
-pub posing_as : (from : Endpoint) → (from ≡ client_end) ⊎ (from ≡ server_end) → NoneRuns (posing from)
-posing_as from (inl is) config turns made legal = (newest turns _ _ made.events_are legal).comes.0 is
-posing_as from (inr is) config turns made legal = (newest turns _ _ made.events_are legal).comes.1 is
+pub not_of_client : NoneFrom client_end
+not_of_client at bytes = (
+  (λ config turns made legal. (newest turns _ _ made.events_are legal).comes.0 refl),
+  (λ config turns made legal. (newest turns _ _ made.events_are legal).comes.0 refl),
+)
+
+pub not_of_server : NoneFrom server_end
+not_of_server at bytes = (
+  (λ config turns made legal. (newest turns _ _ made.events_are legal).comes.1 refl),
+  (λ config turns made legal. (newest turns _ _ made.events_are legal).comes.1 refl),
+)

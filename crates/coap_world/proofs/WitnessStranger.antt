@@ -7,44 +7,36 @@ use Rattle.coap_resource.specs.Content.{nothing}
 use Rattle.coap_ends.specs.ServerFollows.{Serving}
 use Rattle.coap_world.specs.Agrees.{AppliesFor}
 use Rattle.coap_world.specs.Events.{Calls, TickClient, StrangerToServer, localhost}
-use Rattle.coap_world.specs.Legal.{Legal}
-use Rattle.coap_world.specs.LegalRuns.{config, event, stranger, delete, delete_bytes, Interferes}
+use Rattle.coap_world.specs.Legal.{IsRequest, Legal}
+use Rattle.coap_world.specs.LegalRuns.{config, event, stranger, delete, delete_bytes, deleted_bytes, Interferes}
 use Rattle.coap_world.specs.Record.{Entry, OfClient, OfServer, Turn, Makes, entries_of}
 use Rattle.coap_world.proofs.WitnessWords.{bytes_are, clients_none}
-use Rattle.coap_world.proofs.WitnessGet.{turn, path}
+use Rattle.coap_world.proofs.WitnessTurns.{a_turn, called, ticked, made_call, made_tick, legal_call, legal_tick}
+use Rattle.coap_world.proofs.WitnessGet.{path}
 use Rattle.coap_world.proofs.WitnessPing.{elsewhere}
 use Rattle.coap_world.proofs.WitnessStrangerClient as client
 use Rattle.coap_world.proofs.WitnessStrangerServer as server
 
+range : IsRequest delete
+range = record { path = path; accept = tt; format = tt; body = bytes_are [] refl }
+
 abbrev turns : List Turn
 turns =
-    turn (event 0 (StrangerToServer stranger (delete_bytes 1))) (map OfServer server.calls) ∷
-    turn (event 0 TickClient) (map OfClient client.ticked) ∷
-    turn (event 0 (Calls delete)) (map OfClient client.called) ∷
+    a_turn (event 0 (StrangerToServer stranger (delete_bytes 1))) (map OfServer server.calls) ∷
+    a_turn (event 0 TickClient) (map OfClient (ticked (delete_bytes 0))) ∷
+    a_turn (event 0 (Calls delete)) (map OfClient (called delete)) ∷
     []
 
 made : Always (λ past t. Makes past t.event.at t.event.word t.event.what t.refused t.entries) turns
 made = (
-  (server.serves ∷ [], (server.serves, (_, _, _, _, refl), refl), record { outs = server.response_out ∷ []; is = refl }),
-  (
-    (client.rests ∷ client.asks ∷ [], ((_, _, _, _, refl), ((_, _, _, _, refl), tt)), record { outs = client.request_out ∷ []; reports = []; is = refl }),
-    ((_ ∷ [], (_, (_, refl), refl), record { outs = []; reports = []; is = refl }), tt),
-  ),
+  (server.serves ∷ [], (server.serves, (_, _, _, _, refl), refl), record { outs = record { to = stranger; bytes = deleted_bytes } ∷ []; is = refl }),
+  (made_tick (delete_bytes 0), (made_call delete, tt)),
 )
 
 legal : Legal turns
 legal = (
-  record {
-    at = omega arith;
-    word = omega arith;
-    range = (record { four = refl; bytes = bytes_are localhost refl; port = omega arith }, bytes_are (delete_bytes 1) refl);
-    later = omega arith;
-    comes = elsewhere;
-  },
-  (
-    record { at = omega arith; word = omega arith; range = tt; later = omega arith; comes = tt },
-    (record { at = omega arith; word = omega arith; range = record { path = path; accept = tt; format = tt; body = bytes_are [] refl }; later = tt; comes = tt }, tt),
-  ),
+  record { at = omega arith; word = omega arith; range = (record { four = refl; bytes = bytes_are localhost refl; port = omega arith }, bytes_are (delete_bytes 1) refl); later = omega arith; comes = elsewhere },
+  (legal_tick 0 (omega arith) (omega arith), (legal_call delete range tt, tt)),
 )
 
 abbrev served : Serving
@@ -80,5 +72,5 @@ interfered = record {
     gives = refl;
   };
   applies = inr (inr (inl (served, refl, refl)));
-  for_none = server_none _ (clients_none config 0 all client.ticked _ (clients_none config 0 all client.called [] (λ h. h)));
+  for_none = server_none _ (clients_none config 0 all (ticked (delete_bytes 0)) _ (clients_none config 0 all (called delete) [] (λ h. h)));
 }

@@ -20,6 +20,7 @@ use Rattle.coap_ends.specs.ServerTrace as S
 use Rattle.coap_ends.specs.ServerLaw.{ServerLaw, ServerRows, lower_of}
 use Rattle.coap_world.specs.LegalRuns.{stranger, token, delete_bytes, deleted_bytes}
 use Rattle.coap_world.proofs.WitnessWords.{bytes_are}
+use Rattle.coap_world.proofs.WitnessTurns.{with_out}
 
 -- the request, of a path that holds nothing
 abbrev pub request : Message
@@ -37,15 +38,12 @@ left = unchanged (nothing 4194303) 0
 abbrev pub response : E.Response
 response = record { code = 66; options = []; payload = [] }
 
-abbrev pub response_out : L.Packet
-response_out = record { to = stranger; bytes = deleted_bytes }
-
 -- the calls, the newest first
 abbrev pub serves : S.Call
 serves = S.Feeds 0 stranger (delete_bytes 1) 0 (L.Request request true) (Some (asked_of stranger request, request)) (S.Serves question reply response left) L.Nothing
 
 abbrev pub calls : List S.Call
-calls = S.NextOut None ∷ S.NextOut (Some response_out) ∷ serves ∷ []
+calls = with_out serves stranger deleted_bytes
 
 rows : ServerRows 4194303 6 calls
 unfolding option_bytes options_bytes

@@ -1,83 +1,69 @@
 -- A legal run in which a POST is applied after its Timeout was reported (RFC 7252, section 4.2).
-use Rattle.std.proofs.Common.{◌≡◌, inl, inr, Some, List, [], ◌∷◌, ◌++◌, map, refl, arith}
+use Rattle.std.proofs.Common.{◌≡◌, ◌++◌, inl, inr, Some, List, [], ◌∷◌, map, refl, arith}
 use Rattle.std.specs.Prelude.{codes}
 use Rattle.coap_types.specs.Past.{Once, Always}
 use Rattle.coap_types.proofs.PastLemmas.{Once_back}
+use Rattle.coap_exchange.specs.AnswererSteps.{asked_of}
 use Rattle.coap_ends.specs.ClientFollows.{sends}
 use Rattle.coap_ends.specs.ClientLaw.{own_of}
 use Rattle.coap_ends.specs.ClientTrace as C
 use Rattle.coap_ends.specs.ServerFollows.{Serving}
-use Rattle.coap_exchange.specs.AnswererSteps.{asked_of}
 use Rattle.coap_world.specs.Agrees.{AppliesFor}
 use Rattle.coap_world.specs.Events.{Calls, Sets, TickClient, Deliver, client_end}
 use Rattle.coap_world.specs.Legal.{Legal}
-use Rattle.coap_world.specs.LegalRuns.{config, event, from_client, plain, log, timed_out, post, post_bytes, token, TimesOut}
+use Rattle.coap_world.specs.LegalRuns.{config, event, from_client, plain, log, token, post, post_bytes, changed_bytes, timed_out, TimesOut}
 use Rattle.coap_world.specs.Record.{Entry, OfClient, OfServer, Turn, Makes, entries_of}
 use Rattle.coap_world.proofs.WitnessWords.{bytes_are}
-use Rattle.coap_world.proofs.WitnessGet.{turn}
-use Rattle.coap_world.proofs.WitnessPost.{path}
-use Rattle.coap_world.proofs.WitnessPostClient as post_client
+use Rattle.coap_world.proofs.WitnessTurns.{a_turn, called, ticked, rests, to_server, made_call, made_tick, made_set, made_fed, legal_call, legal_set, legal_tick, legal_to_server}
+use Rattle.coap_world.proofs.WitnessAsking as asking
+use Rattle.coap_world.proofs.WitnessPost.{path, range}
 use Rattle.coap_world.proofs.WitnessPostServer as post_server
 use Rattle.coap_world.proofs.WitnessTimeoutClient as client
 use Rattle.coap_world.proofs.WitnessTimeoutServer as server
 
 abbrev turns : List Turn
 turns =
-    turn (event 130000 (Deliver 4)) (map OfServer server.fed) ∷
-    turn (event 62000 TickClient) (map OfClient client.ended) ∷
-    turn (event 30000 TickClient) (map OfClient (client.again 30000)) ∷
-    turn (event 14000 TickClient) (map OfClient (client.again 14000)) ∷
-    turn (event 6000 TickClient) (map OfClient (client.again 6000)) ∷
-    turn (event 2000 TickClient) (map OfClient (client.again 2000)) ∷
-    turn (event 0 TickClient) (map OfClient post_client.ticked) ∷
-    turn (event 0 (Calls post)) (map OfClient post_client.called) ∷
-    turn (event 0 (Sets log (Some plain) (codes "x"))) (map OfServer post_server.set) ∷
+    a_turn (event 130000 (Deliver 4)) (map OfServer server.fed) ∷
+    a_turn (event 62000 TickClient) (map OfClient client.ended) ∷
+    a_turn (event 30000 TickClient) (map OfClient (client.again 30000)) ∷
+    a_turn (event 14000 TickClient) (map OfClient (client.again 14000)) ∷
+    a_turn (event 6000 TickClient) (map OfClient (client.again 6000)) ∷
+    a_turn (event 2000 TickClient) (map OfClient (client.again 2000)) ∷
+    a_turn (event 0 TickClient) (map OfClient (ticked post_bytes)) ∷
+    a_turn (event 0 (Calls post)) (map OfClient (called post)) ∷
+    a_turn (event 0 (Sets log (Some plain) (codes "x"))) (map OfServer post_server.set) ∷
     []
 
 made : Always (λ past t. Makes past t.event.at t.event.word t.event.what t.refused t.entries) turns
 made = (
+  (from_client 30000 post_bytes, inl (refl, refl), made_fed 130000 30000 post_bytes changed_bytes _ _ _ _),
   (
-    from_client 30000 post_bytes,
-    inl (refl, refl),
-    inl (refl, server.serves ∷ [], (server.serves, (_, _, _, _, refl), refl), record { outs = post_server.response_out ∷ []; is = refl }),
-  ),
-  (
-    (client.rests 62000 ∷ client.ends ∷ [], ((_, _, _, _, refl), ((_, _, _, _, refl), tt)), record { outs = []; reports = timed_out ∷ []; is = refl }),
+    (rests 62000 ∷ client.ends ∷ [], ((_, _, _, _, refl), ((_, _, _, _, refl), tt)), record { outs = []; reports = timed_out ∷ []; is = refl }),
     (
       (
-        client.rests 30000 ∷ client.copies 30000 ∷ [],
+        rests 30000 ∷ client.copies 30000 ∷ [],
         ((_, _, _, _, refl), ((_, _, _, _, refl), tt)),
-        record { outs = post_client.request_out ∷ []; reports = []; is = refl },
+        record { outs = to_server post_bytes ∷ []; reports = []; is = refl },
       ),
       (
         (
-          client.rests 14000 ∷ client.copies 14000 ∷ [],
+          rests 14000 ∷ client.copies 14000 ∷ [],
           ((_, _, _, _, refl), ((_, _, _, _, refl), tt)),
-          record { outs = post_client.request_out ∷ []; reports = []; is = refl },
+          record { outs = to_server post_bytes ∷ []; reports = []; is = refl },
         ),
         (
           (
-            client.rests 6000 ∷ client.copies 6000 ∷ [],
+            rests 6000 ∷ client.copies 6000 ∷ [],
             ((_, _, _, _, refl), ((_, _, _, _, refl), tt)),
-            record { outs = post_client.request_out ∷ []; reports = []; is = refl },
+            record { outs = to_server post_bytes ∷ []; reports = []; is = refl },
           ),
           (
             (
-              client.rests 2000 ∷ client.copies 2000 ∷ [],
+              rests 2000 ∷ client.copies 2000 ∷ [],
               ((_, _, _, _, refl), ((_, _, _, _, refl), tt)),
-              record { outs = post_client.request_out ∷ []; reports = []; is = refl },
+              record { outs = to_server post_bytes ∷ []; reports = []; is = refl },
             ),
-            (
-              (
-                post_client.rests ∷ post_client.asks ∷ [],
-                ((_, _, _, _, refl), ((_, _, _, _, refl), tt)),
-                record { outs = post_client.request_out ∷ []; reports = []; is = refl },
-              ),
-              (
-                (_ ∷ [], (_, (_, refl), refl), record { outs = []; reports = []; is = refl }),
-                (((post_server.sets ∷ [], (post_server.sets, (_, _, refl), refl), record { outs = []; is = refl })), tt),
-              ),
-            ),
+            (made_tick post_bytes, (made_call post, (made_set _ _ _ _ _, tt))),
           ),
         ),
       ),
@@ -87,23 +73,20 @@ made = (
 
 legal : Legal turns
 legal = (
-  record { at = omega arith; word = omega arith; range = tt; later = omega arith; comes = (from_client 30000 post_bytes, inl (refl, refl), inr refl, omega arith) },
+  legal_to_server 130000 4 30000 post_bytes (inl (refl, refl)) (omega arith) (omega arith) (omega arith),
   (
-    record { at = omega arith; word = omega arith; range = tt; later = omega arith; comes = tt },
+    legal_tick 62000 (omega arith) (omega arith),
     (
-      record { at = omega arith; word = omega arith; range = tt; later = omega arith; comes = tt },
+      legal_tick 30000 (omega arith) (omega arith),
       (
-        record { at = omega arith; word = omega arith; range = tt; later = omega arith; comes = tt },
+        legal_tick 14000 (omega arith) (omega arith),
         (
-          record { at = omega arith; word = omega arith; range = tt; later = omega arith; comes = tt },
+          legal_tick 6000 (omega arith) (omega arith),
           (
-            record { at = omega arith; word = omega arith; range = tt; later = omega arith; comes = tt },
+            legal_tick 2000 (omega arith) (omega arith),
             (
-              record { at = omega arith; word = omega arith; range = tt; later = omega arith; comes = tt },
-              (
-                record { at = omega arith; word = omega arith; range = record { path = path; accept = tt; format = tt; body = bytes_are (codes "a") refl }; later = omega arith; comes = tt },
-                (record { at = omega arith; word = omega arith; range = (path, omega arith, bytes_are (codes "x") refl); later = tt; comes = tt }, tt),
-              ),
+              legal_tick 0 (omega arith) (omega arith),
+              (legal_call post range (omega arith), (legal_set _ _ _ (path, omega arith, bytes_are (codes "x") refl) tt, tt)),
             ),
           ),
         ),
@@ -123,7 +106,7 @@ abbrev SendsIt : List C.Call → C.Call → Type 0
 SendsIt past c = sends (own_of past) c ≡ Some (record { operation = record { number = 0; request = post }; token = token })
 
 sent : Once SendsIt client.calls
-sent = Once_back SendsIt client.later post_client.before (inr (inr (inr (inr (inl refl)))))
+sent = Once_back SendsIt client.later (asking.before post post_bytes) (inr (inr (inr (inr (inl refl)))))
 
 applied : AppliesFor config 0 (entries_of turns) before (OfServer server.serves)
 applied = record { request = served; here = refl; applied = refl; from = refl; belongs = (post, sent) }

@@ -1,5 +1,5 @@
 -- The server of a legal run: it applies a POST that comes 130,000 ms after it was sent first (RFC 7252, section 5.8.2).
-use Rattle.std.proofs.Common.{true, Some, None, List, [], ◌∷◌, ◌++◌, refl}
+use Rattle.std.proofs.Common.{true, Some, None, List, [], ◌++◌, refl}
 use Rattle.coap_codec.specs.Reading.{extended, value_at, nibbles_at, option_at, walk_of, walk, payload_at, frame_fault, body_at, message_at}
 use Rattle.coap_codec.specs.Writing.{option_bytes, options_bytes}
 use Rattle.coap_layer.specs.State.{start}
@@ -12,9 +12,10 @@ use Rattle.coap_exchange.specs.AnswererSteps.{asked_of}
 use Rattle.coap_ends.specs.ServerTrace as S
 use Rattle.coap_ends.specs.ServerLaw.{ServerLaw, ServerRows, lower_of}
 use Rattle.coap_world.specs.Events.{client_end}
-use Rattle.coap_world.specs.LegalRuns.{log, post_bytes}
+use Rattle.coap_world.specs.LegalRuns.{log, post_bytes, changed_bytes}
 use Rattle.coap_world.proofs.WitnessWords.{bytes_are}
-use Rattle.coap_world.proofs.WitnessPostServer.{request, old, new, before, question, reply, response, response_out, set, sendable}
+use Rattle.coap_world.proofs.WitnessTurns.{with_out}
+use Rattle.coap_world.proofs.WitnessPostServer.{request, old, new, before, question, reply, response, set, sendable}
 use Rattle.coap_world.proofs.WitnessStore.{one, first, further}
 
 abbrev pub after : Content
@@ -25,7 +26,7 @@ abbrev pub serves : S.Call
 serves = S.Feeds 130000 client_end post_bytes 0 (L.Request request true) (Some (asked_of client_end request, request)) (S.Serves question reply response after) L.Nothing
 
 abbrev pub fed : List S.Call
-fed = S.NextOut None ∷ S.NextOut (Some response_out) ∷ serves ∷ []
+fed = with_out serves client_end changed_bytes
 
 abbrev pub calls : List S.Call
 calls = fed ++ set

@@ -1,5 +1,5 @@
 -- Legal runs of a few events (RFC 7252, sections 4.2, 4.5, 5.2 and 5.8): the laws of the world are laws of something.
-use Rattle.std.specs.Prelude.{◌≡◌, ◌≤◌, ◌<◌, ℕ, true, Option, Some, None, List, [], ◌∷◌, ◌++◌, codes}
+use Rattle.std.specs.Prelude.{◌≡◌, ℕ, true, Option, Some, None, List, [], ◌∷◌, ◌++◌, codes}
 use Rattle.coap_types.specs.Past.{Once, all_of}
 use Rattle.coap_types.specs.declared.endpoint.Endpoint.{Endpoint}
 use Rattle.coap_types.specs.declared.request.Method.TheVariants.{Get, Post, Delete}
@@ -35,10 +35,6 @@ pub record Runs (config : Config) (events : List Event) (given : List Given) : T
   pub made : RecordOf config events turns
   pub legal : Legal turns
   pub gives : all_of given_in turns ≡ given
-
--- None is.
-abbrev pub NoneRuns : List Event → Type 0
-NoneRuns events = (config : Config) (turns : List Turn) → RecordOf config events turns → Legal turns → ⊥
 
 -- 8 bytes, all 0: the first token of a client of word 0
 abbrev pub token : List ℕ
@@ -228,22 +224,3 @@ pub record Interferes : Type 0 where
   pub run : Runs config interferes (from_server 0 stranger deleted_bytes ∷ from_client 0 (delete_bytes 0) ∷ [])
   pub applies : Once (λ past e. (x : Serving) × ServesAt config x past e × (is_applied x.reply.code ≡ true)) (entries_of run.turns)
   pub for_none : Once (AppliesFor config 0 (entries_of run.turns)) (entries_of run.turns) → ⊥
-
--- a datagram that was given out at 0 comes
-
-abbrev pub comes_at : ℕ → List Event
-comes_at at = event at (Deliver 0) ∷ event 0 TickClient ∷ event 0 (Calls post) ∷ []
-
-abbrev pub MayComeTill : ℕ → Type 0
-MayComeTill last = (at : ℕ) → at ≤ last → Runs config (comes_at at) (from_server at client_end not_found_bytes ∷ from_client 0 post_bytes ∷ [])
-
-abbrev pub NotAfter : ℕ → Type 0
-NotAfter last = (at : ℕ) → last < at → NoneRuns (comes_at at)
-
--- a datagram comes that was never given out; and one from an end's address, by a stranger
-
-abbrev pub never_given : List Event
-never_given = event 0 (Deliver 0) ∷ []
-
-abbrev pub posing : Endpoint → List Event
-posing end = event 0 (StrangerToServer end ping) ∷ []

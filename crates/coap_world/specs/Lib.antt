@@ -6,3 +6,4 @@ pub mod Agrees
 pub mod Hops
 pub mod CameFrom
 pub mod LegalRuns
+pub mod LegalEvents

@@ -1,5 +1,4 @@
-ghost use Rattle.std.specs.Prelude.{◌≡◌, ◌⊎◌, List};
-ghost use Rattle.coap_types.specs.declared.endpoint.Endpoint.{Endpoint};
+ghost use Rattle.std.specs.Prelude.{◌≡◌, List};
 ghost use Rattle.coap_layer.specs.Channel.{ChannelLaw, near_of, far_of};
 ghost use Rattle.coap_ends.specs.ClientLaw as clients;
 ghost use Rattle.coap_ends.specs.ServerLaw as servers;
@@ -9,7 +8,8 @@ ghost use Rattle.coap_world.specs.Delivery.{AllFair};
 ghost use Rattle.coap_world.specs.Events.{client_end, server_end, Config, Event};
 ghost use Rattle.coap_world.specs.Hops.{hops_of, across, TakenAtOnce};
 ghost use Rattle.coap_world.specs.Legal.{Legal};
-ghost use Rattle.coap_world.specs.LegalRuns.{NoneRuns, Pings, Gets, GetsLate, Posts, Fails, TimesOut, Interferes, MayComeTill, NotAfter, never_given, posing};
+ghost use Rattle.coap_world.specs.LegalEvents.{NoneRuns, MayComeTill, NotAfter, never_given, NoneFrom};
+ghost use Rattle.coap_world.specs.LegalRuns.{Pings, Gets, GetsLate, Posts, Fails, TimesOut, Interferes};
 ghost use Rattle.coap_world.specs.Record.{Turn, RecordOf, entries_of, client_of, server_trace};
 
 /// What comes from an end's address was given out by that end, for the one that it comes to, at most 100,000 ms before.
@@ -71,7 +71,8 @@ pub fn legal_law()
     ensures late { NotAfter 100000 }
     // One that was never given out can't come, and a stranger has no end's address.
     ensures given { NoneRuns never_given }
-    ensures apart { (from : Endpoint) → (from ≡ client_end) ⊎ (from ≡ server_end) → NoneRuns (posing from) }
+    ensures of_client { NoneFrom client_end }
+    ensures of_server { NoneFrom server_end }
 {}
 
 /// What a client and a server come to together, however the datagrams between them are lost, repeated and delayed.
