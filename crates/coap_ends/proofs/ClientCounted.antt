@@ -15,7 +15,7 @@ module _ (szx : ℕ) where
   is_next : (t : List Call) (c : Call) → ClientRows szx (c ∷ t) → (op : Operation) → takes c ≡ Some op → IsNext t c op
   is_next t (Calls now r (Taken n)) law op h =
       let same : ◌≡◌ {A = Operation} (record { number = n; request = r }) op = cc h in
-      let n_is = taking_number (own_of t) r n law.0.0 in
+      let n_is = taking_number szx (own_of t) r n law.0 in
       let e : n ≡ op.number = ap (λ (o : Operation). o.number) same in
       record { number = omega (arith, e, n_is); more = refl }
   is_next t (Calls now r QueueFull) law op h = absurd (cc h)

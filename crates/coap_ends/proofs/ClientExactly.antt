@@ -115,7 +115,7 @@ module _ (server : Endpoint) (szx word : ℕ) (past : List Call) where
 
   pub is_exact : IsExact server szx word past
   is_exact = record {
-    calls = λ now r answer another p q. p.rows.0.0 ∙ sym q.rows.0.0;
+    calls = λ now r answer another p q. p.rows.0 ∙ sym q.rows.0;
     feeds = fed;
     ticks = ticked;
     next_out = λ answer another p q. (exact server word calls).take answer another p.exchanges q.exchanges;

@@ -22,8 +22,8 @@ use Rattle.coap_exchange.specs.AskerLaw as E
 use Rattle.coap_exchange.specs.AskerLaw.{ExchangeLaw}
 use Rattle.coap_exchange.proofs.AskerLeading.{steps_join}
 use Rattle.coap_ends.specs.ClientTrace.{Request, Operation, Own, Taking, Taken, QueueFull, BodyTooLarge, BadPath, CallsSpent, Call, Calls, Feeds, Ticks, NextOut, NextReport}
-use Rattle.coap_ends.specs.ClientRequests.{FitsOneMessage, message_of, longest, max_options, max_waiting, max_body, max_calls, taking}
-use Rattle.coap_ends.specs.ClientSteps.{IsTaken, queued, asking, starting, starting_if, is_idle, waiting_after, IsRight}
+use Rattle.coap_ends.specs.ClientRequests.{is_too_large, message_of, longest, max_options, max_waiting, max_calls, taking}
+use Rattle.coap_ends.specs.ClientSteps.{queued, asking, starting, starting_if, is_idle, waiting_after, IsRight}
 use Rattle.coap_ends.specs.ClientLaw.{ClientLaw, ClientRows, own_of, lower_of}
 use Rattle.coap_ends.specs.ClientGoesOn.{GoesOn}
 use Rattle.coap_ends.proofs.ClientReplies.{what_replies}
@@ -57,9 +57,9 @@ can_after None ops h = h
 can_after (Some op) [] h = h
 can_after (Some op) (x ∷ ops) h = h.1
 
-can_taken : (s : Own) (r : Request) (answer : Taking) → answer ≡ taking s r → AllCan (queued answer r)
-can_taken s r answer is =
-    by (nat_le max_waiting (length s.waiting)) (nat_lt max_body (length r.body)) (nat_lt max_options (length (options_bytes 0 (longest r)))) (s.taken == max_calls) refl is
+can_taken : (szx : ℕ) (s : Own) (r : Request) (answer : Taking) → answer ≡ taking szx s r → AllCan (queued answer r)
+can_taken szx s r answer is =
+    by (nat_le max_waiting (length s.waiting)) (is_too_large szx r) (nat_lt max_options (length (options_bytes 0 (longest r)))) (s.taken == max_calls) refl is
   where
     by : (a b c d : Bool) → nat_lt max_options (length (options_bytes 0 (longest r))) ≡ c → answer ≡ cond a QueueFull (cond b BodyTooLarge (cond c BadPath (cond d CallsSpent (Taken s.taken)))) → AllCan (queued answer r)
     by true b c d few e = subst (λ x. AllCan (queued x r)) (sym e) tt
@@ -73,7 +73,7 @@ waiting_can szx [] rows = tt
 waiting_can szx (c ∷ t) rows = by c rows.0 (waiting_can szx t rows.1)
   where
     by : (c : Call) → IsRight szx (own_of t) c → AllCan (own_of t).waiting → AllCan (own_of (c ∷ t)).waiting
-    by (Calls now r answer) right h = can_more (own_of t).waiting (queued answer r) h (can_taken (own_of t) r answer right.0)
+    by (Calls now r answer) right h = can_more (own_of t).waiting (queued answer r) h (can_taken szx (own_of t) r answer right)
     by (Feeds now from bytes w up settled event) right h = h
     by (Ticks now w below d sent token answer) right h = can_after (starting (own_of t) d) (own_of t).waiting h
     by (NextOut answer) right h = h
@@ -172,18 +172,11 @@ module _ (server : Endpoint) (szx word : ℕ) (t : List Call) (law : ClientLaw s
           let a = asks server word (A.Ticks at k.0 k.1 ∷ under) k.2 at w (message_of op.request) (can _ (omega arith)) in
           (k.0, k.1, a.0, a.1, _, record { rows = (refl, law.rows); exchanges = subst (λ o. ExchangeLaw server word ((asking at o w a.0 a.1 ++ A.Ticks at k.0 k.1 ∷ []) ++ under)) (sym is) a.2 })
 
-  taken_fits : (r : Request) (answer : Taking) → FitsOneMessage szx r → IsTaken szx answer r
-  taken_fits r (Taken number) fits = fits
-  taken_fits r QueueFull fits = tt
-  taken_fits r BodyTooLarge fits = tt
-  taken_fits r BadPath fits = tt
-  taken_fits r CallsSpent fits = tt
-
   pub goes_on : GoesOn server szx word t
   goes_on = record {
-    calls = λ now r fits. (taking mine r, record { rows = ((refl, taken_fits r (taking mine r) fits), law.rows); exchanges = law.exchanges });
+    calls = λ now r. (taking szx mine r, record { rows = (refl, law.rows); exchanges = law.exchanges });
     feeds = λ now from bytes w are.
-        let k = receives server word under law.exchanges (max mine.clock now) from bytes are in (k.0, k.1, k.2, λ whole. record { rows = (whole, law.rows); exchanges = k.3 });
+        let k = receives server word under law.exchanges (max mine.clock now) from bytes are in (k.0, k.1, k.2, record { rows = (tt, law.rows); exchanges = k.3 });
     ticks = ticks_on;
     next_out = let k = takes server word under law.exchanges in (k.0, record { rows = (tt, law.rows); exchanges = k.1 });
     next_report = (slice_get mine.reports 0, record { rows = (refl, law.rows); exchanges = law.exchanges });

@@ -53,7 +53,7 @@ run =
 
 rows : ClientRows 6 run
 unfolding option_bytes options_bytes
-rows = (refl, (refl, (tt, (refl, ((refl, omega arith), tt)))))
+rows = (refl, (tt, (tt, (refl, (refl, tt)))))
 
 abbrev exchanges : List E.Call
 exchanges = lower_of run

@@ -46,7 +46,7 @@ rows = (
       },
       refl,
     ),
-    (tt, ((record { no_block = refl; no_observe = refl }, refl), (refl, ((refl, changes), tt)))),
+    (tt, (refl, (refl, ((refl, changes), tt)))),
   ),
 )
 

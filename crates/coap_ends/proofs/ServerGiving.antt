@@ -79,7 +79,7 @@ module _ (limit szx word : ℕ) (p : L.Packet) where
     fed : (now : ℕ) (from : Endpoint) (bytes : List ℕ) (w : ℕ) (up : L.Answer) (came : Option (Asked × Message)) (h : Handling) (below : L.Answer) → ServerLaw limit szx word (Feeds now from bytes w up came h below ∷ t)
         → Ever (CarriesIn p) (lower (own t) (Feeds now from bytes w up came h below)) → CarriesResponse limit szx word p t (Feeds now from bytes w up came h below)
     fed now from bytes w up (Some a) (Refuses r) below law (inl k) =
-        let v = refuses (own t) (max (own t).clock now) a.0.kind (verdict_on szx a.1) r law.rows.0.1 in
+        let v = refuses (own t) (max (own t).clock now) a.0.kind (verdict_on szx a.1) r law.rows.0 in
         inr (record {
           asked = a.0;
           code = v.0;
@@ -88,7 +88,7 @@ module _ (limit szx word : ℕ) (p : L.Packet) where
           carries = subst (Carries p a.0) v.2 k;
         })
     fed now from bytes w up (Some a) (Serves q reply r left) below law (inl k) =
-        let v = serves (own t) (max (own t).clock now) a.0.kind (verdict_on szx a.1) q reply r left law.rows.0.1 in
+        let v = serves (own t) (max (own t).clock now) a.0.kind (verdict_on szx a.1) q reply r left law.rows.0 in
         inl (record { request = record { asked = a.0; question = q; reply = reply; old = (own t).store; left = left }; here = refl; options = v.options; says = v.says; carries = subst (Carries p a.0) v.is k })
     fed now from bytes w up (Some a) (Refuses r) below law (inr k) = elim k [ inl x ↦ absurd x | inr x ↦ absurd x ]
     fed now from bytes w up (Some a) (Serves q reply r left) below law (inr k) = elim k [ inl x ↦ absurd x | inr x ↦ absurd x ]

@@ -136,7 +136,7 @@ module _ (szx : ℕ) where
   hands_here : (s : Own) (t : List Call) (now : ℕ) (from : Endpoint) (bytes : List ℕ) (word : ℕ) (up : L.Answer) (p : Asked × Message) (h : Handling) (below : L.Answer) (q : Question)
       → IsRight szx s (Feeds now from bytes word up (Some p) h below) → question_in h ≡ Some q → Ever (Hands szx p.0 (Asks q)) (Feeds now from bytes word up (Some p) h below ∷ t)
   hands_here s t now from bytes word up p h below q right is =
-      inl (record { now = now; from = from; bytes = bytes; word = word; up = up; message = p.1; handling = h; below = below; is = refl; verdict = asks_of s (max s.clock now) p.0.kind (verdict_on szx p.1) h q right.1 is })
+      inl (record { now = now; from = from; bytes = bytes; word = word; up = up; message = p.1; handling = h; below = below; is = refl; verdict = asks_of s (max s.clock now) p.0.kind (verdict_on szx p.1) h q right is })
 
   module _ (limit : ℕ) where
     abbrev own : List Call → Own

@@ -34,7 +34,7 @@ handles_alike s at kind (Asks q) h k a b x y = asks_alike (waits_by kind (delay_
 
 pub came_alike : (szx : ℕ) (s : Own) (at : ℕ) (came : Option (Asked × Message)) (h k : Handling) → HandlesCame szx s at came h → HandlesCame szx s at came k → InBytes h → InBytes k → h ≡ k
 came_alike szx s at None h k a b x y = a ∙ sym b
-came_alike szx s at (Some p) h k a b x y = handles_alike s at p.0.kind (verdict_on szx p.1) h k a.1 b.1 x y
+came_alike szx s at (Some p) h k a b x y = handles_alike s at p.0.kind (verdict_on szx p.1) h k a b x y
 
 waited_alike : (o : Option Question) (old : Content) (at : ℕ) (h k : Handling) → AnswersWaiting o old at h → AnswersWaiting o old at k → InBytes h → InBytes k → h ≡ k
 waited_alike None old at h k a b x y = a ∙ sym b

@@ -100,17 +100,14 @@ rows : ServerRows 16 6 run
 rows = (
   tt,
   (
-    (
-      record { no_block = refl; no_observe = refl },
-      record {
-        reply = reply;
-        options = options;
-        left = store;
-        serves = (refl, refl);
-        says = record { format = Some []; block2 = None; format_is = record { spelt = refl; no_zero = tt }; block2_is = tt; list = refl };
-        is = refl;
-      },
-    ),
+    record {
+      reply = reply;
+      options = options;
+      left = store;
+      serves = (refl, refl);
+      says = record { format = Some []; block2 = None; format_is = record { spelt = refl; no_zero = tt }; block2_is = tt; list = refl };
+      is = refl;
+    },
     ((refl, changes), tt),
   ),
 )

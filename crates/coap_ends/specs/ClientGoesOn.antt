@@ -7,16 +7,13 @@ use Rattle.coap_exchange.specs.declared.asker.AskRefusal.{AskRefusal}
 use Rattle.coap_exchange.specs.declared.asker.Event.{Event}
 use Rattle.coap_exchange.specs.declared.asker.Turn.{Turn}
 use Rattle.coap_ends.specs.ClientTrace.{Request, Reported, Taking, Call, Calls, Feeds, Ticks, NextOut, NextReport}
-use Rattle.coap_ends.specs.ClientRequests.{FitsOneMessage}
-use Rattle.coap_ends.specs.ClientReports.{ComesWhole}
 use Rattle.coap_ends.specs.ClientLaw.{ClientLaw}
 
--- (Of a body that goes by blocks, either way, the law does not speak.)
 pub record GoesOn (server : Endpoint) (szx word : ℕ) (t : List Call) : Type 0 where
-  pub calls : (now : ℕ) (r : Request) → FitsOneMessage szx r → (answer : Taking) × ClientLaw server szx word (Calls now r answer ∷ t)
+  pub calls : (now : ℕ) (r : Request) → (answer : Taking) × ClientLaw server szx word (Calls now r answer ∷ t)
   pub feeds :
       (now : ℕ) (from : Endpoint) (bytes : List ℕ) (w : ℕ) → AreBytes bytes
-      → (up : L.Answer) × (settled : Bool) × (event : Option Event) × (ComesWhole event → ClientLaw server szx word (Feeds now from bytes w up settled event ∷ t))
+      → (up : L.Answer) × (settled : Bool) × (event : Option Event) × ClientLaw server szx word (Feeds now from bytes w up settled event ∷ t)
   pub ticks :
       (now w : ℕ)
       → (below : L.Answer) × (turn : Turn) × (sent : L.Answer) × (token : Result (List ℕ) AskRefusal) × (answer : Bool) × ClientLaw server szx word (Ticks now w below turn sent token answer ∷ t)

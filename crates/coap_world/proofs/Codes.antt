@@ -19,7 +19,7 @@ use Rattle.coap_resource.specs.declared.refusal.StoreRefusal.TheVariants as why
 use Rattle.coap_ends.specs.ClientReports.{report_of, is_success, created, deleted, changed, content, etag, said}
 use Rattle.coap_ends.specs.ClientRequests.{block1, block2, max_body}
 use Rattle.coap_ends.specs.ClientTrace.{Body, Done, Failed, TooLarge}
-use Rattle.coap_ends.specs.ServerChecks.{Verdict, Refused, Asks, verdict_on, bad_by, bad_request, proxying_not_supported, asked_by, method_by, question, proxy_uri, proxy_scheme, path_of, asks, max_segments, is_reserved, carries_body}
+use Rattle.coap_ends.specs.ServerChecks.{Verdict, Refused, Asks, verdict_on, bad_by, bad_request, proxying_not_supported, asked_by, method_by, question, proxy_uri, proxy_scheme, path_of, asks, max_segments, is_reserved}
 use Rattle.coap_ends.specs.ServerFollows.{is_applied}
 
 -- what is reported
@@ -42,7 +42,7 @@ not_done code n false b tag format body h = cc h
 
 -- success: the request is applied
 pub done_is : (method : Method) (m : Message) (code : ℕ) → report_of method m ≡ Done code → is_applied m.code ≡ true
-done_is Get m code h = absurd (not_done code m.code (m.code == content) (nat_lt max_body (length m.payload)) (value_of etag (said m)) (format_of (said m)) m.payload h)
+done_is Get m code h = absurd (not_done code m.code (m.code == content) (has block2 (said m) || nat_lt max_body (length m.payload)) (value_of etag (said m)) (format_of (said m)) m.payload h)
 done_is Post m code h = two_done m.code code (m.code == created) (m.code == changed) (m.code == deleted) h
 done_is Put m code h = two_done m.code code (m.code == created) (m.code == changed) (m.code == deleted) h
 done_is Delete m code h = one_done m.code code (m.code == created) (m.code == deleted) (m.code == changed) h
@@ -67,6 +67,7 @@ failed_is Delete m code h = not_failed m.code code (is_success Delete m.code) h
 -- a body: the 2.05 to a GET
 pub record IsBody (method : Method) (m : Message) (tag : Option (List ℕ)) (format : Option ℕ) (body : List ℕ) : Type 0 where
   pub code : m.code ≡ content
+  pub whole : has block2 (said m) ≡ false
   pub tag_is : value_of etag (said m) ≡ tag
   pub format_is : format_of (said m) ≡ format
   pub body_is : m.payload ≡ body
@@ -76,12 +77,16 @@ module _ (m : Message) (tag : Option (List ℕ)) (format : Option ℕ) (body : L
   no_body n true h = cc h
   no_body n false h = cc h
 
-  body_by : (b : Bool) → m.code ≡ content → cond b TooLarge (Body (value_of etag (said m)) (format_of (said m)) m.payload) ≡ Body tag format body → IsBody Get m tag format body
-  body_by true code h = absurd (cc h)
-  body_by false code h = record { code = code; tag_is = cc h; format_is = cc h; body_is = cc h }
+  neither : (a b : Bool) → (a || b) ≡ false → a ≡ false
+  neither true b h = h
+  neither false b h = refl
 
-  got_by : (b : Bool) → (m.code == content) ≡ b → cond b (cond (nat_lt max_body (length m.payload)) TooLarge (Body (value_of etag (said m)) (format_of (said m)) m.payload)) (Failed m.code) ≡ Body tag format body → IsBody Get m tag format body
-  got_by true is h = body_by (nat_lt max_body (length m.payload)) ((unsigned_Decides m.code content).0 is) h
+  body_by : (b : Bool) → (has block2 (said m) || nat_lt max_body (length m.payload)) ≡ b → m.code ≡ content → cond b TooLarge (Body (value_of etag (said m)) (format_of (said m)) m.payload) ≡ Body tag format body → IsBody Get m tag format body
+  body_by true is code h = absurd (cc h)
+  body_by false is code h = record { code = code; whole = neither (has block2 (said m)) (nat_lt max_body (length m.payload)) is; tag_is = cc h; format_is = cc h; body_is = cc h }
+
+  got_by : (b : Bool) → (m.code == content) ≡ b → cond b (cond (has block2 (said m) || nat_lt max_body (length m.payload)) TooLarge (Body (value_of etag (said m)) (format_of (said m)) m.payload)) (Failed m.code) ≡ Body tag format body → IsBody Get m tag format body
+  got_by true is h = body_by (has block2 (said m) || nat_lt max_body (length m.payload)) refl ((unsigned_Decides m.code content).0 is) h
   got_by false is h = absurd (cc h)
 
   pub body_is : (method : Method) → report_of method m ≡ Body tag format body → IsBody method m tag format body
@@ -179,18 +184,15 @@ module _ (szx : ℕ) (m : Message) (code : ℕ) where
   bad_code Ack h = absurd (cc h)
   bad_code Rst h = absurd (cc h)
 
-  check_code : (v : Verdict) (a b c : Bool) → (v ≡ Refused code → ⊥)
-      → cond a (Refused bad_request) (cond b (Refused bad_request) (cond c (Refused bad_request) v)) ≡ Refused code → succeeds code ≡ false
-  check_code v true b c n h = code_of 128 code h refl
-  check_code v false true c n h = code_of 128 code h refl
-  check_code v false false true n h = code_of 128 code h refl
-  check_code v false false false n h = absurd (n h)
+  check_code : (v : Verdict) (a b : Bool) → (v ≡ Refused code → ⊥) → cond a (Refused bad_request) (cond b (Refused bad_request) v) ≡ Refused code → succeeds code ≡ false
+  check_code v true b n h = code_of 128 code h refl
+  check_code v false true n h = code_of 128 code h refl
+  check_code v false false n h = absurd (n h)
 
   asked_code : (o : Option Method) → asked_by szx o m ≡ Refused code → succeeds code ≡ false
   asked_code None h = code_of 133 code h refl
   asked_code (Some method) h =
-      check_code (Asks (question szx method m)) (nat_lt max_segments (length (path_of (asks m)))) (is_reserved (value_of block1 (asks m)) || is_reserved (value_of block2 (asks m)))
-      (has block1 (asks m) && not (carries_body method)) (λ k. cc k) h
+      check_code (Asks (question szx method m)) (nat_lt max_segments (length (path_of (asks m)))) (is_reserved (value_of block2 (asks m))) (λ k. cc k) h
 
   proxy_code : (b : Bool) → cond b (Refused proxying_not_supported) (asked_by szx (method_by m.code) m) ≡ Refused code → succeeds code ≡ false
   proxy_code true h = code_of 165 code h refl
@@ -203,7 +205,7 @@ module _ (szx : ℕ) (m : Message) (code : ℕ) where
 
   -- no refusal says success
   pub refusal_code : verdict_on szx m ≡ Refused code → succeeds code ≡ false
-  refusal_code h = verdict_code (lacks_critical direction.Request m.options) h
+  refusal_code h = verdict_code (lacks_critical direction.Request m.options || has block1 (asks m)) h
 
 pub not_applied : (code : ℕ) → succeeds code ≡ false → is_applied code ≡ true → ⊥
 not_applied code k h = by (is_applied code) h k

@@ -75,7 +75,7 @@ module _ (config : Config) (all : List Entry) (one : OneSending (client_of all))
         let earlier = part_back config all past e r.part in
         let s : Sending = k.came.sending in
         let is : s.operation.number ≡ number = ap (λ (x : Sending). x.operation.number) (came_is number (Body tag format body) past e r k) ∙ r.number_is in
-        let b = shown past e r.part.law r.message k reported.code r.whole in
+        let b = shown past e r.part.law r.message k reported.code reported.whole in
         let h : Held = b.held in
         let same : h ≡ record { version = h.version; format = format; body = body }
         = ap {B = Held} (λ f. record { version = h.version; format = f; body = h.body }) (sym b.format ∙ reported.format_is)

@@ -10,6 +10,7 @@ use Rattle.coap_resource.specs.RequestOptions.{has}
 use Rattle.coap_ends.specs.ClientFollows.{Sending, WasSent}
 use Rattle.coap_ends.specs.ClientSendings.{OneSending}
 use Rattle.coap_ends.specs.ClientTrace.{Failed}
+use Rattle.coap_ends.specs.ClientRequests.{block1}
 use Rattle.coap_ends.specs.ServerChecks.{Refused, Asks, verdict_on, asked_by as verdict_by, bad_by, asks, method_by, proxy_uri, proxy_scheme, proxying_not_supported}
 use Rattle.coap_ends.specs.ServerFollows.{Serving, is_applied}
 use Rattle.coap_ends.proofs.ServerHolds.{all_served}
@@ -62,7 +63,7 @@ asked_alike szx i j s (Some method) = refl
 verdict_alike : (szx i j : ℕ) (s : Sending) → verdict_on szx (request_of i s) ≡ verdict_on szx (request_of j s)
 verdict_alike szx i j s =
     let m : Message = request_of i s in
-    ap (λ v. cond (lacks_critical direction.Request m.options) (bad_by m.kind) (cond (has proxy_uri (asks m) || has proxy_scheme (asks m)) (Refused proxying_not_supported) v))
+    ap (λ v. cond (lacks_critical direction.Request m.options || has block1 (asks m)) (bad_by m.kind) (cond (has proxy_uri (asks m) || has proxy_scheme (asks m)) (Refused proxying_not_supported) v))
     (asked_alike szx i j s (method_by m.code))
 
 module _ (config : Config) (all : List Entry) (number : ℕ) where

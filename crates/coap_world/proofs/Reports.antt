@@ -1,18 +1,15 @@
 -- A report of a response is of a request of that call, which was served or refused since the call.
-use Rattle.std.proofs.Common.{◌≡◌, ℕ, true, false, Some, None, List, [], ◌∷◌, refl, ap, sym, subst, ◌∙◌}
+use Rattle.std.proofs.Common.{◌≡◌, ℕ, true, List, [], ◌∷◌, refl, ap, sym, subst, ◌∙◌}
 use Rattle.coap_types.specs.Past.{Once, Always}
 use Rattle.coap_types.proofs.PastLemmas.{by_suffix}
 use Rattle.coap_codec.specs.Message.{Message}
-use Rattle.coap_resource.specs.RequestOptions.{has}
-use Rattle.coap_exchange.specs.declared.asker.Event.TheVariants as event
 use Rattle.coap_exchange.proofs.AskerApart.{known}
 use Rattle.coap_exchange.proofs.AskerTokens.{counted}
 use Rattle.coap_ends.specs.ClientTrace as C
 use Rattle.coap_ends.specs.ClientTrace.{Operation, Request, Report, Reported}
-use Rattle.coap_ends.specs.ClientFollows.{Sending, WasSent, OfAnswer, heard, is_of_response, AreSent, ReportsAreAnswers}
+use Rattle.coap_ends.specs.ClientFollows.{Sending, WasSent, OfAnswer, is_of_response, AreSent, ReportsAreAnswers}
 use Rattle.coap_ends.specs.ClientLaw.{ClientLaw, lower_of}
-use Rattle.coap_ends.specs.ClientReports.{said, report_of}
-use Rattle.coap_ends.specs.ClientRequests.{block2}
+use Rattle.coap_ends.specs.ClientReports.{report_of}
 use Rattle.coap_ends.specs.ClientSendings.{OneSending}
 use Rattle.coap_ends.proofs.ClientAnswers.{are_answers}
 use Rattle.coap_ends.proofs.ClientSent.{once_of, are_sent}
@@ -39,23 +36,9 @@ sent_by config t law = are_sent t (once_of config.client_word (lower_of t) (coun
 answers_by : (config : Config) (t : List C.Call) → ClientLaw server_end config.client_szx config.client_word t → ReportsAreAnswers t
 answers_by config t law = are_answers t (sent_by config t law) (known server_end config.client_word (lower_of t) law.exchanges.rows).0
 
--- each answer comes whole
-whole_answer : (config : Config) (past : List C.Call) (c : C.Call) → ClientLaw server_end config.client_szx config.client_word (c ∷ past) → (m : Message) → heard c ≡ Some m → has block2 (said m) ≡ false
-whole_answer config past (C.Feeds now from bytes word up settled (Some (event.Answer n))) law m h = let same : n ≡ m = cc h in subst (λ x. has block2 (said x) ≡ false) same law.rows.0
-whole_answer config past (C.Feeds now from bytes word up settled None) law m h = absurd (cc h)
-whole_answer config past (C.Feeds now from bytes word up settled (Some event.Reset)) law m h = absurd (cc h)
-whole_answer config past (C.Feeds now from bytes word up settled (Some (event.Notice n))) law m h = absurd (cc h)
-whole_answer config past (C.Feeds now from bytes word up settled (Some event.Timeout)) law m h = absurd (cc h)
-whole_answer config past (C.Feeds now from bytes word up settled (Some event.NoResponse)) law m h = absurd (cc h)
-whole_answer config past (C.Calls now r answer) law m h = absurd (cc h)
-whole_answer config past (C.Ticks now word below u sent z answer) law m h = absurd (cc h)
-whole_answer config past (C.NextOut answer) law m h = absurd (cc h)
-whole_answer config past (C.NextReport answer) law m h = absurd (cc h)
-
 -- the request of the call is served, or refused, here, and the response to it is reported
 pub record Reporting (config : Config) (number : ℕ) (report : Report) (all past : List Entry) (e : Entry) : Type 0 where
   pub message : Message
-  pub whole : has block2 (said message) ≡ false
   pub sending : Sending
   pub sent : WasSent sending (client_of all)
   pub number_is : sending.operation.number ≡ number
@@ -76,7 +59,6 @@ module _ (config : Config) (number : ℕ) (report : Report) (all : List Entry) (
       by_suffix (PartOf config all) (Answers config a.message) (Reporting config number report all) (part_back config all)
       (λ t b p k. record {
         message = a.message;
-        whole = whole_answer config (client_of past) c part.law.client a.message a.is_heard;
         sending = s;
         sent = earlier.sent s a.sent;
         number_is = a.number;

@@ -11,15 +11,14 @@ use Rattle.coap_exchange.specs.AskerLaw as asker
 use Rattle.coap_exchange.specs.AskerRequests.{content_of}
 use Rattle.coap_ends.specs.ClientTrace as C
 use Rattle.coap_ends.specs.ClientLaw.{ClientLaw, ClientRows, lower_of}
-use Rattle.coap_ends.specs.ClientRequests.{FitsOneMessage, message_of, taking}
+use Rattle.coap_ends.specs.ClientRequests.{message_of, taking}
 use Rattle.coap_world.specs.Events.{server_end}
 use Rattle.coap_world.specs.LegalRuns.{token}
 use Rattle.coap_world.proofs.WitnessTurns.{called, ticked}
 
--- what is asked: it is taken, fits one message, and has these bytes under the first token and the first Message ID
+-- what is asked: it is taken, and has these bytes under the first token and the first Message ID
 pub record IsAsked (r : C.Request) (bytes : List ℕ) : Type 0 where
-  pub taken : C.Taken 0 ≡ taking C.start r
-  pub fits : FitsOneMessage 6 r
+  pub taken : C.Taken 0 ≡ taking 6 C.start r
   pub spelled : IsSpelled (content_of token (message_of r))
   pub bytes_are : message_bytes (with_head Con 0 (content_of token (message_of r))) ≡ bytes
 
@@ -38,7 +37,7 @@ module _ (r : C.Request) (bytes : List ℕ) where
   }
 
   pub rows_before : IsAsked r bytes → ClientRows 6 before
-  rows_before is = (refl, (tt, (tt, (refl, (refl, (refl, (tt, ((is.taken, is.fits), tt))))))))
+  rows_before is = (refl, (tt, (tt, (refl, (refl, (refl, (tt, (is.taken, tt))))))))
 
   pub asked_before : asker.AskerLaw server_end 0 (lower_of before)
   asked_before = (tt, (tt, (refl, (refl, (refl, (tt, tt))))))

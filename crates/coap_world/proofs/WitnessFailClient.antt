@@ -40,6 +40,6 @@ steps = (
 
 pub lawful : ClientLaw server_end 6 0 calls
 lawful = record {
-  rows = (refl, (refl, (tt, (refl, rows_before post post_bytes post_asked))));
+  rows = (refl, (refl, (tt, (tt, rows_before post post_bytes post_asked))));
   exchanges = record { rows = (tt, (refl, asked_before post post_bytes)); left = left_after (start 0) run; layer = steps };
 }

@@ -52,17 +52,14 @@ module _ (at : ℕ) where
     (
       tt,
       (
-        (
-          record { no_block = refl; no_observe = refl },
-          record {
-            reply = reply;
-            options = [];
-            left = left;
-            serves = (refl, refl);
-            says = record { format = None; block2 = None; format_is = tt; block2_is = tt; list = refl };
-            is = refl;
-          },
-        ),
+        record {
+          reply = reply;
+          options = [];
+          left = left;
+          serves = (refl, refl);
+          says = record { format = None; block2 = None; format_is = tt; block2_is = tt; list = refl };
+          is = refl;
+        },
         tt,
       ),
     ),

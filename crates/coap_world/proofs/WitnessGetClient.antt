@@ -21,7 +21,6 @@ pub get_asked : IsAsked get get_bytes
 unfolding option_bytes options_bytes
 get_asked = record {
   taken = refl;
-  fits = omega arith;
   spelled =
       (sendable_when_short _ (record { some = omega arith; code = omega arith; id = omega arith; token = omega arith; order = refl; numbers = refl; short = refl }) (omega arith)).spelled;
   bytes_are = refl;
@@ -58,6 +57,6 @@ steps = (
 
 pub lawful : ClientLaw server_end 6 0 calls
 lawful = record {
-  rows = (refl, (refl, (tt, (refl, rows_before get get_bytes get_asked))));
+  rows = (refl, (refl, (tt, (tt, rows_before get get_bytes get_asked))));
   exchanges = record { rows = (tt, (refl, asked_before get get_bytes)); left = left_after (start 0) run; layer = steps };
 }

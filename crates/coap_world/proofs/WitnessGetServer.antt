@@ -18,7 +18,6 @@ use Rattle.coap_exchange.specs.AnswererLaw as answerer
 use Rattle.coap_exchange.specs.AnswererSteps.{asked_of, content_of}
 use Rattle.coap_exchange.specs.AnswererTrace as E
 use Rattle.coap_ends.specs.ServerTrace as S
-use Rattle.coap_ends.specs.ServerChecks.{IsPlain}
 use Rattle.coap_ends.specs.ServerSteps.{IsServed}
 use Rattle.coap_ends.specs.ServerLaw.{ServerLaw, ServerRows, lower_of}
 use Rattle.coap_world.specs.Events.{client_end}
@@ -72,14 +71,11 @@ served at = record {
   is = refl;
 }
 
-pub plain_request : IsPlain request
-plain_request = record { no_block = refl; no_observe = refl }
-
 pub stores : Changes (nothing 4194303) 0 (codes "t" ∷ []) (Some (record { version = 1; format = Some plain; body = codes "hi" })) stored
 stores = first 4194303 0 (codes "t" ∷ []) (record { version = 1; format = Some plain; body = codes "hi" })
 
 rows : ServerRows 4194303 6 calls
-rows = (tt, (tt, ((plain_request, served 5), (tt, ((refl, stores), tt)))))
+rows = (tt, (tt, (served 5, (tt, ((refl, stores), tt)))))
 
 pub sendable : IsSpelled (content_of (asked_of client_end request) response)
 unfolding option_bytes options_bytes

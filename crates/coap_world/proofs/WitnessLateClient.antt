@@ -73,6 +73,6 @@ steps = (
 
 pub lawful : ClientLaw server_end 6 0 calls
 lawful = record {
-  rows = (refl, (refl, (tt, (tt, (refl, (refl, (tt, (tt, rows_before get get_bytes get_asked))))))));
+  rows = (refl, (refl, (tt, (tt, (tt, (refl, (tt, (tt, rows_before get get_bytes get_asked))))))));
   exchanges = record { rows = (tt, (tt, (refl, (tt, (refl, asked_before get get_bytes))))); left = left_after (start 0) run; layer = steps };
 }

@@ -16,7 +16,7 @@ use Rattle.coap_world.specs.Events.{client_end}
 use Rattle.coap_world.specs.LegalRuns.{plain, get_bytes, empty_ack, separate_bytes}
 use Rattle.coap_world.proofs.WitnessWords.{bytes_are}
 use Rattle.coap_world.proofs.WitnessTurns.{alone, with_out}
-use Rattle.coap_world.proofs.WitnessGetServer.{request, stored, question, reply, response, sendable, served, plain_request, stores}
+use Rattle.coap_world.proofs.WitnessGetServer.{request, stored, question, reply, response, sendable, served, stores}
 
 abbrev pub response_out : L.Packet
 response_out = record { to = client_end; bytes = separate_bytes }
@@ -57,7 +57,7 @@ calls = told ++ (ticked ++ (fed ++ (set ++ (S.Delays (codes "t" ∷ []) 1000 tru
 
 rows : ServerRows 4194303 6 calls
 unfolding option_bytes options_bytes
-rows = (tt, (refl, (tt, (tt, ((refl, refl), ((served 1000, refl), (tt, (tt, ((plain_request, refl), (tt, ((refl, stores), (refl, tt))))))))))))
+rows = (tt, (refl, (tt, (tt, ((refl, refl), ((served 1000, refl), (tt, (tt, (refl, (tt, ((refl, stores), (refl, tt))))))))))))
 
 answered : answerer.AnswererLaw (lower_of 4194303 6 calls)
 answered = (tt, (refl, (tt, (tt, (refl, ((refl, record { code = refl; spelled = sendable }), (refl, (tt, (tt, ((refl, refl, refl), (refl, (tt, tt))))))))))))

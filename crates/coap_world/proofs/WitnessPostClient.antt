@@ -20,7 +20,6 @@ pub post_asked : IsAsked post post_bytes
 unfolding option_bytes options_bytes
 post_asked = record {
   taken = refl;
-  fits = omega arith;
   spelled =
       (sendable_when_short _ (record { some = omega arith; code = omega arith; id = omega arith; token = omega arith; order = refl; numbers = refl; short = refl }) (omega arith)).spelled;
   bytes_are = refl;
@@ -50,6 +49,6 @@ steps = (
 
 pub lawful : ClientLaw server_end 6 0 calls
 lawful = record {
-  rows = (refl, (refl, (tt, (refl, rows_before post post_bytes post_asked))));
+  rows = (refl, (refl, (tt, (tt, rows_before post post_bytes post_asked))));
   exchanges = record { rows = (tt, (refl, asked_before post post_bytes)); left = left_after (start 0) run; layer = steps };
 }

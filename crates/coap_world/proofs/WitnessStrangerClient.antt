@@ -11,7 +11,6 @@ pub delete_asked : IsAsked delete (delete_bytes 0)
 unfolding option_bytes options_bytes
 delete_asked = record {
   taken = refl;
-  fits = omega arith;
   spelled =
       (sendable_when_short _ (record { some = omega arith; code = omega arith; id = omega arith; token = omega arith; order = refl; numbers = refl; short = refl }) (omega arith)).spelled;
   bytes_are = refl;

@@ -38,17 +38,14 @@ rows = (
   (
     tt,
     (
-      (
-        record { no_block = refl; no_observe = refl },
-        record {
-          reply = reply;
-          options = [];
-          left = after;
-          serves = (refl, further 130000 log old new before.tally);
-          says = record { format = None; block2 = None; format_is = tt; block2_is = tt; list = refl };
-          is = refl;
-        },
-      ),
+      record {
+        reply = reply;
+        options = [];
+        left = after;
+        serves = (refl, further 130000 log old new before.tally);
+        says = record { format = None; block2 = None; format_is = tt; block2_is = tt; list = refl };
+        is = refl;
+      },
       (tt, ((refl, first 4194303 0 log old), tt)),
     ),
   ),
