@@ -16,4 +16,5 @@ pub mod ClientBegins
 pub mod ClientSendings
 pub mod ServerHands
 pub mod ServerGives
+pub mod ServerWaits
 pub mod ClientHears
