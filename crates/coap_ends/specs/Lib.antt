@@ -12,9 +12,9 @@ pub mod ServerSteps
 pub mod ServerLaw
 pub mod ServerExact
 pub mod ServerFollows
+pub mod ServerWaits
 pub mod ClientBegins
 pub mod ClientSendings
 pub mod ServerHands
 pub mod ServerGives
-pub mod ServerWaits
 pub mod ClientHears
