@@ -14,6 +14,7 @@ pub mod ServerHanding
 pub mod Sources
 pub mod ServerMakes
 pub mod ServerGiving
+pub mod ServerWaiting
 pub mod ClientExactly
 pub mod ClientSpelled
 pub mod ClientGoing

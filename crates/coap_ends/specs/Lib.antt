@@ -12,6 +12,7 @@ pub mod ServerSteps
 pub mod ServerLaw
 pub mod ServerExact
 pub mod ServerFollows
+pub mod ServerWaits
 pub mod ClientBegins
 pub mod ClientSendings
 pub mod ServerHands

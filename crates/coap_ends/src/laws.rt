@@ -23,6 +23,7 @@ ghost use Rattle.coap_ends.specs.ServerLaw.{ServerLaw};
 ghost use Rattle.coap_ends.specs.ServerShows.{FormatsInRange, ShowsHeld};
 ghost use Rattle.coap_ends.specs.ServerTags.{AreStamped, OneTag};
 ghost use Rattle.coap_ends.specs.ServerTrace as server;
+ghost use Rattle.coap_ends.specs.ServerWaits.{WaitsAsDeferred, ReadyAreServed};
 
 /// What follows from the law of a client, over its own trace.
 pub fn client_law()
@@ -65,6 +66,9 @@ pub fn server_law()
     ensures layer { (limit szx word : ℕ) (t : List server.Call) → ServerLaw limit szx word t → LayerLaw word (servers.layer_of limit szx word t) }
     // The law leaves each call one answer.
     ensures exact { (limit szx word : ℕ) (past : List server.Call) → servers_exact.IsExact limit szx word past }
+    // What waits is what the exchanges defer, and a request that they say is ready is served then (section 5.2.2).
+    ensures waits { (limit szx word : ℕ) (t : List server.Call) → ServerLaw limit szx word t → WaitsAsDeferred limit szx t }
+    ensures ready { (limit szx word : ℕ) (t : List server.Call) → ServerLaw limit szx word t → ReadyAreServed limit szx t }
     // It replies at once: with the Reset of a response, or the acknowledgement of a CON, which may carry the response to it
     // (RFC 7252, sections 4.2 and 5.2.1).
     ensures replies { (limit szx word : ℕ) (t : List server.Call) → ServerLaw limit szx word t → Always RepliesSo (servers.layer_of limit szx word t) }

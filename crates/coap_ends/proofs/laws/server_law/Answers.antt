@@ -2,6 +2,7 @@ use Rattle.coap_layer.proofs.CopyLemmas.{handed_up_once}
 use Rattle.coap_exchange.proofs.AnswererLeading.{layer_stands}
 use Rattle.coap_exchange.proofs.AnswererOnce.{counted}
 use Rattle.coap_ends.proofs.ServerExactly.{is_exact}
+use Rattle.coap_ends.proofs.ServerWaiting.{waits_as_deferred, ready_are_served}
 use Rattle.coap_ends.specs.ServerLaw.{lower_of, layer_of}
 use Rattle.coap_ends.proofs.ServerHolds.{all_served, holds_changes}
 use Rattle.coap_ends.proofs.ServerRepliesSo.{replies_so}
@@ -18,6 +19,12 @@ returns-clause-layer c limit szx word t law = layer_stands word (lower_of limit 
 
 pub returns-clause-exact : goal.returns-clause-exact
 returns-clause-exact c limit szx word past = is_exact limit szx word past
+
+pub returns-clause-waits : goal.returns-clause-waits
+returns-clause-waits c limit szx word t law = waits_as_deferred limit szx t law.rows law.exchanges.rows
+
+pub returns-clause-ready : goal.returns-clause-ready
+returns-clause-ready c limit szx word t law = ready_are_served limit szx t law.rows law.exchanges.rows
 
 pub returns-clause-replies : goal.returns-clause-replies
 returns-clause-replies c limit szx word t law = replies_so word limit szx t law.exchanges.rows law.exchanges.left law.exchanges.layer
