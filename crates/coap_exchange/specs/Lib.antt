@@ -7,6 +7,8 @@ pub mod AskerArrivals
 pub mod AskerSteps
 pub mod AskerLaw
 pub mod AskerFollows
+pub mod AskerDue
+pub mod AskerTells
 pub mod AskerExact
 pub mod AnswererTrace
 pub mod AnswererSteps
