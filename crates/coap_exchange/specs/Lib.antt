@@ -9,6 +9,7 @@ pub mod AskerLaw
 pub mod AskerFollows
 pub mod AskerDue
 pub mod AskerTells
+pub mod AskerResponses
 pub mod AskerExact
 pub mod AnswererTrace
 pub mod AnswererSteps
