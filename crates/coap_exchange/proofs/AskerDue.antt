@@ -23,7 +23,8 @@ use Rattle.coap_exchange.specs.AskerSteps.{IsRight, after, lower}
 use Rattle.coap_exchange.specs.AskerRequests.{opening_of, opened, sent_as}
 use Rattle.coap_exchange.specs.AskerArrivals.{has_id, is_of_request, verdict_on, turn_of, running_after, has_waited, acked_in}
 use Rattle.coap_exchange.specs.AskerLaw.{own_of, lower_of, AskerLaw}
-use Rattle.coap_exchange.specs.AskerFollows.{Begun, last_begun, last_acked, moment, FailsWhenDue, EndWhenDue}
+use Rattle.coap_exchange.specs.AskerDue.{last_acked, FailsWhenDue, EndWhenDue}
+use Rattle.coap_exchange.specs.AskerFollows.{Begun, last_begun, moment}
 use Rattle.coap_exchange.proofs.AskerLeading.{steps_split}
 use Rattle.coap_exchange.proofs.AskerLone.{Lone, IsSent}
 use Rattle.coap_exchange.proofs.AskerInTime.{fits}

@@ -15,7 +15,8 @@ use Rattle.coap_exchange.specs.AskerTrace.{Request, Own, Call, Ask}
 use Rattle.coap_exchange.specs.AskerSteps.{lower}
 use Rattle.coap_exchange.specs.AskerRequests.{beneath, opening, opening_of, is_busied, is_yes, send_refusal, sent_answer, ask_answer, request_token, content_of}
 use Rattle.coap_exchange.specs.AskerLaw.{own_of, lower_of, AskerLaw}
-use Rattle.coap_exchange.specs.AskerFollows.{Open, last_begun, AreRefused}
+use Rattle.coap_exchange.specs.AskerFollows.{Open, last_begun}
+use Rattle.coap_exchange.specs.AskerTells.{AreRefused}
 use Rattle.coap_exchange.specs.Tokens.{is_spent}
 use Rattle.coap_exchange.proofs.AskerApart.{known}
 use Rattle.coap_exchange.proofs.AskerInTime.{fits}

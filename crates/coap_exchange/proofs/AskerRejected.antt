@@ -26,7 +26,7 @@ use Rattle.coap_exchange.specs.AskerSteps.{lower}
 use Rattle.coap_exchange.specs.AskerRequests.{asked}
 use Rattle.coap_exchange.specs.AskerArrivals.{told, verdict_on, acts}
 use Rattle.coap_exchange.specs.AskerLaw.{own_of, lower_of, AskerLaw}
-use Rattle.coap_exchange.specs.AskerFollows.{Rejects, AreRejected}
+use Rattle.coap_exchange.specs.AskerTells.{Rejects, AreRejected}
 use Rattle.coap_exchange.proofs.AskerCame.{server_is}
 use Rattle.coap_exchange.proofs.AskerLeading.{steps_split}
 use Rattle.coap_exchange.proofs.MatchingLemmas.{Fits, OfRequest, verdict_fits}

@@ -15,6 +15,7 @@ pub mod AskerRefused
 pub mod ArrivalFacts
 pub mod AskerCame
 pub mod AskerRejected
+pub mod AskerResponses
 pub mod AskerExactly
 pub mod AnswererLeading
 pub mod AnswererOnce

@@ -1,20 +1,16 @@
 -- What follows from the law of the client's side, in words on the trace (RFC 7252, sections 4.2, 5.2.2, 5.3).
-use Rattle.std.specs.Prelude.{◌≡◌, ◌↔◌, ◌≤◌, ◌<◌, ℕ, ◌+◌, ◌-◌, ◌*◌, ◌%◌, ◌^◌, max, Bool, true, false, IsTrue, Option, Some, None, List, [], ◌∷◌, length, Ok, Err, if◌then◌else◌}
+use Rattle.std.specs.Prelude.{◌≡◌, ◌↔◌, ◌≤◌, ◌<◌, ℕ, ◌+◌, ◌-◌, ◌*◌, ◌%◌, ◌^◌, max, Bool, true, false, IsTrue, Option, Some, None, List, [], ◌∷◌, length, Ok, Err}
 use Rattle.coap_types.specs.Past.{Ever, Always, Since}
 use Rattle.coap_types.specs.declared.endpoint.Endpoint.{Endpoint}
-use Rattle.coap_types.specs.declared.message.Kind.TheVariants.{Rst}
 use Rattle.coap_types.specs.SameEndpoint.{same_endpoint}
 use Rattle.coap_codec.specs.Message.{Message, Spells}
-use Rattle.coap_layer.specs.Trace as L
 use Rattle.coap_exchange.specs.declared.asker.Event.{Event}
 use Rattle.coap_exchange.specs.declared.asker.Event.TheVariants as event
-use Rattle.coap_exchange.specs.declared.asker.Turn.{Turn}
 use Rattle.coap_exchange.specs.declared.asker.Turn.TheVariants as turn
 use Rattle.coap_exchange.specs.declared.asker.AskRefusal.TheVariants as refusal
 use Rattle.coap_exchange.specs.declared.asker.Exchange.{Exchange}
 use Rattle.coap_exchange.specs.AskerTrace.{Request, Call, Ask, Receive, Ticks, Keep, Release}
 use Rattle.coap_exchange.specs.AskerLaw.{own_of}
-use Rattle.coap_exchange.specs.AskerArrivals.{is_of_request}
 use Rattle.coap_exchange.specs.Tokens.{token_of, max_kept, is_kept}
 
 -- the token of the exchange that a call begins, and where it is a fresh one
@@ -74,14 +70,6 @@ pub record Exchanges (past : List Call) (c : Call) : Type 0 where
 
 abbrev pub AreExchanges : List Call → Type 0
 AreExchanges trace = Always Exchanges trace
-
--- Running is told exactly where an exchange runs (NSTART is 1: section 4.7).
-pub record TellsRunning (past : List Call) (c : Call) : Type 0 where
-  pub runs : (now w : ℕ) (r : Request) (below : _) → c ≡ Ask now r w below (Err refusal.Running) → (token : List ℕ) × Open token past
-  pub told : (now w : ℕ) (r : Request) (below : _) (answer : _) (token : List ℕ) → c ≡ Ask now r w below answer → Open token past → answer ≡ Err refusal.Running
-
-abbrev pub AreRefused : List Call → Type 0
-AreRefused trace = Always TellsRunning trace
 
 -- how many fresh tokens were given
 abbrev pub given_by : Option (List ℕ) → ℕ
@@ -157,49 +145,6 @@ module _ (server : Endpoint) (word : ℕ) where
 
   abbrev pub EndInTime : List Call → Type 0
   EndInTime trace = Always InTime trace
-
-  -- when the request that was sent last was acknowledged by an Empty message
-  abbrev pub last_acked : List Call → Option ℕ
-  last_acked [] = None
-  last_acked (Ask now r w below (Ok token) ∷ past) = None
-  last_acked (Receive now from bytes (L.Acked id) settled answer ∷ past) = if is_of_request (own_of server word past) from id then Some (moment past now) else last_acked past
-  last_acked (c ∷ past) = last_acked past
-
-  -- At the first tick 31 initial timeouts after its request was sent, the exchange that runs ends, where no Empty
-  -- acknowledgement came (section 4.2)
-  pub record FailsWhenDue (past : List Call) (now : ℕ) (answer : Turn) : Type 0 where
-    pub begun : Begun
-    pub last : last_begun past ≡ Some begun
-    pub ends : begun.timeout * 31 ≤ moment past now - begun.at → answer ≡ turn.End event.Timeout
-
-  -- .. and else at the first tick 247,000 ms after that acknowledgement (section 5.2.2; profile)
-  pub record WhenDue (past : List Call) (c : Call) : Type 0 where
-    pub unheard :
-        (now : ℕ) (below : _) (answer : Turn) (x : Exchange) → c ≡ Ticks now below answer → (own_of server word past).running ≡ Some x → x.acked ≡ None
-        → FailsWhenDue past now answer
-    pub heard :
-        (now : ℕ) (below : _) (answer : Turn) (x : Exchange) (acked : ℕ) → c ≡ Ticks now below answer → (own_of server word past).running ≡ Some x → x.acked ≡ Some acked
-        → 247000 ≤ moment past now - acked → answer ≡ turn.End event.NoResponse
-    pub acked : (x : Exchange) → (own_of server word past).running ≡ Some x → x.acked ≡ last_acked past
-
-  abbrev pub EndWhenDue : List Call → Type 0
-  EndWhenDue trace = Always WhenDue trace
-
-  -- A Reset that is told came from the server, and rejects the request of the exchange that runs (section 4.2): it is
-  -- an Empty message with its Message ID
-  pub record Rejects (past : List Call) (from : Endpoint) (bytes : List ℕ) : Type 0 where
-    pub exchange : Exchange
-    pub runs : (own_of server word past).running ≡ Some exchange
-    pub there : same_endpoint from server ≡ true
-    pub message : Message
-    pub spelled : Spells bytes message
-    pub kind : message.kind ≡ Rst
-    pub code : message.code ≡ 0
-    pub id : message.id ≡ exchange.id.0
-
-  abbrev pub AreRejected : List Call → Type 0
-  AreRejected trace =
-      Always (λ past c. (now : ℕ) (from : Endpoint) (bytes : List ℕ) (up : _) (settled : Bool) → c ≡ Receive now from bytes up settled (Some event.Reset) → Rejects past from bytes) trace
 
   -- The tokens that are kept are those that were kept and not released since, at most 16 (profile).
   pub record FewKept (trace : List Call) : Type 0 where

@@ -4,7 +4,10 @@ ghost use Rattle.coap_layer.specs.Rows.{LayerLaw};
 ghost use Rattle.coap_exchange.specs.AskerTrace.{Call};
 ghost use Rattle.coap_exchange.specs.AskerLaw.{State, Step, Led, ExchangeLaw, fresh_state, below_of};
 ghost use Rattle.coap_exchange.specs.AskerExact.{IsExact};
-ghost use Rattle.coap_exchange.specs.AskerFollows.{AreExchanges, AreRefused, AreTokens, EndInTime, EndWhenDue, FewKept, AreFromServer, AreRejected};
+ghost use Rattle.coap_exchange.specs.AskerFollows.{AreExchanges, AreTokens, EndInTime, FewKept, AreFromServer};
+ghost use Rattle.coap_exchange.specs.AskerDue.{EndWhenDue};
+ghost use Rattle.coap_exchange.specs.AskerTells.{AreRefused, AreRejected};
+ghost use Rattle.coap_exchange.specs.AskerResponses.{AreMatched};
 ghost use Rattle.coap_exchange.specs.AskerShown.{IsAskableWhenShort};
 ghost use Rattle.coap_exchange.specs.ShortAnswers.{IsAnswerWhenShort, IsNotificationWhenShort};
 ghost use Rattle.coap_exchange.specs.AnswererTrace as trace;
@@ -39,6 +42,9 @@ pub fn asker_law()
     ensures few_kept { (server : Endpoint) (word : ℕ) (t : List Call) → ExchangeLaw server word t → FewKept server word t }
     // What is told came from the server, and is what a datagram spelled (RFC 7252, section 5.3.2).
     ensures from_server { (server : Endpoint) (word : ℕ) (t : List Call) → ExchangeLaw server word t → AreFromServer server t }
+    // .. has no critical option that is not recognised (section 5.4.1), and matches in Message ID where it is
+    // piggybacked (section 5.3.2).
+    ensures matched { (server : Endpoint) (word : ℕ) (t : List Call) → ExchangeLaw server word t → AreMatched server word t }
     // A Reset that is told is that of the request of the exchange (RFC 7252, section 4.2).
     ensures rejected { (server : Endpoint) (word : ℕ) (t : List Call) → ExchangeLaw server word t → AreRejected server word t }
 {}

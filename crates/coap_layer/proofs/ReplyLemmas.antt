@@ -2,11 +2,11 @@
 use Rattle.std.proofs.Common.{◌≡◌, inl, inr, ℕ, ◌+◌, ◌≤◌, nat_le, Bool, true, false, Option, Some, None, List, [], ◌∷◌, ◌++◌, map, refl, ap, sym, ◌∙◌, subst, arith, ◌&&◌, ◌||◌, cond, if◌then◌else◌}
 use Rattle.std.specs.List.{list_any}
 use Rattle.coap_types.specs.declared.endpoint.Endpoint.{Endpoint}
+use Rattle.coap_types.specs.SameEndpoint.{same_endpoint}
+use Rattle.coap_types.proofs.EndpointLemmas.{same_endpoint_is}
 use Rattle.coap_layer.specs.Trace.{Entry}
 use Rattle.coap_layer.specs.Words.{Incoming, clock, taken, is_from, Remembered, is_con, was_con, reply_in, replied}
 use Rattle.coap_layer.specs.State.{arrivals, Arrived, stores, newly, is_live, is_of, is_remembered, reply_of}
-use Rattle.coap_types.specs.SameEndpoint.{same_endpoint}
-use Rattle.coap_types.proofs.EndpointLemmas.{same_endpoint_is}
 use Rattle.coap_layer.specs.Rows.{Stands, LayerLaw}
 use Rattle.coap_layer.proofs.ListLemmas.{same_nat, and_left, and_right, not_true, any_append, any_changed}
 use Rattle.coap_layer.proofs.DedupLemmas.{same_of, same_con, remembered_of}

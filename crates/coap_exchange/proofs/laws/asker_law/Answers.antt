@@ -8,6 +8,7 @@ use Rattle.coap_exchange.proofs.AskerDue.{when_due}
 use Rattle.coap_exchange.proofs.AskerKept.{few_kept}
 use Rattle.coap_exchange.proofs.AskerCame.{came_from}
 use Rattle.coap_exchange.proofs.AskerRejected.{rejected}
+use Rattle.coap_exchange.proofs.AskerResponses.{matched}
 use Rattle.coap_exchange.proofs.laws.asker_law.Goals as goal
 
 pub returns-clause-start : goal.returns-clause-start
@@ -45,6 +46,9 @@ returns-clause-few_kept c server word t law = few_kept server word t law.rows
 
 pub returns-clause-from_server : goal.returns-clause-from_server
 returns-clause-from_server c server word t law = came_from server word t law.rows law.left law.layer
+
+pub returns-clause-matched : goal.returns-clause-matched
+returns-clause-matched c server word t law = matched server word t law.rows
 
 pub returns-clause-rejected : goal.returns-clause-rejected
 returns-clause-rejected c server word t law = rejected server word t law.rows law.left law.layer
