@@ -21,9 +21,6 @@ pub mod ClientGoing
 pub mod StoreExactly
 pub mod ServerHandled
 pub mod ServerExactly
-pub mod ServerWitness
-pub mod ClientWitness
-pub mod SeparateWitness
 pub mod ClientNons
 pub mod ClientCons
 pub mod ServerCounts
