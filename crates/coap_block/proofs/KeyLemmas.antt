@@ -6,12 +6,8 @@ use Rattle.coap_types.specs.declared.endpoint.Endpoint.{Endpoint}
 use Rattle.coap_types.specs.declared.request.Method.{Method}
 use Rattle.coap_types.specs.declared.request.Method.TheVariants.{Get, Post, Put, Delete}
 use Rattle.coap_types.proofs.PathLemmas.{same_path-decides}
-use Rattle.coap_block.specs.AssemblyState.{Key, same_key, same_endpoint, same_method}
-
-same_endpoint-decides : (a b : Endpoint) → Decides (same_endpoint a b) (a ≡ b)
-same_endpoint-decides a b =
-    let parts = Decides-and _ _ (bytes_decides a.ip b.ip) (Decides-eqb a.port b.port) in
-    (λ h. let e = parts.0 h in λ i. record { ip = e.0 i; port = e.1 i }, λ e. parts.1 (ap (λ (x : Endpoint). x.ip) e, ap (λ (x : Endpoint). x.port) e))
+use Rattle.coap_types.proofs.EndpointLemmas.{same_endpoint-decides}
+use Rattle.coap_block.specs.AssemblyState.{Key, same_key, same_method}
 
 is_method : (a b : Method) → same_method a b ≡ true → a ≡ b
 is_method Get Get h = refl

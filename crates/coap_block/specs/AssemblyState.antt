@@ -5,16 +5,13 @@ use Rattle.coap_types.specs.declared.endpoint.Endpoint.{Endpoint}
 use Rattle.coap_types.specs.declared.request.Method.{Method}
 use Rattle.coap_types.specs.MethodCode.{method_code}
 use Rattle.coap_types.specs.Path.{same_path}
+use Rattle.coap_types.specs.SameEndpoint.{same_endpoint}
 
 -- what tells an upload from the others: who sends it, and the resource and the method that it is for
 pub record Key : Type 0 where
   pub from : Endpoint
   pub path : List (List ℕ)
   pub method : Method
-
--- equal by address and port
-abbrev pub same_endpoint : Endpoint → Endpoint → Bool
-same_endpoint a b = pointwise nat_eq a.ip b.ip && (a.port == b.port)
 
 -- methods are told apart by their codes (RFC 7252, section 12.1.1)
 abbrev pub same_method : Method → Method → Bool

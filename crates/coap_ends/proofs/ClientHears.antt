@@ -3,9 +3,10 @@ use Rattle.std.proofs.Common.{◌≡◌, inl, ℕ, max, Bool, true, Some, None, 
 use Rattle.coap_types.specs.Past.{Ever}
 use Rattle.coap_types.proofs.PastLemmas.{Ever_front, Ever_back, Ever_map}
 use Rattle.coap_types.specs.declared.endpoint.Endpoint.{Endpoint}
+use Rattle.coap_types.specs.SameEndpoint.{same_endpoint}
+use Rattle.coap_types.proofs.EndpointLemmas.{same_endpoint_is}
 use Rattle.coap_codec.specs.Message.{Message}
 use Rattle.coap_layer.specs.Trace as L
-use Rattle.coap_layer.specs.Trace.{same_place}
 use Rattle.coap_layer.specs.State as S
 use Rattle.coap_layer.specs.Steps as G
 use Rattle.coap_layer.specs.Steps.{Steps}
@@ -19,7 +20,6 @@ use Rattle.coap_exchange.specs.AskerSteps as P
 use Rattle.coap_exchange.specs.AskerLaw as W
 use Rattle.coap_exchange.proofs.AskerCame.{server_is}
 use Rattle.coap_exchange.proofs.AskerLeading.{steps_split}
-use Rattle.coap_exchange.proofs.LayerFacts.{same_place_is}
 use Rattle.coap_exchange.proofs.MatchingLemmas.{Fits, verdict_fits}
 use Rattle.coap_ends.specs.ClientTrace.{Call, Calls, Feeds, Ticks, NextOut, NextReport}
 use Rattle.coap_ends.specs.ClientSteps.{lower}
@@ -29,7 +29,7 @@ use Rattle.coap_ends.specs.ClientHears.{Hears, AreHeard}
 use Rattle.coap_ends.proofs.ServerHanding.{entry_of}
 
 abbrev Is : E.Own → Endpoint → L.Answer → Message → Type 0
-Is s from up m = (same_place from s.server ≡ true) × (up ≡ L.Response m)
+Is s from up m = (same_endpoint from s.server ≡ true) × (up ≡ L.Response m)
 
 response_of : (s : E.Own) (from : Endpoint) (up : L.Answer) (m : Message) (v : Verdict) → Fits s from up v → told v up ≡ Some (event.Answer m) → Is s from up m
 response_of s from up m Ignore f h = absurd (cc h)
@@ -56,7 +56,7 @@ module _ (server : Endpoint) (word : ℕ) where
   arrives m t now from bytes up settled law =
       let s : E.Own = W.own_of server word t in
       let k = response_of s from up m (verdict_on s from up) (verdict_fits s from up) (sym law.0) in
-      let there : from ≡ server = same_place_is from s.server k.0 ∙ server_is server word t in
+      let there : from ≡ server = same_endpoint_is from s.server k.0 ∙ server_is server word t in
       Ever_front (λ (b : G.Asked). Comes server m b.call b.answer) (P.lower s (E.Receive now from bytes up settled (Some (event.Answer m)))) (W.lower_of server word t)
       (Ever_back (λ (b : G.Asked). Comes server m b.call b.answer) (acts s from up settled (verdict_on s from up)) (asked now (L.Receive from bytes) up ∷ []) (inl (bytes, ap (λ f. L.Receive f bytes) there, k.1)))
 

@@ -33,11 +33,11 @@ counts_more low waiting taken r BodyTooLarge is k = same_counts low waiting take
 counts_more low waiting taken r BadPath is k = same_counts low waiting taken k
 counts_more low waiting taken r CallsSpent is k = same_counts low waiting taken k
 
-called : (t : List Call) (now : ℕ) (r : Request) (answer : Taking) → answer ≡ taking (own_of t) r → Below t (own_of t).waiting (own_of t).taken
+called : (szx : ℕ) (t : List Call) (now : ℕ) (r : Request) (answer : Taking) → answer ≡ taking szx (own_of t) r → Below t (own_of t).waiting (own_of t).taken
     → Below (Calls now r answer ∷ t) ((own_of t).waiting ++ queued answer r) ((own_of t).taken + taken_by answer)
-called t now r answer right k =
+called szx t now r answer right k =
     quiet t (Calls now r answer) ((own_of t).waiting ++ queued answer r) ((own_of t).taken + taken_by answer) (λ x h. cc h)
-    (record { low = k.low; waits = counts_more k.low (own_of t).waiting (own_of t).taken r answer (λ n e. taking_number (own_of t) r n (sym e ∙ right)) k.waits; sent = k.sent })
+    (record { low = k.low; waits = counts_more k.low (own_of t).waiting (own_of t).taken r answer (λ n e. taking_number szx (own_of t) r n (sym e ∙ right)) k.waits; sent = k.sent })
 
 -- what starts is the first that waits
 module _ (t : List Call) (now word : ℕ) (below : L.Answer) (w : Turn) (sent : L.Answer) (z : Result (List ℕ) AskRefusal) (answer : Bool) (k : Below t (own_of t).waiting (own_of t).taken) where
@@ -69,7 +69,7 @@ State t = Below t (own_of t).waiting (own_of t).taken
 
 pub numbers : (szx : ℕ) (t : List Call) → ClientRows szx t → State t
 numbers szx [] law = record { low = 0; waits = refl; sent = λ x h. absurd h }
-numbers szx (Calls now r answer ∷ t) law = called t now r answer law.0.0 (numbers szx t law.1)
+numbers szx (Calls now r answer ∷ t) law = called szx t now r answer law.0 (numbers szx t law.1)
 numbers szx (Feeds now from bytes word up settled e ∷ t) law = quiet t (Feeds now from bytes word up settled e) (own_of t).waiting (own_of t).taken (λ x h. cc h) (numbers szx t law.1)
 numbers szx (Ticks now word below w sent z answer ∷ t) law = ticked t now word below w sent z answer (numbers szx t law.1) (starting (own_of t) w) refl
 numbers szx (NextOut answer ∷ t) law = quiet t (NextOut answer) (own_of t).waiting (own_of t).taken (λ x h. cc h) (numbers szx t law.1)

@@ -108,8 +108,8 @@ silent : (P Q : ℕ → Type 0) (running : Option Operation) (waiting : List Ope
 silent P Q running waiting taken f k = finished P Q running waiting taken k None (λ x h. absurd (cc h)) (λ n q. inl (f n q))
 
 -- a call is taken under the next number
-pub taking_number : (s : Own) (r : Request) (n : ℕ) → Taken n ≡ taking s r → n ≡ s.taken
-taking_number s r n h = by _ _ _ _ h
+pub taking_number : (szx : ℕ) (s : Own) (r : Request) (n : ℕ) → Taken n ≡ taking szx s r → n ≡ s.taken
+taking_number szx s r n h = by _ _ _ _ h
   where
     by : (a b c d : Bool) → Taken n ≡ cond a QueueFull (cond b BodyTooLarge (cond c BadPath (cond d CallsSpent (Taken s.taken)))) → n ≡ s.taken
     by true b c d h = absurd (cc h)
@@ -118,14 +118,14 @@ taking_number s r n h = by _ _ _ _ h
     by false false false true h = absurd (cc h)
     by false false false false h = cc h
 
-takes_one : (P : ℕ → Type 0) (s : Own) (r : Request) (answer : Taking) → answer ≡ taking s r → Numbered P s.running s.waiting s.taken → Numbered P s.running (s.waiting ++ queued answer r) (s.taken + taken_by answer)
-takes_one P s r answer right k = record { low = k.low; waits = by answer right; runs = k.runs; over = k.over; apart = k.apart }
+takes_one : (szx : ℕ) (P : ℕ → Type 0) (s : Own) (r : Request) (answer : Taking) → answer ≡ taking szx s r → Numbered P s.running s.waiting s.taken → Numbered P s.running (s.waiting ++ queued answer r) (s.taken + taken_by answer)
+takes_one szx P s r answer right k = record { low = k.low; waits = by answer right; runs = k.runs; over = k.over; apart = k.apart }
   where
     same : Counts k.low (s.waiting ++ []) (s.taken + 0)
     same = subst (λ ws. Counts k.low ws (s.taken + 0)) (sym (append-nil s.waiting)) (subst (λ n. Counts k.low s.waiting n) (let e : s.taken ≡ s.taken + 0 = omega arith in e) k.waits)
 
-    by : (answer : Taking) → answer ≡ taking s r → Counts k.low (s.waiting ++ queued answer r) (s.taken + taken_by answer)
-    by (Taken n) h = counts_with k.low s.waiting s.taken (record { number = n; request = r }) (taking_number s r n h) k.waits
+    by : (answer : Taking) → answer ≡ taking szx s r → Counts k.low (s.waiting ++ queued answer r) (s.taken + taken_by answer)
+    by (Taken n) h = counts_with k.low s.waiting s.taken (record { number = n; request = r }) (taking_number szx s r n h) k.waits
     by QueueFull h = same
     by BodyTooLarge h = same
     by BadPath h = same
@@ -215,7 +215,7 @@ numbered szx [] law = record { low = 0; waits = refl; runs = λ op h. absurd (cc
 numbered szx (Calls now r answer ∷ t) law =
     let c : Call = Calls now r answer in
     silent (WasReported t) (WasReported (c ∷ t)) (own_of t).running ((own_of t).waiting ++ queued answer r) ((own_of t).taken + taken_by answer) (quiet_now t c refl)
-    (takes_one (WasReported t) (own_of t) r answer law.0.0 (numbered szx t law.1))
+    (takes_one szx (WasReported t) (own_of t) r answer law.0 (numbered szx t law.1))
 numbered szx (Feeds now from bytes word up settled e ∷ t) law =
     let c : Call = Feeds now from bytes word up settled e in
     finished (WasReported t) (WasReported (c ∷ t)) (own_of t).running (own_of t).waiting (own_of t).taken (numbered szx t law.1) (reported (own_of t).running e) (reported_of (own_of t).running e) (adds_now t c)

@@ -6,9 +6,10 @@ use Rattle.coap_types.proofs.PastLemmas.{Ever_front, Ever_back, Ever_map}
 use Rattle.coap_types.specs.declared.endpoint.Endpoint.{Endpoint}
 use Rattle.coap_types.specs.declared.message.Kind.{Kind}
 use Rattle.coap_types.specs.declared.message.Kind.TheVariants.{Con, Non, Ack, Rst}
+use Rattle.coap_types.specs.SameEndpoint.{same_endpoint}
+use Rattle.coap_types.proofs.EndpointLemmas.{same_endpoint_is}
 use Rattle.coap_codec.specs.Message.{Message, kind_number}
 use Rattle.coap_layer.specs.Trace as L
-use Rattle.coap_layer.specs.Trace.{same_place}
 use Rattle.coap_layer.specs.State as S
 use Rattle.coap_layer.specs.Steps.{Steps, entries, left_after}
 use Rattle.coap_layer.specs.Steps as G
@@ -25,7 +26,7 @@ use Rattle.coap_exchange.specs.AnswererLaw as W
 use Rattle.coap_exchange.specs.AskerRequests.{asked}
 use Rattle.coap_exchange.specs.AskerArrivals.{id_in, replying}
 use Rattle.coap_exchange.specs.Tokens.{same_token}
-use Rattle.coap_exchange.proofs.LayerFacts.{both, same_place_is}
+use Rattle.coap_exchange.proofs.LayerFacts.{both}
 use Rattle.coap_exchange.proofs.TokenLemmas.{same_token_is}
 use Rattle.coap_ends.specs.ServerTrace.{Waiting, Own, Handling, Silent, Refuses, Serves, Waits, Call, Sets, Removes, Delays, Feeds, Ticks, NextOut}
 use Rattle.coap_ends.specs.ServerChecks.{Verdict, Ignored, Refused, Asks, verdict_on}
@@ -57,10 +58,10 @@ kind_is Rst Ack h = absurd (cc h)
 
 pub same_asked_is : (a b : Asked) → same_asked a b ≡ true → a ≡ b
 same_asked_is a b h =
-    let p = both (same_place a.from b.from) ((kind_number a.kind == kind_number b.kind) && ((a.id.0 == b.id.0) && same_token a.token b.token)) h in
+    let p = both (same_endpoint a.from b.from) ((kind_number a.kind == kind_number b.kind) && ((a.id.0 == b.id.0) && same_token a.token b.token)) h in
     let q = both (kind_number a.kind == kind_number b.kind) ((a.id.0 == b.id.0) && same_token a.token b.token) p.1 in
     let r = both (a.id.0 == b.id.0) (same_token a.token b.token) q.1 in
-    let from = same_place_is a.from b.from p.0 in
+    let from = same_endpoint_is a.from b.from p.0 in
     let kind = kind_is a.kind b.kind q.0 in
     let id = (unsigned_Decides a.id.0 b.id.0).0 r.0 in
     let token = same_token_is a.token b.token r.1 in
@@ -69,8 +70,8 @@ same_asked_is a b h =
     ∙ (ap {B = Asked} (λ x. record { from = b.from; kind = b.kind; id = record { 0 = x }; token = a.token }) id
     ∙ ap {B = Asked} (λ x. record { from = b.from; kind = b.kind; id = b.id; token = x }) token))
 
--- the call that hands it up
-pub record Hands (szx : ℕ) (a : Asked) (q : Question) (c : Call) : Type 0 where
+-- the call that hands it up, and what it comes to
+pub record Hands (szx : ℕ) (a : Asked) (v : Verdict) (c : Call) : Type 0 where
   pub now : ℕ
   pub from : Endpoint
   pub bytes : List ℕ
@@ -80,7 +81,7 @@ pub record Hands (szx : ℕ) (a : Asked) (q : Question) (c : Call) : Type 0 wher
   pub handling : Handling
   pub below : L.Answer
   pub is : c ≡ Feeds now from bytes word up (Some (a, message)) handling below
-  pub verdict : verdict_on szx message ≡ Asks q
+  pub verdict : verdict_on szx message ≡ v
 
 -- what is served, and what waits, is what is asked
 abbrev question_in : Handling → Option Question
@@ -103,13 +104,13 @@ asks_of s at kind (Asks p) h q right is = ap (λ x. Asks x) (asks_by (waits_by k
 module _ (szx : ℕ) where
   abbrev AllFrom : List Call → List Waiting → Type 0
   AllFrom t [] = Unit {0}
-  AllFrom t (w ∷ ws) = Ever (Hands szx w.asked w.question) t × AllFrom t ws
+  AllFrom t (w ∷ ws) = Ever (Hands szx w.asked (Asks w.question)) t × AllFrom t ws
 
   from_later : (c : Call) (t : List Call) (ws : List Waiting) → AllFrom t ws → AllFrom (c ∷ t) ws
   from_later c t [] h = tt
   from_later c t (w ∷ ws) h = (inr h.0, from_later c t ws h.1)
 
-  from_with : (t : List Call) (ws : List Waiting) (w : Waiting) → AllFrom t ws → Ever (Hands szx w.asked w.question) t → AllFrom t (ws ++ w ∷ [])
+  from_with : (t : List Call) (ws : List Waiting) (w : Waiting) → AllFrom t ws → Ever (Hands szx w.asked (Asks w.question)) t → AllFrom t (ws ++ w ∷ [])
   from_with t [] w h k = (k, tt)
   from_with t (v ∷ ws) w h k = (h.0, from_with t ws w h.1 k)
 
@@ -121,21 +122,21 @@ module _ (szx : ℕ) where
       by true k = h.1
       by false k = (h.0, k)
 
-  from_question : (t : List Call) (at : ℕ) (a : Asked) (ws : List Waiting) (q : Question) → AllFrom t ws → question_of at a ws ≡ Some q → Ever (Hands szx a q) t
+  from_question : (t : List Call) (at : ℕ) (a : Asked) (ws : List Waiting) (q : Question) → AllFrom t ws → question_of at a ws ≡ Some q → Ever (Hands szx a (Asks q)) t
   from_question t at a [] q h is = absurd (cc is)
   from_question t at a (w ∷ ws) q h is = by (is_of at a w) refl (λ e. from_question t at a ws q h.1 e) is
     where
-      by : (b : Bool) → is_of at a w ≡ b → (question_of at a ws ≡ Some q → Ever (Hands szx a q) t) → cond b (Some w.question) (question_of at a ws) ≡ Some q → Ever (Hands szx a q) t
+      by : (b : Bool) → is_of at a w ≡ b → (question_of at a ws ≡ Some q → Ever (Hands szx a (Asks q)) t) → cond b (Some w.question) (question_of at a ws) ≡ Some q → Ever (Hands szx a (Asks q)) t
       by true k z e =
           let same = same_asked_is a w.asked (both (same_asked a w.asked) (nat_le w.delay (at - w.at)) k).0 in
           let asks : w.question ≡ q = cc e in
-          subst (λ x. Ever (Hands szx a x) t) asks (subst (λ x. Ever (Hands szx x w.question) t) (sym same) h.0)
+          subst (λ x. Ever (Hands szx a (Asks x)) t) asks (subst (λ x. Ever (Hands szx x (Asks w.question)) t) (sym same) h.0)
       by false k z e = z e
 
   hands_here : (s : Own) (t : List Call) (now : ℕ) (from : Endpoint) (bytes : List ℕ) (word : ℕ) (up : L.Answer) (p : Asked × Message) (h : Handling) (below : L.Answer) (q : Question)
-      → IsRight szx s (Feeds now from bytes word up (Some p) h below) → question_in h ≡ Some q → Ever (Hands szx p.0 q) (Feeds now from bytes word up (Some p) h below ∷ t)
+      → IsRight szx s (Feeds now from bytes word up (Some p) h below) → question_in h ≡ Some q → Ever (Hands szx p.0 (Asks q)) (Feeds now from bytes word up (Some p) h below ∷ t)
   hands_here s t now from bytes word up p h below q right is =
-      inl (record { now = now; from = from; bytes = bytes; word = word; up = up; message = p.1; handling = h; below = below; is = refl; verdict = asks_of s (max s.clock now) p.0.kind (verdict_on szx p.1) h q right.1 is })
+      inl (record { now = now; from = from; bytes = bytes; word = word; up = up; message = p.1; handling = h; below = below; is = refl; verdict = asks_of s (max s.clock now) p.0.kind (verdict_on szx p.1) h q right is })
 
   module _ (limit : ℕ) where
     abbrev own : List Call → Own
@@ -174,16 +175,16 @@ module _ (szx : ℕ) where
     answers_by None old at h q right is = absurd (cc (ap question_in right, is))
     answers_by (Some p) old at h q right is = sym (let e : question_in h ≡ Some p = ap question_in right.is in e) ∙ is
 
-    pub served_from : (t : List Call) (c : Call) → ServerRows limit szx (c ∷ t) → (x : Serving) → serving (own t) c ≡ Some x → Ever (Hands szx x.asked x.question) (c ∷ t)
+    pub served_from : (t : List Call) (c : Call) → ServerRows limit szx (c ∷ t) → (x : Serving) → serving (own t) c ≡ Some x → Ever (Hands szx x.asked (Asks x.question)) (c ∷ t)
     served_from t (Feeds now from bytes word up (Some p) (Serves q reply r left) below) law x h =
         let same : ◌≡◌ {A = Serving} (record { asked = p.0; question = q; reply = reply; old = (own t).store; left = left }) x = cc h in
-        subst (λ (y : Serving). Ever (Hands szx y.asked y.question) (Feeds now from bytes word up (Some p) (Serves q reply r left) below ∷ t)) same
+        subst (λ (y : Serving). Ever (Hands szx y.asked (Asks y.question)) (Feeds now from bytes word up (Some p) (Serves q reply r left) below ∷ t)) same
         (hands_here (own t) t now from bytes word up p (Serves q reply r left) below q law.0 refl)
     served_from t (Ticks now word below room (due.Ready a) (Serves q reply r left) id answer) law x h =
         let same : ◌≡◌ {A = Serving} (record { asked = a; question = q; reply = reply; old = (own t).store; left = left }) x = cc h in
         let at : ℕ = max (own t).clock now in
         let is = answers_by (question_of at a (own t).waiting) (own t).store at (Serves q reply r left) q law.0.0 refl in
-        inr (subst (λ (y : Serving). Ever (Hands szx y.asked y.question) t) same (from_question t at a (own t).waiting q (waits t law.1) is))
+        inr (subst (λ (y : Serving). Ever (Hands szx y.asked (Asks y.question)) t) same (from_question t at a (own t).waiting q (waits t law.1) is))
     served_from t (Feeds now from bytes word up None h below) law x e = absurd (cc e)
     served_from t (Feeds now from bytes word up (Some p) Silent below) law x e = absurd (cc e)
     served_from t (Feeds now from bytes word up (Some p) (Refuses r) below) law x e = absurd (cc e)
@@ -209,9 +210,9 @@ comes_fed a m s now from bytes word up h below =
     let at : ℕ = max s.clock now in
     Ever_back (Comes a m) (answering at (Some (a, m)) h below) (E.Incoming at from bytes up (Some (a, m)) ∷ []) (inl (at, from, bytes, up, refl))
 
-module _ (limit szx : ℕ) (a : Asked) (q : Question) where
+module _ (limit szx : ℕ) (a : Asked) (v : Verdict) where
   -- the exchanges are told of it
-  pub told : (t : List Call) → Ever (Hands szx a q) t → (m : Message) × (verdict_on szx m ≡ Asks q) × Ever (Comes a m) (lower_of limit szx t)
+  pub told : (t : List Call) → Ever (Hands szx a v) t → (m : Message) × (verdict_on szx m ≡ v) × Ever (Comes a m) (lower_of limit szx t)
   told [] h = absurd h
   told (c ∷ t) (inr h) = let k = told t h in (k.0, k.1, Ever_back (Comes a k.0) (lower (own_of limit szx t) c) (lower_of limit szx t) k.2)
   told (c ∷ t) (inl h) = (
@@ -253,10 +254,10 @@ entry_of K old new (a ∷ earlier) h (inl e) =
     inl (subst (K a.call) right e)
 
 pub are_handed : (limit szx word : ℕ) (t : List Call) → ServerRows limit szx t → W.AnswererLaw (lower_of limit szx t) → (h : S.State) → Steps (S.start word) (W.lower_of (lower_of limit szx t)) h
-    → (a : Asked) (q : Question) → Ever (Hands szx a q) t → Ever (HandsUp szx a q) (W.below_of word (lower_of limit szx t))
-are_handed limit szx word t rows law h steps a q here =
-    let k = told limit szx a q t here in
-    Ever_map (λ (e : L.Entry). Arrives a k.0 e.call e.answer) (HandsUp szx a q) (λ e z. record { message = k.0; bytes = z.0; call = z.1; answer = z.2; asked_is = z.3; verdict = k.1 })
+    → (a : Asked) (v : Verdict) → Ever (Hands szx a v) t → Ever (HandsUp szx a v) (W.below_of word (lower_of limit szx t))
+are_handed limit szx word t rows law h steps a v here =
+    let k = told limit szx a v t here in
+    Ever_map (λ (e : L.Entry). Arrives a k.0 e.call e.answer) (HandsUp szx a v) (λ e z. record { message = k.0; bytes = z.0; call = z.1; answer = z.2; asked_is = z.3; verdict = k.1 })
     (W.below_of word (lower_of limit szx t)) (entry_of (Arrives a k.0) (S.start word) h (W.lower_of (lower_of limit szx t)) steps (arrives a k.0 (lower_of limit szx t) law k.2))
 
 -- each serving, at its place
@@ -265,6 +266,6 @@ handed_up limit szx word [] rows law h steps = tt
 handed_up limit szx word (c ∷ t) rows law h steps =
     let xs : List E.Call = lower (own_of limit szx t) c in
     let back = steps_back word xs (lower_of limit szx t) (h, steps) in (
-      λ x is. are_handed limit szx word (c ∷ t) rows law h steps x.asked x.question (served_from szx limit t c rows x is),
+      λ x is. are_handed limit szx word (c ∷ t) rows law h steps x.asked (Asks x.question) (served_from szx limit t c rows x is),
       handed_up limit szx word t rows.1 (law_back word xs (lower_of limit szx t) law) back.0 back.1,
     )

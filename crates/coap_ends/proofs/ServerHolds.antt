@@ -48,7 +48,7 @@ serves_right szx s (Feeds now from bytes word up (Some p) (Serves q reply respon
       max s.clock now,
       sym (ap (λ (y : Serving). y.old) same),
       subst (λ (y : Serving). R.Serves y.old (max s.clock now) y.question y.reply y.left) same
-          (handles_served s (max s.clock now) p.0.kind (verdict_on szx p.1) q reply response left right.1),
+          (handles_served s (max s.clock now) p.0.kind (verdict_on szx p.1) q reply response left right),
     )
 serves_right szx s (Ticks now word below room (due.Ready a) (Serves q reply response left) id answer) right x h =
     let same : ◌≡◌ {A = Serving} (record { asked = a; question = q; reply = reply; old = s.store; left = left }) x = cc h in (

@@ -3,8 +3,8 @@ use Rattle.std.specs.Prelude.{◌≡◌, ℕ, Bool, true, false, Option, Some, N
 use Rattle.std.specs.Option.{option_map}
 use Rattle.coap_types.specs.Past.{Ever, Once, Always}
 use Rattle.coap_types.specs.declared.endpoint.Endpoint.{Endpoint}
+use Rattle.coap_types.specs.SameEndpoint.{same_endpoint}
 use Rattle.coap_codec.specs.Message.{Message, Spells}
-use Rattle.coap_layer.specs.Trace.{same_place}
 use Rattle.coap_exchange.specs.declared.asker.Event.TheVariants as event
 use Rattle.coap_ends.specs.ClientTrace.{Operation, Report, Body, Done, Failed, TooLarge, Reported, Taken, Own, Call, Calls, Feeds, Ticks}
 use Rattle.coap_ends.specs.ClientReports.{report_of}
@@ -71,7 +71,7 @@ ReportsAreAnswers trace = Always (λ past c. (x : Reported) → reports (own_of 
 pub record CameFrom (server : Endpoint) (c : Call) : Type 0 where
   pub came :
       (now : ℕ) (from : Endpoint) (bytes : List ℕ) (word : ℕ) (up : _) (settled : Bool) (e : _) (m : Message) → c ≡ Feeds now from bytes word up settled e → heard c ≡ Some m
-      → (same_place from server ≡ true) × Spells bytes m
+      → (same_endpoint from server ≡ true) × Spells bytes m
 
 abbrev pub AreFromServer : Endpoint → List Call → Type 0
 AreFromServer server trace = Always (λ past c. CameFrom server c) trace

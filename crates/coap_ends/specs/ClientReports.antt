@@ -1,5 +1,5 @@
 -- What a client reports of a call (RFC 7252, sections 5.8 and 5.9).
-use Rattle.std.specs.Prelude.{◌≡◌, ℕ, ◌==◌, nat_lt, Bool, false, ◌||◌, Option, Some, None, List, [], length, map, if◌then◌else◌}
+use Rattle.std.specs.Prelude.{ℕ, ◌==◌, nat_lt, Bool, ◌||◌, Option, Some, None, List, [], length, map, if◌then◌else◌}
 use Rattle.std.specs.List.{filter}
 use Rattle.coap_types.specs.CoapOption.{CoapOption}
 use Rattle.coap_types.specs.Recognised.{placed, is_recognised}
@@ -38,9 +38,10 @@ recognised d options = map (λ p. p.1) (filter (λ p. is_recognised d p.0 p.1) (
 abbrev pub said : Message → List CoapOption
 said m = recognised direction.Response m.options
 
--- a 2.05 to a GET: the whole representation
+-- a 2.05 to a GET: the whole representation. This client asks for no further blocks (Block2, RFC 7959): a representation
+-- that comes in blocks is too large.
 abbrev pub body_of : Message → Report
-body_of m = if nat_lt max_body (length m.payload) then TooLarge else Body (value_of etag (said m)) (format_of (said m)) m.payload
+body_of m = if has block2 (said m) || nat_lt max_body (length m.payload) then TooLarge else Body (value_of etag (said m)) (format_of (said m)) m.payload
 
 abbrev pub got : Message → Report
 got m = if m.code == content then body_of m else Failed m.code
@@ -66,9 +67,3 @@ outcome method _ = None
 abbrev pub lapse : Event → Report
 lapse event.Timeout = Timeout
 lapse _ = NoResponse
-
--- A representation comes in one message. (One that goes on in further blocks carries Block2, of which this law does not
--- speak: here no such response answers a request.)
-abbrev pub ComesWhole : Option Event → Type 0
-ComesWhole (Some (event.Answer m)) = has block2 (said m) ≡ false
-ComesWhole _ = Unit {0}

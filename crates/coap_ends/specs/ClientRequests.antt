@@ -1,5 +1,5 @@
 -- How a client takes a call, and the request that carries it (RFC 7252, sections 5.8 and 5.10; the bounds are a profile).
-use Rattle.std.specs.Prelude.{ℕ, ◌+◌, ◌-◌, ◌/◌, ◌%◌, ◌==◌, ◌^◌, ◌≤◌, nat_le, nat_lt, Option, Some, None, List, [], ◌∷◌, ◌++◌, length, map, if◌then◌else◌}
+use Rattle.std.specs.Prelude.{ℕ, ◌+◌, ◌-◌, ◌/◌, ◌%◌, ◌==◌, ◌^◌, nat_le, nat_lt, Bool, ◌||◌, Option, Some, None, List, [], ◌∷◌, ◌++◌, length, map, if◌then◌else◌}
 use Rattle.coap_types.specs.CoapOption.{CoapOption}
 use Rattle.coap_types.specs.MethodCode.{method_code}
 use Rattle.coap_types.specs.declared.request.Method.{Method}
@@ -60,11 +60,6 @@ payload_by Delete body = []
 abbrev pub message_of : Request → E.Request
 message_of r = record { code = (method_code r.method).0; token = None; options = options_of r; payload = payload_by r.method r.body }
 
--- A body is carried in one message where it is at most a block long. (A longer one goes by Block1, of which this law does
--- not speak: here no such call is taken.)
-abbrev pub FitsOneMessage : ℕ → Request → Type 0
-FitsOneMessage szx r = length (payload_by r.method r.body) ≤ 2 ^ (szx + 4)
-
 -- the Block option of the longest message of a call
 abbrev pub block_number : Method → ℕ
 block_number Get = block2
@@ -81,6 +76,10 @@ max_waiting = 8
 abbrev pub max_body : ℕ
 max_body = 65536
 
+-- This client sends no body by blocks (Block1, RFC 7959): one that is longer than a block is too large.
+abbrev pub is_too_large : ℕ → Request → Bool
+is_too_large szx r = nat_lt max_body (length r.body) || nat_lt (2 ^ (szx + 4)) (length (payload_by r.method r.body))
+
 abbrev pub max_options : ℕ
 max_options = 115
 
@@ -88,10 +87,10 @@ abbrev pub max_calls : ℕ
 max_calls = 2 ^ 64 - 1
 
 -- whether a call is taken, by the first test that holds
-abbrev pub taking : Own → Request → Taking
-taking s r =
+abbrev pub taking : ℕ → Own → Request → Taking
+taking szx s r =
     if nat_le max_waiting (length s.waiting) then QueueFull
-    else (if nat_lt max_body (length r.body) then BodyTooLarge
+    else (if is_too_large szx r then BodyTooLarge
     else (if nat_lt max_options (length (options_bytes 0 (longest r))) then BadPath
     else (if s.taken == max_calls then CallsSpent
     else Taken s.taken)))

@@ -8,8 +8,8 @@ use Rattle.coap_exchange.specs.declared.asker.Turn.TheVariants as turn
 use Rattle.coap_exchange.specs.AskerTrace as E
 use Rattle.coap_layer.specs.Trace as L
 use Rattle.coap_ends.specs.ClientTrace.{Request, Operation, Reported, NoIds, Taking, Taken, Own, Call, Calls, Feeds, Ticks, NextOut, NextReport}
-use Rattle.coap_ends.specs.ClientRequests.{FitsOneMessage, message_of, taking}
-use Rattle.coap_ends.specs.ClientReports.{outcome, lapse, ComesWhole}
+use Rattle.coap_ends.specs.ClientRequests.{message_of, taking}
+use Rattle.coap_ends.specs.ClientReports.{outcome, lapse}
 
 -- calls are taken into a queue
 
@@ -20,10 +20,6 @@ taken_by _ = 0
 abbrev pub queued : Taking → Request → List Operation
 queued (Taken number) r = record { number = number; request = r } ∷ []
 queued _ r = []
-
-abbrev pub IsTaken : ℕ → Taking → Request → Type 0
-IsTaken szx (Taken number) r = FitsOneMessage szx r
-IsTaken szx _ r = Unit {0}
 
 -- the exchange of the operation that runs comes to this
 
@@ -100,8 +96,8 @@ starts s (Ticks now word below t sent token answer) = started (starting s t) tok
 starts s _ = None
 
 abbrev pub IsRight : ℕ → Own → Call → Type 0
-IsRight szx s (Calls now r answer) = (answer ≡ taking s r) × IsTaken szx answer r
-IsRight szx s (Feeds now from bytes word up settled event) = ComesWhole event
+IsRight szx s (Calls now r answer) = answer ≡ taking szx s r
+IsRight szx s (Feeds now from bytes word up settled event) = Unit {0}
 IsRight szx s (Ticks now word below t sent token answer) = answer ≡ (not (is_idle t) || is_some (starting s t))
 IsRight szx s (NextOut answer) = Unit {0}
 IsRight szx s (NextReport answer) = answer ≡ slice_get s.reports 0

@@ -1,6 +1,6 @@
 -- What a server checks of a request before its store serves it, in this order (RFC 7252, sections 5.4.1, 5.7.2, 5.8 and
 -- 5.10; RFC 7959, section 2.2; the order, and the bounds, are a profile).
-use Rattle.std.specs.Prelude.{◌≡◌, ℕ, ◌==◌, ◌%◌, nat_lt, Bool, true, false, ◌&&◌, ◌||◌, not, Option, Some, None, List, length, map, if◌then◌else◌}
+use Rattle.std.specs.Prelude.{ℕ, ◌==◌, ◌%◌, nat_lt, Bool, false, ◌||◌, Option, Some, None, List, length, map, if◌then◌else◌}
 use Rattle.std.specs.List.{filter}
 use Rattle.coap_types.specs.CoapOption.{CoapOption}
 use Rattle.coap_types.specs.Uint.{uint_value}
@@ -17,9 +17,6 @@ use Rattle.coap_ends.specs.ClientRequests.{uri_path, block1, block2}
 use Rattle.coap_ends.specs.ClientReports.{recognised}
 
 -- the numbers of the options, and the codes of the refusals
-abbrev pub observe : ℕ
-observe = 6
-
 abbrev pub proxy_uri : ℕ
 proxy_uri = 35
 
@@ -64,12 +61,6 @@ abbrev pub is_reserved : Option (List ℕ) → Bool
 is_reserved None = false
 is_reserved (Some value) = ends_in_7 (uint_value value)
 
-abbrev pub carries_body : Method → Bool
-carries_body Get = false
-carries_body Post = true
-carries_body Put = true
-carries_body Delete = false
-
 -- what a request comes to: it is ignored, refused with a code, or asked of the store
 pub data Verdict : Type 0 where
   Ignored : Verdict
@@ -88,18 +79,13 @@ abbrev pub asked_by : ℕ → Option Method → Message → Verdict
 asked_by szx None m = Refused method_not_allowed
 asked_by szx (Some method) m =
     if nat_lt max_segments (length (path_of (asks m))) then Refused bad_request
-    else (if is_reserved (value_of block1 (asks m)) || is_reserved (value_of block2 (asks m)) then Refused bad_request
-    else (if has block1 (asks m) && not (carries_body method) then Refused bad_request
-    else Asks (question szx method m)))
+    else (if is_reserved (value_of block2 (asks m)) then Refused bad_request
+    else Asks (question szx method m))
 
+-- This server joins no blocks (Block1, RFC 7959, which is critical), and takes no observers: it ignores Observe (RFC 7641,
+-- section 4.1).
 abbrev pub verdict_on : ℕ → Message → Verdict
 verdict_on szx m =
-    if lacks_critical direction.Request m.options then bad_by m.kind
+    if lacks_critical direction.Request m.options || has block1 (asks m) then bad_by m.kind
     else (if has proxy_uri (asks m) || has proxy_scheme (asks m) then Refused proxying_not_supported
     else asked_by szx (method_by m.code) m)
-
--- The body of a request comes in one message, and none asks for an observation. (Of requests with Block1 and of those
--- with Observe this law does not speak: here none arrives.)
-pub record IsPlain (m : Message) : Type 0 where
-  pub no_block : has block1 (asks m) ≡ false
-  pub no_observe : has observe (asks m) ≡ false

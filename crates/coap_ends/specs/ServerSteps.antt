@@ -18,7 +18,7 @@ use Rattle.coap_exchange.specs.declared.answerer.Due.TheVariants as due
 use Rattle.coap_exchange.specs.AnswererTrace as E
 use Rattle.coap_exchange.specs.AnswererFollows.{same_asked}
 use Rattle.coap_ends.specs.ServerTrace.{Waiting, Delay, Own, Handling, Silent, Refuses, Serves, Waits, Call, Sets, Removes, Delays, Feeds, Ticks, NextOut}
-use Rattle.coap_ends.specs.ServerChecks.{Verdict, Ignored, Refused, Asks, verdict_on, IsPlain}
+use Rattle.coap_ends.specs.ServerChecks.{Verdict, Ignored, Refused, Asks, verdict_on}
 
 -- local changes
 
@@ -85,7 +85,7 @@ Handles s at kind (Asks q) h = AsksBy (waits_by kind (delay_of q.path s.delays) 
 
 abbrev pub HandlesCame : ℕ → Own → ℕ → Option (Asked × Message) → Handling → Type 0
 HandlesCame szx s at None h = h ≡ Silent
-HandlesCame szx s at (Some p) h = IsPlain p.1 × Handles s at p.0.kind (verdict_on szx p.1) h
+HandlesCame szx s at (Some p) h = Handles s at p.0.kind (verdict_on szx p.1) h
 
 -- time passes: a request that waits is served at the moment of its response
 

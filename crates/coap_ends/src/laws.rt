@@ -5,21 +5,34 @@ ghost use Rattle.coap_layer.specs.Channel.{RepliesSo};
 ghost use Rattle.coap_layer.specs.Follows.{CopiesInTime, HandedUpOnce};
 ghost use Rattle.coap_layer.specs.Rows.{LayerLaw};
 ghost use Rattle.coap_ends.specs.ClientBegins.{ConsAreRequests};
+ghost use Rattle.coap_ends.specs.ClientExact as clients_exact;
 ghost use Rattle.coap_ends.specs.ClientFollows.{AreSent, ReportsAreAnswers, AreFromServer, ReportedOnce};
+ghost use Rattle.coap_ends.specs.ClientGives.{GivesInOrder};
+ghost use Rattle.coap_ends.specs.ClientGoesOn.{GoesOn};
 ghost use Rattle.coap_ends.specs.ClientHears.{AreHeard};
 ghost use Rattle.coap_ends.specs.ClientLaw.{ClientLaw, layer_of};
+ghost use Rattle.coap_ends.specs.ClientNumbering.{OneCall};
 ghost use Rattle.coap_ends.specs.ClientSendings.{OneSending, NoNons, OneCon};
 ghost use Rattle.coap_ends.specs.ClientTrace.{Call};
+ghost use Rattle.coap_ends.specs.ServerExact as servers_exact;
 ghost use Rattle.coap_ends.specs.ServerFollows.{ServedOnce, AllServed, HoldsChanges};
+ghost use Rattle.coap_ends.specs.ServerGives.{SendsResponses};
 ghost use Rattle.coap_ends.specs.ServerHands.{AreHandedUp};
 ghost use Rattle.coap_ends.specs.ServerLaw as servers;
 ghost use Rattle.coap_ends.specs.ServerLaw.{ServerLaw};
+ghost use Rattle.coap_ends.specs.ServerShows.{FormatsInRange, ShowsHeld};
+ghost use Rattle.coap_ends.specs.ServerTags.{AreStamped, OneTag};
 ghost use Rattle.coap_ends.specs.ServerTrace as server;
+ghost use Rattle.coap_ends.specs.ServerWaits.{WaitsAsDeferred, ReadyAreServed};
 
 /// What follows from the law of a client, over its own trace.
 pub fn client_law()
     // The calls of its message layer stand in the law of that layer (RFC 7252, section 4).
     ensures layer { (server : Endpoint) (szx word : ℕ) (t : List Call) → ClientLaw server szx word t → LayerLaw word (layer_of server word t) }
+    // The law leaves each call one answer.
+    ensures exact { (server : Endpoint) (szx word : ℕ) (past : List Call) → clients_exact.IsExact server szx word past }
+    // .. and each has one: what stands in the law goes on.
+    ensures goes { (server : Endpoint) (szx word : ℕ) (t : List Call) → ClientLaw server szx word t → GoesOn server szx word t }
     // A retransmission is of a CON that was begun at most 47,000 ms before, with the same bytes (RFC 7252, section 4.2).
     ensures copies { (server : Endpoint) (szx word : ℕ) (t : List Call) → ClientLaw server szx word t → CopiesInTime (layer_of server word t) }
     // It begins no other CON than the requests of its calls, each with its token, to the server (RFC 7252, section 5.2).
@@ -34,6 +47,8 @@ pub fn client_law()
     ensures sent { (server : Endpoint) (szx word : ℕ) (t : List Call) → ClientLaw server szx word t → AreSent t }
     // A call has one request, and no other has its token (RFC 7252, section 5.3.1).
     ensures sending { (server : Endpoint) (szx word : ℕ) (t : List Call) → ClientLaw server szx word t → OneSending t }
+    // A number names one call.
+    ensures numbers { (server : Endpoint) (szx word : ℕ) (t : List Call) → ClientLaw server szx word t → OneCall t }
     // A report of a response is of the answer to a request of that call (RFC 7252, section 5.3.2).
     ensures answers { (server : Endpoint) (szx word : ℕ) (t : List Call) → ClientLaw server szx word t → ReportsAreAnswers t }
     ensures from_server { (server : Endpoint) (szx word : ℕ) (t : List Call) → ClientLaw server szx word t → AreFromServer server t }
@@ -41,12 +56,19 @@ pub fn client_law()
     ensures heard { (server : Endpoint) (szx word : ℕ) (t : List Call) → ClientLaw server szx word t → AreHeard server word t }
     // A call is reported at most once.
     ensures once { (server : Endpoint) (szx word : ℕ) (t : List Call) → ClientLaw server szx word t → ReportedOnce t }
+    // What is given as reports is what was made, in order.
+    ensures in_order { (server : Endpoint) (szx word : ℕ) (t : List Call) → ClientLaw server szx word t → GivesInOrder t }
 {}
 
 /// What follows from the law of a server, over its own trace.
 pub fn server_law()
     // The calls of its message layer stand in the law of that layer (RFC 7252, section 4).
     ensures layer { (limit szx word : ℕ) (t : List server.Call) → ServerLaw limit szx word t → LayerLaw word (servers.layer_of limit szx word t) }
+    // The law leaves each call one answer.
+    ensures exact { (limit szx word : ℕ) (past : List server.Call) → servers_exact.IsExact limit szx word past }
+    // What waits is what the exchanges defer, and a request that they say is ready is served then (section 5.2.2).
+    ensures waits { (limit szx word : ℕ) (t : List server.Call) → ServerLaw limit szx word t → WaitsAsDeferred limit szx t }
+    ensures ready { (limit szx word : ℕ) (t : List server.Call) → ServerLaw limit szx word t → ReadyAreServed limit szx t }
     // It replies at once: with the Reset of a response, or the acknowledgement of a CON, which may carry the response to it
     // (RFC 7252, sections 4.2 and 5.2.1).
     ensures replies { (limit szx word : ℕ) (t : List server.Call) → ServerLaw limit szx word t → Always RepliesSo (servers.layer_of limit szx word t) }
@@ -60,4 +82,12 @@ pub fn server_law()
     ensures right { (limit szx word : ℕ) (t : List server.Call) → ServerLaw limit szx word t → AllServed limit szx t }
     // The versions of the changes are 1, 2, 3 and so on, and each path holds its last change (section 5.10.6).
     ensures holds { (limit szx word : ℕ) (t : List server.Call) → ServerLaw limit szx word t → HoldsChanges limit szx t }
+    // What it sends is Empty, or carries the response to a request that was handed up (sections 4.2 and 5.2).
+    ensures gives { (limit szx word : ℕ) (t : List server.Call) → ServerLaw limit szx word t → SendsResponses limit szx word t }
+    // What a 2.05 shows that comes whole, the path held then (sections 5.8.1 and 5.10.6).
+    ensures shows { (limit szx word : ℕ) (t : List server.Call) → ServerLaw limit szx word t → FormatsInRange t → ShowsHeld limit szx t }
+    // A version is a number of 64 bits, and what a change puts has the version of the change (section 5.10.6) ..
+    ensures stamped { (limit szx word : ℕ) (t : List server.Call) → ServerLaw limit szx word t → AreStamped limit szx t }
+    // .. so an entity-tag names one representation.
+    ensures tags { (limit szx word : ℕ) (t : List server.Call) → ServerLaw limit szx word t → OneTag limit szx t }
 {}

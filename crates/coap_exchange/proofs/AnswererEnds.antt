@@ -3,6 +3,7 @@ use Rattle.std.proofs.Common.{◌≡◌, ◌≤◌, ℕ, ◌+◌, Bool, true, fa
 use Rattle.std.specs.Bool.{beq}
 use Rattle.std.specs.Option.{option_map}
 use Rattle.coap_types.specs.declared.endpoint.Endpoint.{Endpoint}
+use Rattle.coap_types.proofs.EndpointLemmas.{same_endpoint_self}
 use Rattle.coap_layer.specs.Trace as L
 use Rattle.coap_exchange.specs.declared.answerer.Ended.{Ended}
 use Rattle.coap_exchange.specs.declared.separate.Separate.{Separate}
@@ -10,7 +11,6 @@ use Rattle.coap_exchange.specs.AnswererTrace.{Call, Incoming, Answers, Defers, T
 use Rattle.coap_exchange.specs.AnswererSteps.{goes_to, found, ended_as, separate_of, without, separate_after, separate_unless, reset_by, failed_by}
 use Rattle.coap_exchange.specs.AnswererLaw.{own_of}
 use Rattle.coap_exchange.specs.AnswererFollows.{hits, times, sends, says, same_ended, SaysOnce, EndsOnce}
-use Rattle.coap_exchange.proofs.LayerFacts.{same_place_self}
 use Rattle.coap_exchange.proofs.TokenLemmas.{same_token_self}
 
 beq_self : (b : Bool) → beq b b ≡ true
@@ -21,7 +21,7 @@ all : (p q r : Bool) → p ≡ true → q ≡ true → r ≡ true → (p && (q &
 all p q r hp hq hr = cc (hp, hq, hr)
 
 self_hits : (x : Ended) → hits (same_ended x) (Some x) ≡ 1
-self_hits x = ap (λ b. cond b 1 0) (all _ _ _ (same_place_self x.to) (same_token_self x.token) (beq_self x.observe))
+self_hits x = ap (λ b. cond b 1 0) (all _ _ _ (same_endpoint_self x.to) (same_token_self x.token) (beq_self x.observe))
 
 -- how many like it are outstanding
 abbrev separate_hits : Ended → List Separate → ℕ

@@ -5,11 +5,11 @@ use Rattle.std.proofs.lemmas.List.{append-nil}
 use Rattle.coap_types.specs.declared.endpoint.Endpoint.{Endpoint}
 use Rattle.coap_types.specs.declared.message.Kind.{Kind}
 use Rattle.coap_types.specs.declared.message.Kind.TheVariants.{Con, Non, Ack, Rst}
+use Rattle.coap_types.specs.SameEndpoint.{same_endpoint}
 use Rattle.coap_layer.specs.State as L
 use Rattle.coap_layer.specs.State.{out_of, is_busy}
 use Rattle.coap_layer.specs.Steps.{Steps}
 use Rattle.coap_layer.specs.Trace as T
-use Rattle.coap_layer.specs.Trace.{same_place}
 use Rattle.coap_layer.specs.Words.{Open, same, left_by, begun_in}
 use Rattle.coap_exchange.specs.declared.answerer.Asked.{Asked}
 use Rattle.coap_exchange.specs.declared.separate.Deferred.{Deferred}
@@ -70,7 +70,7 @@ with_mirrors (y ∷ xs) [] x c p q m = absurd m
 
 busy_mirrors : (to : Endpoint) (xs : List Separate) (cs : List Open) → Mirrors xs cs → is_waited_for to xs ≡ is_busy to cs
 busy_mirrors to [] [] m = refl
-busy_mirrors to (x ∷ xs) (c ∷ cs) m = ap (λ p. same_place p to || is_waited_for to xs) m.0 ∙ ap (λ b. same_place c.to to || b) (busy_mirrors to xs cs m.2)
+busy_mirrors to (x ∷ xs) (c ∷ cs) m = ap (λ p. same_endpoint p to || is_waited_for to xs) m.0 ∙ ap (λ b. same_endpoint c.to to || b) (busy_mirrors to xs cs m.2)
 busy_mirrors to [] (c ∷ cs) m = absurd m
 busy_mirrors to (x ∷ xs) [] m = absurd m
 

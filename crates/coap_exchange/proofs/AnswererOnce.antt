@@ -4,6 +4,7 @@ use Rattle.std.specs.Option.{option_map}
 use Rattle.std.specs.Cmp.{unsigned_Decides}
 use Rattle.coap_types.specs.Past.{Ever}
 use Rattle.coap_types.specs.declared.endpoint.Endpoint.{Endpoint}
+use Rattle.coap_types.proofs.EndpointLemmas.{same_endpoint_self}
 use Rattle.coap_codec.specs.Message.{kind_number}
 use Rattle.coap_layer.proofs.ListLemmas.{lt_true}
 use Rattle.coap_exchange.specs.declared.answerer.Asked.{Asked}
@@ -13,11 +14,10 @@ use Rattle.coap_exchange.specs.AnswererTrace.{Own, Call, Incoming, Answers, Defe
 use Rattle.coap_exchange.specs.AnswererSteps.{IsRight, after, may_defer, is_ready, first_ready, without_ready, max_deferred}
 use Rattle.coap_exchange.specs.AnswererLaw.{own_of, AnswererLaw}
 use Rattle.coap_exchange.specs.AnswererFollows.{hands, responds, hits, same_asked, times_handed, times_answered, Responses, AreResponses}
-use Rattle.coap_exchange.proofs.LayerFacts.{same_place_self}
 use Rattle.coap_exchange.proofs.TokenLemmas.{same_token_self}
 
 pub same_asked_self : (a : Asked) → same_asked a a ≡ true
-same_asked_self a = all _ _ _ _ (same_place_self a.from) ((unsigned_Decides (kind_number a.kind) (kind_number a.kind)).1 refl) ((unsigned_Decides a.id.0 a.id.0).1 refl) (same_token_self a.token)
+same_asked_self a = all _ _ _ _ (same_endpoint_self a.from) ((unsigned_Decides (kind_number a.kind) (kind_number a.kind)).1 refl) ((unsigned_Decides a.id.0 a.id.0).1 refl) (same_token_self a.token)
   where
     all : (p q r s : Bool) → p ≡ true → q ≡ true → r ≡ true → s ≡ true → (p && (q && (r && s))) ≡ true
     all p q r s hp hq hr hs = cc (hp, hq, hr, hs)

@@ -158,7 +158,7 @@ module _ (t : List Call) (kept : List (List ℕ)) (known : Keeps t kept) where
         ];
       }
 
-opened_kept : (s : Own) (r : Request) (o : Option ℕ) → (opened s r o).kept ≡ s.kept
+pub opened_kept : (s : Own) (r : Request) (o : Option ℕ) → (opened s r o).kept ≡ s.kept
 opened_kept s r None = refl
 opened_kept s r (Some id) = refl
 

@@ -1,11 +1,11 @@
 -- What the client's side tells came from the server, and is what the datagram spells.
 use Rattle.std.proofs.Common.{◌≡◌, ℕ, Bool, true, Option, Some, None, List, [], ◌∷◌, refl, ap, sym, subst, ◌∙◌}
 use Rattle.coap_types.specs.declared.endpoint.Endpoint.{Endpoint}
+use Rattle.coap_types.specs.SameEndpoint.{same_endpoint}
 use Rattle.coap_codec.specs.Message.{Message, Spells}
 use Rattle.coap_layer.specs.State as L
 use Rattle.coap_layer.specs.Steps.{Steps}
 use Rattle.coap_layer.specs.Trace as T
-use Rattle.coap_layer.specs.Trace.{same_place}
 use Rattle.coap_exchange.specs.declared.asker.Event.{Event}
 use Rattle.coap_exchange.specs.declared.asker.Event.TheVariants as event
 use Rattle.coap_exchange.specs.declared.matching.Verdict.{Verdict}
@@ -42,12 +42,12 @@ module _ (s : Own) (now : ℕ) (from : Endpoint) (bytes : List ℕ) (up : T.Answ
   told_in a = carried (Receive now from bytes up settled a)
 
   abbrev Comes : Type 0
-  Comes = (same_place from s.server ≡ true) × (message_in up ≡ Some m)
+  Comes = (same_endpoint from s.server ≡ true) × (message_in up ≡ Some m)
 
   none_told : (a : Option Event) → answer ≡ a → told_in a ≡ None → told_in answer ≡ Some m → Comes
   none_told a is none h = let e : told_in answer ≡ None = ap told_in is ∙ none in absurd (cc (e, h))
 
-  one_told : (a : Option Event) (n : Message) → answer ≡ a → told_in a ≡ Some n → same_place from s.server ≡ true → up ≡ T.Response n → told_in answer ≡ Some m → Comes
+  one_told : (a : Option Event) (n : Message) → answer ≡ a → told_in a ≡ Some n → same_endpoint from s.server ≡ true → up ≡ T.Response n → told_in answer ≡ Some m → Comes
   one_told a n is one there up_is h =
       let e : Some n ≡ Some m = sym (ap told_in is ∙ one) ∙ h in let same : n ≡ m = cc e in (there, ap message_in up_is ∙ ap (λ x. Some x) same)
 
@@ -65,13 +65,13 @@ module _ (s : Own) (now : ℕ) (from : Endpoint) (bytes : List ℕ) (up : T.Answ
 module _ (server : Endpoint) (word : ℕ) where
   came : (t : List Call) (now : ℕ) (from : Endpoint) (bytes : List ℕ) (up : T.Answer) (settled : Bool) (answer : Option Event) (m : Message) → AskerLaw server word (Receive now from bytes up settled answer ∷ t)
       → (h : L.State) → Steps (L.start word) (lower_of server word (Receive now from bytes up settled answer ∷ t)) h → carried (Receive now from bytes up settled answer) ≡ Some m
-      → (same_place from server ≡ true) × Spells bytes m
+      → (same_endpoint from server ≡ true) × Spells bytes m
   came t now from bytes up settled answer m law h steps told_is =
       let s : Own = own_of server word t in
       let parts = steps_split (L.start word) h (lower s (Receive now from bytes up settled answer)) (lower_of server word t) steps in
       let first = steps_split parts.0 h (acts s from up settled (verdict_on s from up)) (asked now (T.Receive from bytes) up ∷ []) parts.2 in
       let k = comes s now from bytes up settled answer m (verdict_on s from up) (verdict_fits s from up) law.0 told_is in
-      (subst (λ e. same_place from e ≡ true) (server_is server word t) k.0, spelled first.1.0 first.0 now from bytes up m first.1.2 k.1)
+      (subst (λ e. same_endpoint from e ≡ true) (server_is server word t) k.0, spelled first.1.0 first.0 now from bytes up m first.1.2 k.1)
 
   pub came_from : (t : List Call) → AskerLaw server word t → (h : L.State) → Steps (L.start word) (lower_of server word t) h → AreFromServer server t
   came_from [] law h steps = tt

@@ -2,6 +2,7 @@
 use Rattle.std.proofs.Common.{◌≡◌, ◌⊎◌, inl, inr, ℕ, ◌+◌, ◌%◌, max, Bool, true, false, Option, Some, None, List, [], ◌++◌, refl, ap, sym, subst, ◌∙◌, cond, option_to_list}
 use Rattle.std.proofs.lemmas.List.{append-nil}
 use Rattle.coap_types.specs.declared.endpoint.Endpoint.{Endpoint}
+use Rattle.coap_types.proofs.EndpointLemmas.{same_endpoint_is}
 use Rattle.coap_layer.specs.State as L
 use Rattle.coap_layer.specs.State.{out_of, tick_of}
 use Rattle.coap_layer.specs.Steps.{Steps}
@@ -18,7 +19,7 @@ use Rattle.coap_exchange.specs.AskerTrace.{Request, Own}
 use Rattle.coap_exchange.specs.AskerRequests.{beneath, opening_of, opened, sent_as, request_token, content_of}
 use Rattle.coap_exchange.specs.AskerArrivals.{is_of_request, verdict_on, settles, replying, settling, running_after, running_unless, turn_of, has_waited, acked_in}
 use Rattle.coap_exchange.specs.AskerFollows.{Begun}
-use Rattle.coap_exchange.proofs.LayerFacts.{same_place_is, opens_then, entry_of, step_clock, step_opens, left_same, left_same_nil}
+use Rattle.coap_exchange.proofs.LayerFacts.{opens_then, entry_of, step_clock, step_opens, left_same, left_same_nil}
 use Rattle.coap_exchange.proofs.AskerLone.{Lone, without, ends_of, other_left, copied_left}
 use Rattle.coap_exchange.proofs.MatchingLemmas as match
 use Rattle.coap_exchange.proofs.MatchingLemmas.{OfRequest, of_request, verdict_fits, TurnFits, turn_fits}
@@ -120,7 +121,7 @@ module _ (s : Own) (b : Option Begun) (at : ℕ) (from : Endpoint) (bytes : List
 
   -- the request is acknowledged or rejected: none is outstanding
   gone : (id : ℕ) (o : OfRequest s from id) → without from id cs ≡ []
-  gone id o = ends_of s.server o.exchange b cs from id (same_place_is from s.server o.there) o.id_is (subst (λ x. Lone s.server x b cs) o.runs lone)
+  gone id o = ends_of s.server o.exchange b cs from id (same_endpoint_is from s.server o.there) o.id_is (subst (λ x. Lone s.server x b cs) o.runs lone)
 
 -- what follows an arrival
 abbrev pub settled_opens : Bool → Endpoint → Option Exchange → List Open → List Open
@@ -174,7 +175,7 @@ module _ (s : Own) (b : Option Begun) (at l_at : ℕ) (out : List T.Packet) (cs 
   still below f = subst (Lone s.server s.running b) (sym (left_same_nil (entry_of l_at T.Ticks below out) f cs)) lone
 
   expired_lone : (to : Endpoint) (id : ℕ) (w : Bool) → is_of_request s to id ≡ w → Lone s.server (running_unless (cond w (turn.End event.Timeout) turn.Idle) s.running) b (without to id cs)
-  expired_lone to id true is = let o = of_request s to id is in ends_of s.server o.exchange b cs to id (same_place_is to s.server o.there) o.id_is (subst (λ x. Lone s.server x b cs) o.runs lone)
+  expired_lone to id true is = let o = of_request s to id is in ends_of s.server o.exchange b cs to id (same_endpoint_is to s.server o.there) o.id_is (subst (λ x. Lone s.server x b cs) o.runs lone)
   expired_lone to id false is = other_left s b cs to id is lone
 
   none_outstanding : (running : Option Exchange) → Lone s.server running b cs → has_waited at (acked_in running) ≡ true → cs ≡ []

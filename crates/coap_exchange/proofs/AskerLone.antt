@@ -3,7 +3,9 @@ use Rattle.std.proofs.Common.{◌≡◌, ◌⊎◌, inl, inr, ◌≤◌, ℕ, �
 use Rattle.std.specs.List.{filter_map, cons_option}
 use Rattle.std.specs.Cmp.{unsigned_Decides}
 use Rattle.coap_types.specs.declared.endpoint.Endpoint.{Endpoint}
-use Rattle.coap_layer.specs.Trace.{Answer, Idle, Copied, Expired, same_place}
+use Rattle.coap_types.specs.SameEndpoint.{same_endpoint}
+use Rattle.coap_types.proofs.EndpointLemmas.{same_endpoint_is, same_endpoint_self}
+use Rattle.coap_layer.specs.Trace.{Answer, Idle, Copied, Expired}
 use Rattle.coap_layer.specs.Words.{Open, same}
 use Rattle.coap_layer.specs.State.{tick_of, is_failed, is_copy_due}
 use Rattle.coap_layer.proofs.ListLemmas.{le_true}
@@ -11,7 +13,7 @@ use Rattle.coap_exchange.specs.declared.asker.Exchange.{Exchange}
 use Rattle.coap_exchange.specs.AskerTrace.{Own}
 use Rattle.coap_exchange.specs.AskerArrivals.{has_id, is_of_request}
 use Rattle.coap_exchange.specs.AskerFollows.{Begun}
-use Rattle.coap_exchange.proofs.LayerFacts.{both, same_place_is, same_place_self}
+use Rattle.coap_exchange.proofs.LayerFacts.{both}
 
 -- it was sent when the exchange began, and is not acknowledged
 pub record IsSent (server : Endpoint) (x : Exchange) (b : Option Begun) (cs : List Open) : Type 0 where
@@ -41,10 +43,10 @@ without to id cs = filter_map (λ (c : Open). cond (same to id c.to c.id) None (
 
 same_id : (to place : Endpoint) (id n : ℕ) → place ≡ to → n ≡ id → same to id place n ≡ true
 same_id to place id n p q =
-    subst (λ x. same to id x n ≡ true) (sym p) (subst (λ y. same to id to y ≡ true) (sym q) (ap (λ b. b && (id == id)) (same_place_self to) ∙ (unsigned_Decides id id).1 refl))
+    subst (λ x. same to id x n ≡ true) (sym p) (subst (λ y. same to id to y ≡ true) (sym q) (ap (λ b. b && (id == id)) (same_endpoint_self to) ∙ (unsigned_Decides id id).1 refl))
 
 id_same : (to place : Endpoint) (id n : ℕ) → same to id place n ≡ true → (place ≡ to) × (n ≡ id)
-id_same to place id n h = let b = both (same_place place to) (n == id) h in (same_place_is place to b.0, (unsigned_Decides n id).0 b.1)
+id_same to place id n h = let b = both (same_endpoint place to) (n == id) h in (same_endpoint_is place to b.0, (unsigned_Decides n id).0 b.1)
 
 one_gone : (to : Endpoint) (id : ℕ) (c : Open) → same to id c.to c.id ≡ true → without to id (c ∷ []) ≡ []
 one_gone to id c h = ap (λ b. cons_option (cond b None (Some c)) [] ++ []) h
@@ -78,7 +80,7 @@ other_one s x b cs to id runs not_of z true is =
     let k = id_same to z.con.to id z.con.id is in
     let to_server : to ≡ s.server = sym k.0 ∙ z.to_is in
     let id_here : id ≡ x.id.0 = sym k.1 ∙ z.id_is in
-    let here : same_place to s.server ≡ true = subst (λ y. same_place to y ≡ true) to_server (same_place_self to) in
+    let here : same_endpoint to s.server ≡ true = subst (λ y. same_endpoint to y ≡ true) to_server (same_endpoint_self to) in
     let has : has_id s.running id ≡ true = subst (λ r. has_id r id ≡ true) (sym runs) (of_id x id id_here) in
     let yes : is_of_request s to id ≡ true = ap (λ w. w && has_id s.running id) here ∙ has in
     absurd (cc (yes, not_of))

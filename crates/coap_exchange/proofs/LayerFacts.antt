@@ -7,25 +7,13 @@ use Rattle.std.specs.Cmp.Lexicographic.{bytes_decides, pointwise}
 use Rattle.coap_types.specs.declared.endpoint.Endpoint.{Endpoint}
 use Rattle.coap_layer.specs.State as L
 use Rattle.coap_layer.specs.State.{answer_of, out_of, moment, made, tick_of, is_failed, is_copy_due}
-use Rattle.coap_layer.specs.Trace.{Packet, Call, Answer, Entry, same_place}
+use Rattle.coap_layer.specs.Trace.{Packet, Call, Answer, Entry}
 use Rattle.coap_layer.specs.Words.{Open, left_by, begun_in}
-
--- endpoints
 
 pub both : (x y : Bool) → (x && y) ≡ true → (x ≡ true) × (y ≡ true)
 both true true h = (refl, refl)
 both true false h = absurd (cc h)
 both false y h = absurd (cc h)
-
-pub same_place_is : (a b : Endpoint) → same_place a b ≡ true → a ≡ b
-same_place_is a b h =
-    let k = both (pointwise nat_eq a.ip b.ip) (a.port == b.port) h in
-    let ips : a.ip ≡ b.ip = (bytes_decides a.ip b.ip).0 k.0 in
-    let ports : a.port ≡ b.port = (unsigned_Decides a.port b.port).0 k.1 in
-    ap (λ ip. record { ip = ip; port = a.port }) ips ∙ ap (λ port. record { ip = b.ip; port = port }) ports
-
-pub same_place_self : (a : Endpoint) → same_place a a ≡ true
-same_place_self a = ap (λ x. x && (a.port == a.port)) ((bytes_decides a.ip a.ip).1 refl) ∙ (unsigned_Decides a.port a.port).1 refl
 
 -- a call
 

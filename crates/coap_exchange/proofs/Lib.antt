@@ -9,8 +9,13 @@ pub mod LayerFacts
 pub mod AskerLone
 pub mod AskerFits
 pub mod AskerInTime
+pub mod AskerDue
+pub mod AskerKept
+pub mod AskerRefused
 pub mod ArrivalFacts
 pub mod AskerCame
+pub mod AskerRejected
+pub mod AskerResponses
 pub mod AskerExactly
 pub mod AnswererLeading
 pub mod AnswererOnce
@@ -28,3 +33,4 @@ pub mod AnswererRoom
 pub mod AskableLemmas
 pub mod ListedLemmas
 pub mod AskerWitness
+pub mod AnswererWitness

@@ -4,9 +4,9 @@ use Rattle.std.specs.Cmp.{unsigned_Decides}
 use Rattle.coap_types.specs.declared.endpoint.Endpoint.{Endpoint}
 use Rattle.coap_types.specs.declared.message.Kind.{Kind}
 use Rattle.coap_types.specs.declared.message.Kind.TheVariants.{Con, Non, Ack, Rst}
+use Rattle.coap_types.specs.SameEndpoint.{same_endpoint}
 use Rattle.coap_codec.specs.Message.{Message}
 use Rattle.coap_layer.specs.Trace as L
-use Rattle.coap_layer.specs.Trace.{same_place}
 use Rattle.coap_exchange.specs.declared.matching.Known.{Known}
 use Rattle.coap_exchange.specs.declared.matching.Verdict.{Verdict}
 use Rattle.coap_exchange.specs.declared.matching.Verdict.TheVariants.{Ignore, Reject, Acknowledge, AnswerCon, Answer, NoticeCon, Notice, Await, EndByReset}
@@ -75,7 +75,7 @@ rests kind k = rests_known kind k.from_server k.of_exchange k.same_id k.kept k.b
 pub record Answers (s : Own) (from : Endpoint) (up : L.Answer) : Type 0 where
   pub message : Message
   pub is : up ≡ L.Response message
-  pub there : same_place from s.server ≡ true
+  pub there : same_endpoint from s.server ≡ true
   pub exchange : Exchange
   pub runs : s.running ≡ Some exchange
   pub token : message.token ≡ exchange.token
@@ -83,11 +83,11 @@ pub record Answers (s : Own) (from : Endpoint) (up : L.Answer) : Type 0 where
 pub record Notices (s : Own) (from : Endpoint) (up : L.Answer) : Type 0 where
   pub message : Message
   pub is : up ≡ L.Response message
-  pub there : same_place from s.server ≡ true
+  pub there : same_endpoint from s.server ≡ true
   pub kept : is_kept message.token s.kept ≡ true
 
 pub record OfRequest (s : Own) (from : Endpoint) (id : ℕ) : Type 0 where
-  pub there : same_place from s.server ≡ true
+  pub there : same_endpoint from s.server ≡ true
   pub exchange : Exchange
   pub runs : s.running ≡ Some exchange
   pub id_is : (id ≡ exchange.id.0)
@@ -118,7 +118,7 @@ both false b h = absurd (cc h)
 
 pub of_request : (s : Own) (from : Endpoint) (id : ℕ) → is_of_request s from id ≡ true → OfRequest s from id
 of_request s from id h =
-    let b = both (same_place from s.server) (has_id s.running id) h in
+    let b = both (same_endpoint from s.server) (has_id s.running id) h in
     let w = with_id s.running id b.1 in
     record { there = b.0; exchange = w.0; runs = w.1; id_is = w.2 }
 

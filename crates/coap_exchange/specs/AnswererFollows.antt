@@ -4,9 +4,9 @@ use Rattle.std.specs.Bool.{beq}
 use Rattle.coap_types.specs.Past.{Ever, Always}
 use Rattle.coap_types.specs.Recognised.{has_number}
 use Rattle.coap_types.specs.declared.endpoint.Endpoint.{Endpoint}
+use Rattle.coap_types.specs.SameEndpoint.{same_endpoint}
 use Rattle.coap_codec.specs.Message.{Message, Spells, kind_number}
 use Rattle.coap_layer.specs.State as L
-use Rattle.coap_layer.specs.Trace.{same_place}
 use Rattle.coap_exchange.specs.declared.answerer.Asked.{Asked}
 use Rattle.coap_exchange.specs.declared.answerer.Ended.{Ended}
 use Rattle.coap_exchange.specs.AnswererTrace.{Call, Incoming, Answers, Ticks, Responds, Notifies}
@@ -36,7 +36,7 @@ times p f (c ∷ past) = hits p (f past c) + times p f past
 
 -- of one endpoint, type, Message ID and token
 abbrev pub same_asked : Asked → Asked → Bool
-same_asked a b = same_place a.from b.from && ((kind_number a.kind == kind_number b.kind) && ((a.id.0 == b.id.0) && same_token a.token b.token))
+same_asked a b = same_endpoint a.from b.from && ((kind_number a.kind == kind_number b.kind) && ((a.id.0 == b.id.0) && same_token a.token b.token))
 
 abbrev pub times_handed : Asked → List Call → ℕ
 times_handed a t = times (same_asked a) (λ past c. hands c) t
@@ -72,7 +72,7 @@ says past (Ticks now below room answer) = failed_by below (own_of past).separate
 says past _ = None
 
 abbrev pub same_ended : Ended → Ended → Bool
-same_ended x y = same_place x.to y.to && (same_token x.token y.token && beq x.observe y.observe)
+same_ended x y = same_endpoint x.to y.to && (same_token x.token y.token && beq x.observe y.observe)
 
 -- Each that is said to have ended was sent, and is said once.
 pub record SaysOnce (past : List Call) (c : Call) : Type 0 where

@@ -9,11 +9,12 @@ use Rattle.coap_types.specs.declared.role.Role.TheVariants as role
 use Rattle.coap_types.specs.declared.endpoint.Endpoint.{Endpoint}
 use Rattle.coap_types.specs.declared.message.Kind.{Kind}
 use Rattle.coap_types.specs.declared.message.Kind.TheVariants.{Con, Ack}
+use Rattle.coap_types.specs.SameEndpoint.{same_endpoint}
 use Rattle.coap_codec.specs.Message.{Message}
 use Rattle.coap_codec.specs.Writing.{message_bytes}
 use Rattle.coap_layer.specs.Rows.{IsSpelled}
 use Rattle.coap_layer.specs.Trace as L
-use Rattle.coap_layer.specs.Trace.{same_place, with_head}
+use Rattle.coap_layer.specs.Trace.{with_head}
 use Rattle.coap_layer.specs.Words.{is_kept, same}
 use Rattle.coap_layer.specs.Steps.{Asked as Below}
 use Rattle.coap_exchange.specs.declared.answerer.Asked.{Asked}
@@ -134,7 +135,7 @@ pending_unless false pending = pending
 -- has no CON outstanding (NSTART is 1, section 4.7), where a Message ID is free
 
 abbrev pub is_waited_for : Endpoint → List Separate → Bool
-is_waited_for to xs = list_any (λ (x : Separate). same_place x.to to) xs
+is_waited_for to xs = list_any (λ (x : Separate). same_endpoint x.to to) xs
 
 abbrev pub is_ready : ℕ → List Separate → Deferred → Bool
 is_ready at xs d = nat_le d.delay (at - d.at) && not (is_waited_for d.asked.from xs)

@@ -4,9 +4,9 @@ use Rattle.std.specs.Option.{option_map}
 use Rattle.coap_types.specs.Unrecognised.{lacks_critical, carries}
 use Rattle.coap_types.specs.declared.direction.Direction.TheVariants.{Response}
 use Rattle.coap_types.specs.declared.endpoint.Endpoint.{Endpoint}
+use Rattle.coap_types.specs.SameEndpoint.{same_endpoint}
 use Rattle.coap_codec.specs.Message.{Message}
 use Rattle.coap_layer.specs.Trace as L
-use Rattle.coap_layer.specs.Trace.{same_place}
 use Rattle.coap_layer.specs.Steps.{Asked}
 use Rattle.coap_exchange.specs.declared.asker.Event.{Event}
 use Rattle.coap_exchange.specs.declared.asker.Event.TheVariants as event
@@ -41,7 +41,7 @@ observe = 6
 abbrev pub known_of : Own → Endpoint → Message → Known
 known_of s from m =
     record {
-      from_server = same_place from s.server;
+      from_server = same_endpoint from s.server;
       of_exchange = has_token s.running m.token;
       same_id = has_id s.running m.id;
       kept = is_kept m.token s.kept;
@@ -51,7 +51,7 @@ known_of s from m =
 
 -- it goes to the request of the exchange that runs
 abbrev pub is_of_request : Own → Endpoint → ℕ → Bool
-is_of_request s from id = same_place from s.server && has_id s.running id
+is_of_request s from id = same_endpoint from s.server && has_id s.running id
 
 abbrev pub verdict_on : Own → Endpoint → L.Answer → Verdict
 verdict_on s from (L.Response m) = judged m.kind (known_of s from m)

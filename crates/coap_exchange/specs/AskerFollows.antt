@@ -1,9 +1,9 @@
 -- What follows from the law of the client's side, in words on the trace (RFC 7252, sections 4.2, 5.2.2, 5.3).
-use Rattle.std.specs.Prelude.{◌≡◌, ◌≤◌, ◌<◌, ℕ, ◌+◌, ◌-◌, ◌*◌, ◌%◌, ◌^◌, max, Bool, true, false, Option, Some, None, List, [], ◌∷◌, Ok, Err}
+use Rattle.std.specs.Prelude.{◌≡◌, ◌↔◌, ◌≤◌, ◌<◌, ℕ, ◌+◌, ◌-◌, ◌*◌, ◌%◌, ◌^◌, max, Bool, true, false, IsTrue, Option, Some, None, List, [], ◌∷◌, length, Ok, Err}
 use Rattle.coap_types.specs.Past.{Ever, Always, Since}
 use Rattle.coap_types.specs.declared.endpoint.Endpoint.{Endpoint}
+use Rattle.coap_types.specs.SameEndpoint.{same_endpoint}
 use Rattle.coap_codec.specs.Message.{Message, Spells}
-use Rattle.coap_layer.specs.Trace.{same_place}
 use Rattle.coap_exchange.specs.declared.asker.Event.{Event}
 use Rattle.coap_exchange.specs.declared.asker.Event.TheVariants as event
 use Rattle.coap_exchange.specs.declared.asker.Turn.TheVariants as turn
@@ -11,7 +11,7 @@ use Rattle.coap_exchange.specs.declared.asker.AskRefusal.TheVariants as refusal
 use Rattle.coap_exchange.specs.declared.asker.Exchange.{Exchange}
 use Rattle.coap_exchange.specs.AskerTrace.{Request, Call, Ask, Receive, Ticks, Keep, Release}
 use Rattle.coap_exchange.specs.AskerLaw.{own_of}
-use Rattle.coap_exchange.specs.Tokens.{token_of}
+use Rattle.coap_exchange.specs.Tokens.{token_of, max_kept, is_kept}
 
 -- the token of the exchange that a call begins, and where it is a fresh one
 abbrev pub begun : Call → Option (List ℕ)
@@ -146,11 +146,16 @@ module _ (server : Endpoint) (word : ℕ) where
   abbrev pub EndInTime : List Call → Type 0
   EndInTime trace = Always InTime trace
 
+  -- The tokens that are kept are those that were kept and not released since, at most 16 (profile).
+  pub record FewKept (trace : List Call) : Type 0 where
+    pub few : length (own_of server word trace).kept ≤ max_kept
+    pub are : (token : List ℕ) → IsTrue (is_kept token (own_of server word trace).kept) ↔ Kept token trace
+
 -- an answer and a notification came from the server, and are what the datagram spells
 pub record CameFrom (server : Endpoint) (c : Call) : Type 0 where
   pub came :
       (now : ℕ) (from : Endpoint) (bytes : List ℕ) (up : _) (settled : Bool) (answer : Option Event) (m : Message) → c ≡ Receive now from bytes up settled answer → carried c ≡ Some m
-      → (same_place from server ≡ true) × Spells bytes m
+      → (same_endpoint from server ≡ true) × Spells bytes m
 
 abbrev pub AreFromServer : Endpoint → List Call → Type 0
 AreFromServer server trace = Always (λ past c. CameFrom server c) trace

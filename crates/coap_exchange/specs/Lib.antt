@@ -7,6 +7,9 @@ pub mod AskerArrivals
 pub mod AskerSteps
 pub mod AskerLaw
 pub mod AskerFollows
+pub mod AskerDue
+pub mod AskerTells
+pub mod AskerResponses
 pub mod AskerExact
 pub mod AnswererTrace
 pub mod AnswererSteps

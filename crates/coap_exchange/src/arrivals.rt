@@ -5,7 +5,6 @@ ghost use Rattle.coap_types.specs.declared.direction.Direction.TheVariants as di
 ghost use Rattle.coap_layer.specs.Shown.{MayReply};
 ghost use Rattle.coap_layer.specs.Steps.{Steps};
 ghost use Rattle.coap_layer.specs.Trace as below;
-ghost use Rattle.coap_layer.specs.Trace.{same_place};
 ghost use Rattle.coap_layer.specs.Ups.{answer_as, IsTick};
 ghost use Rattle.coap_exchange.specs.declared.asker.AskRefusal.TheVariants as refusals;
 ghost use Rattle.coap_exchange.specs.declared.asker.Event.TheVariants as events;
@@ -25,13 +24,6 @@ use coap_layer::{Layer, SendRefusal, Tick, Up};
 use coap_types::option_number::OBSERVE;
 use coap_types::{Direction, Endpoint, Id, Moment, Token, carries, lacks_critical};
 use std::alloc::Allocator;
-
-/// Whether two endpoints are the same.
-pub(crate) fn same(a: Endpoint, b: Endpoint) -> bool
-    ensures { result ≡ same_place a b }
-{
-    a.ip == b.ip && a.port == b.port
-}
 
 /// Whether the response has a critical option that is not recognised (RFC 7252, section 5.4.1).
 fn has_bad_option(response: &View<'_>) -> bool
@@ -53,7 +45,7 @@ fn known(server: Endpoint, held: &Held, from: Endpoint, response: &View<'_>) -> 
 {
     let of_exchange = has_token(&held.running, response.token());
     Known {
-        from_server: same(from, server),
+        from_server: from == server,
         of_exchange,
         same_id: has_id(&held.running, response.id()),
         kept: held.kept.has(response.token()),
@@ -67,7 +59,7 @@ fn known(server: Endpoint, held: &Held, from: Endpoint, response: &View<'_>) -> 
 fn is_of_request(server: Endpoint, held: &Held, from: Endpoint, id: Id) -> bool
     ensures { (clock word : ℕ) → result ≡ is_of_request (own_with clock server word held.now) from id.0 }
 {
-    same(from, server) && has_id(&held.running, id)
+    from == server && has_id(&held.running, id)
 }
 
 // The verdict on what is of the request; else it is ignored.

@@ -1,6 +1,6 @@
-ghost use Rattle.std.specs.Prelude.{◌≡◌, ◌≢◌, ℕ, Bool, List, [], ◌∷◌, None, Some, Err, IsOk, IfOk, OnOk, OnErr, IsSome, max};
+ghost use Rattle.std.specs.Prelude.{◌≡◌, ◌≢◌, ℕ, Bool, false, List, [], ◌∷◌, None, Some, Err, IsOk, IfOk, OnOk, OnErr, IsSome, max};
 ghost use Rattle.coap_types.specs.declared.endpoint.Endpoint.{Endpoint};
-ghost use Rattle.coap_layer.specs.State.{copies, made};
+ghost use Rattle.coap_layer.specs.State.{answer_of, copies, made};
 ghost use Rattle.coap_layer.specs.Trace as below;
 ghost use Rattle.coap_layer.specs.Ups.{IsQuiet};
 ghost use Rattle.coap_exchange.specs.declared.asker.AskRefusal.TheVariants as refusals;
@@ -162,6 +162,9 @@ impl<A: Allocator + Copy> Asker<A> {
         ensures led { (server : Endpoint) (begin : ℕ) (t : List Call) → Led server begin t self.old.state → result ≢ Err refusals.Memory → (answer : below.Answer) × Led server begin (Asks now.0 ask.now word answer result ∷ t) self.new.state }
         ensures before { self.new.before ≡ self.old.before }
         ensures memory { result ≡ Err refusals.Memory → self.new ≡ self.old }
+        // Where it refuses for another reason, it takes no memory.
+        ensures opens { opening_of self.old.state.own ask.now ≢ openings.Sends → result ≢ Err refusals.Memory }
+        ensures quiet { answer_of self.old.state.layer (max self.old.state.own.clock now.0) (below.Room self.old.state.own.server) ≡ below.Is false → result ≢ Err refusals.Memory }
     {
         let running = self.held.running.is_some();
         let spent = is_spent(self.held.given);
@@ -182,6 +185,7 @@ impl<A: Allocator + Copy> Asker<A> {
         ensures step { result ≢ Err refusals.Memory → (answer : below.Answer) × Step self.old.state (Asks now.0 ask.now word answer result) self.new.state }
         ensures before { self.new.before ≡ self.old.before }
         ensures memory { result ≡ Err refusals.Memory → self.new ≡ self.old }
+        ensures quiet { answer_of self.old.state.layer (max self.old.state.own.clock now.0) (below.Room self.old.state.own.server) ≡ below.Is false → result ≢ Err refusals.Memory }
     {
         let token = token_for(self.word, self.held.given, ask.token);
         let _few = token.as_slice();

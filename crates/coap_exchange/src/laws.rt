@@ -4,7 +4,10 @@ ghost use Rattle.coap_layer.specs.Rows.{LayerLaw};
 ghost use Rattle.coap_exchange.specs.AskerTrace.{Call};
 ghost use Rattle.coap_exchange.specs.AskerLaw.{State, Step, Led, ExchangeLaw, fresh_state, below_of};
 ghost use Rattle.coap_exchange.specs.AskerExact.{IsExact};
-ghost use Rattle.coap_exchange.specs.AskerFollows.{AreExchanges, AreTokens, EndInTime, AreFromServer};
+ghost use Rattle.coap_exchange.specs.AskerFollows.{AreExchanges, AreTokens, EndInTime, FewKept, AreFromServer};
+ghost use Rattle.coap_exchange.specs.AskerDue.{EndWhenDue};
+ghost use Rattle.coap_exchange.specs.AskerTells.{AreRefused, AreRejected};
+ghost use Rattle.coap_exchange.specs.AskerResponses.{AreMatched};
 ghost use Rattle.coap_exchange.specs.AskerShown.{IsAskableWhenShort};
 ghost use Rattle.coap_exchange.specs.ShortAnswers.{IsAnswerWhenShort, IsNotificationWhenShort};
 ghost use Rattle.coap_exchange.specs.AnswererTrace as trace;
@@ -27,12 +30,23 @@ pub fn asker_law()
     // Exchanges don't overlap, each ends at most once, and an answer has the token of the one that is open
     // (RFC 7252, sections 4.7 and 5.3.2); a notification has a kept token (RFC 7641, section 3.2).
     ensures exchanges { (server : Endpoint) (word : ℕ) (t : List Call) → ExchangeLaw server word t → AreExchanges t }
+    // A request is refused as Running exactly where an exchange runs (RFC 7252, section 4.7).
+    ensures refused { (server : Endpoint) (word : ℕ) (t : List Call) → ExchangeLaw server word t → AreRefused t }
     // No token serves two requests but an observation and its cancel (RFC 7252, section 5.3.1; RFC 7641, section 3.6).
     ensures tokens { (server : Endpoint) (word : ℕ) (t : List Call) → ExchangeLaw server word t → AreTokens word t }
     // A Timeout and NoResponse come in time (RFC 7252, sections 4.2 and 5.2.2).
     ensures in_time { (server : Endpoint) (word : ℕ) (t : List Call) → ExchangeLaw server word t → EndInTime server word t }
+    // .. and no later than at the first tick then (RFC 7252, sections 4.2 and 5.2.2).
+    ensures when_due { (server : Endpoint) (word : ℕ) (t : List Call) → ExchangeLaw server word t → EndWhenDue server word t }
+    // The tokens that are kept, at most 16 (RFC 7641, section 3.2).
+    ensures few_kept { (server : Endpoint) (word : ℕ) (t : List Call) → ExchangeLaw server word t → FewKept server word t }
     // What is told came from the server, and is what a datagram spelled (RFC 7252, section 5.3.2).
     ensures from_server { (server : Endpoint) (word : ℕ) (t : List Call) → ExchangeLaw server word t → AreFromServer server t }
+    // .. has no critical option that is not recognised (section 5.4.1), and matches in Message ID where it is
+    // piggybacked (section 5.3.2).
+    ensures matched { (server : Endpoint) (word : ℕ) (t : List Call) → ExchangeLaw server word t → AreMatched server word t }
+    // A Reset that is told is that of the request of the exchange (RFC 7252, section 4.2).
+    ensures rejected { (server : Endpoint) (word : ℕ) (t : List Call) → ExchangeLaw server word t → AreRejected server word t }
 {}
 
 /// What leads to the state of a server's side stands in the law, and what follows from that.

@@ -1,12 +1,10 @@
 ghost use Rattle.std.specs.Prelude.{◌≡◌, ◌&&◌, not, map};
 ghost use Rattle.std.specs.Option.{option_map};
-ghost use Rattle.coap_layer.specs.Trace.{same_place};
 ghost use Rattle.coap_exchange.specs.AnswererSteps.{ended_as, found, goes_to, is_ready, is_waited_for};
 ghost use Rattle.coap_exchange.specs.Listed.{listed};
 ghost use Rattle.coap_exchange.specs.Outstanding.{over};
 
 use crate::answerer::{Asked, Ended};
-use crate::arrivals::same;
 use crate::listed::Listed;
 use coap_types::{Endpoint, Id, Kind, Token};
 
@@ -83,7 +81,7 @@ impl Deferred {
 fn goes_to(response: &Separate, to: Endpoint, id: Id) -> bool
     ensures { result ≡ goes_to to id.0 response.now }
 {
-    same(response.to, to) && response.id.0 == id.0
+    response.to == to && response.id.0 == id.0
 }
 
 /// Whether a response to this endpoint is not acknowledged yet (RFC 7252, section 4.7).
@@ -91,7 +89,7 @@ pub(crate) fn is_waited_for(list: &[Listed<Separate>], to: Endpoint) -> bool
     ensures { result ≡ is_waited_for to (listed list.now) }
 {
     for k in list {
-        if k.now && same(k.entry.to, to) {
+        if k.now && k.entry.to == to {
             return true;
         }
     }

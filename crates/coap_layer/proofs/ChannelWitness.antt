@@ -12,6 +12,7 @@ use Rattle.coap_layer.specs.Rows.{LayerLaw, IsSpelled}
 use Rattle.coap_layer.specs.State.{start, made}
 use Rattle.coap_layer.specs.Steps.{Asked, Steps, entries, left_after}
 use Rattle.coap_layer.specs.Channel.{Hop, Near, Far, GaveOut, RepliesAtOnce, ChannelLaw, HearsAck, Takes}
+use Rattle.coap_layer.specs.Examples.{IsAcknowledged}
 use Rattle.coap_layer.proofs.StepsLemmas.{led_steps}
 
 abbrev client : Endpoint
@@ -106,7 +107,7 @@ far_lawful : LayerLaw 0 far_trace
 far_lawful = (led_steps 0 [] (start 0) (left_after (start 0) far_run) far_run (record { law = tt; kept = refl }) far_steps).law
 
 -- in the order of time
-abbrev pub hops : List Hop
+abbrev hops : List Hop
 hops =
     Near (made (left_after (start 0) (near_begins ∷ [])) 20 near_hears.call) ∷
     Far (made (left_after (start 0) (far_takes ∷ [])) 10 far_replies.call) ∷
@@ -136,7 +137,7 @@ ack_out : GaveOut client ack 20 (made (left_after (start 0) (far_takes ∷ [])) 
 unfolding message_at frame_fault body_at walk walk_of option_at nibbles_at value_at extended payload_at
 ack_out = record { out = inl refl; from = omega arith; till = omega arith }
 
-pub channel : ChannelLaw 0 0 client server hops
+channel : ChannelLaw 0 0 client server hops
 unfolding message_at frame_fault body_at walk walk_of option_at nibbles_at value_at extended payload_at
 channel = record {
   near_law = near_lawful;
@@ -159,10 +160,13 @@ channel = record {
 abbrev con : Open
 con = record { to = server; id = 0; bytes = request; timeout = 3000; first = 0; last = 0 }
 
-pub hears : HearsAck con (made (start 0) 0 near_begins.call ∷ []) (made (left_after (start 0) (near_begins ∷ [])) 20 near_hears.call)
+hears : HearsAck con (made (start 0) 0 near_begins.call ∷ []) (made (left_after (start 0) (near_begins ∷ [])) 20 near_hears.call)
 unfolding message_at frame_fault body_at walk walk_of option_at nibbles_at value_at extended payload_at options_bytes
 hears = record { is_outstanding = inl refl; bytes = ack; call = refl; answer = inl refl }
 
-pub takes : Takes client con (made (start 0) 10 far_takes.call)
+takes : Takes client con (made (start 0) 10 far_takes.call)
 unfolding message_at frame_fault body_at walk walk_of option_at nibbles_at value_at extended payload_at
 takes = record { call = refl; up = refl; from = omega arith; till = omega arith }
+
+pub acknowledged : IsAcknowledged
+acknowledged = record { near = client; far = server; hops = hops; law = channel; con = con; taken = inr (inr (inl takes)); heard = inl (_, refl, hears) }

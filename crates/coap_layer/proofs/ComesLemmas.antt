@@ -5,9 +5,11 @@ use Rattle.coap_types.proofs.PastLemmas.{Ever_of_Since, Ever_by_law, forget}
 use Rattle.coap_types.specs.declared.endpoint.Endpoint.{Endpoint}
 use Rattle.coap_types.specs.declared.message.Kind.{Kind}
 use Rattle.coap_types.specs.declared.message.Kind.TheVariants.{Con, Non, Ack, Rst}
+use Rattle.coap_types.specs.SameEndpoint.{same_endpoint}
+use Rattle.coap_types.proofs.EndpointLemmas.{same_endpoint_is}
 use Rattle.coap_codec.specs.Message.{AreBytes, Message, Spells, kind_number}
 use Rattle.coap_codec.proofs.ReadAgain.{spelled_again}
-use Rattle.coap_layer.specs.Trace.{Packet, with_head, Call, Receive, Reply, Confirm, Plain, Settle, Ticks, Take, Room, AsksFree, Pass, Entry, same_place}
+use Rattle.coap_layer.specs.Trace.{Packet, with_head, Call, Receive, Reply, Confirm, Plain, Settle, Ticks, Take, Room, AsksFree, Pass, Entry}
 use Rattle.coap_layer.specs.Words.{reply_in, Open, begun}
 use Rattle.coap_layer.specs.Rows.{LayerLaw}
 use Rattle.coap_layer.specs.Sends.{packet_of, SpellsCon, GoesOut, PlainOut, ReplyOut, StoredOut, first, copy, plain, reply, stored, reset}
@@ -15,7 +17,6 @@ use Rattle.coap_layer.specs.Channel.{RepliesAtOnce, RepliesSo}
 use Rattle.coap_layer.proofs.ListLemmas.{same_nat, and_left, and_right}
 use Rattle.coap_layer.proofs.OutLemmas.{cons_spelled}
 use Rattle.coap_layer.proofs.NumberedLemmas.{IsBegun, SendsPlain, Begins, begins_of}
-use Rattle.coap_layer.proofs.ReplyLemmas.{place_is}
 
 pub one_message : (bytes : List ℕ) (m n : Message) → AreBytes bytes → Spells bytes m → Spells bytes n → m ≡ n
 one_message bytes m n are s t = let a = spelled_again bytes m are s in let b = spelled_again bytes n are t in cc (a, b)
@@ -38,13 +39,13 @@ pub data Comes (past : List Entry) (e : Entry) (p : Packet) (m : Message) : Type
 
 -- the call that gives the reply
 pub replied_call : (from : Endpoint) (id : ℕ) (bytes : List ℕ) (call : Call) → reply_in from id call ≡ Some bytes → call ≡ Reply from id bytes
-replied_call from id bytes (Reply to n x) h = go (same_place to from && (n == id)) refl h
+replied_call from id bytes (Reply to n x) h = go (same_endpoint to from && (n == id)) refl h
   where
-    go : (b : Bool) → (same_place to from && (n == id)) ≡ b → cond b (Some x) None ≡ Some bytes → Reply to n x ≡ Reply from id bytes
+    go : (b : Bool) → (same_endpoint to from && (n == id)) ≡ b → cond b (Some x) None ≡ Some bytes → Reply to n x ≡ Reply from id bytes
     go false e k = absurd (cc k)
     go true e k =
-        let place : to ≡ from = place_is to from (and_left _ _ e) in
-        let number : n ≡ id = same_nat n id (and_right (same_place to from) _ e) in
+        let place : to ≡ from = same_endpoint_is to from (and_left _ _ e) in
+        let number : n ≡ id = same_nat n id (and_right (same_endpoint to from) _ e) in
         let same : x ≡ bytes = cc k in
         cc (place, number, same)
 replied_call from id bytes (Receive place x) h = absurd (cc h)

@@ -6,10 +6,11 @@ use Rattle.std.specs.Option.{option_map}
 use Rattle.std.specs.declared.vec.Vec.{Vec}
 use Rattle.coap_types.specs.declared.message.Id.{Id}
 use Rattle.coap_types.specs.declared.endpoint.Endpoint.{Endpoint}
+use Rattle.coap_types.specs.SameEndpoint.{same_endpoint}
 use Rattle.coap_layer.specs.declared.dedup.Remembered.{Remembered}
 use Rattle.coap_layer.specs.Entries.{arrived_as, arrivals_in, storing}
 use Rattle.coap_layer.specs.State.{Arrived, stores, is_live, is_of, is_remembered, is_full}
-use Rattle.coap_layer.specs.Trace.{Reply, same_place}
+use Rattle.coap_layer.specs.Trace.{Reply}
 use Rattle.coap_layer.specs.Words.{reply_in}
 use Rattle.coap_layer.proofs.ListLemmas.{length_map}
 
@@ -70,17 +71,17 @@ module _ {Z : Type 0} where
   same_last f (y ∷ es) (suc place) d lt last e = ap (λ w. arrived_as y ∷ w) (same_last f es place d (omega (arith, lt)) (omega (arith, last)) e)
 
 -- a reply changes the message that it is given to
-reply_for : (to from : Endpoint) (id n : ℕ) (bytes : List ℕ) (b : Bool) → (same_place to from && (id == n)) ≡ b → reply_in from n (Reply to id bytes) ≡ (if b then Some bytes else None)
+reply_for : (to from : Endpoint) (id n : ℕ) (bytes : List ℕ) (b : Bool) → (same_endpoint to from && (id == n)) ≡ b → reply_in from n (Reply to id bytes) ≡ (if b then Some bytes else None)
 reply_for to from id n bytes b e = ap (λ (c : Bool). if c then Some bytes else None) e
 
-stores_it : (to : Endpoint) (id : ℕ) (bytes : List ℕ) (a : Arrived) → same_place to a.from ≡ true → (id == a.id) ≡ true
+stores_it : (to : Endpoint) (id : ℕ) (bytes : List ℕ) (a : Arrived) → same_endpoint to a.from ≡ true → (id == a.id) ≡ true
     → storing to id bytes a ≡ record a { reply = if a.con then Some bytes else None }
 stores_it to id bytes a h k = let r : reply_in a.from a.id (Reply to id bytes) ≡ Some bytes = reply_for to a.from id a.id bytes true (cc (h, k)) in rw (stores, r) refl
 
-pub stores_not : (to : Endpoint) (id : ℕ) (bytes : List ℕ) (a : Arrived) → (same_place to a.from && (id == a.id)) ≡ false → storing to id bytes a ≡ a
+pub stores_not : (to : Endpoint) (id : ℕ) (bytes : List ℕ) (a : Arrived) → (same_endpoint to a.from && (id == a.id)) ≡ false → storing to id bytes a ≡ a
 stores_not to id bytes a h = let r : reply_in a.from a.id (Reply to id bytes) ≡ None = reply_for to a.from id a.id bytes false h in rw (stores, r) refl
 
-pub stored_there : {Z : Type 0} (to : Endpoint) (id : ℕ) (bytes : List ℕ) (it x : Remembered Z) → same_place to it.from ≡ true → (id == it.id.0) ≡ true
+pub stored_there : {Z : Type 0} (to : Endpoint) (id : ℕ) (bytes : List ℕ) (it x : Remembered Z) → same_endpoint to it.from ≡ true → (id == it.id.0) ≡ true
     → x.from ≡ it.from → x.id ≡ it.id → x.at ≡ it.at → x.con ≡ it.con → option_map (λ (v : Vec ℕ Z). v.items) x.reply ≡ (if it.con then Some bytes else None)
     → arrived_as x ≡ storing to id bytes (arrived_as it)
 stored_there to id bytes it x h k from number at con reply =

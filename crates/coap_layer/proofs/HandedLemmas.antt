@@ -2,15 +2,16 @@
 use Rattle.std.proofs.Common.{◌≡◌, ◌⊎◌, inl, inr, ℕ, true, Option, Some, None, List, [], ◌∷◌, refl, ap, sym, ◌∙◌, subst}
 use Rattle.coap_types.specs.declared.endpoint.Endpoint.{Endpoint}
 use Rattle.coap_types.specs.declared.message.Kind.TheVariants.{Con, Non, Ack, Rst}
+use Rattle.coap_types.specs.SameEndpoint.{same_endpoint}
+use Rattle.coap_types.proofs.EndpointLemmas.{same_endpoint_is}
 use Rattle.coap_codec.specs.Message.{AreBytes, Message, Spells}
 use Rattle.coap_layer.specs.Arrivals.{Arrival, Unreadable, Faulted, Whole, Shows}
-use Rattle.coap_layer.specs.Trace.{Call, Receive, Reply, Confirm, Plain, Settle, Ticks, Take, Room, AsksFree, Pass, Answer, Response, Acked, Entry, same_place}
+use Rattle.coap_layer.specs.Trace.{Call, Receive, Reply, Confirm, Plain, Settle, Ticks, Take, Room, AsksFree, Pass, Answer, Response, Acked, Entry}
 use Rattle.coap_layer.specs.Words.{Incoming, handed_by, kept_by, from_there, handed_in, handed, taken, awaits_in, awaits, Awaited, Open, is_to, outstanding}
 use Rattle.coap_layer.specs.Rows.{Outstanding, Stands, LayerLaw, Row, Arrives, Sorts, HandedAs, rejects, drops, takes_ack, takes_reset, takes_answer, replays, hands_over}
 use Rattle.coap_layer.specs.Channel.{IsLatest, HandedBy, HandedAsSpelled, TakesAckOf, HearsAck, AcksHeard}
 use Rattle.coap_layer.proofs.ListLemmas.{and_left, and_right, same_nat}
 use Rattle.coap_layer.proofs.OpenLemmas.{some_in}
-use Rattle.coap_layer.proofs.ReplyLemmas.{place_is}
 
 no_up : (from : Endpoint) (answer a : Answer) (m : Incoming) (X : Type 0) → answer ≡ a → handed_by a ≡ None → from_there from (handed_by answer) ≡ Some m → X
 no_up from answer a m X is none up = let e : from_there from (handed_by answer) ≡ None = ap (from_there from) (ap handed_by is ∙ none) in absurd (cc (e, up))
@@ -142,8 +143,8 @@ outstanding_of : (past : List Entry) (e : Entry) (from : Endpoint) (bytes : List
     → (con : Open) × (con.to ≡ from) × (con.id ≡ id) × HearsAck con past e
 outstanding_of past e from bytes id call h o =
     let q = some_in (λ c. is_to from id c ≡ true) (outstanding past) o in
-    let place : q.0.to ≡ from = place_is q.0.to from (and_left _ _ q.2) in
-    let number : q.0.id ≡ id = same_nat q.0.id id (and_right (same_place q.0.to from) _ q.2) in
+    let place : q.0.to ≡ from = same_endpoint_is q.0.to from (and_left _ _ q.2) in
+    let number : q.0.id ≡ id = same_nat q.0.id id (and_right (same_endpoint q.0.to from) _ q.2) in
     (q.0, place, number, record { is_outstanding = q.1; bytes = bytes; call = call ∙ ap (λ (f : Endpoint). Receive f bytes) (sym place); answer = subst (λ (i : ℕ). TakesAckOf i e.answer) (sym number) h })
 
 module _ (word : ℕ) (past : List Entry) (e : Entry) (id : ℕ) where

@@ -6,13 +6,14 @@ use Rattle.std.specs.List.{filter_map}
 use Rattle.coap_types.specs.Past.{Ever}
 use Rattle.coap_types.specs.declared.endpoint.Endpoint.{Endpoint}
 use Rattle.coap_types.proofs.PastLemmas.{Ever_append, Ever_map}
-use Rattle.coap_layer.specs.Trace.{Call, Receive, Reply, Confirm, Plain, Settle, Ticks, Take, Room, AsksFree, Pass, Answer, Dropped, Replayed, Rejected, Request, Response, Acked, Reset, Nothing, Is, Sent, Busied, NoIds, Idle, Copied, Expired, Gives, Entry, same_place}
+use Rattle.coap_types.specs.SameEndpoint.{same_endpoint}
+use Rattle.coap_types.proofs.EndpointLemmas.{same_endpoint_is}
+use Rattle.coap_layer.specs.Trace.{Call, Receive, Reply, Confirm, Plain, Settle, Ticks, Take, Room, AsksFree, Pass, Answer, Dropped, Replayed, Rejected, Request, Response, Acked, Reset, Nothing, Is, Sent, Busied, NoIds, Idle, Copied, Expired, Gives, Entry}
 use Rattle.coap_layer.specs.Words.{clock, Open, ends_in, copies_in, left_by, begun, outstanding}
 use Rattle.coap_layer.specs.Rows.{Busy, LayerLaw, IsFirst}
 use Rattle.coap_layer.specs.Sends.{IsIn, OneOpen}
 use Rattle.coap_layer.proofs.CopyLemmas.{in_option, in_filter_map, left_same, one_outstanding}
 use Rattle.coap_layer.proofs.ListLemmas.{both, and_left, and_right, same_nat}
-use Rattle.coap_layer.proofs.ReplyLemmas.{place_is}
 use Rattle.coap_layer.proofs.NumberedLemmas.{begins_of}
 
 -- it is in the list, and P holds of it
@@ -26,7 +27,7 @@ first_has P c (x ∷ cs) (inl h) = subst P h.0 h.1
 first_has P c (x ∷ cs) (inr h) = first_has P c cs h.1
 first_has P c [] h = absurd h
 
-pub place_same : (a b : Endpoint) → a ≡ b → same_place a b ≡ true
+pub place_same : (a b : Endpoint) → a ≡ b → same_endpoint a b ≡ true
 place_same a b h = both _ _ ((bytes_decides a.ip b.ip).1 (ap (λ (x : Endpoint). x.ip) h)) (let p : a.port ≡ b.port = ap (λ (x : Endpoint). x.port) h in grind (arith, nat_tests, p))
 
 -- at most one CON to a place is outstanding
@@ -106,7 +107,7 @@ last_by word (e ∷ past) c law h = ⊎_elim (old (λ d. last_by word past d law
 -- the answer by which a CON goes out again
 ticks_copy : (answer : Answer) (to : Endpoint) (id : ℕ) → copies_in Ticks answer to id ≡ true → answer ≡ Copied to id
 ticks_copy (Copied place n) to id h =
-    ap (λ (x : Endpoint). Copied x n) (sym (place_is to place (and_left _ _ h))) ∙ ap (Copied to) (sym (same_nat id n (and_right (same_place to place) _ h)))
+    ap (λ (x : Endpoint). Copied x n) (sym (same_endpoint_is to place (and_left _ _ h))) ∙ ap (Copied to) (sym (same_nat id n (and_right (same_endpoint to place) _ h)))
 ticks_copy Dropped to id h = absurd (cc h)
 ticks_copy Replayed to id h = absurd (cc h)
 ticks_copy Rejected to id h = absurd (cc h)

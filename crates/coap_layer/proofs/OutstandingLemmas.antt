@@ -3,11 +3,11 @@ use Rattle.std.proofs.Common.{◌≡◌, ℕ, Bool, true, false, Option, Some, N
 use Rattle.std.proofs.lemmas.List.{append-nil}
 use Rattle.std.specs.List.{list_any, cons_option}
 use Rattle.coap_types.specs.declared.endpoint.Endpoint.{Endpoint}
+use Rattle.coap_types.specs.SameEndpoint.{same_endpoint}
 use Rattle.coap_layer.specs.declared.retransmission.Sending.{Sending}
 use Rattle.coap_layer.specs.Parts.{open_before, settled, put_back}
 use Rattle.coap_layer.specs.Sendings.{open_at, open_now, ended, marked}
 use Rattle.coap_layer.specs.State.{is_busy}
-use Rattle.coap_layer.specs.Trace.{same_place}
 use Rattle.coap_layer.specs.declared.arriving.Arriving.{Arriving}
 use Rattle.coap_layer.specs.Arriving.{ends, open_by, without}
 use Rattle.coap_layer.specs.Words.{Open, same}
@@ -18,12 +18,12 @@ cons_more (Some x) xs ys zs e = ap (λ w. x ∷ w) e
 
 module _ {Z : Type 0} where
   busy_one : (to : Endpoint) (c : Sending Z) (cs : List Open) (b : Bool) (l : Option ℕ) → b ≡ is_busy to cs
-      → (is_some l && same_place c.to to || b) ≡ is_busy to (cons_option (open_at c l) cs)
+      → (is_some l && same_endpoint c.to to || b) ≡ is_busy to (cons_option (open_at c l) cs)
   busy_one to c cs b None e = e
-  busy_one to c cs b (Some l) e = ap (λ d. same_place c.to to || d) e
+  busy_one to c cs b (Some l) e = ap (λ d. same_endpoint c.to to || d) e
 
   -- the test, over what the list stands for
-  pub busy_is : (to : Endpoint) (cs : List (Sending Z)) → list_any (λ c. is_some c.last && same_place c.to to) cs ≡ is_busy to (open_now cs)
+  pub busy_is : (to : Endpoint) (cs : List (Sending Z)) → list_any (λ c. is_some c.last && same_endpoint c.to to) cs ≡ is_busy to (open_now cs)
   busy_is to [] = refl
   busy_is to (c ∷ cs) = busy_one to c (open_now cs) _ c.last (busy_is to cs)
 

@@ -1,21 +1,16 @@
 -- The stored reply, in the table and in the trace.
-use Rattle.std.proofs.Common.{◌≡◌, inl, inr, ℕ, ◌+◌, ◌≤◌, nat_le, nat_eq, Bool, true, false, Option, Some, None, List, [], ◌∷◌, ◌++◌, map, refl, ap, sym, ◌∙◌, subst, arith, ◌&&◌, ◌||◌, cond, if◌then◌else◌}
+use Rattle.std.proofs.Common.{◌≡◌, inl, inr, ℕ, ◌+◌, ◌≤◌, nat_le, Bool, true, false, Option, Some, None, List, [], ◌∷◌, ◌++◌, map, refl, ap, sym, ◌∙◌, subst, arith, ◌&&◌, ◌||◌, cond, if◌then◌else◌}
 use Rattle.std.specs.List.{list_any}
 use Rattle.coap_types.specs.declared.endpoint.Endpoint.{Endpoint}
-use Rattle.coap_layer.specs.Trace.{Entry, same_place}
+use Rattle.coap_types.specs.SameEndpoint.{same_endpoint}
+use Rattle.coap_types.proofs.EndpointLemmas.{same_endpoint_is}
+use Rattle.coap_layer.specs.Trace.{Entry}
 use Rattle.coap_layer.specs.Words.{Incoming, clock, taken, is_from, Remembered, is_con, was_con, reply_in, replied}
 use Rattle.coap_layer.specs.State.{arrivals, Arrived, stores, newly, is_live, is_of, is_remembered, reply_of}
-use Rattle.std.specs.Cmp.Lexicographic.{pointwise, bytes_decides}
 use Rattle.coap_layer.specs.Rows.{Stands, LayerLaw}
 use Rattle.coap_layer.proofs.ListLemmas.{same_nat, and_left, and_right, not_true, any_append, any_changed}
 use Rattle.coap_layer.proofs.DedupLemmas.{same_of, same_con, remembered_of}
 use Rattle.coap_layer.proofs.UpOnce.{new_only}
-
-pub place_is : (a b : Endpoint) → same_place a b ≡ true → a ≡ b
-place_is a b h =
-    let ip : a.ip ≡ b.ip = (bytes_decides a.ip b.ip).0 (and_left _ _ h) in
-    let port : a.port ≡ b.port = same_nat a.port b.port (and_right (pointwise nat_eq a.ip b.ip) _ h) in
-    ap (λ (x : List ℕ). record { ip = x; port = a.port }) ip ∙ ap (λ (x : ℕ). record { ip = b.ip; port = x }) port
 
 -- the first arrival of this source and Incoming ID
 abbrev pub con_of : ℕ → Endpoint → ℕ → List Arrived → Bool
@@ -58,8 +53,8 @@ module _ (now : ℕ) (from : Endpoint) (id : ℕ) where
 
   store_here : (e : Entry) (a : Arrived) → is_of now from id a ≡ true → (stores e a).reply ≡ replied_by (reply_in from id e.call) a.con a.reply
   store_here e a h =
-      let from_is : a.from ≡ from = place_is a.from from (and_left _ _ (and_right (is_live now a) _ h)) in
-      let id_is : a.id ≡ id = same_nat a.id id (and_right (same_place a.from from) _ (and_right (is_live now a) _ h)) in
+      let from_is : a.from ≡ from = same_endpoint_is a.from from (and_left _ _ (and_right (is_live now a) _ h)) in
+      let id_is : a.id ≡ id = same_nat a.id id (and_right (same_endpoint a.from from) _ (and_right (is_live now a) _ h)) in
       let is : reply_in a.from a.id e.call ≡ reply_in from id e.call = ap (λ f. reply_in f a.id e.call) from_is ∙ ap (λ i. reply_in from i e.call) id_is in
       go (reply_in a.from a.id e.call) refl ∙ ap (λ o. replied_by o a.con a.reply) is
     where
@@ -143,8 +138,8 @@ module _ (now : ℕ) (from : Endpoint) (id : ℕ) where
 
         not_there : list_any (is_of now from id) stored_xs ≡ true → ⊥
         not_there k =
-            let from_is : m.from ≡ from = place_is m.from from (and_left _ _ is) in
-            let id_is : m.message.id ≡ id = same_nat m.message.id id (and_right (same_place m.from from) _ is) in
+            let from_is : m.from ≡ from = same_endpoint_is m.from from (and_left _ _ is) in
+            let id_is : m.message.id ≡ id = same_nat m.message.id id (and_right (same_endpoint m.from from) _ is) in
             let r : Remembered past e.at from id = younger past e.at le (remembered_of now from id past (sym any_stored ∙ k)) in
             new_only word past e m law up (subst (λ f. Remembered past e.at f m.message.id) (sym from_is) (subst (λ i. Remembered past e.at from i) (sym id_is) r))
 

@@ -6,7 +6,8 @@ use Rattle.coap_types.specs.declared.message.Kind.TheVariants.{Con, Non, Ack, Rs
 use Rattle.coap_types.specs.Roles.{role_of}
 use Rattle.coap_types.specs.declared.role.Role.{Role}
 use Rattle.coap_types.specs.declared.role.Role.TheVariants as role
-use Rattle.coap_layer.specs.Trace.{Content, with_head, Call, Receive, Reply, Confirm, Plain, Settle, Ticks, Take, Room, AsksFree, Pass, Answer, Dropped, Replayed, Rejected, Request, Response, Acked, Reset, Nothing, Is, Sent, Busied, NoIds, Idle, Copied, Expired, Gives, Entry, same_place}
+use Rattle.coap_types.specs.SameEndpoint.{same_endpoint}
+use Rattle.coap_layer.specs.Trace.{Content, with_head, Call, Receive, Reply, Confirm, Plain, Settle, Ticks, Take, Room, AsksFree, Pass, Answer, Dropped, Replayed, Rejected, Request, Response, Acked, Reset, Nothing, Is, Sent, Busied, NoIds, Idle, Copied, Expired, Gives, Entry}
 use Rattle.coap_layer.specs.Table.{up_of, again_or}
 use Rattle.coap_layer.specs.Arrivals.{Arrival, Unreadable, Faulted, Whole, Shows, arrival_at}
 use Rattle.coap_codec.specs.Message.{AreBytes}
@@ -47,7 +48,7 @@ module _ (word : ℕ) (t : List Entry) where
   outstanding_is to id = decided _ _ (any_ever (is_to to id) (λ c. is_to to id c ≡ true) (λ c k. k) (outstanding t)) (ever_any (is_to to id) (λ c. is_to to id c ≡ true) (λ c k. k) (outstanding t))
 
   busy_is : (to : Endpoint) → Decides (is_busy to h.open_cons) (Busy t to)
-  busy_is to = decided _ _ (any_ever (λ (c : Open). same_place c.to to) (λ (c : Open). same_place c.to to ≡ true) (λ c k. k) (outstanding t)) (ever_any (λ (c : Open). same_place c.to to) (λ (c : Open). same_place c.to to ≡ true) (λ c k. k) (outstanding t))
+  busy_is to = decided _ _ (any_ever (λ (c : Open). same_endpoint c.to to) (λ (c : Open). same_endpoint c.to to ≡ true) (λ c k. k) (outstanding t)) (ever_any (λ (c : Open). same_endpoint c.to to) (λ (c : Open). same_endpoint c.to to ≡ true) (λ c k. k) (outstanding t))
 
   known_is : (now : ℕ) (from : Endpoint) (id : ℕ) → Decides (is_remembered now from id h.arrived) (Remembered t now from id)
   known_is now from id = decided _ _ (remembered_of now from id t) (of_remembered now from id t)

@@ -93,3 +93,29 @@ so_told h s to now at may is moment told =
     let here : Is (not (is_busy to h.open_cons) && is_free (max h.clock now) h.upcoming h.last_used) ≡ Is may =
     subst (λ (x : State). Is (not (is_busy to x.open_cons) && is_free (max x.clock now) x.upcoming x.last_used) ≡ Is may) (sym is) told in
     cc (here, moment)
+
+pub no_room : (h s : State) (to : Endpoint) (now at : ℕ) (may : Bool) → forgotten h ≡ s → at ≡ max h.clock now → may ≡ (not (is_busy to h.open_cons) && is_free at h.upcoming h.last_used)
+    → Is (not (is_busy to s.open_cons) && is_free (max s.clock now) s.upcoming s.last_used) ≡ Is false → may ≡ false
+no_room h s to now at may is moment e quiet =
+    let here : Is (not (is_busy to h.open_cons) && is_free (max h.clock now) h.upcoming h.last_used) ≡ Is false =
+    subst (λ (x : State). Is (not (is_busy to x.open_cons) && is_free (max x.clock now) x.upcoming x.last_used) ≡ Is false) (sym is) quiet in
+    cc (here, e, moment)
+
+-- what is not refused but for memory could be sent
+sends_if : (busy free b f : Bool) → busy ≡ b → free ≡ f → refusal_of busy free ≡ None → (not b && f) ≡ true
+sends_if true free b f hb hf none = absurd (cc none)
+sends_if false false b f hb hf none = absurd (cc none)
+sends_if false true b f hb hf none = rw (← hb, ← hf) refl
+
+pub not_refused : (h s : State) (to : Endpoint) (now at : ℕ) (busy free : Bool) → forgotten h ≡ s → at ≡ max h.clock now → busy ≡ is_busy to h.open_cons → free ≡ is_free at h.upcoming h.last_used → refusal_of busy free ≡ None
+    → Is (not (is_busy to s.open_cons) && is_free (max s.clock now) s.upcoming s.last_used) ≡ Is false → ⊥
+not_refused h s to now at busy free is moment hb hf none quiet =
+    let sends = sends_if busy free (is_busy to h.open_cons) (is_free at h.upcoming h.last_used) hb hf none in
+    let not_so = no_room h s to now at (not (is_busy to h.open_cons) && is_free at h.upcoming h.last_used) is moment refl quiet in
+    cc (sends, not_so)
+
+pub not_without : (h s : State) (now at : ℕ) (free : Bool) → forgotten h ≡ s → at ≡ max h.clock now → free ≡ is_free at h.upcoming h.last_used → refusal_of false free ≡ None → Is (is_free (max s.clock now) s.upcoming s.last_used) ≡ Is false → ⊥
+not_without h s now at free is moment hf none quiet =
+    let sends : is_free at h.upcoming h.last_used ≡ true = sends_if false free false (is_free at h.upcoming h.last_used) refl hf none in
+    let here : Is (is_free (max h.clock now) h.upcoming h.last_used) ≡ Is false = subst (λ (x : State). Is (is_free (max x.clock now) x.upcoming x.last_used) ≡ Is false) (sym is) quiet in
+    cc (sends, here, moment)

@@ -1,21 +1,20 @@
 -- What is short enough may be sent.
-use Rattle.std.proofs.Common.{◌≡◌, ◌≤◌, ◌<◌, ◌+◌, ◌^◌, ℕ, true, List, [], ◌∷◌, ◌++◌, length, refl, ap, sym, ◌∙◌, arith}
+use Rattle.std.proofs.Common.{◌≡◌, ◌<◌, ℕ, true, List, [], ◌∷◌, length, refl, ap, arith}
 use Rattle.std.specs.Prelude.{nat_le}
 use Rattle.std.specs.List.{list_all}
 use Rattle.std.proofs.lemmas.Bool.{and_parts, leb-true, ltb-true}
 use Rattle.coap_types.specs.CoapOption.{CoapOption}
 use Rattle.coap_types.specs.declared.message.Kind.{Kind}
 use Rattle.coap_types.specs.declared.message.Kind.TheVariants.{Con}
-use Rattle.coap_codec.specs.BoundedSpelling.{CanBeSpelled, is_numbered, most_bytes}
-use Rattle.coap_codec.specs.Message.{Message, Spells, marked}
+use Rattle.coap_codec.specs.BoundedSpelling.{CanBeSpelled, is_numbered}
+use Rattle.coap_codec.specs.Message.{Message, Spells}
 use Rattle.coap_codec.specs.Options.{Options}
 use Rattle.coap_codec.specs.Refused.{ascends, is_short}
 use Rattle.coap_codec.specs.Writing.{message_bytes, option_bytes, options_bytes}
 use Rattle.coap_codec.proofs.OneSpelling.{one_spelling}
 use Rattle.coap_codec.proofs.SpellLemmas.{option_is}
 use Rattle.coap_codec.proofs.SpellingLength.{bounded_spelling}
-use Rattle.coap_layer.specs.Rows.{IsSpelled}
-use Rattle.coap_layer.specs.Sendable.{IsSendable, IsSendableWhenShort}
+use Rattle.coap_layer.specs.Sendable.{IsSendableWhenShort}
 use Rattle.coap_layer.specs.Trace.{Content, with_head}
 
 options_spelled : (os : List CoapOption) (base : ℕ) → ascends base os ≡ true → list_all is_numbered os ≡ true → list_all is_short os ≡ true → Options base (options_bytes base os) os

@@ -3,21 +3,22 @@ use Rattle.std.proofs.Common.{◌≡◌, ℕ, Bool, true, false, Option, Some, N
 use Rattle.std.specs.List.{list_any, filter_map, cons_option}
 use Rattle.coap_types.specs.declared.endpoint.Endpoint.{Endpoint}
 use Rattle.coap_types.specs.declared.message.Id.{Id}
+use Rattle.coap_types.specs.SameEndpoint.{same_endpoint}
 use Rattle.coap_layer.specs.declared.retransmission.Sending.{Sending}
 use Rattle.coap_layer.specs.declared.retransmission.Due.{Due}
 use Rattle.coap_layer.specs.declared.retransmission.Due.TheVariants as due
-use Rattle.coap_layer.specs.Trace.{Packet, same_place, Answer, Ticks, Copied, Expired, Idle, Entry}
+use Rattle.coap_layer.specs.Trace.{Packet, Answer, Ticks, Copied, Expired, Idle, Entry}
 use Rattle.coap_layer.specs.Words.{Open, left_by}
 use Rattle.coap_layer.specs.State.{is_outstanding}
 use Rattle.coap_layer.specs.Sendings.{open_at, open_now, ended, marked, answer_for}
 
 outstanding_one : {Z : Type 0} (to : Endpoint) (id : ℕ) (c : Sending Z) (cs : List Open) (b : Bool) (l : Option ℕ) → b ≡ is_outstanding to id cs
-    → (is_some l && (same_place c.to to && (c.id.0 == id)) || b) ≡ is_outstanding to id (cons_option (open_at c l) cs)
+    → (is_some l && (same_endpoint c.to to && (c.id.0 == id)) || b) ≡ is_outstanding to id (cons_option (open_at c l) cs)
 outstanding_one to id c cs b None e = e
-outstanding_one to id c cs b (Some l) e = ap (λ d. (same_place c.to to && (c.id.0 == id)) || d) e
+outstanding_one to id c cs b (Some l) e = ap (λ d. (same_endpoint c.to to && (c.id.0 == id)) || d) e
 
 -- the test, over what the list stands for
-pub outstanding_is : {Z : Type 0} (to : Endpoint) (id : ℕ) (cs : List (Sending Z)) → list_any (λ c. is_some c.last && (same_place c.to to && (c.id.0 == id))) cs ≡ is_outstanding to id (open_now cs)
+pub outstanding_is : {Z : Type 0} (to : Endpoint) (id : ℕ) (cs : List (Sending Z)) → list_any (λ c. is_some c.last && (same_endpoint c.to to && (c.id.0 == id))) cs ≡ is_outstanding to id (open_now cs)
 outstanding_is to id [] = refl
 outstanding_is to id (c ∷ cs) = outstanding_one to id c (open_now cs) _ c.last (outstanding_is to id cs)
 
@@ -26,7 +27,7 @@ abbrev turn : ℕ → Answer → List Packet → Entry
 turn at answer out = record { at = at; call = Ticks; answer = answer; out = out }
 
 -- what the entry of a failure leaves
-failed_one : {Z : Type 0} (at : ℕ) (out : List Packet) (to : Endpoint) (id : ℕ) (c : Sending Z) (cs : List Open) (l : Option ℕ) (b : Bool) → (same_place c.to to && (c.id.0 == id)) ≡ b
+failed_one : {Z : Type 0} (at : ℕ) (out : List Packet) (to : Endpoint) (id : ℕ) (c : Sending Z) (cs : List Open) (l : Option ℕ) (b : Bool) → (same_endpoint c.to to && (c.id.0 == id)) ≡ b
     → cons_option (open_at c (cond b None l)) (filter_map (left_by (turn at (Expired to id) out)) cs) ≡ filter_map (left_by (turn at (Expired to id) out)) (cons_option (open_at c l) cs)
 failed_one at out to id c cs None true k = refl
 failed_one at out to id c cs None false k = refl
@@ -38,7 +39,7 @@ open_failed at out to id [] = refl
 open_failed at out to id (c ∷ cs) = ap (cons_option (open_at (ended to id c) (ended to id c).last)) (open_failed at out to id cs) ∙ failed_one at out to id c (open_now cs) c.last _ refl
 
 -- what the entry of a retransmission leaves
-marked_one : {Z : Type 0} (at : ℕ) (out : List Packet) (to : Endpoint) (id : ℕ) (c : Sending Z) (cs : List Open) (l : Option ℕ) (b : Bool) → (same_place c.to to && (c.id.0 == id)) ≡ b
+marked_one : {Z : Type 0} (at : ℕ) (out : List Packet) (to : Endpoint) (id : ℕ) (c : Sending Z) (cs : List Open) (l : Option ℕ) (b : Bool) → (same_endpoint c.to to && (c.id.0 == id)) ≡ b
     → cons_option (open_at c (cond (is_some l && b) (Some at) l)) (filter_map (left_by (turn at (Copied to id) out)) cs) ≡ filter_map (left_by (turn at (Copied to id) out)) (cons_option (open_at c l) cs)
 marked_one at out to id c cs None true k = refl
 marked_one at out to id c cs None false k = refl

@@ -2,6 +2,8 @@
 use Rattle.std.proofs.Common.{◌≡◌, ◌≤◌, ◌==◌, ◌&&◌, ◌||◌, ℕ, zero, suc, arith, Bool, true, false, Option, Some, None, List, [], ◌∷◌, ◌++◌, filter, length, map, take, drop, refl, ap, sym, ◌∙◌, cond}
 use Rattle.std.proofs.lemmas.List.{take-append-drop, take-append-le, take-map}
 use Rattle.coap_types.specs.declared.endpoint.Endpoint.{Endpoint}
+use Rattle.coap_types.specs.SameEndpoint.{same_endpoint}
+use Rattle.coap_types.proofs.EndpointLemmas.{same_endpoint_is}
 use Rattle.coap_layer.specs.declared.dedup.Remembered.{Remembered}
 use Rattle.coap_layer.specs.declared.mark.Mark.{Mark}
 use Rattle.coap_layer.specs.declared.retransmission.Sending.{Sending}
@@ -9,20 +11,19 @@ use Rattle.coap_layer.specs.Entries.{arrived_as, arrivals_in, storing}
 use Rattle.coap_layer.specs.Parts.{before_of}
 use Rattle.coap_layer.specs.Sound.{IsBefore, IsWithin}
 use Rattle.coap_layer.specs.State.{Arrived, is_live, is_of, is_remembered}
-use Rattle.coap_layer.specs.Trace.{Nothing, Packet, Reply, same_place}
+use Rattle.coap_layer.specs.Trace.{Nothing, Packet, Reply}
 use Rattle.coap_layer.proofs.DedupLemmas.{same_live}
 use Rattle.coap_layer.proofs.EntryLemmas.{map_more, stores_not}
 use Rattle.coap_layer.proofs.ListLemmas.{and_left, and_right, both, filter_more, not_true, same_nat}
-use Rattle.coap_layer.proofs.ReplyLemmas.{place_is}
 
 module _ (now : ℕ) (to : Endpoint) (id : ℕ) (bytes : List ℕ) where
-  other : (a : Arrived) → is_live now a ≡ true → is_of now to id a ≡ false → (same_place to a.from && (id == a.id)) ≡ false
+  other : (a : Arrived) → is_live now a ≡ true → is_of now to id a ≡ false → (same_endpoint to a.from && (id == a.id)) ≡ false
   other a live down = not_true _ (λ h.
       let place = and_left _ _ h in
       let number = and_right _ _ h in
-      let e : to ≡ a.from = place_is to a.from place in
+      let e : to ≡ a.from = same_endpoint_is to a.from place in
       let n : id ≡ a.id = same_nat id a.id number in
-      let there : same_place a.from to ≡ true = cc (place, e) in
+      let there : same_endpoint a.from to ≡ true = cc (place, e) in
       let here : (a.id == id) ≡ true = cc (number, n) in
       let yes = both _ _ live (both _ _ there here) in
       absurd (cc (down, yes)))

@@ -5,7 +5,9 @@ use Rattle.std.specs.List.{filter_map}
 use Rattle.coap_types.specs.Past.{Ever, Always}
 use Rattle.coap_types.proofs.PastLemmas.{Ever_map, Ever_append, Ever_by_law}
 use Rattle.coap_types.specs.declared.endpoint.Endpoint.{Endpoint}
-use Rattle.coap_layer.specs.Trace.{Receive, Entry, same_place}
+use Rattle.coap_types.specs.SameEndpoint.{same_endpoint}
+use Rattle.coap_types.proofs.EndpointLemmas.{same_endpoint_is}
+use Rattle.coap_layer.specs.Trace.{Receive, Entry}
 use Rattle.coap_layer.specs.Words.{Incoming, taken, handed, is_from, hands_up, HandsUpSince, Open, left_by, begun, outstanding}
 use Rattle.coap_layer.specs.Rows.{LayerLaw}
 use Rattle.coap_layer.specs.Sends.{IsIn, as_begun}
@@ -16,7 +18,6 @@ use Rattle.coap_layer.proofs.HandedLemmas.{handed_so}
 use Rattle.coap_layer.proofs.HopLemmas.{far_ever, each_hop, Came, con_came, non_came, reply_came, came, earlier, near_later}
 use Rattle.coap_layer.proofs.ListLemmas.{both, and_left, and_right, same_nat}
 use Rattle.coap_layer.proofs.NumberedLemmas.{IsBegun, SendsPlain, begins_of, one_con, no_plain}
-use Rattle.coap_layer.proofs.ReplyLemmas.{place_is}
 use Rattle.coap_layer.proofs.UpOnce.{up_new}
 
 -- what is remembered from there with this Message ID
@@ -31,7 +32,7 @@ kept_by from id e h = go (taken e) refl h
   where
     go : (o : Option Incoming) → taken e ≡ o → elim o [ Some m ↦ is_from from id m | None ↦ false ] ≡ true → Kept from id e
     go None is k = absurd (cc k)
-    go (Some m) is k = record { message = m; is = is; from_is = place_is m.from from (and_left _ _ k); id_is = same_nat m.message.id id (and_right (same_place m.from from) _ k) }
+    go (Some m) is k = record { message = m; is = is; from_is = same_endpoint_is m.from from (and_left _ _ k); id_is = same_nat m.message.id id (and_right (same_endpoint m.from from) _ k) }
 
 pub up_by : (from : Endpoint) (id : ℕ) (e : Entry) (m : Incoming) → taken e ≡ Some m → m.from ≡ from → m.message.id ≡ id → hands_up from id e ≡ true
 up_by from id e m is place n = rw (hands_up, is) (both _ _ (place_same m.from from place) (grind (arith, nat_tests, n)))

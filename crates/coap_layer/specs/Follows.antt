@@ -2,8 +2,9 @@
 use Rattle.std.specs.Prelude.{◌≡◌, ◌⊎◌, ◌≤◌, ℕ, ◌+◌, true, Some, List, [], ◌∷◌}
 use Rattle.coap_types.specs.Past.{Ever, Always}
 use Rattle.coap_types.specs.declared.endpoint.Endpoint.{Endpoint}
+use Rattle.coap_types.specs.SameEndpoint.{same_endpoint}
 use Rattle.coap_layer.specs.Ids.{AreApart}
-use Rattle.coap_layer.specs.Trace.{Receive, Copied, Acked, Reset, Entry, same_place}
+use Rattle.coap_layer.specs.Trace.{Receive, Copied, Acked, Reset, Entry}
 use Rattle.coap_layer.specs.Rows.{Stands, LayerLaw, Outstanding}
 use Rattle.coap_layer.specs.Words.{Incoming, handed, Remembered, Open, begun, numbers, outstanding}
 
@@ -30,7 +31,7 @@ IdsApart t = AreApart (numbers t)
 
 -- A CON is begun only where none to that endpoint is outstanding.
 abbrev pub OneOutstanding : List Entry → Type 0
-OneOutstanding t = Always (λ past e. (c : Open) → begun e ≡ Some c → Ever (λ (d : Open). same_place d.to c.to ≡ true) (outstanding past) → ⊥) t
+OneOutstanding t = Always (λ past e. (c : Open) → begun e ≡ Some c → Ever (λ (d : Open). same_endpoint d.to c.to ≡ true) (outstanding past) → ⊥) t
 
 -- One call has one answer, and sends one thing.
 abbrev pub IsExact : Type 0

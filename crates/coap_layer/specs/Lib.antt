@@ -21,3 +21,4 @@ pub mod Arriving
 pub mod Ups
 pub mod Sends
 pub mod Channel
+pub mod Examples

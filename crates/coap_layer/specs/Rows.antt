@@ -6,11 +6,12 @@ use Rattle.coap_types.specs.declared.endpoint.Endpoint.{Endpoint}
 use Rattle.coap_types.specs.declared.message.Kind.{Kind}
 use Rattle.coap_types.specs.declared.message.Kind.TheVariants.{Con, Non, Ack, Rst}
 use Rattle.coap_types.specs.declared.role.Role.TheVariants as role
+use Rattle.coap_types.specs.SameEndpoint.{same_endpoint}
 use Rattle.coap_codec.specs.Message.{AreBytes, Spells}
 use Rattle.coap_codec.specs.Writing.{message_bytes}
 use Rattle.coap_layer.specs.Arrivals.{Arrival, Unreadable, Faulted, Whole, Shows}
 use Rattle.coap_layer.specs.Ids as ids
-use Rattle.coap_layer.specs.Trace.{Content, with_head, Packet, Call, Receive, Reply, Confirm, Plain, Settle, Ticks, Take, Room, AsksFree, Pass, Dropped, Replayed, Rejected, Request, Response, Acked, Reset, Nothing, Is, Sent, Busied, NoIds, Idle, Copied, Expired, Gives, Entry, same_place}
+use Rattle.coap_layer.specs.Trace.{Content, with_head, Packet, Call, Receive, Reply, Confirm, Plain, Settle, Ticks, Take, Room, AsksFree, Pass, Dropped, Replayed, Rejected, Request, Response, Acked, Reset, Nothing, Is, Sent, Busied, NoIds, Idle, Copied, Expired, Gives, Entry}
 use Rattle.coap_layer.specs.Words.{awaits, clock, Incoming, Remembered, remembered, was_con, replied, is_con, Open, is_to, outstanding, waiting, numbers}
 
 -- a CON to this place with this id is unacknowledged
@@ -19,7 +20,7 @@ Outstanding past to id = Ever (λ c. is_to to id c ≡ true) (outstanding past)
 
 -- a CON to this place is unacknowledged (NSTART is 1, section 4.7)
 abbrev pub Busy : List Entry → Endpoint → Type 0
-Busy past to = Ever (λ (c : Open). same_place c.to to ≡ true) (outstanding past)
+Busy past to = Ever (λ (c : Open). same_endpoint c.to to ≡ true) (outstanding past)
 
 -- a Message ID may be given; none may
 abbrev pub MayGive : ℕ → List Entry → ℕ → Type 0

@@ -2,10 +2,11 @@
 use Rattle.std.specs.Prelude.{ℕ, Option, Some, None, List, ◌&&◌, ◌==◌, if◌then◌else◌, is_some}
 use Rattle.std.specs.List.{filter_map}
 use Rattle.coap_types.specs.declared.endpoint.Endpoint.{Endpoint}
+use Rattle.coap_types.specs.SameEndpoint.{same_endpoint}
 use Rattle.coap_layer.specs.declared.retransmission.Sending.{Sending}
 use Rattle.coap_layer.specs.declared.retransmission.Due.{Due}
 use Rattle.coap_layer.specs.declared.retransmission.Due.TheVariants as due
-use Rattle.coap_layer.specs.Trace.{Answer, Idle, Copied, Expired, same_place}
+use Rattle.coap_layer.specs.Trace.{Answer, Idle, Copied, Expired}
 use Rattle.coap_layer.specs.Words.{Open}
 
 -- one that has ended stands for nothing
@@ -18,11 +19,11 @@ open_now cs = filter_map (λ c. open_at c c.last) cs
 
 -- the one to this place with this id has ended
 abbrev pub ended : {Z : Type 0} → Endpoint → ℕ → Sending Z → Sending Z
-ended to id c = record c { last = if same_place c.to to && (c.id.0 == id) then None else c.last }
+ended to id c = record c { last = if same_endpoint c.to to && (c.id.0 == id) then None else c.last }
 
 -- .. was sent again
 abbrev pub marked : {Z : Type 0} → Endpoint → ℕ → ℕ → Sending Z → Sending Z
-marked to id at c = record c { last = if is_some c.last && (same_place c.to to && (c.id.0 == id)) then Some at else c.last }
+marked to id at c = record c { last = if is_some c.last && (same_endpoint c.to to && (c.id.0 == id)) then Some at else c.last }
 
 abbrev pub answer_for : Due → Answer
 answer_for due.Nothing = Idle

@@ -5,11 +5,12 @@ use Rattle.coap_types.specs.Roles.{role_of}
 use Rattle.coap_types.specs.declared.endpoint.Endpoint.{Endpoint}
 use Rattle.coap_types.specs.declared.message.Kind.{Kind}
 use Rattle.coap_types.specs.declared.message.Kind.TheVariants.{Con, Non}
+use Rattle.coap_types.specs.SameEndpoint.{same_endpoint}
 use Rattle.coap_codec.specs.Message.{AreBytes}
 use Rattle.coap_codec.specs.Writing.{message_bytes}
 use Rattle.coap_layer.specs.Arrivals.{Arrival, Unreadable, Faulted, Whole, arrival_at}
 use Rattle.coap_layer.specs.Ids.{Given}
-use Rattle.coap_layer.specs.Trace.{Content, with_head, Packet, Call, Receive, Reply, Confirm, Plain, Settle, Ticks, Take, Room, AsksFree, Pass, Answer, Dropped, Replayed, Rejected, Nothing, Is, Sent, Busied, NoIds, Idle, Copied, Expired, Gives, Entry, same_place}
+use Rattle.coap_layer.specs.Trace.{Content, with_head, Packet, Call, Receive, Reply, Confirm, Plain, Settle, Ticks, Take, Room, AsksFree, Pass, Answer, Dropped, Replayed, Rejected, Nothing, Is, Sent, Busied, NoIds, Idle, Copied, Expired, Gives, Entry}
 use Rattle.coap_layer.specs.Table.{up_of}
 use Rattle.coap_layer.specs.Words.{Awaited, awaits, awaits_in, clock, given, Incoming, outstanding, waiting, Open, is_to, is_con, taken, reply_in, left_by, begun, takes_in}
 use Rattle.coap_layer.specs.Rows.{IsSpelled, reset_to}
@@ -39,7 +40,7 @@ abbrev pub is_live : ℕ → Arrived → Bool
 is_live now a = nat_le now (a.at + 247000)
 
 abbrev pub is_of : ℕ → Endpoint → ℕ → Arrived → Bool
-is_of now from id a = is_live now a && (same_place a.from from && (a.id == id))
+is_of now from id a = is_live now a && (same_endpoint a.from from && (a.id == id))
 
 abbrev pub is_remembered : ℕ → Endpoint → ℕ → List Arrived → Bool
 is_remembered now from id es = list_any (is_of now from id) es
@@ -59,7 +60,7 @@ abbrev pub is_outstanding : Endpoint → ℕ → List Open → Bool
 is_outstanding to id cs = list_any (is_to to id) cs
 
 abbrev pub is_busy : Endpoint → List Open → Bool
-is_busy to cs = list_any (λ c. same_place c.to to) cs
+is_busy to cs = list_any (λ c. same_endpoint c.to to) cs
 
 -- the group of the next Message ID goes on, or may be entered
 abbrev pub is_rested : ℕ → Option (Option ℕ) → Bool

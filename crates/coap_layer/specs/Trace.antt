@@ -1,6 +1,5 @@
 -- The calls of a message layer: each with its moment, its arguments, its answer and what it sends (RFC 7252, section 4).
-use Rattle.std.specs.Prelude.{ℕ, Bool, ◌&&◌, ◌==◌, nat_eq, Option, List}
-use Rattle.std.specs.Cmp.Lexicographic.{pointwise}
+use Rattle.std.specs.Prelude.{ℕ, Bool, Option, List}
 use Rattle.coap_types.specs.CoapOption.{CoapOption}
 use Rattle.coap_types.specs.declared.endpoint.Endpoint.{Endpoint}
 use Rattle.coap_types.specs.declared.message.Kind.{Kind}
@@ -59,6 +58,3 @@ pub record Entry : Type 0 where
   pub call : Call
   pub answer : Answer
   pub out : List Packet
-
-abbrev pub same_place : Endpoint → Endpoint → Bool
-same_place a b = pointwise nat_eq a.ip b.ip && (a.port == b.port)

@@ -5,10 +5,11 @@ use Rattle.coap_types.specs.Past.{Ever, all_of}
 use Rattle.coap_types.specs.declared.endpoint.Endpoint.{Endpoint}
 use Rattle.coap_types.specs.declared.message.Kind.{Kind}
 use Rattle.coap_types.specs.declared.message.Kind.TheVariants.{Con, Non}
+use Rattle.coap_types.specs.SameEndpoint.{same_endpoint}
 use Rattle.coap_codec.specs.Message.{Message}
 use Rattle.coap_codec.specs.Writing.{message_bytes}
 use Rattle.coap_layer.specs.Ids.{Given}
-use Rattle.coap_layer.specs.Trace.{Content, with_head, Packet, Call, Receive, Reply, Confirm, Settle, Ticks, Take, Room, AsksFree, Pass, Answer, Request, Response, Acked, Reset, Sent, Copied, Expired, Entry, same_place}
+use Rattle.coap_layer.specs.Trace.{Content, with_head, Packet, Call, Receive, Reply, Confirm, Settle, Ticks, Take, Room, AsksFree, Pass, Answer, Request, Response, Acked, Reset, Sent, Copied, Expired, Entry}
 
 -- the moment of the newest entry
 abbrev pub clock : List Entry → ℕ
@@ -62,7 +63,7 @@ abbrev pub taken : Entry → Option Incoming
 taken e = taken_in e.call e.answer
 
 abbrev pub is_from : Endpoint → ℕ → Incoming → Bool
-is_from from id m = same_place m.from from && (m.message.id == id)
+is_from from id m = same_endpoint m.from from && (m.message.id == id)
 
 -- a message from there with this id is handed up, and remembered
 abbrev pub hands_up : Endpoint → ℕ → Entry → Bool
@@ -88,7 +89,7 @@ was_con from id (e ∷ past) = elim (taken e) [ Some m ↦ (if is_from from id m
 
 -- the bytes that the call gives as the reply to that message
 abbrev pub reply_in : Endpoint → ℕ → Call → Option (List ℕ)
-reply_in from id (Reply to n bytes) = if same_place to from && (n == id) then Some bytes else None
+reply_in from id (Reply to n bytes) = if same_endpoint to from && (n == id) then Some bytes else None
 reply_in from id _ = None
 
 -- the reply that was given last since it was handed up
@@ -160,10 +161,10 @@ abbrev pub begun : Entry → Option Open
 begun e = begun_in e.at e.call e.answer
 
 abbrev pub is_to : Endpoint → ℕ → Open → Bool
-is_to to id c = same_place c.to to && (c.id == id)
+is_to to id c = same_endpoint c.to to && (c.id == id)
 
 abbrev pub same : Endpoint → ℕ → Endpoint → ℕ → Bool
-same to id place n = same_place place to && (n == id)
+same to id place n = same_endpoint place to && (n == id)
 
 -- the call ends the retransmission of the CON to this place with this id
 abbrev pub ends_in : Call → Answer → Endpoint → ℕ → Bool

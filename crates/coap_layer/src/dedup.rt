@@ -5,7 +5,6 @@ ghost use Rattle.std.specs.Vec.{vec_len, vec_capacity};
 ghost use Rattle.coap_layer.specs.State.{is_live, is_of, reply_of};
 ghost use Rattle.coap_layer.specs.Entries.{arrived_as, arrivals_in, storing};
 
-use crate::retransmission::same;
 use coap_types::transmission::EXCHANGE_LIFETIME_MS;
 use coap_types::{Endpoint, Id};
 use std::alloc::Allocator;
@@ -39,7 +38,7 @@ fn is_live<A: Allocator + Copy>(e: &Remembered<A>, now: u64) -> bool
 fn is_of<A: Allocator + Copy>(e: &Remembered<A>, now: u64, from: Endpoint, id: Id) -> bool
     ensures { result ≡ is_of now from id.0 (arrived_as e.now) }
 {
-    is_live(e, now) && same(e.from, from) && e.id.0 == id.0
+    is_live(e, now) && e.from == from && e.id.0 == id.0
 }
 
 /// Whether a message from there with this Message ID is remembered.
@@ -121,7 +120,7 @@ pub(crate) fn store_reply<A: Allocator + Copy>(
 {
     if place < entries.len() {
         let con = entries[place].con;
-        if same(to, entries[place].from) && id.0 == entries[place].id.0 {
+        if to == entries[place].from && id.0 == entries[place].id.0 {
             entries[place].reply = stored(con, reply);
         }
     }

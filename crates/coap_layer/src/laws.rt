@@ -9,6 +9,7 @@ ghost use Rattle.coap_types.specs.declared.endpoint.Endpoint.{Endpoint};
 ghost use Rattle.coap_layer.specs.Channel.{Hop, ChannelLaw, HandedAsSpelled, AcksHeard, ArrivesAsSent, ConsBegun, NonsSent, OnlyThatCon, HandedOnce, AcksReplied, AcksTaken, TakenOnce};
 ghost use Rattle.coap_layer.specs.Sends.{FiveAtMost, AllAlike, ConsSpelled, OneOpen, LastBegun, EachGoesOut, InOrder, TakenSent, TakenSince};
 ghost use Rattle.coap_layer.specs.Steps.{Asked, Steps, entries};
+ghost use Rattle.coap_layer.specs.Examples.{FiveTimes, IsAcknowledged};
 
 /// What leads to a layer's state stands in the law, and what follows from that.
 pub fn layer_law()
@@ -77,4 +78,12 @@ pub fn channel_law()
 /// token, 5 bytes and the value for each option, one byte and its payload are at most 1,152 bytes.
 pub fn sendable_law()
     ensures { IsSendableWhenShort }
+{}
+
+/// Histories of which the laws speak.
+pub fn witness_law()
+    // A Confirmable message goes out five times and fails, after 31 initial timeouts (RFC 7252, section 4.2).
+    ensures five { FiveTimes }
+    // One is taken by another layer, and its acknowledgement is heard.
+    ensures acknowledged { IsAcknowledged }
 {}

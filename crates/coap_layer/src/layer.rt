@@ -180,6 +180,8 @@ impl<A: Allocator + Copy> Layer<A> {
         ensures led { result ≢ Err refused.Memory → (first : ℕ) (t : List Entry) → LayerLed first t self.old.state → LayerLed first (made self.old.state now.0 (Confirm to content.now word) ∷ t) self.new.state }
         ensures before { self.new.before ≡ self.old.before }
         ensures room { self.old.has_room ≡ true → result ≢ Err refused.Memory }
+        // Where it refuses for another reason, it takes no memory.
+        ensures quiet { answer_of self.old.state (max self.old.state.clock now.0) (AsksRoom to) ≡ Is false → result ≢ Err refused.Memory }
         ensures memory { result ≡ Err refused.Memory → self.new ≡ self.old }
     {
         let at = self.clock.max(now.0);
@@ -212,6 +214,8 @@ impl<A: Allocator + Copy> Layer<A> {
         ensures led { result ≢ Err refused.Memory → (first : ℕ) (t : List Entry) → LayerLed first t self.old.state → LayerLed first (made self.old.state now.0 (Plain to content.now) ∷ t) self.new.state }
         ensures before { self.new.before ≡ self.old.before }
         ensures room { self.old.has_room ≡ true → result ≢ Err refused.Memory }
+        // Where it refuses for another reason, it takes no memory.
+        ensures quiet { answer_of self.old.state (max self.old.state.clock now.0) AsksFree ≡ Is false → result ≢ Err refused.Memory }
         ensures memory { result ≡ Err refused.Memory → self.new ≡ self.old }
     {
         let at = self.clock.max(now.0);

@@ -26,7 +26,7 @@ mod up;
 
 pub use content::{Content, MAX_MESSAGE_LEN};
 pub use datagram::Datagram;
-pub use laws::{channel_law, layer_law, sendable_law, sending_law};
+pub use laws::{channel_law, layer_law, sendable_law, sending_law, witness_law};
 pub use layer::Layer;
 pub use message_id::{IdSource, ids_law};
 pub use up::{SendRefusal, Tick, Up};

@@ -1,7 +1,8 @@
 ghost use Rattle.std.specs.Prelude.{◌≡◌, ℕ, List, nat_le, nat_lt, ◌≤◌, ◌*◌, ◌-◌, ◌==◌, ◌&&◌, is_some, None, Some, if◌then◌else◌, map};
 ghost use Rattle.std.specs.List.{list_any, filter_map};
 ghost use Rattle.std.specs.Vec.{vec_len, vec_capacity};
-ghost use Rattle.coap_layer.specs.Trace.{Packet, Ticks, same_place};
+ghost use Rattle.coap_types.specs.SameEndpoint.{same_endpoint};
+ghost use Rattle.coap_layer.specs.Trace.{Packet, Ticks};
 ghost use Rattle.coap_layer.specs.Words.{left_by};
 ghost use Rattle.coap_layer.specs.State.{is_copy_due, tick_of};
 ghost use Rattle.coap_layer.specs.Parts.{open_before};
@@ -46,18 +47,11 @@ pub(crate) enum Due {
     Failure(Endpoint, Id),
 }
 
-/// Whether two endpoints are the same.
-pub(crate) fn same(a: Endpoint, b: Endpoint) -> bool
-    ensures { result ≡ same_place a b }
-{
-    a.ip == b.ip && a.port == b.port
-}
-
 /// Whether it went to this endpoint, with this Message ID.
 fn goes_to<A: Allocator + Copy>(c: &Sending<A>, to: Endpoint, id: Id) -> bool
-    ensures { result ≡ (same_place c.now.to to && (c.now.id.0 == id.0)) }
+    ensures { result ≡ (same_endpoint c.now.to to && (c.now.id.0 == id.0)) }
 {
-    same(c.to, to) && c.id.0 == id.0
+    c.to == to && c.id.0 == id.0
 }
 
 /// Whether a Confirmable message to this endpoint with this Message ID is outstanding.
@@ -66,7 +60,7 @@ pub(crate) fn is_outstanding<A: Allocator + Copy>(
     to: Endpoint,
     id: Id,
 ) -> bool
-    ensures { result ≡ list_any (λ c. is_some c.last && (same_place c.to to && (c.id.0 == id.0))) sendings.now }
+    ensures { result ≡ list_any (λ c. is_some c.last && (same_endpoint c.to to && (c.id.0 == id.0))) sendings.now }
 {
     sendings
         .iter()
@@ -76,9 +70,9 @@ pub(crate) fn is_outstanding<A: Allocator + Copy>(
 /// Whether a Confirmable message to this endpoint is outstanding: at most one is, as NSTART is 1
 /// (RFC 7252, section 4.7).
 pub(crate) fn is_busy<A: Allocator + Copy>(sendings: &[Sending<A>], to: Endpoint) -> bool
-    ensures { result ≡ list_any (λ c. is_some c.last && same_place c.to to) sendings.now }
+    ensures { result ≡ list_any (λ c. is_some c.last && same_endpoint c.to to) sendings.now }
 {
-    sendings.iter().any(|c| c.last.is_some() && same(c.to, to))
+    sendings.iter().any(|c| c.last.is_some() && c.to == to)
 }
 
 /// The moment of the last sending, or none where it is over.

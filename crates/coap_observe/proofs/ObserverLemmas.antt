@@ -4,15 +4,10 @@ use Rattle.std.specs.Cmp.Lexicographic.{bytes_decides}
 use Rattle.std.proofs.lemmas.Bool.Decides.{Decides-and, Decides-eqb}
 use Rattle.std.proofs.lemmas.List.{length-append, length-map}
 use Rattle.coap_types.specs.declared.endpoint.Endpoint.{Endpoint}
-use Rattle.coap_observe.specs.Observers.{Observer, AreDistinct, AreRegistrations, changed_at, is_of, marked_by, registered, registration, removed, same_endpoint, sent_to, unmarked_by}
+use Rattle.coap_types.proofs.EndpointLemmas.{same_endpoint-decides}
+use Rattle.coap_observe.specs.Observers.{Observer, AreDistinct, AreRegistrations, changed_at, is_of, marked_by, registered, registration, removed, sent_to, unmarked_by}
 use Rattle.coap_observe.specs.Registrations.{IsOther, OthersStay}
 use Rattle.coap_observe.proofs.ListLemmas.{find_before, find_behind, find_gone, find_kept, find_none, find_of_map, length_filter}
-
--- endpoints are equal by address and port
-pub same_endpoint-decides : (a b : Endpoint) → Decides (same_endpoint a b) (a ≡ b)
-same_endpoint-decides a b =
-    let parts = Decides-and _ _ (bytes_decides a.ip b.ip) (Decides-eqb a.port b.port) in
-    (λ h. let e = parts.0 h in λ i. record { ip = e.0 i; port = e.1 i }, λ e. parts.1 (ap (λ (x : Endpoint). x.ip) e, ap (λ (x : Endpoint). x.port) e))
 
 -- a registration is known by its endpoint and its token
 pub is_of-decides : (to : Endpoint) (token : List ℕ) (o : Observer) → Decides (is_of to token o) ((o.to ≡ to) × (o.token ≡ token))

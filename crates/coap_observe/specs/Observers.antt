@@ -4,6 +4,7 @@ use Rattle.std.specs.Cmp.Lexicographic.{pointwise}
 use Rattle.std.specs.List.{list_any}
 use Rattle.coap_types.specs.declared.endpoint.Endpoint.{Endpoint}
 use Rattle.coap_types.specs.Path.{same_path}
+use Rattle.coap_types.specs.SameEndpoint.{same_endpoint}
 
 -- One registration: the endpoint and the token of the request, which tell it from the others; the
 -- path of the resource; the size exponent of its blocks; and whether a notification is due.
@@ -13,10 +14,6 @@ pub record Observer : Type 0 where
   pub path : List (List ℕ)
   pub szx : ℕ
   pub marked : Bool
-
--- equal by address and port
-abbrev pub same_endpoint : Endpoint → Endpoint → Bool
-same_endpoint a b = pointwise nat_eq a.ip b.ip && (a.port == b.port)
 
 -- it is the registration of this endpoint and token
 abbrev pub is_of : Endpoint → List ℕ → Observer → Bool

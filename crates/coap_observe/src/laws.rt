@@ -1,12 +1,13 @@
 ghost use Rattle.coap_observe.specs.Registrations.{AlwaysRegistrations, ChangeMarks, EachStays, IsKnownByPair, RegisterPuts, RemoveTakes, SendUnmarks};
-ghost use Rattle.coap_observe.specs.Versions.{LaterIsNewer, NewerIsLater};
+ghost use Rattle.coap_observe.specs.Versions.{LaterIsNewer, NewerIsLater, OldIsReplaced};
 
 /// What the rule of freshness says of versions that a server numbers modulo 2^24, less than 2^23
 /// apart (RFC 7641, sections 3.4 and 4.4): a later version is always newer, and where at most 128 s
-/// passed, only a later version is.
+/// passed, only a later version is. Where more passed, each number is newer.
 pub fn newer_laws()
     ensures later_is_newer { LaterIsNewer }
     ensures newer_is_later { NewerIsLater }
+    ensures old_is_replaced { OldIsReplaced }
 {}
 
 /// What the calls of `Observers` make of the registration of one endpoint and token, and that they

@@ -3,3 +3,4 @@ pub mod UintLemmas
 pub mod RecognisedLemmas
 pub mod UnrecognisedLemmas
 pub mod PastLemmas
+pub mod EndpointLemmas

@@ -10,3 +10,4 @@ pub mod Recognised
 pub mod Unrecognised
 pub mod SeenNumbers
 pub mod Past
+pub mod SameEndpoint

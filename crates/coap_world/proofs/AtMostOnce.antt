@@ -1,7 +1,7 @@
 -- At most one applied request belongs to a call.
 use Rattle.std.proofs.Common.{◌≡◌, ◌≤◌, inl, inr, ℕ, Some, List, [], ◌∷◌, refl, ap, sym, subst, ◌∙◌, arith}
 use Rattle.coap_types.specs.Past.{Ever, Once, Always}
-use Rattle.coap_types.proofs.PastLemmas.{Ever_back}
+use Rattle.coap_types.proofs.PastLemmas.{Ever_back, Once_map}
 use Rattle.coap_layer.specs.Channel.{near_of}
 use Rattle.coap_layer.specs.Words.{Open, begun}
 use Rattle.coap_exchange.specs.declared.answerer.Asked.{Asked}
@@ -12,10 +12,11 @@ use Rattle.coap_ends.specs.ClientFollows.{Sending, WasSent}
 use Rattle.coap_ends.specs.ClientLaw.{layer_of}
 use Rattle.coap_ends.specs.ClientSendings.{NoNons, OneCon, OneSending}
 use Rattle.coap_ends.specs.ServerTrace as S
+use Rattle.coap_ends.specs.ServerChecks.{Asks}
 use Rattle.coap_ends.specs.ServerFollows.{Serving, serving, asked_of as served_as, times_served, ServedOnce}
 use Rattle.coap_ends.specs.ServerLaw.{own_of}
 use Rattle.coap_ends.proofs.ServerCounts.{ups, Counted}
-use Rattle.coap_world.specs.Agrees.{AppliesFor, AtMostOnce}
+use Rattle.coap_world.specs.Agrees.{ServesAt, SentFor, AppliesFor, AtMostOnce}
 use Rattle.coap_world.specs.CameFrom.{IsChannel, CameFrom, CamesFrom, request_of}
 use Rattle.coap_world.specs.Events.{client_end, server_end, Config}
 use Rattle.coap_world.specs.Hops.{hops_in, client_adds}
@@ -23,6 +24,13 @@ use Rattle.coap_world.specs.Record.{Entry, OfClient, OfServer, client_of, server
 use Rattle.coap_world.proofs.CameFrom.{channel_back}
 use Rattle.coap_world.proofs.HopsAre.{near_is, far_is, client_next}
 use Rattle.coap_world.proofs.Twice.{up_once, once_counted}
+
+-- a request of this call is served here
+pub record ServesFor (config : Config) (number : ℕ) (all past : List Entry) (e : Entry) : Type 0 where
+  pub request : Serving
+  pub here : ServesAt config request past e
+  pub from : request.asked.from ≡ client_end
+  pub belongs : SentFor number request.asked.token all
 
 module _ (config : Config) (number : ℕ) (all : List Entry) (one : OneSending (client_of all)) (cons : OneCon (layer_of server_end config.client_word (client_of all))) where
   abbrev Begun : Open → List Entry → Type 0
@@ -46,11 +54,11 @@ module _ (config : Config) (number : ℕ) (all : List Entry) (one : OneSending (
     pub number_is : sending.operation.number ≡ number
     pub past : List Entry
     pub entry : Entry
-    pub came : CameFrom config past entry x
+    pub came : CameFrom config past entry x.asked (Asks x.question)
     pub is : came.sending ≡ sending
     pub begun_then : Begun came.con all
 
-  known : (past : List Entry) (e : Entry) → Later past → (a : AppliesFor config number all past e) → CameFrom config past e a.request → Known a.request
+  known : (past : List Entry) (e : Entry) → Later past → (a : ServesFor config number all past e) → CameFrom config past e a.request.asked (Asks a.request.question) → Known a.request
   known past e later a came =
       let token : came.sending.token ≡ a.request.asked.token = sym (ap (λ k. k.token) came.asked) in
       let same = one.of_token came.sending (record { operation = record { number = number; request = a.belongs.0 }; token = a.request.asked.token }) (later.0 came.sending came.sent) a.belongs.1 token in
@@ -81,7 +89,7 @@ module _ (config : Config) (number : ℕ) (all : List Entry) (one : OneSending (
       let f = self_hits b in
       omega (arith, e, f)
 
-  served_before : (b : Asked) (t : List Entry) → Later t → CamesFrom config t → ((y : Serving) → Known y → y.asked ≡ b) → Once (AppliesFor config number all) t → 1 ≤ times_served config.limit config.server_szx b (server_trace config t)
+  served_before : (b : Asked) (t : List Entry) → Later t → CamesFrom config t → ((y : Serving) → Known y → y.asked ≡ b) → Once (ServesFor config number all) t → 1 ≤ times_served config.limit config.server_szx b (server_trace config t)
   served_before b [] later came same h = absurd h
   served_before b (OfClient c ∷ past) later came same (inl a) = absurd a.here
   served_before b (OfClient c ∷ past) later came same (inr h) = served_before b past (later_back (OfClient c) past later) came.1 same h
@@ -94,7 +102,7 @@ module _ (config : Config) (number : ℕ) (all : List Entry) (one : OneSending (
       IsChannel config t × (NoNons (layer_of server_end config.client_word (client_of t))) × CamesFrom config t × ServedOnce config.limit config.server_szx (server_trace config t)
       × Counted config.limit config.server_szx config.server_word (server_trace config t)
 
-  not_twice : (past : List Entry) (c : S.Call) → Later past → Laws (OfServer c ∷ past) → AppliesFor config number all past (OfServer c) → Once (AppliesFor config number all) past → ⊥
+  not_twice : (past : List Entry) (c : S.Call) → Later past → Laws (OfServer c ∷ past) → ServesFor config number all past (OfServer c) → Once (ServesFor config number all) past → ⊥
   not_twice past c later laws a h =
       let e : Entry = OfServer c in
       let x : Serving = a.request in
@@ -112,11 +120,28 @@ module _ (config : Config) (number : ℕ) (all : List Entry) (one : OneSending (
   laws_back (OfClient c) past nons l = (channel_back config.client_word config.server_word client_end server_end _ (hops_in config past) l.0, nons past, l.2.1, l.3, l.4)
   laws_back (OfServer c) past nons l = (channel_back config.client_word config.server_word client_end server_end _ (hops_in config past) l.0, nons past, l.2.1, l.3.1, l.4.1)
 
-  at_most : (t : List Entry) → Later t → ((t : List Entry) → NoNons (layer_of server_end config.client_word (client_of t))) → Laws t → Always (λ past e. AppliesFor config number all past e → Once (AppliesFor config number all) past → ⊥) t
+  at_most : (t : List Entry) → Later t → ((t : List Entry) → NoNons (layer_of server_end config.client_word (client_of t))) → Laws t → Always (λ past e. ServesFor config number all past e → Once (ServesFor config number all) past → ⊥) t
   at_most [] later nons laws = tt
   at_most (OfClient c ∷ past) later nons laws = (λ a h. a.here, at_most past (later_back (OfClient c) past later) nons (laws_back (OfClient c) past nons laws))
   at_most (OfServer c ∷ past) later nons laws = (λ a h. not_twice past c later laws a h, at_most past later nons (laws_back (OfServer c) past nons laws))
 
-pub at_most_once : (config : Config) (all : List Entry) → OneSending (client_of all) → OneCon (layer_of server_end config.client_word (client_of all)) → ((t : List Entry) → NoNons (layer_of server_end config.client_word (client_of t)))
-    → IsChannel config all → CamesFrom config all → ServedOnce config.limit config.server_szx (server_trace config all) → Counted config.limit config.server_szx config.server_word (server_trace config all) → AtMostOnce config all
-at_most_once config all one cons nons channel came served counted number = at_most config number all one cons all (λ x h. h, λ con h. h) nons (channel, nons all, came, served, counted)
+-- For each call at most one request is served,
+pub served_at_most : (config : Config) (all : List Entry) → OneSending (client_of all) → OneCon (layer_of server_end config.client_word (client_of all)) → ((t : List Entry) → NoNons (layer_of server_end config.client_word (client_of t)))
+    → IsChannel config all → CamesFrom config all → ServedOnce config.limit config.server_szx (server_trace config all) → Counted config.limit config.server_szx config.server_word (server_trace config all)
+    → (number : ℕ) → Always (λ past e. ServesFor config number all past e → Once (ServesFor config number all) past → ⊥) all
+served_at_most config all one cons nons channel came served counted number = at_most config number all one cons all (λ x h. h, λ con h. h) nons (channel, nons all, came, served, counted)
+
+pub applies_serves : (config : Config) (number : ℕ) (all past : List Entry) (e : Entry) → AppliesFor config number all past e → ServesFor config number all past e
+applies_serves config number all past e a = record { request = a.request; here = a.here; from = a.from; belongs = a.belongs }
+
+-- .. and so at most one is applied.
+applied_in : (config : Config) (number : ℕ) (all t : List Entry) → Always (λ past e. ServesFor config number all past e → Once (ServesFor config number all) past → ⊥) t
+    → Always (λ past e. AppliesFor config number all past e → Once (AppliesFor config number all) past → ⊥) t
+applied_in config number all [] h = tt
+applied_in config number all (e ∷ past) h = (
+  λ a k. h.0 (applies_serves config number all past e a) (Once_map (AppliesFor config number all) (ServesFor config number all) (applies_serves config number all) past k),
+  applied_in config number all past h.1,
+)
+
+pub at_most_once : (config : Config) (all : List Entry) → ((number : ℕ) → Always (λ past e. ServesFor config number all past e → Once (ServesFor config number all) past → ⊥) all) → AtMostOnce config all
+at_most_once config all h number = applied_in config number all all (h number)

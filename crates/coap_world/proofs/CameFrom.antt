@@ -25,14 +25,12 @@ use Rattle.coap_ends.specs.ClientLaw.{ClientLaw}
 use Rattle.coap_ends.specs.ClientSendings.{SendsNon, NoNons}
 use Rattle.coap_ends.specs.ClientSteps as client_steps
 use Rattle.coap_ends.specs.ServerTrace as S
-use Rattle.coap_ends.specs.ServerChecks.{Asks, verdict_on}
-use Rattle.coap_ends.specs.ServerFollows.{Serving}
+use Rattle.coap_ends.specs.ServerChecks.{Verdict, Asks, verdict_on}
 use Rattle.coap_ends.specs.ServerHands.{HandsUp, AreHandedUp}
-use Rattle.coap_ends.specs.ServerLaw.{ServerLaw}
+use Rattle.coap_ends.specs.ServerLaw.{ServerLaw, layer_of}
 use Rattle.coap_ends.proofs.ClientBegun.{asked_for, exchange_of, request_of}
 use Rattle.coap_ends.proofs.ClientNons.{no_nons}
 use Rattle.coap_ends.proofs.ServerHanding.{handed_up}
-use Rattle.coap_world.specs.Agrees.{ServesAt}
 use Rattle.coap_world.specs.CameFrom as W
 use Rattle.coap_world.specs.CameFrom.{IsChannel, CameFrom, CamesFrom}
 use Rattle.coap_world.specs.Events.{client_end, server_end, Config}
@@ -155,27 +153,39 @@ same_request con m to t r are s id =
     let small : con.id < 65536 = omega (arith, low, id) in
     one_message con.bytes m (W.request_of con.id r.request) are s (subst (λ z. Spells z (W.request_of con.id r.request)) (sym r.bytes) (r.spelled Con con.id small))
 
+-- what is said of a message is said of an equal one
+spells_so : (bytes : List ℕ) (m n : Message) → m ≡ n → Spells bytes m → Spells bytes n
+spells_so bytes m n is h = subst (Spells bytes) is h
+
+asked_so : (a : Asked) (m n : Message) → m ≡ n → a ≡ asked_of client_end m → a ≡ asked_of client_end n
+asked_so a m n is h = h ∙ ap (asked_of client_end) is
+
+verdict_so : (szx : ℕ) (v : Verdict) (m n : Message) → m ≡ n → verdict_on szx m ≡ v → verdict_on szx n ≡ v
+verdict_so szx v m n is h = subst (λ x. verdict_on szx x ≡ v) is h
+
 module _ (config : Config) where
-  abbrev FromClient : List Entry → Type 0
+  abbrev pub FromClient : List Entry → Type 0
   FromClient t = ClientLaw server_end config.client_szx config.client_word (client_of t)
 
   abbrev OfLayer : List Entry → Type 0
   OfLayer t = AreHandedUp config.limit config.server_szx config.server_word (server_trace config t)
 
-  served_here : (past : List Entry) (c : S.Call) → IsChannel config (OfServer c ∷ past) → FromClient past → OfLayer (OfServer c ∷ past) → (x : Serving) → ServesAt config x past (OfServer c) → x.asked.from ≡ client_end
-      → CameFrom config past (OfServer c) x
-  served_here past c law own up x serves from =
+  -- what is handed up of the client's address, with this verdict
+  pub came_here : (past : List Entry) (c : S.Call) → IsChannel config (OfServer c ∷ past) → FromClient past → (a : Asked) (v : Verdict)
+      → Ever (HandsUp config.server_szx a v) (layer_of config.limit config.server_szx config.server_word (server_trace config (OfServer c ∷ past))) → a.from ≡ client_end → CameFrom config past (OfServer c) a v
+  came_here past c law own a v up from =
       let e : Entry = OfServer c in
-      let there = subst (Ever (HandsUp config.server_szx x.asked x.question)) (sym (far_is config (e ∷ past))) (up.0 x serves) in
-      let hops = to_far (UpOf (λ m. verdict_on config.server_szx m ≡ Asks x.question) x.asked) (hops_in config (e ∷ past))
-      (Ever_map (HandsUp config.server_szx x.asked x.question) (UpOf (λ m. verdict_on config.server_szx m ≡ Asks x.question) x.asked)
+      let there = subst (Ever (HandsUp config.server_szx a v)) (sym (far_is config (e ∷ past))) up in
+      let hops = to_far (UpOf (λ m. verdict_on config.server_szx m ≡ v) a) (hops_in config (e ∷ past))
+      (Ever_map (HandsUp config.server_szx a v) (UpOf (λ m. verdict_on config.server_szx m ≡ v) a)
       (λ z u. record { message = u.message; bytes = u.bytes; call = u.call; answer = u.answer; asked_is = u.asked_is; verdict = u.verdict }) (far_of (hops_in config (e ∷ past))) there) in
       let none = subst NoNons (sym (near_is config (e ∷ past))) (no_nons server_end config.client_word (client.lower_of (client_of past))) in
-      let f = find config.client_word config.server_word client_end server_end (λ m. verdict_on config.server_szx m ≡ Asks x.question) x.asked from (hops_in config (e ∷ past)) law none hops in
+      let f = find config.client_word config.server_word client_end server_end (λ m. verdict_on config.server_szx m ≡ v) a from (hops_in config (e ∷ past)) law none hops in
       let layer = subst (Ever (λ b. begun b ≡ Some f.con)) (near_is config (e ∷ past)) f.begun_before in
       let calls = asker.lower_of server_end config.client_word (client.lower_of (client_of past)) in
       let r : IsRequestOf server_end f.con (client_of past) = request_of server_end f.con (client_of past)
       (exchange_of server_end config.client_word f.con (client.lower_of (client_of past)) own.exchanges.rows (asked_for f.con (L.start config.client_word) own.exchanges.left calls own.exchanges.layer layer)) in
+      let request : Message = W.request_of f.con.id r.request in
       let same = same_request f.con f.message server_end (client_of past) r f.are_bytes f.spells f.id in
       record {
         sending = r.request;
@@ -185,10 +195,10 @@ module _ (config : Config) where
         to = f.to;
         bytes = r.bytes;
         are_bytes = f.are_bytes;
-        spells = subst (Spells f.con.bytes) same f.spells;
+        spells = spells_so f.con.bytes f.message request same f.spells;
         arrived = f.arrived;
-        asked = f.asked ∙ ap (asked_of client_end) same;
-        verdict = sym (ap (verdict_on config.server_szx) same) ∙ f.verdict;
+        asked = asked_so a f.message request same f.asked;
+        verdict = verdict_so config.server_szx v f.message request same f.verdict;
       }
 
   all_came : (all : List Entry) → IsChannel config all → FromClient all → OfLayer all → CamesFrom config all
@@ -199,7 +209,7 @@ module _ (config : Config) where
         (client_back server_end config.client_szx config.client_word c (client_of past) own) up,
   )
   all_came (OfServer c ∷ past) law own up = (
-    served_here past c law own up,
+    λ x serves from. came_here past c law own x.asked (Asks x.question) (up.0 x serves) from,
     all_came past (channel_back config.client_word config.server_word client_end server_end (map Far (server_adds config (server_trace config past) c)) (hops_in config past) law) own up.1,
   )
 

@@ -20,7 +20,7 @@ use Rattle.coap_resource.specs.RequestOptions.{has, value_of, format_of, within_
 use Rattle.coap_resource.specs.Serves.{Question}
 use Rattle.coap_ends.specs.ClientTrace.{Request}
 use Rattle.coap_ends.specs.ClientRequests.{uri_path, content_format, block1, block2, option, uint, uint_option, path_options, more_options, options_of, payload_by}
-use Rattle.coap_ends.specs.ServerChecks.{Refused, Asks, verdict_on, bad_by, bad_request, proxying_not_supported, proxy_uri, proxy_scheme, asked_by, method_by, question, path_of, asks, max_segments, is_reserved, carries_body}
+use Rattle.coap_ends.specs.ServerChecks.{Refused, Asks, verdict_on, bad_by, bad_request, proxying_not_supported, proxy_uri, proxy_scheme, asked_by, method_by, question, path_of, asks, max_segments, is_reserved}
 
 -- a request that is asked of the store
 pub record IsAsked (szx : ℕ) (m : Message) (q : Question) : Type 0 where
@@ -36,12 +36,10 @@ bad_is_none Ack q h = cc h
 bad_is_none Rst q h = cc h
 
 module _ (szx : ℕ) (m : Message) (q : Question) (known : lacks_critical direction.Request m.options ≡ false) where
-  by_checks : (method : Method) → method_by m.code ≡ Some method → (a b c : Bool)
-      → cond a (Refused bad_request) (cond b (Refused bad_request) (cond c (Refused bad_request) (Asks (question szx method m)))) ≡ Asks q → IsAsked szx m q
-  by_checks method is true b c e = absurd (cc e)
-  by_checks method is false true c e = absurd (cc e)
-  by_checks method is false false true e = absurd (cc e)
-  by_checks method is false false false e = record { known = known; method = method; by = is; is = one e }
+  by_checks : (method : Method) → method_by m.code ≡ Some method → (a b : Bool) → cond a (Refused bad_request) (cond b (Refused bad_request) (Asks (question szx method m))) ≡ Asks q → IsAsked szx m q
+  by_checks method is true b e = absurd (cc e)
+  by_checks method is false true e = absurd (cc e)
+  by_checks method is false false e = record { known = known; method = method; by = is; is = one e }
     where
       one : Asks (question szx method m) ≡ Asks q → q ≡ question szx method m
       one k = cc k
@@ -49,18 +47,19 @@ module _ (szx : ℕ) (m : Message) (q : Question) (known : lacks_critical direct
   by_method : (o : Option Method) → method_by m.code ≡ o → asked_by szx o m ≡ Asks q → IsAsked szx m q
   by_method None is e = absurd (cc e)
   by_method (Some method) is e =
-      by_checks method is (nat_lt max_segments (length (path_of (asks m)))) (is_reserved (value_of block1 (asks m)) || is_reserved (value_of block2 (asks m))) (has block1 (asks m) && not (carries_body method)) e
+      by_checks method is (nat_lt max_segments (length (path_of (asks m)))) (is_reserved (value_of block2 (asks m))) e
 
   by_proxy : (b : Bool) → cond b (Refused proxying_not_supported) (asked_by szx (method_by m.code) m) ≡ Asks q → IsAsked szx m q
   by_proxy true e = absurd (cc e)
   by_proxy false e = by_method (method_by m.code) refl e
 
 pub is_asked : (szx : ℕ) (m : Message) (q : Question) → verdict_on szx m ≡ Asks q → IsAsked szx m q
-is_asked szx m q h = by (lacks_critical direction.Request m.options) refl h
+is_asked szx m q h = by (lacks_critical direction.Request m.options) (has block1 (asks m)) refl h
   where
-    by : (b : Bool) → lacks_critical direction.Request m.options ≡ b → cond b (bad_by m.kind) (cond (has proxy_uri (asks m) || has proxy_scheme (asks m)) (Refused proxying_not_supported) (asked_by szx (method_by m.code) m)) ≡ Asks q → IsAsked szx m q
-    by true is e = absurd (bad_is_none m.kind q e)
-    by false is e = by_proxy szx m q is (has proxy_uri (asks m) || has proxy_scheme (asks m)) e
+    by : (l b : Bool) → lacks_critical direction.Request m.options ≡ l → cond (l || b) (bad_by m.kind) (cond (has proxy_uri (asks m) || has proxy_scheme (asks m)) (Refused proxying_not_supported) (asked_by szx (method_by m.code) m)) ≡ Asks q → IsAsked szx m q
+    by true b is e = absurd (bad_is_none m.kind q e)
+    by false true is e = absurd (bad_is_none m.kind q e)
+    by false false is e = by_proxy szx m q is (has proxy_uri (asks m) || has proxy_scheme (asks m)) e
 
 pub method_is : (m : Method) → method_by (method_code m).0 ≡ Some m
 method_is Get = refl

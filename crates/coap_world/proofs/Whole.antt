@@ -9,6 +9,7 @@ use Rattle.coap_ends.specs.ClientTrace.{Operation, Request}
 use Rattle.coap_ends.specs.ClientRequests.{payload_by}
 use Rattle.coap_ends.specs.ClientFollows.{Sending, WasSent, WasTaken, AreSent}
 use Rattle.coap_ends.specs.ClientSendings.{OneSending}
+use Rattle.coap_ends.specs.ServerChecks.{Asks}
 use Rattle.coap_ends.specs.ServerFollows.{Serving, IsApplied, AllServed}
 use Rattle.coap_world.specs.Agrees.{AppliesFor, IsWhole, AppliedWhole, WasCalled}
 use Rattle.coap_world.specs.CameFrom.{CameFrom, CamesFrom, request_of}
@@ -26,13 +27,13 @@ some_is : {A : Type 0} (a b : A) → Some a ≡ Some b → a ≡ b
 some_is a b h = cc h
 
 -- what is asked, of a request
-record Asked (r : Request) (x : Serving) : Type 0 where
+pub record Asked (r : Request) (x : Serving) : Type 0 where
   pub method : x.question.method ≡ r.method
   pub path : x.question.path ≡ r.path
   pub body : payload_by r.method x.question.body ≡ payload_by r.method r.body
   pub format : r.method ≡ Put → IfSome r.format (λ f. f < 65536) → format_of x.question.options ≡ r.format
 
-asked_by : (szx id : ℕ) (s : Sending) (x : Serving) → IsAsked szx (request_of id s) x.question → Asked s.operation.request x
+pub asked_by : (szx id : ℕ) (s : Sending) (x : Serving) → IsAsked szx (request_of id s) x.question → Asked s.operation.request x
 asked_by szx id s x a =
     let r : Request = s.operation.request in
     let same : a.method ≡ r.method = some_is a.method r.method (sym a.by ∙ method_is r.method) in
@@ -45,7 +46,7 @@ asked_by szx id s x a =
 
 module _ (config : Config) (number : ℕ) (all : List Entry) (one : OneSending (client_of all)) (small : (op : Operation) → WasTaken op (client_of all) → IfSome op.request.format (λ f. f < 65536)) where
   whole_here : (past : List Entry) (e : Entry) → ((x : Sending) → WasSent x (client_of past) → WasSent x (client_of all)) → ((op : Operation) → WasTaken op (client_of past) → WasTaken op (client_of all)) → AreSent (client_of past)
-      → (a : AppliesFor config number all past e) → CameFrom config past e a.request → IsApplied a.request → IsWhole config number past a.request
+      → (a : AppliesFor config number all past e) → CameFrom config past e a.request.asked (Asks a.request.question) → IsApplied a.request → IsWhole config number past a.request
   whole_here past e up calls sent a came applied =
       let s : Sending = came.sending in
       let token : s.token ≡ a.request.asked.token = sym (ap (λ k. k.token) came.asked) in

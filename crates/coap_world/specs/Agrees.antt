@@ -7,7 +7,9 @@ use Rattle.coap_ends.specs.ClientTrace.{Request, Body, Done, Failed, Reported}
 use Rattle.coap_ends.specs.ClientRequests.{payload_by}
 use Rattle.coap_ends.specs.ClientSteps.{reports}
 use Rattle.coap_ends.specs.ClientLaw as C
-use Rattle.coap_ends.specs.ClientFollows.{WasTaken, WasSent}
+use Rattle.coap_ends.specs.ClientFollows.{WasTaken, WasSent, ReportedOnce}
+use Rattle.coap_ends.specs.ClientGives.{made, given}
+use Rattle.coap_ends.specs.ClientNumbering.{OneCall}
 use Rattle.coap_ends.specs.ServerTrace as S
 use Rattle.coap_ends.specs.ServerLaw.{own_of}
 use Rattle.coap_ends.specs.ServerFollows.{Serving, serving, is_applied, IsApplied, Change, change, held_at}
@@ -26,6 +28,10 @@ WasCalled number r past = WasTaken (record { number = number; request = r }) (cl
 -- the client sent a request of this call under this token
 abbrev pub SentFor : ℕ → List ℕ → List Entry → Type 0
 SentFor number token all = (r : Request) × WasSent (record { operation = record { number = number; request = r }; token = token }) (client_of all)
+
+-- What is taken of the client's reports is what it reported: in order, each once, and none is left.
+abbrev pub AllGiven : List Entry → Type 0
+AllGiven all = given (client_of all) ≡ made (client_of all)
 
 -- a local change
 abbrev pub IsLocal : S.Call → Type 0
@@ -46,6 +52,10 @@ module _ (config : Config) where
     pub applied : is_applied request.reply.code ≡ true
     pub from : request.asked.from ≡ client_end
     pub belongs : SentFor number request.asked.token all
+
+  -- Each that is applied belongs to a call.
+  abbrev pub EachBelongs : List Entry → Type 0
+  EachBelongs all = Always (λ past e. (x : Serving) → ServesAt x past e → is_applied x.reply.code ≡ true → x.asked.from ≡ client_end → (number : ℕ) × SentFor number x.asked.token all) all
 
   -- It has the path and the method of the call, which was made before; the preconditions hold there, and the change puts,
   -- with the format of the call, or joins all of its body, or removes.
@@ -107,8 +117,13 @@ module _ (config : Config) where
 
   pub record Agrees (all : List Entry) : Type 0 where
     pub each_held : EachHeld all
+    pub each_belongs : EachBelongs all
     pub applied_whole : AppliedWhole all
     pub at_most_once : AtMostOnce all
     pub once_done : OnceDone all
     pub never_failed : NeverFailed all
     pub changes_owned : ChangesOwned all
+    -- a number names one call, which is reported at most once, and all reports are taken
+    pub one_call : OneCall (client_of all)
+    pub one_report : ReportedOnce (client_of all)
+    pub all_given : AllGiven all

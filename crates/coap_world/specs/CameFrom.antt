@@ -7,11 +7,12 @@ use Rattle.coap_codec.specs.Writing.{message_bytes}
 use Rattle.coap_layer.specs.Channel.{OnFar, HandsUpAs, ChannelLaw, near_of}
 use Rattle.coap_layer.specs.Trace.{with_head}
 use Rattle.coap_layer.specs.Words.{Open, begun}
+use Rattle.coap_exchange.specs.declared.answerer.Asked.{Asked}
 use Rattle.coap_exchange.specs.AskerRequests.{content_of}
 use Rattle.coap_exchange.specs.AnswererSteps.{asked_of}
 use Rattle.coap_ends.specs.ClientFollows.{Sending, WasSent}
 use Rattle.coap_ends.specs.ClientRequests.{message_of}
-use Rattle.coap_ends.specs.ServerChecks.{Asks, verdict_on}
+use Rattle.coap_ends.specs.ServerChecks.{Verdict, Asks, verdict_on}
 use Rattle.coap_ends.specs.ServerFollows.{Serving}
 use Rattle.coap_world.specs.Agrees.{ServesAt}
 use Rattle.coap_world.specs.Events.{client_end, server_end, Config}
@@ -27,8 +28,8 @@ abbrev pub IsChannel : Config → List Entry → Type 0
 IsChannel config all = ChannelLaw config.client_word config.server_word client_end server_end (hops_in config all)
 
 -- It is the request of a call, which the client sent before as a CON; it arrived at most 147,000 ms after that was sent
--- first, and was handed up. What is served is what that request asks.
-pub record CameFrom (config : Config) (past : List Entry) (e : Entry) (x : Serving) : Type 0 where
+-- first, and was handed up. What is wrong with it, or what it asks, is this.
+pub record CameFrom (config : Config) (past : List Entry) (e : Entry) (a : Asked) (v : Verdict) : Type 0 where
   pub sending : Sending
   pub sent : WasSent sending (client_of past)
   pub con : Open
@@ -38,8 +39,10 @@ pub record CameFrom (config : Config) (past : List Entry) (e : Entry) (x : Servi
   pub are_bytes : AreBytes con.bytes
   pub spells : Spells con.bytes (request_of con.id sending)
   pub arrived : Ever (OnFar (HandsUpAs client_end con)) (hops_in config (e ∷ past))
-  pub asked : x.asked ≡ asked_of client_end (request_of con.id sending)
-  pub verdict : verdict_on config.server_szx (request_of con.id sending) ≡ Asks x.question
+  pub asked : a ≡ asked_of client_end (request_of con.id sending)
+  pub verdict : verdict_on config.server_szx (request_of con.id sending) ≡ v
 
+-- What is served is what that request asks.
 abbrev pub CamesFrom : Config → List Entry → Type 0
-CamesFrom config all = Always (λ past e. (x : Serving) → ServesAt config x past e → x.asked.from ≡ client_end → CameFrom config past e x) all
+CamesFrom config all =
+    Always (λ past e. (x : Serving) → ServesAt config x past e → x.asked.from ≡ client_end → CameFrom config past e x.asked (Asks x.question)) all

@@ -5,3 +5,5 @@ pub mod Delivery
 pub mod Agrees
 pub mod Hops
 pub mod CameFrom
+pub mod LegalRuns
+pub mod LegalEvents

@@ -2,12 +2,14 @@ ghost use Rattle.std.specs.Prelude.{◌≡◌, List};
 ghost use Rattle.coap_layer.specs.Channel.{ChannelLaw, near_of, far_of};
 ghost use Rattle.coap_ends.specs.ClientLaw as clients;
 ghost use Rattle.coap_ends.specs.ServerLaw as servers;
-ghost use Rattle.coap_world.specs.Agrees.{AppliedWhole, AtMostOnce, ChangesOwned};
+ghost use Rattle.coap_world.specs.Agrees.{Agrees, AppliedWhole, AtMostOnce, ChangesOwned};
 ghost use Rattle.coap_world.specs.CameFrom.{CamesFrom};
 ghost use Rattle.coap_world.specs.Delivery.{AllFair};
 ghost use Rattle.coap_world.specs.Events.{client_end, server_end, Config, Event};
 ghost use Rattle.coap_world.specs.Hops.{hops_of, across, TakenAtOnce};
 ghost use Rattle.coap_world.specs.Legal.{Legal};
+ghost use Rattle.coap_world.specs.LegalEvents.{NoneRuns, MayComeTill, NotAfter, never_given, NoneFrom};
+ghost use Rattle.coap_world.specs.LegalRuns.{Pings, Gets, GetsLate, Posts, Fails, TimesOut, Interferes};
 ghost use Rattle.coap_world.specs.Record.{Turn, RecordOf, entries_of, client_of, server_trace};
 
 /// What comes from an end's address was given out by that end, for the one that it comes to, at most 100,000 ms before.
@@ -41,4 +43,42 @@ pub fn requests_law()
     ensures whole { (config : Config) (events : List Event) (turns : List Turn) → RecordOf config events turns → Legal turns → AppliedWhole config (entries_of turns) }
     // For each call at most one request is applied (RFC 7252, section 4.5).
     ensures once { (config : Config) (events : List Event) (turns : List Turn) → RecordOf config events turns → Legal turns → AtMostOnce config (entries_of turns) }
+{}
+
+/// Legal runs: what this crate says of them, it says of something.
+pub fn witness_law()
+    // A stranger pings the server, which answers with a Reset (RFC 7252, section 4.3).
+    ensures pings { Pings }
+    // A client gets what the server holds (RFC 7252, section 5.2.1).
+    ensures gets { Gets }
+    // The same by a separate response (RFC 7252, section 5.2.2).
+    ensures separate { GetsLate }
+    // A POST comes twice, the first of its acknowledgements is lost, and it is applied once (RFC 7252, section 4.5).
+    ensures posts { Posts }
+    // A POST to a path that holds nothing has the response 4.04 (RFC 7252, section 5.9.2.5).
+    ensures fails { Fails }
+    // A POST is never acknowledged: it goes out five times, and Timeout is reported. That says nothing of the server: the last
+    // copy comes later, and is applied (RFC 7252, sections 4.2 and 4.8.2).
+    ensures times_out { TimesOut }
+    // A stranger's DELETE, under the token of a call, is applied, and not for that call (RFC 7252, section 5.8.4).
+    ensures interferes { Interferes }
+{}
+
+/// Which events are legal.
+pub fn legal_law()
+    // A datagram may come to 100,000 ms after it was given out, and no later (MAX_LATENCY, RFC 7252, section 4.8.2).
+    ensures comes { MayComeTill 100000 }
+    ensures late { NotAfter 100000 }
+    // One that was never given out can't come, and a stranger has no end's address.
+    ensures given { NoneRuns never_given }
+    ensures of_client { NoneFrom client_end }
+    ensures of_server { NoneFrom server_end }
+{}
+
+/// What a client and a server come to together, however the datagrams between them are lost, repeated and delayed.
+pub fn agreement()
+    // Each body that is reported was held at its path between call and report; each request body is applied whole, at most
+    // once, exactly once where success is reported and never where another response is (RFC 7252, sections 4.2, 4.5, 5.3.2,
+    // 5.8 and 5.9).
+    ensures agrees { (config : Config) (events : List Event) (turns : List Turn) → RecordOf config events turns → Legal turns → Agrees config (entries_of turns) }
 {}

@@ -3,4 +3,6 @@
 
 mod laws;
 
-pub use laws::{changes_law, delivery_law, hops_law, requests_law};
+pub use laws::{
+    agreement, changes_law, delivery_law, hops_law, legal_law, requests_law, witness_law,
+};

@@ -29,12 +29,16 @@ const SEPARATE_NON: &[u8] = &[0x58, 0x45, 0, 7, 0, 0, 0, 0, 0, 0, 0, 0, 0xff, 0x
 const NOTIFICATION: &[u8] = &[0x48, 0x45, 0, 8, 0, 0, 0, 0, 0, 0, 0, 0, 0x61, 0x05];
 
 const NOTIFICATION_NON: &[u8] = &[0x58, 0x45, 0, 9, 0, 0, 0, 0, 0, 0, 0, 0, 0x61, 0x06];
-/// A response with its token and Uri-Path, which no response has, in a CON and in an ACK.
+/// A response with its token and Uri-Path, which no response has, in a CON, in a NON and in an ACK.
 const CRITICAL: &[u8] = &[0x48, 0x45, 0, 7, 0, 0, 0, 0, 0, 0, 0, 0, 0xb1, 0x74];
 
+const CRITICAL_NON: &[u8] = &[0x58, 0x45, 0, 9, 0, 0, 0, 0, 0, 0, 0, 0, 0xb1, 0x74];
+
 const CRITICAL_ACK: &[u8] = &[0x68, 0x45, 0, 0, 0, 0, 0, 0, 0, 0, 0, 0, 0xb1, 0x74];
-/// The Empty acknowledgement of the GET.
+/// The Empty acknowledgement and the Reset of the GET.
 const EMPTY_ACK: &[u8] = &[0x60, 0, 0, 0];
+
+const RESET: &[u8] = &[0x70, 0, 0, 0];
 
 /// Asks for `t`, with the token of an observation that is cancelled or a fresh one.
 fn ask<R: Abort + AllocGlobal>(
@@ -113,10 +117,15 @@ fn a_response_answers_its_request(rt: HostRuntime) -> Result<(), AllocError> {
     is_nothing(&rt, &mut separate, 0, SERVER, EMPTY_ACK)?;
     is_answer(&rt, &mut separate, 5, SEPARATE)?;
     is_sent(&rt, &mut separate, SERVER, &[0x60, 0, 0, 7]);
+    // A duplicate is acknowledged again, and not told.
+    is_nothing(&rt, &mut separate, 6, SERVER, SEPARATE)?;
+    is_sent(&rt, &mut separate, SERVER, &[0x60, 0, 0, 7]);
     let mut overtaking = asked(&rt);
     is_answer(&rt, &mut overtaking, 5, SEPARATE_NON)?;
     is_nothing(&rt, &mut overtaking, 6, SERVER, EMPTY_ACK)?;
     assert!(rt; overtaking.next_out().is_none());
+    // It also ended the retransmission of the request.
+    assert!(rt; matches!(overtaking.tick(Moment(2_000))?, Turn::Idle));
     Ok(())
 }
 
@@ -125,6 +134,24 @@ fn an_answer_counts_until_the_tick(rt: HostRuntime) -> Result<(), AllocError> {
     let mut asker = asked(&rt);
     is_answer(&rt, &mut asker, 70_000, ANSWER)?;
     assert!(rt; matches!(asker.tick(Moment(70_000))?, Turn::Idle));
+    let mut acknowledged = asked(&rt);
+    is_nothing(&rt, &mut acknowledged, 0, SERVER, EMPTY_ACK)?;
+    is_answer(&rt, &mut acknowledged, 250_000, SEPARATE)?;
+    assert!(rt; matches!(acknowledged.tick(Moment(250_000))?, Turn::Idle));
+    Ok(())
+}
+
+#[test]
+fn no_second_acknowledgement_counts(rt: HostRuntime) -> Result<(), AllocError> {
+    let mut asker = asked(&rt);
+    is_nothing(&rt, &mut asker, 0, SERVER, EMPTY_ACK)?;
+    // The request is outstanding no more, so a piggybacked response to it is dropped.
+    is_nothing(&rt, &mut asker, 1, SERVER, ANSWER)?;
+    // Another Empty acknowledgement doesn't lengthen the wait.
+    is_nothing(&rt, &mut asker, 1, SERVER, EMPTY_ACK)?;
+    assert!(rt; asker.next_out().is_none());
+    assert_eq!(rt; ask(&rt, &mut asker, 1, None), Err(AskRefusal::Running));
+    assert!(rt; matches!(asker.tick(Moment(247_000))?, Turn::End(Event::NoResponse)));
     Ok(())
 }
 
@@ -174,6 +201,33 @@ fn what_does_not_match_is_rejected(rt: HostRuntime) -> Result<(), AllocError> {
     )?;
     assert!(rt; asker.next_out().is_none());
     is_answer(&rt, &mut asker, 2, ANSWER)
+}
+
+#[test]
+fn a_stranger_answers_nothing(rt: HostRuntime) -> Result<(), AllocError> {
+    let mut asker = asked(&rt);
+    assert!(rt; asker.keep(&token(&rt, 0)));
+    is_nothing(&rt, &mut asker, 1, STRANGER, SEPARATE_NON)?;
+    is_sent(&rt, &mut asker, STRANGER, &[0x70, 0, 0, 7]);
+    is_nothing(&rt, &mut asker, 1, STRANGER, NOTIFICATION)?;
+    is_sent(&rt, &mut asker, STRANGER, &[0x70, 0, 0, 8]);
+    // A response, an acknowledgement and a Reset with the Message ID of the request.
+    is_nothing(&rt, &mut asker, 1, STRANGER, ANSWER)?;
+    is_nothing(&rt, &mut asker, 1, STRANGER, EMPTY_ACK)?;
+    is_nothing(&rt, &mut asker, 1, STRANGER, RESET)?;
+    assert!(rt; asker.next_out().is_none());
+    assert!(rt; matches!(asker.tick(Moment(2_000))?, Turn::Copied));
+    is_answer(&rt, &mut asker, 2_000, ANSWER)
+}
+
+#[test]
+fn a_request_at_a_client_is_rejected(rt: HostRuntime) -> Result<(), AllocError> {
+    let mut asker = Asker::new(rt.alloc(), SERVER, 0);
+    is_nothing(&rt, &mut asker, 0, SERVER, GET_T)?;
+    is_sent(&rt, &mut asker, SERVER, RESET);
+    is_nothing(&rt, &mut asker, 0, SERVER, &[0x50, 0x01, 0, 1])?;
+    assert!(rt; asker.next_out().is_none());
+    Ok(())
 }
 
 #[test]
@@ -243,11 +297,45 @@ fn an_arrival_and_what_came_since_are_taken_back(rt: HostRuntime) -> Result<(), 
 }
 
 #[test]
+fn a_release_is_taken_back(rt: HostRuntime) -> Result<(), AllocError> {
+    let mut asker = Asker::new(rt.alloc(), SERVER, 0);
+    let observed = token(&rt, 0);
+    assert!(rt; asker.keep(&observed));
+    let notice = asker.receive(Moment(5), SERVER, NOTIFICATION)?;
+    assert!(rt; matches!(notice, Some(Event::Notice(_))));
+    assert!(rt; asker.release(&observed));
+    asker.undo();
+    assert!(rt; asker.next_out().is_none());
+    let again = asker.receive(Moment(5), SERVER, NOTIFICATION)?;
+    assert!(rt; matches!(again, Some(Event::Notice(_))));
+    is_sent(&rt, &mut asker, SERVER, &[0x60, 0, 0, 8]);
+    Ok(())
+}
+
+#[test]
+fn a_tick_and_what_came_since_are_taken_back(rt: HostRuntime) -> Result<(), AllocError> {
+    let mut asker = asked(&rt);
+    assert!(rt; matches!(asker.tick(Moment(62_000))?, Turn::End(Event::Timeout)));
+    assert_eq!(rt; ask(&rt, &mut asker, 62_000, None), Ok(token(&rt, 1)));
+    asker.undo();
+    assert_eq!(rt; asker.clock(), Moment(0));
+    assert!(rt; asker.next_out().is_none());
+    assert_eq!(rt; ask(&rt, &mut asker, 0, None), Err(AskRefusal::Running));
+    assert!(rt; matches!(asker.tick(Moment(2_000))?, Turn::Copied));
+    asker.undo();
+    assert!(rt; asker.next_out().is_none());
+    assert!(rt; matches!(asker.tick(Moment(1_999))?, Turn::Idle));
+    assert!(rt; matches!(asker.tick(Moment(2_000))?, Turn::Copied));
+    is_sent(&rt, &mut asker, SERVER, GET_T);
+    is_answer(&rt, &mut asker, 2_001, ANSWER)
+}
+
+#[test]
 fn a_rejected_request_ends_its_exchange(rt: HostRuntime) -> Result<(), AllocError> {
     let mut asker = asked(&rt);
     // A Reset of another Message ID is not its own.
     is_nothing(&rt, &mut asker, 1, SERVER, &[0x70, 0, 0, 1])?;
-    let event = asker.receive(Moment(1), SERVER, &[0x70, 0, 0, 0])?;
+    let event = asker.receive(Moment(1), SERVER, RESET)?;
     assert!(rt; matches!(event, Some(Event::Reset)));
     assert_eq!(rt; ask(&rt, &mut asker, 1, None), Ok(token(&rt, 1)));
     Ok(())
@@ -258,6 +346,7 @@ fn a_critical_option_that_is_not_recognised_is_rejected(rt: HostRuntime) -> Resu
     let mut asker = asked(&rt);
     is_nothing(&rt, &mut asker, 1, SERVER, CRITICAL)?;
     is_sent(&rt, &mut asker, SERVER, &[0x70, 0, 0, 7]);
+    is_nothing(&rt, &mut asker, 1, SERVER, CRITICAL_NON)?;
     is_nothing(&rt, &mut asker, 1, SERVER, CRITICAL_ACK)?;
     assert!(rt; asker.next_out().is_none());
     is_answer(&rt, &mut asker, 2, ANSWER)

@@ -147,7 +147,9 @@ fn is_nothing<R: Abort + AllocGlobal>(
     now: u64,
     from: Endpoint,
     bytes: &[u8],
-) -> Result<(), AllocError> {
+) -> Result<(), AllocError>
+    ensures { OnOk result (IsSome answerer.new.before) }
+{
     assert!(rt; answerer.incoming(Moment(now), from, bytes)?.is_none());
     Ok(())
 }
@@ -310,6 +312,24 @@ fn an_end_is_told_once(rt: HostRuntime) -> Result<(), AllocError> {
     has_ended(&rt, &failing, false);
     assert!(rt; matches!(failing.tick(Moment(63_000))?, Due::Idle));
     assert!(rt; failing.ended().is_none());
+    Ok(())
+}
+
+#[test]
+fn an_end_is_taken_back(rt: HostRuntime) -> Result<(), AllocError> {
+    let mut answerer = responded(&rt)?;
+    is_nothing(&rt, &mut answerer, 1_001, CLIENT, RESET)?;
+    has_ended(&rt, &answerer, false);
+    answerer.undo();
+    assert!(rt; answerer.ended().is_none());
+    assert!(rt; matches!(answerer.tick(Moment(3_000))?, Due::Copied));
+    is_sent(&rt, &mut answerer, CLIENT, SEPARATE);
+    is_nothing(&rt, &mut answerer, 3_001, CLIENT, RESET)?;
+    // What comes next tells of no end, and with it taken back the end is told as before.
+    is_nothing(&rt, &mut answerer, 3_001, OTHER, RESET)?;
+    assert!(rt; answerer.ended().is_none());
+    answerer.undo();
+    has_ended(&rt, &answerer, false);
     Ok(())
 }
 

@@ -3,6 +3,8 @@ use Rattle.coap_exchange.proofs.AskerLeading.{layer_stands}
 use Rattle.coap_exchange.proofs.AskerApart.{known}
 use Rattle.coap_exchange.proofs.AskerCame.{came_from}
 use Rattle.coap_exchange.proofs.AskerTokens.{counted}
+use Rattle.coap_ends.proofs.ClientExactly.{is_exact}
+use Rattle.coap_ends.proofs.ClientGoing.{goes_on}
 use Rattle.coap_ends.specs.ClientLaw.{lower_of, layer_of}
 use Rattle.coap_layer.specs.State.{start}
 use Rattle.coap_exchange.specs.AskerLaw as asker
@@ -15,10 +17,18 @@ use Rattle.coap_ends.proofs.ClientAnswers.{are_answers, are_from_server}
 use Rattle.coap_ends.proofs.ClientOnce.{reported_once}
 use Rattle.coap_ends.proofs.ClientHears.{are_heard}
 use Rattle.coap_ends.proofs.ClientNumbers.{one_sending}
+use Rattle.coap_ends.proofs.ClientGiven.{gives_in_order}
+use Rattle.coap_ends.proofs.ClientCounted.{one_call}
 use Rattle.coap_ends.proofs.laws.client_law.Goals as goal
 
 pub returns-clause-layer : goal.returns-clause-layer
 returns-clause-layer c server szx word t law = layer_stands server word (lower_of t) law.exchanges
+
+pub returns-clause-exact : goal.returns-clause-exact
+returns-clause-exact c server szx word past = is_exact server szx word past
+
+pub returns-clause-goes : goal.returns-clause-goes
+returns-clause-goes c server szx word t law = goes_on server szx word t law
 
 pub returns-clause-copies : goal.returns-clause-copies
 returns-clause-copies c server szx word t law = copies_in_time word (layer_of server word t) (layer_stands server word (lower_of t) law.exchanges)
@@ -56,3 +66,9 @@ returns-clause-heard c server szx word t law = are_heard server word t law.excha
 
 pub returns-clause-once : goal.returns-clause-once
 returns-clause-once c server szx word t law = reported_once szx t law.rows
+
+pub returns-clause-in_order : goal.returns-clause-in_order
+returns-clause-in_order c server szx word t law = gives_in_order szx t law.rows
+
+pub returns-clause-numbers : goal.returns-clause-numbers
+returns-clause-numbers c server szx word t law = one_call szx t law.rows

@@ -1,9 +1,14 @@
 use Rattle.coap_exchange.proofs.AskerLeading.{led_start, led_call, led_law, layer_stands}
 use Rattle.coap_exchange.proofs.AskerExactly.{exact}
 use Rattle.coap_exchange.proofs.AskerApart.{known}
+use Rattle.coap_exchange.proofs.AskerRefused.{refused}
 use Rattle.coap_exchange.proofs.AskerTokens.{counted}
 use Rattle.coap_exchange.proofs.AskerInTime.{in_time}
+use Rattle.coap_exchange.proofs.AskerDue.{when_due}
+use Rattle.coap_exchange.proofs.AskerKept.{few_kept}
 use Rattle.coap_exchange.proofs.AskerCame.{came_from}
+use Rattle.coap_exchange.proofs.AskerRejected.{rejected}
+use Rattle.coap_exchange.proofs.AskerResponses.{matched}
 use Rattle.coap_exchange.proofs.laws.asker_law.Goals as goal
 
 pub returns-clause-start : goal.returns-clause-start
@@ -24,11 +29,26 @@ returns-clause-exact c = exact
 pub returns-clause-exchanges : goal.returns-clause-exchanges
 returns-clause-exchanges c server word t law = (known server word t law.rows).0
 
+pub returns-clause-refused : goal.returns-clause-refused
+returns-clause-refused c server word t law = refused server word t law.rows law.left law.layer
+
 pub returns-clause-tokens : goal.returns-clause-tokens
 returns-clause-tokens c server word t law = (counted server word t law.rows).0
 
 pub returns-clause-in_time : goal.returns-clause-in_time
 returns-clause-in_time c server word t law = in_time server word t law.rows law.left law.layer
 
+pub returns-clause-when_due : goal.returns-clause-when_due
+returns-clause-when_due c server word t law = when_due server word t law.rows law.left law.layer
+
+pub returns-clause-few_kept : goal.returns-clause-few_kept
+returns-clause-few_kept c server word t law = few_kept server word t law.rows
+
 pub returns-clause-from_server : goal.returns-clause-from_server
 returns-clause-from_server c server word t law = came_from server word t law.rows law.left law.layer
+
+pub returns-clause-matched : goal.returns-clause-matched
+returns-clause-matched c server word t law = matched server word t law.rows
+
+pub returns-clause-rejected : goal.returns-clause-rejected
+returns-clause-rejected c server word t law = rejected server word t law.rows law.left law.layer

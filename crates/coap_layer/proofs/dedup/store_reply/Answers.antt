@@ -1,8 +1,8 @@
 use Rattle.std.proofs.Common.{rules, ◌≡◌, ◌<◌, ap, sym, ◌∙◌, ◌==◌, if◌then◌else◌, Some, None, length, get_or}
 use Rattle.std.proofs.lemmas.List.{get_or_default}
+use Rattle.coap_types.specs.SameEndpoint.{same_endpoint}
 use Rattle.coap_layer.specs.declared.dedup.Remembered.{Remembered}
 use Rattle.coap_layer.specs.Entries.{storing}
-use Rattle.coap_layer.specs.Trace.{same_place}
 use Rattle.coap_layer.proofs.EntryLemmas.{changed_last, stored_there}
 use Rattle.coap_layer.proofs.dedup.store_reply.Goals as goal
 
@@ -14,11 +14,11 @@ returns-then-id-index-clause-items g c =
     let it = get_or es c.args.place d in
     let con : c.index.result.now ≡ it = c.index.ensures ∙ get_or_default es c.args.place c.index.result.now d lt in
     let from : c.index-then-place-len.result.now ≡ it = c.index-then-place-len.ensures ∙ get_or_default es c.args.place c.index-then-place-len.result.now d lt in
-    let id : c.index-then-same.result.now ≡ it = c.index-then-same.ensures ∙ get_or_default es c.args.place c.index-then-same.result.now d lt in
+    let id : c.index-then-eq.result.now ≡ it = c.index-then-eq.ensures ∙ get_or_default es c.args.place c.index-then-eq.result.now d lt in
     let same : d ≡ it = c.index_mut.ensures.value in
     changed_last (storing c.args.to c.args.id.0 c.args.reply.items) es c.args.place _ d lt c.requires
     (stored_there c.args.to c.args.id.0 c.args.reply.items it _
-    (ap (λ (e : Remembered _). same_place c.args.to e.from) (sym from) ∙ (sym c.same.ensures ∙ c.if-same.true))
+    (ap (λ (e : Remembered _). same_endpoint c.args.to e.from) (sym from) ∙ (sym c.eq.ensures ∙ c.if-eq.true))
     (ap (λ (e : Remembered _). c.args.id.0 == e.id.0) (sym id) ∙ search rules)
     (ap (λ (e : Remembered _). e.from) same) (ap (λ (e : Remembered _). e.id) same) (ap (λ (e : Remembered _). e.at) same) (ap (λ (e : Remembered _). e.con) same)
     (c.stored.ensures ∙ ap (λ (e : Remembered _). if e.con then Some c.args.reply.items else None) con))

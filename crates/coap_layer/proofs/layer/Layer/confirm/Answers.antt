@@ -1,24 +1,25 @@
 use Rattle.std.proofs.Common.{rules, ◌≡◌, ap, sym, ◌∙◌, [], ◌∷◌, ◌++◌, ◌+◌, ◌%◌, is_some, ◌&&◌, List}
 use Rattle.std.specs.List.{list_any}
 use Rattle.coap_types.specs.declared.message.Kind.TheVariants.{Con}
+use Rattle.coap_types.specs.SameEndpoint.{same_endpoint}
 use Rattle.coap_codec.specs.Writing.{message_bytes}
 use Rattle.coap_layer.specs.Entries.{arrivals_in}
 use Rattle.coap_layer.specs.Parts.{held, open_before}
 use Rattle.coap_layer.specs.Sendings.{open_now}
 use Rattle.coap_layer.specs.State.{State, is_busy}
-use Rattle.coap_layer.specs.Trace.{Packet, same_place, with_head}
+use Rattle.coap_layer.specs.Trace.{Packet, with_head}
 use Rattle.coap_layer.specs.Words.{Open}
 use Rattle.coap_layer.proofs.Forgetting.{led_step}
 use Rattle.coap_layer.proofs.OutstandingLemmas.{busy_is}
 use Rattle.coap_layer.proofs.PlaceLemmas.{before_same, within_pushed}
-use Rattle.coap_layer.proofs.SendLemmas.{con_left, con_refused}
+use Rattle.coap_layer.proofs.SendLemmas.{con_left, con_refused, not_refused}
 use Rattle.coap_layer.proofs.layer.Layer.confirm.Goals as goal
 
 pub returns-in-Some-clause-step : goal.returns-in-Some-clause-step
 returns-in-Some-clause-step g c _ =
     let h : State = held c.self.inside.clock c.self.inside.awaits c.self.inside.ids c.self.inside.lists in
     let busy : c.is_busy-busy.result ≡ is_busy c.args.to h.open_cons
-    = c.is_busy-busy.ensures ∙ (ap (λ cs. list_any (λ x. is_some x.last && same_place x.to c.args.to) cs) c.deref.ensures.value ∙ busy_is c.args.to c.self.inside.lists.sendings.items) in
+    = c.is_busy-busy.ensures ∙ (ap (λ cs. list_any (λ x. is_some x.last && same_endpoint x.to c.args.to) cs) c.deref.ensures.value ∙ busy_is c.args.to c.self.inside.lists.sendings.items) in
     con_refused h c.args.self.now.state c.args.now.0 c.max-at.result c.args.to c.args.content.now (ap (λ s. s.state) c.self.view_is) c.requires.spelled (search rules)
     c.args.word c.is_busy-busy.result c.would_give.result c.in-Some.refusal busy c.would_give.ensures (sym c.refusal.ensures ∙ c.in-Some.is)
 
@@ -41,7 +42,7 @@ pub returns-clause-step : goal.returns-clause-step
 returns-clause-step g c _ =
     let h : State = held c.self.inside.clock c.self.inside.awaits c.self.inside.ids c.self.inside.lists in
     let busy : c.is_busy-busy.result ≡ is_busy c.args.to h.open_cons
-    = c.is_busy-busy.ensures ∙ (ap (λ cs. list_any (λ x. is_some x.last && same_place x.to c.args.to) cs) c.deref.ensures.value ∙ busy_is c.args.to c.self.inside.lists.sendings.items) in
+    = c.is_busy-busy.ensures ∙ (ap (λ cs. list_any (λ x. is_some x.last && same_endpoint x.to c.args.to) cs) c.deref.ensures.value ∙ busy_is c.args.to c.self.inside.lists.sendings.items) in
     let out : List Packet = record { to = c.args.to; bytes = message_bytes (with_head Con c.give-id.result.0 c.args.content.now) } ∷ [] in
     let begun : List Open = record { to = c.args.to; id = c.give-id.result.0; bytes = message_bytes (with_head Con c.give-id.result.0 c.args.content.now); timeout = 2000 + c.args.word % 1001; first = c.max-at.result; last = c.max-at.result } ∷ [] in
     con_left h c.args.self.now.state c.args.now.0 c.max-at.result c.args.to c.args.content.now (ap (λ s. s.state) c.self.view_is) c.requires.spelled (search rules)
@@ -61,3 +62,10 @@ returns-clause-before g c =
     c.self.invariant.0 (ap (λ v. v.items) (c.send_con.ensures.entries ∙ c.take_room.ensures.entries)) (c.send_con.ensures.before ∙ ap open_before c.take_room.ensures.sendings)
     (c.send_con.ensures.waiting ∙ ap (λ (q : List Packet). q ++ out) c.take_room.ensures.waiting)
     ∙ ap (λ s. s.before) c.self.view_is
+
+pub returns-in_default-take_room-clause-quiet : goal.returns-in_default-take_room-clause-quiet
+returns-in_default-take_room-clause-quiet g c quiet _ =
+    let h : State = held c.self.inside.clock c.self.inside.awaits c.self.inside.ids c.self.inside.lists in
+    let busy : c.is_busy-busy.result ≡ is_busy c.args.to h.open_cons
+    = c.is_busy-busy.ensures ∙ (ap (λ cs. list_any (λ x. is_some x.last && same_endpoint x.to c.args.to) cs) c.deref.ensures.value ∙ busy_is c.args.to c.self.inside.lists.sendings.items) in
+    not_refused h c.args.self.now.state c.args.to c.args.now.0 c.max-at.result c.is_busy-busy.result c.would_give.result (ap (λ s. s.state) c.self.view_is) (search rules) busy c.would_give.ensures (sym c.refusal.ensures ∙ c.in_default.is) quiet

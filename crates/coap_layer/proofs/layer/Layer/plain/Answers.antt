@@ -7,7 +7,7 @@ use Rattle.coap_layer.specs.Sendings.{open_now}
 use Rattle.coap_layer.specs.State.{State}
 use Rattle.coap_layer.specs.Trace.{Packet, with_head}
 use Rattle.coap_layer.proofs.Forgetting.{led_step}
-use Rattle.coap_layer.proofs.SendLemmas.{non_left, non_refused}
+use Rattle.coap_layer.proofs.SendLemmas.{non_left, non_refused, not_without}
 use Rattle.coap_layer.proofs.layer.Layer.plain.Goals as goal
 
 pub returns-in-Some-clause-step : goal.returns-in-Some-clause-step
@@ -32,3 +32,8 @@ returns-clause-step g c _ =
 
 pub returns-clause-led : goal.returns-clause-led
 returns-clause-led g c sent first t led = led_step first t _ _ _ _ _ led (returns-clause-step g c sent)
+
+pub returns-in_default-take_room-clause-quiet : goal.returns-in_default-take_room-clause-quiet
+returns-in_default-take_room-clause-quiet g c quiet _ =
+    let h : State = held c.self.inside.clock c.self.inside.awaits c.self.inside.ids c.self.inside.lists in
+    not_without h c.args.self.now.state c.args.now.0 c.max-at.result c.would_give.result (ap (λ s. s.state) c.self.view_is) (search rules) c.would_give.ensures (sym c.refusal.ensures ∙ c.in_default.is) quiet

@@ -1,9 +1,10 @@
 use Rattle.std.proofs.Common.{rules, ◌≡◌, ap, sym, ◌∙◌, refl, [], is_some, ◌&&◌, ◌==◌}
 use Rattle.std.specs.List.{list_any}
+use Rattle.coap_types.specs.SameEndpoint.{same_endpoint}
 use Rattle.coap_layer.specs.Parts.{held, open_before}
 use Rattle.coap_layer.specs.Sendings.{open_now}
 use Rattle.coap_layer.specs.State.{State, forgotten, is_outstanding}
-use Rattle.coap_layer.specs.Trace.{Is, Settle, same_place}
+use Rattle.coap_layer.specs.Trace.{Is, Settle}
 use Rattle.coap_layer.proofs.CallLemmas.{moved, step_of, settled_so}
 use Rattle.coap_layer.proofs.Forgetting.{led_step}
 use Rattle.coap_layer.proofs.OutstandingLemmas.{ended_before, ended_open}
@@ -21,7 +22,7 @@ pub returns-clause-step : goal.returns-clause-step
 returns-clause-step g c =
     let h : State = held c.self.inside.clock c.self.inside.awaits c.self.inside.ids c.self.inside.lists in
     let there : c.is_outstanding-open.result ≡ is_outstanding c.args.to c.args.id.0 (open_now c.self.inside.lists.sendings.items)
-    = c.is_outstanding-open.ensures ∙ (ap (λ cs. list_any (λ x. is_some x.last && (same_place x.to c.args.to && (x.id.0 == c.args.id.0))) cs) c.deref.ensures.value ∙ outstanding_is c.args.to c.args.id.0 c.self.inside.lists.sendings.items) in
+    = c.is_outstanding-open.ensures ∙ (ap (λ cs. list_any (λ x. is_some x.last && (same_endpoint x.to c.args.to && (x.id.0 == c.args.id.0))) cs) c.deref.ensures.value ∙ outstanding_is c.args.to c.args.id.0 c.self.inside.lists.sendings.items) in
     step_of h c.args.self.now.state _ 0 h.clock (Settle c.args.to c.args.id.0) (Is c.is_outstanding-open.result) [] (ap (λ s. s.state) c.self.view_is) tt refl (ap Is there) refl
     (ap (λ cs. forgotten (moved h h.clock h.awaits h.arrived cs h.queue)) (ap open_now c.end_all.ensures.items ∙ ended_open c.args.to c.args.id.0 c.self.inside.lists.sendings.items)
     ∙ ap forgotten (sym (settled_so h c.args.to c.args.id.0 c.is_outstanding-open.result)))

@@ -1,0 +1,29 @@
+-- Histories that show the laws to be of something (RFC 7252, section 4.2).
+use Rattle.std.specs.Prelude.{◌≡◌, ◌+◌, List, ◌∷◌}
+use Rattle.coap_types.specs.Past.{Ever, Once}
+use Rattle.coap_types.specs.declared.endpoint.Endpoint.{Endpoint}
+use Rattle.coap_layer.specs.Trace.{Expired, Entry}
+use Rattle.coap_layer.specs.Words.{Open}
+use Rattle.coap_layer.specs.Rows.{LayerLaw}
+use Rattle.coap_layer.specs.Sends.{AtLeast, SendsIt}
+use Rattle.coap_layer.specs.Channel.{Hop, Near, OnFar, near_of, ChannelLaw, HearsAck, Takes}
+
+-- In a lawful history a CON goes out five times, and fails 93,000 ms after the first.
+pub record FiveTimes : Type 0 where
+  pub past : List Entry
+  pub last : Entry
+  pub law : LayerLaw 0 (last ∷ past)
+  pub con : Open
+  pub five : AtLeast 5 (SendsIt con) past
+  pub fails : last.answer ≡ Expired con.to con.id
+  pub then_is : last.at ≡ con.first + 93000
+
+-- In a lawful history of two layers a CON is taken, and its acknowledgement is heard.
+pub record IsAcknowledged : Type 0 where
+  pub near : Endpoint
+  pub far : Endpoint
+  pub hops : List Hop
+  pub law : ChannelLaw 0 0 near far hops
+  pub con : Open
+  pub taken : Ever (OnFar (Takes near con)) hops
+  pub heard : Once (λ past h. (e : Entry) × (h ≡ Near e) × HearsAck con (near_of past) e) hops
