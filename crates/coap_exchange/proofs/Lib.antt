@@ -29,6 +29,7 @@ pub mod AskerCode
 pub mod AskCode
 pub mod AnswererCode
 pub mod AnswererTicks
+pub mod AnswererRoom
 pub mod AskableLemmas
 pub mod ListedLemmas
 pub mod AskerWitness

@@ -183,7 +183,7 @@ lower s (Notifies now to token r word id) = asked now (L.Confirm to (content_wit
 lower s (Take answer) = asked 0 L.Take (L.Gives answer) ∷ []
 
 -- what is answered; of an answer, a deferral and a response also the caller's condition: it is to the request that the
--- last input handed up, or to the one that is ready; a notification is as a response is
+-- last input handed up, or to the one that is ready; and of these and a notification: it is a response that can be spelled
 abbrev pub IsRight : Own → Call → Type 0
 IsRight s (Incoming now from bytes up answer) = answer ≡ handed_up from up
 IsRight s (Answers a r below) = (s.pending ≡ Some a) × IsResponse a r × IsSentAs a.kind below

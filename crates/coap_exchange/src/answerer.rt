@@ -1,4 +1,5 @@
 ghost use Rattle.std.specs.Prelude.{◌≡◌, ℕ, max, Bool, ◌&&◌, true, false, None, Some, List, [], ◌∷◌, IsSome, is_some, IsOk, IfOk, OnOk, OnErr};
+ghost use Rattle.coap_types.specs.declared.endpoint.Endpoint.{Endpoint as EndpointSpec};
 ghost use Rattle.coap_types.specs.declared.message.Kind.TheVariants.{Con};
 ghost use Rattle.coap_layer.specs.State.{answer_of, copies, is_free, made};
 ghost use Rattle.coap_layer.specs.Trace as below;
@@ -215,6 +216,8 @@ impl<A: Allocator + Copy> Answerer<A> {
         ensures step { Step self.old.state (Defers now.0 asked.now delay_ms result) self.new.state }
         ensures led { (word : ℕ) (t : List Call) → Led word t self.old.state → Led word (Defers now.0 asked.now delay_ms result ∷ t) self.new.state }
         ensures answerable { self.new.answerable ≡ true }
+        // Where a notification could be sent and nothing is sent now, it still can.
+        ensures kept { result ≡ false → (at : ℕ) (there : EndpointSpec) → MayNotify self.old at there → MayNotify self.new at there }
         ensures before { self.new.before ≡ self.old.before }
     {
         self.layer.pass(now);
@@ -298,7 +301,8 @@ impl<A: Allocator + Copy> Answerer<A> {
         ensures led { (word : ℕ) (t : List Call) → Led word t self.old.state → IfOk result (λ may. Led word (Ready now.0 to may ∷ t) self.new.state) }
         ensures may { IfOk result (λ may. may ≡ true → MayNotify self.new now.0 to) }
         ensures answerable { self.new.answerable ≡ self.old.answerable }
-        ensures room { self.old.room ≡ true → self.new.room ≡ true }
+        // Where a notification could be sent, it still can.
+        ensures kept { (at : ℕ) (there : EndpointSpec) → MayNotify self.old at there → MayNotify self.new at there }
         ensures before { self.new.before ≡ self.old.before }
         ensures err { OnErr result (self.new ≡ self.old) }
         ensures quiet { answer_of self.old.state.layer (max self.old.state.layer.clock now.0) (below.Room to) ≡ below.Is false → IsOk result }
@@ -341,6 +345,8 @@ impl<A: Allocator + Copy> Answerer<A> {
         ensures step { Step self.old.state (Take result) self.new.state }
         ensures led { (word : ℕ) (t : List Call) → Led word t self.old.state → Led word (Take result ∷ t) self.new.state }
         ensures answerable { self.new.answerable ≡ self.old.answerable }
+        // Where a notification could be sent, it still can.
+        ensures kept { (at : ℕ) (there : EndpointSpec) → MayNotify self.old at there → MayNotify self.new at there }
         ensures before { self.new.before ≡ None }
     {
         self.layer.next_out()

@@ -2,7 +2,7 @@ ghost use Rattle.std.specs.Prelude.{◌≡◌, OnOk};
 
 use crate::{Answerer, Due, Response, answerable_law, notifiable_law};
 use coap_types::option_number::OBSERVE;
-use coap_types::{Code, Endpoint, Id, Moment, Opt, Token};
+use coap_types::{Code, Endpoint, Id, Kind, Moment, Opt, Token};
 use std::alloc::{AllocError, AllocGlobal, Global};
 use std::process::Abort;
 use std::test::*;
@@ -31,6 +31,8 @@ const NOTIFICATION_1: &[u8] = &[
 ];
 /// A notification of Message ID 0 that the resource is gone: 4.04, without options.
 const GONE: &[u8] = &[0x48, 0x84, 0, 0, 0, 0, 0, 0, 0, 0, 0, 0];
+/// The same of Message ID 1.
+const GONE_1: &[u8] = &[0x48, 0x84, 0, 1, 0, 0, 0, 0, 0, 0, 0, 0];
 /// The Empty acknowledgement and the Reset of Message ID 0.
 const EMPTY_ACK: &[u8] = &[0x60, 0, 0, 0];
 
@@ -86,6 +88,27 @@ fn notify_gone<R: Abort + AllocGlobal>(
     };
     if answerer.ready(Moment(now), to)? {
         Ok(answerer.notify(Moment(now), to, &token, &gone, 0))
+    } else {
+        panic!(rt; "no notification can be sent")
+    }
+}
+
+/// Notifies the other endpoint, after what waits was taken.
+fn notify_after_taking<R: Abort + AllocGlobal>(
+    rt: &R,
+    answerer: &mut Answerer<Global>,
+) -> Result<Id, AllocError> {
+    notifiable_law();
+    let token = eight_zeros(rt);
+    let _few = token.as_slice();
+    let gone = Response {
+        code: Code::NOT_FOUND,
+        options: &[],
+        payload: b"",
+    };
+    if answerer.ready(Moment(0), OTHER)? {
+        assert!(rt; answerer.next_out().is_some());
+        Ok(answerer.notify(Moment(0), OTHER, &token, &gone, 0))
     } else {
         panic!(rt; "no notification can be sent")
     }
@@ -176,6 +199,43 @@ fn a_notification_waits_for_the_one_before(rt: HostRuntime) -> Result<(), AllocE
     assert!(rt; answerer.ended().is_none());
     assert_eq!(rt; notify(&rt, &mut answerer, 2, CLIENT)?, Id(1));
     is_sent(&rt, &mut answerer, CLIENT, NOTIFICATION_1);
+    Ok(())
+}
+
+#[test]
+fn a_notification_is_sent_after_another_was_taken(rt: HostRuntime) -> Result<(), AllocError> {
+    let mut answerer = Answerer::new(rt.alloc(), 0);
+    assert_eq!(rt; notify_gone(&rt, &mut answerer, 0, CLIENT)?, Id(0));
+    assert_eq!(rt; notify_after_taking(&rt, &mut answerer)?, Id(1));
+    is_sent(&rt, &mut answerer, OTHER, GONE_1);
+    Ok(())
+}
+
+/// Defers the request of the client by nothing.
+fn defer<R: Abort + AllocGlobal>(
+    rt: &R,
+    answerer: &mut Answerer<Global>,
+) -> Result<(), AllocError> {
+    match answerer.incoming(Moment(0), CLIENT, GET_T)? {
+        Some((asked, _)) => match asked.kind {
+            Kind::Con => assert!(rt; answerer.defer(Moment(0), &asked, 0)),
+            _ => panic!(rt; "not Confirmable"),
+        },
+        None => panic!(rt; "no request"),
+    }
+    Ok(())
+}
+
+#[test]
+fn a_deferred_request_waits_for_the_notification(rt: HostRuntime) -> Result<(), AllocError> {
+    let mut answerer = Answerer::new(rt.alloc(), 0);
+    defer(&rt, &mut answerer)?;
+    is_sent(&rt, &mut answerer, CLIENT, EMPTY_ACK);
+    assert_eq!(rt; notify(&rt, &mut answerer, 0, CLIENT)?, Id(0));
+    is_sent(&rt, &mut answerer, CLIENT, NOTIFICATION);
+    assert!(rt; matches!(answerer.tick(Moment(1))?, Due::Idle));
+    is_nothing(&rt, &mut answerer, 1, CLIENT, EMPTY_ACK)?;
+    assert!(rt; matches!(answerer.tick(Moment(1))?, Due::Ready(_)));
     Ok(())
 }
 

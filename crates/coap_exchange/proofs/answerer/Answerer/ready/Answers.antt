@@ -1,4 +1,6 @@
-use Rattle.std.proofs.Common.{◌≡◌, true, rules}
+use Rattle.std.proofs.Common.{◌≡◌, ◌≤◌, max, true, rules, refl, arith}
+use Rattle.coap_layer.specs.Trace as T
+use Rattle.coap_exchange.proofs.AnswererRoom.{still_may}
 use Rattle.coap_exchange.proofs.AnswererTicks.{room_free, room_idle}
 use Rattle.coap_exchange.proofs.answerer.Answerer.ready.Goals.{then-self, else-self}
 use Rattle.coap_exchange.proofs.answerer.Answerer.ready.Goals as goal
@@ -13,3 +15,13 @@ returns-clause-may g c may =
       idle = room_idle l h c.args.now.0 c.args.to c.in_ok-may.may c.in_ok-may.ensures.step may;
       free = room_free l h c.args.now.0 c.args.to c.in_ok-may.may c.in_ok-may.ensures.step may;
     }
+
+pub returns-clause-kept : goal.returns-clause-kept
+returns-clause-kept g c at there may =
+    let l = c.if-would_confirm.self-inside.layer.state in
+    let from : c.args.self.now.state.layer ≡ l = search (rules, c.self.view_is) in
+    let later : l.clock ≤ max l.clock c.args.now.0 = omega (arith) in
+    let was : c.args.self.now.room ≡ c.if-would_confirm.self-inside.room = search (rules, c.self.view_is) in
+    let room : c.args.self.now.room ≡ true → c.if-self.self ≡ true = λ h. elim c.if-self.branch [ then-self w ↦ search rules | else-self w ↦ absurd (cc (h, was, w.if-self.false)) ] in
+    still_may l c.room.new.self.state c.args.now.0 (T.Room c.args.to) (T.Is c.in_ok-may.may) c.in_ok-may.ensures.step
+    (record { left = λ at out x. refl; begun = λ at. refl; given = λ at. refl; later = later }) c.args.self.now _ at there from refl room may
