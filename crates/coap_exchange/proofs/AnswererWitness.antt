@@ -1,59 +1,14 @@
--- A trace that stands in the law: a GET arrives at 0 and is deferred by 1,000 ms, nothing is due at 999, it is ready at 1,000,
--- its separate response is sent (RFC 7252, section 5.2.2), and another endpoint is notified (RFC 7641, section 4.2).
-use Rattle.std.proofs.Common.{◌<◌, ℕ, zero, suc, true, Some, List, [], ◌∷◌, ◌++◌, refl, arith}
-use Rattle.coap_types.specs.declared.endpoint.Endpoint.{Endpoint}
-use Rattle.coap_types.specs.declared.message.Kind.TheVariants.{Con}
-use Rattle.coap_codec.specs.Message.{AreBytes, Message}
+-- The history of a server stands in its law.
+use Rattle.std.proofs.Common.{◌<◌, ℕ, zero, suc, List, [], ◌∷◌, refl, arith}
+use Rattle.coap_codec.specs.Message.{AreBytes}
 use Rattle.coap_codec.specs.Reading.{extended, value_at, nibbles_at, option_at, walk_of, walk, payload_at, frame_fault, body_at, message_at}
 use Rattle.coap_layer.specs.Rows.{IsSpelled}
 use Rattle.coap_layer.specs.State as L
 use Rattle.coap_layer.specs.Steps.{Asked as Below, Steps, left_after}
-use Rattle.coap_layer.specs.Trace as T
 use Rattle.coap_layer.proofs.SendableLemmas.{sendable_when_short}
-use Rattle.coap_exchange.specs.declared.answerer.Asked.{Asked}
-use Rattle.coap_exchange.specs.declared.answerer.Due.TheVariants as due
-use Rattle.coap_exchange.specs.AnswererTrace.{Response, Call, Incoming, Defers, Ticks, Responds, Ready, Notifies}
-use Rattle.coap_exchange.specs.AnswererSteps.{asked_of, content_of, content_with}
+use Rattle.coap_exchange.specs.AnswererSteps.{content_of, content_with}
 use Rattle.coap_exchange.specs.AnswererLaw.{lower_of, ResponseLaw}
-
-abbrev client : Endpoint
-client = record { ip = 127 ∷ 0 ∷ 0 ∷ 1 ∷ []; port = 40001 }
-
-abbrev observer : Endpoint
-observer = record { ip = 127 ∷ 0 ∷ 0 ∷ 1 ∷ []; port = 40002 }
-
--- a GET of `t` with a token of 8 bytes
-abbrev token : List ℕ
-token = 0 ∷ 0 ∷ 0 ∷ 0 ∷ 0 ∷ 0 ∷ 0 ∷ 0 ∷ []
-
-abbrev get : List ℕ
-get = 0x48 ∷ 1 ∷ 0 ∷ 0 ∷ (token ++ 0xb1 ∷ 0x74 ∷ [])
-
-abbrev request : Message
-request = record { kind = Con; code = 1; id = 0; token = token; options = record { number = 11; value = 0x74 ∷ [] } ∷ []; payload = [] }
-
-abbrev asked : Asked
-asked = asked_of client request
-
--- 2.05 with `hi`
-abbrev content : Response
-content = record { code = 69; options = []; payload = 0x68 ∷ 0x69 ∷ [] }
-
--- .. and with Observe
-abbrev notification : Response
-notification = record { code = 69; options = record { number = 6; value = [] } ∷ []; payload = 0x68 ∷ 0x69 ∷ [] }
-
--- the calls, the newest first
-abbrev pub run : List Call
-run =
-    Notifies 1000 observer token notification 0 1 ∷
-    Ready 1000 observer true ∷
-    Responds 1000 asked content 0 0 ∷
-    Ticks 1000 T.Idle true (due.Ready asked) ∷
-    Ticks 999 T.Idle true due.Idle ∷
-    Defers 0 asked 1000 true ∷
-    Incoming 0 client get (T.Request request true) (Some (asked, request)) ∷
-    []
+use Rattle.coap_exchange.specs.ServerExample.{token, get, asked, content, notification, run}
 
 abbrev below : List Below
 below = lower_of run

@@ -22,3 +22,5 @@ pub mod AnswererShown
 pub mod ShortAnswers
 pub mod Listed
 pub mod Outstanding
+pub mod ClientExample
+pub mod ServerExample

@@ -10,6 +10,8 @@ ghost use Rattle.coap_exchange.specs.AskerTells.{AreRefused, AreRejected};
 ghost use Rattle.coap_exchange.specs.AskerResponses.{AreMatched};
 ghost use Rattle.coap_exchange.specs.AskerShown.{IsAskableWhenShort};
 ghost use Rattle.coap_exchange.specs.ShortAnswers.{IsAnswerWhenShort, IsNotificationWhenShort};
+ghost use Rattle.coap_exchange.specs.ClientExample as client_example;
+ghost use Rattle.coap_exchange.specs.ServerExample as server_example;
 ghost use Rattle.coap_exchange.specs.AnswererTrace as trace;
 ghost use Rattle.coap_exchange.specs.AnswererLaw as answerer;
 ghost use Rattle.coap_exchange.specs.AnswererLaw.{ResponseLaw};
@@ -89,4 +91,10 @@ pub fn answerable_law()
 /// The same of a notification with a token of at most 8 bytes.
 pub fn notifiable_law()
     ensures { IsNotificationWhenShort }
+{}
+
+/// Histories that stand in the laws, with their bytes.
+pub fn witness_law()
+    ensures client { ExchangeLaw client_example.server 0 client_example.run }
+    ensures server { ResponseLaw 0 server_example.run }
 {}

@@ -18,7 +18,7 @@ mod waiting;
 
 pub use answerer::{Answerer, Asked, Due, Ended, Response};
 pub use asker::{Ask, AskRefusal, Asker, Event, Turn};
-pub use laws::{answerable_law, answerer_law, askable_law, asker_law, notifiable_law};
+pub use laws::{answerable_law, answerer_law, askable_law, asker_law, notifiable_law, witness_law};
 
 #[cfg(test)]
 mod tests;

@@ -1,0 +1,9 @@
+use Rattle.coap_exchange.proofs.AskerWitness as asker
+use Rattle.coap_exchange.proofs.AnswererWitness as answerer
+use Rattle.coap_exchange.proofs.laws.witness_law.Goals as goal
+
+pub returns-clause-client : goal.returns-clause-client
+returns-clause-client c = asker.witness
+
+pub returns-clause-server : goal.returns-clause-server
+returns-clause-server c = answerer.witness
