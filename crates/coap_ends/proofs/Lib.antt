@@ -37,3 +37,6 @@ pub mod ClientGiven
 pub mod ServerStamps
 pub mod ServerTagged
 pub mod ClientCounted
+pub mod StoreCounts
+pub mod StoreAnswers
+pub mod ServerSpelled

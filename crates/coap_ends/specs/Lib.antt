@@ -13,6 +13,7 @@ pub mod ServerLaw
 pub mod ServerExact
 pub mod ServerFollows
 pub mod ServerWaits
+pub mod ServerGoesOn
 pub mod ClientBegins
 pub mod ClientSendings
 pub mod ServerHands

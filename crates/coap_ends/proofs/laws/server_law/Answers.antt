@@ -12,6 +12,9 @@ use Rattle.coap_ends.proofs.ServerGiving.{sends_responses}
 use Rattle.coap_ends.proofs.ServerShown.{shows_held}
 use Rattle.coap_ends.proofs.ServerStamps.{are_stamped}
 use Rattle.coap_ends.proofs.ServerTagged.{one_tag}
+use Rattle.coap_ends.proofs.StoreCounts.{store_counted}
+use Rattle.coap_ends.proofs.ServerSpelled.{said}
+use Rattle.coap_ends.specs.ServerGoesOn.{GoesOn}
 use Rattle.coap_ends.proofs.laws.server_law.Goals as goal
 
 pub returns-clause-layer : goal.returns-clause-layer
