@@ -40,3 +40,6 @@ pub mod ClientCounted
 pub mod StoreCounts
 pub mod StoreAnswers
 pub mod ServerSpelled
+pub mod AnswererGoing
+pub mod ServerTokens
+pub mod ServerGoing

@@ -1,5 +1,5 @@
 -- The response of a server has a spelling (RFC 7252, sections 3.1 and 3.2; RFC 7959, section 2.2).
-use Rattle.std.proofs.Common.{◌≡◌, ℕ, ◌+◌, ◌*◌, ◌/◌, ◌%◌, ◌^◌, ◌<◌, ◌≤◌, ◌==◌, nat_lt, nat_le, Bool, true, false, Option, Some, None, List, [], ◌∷◌, ◌++◌, length, refl, ap, sym, ◌∙◌, cond, arith}
+use Rattle.std.proofs.Common.{◌≡◌, ℕ, ◌/◌, ◌%◌, ◌<◌, ◌≤◌, ◌==◌, nat_lt, Bool, true, false, Option, Some, None, List, [], ◌∷◌, ◌++◌, length, refl, sym, arith}
 use Rattle.std.specs.Prelude.{IfSome}
 use Rattle.std.specs.List.{list_all}
 use Rattle.std.proofs.lemmas.Bool.Decides.{nat_tests}
@@ -14,7 +14,6 @@ use Rattle.coap_layer.proofs.ListLemmas.{true_le, both}
 use Rattle.coap_layer.specs.Rows.{IsSpelled}
 use Rattle.coap_resource.specs.ResponseOptions.{Says, IsUint, option_with, block_number}
 use Rattle.coap_resource.specs.Serves.{Reply}
-use Rattle.coap_exchange.specs.AnswererTrace as E
 use Rattle.coap_exchange.specs.AnswererSteps.{content_with, IsResponseWith}
 use Rattle.coap_ends.specs.ServerSteps.{bare}
 use Rattle.coap_ends.proofs.ClientSpelled.{options_spelled}

@@ -1,5 +1,5 @@
 -- A store has an answer to each question, and a response to send it in (RFC 7252, section 5.8; RFC 7959, section 2.4).
-use Rattle.std.proofs.Common.{◌≡◌, ℕ, ◌+◌, ◌<◌, ◌≤◌, ◌++◌, nat_lt, nat_le, Bool, true, false, ◌&&◌, not, Option, Some, None, is_some, length, refl, ap, sym, ◌∙◌, cond, arith}
+use Rattle.std.proofs.Common.{◌≡◌, ℕ, ◌+◌, ◌<◌, ◌≤◌, ◌++◌, nat_lt, nat_le, Bool, true, false, ◌&&◌, not, Option, Some, None, is_some, length, refl, cond, arith}
 use Rattle.std.specs.Prelude.{IfSome}
 use Rattle.coap_types.specs.Roles.{role_of}
 use Rattle.coap_types.specs.declared.request.Method.{Method}

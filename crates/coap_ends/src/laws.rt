@@ -17,6 +17,7 @@ ghost use Rattle.coap_ends.specs.ClientTrace.{Call};
 ghost use Rattle.coap_ends.specs.ServerExact as servers_exact;
 ghost use Rattle.coap_ends.specs.ServerFollows.{ServedOnce, AllServed, HoldsChanges};
 ghost use Rattle.coap_ends.specs.ServerGives.{SendsResponses};
+ghost use Rattle.coap_ends.specs.ServerGoesOn as servers_go;
 ghost use Rattle.coap_ends.specs.ServerHands.{AreHandedUp};
 ghost use Rattle.coap_ends.specs.ServerLaw as servers;
 ghost use Rattle.coap_ends.specs.ServerLaw.{ServerLaw};
@@ -66,6 +67,9 @@ pub fn server_law()
     ensures layer { (limit szx word : ℕ) (t : List server.Call) → ServerLaw limit szx word t → LayerLaw word (servers.layer_of limit szx word t) }
     // The law leaves each call one answer.
     ensures exact { (limit szx word : ℕ) (past : List server.Call) → servers_exact.IsExact limit szx word past }
+    // .. and each has one, whatever its arguments, where the formats of local changes are numbers of 16 bits: what stands
+    // in the law goes on.
+    ensures goes { (limit szx word : ℕ) (t : List server.Call) → ServerLaw limit szx word t → FormatsInRange t → servers_go.GoesOn limit szx word t }
     // What waits is what the exchanges defer, and a request that they say is ready is served then (section 5.2.2).
     ensures waits { (limit szx word : ℕ) (t : List server.Call) → ServerLaw limit szx word t → WaitsAsDeferred limit szx t }
     ensures ready { (limit szx word : ℕ) (t : List server.Call) → ServerLaw limit szx word t → ReadyAreServed limit szx t }

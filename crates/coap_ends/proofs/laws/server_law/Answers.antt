@@ -12,9 +12,7 @@ use Rattle.coap_ends.proofs.ServerGiving.{sends_responses}
 use Rattle.coap_ends.proofs.ServerShown.{shows_held}
 use Rattle.coap_ends.proofs.ServerStamps.{are_stamped}
 use Rattle.coap_ends.proofs.ServerTagged.{one_tag}
-use Rattle.coap_ends.proofs.StoreCounts.{store_counted}
-use Rattle.coap_ends.proofs.ServerSpelled.{said}
-use Rattle.coap_ends.specs.ServerGoesOn.{GoesOn}
+use Rattle.coap_ends.proofs.ServerGoing.{goes_on}
 use Rattle.coap_ends.proofs.laws.server_law.Goals as goal
 
 pub returns-clause-layer : goal.returns-clause-layer
@@ -58,3 +56,6 @@ returns-clause-stamped c limit szx word t law = are_stamped limit szx t law.rows
 
 pub returns-clause-tags : goal.returns-clause-tags
 returns-clause-tags c limit szx word t law = one_tag limit szx t law.rows
+
+pub returns-clause-goes : goal.returns-clause-goes
+returns-clause-goes c limit szx word t law formats = goes_on limit szx word t law formats
