@@ -43,3 +43,7 @@ pub mod ServerSpelled
 pub mod AnswererGoing
 pub mod ServerTokens
 pub mod ServerGoing
+pub mod StepsDue
+pub mod Ending
+pub mod LastStep
+pub mod ServerEnding

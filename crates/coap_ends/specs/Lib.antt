@@ -14,6 +14,7 @@ pub mod ServerExact
 pub mod ServerFollows
 pub mod ServerWaits
 pub mod ServerGoesOn
+pub mod Endings
 pub mod ClientBegins
 pub mod ClientSendings
 pub mod ServerHands

@@ -1,3 +1,6 @@
+use Rattle.coap_ends.proofs.ServerEnding.{size}
+use Rattle.coap_ends.proofs.Ending.{rests}
+use Rattle.coap_ends.proofs.StepsDue.{due_count}
 use Rattle.coap_layer.proofs.CopyLemmas.{handed_up_once}
 use Rattle.coap_exchange.proofs.AnswererLeading.{layer_stands}
 use Rattle.coap_exchange.proofs.AnswererOnce.{counted}
