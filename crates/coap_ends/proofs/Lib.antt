@@ -47,3 +47,4 @@ pub mod StepsDue
 pub mod Ending
 pub mod LastStep
 pub mod ServerEnding
+pub mod ClientEnding

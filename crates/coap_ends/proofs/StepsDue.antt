@@ -12,7 +12,7 @@ use Rattle.coap_layer.specs.State as S
 use Rattle.coap_layer.specs.State.{is_due, is_copy_due, is_failed, tick_of, out_of}
 use Rattle.coap_layer.specs.Trace as L
 use Rattle.coap_layer.specs.Trace.{with_head}
-use Rattle.coap_layer.specs.Words.{Open, same, left_by, open_of, sent_by}
+use Rattle.coap_layer.specs.Words.{Open, same, left_by, open_of, sent_by, begun_in}
 use Rattle.coap_exchange.proofs.LayerFacts.{entry_of, opens_then, step_opens, left_same, left_same_nil}
 
 abbrev pub one_if : Bool → ℕ
@@ -180,3 +180,12 @@ module _ (old new : S.State) (now : ℕ) where
 
   pub room_same : (to : Endpoint) (a : L.Answer) → S.Step old now (L.Room to) a new → new.open_cons ≡ old.open_cons
   room_same to a step = step_opens old new now (L.Room to) a step ∙ left_same_nil (entry_of (max old.clock now) (L.Room to) a (out_of old (max old.clock now) (L.Room to))) (λ c. refl) old.open_cons
+
+  -- a call that ends and begins no CON
+  pub same_opens : (call : L.Call) (a : L.Answer) → S.Step old now call a new → ((e : List L.Packet) (c : Open) → left_by (entry_of (S.moment old now call) call a e) c ≡ Some c)
+      → ((at : ℕ) → begun_in at call a ≡ None) → new.open_cons ≡ old.open_cons
+  same_opens call a step keeps none =
+      let at = S.moment old now call in
+      let out = out_of old at call in
+      step_opens old new now call a step
+      ∙ (ap (λ o. filter_map (left_by (entry_of at call a out)) old.open_cons ++ option_to_list o) (none at) ∙ left_same_nil (entry_of at call a out) (keeps out) old.open_cons)

@@ -1,3 +1,4 @@
+use Rattle.coap_ends.proofs.ClientEnding.{size as client_size}
 use Rattle.coap_ends.proofs.ServerEnding.{size}
 use Rattle.coap_ends.proofs.Ending.{rests}
 use Rattle.coap_ends.proofs.StepsDue.{due_count}
