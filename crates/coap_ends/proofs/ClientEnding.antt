@@ -1,5 +1,5 @@
 -- At one moment, the ticks of a client end, and so do what it has out and its reports (RFC 7252, sections 4.2 and 5.2).
-use Rattle.std.proofs.Common.{◌≡◌, ◌≤◌, ◌<◌, ◌⊎◌, inl, inr, ℕ, ◌+◌, ◌*◌, max, not, nat_le, ◌-◌, Bool, true, false, ◌||◌, Option, Some, None, is_some, List, [], ◌∷◌, ◌++◌, drop, length, slice_get, Result, refl, ap, sym, subst, ◌∙◌, cond, arith}
+use Rattle.std.proofs.Common.{◌≡◌, ◌≤◌, ◌<◌, ◌⊎◌, inl, inr, ℕ, ◌+◌, ◌*◌, max, Bool, true, false, Option, Some, None, is_some, List, [], ◌∷◌, ◌++◌, drop, length, slice_get, Result, refl, ap, sym, subst, ◌∙◌, cond, arith}
 use Rattle.coap_types.specs.declared.endpoint.Endpoint.{Endpoint}
 use Rattle.coap_layer.specs.State as S
 use Rattle.coap_layer.specs.Steps.{Asked, Steps, left_after}
@@ -17,9 +17,9 @@ use Rattle.coap_exchange.specs.AskerRequests.{asked}
 use Rattle.coap_exchange.specs.AskerArrivals as R
 use Rattle.coap_exchange.specs.AskerLaw as E
 use Rattle.coap_exchange.specs.AskerLaw.{ExchangeLaw}
-use Rattle.coap_ends.specs.ClientTrace.{Operation, Own, Reported, Call, Ticks, NextOut, NextReport}
+use Rattle.coap_ends.specs.ClientTrace.{Operation, Reported, Call, Ticks, NextOut, NextReport}
 use Rattle.coap_ends.specs.ClientRequests.{message_of}
-use Rattle.coap_ends.specs.ClientSteps.{asking, starting, starting_if, is_idle, waiting_after}
+use Rattle.coap_ends.specs.ClientSteps.{asking, starting, starting_if, waiting_after}
 use Rattle.coap_ends.specs.ClientLaw.{ClientLaw, own_of, lower_of}
 use Rattle.coap_ends.proofs.LastStep.{last_step, take_less}
 use Rattle.coap_ends.proofs.StepsDue.{one_if, due_count, is_step, ticks_least, ticks_fewer, confirm_least, same_opens}

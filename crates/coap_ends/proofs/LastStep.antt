@@ -1,5 +1,5 @@
 -- The last of some calls of a layer, and what it takes of what waits to be sent.
-use Rattle.std.proofs.Common.{◌≡◌, ◌<◌, ◌≤◌, ℕ, Bool, Option, Some, None, List, [], ◌∷◌, ◌++◌, drop, length, slice_get, refl, ap, sym, subst, ◌∙◌, arith}
+use Rattle.std.proofs.Common.{◌≡◌, ◌<◌, Some, List, [], ◌∷◌, ◌++◌, drop, length, slice_get, refl, ap, subst, ◌∙◌, arith}
 use Rattle.std.proofs.lemmas.List.{append-nil}
 use Rattle.coap_layer.specs.State as S
 use Rattle.coap_layer.specs.Steps.{Asked, Steps, left_after}

@@ -48,3 +48,5 @@ pub mod Ending
 pub mod LastStep
 pub mod ServerEnding
 pub mod ClientEnding
+pub mod ServerResting
+pub mod ClientResting

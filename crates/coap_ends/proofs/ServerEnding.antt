@@ -12,7 +12,7 @@ use Rattle.coap_exchange.specs.AnswererTrace as E
 use Rattle.coap_exchange.specs.AnswererSteps as P
 use Rattle.coap_exchange.specs.AnswererLaw as W
 use Rattle.coap_exchange.specs.AskerRequests.{asked}
-use Rattle.coap_ends.specs.ServerTrace.{Waiting, Own, Handling, Silent, Refuses, Serves, Waits, Call, Ticks, NextOut}
+use Rattle.coap_ends.specs.ServerTrace.{Waiting, Handling, Silent, Refuses, Serves, Waits, Call, Ticks, NextOut}
 use Rattle.coap_ends.specs.ServerSteps.{AnswersWaiting, is_of, question_of, without}
 use Rattle.coap_ends.specs.ServerLaw.{ServerLaw, own_of, lower_of}
 use Rattle.coap_ends.proofs.LastStep.{last_step, take_less}

@@ -1,5 +1,5 @@
 -- What is called again and again until it has no more: ticks, and what is taken (RFC 7252, section 4.2).
-use Rattle.std.specs.Prelude.{ℕ, Bool, true, false, Option, Some, None, List, [], ◌∷◌, ◌++◌, map}
+use Rattle.std.specs.Prelude.{Bool, true, false, Option, Some, None, List, [], ◌∷◌, map}
 use Rattle.coap_types.specs.Past.{Always}
 
 -- ticks, up to the first that does nothing

@@ -1,7 +1,3 @@
-use Rattle.coap_ends.proofs.ClientEnding.{size as client_size}
-use Rattle.coap_ends.proofs.ServerEnding.{size}
-use Rattle.coap_ends.proofs.Ending.{rests}
-use Rattle.coap_ends.proofs.StepsDue.{due_count}
 use Rattle.coap_layer.proofs.CopyLemmas.{handed_up_once}
 use Rattle.coap_exchange.proofs.AnswererLeading.{layer_stands}
 use Rattle.coap_exchange.proofs.AnswererOnce.{counted}
@@ -17,6 +13,7 @@ use Rattle.coap_ends.proofs.ServerShown.{shows_held}
 use Rattle.coap_ends.proofs.ServerStamps.{are_stamped}
 use Rattle.coap_ends.proofs.ServerTagged.{one_tag}
 use Rattle.coap_ends.proofs.ServerGoing.{goes_on}
+use Rattle.coap_ends.proofs.ServerResting.{comes_to_rest}
 use Rattle.coap_ends.proofs.laws.server_law.Goals as goal
 
 pub returns-clause-layer : goal.returns-clause-layer
@@ -63,3 +60,6 @@ returns-clause-tags c limit szx word t law = one_tag limit szx t law.rows
 
 pub returns-clause-goes : goal.returns-clause-goes
 returns-clause-goes c limit szx word t law formats = goes_on limit szx word t law formats
+
+pub returns-clause-rests : goal.returns-clause-rests
+returns-clause-rests c limit szx word t law formats = comes_to_rest limit szx word t law formats
