@@ -1,28 +1,24 @@
 -- Each legal event has a turn.
-use Rattle.std.proofs.Common.{◌≡◌, ◌≤◌, ◌<◌, ◌⊎◌, inl, inr, ℕ, max, nat_lt, Bool, true, false, not, Option, Some, None, List, [], ◌∷◌, ◌++◌, map, length, length-append, refl, ap, sym, subst, ◌∙◌, append_assoc, cond, arith}
-use Rattle.coap_types.specs.Past.{Always}
+use Rattle.std.proofs.Common.{◌≡◌, ◌≤◌, inl, inr, ℕ, Bool, true, false, not, Some, None, List, [], ◌∷◌, ◌++◌, map, length, length-append, refl, ap, sym, subst, ◌∙◌, append_assoc, cond, arith}
 use Rattle.coap_types.specs.Path.{same_path}
 use Rattle.coap_types.specs.declared.endpoint.Endpoint.{Endpoint}
 use Rattle.coap_codec.specs.Message.{AreBytes}
 use Rattle.coap_layer.proofs.ListLemmas.{true_lt}
 use Rattle.coap_layer.specs.State as layer
-use Rattle.coap_layer.specs.Trace.{Packet}
 use Rattle.coap_ends.specs.ClientTrace as C
 use Rattle.coap_ends.specs.ClientLaw.{ClientLaw}
-use Rattle.coap_ends.specs.ClientRests as client
 use Rattle.coap_ends.specs.Endings.{UpToIdle, all_taken}
 use Rattle.coap_ends.specs.ServerTrace as S
-use Rattle.coap_ends.specs.ServerLaw.{ServerLaw, own_of, ServerRows, lower_of}
-use Rattle.coap_ends.specs.ServerRests as server
+use Rattle.coap_ends.specs.ServerLaw.{ServerLaw, own_of}
 use Rattle.coap_ends.specs.ServerShows.{FormatsInRange}
-use Rattle.coap_ends.specs.ServerSteps.{max_delays, may_delay, others}
+use Rattle.coap_ends.specs.ServerSteps.{max_delays, others}
 use Rattle.coap_ends.proofs.ClientGoing as client_going
 use Rattle.coap_ends.proofs.ClientResting as client_resting
 use Rattle.coap_ends.proofs.ServerGoing as server_going
 use Rattle.coap_ends.proofs.ServerResting as server_resting
-use Rattle.coap_world.specs.Events.{client_end, server_end, Config, What, Calls, Sets, Removes, TickClient, TickServer, Deliver, StrangerToClient, StrangerToServer, Event}
-use Rattle.coap_world.specs.GoesOn.{turn_of, MayHappen, Follows, GoesOn, Begins, Ran, MayRun, HasRecord}
-use Rattle.coap_world.specs.Legal.{IsLegal, Legal}
+use Rattle.coap_world.specs.Events.{server_end, Config, What, Calls, Sets, Removes, TickClient, TickServer, Deliver, StrangerToClient, StrangerToServer, Event}
+use Rattle.coap_world.specs.GoesOn.{turn_of, MayHappen, Follows, GoesOn, Begins, MayRun, HasRecord}
+use Rattle.coap_world.specs.Legal.{Legal}
 use Rattle.coap_world.specs.Record.{Entry, OfClient, OfServer, Turn, entries_of, client_of, server_of, begun_with, server_trace, OnClient, OnServer, IsOne, AreTicks, FeedsClient, FeedsServer, Makes, ClientTick, ServerTick, RecordOf}
 use Rattle.coap_world.proofs.Formats.{formats_in}
 use Rattle.coap_world.proofs.Turns.{client_client, client_server, server_server, server_client}
@@ -69,10 +65,10 @@ module _ (config : Config) (events : List Event) (turns : List Turn) (run : Reco
       let list : List C.Call = C.NextReport None ∷ (given ++ taken) in
       let same : list ++ clients ≡ all_taken C.NextReport reports.taken ++ (all_taken C.NextOut outs.taken ++ (calls ++ clients)) =
       ap (λ xs. C.NextReport None ∷ xs)
-          (append_assoc given taken clients ∙ ap (λ xs. given ++ C.NextOut None ∷ xs) (append_assoc (map (λ p. C.NextOut (Some p)) outs.taken) calls clients)) in
+      (append_assoc given taken clients ∙ ap (λ xs. given ++ C.NextOut None ∷ xs) (append_assoc (map (λ p. C.NextOut (Some p)) outs.taken) calls clients)) in
       follows what may (map OfClient list) (makes (map OfClient list) (record { outs = outs.taken; reports = reports.taken; is = refl }))
-          (subst (ClientLaw server_end config.client_szx config.client_word) (sym (client_client list all ∙ same)) reports.law)
-          (subst (λ xs. ServerLaw config.limit config.server_szx config.server_word (xs ++ begun_with config)) (sym (server_client list all)) run.server)
+      (subst (ClientLaw server_end config.client_szx config.client_word) (sym (client_client list all ∙ same)) reports.law)
+      (subst (λ xs. ServerLaw config.limit config.server_szx config.server_word (xs ++ begun_with config)) (sym (server_client list all)) run.server)
 
   -- a turn of the server: its calls, and all that it has out
   of_server : (what : What) → MayHappen turns (event what) → (calls : List S.Call) → server_resting.Law config.limit config.server_szx config.server_word (calls ++ servers)
@@ -84,8 +80,8 @@ module _ (config : Config) (events : List Event) (turns : List Turn) (run : Reco
       let same : (list ++ server_of all) ++ begun_with config ≡ all_taken S.NextOut outs.taken ++ (calls ++ servers) =
       append_assoc list (server_of all) (begun_with config) ∙ ap (λ xs. S.NextOut None ∷ xs) (append_assoc given calls servers) in
       follows what may (map OfServer list) (makes (map OfServer list) (record { outs = outs.taken; is = refl }))
-          (subst (ClientLaw server_end config.client_szx config.client_word) (sym (client_server list all)) run.client)
-          (subst (ServerLaw config.limit config.server_szx config.server_word) (sym (ap (λ xs. xs ++ begun_with config) (server_server list all) ∙ same)) outs.law.0)
+      (subst (ClientLaw server_end config.client_szx config.client_word) (sym (client_server list all)) run.client)
+      (subst (ServerLaw config.limit config.server_szx config.server_word) (sym (ap (λ xs. xs ++ begun_with config) (server_server list all) ∙ same)) outs.law.0)
 
   -- a datagram
   to_client : (what : What) → MayHappen turns (event what) → (from : Endpoint) (bytes : List ℕ) → AreBytes bytes

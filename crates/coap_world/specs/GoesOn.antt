@@ -1,6 +1,6 @@
 -- A record goes on with each legal event: no event is left without a turn, and so there are records of each list of events
 -- that are legal one after the other.
-use Rattle.std.specs.Prelude.{◌≡◌, ◌≤◌, ℕ, false, List, [], ◌∷◌, length}
+use Rattle.std.specs.Prelude.{◌≡◌, ◌≤◌, false, List, [], ◌∷◌, length}
 use Rattle.coap_types.specs.Past.{Always}
 use Rattle.coap_codec.specs.Message.{AreBytes}
 use Rattle.coap_ends.specs.ServerSteps.{max_delays}
