@@ -40,7 +40,10 @@ pub mod ClientCounted
 pub mod StoreCounts
 pub mod StoreAnswers
 pub mod ServerSpelled
+pub mod RequestsKept
 pub mod AnswererGoing
+pub mod AnswererComing
+pub mod AnswererTiming
 pub mod ServerTokens
 pub mod ServerGoing
 pub mod StepsDue

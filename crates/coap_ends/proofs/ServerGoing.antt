@@ -32,7 +32,9 @@ use Rattle.coap_ends.specs.ServerLaw.{ServerLaw, own_of, lower_of}
 use Rattle.coap_ends.specs.ServerGoesOn.{GoesOn}
 use Rattle.coap_ends.specs.ServerShows.{FormatsInRange}
 use Rattle.coap_ends.specs.ServerWaits.{deferred_as}
-use Rattle.coap_ends.proofs.AnswererGoing.{Takes, takes, answers, defers, responds, Receives, receives, TimePasses, passes_time}
+use Rattle.coap_ends.proofs.AnswererGoing.{Takes, takes, answers, defers, responds}
+use Rattle.coap_ends.proofs.AnswererComing.{Receives, receives}
+use Rattle.coap_ends.proofs.AnswererTiming.{TimePasses, passes_time}
 use Rattle.coap_ends.proofs.ServerSpelled.{bare_response, said}
 use Rattle.coap_ends.proofs.ServerStoreBounds.{AreBounded, store_bounded}
 use Rattle.coap_ends.proofs.ServerTokens.{AreShort, asked_short, waiting_short}
@@ -216,7 +218,7 @@ module _ (limit szx word : ℕ) (t : List Call) (law : ServerLaw limit szx word 
         ∙ (ap (λ n. P.first_ready n (W.own_of under).separate (W.own_of under).deferred) twice ∙ f.first) in (
           Serves asks.question s.reply s.response s.left,
           k.law_of.left.upcoming,
-          subst (λ o. AnswersWaiting o mine.store moment (Serves asks.question s.reply s.response s.left)) (sym asks.asks) s.is_served,
+          subst (λ o. AnswersWaiting o mine.store moment (Serves asks.question s.reply s.response s.left)) {x = Some asks.question} (sym asks.asks) s.is_served,
           responds word (E.Ticks moment below room (due.Ready a) ∷ under) k.law_of moment a s.response w f.deferred ready f.asked s.may (k.can_respond a refl),
         )
 
