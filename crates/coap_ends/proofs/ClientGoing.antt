@@ -30,13 +30,13 @@ use Rattle.coap_ends.proofs.ClientReplies.{what_replies}
 use Rattle.coap_ends.proofs.ClientSpelled.{spelled_request}
 
 -- one call of the layer
-left_by : S.State → ℕ → L.Call → S.State
+unfoldable pub left_by : S.State → ℕ → L.Call → S.State
 left_by s now call = S.forgotten (S.after s (S.made s now call))
 
-abbrev answer_by : S.State → ℕ → L.Call → L.Answer
+abbrev pub answer_by : S.State → ℕ → L.Call → L.Answer
 answer_by s now call = S.answer_of s (S.moment s now call) call
 
-one_step : (s : S.State) (now : ℕ) (call : L.Call) → S.May s call → S.Step s now call (answer_by s now call) (left_by s now call)
+pub one_step : (s : S.State) (now : ℕ) (call : L.Call) → S.May s call → S.Step s now call (answer_by s now call) (left_by s now call)
 unfolding left_by
 one_step s now call may = record { may = may; right = refl; new_is = refl }
 

@@ -20,7 +20,7 @@ use Rattle.coap_ends.specs.ClientTrace.{Request}
 use Rattle.coap_ends.specs.ClientRequests.{content_format, accept, uint_option, path_options, more_options, options_of, message_of, longest, max_options}
 
 -- options that ascend, have numbers and are short, have a spelling
-options_spelled : (os : List CoapOption) (base : ℕ) → ascends base os ≡ true → list_all is_numbered os ≡ true → list_all is_short os ≡ true → Options base (options_bytes base os) os
+pub options_spelled : (os : List CoapOption) (base : ℕ) → ascends base os ≡ true → list_all is_numbered os ≡ true → list_all is_short os ≡ true → Options base (options_bytes base os) os
 unfolding options_bytes
 options_spelled [] base order numbers short = refl
 options_spelled (o ∷ os) base order numbers short =

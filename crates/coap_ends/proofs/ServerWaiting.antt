@@ -40,12 +40,12 @@ first_is_ready at xs (e ∷ ds) d h = by (is_ready at xs e) refl h (first_is_rea
 
 module _ (at : ℕ) (xs : List Separate) (a : Asked) where
   -- the request that is ready is asked for by the store, and taken out
-  record IsTaken (ws : List Waiting) : Type 0 where
-    question : Question
-    asks : question_of at a ws ≡ Some question
-    left : map deferred_as (without at a ws) ≡ without_ready at xs (map deferred_as ws)
+  pub record IsTaken (ws : List Waiting) : Type 0 where
+    pub question : Question
+    pub asks : question_of at a ws ≡ Some question
+    pub left : map deferred_as (without at a ws) ≡ without_ready at xs (map deferred_as ws)
 
-  taken : (ws : List Waiting) (d : Deferred) → first_ready at xs (map deferred_as ws) ≡ Some d → d.asked ≡ a → IsTaken ws
+  pub taken : (ws : List Waiting) (d : Deferred) → first_ready at xs (map deferred_as ws) ≡ Some d → d.asked ≡ a → IsTaken ws
   taken [] d h same = absurd (cc h)
   taken (w ∷ ws) d h same = by (is_ready at xs (deferred_as w)) (is_of at a w) refl refl h (λ k. taken ws d k same)
     where
@@ -79,13 +79,13 @@ module _ (at : ℕ) (xs : List Separate) (a : Asked) where
       }
 
 -- what is due is a request only where the layer was idle, and the first that is ready
-record FoundReady (below : L.Answer) (o : Option Deferred) (a : Asked) : Type 0 where
-  idle : below ≡ L.Idle
-  deferred : Deferred
-  first : o ≡ Some deferred
-  asked : deferred.asked ≡ a
+pub record FoundReady (below : L.Answer) (o : Option Deferred) (a : Asked) : Type 0 where
+  pub idle : below ≡ L.Idle
+  pub deferred : Deferred
+  pub first : o ≡ Some deferred
+  pub asked : deferred.asked ≡ a
 
-found_ready : (below : L.Answer) (o : Option Deferred) (room : Bool) (a : Asked) → due.Ready a ≡ P.due_of below o room → FoundReady below o a
+pub found_ready : (below : L.Answer) (o : Option Deferred) (room : Bool) (a : Asked) → due.Ready a ≡ P.due_of below o room → FoundReady below o a
 found_ready L.Idle (Some d) true a h = record { idle = refl; deferred = d; first = refl; asked = (let e : a ≡ d.asked = cc h in sym e) }
 found_ready L.Idle (Some d) false a h = absurd (cc h)
 found_ready L.Idle None room a h = absurd (cc h)
@@ -117,9 +117,9 @@ module _ (limit szx : ℕ) where
   exchanges t = W.own_of (lower_of limit szx t)
 
   -- the clock of the exchanges is not ahead
-  record Mirrors (t : List Call) : Type 0 where
-    clock : (exchanges t).clock ≤ (own t).clock
-    lists : map deferred_as (own t).waiting ≡ (exchanges t).deferred
+  pub record Mirrors (t : List Call) : Type 0 where
+    pub clock : (exchanges t).clock ≤ (own t).clock
+    pub lists : map deferred_as (own t).waiting ≡ (exchanges t).deferred
 
   module _ (t : List Call) (m : Mirrors t) where
     fed : (now : ℕ) (from : Endpoint) (bytes : List ℕ) (w : ℕ) (up : L.Answer) (came : Option (Asked × Message)) (h : Handling) (below : L.Answer) → Mirrors (Feeds now from bytes w up came h below ∷ t)
@@ -194,7 +194,7 @@ module _ (limit szx : ℕ) where
     mirrored (Ticks now w below room d h id answer) right law = ticked now w below room d h id answer right law
     mirrored (NextOut answer) right law = record { clock = m.clock; lists = m.lists }
 
-  mirrors : (t : List Call) → ServerRows limit szx t → W.AnswererLaw (lower_of limit szx t) → Mirrors t
+  pub mirrors : (t : List Call) → ServerRows limit szx t → W.AnswererLaw (lower_of limit szx t) → Mirrors t
   mirrors [] rows law = record { clock = omega arith; lists = refl }
   mirrors (c ∷ t) rows law = mirrored t (mirrors t rows.1 (law_back 0 (lower (own t) c) (lower_of limit szx t) law)) c rows.0 law
 

@@ -13,6 +13,10 @@ pub mod ServerLaw
 pub mod ServerExact
 pub mod ServerFollows
 pub mod ServerWaits
+pub mod ServerGoesOn
+pub mod Endings
+pub mod ServerRests
+pub mod ClientRests
 pub mod ClientBegins
 pub mod ClientSendings
 pub mod ServerHands

@@ -12,14 +12,17 @@ ghost use Rattle.coap_ends.specs.ClientGoesOn.{GoesOn};
 ghost use Rattle.coap_ends.specs.ClientHears.{AreHeard};
 ghost use Rattle.coap_ends.specs.ClientLaw.{ClientLaw, layer_of};
 ghost use Rattle.coap_ends.specs.ClientNumbering.{OneCall};
+ghost use Rattle.coap_ends.specs.ClientRests.{ComesToRest};
 ghost use Rattle.coap_ends.specs.ClientSendings.{OneSending, NoNons, OneCon};
 ghost use Rattle.coap_ends.specs.ClientTrace.{Call};
 ghost use Rattle.coap_ends.specs.ServerExact as servers_exact;
 ghost use Rattle.coap_ends.specs.ServerFollows.{ServedOnce, AllServed, HoldsChanges};
 ghost use Rattle.coap_ends.specs.ServerGives.{SendsResponses};
+ghost use Rattle.coap_ends.specs.ServerGoesOn as servers_go;
 ghost use Rattle.coap_ends.specs.ServerHands.{AreHandedUp};
 ghost use Rattle.coap_ends.specs.ServerLaw as servers;
 ghost use Rattle.coap_ends.specs.ServerLaw.{ServerLaw};
+ghost use Rattle.coap_ends.specs.ServerRests as servers_rest;
 ghost use Rattle.coap_ends.specs.ServerShows.{FormatsInRange, ShowsHeld};
 ghost use Rattle.coap_ends.specs.ServerTags.{AreStamped, OneTag};
 ghost use Rattle.coap_ends.specs.ServerTrace as server;
@@ -33,6 +36,8 @@ pub fn client_law()
     ensures exact { (server : Endpoint) (szx word : ℕ) (past : List Call) → clients_exact.IsExact server szx word past }
     // .. and each has one: what stands in the law goes on.
     ensures goes { (server : Endpoint) (szx word : ℕ) (t : List Call) → ClientLaw server szx word t → GoesOn server szx word t }
+    // It comes to rest: at one moment its ticks end, and so do what it has out and its reports (RFC 7252, sections 4.2 and 5.2).
+    ensures rests { (server : Endpoint) (szx word : ℕ) (t : List Call) → ClientLaw server szx word t → ComesToRest server szx word t }
     // A retransmission is of a CON that was begun at most 47,000 ms before, with the same bytes (RFC 7252, section 4.2).
     ensures copies { (server : Endpoint) (szx word : ℕ) (t : List Call) → ClientLaw server szx word t → CopiesInTime (layer_of server word t) }
     // It begins no other CON than the requests of its calls, each with its token, to the server (RFC 7252, section 5.2).
@@ -66,6 +71,11 @@ pub fn server_law()
     ensures layer { (limit szx word : ℕ) (t : List server.Call) → ServerLaw limit szx word t → LayerLaw word (servers.layer_of limit szx word t) }
     // The law leaves each call one answer.
     ensures exact { (limit szx word : ℕ) (past : List server.Call) → servers_exact.IsExact limit szx word past }
+    // .. and each has one, whatever its arguments, where the formats of local changes are numbers of 16 bits: what stands
+    // in the law goes on.
+    ensures goes { (limit szx word : ℕ) (t : List server.Call) → ServerLaw limit szx word t → FormatsInRange t → servers_go.GoesOn limit szx word t }
+    // It comes to rest: at one moment its ticks end, and so does what it has out (RFC 7252, sections 4.2 and 5.2.2).
+    ensures rests { (limit szx word : ℕ) (t : List server.Call) → ServerLaw limit szx word t → FormatsInRange t → servers_rest.ComesToRest limit szx word t }
     // What waits is what the exchanges defer, and a request that they say is ready is served then (section 5.2.2).
     ensures waits { (limit szx word : ℕ) (t : List server.Call) → ServerLaw limit szx word t → WaitsAsDeferred limit szx t }
     ensures ready { (limit szx word : ℕ) (t : List server.Call) → ServerLaw limit szx word t → ReadyAreServed limit szx t }

@@ -53,3 +53,4 @@ pub mod WitnessStranger
 pub mod WitnessDelivery
 pub mod WitnessRefused
 pub mod Given
+pub mod Following

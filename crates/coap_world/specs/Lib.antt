@@ -7,3 +7,4 @@ pub mod Hops
 pub mod CameFrom
 pub mod LegalRuns
 pub mod LegalEvents
+pub mod GoesOn

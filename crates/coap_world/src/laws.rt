@@ -6,6 +6,7 @@ ghost use Rattle.coap_world.specs.Agrees.{Agrees, AppliedWhole, AtMostOnce, Chan
 ghost use Rattle.coap_world.specs.CameFrom.{CamesFrom};
 ghost use Rattle.coap_world.specs.Delivery.{AllFair};
 ghost use Rattle.coap_world.specs.Events.{client_end, server_end, Config, Event};
+ghost use Rattle.coap_world.specs.GoesOn.{GoesOn, Begins, MayRun, HasRecord};
 ghost use Rattle.coap_world.specs.Hops.{hops_of, across, TakenAtOnce};
 ghost use Rattle.coap_world.specs.Legal.{Legal};
 ghost use Rattle.coap_world.specs.LegalEvents.{NoneRuns, MayComeTill, NotAfter, never_given, NoneFrom};
@@ -81,4 +82,13 @@ pub fn agreement()
     // once, exactly once where success is reported and never where another response is (RFC 7252, sections 4.2, 4.5, 5.3.2,
     // 5.8 and 5.9).
     ensures agrees { (config : Config) (events : List Event) (turns : List Turn) → RecordOf config events turns → Legal turns → Agrees config (entries_of turns) }
+{}
+
+/// There are records: what the agreement says of legal runs, it says of each list of events that are legal one after the
+/// other.
+pub fn runs_law()
+    // A record goes on with each further event that is legal after it and brings bytes, and nothing is refused.
+    ensures goes { (config : Config) → GoesOn config }
+    // Events that may happen one after the other have a record in which nothing is refused.
+    ensures runs { (config : Config) → Begins config → (events : List Event) → MayRun config events → HasRecord config events }
 {}

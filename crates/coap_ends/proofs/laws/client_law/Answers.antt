@@ -5,6 +5,7 @@ use Rattle.coap_exchange.proofs.AskerCame.{came_from}
 use Rattle.coap_exchange.proofs.AskerTokens.{counted}
 use Rattle.coap_ends.proofs.ClientExactly.{is_exact}
 use Rattle.coap_ends.proofs.ClientGoing.{goes_on}
+use Rattle.coap_ends.proofs.ClientResting.{comes_to_rest}
 use Rattle.coap_ends.specs.ClientLaw.{lower_of, layer_of}
 use Rattle.coap_layer.specs.State.{start}
 use Rattle.coap_exchange.specs.AskerLaw as asker
@@ -72,3 +73,6 @@ returns-clause-in_order c server szx word t law = gives_in_order szx t law.rows
 
 pub returns-clause-numbers : goal.returns-clause-numbers
 returns-clause-numbers c server szx word t law = one_call szx t law.rows
+
+pub returns-clause-rests : goal.returns-clause-rests
+returns-clause-rests c server szx word t law = comes_to_rest server szx word t law

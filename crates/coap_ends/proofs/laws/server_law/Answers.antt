@@ -12,6 +12,8 @@ use Rattle.coap_ends.proofs.ServerGiving.{sends_responses}
 use Rattle.coap_ends.proofs.ServerShown.{shows_held}
 use Rattle.coap_ends.proofs.ServerStamps.{are_stamped}
 use Rattle.coap_ends.proofs.ServerTagged.{one_tag}
+use Rattle.coap_ends.proofs.ServerGoing.{goes_on}
+use Rattle.coap_ends.proofs.ServerResting.{comes_to_rest}
 use Rattle.coap_ends.proofs.laws.server_law.Goals as goal
 
 pub returns-clause-layer : goal.returns-clause-layer
@@ -55,3 +57,9 @@ returns-clause-stamped c limit szx word t law = are_stamped limit szx t law.rows
 
 pub returns-clause-tags : goal.returns-clause-tags
 returns-clause-tags c limit szx word t law = one_tag limit szx t law.rows
+
+pub returns-clause-goes : goal.returns-clause-goes
+returns-clause-goes c limit szx word t law formats = goes_on limit szx word t law formats
+
+pub returns-clause-rests : goal.returns-clause-rests
+returns-clause-rests c limit szx word t law formats = comes_to_rest limit szx word t law formats

@@ -1,0 +1,49 @@
+-- A record goes on with each legal event: no event is left without a turn, and so there are records of each list of events
+-- that are legal one after the other.
+use Rattle.std.specs.Prelude.{◌≡◌, ◌≤◌, false, List, [], ◌∷◌, length}
+use Rattle.coap_types.specs.Past.{Always}
+use Rattle.coap_codec.specs.Message.{AreBytes}
+use Rattle.coap_ends.specs.ServerSteps.{max_delays}
+use Rattle.coap_world.specs.Events.{Config, What, Deliver, Event}
+use Rattle.coap_world.specs.Legal.{IsLegal, Legal}
+use Rattle.coap_world.specs.Record.{Entry, Given, Turn, IsNumber, RecordOf}
+
+-- a turn in which nothing is refused
+abbrev pub turn_of : Event → List Entry → Turn
+turn_of event entries = record { event = event; refused = false; entries = entries }
+
+-- An event is legal, whatever it makes; and where it delivers a datagram, that is one of bytes.
+abbrev pub BringsBytes : List Turn → What → Type 0
+BringsBytes past (Deliver number) = (g : Given) → IsNumber number g past → AreBytes g.packet.bytes
+BringsBytes past what = Unit {0}
+
+pub record MayHappen (past : List Turn) (event : Event) : Type 0 where
+  pub legal : IsLegal past (turn_of event [])
+  pub bytes : BringsBytes past event.what
+
+-- The record of one event more.
+pub record Follows (config : Config) (events : List Event) (turns : List Turn) (event : Event) : Type 0 where
+  pub entries : List Entry
+  pub made : RecordOf config (event ∷ events) (turn_of event entries ∷ turns)
+  pub legal : Legal (turn_of event entries ∷ turns)
+
+abbrev pub GoesOn : Config → Type 0
+GoesOn config = (events : List Event) (turns : List Turn) (event : Event) → RecordOf config events turns → Legal turns → MayHappen turns event → Follows config events turns event
+
+-- A server begins with at most 16 delays (profile).
+abbrev pub Begins : Config → Type 0
+Begins config = length config.delays ≤ max_delays
+
+-- a record in which nothing is refused
+pub record Ran (config : Config) (events : List Event) (turns : List Turn) : Type 0 where
+  pub made : RecordOf config events turns
+  pub legal : Legal turns
+  pub all_made : Always (λ past t. t.refused ≡ false) turns
+
+-- events that may happen one after the other
+abbrev pub MayRun : Config → List Event → Type 0
+MayRun config [] = Unit {0}
+MayRun config (event ∷ events) = ((turns : List Turn) → Ran config events turns → MayHappen turns event) × MayRun config events
+
+abbrev pub HasRecord : Config → List Event → Type 0
+HasRecord config events = (turns : List Turn) × Ran config events turns
