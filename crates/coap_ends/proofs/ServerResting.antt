@@ -17,7 +17,7 @@ module _ (limit szx word : ℕ) where
   next_tick : (now w : ℕ) (t : List Call) → Law t → Next Law (size limit szx word now) (IsTick now w) t
   next_tick now w t law =
       let k = (goes_on limit szx word t law.0 law.1).ticks now w in
-      by k.0 k.1 k.2 k.3 k.4 k.5 k.6
+      by k.0 k.1 k.2 k.3 k.4 k.5 k.7
     where
       by : (below : L.Answer) (room : Bool) (d : Due) (h : Handling) (id : ℕ) (answer : Bool) → ServerLaw limit szx word (Ticks now w below room d h id answer ∷ t) → Next Law (size limit szx word now) (IsTick now w) t
       by below room d h id answer more = record {

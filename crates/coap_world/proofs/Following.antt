@@ -96,7 +96,7 @@ module _ (config : Config) (events : List Event) (turns : List Turn) (run : Reco
   to_server what may from bytes are makes =
       let k = (server_going.goes_on config.limit config.server_szx config.server_word servers run.server formats).feeds at from bytes word are in
       let call : S.Call = S.Feeds at from bytes word k.0 k.1 k.2 k.3 in
-      of_server what may (call ∷ []) (k.4, (tt, formats)) (λ entries on. makes (call ∷ []) entries (call, (k.0, k.1, k.2, k.3, refl), refl) on)
+      of_server what may (call ∷ []) (k.5, (tt, formats)) (λ entries on. makes (call ∷ []) entries (call, (k.0, k.1, k.2, k.3, refl), refl) on)
 
   by_what : (what : What) → MayHappen turns (event what) → Follows config events turns (event what)
   by_what (Calls r) may =
