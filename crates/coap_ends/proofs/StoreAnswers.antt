@@ -1,7 +1,10 @@
 -- A store has an answer to each question, and a response to send it in (RFC 7252, section 5.8; RFC 7959, section 2.4).
-use Rattle.std.proofs.Common.{◌≡◌, ℕ, ◌+◌, ◌<◌, ◌≤◌, ◌++◌, nat_lt, nat_le, Bool, true, false, ◌&&◌, not, Option, Some, None, is_some, length, refl, cond, arith}
+use Rattle.std.proofs.Common.{◌≡◌, ℕ, ◌+◌, ◌<◌, ◌≤◌, ◌/◌, ◌^◌, ◌++◌, nat_lt, nat_le, Bool, true, false, ◌&&◌, not, Option, Some, None, is_some, zero, suc, length, refl, cond, mod-lt, arith}
+use Rattle.std.specs.Int.{byte_at, bytes_high_first}
 use Rattle.std.specs.Prelude.{IfSome}
+use Rattle.std.proofs.lemmas.List.Elements.{All-nil, All-cons}
 use Rattle.coap_types.specs.Roles.{role_of}
+use Rattle.coap_types.specs.Uint.{AreBytes}
 use Rattle.coap_types.specs.declared.request.Method.{Method}
 use Rattle.coap_types.specs.declared.request.Method.TheVariants.{Get, Post, Put, Delete}
 use Rattle.coap_types.specs.declared.role.Role.TheVariants as role
@@ -23,6 +26,7 @@ pub record IsGood (reply : Reply) : Type 0 where
   pub some : 0 < reply.code
   pub code : reply.code < 256
   pub tag : IfSome reply.tag (λ t. length t ≤ 8)
+  pub tag_bytes : IfSome reply.tag AreBytes
   pub format : IfSome reply.format (λ f. f < 65536)
   pub block2 : IfSome (block_number reply.block2) (λ n. n < 16777216)
 
@@ -32,8 +36,20 @@ pub record IsAnswered (P : Reply → Content → Type 0) : Type 0 where
   pub serves : P reply left
   pub good : IsGood reply
 
+-- an entity-tag is 8 bytes
+byte_below : (k n : ℕ) → byte_at k n < 256
+byte_below zero n = omega arith
+byte_below (suc k) n = mod-lt (n / 256 ^ suc k) {m = 256} (omega arith)
+
+high_bytes : (k n : ℕ) → AreBytes (bytes_high_first k n)
+high_bytes zero n = All-nil (λ b. b < 256)
+high_bytes (suc k) n = All-cons (λ b. b < 256) (byte_at k n) (bytes_high_first k n) (byte_below k n) (high_bytes k n)
+
+bytes_of_tag : (version : ℕ) → AreBytes (tag_of version)
+bytes_of_tag version = high_bytes 8 version
+
 bare_good : (code offset : ℕ) → role_of code ≡ role.Response → 0 < code → code < 256 → IsGood (bare code offset)
-bare_good code offset class some small = record { class = class; some = some; code = small; tag = tt; format = tt; block2 = tt }
+bare_good code offset class some small = record { class = class; some = some; code = small; tag = tt; tag_bytes = tt; format = tt; block2 = tt }
 
 refusal_good : (why : StoreRefusal) → IsGood (bare (refusal_code why) 0)
 refusal_good Memory = bare_good 163 0 refl (omega arith) (omega arith)
@@ -88,13 +104,14 @@ module _ (old : Content) (at : ℕ) (q : Question) (c : AreCounted old) where
     by_tests : (a e b : Bool) → (nat_lt 0 offset && nat_le (length held.body) offset) ≡ b
         → IsGood (cond a (bare 134 offset) (cond e (record (bare 67 offset) { tag = Some (tag_of held.version) }) (cond b (bare 128 offset) shown)))
     by_tests true e b is = bare_good 134 offset refl (omega arith) (omega arith)
-    by_tests false true b is = record { class = refl; some = omega arith; code = omega arith; tag = omega arith; format = tt; block2 = tt }
+    by_tests false true b is = record { class = refl; some = omega arith; code = omega arith; tag = omega arith; tag_bytes = bytes_of_tag held.version; format = tt; block2 = tt }
     by_tests false false true is = bare_good 128 offset refl (omega arith) (omega arith)
     by_tests false false false is = record {
       class = refl;
       some = omega arith;
       code = omega arith;
       tag = omega arith;
+      tag_bytes = bytes_of_tag held.version;
       format = bounded.format;
       block2 = block_below (uint_option (value_of 23 q.options)) held q.szx is bounded.body;
     }

@@ -1,5 +1,6 @@
 -- The law leaves each call of a server one answer, one of each layer beneath it, and one state of each after it.
 use Rattle.std.specs.Prelude.{◌≡◌, ℕ, max, Bool, Option, List, ◌∷◌, All, Result}
+use Rattle.coap_types.specs.Past.{Always}
 use Rattle.coap_types.specs.Uint.{AreBytes}
 use Rattle.coap_types.specs.declared.endpoint.Endpoint.{Endpoint}
 use Rattle.coap_codec.specs.Message.{Message}
@@ -17,6 +18,14 @@ use Rattle.coap_ends.specs.ServerLaw.{ServerLaw, own_of, lower_of}
 abbrev pub InBytes : Handling → Type 0
 InBytes (Serves q reply response left) = All (λ o. AreBytes o.value) response.options
 InBytes h = Unit {0}
+
+abbrev pub HasBytes : Call → Type 0
+HasBytes (Feeds now from bytes w up came h below) = InBytes h
+HasBytes (Ticks now w below room d h id answer) = InBytes h
+HasBytes c = Unit {0}
+
+abbrev pub AllInBytes : List Call → Type 0
+AllInBytes = Always (λ past c. HasBytes c)
 
 -- Two calls leave the same: the server's own state, that of its exchanges, and what was asked of its message layer, with
 -- each answer.

@@ -4,5 +4,5 @@
 mod laws;
 
 pub use laws::{
-    agreement, changes_law, delivery_law, hops_law, legal_law, requests_law, witness_law,
+    agreement, changes_law, delivery_law, hops_law, legal_law, requests_law, runs_law, witness_law,
 };
