@@ -316,8 +316,9 @@ impl<A: Allocator + Copy> Answerer<A> {
     }
 
     /// Sends a notification to an observer in a Confirmable message, where `ready` answered true at
-    /// this moment and nothing was sent since, and answers its Message ID (RFC 7641, sections 4.2 and
-    /// 4.5). The word picks the initial timeout. It takes no memory.
+    /// this moment, and nothing was sent and no datagram or tick was taken since; answers its Message
+    /// ID (RFC 7641, sections 4.2 and 4.5). A request that was handed up before can't be answered any
+    /// more. The word picks the initial timeout. It takes no memory.
     pub fn notify(
         &mut self,
         now: Moment,

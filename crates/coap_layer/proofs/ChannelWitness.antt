@@ -1,6 +1,6 @@
 -- Two layers that stand in the law of a channel: a CON is begun at 0, arrives at 10 and is acknowledged; the
 -- acknowledgement is taken at 20 (RFC 7252, section 4.2).
-use Rattle.std.proofs.Common.{◌≡◌, ◌<◌, inl, inr, ℕ, zero, suc, List, [], ◌∷◌, ◌++◌, true, refl, subst, arith}
+use Rattle.std.proofs.Common.{◌≡◌, ◌<◌, inl, inr, ℕ, zero, suc, List, [], ◌∷◌, ◌++◌, true, refl, ap, subst, arith}
 use Rattle.coap_types.specs.declared.endpoint.Endpoint.{Endpoint}
 use Rattle.coap_types.specs.declared.message.Kind.TheVariants.{Con, Ack}
 use Rattle.coap_codec.specs.Message.{AreBytes, Message, Spells}
@@ -169,4 +169,4 @@ unfolding message_at frame_fault body_at walk walk_of option_at nibbles_at value
 takes = record { call = refl; up = refl; from = omega arith; till = omega arith }
 
 pub acknowledged : IsAcknowledged
-acknowledged = record { near = client; far = server; hops = hops; law = channel; con = con; taken = inr (inr (inl takes)); heard = inl (_, refl, hears) }
+acknowledged = record { near = client; far = server; hops = hops; apart = λ h. (let e : 40000 ≡ 5683 = ap (λ (x : Endpoint). x.port) h in absurd (omega (arith, e))); law = channel; con = con; heard = inl (_, refl, hears, inr (inl takes)) }

@@ -1,5 +1,5 @@
 -- Histories that show the laws to be of something (RFC 7252, section 4.2).
-use Rattle.std.specs.Prelude.{◌≡◌, ◌+◌, List, ◌∷◌}
+use Rattle.std.specs.Prelude.{◌≡◌, ◌≢◌, ◌+◌, List, ◌∷◌}
 use Rattle.coap_types.specs.Past.{Ever, Once}
 use Rattle.coap_types.specs.declared.endpoint.Endpoint.{Endpoint}
 use Rattle.coap_layer.specs.Trace.{Expired, Entry}
@@ -18,12 +18,12 @@ pub record FiveTimes : Type 0 where
   pub fails : last.answer ≡ Expired con.to con.id
   pub then_is : last.at ≡ con.first + 93000
 
--- In a lawful history of two layers a CON is taken, and its acknowledgement is heard.
+-- In a lawful history of two layers, apart from each other, a CON is taken, and then its acknowledgement is heard.
 pub record IsAcknowledged : Type 0 where
   pub near : Endpoint
   pub far : Endpoint
   pub hops : List Hop
+  pub apart : near ≢ far
   pub law : ChannelLaw 0 0 near far hops
   pub con : Open
-  pub taken : Ever (OnFar (Takes near con)) hops
-  pub heard : Once (λ past h. (e : Entry) × (h ≡ Near e) × HearsAck con (near_of past) e) hops
+  pub heard : Once (λ past h. (e : Entry) × (h ≡ Near e) × HearsAck con (near_of past) e × Ever (OnFar (Takes near con)) past) hops
