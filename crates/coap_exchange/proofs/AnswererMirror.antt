@@ -1,13 +1,13 @@
 -- The separate responses that are not acknowledged are the layer's outstanding CONs.
 use Rattle.std.proofs.Common.{◌≡◌, ℕ, max, Bool, true, false, Option, Some, None, List, [], ◌∷◌, ◌++◌, refl, ap, sym, subst, ◌∙◌, cond, ◌||◌, not, option_to_list}
-use Rattle.std.specs.List.{filter_map, cons_option}
+use Rattle.std.specs.List.{list_any, filter_map, cons_option}
 use Rattle.std.proofs.lemmas.List.{append-nil}
 use Rattle.coap_types.specs.declared.endpoint.Endpoint.{Endpoint}
 use Rattle.coap_types.specs.declared.message.Kind.{Kind}
 use Rattle.coap_types.specs.declared.message.Kind.TheVariants.{Con, Non, Ack, Rst}
 use Rattle.coap_types.specs.SameEndpoint.{same_endpoint}
 use Rattle.coap_layer.specs.State as L
-use Rattle.coap_layer.specs.State.{out_of, is_busy}
+use Rattle.coap_layer.specs.State.{out_of, is_busy, is_outstanding}
 use Rattle.coap_layer.specs.Steps.{Steps}
 use Rattle.coap_layer.specs.Trace as T
 use Rattle.coap_layer.specs.Words.{Open, same, left_by, begun_in}
@@ -15,7 +15,7 @@ use Rattle.coap_exchange.specs.declared.answerer.Asked.{Asked}
 use Rattle.coap_exchange.specs.declared.separate.Deferred.{Deferred}
 use Rattle.coap_exchange.specs.declared.separate.Separate.{Separate}
 use Rattle.coap_exchange.specs.AnswererTrace.{Response, Own, Call, Incoming, Answers, Defers, Ticks, Responds, Ready, Notifies, Take}
-use Rattle.coap_exchange.specs.AnswererSteps.{lower, after, without, separate_after, separate_unless, is_waited_for, content_of, content_with, answering, deferring, may_defer, asking_room, ready_if, ready_at, reject_by}
+use Rattle.coap_exchange.specs.AnswererSteps.{lower, after, goes_to, without, separate_after, separate_unless, is_waited_for, content_of, content_with, answering, deferring, may_defer, asking_room, ready_if, ready_at, reject_by}
 use Rattle.coap_exchange.specs.AnswererLaw.{own_of, lower_of, ResponseLaw}
 use Rattle.coap_exchange.specs.AnswererFollows.{WaitsForOutstanding}
 use Rattle.coap_exchange.specs.AskerRequests.{asked}
@@ -73,6 +73,14 @@ busy_mirrors to [] [] m = refl
 busy_mirrors to (x ∷ xs) (c ∷ cs) m = ap (λ p. same_endpoint p to || is_waited_for to xs) m.0 ∙ ap (λ b. same_endpoint c.to to || b) (busy_mirrors to xs cs m.2)
 busy_mirrors to [] (c ∷ cs) m = absurd m
 busy_mirrors to (x ∷ xs) [] m = absurd m
+
+outstanding_mirrors : (to : Endpoint) (id : ℕ) (xs : List Separate) (cs : List Open) → Mirrors xs cs → list_any (goes_to to id) xs ≡ is_outstanding to id cs
+outstanding_mirrors to id [] [] m = refl
+outstanding_mirrors to id (x ∷ xs) (c ∷ cs) m =
+    ap (λ p. same to id p x.id.0 || list_any (goes_to to id) xs) m.0
+    ∙ (ap (λ n. same to id c.to n || list_any (goes_to to id) xs) m.1 ∙ ap (λ b. same to id c.to c.id || b) (outstanding_mirrors to id xs cs m.2))
+outstanding_mirrors to id [] (c ∷ cs) m = absurd m
+outstanding_mirrors to id (x ∷ xs) [] m = absurd m
 
 -- what each call of the layer leaves
 module _ (at : ℕ) (out : List T.Packet) (xs : List Separate) (cs : List Open) (m : Mirrors xs cs) where
@@ -191,3 +199,6 @@ mirrors word (Take answer ∷ t) h steps = still steps.0 h 0 T.Take (T.Gives ans
 
 pub waits : (word : ℕ) (t : List Call) (law : ResponseLaw word t) → WaitsForOutstanding word t law
 waits word t law to = busy_mirrors to (own_of t).separate law.left.open_cons (mirrors word t law.left law.layer)
+
+pub waits_for : (word : ℕ) (t : List Call) (h : L.State) → Steps (L.start word) (lower_of t) h → (to : Endpoint) (id : ℕ) → list_any (goes_to to id) (own_of t).separate ≡ is_outstanding to id h.open_cons
+waits_for word t h steps to id = outstanding_mirrors to id (own_of t).separate h.open_cons (mirrors word t h steps)

@@ -21,6 +21,7 @@ pub mod AnswererLeading
 pub mod AnswererOnce
 pub mod AnswererEnds
 pub mod AnswererMirror
+pub mod AnswererTells
 pub mod AnswererCame
 pub mod AnswererSends
 pub mod AnswererExactly

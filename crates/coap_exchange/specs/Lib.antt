@@ -16,6 +16,7 @@ pub mod AnswererSteps
 pub mod AnswererLaw
 pub mod AnswererFollows
 pub mod AnswererSends
+pub mod AnswererTells
 pub mod AnswererExact
 pub mod AskerShown
 pub mod AnswererShown

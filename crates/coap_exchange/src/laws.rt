@@ -17,6 +17,7 @@ ghost use Rattle.coap_exchange.specs.AnswererLaw as answerer;
 ghost use Rattle.coap_exchange.specs.AnswererLaw.{ResponseLaw};
 ghost use Rattle.coap_exchange.specs.AnswererExact as exactly;
 ghost use Rattle.coap_exchange.specs.AnswererSends.{AllGoBack, BeginAlone};
+ghost use Rattle.coap_exchange.specs.AnswererTells.{EndsTold};
 ghost use Rattle.coap_exchange.specs.AnswererFollows.{AreResponses, AreRequests, EndsOnce, WaitsForOutstanding, FewDeferred};
 
 /// What leads to the state of a client's side stands in the law, and what follows from that.
@@ -67,6 +68,8 @@ pub fn answerer_law()
     ensures requests { (word : ℕ) (t : List trace.Call) → ResponseLaw word t → AreRequests t }
     // A separate response that a Reset or a failure ends is said once (RFC 7252, section 5.2.2).
     ensures ends { (word : ℕ) (t : List trace.Call) → ResponseLaw word t → EndsOnce t }
+    // .. and it is said where it ends (RFC 7252, section 5.2.2; RFC 7641, sections 3.6 and 4.5).
+    ensures told { (word : ℕ) (t : List trace.Call) → ResponseLaw word t → EndsTold t }
     // A deferred request waits for the CON that is outstanding to its endpoint (RFC 7252, section 4.7).
     ensures waits { (word : ℕ) (t : List trace.Call) (law : ResponseLaw word t) → WaitsForOutstanding word t law }
     // A response goes to its request's endpoint and carries its token (RFC 7252, sections 5.2 and 5.3.2).

@@ -3,6 +3,7 @@ use Rattle.coap_exchange.proofs.AnswererExactly.{exact}
 use Rattle.coap_exchange.proofs.AnswererOnce.{counted}
 use Rattle.coap_exchange.proofs.AnswererCame.{came_in}
 use Rattle.coap_exchange.proofs.AnswererEnds.{ends_once}
+use Rattle.coap_exchange.proofs.AnswererTells.{told}
 use Rattle.coap_exchange.proofs.AnswererMirror.{waits}
 use Rattle.coap_exchange.proofs.AnswererSends.{sends_so}
 use Rattle.coap_exchange.proofs.laws.answerer_law.Goals as goal
@@ -30,6 +31,9 @@ returns-clause-requests c word t law = came_in word t law.rows law.left law.laye
 
 pub returns-clause-ends : goal.returns-clause-ends
 returns-clause-ends c word t law = ends_once t
+
+pub returns-clause-told : goal.returns-clause-told
+returns-clause-told c = told
 
 pub returns-clause-waits : goal.returns-clause-waits
 returns-clause-waits c = waits
