@@ -23,7 +23,7 @@ use Rattle.coap_exchange.proofs.AskerLeading.{steps_split}
 use Rattle.coap_ends.specs.ServerTrace.{Own, Handling, Silent, Refuses, Serves, Waits, Call, Feeds, Ticks}
 use Rattle.coap_ends.specs.ServerSteps.{answering, responding}
 use Rattle.coap_ends.specs.ServerLaw.{own_of, lower_of, ServerLaw}
-use Rattle.coap_ends.specs.ServerExact.{InBytes, LeaveAlike, IsExact}
+use Rattle.coap_ends.specs.ServerExact.{LeaveAlike, IsExact}
 use Rattle.coap_ends.proofs.ServerHandled.{came_alike, due_alike}
 use Rattle.coap_ends.proofs.StoreExactly.{set_alike, removed_alike}
 
@@ -159,16 +159,16 @@ module _ (limit szx word : ℕ) (past : List Call) where
         let asks = answering_alike word at first calls came h below beyond p.exchanges q.exchanges in
         (asks, record { own = refl; exchanges = ap (λ z. W.own_of ((z ++ first ∷ []) ++ calls)) asks; beneath = ap (λ z. W.lower_of ((z ++ first ∷ []) ++ calls)) asks })
 
-  fed : (now : ℕ) (from : Endpoint) (bytes : List ℕ) (w : ℕ) (up other : L.Answer) (came come : Option (Asked × Message)) (h k : Handling) (below beyond : L.Answer) → InBytes h → InBytes k → Law (Feeds now from bytes w up came h below)
+  fed : (now : ℕ) (from : Endpoint) (bytes : List ℕ) (w : ℕ) (up other : L.Answer) (came come : Option (Asked × Message)) (h k : Handling) (below beyond : L.Answer) → Law (Feeds now from bytes w up came h below)
       → Law (Feeds now from bytes w other come k beyond)
       → (up ≡ other) × (came ≡ come) × (h ≡ k) × (answering (max own.clock now) came h below ≡ answering (max own.clock now) come k beyond)
       × Alike (Feeds now from bytes w up came h below) (Feeds now from bytes w other come k beyond)
-  fed now from bytes w up other came come h k below beyond x y p q =
+  fed now from bytes w up other came come h k below beyond p q =
       let at : ℕ = max own.clock now in
       let e = (exact word calls).incoming at from bytes up other came come (behind word (answering at came h below) (E.Incoming at from bytes up came) calls p.exchanges)
       (behind word (answering at come k beyond) (E.Incoming at from bytes other come) calls q.exchanges) in
       let heard = subst (λ z. Law (Feeds now from bytes w z came k beyond)) (sym e.0) (subst (λ z. Law (Feeds now from bytes w other z k beyond)) (sym e.1) q) in
-      let handled = came_alike szx own at came h k p.rows.0 heard.rows.0 x y in
+      let handled = came_alike szx own at came h k p.rows.0 heard.rows.0 in
       let r = fed_alike now from bytes w up came h below beyond p (subst (λ z. Law (Feeds now from bytes w up came z beyond)) (sym handled) heard) in
       let f = subst (λ z. FedAlike now from bytes w up came h below beyond z come k) e.0
       (subst (λ z. FedAlike now from bytes w up came h below beyond up z k) e.1 (subst (λ z. FedAlike now from bytes w up came h below beyond up came z) handled r)) in
@@ -186,16 +186,16 @@ module _ (limit szx word : ℕ) (past : List Call) where
         let f = pass_alike word (max own.clock now) w below calls d h id number room space p.exchanges q.exchanges in
         (f.asks, p.rows.0.1 ∙ sym q.rows.0.1, record { own = refl; exchanges = f.own; beneath = f.beneath })
 
-  ticked : (now w : ℕ) (below other : L.Answer) (room space : Bool) (d t : Due) (h k : Handling) (id number : ℕ) (answer another : Bool) → InBytes h → InBytes k → Law (Ticks now w below room d h id answer)
+  ticked : (now w : ℕ) (below other : L.Answer) (room space : Bool) (d t : Due) (h k : Handling) (id number : ℕ) (answer another : Bool) → Law (Ticks now w below room d h id answer)
       → Law (Ticks now w other space t k number another)
       → (below ≡ other) × (d ≡ t) × (h ≡ k) × (responding (max own.clock now) d h w id ≡ responding (max own.clock now) t k w number) × (answer ≡ another)
       × Alike (Ticks now w below room d h id answer) (Ticks now w other space t k number another)
-  ticked now w below other room space d t h k id number answer another x y p q =
+  ticked now w below other room space d t h k id number answer another p q =
       let at : ℕ = max own.clock now in
       let e = (exact word calls).ticks at below other room space d t (behind word (responding at d h w id) (E.Ticks at below room d) calls p.exchanges)
       (behind word (responding at t k w number) (E.Ticks at other space t) calls q.exchanges) in
       let passed = subst (λ z. Law (Ticks now w z space d k number another)) (sym e.0) (subst (λ z. Law (Ticks now w other space z k number another)) (sym e.1) q) in
-      let handled = due_alike own at d h k p.rows.0.0 passed.rows.0.0 x y in
+      let handled = due_alike own at d h k p.rows.0.0 passed.rows.0.0 in
       let r = tick_alike now w below room space d h id number answer another p (subst (λ z. Law (Ticks now w below space d z number another)) (sym handled) passed) in
       let f = subst (λ z. TickAlike now w below room space d h id number answer another z t k) e.0
       (subst (λ z. TickAlike now w below room space d h id number answer another below z k) e.1 (subst (λ z. TickAlike now w below room space d h id number answer another below d z) handled r)) in

@@ -1,7 +1,9 @@
 -- What a server sends beside Empty messages carries a response to a request that was handed up.
+use Rattle.std.specs.Prelude.{All}
 use Rattle.std.proofs.Common.{◌≡◌, inl, inr, ℕ, max, Bool, Option, Some, None, List, [], ◌∷◌, length, refl, sym, subst}
 use Rattle.coap_types.specs.CoapOption.{CoapOption}
 use Rattle.coap_types.specs.Past.{Ever, Once}
+use Rattle.coap_types.specs.Uint.{AreBytes}
 use Rattle.coap_types.proofs.PastLemmas.{Ever_append}
 use Rattle.coap_types.specs.declared.endpoint.Endpoint.{Endpoint}
 use Rattle.coap_types.specs.declared.message.Kind.{Kind}
@@ -48,6 +50,7 @@ refuses s at kind (Asks q) r h = by (waits_by kind (delay_of q.path s.delays) (l
 record IsMade (reply : Reply) (r : E.Response) : Type 0 where
   options : List CoapOption
   says : Says reply options
+  bytes : All (λ o. AreBytes o.value) options
   is : r ≡ record { code = reply.code; options = options; payload = reply.part }
 
 served : (old : Content) (at : ℕ) (asked q : Question) (reply : Reply) (r : E.Response) (left : Content) → IsServed old at asked (Serves q reply r left) → IsMade reply r
@@ -55,7 +58,7 @@ served old at asked q reply r left h =
     let e = h.is in
     let reply_is : reply ≡ h.reply = cc e in
     let r_is : r ≡ record { code = h.reply.code; options = h.options; payload = h.reply.part } = cc e in
-    subst (λ (x : Reply). IsMade x r) (sym reply_is) (record { options = h.options; says = h.says; is = r_is })
+    subst (λ (x : Reply). IsMade x r) (sym reply_is) (record { options = h.options; says = h.says; bytes = h.bytes; is = r_is })
 
 serves : (s : Own) (at : ℕ) (kind : Kind) (v : Verdict) (q : Question) (reply : Reply) (r : E.Response) (left : Content) → Handles s at kind v (Serves q reply r left) → IsMade reply r
 serves s at kind Ignored q reply r left h = absurd (cc h)
@@ -89,7 +92,7 @@ module _ (limit szx word : ℕ) (p : L.Packet) where
         })
     fed now from bytes w up (Some a) (Serves q reply r left) below law (inl k) =
         let v = serves (own t) (max (own t).clock now) a.0.kind (verdict_on szx a.1) q reply r left law.rows.0 in
-        inl (record { request = record { asked = a.0; question = q; reply = reply; old = (own t).store; left = left }; here = refl; options = v.options; says = v.says; carries = subst (Carries p a.0) v.is k })
+        inl (record { request = record { asked = a.0; question = q; reply = reply; old = (own t).store; left = left }; here = refl; options = v.options; says = v.says; bytes = v.bytes; carries = subst (Carries p a.0) v.is k })
     fed now from bytes w up (Some a) (Refuses r) below law (inr k) = elim k [ inl x ↦ absurd x | inr x ↦ absurd x ]
     fed now from bytes w up (Some a) (Serves q reply r left) below law (inr k) = elim k [ inl x ↦ absurd x | inr x ↦ absurd x ]
     fed now from bytes w up (Some a) (Waits q delay) below law (inl k) = absurd k
@@ -102,7 +105,7 @@ module _ (limit szx word : ℕ) (p : L.Packet) where
     ticked now w below room (due.Ready a) (Serves q reply r left) id answer law (inl k) =
         let at : ℕ = max (own t).clock now in
         let v = serves_later (question_of at a (own t).waiting) (own t).store at q reply r left law.rows.0.0 in
-        inl (record { request = record { asked = a; question = q; reply = reply; old = (own t).store; left = left }; here = refl; options = v.options; says = v.says; carries = subst (Carries p a) v.is k })
+        inl (record { request = record { asked = a; question = q; reply = reply; old = (own t).store; left = left }; here = refl; options = v.options; says = v.says; bytes = v.bytes; carries = subst (Carries p a) v.is k })
     ticked now w below room (due.Ready a) (Serves q reply r left) id answer law (inr k) = elim k [ inl x ↦ absurd x | inr x ↦ absurd x ]
     ticked now w below room (due.Ready a) Silent id answer law k = elim k [ inl x ↦ absurd x | inr x ↦ absurd x ]
     ticked now w below room (due.Ready a) (Refuses r) id answer law k = elim k [ inl x ↦ absurd x | inr x ↦ absurd x ]

@@ -29,7 +29,6 @@ use Rattle.coap_ends.specs.ServerTrace.{Own, Handling, Silent, Refuses, Serves, 
 use Rattle.coap_ends.specs.ServerChecks.{Verdict, Ignored, Refused, Asks, bad_by, bad_request, proxying_not_supported, proxy_uri, proxy_scheme, max_segments, asks, path_of, is_reserved, method_by, asked_by, question, verdict_on}
 use Rattle.coap_ends.specs.ServerSteps.{SetsBy, RemovesBy, IsServed, AsksBy, Handles, HandlesCame, HandlesDue, AnswersWaiting, answering, responding, bare, waits_by, max_waiting, delay_of, may_delay, is_done}
 use Rattle.coap_ends.specs.ServerLaw.{ServerLaw, own_of, lower_of}
-use Rattle.coap_ends.specs.ServerExact.{InBytes}
 use Rattle.coap_ends.specs.ServerGoesOn.{GoesOn}
 use Rattle.coap_ends.specs.ServerShows.{FormatsInRange}
 use Rattle.coap_ends.specs.ServerWaits.{deferred_as}
@@ -139,7 +138,6 @@ module _ (limit szx word : ℕ) (t : List Call) (law : ServerLaw limit szx word 
     left : Content
     is_served : IsServed mine.store at q (Serves q reply response left)
     may : P.IsResponseWith token response
-    bytes : InBytes (Serves q reply response left)
 
   served : (at : ℕ) (token : List ℕ) (q : Question) → length token ≤ 8 → Served at token q
   served at token q few =
@@ -149,9 +147,8 @@ module _ (limit szx word : ℕ) (t : List Call) (law : ServerLaw limit szx word 
         reply = a.reply;
         response = record { code = a.reply.code; options = s.options; payload = a.reply.part };
         left = a.left;
-        is_served = record { reply = a.reply; options = s.options; left = a.left; serves = a.serves; says = s.says; is = refl };
+        is_served = record { reply = a.reply; options = s.options; left = a.left; serves = a.serves; says = s.says; bytes = s.bytes; is = refl };
         may = s.response;
-        bytes = s.bytes;
       }
 
   -- a datagram
@@ -163,10 +160,10 @@ module _ (limit szx word : ℕ) (t : List Call) (law : ServerLaw limit szx word 
     late = let k = mirrored.clock in omega (arith, k)
 
     abbrev Handled : L.Answer → Option (Asked × Message) → (Handling → L.Answer → Type 0) → Type 0
-    Handled up came Is = (h : Handling) × (below : L.Answer) × Is h below × InBytes h × ResponseLaw word ((answering at came h below ++ E.Incoming at from bytes up came ∷ []) ++ under)
+    Handled up came Is = (h : Handling) × (below : L.Answer) × Is h below × ResponseLaw word ((answering at came h below ++ E.Incoming at from bytes up came ∷ []) ++ under)
 
     handled : (up : L.Answer) (came : Option (Asked × Message)) → Receives word under law.exchanges at from bytes are late up came → Handled up came (λ h below. HandlesCame szx mine at came h)
-    handled up None r = (Silent, L.Nothing, refl, tt, r.law_of)
+    handled up None r = (Silent, L.Nothing, refl, r.law_of)
     handled up (Some p) r = by (verdict_on szx p.1) (is_refusal szx p.1)
       where
         can : Takes r.law_of.left (W.own_of (E.Incoming at from bytes up (Some p) ∷ under)).clock p.0
@@ -176,24 +173,24 @@ module _ (limit szx word : ℕ) (t : List Call) (law : ServerLaw limit szx word 
         asked q None is =
             let k = served at p.0.token q can.short in
             let a = answers word (E.Incoming at from bytes up (Some p) ∷ under) r.law_of p.0 k.response refl k.may can in
-            (Serves q k.reply k.response k.left, a.0, k.is_served, k.bytes, a.1)
+            (Serves q k.reply k.response k.left, a.0, k.is_served, a.1)
         asked q (Some delay) is =
             let k = waits_where p.0.kind (delay_of q.path mine.delays) (length mine.waiting) delay is in
             let as_many : length mine.waiting ≡ length (W.own_of under).deferred = sym (length-map mine.waiting deferred_as) ∙ ap length mirrored.lists in
-            (Waits q delay, L.Nothing, refl, tt, defers word (E.Incoming at from bytes up (Some p) ∷ under) r.law_of at p.0 delay refl k.0 (ap (λ n. nat_lt n max_waiting) (sym as_many) ∙ k.1) can.awaits)
+            (Waits q delay, L.Nothing, refl, defers word (E.Incoming at from bytes up (Some p) ∷ under) r.law_of at p.0 delay refl k.0 (ap (λ n. nat_lt n max_waiting) (sym as_many) ∙ k.1) can.awaits)
 
         by : (v : Verdict) → IsRefusal v → Handled up (Some p) (λ h below. Handles mine at p.0.kind v h)
-        by Ignored good = (Silent, L.Nothing, refl, tt, r.law_of)
+        by Ignored good = (Silent, L.Nothing, refl, r.law_of)
         by (Refused code) good =
             let a = answers word (E.Incoming at from bytes up (Some p) ∷ under) r.law_of p.0 (bare code) refl (bare_response p.0.token code can.short good.0 good.1 good.2) can in
-            (Refuses (bare code), a.0, refl, tt, a.1)
+            (Refuses (bare code), a.0, refl, a.1)
         by (Asks q) good = asked q (waits_by p.0.kind (delay_of q.path mine.delays) (length mine.waiting)) refl
 
-    feeds_on : (up : L.Answer) × (came : Option (Asked × Message)) × (handling : Handling) × (below : L.Answer) × InBytes handling × ServerLaw limit szx word (Feeds now from bytes w up came handling below ∷ t)
+    feeds_on : (up : L.Answer) × (came : Option (Asked × Message)) × (handling : Handling) × (below : L.Answer) × ServerLaw limit szx word (Feeds now from bytes w up came handling below ∷ t)
     feeds_on =
         let r = receives word under law.exchanges at from bytes are late in
         let h = handled r.0 r.1 r.2 in
-        (r.0, r.1, h.0, h.1, h.3, record { rows = (h.2, law.rows); exchanges = h.4 })
+        (r.0, r.1, h.0, h.1, record { rows = (h.2, law.rows); exchanges = h.3 })
 
   -- time passes
   module _ (now w : ℕ) where
@@ -201,12 +198,12 @@ module _ (limit szx word : ℕ) (t : List Call) (law : ServerLaw limit szx word 
     moment = max mine.clock now
 
     abbrev Dues : L.Answer → Bool → Due → Type 0
-    Dues below room d = (h : Handling) × (id : ℕ) × HandlesDue mine moment d h × InBytes h × ResponseLaw word ((responding moment d h w id ++ E.Ticks moment below room d ∷ []) ++ under)
+    Dues below room d = (h : Handling) × (id : ℕ) × HandlesDue mine moment d h × ResponseLaw word ((responding moment d h w id ++ E.Ticks moment below room d ∷ []) ++ under)
 
     due_on : (below : L.Answer) (room : Bool) (d : Due) → TimePasses word under law.exchanges moment below room d → Dues below room d
-    due_on below room due.Idle k = (Silent, 0, refl, tt, k.law_of)
-    due_on below room due.Copied k = (Silent, 0, refl, tt, k.law_of)
-    due_on below room due.Expired k = (Silent, 0, refl, tt, k.law_of)
+    due_on below room due.Idle k = (Silent, 0, refl, k.law_of)
+    due_on below room due.Copied k = (Silent, 0, refl, k.law_of)
+    due_on below room due.Expired k = (Silent, 0, refl, k.law_of)
     due_on below room (due.Ready a) k =
         let same_moment : max (W.own_of under).clock moment ≡ moment = (let c = mirrored.clock in omega (arith, c)) in
         let f = found_ready below (P.ready_at (W.own_of under) moment) room a k.is_due in
@@ -222,17 +219,16 @@ module _ (limit szx word : ℕ) (t : List Call) (law : ServerLaw limit szx word 
           Serves asks.question s.reply s.response s.left,
           k.law_of.left.upcoming,
           subst (λ o. AnswersWaiting o mine.store moment (Serves asks.question s.reply s.response s.left)) {x = Some asks.question} (sym asks.asks) s.is_served,
-          s.bytes,
           responds word (E.Ticks moment below room (due.Ready a) ∷ under) k.law_of moment a s.response w f.deferred ready f.asked s.may (k.can_respond a refl),
         )
 
     ticks_on :
-        (below : L.Answer) × (room : Bool) × (due : Due) × (handling : Handling) × (id : ℕ) × (answer : Bool) × InBytes handling
+        (below : L.Answer) × (room : Bool) × (due : Due) × (handling : Handling) × (id : ℕ) × (answer : Bool)
         × ServerLaw limit szx word (Ticks now w below room due handling id answer ∷ t)
     ticks_on =
         let k = passes_time word under law.exchanges moment in
         let h = due_on k.0 k.1 k.2 k.3 in
-        (k.0, k.1, k.2, h.0, h.1, is_done k.2, h.3, record { rows = ((h.2, refl), law.rows); exchanges = h.4 })
+        (k.0, k.1, k.2, h.0, h.1, is_done k.2, record { rows = ((h.2, refl), law.rows); exchanges = h.3 })
 
   pub goes_on : GoesOn limit szx word t
   goes_on = record {

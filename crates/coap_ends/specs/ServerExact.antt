@@ -1,7 +1,5 @@
 -- The law leaves each call of a server one answer, one of each layer beneath it, and one state of each after it.
-use Rattle.std.specs.Prelude.{◌≡◌, ℕ, max, Bool, Option, List, ◌∷◌, All, Result}
-use Rattle.coap_types.specs.Past.{Always}
-use Rattle.coap_types.specs.Uint.{AreBytes}
+use Rattle.std.specs.Prelude.{◌≡◌, ℕ, max, Bool, Option, List, ◌∷◌, Result}
 use Rattle.coap_types.specs.declared.endpoint.Endpoint.{Endpoint}
 use Rattle.coap_codec.specs.Message.{Message}
 use Rattle.coap_layer.specs.Trace as L
@@ -10,22 +8,9 @@ use Rattle.coap_resource.specs.declared.refusal.StoreRefusal.{StoreRefusal}
 use Rattle.coap_exchange.specs.declared.answerer.Asked.{Asked}
 use Rattle.coap_exchange.specs.declared.answerer.Due.{Due}
 use Rattle.coap_exchange.specs.AnswererLaw as E
-use Rattle.coap_ends.specs.ServerTrace.{Handling, Serves, Call, Sets, Removes, Delays, Feeds, Ticks, NextOut}
+use Rattle.coap_ends.specs.ServerTrace.{Handling, Call, Sets, Removes, Delays, Feeds, Ticks, NextOut}
 use Rattle.coap_ends.specs.ServerSteps.{answering, responding}
 use Rattle.coap_ends.specs.ServerLaw.{ServerLaw, own_of, lower_of}
-
--- The values of a response's options are bytes, as their type has it: then a number has one spelling.
-abbrev pub InBytes : Handling → Type 0
-InBytes (Serves q reply response left) = All (λ o. AreBytes o.value) response.options
-InBytes h = Unit {0}
-
-abbrev pub HasBytes : Call → Type 0
-HasBytes (Feeds now from bytes w up came h below) = InBytes h
-HasBytes (Ticks now w below room d h id answer) = InBytes h
-HasBytes c = Unit {0}
-
-abbrev pub AllInBytes : List Call → Type 0
-AllInBytes = Always (λ past c. HasBytes c)
 
 -- Two calls leave the same: the server's own state, that of its exchanges, and what was asked of its message layer, with
 -- each answer.
@@ -45,13 +30,13 @@ pub record IsExact (limit szx word : ℕ) (past : List Call) : Type 0 where
       → ServerLaw limit szx word (Removes now path another other ∷ past) → (answer ≡ another) × (left ≡ other)
   pub delays : (path : List (List ℕ)) (ms : ℕ) (answer another : Bool) → ServerLaw limit szx word (Delays path ms answer ∷ past) → ServerLaw limit szx word (Delays path ms another ∷ past) → answer ≡ another
   pub feeds :
-      (now : ℕ) (from : Endpoint) (bytes : List ℕ) (w : ℕ) (up other : L.Answer) (came come : Option (Asked × Message)) (h k : Handling) (below beyond : L.Answer) → InBytes h → InBytes k
+      (now : ℕ) (from : Endpoint) (bytes : List ℕ) (w : ℕ) (up other : L.Answer) (came come : Option (Asked × Message)) (h k : Handling) (below beyond : L.Answer)
       → ServerLaw limit szx word (Feeds now from bytes w up came h below ∷ past) → ServerLaw limit szx word (Feeds now from bytes w other come k beyond ∷ past)
       → (up ≡ other) × (came ≡ come) × (h ≡ k)
       × (answering (max (own_of limit szx past).clock now) came h below ≡ answering (max (own_of limit szx past).clock now) come k beyond)
       × LeaveAlike limit szx past (Feeds now from bytes w up came h below) (Feeds now from bytes w other come k beyond)
   pub ticks :
-      (now w : ℕ) (below other : L.Answer) (room space : Bool) (d due : Due) (h k : Handling) (id number : ℕ) (answer another : Bool) → InBytes h → InBytes k
+      (now w : ℕ) (below other : L.Answer) (room space : Bool) (d due : Due) (h k : Handling) (id number : ℕ) (answer another : Bool)
       → ServerLaw limit szx word (Ticks now w below room d h id answer ∷ past) → ServerLaw limit szx word (Ticks now w other space due k number another ∷ past)
       → (below ≡ other) × (d ≡ due) × (h ≡ k)
       × (responding (max (own_of limit szx past).clock now) d h w id ≡ responding (max (own_of limit szx past).clock now) due k w number) × (answer ≡ another)

@@ -1,7 +1,8 @@
 -- What a server sends beside Empty messages: responses to the requests that were handed up (RFC 7252, sections 4.2 and 5.2).
-use Rattle.std.specs.Prelude.{◌≡◌, ◌⊎◌, ℕ, Some, List, ◌∷◌}
+use Rattle.std.specs.Prelude.{◌≡◌, ◌⊎◌, ℕ, Some, List, ◌∷◌, All}
 use Rattle.coap_types.specs.CoapOption.{CoapOption}
 use Rattle.coap_types.specs.Past.{Ever, Once}
+use Rattle.coap_types.specs.Uint.{AreBytes}
 use Rattle.coap_types.specs.declared.message.Kind.{Kind}
 use Rattle.coap_codec.specs.Message.{Message, Spells}
 use Rattle.coap_codec.specs.Writing.{message_bytes}
@@ -39,6 +40,7 @@ module _ (limit szx : ℕ) where
     pub here : serving (own_of limit szx past) c ≡ Some request
     pub options : List CoapOption
     pub says : Says request.reply options
+    pub bytes : All (λ o. AreBytes o.value) options
     pub carries : Carries p request.asked (record { code = request.reply.code; options = options; payload = request.reply.part })
 
   -- the refusal, without the store, of a request that was handed up

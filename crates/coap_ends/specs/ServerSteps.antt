@@ -1,7 +1,8 @@
 -- What each call of a server asks of its exchanges, answers and leaves (RFC 7252, sections 5.2 and 5.8).
-use Rattle.std.specs.Prelude.{◌≡◌, ℕ, ◌+◌, ◌-◌, max, nat_lt, nat_le, Bool, true, false, ◌&&◌, not, Option, Some, None, List, [], ◌∷◌, ◌++◌, length, filter, Result, Ok, Err, if◌then◌else◌}
+use Rattle.std.specs.Prelude.{◌≡◌, ℕ, ◌+◌, ◌-◌, max, nat_lt, nat_le, Bool, true, false, ◌&&◌, not, Option, Some, None, List, [], ◌∷◌, ◌++◌, length, filter, Result, Ok, Err, if◌then◌else◌, All}
 use Rattle.coap_types.specs.CoapOption.{CoapOption}
 use Rattle.coap_types.specs.Path.{same_path}
+use Rattle.coap_types.specs.Uint.{AreBytes}
 use Rattle.coap_types.specs.declared.message.Kind.{Kind}
 use Rattle.coap_types.specs.declared.message.Kind.TheVariants.{Con}
 use Rattle.coap_codec.specs.Message.{Message}
@@ -53,13 +54,15 @@ delay_of path (d ∷ ds) = if same_path d.path path then Some d.ms else delay_of
 
 -- a request
 
--- The store serves it: the response has the code, the options and the payload of the store's.
+-- The store serves it: the response has the code, the options and the payload of the store's. The values of its options are
+-- bytes, so that a number has one spelling (RFC 7252, section 3.2).
 pub record IsServed (old : Content) (at : ℕ) (q : Question) (h : Handling) : Type 0 where
   pub reply : Reply
   pub options : List CoapOption
   pub left : Content
   pub serves : R.Serves old at q reply left
   pub says : Says reply options
+  pub bytes : All (λ o. AreBytes o.value) options
   pub is : h ≡ Serves q reply (record { code = reply.code; options = options; payload = reply.part }) left
 
 abbrev pub bare : ℕ → E.Response

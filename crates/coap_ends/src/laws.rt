@@ -72,7 +72,7 @@ pub fn server_law()
     // The law leaves each call one answer.
     ensures exact { (limit szx word : ℕ) (past : List server.Call) → servers_exact.IsExact limit szx word past }
     // .. and each has one, whatever its arguments, where the formats of local changes are numbers of 16 bits: what stands
-    // in the law goes on. The values of its options are bytes.
+    // in the law goes on.
     ensures goes { (limit szx word : ℕ) (t : List server.Call) → ServerLaw limit szx word t → FormatsInRange t → servers_go.GoesOn limit szx word t }
     // It comes to rest: at one moment its ticks end, and so does what it has out (RFC 7252, sections 4.2 and 5.2.2).
     ensures rests { (limit szx word : ℕ) (t : List server.Call) → ServerLaw limit szx word t → FormatsInRange t → servers_rest.ComesToRest limit szx word t }

@@ -10,7 +10,6 @@ use Rattle.coap_ends.specs.ClientLaw.{ClientLaw}
 use Rattle.coap_ends.specs.Endings.{UpToIdle, all_taken}
 use Rattle.coap_ends.specs.ServerTrace as S
 use Rattle.coap_ends.specs.ServerLaw.{ServerLaw, own_of}
-use Rattle.coap_ends.specs.ServerExact.{AllInBytes}
 use Rattle.coap_ends.specs.ServerShows.{FormatsInRange}
 use Rattle.coap_ends.specs.ServerSteps.{max_delays, others}
 use Rattle.coap_ends.proofs.ClientGoing as client_going
@@ -47,10 +46,9 @@ module _ (config : Config) (events : List Event) (turns : List Turn) (run : Reco
 
   -- a turn that makes these entries
   follows : (what : What) → MayHappen turns (event what) → (entries : List Entry) → Makes turns at word what false entries
-      → ClientLaw server_end config.client_szx config.client_word (client_of (entries ++ all)) → ServerLaw config.limit config.server_szx config.server_word (server_trace config (entries ++ all)) → (AllInBytes servers → AllInBytes (server_trace config (entries ++ all)))
+      → ClientLaw server_end config.client_szx config.client_word (client_of (entries ++ all)) → ServerLaw config.limit config.server_szx config.server_word (server_trace config (entries ++ all))
       → Follows config events turns (event what)
-  follows what may entries makes on_client on_server bytes = record {
-    bytes = bytes;
+  follows what may entries makes on_client on_server = record {
     entries = entries;
     made = record { events_are = ap (λ es. event what ∷ es) run.events_are; made = (makes, run.made); client = on_client; server = on_server };
     legal = (record { at = may.legal.at; word = may.legal.word; range = may.legal.range; later = may.legal.later; comes = may.legal.comes }, legal);
@@ -71,13 +69,12 @@ module _ (config : Config) (events : List Event) (turns : List Turn) (run : Reco
       follows what may (map OfClient list) (makes (map OfClient list) (record { outs = outs.taken; reports = reports.taken; is = refl }))
       (subst (ClientLaw server_end config.client_szx config.client_word) (sym (client_client list all ∙ same)) reports.law)
       (subst (λ xs. ServerLaw config.limit config.server_szx config.server_word (xs ++ begun_with config)) (sym (server_client list all)) run.server)
-      (λ b. subst (λ xs. AllInBytes (xs ++ begun_with config)) (sym (server_client list all)) b)
 
   -- a turn of the server: its calls, and all that it has out
-  of_server : (what : What) → MayHappen turns (event what) → (calls : List S.Call) → server_resting.Law config.limit config.server_szx config.server_word (AllInBytes servers) (calls ++ servers)
+  of_server : (what : What) → MayHappen turns (event what) → (calls : List S.Call) → server_resting.Law config.limit config.server_szx config.server_word (calls ++ servers)
       → ((entries : List Entry) → OnServer calls entries → Makes turns at word what false entries) → Follows config events turns (event what)
   of_server what may calls law makes =
-      let outs = server_resting.outs_end config.limit config.server_szx config.server_word (AllInBytes servers) (calls ++ servers) law in
+      let outs = server_resting.outs_end config.limit config.server_szx config.server_word (calls ++ servers) law in
       let given : List S.Call = map (λ p. S.NextOut (Some p)) outs.taken in
       let list : List S.Call = S.NextOut None ∷ (given ++ calls) in
       let same : (list ++ server_of all) ++ begun_with config ≡ all_taken S.NextOut outs.taken ++ (calls ++ servers) =
@@ -85,7 +82,6 @@ module _ (config : Config) (events : List Event) (turns : List Turn) (run : Reco
       follows what may (map OfServer list) (makes (map OfServer list) (record { outs = outs.taken; is = refl }))
       (subst (ClientLaw server_end config.client_szx config.client_word) (sym (client_server list all)) run.client)
       (subst (ServerLaw config.limit config.server_szx config.server_word) (sym (ap (λ xs. xs ++ begun_with config) (server_server list all) ∙ same)) outs.law.0)
-      (λ b. subst AllInBytes (sym (ap (λ xs. xs ++ begun_with config) (server_server list all) ∙ same)) (outs.law.2 b))
 
   -- a datagram
   to_client : (what : What) → MayHappen turns (event what) → (from : Endpoint) (bytes : List ℕ) → AreBytes bytes
@@ -100,7 +96,7 @@ module _ (config : Config) (events : List Event) (turns : List Turn) (run : Reco
   to_server what may from bytes are makes =
       let k = (server_going.goes_on config.limit config.server_szx config.server_word servers run.server formats).feeds at from bytes word are in
       let call : S.Call = S.Feeds at from bytes word k.0 k.1 k.2 k.3 in
-      of_server what may (call ∷ []) (k.5, (tt, formats), λ b. (k.4, b)) (λ entries on. makes (call ∷ []) entries (call, (k.0, k.1, k.2, k.3, refl), refl) on)
+      of_server what may (call ∷ []) (k.4, (tt, formats)) (λ entries on. makes (call ∷ []) entries (call, (k.0, k.1, k.2, k.3, refl), refl) on)
 
   by_what : (what : What) → MayHappen turns (event what) → Follows config events turns (event what)
   by_what (Calls r) may =
@@ -110,16 +106,16 @@ module _ (config : Config) (events : List Event) (turns : List Turn) (run : Reco
   by_what (Sets path format body) may =
       let k = (server_going.goes_on config.limit config.server_szx config.server_word servers run.server formats).sets at path format body in
       let call : S.Call = S.Sets at path format body k.0 k.1 in
-      of_server (Sets path format body) may (call ∷ []) (k.2, (may.legal.range.1, formats), λ b. (tt, b)) (λ entries on. (call ∷ [], (call, (k.0, k.1, refl), refl), on))
+      of_server (Sets path format body) may (call ∷ []) (k.2, (may.legal.range.1, formats)) (λ entries on. (call ∷ [], (call, (k.0, k.1, refl), refl), on))
   by_what (Removes path) may =
       let k = (server_going.goes_on config.limit config.server_szx config.server_word servers run.server formats).removes at path in
       let call : S.Call = S.Removes at path k.0 k.1 in
-      of_server (Removes path) may (call ∷ []) (k.2, (tt, formats), λ b. (tt, b)) (λ entries on. (call ∷ [], (call, (k.0, k.1, refl), refl), on))
+      of_server (Removes path) may (call ∷ []) (k.2, (tt, formats)) (λ entries on. (call ∷ [], (call, (k.0, k.1, refl), refl), on))
   by_what TickClient may =
       let k = client_resting.ticks_rest server_end config.client_szx config.client_word at word clients run.client in
       of_client TickClient may k.calls k.law (λ entries on. (k.calls, are_ticks (ClientTick at word) k.calls k.are, on))
   by_what TickServer may =
-      let k = server_resting.ticks_rest config.limit config.server_szx config.server_word (AllInBytes servers) at word servers (run.server, formats, λ b. b) in
+      let k = server_resting.ticks_rest config.limit config.server_szx config.server_word at word servers (run.server, formats) in
       of_server TickServer may k.calls k.law (λ entries on. (k.calls, are_ticks (ServerTick at word) k.calls k.are, on))
   by_what (StrangerToClient from bytes) may = to_client (StrangerToClient from bytes) may from bytes may.legal.range.1 (λ calls entries one on. (calls, one, on))
   by_what (StrangerToServer from bytes) may = to_server (StrangerToServer from bytes) may from bytes may.legal.range.1 (λ calls entries one on. (calls, one, on))
@@ -167,10 +163,6 @@ module _ (config : Config) where
       let law = begins_by ds (omega (arith, few)) in
       record { rows = (sym (true_lt (length (others d.path have)) max_delays (omega (arith, few, k, o))), law.rows); exchanges = law.exchanges }
 
-  bytes_by : (ds : List S.Delay) → AllInBytes (begun_by ds)
-  bytes_by [] = tt
-  bytes_by (d ∷ ds) = (tt, bytes_by ds)
-
   begins : Begins config → RecordOf config [] []
   begins few = record {
     events_are = refl;
@@ -180,8 +172,8 @@ module _ (config : Config) where
   }
 
   pub has_record : Begins config → (events : List Event) → MayRun config events → HasRecord config events
-  has_record few [] may = ([], record { made = begins few; legal = tt; all_made = tt; bytes = bytes_by config.delays })
+  has_record few [] may = ([], record { made = begins few; legal = tt; all_made = tt })
   has_record few (event ∷ events) may =
       let k = has_record few events may.1 in
       let f = goes_on config events k.0 event k.1.made k.1.legal (may.0 k.0 k.1) in
-      (turn_of event f.entries ∷ k.0, record { made = f.made; legal = f.legal; all_made = (refl, k.1.all_made); bytes = f.bytes k.1.bytes })
+      (turn_of event f.entries ∷ k.0, record { made = f.made; legal = f.legal; all_made = (refl, k.1.all_made) })

@@ -17,7 +17,7 @@ use Rattle.coap_ends.specs.ServerTrace as S
 use Rattle.coap_ends.specs.ServerLaw.{ServerLaw, ServerRows, lower_of}
 use Rattle.coap_world.specs.Events.{client_end}
 use Rattle.coap_world.specs.LegalRuns.{post_bytes, not_found_bytes}
-use Rattle.coap_world.proofs.WitnessWords.{bytes_are}
+use Rattle.coap_world.proofs.WitnessWords.{bytes_are, values_are}
 use Rattle.coap_world.proofs.WitnessTurns.{with_out}
 use Rattle.coap_world.proofs.WitnessPostServer.{request, question}
 
@@ -58,6 +58,7 @@ module _ (at : ℕ) where
           left = left;
           serves = (refl, refl);
           says = record { format = None; block2 = None; format_is = tt; block2_is = tt; list = refl };
+          bytes = values_are [] refl;
           is = refl;
         },
         tt,

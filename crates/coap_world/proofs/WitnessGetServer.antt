@@ -22,7 +22,7 @@ use Rattle.coap_ends.specs.ServerSteps.{IsServed}
 use Rattle.coap_ends.specs.ServerLaw.{ServerLaw, ServerRows, lower_of}
 use Rattle.coap_world.specs.Events.{client_end}
 use Rattle.coap_world.specs.LegalRuns.{token, plain, get_bytes, content_bytes}
-use Rattle.coap_world.proofs.WitnessWords.{bytes_are}
+use Rattle.coap_world.proofs.WitnessWords.{bytes_are, values_are}
 use Rattle.coap_world.proofs.WitnessTurns.{alone, with_out}
 use Rattle.coap_world.proofs.WitnessGetClient.{content}
 use Rattle.coap_world.proofs.WitnessStore.{one, first}
@@ -68,6 +68,7 @@ served at = record {
   left = stored;
   serves = (refl, refl);
   says = record { format = Some []; block2 = None; format_is = record { spelt = refl; no_zero = tt }; block2_is = tt; list = refl };
+  bytes = values_are content.options refl;
   is = refl;
 }
 

@@ -19,7 +19,7 @@ use Rattle.coap_exchange.specs.AnswererTrace as E
 use Rattle.coap_ends.specs.ServerTrace as S
 use Rattle.coap_ends.specs.ServerLaw.{ServerLaw, ServerRows, lower_of}
 use Rattle.coap_world.specs.LegalRuns.{stranger, token, delete_bytes, deleted_bytes}
-use Rattle.coap_world.proofs.WitnessWords.{bytes_are}
+use Rattle.coap_world.proofs.WitnessWords.{bytes_are, values_are}
 use Rattle.coap_world.proofs.WitnessTurns.{with_out}
 
 -- the request, of a path that holds nothing
@@ -58,6 +58,7 @@ rows = (
         left = left;
         serves = (refl, refl);
         says = record { format = None; block2 = None; format_is = tt; block2_is = tt; list = refl };
+        bytes = values_are [] refl;
         is = refl;
       },
       tt,

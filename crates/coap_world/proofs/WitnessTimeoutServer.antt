@@ -13,7 +13,7 @@ use Rattle.coap_ends.specs.ServerTrace as S
 use Rattle.coap_ends.specs.ServerLaw.{ServerLaw, ServerRows, lower_of}
 use Rattle.coap_world.specs.Events.{client_end}
 use Rattle.coap_world.specs.LegalRuns.{log, post_bytes, changed_bytes}
-use Rattle.coap_world.proofs.WitnessWords.{bytes_are}
+use Rattle.coap_world.proofs.WitnessWords.{bytes_are, values_are}
 use Rattle.coap_world.proofs.WitnessTurns.{with_out}
 use Rattle.coap_world.proofs.WitnessPostServer.{request, old, new, before, question, reply, response, set, sendable}
 use Rattle.coap_world.proofs.WitnessStore.{one, first, further}
@@ -44,6 +44,7 @@ rows = (
         left = after;
         serves = (refl, further 130000 log old new before.tally);
         says = record { format = None; block2 = None; format_is = tt; block2_is = tt; list = refl };
+        bytes = values_are [] refl;
         is = refl;
       },
       (tt, ((refl, first 4194303 0 log old), tt)),

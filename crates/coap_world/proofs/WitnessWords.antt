@@ -1,9 +1,12 @@
 -- Bytes and paths that are in range, by tests; calls of the client apply nothing.
-use Rattle.std.proofs.Common.{inl, inr, ◌++◌, map, ◌≡◌, ◌≤◌, ℕ, zero, suc, Bool, true, List, [], ◌∷◌, length, arith}
+use Rattle.std.proofs.Common.{inl, inr, ◌++◌, map, ◌≡◌, ◌≤◌, ◌<◌, ℕ, zero, suc, Bool, true, List, [], ◌∷◌, length, arith}
 use Rattle.std.proofs.lemmas.Bool.{and_parts, ltb-true}
+use Rattle.std.proofs.lemmas.List.Elements.{All-nil, All-cons}
 use Rattle.std.specs.Prelude.{All, nat_lt}
 use Rattle.std.specs.List.{list_all}
 use Rattle.coap_codec.specs.Message.{AreBytes}
+use Rattle.coap_types.specs.CoapOption.{CoapOption}
+use Rattle.coap_types.specs.Uint as uint
 use Rattle.coap_types.specs.Past.{Once}
 use Rattle.coap_ends.specs.ClientTrace as C
 use Rattle.coap_world.specs.Agrees.{AppliesFor}
@@ -18,6 +21,22 @@ pub bytes_are : (bytes : List ℕ) → list_all is_byte bytes ≡ true → AreBy
 bytes_are [] e i = omega arith
 bytes_are (b ∷ bytes) e zero = ltb-true b 256 (and_parts (is_byte b) (list_all is_byte bytes) e).0
 bytes_are (b ∷ bytes) e (suc i) = bytes_are bytes (and_parts (is_byte b) (list_all is_byte bytes) e).1 i
+
+-- the same of each value of options
+abbrev pub has_bytes : CoapOption → Bool
+has_bytes o = list_all is_byte o.value
+
+value_is : (bytes : List ℕ) → list_all is_byte bytes ≡ true → uint.AreBytes bytes
+value_is [] e = All-nil (λ b. b < 256)
+value_is (b ∷ bytes) e =
+    let k = and_parts (is_byte b) (list_all is_byte bytes) e in
+    All-cons (λ x. x < 256) b bytes (ltb-true b 256 k.0) (value_is bytes k.1)
+
+pub values_are : (options : List CoapOption) → list_all has_bytes options ≡ true → All (λ o. uint.AreBytes o.value) options
+values_are [] e = All-nil (λ o. uint.AreBytes o.value)
+values_are (o ∷ options) e =
+    let k = and_parts (has_bytes o) (list_all has_bytes options) e in
+    All-cons (λ p. uint.AreBytes p.value) o options (value_is o.value k.0) (values_are options k.1)
 
 of_one : {X : Type 0} (P : X → Type 0) (x : X) → P x → All P (x ∷ [])
 of_one P x h zero d small = h

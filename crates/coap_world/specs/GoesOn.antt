@@ -3,11 +3,10 @@
 use Rattle.std.specs.Prelude.{◌≡◌, ◌≤◌, false, List, [], ◌∷◌, length}
 use Rattle.coap_types.specs.Past.{Always}
 use Rattle.coap_codec.specs.Message.{AreBytes}
-use Rattle.coap_ends.specs.ServerExact.{AllInBytes}
 use Rattle.coap_ends.specs.ServerSteps.{max_delays}
 use Rattle.coap_world.specs.Events.{Config, What, Deliver, Event}
 use Rattle.coap_world.specs.Legal.{IsLegal, Legal}
-use Rattle.coap_world.specs.Record.{Entry, Given, Turn, IsNumber, RecordOf, entries_of, server_trace}
+use Rattle.coap_world.specs.Record.{Entry, Given, Turn, IsNumber, RecordOf}
 
 -- a turn in which nothing is refused
 abbrev pub turn_of : Event → List Entry → Turn
@@ -22,12 +21,11 @@ pub record MayHappen (past : List Turn) (event : Event) : Type 0 where
   pub legal : IsLegal past (turn_of event [])
   pub bytes : BringsBytes past event.what
 
--- The record of one event more. Where the values of the options of all the server's responses are bytes, they are so still.
+-- the record of one event more
 pub record Follows (config : Config) (events : List Event) (turns : List Turn) (event : Event) : Type 0 where
   pub entries : List Entry
   pub made : RecordOf config (event ∷ events) (turn_of event entries ∷ turns)
   pub legal : Legal (turn_of event entries ∷ turns)
-  pub bytes : AllInBytes (server_trace config (entries_of turns)) → AllInBytes (server_trace config (entries_of (turn_of event entries ∷ turns)))
 
 abbrev pub GoesOn : Config → Type 0
 GoesOn config = (events : List Event) (turns : List Turn) (event : Event) → RecordOf config events turns → Legal turns → MayHappen turns event → Follows config events turns event
@@ -36,12 +34,11 @@ GoesOn config = (events : List Event) (turns : List Turn) (event : Event) → Re
 abbrev pub Begins : Config → Type 0
 Begins config = length config.delays ≤ max_delays
 
--- a record in which nothing is refused, and the values of options are bytes
+-- a record in which nothing is refused
 pub record Ran (config : Config) (events : List Event) (turns : List Turn) : Type 0 where
   pub made : RecordOf config events turns
   pub legal : Legal turns
   pub all_made : Always (λ past t. t.refused ≡ false) turns
-  pub bytes : AllInBytes (server_trace config (entries_of turns))
 
 -- events that may happen one after the other
 abbrev pub MayRun : Config → List Event → Type 0
