@@ -52,7 +52,7 @@ waiting_taken (Ticks now word below w sent z answer ∷ t) =
 waiting_taken (NextOut answer ∷ t) = all_later (NextOut answer) t (own_of t).waiting (waiting_taken t)
 waiting_taken (NextReport answer ∷ t) = all_later (NextReport answer) t (own_of t).waiting (waiting_taken t)
 
-first_taken : (t : List Call) (op : Operation) (b : Bool) (running : Option Operation) (waiting : List Operation) → starting_if b running waiting ≡ Some op → AllTaken t waiting → WasTaken op t
+pub first_taken : (t : List Call) (op : Operation) (b : Bool) (running : Option Operation) (waiting : List Operation) → starting_if b running waiting ≡ Some op → AllTaken t waiting → WasTaken op t
 first_taken t op true None [] is h = absurd (cc is)
 first_taken t op true None (x ∷ xs) is h = let same : x ≡ op = cc is in subst (λ y. WasTaken y t) same h.0
 first_taken t op true (Some x) waiting is h = absurd (cc is)

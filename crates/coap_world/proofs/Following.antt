@@ -21,6 +21,7 @@ use Rattle.coap_world.specs.GoesOn.{turn_of, MayHappen, Follows, GoesOn, Begins,
 use Rattle.coap_world.specs.Legal.{Legal}
 use Rattle.coap_world.specs.Record.{Entry, OfClient, OfServer, Turn, entries_of, client_of, server_of, begun_with, server_trace, OnClient, OnServer, IsOne, AreTicks, FeedsClient, FeedsServer, Makes, ClientTick, ServerTick, RecordOf}
 use Rattle.coap_world.proofs.Formats.{formats_in}
+use Rattle.coap_world.proofs.GivenBytes.{given_are}
 use Rattle.coap_world.proofs.Turns.{client_client, client_server, server_server, server_client}
 
 -- ticks, in the words of a record
@@ -51,7 +52,7 @@ module _ (config : Config) (events : List Event) (turns : List Turn) (run : Reco
   follows what may entries makes on_client on_server = record {
     entries = entries;
     made = record { events_are = ap (λ es. event what ∷ es) run.events_are; made = (makes, run.made); client = on_client; server = on_server };
-    legal = (record { at = may.legal.at; word = may.legal.word; range = may.legal.range; later = may.legal.later; comes = may.legal.comes }, legal);
+    legal = (record { at = may.at; word = may.word; range = may.range; later = may.later; comes = may.comes }, legal);
   }
 
   -- a turn of the client: its calls, all that it has out, and its reports
@@ -106,7 +107,7 @@ module _ (config : Config) (events : List Event) (turns : List Turn) (run : Reco
   by_what (Sets path format body) may =
       let k = (server_going.goes_on config.limit config.server_szx config.server_word servers run.server formats).sets at path format body in
       let call : S.Call = S.Sets at path format body k.0 k.1 in
-      of_server (Sets path format body) may (call ∷ []) (k.2, (may.legal.range.1, formats)) (λ entries on. (call ∷ [], (call, (k.0, k.1, refl), refl), on))
+      of_server (Sets path format body) may (call ∷ []) (k.2, (may.range.1, formats)) (λ entries on. (call ∷ [], (call, (k.0, k.1, refl), refl), on))
   by_what (Removes path) may =
       let k = (server_going.goes_on config.limit config.server_szx config.server_word servers run.server formats).removes at path in
       let call : S.Call = S.Removes at path k.0 k.1 in
@@ -117,13 +118,13 @@ module _ (config : Config) (events : List Event) (turns : List Turn) (run : Reco
   by_what TickServer may =
       let k = server_resting.ticks_rest config.limit config.server_szx config.server_word at word servers (run.server, formats) in
       of_server TickServer may k.calls k.law (λ entries on. (k.calls, are_ticks (ServerTick at word) k.calls k.are, on))
-  by_what (StrangerToClient from bytes) may = to_client (StrangerToClient from bytes) may from bytes may.legal.range.1 (λ calls entries one on. (calls, one, on))
-  by_what (StrangerToServer from bytes) may = to_server (StrangerToServer from bytes) may from bytes may.legal.range.1 (λ calls entries one on. (calls, one, on))
+  by_what (StrangerToClient from bytes) may = to_client (StrangerToClient from bytes) may from bytes may.range.1 (λ calls entries one on. (calls, one, on))
+  by_what (StrangerToServer from bytes) may = to_server (StrangerToServer from bytes) may from bytes may.range.1 (λ calls entries one on. (calls, one, on))
   by_what (Deliver number) may =
-      let g = may.legal.comes.0 in
-      let is = may.legal.comes.1 in
-      let are = may.bytes g is in
-      elim may.legal.comes.2 as (λ u. Follows config events turns (event (Deliver number))) [
+      let g = may.comes.0 in
+      let is = may.comes.1 in
+      let are = given_are config events turns run legal g number is in
+      elim may.comes.2 as (λ u. Follows config events turns (event (Deliver number))) [
         | inl to ↦ to_client (Deliver number) may g.from g.packet.bytes are (λ calls entries one on. (g, is, inr (to, calls, one, on)))
         | inr to ↦ to_server (Deliver number) may g.from g.packet.bytes are (λ calls entries one on. (g, is, inl (to, calls, one, on)))
       ]

@@ -1,6 +1,13 @@
 pub mod Owned
 pub mod Fair
 pub mod HopsAre
+pub mod InBytes
+pub mod SentBytes
+pub mod ClientBytes
+pub mod ResponseBytes
+pub mod StoreBytes
+pub mod ServerBytes
+pub mod GivenBytes
 pub mod CameFrom
 pub mod ReadBack
 pub mod Called

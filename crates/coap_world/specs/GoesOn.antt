@@ -2,24 +2,18 @@
 -- that are legal one after the other.
 use Rattle.std.specs.Prelude.{◌≡◌, ◌≤◌, false, List, [], ◌∷◌, length}
 use Rattle.coap_types.specs.Past.{Always}
-use Rattle.coap_codec.specs.Message.{AreBytes}
 use Rattle.coap_ends.specs.ServerSteps.{max_delays}
-use Rattle.coap_world.specs.Events.{Config, What, Deliver, Event}
+use Rattle.coap_world.specs.Events.{Config, Event}
 use Rattle.coap_world.specs.Legal.{IsLegal, Legal}
-use Rattle.coap_world.specs.Record.{Entry, Given, Turn, IsNumber, RecordOf}
+use Rattle.coap_world.specs.Record.{Entry, Turn, RecordOf}
 
 -- a turn in which nothing is refused
 abbrev pub turn_of : Event → List Entry → Turn
 turn_of event entries = record { event = event; refused = false; entries = entries }
 
--- An event is legal, whatever it makes; and where it delivers a datagram, that is one of bytes.
-abbrev pub BringsBytes : List Turn → What → Type 0
-BringsBytes past (Deliver number) = (g : Given) → IsNumber number g past → AreBytes g.packet.bytes
-BringsBytes past what = Unit {0}
-
-pub record MayHappen (past : List Turn) (event : Event) : Type 0 where
-  pub legal : IsLegal past (turn_of event [])
-  pub bytes : BringsBytes past event.what
+-- an event is legal, whatever it makes
+abbrev pub MayHappen : List Turn → Event → Type 0
+MayHappen past event = IsLegal past (turn_of event [])
 
 -- the record of one event more
 pub record Follows (config : Config) (events : List Event) (turns : List Turn) (event : Event) : Type 0 where

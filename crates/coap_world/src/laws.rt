@@ -87,7 +87,7 @@ pub fn agreement()
 /// There are records: what the agreement says of legal runs, it says of each list of events that are legal one after the
 /// other.
 pub fn runs_law()
-    // A record goes on with each further event that is legal after it and brings bytes, and nothing is refused.
+    // A record goes on with each further event that is legal after it, and nothing is refused.
     ensures goes { (config : Config) → GoesOn config }
     // Events that may happen one after the other have a record in which nothing is refused.
     ensures runs { (config : Config) → Begins config → (events : List Event) → MayRun config events → HasRecord config events }
