@@ -23,7 +23,7 @@ use Rattle.coap_ends.specs.ServerTrace.{Own, Handling, Silent, Refuses, Serves, 
 use Rattle.coap_ends.specs.ServerChecks.{Verdict, Ignored, Refused, Asks, verdict_on}
 use Rattle.coap_ends.specs.ServerSteps.{lower, bare, IsServed, AsksBy, Handles, AnswersWaiting, waits_by, delay_of, question_of}
 use Rattle.coap_ends.specs.ServerLaw.{own_of, lower_of, ServerLaw}
-use Rattle.coap_ends.specs.ServerGives.{Carries, CarriesResponse, SendsResponses}
+use Rattle.coap_ends.specs.ServerGives.{Carries, CarriesResponse, SentResponses, SendsResponses}
 use Rattle.coap_ends.proofs.ServerHanding.{are_handed}
 use Rattle.coap_ends.proofs.ServerMakes.{called, CarriesIn, made}
 use Rattle.coap_ends.proofs.ServerRepliesSo.{steps_back, law_back}
@@ -130,10 +130,14 @@ module _ (limit szx word : ℕ) (p : L.Packet) where
         | inr k ↦ inr (responded t (server_back limit szx word c t law) k)
       ]
 
-pub sends_responses : (limit szx word : ℕ) (t : List Call) → ServerLaw limit szx word t → SendsResponses limit szx word t
-sends_responses limit szx word t law p h =
+pub sent_responses : (limit szx word : ℕ) (t : List Call) → ServerLaw limit szx word t → SentResponses limit szx word t
+sent_responses limit szx word t law p h =
     let calls : List E.Call = lower_of limit szx t in
     elim (sourced word p (W.below_of word calls) (layer_stands word calls law.exchanges) h) [
       | inl k ↦ inl k
       | inr k ↦ elim (made p calls law.exchanges.rows (called (Source p) (S.start word) (W.lower_of calls) k)) [ inl x ↦ inl x | inr x ↦ inr (responded limit szx word p t law x) ]
     ]
+
+pub sends_responses : (limit szx word : ℕ) (t : List Call) → ServerLaw limit szx word t → SendsResponses limit szx word t
+sends_responses limit szx word [] law = tt
+sends_responses limit szx word (c ∷ t) law = (sent_responses limit szx word (c ∷ t) law, sends_responses limit szx word t (server_back limit szx word c t law))

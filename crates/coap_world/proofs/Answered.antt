@@ -24,7 +24,7 @@ use Rattle.coap_ends.specs.ServerHands.{HandsUp}
 use Rattle.coap_ends.specs.ServerLaw.{layer_of}
 use Rattle.coap_ends.specs.ServerTrace as S
 use Rattle.coap_ends.proofs.ClientHears.{are_heard}
-use Rattle.coap_ends.proofs.ServerGiving.{sends_responses}
+use Rattle.coap_ends.proofs.ServerGiving.{sent_responses}
 use Rattle.coap_ends.proofs.ServerHanding.{handed_up}
 use Rattle.coap_world.specs.Agrees.{ServesAt}
 use Rattle.coap_world.specs.CameFrom.{CameFrom}
@@ -141,4 +141,4 @@ module _ (config : Config) where
       let p : T.Packet = record { to = client_end; bytes = g.bytes } in
       let far = subst (Ever (SendsTo client_end g.bytes)) (far_is config (e ∷ past)) (far_ever (SendsTo client_end g.bytes) (hops_in config (e ∷ past)) g.sent) in
       let earlier = lawful_back config past e law in
-      by_given m p g.reads refl past earlier (sends_responses config.limit config.server_szx config.server_word (server_trace config past) earlier.server p far)
+      by_given m p g.reads refl past earlier (sent_responses config.limit config.server_szx config.server_word (server_trace config past) earlier.server p far)
