@@ -22,6 +22,7 @@ pub mod AnswererOnce
 pub mod AnswererEnds
 pub mod AnswererMirror
 pub mod AnswererTells
+pub mod AnswererDeferrals
 pub mod AnswererCame
 pub mod AnswererSends
 pub mod AnswererExactly
