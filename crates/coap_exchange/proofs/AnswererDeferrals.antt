@@ -19,15 +19,15 @@ use Rattle.coap_exchange.proofs.LayerFacts.{both}
 
 -- each deferred request was deferred, at the moment that is kept
 
-record DefersAs (d : Deferred) (past : List Call) (c : Call) : Type 0 where
-  now : ℕ
-  defers : c ≡ Defers now d.asked d.delay true
-  at : d.at ≡ moment past now
+pub record DefersAs (d : Deferred) (past : List Call) (c : Call) : Type 0 where
+  pub now : ℕ
+  pub defers : c ≡ Defers now d.asked d.delay true
+  pub at : d.at ≡ moment past now
 
-abbrev Stands : List Call → Deferred → Type 0
+abbrev pub Stands : List Call → Deferred → Type 0
 Stands t d = Once (DefersAs d) t × (d.at ≤ (own_of t).clock)
 
-abbrev AllStand : List Call → List Deferred → Type 0
+abbrev pub AllStand : List Call → List Deferred → Type 0
 AllStand t [] = Unit {0}
 AllStand t (d ∷ ds) = Stands t d × AllStand t ds
 
@@ -48,7 +48,7 @@ module _ (t : List Call) (at : ℕ) (xs : List Separate) where
   stand_without [] h = tt
   stand_without (d ∷ ds) h = stand_by d ds (is_ready at xs d) h (stand_without ds h.1)
 
-  passed_by : (delay from : ℕ) (free : Bool) → from ≤ at → (nat_le delay (at - from) && free) ≡ true → from + delay ≤ at
+  pub passed_by : (delay from : ℕ) (free : Bool) → from ≤ at → (nat_le delay (at - from) && free) ≡ true → from + delay ≤ at
   passed_by delay from free since h = let k = le_true delay (at - from) (both (nat_le delay (at - from)) free h).0 in omega (arith, k, since)
 
   deferred_until : (d : Deferred) → (own_of t).clock ≤ at → Stands t d → is_ready at xs d ≡ true → Once (DefersUntil d.asked at) t
@@ -129,7 +129,7 @@ module _ (a : Asked) (at : ℕ) where
 
   -- .. and one is ready
   module _ (xs : List Separate) (free : is_waited_for a.from xs ≡ false) where
-    ready_now : (d : Deferred) → d.asked ≡ a → d.at + d.delay ≤ at → is_ready at xs d ≡ true
+    pub ready_now : (d : Deferred) → d.asked ≡ a → d.at + d.delay ≤ at → is_ready at xs d ≡ true
     ready_now d same passed =
         let le = true_le d.delay (at - d.at) (omega (arith, passed)) in
         let idle : is_waited_for d.asked.from xs ≡ false = subst (λ (x : Asked). is_waited_for x.from xs ≡ false) (sym same) free in
@@ -149,7 +149,7 @@ module _ (a : Asked) (at : ℕ) where
 no_ready : (t : List Call) (c : Call) → ((now : ℕ) (below : _) (room : Bool) (a : Asked) → c ≡ Ticks now below room (due.Ready a) → ⊥) → ((now : ℕ) (a : Asked) (r : _) (word id : ℕ) → c ≡ Responds now a r word id → ⊥) → LongEnough t c
 no_ready t c n m = record { ready = λ now below room a e. absurd (n now below room a e); responds = λ now a r word id e. absurd (m now a r word id e) }
 
-later_clock : (a n : ℕ) → a ≤ max a n
+pub later_clock : (a n : ℕ) → a ≤ max a n
 later_clock a n = omega (arith)
 
 module _ (t : List Call) (stand : AllStand t (own_of t).deferred) where
@@ -196,7 +196,7 @@ module _ (t : List Call) (stand : AllStand t (own_of t).deferred) where
   on (Notifies now to token r word id) right = (no_ready t _ (λ n b r a e. cc e) (λ n a r w i e. cc e), timed (Notifies now to token r word id) (later_clock (own_of t).clock now))
   on (Take answer) right = (no_ready t _ (λ n b r a e. cc e) (λ n a r w i e. cc e), timed (Take answer) (omega arith))
 
-long_so : (t : List Call) → AnswererLaw t → DeferredLongEnough t × AllStand t (own_of t).deferred
+pub long_so : (t : List Call) → AnswererLaw t → DeferredLongEnough t × AllStand t (own_of t).deferred
 long_so [] law = (tt, tt)
 long_so (c ∷ t) law = let earlier = long_so t law.1 in let here = on t earlier.1 c law.0 in ((here.0, earlier.0), here.1)
 

@@ -23,6 +23,7 @@ pub mod AnswererEnds
 pub mod AnswererMirror
 pub mod AnswererTells
 pub mod AnswererDeferrals
+pub mod AnswererEarliest
 pub mod AnswererCame
 pub mod AnswererSends
 pub mod AnswererExactly

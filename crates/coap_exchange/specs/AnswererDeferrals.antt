@@ -1,5 +1,5 @@
 -- When a deferred request may have its response (RFC 7252, section 5.2.2).
-use Rattle.std.specs.Prelude.{◌≡◌, ◌≢◌, ◌≤◌, ◌⊎◌, ℕ, ◌+◌, max, true, false, Option, Some, None, List, [], ◌∷◌}
+use Rattle.std.specs.Prelude.{◌≡◌, ◌≢◌, ◌≤◌, ◌⊎◌, ℕ, ◌+◌, max, true, false, Option, Some, None, List, [], ◌∷◌, length}
 use Rattle.coap_types.specs.Past.{Once, Always}
 use Rattle.coap_layer.specs.Trace as L
 use Rattle.coap_exchange.specs.declared.answerer.Asked.{Asked}
@@ -46,3 +46,18 @@ pub record IsReadied (past : List Call) (c : Call) : Type 0 where
 
 abbrev pub ReadyWhenDue : List Call → Type 0
 ReadyWhenDue trace = Always IsReadied trace
+
+-- .. it was deferred when there were n calls
+abbrev pub IsDueFrom : ℕ → Asked → ℕ → List Call → Type 0
+IsDueFrom n a at [] = ⊥
+IsDueFrom n a at (c ∷ past) = (DefersUntil a at past c × (n ≡ length past)) ⊎ ((responds_later c ≢ Some a) × IsDueFrom n a at past)
+
+-- The one that is ready was deferred no later than any that is due and to whose endpoint no CON is outstanding.
+pub record IsEarliest (past : List Call) (c : Call) : Type 0 where
+  pub earliest :
+      (now : ℕ) (below : L.Answer) (room : _) (b : Asked) → c ≡ Ticks now below room (due.Ready b)
+      → (n : ℕ) (a : Asked) → IsDueFrom n a (moment past now) past → is_waited_for a.from (own_of past).separate ≡ false
+      → Once (λ old d. DefersUntil b (moment past now) old d × (length old ≤ n)) past
+
+abbrev pub EarliestReady : List Call → Type 0
+EarliestReady trace = Always IsEarliest trace

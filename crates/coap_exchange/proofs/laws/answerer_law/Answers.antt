@@ -5,6 +5,7 @@ use Rattle.coap_exchange.proofs.AnswererCame.{came_in}
 use Rattle.coap_exchange.proofs.AnswererEnds.{ends_once}
 use Rattle.coap_exchange.proofs.AnswererTells.{told}
 use Rattle.coap_exchange.proofs.AnswererDeferrals.{long_enough, ready_when_due}
+use Rattle.coap_exchange.proofs.AnswererEarliest.{earliest}
 use Rattle.coap_exchange.proofs.AnswererMirror.{waits}
 use Rattle.coap_exchange.proofs.AnswererSends.{sends_so}
 use Rattle.coap_exchange.proofs.laws.answerer_law.Goals as goal
@@ -44,6 +45,9 @@ returns-clause-long_enough c word t law = long_enough t law.rows
 
 pub returns-clause-when_due : goal.returns-clause-when_due
 returns-clause-when_due c word t law = ready_when_due t law.rows
+
+pub returns-clause-earliest : goal.returns-clause-earliest
+returns-clause-earliest c word t law = earliest t law.rows
 
 pub returns-clause-back : goal.returns-clause-back
 returns-clause-back c word t law = (sends_so word t law.rows law.left law.layer).0
