@@ -108,7 +108,7 @@ asking_clock now (Some d) room mid h n e k =
 
 -- what a deferred request that is said to be ready tells
 
-abbrev Readies : T.Answer → Option Deferred → Bool → Asked → Type 0
+abbrev pub Readies : T.Answer → Option Deferred → Bool → Asked → Type 0
 Readies done d room a = (room ≡ true) × (option_map (λ (d : Deferred). d.asked) d ≡ Some a) × (done ≡ T.Idle)
 
 if_ready : (d : Option Deferred) (room : Bool) (a : Asked) → due_if d room ≡ due.Ready a → (room ≡ true) × (option_map (λ (d : Deferred). d.asked) d ≡ Some a)
@@ -116,7 +116,7 @@ if_ready None room a h = absurd (cc h)
 if_ready (Some d) false a h = absurd (cc h)
 if_ready (Some d) true a h = let same : d.asked ≡ a = cc h in (refl, ap (λ x. Some x) same)
 
-due_ready : (done : T.Answer) (d : Option Deferred) (room : Bool) (a : Asked) → due_of done d room ≡ due.Ready a → Readies done d room a
+pub due_ready : (done : T.Answer) (d : Option Deferred) (room : Bool) (a : Asked) → due_of done d room ≡ due.Ready a → Readies done d room a
 due_ready T.Idle d room a h = let k = if_ready d room a h in (k.0, k.1, refl)
 due_ready (T.Copied to id) d room a h = absurd (cc h)
 due_ready (T.Expired to id) d room a h = absurd (cc h)

@@ -22,6 +22,8 @@ pub mod AnswererOnce
 pub mod AnswererEnds
 pub mod AnswererMirror
 pub mod AnswererTells
+pub mod AnswererDeferrals
+pub mod AnswererEarliest
 pub mod AnswererCame
 pub mod AnswererSends
 pub mod AnswererExactly

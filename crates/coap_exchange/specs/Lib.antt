@@ -17,6 +17,7 @@ pub mod AnswererLaw
 pub mod AnswererFollows
 pub mod AnswererSends
 pub mod AnswererTells
+pub mod AnswererDeferrals
 pub mod AnswererExact
 pub mod AskerShown
 pub mod AnswererShown

@@ -18,6 +18,7 @@ ghost use Rattle.coap_exchange.specs.AnswererLaw.{ResponseLaw};
 ghost use Rattle.coap_exchange.specs.AnswererExact as exactly;
 ghost use Rattle.coap_exchange.specs.AnswererSends.{AllGoBack, BeginAlone};
 ghost use Rattle.coap_exchange.specs.AnswererTells.{EndsTold};
+ghost use Rattle.coap_exchange.specs.AnswererDeferrals.{DeferredLongEnough, ReadyWhenDue, EarliestReady};
 ghost use Rattle.coap_exchange.specs.AnswererFollows.{AreResponses, AreRequests, EndsOnce, WaitsForOutstanding, FewDeferred};
 
 /// What leads to the state of a client's side stands in the law, and what follows from that.
@@ -72,6 +73,12 @@ pub fn answerer_law()
     ensures told { (word : ℕ) (t : List trace.Call) → ResponseLaw word t → EndsTold t }
     // A deferred request waits for the CON that is outstanding to its endpoint (RFC 7252, section 4.7).
     ensures waits { (word : ℕ) (t : List trace.Call) (law : ResponseLaw word t) → WaitsForOutstanding word t law }
+    // A deferred request has its response no earlier than its delay says (RFC 7252, section 5.2.2).
+    ensures long_enough { (word : ℕ) (t : List trace.Call) → ResponseLaw word t → DeferredLongEnough t }
+    // .. and is ready once that has passed.
+    ensures when_due { (word : ℕ) (t : List trace.Call) → ResponseLaw word t → ReadyWhenDue t }
+    // .. in the order of deferral.
+    ensures earliest { (word : ℕ) (t : List trace.Call) → ResponseLaw word t → EarliestReady t }
     // A response goes to its request's endpoint and carries its token (RFC 7252, sections 5.2 and 5.3.2).
     ensures back { (word : ℕ) (t : List trace.Call) → ResponseLaw word t → AllGoBack word t }
     // A CON begins only where none to its endpoint is outstanding (RFC 7252, section 4.7).

@@ -4,6 +4,8 @@ use Rattle.coap_exchange.proofs.AnswererOnce.{counted}
 use Rattle.coap_exchange.proofs.AnswererCame.{came_in}
 use Rattle.coap_exchange.proofs.AnswererEnds.{ends_once}
 use Rattle.coap_exchange.proofs.AnswererTells.{told}
+use Rattle.coap_exchange.proofs.AnswererDeferrals.{long_enough, ready_when_due}
+use Rattle.coap_exchange.proofs.AnswererEarliest.{earliest}
 use Rattle.coap_exchange.proofs.AnswererMirror.{waits}
 use Rattle.coap_exchange.proofs.AnswererSends.{sends_so}
 use Rattle.coap_exchange.proofs.laws.answerer_law.Goals as goal
@@ -37,6 +39,15 @@ returns-clause-told c = told
 
 pub returns-clause-waits : goal.returns-clause-waits
 returns-clause-waits c = waits
+
+pub returns-clause-long_enough : goal.returns-clause-long_enough
+returns-clause-long_enough c word t law = long_enough t law.rows
+
+pub returns-clause-when_due : goal.returns-clause-when_due
+returns-clause-when_due c word t law = ready_when_due t law.rows
+
+pub returns-clause-earliest : goal.returns-clause-earliest
+returns-clause-earliest c word t law = earliest t law.rows
 
 pub returns-clause-back : goal.returns-clause-back
 returns-clause-back c word t law = (sends_so word t law.rows law.left law.layer).0
