@@ -1,7 +1,7 @@
 -- A call is reported at most once: what was reported comes before what runs, and that before what waits.
 use Rattle.std.proofs.Common.{◌≡◌, ◌≤◌, ◌⊎◌, inl, inr, ℕ, ◌+◌, Bool, true, false, Option, Some, None, List, [], ◌∷◌, ◌++◌, refl, ap, sym, subst, ◌∙◌, Result, Ok, Err, drop, arith, cond}
 use Rattle.std.proofs.lemmas.List.{append-nil}
-use Rattle.coap_types.specs.Past.{Once}
+use Rattle.coap_types.specs.Past.{Sometime}
 use Rattle.coap_exchange.specs.declared.asker.AskRefusal.{AskRefusal}
 use Rattle.coap_exchange.specs.declared.asker.Event.{Event}
 use Rattle.coap_exchange.specs.declared.asker.Event.TheVariants as event
@@ -36,7 +36,7 @@ counts_with low (x ∷ ops) high op is h = (h.0, counts_with (low + 1) ops high 
 
 -- a call of this number was reported
 abbrev pub WasReported : List Call → ℕ → Type 0
-WasReported t n = Once (λ past c. (x : Reported) × (reports (own_of past) c ≡ Some x) × (x.number ≡ n)) t
+WasReported t n = Sometime (λ past c. (x : Reported) × (reports (own_of past) c ≡ Some x) × (x.number ≡ n)) t
 
 pub record Numbered (P : ℕ → Type 0) (running : Option Operation) (waiting : List Operation) (taken : ℕ) : Type 0 where
   pub low : ℕ
@@ -235,7 +235,7 @@ new_number t (Ticks now word below w sent z answer) k x n h p same = first_time 
 new_number t (NextOut answer) k x n h p same = cc h
 new_number t (NextReport answer) k x n h p same = cc h
 
-was : (t : List Call) (y : Reported) → Once (λ earlier b. reports (own_of earlier) b ≡ Some y) t → WasReported t y.number
+was : (t : List Call) (y : Reported) → Sometime (λ earlier b. reports (own_of earlier) b ≡ Some y) t → WasReported t y.number
 was (c ∷ t) y (inl h) = inl (y, h, refl)
 was (c ∷ t) y (inr h) = inr (was t y h)
 was [] y h = absurd h

@@ -2,7 +2,7 @@
 use Rattle.std.specs.Prelude.{All}
 use Rattle.std.proofs.Common.{◌≡◌, inl, inr, ℕ, max, Bool, Option, Some, None, List, [], ◌∷◌, length, refl, sym, subst}
 use Rattle.coap_types.specs.CoapOption.{CoapOption}
-use Rattle.coap_types.specs.Past.{Ever, Once}
+use Rattle.coap_types.specs.Past.{Ever, Sometime}
 use Rattle.coap_types.specs.Uint.{AreBytes}
 use Rattle.coap_types.proofs.PastLemmas.{Ever_append}
 use Rattle.coap_types.specs.declared.endpoint.Endpoint.{Endpoint}
@@ -122,7 +122,7 @@ module _ (limit szx word : ℕ) (p : L.Packet) where
     here (Ticks now w below room d h id answer) law k = ticked now w below room d h id answer law k
     here (NextOut answer) law k = elim k [ inl x ↦ absurd x | inr x ↦ absurd x ]
 
-  responded : (t : List Call) → ServerLaw limit szx word t → Ever (CarriesIn p) (lower_of limit szx t) → Once (CarriesResponse limit szx word p) t
+  responded : (t : List Call) → ServerLaw limit szx word t → Ever (CarriesIn p) (lower_of limit szx t) → Sometime (CarriesResponse limit szx word p) t
   responded [] law h = absurd h
   responded (c ∷ t) law h =
       elim (Ever_append (CarriesIn p) (lower (own t) c) (lower_of limit szx t) h) [

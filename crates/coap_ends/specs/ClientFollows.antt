@@ -1,7 +1,7 @@
 -- What follows from the law of a client, in words on its trace (RFC 7252, sections 4.2, 5.3.1 and 5.3.2).
 use Rattle.std.specs.Prelude.{◌≡◌, ℕ, Bool, true, false, Option, Some, None, List, Ok}
 use Rattle.std.specs.Option.{option_map}
-use Rattle.coap_types.specs.Past.{Ever, Once, Always}
+use Rattle.coap_types.specs.Past.{Ever, Sometime, Always}
 use Rattle.coap_types.specs.declared.endpoint.Endpoint.{Endpoint}
 use Rattle.coap_types.specs.SameEndpoint.{same_endpoint}
 use Rattle.coap_codec.specs.Message.{Message, Spells}
@@ -30,7 +30,7 @@ sends s (Ticks now word below t sent (Ok token) answer) = option_map (λ op. rec
 sends s _ = None
 
 abbrev pub WasSent : Sending → List Call → Type 0
-WasSent x t = Once (λ past c. sends (own_of past) c ≡ Some x) t
+WasSent x t = Sometime (λ past c. sends (own_of past) c ≡ Some x) t
 
 -- What is sent was taken before, and no request has had its token.
 pub record IsSent (past : List Call) (c : Call) : Type 0 where
@@ -79,4 +79,4 @@ AreFromServer server trace = Always (λ past c. CameFrom server c) trace
 -- A call is reported at most once.
 abbrev pub ReportedOnce : List Call → Type 0
 ReportedOnce trace =
-    Always (λ past c. (x y : Reported) → reports (own_of past) c ≡ Some x → Once (λ earlier b. reports (own_of earlier) b ≡ Some y) past → y.number ≡ x.number → ⊥) trace
+    Always (λ past c. (x y : Reported) → reports (own_of past) c ≡ Some x → Sometime (λ earlier b. reports (own_of earlier) b ≡ Some y) past → y.number ≡ x.number → ⊥) trace

@@ -1,7 +1,7 @@
 -- What a server sends beside Empty messages: responses to the requests that were handed up (RFC 7252, sections 4.2 and 5.2).
 use Rattle.std.specs.Prelude.{◌≡◌, ◌⊎◌, ℕ, Some, List, ◌∷◌, All}
 use Rattle.coap_types.specs.CoapOption.{CoapOption}
-use Rattle.coap_types.specs.Past.{Ever, Once, Always}
+use Rattle.coap_types.specs.Past.{Ever, Sometime, Always}
 use Rattle.coap_types.specs.Uint.{AreBytes}
 use Rattle.coap_types.specs.declared.message.Kind.{Kind}
 use Rattle.coap_codec.specs.Message.{Message, Spells}
@@ -55,7 +55,7 @@ module _ (limit szx : ℕ) where
 
   -- what the message layer sent in all these calls is Empty, or carries a response that was made in them
   abbrev pub SentResponses : ℕ → List Call → Type 0
-  SentResponses word t = (p : L.Packet) → Ever (λ e. IsIn p e.out) (layer_of limit szx word t) → IsEmpty p ⊎ Once (CarriesResponse word p) t
+  SentResponses word t = (p : L.Packet) → Ever (λ e. IsIn p e.out) (layer_of limit szx word t) → IsEmpty p ⊎ Sometime (CarriesResponse word p) t
 
   -- Whatever is sent, at any time, is Empty, or carries a response that was made by then.
   abbrev pub SendsResponses : ℕ → List Call → Type 0

@@ -1,6 +1,6 @@
 -- An entity-tag of a server names one representation (RFC 7252, section 5.10.6).
 use Rattle.std.specs.Prelude.{◌≡◌, ◌<◌, ℕ, ◌^◌, Some, List, ◌∷◌}
-use Rattle.coap_types.specs.Past.{Once, Always}
+use Rattle.coap_types.specs.Past.{Sometime, Always}
 use Rattle.coap_resource.specs.Content.{Held}
 use Rattle.coap_resource.specs.RequestOptions.{tag_of}
 use Rattle.coap_ends.specs.ServerTrace.{Call}
@@ -18,7 +18,7 @@ module _ (limit szx : ℕ) where
 
   -- the path held this, after some call
   abbrev pub WasHeld : List (List ℕ) → Held → List Call → Type 0
-  WasHeld path held t = Once (λ past c. held_at limit szx path (c ∷ past) ≡ Some held) t
+  WasHeld path held t = Sometime (λ past c. held_at limit szx path (c ∷ past) ≡ Some held) t
 
   -- What was held under one entity-tag, at any two moments, is one representation, of one path.
   abbrev pub OneTag : List Call → Type 0

@@ -1,8 +1,8 @@
 -- A deferred request has its response no earlier than its delay says, and is ready once that has passed.
 use Rattle.std.proofs.Common.{◌≡◌, ◌≢◌, ◌≤◌, ◌⊎◌, inl, inr, ℕ, ◌+◌, ◌-◌, max, nat_le, Bool, true, false, Some, List, [], ◌∷◌, ◌++◌, refl, ap, sym, subst, ◌∙◌, cond, arith, ◌&&◌, not}
 use Rattle.std.specs.Option.{option_map}
-use Rattle.coap_types.specs.Past.{Once}
-use Rattle.coap_types.proofs.PastLemmas.{Once_map}
+use Rattle.coap_types.specs.Past.{Sometime}
+use Rattle.coap_types.proofs.PastLemmas.{Sometime_map}
 use Rattle.coap_layer.proofs.ListLemmas.{le_true, true_le}
 use Rattle.coap_layer.specs.Trace as T
 use Rattle.coap_exchange.specs.declared.answerer.Asked.{Asked}
@@ -25,7 +25,7 @@ pub record DefersAs (d : Deferred) (past : List Call) (c : Call) : Type 0 where
   pub at : d.at ≡ moment past now
 
 abbrev pub Stands : List Call → Deferred → Type 0
-Stands t d = Once (DefersAs d) t × (d.at ≤ (own_of t).clock)
+Stands t d = Sometime (DefersAs d) t × (d.at ≤ (own_of t).clock)
 
 abbrev pub AllStand : List Call → List Deferred → Type 0
 AllStand t [] = Unit {0}
@@ -51,19 +51,19 @@ module _ (t : List Call) (at : ℕ) (xs : List Separate) where
   pub passed_by : (delay from : ℕ) (free : Bool) → from ≤ at → (nat_le delay (at - from) && free) ≡ true → from + delay ≤ at
   passed_by delay from free since h = let k = le_true delay (at - from) (both (nat_le delay (at - from)) free h).0 in omega (arith, k, since)
 
-  deferred_until : (d : Deferred) → (own_of t).clock ≤ at → Stands t d → is_ready at xs d ≡ true → Once (DefersUntil d.asked at) t
+  deferred_until : (d : Deferred) → (own_of t).clock ≤ at → Stands t d → is_ready at xs d ≡ true → Sometime (DefersUntil d.asked at) t
   deferred_until d clock s h =
       let since = s.1 in
       let passed = passed_by d.delay d.at (not (is_waited_for d.asked.from xs)) (omega (arith, since, clock)) h in
-      Once_map (DefersAs d) (DefersUntil d.asked at) (λ past c k. record { now = k.now; delay = d.delay; defers = k.defers; passed = subst (λ n. n + d.delay ≤ at) k.at passed }) t s.0
+      Sometime_map (DefersAs d) (DefersUntil d.asked at) (λ past c k. record { now = k.now; delay = d.delay; defers = k.defers; passed = subst (λ n. n + d.delay ≤ at) k.at passed }) t s.0
 
   ready_by : (a : Asked) (d : Deferred) (ds : List Deferred) (w : Bool) → is_ready at xs d ≡ w → (own_of t).clock ≤ at → Stands t d
-      → (option_map (λ (e : Deferred). e.asked) (first_ready at xs ds) ≡ Some a → Once (DefersUntil a at) t)
-      → option_map (λ (e : Deferred). e.asked) (cond w (Some d) (first_ready at xs ds)) ≡ Some a → Once (DefersUntil a at) t
-  ready_by a d ds true is clock s ih e = let same : d.asked ≡ a = cc e in subst (λ x. Once (DefersUntil x at) t) same (deferred_until d clock s is)
+      → (option_map (λ (e : Deferred). e.asked) (first_ready at xs ds) ≡ Some a → Sometime (DefersUntil a at) t)
+      → option_map (λ (e : Deferred). e.asked) (cond w (Some d) (first_ready at xs ds)) ≡ Some a → Sometime (DefersUntil a at) t
+  ready_by a d ds true is clock s ih e = let same : d.asked ≡ a = cc e in subst (λ x. Sometime (DefersUntil x at) t) same (deferred_until d clock s is)
   ready_by a d ds false is clock s ih e = ih e
 
-  ready_deferred : (a : Asked) (ds : List Deferred) → (own_of t).clock ≤ at → AllStand t ds → option_map (λ (e : Deferred). e.asked) (first_ready at xs ds) ≡ Some a → Once (DefersUntil a at) t
+  ready_deferred : (a : Asked) (ds : List Deferred) → (own_of t).clock ≤ at → AllStand t ds → option_map (λ (e : Deferred). e.asked) (first_ready at xs ds) ≡ Some a → Sometime (DefersUntil a at) t
   ready_deferred a [] clock h e = absurd (cc e)
   ready_deferred a (d ∷ ds) clock h e = ready_by a d ds (is_ready at xs d) refl clock h.0 (ready_deferred a ds clock h.1) e
 
@@ -162,7 +162,7 @@ module _ (t : List Call) (stand : AllStand t (own_of t).deferred) where
         let now_is : now ≡ n = cc e in
         let answer_is : answer ≡ due.Ready a = cc e in
         let k = due_ready below (ready_at (own_of t) now) room a (sym right ∙ answer_is) in
-        subst (λ z. Once (DefersUntil a (moment t z)) t) now_is (ready_deferred t (moment t now) (own_of t).separate a (own_of t).deferred (later_clock (own_of t).clock now) stand k.1);
+        subst (λ z. Sometime (DefersUntil a (moment t z)) t) now_is (ready_deferred t (moment t now) (own_of t).separate a (own_of t).deferred (later_clock (own_of t).clock now) stand k.1);
     responds = λ n a r w i e. absurd (cc e);
   }
 
@@ -173,7 +173,7 @@ module _ (t : List Call) (stand : AllStand t (own_of t).deferred) where
         let now_is : now ≡ n = cc e in
         let same : b ≡ a = cc e in
         let k = ready_deferred t (moment t now) (own_of t).separate b (own_of t).deferred (later_clock (own_of t).clock now) stand right.0 in
-        subst (λ x. Once (DefersUntil x (moment t n)) t) same (subst (λ z. Once (DefersUntil b (moment t z)) t) now_is k);
+        subst (λ x. Sometime (DefersUntil x (moment t n)) t) same (subst (λ z. Sometime (DefersUntil b (moment t z)) t) now_is k);
   }
 
   timed : (c : Call) → (own_of t).clock ≤ (own_of (c ∷ t)).clock → AllStand (c ∷ t) (own_of t).deferred

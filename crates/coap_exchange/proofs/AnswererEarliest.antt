@@ -1,8 +1,8 @@
 -- Of the deferred requests that are due, the one that was deferred first is ready.
 use Rattle.std.proofs.Common.{◌≡◌, ◌≢◌, ◌≤◌, ◌⊎◌, inl, inr, ℕ, ◌+◌, Bool, true, false, Some, List, [], ◌∷◌, ◌++◌, length, refl, ap, sym, subst, ◌∙◌, cond, arith, not}
 use Rattle.std.specs.Option.{option_map}
-use Rattle.coap_types.specs.Past.{Once}
-use Rattle.coap_types.proofs.PastLemmas.{Once_map}
+use Rattle.coap_types.specs.Past.{Sometime}
+use Rattle.coap_types.proofs.PastLemmas.{Sometime_map}
 use Rattle.coap_exchange.specs.declared.answerer.Asked.{Asked}
 use Rattle.coap_exchange.specs.declared.answerer.Due.TheVariants as due
 use Rattle.coap_exchange.specs.declared.separate.Deferred.{Deferred}
@@ -17,9 +17,9 @@ use Rattle.coap_exchange.proofs.AnswererTicks.{due_ready}
 -- deferred when there were n calls at most
 
 abbrev NoLater : ℕ → List Call → Deferred → Type 0
-NoLater n t d = Once (λ old c. DefersAs d old c × (length old ≤ n)) t × (d.at ≤ (own_of t).clock)
+NoLater n t d = Sometime (λ old c. DefersAs d old c × (length old ≤ n)) t × (d.at ≤ (own_of t).clock)
 
-in_all : (d : Deferred) (n : ℕ) (t : List Call) → length t ≤ n → Once (DefersAs d) t → Once (λ old c. DefersAs d old c × (length old ≤ n)) t
+in_all : (d : Deferred) (n : ℕ) (t : List Call) → length t ≤ n → Sometime (DefersAs d) t → Sometime (λ old c. DefersAs d old c × (length old ≤ n)) t
 in_all d n [] le h = h
 in_all d n (c ∷ t) le (inl h) = inl (h, omega (arith, le))
 in_all d n (c ∷ t) le (inr h) = inr (in_all d n t (omega (arith, le)) h)
@@ -99,13 +99,13 @@ module _ (n : ℕ) (a : Asked) (at : ℕ) where
   -- the first that is ready is that one or one before it
   module _ (t : List Call) (clock : (own_of t).clock ≤ at) (xs : List Separate) (free : is_waited_for a.from xs ≡ false) (b : Asked) where
     abbrev Early : Asked → Type 0
-    Early x = Once (λ old c. DefersUntil x at old c × (length old ≤ n)) t
+    Early x = Sometime (λ old c. DefersUntil x at old c × (length old ≤ n)) t
 
     early : (d : Deferred) → NoLater n t d → is_ready at xs d ≡ true → Early d.asked
     early d k h =
         let since = k.1 in
         let passed = passed_by t at xs d.delay d.at (not (is_waited_for d.asked.from xs)) (omega (arith, since, clock)) h in
-        Once_map (λ old c. DefersAs d old c × (length old ≤ n)) (λ old c. DefersUntil d.asked at old c × (length old ≤ n))
+        Sometime_map (λ old c. DefersAs d old c × (length old ≤ n)) (λ old c. DefersUntil d.asked at old c × (length old ≤ n))
         (λ past c k. (record { now = k.0.now; delay = d.delay; defers = k.0.defers; passed = subst (λ m. m + d.delay ≤ at) k.0.at passed }, k.1)) t k.0
 
     first_by : (d : Deferred) (ds : List Deferred) (w : Bool) → is_ready at xs d ≡ w → NoLater n t d → ((d.asked ≡ a) × (d.at + d.delay ≤ at)) ⊎ Has t ds

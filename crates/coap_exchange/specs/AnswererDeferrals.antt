@@ -1,6 +1,6 @@
 -- When a deferred request may have its response (RFC 7252, section 5.2.2).
 use Rattle.std.specs.Prelude.{◌≡◌, ◌≢◌, ◌≤◌, ◌⊎◌, ℕ, ◌+◌, max, true, false, Option, Some, None, List, [], ◌∷◌, length}
-use Rattle.coap_types.specs.Past.{Once, Always}
+use Rattle.coap_types.specs.Past.{Sometime, Always}
 use Rattle.coap_layer.specs.Trace as L
 use Rattle.coap_exchange.specs.declared.answerer.Asked.{Asked}
 use Rattle.coap_exchange.specs.declared.answerer.Due.{Due}
@@ -22,8 +22,8 @@ pub record DefersUntil (a : Asked) (at : ℕ) (past : List Call) (c : Call) : Ty
 
 -- A separate response, and that a request is ready for one, comes no earlier than the delay after its deferral.
 pub record LongEnough (past : List Call) (c : Call) : Type 0 where
-  pub ready : (now : ℕ) (below : L.Answer) (room : _) (a : Asked) → c ≡ Ticks now below room (due.Ready a) → Once (DefersUntil a (moment past now)) past
-  pub responds : (now : ℕ) (a : Asked) (r : Response) (word id : ℕ) → c ≡ Responds now a r word id → Once (DefersUntil a (moment past now)) past
+  pub ready : (now : ℕ) (below : L.Answer) (room : _) (a : Asked) → c ≡ Ticks now below room (due.Ready a) → Sometime (DefersUntil a (moment past now)) past
+  pub responds : (now : ℕ) (a : Asked) (r : Response) (word id : ℕ) → c ≡ Responds now a r word id → Sometime (DefersUntil a (moment past now)) past
 
 abbrev pub DeferredLongEnough : List Call → Type 0
 DeferredLongEnough trace = Always LongEnough trace
@@ -57,7 +57,7 @@ pub record IsEarliest (past : List Call) (c : Call) : Type 0 where
   pub earliest :
       (now : ℕ) (below : L.Answer) (room : _) (b : Asked) → c ≡ Ticks now below room (due.Ready b)
       → (n : ℕ) (a : Asked) → IsDueFrom n a (moment past now) past → is_waited_for a.from (own_of past).separate ≡ false
-      → Once (λ old d. DefersUntil b (moment past now) old d × (length old ≤ n)) past
+      → Sometime (λ old d. DefersUntil b (moment past now) old d × (length old ≤ n)) past
 
 abbrev pub EarliestReady : List Call → Type 0
 EarliestReady trace = Always IsEarliest trace

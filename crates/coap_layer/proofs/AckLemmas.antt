@@ -1,7 +1,7 @@
 -- An acknowledgement is the reply that the other layer was given to that very CON.
 use Rattle.std.proofs.Common.{◌≡◌, inl, inr, ⊎_elim, ℕ, ◌+◌, ◌≤◌, false, List, [], ◌∷◌, ◌++◌, Some, None, refl, ap, sym, ◌∙◌, subst, arith, append_assoc}
-use Rattle.coap_types.specs.Past.{Ever, Once, Since}
-use Rattle.coap_types.proofs.PastLemmas.{Ever_map, Ever_of_Once, Ever_of_Since, Once_of_Ever, Once_of_Once, by_suffix, forget}
+use Rattle.coap_types.specs.Past.{Ever, Sometime, Since}
+use Rattle.coap_types.proofs.PastLemmas.{Ever_map, Ever_of_Sometime, Ever_of_Since, Sometime_of_Ever, Sometime_of_Sometime, by_suffix, forget}
 use Rattle.coap_types.specs.declared.endpoint.Endpoint.{Endpoint}
 use Rattle.coap_types.specs.declared.message.Kind.TheVariants.{Con, Ack}
 use Rattle.coap_codec.specs.Message.{AreBytes, Message, Spells}
@@ -118,9 +118,9 @@ module _ (one other : ℕ) (near far : Endpoint) (whole : List Hop) (x : Entry) 
     -- when it is given, for the first time
     window : (q : List Hop) (k : Entry) (id : ℕ) → P (Far k ∷ q) → k.at ≤ x.at → x.at ≤ k.at + 100000 → Replied q k id → (con.first ≤ k.at) × (k.at ≤ con.first + 147000)
     window q k id p before after r =
-        forget W q (Ever_of_Once _ (λ h. W) (λ t h z. inl z) q
+        forget W q (Ever_of_Sometime _ (λ h. W) (λ t h z. inl z) q
         (by_suffix P (λ t h. OnFar Up h) (λ t h. W) down at_place q (down q (Far k) p)
-        (Once_of_Ever _ q (to_far _ q (Ever_of_Since _ _ (far_of q) r.at_once.latest)))))
+        (Sometime_of_Ever _ q (to_far _ q (Ever_of_Since _ _ (far_of q) r.at_once.latest)))))
       where
         W : Type 0
         W = (con.first ≤ k.at) × (k.at ≤ con.first + 147000)
@@ -152,10 +152,10 @@ module _ (one other : ℕ) (near far : Endpoint) (whole : List Hop) (x : Entry) 
         replies_to q k r.id p is (omega (arith, f)) (omega (arith, l))
 
     -- a stored reply
-    stored_again : (q : List Hop) (k : Entry) → P (Far k ∷ q) → k.at ≤ x.at → x.at ≤ k.at + 100000 → (r : StoredOut (far_of q) k (record { to = near; bytes = bytes })) → r.message.id ≡ m.id → Once R q
+    stored_again : (q : List Hop) (k : Entry) → P (Far k ∷ q) → k.at ≤ x.at → x.at ≤ k.at + 100000 → (r : StoredOut (far_of q) k (record { to = near; bytes = bytes })) → r.message.id ≡ m.id → Sometime R q
     stored_again q k p before after r is =
         by_suffix P (λ t h. OnFar Gives h) R down at_place q (down q (Far k) p)
-        (Once_of_Ever _ q (to_far _ q (by_clock other _ (far_of q) k.at p.law.far_law.1 p.law.far_law.0.time (since_young other k.at near r.message.id _ (far_of q) p.law.far_law.1 r.given r.old))))
+        (Sometime_of_Ever _ q (to_far _ q (by_clock other _ (far_of q) k.at p.law.far_law.1 p.law.far_law.0.time (since_young other k.at near r.message.id _ (far_of q) p.law.far_law.1 r.given r.old))))
       where
         Gives : Entry → Type 0
         Gives b = ((reply_in near r.message.id b.call ≡ Some bytes) × (k.at ≤ b.at + 247000)) × (b.at ≤ k.at)
@@ -174,27 +174,27 @@ module _ (one other : ℕ) (near far : Endpoint) (whole : List Hop) (x : Entry) 
             let l = here.1 in
             replies_to t b r.message.id w (replied t b r.message.id call row.0 (w.law.far_replies.0 near r.message.id bytes call)) (omega (arith, young, f)) (omega (arith, at, l))
 
-    gave : (q : List Hop) (h : Hop) → P (h ∷ q) → OnFar (GaveOut near bytes x.at) h → Once R (h ∷ q)
+    gave : (q : List Hop) (h : Hop) → P (h ∷ q) → OnFar (GaveOut near bytes x.at) h → Sometime R (h ∷ q)
     gave q (Near k) p g = absurd g
     gave q (Far k) p g = go (comes other (far_of q) k packet m p.law.far_law p.law.far_replies are spells (goes_out other (far_of q) k packet p.law.far_law g.out))
       where
         packet : Packet
         packet = record { to = near; bytes = bytes }
 
-        go : Comes (far_of q) k packet m → Once R (Far k ∷ q)
+        go : Comes (far_of q) k packet m → Sometime R (Far k ∷ q)
         go (a_con c b) = absurd (cc (c, ack))
         go (a_non c b d) = absurd (cc (c, ack))
         go (a_reply c r a is) = inl (given q k p g.from g.till r)
         go (a_stored c r is) = inr (stored_again q k p g.from g.till r is)
         go (a_reset c) = absurd (cc (c, ack))
 
-  ack_replied : (h : HearsAck con (near_of whole) x) → Once (OnFarThen (RepliesTo near con h.bytes)) whole
+  ack_replied : (h : HearsAck con (near_of whole) x) → Sometime (OnFarThen (RepliesTo near con h.bytes)) whole
   ack_replied h =
       let r : Heard h.bytes con.id = heard one (near_of whole) x con.to h.bytes con.id all_law.near_law.0 h.call h.answer in
-      Once_of_Once (λ q k. Once (OnFarThen (RepliesTo near con h.bytes)) (k ∷ q)) (OnFarThen (RepliesTo near con h.bytes)) (λ q k z. z) whole
-      (by_suffix P (λ q k. OnFar (GaveOut near h.bytes x.at) k) (λ q k. Once (OnFarThen (RepliesTo near con h.bytes)) (k ∷ q)) down (gave r.message r.kind r.id_is h.bytes r.are r.spells) whole
+      Sometime_of_Sometime (λ q k. Sometime (OnFarThen (RepliesTo near con h.bytes)) (k ∷ q)) (OnFarThen (RepliesTo near con h.bytes)) (λ q k z. z) whole
+      (by_suffix P (λ q k. OnFar (GaveOut near h.bytes x.at) k) (λ q k. Sometime (OnFarThen (RepliesTo near con h.bytes)) (k ∷ q)) down (gave r.message r.kind r.id_is h.bytes r.are r.spells) whole
       (record { law = earlier one other near far whole (Near x) all_law; later = []; is = refl })
-      (Once_of_Ever _ whole (all_law.fair.0 h.bytes (h.call ∙ ap (λ (f : Endpoint). Receive f h.bytes) to_is))))
+      (Sometime_of_Ever _ whole (all_law.fair.0 h.bytes (h.call ∙ ap (λ (f : Endpoint). Receive f h.bytes) to_is))))
 
 pub acks_replied : (one other : ℕ) (near far : Endpoint) (all : List Hop) → ChannelLaw one other near far all → AcksReplied near far all
 acks_replied one other near far all law =
@@ -209,5 +209,5 @@ pub acks_taken : (one other : ℕ) (near far : Endpoint) (all : List Hop) → Ch
 acks_taken one other near far all law =
     each_hop one other near far _
     (λ past h l x con is to_is k.
-    Ever_of_Once (OnFarThen (RepliesTo near con k.bytes)) (OnFar (Takes near con)) (replied_taken near con k.bytes) past
+    Ever_of_Sometime (OnFarThen (RepliesTo near con k.bytes)) (OnFar (Takes near con)) (replied_taken near con k.bytes) past
     (ack_replied one other near far past x con (subst (λ (y : Hop). ChannelLaw one other near far (y ∷ past)) is l) to_is k.is_outstanding k)) all law

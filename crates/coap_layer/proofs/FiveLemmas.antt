@@ -1,8 +1,8 @@
 -- A CON goes out at most five times: each copy passes one of four due moments.
 use Rattle.std.proofs.Common.{◌≡◌, ◌⊎◌, inl, inr, ⊎_elim, ℕ, zero, suc, ◌+◌, ◌-◌, ◌≤◌, true, false, Some, List, [], ◌∷◌, ap, sym, ◌∙◌, subst, arith, option_to_list}
 use Rattle.std.specs.List.{filter_map}
-use Rattle.coap_types.specs.Past.{Ever, Once}
-use Rattle.coap_types.proofs.PastLemmas.{Ever_append, Ever_of_Once, Once_map}
+use Rattle.coap_types.specs.Past.{Ever, Sometime}
+use Rattle.coap_types.proofs.PastLemmas.{Ever_append, Ever_of_Sometime, Sometime_map}
 use Rattle.coap_layer.specs.Trace.{Call, Answer, Copied, Entry}
 use Rattle.coap_layer.specs.Words.{Open, copies_in, left_by, begun, outstanding}
 use Rattle.coap_layer.specs.Rows.{LayerLaw, HasStep, Fails, Copies}
@@ -17,15 +17,15 @@ abbrev count : Open → ℕ
 count c = passed c.timeout (c.last - c.first)
 
 -- the sending of a CON comes with its begin, or behind it
-was_sent : (c : Open) (t : List Entry) → Once (λ past e. SendsIt c past e) t → Ever (IsBegun c) t
-was_sent c t h = Ever_of_Once (λ past e. SendsIt c past e) (IsBegun c) go t h
+was_sent : (c : Open) (t : List Entry) → Sometime (λ past e. SendsIt c past e) t → Ever (IsBegun c) t
+was_sent c t h = Ever_of_Sometime (λ past e. SendsIt c past e) (IsBegun c) go t h
   where
     go : (past : List Entry) (e : Entry) → SendsIt c past e → Ever (IsBegun c) (e ∷ past)
     go past e (inl b) = inl b
     go past e (inr k) = let q = some_in (λ x. as_begun x ≡ c) (outstanding past) k.0 in inr (subst (λ (d : Open). Ever (IsBegun d) past) q.2 (was_begun past q.0 q.1))
 
 least_begun : (c : Open) (n : ℕ) (t : List Entry) → AtLeast (suc n) (SendsIt c) t → Ever (IsBegun c) t
-least_begun c n t h = was_sent c t (Once_map _ _ (λ past e k. k.0) t h)
+least_begun c n t h = was_sent c t (Sometime_map _ _ (λ past e k. k.0) t h)
 
 -- a CON that is begun now was not sent before
 none_before : (word : ℕ) (past : List Entry) (e : Entry) (c : Open) (n : ℕ) → LayerLaw word (e ∷ past) → begun e ≡ Some c → AtLeast n (SendsIt c) past → n ≤ 0

@@ -1,7 +1,7 @@
 -- Two layers' traces, and what came from the other one.
 use Rattle.std.proofs.Common.{◌≡◌, ◌⊎◌, inl, inr, ℕ, ◌+◌, ◌≤◌, List, [], ◌∷◌, ◌++◌, refl, ap, sym, ◌∙◌, subst, arith}
-use Rattle.coap_types.specs.Past.{Ever, Once, Always}
-use Rattle.coap_types.proofs.PastLemmas.{Ever_back, Ever_of_Once, Once_of_Ever, by_law, by_suffix, found}
+use Rattle.coap_types.specs.Past.{Ever, Sometime, Always}
+use Rattle.coap_types.proofs.PastLemmas.{Ever_back, Ever_of_Sometime, Sometime_of_Ever, by_law, by_suffix, found}
 use Rattle.coap_types.specs.declared.endpoint.Endpoint.{Endpoint}
 use Rattle.coap_types.specs.declared.message.Kind.TheVariants.{Con, Non, Ack, Rst}
 use Rattle.coap_codec.specs.Message.{AreBytes, Message, Spells}
@@ -52,10 +52,10 @@ module _ (one other : ℕ) (near far : Endpoint) where
   each_hop C f (h ∷ past) law = (f past h law, each_hop C f past (earlier past h law))
 
   -- what arrives was sent by a row
-  pub sent_so : (past : List Hop) (x : Entry) (bytes : List ℕ) → ChannelLaw one other near far (Far x ∷ past) → x.call ≡ Receive near bytes → Once (SentSo far bytes x.at) (near_of past)
+  pub sent_so : (past : List Hop) (x : Entry) (bytes : List ℕ) → ChannelLaw one other near far (Far x ∷ past) → x.call ≡ Receive near bytes → Sometime (SentSo far bytes x.at) (near_of past)
   sent_so past x bytes law call =
       by_law (Stands one) (λ t b. GaveOut far bytes x.at b) (SentSo far bytes x.at) (λ t b l g. record { goes = goes_out one t b _ l g.out; from = g.from; till = g.till }) (near_of past) law.near_law
-      (Once_of_Ever _ (near_of past) (near_ever _ past (law.fair.0 bytes call)))
+      (Sometime_of_Ever _ (near_of past) (near_ever _ past (law.fair.0 bytes call)))
 
   pub arrives_as_sent : (all : List Hop) → ChannelLaw one other near far all → ArrivesAsSent near far all
   arrives_as_sent all law = each_hop _ (λ past h l x bytes is call. sent_so past x bytes (subst (λ (y : Hop). ChannelLaw one other near far (y ∷ past)) is l) call) all law
@@ -140,7 +140,7 @@ plain_here word t b to bytes m when l are spells non s = go (comes word t b p m 
 module _ (one other : ℕ) (near far : Endpoint) where
   plain_sent : (past : List Hop) (x : Entry) (bytes : List ℕ) (m : Message) → ChannelLaw one other near far (Far x ∷ past) → x.call ≡ Receive near bytes → Spells bytes m → m.kind ≡ Non → Ever (PlainSent far bytes x.at) (near_of past)
   plain_sent past x bytes m law call spells non =
-      Ever_of_Once (λ t b. PlainSent far bytes x.at b) (PlainSent far bytes x.at) (λ t b z. inl z) (near_of past)
+      Ever_of_Sometime (λ t b. PlainSent far bytes x.at b) (PlainSent far bytes x.at) (λ t b z. inl z) (near_of past)
       (by_suffix (Lawful one) (SentSo far bytes x.at) (λ t b. PlainSent far bytes x.at b) (λ t b l. record { law = l.law.1; replies = l.replies.1 })
       (λ t b l s. plain_here one t b far bytes m x.at l (are_bytes one other near far other (far_of past) x near bytes law.far_law.0 call) spells non s) (near_of past)
       (record { law = law.near_law; replies = law.near_replies }) (sent_so one other near far past x bytes law call))

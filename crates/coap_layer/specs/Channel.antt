@@ -1,7 +1,7 @@
 -- Two layers, and the datagrams between them (RFC 7252, sections 4.2 to 4.5). Profile: none arrives more than 100,000 ms
 -- after it was sent.
 use Rattle.std.specs.Prelude.{◌≡◌, ◌⊎◌, ◌≤◌, ℕ, ◌+◌, true, Some, None, List, [], ◌∷◌}
-use Rattle.coap_types.specs.Past.{Ever, Once, Always, Since}
+use Rattle.coap_types.specs.Past.{Ever, Sometime, Always, Since}
 use Rattle.coap_types.specs.declared.endpoint.Endpoint.{Endpoint}
 use Rattle.coap_types.specs.declared.message.Kind.TheVariants.{Con, Non, Ack, Rst}
 use Rattle.coap_codec.specs.Message.{AreBytes, Message, Spells}
@@ -89,7 +89,7 @@ pub record SentSo (to : Endpoint) (bytes : List ℕ) (when : ℕ) (past : List E
 
 abbrev pub ArrivesAsSent : Endpoint → Endpoint → List Hop → Type 0
 ArrivesAsSent near far all =
-    Always (λ past e. (x : Entry) (bytes : List ℕ) → e ≡ Far x → x.call ≡ Receive near bytes → Once (SentSo far bytes x.at) (near_of past)) all
+    Always (λ past e. (x : Entry) (bytes : List ℕ) → e ≡ Far x → x.call ≡ Receive near bytes → Sometime (SentSo far bytes x.at) (near_of past)) all
 
 -- A CON that arrives was begun at most 147,000 ms before, with these bytes, for this place.
 pub record BegunAs (to : Endpoint) (bytes : List ℕ) (id when : ℕ) (t : List Entry) : Type 0 where
@@ -157,7 +157,7 @@ OnFarThen P past (Far e) = P (far_of past) e
 -- The acknowledgement is the very reply that the other layer was given to that CON, for the first time or again.
 abbrev pub AcksReplied : Endpoint → Endpoint → List Hop → Type 0
 AcksReplied near far all =
-    Always (λ past e. (x : Entry) (con : Open) → e ≡ Near x → con.to ≡ far → (h : HearsAck con (near_of past) x) → Once (OnFarThen (RepliesTo near con h.bytes)) past) all
+    Always (λ past e. (x : Entry) (con : Open) → e ≡ Near x → con.to ≡ far → (h : HearsAck con (near_of past) x) → Sometime (OnFarThen (RepliesTo near con h.bytes)) past) all
 
 -- a message from there with the CON's Message ID is handed up, while the CON can arrive
 pub record HandsUpAs (near : Endpoint) (con : Open) (e : Entry) : Type 0 where

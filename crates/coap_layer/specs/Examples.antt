@@ -1,6 +1,6 @@
 -- Histories that show the laws to be of something (RFC 7252, section 4.2).
 use Rattle.std.specs.Prelude.{◌≡◌, ◌≢◌, ◌+◌, List, ◌∷◌}
-use Rattle.coap_types.specs.Past.{Ever, Once}
+use Rattle.coap_types.specs.Past.{Ever, Sometime}
 use Rattle.coap_types.specs.declared.endpoint.Endpoint.{Endpoint}
 use Rattle.coap_layer.specs.Trace.{Expired, Entry}
 use Rattle.coap_layer.specs.Words.{Open}
@@ -26,4 +26,4 @@ pub record IsAcknowledged : Type 0 where
   pub apart : near ≢ far
   pub law : ChannelLaw 0 0 near far hops
   pub con : Open
-  pub heard : Once (λ past h. (e : Entry) × (h ≡ Near e) × HearsAck con (near_of past) e × Ever (OnFar (Takes near con)) past) hops
+  pub heard : Sometime (λ past h. (e : Entry) × (h ≡ Near e) × HearsAck con (near_of past) e × Ever (OnFar (Takes near con)) past) hops

@@ -1,6 +1,6 @@
 -- What a layer sends, and how often (RFC 7252, sections 4.2, 4.3 and 4.5).
 use Rattle.std.specs.Prelude.{◌≡◌, ◌⊎◌, ◌≤◌, ℕ, zero, suc, ◌+◌, true, false, Some, List, [], ◌∷◌, ◌++◌}
-use Rattle.coap_types.specs.Past.{Ever, Once, Always, Since}
+use Rattle.coap_types.specs.Past.{Ever, Sometime, Always, Since}
 use Rattle.coap_types.specs.declared.message.Kind.TheVariants.{Con, Non}
 use Rattle.coap_codec.specs.Message.{Message, Spells}
 use Rattle.coap_layer.specs.Arrivals.{Faulted, Whole, Shows}
@@ -11,7 +11,7 @@ use Rattle.coap_layer.specs.Rows.{LayerLaw, reset_to}
 -- at n entries, one after the other, and perhaps at more
 abbrev pub AtLeast : {E : Type 0} → ℕ → (List E → E → Type 0) → List E → Type 0
 AtLeast zero P t = Unit {0}
-AtLeast (suc n) P t = Once (λ past e. P past e × AtLeast n P past) t
+AtLeast (suc n) P t = Sometime (λ past e. P past e × AtLeast n P past) t
 
 -- it is in the list
 abbrev pub IsIn : {A : Type 0} → A → List A → Type 0

@@ -1,6 +1,6 @@
 -- Laws of the words for traces.
 use Rattle.std.proofs.Common.{◌⊎◌, inl, inr, ⊎_elim, List, [], ◌∷◌, ◌++◌}
-use Rattle.coap_types.specs.Past.{Ever, Once, Always, Since, all_of}
+use Rattle.coap_types.specs.Past.{Ever, Sometime, Always, Since, all_of}
 
 module _ {E : Type 0} where
   pub Ever_map : (P Q : E → Type 0) → ((e : E) → P e → Q e) → (t : List E) → Ever P t → Ever Q t
@@ -8,13 +8,13 @@ module _ {E : Type 0} where
   Ever_map P Q f (e ∷ past) (inl h) = inl (f e h)
   Ever_map P Q f (e ∷ past) (inr h) = inr (Ever_map P Q f past h)
 
-  pub Once_map : (P Q : List E → E → Type 0) → ((past : List E) (e : E) → P past e → Q past e) → (t : List E) → Once P t → Once Q t
-  Once_map P Q f [] h = h
-  Once_map P Q f (e ∷ past) (inl h) = inl (f past e h)
-  Once_map P Q f (e ∷ past) (inr h) = inr (Once_map P Q f past h)
+  pub Sometime_map : (P Q : List E → E → Type 0) → ((past : List E) (e : E) → P past e → Q past e) → (t : List E) → Sometime P t → Sometime Q t
+  Sometime_map P Q f [] h = h
+  Sometime_map P Q f (e ∷ past) (inl h) = inl (f past e h)
+  Sometime_map P Q f (e ∷ past) (inr h) = inr (Sometime_map P Q f past h)
 
   -- a law of the trace, applied where something happened
-  pub by_law : (A P Q : List E → E → Type 0) → ((past : List E) (e : E) → Always A (e ∷ past) → P past e → Q past e) → (t : List E) → Always A t → Once P t → Once Q t
+  pub by_law : (A P Q : List E → E → Type 0) → ((past : List E) (e : E) → Always A (e ∷ past) → P past e → Q past e) → (t : List E) → Always A t → Sometime P t → Sometime Q t
   by_law A P Q f [] law h = h
   by_law A P Q f (e ∷ past) law (inl h) = inl (f past e law h)
   by_law A P Q f (e ∷ past) law (inr h) = inr (by_law A P Q f past law.1 h)
@@ -25,20 +25,20 @@ module _ {E : Type 0} where
   Ever_by_law A P Q f (e ∷ past) law (inr h) = inr (Ever_by_law A P Q f past law.1 h)
 
   -- what happened in the past of something that happened, happened
-  pub Ever_of_Once : (P : List E → E → Type 0) (Q : E → Type 0) → ((past : List E) (e : E) → P past e → Ever Q (e ∷ past)) → (t : List E) → Once P t → Ever Q t
-  Ever_of_Once P Q f (e ∷ past) (inl h) = f past e h
-  Ever_of_Once P Q f (e ∷ past) (inr h) = inr (Ever_of_Once P Q f past h)
-  Ever_of_Once P Q f [] h = h
+  pub Ever_of_Sometime : (P : List E → E → Type 0) (Q : E → Type 0) → ((past : List E) (e : E) → P past e → Ever Q (e ∷ past)) → (t : List E) → Sometime P t → Ever Q t
+  Ever_of_Sometime P Q f (e ∷ past) (inl h) = f past e h
+  Ever_of_Sometime P Q f (e ∷ past) (inr h) = inr (Ever_of_Sometime P Q f past h)
+  Ever_of_Sometime P Q f [] h = h
 
-  pub Once_of_Once : (P Q : List E → E → Type 0) → ((past : List E) (e : E) → P past e → Once Q (e ∷ past)) → (t : List E) → Once P t → Once Q t
-  Once_of_Once P Q f (e ∷ past) (inl h) = f past e h
-  Once_of_Once P Q f (e ∷ past) (inr h) = inr (Once_of_Once P Q f past h)
-  Once_of_Once P Q f [] h = h
+  pub Sometime_of_Sometime : (P Q : List E → E → Type 0) → ((past : List E) (e : E) → P past e → Sometime Q (e ∷ past)) → (t : List E) → Sometime P t → Sometime Q t
+  Sometime_of_Sometime P Q f (e ∷ past) (inl h) = f past e h
+  Sometime_of_Sometime P Q f (e ∷ past) (inr h) = inr (Sometime_of_Sometime P Q f past h)
+  Sometime_of_Sometime P Q f [] h = h
 
-  pub Once_of_Ever : (P : E → Type 0) → (t : List E) → Ever P t → Once (λ past e. P e) t
-  Once_of_Ever P [] h = h
-  Once_of_Ever P (e ∷ past) (inl h) = inl h
-  Once_of_Ever P (e ∷ past) (inr h) = inr (Once_of_Ever P past h)
+  pub Sometime_of_Ever : (P : E → Type 0) → (t : List E) → Ever P t → Sometime (λ past e. P e) t
+  Sometime_of_Ever P [] h = h
+  Sometime_of_Ever P (e ∷ past) (inl h) = inl h
+  Sometime_of_Ever P (e ∷ past) (inr h) = inr (Sometime_of_Ever P past h)
 
   pub Ever_of_Since : (B K : E → Type 0) → (t : List E) → Since B K t → Ever B t
   Ever_of_Since B K [] h = h
@@ -46,13 +46,13 @@ module _ {E : Type 0} where
   Ever_of_Since B K (e ∷ past) (inr h) = inr (Ever_of_Since B K past h.1)
 
   -- the same for a law that is not said entry by entry
-  pub by_suffix : (L : List E → Type 0) (P Q : List E → E → Type 0) → ((past : List E) (e : E) → L (e ∷ past) → L past) → ((past : List E) (e : E) → L (e ∷ past) → P past e → Q past e) → (t : List E) → L t → Once P t → Once Q t
+  pub by_suffix : (L : List E → Type 0) (P Q : List E → E → Type 0) → ((past : List E) (e : E) → L (e ∷ past) → L past) → ((past : List E) (e : E) → L (e ∷ past) → P past e → Q past e) → (t : List E) → L t → Sometime P t → Sometime Q t
   by_suffix L P Q down f [] law h = h
   by_suffix L P Q down f (e ∷ past) law (inl h) = inl (f past e law h)
   by_suffix L P Q down f (e ∷ past) law (inr h) = inr (by_suffix L P Q down f past (down past e law) h)
 
   -- a finding that stays true as the trace grows
-  pub found : (P : List E → E → Type 0) (Z : List E → Type 0) → ((e : E) (t : List E) → Z t → Z (e ∷ t)) → ((past : List E) (e : E) → P past e → Z (e ∷ past)) → (t : List E) → Once P t → Z t
+  pub found : (P : List E → E → Type 0) (Z : List E → Type 0) → ((e : E) (t : List E) → Z t → Z (e ∷ t)) → ((past : List E) (e : E) → P past e → Z (e ∷ past)) → (t : List E) → Sometime P t → Z t
   found P Z grows f (e ∷ past) (inl h) = f past e h
   found P Z grows f (e ∷ past) (inr h) = grows e past (found P Z grows f past h)
   found P Z grows f [] h = absurd h
@@ -71,9 +71,9 @@ module _ {E : Type 0} where
   Ever_back P [] t h = h
   Ever_back P (e ∷ s) t h = inr (Ever_back P s t h)
 
-  pub Once_back : (P : List E → E → Type 0) (s t : List E) → Once P t → Once P (s ++ t)
-  Once_back P [] t h = h
-  Once_back P (e ∷ s) t h = inr (Once_back P s t h)
+  pub Sometime_back : (P : List E → E → Type 0) (s t : List E) → Sometime P t → Sometime P (s ++ t)
+  Sometime_back P [] t h = h
+  Sometime_back P (e ∷ s) t h = inr (Sometime_back P s t h)
 
   pub Always_back : (A : List E → E → Type 0) (s t : List E) → Always A (s ++ t) → Always A t
   Always_back A [] t h = h

@@ -1,6 +1,6 @@
 -- What a client hears as an answer is the response to the request of a call: of one that the server served, or refused.
 use Rattle.std.proofs.Common.{◌≡◌, ◌⊎◌, inl, inr, true, Some, List, [], ◌∷◌, map, refl, ap, sym, subst, ◌∙◌}
-use Rattle.coap_types.specs.Past.{Ever, Once}
+use Rattle.coap_types.specs.Past.{Ever, Sometime}
 use Rattle.coap_types.proofs.PastLemmas.{by_suffix}
 use Rattle.coap_types.specs.Roles.{role_of}
 use Rattle.coap_types.specs.declared.role.Role.TheVariants as role
@@ -62,13 +62,13 @@ module _ (config : Config) where
   CarriesAt p past (OfClient c) = ⊥
   CarriesAt p past (OfServer c) = CarriesResponse config.limit config.server_szx config.server_word p (server_trace config past) c
 
-  none_begun : (p : T.Packet) (ds : List S.Delay) → Once (CarriesResponse config.limit config.server_szx config.server_word p) (map (λ (d : S.Delay). S.Delays d.path d.ms true) ds) → ⊥
+  none_begun : (p : T.Packet) (ds : List S.Delay) → Sometime (CarriesResponse config.limit config.server_szx config.server_word p) (map (λ (d : S.Delay). S.Delays d.path d.ms true) ds) → ⊥
   none_begun p [] h = h
   none_begun p (d ∷ ds) (inr h) = none_begun p ds h
   none_begun p (d ∷ ds) (inl (inl k)) = let here = k.here in cc here
   none_begun p (d ∷ ds) (inl (inr k)) = subst (λ calls. Ever (HandsUp config.server_szx k.asked (Refused k.code)) (below_of config.server_word calls)) (begins_silent config (d ∷ ds)) k.handed
 
-  in_entries : (p : T.Packet) (all : List Entry) → Once (CarriesResponse config.limit config.server_szx config.server_word p) (server_trace config all) → Once (CarriesAt p) all
+  in_entries : (p : T.Packet) (all : List Entry) → Sometime (CarriesResponse config.limit config.server_szx config.server_word p) (server_trace config all) → Sometime (CarriesAt p) all
   in_entries p [] h = absurd (none_begun p config.delays h)
   in_entries p (OfClient c ∷ past) h = inr (in_entries p past h)
   in_entries p (OfServer c ∷ past) (inl h) = inl h
@@ -125,13 +125,13 @@ module _ (config : Config) where
         cc (none, reads.role)
 
   by_given : (m : Message) (p : T.Packet) → Reads p.bytes m → p.to ≡ client_end → (past : List Entry) → Lawful config past
-      → IsEmpty p ⊎ Once (CarriesResponse config.limit config.server_szx config.server_word p) (server_trace config past) → Once (Answers config m) past
+      → IsEmpty p ⊎ Sometime (CarriesResponse config.limit config.server_szx config.server_word p) (server_trace config past) → Sometime (Answers config m) past
   by_given m p reads to past law (inl k) = absurd (not_empty m p reads to k)
   by_given m p reads to past law (inr k) =
       by_suffix (Lawful config) (CarriesAt p) (Answers config m) (lawful_back config) (answers_at m p reads to) past law (in_entries p past k)
 
   -- what is heard here
-  pub answered : (past : List Entry) (c : C.Call) → Lawful config (OfClient c ∷ past) → (m : Message) → heard c ≡ Some m → Once (Answers config m) past
+  pub answered : (past : List Entry) (c : C.Call) → Lawful config (OfClient c ∷ past) → (m : Message) → heard c ≡ Some m → Sometime (Answers config m) past
   answered past c law m is =
       let e : Entry = OfClient c in
       let own = law.client.exchanges in

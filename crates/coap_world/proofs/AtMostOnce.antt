@@ -1,7 +1,7 @@
 -- At most one applied request belongs to a call.
 use Rattle.std.proofs.Common.{◌≡◌, ◌≤◌, inl, inr, ℕ, Some, List, [], ◌∷◌, refl, ap, sym, subst, ◌∙◌, arith}
-use Rattle.coap_types.specs.Past.{Ever, Once, Always}
-use Rattle.coap_types.proofs.PastLemmas.{Ever_back, Once_map}
+use Rattle.coap_types.specs.Past.{Ever, Sometime, Always}
+use Rattle.coap_types.proofs.PastLemmas.{Ever_back, Sometime_map}
 use Rattle.coap_layer.specs.Channel.{near_of}
 use Rattle.coap_layer.specs.Words.{Open, begun}
 use Rattle.coap_exchange.specs.declared.answerer.Asked.{Asked}
@@ -89,7 +89,7 @@ module _ (config : Config) (number : ℕ) (all : List Entry) (one : OneSending (
       let f = self_hits b in
       omega (arith, e, f)
 
-  served_before : (b : Asked) (t : List Entry) → Later t → CamesFrom config t → ((y : Serving) → Known y → y.asked ≡ b) → Once (ServesFor config number all) t → 1 ≤ times_served config.limit config.server_szx b (server_trace config t)
+  served_before : (b : Asked) (t : List Entry) → Later t → CamesFrom config t → ((y : Serving) → Known y → y.asked ≡ b) → Sometime (ServesFor config number all) t → 1 ≤ times_served config.limit config.server_szx b (server_trace config t)
   served_before b [] later came same h = absurd h
   served_before b (OfClient c ∷ past) later came same (inl a) = absurd a.here
   served_before b (OfClient c ∷ past) later came same (inr h) = served_before b past (later_back (OfClient c) past later) came.1 same h
@@ -102,7 +102,7 @@ module _ (config : Config) (number : ℕ) (all : List Entry) (one : OneSending (
       IsChannel config t × (NoNons (layer_of server_end config.client_word (client_of t))) × CamesFrom config t × ServedOnce config.limit config.server_szx (server_trace config t)
       × Counted config.limit config.server_szx config.server_word (server_trace config t)
 
-  not_twice : (past : List Entry) (c : S.Call) → Later past → Laws (OfServer c ∷ past) → ServesFor config number all past (OfServer c) → Once (ServesFor config number all) past → ⊥
+  not_twice : (past : List Entry) (c : S.Call) → Later past → Laws (OfServer c ∷ past) → ServesFor config number all past (OfServer c) → Sometime (ServesFor config number all) past → ⊥
   not_twice past c later laws a h =
       let e : Entry = OfServer c in
       let x : Serving = a.request in
@@ -120,7 +120,7 @@ module _ (config : Config) (number : ℕ) (all : List Entry) (one : OneSending (
   laws_back (OfClient c) past nons l = (channel_back config.client_word config.server_word client_end server_end _ (hops_in config past) l.0, nons past, l.2.1, l.3, l.4)
   laws_back (OfServer c) past nons l = (channel_back config.client_word config.server_word client_end server_end _ (hops_in config past) l.0, nons past, l.2.1, l.3.1, l.4.1)
 
-  at_most : (t : List Entry) → Later t → ((t : List Entry) → NoNons (layer_of server_end config.client_word (client_of t))) → Laws t → Always (λ past e. ServesFor config number all past e → Once (ServesFor config number all) past → ⊥) t
+  at_most : (t : List Entry) → Later t → ((t : List Entry) → NoNons (layer_of server_end config.client_word (client_of t))) → Laws t → Always (λ past e. ServesFor config number all past e → Sometime (ServesFor config number all) past → ⊥) t
   at_most [] later nons laws = tt
   at_most (OfClient c ∷ past) later nons laws = (λ a h. a.here, at_most past (later_back (OfClient c) past later) nons (laws_back (OfClient c) past nons laws))
   at_most (OfServer c ∷ past) later nons laws = (λ a h. not_twice past c later laws a h, at_most past later nons (laws_back (OfServer c) past nons laws))
@@ -128,20 +128,20 @@ module _ (config : Config) (number : ℕ) (all : List Entry) (one : OneSending (
 -- For each call at most one request is served,
 pub served_at_most : (config : Config) (all : List Entry) → OneSending (client_of all) → OneCon (layer_of server_end config.client_word (client_of all)) → ((t : List Entry) → NoNons (layer_of server_end config.client_word (client_of t)))
     → IsChannel config all → CamesFrom config all → ServedOnce config.limit config.server_szx (server_trace config all) → Counted config.limit config.server_szx config.server_word (server_trace config all)
-    → (number : ℕ) → Always (λ past e. ServesFor config number all past e → Once (ServesFor config number all) past → ⊥) all
+    → (number : ℕ) → Always (λ past e. ServesFor config number all past e → Sometime (ServesFor config number all) past → ⊥) all
 served_at_most config all one cons nons channel came served counted number = at_most config number all one cons all (λ x h. h, λ con h. h) nons (channel, nons all, came, served, counted)
 
 pub applies_serves : (config : Config) (number : ℕ) (all past : List Entry) (e : Entry) → AppliesFor config number all past e → ServesFor config number all past e
 applies_serves config number all past e a = record { request = a.request; here = a.here; from = a.from; belongs = a.belongs }
 
 -- .. and so at most one is applied.
-applied_in : (config : Config) (number : ℕ) (all t : List Entry) → Always (λ past e. ServesFor config number all past e → Once (ServesFor config number all) past → ⊥) t
-    → Always (λ past e. AppliesFor config number all past e → Once (AppliesFor config number all) past → ⊥) t
+applied_in : (config : Config) (number : ℕ) (all t : List Entry) → Always (λ past e. ServesFor config number all past e → Sometime (ServesFor config number all) past → ⊥) t
+    → Always (λ past e. AppliesFor config number all past e → Sometime (AppliesFor config number all) past → ⊥) t
 applied_in config number all [] h = tt
 applied_in config number all (e ∷ past) h = (
-  λ a k. h.0 (applies_serves config number all past e a) (Once_map (AppliesFor config number all) (ServesFor config number all) (applies_serves config number all) past k),
+  λ a k. h.0 (applies_serves config number all past e a) (Sometime_map (AppliesFor config number all) (ServesFor config number all) (applies_serves config number all) past k),
   applied_in config number all past h.1,
 )
 
-pub at_most_once : (config : Config) (all : List Entry) → ((number : ℕ) → Always (λ past e. ServesFor config number all past e → Once (ServesFor config number all) past → ⊥) all) → AtMostOnce config all
+pub at_most_once : (config : Config) (all : List Entry) → ((number : ℕ) → Always (λ past e. ServesFor config number all past e → Sometime (ServesFor config number all) past → ⊥) all) → AtMostOnce config all
 at_most_once config all h number = applied_in config number all all (h number)

@@ -1,7 +1,7 @@
 -- Where success is reported, a request of the call was applied since the call; a body that is reported was held since.
 use Rattle.std.proofs.Common.{◌≡◌, inl, inr, ℕ, true, false, Option, Some, List, [], ◌∷◌, refl, ap, sym, subst, ◌∙◌}
-use Rattle.coap_types.specs.Past.{Once, Always}
-use Rattle.coap_types.proofs.PastLemmas.{Once_map}
+use Rattle.coap_types.specs.Past.{Sometime, Always}
+use Rattle.coap_types.proofs.PastLemmas.{Sometime_map}
 use Rattle.coap_codec.specs.Message.{Message}
 use Rattle.coap_resource.specs.Content.{Held}
 use Rattle.coap_resource.specs.RequestOptions.{has}
@@ -26,9 +26,9 @@ use Rattle.coap_world.proofs.Reports.{Reporting, each_reporting, was_called, one
 use Rattle.coap_world.proofs.Whole.{asked_by}
 
 -- at each entry of a trace, what follows from what holds there
-pub always_so : {E : Type 0} (P Q R : List E → E → Type 0) → ((past : List E) (e : E) → Q past e → R past e) → (t : List E) → Always (λ past e. P past e → Once Q past) t → Always (λ past e. P past e → Once R past) t
+pub always_so : {E : Type 0} (P Q R : List E → E → Type 0) → ((past : List E) (e : E) → Q past e → R past e) → (t : List E) → Always (λ past e. P past e → Sometime Q past) t → Always (λ past e. P past e → Sometime R past) t
 always_so P Q R f [] h = tt
-always_so P Q R f (e ∷ past) h = (λ p. Once_map Q R f past (h.0 p), always_so P Q R f past h.1)
+always_so P Q R f (e ∷ past) h = (λ p. Sometime_map Q R f past (h.0 p), always_so P Q R f past h.1)
 
 module _ (config : Config) (all : List Entry) (one : OneSending (client_of all)) where
   -- the sending of what is served here is that of the call

@@ -1,7 +1,7 @@
 -- What comes from an end's address in a legal run was given out by that end, at most 100,000 ms before.
 use Rattle.std.proofs.Common.{◌≡◌, inl, inr, ◌≤◌, ◌<◌, ℕ, Bool, true, false, Option, Some, None, List, [], ◌∷◌, ◌++◌, map, length, ap, sym, subst, ◌∙◌, arith}
-use Rattle.coap_types.specs.Past.{Ever, Once, Always, all_of}
-use Rattle.coap_types.proofs.PastLemmas.{Ever_map, Ever_append, Ever_of_Once}
+use Rattle.coap_types.specs.Past.{Ever, Sometime, Always, all_of}
+use Rattle.coap_types.proofs.PastLemmas.{Ever_map, Ever_append, Ever_of_Sometime}
 use Rattle.coap_types.specs.declared.endpoint.Endpoint.{Endpoint}
 use Rattle.coap_layer.specs.Trace.{Packet}
 use Rattle.coap_ends.specs.ClientTrace as C
@@ -47,12 +47,12 @@ not_later (t ∷ past) at g legal n h = elim (Ever_append (λ x. x ≡ g) (given
 
 -- a number is of one datagram
 
-below_length : {A : Type 0} (n : ℕ) (x : A) (t : List A) → Once (λ before s. (s ≡ x) × (length before ≡ n)) t → n < length t
+below_length : {A : Type 0} (n : ℕ) (x : A) (t : List A) → Sometime (λ before s. (s ≡ x) × (length before ≡ n)) t → n < length t
 below_length n x [] h = absurd h
 below_length n x (y ∷ t) (inl h) = omega (arith, h.1)
 below_length n x (y ∷ t) (inr h) = omega (arith, below_length n x t h)
 
-number_unique : {A : Type 0} (n : ℕ) (x y : A) (t : List A) → Once (λ before s. (s ≡ x) × (length before ≡ n)) t → Once (λ before s. (s ≡ y) × (length before ≡ n)) t → x ≡ y
+number_unique : {A : Type 0} (n : ℕ) (x y : A) (t : List A) → Sometime (λ before s. (s ≡ x) × (length before ≡ n)) t → Sometime (λ before s. (s ≡ y) × (length before ≡ n)) t → x ≡ y
 number_unique n x y [] h k = absurd h
 number_unique n x y (z ∷ t) (inl h) (inl k) = sym h.0 ∙ k.0
 number_unique n x y (z ∷ t) (inl h) (inr k) = absurd (omega (arith, h.1, below_length n y t k))
@@ -156,7 +156,7 @@ packet_is p to bytes h k = ap {B = Packet} (λ t. record { to = t; bytes = p.byt
 module _ (past : List Turn) (at : ℕ) (number : ℕ) (legal : Legal past) (later : NotBefore past at) (may : MayCome past at (Deliver number)) (g : Given) (is : IsNumber number g past) where
   gave : (from to : Endpoint) (bytes : List ℕ) → g.from ≡ from → g.packet.to ≡ to → g.packet.bytes ≡ bytes → Ever (GaveOut from to bytes at) (all_of given_in past)
   gave from to bytes f t b =
-      let here : Ever (λ h. h ≡ g) (all_of given_in past) = Ever_of_Once _ (λ h. h ≡ g) (λ before h k. inl k.0) (all_of given_in past) is in
+      let here : Ever (λ h. h ≡ g) (all_of given_in past) = Ever_of_Sometime _ (λ h. h ≡ g) (λ before h k. inl k.0) (all_of given_in past) is in
       let same : may.0 ≡ g = number_unique number may.0 g (all_of given_in past) may.1 is in
       let y = may.3 in
       let e : may.0.at ≡ g.at = ap (λ (x : Given). x.at) same in

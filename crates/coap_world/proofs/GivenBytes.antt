@@ -1,7 +1,7 @@
 -- Each datagram that an end of a legal run gives out is one of bytes (RFC 7252, section 3).
 use Rattle.std.proofs.Common.{◌≡◌, inl, inr, ℕ, List, subst}
 use Rattle.coap_types.specs.Past.{Ever, all_of}
-use Rattle.coap_types.proofs.PastLemmas.{Ever_map, Ever_of_Once}
+use Rattle.coap_types.proofs.PastLemmas.{Ever_map, Ever_of_Sometime}
 use Rattle.coap_codec.specs.Message.{AreBytes}
 use Rattle.coap_layer.specs.Channel.{Hop, near_of, far_of}
 use Rattle.coap_layer.specs.Sends.{IsIn}
@@ -33,7 +33,7 @@ module _ (config : Config) (events : List Event) (turns : List Turn) (made : Rec
 
   pub given_are : (n : ℕ) → IsNumber n g turns → AreBytes g.packet.bytes
   given_are n is =
-      let here : Ever (λ h. h ≡ g) (all_of given_in turns) = Ever_of_Once _ (λ h. h ≡ g) (λ before h k. inl k.0) (all_of given_in turns) is in
+      let here : Ever (λ h. h ≡ g) (all_of given_in turns) = Ever_of_Sometime _ (λ h. h ≡ g) (λ before h k. inl k.0) (all_of given_in turns) is in
       elim ((run config events turns made legal).sent g here) [
         | inl k ↦ client_are server_end config.client_szx config.client_word (client_of all) made.client (λ op w. in_range op turns made.made legal w) g.packet
             (subst (Ever Sends) (near_is config all) (Ever_map (SendsAt g.at g.packet) Sends sends_it (near_of hops) (near_ever (SendsAt g.at g.packet) hops k.1)))

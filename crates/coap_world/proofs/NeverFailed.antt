@@ -1,7 +1,7 @@
 -- Where another response than a success is reported, no request of the call is applied, before or after.
 use Rattle.std.proofs.Common.{◌≡◌, ◌⊎◌, inl, inr, ℕ, Bool, true, false, Option, Some, None, List, [], ◌∷◌, refl, ap, sym, subst, ◌∙◌, ◌||◌, cond}
-use Rattle.coap_types.specs.Past.{Once, Always}
-use Rattle.coap_types.proofs.PastLemmas.{Once_map, Once_of_Once, Ever_of_Once, by_suffix, forget}
+use Rattle.coap_types.specs.Past.{Sometime, Always}
+use Rattle.coap_types.proofs.PastLemmas.{Sometime_map, Sometime_of_Sometime, Ever_of_Sometime, by_suffix, forget}
 use Rattle.coap_types.specs.Unrecognised.{lacks_critical}
 use Rattle.coap_types.specs.declared.direction.Direction.TheVariants as direction
 use Rattle.coap_types.specs.declared.request.Method.{Method}
@@ -30,27 +30,27 @@ use Rattle.coap_world.proofs.Reports.{Reporting, each_reporting, one_is, sent_fo
 use Rattle.coap_world.proofs.Whole.{asked_by}
 
 -- what happens once only: two accounts of it are of one entry
-once_same : {E : Type 0} (P Q R : List E → E → Type 0) → (t : List E) → Always (λ past e. P past e → Once P past → ⊥) t → Once (λ past e. P past e × Q past e) t → Once (λ past e. P past e × R past e) t
-    → Once (λ past e. Q past e × R past e) t
+once_same : {E : Type 0} (P Q R : List E → E → Type 0) → (t : List E) → Always (λ past e. P past e → Sometime P past → ⊥) t → Sometime (λ past e. P past e × Q past e) t → Sometime (λ past e. P past e × R past e) t
+    → Sometime (λ past e. Q past e × R past e) t
 once_same P Q R [] law a b = a
 once_same P Q R (e ∷ past) law (inl a) (inl b) = inl (a.1, b.1)
-once_same P Q R (e ∷ past) law (inl a) (inr b) = absurd (law.0 a.0 (Once_map (λ past e. P past e × R past e) P (λ t x h. h.0) past b))
-once_same P Q R (e ∷ past) law (inr a) (inl b) = absurd (law.0 b.0 (Once_map (λ past e. P past e × Q past e) P (λ t x h. h.0) past a))
+once_same P Q R (e ∷ past) law (inl a) (inr b) = absurd (law.0 a.0 (Sometime_map (λ past e. P past e × R past e) P (λ t x h. h.0) past b))
+once_same P Q R (e ∷ past) law (inr a) (inl b) = absurd (law.0 b.0 (Sometime_map (λ past e. P past e × Q past e) P (λ t x h. h.0) past a))
 once_same P Q R (e ∷ past) law (inr a) (inr b) = inr (once_same P Q R past law.1 a b)
 
-once_either : {E : Type 0} (P Q : List E → E → Type 0) → (t : List E) → Once (λ past e. P past e ⊎ Q past e) t → Once P t ⊎ Once Q t
+once_either : {E : Type 0} (P Q : List E → E → Type 0) → (t : List E) → Sometime (λ past e. P past e ⊎ Q past e) t → Sometime P t ⊎ Sometime Q t
 once_either P Q [] h = inl h
 once_either P Q (e ∷ past) (inl (inl h)) = inl (inl h)
 once_either P Q (e ∷ past) (inl (inr h)) = inr (inl h)
 once_either P Q (e ∷ past) (inr h) = elim (once_either P Q past h) [ inl p ↦ inl (inr p) | inr q ↦ inr (inr q) ]
 
 -- what holds at each entry, where something happened
-at_each : {E : Type 0} (A P Q : List E → E → Type 0) → ((past : List E) (e : E) → A past e → P past e → Q past e) → (t : List E) → Always A t → Once P t → Once Q t
+at_each : {E : Type 0} (A P Q : List E → E → Type 0) → ((past : List E) (e : E) → A past e → P past e → Q past e) → (t : List E) → Always A t → Sometime P t → Sometime Q t
 at_each A P Q f [] law h = h
 at_each A P Q f (e ∷ past) law (inl h) = inl (f past e law.0 h)
 at_each A P Q f (e ∷ past) law (inr h) = inr (at_each A P Q f past law.1 h)
 
-never : {E : Type 0} (P : List E → E → Type 0) → ((past : List E) (e : E) → P past e → ⊥) → (t : List E) → Once P t → ⊥
+never : {E : Type 0} (P : List E → E → Type 0) → ((past : List E) (e : E) → P past e → ⊥) → (t : List E) → Sometime P t → ⊥
 never P f [] h = h
 never P f (e ∷ past) (inl h) = f past e h
 never P f (e ∷ past) (inr h) = never P f past h
@@ -166,28 +166,28 @@ module _ (config : Config) (all : List Entry) (number : ℕ) where
           verdict = came.verdict;
         }
 
-    is_asked_for : CamesFrom config all → Once (AppliesFor config number all) all → IsAsked
+    is_asked_for : CamesFrom config all → Sometime (AppliesFor config number all) all → IsAsked
     is_asked_for came h =
-        forget IsAsked all (Ever_of_Once (λ past e. IsAsked) (λ e. IsAsked) (λ past e k. inl k) all
+        forget IsAsked all (Ever_of_Sometime (λ past e. IsAsked) (λ e. IsAsked) (λ past e k. inl k) all
         (by_suffix (λ t. PartOf config all t × CamesFrom config t) (AppliesFor config number all) (λ past e. IsAsked) (λ past e l. (part_back config all past e l.0, l.1.1)) asked_here all (whole config all law, came) h))
 
-    failing : (code : ℕ) → Once (ReportsAt (record { number = number; report = Failed code })) all → Once (λ past e. Serves false past e ⊎ IsRefused) all
+    failing : (code : ℕ) → Sometime (ReportsAt (record { number = number; report = Failed code })) all → Sometime (λ past e. Serves false past e ⊎ IsRefused) all
     failing code h =
         let R : List Entry → Entry → Type 0 = Reporting config number (Failed code) all in
-        Once_map R (λ past e. Serves false past e ⊎ IsRefused) (fails code) all
-        (Once_of_Once (λ past e. Once R past) R (λ past e k. inr k) all
-        (at_each (λ past e. ReportsAt (record { number = number; report = Failed code }) past e → Once R past) (ReportsAt (record { number = number; report = Failed code })) (λ past e. Once R past) (λ past e f k. f k) all
+        Sometime_map R (λ past e. Serves false past e ⊎ IsRefused) (fails code) all
+        (Sometime_of_Sometime (λ past e. Sometime R past) R (λ past e k. inr k) all
+        (at_each (λ past e. ReportsAt (record { number = number; report = Failed code }) past e → Sometime R past) (ReportsAt (record { number = number; report = Failed code })) (λ past e. Sometime R past) (λ past e f k. f k) all
         (each_reporting config number (Failed code) all refl all (whole config all law)) h))
 
-    neither : CamesFrom config all → Always (λ past e. ServesFor config number all past e → Once (ServesFor config number all) past → ⊥) all → Once (AppliesFor config number all) all
-        → Once (Serves false) all ⊎ Once (λ past e. IsRefused) all → ⊥
+    neither : CamesFrom config all → Always (λ past e. ServesFor config number all past e → Sometime (ServesFor config number all) past → ⊥) all → Sometime (AppliesFor config number all) all
+        → Sometime (Serves false) all ⊎ Sometime (λ past e. IsRefused) all → ⊥
     neither came most applied (inl h) =
         never (λ past e. Outcome false past e × Outcome true past e) not_both all
         (once_same (ServesFor config number all) (Outcome false) (Outcome true) all most h
-        (Once_map (AppliesFor config number all) (Serves true) (λ past e a. (applies_serves config number all past e a, (a.request, a.here, a.applied))) all applied))
-    neither came most applied (inr h) = not_asked one (forget IsRefused all (Ever_of_Once (λ past e. IsRefused) (λ e. IsRefused) (λ past e k. inl k) all h)) (is_asked_for came applied)
+        (Sometime_map (AppliesFor config number all) (Serves true) (λ past e a. (applies_serves config number all past e a, (a.request, a.here, a.applied))) all applied))
+    neither came most applied (inr h) = not_asked one (forget IsRefused all (Ever_of_Sometime (λ past e. IsRefused) (λ e. IsRefused) (λ past e k. inl k) all h)) (is_asked_for came applied)
 
 pub never_failed : (config : Config) (all : List Entry) → Lawful config all → OneSending (client_of all) → CamesFrom config all
-    → ((number : ℕ) → Always (λ past e. ServesFor config number all past e → Once (ServesFor config number all) past → ⊥) all) → NeverFailed config all
+    → ((number : ℕ) → Always (λ past e. ServesFor config number all past e → Sometime (ServesFor config number all) past → ⊥) all) → NeverFailed config all
 never_failed config all law one came most number code failed applied =
     neither config all number law one came (most number) applied (once_either (Serves config all number false) (λ past e. IsRefused config all number) all (failing config all number law one code failed))

@@ -24,7 +24,7 @@ use Rattle.coap_world.specs.CameFrom.{CameFrom, CamesFrom}
 use Rattle.coap_world.specs.Events.{client_end, server_end, Config, Event}
 use Rattle.coap_world.specs.Legal.{Legal}
 use Rattle.coap_world.specs.Record.{Entry, Turn, RecordOf, client_of, entries_of, server_trace}
-use Rattle.coap_types.specs.Past.{Once, Always}
+use Rattle.coap_types.specs.Past.{Sometime, Always}
 use Rattle.coap_world.proofs.AtMostOnce as W
 use Rattle.coap_world.proofs.AtMostOnce.{ServesFor}
 use Rattle.coap_world.proofs.Called.{in_range}
@@ -71,7 +71,7 @@ module _ (config : Config) (events : List Event) (turns : List Turn) (run : Reco
   applied_whole =
       H.applied_whole config all one (λ op h. (in_range op turns run.made legal h).format) sent came (all_served config.limit config.server_szx (server_trace config all) run.server.rows)
 
-  most : (number : ℕ) → Always (λ past e. ServesFor config number all past e → Once (ServesFor config number all) past → ⊥) all
+  most : (number : ℕ) → Always (λ past e. ServesFor config number all past e → Sometime (ServesFor config number all) past → ⊥) all
   most =
       let t = client_of all in
       let calls = server_trace config all in

@@ -1,6 +1,6 @@
 -- A report of a response is of a request of that call, which was served or refused since the call.
 use Rattle.std.proofs.Common.{◌≡◌, ℕ, true, List, [], ◌∷◌, refl, ap, sym, subst, ◌∙◌}
-use Rattle.coap_types.specs.Past.{Once, Always}
+use Rattle.coap_types.specs.Past.{Sometime, Always}
 use Rattle.coap_types.proofs.PastLemmas.{by_suffix}
 use Rattle.coap_codec.specs.Message.{Message}
 use Rattle.coap_exchange.proofs.AskerApart.{known}
@@ -48,7 +48,7 @@ pub record Reporting (config : Config) (number : ℕ) (report : Report) (all pas
   pub answers : Answers config message past e
 
 module _ (config : Config) (number : ℕ) (report : Report) (all : List Entry) (is_response : is_of_response report ≡ true) where
-  reporting : (past : List Entry) (e : Entry) → PartOf config all (e ∷ past) → ReportsAt (record { number = number; report = report }) past e → Once (Reporting config number report all) past
+  reporting : (past : List Entry) (e : Entry) → PartOf config all (e ∷ past) → ReportsAt (record { number = number; report = report }) past e → Sometime (Reporting config number report all) past
   reporting past (OfServer c) part here = absurd here
   reporting past (OfClient c) part here =
       let e : Entry = OfClient c in
@@ -69,7 +69,7 @@ module _ (config : Config) (number : ℕ) (report : Report) (all : List Entry) (
       }) past earlier (answered config past c part.law a.message a.is_heard)
 
   -- each report has a serving or a refusal before it
-  pub each_reporting : (t : List Entry) → PartOf config all t → Always (λ past e. ReportsAt (record { number = number; report = report }) past e → Once (Reporting config number report all) past) t
+  pub each_reporting : (t : List Entry) → PartOf config all t → Always (λ past e. ReportsAt (record { number = number; report = report }) past e → Sometime (Reporting config number report all) past) t
   each_reporting [] part = tt
   each_reporting (e ∷ past) part = (λ h. reporting past e part h, each_reporting past (part_back config all past e part))
 

@@ -1,6 +1,6 @@
 -- A legal run in which a POST is refused (RFC 7252, section 5.9.2.5).
 use Rattle.std.proofs.Common.{◌≡◌, ◌++◌, inl, inr, ℕ, true, Option, Some, None, List, [], ◌∷◌, map, refl, ap, sym, subst, arith}
-use Rattle.coap_types.specs.Past.{Once, Always}
+use Rattle.coap_types.specs.Past.{Sometime, Always}
 use Rattle.coap_ends.specs.ServerFollows.{Serving, is_applied}
 use Rattle.coap_world.specs.Agrees.{AppliesFor}
 use Rattle.coap_world.specs.Events.{Calls, TickClient, Deliver, client_end}
@@ -51,13 +51,13 @@ serves_none past a =
     let applied : is_applied 132 ≡ true = subst (λ n. is_applied n ≡ true) (sym code) a.applied in
     absurd (cc applied)
 
-server_none : (es : List Entry) → (Once (AppliesFor config 0 all) es → ⊥) → Once (AppliesFor config 0 all) (map OfServer (server.calls 5) ++ es) → ⊥
+server_none : (es : List Entry) → (Sometime (AppliesFor config 0 all) es → ⊥) → Sometime (AppliesFor config 0 all) (map OfServer (server.calls 5) ++ es) → ⊥
 server_none es none (inl h) = absurd (cc h.here)
 server_none es none (inr (inl h)) = absurd (cc h.here)
 server_none es none (inr (inr (inl h))) = serves_none es h
 server_none es none (inr (inr (inr h))) = none h
 
-none : Once (AppliesFor config 0 all) all → ⊥
+none : Sometime (AppliesFor config 0 all) all → ⊥
 none = clients_none config 0 all (heard 9 not_found_bytes client.not_found failed) _ (server_none _ (clients_none config 0 all (ticked post_bytes) _ (clients_none config 0 all (called post) [] (λ h. h))))
 
 pub refused : Fails

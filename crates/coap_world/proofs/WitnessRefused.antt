@@ -1,7 +1,7 @@
 -- Events of which no run is legal: a datagram that comes too late, one that was never given out, and a stranger with an end's address.
 use Rattle.std.proofs.Common.{◌≡◌, inl, ℕ, List, [], ◌∷◌, map, ap, subst, refl, arith}
 use Rattle.coap_types.specs.Past.{Ever, all_of}
-use Rattle.coap_types.proofs.PastLemmas.{Ever_of_Once}
+use Rattle.coap_types.proofs.PastLemmas.{Ever_of_Sometime}
 use Rattle.coap_world.specs.Events.{Event, client_end, server_end}
 use Rattle.coap_world.specs.Legal.{NotBefore, MayCome, Legal}
 use Rattle.coap_world.specs.LegalEvents.{NoneRuns, NotAfter, never_given, NoneFrom}
@@ -30,7 +30,7 @@ till [] e es h = tt
 till (t ∷ past) e es h = let same : t.event ≡ e = cc h in let at = ap (λ (x : Event). x.at) same in omega (arith, at)
 
 numbered : (past : List Turn) (n : ℕ) (g : Given) → IsNumber n g past → Ever (λ h. h ≡ g) (all_of given_in past)
-numbered past n g is = Ever_of_Once _ (λ h. h ≡ g) (λ before h k. inl k.0) (all_of given_in past) is
+numbered past n g is = Ever_of_Sometime _ (λ h. h ≡ g) (λ before h k. inl k.0) (all_of given_in past) is
 
 pub not_after : NotAfter 100000
 not_after at late config turns made legal =

@@ -1,6 +1,6 @@
 -- A legal run in which a stranger's DELETE, under the token of a call, is applied, and not for that call (RFC 7252, section 5.8.4).
 use Rattle.std.proofs.Common.{◌≡◌, ◌++◌, inl, inr, ℕ, Option, Some, None, List, [], ◌∷◌, map, refl, ap, arith}
-use Rattle.coap_types.specs.Past.{Once, Always}
+use Rattle.coap_types.specs.Past.{Sometime, Always}
 use Rattle.coap_types.specs.declared.endpoint.Endpoint.{Endpoint}
 use Rattle.coap_exchange.specs.AnswererSteps.{asked_of}
 use Rattle.coap_resource.specs.Content.{nothing}
@@ -57,7 +57,7 @@ serves_none past a =
     let client_port : a.request.asked.from.port ≡ 40001 = ap (λ (e : Endpoint). e.port) a.from in
     omega (arith, port, client_port)
 
-server_none : (es : List Entry) → (Once (AppliesFor config 0 all) es → ⊥) → Once (AppliesFor config 0 all) (map OfServer server.calls ++ es) → ⊥
+server_none : (es : List Entry) → (Sometime (AppliesFor config 0 all) es → ⊥) → Sometime (AppliesFor config 0 all) (map OfServer server.calls ++ es) → ⊥
 server_none es none (inl h) = absurd (cc h.here)
 server_none es none (inr (inl h)) = absurd (cc h.here)
 server_none es none (inr (inr (inl h))) = serves_none es h

@@ -1,8 +1,8 @@
 -- A legal run in which a POST is applied after its Timeout was reported (RFC 7252, section 4.2).
 use Rattle.std.proofs.Common.{◌≡◌, ◌++◌, inl, inr, Some, List, [], ◌∷◌, map, refl, arith}
 use Rattle.std.specs.Prelude.{codes}
-use Rattle.coap_types.specs.Past.{Once, Always}
-use Rattle.coap_types.proofs.PastLemmas.{Once_back}
+use Rattle.coap_types.specs.Past.{Sometime, Always}
+use Rattle.coap_types.proofs.PastLemmas.{Sometime_back}
 use Rattle.coap_exchange.specs.AnswererSteps.{asked_of}
 use Rattle.coap_ends.specs.ClientFollows.{sends}
 use Rattle.coap_ends.specs.ClientLaw.{own_of}
@@ -105,8 +105,8 @@ before = map OfClient client.calls ++ map OfServer post_server.set
 abbrev SendsIt : List C.Call → C.Call → Type 0
 SendsIt past c = sends (own_of past) c ≡ Some (record { operation = record { number = 0; request = post }; token = token })
 
-sent : Once SendsIt client.calls
-sent = Once_back SendsIt client.later (asking.before post post_bytes) (inr (inr (inr (inr (inl refl)))))
+sent : Sometime SendsIt client.calls
+sent = Sometime_back SendsIt client.later (asking.before post post_bytes) (inr (inr (inr (inr (inl refl)))))
 
 applied : AppliesFor config 0 (entries_of turns) before (OfServer server.serves)
 applied = record { request = served; here = refl; applied = refl; from = refl; belongs = (post, sent) }

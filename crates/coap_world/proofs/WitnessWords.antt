@@ -7,7 +7,7 @@ use Rattle.std.specs.List.{list_all}
 use Rattle.coap_codec.specs.Message.{AreBytes}
 use Rattle.coap_types.specs.CoapOption.{CoapOption}
 use Rattle.coap_types.specs.Uint as uint
-use Rattle.coap_types.specs.Past.{Once}
+use Rattle.coap_types.specs.Past.{Sometime}
 use Rattle.coap_ends.specs.ClientTrace as C
 use Rattle.coap_world.specs.Agrees.{AppliesFor}
 use Rattle.coap_world.specs.Events.{Config}
@@ -50,8 +50,8 @@ path_of_one segment short bytes = record {
 }
 
 -- no call of the client applies anything
-pub clients_none : (config : Config) (number : ℕ) (all : List Entry) (cs : List C.Call) (es : List Entry) → (Once (AppliesFor config number all) es → ⊥)
-    → Once (AppliesFor config number all) (map OfClient cs ++ es) → ⊥
+pub clients_none : (config : Config) (number : ℕ) (all : List Entry) (cs : List C.Call) (es : List Entry) → (Sometime (AppliesFor config number all) es → ⊥)
+    → Sometime (AppliesFor config number all) (map OfClient cs ++ es) → ⊥
 clients_none config number all [] es none h = none h
 clients_none config number all (c ∷ cs) es none (inl h) = h.here
 clients_none config number all (c ∷ cs) es none (inr h) = clients_none config number all cs es none h

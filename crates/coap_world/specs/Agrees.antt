@@ -1,6 +1,6 @@
 -- What is promised of the record of a legal run.
 use Rattle.std.specs.Prelude.{◌≡◌, ◌⊎◌, ℕ, true, Option, Some, List, ◌∷◌}
-use Rattle.coap_types.specs.Past.{Once, Always}
+use Rattle.coap_types.specs.Past.{Sometime, Always}
 use Rattle.coap_types.specs.declared.request.Method.TheVariants.{Put}
 use Rattle.coap_resource.specs.RequestOptions.{tag_of, format_of}
 use Rattle.coap_ends.specs.ClientTrace.{Request, Body, Done, Failed, Reported}
@@ -73,7 +73,7 @@ module _ (config : Config) where
 
   -- At most one applied request belongs to a call.
   abbrev pub AtMostOnce : List Entry → Type 0
-  AtMostOnce all = (number : ℕ) → Always (λ past e. AppliesFor number all past e → Once (AppliesFor number all) past → ⊥) all
+  AtMostOnce all = (number : ℕ) → Always (λ past e. AppliesFor number all past e → Sometime (AppliesFor number all) past → ⊥) all
 
   -- Where success is reported, one was applied after the call and not after the report.
   pub record AppliesSince (number : ℕ) (all past : List Entry) (e : Entry) : Type 0 where
@@ -82,11 +82,11 @@ module _ (config : Config) where
     pub called : WasCalled number request past
 
   abbrev pub OnceDone : List Entry → Type 0
-  OnceDone all = (number code : ℕ) → Always (λ past e. ReportsAt (record { number = number; report = Done code }) past e → Once (AppliesSince number all) past) all
+  OnceDone all = (number code : ℕ) → Always (λ past e. ReportsAt (record { number = number; report = Done code }) past e → Sometime (AppliesSince number all) past) all
 
   -- Where another response than a success is reported, none is applied, before or after.
   abbrev pub NeverFailed : List Entry → Type 0
-  NeverFailed all = (number code : ℕ) → Once (ReportsAt (record { number = number; report = Failed code })) all → Once (AppliesFor number all) all → ⊥
+  NeverFailed all = (number code : ℕ) → Sometime (ReportsAt (record { number = number; report = Failed code })) all → Sometime (AppliesFor number all) all → ⊥
 
   -- A body that is reported was held by the server at the path of the call, under the version that its ETag names, after
   -- the call and not after the report.
@@ -99,7 +99,7 @@ module _ (config : Config) where
 
   abbrev pub EachHeld : List Entry → Type 0
   EachHeld all = (number : ℕ) (tag : Option (List ℕ)) (format : Option ℕ) (body : List ℕ)
-      → Always (λ past e. ReportsAt (record { number = number; report = Body tag format body }) past e → Once (HeldSince number tag format body) past) all
+      → Always (λ past e. ReportsAt (record { number = number; report = Body tag format body }) past e → Sometime (HeldSince number tag format body) past) all
 
   -- Each change is a local one, or that of the one request that is applied with it.
   pub record IsOwned (past : List Entry) (c : S.Call) (x : Change) : Type 0 where

@@ -1,6 +1,6 @@
 -- Legal runs of a few events (RFC 7252, sections 4.2, 4.5, 5.2 and 5.8): the laws of the world are laws of something.
 use Rattle.std.specs.Prelude.{◌≡◌, ℕ, true, Option, Some, None, List, [], ◌∷◌, ◌++◌, codes}
-use Rattle.coap_types.specs.Past.{Once, all_of}
+use Rattle.coap_types.specs.Past.{Sometime, all_of}
 use Rattle.coap_types.specs.declared.endpoint.Endpoint.{Endpoint}
 use Rattle.coap_types.specs.declared.request.Method.TheVariants.{Get, Post, Delete}
 use Rattle.coap_ends.specs.ClientReports.{changed}
@@ -91,11 +91,11 @@ got = record { number = 0; report = Body tag (Some plain) (codes "hi") }
 
 -- it is reported, and the server held it before
 abbrev pub GotAt : Config → List Entry → Entry → Type 0
-GotAt config past e = ReportsAt got past e × Once (HeldSince config 0 tag (Some plain) (codes "hi")) past
+GotAt config past e = ReportsAt got past e × Sometime (HeldSince config 0 tag (Some plain) (codes "hi")) past
 
 pub record Gets : Type 0 where
   pub run : Runs config gets (from_server 5 client_end content_bytes ∷ from_client 0 get_bytes ∷ [])
-  pub reports : Once (GotAt config) (entries_of run.turns)
+  pub reports : Sometime (GotAt config) (entries_of run.turns)
 
 -- the same, where the server answers requests to `t` 1,000 ms later: an Empty acknowledgement, a CON of its own, and the
 -- Empty acknowledgement of that (section 5.2.2)
@@ -124,7 +124,7 @@ separate_bytes = 0x48 ∷ 0x45 ∷ 0 ∷ 0 ∷ token ++ 0x48 ∷ 0 ∷ 0 ∷ 0 �
 pub record GetsLate : Type 0 where
   pub run : Runs slow gets_late
       (from_client 1000 empty_ack ∷ from_server 1000 client_end separate_bytes ∷ from_server 0 client_end empty_ack ∷ from_client 0 get_bytes ∷ [])
-  pub reports : Once (GotAt slow) (entries_of run.turns)
+  pub reports : Sometime (GotAt slow) (entries_of run.turns)
 
 -- the server holds `x` at `log`; the POST of `a` comes twice, and the first of its two equal acknowledgements is lost
 -- (sections 4.2 and 4.5)
@@ -157,7 +157,7 @@ done = record { number = 0; report = Done changed }
 -- Success is reported, it was applied before, and only once: the body has grown by one `a`.
 pub record Posts : Type 0 where
   pub run : Runs config posts (from_server 5 client_end changed_bytes ∷ from_server 0 client_end changed_bytes ∷ from_client 0 post_bytes ∷ [])
-  pub reports : Once (λ past e. ReportsAt done past e × Once (AppliesSince config 0 (entries_of run.turns)) past) (entries_of run.turns)
+  pub reports : Sometime (λ past e. ReportsAt done past e × Sometime (AppliesSince config 0 (entries_of run.turns)) past) (entries_of run.turns)
   pub held : held_at config.limit config.server_szx log (server_trace config (entries_of run.turns))
       ≡ Some (record { version = 2; format = Some plain; body = codes "xa" })
 
@@ -178,8 +178,8 @@ failed = record { number = 0; report = Failed not_found }
 
 pub record Fails : Type 0 where
   pub run : Runs config fails (from_server 5 client_end not_found_bytes ∷ from_client 0 post_bytes ∷ [])
-  pub reports : Once (ReportsAt failed) (entries_of run.turns)
-  pub applies : Once (AppliesFor config 0 (entries_of run.turns)) (entries_of run.turns) → ⊥
+  pub reports : Sometime (ReportsAt failed) (entries_of run.turns)
+  pub applies : Sometime (AppliesFor config 0 (entries_of run.turns)) (entries_of run.turns) → ⊥
 
 -- no acknowledgement comes, and the POST goes out five times; the last copy comes after the report (sections 4.2 and 4.8.2)
 
@@ -204,7 +204,7 @@ timed_out = record { number = 0; report = Timeout }
 
 pub record TimesOut : Type 0 where
   pub run : Runs config times_out (from_server 130000 client_end changed_bytes ∷ copies)
-  pub applies_after : Once (λ past e. AppliesFor config 0 (entries_of run.turns) past e × Once (ReportsAt timed_out) past) (entries_of run.turns)
+  pub applies_after : Sometime (λ past e. AppliesFor config 0 (entries_of run.turns) past e × Sometime (ReportsAt timed_out) past) (entries_of run.turns)
 
 -- a stranger sends a DELETE under the token of a call; it is applied, and not for that call (section 5.8.4)
 
@@ -222,5 +222,5 @@ interferes = event 0 (StrangerToServer stranger (delete_bytes 1)) ∷ event 0 Ti
 
 pub record Interferes : Type 0 where
   pub run : Runs config interferes (from_server 0 stranger deleted_bytes ∷ from_client 0 (delete_bytes 0) ∷ [])
-  pub applies : Once (λ past e. (x : Serving) × ServesAt config x past e × (is_applied x.reply.code ≡ true)) (entries_of run.turns)
-  pub for_none : Once (AppliesFor config 0 (entries_of run.turns)) (entries_of run.turns) → ⊥
+  pub applies : Sometime (λ past e. (x : Serving) × ServesAt config x past e × (is_applied x.reply.code ≡ true)) (entries_of run.turns)
+  pub for_none : Sometime (AppliesFor config 0 (entries_of run.turns)) (entries_of run.turns) → ⊥

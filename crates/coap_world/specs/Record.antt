@@ -1,6 +1,6 @@
 -- The record of a run: what each event made of the two ends, the newest first.
 use Rattle.std.specs.Prelude.{◌≡◌, ◌⊎◌, ℕ, Bool, true, false, Option, Some, None, List, [], ◌∷◌, ◌++◌, map, length}
-use Rattle.coap_types.specs.Past.{Once, Always, all_of}
+use Rattle.coap_types.specs.Past.{Sometime, Always, all_of}
 use Rattle.coap_types.specs.declared.endpoint.Endpoint.{Endpoint}
 use Rattle.coap_layer.specs.Trace.{Packet}
 use Rattle.coap_ends.specs.ClientTrace as C
@@ -61,7 +61,7 @@ given_in turn = all_of (given_by turn.event.at) turn.entries
 
 -- a datagram has the number of those that were given out before it
 abbrev pub IsNumber : ℕ → Given → List Turn → Type 0
-IsNumber number g past = Once (λ before h. (h ≡ g) × (length before ≡ number)) (all_of given_in past)
+IsNumber number g past = Sometime (λ before h. (h ≡ g) × (length before ≡ number)) (all_of given_in past)
 
 -- After the calls of an event, all that its end has out is taken, and all its reports, until there is none.
 pub record OnClient (calls : List C.Call) (entries : List Entry) : Type 0 where
