@@ -1,13 +1,12 @@
--- What is written for a block is read as that block.
+-- What is written for a block is read as that block, and what a block that is read says.
 use Rattle.std.proofs.Common.{◌≡◌, ℕ, ◌+◌, ◌*◌, ◌/◌, ◌%◌, ◌^◌, ◌<◌, ◌≤◌, ◌==◌, ◌&&◌, List, length, nat_le, if◌then◌else◌, None, Bool, true, false, Option, Some, refl, ap, sym, rules, ◌∙◌, arith}
-use Rattle.std.specs.Prelude.{IfSome, IsSome, ◌↔◌}
 use Rattle.std.proofs.Math.Nat.{pow-le-pow_right}
 use Rattle.std.proofs.lemmas.Bool.{and_from, cond-true, eqb-true, le-leb, leb-true}
 use Rattle.std.proofs.lemmas.Bool.Decides.{nat_tests}
 use Rattle.coap_types.specs.declared.block.Block.{Block}
 use Rattle.coap_types.specs.declared.block.TheConstants.{MAX_BLOCK_LEN as max_block_len, MAX_NUM as max_num}
 use Rattle.coap_types.specs.declared.szx.TheConstants.{MAX_SZX as max_szx}
-use Rattle.coap_types.specs.BlockValue.{block_by, block_in, block_value, more_bit}
+use Rattle.coap_types.specs.BlockValue.{BlockSays, block_by, block_in, block_value, more_bit}
 use Rattle.coap_types.specs.Bytes.{AreBytes}
 use Rattle.coap_types.specs.Uint.{number_of, uint_value}
 use Rattle.coap_types.proofs.UintLemmas.{number_below}
@@ -39,22 +38,16 @@ few_num bytes are_bytes short =
     let powers : 256 ^ length bytes ≤ 256 ^ 3 = pow-le-pow_right {n = 256} (omega arith) short in
     omega (arith, below, powers)
 
--- what the block of a value says, and when there is one
-pub record Says (bytes : List ℕ) (block : Option Block) : Type 0 where
-  pub value : IfSome block (λ b. block_value b ≡ number_of bytes)
-  pub num : IfSome block (λ b. b.num ≤ max_num)
-  pub szx : IfSome block (λ b. b.szx ≤ max_szx)
-  pub when : IsSome block ↔ ((length bytes ≤ max_block_len) × (number_of bytes % 8 ≤ max_szx))
-
 value_back : (more : Bool) (n : ℕ) → (n / 8 % 2 == 1) ≡ more → n / 16 * 16 + more_bit more + n % 8 ≡ n
 value_back true n is = let odd : n / 8 % 2 ≡ 1 = eqb-true (n / 8 % 2) 1 is in omega arith
 value_back false n is = let even : n / 8 % 2 ≡ 0 = grind (arith, nat_tests) in omega arith
 
-pub block_says : (bytes : List ℕ) → AreBytes bytes → Says bytes (block_in bytes)
+-- the function and the relation say the same
+pub block_says : (bytes : List ℕ) → AreBytes bytes → BlockSays bytes (block_in bytes)
 block_says bytes are_bytes = by (nat_le (length bytes) max_block_len) (nat_le (number_of bytes / 16) max_num) (nat_le (number_of bytes % 8) max_szx) refl refl refl
   where
     by : (a b c : Bool) → nat_le (length bytes) max_block_len ≡ a → nat_le (number_of bytes / 16) max_num ≡ b → nat_le (number_of bytes % 8) max_szx ≡ c
-        → Says bytes (if a then (if b && c then Some (record { num = number_of bytes / 16; more = number_of bytes / 8 % 2 == 1; szx = number_of bytes % 8 }) else None) else None)
+        → BlockSays bytes (if a then (if b && c then Some (record { num = number_of bytes / 16; more = number_of bytes / 8 % 2 == 1; szx = number_of bytes % 8 }) else None) else None)
     by true true true is_a is_b is_c = record {
       value = value_back (number_of bytes / 8 % 2 == 1) (number_of bytes) refl;
       num = leb-true _ _ is_b;

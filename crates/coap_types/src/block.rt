@@ -1,6 +1,6 @@
 ghost use Rattle.std.specs.Prelude.{◌≡◌, ◌≤◌, ◌%◌, ◌↔◌, IsSome, IfSome, length};
 ghost use Rattle.coap_types.specs.Uint.{IsSpelling, number_of, uint};
-ghost use Rattle.coap_types.specs.BlockValue.{block_by, block_in, block_value, BlockReadsBack, OneBlock};
+ghost use Rattle.coap_types.specs.BlockValue.{block_by, block_in, block_value, BlockIsSaid, BlockReadsBack, OneBlock};
 
 use crate::szx::{MAX_SZX, Szx};
 use crate::uint::{UintBytes, uint_bytes, uint_of};
@@ -81,9 +81,10 @@ impl Block {
     }
 }
 
-/// A value of a Block option is that of one block, and a block that is written is read back
-/// (RFC 7959, section 2.2).
+/// A value of a Block option is that of one block; what the block that is read says, and when one
+/// is; and a block that is written is read back (RFC 7959, section 2.2).
 pub fn block_law()
     ensures one_block { OneBlock }
+    ensures says { BlockIsSaid }
     ensures read_back { BlockReadsBack }
 {}

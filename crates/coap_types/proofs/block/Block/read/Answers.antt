@@ -1,9 +1,9 @@
 use Rattle.std.proofs.Common.{◌≡◌, ◌∙◌, ◌≤◌, Some, length, sym, subst, arith}
-use Rattle.coap_types.specs.BlockValue.{block_in}
+use Rattle.coap_types.specs.BlockValue.{BlockSays}
 use Rattle.coap_types.specs.Bytes.{AreBytes}
 use Rattle.coap_types.specs.Uint.{uint_value}
 use Rattle.coap_types.proofs.Facts.Bytes.{are_bytes}
-use Rattle.coap_types.proofs.BlockLemmas.{Says, block_read, block_says}
+use Rattle.coap_types.proofs.BlockLemmas.{block_read, block_says}
 use Rattle.coap_types.proofs.block.Block.read.Goals as goal
 
 pub returns-clause-block : goal.returns-clause-block
@@ -15,4 +15,4 @@ returns-clause-block c =
 pub returns-clause-when : goal.returns-clause-when
 returns-clause-when c =
     let bytes : AreBytes c.args.bytes.now = are_bytes c.args.bytes.now (λ i. omega (arith, c.type_inv.bytes i)) in
-    (subst (Says c.args.bytes.now) (sym (returns-clause-block c)) (block_says c.args.bytes.now bytes)).when
+    (subst (BlockSays c.args.bytes.now) (sym (returns-clause-block c)) (block_says c.args.bytes.now bytes)).when
