@@ -7,7 +7,7 @@ use Rattle.coap_codec.specs.declared.fault.Reason.{Reason}
 use Rattle.coap_codec.specs.declared.fault.Reason.TheVariants.{Short, Version, TokenLength, TokenCut, EmptyNotBare, DeltaReserved, LengthReserved, OptionCut, NumberTooLarge, NoPayload}
 use Rattle.coap_codec.specs.Extension.{Ext}
 use Rattle.coap_codec.specs.Message.{AreBytes, marked}
-use Rattle.coap_codec.specs.Faulty.{needs, Says, BadRest}
+use Rattle.coap_codec.specs.Faulty.{needs, HeadsOption, BadRest}
 use Rattle.coap_codec.specs.Reading.{◌>>=◌, one_more, two_more, extended, value_at, nibbles_at, option_at, payload_at}
 use Rattle.coap_codec.proofs.StepLemmas.{AreBytes-rest, AreBytes-tail, chosen, cases_result, done, ok_is, extended_reads, extended_again}
 
@@ -90,7 +90,7 @@ nibbles_bad base first bytes r fits byte delta len e =
             | inr q ↦
                 let l = q.0 in
                 let said' = extended_reads (first % 16) d.1 l.0 l.1 (AreBytes-rest said.more d.1 (subst AreBytes said.parts fits)) small' q.1 in
-                let says : Says first bytes d.0 l.0 l.1 = record {
+                let says : HeadsOption first bytes d.0 l.0 l.1 = record {
                   more_delta = said.more;
                   more_len = said'.more;
                   number = said.says;
@@ -129,7 +129,7 @@ value_cut : (number len : ℕ) (bytes : List ℕ) → number < 2 ^ 16 → length
 unfolding value_at
 value_cut number len bytes p q = rw (le-ltb 65535 number (omega arith), lt-ltb (length bytes) len q) refl
 
-nibbles_say : (base first : ℕ) (bytes : List ℕ) (delta len : ℕ) (rest : List ℕ) → Says first bytes delta len rest → nibbles_at base (first / 16) (first % 16) bytes ≡ value_at (base + delta) len rest
+nibbles_say : (base first : ℕ) (bytes : List ℕ) (delta len : ℕ) (rest : List ℕ) → HeadsOption first bytes delta len rest → nibbles_at base (first / 16) (first % 16) bytes ≡ value_at (base + delta) len rest
 unfolding nibbles_at
 nibbles_say base first bytes delta len rest s =
     rw (s.parts, extended_again delta (first / 16) s.more_delta (s.more_len ++ rest) s.number, extended_again len (first % 16) s.more_len rest s.value) refl

@@ -3,7 +3,7 @@ use coap_types::{Code, Id, Kind, Opt, Token};
 use std::alloc::{AllocError, Global};
 use std::test::*;
 
-/// A message and its spelling.
+// A message and its spelling.
 #[derive(Clone, Copy)]
 struct Row {
     bytes: &'static [u8],
@@ -89,7 +89,7 @@ const LONG: Row = Row {
     payload: b"\xff",
 };
 
-/// One byte more than a value has.
+// One byte more than a value has.
 static TOO_LONG: [u8; 65_805] = [0; 65_805];
 
 fn head_of(row: &Row) -> Option<Head> {
@@ -212,7 +212,7 @@ fn tokens_have_0_to_8_bytes(rt: HostRuntime) -> Result<(), Fail> {
     Ok(())
 }
 
-/// What a front of a datagram comes to.
+// What a front of a datagram comes to.
 #[derive(Clone, Copy)]
 enum Front {
     Message,
