@@ -7,16 +7,18 @@ use Rattle.coap_types.specs.declared.message.Kind.TheVariants.{Con, Non, Ack, Rs
 use Rattle.coap_codec.specs.declared.fault.Reason.{Reason}
 use Rattle.coap_codec.specs.declared.fault.Reason.TheVariants.{Short, Version, TokenLength, TokenCut, EmptyNotBare, DeltaReserved, LengthReserved, OptionCut, NumberTooLarge, NoPayload}
 use Rattle.coap_codec.specs.Options.{Options}
-use Rattle.coap_codec.specs.Message.{AreBytes, Message, kind_number, header, marked, Spells}
+use Rattle.coap_types.specs.Bytes.{AreBytes}
+use Rattle.coap_codec.specs.Message.{Message, kind_number, header, marked, Spells}
 use Rattle.coap_codec.specs.Header.{version, token_length, code, kind_of, id_of}
 use Rattle.coap_codec.specs.Faulty.{last_number, Leaves, BadRest, place, IsFramed, Faulty}
 use Rattle.coap_codec.specs.Reading.{option_at, walk, payload_at, behind_token, viewed, message_of, body_at}
 use Rattle.coap_codec.specs.Decoded.{decoded}
-use Rattle.coap_codec.proofs.StepLemmas.{AreBytes-rest}
+use Rattle.coap_types.proofs.Facts.Bytes.{AreBytes-rest}
 use Rattle.coap_codec.proofs.WalkLemmas.{walked, walk_again, walk_longest}
 use Rattle.coap_codec.proofs.RestLemmas.{payload_again, marked_ends, payload_bad_again}
 use Rattle.coap_codec.proofs.FrameLemmas.{framed_none, short_again, version_again, token_length_again, empty_again, token_cut_again}
-use Rattle.coap_codec.proofs.SoundBytes.{AreBytes-drop, AreBytes-front, body_ok, body_err}
+use Rattle.coap_types.proofs.Facts.Bytes.{AreBytes-drop, AreBytes-front}
+use Rattle.coap_codec.proofs.SoundBytes.{body_ok, body_err}
 use Rattle.coap_codec.proofs.ReadLemmas.{message_fault, message_body}
 
 kind_is : (first : ℕ) (kind : Kind) → first / 16 % 4 ≡ kind_number kind → kind_of first ≡ kind

@@ -1,7 +1,8 @@
 -- Bytes that are read as a message spell it, and bytes at which reading meets a fault are faulty so.
 use Rattle.std.proofs.Common.{◌≡◌, ℕ, ◌+◌, ◌-◌, ◌⊎◌, List, length, Option, Some, None, Result, Ok, Err, refl, sym, ap, subst, ◌∙◌, inl, inr}
 use Rattle.coap_codec.specs.declared.fault.Reason.{Reason}
-use Rattle.coap_codec.specs.Message.{AreBytes, Message, Spells}
+use Rattle.coap_types.specs.Bytes.{AreBytes}
+use Rattle.coap_codec.specs.Message.{Message, Spells}
 use Rattle.coap_codec.specs.Header.{token_length}
 use Rattle.coap_codec.specs.Faulty.{place, IsFramed, Faulty}
 use Rattle.coap_codec.specs.Reading.{walk, payload_at, frame_fault, behind_token, message_of, body_at}
@@ -10,7 +11,8 @@ use Rattle.coap_codec.proofs.StepLemmas.{cases_result}
 use Rattle.coap_codec.proofs.WalkLemmas.{walked}
 use Rattle.coap_codec.proofs.RestLemmas.{payload_reads, payload_bad}
 use Rattle.coap_codec.proofs.FrameLemmas.{frame_none, frame_some}
-use Rattle.coap_codec.proofs.SoundBytes.{AreBytes-drop, body_ok, body_err, sound_spells, bad_rest_faulty, walk_leaves}
+use Rattle.coap_types.proofs.Facts.Bytes.{AreBytes-drop}
+use Rattle.coap_codec.proofs.SoundBytes.{body_ok, body_err, sound_spells, bad_rest_faulty, walk_leaves}
 
 cases_option : {A : Type 0} (o : Option A) → ((x : A) × (o ≡ Some x)) ⊎ (o ≡ None)
 cases_option (Some x) = inl (x, refl)

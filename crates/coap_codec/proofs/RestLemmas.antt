@@ -6,10 +6,13 @@ use Rattle.coap_types.specs.CoapOption.{CoapOption}
 use Rattle.coap_codec.specs.declared.fault.Reason.{Reason}
 use Rattle.coap_codec.specs.declared.fault.Reason.TheVariants.{Short, Version, TokenLength, TokenCut, EmptyNotBare, DeltaReserved, LengthReserved, OptionCut, NumberTooLarge, NoPayload}
 use Rattle.coap_codec.specs.Extension.{Ext}
-use Rattle.coap_codec.specs.Message.{AreBytes, marked}
+use Rattle.coap_types.specs.Bytes.{AreBytes}
+use Rattle.coap_codec.specs.Message.{marked}
 use Rattle.coap_codec.specs.Faulty.{needs, HeadsOption, BadRest}
 use Rattle.coap_codec.specs.Reading.{◌>>=◌, one_more, two_more, extended, value_at, nibbles_at, option_at, payload_at}
-use Rattle.coap_codec.proofs.StepLemmas.{AreBytes-rest, AreBytes-tail, chosen, cases_result, done, ok_is, extended_reads, extended_again}
+use Rattle.coap_types.proofs.Facts.Bytes.{byte_at}
+use Rattle.coap_types.proofs.Facts.Bytes.{AreBytes-rest, AreBytes-tail}
+use Rattle.coap_codec.proofs.StepLemmas.{chosen, cases_result, done, ok_is, extended_reads, extended_again}
 
 abbrev pub fault : {A : Type 0} → Reason → Result A Reason
 fault r = Err r
@@ -115,7 +118,7 @@ option_bad base first bytes d fits unmarked e =
           let delta : first / 16 ≢ 15 = eqb-false (first / 16) 15 p.0 in
           elim (chosen (eqb (first % 16) 15) (fault LengthReserved) read (Err d) p.1) [
             | inl q ↦ subst bad (err_is LengthReserved d q.1) (eqb-true (first % 16) 15 q.0, delta)
-            | inr q ↦ nibbles_bad base first bytes d (AreBytes-tail first bytes fits) (fits 0) delta (eqb-false (first % 16) 15 q.0) q.1
+            | inr q ↦ nibbles_bad base first bytes d (AreBytes-tail first bytes fits) (byte_at (first ∷ bytes) fits 0) delta (eqb-false (first % 16) 15 q.0) q.1
           ]
     ]
 
@@ -165,7 +168,7 @@ option_bad_again base first bytes EmptyNotBare fits n h = absurd h
 option_bad_again base first bytes DeltaReserved fits n h = (rw (eq-eqb (first / 16) 15 h.0) refl, h.1)
 option_bad_again base first bytes LengthReserved fits n h = (rw (ne_eqb (first / 16) 15 h.1, eq-eqb (first % 16) 15 h.0) refl, λ e. h.1 (omega arith))
 option_bad_again base first bytes OptionCut fits n h =
-    let byte : first < 256 = fits 0 in
+    let byte : first < 256 = byte_at (first ∷ bytes) fits 0 in
     let unmarked : first ≢ 255 = λ e. h.0 (omega arith) in
     elim h.2 [
       | inl s ↦ (rw (ne_eqb (first / 16) 15 h.0, ne_eqb (first % 16) 15 h.1) (nibbles_short base (first / 16) (first % 16) bytes (AreBytes-tail first bytes fits) (omega arith) (omega arith) s), unmarked)

@@ -4,8 +4,10 @@ use Rattle.std.proofs.lemmas.Bool.{and_parts, ltb-true}
 use Rattle.std.specs.Prelude.{nat_lt, codes}
 use Rattle.std.specs.List.{list_all}
 use Rattle.coap_types.specs.declared.message.Kind.TheVariants.{Con, Non, Ack, Rst}
+use Rattle.coap_types.proofs.Facts.Bytes.{AreBytes-cons, AreBytes-nil}
 use Rattle.coap_codec.specs.Extension.{Ext}
-use Rattle.coap_codec.specs.Message.{AreBytes, Message, Spells}
+use Rattle.coap_types.specs.Bytes.{AreBytes}
+use Rattle.coap_codec.specs.Message.{Message, Spells}
 use Rattle.coap_codec.specs.Faulty.{Faulty}
 use Rattle.coap_codec.specs.declared.fault.Reason.{Reason}
 use Rattle.coap_codec.specs.declared.fault.Reason.TheVariants.{Short, Version, TokenLength, TokenCut, EmptyNotBare, DeltaReserved, LengthReserved, OptionCut, NumberTooLarge, NoPayload}
@@ -43,9 +45,10 @@ abbrev pub is_byte : ℕ → Bool
 is_byte b = nat_lt b 256
 
 bytes_are : (bytes : List ℕ) → list_all is_byte bytes ≡ true → AreBytes bytes
-bytes_are [] e i = omega arith
-bytes_are (b ∷ bytes) e zero = ltb-true b 256 (and_parts (is_byte b) (list_all is_byte bytes) e).0
-bytes_are (b ∷ bytes) e (suc i) = bytes_are bytes (and_parts (is_byte b) (list_all is_byte bytes) e).1 i
+bytes_are [] e = AreBytes-nil
+bytes_are (b ∷ bytes) e =
+    let p = and_parts (is_byte b) (list_all is_byte bytes) e in
+    AreBytes-cons b bytes (ltb-true b 256 p.0) (bytes_are bytes p.1)
 
 spelled : (bytes : List ℕ) (m : Message) → list_all is_byte bytes ≡ true → decoded bytes ≡ Ok m → Spells bytes m
 spelled bytes m fits read = message_reads bytes (bytes_are bytes fits) m read

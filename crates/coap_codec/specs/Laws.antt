@@ -3,7 +3,8 @@ use Rattle.std.specs.Prelude.{◌≡◌, ℕ, ◌⊎◌, ◌↔◌, List, Ok, Er
 use Rattle.coap_codec.specs.BoundedSpelling.{CanBeSpelled, IsBare}
 use Rattle.coap_codec.specs.Decoded.{decoded}
 use Rattle.coap_codec.specs.Faulty.{Faulty}
-use Rattle.coap_codec.specs.Message.{AreBytes, Message, Spells}
+use Rattle.coap_types.specs.Bytes.{AreBytes}
+use Rattle.coap_codec.specs.Message.{Message, Spells}
 use Rattle.coap_codec.specs.Spelling.{message_bytes}
 use Rattle.coap_codec.specs.declared.fault.Reason.{Reason}
 

@@ -9,10 +9,6 @@ use Rattle.coap_types.specs.declared.options.Opt.{Opt}
 use Rattle.coap_codec.specs.Options.{Options}
 use Rattle.coap_codec.specs.declared.head.Head.{Head}
 
--- each number is that of a byte
-abbrev pub AreBytes : List ℕ → Type 0
-AreBytes bytes = (i : ℕ) → slice_index bytes i < 2 ^ 8
-
 -- A message, wherever it lies in memory. One without a payload has the empty payload.
 pub record Message : Type 0 where
   pub kind : Kind

@@ -1,7 +1,8 @@
 -- All bytes spell one message or have one fault, and `decoded` is that (RFC 7252, section 3).
 use Rattle.std.proofs.Common.{◌≡◌, ℕ, List, Ok, Err}
 use Rattle.coap_codec.specs.declared.fault.Reason.{Reason}
-use Rattle.coap_codec.specs.Message.{AreBytes, Message, Spells}
+use Rattle.coap_types.specs.Bytes.{AreBytes}
+use Rattle.coap_codec.specs.Message.{Message, Spells}
 use Rattle.coap_codec.specs.Faulty.{Faulty}
 use Rattle.coap_codec.specs.Decoded.{decoded}
 use Rattle.coap_codec.specs.Laws.{EachIsRead, NotBoth, OneMessage, OneFault}

@@ -1,5 +1,6 @@
 use Rattle.std.proofs.Common.{◌≡◌, ◌+◌, List, ℕ, take, drop, Err, ap, ◌∙◌, arith}
 use Rattle.std.proofs.lemmas.List.{drop-drop}
+use Rattle.coap_types.proofs.Facts.Bytes.{are_bytes}
 use Rattle.coap_codec.specs.Header.{token_length}
 use Rattle.coap_codec.specs.Reading.{walk, payload_at, behind_token}
 use Rattle.coap_codec.proofs.SoundBytes.{body_err}
@@ -15,7 +16,7 @@ invariant_of-result c =
     let options = c.split_at-2.ensures.back ∙ ap (drop c.token_len_of.result) behind in
     let w = c.behind_options-reason.ensures in
     let read = viewed_body bytes c.token_len_of.result _ _ c.in-Ok.payload.now c.kind_of.result c.id_of.result.0 c.token_len_of.ensures.exact token options c.kind_of.ensures c.id_of.ensures (rw (← w.reason, ← w.rest) c.in-Ok.ensures) in
-    (bytes, body_reads bytes (λ i. omega (arith, c.type_inv.bytes i)) _ c.requires read)
+    (bytes, body_reads bytes (are_bytes c.args.bytes.now (λ i. omega (arith, c.type_inv.bytes i))) _ c.requires read)
 
 pub returns-in-Ok : goal.returns-in-Ok
 returns-in-Ok c =
