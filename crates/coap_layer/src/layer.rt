@@ -5,7 +5,7 @@ ghost use Rattle.coap_layer.specs.LayerLed.{LayerLed};
 ghost use Rattle.coap_layer.specs.Sendable.{IsSendable};
 ghost use Rattle.coap_layer.specs.Shown.{MayReply};
 ghost use Rattle.coap_layer.specs.State.{Step, answer_of, copies, made, start};
-ghost use Rattle.coap_layer.specs.Trace.{Answer, Entry, Receive, Reply, Confirm, Plain, Settle, Ticks, Take, Room as AsksRoom, AsksFree, Pass, Nothing, Is, Gives};
+ghost use Rattle.coap_layer.specs.Trace.{Answer, Entry, Receive, Reply, Confirm, Plain, Settle, Ticks, Take, Room as AsksRoom, AsksFree, Pass, Nothing, Is, Idle, Gives};
 ghost use Rattle.coap_layer.specs.Ups.{IsQuiet, IsTick, answer_as, sent_as};
 ghost use Rattle.coap_layer.specs.Words.{handed_by};
 
@@ -15,7 +15,7 @@ use crate::dedup::store_reply;
 use crate::lists::Lists;
 use crate::mark::{Awaiting, Mark};
 use crate::outstanding::{due_copy, put_back};
-use crate::retransmission::{end_all, is_busy, is_outstanding, ticked};
+use crate::retransmission::{end_all, find_step, is_busy, is_outstanding, is_step, ticked};
 use crate::room::{Brings, Room, filled, grow, make_room, take_room};
 use crate::sending::{refusal, send_con, send_non};
 use crate::taking::{Moments, take_in, take_tick};
@@ -242,6 +242,16 @@ impl<A: Allocator + Copy> Layer<A> {
         let at = self.clock.max(now.0);
         let busy = is_busy(&self.lists.sendings, to);
         refusal(busy, self.ids.would_give(at)).is_none()
+    }
+
+    /// Whether `tick` would do a step now. Nothing changes: the moment doesn't count. It takes no
+    /// memory.
+    pub fn would_tick(&self, now: Moment) -> bool
+        ensures idle { result ≡ false → answer_of self.now.state (max self.now.state.clock now.0) Ticks ≡ Idle }
+        ensures due { result ≡ true → answer_of self.now.state (max self.now.state.clock now.0) Ticks ≢ Idle }
+    {
+        let at = self.clock.max(now.0);
+        is_step(find_step(&self.lists.sendings, at))
     }
 
     /// Whether `confirm` would refuse a message to this endpoint with neither `Outstanding` nor
