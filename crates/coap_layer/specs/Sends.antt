@@ -8,7 +8,7 @@ use Rattle.coap_layer.specs.Arrivals.{Faulted, Whole, Shows}
 use Rattle.coap_layer.specs.Trace.{Content, with_head, Packet, Call, Receive, Reply, Confirm, Plain, Take, Replayed, Rejected, Answer, Becomes, Sent, Copied, Gives, Entry}
 use Rattle.coap_layer.specs.Words.{awaits, Remembered, hands_up, was_con, reply_in, Open, begun, copies_in, outstanding, waiting}
 use Rattle.coap_layer.specs.Rows.{LayerLaw, reset_to}
-use Rattle.coap_types.specs.declared.transmission.TheConstants.{LAST_RETRANSMISSION_MS as last_retransmission}
+use Rattle.coap_types.specs.declared.transmission.TheConstants.{LAST_RETRANSMISSION_MS as last_retransmission, MAX_RETRANSMIT as max_retransmit}
 
 -- at n entries, one after the other, and perhaps at more
 abbrev pub AtLeast : {E : Type 0} → ℕ → (List E → E → Type 0) → List E → Type 0
@@ -45,7 +45,7 @@ SendsIt c past e = (begun e ≡ Some c) ⊎ (IsOpen past c × (copies_in e.call 
 
 -- A CON goes out at most five times: once, and MAX_RETRANSMIT times again (section 4.8).
 abbrev pub FiveAtMost : List Entry → Type 0
-FiveAtMost t = (c : Open) → AtLeast 6 (SendsIt c) t → ⊥
+FiveAtMost t = (c : Open) → AtLeast (2 + max_retransmit) (SendsIt c) t → ⊥
 
 abbrev pub packet_of : Open → Packet
 packet_of c = record { to = c.to; bytes = c.bytes }

@@ -8,13 +8,14 @@ use Rattle.coap_types.specs.declared.message.Kind.TheVariants.{Con, Non}
 use Rattle.coap_types.specs.SameEndpoint.{same_endpoint}
 use Rattle.coap_codec.specs.Message.{AreBytes}
 use Rattle.coap_codec.specs.Writing.{message_bytes}
+use Rattle.coap_layer.specs.BackOff.{factors}
 use Rattle.coap_layer.specs.Arrivals.{Arrival, Unreadable, Faulted, Whole, arrival_at}
 use Rattle.coap_layer.specs.Ids.{Issued}
 use Rattle.coap_layer.specs.Trace.{Content, with_head, Packet, Call, Receive, Reply, Confirm, Plain, Settle, Ticks, Take, Room, AsksFree, Pass, Disposition, Dropped, Replayed, Rejected, Answer, Becomes, Nothing, Is, Sent, Busied, NoIds, Idle, Copied, Expired, Gives, Entry}
 use Rattle.coap_layer.specs.Table.{up_of}
 use Rattle.coap_layer.specs.Words.{Awaited, awaits, awaits_in, clock, issued, Incoming, outstanding, waiting, Open, is_to, is_con, taken, reply_in, left_by, begun, takes_in}
 use Rattle.coap_layer.specs.Rows.{IsSpelled, reset_to}
-use Rattle.coap_types.specs.declared.transmission.TheConstants.{EXCHANGE_LIFETIME_MS as exchange_lifetime, ID_REUSE_AFTER_MS as id_reuse_after, LAST_RETRANSMISSION_MS as last_retransmission}
+use Rattle.coap_types.specs.declared.transmission.TheConstants.{EXCHANGE_LIFETIME_MS as exchange_lifetime, ID_REUSE_AFTER_MS as id_reuse_after, LAST_RETRANSMISSION_MS as last_retransmission, MAX_RETRANSMIT as max_retransmit}
 use Rattle.coap_layer.specs.declared.retransmission.TheConstants.{FAILURE_TIMEOUTS as failure_timeouts}
 use Rattle.coap_layer.specs.declared.dedup.TheConstants.{MAX_REMEMBERED as max_remembered}
 use Rattle.coap_layer.specs.declared.message_id.TheConstants.{GROUP_SIZE as group_size, GROUPS as groups}
@@ -79,7 +80,7 @@ abbrev pub is_due : ℕ → Open → ℕ → Bool
 is_due now c k = nat_lt (c.last - c.first) (c.timeout * k) && nat_le (c.timeout * k) (now - c.first)
 
 abbrev pub is_copy_due : ℕ → Open → Bool
-is_copy_due now c = nat_le (now - c.first) last_retransmission && list_any (is_due now c) (1 ∷ 3 ∷ 7 ∷ 15 ∷ [])
+is_copy_due now c = nat_le (now - c.first) last_retransmission && list_any (is_due now c) (factors max_retransmit)
 
 abbrev pub is_failed : ℕ → Open → Bool
 is_failed now c = nat_le (c.timeout * failure_timeouts) (now - c.first)

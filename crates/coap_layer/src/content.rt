@@ -4,6 +4,7 @@ ghost use Rattle.coap_codec.specs.Message.{message};
 ghost use Rattle.coap_codec.specs.Writing.{message_bytes};
 ghost use Rattle.coap_layer.specs.Trace.{with_head};
 ghost use Rattle.coap_layer.specs.Sendable.{IsSendable};
+ghost use Rattle.coap_layer.specs.declared.content.TheConstants.{MAX_MESSAGE_LEN as max_message_len};
 
 use coap_codec::{Head, encode, one_spelling};
 use coap_types::{Code, Id, Kind, Opt, Token};
@@ -56,7 +57,7 @@ fn head_of(content: &Content<'_>, kind: Kind, id: Id) -> Head
 /// its length.
 pub(crate) fn spell(content: &Content<'_>, kind: Kind, id: Id, buffer: &mut [u8]) -> usize
     requires sendable { IsSendable content.now }
-    requires room { length buffer.old ≡ 1152 }
+    requires room { length buffer.old ≡ max_message_len }
     ensures bytes { take result buffer.new ≡ message_bytes (with_head kind id.0 content.now) }
     ensures within { result ≤ length buffer.new }
     ensures len { length buffer.new ≡ length buffer.old }

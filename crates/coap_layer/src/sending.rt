@@ -8,6 +8,8 @@ ghost use Rattle.coap_layer.specs.Sendings.{open_now};
 ghost use Rattle.coap_layer.specs.Sound.{HasBuffers, HasRoom};
 ghost use Rattle.coap_layer.specs.Trace.{with_head};
 ghost use Rattle.coap_layer.specs.Ups.{refusal_of};
+ghost use Rattle.coap_types.specs.declared.transmission.TheConstants.{ACK_TIMEOUT_MS as ack_timeout};
+ghost use Rattle.coap_layer.specs.declared.sending.TheConstants.{TIMEOUTS as timeout_values};
 
 use crate::SendRefusal;
 use crate::content::{Content, MAX_MESSAGE_LEN, spell};
@@ -39,7 +41,7 @@ pub(crate) fn refusal(busy: bool, free: bool) -> Option<SendRefusal>
 
 /// The initial timeout that the word picks, in milliseconds.
 fn initial_timeout(word: u64) -> u16
-    ensures { result ≡ 2000 + word % 1001 }
+    ensures { result ≡ ack_timeout + word % timeout_values }
 {
     (ACK_TIMEOUT_MS + word % TIMEOUTS) as u16
 }
@@ -66,7 +68,7 @@ pub(crate) fn send_con<A: Allocator + Copy>(
 )
     requires sendable { IsSendable content.now }
     requires room { HasRoom (Some room) lists.old }
-    ensures open { open_now lists.new.sendings.items ≡ open_now lists.old.sendings.items ++ record { to = to; id = id.0; bytes = message_bytes (with_head Con id.0 content.now); timeout = 2000 + word % 1001; first = at; last = at } ∷ [] }
+    ensures open { open_now lists.new.sendings.items ≡ open_now lists.old.sendings.items ++ record { to = to; id = id.0; bytes = message_bytes (with_head Con id.0 content.now); timeout = ack_timeout + word % timeout_values; first = at; last = at } ∷ [] }
     ensures before { open_before lists.new.sendings.items ≡ open_before lists.old.sendings.items }
     ensures waiting { lists.new.waiting.items ≡ lists.old.waiting.items ++ record { to = to; bytes = message_bytes (with_head Con id.0 content.now) } ∷ [] }
     ensures entries { lists.new.entries ≡ lists.old.entries }
