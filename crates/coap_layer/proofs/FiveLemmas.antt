@@ -2,7 +2,7 @@
 use Rattle.std.proofs.Common.{◌≡◌, ◌⊎◌, inl, inr, ⊎_elim, ℕ, zero, suc, ◌+◌, ◌-◌, ◌≤◌, true, false, Some, List, [], ◌∷◌, ap, sym, ◌∙◌, subst, arith, option_to_list}
 use Rattle.std.specs.List.{filter_map}
 use Rattle.coap_types.specs.Past.{Ever, Sometime}
-use Rattle.coap_types.proofs.PastLemmas.{Ever_append, Ever_of_Sometime, Sometime_map}
+use Rattle.coap_types.proofs.Facts.Traces.{Ever_append, Ever_of_Sometime, Sometime_map}
 use Rattle.coap_layer.specs.Trace.{Call, Answer, Copied, Entry}
 use Rattle.coap_layer.specs.Words.{Open, copies_in, left_by, begun, outstanding}
 use Rattle.coap_layer.specs.Rows.{LayerLaw, HasStep, Fails, Copies}

@@ -1,8 +1,7 @@
 -- The tick's step, by the words and by the table.
 use Rattle.std.proofs.Common.{◌≡◌, ◌⊎◌, inl, inr, ⊎_elim, ℕ, ◌*◌, ◌-◌, ◌<◌, ◌≤◌, Bool, true, false, List, [], ◌∷◌, refl, ap, sym, ◌∙◌, subst, cond}
 use Rattle.coap_types.specs.Past.{Ever}
-use Rattle.coap_types.specs.declared.transmission.TheConstants.{MAX_RETRANSMIT as max_retransmit}
-use Rattle.coap_layer.specs.declared.retransmission.TheConstants.{FAILURE_TIMEOUTS as failure_timeouts}
+use Rattle.coap_types.specs.declared.transmission.TheConstants.{MAX_RETRANSMIT as max_retransmit, FAILURE_TIMEOUTS as failure_timeouts}
 use Rattle.coap_layer.specs.BackOff.{factors}
 use Rattle.coap_layer.specs.Trace.{Packet, Answer, Idle, Copied, Expired}
 use Rattle.coap_layer.specs.Words.{Open}

@@ -3,7 +3,8 @@ use Rattle.std.specs.Prelude.{◌≡◌, ◌⊎◌, ◌≤◌, ◌<◌, ℕ, ◌
 use Rattle.coap_types.specs.Past.{Ever, Always}
 use Rattle.coap_types.specs.declared.endpoint.Endpoint.{Endpoint}
 use Rattle.coap_types.specs.SameEndpoint.{same_endpoint}
-use Rattle.coap_codec.specs.Message.{AreBytes, Message, Spells}
+use Rattle.coap_types.specs.Bytes.{AreBytes}
+use Rattle.coap_codec.specs.Message.{Message, Spells}
 use Rattle.coap_layer.specs.Ids.{AreApart}
 use Rattle.coap_layer.specs.Trace.{Receive, Response, Acked, Reset, Becomes, Sent, Copied, Entry}
 use Rattle.coap_layer.specs.Rows.{Stands, LayerLaw, Outstanding}

@@ -7,15 +7,15 @@ use Rattle.coap_types.specs.declared.message.Kind.{Kind}
 use Rattle.coap_types.specs.declared.message.Kind.TheVariants.{Con, Non, Ack, Rst}
 use Rattle.coap_types.specs.declared.role.Role.TheVariants as role
 use Rattle.coap_types.specs.SameEndpoint.{same_endpoint}
-use Rattle.coap_codec.specs.Message.{AreBytes, Spells}
-use Rattle.coap_codec.specs.Writing.{message_bytes}
+use Rattle.coap_types.specs.Bytes.{AreBytes}
+use Rattle.coap_codec.specs.Message.{Spells}
+use Rattle.coap_codec.specs.Spelling.{message_bytes}
 use Rattle.coap_layer.specs.BackOff.{factors}
 use Rattle.coap_layer.specs.Arrivals.{Arrival, Unreadable, Faulted, Whole, Shows}
 use Rattle.coap_layer.specs.Ids as ids
 use Rattle.coap_layer.specs.Trace.{Content, with_head, Packet, Call, Receive, Reply, Confirm, Plain, Settle, Ticks, Take, Room, AsksFree, Pass, Dropped, Replayed, Rejected, Request, Response, Acked, Reset, Becomes, Nothing, Is, Sent, Busied, NoIds, Idle, Copied, Expired, Gives, Entry}
 use Rattle.coap_layer.specs.Words.{awaits, clock, Incoming, Remembered, remembered, was_con, replied, is_con, Open, is_to, outstanding, waiting, numbers}
-use Rattle.coap_types.specs.declared.transmission.TheConstants.{LAST_RETRANSMISSION_MS as last_retransmission, MAX_RETRANSMIT as max_retransmit}
-use Rattle.coap_layer.specs.declared.retransmission.TheConstants.{FAILURE_TIMEOUTS as failure_timeouts}
+use Rattle.coap_types.specs.declared.transmission.TheConstants.{LAST_RETRANSMISSION_MS as last_retransmission, MAX_RETRANSMIT as max_retransmit, FAILURE_TIMEOUTS as failure_timeouts}
 use Rattle.coap_layer.specs.declared.dedup.TheConstants.{MAX_REMEMBERED as max_remembered}
 
 -- a CON to this place with this id is unacknowledged

@@ -3,10 +3,10 @@ use Rattle.std.specs.Prelude.{◌≢◌, ◌≤◌, ◌<◌, ◌+◌, ℕ, lengt
 use Rattle.coap_types.specs.declared.message.Kind.{Kind}
 use Rattle.coap_types.specs.declared.message.Kind.TheVariants.{Con}
 use Rattle.coap_codec.specs.BoundedSpelling.{CanBeSpelled, most_bytes}
-use Rattle.coap_codec.specs.Writing.{message_bytes}
+use Rattle.coap_codec.specs.Spelling.{message_bytes}
 use Rattle.coap_layer.specs.Trace.{Content, with_head}
 use Rattle.coap_layer.specs.Rows.{IsSpelled}
-use Rattle.coap_layer.specs.declared.content.TheConstants.{MAX_MESSAGE_LEN as max_message_len}
+use Rattle.coap_types.specs.declared.limits.TheConstants.{MAX_MESSAGE_LEN as max_message_len}
 
 -- It is not Empty, has a spelling, and is not longer than 1,152 bytes.
 pub record IsSendable (c : Content) : Type 0 where

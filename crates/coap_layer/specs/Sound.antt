@@ -8,7 +8,7 @@ use Rattle.coap_layer.specs.declared.room.Room.{Room}
 use Rattle.coap_layer.specs.Entries.{arrivals_in}
 use Rattle.coap_layer.specs.State.{is_remembered}
 use Rattle.coap_layer.specs.Words.{Awaited}
-use Rattle.coap_layer.specs.declared.content.TheConstants.{MAX_MESSAGE_LEN as max_message_len}
+use Rattle.coap_types.specs.declared.limits.TheConstants.{MAX_MESSAGE_LEN as max_message_len}
 
 -- what the last input found is still there
 abbrev pub IsWithin : Option Mark → ℕ → ℕ → Type 0

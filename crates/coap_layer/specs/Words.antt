@@ -7,11 +7,10 @@ use Rattle.coap_types.specs.declared.message.Kind.{Kind}
 use Rattle.coap_types.specs.declared.message.Kind.TheVariants.{Con, Non}
 use Rattle.coap_types.specs.SameEndpoint.{same_endpoint}
 use Rattle.coap_codec.specs.Message.{Message}
-use Rattle.coap_codec.specs.Writing.{message_bytes}
+use Rattle.coap_codec.specs.Spelling.{message_bytes}
 use Rattle.coap_layer.specs.Ids.{Issued}
 use Rattle.coap_layer.specs.Trace.{Content, with_head, Packet, Call, Receive, Reply, Confirm, Settle, Ticks, Take, Room, AsksFree, Pass, Request, Response, Acked, Reset, Answer, Becomes, Sent, Copied, Expired, Entry}
-use Rattle.coap_types.specs.declared.transmission.TheConstants.{EXCHANGE_LIFETIME_MS as exchange_lifetime, ACK_TIMEOUT_MS as ack_timeout}
-use Rattle.coap_layer.specs.declared.sending.TheConstants.{TIMEOUTS as timeout_values}
+use Rattle.coap_types.specs.declared.transmission.TheConstants.{EXCHANGE_LIFETIME_MS as exchange_lifetime, ACK_TIMEOUT_MS as ack_timeout, TIMEOUT_VALUES as timeout_values}
 
 -- the moment of the newest entry
 abbrev pub clock : List Entry → ℕ

@@ -1,19 +1,14 @@
 ghost use Rattle.std.specs.Prelude.{◌≡◌, ◌≤◌, take, length};
 ghost use Rattle.coap_types.specs.CoapOption.{options_of};
 ghost use Rattle.coap_codec.specs.Message.{message};
-ghost use Rattle.coap_codec.specs.Writing.{message_bytes};
+ghost use Rattle.coap_codec.specs.Spelling.{message_bytes};
 ghost use Rattle.coap_layer.specs.Trace.{with_head};
 ghost use Rattle.coap_layer.specs.Sendable.{IsSendable};
-ghost use Rattle.coap_layer.specs.declared.content.TheConstants.{MAX_MESSAGE_LEN as max_message_len};
+ghost use Rattle.coap_types.specs.declared.limits.TheConstants.{MAX_MESSAGE_LEN as max_message_len};
 
 use coap_codec::{Head, encode, one_spelling};
 use coap_types::{Code, Id, Kind, Opt, Token};
 use std::marker::Model;
-
-/// The most bytes that a message has which is sent (RFC 7252, section 4.6).
-pub const MAX_MESSAGE_LEN: usize = 1_152;
-
-const _: () = prove!(MAX_MESSAGE_LEN == 1_152);
 
 /// What is to be sent: a message but for its type and its Message ID, which the layer gives it
 /// (RFC 7252, section 3).

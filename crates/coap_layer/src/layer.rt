@@ -8,7 +8,7 @@ ghost use Rattle.coap_layer.specs.State.{Step, answer_of, copies, made, start};
 ghost use Rattle.coap_layer.specs.Trace.{Answer, Entry, Receive, Reply, Confirm, Plain, Settle, Ticks, Take, Room as AsksRoom, AsksFree, Pass, Nothing, Is, Idle, Gives};
 ghost use Rattle.coap_layer.specs.Ups.{IsQuiet, IsTick, answer_as, sent_as};
 ghost use Rattle.coap_layer.specs.Words.{handed_by};
-ghost use Rattle.coap_layer.specs.declared.content.TheConstants.{MAX_MESSAGE_LEN as max_message_len};
+ghost use Rattle.coap_types.specs.declared.limits.TheConstants.{MAX_MESSAGE_LEN as max_message_len};
 
 use crate::arriving::{awaiting, hands, judge, keeps, read, sent, told};
 use crate::datagram::push_within;

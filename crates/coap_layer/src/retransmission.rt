@@ -2,8 +2,7 @@ ghost use Rattle.std.specs.Prelude.{◌≡◌, ◌≢◌, true, false, ℕ, List
 ghost use Rattle.std.specs.List.{list_any, filter_map};
 ghost use Rattle.std.specs.Vec.{vec_len, vec_capacity};
 ghost use Rattle.coap_types.specs.SameEndpoint.{same_endpoint};
-ghost use Rattle.coap_types.specs.declared.transmission.TheConstants.{MAX_RETRANSMIT as max_retransmit};
-ghost use Rattle.coap_layer.specs.declared.retransmission.TheConstants.{FAILURE_TIMEOUTS as failure_timeouts};
+ghost use Rattle.coap_types.specs.declared.transmission.TheConstants.{MAX_RETRANSMIT as max_retransmit, FAILURE_TIMEOUTS as failure_timeouts};
 ghost use Rattle.coap_layer.specs.BackOff.{factors};
 ghost use Rattle.coap_layer.specs.Trace.{Idle, Packet, Ticks};
 ghost use Rattle.coap_layer.specs.Words.{left_by};
@@ -13,15 +12,9 @@ ghost use Rattle.coap_layer.specs.Sendings.{answer_for, ended, marked, open_now}
 ghost use Rattle.coap_layer.specs.Ups.{IsTick};
 
 use crate::Tick;
-use coap_types::transmission::{LAST_RETRANSMISSION_MS, MAX_RETRANSMIT};
+use coap_types::transmission::{FAILURE_TIMEOUTS, LAST_RETRANSMISSION_MS, MAX_RETRANSMIT};
 use coap_types::{Endpoint, Id};
 use std::alloc::Allocator;
-
-/// So many initial timeouts pass from the first sending to the failure of the transmission: 1, 2,
-/// 4, 8 and 16 of them (RFC 7252, section 4.2).
-const FAILURE_TIMEOUTS: u64 = (1 << (MAX_RETRANSMIT + 1)) - 1;
-
-const _: () = prove!(FAILURE_TIMEOUTS == 31);
 
 /// A Confirmable message that was sent (RFC 7252, section 4.2).
 #[derive(Drop)]
