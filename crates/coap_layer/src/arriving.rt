@@ -21,7 +21,7 @@ use coap_codec::{Fault, View, decode};
 use coap_types::{Code, Endpoint, Id, Kind, Role};
 use std::alloc::{AllocError, Allocator};
 
-/// The first byte of a Reset: version 1, type 3, no token (RFC 7252, section 3).
+// The first byte of a Reset: version 1, type 3, no token (RFC 7252, section 3).
 const RESET: u8 = 0x70;
 
 /// A datagram that arrived: its type and Message ID, and what becomes of it.
@@ -40,7 +40,7 @@ pub(crate) fn read(bytes: &[u8]) -> Result<View<'_>, Fault>
     decode(bytes)
 }
 
-/// What becomes of a datagram that spells no message.
+// What becomes of a datagram that spells no message.
 fn of_fault(fault: &Fault) -> Arriving
     ensures { result ≡ of_head fault.now.head }
 {
@@ -63,7 +63,7 @@ fn of_fault(fault: &Fault) -> Arriving
     }
 }
 
-/// What becomes of a message.
+// What becomes of a message.
 fn of_message<A: Allocator + Copy>(
     message: &View<'_>,
     at: u64,
@@ -124,7 +124,7 @@ pub(crate) fn told<'d>(read: Result<View<'d>, Fault>, verdict: Verdict) -> Up<'d
     }
 }
 
-/// A Reset (RFC 7252, section 4.2).
+// A Reset (RFC 7252, section 4.2).
 fn reset<A: Allocator + Copy>(alloc: A, to: Endpoint, id: Id) -> Result<Datagram<A>, AllocError>
     ensures { IfOk result (λ d. d ≡ reset_to to id.0) }
 {
@@ -157,7 +157,7 @@ pub(crate) fn sent<A: Allocator + Copy>(
     }
 }
 
-/// Whether a retransmission ends.
+// Whether a retransmission ends.
 fn ends(verdict: Verdict) -> bool
     ensures { result ≡ ends_lem verdict }
 {

@@ -28,14 +28,14 @@ pub(crate) struct Remembered<A: Allocator + Copy> {
     pub(crate) reply: Option<Vec<u8, A>>,
 }
 
-/// Whether it is still remembered.
+// Whether it is still remembered.
 fn is_live<A: Allocator + Copy>(e: &Remembered<A>, now: u64) -> bool
     ensures { result ≡ is_live now (arrived_as e.now) }
 {
     now.saturating_sub(e.at) <= EXCHANGE_LIFETIME_MS
 }
 
-/// Whether it is still remembered, and came from there with this Message ID.
+// Whether it is still remembered, and came from there with this Message ID.
 fn is_of<A: Allocator + Copy>(e: &Remembered<A>, now: u64, from: Endpoint, id: Id) -> bool
     ensures { result ≡ is_of now from id.0 (arrived_as e.now) }
 {
@@ -98,7 +98,7 @@ pub(crate) fn remember<A: Allocator + Copy>(
     let _ = entries.push(entry);
 }
 
-/// The reply as it is stored: that to a Confirmable message is.
+// The reply as it is stored: that to a Confirmable message is.
 fn stored<A: Allocator + Copy>(con: bool, reply: Vec<u8, A>) -> Option<Vec<u8, A>>
     ensures { option_map (λ v. v.items) result ≡ (if con then Some reply.items else None) }
 {

@@ -34,14 +34,14 @@ pub(crate) fn refusal(busy: bool, free: bool) -> Option<SendRefusal>
     None
 }
 
-/// The initial timeout that the word picks, in milliseconds.
+// The initial timeout that the word picks, in milliseconds.
 fn initial_timeout(word: u64) -> u16
     ensures { result ≡ ack_timeout + word % timeout_values }
 {
     (ACK_TIMEOUT_MS + word % TIMEOUT_VALUES) as u16
 }
 
-/// Keeps a Confirmable message that is sent now, for which there is room.
+// Keeps a Confirmable message that is sent now, for which there is room.
 fn keep<A: Allocator + Copy>(lists: &mut Lists<A>, sending: Sending<A>)
     requires { vec_len lists.old.sendings < vec_capacity lists.old.sendings }
     ensures sendings { lists.new.sendings.items ≡ lists.old.sendings.items ++ sending ∷ [] }

@@ -2,6 +2,7 @@
 use Rattle.std.specs.Prelude.{◌≡◌, ℕ, ◌<◌, max, Bool, Option, Some, None, List, slice_get}
 use Rattle.coap_types.specs.declared.message.Id.{Id}
 use Rattle.coap_layer.specs.Ids.{Issued, IdEntry, Next, IsFree, Ids, clock, numbers, upcoming, last_use}
+use Rattle.coap_layer.specs.declared.message_id.TheConstants.{GROUPS as groups}
 
 -- the latest moment, the number that comes next, and when each group was last used
 pub record IdState : Type 0 where
@@ -11,7 +12,7 @@ pub record IdState : Type 0 where
 
 -- each group's last use stands in its place
 abbrev pub AreUses : List Issued → List (Option ℕ) → Type 0
-AreUses past uses = (group : ℕ) → group < 16 → slice_get uses group ≡ Some (last_use past group)
+AreUses past uses = (group : ℕ) → group < groups → slice_get uses group ≡ Some (last_use past group)
 
 pub record Keeps (word : ℕ) (t : List IdEntry) (s : IdState) : Type 0 where
   pub clock : s.clock ≡ clock t
