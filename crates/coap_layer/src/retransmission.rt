@@ -152,8 +152,7 @@ pub(crate) fn is_copy_due<A: Allocator + Copy>(c: &Sending<A>, last: u64, now: u
 {
     let sent = last.saturating_sub(c.first);
     let elapsed = now.saturating_sub(c.first);
-    elapsed <= LAST_RETRANSMISSION_MS
-        && any_falls_due(MAX_RETRANSMIT, c.timeout, sent, elapsed)
+    elapsed <= LAST_RETRANSMISSION_MS && any_falls_due(MAX_RETRANSMIT, c.timeout, sent, elapsed)
 }
 
 /// The step of the message that was sent first of those that have one.
