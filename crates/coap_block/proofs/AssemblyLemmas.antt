@@ -3,7 +3,7 @@ use Rattle.std.proofs.Common.{◌≡◌, ◌∙◌, ℕ, ◌++◌, max, List, le
 use Rattle.coap_block.specs.declared.block.Block.{Block}
 use Rattle.coap_block.specs.declared.block_verdict.BlockVerdict.{BlockVerdict}
 use Rattle.coap_block.specs.declared.assembly_step.Took.{Took}
-use Rattle.coap_block.specs.AssemblyState.{Key, PartialBody, AssemblyState, forgotten, without, joined_before, reached}
+use Rattle.coap_block.specs.AssemblyState.{Key, PartialBody, AssemblyState, forgotten, without_key, joined_before, reached}
 use Rattle.coap_block.specs.AssemblyStep.{ruling, verdict_at, there_at, partials_by, after_block}
 use Rattle.coap_block.specs.AssemblyAnswer.{TakesBlock, took}
 use Rattle.coap_block.specs.AssemblyTrace.{Arrived, AssemblyTrace, Led}
@@ -14,13 +14,13 @@ there_is : (szx clock now : ℕ) (ps : List PartialBody) → there_at (state_of 
 there_is szx clock now ps = forgotten_twice clock (max clock now) (omega arith) ps
 
 pub verdict_is : (szx clock now t : ℕ) (ps : List PartialBody) (key : Key) (b : Block) (len : ℕ) (v : BlockVerdict) → t ≡ max clock now
-    → v ≡ ruling szx (reached key (forgotten t ps)) (length (without key (forgotten t ps))) b len → v ≡ verdict_at (state_of szx clock ps) now key b len
+    → v ≡ ruling szx (reached key (forgotten t ps)) (length (without_key key (forgotten t ps))) b len → v ≡ verdict_at (state_of szx clock ps) now key b len
 verdict_is szx clock now t ps key b len v at is =
     let there : forgotten t ps ≡ there_at (state_of szx clock ps) now = ap (λ (m : ℕ). forgotten m ps) at ∙ sym (there_is szx clock now ps) in
-    is ∙ ap (λ (l : List PartialBody). ruling szx (reached key l) (length (without key l)) b len) there
+    is ∙ ap (λ (l : List PartialBody). ruling szx (reached key l) (length (without_key key l)) b len) there
 
 pub takes_block : {A : Type 0} (szx clock now t : ℕ) (old new : List PartialBody) (key : Key) (b : Block) (payload : List ℕ) (v : BlockVerdict) (answer : Took A)
-    → t ≡ max clock now → v ≡ ruling szx (reached key (forgotten t old)) (length (without key (forgotten t old))) b (length payload)
+    → t ≡ max clock now → v ≡ ruling szx (reached key (forgotten t old)) (length (without_key key (forgotten t old))) b (length payload)
     → answer ≡ took (joined_before key b.num (forgotten t old) ++ payload) b.num v
     → forgotten t new ≡ partials_by v (begun key (joined_before key b.num (forgotten t old) ++ payload) t) (forgotten t old)
     → TakesBlock (state_of szx clock old) now key b payload answer (state_of szx t new)

@@ -4,6 +4,7 @@ use Rattle.coap_block.specs.declared.block.Block.{Block}
 use Rattle.coap_block.specs.declared.fetch_verdict.Verdict.{Verdict}
 use Rattle.coap_block.specs.declared.fetch_verdict.Verdict.TheVariants.{Refuse, Again, Done, Ask}
 use Rattle.coap_block.specs.declared.fetch_step.FetchRefusal.TheVariants.{BadBlock, TooLarge}
+use Rattle.coap_block.specs.Piece.{max_body_len}
 use Rattle.coap_block.specs.Whole.{Part}
 use Rattle.coap_block.specs.FetchStep.{FetchState, start, verdict, after}
 use Rattle.coap_block.specs.Gathered.{Gathered}
@@ -13,7 +14,7 @@ use Rattle.coap_block.proofs.FetchLemmas.{gathered_by_part, whole_by_parts}
 at_start : (szx restarts : ℕ) → Gathered [] (start szx restarts)
 at_start szx restarts = record { bytes = refl; chained = tt; full = tt; awaits = refl }
 
-none_asks : (there big : Bool) (num szx : ℕ) → (if there then Refuse BadBlock else if big then Refuse TooLarge else Done) ≡ Ask num szx → ⊥
+pub none_asks : (there big : Bool) (num szx : ℕ) → (if there then Refuse BadBlock else if big then Refuse TooLarge else Done) ≡ Ask num szx → ⊥
 none_asks true big num szx h = cc
 none_asks false true num szx h = cc
 none_asks false false num szx h = cc
@@ -23,7 +24,7 @@ step : (v : Verdict) (parts : List Part) (s : FetchState) (block : Option Block)
 step (Refuse why) parts s block tag payload g h = g
 step Again parts s block tag payload g h = at_start s.szx (s.restarts + 1)
 step Done parts s block tag payload g h = at_start s.szx 0
-step (Ask num szx) parts s None tag payload g h = absurd (none_asks (is_some s.asked) (nat_lt 65536 (length payload)) num szx h)
+step (Ask num szx) parts s None tag payload g h = absurd (none_asks (is_some s.asked) (nat_lt max_body_len (length payload)) num szx h)
 step (Ask num szx) parts s (Some b) tag payload g h = gathered_by_part parts s b tag payload num szx g h
 
 pub parts_are_gathered : PartsAreGathered

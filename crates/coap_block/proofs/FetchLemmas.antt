@@ -15,6 +15,7 @@ use Rattle.coap_block.specs.Whole.{Part, Each, joined, IsPieceOf, HasTag, Chaine
 use Rattle.coap_block.specs.FetchStep.{FetchState, fits, is_sized, same_tag, differs, verdict, next_num, next_szx}
 use Rattle.coap_block.specs.Gathered.{part, IsFull, Awaits, Gathered, GatheredByPart, WholeByParts}
 use Rattle.coap_block.specs.declared.fetch_progress.Asked.{Asked}
+use Rattle.coap_block.specs.declared.fetch_judging.TheConstants.{MAX_RESTARTS as max_restarts}
 
 -- a full part in front of more bytes is a piece
 pub full_piece : (front bytes rest : List ℕ) (num szx : ℕ) → offset_of num szx ≡ length front → length bytes ≡ size_of szx → 0 < length bytes → 0 < length rest
@@ -78,28 +79,28 @@ one_tag_of t (p ∷ []) e = tt
 one_tag_of t (p ∷ q ∷ ps) e = (t, e)
 
 -- what the tests say of the last part
-done_says : (fit big lacks differ least more : Bool) (num szx : ℕ)
+pub done_says : (fit big lacks differ least more : Bool) (num szx : ℕ)
     → (if not fit then Refuse BadBlock else if big then Refuse TooLarge else if lacks then Refuse NoTag
     else if differ then (if least then Refuse Changed else Again) else if more then Ask num szx else Done) ≡ Done
-    → (fit ≡ true) × (differ ≡ false) × (more ≡ false)
+    → (fit ≡ true) × (differ ≡ false) × (more ≡ false) × (big ≡ false)
 done_says false big lacks differ least more num szx h = absurd cc
 done_says true true lacks differ least more num szx h = absurd cc
 done_says true false true differ least more num szx h = absurd cc
 done_says true false false true true more num szx h = absurd cc
 done_says true false false true false more num szx h = absurd cc
 done_says true false false false least true num szx h = absurd cc
-done_says true false false false least false num szx h = (refl, refl, refl)
+done_says true false false false least false num szx h = (refl, refl, refl, refl)
 
-ask_says : (fit big lacks differ least more : Bool) (num szx num' szx' : ℕ)
+pub ask_says : (fit big lacks differ least more : Bool) (num szx num' szx' : ℕ)
     → (if not fit then Refuse BadBlock else if big then Refuse TooLarge else if lacks then Refuse NoTag
     else if differ then (if least then Refuse Changed else Again) else if more then Ask num szx else Done) ≡ Ask num' szx'
-    → (fit ≡ true) × (lacks ≡ false) × (differ ≡ false) × (more ≡ true) × (num ≡ num') × (szx ≡ szx')
+    → (fit ≡ true) × (lacks ≡ false) × (differ ≡ false) × (more ≡ true) × (num ≡ num') × (szx ≡ szx') × (big ≡ false)
 ask_says false big lacks differ least more num szx num' szx' h = absurd cc
 ask_says true true lacks differ least more num szx num' szx' h = absurd cc
 ask_says true false true differ least more num szx num' szx' h = absurd cc
 ask_says true false false true true more num szx num' szx' h = absurd cc
 ask_says true false false true false more num szx num' szx' h = absurd cc
-ask_says true false false false least true num szx num' szx' h = (refl, refl, refl, refl, cc, cc)
+ask_says true false false false least true num szx num' szx' h = (refl, refl, refl, refl, cc, cc, refl)
 ask_says true false false false least false num szx num' szx' h = absurd cc
 
 pub and_left : (a b : Bool) → (a && b) ≡ true → a ≡ true
@@ -134,7 +135,7 @@ pub same_number : (a b : ℕ) → (a == b) ≡ true → a ≡ b
 same_number a b h = grind (arith, nat_tests)
 
 -- where a part that fits begins, and that it has the tag
-begins_at : (asked : Option Asked) (old tag : Option (List ℕ)) (parts : List Part) (num szx : ℕ) → Awaits asked old parts
+pub begins_at : (asked : Option Asked) (old tag : Option (List ℕ)) (parts : List Part) (num szx : ℕ) → Awaits asked old parts
     → fits asked num szx ≡ true → offset_of num szx ≡ length (joined parts)
 begins_at None old tag parts num szx w f =
     let z = is_zero num f in
@@ -203,7 +204,7 @@ whole_by_blocks : (parts : List Part) (s : FetchState) (b : Block) (tag : Option
 whole_by_blocks parts s b tag payload g h =
     let says = done_says (fits s.asked b.num b.szx && is_sized b.more b.num b.szx (length payload))
     (nat_lt max_body_len (offset_of b.num b.szx + length payload)) ((b.more || nat_lt 0 b.num) && not (is_some tag))
-    (differs s tag) (nat_le 3 s.restarts) b.more (next_num s b) (next_szx s b) h in
+    (differs s tag) (nat_le max_restarts s.restarts) b.more (next_num s b) (next_szx s b) h in
     let fit = and_left (fits s.asked b.num b.szx) (is_sized b.more b.num b.szx (length payload)) says.0 in
     let sized = and_right (fits s.asked b.num b.szx) (is_sized b.more b.num b.szx (length payload)) says.0 in
     let sized' : is_sized false b.num b.szx (length payload) ≡ true = subst (λ (m : Bool). is_sized m b.num b.szx (length payload) ≡ true) says.2 sized in
@@ -218,7 +219,7 @@ whole_by_blocks parts s b tag payload g h =
       tags_of s.asked s.tag tag parts b payload g.awaits says.1,
     )
 
-none_is_start : (asked : Option Asked) (tag : Option (List ℕ)) (parts : List Part) (big : Bool) → Awaits asked tag parts
+pub none_is_start : (asked : Option Asked) (tag : Option (List ℕ)) (parts : List Part) (big : Bool) → Awaits asked tag parts
     → (if is_some asked then Refuse BadBlock else if big then Refuse TooLarge else Done) ≡ Done → parts ≡ []
 none_is_start None tag parts big w h = w
 none_is_start (Some asked) tag parts big w h = absurd cc
@@ -242,7 +243,7 @@ pub gathered_by_part : GatheredByPart
 gathered_by_part parts s b tag payload num szx g h =
     let says = ask_says (fits s.asked b.num b.szx && is_sized b.more b.num b.szx (length payload))
     (nat_lt max_body_len (offset_of b.num b.szx + length payload)) ((b.more || nat_lt 0 b.num) && not (is_some tag))
-    (differs s tag) (nat_le 3 s.restarts) b.more (next_num s b) (next_szx s b) num szx h in
+    (differs s tag) (nat_le max_restarts s.restarts) b.more (next_num s b) (next_szx s b) num szx h in
     let fit = and_left (fits s.asked b.num b.szx) (is_sized b.more b.num b.szx (length payload)) says.0 in
     let sized = and_right (fits s.asked b.num b.szx) (is_sized b.more b.num b.szx (length payload)) says.0 in
     let sized' : (length payload == size_of b.szx) ≡ true = subst (λ (m : Bool). is_sized m b.num b.szx (length payload) ≡ true) says.3 sized in

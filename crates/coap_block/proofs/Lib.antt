@@ -1,6 +1,7 @@
 pub mod WholeLemmas
 pub mod FetchLemmas
 pub mod FetchHistory
+pub mod FetchShort
 pub mod UploadLemmas
 pub mod KeyLemmas
 pub mod KeptLemmas
@@ -9,3 +10,4 @@ pub mod AssemblyLemmas
 pub mod DistinctLemmas
 pub mod JoinedLemmas
 pub mod AssemblyHistory
+pub mod PartialTimes

@@ -16,8 +16,8 @@ key_of k = record { from = k.from; path = k.path; method = k.method }
 abbrev pub body_of : {A : Type 0} → Partial A → PartialBody
 body_of p = record { key = key_of p.key; bytes = p.bytes.items; last = p.last.0 }
 
-abbrev pub kept : {A : Type 0} → List (Partial A) → List PartialBody
-kept {A} ps = map (λ (p : Partial A). body_of p) ps
+abbrev pub partials_of : {A : Type 0} → List (Partial A) → List PartialBody
+partials_of {A} ps = map (λ (p : Partial A). body_of p) ps
 
 -- it is the partial body of that key, and there
 abbrev pub is_there : Key → ℕ → PartialBody → Bool

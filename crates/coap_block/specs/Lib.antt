@@ -13,3 +13,4 @@ pub mod AssemblyStep
 pub mod AssemblyAnswer
 pub mod AssemblyKept
 pub mod AssemblyTrace
+pub mod PartialTimes

@@ -3,7 +3,7 @@ ghost use Rattle.coap_block.specs.AssemblyState.{nothing_yet, forgotten, joined_
 ghost use Rattle.coap_block.specs.AssemblyStep.{partials_by, verdict_at};
 ghost use Rattle.coap_block.specs.AssemblyAnswer.{IsRefused, TakesBlock, took};
 ghost use Rattle.coap_block.specs.AssemblyTrace.{Arrived, AssemblyTrace, Led, Made};
-ghost use Rattle.coap_block.specs.AssemblyKept.{begun, kept, key_of, restored, IsUndoable};
+ghost use Rattle.coap_block.specs.AssemblyKept.{begun, partials_of, key_of, restored, IsUndoable};
 
 use crate::assembly_judging::judge;
 use crate::assembly_step::{AssemblyRefusal, Took};
@@ -29,11 +29,11 @@ pub struct Assembly<A: Allocator = Global> {
 }
 
 impl<A: Allocator> Model for Assembly<A> {
-    ghost use Rattle.coap_block.specs.AssemblyKept.{AssemblyValue, before_of, kept, state_of, IsUndoableBefore};
+    ghost use Rattle.coap_block.specs.AssemblyKept.{AssemblyValue, before_of, partials_of, state_of, IsUndoableBefore};
 
     ghost Value = { AssemblyValue };
 
-    ghost view = { λ a. record { state = state_of a.szx a.clock.0 (kept a.partials.items); before = before_of a.szx (kept a.partials.items) a.before } };
+    ghost view = { λ a. record { state = state_of a.szx a.clock.0 (partials_of a.partials.items); before = before_of a.szx (partials_of a.partials.items) a.before } };
 
     ghost invariant = { λ a. IsUndoableBefore a.before a.partials };
 }
@@ -114,12 +114,12 @@ fn act<A: Allocator + Copy>(
     verdict: BlockVerdict,
 ) -> Result<(Took<A>, Change<A>), AllocError>
     requires { was.0 ≤ now.0 }
-    ensures answer { IfOk result (λ r. r.0 ≡ took (joined_before (key_of key.now) num (forgotten now.0 (kept partials.old.items)) ++ payload.now) num verdict) }
-    ensures left { OnOk result (forgotten now.0 (kept partials.new.items) ≡ partials_by verdict
-        (begun (key_of key.now) (joined_before (key_of key.now) num (forgotten now.0 (kept partials.old.items)) ++ payload.now) now.0) (forgotten now.0 (kept partials.old.items))) }
-    ensures back { IfOk result (λ r. forgotten was.0 (restored r.1 (kept partials.new.items)) ≡ forgotten was.0 (kept partials.old.items)) }
+    ensures answer { IfOk result (λ r. r.0 ≡ took (joined_before (key_of key.now) num (forgotten now.0 (partials_of partials.old.items)) ++ payload.now) num verdict) }
+    ensures left { OnOk result (forgotten now.0 (partials_of partials.new.items) ≡ partials_by verdict
+        (begun (key_of key.now) (joined_before (key_of key.now) num (forgotten now.0 (partials_of partials.old.items)) ++ payload.now) now.0) (forgotten now.0 (partials_of partials.old.items))) }
+    ensures back { IfOk result (λ r. forgotten was.0 (restored r.1 (partials_of partials.new.items)) ≡ forgotten was.0 (partials_of partials.old.items)) }
     ensures undoable { IfOk result (λ r. IsUndoable r.1 partials.new) }
-    ensures err { OnErr result (kept partials.new.items ≡ kept partials.old.items) }
+    ensures err { OnErr result (partials_of partials.new.items ≡ partials_of partials.old.items) }
     ensures len { OnErr result (vec_len partials.new ≡ vec_len partials.old) }
     ensures room { OnErr result (vec_capacity partials.old ≤ vec_capacity partials.new) }
     ensures quiet { IsRefused verdict → IsOk result }

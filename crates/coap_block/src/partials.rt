@@ -1,8 +1,8 @@
 ghost use Rattle.std.specs.Prelude.{◌≡◌, ◌<◌, ◌≤◌, ◌++◌, ◌∷◌, [], filter, length, option_copied, set, IfOk, IfSome, IfNone, OnOk, OnErr, vec_len, vec_capacity};
 ghost use Rattle.std.specs.List.{insert, remove};
 ghost use Rattle.std.specs.Option.{option_map};
-ghost use Rattle.coap_block.specs.AssemblyState.{forgotten, is_live, joined_before, partial_of, put, reached, without};
-ghost use Rattle.coap_block.specs.AssemblyKept.{begun, body_of, changed_at, grown, kept, key_of, place_of, restored, IsUndoable};
+ghost use Rattle.coap_block.specs.AssemblyState.{forgotten, is_live, joined_before, partial_of, put, reached, without_key};
+ghost use Rattle.coap_block.specs.AssemblyKept.{begun, body_of, changed_at, grown, partials_of, key_of, place_of, restored, IsUndoable};
 
 use crate::assembly_undo::Change;
 use crate::body::joined;
@@ -19,7 +19,7 @@ pub(crate) fn find<'a, A: Allocator + Copy>(
     key: &UploadKey<A>,
     now: Moment,
 ) -> Option<&'a Partial<A>>
-    ensures { option_map body_of (option_copied result) ≡ partial_of (key_of key.now) (forgotten now.0 (kept partials.now)) }
+    ensures { option_map body_of (option_copied result) ≡ partial_of (key_of key.now) (forgotten now.0 (partials_of partials.now)) }
 {
     match partials {
         [] => None,
@@ -34,7 +34,7 @@ fn place_of<A: Allocator + Copy>(
     key: &UploadKey<A>,
     now: Moment,
 ) -> Option<usize>
-    ensures place { result ≡ place_of (key_of key.now) now.0 (kept partials.now) }
+    ensures place { result ≡ place_of (key_of key.now) now.0 (partials_of partials.now) }
     ensures within { IfSome result (λ i. i < length partials.now) }
 {
     match partials {
@@ -60,8 +60,8 @@ pub(crate) fn counts<A: Allocator + Copy>(
     key: &UploadKey<A>,
     now: Moment,
 ) -> (Option<usize>, usize)
-    ensures reached { result.0 ≡ reached (key_of key.now) (forgotten now.0 (kept partials.now)) }
-    ensures others { result.1 ≡ length (without (key_of key.now) (forgotten now.0 (kept partials.now))) }
+    ensures reached { result.0 ≡ reached (key_of key.now) (forgotten now.0 (partials_of partials.now)) }
+    ensures others { result.1 ≡ length (without_key (key_of key.now) (forgotten now.0 (partials_of partials.now))) }
 {
     let live = live(partials, now);
     match find(partials, key, now) {
@@ -76,8 +76,8 @@ pub(crate) fn take_out<A: Allocator + Copy>(
     key: &UploadKey<A>,
     now: Moment,
 ) -> Change<A>
-    ensures left { forgotten now.0 (kept partials.new.items) ≡ without (key_of key.now) (forgotten now.0 (kept partials.old.items)) }
-    ensures back { restored result (kept partials.new.items) ≡ kept partials.old.items }
+    ensures left { forgotten now.0 (partials_of partials.new.items) ≡ without_key (key_of key.now) (forgotten now.0 (partials_of partials.old.items)) }
+    ensures back { restored result (partials_of partials.new.items) ≡ partials_of partials.old.items }
     ensures undoable { IsUndoable result partials.new }
 {
     match place_of(partials, key, now) {
@@ -111,10 +111,10 @@ fn grow<A: Allocator + Copy>(
     now: Moment,
 ) -> Result<Change<A>, AllocError>
     requires { i < length partials.old.items }
-    ensures ok { OnOk result (kept partials.new.items ≡ changed_at (grown payload.now now.0) i (kept partials.old.items)) }
-    ensures back { IfOk result (λ change. restored change (kept partials.new.items) ≡ kept partials.old.items) }
+    ensures ok { OnOk result (partials_of partials.new.items ≡ changed_at (grown payload.now now.0) i (partials_of partials.old.items)) }
+    ensures back { IfOk result (λ change. restored change (partials_of partials.new.items) ≡ partials_of partials.old.items) }
     ensures undoable { IfOk result (λ change. IsUndoable change partials.new) }
-    ensures err { OnErr result (kept partials.new.items ≡ kept partials.old.items) }
+    ensures err { OnErr result (partials_of partials.new.items ≡ partials_of partials.old.items) }
     ensures len { vec_len partials.new ≡ vec_len partials.old }
     ensures room { vec_capacity partials.new ≡ vec_capacity partials.old }
 {
@@ -133,8 +133,8 @@ fn replace<A: Allocator + Copy>(
     now: Moment,
 ) -> Result<Change<A>, AllocError>
     requires { i < length partials.old.items }
-    ensures ok { OnOk result (kept partials.new.items ≡ set (kept partials.old.items) i (begun (key_of key.now) payload.now now.0)) }
-    ensures back { IfOk result (λ change. restored change (kept partials.new.items) ≡ kept partials.old.items) }
+    ensures ok { OnOk result (partials_of partials.new.items ≡ set (partials_of partials.old.items) i (begun (key_of key.now) payload.now now.0)) }
+    ensures back { IfOk result (λ change. restored change (partials_of partials.new.items) ≡ partials_of partials.old.items) }
     ensures undoable { IfOk result (λ change. IsUndoable change partials.new) }
     ensures err { OnErr result (partials.new ≡ partials.old) }
 {
@@ -152,8 +152,8 @@ fn begin<A: Allocator + Copy>(
     payload: &[u8],
     now: Moment,
 ) -> Result<Change<A>, AllocError>
-    ensures ok { OnOk result (kept partials.new.items ≡ forgotten was.0 (kept partials.old.items) ++ begun (key_of key.now) payload.now now.0 ∷ []) }
-    ensures back { IfOk result (λ change. restored change (kept partials.new.items) ≡ forgotten was.0 (kept partials.old.items)) }
+    ensures ok { OnOk result (partials_of partials.new.items ≡ forgotten was.0 (partials_of partials.old.items) ++ begun (key_of key.now) payload.now now.0 ∷ []) }
+    ensures back { IfOk result (λ change. restored change (partials_of partials.new.items) ≡ forgotten was.0 (partials_of partials.old.items)) }
     ensures undoable { IfOk result (λ change. IsUndoable change partials.new) }
     ensures err { OnErr result (partials.new.items ≡ partials.old.items) }
     ensures len { OnErr result (vec_len partials.new ≡ vec_len partials.old) }
@@ -176,11 +176,11 @@ pub(crate) fn join<A: Allocator + Copy>(
     payload: &[u8],
 ) -> Result<Change<A>, AllocError>
     requires { was.0 ≤ now.0 }
-    ensures ok { OnOk result (forgotten now.0 (kept partials.new.items)
-        ≡ put (begun (key_of key.now) (joined_before (key_of key.now) num (forgotten now.0 (kept partials.old.items)) ++ payload.now) now.0) (forgotten now.0 (kept partials.old.items))) }
-    ensures back { IfOk result (λ change. forgotten was.0 (restored change (kept partials.new.items)) ≡ forgotten was.0 (kept partials.old.items)) }
+    ensures ok { OnOk result (forgotten now.0 (partials_of partials.new.items)
+        ≡ put (begun (key_of key.now) (joined_before (key_of key.now) num (forgotten now.0 (partials_of partials.old.items)) ++ payload.now) now.0) (forgotten now.0 (partials_of partials.old.items))) }
+    ensures back { IfOk result (λ change. forgotten was.0 (restored change (partials_of partials.new.items)) ≡ forgotten was.0 (partials_of partials.old.items)) }
     ensures undoable { IfOk result (λ change. IsUndoable change partials.new) }
-    ensures err { OnErr result (kept partials.new.items ≡ kept partials.old.items) }
+    ensures err { OnErr result (partials_of partials.new.items ≡ partials_of partials.old.items) }
     ensures len { OnErr result (vec_len partials.new ≡ vec_len partials.old) }
     ensures room { OnErr result (vec_capacity partials.old ≤ vec_capacity partials.new) }
 {
@@ -200,7 +200,7 @@ pub(crate) fn whole<A: Allocator + Copy>(
     num: u32,
     payload: &[u8],
 ) -> Result<Bytes<A>, AllocError>
-    ensures { IfOk result (λ whole. whole ≡ joined_before (key_of key.now) num (forgotten now.0 (kept partials.now)) ++ payload.now) }
+    ensures { IfOk result (λ whole. whole ≡ joined_before (key_of key.now) num (forgotten now.0 (partials_of partials.now)) ++ payload.now) }
 {
     match find(partials, key, now) {
         Some(partial) if num > 0 => joined(alloc, &partial.bytes, payload),
@@ -211,7 +211,7 @@ pub(crate) fn whole<A: Allocator + Copy>(
 /// Takes a change back.
 pub(crate) fn restore<A: Allocator + Copy>(partials: &mut Vec<Partial<A>, A>, change: Change<A>)
     requires { IsUndoable change partials.old }
-    ensures { kept partials.new.items ≡ restored change (kept partials.old.items) }
+    ensures { partials_of partials.new.items ≡ restored change (partials_of partials.old.items) }
 {
     match change {
         Change::Clock => {}
