@@ -118,21 +118,24 @@ few_put true new o b ps is found at more some few =
 few_put false new (Some q) b ps is found at more some few = omega (arith, few, as_many new q ps found)
 few_put false new None b ps is found at more some few = absurd cc
 
-module _ (parts : Key → List Part) (s : AssemblyState) (now : ℕ) (key : Key) (b : Block) (payload : List ℕ) (h : Holds parts s) where
+module _ (s : AssemblyState) (now : ℕ) (key : Key) (b : Block) (payload : List ℕ) (few : length s.partials ≤ max_partials) where
   few_by : (v : BlockVerdict) → verdict_at s now key b (length payload) ≡ v → length (partials_by v (new_of s now key b payload) (there_at s now)) ≤ max_partials
-  few_by (Refuse BadRequest) e = let few = h.few in omega (arith, few, fewer_there (moment_at s now) s.partials)
-  few_by (Refuse EntityIncomplete) e = let few = h.few in omega (arith, few, fewer_there (moment_at s now) s.partials)
-  few_by (Refuse EntityTooLarge) e = let few = h.few in omega (arith, few, fewer_there (moment_at s now) s.partials, fewer_out key (there_at s now))
-  few_by (Refuse Unavailable) e = let few = h.few in omega (arith, few, fewer_there (moment_at s now) s.partials)
+  few_by (Refuse BadRequest) e = omega (arith, few, fewer_there (moment_at s now) s.partials)
+  few_by (Refuse EntityIncomplete) e = omega (arith, few, fewer_there (moment_at s now) s.partials)
+  few_by (Refuse EntityTooLarge) e = omega (arith, few, fewer_there (moment_at s now) s.partials, fewer_out key (there_at s now))
+  few_by (Refuse Unavailable) e = omega (arith, few, fewer_there (moment_at s now) s.partials)
   few_by (Join szx) e =
       let says = join_says (fills b.more b.szx (length payload)) (goes_on (reached_of (partial_of key (there_at s now))) b.num b.szx)
       (nat_lt max_body_len (offset_of b.num b.szx + length payload)) (b.more && (b.num == 0) && nat_le max_partials (length (without_key key (there_at s now)))) b.more
       (answered_szx s.szx b) szx e in
-      let few = h.few in
       few_put (b.num == 0) (new_of s now key b payload) (partial_of key (there_at s now)) b (there_at s now) refl refl says.1 says.4 says.3
       (omega (arith, few, fewer_there (moment_at s now) s.partials))
-  few_by Done e = let few = h.few in omega (arith, few, fewer_there (moment_at s now) s.partials, fewer_out key (there_at s now))
+  few_by Done e = omega (arith, few, fewer_there (moment_at s now) s.partials, fewer_out key (there_at s now))
 
+  pub few_after : length (after_block s now key b payload).partials ≤ max_partials
+  few_after = few_by (verdict_at s now key b (length payload)) refl
+
+module _ (parts : Key → List Part) (s : AssemblyState) (now : ℕ) (key : Key) (b : Block) (payload : List ℕ) (h : Holds parts s) where
   joined_after : (v : BlockVerdict) → verdict_at s now key b (length payload) ≡ v → (p : PartialBody)
       → partial_of key (partials_by v (new_of s now key b payload) (there_at s now)) ≡ Some p → JoinedFrom (blocks_by v b payload (parts key)) p
   joined_after (Refuse BadRequest) e p f = still_joined parts s now key h p f
@@ -178,7 +181,7 @@ holds (Arrived earlier now k b payload) =
     let s = state_after earlier in
     record {
       distinct = distinct_by (verdict_at s now k b (length payload)) (new_of s now k b payload) (there_at s now) (distinct_there (moment_at s now) s.partials h.distinct);
-      few = few_by parts s now k b payload h (verdict_at s now k b (length payload)) refl;
+      few = few_after s now k b payload h.few;
       joined = λ key p e. joined_of parts s now k b payload h (same_key k key) key refl p e;
     }
 

@@ -8,6 +8,7 @@ use Rattle.coap_block.specs.declared.partial.Partial.{Partial}
 use Rattle.coap_block.specs.declared.assembly_undo.Change.{Change}
 use Rattle.coap_block.specs.declared.assembly_undo.Change.TheVariants.{Clock, Begun, Replaced, TakenOut, Grown}
 use Rattle.coap_block.specs.declared.assembly_undo.Before.{Before}
+use Rattle.coap_block.specs.declared.assembly_judging.TheConstants.{MAX_PARTIALS as max_partials}
 use Rattle.coap_block.specs.AssemblyState.{Key, PartialBody, AssemblyState, same_key, is_live, forgotten}
 
 abbrev pub key_of : {A : Type 0} → UploadKey A → Key
@@ -69,6 +70,16 @@ before_of szx ps (Some b) = Some (state_of szx b.clock.0 (restored b.change ps))
 abbrev pub IsUndoableBefore : {A : Type 0} → Option (Before A) → Vec (Partial A) A → Type 0
 IsUndoableBefore None v = Unit {0}
 IsUndoableBefore (Some b) v = IsUndoable b.change v
+
+-- As many are there at the clock as a server keeps at most, and one more is kept, which the last input may have found dead, so that
+-- it can be given back.
+pub record AreFew (clock : ℕ) (ps : List PartialBody) : Type 0 where
+  pub there : length (forgotten clock ps) ≤ max_partials
+  pub all : length ps ≤ max_partials + 1
+
+abbrev pub AreFewBefore : {A : Type 0} → List PartialBody → Option (Before A) → Type 0
+AreFewBefore ps None = Unit {0}
+AreFewBefore ps (Some b) = AreFew b.clock.0 (restored b.change ps)
 
 -- what callers see of an assembly
 pub record AssemblyValue : Type 0 where

@@ -1,11 +1,11 @@
-ghost use Rattle.std.specs.Prelude.{◌≡◌, ◌≤◌, ◌++◌, true, None, Some, IfOk, OnOk, OnErr, IsOk, IsSome, length, max, vec_len, vec_capacity};
+ghost use Rattle.std.specs.Prelude.{◌≡◌, ◌≤◌, ◌+◌, ◌++◌, true, None, Some, IfOk, OnOk, OnErr, IsOk, IsSome, length, max, vec_len, vec_capacity};
 ghost use Rattle.coap_block.specs.AssemblyState.{nothing_yet, forgotten, joined_before};
 ghost use Rattle.coap_block.specs.AssemblyStep.{partials_by, verdict_at};
 ghost use Rattle.coap_block.specs.AssemblyAnswer.{IsRefused, TakesBlock, took};
 ghost use Rattle.coap_block.specs.AssemblyTrace.{Arrived, AssemblyTrace, Led, Made};
-ghost use Rattle.coap_block.specs.AssemblyKept.{begun, partials_of, key_of, restored, IsUndoable};
+ghost use Rattle.coap_block.specs.AssemblyKept.{begun, partials_of, key_of, restored, AreFew, IsUndoable};
 
-use crate::assembly_judging::judge;
+use crate::assembly_judging::{MAX_PARTIALS, judge};
 use crate::assembly_step::{AssemblyRefusal, Took};
 use crate::assembly_undo::{Before, Change};
 use crate::block::Block;
@@ -29,13 +29,14 @@ pub struct Assembly<A: Allocator = Global> {
 }
 
 impl<A: Allocator> Model for Assembly<A> {
-    ghost use Rattle.coap_block.specs.AssemblyKept.{AssemblyValue, before_of, partials_of, state_of, IsUndoableBefore};
+    ghost use Rattle.coap_block.specs.AssemblyKept.{AssemblyValue, before_of, partials_of, state_of, AreFew, AreFewBefore, IsUndoableBefore};
 
     ghost Value = { AssemblyValue };
 
     ghost view = { λ a. record { state = state_of a.szx a.clock.0 (partials_of a.partials.items); before = before_of a.szx (partials_of a.partials.items) a.before } };
 
-    ghost invariant = { λ a. IsUndoableBefore a.before a.partials };
+    ghost invariant = { λ a. IsUndoableBefore a.before a.partials
+        × AreFew a.clock.0 (partials_of a.partials.items) × AreFewBefore (partials_of a.partials.items) a.before };
 }
 
 impl<A: Allocator + Copy> Assembly<A> {
@@ -113,12 +114,15 @@ fn act<A: Allocator + Copy>(
     payload: &[u8],
     verdict: BlockVerdict,
 ) -> Result<(Took<A>, Change<A>), AllocError>
-    requires { was.0 ≤ now.0 }
+    requires order { was.0 ≤ now.0 }
+    requires few { AreFew was.0 (partials_of partials.old.items) }
     ensures answer { IfOk result (λ r. r.0 ≡ took (joined_before (key_of key.now) num (forgotten now.0 (partials_of partials.old.items)) ++ payload.now) num verdict) }
     ensures left { OnOk result (forgotten now.0 (partials_of partials.new.items) ≡ partials_by verdict
         (begun (key_of key.now) (joined_before (key_of key.now) num (forgotten now.0 (partials_of partials.old.items)) ++ payload.now) now.0) (forgotten now.0 (partials_of partials.old.items))) }
     ensures back { IfOk result (λ r. forgotten was.0 (restored r.1 (partials_of partials.new.items)) ≡ forgotten was.0 (partials_of partials.old.items)) }
     ensures undoable { IfOk result (λ r. IsUndoable r.1 partials.new) }
+    ensures few { OnOk result (length (partials_of partials.new.items) ≤ MAX_PARTIALS + 1) }
+    ensures few_back { IfOk result (λ r. length (restored r.1 (partials_of partials.new.items)) ≤ MAX_PARTIALS + 1) }
     ensures err { OnErr result (partials_of partials.new.items ≡ partials_of partials.old.items) }
     ensures len { OnErr result (vec_len partials.new ≡ vec_len partials.old) }
     ensures room { OnErr result (vec_capacity partials.old ≤ vec_capacity partials.new) }

@@ -14,7 +14,7 @@ pub const MAX_PARTIALS: usize = 16;
 
 const _: () = prove!(MAX_PARTIALS == 16);
 
-/// A block with more behind it has its full size, the last one is no longer.
+// A block with more behind it has its full size, the last one is no longer.
 fn fills(more: bool, szx: Szx, len: usize) -> bool
     ensures { result ≡ fills more szx len }
 {
@@ -25,14 +25,14 @@ fn fills(more: bool, szx: Szx, len: usize) -> bool
     }
 }
 
-/// Block 0 needs no partial body, another block begins where it ends.
+// Block 0 needs no partial body, another block begins where it ends.
 fn goes_on(reached: Option<usize>, num: u32, szx: Szx) -> bool
     ensures { result ≡ goes_on reached num szx }
 {
     num == 0 || reached == Some(num as usize * szx.size())
 }
 
-/// The size that is answered: at block 0 the smaller of both, then that of the block.
+// The size that is answered: at block 0 the smaller of both, then that of the block.
 fn answered_szx(szx: Szx, block: Block) -> Szx
     ensures { result ≡ answered_szx szx block }
 {

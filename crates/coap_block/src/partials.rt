@@ -1,9 +1,10 @@
-ghost use Rattle.std.specs.Prelude.{◌≡◌, ◌<◌, ◌≤◌, ◌++◌, ◌∷◌, [], filter, length, option_copied, set, IfOk, IfSome, IfNone, OnOk, OnErr, vec_len, vec_capacity};
+ghost use Rattle.std.specs.Prelude.{◌≡◌, ◌<◌, ◌≤◌, ◌+◌, ◌++◌, ◌∷◌, [], filter, length, option_copied, set, IfOk, IfSome, IfNone, OnOk, OnErr, vec_len, vec_capacity};
 ghost use Rattle.std.specs.List.{insert, remove};
 ghost use Rattle.std.specs.Option.{option_map};
 ghost use Rattle.coap_block.specs.AssemblyState.{forgotten, is_live, joined_before, partial_of, put, reached, without_key};
-ghost use Rattle.coap_block.specs.AssemblyKept.{begun, body_of, changed_at, grown, partials_of, key_of, place_of, restored, IsUndoable};
+ghost use Rattle.coap_block.specs.AssemblyKept.{begun, body_of, changed_at, grown, partials_of, key_of, place_of, restored, AreFew, IsUndoable};
 
+use crate::assembly_judging::MAX_PARTIALS;
 use crate::assembly_undo::Change;
 use crate::body::joined;
 use crate::partial::Partial;
@@ -28,7 +29,7 @@ pub(crate) fn find<'a, A: Allocator + Copy>(
     }
 }
 
-/// Its place.
+// Its place.
 fn place_of<A: Allocator + Copy>(
     partials: &[Partial<A>],
     key: &UploadKey<A>,
@@ -44,7 +45,7 @@ fn place_of<A: Allocator + Copy>(
     }
 }
 
-/// How many partial bodies there are.
+// How many partial bodies there are.
 fn live<A: Allocator + Copy>(partials: &[Partial<A>], now: Moment) -> usize
     ensures { result ≡ length (filter (λ p. is_live now.0 (body_of p)) partials.now) }
 {
@@ -79,6 +80,7 @@ pub(crate) fn take_out<A: Allocator + Copy>(
     ensures left { forgotten now.0 (partials_of partials.new.items) ≡ without_key (key_of key.now) (forgotten now.0 (partials_of partials.old.items)) }
     ensures back { restored result (partials_of partials.new.items) ≡ partials_of partials.old.items }
     ensures undoable { IsUndoable result partials.new }
+    ensures fewer { length (partials_of partials.new.items) ≤ length (partials_of partials.old.items) }
 {
     match place_of(partials, key, now) {
         None => Change::Clock,
@@ -86,7 +88,7 @@ pub(crate) fn take_out<A: Allocator + Copy>(
     }
 }
 
-/// Drops those that are no longer there.
+// Drops those that are no longer there.
 fn forget<A: Allocator + Copy>(partials: &mut Vec<Partial<A>, A>, now: Moment)
     ensures left { partials.new.items ≡ filter (λ p. is_live now.0 (body_of p)) partials.old.items }
     ensures len { vec_len partials.new ≤ vec_len partials.old }
@@ -103,7 +105,7 @@ fn push_within<A: Allocator + Copy>(partials: &mut Vec<Partial<A>, A>, partial: 
     let _room_was_reserved = partials.push(partial);
 }
 
-/// Puts a block behind the partial body at a place.
+// Puts a block behind the partial body at a place.
 fn grow<A: Allocator + Copy>(
     partials: &mut Vec<Partial<A>, A>,
     i: usize,
@@ -124,7 +126,7 @@ fn grow<A: Allocator + Copy>(
     Ok(change)
 }
 
-/// Begins anew in place of the partial body at a place.
+// Begins anew in place of the partial body at a place.
 fn replace<A: Allocator + Copy>(
     partials: &mut Vec<Partial<A>, A>,
     i: usize,
@@ -143,8 +145,8 @@ fn replace<A: Allocator + Copy>(
     Ok(Change::Replaced(i, old))
 }
 
-/// Begins behind the others. Those that were no longer there at the moment of the last input are
-/// dropped, so that as many are kept as `undo` may ask for.
+// Begins behind the others. Those that were no longer there at the moment of the last input are
+// dropped, so that as many are kept as `undo` may ask for.
 fn begin<A: Allocator + Copy>(
     partials: &mut Vec<Partial<A>, A>,
     was: Moment,
@@ -175,11 +177,14 @@ pub(crate) fn join<A: Allocator + Copy>(
     num: u32,
     payload: &[u8],
 ) -> Result<Change<A>, AllocError>
-    requires { was.0 ≤ now.0 }
+    requires order { was.0 ≤ now.0 }
+    requires few { AreFew was.0 (partials_of partials.old.items) }
     ensures ok { OnOk result (forgotten now.0 (partials_of partials.new.items)
         ≡ put (begun (key_of key.now) (joined_before (key_of key.now) num (forgotten now.0 (partials_of partials.old.items)) ++ payload.now) now.0) (forgotten now.0 (partials_of partials.old.items))) }
     ensures back { IfOk result (λ change. forgotten was.0 (restored change (partials_of partials.new.items)) ≡ forgotten was.0 (partials_of partials.old.items)) }
     ensures undoable { IfOk result (λ change. IsUndoable change partials.new) }
+    ensures few { OnOk result (length (partials_of partials.new.items) ≤ MAX_PARTIALS + 1) }
+    ensures few_back { IfOk result (λ change. length (restored change (partials_of partials.new.items)) ≤ MAX_PARTIALS + 1) }
     ensures err { OnErr result (partials_of partials.new.items ≡ partials_of partials.old.items) }
     ensures len { OnErr result (vec_len partials.new ≡ vec_len partials.old) }
     ensures room { OnErr result (vec_capacity partials.old ≤ vec_capacity partials.new) }
