@@ -20,6 +20,10 @@ body_of p = record { key = key_of p.key; bytes = p.bytes.items; last = p.last.0 
 abbrev pub partials_of : {A : Type 0} → List (Partial A) → List PartialBody
 partials_of {A} ps = map (λ (p : Partial A). body_of p) ps
 
+-- those that are there at a moment
+abbrev pub there_of : {A : Type 0} → ℕ → List (Partial A) → List PartialBody
+there_of now ps = forgotten now (partials_of ps)
+
 -- it is the partial body of that key, and there
 abbrev pub is_there : Key → ℕ → PartialBody → Bool
 is_there key now p = is_live now p && same_key p.key key
@@ -51,6 +55,9 @@ restored Begun ps = take (length ps - 1) ps
 restored (Replaced i p) ps = set ps i (body_of p)
 restored (TakenOut i p) ps = insert ps i (body_of p)
 restored (Grown i len last) ps = changed_at (cut len last.0) i ps
+
+abbrev pub undone : {A : Type 0} → Change A → List (Partial A) → List PartialBody
+undone change ps = restored change (partials_of ps)
 
 -- the places of a change are there, with room for what was taken out
 abbrev pub IsUndoable : {A : Type 0} → Change A → Vec (Partial A) A → Type 0
@@ -85,3 +92,6 @@ AreFewBefore ps (Some b) = AreFew b.clock.0 (restored b.change ps)
 pub record AssemblyValue : Type 0 where
   pub state : AssemblyState
   pub before : Option AssemblyState
+
+abbrev pub value_of : {A : Type 0} → ℕ → ℕ → List PartialBody → Option (Before A) → AssemblyValue
+value_of szx clock ps before = record { state = state_of szx clock ps; before = before_of szx ps before }

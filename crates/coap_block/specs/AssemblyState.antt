@@ -1,5 +1,5 @@
 -- What a server keeps of uploads in blocks (RFC 7959, section 2.5).
-use Rattle.std.specs.Prelude.{ℕ, Bool, ◌&&◌, ◌-◌, ◌==◌, nat_le, List, [], ◌∷◌, length, filter, find, Option, Some, None, if◌then◌else◌}
+use Rattle.std.specs.Prelude.{ℕ, Bool, ◌&&◌, ◌-◌, ◌==◌, nat_le, List, [], ◌∷◌, ◌++◌, length, filter, find, Option, Some, None, if◌then◌else◌}
 use Rattle.coap_types.specs.declared.endpoint.Endpoint.{Endpoint}
 use Rattle.coap_types.specs.declared.request.Method.{Method}
 use Rattle.coap_types.specs.MethodCode.{method_code}
@@ -65,6 +65,14 @@ bytes_of (Some p) = p.bytes
 
 abbrev pub joined_before : Key → ℕ → List PartialBody → List ℕ
 joined_before key num ps = if num == 0 then [] else bytes_of (partial_of key ps)
+
+-- and with its payload
+abbrev pub with_payload : Key → ℕ → List ℕ → List PartialBody → List ℕ
+with_payload key num payload ps = joined_before key num ps ++ payload
+
+-- the partial body of a key with a block that came then
+abbrev pub body_with : Key → ℕ → List ℕ → ℕ → List PartialBody → PartialBody
+body_with key num payload now ps = record { key = key; bytes = with_payload key num payload ps; last = now }
 
 -- how many bytes there are of that key, if it has a partial body
 abbrev pub reached_of : Option PartialBody → Option ℕ

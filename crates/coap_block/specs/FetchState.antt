@@ -22,6 +22,9 @@ pub record FetchValue : Type 0 where
   pub state : FetchState
   pub before : Option FetchState
 
+abbrev pub value_of : ℕ → List ℕ → Progress → Before → FetchValue
+value_of szx bytes p before = record { state = state_of szx bytes p; before = before_of szx bytes p before }
+
 -- the block that was asked for has a number that can be written
 abbrev pub IsAskable : Option Asked → Type 0
 IsAskable None = Unit {0}
@@ -33,8 +36,13 @@ IsNumberedAsk Again = Unit {0}
 IsNumberedAsk Done = Unit {0}
 IsNumberedAsk (Ask num szx) = num ≤ max_num
 
--- what `undo` puts back is still there
-abbrev pub IsWithin : Before → List ℕ → Type 0
-IsWithin Nothing bytes = Unit {0}
-IsWithin Same bytes = Unit {0}
-IsWithin (Was q) bytes = (q.len ≤ length bytes) × IsAskable q.asked
+-- what was gathered is there
+pub record IsGoing (p : Progress) (bytes : List ℕ) : Type 0 where
+  pub gathered : p.len ≤ length bytes
+  pub askable : IsAskable p.asked
+
+-- also what `undo` puts back
+abbrev pub IsGoingBefore : Before → List ℕ → Type 0
+IsGoingBefore Nothing bytes = Unit {0}
+IsGoingBefore Same bytes = Unit {0}
+IsGoingBefore (Was q) bytes = IsGoing q bytes

@@ -26,14 +26,13 @@ pub struct Fetch<A: Allocator = Global> {
 }
 
 impl<A: Allocator> Model for Fetch<A> {
-    ghost use Rattle.std.specs.Prelude.{◌≤◌, length};
-    ghost use Rattle.coap_block.specs.FetchState.{FetchValue, state_of, before_of, IsAskable, IsWithin};
+    ghost use Rattle.coap_block.specs.FetchState.{FetchValue, value_of, IsGoing, IsGoingBefore};
 
     ghost Value = { FetchValue };
 
-    ghost view = { λ f. record { state = state_of f.szx f.bytes.items f.progress; before = before_of f.szx f.bytes.items f.progress f.before } };
+    ghost view = { λ f. value_of f.szx f.bytes.items f.progress f.before };
 
-    ghost invariant = { λ f. (f.progress.len ≤ length f.bytes.items) × IsAskable f.progress.asked × IsWithin f.before f.bytes.items };
+    ghost invariant = { λ f. IsGoing f.progress f.bytes.items × IsGoingBefore f.before f.bytes.items };
 }
 
 impl<A: Allocator + Copy> Fetch<A> {
@@ -78,7 +77,8 @@ impl<A: Allocator + Copy> Fetch<A> {
         payload: &[u8],
     ) -> Result<Step<A>, AllocError>
         ensures step { IfOk result (λ answer. Takes self.old.state block tag payload.now answer self.new.state) }
-        ensures led { OnOk result ((t : FetchTrace) → Led t self.old.state → Led (Took t block tag payload.now) self.new.state) }
+        ensures led { OnOk result ((t : FetchTrace) → Led t self.old.state
+            → Led (Took t block tag payload.now) self.new.state) }
         ensures before { OnOk result (self.new.before ≡ Some self.old.state) }
         ensures err { OnErr result (self.new ≡ self.old) }
         ensures numbered { IfOk result IsNumbered }

@@ -59,7 +59,8 @@ impl Progress {
     pub(crate) fn go_on(&mut self, len: usize, asked: Asked, tag: Option<Tag>) -> Progress
         requires { self.old.len + len ≤ 18446744073709551615 }
         ensures was { result ≡ self.old }
-        ensures next { self.new ≡ record { len = self.old.len + len; asked = Some asked; tag = tag; restarts = self.old.restarts } }
+        ensures next { self.new
+            ≡ record { len = self.old.len + len; asked = Some asked; tag = tag; restarts = self.old.restarts } }
     {
         let next = Progress {
             len: self.len + len,

@@ -1,8 +1,8 @@
 ghost use Rattle.std.specs.Prelude.{◌≡◌, ◌<◌, ◌≤◌, ◌+◌, ◌++◌, ◌∷◌, [], filter, length, option_copied, set, IfOk, IfSome, IfNone, OnOk, OnErr, vec_len, vec_capacity};
 ghost use Rattle.std.specs.List.{insert, remove};
 ghost use Rattle.std.specs.Option.{option_map};
-ghost use Rattle.coap_block.specs.AssemblyState.{forgotten, is_live, joined_before, partial_of, put, reached, without_key};
-ghost use Rattle.coap_block.specs.AssemblyKept.{begun, body_of, changed_at, grown, partials_of, key_of, place_of, restored, AreFew, IsUndoable};
+ghost use Rattle.coap_block.specs.AssemblyState.{body_with, forgotten, is_live, partial_of, put, reached, with_payload, without_key};
+ghost use Rattle.coap_block.specs.AssemblyKept.{begun, body_of, changed_at, grown, partials_of, key_of, place_of, there_of, undone, AreFew, IsUndoable};
 
 use crate::assembly_judging::MAX_PARTIALS;
 use crate::assembly_undo::Change;
@@ -20,7 +20,7 @@ pub(crate) fn find<'a, A: Allocator + Copy>(
     key: &UploadKey<A>,
     now: Moment,
 ) -> Option<&'a Partial<A>>
-    ensures { option_map body_of (option_copied result) ≡ partial_of (key_of key.now) (forgotten now.0 (partials_of partials.now)) }
+    ensures { option_map body_of (option_copied result) ≡ partial_of (key_of key.now) (there_of now.0 partials.now) }
 {
     match partials {
         [] => None,
@@ -61,8 +61,8 @@ pub(crate) fn counts<A: Allocator + Copy>(
     key: &UploadKey<A>,
     now: Moment,
 ) -> (Option<usize>, usize)
-    ensures reached { result.0 ≡ reached (key_of key.now) (forgotten now.0 (partials_of partials.now)) }
-    ensures others { result.1 ≡ length (without_key (key_of key.now) (forgotten now.0 (partials_of partials.now))) }
+    ensures reached { result.0 ≡ reached (key_of key.now) (there_of now.0 partials.now) }
+    ensures others { result.1 ≡ length (without_key (key_of key.now) (there_of now.0 partials.now)) }
 {
     let live = live(partials, now);
     match find(partials, key, now) {
@@ -77,8 +77,9 @@ pub(crate) fn take_out<A: Allocator + Copy>(
     key: &UploadKey<A>,
     now: Moment,
 ) -> Change<A>
-    ensures left { forgotten now.0 (partials_of partials.new.items) ≡ without_key (key_of key.now) (forgotten now.0 (partials_of partials.old.items)) }
-    ensures back { restored result (partials_of partials.new.items) ≡ partials_of partials.old.items }
+    ensures left { there_of now.0 partials.new.items
+        ≡ without_key (key_of key.now) (there_of now.0 partials.old.items) }
+    ensures back { undone result partials.new.items ≡ partials_of partials.old.items }
     ensures undoable { IsUndoable result partials.new }
     ensures fewer { length (partials_of partials.new.items) ≤ length (partials_of partials.old.items) }
 {
@@ -113,8 +114,9 @@ fn grow<A: Allocator + Copy>(
     now: Moment,
 ) -> Result<Change<A>, AllocError>
     requires { i < length partials.old.items }
-    ensures ok { OnOk result (partials_of partials.new.items ≡ changed_at (grown payload.now now.0) i (partials_of partials.old.items)) }
-    ensures back { IfOk result (λ change. restored change (partials_of partials.new.items) ≡ partials_of partials.old.items) }
+    ensures ok { OnOk result (partials_of partials.new.items
+        ≡ changed_at (grown payload.now now.0) i (partials_of partials.old.items)) }
+    ensures back { IfOk result (λ change. undone change partials.new.items ≡ partials_of partials.old.items) }
     ensures undoable { IfOk result (λ change. IsUndoable change partials.new) }
     ensures err { OnErr result (partials_of partials.new.items ≡ partials_of partials.old.items) }
     ensures len { vec_len partials.new ≡ vec_len partials.old }
@@ -135,8 +137,9 @@ fn replace<A: Allocator + Copy>(
     now: Moment,
 ) -> Result<Change<A>, AllocError>
     requires { i < length partials.old.items }
-    ensures ok { OnOk result (partials_of partials.new.items ≡ set (partials_of partials.old.items) i (begun (key_of key.now) payload.now now.0)) }
-    ensures back { IfOk result (λ change. restored change (partials_of partials.new.items) ≡ partials_of partials.old.items) }
+    ensures ok { OnOk result (partials_of partials.new.items
+        ≡ set (partials_of partials.old.items) i (begun (key_of key.now) payload.now now.0)) }
+    ensures back { IfOk result (λ change. undone change partials.new.items ≡ partials_of partials.old.items) }
     ensures undoable { IfOk result (λ change. IsUndoable change partials.new) }
     ensures err { OnErr result (partials.new ≡ partials.old) }
 {
@@ -154,8 +157,9 @@ fn begin<A: Allocator + Copy>(
     payload: &[u8],
     now: Moment,
 ) -> Result<Change<A>, AllocError>
-    ensures ok { OnOk result (partials_of partials.new.items ≡ forgotten was.0 (partials_of partials.old.items) ++ begun (key_of key.now) payload.now now.0 ∷ []) }
-    ensures back { IfOk result (λ change. restored change (partials_of partials.new.items) ≡ forgotten was.0 (partials_of partials.old.items)) }
+    ensures ok { OnOk result (partials_of partials.new.items
+        ≡ there_of was.0 partials.old.items ++ begun (key_of key.now) payload.now now.0 ∷ []) }
+    ensures back { IfOk result (λ change. undone change partials.new.items ≡ there_of was.0 partials.old.items) }
     ensures undoable { IfOk result (λ change. IsUndoable change partials.new) }
     ensures err { OnErr result (partials.new.items ≡ partials.old.items) }
     ensures len { OnErr result (vec_len partials.new ≡ vec_len partials.old) }
@@ -179,12 +183,14 @@ pub(crate) fn join<A: Allocator + Copy>(
 ) -> Result<Change<A>, AllocError>
     requires order { was.0 ≤ now.0 }
     requires few { AreFew was.0 (partials_of partials.old.items) }
-    ensures ok { OnOk result (forgotten now.0 (partials_of partials.new.items)
-        ≡ put (begun (key_of key.now) (joined_before (key_of key.now) num (forgotten now.0 (partials_of partials.old.items)) ++ payload.now) now.0) (forgotten now.0 (partials_of partials.old.items))) }
-    ensures back { IfOk result (λ change. forgotten was.0 (restored change (partials_of partials.new.items)) ≡ forgotten was.0 (partials_of partials.old.items)) }
+    ensures ok { OnOk result (there_of now.0 partials.new.items
+        ≡ put (body_with (key_of key.now) num payload.now now.0 (there_of now.0 partials.old.items))
+            (there_of now.0 partials.old.items)) }
+    ensures back { IfOk result (λ change.
+        forgotten was.0 (undone change partials.new.items) ≡ there_of was.0 partials.old.items) }
     ensures undoable { IfOk result (λ change. IsUndoable change partials.new) }
     ensures few { OnOk result (length (partials_of partials.new.items) ≤ MAX_PARTIALS + 1) }
-    ensures few_back { IfOk result (λ change. length (restored change (partials_of partials.new.items)) ≤ MAX_PARTIALS + 1) }
+    ensures few_back { IfOk result (λ change. length (undone change partials.new.items) ≤ MAX_PARTIALS + 1) }
     ensures err { OnErr result (partials_of partials.new.items ≡ partials_of partials.old.items) }
     ensures len { OnErr result (vec_len partials.new ≡ vec_len partials.old) }
     ensures room { OnErr result (vec_capacity partials.old ≤ vec_capacity partials.new) }
@@ -205,7 +211,8 @@ pub(crate) fn whole<A: Allocator + Copy>(
     num: u32,
     payload: &[u8],
 ) -> Result<Bytes<A>, AllocError>
-    ensures { IfOk result (λ whole. whole ≡ joined_before (key_of key.now) num (forgotten now.0 (partials_of partials.now)) ++ payload.now) }
+    ensures { IfOk result (λ whole.
+        whole ≡ with_payload (key_of key.now) num payload.now (there_of now.0 partials.now)) }
 {
     match find(partials, key, now) {
         Some(partial) if num > 0 => joined(alloc, &partial.bytes, payload),
@@ -216,7 +223,7 @@ pub(crate) fn whole<A: Allocator + Copy>(
 /// Takes a change back.
 pub(crate) fn restore<A: Allocator + Copy>(partials: &mut Vec<Partial<A>, A>, change: Change<A>)
     requires { IsUndoable change partials.old }
-    ensures { partials_of partials.new.items ≡ restored change (partials_of partials.old.items) }
+    ensures { partials_of partials.new.items ≡ undone change partials.old.items }
 {
     match change {
         Change::Clock => {}
