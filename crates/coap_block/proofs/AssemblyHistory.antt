@@ -1,12 +1,12 @@
 -- The partial bodies of an assembly's history are the blocks that were taken for their keys.
 use Rattle.std.proofs.Common.{◌≡◌, ◌≢◌, ◌∙◌, ℕ, Bool, true, false, not, ◌&&◌, ◌||◌, ◌==◌, nat_lt, nat_le, ◌+◌, ◌<◌, ◌≤◌, ◌++◌, List, [], ◌∷◌, length, Option, Some, None, if◌then◌else◌, refl, sym, subst, arith}
 use Rattle.std.proofs.lemmas.Bool.Decides.{nat_tests}
-use Rattle.coap_block.specs.declared.block.Block.{Block}
+use Rattle.coap_types.specs.declared.block.Block.{Block}
 use Rattle.coap_block.specs.declared.block_verdict.BlockVerdict.{BlockVerdict}
 use Rattle.coap_block.specs.declared.block_verdict.BlockVerdict.TheVariants.{Refuse, Join, Done}
 use Rattle.coap_block.specs.declared.assembly_step.AssemblyRefusal.TheVariants.{BadRequest, EntityIncomplete, EntityTooLarge, Unavailable}
 use Rattle.coap_block.specs.declared.assembly_judging.TheConstants.{MAX_PARTIALS as max_partials}
-use Rattle.coap_block.specs.Piece.{size_of, offset_of, max_body_len}
+use Rattle.coap_types.specs.Piece.{size_of, offset_of, max_body_len}
 use Rattle.coap_block.specs.Whole.{Part}
 use Rattle.coap_block.specs.Gathered.{part}
 use Rattle.coap_block.specs.AssemblyState.{Key, PartialBody, AssemblyState, same_key, partial_of, without_key, put, bytes_of, reached_of}

@@ -1,6 +1,6 @@
 -- A step over the fields of an assembly is one of its state.
 use Rattle.std.proofs.Common.{◌≡◌, ◌∙◌, ℕ, ◌++◌, max, List, length, ap, sym, subst, ◌≤◌, ◌+◌, arith}
-use Rattle.coap_block.specs.declared.block.Block.{Block}
+use Rattle.coap_types.specs.declared.block.Block.{Block}
 use Rattle.coap_block.specs.declared.block_verdict.BlockVerdict.{BlockVerdict}
 use Rattle.coap_block.specs.declared.assembly_step.Took.{Took}
 use Rattle.coap_block.specs.AssemblyState.{Key, PartialBody, AssemblyState, forgotten, without_key, joined_before, reached}

@@ -7,10 +7,10 @@ use Rattle.std.proofs.lemmas.Slice.Eq.{bytes_eq-Decides}
 use Rattle.std.proofs.lemmas.Nat.{pow-add}
 use Rattle.std.proofs.Math.Nat.{mul-div_cancel}
 use Rattle.std.proofs.Math.Seq.{drop-append_seam, take-append_seam}
-use Rattle.coap_block.specs.declared.block.Block.{Block}
+use Rattle.coap_types.specs.declared.block.Block.{Block}
 use Rattle.coap_block.specs.declared.fetch_verdict.Verdict.TheVariants.{Refuse, Again, Done, Ask}
 use Rattle.coap_block.specs.declared.fetch_step.FetchRefusal.TheVariants.{BadBlock, NoTag, TooLarge, Changed}
-use Rattle.coap_block.specs.Piece.{size_of, offset_of, Begins, Piece, max_body_len}
+use Rattle.coap_types.specs.Piece.{size_of, offset_of, Begins, Piece, max_body_len}
 use Rattle.coap_block.specs.Whole.{Part, Each, joined, IsPieceOf, HasTag, Chained, Ends, OneTag, Whole, Blocks}
 use Rattle.coap_block.specs.FetchStep.{FetchState, fits, is_sized, same_tag, differs, verdict, next_num, next_szx}
 use Rattle.coap_block.specs.Gathered.{part, IsFull, Awaits, Gathered, GatheredByPart, WholeByParts}

@@ -1,8 +1,8 @@
 -- Blocks that are joined one behind the other at a server.
 use Rattle.std.proofs.Common.{◌≡◌, ◌≢◌, inl, inr, ◌∙◌, ℕ, true, false, ◌+◌, ◌<◌, ◌≤◌, ◌++◌, List, [], ◌∷◌, length, None, refl, ap, sym, subst, arith, append-nil, append_assoc, length-append}
 use Rattle.std.proofs.Math.Seq.{drop-append_seam, take-append_seam}
-use Rattle.coap_block.specs.declared.block.Block.{Block}
-use Rattle.coap_block.specs.Piece.{size_of, offset_of, max_body_len}
+use Rattle.coap_types.specs.declared.block.Block.{Block}
+use Rattle.coap_types.specs.Piece.{size_of, offset_of, max_body_len}
 use Rattle.coap_block.specs.Whole.{Part, Each, joined, Chained, InOrder, ShowsMore, WholeAtServer}
 use Rattle.coap_block.specs.Gathered.{part, IsFull}
 use Rattle.coap_block.specs.AssemblyState.{Key, PartialBody}

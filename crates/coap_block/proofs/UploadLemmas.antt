@@ -2,8 +2,8 @@
 use Rattle.std.proofs.Common.{◌≡◌, inl, inr, ℕ, Bool, true, false, ◌&&◌, ◌||◌, ◌==◌, nat_le, nat_lt, ◌+◌, ◌*◌, ◌/◌, ◌<◌, ◌≤◌, ◌++◌, ◌∙◌, List, [], ◌∷◌, length, take, drop, refl, ap, subst, arith, length-append, min}
 use Rattle.std.proofs.lemmas.Bool.Decides.{nat_tests}
 use Rattle.std.proofs.lemmas.List.{length-take, length-drop}
-use Rattle.coap_block.specs.declared.block.TheConstants.{MAX_NUM as max_num}
-use Rattle.coap_block.specs.Piece.{size_of, offset_of, part_of, Begins}
+use Rattle.coap_types.specs.declared.block.TheConstants.{MAX_NUM as max_num}
+use Rattle.coap_types.specs.Piece.{size_of, offset_of, part_of, Begins}
 use Rattle.coap_block.specs.Whole.{Part, joined, IsPieceOf, Chained}
 use Rattle.coap_block.specs.UploadStep.{UploadState, more_follows, number_after, KeepsSize, keeps_size, ContinuesIsTested}
 use Rattle.coap_block.specs.Sent.{part_to_send, Sent, SentByPart, WholeBySent}

@@ -1,7 +1,7 @@
 -- What a server answers to a block of an upload (RFC 7959, sections 2.5 and 2.9).
 use Rattle.std.specs.Prelude.{◌≡◌, ℕ, true, List, length}
 use Rattle.coap_types.specs.declared.message.Code.{Code}
-use Rattle.coap_block.specs.declared.block.Block.{Block}
+use Rattle.coap_types.specs.declared.block.Block.{Block}
 use Rattle.coap_block.specs.declared.assembly_step.Took.{Took}
 use Rattle.coap_block.specs.declared.assembly_step.Took.TheVariants.{More, Whole, Refused}
 use Rattle.coap_block.specs.declared.assembly_step.AssemblyRefusal.{AssemblyRefusal}

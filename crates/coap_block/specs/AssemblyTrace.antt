@@ -1,10 +1,10 @@
 -- An assembly's history: the blocks that came since it was made, the newest outermost (RFC 7959, section 2.5).
 use Rattle.std.specs.Prelude.{◌≡◌, ◌≢◌, ℕ, ◌≤◌, ◌==◌, List, [], ◌∷◌, ◌++◌, length, Some, None, if◌then◌else◌}
-use Rattle.coap_block.specs.declared.block.Block.{Block}
+use Rattle.coap_types.specs.declared.block.Block.{Block}
 use Rattle.coap_block.specs.declared.block_verdict.BlockVerdict.{BlockVerdict}
 use Rattle.coap_block.specs.declared.block_verdict.BlockVerdict.TheVariants.{Refuse, Join, Done}
 use Rattle.coap_block.specs.declared.assembly_judging.TheConstants.{MAX_PARTIALS as max_partials}
-use Rattle.coap_block.specs.Piece.{max_body_len}
+use Rattle.coap_types.specs.Piece.{max_body_len}
 use Rattle.coap_block.specs.Whole.{Part, Each, joined, Chained, WholeAtServer}
 use Rattle.coap_block.specs.Gathered.{part, IsFull}
 use Rattle.coap_block.specs.AssemblyState.{Key, PartialBody, AssemblyState, same_key, nothing_yet, partial_of}

@@ -1,9 +1,9 @@
 -- What a fetch answers to a part (RFC 7959, section 2.4).
 use Rattle.std.specs.Prelude.{◌≡◌, ◌≤◌, ℕ, false, List, ◌++◌, length, Option}
 use Rattle.std.specs.Option.{option_map}
-use Rattle.coap_block.specs.declared.block.TheConstants.{MAX_NUM as max_num}
+use Rattle.coap_types.specs.declared.block.TheConstants.{MAX_NUM as max_num}
 use Rattle.coap_block.specs.declared.fetch_progress.Asked.{Asked}
-use Rattle.coap_block.specs.declared.block.Block.{Block}
+use Rattle.coap_types.specs.declared.block.Block.{Block}
 use Rattle.coap_block.specs.declared.fetch_verdict.Verdict.{Verdict}
 use Rattle.coap_block.specs.declared.fetch_verdict.Verdict.TheVariants.{Refuse, Again, Done, Ask}
 use Rattle.coap_block.specs.declared.fetch_step.Step.{Step}

@@ -1,6 +1,6 @@
 -- The state that a fetch's fields stand for.
 use Rattle.std.specs.Prelude.{ℕ, ◌≤◌, List, length, take, Option, Some, None}
-use Rattle.coap_block.specs.declared.block.TheConstants.{MAX_NUM as max_num}
+use Rattle.coap_types.specs.declared.block.TheConstants.{MAX_NUM as max_num}
 use Rattle.coap_block.specs.declared.fetch_progress.Asked.{Asked}
 use Rattle.coap_block.specs.declared.fetch_progress.Progress.{Progress}
 use Rattle.coap_block.specs.declared.fetch_progress.Before.{Before}

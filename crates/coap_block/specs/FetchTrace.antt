@@ -1,9 +1,9 @@
 -- A fetch's history: what came since it was made, the newest outermost (RFC 7959, section 2.4).
 use Rattle.std.specs.Prelude.{◌≡◌, ◌≤◌, ℕ, List, [], ◌∷◌, ◌++◌, length, Option, Some, None}
-use Rattle.coap_block.specs.declared.block.Block.{Block}
+use Rattle.coap_types.specs.declared.block.Block.{Block}
 use Rattle.coap_block.specs.declared.fetch_verdict.Verdict.{Verdict}
 use Rattle.coap_block.specs.declared.fetch_verdict.Verdict.TheVariants.{Refuse, Again, Done, Ask}
-use Rattle.coap_block.specs.Piece.{max_body_len}
+use Rattle.coap_types.specs.Piece.{max_body_len}
 use Rattle.coap_block.specs.Whole.{Part, Whole}
 use Rattle.coap_block.specs.FetchStep.{FetchState, start, verdict, after}
 use Rattle.coap_block.specs.Gathered.{part, payloads_of, Gathered}

@@ -1,9 +1,9 @@
 -- What a fetch has gathered, by the parts that it took since its start (RFC 7959, section 2.4).
 use Rattle.std.specs.Prelude.{◌≡◌, ◌≢◌, ℕ, true, ◌++◌, List, [], ◌∷◌, length, Option, Some, None}
-use Rattle.coap_block.specs.declared.block.Block.{Block}
+use Rattle.coap_types.specs.declared.block.Block.{Block}
 use Rattle.coap_block.specs.declared.fetch_progress.Asked.{Asked}
 use Rattle.coap_block.specs.declared.fetch_verdict.Verdict.TheVariants.{Done, Ask}
-use Rattle.coap_block.specs.Piece.{size_of, offset_of}
+use Rattle.coap_types.specs.Piece.{size_of, offset_of}
 use Rattle.coap_block.specs.Whole.{Part, Each, joined, Chained, HasTag, Payloads, Blocks, Alone, Whole}
 use Rattle.coap_block.specs.FetchStep.{FetchState, start, verdict, after}
 

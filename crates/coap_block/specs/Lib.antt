@@ -1,5 +1,3 @@
-pub mod BlockValue
-pub mod Piece
 pub mod Whole
 pub mod FetchStep
 pub mod FetchState

@@ -1,6 +1,6 @@
 -- When parts are a whole body (RFC 7959, sections 2.4 and 2.5).
 use Rattle.std.specs.Prelude.{◌≡◌, ◌≢◌, ℕ, Bool, true, false, ◌+◌, ◌++◌, ◌⊎◌, List, [], ◌∷◌, length, Option, Some}
-use Rattle.coap_block.specs.Piece.{offset_of, part_of, Begins, Piece}
+use Rattle.coap_types.specs.Piece.{offset_of, part_of, Begins, Piece}
 
 -- a part as it came: its block, its tag and its bytes
 pub record Part : Type 0 where

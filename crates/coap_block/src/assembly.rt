@@ -8,12 +8,11 @@ ghost use Rattle.coap_block.specs.AssemblyKept.{partials_of, key_of, there_of, u
 use crate::assembly_judging::{MAX_PARTIALS, judge};
 use crate::assembly_step::{AssemblyRefusal, Took};
 use crate::assembly_undo::{Before, Change};
-use crate::block::Block;
 use crate::block_verdict::BlockVerdict;
 use crate::partial::Partial;
 use crate::partials::{counts, join, restore, take_out, whole};
 use crate::upload_key::UploadKey;
-use coap_types::{Moment, Szx};
+use coap_types::{Block, Moment, Szx};
 use std::alloc::{AllocError, Allocator, Global};
 use std::marker::Model;
 

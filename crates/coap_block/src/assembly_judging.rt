@@ -2,11 +2,10 @@ ghost use Rattle.std.specs.Prelude.{◌≡◌};
 ghost use Rattle.coap_block.specs.AssemblyStep.{answered_szx, fills, goes_on, ruling};
 
 use crate::assembly_step::AssemblyRefusal;
-use crate::block::Block;
 use crate::block_verdict::BlockVerdict;
-use crate::body::MAX_BODY_LEN;
 use crate::fetch_judging::smaller;
-use coap_types::Szx;
+use coap_types::limits::MAX_BODY_LEN;
+use coap_types::{Block, Szx};
 
 /// The most uploads of which a server keeps a partial body (profile: RFC 7959, section 7, asks for a
 /// bound).

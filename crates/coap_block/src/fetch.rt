@@ -3,13 +3,12 @@ ghost use Rattle.coap_block.specs.FetchStep.{start, verdict};
 ghost use Rattle.coap_block.specs.FetchTrace.{FetchTrace, Led, Made, Took};
 ghost use Rattle.coap_block.specs.FetchAnswer.{block_asked, Takes, IsNumbered, IsQuiet};
 
-use crate::block::{Block, MAX_NUM};
-use crate::body::{joined, put_at};
+use crate::body::{appended, put_at};
 use crate::fetch_judging::judge;
 use crate::fetch_progress::{Asked, Before, Progress};
 use crate::fetch_step::Step;
 use crate::fetch_verdict::Verdict;
-use coap_types::{Szx, Tag};
+use coap_types::{Block, MAX_NUM, Szx, Tag};
 use std::alloc::{AllocError, Allocator, Global};
 use std::marker::Model;
 use std::mem;
@@ -97,7 +96,7 @@ impl<A: Allocator + Copy> Fetch<A> {
             }
             Verdict::Done => {
                 let alloc = *self.bytes.allocator();
-                let whole = joined(alloc, &self.bytes[..self.progress.len], payload)?;
+                let whole = appended(alloc, &self.bytes[..self.progress.len], payload)?;
                 self.before = Before::Was(self.progress.start_again(0));
                 Ok(Step::Whole(whole))
             }

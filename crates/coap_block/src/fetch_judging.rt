@@ -1,15 +1,14 @@
 ghost use Rattle.std.specs.Prelude.{◌≡◌, ◌+◌, ◌<◌, ◌≤◌, List, ℕ, min};
-ghost use Rattle.coap_block.specs.Piece.{offset_of, size_of};
+ghost use Rattle.coap_types.specs.Piece.{offset_of, size_of};
 ghost use Rattle.coap_block.specs.FetchStep.{changed, differs_from, fits, is_sized, lacks_tag, number_behind, same_tag, verdict};
 ghost use Rattle.coap_block.specs.FetchState.{state_of, IsNumberedAsk};
 ghost use Rattle.coap_block.specs.declared.fetch_verdict.Verdict.TheVariants.{Again, Ask};
 
-use crate::block::Block;
-use crate::body::MAX_BODY_LEN;
 use crate::fetch_progress::{Asked, Progress};
 use crate::fetch_step::FetchRefusal;
 use crate::fetch_verdict::Verdict;
-use coap_types::{Szx, Tag};
+use coap_types::limits::MAX_BODY_LEN;
+use coap_types::{Block, Szx, Tag};
 
 /// How often a body that changes is fetched anew (profile).
 pub const MAX_RESTARTS: u8 = 3;

@@ -1,4 +1,3 @@
-ghost use Rattle.coap_block.specs.BlockValue.{OneBlock};
 ghost use Rattle.coap_block.specs.Whole.{OneBody, OneBodyAtServer};
 ghost use Rattle.coap_block.specs.Gathered.{GatheredAtStart, GatheredByPart, WholeByParts};
 ghost use Rattle.coap_block.specs.FetchTrace.{BodyIsShort, GatheredIsShort, WholeByHistory};
@@ -6,11 +5,6 @@ ghost use Rattle.coap_block.specs.AssemblyTrace.{FewPartials, NoneLeft, OneForAK
 ghost use Rattle.coap_block.specs.PartialTimes.{JoinsWhereMore, ThereAtMoment, ThereByHistory};
 ghost use Rattle.coap_block.specs.UploadStep.{ContinuesIsTested};
 ghost use Rattle.coap_block.specs.Sent.{SentAtStart, SentByPart, WholeBySent};
-
-/// A value of a Block option is that of one block (RFC 7959, section 2.2).
-pub fn block_law()
-    ensures one_block { OneBlock }
-{}
 
 /// Parts that are whole for two bodies are whole for one (RFC 7959, sections 2.4 and 2.5).
 pub fn body_law()

@@ -6,7 +6,7 @@ ghost use Rattle.coap_block.specs.AssemblyKept.{begun, body_of, changed_at, grow
 
 use crate::assembly_judging::MAX_PARTIALS;
 use crate::assembly_undo::Change;
-use crate::body::joined;
+use crate::body::appended;
 use crate::partial::Partial;
 use crate::upload_key::UploadKey;
 use bytes::Bytes;
@@ -215,8 +215,8 @@ pub(crate) fn whole<A: Allocator + Copy>(
         whole ≡ with_payload (key_of key.now) num payload.now (there_of now.0 partials.now)) }
 {
     match find(partials, key, now) {
-        Some(partial) if num > 0 => joined(alloc, &partial.bytes, payload),
-        _ => joined(alloc, &[], payload),
+        Some(partial) if num > 0 => appended(alloc, &partial.bytes, payload),
+        _ => appended(alloc, &[], payload),
     }
 }
 

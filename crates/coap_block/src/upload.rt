@@ -1,11 +1,10 @@
 ghost use Rattle.std.specs.Prelude.{◌≡◌, ◌≤◌, ◌↔◌, false, true, None, Some, IsSome, IfSome};
-ghost use Rattle.coap_block.specs.Piece.{Piece};
+ghost use Rattle.coap_types.specs.Piece.{Piece};
 ghost use Rattle.coap_block.specs.UploadStep.{upload_start, block_to_send, at_place, continues, Continues, IsPlaceIn, moved};
 
-use crate::block::{Block, MAX_NUM};
 use crate::piece::slice;
 use bytes::Bytes;
-use coap_types::Szx;
+use coap_types::{Block, MAX_NUM, Szx};
 use std::alloc::{Allocator, Global};
 use std::marker::Model;
 
