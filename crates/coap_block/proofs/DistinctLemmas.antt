@@ -2,7 +2,7 @@
 use Rattle.std.proofs.Common.{◌≡◌, ◌≢◌, ◌⊎◌, inl, inr, ◌∙◌, ℕ, Bool, true, false, ◌+◌, ◌≤◌, List, [], ◌∷◌, length, Option, Some, None, if◌then◌else◌, refl, ap, sym, arith}
 use Rattle.coap_block.specs.AssemblyState.{Key, PartialBody, same_key, is_live, forgotten, partial_of, without_key, put}
 use Rattle.coap_block.specs.AssemblyTrace.{AreDistinct}
-use Rattle.coap_block.proofs.KeyLemmas.{same_key-decides, same_key_self}
+use Rattle.coap_block.proofs.Facts.Keys.{same_key-decides, same_key_self}
 
 cond_none : (b : Bool) (p : PartialBody) (o : Option PartialBody) → (if b then Some p else o) ≡ None → (b ≡ false) × (o ≡ None)
 cond_none true p o h = absurd cc

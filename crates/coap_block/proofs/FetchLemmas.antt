@@ -1,21 +1,21 @@
 -- The parts since the start are whole at the last one.
-use Rattle.std.proofs.Common.{◌≡◌, ◌≢◌, ◌⊎◌, inl, inr, ℕ, Bool, true, false, not, ◌&&◌, ◌||◌, nat_lt, nat_le, ◌==◌, if◌then◌else◌, ◌+◌, ◌-◌, ◌*◌, ◌/◌, ◌^◌, ◌<◌, ◌≤◌, ◌++◌, ◌∙◌, List, [], ◌∷◌, length, refl, ap, sym, subst, arith, append-nil, append_assoc, length-append, pow_pos, Option, Some, None, is_some, min}
+use Rattle.std.proofs.Common.{◌≡◌, ◌⊎◌, inl, inr, ℕ, Bool, true, false, not, ◌&&◌, ◌||◌, nat_lt, nat_le, ◌==◌, if◌then◌else◌, ◌+◌, ◌<◌, ◌≤◌, ◌++◌, ◌∙◌, List, [], ◌∷◌, length, refl, ap, sym, subst, arith, append_assoc, length-append, Option, Some, None, is_some}
 use Rattle.std.proofs.lemmas.Grind.{common_steps}
 use Rattle.std.proofs.lemmas.Bool.Decides.{nat_tests}
 use Rattle.std.proofs.lemmas.List.{take_all}
 use Rattle.std.proofs.lemmas.Slice.Eq.{bytes_eq-Decides}
-use Rattle.std.proofs.lemmas.Nat.{pow-add}
-use Rattle.std.proofs.Math.Nat.{mul-div_cancel}
 use Rattle.std.proofs.Math.Seq.{drop-append_seam, take-append_seam}
 use Rattle.coap_types.specs.declared.block.Block.{Block}
 use Rattle.coap_block.specs.declared.fetch_verdict.Verdict.TheVariants.{Refuse, Again, Done, Ask}
 use Rattle.coap_block.specs.declared.fetch_step.FetchRefusal.TheVariants.{BadBlock, NoTag, TooLarge, Changed}
 use Rattle.coap_types.specs.Piece.{size_of, offset_of, Begins, Piece, max_body_len}
-use Rattle.coap_block.specs.Whole.{Part, Each, joined, IsPieceOf, HasTag, Chained, Ends, OneTag, Whole, Blocks}
+use Rattle.coap_block.specs.Whole.{Part, Each, joined, IsPieceOf, HasTag, Chained, OneTag, Whole, Blocks}
 use Rattle.coap_block.specs.FetchStep.{FetchState, fits, is_sized, same_tag, differs, verdict, next_num, next_szx}
 use Rattle.coap_block.specs.Gathered.{part, IsFull, Awaits, Gathered, GatheredByPart, WholeByParts}
 use Rattle.coap_block.specs.declared.fetch_progress.Asked.{Asked}
 use Rattle.coap_block.specs.declared.fetch_judging.TheConstants.{MAX_RESTARTS as max_restarts}
+use Rattle.coap_block.proofs.Facts.Parts.{chained_behind, each_behind, ends_behind, joined_behind, some_there}
+use Rattle.coap_block.proofs.Facts.Sizes.{aligned, size_some}
 
 -- a full part in front of more bytes is a piece
 pub full_piece : (front bytes rest : List ℕ) (num szx : ℕ) → offset_of num szx ≡ length front → length bytes ≡ size_of szx → 0 < length bytes → 0 < length rest
@@ -35,9 +35,6 @@ last_piece front bytes num szx at short some = record {
   reaches_end = ((λ h. omega (arith, length-append front bytes)), (λ h. refl));
 }
 
-pub size_some : (szx : ℕ) → 0 < size_of szx
-size_some szx = pow_pos (szx + 4)
-
 pieces_of : (front : List ℕ) (ps : List Part) (l : Part) → Each IsFull ps → Chained (length front) (ps ++ l ∷ []) → 0 < length l.bytes
     → l.more ≡ false → length l.bytes ≤ size_of l.szx → Each (IsPieceOf (front ++ (joined ps ++ l.bytes))) (ps ++ l ∷ [])
 pieces_of front [] l full chained some last short =
@@ -55,23 +52,6 @@ pieces_of front (p ∷ ps) l full chained some last short =
           (subst (λ (body : List ℕ). Piece body p.num true p.szx p.bytes) e1 here),
       subst (λ (body : List ℕ). Each (IsPieceOf body) (ps ++ l ∷ [])) (e2 ∙ e1) more,
     )
-
-pub chained_behind : (at : ℕ) (ps : List Part) (l : Part) → Chained at ps → offset_of l.num l.szx ≡ at + length (joined ps) → Chained at (ps ++ l ∷ [])
-chained_behind at [] l c e = (omega (arith, e), tt)
-chained_behind at (p ∷ ps) l c e = (c.0, chained_behind (at + length p.bytes) ps l c.1 (omega (arith, e, length-append p.bytes (joined ps))))
-
-pub each_behind : {X : Type 0} (P : X → Type 0) (xs : List X) (x : X) → Each P xs → P x → Each P (xs ++ x ∷ [])
-each_behind P [] x e p = (p, tt)
-each_behind P (y ∷ xs) x e p = (e.0, each_behind P xs x e.1 p)
-
-pub ends_behind : (ps : List Part) (l : Part) → l.more ≡ false → Ends (ps ++ l ∷ [])
-ends_behind [] l e = e
-ends_behind (p ∷ []) l e = e
-ends_behind (p ∷ q ∷ ps) l e = ends_behind (q ∷ ps) l e
-
-pub joined_behind : (ps : List Part) (l : Part) → joined (ps ++ l ∷ []) ≡ joined ps ++ l.bytes
-joined_behind [] l = append-nil l.bytes
-joined_behind (p ∷ ps) l = ap (λ (x : List ℕ). p.bytes ++ x) (joined_behind ps l) ∙ sym (append_assoc p.bytes (joined ps) l.bytes)
 
 one_tag_of : (t : List ℕ) (ps : List Part) → Each (HasTag t) ps → OneTag ps
 one_tag_of t [] e = tt
@@ -186,18 +166,6 @@ pieces_whole (p ∷ ps) l full chained last short (inr zero_num) =
     let long = full.0.full in
     absurd (omega (arith, at, none, some, long, length-append p.bytes (joined ps)))
 
-multiple : (num s c d : ℕ) → s ≡ c * d → 0 < d → (num * s + s) / d * d ≡ num * s + s
-multiple num s c d e pos =
-    let t : num * s + s ≡ (num * c + c) * d = rw e (omega arith) in
-    rw t (ap (λ (q : ℕ). q * d) (mul-div_cancel (num * c + c) pos))
-
-pub aligned : (num szx m : ℕ) → (offset_of num szx + size_of szx) / size_of (min szx m) * size_of (min szx m) ≡ offset_of num szx + size_of szx
-aligned num szx m =
-    let e0 : (szx - min szx m) + (min szx m + 4) ≡ szx + 4 = omega arith in
-    let e : size_of szx ≡ 2 ^ (szx - min szx m) * size_of (min szx m) =
-    ap (λ (n : ℕ). 2 ^ n) (sym e0) ∙ pow-add 2 (szx - min szx m) (min szx m + 4) in
-    multiple num (size_of szx) (2 ^ (szx - min szx m)) (size_of (min szx m)) e (size_some (min szx m))
-
 whole_by_blocks : (parts : List Part) (s : FetchState) (b : Block) (tag : Option (List ℕ)) (payload : List ℕ)
     → Gathered parts s → verdict s (Some b) tag (length payload) ≡ Done
     → Whole (Blocks (parts ++ part b tag payload ∷ [])) (s.gathered ++ payload)
@@ -234,10 +202,6 @@ tag_there : (more over : Bool) (tag : Option (List ℕ)) → more ≡ true → (
 tag_there more over (Some t) m h = (t, refl)
 tag_there true over None m h = absurd cc
 tag_there false over None m h = absurd cc
-
-pub some_there : (ps : List Part) (l : Part) → (ps ++ l ∷ []) ≢ []
-some_there [] l h = absurd cc
-some_there (p ∷ ps) l h = absurd cc
 
 pub gathered_by_part : GatheredByPart
 gathered_by_part parts s b tag payload num szx g h =

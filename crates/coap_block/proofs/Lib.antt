@@ -1,9 +1,9 @@
+pub mod Facts
 pub mod WholeLemmas
 pub mod FetchLemmas
 pub mod FetchHistory
 pub mod FetchShort
 pub mod UploadLemmas
-pub mod KeyLemmas
 pub mod KeptLemmas
 pub mod PartialLemmas
 pub mod AssemblyLemmas

@@ -6,7 +6,7 @@ use Rattle.std.proofs.lemmas.List.Elements.{filter-append}
 use Rattle.coap_block.specs.AssemblyState.{Key, PartialBody, same_key, is_live, forgotten, partial_of, without_key, put, bytes_of, joined_before}
 use Rattle.coap_block.specs.declared.partial.TheConstants.{PARTIAL_LIFETIME_MS as partial_lifetime}
 use Rattle.coap_block.specs.AssemblyKept.{is_there, place_of, changed_at, grown, begun}
-use Rattle.coap_block.proofs.KeyLemmas.{same_key-decides}
+use Rattle.coap_block.proofs.Facts.Keys.{same_key-decides}
 use Rattle.coap_block.proofs.KeptLemmas.{changed_set, forgotten_twice}
 
 -- where the first of a list is at, or in its rest

@@ -13,7 +13,7 @@ use Rattle.coap_block.specs.AssemblyState.{Key, PartialBody, AssemblyState, same
 use Rattle.coap_block.specs.AssemblyStep.{fills, ends_at, goes_on, answered_szx, verdict_at, there_at, moment_at, partials_by, after_block}
 use Rattle.coap_block.specs.AssemblyTrace.{AssemblyTrace, Made, Arrived, state_after, AreDistinct}
 use Rattle.coap_block.specs.PartialTimes.{last_by, last_taken, IsThereExactly, ThereByHistory, ThereAtMoment, JoinsWhereMore}
-use Rattle.coap_block.proofs.KeyLemmas.{same_key-decides}
+use Rattle.coap_block.proofs.Facts.Keys.{same_key-decides}
 use Rattle.coap_block.proofs.KeptLemmas.{was_live}
 use Rattle.coap_block.proofs.DistinctLemmas.{none_forgotten, out_none, put_there, distinct_there}
 use Rattle.coap_block.proofs.AssemblyHistory.{join_says, new_of, others_stay, holds}

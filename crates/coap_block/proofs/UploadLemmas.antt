@@ -1,5 +1,5 @@
 -- The parts that an upload sends are its body in order.
-use Rattle.std.proofs.Common.{◌≡◌, inl, inr, ℕ, Bool, true, false, ◌&&◌, ◌||◌, ◌==◌, nat_le, nat_lt, ◌+◌, ◌*◌, ◌/◌, ◌<◌, ◌≤◌, ◌++◌, ◌∙◌, List, [], ◌∷◌, length, take, drop, refl, ap, subst, arith, length-append, min}
+use Rattle.std.proofs.Common.{◌≡◌, inl, inr, ℕ, Bool, true, false, ◌&&◌, ◌||◌, ◌==◌, nat_le, nat_lt, ◌+◌, ◌<◌, ◌≤◌, ◌++◌, ◌∙◌, List, [], ◌∷◌, length, take, drop, refl, ap, arith, length-append}
 use Rattle.std.proofs.lemmas.Bool.Decides.{nat_tests}
 use Rattle.std.proofs.lemmas.List.{length-take, length-drop}
 use Rattle.coap_types.specs.declared.block.TheConstants.{MAX_NUM as max_num}
@@ -7,13 +7,9 @@ use Rattle.coap_types.specs.Piece.{size_of, offset_of, part_of, Begins}
 use Rattle.coap_block.specs.Whole.{Part, joined, IsPieceOf, Chained}
 use Rattle.coap_block.specs.UploadStep.{UploadState, more_follows, number_after, KeepsSize, keeps_size, ContinuesIsTested}
 use Rattle.coap_block.specs.Sent.{part_to_send, Sent, SentByPart, WholeBySent}
-use Rattle.coap_block.proofs.FetchLemmas.{aligned, each_behind, chained_behind, joined_behind, ends_behind, and_left, and_right, same_number}
-
-pub aligned_to : (num szx m : ℕ) → m ≤ szx
-    → (offset_of num szx + size_of szx) / size_of m * size_of m ≡ offset_of num szx + size_of szx
-aligned_to num szx m le =
-    let e : min szx m ≡ m = omega (arith, le) in
-    subst (λ (k : ℕ). (offset_of num szx + size_of szx) / size_of k * size_of k ≡ offset_of num szx + size_of szx) e (aligned num szx m)
+use Rattle.coap_block.proofs.Facts.Parts.{each_behind, chained_behind, joined_behind, ends_behind}
+use Rattle.coap_block.proofs.Facts.Sizes.{aligned_to}
+use Rattle.coap_block.proofs.FetchLemmas.{and_left, and_right, same_number}
 
 keeps_at_most : (s : UploadState) (szx : ℕ) → KeepsSize s szx → szx ≤ s.szx
 keeps_at_most s szx (inl e) = omega (arith, e)
