@@ -1,13 +1,5 @@
 pub mod Facts
-pub mod WholeLemmas
-pub mod FetchLemmas
-pub mod FetchHistory
-pub mod FetchShort
-pub mod UploadLemmas
-pub mod KeptLemmas
-pub mod PartialLemmas
-pub mod AssemblyLemmas
-pub mod DistinctLemmas
-pub mod JoinedLemmas
-pub mod AssemblyHistory
-pub mod PartialTimes
+pub mod Fetching
+pub mod Fields
+pub mod Joining
+pub mod Sending

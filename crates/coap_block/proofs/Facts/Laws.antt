@@ -6,13 +6,13 @@ use Rattle.coap_block.specs.UploadStep.{ContinuesIsTested}
 use Rattle.coap_block.specs.Sent.{SentByPart, WholeBySent}
 use Rattle.coap_block.specs.AssemblyTrace.{FewPartials, NoneLeft, OneForAKey, OthersStay, PartialsByHistory, WholeByBlocks}
 use Rattle.coap_block.specs.PartialTimes.{ThereAtMoment, ThereByHistory}
-use Rattle.coap_block.proofs.WholeLemmas as wholes
-use Rattle.coap_block.proofs.FetchLemmas as fetches
-use Rattle.coap_block.proofs.FetchHistory as histories
-use Rattle.coap_block.proofs.FetchShort as shorts
-use Rattle.coap_block.proofs.UploadLemmas as uploads
-use Rattle.coap_block.proofs.AssemblyHistory as assemblies
-use Rattle.coap_block.proofs.PartialTimes as times
+use Rattle.coap_block.proofs.Joining.OneBody as wholes
+use Rattle.coap_block.proofs.Fetching.WholeByParts as fetches
+use Rattle.coap_block.proofs.Fetching.PartsOfHistory as histories
+use Rattle.coap_block.proofs.Fetching.BodiesAreShort as shorts
+use Rattle.coap_block.proofs.Sending.SentInOrder as uploads
+use Rattle.coap_block.proofs.Joining.BlocksOfHistory as assemblies
+use Rattle.coap_block.proofs.Joining.ThereExactly as times
 
 pub one_body : OneBody
 one_body = wholes.one_body

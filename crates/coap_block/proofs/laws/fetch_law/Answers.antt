@@ -1,6 +1,6 @@
-use Rattle.coap_block.proofs.FetchLemmas.{whole_by_parts, gathered_by_part}
-use Rattle.coap_block.proofs.FetchHistory.{whole_by_history}
-use Rattle.coap_block.proofs.FetchShort.{body_is_short, gathered_is_short}
+use Rattle.coap_block.proofs.Fetching.WholeByParts.{whole_by_parts, gathered_by_part}
+use Rattle.coap_block.proofs.Fetching.PartsOfHistory.{whole_by_history}
+use Rattle.coap_block.proofs.Fetching.BodiesAreShort.{body_is_short, gathered_is_short}
 use Rattle.coap_block.proofs.laws.fetch_law.Goals as goal
 
 pub returns-clause-next : goal.returns-clause-next

@@ -1,4 +1,4 @@
-use Rattle.coap_block.proofs.UploadLemmas.{continues_is_tested, sent_by_part, whole_by_sent}
+use Rattle.coap_block.proofs.Sending.SentInOrder.{continues_is_tested, sent_by_part, whole_by_sent}
 use Rattle.coap_block.proofs.laws.upload_law.Goals as goal
 
 pub returns-clause-next : goal.returns-clause-next

@@ -1,8 +1,8 @@
 use Rattle.std.proofs.Common.{◌∙◌, sym, ap, arith, length, List}
 use Rattle.coap_block.specs.AssemblyState.{PartialBody, forgotten}
 use Rattle.coap_block.specs.AssemblyKept.{body_of, partials_of, key_of}
-use Rattle.coap_block.proofs.KeptLemmas.{length_live}
-use Rattle.coap_block.proofs.PartialLemmas.{length_others, absent_out}
+use Rattle.coap_block.proofs.Fields.PartialsSeen.{length_live}
+use Rattle.coap_block.proofs.Fields.FoundByKey.{length_others, absent_out}
 use Rattle.coap_block.proofs.partials.counts.Goals as goal
 
 pub overflow_sub-result : goal.overflow_sub-result

@@ -1,6 +1,6 @@
 use Rattle.std.proofs.Common.{◌∙◌, sym}
-use Rattle.coap_block.proofs.KeptLemmas.{ok_there, ok_back}
-use Rattle.coap_block.proofs.PartialLemmas.{put_grown, put_anew, put_first}
+use Rattle.coap_block.proofs.Fields.PartialsSeen.{ok_there, ok_back}
+use Rattle.coap_block.proofs.Fields.FoundByKey.{put_grown, put_anew, put_first}
 use Rattle.coap_block.proofs.partials.join.Goals as goal
 
 pub returns-in-Some-clause-ok : goal.returns-in-Some-clause-ok

@@ -1,6 +1,6 @@
 use Rattle.std.proofs.Common.{◌∙◌, ap, set}
 use Rattle.coap_block.specs.AssemblyKept.{body_of, partials_of}
-use Rattle.coap_block.proofs.KeptLemmas.{kept_set, kept_set_back}
+use Rattle.coap_block.proofs.Fields.PartialsSeen.{kept_set, kept_set_back}
 use Rattle.coap_block.proofs.partials.replace.Goals as goal
 
 pub returns-clause-ok : goal.returns-clause-ok

@@ -1,7 +1,7 @@
 use Rattle.std.proofs.Common.{◌∙◌, sym, rules}
 use Rattle.coap_block.specs.AssemblyKept.{key_of, partials_of}
-use Rattle.coap_block.proofs.KeptLemmas.{kept_remove, taken_back}
-use Rattle.coap_block.proofs.PartialLemmas.{none_out, place_out}
+use Rattle.coap_block.proofs.Fields.PartialsSeen.{kept_remove, taken_back}
+use Rattle.coap_block.proofs.Fields.FoundByKey.{none_out, place_out}
 use Rattle.coap_block.proofs.partials.take_out.Goals as goal
 
 pub returns-in-None-clause-left : goal.returns-in-None-clause-left

@@ -1,7 +1,7 @@
 use Rattle.std.proofs.Common.{sym, subst, length}
 use Rattle.coap_block.specs.AssemblyAnswer.{IsRefused}
 use Rattle.coap_block.specs.AssemblyKept.{partials_of, key_of}
-use Rattle.coap_block.proofs.AssemblyLemmas.{few_before, few_taken, led_by, takes_block, verdict_is}
+use Rattle.coap_block.proofs.Fields.StepOfState.{few_before, few_taken, led_by, takes_block, verdict_is}
 use Rattle.coap_block.proofs.assembly.Assembly.take.Goals as goal
 
 pub returns-in_err-took-clause-quiet : goal.returns-in_err-took-clause-quiet

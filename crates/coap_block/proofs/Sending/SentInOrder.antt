@@ -9,7 +9,7 @@ use Rattle.coap_block.specs.UploadStep.{UploadState, more_follows, number_after,
 use Rattle.coap_block.specs.Sent.{part_to_send, Sent, SentByPart, WholeBySent}
 use Rattle.coap_block.proofs.Facts.Parts.{each_behind, chained_behind, joined_behind, ends_behind}
 use Rattle.coap_block.proofs.Facts.Sizes.{aligned_to}
-use Rattle.coap_block.proofs.FetchLemmas.{and_left, and_right, same_number}
+use Rattle.coap_block.proofs.Fetching.WholeByParts.{and_left, and_right, same_number}
 
 keeps_at_most : (s : UploadState) (szx : ℕ) → KeepsSize s szx → szx ≤ s.szx
 keeps_at_most s szx (inl e) = omega (arith, e)

@@ -13,9 +13,9 @@ use Rattle.coap_block.specs.AssemblyState.{Key, PartialBody, AssemblyState, same
 use Rattle.coap_block.specs.AssemblyStep.{fills, ends_at, goes_on, answered_szx, verdict_at, there_at, moment_at, with_block, partials_by, after_block}
 use Rattle.coap_block.specs.AssemblyTrace.{AssemblyTrace, Made, Arrived, state_after, behind, blocks_by, blocks_since, JoinedFrom, IsWholeBody, PartialsByHistory, FewPartials, AreDistinct, OneForAKey, WholeByBlocks, NoneLeft, OthersStay}
 use Rattle.coap_block.proofs.Facts.Keys.{same_key-decides}
-use Rattle.coap_block.proofs.DistinctLemmas.{out_other, out_none, distinct_out, put_there, put_other, distinct_put, distinct_there, was_there, fewer_there, fewer_out, one_more, as_many}
-use Rattle.coap_block.proofs.FetchLemmas.{same_number}
-use Rattle.coap_block.proofs.JoinedLemmas.{join_first, join_next, whole_first, whole_next}
+use Rattle.coap_block.proofs.Joining.OneForAKey.{out_other, out_none, distinct_out, put_there, put_other, distinct_put, distinct_there, was_there, fewer_there, fewer_out, one_more, as_many}
+use Rattle.coap_block.proofs.Fetching.WholeByParts.{same_number}
+use Rattle.coap_block.proofs.Joining.JoinedBehind.{join_first, join_next, whole_first, whole_next}
 
 -- what the tests say of a block that is joined, and of a last one
 pub join_says : (fill goes big many more : Bool) (z szx : ℕ)

@@ -7,7 +7,7 @@ use Rattle.coap_block.specs.AssemblyState.{Key, PartialBody, same_key, is_live, 
 use Rattle.coap_block.specs.declared.partial.TheConstants.{PARTIAL_LIFETIME_MS as partial_lifetime}
 use Rattle.coap_block.specs.AssemblyKept.{is_there, place_of, changed_at, grown, begun}
 use Rattle.coap_block.proofs.Facts.Keys.{same_key-decides}
-use Rattle.coap_block.proofs.KeptLemmas.{changed_set, forgotten_twice}
+use Rattle.coap_block.proofs.Fields.PartialsSeen.{changed_set, forgotten_twice}
 
 -- where the first of a list is at, or in its rest
 found_cases : (b : Bool) (o : Option ℕ) (i : ℕ) → (if b then Some 0 else option_map (λ (n : ℕ). n + 1) o) ≡ Some i

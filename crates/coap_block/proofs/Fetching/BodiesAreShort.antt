@@ -11,8 +11,8 @@ use Rattle.coap_block.specs.Whole.{Part, joined}
 use Rattle.coap_block.specs.FetchStep.{FetchState, fits, is_sized, lacks_tag, differs, verdict, after, next_num, next_szx}
 use Rattle.coap_block.specs.Gathered.{Gathered}
 use Rattle.coap_block.specs.FetchTrace.{FetchTrace, Made, Took, state_after, parts_since, GatheredIsShort, BodyIsShort}
-use Rattle.coap_block.proofs.FetchLemmas.{done_says, ask_says, and_left, begins_at, none_is_start}
-use Rattle.coap_block.proofs.FetchHistory.{none_asks, parts_are_gathered}
+use Rattle.coap_block.proofs.Fetching.WholeByParts.{done_says, ask_says, and_left, begins_at, none_is_start}
+use Rattle.coap_block.proofs.Fetching.PartsOfHistory.{none_asks, parts_are_gathered}
 
 not_over : (n : ℕ) → nat_lt max_body_len n ≡ false → n ≤ max_body_len
 not_over n h = grind (arith, nat_tests)

@@ -14,9 +14,9 @@ use Rattle.coap_block.specs.AssemblyStep.{fills, ends_at, goes_on, answered_szx,
 use Rattle.coap_block.specs.AssemblyTrace.{AssemblyTrace, Made, Arrived, state_after, AreDistinct}
 use Rattle.coap_block.specs.PartialTimes.{last_by, last_taken, IsThereExactly, ThereByHistory, ThereAtMoment, JoinsWhereMore}
 use Rattle.coap_block.proofs.Facts.Keys.{same_key-decides}
-use Rattle.coap_block.proofs.KeptLemmas.{was_live}
-use Rattle.coap_block.proofs.DistinctLemmas.{none_forgotten, out_none, put_there, distinct_there}
-use Rattle.coap_block.proofs.AssemblyHistory.{join_says, new_of, others_stay, holds}
+use Rattle.coap_block.proofs.Fields.PartialsSeen.{was_live}
+use Rattle.coap_block.proofs.Joining.OneForAKey.{none_forgotten, out_none, put_there, distinct_there}
+use Rattle.coap_block.proofs.Joining.BlocksOfHistory.{join_says, new_of, others_stay, holds}
 
 abbrev last_of : Option PartialBody → Option ℕ
 last_of None = None

@@ -9,7 +9,7 @@ use Rattle.coap_block.specs.Whole.{Part}
 use Rattle.coap_block.specs.FetchStep.{FetchState, start, verdict, after}
 use Rattle.coap_block.specs.Gathered.{Gathered}
 use Rattle.coap_block.specs.FetchTrace.{Made, Took, state_after, parts_by, parts_since, PartsAreGathered, WholeByHistory}
-use Rattle.coap_block.proofs.FetchLemmas.{gathered_by_part, whole_by_parts}
+use Rattle.coap_block.proofs.Fetching.WholeByParts.{gathered_by_part, whole_by_parts}
 
 at_start : (szx restarts : ℕ) → Gathered [] (start szx restarts)
 at_start szx restarts = record { bytes = refl; chained = tt; full = tt; awaits = refl }

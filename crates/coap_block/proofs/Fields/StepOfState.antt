@@ -9,8 +9,8 @@ use Rattle.coap_block.specs.AssemblyAnswer.{TakesBlock, took}
 use Rattle.coap_block.specs.AssemblyTrace.{Arrived, AssemblyTrace, Led}
 use Rattle.coap_block.specs.AssemblyKept.{begun, state_of, AreFew}
 use Rattle.coap_block.specs.declared.assembly_judging.TheConstants.{MAX_PARTIALS as max_partials}
-use Rattle.coap_block.proofs.AssemblyHistory.{few_after}
-use Rattle.coap_block.proofs.KeptLemmas.{forgotten_twice}
+use Rattle.coap_block.proofs.Joining.BlocksOfHistory.{few_after}
+use Rattle.coap_block.proofs.Fields.PartialsSeen.{forgotten_twice}
 
 there_is : (szx clock now : ℕ) (ps : List PartialBody) → there_at (state_of szx clock ps) now ≡ forgotten (max clock now) ps
 there_is szx clock now ps = forgotten_twice clock (max clock now) (omega arith) ps

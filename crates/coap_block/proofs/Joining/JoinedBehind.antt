@@ -9,7 +9,7 @@ use Rattle.coap_block.specs.AssemblyState.{Key, PartialBody}
 use Rattle.coap_block.specs.AssemblyTrace.{JoinedFrom, IsWholeBody}
 use Rattle.coap_block.proofs.Facts.Parts.{chained_behind, each_behind, ends_behind, joined_behind, some_there}
 use Rattle.coap_block.proofs.Facts.Sizes.{size_some}
-use Rattle.coap_block.proofs.FetchLemmas.{pieces_whole}
+use Rattle.coap_block.proofs.Fetching.WholeByParts.{pieces_whole}
 
 offset_zero : (num szx : ℕ) → num ≡ 0 → offset_of num szx ≡ 0
 offset_zero num szx e = subst (λ (n : ℕ). offset_of n szx ≡ 0) (sym e) (omega arith)
