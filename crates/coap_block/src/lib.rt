@@ -1,5 +1,6 @@
-//! Block-wise transfer (RFC 7959): the piece of a body that a [`Block`] carries ([`slice`]), the client's Block2 transfer ([`Fetch`]) and Block1 transfer
-//! ([`Upload`]), and the server's Block1 transfers ([`Assembly`]).
+//! Block-wise transfer (RFC 7959): the piece of a body that a [`Block`] carries ([`slice`]), the
+//! client's Block2 transfer ([`Fetch`]) and Block1 transfer ([`Upload`]), and the server's Block1
+//! transfers ([`Assembly`]).
 //!
 //! A body that is given out whole is its pieces in order, of one version or of one upload. Nothing
 //! here sends or receives anything: what came is handed in, and what is to go out is answered.
