@@ -1,11 +1,5 @@
-pub mod WholeLemmas
-pub mod FetchLemmas
-pub mod FetchHistory
-pub mod UploadLemmas
-pub mod KeyLemmas
-pub mod KeptLemmas
-pub mod PartialLemmas
-pub mod AssemblyLemmas
-pub mod DistinctLemmas
-pub mod JoinedLemmas
-pub mod AssemblyHistory
+pub mod Facts
+pub mod Fetching
+pub mod Fields
+pub mod Joining
+pub mod Sending

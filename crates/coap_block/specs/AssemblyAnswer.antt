@@ -1,7 +1,8 @@
 -- What a server answers to a block of an upload (RFC 7959, sections 2.5 and 2.9).
 use Rattle.std.specs.Prelude.{◌≡◌, ℕ, true, List, length}
 use Rattle.coap_types.specs.declared.message.Code.{Code}
-use Rattle.coap_block.specs.declared.block.Block.{Block}
+use Rattle.coap_types.specs.declared.message.TheConstants.Code.{BAD_REQUEST as bad_request, REQUEST_ENTITY_INCOMPLETE as entity_incomplete, REQUEST_ENTITY_TOO_LARGE as entity_too_large, SERVICE_UNAVAILABLE as unavailable}
+use Rattle.coap_types.specs.declared.block.Block.{Block}
 use Rattle.coap_block.specs.declared.assembly_step.Took.{Took}
 use Rattle.coap_block.specs.declared.assembly_step.Took.TheVariants.{More, Whole, Refused}
 use Rattle.coap_block.specs.declared.assembly_step.AssemblyRefusal.{AssemblyRefusal}
@@ -11,12 +12,12 @@ use Rattle.coap_block.specs.declared.block_verdict.BlockVerdict.TheVariants.{Ref
 use Rattle.coap_block.specs.AssemblyState.{Key, AssemblyState}
 use Rattle.coap_block.specs.AssemblyStep.{verdict_at, with_block, after_block}
 
--- the response codes: class and detail (RFC 7252, section 12.1.2; RFC 7959, section 2.9)
+-- the response codes (RFC 7252, section 12.1.2; RFC 7959, section 2.9)
 abbrev pub refusal_code : AssemblyRefusal → Code
-refusal_code BadRequest = record { 0 = 128 }
-refusal_code EntityIncomplete = record { 0 = 136 }
-refusal_code EntityTooLarge = record { 0 = 141 }
-refusal_code Unavailable = record { 0 = 163 }
+refusal_code BadRequest = bad_request
+refusal_code EntityIncomplete = entity_incomplete
+refusal_code EntityTooLarge = entity_too_large
+refusal_code Unavailable = unavailable
 
 abbrev pub took : {A : Type 0} → List ℕ → ℕ → BlockVerdict → Took A
 took whole num (Refuse why) = Refused why

@@ -8,6 +8,7 @@ use Rattle.coap_block.specs.declared.partial.Partial.{Partial}
 use Rattle.coap_block.specs.declared.assembly_undo.Change.{Change}
 use Rattle.coap_block.specs.declared.assembly_undo.Change.TheVariants.{Clock, Begun, Replaced, TakenOut, Grown}
 use Rattle.coap_block.specs.declared.assembly_undo.Before.{Before}
+use Rattle.coap_block.specs.declared.assembly_judging.TheConstants.{MAX_PARTIALS as max_partials}
 use Rattle.coap_block.specs.AssemblyState.{Key, PartialBody, AssemblyState, same_key, is_live, forgotten}
 
 abbrev pub key_of : {A : Type 0} → UploadKey A → Key
@@ -16,8 +17,12 @@ key_of k = record { from = k.from; path = k.path; method = k.method }
 abbrev pub body_of : {A : Type 0} → Partial A → PartialBody
 body_of p = record { key = key_of p.key; bytes = p.bytes.items; last = p.last.0 }
 
-abbrev pub kept : {A : Type 0} → List (Partial A) → List PartialBody
-kept {A} ps = map (λ (p : Partial A). body_of p) ps
+abbrev pub partials_of : {A : Type 0} → List (Partial A) → List PartialBody
+partials_of {A} ps = map (λ (p : Partial A). body_of p) ps
+
+-- those that are there at a moment
+abbrev pub there_of : {A : Type 0} → ℕ → List (Partial A) → List PartialBody
+there_of now ps = forgotten now (partials_of ps)
 
 -- it is the partial body of that key, and there
 abbrev pub is_there : Key → ℕ → PartialBody → Bool
@@ -51,6 +56,9 @@ restored (Replaced i p) ps = set ps i (body_of p)
 restored (TakenOut i p) ps = insert ps i (body_of p)
 restored (Grown i len last) ps = changed_at (cut len last.0) i ps
 
+abbrev pub undone : {A : Type 0} → Change A → List (Partial A) → List PartialBody
+undone change ps = restored change (partials_of ps)
+
 -- the places of a change are there, with room for what was taken out
 abbrev pub IsUndoable : {A : Type 0} → Change A → Vec (Partial A) A → Type 0
 IsUndoable Clock v = Unit {0}
@@ -70,7 +78,20 @@ abbrev pub IsUndoableBefore : {A : Type 0} → Option (Before A) → Vec (Partia
 IsUndoableBefore None v = Unit {0}
 IsUndoableBefore (Some b) v = IsUndoable b.change v
 
+-- As many are there at the clock as a server keeps at most, and one more is kept, which the last input may have found dead, so that
+-- it can be given back.
+pub record AreFew (clock : ℕ) (ps : List PartialBody) : Type 0 where
+  pub there : length (forgotten clock ps) ≤ max_partials
+  pub all : length ps ≤ max_partials + 1
+
+abbrev pub AreFewBefore : {A : Type 0} → List PartialBody → Option (Before A) → Type 0
+AreFewBefore ps None = Unit {0}
+AreFewBefore ps (Some b) = AreFew b.clock.0 (restored b.change ps)
+
 -- what callers see of an assembly
 pub record AssemblyValue : Type 0 where
   pub state : AssemblyState
   pub before : Option AssemblyState
+
+abbrev pub value_of : {A : Type 0} → ℕ → ℕ → List PartialBody → Option (Before A) → AssemblyValue
+value_of szx clock ps before = record { state = state_of szx clock ps; before = before_of szx ps before }

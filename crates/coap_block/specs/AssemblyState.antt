@@ -1,11 +1,11 @@
 -- What a server keeps of uploads in blocks (RFC 7959, section 2.5).
-use Rattle.std.specs.Prelude.{ℕ, Bool, ◌&&◌, ◌-◌, ◌==◌, nat_eq, nat_le, List, [], ◌∷◌, length, filter, find, Option, Some, None, if◌then◌else◌}
-use Rattle.std.specs.Cmp.Lexicographic.{pointwise}
+use Rattle.std.specs.Prelude.{ℕ, Bool, ◌&&◌, ◌-◌, ◌==◌, nat_le, List, [], ◌∷◌, ◌++◌, length, filter, find, Option, Some, None, if◌then◌else◌}
 use Rattle.coap_types.specs.declared.endpoint.Endpoint.{Endpoint}
 use Rattle.coap_types.specs.declared.request.Method.{Method}
 use Rattle.coap_types.specs.MethodCode.{method_code}
 use Rattle.coap_types.specs.Path.{same_path}
 use Rattle.coap_types.specs.SameEndpoint.{same_endpoint}
+use Rattle.coap_block.specs.declared.partial.TheConstants.{PARTIAL_LIFETIME_MS as partial_lifetime}
 
 -- what tells an upload from the others: who sends it, and the resource and the method that it is for
 pub record Key : Type 0 where
@@ -36,9 +36,9 @@ pub record AssemblyState : Type 0 where
 abbrev pub nothing_yet : ℕ → AssemblyState
 nothing_yet szx = record { szx = szx; clock = 0; partials = [] }
 
--- at most 247,000 ms passed since its last block (EXCHANGE_LIFETIME: RFC 7252, section 4.8.2)
+-- at most so long ago did its last block come (EXCHANGE_LIFETIME: RFC 7252, section 4.8.2)
 abbrev pub is_live : ℕ → PartialBody → Bool
-is_live now p = nat_le (now - p.last) 247000
+is_live now p = nat_le (now - p.last) partial_lifetime
 
 -- those of which the last block is no longer ago: the others are dropped
 abbrev pub forgotten : ℕ → List PartialBody → List PartialBody
@@ -49,9 +49,9 @@ abbrev pub partial_of : Key → List PartialBody → Option PartialBody
 partial_of key ps = find (λ p. same_key p.key key) ps
 
 -- without the partial body of that key
-abbrev pub without : Key → List PartialBody → List PartialBody
-without key [] = []
-without key (p ∷ ps) = if same_key p.key key then ps else p ∷ without key ps
+abbrev pub without_key : Key → List PartialBody → List PartialBody
+without_key key [] = []
+without_key key (p ∷ ps) = if same_key p.key key then ps else p ∷ without_key key ps
 
 -- with this partial body, in place of one of its key
 abbrev pub put : PartialBody → List PartialBody → List PartialBody
@@ -65,6 +65,14 @@ bytes_of (Some p) = p.bytes
 
 abbrev pub joined_before : Key → ℕ → List PartialBody → List ℕ
 joined_before key num ps = if num == 0 then [] else bytes_of (partial_of key ps)
+
+-- and with its payload
+abbrev pub with_payload : Key → ℕ → List ℕ → List PartialBody → List ℕ
+with_payload key num payload ps = joined_before key num ps ++ payload
+
+-- the partial body of a key with a block that came then
+abbrev pub body_with : Key → ℕ → List ℕ → ℕ → List PartialBody → PartialBody
+body_with key num payload now ps = record { key = key; bytes = with_payload key num payload ps; last = now }
 
 -- how many bytes there are of that key, if it has a partial body
 abbrev pub reached_of : Option PartialBody → Option ℕ

@@ -1,11 +1,12 @@
 -- What a server does with a block of an upload (RFC 7959, sections 2.5 and 2.9).
-use Rattle.std.specs.Prelude.{ℕ, Bool, true, false, not, ◌&&◌, ◌||◌, ◌==◌, nat_lt, nat_le, ◌+◌, max, min, List, length, ◌++◌, Option, Some, None, if◌then◌else◌}
-use Rattle.coap_block.specs.declared.block.Block.{Block}
+use Rattle.std.specs.Prelude.{ℕ, Bool, true, false, not, ◌&&◌, ◌||◌, ◌==◌, nat_lt, nat_le, ◌+◌, max, min, List, length, Option, Some, None, if◌then◌else◌}
+use Rattle.coap_types.specs.declared.block.Block.{Block}
 use Rattle.coap_block.specs.declared.assembly_step.AssemblyRefusal.TheVariants.{BadRequest, EntityIncomplete, EntityTooLarge, Unavailable}
 use Rattle.coap_block.specs.declared.block_verdict.BlockVerdict.{BlockVerdict}
 use Rattle.coap_block.specs.declared.block_verdict.BlockVerdict.TheVariants.{Refuse, Join, Done}
-use Rattle.coap_block.specs.Piece.{size_of, offset_of, max_body_len}
-use Rattle.coap_block.specs.AssemblyState.{Key, PartialBody, AssemblyState, forgotten, without, put, joined_before, reached}
+use Rattle.coap_block.specs.declared.assembly_judging.TheConstants.{MAX_PARTIALS as max_partials}
+use Rattle.coap_types.specs.Piece.{size_of, offset_of, max_body_len}
+use Rattle.coap_block.specs.AssemblyState.{Key, PartialBody, AssemblyState, forgotten, without_key, put, with_payload, body_with, reached}
 
 -- a block with more behind it has its full size, the last one is no longer
 abbrev pub fills : Bool → ℕ → ℕ → Bool
@@ -32,7 +33,7 @@ ruling szx reached others b len =
     if not (fills b.more b.szx len) then Refuse BadRequest
     else if not (goes_on reached b.num b.szx) then Refuse EntityIncomplete
     else if nat_lt max_body_len (offset_of b.num b.szx + len) then Refuse EntityTooLarge
-    else if b.more && (b.num == 0) && nat_le 16 others then Refuse Unavailable
+    else if b.more && (b.num == 0) && nat_le max_partials others then Refuse Unavailable
     else if b.more then Join (answered_szx szx b)
     else Done
 
@@ -46,25 +47,25 @@ there_at s now = forgotten (moment_at s now) s.partials
 
 abbrev pub verdict_at : AssemblyState → ℕ → Key → Block → ℕ → BlockVerdict
 verdict_at s now key b len =
-    ruling s.szx (reached key (there_at s now)) (length (without key (there_at s now))) b len
+    ruling s.szx (reached key (there_at s now)) (length (without_key key (there_at s now))) b len
 
 -- the bytes that are joined with the block
 abbrev pub with_block : AssemblyState → ℕ → Key → Block → List ℕ → List ℕ
-with_block s now key b payload = joined_before key b.num (there_at s now) ++ payload
+with_block s now key b payload = with_payload key b.num payload (there_at s now)
 
 -- the partial bodies behind a block: too long a body is dropped, a whole one is taken away
 abbrev pub partials_by : BlockVerdict → PartialBody → List PartialBody → List PartialBody
 partials_by (Refuse BadRequest) new ps = ps
 partials_by (Refuse EntityIncomplete) new ps = ps
-partials_by (Refuse EntityTooLarge) new ps = without new.key ps
+partials_by (Refuse EntityTooLarge) new ps = without_key new.key ps
 partials_by (Refuse Unavailable) new ps = ps
 partials_by (Join szx) new ps = put new ps
-partials_by Done new ps = without new.key ps
+partials_by Done new ps = without_key new.key ps
 
 abbrev pub after_block : AssemblyState → ℕ → Key → Block → List ℕ → AssemblyState
 after_block s now key b payload =
     record s {
       clock = moment_at s now;
       partials = partials_by (verdict_at s now key b (length payload))
-          (record { key = key; bytes = with_block s now key b payload; last = moment_at s now }) (there_at s now);
+          (body_with key b.num payload (moment_at s now) (there_at s now)) (there_at s now);
     }

@@ -1,8 +1,10 @@
 -- An assembly's history: the blocks that came since it was made, the newest outermost (RFC 7959, section 2.5).
 use Rattle.std.specs.Prelude.{◌≡◌, ◌≢◌, ℕ, ◌≤◌, ◌==◌, List, [], ◌∷◌, ◌++◌, length, Some, None, if◌then◌else◌}
-use Rattle.coap_block.specs.declared.block.Block.{Block}
+use Rattle.coap_types.specs.declared.block.Block.{Block}
 use Rattle.coap_block.specs.declared.block_verdict.BlockVerdict.{BlockVerdict}
 use Rattle.coap_block.specs.declared.block_verdict.BlockVerdict.TheVariants.{Refuse, Join, Done}
+use Rattle.coap_block.specs.declared.assembly_judging.TheConstants.{MAX_PARTIALS as max_partials}
+use Rattle.coap_types.specs.Piece.{max_body_len}
 use Rattle.coap_block.specs.Whole.{Part, Each, joined, Chained, WholeAtServer}
 use Rattle.coap_block.specs.Gathered.{part, IsFull}
 use Rattle.coap_block.specs.AssemblyState.{Key, PartialBody, AssemblyState, same_key, nothing_yet, partial_of}
@@ -43,16 +45,16 @@ pub record JoinedFrom (parts : List Part) (p : PartialBody) : Type 0 where
   pub some : parts ≢ []
   pub chained : Chained 0 parts
   pub full : Each IsFull parts
-  pub short : length p.bytes ≤ 65536
+  pub short : length p.bytes ≤ max_body_len
 
 -- a partial body is the blocks that were taken for its key since its last block 0
 abbrev pub PartialsByHistory : Type 0
 PartialsByHistory = (t : AssemblyTrace) (key : Key) (p : PartialBody) → partial_of key (state_after t).partials ≡ Some p
     → JoinedFrom (blocks_since key t) p
 
--- there are at most 16 (profile)
+-- there are no more than a server keeps (profile)
 abbrev pub FewPartials : Type 0
-FewPartials = (t : AssemblyTrace) → length (state_after t).partials ≤ 16
+FewPartials = (t : AssemblyTrace) → length (state_after t).partials ≤ max_partials
 
 -- no two are of one key
 abbrev pub AreDistinct : List PartialBody → Type 0
@@ -63,11 +65,11 @@ abbrev pub OneForAKey : Type 0
 OneForAKey = (t : AssemblyTrace) → AreDistinct (state_after t).partials
 
 -- Whatever came before, a body that is answered is whole by the blocks that were taken for its key
--- since its last block 0, the last one among them, and has at most 65,536 bytes.
+-- since its last block 0, the last one among them, and is not too long.
 pub record IsWholeBody (parts : List Part) (body : List ℕ) : Type 0 where
   pub whole : WholeAtServer parts body
   pub joined_is : body ≡ joined parts
-  pub short : length body ≤ 65536
+  pub short : length body ≤ max_body_len
 
 abbrev pub WholeByBlocks : Type 0
 WholeByBlocks = (t : AssemblyTrace) (s : AssemblyState) (now : ℕ) (key : Key) (b : Block) (payload : List ℕ)

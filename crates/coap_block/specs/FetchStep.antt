@@ -1,12 +1,13 @@
 -- What a client does with a part of a body that arrives (RFC 7959, section 2.4).
 use Rattle.std.specs.Prelude.{ℕ, Bool, true, false, not, ◌&&◌, ◌||◌, ◌==◌, nat_lt, nat_le, ◌+◌, ◌/◌, min, List, [], ◌++◌, Option, Some, None, is_some, if◌then◌else◌}
 use Rattle.std.specs.Str.{bytes_eq}
-use Rattle.coap_block.specs.declared.block.Block.{Block}
+use Rattle.coap_types.specs.declared.block.Block.{Block}
 use Rattle.coap_block.specs.declared.fetch_progress.Asked.{Asked}
 use Rattle.coap_block.specs.declared.fetch_step.FetchRefusal.TheVariants.{BadBlock, NoTag, TooLarge, Changed}
 use Rattle.coap_block.specs.declared.fetch_verdict.Verdict.{Verdict}
 use Rattle.coap_block.specs.declared.fetch_verdict.Verdict.TheVariants.{Refuse, Again, Done, Ask}
-use Rattle.coap_block.specs.Piece.{size_of, offset_of, max_body_len}
+use Rattle.coap_block.specs.declared.fetch_judging.TheConstants.{MAX_RESTARTS as max_restarts}
+use Rattle.coap_types.specs.Piece.{size_of, offset_of, max_body_len}
 
 -- the client's block size, what was gathered since the start, the block that was asked for (none at the start), its tag
 pub record FetchState : Type 0 where
@@ -33,15 +34,30 @@ abbrev pub same_tag : Option (List ℕ) → Option (List ℕ) → Bool
 same_tag (Some a) (Some b) = bytes_eq a b
 same_tag a b = false
 
+-- behind other parts, the tag isn't theirs
+abbrev pub differs_from : Option Asked → Option (List ℕ) → Option (List ℕ) → Bool
+differs_from asked old tag = is_some asked && not (same_tag tag old)
+
 abbrev pub differs : FetchState → Option (List ℕ) → Bool
-differs s tag = is_some s.asked && not (same_tag tag s.tag)
+differs s tag = differs_from s.asked s.tag tag
+
+-- one of several parts, without an ETag
+abbrev pub lacks_tag : Block → Option (List ℕ) → Bool
+lacks_tag b tag = (b.more || nat_lt 0 b.num) && not (is_some tag)
+
+-- a body that changed is fetched anew, but not for ever
+abbrev pub changed : ℕ → Verdict
+changed restarts = if nat_le max_restarts restarts then Refuse Changed else Again
 
 -- the next block begins where this one ends, in the smaller of the two sizes
 abbrev pub next_szx : FetchState → Block → ℕ
 next_szx s b = min b.szx s.szx
 
+abbrev pub number_behind : ℕ → Block → ℕ
+number_behind szx b = (offset_of b.num b.szx + size_of b.szx) / size_of (min b.szx szx)
+
 abbrev pub next_num : FetchState → Block → ℕ
-next_num s b = (offset_of b.num b.szx + size_of b.szx) / size_of (next_szx s b)
+next_num s b = number_behind s.szx b
 
 -- the tests, in their order; the payload has so many bytes
 abbrev pub verdict : FetchState → Option Block → Option (List ℕ) → ℕ → Verdict
@@ -52,8 +68,8 @@ verdict s None tag len =
 verdict s (Some b) tag len =
     if not (fits s.asked b.num b.szx && is_sized b.more b.num b.szx len) then Refuse BadBlock
     else if nat_lt max_body_len (offset_of b.num b.szx + len) then Refuse TooLarge
-    else if (b.more || nat_lt 0 b.num) && not (is_some tag) then Refuse NoTag
-    else if differs s tag then (if nat_le 3 s.restarts then Refuse Changed else Again)
+    else if lacks_tag b tag then Refuse NoTag
+    else if differs s tag then changed s.restarts
     else if b.more then Ask (next_num s b) (next_szx s b)
     else Done
 

@@ -1,11 +1,12 @@
 -- A fetch's history: what came since it was made, the newest outermost (RFC 7959, section 2.4).
-use Rattle.std.specs.Prelude.{◌≡◌, ℕ, List, [], ◌∷◌, ◌++◌, length, Option, Some, None}
-use Rattle.coap_block.specs.declared.block.Block.{Block}
+use Rattle.std.specs.Prelude.{◌≡◌, ◌≤◌, ℕ, List, [], ◌∷◌, ◌++◌, length, Option, Some, None}
+use Rattle.coap_types.specs.declared.block.Block.{Block}
 use Rattle.coap_block.specs.declared.fetch_verdict.Verdict.{Verdict}
 use Rattle.coap_block.specs.declared.fetch_verdict.Verdict.TheVariants.{Refuse, Again, Done, Ask}
+use Rattle.coap_types.specs.Piece.{max_body_len}
 use Rattle.coap_block.specs.Whole.{Part, Whole}
 use Rattle.coap_block.specs.FetchStep.{FetchState, start, verdict, after}
-use Rattle.coap_block.specs.Gathered.{part, given_by, Gathered}
+use Rattle.coap_block.specs.Gathered.{part, payloads_of, Gathered}
 
 pub data FetchTrace : Type 0 where
   Made : (szx : ℕ) → FetchTrace
@@ -40,4 +41,12 @@ PartsAreGathered = (t : FetchTrace) → Gathered (parts_since t) (state_after t)
 abbrev pub WholeByHistory : Type 0
 WholeByHistory = (t : FetchTrace) (s : FetchState) (block : Option Block) (tag : Option (List ℕ)) (payload : List ℕ)
     → Led t s → verdict s block tag (length payload) ≡ Done
-    → Whole (given_by (parts_since t) block tag payload) (s.gathered ++ payload)
+    → Whole (payloads_of (parts_since t) block tag payload) (s.gathered ++ payload)
+
+-- what is gathered is never too long, nor is a body that is answered (RFC 7959, section 7)
+abbrev pub GatheredIsShort : Type 0
+GatheredIsShort = (t : FetchTrace) (s : FetchState) → Led t s → length s.gathered ≤ max_body_len
+
+abbrev pub BodyIsShort : Type 0
+BodyIsShort = (t : FetchTrace) (s : FetchState) (block : Option Block) (tag : Option (List ℕ)) (payload : List ℕ)
+    → Led t s → verdict s block tag (length payload) ≡ Done → length (s.gathered ++ payload) ≤ max_body_len

@@ -1,10 +1,10 @@
 -- What a fetch has gathered, by the parts that it took since its start (RFC 7959, section 2.4).
 use Rattle.std.specs.Prelude.{◌≡◌, ◌≢◌, ℕ, true, ◌++◌, List, [], ◌∷◌, length, Option, Some, None}
-use Rattle.coap_block.specs.declared.block.Block.{Block}
+use Rattle.coap_types.specs.declared.block.Block.{Block}
 use Rattle.coap_block.specs.declared.fetch_progress.Asked.{Asked}
 use Rattle.coap_block.specs.declared.fetch_verdict.Verdict.TheVariants.{Done, Ask}
-use Rattle.coap_block.specs.Piece.{size_of, offset_of}
-use Rattle.coap_block.specs.Whole.{Part, Each, joined, Chained, HasTag, Given, Blocks, Alone, Whole}
+use Rattle.coap_types.specs.Piece.{size_of, offset_of}
+use Rattle.coap_block.specs.Whole.{Part, Each, joined, Chained, HasTag, Payloads, Blocks, Alone, Whole}
 use Rattle.coap_block.specs.FetchStep.{FetchState, start, verdict, after}
 
 abbrev pub part : Block → Option (List ℕ) → List ℕ → Part
@@ -36,12 +36,12 @@ GatheredByPart = (parts : List Part) (s : FetchState) (b : Block) (tag : Option 
     → Gathered (parts ++ part b tag payload ∷ []) (after s tag payload (Ask num szx))
 
 -- what was given of the body, with what arrives last
-abbrev pub given_by : List Part → Option Block → Option (List ℕ) → List ℕ → Given
-given_by parts None tag payload = Alone payload
-given_by parts (Some b) tag payload = Blocks (parts ++ part b tag payload ∷ [])
+abbrev pub payloads_of : List Part → Option Block → Option (List ℕ) → List ℕ → Payloads
+payloads_of parts None tag payload = Alone payload
+payloads_of parts (Some b) tag payload = Blocks (parts ++ part b tag payload ∷ [])
 
 -- the body that is answered is whole by the parts since the start
 abbrev pub WholeByParts : Type 0
 WholeByParts = (parts : List Part) (s : FetchState) (block : Option Block) (tag : Option (List ℕ)) (payload : List ℕ)
     → Gathered parts s → verdict s block tag (length payload) ≡ Done
-    → Whole (given_by parts block tag payload) (s.gathered ++ payload)
+    → Whole (payloads_of parts block tag payload) (s.gathered ++ payload)

@@ -1,5 +1,3 @@
-pub mod BlockValue
-pub mod Piece
 pub mod Whole
 pub mod FetchStep
 pub mod FetchState
@@ -13,3 +11,4 @@ pub mod AssemblyStep
 pub mod AssemblyAnswer
 pub mod AssemblyKept
 pub mod AssemblyTrace
+pub mod PartialTimes

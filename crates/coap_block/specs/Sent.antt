@@ -1,7 +1,7 @@
 -- What an upload has sent, by the parts before the block to send (RFC 7959, section 2.5).
 use Rattle.std.specs.Prelude.{◌≡◌, ℕ, false, ◌++◌, List, [], ◌∷◌, length, None}
-use Rattle.coap_block.specs.declared.block.Block.{Block}
-use Rattle.coap_block.specs.Piece.{offset_of, part_of, Begins}
+use Rattle.coap_types.specs.declared.block.Block.{Block}
+use Rattle.coap_types.specs.Piece.{offset_of, part_of, Begins}
 use Rattle.coap_block.specs.Whole.{Part, Each, joined, IsPieceOf, Chained, InOrder}
 use Rattle.coap_block.specs.UploadStep.{UploadState, upload_start, more_follows, Continues, moved}
 

@@ -1,8 +1,9 @@
 -- The steps of a Block1 transfer at the client (RFC 7959, section 2.5).
-use Rattle.std.specs.Prelude.{◌≡◌, ℕ, Bool, true, nat_lt, ◌+◌, ◌/◌, ◌<◌, ◌≤◌, ◌⊎◌, List, length, Option, Some, None}
-use Rattle.coap_block.specs.declared.block.Block.{Block}
+use Rattle.std.specs.Prelude.{◌≡◌, ◌↔◌, ◌&&◌, ◌||◌, ◌==◌, IsTrue, ℕ, Bool, true, nat_lt, nat_le, ◌+◌, ◌/◌, ◌<◌, ◌≤◌, ◌⊎◌, List, length, Option, Some, None}
+use Rattle.coap_types.specs.declared.block.Block.{Block}
+use Rattle.coap_types.specs.declared.block.TheConstants.{MAX_NUM as max_num}
 use Rattle.coap_block.specs.declared.upload.Place.{Place}
-use Rattle.coap_block.specs.Piece.{size_of, offset_of, Begins}
+use Rattle.coap_types.specs.Piece.{size_of, offset_of, Begins}
 
 -- the body, and the number and the size of the block to send
 pub record UploadState : Type 0 where
@@ -32,7 +33,18 @@ KeepsSize s szx = (szx ≡ s.szx) ⊎ ((s.num ≡ 0) × (szx < s.szx))
 -- answer has its number, M 1 and its size or at block 0 a smaller one, and the next block has a number.
 abbrev pub Continues : UploadState → Block → Type 0
 Continues s answer =
-    (more_follows s ≡ true) × (answer.num ≡ s.num) × (answer.more ≡ true) × KeepsSize s answer.szx × (number_after s answer.szx ≤ 1048575)
+    (more_follows s ≡ true) × (answer.num ≡ s.num) × (answer.more ≡ true) × KeepsSize s answer.szx × (number_after s answer.szx ≤ max_num)
+
+-- the same as tests
+abbrev pub keeps_size : UploadState → ℕ → Bool
+keeps_size s szx = (szx == s.szx) || ((s.num == 0) && nat_lt szx s.szx)
+
+abbrev pub continues : UploadState → Block → Bool
+continues s answer =
+    more_follows s && ((answer.num == s.num) && (answer.more && (keeps_size s answer.szx && nat_le (number_after s answer.szx) max_num)))
+
+abbrev pub ContinuesIsTested : Type 0
+ContinuesIsTested = (s : UploadState) (answer : Block) → IsTrue (continues s answer) ↔ Continues s answer
 
 abbrev pub moved : UploadState → Block → UploadState
 moved s answer = record s { num = number_after s answer.szx; szx = answer.szx }
@@ -51,7 +63,7 @@ before_at body (Some p) = Some (at_place body p)
 
 -- a block of the body, and a number that can be written
 abbrev pub IsPlaceIn : List ℕ → Place → Type 0
-IsPlaceIn body p = Begins body p.num p.szx × (p.num ≤ 1048575)
+IsPlaceIn body p = Begins body p.num p.szx × (p.num ≤ max_num)
 
 abbrev pub IsPlaceBefore : List ℕ → Option Place → Type 0
 IsPlaceBefore body None = Unit {0}

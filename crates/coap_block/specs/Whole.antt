@@ -1,6 +1,6 @@
 -- When parts are a whole body (RFC 7959, sections 2.4 and 2.5).
 use Rattle.std.specs.Prelude.{◌≡◌, ◌≢◌, ℕ, Bool, true, false, ◌+◌, ◌++◌, ◌⊎◌, List, [], ◌∷◌, length, Option, Some}
-use Rattle.coap_block.specs.Piece.{offset_of, part_of, Begins, Piece}
+use Rattle.coap_types.specs.Piece.{offset_of, part_of, Begins, Piece}
 
 -- a part as it came: its block, its tag and its bytes
 pub record Part : Type 0 where
@@ -49,12 +49,12 @@ OneTag (p ∷ []) = Unit {0}
 OneTag (p ∷ q ∷ ps) = (t : List ℕ) × Each (HasTag t) (p ∷ q ∷ ps)
 
 -- what a client was given of a body: parts with Block2, or one payload without it
-pub data Given : Type 0 where
-  Blocks : (parts : List Part) → Given
-  Alone : (payload : List ℕ) → Given
+pub data Payloads : Type 0 where
+  Blocks : (parts : List Part) → Payloads
+  Alone : (payload : List ℕ) → Payloads
 
 -- at a client: its pieces in order under one ETag, or the one payload
-abbrev pub Whole : Given → List ℕ → Type 0
+abbrev pub Whole : Payloads → List ℕ → Type 0
 Whole (Blocks parts) body = InOrder parts body × OneTag parts
 Whole (Alone payload) body = payload ≡ body
 
@@ -82,7 +82,7 @@ WholeAtServer parts body = InOrder parts body ⊎ ClosedByEmpty parts body
 
 -- what is whole for two bodies is whole for one
 abbrev pub OneBody : Type 0
-OneBody = (given : Given) (a b : List ℕ) → Whole given a → Whole given b → a ≡ b
+OneBody = (given : Payloads) (a b : List ℕ) → Whole given a → Whole given b → a ≡ b
 
 abbrev pub OneBodyAtServer : Type 0
 OneBodyAtServer = (parts : List Part) (a b : List ℕ) → WholeAtServer parts a → WholeAtServer parts b → a ≡ b

@@ -1,19 +1,18 @@
-ghost use Rattle.std.specs.Prelude.{◌≡◌, ◌≤◌, ◌++◌, true, None, Some, IfOk, OnOk, OnErr, IsOk, IsSome, length, max, vec_len, vec_capacity};
-ghost use Rattle.coap_block.specs.AssemblyState.{nothing_yet, forgotten, joined_before};
+ghost use Rattle.std.specs.Prelude.{◌≡◌, ◌≤◌, ◌+◌, ◌++◌, true, None, Some, IfOk, OnOk, OnErr, IsOk, IsSome, length, max, vec_len, vec_capacity};
+ghost use Rattle.coap_block.specs.AssemblyState.{body_with, forgotten, nothing_yet, with_payload};
 ghost use Rattle.coap_block.specs.AssemblyStep.{partials_by, verdict_at};
 ghost use Rattle.coap_block.specs.AssemblyAnswer.{IsRefused, TakesBlock, took};
 ghost use Rattle.coap_block.specs.AssemblyTrace.{Arrived, AssemblyTrace, Led, Made};
-ghost use Rattle.coap_block.specs.AssemblyKept.{begun, kept, key_of, restored, IsUndoable};
+ghost use Rattle.coap_block.specs.AssemblyKept.{partials_of, key_of, there_of, undone, AreFew, IsUndoable};
 
-use crate::assembly_judging::judge;
+use crate::assembly_judging::{MAX_PARTIALS, judge};
 use crate::assembly_step::{AssemblyRefusal, Took};
 use crate::assembly_undo::{Before, Change};
-use crate::block::Block;
 use crate::block_verdict::BlockVerdict;
 use crate::partial::Partial;
 use crate::partials::{counts, join, restore, take_out, whole};
 use crate::upload_key::UploadKey;
-use coap_types::{Moment, Szx};
+use coap_types::{Block, Moment, Szx};
 use std::alloc::{AllocError, Allocator, Global};
 use std::marker::Model;
 
@@ -29,13 +28,14 @@ pub struct Assembly<A: Allocator = Global> {
 }
 
 impl<A: Allocator> Model for Assembly<A> {
-    ghost use Rattle.coap_block.specs.AssemblyKept.{AssemblyValue, before_of, kept, state_of, IsUndoableBefore};
+    ghost use Rattle.coap_block.specs.AssemblyKept.{AssemblyValue, partials_of, value_of, AreFew, AreFewBefore, IsUndoableBefore};
 
     ghost Value = { AssemblyValue };
 
-    ghost view = { λ a. record { state = state_of a.szx a.clock.0 (kept a.partials.items); before = before_of a.szx (kept a.partials.items) a.before } };
+    ghost view = { λ a. value_of a.szx a.clock.0 (partials_of a.partials.items) a.before };
 
-    ghost invariant = { λ a. IsUndoableBefore a.before a.partials };
+    ghost invariant = { λ a. IsUndoableBefore a.before a.partials
+        × AreFew a.clock.0 (partials_of a.partials.items) × AreFewBefore (partials_of a.partials.items) a.before };
 }
 
 impl<A: Allocator + Copy> Assembly<A> {
@@ -64,12 +64,15 @@ impl<A: Allocator + Copy> Assembly<A> {
         block: Block,
         payload: &[u8],
     ) -> Result<Took<A>, AllocError>
-        ensures step { IfOk result (λ answer. TakesBlock self.old.state now.0 (key_of key.now) block payload.now answer self.new.state) }
-        ensures led { OnOk result ((t : AssemblyTrace) → Led t self.old.state → Led (Arrived t now.0 (key_of key.now) block payload.now) self.new.state) }
+        ensures step { IfOk result (λ answer.
+            TakesBlock self.old.state now.0 (key_of key.now) block payload.now answer self.new.state) }
+        ensures led { OnOk result ((t : AssemblyTrace) → Led t self.old.state
+            → Led (Arrived t now.0 (key_of key.now) block payload.now) self.new.state) }
         ensures before { OnOk result (self.new.before ≡ Some self.old.state) }
         ensures err { OnErr result (self.new ≡ self.old) }
         // A refusal takes no memory.
-        ensures quiet { IsRefused (verdict_at self.old.state now.0 (key_of key.now) block (length payload.now)) → IsOk result }
+        ensures quiet { IsRefused (verdict_at self.old.state now.0 (key_of key.now) block (length payload.now))
+            → IsOk result }
     {
         let num = block.num;
         let was = self.clock;
@@ -113,13 +116,19 @@ fn act<A: Allocator + Copy>(
     payload: &[u8],
     verdict: BlockVerdict,
 ) -> Result<(Took<A>, Change<A>), AllocError>
-    requires { was.0 ≤ now.0 }
-    ensures answer { IfOk result (λ r. r.0 ≡ took (joined_before (key_of key.now) num (forgotten now.0 (kept partials.old.items)) ++ payload.now) num verdict) }
-    ensures left { OnOk result (forgotten now.0 (kept partials.new.items) ≡ partials_by verdict
-        (begun (key_of key.now) (joined_before (key_of key.now) num (forgotten now.0 (kept partials.old.items)) ++ payload.now) now.0) (forgotten now.0 (kept partials.old.items))) }
-    ensures back { IfOk result (λ r. forgotten was.0 (restored r.1 (kept partials.new.items)) ≡ forgotten was.0 (kept partials.old.items)) }
+    requires order { was.0 ≤ now.0 }
+    requires few { AreFew was.0 (partials_of partials.old.items) }
+    ensures answer { IfOk result (λ r.
+        r.0 ≡ took (with_payload (key_of key.now) num payload.now (there_of now.0 partials.old.items)) num verdict) }
+    ensures left { OnOk result (there_of now.0 partials.new.items 
+        ≡ partials_by verdict (body_with (key_of key.now) num payload.now now.0 (there_of now.0 partials.old.items))
+            (there_of now.0 partials.old.items)) }
+    ensures back { IfOk result (λ r.
+        forgotten was.0 (undone r.1 partials.new.items) ≡ there_of was.0 partials.old.items) }
     ensures undoable { IfOk result (λ r. IsUndoable r.1 partials.new) }
-    ensures err { OnErr result (kept partials.new.items ≡ kept partials.old.items) }
+    ensures few { OnOk result (length (partials_of partials.new.items) ≤ MAX_PARTIALS + 1) }
+    ensures few_back { IfOk result (λ r. length (undone r.1 partials.new.items) ≤ MAX_PARTIALS + 1) }
+    ensures err { OnErr result (partials_of partials.new.items ≡ partials_of partials.old.items) }
     ensures len { OnErr result (vec_len partials.new ≡ vec_len partials.old) }
     ensures room { OnErr result (vec_capacity partials.old ≤ vec_capacity partials.new) }
     ensures quiet { IsRefused verdict → IsOk result }

@@ -2,11 +2,10 @@ ghost use Rattle.std.specs.Prelude.{◌≡◌};
 ghost use Rattle.coap_block.specs.AssemblyStep.{answered_szx, fills, goes_on, ruling};
 
 use crate::assembly_step::AssemblyRefusal;
-use crate::block::Block;
 use crate::block_verdict::BlockVerdict;
-use crate::body::MAX_BODY_LEN;
 use crate::fetch_judging::smaller;
-use coap_types::Szx;
+use coap_types::limits::MAX_BODY_LEN;
+use coap_types::{Block, Szx};
 
 /// The most uploads of which a server keeps a partial body (profile: RFC 7959, section 7, asks for a
 /// bound).
@@ -14,7 +13,7 @@ pub const MAX_PARTIALS: usize = 16;
 
 const _: () = prove!(MAX_PARTIALS == 16);
 
-/// A block with more behind it has its full size, the last one is no longer.
+// A block with more behind it has its full size, the last one is no longer.
 fn fills(more: bool, szx: Szx, len: usize) -> bool
     ensures { result ≡ fills more szx len }
 {
@@ -25,14 +24,14 @@ fn fills(more: bool, szx: Szx, len: usize) -> bool
     }
 }
 
-/// Block 0 needs no partial body, another block begins where it ends.
+// Block 0 needs no partial body, another block begins where it ends.
 fn goes_on(reached: Option<usize>, num: u32, szx: Szx) -> bool
     ensures { result ≡ goes_on reached num szx }
 {
     num == 0 || reached == Some(num as usize * szx.size())
 }
 
-/// The size that is answered: at block 0 the smaller of both, then that of the block.
+// The size that is answered: at block 0 the smaller of both, then that of the block.
 fn answered_szx(szx: Szx, block: Block) -> Szx
     ensures { result ≡ answered_szx szx block }
 {

@@ -1,9 +1,8 @@
 ghost use Rattle.std.specs.Prelude.{◌≡◌};
 ghost use Rattle.coap_block.specs.AssemblyAnswer.{refusal_code};
 
-use crate::block::Block;
 use bytes::Bytes;
-use coap_types::Code;
+use coap_types::{Block, Code};
 use std::alloc::{Allocator, Global};
 
 /// Why an assembly refuses a block. Each is tested for in this order.

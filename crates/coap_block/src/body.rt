@@ -3,12 +3,6 @@ ghost use Rattle.std.specs.Prelude.{◌≡◌, ◌≤◌, ◌++◌, IfOk, OnOk, 
 use bytes::Bytes;
 use std::alloc::{AllocError, Allocator};
 
-/// The longest body that is joined from blocks, in bytes (profile: RFC 7959 sets no bound but that
-/// of NUM; section 7 asks for one).
-pub const MAX_BODY_LEN: usize = 65_536;
-
-const _: () = prove!(MAX_BODY_LEN == 65_536);
-
 /// Puts bytes behind the first `len`, in place of what is there.
 pub(crate) fn put_at<A: Allocator + Copy>(
     bytes: &mut Vec<u8, A>,
@@ -25,8 +19,8 @@ pub(crate) fn put_at<A: Allocator + Copy>(
     Ok(())
 }
 
-/// One body of two slices.
-pub(crate) fn joined<A: Allocator + Copy>(
+/// One body of two slices, the one behind the other.
+pub(crate) fn appended<A: Allocator + Copy>(
     alloc: A,
     front: &[u8],
     back: &[u8],

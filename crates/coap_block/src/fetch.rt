@@ -1,15 +1,14 @@
-ghost use Rattle.std.specs.Prelude.{◌≡◌, false, None, Some, IfOk, OnOk, OnErr, IsOk, IsSome, length};
+ghost use Rattle.std.specs.Prelude.{◌≡◌, ◌≤◌, false, None, Some, IfOk, IfSome, OnOk, OnErr, IsOk, IsSome, length};
 ghost use Rattle.coap_block.specs.FetchStep.{start, verdict};
 ghost use Rattle.coap_block.specs.FetchTrace.{FetchTrace, Led, Made, Took};
-ghost use Rattle.coap_block.specs.FetchAnswer.{Takes, IsQuiet};
+ghost use Rattle.coap_block.specs.FetchAnswer.{block_asked, Takes, IsNumbered, IsQuiet};
 
-use crate::block::Block;
-use crate::body::{joined, put_at};
+use crate::body::{appended, put_at};
 use crate::fetch_judging::judge;
 use crate::fetch_progress::{Asked, Before, Progress};
 use crate::fetch_step::Step;
 use crate::fetch_verdict::Verdict;
-use coap_types::{Szx, Tag};
+use coap_types::{Block, MAX_NUM, Szx, Tag};
 use std::alloc::{AllocError, Allocator, Global};
 use std::marker::Model;
 use std::mem;
@@ -26,14 +25,13 @@ pub struct Fetch<A: Allocator = Global> {
 }
 
 impl<A: Allocator> Model for Fetch<A> {
-    ghost use Rattle.std.specs.Prelude.{◌≤◌, length};
-    ghost use Rattle.coap_block.specs.FetchState.{FetchValue, state_of, before_of, IsWithin};
+    ghost use Rattle.coap_block.specs.FetchState.{FetchValue, value_of, IsGoing, IsGoingBefore};
 
     ghost Value = { FetchValue };
 
-    ghost view = { λ f. record { state = state_of f.szx f.bytes.items f.progress; before = before_of f.szx f.bytes.items f.progress f.before } };
+    ghost view = { λ f. value_of f.szx f.bytes.items f.progress f.before };
 
-    ghost invariant = { λ f. (f.progress.len ≤ length f.bytes.items) × IsWithin f.before f.bytes.items };
+    ghost invariant = { λ f. IsGoing f.progress f.bytes.items × IsGoingBefore f.before f.bytes.items };
 }
 
 impl<A: Allocator + Copy> Fetch<A> {
@@ -51,6 +49,23 @@ impl<A: Allocator + Copy> Fetch<A> {
         }
     }
 
+    /// The greatest size of the blocks that it asks for.
+    pub fn szx(&self) -> Szx
+        ensures { result ≡ self.now.state.szx }
+    {
+        self.szx
+    }
+
+    /// The block that it asked for (RFC 7959, section 2.4); None at its start, where the request
+    /// carries no Block2.
+    pub fn asked(&self) -> Option<Block>
+        ensures block { result ≡ block_asked self.now.state }
+        ensures numbered { IfSome result (λ block. block.num ≤ MAX_NUM) }
+    {
+        let asked = self.progress.asked?;
+        Some(block_to_ask(asked.num, asked.szx))
+    }
+
     /// Takes the part that came in a 2.05 (RFC 7959, section 2.4): its Block2, its ETag and its
     /// payload. No Block2 is a body of one part; a Block2 that `Block::read` refuses is not that, and
     /// is not to be handed in. After a refusal the fetch is as before, after Whole as at its start.
@@ -61,9 +76,11 @@ impl<A: Allocator + Copy> Fetch<A> {
         payload: &[u8],
     ) -> Result<Step<A>, AllocError>
         ensures step { IfOk result (λ answer. Takes self.old.state block tag payload.now answer self.new.state) }
-        ensures led { OnOk result ((t : FetchTrace) → Led t self.old.state → Led (Took t block tag payload.now) self.new.state) }
+        ensures led { OnOk result ((t : FetchTrace) → Led t self.old.state
+            → Led (Took t block tag payload.now) self.new.state) }
         ensures before { OnOk result (self.new.before ≡ Some self.old.state) }
         ensures err { OnErr result (self.new ≡ self.old) }
+        ensures numbered { IfOk result IsNumbered }
         // What is refused or begins anew takes no memory.
         ensures quiet { IsQuiet (verdict self.old.state block tag (length payload.now)) → IsOk result }
     {
@@ -79,7 +96,7 @@ impl<A: Allocator + Copy> Fetch<A> {
             }
             Verdict::Done => {
                 let alloc = *self.bytes.allocator();
-                let whole = joined(alloc, &self.bytes[..self.progress.len], payload)?;
+                let whole = appended(alloc, &self.bytes[..self.progress.len], payload)?;
                 self.before = Before::Was(self.progress.start_again(0));
                 Ok(Step::Whole(whole))
             }

@@ -37,6 +37,7 @@ pub(crate) enum Before {
 }
 
 impl Progress {
+    /// Nothing was gathered yet, after so many restarts.
     pub(crate) fn start(restarts: u8) -> Progress
         ensures { result ≡ record { len = 0; asked = None; tag = None; restarts = restarts } }
     {
@@ -47,6 +48,7 @@ impl Progress {
             restarts,
         }
     }
+
     /// At the start again, after so many restarts: how far it was before.
     pub(crate) fn start_again(&mut self, restarts: u8) -> Progress
         ensures was { result ≡ self.old }
@@ -57,9 +59,10 @@ impl Progress {
 
     /// So many bytes further, with the block that is asked for next: how far it was before.
     pub(crate) fn go_on(&mut self, len: usize, asked: Asked, tag: Option<Tag>) -> Progress
-        requires { self.old.len + len ≤ 18446744073709551615 }
+        requires { self.old.len + len ≤ usize.MAX }
         ensures was { result ≡ self.old }
-        ensures next { self.new ≡ record { len = self.old.len + len; asked = Some asked; tag = tag; restarts = self.old.restarts } }
+        ensures next { self.new
+            ≡ record { len = self.old.len + len; asked = Some asked; tag = tag; restarts = self.old.restarts } }
     {
         let next = Progress {
             len: self.len + len,

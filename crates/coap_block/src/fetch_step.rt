@@ -1,5 +1,5 @@
-use crate::block::Block;
 use bytes::Bytes;
+use coap_types::Block;
 use std::alloc::{Allocator, Global};
 
 /// Why a fetch refuses a part. Each is tested for in the order BadBlock, TooLarge, NoTag, Changed.

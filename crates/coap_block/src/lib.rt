@@ -1,6 +1,6 @@
-//! Block-wise transfer (RFC 7959): the value of a Block option ([`Block`]), the piece of a body that
-//! a block carries ([`slice`]), the client's Block2 transfer ([`Fetch`]) and Block1 transfer
-//! ([`Upload`]), and the server's Block1 transfers ([`Assembly`]).
+//! Block-wise transfer (RFC 7959): the piece of a body that a [`Block`] carries ([`slice`]), the
+//! client's Block2 transfer ([`Fetch`]) and Block1 transfer ([`Upload`]), and the server's Block1
+//! transfers ([`Assembly`]).
 //!
 //! A body that is given out whole is its pieces in order, of one version or of one upload. Nothing
 //! here sends or receives anything: what came is handed in, and what is to go out is answered.
@@ -10,7 +10,6 @@ mod assembly;
 mod assembly_judging;
 mod assembly_step;
 mod assembly_undo;
-mod block;
 mod block_verdict;
 mod body;
 mod fetch;
@@ -30,15 +29,15 @@ mod upload_key;
 pub use assembly::Assembly;
 pub use assembly_judging::MAX_PARTIALS;
 pub use assembly_step::{AssemblyRefusal, Took};
-pub use block::{Block, MAX_BLOCK_LEN, MAX_NUM};
 pub use block_verdict::BlockVerdict;
-pub use body::MAX_BODY_LEN;
+pub use coap_types::limits::MAX_BODY_LEN;
+pub use coap_types::{Block, MAX_BLOCK_LEN, MAX_NUM};
 pub use fetch::Fetch;
 pub use fetch_judging::MAX_RESTARTS;
 pub use fetch_progress::Asked;
 pub use fetch_step::{FetchRefusal, Step};
 pub use fetch_verdict::Verdict;
-pub use laws::{assembly_law, block_law, body_law, fetch_law, upload_law};
+pub use laws::{assembly_law, body_law, fetch_law, upload_law};
 pub use partial::PARTIAL_LIFETIME_MS;
 pub use piece::slice;
 pub use upload::Upload;

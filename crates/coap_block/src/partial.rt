@@ -4,13 +4,12 @@ ghost use Rattle.coap_block.specs.AssemblyKept.{begun, body_of, cut, grown, is_t
 
 use crate::upload_key::UploadKey;
 use coap_types::Moment;
+use coap_types::transmission::EXCHANGE_LIFETIME_MS;
 use std::alloc::{AllocError, Allocator};
 
 /// How long a partial body is kept after its last block, in milliseconds (profile: EXCHANGE_LIFETIME,
 /// RFC 7252, section 4.8.2; RFC 7959, section 7, asks for a bound).
-pub const PARTIAL_LIFETIME_MS: u64 = 247_000;
-
-const _: () = prove!(PARTIAL_LIFETIME_MS == 247_000);
+pub const PARTIAL_LIFETIME_MS: u64 = EXCHANGE_LIFETIME_MS;
 
 /// The blocks of one upload, joined so far.
 #[derive(Drop)]

@@ -1,11 +1,12 @@
-ghost use Rattle.std.specs.Prelude.{◌≡◌, ◌<◌, ◌≤◌, ◌++◌, ◌∷◌, [], filter, length, option_copied, set, IfOk, IfSome, IfNone, OnOk, OnErr, vec_len, vec_capacity};
+ghost use Rattle.std.specs.Prelude.{◌≡◌, ◌<◌, ◌≤◌, ◌+◌, ◌++◌, ◌∷◌, [], filter, length, option_copied, set, IfOk, IfSome, IfNone, OnOk, OnErr, vec_len, vec_capacity};
 ghost use Rattle.std.specs.List.{insert, remove};
 ghost use Rattle.std.specs.Option.{option_map};
-ghost use Rattle.coap_block.specs.AssemblyState.{forgotten, is_live, joined_before, partial_of, put, reached, without};
-ghost use Rattle.coap_block.specs.AssemblyKept.{begun, body_of, changed_at, grown, kept, key_of, place_of, restored, IsUndoable};
+ghost use Rattle.coap_block.specs.AssemblyState.{body_with, forgotten, is_live, partial_of, put, reached, with_payload, without_key};
+ghost use Rattle.coap_block.specs.AssemblyKept.{begun, body_of, changed_at, grown, partials_of, key_of, place_of, there_of, undone, AreFew, IsUndoable};
 
+use crate::assembly_judging::MAX_PARTIALS;
 use crate::assembly_undo::Change;
-use crate::body::joined;
+use crate::body::appended;
 use crate::partial::Partial;
 use crate::upload_key::UploadKey;
 use bytes::Bytes;
@@ -19,7 +20,7 @@ pub(crate) fn find<'a, A: Allocator + Copy>(
     key: &UploadKey<A>,
     now: Moment,
 ) -> Option<&'a Partial<A>>
-    ensures { option_map body_of (option_copied result) ≡ partial_of (key_of key.now) (forgotten now.0 (kept partials.now)) }
+    ensures { option_map body_of (option_copied result) ≡ partial_of (key_of key.now) (there_of now.0 partials.now) }
 {
     match partials {
         [] => None,
@@ -28,13 +29,13 @@ pub(crate) fn find<'a, A: Allocator + Copy>(
     }
 }
 
-/// Its place.
+// Its place.
 fn place_of<A: Allocator + Copy>(
     partials: &[Partial<A>],
     key: &UploadKey<A>,
     now: Moment,
 ) -> Option<usize>
-    ensures place { result ≡ place_of (key_of key.now) now.0 (kept partials.now) }
+    ensures place { result ≡ place_of (key_of key.now) now.0 (partials_of partials.now) }
     ensures within { IfSome result (λ i. i < length partials.now) }
 {
     match partials {
@@ -44,7 +45,7 @@ fn place_of<A: Allocator + Copy>(
     }
 }
 
-/// How many partial bodies there are.
+// How many partial bodies there are.
 fn live<A: Allocator + Copy>(partials: &[Partial<A>], now: Moment) -> usize
     ensures { result ≡ length (filter (λ p. is_live now.0 (body_of p)) partials.now) }
 {
@@ -60,8 +61,8 @@ pub(crate) fn counts<A: Allocator + Copy>(
     key: &UploadKey<A>,
     now: Moment,
 ) -> (Option<usize>, usize)
-    ensures reached { result.0 ≡ reached (key_of key.now) (forgotten now.0 (kept partials.now)) }
-    ensures others { result.1 ≡ length (without (key_of key.now) (forgotten now.0 (kept partials.now))) }
+    ensures reached { result.0 ≡ reached (key_of key.now) (there_of now.0 partials.now) }
+    ensures others { result.1 ≡ length (without_key (key_of key.now) (there_of now.0 partials.now)) }
 {
     let live = live(partials, now);
     match find(partials, key, now) {
@@ -76,9 +77,11 @@ pub(crate) fn take_out<A: Allocator + Copy>(
     key: &UploadKey<A>,
     now: Moment,
 ) -> Change<A>
-    ensures left { forgotten now.0 (kept partials.new.items) ≡ without (key_of key.now) (forgotten now.0 (kept partials.old.items)) }
-    ensures back { restored result (kept partials.new.items) ≡ kept partials.old.items }
+    ensures left { there_of now.0 partials.new.items
+        ≡ without_key (key_of key.now) (there_of now.0 partials.old.items) }
+    ensures back { undone result partials.new.items ≡ partials_of partials.old.items }
     ensures undoable { IsUndoable result partials.new }
+    ensures fewer { length (partials_of partials.new.items) ≤ length (partials_of partials.old.items) }
 {
     match place_of(partials, key, now) {
         None => Change::Clock,
@@ -86,7 +89,7 @@ pub(crate) fn take_out<A: Allocator + Copy>(
     }
 }
 
-/// Drops those that are no longer there.
+// Drops those that are no longer there.
 fn forget<A: Allocator + Copy>(partials: &mut Vec<Partial<A>, A>, now: Moment)
     ensures left { partials.new.items ≡ filter (λ p. is_live now.0 (body_of p)) partials.old.items }
     ensures len { vec_len partials.new ≤ vec_len partials.old }
@@ -103,7 +106,7 @@ fn push_within<A: Allocator + Copy>(partials: &mut Vec<Partial<A>, A>, partial: 
     let _room_was_reserved = partials.push(partial);
 }
 
-/// Puts a block behind the partial body at a place.
+// Puts a block behind the partial body at a place.
 fn grow<A: Allocator + Copy>(
     partials: &mut Vec<Partial<A>, A>,
     i: usize,
@@ -111,10 +114,11 @@ fn grow<A: Allocator + Copy>(
     now: Moment,
 ) -> Result<Change<A>, AllocError>
     requires { i < length partials.old.items }
-    ensures ok { OnOk result (kept partials.new.items ≡ changed_at (grown payload.now now.0) i (kept partials.old.items)) }
-    ensures back { IfOk result (λ change. restored change (kept partials.new.items) ≡ kept partials.old.items) }
+    ensures ok { OnOk result (partials_of partials.new.items
+        ≡ changed_at (grown payload.now now.0) i (partials_of partials.old.items)) }
+    ensures back { IfOk result (λ change. undone change partials.new.items ≡ partials_of partials.old.items) }
     ensures undoable { IfOk result (λ change. IsUndoable change partials.new) }
-    ensures err { OnErr result (kept partials.new.items ≡ kept partials.old.items) }
+    ensures err { OnErr result (partials_of partials.new.items ≡ partials_of partials.old.items) }
     ensures len { vec_len partials.new ≡ vec_len partials.old }
     ensures room { vec_capacity partials.new ≡ vec_capacity partials.old }
 {
@@ -124,7 +128,7 @@ fn grow<A: Allocator + Copy>(
     Ok(change)
 }
 
-/// Begins anew in place of the partial body at a place.
+// Begins anew in place of the partial body at a place.
 fn replace<A: Allocator + Copy>(
     partials: &mut Vec<Partial<A>, A>,
     i: usize,
@@ -133,8 +137,9 @@ fn replace<A: Allocator + Copy>(
     now: Moment,
 ) -> Result<Change<A>, AllocError>
     requires { i < length partials.old.items }
-    ensures ok { OnOk result (kept partials.new.items ≡ set (kept partials.old.items) i (begun (key_of key.now) payload.now now.0)) }
-    ensures back { IfOk result (λ change. restored change (kept partials.new.items) ≡ kept partials.old.items) }
+    ensures ok { OnOk result (partials_of partials.new.items
+        ≡ set (partials_of partials.old.items) i (begun (key_of key.now) payload.now now.0)) }
+    ensures back { IfOk result (λ change. undone change partials.new.items ≡ partials_of partials.old.items) }
     ensures undoable { IfOk result (λ change. IsUndoable change partials.new) }
     ensures err { OnErr result (partials.new ≡ partials.old) }
 {
@@ -143,8 +148,8 @@ fn replace<A: Allocator + Copy>(
     Ok(Change::Replaced(i, old))
 }
 
-/// Begins behind the others. Those that were no longer there at the moment of the last input are
-/// dropped, so that as many are kept as `undo` may ask for.
+// Begins behind the others. Those that were no longer there at the moment of the last input are
+// dropped, so that as many are kept as `undo` may ask for.
 fn begin<A: Allocator + Copy>(
     partials: &mut Vec<Partial<A>, A>,
     was: Moment,
@@ -152,8 +157,9 @@ fn begin<A: Allocator + Copy>(
     payload: &[u8],
     now: Moment,
 ) -> Result<Change<A>, AllocError>
-    ensures ok { OnOk result (kept partials.new.items ≡ forgotten was.0 (kept partials.old.items) ++ begun (key_of key.now) payload.now now.0 ∷ []) }
-    ensures back { IfOk result (λ change. restored change (kept partials.new.items) ≡ forgotten was.0 (kept partials.old.items)) }
+    ensures ok { OnOk result (partials_of partials.new.items
+        ≡ there_of was.0 partials.old.items ++ begun (key_of key.now) payload.now now.0 ∷ []) }
+    ensures back { IfOk result (λ change. undone change partials.new.items ≡ there_of was.0 partials.old.items) }
     ensures undoable { IfOk result (λ change. IsUndoable change partials.new) }
     ensures err { OnErr result (partials.new.items ≡ partials.old.items) }
     ensures len { OnErr result (vec_len partials.new ≡ vec_len partials.old) }
@@ -175,12 +181,17 @@ pub(crate) fn join<A: Allocator + Copy>(
     num: u32,
     payload: &[u8],
 ) -> Result<Change<A>, AllocError>
-    requires { was.0 ≤ now.0 }
-    ensures ok { OnOk result (forgotten now.0 (kept partials.new.items)
-        ≡ put (begun (key_of key.now) (joined_before (key_of key.now) num (forgotten now.0 (kept partials.old.items)) ++ payload.now) now.0) (forgotten now.0 (kept partials.old.items))) }
-    ensures back { IfOk result (λ change. forgotten was.0 (restored change (kept partials.new.items)) ≡ forgotten was.0 (kept partials.old.items)) }
+    requires order { was.0 ≤ now.0 }
+    requires few { AreFew was.0 (partials_of partials.old.items) }
+    ensures ok { OnOk result (there_of now.0 partials.new.items
+        ≡ put (body_with (key_of key.now) num payload.now now.0 (there_of now.0 partials.old.items))
+            (there_of now.0 partials.old.items)) }
+    ensures back { IfOk result (λ change.
+        forgotten was.0 (undone change partials.new.items) ≡ there_of was.0 partials.old.items) }
     ensures undoable { IfOk result (λ change. IsUndoable change partials.new) }
-    ensures err { OnErr result (kept partials.new.items ≡ kept partials.old.items) }
+    ensures few { OnOk result (length (partials_of partials.new.items) ≤ MAX_PARTIALS + 1) }
+    ensures few_back { IfOk result (λ change. length (undone change partials.new.items) ≤ MAX_PARTIALS + 1) }
+    ensures err { OnErr result (partials_of partials.new.items ≡ partials_of partials.old.items) }
     ensures len { OnErr result (vec_len partials.new ≡ vec_len partials.old) }
     ensures room { OnErr result (vec_capacity partials.old ≤ vec_capacity partials.new) }
 {
@@ -200,18 +211,19 @@ pub(crate) fn whole<A: Allocator + Copy>(
     num: u32,
     payload: &[u8],
 ) -> Result<Bytes<A>, AllocError>
-    ensures { IfOk result (λ whole. whole ≡ joined_before (key_of key.now) num (forgotten now.0 (kept partials.now)) ++ payload.now) }
+    ensures { IfOk result (λ whole.
+        whole ≡ with_payload (key_of key.now) num payload.now (there_of now.0 partials.now)) }
 {
     match find(partials, key, now) {
-        Some(partial) if num > 0 => joined(alloc, &partial.bytes, payload),
-        _ => joined(alloc, &[], payload),
+        Some(partial) if num > 0 => appended(alloc, &partial.bytes, payload),
+        _ => appended(alloc, &[], payload),
     }
 }
 
 /// Takes a change back.
 pub(crate) fn restore<A: Allocator + Copy>(partials: &mut Vec<Partial<A>, A>, change: Change<A>)
     requires { IsUndoable change partials.old }
-    ensures { kept partials.new.items ≡ restored change (kept partials.old.items) }
+    ensures { partials_of partials.new.items ≡ undone change partials.old.items }
 {
     match change {
         Change::Clock => {}

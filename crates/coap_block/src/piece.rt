@@ -1,7 +1,7 @@
 ghost use Rattle.std.specs.Prelude.{◌≡◌, ◌↔◌, IsSome, IfSome};
-ghost use Rattle.coap_block.specs.Piece.{Begins, part_of};
+ghost use Rattle.coap_types.specs.Piece.{Begins, part_of};
 
-use crate::block::Block;
+use coap_types::Block;
 
 /// The bytes of a body that a block carries, whatever its M says (RFC 7959, section 2.2): as many
 /// as its size, or up to the end. None where the block begins at or past the end; block 0 of an

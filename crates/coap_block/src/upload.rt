@@ -1,11 +1,10 @@
-ghost use Rattle.std.specs.Prelude.{◌≡◌, ◌≤◌, ◌↔◌, false, true, None, Some, IsSome, IsTrue, IfSome};
-ghost use Rattle.coap_block.specs.Piece.{Piece};
-ghost use Rattle.coap_block.specs.UploadStep.{upload_start, block_to_send, at_place, Continues, IsPlaceIn, moved};
+ghost use Rattle.std.specs.Prelude.{◌≡◌, ◌≤◌, ◌↔◌, false, true, None, Some, IsSome, IfSome};
+ghost use Rattle.coap_types.specs.Piece.{Piece};
+ghost use Rattle.coap_block.specs.UploadStep.{upload_start, block_to_send, at_place, continues, Continues, IsPlaceIn, moved};
 
-use crate::block::{Block, MAX_NUM};
 use crate::piece::slice;
 use bytes::Bytes;
-use coap_types::Szx;
+use coap_types::{Block, MAX_NUM, Szx};
 use std::alloc::{Allocator, Global};
 use std::marker::Model;
 
@@ -49,6 +48,13 @@ impl<A: Allocator + Copy> Upload<A> {
         }
     }
 
+    /// The body, whole, where the upload is over.
+    pub fn into_body(self) -> Bytes<A>
+        ensures { result ≡ self.state.body }
+    {
+        self.body
+    }
+
     /// The block to send and its bytes (RFC 7959, section 2.5); the same until it is accepted.
     pub fn next(&self) -> (Block, &[u8])
         ensures block { result.0 ≡ block_to_send self.now.state }
@@ -65,7 +71,7 @@ impl<A: Allocator + Copy> Upload<A> {
     /// another number, M 0, another size (at block 0: a larger one), or the next block would have a
     /// number over `MAX_NUM`.
     pub fn accepted(&mut self, answer: Block) -> bool
-        ensures fits { IsTrue result ↔ Continues self.old.state answer }
+        ensures fits { result ≡ continues self.old.state answer }
         ensures moved { result ≡ true → self.new.state ≡ moved self.old.state answer }
         ensures stays { result ≡ false → self.new.state ≡ self.old.state }
         ensures before { self.new.before ≡ Some self.old.state }

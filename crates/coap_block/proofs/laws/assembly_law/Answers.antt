@@ -1,4 +1,5 @@
-use Rattle.coap_block.proofs.AssemblyHistory.{partials_by_history, few_partials, one_for_a_key, whole_by_blocks, none_left, others_stay}
+use Rattle.coap_block.proofs.Joining.BlocksOfHistory.{partials_by_history, few_partials, one_for_a_key, whole_by_blocks, none_left, others_stay}
+use Rattle.coap_block.proofs.Joining.ThereExactly.{joins_where_more, there_at_moment, there_by_history}
 use Rattle.coap_block.proofs.laws.assembly_law.Goals as goal
 
 pub returns-clause-partials : goal.returns-clause-partials
@@ -18,3 +19,12 @@ returns-clause-others c = others_stay
 
 pub returns-clause-distinct : goal.returns-clause-distinct
 returns-clause-distinct c = one_for_a_key
+
+pub returns-clause-there : goal.returns-clause-there
+returns-clause-there c = there_by_history
+
+pub returns-clause-later : goal.returns-clause-later
+returns-clause-later c = there_at_moment
+
+pub returns-clause-joins : goal.returns-clause-joins
+returns-clause-joins c = joins_where_more

@@ -1,4 +1,4 @@
-use Rattle.coap_block.proofs.WholeLemmas.{one_body, one_body_at_server}
+use Rattle.coap_block.proofs.Joining.OneBody.{one_body, one_body_at_server}
 use Rattle.coap_block.proofs.laws.body_law.Goals as goal
 
 pub returns-clause-client : goal.returns-clause-client

@@ -1,4 +1,4 @@
-use Rattle.coap_block.proofs.KeptLemmas.{begun_behind, begun_back}
+use Rattle.coap_block.proofs.Fields.PartialsSeen.{begun_behind, begun_back}
 use Rattle.coap_block.proofs.partials.begin.Goals as goal
 
 pub returns-clause-ok : goal.returns-clause-ok

@@ -1,6 +1,6 @@
 use Rattle.std.proofs.Common.{◌∙◌, ap, rules}
 use Rattle.coap_block.specs.AssemblyKept.{body_of, grown}
-use Rattle.coap_block.proofs.KeptLemmas.{kept_set_same, kept_changed, kept_cut_back, on_err}
+use Rattle.coap_block.proofs.Fields.PartialsSeen.{kept_set_same, kept_changed, kept_cut_back, on_err}
 use Rattle.coap_block.proofs.partials.grow.Goals as goal
 
 pub returns-in_err-grow-clause-err : goal.returns-in_err-grow-clause-err

@@ -1,6 +1,6 @@
 use Rattle.std.proofs.Common.{◌∙◌, ap, refl, rules}
 use Rattle.coap_block.specs.AssemblyKept.{body_of, cut}
-use Rattle.coap_block.proofs.KeptLemmas.{kept_set, kept_put_back, kept_changed}
+use Rattle.coap_block.proofs.Fields.PartialsSeen.{kept_set, kept_put_back, kept_changed}
 use Rattle.coap_block.proofs.partials.restore.Goals as goal
 
 pub returns-in-Replaced : goal.returns-in-Replaced

@@ -1,20 +1,21 @@
 -- The parts since the start are whole at the last one.
-use Rattle.std.proofs.Common.{◌≡◌, ◌≢◌, ◌⊎◌, inl, inr, ℕ, Bool, true, false, not, ◌&&◌, ◌||◌, nat_lt, nat_le, ◌==◌, if◌then◌else◌, ◌+◌, ◌-◌, ◌*◌, ◌/◌, ◌^◌, ◌<◌, ◌≤◌, ◌++◌, ◌∙◌, List, [], ◌∷◌, length, refl, ap, sym, subst, arith, append-nil, append_assoc, length-append, pow_pos, Option, Some, None, is_some, min}
+use Rattle.std.proofs.Common.{◌≡◌, ◌⊎◌, inl, inr, ℕ, Bool, true, false, not, ◌&&◌, ◌||◌, nat_lt, nat_le, ◌==◌, if◌then◌else◌, ◌+◌, ◌<◌, ◌≤◌, ◌++◌, ◌∙◌, List, [], ◌∷◌, length, refl, ap, sym, subst, arith, append_assoc, length-append, Option, Some, None, is_some}
 use Rattle.std.proofs.lemmas.Grind.{common_steps}
 use Rattle.std.proofs.lemmas.Bool.Decides.{nat_tests}
 use Rattle.std.proofs.lemmas.List.{take_all}
 use Rattle.std.proofs.lemmas.Slice.Eq.{bytes_eq-Decides}
-use Rattle.std.proofs.lemmas.Nat.{pow-add}
-use Rattle.std.proofs.Math.Nat.{mul-div_cancel}
 use Rattle.std.proofs.Math.Seq.{drop-append_seam, take-append_seam}
-use Rattle.coap_block.specs.declared.block.Block.{Block}
+use Rattle.coap_types.specs.declared.block.Block.{Block}
 use Rattle.coap_block.specs.declared.fetch_verdict.Verdict.TheVariants.{Refuse, Again, Done, Ask}
 use Rattle.coap_block.specs.declared.fetch_step.FetchRefusal.TheVariants.{BadBlock, NoTag, TooLarge, Changed}
-use Rattle.coap_block.specs.Piece.{size_of, offset_of, Begins, Piece, max_body_len}
-use Rattle.coap_block.specs.Whole.{Part, Each, joined, IsPieceOf, HasTag, Chained, Ends, OneTag, Whole, Blocks}
+use Rattle.coap_types.specs.Piece.{size_of, offset_of, Begins, Piece, max_body_len}
+use Rattle.coap_block.specs.Whole.{Part, Each, joined, IsPieceOf, HasTag, Chained, OneTag, Whole, Blocks}
 use Rattle.coap_block.specs.FetchStep.{FetchState, fits, is_sized, same_tag, differs, verdict, next_num, next_szx}
 use Rattle.coap_block.specs.Gathered.{part, IsFull, Awaits, Gathered, GatheredByPart, WholeByParts}
 use Rattle.coap_block.specs.declared.fetch_progress.Asked.{Asked}
+use Rattle.coap_block.specs.declared.fetch_judging.TheConstants.{MAX_RESTARTS as max_restarts}
+use Rattle.coap_block.proofs.Facts.Parts.{chained_behind, each_behind, ends_behind, joined_behind, some_there}
+use Rattle.coap_block.proofs.Facts.Sizes.{aligned, size_some}
 
 -- a full part in front of more bytes is a piece
 pub full_piece : (front bytes rest : List ℕ) (num szx : ℕ) → offset_of num szx ≡ length front → length bytes ≡ size_of szx → 0 < length bytes → 0 < length rest
@@ -34,9 +35,6 @@ last_piece front bytes num szx at short some = record {
   reaches_end = ((λ h. omega (arith, length-append front bytes)), (λ h. refl));
 }
 
-pub size_some : (szx : ℕ) → 0 < size_of szx
-size_some szx = pow_pos (szx + 4)
-
 pieces_of : (front : List ℕ) (ps : List Part) (l : Part) → Each IsFull ps → Chained (length front) (ps ++ l ∷ []) → 0 < length l.bytes
     → l.more ≡ false → length l.bytes ≤ size_of l.szx → Each (IsPieceOf (front ++ (joined ps ++ l.bytes))) (ps ++ l ∷ [])
 pieces_of front [] l full chained some last short =
@@ -55,51 +53,34 @@ pieces_of front (p ∷ ps) l full chained some last short =
       subst (λ (body : List ℕ). Each (IsPieceOf body) (ps ++ l ∷ [])) (e2 ∙ e1) more,
     )
 
-pub chained_behind : (at : ℕ) (ps : List Part) (l : Part) → Chained at ps → offset_of l.num l.szx ≡ at + length (joined ps) → Chained at (ps ++ l ∷ [])
-chained_behind at [] l c e = (omega (arith, e), tt)
-chained_behind at (p ∷ ps) l c e = (c.0, chained_behind (at + length p.bytes) ps l c.1 (omega (arith, e, length-append p.bytes (joined ps))))
-
-pub each_behind : {X : Type 0} (P : X → Type 0) (xs : List X) (x : X) → Each P xs → P x → Each P (xs ++ x ∷ [])
-each_behind P [] x e p = (p, tt)
-each_behind P (y ∷ xs) x e p = (e.0, each_behind P xs x e.1 p)
-
-pub ends_behind : (ps : List Part) (l : Part) → l.more ≡ false → Ends (ps ++ l ∷ [])
-ends_behind [] l e = e
-ends_behind (p ∷ []) l e = e
-ends_behind (p ∷ q ∷ ps) l e = ends_behind (q ∷ ps) l e
-
-pub joined_behind : (ps : List Part) (l : Part) → joined (ps ++ l ∷ []) ≡ joined ps ++ l.bytes
-joined_behind [] l = append-nil l.bytes
-joined_behind (p ∷ ps) l = ap (λ (x : List ℕ). p.bytes ++ x) (joined_behind ps l) ∙ sym (append_assoc p.bytes (joined ps) l.bytes)
-
 one_tag_of : (t : List ℕ) (ps : List Part) → Each (HasTag t) ps → OneTag ps
 one_tag_of t [] e = tt
 one_tag_of t (p ∷ []) e = tt
 one_tag_of t (p ∷ q ∷ ps) e = (t, e)
 
 -- what the tests say of the last part
-done_says : (fit big lacks differ least more : Bool) (num szx : ℕ)
+pub done_says : (fit big lacks differ least more : Bool) (num szx : ℕ)
     → (if not fit then Refuse BadBlock else if big then Refuse TooLarge else if lacks then Refuse NoTag
     else if differ then (if least then Refuse Changed else Again) else if more then Ask num szx else Done) ≡ Done
-    → (fit ≡ true) × (differ ≡ false) × (more ≡ false)
+    → (fit ≡ true) × (differ ≡ false) × (more ≡ false) × (big ≡ false)
 done_says false big lacks differ least more num szx h = absurd cc
 done_says true true lacks differ least more num szx h = absurd cc
 done_says true false true differ least more num szx h = absurd cc
 done_says true false false true true more num szx h = absurd cc
 done_says true false false true false more num szx h = absurd cc
 done_says true false false false least true num szx h = absurd cc
-done_says true false false false least false num szx h = (refl, refl, refl)
+done_says true false false false least false num szx h = (refl, refl, refl, refl)
 
-ask_says : (fit big lacks differ least more : Bool) (num szx num' szx' : ℕ)
+pub ask_says : (fit big lacks differ least more : Bool) (num szx num' szx' : ℕ)
     → (if not fit then Refuse BadBlock else if big then Refuse TooLarge else if lacks then Refuse NoTag
     else if differ then (if least then Refuse Changed else Again) else if more then Ask num szx else Done) ≡ Ask num' szx'
-    → (fit ≡ true) × (lacks ≡ false) × (differ ≡ false) × (more ≡ true) × (num ≡ num') × (szx ≡ szx')
+    → (fit ≡ true) × (lacks ≡ false) × (differ ≡ false) × (more ≡ true) × (num ≡ num') × (szx ≡ szx') × (big ≡ false)
 ask_says false big lacks differ least more num szx num' szx' h = absurd cc
 ask_says true true lacks differ least more num szx num' szx' h = absurd cc
 ask_says true false true differ least more num szx num' szx' h = absurd cc
 ask_says true false false true true more num szx num' szx' h = absurd cc
 ask_says true false false true false more num szx num' szx' h = absurd cc
-ask_says true false false false least true num szx num' szx' h = (refl, refl, refl, refl, cc, cc)
+ask_says true false false false least true num szx num' szx' h = (refl, refl, refl, refl, cc, cc, refl)
 ask_says true false false false least false num szx num' szx' h = absurd cc
 
 pub and_left : (a b : Bool) → (a && b) ≡ true → a ≡ true
@@ -134,7 +115,7 @@ pub same_number : (a b : ℕ) → (a == b) ≡ true → a ≡ b
 same_number a b h = grind (arith, nat_tests)
 
 -- where a part that fits begins, and that it has the tag
-begins_at : (asked : Option Asked) (old tag : Option (List ℕ)) (parts : List Part) (num szx : ℕ) → Awaits asked old parts
+pub begins_at : (asked : Option Asked) (old tag : Option (List ℕ)) (parts : List Part) (num szx : ℕ) → Awaits asked old parts
     → fits asked num szx ≡ true → offset_of num szx ≡ length (joined parts)
 begins_at None old tag parts num szx w f =
     let z = is_zero num f in
@@ -185,25 +166,13 @@ pieces_whole (p ∷ ps) l full chained last short (inr zero_num) =
     let long = full.0.full in
     absurd (omega (arith, at, none, some, long, length-append p.bytes (joined ps)))
 
-multiple : (num s c d : ℕ) → s ≡ c * d → 0 < d → (num * s + s) / d * d ≡ num * s + s
-multiple num s c d e pos =
-    let t : num * s + s ≡ (num * c + c) * d = rw e (omega arith) in
-    rw t (ap (λ (q : ℕ). q * d) (mul-div_cancel (num * c + c) pos))
-
-pub aligned : (num szx m : ℕ) → (offset_of num szx + size_of szx) / size_of (min szx m) * size_of (min szx m) ≡ offset_of num szx + size_of szx
-aligned num szx m =
-    let e0 : (szx - min szx m) + (min szx m + 4) ≡ szx + 4 = omega arith in
-    let e : size_of szx ≡ 2 ^ (szx - min szx m) * size_of (min szx m) =
-    ap (λ (n : ℕ). 2 ^ n) (sym e0) ∙ pow-add 2 (szx - min szx m) (min szx m + 4) in
-    multiple num (size_of szx) (2 ^ (szx - min szx m)) (size_of (min szx m)) e (size_some (min szx m))
-
 whole_by_blocks : (parts : List Part) (s : FetchState) (b : Block) (tag : Option (List ℕ)) (payload : List ℕ)
     → Gathered parts s → verdict s (Some b) tag (length payload) ≡ Done
     → Whole (Blocks (parts ++ part b tag payload ∷ [])) (s.gathered ++ payload)
 whole_by_blocks parts s b tag payload g h =
     let says = done_says (fits s.asked b.num b.szx && is_sized b.more b.num b.szx (length payload))
     (nat_lt max_body_len (offset_of b.num b.szx + length payload)) ((b.more || nat_lt 0 b.num) && not (is_some tag))
-    (differs s tag) (nat_le 3 s.restarts) b.more (next_num s b) (next_szx s b) h in
+    (differs s tag) (nat_le max_restarts s.restarts) b.more (next_num s b) (next_szx s b) h in
     let fit = and_left (fits s.asked b.num b.szx) (is_sized b.more b.num b.szx (length payload)) says.0 in
     let sized = and_right (fits s.asked b.num b.szx) (is_sized b.more b.num b.szx (length payload)) says.0 in
     let sized' : is_sized false b.num b.szx (length payload) ≡ true = subst (λ (m : Bool). is_sized m b.num b.szx (length payload) ≡ true) says.2 sized in
@@ -218,7 +187,7 @@ whole_by_blocks parts s b tag payload g h =
       tags_of s.asked s.tag tag parts b payload g.awaits says.1,
     )
 
-none_is_start : (asked : Option Asked) (tag : Option (List ℕ)) (parts : List Part) (big : Bool) → Awaits asked tag parts
+pub none_is_start : (asked : Option Asked) (tag : Option (List ℕ)) (parts : List Part) (big : Bool) → Awaits asked tag parts
     → (if is_some asked then Refuse BadBlock else if big then Refuse TooLarge else Done) ≡ Done → parts ≡ []
 none_is_start None tag parts big w h = w
 none_is_start (Some asked) tag parts big w h = absurd cc
@@ -234,15 +203,11 @@ tag_there more over (Some t) m h = (t, refl)
 tag_there true over None m h = absurd cc
 tag_there false over None m h = absurd cc
 
-pub some_there : (ps : List Part) (l : Part) → (ps ++ l ∷ []) ≢ []
-some_there [] l h = absurd cc
-some_there (p ∷ ps) l h = absurd cc
-
 pub gathered_by_part : GatheredByPart
 gathered_by_part parts s b tag payload num szx g h =
     let says = ask_says (fits s.asked b.num b.szx && is_sized b.more b.num b.szx (length payload))
     (nat_lt max_body_len (offset_of b.num b.szx + length payload)) ((b.more || nat_lt 0 b.num) && not (is_some tag))
-    (differs s tag) (nat_le 3 s.restarts) b.more (next_num s b) (next_szx s b) num szx h in
+    (differs s tag) (nat_le max_restarts s.restarts) b.more (next_num s b) (next_szx s b) num szx h in
     let fit = and_left (fits s.asked b.num b.szx) (is_sized b.more b.num b.szx (length payload)) says.0 in
     let sized = and_right (fits s.asked b.num b.szx) (is_sized b.more b.num b.szx (length payload)) says.0 in
     let sized' : (length payload == size_of b.szx) ≡ true = subst (λ (m : Bool). is_sized m b.num b.szx (length payload) ≡ true) says.3 sized in

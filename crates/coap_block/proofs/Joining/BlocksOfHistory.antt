@@ -1,23 +1,24 @@
 -- The partial bodies of an assembly's history are the blocks that were taken for their keys.
 use Rattle.std.proofs.Common.{◌≡◌, ◌≢◌, ◌∙◌, ℕ, Bool, true, false, not, ◌&&◌, ◌||◌, ◌==◌, nat_lt, nat_le, ◌+◌, ◌<◌, ◌≤◌, ◌++◌, List, [], ◌∷◌, length, Option, Some, None, if◌then◌else◌, refl, sym, subst, arith}
 use Rattle.std.proofs.lemmas.Bool.Decides.{nat_tests}
-use Rattle.coap_block.specs.declared.block.Block.{Block}
+use Rattle.coap_types.specs.declared.block.Block.{Block}
 use Rattle.coap_block.specs.declared.block_verdict.BlockVerdict.{BlockVerdict}
 use Rattle.coap_block.specs.declared.block_verdict.BlockVerdict.TheVariants.{Refuse, Join, Done}
 use Rattle.coap_block.specs.declared.assembly_step.AssemblyRefusal.TheVariants.{BadRequest, EntityIncomplete, EntityTooLarge, Unavailable}
-use Rattle.coap_block.specs.Piece.{size_of, offset_of, max_body_len}
+use Rattle.coap_block.specs.declared.assembly_judging.TheConstants.{MAX_PARTIALS as max_partials}
+use Rattle.coap_types.specs.Piece.{size_of, offset_of, max_body_len}
 use Rattle.coap_block.specs.Whole.{Part}
 use Rattle.coap_block.specs.Gathered.{part}
-use Rattle.coap_block.specs.AssemblyState.{Key, PartialBody, AssemblyState, same_key, partial_of, without, put, bytes_of, reached_of}
+use Rattle.coap_block.specs.AssemblyState.{Key, PartialBody, AssemblyState, same_key, partial_of, without_key, put, bytes_of, reached_of}
 use Rattle.coap_block.specs.AssemblyStep.{fills, ends_at, goes_on, answered_szx, verdict_at, there_at, moment_at, with_block, partials_by, after_block}
 use Rattle.coap_block.specs.AssemblyTrace.{AssemblyTrace, Made, Arrived, state_after, behind, blocks_by, blocks_since, JoinedFrom, IsWholeBody, PartialsByHistory, FewPartials, AreDistinct, OneForAKey, WholeByBlocks, NoneLeft, OthersStay}
-use Rattle.coap_block.proofs.KeyLemmas.{same_key-decides}
-use Rattle.coap_block.proofs.DistinctLemmas.{out_other, out_none, distinct_out, put_there, put_other, distinct_put, distinct_there, was_there, fewer_there, fewer_out, one_more, as_many}
-use Rattle.coap_block.proofs.FetchLemmas.{same_number}
-use Rattle.coap_block.proofs.JoinedLemmas.{join_first, join_next, whole_first, whole_next}
+use Rattle.coap_block.proofs.Facts.Keys.{same_key-decides}
+use Rattle.coap_block.proofs.Joining.OneForAKey.{out_other, out_none, distinct_out, put_there, put_other, distinct_put, distinct_there, was_there, fewer_there, fewer_out, one_more, as_many}
+use Rattle.coap_block.proofs.Fetching.WholeByParts.{same_number}
+use Rattle.coap_block.proofs.Joining.JoinedBehind.{join_first, join_next, whole_first, whole_next}
 
 -- what the tests say of a block that is joined, and of a last one
-join_says : (fill goes big many more : Bool) (z szx : ℕ)
+pub join_says : (fill goes big many more : Bool) (z szx : ℕ)
     → (if not fill then Refuse BadRequest else if not goes then Refuse EntityIncomplete else if big then Refuse EntityTooLarge
     else if many then Refuse Unavailable else if more then Join z else Done) ≡ Join szx
     → (fill ≡ true) × (goes ≡ true) × (big ≡ false) × (many ≡ false) × (more ≡ true)
@@ -47,13 +48,13 @@ last_len : (more : Bool) (szx len : ℕ) → more ≡ false → fills more szx l
 last_len true szx len m h = absurd cc
 last_len false szx len m h = grind (arith, nat_tests)
 
-not_over : (n : ℕ) → nat_lt 65536 n ≡ false → n ≤ 65536
+not_over : (n : ℕ) → nat_lt max_body_len n ≡ false → n ≤ max_body_len
 not_over n h = grind (arith, nat_tests)
 
 -- what the key had before, and what it has with the block
 joined_by : (z : Bool) (parts : List Part) (o : Option PartialBody) (b : Block) (payload : List ℕ) (key : Key) (t : ℕ) → (b.num == 0) ≡ z
     → (z || ends_at (reached_of o) (offset_of b.num b.szx)) ≡ true → ((q : PartialBody) → o ≡ Some q → JoinedFrom parts q)
-    → b.more ≡ true → length payload ≡ size_of b.szx → offset_of b.num b.szx + length payload ≤ 65536
+    → b.more ≡ true → length payload ≡ size_of b.szx → offset_of b.num b.szx + length payload ≤ max_body_len
     → JoinedFrom (if z then part b None payload ∷ [] else parts ++ part b None payload ∷ [])
     (record { key = key; bytes = (if z then [] else bytes_of o) ++ payload; last = t })
 joined_by true parts o b payload key t is at before more full short = join_first b payload key t (same_number b.num 0 is) more full short
@@ -63,7 +64,7 @@ joined_by false parts None b payload key t is at before more full short = absurd
 
 whole_by : (z : Bool) (parts : List Part) (o : Option PartialBody) (b : Block) (payload : List ℕ) → (b.num == 0) ≡ z
     → (z || ends_at (reached_of o) (offset_of b.num b.szx)) ≡ true → ((q : PartialBody) → o ≡ Some q → JoinedFrom parts q)
-    → b.more ≡ false → length payload ≤ size_of b.szx → offset_of b.num b.szx + length payload ≤ 65536
+    → b.more ≡ false → length payload ≤ size_of b.szx → offset_of b.num b.szx + length payload ≤ max_body_len
     → IsWholeBody (if z then part b None payload ∷ [] else parts ++ part b None payload ∷ []) ((if z then [] else bytes_of o) ++ payload)
 whole_by true parts o b payload is at before last fits short = whole_first b payload (same_number b.num 0 is) last fits short
 whole_by false parts (Some q) b payload is at before last fits short =
@@ -73,7 +74,7 @@ whole_by false parts None b payload is at before last fits short = absurd cc
 -- what holds of an assembly's state
 pub record Holds (parts : Key → List Part) (s : AssemblyState) : Type 0 where
   pub distinct : AreDistinct s.partials
-  pub few : length s.partials ≤ 16
+  pub few : length s.partials ≤ max_partials
   pub joined : (key : Key) (p : PartialBody) → partial_of key s.partials ≡ Some p → JoinedFrom (parts key) p
 
 -- and of the partial bodies that are there at a moment
@@ -81,7 +82,7 @@ still_joined : (parts : Key → List Part) (s : AssemblyState) (now : ℕ) (key 
     → partial_of key (there_at s now) ≡ Some q → JoinedFrom (parts key) q
 still_joined parts s now key h q e = h.joined key q (was_there key (moment_at s now) q s.partials h.distinct e)
 
-abbrev new_of : AssemblyState → ℕ → Key → Block → List ℕ → PartialBody
+abbrev pub new_of : AssemblyState → ℕ → Key → Block → List ℕ → PartialBody
 new_of s now key b payload = record { key = key; bytes = with_block s now key b payload; last = moment_at s now }
 
 distinct_by : (v : BlockVerdict) (new : PartialBody) (ps : List PartialBody) → AreDistinct ps → AreDistinct (partials_by v new ps)
@@ -105,33 +106,36 @@ others_stay s now key other b payload ne = others_by (verdict_at s now key b (le
 
 -- at most 15 others, or one of the key
 few_put : (z : Bool) (new : PartialBody) (o : Option PartialBody) (b : Block) (ps : List PartialBody) → (b.num == 0) ≡ z → partial_of new.key ps ≡ o
-    → (z || ends_at (reached_of o) (offset_of b.num b.szx)) ≡ true → b.more ≡ true → (b.more && z && nat_le 16 (length (without new.key ps))) ≡ false
-    → length ps ≤ 16 → length (put new ps) ≤ 16
+    → (z || ends_at (reached_of o) (offset_of b.num b.szx)) ≡ true → b.more ≡ true → (b.more && z && nat_le max_partials (length (without_key new.key ps))) ≡ false
+    → length ps ≤ max_partials → length (put new ps) ≤ max_partials
 few_put true new o b ps is found at more some few =
-    let room : (true && true && nat_le 16 (length (without new.key ps))) ≡ false = rw more at some in
-    let less : length (without new.key ps) < 16 = under_16 (length (without new.key ps)) room in
+    let room : (true && true && nat_le max_partials (length (without_key new.key ps))) ≡ false = rw more at some in
+    let less : length (without_key new.key ps) < max_partials = under_most (length (without_key new.key ps)) room in
     omega (arith, less, one_more new ps)
   where
-    under_16 : (n : ℕ) → (true && true && nat_le 16 n) ≡ false → n < 16
-    under_16 n h = grind (arith, nat_tests)
+    under_most : (n : ℕ) → (true && true && nat_le max_partials n) ≡ false → n < max_partials
+    under_most n h = grind (arith, nat_tests)
 few_put false new (Some q) b ps is found at more some few = omega (arith, few, as_many new q ps found)
 few_put false new None b ps is found at more some few = absurd cc
 
-module _ (parts : Key → List Part) (s : AssemblyState) (now : ℕ) (key : Key) (b : Block) (payload : List ℕ) (h : Holds parts s) where
-  few_by : (v : BlockVerdict) → verdict_at s now key b (length payload) ≡ v → length (partials_by v (new_of s now key b payload) (there_at s now)) ≤ 16
-  few_by (Refuse BadRequest) e = let few = h.few in omega (arith, few, fewer_there (moment_at s now) s.partials)
-  few_by (Refuse EntityIncomplete) e = let few = h.few in omega (arith, few, fewer_there (moment_at s now) s.partials)
-  few_by (Refuse EntityTooLarge) e = let few = h.few in omega (arith, few, fewer_there (moment_at s now) s.partials, fewer_out key (there_at s now))
-  few_by (Refuse Unavailable) e = let few = h.few in omega (arith, few, fewer_there (moment_at s now) s.partials)
+module _ (s : AssemblyState) (now : ℕ) (key : Key) (b : Block) (payload : List ℕ) (few : length s.partials ≤ max_partials) where
+  few_by : (v : BlockVerdict) → verdict_at s now key b (length payload) ≡ v → length (partials_by v (new_of s now key b payload) (there_at s now)) ≤ max_partials
+  few_by (Refuse BadRequest) e = omega (arith, few, fewer_there (moment_at s now) s.partials)
+  few_by (Refuse EntityIncomplete) e = omega (arith, few, fewer_there (moment_at s now) s.partials)
+  few_by (Refuse EntityTooLarge) e = omega (arith, few, fewer_there (moment_at s now) s.partials, fewer_out key (there_at s now))
+  few_by (Refuse Unavailable) e = omega (arith, few, fewer_there (moment_at s now) s.partials)
   few_by (Join szx) e =
       let says = join_says (fills b.more b.szx (length payload)) (goes_on (reached_of (partial_of key (there_at s now))) b.num b.szx)
-      (nat_lt max_body_len (offset_of b.num b.szx + length payload)) (b.more && (b.num == 0) && nat_le 16 (length (without key (there_at s now)))) b.more
+      (nat_lt max_body_len (offset_of b.num b.szx + length payload)) (b.more && (b.num == 0) && nat_le max_partials (length (without_key key (there_at s now)))) b.more
       (answered_szx s.szx b) szx e in
-      let few = h.few in
       few_put (b.num == 0) (new_of s now key b payload) (partial_of key (there_at s now)) b (there_at s now) refl refl says.1 says.4 says.3
       (omega (arith, few, fewer_there (moment_at s now) s.partials))
-  few_by Done e = let few = h.few in omega (arith, few, fewer_there (moment_at s now) s.partials, fewer_out key (there_at s now))
+  few_by Done e = omega (arith, few, fewer_there (moment_at s now) s.partials, fewer_out key (there_at s now))
 
+  pub few_after : length (after_block s now key b payload).partials ≤ max_partials
+  few_after = few_by (verdict_at s now key b (length payload)) refl
+
+module _ (parts : Key → List Part) (s : AssemblyState) (now : ℕ) (key : Key) (b : Block) (payload : List ℕ) (h : Holds parts s) where
   joined_after : (v : BlockVerdict) → verdict_at s now key b (length payload) ≡ v → (p : PartialBody)
       → partial_of key (partials_by v (new_of s now key b payload) (there_at s now)) ≡ Some p → JoinedFrom (blocks_by v b payload (parts key)) p
   joined_after (Refuse BadRequest) e p f = still_joined parts s now key h p f
@@ -141,7 +145,7 @@ module _ (parts : Key → List Part) (s : AssemblyState) (now : ℕ) (key : Key)
   joined_after (Refuse Unavailable) e p f = still_joined parts s now key h p f
   joined_after (Join szx) e p f =
       let says = join_says (fills b.more b.szx (length payload)) (goes_on (reached_of (partial_of key (there_at s now))) b.num b.szx)
-      (nat_lt max_body_len (offset_of b.num b.szx + length payload)) (b.more && (b.num == 0) && nat_le 16 (length (without key (there_at s now)))) b.more
+      (nat_lt max_body_len (offset_of b.num b.szx + length payload)) (b.more && (b.num == 0) && nat_le max_partials (length (without_key key (there_at s now)))) b.more
       (answered_szx s.szx b) szx e in
       let there = put_there (new_of s now key b payload) (there_at s now) in
       let same : new_of s now key b payload ≡ p = cc in
@@ -154,7 +158,7 @@ module _ (parts : Key → List Part) (s : AssemblyState) (now : ℕ) (key : Key)
   whole_after : verdict_at s now key b (length payload) ≡ Done → IsWholeBody (behind (parts key) b payload) (with_block s now key b payload)
   whole_after e =
       let says = done_says (fills b.more b.szx (length payload)) (goes_on (reached_of (partial_of key (there_at s now))) b.num b.szx)
-      (nat_lt max_body_len (offset_of b.num b.szx + length payload)) (b.more && (b.num == 0) && nat_le 16 (length (without key (there_at s now)))) b.more
+      (nat_lt max_body_len (offset_of b.num b.szx + length payload)) (b.more && (b.num == 0) && nat_le max_partials (length (without_key key (there_at s now)))) b.more
       (answered_szx s.szx b) e in
       whole_by (b.num == 0) (parts key) (partial_of key (there_at s now)) b payload refl says.1 (still_joined parts s now key h) says.3
       (last_len b.more b.szx (length payload) says.3 says.0) (not_over (offset_of b.num b.szx + length payload) says.2)
@@ -177,7 +181,7 @@ holds (Arrived earlier now k b payload) =
     let s = state_after earlier in
     record {
       distinct = distinct_by (verdict_at s now k b (length payload)) (new_of s now k b payload) (there_at s now) (distinct_there (moment_at s now) s.partials h.distinct);
-      few = few_by parts s now k b payload h (verdict_at s now k b (length payload)) refl;
+      few = few_after s now k b payload h.few;
       joined = λ key p e. joined_of parts s now k b payload h (same_key k key) key refl p e;
     }
 

@@ -3,10 +3,11 @@ use Rattle.std.proofs.Common.{◌≡◌, ◌⊎◌, inl, inr, ◌∙◌, ℕ, su
 use Rattle.std.specs.List.{remove}
 use Rattle.std.proofs.lemmas.Bool.Decides.{nat_tests}
 use Rattle.std.proofs.lemmas.List.Elements.{filter-append}
-use Rattle.coap_block.specs.AssemblyState.{Key, PartialBody, same_key, is_live, forgotten, partial_of, without, put, bytes_of, joined_before}
+use Rattle.coap_block.specs.AssemblyState.{Key, PartialBody, same_key, is_live, forgotten, partial_of, without_key, put, bytes_of, joined_before}
+use Rattle.coap_block.specs.declared.partial.TheConstants.{PARTIAL_LIFETIME_MS as partial_lifetime}
 use Rattle.coap_block.specs.AssemblyKept.{is_there, place_of, changed_at, grown, begun}
-use Rattle.coap_block.proofs.KeyLemmas.{same_key-decides}
-use Rattle.coap_block.proofs.KeptLemmas.{changed_set, forgotten_twice}
+use Rattle.coap_block.proofs.Facts.Keys.{same_key-decides}
+use Rattle.coap_block.proofs.Fields.PartialsSeen.{changed_set, forgotten_twice}
 
 -- where the first of a list is at, or in its rest
 found_cases : (b : Bool) (o : Option ℕ) (i : ℕ) → (if b then Some 0 else option_map (λ (n : ℕ). n + 1) o) ≡ Some i
@@ -26,8 +27,8 @@ and_both true false h = absurd cc
 and_both false b h = absurd cc
 
 -- one that isn't there changes nothing of what is done behind it
-out_step : (key : Key) (l s : Bool) (p : PartialBody) (xs ys : List PartialBody) → same_key p.key key ≡ s → (l && s) ≡ false → xs ≡ without key ys
-    → (if l then p ∷ xs else xs) ≡ without key (if l then p ∷ ys else ys)
+out_step : (key : Key) (l s : Bool) (p : PartialBody) (xs ys : List PartialBody) → same_key p.key key ≡ s → (l && s) ≡ false → xs ≡ without_key key ys
+    → (if l then p ∷ xs else xs) ≡ without_key key (if l then p ∷ ys else ys)
 out_step key true false p xs ys is b e = rw is (ap (λ (r : List PartialBody). p ∷ r) e)
 out_step key true true p xs ys is b e = absurd cc
 out_step key false s p xs ys is b e = e
@@ -51,7 +52,7 @@ none_found key t (p ∷ ps) h =
     let c = none_cases (is_there key t p) (place_of key t ps) h in
     find_step key (is_live t p) (same_key p.key key) p (forgotten t ps) None refl c.0 (none_found key t ps c.1)
 
-pub none_out : (key : Key) (t : ℕ) (ps : List PartialBody) → place_of key t ps ≡ None → forgotten t ps ≡ without key (forgotten t ps)
+pub none_out : (key : Key) (t : ℕ) (ps : List PartialBody) → place_of key t ps ≡ None → forgotten t ps ≡ without_key key (forgotten t ps)
 none_out key t [] h = refl
 none_out key t (p ∷ ps) h =
     let c = none_cases (is_there key t p) (place_of key t ps) h in
@@ -81,8 +82,8 @@ place_within key t = by_place (λ ps i. i < length ps) key t (λ p ps live same.
 
 -- without it, the others are there as before
 pub place_out : (key : Key) (t : ℕ) (ps : List PartialBody) (i : ℕ) → place_of key t ps ≡ Some i
-    → forgotten t (remove ps i) ≡ without key (forgotten t ps)
-place_out key t = by_place (λ ps i. forgotten t (remove ps i) ≡ without key (forgotten t ps)) key t
+    → forgotten t (remove ps i) ≡ without_key key (forgotten t ps)
+place_out key t = by_place (λ ps i. forgotten t (remove ps i) ≡ without_key key (forgotten t ps)) key t
     (λ p ps live same. rw (live, same) refl)
     (λ p ps j out e. out_step key (is_live t p) (same_key p.key key) p (forgotten t (remove ps j)) (forgotten t ps) refl out e)
 
@@ -104,22 +105,22 @@ pub put_absent : (new : PartialBody) (ps : List PartialBody) → partial_of new.
 put_absent new [] h = refl
 put_absent new (p ∷ ps) h = absent_step new (same_key p.key new.key) p ps refl h (put_absent new ps)
 
-pub absent_out : (key : Key) (ps : List PartialBody) → partial_of key ps ≡ None → without key ps ≡ ps
+pub absent_out : (key : Key) (ps : List PartialBody) → partial_of key ps ≡ None → without_key key ps ≡ ps
 absent_out key [] h = refl
 absent_out key (p ∷ ps) h = absent_out_step key (same_key p.key key) p ps h (absent_out key ps)
   where
     absent_out_step : (key : Key) (s : Bool) (p : PartialBody) (ps : List PartialBody) → (if s then Some p else partial_of key ps) ≡ None
-        → (partial_of key ps ≡ None → without key ps ≡ ps) → (if s then ps else p ∷ without key ps) ≡ p ∷ ps
+        → (partial_of key ps ≡ None → without_key key ps ≡ ps) → (if s then ps else p ∷ without_key key ps) ≡ p ∷ ps
     absent_out_step key true p ps h e = absurd cc
     absent_out_step key false p ps h e = ap (λ (r : List PartialBody). p ∷ r) (e h)
 
 -- how many others there are
 found_step : (key : Key) (s : Bool) (p q : PartialBody) (ps : List PartialBody) → (if s then Some p else partial_of key ps) ≡ Some q
-    → (partial_of key ps ≡ Some q → length (without key ps) + 1 ≡ length ps) → length (if s then ps else p ∷ without key ps) + 1 ≡ length (p ∷ ps)
+    → (partial_of key ps ≡ Some q → length (without_key key ps) + 1 ≡ length ps) → length (if s then ps else p ∷ without_key key ps) + 1 ≡ length (p ∷ ps)
 found_step key true p q ps h e = omega arith
 found_step key false p q ps h e = let n = e h in omega (arith, n)
 
-pub length_others : (key : Key) (q : PartialBody) (ps : List PartialBody) → partial_of key ps ≡ Some q → length (without key ps) + 1 ≡ length ps
+pub length_others : (key : Key) (q : PartialBody) (ps : List PartialBody) → partial_of key ps ≡ Some q → length (without_key key ps) + 1 ≡ length ps
 length_others key q [] h = absurd cc
 length_others key q (p ∷ ps) h = found_step key (same_key p.key key) p q ps h (length_others key q ps)
 
@@ -135,7 +136,7 @@ at_zero : (n : ℕ) → n ≤ 0 → (n == 0) ≡ true
 at_zero n h = grind (arith, nat_tests)
 
 begun_lives : (key : Key) (bytes : List ℕ) (t : ℕ) → is_live t (begun key bytes t) ≡ true
-begun_lives key bytes t = let e : nat_le (t - t) 247000 ≡ true = grind (arith, nat_tests) in e
+begun_lives key bytes t = let e : nat_le (t - t) partial_lifetime ≡ true = grind (arith, nat_tests) in e
 
 -- a block behind the partial body of its key
 pub put_grown : (key : Key) (t num : ℕ) (payload : List ℕ) (ps : List PartialBody) (i : ℕ) → 0 < num → place_of key t ps ≡ Some i

@@ -8,27 +8,28 @@ use Rattle.std.proofs.Math.Seq.{take-append_seam, map-set_same}
 use Rattle.coap_block.specs.declared.partial.Partial.{Partial}
 use Rattle.coap_block.specs.declared.assembly_undo.Change.{Change}
 use Rattle.coap_block.specs.AssemblyState.{PartialBody, is_live, forgotten}
-use Rattle.coap_block.specs.AssemblyKept.{body_of, kept, changed_at, grown, cut, restored}
+use Rattle.coap_block.specs.declared.partial.TheConstants.{PARTIAL_LIFETIME_MS as partial_lifetime}
+use Rattle.coap_block.specs.AssemblyKept.{body_of, partials_of, changed_at, grown, cut, restored}
 
 -- what is there
 abbrev pub live_of : {A : Type 0} → ℕ → List (Partial A) → List (Partial A)
 live_of {A} t ps = filter (λ (p : Partial A). is_live t (body_of p)) ps
 
-live_step : {A : Type 0} (b : Bool) (p : Partial A) (ps : List (Partial A)) (ys : List PartialBody) → ys ≡ kept ps
-    → (if b then body_of p ∷ ys else ys) ≡ kept (if b then p ∷ ps else ps)
+live_step : {A : Type 0} (b : Bool) (p : Partial A) (ps : List (Partial A)) (ys : List PartialBody) → ys ≡ partials_of ps
+    → (if b then body_of p ∷ ys else ys) ≡ partials_of (if b then p ∷ ps else ps)
 live_step true p ps ys e = ap (λ (r : List PartialBody). body_of p ∷ r) e
 live_step false p ps ys e = e
 
-pub kept_live : {A : Type 0} (t : ℕ) (ps : List (Partial A)) → forgotten t (kept ps) ≡ kept (live_of t ps)
+pub kept_live : {A : Type 0} (t : ℕ) (ps : List (Partial A)) → forgotten t (partials_of ps) ≡ partials_of (live_of t ps)
 kept_live t [] = refl
-kept_live {A} t (p ∷ ps) = live_step (is_live t (body_of p)) p (live_of t ps) (forgotten t (kept ps)) (kept_live t ps)
+kept_live {A} t (p ∷ ps) = live_step (is_live t (body_of p)) p (live_of t ps) (forgotten t (partials_of ps)) (kept_live t ps)
 
-pub kept_at : {A : Type 0} (ps : List (Partial A)) (i : ℕ) (d : Partial A) → body_of (get_or ps i d) ≡ get_or (kept ps) i (body_of d)
+pub kept_at : {A : Type 0} (ps : List (Partial A)) (i : ℕ) (d : Partial A) → body_of (get_or ps i d) ≡ get_or (partials_of ps) i (body_of d)
 kept_at [] i d = refl
 kept_at (p ∷ ps) zero d = refl
 kept_at (p ∷ ps) (suc i) d = kept_at ps i d
 
-pub kept_remove : {A : Type 0} (ps : List (Partial A)) (i : ℕ) → kept (remove ps i) ≡ remove (kept ps) i
+pub kept_remove : {A : Type 0} (ps : List (Partial A)) (i : ℕ) → partials_of (remove ps i) ≡ remove (partials_of ps) i
 kept_remove [] zero = refl
 kept_remove [] (suc i) = refl
 kept_remove (p ∷ ps) zero = refl
@@ -69,7 +70,7 @@ still_step true false x xs ys t is keeps e = rw is e
 still_step false true x xs ys t is keeps e = let h : false ≡ true = keeps refl in absurd cc
 still_step false false x xs ys t is keeps e = e
 
-was_live : (c t last : ℕ) → c ≤ t → nat_le (t - last) 247000 ≡ true → nat_le (c - last) 247000 ≡ true
+pub was_live : (c t last : ℕ) → c ≤ t → nat_le (t - last) partial_lifetime ≡ true → nat_le (c - last) partial_lifetime ≡ true
 was_live c t last le h = grind (arith, nat_tests)
 
 pub forgotten_twice : (c t : ℕ) → c ≤ t → (ps : List PartialBody) → forgotten t (forgotten c ps) ≡ forgotten t ps
@@ -84,52 +85,52 @@ front_of xs x =
     ap (λ (n : ℕ). take n (xs ++ x ∷ [])) e ∙ take-append_seam xs (x ∷ [])
 
 -- how many are there
-pub length_live : {A : Type 0} (t n : ℕ) (ps : List (Partial A)) → n ≡ length (live_of t ps) → n ≡ length (forgotten t (kept ps))
+pub length_live : {A : Type 0} (t n : ℕ) (ps : List (Partial A)) → n ≡ length (live_of t ps) → n ≡ length (forgotten t (partials_of ps))
 length_live {A} t n ps is = is ∙ sym (length-map (live_of t ps) (λ (p : Partial A). body_of p)) ∙ sym (ap (λ (l : List PartialBody). length l) (kept_live t ps))
 
-long_as : {A : Type 0} (ps : List (Partial A)) → length (kept ps) ≡ length ps
+long_as : {A : Type 0} (ps : List (Partial A)) → length (partials_of ps) ≡ length ps
 long_as {A} ps = length-map ps (λ (p : Partial A). body_of p)
 
 -- one that was taken out is put back
 pub taken_back : {A : Type 0} (ps left : List (Partial A)) (i : ℕ) (x : Partial A) → left ≡ remove ps i → x ≡ get_or ps i x → i < length ps
-    → insert (kept left) i (body_of x) ≡ kept ps
+    → insert (partials_of left) i (body_of x) ≡ partials_of ps
 taken_back {A} ps left i x out is h =
-    let e : kept left ≡ remove (kept ps) i = ap (λ (l : List (Partial A)). kept l) out ∙ kept_remove ps i in
-    let b : body_of x ≡ get_or (kept ps) i (body_of x) = ap (λ (p : Partial A). body_of p) is ∙ kept_at ps i x in
-    ap (λ (l : List PartialBody). insert l i (body_of x)) e ∙ ap (λ (y : PartialBody). insert (remove (kept ps) i) i y) b
-    ∙ inserted_back (kept ps) i (body_of x) (omega (arith, h, long_as ps))
+    let e : partials_of left ≡ remove (partials_of ps) i = ap (λ (l : List (Partial A)). partials_of l) out ∙ kept_remove ps i in
+    let b : body_of x ≡ get_or (partials_of ps) i (body_of x) = ap (λ (p : Partial A). body_of p) is ∙ kept_at ps i x in
+    ap (λ (l : List PartialBody). insert l i (body_of x)) e ∙ ap (λ (y : PartialBody). insert (remove (partials_of ps) i) i y) b
+    ∙ inserted_back (partials_of ps) i (body_of x) (omega (arith, h, long_as ps))
 
 -- one that is changed in its place
-pub kept_set_same : {A : Type 0} (ps : List (Partial A)) (i : ℕ) (y d : Partial A) → body_of y ≡ body_of (get_or ps i d) → kept (set ps i y) ≡ kept ps
+pub kept_set_same : {A : Type 0} (ps : List (Partial A)) (i : ℕ) (y d : Partial A) → body_of y ≡ body_of (get_or ps i d) → partials_of (set ps i y) ≡ partials_of ps
 kept_set_same {A} ps i y d e = map-set_same (λ (p : Partial A). body_of p) ps i y d e
 
 pub kept_changed : {A : Type 0} (f : PartialBody → PartialBody) (ps : List (Partial A)) (i : ℕ) (y d : Partial A) → i < length ps
-    → body_of y ≡ f (body_of (get_or ps i d)) → kept (set ps i y) ≡ changed_at f i (kept ps)
+    → body_of y ≡ f (body_of (get_or ps i d)) → partials_of (set ps i y) ≡ changed_at f i (partials_of ps)
 kept_changed {A} f ps i y d h e =
     map-set (λ (p : Partial A). body_of p) ps i y
-    ∙ grown_set f (kept ps) i (body_of y) (body_of d) (omega (arith, h, long_as ps)) (e ∙ ap f (kept_at ps i d))
+    ∙ grown_set f (partials_of ps) i (body_of y) (body_of d) (omega (arith, h, long_as ps)) (e ∙ ap f (kept_at ps i d))
 
 pub kept_cut_back : {A : Type 0} (payload : List ℕ) (t n : ℕ) (ps : List (Partial A)) (i : ℕ) (y d : Partial A) → i < length ps
     → d ≡ get_or ps i d → n ≡ length d.bytes.items → body_of y ≡ grown payload t (body_of d)
-    → changed_at (cut n d.last.0) i (kept (set ps i y)) ≡ kept ps
+    → changed_at (cut n d.last.0) i (partials_of (set ps i y)) ≡ partials_of ps
 kept_cut_back {A} payload t n ps i y d h is len e =
-    let back = cut_back payload t (kept ps) i (body_of d) (omega (arith, h, long_as ps)) in
-    let at : get_or (kept ps) i (body_of d) ≡ body_of d = sym (kept_at ps i d) ∙ sym (ap (λ (p : Partial A). body_of p) is) in
+    let back = cut_back payload t (partials_of ps) i (body_of d) (omega (arith, h, long_as ps)) in
+    let at : get_or (partials_of ps) i (body_of d) ≡ body_of d = sym (kept_at ps i d) ∙ sym (ap (λ (p : Partial A). body_of p) is) in
     let as_grown = kept_changed (grown payload t) ps i y d h (e ∙ ap (λ (p : Partial A). grown payload t (body_of p)) is) in
-    ap (λ (k : ℕ). changed_at (cut k d.last.0) i (kept (set ps i y))) len
+    ap (λ (k : ℕ). changed_at (cut k d.last.0) i (partials_of (set ps i y))) len
     ∙ ap (λ (l : List PartialBody). changed_at (cut (length d.bytes.items) d.last.0) i l) as_grown
-    ∙ subst (λ (b : PartialBody). changed_at (cut (length b.bytes) b.last) i (changed_at (grown payload t) i (kept ps)) ≡ kept ps) at back
+    ∙ subst (λ (b : PartialBody). changed_at (cut (length b.bytes) b.last) i (changed_at (grown payload t) i (partials_of ps)) ≡ partials_of ps) at back
 
-pub kept_set : {A : Type 0} (ps : List (Partial A)) (i : ℕ) (y : Partial A) (b : PartialBody) → body_of y ≡ b → kept (set ps i y) ≡ set (kept ps) i b
-kept_set {A} ps i y b e = map-set (λ (p : Partial A). body_of p) ps i y ∙ ap (λ (x : PartialBody). set (kept ps) i x) e
+pub kept_set : {A : Type 0} (ps : List (Partial A)) (i : ℕ) (y : Partial A) (b : PartialBody) → body_of y ≡ b → partials_of (set ps i y) ≡ set (partials_of ps) i b
+kept_set {A} ps i y b e = map-set (λ (p : Partial A). body_of p) ps i y ∙ ap (λ (x : PartialBody). set (partials_of ps) i x) e
 
-pub kept_set_back : {A : Type 0} (ps : List (Partial A)) (i : ℕ) (y d : Partial A) → i < length ps → set (kept (set ps i y)) i (body_of (get_or ps i d)) ≡ kept ps
+pub kept_set_back : {A : Type 0} (ps : List (Partial A)) (i : ℕ) (y d : Partial A) → i < length ps → set (partials_of (set ps i y)) i (body_of (get_or ps i d)) ≡ partials_of ps
 kept_set_back {A} ps i y d h =
     ap (λ (l : List PartialBody). set l i (body_of (get_or ps i d))) (map-set (λ (p : Partial A). body_of p) ps i y)
-    ∙ ap (λ (b : PartialBody). set (set (kept ps) i (body_of y)) i b) (kept_at ps i d)
-    ∙ set_back (kept ps) i (body_of y) (body_of d) (omega (arith, h, long_as ps))
+    ∙ ap (λ (b : PartialBody). set (set (partials_of ps) i (body_of y)) i b) (kept_at ps i d)
+    ∙ set_back (partials_of ps) i (body_of y) (body_of d) (omega (arith, h, long_as ps))
 
-pub kept_insert : {A : Type 0} (ps : List (Partial A)) (i : ℕ) (x : Partial A) → kept (insert ps i x) ≡ insert (kept ps) i (body_of x)
+pub kept_insert : {A : Type 0} (ps : List (Partial A)) (i : ℕ) (x : Partial A) → partials_of (insert ps i x) ≡ insert (partials_of ps) i (body_of x)
 kept_insert [] zero x = refl
 kept_insert [] (suc i) x = refl
 kept_insert (p ∷ ps) zero x = refl
@@ -137,11 +138,11 @@ kept_insert (p ∷ ps) (suc i) x = ap (λ (r : List PartialBody). body_of p ∷ 
 
 -- one behind those that are there
 pub begun_behind : {A : Type 0} (t : ℕ) (old same live all : List (Partial A)) (x : Partial A) (b : PartialBody)
-    → same ≡ old → live ≡ live_of t same → all ≡ live ++ x ∷ [] → body_of x ≡ b → kept all ≡ forgotten t (kept old) ++ b ∷ []
+    → same ≡ old → live ≡ live_of t same → all ≡ live ++ x ∷ [] → body_of x ≡ b → partials_of all ≡ forgotten t (partials_of old) ++ b ∷ []
 begun_behind {A} t old same live all x b is lives behind e =
-    ap (λ (l : List (Partial A)). kept l) behind ∙ map-append (λ (p : Partial A). body_of p) live (x ∷ [])
-    ∙ ap (λ (l : List PartialBody). l ++ body_of x ∷ []) (ap (λ (l : List (Partial A)). kept l) lives ∙ ap (λ (l : List (Partial A)). kept (live_of t l)) is ∙ sym (kept_live t old))
-    ∙ ap (λ (y : PartialBody). forgotten t (kept old) ++ y ∷ []) e
+    ap (λ (l : List (Partial A)). partials_of l) behind ∙ map-append (λ (p : Partial A). body_of p) live (x ∷ [])
+    ∙ ap (λ (l : List PartialBody). l ++ body_of x ∷ []) (ap (λ (l : List (Partial A)). partials_of l) lives ∙ ap (λ (l : List (Partial A)). partials_of (live_of t l)) is ∙ sym (kept_live t old))
+    ∙ ap (λ (y : PartialBody). forgotten t (partials_of old) ++ y ∷ []) e
 
 pub begun_back : (xs all : List PartialBody) (b : PartialBody) → all ≡ xs ++ b ∷ [] → take (length all - 1) all ≡ xs
 begun_back xs all b e = ap (λ (l : List PartialBody). take (length l - 1) l) e ∙ front_of xs b
@@ -153,8 +154,8 @@ on_err P (Err e) p = p
 
 -- and what is put in where there is room is there
 pub kept_put_back : {A E : Type 0} (ps all : List (Partial A)) (i : ℕ) (x : Partial A) (r : Result (Unit {0}) E)
-    → all ≡ (if is_ok r then insert ps i x else ps) → IsOk r → kept all ≡ insert (kept ps) i (body_of x)
-kept_put_back {A} ps all i x (Ok u) is ok = ap (λ (l : List (Partial A)). kept l) is ∙ kept_insert ps i x
+    → all ≡ (if is_ok r then insert ps i x else ps) → IsOk r → partials_of all ≡ insert (partials_of ps) i (body_of x)
+kept_put_back {A} ps all i x (Ok u) is ok = ap (λ (l : List (Partial A)). partials_of l) is ∙ kept_insert ps i x
 kept_put_back ps all i x (Err e) is ok = absurd cc
 
 pub ok_there : {T E : Type 0} (t : ℕ) (r : Result T E) (new y z : List PartialBody) → OnOk r (new ≡ y) → forgotten t y ≡ z → OnOk r (forgotten t new ≡ z)

@@ -1,19 +1,20 @@
 -- The parts of a fetch's history are those that it gathered.
 use Rattle.std.proofs.Common.{◌≡◌, ◌+◌, ℕ, Bool, true, false, nat_lt, if◌then◌else◌, List, [], length, Option, Some, None, is_some, refl, sym, subst}
-use Rattle.coap_block.specs.declared.block.Block.{Block}
+use Rattle.coap_types.specs.declared.block.Block.{Block}
 use Rattle.coap_block.specs.declared.fetch_verdict.Verdict.{Verdict}
 use Rattle.coap_block.specs.declared.fetch_verdict.Verdict.TheVariants.{Refuse, Again, Done, Ask}
 use Rattle.coap_block.specs.declared.fetch_step.FetchRefusal.TheVariants.{BadBlock, TooLarge}
+use Rattle.coap_types.specs.Piece.{max_body_len}
 use Rattle.coap_block.specs.Whole.{Part}
 use Rattle.coap_block.specs.FetchStep.{FetchState, start, verdict, after}
 use Rattle.coap_block.specs.Gathered.{Gathered}
 use Rattle.coap_block.specs.FetchTrace.{Made, Took, state_after, parts_by, parts_since, PartsAreGathered, WholeByHistory}
-use Rattle.coap_block.proofs.FetchLemmas.{gathered_by_part, whole_by_parts}
+use Rattle.coap_block.proofs.Fetching.WholeByParts.{gathered_by_part, whole_by_parts}
 
 at_start : (szx restarts : ℕ) → Gathered [] (start szx restarts)
 at_start szx restarts = record { bytes = refl; chained = tt; full = tt; awaits = refl }
 
-none_asks : (there big : Bool) (num szx : ℕ) → (if there then Refuse BadBlock else if big then Refuse TooLarge else Done) ≡ Ask num szx → ⊥
+pub none_asks : (there big : Bool) (num szx : ℕ) → (if there then Refuse BadBlock else if big then Refuse TooLarge else Done) ≡ Ask num szx → ⊥
 none_asks true big num szx h = cc
 none_asks false true num szx h = cc
 none_asks false false num szx h = cc
@@ -23,7 +24,7 @@ step : (v : Verdict) (parts : List Part) (s : FetchState) (block : Option Block)
 step (Refuse why) parts s block tag payload g h = g
 step Again parts s block tag payload g h = at_start s.szx (s.restarts + 1)
 step Done parts s block tag payload g h = at_start s.szx 0
-step (Ask num szx) parts s None tag payload g h = absurd (none_asks (is_some s.asked) (nat_lt 65536 (length payload)) num szx h)
+step (Ask num szx) parts s None tag payload g h = absurd (none_asks (is_some s.asked) (nat_lt max_body_len (length payload)) num szx h)
 step (Ask num szx) parts s (Some b) tag payload g h = gathered_by_part parts s b tag payload num szx g h
 
 pub parts_are_gathered : PartsAreGathered

@@ -1,7 +1,7 @@
 -- Parts that are whole for two bodies are whole for one.
 use Rattle.std.proofs.Common.{◌≡◌, ℕ, zero, suc, ◌+◌, ◌≤◌, ◌++◌, ◌∙◌, inl, inr, List, [], ◌∷◌, length, take, drop, refl, ap, sym, subst, arith, append-nil}
 use Rattle.std.proofs.lemmas.List.{take_all, drop-drop, length-drop}
-use Rattle.coap_block.specs.Piece.{size_of, offset_of}
+use Rattle.coap_types.specs.Piece.{size_of, offset_of}
 use Rattle.coap_block.specs.Whole.{Part, Each, joined, IsPieceOf, Chained, Ends, InOrder, ShowsMore, ClosedByEmpty, Blocks, Alone, WholeAtServer, OneBody, OneBodyAtServer}
 
 -- what is taken, and what lies behind it

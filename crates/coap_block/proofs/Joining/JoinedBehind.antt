@@ -1,19 +1,21 @@
 -- Blocks that are joined one behind the other at a server.
 use Rattle.std.proofs.Common.{◌≡◌, ◌≢◌, inl, inr, ◌∙◌, ℕ, true, false, ◌+◌, ◌<◌, ◌≤◌, ◌++◌, List, [], ◌∷◌, length, None, refl, ap, sym, subst, arith, append-nil, append_assoc, length-append}
 use Rattle.std.proofs.Math.Seq.{drop-append_seam, take-append_seam}
-use Rattle.coap_block.specs.declared.block.Block.{Block}
-use Rattle.coap_block.specs.Piece.{size_of, offset_of}
+use Rattle.coap_types.specs.declared.block.Block.{Block}
+use Rattle.coap_types.specs.Piece.{size_of, offset_of, max_body_len}
 use Rattle.coap_block.specs.Whole.{Part, Each, joined, Chained, InOrder, ShowsMore, WholeAtServer}
 use Rattle.coap_block.specs.Gathered.{part, IsFull}
 use Rattle.coap_block.specs.AssemblyState.{Key, PartialBody}
 use Rattle.coap_block.specs.AssemblyTrace.{JoinedFrom, IsWholeBody}
-use Rattle.coap_block.proofs.FetchLemmas.{chained_behind, each_behind, ends_behind, joined_behind, pieces_whole, size_some, some_there}
+use Rattle.coap_block.proofs.Facts.Parts.{chained_behind, each_behind, ends_behind, joined_behind, some_there}
+use Rattle.coap_block.proofs.Facts.Sizes.{size_some}
+use Rattle.coap_block.proofs.Fetching.WholeByParts.{pieces_whole}
 
 offset_zero : (num szx : ℕ) → num ≡ 0 → offset_of num szx ≡ 0
 offset_zero num szx e = subst (λ (n : ℕ). offset_of n szx ≡ 0) (sym e) (omega arith)
 
 pub join_first : (b : Block) (payload : List ℕ) (key : Key) (t : ℕ) → b.num ≡ 0 → b.more ≡ true → length payload ≡ size_of b.szx
-    → offset_of b.num b.szx + length payload ≤ 65536 → JoinedFrom (part b None payload ∷ []) (record { key = key; bytes = [] ++ payload; last = t })
+    → offset_of b.num b.szx + length payload ≤ max_body_len → JoinedFrom (part b None payload ∷ []) (record { key = key; bytes = [] ++ payload; last = t })
 join_first b payload key t zero_num more full short = record {
   bytes = sym (append-nil payload);
   some = λ e. absurd cc;
@@ -23,7 +25,7 @@ join_first b payload key t zero_num more full short = record {
 }
 
 pub join_next : (parts : List Part) (p : PartialBody) (b : Block) (payload : List ℕ) (key : Key) (t : ℕ) → JoinedFrom parts p
-    → length p.bytes ≡ offset_of b.num b.szx → b.more ≡ true → length payload ≡ size_of b.szx → offset_of b.num b.szx + length payload ≤ 65536
+    → length p.bytes ≡ offset_of b.num b.szx → b.more ≡ true → length payload ≡ size_of b.szx → offset_of b.num b.szx + length payload ≤ max_body_len
     → JoinedFrom (parts ++ part b None payload ∷ []) (record { key = key; bytes = p.bytes ++ payload; last = t })
 join_next parts p b payload key t j at more full short =
     let n = ap length j.bytes in
@@ -36,7 +38,7 @@ join_next parts p b payload key t j at more full short =
     }
 
 pub whole_first : (b : Block) (payload : List ℕ) → b.num ≡ 0 → b.more ≡ false → length payload ≤ size_of b.szx
-    → offset_of b.num b.szx + length payload ≤ 65536 → IsWholeBody (part b None payload ∷ []) ([] ++ payload)
+    → offset_of b.num b.szx + length payload ≤ max_body_len → IsWholeBody (part b None payload ∷ []) ([] ++ payload)
 whole_first b payload zero_num last fits short = record {
   whole = inl (record {
     pieces = pieces_whole [] (part b None payload) tt (offset_zero b.num b.szx zero_num, tt) last fits (inr zero_num);
@@ -89,7 +91,7 @@ whole_of parts l body is some full before chained at last fits (x ∷ xs) there 
     }))
 
 pub whole_next : (parts : List Part) (p : PartialBody) (b : Block) (payload : List ℕ) → JoinedFrom parts p
-    → length p.bytes ≡ offset_of b.num b.szx → b.more ≡ false → length payload ≤ size_of b.szx → offset_of b.num b.szx + length payload ≤ 65536
+    → length p.bytes ≡ offset_of b.num b.szx → b.more ≡ false → length payload ≤ size_of b.szx → offset_of b.num b.szx + length payload ≤ max_body_len
     → IsWholeBody (parts ++ part b None payload ∷ []) (p.bytes ++ payload)
 whole_next parts p b payload j at last fits short =
     let n = ap length j.bytes in

@@ -1,12 +1,10 @@
 -- The test of keys decides equality.
 use Rattle.std.proofs.Common.{◌≡◌, ◌∙◌, true, refl, ap, sym, Decides}
-use Rattle.std.proofs.lemmas.Bool.Decides.{Decides-and, Decides-eqb}
-use Rattle.std.specs.Cmp.Lexicographic.{bytes_decides}
-use Rattle.coap_types.specs.declared.endpoint.Endpoint.{Endpoint}
+use Rattle.std.proofs.lemmas.Bool.Decides.{Decides-and}
 use Rattle.coap_types.specs.declared.request.Method.{Method}
 use Rattle.coap_types.specs.declared.request.Method.TheVariants.{Get, Post, Put, Delete}
-use Rattle.coap_types.proofs.PathLemmas.{same_path-decides}
-use Rattle.coap_types.proofs.EndpointLemmas.{same_endpoint-decides}
+use Rattle.coap_types.proofs.Facts.Paths.{same_path-decides}
+use Rattle.coap_types.proofs.Facts.Endpoints.{same_endpoint-decides}
 use Rattle.coap_block.specs.AssemblyState.{Key, same_key, same_method}
 
 is_method : (a b : Method) → same_method a b ≡ true → a ≡ b

@@ -1,8 +1,8 @@
 -- Partial bodies of which no two are of one key.
 use Rattle.std.proofs.Common.{◌≡◌, ◌≢◌, ◌⊎◌, inl, inr, ◌∙◌, ℕ, Bool, true, false, ◌+◌, ◌≤◌, List, [], ◌∷◌, length, Option, Some, None, if◌then◌else◌, refl, ap, sym, arith}
-use Rattle.coap_block.specs.AssemblyState.{Key, PartialBody, same_key, is_live, forgotten, partial_of, without, put}
+use Rattle.coap_block.specs.AssemblyState.{Key, PartialBody, same_key, is_live, forgotten, partial_of, without_key, put}
 use Rattle.coap_block.specs.AssemblyTrace.{AreDistinct}
-use Rattle.coap_block.proofs.KeyLemmas.{same_key-decides, same_key_self}
+use Rattle.coap_block.proofs.Facts.Keys.{same_key-decides, same_key_self}
 
 cond_none : (b : Bool) (p : PartialBody) (o : Option PartialBody) → (if b then Some p else o) ≡ None → (b ≡ false) × (o ≡ None)
 cond_none true p o h = absurd cc
@@ -34,21 +34,21 @@ found_key key (p ∷ ps) q h = found_key_step (same_key p.key key) p q key (part
 
 -- without that of a key
 out_other_step : (b : Bool) (p : PartialBody) (key other : Key) (ps : List PartialBody) → same_key p.key key ≡ b → other ≢ key
-    → partial_of other (without key ps) ≡ partial_of other ps → partial_of other (if b then ps else p ∷ without key ps) ≡ partial_of other (p ∷ ps)
+    → partial_of other (without_key key ps) ≡ partial_of other ps → partial_of other (if b then ps else p ∷ without_key key ps) ≡ partial_of other (p ∷ ps)
 out_other_step true p key other ps is ne ih =
     let misses : same_key p.key other ≡ false = is_other p.key other (λ e. ne (sym e ∙ is_same p.key key is)) in rw misses refl
 out_other_step false p key other ps is ne ih = ap (λ (o : Option PartialBody). if same_key p.key other then Some p else o) ih
 
-pub out_other : (key other : Key) (ps : List PartialBody) → other ≢ key → partial_of other (without key ps) ≡ partial_of other ps
+pub out_other : (key other : Key) (ps : List PartialBody) → other ≢ key → partial_of other (without_key key ps) ≡ partial_of other ps
 out_other key other [] ne = refl
 out_other key other (p ∷ ps) ne = out_other_step (same_key p.key key) p key other ps refl ne (out_other key other ps ne)
 
 out_none_step : (b : Bool) (p : PartialBody) (key : Key) (ps : List PartialBody) → same_key p.key key ≡ b → partial_of p.key ps ≡ None
-    → partial_of key (without key ps) ≡ None → partial_of key (if b then ps else p ∷ without key ps) ≡ None
+    → partial_of key (without_key key ps) ≡ None → partial_of key (if b then ps else p ∷ without_key key ps) ≡ None
 out_none_step true p key ps is none ih = ap (λ (k : Key). partial_of k ps) (sym (is_same p.key key is)) ∙ none
 out_none_step false p key ps is none ih = rw is ih
 
-pub out_none : (key : Key) (ps : List PartialBody) → AreDistinct ps → partial_of key (without key ps) ≡ None
+pub out_none : (key : Key) (ps : List PartialBody) → AreDistinct ps → partial_of key (without_key key ps) ≡ None
 out_none key [] d = refl
 out_none key (p ∷ ps) d = out_none_step (same_key p.key key) p key ps refl d.0 (out_none key ps d.1)
 
@@ -56,11 +56,11 @@ differ : (a b : Key) → same_key a b ≡ false → a ≢ b
 differ a b h e = let t : same_key a b ≡ true = (same_key-decides a b).1 e in absurd cc
 
 distinct_out_step : (b : Bool) (p : PartialBody) (key : Key) (ps : List PartialBody) → same_key p.key key ≡ b → partial_of p.key ps ≡ None
-    → AreDistinct ps → AreDistinct (without key ps) → AreDistinct (if b then ps else p ∷ without key ps)
+    → AreDistinct ps → AreDistinct (without_key key ps) → AreDistinct (if b then ps else p ∷ without_key key ps)
 distinct_out_step true p key ps is none d ih = d
 distinct_out_step false p key ps is none d ih = (out_other key p.key ps (differ p.key key is) ∙ none, ih)
 
-pub distinct_out : (key : Key) (ps : List PartialBody) → AreDistinct ps → AreDistinct (without key ps)
+pub distinct_out : (key : Key) (ps : List PartialBody) → AreDistinct ps → AreDistinct (without_key key ps)
 distinct_out key [] d = tt
 distinct_out key (p ∷ ps) d = distinct_out_step (same_key p.key key) p key ps refl d.0 d.1 (distinct_out key ps d.1)
 
@@ -142,18 +142,18 @@ fewer_out_step : (b : Bool) (p : PartialBody) (xs ps : List PartialBody) → len
 fewer_out_step true p xs ps h = omega (arith, h)
 fewer_out_step false p xs ps h = omega (arith, h)
 
-pub fewer_out : (key : Key) (ps : List PartialBody) → length (without key ps) ≤ length ps
+pub fewer_out : (key : Key) (ps : List PartialBody) → length (without_key key ps) ≤ length ps
 fewer_out key [] = omega arith
-fewer_out key (p ∷ ps) = fewer_out_step (same_key p.key key) p (without key ps) ps (fewer_out key ps)
+fewer_out key (p ∷ ps) = fewer_out_step (same_key p.key key) p (without_key key ps) ps (fewer_out key ps)
 
 one_more_step : (b : Bool) (new p : PartialBody) (xs ys ps : List PartialBody) → length ys ≤ length xs + 1
     → length (if b then new ∷ ps else p ∷ ys) ≤ length (if b then ps else p ∷ xs) + 1
 one_more_step true new p xs ys ps h = omega (arith, h)
 one_more_step false new p xs ys ps h = omega (arith, h)
 
-pub one_more : (new : PartialBody) (ps : List PartialBody) → length (put new ps) ≤ length (without new.key ps) + 1
+pub one_more : (new : PartialBody) (ps : List PartialBody) → length (put new ps) ≤ length (without_key new.key ps) + 1
 one_more new [] = omega arith
-one_more new (p ∷ ps) = one_more_step (same_key p.key new.key) new p (without new.key ps) (put new ps) ps (one_more new ps)
+one_more new (p ∷ ps) = one_more_step (same_key p.key new.key) new p (without_key new.key ps) (put new ps) ps (one_more new ps)
 
 as_many_step : (b : Bool) (new p q : PartialBody) (ys ps : List PartialBody) → (if b then Some p else partial_of new.key ps) ≡ Some q
     → (partial_of new.key ps ≡ Some q → length ys ≤ length ps) → length (if b then new ∷ ps else p ∷ ys) ≤ length (p ∷ ps)

@@ -1,0 +1,4 @@
+-- What an assembly does to its fields, it does to its state.
+pub mod FoundByKey
+pub mod PartialsSeen
+pub mod StepOfState

@@ -1,0 +1,6 @@
+-- What a server joins is the blocks that it took.
+pub mod BlocksOfHistory
+pub mod JoinedBehind
+pub mod OneBody
+pub mod OneForAKey
+pub mod ThereExactly

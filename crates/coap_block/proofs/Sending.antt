@@ -1,0 +1,2 @@
+-- What a client sends in blocks is its body.
+pub mod SentInOrder
