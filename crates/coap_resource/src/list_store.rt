@@ -23,13 +23,13 @@ pub struct ListStore<A: Allocator = Global> {
 }
 
 impl<A: Allocator> Model for ListStore<A> {
-    ghost use Rattle.coap_resource.specs.Entries.{AreShort, Listed, Unique, kept};
+    ghost use Rattle.coap_resource.specs.Entries.{AreShort, Listed, Unique, held_entries};
 
     ghost Value = { Listed };
 
-    ghost view = { λ s. record { entries = kept s.entries.items; tally = s.tally } };
+    ghost view = { λ s. record { entries = held_entries s.entries.items; tally = s.tally } };
 
-    ghost invariant = { λ s. Unique (kept s.entries.items) × AreShort (kept s.entries.items) };
+    ghost invariant = { λ s. Unique (held_entries s.entries.items) × AreShort (held_entries s.entries.items) };
 }
 
 impl<A: Allocator + Copy> ListStore<A> {

@@ -1,4 +1,4 @@
-ghost use Rattle.std.specs.Prelude.{◌≡◌, ◌≢◌, ◌<◌, ◌≤◌, IfOk, IfSome, OnErr, OnOk, length, take, drop};
+ghost use Rattle.std.specs.Prelude.{◌≡◌, ◌≢◌, ◌<◌, ◌≤◌, ◌^◌, IfOk, IfSome, OnErr, OnOk, length, take, drop};
 ghost use Rattle.coap_types.specs.CoapOption.{options_of};
 ghost use Rattle.coap_resource.specs.Content.{append_refusal, put_refusal};
 ghost use Rattle.coap_resource.specs.Rate.{rate_refusal};
@@ -60,7 +60,7 @@ fn of_16_bits(number: u16) -> u16
 // The format of a representation.
 fn own_format<A: Allocator>(held: &Representation<A>) -> Option<u16>
     ensures same { result ≡ held.now.format }
-    ensures few { IfSome result (λ f. f < 65536) }
+    ensures few { IfSome result (λ f. f < 2 ^ 16) }
 {
     match held.format {
         None => None,
@@ -73,7 +73,7 @@ fn block_sent(wanted: &Wanted, len: usize) -> Option<(u32, bool, Szx)>
     requires place { wanted.now.offset ≤ len }
     requires short { len ≤ MAX_BODY_LEN }
     ensures sent { result ≡ block2_of wanted.now.by_block wanted.now.offset wanted.now.szx len }
-    ensures few { IfSome result (λ b. (b.0 < 1048576) × (b.2 ≤ 6)) }
+    ensures few { IfSome result (λ b. (b.0 < 2 ^ 20) × (b.2 ≤ 6)) }
 {
     let size = wanted.szx.size();
     if !wanted.by_block && len <= size {
