@@ -21,7 +21,7 @@ mod tally;
 mod tests;
 
 pub use asking::Asking;
-pub use laws::rate_law;
+pub use laws::{rate_law, served_law};
 pub use list_store::ListStore;
 pub use refusal::StoreRefusal;
 pub use representation::Representation;
