@@ -123,8 +123,8 @@ fn recognise<'a, A: Allocator + Copy>(
     recognised(alloc, Direction::Request, request.options())
 }
 
-/// Answers what is handed up.
-pub(crate) fn answer<A: Allocator + Copy, S: Store<A>>(
+/// Replies to what is handed up.
+pub(crate) fn reply_to<A: Allocator + Copy, S: Store<A>>(
     alloc: A,
     store: &mut S,
     request: &View<'_>,
