@@ -4,10 +4,11 @@ use Rattle.std.specs.List.{filter}
 use Rattle.coap_resource.specs.declared.entry.Entry.{Entry}
 use Rattle.coap_resource.specs.declared.tally.Tally.{Tally}
 use Rattle.coap_types.specs.Path.{same_path}
+use Rattle.coap_types.specs.declared.limits.TheConstants.{MAX_BODY_LEN as max_body_len}
 use Rattle.coap_resource.specs.Content.{Held, Changes}
 use Rattle.coap_resource.specs.Rate.{counted}
 use Rattle.coap_resource.specs.Entries.{entry_of, held_entries, find, without_path, Unique, AreShort, Listed, content_of}
-use Rattle.coap_types.proofs.PathLemmas.{same_path-decides}
+use Rattle.coap_types.proofs.Facts.Paths.{same_path-decides}
 
 pub entries_append : {A : Type 0} (xs ys : List (Entry A)) → held_entries (xs ++ ys) ≡ held_entries xs ++ held_entries ys
 entries_append [] ys = refl
@@ -156,7 +157,7 @@ pub change_append : (old new : Listed) (now : ℕ) (p : List (List ℕ)) (versio
 change_append old new now p version was held body more u es joined same tally =
     rw (← same, ← joined) (change_put old new now p (record { version = version; format = was.format; body = body }) u es tally)
 
-short_step : (b : Bool) (e : List (List ℕ) × Held) (es : List (List (List ℕ) × Held)) → length e.1.body ≤ 65536 → AreShort es → AreShort (if b then e ∷ es else es)
+short_step : (b : Bool) (e : List (List ℕ) × Held) (es : List (List (List ℕ) × Held)) → length e.1.body ≤ max_body_len → AreShort es → AreShort (if b then e ∷ es else es)
 short_step true e es first rest = (first, rest)
 short_step false e es first rest = rest
 
@@ -165,23 +166,23 @@ pub short_without : (es : List (List (List ℕ) × Held)) (p : List (List ℕ)) 
 short_without [] p short = tt
 short_without (e ∷ es) p short = short_step (not (same_path e.0 p)) e (without_path es p) short.0 (short_without es p short.1)
 
-short_behind : (es : List (List (List ℕ) × Held)) (p : List (List ℕ)) (h : Held) → AreShort es → length h.body ≤ 65536 → AreShort (es ++ (p, h) ∷ [])
+short_behind : (es : List (List (List ℕ) × Held)) (p : List (List ℕ)) (h : Held) → AreShort es → length h.body ≤ max_body_len → AreShort (es ++ (p, h) ∷ [])
 short_behind [] p h short last = (last, tt)
 short_behind (e ∷ es) p h short last = (short.0, short_behind es p h short.1 last)
 
-pub short_put : (es : List (List (List ℕ) × Held)) (p : List (List ℕ)) (h : Held) → AreShort es → length h.body ≤ 65536 → AreShort (replaced es p h)
+pub short_put : (es : List (List (List ℕ) × Held)) (p : List (List ℕ)) (h : Held) → AreShort es → length h.body ≤ max_body_len → AreShort (replaced es p h)
 short_put es p h short last = short_behind (without_path es p) p h (short_without es p short) last
 
-short_found : (b : Bool) (h : Held) (found : Option Held) → length h.body ≤ 65536 → IfSome found (λ k. length k.body ≤ 65536)
-    → IfSome (if b then Some h else found) (λ k. length k.body ≤ 65536)
+short_found : (b : Bool) (h : Held) (found : Option Held) → length h.body ≤ max_body_len → IfSome found (λ k. length k.body ≤ max_body_len)
+    → IfSome (if b then Some h else found) (λ k. length k.body ≤ max_body_len)
 short_found true h found first rest = first
 short_found false h found first rest = rest
 
 -- what is found is short
-pub short_find : (es : List (List (List ℕ) × Held)) (p : List (List ℕ)) → AreShort es → IfSome (find es p) (λ held. length held.body ≤ 65536)
+pub short_find : (es : List (List (List ℕ) × Held)) (p : List (List ℕ)) → AreShort es → IfSome (find es p) (λ held. length held.body ≤ max_body_len)
 short_find [] p short = tt
 short_find (e ∷ es) p short = short_found (same_path e.0 p) e.1 (find es p) short.0 (short_find es p short.1)
 
 -- a body that is joined to another
-pub short_joined : (body front more : List ℕ) → body ≡ front ++ more → length front + length more ≤ 65536 → length body ≤ 65536
+pub short_joined : (body front more : List ℕ) → body ≡ front ++ more → length front + length more ≤ max_body_len → length body ≤ max_body_len
 short_joined body front more is few = rw is (omega (arith, length-append front more))

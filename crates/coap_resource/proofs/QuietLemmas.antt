@@ -3,7 +3,8 @@ use Rattle.std.proofs.Common.{◌≡◌, ◌≢◌, ℕ, Bool, true, false, not,
 use Rattle.coap_resource.specs.declared.refusal.StoreRefusal.{StoreRefusal}
 use Rattle.coap_resource.specs.declared.refusal.StoreRefusal.TheVariants.{Memory, TooLarge, TooManyPaths, RateExceeded, VersionsSpent}
 use Rattle.coap_resource.specs.declared.tally.Tally.{Tally}
-use Rattle.coap_resource.specs.declared.store.TheConstants.{MAX_BODY_LEN as max_body_len, MAX_PATHS as max_paths}
+use Rattle.coap_types.specs.declared.limits.TheConstants.{MAX_BODY_LEN as max_body_len}
+use Rattle.coap_resource.specs.declared.store.TheConstants.{MAX_PATHS as max_paths}
 use Rattle.coap_resource.specs.Content.{Content, Held, append_refusal, put_refusal}
 use Rattle.coap_resource.specs.Rate.{rate_refusal, used}
 

@@ -4,8 +4,9 @@ use Rattle.std.proofs.lemmas.Bool.Decides.{nat_tests}
 use Rattle.std.proofs.lemmas.List.{take_all, nil_from_length}
 use Rattle.std.proofs.lemmas.Nat.{pow-add}
 use Rattle.std.proofs.Math.Nat.{min-le_left, mul-div_cancel, pow-le-pow_right}
+use Rattle.coap_types.specs.declared.block.Block.{Block}
 use Rattle.coap_resource.specs.Content.{Held}
-use Rattle.coap_resource.specs.Piece.{Piece}
+use Rattle.coap_types.specs.Piece.{Piece}
 use Rattle.coap_resource.specs.RequestOptions.{block_of, offset_by, szx_by}
 use Rattle.coap_resource.specs.ServedLaw.{IsPart, PartLaw}
 use Rattle.coap_resource.specs.Serves.{Reply, content_reply}
@@ -66,12 +67,12 @@ first : (held : Held) (szx : ℕ) (longer : Bool) → nat_lt (2 ^ (szx + 4)) (le
 first held szx true is = sent held.body 0 0 szx (let none : 0 ≡ 0 * 2 ^ (szx + 4) = omega arith in none) refl
 first held szx false is = take_all (2 ^ (szx + 4)) held.body (not_longer (2 ^ (szx + 4)) (length held.body) is)
 
-part : (held : Held) (block : Option (ℕ × ℕ)) (szx : ℕ) → (nat_lt 0 (offset_by block) && nat_le (length held.body) (offset_by block)) ≡ false
+part : (held : Held) (block : Option Block) (szx : ℕ) → (nat_lt 0 (offset_by block) && nat_le (length held.body) (offset_by block)) ≡ false
     → IsPart (content_reply held (is_some block) (offset_by block) (szx_by block szx)).block2 held.body (content_reply held (is_some block) (offset_by block) (szx_by block szx)).part
 part held None szx within = first held szx (nat_lt (2 ^ (szx + 4)) (length held.body)) refl
 part held (Some b) szx within =
-    let least = min-le_left b.1 szx in
-    sent held.body (b.0 * 2 ^ (b.1 + 4)) (b.0 * 2 ^ (b.1 - min b.1 szx)) (min b.1 szx) (asked_is b.0 b.1 (min b.1 szx) least) within
+    let least = min-le_left b.szx szx in
+    sent held.body (b.num * 2 ^ (b.szx + 4)) (b.num * 2 ^ (b.szx - min b.szx szx)) (min b.szx szx) (asked_is b.num b.szx (min b.szx szx) least) within
 
 pub part_law : PartLaw
 part_law old new at q reply h k =

@@ -3,7 +3,7 @@ use Rattle.std.specs.Prelude.{◌≡◌, ◌≤◌, ℕ, not, List, [], ◌∷�
 use Rattle.std.specs.List.{filter}
 use Rattle.coap_types.specs.Path.{same_path}
 use Rattle.coap_resource.specs.declared.entry.Entry.{Entry}
-use Rattle.coap_resource.specs.declared.store.TheConstants.{MAX_BODY_LEN as max_body_len}
+use Rattle.coap_types.specs.declared.limits.TheConstants.{MAX_BODY_LEN as max_body_len}
 use Rattle.coap_resource.specs.declared.tally.Tally.{Tally}
 use Rattle.coap_resource.specs.Content.{Held, Content}
 use Rattle.coap_resource.specs.Shown.{held_of}

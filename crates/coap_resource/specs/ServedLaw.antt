@@ -3,7 +3,7 @@ use Rattle.std.specs.Prelude.{◌≡◌, ◌⊎◌, ℕ, Bool, false, ◌&&◌, 
 use Rattle.coap_types.specs.declared.message.TheConstants.Code as codes
 use Rattle.coap_types.specs.declared.request.Method.TheVariants.{Get}
 use Rattle.coap_resource.specs.Content.{Content, Held, later}
-use Rattle.coap_resource.specs.Piece.{Piece}
+use Rattle.coap_types.specs.Piece.{Piece}
 use Rattle.coap_resource.specs.RequestOptions.{block_of, offset_by, szx_by}
 use Rattle.coap_resource.specs.Serves.{Question, Reply, Serves, content_reply}
 

@@ -1,6 +1,8 @@
 -- Which response a request has, and what it changes (RFC 7252, section 5.8; RFC 7959, section 2.4).
-use Rattle.std.specs.Prelude.{◌≡◌, ℕ, Bool, true, false, not, ◌&&◌, ◌||◌, ◌+◌, ◌/◌, ◌^◌, ◌++◌, nat_lt, nat_le, List, [], length, take, drop, Option, Some, None, is_some, if◌then◌else◌}
+use Rattle.std.specs.Prelude.{◌≡◌, ℕ, Bool, true, false, not, ◌&&◌, ◌||◌, ◌+◌, ◌/◌, ◌++◌, nat_lt, nat_le, List, [], length, take, drop, Option, Some, None, is_some, if◌then◌else◌}
 use Rattle.coap_types.specs.CoapOption.{CoapOption, options_of}
+use Rattle.coap_types.specs.Piece.{size_of}
+use Rattle.coap_types.specs.declared.block.Block.{Block}
 use Rattle.coap_types.specs.declared.message.TheConstants.Code as codes
 use Rattle.coap_types.specs.declared.request.Method.{Method}
 use Rattle.coap_types.specs.declared.request.Method.TheVariants.{Get, Post, Put, Delete}
@@ -43,7 +45,7 @@ bare code offset = record { code = code; tag = None; format = None; block2 = Non
 -- response, and M says whether the body goes on.
 abbrev pub block2_of : Bool → ℕ → ℕ → ℕ → Option (ℕ × Bool × ℕ)
 block2_of by_block offset szx len =
-    if by_block || nat_lt (2 ^ (szx + 4)) len then Some (offset / 2 ^ (szx + 4), nat_lt (offset + 2 ^ (szx + 4)) len, szx) else None
+    if by_block || nat_lt (size_of szx) len then Some (offset / size_of szx, nat_lt (offset + size_of szx) len, szx) else None
 
 -- 2.05: the part of the body from the offset on, at most a block of it
 abbrev pub content_reply : Held → Bool → ℕ → ℕ → Reply
@@ -52,12 +54,12 @@ content_reply held by_block offset szx = record {
   tag = Some (tag_of held.version);
   format = held.format;
   block2 = block2_of by_block offset szx (length held.body);
-  part = take (2 ^ (szx + 4)) (drop offset held.body);
+  part = take (size_of szx) (drop offset held.body);
   offset = offset;
 }
 
 -- a GET of what a path holds: not acceptable 4.06, known to the client 2.03, nothing there 4.00, else 2.05
-abbrev pub got_at : Held → List CoapOption → ℕ → Option (ℕ × ℕ) → Reply
+abbrev pub got_at : Held → List CoapOption → ℕ → Option Block → Reply
 got_at held options szx block =
     if not (accepts held.format options) then bare codes.NOT_ACCEPTABLE.0 (offset_by block)
     else if etag_names held.version options then record (bare codes.VALID.0 (offset_by block)) { tag = Some (tag_of held.version) }

@@ -16,9 +16,10 @@ use crate::request_options::{
     Wanted, accepts, etag_names, format_of, precondition_fails, wanted_block,
 };
 use crate::response::{Response, bare};
-use crate::store::{MAX_BODY_LEN, Store};
+use crate::store::Store;
 use bytes::Bytes;
-use coap_types::{Code, Method, Moment, Szx, Tag};
+use coap_types::limits::MAX_BODY_LEN;
+use coap_types::{Code, MAX_NUM, MAX_SZX, Method, Moment, Szx, Tag};
 use std::alloc::{AllocError, Allocator};
 
 // The code of a response to what the store refuses.
@@ -76,7 +77,7 @@ fn block_sent(wanted: &Wanted, len: usize) -> Option<(u32, bool, Szx)>
     requires place { wanted.now.offset ≤ len }
     requires short { len ≤ MAX_BODY_LEN }
     ensures sent { result ≡ block2_of wanted.now.by_block wanted.now.offset wanted.now.szx len }
-    ensures few { IfSome result (λ b. (b.0 < 2 ^ 20) × (b.2 ≤ 6)) }
+    ensures few { IfSome result (λ b. (b.0 ≤ MAX_NUM) × (b.2 ≤ MAX_SZX)) }
 {
     let size = wanted.szx.size();
     if !wanted.by_block && len <= size {

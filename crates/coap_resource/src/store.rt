@@ -8,15 +8,14 @@ ghost use Rattle.coap_resource.specs.Shown.{shown};
 use crate::refusal::StoreRefusal;
 use crate::representation::Representation;
 use crate::tally::MAX_CHANGES_PER_WINDOW;
+use coap_types::limits::MAX_BODY_LEN;
 use coap_types::{Moment, Path};
 use std::alloc::Allocator;
 
-/// The most bytes of a body (profile: RFC 7252 sets no bound).
-pub const MAX_BODY_LEN: usize = 65_536;
 /// The most paths that hold something (profile).
 pub const MAX_PATHS: usize = 256;
 
-const _: () = prove!(MAX_BODY_LEN == 65_536 && MAX_PATHS == 256);
+const _: () = prove!(MAX_PATHS == 256);
 
 /// The resources of a server: what each path holds (RFC 7252, section 5.8).
 ///
