@@ -4,3 +4,4 @@ pub mod UintLemmas
 pub mod BlockLemmas
 pub mod RecognisedLemmas
 pub mod UnrecognisedLemmas
+pub mod SegmentLemmas

@@ -1,7 +1,9 @@
 -- The path that the options of a request say (RFC 7252, section 5.10.1).
-use Rattle.std.specs.Prelude.{ℕ, ◌+◌, ◌==◌, nat_le, nat_lt, List, [], ◌∷◌, length, map, Option, Some, None, if◌then◌else◌}
+use Rattle.std.specs.Prelude.{◌≡◌, ℕ, ◌+◌, ◌==◌, nat_le, nat_lt, List, [], ◌∷◌, length, map, Option, Some, None, if◌then◌else◌}
 use Rattle.std.specs.List.{filter}
 use Rattle.coap_types.specs.CoapOption.{CoapOption}
+use Rattle.coap_types.specs.Recognised.{recognised}
+use Rattle.coap_types.specs.declared.direction.Direction.TheVariants.{Request}
 use Rattle.coap_types.specs.declared.option_number.TheConstants.{URI_PATH as uri_path}
 use Rattle.coap_types.specs.declared.path.PathRefusal.{PathRefusal}
 use Rattle.coap_types.specs.declared.path.PathRefusal.TheVariants.{SegmentTooLong, TooManySegments}
@@ -22,3 +24,9 @@ refusal_after count (s ∷ ss) =
 -- why segments make no path
 abbrev pub path_refusal : List (List ℕ) → Option PathRefusal
 path_refusal segments = refusal_after 0 segments
+
+-- of the options of a request that are recognised, too many segments alone refuse the path
+abbrev pub PathsOfRecognised : Type 0
+PathsOfRecognised =
+    (options : List CoapOption)
+    → path_refusal (path_of (recognised Request options)) ≡ (if nat_lt max_segments (length (path_of (recognised Request options))) then Some TooManySegments else None)

@@ -1,6 +1,6 @@
 use crate::{
     Code, Endpoint, Id, Kind, Method, Moment, Occurrence, Opt, Path, PathRefusal, Request, Role,
-    Rule, Szx, Tag, Tags, Token, option_number, rule, uint_bytes, uint_laws, uint_of,
+    Rule, Szx, Tag, Tags, Token, option_number, path_law, rule, uint_bytes, uint_laws, uint_of,
 };
 use Occurrence::{Never, Once, Repeatable};
 use bytes::Bytes;
@@ -74,6 +74,7 @@ fn a_path_is_read_from_options(rt: HostRuntime) -> Result<(), AllocError> {
     for (options, why) in refused {
         assert!(rt; matches!(Path::of_options(rt.alloc(), options), Err(is) if is == why));
     }
+    path_law();
     Ok(())
 }
 
