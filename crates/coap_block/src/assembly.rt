@@ -120,9 +120,9 @@ fn act<A: Allocator + Copy>(
     requires few { AreFew was.0 (partials_of partials.old.items) }
     ensures answer { IfOk result (λ r.
         r.0 ≡ took (with_payload (key_of key.now) num payload.now (there_of now.0 partials.old.items)) num verdict) }
-    ensures left { OnOk result (there_of now.0 partials.new.items 
+    ensures left { OnOk result (there_of now.0 partials.new.items
         ≡ partials_by verdict (body_with (key_of key.now) num payload.now now.0 (there_of now.0 partials.old.items))
-            (there_of now.0 partials.old.items)) }
+        (there_of now.0 partials.old.items)) }
     ensures back { IfOk result (λ r.
         forgotten was.0 (undone r.1 partials.new.items) ≡ there_of was.0 partials.old.items) }
     ensures undoable { IfOk result (λ r. IsUndoable r.1 partials.new) }

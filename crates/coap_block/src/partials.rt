@@ -185,7 +185,7 @@ pub(crate) fn join<A: Allocator + Copy>(
     requires few { AreFew was.0 (partials_of partials.old.items) }
     ensures ok { OnOk result (there_of now.0 partials.new.items
         ≡ put (body_with (key_of key.now) num payload.now now.0 (there_of now.0 partials.old.items))
-            (there_of now.0 partials.old.items)) }
+        (there_of now.0 partials.old.items)) }
     ensures back { IfOk result (λ change.
         forgotten was.0 (undone change partials.new.items) ≡ there_of was.0 partials.old.items) }
     ensures undoable { IfOk result (λ change. IsUndoable change partials.new) }

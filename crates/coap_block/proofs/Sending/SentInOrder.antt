@@ -92,6 +92,7 @@ tested_keeps s szx (inr h) = by (szx == s.szx) ((s.num == 0) && nat_lt szx s.szx
   where
     both : (a b : Bool) → a ≡ true → b ≡ true → (a && b) ≡ true
     both a b ha hb = rw (ha, hb) refl
+
     by : (a b : Bool) → b ≡ true → (a || b) ≡ true
     by true b hb = refl
     by false b hb = hb
