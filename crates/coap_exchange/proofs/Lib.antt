@@ -1,3 +1,4 @@
+pub mod Facts
 pub mod AskerLeading
 pub mod TokenLemmas
 pub mod MatchingLemmas
