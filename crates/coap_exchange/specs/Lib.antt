@@ -1,3 +1,4 @@
+pub mod Machine
 pub mod Tokens
 pub mod EmptyMessages
 pub mod Matching
@@ -20,10 +21,6 @@ pub mod AnswererTells
 pub mod Above
 pub mod AnswererDeferrals
 pub mod AnswererExact
-pub mod AskerShown
-pub mod AnswererShown
 pub mod ShortAnswers
-pub mod Listed
-pub mod Outstanding
 pub mod ClientExample
 pub mod ServerExample

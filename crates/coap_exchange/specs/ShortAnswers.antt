@@ -7,7 +7,7 @@ use Rattle.coap_codec.specs.BoundedSpelling.{is_numbered, most_bytes}
 use Rattle.coap_codec.specs.Refused.{ascends, is_short}
 use Rattle.coap_exchange.specs.declared.answerer.Asked.{Asked}
 use Rattle.coap_exchange.specs.AnswererTrace.{Response}
-use Rattle.coap_exchange.specs.AnswererShown.{IsAnswer, IsAnswerWith}
+use Rattle.coap_exchange.specs.Machine.AnswererShown.{IsAnswer, IsAnswerWith}
 
 -- a code of class 2 to 5, options that ascend and are short, and few bytes by this count
 pub record IsShortAnswer (r : Response) : Type 0 where

@@ -8,7 +8,7 @@ ghost use Rattle.coap_exchange.specs.declared.answerer.Asked.{Asked as AskedSpec
 ghost use Rattle.coap_exchange.specs.declared.answerer.Due.TheVariants as dues;
 ghost use Rattle.coap_exchange.specs.AnswererSteps.{ready_at};
 ghost use Rattle.coap_exchange.specs.AnswererLaw.{Led, Step, fresh_state};
-ghost use Rattle.coap_exchange.specs.AnswererShown.{MayAnswer, MayNotify, MayRespond, IsAnswer, IsAnswerWith};
+ghost use Rattle.coap_exchange.specs.Machine.AnswererShown.{MayAnswer, MayNotify, MayRespond, IsAnswer, IsAnswerWith};
 ghost use Rattle.coap_exchange.specs.AnswererTrace.{Call, Incoming, Answers, Defers, Ticks, Responds, Ready, Notifies, Take};
 
 use crate::deferrals::Deferrals;
@@ -108,8 +108,8 @@ pub struct Answerer<A: Allocator + Copy> {
 
 impl<A: Allocator + Copy> Model for Answerer<A> {
     ghost use Rattle.std.specs.Vec.{vec_len, vec_capacity};
-    ghost use Rattle.coap_exchange.specs.AnswererShown.{Shown, state_of, before_of, IsAnswerable, HasPlace};
-    ghost use Rattle.coap_exchange.specs.Listed.{listed, listed_before};
+    ghost use Rattle.coap_exchange.specs.Machine.AnswererShown.{Shown, state_of, before_of, IsAnswerable, HasPlace};
+    ghost use Rattle.coap_exchange.specs.Machine.Listed.{listed, listed_before};
 
     ghost Value = { Shown };
 

@@ -7,7 +7,7 @@ ghost use Rattle.coap_exchange.specs.declared.asker.AskRefusal.TheVariants as re
 ghost use Rattle.coap_exchange.specs.declared.matching.Opening.TheVariants as openings;
 ghost use Rattle.coap_exchange.specs.AskerLaw.{Led, Step, fresh_state};
 ghost use Rattle.coap_exchange.specs.AskerRequests.{opening_of};
-ghost use Rattle.coap_exchange.specs.AskerShown.{IsAskable};
+ghost use Rattle.coap_exchange.specs.Machine.AskerShown.{IsAskable};
 ghost use Rattle.coap_exchange.specs.AskerTrace.{Call, Ask as Asks, Receive, Ticks, Keep, Release, Take};
 
 use crate::arrivals::{
@@ -118,7 +118,7 @@ pub struct Asker<A: Allocator + Copy> {
 }
 
 impl<A: Allocator + Copy> Model for Asker<A> {
-    ghost use Rattle.coap_exchange.specs.AskerShown.{Shown, state_of, before_of};
+    ghost use Rattle.coap_exchange.specs.Machine.AskerShown.{Shown, state_of, before_of};
 
     ghost Value = { Shown };
 

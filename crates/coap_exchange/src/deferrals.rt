@@ -1,7 +1,7 @@
 ghost use Rattle.std.specs.Prelude.{◌≡◌, ◌≤◌, ◌<◌, [], ◌∷◌, length, remove, IfSome, IfNone};
 ghost use Rattle.std.specs.Option.{option_map};
 ghost use Rattle.coap_exchange.specs.AnswererSteps.{deferred_with, first_ready, may_defer, without_ready};
-ghost use Rattle.coap_exchange.specs.Listed.{listed};
+ghost use Rattle.coap_exchange.specs.Machine.Listed.{listed};
 
 use crate::answerer::Asked;
 use crate::listed::Listed;

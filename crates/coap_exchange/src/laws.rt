@@ -8,7 +8,7 @@ ghost use Rattle.coap_exchange.specs.AskerFollows.{AreExchanges, AreTokens, EndI
 ghost use Rattle.coap_exchange.specs.AskerDue.{EndWhenDue};
 ghost use Rattle.coap_exchange.specs.AskerTells.{AreRefused, AreRejected};
 ghost use Rattle.coap_exchange.specs.AskerResponses.{AreMatched};
-ghost use Rattle.coap_exchange.specs.AskerShown.{IsAskableWhenShort};
+ghost use Rattle.coap_exchange.specs.Machine.AskerShown.{IsAskableWhenShort};
 ghost use Rattle.coap_exchange.specs.ShortAnswers.{IsAnswerWhenShort, IsNotificationWhenShort};
 ghost use Rattle.coap_exchange.specs.ClientExample as client_example;
 ghost use Rattle.coap_exchange.specs.ServerExample as server_example;

@@ -1,6 +1,6 @@
 ghost use Rattle.std.specs.Prelude.{◌≡◌, ◌≤◌, ◌<◌, ◌++◌, [], ◌∷◌, map, filter};
 ghost use Rattle.std.specs.Vec.{vec_len, vec_capacity};
-ghost use Rattle.coap_exchange.specs.Listed.{listed, listed_before, noted, reverted as reverted_lem};
+ghost use Rattle.coap_exchange.specs.Machine.Listed.{listed, listed_before, noted, reverted as reverted_lem};
 
 use std::alloc::Allocator;
 

@@ -12,12 +12,12 @@ ghost use Rattle.coap_layer.specs.Trace as below;
 ghost use Rattle.coap_layer.specs.Trace.{with_head};
 ghost use Rattle.coap_layer.specs.Ups.{answer_as};
 ghost use Rattle.coap_layer.specs.Words.{handed_by};
-ghost use Rattle.coap_exchange.specs.AnswererShown.{Takes};
+ghost use Rattle.coap_exchange.specs.Machine.AnswererShown.{Takes};
 ghost use Rattle.coap_types.specs.declared.endpoint.Endpoint.{Endpoint};
 ghost use Rattle.coap_exchange.specs.AnswererSteps.{answering, asked_in, asked_of, content_of, handed_up, reject_by, reset_by, separate_after, IsSentAs};
 ghost use Rattle.coap_exchange.specs.AnswererTrace.{Own};
 ghost use Rattle.coap_exchange.specs.AskerArrivals.{id_in, replying};
-ghost use Rattle.coap_exchange.specs.Listed.{listed, listed_before};
+ghost use Rattle.coap_exchange.specs.Machine.Listed.{listed, listed_before};
 
 use crate::answerer::{Asked, Ended, Response};
 use crate::arrivals::id_in;

@@ -1,8 +1,8 @@
 ghost use Rattle.std.specs.Prelude.{◌≡◌, ◌&&◌, not, map};
 ghost use Rattle.std.specs.Option.{option_map};
 ghost use Rattle.coap_exchange.specs.AnswererSteps.{ended_as, found, goes_to, is_ready, is_waited_for};
-ghost use Rattle.coap_exchange.specs.Listed.{listed};
-ghost use Rattle.coap_exchange.specs.Outstanding.{over};
+ghost use Rattle.coap_exchange.specs.Machine.Listed.{listed};
+ghost use Rattle.coap_exchange.specs.Machine.Outstanding.{over};
 
 use crate::answerer::{Asked, Ended};
 use crate::listed::Listed;

@@ -13,9 +13,9 @@ ghost use Rattle.coap_layer.specs.declared.up.Tick.TheVariants as ticks;
 ghost use Rattle.coap_exchange.specs.declared.answerer.Asked.{Asked as AskedSpec};
 ghost use Rattle.coap_exchange.specs.declared.separate.Deferred.{Deferred};
 ghost use Rattle.coap_exchange.specs.AnswererSteps.{asking_room, content_with, due_of, failed_by, ready_if, separate_of, separate_unless};
-ghost use Rattle.coap_exchange.specs.AnswererShown.{AsksFreely};
+ghost use Rattle.coap_exchange.specs.Machine.AnswererShown.{AsksFreely};
 ghost use Rattle.coap_exchange.specs.AskerArrivals.{observe};
-ghost use Rattle.coap_exchange.specs.Listed.{listed, listed_before};
+ghost use Rattle.coap_exchange.specs.Machine.Listed.{listed, listed_before};
 
 use crate::answerer::{Asked, Due, Ended, Response};
 use crate::listed::Listed;

@@ -17,9 +17,9 @@ use Rattle.coap_layer.specs.Arrivals.{Whole, by_head, arrival_at}
 use Rattle.coap_layer.specs.Arriving.{IsArriving, shown_by, told_by, of_head, sends, ends, hands, keeps}
 use Rattle.coap_layer.specs.State.{State, answer_to, replay, sorted_by, newly, is_remembered, is_outstanding, is_full, is_free}
 use Rattle.coap_layer.specs.Table.{up_of}
-use Rattle.coap_layer.specs.Trace.{Answer, Receive}
+use Rattle.coap_layer.specs.Trace.{Answer, Becomes, Receive}
 use Rattle.coap_layer.specs.Verdicts.{answer_by}
-use Rattle.coap_layer.specs.Words.{Awaited, awaits_in, ends_in, given_by, is_con, handed_by, kept_by, from_there, same}
+use Rattle.coap_layer.specs.Words.{Awaited, awaits_in, ends_in, is_con, handed_by, kept_by, from_there, same}
 use Rattle.coap_layer.proofs.ReadingLemmas.{faulty_shows, one_arrival}
 
 -- what was read is what the datagram shows
@@ -29,7 +29,7 @@ read_shows bytes (Ok m) are found faulty head = one_arrival bytes (Whole m) are 
 read_shows bytes (Err f) are found faulty head = one_arrival bytes (by_head f.head) are (faulty_shows bytes f.reason f.at faulty f.head (sym head))
 
 -- a duplicate is not handed up
-again_down : (kind : Kind) (role : Role) (m : Message) (o f i : Bool) → m.kind ≡ kind → handed_by (up_of kind role m o true f i) ≡ None
+again_down : (kind : Kind) (role : Role) (m : Message) (o f i : Bool) → m.kind ≡ kind → handed_by (Becomes (up_of kind role m o true f i)) ≡ None
 again_down Con role.Empty m o f i h = refl
 again_down Con role.Reserved m o f i h = refl
 again_down Con role.Request m o f i h = refl
@@ -51,7 +51,7 @@ again_down Rst role.Response m o f i h = refl
 again_down Rst role.Reserved m o f i h = refl
 
 -- what a verdict hands up
-handed_so : (v : Verdict) (m : Message) → handed_by (answer_by v m) ≡ cond (hands v m.kind) (Some m) None
+handed_so : (v : Verdict) (m : Message) → handed_by (Becomes (answer_by v m)) ≡ cond (hands v m.kind) (Some m) None
 handed_so verdict.Reject m = refl
 handed_so verdict.Drop m = refl
 handed_so verdict.TakeAck m = refl
@@ -60,11 +60,11 @@ handed_so verdict.Replay m = refl
 handed_so (verdict.HandUpRequest k) m = refl
 handed_so verdict.HandUpResponse m = refl
 
-new_so : (v : Verdict) (m : Message) (r : Bool) → (r ≡ true → handed_by (answer_by v m) ≡ None) → hands v m.kind ≡ true → r ≡ false
+new_so : (v : Verdict) (m : Message) (r : Bool) → (r ≡ true → handed_by (Becomes (answer_by v m)) ≡ None) → hands v m.kind ≡ true → r ≡ false
 new_so v m false down h = refl
 new_so v m true down h = let e = handed_so v m in let d = down refl in absurd (cc (e, d, h))
 
-kept_so : (v : Verdict) (m : Message) → kept_by (answer_by v m) ≡ cond (keeps v m.kind) (Some m) None
+kept_so : (v : Verdict) (m : Message) → kept_by (Becomes (answer_by v m)) ≡ cond (keeps v m.kind) (Some m) None
 kept_so verdict.Reject m = refl
 kept_so verdict.Drop m = refl
 kept_so verdict.TakeAck m = refl
@@ -94,7 +94,7 @@ module _ (s : State) (at : ℕ) (from : Endpoint) (m : Message) where
   sent_so verdict.HandUpResponse = refl
 
   ended_so : (v : Verdict) (bytes : List ℕ) (to : Endpoint) (id : ℕ)
-      → ends_in (Receive from bytes) (answer_by v m) to id ≡ (ends v && same from m.id to id)
+      → ends_in (Receive from bytes) (Becomes (answer_by v m)) to id ≡ (ends v && same from m.id to id)
   ended_so verdict.Reject bytes to id = refl
   ended_so verdict.Drop bytes to id = refl
   ended_so verdict.TakeAck bytes to id = refl
@@ -103,27 +103,17 @@ module _ (s : State) (at : ℕ) (from : Endpoint) (m : Message) where
   ended_so (verdict.HandUpRequest k) bytes to id = refl
   ended_so verdict.HandUpResponse bytes to id = refl
 
-  given_so : (now : ℕ) (v : Verdict) → given_by now (answer_by v m) ≡ []
-  given_so now verdict.Reject = refl
-  given_so now verdict.Drop = refl
-  given_so now verdict.TakeAck = refl
-  given_so now verdict.TakeReset = refl
-  given_so now verdict.Replay = refl
-  given_so now (verdict.HandUpRequest k) = refl
-  given_so now verdict.HandUpResponse = refl
-
   pub message_arrives : (v : Verdict) → answer_by v m ≡ sorted_by s at (record { from = from; message = m })
       → IsArriving s at from (Whole m) (record { kind = m.kind; id = record { 0 = m.id }; verdict = v })
   message_arrives v e =
-      let down : is_remembered at from m.id s.arrived ≡ true → handed_by (answer_by v m) ≡ None =
-      λ r. ap handed_by (e ∙ ap (λ b. up_of m.kind (role_of m.code) m (is_outstanding from m.id s.open_cons) b (is_full at s.arrived) (is_free at s.upcoming s.last_used)) r)
+      let down : is_remembered at from m.id s.arrived ≡ true → handed_by (Becomes (answer_by v m)) ≡ None =
+      λ r. ap (λ d. handed_by (Becomes d)) (e ∙ ap (λ b. up_of m.kind (role_of m.code) m (is_outstanding from m.id s.open_cons) b (is_full at s.arrived) (is_free at s.upcoming s.last_used)) r)
       ∙ again_down m.kind (role_of m.code) m _ _ _ refl in
       record {
         out = ap (replay s at (record { from = from; message = m })) (sym e) ∙ sent_so v;
-        taken = λ bytes. ap (λ a. newly at (from_there from (kept_by a))) (sym e) ∙ (ap (λ o. newly at (from_there from o)) (kept_so v m) ∙ newly_so at from m (keeps v m.kind));
-        awaits = λ bytes old. awaits_so bytes old from m _ (hands v m.kind) (ap handed_by (sym e) ∙ handed_so v m);
-        ended = λ bytes to id. ap (λ a. ends_in (Receive from bytes) a to id) (sym e) ∙ ended_so v bytes to id;
-        given = λ now. ap (given_by now) (sym e) ∙ given_so now v;
+        taken = λ bytes. ap (λ d. newly at (from_there from (kept_by (Becomes d)))) (sym e) ∙ (ap (λ o. newly at (from_there from o)) (kept_so v m) ∙ newly_so at from m (keeps v m.kind));
+        awaits = λ bytes old. awaits_so bytes old from m (Becomes (sorted_by s at (record { from = from; message = m }))) (hands v m.kind) (ap (λ d. handed_by (Becomes d)) (sym e) ∙ handed_so v m);
+        ended = λ bytes to id. ap (λ d. ends_in (Receive from bytes) (Becomes d) to id) (sym e) ∙ ended_so v bytes to id;
         new = new_so v m _ down;
       }
 
@@ -139,11 +129,11 @@ pub fault_arrives : (s : State) (at : ℕ) (from : Endpoint) (f : Fault) → IsA
 fault_arrives s at from f = go f.head
   where
     go : (head : Option (Kind × Id)) → IsArriving s at from (by_head head) (of_head head) × (told_by (of_head head).verdict (Err f) ≡ answer_to s at from (by_head head))
-    go None = (record { out = refl; taken = λ bytes. refl; awaits = λ bytes old. refl; ended = λ bytes to id. refl; given = λ now. refl; new = λ h. absurd (cc h) }, refl)
-    go (Some (Con, id)) = (record { out = refl; taken = λ bytes. refl; awaits = λ bytes old. refl; ended = λ bytes to id. refl; given = λ now. refl; new = λ h. absurd (cc h) }, refl)
-    go (Some (Non, id)) = (record { out = refl; taken = λ bytes. refl; awaits = λ bytes old. refl; ended = λ bytes to id. refl; given = λ now. refl; new = λ h. absurd (cc h) }, refl)
-    go (Some (Ack, id)) = (record { out = refl; taken = λ bytes. refl; awaits = λ bytes old. refl; ended = λ bytes to id. refl; given = λ now. refl; new = λ h. absurd (cc h) }, refl)
-    go (Some (Rst, id)) = (record { out = refl; taken = λ bytes. refl; awaits = λ bytes old. refl; ended = λ bytes to id. refl; given = λ now. refl; new = λ h. absurd (cc h) }, refl)
+    go None = (record { out = refl; taken = λ bytes. refl; awaits = λ bytes old. refl; ended = λ bytes to id. refl; new = λ h. absurd (cc h) }, refl)
+    go (Some (Con, id)) = (record { out = refl; taken = λ bytes. refl; awaits = λ bytes old. refl; ended = λ bytes to id. refl; new = λ h. absurd (cc h) }, refl)
+    go (Some (Non, id)) = (record { out = refl; taken = λ bytes. refl; awaits = λ bytes old. refl; ended = λ bytes to id. refl; new = λ h. absurd (cc h) }, refl)
+    go (Some (Ack, id)) = (record { out = refl; taken = λ bytes. refl; awaits = λ bytes old. refl; ended = λ bytes to id. refl; new = λ h. absurd (cc h) }, refl)
+    go (Some (Rst, id)) = (record { out = refl; taken = λ bytes. refl; awaits = λ bytes old. refl; ended = λ bytes to id. refl; new = λ h. absurd (cc h) }, refl)
 
 pub fault_judged : (s : State) (at : ℕ) (from : Endpoint) (read : Result Message Fault) (f : Fault) (a : Arriving) → read ≡ Err f → a ≡ of_head f.head
     → IsArriving s at from (shown_by read) a × (told_by a.verdict read ≡ answer_to s at from (shown_by read))

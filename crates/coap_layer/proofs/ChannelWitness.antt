@@ -6,7 +6,7 @@ use Rattle.coap_types.specs.declared.message.Kind.TheVariants.{Con, Ack}
 use Rattle.coap_codec.specs.Message.{AreBytes, Message, Spells}
 use Rattle.coap_codec.specs.Reading.{extended, value_at, nibbles_at, option_at, walk_of, walk, payload_at, frame_fault, body_at, message_at}
 use Rattle.coap_codec.specs.Writing.{options_bytes}
-use Rattle.coap_layer.specs.Trace.{Content, Receive, Reply, Confirm, Request, Acked, Nothing, Sent, Entry}
+use Rattle.coap_layer.specs.Trace.{Content, Receive, Reply, Confirm, Request, Acked, Becomes, Nothing, Sent, Entry}
 use Rattle.coap_layer.specs.Words.{Open}
 use Rattle.coap_layer.specs.Rows.{LayerLaw, IsSpelled}
 use Rattle.coap_layer.specs.State.{start, made}
@@ -64,10 +64,10 @@ abbrev near_begins : Asked
 near_begins = record { now = 0; call = Confirm server get 1000; answer = Sent 0 }
 
 abbrev near_hears : Asked
-near_hears = record { now = 20; call = Receive server ack; answer = Acked 0 }
+near_hears = record { now = 20; call = Receive server ack; answer = Becomes (Acked 0) }
 
 abbrev far_takes : Asked
-far_takes = record { now = 10; call = Receive client request; answer = Request request_message true }
+far_takes = record { now = 10; call = Receive client request; answer = Becomes (Request request_message true) }
 
 abbrev far_replies : Asked
 far_replies = record { now = 10; call = Reply client 0 ack; answer = Nothing }

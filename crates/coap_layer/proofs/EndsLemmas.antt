@@ -3,15 +3,15 @@ use Rattle.std.proofs.Common.{◌≡◌, ◌⊎◌, inl, inr, ⊎_elim, ℕ, Opt
 use Rattle.coap_types.specs.declared.endpoint.Endpoint.{Endpoint}
 use Rattle.coap_types.specs.declared.message.Kind.TheVariants.{Con, Non, Ack, Rst}
 use Rattle.coap_layer.specs.Arrivals.{Arrival, Unreadable, Faulted, Whole}
-use Rattle.coap_layer.specs.Trace.{Receive, Answer, Acked, Reset, Entry}
+use Rattle.coap_layer.specs.Trace.{Receive, Acked, Reset, Answer, Becomes, Entry}
 use Rattle.coap_layer.specs.Words.{Incoming}
 use Rattle.coap_layer.specs.Rows.{Outstanding, Stands, LayerLaw, Row, Arrives, Sorts, HandedAs, rejects, drops, takes_ack, takes_reset, takes_answer, replays, hands_over}
 use Rattle.coap_layer.specs.Follows.{EndsOutstanding}
 
 -- the Message ID of what an answer says has ended
 abbrev ended_by : Answer → Option ℕ
-ended_by (Acked id) = Some id
-ended_by (Reset id) = Some id
+ended_by (Becomes (Acked id)) = Some id
+ended_by (Becomes (Reset id)) = Some id
 ended_by _ = None
 
 none_ended : (answer a : Answer) (id : ℕ) → answer ≡ a → ended_by a ≡ None → ended_by answer ≡ Some id → ⊥
@@ -42,7 +42,7 @@ arrived_ends word past e from (Faulted Ack n) id r h = absurd (none_ended e.answ
 arrived_ends word past e from (Faulted Rst n) id r h = absurd (none_ended e.answer _ id r.0 refl h)
 arrived_ends word past e from (Whole m) id r h = sorted_ends word past e (record { from = from; message = m }) id r h
 
-ends_here : (word : ℕ) (past : List Entry) (e : Entry) → Stands word past e → (from : Endpoint) (bytes : List ℕ) (id : ℕ) → e.call ≡ Receive from bytes → (e.answer ≡ Acked id) ⊎ (e.answer ≡ Reset id) → Outstanding past from id
+ends_here : (word : ℕ) (past : List Entry) (e : Entry) → Stands word past e → (from : Endpoint) (bytes : List ℕ) (id : ℕ) → e.call ≡ Receive from bytes → (e.answer ≡ Becomes (Acked id)) ⊎ (e.answer ≡ Becomes (Reset id)) → Outstanding past from id
 ends_here word past e here from bytes id call h =
     let row : Row word past e (Receive from bytes) = subst (Row word past e) call here.row in
     arrived_ends word past e from row.1.0 id row.1.2 (⊎_elim (λ a. ap ended_by a) (λ a. ap ended_by a) h)

@@ -3,7 +3,7 @@ use Rattle.std.proofs.Common.{◌≡◌, ℕ, ◌+◌, ◌≤◌, nat_le, Bool, 
 use Rattle.std.specs.List.{filter_map}
 use Rattle.coap_types.specs.declared.endpoint.Endpoint.{Endpoint}
 use Rattle.coap_types.specs.Roles.{role_of}
-use Rattle.coap_layer.specs.Trace.{Packet, Call, Receive, Reply, Confirm, Plain, Settle, Ticks, Take, Room, AsksFree, Pass, Answer, Dropped, Replayed, Rejected, Request, Response, Acked, Reset, Nothing, Is, Sent, Busied, NoIds, Idle, Copied, Expired, Gives, Entry}
+use Rattle.coap_layer.specs.Trace.{Packet, Call, Receive, Reply, Confirm, Plain, Settle, Ticks, Take, Room, AsksFree, Pass, Disposition, Dropped, Replayed, Rejected, Request, Response, Acked, Reset, Answer, Becomes, Entry}
 use Rattle.coap_layer.specs.Table.{up_of}
 use Rattle.coap_layer.specs.Arrivals.{Arrival, Unreadable, Faulted, Whole, arrival_at}
 use Rattle.coap_layer.specs.Words.{Incoming, awaits_in, given, clock, is_con, left_by, begun, taken, takes_in}
@@ -51,7 +51,7 @@ module _ (h : State) (at : ℕ) (le : h.clock ≤ at) where
   same_answer_to from (Whole m) = same_sorted (record { from = from; message = m })
 
   pub same_answer : (call : Call) → answer_of (forgotten h) at call ≡ answer_of h at call
-  same_answer (Receive from bytes) = same_answer_to from (arrival_at bytes)
+  same_answer (Receive from bytes) = ap Becomes (same_answer_to from (arrival_at bytes))
   same_answer (Reply to id bytes) = refl
   same_answer (Confirm to content wish) = refl
   same_answer (Plain to content) = refl
@@ -62,7 +62,7 @@ module _ (h : State) (at : ℕ) (le : h.clock ≤ at) where
   same_answer AsksFree = refl
   same_answer Pass = refl
 
-  same_replay : (m : Incoming) (u : Answer) → replay (forgotten h) at m u ≡ replay h at m u
+  same_replay : (m : Incoming) (u : Disposition) → replay (forgotten h) at m u ≡ replay h at m u
   same_replay m Replayed = ap (λ r. cond (is_con m.message.kind) (to_packets m.from r) []) (reply_live h.clock at m.from m.message.id h.arrived le)
   same_replay m Dropped = refl
   same_replay m Rejected = refl
@@ -70,15 +70,6 @@ module _ (h : State) (at : ℕ) (le : h.clock ≤ at) where
   same_replay m (Response x) = refl
   same_replay m (Acked id) = refl
   same_replay m (Reset id) = refl
-  same_replay m Nothing = refl
-  same_replay m (Is b) = refl
-  same_replay m (Sent id) = refl
-  same_replay m Busied = refl
-  same_replay m NoIds = refl
-  same_replay m Idle = refl
-  same_replay m (Copied to id) = refl
-  same_replay m (Expired to id) = refl
-  same_replay m (Gives p) = refl
 
   same_out_to : (from : Endpoint) (what : Arrival) → out_to (forgotten h) at from what ≡ out_to h at from what
   same_out_to from Unreadable = refl

@@ -6,7 +6,7 @@ use Rattle.coap_types.specs.SameEndpoint.{same_endpoint}
 use Rattle.coap_types.proofs.EndpointLemmas.{same_endpoint_is}
 use Rattle.coap_codec.specs.Message.{AreBytes, Message, Spells}
 use Rattle.coap_layer.specs.Arrivals.{Arrival, Unreadable, Faulted, Whole, Shows}
-use Rattle.coap_layer.specs.Trace.{Call, Receive, Reply, Confirm, Plain, Settle, Ticks, Take, Room, AsksFree, Pass, Answer, Response, Acked, Entry}
+use Rattle.coap_layer.specs.Trace.{Call, Receive, Reply, Confirm, Plain, Settle, Ticks, Take, Room, AsksFree, Pass, Response, Acked, Answer, Becomes, Entry}
 use Rattle.coap_layer.specs.Words.{Incoming, handed_by, kept_by, from_there, handed_in, handed, taken, awaits_in, awaits, Awaited, Open, is_to, outstanding}
 use Rattle.coap_layer.specs.Rows.{Outstanding, Stands, LayerLaw, Row, Arrives, Sorts, HandedAs, rejects, drops, takes_ack, takes_reset, takes_answer, replays, hands_over}
 use Rattle.coap_layer.specs.Channel.{IsLatest, HandedBy, HandedAsSpelled, TakesAckOf, HearsAck, AcksHeard}
@@ -17,7 +17,7 @@ no_up : (from : Endpoint) (answer a : Answer) (m : Incoming) (X : Type 0) → an
 no_up from answer a m X is none up = let e : from_there from (handed_by answer) ≡ None = ap (from_there from) (ap handed_by is ∙ none) in absurd (cc (e, up))
 
 -- a response in a CON or a NON is handed up, and remembered
-response_held : (x : Message) → (x.kind ≡ Con) ⊎ (x.kind ≡ Non) → handed_by (Response x) ≡ Some x
+response_held : (x : Message) → (x.kind ≡ Con) ⊎ (x.kind ≡ Non) → handed_by (Becomes (Response x)) ≡ Some x
 response_held x (inl k) = rw k refl
 response_held x (inr k) = rw k refl
 
@@ -42,7 +42,7 @@ module _ (word : ℕ) (past : List Entry) (e : Entry) (from : Endpoint) (bytes :
   sorted_by n s (takes_reset r) h = no_up from e.answer _ m _ r.answer refl h
   sorted_by n s (takes_answer r) h = no_up from e.answer _ m _ r.answer (none_of n r.kind) h
     where
-      none_of : (x : Message) → x.kind ≡ Ack → handed_by (Response x) ≡ None
+      none_of : (x : Message) → x.kind ≡ Ack → handed_by (Becomes (Response x)) ≡ None
       none_of x k = rw k refl
   sorted_by n s (replays r) h = no_up from e.answer _ m _ r.answer refl h
   sorted_by n s (hands_over r) h = go r.answer
@@ -77,8 +77,8 @@ handed_so word past e m law h = handed_row word past e m e.call refl law.row h
 
 -- the acknowledgement that is taken
 abbrev acked_by : Answer → Option ℕ
-acked_by (Acked id) = Some id
-acked_by (Response m) = Some m.id
+acked_by (Becomes (Acked id)) = Some id
+acked_by (Becomes (Response m)) = Some m.id
 acked_by _ = None
 
 pub record Heard (bytes : List ℕ) (id : ℕ) : Type 0 where
@@ -92,7 +92,7 @@ module _ (word : ℕ) (past : List Entry) (e : Entry) (bytes : List ℕ) (id : �
   not_heard : (a : Answer) → e.answer ≡ a → acked_by a ≡ None → acked_by e.answer ≡ Some id → Heard bytes id
   not_heard a is none h = let k : acked_by e.answer ≡ None = ap acked_by is ∙ none in absurd (cc (k, h))
 
-  heard_in : (m : Incoming) → Spells bytes m.message → ((n : Message) → e.answer ≡ Response n → n.kind ≡ Ack) → acked_by e.answer ≡ Some id → Sorts word past e m → Heard bytes id
+  heard_in : (m : Incoming) → Spells bytes m.message → ((n : Message) → e.answer ≡ Becomes (Response n) → n.kind ≡ Ack) → acked_by e.answer ≡ Some id → Sorts word past e m → Heard bytes id
   heard_in m s only h (rejects r) = not_heard _ r.answer refl h
   heard_in m s only h (drops r) = not_heard _ r.answer refl h
   heard_in m s only h (takes_ack r) = record { are = are; message = m.message; spells = s; kind = r.kind; id_is = let k = ap acked_by r.answer in cc (k, h) }
@@ -110,7 +110,7 @@ module _ (word : ℕ) (past : List Entry) (e : Entry) (bytes : List ℕ) (id : �
       go (inr (inl a)) = not_heard _ a.3 refl h
       go (inr (inr a)) = absurd (not_ack r.kind (only m.message a.1))
 
-  heard_as : (from : Endpoint) (what : Arrival) → Shows bytes what → ((n : Message) → e.answer ≡ Response n → n.kind ≡ Ack) → acked_by e.answer ≡ Some id → Arrives word past e from what → Heard bytes id
+  heard_as : (from : Endpoint) (what : Arrival) → Shows bytes what → ((n : Message) → e.answer ≡ Becomes (Response n) → n.kind ≡ Ack) → acked_by e.answer ≡ Some id → Arrives word past e from what → Heard bytes id
   heard_as from Unreadable s only h r = not_heard _ r.0 refl h
   heard_as from (Faulted Con n) s only h r = not_heard _ r.0 refl h
   heard_as from (Faulted Non n) s only h r = not_heard _ r.0 refl h
@@ -119,7 +119,7 @@ module _ (word : ℕ) (past : List Entry) (e : Entry) (bytes : List ℕ) (id : �
   heard_as from (Whole m) s only h r = heard_in (record { from = from; message = m }) s only h r
 
 -- what both say of the answer
-ack_only : (answer : Answer) (id : ℕ) → TakesAckOf id answer → (n : Message) → answer ≡ Response n → n.kind ≡ Ack
+ack_only : (answer : Answer) (id : ℕ) → TakesAckOf id answer → (n : Message) → answer ≡ Becomes (Response n) → n.kind ≡ Ack
 ack_only answer id (inl a) n k = absurd (cc (a, k))
 ack_only answer id (inr a) n k = let l = a.1 in let same : a.0 ≡ n = cc (l, k) in ap (λ (x : Message). x.kind) (sym same) ∙ a.2
 
@@ -151,7 +151,7 @@ module _ (word : ℕ) (past : List Entry) (e : Entry) (id : ℕ) where
   not_this : (X : Type 0) (a : Answer) → e.answer ≡ a → acked_by a ≡ None → acked_by e.answer ≡ Some id → X
   not_this X a is none h = let k : acked_by e.answer ≡ None = ap acked_by is ∙ none in absurd (cc (k, h))
 
-  sorted_ack : (m : Incoming) → ((n : Message) → e.answer ≡ Response n → n.kind ≡ Ack) → acked_by e.answer ≡ Some id → Sorts word past e m → Outstanding past m.from id
+  sorted_ack : (m : Incoming) → ((n : Message) → e.answer ≡ Becomes (Response n) → n.kind ≡ Ack) → acked_by e.answer ≡ Some id → Sorts word past e m → Outstanding past m.from id
   sorted_ack m only h (rejects r) = not_this _ _ r.answer refl h
   sorted_ack m only h (drops r) = not_this _ _ r.answer refl h
   sorted_ack m only h (takes_ack r) = subst (Outstanding past m.from) (let k = ap acked_by r.answer in cc (k, h)) r.matches
@@ -169,7 +169,7 @@ module _ (word : ℕ) (past : List Entry) (e : Entry) (id : ℕ) where
       go (inr (inl a)) = not_this _ _ a.3 refl h
       go (inr (inr a)) = absurd (not_ack r.kind (only m.message a.1))
 
-  arrived_ack : (from : Endpoint) (what : Arrival) → ((n : Message) → e.answer ≡ Response n → n.kind ≡ Ack) → acked_by e.answer ≡ Some id → Arrives word past e from what → Outstanding past from id
+  arrived_ack : (from : Endpoint) (what : Arrival) → ((n : Message) → e.answer ≡ Becomes (Response n) → n.kind ≡ Ack) → acked_by e.answer ≡ Some id → Arrives word past e from what → Outstanding past from id
   arrived_ack from Unreadable only h r = not_this _ _ r.0 refl h
   arrived_ack from (Faulted Con n) only h r = not_this _ _ r.0 refl h
   arrived_ack from (Faulted Non n) only h r = not_this _ _ r.0 refl h

@@ -6,20 +6,14 @@ use Rattle.coap_types.specs.declared.message.Kind.TheVariants.{Con}
 use Rattle.coap_types.proofs.PastLemmas.{Ever_map, Ever_out, forget}
 use Rattle.coap_codec.specs.Writing.{message_bytes}
 use Rattle.coap_layer.specs.Ids.{Given, AreApart}
-use Rattle.coap_layer.specs.Trace.{Content, with_head, Call, Receive, Reply, Confirm, Plain, Settle, Ticks, Take, Room, AsksFree, Pass, Answer, Dropped, Replayed, Rejected, Request, Response, Acked, Reset, Nothing, Is, Sent, Busied, NoIds, Idle, Copied, Expired, Gives, Entry}
+use Rattle.coap_layer.specs.Trace.{Content, with_head, Call, Receive, Reply, Confirm, Plain, Settle, Ticks, Take, Room, AsksFree, Pass, Answer, Becomes, Nothing, Is, Sent, Busied, NoIds, Idle, Copied, Expired, Gives, Entry}
 use Rattle.coap_layer.specs.Words.{Open, sent_by, open_of, begun_in, begun, given_by, given, numbers}
 use Rattle.coap_layer.specs.Rows.{LayerLaw}
 use Rattle.coap_layer.proofs.CopyLemmas.{ids_apart}
 
 sent_is : (a : Answer) (id : ℕ) → sent_by a ≡ Some id → a ≡ Sent id
 sent_is (Sent n) id h = let k : n ≡ id = cc h in ap Sent k
-sent_is Dropped id h = absurd (cc h)
-sent_is Replayed id h = absurd (cc h)
-sent_is Rejected id h = absurd (cc h)
-sent_is (Request m kept) id h = absurd (cc h)
-sent_is (Response m) id h = absurd (cc h)
-sent_is (Acked n) id h = absurd (cc h)
-sent_is (Reset n) id h = absurd (cc h)
+sent_is (Becomes what) id h = absurd (cc h)
 sent_is Nothing id h = absurd (cc h)
 sent_is (Is b) id h = absurd (cc h)
 sent_is Busied id h = absurd (cc h)

@@ -8,7 +8,7 @@ use Rattle.coap_types.specs.declared.endpoint.Endpoint.{Endpoint}
 use Rattle.coap_types.proofs.PastLemmas.{Ever_append, Ever_map}
 use Rattle.coap_types.specs.SameEndpoint.{same_endpoint}
 use Rattle.coap_types.proofs.EndpointLemmas.{same_endpoint_is}
-use Rattle.coap_layer.specs.Trace.{Call, Receive, Reply, Confirm, Plain, Settle, Ticks, Take, Room, AsksFree, Pass, Answer, Dropped, Replayed, Rejected, Request, Response, Acked, Reset, Nothing, Is, Sent, Busied, NoIds, Idle, Copied, Expired, Gives, Entry}
+use Rattle.coap_layer.specs.Trace.{Call, Receive, Reply, Confirm, Plain, Settle, Ticks, Take, Room, AsksFree, Pass, Answer, Becomes, Nothing, Is, Sent, Busied, NoIds, Idle, Copied, Expired, Gives, Entry}
 use Rattle.coap_layer.specs.Words.{clock, Open, ends_in, copies_in, left_by, begun, outstanding}
 use Rattle.coap_layer.specs.Rows.{Busy, LayerLaw, IsFirst}
 use Rattle.coap_layer.specs.Sends.{IsIn, OneOpen}
@@ -108,13 +108,7 @@ last_by word (e ∷ past) c law h = ⊎_elim (old (λ d. last_by word past d law
 ticks_copy : (answer : Answer) (to : Endpoint) (id : ℕ) → copies_in Ticks answer to id ≡ true → answer ≡ Copied to id
 ticks_copy (Copied place n) to id h =
     ap (λ (x : Endpoint). Copied x n) (sym (same_endpoint_is to place (and_left _ _ h))) ∙ ap (Copied to) (sym (same_nat id n (and_right (same_endpoint to place) _ h)))
-ticks_copy Dropped to id h = absurd (cc h)
-ticks_copy Replayed to id h = absurd (cc h)
-ticks_copy Rejected to id h = absurd (cc h)
-ticks_copy (Request m kept) to id h = absurd (cc h)
-ticks_copy (Response m) to id h = absurd (cc h)
-ticks_copy (Acked n) to id h = absurd (cc h)
-ticks_copy (Reset n) to id h = absurd (cc h)
+ticks_copy (Becomes what) to id h = absurd (cc h)
 ticks_copy Nothing to id h = absurd (cc h)
 ticks_copy (Is b) to id h = absurd (cc h)
 ticks_copy (Sent n) to id h = absurd (cc h)

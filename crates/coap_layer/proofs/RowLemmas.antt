@@ -7,7 +7,7 @@ use Rattle.coap_types.specs.Roles.{role_of}
 use Rattle.coap_types.specs.declared.role.Role.{Role}
 use Rattle.coap_types.specs.declared.role.Role.TheVariants as role
 use Rattle.coap_types.specs.SameEndpoint.{same_endpoint}
-use Rattle.coap_layer.specs.Trace.{Content, with_head, Call, Receive, Reply, Confirm, Plain, Settle, Ticks, Take, Room, AsksFree, Pass, Answer, Dropped, Replayed, Rejected, Request, Response, Acked, Reset, Nothing, Is, Sent, Busied, NoIds, Idle, Copied, Expired, Gives, Entry}
+use Rattle.coap_layer.specs.Trace.{Content, with_head, Packet, Call, Receive, Reply, Confirm, Plain, Settle, Ticks, Take, Room, AsksFree, Pass, Disposition, Dropped, Replayed, Rejected, Request, Response, Acked, Reset, Answer, Becomes, Is, Sent, Busied, Entry}
 use Rattle.coap_layer.specs.Table.{up_of, again_or}
 use Rattle.coap_layer.specs.Arrivals.{Arrival, Unreadable, Faulted, Whole, Shows, arrival_at}
 use Rattle.coap_codec.specs.Message.{AreBytes}
@@ -104,30 +104,30 @@ module _ (word : ℕ) (t : List Entry) where
     F = 4096 ≤ remembered e.at t
 
     abbrev Out : Type 0
-    Out = (e.answer ≡ Rejected → e.out ≡ replay h e.at m Rejected) × (e.answer ≡ Replayed → e.out ≡ stored t m) × (e.answer ≢ Rejected → e.answer ≢ Replayed → e.out ≡ [])
+    Out = (e.answer ≡ Becomes Rejected → e.out ≡ replay h e.at m Rejected) × (e.answer ≡ Becomes Replayed → e.out ≡ stored t m) × (e.answer ≢ Becomes Rejected → e.answer ≢ Becomes Replayed → e.out ≡ [])
 
-    handed_rejected : HandedAs word t e m → e.answer ≢ Rejected
+    handed_rejected : HandedAs word t e m → e.answer ≢ Becomes Rejected
     handed_rejected (inl a) z = let k = a.2 in cc (k, z)
     handed_rejected (inr (inl a)) z = let k = a.3 in cc (k, z)
     handed_rejected (inr (inr a)) z = let k = a.1 in cc (k, z)
 
-    handed_replayed : HandedAs word t e m → e.answer ≢ Replayed
+    handed_replayed : HandedAs word t e m → e.answer ≢ Becomes Replayed
     handed_replayed (inl a) z = let k = a.2 in cc (k, z)
     handed_replayed (inr (inl a)) z = let k = a.3 in cc (k, z)
     handed_replayed (inr (inr a)) z = let k = a.1 in cc (k, z)
 
-    new_of : (k : (k_is ≡ Con) ⊎ (k_is ≡ Non)) (c : (c_is ≡ role.Request) ⊎ (c_is ≡ role.Response)) (a : Answer) → (e.answer ≡ a → HandedAs word t e m)
-        → (r f : Bool) → Decides r R → Decides f F → e.answer ≡ again_or r f a → Out → Sorts word t e m
+    new_of : (k : (k_is ≡ Con) ⊎ (k_is ≡ Non)) (c : (c_is ≡ role.Request) ⊎ (c_is ≡ role.Response)) (a : Disposition) → (e.answer ≡ Becomes a → HandedAs word t e m)
+        → (r f : Bool) → Decides r R → Decides f F → e.answer ≡ Becomes (again_or r f a) → Out → Sorts word t e m
     new_of k c a w true f hr hf is out = replays (record { kind = k; class = c; old = hr; answer = is; out = out.1 is })
     new_of k c a w false true hr hf is out = drops (record { why = inr (inr (inr (inr (k, c, hr, hf)))); answer = is; out = out.2 (λ z. cc (is, z)) (λ z. cc (is, z)) })
     new_of k c a w false false hr hf is out = hands_over (record { kind = k; new = hr; room = omega (arith, hf); answer = w is; out = out.2 (handed_rejected (w is)) (handed_replayed (w is)) })
 
-    non_request : (i : Bool) → k_is ≡ Non → c_is ≡ role.Request → Chooses i (I e.at) (J e.at) → e.answer ≡ Request m.message i → HandedAs word t e m
+    non_request : (i : Bool) → k_is ≡ Non → c_is ≡ role.Request → Chooses i (I e.at) (J e.at) → e.answer ≡ Becomes (Request m.message i) → HandedAs word t e m
     non_request true hk hc hi is = inl (hc, inr hi, is)
     non_request false hk hc hi is = inr (inl (hc, hk, hi, is))
 
     -- from the table to the rows
-    arrives : (k : Kind) (c : Role) (o r f i : Bool) → k_is ≡ k → c_is ≡ c → Decides o O → Decides r R → Decides f F → Chooses i (I e.at) (J e.at) → e.answer ≡ up_of k c m.message o r f i → Out → Sorts word t e m
+    arrives : (k : Kind) (c : Role) (o r f i : Bool) → k_is ≡ k → c_is ≡ c → Decides o O → Decides r R → Decides f F → Chooses i (I e.at) (J e.at) → e.answer ≡ Becomes (up_of k c m.message o r f i) → Out → Sorts word t e m
     arrives Con role.Empty o r f i hk hc ho hr hf hi is out = rejects (record { kind = hk; class = inl hc; answer = is; out = out.0 is })
     arrives Con role.Reserved o r f i hk hc ho hr hf hi is out = rejects (record { kind = hk; class = inr hc; answer = is; out = out.0 is })
     arrives Con role.Request o r f i hk hc ho hr hf hi is out = new_of (inl hk) (inl hc) (Request m.message true) (λ w. inl (hc, inl hk, w)) r f hr hf is out
@@ -153,7 +153,7 @@ module _ (word : ℕ) (t : List Entry) where
     sorted k c o r f i hk hc = ap (λ x. up_of x c m.message o r f i) (sym hk) ∙ ap (λ x. up_of k_is x m.message o r f i) (sym hc)
 
     -- what is answered to a new message
-    abbrev fresh : (k_is ≡ Con) ⊎ (k_is ≡ Non) → (c_is ≡ role.Request) ⊎ (c_is ≡ role.Response) → Bool → Answer
+    abbrev fresh : (k_is ≡ Con) ⊎ (k_is ≡ Non) → (c_is ≡ role.Request) ⊎ (c_is ≡ role.Response) → Bool → Disposition
     fresh (inl hk) (inl hc) i = Request m.message true
     fresh (inr hk) (inl hc) i = Request m.message i
     fresh (inl hk) (inr hc) i = Response m.message
@@ -208,49 +208,56 @@ module _ (word : ℕ) (t : List Entry) where
     class_of (inr (inl w)) = inl w.0
     class_of (inr (inr w)) = inr w.0
 
-    given_is : (k : (k_is ≡ Con) ⊎ (k_is ≡ Non)) (i : Bool) → Chooses i (I e.at) (J e.at) → (w : HandedAs word t e m) → e.answer ≡ fresh k (class_of w) i
+    given_is : (k : (k_is ≡ Con) ⊎ (k_is ≡ Non)) (i : Bool) → Chooses i (I e.at) (J e.at) → (w : HandedAs word t e m) → e.answer ≡ Becomes (fresh k (class_of w) i)
     given_is (inl hk) i hi (inl w) = w.2
-    given_is (inr hk) i hi (inl w) = w.2 ∙ ap (Request m.message) (sym (is_true_by e.at i hi (⊎_elim (λ z. absurd (cc (hk, z))) (λ k. k) w.1)))
+    given_is (inr hk) i hi (inl w) = w.2 ∙ ap (λ b. Becomes (Request m.message b)) (sym (is_true_by e.at i hi (⊎_elim (λ z. absurd (cc (hk, z))) (λ k. k) w.1)))
     given_is (inl hk) i hi (inr (inl w)) = let z = w.1 in absurd (cc (hk, z))
-    given_is (inr hk) i hi (inr (inl w)) = w.3 ∙ ap (Request m.message) (sym (is_false_by e.at i hi w.2))
+    given_is (inr hk) i hi (inr (inl w)) = w.3 ∙ ap (λ b. Becomes (Request m.message b)) (sym (is_false_by e.at i hi w.2))
     given_is (inl hk) i hi (inr (inr w)) = w.1
     given_is (inr hk) i hi (inr (inr w)) = w.1
 
-    answer_is : (o r f i : Bool) → Decides o O → Decides r R → Decides f F → Chooses i (I e.at) (J e.at) → Sorts word t e m → e.answer ≡ up_of k_is c_is m.message o r f i
-    answer_is o r f i ho hr hf hi (rejects w) = w.answer ∙ ⊎_elim (λ c. sorted Con role.Empty o r f i w.kind c) (λ c. sorted Con role.Reserved o r f i w.kind c) w.class
-    answer_is o r f i ho hr hf hi (drops w) = w.answer ∙ drop_is o r f i ho hr hf w
-    answer_is o r f i ho hr hf hi (takes_ack w) = w.answer ∙ (sorted Ack role.Empty true r f i w.kind w.class ∙ ap (λ x. up_of k_is c_is m.message x r f i) (sym (is_true o O ho w.matches)))
-    answer_is o r f i ho hr hf hi (takes_reset w) = w.answer ∙ (sorted Rst role.Empty true r f i w.kind w.class ∙ ap (λ x. up_of k_is c_is m.message x r f i) (sym (is_true o O ho w.matches)))
-    answer_is o r f i ho hr hf hi (takes_answer w) = w.answer ∙ (sorted Ack role.Response true r f i w.kind w.class ∙ ap (λ x. up_of k_is c_is m.message x r f i) (sym (is_true o O ho w.matches)))
-    answer_is o r f i ho hr hf hi (replays w) = w.answer ∙ (ap (λ x. again_or x f (fresh w.kind w.class i)) (sym (is_true r R hr w.old)) ∙ sym (again_is w.kind w.class o r f i))
+    answer_is : (o r f i : Bool) → Decides o O → Decides r R → Decides f F → Chooses i (I e.at) (J e.at) → Sorts word t e m → e.answer ≡ Becomes (up_of k_is c_is m.message o r f i)
+    answer_is o r f i ho hr hf hi (rejects w) = w.answer ∙ ap Becomes (⊎_elim (λ c. sorted Con role.Empty o r f i w.kind c) (λ c. sorted Con role.Reserved o r f i w.kind c) w.class)
+    answer_is o r f i ho hr hf hi (drops w) = w.answer ∙ ap Becomes (drop_is o r f i ho hr hf w)
+    answer_is o r f i ho hr hf hi (takes_ack w) = w.answer ∙ ap Becomes (sorted Ack role.Empty true r f i w.kind w.class ∙ ap (λ x. up_of k_is c_is m.message x r f i) (sym (is_true o O ho w.matches)))
+    answer_is o r f i ho hr hf hi (takes_reset w) = w.answer ∙ ap Becomes (sorted Rst role.Empty true r f i w.kind w.class ∙ ap (λ x. up_of k_is c_is m.message x r f i) (sym (is_true o O ho w.matches)))
+    answer_is o r f i ho hr hf hi (takes_answer w) = w.answer ∙ ap Becomes (sorted Ack role.Response true r f i w.kind w.class ∙ ap (λ x. up_of k_is c_is m.message x r f i) (sym (is_true o O ho w.matches)))
+    answer_is o r f i ho hr hf hi (replays w) = w.answer ∙ ap Becomes (ap (λ x. again_or x f (fresh w.kind w.class i)) (sym (is_true r R hr w.old)) ∙ sym (again_is w.kind w.class o r f i))
     answer_is o r f i ho hr hf hi (hands_over w) =
         let full : f ≡ false = is_false f F hf (λ k. omega (arith, k, w.room)) in
         let c = class_of w.answer in
         given_is w.kind i hi w.answer
-        ∙ (ap (λ x. again_or x false (fresh w.kind c i)) (sym (is_false r R hr w.new))
+        ∙ ap Becomes (ap (λ x. again_or x false (fresh w.kind c i)) (sym (is_false r R hr w.new))
         ∙ (ap (λ x. again_or r x (fresh w.kind c i)) (sym full) ∙ sym (again_is w.kind c o r f i)))
 
-    handed_out : HandedAs word t e m → [] ≡ replay h e.at m e.answer
-    handed_out (inl a) = sym (ap (replay h e.at m) a.2)
-    handed_out (inr (inl a)) = sym (ap (replay h e.at m) a.3)
-    handed_out (inr (inr a)) = sym (ap (replay h e.at m) a.1)
+    abbrev told : Answer → List Packet
+    told (Becomes d) = replay h e.at m d
+    told _ = []
 
-    out_is : LayerLaw word t → clock t ≤ e.at → Sorts word t e m → e.out ≡ replay h e.at m e.answer
-    out_is law le (rejects w) = w.out ∙ sym (ap (replay h e.at m) w.answer)
-    out_is law le (drops w) = w.out ∙ sym (ap (replay h e.at m) w.answer)
-    out_is law le (takes_ack w) = w.out ∙ sym (ap (replay h e.at m) w.answer)
-    out_is law le (takes_reset w) = w.out ∙ sym (ap (replay h e.at m) w.answer)
-    out_is law le (takes_answer w) = w.out ∙ sym (ap (replay h e.at m) w.answer)
-    out_is law le (replays w) = w.out ∙ (sym (stored_is e.at m law le w.old) ∙ sym (ap (replay h e.at m) w.answer))
+    handed_out : HandedAs word t e m → [] ≡ told e.answer
+    handed_out (inl a) = sym (ap told a.2)
+    handed_out (inr (inl a)) = sym (ap told a.3)
+    handed_out (inr (inr a)) = sym (ap told a.1)
+
+    out_is : LayerLaw word t → clock t ≤ e.at → Sorts word t e m → e.out ≡ told e.answer
+    out_is law le (rejects w) = w.out ∙ sym (ap told w.answer)
+    out_is law le (drops w) = w.out ∙ sym (ap told w.answer)
+    out_is law le (takes_ack w) = w.out ∙ sym (ap told w.answer)
+    out_is law le (takes_reset w) = w.out ∙ sym (ap told w.answer)
+    out_is law le (takes_answer w) = w.out ∙ sym (ap told w.answer)
+    out_is law le (replays w) = w.out ∙ (sym (stored_is e.at m law le w.old) ∙ sym (ap told w.answer))
     out_is law le (hands_over w) = w.out ∙ handed_out w.answer
 
     -- both ways
-    received : LayerLaw word t → clock t ≤ e.at → Sorts word t e m → (e.answer ≡ sorted_by h e.at m) × (e.out ≡ replay h e.at m (sorted_by h e.at m))
+    received : LayerLaw word t → clock t ≤ e.at → Sorts word t e m → (e.answer ≡ Becomes (sorted_by h e.at m)) × (e.out ≡ replay h e.at m (sorted_by h e.at m))
     received law le w =
-        let a : e.answer ≡ sorted_by h e.at m = answer_is _ _ _ _ (outstanding_is m.from m.message.id) (known_is e.at m.from m.message.id) (full_is e.at) (free_here law e.at) w in
-        (a, out_is law le w ∙ ap (replay h e.at m) a)
+        let a : e.answer ≡ Becomes (sorted_by h e.at m) = answer_is _ _ _ _ (outstanding_is m.from m.message.id) (known_is e.at m.from m.message.id) (full_is e.at) (free_here law e.at) w in
+        (a, out_is law le w ∙ ap told a)
 
-    quiet : (a : Answer) → a ≢ Rejected → a ≢ Replayed → replay h e.at m a ≡ []
+    same_what : {x y : Disposition} → Becomes x ≡ Becomes y → x ≡ y
+    same_what k = cc k
+
+    quiet : (d : Disposition) → Becomes d ≢ Becomes Rejected → Becomes d ≢ Becomes Replayed → replay h e.at m d ≡ []
     quiet Rejected n k = absurd (n refl)
     quiet Replayed n k = absurd (k refl)
     quiet Dropped n k = refl
@@ -258,15 +265,6 @@ module _ (word : ℕ) (t : List Entry) where
     quiet (Response x) n k = refl
     quiet (Acked id) n k = refl
     quiet (Reset id) n k = refl
-    quiet Nothing n k = refl
-    quiet (Is b) n k = refl
-    quiet (Sent id) n k = refl
-    quiet Busied n k = refl
-    quiet NoIds n k = refl
-    quiet Idle n k = refl
-    quiet (Copied to id) n k = refl
-    quiet (Expired to id) n k = refl
-    quiet (Gives p) n k = refl
 
     replayed_old : (k : Kind) (c : Role) (o r f i : Bool) → up_of k c m.message o r f i ≡ Replayed → r ≡ true
     replayed_old k c o true f i h = refl
@@ -294,17 +292,16 @@ module _ (word : ℕ) (t : List Entry) where
     replayed_old Rst role.Response o false f i h = absurd (cc h)
     replayed_old Rst role.Reserved o false f i h = absurd (cc h)
 
-    receives : LayerLaw word t → clock t ≤ e.at → e.answer ≡ sorted_by h e.at m → e.out ≡ replay h e.at m (sorted_by h e.at m) → Sorts word t e m
+    receives : LayerLaw word t → clock t ≤ e.at → e.answer ≡ Becomes (sorted_by h e.at m) → e.out ≡ replay h e.at m (sorted_by h e.at m) → Sorts word t e m
     receives law le a o =
-        let sent : e.out ≡ replay h e.at m e.answer = o ∙ sym (ap (replay h e.at m) a) in
         arrives k_is c_is _ _ _ _ refl refl (outstanding_is m.from m.message.id) (known_is e.at m.from m.message.id) (full_is e.at) (free_here law e.at) a (
-          (λ z. sent ∙ ap (replay h e.at m) z),
-          (λ z. sent ∙ (ap (replay h e.at m) z ∙ stored_is e.at m law le (remembered_of e.at m.from m.message.id t (replayed_old k_is c_is _ _ _ _ (sym a ∙ z))))),
-          (λ n k. sent ∙ quiet e.answer n k),
+          (λ z. o ∙ ap told (sym a ∙ z)),
+          (λ z. o ∙ (ap told (sym a ∙ z) ∙ stored_is e.at m law le (remembered_of e.at m.from m.message.id t (replayed_old k_is c_is _ _ _ _ (same_what (sym a ∙ z)))))),
+          (λ n k. o ∙ quiet _ (λ z. n (a ∙ z)) (λ z. k (a ∙ z))),
         )
 
   -- a datagram
-  arrived : (e : Entry) (from : Endpoint) (what : Arrival) → LayerLaw word t → clock t ≤ e.at → Arrives word t e from what → (e.answer ≡ answer_to h e.at from what) × (e.out ≡ out_to h e.at from what)
+  arrived : (e : Entry) (from : Endpoint) (what : Arrival) → LayerLaw word t → clock t ≤ e.at → Arrives word t e from what → (e.answer ≡ Becomes (answer_to h e.at from what)) × (e.out ≡ out_to h e.at from what)
   arrived e from Unreadable law le w = w
   arrived e from (Faulted Con id) law le w = w
   arrived e from (Faulted Non id) law le w = w
@@ -312,7 +309,7 @@ module _ (word : ℕ) (t : List Entry) where
   arrived e from (Faulted Rst id) law le w = w
   arrived e from (Whole m) law le w = received e (record { from = from; message = m }) law le w
 
-  arrives_so : (e : Entry) (from : Endpoint) (what : Arrival) → LayerLaw word t → clock t ≤ e.at → e.answer ≡ answer_to h e.at from what → e.out ≡ out_to h e.at from what → Arrives word t e from what
+  arrives_so : (e : Entry) (from : Endpoint) (what : Arrival) → LayerLaw word t → clock t ≤ e.at → e.answer ≡ Becomes (answer_to h e.at from what) → e.out ≡ out_to h e.at from what → Arrives word t e from what
   arrives_so e from Unreadable law le a o = (a, o)
   arrives_so e from (Faulted Con id) law le a o = (a, o)
   arrives_so e from (Faulted Non id) law le a o = (a, o)
@@ -321,7 +318,7 @@ module _ (word : ℕ) (t : List Entry) where
   arrives_so e from (Whole m) law le a o = receives e (record { from = from; message = m }) law le a o
 
   shown : (e : Entry) (from : Endpoint) (bytes : List ℕ) (what : Arrival) → LayerLaw word t → clock t ≤ e.at → AreBytes bytes → Shows bytes what → Arrives word t e from what
-      → (e.answer ≡ answer_to h e.at from (arrival_at bytes)) × (e.out ≡ out_to h e.at from (arrival_at bytes))
+      → (e.answer ≡ Becomes (answer_to h e.at from (arrival_at bytes))) × (e.out ≡ out_to h e.at from (arrival_at bytes))
   shown e from bytes what law le are shows w =
       arrived e from (arrival_at bytes) law le (subst (Arrives word t e from) (one_arrival bytes what are shows) w)
 

@@ -5,7 +5,7 @@ use Rattle.coap_types.specs.declared.message.Kind.{Kind}
 use Rattle.coap_types.specs.declared.message.Kind.TheVariants.{Con, Non, Ack, Rst}
 use Rattle.coap_codec.specs.Message.{Message}
 use Rattle.coap_layer.specs.Arrivals.{Arrival, Unreadable, Faulted, Whole}
-use Rattle.coap_layer.specs.Trace.{Call, Receive, Reply, Confirm, Plain, Settle, Ticks, Take, Room, AsksFree, Pass, Answer, Dropped, Replayed, Rejected, Request, Response, Acked, Reset, Entry}
+use Rattle.coap_layer.specs.Trace.{Call, Receive, Reply, Confirm, Plain, Settle, Ticks, Take, Room, AsksFree, Pass, Dropped, Replayed, Rejected, Request, Response, Acked, Reset, Answer, Becomes, Entry}
 use Rattle.coap_layer.specs.Words.{Incoming, handed_by, kept_by, from_there, handed_in, taken_in, handed, taken, Remembered}
 use Rattle.coap_layer.specs.Rows.{Stands, Row, Arrives, Sorts, HandedAs, rejects, drops, takes_ack, takes_reset, takes_answer, replays, hands_over}
 
@@ -21,7 +21,7 @@ this_up from answer n m is up =
     let e : from_there from (handed_by answer) ≡ Some (record { from = from; message = n }) = ap (from_there from) is in
     cc (e, up)
 
-response_up : (k : Kind) (n : Message) → n.kind ≡ k → (k ≡ Con) ⊎ (k ≡ Non) → handed_by (Response n) ≡ Some n
+response_up : (k : Kind) (n : Message) → n.kind ≡ k → (k ≡ Con) ⊎ (k ≡ Non) → handed_by (Becomes (Response n)) ≡ Some n
 response_up Con n h c = rw h refl
 response_up Non n h c = rw h refl
 response_up Ack n h (inl c) = absurd (cc c)
@@ -29,7 +29,7 @@ response_up Ack n h (inr c) = absurd (cc c)
 response_up Rst n h (inl c) = absurd (cc c)
 response_up Rst n h (inr c) = absurd (cc c)
 
-acknowledged_up : (n : Message) → n.kind ≡ Ack → handed_by (Response n) ≡ None
+acknowledged_up : (n : Message) → n.kind ≡ Ack → handed_by (Becomes (Response n)) ≡ None
 acknowledged_up n h = rw h refl
 
 handed_up : (word : ℕ) (past : List Entry) (e : Entry) (m : Incoming) → (m.message.kind ≡ Con) ⊎ (m.message.kind ≡ Non) → HandedAs word past e m → handed_by e.answer ≡ Some m.message
@@ -72,14 +72,14 @@ up_new word past e m law h = handed_new word past e e.call m law.row h
 
 -- what is remembered is handed up
 kept_handed : (a : Answer) (n : Message) → kept_by a ≡ Some n → handed_by a ≡ Some n
-kept_handed (Request m true) n h = h
-kept_handed (Request m false) n h = absurd (cc h)
-kept_handed (Response m) n h = h
-kept_handed Dropped n h = absurd (cc h)
-kept_handed Replayed n h = absurd (cc h)
-kept_handed Rejected n h = absurd (cc h)
-kept_handed (Acked id) n h = absurd (cc h)
-kept_handed (Reset id) n h = absurd (cc h)
+kept_handed (Becomes (Request m true)) n h = h
+kept_handed (Becomes (Request m false)) n h = absurd (cc h)
+kept_handed (Becomes (Response m)) n h = h
+kept_handed (Becomes Dropped) n h = absurd (cc h)
+kept_handed (Becomes Replayed) n h = absurd (cc h)
+kept_handed (Becomes Rejected) n h = absurd (cc h)
+kept_handed (Becomes (Acked id)) n h = absurd (cc h)
+kept_handed (Becomes (Reset id)) n h = absurd (cc h)
 kept_handed Answer.Nothing n h = absurd (cc h)
 kept_handed (Answer.Is b) n h = absurd (cc h)
 kept_handed (Answer.Sent id) n h = absurd (cc h)

@@ -13,17 +13,17 @@ use Rattle.coap_layer.specs.declared.arriving.Arriving.{Arriving}
 use Rattle.coap_layer.specs.Arrivals.{Arrival, Whole, by_head}
 use Rattle.coap_layer.specs.Rows.{reset_to}
 use Rattle.coap_layer.specs.State.{State, Arrived, answer_to, out_to, is_remembered, newly, reply_of, to_packets}
-use Rattle.coap_layer.specs.Trace.{Answer, Dropped, Rejected, Receive, Packet}
+use Rattle.coap_layer.specs.Trace.{Disposition, Becomes, Dropped, Rejected, Receive, Packet}
 use Rattle.coap_layer.specs.Verdicts.{answer_by}
-use Rattle.coap_layer.specs.Words.{Awaited, Open, awaits_in, ends_in, given_by, is_con, is_kept, same, taken_in}
+use Rattle.coap_layer.specs.Words.{Awaited, Open, awaits_in, ends_in, is_con, is_kept, same, taken_in}
 
 -- what was read of a datagram
 abbrev pub shown_by : Result Message Fault → Arrival
 shown_by (Ok m) = Whole m
 shown_by (Err f) = by_head f.head
 
--- how it is answered
-abbrev pub told_by : Verdict → Result Message Fault → Answer
+-- what becomes of it
+abbrev pub told_by : Verdict → Result Message Fault → Disposition
 told_by v (Ok m) = answer_by v m
 told_by verdict.Reject (Err f) = Rejected
 told_by _ (Err f) = Dropped
@@ -78,8 +78,7 @@ open_by from a cs = if ends a.verdict then without from a.id.0 cs else cs
 -- what the layer does at an arrival is what the table of arrivals says
 pub record IsArriving (s : State) (at : ℕ) (from : Endpoint) (what : Arrival) (a : Arriving) : Type 0 where
   pub out : out_to s at from what ≡ sent_by at from s.arrived a
-  pub taken : (bytes : List ℕ) → newly at (taken_in (Receive from bytes) (answer_to s at from what)) ≡ newly_by at from a
-  pub awaits : (bytes : List ℕ) (old : Option Awaited) → awaits_in (Receive from bytes) (answer_to s at from what) old ≡ awaits_by from a
-  pub ended : (bytes : List ℕ) (to : Endpoint) (id : ℕ) → ends_in (Receive from bytes) (answer_to s at from what) to id ≡ (ends a.verdict && same from a.id.0 to id)
-  pub given : (now : ℕ) → given_by now (answer_to s at from what) ≡ []
+  pub taken : (bytes : List ℕ) → newly at (taken_in (Receive from bytes) (Becomes (answer_to s at from what))) ≡ newly_by at from a
+  pub awaits : (bytes : List ℕ) (old : Option Awaited) → awaits_in (Receive from bytes) (Becomes (answer_to s at from what)) old ≡ awaits_by from a
+  pub ended : (bytes : List ℕ) (to : Endpoint) (id : ℕ) → ends_in (Receive from bytes) (Becomes (answer_to s at from what)) to id ≡ (ends a.verdict && same from a.id.0 to id)
   pub new : hands a.verdict a.kind ≡ true → is_remembered at from a.id.0 s.arrived ≡ false

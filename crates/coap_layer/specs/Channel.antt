@@ -5,7 +5,7 @@ use Rattle.coap_types.specs.Past.{Ever, Sometime, Always, Since}
 use Rattle.coap_types.specs.declared.endpoint.Endpoint.{Endpoint}
 use Rattle.coap_types.specs.declared.message.Kind.TheVariants.{Con, Non, Ack, Rst}
 use Rattle.coap_codec.specs.Message.{AreBytes, Message, Spells}
-use Rattle.coap_layer.specs.Trace.{Receive, Reply, Answer, Response, Acked, Entry}
+use Rattle.coap_layer.specs.Trace.{Receive, Reply, Response, Acked, Answer, Becomes, Entry}
 use Rattle.coap_layer.specs.Words.{Incoming, handed, taken, hands_up, Open, begun, outstanding}
 use Rattle.coap_layer.specs.Rows.{LayerLaw}
 use Rattle.coap_layer.specs.Sends.{IsIn, PlainOut, GoesOut}
@@ -119,7 +119,7 @@ NonsSent near far all =
 
 -- the answer takes the acknowledgement with this Message ID, Empty or with a response (sections 4.2 and 5.2.1)
 abbrev pub TakesAckOf : ℕ → Answer → Type 0
-TakesAckOf id answer = (answer ≡ Acked id) ⊎ ((m : Message) × (answer ≡ Response m) × (m.kind ≡ Ack) × (m.id ≡ id))
+TakesAckOf id answer = (answer ≡ Becomes (Acked id)) ⊎ ((m : Message) × (answer ≡ Becomes (Response m)) × (m.kind ≡ Ack) × (m.id ≡ id))
 
 -- an acknowledgement of this CON is taken while it is outstanding
 pub record HearsAck (con : Open) (past : List Entry) (e : Entry) : Type 0 where

@@ -4,7 +4,7 @@ use Rattle.coap_types.specs.Past.{Ever, Always}
 use Rattle.coap_types.specs.declared.endpoint.Endpoint.{Endpoint}
 use Rattle.coap_types.specs.SameEndpoint.{same_endpoint}
 use Rattle.coap_layer.specs.Ids.{AreApart}
-use Rattle.coap_layer.specs.Trace.{Receive, Copied, Acked, Reset, Entry}
+use Rattle.coap_layer.specs.Trace.{Receive, Acked, Reset, Becomes, Copied, Entry}
 use Rattle.coap_layer.specs.Rows.{Stands, LayerLaw, Outstanding}
 use Rattle.coap_layer.specs.Words.{Incoming, handed, Remembered, Open, begun, numbers, outstanding}
 
@@ -42,4 +42,4 @@ IsExact =
 -- An acknowledgement and a Reset are taken only for a CON that is outstanding.
 abbrev pub EndsOutstanding : List Entry → Type 0
 EndsOutstanding t =
-    Always (λ past e. (from : Endpoint) (bytes : List ℕ) (id : ℕ) → e.call ≡ Receive from bytes → (e.answer ≡ Acked id) ⊎ (e.answer ≡ Reset id) → Outstanding past from id) t
+    Always (λ past e. (from : Endpoint) (bytes : List ℕ) (id : ℕ) → e.call ≡ Receive from bytes → (e.answer ≡ Becomes (Acked id)) ⊎ (e.answer ≡ Becomes (Reset id)) → Outstanding past from id) t

@@ -4,7 +4,7 @@ use Rattle.coap_types.specs.Past.{Ever, Sometime, Always, Since}
 use Rattle.coap_types.specs.declared.message.Kind.TheVariants.{Con, Non}
 use Rattle.coap_codec.specs.Message.{Message, Spells}
 use Rattle.coap_layer.specs.Arrivals.{Faulted, Whole, Shows}
-use Rattle.coap_layer.specs.Trace.{Content, with_head, Packet, Call, Receive, Reply, Plain, Take, Answer, Replayed, Rejected, Sent, Copied, Gives, Entry}
+use Rattle.coap_layer.specs.Trace.{Content, with_head, Packet, Call, Receive, Reply, Plain, Take, Replayed, Rejected, Answer, Becomes, Sent, Copied, Gives, Entry}
 use Rattle.coap_layer.specs.Words.{awaits, Remembered, hands_up, was_con, reply_in, Open, begun, copies_in, outstanding, waiting}
 use Rattle.coap_layer.specs.Rows.{LayerLaw, reset_to}
 
@@ -101,7 +101,7 @@ pub record StoredOut (past : List Entry) (e : Entry) (p : Packet) : Type 0 where
   pub call : e.call ≡ Receive p.to bytes
   pub spells : Spells bytes message
   pub kind : message.kind ≡ Con
-  pub answer : e.answer ≡ Replayed
+  pub answer : e.answer ≡ Becomes Replayed
   pub old : Remembered past e.at p.to message.id
   pub con : was_con p.to message.id past ≡ true
   pub given : Since (λ b. reply_in p.to message.id b.call ≡ Some p.bytes) (λ b. hands_up p.to message.id b ≡ false) past
@@ -112,7 +112,7 @@ pub record ResetOut (e : Entry) (p : Packet) : Type 0 where
   pub id : ℕ
   pub call : e.call ≡ Receive p.to bytes
   pub shows : Shows bytes (Faulted Con id) ⊎ ((m : Message) × Shows bytes (Whole m) × (m.kind ≡ Con) × (m.id ≡ id))
-  pub answer : e.answer ≡ Rejected
+  pub answer : e.answer ≡ Becomes Rejected
   pub is : p ≡ reset_to p.to id
 
 pub data GoesOut (past : List Entry) (e : Entry) (p : Packet) : Type 0 where

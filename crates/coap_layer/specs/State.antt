@@ -10,7 +10,7 @@ use Rattle.coap_codec.specs.Message.{AreBytes}
 use Rattle.coap_codec.specs.Writing.{message_bytes}
 use Rattle.coap_layer.specs.Arrivals.{Arrival, Unreadable, Faulted, Whole, arrival_at}
 use Rattle.coap_layer.specs.Ids.{Given}
-use Rattle.coap_layer.specs.Trace.{Content, with_head, Packet, Call, Receive, Reply, Confirm, Plain, Settle, Ticks, Take, Room, AsksFree, Pass, Answer, Dropped, Replayed, Rejected, Nothing, Is, Sent, Busied, NoIds, Idle, Copied, Expired, Gives, Entry}
+use Rattle.coap_layer.specs.Trace.{Content, with_head, Packet, Call, Receive, Reply, Confirm, Plain, Settle, Ticks, Take, Room, AsksFree, Pass, Disposition, Dropped, Replayed, Rejected, Answer, Becomes, Nothing, Is, Sent, Busied, NoIds, Idle, Copied, Expired, Gives, Entry}
 use Rattle.coap_layer.specs.Table.{up_of}
 use Rattle.coap_layer.specs.Words.{Awaited, awaits, awaits_in, clock, given, Incoming, outstanding, waiting, Open, is_to, is_con, taken, reply_in, left_by, begun, takes_in}
 use Rattle.coap_layer.specs.Rows.{IsSpelled, reset_to}
@@ -94,13 +94,13 @@ copies now (c ∷ cs) =
     else (if is_copy_due now c then record { to = c.to; bytes = c.bytes } ∷ []
     else copies now cs)
 
--- what an arrival is answered
-abbrev pub sorted_by : State → ℕ → Incoming → Answer
+-- what becomes of an arrival
+abbrev pub sorted_by : State → ℕ → Incoming → Disposition
 sorted_by s at m =
     up_of m.message.kind (role_of m.message.code) m.message (is_outstanding m.from m.message.id s.open_cons) (is_remembered at m.from m.message.id s.arrived)
     (is_full at s.arrived) (is_free at s.upcoming s.last_used)
 
-abbrev pub answer_to : State → ℕ → Endpoint → Arrival → Answer
+abbrev pub answer_to : State → ℕ → Endpoint → Arrival → Disposition
 answer_to s at from Unreadable = Dropped
 answer_to s at from (Faulted kind id) = if is_con kind then Rejected else Dropped
 answer_to s at from (Whole m) = sorted_by s at (record { from = from; message = m })
@@ -110,7 +110,7 @@ abbrev pub sending : Bool → ℕ → Answer
 sending free id = if free then Sent id else NoIds
 
 abbrev pub answer_of : State → ℕ → Call → Answer
-answer_of s at (Receive from bytes) = answer_to s at from (arrival_at bytes)
+answer_of s at (Receive from bytes) = Becomes (answer_to s at from (arrival_at bytes))
 answer_of s at (Reply to id bytes) = Nothing
 answer_of s at (Confirm to content word) = if is_busy to s.open_cons then Busied else sending (is_free at s.upcoming s.last_used) s.upcoming
 answer_of s at (Plain to content) = sending (is_free at s.upcoming s.last_used) s.upcoming
@@ -121,7 +121,7 @@ answer_of s at (Room to) = Is (not (is_busy to s.open_cons) && is_free at s.upco
 answer_of s at AsksFree = Is (is_free at s.upcoming s.last_used)
 answer_of s at Pass = Nothing
 
-abbrev pub replay : State → ℕ → Incoming → Answer → List Packet
+abbrev pub replay : State → ℕ → Incoming → Disposition → List Packet
 replay s at m Rejected = reset_to m.from m.message.id ∷ []
 replay s at m Replayed = if is_con m.message.kind then to_packets m.from (reply_of at m.from m.message.id s.arrived) else []
 replay s at m _ = []

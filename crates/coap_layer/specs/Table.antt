@@ -5,16 +5,16 @@ use Rattle.coap_types.specs.declared.message.Kind.TheVariants.{Con, Non, Ack, Rs
 use Rattle.coap_types.specs.declared.role.Role.{Role}
 use Rattle.coap_types.specs.declared.role.Role.TheVariants as role
 use Rattle.coap_codec.specs.Message.{Message}
-use Rattle.coap_layer.specs.Trace.{Answer, Dropped, Replayed, Rejected, Request, Response, Acked, Reset}
+use Rattle.coap_layer.specs.Trace.{Disposition, Dropped, Replayed, Rejected, Request, Response, Acked, Reset}
 
-abbrev pub again_or : (remembered full : Bool) → Answer → Answer
+abbrev pub again_or : (remembered full : Bool) → Disposition → Disposition
 again_or true full u = Replayed
 again_or false true u = Dropped
 again_or false false u = u
 
 -- by type, code, and whether a CON to there with this id is outstanding, it is remembered, the table is full, and a
 -- Message ID is free
-abbrev pub up_of : Kind → Role → Message → (outstanding remembered full free : Bool) → Answer
+abbrev pub up_of : Kind → Role → Message → (outstanding remembered full free : Bool) → Disposition
 up_of Con role.Empty m o r f i = Rejected
 up_of Con role.Reserved m o r f i = Rejected
 up_of Con role.Request m o r f i = again_or r f (Request m true)

@@ -8,17 +8,20 @@ use Rattle.coap_layer.specs.declared.up.Tick.{Tick}
 use Rattle.coap_layer.specs.declared.up.Tick.TheVariants as tick
 use Rattle.coap_layer.specs.declared.up.Up.{Up}
 use Rattle.coap_layer.specs.declared.up.Up.TheVariants as up
-use Rattle.coap_layer.specs.Trace.{Answer, Dropped, Replayed, Rejected, Request, Response, Acked, Reset, Sent, Busied, NoIds, Idle, Copied, Expired, Nothing, Entry}
+use Rattle.coap_layer.specs.Trace.{Disposition, Dropped, Replayed, Rejected, Request, Response, Acked, Reset, Answer, Becomes, Sent, Busied, NoIds, Idle, Copied, Expired, Nothing, Entry}
 use Rattle.coap_layer.specs.Words.{handed}
 
+abbrev pub disposition_of : Up → Disposition
+disposition_of up.Dropped = Dropped
+disposition_of up.Replayed = Replayed
+disposition_of up.Rejected = Rejected
+disposition_of (up.Request m remembered) = Request m remembered
+disposition_of (up.Response m) = Response m
+disposition_of (up.Acked id) = Acked id.0
+disposition_of (up.Reset id) = Reset id.0
+
 abbrev pub answer_as : Up → Answer
-answer_as up.Dropped = Dropped
-answer_as up.Replayed = Replayed
-answer_as up.Rejected = Rejected
-answer_as (up.Request m remembered) = Request m remembered
-answer_as (up.Response m) = Response m
-answer_as (up.Acked id) = Acked id.0
-answer_as (up.Reset id) = Reset id.0
+answer_as u = Becomes (disposition_of u)
 
 -- to where a copy goes, a tick doesn't say
 abbrev pub IsTick : Tick → Answer → Type 0

@@ -1,10 +1,10 @@
--- What the verdict on a message is answered (RFC 7252, sections 4.2, 4.3 and 4.5).
+-- What becomes of a message by the verdict on it (RFC 7252, sections 4.2, 4.3 and 4.5).
 use Rattle.coap_codec.specs.Message.{Message}
 use Rattle.coap_layer.specs.declared.arrival.Verdict.{Verdict}
 use Rattle.coap_layer.specs.declared.arrival.Verdict.TheVariants as verdict
-use Rattle.coap_layer.specs.Trace.{Answer, Dropped, Replayed, Rejected, Request, Response, Acked, Reset}
+use Rattle.coap_layer.specs.Trace.{Disposition, Dropped, Replayed, Rejected, Request, Response, Acked, Reset}
 
-abbrev pub answer_by : Verdict → Message → Answer
+abbrev pub answer_by : Verdict → Message → Disposition
 answer_by verdict.Reject m = Rejected
 answer_by verdict.Drop m = Dropped
 answer_by verdict.TakeAck m = Acked m.id

@@ -9,7 +9,7 @@ use Rattle.coap_types.specs.SameEndpoint.{same_endpoint}
 use Rattle.coap_codec.specs.Message.{Message}
 use Rattle.coap_codec.specs.Writing.{message_bytes}
 use Rattle.coap_layer.specs.Ids.{Given}
-use Rattle.coap_layer.specs.Trace.{Content, with_head, Packet, Call, Receive, Reply, Confirm, Settle, Ticks, Take, Room, AsksFree, Pass, Answer, Request, Response, Acked, Reset, Sent, Copied, Expired, Entry}
+use Rattle.coap_layer.specs.Trace.{Content, with_head, Packet, Call, Receive, Reply, Confirm, Settle, Ticks, Take, Room, AsksFree, Pass, Request, Response, Acked, Reset, Answer, Becomes, Sent, Copied, Expired, Entry}
 
 -- the moment of the newest entry
 abbrev pub clock : List Entry → ℕ
@@ -34,13 +34,13 @@ is_kept _ = false
 
 -- the CON or NON that the answer hands up, and that which is to be remembered
 abbrev pub handed_by : Answer → Option Message
-handed_by (Request m kept) = Some m
-handed_by (Response m) = if is_kept m.kind then Some m else None
+handed_by (Becomes (Request m kept)) = Some m
+handed_by (Becomes (Response m)) = if is_kept m.kind then Some m else None
 handed_by _ = None
 
 abbrev pub kept_by : Answer → Option Message
-kept_by (Request m kept) = if kept then Some m else None
-kept_by (Response m) = if is_kept m.kind then Some m else None
+kept_by (Becomes (Request m kept)) = if kept then Some m else None
+kept_by (Becomes (Response m)) = if is_kept m.kind then Some m else None
 kept_by _ = None
 
 abbrev pub from_there : Endpoint → Option Message → Option Incoming
@@ -168,8 +168,8 @@ same to id place n = same_endpoint place to && (n == id)
 
 -- the call ends the retransmission of the CON to this place with this id
 abbrev pub ends_in : Call → Answer → Endpoint → ℕ → Bool
-ends_in (Receive from bytes) (Acked id) place n = same from id place n
-ends_in (Receive from bytes) (Reset id) place n = same from id place n
+ends_in (Receive from bytes) (Becomes (Acked id)) place n = same from id place n
+ends_in (Receive from bytes) (Becomes (Reset id)) place n = same from id place n
 ends_in (Settle to id) _ place n = same to id place n
 ends_in Ticks (Expired to id) place n = same to id place n
 ends_in _ _ place n = false

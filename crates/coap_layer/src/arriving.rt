@@ -8,7 +8,7 @@ ghost use Rattle.coap_layer.specs.Parts.{awaited, open_before};
 ghost use Rattle.coap_layer.specs.Rows.{reset_to};
 ghost use Rattle.coap_layer.specs.Sendings.{open_now};
 ghost use Rattle.coap_layer.specs.State.{State, answer_to, is_free};
-ghost use Rattle.coap_layer.specs.Ups.{answer_as};
+ghost use Rattle.coap_layer.specs.Ups.{disposition_of};
 
 use crate::Up;
 use crate::arrival::{Known, Verdict, classify};
@@ -108,7 +108,7 @@ pub(crate) fn judge<A: Allocator + Copy>(
 
 /// What the layer above is told.
 pub(crate) fn told<'d>(read: Result<View<'d>, Fault>, verdict: Verdict) -> Up<'d>
-    ensures { answer_as result ≡ told_by verdict read.entry }
+    ensures { disposition_of result ≡ told_by verdict read.entry }
 {
     match (read, verdict) {
         (_, Verdict::Reject) => Up::Rejected,

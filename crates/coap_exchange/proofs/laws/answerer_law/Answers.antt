@@ -1,13 +1,13 @@
-use Rattle.coap_exchange.proofs.AnswererLeading.{led_start, led_call, led_law, layer_stands}
-use Rattle.coap_exchange.proofs.AnswererExactly.{exact}
-use Rattle.coap_exchange.proofs.AnswererOnce.{counted}
-use Rattle.coap_exchange.proofs.AnswererCame.{came_in}
-use Rattle.coap_exchange.proofs.AnswererEnds.{ends_once}
-use Rattle.coap_exchange.proofs.AnswererTells.{told}
-use Rattle.coap_exchange.proofs.AnswererDeferrals.{long_enough, ready_when_due}
-use Rattle.coap_exchange.proofs.AnswererEarliest.{earliest}
-use Rattle.coap_exchange.proofs.AnswererMirror.{waits}
-use Rattle.coap_exchange.proofs.AnswererSends.{sends_so}
+use Rattle.coap_exchange.proofs.Leading.ServerLeads.{led_start, led_call, led_law, layer_stands}
+use Rattle.coap_exchange.proofs.Exact.ServerExactly.{exact}
+use Rattle.coap_exchange.proofs.Responding.OneResponse.{counted}
+use Rattle.coap_exchange.proofs.Responding.RequestsCame.{came_in}
+use Rattle.coap_exchange.proofs.EndsSaid.SaidOnce.{ends_once}
+use Rattle.coap_exchange.proofs.EndsSaid.SaidWhereItEnds.{told}
+use Rattle.coap_exchange.proofs.Deferring.LongEnough.{long_enough, ready_when_due}
+use Rattle.coap_exchange.proofs.Deferring.EarliestFirst.{earliest}
+use Rattle.coap_exchange.proofs.EndsSaid.AreOutstanding.{waits}
+use Rattle.coap_exchange.proofs.Responding.GoesBack.{sends_so}
 use Rattle.coap_exchange.proofs.laws.answerer_law.Goals as goal
 
 pub returns-clause-start : goal.returns-clause-start

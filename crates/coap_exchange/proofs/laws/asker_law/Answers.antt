@@ -1,14 +1,14 @@
-use Rattle.coap_exchange.proofs.AskerLeading.{led_start, led_call, led_law, layer_stands}
-use Rattle.coap_exchange.proofs.AskerExactly.{exact}
-use Rattle.coap_exchange.proofs.AskerApart.{known}
-use Rattle.coap_exchange.proofs.AskerRefused.{refused}
-use Rattle.coap_exchange.proofs.AskerTokens.{counted}
-use Rattle.coap_exchange.proofs.AskerInTime.{in_time}
-use Rattle.coap_exchange.proofs.AskerDue.{when_due}
-use Rattle.coap_exchange.proofs.AskerKept.{few_kept}
-use Rattle.coap_exchange.proofs.AskerCame.{came_from}
-use Rattle.coap_exchange.proofs.AskerRejected.{rejected}
-use Rattle.coap_exchange.proofs.AskerResponses.{matched}
+use Rattle.coap_exchange.proofs.Leading.ClientLeads.{led_start, led_call, led_law, layer_stands}
+use Rattle.coap_exchange.proofs.Exact.ClientExactly.{exact}
+use Rattle.coap_exchange.proofs.Exchanges.OneAtATime.{known}
+use Rattle.coap_exchange.proofs.Exchanges.RefusedWhileOneRuns.{refused}
+use Rattle.coap_exchange.proofs.Exchanges.TokensOnce.{counted}
+use Rattle.coap_exchange.proofs.Ending.NoEarlier.{in_time}
+use Rattle.coap_exchange.proofs.Ending.WhenDue.{when_due}
+use Rattle.coap_exchange.proofs.Exchanges.FewAreKept.{few_kept}
+use Rattle.coap_exchange.proofs.Telling.FromServer.{came_from}
+use Rattle.coap_exchange.proofs.Telling.ResetsAreOfRequest.{rejected}
+use Rattle.coap_exchange.proofs.Telling.ResponsesMatch.{matched}
 use Rattle.coap_exchange.proofs.laws.asker_law.Goals as goal
 
 pub returns-clause-start : goal.returns-clause-start

@@ -1,6 +1,6 @@
 use Rattle.std.proofs.Common.{ap, ◌∙◌}
-use Rattle.coap_exchange.specs.Listed.{listed, listed_before}
-use Rattle.coap_exchange.proofs.ListedLemmas.{dropped, noted_now, noted_before}
+use Rattle.coap_exchange.specs.Machine.Listed.{listed, listed_before}
+use Rattle.coap_exchange.proofs.Calls.Lists.{dropped, noted_now, noted_before}
 use Rattle.coap_exchange.proofs.listed.settle_down.Goals as goal
 
 pub returns-clause-now : goal.returns-clause-now

@@ -1,7 +1,7 @@
 use Rattle.std.proofs.Common.{ap, ◌∙◌}
-use Rattle.coap_exchange.specs.Listed.{listed_before}
-use Rattle.coap_exchange.proofs.ListedLemmas.{over_before}
-use Rattle.coap_exchange.proofs.AnswererCode.{off_is}
+use Rattle.coap_exchange.specs.Machine.Listed.{listed_before}
+use Rattle.coap_exchange.proofs.Calls.Lists.{over_before}
+use Rattle.coap_exchange.proofs.Calls.ServerCalls.{off_is}
 use Rattle.coap_exchange.proofs.replies.after_arrival.Goals as goal
 
 pub returns-in-Acked-clause-now : goal.returns-in-Acked-clause-now

@@ -1,7 +1,7 @@
 use Rattle.std.proofs.Common.{ap}
-use Rattle.coap_exchange.specs.Listed.{listed}
-use Rattle.coap_exchange.proofs.AnswererLeading.{led_call}
-use Rattle.coap_exchange.proofs.AnswererCode.{answered}
+use Rattle.coap_exchange.specs.Machine.Listed.{listed}
+use Rattle.coap_exchange.proofs.Leading.ServerLeads.{led_call}
+use Rattle.coap_exchange.proofs.Calls.ServerCalls.{answered}
 use Rattle.coap_exchange.proofs.answerer.Answerer.answer.Goals as goal
 
 pub returns-clause-step : goal.returns-clause-step

@@ -1,6 +1,6 @@
 use Rattle.std.proofs.Common.{refl, ap, sym, ◌∙◌, arith}
 use Rattle.coap_layer.specs.Trace as T
-use Rattle.coap_exchange.proofs.AnswererRoom.{still_may}
+use Rattle.coap_exchange.proofs.Calls.RoomIsKept.{still_may}
 use Rattle.coap_exchange.proofs.answerer.Answerer.defer.Goals as goal
 
 pub returns-else-deferred-clause-kept : goal.returns-else-deferred-clause-kept

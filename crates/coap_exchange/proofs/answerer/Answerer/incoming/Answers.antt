@@ -1,5 +1,5 @@
 use Rattle.coap_layer.specs.Ups.{answer_as}
-use Rattle.coap_exchange.proofs.AnswererCode.{short_token}
+use Rattle.coap_exchange.proofs.Calls.ServerCalls.{short_token}
 use Rattle.coap_exchange.proofs.answerer.Answerer.incoming.Goals as goal
 
 pub asked_in-asked-requires : goal.asked_in-asked-requires

@@ -1,7 +1,7 @@
 use Rattle.std.proofs.Common.{◌≡◌, ◌≤◌, max, true, rules, refl, arith}
 use Rattle.coap_layer.specs.Trace as T
-use Rattle.coap_exchange.proofs.AnswererRoom.{still_may}
-use Rattle.coap_exchange.proofs.AnswererTicks.{room_free, room_idle}
+use Rattle.coap_exchange.proofs.Calls.RoomIsKept.{still_may}
+use Rattle.coap_exchange.proofs.Calls.ServerTicks.{room_free, room_idle}
 use Rattle.coap_exchange.proofs.answerer.Answerer.ready.Goals.{then-self, else-self}
 use Rattle.coap_exchange.proofs.answerer.Answerer.ready.Goals as goal
 

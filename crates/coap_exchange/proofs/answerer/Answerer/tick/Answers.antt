@@ -4,12 +4,12 @@ use Rattle.std.specs.Option.{option_map}
 use Rattle.coap_layer.specs.State as L
 use Rattle.coap_layer.specs.Trace as T
 use Rattle.coap_exchange.specs.declared.separate.Deferred.{Deferred}
-use Rattle.coap_exchange.specs.AnswererShown.{own_with}
+use Rattle.coap_exchange.specs.Machine.AnswererShown.{own_with}
 use Rattle.coap_exchange.specs.AnswererSteps.{failed_by, ready_at, ready_if, separate_unless}
-use Rattle.coap_exchange.specs.Listed.{listed}
-use Rattle.coap_exchange.proofs.AnswererLeading.{led_call}
-use Rattle.coap_exchange.proofs.AnswererTicks.{asks_freely, asking_clock, may_respond, placed, ticked}
-use Rattle.coap_exchange.proofs.LayerFacts.{step_clock}
+use Rattle.coap_exchange.specs.Machine.Listed.{listed}
+use Rattle.coap_exchange.proofs.Leading.ServerLeads.{led_call}
+use Rattle.coap_exchange.proofs.Calls.ServerTicks.{asks_freely, asking_clock, may_respond, placed, ticked}
+use Rattle.coap_exchange.proofs.Facts.CallsOfLayer.{step_clock}
 use Rattle.coap_exchange.proofs.answerer.Answerer.tick.Goals as goal
 
 pub is_sendable-room-requires : goal.is_sendable-room-requires

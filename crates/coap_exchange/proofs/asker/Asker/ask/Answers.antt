@@ -1,8 +1,8 @@
 use Rattle.std.proofs.Common.{rules, ap, refl, []}
 use Rattle.coap_layer.specs.Trace as below
 use Rattle.coap_exchange.specs.declared.matching.Opening.TheVariants as openings
-use Rattle.coap_exchange.proofs.AskerLeading.{led_call}
-use Rattle.coap_exchange.proofs.AskCode.{refused, told_spent}
+use Rattle.coap_exchange.proofs.Leading.ClientLeads.{led_call}
+use Rattle.coap_exchange.proofs.Calls.AskingCalls.{refused, told_spent}
 use Rattle.coap_exchange.proofs.asker.Asker.ask.Goals as goal
 
 pub returns-in-Running-clause-step : goal.returns-in-Running-clause-step

@@ -1,9 +1,9 @@
 use Rattle.std.proofs.Common.{rules, ap, sym, subst, ◌∙◌}
 use Rattle.coap_layer.specs.Shown.{MayReply}
 use Rattle.coap_layer.specs.Ups.{answer_as}
-use Rattle.coap_exchange.specs.AskerShown.{own_with}
-use Rattle.coap_exchange.proofs.AskerLeading.{led_call}
-use Rattle.coap_exchange.proofs.AskerCode.{received_old, replied}
+use Rattle.coap_exchange.specs.Machine.AskerShown.{own_with}
+use Rattle.coap_exchange.proofs.Leading.ClientLeads.{led_call}
+use Rattle.coap_exchange.proofs.Calls.ClientCalls.{received_old, replied}
 use Rattle.coap_exchange.proofs.asker.Asker.receive.Goals as goal
 
 pub act-requires : goal.act-requires

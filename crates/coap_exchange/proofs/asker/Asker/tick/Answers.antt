@@ -1,6 +1,6 @@
 use Rattle.std.proofs.Common.{rules, ap}
-use Rattle.coap_exchange.proofs.AskerLeading.{led_call}
-use Rattle.coap_exchange.proofs.AskerCode.{ticked_old}
+use Rattle.coap_exchange.proofs.Leading.ClientLeads.{led_call}
+use Rattle.coap_exchange.proofs.Calls.ClientCalls.{ticked_old}
 use Rattle.coap_exchange.proofs.asker.Asker.tick.Goals as goal
 
 pub returns-clause-step : goal.returns-clause-step

@@ -1,0 +1,127 @@
+-- The calls of the server's side, as the code makes them of the layer's.
+use Rattle.std.proofs.Common.{◌≡◌, ℕ, ◌≤◌, max, Bool, true, false, Option, Some, None, List, refl, ap, sym, subst, ◌∙◌, is_some, length, cond, ◌⊎◌, inl, inr, map, arith}
+use Rattle.coap_types.specs.declared.message.Kind.{Kind}
+use Rattle.coap_types.specs.declared.message.Kind.TheVariants.{Con, Non, Ack, Rst}
+use Rattle.coap_codec.specs.Message.{Message}
+use Rattle.coap_types.specs.declared.endpoint.Endpoint.{Endpoint}
+use Rattle.coap_types.specs.declared.message.Id.{Id}
+use Rattle.coap_layer.specs.State as L
+use Rattle.coap_layer.specs.State.{moment}
+use Rattle.coap_layer.specs.Trace as T
+use Rattle.coap_layer.specs.Trace.{with_head}
+use Rattle.coap_layer.specs.Ups.{answer_as}
+use Rattle.coap_layer.specs.declared.up.Up.{Up}
+use Rattle.coap_layer.specs.declared.up.Up.TheVariants as ups
+use Rattle.coap_layer.specs.Words.{handed_by, is_kept}
+use Rattle.coap_exchange.specs.declared.answerer.Asked.{Asked}
+use Rattle.coap_exchange.specs.declared.answerer.Ended.{Ended}
+use Rattle.coap_exchange.specs.declared.listed.Listed.{Listed}
+use Rattle.coap_exchange.specs.declared.separate.Deferred.{Deferred}
+use Rattle.coap_exchange.specs.declared.separate.Separate.{Separate}
+use Rattle.coap_exchange.specs.AnswererLaw.{State, Step}
+use Rattle.coap_exchange.specs.Machine.AnswererShown.{state_of, own_with, IsAnswer}
+use Rattle.coap_exchange.specs.AnswererSteps.{reject_by, answering, content_of, IsSentAs, separate_after}
+use Rattle.coap_exchange.specs.AnswererTrace.{Own, Response, Answers}
+use Rattle.coap_exchange.specs.AskerArrivals.{id_in}
+use Rattle.coap_exchange.specs.Machine.Listed.{listed}
+use Rattle.coap_exchange.specs.Machine.Outstanding.{over}
+use Rattle.coap_exchange.proofs.Facts.HandedUp.{message_in, spelled}
+use Rattle.coap_exchange.proofs.Facts.CallsOfLayer.{step_clock}
+use Rattle.coap_exchange.proofs.Calls.Lists.{over_is}
+
+-- what is rejected was handed up
+
+rejected_if : (m : Message) (b : Bool) → is_kept m.kind ≡ b → is_some (reject_by (T.Response m)) ≡ true → handed_by (T.Response m) ≡ Some m
+rejected_if m true e h = rw e refl
+rejected_if m false e h = let k : is_some (reject_by (T.Response m)) ≡ false = rw e refl in absurd (cc (h, k))
+
+pub rejected : (up : T.Answer) → is_some (reject_by up) ≡ true → (m : Message) × (handed_by up ≡ Some m) × (m.id ≡ id_in up)
+rejected (T.Response m) h = (m, rejected_if m (is_kept m.kind) refl h, refl)
+rejected (T.Request m k) h = absurd (cc h)
+rejected (T.Acked id) h = absurd (cc h)
+rejected (T.Reset id) h = absurd (cc h)
+rejected T.Dropped h = absurd (cc h)
+rejected T.Replayed h = absurd (cc h)
+rejected T.Rejected h = absurd (cc h)
+rejected T.Nothing h = absurd (cc h)
+rejected (T.Is holds) h = absurd (cc h)
+rejected (T.Sent id) h = absurd (cc h)
+rejected T.Busied h = absurd (cc h)
+rejected T.NoIds h = absurd (cc h)
+rejected T.Idle h = absurd (cc h)
+rejected (T.Copied to id) h = absurd (cc h)
+rejected (T.Expired to id) h = absurd (cc h)
+rejected (T.Gives packet) h = absurd (cc h)
+
+-- the token of what is handed up has at most 8 bytes
+
+kept_in : (m n : Message) (b : Bool) → cond b (Some m) None ≡ Some n → Some m ≡ Some n
+kept_in m n true h = h
+kept_in m n false h = absurd (cc h)
+
+in_message : (up : T.Answer) (m : Message) → handed_by up ≡ Some m → message_in up ≡ Some m
+in_message (T.Request n k) m h = h
+in_message (T.Response n) m h = kept_in n m (is_kept n.kind) h
+in_message (T.Acked id) m h = absurd (cc h)
+in_message (T.Reset id) m h = absurd (cc h)
+in_message T.Dropped m h = absurd (cc h)
+in_message T.Replayed m h = absurd (cc h)
+in_message T.Rejected m h = absurd (cc h)
+in_message T.Nothing m h = absurd (cc h)
+in_message (T.Is holds) m h = absurd (cc h)
+in_message (T.Sent id) m h = absurd (cc h)
+in_message T.Busied m h = absurd (cc h)
+in_message T.NoIds m h = absurd (cc h)
+in_message T.Idle m h = absurd (cc h)
+in_message (T.Copied to id) m h = absurd (cc h)
+in_message (T.Expired to id) m h = absurd (cc h)
+in_message (T.Gives packet) m h = absurd (cc h)
+
+pub short_token : (old new : L.State) (now : ℕ) (from : Endpoint) (bytes : List ℕ) (up : T.Answer) (m : Message) → L.Step old now (T.Receive from bytes) up new → handed_by up ≡ Some m → length m.token ≤ 8
+short_token old new now from bytes up m step h = (spelled old new now from bytes up m step (in_message up m h)).token
+
+-- what an acknowledgement and a Reset take off the list
+
+pub off_is : (from : Endpoint) (id : Id) (up : Up) (xs new : List (Listed Separate)) → (up ≡ ups.Acked id) ⊎ (up ≡ ups.Reset id) → new ≡ map (over from id.0) xs → listed new ≡ separate_after from (answer_as up) (listed xs)
+off_is from id up xs new (inl e) is = ap listed is ∙ (over_is from id.0 xs ∙ ap (λ u. separate_after from (answer_as u) (listed xs)) (sym e))
+off_is from id up xs new (inr e) is = ap listed is ∙ (over_is from id.0 xs ∙ ap (λ u. separate_after from (answer_as u) (listed xs)) (sym e))
+
+-- a response
+
+module _ (l h : L.State) (kind : Kind) (a : Asked) (r : Response) where
+  abbrev pub Sends : Type 0
+  Sends = (sent : T.Answer) × IsSentAs kind sent × ((s : Own) → L.Step l l.clock (answering s kind a r) sent h)
+
+pub sent_con : (l h : L.State) (kind : Kind) (a : Asked) (r : Response) → kind ≡ Con → ((s : Own) → L.Step l l.clock (answering s Con a r) T.Nothing h) → Sends l h kind a r
+sent_con l h kind a r e f = subst (λ k. Sends l h k a r) (sym e) (T.Nothing, refl, f)
+
+pub sent_plain : (l h : L.State) (kind : Kind) (a : Asked) (r : Response) → (kind ≡ Con → ⊥) → (id : ℕ) × L.Step l l.clock (T.Plain a.from (content_of a r)) (T.Sent id) h → Sends l h kind a r
+sent_plain l h Con a r n f = absurd (n refl)
+sent_plain l h Non a r n f = (T.Sent f.0, (f.0, refl), λ s. f.1)
+sent_plain l h Ack a r n f = (T.Sent f.0, (f.0, refl), λ s. f.1)
+sent_plain l h Rst a r n f = (T.Sent f.0, (f.0, refl), λ s. f.1)
+
+max_self : (n : ℕ) → max n n ≡ n
+max_self n = omega (arith)
+
+answering_clock : (l : L.State) (s : Own) (kind : Kind) (a : Asked) (r : Response) → moment l l.clock (answering s kind a r) ≡ l.clock
+answering_clock l s Con a r = refl
+answering_clock l s Non a r = max_self l.clock
+answering_clock l s Ack a r = max_self l.clock
+answering_clock l s Rst a r = max_self l.clock
+
+pub answered : (l h : L.State) (pending : Option Asked) (deferred : List Deferred) (separate : List Separate) (ended : Option Ended) (old : State) (a : Asked) (r : Response) (sent : T.Answer)
+    → state_of l pending deferred separate ended ≡ old → old.own.pending ≡ Some a → IsAnswer a r → IsSentAs a.kind sent → ((s : Own) → L.Step l l.clock (answering s a.kind a r) sent h) → Step old (Answers a r sent) (state_of h None deferred separate ended)
+answered l h pending deferred separate ended old a r sent is pending_is answer told steps =
+    let s = own_with l.clock pending deferred separate ended in
+    let clock : h.clock ≡ l.clock = step_clock l h l.clock (answering s a.kind a r) sent (steps s) ∙ answering_clock l s a.kind a r in
+    subst (λ o. Step o (Answers a r sent) (state_of h None deferred separate ended)) is (record {
+      right = (ap (λ (o : State). o.own.pending) is ∙ pending_is, record { code = answer.code; spelled = answer.sendable.spelled }, told);
+      own_is = ap (λ c. own_with c None deferred separate ended) clock;
+      under = (l, refl, steps s);
+    })
+
+pub not_con : (kind : Kind) → (kind ≡ Non) ⊎ ((kind ≡ Ack) ⊎ (kind ≡ Rst)) → kind ≡ Con → ⊥
+not_con kind (inl e) f = cc (e, f)
+not_con kind (inr (inl e)) f = cc (e, f)
+not_con kind (inr (inr e)) f = cc (e, f)

@@ -1,0 +1,3 @@
+pub mod AreOutstanding
+pub mod SaidOnce
+pub mod SaidWhereItEnds

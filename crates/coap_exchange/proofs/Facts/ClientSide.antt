@@ -1,0 +1,18 @@
+-- The law of the client's side: what leads to it, and what follows from it.
+use Rattle.std.proofs.Common.{ℕ, List}
+use Rattle.coap_types.specs.declared.endpoint.Endpoint.{Endpoint}
+use Rattle.coap_exchange.specs.AskerTrace.{Call}
+use Rattle.coap_exchange.specs.AskerLaw.{AskerLaw}
+use Rattle.coap_exchange.specs.AskerFollows.{AreExchanges, AreTokens}
+use Rattle.coap_exchange.proofs.Exchanges.OneAtATime.{known}
+use Rattle.coap_exchange.proofs.Exchanges.TokensOnce.{counted}
+pub use Rattle.coap_exchange.proofs.Leading.ClientLeads.{led_start, led_call, led_law, layer_stands}
+pub use Rattle.coap_exchange.proofs.Exact.ClientExactly.{exact}
+pub use Rattle.coap_exchange.proofs.Telling.FromServer.{came_from, server_is}
+pub use Rattle.coap_exchange.proofs.Ending.WhenDue.{when_due}
+
+pub are_exchanges : (server : Endpoint) (word : ℕ) (t : List Call) → AskerLaw server word t → AreExchanges t
+are_exchanges server word t law = (known server word t law).0
+
+pub are_tokens : (server : Endpoint) (word : ℕ) (t : List Call) → AskerLaw server word t → AreTokens word t
+are_tokens server word t law = (counted server word t law).0

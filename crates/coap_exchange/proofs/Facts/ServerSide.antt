@@ -1,0 +1,14 @@
+-- The law of the server's side: what leads to it, and what follows from it.
+use Rattle.std.proofs.Common.{List}
+use Rattle.coap_exchange.specs.AnswererTrace.{Call}
+use Rattle.coap_exchange.specs.AnswererLaw.{AnswererLaw}
+use Rattle.coap_exchange.specs.AnswererFollows.{AreResponses}
+use Rattle.coap_exchange.proofs.Responding.OneResponse.{counted}
+pub use Rattle.coap_exchange.proofs.Leading.ServerLeads.{led_start, led_call, led_law, layer_stands}
+pub use Rattle.coap_exchange.proofs.Exact.ServerExactly.{exact}
+pub use Rattle.coap_exchange.proofs.Responding.OneResponse.{same_asked_self, self_hits}
+pub use Rattle.coap_exchange.proofs.Responding.RequestsCame.{came_in}
+pub use Rattle.coap_exchange.proofs.EndsSaid.AreOutstanding.{waits}
+
+pub are_responses : (t : List Call) → AnswererLaw t → AreResponses t
+are_responses t law = (counted t law).0

@@ -1,0 +1,26 @@
+-- One call more, for all calls of the client's side.
+use Rattle.std.proofs.Common.{ℕ, List, [], ◌∷◌, ◌++◌, sym, ap, ◌∙◌, subst, refl}
+use Rattle.std.proofs.lemmas.List.{append-nil}
+use Rattle.coap_types.specs.declared.endpoint.Endpoint.{Endpoint}
+use Rattle.coap_layer.specs.State as L
+use Rattle.coap_layer.specs.Rows.{LayerLaw}
+use Rattle.coap_layer.proofs.StepsLemmas.{led_steps}
+use Rattle.coap_layer.specs.Steps.{Asked, Steps}
+use Rattle.coap_exchange.proofs.Facts.Above.{led_call as above_call}
+use Rattle.coap_exchange.specs.AskerTrace.{start, Call}
+use Rattle.coap_exchange.specs.AskerSteps.{lower, IsRight, after}
+use Rattle.coap_exchange.specs.AskerLaw.{own_of, lower_of, below_of, fresh_state, ExchangeLaw, State, Step, Led}
+use Rattle.coap_exchange.proofs.Facts.StepsOfLayer.{steps_join}
+
+pub led_call : (server : Endpoint) (word : ℕ) (t : List Call) (c : Call) (old new : State) → Led server word t old → Step old c new → Led server word (c ∷ t) new
+led_call server word t c old new led step = above_call IsRight after lower Steps (start server word) (L.start word) steps_join t c old new led step
+
+pub led_law : (server : Endpoint) (word : ℕ) (t : List Call) (s : State) → Led server word t s → ExchangeLaw server word t
+led_law server word t s led = record { rows = led.rows; left = s.layer; layer = led.layer }
+
+pub led_start : (server : Endpoint) (word : ℕ) → Led server word [] (fresh_state server word)
+led_start server word = record { rows = tt; own_is = refl; layer = refl }
+
+pub layer_stands : (server : Endpoint) (word : ℕ) (t : List Call) → ExchangeLaw server word t → LayerLaw word (below_of server word t)
+layer_stands server word t law =
+    subst (LayerLaw word) (append-nil (below_of server word t)) (led_steps word [] (L.start word) law.left (lower_of server word t) (record { law = tt; kept = refl }) law.layer).law

@@ -1,0 +1,3 @@
+pub mod GoesBack
+pub mod OneResponse
+pub mod RequestsCame

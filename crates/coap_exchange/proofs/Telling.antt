@@ -1,0 +1,3 @@
+pub mod FromServer
+pub mod ResetsAreOfRequest
+pub mod ResponsesMatch
