@@ -1,3 +1,4 @@
+pub mod Above
 pub mod CallsOfLayer
 pub mod ClientSide
 pub mod HandedUp

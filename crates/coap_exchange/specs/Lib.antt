@@ -18,6 +18,7 @@ pub mod AnswererLaw
 pub mod AnswererFollows
 pub mod AnswererSends
 pub mod AnswererTells
+pub mod Above
 pub mod AnswererDeferrals
 pub mod AnswererExact
 pub mod ShortAnswers

@@ -6,19 +6,14 @@ use Rattle.coap_layer.specs.State as L
 use Rattle.coap_layer.specs.Rows.{LayerLaw}
 use Rattle.coap_layer.proofs.StepsLemmas.{led_steps}
 use Rattle.coap_layer.specs.Steps.{Asked, Steps}
-use Rattle.coap_exchange.specs.AskerTrace.{Call}
+use Rattle.coap_exchange.proofs.Facts.Above.{led_call as above_call}
+use Rattle.coap_exchange.specs.AskerTrace.{start, Call}
 use Rattle.coap_exchange.specs.AskerSteps.{lower, IsRight, after}
 use Rattle.coap_exchange.specs.AskerLaw.{own_of, lower_of, below_of, fresh_state, ExchangeLaw, State, Step, Led}
 use Rattle.coap_exchange.proofs.Facts.StepsOfLayer.{steps_join}
 
 pub led_call : (server : Endpoint) (word : ℕ) (t : List Call) (c : Call) (old new : State) → Led server word t old → Step old c new → Led server word (c ∷ t) new
-led_call server word t c old new led step =
-    record {
-      rows = (subst (λ s. IsRight s c) led.own_is step.right, led.rows);
-      own_is = step.own_is ∙ ap (λ s. after s c) led.own_is;
-      layer = steps_join (L.start word) old.layer new.layer (lower (own_of server word t) c) (lower_of server word t) led.layer
-          (subst (λ s. Steps old.layer (lower s c) new.layer) led.own_is step.under);
-    }
+led_call server word t c old new led step = above_call IsRight after lower Steps (start server word) (L.start word) steps_join t c old new led step
 
 pub led_law : (server : Endpoint) (word : ℕ) (t : List Call) (s : State) → Led server word t s → ExchangeLaw server word t
 led_law server word t s led = record { rows = led.rows; left = s.layer; layer = led.layer }

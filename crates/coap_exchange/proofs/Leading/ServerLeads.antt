@@ -5,7 +5,8 @@ use Rattle.coap_layer.specs.State as L
 use Rattle.coap_layer.specs.Rows.{LayerLaw}
 use Rattle.coap_layer.specs.Steps.{Steps}
 use Rattle.coap_layer.proofs.StepsLemmas.{led_steps}
-use Rattle.coap_exchange.specs.AnswererTrace.{Call}
+use Rattle.coap_exchange.proofs.Facts.Above.{led_call as above_call}
+use Rattle.coap_exchange.specs.AnswererTrace.{start, Call}
 use Rattle.coap_exchange.specs.AnswererSteps.{lower, IsRight, after}
 use Rattle.coap_exchange.specs.AnswererLaw.{own_of, lower_of, below_of, fresh_state, ResponseLaw, State, Step, Led}
 use Rattle.coap_exchange.proofs.Facts.StepsOfLayer.{steps_join}
@@ -14,12 +15,7 @@ pub led_start : (word : ℕ) → Led word [] (fresh_state word)
 led_start word = record { rows = tt; own_is = refl; layer = refl }
 
 pub led_call : (word : ℕ) (t : List Call) (c : Call) (old new : State) → Led word t old → Step old c new → Led word (c ∷ t) new
-led_call word t c old new led step =
-    record {
-      rows = (subst (λ s. IsRight s c) led.own_is step.right, led.rows);
-      own_is = step.own_is ∙ ap (λ s. after s c) led.own_is;
-      layer = steps_join (L.start word) old.layer new.layer (lower (own_of t) c) (lower_of t) led.layer (subst (λ s. Steps old.layer (lower s c) new.layer) led.own_is step.under);
-    }
+led_call word t c old new led step = above_call IsRight after lower Steps start (L.start word) steps_join t c old new led step
 
 pub led_law : (word : ℕ) (t : List Call) (s : State) → Led word t s → ResponseLaw word t
 led_law word t s led = record { rows = led.rows; left = s.layer; layer = led.layer }
