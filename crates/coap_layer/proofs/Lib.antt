@@ -3,19 +3,19 @@ pub mod IdSteps
 pub mod ListLemmas
 pub mod DedupLemmas
 pub mod UpOnce
+pub mod RememberedFew
+pub mod IdsSmall
+pub mod ResponsesSpelled
 pub mod ReplyLemmas
 pub mod TickLemmas
 pub mod NumberLemmas
-pub mod ReadingLemmas
 pub mod RowLemmas
 pub mod Forgetting
 pub mod CopyLemmas
-pub mod StepsLemmas
 pub mod EndsLemmas
 pub mod Witness
 pub mod SendingLemmas
 pub mod OutstandingLemmas
-pub mod SpellingLemmas
 pub mod ArrivingLemmas
 pub mod EntryLemmas
 pub mod TakingLemmas
@@ -24,7 +24,6 @@ pub mod CallLemmas
 pub mod PlaceLemmas
 pub mod StoredLemmas
 pub mod SendLemmas
-pub mod SendableLemmas
 pub mod NumberedLemmas
 pub mod FiveLemmas
 pub mod OutLemmas
@@ -38,3 +37,4 @@ pub mod OpenLemmas
 pub mod DueLemmas
 pub mod SendWitness
 pub mod ChannelWitness
+pub mod Facts
