@@ -1,7 +1,7 @@
 -- What a client makes of what the message layer hands up, and of time (RFC 7252, sections 4.2, 5.2 and 5.3.2).
 use Rattle.std.specs.Prelude.{ℕ, ◌-◌, nat_le, Bool, true, false, Option, Some, None, List, [], ◌∷◌, ◌++◌, ◌&&◌, ◌==◌, if◌then◌else◌}
 use Rattle.std.specs.Option.{option_map}
-use Rattle.coap_types.specs.Unrecognised.{lacks_critical, carries}
+use Rattle.coap_types.specs.Recognised.{lacks_critical, carries}
 use Rattle.coap_types.specs.declared.direction.Direction.TheVariants.{Response}
 use Rattle.coap_types.specs.declared.endpoint.Endpoint.{Endpoint}
 use Rattle.coap_types.specs.SameEndpoint.{same_endpoint}

@@ -11,12 +11,14 @@ pub mod AskerFollows
 pub mod AskerDue
 pub mod AskerTells
 pub mod AskerResponses
+pub mod AskerEmpties
 pub mod AskerExact
 pub mod AnswererTrace
 pub mod AnswererSteps
 pub mod AnswererLaw
 pub mod AnswererFollows
 pub mod AnswererSends
+pub mod AnswererEmpties
 pub mod AnswererTells
 pub mod Above
 pub mod AnswererDeferrals

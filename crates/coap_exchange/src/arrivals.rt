@@ -1,6 +1,6 @@
 ghost use Rattle.std.specs.Prelude.{◌≡◌, ℕ, Bool, true, ◌++◌, is_some, if◌then◌else◌};
 ghost use Rattle.std.specs.Option.{option_map};
-ghost use Rattle.coap_types.specs.Unrecognised as options;
+ghost use Rattle.coap_types.specs.Recognised as options;
 ghost use Rattle.coap_types.specs.declared.direction.Direction.TheVariants as direction;
 ghost use Rattle.coap_layer.specs.Shown.{MayReply};
 ghost use Rattle.coap_layer.specs.Steps.{Steps};

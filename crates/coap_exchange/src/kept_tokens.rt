@@ -12,7 +12,7 @@ const _: () = prove!(MAX_KEPT == 16);
 
 /// The tokens of a client's observations (RFC 7641, section 3.2), at most `MAX_KEPT`.
 #[derive(Drop)]
-pub(crate) struct KeptTokens {
+pub struct KeptTokens {
     tokens: ArrayVec<Token, MAX_KEPT>,
 }
 

@@ -3,7 +3,7 @@ ghost use Rattle.std.specs.Option.{option_map};
 ghost use Rattle.std.specs.Vec.{vec_len, vec_capacity};
 ghost use Rattle.coap_types.specs.declared.message.Kind.TheVariants.{Con, Ack};
 ghost use Rattle.coap_codec.specs.Message.{Message};
-ghost use Rattle.coap_codec.specs.Writing.{message_bytes};
+ghost use Rattle.coap_codec.specs.Spelling.{message_bytes};
 ghost use Rattle.coap_layer.specs.Sendable.{IsSendable};
 ghost use Rattle.coap_layer.specs.Shown.{MayReply};
 ghost use Rattle.coap_layer.specs.State as layer_state;
@@ -26,7 +26,8 @@ use crate::empty::reset;
 use crate::listed::Listed;
 use crate::separate::{Separate, found, take_off};
 use coap_codec::{Head, View, encode, one_spelling};
-use coap_layer::{Content, Layer, MAX_MESSAGE_LEN, Up};
+use coap_layer::{Content, Layer, Up};
+use coap_types::limits::MAX_MESSAGE_LEN;
 use coap_types::{Endpoint, Kind, Token};
 use std::alloc::Allocator;
 

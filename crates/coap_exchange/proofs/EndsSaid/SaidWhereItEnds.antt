@@ -11,7 +11,7 @@ use Rattle.coap_types.specs.declared.message.Kind.TheVariants.{Con, Non, Ack, Rs
 use Rattle.coap_types.specs.declared.role.Role.{Role}
 use Rattle.coap_types.specs.declared.role.Role.TheVariants as role
 use Rattle.coap_types.specs.SameEndpoint.{same_endpoint}
-use Rattle.coap_types.proofs.EndpointLemmas.{same_endpoint_is, same_endpoint_self}
+use Rattle.coap_types.proofs.Facts.Endpoints.{same_endpoint_is, same_endpoint_self}
 use Rattle.coap_codec.specs.Message.{Message}
 use Rattle.std.proofs.lemmas.Bool.{eqb-true}
 use Rattle.coap_layer.specs.Arrivals.{Arrival, Unreadable, Faulted, Whole, arrival_at}

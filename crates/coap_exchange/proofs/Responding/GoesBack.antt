@@ -4,7 +4,7 @@ use Rattle.coap_types.specs.Past.{Ever}
 use Rattle.coap_types.specs.declared.endpoint.Endpoint.{Endpoint}
 use Rattle.coap_types.specs.declared.message.Kind.{Kind}
 use Rattle.coap_types.specs.declared.message.Kind.TheVariants.{Con, Non, Ack, Rst}
-use Rattle.coap_codec.specs.Writing.{message_bytes}
+use Rattle.coap_codec.specs.Spelling.{message_bytes}
 use Rattle.coap_layer.specs.Rows.{Busy, Row, Stands, LayerLaw, Plains, Confirms, IsSpelled}
 use Rattle.coap_layer.specs.State as L
 use Rattle.coap_layer.specs.State.{made}

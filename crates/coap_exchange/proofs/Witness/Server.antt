@@ -1,7 +1,8 @@
 -- The history of a server stands in its law.
 use Rattle.std.proofs.Common.{◌<◌, ℕ, zero, suc, List, [], ◌∷◌, refl, arith}
-use Rattle.coap_codec.specs.Message.{AreBytes}
-use Rattle.coap_codec.specs.Reading.{extended, value_at, nibbles_at, option_at, walk_of, walk, payload_at, frame_fault, body_at, message_at}
+use Rattle.coap_types.specs.Bytes.{AreBytes}
+use Rattle.coap_codec.specs.Reading.{extended, value_at, nibbles_at, option_at, walk_of, walk, payload_at, frame_fault, body_at}
+use Rattle.coap_codec.specs.Decoded.{decoded}
 use Rattle.coap_layer.specs.Rows.{IsSpelled}
 use Rattle.coap_layer.specs.State as L
 use Rattle.coap_layer.specs.Steps.{Asked as Below, Steps, left_after}
@@ -32,7 +33,7 @@ notification_spelled : IsSpelled (content_with token notification)
 notification_spelled = (sendable_when_short _ (record { some = omega arith; code = omega arith; id = omega arith; token = omega arith; order = refl; numbers = refl; short = refl }) (omega arith)).spelled
 
 runs : Steps (L.start 0) below (left_after (L.start 0) below)
-unfolding message_at frame_fault body_at walk walk_of option_at nibbles_at value_at extended payload_at
+unfolding decoded frame_fault body_at walk walk_of option_at nibbles_at value_at extended payload_at
 runs = (
   _,
   (
