@@ -2,13 +2,13 @@ ghost use Rattle.std.specs.Prelude.{◌≡◌, ◌≤◌, ◌<◌, length, ◌++
 ghost use Rattle.std.specs.Vec.{vec_len, vec_capacity};
 ghost use Rattle.coap_types.specs.Bytes.{AreBytes};
 ghost use Rattle.coap_layer.specs.Arrivals.{arrival_at};
-ghost use Rattle.coap_layer.specs.Arriving.{IsArriving, shown_by, told_by, of_head, sent_by, newly_by, awaits_by, open_by, ends as ends_lem, hands as hands_lem, keeps as keeps_lem};
-ghost use Rattle.coap_layer.specs.Entries.{arrivals_in};
-ghost use Rattle.coap_layer.specs.Parts.{awaited, open_before};
+ghost use Rattle.coap_layer.specs.Machine.Arriving.{IsArriving, shown_by, told_by, of_head, sent_by, newly_by, awaits_by, open_by, ends as ends_lem, hands as hands_lem, keeps as keeps_lem};
+ghost use Rattle.coap_layer.specs.Machine.Entries.{arrivals_in};
+ghost use Rattle.coap_layer.specs.Machine.Parts.{awaited, open_before};
 ghost use Rattle.coap_layer.specs.Rows.{reset_to};
-ghost use Rattle.coap_layer.specs.Sendings.{open_now};
-ghost use Rattle.coap_layer.specs.State.{State, answer_to, is_free};
-ghost use Rattle.coap_layer.specs.Ups.{disposition_of};
+ghost use Rattle.coap_layer.specs.Machine.Sendings.{open_now};
+ghost use Rattle.coap_layer.specs.Machine.State.{State, answer_to, is_free};
+ghost use Rattle.coap_layer.specs.Machine.Ups.{disposition_of};
 
 use crate::Up;
 use crate::arrival::{Known, Verdict, classify};

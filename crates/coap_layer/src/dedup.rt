@@ -2,8 +2,8 @@ ghost use Rattle.std.specs.Prelude.{◌≡◌, ◌<◌, ◌≤◌, ◌+◌, ◌+
 ghost use Rattle.std.specs.List.{list_any};
 ghost use Rattle.std.specs.Option.{option_map};
 ghost use Rattle.std.specs.Vec.{vec_len, vec_capacity};
-ghost use Rattle.coap_layer.specs.State.{is_live, is_of, reply_of};
-ghost use Rattle.coap_layer.specs.Entries.{arrived_as, arrivals_in, storing};
+ghost use Rattle.coap_layer.specs.Machine.State.{is_live, is_of, reply_of};
+ghost use Rattle.coap_layer.specs.Machine.Entries.{arrived_as, arrivals_in, storing};
 ghost use Rattle.coap_layer.specs.declared.dedup.TheConstants.{MAX_REMEMBERED as max_remembered};
 
 use coap_types::transmission::EXCHANGE_LIFETIME_MS;

@@ -1,8 +1,8 @@
 ghost use Rattle.std.specs.Prelude.{not, Some, ◌≡◌, ◌+◌, ◌*◌, ◌/◌, ◌%◌, IsTrue, false, List, [], ◌∷◌, ℕ, None, replicate, slice_set};
 ghost use Rattle.coap_layer.specs.Ids.{Issued, IdEntry, Ids, IdsAreExact, NumbersLaw, AreApart, IsHeld, IsRested, MayGive, Withholds, numbers, upcoming as upcoming_number};
-ghost use Rattle.coap_layer.specs.State.{is_free, is_rested};
-ghost use Rattle.coap_layer.specs.IdStep.{Asks, Draws};
-ghost use Rattle.coap_layer.specs.IdState.{AreUses, Led, next_entry, free_entry};
+ghost use Rattle.coap_layer.specs.Machine.State.{is_free, is_rested};
+ghost use Rattle.coap_layer.specs.Machine.IdStep.{Asks, Draws};
+ghost use Rattle.coap_layer.specs.Machine.IdState.{AreUses, Led, next_entry, free_entry};
 
 use coap_types::transmission::ID_REUSE_AFTER_MS;
 use coap_types::{Id, Moment};
@@ -24,7 +24,7 @@ pub struct IdSource {
 
 impl Model for IdSource {
     ghost use Rattle.std.specs.Prelude.{◌≡◌, length, ◌<◌};
-    ghost use Rattle.coap_layer.specs.IdState.{IdState};
+    ghost use Rattle.coap_layer.specs.Machine.IdState.{IdState};
 
     ghost Value = { IdState };
 

@@ -1,8 +1,8 @@
 ghost use Rattle.std.specs.Prelude.{◌≡◌, ◌≤◌, ◌<◌, ◌+◌, ◌++◌, [], ◌∷◌, map, filter, is_some, option_to_list, IfOk, IsOk};
 ghost use Rattle.std.specs.Vec.{vec_len, vec_capacity};
-ghost use Rattle.coap_layer.specs.Parts.{noted, open_before, settled, put_back as put_back_lem};
-ghost use Rattle.coap_layer.specs.Sendings.{open_now};
-ghost use Rattle.coap_layer.specs.State.{copies};
+ghost use Rattle.coap_layer.specs.Machine.Parts.{noted, open_before, settled, put_back as put_back_lem};
+ghost use Rattle.coap_layer.specs.Machine.Sendings.{open_now};
+ghost use Rattle.coap_layer.specs.Machine.State.{copies};
 
 use crate::datagram::Datagram;
 use crate::retransmission::{Sending, has_failed, is_copy_due};

@@ -6,10 +6,10 @@ ghost use Rattle.coap_types.specs.declared.transmission.TheConstants.{MAX_RETRAN
 ghost use Rattle.coap_layer.specs.BackOff.{factors};
 ghost use Rattle.coap_layer.specs.Trace.{Idle, Packet, Ticks};
 ghost use Rattle.coap_layer.specs.Words.{left_by};
-ghost use Rattle.coap_layer.specs.State.{is_copy_due, tick_of};
-ghost use Rattle.coap_layer.specs.Parts.{open_before};
-ghost use Rattle.coap_layer.specs.Sendings.{answer_for, ended, marked, open_now};
-ghost use Rattle.coap_layer.specs.Ups.{IsTick};
+ghost use Rattle.coap_layer.specs.Machine.State.{is_copy_due, tick_of};
+ghost use Rattle.coap_layer.specs.Machine.Parts.{open_before};
+ghost use Rattle.coap_layer.specs.Machine.Sendings.{answer_for, ended, marked, open_now};
+ghost use Rattle.coap_layer.specs.Machine.Ups.{IsTick};
 
 use crate::Tick;
 use coap_types::transmission::{FAILURE_TIMEOUTS, LAST_RETRANSMISSION_MS, MAX_RETRANSMIT};
