@@ -1,7 +1,7 @@
 -- The Empty messages that answer an arrival: an acknowledgement and a Reset, with its Message ID (RFC 7252, section 4.2).
 use Rattle.std.specs.Prelude.{ℕ, ◌/◌, ◌%◌, Option, Some, None, List, [], ◌∷◌, ◌++◌, option_to_list}
 use Rattle.coap_types.specs.declared.endpoint.Endpoint.{Endpoint}
-use Rattle.coap_layer.specs.Steps.{Asked}
+use Rattle.coap_layer.specs.Machine.Steps.{Asked}
 use Rattle.coap_layer.specs.Trace as L
 
 abbrev pub ack_bytes : ℕ → List ℕ

@@ -24,5 +24,6 @@ pub mod Above
 pub mod AnswererDeferrals
 pub mod AnswererExact
 pub mod ShortAnswers
+pub mod ShortRequests
 pub mod ClientExample
 pub mod ServerExample

@@ -9,7 +9,7 @@ ghost use Rattle.coap_exchange.specs.AskerDue.{EndWhenDue};
 ghost use Rattle.coap_exchange.specs.AskerTells.{AreRefused, AreRejected};
 ghost use Rattle.coap_exchange.specs.AskerResponses.{AreMatched, AreToldAs};
 ghost use Rattle.coap_exchange.specs.AskerEmpties as empties;
-ghost use Rattle.coap_exchange.specs.Machine.AskerShown.{IsAskableWhenShort};
+ghost use Rattle.coap_exchange.specs.ShortRequests.{IsAskableWhenShort, IsAskableWhenShortExactly};
 ghost use Rattle.coap_exchange.specs.ShortAnswers.{IsAnswerWhenShort, IsNotificationWhenShort};
 ghost use Rattle.coap_exchange.specs.ClientExample as client_example;
 ghost use Rattle.coap_exchange.specs.ServerExample as server_example;
@@ -102,7 +102,8 @@ pub fn answerer_law()
 /// A request may be asked that isn't Empty, whose options ascend and are short, and that is short
 /// enough (RFC 7252, section 4.6).
 pub fn askable_law()
-    ensures { IsAskableWhenShort }
+    ensures counted { IsAskableWhenShort }
+    ensures exact { IsAskableWhenShortExactly }
 {}
 
 /// A response may be given whose code is of class 2 to 5, whose options ascend and are short, and

@@ -4,13 +4,13 @@ use Rattle.std.proofs.lemmas.Bool.Decides.{nat_tests}
 use Rattle.std.specs.List.{filter_map, cons_option}
 use Rattle.std.proofs.lemmas.List.{append-nil, length-append}
 use Rattle.coap_types.specs.declared.endpoint.Endpoint.{Endpoint}
-use Rattle.coap_layer.specs.State as L
-use Rattle.coap_layer.specs.State.{is_busy, is_free, is_rested, moment, next_after, out_of, uses_after}
+use Rattle.coap_layer.specs.Machine.State as L
+use Rattle.coap_layer.specs.Machine.State.{is_busy, is_free, is_rested, moment, next_after, out_of, uses_after}
 use Rattle.coap_layer.specs.Trace as T
 use Rattle.coap_layer.specs.Trace.{Entry}
-use Rattle.coap_layer.specs.Steps.{Steps}
+use Rattle.coap_layer.specs.Machine.Steps.{Steps}
 use Rattle.coap_layer.specs.Words.{Open, left_by, begun_in, ends_in, copies_in, issued_by}
-use Rattle.coap_layer.specs.Ups.{IsTick}
+use Rattle.coap_layer.specs.Machine.Ups.{IsTick}
 use Rattle.coap_layer.specs.declared.up.Tick.{Tick}
 use Rattle.coap_layer.specs.declared.up.Tick.TheVariants as tick
 use Rattle.coap_types.specs.SameEndpoint.{same_endpoint}

@@ -3,12 +3,12 @@ use Rattle.std.proofs.Common.{◌≡◌, ◌≢◌, cond, ◌⊎◌, inl, inr, �
 use Rattle.std.specs.Option.{option_map}
 use Rattle.coap_types.specs.declared.endpoint.Endpoint.{Endpoint}
 use Rattle.coap_types.specs.declared.message.Id.{Id}
-use Rattle.coap_layer.specs.State as L
-use Rattle.coap_layer.specs.Shown as shown
-use Rattle.coap_layer.specs.State.{answer_of, is_busy, is_free, next_after, out_of, uses_after}
-use Rattle.coap_layer.specs.Steps.{Steps}
+use Rattle.coap_layer.specs.Machine.State as L
+use Rattle.coap_layer.specs.Machine.Shown as shown
+use Rattle.coap_layer.specs.Machine.State.{answer_of, is_busy, is_free, next_after, out_of, uses_after}
+use Rattle.coap_layer.specs.Machine.Steps.{Steps}
 use Rattle.coap_layer.specs.Trace as T
-use Rattle.coap_layer.specs.Ups.{IsTick}
+use Rattle.coap_layer.specs.Machine.Ups.{IsTick}
 use Rattle.coap_layer.specs.Words.{issued_by}
 use Rattle.coap_layer.specs.declared.up.Tick.{Tick}
 use Rattle.coap_layer.specs.declared.up.Tick.TheVariants as tick

@@ -61,8 +61,8 @@ defers now a false true e = absurd (cc e)
 rightly : (t : List Call) (c : Call) → IsRight (own_of t) c → RepliesRightly t c
 rightly t (Incoming now from bytes up answer) right = rejects from bytes now up
 rightly t (Answers a r below) right = tt
-rightly t (Defers now a delay true) right = defers now a (may_defer (own_of t).deferred) true right.2.1
-rightly t (Defers now a delay false) right = defers now a (may_defer (own_of t).deferred) false right.2.1
+rightly t (Defers now a delay true) right = defers now a (may_defer (own_of t).deferred) true right.2
+rightly t (Defers now a delay false) right = defers now a (may_defer (own_of t).deferred) false right.2
 rightly t (Ticks now below room answer) right = none_asked now below (ready_if below (ready_at (own_of t) now)) room
 rightly t (Responds now a r word id) right = refl
 rightly t (Ready now to answer) right = refl

@@ -7,7 +7,7 @@ use Rattle.coap_types.specs.declared.message.Kind.TheVariants.{Con, Non, Ack, Rs
 use Rattle.coap_types.specs.Recognised.{carries, lacks_critical}
 use Rattle.coap_types.specs.SameEndpoint.{same_endpoint}
 use Rattle.coap_codec.specs.Message.{Message}
-use Rattle.coap_layer.specs.Steps.{Asked}
+use Rattle.coap_layer.specs.Machine.Steps.{Asked}
 use Rattle.coap_layer.specs.Trace as T
 use Rattle.coap_exchange.specs.declared.asker.Event.{Event}
 use Rattle.coap_exchange.specs.declared.asker.Exchange.{Exchange}
@@ -126,9 +126,9 @@ module _ (s : Own) (from : Endpoint) (m : Message) where
 
   by_kind : (kind : Kind) → m.kind ≡ kind → kind ≢ Con → Tells kind k m → reply_by (judged kind k) m.id ≡ None
   by_kind Con is other h = absurd (other refl)
-  by_kind Non is other h = told_non m.id _ _ _ _ _ _ m h
-  by_kind Ack is other h = ack_none m.id _ _ _ _ _ _
-  by_kind Rst is other h = rst_none m.id _ _ _ _ _ _
+  by_kind Non is other h = told_non m.id k.from_server k.of_exchange k.same_id k.kept k.bad_option k.cancelled m h
+  by_kind Ack is other h = ack_none m.id k.from_server k.of_exchange k.same_id k.kept k.bad_option k.cancelled
+  by_kind Rst is other h = rst_none m.id k.from_server k.of_exchange k.same_id k.kept k.bad_option k.cancelled
 
   tells_as : (kind : Kind) (answer : Option Event) → m.kind ≡ kind → answer ≡ told (verdict_on s from (T.Becomes (T.Response m))) (T.Becomes (T.Response m)) → message_told answer ≡ Some m → Tells kind k m
   tells_as kind answer is right h = subst (λ x. Tells x k m) is (sym (ap message_told right) ∙ h)
@@ -136,7 +136,7 @@ module _ (s : Own) (from : Endpoint) (m : Message) where
   response_replied : (answer : Option Event) → answer ≡ told (verdict_on s from (T.Becomes (T.Response m))) (T.Becomes (T.Response m)) → RepliesTo s from m answer replied
   response_replied answer right =
       record {
-        told_con = λ h kind. as_kind Con (Some (ack_bytes m.id)) kind (told_con m.id _ _ _ _ _ _ m (tells_as Con answer kind right h));
+        told_con = λ h kind. as_kind Con (Some (ack_bytes m.id)) kind (told_con m.id k.from_server k.of_exchange k.same_id k.kept k.bad_option k.cancelled m (tells_as Con answer kind right h));
         told_other = λ h other. as_kind m.kind None refl (by_kind m.kind refl other (tells_as m.kind answer refl right h));
         strange = λ kind h. elim kind [
           | inl con ↦ as_kind Con (Some (reset_bytes m.id)) con (strange_con m.id k.from_server k.of_exchange k.same_id k.kept k.bad_option k.cancelled h)

@@ -57,6 +57,9 @@ module _ (server : Endpoint) (word : ℕ) (t : List Call) where
   s = own_of server word t
 
   module _ (from : Endpoint) (m : Message) (sound : IsSound server word from m) where
+    abbrev k : Known
+    k = known_of s from m
+
     there : same_endpoint from s.server ≡ true
     there = subst (λ e. same_endpoint from e ≡ true) (sym (server_is server word t)) sound.there
 
@@ -64,7 +67,7 @@ module _ (server : Endpoint) (word : ℕ) (t : List Call) where
         → ((m.kind ≡ Ack) × (m.id ≡ x.id.0)) ⊎ (((m.kind ≡ Con) ⊎ (m.kind ≡ Non)) × ((x.cancel ≡ false) ⊎ (carries direction.Response observe m.options ≡ false)))
         → TellsFor m.kind (known_of s from m) m (event.Answer m)
     answer_is x runs token how =
-        let of : has_token s.running m.token ≡ true = ap (λ r. has_token r m.token) runs ∙ (ap (λ k. same_token k x.token) token ∙ same_token_self x.token) in
+        let of : has_token s.running m.token ≡ true = ap (λ r. has_token r m.token) runs ∙ (ap (λ y. same_token y x.token) token ∙ same_token_self x.token) in
         by of how
       where
         cancelled : (x.cancel ≡ false) ⊎ (carries direction.Response observe m.options ≡ false) → (has_token s.running m.token && (is_cancel s.running && carries direction.Response observe m.options)) ≡ false
@@ -74,15 +77,15 @@ module _ (server : Endpoint) (word : ℕ) (t : List Call) where
             → TellsFor m.kind (known_of s from m) m (event.Answer m)
         by of (inl a) =
             let id : has_id s.running m.id ≡ true = ap (λ r. has_id r m.id) runs ∙ (unsigned_Decides m.id x.id.0).1 a.1 in
-            subst (λ kind. TellsFor kind (known_of s from m) m (event.Answer m)) (sym a.0) (answers_ack _ _ _ _ _ _ m there of id sound.understood)
-        by of (inr (inl e, how)) = subst (λ kind. TellsFor kind (known_of s from m) m (event.Answer m)) (sym e) (answers_con _ _ _ _ _ _ m there of sound.understood (cancelled how))
-        by of (inr (inr e, how)) = subst (λ kind. TellsFor kind (known_of s from m) m (event.Answer m)) (sym e) (answers_non _ _ _ _ _ _ m there of sound.understood (cancelled how))
+            subst (λ kind. TellsFor kind (known_of s from m) m (event.Answer m)) (sym a.0) (answers_ack k.from_server k.of_exchange k.same_id k.kept k.bad_option k.cancelled m there of id sound.understood)
+        by of (inr (inl e, how)) = subst (λ kind. TellsFor kind (known_of s from m) m (event.Answer m)) (sym e) (answers_con k.from_server k.of_exchange k.same_id k.kept k.bad_option k.cancelled m there of sound.understood (cancelled how))
+        by of (inr (inr e, how)) = subst (λ kind. TellsFor kind (known_of s from m) m (event.Answer m)) (sym e) (answers_non k.from_server k.of_exchange k.same_id k.kept k.bad_option k.cancelled m there of sound.understood (cancelled how))
 
     notice_is : has_token s.running m.token ≡ false → is_kept m.token s.kept ≡ true → (m.kind ≡ Con) ⊎ (m.kind ≡ Non) → TellsFor m.kind (known_of s from m) m (event.Notice m)
     notice_is other kept (inl e) =
-        subst (λ kind. TellsFor kind (known_of s from m) m (event.Notice m)) (sym e) (notices_con _ _ _ _ _ _ m there other kept sound.understood (ap (λ b. b && (is_cancel s.running && carries direction.Response observe m.options)) other))
+        subst (λ kind. TellsFor kind (known_of s from m) m (event.Notice m)) (sym e) (notices_con k.from_server k.of_exchange k.same_id k.kept k.bad_option k.cancelled m there other kept sound.understood (ap (λ b. b && (is_cancel s.running && carries direction.Response observe m.options)) other))
     notice_is other kept (inr e) =
-        subst (λ kind. TellsFor kind (known_of s from m) m (event.Notice m)) (sym e) (notices_non _ _ _ _ _ _ m there other kept sound.understood (ap (λ b. b && (is_cancel s.running && carries direction.Response observe m.options)) other))
+        subst (λ kind. TellsFor kind (known_of s from m) m (event.Notice m)) (sym e) (notices_non k.from_server k.of_exchange k.same_id k.kept k.bad_option k.cancelled m there other kept sound.understood (ap (λ b. b && (is_cancel s.running && carries direction.Response observe m.options)) other))
 
   tells : (c : Call) → IsRight s c → TellsKind server word t c
   tells c right =
