@@ -1,5 +1,5 @@
 -- What is recognised is one list, and its Uri-Path options make a path.
-use Rattle.std.proofs.Common.{◌≡◌, ◌≢◌, ◌⊎◌, inl, inr, ◌≤◌, ◌+◌, ◌==◌, ◌∙◌, ℕ, Option, Some, None, nat_lt, arith, Bool, true, false, ◌&&◌, List, [], ◌∷◌, length, map, refl, sym, ap, if◌then◌else◌}
+use Rattle.std.proofs.Common.{◌≡◌, ◌≢◌, ◌⊎◌, inl, inr, ◌≤◌, ◌+◌, ◌==◌, ◌∙◌, ℕ, Some, None, nat_lt, arith, Bool, true, false, ◌&&◌, List, [], ◌∷◌, length, map, refl, sym, ap, if◌then◌else◌}
 use Rattle.std.specs.Prelude.{nat_le}
 use Rattle.std.specs.List.{filter}
 use Rattle.std.proofs.lemmas.Bool.{and_parts, leb-true}

@@ -11,7 +11,10 @@ fn positional<'a>(alloc: Global, name: &'a str, help: &'a str) -> Arg<'a>
     ensures rule { rule_of result ≡ required_word name.entry.now }
     ensures own { result.global ≡ false }
 {
-    Arg::new(alloc, name).help(help).required(true).action(ArgAction::Set)
+    Arg::new(alloc, name)
+        .help(help)
+        .required(true)
+        .action(ArgAction::Set)
 }
 
 fn show_command<'a>(alloc: Global) -> Result<Command<'a>, AllocError>
@@ -29,7 +32,11 @@ fn answer_command<'a>(alloc: Global) -> Result<Command<'a>, AllocError>
 {
     Command::new(alloc, "answer")
         .about("Prints what a server that holds BODY at PATH replies to a datagram")
-        .arg(positional(alloc, "PATH", "segments joined by /, as sensors/temperature"))?
+        .arg(positional(
+            alloc,
+            "PATH",
+            "segments joined by /, as sensors/temperature",
+        ))?
         .arg(positional(alloc, "BODY", "what the server holds there, as text"))?
         .arg(positional(alloc, "HEX", "the bytes of a datagram, as 40010001"))
 }

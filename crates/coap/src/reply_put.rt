@@ -13,8 +13,8 @@ ghost use Rattle.coap.specs.Sayable.{AreSayable};
 use crate::reply_options::ReplyOptions;
 use coap_codec::{Head, View, bounded_spelling, encode};
 use coap_resource::Response;
-use coap_types::option_number::{BLOCK2, CONTENT_FORMAT, ETAG};
 use coap_types::limits::MAX_MESSAGE_LEN;
+use coap_types::option_number::{BLOCK2, CONTENT_FORMAT, ETAG};
 use coap_types::{
     Block, Code, Id, Kind, MAX_NUM, MAX_SZX, MAX_UINT_LEN, Opt, Szx, Tag, Token, UintBytes,
     uint_bytes,
@@ -23,6 +23,7 @@ use std::alloc::Allocator;
 
 /// The first Message ID that the server gives (RFC 7252, section 4.4).
 const FIRST_ID: Id = Id(0);
+
 const _: () = prove!(FIRST_ID.0 == 0);
 
 /// Writes a Reset with this Message ID, and answers its length (RFC 7252, section 4.2).

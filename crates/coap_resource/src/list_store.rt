@@ -72,7 +72,11 @@ impl<A: Allocator + Copy> ListStore<A> {
 }
 
 // One body of two slices, the one behind the other.
-fn appended<A: Allocator + Copy>(alloc: A, front: &[u8], back: &[u8]) -> Result<Bytes<A>, AllocError>
+fn appended<A: Allocator + Copy>(
+    alloc: A,
+    front: &[u8],
+    back: &[u8],
+) -> Result<Bytes<A>, AllocError>
     ensures { IfOk result (λ body. body ≡ front.now ++ back.now) }
 {
     let mut body = Vec::from_slice(alloc, front)?;

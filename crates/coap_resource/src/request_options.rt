@@ -169,7 +169,11 @@ pub(crate) fn wanted_block(options: &[Opt<'_>], szx: Szx) -> Wanted
         Some(block) => Wanted {
             by_block: true,
             offset: block.num * block.szx.size() as u32,
-            szx: if block.szx.get() < szx.get() { block.szx } else { szx },
+            szx: if block.szx.get() < szx.get() {
+                block.szx
+            } else {
+                szx
+            },
         },
     }
 }

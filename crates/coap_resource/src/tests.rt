@@ -1,5 +1,6 @@
 use crate::{
-    Asking, ListStore, MAX_PATHS, Response, Store, StoreRefusal, rate_law, serve, served_law, value_of,
+    Asking, ListStore, MAX_PATHS, Response, Store, StoreRefusal, rate_law, serve, served_law,
+    value_of,
 };
 use StoreRefusal::{RateExceeded, TooLarge, TooManyPaths};
 use coap_types::{Code, Direction, Method, Moment, Opt, Path, Szx, recognised};
