@@ -1,5 +1,5 @@
 -- The segments of a request's recognised options are short, so only their number refuses them as a path.
-use Rattle.std.proofs.Common.{◌≡◌, ℕ, ◌+◌, ◌<◌, ◌≤◌, ◌==◌, ◌&&◌, ◌∙◌, nat_le, nat_lt, Bool, true, false, Option, Some, None, List, [], ◌∷◌, length, map, refl, ap, sym, zero-add, arith, cond, if◌then◌else◌}
+use Rattle.std.proofs.Common.{◌≡◌, ℕ, ◌+◌, ◌≤◌, ◌==◌, ◌&&◌, ◌∙◌, nat_le, nat_lt, Bool, true, false, Some, None, List, [], ◌∷◌, length, map, refl, ap, sym, zero-add, arith, cond, if◌then◌else◌}
 use Rattle.std.specs.List.{filter}
 use Rattle.std.proofs.lemmas.Bool.{and_parts, eqb-true, leb-true}
 use Rattle.std.proofs.lemmas.Bool.Decides.{nat_tests}

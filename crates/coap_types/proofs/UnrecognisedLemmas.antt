@@ -2,7 +2,6 @@
 use Rattle.std.specs.Prelude.{option_copied}
 use Rattle.std.proofs.Common.{Bor, ◌≡◌, ℕ, ◌%◌, ◌==◌, Bool, true, false, not, ◌&&◌, ◌||◌, ◌++◌, ◌∙◌, List, [], ◌∷◌, Option, Some, None, is_some, refl, ap, sym, if◌then◌else◌}
 use Rattle.std.specs.List.{list_any}
-use Rattle.std.proofs.lemmas.List.Folds.{list_any-append}
 use Rattle.coap_types.specs.declared.direction.Direction.{Direction}
 use Rattle.coap_types.specs.CoapOption.{CoapOption}
 use Rattle.coap_types.specs.OptionValues.{value_of}

@@ -12,11 +12,11 @@ pub const MAX_NUM: u32 = (1 << 20) - 1;
 
 const _: () = prove!(MAX_BLOCK_LEN == 3 && MAX_NUM == 1_048_575);
 
-/// How many values the field SZX has, in the lowest bits (RFC 7959, section 2.2).
+// How many values the field SZX has, in the lowest bits (RFC 7959, section 2.2).
 const SZX_VALUES: u32 = 8;
-/// The bit M (RFC 7959, section 2.2).
+// The bit M (RFC 7959, section 2.2).
 const MORE_BIT: u32 = 8;
-/// What NUM is counted in, above M and SZX (RFC 7959, section 2.2).
+// What NUM is counted in, above M and SZX (RFC 7959, section 2.2).
 const NUM_UNIT: u32 = 16;
 
 /// The value of a Block1 or Block2 option (RFC 7959, section 2.2).

@@ -1,5 +1,6 @@
 //! The values that every layer of CoAP (RFC 7252) speaks of: endpoints and moments, what a message
-//! is made of, the options that are recognised, blocks, paths and requests, and the parameters and limits.
+//! is made of, the options that are recognised, blocks, paths and requests, the transmission
+//! parameters and the limits.
 //! Nothing here reads or writes a message. What can be refused memory says so by its answer: only
 //! `Path::push`, `Path::of_options`, the `clone` of a `Path` and `recognised`.
 #![tactic(auto)]

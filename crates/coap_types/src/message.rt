@@ -31,7 +31,7 @@ impl fmt::Display for Kind {
     }
 }
 
-/// How many details a class of codes has: 5 bits of them (RFC 7252, section 3).
+// How many details a class of codes has: 5 bits of them (RFC 7252, section 3).
 const DETAILS: u8 = 32;
 
 /// What a message asks or answers, as one byte: the class in the upper 3 bits, the detail in the

@@ -11,7 +11,7 @@ use crate::options::Opt;
 use crate::recognition::rule;
 use std::alloc::{AllocError, Allocator};
 
-/// One more than the greatest number of an option that is recognised (RFC 7252, section 12.2).
+// One more than the greatest number of an option that is recognised (RFC 7252, section 12.2).
 const NUMBERS: usize = SIZE1 as usize + 1;
 
 const _: () = prove!(NUMBERS == 61);
