@@ -2,7 +2,7 @@
 //!
 //! [`IdSource`] gives Message IDs, of which equal ones are more than 400,000 ms apart. What a layer
 //! answers and sends at each of its calls is a law over the list of all its calls so far
-//! (`specs/Rows.antt`), with what a layer keeps of them beside it (`specs/State.antt`);
+//! (`specs/Rows.antt`), with what a layer keeps of them beside it (`specs/Machine/State.antt`);
 //! [`layer_law`] says that the two fit, and what follows from the law. Nothing here reads a clock,
 //! a socket or a random source.
 #![tactic(auto)]
