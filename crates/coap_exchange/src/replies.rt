@@ -113,11 +113,7 @@ fn rejection(up: &Up<'_>) -> Option<[u8; 4]>
 }
 
 /// Rejects a response that arrived, and answers whether it did (RFC 7252, sections 4.2 and 4.3).
-pub(crate) fn reject<A: Allocator + Copy>(
-    layer: &mut Layer<A>,
-    from: Endpoint,
-    up: &Up<'_>,
-) -> bool
+pub(crate) fn reject<A: Allocator + Copy>(layer: &mut Layer<A>, from: Endpoint, up: &Up<'_>) -> bool
     requires { (m : Message) → handed_by (answer_as up.now) ≡ Some m → MayReply layer.old from m.id }
     ensures steps { Steps layer.old.state (replying from (id_in (answer_as up.now)) (reject_by (answer_as up.now))) layer.new.state }
     ensures before { layer.new.before ≡ layer.old.before }

@@ -73,6 +73,7 @@ module _ (server : Endpoint) (word : ℕ) (t : List Call) where
         cancelled : (x.cancel ≡ false) ⊎ (carries direction.Response observe m.options ≡ false) → (has_token s.running m.token && (is_cancel s.running && carries direction.Response observe m.options)) ≡ false
         cancelled (inl e) = no_cancel (has_token s.running m.token) (is_cancel s.running) (carries direction.Response observe m.options) (inl (ap is_cancel runs ∙ e))
         cancelled (inr e) = no_cancel (has_token s.running m.token) (is_cancel s.running) (carries direction.Response observe m.options) (inr e)
+
         by : has_token s.running m.token ≡ true → ((m.kind ≡ Ack) × (m.id ≡ x.id.0)) ⊎ (((m.kind ≡ Con) ⊎ (m.kind ≡ Non)) × ((x.cancel ≡ false) ⊎ (carries direction.Response observe m.options ≡ false)))
             → TellsFor m.kind (known_of s from m) m (event.Answer m)
         by of (inl a) =
