@@ -64,8 +64,8 @@ fn play_row<R: Abort>(
     let block = Block::read(value).expect(rt, "no SZX 7");
     let step = fetch.accept(Some(block), tag_of(version), part(bytes, from, to))?;
     check(rt, &step, bytes, says);
-    if let Step::Next(next) = step {
-        assert_eq!(rt; fetch.asked(), Some(next));
+    if let Step::Next(next) = &step {
+        assert_eq!(rt; fetch.asked(), Some(*next));
     }
     Ok(())
 }
