@@ -17,3 +17,5 @@ pub mod ServerRests
 pub mod ServerShows
 pub mod ServerTags
 pub mod ServerWaits
+pub mod ServerCounts
+pub mod Sources

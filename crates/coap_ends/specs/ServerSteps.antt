@@ -99,9 +99,9 @@ abbrev pub question_of : ℕ → Asked → List Waiting → Option Question
 question_of at a [] = None
 question_of at a (w ∷ ws) = if is_of at a w then Some w.question else question_of at a ws
 
-abbrev pub without : ℕ → Asked → List Waiting → List Waiting
-without at a [] = []
-without at a (w ∷ ws) = if is_of at a w then ws else w ∷ without at a ws
+abbrev pub without_waiting : ℕ → Asked → List Waiting → List Waiting
+without_waiting at a [] = []
+without_waiting at a (w ∷ ws) = if is_of at a w then ws else w ∷ without_waiting at a ws
 
 abbrev pub AnswersWaiting : Option Question → Content → ℕ → Handling → Type 0
 AnswersWaiting None old at h = h ≡ Silent
@@ -157,7 +157,7 @@ waiting_with at (Some p) (Waits q delay) ws = ws ++ record { asked = p.0; at = a
 waiting_with at came h ws = ws
 
 abbrev pub waiting_after : ℕ → Due → List Waiting → List Waiting
-waiting_after at (due.Ready a) ws = without at a ws
+waiting_after at (due.Ready a) ws = without_waiting at a ws
 waiting_after at d ws = ws
 
 abbrev pub after : Own → Call → Own

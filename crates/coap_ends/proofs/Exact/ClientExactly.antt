@@ -10,8 +10,8 @@ use Rattle.coap_exchange.specs.AskerTrace as A
 use Rattle.coap_exchange.specs.AskerSteps as P
 use Rattle.coap_exchange.specs.AskerLaw as E
 use Rattle.coap_exchange.specs.AskerLaw.{ExchangeLaw}
-use Rattle.coap_exchange.proofs.AskerExactly.{exact}
-use Rattle.coap_exchange.proofs.AskerLeading.{steps_split}
+use Rattle.coap_exchange.proofs.Facts.ClientSide.{exact}
+use Rattle.coap_exchange.proofs.Facts.StepsOfLayer.{steps_split}
 use Rattle.coap_ends.specs.ClientTrace.{Operation, Own, Call, Feeds, Ticks}
 use Rattle.coap_ends.specs.ClientRequests.{message_of}
 use Rattle.coap_ends.specs.ClientSteps.{asking, starting, started, refused, after}

@@ -17,9 +17,9 @@ use Rattle.coap_exchange.specs.AnswererTrace as E
 use Rattle.coap_exchange.specs.AnswererSteps as P
 use Rattle.coap_exchange.specs.AnswererLaw as W
 use Rattle.coap_exchange.specs.AnswererLaw.{ResponseLaw}
-use Rattle.coap_exchange.proofs.AnswererExactly.{exact}
-use Rattle.coap_exchange.proofs.AskerExactly.{one_left, one_answer}
-use Rattle.coap_exchange.proofs.AskerLeading.{steps_split}
+use Rattle.coap_exchange.proofs.Facts.ServerSide.{exact}
+use Rattle.coap_exchange.proofs.Facts.StepsOfLayer.{one_left, one_answer}
+use Rattle.coap_exchange.proofs.Facts.StepsOfLayer.{steps_split}
 use Rattle.coap_ends.specs.ServerTrace.{Own, Handling, Silent, Refuses, Serves, Waits, Call, Feeds, Ticks}
 use Rattle.coap_ends.specs.ServerSteps.{answering, responding}
 use Rattle.coap_ends.specs.ServerLaw.{own_of, lower_of, ServerLaw}
@@ -40,13 +40,7 @@ ready_room below o false a h = absurd (none below h)
     none (L.Copied to id) e = absurd (cc e)
     none (L.Expired to id) e = absurd (cc e)
     none L.Idle e = if_none o e
-    none (L.Request m k) e = absurd (cc e)
-    none (L.Response m) e = absurd (cc e)
-    none (L.Acked id) e = absurd (cc e)
-    none (L.Reset id) e = absurd (cc e)
-    none L.Dropped e = absurd (cc e)
-    none L.Replayed e = absurd (cc e)
-    none L.Rejected e = absurd (cc e)
+    none (L.Becomes u) e = absurd (cc e)
     none L.Nothing e = absurd (cc e)
     none (L.Is holds) e = absurd (cc e)
     none (L.Sent id) e = absurd (cc e)

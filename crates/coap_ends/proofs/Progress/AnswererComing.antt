@@ -18,7 +18,7 @@ use Rattle.coap_exchange.specs.AnswererLaw.{ResponseLaw}
 use Rattle.coap_exchange.specs.AskerRequests.{asked}
 use Rattle.coap_exchange.specs.AskerArrivals.{id_in, replying}
 use Rattle.coap_exchange.specs.EmptyMessages.{reset_bytes}
-use Rattle.coap_exchange.proofs.ArrivalFacts.{spelled}
+use Rattle.coap_exchange.proofs.Facts.HandedUp.{spelled}
 use Rattle.coap_ends.proofs.Progress.ClientGoing.{left_by, answer_by, one_step}
 use Rattle.coap_ends.proofs.Progress.AnswererGoing.{Takes}
 use Rattle.coap_ends.proofs.Progress.RequestsKept.{Kept, kept_to}
@@ -57,12 +57,12 @@ module _ (word : ℕ) (calls : List E.Call) (law : ResponseLaw word calls) where
       takes_it = λ p h. absurd (cc h);
     }
 
-    rejects : (m : Message) → L.Response m ≡ answer_by left at arrives → Receives (L.Response m) None
+    rejects : (m : Message) → L.Becomes (L.Response m) ≡ answer_by left at arrives → Receives (L.Becomes (L.Response m)) None
     unfolding left_by
     rejects m right = by (is_kept m.kind) refl
       where
-        by : (b : Bool) → is_kept m.kind ≡ b → Receives (L.Response m) None
-        by false not_kept = passes (L.Response m) right (ap (λ b. cond b (Some (reset_bytes m.id)) None) not_kept) refl
+        by : (b : Bool) → is_kept m.kind ≡ b → Receives (L.Becomes (L.Response m)) None
+        by false not_kept = passes (L.Becomes (L.Response m)) right (ap (λ b. cond b (Some (reset_bytes m.id)) None) not_kept) refl
         by true kept =
             let reply : L.Call = L.Reply from m.id (reset_bytes m.id) in
             let awaits : first.awaits ≡ Some (record { from = from; id = m.id }) =
@@ -71,22 +71,22 @@ module _ (word : ℕ) (calls : List E.Call) (law : ResponseLaw word calls) where
               law_of = record {
                 rows = (refl, law.rows);
                 left = left_by first 0 reply;
-                layer = subst (λ o. Steps (S.start word) ((replying from m.id o ++ asked at arrives (L.Response m) ∷ []) ++ W.lower_of calls) (left_by first 0 reply))
-                    (sym (ap (λ b. cond b (Some (reset_bytes m.id)) None) kept)) (first, (left, law.layer, received (L.Response m) right), one_step first 0 reply awaits);
+                layer = subst (λ o. Steps (S.start word) ((replying from m.id o ++ asked at arrives (L.Becomes (L.Response m)) ∷ []) ++ W.lower_of calls) (left_by first 0 reply))
+                    (sym (ap (λ b. cond b (Some (reset_bytes m.id)) None) kept)) (first, (left, law.layer, received (L.Becomes (L.Response m)) right), one_step first 0 reply awaits);
               };
               takes_it = λ p h. absurd (cc h);
             }
 
-    hands_up : (m : Message) → L.Request m true ≡ answer_by left at arrives → Receives (L.Request m true) (Some (P.asked_of from m, m))
+    hands_up : (m : Message) → L.Becomes (L.Request m true) ≡ answer_by left at arrives → Receives (L.Becomes (L.Request m true)) (Some (P.asked_of from m, m))
     unfolding left_by
     hands_up m right =
-        let step = received (L.Request m true) right in
+        let step = received (L.Becomes (L.Request m true)) right in
         record {
           law_of = record { rows = (refl, law.rows); left = first; layer = (left, law.layer, step) };
           takes_it = λ p h. (let same : ◌≡◌ {A = Asked × Message} (P.asked_of from m, m) p = cc h in subst (λ (q : Asked × Message). Takes first (max own.clock at) q.0) same (record {
             awaits = ap (λ u. awaited_of (from_there from (handed_by u))) (sym right);
             kind = by (subst (Kept (is_free (max left.clock at) left.upcoming left.last_used)) (sym right) (kept_to left (max left.clock at) from (arrival_at bytes)));
-            short = (spelled left first at from bytes (L.Request m true) m step refl).token;
+            short = (spelled left first at from bytes (L.Becomes (L.Request m true)) m step refl).token;
           }));
         }
       where
@@ -108,14 +108,14 @@ module _ (word : ℕ) (calls : List E.Call) (law : ResponseLaw word calls) where
     receives = by (answer_by left at arrives) refl
       where
         by : (u : L.Answer) → u ≡ answer_by left at arrives → (up : L.Answer) × (came : Option (Asked × Message)) × Receives up came
-        by (L.Request m true) is = (L.Request m true, Some (P.asked_of from m, m), hands_up m is)
-        by (L.Request m false) is = (L.Request m false, None, passes (L.Request m false) is refl refl)
-        by (L.Response m) is = (L.Response m, None, rejects m is)
-        by L.Dropped is = (L.Dropped, None, passes L.Dropped is refl refl)
-        by L.Replayed is = (L.Replayed, None, passes L.Replayed is refl refl)
-        by L.Rejected is = (L.Rejected, None, passes L.Rejected is refl refl)
-        by (L.Acked id) is = (L.Acked id, None, passes (L.Acked id) is refl refl)
-        by (L.Reset id) is = (L.Reset id, None, passes (L.Reset id) is refl refl)
+        by (L.Becomes (L.Request m true)) is = (L.Becomes (L.Request m true), Some (P.asked_of from m, m), hands_up m is)
+        by (L.Becomes (L.Request m false)) is = (L.Becomes (L.Request m false), None, passes (L.Becomes (L.Request m false)) is refl refl)
+        by (L.Becomes (L.Response m)) is = (L.Becomes (L.Response m), None, rejects m is)
+        by (L.Becomes L.Dropped) is = (L.Becomes L.Dropped, None, passes (L.Becomes L.Dropped) is refl refl)
+        by (L.Becomes L.Replayed) is = (L.Becomes L.Replayed, None, passes (L.Becomes L.Replayed) is refl refl)
+        by (L.Becomes L.Rejected) is = (L.Becomes L.Rejected, None, passes (L.Becomes L.Rejected) is refl refl)
+        by (L.Becomes (L.Acked id)) is = (L.Becomes (L.Acked id), None, passes (L.Becomes (L.Acked id)) is refl refl)
+        by (L.Becomes (L.Reset id)) is = (L.Becomes (L.Reset id), None, passes (L.Becomes (L.Reset id)) is refl refl)
         by L.Nothing is = (L.Nothing, None, passes L.Nothing is refl refl)
         by (L.Is holds) is = (L.Is holds, None, passes (L.Is holds) is refl refl)
         by (L.Sent id) is = (L.Sent id, None, passes (L.Sent id) is refl refl)

@@ -23,7 +23,7 @@ use Rattle.coap_exchange.specs.AnswererTrace as E
 use Rattle.coap_exchange.specs.AnswererSteps as P
 use Rattle.coap_exchange.specs.AnswererLaw as W
 use Rattle.coap_exchange.specs.AnswererLaw.{ResponseLaw}
-use Rattle.coap_exchange.proofs.AnswererCame.{came_in}
+use Rattle.coap_exchange.proofs.Facts.ServerSide.{came_in}
 use Rattle.coap_ends.specs.ClientRequests.{block1, block2}
 use Rattle.coap_ends.specs.ServerTrace.{Own, Handling, Silent, Refuses, Serves, Waits, Call, Sets, Removes, Feeds, Ticks}
 use Rattle.coap_ends.specs.ServerChecks.{Verdict, Ignored, Refused, Asks, bad_by, bad_request, proxying_not_supported, proxy_uri, proxy_scheme, max_segments, asks, path_of, is_reserved, method_by, asked_by, question, verdict_on}

@@ -23,7 +23,7 @@ use Rattle.coap_exchange.specs.AskerRequests.{asked}
 use Rattle.coap_exchange.specs.AskerArrivals.{id_in, replying}
 use Rattle.coap_ends.specs.Follows.ServerGives.{Carries, IsEmpty}
 use Rattle.coap_ends.proofs.Replying.ClientReplies.{empty_of, ack_spells, reset_spells}
-use Rattle.coap_ends.proofs.Replying.Sources.{GivesMessage, Source}
+use Rattle.coap_ends.specs.Follows.Sources.{GivesMessage, Source}
 
 -- from the entries of the layer to what was asked of it
 pub called : (K : L.Call → Type 0) (old : S.State) (calls : List G.Asked) → Ever (λ (e : L.Entry). K e.call) (entries old calls) → Ever (λ (b : G.Asked). K b.call) calls
@@ -94,18 +94,13 @@ module _ (p : L.Packet) where
   in_bare_ack to n h = let k = replied to n (ack_bytes n) h in (empty_of Ack n, subst (λ b. Spells b (empty_of Ack n)) (sym k.1) (ack_spells n k.2), refl)
 
   rejected : (from : Endpoint) (up : L.Answer) → From (replying from (id_in up) (P.reject_by up)) → IsEmpty p
-  rejected from (L.Response m) h = by (is_kept m.kind) h
+  rejected from (L.Becomes (L.Response m)) h = by (is_kept m.kind) h
     where
       by : (k : Bool) → From (replying from m.id (cond k (Some (reset_bytes m.id)) None)) → IsEmpty p
       by true (inl g) = in_reset from m.id g
       by true (inr g) = absurd g
       by false g = absurd g
-  rejected from (L.Request m kept) h = absurd h
-  rejected from (L.Acked id) h = absurd h
-  rejected from (L.Reset id) h = absurd h
-  rejected from L.Dropped h = absurd h
-  rejected from L.Replayed h = absurd h
-  rejected from L.Rejected h = absurd h
+  rejected from (L.Becomes u) h = absurd h
   rejected from L.Nothing h = absurd h
   rejected from (L.Is holds) h = absurd h
   rejected from (L.Sent id) h = absurd h

@@ -18,7 +18,7 @@ use Rattle.coap_exchange.specs.declared.answerer.Due.{Due}
 use Rattle.coap_exchange.specs.declared.answerer.Due.TheVariants as due
 use Rattle.coap_exchange.specs.AnswererTrace as E
 use Rattle.coap_exchange.specs.AnswererLaw as W
-use Rattle.coap_exchange.proofs.AnswererLeading.{layer_stands}
+use Rattle.coap_exchange.proofs.Facts.ServerSide.{layer_stands}
 use Rattle.coap_ends.specs.ServerTrace.{Own, Handling, Silent, Refuses, Serves, Waits, Call, Sets, Removes, Delays, Feeds, Ticks, NextOut}
 use Rattle.coap_ends.specs.ServerChecks.{Verdict, Ignored, Refused, Asks, verdict_on}
 use Rattle.coap_ends.specs.ServerSteps.{lower, bare, IsServed, AsksBy, Handles, AnswersWaiting, waits_by, delay_of, question_of}
@@ -27,7 +27,8 @@ use Rattle.coap_ends.specs.Follows.ServerGives.{Carries, CarriesResponse, SentRe
 use Rattle.coap_ends.proofs.Serving.ServedWasHandedUp.{are_handed}
 use Rattle.coap_ends.proofs.Replying.LayerSendsResponses.{called, CarriesIn, made}
 use Rattle.coap_ends.proofs.Replying.ServerRepliesSo.{steps_back, law_back}
-use Rattle.coap_ends.proofs.Replying.Sources.{Source, sourced}
+use Rattle.coap_ends.specs.Follows.Sources.{Source}
+use Rattle.coap_ends.proofs.Replying.Sources.{sourced}
 
 -- the law of a past
 pub server_back : (limit szx word : ℕ) (c : Call) (t : List Call) → ServerLaw limit szx word (c ∷ t) → ServerLaw limit szx word t

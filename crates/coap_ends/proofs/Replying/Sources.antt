@@ -2,6 +2,7 @@
 -- (RFC 7252, sections 4.2 and 4.3).
 use Rattle.std.proofs.Common.{◌≡◌, ◌⊎◌, inl, inr, ℕ, ◌<◌, ◌==◌, Bool, true, false, ◌&&◌, Option, Some, None, List, [], ◌∷◌, refl, ap, sym, subst, ◌∙◌, cond, arith}
 use Rattle.coap_types.specs.Past.{Ever}
+use Rattle.coap_ends.specs.Follows.Sources.{GivesMessage, Source}
 use Rattle.coap_types.proofs.PastLemmas.{Ever_by_law, Ever_of_Since}
 use Rattle.coap_types.specs.declared.endpoint.Endpoint.{Endpoint}
 use Rattle.coap_types.specs.declared.message.Kind.{Kind}
@@ -23,27 +24,9 @@ use Rattle.coap_layer.specs.Sends.{IsIn, packet_of, PlainOut, ResetOut, GoesOut}
 use Rattle.coap_layer.proofs.HandedLemmas.{handed_spelled}
 use Rattle.coap_layer.proofs.NumberedLemmas.{begins_of}
 use Rattle.coap_layer.proofs.OutLemmas.{cons_spelled, each_goes_out}
-use Rattle.coap_exchange.proofs.LayerFacts.{both}
+use Rattle.std.proofs.lemmas.Bool.{and_parts}
 use Rattle.coap_ends.specs.Follows.ServerGives.{IsEmpty}
 use Rattle.coap_ends.proofs.Replying.ClientReplies.{empty_of, reset_spells}
-
--- a reply, as it is given
-pub record GivesReply (p : Packet) (call : Call) : Type 0 where
-  pub id : ℕ
-  pub call_is : call ≡ Reply p.to id p.bytes
-  pub small : id < 65536
-
--- a NON or a CON with this content
-pub record GivesMessage (p : Packet) (call : Call) : Type 0 where
-  pub kind : Kind
-  pub content : Content
-  pub id : ℕ
-  pub call_is : (call ≡ Plain p.to content) ⊎ ((word : ℕ) × (call ≡ Confirm p.to content word))
-  pub bytes : p.bytes ≡ message_bytes (with_head kind id content)
-  pub spells : Spells p.bytes (with_head kind id content)
-
-abbrev pub Source : Packet → Call → Type 0
-Source p call = GivesReply p call ⊎ GivesMessage p call
 
 only_out : (p q : Packet) (out : List Packet) → out ≡ q ∷ [] → IsIn p out → q ≡ p
 only_out p q out is h = elim (subst (IsIn p) is h) [ inl k ↦ k | inr k ↦ absurd k ]
@@ -119,7 +102,7 @@ module _ (word : ℕ) where
         placed : (to : Endpoint) (n : ℕ) (bytes : List ℕ) → e.call ≡ Reply to n bytes → (b : Bool) → (same_endpoint to p.to && (n == id)) ≡ b → cond b (Some bytes) None ≡ Some p.bytes → GivesReply p e.call
         placed to n bytes is false k g = absurd (cc g)
         placed to n bytes is true k g =
-            let place : to ≡ p.to = same_endpoint_is to p.to (both (same_endpoint to p.to) (n == id) k).0 in
+            let place : to ≡ p.to = same_endpoint_is to p.to (and_parts (same_endpoint to p.to) (n == id) k).0 in
             let given : bytes ≡ p.bytes = cc g in
             let row = subst (Row word past e) is law.0.row in
             record { id = n; call_is = is ∙ (ap (λ x. Reply x n bytes) place ∙ ap (λ x. Reply p.to n x) given); small = awaited_small past law.1 (record { from = to; id = n }) row.0 }

@@ -50,13 +50,7 @@ turn_taken : (s : A.Own) (at : ℕ) (below : L.Answer) → IsTaken (R.turn_of s 
 turn_taken s at (L.Copied to id) = refl
 turn_taken s at (L.Expired to id) = expired_taken to id s.running (R.is_of_request s to id) _
 turn_taken s at L.Idle = waited_taken at s.running _
-turn_taken s at (L.Request m k) = tt
-turn_taken s at (L.Response m) = tt
-turn_taken s at (L.Acked id) = tt
-turn_taken s at (L.Reset id) = tt
-turn_taken s at L.Dropped = tt
-turn_taken s at L.Replayed = tt
-turn_taken s at L.Rejected = tt
+turn_taken s at (L.Becomes u) = tt
 turn_taken s at L.Nothing = tt
 turn_taken s at (L.Is holds) = tt
 turn_taken s at (L.Sent id) = tt

@@ -23,7 +23,7 @@ use Rattle.coap_exchange.specs.AskerRequests as Q
 use Rattle.coap_exchange.specs.AskerArrivals as R
 use Rattle.coap_exchange.specs.AskerSteps as P
 use Rattle.coap_exchange.specs.AskerLaw as W
-use Rattle.coap_exchange.proofs.AskerCame.{server_is}
+use Rattle.coap_exchange.proofs.Facts.ClientSide.{server_is}
 use Rattle.coap_ends.specs.ClientTrace.{Operation, Call, Calls, Feeds, Ticks, NextOut, NextReport}
 use Rattle.coap_ends.specs.ClientRequests.{message_of}
 use Rattle.coap_ends.specs.ClientSteps.{lower, starting, asking}
@@ -52,13 +52,7 @@ open_parts con at to content word (Some id) h = by _ _ _ (let e : ◌≡◌ {A =
 
 sent_id : (a : L.Answer) (id : ℕ) → sent_by a ≡ Some id → a ≡ L.Sent id
 sent_id (L.Sent n) id h = ap (λ k. L.Sent k) (let e : n ≡ id = cc h in e)
-sent_id L.Dropped id h = absurd (cc h)
-sent_id L.Replayed id h = absurd (cc h)
-sent_id L.Rejected id h = absurd (cc h)
-sent_id (L.Request m k) id h = absurd (cc h)
-sent_id (L.Response m) id h = absurd (cc h)
-sent_id (L.Acked n) id h = absurd (cc h)
-sent_id (L.Reset n) id h = absurd (cc h)
+sent_id (L.Becomes u) id h = absurd (cc h)
 sent_id L.Nothing id h = absurd (cc h)
 sent_id (L.Is b) id h = absurd (cc h)
 sent_id L.Busied id h = absurd (cc h)

@@ -1,8 +1,8 @@
 use Rattle.coap_layer.proofs.CopyLemmas.{copies_in_time}
-use Rattle.coap_exchange.proofs.AskerLeading.{layer_stands}
-use Rattle.coap_exchange.proofs.AskerApart.{known}
-use Rattle.coap_exchange.proofs.AskerCame.{came_from}
-use Rattle.coap_exchange.proofs.AskerTokens.{counted}
+use Rattle.coap_exchange.proofs.Facts.ClientSide.{layer_stands}
+use Rattle.coap_exchange.proofs.Facts.ClientSide.{are_exchanges}
+use Rattle.coap_exchange.proofs.Facts.ClientSide.{came_from}
+use Rattle.coap_exchange.proofs.Facts.ClientSide.{are_tokens}
 use Rattle.coap_ends.proofs.Exact.ClientExactly.{is_exact}
 use Rattle.coap_ends.proofs.Progress.ClientGoing.{goes_on}
 use Rattle.coap_ends.proofs.Rest.ClientResting.{comes_to_rest}
@@ -41,7 +41,7 @@ returns-clause-begins c server szx word t law con h =
 
 pub returns-clause-one_con : goal.returns-clause-one_con
 returns-clause-one_con c server szx word t law =
-    one_con server word t law.exchanges (once_of word (lower_of t) (counted server word (lower_of t) law.exchanges.rows).0) (layer_stands server word (lower_of t) law.exchanges)
+    one_con server word t law.exchanges (once_of word (lower_of t) (are_tokens server word (lower_of t) law.exchanges.rows).0) (layer_stands server word (lower_of t) law.exchanges)
 
 pub returns-clause-nons : goal.returns-clause-nons
 returns-clause-nons c server szx word t law = no_nons server word (lower_of t)
@@ -50,14 +50,14 @@ pub returns-clause-replies : goal.returns-clause-replies
 returns-clause-replies c server szx word t law = replies_so server word (lower_of t) law.exchanges.rows law.exchanges.left law.exchanges.layer
 
 pub returns-clause-sent : goal.returns-clause-sent
-returns-clause-sent c server szx word t law = are_sent t (once_of word (lower_of t) (counted server word (lower_of t) law.exchanges.rows).0)
+returns-clause-sent c server szx word t law = are_sent t (once_of word (lower_of t) (are_tokens server word (lower_of t) law.exchanges.rows).0)
 
 pub returns-clause-sending : goal.returns-clause-sending
-returns-clause-sending c server szx word t law = one_sending szx t law.rows (are_sent t (once_of word (lower_of t) (counted server word (lower_of t) law.exchanges.rows).0))
+returns-clause-sending c server szx word t law = one_sending szx t law.rows (are_sent t (once_of word (lower_of t) (are_tokens server word (lower_of t) law.exchanges.rows).0))
 
 pub returns-clause-answers : goal.returns-clause-answers
 returns-clause-answers c server szx word t law =
-    are_answers t (are_sent t (once_of word (lower_of t) (counted server word (lower_of t) law.exchanges.rows).0)) (known server word (lower_of t) law.exchanges.rows).0
+    are_answers t (are_sent t (once_of word (lower_of t) (are_tokens server word (lower_of t) law.exchanges.rows).0)) (are_exchanges server word (lower_of t) law.exchanges.rows).0
 
 pub returns-clause-from_server : goal.returns-clause-from_server
 returns-clause-from_server c server szx word t law = are_from_server server t (came_from server word (lower_of t) law.exchanges.rows law.exchanges.left law.exchanges.layer)

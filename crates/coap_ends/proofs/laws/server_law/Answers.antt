@@ -1,6 +1,6 @@
 use Rattle.coap_layer.proofs.CopyLemmas.{handed_up_once}
-use Rattle.coap_exchange.proofs.AnswererLeading.{layer_stands}
-use Rattle.coap_exchange.proofs.AnswererOnce.{counted}
+use Rattle.coap_exchange.proofs.Facts.ServerSide.{layer_stands}
+use Rattle.coap_exchange.proofs.Facts.ServerSide.{are_responses}
 use Rattle.coap_ends.proofs.Exact.ServerExactly.{is_exact}
 use Rattle.coap_ends.proofs.Serving.ServerWaiting.{waits_as_deferred, ready_are_served}
 use Rattle.coap_ends.specs.ServerLaw.{lower_of, layer_of}
@@ -38,7 +38,7 @@ pub returns-clause-handed : goal.returns-clause-handed
 returns-clause-handed c limit szx word t law = handed_up limit szx word t law.rows law.exchanges.rows law.exchanges.left law.exchanges.layer
 
 pub returns-clause-served : goal.returns-clause-served
-returns-clause-served c limit szx word t law = served_once limit szx t (counted (lower_of limit szx t) law.exchanges.rows).0
+returns-clause-served c limit szx word t law = served_once limit szx t (are_responses (lower_of limit szx t) law.exchanges.rows).0
 
 pub returns-clause-right : goal.returns-clause-right
 returns-clause-right c limit szx word t law = all_served limit szx t law.rows
