@@ -36,7 +36,7 @@ asked_of from m = record { from = from; kind = m.kind; id = record { 0 = m.id };
 
 -- a request is handed up, but for a NON for which no Message ID is free: the layer doesn't remember that
 abbrev pub handed_up : Endpoint → L.Answer → Option (Asked × Message)
-handed_up from (L.Request m true) = Some (asked_of from m, m)
+handed_up from (L.Becomes (L.Request m true)) = Some (asked_of from m, m)
 handed_up from _ = None
 
 abbrev pub asked_in : Option (Asked × Message) → Option Asked
@@ -45,7 +45,7 @@ asked_in (Some pair) = Some pair.0
 
 -- a response at a server is rejected: a CON and a NON with a Reset (a NON: profile), an ACK by silence
 abbrev pub reject_by : L.Answer → Option (List ℕ)
-reject_by (L.Response m) = if is_kept m.kind then Some (reset_bytes m.id) else None
+reject_by (L.Becomes (L.Response m)) = if is_kept m.kind then Some (reset_bytes m.id) else None
 reject_by _ = None
 
 -- the separate responses and notifications that are outstanding
@@ -65,8 +65,8 @@ without to id xs = filter (λ x. not (goes_to to id x)) xs
 
 -- what an acknowledgement and a Reset leave, and a failure
 abbrev pub separate_after : Endpoint → L.Answer → List Separate → List Separate
-separate_after from (L.Acked id) xs = without from id xs
-separate_after from (L.Reset id) xs = without from id xs
+separate_after from (L.Becomes (L.Acked id)) xs = without from id xs
+separate_after from (L.Becomes (L.Reset id)) xs = without from id xs
 separate_after from _ xs = xs
 
 abbrev pub separate_unless : L.Answer → List Separate → List Separate
@@ -75,7 +75,7 @@ separate_unless _ xs = xs
 
 -- the one that a Reset ends, and that a failure ends (section 5.2.2; RFC 7641, sections 3.6 and 4.5)
 abbrev pub reset_by : Endpoint → L.Answer → List Separate → Option Ended
-reset_by from (L.Reset id) xs = option_map ended_as (found from id xs)
+reset_by from (L.Becomes (L.Reset id)) xs = option_map ended_as (found from id xs)
 reset_by from _ xs = None
 
 abbrev pub failed_by : L.Answer → List Separate → Option Ended

@@ -15,7 +15,7 @@ pub record Sending : Type 0 where
   pub id : ℕ
 
 abbrev pub reset_from : Endpoint → L.Answer → Option Sending
-reset_from from (L.Reset id) = Some (record { to = from; id = id })
+reset_from from (L.Becomes (L.Reset id)) = Some (record { to = from; id = id })
 reset_from from _ = None
 
 abbrev pub failed_in : L.Answer → Option Sending

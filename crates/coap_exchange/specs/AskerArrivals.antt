@@ -54,15 +54,15 @@ abbrev pub is_of_request : Own → Endpoint → ℕ → Bool
 is_of_request s from id = same_endpoint from s.server && has_id s.running id
 
 abbrev pub verdict_on : Own → Endpoint → L.Answer → Verdict
-verdict_on s from (L.Response m) = judged m.kind (known_of s from m)
-verdict_on s from (L.Request m remembered) = request_judged m.kind
-verdict_on s from (L.Acked id) = if is_of_request s from id then Await else Ignore
-verdict_on s from (L.Reset id) = if is_of_request s from id then EndByReset else Ignore
+verdict_on s from (L.Becomes (L.Response m)) = judged m.kind (known_of s from m)
+verdict_on s from (L.Becomes (L.Request m remembered)) = request_judged m.kind
+verdict_on s from (L.Becomes (L.Acked id)) = if is_of_request s from id then Await else Ignore
+verdict_on s from (L.Becomes (L.Reset id)) = if is_of_request s from id then EndByReset else Ignore
 verdict_on s from _ = Ignore
 
 abbrev pub id_in : L.Answer → ℕ
-id_in (L.Request m remembered) = m.id
-id_in (L.Response m) = m.id
+id_in (L.Becomes (L.Request m remembered)) = m.id
+id_in (L.Becomes (L.Response m)) = m.id
 id_in _ = 0
 
 -- the Empty message that answers the arrival
@@ -93,10 +93,10 @@ abbrev pub acts : Own → Endpoint → L.Answer → Bool → Verdict → List As
 acts s from up settled v = settling (settles v) s.server s.running settled ++ replying from (id_in up) (reply_by v (id_in up))
 
 abbrev pub told : Verdict → L.Answer → Option Event
-told AnswerCon (L.Response m) = Some (event.Answer m)
-told Answer (L.Response m) = Some (event.Answer m)
-told NoticeCon (L.Response m) = Some (event.Notice m)
-told Notice (L.Response m) = Some (event.Notice m)
+told AnswerCon (L.Becomes (L.Response m)) = Some (event.Answer m)
+told Answer (L.Becomes (L.Response m)) = Some (event.Answer m)
+told NoticeCon (L.Becomes (L.Response m)) = Some (event.Notice m)
+told Notice (L.Becomes (L.Response m)) = Some (event.Notice m)
 told EndByReset up = Some event.Reset
 told _ up = None
 

@@ -17,7 +17,7 @@ module _ (server : Endpoint) (word : ℕ) where
   abbrev pub last_acked : List Call → Option ℕ
   last_acked [] = None
   last_acked (Ask now r w below (Ok token) ∷ past) = None
-  last_acked (Receive now from bytes (L.Acked id) settled answer ∷ past) = if is_of_request (own_of server word past) from id then Some (moment server word past now) else last_acked past
+  last_acked (Receive now from bytes (L.Becomes (L.Acked id)) settled answer ∷ past) = if is_of_request (own_of server word past) from id then Some (moment server word past now) else last_acked past
   last_acked (c ∷ past) = last_acked past
 
   -- At the first tick 31 initial timeouts after its request was sent, the exchange that runs ends, where no Empty

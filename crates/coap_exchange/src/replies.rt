@@ -1,5 +1,6 @@
 ghost use Rattle.std.specs.Prelude.{◌≡◌, ◌≤◌, ℕ, Some, None, length, take, true};
 ghost use Rattle.std.specs.Option.{option_map};
+ghost use Rattle.std.specs.Vec.{vec_len, vec_capacity};
 ghost use Rattle.coap_types.specs.declared.message.Kind.TheVariants.{Con, Ack};
 ghost use Rattle.coap_codec.specs.Message.{Message};
 ghost use Rattle.coap_codec.specs.Writing.{message_bytes};
@@ -130,8 +131,8 @@ pub(crate) fn reset_by(from: Endpoint, up: &Up<'_>, separate: &[Listed<Separate>
     }
 }
 
-/// Takes the separate response off the list that an acknowledgement or a Reset ends.
-pub(crate) fn after_arrival(from: Endpoint, up: &Up<'_>, separate: &mut [Listed<Separate>])
+// Takes the separate response off the list that an acknowledgement or a Reset ends.
+fn off_where_ended(from: Endpoint, up: &Up<'_>, separate: &mut [Listed<Separate>])
     ensures now { listed separate.new ≡ separate_after from (answer_as up.now) (listed separate.old) }
     ensures before { listed_before separate.new ≡ listed_before separate.old }
     ensures len { length separate.new ≡ length separate.old }
@@ -140,6 +141,20 @@ pub(crate) fn after_arrival(from: Endpoint, up: &Up<'_>, separate: &mut [Listed<
         Up::Acked(id) | Up::Reset(id) => take_off(separate, from, *id),
         _ => {}
     }
+}
+
+/// The same of a vector.
+pub(crate) fn after_arrival<A: Allocator + Copy>(
+    from: Endpoint,
+    up: &Up<'_>,
+    separate: &mut Vec<Listed<Separate>, A>,
+)
+    ensures now { listed separate.new.items ≡ separate_after from (answer_as up.now) (listed separate.old.items) }
+    ensures before { listed_before separate.new.items ≡ listed_before separate.old.items }
+    ensures len { vec_len separate.new ≡ vec_len separate.old }
+    ensures capacity { vec_capacity separate.new ≡ vec_capacity separate.old }
+{
+    off_where_ended(from, up, separate);
 }
 
 // The head of a piggybacked response.

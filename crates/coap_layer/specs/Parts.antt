@@ -1,5 +1,5 @@
 -- What the parts of a layer stand for.
-use Rattle.std.specs.Prelude.{ℕ, Option, Some, None, List, take}
+use Rattle.std.specs.Prelude.{ℕ, Option, Some, None, List, take, map, filter, is_some}
 use Rattle.std.specs.List.{filter_map}
 use Rattle.coap_layer.specs.declared.dedup.Remembered.{Remembered}
 use Rattle.coap_layer.specs.declared.lists.Lists.{Lists}
@@ -24,6 +24,10 @@ open_before cs = filter_map (λ c. open_at c c.before) cs
 -- what the last input finds is noted, and put back
 abbrev pub settled : {Z : Type 0} → Sending Z → Sending Z
 settled c = record c { before = c.last }
+
+-- what an input leaves of the list: what has ended goes, and the rest is noted
+abbrev pub noted : {Z : Type 0} → List (Sending Z) → List (Sending Z)
+noted cs = map settled (filter (λ c. is_some c.last) cs)
 
 abbrev pub put_back : {Z : Type 0} → Sending Z → Sending Z
 put_back c = record c { last = c.before }

@@ -5,7 +5,7 @@ ghost use Rattle.coap_layer.specs.LayerLed.{LayerLed};
 ghost use Rattle.coap_layer.specs.Sendable.{IsSendable};
 ghost use Rattle.coap_layer.specs.Shown.{MayReply};
 ghost use Rattle.coap_layer.specs.State.{Step, answer_of, copies, made, start};
-ghost use Rattle.coap_layer.specs.Trace.{Answer, Entry, Receive, Reply, Confirm, Plain, Settle, Ticks, Take, Room as AsksRoom, AsksFree, Pass, Nothing, Is, Gives};
+ghost use Rattle.coap_layer.specs.Trace.{Answer, Entry, Receive, Reply, Confirm, Plain, Settle, Ticks, Take, Room as AsksRoom, AsksFree, Pass, Nothing, Is, Idle, Gives};
 ghost use Rattle.coap_layer.specs.Ups.{IsQuiet, IsTick, answer_as, sent_as};
 ghost use Rattle.coap_layer.specs.Words.{handed_by};
 
@@ -15,7 +15,7 @@ use crate::dedup::store_reply;
 use crate::lists::Lists;
 use crate::mark::{Awaiting, Mark};
 use crate::outstanding::{due_copy, put_back};
-use crate::retransmission::{end_all, is_busy, is_outstanding, ticked};
+use crate::retransmission::{end_all, find_step, is_busy, is_outstanding, is_step, ticked};
 use crate::room::{Brings, Room, filled, grow, make_room, take_room};
 use crate::sending::{refusal, send_con, send_non};
 use crate::taking::{Moments, take_in, take_tick};
@@ -111,6 +111,7 @@ impl<A: Allocator + Copy> Layer<A> {
         ensures led { IsOk result → (word : ℕ) (t : List Entry) → LayerLed word t self.old.state → LayerLed word (made self.old.state now.0 (Receive from bytes.now) ∷ t) self.new.state }
         ensures before { OnOk result (self.new.before ≡ Some self.old.state) }
         ensures may_reply { IfOk result (λ up. (m : Message) → handed_by (answer_as up) ≡ Some m → MayReply self.new from m.id) }
+        ensures kept { self.old.has_room ≡ true → self.new.has_room ≡ true }
         ensures err { OnErr result (self.new ≡ self.old) }
         // Where nothing is sent and nothing is handed up, it takes no memory.
         ensures quiet { IsQuiet (made self.old.state now.0 (Receive from bytes.now)) → IsOk result }
@@ -180,6 +181,7 @@ impl<A: Allocator + Copy> Layer<A> {
         ensures led { result ≢ Err refused.Memory → (first : ℕ) (t : List Entry) → LayerLed first t self.old.state → LayerLed first (made self.old.state now.0 (Confirm to content.now word) ∷ t) self.new.state }
         ensures before { self.new.before ≡ self.old.before }
         ensures room { self.old.has_room ≡ true → result ≢ Err refused.Memory }
+        ensures kept { OnErr result (self.new.has_room ≡ self.old.has_room) }
         // Where it refuses for another reason, it takes no memory.
         ensures quiet { answer_of self.old.state (max self.old.state.clock now.0) (AsksRoom to) ≡ Is false → result ≢ Err refused.Memory }
         ensures memory { result ≡ Err refused.Memory → self.new ≡ self.old }
@@ -214,6 +216,7 @@ impl<A: Allocator + Copy> Layer<A> {
         ensures led { result ≢ Err refused.Memory → (first : ℕ) (t : List Entry) → LayerLed first t self.old.state → LayerLed first (made self.old.state now.0 (Plain to content.now) ∷ t) self.new.state }
         ensures before { self.new.before ≡ self.old.before }
         ensures room { self.old.has_room ≡ true → result ≢ Err refused.Memory }
+        ensures kept { OnErr result (self.new.has_room ≡ self.old.has_room) }
         // Where it refuses for another reason, it takes no memory.
         ensures quiet { answer_of self.old.state (max self.old.state.clock now.0) AsksFree ≡ Is false → result ≢ Err refused.Memory }
         ensures memory { result ≡ Err refused.Memory → self.new ≡ self.old }
@@ -242,6 +245,16 @@ impl<A: Allocator + Copy> Layer<A> {
         let at = self.clock.max(now.0);
         let busy = is_busy(&self.lists.sendings, to);
         refusal(busy, self.ids.would_give(at)).is_none()
+    }
+
+    /// Whether `tick` would do a step now. Nothing changes: the moment doesn't count. It takes no
+    /// memory.
+    pub fn would_tick(&self, now: Moment) -> bool
+        ensures idle { result ≡ false → answer_of self.now.state (max self.now.state.clock now.0) Ticks ≡ Idle }
+        ensures due { result ≡ true → answer_of self.now.state (max self.now.state.clock now.0) Ticks ≢ Idle }
+    {
+        let at = self.clock.max(now.0);
+        is_step(find_step(&self.lists.sendings, at))
     }
 
     /// Whether `confirm` would refuse a message to this endpoint with neither `Outstanding` nor
@@ -277,6 +290,7 @@ impl<A: Allocator + Copy> Layer<A> {
         ensures before { self.new.before ≡ self.old.before }
         ensures replies { self.new.replies ≡ self.old.replies }
         ensures room { OnOk result (self.new.has_room ≡ true) }
+        ensures had { self.old.has_room ≡ true → IsOk result }
         ensures err { OnErr result (self.new ≡ self.old) }
     {
         make_room(self.alloc, &mut self.room, &mut self.lists)?;
@@ -363,11 +377,13 @@ impl<A: Allocator + Copy> Layer<A> {
     }
 
     /// Takes back the last `receive` or `tick` that was not refused memory, and every call since.
-    /// No reply may be given then. It takes no memory.
+    /// No reply may be given then. The room for a message that there is stays. It takes no memory.
     pub fn undo(&mut self)
         requires { IsSome self.old.before }
         ensures back { self.old.before ≡ Some self.new.state }
         ensures spent { self.new.before ≡ None }
+        ensures room { self.new.has_room ≡ self.old.has_room }
+        ensures replies { self.new.replies ≡ false }
     {
         if let Some(mark) = self.mark.take() {
             self.clock = mark.clock;

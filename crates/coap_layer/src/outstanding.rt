@@ -1,6 +1,6 @@
 ghost use Rattle.std.specs.Prelude.{◌≡◌, ◌≤◌, ◌<◌, ◌+◌, ◌++◌, [], ◌∷◌, map, filter, is_some, option_to_list, IfOk, IsOk};
 ghost use Rattle.std.specs.Vec.{vec_len, vec_capacity};
-ghost use Rattle.coap_layer.specs.Parts.{open_before, settled, put_back as put_back_lem};
+ghost use Rattle.coap_layer.specs.Parts.{noted, open_before, settled, put_back as put_back_lem};
 ghost use Rattle.coap_layer.specs.Sendings.{open_now};
 ghost use Rattle.coap_layer.specs.State.{copies};
 
@@ -37,6 +37,7 @@ fn note_all<A: Allocator + Copy>(sendings: &mut Vec<Sending<A>, A>)
 
 /// Lets go of what the input before found, and notes what this one finds.
 pub(crate) fn settle_down<A: Allocator + Copy>(sendings: &mut Vec<Sending<A>, A>)
+    ensures items { sendings.new.items ≡ noted sendings.old.items }
     ensures open { open_now sendings.new.items ≡ open_now sendings.old.items }
     ensures before { open_before sendings.new.items ≡ open_now sendings.old.items }
     ensures len { vec_len sendings.new ≤ vec_len sendings.old }

@@ -1,8 +1,8 @@
-ghost use Rattle.std.specs.Prelude.{◌≡◌, ℕ, List, nat_le, nat_lt, ◌≤◌, ◌*◌, ◌-◌, ◌==◌, ◌&&◌, is_some, None, Some, if◌then◌else◌, map};
+ghost use Rattle.std.specs.Prelude.{◌≡◌, ◌≢◌, true, false, ℕ, List, nat_le, nat_lt, ◌≤◌, ◌*◌, ◌-◌, ◌==◌, ◌&&◌, is_some, None, Some, if◌then◌else◌, map};
 ghost use Rattle.std.specs.List.{list_any, filter_map};
 ghost use Rattle.std.specs.Vec.{vec_len, vec_capacity};
 ghost use Rattle.coap_types.specs.SameEndpoint.{same_endpoint};
-ghost use Rattle.coap_layer.specs.Trace.{Packet, Ticks};
+ghost use Rattle.coap_layer.specs.Trace.{Idle, Packet, Ticks};
 ghost use Rattle.coap_layer.specs.Words.{left_by};
 ghost use Rattle.coap_layer.specs.State.{is_copy_due, tick_of};
 ghost use Rattle.coap_layer.specs.Parts.{open_before};
@@ -157,6 +157,14 @@ pub(crate) fn find_step<A: Allocator + Copy>(sendings: &Vec<Sending<A>, A>, at: 
         }
     }
     Due::Nothing
+}
+
+/// Whether it is a step.
+pub(crate) fn is_step(due: Due) -> bool
+    ensures idle { result ≡ false → answer_for due ≡ Idle }
+    ensures due { result ≡ true → answer_for due ≢ Idle }
+{
+    !matches!(due, Due::Nothing)
 }
 
 /// What the layer above is told of the step.

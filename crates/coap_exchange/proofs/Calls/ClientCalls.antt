@@ -68,16 +68,16 @@ either_quiet false v id e h = cc h
 
 pub replied : (s : Own) (from : Endpoint) (up : T.Answer) → is_some (reply_by (verdict_on s from up) (id_in up)) ≡ true → (m : Message) × (handed_by up ≡ Some m) × (m.id ≡ id_in up)
 unfolding Replies
-replied s from (T.Response m) h =
+replied s from (T.Becomes (T.Response m)) h =
     let k = known_of s from m in
     let kept : is_kept m.kind ≡ true = judged_replies m.kind k.from_server k.of_exchange k.same_id k.kept k.bad_option k.cancelled m.id h in
     (m, rw kept refl, refl)
-replied s from (T.Request m k) h = (m, refl, refl)
-replied s from (T.Acked id) h = absurd (either_quiet (is_of_request s from id) Await 0 refl h)
-replied s from (T.Reset id) h = absurd (either_quiet (is_of_request s from id) EndByReset 0 refl h)
-replied s from T.Dropped h = absurd (cc h)
-replied s from T.Replayed h = absurd (cc h)
-replied s from T.Rejected h = absurd (cc h)
+replied s from (T.Becomes (T.Request m k)) h = (m, refl, refl)
+replied s from (T.Becomes (T.Acked id)) h = absurd (either_quiet (is_of_request s from id) Await 0 refl h)
+replied s from (T.Becomes (T.Reset id)) h = absurd (either_quiet (is_of_request s from id) EndByReset 0 refl h)
+replied s from (T.Becomes T.Dropped) h = absurd (cc h)
+replied s from (T.Becomes T.Replayed) h = absurd (cc h)
+replied s from (T.Becomes T.Rejected) h = absurd (cc h)
 replied s from T.Nothing h = absurd (cc h)
 replied s from (T.Is holds) h = absurd (cc h)
 replied s from (T.Sent id) h = absurd (cc h)

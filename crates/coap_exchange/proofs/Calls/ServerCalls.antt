@@ -1,5 +1,5 @@
 -- The calls of the server's side, as the code makes them of the layer's.
-use Rattle.std.proofs.Common.{◌≡◌, ℕ, ◌≤◌, max, Bool, true, false, Option, Some, None, List, refl, ap, sym, subst, ◌∙◌, is_some, length, cond, ◌⊎◌, inl, inr, map, arith}
+use Rattle.std.proofs.Common.{◌≡◌, ℕ, ◌≤◌, max, Bool, true, false, Option, Some, None, List, [], ◌∷◌, refl, ap, sym, subst, ◌∙◌, is_some, length, cond, ◌⊎◌, inl, inr, map, arith}
 use Rattle.coap_types.specs.declared.message.Kind.{Kind}
 use Rattle.coap_types.specs.declared.message.Kind.TheVariants.{Con, Non, Ack, Rst}
 use Rattle.coap_codec.specs.Message.{Message}
@@ -7,6 +7,7 @@ use Rattle.coap_types.specs.declared.endpoint.Endpoint.{Endpoint}
 use Rattle.coap_types.specs.declared.message.Id.{Id}
 use Rattle.coap_layer.specs.State as L
 use Rattle.coap_layer.specs.State.{moment}
+use Rattle.coap_layer.specs.Steps.{Steps}
 use Rattle.coap_layer.specs.Trace as T
 use Rattle.coap_layer.specs.Trace.{with_head}
 use Rattle.coap_layer.specs.Ups.{answer_as}
@@ -20,29 +21,31 @@ use Rattle.coap_exchange.specs.declared.separate.Deferred.{Deferred}
 use Rattle.coap_exchange.specs.declared.separate.Separate.{Separate}
 use Rattle.coap_exchange.specs.AnswererLaw.{State, Step}
 use Rattle.coap_exchange.specs.Machine.AnswererShown.{state_of, own_with, IsAnswer}
-use Rattle.coap_exchange.specs.AnswererSteps.{reject_by, answering, content_of, IsSentAs, separate_after}
-use Rattle.coap_exchange.specs.AnswererTrace.{Own, Response, Answers}
-use Rattle.coap_exchange.specs.AskerArrivals.{id_in}
+use Rattle.coap_exchange.specs.AnswererSteps.{asked_in, handed_up, reset_by, reject_by, answering, content_of, IsSentAs, separate_after}
+use Rattle.coap_exchange.specs.AnswererTrace.{Own, Response, Answers, Incoming}
+use Rattle.coap_exchange.specs.AskerArrivals.{id_in, replying}
+use Rattle.coap_exchange.specs.AskerRequests.{asked}
 use Rattle.coap_exchange.specs.Machine.Listed.{listed}
 use Rattle.coap_exchange.specs.Machine.Outstanding.{over}
+use Rattle.coap_exchange.proofs.Facts.StepsOfLayer.{steps_join}
 use Rattle.coap_exchange.proofs.Facts.HandedUp.{message_in, spelled}
 use Rattle.coap_exchange.proofs.Facts.CallsOfLayer.{step_clock}
 use Rattle.coap_exchange.proofs.Calls.Lists.{over_is}
 
 -- what is rejected was handed up
 
-rejected_if : (m : Message) (b : Bool) → is_kept m.kind ≡ b → is_some (reject_by (T.Response m)) ≡ true → handed_by (T.Response m) ≡ Some m
+rejected_if : (m : Message) (b : Bool) → is_kept m.kind ≡ b → is_some (reject_by (T.Becomes (T.Response m))) ≡ true → handed_by (T.Becomes (T.Response m)) ≡ Some m
 rejected_if m true e h = rw e refl
-rejected_if m false e h = let k : is_some (reject_by (T.Response m)) ≡ false = rw e refl in absurd (cc (h, k))
+rejected_if m false e h = let k : is_some (reject_by (T.Becomes (T.Response m))) ≡ false = rw e refl in absurd (cc (h, k))
 
 pub rejected : (up : T.Answer) → is_some (reject_by up) ≡ true → (m : Message) × (handed_by up ≡ Some m) × (m.id ≡ id_in up)
-rejected (T.Response m) h = (m, rejected_if m (is_kept m.kind) refl h, refl)
-rejected (T.Request m k) h = absurd (cc h)
-rejected (T.Acked id) h = absurd (cc h)
-rejected (T.Reset id) h = absurd (cc h)
-rejected T.Dropped h = absurd (cc h)
-rejected T.Replayed h = absurd (cc h)
-rejected T.Rejected h = absurd (cc h)
+rejected (T.Becomes (T.Response m)) h = (m, rejected_if m (is_kept m.kind) refl h, refl)
+rejected (T.Becomes (T.Request m k)) h = absurd (cc h)
+rejected (T.Becomes (T.Acked id)) h = absurd (cc h)
+rejected (T.Becomes (T.Reset id)) h = absurd (cc h)
+rejected (T.Becomes T.Dropped) h = absurd (cc h)
+rejected (T.Becomes T.Replayed) h = absurd (cc h)
+rejected (T.Becomes T.Rejected) h = absurd (cc h)
 rejected T.Nothing h = absurd (cc h)
 rejected (T.Is holds) h = absurd (cc h)
 rejected (T.Sent id) h = absurd (cc h)
@@ -60,13 +63,13 @@ kept_in m n true h = h
 kept_in m n false h = absurd (cc h)
 
 in_message : (up : T.Answer) (m : Message) → handed_by up ≡ Some m → message_in up ≡ Some m
-in_message (T.Request n k) m h = h
-in_message (T.Response n) m h = kept_in n m (is_kept n.kind) h
-in_message (T.Acked id) m h = absurd (cc h)
-in_message (T.Reset id) m h = absurd (cc h)
-in_message T.Dropped m h = absurd (cc h)
-in_message T.Replayed m h = absurd (cc h)
-in_message T.Rejected m h = absurd (cc h)
+in_message (T.Becomes (T.Request n k)) m h = h
+in_message (T.Becomes (T.Response n)) m h = kept_in n m (is_kept n.kind) h
+in_message (T.Becomes (T.Acked id)) m h = absurd (cc h)
+in_message (T.Becomes (T.Reset id)) m h = absurd (cc h)
+in_message (T.Becomes T.Dropped) m h = absurd (cc h)
+in_message (T.Becomes T.Replayed) m h = absurd (cc h)
+in_message (T.Becomes T.Rejected) m h = absurd (cc h)
 in_message T.Nothing m h = absurd (cc h)
 in_message (T.Is holds) m h = absurd (cc h)
 in_message (T.Sent id) m h = absurd (cc h)
@@ -125,3 +128,23 @@ pub not_con : (kind : Kind) → (kind ≡ Non) ⊎ ((kind ≡ Ack) ⊎ (kind ≡
 not_con kind (inl e) f = cc (e, f)
 not_con kind (inr (inl e)) f = cc (e, f)
 not_con kind (inr (inr e)) f = cc (e, f)
+
+-- an arrival
+
+replied_clock : (from : Endpoint) (id : ℕ) (o : Option (List ℕ)) (mid h : L.State) → Steps mid (replying from id o) h → h.clock ≡ mid.clock
+replied_clock from id None mid h k = ap (λ (s : L.State). s.clock) k
+replied_clock from id (Some bytes) mid h k = step_clock k.0 h 0 (T.Reply from id bytes) T.Nothing k.2 ∙ ap (λ (s : L.State). s.clock) k.1
+
+own_same : (a b : ℕ) (p q : Option Asked) (ds : List Deferred) (xs ys : List Separate) (x y : Option Ended) → a ≡ b → p ≡ q → xs ≡ ys → x ≡ y → own_with a p ds xs x ≡ own_with b q ds ys y
+own_same a b p q ds xs ys x y e f g h = cc (e, f, g, h)
+
+pub received : (l mid h : L.State) (pending asked_now : Option Asked) (deferred : List Deferred) (separate xs : List Separate) (ended end : Option Ended) (old : State) (now : ℕ) (from : Endpoint) (bytes : List ℕ) (up : T.Answer) (answer : Option (Asked × Message))
+    → state_of l pending deferred separate ended ≡ old → L.Step l now (T.Receive from bytes) up mid → Steps mid (replying from (id_in up) (reject_by up)) h → answer ≡ handed_up from up → asked_now ≡ asked_in (handed_up from up)
+    → xs ≡ separate_after from up separate → end ≡ reset_by from up separate → Step old (Incoming now from bytes up answer) (state_of h asked_now deferred xs end)
+received l mid h pending asked_now deferred separate xs ended end old now from bytes up answer is step replies answer_is asked_is xs_is end_is =
+    let clock : h.clock ≡ max l.clock now = replied_clock from (id_in up) (reject_by up) mid h replies ∙ step_clock l mid now (T.Receive from bytes) up step in
+    subst (λ o. Step o (Incoming now from bytes up answer) (state_of h asked_now deferred xs end)) is (record {
+      right = answer_is;
+      own_is = own_same h.clock (max l.clock now) asked_now (asked_in answer) deferred xs (separate_after from up separate) end (reset_by from up separate) clock (asked_is ∙ ap asked_in (sym answer_is)) xs_is end_is;
+      under = steps_join l mid h (replying from (id_in up) (reject_by up)) (asked now (T.Receive from bytes) up ∷ []) (l, refl, step) replies;
+    })

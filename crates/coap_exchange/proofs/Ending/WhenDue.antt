@@ -91,18 +91,18 @@ module _ (server : Endpoint) (word : ℕ) where
       abbrev then_acked : T.Answer → Option ℕ
       then_acked up = last_acked server word (Receive now from bytes up settled answer ∷ t)
 
-      other_acked : (id : ℕ) (b : Bool) → is_of_request s from id ≡ b → verdict_on s from (T.Acked id) ≢ Await → then_acked (T.Acked id) ≡ last_acked server word t
+      other_acked : (id : ℕ) (b : Bool) → is_of_request s from id ≡ b → verdict_on s from (T.Becomes (T.Acked id)) ≢ Await → then_acked (T.Becomes (T.Acked id)) ≡ last_acked server word t
       other_acked id true is not_await = absurd (not_await (ap (λ b. cond b Await Ignore) is))
       other_acked id false is not_await = ap (λ b. cond b (Some (moment server word t now)) (last_acked server word t)) is
 
       still_acked : (up : T.Answer) → verdict_on s from up ≢ Await → then_acked up ≡ last_acked server word t
-      still_acked (T.Acked id) not_await = other_acked id (is_of_request s from id) refl not_await
-      still_acked (T.Response m) not_await = refl
-      still_acked (T.Request m k) not_await = refl
-      still_acked (T.Reset id) not_await = refl
-      still_acked T.Dropped not_await = refl
-      still_acked T.Replayed not_await = refl
-      still_acked T.Rejected not_await = refl
+      still_acked (T.Becomes (T.Acked id)) not_await = other_acked id (is_of_request s from id) refl not_await
+      still_acked (T.Becomes (T.Response m)) not_await = refl
+      still_acked (T.Becomes (T.Request m k)) not_await = refl
+      still_acked (T.Becomes (T.Reset id)) not_await = refl
+      still_acked (T.Becomes T.Dropped) not_await = refl
+      still_acked (T.Becomes T.Replayed) not_await = refl
+      still_acked (T.Becomes T.Rejected) not_await = refl
       still_acked T.Nothing not_await = refl
       still_acked T.Idle not_await = refl
       still_acked (T.Copied to id) not_await = refl
@@ -113,9 +113,9 @@ module _ (server : Endpoint) (word : ℕ) where
       still_acked T.NoIds not_await = refl
       still_acked (T.Gives packet) not_await = refl
 
-      acked_now : (id : ℕ) (b : Bool) → is_of_request s from id ≡ b → verdict_on s from (T.Acked id) ≡ Await → then_acked (T.Acked id) ≡ Some (moment server word t now)
+      acked_now : (id : ℕ) (b : Bool) → is_of_request s from id ≡ b → verdict_on s from (T.Becomes (T.Acked id)) ≡ Await → then_acked (T.Becomes (T.Acked id)) ≡ Some (moment server word t now)
       acked_now id true is await = ap (λ b. cond b (Some (moment server word t now)) (last_acked server word t)) is
-      acked_now id false is await = let e : verdict_on s from (T.Acked id) ≡ Ignore = ap (λ b. cond b Await Ignore) is in absurd (cc (e, await))
+      acked_now id false is await = let e : verdict_on s from (T.Becomes (T.Acked id)) ≡ Ignore = ap (λ b. cond b Await Ignore) is in absurd (cc (e, await))
 
       heard_at : (running : Option Exchange) (at : ℕ) (x : Exchange) → option_map (λ (y : Exchange). record y { acked = Some at }) running ≡ Some x → x.acked ≡ Some at
       heard_at None at x h = absurd (cc h)
@@ -134,7 +134,7 @@ module _ (server : Endpoint) (word : ℕ) where
       received_since up Answer is f x runs = absurd (cc runs)
       received_since up EndByReset is f x runs = absurd (cc runs)
       received_since up Await is f x runs =
-          let await : verdict_on s from (T.Acked f.0) ≡ Await = subst (λ u. verdict_on s from u ≡ Await) f.1 is in
+          let await : verdict_on s from (T.Becomes (T.Acked f.0)) ≡ Await = subst (λ u. verdict_on s from u ≡ Await) f.1 is in
           heard_at s.running (moment server word t now) x runs ∙ sym (ap then_acked f.1 ∙ acked_now f.0 (is_of_request s from f.0) refl await)
 
     ticked_since : (now : ℕ) (below : T.Answer) (answer : Turn) → Since (Ticks now below answer ∷ t) (after s (Ticks now below answer))

@@ -92,13 +92,13 @@ module _ (at : ℕ) (out : List T.Packet) (xs : List Separate) (cs : List Open) 
   gone_mirrors to id = subst (Mirrors (without to id xs)) (sym (append-nil (without_con to id cs))) (without_mirrors to id xs cs m)
 
   arrival_mirrors : (from : Endpoint) (bytes : List ℕ) (up : T.Answer) → Mirrors (separate_after from up xs) (opens_then at (T.Receive from bytes) up out cs)
-  arrival_mirrors from bytes (T.Acked id) = gone_mirrors from id
-  arrival_mirrors from bytes (T.Reset id) = gone_mirrors from id
-  arrival_mirrors from bytes (T.Response n) = same_mirrors (T.Receive from bytes) (T.Response n) (λ c. refl) refl
-  arrival_mirrors from bytes (T.Request n k) = same_mirrors (T.Receive from bytes) (T.Request n k) (λ c. refl) refl
-  arrival_mirrors from bytes T.Dropped = same_mirrors (T.Receive from bytes) T.Dropped (λ c. refl) refl
-  arrival_mirrors from bytes T.Replayed = same_mirrors (T.Receive from bytes) T.Replayed (λ c. refl) refl
-  arrival_mirrors from bytes T.Rejected = same_mirrors (T.Receive from bytes) T.Rejected (λ c. refl) refl
+  arrival_mirrors from bytes (T.Becomes (T.Acked id)) = gone_mirrors from id
+  arrival_mirrors from bytes (T.Becomes (T.Reset id)) = gone_mirrors from id
+  arrival_mirrors from bytes (T.Becomes (T.Response n)) = same_mirrors (T.Receive from bytes) (T.Becomes (T.Response n)) (λ c. refl) refl
+  arrival_mirrors from bytes (T.Becomes (T.Request n k)) = same_mirrors (T.Receive from bytes) (T.Becomes (T.Request n k)) (λ c. refl) refl
+  arrival_mirrors from bytes (T.Becomes T.Dropped) = same_mirrors (T.Receive from bytes) (T.Becomes T.Dropped) (λ c. refl) refl
+  arrival_mirrors from bytes (T.Becomes T.Replayed) = same_mirrors (T.Receive from bytes) (T.Becomes T.Replayed) (λ c. refl) refl
+  arrival_mirrors from bytes (T.Becomes T.Rejected) = same_mirrors (T.Receive from bytes) (T.Becomes T.Rejected) (λ c. refl) refl
   arrival_mirrors from bytes T.Nothing = same_mirrors (T.Receive from bytes) T.Nothing (λ c. refl) refl
   arrival_mirrors from bytes (T.Is holds) = same_mirrors (T.Receive from bytes) (T.Is holds) (λ c. refl) refl
   arrival_mirrors from bytes (T.Sent id) = same_mirrors (T.Receive from bytes) (T.Sent id) (λ c. refl) refl
@@ -112,13 +112,7 @@ module _ (at : ℕ) (out : List T.Packet) (xs : List Separate) (cs : List Open) 
   tick_mirrors : (below : T.Answer) → Mirrors (separate_unless below xs) (opens_then at T.Ticks below out cs)
   tick_mirrors (T.Expired to id) = gone_mirrors to id
   tick_mirrors (T.Copied to id) = subst (Mirrors xs) (sym (append-nil (copied_con at to id cs))) (copied_mirrors to id at xs cs m)
-  tick_mirrors (T.Response n) = same_mirrors T.Ticks (T.Response n) (λ c. refl) refl
-  tick_mirrors (T.Request n k) = same_mirrors T.Ticks (T.Request n k) (λ c. refl) refl
-  tick_mirrors (T.Acked id) = same_mirrors T.Ticks (T.Acked id) (λ c. refl) refl
-  tick_mirrors (T.Reset id) = same_mirrors T.Ticks (T.Reset id) (λ c. refl) refl
-  tick_mirrors T.Dropped = same_mirrors T.Ticks T.Dropped (λ c. refl) refl
-  tick_mirrors T.Replayed = same_mirrors T.Ticks T.Replayed (λ c. refl) refl
-  tick_mirrors T.Rejected = same_mirrors T.Ticks T.Rejected (λ c. refl) refl
+  tick_mirrors (T.Becomes what) = same_mirrors T.Ticks (T.Becomes what) (λ c. refl) refl
   tick_mirrors T.Nothing = same_mirrors T.Ticks T.Nothing (λ c. refl) refl
   tick_mirrors (T.Is holds) = same_mirrors T.Ticks (T.Is holds) (λ c. refl) refl
   tick_mirrors (T.Sent id) = same_mirrors T.Ticks (T.Sent id) (λ c. refl) refl

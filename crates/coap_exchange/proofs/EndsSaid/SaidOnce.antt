@@ -56,13 +56,13 @@ module _ (x : Ended) (ys : List Separate) where
   Fewer said left = hits (same_ended x) said + separate_hits x left ≤ separate_hits x ys
 
   arrival_fewer : (from : Endpoint) (up : L.Answer) → Fewer (reset_by from up ys) (separate_after from up ys)
-  arrival_fewer from (L.Acked id) = let l = less x from id ys in omega (arith, l)
-  arrival_fewer from (L.Reset id) = found_less x from id ys
-  arrival_fewer from (L.Response m) = omega arith
-  arrival_fewer from (L.Request m k) = omega arith
-  arrival_fewer from L.Dropped = omega arith
-  arrival_fewer from L.Replayed = omega arith
-  arrival_fewer from L.Rejected = omega arith
+  arrival_fewer from (L.Becomes (L.Acked id)) = let l = less x from id ys in omega (arith, l)
+  arrival_fewer from (L.Becomes (L.Reset id)) = found_less x from id ys
+  arrival_fewer from (L.Becomes (L.Response m)) = omega arith
+  arrival_fewer from (L.Becomes (L.Request m k)) = omega arith
+  arrival_fewer from (L.Becomes L.Dropped) = omega arith
+  arrival_fewer from (L.Becomes L.Replayed) = omega arith
+  arrival_fewer from (L.Becomes L.Rejected) = omega arith
   arrival_fewer from L.Nothing = omega arith
   arrival_fewer from (L.Is holds) = omega arith
   arrival_fewer from (L.Sent id) = omega arith
@@ -75,13 +75,7 @@ module _ (x : Ended) (ys : List Separate) where
 
   tick_fewer : (below : L.Answer) → Fewer (failed_by below ys) (separate_unless below ys)
   tick_fewer (L.Expired to id) = found_less x to id ys
-  tick_fewer (L.Response m) = omega arith
-  tick_fewer (L.Request m k) = omega arith
-  tick_fewer (L.Acked id) = omega arith
-  tick_fewer (L.Reset id) = omega arith
-  tick_fewer L.Dropped = omega arith
-  tick_fewer L.Replayed = omega arith
-  tick_fewer L.Rejected = omega arith
+  tick_fewer (L.Becomes what) = omega arith
   tick_fewer L.Nothing = omega arith
   tick_fewer (L.Is holds) = omega arith
   tick_fewer (L.Sent id) = omega arith

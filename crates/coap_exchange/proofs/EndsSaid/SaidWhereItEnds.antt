@@ -36,11 +36,11 @@ use Rattle.std.proofs.lemmas.Bool.{and_parts}
 
 -- the layer says of an outstanding CON alone that it was rejected
 
-abbrev IfReset : ℕ → Bool → T.Answer → Type 0
+abbrev IfReset : ℕ → Bool → T.Disposition → Type 0
 IfReset n o (T.Reset id) = (n ≡ id) × (o ≡ true)
 IfReset n o _ = Unit {0}
 
-again_reset : (n : ℕ) (o : Bool) (a : T.Answer) → IfReset n o a → (r f : Bool) → IfReset n o (again_or r f a)
+again_reset : (n : ℕ) (o : Bool) (a : T.Disposition) → IfReset n o a → (r f : Bool) → IfReset n o (again_or r f a)
 again_reset n o a h true f = tt
 again_reset n o a h false true = tt
 again_reset n o a h false false = h
@@ -65,6 +65,9 @@ up_resets Ack role.Reserved m o r f i = tt
 up_resets Rst role.Request m o r f i = tt
 up_resets Rst role.Response m o r f i = tt
 up_resets Rst role.Reserved m o r f i = tt
+
+became : (a b : T.Disposition) → T.Becomes a ≡ T.Becomes b → a ≡ b
+became a b h = cc h
 
 module _ (s : L.State) (at : ℕ) (from : Endpoint) (id : ℕ) where
   fault_other : (b : Bool) → cond b T.Rejected T.Dropped ≡ T.Reset id → ⊥
@@ -182,17 +185,17 @@ TellsNow t c = TellsIf t c (fails c)
 
 -- an arrival, and a tick, where what they say has failed is outstanding
 arrives : (t : List Call) (now : ℕ) (from : Endpoint) (bytes : List ℕ) (answer : _) (up : T.Answer) → AllLast t (own_of t).separate
-    → ((id : ℕ) → up ≡ T.Reset id → list_any (goes_to from id) (own_of t).separate ≡ true)
+    → ((id : ℕ) → up ≡ T.Becomes (T.Reset id) → list_any (goes_to from id) (own_of t).separate ≡ true)
     → TellsNow t (Incoming now from bytes up answer) × AllLast t (separate_after from up (own_of t).separate)
-arrives t now from bytes answer (T.Reset id) last some =
+arrives t now from bytes answer (T.Becomes (T.Reset id)) last some =
     let f = find from id t (own_of t).separate last (some id refl) in
     (record { ended = f.one; said = f.is; last = f.last }, last_without t from id (own_of t).separate last)
-arrives t now from bytes answer (T.Acked id) last some = (refl, last_without t from id (own_of t).separate last)
-arrives t now from bytes answer (T.Response m) last some = (refl, last)
-arrives t now from bytes answer (T.Request m k) last some = (refl, last)
-arrives t now from bytes answer T.Dropped last some = (refl, last)
-arrives t now from bytes answer T.Replayed last some = (refl, last)
-arrives t now from bytes answer T.Rejected last some = (refl, last)
+arrives t now from bytes answer (T.Becomes (T.Acked id)) last some = (refl, last_without t from id (own_of t).separate last)
+arrives t now from bytes answer (T.Becomes (T.Response m)) last some = (refl, last)
+arrives t now from bytes answer (T.Becomes (T.Request m k)) last some = (refl, last)
+arrives t now from bytes answer (T.Becomes T.Dropped) last some = (refl, last)
+arrives t now from bytes answer (T.Becomes T.Replayed) last some = (refl, last)
+arrives t now from bytes answer (T.Becomes T.Rejected) last some = (refl, last)
 arrives t now from bytes answer T.Nothing last some = (refl, last)
 arrives t now from bytes answer (T.Is holds) last some = (refl, last)
 arrives t now from bytes answer (T.Sent id) last some = (refl, last)
@@ -209,13 +212,7 @@ passes : (t : List Call) (now : ℕ) (room : Bool) (answer : _) (below : T.Answe
 passes t now room answer (T.Expired to id) last some =
     let f = find to id t (own_of t).separate last (some to id refl) in
     (record { ended = f.one; said = f.is; last = f.last }, last_without t to id (own_of t).separate last)
-passes t now room answer (T.Reset id) last some = (refl, last)
-passes t now room answer (T.Acked id) last some = (refl, last)
-passes t now room answer (T.Response m) last some = (refl, last)
-passes t now room answer (T.Request m k) last some = (refl, last)
-passes t now room answer T.Dropped last some = (refl, last)
-passes t now room answer T.Replayed last some = (refl, last)
-passes t now room answer T.Rejected last some = (refl, last)
+passes t now room answer (T.Becomes what) last some = (refl, last)
 passes t now room answer T.Nothing last some = (refl, last)
 passes t now room answer (T.Is holds) last some = (refl, last)
 passes t now room answer (T.Sent id) last some = (refl, last)
@@ -247,7 +244,7 @@ module _ (word : ℕ) (t : List Call) (rows : AnswererLaw t) (last : AllLast t (
       let more = steps_split parts.0 h (replying from (id_in up) (reject_by up)) (asked now (T.Receive from bytes) up ∷ []) parts.2 in
       let under : Steps (L.start word) (lower_of t) more.1.0 = subst (Steps (L.start word) (lower_of t)) (sym more.1.1) parts.1 in
       let k = arrives t now from bytes answer up last (λ id e. waits_for word t more.1.0 under from id
-      ∙ reset_open more.1.0 (max more.1.0.clock now) from id (arrival_at bytes) (sym more.1.2.right ∙ e)) in
+      ∙ reset_open more.1.0 (max more.1.0.clock now) from id (arrival_at bytes) (became (answer_to more.1.0 (max more.1.0.clock now) from (arrival_at bytes)) (T.Reset id) (sym more.1.2.right ∙ e))) in
       (k.0, still_last (Incoming now from bytes up answer) refl t (separate_after from up xs) k.1)
   on (Ticks now below room answer) h steps =
       let s : Own = own_of t in

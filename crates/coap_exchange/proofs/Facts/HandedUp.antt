@@ -16,9 +16,13 @@ use Rattle.coap_layer.specs.Words.{is_con}
 use Rattle.coap_layer.proofs.ReadingLemmas.{shows_at}
 
 -- the message that is handed up
+abbrev pub handed_in : T.Disposition → Option Message
+handed_in (T.Request m kept) = Some m
+handed_in (T.Response m) = Some m
+handed_in _ = None
+
 abbrev pub message_in : T.Answer → Option Message
-message_in (T.Request m kept) = Some m
-message_in (T.Response m) = Some m
+message_in (T.Becomes what) = handed_in what
 message_in _ = None
 
 -- it is this one, if any
@@ -26,12 +30,12 @@ abbrev Only : Message → Option Message → Type 0
 Only n None = Unit {0}
 Only n (Some m) = (n ≡ m)
 
-again_only : (n : Message) (a : T.Answer) → Only n (message_in a) → (r f : Bool) → Only n (message_in (again_or r f a))
+again_only : (n : Message) (a : T.Disposition) → Only n (handed_in a) → (r f : Bool) → Only n (handed_in (again_or r f a))
 again_only n a h true f = tt
 again_only n a h false true = tt
 again_only n a h false false = h
 
-up_only : (kind : Kind) (c : Role) (n : Message) (o r f i : Bool) → Only n (message_in (up_of kind c n o r f i))
+up_only : (kind : Kind) (c : Role) (n : Message) (o r f i : Bool) → Only n (handed_in (up_of kind c n o r f i))
 up_only Con role.Empty n o r f i = tt
 up_only Con role.Reserved n o r f i = tt
 up_only Con role.Request n o r f i = again_only n (T.Request n true) refl r f
@@ -52,11 +56,11 @@ up_only Rst role.Request n o r f i = tt
 up_only Rst role.Response n o r f i = tt
 up_only Rst role.Reserved n o r f i = tt
 
-fault_none : (b : Bool) → message_in (cond b T.Rejected T.Dropped) ≡ None
+fault_none : (b : Bool) → handed_in (cond b T.Rejected T.Dropped) ≡ None
 fault_none true = refl
 fault_none false = refl
 
-spelled_by : (s : L.State) (at : ℕ) (from : Endpoint) (bytes : List ℕ) (m : Message) (what : Arrival) → Shows bytes what → message_in (answer_to s at from what) ≡ Some m → Spells bytes m
+spelled_by : (s : L.State) (at : ℕ) (from : Endpoint) (bytes : List ℕ) (m : Message) (what : Arrival) → Shows bytes what → handed_in (answer_to s at from what) ≡ Some m → Spells bytes m
 spelled_by s at from bytes m Unreadable shows h = absurd (cc h)
 spelled_by s at from bytes m (Faulted kind id) shows h = let k = fault_none (is_con kind) in absurd (cc (h, k))
 spelled_by s at from bytes m (Whole n) shows h =

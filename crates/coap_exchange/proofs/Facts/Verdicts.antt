@@ -74,7 +74,7 @@ rests kind k = rests_known kind k.from_server k.of_exchange k.same_id k.kept k.b
 
 pub record Answers (s : Own) (from : Endpoint) (up : L.Answer) : Type 0 where
   pub message : Message
-  pub is : up ≡ L.Response message
+  pub is : up ≡ L.Becomes (L.Response message)
   pub there : same_endpoint from s.server ≡ true
   pub exchange : Exchange
   pub runs : s.running ≡ Some exchange
@@ -82,7 +82,7 @@ pub record Answers (s : Own) (from : Endpoint) (up : L.Answer) : Type 0 where
 
 pub record Notices (s : Own) (from : Endpoint) (up : L.Answer) : Type 0 where
   pub message : Message
-  pub is : up ≡ L.Response message
+  pub is : up ≡ L.Becomes (L.Response message)
   pub there : same_endpoint from s.server ≡ true
   pub kept : is_kept message.token s.kept ≡ true
 
@@ -97,8 +97,8 @@ Fits s from up AnswerCon = Answers s from up
 Fits s from up Answer = Answers s from up
 Fits s from up NoticeCon = Notices s from up
 Fits s from up Notice = Notices s from up
-Fits s from up Await = (id : ℕ) × (up ≡ L.Acked id) × OfRequest s from id
-Fits s from up EndByReset = (id : ℕ) × (up ≡ L.Reset id) × OfRequest s from id
+Fits s from up Await = (id : ℕ) × (up ≡ L.Becomes (L.Acked id)) × OfRequest s from id
+Fits s from up EndByReset = (id : ℕ) × (up ≡ L.Becomes (L.Reset id)) × OfRequest s from id
 Fits s from up Ignore = Unit {0}
 Fits s from up Reject = Unit {0}
 Fits s from up Acknowledge = Unit {0}
@@ -122,10 +122,10 @@ of_request s from id h =
     let w = with_id s.running id b.1 in
     record { there = b.0; exchange = w.0; runs = w.1; id_is = w.2 }
 
-answers_by : (s : Own) (from : Endpoint) (m : Message) → (known_of s from m).from_server ≡ true → (known_of s from m).of_exchange ≡ true → Answers s from (L.Response m)
+answers_by : (s : Own) (from : Endpoint) (m : Message) → (known_of s from m).from_server ≡ true → (known_of s from m).of_exchange ≡ true → Answers s from (L.Becomes (L.Response m))
 answers_by s from m f o = let w = with_token s.running m.token o in record { message = m; is = refl; there = f; exchange = w.0; runs = w.1; token = w.2 }
 
-response_fits : (s : Own) (from : Endpoint) (m : Message) (v : Verdict) → Rests (known_of s from m) v → Fits s from (L.Response m) v
+response_fits : (s : Own) (from : Endpoint) (m : Message) (v : Verdict) → Rests (known_of s from m) v → Fits s from (L.Becomes (L.Response m)) v
 response_fits s from m AnswerCon r = answers_by s from m r.0 r.1
 response_fits s from m Answer r = answers_by s from m r.0 r.1
 response_fits s from m NoticeCon r = record { message = m; is = refl; there = r.0; kept = r.1 }
@@ -142,22 +142,22 @@ request_fits s from up Non = tt
 request_fits s from up Ack = tt
 request_fits s from up Rst = tt
 
-acked_fits : (s : Own) (from : Endpoint) (id : ℕ) (b : Bool) → is_of_request s from id ≡ b → Fits s from (L.Acked id) (cond b Await Ignore)
+acked_fits : (s : Own) (from : Endpoint) (id : ℕ) (b : Bool) → is_of_request s from id ≡ b → Fits s from (L.Becomes (L.Acked id)) (cond b Await Ignore)
 acked_fits s from id true h = (id, refl, of_request s from id h)
 acked_fits s from id false h = tt
 
-reset_fits : (s : Own) (from : Endpoint) (id : ℕ) (b : Bool) → is_of_request s from id ≡ b → Fits s from (L.Reset id) (cond b EndByReset Ignore)
+reset_fits : (s : Own) (from : Endpoint) (id : ℕ) (b : Bool) → is_of_request s from id ≡ b → Fits s from (L.Becomes (L.Reset id)) (cond b EndByReset Ignore)
 reset_fits s from id true h = (id, refl, of_request s from id h)
 reset_fits s from id false h = tt
 
 pub verdict_fits : (s : Own) (from : Endpoint) (up : L.Answer) → Fits s from up (verdict_on s from up)
-verdict_fits s from (L.Response m) = response_fits s from m _ (rests m.kind (known_of s from m))
-verdict_fits s from (L.Request m remembered) = request_fits s from _ m.kind
-verdict_fits s from (L.Acked id) = acked_fits s from id (is_of_request s from id) refl
-verdict_fits s from (L.Reset id) = reset_fits s from id (is_of_request s from id) refl
-verdict_fits s from L.Dropped = tt
-verdict_fits s from L.Replayed = tt
-verdict_fits s from L.Rejected = tt
+verdict_fits s from (L.Becomes (L.Response m)) = response_fits s from m _ (rests m.kind (known_of s from m))
+verdict_fits s from (L.Becomes (L.Request m remembered)) = request_fits s from _ m.kind
+verdict_fits s from (L.Becomes (L.Acked id)) = acked_fits s from id (is_of_request s from id) refl
+verdict_fits s from (L.Becomes (L.Reset id)) = reset_fits s from id (is_of_request s from id) refl
+verdict_fits s from (L.Becomes L.Dropped) = tt
+verdict_fits s from (L.Becomes L.Replayed) = tt
+verdict_fits s from (L.Becomes L.Rejected) = tt
 verdict_fits s from L.Nothing = tt
 verdict_fits s from (L.Is holds) = tt
 verdict_fits s from (L.Sent id) = tt
@@ -194,13 +194,7 @@ pub turn_fits : (s : Own) (at : ℕ) (below : L.Answer) → TurnFits s at below 
 turn_fits s at (L.Expired to id) = expired_fits s at to id (is_of_request s to id) refl
 turn_fits s at (L.Copied to id) = (to, id, refl)
 turn_fits s at L.Idle = waited_fits s at (has_waited at (acked_in s.running)) refl
-turn_fits s at (L.Response m) = tt
-turn_fits s at (L.Request m remembered) = tt
-turn_fits s at (L.Acked id) = tt
-turn_fits s at (L.Reset id) = tt
-turn_fits s at L.Dropped = tt
-turn_fits s at L.Replayed = tt
-turn_fits s at L.Rejected = tt
+turn_fits s at (L.Becomes what) = tt
 turn_fits s at L.Nothing = tt
 turn_fits s at (L.Is holds) = tt
 turn_fits s at (L.Sent id) = tt

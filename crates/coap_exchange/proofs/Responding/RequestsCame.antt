@@ -19,17 +19,17 @@ abbrev IsOf : Endpoint → Asked → Message → T.Answer → Type 0
 IsOf from a m up = (a ≡ asked_of from m) × (message_in up ≡ Some m)
 
 pair_of : (from : Endpoint) (up : T.Answer) (a : Asked) (m : Message) → Some (a, m) ≡ handed_up from up → IsOf from a m up
-pair_of from (T.Request n true) a m h =
+pair_of from (T.Becomes (T.Request n true)) a m h =
     let p : ◌≡◌ {A = Asked × Message} (a, m) (asked_of from n, n) = cc h in
     let same : m ≡ n = ap (λ (q : Asked × Message). q.1) p in
     (ap (λ (q : Asked × Message). q.0) p ∙ ap (asked_of from) (sym same), ap (λ x. Some x) (sym same))
-pair_of from (T.Request n false) a m h = absurd (cc h)
-pair_of from (T.Response n) a m h = absurd (cc h)
-pair_of from (T.Acked id) a m h = absurd (cc h)
-pair_of from (T.Reset id) a m h = absurd (cc h)
-pair_of from T.Dropped a m h = absurd (cc h)
-pair_of from T.Replayed a m h = absurd (cc h)
-pair_of from T.Rejected a m h = absurd (cc h)
+pair_of from (T.Becomes (T.Request n false)) a m h = absurd (cc h)
+pair_of from (T.Becomes (T.Response n)) a m h = absurd (cc h)
+pair_of from (T.Becomes (T.Acked id)) a m h = absurd (cc h)
+pair_of from (T.Becomes (T.Reset id)) a m h = absurd (cc h)
+pair_of from (T.Becomes T.Dropped) a m h = absurd (cc h)
+pair_of from (T.Becomes T.Replayed) a m h = absurd (cc h)
+pair_of from (T.Becomes T.Rejected) a m h = absurd (cc h)
 pair_of from T.Nothing a m h = absurd (cc h)
 pair_of from (T.Is holds) a m h = absurd (cc h)
 pair_of from (T.Sent id) a m h = absurd (cc h)

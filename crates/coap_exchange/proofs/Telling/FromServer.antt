@@ -47,7 +47,7 @@ module _ (s : Own) (now : ℕ) (from : Endpoint) (bytes : List ℕ) (up : T.Answ
   none_told : (a : Option Event) → answer ≡ a → told_in a ≡ None → told_in answer ≡ Some m → Comes
   none_told a is none h = let e : told_in answer ≡ None = ap told_in is ∙ none in absurd (cc (e, h))
 
-  one_told : (a : Option Event) (n : Message) → answer ≡ a → told_in a ≡ Some n → same_endpoint from s.server ≡ true → up ≡ T.Response n → told_in answer ≡ Some m → Comes
+  one_told : (a : Option Event) (n : Message) → answer ≡ a → told_in a ≡ Some n → same_endpoint from s.server ≡ true → up ≡ T.Becomes (T.Response n) → told_in answer ≡ Some m → Comes
   one_told a n is one there up_is h =
       let e : Some n ≡ Some m = sym (ap told_in is ∙ one) ∙ h in let same : n ≡ m = cc e in (there, ap message_in up_is ∙ ap (λ x. Some x) same)
 

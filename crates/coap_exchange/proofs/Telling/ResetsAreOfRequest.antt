@@ -33,8 +33,12 @@ use Rattle.coap_exchange.proofs.Facts.Verdicts.{Fits, OfRequest, verdict_fits}
 
 -- what the layer takes as a Reset
 
+abbrev reset_of : T.Disposition → Option ℕ
+reset_of (T.Reset id) = Some id
+reset_of _ = None
+
 abbrev reset_in : T.Answer → Option ℕ
-reset_in (T.Reset id) = Some id
+reset_in (T.Becomes what) = reset_of what
 reset_in _ = None
 
 -- it is one of this id, if any
@@ -42,12 +46,12 @@ abbrev OnlyReset : Kind → Role → Message → Option ℕ → Type 0
 OnlyReset kind c n None = Unit {0}
 OnlyReset kind c n (Some id) = (kind ≡ Rst) × ((c ≡ role.Empty) × (n.id ≡ id))
 
-again_none : (kind : Kind) (c : Role) (n : Message) (a : T.Answer) → reset_in a ≡ None → (r f : Bool) → OnlyReset kind c n (reset_in (again_or r f a))
+again_none : (kind : Kind) (c : Role) (n : Message) (a : T.Disposition) → reset_of a ≡ None → (r f : Bool) → OnlyReset kind c n (reset_of (again_or r f a))
 again_none kind c n a none true f = tt
 again_none kind c n a none false true = tt
 again_none kind c n a none false false = subst (OnlyReset kind c n) (sym none) tt
 
-up_resets : (kind : Kind) (c : Role) (n : Message) (o r f i : Bool) → OnlyReset kind c n (reset_in (up_of kind c n o r f i))
+up_resets : (kind : Kind) (c : Role) (n : Message) (o r f i : Bool) → OnlyReset kind c n (reset_of (up_of kind c n o r f i))
 up_resets Con role.Empty n o r f i = tt
 up_resets Con role.Reserved n o r f i = tt
 up_resets Con role.Request n o r f i = again_none Con role.Request n (T.Request n true) refl r f
@@ -81,11 +85,11 @@ record IsReset (bytes : List ℕ) (id : ℕ) : Type 0 where
   pub code : message.code ≡ 0
   pub id_is : message.id ≡ id
 
-fault_none : (b : Bool) → reset_in (cond b T.Rejected T.Dropped) ≡ None
+fault_none : (b : Bool) → reset_of (cond b T.Rejected T.Dropped) ≡ None
 fault_none true = refl
 fault_none false = refl
 
-reset_by : (s : L.State) (at : ℕ) (from : Endpoint) (bytes : List ℕ) (id : ℕ) (what : Arrival) → Shows bytes what → reset_in (answer_to s at from what) ≡ Some id → IsReset bytes id
+reset_by : (s : L.State) (at : ℕ) (from : Endpoint) (bytes : List ℕ) (id : ℕ) (what : Arrival) → Shows bytes what → reset_of (answer_to s at from what) ≡ Some id → IsReset bytes id
 reset_by s at from bytes id Unreadable shows h = absurd (cc h)
 reset_by s at from bytes id (Faulted kind n) shows h = let k = fault_none (is_con kind) in absurd (cc (h, k))
 reset_by s at from bytes id (Whole n) shows h =
@@ -98,7 +102,7 @@ reset_by s at from bytes id (Whole n) shows h =
       id_is = only.1.1;
     }
 
-is_reset : (old new : L.State) (now : ℕ) (from : Endpoint) (bytes : List ℕ) (id : ℕ) (up : T.Answer) → L.Step old now (T.Receive from bytes) up new → up ≡ T.Reset id → IsReset bytes id
+is_reset : (old new : L.State) (now : ℕ) (from : Endpoint) (bytes : List ℕ) (id : ℕ) (up : T.Answer) → L.Step old now (T.Receive from bytes) up new → up ≡ T.Becomes (T.Reset id) → IsReset bytes id
 is_reset old new now from bytes id up step is =
     reset_by old (L.moment old now (T.Receive from bytes)) from bytes id (arrival_at bytes) (shows_at bytes step.may) (sym (ap reset_in step.right) ∙ ap reset_in is)
 
@@ -106,7 +110,7 @@ is_reset old new now from bytes id up step is =
 
 record OfReset (s : Own) (from : Endpoint) (up : T.Answer) : Type 0 where
   pub id : ℕ
-  pub is : up ≡ T.Reset id
+  pub is : up ≡ T.Becomes (T.Reset id)
   pub of : OfRequest s from id
 
 abbrev is_told : Option Event → Bool

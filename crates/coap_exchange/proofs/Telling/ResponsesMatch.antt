@@ -92,7 +92,7 @@ module _ (s : Own) (now : ℕ) (from : Endpoint) (bytes : List ℕ) (up : T.Answ
   one_told a n is one has h =
       let e : Some n ≡ Some m = sym (ap told_in is ∙ one) ∙ h in let same : n ≡ m = cc e in subst (λ (x : Message). Told x.kind (known_of s from x)) same has
 
-  told_of : (v : Verdict) → verdict_on s from up ≡ v → (n : Message) → up ≡ T.Response n → Tells n.kind (known_of s from n) v
+  told_of : (v : Verdict) → verdict_on s from up ≡ v → (n : Message) → up ≡ T.Becomes (T.Response n) → Tells n.kind (known_of s from n) v
   told_of v is n up_is = subst (Tells n.kind (known_of s from n)) (ap (verdict_on s from) (sym up_is) ∙ is) (tells n.kind (known_of s from n))
 
   told_by : (v : Verdict) → verdict_on s from up ≡ v → Fits s from up v → answer ≡ told v up → told_in answer ≡ Some m → Told m.kind (known_of s from m)

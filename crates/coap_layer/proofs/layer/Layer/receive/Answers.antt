@@ -85,3 +85,6 @@ returns-clause-may_reply g c m up =
       room = c.in_ok-grow.ensures.there (c.hands.ensures ∙ there.1);
       replies = refl;
     }
+
+pub returns-clause-kept : goal.returns-clause-kept
+returns-clause-kept g c has = c.in_ok-grow.ensures.kept (ap (λ s. s.has_room) c.self.view_is ∙ has)
