@@ -13,7 +13,8 @@ use Rattle.coap_layer.specs.Channel.{HandedBy, Hop, Near, Far, near_of, far_of, 
 use Rattle.coap_layer.proofs.CopyLemmas.{was_begun, begun_by}
 use Rattle.coap_layer.proofs.ComesLemmas.{Comes, a_con, a_non, a_reply, a_stored, a_reset, comes, one_message, replied_call}
 use Rattle.coap_layer.proofs.HandedLemmas.{handed_so, Heard, heard, IsOf, latest_is}
-use Rattle.coap_layer.proofs.HopLemmas.{to_far, near_later, earlier, each_hop, begun_as}
+use Rattle.coap_layer.proofs.Facts.Hops.{to_far, near_later, earlier, each_hop}
+use Rattle.coap_layer.proofs.HopLemmas.{begun_as}
 use Rattle.coap_layer.proofs.NumberedLemmas.{IsBegun, one_con}
 use Rattle.coap_layer.proofs.OutLemmas.{goes_out}
 use Rattle.coap_layer.proofs.TakenLemmas.{alone, takes_it}

@@ -20,7 +20,7 @@ use Rattle.coap_layer.specs.Table.{up_of}
 use Rattle.coap_layer.specs.Trace.{Answer, Becomes, Receive}
 use Rattle.coap_layer.specs.Verdicts.{answer_by}
 use Rattle.coap_layer.specs.Words.{Awaited, awaits_in, ends_in, is_con, handed_by, kept_by, from_there, same}
-use Rattle.coap_layer.proofs.ReadingLemmas.{faulty_shows, one_arrival}
+use Rattle.coap_layer.proofs.Facts.Arrivals.{faulty_shows, one_arrival}
 
 -- what was read is what the datagram shows
 pub read_shows : (bytes : List ℕ) (r : Result Message Fault) → AreBytes bytes → IfOk r (λ m. Spells bytes m)

@@ -13,7 +13,7 @@ use Rattle.coap_layer.specs.State.{start, made}
 use Rattle.coap_layer.specs.Steps.{Asked, Steps, entries, left_after}
 use Rattle.coap_layer.specs.Channel.{Hop, Near, Far, GaveOut, RepliesAtOnce, ChannelLaw, HearsAck, Takes}
 use Rattle.coap_layer.specs.Examples.{IsAcknowledged}
-use Rattle.coap_layer.proofs.StepsLemmas.{led_steps}
+use Rattle.coap_layer.proofs.Facts.Calls.{led_steps}
 
 abbrev client : Endpoint
 client = record { ip = 127 ∷ 0 ∷ 0 ∷ 1 ∷ []; port = 40000 }

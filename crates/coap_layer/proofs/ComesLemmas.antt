@@ -16,7 +16,8 @@ use Rattle.coap_layer.specs.Sends.{packet_of, SpellsCon, GoesOut, PlainOut, Repl
 use Rattle.coap_layer.specs.Channel.{RepliesAtOnce, RepliesSo}
 use Rattle.coap_layer.proofs.ListLemmas.{same_nat, and_left, and_right}
 use Rattle.coap_layer.proofs.OutLemmas.{cons_spelled}
-use Rattle.coap_layer.proofs.NumberedLemmas.{IsBegun, SendsPlain, Begins, begins_of}
+use Rattle.coap_layer.specs.Sends.{Begins}
+use Rattle.coap_layer.proofs.NumberedLemmas.{IsBegun, SendsPlain, begins_of}
 
 pub one_message : (bytes : List ℕ) (m n : Message) → AreBytes bytes → Spells bytes m → Spells bytes n → m ≡ n
 one_message bytes m n are s t = let a = spelled_again bytes m are s in let b = spelled_again bytes n are t in cc (a, b)

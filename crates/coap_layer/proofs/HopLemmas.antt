@@ -1,56 +1,19 @@
--- Two layers' traces, and what came from the other one.
-use Rattle.std.proofs.Common.{◌≡◌, ◌⊎◌, inl, inr, ℕ, ◌+◌, ◌≤◌, List, [], ◌∷◌, ◌++◌, refl, ap, sym, ◌∙◌, subst, arith}
+-- What came from the other layer.
+use Rattle.std.proofs.Common.{◌≡◌, ◌⊎◌, inl, inr, ℕ, ◌+◌, ◌≤◌, List, ◌∷◌, ap, sym, subst, arith}
 use Rattle.coap_types.specs.Past.{Ever, Sometime, Always}
-use Rattle.coap_types.proofs.PastLemmas.{Ever_back, Ever_of_Sometime, Sometime_of_Ever, by_law, by_suffix, found}
+use Rattle.coap_types.proofs.PastLemmas.{Ever_of_Sometime, Sometime_of_Ever, by_law, by_suffix, found}
 use Rattle.coap_types.specs.declared.endpoint.Endpoint.{Endpoint}
 use Rattle.coap_types.specs.declared.message.Kind.TheVariants.{Con, Non, Ack, Rst}
 use Rattle.coap_codec.specs.Message.{AreBytes, Message, Spells}
 use Rattle.coap_layer.specs.Trace.{Packet, Receive, Entry}
 use Rattle.coap_layer.specs.Rows.{Stands, LayerLaw, Row}
-use Rattle.coap_layer.specs.Channel.{Hop, Near, Far, near_of, far_of, OnNear, OnFar, GaveOut, RepliesSo, ChannelLaw, SentSo, ArrivesAsSent, BegunAs, ConsBegun, PlainSent, NonsSent}
+use Rattle.coap_layer.specs.Channel.{Hop, Far, near_of, far_of, GaveOut, RepliesSo, ChannelLaw, SentSo, ArrivesAsSent, BegunAs, ConsBegun, PlainSent, NonsSent}
+use Rattle.coap_layer.proofs.Facts.Hops.{near_ever, each_hop}
 use Rattle.coap_layer.proofs.OutLemmas.{goes_out}
 use Rattle.coap_layer.proofs.ComesLemmas.{Comes, a_con, a_non, a_reply, a_stored, a_reset, comes}
 use Rattle.coap_layer.proofs.NumberedLemmas.{SendsPlain}
 
-pub near_ever : (P : Entry → Type 0) (all : List Hop) → Ever (OnNear P) all → Ever P (near_of all)
-near_ever P [] h = h
-near_ever P (Near e ∷ past) (inl h) = inl h
-near_ever P (Near e ∷ past) (inr h) = inr (near_ever P past h)
-near_ever P (Far e ∷ past) (inl h) = absurd h
-near_ever P (Far e ∷ past) (inr h) = near_ever P past h
-
-pub far_ever : (P : Entry → Type 0) (all : List Hop) → Ever (OnFar P) all → Ever P (far_of all)
-far_ever P [] h = h
-far_ever P (Far e ∷ past) (inl h) = inl h
-far_ever P (Far e ∷ past) (inr h) = inr (far_ever P past h)
-far_ever P (Near e ∷ past) (inl h) = absurd h
-far_ever P (Near e ∷ past) (inr h) = far_ever P past h
-
-pub to_far : (P : Entry → Type 0) (all : List Hop) → Ever P (far_of all) → Ever (OnFar P) all
-to_far P [] h = h
-to_far P (Far e ∷ past) (inl h) = inl h
-to_far P (Far e ∷ past) (inr h) = inr (to_far P past h)
-to_far P (Near e ∷ past) h = inr (to_far P past h)
-
-pub near_more : (s t : List Hop) → near_of (s ++ t) ≡ near_of s ++ near_of t
-near_more [] t = refl
-near_more (Near e ∷ s) t = ap (λ (l : List Entry). e ∷ l) (near_more s t)
-near_more (Far e ∷ s) t = near_more s t
-
--- what happened near by, seen from later
-pub near_later : (P : Entry → Type 0) (whole later r : List Hop) → whole ≡ later ++ r → Ever P (near_of r) → Ever P (near_of whole)
-near_later P whole later r is h = subst (Ever P) (sym (ap near_of is ∙ near_more later r)) (Ever_back P (near_of later) (near_of r) h)
-
--- the law holds of each past
 module _ (one other : ℕ) (near far : Endpoint) where
-  pub earlier : (past : List Hop) (h : Hop) → ChannelLaw one other near far (h ∷ past) → ChannelLaw one other near far past
-  earlier past (Near e) law = record { near_law = law.near_law.1; far_law = law.far_law; near_replies = law.near_replies.1; far_replies = law.far_replies; fair = law.fair.1 }
-  earlier past (Far e) law = record { near_law = law.near_law; far_law = law.far_law.1; near_replies = law.near_replies; far_replies = law.far_replies.1; fair = law.fair.1 }
-
-  pub each_hop : (C : List Hop → Hop → Type 0) → ((past : List Hop) (h : Hop) → ChannelLaw one other near far (h ∷ past) → C past h) → (all : List Hop) → ChannelLaw one other near far all → Always C all
-  each_hop C f [] law = tt
-  each_hop C f (h ∷ past) law = (f past h law, each_hop C f past (earlier past h law))
-
   -- what arrives was sent by a row
   pub sent_so : (past : List Hop) (x : Entry) (bytes : List ℕ) → ChannelLaw one other near far (Far x ∷ past) → x.call ≡ Receive near bytes → Sometime (SentSo far bytes x.at) (near_of past)
   sent_so past x bytes law call =
@@ -58,7 +21,7 @@ module _ (one other : ℕ) (near far : Endpoint) where
       (Sometime_of_Ever _ (near_of past) (near_ever _ past (law.fair.0 bytes call)))
 
   pub arrives_as_sent : (all : List Hop) → ChannelLaw one other near far all → ArrivesAsSent near far all
-  arrives_as_sent all law = each_hop _ (λ past h l x bytes is call. sent_so past x bytes (subst (λ (y : Hop). ChannelLaw one other near far (y ∷ past)) is l) call) all law
+  arrives_as_sent all law = each_hop one other near far _ (λ past h l x bytes is call. sent_so past x bytes (subst (λ (y : Hop). ChannelLaw one other near far (y ∷ past)) is l) call) all law
 
 -- whence a message comes, by its type
 pub data Came (to : Endpoint) (bytes : List ℕ) (m : Message) (when : ℕ) (t : List Entry) : Type 0 where

@@ -6,16 +6,13 @@ pub mod UpOnce
 pub mod ReplyLemmas
 pub mod TickLemmas
 pub mod NumberLemmas
-pub mod ReadingLemmas
 pub mod RowLemmas
 pub mod Forgetting
 pub mod CopyLemmas
-pub mod StepsLemmas
 pub mod EndsLemmas
 pub mod Witness
 pub mod SendingLemmas
 pub mod OutstandingLemmas
-pub mod SpellingLemmas
 pub mod ArrivingLemmas
 pub mod EntryLemmas
 pub mod TakingLemmas
@@ -24,7 +21,6 @@ pub mod CallLemmas
 pub mod PlaceLemmas
 pub mod StoredLemmas
 pub mod SendLemmas
-pub mod SendableLemmas
 pub mod NumberedLemmas
 pub mod FiveLemmas
 pub mod OutLemmas
@@ -38,3 +34,4 @@ pub mod OpenLemmas
 pub mod DueLemmas
 pub mod SendWitness
 pub mod ChannelWitness
+pub mod Facts

@@ -9,6 +9,7 @@ use Rattle.coap_layer.specs.Ids.{Given, AreApart}
 use Rattle.coap_layer.specs.Trace.{Content, with_head, Call, Receive, Reply, Confirm, Plain, Settle, Ticks, Take, Room, AsksFree, Pass, Answer, Becomes, Nothing, Is, Sent, Busied, NoIds, Idle, Copied, Expired, Gives, Entry}
 use Rattle.coap_layer.specs.Words.{Open, sent_by, open_of, begun_in, begun, given_by, given, numbers}
 use Rattle.coap_layer.specs.Rows.{LayerLaw}
+use Rattle.coap_layer.specs.Sends.{Begins}
 use Rattle.coap_layer.proofs.CopyLemmas.{ids_apart}
 
 sent_is : (a : Answer) (id : ℕ) → sent_by a ≡ Some id → a ≡ Sent id
@@ -22,16 +23,6 @@ sent_is Idle id h = absurd (cc h)
 sent_is (Copied to n) id h = absurd (cc h)
 sent_is (Expired to n) id h = absurd (cc h)
 sent_is (Gives p) id h = absurd (cc h)
-
--- the call of which a CON is the first sending
-pub record Begins (at : ℕ) (call : Call) (answer : Answer) (c : Open) : Type 0 where
-  pub content : Content
-  pub word : ℕ
-  pub call_is : call ≡ Confirm c.to content word
-  pub answer_is : answer ≡ Sent c.id
-  pub first_is : c.first ≡ at
-  pub last_is : c.last ≡ at
-  pub bytes_are : c.bytes ≡ message_bytes (with_head Con c.id content)
 
 begins_as : (at : ℕ) (to : Endpoint) (content : Content) (word : ℕ) (answer : Answer) (o : Option ℕ) (c : Open) → sent_by answer ≡ o → open_of at to content word o ≡ Some c → Begins at (Confirm to content word) answer c
 begins_as at to content word answer None c s h = absurd (cc h)

@@ -14,7 +14,8 @@ use Rattle.coap_layer.specs.Sends.{IsIn, as_begun, SendsIt, packet_of, GoesAlike
 use Rattle.coap_layer.proofs.CopyLemmas.{was_begun, begun_by, in_first, copies_row}
 use Rattle.coap_layer.proofs.OpenLemmas.{some_in, first_has, one_open, copied_by, place_same}
 use Rattle.coap_layer.proofs.IdsApart.{small}
-use Rattle.coap_layer.proofs.NumberedLemmas.{Begins, begins_of}
+use Rattle.coap_layer.specs.Sends.{Begins}
+use Rattle.coap_layer.proofs.NumberedLemmas.{begins_of}
 use Rattle.coap_layer.proofs.ListLemmas.{both}
 use Rattle.coap_types.proofs.PastLemmas.{Ever_map}
 use Rattle.std.proofs.lemmas.Bool.Decides.{nat_tests}

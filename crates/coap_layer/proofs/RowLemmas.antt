@@ -20,7 +20,7 @@ use Rattle.coap_layer.proofs.ListLemmas.{le_true, true_le, any_ever, ever_any}
 use Rattle.coap_layer.proofs.DedupLemmas.{remembered_of, of_remembered, count_is}
 use Rattle.coap_layer.proofs.ReplyLemmas.{found_is}
 use Rattle.coap_layer.proofs.NumberLemmas.{Chooses, free_is, one_of, next_is, uses_are}
-use Rattle.coap_layer.proofs.ReadingLemmas.{shows_at, one_arrival}
+use Rattle.coap_layer.proofs.Facts.Arrivals.{shows_at, one_arrival}
 use Rattle.coap_layer.proofs.TickLemmas.{TickIs, tick_is, one_tick}
 
 -- a test, and what it decides

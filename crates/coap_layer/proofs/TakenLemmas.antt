@@ -15,7 +15,8 @@ use Rattle.coap_layer.specs.Channel.{HandedBy, Hop, Near, Far, near_of, far_of, 
 use Rattle.coap_layer.proofs.CopyLemmas.{in_option, in_filter_map, left_same, begun_by, one_outstanding}
 use Rattle.coap_layer.proofs.OpenLemmas.{place_same, busy_with}
 use Rattle.coap_layer.proofs.HandedLemmas.{handed_so}
-use Rattle.coap_layer.proofs.HopLemmas.{far_ever, each_hop, Came, con_came, non_came, reply_came, came, earlier, near_later}
+use Rattle.coap_layer.proofs.Facts.Hops.{far_ever, each_hop, earlier, near_later}
+use Rattle.coap_layer.proofs.HopLemmas.{Came, con_came, non_came, reply_came, came}
 use Rattle.coap_layer.proofs.ListLemmas.{both, and_left, and_right, same_nat}
 use Rattle.coap_layer.proofs.NumberedLemmas.{IsBegun, SendsPlain, begins_of, one_con, no_plain}
 use Rattle.coap_layer.proofs.UpOnce.{up_new}

@@ -7,7 +7,7 @@ use Rattle.coap_layer.specs.Trace.{Content, Confirm, Ticks, Answer, Sent, Idle, 
 use Rattle.coap_layer.specs.Rows.{LayerLaw, IsSpelled}
 use Rattle.coap_layer.specs.State.{State, Step, start, after, forgotten, made}
 use Rattle.coap_layer.specs.Steps.{Asked, Steps, entries, left_after}
-use Rattle.coap_layer.proofs.StepsLemmas.{led_steps}
+use Rattle.coap_layer.proofs.Facts.Calls.{led_steps}
 
 abbrev server : Endpoint
 server = record { ip = 127 ∷ 0 ∷ 0 ∷ 1 ∷ []; port = 5683 }

@@ -3,8 +3,9 @@ use Rattle.std.specs.Prelude.{◌≡◌, ◌⊎◌, ◌≤◌, ℕ, zero, suc, �
 use Rattle.coap_types.specs.Past.{Ever, Sometime, Always, Since}
 use Rattle.coap_types.specs.declared.message.Kind.TheVariants.{Con, Non}
 use Rattle.coap_codec.specs.Message.{Message, Spells}
+use Rattle.coap_codec.specs.Writing.{message_bytes}
 use Rattle.coap_layer.specs.Arrivals.{Faulted, Whole, Shows}
-use Rattle.coap_layer.specs.Trace.{Content, with_head, Packet, Call, Receive, Reply, Plain, Take, Replayed, Rejected, Answer, Becomes, Sent, Copied, Gives, Entry}
+use Rattle.coap_layer.specs.Trace.{Content, with_head, Packet, Call, Receive, Reply, Confirm, Plain, Take, Replayed, Rejected, Answer, Becomes, Sent, Copied, Gives, Entry}
 use Rattle.coap_layer.specs.Words.{awaits, Remembered, hands_up, was_con, reply_in, Open, begun, copies_in, outstanding, waiting}
 use Rattle.coap_layer.specs.Rows.{LayerLaw, reset_to}
 
@@ -16,6 +17,16 @@ AtLeast (suc n) P t = Sometime (λ past e. P past e × AtLeast n P past) t
 -- it is in the list
 abbrev pub IsIn : {A : Type 0} → A → List A → Type 0
 IsIn x xs = Ever (λ y. y ≡ x) xs
+
+-- the call of which a CON is the first sending
+pub record Begins (at : ℕ) (call : Call) (answer : Answer) (c : Open) : Type 0 where
+  pub content : Content
+  pub word : ℕ
+  pub call_is : call ≡ Confirm c.to content word
+  pub answer_is : answer ≡ Sent c.id
+  pub first_is : c.first ≡ at
+  pub last_is : c.last ≡ at
+  pub bytes_are : c.bytes ≡ message_bytes (with_head Con c.id content)
 
 -- how often a CON goes out (section 4.2)
 

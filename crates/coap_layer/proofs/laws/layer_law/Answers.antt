@@ -1,7 +1,7 @@
 use Rattle.coap_layer.proofs.Forgetting.{led_step}
 use Rattle.coap_layer.proofs.RowLemmas.{exact}
 use Rattle.coap_layer.proofs.CopyLemmas.{handed_up_once, copies_in_time, ids_apart, one_outstanding}
-use Rattle.coap_layer.proofs.StepsLemmas.{led_steps}
+use Rattle.coap_layer.proofs.Facts.Calls.{led_steps}
 use Rattle.coap_layer.proofs.EndsLemmas.{ends_outstanding}
 use Rattle.coap_layer.proofs.laws.layer_law.Goals as goal
 
