@@ -1,4 +1,4 @@
-ghost use Rattle.std.specs.Prelude.{ℕ, List};
+ghost use Rattle.std.specs.Prelude.{ℕ, List, ◌++◌};
 ghost use Rattle.coap_types.specs.declared.endpoint.Endpoint.{Endpoint};
 ghost use Rattle.coap_types.specs.Past.{Always};
 ghost use Rattle.coap_layer.specs.Channel.{RepliesSo};
@@ -15,6 +15,7 @@ ghost use Rattle.coap_ends.specs.Follows.ClientNumbering.{OneCall};
 ghost use Rattle.coap_ends.specs.Follows.ClientRests.{ComesToRest};
 ghost use Rattle.coap_ends.specs.Follows.ClientSendings.{OneSending, NoNons, OneCon};
 ghost use Rattle.coap_ends.specs.ClientTrace.{Call};
+ghost use Rattle.coap_ends.specs.Follows.ServerCounts.{Counted};
 ghost use Rattle.coap_ends.specs.Follows.ServerExact as servers_exact;
 ghost use Rattle.coap_ends.specs.Follows.ServerFollows.{ServedOnce, AllServed, HoldsChanges};
 ghost use Rattle.coap_ends.specs.Follows.ServerGives.{SendsResponses};
@@ -32,6 +33,8 @@ ghost use Rattle.coap_ends.specs.Follows.ServerWaits.{WaitsAsDeferred, ReadyAreS
 pub fn client_law()
     // The calls of its message layer stand in the law of that layer (RFC 7252, section 4).
     ensures layer { (server : Endpoint) (szx word : ℕ) (t : List Call) → ClientLaw server szx word t → LayerLaw word (layer_of server word t) }
+    // The calls before some calls stand in the law too.
+    ensures back { (server : Endpoint) (szx word : ℕ) (calls t : List Call) → ClientLaw server szx word (calls ++ t) → ClientLaw server szx word t }
     // The law leaves each call one answer.
     ensures exact { (server : Endpoint) (szx word : ℕ) (past : List Call) → clients_exact.IsExact server szx word past }
     // .. and each has one: what stands in the law goes on.
@@ -69,6 +72,8 @@ pub fn client_law()
 pub fn server_law()
     // The calls of its message layer stand in the law of that layer (RFC 7252, section 4).
     ensures layer { (limit szx word : ℕ) (t : List server.Call) → ServerLaw limit szx word t → LayerLaw word (servers.layer_of limit szx word t) }
+    // The calls before some calls stand in the law too.
+    ensures back { (limit szx word : ℕ) (calls t : List server.Call) → ServerLaw limit szx word (calls ++ t) → ServerLaw limit szx word t }
     // The law leaves each call one answer.
     ensures exact { (limit szx word : ℕ) (past : List server.Call) → servers_exact.IsExact limit szx word past }
     // .. and each has one, whatever its arguments, where the formats of local changes are numbers of 16 bits: what stands
@@ -86,6 +91,8 @@ pub fn server_law()
     ensures once { (limit szx word : ℕ) (t : List server.Call) → ServerLaw limit szx word t → HandedUpOnce (servers.layer_of limit szx word t) }
     // What is served was handed up, and asks what the datagram says (section 5.2).
     ensures handed { (limit szx word : ℕ) (t : List server.Call) → ServerLaw limit szx word t → AreHandedUp limit szx word t }
+    // .. what is handed up so came up from the message layer, as often ..
+    ensures counts { (limit szx word : ℕ) (t : List server.Call) → ServerLaw limit szx word t → Counted limit szx word t }
     // .. and a request that is handed up is served at most once (section 5.2).
     ensures served { (limit szx word : ℕ) (t : List server.Call) → ServerLaw limit szx word t → ServedOnce limit szx t }
     // It is served as the table of the methods says, and what is applied is applied whole (section 5.8).

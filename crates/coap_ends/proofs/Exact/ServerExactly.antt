@@ -18,12 +18,12 @@ use Rattle.coap_exchange.specs.AnswererSteps as P
 use Rattle.coap_exchange.specs.AnswererLaw as W
 use Rattle.coap_exchange.specs.AnswererLaw.{ResponseLaw}
 use Rattle.coap_exchange.proofs.Facts.ServerSide.{exact}
-use Rattle.coap_exchange.proofs.Facts.StepsOfLayer.{one_left, one_answer}
-use Rattle.coap_exchange.proofs.Facts.StepsOfLayer.{steps_split}
+use Rattle.coap_exchange.proofs.Facts.StepsOfLayer.{one_left, one_answer, steps_split}
 use Rattle.coap_ends.specs.ServerTrace.{Own, Handling, Silent, Refuses, Serves, Waits, Call, Feeds, Ticks}
 use Rattle.coap_ends.specs.ServerSteps.{answering, responding}
 use Rattle.coap_ends.specs.ServerLaw.{own_of, lower_of, ServerLaw}
 use Rattle.coap_ends.specs.Follows.ServerExact.{LeaveAlike, IsExact}
+use Rattle.coap_ends.proofs.Exact.LawOfAPast.{response_back}
 use Rattle.coap_ends.proofs.Exact.OneHandling.{came_alike, due_alike}
 use Rattle.coap_ends.proofs.Exact.StoreExactly.{set_alike, removed_alike}
 
@@ -51,14 +51,9 @@ ready_room below o false a h = absurd (none below h)
 -- the calls of the exchanges
 
 module _ (word : ℕ) where
-  one_back : (c : E.Call) (calls : List E.Call) → ResponseLaw word (c ∷ calls) → ResponseLaw word calls
-  one_back c calls law =
-      let k = steps_split (S.start word) law.left (P.lower (W.own_of calls) c) (W.lower_of calls) law.layer in
-      record { rows = law.rows.1; left = k.0; layer = k.1 }
-
   behind : (xs : List E.Call) (c : E.Call) (calls : List E.Call) → ResponseLaw word ((xs ++ c ∷ []) ++ calls) → ResponseLaw word (c ∷ calls)
   behind [] c calls law = law
-  behind (x ∷ xs) c calls law = behind xs c calls (one_back x ((xs ++ c ∷ []) ++ calls) law)
+  behind (x ∷ xs) c calls law = behind xs c calls (response_back word (x ∷ []) ((xs ++ c ∷ []) ++ calls) law)
 
   module _ (at : ℕ) (first : E.Call) (calls : List E.Call) where
     abbrev LawOf : List E.Call → Type 0

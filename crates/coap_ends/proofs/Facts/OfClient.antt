@@ -19,7 +19,7 @@ use Rattle.coap_ends.specs.Follows.ClientHears.{AreHeard}
 use Rattle.coap_ends.specs.Follows.ClientNumbering.{OneCall}
 use Rattle.coap_ends.specs.Follows.ClientRests.{ComesToRest}
 use Rattle.coap_ends.specs.Follows.ClientSendings.{OneSending, NoNons, OneCon}
-use Rattle.coap_ends.proofs.Exact.ClientExactly.{client_back}
+use Rattle.coap_ends.proofs.Exact.LawOfAPast.{client_back}
 use Rattle.coap_ends.proofs.Progress.ClientGoing.{goes_on}
 use Rattle.coap_ends.proofs.Replying.ClientReplies.{replies_so}
 use Rattle.coap_ends.proofs.Reporting.ClientAnswers.{are_answers, are_from_server}

@@ -15,7 +15,7 @@ use Rattle.coap_ends.specs.Follows.ServerRests.{ComesToRest}
 use Rattle.coap_ends.specs.Follows.ServerShows.{FormatsInRange, ShowsHeld}
 use Rattle.coap_ends.specs.Follows.ServerTags.{AreStamped, OneTag}
 use Rattle.coap_ends.specs.Follows.ServerWaits.{WaitsAsDeferred, ReadyAreServed}
-use Rattle.coap_ends.proofs.Exact.ServerExactly.{server_back}
+use Rattle.coap_ends.proofs.Exact.LawOfAPast.{server_back}
 use Rattle.coap_ends.proofs.Holding.OneTag.{one_tag}
 use Rattle.coap_ends.proofs.Holding.ServerHolds.{all_served, holds_changes}
 use Rattle.coap_ends.proofs.Holding.ServerShown.{shows_held}

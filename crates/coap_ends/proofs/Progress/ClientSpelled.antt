@@ -13,7 +13,7 @@ use Rattle.coap_codec.specs.Options.{Options}
 use Rattle.coap_codec.specs.Refused.{ascends, is_short}
 use Rattle.coap_codec.specs.Writing.{more, option_bytes, options_bytes}
 use Rattle.coap_codec.proofs.SpellLemmas.{option_is}
-use Rattle.coap_layer.proofs.ListLemmas.{true_le, both}
+use Rattle.std.proofs.lemmas.Bool.{le-leb, and_from}
 use Rattle.coap_layer.specs.Rows.{IsSpelled}
 use Rattle.coap_exchange.specs.AskerRequests.{content_of}
 use Rattle.coap_ends.specs.ClientTrace.{Request}
@@ -41,7 +41,7 @@ short_front (o ∷ os) tail base h =
     let value = length-append (more (length o.value)) o.value in
     let here : length o.value ≤ 65804 = omega (arith, h, all, delta, value) in
     let there : length rest ≤ 115 = omega (arith, h, all) in
-    both _ _ (true_le (length o.value) 65804 here) (short_front os tail o.number there)
+    and_from _ _ (le-leb (length o.value) 65804 here) (short_front os tail o.number there)
 
 order_path : (path : List (List ℕ)) (more : List CoapOption) → ascends 11 more ≡ true → ascends 11 (path_options path ++ more) ≡ true
 order_path [] more h = h
@@ -53,7 +53,7 @@ numbers_path (s ∷ path) more h = numbers_path path more h
 
 from_0 : (os : List CoapOption) → ascends 11 os ≡ true → ascends 0 os ≡ true
 from_0 [] h = refl
-from_0 (o ∷ os) h = both _ _ (true_le 0 o.number (omega arith)) (and_parts (nat_le 11 o.number) (ascends o.number os) h).1
+from_0 (o ∷ os) h = and_from _ _ (le-leb 0 o.number (omega arith)) (and_parts (nat_le 11 o.number) (ascends o.number os) h).1
 
 order_format : (o : Option ℕ) → ascends 11 (uint_option content_format o) ≡ true
 order_format None = refl

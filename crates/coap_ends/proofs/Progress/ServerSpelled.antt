@@ -11,7 +11,7 @@ use Rattle.coap_types.specs.declared.role.Role.TheVariants as role
 use Rattle.coap_codec.specs.BoundedSpelling.{is_numbered}
 use Rattle.coap_codec.specs.Refused.{ascends, is_short}
 use Rattle.coap_codec.specs.Writing.{options_bytes}
-use Rattle.coap_layer.proofs.ListLemmas.{true_le, both}
+use Rattle.std.proofs.lemmas.Bool.{le-leb, and_from}
 use Rattle.coap_layer.specs.Rows.{IsSpelled}
 use Rattle.coap_resource.specs.ResponseOptions.{Says, IsUint, option_with, block_number}
 use Rattle.coap_resource.specs.Serves.{Reply}
@@ -71,11 +71,11 @@ numbered (Some t) (Some f) (Some b) = refl
 
 short_with : (number : ℕ) (o : Option (List ℕ)) (most : ℕ) (rest : List CoapOption) → IfSome o (λ v. length v ≤ most) → most ≤ 8 → list_all is_short rest ≡ true → list_all is_short (option_with number o ++ rest) ≡ true
 short_with number None most rest h small k = k
-short_with number (Some v) most rest h small k = both _ _ (true_le (length v) 65804 (omega (arith, h, small))) k
+short_with number (Some v) most rest h small k = and_from _ _ (le-leb (length v) 65804 (omega (arith, h, small))) k
 
 short_last : (o : Option (List ℕ)) → IfSome o (λ v. length v ≤ 3) → list_all is_short (option_with 23 o) ≡ true
 short_last None h = refl
-short_last (Some v) h = both _ _ (true_le (length v) 65804 (omega (arith, h))) refl
+short_last (Some v) h = and_from _ _ (le-leb (length v) 65804 (omega (arith, h))) refl
 
 spelled_with : (code : ℕ) (token : List ℕ) (options : List CoapOption) (payload : List ℕ) → 0 < code → code < 256 → length token ≤ 8
     → ascends 0 options ≡ true → list_all is_numbered options ≡ true → list_all is_short options ≡ true

@@ -6,7 +6,7 @@ use Rattle.coap_types.specs.Path.{same_path}
 use Rattle.coap_types.proofs.PathLemmas.{same_path-decides}
 use Rattle.coap_types.specs.declared.request.Method.{Method}
 use Rattle.coap_types.specs.declared.request.Method.TheVariants.{Get, Post, Put, Delete}
-use Rattle.coap_layer.proofs.ListLemmas.{lt_true}
+use Rattle.std.proofs.lemmas.Bool.{ltb-true}
 use Rattle.coap_resource.specs.declared.refusal.StoreRefusal.{StoreRefusal}
 use Rattle.coap_resource.specs.declared.refusal.StoreRefusal.TheVariants.{TooLarge}
 use Rattle.coap_resource.specs.Content.{Content, Held, Changes, unchanged, append_refusal, put_refusal}
@@ -58,7 +58,7 @@ fits_16 None = tt
 fits_16 (Some n) = by (nat_lt n 65536) refl
   where
     by : (b : Bool) → nat_lt n 65536 ≡ b → IfSome (cond b (Some n) None) (λ f. f < 65536)
-    by true is = lt_true n 65536 is
+    by true is = ltb-true n 65536 is
     by false is = tt
 
 -- a request

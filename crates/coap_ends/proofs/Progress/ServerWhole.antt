@@ -5,7 +5,7 @@ use Rattle.std.proofs.lemmas.Bool.{cases_lt}
 use Rattle.std.proofs.lemmas.Bool.Decides.{nat_tests}
 use Rattle.std.proofs.lemmas.List.{take_all}
 use Rattle.std.proofs.Math.Nat.{div-le_self, min-le_left, pow-le-pow_right}
-use Rattle.coap_layer.proofs.ListLemmas.{lt_true}
+use Rattle.std.proofs.lemmas.Bool.{ltb-true}
 use Rattle.coap_resource.specs.Content.{Held}
 use Rattle.coap_resource.specs.RequestOptions.{block_by, offset_by, szx_by}
 use Rattle.coap_resource.specs.ResponseOptions.{block_number}
@@ -52,7 +52,7 @@ block_below o held szx within short = by (block_by o) refl within
 
     by : (block : Option (ℕ × ℕ)) → block_by o ≡ block → (nat_lt 0 (offset_by block) && nat_le (length held.body) (offset_by block)) ≡ false
         → IfSome (block_number (content_reply held (is_some block) (offset_by block) (szx_by block szx)).block2) (λ n. n < 16777216)
-    by None is h = asked (nat_lt (2 ^ (szx + 4)) (length held.body)) 0 szx (omega arith) (λ long. exponent_below szx (length held.body) (lt_true (2 ^ (szx + 4)) (length held.body) long) short)
+    by None is h = asked (nat_lt (2 ^ (szx + 4)) (length held.body)) 0 szx (omega arith) (λ long. exponent_below szx (length held.body) (ltb-true (2 ^ (szx + 4)) (length held.body) long) short)
     by (Some b) is h =
         let asks : b.1 < 8 = asked_below o b is in
         let least : min b.1 szx ≤ b.1 = min-le_left b.1 szx in

@@ -11,7 +11,7 @@ use Rattle.coap_layer.specs.Words.{is_kept, handed, handed_by, from_there}
 use Rattle.coap_layer.specs.State as L
 use Rattle.coap_layer.specs.Steps.{Asked, Steps, entries, left_after}
 use Rattle.coap_layer.specs.Channel.{RepliesSo}
-use Rattle.coap_layer.proofs.StepsLemmas.{steps_left}
+use Rattle.coap_layer.proofs.Facts.Calls.{steps_left}
 use Rattle.coap_exchange.specs.declared.asker.Exchange.{Exchange}
 use Rattle.coap_exchange.specs.declared.matching.Known.{Known}
 use Rattle.coap_exchange.specs.declared.matching.Opening.{Opening}

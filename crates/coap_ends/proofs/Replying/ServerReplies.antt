@@ -13,7 +13,7 @@ use Rattle.coap_layer.specs.State as L
 use Rattle.coap_layer.specs.Steps as G
 use Rattle.coap_layer.specs.Steps.{Steps, entries, left_after}
 use Rattle.coap_layer.specs.Channel.{RepliesSo}
-use Rattle.coap_layer.proofs.StepsLemmas.{steps_left}
+use Rattle.coap_layer.proofs.Facts.Calls.{steps_left}
 use Rattle.coap_exchange.specs.declared.answerer.Asked.{Asked}
 use Rattle.coap_exchange.specs.EmptyMessages.{ack_bytes, reset_bytes}
 use Rattle.coap_exchange.specs.AnswererTrace as E

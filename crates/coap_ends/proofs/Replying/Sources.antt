@@ -21,9 +21,9 @@ use Rattle.coap_layer.specs.Trace.{Content, with_head, Packet, Call, Receive, Re
 use Rattle.coap_layer.specs.Words.{Awaited, awaits, awaits_in, awaited_of, Incoming, handed, handed_in, handed_by, from_there, reply_in, hands_up, Open, begun}
 use Rattle.coap_layer.specs.Rows.{Stands, LayerLaw, Row, IsSpelled, Confirms, SendsAs, RefusesIds}
 use Rattle.coap_layer.specs.Sends.{IsIn, packet_of, PlainOut, ResetOut, GoesOut}
-use Rattle.coap_layer.proofs.HandedLemmas.{handed_spelled}
-use Rattle.coap_layer.proofs.NumberedLemmas.{begins_of}
-use Rattle.coap_layer.proofs.OutLemmas.{cons_spelled, each_goes_out}
+use Rattle.coap_layer.proofs.Facts.Laws.{handed_spelled}
+use Rattle.coap_layer.proofs.Facts.Laws.{begins_of}
+use Rattle.coap_layer.proofs.Facts.Laws.{cons_spelled, each_goes_out}
 use Rattle.std.proofs.lemmas.Bool.{and_parts}
 use Rattle.coap_ends.specs.Follows.ServerGives.{IsEmpty}
 use Rattle.coap_ends.proofs.Replying.ClientReplies.{empty_of, reset_spells}

@@ -13,7 +13,7 @@ use Rattle.coap_layer.specs.Rows.{LayerLaw}
 use Rattle.coap_layer.specs.Sends.{SpellsCon}
 use Rattle.coap_layer.specs.State as S
 use Rattle.coap_layer.specs.Steps.{Asked, Steps, entries}
-use Rattle.coap_layer.proofs.ComesLemmas.{spelled_begun}
+use Rattle.coap_layer.proofs.Facts.Laws.{spelled_begun}
 use Rattle.coap_exchange.specs.declared.asker.AskRefusal.{AskRefusal}
 use Rattle.coap_exchange.specs.declared.asker.Exchange.{Exchange}
 use Rattle.coap_exchange.specs.declared.matching.Opening.{Opening}
