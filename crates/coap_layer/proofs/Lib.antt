@@ -3,6 +3,9 @@ pub mod IdSteps
 pub mod ListLemmas
 pub mod DedupLemmas
 pub mod UpOnce
+pub mod RememberedFew
+pub mod IdsSmall
+pub mod ResponsesSpelled
 pub mod ReplyLemmas
 pub mod TickLemmas
 pub mod NumberLemmas

@@ -15,7 +15,7 @@ use Rattle.coap_codec.specs.Writing.{message_bytes}
 use Rattle.coap_layer.specs.Ids as ids
 use Rattle.coap_layer.specs.Words.{Incoming, clock, numbers, Remembered, remembered, was_con, replied, is_con, Open, is_to, outstanding}
 use Rattle.coap_layer.specs.State.{State, May, history, answer_of, out_of, answer_to, out_to, sorted_by, sending, sent_out, replay, is_outstanding, is_busy, is_remembered, is_full, is_free, to_packets, next_id, uses, tick_of}
-use Rattle.coap_layer.specs.Rows.{Outstanding, Busy, MayGive, Withholds, Drops, HandedAs, Sorts, rejects, drops, takes_ack, takes_reset, takes_answer, replays, hands_over, Arrives, stored, SendsAs, RefusesIds, Confirms, Turns, copies, expires, rests, Row, Stands, LayerLaw}
+use Rattle.coap_layer.specs.Rows.{Outstanding, Busy, MayGive, Withholds, Ignores, ignores_non, ignores_reset, ignores_ack, ignores_unmatched, ignores_new, Drops, HandedAs, Sorts, rejects, drops, takes_ack, takes_reset, takes_answer, replays, hands_over, Arrives, stored, SendsAs, RefusesIds, Confirms, Turns, copies, expires, rests, Row, Stands, LayerLaw}
 use Rattle.coap_layer.proofs.ListLemmas.{le_true, true_le, any_ever, ever_any}
 use Rattle.coap_layer.proofs.DedupLemmas.{remembered_of, of_remembered, count_is}
 use Rattle.coap_layer.proofs.ReplyLemmas.{found_is}
@@ -119,7 +119,7 @@ module _ (word : ℕ) (t : List Entry) where
     new_of : (k : (k_is ≡ Con) ⊎ (k_is ≡ Non)) (c : (c_is ≡ role.Request) ⊎ (c_is ≡ role.Response)) (a : Disposition) → (e.answer ≡ Becomes a → HandedAs word t e m)
         → (r f : Bool) → Decides r R → Decides f F → e.answer ≡ Becomes (again_or r f a) → Out → Sorts word t e m
     new_of k c a w true f hr hf is out = replays (record { kind = k; class = c; old = hr; answer = is; out = out.1 is })
-    new_of k c a w false true hr hf is out = drops (record { why = inr (inr (inr (inr (k, c, hr, hf)))); answer = is; out = out.2 (λ z. cc (is, z)) (λ z. cc (is, z)) })
+    new_of k c a w false true hr hf is out = drops (record { why = ignores_new (record { kind = k; class = c; new = hr; full = hf }); answer = is; out = out.2 (λ z. cc (is, z)) (λ z. cc (is, z)) })
     new_of k c a w false false hr hf is out = hands_over (record { kind = k; new = hr; room = omega (arith, hf); answer = w is; out = out.2 (handed_rejected (w is)) (handed_replayed (w is)) })
 
     non_request : (i : Bool) → k_is ≡ Non → c_is ≡ role.Request → Chooses i (I e.at) (J e.at) → e.answer ≡ Becomes (Request m.message i) → HandedAs word t e m
@@ -134,19 +134,19 @@ module _ (word : ℕ) (t : List Entry) where
     arrives Con role.Response o r f i hk hc ho hr hf hi is out = new_of (inl hk) (inr hc) (Response m.message) (λ w. inr (inr (hc, w))) r f hr hf is out
     arrives Non role.Request o r f i hk hc ho hr hf hi is out = new_of (inr hk) (inl hc) (Request m.message i) (non_request i hk hc hi) r f hr hf is out
     arrives Non role.Response o r f i hk hc ho hr hf hi is out = new_of (inr hk) (inr hc) (Response m.message) (λ w. inr (inr (hc, w))) r f hr hf is out
-    arrives Non role.Empty o r f i hk hc ho hr hf hi is out = drops (record { why = inl (hk, inl hc); answer = is; out = out.2 (λ z. cc (is, z)) (λ z. cc (is, z)) })
-    arrives Non role.Reserved o r f i hk hc ho hr hf hi is out = drops (record { why = inl (hk, inr hc); answer = is; out = out.2 (λ z. cc (is, z)) (λ z. cc (is, z)) })
+    arrives Non role.Empty o r f i hk hc ho hr hf hi is out = drops (record { why = ignores_non (record { kind = hk; class = inl hc }); answer = is; out = out.2 (λ z. cc (is, z)) (λ z. cc (is, z)) })
+    arrives Non role.Reserved o r f i hk hc ho hr hf hi is out = drops (record { why = ignores_non (record { kind = hk; class = inr hc }); answer = is; out = out.2 (λ z. cc (is, z)) (λ z. cc (is, z)) })
     arrives Ack role.Empty true r f i hk hc ho hr hf hi is out = takes_ack (record { kind = hk; class = hc; matches = ho; answer = is; out = out.2 (λ z. cc (is, z)) (λ z. cc (is, z)) })
     arrives Ack role.Response true r f i hk hc ho hr hf hi is out = takes_answer (record { kind = hk; class = hc; matches = ho; answer = is; out = out.2 (λ z. cc (is, z)) (λ z. cc (is, z)) })
     arrives Rst role.Empty true r f i hk hc ho hr hf hi is out = takes_reset (record { kind = hk; class = hc; matches = ho; answer = is; out = out.2 (λ z. cc (is, z)) (λ z. cc (is, z)) })
-    arrives Ack role.Empty false r f i hk hc ho hr hf hi is out = drops (record { why = inr (inr (inr (inl (inl hk, ho)))); answer = is; out = out.2 (λ z. cc (is, z)) (λ z. cc (is, z)) })
-    arrives Ack role.Response false r f i hk hc ho hr hf hi is out = drops (record { why = inr (inr (inr (inl (inl hk, ho)))); answer = is; out = out.2 (λ z. cc (is, z)) (λ z. cc (is, z)) })
-    arrives Rst role.Empty false r f i hk hc ho hr hf hi is out = drops (record { why = inr (inr (inr (inl (inr hk, ho)))); answer = is; out = out.2 (λ z. cc (is, z)) (λ z. cc (is, z)) })
-    arrives Ack role.Request o r f i hk hc ho hr hf hi is out = drops (record { why = inr (inr (inl (hk, inl hc))); answer = is; out = out.2 (λ z. cc (is, z)) (λ z. cc (is, z)) })
-    arrives Ack role.Reserved o r f i hk hc ho hr hf hi is out = drops (record { why = inr (inr (inl (hk, inr hc))); answer = is; out = out.2 (λ z. cc (is, z)) (λ z. cc (is, z)) })
-    arrives Rst role.Request o r f i hk hc ho hr hf hi is out = drops (record { why = inr (inl (hk, λ z. cc (hc, z))); answer = is; out = out.2 (λ z. cc (is, z)) (λ z. cc (is, z)) })
-    arrives Rst role.Response o r f i hk hc ho hr hf hi is out = drops (record { why = inr (inl (hk, λ z. cc (hc, z))); answer = is; out = out.2 (λ z. cc (is, z)) (λ z. cc (is, z)) })
-    arrives Rst role.Reserved o r f i hk hc ho hr hf hi is out = drops (record { why = inr (inl (hk, λ z. cc (hc, z))); answer = is; out = out.2 (λ z. cc (is, z)) (λ z. cc (is, z)) })
+    arrives Ack role.Empty false r f i hk hc ho hr hf hi is out = drops (record { why = ignores_unmatched (record { kind = inl (hk, inl hc); alone = ho }); answer = is; out = out.2 (λ z. cc (is, z)) (λ z. cc (is, z)) })
+    arrives Ack role.Response false r f i hk hc ho hr hf hi is out = drops (record { why = ignores_unmatched (record { kind = inl (hk, inr hc); alone = ho }); answer = is; out = out.2 (λ z. cc (is, z)) (λ z. cc (is, z)) })
+    arrives Rst role.Empty false r f i hk hc ho hr hf hi is out = drops (record { why = ignores_unmatched (record { kind = inr (hk, hc); alone = ho }); answer = is; out = out.2 (λ z. cc (is, z)) (λ z. cc (is, z)) })
+    arrives Ack role.Request o r f i hk hc ho hr hf hi is out = drops (record { why = ignores_ack (record { kind = hk; class = inl hc }); answer = is; out = out.2 (λ z. cc (is, z)) (λ z. cc (is, z)) })
+    arrives Ack role.Reserved o r f i hk hc ho hr hf hi is out = drops (record { why = ignores_ack (record { kind = hk; class = inr hc }); answer = is; out = out.2 (λ z. cc (is, z)) (λ z. cc (is, z)) })
+    arrives Rst role.Request o r f i hk hc ho hr hf hi is out = drops (record { why = ignores_reset (record { kind = hk; class = λ z. cc (hc, z) }); answer = is; out = out.2 (λ z. cc (is, z)) (λ z. cc (is, z)) })
+    arrives Rst role.Response o r f i hk hc ho hr hf hi is out = drops (record { why = ignores_reset (record { kind = hk; class = λ z. cc (hc, z) }); answer = is; out = out.2 (λ z. cc (is, z)) (λ z. cc (is, z)) })
+    arrives Rst role.Reserved o r f i hk hc ho hr hf hi is out = drops (record { why = ignores_reset (record { kind = hk; class = λ z. cc (hc, z) }); answer = is; out = out.2 (λ z. cc (is, z)) (λ z. cc (is, z)) })
 
     -- and back
     sorted : (k : Kind) (c : Role) (o r f i : Bool) → k_is ≡ k → c_is ≡ c → up_of k c m.message o r f i ≡ up_of k_is c_is m.message o r f i
@@ -187,21 +187,16 @@ module _ (word : ℕ) (t : List Entry) where
         odd role.Response h n = refl
         odd role.Reserved h n = refl
 
-        go : ((k_is ≡ Non) × ((c_is ≡ role.Empty) ⊎ (c_is ≡ role.Reserved)))
-            ⊎ ((k_is ≡ Rst) × (c_is ≢ role.Empty))
-            ⊎ ((k_is ≡ Ack) × ((c_is ≡ role.Request) ⊎ (c_is ≡ role.Reserved)))
-            ⊎ (((k_is ≡ Ack) ⊎ (k_is ≡ Rst)) × (O → ⊥))
-            ⊎ (((k_is ≡ Con) ⊎ (k_is ≡ Non)) × ((c_is ≡ role.Request) ⊎ (c_is ≡ role.Response)) × (R → ⊥) × F) → Dropped ≡ up_of k_is c_is m.message o r f i
-        go (inl (k, inl c)) = sorted Non role.Empty o r f i k c
-        go (inl (k, inr c)) = sorted Non role.Reserved o r f i k c
-        go (inr (inl (k, c))) = odd c_is refl c ∙ sorted Rst c_is o r f i k refl
-        go (inr (inr (inl (k, inl c)))) = sorted Ack role.Request o r f i k c
-        go (inr (inr (inl (k, inr c)))) = sorted Ack role.Reserved o r f i k c
-        go (inr (inr (inr (inl (inl k, n))))) = ack_class c_is ∙ (sorted Ack c_is false r f i k refl ∙ ap (λ x. up_of k_is c_is m.message x r f i) (sym (is_false o O ho n)))
-        go (inr (inr (inr (inl (inr k, n))))) = rst_class c_is ∙ (sorted Rst c_is false r f i k refl ∙ ap (λ x. up_of k_is c_is m.message x r f i) (sym (is_false o O ho n)))
-        go (inr (inr (inr (inr (k, c, n, full))))) =
-            ap (λ x. again_or x true (fresh k c i)) (sym (is_false r R hr n))
-            ∙ (ap (λ x. again_or r x (fresh k c i)) (sym (is_true f F hf full)) ∙ sym (again_is k c o r f i))
+        go : Ignores t e m → Dropped ≡ up_of k_is c_is m.message o r f i
+        go (ignores_non w) = ⊎_elim (λ c. sorted Non role.Empty o r f i w.kind c) (λ c. sorted Non role.Reserved o r f i w.kind c) w.class
+        go (ignores_reset w) = odd c_is refl w.class ∙ sorted Rst c_is o r f i w.kind refl
+        go (ignores_ack w) = ⊎_elim (λ c. sorted Ack role.Request o r f i w.kind c) (λ c. sorted Ack role.Reserved o r f i w.kind c) w.class
+        go (ignores_unmatched w) =
+            let none = ap (λ x. up_of k_is c_is m.message x r f i) (sym (is_false o O ho w.alone)) in
+            ⊎_elim (λ k. ack_class c_is ∙ (sorted Ack c_is false r f i k.0 refl ∙ none)) (λ k. rst_class c_is ∙ (sorted Rst c_is false r f i k.0 refl ∙ none)) w.kind
+        go (ignores_new w) =
+            ap (λ x. again_or x true (fresh w.kind w.class i)) (sym (is_false r R hr w.new))
+            ∙ (ap (λ x. again_or r x (fresh w.kind w.class i)) (sym (is_true f F hf w.full)) ∙ sym (again_is w.kind w.class o r f i))
 
     abbrev class_of : HandedAs word t e m → (c_is ≡ role.Request) ⊎ (c_is ≡ role.Response)
     class_of (inl w) = inl w.0

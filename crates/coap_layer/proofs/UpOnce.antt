@@ -1,12 +1,12 @@
 -- What follows from the rows alone: what is handed up was not handed up in the last 247 s.
-use Rattle.std.proofs.Common.{◌≡◌, ◌⊎◌, inl, inr, ℕ, true, false, Option, Some, None, List, refl, ap, ◌∙◌, subst}
+use Rattle.std.proofs.Common.{◌≡◌, ◌⊎◌, inl, inr, ℕ, ◌<◌, true, false, Option, Some, None, List, refl, ap, ◌∙◌, subst}
 use Rattle.coap_types.specs.declared.endpoint.Endpoint.{Endpoint}
 use Rattle.coap_types.specs.declared.message.Kind.{Kind}
 use Rattle.coap_types.specs.declared.message.Kind.TheVariants.{Con, Non, Ack, Rst}
 use Rattle.coap_codec.specs.Message.{Message}
 use Rattle.coap_layer.specs.Arrivals.{Arrival, Unreadable, Faulted, Whole}
 use Rattle.coap_layer.specs.Trace.{Call, Receive, Reply, Confirm, Plain, Settle, Ticks, Take, Room, AsksFree, Pass, Dropped, Replayed, Rejected, Request, Response, Acked, Reset, Answer, Becomes, Entry}
-use Rattle.coap_layer.specs.Words.{Incoming, handed_by, kept_by, from_there, handed_in, taken_in, handed, taken, Remembered}
+use Rattle.coap_layer.specs.Words.{Incoming, handed_by, kept_by, from_there, handed_in, taken_in, handed, taken, Remembered, remembered}
 use Rattle.coap_layer.specs.Rows.{Stands, Row, Arrives, Sorts, HandedAs, rejects, drops, takes_ack, takes_reset, takes_answer, replays, hands_over}
 
 -- an answer that hands nothing up
@@ -37,7 +37,11 @@ handed_up word past e m k (inl a) = ap handed_by a.2
 handed_up word past e m k (inr (inl a)) = ap handed_by a.3
 handed_up word past e m k (inr (inr a)) = ap handed_by a.1 ∙ response_up m.message.kind m.message refl k
 
-sorted_new : (word : ℕ) (past : List Entry) (e : Entry) (n m : Incoming) → Sorts word past e n → from_there n.from (handed_by e.answer) ≡ Some m → Remembered past e.at m.from m.message.id → ⊥
+-- .. is not remembered, and there is a place for it
+abbrev IsNew : List Entry → Entry → Incoming → Type 0
+IsNew past e m = (Remembered past e.at m.from m.message.id → ⊥) × (remembered e.at past < 4096)
+
+sorted_new : (word : ℕ) (past : List Entry) (e : Entry) (n m : Incoming) → Sorts word past e n → from_there n.from (handed_by e.answer) ≡ Some m → IsNew past e m
 sorted_new word past e n m (rejects r) h = absurd (nothing_up n.from e.answer _ m r.answer refl h)
 sorted_new word past e n m (drops r) h = absurd (nothing_up n.from e.answer _ m r.answer refl h)
 sorted_new word past e n m (takes_ack r) h = absurd (nothing_up n.from e.answer _ m r.answer refl h)
@@ -45,9 +49,9 @@ sorted_new word past e n m (takes_reset r) h = absurd (nothing_up n.from e.answe
 sorted_new word past e n m (takes_answer r) h = absurd (nothing_up n.from e.answer _ m r.answer (acknowledged_up n.message r.kind) h)
 sorted_new word past e n m (replays r) h = absurd (nothing_up n.from e.answer _ m r.answer refl h)
 sorted_new word past e n m (hands_over r) h =
-    subst (λ (x : Incoming). Remembered past e.at x.from x.message.id → ⊥) (this_up n.from e.answer n.message m (handed_up word past e n r.kind r.answer) h) r.new
+    (subst (λ (x : Incoming). Remembered past e.at x.from x.message.id → ⊥) (this_up n.from e.answer n.message m (handed_up word past e n r.kind r.answer) h) r.new, r.room)
 
-arrived_new : (word : ℕ) (past : List Entry) (e : Entry) (from : Endpoint) (what : Arrival) (m : Incoming) → Arrives word past e from what → from_there from (handed_by e.answer) ≡ Some m → Remembered past e.at m.from m.message.id → ⊥
+arrived_new : (word : ℕ) (past : List Entry) (e : Entry) (from : Endpoint) (what : Arrival) (m : Incoming) → Arrives word past e from what → from_there from (handed_by e.answer) ≡ Some m → IsNew past e m
 arrived_new word past e from Unreadable m r h = absurd (nothing_up from e.answer _ m r.0 refl h)
 arrived_new word past e from (Faulted Con id) m r h = absurd (nothing_up from e.answer _ m r.0 refl h)
 arrived_new word past e from (Faulted Non id) m r h = absurd (nothing_up from e.answer _ m r.0 refl h)
@@ -55,7 +59,7 @@ arrived_new word past e from (Faulted Ack id) m r h = absurd (nothing_up from e.
 arrived_new word past e from (Faulted Rst id) m r h = absurd (nothing_up from e.answer _ m r.0 refl h)
 arrived_new word past e from (Whole n) m r h = sorted_new word past e (record { from = from; message = n }) m r h
 
-handed_new : (word : ℕ) (past : List Entry) (e : Entry) (call : Call) (m : Incoming) → Row word past e call → handed_in call e.answer ≡ Some m → Remembered past e.at m.from m.message.id → ⊥
+handed_new : (word : ℕ) (past : List Entry) (e : Entry) (call : Call) (m : Incoming) → Row word past e call → handed_in call e.answer ≡ Some m → IsNew past e m
 handed_new word past e (Receive from bytes) m row h = arrived_new word past e from row.1.0 m row.1.2 h
 handed_new word past e (Reply to id bytes) m row h = absurd (cc h)
 handed_new word past e (Confirm to content wish) m row h = absurd (cc h)
@@ -68,7 +72,10 @@ handed_new word past e AsksFree m row h = absurd (cc h)
 handed_new word past e Pass m row h = absurd (cc h)
 
 pub up_new : (word : ℕ) (past : List Entry) (e : Entry) (m : Incoming) → Stands word past e → handed e ≡ Some m → Remembered past e.at m.from m.message.id → ⊥
-up_new word past e m law h = handed_new word past e e.call m law.row h
+up_new word past e m law h = (handed_new word past e e.call m law.row h).0
+
+pub up_room : (word : ℕ) (past : List Entry) (e : Entry) (m : Incoming) → Stands word past e → handed e ≡ Some m → remembered e.at past < 4096
+up_room word past e m law h = (handed_new word past e e.call m law.row h).1
 
 -- what is remembered is handed up
 kept_handed : (a : Answer) (n : Message) → kept_by a ≡ Some n → handed_by a ≡ Some n

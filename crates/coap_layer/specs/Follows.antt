@@ -1,12 +1,13 @@
 -- What follows from the layer's law (RFC 7252, sections 4.2, 4.4, 4.5 and 4.7).
-use Rattle.std.specs.Prelude.{◌≡◌, ◌⊎◌, ◌≤◌, ℕ, ◌+◌, true, Some, List, [], ◌∷◌}
+use Rattle.std.specs.Prelude.{◌≡◌, ◌⊎◌, ◌≤◌, ◌<◌, ℕ, ◌+◌, ◌^◌, true, Some, List, [], ◌∷◌}
 use Rattle.coap_types.specs.Past.{Ever, Always}
 use Rattle.coap_types.specs.declared.endpoint.Endpoint.{Endpoint}
 use Rattle.coap_types.specs.SameEndpoint.{same_endpoint}
+use Rattle.coap_codec.specs.Message.{AreBytes, Message, Spells}
 use Rattle.coap_layer.specs.Ids.{AreApart}
-use Rattle.coap_layer.specs.Trace.{Receive, Acked, Reset, Becomes, Copied, Entry}
+use Rattle.coap_layer.specs.Trace.{Receive, Response, Acked, Reset, Becomes, Sent, Copied, Entry}
 use Rattle.coap_layer.specs.Rows.{Stands, LayerLaw, Outstanding}
-use Rattle.coap_layer.specs.Words.{Incoming, handed, Remembered, Open, begun, numbers, outstanding}
+use Rattle.coap_layer.specs.Words.{clock, Incoming, handed, Remembered, remembered, Open, begun, numbers, outstanding}
 
 -- No message is handed up that was handed up, and remembered, at most 247,000 ms before.
 abbrev pub HandedUpOnce : List Entry → Type 0
@@ -43,3 +44,23 @@ IsExact =
 abbrev pub EndsOutstanding : List Entry → Type 0
 EndsOutstanding t =
     Always (λ past e. (from : Endpoint) (bytes : List ℕ) (id : ℕ) → e.call ≡ Receive from bytes → (e.answer ≡ Becomes (Acked id)) ⊎ (e.answer ≡ Becomes (Reset id)) → Outstanding past from id) t
+
+-- No more are remembered than there is a place for (profile).
+abbrev pub RemembersFew : List Entry → Type 0
+RemembersFew t = (now : ℕ) → clock t ≤ now → remembered now t ≤ 4096
+
+-- Each Message ID that is given has 16 bits (section 3).
+abbrev pub IdsSmall : List Entry → Type 0
+IdsSmall t = Always (λ past e. (id : ℕ) → e.answer ≡ Sent id → id < 2 ^ 16) t
+
+-- the message is what the datagram that arrives spells
+pub record Carried (e : Entry) (m : Message) : Type 0 where
+  pub from : Endpoint
+  pub bytes : List ℕ
+  pub call : e.call ≡ Receive from bytes
+  pub are_bytes : AreBytes bytes
+  pub spells : Spells bytes m
+
+-- A response is what its datagram spells, in an acknowledgement too (section 5.2.1).
+abbrev pub ResponsesSpelled : List Entry → Type 0
+ResponsesSpelled t = Always (λ past e. (m : Message) → e.answer ≡ Becomes (Response m) → Carried e m) t

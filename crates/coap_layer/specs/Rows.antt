@@ -41,12 +41,43 @@ pub record Rejects (past : List Entry) (e : Entry) (m : Incoming) : Type 0 where
   pub answer : e.answer ≡ Becomes Rejected
   pub out : e.out ≡ reset_to m.from m.message.id ∷ []
 
+-- an Empty NON, or one of a reserved class
+pub record IsStrayNon (m : Incoming) : Type 0 where
+  pub kind : m.message.kind ≡ Non
+  pub class : (role_of m.message.code ≡ role.Empty) ⊎ (role_of m.message.code ≡ role.Reserved)
+
+-- a Reset that isn't Empty
+pub record IsFullReset (m : Incoming) : Type 0 where
+  pub kind : m.message.kind ≡ Rst
+  pub class : role_of m.message.code ≢ role.Empty
+
+-- an acknowledgement that carries a request, or is of a reserved class
+pub record IsOddAck (m : Incoming) : Type 0 where
+  pub kind : m.message.kind ≡ Ack
+  pub class : (role_of m.message.code ≡ role.Request) ⊎ (role_of m.message.code ≡ role.Reserved)
+
+-- any other acknowledgement or Reset, of what is not outstanding
+pub record IsUnmatched (past : List Entry) (m : Incoming) : Type 0 where
+  pub kind : ((m.message.kind ≡ Ack) × ((role_of m.message.code ≡ role.Empty) ⊎ (role_of m.message.code ≡ role.Response))) ⊎ ((m.message.kind ≡ Rst) × (role_of m.message.code ≡ role.Empty))
+  pub alone : Outstanding past m.from m.message.id → ⊥
+
+-- a new CON or NON with a request or a response, where no more can be remembered
+pub record FindsFull (past : List Entry) (e : Entry) (m : Incoming) : Type 0 where
+  pub kind : (m.message.kind ≡ Con) ⊎ (m.message.kind ≡ Non)
+  pub class : (role_of m.message.code ≡ role.Request) ⊎ (role_of m.message.code ≡ role.Response)
+  pub new : Remembered past e.at m.from m.message.id → ⊥
+  pub full : 4096 ≤ remembered e.at past
+
+-- what is silently ignored
+pub data Ignores (past : List Entry) (e : Entry) (m : Incoming) : Type 0 where
+  ignores_non : IsStrayNon m → Ignores past e m
+  ignores_reset : IsFullReset m → Ignores past e m
+  ignores_ack : IsOddAck m → Ignores past e m
+  ignores_unmatched : IsUnmatched past m → Ignores past e m
+  ignores_new : FindsFull past e m → Ignores past e m
+
 pub record Drops (past : List Entry) (e : Entry) (m : Incoming) : Type 0 where
-  pub why : ((m.message.kind ≡ Non) × ((role_of m.message.code ≡ role.Empty) ⊎ (role_of m.message.code ≡ role.Reserved)))
-      ⊎ ((m.message.kind ≡ Rst) × (role_of m.message.code ≢ role.Empty))
-      ⊎ ((m.message.kind ≡ Ack) × ((role_of m.message.code ≡ role.Request) ⊎ (role_of m.message.code ≡ role.Reserved)))
-      ⊎ (((m.message.kind ≡ Ack) ⊎ (m.message.kind ≡ Rst)) × (Outstanding past m.from m.message.id → ⊥))
-      ⊎ (((m.message.kind ≡ Con) ⊎ (m.message.kind ≡ Non)) × ((role_of m.message.code ≡ role.Request) ⊎ (role_of m.message.code ≡ role.Response)) × (Remembered past e.at m.from m.message.id → ⊥) × (4096 ≤ remembered e.at past))
+  pub why : Ignores past e m
   pub answer : e.answer ≡ Becomes Dropped
   pub out : e.out ≡ []
 
