@@ -7,12 +7,12 @@ use Rattle.coap_types.specs.declared.message.Kind.TheVariants.{Con}
 use Rattle.coap_codec.specs.Writing.{message_bytes}
 use Rattle.coap_layer.specs.declared.retransmission.Due.{Due}
 use Rattle.coap_layer.specs.declared.retransmission.Due.TheVariants as due
-use Rattle.coap_layer.specs.Arriving.{without}
+use Rattle.coap_layer.specs.Arriving.{without_open}
 use Rattle.coap_layer.specs.Entries.{storing}
 use Rattle.coap_layer.specs.Sendings.{answer_for}
 use Rattle.coap_layer.specs.State.{State, Arrived, May, Step, after, answer_of, forgotten, is_live, made, moment, out_of, stores}
 use Rattle.coap_layer.specs.Trace.{Answer, Call, Confirm, Content, Entry, Gives, Is, Nothing, Packet, Plain, Reply, Sent, Settle, Take, Ticks, with_head}
-use Rattle.coap_layer.specs.Words.{Awaited, Open, awaits_in, begun, given, left_by, taken, takes_in}
+use Rattle.coap_layer.specs.Words.{Awaited, Open, awaits_in, begun, issued, left_by, taken, takes_in}
 use Rattle.coap_layer.proofs.Forgetting.{live_before, step_by}
 use Rattle.coap_layer.proofs.ListLemmas.{filter_implied, filter_map_all, filter_map_same, map_same}
 
@@ -40,7 +40,7 @@ moved h at w es cs q = record { clock = at; awaits = w; upcoming = h.upcoming; l
 -- a call that does nothing but move the clock
 pub still : (h : State) (at : ℕ) (call : Call) (answer : Answer) (w : Option Awaited)
     → let e : Entry = record { at = at; call = call; answer = answer; out = [] } in
-    ((a : Arrived) → stores e a ≡ a) → ((c : Open) → left_by e c ≡ Some c) → taken e ≡ None → begun e ≡ None → given e ≡ [] → takes_in call ≡ 0 → awaits_in call answer h.awaits ≡ w
+    ((a : Arrived) → stores e a ≡ a) → ((c : Open) → left_by e c ≡ Some c) → taken e ≡ None → begun e ≡ None → issued e ≡ [] → takes_in call ≡ 0 → awaits_in call answer h.awaits ≡ w
     → after h e ≡ moved h at w h.arrived h.open_cons h.queue
 still h at call answer w s l t b g n a =
     let e : Entry = record { at = at; call = call; answer = answer; out = [] } in
@@ -70,11 +70,11 @@ module _ (h : State) (at : ℕ) (to : Endpoint) (content : Content) (id : ℕ) w
       cc (arrived, opened)
 
 -- an end
-pub settled_so : (h : State) (to : Endpoint) (id : ℕ) (b : Bool) → after h (record { at = h.clock; call = Settle to id; answer = Is b; out = [] }) ≡ moved h h.clock h.awaits h.arrived (without to id h.open_cons) h.queue
+pub settled_so : (h : State) (to : Endpoint) (id : ℕ) (b : Bool) → after h (record { at = h.clock; call = Settle to id; answer = Is b; out = [] }) ≡ moved h h.clock h.awaits h.arrived (without_open to id h.open_cons) h.queue
 settled_so h to id b =
     let e : Entry = record { at = h.clock; call = Settle to id; answer = Is b; out = [] } in
     let arrived = same_arrived h e (λ a. refl) in
-    let opened : filter_map (left_by e) h.open_cons ++ [] ≡ without to id h.open_cons = append-nil _ in
+    let opened : filter_map (left_by e) h.open_cons ++ [] ≡ without_open to id h.open_cons = append-nil _ in
     let queue = append-nil h.queue in
     cc (arrived, opened, queue)
 
@@ -98,7 +98,7 @@ replied_so h to id bytes p =
     cc (arrived, opened)
 
 -- a tick
-pub ticked_so : (h : State) (at : ℕ) (answer : Answer) (out : List Packet) → given (record { at = at; call = Ticks; answer = answer; out = out }) ≡ []
+pub ticked_so : (h : State) (at : ℕ) (answer : Answer) (out : List Packet) → issued (record { at = at; call = Ticks; answer = answer; out = out }) ≡ []
     → let e : Entry = record { at = at; call = Ticks; answer = answer; out = out } in
     after h e ≡ moved h at None h.arrived (filter_map (left_by e) h.open_cons) (h.queue ++ out)
 ticked_so h at answer out none =
@@ -107,7 +107,7 @@ ticked_so h at answer out none =
     let opened : filter_map (left_by e) h.open_cons ++ [] ≡ filter_map (left_by e) h.open_cons = append-nil _ in
     cc (arrived, opened, none)
 
-pub tick_gives_none : (at : ℕ) (due : Due) (out : List Packet) → given (record { at = at; call = Ticks; answer = answer_for due; out = out }) ≡ []
+pub tick_gives_none : (at : ℕ) (due : Due) (out : List Packet) → issued (record { at = at; call = Ticks; answer = answer_for due; out = out }) ≡ []
 tick_gives_none at due.Nothing out = refl
 tick_gives_none at (due.Copy to id) out = refl
 tick_gives_none at (due.Failure to id) out = refl

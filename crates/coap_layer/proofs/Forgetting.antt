@@ -6,7 +6,7 @@ use Rattle.coap_types.specs.Roles.{role_of}
 use Rattle.coap_layer.specs.Trace.{Packet, Call, Receive, Reply, Confirm, Plain, Settle, Ticks, Take, Room, AsksFree, Pass, Disposition, Dropped, Replayed, Rejected, Request, Response, Acked, Reset, Answer, Becomes, Entry}
 use Rattle.coap_layer.specs.Table.{up_of}
 use Rattle.coap_layer.specs.Arrivals.{Arrival, Unreadable, Faulted, Whole, arrival_at}
-use Rattle.coap_layer.specs.Words.{Incoming, awaits_in, given, clock, is_con, left_by, begun, taken, takes_in}
+use Rattle.coap_layer.specs.Words.{Incoming, awaits_in, issued, clock, is_con, left_by, begun, taken, takes_in}
 use Rattle.coap_layer.specs.State.{State, May, history, Arrived, is_live, is_of, is_remembered, is_full, is_free, is_outstanding, reply_of, replay, to_packets, sorted_by, answer_to, answer_of, out_to, out_of, stores, newly, next_after, uses_after, after, forgotten, moment, made, Step}
 use Rattle.coap_layer.specs.Rows.{Stands, LayerLaw}
 use Rattle.coap_layer.specs.LayerLed.{LayerLed}
@@ -101,7 +101,7 @@ same_after h e le =
     (filter_changed (is_live e.at) (stores e) (λ a. same_live e a e.at) old
     ∙ (ap (map (stores e)) (live_then h e.at le) ∙ sym (filter_changed (is_live e.at) (stores e) (λ a. same_live e a e.at) h.arrived)))
     ∙ sym (filter_more (is_live e.at) (map (stores e) h.arrived) new)) in
-    ap (λ (es : List Arrived). record { clock = e.at; awaits = awaits_in e.call e.answer h.awaits; upcoming = next_after (given e) h.upcoming; last_used = uses_after (given e) h.last_used; arrived = es; open_cons = filter_map (left_by e) h.open_cons ++ option_to_list (begun e); queue = drop (takes_in e.call) h.queue ++ e.out }) arrived
+    ap (λ (es : List Arrived). record { clock = e.at; awaits = awaits_in e.call e.answer h.awaits; upcoming = next_after (issued e) h.upcoming; last_used = uses_after (issued e) h.last_used; arrived = es; open_cons = filter_map (left_by e) h.open_cons ++ option_to_list (begun e); queue = drop (takes_in e.call) h.queue ++ e.out }) arrived
 
 after_clock : (h : State) (now : ℕ) (call : Call) → h.clock ≤ moment (forgotten h) now call
 after_clock h now (Receive from bytes) = omega arith

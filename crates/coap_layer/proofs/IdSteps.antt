@@ -3,7 +3,7 @@ use Rattle.std.proofs.Common.{◌≡◌, ◌≢◌, ℕ, ◌+◌, ◌/◌, ◌%�
 use Rattle.std.proofs.lemmas.Bool.Decides.{nat_tests}
 use Rattle.std.proofs.lemmas.Option.{slice_get_within}
 use Rattle.coap_types.specs.declared.message.Id.{Id}
-use Rattle.coap_layer.specs.Ids.{Given, last_use, MayGive, Withholds, IdEntry, clock, numbers, IdRow, IsFree}
+use Rattle.coap_layer.specs.Ids.{Issued, last_use, MayGive, Withholds, IdEntry, clock, numbers, IdRow, IsFree}
 use Rattle.coap_layer.specs.IdState.{IdState, AreUses, Led, next_entry, free_entry}
 
 get_set : {X : Type 0} (xs : List X) (i : ℕ) (w : X) → i < length xs → slice_get (slice_set xs i w) i ≡ Some w
@@ -19,7 +19,7 @@ get_other (x ∷ xs) (suc i) zero w h = refl
 get_other (x ∷ xs) (suc i) (suc j) w h = get_other xs i j w (λ e. h (ap suc e))
 
 -- a number more
-pub uses_more : (past : List Given) (uses : List (Option ℕ)) (g : Given) → g.id < 65536 → AreUses past uses → AreUses (g ∷ past) (slice_set uses (g.id / 4096) (Some g.at))
+pub uses_more : (past : List Issued) (uses : List (Option ℕ)) (g : Issued) → g.id < 65536 → AreUses past uses → AreUses (g ∷ past) (slice_set uses (g.id / 4096) (Some g.at))
 uses_more past uses g small h group le = go (g.id / 4096 == group) refl
   where
     go : (b : Bool) → (g.id / 4096 == group) ≡ b → slice_get (slice_set uses (g.id / 4096) (Some g.at)) group ≡ Some (cond b (Some g.at) (last_use past group))

@@ -4,24 +4,24 @@ use Rattle.std.proofs.lemmas.Bool.Decides.{nat_tests}
 use native.Mathlib.Decide.{dec_le}
 use Prim.{yes, no}
 use Rattle.coap_types.specs.Past.{Ever}
-use Rattle.coap_layer.specs.Ids.{Given, upcoming, last_use, IsRested, IsHeld, MayGive, latest, NumbersLaw, AreApart, IdCall, Next, IsFree, IdEntry, clock, given_in, numbers, IdRow, Ids, IdsAreExact}
+use Rattle.coap_layer.specs.Ids.{Issued, upcoming, last_use, IsRested, IsHeld, MayGive, latest, NumbersLaw, AreApart, IdCall, Next, IsFree, IdEntry, clock, issued_in, numbers, IdRow, Ids, IdsAreExact}
 
 -- the number was not given in the 400,000 ms up to now
-abbrev IsNew : List Given → ℕ → ℕ → Type 0
-IsNew past id now = Ever (λ (h : Given). (h.id ≡ id) × (now ≤ h.at + 400000)) past → ⊥
+abbrev IsNew : List Issued → ℕ → ℕ → Type 0
+IsNew past id now = Ever (λ (h : Issued). (h.id ≡ id) × (now ≤ h.at + 400000)) past → ⊥
 
-pub small : (word : ℕ) (t : List Given) → upcoming word t < 65536
+pub small : (word : ℕ) (t : List Issued) → upcoming word t < 65536
 small word [] = omega arith
 small word (g ∷ past) = omega arith
 
 -- what is all long ago leaves every number new
-long_ago : (word : ℕ) (t : List Given) (id now : ℕ) → NumbersLaw word t → latest t + 400000 < now → IsNew t id now
+long_ago : (word : ℕ) (t : List Issued) (id now : ℕ) → NumbersLaw word t → latest t + 400000 < now → IsNew t id now
 long_ago word [] id now law h k = k
 long_ago word (g ∷ past) id now law h (inl k) = absurd (omega (arith, h, k.1))
 long_ago word (g ∷ past) id now law h (inr k) = long_ago word past id now law.1 (let le = law.0.time in omega (arith, h, le)) k
 
 -- the use of a number, in a group that is rested afterwards
-rested_use : (b : Bool) (word : ℕ) (g : Given) (past : List Given) (id at now : ℕ) → NumbersLaw word (g ∷ past) → (g.id / 4096 == id / 4096) ≡ b
+rested_use : (b : Bool) (word : ℕ) (g : Issued) (past : List Issued) (id at now : ℕ) → NumbersLaw word (g ∷ past) → (g.id / 4096 == id / 4096) ≡ b
     → IsRested (if b then Some g.at else last_use past (id / 4096)) at → at ≤ now
     → (IsRested (last_use past (id / 4096)) at → IsNew past id now)
     → IsNew (g ∷ past) id now
@@ -32,13 +32,13 @@ rested_use false word g past id at now law is free le rest (inl k) =
     absurd (grind (arith, nat_tests, same, is))
 
 -- a rested group's numbers are new
-rested_new : (word : ℕ) (t : List Given) (id at now : ℕ) → NumbersLaw word t → IsRested (last_use t (id / 4096)) at → at ≤ now → IsNew t id now
+rested_new : (word : ℕ) (t : List Issued) (id at now : ℕ) → NumbersLaw word t → IsRested (last_use t (id / 4096)) at → at ≤ now → IsNew t id now
 rested_new word [] id at now law free le k = k
 rested_new word (g ∷ past) id at now law free le k =
     rested_use (g.id / 4096 == id / 4096) word g past id at now law refl free le (λ free'. rested_new word past id at now law.1 free' le) k
 
 -- a number that may come next is new
-next_new : (word : ℕ) (t : List Given) (id at now : ℕ) → NumbersLaw word t → id / 4096 ≡ upcoming word t / 4096 → upcoming word t ≤ id → at ≤ now
+next_new : (word : ℕ) (t : List Issued) (id at now : ℕ) → NumbersLaw word t → id / 4096 ≡ upcoming word t / 4096 → upcoming word t ≤ id → at ≤ now
     → MayGive word t at
     → (upcoming word t % 4096 ≢ 0 → IsNew t id now)
     → IsNew t id now
@@ -51,7 +51,7 @@ next_new word t id at now law group from le free rest =
     ]
 
 -- what is not given yet of the group that is entered is new
-rest_new : (word : ℕ) (t : List Given) → NumbersLaw word t → (id now : ℕ) → upcoming word t % 4096 ≢ 0 → id / 4096 ≡ upcoming word t / 4096 → upcoming word t ≤ id → latest t ≤ now
+rest_new : (word : ℕ) (t : List Issued) → NumbersLaw word t → (id now : ℕ) → upcoming word t % 4096 ≢ 0 → id / 4096 ≡ upcoming word t / 4096 → upcoming word t ≤ id → latest t ≤ now
     → IsNew t id now
 rest_new word [] law id now inside group from le = absurd (inside (omega arith))
 rest_new word (g ∷ past) law id now inside group from le =
@@ -65,7 +65,7 @@ rest_new word (g ∷ past) law id now inside group from le =
     (λ inside'. rest_new word past law.1 id now inside' group' (omega (arith, from')) later) in
     λ k. ⊎_elim (λ (a : (g.id ≡ id) × (now ≤ g.at + 400000)). let same = a.0 in absurd (omega (arith, same, right, from'))) older k
 
-pub apart : (word : ℕ) (t : List Given) → NumbersLaw word t → AreApart t
+pub apart : (word : ℕ) (t : List Issued) → NumbersLaw word t → AreApart t
 apart word [] law = tt
 apart word (g ∷ past) law = (
   (
@@ -77,7 +77,7 @@ apart word (g ∷ past) law = (
 )
 
 -- from the calls to the numbers
-latest_in : (at : ℕ) (call : IdCall) (past : List Given) → latest past ≤ at → latest (given_in at call ++ past) ≤ at
+latest_in : (at : ℕ) (call : IdCall) (past : List Issued) → latest past ≤ at → latest (issued_in at call ++ past) ≤ at
 latest_in at (Next (Some id)) past le = omega arith
 latest_in at (Next None) past le = le
 latest_in at (IsFree b) past le = le
@@ -86,7 +86,7 @@ latest_by : (word : ℕ) (t : List IdEntry) → Ids word t → latest (numbers t
 latest_by word [] law = omega arith
 latest_by word (e ∷ past) law = latest_in e.at e.call (numbers past) (let le = latest_by word past law.1 in let t = law.0.time in omega (arith, le, t))
 
-law_in : (word at : ℕ) (call : IdCall) (past : List Given) → latest past ≤ at → IdRow word past at call → NumbersLaw word past → NumbersLaw word (given_in at call ++ past)
+law_in : (word at : ℕ) (call : IdCall) (past : List Issued) → latest past ≤ at → IdRow word past at call → NumbersLaw word past → NumbersLaw word (issued_in at call ++ past)
 law_in word at (Next (Some id)) past le row law = (record { time = le; right = row }, law)
 law_in word at (Next None) past le row law = law
 law_in word at (IsFree b) past le row law = law
@@ -101,7 +101,7 @@ pub not_both : (o : Option ℕ) (now : ℕ) → IsRested o now → IsHeld o now 
 not_both None now r h = h
 not_both (Some last) now r h = omega (arith, r, h)
 
-pub one_number : (word : ℕ) (past : List Given) (at : ℕ) (a b : Option ℕ) → IdRow word past at (Next a) → IdRow word past at (Next b) → a ≡ b
+pub one_number : (word : ℕ) (past : List Issued) (at : ℕ) (a b : Option ℕ) → IdRow word past at (Next a) → IdRow word past at (Next b) → a ≡ b
 one_number word past at (Some a) (Some b) r s = ap Some (r.next ∙ sym s.next)
 one_number word past at (Some a) None r s = absurd (not_both _ at (r.may s.spent) s.held)
 one_number word past at None (Some b) r s = absurd (not_both _ at (s.may r.spent) r.held)

@@ -5,9 +5,9 @@ use Rattle.coap_types.specs.declared.endpoint.Endpoint.{Endpoint}
 use Rattle.coap_types.specs.declared.message.Kind.TheVariants.{Con}
 use Rattle.coap_types.proofs.PastLemmas.{Ever_map, Ever_out, forget}
 use Rattle.coap_codec.specs.Writing.{message_bytes}
-use Rattle.coap_layer.specs.Ids.{Given, AreApart}
+use Rattle.coap_layer.specs.Ids.{Issued, AreApart}
 use Rattle.coap_layer.specs.Trace.{Content, with_head, Call, Receive, Reply, Confirm, Plain, Settle, Ticks, Take, Room, AsksFree, Pass, Answer, Becomes, Nothing, Is, Sent, Busied, NoIds, Idle, Copied, Expired, Gives, Entry}
-use Rattle.coap_layer.specs.Words.{Open, sent_by, open_of, begun_in, begun, given_by, given, numbers}
+use Rattle.coap_layer.specs.Words.{Open, sent_by, open_of, begun_in, begun, issued_by, issued, numbers}
 use Rattle.coap_layer.specs.Rows.{LayerLaw}
 use Rattle.coap_layer.specs.Sends.{Begins}
 use Rattle.coap_layer.proofs.CopyLemmas.{ids_apart}
@@ -47,35 +47,35 @@ pub begins_of : (e : Entry) (c : Open) → begun e ≡ Some c → Begins e.at e.
 begins_of e c h = begins_in e.at e.call e.answer c h
 
 -- the entry gives this number, and no other
-abbrev pub Numbers : Given → Entry → Type 0
-Numbers g e = given e ≡ g ∷ []
+abbrev pub Numbers : Issued → Entry → Type 0
+Numbers g e = issued e ≡ g ∷ []
 
 pub sent_number : (e : Entry) (id : ℕ) → e.answer ≡ Sent id → Numbers (record { at = e.at; id = id }) e
-sent_number e id h = ap (given_by e.at) h
+sent_number e id h = ap (issued_by e.at) h
 
-abbrev pub number_of : Open → Given
+abbrev pub number_of : Open → Issued
 number_of c = record { at = c.first; id = c.id }
 
 pub begun_number : (e : Entry) (c : Open) → begun e ≡ Some c → Numbers (number_of c) e
 begun_number e c h = let b = begins_of e c h in sent_number e c.id b.answer_is ∙ ap (λ (n : ℕ). record { at = n; id = c.id } ∷ []) (sym b.first_is)
 
-abbrev Near : Given → Given → Type 0
+abbrev Near : Issued → Issued → Type 0
 Near g h = (h.id ≡ g.id) × (g.at ≤ h.at + 400000)
 
-fresh_in : (gs past : List Given) (g : Given) → gs ≡ g ∷ [] → AreApart (gs ++ past) → Ever (Near g) past → ⊥
-fresh_in gs past g is apart k = (subst (λ (xs : List Given). AreApart (xs ++ past)) is apart).0 k
+fresh_in : (gs past : List Issued) (g : Issued) → gs ≡ g ∷ [] → AreApart (gs ++ past) → Ever (Near g) past → ⊥
+fresh_in gs past g is apart k = (subst (λ (xs : List Issued). AreApart (xs ++ past)) is apart).0 k
 
-fresh : (word : ℕ) (past : List Entry) (e : Entry) (g : Given) → LayerLaw word (e ∷ past) → Numbers g e → Ever (Near g) (numbers past) → ⊥
-fresh word past e g law is k = fresh_in (given e) (numbers past) g is (ids_apart word (e ∷ past) law) k
+fresh : (word : ℕ) (past : List Entry) (e : Entry) (g : Issued) → LayerLaw word (e ∷ past) → Numbers g e → Ever (Near g) (numbers past) → ⊥
+fresh word past e g law is k = fresh_in (issued e) (numbers past) g is (ids_apart word (e ∷ past) law) k
 
-given_there : (g h : Given) → h.id ≡ g.id → g.at ≤ h.at + 400000 → (P : Entry → Type 0) → ((e : Entry) → P e → Numbers h e) → (t : List Entry) → Ever P t → Ever (Near g) (numbers t)
-given_there g h id le P f t k = Ever_out given (Near g) t (Ever_map P (λ e. Ever (Near g) (given e)) here t k)
+given_there : (g h : Issued) → h.id ≡ g.id → g.at ≤ h.at + 400000 → (P : Entry → Type 0) → ((e : Entry) → P e → Numbers h e) → (t : List Entry) → Ever P t → Ever (Near g) (numbers t)
+given_there g h id le P f t k = Ever_out issued (Near g) t (Ever_map P (λ e. Ever (Near g) (issued e)) here t k)
   where
-    here : (e : Entry) → P e → Ever (Near g) (given e)
+    here : (e : Entry) → P e → Ever (Near g) (issued e)
     here e p = subst (Ever (Near g)) (sym (f e p)) (inl (id, le))
 
 -- equal numbers that are no more than 400 s apart are given by one entry
-module _ (P Q : Entry → Type 0) (g h : Given) (f : (e : Entry) → P e → Numbers g e) (k : (e : Entry) → Q e → Numbers h e) (id : g.id ≡ h.id) (before : g.at ≤ h.at + 400000) (after : h.at ≤ g.at + 400000) where
+module _ (P Q : Entry → Type 0) (g h : Issued) (f : (e : Entry) → P e → Numbers g e) (k : (e : Entry) → Q e → Numbers h e) (id : g.id ≡ h.id) (before : g.at ≤ h.at + 400000) (after : h.at ≤ g.at + 400000) where
   pub one_entry : (word : ℕ) (t : List Entry) → LayerLaw word t → Ever P t → Ever Q t → Ever (λ e. P e × Q e) t
   one_entry word [] law a b = a
   one_entry word (e ∷ past) law (inl a) (inl b) = inl (a, b)

@@ -9,7 +9,7 @@ use Rattle.coap_layer.specs.Parts.{open_before, settled, put_back}
 use Rattle.coap_layer.specs.Sendings.{open_at, open_now, ended, marked}
 use Rattle.coap_layer.specs.State.{is_busy}
 use Rattle.coap_layer.specs.declared.arriving.Arriving.{Arriving}
-use Rattle.coap_layer.specs.Arriving.{ends, open_by, without}
+use Rattle.coap_layer.specs.Arriving.{ends, open_by, without_open}
 use Rattle.coap_layer.specs.Words.{Open, same}
 
 cons_more : (o : Option Open) (xs ys zs : List Open) → xs ≡ ys ++ zs → cons_option o xs ≡ cons_option o ys ++ zs
@@ -71,17 +71,17 @@ module _ {Z : Type 0} where
 
   -- what an end leaves
   left_one : (to : Endpoint) (id : ℕ) (c : Sending Z) (cs : List Open) (l : Option ℕ) (b : Bool) → same to id c.to c.id.0 ≡ b
-      → cons_option (open_at c (cond b None l)) (without to id cs) ≡ without to id (cons_option (open_at c l) cs)
+      → cons_option (open_at c (cond b None l)) (without_open to id cs) ≡ without_open to id (cons_option (open_at c l) cs)
   left_one to id c cs None true e = refl
   left_one to id c cs None false e = refl
   left_one to id c cs (Some l) true e = rw e refl
   left_one to id c cs (Some l) false e = rw e refl
 
-  pub ended_open : (to : Endpoint) (id : ℕ) (cs : List (Sending Z)) → open_now (map (ended to id) cs) ≡ without to id (open_now cs)
+  pub ended_open : (to : Endpoint) (id : ℕ) (cs : List (Sending Z)) → open_now (map (ended to id) cs) ≡ without_open to id (open_now cs)
   ended_open to id [] = refl
   ended_open to id (c ∷ cs) = ap (cons_option (open_at (ended to id c) (ended to id c).last)) (ended_open to id cs) ∙ left_one to id c (open_now cs) c.last _ refl
 
-pub ended_by : (from : Endpoint) (a : Arriving) (cs ds : List Open) → ends a.verdict ≡ true → ds ≡ without from a.id.0 cs → ds ≡ open_by from a cs
+pub ended_by : (from : Endpoint) (a : Arriving) (cs ds : List Open) → ends a.verdict ≡ true → ds ≡ without_open from a.id.0 cs → ds ≡ open_by from a cs
 ended_by from a cs ds h e = rw h e
 
 -- one more that is begun

@@ -6,7 +6,7 @@ use Rattle.coap_types.specs.declared.endpoint.Endpoint.{Endpoint}
 use Rattle.coap_codec.specs.Message.{AreBytes, Message}
 use Rattle.coap_layer.specs.declared.arriving.Arriving.{Arriving}
 use Rattle.coap_layer.specs.Arrivals.{arrival_at}
-use Rattle.coap_layer.specs.Arriving.{IsArriving, awaits_by, hands, keeps, newly_by, open_by, sent_by, without}
+use Rattle.coap_layer.specs.Arriving.{IsArriving, awaits_by, hands, keeps, newly_by, open_by, sent_by, without_open}
 use Rattle.coap_layer.specs.State.{State, Arrived, Step, after, answer_to, forgotten, is_live, made, out_to, stores}
 use Rattle.coap_layer.specs.Trace.{Answer, Becomes, Entry, Packet, Receive}
 use Rattle.coap_layer.specs.Ups.{IsQuiet}
@@ -17,7 +17,7 @@ use Rattle.coap_layer.proofs.ListLemmas.{filter_implied, filter_map_all, filter_
 
 -- what the entry leaves of the outstanding CONs
 left_so : (e : Entry) (from : Endpoint) (bytes : List ℕ) (a : Arriving) (b : Bool)
-    → ((c : Open) → left_by e c ≡ (if b && same from a.id.0 c.to c.id then None else Some c)) → (cs : List Open) → filter_map (left_by e) cs ≡ cond b (without from a.id.0 cs) cs
+    → ((c : Open) → left_by e c ≡ (if b && same from a.id.0 c.to c.id then None else Some c)) → (cs : List Open) → filter_map (left_by e) cs ≡ cond b (without_open from a.id.0 cs) cs
 left_so e from bytes a true h cs = filter_map_same (left_by e) _ h cs
 left_so e from bytes a false h cs = filter_map_same (left_by e) (λ (c : Open). Some c) h cs ∙ filter_map_all cs
 

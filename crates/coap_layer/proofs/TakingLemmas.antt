@@ -10,7 +10,7 @@ use Rattle.coap_layer.specs.declared.mark.Mark.{Mark}
 use Rattle.coap_layer.specs.declared.retransmission.Sending.{Sending}
 use Rattle.coap_layer.specs.Entries.{arrived_as, arrivals_in}
 use Rattle.coap_layer.specs.IdState.{IdState}
-use Rattle.coap_layer.specs.Parts.{awaited, before_of, kept, open_before}
+use Rattle.coap_layer.specs.Parts.{awaited, before_of, state_of_parts, open_before}
 use Rattle.coap_layer.specs.Sound.{HasRoom, IsPlaced, IsWithin}
 use Rattle.coap_layer.specs.State.{Arrived, forgotten, is_live, is_of, is_remembered}
 use Rattle.coap_layer.specs.Trace.{Packet}
@@ -31,7 +31,7 @@ module _ {Z : Type 0} (clock : ℕ) (es fs gs more : List (Remembered Z)) (forgo
 
   pub before_grown : (mark : Mark) (awaits : Option Awaiting) (ids : IdState) (old : List Open) (ds : List (Sending Z)) (q r d : List Packet)
       → open_before ds ≡ old → r ≡ q ++ d → mark.clock ≡ clock → mark.awaits ≡ awaits → mark.ids ≡ ids → mark.entries ≡ length fs → mark.queued ≡ length q
-      → before_of (Some mark) gs ds r ≡ Some (forgotten (kept clock (awaited awaits) ids (arrivals_in es) old q))
+      → before_of (Some mark) gs ds r ≡ Some (forgotten (state_of_parts clock (awaited awaits) ids (arrivals_in es) old q))
   before_grown mark awaits ids old ds q r d opened sent c w i n k =
       let queue : take mark.queued r ≡ q = rw (k, sent) (take-append_seam q d) in
       let here : filter (is_live clock) (arrivals_in (take mark.entries gs)) ≡ filter (is_live clock) (arrivals_in es) =

@@ -69,11 +69,11 @@ abbrev pub awaits_by : Endpoint → Arriving → Option Awaited
 awaits_by from a = if hands a.verdict a.kind then Some (record { from = from; id = a.id.0 }) else None
 
 -- what is left of the outstanding CONs, without that to this place with this id
-abbrev pub without : Endpoint → ℕ → List Open → List Open
-without to id cs = filter_map (λ c. if same to id c.to c.id then None else Some c) cs
+abbrev pub without_open : Endpoint → ℕ → List Open → List Open
+without_open to id cs = filter_map (λ c. if same to id c.to c.id then None else Some c) cs
 
 abbrev pub open_by : Endpoint → Arriving → List Open → List Open
-open_by from a cs = if ends a.verdict then without from a.id.0 cs else cs
+open_by from a cs = if ends a.verdict then without_open from a.id.0 cs else cs
 
 -- what the layer does at an arrival is what the table of arrivals says
 pub record IsArriving (s : State) (at : ℕ) (from : Endpoint) (what : Arrival) (a : Arriving) : Type 0 where

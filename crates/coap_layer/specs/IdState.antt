@@ -1,7 +1,7 @@
 -- What a source of Message IDs keeps of its calls.
 use Rattle.std.specs.Prelude.{◌≡◌, ℕ, ◌<◌, max, Bool, Option, Some, None, List, slice_get}
 use Rattle.coap_types.specs.declared.message.Id.{Id}
-use Rattle.coap_layer.specs.Ids.{Given, IdEntry, Next, IsFree, Ids, clock, numbers, upcoming, last_use}
+use Rattle.coap_layer.specs.Ids.{Issued, IdEntry, Next, IsFree, Ids, clock, numbers, upcoming, last_use}
 
 -- the latest moment, the number that comes next, and when each group was last used
 pub record IdState : Type 0 where
@@ -10,7 +10,7 @@ pub record IdState : Type 0 where
   pub last_used : List (Option ℕ)
 
 -- each group's last use stands in its place
-abbrev pub AreUses : List Given → List (Option ℕ) → Type 0
+abbrev pub AreUses : List Issued → List (Option ℕ) → Type 0
 AreUses past uses = (group : ℕ) → group < 16 → slice_get uses group ≡ Some (last_use past group)
 
 pub record Keeps (word : ℕ) (t : List IdEntry) (s : IdState) : Type 0 where

@@ -9,10 +9,10 @@ use Rattle.coap_types.specs.SameEndpoint.{same_endpoint}
 use Rattle.coap_codec.specs.Message.{AreBytes}
 use Rattle.coap_codec.specs.Writing.{message_bytes}
 use Rattle.coap_layer.specs.Arrivals.{Arrival, Unreadable, Faulted, Whole, arrival_at}
-use Rattle.coap_layer.specs.Ids.{Given}
+use Rattle.coap_layer.specs.Ids.{Issued}
 use Rattle.coap_layer.specs.Trace.{Content, with_head, Packet, Call, Receive, Reply, Confirm, Plain, Settle, Ticks, Take, Room, AsksFree, Pass, Disposition, Dropped, Replayed, Rejected, Answer, Becomes, Nothing, Is, Sent, Busied, NoIds, Idle, Copied, Expired, Gives, Entry}
 use Rattle.coap_layer.specs.Table.{up_of}
-use Rattle.coap_layer.specs.Words.{Awaited, awaits, awaits_in, clock, given, Incoming, outstanding, waiting, Open, is_to, is_con, taken, reply_in, left_by, begun, takes_in}
+use Rattle.coap_layer.specs.Words.{Awaited, awaits, awaits_in, clock, issued, Incoming, outstanding, waiting, Open, is_to, is_con, taken, reply_in, left_by, begun, takes_in}
 use Rattle.coap_layer.specs.Rows.{IsSpelled, reset_to}
 
 pub record Arrived : Type 0 where
@@ -155,11 +155,11 @@ newly at None = []
 newly at (Some m) = record { from = m.from; id = m.message.id; at = at; con = is_con m.message.kind; reply = None } ∷ []
 
 -- what the numbers that an entry gives leave
-abbrev pub next_after : List Given → ℕ → ℕ
+abbrev pub next_after : List Issued → ℕ → ℕ
 next_after [] n = n
 next_after (g ∷ gs) n = (g.id + 1) % 65536
 
-abbrev pub uses_after : List Given → List (Option ℕ) → List (Option ℕ)
+abbrev pub uses_after : List Issued → List (Option ℕ) → List (Option ℕ)
 uses_after [] uses = uses
 uses_after (g ∷ gs) uses = slice_set (uses_after gs uses) (g.id / 4096) (Some g.at)
 
@@ -168,8 +168,8 @@ after s e =
     record {
       clock = e.at;
       awaits = awaits_in e.call e.answer s.awaits;
-      upcoming = next_after (given e) s.upcoming;
-      last_used = uses_after (given e) s.last_used;
+      upcoming = next_after (issued e) s.upcoming;
+      last_used = uses_after (issued e) s.last_used;
       arrived = map (stores e) s.arrived ++ newly e.at (taken e);
       open_cons = filter_map (left_by e) s.open_cons ++ option_to_list (begun e);
       queue = drop (takes_in e.call) s.queue ++ e.out;
@@ -182,11 +182,11 @@ arrivals (e ∷ past) = map (stores e) (arrivals past) ++ newly e.at (taken e)
 
 abbrev pub next_id : ℕ → List Entry → ℕ
 next_id word [] = word % 16 * 4096
-next_id word (e ∷ past) = next_after (given e) (next_id word past)
+next_id word (e ∷ past) = next_after (issued e) (next_id word past)
 
 abbrev pub uses : List Entry → List (Option ℕ)
 uses [] = replicate 16 None
-uses (e ∷ past) = uses_after (given e) (uses past)
+uses (e ∷ past) = uses_after (issued e) (uses past)
 
 -- what a trace adds up to, nothing forgotten
 abbrev pub history : ℕ → List Entry → State

@@ -8,7 +8,7 @@ use Rattle.coap_types.specs.declared.message.Kind.TheVariants.{Con, Non}
 use Rattle.coap_types.specs.SameEndpoint.{same_endpoint}
 use Rattle.coap_codec.specs.Message.{Message}
 use Rattle.coap_codec.specs.Writing.{message_bytes}
-use Rattle.coap_layer.specs.Ids.{Given}
+use Rattle.coap_layer.specs.Ids.{Issued}
 use Rattle.coap_layer.specs.Trace.{Content, with_head, Packet, Call, Receive, Reply, Confirm, Settle, Ticks, Take, Room, AsksFree, Pass, Request, Response, Acked, Reset, Answer, Becomes, Sent, Copied, Expired, Entry}
 
 -- the moment of the newest entry
@@ -121,17 +121,17 @@ abbrev pub awaits : List Entry → Option Awaited
 awaits [] = None
 awaits (e ∷ past) = awaits_in e.call e.answer (awaits past)
 
--- the Message IDs that were given (section 4.4)
+-- the Message IDs that were issued (section 4.4)
 
-abbrev pub given_by : ℕ → Answer → List Given
-given_by at (Sent id) = record { at = at; id = id } ∷ []
-given_by at _ = []
+abbrev pub issued_by : ℕ → Answer → List Issued
+issued_by at (Sent id) = record { at = at; id = id } ∷ []
+issued_by at _ = []
 
-abbrev pub given : Entry → List Given
-given e = given_by e.at e.answer
+abbrev pub issued : Entry → List Issued
+issued e = issued_by e.at e.answer
 
-abbrev pub numbers : List Entry → List Given
-numbers = all_of given
+abbrev pub numbers : List Entry → List Issued
+numbers = all_of issued
 
 -- the CONs that are outstanding (section 4.2)
 

@@ -1,5 +1,5 @@
 ghost use Rattle.std.specs.Prelude.{not, Some, ◌≡◌, ◌+◌, ◌*◌, ◌/◌, ◌%◌, IsTrue, false, List, [], ◌∷◌, ℕ, None, replicate, slice_set};
-ghost use Rattle.coap_layer.specs.Ids.{Given, IdEntry, Ids, IdsAreExact, NumbersLaw, AreApart, IsHeld, IsRested, MayGive, Withholds, numbers, upcoming as upcoming_number};
+ghost use Rattle.coap_layer.specs.Ids.{Issued, IdEntry, Ids, IdsAreExact, NumbersLaw, AreApart, IsHeld, IsRested, MayGive, Withholds, numbers, upcoming as upcoming_number};
 ghost use Rattle.coap_layer.specs.State.{is_free, is_rested};
 ghost use Rattle.coap_layer.specs.IdStep.{Asks, Draws};
 ghost use Rattle.coap_layer.specs.IdState.{AreUses, Led, next_entry, free_entry};
@@ -45,8 +45,8 @@ fn is_held(last_use: Option<u64>, now: u64) -> bool
 
 /// Whether the number that comes next may be given.
 fn may_give(upcoming: u16, last_used: &[Option<u64>; GROUPS], now: u64) -> bool
-    ensures yes { (word : ℕ) (past : List Given) → upcoming ≡ upcoming_number word past → AreUses past last_used.now → IsTrue result → MayGive word past now }
-    ensures no { (word : ℕ) (past : List Given) → upcoming ≡ upcoming_number word past → AreUses past last_used.now → result ≡ false → Withholds word past now }
+    ensures yes { (word : ℕ) (past : List Issued) → upcoming ≡ upcoming_number word past → AreUses past last_used.now → IsTrue result → MayGive word past now }
+    ensures no { (word : ℕ) (past : List Issued) → upcoming ≡ upcoming_number word past → AreUses past last_used.now → result ≡ false → Withholds word past now }
     ensures test { result ≡ is_free now upcoming last_used.now }
 {
     upcoming % GROUP_SIZE != 0 || !is_held(last_used[(upcoming / GROUP_SIZE) as usize], now)
@@ -124,5 +124,5 @@ pub fn ids_law()
     ensures law { (word : ℕ) (t : List IdEntry) (s : _) → Led word t s → Ids word t }
     ensures exact { IdsAreExact }
     ensures numbers { (word : ℕ) (t : List IdEntry) → Ids word t → NumbersLaw word (numbers t) }
-    ensures apart { (word : ℕ) (given : List Given) → NumbersLaw word given → AreApart given }
+    ensures apart { (word : ℕ) (issued : List Issued) → NumbersLaw word issued → AreApart issued }
 {}

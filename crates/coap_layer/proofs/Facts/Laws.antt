@@ -4,7 +4,7 @@ use Rattle.coap_types.specs.Past.{Ever}
 use Rattle.coap_types.specs.declared.endpoint.Endpoint.{Endpoint}
 use Rattle.coap_types.specs.declared.message.Kind.TheVariants.{Con}
 use Rattle.coap_codec.specs.Message.{Message, Spells}
-use Rattle.coap_layer.specs.Ids.{Given, upcoming}
+use Rattle.coap_layer.specs.Ids.{Issued, upcoming}
 use Rattle.coap_layer.specs.Trace.{Receive, Entry}
 use Rattle.coap_layer.specs.Words.{Open, begun}
 use Rattle.coap_layer.specs.Rows.{LayerLaw}
@@ -28,7 +28,7 @@ pub copies_in_time : (word : ℕ) (t : List Entry) → LayerLaw word t → Copie
 copies_in_time = copies.copies_in_time
 
 -- a Message ID has 16 bits
-pub small : (word : ℕ) (t : List Given) → upcoming word t < 65536
+pub small : (word : ℕ) (t : List Issued) → upcoming word t < 65536
 small = ids.small
 
 -- what is sent
