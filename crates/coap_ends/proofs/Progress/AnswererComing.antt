@@ -9,7 +9,7 @@ use Rattle.coap_layer.specs.State.{is_busy, is_free, sending, next_after, uses_a
 use Rattle.coap_layer.specs.Steps.{Steps}
 use Rattle.coap_layer.specs.Trace as L
 use Rattle.coap_layer.specs.Trace.{with_head}
-use Rattle.coap_layer.specs.Words.{awaited_of, from_there, handed_by, given_by, is_kept}
+use Rattle.coap_layer.specs.Words.{awaited_of, from_there, handed_by, issued_by, is_kept}
 use Rattle.coap_exchange.specs.declared.answerer.Asked.{Asked}
 use Rattle.coap_exchange.specs.AnswererTrace as E
 use Rattle.coap_exchange.specs.AnswererSteps as P
@@ -21,7 +21,7 @@ use Rattle.coap_exchange.specs.EmptyMessages.{reset_bytes}
 use Rattle.coap_exchange.proofs.Facts.HandedUp.{spelled}
 use Rattle.coap_ends.proofs.Progress.ClientGoing.{left_by, answer_by, one_step}
 use Rattle.coap_ends.proofs.Progress.AnswererGoing.{Takes}
-use Rattle.coap_ends.proofs.Progress.RequestsKept.{Kept, kept_to}
+use Rattle.coap_ends.proofs.Progress.RequestsKept.{KeptIn, kept_to}
 
 module _ (word : ℕ) (calls : List E.Call) (law : ResponseLaw word calls) where
   abbrev own : E.Own
@@ -85,7 +85,7 @@ module _ (word : ℕ) (calls : List E.Call) (law : ResponseLaw word calls) where
           law_of = record { rows = (refl, law.rows); left = first; layer = (left, law.layer, step) };
           takes_it = λ p h. (let same : ◌≡◌ {A = Asked × Message} (P.asked_of from m, m) p = cc h in subst (λ (q : Asked × Message). Takes first (max own.clock at) q.0) same (record {
             awaits = ap (λ u. awaited_of (from_there from (handed_by u))) (sym right);
-            kind = by (subst (Kept (is_free (max left.clock at) left.upcoming left.last_used)) (sym right) (kept_to left (max left.clock at) from (arrival_at bytes)));
+            kind = by (subst (KeptIn (is_free (max left.clock at) left.upcoming left.last_used)) (sym right) (kept_to left (max left.clock at) from (arrival_at bytes)));
             short = (spelled left first at from bytes (L.Becomes (L.Request m true)) m step refl).token;
           }));
         }
@@ -96,8 +96,8 @@ module _ (word : ℕ) (calls : List E.Call) (law : ResponseLaw word calls) where
         free : is_free (max first.clock (max own.clock at)) first.upcoming first.last_used ≡ is_free (max left.clock at) left.upcoming left.last_used
         free =
             ap (λ n. is_free n first.upcoming first.last_used) moment
-            ∙ (ap (λ u. is_free (max left.clock at) u first.last_used) (sym (ap (λ u. next_after (given_by (max left.clock at) u) left.upcoming) right))
-            ∙ ap (λ us. is_free (max left.clock at) left.upcoming us) (sym (ap (λ u. uses_after (given_by (max left.clock at) u) left.last_used) right)))
+            ∙ (ap (λ u. is_free (max left.clock at) u first.last_used) (sym (ap (λ u. next_after (issued_by (max left.clock at) u) left.upcoming) right))
+            ∙ ap (λ us. is_free (max left.clock at) left.upcoming us) (sym (ap (λ u. uses_after (issued_by (max left.clock at) u) left.last_used) right)))
 
         by : (m.kind ≡ Con) ⊎ ((m.kind ≡ Non) × (is_free (max left.clock at) left.upcoming left.last_used ≡ true))
             → (m.kind ≡ Con) ⊎ ((m.kind ≡ Non) × (is_free (max first.clock (max own.clock at)) first.upcoming first.last_used ≡ true))

@@ -15,28 +15,33 @@ use Rattle.coap_layer.specs.Trace as L
 use Rattle.coap_layer.specs.Trace.{with_head}
 use Rattle.coap_layer.specs.Words.{is_con}
 
-abbrev pub Kept : Bool → L.Answer → Type 0
-Kept free (L.Becomes (L.Request m true)) = (m.kind ≡ Con) ⊎ ((m.kind ≡ Non) × (free ≡ true))
+abbrev pub Kept : Bool → L.Disposition → Type 0
+Kept free (L.Request m true) = (m.kind ≡ Con) ⊎ ((m.kind ≡ Non) × (free ≡ true))
 Kept free _ = Unit {0}
 
-again_kept : (free : Bool) (a : L.Answer) → Kept free a → (r f : Bool) → Kept free (again_or r f a)
+-- .. where an answer tells of a datagram
+abbrev pub KeptIn : Bool → L.Answer → Type 0
+KeptIn free (L.Becomes u) = Kept free u
+KeptIn free _ = Unit {0}
+
+again_kept : (free : Bool) (a : L.Disposition) → Kept free a → (r f : Bool) → Kept free (again_or r f a)
 again_kept free a h true f = tt
 again_kept free a h false true = tt
 again_kept free a h false false = h
 
-non_kept : (m : Message) (i : Bool) → Non ≡ m.kind → Kept i (L.Becomes (L.Request m i))
+non_kept : (m : Message) (i : Bool) → Non ≡ m.kind → Kept i (L.Request m i)
 non_kept m true is = inr (sym is, refl)
 non_kept m false is = tt
 
 up_kept : (kind : Kind) (c : Role) (m : Message) (o r f i : Bool) → kind ≡ m.kind → Kept i (up_of kind c m o r f i)
 up_kept Con role.Empty m o r f i is = tt
 up_kept Con role.Reserved m o r f i is = tt
-up_kept Con role.Request m o r f i is = again_kept i (L.Becomes (L.Request m true)) (inl (sym is)) r f
-up_kept Con role.Response m o r f i is = again_kept i (L.Becomes (L.Response m)) tt r f
+up_kept Con role.Request m o r f i is = again_kept i (L.Request m true) (inl (sym is)) r f
+up_kept Con role.Response m o r f i is = again_kept i (L.Response m) tt r f
 up_kept Non role.Empty m o r f i is = tt
 up_kept Non role.Reserved m o r f i is = tt
-up_kept Non role.Request m o r f i is = again_kept i (L.Becomes (L.Request m i)) (non_kept m i is) r f
-up_kept Non role.Response m o r f i is = again_kept i (L.Becomes (L.Response m)) tt r f
+up_kept Non role.Request m o r f i is = again_kept i (L.Request m i) (non_kept m i is) r f
+up_kept Non role.Response m o r f i is = again_kept i (L.Response m) tt r f
 up_kept Ack role.Empty m true r f i is = tt
 up_kept Ack role.Response m true r f i is = tt
 up_kept Rst role.Empty m true r f i is = tt
@@ -49,7 +54,7 @@ up_kept Rst role.Request m o r f i is = tt
 up_kept Rst role.Response m o r f i is = tt
 up_kept Rst role.Reserved m o r f i is = tt
 
-fault_kept : (free b : Bool) → Kept free (cond b (L.Becomes L.Rejected) (L.Becomes L.Dropped))
+fault_kept : (free b : Bool) → Kept free (cond b L.Rejected L.Dropped)
 fault_kept free true = tt
 fault_kept free false = tt
 

@@ -2,7 +2,7 @@
 -- (RFC 7252, sections 4.2 and 4.3).
 use Rattle.std.proofs.Common.{◌≡◌, ◌⊎◌, inl, inr, ℕ, ◌<◌, ◌==◌, Bool, true, false, ◌&&◌, Option, Some, None, List, [], ◌∷◌, refl, ap, sym, subst, ◌∙◌, cond, arith}
 use Rattle.coap_types.specs.Past.{Ever}
-use Rattle.coap_ends.specs.Follows.Sources.{GivesMessage, Source}
+use Rattle.coap_ends.specs.Follows.Sources.{GivesReply, GivesMessage, Source}
 use Rattle.coap_types.proofs.PastLemmas.{Ever_by_law, Ever_of_Since}
 use Rattle.coap_types.specs.declared.endpoint.Endpoint.{Endpoint}
 use Rattle.coap_types.specs.declared.message.Kind.{Kind}
