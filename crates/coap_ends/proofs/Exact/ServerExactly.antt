@@ -40,13 +40,7 @@ ready_room below o false a h = absurd (none below h)
     none (L.Copied to id) e = absurd (cc e)
     none (L.Expired to id) e = absurd (cc e)
     none L.Idle e = if_none o e
-    none (L.Becomes u) e = absurd (cc e)
-    none L.Nothing e = absurd (cc e)
-    none (L.Is holds) e = absurd (cc e)
-    none (L.Sent id) e = absurd (cc e)
-    none L.Busied e = absurd (cc e)
-    none L.NoIds e = absurd (cc e)
-    none (L.Gives packet) e = absurd (cc e)
+    none up e = absurd (cc e)
 
 -- the calls of the exchanges
 

@@ -125,16 +125,7 @@ what_replies s from (T.Becomes (T.Response m)) b h = response_replies m m.kind (
 what_replies s from (T.Becomes (T.Request m kept)) b h = request_replies m kept m.kind b h
 what_replies s from (T.Becomes (T.Acked id)) b h = absurd (none_if (R.is_of_request s from id) Await Ignore 0 b refl refl h)
 what_replies s from (T.Becomes (T.Reset id)) b h = absurd (none_if (R.is_of_request s from id) EndByReset Ignore 0 b refl refl h)
-what_replies s from (T.Becomes u) b h = absurd (cc h)
-what_replies s from T.Nothing b h = absurd (cc h)
-what_replies s from (T.Is holds) b h = absurd (cc h)
-what_replies s from (T.Sent id) b h = absurd (cc h)
-what_replies s from T.Busied b h = absurd (cc h)
-what_replies s from T.NoIds b h = absurd (cc h)
-what_replies s from T.Idle b h = absurd (cc h)
-what_replies s from (T.Copied to id) b h = absurd (cc h)
-what_replies s from (T.Expired to id) b h = absurd (cc h)
-what_replies s from (T.Gives p) b h = absurd (cc h)
+what_replies s from up b h = absurd (cc h)
 
 -- calls that are no replies
 

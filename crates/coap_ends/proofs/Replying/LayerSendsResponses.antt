@@ -100,16 +100,7 @@ module _ (p : L.Packet) where
       by true (inl g) = in_reset from m.id g
       by true (inr g) = absurd g
       by false g = absurd g
-  rejected from (L.Becomes u) h = absurd h
-  rejected from L.Nothing h = absurd h
-  rejected from (L.Is holds) h = absurd h
-  rejected from (L.Sent id) h = absurd h
-  rejected from L.Busied h = absurd h
-  rejected from L.NoIds h = absurd h
-  rejected from L.Idle h = absurd h
-  rejected from (L.Copied to id) h = absurd h
-  rejected from (L.Expired to id) h = absurd h
-  rejected from (L.Gives packet) h = absurd h
+  rejected from up h = absurd h
 
   -- what sends nothing
   abbrev Quiet : L.Call → Type 0

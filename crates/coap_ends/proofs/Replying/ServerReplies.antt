@@ -96,16 +96,7 @@ came_by from (T.Becomes (T.Request n true)) a m h =
     let p : ◌≡◌ {A = Asked × Message} (a, m) (P.asked_of from n, n) = cc h in
     let same : m ≡ n = ap (λ (q : Asked × Message). q.1) p in
     record { up_is = ap (λ k. T.Becomes (T.Request k true)) (sym same); asked_is = ap (λ (q : Asked × Message). q.0) p ∙ ap (P.asked_of from) (sym same) }
-came_by from (T.Becomes u) a m h = absurd (cc h)
-came_by from T.Nothing a m h = absurd (cc h)
-came_by from (T.Is holds) a m h = absurd (cc h)
-came_by from (T.Sent id) a m h = absurd (cc h)
-came_by from T.Busied a m h = absurd (cc h)
-came_by from T.NoIds a m h = absurd (cc h)
-came_by from T.Idle a m h = absurd (cc h)
-came_by from (T.Copied to id) a m h = absurd (cc h)
-came_by from (T.Expired to id) a m h = absurd (cc h)
-came_by from (T.Gives packet) a m h = absurd (cc h)
+came_by from up a m h = absurd (cc h)
 
 -- a response that is rejected
 reject_hands : (up : T.Answer) (b : List ℕ) → P.reject_by up ≡ Some b → (m : Message) × Hands up m × (id_in up ≡ m.id) × (b ≡ reset_bytes m.id)
@@ -114,16 +105,7 @@ reject_hands (T.Becomes (T.Response m)) b h = by (is_kept m.kind) refl h
     by : (k : Bool) → is_kept m.kind ≡ k → cond k (Some (reset_bytes m.id)) None ≡ Some b → (n : Message) × Hands (T.Becomes (T.Response m)) n × (m.id ≡ n.id) × (b ≡ reset_bytes n.id)
     by true is e = (m, record { up_is = ap (λ w. cond w (Some m) None) is; in_is = refl }, refl, sym (let s : reset_bytes m.id ≡ b = cc e in s))
     by false is e = absurd (cc e)
-reject_hands (T.Becomes u) b h = absurd (cc h)
-reject_hands T.Nothing b h = absurd (cc h)
-reject_hands (T.Is holds) b h = absurd (cc h)
-reject_hands (T.Sent id) b h = absurd (cc h)
-reject_hands T.Busied b h = absurd (cc h)
-reject_hands T.NoIds b h = absurd (cc h)
-reject_hands T.Idle b h = absurd (cc h)
-reject_hands (T.Copied to id) b h = absurd (cc h)
-reject_hands (T.Expired to id) b h = absurd (cc h)
-reject_hands (T.Gives packet) b h = absurd (cc h)
+reject_hands up b h = absurd (cc h)
 
 module _ (begin : L.State) (from : Endpoint) (now : ℕ) (bytes : List ℕ) (up : T.Answer) (rest : List G.Asked) (mid new : L.State) (before : Steps begin rest mid) (step : L.Step mid now (T.Receive from bytes) up new) (so : So begin rest) where
   abbrev first : List G.Asked

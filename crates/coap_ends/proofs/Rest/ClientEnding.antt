@@ -50,13 +50,7 @@ turn_taken : (s : A.Own) (at : ℕ) (below : L.Answer) → IsTaken (R.turn_of s 
 turn_taken s at (L.Copied to id) = refl
 turn_taken s at (L.Expired to id) = expired_taken to id s.running (R.is_of_request s to id) _
 turn_taken s at L.Idle = waited_taken at s.running _
-turn_taken s at (L.Becomes u) = tt
-turn_taken s at L.Nothing = tt
-turn_taken s at (L.Is holds) = tt
-turn_taken s at (L.Sent id) = tt
-turn_taken s at L.Busied = tt
-turn_taken s at L.NoIds = tt
-turn_taken s at (L.Gives packet) = tt
+turn_taken s at up = tt
 
 -- an operation that starts waits no more
 starts_one : (running : Option Operation) (waiting : List Operation) (op : Operation) → starting_if true running waiting ≡ Some op → length (drop 1 waiting) + 1 ≡ length waiting

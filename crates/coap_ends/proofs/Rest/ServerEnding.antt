@@ -35,13 +35,7 @@ due_taken : (below : L.Answer) (o : Option Deferred) (room : Bool) → IsTaken (
 due_taken (L.Copied to id) o room = refl
 due_taken (L.Expired to id) o room = refl
 due_taken L.Idle o room = if_taken L.Idle o room
-due_taken (L.Becomes u) o room = tt
-due_taken L.Nothing o room = tt
-due_taken (L.Is holds) o room = tt
-due_taken (L.Sent id) o room = tt
-due_taken L.Busied o room = tt
-due_taken L.NoIds o room = tt
-due_taken (L.Gives packet) o room = tt
+due_taken up o room = tt
 
 -- a request that is ready waits no more
 without_one : (at : ℕ) (a : answerer.Asked) (ws : List Waiting) (q : Question) → question_of at a ws ≡ Some q → length (without_waiting at a ws) + 1 ≡ length ws

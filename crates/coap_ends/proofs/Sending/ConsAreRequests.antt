@@ -52,15 +52,7 @@ open_parts con at to content word (Some id) h = by _ _ _ (let e : ◌≡◌ {A =
 
 sent_id : (a : L.Answer) (id : ℕ) → sent_by a ≡ Some id → a ≡ L.Sent id
 sent_id (L.Sent n) id h = ap (λ k. L.Sent k) (let e : n ≡ id = cc h in e)
-sent_id (L.Becomes u) id h = absurd (cc h)
-sent_id L.Nothing id h = absurd (cc h)
-sent_id (L.Is b) id h = absurd (cc h)
-sent_id L.Busied id h = absurd (cc h)
-sent_id L.NoIds id h = absurd (cc h)
-sent_id L.Idle id h = absurd (cc h)
-sent_id (L.Copied to n) id h = absurd (cc h)
-sent_id (L.Expired to n) id h = absurd (cc h)
-sent_id (L.Gives p) id h = absurd (cc h)
+sent_id up id h = absurd (cc h)
 
 asks_by : (con : Open) (a : Asked) (at : ℕ) (call : L.Call) → a.call ≡ call → ((to : Endpoint) (content : L.Content) (word : ℕ) → call ≡ L.Confirm to content word → IsSpelled content)
     → begun_in at call a.answer ≡ Some con → Asks con a

@@ -89,15 +89,7 @@ pub found_ready : (below : L.Answer) (o : Option Deferred) (room : Bool) (a : As
 found_ready L.Idle (Some d) true a h = record { idle = refl; deferred = d; first = refl; asked = (let e : a ≡ d.asked = cc h in sym e) }
 found_ready L.Idle (Some d) false a h = absurd (cc h)
 found_ready L.Idle None room a h = absurd (cc h)
-found_ready (L.Copied to id) o room a h = absurd (cc h)
-found_ready (L.Expired to id) o room a h = absurd (cc h)
-found_ready (L.Becomes u) o room a h = absurd (cc h)
-found_ready L.Nothing o room a h = absurd (cc h)
-found_ready (L.Is holds) o room a h = absurd (cc h)
-found_ready (L.Sent id) o room a h = absurd (cc h)
-found_ready L.Busied o room a h = absurd (cc h)
-found_ready L.NoIds o room a h = absurd (cc h)
-found_ready (L.Gives packet) o room a h = absurd (cc h)
+found_ready up o room a h = absurd (cc h)
 
 behind : (xs : List E.Call) (c : E.Call) (calls : List E.Call) → W.AnswererLaw ((xs ++ c ∷ []) ++ calls) → W.AnswererLaw (c ∷ calls)
 behind [] c calls law = law
