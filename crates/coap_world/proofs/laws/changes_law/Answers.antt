@@ -1,6 +1,6 @@
 use Rattle.coap_ends.proofs.ServerHolds.{all_served}
 use Rattle.coap_world.specs.Record.{entries_of, server_trace}
-use Rattle.coap_world.proofs.Owned as O
+use Rattle.coap_world.proofs.Requests.ChangesOwned as O
 use Rattle.coap_world.proofs.laws.changes_law.Goals as goal
 
 pub returns : goal.returns
