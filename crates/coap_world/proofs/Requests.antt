@@ -2,7 +2,10 @@
 pub mod CallsInRange
 pub mod CameFrom
 pub mod ReadBack
+pub mod ServedLeaves
 pub mod AppliedWhole
 pub mod HandedUpOnce
 pub mod AtMostOnce
+pub mod HoldsChanges
 pub mod ChangesOwned
+pub mod LocalChanges

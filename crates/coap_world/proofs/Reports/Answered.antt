@@ -26,7 +26,7 @@ use Rattle.coap_ends.specs.ServerTrace as S
 use Rattle.coap_ends.proofs.ClientHears.{are_heard}
 use Rattle.coap_ends.proofs.ServerGiving.{sent_responses}
 use Rattle.coap_ends.proofs.ServerHanding.{handed_up}
-use Rattle.coap_world.specs.Agrees.{ServesAt}
+use Rattle.coap_world.specs.Words.{ServesAt}
 use Rattle.coap_world.specs.CameFrom.{CameFrom}
 use Rattle.coap_world.specs.Events.{client_end, server_end, Config}
 use Rattle.coap_world.specs.Hops.{hops_in}

@@ -16,7 +16,8 @@ use Rattle.coap_ends.specs.ServerFollows.{Serving, is_applied}
 use Rattle.coap_ends.proofs.ServerHolds.{all_served}
 use Rattle.coap_exchange.specs.declared.answerer.Asked.{Asked}
 use Rattle.coap_resource.specs.Serves.{Question}
-use Rattle.coap_world.specs.Agrees.{AppliesFor, NeverFailed, ReportsAt, ServesAt}
+use Rattle.coap_world.specs.Words.{AppliesFor, ReportsAt, ServesAt}
+use Rattle.coap_world.specs.Agrees.{NeverFailed}
 use Rattle.coap_world.specs.CameFrom.{CameFrom, CamesFrom, request_of}
 use Rattle.coap_world.specs.Events.{Config}
 use Rattle.coap_world.specs.Record.{Entry, OfClient, OfServer, client_of, server_trace}

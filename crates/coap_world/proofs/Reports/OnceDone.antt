@@ -11,10 +11,11 @@ use Rattle.coap_ends.specs.ClientReports.{content, said}
 use Rattle.coap_ends.specs.ClientRequests.{block2}
 use Rattle.coap_ends.specs.ClientSendings.{OneSending}
 use Rattle.coap_ends.specs.ClientTrace.{Body, Done, Report}
-use Rattle.coap_ends.specs.ServerFollows.{is_applied, held_at}
+use Rattle.coap_ends.specs.ServerFollows.{is_applied}
 use Rattle.coap_ends.specs.ServerShows.{Shows}
 use Rattle.coap_ends.proofs.ServerShown.{shows_held}
-use Rattle.coap_world.specs.Agrees.{AppliesSince, OnceDone, HeldSince, EachHeld, ReportsAt}
+use Rattle.coap_world.specs.Agrees.{AppliesSince, OnceDone, HeldSince, EachHeld}
+use Rattle.coap_world.specs.Words.{ReportsAt, last_at}
 use Rattle.coap_world.specs.CameFrom.{request_of}
 use Rattle.coap_world.specs.Events.{Config}
 use Rattle.coap_world.specs.Record.{Entry, OfClient, OfServer, client_of, server_trace}
@@ -87,7 +88,7 @@ module _ (config : Config) (all : List Entry) (one : OneSending (client_of all))
           called = was_called config past s number earlier.law k.came.sent is;
           version = h.version;
           tag_is = sym reported.tag_is ∙ b.tag;
-          held = subst (λ p. held_at config.limit config.server_szx p (server_trace config (e ∷ past)) ≡ Some (record { version = h.version; format = format; body = body })) asked.path
+          held = subst (λ p. last_at config p (e ∷ past) ≡ Some (record { version = h.version; format = format; body = body })) asked.path
               (b.is_held ∙ ap (λ x. Some x) same);
         }
     held_by (inr k) = absurd (not_content r.message.code (refusal_code config.server_szx (request_of k.came.con.id k.came.sending) r.message.code k.came.verdict) reported.code)

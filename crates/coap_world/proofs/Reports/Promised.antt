@@ -17,9 +17,9 @@ use Rattle.coap_ends.proofs.ClientNumbers.{one_sending}
 use Rattle.coap_ends.proofs.ClientOnce.{reported_once}
 use Rattle.coap_ends.proofs.ClientSent.{once_of, are_sent}
 use Rattle.coap_ends.proofs.ServerCounts as N
-use Rattle.coap_ends.proofs.ServerHolds.{all_served}
 use Rattle.coap_ends.proofs.ServerOnce.{served_once}
-use Rattle.coap_world.specs.Agrees.{ServesAt, SentFor, Agrees, AppliedWhole, AtMostOnce, ChangesOwned}
+use Rattle.coap_world.specs.Words.{ServesAt, SentFor}
+use Rattle.coap_world.specs.Agrees.{Agrees, AppliedWhole, AtMostOnce}
 use Rattle.coap_world.specs.CameFrom.{CameFrom, CamesFrom}
 use Rattle.coap_world.specs.Events.{client_end, server_end, Config, Event}
 use Rattle.coap_world.specs.Legal.{Legal}
@@ -35,6 +35,8 @@ use Rattle.coap_world.proofs.Delivery.ReportsAreTaken.{all_given}
 use Rattle.coap_world.proofs.Delivery.HopsAreAChannel as joined
 use Rattle.coap_world.proofs.Reports.NeverFailed as F
 use Rattle.coap_world.proofs.Requests.ChangesOwned as O
+use Rattle.coap_world.proofs.Requests.HoldsChanges.{changes_held}
+use Rattle.coap_world.proofs.Requests.LocalChanges.{local_right}
 use Rattle.coap_world.proofs.Reports.PartsOfARecord.{Lawful, PartOf, part_back, whole}
 use Rattle.coap_world.proofs.Reports.ReportsAreOfRequests.{sent_for}
 use Rattle.coap_world.proofs.Requests.AppliedWhole as H
@@ -69,7 +71,7 @@ module _ (config : Config) (events : List Event) (turns : List Turn) (run : Reco
 
   pub applied_whole : AppliedWhole config all
   applied_whole =
-      H.applied_whole config all one (λ op h. (in_range op turns run.made legal h).format) sent came (all_served config.limit config.server_szx (server_trace config all) run.server.rows)
+      H.applied_whole config all one (λ op h. (in_range op turns run.made legal h).format) sent came run.server.rows
 
   most : (number : ℕ) → Always (λ past e. ServesFor config number all past e → Sometime (ServesFor config number all) past → ⊥) all
   most =
@@ -86,9 +88,6 @@ module _ (config : Config) (events : List Event) (turns : List Turn) (run : Reco
   pub at_most_once : AtMostOnce config all
   at_most_once = W.at_most_once config all most
 
-  pub changes_owned : ChangesOwned config all
-  changes_owned = O.owned config all (all_served config.limit config.server_szx (server_trace config all) run.server.rows)
-
   pub agrees : Agrees config all
   agrees = record {
     each_held = D.each_held config all lawful one;
@@ -97,7 +96,9 @@ module _ (config : Config) (events : List Event) (turns : List Turn) (run : Reco
     at_most_once = at_most_once;
     once_done = D.once_done config all lawful one;
     never_failed = F.never_failed config all lawful one came most;
-    changes_owned = changes_owned;
+    holds_changes = changes_held config all run.server.rows;
+    changes_owned = O.owned config all run.server.rows;
+    local_right = local_right config all run.server.rows;
     one_call = one_call config.client_szx (client_of all) run.client.rows;
     one_report = reported_once config.client_szx (client_of all) run.client.rows;
     all_given = all_given config.client_szx turns run.made run.client.rows;

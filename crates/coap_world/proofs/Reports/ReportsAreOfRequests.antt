@@ -13,7 +13,7 @@ use Rattle.coap_ends.specs.ClientReports.{report_of}
 use Rattle.coap_ends.specs.ClientSendings.{OneSending}
 use Rattle.coap_ends.proofs.ClientAnswers.{are_answers}
 use Rattle.coap_ends.proofs.ClientSent.{once_of, are_sent}
-use Rattle.coap_world.specs.Agrees.{ReportsAt, WasCalled, SentFor}
+use Rattle.coap_world.specs.Words.{ReportsAt, WasCalled, SentFor}
 use Rattle.coap_world.specs.Events.{server_end, Config}
 use Rattle.coap_world.specs.Record.{Entry, OfClient, OfServer, client_of}
 use Rattle.coap_world.proofs.Reports.Answered.{Answers, answered}

@@ -16,7 +16,8 @@ use Rattle.coap_ends.specs.ServerChecks.{Asks}
 use Rattle.coap_ends.specs.ServerFollows.{Serving, serving, asked_of as served_as, times_served, ServedOnce}
 use Rattle.coap_ends.specs.ServerLaw.{own_of}
 use Rattle.coap_ends.proofs.ServerCounts.{ups, Counted}
-use Rattle.coap_world.specs.Agrees.{ServesAt, SentFor, AppliesFor, AtMostOnce}
+use Rattle.coap_world.specs.Words.{ServesAt, SentFor, AppliesFor}
+use Rattle.coap_world.specs.Agrees.{AtMostOnce}
 use Rattle.coap_world.specs.CameFrom.{IsChannel, CameFrom, CamesFrom, request_of}
 use Rattle.coap_world.specs.Events.{client_end, server_end, Config}
 use Rattle.coap_world.specs.Hops.{hops_in, client_adds}

@@ -4,7 +4,7 @@ pub mod Server
 use Rattle.std.proofs.Common.{◌≡◌, ◌++◌, inl, inr, ℕ, true, Option, Some, None, List, [], ◌∷◌, map, refl, ap, sym, subst, arith}
 use Rattle.coap_types.specs.Past.{Sometime, Always}
 use Rattle.coap_ends.specs.ServerFollows.{Serving, is_applied}
-use Rattle.coap_world.specs.Agrees.{AppliesFor}
+use Rattle.coap_world.specs.Words.{AppliesFor}
 use Rattle.coap_world.specs.Events.{Calls, TickClient, Deliver, client_end}
 use Rattle.coap_world.specs.Legal.{Legal}
 use Rattle.coap_world.specs.LegalRuns.{config, event, from_client, from_server, failed, post, post_bytes, not_found_bytes, Fails}

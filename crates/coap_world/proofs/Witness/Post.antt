@@ -6,7 +6,7 @@ use Rattle.std.specs.Prelude.{codes}
 use Rattle.coap_types.specs.Past.{Always}
 use Rattle.coap_exchange.specs.AnswererSteps.{asked_of}
 use Rattle.coap_ends.specs.ServerFollows.{Serving}
-use Rattle.coap_world.specs.Agrees.{AppliesFor}
+use Rattle.coap_world.specs.Words.{AppliesFor}
 use Rattle.coap_world.specs.Events.{Calls, Sets, TickClient, Deliver, client_end}
 use Rattle.coap_world.specs.Legal.{IsPath, IsRequest, Legal}
 use Rattle.coap_world.specs.LegalRuns.{config, event, from_client, from_server, plain, log, post, post_bytes, changed_bytes, done, Posts}

@@ -10,7 +10,7 @@ use Rattle.coap_ends.specs.ClientFollows.{sends}
 use Rattle.coap_ends.specs.ClientLaw.{own_of}
 use Rattle.coap_ends.specs.ClientTrace as C
 use Rattle.coap_ends.specs.ServerFollows.{Serving}
-use Rattle.coap_world.specs.Agrees.{AppliesFor}
+use Rattle.coap_world.specs.Words.{AppliesFor}
 use Rattle.coap_world.specs.Events.{Calls, Sets, TickClient, Deliver, client_end}
 use Rattle.coap_world.specs.Legal.{Legal}
 use Rattle.coap_world.specs.LegalRuns.{config, event, from_client, plain, log, token, post, post_bytes, changed_bytes, timed_out, TimesOut}

@@ -9,7 +9,7 @@ use Rattle.coap_types.specs.CoapOption.{CoapOption}
 use Rattle.coap_types.specs.Uint as uint
 use Rattle.coap_types.specs.Past.{Sometime}
 use Rattle.coap_ends.specs.ClientTrace as C
-use Rattle.coap_world.specs.Agrees.{AppliesFor}
+use Rattle.coap_world.specs.Words.{AppliesFor}
 use Rattle.coap_world.specs.Events.{Config}
 use Rattle.coap_world.specs.Legal.{IsPath}
 use Rattle.coap_world.specs.Record.{Entry, OfClient}
