@@ -50,3 +50,5 @@ pub mod ServerEnding
 pub mod ClientEnding
 pub mod ServerResting
 pub mod ClientResting
+pub mod ServerBrought
+pub mod ServerAsked

@@ -26,3 +26,5 @@ pub mod ServerTags
 pub mod ClientHears
 pub mod ClientGives
 pub mod ClientNumbering
+pub mod ServerBrings
+pub mod ServerTable

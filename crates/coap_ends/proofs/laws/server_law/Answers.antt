@@ -14,6 +14,7 @@ use Rattle.coap_ends.proofs.ServerStamps.{are_stamped}
 use Rattle.coap_ends.proofs.ServerTagged.{one_tag}
 use Rattle.coap_ends.proofs.ServerGoing.{goes_on}
 use Rattle.coap_ends.proofs.ServerResting.{comes_to_rest}
+use Rattle.coap_ends.proofs.ServerAsked.{all_methods}
 use Rattle.coap_ends.proofs.laws.server_law.Goals as goal
 
 pub returns-clause-layer : goal.returns-clause-layer
@@ -63,3 +64,6 @@ returns-clause-goes c limit szx word t law formats = goes_on limit szx word t la
 
 pub returns-clause-rests : goal.returns-clause-rests
 returns-clause-rests c limit szx word t law formats = comes_to_rest limit szx word t law formats
+
+pub returns-clause-methods : goal.returns-clause-methods
+returns-clause-methods c limit szx word t law = all_methods limit szx word t law
