@@ -19,3 +19,5 @@ pub mod ServerTags
 pub mod ServerWaits
 pub mod ServerCounts
 pub mod Sources
+pub mod ServerBrings
+pub mod ServerTable

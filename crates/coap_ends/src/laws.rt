@@ -25,6 +25,7 @@ ghost use Rattle.coap_ends.specs.ServerLaw as servers;
 ghost use Rattle.coap_ends.specs.ServerLaw.{ServerLaw};
 ghost use Rattle.coap_ends.specs.Follows.ServerRests as servers_rest;
 ghost use Rattle.coap_ends.specs.Follows.ServerShows.{FormatsInRange, ShowsHeld};
+ghost use Rattle.coap_ends.specs.Follows.ServerTable.{AllMethods};
 ghost use Rattle.coap_ends.specs.Follows.ServerTags.{AreStamped, OneTag};
 ghost use Rattle.coap_ends.specs.ServerTrace as server;
 ghost use Rattle.coap_ends.specs.Follows.ServerWaits.{WaitsAsDeferred, ReadyAreServed};
@@ -95,6 +96,8 @@ pub fn server_law()
     ensures counts { (limit szx word : ℕ) (t : List server.Call) → ServerLaw limit szx word t → Counted limit szx word t }
     // .. and a request that is handed up is served at most once (section 5.2).
     ensures served { (limit szx word : ℕ) (t : List server.Call) → ServerLaw limit szx word t → ServedOnce limit szx t }
+    // Each method is served by its table, and only what a datagram asks (section 5.8).
+    ensures methods { (limit szx word : ℕ) (t : List server.Call) → ServerLaw limit szx word t → AllMethods limit szx t }
     // It is served as the table of the methods says, and what is applied is applied whole (section 5.8).
     ensures right { (limit szx word : ℕ) (t : List server.Call) → ServerLaw limit szx word t → AllServed limit szx t }
     // The versions of the changes are 1, 2, 3 and so on, and each path holds its last change (section 5.10.6).

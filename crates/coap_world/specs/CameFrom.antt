@@ -14,7 +14,7 @@ use Rattle.coap_ends.specs.Follows.ClientFollows.{Sending, WasSent}
 use Rattle.coap_ends.specs.ClientRequests.{message_of}
 use Rattle.coap_ends.specs.ServerChecks.{Verdict, Asks, verdict_on}
 use Rattle.coap_ends.specs.Follows.ServerFollows.{Serving}
-use Rattle.coap_world.specs.Agrees.{ServesAt}
+use Rattle.coap_world.specs.Words.{ServesAt}
 use Rattle.coap_world.specs.Events.{client_end, server_end, Config}
 use Rattle.coap_world.specs.Hops.{hops_in}
 use Rattle.coap_world.specs.Record.{Entry, client_of}

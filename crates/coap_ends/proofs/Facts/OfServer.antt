@@ -13,6 +13,7 @@ use Rattle.coap_ends.specs.Follows.ServerGoesOn.{GoesOn}
 use Rattle.coap_ends.specs.Follows.ServerHands.{AreHandedUp}
 use Rattle.coap_ends.specs.Follows.ServerRests.{ComesToRest}
 use Rattle.coap_ends.specs.Follows.ServerShows.{FormatsInRange, ShowsHeld}
+use Rattle.coap_ends.specs.Follows.ServerTable.{AllMethods}
 use Rattle.coap_ends.specs.Follows.ServerTags.{AreStamped, OneTag}
 use Rattle.coap_ends.specs.Follows.ServerWaits.{WaitsAsDeferred, ReadyAreServed}
 use Rattle.coap_ends.proofs.Exact.LawOfAPast.{server_back}
@@ -24,6 +25,7 @@ use Rattle.coap_ends.proofs.Progress.ServerGoing.{goes_on}
 use Rattle.coap_ends.proofs.Replying.ResponsesHaveRequests.{sent_responses}
 use Rattle.coap_ends.proofs.Replying.ServerRepliesSo.{replies_so}
 use Rattle.coap_ends.proofs.Rest.ServerResting.{comes_to_rest}
+use Rattle.coap_ends.proofs.Serving.ServerAsked.{all_methods}
 use Rattle.coap_ends.proofs.Serving.HandedUpAsOften.{counted}
 use Rattle.coap_ends.proofs.Serving.ServedOnce.{served_once}
 use Rattle.coap_ends.proofs.Serving.ServedWasHandedUp.{handed_up}
@@ -76,6 +78,9 @@ module _ (limit szx word : ℕ) where
 
     pub stamped : AreStamped limit szx t
     stamped = are_stamped limit szx t law.rows
+
+    pub methods : AllMethods limit szx word t
+    methods = all_methods limit szx word t law
 
     pub tags : OneTag limit szx t
     tags = one_tag limit szx t law.rows

@@ -58,3 +58,6 @@ returns-clause-rests c limit szx word t law formats = server.rests limit szx wor
 
 pub returns-clause-shows : goal.returns-clause-shows
 returns-clause-shows c limit szx word t law formats = server.shows limit szx word t law formats
+
+pub returns-clause-methods : goal.returns-clause-methods
+returns-clause-methods c limit szx word t law = server.methods limit szx word t law
