@@ -24,7 +24,6 @@ use Rattle.coap_ends.proofs.Progress.ClientGoing.{goes_on}
 use Rattle.coap_ends.proofs.Replying.ClientReplies.{replies_so}
 use Rattle.coap_ends.proofs.Reporting.ClientAnswers.{are_answers, are_from_server}
 use Rattle.coap_ends.proofs.Reporting.ClientHears.{are_heard}
-use Rattle.coap_ends.proofs.Reporting.GivenInOrder.{waits}
 use Rattle.coap_ends.proofs.Reporting.ReportedOnce.{reported_once}
 use Rattle.coap_ends.proofs.Rest.ClientResting.{comes_to_rest}
 use Rattle.coap_ends.proofs.Sending.ClientSent.{once_of, are_sent, first_taken, waiting_taken}
@@ -33,12 +32,17 @@ use Rattle.coap_ends.proofs.Sending.NoNons.{no_nons}
 use Rattle.coap_ends.proofs.Sending.NumbersRise.{one_call}
 use Rattle.coap_ends.proofs.Sending.OneCon.{one_con}
 use Rattle.coap_ends.proofs.Sending.SentOnce.{one_sending}
+pub use Rattle.coap_ends.proofs.Reporting.GivenInOrder.{waits}
 
 pub starts_taken : (t : List Call) (turn : Turn) (op : Operation) → starting (own_of t) turn ≡ Some op → WasTaken op t
 starts_taken t turn op is = first_taken t op (is_idle turn) (own_of t).running (own_of t).waiting is (waiting_taken t)
 
 pub back : (server : Endpoint) (szx word : ℕ) (calls t : List Call) → ClientLaw server szx word (calls ++ t) → ClientLaw server szx word t
 back server szx word calls t law = client_back server szx word calls t law
+
+-- whatever the calls are
+pub nons : (server : Endpoint) (word : ℕ) (t : List Call) → NoNons (layer_of server word t)
+nons server word t = no_nons server word (lower_of t)
 
 module _ (server : Endpoint) (szx word : ℕ) (t : List Call) (law : ClientLaw server szx word t) where
   pub layer : LayerLaw word (layer_of server word t)
@@ -60,9 +64,6 @@ module _ (server : Endpoint) (szx word : ℕ) (t : List Call) (law : ClientLaw s
 
   pub one_con_each : OneCon (layer_of server word t)
   one_con_each = one_con server word t law.exchanges (once_of word (lower_of t) (E.are_tokens server word (lower_of t) law.exchanges.rows)) layer
-
-  pub nons : NoNons (layer_of server word t)
-  nons = no_nons server word (lower_of t)
 
   pub replies : Always RepliesSo (layer_of server word t)
   replies = replies_so server word (lower_of t) law.exchanges.rows law.exchanges.left law.exchanges.layer

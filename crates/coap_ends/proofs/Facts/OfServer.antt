@@ -1,4 +1,4 @@
--- What follows from the law of a server: the clauses of `server_law`, for proofs above.
+-- What follows from the law of a server: the clauses of `server_law`, for proofs above, and some that rest on its rows alone.
 use Rattle.std.proofs.Common.{ℕ, List, ◌++◌}
 use Rattle.coap_types.specs.Past.{Always}
 use Rattle.coap_layer.specs.Channel.{RepliesSo}
@@ -18,7 +18,6 @@ use Rattle.coap_ends.specs.Follows.ServerTags.{AreStamped, OneTag}
 use Rattle.coap_ends.specs.Follows.ServerWaits.{WaitsAsDeferred, ReadyAreServed}
 use Rattle.coap_ends.proofs.Exact.LawOfAPast.{server_back}
 use Rattle.coap_ends.proofs.Holding.OneTag.{one_tag}
-use Rattle.coap_ends.proofs.Holding.ServerHolds.{all_served, holds_changes}
 use Rattle.coap_ends.proofs.Holding.ServerShown.{shows_held}
 use Rattle.coap_ends.proofs.Holding.ServerStamps.{are_stamped}
 use Rattle.coap_ends.proofs.Progress.ServerGoing.{goes_on}
@@ -30,6 +29,7 @@ use Rattle.coap_ends.proofs.Serving.HandedUpAsOften.{counted}
 use Rattle.coap_ends.proofs.Serving.ServedOnce.{served_once}
 use Rattle.coap_ends.proofs.Serving.ServedWasHandedUp.{handed_up}
 use Rattle.coap_ends.proofs.Serving.ServerWaiting.{waits_as_deferred, ready_are_served}
+pub use Rattle.coap_ends.proofs.Holding.ServerHolds.{all_served, holds_changes, version_is, held_is}
 pub use Rattle.coap_ends.proofs.Serving.ServedWasHandedUp.{same_asked_is}
 
 module _ (limit szx word : ℕ) where
@@ -79,7 +79,7 @@ module _ (limit szx word : ℕ) where
     pub stamped : AreStamped limit szx t
     stamped = are_stamped limit szx t law.rows
 
-    pub methods : AllMethods limit szx word t
+    pub methods : AllMethods limit szx t
     methods = all_methods limit szx word t law
 
     pub tags : OneTag limit szx t

@@ -7,7 +7,7 @@ use Rattle.coap_ends.specs.ClientLaw.{own_of, ClientRows}
 use Rattle.coap_ends.specs.Follows.ClientGives.{made, given}
 use Rattle.coap_ends.specs.ClientTrace as C
 use Rattle.coap_ends.specs.ServerTrace as S
-use Rattle.coap_ends.proofs.Reporting.GivenInOrder.{waits}
+use Rattle.coap_ends.proofs.Facts.OfClient.{waits}
 use Rattle.coap_world.specs.Agrees.{AllGiven}
 use Rattle.coap_world.specs.Record.{Turn, Makes, client_of, entries_of}
 use Rattle.coap_world.proofs.Delivery.OneEndATurn.{ClientTurn, ServerTurn, side, client_client, client_server}

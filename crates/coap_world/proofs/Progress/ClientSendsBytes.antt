@@ -27,7 +27,7 @@ use Rattle.coap_ends.specs.ClientRequests.{uint, uint_option, path_options, more
 use Rattle.coap_ends.specs.ClientSteps.{is_idle, starting, asking}
 use Rattle.coap_ends.specs.ClientLaw.{ClientLaw, own_of, lower_of, layer_of}
 use Rattle.coap_ends.specs.Follows.ClientFollows.{WasTaken}
-use Rattle.coap_ends.proofs.Sending.ClientSent.{waiting_taken, first_taken}
+use Rattle.coap_ends.proofs.Facts.OfClient.{starts_taken}
 use Rattle.coap_world.specs.Legal.{IsRequest}
 use Rattle.coap_world.proofs.Progress.SpelledInBytes.{ValuesAre, none_are, cons_are, high_are, values_append}
 use Rattle.coap_world.proofs.Delivery.EntriesInTime.{Every, every_join}
@@ -127,7 +127,7 @@ requests_are (Ticks now word below w sent z answer ∷ t) f =
     let o : Option Operation = starting (own_of t) w in
     every_join _ (asking at o word sent z ++ E.Ticks at below w ∷ []) (lower_of t)
     (every_join _ (asking at o word sent z) (E.Ticks at below w ∷ [])
-    (asking_are at o word sent z (λ op is. f op (inr (first_taken t op (is_idle w) (own_of t).running (own_of t).waiting is (waiting_taken t))))) (tt, tt)) (requests_are t (λ op w. f op (inr w)))
+    (asking_are at o word sent z (λ op is. f op (inr (starts_taken t w op is)))) (tt, tt)) (requests_are t (λ op w. f op (inr w)))
 requests_are (NextOut answer ∷ t) f = (tt, requests_are t (λ op w. f op (inr w)))
 requests_are (NextReport answer ∷ t) f = requests_are t (λ op w. f op (inr w))
 

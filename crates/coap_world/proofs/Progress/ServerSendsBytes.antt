@@ -26,9 +26,9 @@ use Rattle.std.proofs.lemmas.Bool.{and_parts}
 use Rattle.coap_ends.specs.ClientRequests.{block1, block2}
 use Rattle.coap_ends.specs.ServerTrace.{Waiting, Own, Handling, Silent, Refuses, Serves, Waits, Call, Sets, Removes, Delays, Feeds, Ticks, NextOut}
 use Rattle.coap_ends.specs.ServerChecks.{Verdict, Ignored, Refused, Asks, bad_by, bad_request, proxying_not_supported, proxy_uri, proxy_scheme, max_segments, asks, path_of, is_reserved, method_by, asked_by, question, verdict_on}
-use Rattle.coap_ends.specs.ServerSteps.{lower, answering, responding, is_of, question_of, without, waits_by, delay_of, left_by, waiting_with, waiting_after, IsServed, AsksBy, Handles, HandlesCame, HandlesDue, AnswersWaiting, IsRight, after}
+use Rattle.coap_ends.specs.ServerSteps.{lower, answering, responding, is_of, question_of, without_waiting, waits_by, delay_of, left_by, waiting_with, waiting_after, IsServed, AsksBy, Handles, HandlesCame, HandlesDue, AnswersWaiting, IsRight, after}
 use Rattle.coap_ends.specs.ServerLaw.{ServerLaw, ServerRows, own_of, lower_of, layer_of}
-use Rattle.coap_ends.proofs.Serving.ServedWasHandedUp.{same_asked_is}
+use Rattle.coap_ends.proofs.Facts.OfServer.{same_asked_is}
 use Rattle.coap_world.proofs.Progress.SpelledInBytes.{none_are, values_from_all}
 use Rattle.coap_world.proofs.Delivery.EntriesInTime.{Every, every_join}
 use Rattle.coap_world.proofs.Progress.ExchangesSendBytes.{ResponseAre, RespondAre, each_are, every_front, every_back, last_of, steps_are, CameAre, IncomingAre, all_incoming}
@@ -91,11 +91,11 @@ handles_are s at kind (Asks q) h b is k = asks_are (waits_by kind (delay_of q.pa
 abbrev OneAre : Waiting → Type 0
 OneAre w = AreBytes w.asked.token × AreBytes w.question.body
 
-without_are : (at : ℕ) (a : Asked) (ws : List Waiting) → Every OneAre ws → Every OneAre (without at a ws)
+without_are : (at : ℕ) (a : Asked) (ws : List Waiting) → Every OneAre ws → Every OneAre (without_waiting at a ws)
 without_are at a [] h = tt
 without_are at a (w ∷ ws) h = by (is_of at a w) (without_are at a ws h.1)
   where
-    by : (b : Bool) → Every OneAre (without at a ws) → Every OneAre (cond b ws (w ∷ without at a ws))
+    by : (b : Bool) → Every OneAre (without_waiting at a ws) → Every OneAre (cond b ws (w ∷ without_waiting at a ws))
     by true k = h.1
     by false k = (h.0, k)
 
@@ -162,7 +162,7 @@ module _ (szx : ℕ) (s : Own) (own : OwnAre s) where
       token : AreBytes a.token
       token = (question_are at a s.waiting q own.waiting is).0
 
-      left : Every OneAre (without at a s.waiting)
+      left : Every OneAre (without_waiting at a s.waiting)
       left = without_are at a s.waiting own.waiting
 
       by : (w : Handling) → HandlingAre w → DueAre at (due.Ready a) w word id

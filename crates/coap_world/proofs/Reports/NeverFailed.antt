@@ -13,7 +13,7 @@ use Rattle.coap_ends.specs.ClientTrace.{Failed}
 use Rattle.coap_ends.specs.ClientRequests.{block1}
 use Rattle.coap_ends.specs.ServerChecks.{Refused, Asks, verdict_on, asked_by as verdict_by, bad_by, asks, method_by, proxy_uri, proxy_scheme, proxying_not_supported}
 use Rattle.coap_ends.specs.Follows.ServerFollows.{Serving, is_applied}
-use Rattle.coap_ends.proofs.Holding.ServerHolds.{all_served}
+use Rattle.coap_ends.proofs.Facts.OfServer.{all_served}
 use Rattle.coap_exchange.specs.declared.answerer.Asked.{Asked}
 use Rattle.coap_resource.specs.Serves.{Question}
 use Rattle.coap_world.specs.Words.{AppliesFor, ReportsAt, ServesAt}

@@ -11,8 +11,7 @@ use Rattle.coap_ends.specs.Follows.ClientFollows.{Sending, WasSent, OfAnswer, is
 use Rattle.coap_ends.specs.ClientLaw.{ClientLaw, lower_of}
 use Rattle.coap_ends.specs.ClientReports.{report_of}
 use Rattle.coap_ends.specs.Follows.ClientSendings.{OneSending}
-use Rattle.coap_ends.proofs.Reporting.ClientAnswers.{are_answers}
-use Rattle.coap_ends.proofs.Sending.ClientSent.{once_of, are_sent}
+use Rattle.coap_ends.proofs.Facts.OfClient as client
 use Rattle.coap_world.specs.Words.{ReportsAt, WasCalled, SentFor}
 use Rattle.coap_world.specs.Events.{server_end, Config}
 use Rattle.coap_world.specs.Record.{Entry, OfClient, OfServer, client_of}
@@ -31,10 +30,10 @@ sent_for all s number token sent n t = (s.operation.request, subst (λ x. WasSen
 
 -- what a client's law says of its sendings and its reports
 sent_by : (config : Config) (t : List C.Call) → ClientLaw server_end config.client_szx config.client_word t → AreSent t
-sent_by config t law = are_sent t (once_of config.client_word (lower_of t) (are_tokens server_end config.client_word (lower_of t) law.exchanges.rows).0)
+sent_by config t law = client.sent server_end config.client_szx config.client_word t law
 
 answers_by : (config : Config) (t : List C.Call) → ClientLaw server_end config.client_szx config.client_word t → ReportsAreAnswers t
-answers_by config t law = are_answers t (sent_by config t law) (are_exchanges server_end config.client_word (lower_of t) law.exchanges.rows).0
+answers_by config t law = client.answers server_end config.client_szx config.client_word t law
 
 -- the request of the call is served, or refused, here, and the response to it is reported
 pub record Reporting (config : Config) (number : ℕ) (report : Report) (all past : List Entry) (e : Entry) : Type 0 where

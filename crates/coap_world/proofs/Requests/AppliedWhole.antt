@@ -16,7 +16,7 @@ use Rattle.coap_ends.specs.ServerChecks.{Asks}
 use Rattle.coap_ends.specs.Follows.ServerFollows.{Serving, IsApplied}
 use Rattle.coap_ends.specs.Follows.ServerFollows as S
 use Rattle.coap_ends.specs.ServerLaw.{own_of}
-use Rattle.coap_ends.proofs.Holding.ServerHolds.{all_served, version_is}
+use Rattle.coap_ends.proofs.Facts.OfServer.{all_served, version_is}
 use Rattle.coap_world.specs.Words.{AppliesFor, WasCalled, ServesAt, holds_at, changes_in}
 use Rattle.coap_world.specs.Agrees.{Does, IsWhole, AppliedWhole}
 use Rattle.coap_world.specs.CameFrom.{CameFrom, CamesFrom, request_of}

@@ -15,7 +15,7 @@ use Rattle.coap_ends.specs.ServerTrace as S
 use Rattle.coap_ends.specs.ServerChecks.{Asks}
 use Rattle.coap_ends.specs.Follows.ServerFollows.{Serving, serving, asked_of as served_as, times_served, ServedOnce}
 use Rattle.coap_ends.specs.ServerLaw.{own_of}
-use Rattle.coap_ends.proofs.Serving.HandedUpAsOften.{ups, Counted}
+use Rattle.coap_ends.specs.Follows.ServerCounts.{ups, Counted}
 use Rattle.coap_world.specs.Words.{ServesAt, SentFor, AppliesFor}
 use Rattle.coap_world.specs.Agrees.{AtMostOnce}
 use Rattle.coap_world.specs.CameFrom.{IsChannel, CameFrom, CamesFrom, request_of}

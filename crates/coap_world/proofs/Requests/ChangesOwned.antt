@@ -6,7 +6,7 @@ use Rattle.coap_resource.specs.Content.{Content}
 use Rattle.coap_ends.specs.ServerTrace.{Own, Call, Sets, Removes, Delays, Feeds, Ticks, NextOut}
 use Rattle.coap_ends.specs.ServerLaw.{own_of}
 use Rattle.coap_ends.specs.Follows.ServerFollows.{Serving, serving, Change, change, change_of, changed_by, held_then, ServesRight}
-use Rattle.coap_ends.proofs.Holding.ServerHolds.{all_served}
+use Rattle.coap_ends.proofs.Facts.OfServer.{all_served}
 use Rattle.coap_world.specs.Events.{Config}
 use Rattle.coap_world.specs.Holds.{ChangesLocally, AppliesTo, IsOwned, ChangesOwned}
 use Rattle.coap_world.specs.Record.{Entry, OfClient, OfServer, server_trace}

@@ -6,7 +6,7 @@ use Rattle.coap_resource.specs.declared.refusal.StoreRefusal.{StoreRefusal}
 use Rattle.coap_ends.specs.ServerTrace as S
 use Rattle.coap_ends.specs.ServerSteps.{SetsBy, RemovesBy}
 use Rattle.coap_ends.specs.ServerLaw.{own_of}
-use Rattle.coap_ends.proofs.Holding.ServerHolds.{version_is}
+use Rattle.coap_ends.proofs.Facts.OfServer.{version_is}
 use Rattle.coap_world.specs.Events.{Config}
 use Rattle.coap_world.specs.Local.{IsSame, SetsRight, RemovesRight, IsLocalRight, LocalRight}
 use Rattle.coap_world.specs.Record.{Entry, OfClient, OfServer, server_trace}

@@ -29,7 +29,7 @@ pub returns-clause-one_con : goal.returns-clause-one_con
 returns-clause-one_con c server szx word t law = client.one_con_each server szx word t law
 
 pub returns-clause-nons : goal.returns-clause-nons
-returns-clause-nons c server szx word t law = client.nons server szx word t law
+returns-clause-nons c server szx word t law = client.nons server word t
 
 pub returns-clause-replies : goal.returns-clause-replies
 returns-clause-replies c server szx word t law = client.replies server szx word t law
