@@ -52,3 +52,5 @@ pub mod ServerResting
 pub mod ClientResting
 pub mod ServerBrought
 pub mod ServerAsked
+pub mod ClientQueued
+pub mod ClientEnded

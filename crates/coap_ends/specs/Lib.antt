@@ -28,3 +28,5 @@ pub mod ClientGives
 pub mod ClientNumbering
 pub mod ServerBrings
 pub mod ServerTable
+pub mod ClientQueue
+pub mod ClientEnds

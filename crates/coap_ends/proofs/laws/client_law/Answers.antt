@@ -20,6 +20,8 @@ use Rattle.coap_ends.proofs.ClientHears.{are_heard}
 use Rattle.coap_ends.proofs.ClientNumbers.{one_sending}
 use Rattle.coap_ends.proofs.ClientGiven.{gives_in_order}
 use Rattle.coap_ends.proofs.ClientCounted.{one_call}
+use Rattle.coap_ends.proofs.ClientEnded.{all_ends}
+use Rattle.coap_ends.proofs.ClientQueued.{in_order, all_taken}
 use Rattle.coap_ends.proofs.laws.client_law.Goals as goal
 
 pub returns-clause-layer : goal.returns-clause-layer
@@ -76,3 +78,12 @@ returns-clause-numbers c server szx word t law = one_call szx t law.rows
 
 pub returns-clause-rests : goal.returns-clause-rests
 returns-clause-rests c server szx word t law = comes_to_rest server szx word t law
+
+pub returns-clause-starts : goal.returns-clause-starts
+returns-clause-starts c server szx word t law = in_order t
+
+pub returns-clause-takes : goal.returns-clause-takes
+returns-clause-takes c server szx word t law = all_taken szx t law.rows
+
+pub returns-clause-ends : goal.returns-clause-ends
+returns-clause-ends c server szx word t law = all_ends server szx word t law
