@@ -4,3 +4,4 @@ pub mod NoNons
 pub mod ClientSent
 pub mod SentOnce
 pub mod NumbersRise
+pub mod ClientQueued

@@ -21,3 +21,5 @@ pub mod ServerCounts
 pub mod Sources
 pub mod ServerBrings
 pub mod ServerTable
+pub mod ClientEnds
+pub mod ClientQueue

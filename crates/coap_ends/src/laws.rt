@@ -5,6 +5,7 @@ ghost use Rattle.coap_layer.specs.Channel.{RepliesSo};
 ghost use Rattle.coap_layer.specs.Follows.{CopiesInTime, HandedUpOnce};
 ghost use Rattle.coap_layer.specs.Rows.{LayerLaw};
 ghost use Rattle.coap_ends.specs.Follows.ClientBegins.{ConsAreRequests};
+ghost use Rattle.coap_ends.specs.Follows.ClientEnds.{AllEnds};
 ghost use Rattle.coap_ends.specs.Follows.ClientExact as clients_exact;
 ghost use Rattle.coap_ends.specs.Follows.ClientFollows.{AreSent, ReportsAreAnswers, AreFromServer, ReportedOnce};
 ghost use Rattle.coap_ends.specs.Follows.ClientGives.{GivesInOrder};
@@ -12,6 +13,7 @@ ghost use Rattle.coap_ends.specs.Follows.ClientGoesOn.{GoesOn};
 ghost use Rattle.coap_ends.specs.Follows.ClientHears.{AreHeard};
 ghost use Rattle.coap_ends.specs.ClientLaw.{ClientLaw, layer_of};
 ghost use Rattle.coap_ends.specs.Follows.ClientNumbering.{OneCall};
+ghost use Rattle.coap_ends.specs.Follows.ClientQueue.{StartsInOrder, AllTaken};
 ghost use Rattle.coap_ends.specs.Follows.ClientRests.{ComesToRest};
 ghost use Rattle.coap_ends.specs.Follows.ClientSendings.{OneSending, NoNons, OneCon};
 ghost use Rattle.coap_ends.specs.ClientTrace.{Call};
@@ -63,6 +65,12 @@ pub fn client_law()
     ensures from_server { (server : Endpoint) (szx word : ℕ) (t : List Call) → ClientLaw server szx word t → AreFromServer server t }
     // .. and its message layer handed it up.
     ensures heard { (server : Endpoint) (szx word : ℕ) (t : List Call) → ClientLaw server szx word t → AreHeard server word t }
+    // Calls start in the order in which they were taken, and one is refused exactly where it has to be (profile).
+    ensures starts { (server : Endpoint) (szx word : ℕ) (t : List Call) → ClientLaw server szx word t → StartsInOrder t }
+    ensures takes { (server : Endpoint) (szx word : ℕ) (t : List Call) → ClientLaw server szx word t → AllTaken szx t }
+    // Each report is of a call; each exchange that ends by a Reset, a failure, or want of a response is reported so, and
+    // nothing else is; NoIds is reported for want of a Message ID or of a token (RFC 7252, sections 4.2, 4.4 and 5.3.1).
+    ensures ends { (server : Endpoint) (szx word : ℕ) (t : List Call) → ClientLaw server szx word t → AllEnds t }
     // A call is reported at most once.
     ensures once { (server : Endpoint) (szx word : ℕ) (t : List Call) → ClientLaw server szx word t → ReportedOnce t }
     // What is given as reports is what was made, in order.

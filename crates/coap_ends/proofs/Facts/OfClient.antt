@@ -17,6 +17,8 @@ use Rattle.coap_ends.specs.Follows.ClientGives.{GivesInOrder}
 use Rattle.coap_ends.specs.Follows.ClientGoesOn.{GoesOn}
 use Rattle.coap_ends.specs.Follows.ClientHears.{AreHeard}
 use Rattle.coap_ends.specs.Follows.ClientNumbering.{OneCall}
+use Rattle.coap_ends.specs.Follows.ClientEnds.{AllEnds}
+use Rattle.coap_ends.specs.Follows.ClientQueue.{StartsInOrder, AllTaken}
 use Rattle.coap_ends.specs.Follows.ClientRests.{ComesToRest}
 use Rattle.coap_ends.specs.Follows.ClientSendings.{OneSending, NoNons, OneCon}
 use Rattle.coap_ends.proofs.Exact.LawOfAPast.{client_back}
@@ -25,6 +27,8 @@ use Rattle.coap_ends.proofs.Replying.ClientReplies.{replies_so}
 use Rattle.coap_ends.proofs.Reporting.ClientAnswers.{are_answers, are_from_server}
 use Rattle.coap_ends.proofs.Reporting.ClientHears.{are_heard}
 use Rattle.coap_ends.proofs.Reporting.ReportedOnce.{reported_once}
+use Rattle.coap_ends.proofs.Reporting.ClientEnded.{all_ends}
+use Rattle.coap_ends.proofs.Sending.ClientQueued.{in_order as start_in_order, all_taken}
 use Rattle.coap_ends.proofs.Rest.ClientResting.{comes_to_rest}
 use Rattle.coap_ends.proofs.Sending.ClientSent.{once_of, are_sent, first_taken, waiting_taken}
 use Rattle.coap_ends.proofs.Sending.ConsAreRequests.{asked_for, exchange_of, request_of}
@@ -88,3 +92,12 @@ module _ (server : Endpoint) (szx word : ℕ) (t : List Call) (law : ClientLaw s
 
   pub in_order : GivesInOrder t
   in_order = waits szx t law.rows
+
+  pub starts : StartsInOrder t
+  starts = start_in_order t
+
+  pub takes : AllTaken szx t
+  takes = all_taken szx t law.rows
+
+  pub ends : AllEnds t
+  ends = all_ends server szx word t law

@@ -57,3 +57,12 @@ returns-clause-once c server szx word t law = client.once server szx word t law
 
 pub returns-clause-in_order : goal.returns-clause-in_order
 returns-clause-in_order c server szx word t law = client.in_order server szx word t law
+
+pub returns-clause-starts : goal.returns-clause-starts
+returns-clause-starts c server szx word t law = client.starts server szx word t law
+
+pub returns-clause-takes : goal.returns-clause-takes
+returns-clause-takes c server szx word t law = client.takes server szx word t law
+
+pub returns-clause-ends : goal.returns-clause-ends
+returns-clause-ends c server szx word t law = client.ends server szx word t law
