@@ -25,7 +25,7 @@ use Rattle.coap_exchange.specs.AskerLaw.{AskerLaw, ExchangeLaw}
 use Rattle.coap_exchange.specs.AskerFollows as F
 use Rattle.coap_exchange.specs.AskerTells.{AreRefused}
 use Rattle.coap_exchange.proofs.Facts.ClientSide.{are_exchanges}
-use Rattle.coap_exchange.proofs.AskerRefused as R
+use Rattle.coap_exchange.proofs.Exchanges.RefusedWhileOneRuns as R
 use Rattle.coap_ends.specs.ClientTrace.{Operation, Request, Report, Body, Done, Failed, TooLarge, Timeout, Reset, NoResponse, NoIds, Reported, Own, Call, Calls, Feeds, Ticks, NextOut, NextReport}
 use Rattle.coap_ends.specs.ClientRequests.{message_of, max_body, block2}
 use Rattle.coap_ends.specs.ClientReports.{report_of, lapse, said, body_of, content, etag, is_success}
@@ -175,20 +175,7 @@ end_if false e f h = absurd (cc h)
 by_time : (s : E.Own) (at : ℕ) (below : L.Answer) (e : Event) → turn.End e ≡ turn_of s at below → ByTime e
 by_time s at (L.Expired to id) e h = inl (end_if (is_of_request s to id) e event.Timeout (sym h))
 by_time s at L.Idle e h = inr (end_if (has_waited at (acked_in s.running)) e event.NoResponse (sym h))
-by_time s at (L.Copied to id) e h = absurd (cc h)
-by_time s at L.Nothing e h = absurd (cc h)
-by_time s at (L.Is holds) e h = absurd (cc h)
-by_time s at (L.Sent id) e h = absurd (cc h)
-by_time s at L.Busied e h = absurd (cc h)
-by_time s at L.NoIds e h = absurd (cc h)
-by_time s at (L.Gives packet) e h = absurd (cc h)
-by_time s at (L.Request m kept) e h = absurd (cc h)
-by_time s at (L.Response m) e h = absurd (cc h)
-by_time s at (L.Acked id) e h = absurd (cc h)
-by_time s at (L.Reset id) e h = absurd (cc h)
-by_time s at L.Dropped e h = absurd (cc h)
-by_time s at L.Replayed e h = absurd (cc h)
-by_time s at L.Rejected e h = absurd (cc h)
+by_time s at below e h = absurd (cc h)
 
 module _ (now word : ℕ) (below sent : L.Answer) (z : Result (List ℕ) AskRefusal) (answer : Bool) where
   ends_so : (e : Event) → ByTime e → ends_as (Ticks now word below (turn.End e) sent z answer) ≡ Some (lapse e)
@@ -348,4 +335,4 @@ module _ (server : Endpoint) (w0 : ℕ) where
 
 pub all_ends : (server : Endpoint) (szx word : ℕ) (t : List Call) → ClientLaw server szx word t → AllEnds t
 all_ends server szx word t law =
-    all_in server word t law.exchanges.rows (are_exchanges server word (lower_of t) law.exchanges.rows).0 (R.refused server word (lower_of t) law.exchanges.rows law.exchanges.left law.exchanges.layer)
+    all_in server word t law.exchanges.rows (are_exchanges server word (lower_of t) law.exchanges.rows) (R.refused server word (lower_of t) law.exchanges.rows law.exchanges.left law.exchanges.layer)
