@@ -1,3 +1,4 @@
 pub mod FromServer
 pub mod ResetsAreOfRequest
 pub mod ResponsesMatch
+pub mod FewTokenBytes

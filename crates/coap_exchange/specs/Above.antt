@@ -30,6 +30,11 @@ module _ {Own Call Below Layer : Type 0} (IsRight : Own → Call → Type 0) (af
     pub own_is : new.own ≡ after old.own c
     pub under : Steps old.layer (lower old.own c) new.layer
 
+  -- several calls, the newest first: each is a step
+  abbrev pub Chain : State Own Layer → List Call → State Own Layer → Type 0
+  Chain old [] new = new ≡ old
+  Chain old (c ∷ earlier) new = (between : State Own Layer) × Chain old earlier between × Step between c new
+
   module _ (start : Own) (fresh : Layer) where
     -- The law: each call has its row, and an object beneath that began fresh answered what was asked of it, step by step.
     pub record Law (trace : List Call) : Type 0 where

@@ -40,6 +40,10 @@ fresh_state word = record { own = start; layer = L.start word }
 abbrev pub Step : State → Call → State → Type 0
 Step old c new = above.Step IsRight after lower Steps old c new
 
+-- several, the newest first
+abbrev pub Exchanged : State → List Call → State → Type 0
+Exchanged old calls new = above.Chain IsRight after lower Steps old calls new
+
 -- these calls can leave it so
 abbrev pub Led : ℕ → List Call → State → Type 0
 Led word trace s = above.Led IsRight after lower Steps start (L.start word) trace s

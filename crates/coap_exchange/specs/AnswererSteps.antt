@@ -60,17 +60,17 @@ found to id (x ∷ xs) = if goes_to to id x then Some x else found to id xs
 abbrev pub ended_as : Separate → Ended
 ended_as x = record { to = x.to; token = x.token; observe = x.observe }
 
-abbrev pub without : Endpoint → ℕ → List Separate → List Separate
-without to id xs = filter (λ x. not (goes_to to id x)) xs
+abbrev pub without_separate : Endpoint → ℕ → List Separate → List Separate
+without_separate to id xs = filter (λ x. not (goes_to to id x)) xs
 
 -- what an acknowledgement and a Reset leave, and a failure
 abbrev pub separate_after : Endpoint → L.Answer → List Separate → List Separate
-separate_after from (L.Becomes (L.Acked id)) xs = without from id xs
-separate_after from (L.Becomes (L.Reset id)) xs = without from id xs
+separate_after from (L.Becomes (L.Acked id)) xs = without_separate from id xs
+separate_after from (L.Becomes (L.Reset id)) xs = without_separate from id xs
 separate_after from _ xs = xs
 
 abbrev pub separate_unless : L.Answer → List Separate → List Separate
-separate_unless (L.Expired to id) xs = without to id xs
+separate_unless (L.Expired to id) xs = without_separate to id xs
 separate_unless _ xs = xs
 
 -- the one that a Reset ends, and that a failure ends (section 5.2.2; RFC 7641, sections 3.6 and 4.5)

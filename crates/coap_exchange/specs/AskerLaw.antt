@@ -42,6 +42,10 @@ fresh_state server word = record { own = start server word; layer = L.start word
 abbrev pub Step : State → Call → State → Type 0
 Step old c new = above.Step IsRight after lower Steps old c new
 
+-- several, the newest first
+abbrev pub Exchanged : State → List Call → State → Type 0
+Exchanged old calls new = above.Chain IsRight after lower Steps old calls new
+
 -- these calls can leave it so
 abbrev pub Led : Endpoint → ℕ → List Call → State → Type 0
 Led server word trace s = above.Led IsRight after lower Steps (start server word) (L.start word) trace s

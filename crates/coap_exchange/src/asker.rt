@@ -1,10 +1,11 @@
-ghost use Rattle.std.specs.Prelude.{◌≡◌, ◌≢◌, ℕ, Bool, false, List, [], ◌∷◌, None, Some, Err, IsOk, IfOk, OnOk, OnErr, IsSome, max};
+ghost use Rattle.std.specs.Prelude.{◌≡◌, ◌≢◌, ◌≤◌, ℕ, length, IfSome, Bool, false, List, [], ◌∷◌, None, Some, Err, IsOk, IfOk, OnOk, OnErr, IsSome, max};
 ghost use Rattle.coap_types.specs.declared.endpoint.Endpoint.{Endpoint};
 ghost use Rattle.coap_layer.specs.State.{answer_of, copies, made};
 ghost use Rattle.coap_layer.specs.Trace as below;
 ghost use Rattle.coap_layer.specs.Ups.{IsQuiet};
 ghost use Rattle.coap_exchange.specs.declared.asker.AskRefusal.TheVariants as refusals;
 ghost use Rattle.coap_exchange.specs.declared.matching.Opening.TheVariants as openings;
+ghost use Rattle.coap_exchange.specs.AskerFollows.{message_told};
 ghost use Rattle.coap_exchange.specs.AskerLaw.{Led, Step, fresh_state};
 ghost use Rattle.coap_exchange.specs.AskerRequests.{opening_of};
 ghost use Rattle.coap_exchange.specs.Machine.AskerShown.{IsAskable};
@@ -160,6 +161,7 @@ impl<A: Allocator + Copy> Asker<A> {
         requires { IsAskable ask.now }
         ensures step { result ≢ Err refusals.Memory → (answer : below.Answer) × Step self.old.state (Asks now.0 ask.now word answer result) self.new.state }
         ensures led { (server : Endpoint) (begin : ℕ) (t : List Call) → Led server begin t self.old.state → result ≢ Err refusals.Memory → (answer : below.Answer) × Led server begin (Asks now.0 ask.now word answer result ∷ t) self.new.state }
+        ensures few { IfOk result (λ token. length token ≤ 8) }
         ensures before { self.new.before ≡ self.old.before }
         ensures memory { result ≡ Err refusals.Memory → self.new ≡ self.old }
         // Where it refuses for another reason, it takes no memory.
@@ -183,6 +185,7 @@ impl<A: Allocator + Copy> Asker<A> {
         requires askable { IsAskable ask.now }
         requires opening { opening_of self.old.state.own ask.now ≡ openings.Sends }
         ensures step { result ≢ Err refusals.Memory → (answer : below.Answer) × Step self.old.state (Asks now.0 ask.now word answer result) self.new.state }
+        ensures few { IfOk result (λ token. length token ≤ 8) }
         ensures before { self.new.before ≡ self.old.before }
         ensures memory { result ≡ Err refusals.Memory → self.new ≡ self.old }
         ensures quiet { answer_of self.old.state.layer (max self.old.state.own.clock now.0) (below.Room self.old.state.own.server) ≡ below.Is false → result ≢ Err refusals.Memory }
@@ -215,6 +218,7 @@ impl<A: Allocator + Copy> Asker<A> {
     ) -> Result<Option<Event<'d>>, AllocError>
         ensures step { IfOk result (λ event. (up : below.Answer) × (settled : Bool) × Step self.old.state (Receive now.0 from bytes.now up settled event) self.new.state) }
         ensures led { (server : Endpoint) (word : ℕ) (t : List Call) → Led server word t self.old.state → IfOk result (λ event. (up : below.Answer) × (settled : Bool) × Led server word (Receive now.0 from bytes.now up settled event ∷ t) self.new.state) }
+        ensures few { IfOk result (λ event. IfSome (message_told event) (λ m. length m.token ≤ 8)) }
         ensures before { OnOk result (self.new.before ≡ Some self.old.state) }
         ensures err { OnErr result (self.new ≡ self.old) }
         // Where the layer sends nothing and hands nothing up, it takes no memory.

@@ -43,7 +43,8 @@ fn copied(requests: &[Deferred]) -> ArrayVec<Deferred, MAX_DEFERRED>
 
 // The first that is ready.
 fn first_ready(requests: &[Deferred], at: u64, separate: &[Listed<Separate>]) -> Option<Asked>
-    ensures { result ≡ option_map (λ d. d.asked) (first_ready at (listed separate.now) requests.now) }
+    ensures few { IfSome result (λ a. length a.token ≤ 8) }
+    ensures first { result ≡ option_map (λ d. d.asked) (first_ready at (listed separate.now) requests.now) }
 {
     for request in requests {
         if is_ready(request, at, separate) {
@@ -89,7 +90,8 @@ impl Deferrals {
 
     /// The first that is ready at this moment.
     pub(crate) fn ready(&self, at: u64, separate: &[Listed<Separate>]) -> Option<Asked>
-        ensures { result ≡ option_map (λ d. d.asked) (first_ready at (listed separate.now) self.now) }
+        ensures few { IfSome result (λ a. length a.token ≤ 8) }
+        ensures first { result ≡ option_map (λ d. d.asked) (first_ready at (listed separate.now) self.now) }
     {
         first_ready(self.requests.as_slice(), at, separate)
     }

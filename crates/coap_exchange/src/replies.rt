@@ -1,4 +1,4 @@
-ghost use Rattle.std.specs.Prelude.{◌≡◌, ◌≤◌, ℕ, Some, None, length, take, true};
+ghost use Rattle.std.specs.Prelude.{◌≡◌, ◌≤◌, ℕ, Some, None, IfSome, is_some, length, take, true};
 ghost use Rattle.std.specs.Option.{option_map};
 ghost use Rattle.std.specs.Vec.{vec_len, vec_capacity};
 ghost use Rattle.coap_types.specs.declared.message.Kind.TheVariants.{Con, Ack};
@@ -69,7 +69,8 @@ fn asked_of(from: Endpoint, request: &View<'_>) -> Asked
 /// The request that is handed up, as its response needs it.
 pub(crate) fn asked_in(from: Endpoint, up: &Up<'_>) -> Option<Asked>
     requires { (m : Message) → handed_by (answer_as up.now) ≡ Some m → length m.token ≤ 8 }
-    ensures { result ≡ asked_in (handed_up from (answer_as up.now)) }
+    ensures asked { result ≡ asked_in (handed_up from (answer_as up.now)) }
+    ensures few { IfSome result (λ a. length a.token ≤ 8) }
 {
     match up {
         Up::Request {
@@ -109,15 +110,24 @@ fn rejection(up: &Up<'_>) -> Option<[u8; 4]>
     }
 }
 
-/// Rejects a response that arrived (RFC 7252, sections 4.2 and 4.3).
-pub(crate) fn reject<A: Allocator + Copy>(layer: &mut Layer<A>, from: Endpoint, up: &Up<'_>)
+/// Rejects a response that arrived, and answers whether it did (RFC 7252, sections 4.2 and 4.3).
+pub(crate) fn reject<A: Allocator + Copy>(
+    layer: &mut Layer<A>,
+    from: Endpoint,
+    up: &Up<'_>,
+) -> bool
     requires { (m : Message) → handed_by (answer_as up.now) ≡ Some m → MayReply layer.old from m.id }
     ensures steps { Steps layer.old.state (replying from (id_in (answer_as up.now)) (reject_by (answer_as up.now))) layer.new.state }
     ensures before { layer.new.before ≡ layer.old.before }
+    ensures rejects { result ≡ is_some (reject_by (answer_as up.now)) }
     ensures kept { reject_by (answer_as up.now) ≡ None → layer.new ≡ layer.old }
 {
-    if let Some(bytes) = rejection(up) {
-        layer.reply(from, id_in(up), &bytes);
+    match rejection(up) {
+        Some(bytes) => {
+            layer.reply(from, id_in(up), &bytes);
+            true
+        }
+        None => false,
     }
 }
 

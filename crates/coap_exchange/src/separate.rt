@@ -32,20 +32,6 @@ pub struct Separate {
     pub observe: bool,
 }
 
-impl Asked {
-    /// The same again.
-    pub(crate) fn copy(&self) -> Asked
-        ensures { result ≡ self.now }
-    {
-        Asked {
-            from: self.from,
-            kind: self.kind,
-            id: self.id,
-            token: self.token.copy(),
-        }
-    }
-}
-
 impl Default for Deferred {
     fn default() -> Deferred {
         Deferred {

@@ -1,10 +1,11 @@
 -- An acknowledgement is the reply that the other layer was given to that very CON.
 use Rattle.std.proofs.Common.{◌≡◌, inl, inr, ⊎_elim, ℕ, ◌+◌, ◌≤◌, false, List, [], ◌∷◌, ◌++◌, Some, None, refl, ap, sym, ◌∙◌, subst, arith, append_assoc}
 use Rattle.coap_types.specs.Past.{Ever, Sometime, Since}
-use Rattle.coap_types.proofs.PastLemmas.{Ever_map, Ever_of_Sometime, Ever_of_Since, Sometime_of_Ever, Sometime_of_Sometime, by_suffix, forget}
+use Rattle.coap_types.proofs.Facts.Traces.{Ever_map, Ever_of_Sometime, Ever_of_Since, Sometime_of_Ever, Sometime_of_Sometime, by_suffix, forget}
 use Rattle.coap_types.specs.declared.endpoint.Endpoint.{Endpoint}
 use Rattle.coap_types.specs.declared.message.Kind.TheVariants.{Con, Ack}
-use Rattle.coap_codec.specs.Message.{AreBytes, Message, Spells}
+use Rattle.coap_types.specs.Bytes.{AreBytes}
+use Rattle.coap_codec.specs.Message.{Message, Spells}
 use Rattle.coap_layer.specs.Trace.{Packet, Receive, Reply, Entry}
 use Rattle.coap_layer.specs.Words.{Incoming, clock, handed, hands_up, reply_in, awaits, Remembered, Open, outstanding}
 use Rattle.coap_layer.specs.Rows.{LayerLaw, Row}

@@ -8,7 +8,8 @@ use Rattle.coap_types.specs.declared.message.Kind.TheVariants.{Con, Non, Ack, Rs
 use Rattle.coap_types.specs.declared.role.Role.{Role}
 use Rattle.coap_types.specs.declared.role.Role.TheVariants as role
 use Rattle.coap_codec.specs.Faulty.{Faulty, head_of}
-use Rattle.coap_codec.specs.Message.{AreBytes, Message, Spells}
+use Rattle.coap_types.specs.Bytes.{AreBytes}
+use Rattle.coap_codec.specs.Message.{Message, Spells}
 use Rattle.coap_codec.specs.declared.fault.Fault.{Fault}
 use Rattle.coap_layer.specs.declared.arrival.Verdict.{Verdict}
 use Rattle.coap_layer.specs.declared.arriving.Arriving.{Arriving}

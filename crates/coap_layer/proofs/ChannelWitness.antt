@@ -1,11 +1,14 @@
 -- Two layers that stand in the law of a channel: a CON is begun at 0, arrives at 10 and is acknowledged; the
 -- acknowledgement is taken at 20 (RFC 7252, section 4.2).
-use Rattle.std.proofs.Common.{◌≡◌, ◌<◌, inl, inr, ℕ, zero, suc, List, [], ◌∷◌, ◌++◌, true, refl, ap, subst, arith}
+use Rattle.std.proofs.Common.{◌≡◌, ◌<◌, inl, inr, ℕ, List, [], ◌∷◌, ◌++◌, true, refl, ap, subst, arith}
 use Rattle.coap_types.specs.declared.endpoint.Endpoint.{Endpoint}
 use Rattle.coap_types.specs.declared.message.Kind.TheVariants.{Con, Ack}
-use Rattle.coap_codec.specs.Message.{AreBytes, Message, Spells}
-use Rattle.coap_codec.specs.Reading.{extended, value_at, nibbles_at, option_at, walk_of, walk, payload_at, frame_fault, body_at, message_at}
-use Rattle.coap_codec.specs.Writing.{options_bytes}
+use Rattle.coap_types.specs.Bytes.{AreBytes}
+use Rattle.coap_codec.specs.Message.{Message, Spells}
+use Rattle.coap_codec.specs.Reading.{extended, value_at, nibbles_at, option_at, walk_of, walk, payload_at, frame_fault, body_at}
+use Rattle.coap_codec.specs.Decoded.{decoded}
+use Rattle.coap_codec.specs.Spelling.{options_bytes}
+use Rattle.coap_types.proofs.Facts.Bytes.{AreBytes-cons, AreBytes-nil}
 use Rattle.coap_layer.specs.Trace.{Content, Receive, Reply, Confirm, Request, Acked, Becomes, Nothing, Sent, Entry}
 use Rattle.coap_layer.specs.Words.{Open}
 use Rattle.coap_layer.specs.Rows.{LayerLaw, IsSpelled}
@@ -53,11 +56,8 @@ ack_spelled : Spells ack ack_message
 ack_spelled = record { code = omega arith; id = omega arith; token = omega arith; option_bytes = []; options = refl; parts = refl; empty = λ z. refl }
 
 four_bytes : (a b c d : ℕ) → a < 256 → b < 256 → c < 256 → d < 256 → AreBytes (a ∷ b ∷ c ∷ d ∷ [])
-four_bytes a b c d h i j k zero = h
-four_bytes a b c d h i j k (suc zero) = i
-four_bytes a b c d h i j k (suc (suc zero)) = j
-four_bytes a b c d h i j k (suc (suc (suc zero))) = k
-four_bytes a b c d h i j k (suc (suc (suc (suc n)))) = omega arith
+four_bytes a b c d h i j k =
+    AreBytes-cons a (b ∷ c ∷ d ∷ []) h (AreBytes-cons b (c ∷ d ∷ []) i (AreBytes-cons c (d ∷ []) j (AreBytes-cons d [] k AreBytes-nil)))
 
 -- the calls of each, the newest first
 abbrev near_begins : Asked
@@ -79,7 +79,7 @@ abbrev far_run : List Asked
 far_run = far_replies ∷ far_takes ∷ []
 
 near_steps : Steps (start 0) near_run (left_after (start 0) near_run)
-unfolding message_at frame_fault body_at walk walk_of option_at nibbles_at value_at extended payload_at
+unfolding decoded frame_fault body_at walk walk_of option_at nibbles_at value_at extended payload_at
 near_steps = (
   _,
   (_, refl, record { may = get_spelled; right = refl; new_is = refl }),
@@ -87,7 +87,7 @@ near_steps = (
 )
 
 far_steps : Steps (start 0) far_run (left_after (start 0) far_run)
-unfolding message_at frame_fault body_at walk walk_of option_at nibbles_at value_at extended payload_at
+unfolding decoded frame_fault body_at walk walk_of option_at nibbles_at value_at extended payload_at
 far_steps = (
   _,
   (_, refl, record { may = four_bytes 0x40 1 0 0 (omega arith) (omega arith) (omega arith) (omega arith); right = refl; new_is = refl }),
@@ -116,7 +116,7 @@ hops =
     []
 
 reply_once : RepliesAtOnce (made (start 0) 10 far_takes.call ∷ []) 10 0 ack
-unfolding message_at frame_fault body_at walk walk_of option_at nibbles_at value_at extended payload_at
+unfolding decoded frame_fault body_at walk walk_of option_at nibbles_at value_at extended payload_at
 reply_once = record {
   to_what = record { from = client; message = request_message };
   latest = inl (refl, refl);
@@ -134,11 +134,11 @@ unfolding options_bytes
 request_out = record { out = inl refl; from = omega arith; till = omega arith }
 
 ack_out : GaveOut client ack 20 (made (left_after (start 0) (far_takes ∷ [])) 10 far_replies.call)
-unfolding message_at frame_fault body_at walk walk_of option_at nibbles_at value_at extended payload_at
+unfolding decoded frame_fault body_at walk walk_of option_at nibbles_at value_at extended payload_at
 ack_out = record { out = inl refl; from = omega arith; till = omega arith }
 
 channel : ChannelLaw 0 0 client server hops
-unfolding message_at frame_fault body_at walk walk_of option_at nibbles_at value_at extended payload_at
+unfolding decoded frame_fault body_at walk walk_of option_at nibbles_at value_at extended payload_at
 channel = record {
   near_law = near_lawful;
   far_law = far_lawful;
@@ -161,11 +161,11 @@ abbrev con : Open
 con = record { to = server; id = 0; bytes = request; timeout = 3000; first = 0; last = 0 }
 
 hears : HearsAck con (made (start 0) 0 near_begins.call ∷ []) (made (left_after (start 0) (near_begins ∷ [])) 20 near_hears.call)
-unfolding message_at frame_fault body_at walk walk_of option_at nibbles_at value_at extended payload_at options_bytes
+unfolding decoded frame_fault body_at walk walk_of option_at nibbles_at value_at extended payload_at options_bytes
 hears = record { is_outstanding = inl refl; bytes = ack; call = refl; answer = inl refl }
 
 takes : Takes client con (made (start 0) 10 far_takes.call)
-unfolding message_at frame_fault body_at walk walk_of option_at nibbles_at value_at extended payload_at
+unfolding decoded frame_fault body_at walk walk_of option_at nibbles_at value_at extended payload_at
 takes = record { call = refl; up = refl; from = omega arith; till = omega arith }
 
 pub acknowledged : IsAcknowledged

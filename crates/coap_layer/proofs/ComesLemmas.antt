@@ -1,26 +1,26 @@
 -- What goes out, by the type of the message that it spells.
 use Rattle.std.proofs.Common.{◌≡◌, ◌⊎◌, inl, inr, ⊎_elim, ℕ, ◌+◌, ◌*◌, ◌≤◌, Bool, true, false, ◌&&◌, ◌==◌, cond, Some, None, List, [], ◌∷◌, length, refl, ap, sym, ◌∙◌, subst, arith}
 use Rattle.coap_types.specs.Past.{Ever, Always}
-use Rattle.coap_types.proofs.PastLemmas.{Ever_of_Since, Ever_by_law, forget}
+use Rattle.coap_types.proofs.Facts.Traces.{Ever_of_Since, Ever_by_law, forget}
 use Rattle.coap_types.specs.declared.endpoint.Endpoint.{Endpoint}
 use Rattle.coap_types.specs.declared.message.Kind.{Kind}
 use Rattle.coap_types.specs.declared.message.Kind.TheVariants.{Con, Non, Ack, Rst}
 use Rattle.coap_types.specs.SameEndpoint.{same_endpoint}
-use Rattle.coap_types.proofs.EndpointLemmas.{same_endpoint_is}
-use Rattle.coap_codec.specs.Message.{AreBytes, Message, Spells, kind_number}
-use Rattle.coap_codec.proofs.ReadAgain.{spelled_again}
+use Rattle.coap_types.proofs.Facts.Endpoints.{same_endpoint_is}
+use Rattle.coap_types.specs.Bytes.{AreBytes}
+use Rattle.coap_codec.specs.Message.{Message, Spells, kind_number}
+use Rattle.coap_codec.proofs.Facts.EveryDatagram.{spelled_decoded}
 use Rattle.coap_layer.specs.Trace.{Packet, with_head, Call, Receive, Reply, Confirm, Plain, Settle, Ticks, Take, Room, AsksFree, Pass, Entry}
 use Rattle.coap_layer.specs.Words.{reply_in, Open, begun}
 use Rattle.coap_layer.specs.Rows.{LayerLaw}
-use Rattle.coap_layer.specs.Sends.{packet_of, SpellsCon, GoesOut, PlainOut, ReplyOut, StoredOut, first, copy, plain, reply, stored, reset}
+use Rattle.coap_layer.specs.Sends.{packet_of, SpellsCon, GoesOut, PlainOut, ReplyOut, StoredOut, first, copy, plain, reply, stored, reset, Begins}
 use Rattle.coap_layer.specs.Channel.{RepliesAtOnce, RepliesSo}
 use Rattle.coap_layer.proofs.ListLemmas.{same_nat, and_left, and_right}
 use Rattle.coap_layer.proofs.OutLemmas.{cons_spelled}
-use Rattle.coap_layer.specs.Sends.{Begins}
 use Rattle.coap_layer.proofs.NumberedLemmas.{IsBegun, SendsPlain, begins_of}
 
 pub one_message : (bytes : List ℕ) (m n : Message) → AreBytes bytes → Spells bytes m → Spells bytes n → m ≡ n
-one_message bytes m n are s t = let a = spelled_again bytes m are s in let b = spelled_again bytes n are t in cc (a, b)
+one_message bytes m n are s t = let a = spelled_decoded bytes m are s in let b = spelled_decoded bytes n are t in cc (a, b)
 
 -- a CON that was begun
 pub record BegunHere (p : Packet) (m : Message) (at : ℕ) (t : List Entry) : Type 0 where

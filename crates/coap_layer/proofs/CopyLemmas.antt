@@ -6,12 +6,12 @@ use Rattle.coap_types.specs.declared.endpoint.Endpoint.{Endpoint}
 use Rattle.coap_types.specs.declared.message.Kind.{Kind}
 use Rattle.coap_types.specs.declared.message.Kind.TheVariants.{Con, Non, Ack, Rst}
 use Rattle.coap_layer.specs.Trace.{Content, with_head, Call, Receive, Reply, Confirm, Plain, Settle, Ticks, Take, Room, AsksFree, Pass, Answer, Copied, Entry}
-use Rattle.coap_codec.specs.Writing.{message_bytes}
+use Rattle.coap_codec.specs.Spelling.{message_bytes}
 use Rattle.coap_layer.specs.Arrivals.{Arrival, Unreadable, Faulted, Whole}
 use Rattle.coap_layer.specs.Words.{Incoming, clock, Open, ends_in, copies_in, left_by, sent_by, open_of, begun_in, begun, outstanding, numbers}
 use Rattle.coap_layer.specs.Rows.{Busy, Stands, LayerLaw, Row, Arrives, Sorts, HandedAs, rejects, drops, takes_ack, takes_reset, takes_answer, replays, hands_over, SendsAs, RefusesIds, copies, expires, rests, HasStep, Fails, CopyDue, IsFirst, Copies}
 use Rattle.coap_layer.specs.Follows.{HandedUpOnce, CopyOf, CopiesInTime, IdsApart, OneOutstanding}
-use Rattle.coap_types.proofs.PastLemmas.{Ever_append}
+use Rattle.coap_types.proofs.Facts.Traces.{Ever_append}
 use Rattle.coap_layer.proofs.UpOnce.{up_new}
 use Rattle.coap_layer.proofs.NumberLemmas.{numbers_law}
 use Rattle.coap_layer.proofs.IdsApart.{apart}

@@ -2,13 +2,13 @@
 use Rattle.std.proofs.Common.{◌≡◌, ◌⊎◌, inl, inr, ⊎_elim, ℕ, zero, suc, ◌+◌, ◌-◌, ◌≤◌, true, false, Some, List, [], ◌∷◌, ap, sym, ◌∙◌, subst, arith, option_to_list}
 use Rattle.std.specs.List.{filter_map}
 use Rattle.coap_types.specs.Past.{Ever, Sometime}
-use Rattle.coap_types.proofs.PastLemmas.{Ever_append, Ever_of_Sometime, Sometime_map}
+use Rattle.coap_types.proofs.Facts.Traces.{Ever_append, Ever_of_Sometime, Sometime_map}
 use Rattle.coap_layer.specs.Trace.{Call, Answer, Copied, Entry}
 use Rattle.coap_layer.specs.Words.{Open, copies_in, left_by, begun, outstanding}
 use Rattle.coap_layer.specs.Rows.{LayerLaw, HasStep, Fails, Copies}
 use Rattle.coap_layer.specs.Sends.{AtLeast, IsIn, as_begun, SendsIt, FiveAtMost}
 use Rattle.coap_layer.proofs.CopyLemmas.{in_option, in_filter_map, left_same, was_begun, in_first, copies_row}
-use Rattle.coap_layer.proofs.DueLemmas.{passed, passed_more, at_most_four, due_passed}
+use Rattle.coap_layer.proofs.DueLemmas.{passed, passed_more, at_most_all, due_passed}
 use Rattle.coap_layer.proofs.OpenLemmas.{some_in, first_has, one_open, copied_by, Left, left_of, last_by}
 use Rattle.coap_layer.proofs.NumberedLemmas.{IsBegun, begun_once, begins_of}
 
@@ -129,7 +129,7 @@ five_by word (e ∷ past) c (suc n) law (inl (inr s, h)) =
     let q = some_in (λ x. as_begun x ≡ c) (outstanding past) s.0 in
     let k = counted_in word past c law.1 q.0 n q.1 q.2 h in
     let l = copy_step word past e c q.0 law q.1 q.2 (copied_by e.call e.answer c.to c.id s.1) in
-    let m = at_most_four q.0.timeout (e.at - q.0.first) in
+    let m = at_most_all q.0.timeout (e.at - q.0.first) in
     sum_up n (count q.0) (passed q.0.timeout (e.at - q.0.first)) k l m
   where
     sum_up : (n a b : ℕ) → n ≤ a + 1 → a + 1 ≤ b → b ≤ 4 → suc n ≤ 5

@@ -1,10 +1,11 @@
 -- What came from the other layer.
 use Rattle.std.proofs.Common.{◌≡◌, ◌⊎◌, inl, inr, ℕ, ◌+◌, ◌≤◌, List, ◌∷◌, ap, sym, subst, arith}
 use Rattle.coap_types.specs.Past.{Ever, Sometime, Always}
-use Rattle.coap_types.proofs.PastLemmas.{Ever_of_Sometime, Sometime_of_Ever, by_law, by_suffix, found}
+use Rattle.coap_types.proofs.Facts.Traces.{Ever_of_Sometime, Sometime_of_Ever, by_law, by_suffix, found}
 use Rattle.coap_types.specs.declared.endpoint.Endpoint.{Endpoint}
 use Rattle.coap_types.specs.declared.message.Kind.TheVariants.{Con, Non, Ack, Rst}
-use Rattle.coap_codec.specs.Message.{AreBytes, Message, Spells}
+use Rattle.coap_types.specs.Bytes.{AreBytes}
+use Rattle.coap_codec.specs.Message.{Message, Spells}
 use Rattle.coap_layer.specs.Trace.{Packet, Receive, Entry}
 use Rattle.coap_layer.specs.Rows.{Stands, LayerLaw, Row}
 use Rattle.coap_layer.specs.Channel.{Hop, Far, near_of, far_of, GaveOut, RepliesSo, ChannelLaw, SentSo, ArrivesAsSent, BegunAs, ConsBegun, PlainSent, NonsSent}

@@ -8,6 +8,7 @@ pub mod IdsSmall
 pub mod ResponsesSpelled
 pub mod ReplyLemmas
 pub mod TickLemmas
+pub mod BackOffLemmas
 pub mod NumberLemmas
 pub mod RowLemmas
 pub mod Forgetting

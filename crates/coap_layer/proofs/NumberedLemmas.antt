@@ -3,8 +3,8 @@ use Rattle.std.proofs.Common.{◌≡◌, inl, inr, ℕ, ◌+◌, ◌%◌, ◌≤
 use Rattle.coap_types.specs.Past.{Ever}
 use Rattle.coap_types.specs.declared.endpoint.Endpoint.{Endpoint}
 use Rattle.coap_types.specs.declared.message.Kind.TheVariants.{Con}
-use Rattle.coap_types.proofs.PastLemmas.{Ever_map, Ever_out, forget}
-use Rattle.coap_codec.specs.Writing.{message_bytes}
+use Rattle.coap_types.proofs.Facts.Traces.{Ever_map, Ever_out, forget}
+use Rattle.coap_codec.specs.Spelling.{message_bytes}
 use Rattle.coap_layer.specs.Ids.{Issued, AreApart}
 use Rattle.coap_layer.specs.Trace.{Content, with_head, Call, Receive, Reply, Confirm, Plain, Settle, Ticks, Take, Room, AsksFree, Pass, Answer, Becomes, Nothing, Is, Sent, Busied, NoIds, Idle, Copied, Expired, Gives, Entry}
 use Rattle.coap_layer.specs.Words.{Open, sent_by, open_of, begun_in, begun, issued_by, issued, numbers}

@@ -1,7 +1,7 @@
 -- What is taken was sent, in the order of sending.
 use Rattle.std.proofs.Common.{◌≡◌, ◌⊎◌, inl, inr, ⊎_elim, ℕ, zero, suc, Some, List, [], ◌∷◌, ◌++◌, drop, slice_get, refl, ap, sym, ◌∙◌, subst, append_assoc}
 use Rattle.coap_types.specs.Past.{Ever}
-use Rattle.coap_types.proofs.PastLemmas.{Ever_append}
+use Rattle.coap_types.proofs.Facts.Traces.{Ever_append}
 use Rattle.coap_layer.specs.Trace.{Packet, Call, Receive, Reply, Confirm, Plain, Settle, Ticks, Take, Room, AsksFree, Pass, Answer, Gives, Entry}
 use Rattle.coap_layer.specs.Words.{takes_in, waiting}
 use Rattle.coap_layer.specs.Rows.{LayerLaw, Row}

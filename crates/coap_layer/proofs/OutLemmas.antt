@@ -5,19 +5,18 @@ use Rattle.coap_types.specs.declared.endpoint.Endpoint.{Endpoint}
 use Rattle.coap_types.specs.declared.message.Kind.{Kind}
 use Rattle.coap_types.specs.declared.message.Kind.TheVariants.{Con, Non, Ack, Rst}
 use Rattle.coap_codec.specs.Message.{Spells}
-use Rattle.coap_codec.specs.Writing.{message_bytes}
+use Rattle.coap_codec.specs.Spelling.{message_bytes}
 use Rattle.coap_layer.specs.Arrivals.{Arrival, Unreadable, Faulted, Whole, Shows}
 use Rattle.coap_layer.specs.Trace.{Content, with_head, Packet, Call, Receive, Reply, Confirm, Plain, Settle, Ticks, Take, Room, AsksFree, Pass, Answer, Copied, Entry}
 use Rattle.coap_layer.specs.Words.{Incoming, is_con, was_con, hands_up, reply_in, replied, Open, sent_by, open_of, begun_in, begun, outstanding, numbers, copies_in}
 use Rattle.coap_layer.specs.Rows.{Stands, LayerLaw, Row, Arrives, Sorts, rejects, drops, takes_ack, takes_reset, takes_answer, replays, hands_over, IsSpelled, Confirms, SendsAs, RefusesIds, copies, expires, rests, HasStep, Fails, CopyDue, Copies}
-use Rattle.coap_layer.specs.Sends.{IsIn, as_begun, SendsIt, packet_of, GoesAlike, AllAlike, SpellsCon, ConsSpelled, GoesOut, first, copy, plain, reply, reset, EachGoesOut}
+use Rattle.coap_layer.specs.Sends.{IsIn, as_begun, SendsIt, packet_of, GoesAlike, AllAlike, SpellsCon, ConsSpelled, GoesOut, first, copy, plain, reply, reset, EachGoesOut, Begins}
 use Rattle.coap_layer.proofs.CopyLemmas.{was_begun, begun_by, in_first, copies_row}
 use Rattle.coap_layer.proofs.OpenLemmas.{some_in, first_has, one_open, copied_by, place_same}
 use Rattle.coap_layer.proofs.IdsApart.{small}
-use Rattle.coap_layer.specs.Sends.{Begins}
 use Rattle.coap_layer.proofs.NumberedLemmas.{begins_of}
 use Rattle.coap_layer.proofs.ListLemmas.{both}
-use Rattle.coap_types.proofs.PastLemmas.{Ever_map}
+use Rattle.coap_types.proofs.Facts.Traces.{Ever_map}
 use Rattle.std.proofs.lemmas.Bool.Decides.{nat_tests}
 
 -- a CON that begins goes out, and is spelled so

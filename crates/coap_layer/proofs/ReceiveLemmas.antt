@@ -3,7 +3,8 @@ use Rattle.std.proofs.Common.{◌≡◌, ℕ, max, Bool, true, false, Option, So
 use Rattle.std.proofs.lemmas.List.{append-nil}
 use Rattle.std.specs.List.{filter_map}
 use Rattle.coap_types.specs.declared.endpoint.Endpoint.{Endpoint}
-use Rattle.coap_codec.specs.Message.{AreBytes, Message}
+use Rattle.coap_types.specs.Bytes.{AreBytes}
+use Rattle.coap_codec.specs.Message.{Message}
 use Rattle.coap_layer.specs.declared.arriving.Arriving.{Arriving}
 use Rattle.coap_layer.specs.Arrivals.{arrival_at}
 use Rattle.coap_layer.specs.Arriving.{IsArriving, awaits_by, hands, keeps, newly_by, open_by, sent_by, without_open}

@@ -10,8 +10,8 @@ use Rattle.coap_types.specs.SameEndpoint.{same_endpoint}
 use Rattle.coap_layer.specs.Trace.{Content, with_head, Packet, Call, Receive, Reply, Confirm, Plain, Settle, Ticks, Take, Room, AsksFree, Pass, Disposition, Dropped, Replayed, Rejected, Request, Response, Acked, Reset, Answer, Becomes, Is, Sent, Busied, Entry}
 use Rattle.coap_layer.specs.Table.{up_of, again_or}
 use Rattle.coap_layer.specs.Arrivals.{Arrival, Unreadable, Faulted, Whole, Shows, arrival_at}
-use Rattle.coap_codec.specs.Message.{AreBytes}
-use Rattle.coap_codec.specs.Writing.{message_bytes}
+use Rattle.coap_types.specs.Bytes.{AreBytes}
+use Rattle.coap_codec.specs.Spelling.{message_bytes}
 use Rattle.coap_layer.specs.Ids as ids
 use Rattle.coap_layer.specs.Words.{Incoming, clock, numbers, Remembered, remembered, was_con, replied, is_con, Open, is_to, outstanding}
 use Rattle.coap_layer.specs.State.{State, May, history, answer_of, out_of, answer_to, out_to, sorted_by, sending, sent_out, replay, is_outstanding, is_busy, is_remembered, is_full, is_free, to_packets, next_id, uses, tick_of}

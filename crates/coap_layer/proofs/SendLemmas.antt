@@ -4,7 +4,7 @@ use Rattle.std.specs.Option.{is_none}
 use Rattle.coap_types.specs.declared.endpoint.Endpoint.{Endpoint}
 use Rattle.coap_types.specs.declared.message.Id.{Id}
 use Rattle.coap_types.specs.declared.message.Kind.TheVariants.{Con, Non}
-use Rattle.coap_codec.specs.Writing.{message_bytes}
+use Rattle.coap_codec.specs.Spelling.{message_bytes}
 use Rattle.coap_layer.specs.declared.up.SendRefusal.{SendRefusal}
 use Rattle.coap_layer.specs.declared.up.SendRefusal.TheVariants as refusal
 use Rattle.coap_layer.specs.Rows.{IsSpelled}

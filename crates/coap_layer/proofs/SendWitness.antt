@@ -1,6 +1,6 @@
 -- A CON that goes out five times: in the lawful trace of `Witness`, at 0, 3,000, 9,000, 21,000 and 45,000.
 use Rattle.std.proofs.Common.{inl, inr, List, [], ◌∷◌, ◌++◌, drop, refl}
-use Rattle.coap_codec.specs.Writing.{options_bytes}
+use Rattle.coap_codec.specs.Spelling.{options_bytes}
 use Rattle.coap_layer.specs.Words.{Open}
 use Rattle.coap_layer.specs.Trace.{Ticks}
 use Rattle.coap_layer.specs.State.{start, made}

@@ -3,7 +3,7 @@ use Rattle.std.proofs.Common.{◌≡◌, ◌≤◌, ◌==◌, ◌&&◌, ◌||◌
 use Rattle.std.proofs.lemmas.List.{take-append-drop, take-append-le, take-map}
 use Rattle.coap_types.specs.declared.endpoint.Endpoint.{Endpoint}
 use Rattle.coap_types.specs.SameEndpoint.{same_endpoint}
-use Rattle.coap_types.proofs.EndpointLemmas.{same_endpoint_is}
+use Rattle.coap_types.proofs.Facts.Endpoints.{same_endpoint_is}
 use Rattle.coap_layer.specs.declared.dedup.Remembered.{Remembered}
 use Rattle.coap_layer.specs.declared.mark.Mark.{Mark}
 use Rattle.coap_layer.specs.declared.retransmission.Sending.{Sending}

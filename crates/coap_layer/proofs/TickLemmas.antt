@@ -1,6 +1,8 @@
 -- The tick's step, by the words and by the table.
 use Rattle.std.proofs.Common.{◌≡◌, ◌⊎◌, inl, inr, ⊎_elim, ℕ, ◌*◌, ◌-◌, ◌<◌, ◌≤◌, Bool, true, false, List, [], ◌∷◌, refl, ap, sym, ◌∙◌, subst, cond}
 use Rattle.coap_types.specs.Past.{Ever}
+use Rattle.coap_types.specs.declared.transmission.TheConstants.{MAX_RETRANSMIT as max_retransmit, FAILURE_TIMEOUTS as failure_timeouts}
+use Rattle.coap_layer.specs.BackOff.{factors}
 use Rattle.coap_layer.specs.Trace.{Packet, Answer, Idle, Copied, Expired}
 use Rattle.coap_layer.specs.Words.{Open}
 use Rattle.coap_layer.specs.State.{is_due, is_copy_due, is_failed, tick_of, copies}
@@ -13,12 +15,12 @@ module _ (now : ℕ) where
 
   pub copy_due : (c : Open) → is_copy_due now c ≡ true → CopyDue now c
   copy_due c h = record {
-    due = any_ever (is_due now c) (Due c) (λ k d. (lt_true _ _ (and_left _ _ d), le_true _ _ (and_right _ _ d))) (1 ∷ 3 ∷ 7 ∷ 15 ∷ []) (and_right _ _ h);
+    due = any_ever (is_due now c) (Due c) (λ k d. (lt_true _ _ (and_left _ _ d), le_true _ _ (and_right _ _ d))) (factors max_retransmit) (and_right _ _ h);
     early = le_true _ _ (and_left _ _ h);
   }
 
   pub due_copy : (c : Open) → CopyDue now c → is_copy_due now c ≡ true
-  due_copy c h = both _ _ (true_le _ _ h.early) (ever_any (is_due now c) (Due c) (λ k d. both _ _ (true_lt _ _ d.0) (true_le _ _ d.1)) (1 ∷ 3 ∷ 7 ∷ 15 ∷ []) h.due)
+  due_copy c h = both _ _ (true_le _ _ h.early) (ever_any (is_due now c) (Due c) (λ k d. both _ _ (true_lt _ _ d.0) (true_le _ _ d.1)) (factors max_retransmit) h.due)
 
   -- what a tick does, where the list has a first step and where it has none
   abbrev pub TickIs : Answer → List Packet → List Open → Type 0
@@ -28,7 +30,7 @@ module _ (now : ℕ) where
       ⊎ ((Ever (HasStep now) cs → ⊥) × (answer ≡ Idle) × (out ≡ []))
 
   not_failed : (c : Open) → is_failed now c ≡ false → Fails now c → ⊥
-  not_failed c h f = let g = true_le (c.timeout * 31) (now - c.first) f in cc (h, g)
+  not_failed c h f = let g = true_le (c.timeout * failure_timeouts) (now - c.first) f in cc (h, g)
 
   no_step : (c : Open) → is_failed now c ≡ false → is_copy_due now c ≡ false → HasStep now c → ⊥
   no_step c h k (inl f) = not_failed c h f

@@ -2,7 +2,7 @@
 -- and 45,000, failed at 93,000 (RFC 7252, section 4.2).
 use Rattle.std.proofs.Common.{◌≡◌, ℕ, List, [], ◌∷◌, ◌++◌, refl, arith}
 use Rattle.coap_types.specs.declared.endpoint.Endpoint.{Endpoint}
-use Rattle.coap_codec.specs.Writing.{options_bytes}
+use Rattle.coap_codec.specs.Spelling.{options_bytes}
 use Rattle.coap_layer.specs.Trace.{Content, Confirm, Ticks, Answer, Sent, Idle, Copied, Expired}
 use Rattle.coap_layer.specs.Rows.{LayerLaw, IsSpelled}
 use Rattle.coap_layer.specs.State.{State, Step, start, after, forgotten, made}

@@ -3,11 +3,14 @@ use Rattle.std.specs.Prelude.{◌≡◌, ◌⊎◌, ◌≤◌, ◌<◌, ℕ, ◌
 use Rattle.coap_types.specs.Past.{Ever, Always}
 use Rattle.coap_types.specs.declared.endpoint.Endpoint.{Endpoint}
 use Rattle.coap_types.specs.SameEndpoint.{same_endpoint}
-use Rattle.coap_codec.specs.Message.{AreBytes, Message, Spells}
+use Rattle.coap_types.specs.Bytes.{AreBytes}
+use Rattle.coap_codec.specs.Message.{Message, Spells}
 use Rattle.coap_layer.specs.Ids.{AreApart}
 use Rattle.coap_layer.specs.Trace.{Receive, Response, Acked, Reset, Becomes, Sent, Copied, Entry}
 use Rattle.coap_layer.specs.Rows.{Stands, LayerLaw, Outstanding}
 use Rattle.coap_layer.specs.Words.{clock, Incoming, handed, Remembered, remembered, Open, begun, numbers, outstanding}
+use Rattle.coap_types.specs.declared.transmission.TheConstants.{LAST_RETRANSMISSION_MS as last_retransmission}
+use Rattle.coap_layer.specs.declared.dedup.TheConstants.{MAX_REMEMBERED as max_remembered}
 
 -- No message is handed up that was handed up, and remembered, at most 247,000 ms before.
 abbrev pub HandedUpOnce : List Entry → Type 0
@@ -20,7 +23,7 @@ pub record CopyOf (past : List Entry) (e : Entry) (to : Endpoint) (id : ℕ) : T
   pub to_is : con.to ≡ to
   pub id_is : con.id ≡ id
   pub from : con.first ≤ e.at
-  pub till : e.at ≤ con.first + 47000
+  pub till : e.at ≤ con.first + last_retransmission
   pub out : e.out ≡ record { to = con.to; bytes = con.bytes } ∷ []
 
 abbrev pub CopiesInTime : List Entry → Type 0
@@ -47,7 +50,7 @@ EndsOutstanding t =
 
 -- No more are remembered than there is a place for (profile).
 abbrev pub RemembersFew : List Entry → Type 0
-RemembersFew t = (now : ℕ) → clock t ≤ now → remembered now t ≤ 4096
+RemembersFew t = (now : ℕ) → clock t ≤ now → remembered now t ≤ max_remembered
 
 -- Each Message ID that is given has 16 bits (section 3).
 abbrev pub IdsSmall : List Entry → Type 0

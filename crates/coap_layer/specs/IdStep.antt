@@ -3,6 +3,7 @@ use Rattle.std.specs.Prelude.{◌≡◌, ℕ, ◌+◌, ◌/◌, ◌%◌, max, Bo
 use Rattle.coap_types.specs.declared.message.Id.{Id}
 use Rattle.coap_layer.specs.IdState.{IdState, number_in}
 use Rattle.coap_layer.specs.State.{is_free}
+use Rattle.coap_layer.specs.declared.message_id.TheConstants.{GROUP_SIZE as group_size}
 
 -- whether a number may be given
 abbrev pub may_now : IdState → ℕ → Bool
@@ -18,4 +19,4 @@ pub record Draws (old : IdState) (now : ℕ) (answer : Option Id) (new : IdState
   pub answer_is : number_in answer ≡ (if may_now old now then Some old.upcoming else None)
   pub clock : new.clock ≡ max old.clock now
   pub upcoming : new.upcoming ≡ (if may_now old now then (old.upcoming + 1) % 65536 else old.upcoming)
-  pub last_used : new.last_used ≡ (if may_now old now then slice_set old.last_used (old.upcoming / 4096) (Some (max old.clock now)) else old.last_used)
+  pub last_used : new.last_used ≡ (if may_now old now then slice_set old.last_used (old.upcoming / group_size) (Some (max old.clock now)) else old.last_used)

@@ -2,6 +2,7 @@ pub mod Ids
 pub mod IdState
 pub mod Arrivals
 pub mod Trace
+pub mod BackOff
 pub mod Words
 pub mod Table
 pub mod Rows

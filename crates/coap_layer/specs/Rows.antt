@@ -7,12 +7,16 @@ use Rattle.coap_types.specs.declared.message.Kind.{Kind}
 use Rattle.coap_types.specs.declared.message.Kind.TheVariants.{Con, Non, Ack, Rst}
 use Rattle.coap_types.specs.declared.role.Role.TheVariants as role
 use Rattle.coap_types.specs.SameEndpoint.{same_endpoint}
-use Rattle.coap_codec.specs.Message.{AreBytes, Spells}
-use Rattle.coap_codec.specs.Writing.{message_bytes}
+use Rattle.coap_types.specs.Bytes.{AreBytes}
+use Rattle.coap_codec.specs.Message.{Spells}
+use Rattle.coap_codec.specs.Spelling.{message_bytes}
+use Rattle.coap_layer.specs.BackOff.{factors}
 use Rattle.coap_layer.specs.Arrivals.{Arrival, Unreadable, Faulted, Whole, Shows}
 use Rattle.coap_layer.specs.Ids as ids
 use Rattle.coap_layer.specs.Trace.{Content, with_head, Packet, Call, Receive, Reply, Confirm, Plain, Settle, Ticks, Take, Room, AsksFree, Pass, Dropped, Replayed, Rejected, Request, Response, Acked, Reset, Becomes, Nothing, Is, Sent, Busied, NoIds, Idle, Copied, Expired, Gives, Entry}
 use Rattle.coap_layer.specs.Words.{awaits, clock, Incoming, Remembered, remembered, was_con, replied, is_con, Open, is_to, outstanding, waiting, numbers}
+use Rattle.coap_types.specs.declared.transmission.TheConstants.{LAST_RETRANSMISSION_MS as last_retransmission, MAX_RETRANSMIT as max_retransmit, FAILURE_TIMEOUTS as failure_timeouts}
+use Rattle.coap_layer.specs.declared.dedup.TheConstants.{MAX_REMEMBERED as max_remembered}
 
 -- a CON to this place with this id is unacknowledged
 abbrev pub Outstanding : List Entry → Endpoint → ℕ → Type 0
@@ -66,7 +70,7 @@ pub record FindsFull (past : List Entry) (e : Entry) (m : Incoming) : Type 0 whe
   pub kind : (m.message.kind ≡ Con) ⊎ (m.message.kind ≡ Non)
   pub class : (role_of m.message.code ≡ role.Request) ⊎ (role_of m.message.code ≡ role.Response)
   pub new : Remembered past e.at m.from m.message.id → ⊥
-  pub full : 4096 ≤ remembered e.at past
+  pub full : max_remembered ≤ remembered e.at past
 
 -- what is silently ignored
 pub data Ignores (past : List Entry) (e : Entry) (m : Incoming) : Type 0 where
@@ -125,7 +129,7 @@ HandedAs word past e m =
 pub record HandsOver (word : ℕ) (past : List Entry) (e : Entry) (m : Incoming) : Type 0 where
   pub kind : (m.message.kind ≡ Con) ⊎ (m.message.kind ≡ Non)
   pub new : Remembered past e.at m.from m.message.id → ⊥
-  pub room : remembered e.at past < 4096
+  pub room : remembered e.at past < max_remembered
   pub answer : HandedAs word past e m
   pub out : e.out ≡ []
 
@@ -191,14 +195,14 @@ AsksIds word past e = ((MayGive word past e.at × (e.answer ≡ Is true)) ⊎ (W
 
 -- ticks (section 4.2)
 
--- 31 initial timeouts have passed: the binary exponential back-off is over
+-- so many initial timeouts have passed that the binary exponential back-off is over
 abbrev pub Fails : ℕ → Open → Type 0
-Fails now c = c.timeout * 31 ≤ now - c.first
+Fails now c = c.timeout * failure_timeouts ≤ now - c.first
 
 -- a retransmission is due that was due at no earlier sending, and 47,000 ms have not passed (profile)
 pub record CopyDue (now : ℕ) (c : Open) : Type 0 where
-  pub due : Ever (λ (k : ℕ). (c.last - c.first < c.timeout * k) × (c.timeout * k ≤ now - c.first)) (1 ∷ 3 ∷ 7 ∷ 15 ∷ [])
-  pub early : now - c.first ≤ 47000
+  pub due : Ever (λ (k : ℕ). (c.last - c.first < c.timeout * k) × (c.timeout * k ≤ now - c.first)) (factors max_retransmit)
+  pub early : now - c.first ≤ last_retransmission
 
 abbrev pub HasStep : ℕ → Open → Type 0
 HasStep now c = Fails now c ⊎ CopyDue now c

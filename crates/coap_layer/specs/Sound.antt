@@ -8,6 +8,7 @@ use Rattle.coap_layer.specs.declared.room.Room.{Room}
 use Rattle.coap_layer.specs.Entries.{arrivals_in}
 use Rattle.coap_layer.specs.State.{is_remembered}
 use Rattle.coap_layer.specs.Words.{Awaited}
+use Rattle.coap_types.specs.declared.limits.TheConstants.{MAX_MESSAGE_LEN as max_message_len}
 
 -- what the last input found is still there
 abbrev pub IsWithin : Option Mark → ℕ → ℕ → Type 0
@@ -16,7 +17,7 @@ IsWithin (Some m) entries queued = (m.entries ≤ entries) × (m.queued ≤ queu
 
 -- each buffer has room for a message of the greatest length
 abbrev pub HasBuffers : {Z : Type 0} → Room Z → Type 0
-HasBuffers r = (1152 ≤ vec_capacity r.sent) × (1152 ≤ vec_capacity r.kept)
+HasBuffers r = (max_message_len ≤ vec_capacity r.sent) × (max_message_len ≤ vec_capacity r.kept)
 
 -- .. and there is a place for it among what is outstanding, and among what waits
 abbrev pub HasRoom : {Z : Type 0} → Option (Room Z) → Lists Z → Type 0

@@ -6,14 +6,18 @@ use Rattle.coap_types.specs.declared.endpoint.Endpoint.{Endpoint}
 use Rattle.coap_types.specs.declared.message.Kind.{Kind}
 use Rattle.coap_types.specs.declared.message.Kind.TheVariants.{Con, Non}
 use Rattle.coap_types.specs.SameEndpoint.{same_endpoint}
-use Rattle.coap_codec.specs.Message.{AreBytes}
-use Rattle.coap_codec.specs.Writing.{message_bytes}
+use Rattle.coap_types.specs.Bytes.{AreBytes}
+use Rattle.coap_codec.specs.Spelling.{message_bytes}
+use Rattle.coap_layer.specs.BackOff.{factors}
 use Rattle.coap_layer.specs.Arrivals.{Arrival, Unreadable, Faulted, Whole, arrival_at}
 use Rattle.coap_layer.specs.Ids.{Issued}
 use Rattle.coap_layer.specs.Trace.{Content, with_head, Packet, Call, Receive, Reply, Confirm, Plain, Settle, Ticks, Take, Room, AsksFree, Pass, Disposition, Dropped, Replayed, Rejected, Answer, Becomes, Nothing, Is, Sent, Busied, NoIds, Idle, Copied, Expired, Gives, Entry}
 use Rattle.coap_layer.specs.Table.{up_of}
 use Rattle.coap_layer.specs.Words.{Awaited, awaits, awaits_in, clock, issued, Incoming, outstanding, waiting, Open, is_to, is_con, taken, reply_in, left_by, begun, takes_in}
 use Rattle.coap_layer.specs.Rows.{IsSpelled, reset_to}
+use Rattle.coap_types.specs.declared.transmission.TheConstants.{EXCHANGE_LIFETIME_MS as exchange_lifetime, ID_REUSE_AFTER_MS as id_reuse_after, LAST_RETRANSMISSION_MS as last_retransmission, MAX_RETRANSMIT as max_retransmit, FAILURE_TIMEOUTS as failure_timeouts}
+use Rattle.coap_layer.specs.declared.dedup.TheConstants.{MAX_REMEMBERED as max_remembered}
+use Rattle.coap_layer.specs.declared.message_id.TheConstants.{GROUP_SIZE as group_size, GROUPS as groups}
 
 pub record Arrived : Type 0 where
   pub from : Endpoint
@@ -34,10 +38,10 @@ pub record State : Type 0 where
   pub queue : List Packet
 
 abbrev pub start : ℕ → State
-start word = record { clock = 0; awaits = None; upcoming = word % 16 * 4096; last_used = replicate 16 None; arrived = []; open_cons = []; queue = [] }
+start word = record { clock = 0; awaits = None; upcoming = word % groups * group_size; last_used = replicate groups None; arrived = []; open_cons = []; queue = [] }
 
 abbrev pub is_live : ℕ → Arrived → Bool
-is_live now a = nat_le now (a.at + 247000)
+is_live now a = nat_le now (a.at + exchange_lifetime)
 
 abbrev pub is_of : ℕ → Endpoint → ℕ → Arrived → Bool
 is_of now from id a = is_live now a && (same_endpoint a.from from && (a.id == id))
@@ -46,7 +50,7 @@ abbrev pub is_remembered : ℕ → Endpoint → ℕ → List Arrived → Bool
 is_remembered now from id es = list_any (is_of now from id) es
 
 abbrev pub is_full : ℕ → List Arrived → Bool
-is_full now es = nat_le 4096 (length (filter (is_live now) es))
+is_full now es = nat_le max_remembered (length (filter (is_live now) es))
 
 abbrev pub reply_of : ℕ → Endpoint → ℕ → List Arrived → Option (List ℕ)
 reply_of now from id [] = None
@@ -64,21 +68,21 @@ is_busy to cs = list_any (λ c. same_endpoint c.to to) cs
 
 -- the group of the next Message ID goes on, or may be entered
 abbrev pub is_rested : ℕ → Option (Option ℕ) → Bool
-is_rested now (Some (Some last)) = nat_lt (last + 400000) now
+is_rested now (Some (Some last)) = nat_lt (last + id_reuse_after) now
 is_rested now _ = true
 
 abbrev pub is_free : ℕ → ℕ → List (Option ℕ) → Bool
-is_free now upcoming uses = not (upcoming % 4096 == 0) || is_rested now (slice_get uses (upcoming / 4096))
+is_free now upcoming uses = not (upcoming % group_size == 0) || is_rested now (slice_get uses (upcoming / group_size))
 
 -- retransmission k is due `timeout * (2^k - 1)` after the first sending; each up to the last sending counts as sent
 abbrev pub is_due : ℕ → Open → ℕ → Bool
 is_due now c k = nat_lt (c.last - c.first) (c.timeout * k) && nat_le (c.timeout * k) (now - c.first)
 
 abbrev pub is_copy_due : ℕ → Open → Bool
-is_copy_due now c = nat_le (now - c.first) 47000 && list_any (is_due now c) (1 ∷ 3 ∷ 7 ∷ 15 ∷ [])
+is_copy_due now c = nat_le (now - c.first) last_retransmission && list_any (is_due now c) (factors max_retransmit)
 
 abbrev pub is_failed : ℕ → Open → Bool
-is_failed now c = nat_le (c.timeout * 31) (now - c.first)
+is_failed now c = nat_le (c.timeout * failure_timeouts) (now - c.first)
 
 abbrev pub tick_of : ℕ → List Open → Answer
 tick_of now [] = Idle
@@ -161,7 +165,7 @@ next_after (g ∷ gs) n = (g.id + 1) % 65536
 
 abbrev pub uses_after : List Issued → List (Option ℕ) → List (Option ℕ)
 uses_after [] uses = uses
-uses_after (g ∷ gs) uses = slice_set (uses_after gs uses) (g.id / 4096) (Some g.at)
+uses_after (g ∷ gs) uses = slice_set (uses_after gs uses) (g.id / group_size) (Some g.at)
 
 abbrev pub after : State → Entry → State
 after s e =
@@ -181,11 +185,11 @@ arrivals [] = []
 arrivals (e ∷ past) = map (stores e) (arrivals past) ++ newly e.at (taken e)
 
 abbrev pub next_id : ℕ → List Entry → ℕ
-next_id word [] = word % 16 * 4096
+next_id word [] = word % groups * group_size
 next_id word (e ∷ past) = next_after (issued e) (next_id word past)
 
 abbrev pub uses : List Entry → List (Option ℕ)
-uses [] = replicate 16 None
+uses [] = replicate groups None
 uses (e ∷ past) = uses_after (issued e) (uses past)
 
 -- what a trace adds up to, nothing forgotten

@@ -1,6 +1,6 @@
 ghost use Rattle.std.specs.Prelude.{◌≡◌, ◌≤◌, ◌<◌, length, ◌++◌, ◌∷◌, [], true, List, Ok, option_to_list, IfOk, IsOk};
 ghost use Rattle.std.specs.Vec.{vec_len, vec_capacity};
-ghost use Rattle.coap_codec.specs.Message.{AreBytes};
+ghost use Rattle.coap_types.specs.Bytes.{AreBytes};
 ghost use Rattle.coap_layer.specs.Arrivals.{arrival_at};
 ghost use Rattle.coap_layer.specs.Arriving.{IsArriving, shown_by, told_by, of_head, sent_by, newly_by, awaits_by, open_by, ends as ends_lem, hands as hands_lem, keeps as keeps_lem};
 ghost use Rattle.coap_layer.specs.Entries.{arrivals_in};

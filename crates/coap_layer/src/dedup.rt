@@ -4,6 +4,7 @@ ghost use Rattle.std.specs.Option.{option_map};
 ghost use Rattle.std.specs.Vec.{vec_len, vec_capacity};
 ghost use Rattle.coap_layer.specs.State.{is_live, is_of, reply_of};
 ghost use Rattle.coap_layer.specs.Entries.{arrived_as, arrivals_in, storing};
+ghost use Rattle.coap_layer.specs.declared.dedup.TheConstants.{MAX_REMEMBERED as max_remembered};
 
 use coap_types::transmission::EXCHANGE_LIFETIME_MS;
 use coap_types::{Endpoint, Id};
@@ -55,7 +56,7 @@ pub(crate) fn is_remembered<A: Allocator + Copy>(
 
 /// Whether no further message can be remembered.
 pub(crate) fn is_full<A: Allocator + Copy>(entries: &[Remembered<A>], now: u64) -> bool
-    ensures { result ≡ nat_le 4096 (count_by (λ e. is_live now (arrived_as e)) entries.now) }
+    ensures { result ≡ nat_le max_remembered (count_by (λ e. is_live now (arrived_as e)) entries.now) }
 {
     entries.iter().filter(|e| is_live(e, now)).count() >= MAX_REMEMBERED
 }

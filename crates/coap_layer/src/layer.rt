@@ -8,6 +8,7 @@ ghost use Rattle.coap_layer.specs.State.{Step, answer_of, copies, made, start};
 ghost use Rattle.coap_layer.specs.Trace.{Answer, Entry, Receive, Reply, Confirm, Plain, Settle, Ticks, Take, Room as AsksRoom, AsksFree, Pass, Nothing, Is, Idle, Gives};
 ghost use Rattle.coap_layer.specs.Ups.{IsQuiet, IsTick, answer_as, sent_as};
 ghost use Rattle.coap_layer.specs.Words.{handed_by};
+ghost use Rattle.coap_types.specs.declared.limits.TheConstants.{MAX_MESSAGE_LEN as max_message_len};
 
 use crate::arriving::{awaiting, hands, judge, keeps, read, sent, told};
 use crate::datagram::push_within;
@@ -152,7 +153,7 @@ impl<A: Allocator + Copy> Layer<A> {
     /// so that a duplicate gets it again (RFC 7252, sections 4.2 and 4.5). It takes no memory.
     pub fn reply(&mut self, to: Endpoint, id: Id, bytes: &[u8])
         requires may { MayReply self.old to id.0 }
-        requires short { length bytes.now ≤ 1152 }
+        requires short { length bytes.now ≤ max_message_len }
         ensures step { Step self.old.state 0 (Reply to id.0 bytes.now) Nothing self.new.state }
         ensures led { (word : ℕ) (t : List Entry) → LayerLed word t self.old.state → LayerLed word (made self.old.state 0 (Reply to id.0 bytes.now) ∷ t) self.new.state }
         ensures before { self.new.before ≡ self.old.before }

@@ -1,7 +1,9 @@
-ghost use Rattle.std.specs.Prelude.{◌≡◌, ◌≢◌, true, false, ℕ, List, nat_le, nat_lt, ◌≤◌, ◌*◌, ◌-◌, ◌==◌, ◌&&◌, is_some, None, Some, if◌then◌else◌, map};
+ghost use Rattle.std.specs.Prelude.{◌≡◌, ◌≢◌, true, false, ℕ, List, nat_le, nat_lt, ◌≤◌, ◌*◌, ◌-◌, ◌^◌, ◌==◌, ◌&&◌, is_some, None, Some, if◌then◌else◌, map};
 ghost use Rattle.std.specs.List.{list_any, filter_map};
 ghost use Rattle.std.specs.Vec.{vec_len, vec_capacity};
 ghost use Rattle.coap_types.specs.SameEndpoint.{same_endpoint};
+ghost use Rattle.coap_types.specs.declared.transmission.TheConstants.{MAX_RETRANSMIT as max_retransmit, FAILURE_TIMEOUTS as failure_timeouts};
+ghost use Rattle.coap_layer.specs.BackOff.{factors};
 ghost use Rattle.coap_layer.specs.Trace.{Idle, Packet, Ticks};
 ghost use Rattle.coap_layer.specs.Words.{left_by};
 ghost use Rattle.coap_layer.specs.State.{is_copy_due, tick_of};
@@ -10,15 +12,9 @@ ghost use Rattle.coap_layer.specs.Sendings.{answer_for, ended, marked, open_now}
 ghost use Rattle.coap_layer.specs.Ups.{IsTick};
 
 use crate::Tick;
-use coap_types::transmission::{LAST_RETRANSMISSION_MS, MAX_RETRANSMIT};
+use coap_types::transmission::{FAILURE_TIMEOUTS, LAST_RETRANSMISSION_MS, MAX_RETRANSMIT};
 use coap_types::{Endpoint, Id};
 use std::alloc::Allocator;
-
-/// So many initial timeouts pass from the first sending to the failure of the transmission: 1, 2,
-/// 4, 8 and 16 of them (RFC 7252, section 4.2).
-const FAILURE_TIMEOUTS: u64 = (1 << (MAX_RETRANSMIT + 1)) - 1;
-
-const _: () = prove!(FAILURE_TIMEOUTS == 31);
 
 /// A Confirmable message that was sent (RFC 7252, section 4.2).
 #[derive(Drop)]
@@ -113,7 +109,7 @@ fn mark<A: Allocator + Copy>(sendings: &mut [Sending<A>], to: Endpoint, id: Id, 
 
 /// Whether the transmission has failed (RFC 7252, section 4.2).
 pub(crate) fn has_failed<A: Allocator + Copy>(c: &Sending<A>, now: u64) -> bool
-    ensures { result ≡ nat_le (c.now.timeout * 31) (now - c.now.first) }
+    ensures { result ≡ nat_le (c.now.timeout * failure_timeouts) (now - c.now.first) }
 {
     u64::from(c.timeout) * FAILURE_TIMEOUTS <= now.saturating_sub(c.first)
 }
@@ -121,11 +117,32 @@ pub(crate) fn has_failed<A: Allocator + Copy>(c: &Sending<A>, now: u64) -> bool
 /// Whether the retransmission that is due so many timeouts after the first sending is due and was
 /// not at the last sending.
 fn falls_due(timeouts: u64, timeout: u16, sent: u64, elapsed: u64) -> bool
-    requires { timeouts ≤ 15 }
+    requires { timeouts ≤ failure_timeouts }
     ensures { result ≡ (nat_lt sent (timeout * timeouts) && nat_le (timeout * timeouts) elapsed) }
 {
     let due = u64::from(timeout) * timeouts;
     sent < due && due <= elapsed
+}
+
+/// After so many initial timeouts the retransmission of this number is due: 1, 3, 7, 15.
+fn factor(retransmission: u32) -> u64
+    requires { retransmission ≤ max_retransmit }
+    ensures is { result ≡ 2 ^ retransmission - 1 }
+    ensures short { result ≤ failure_timeouts }
+{
+    (1 << retransmission) - 1
+}
+
+/// Whether one of the first so many retransmissions is due and was not at the last sending.
+fn any_falls_due(retransmissions: u32, timeout: u16, sent: u64, elapsed: u64) -> bool
+    requires { retransmissions ≤ max_retransmit }
+    ensures { result ≡ list_any (λ k. nat_lt sent (timeout * k) && nat_le (timeout * k) elapsed) (factors retransmissions) }
+{
+    if retransmissions == 0 {
+        return false;
+    }
+    any_falls_due(retransmissions - 1, timeout, sent, elapsed)
+        || falls_due(factor(retransmissions), timeout, sent, elapsed)
 }
 
 /// Whether a retransmission is due: of those that are, one is sent and the others count as sent
@@ -136,10 +153,7 @@ pub(crate) fn is_copy_due<A: Allocator + Copy>(c: &Sending<A>, last: u64, now: u
     let sent = last.saturating_sub(c.first);
     let elapsed = now.saturating_sub(c.first);
     elapsed <= LAST_RETRANSMISSION_MS
-        && (falls_due(1, c.timeout, sent, elapsed)
-            || falls_due(3, c.timeout, sent, elapsed)
-            || falls_due(7, c.timeout, sent, elapsed)
-            || falls_due(15, c.timeout, sent, elapsed))
+        && any_falls_due(MAX_RETRANSMIT, c.timeout, sent, elapsed)
 }
 
 /// The step of the message that was sent first of those that have one.

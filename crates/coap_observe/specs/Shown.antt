@@ -6,5 +6,5 @@ use Rattle.coap_observe.specs.Observers.{Observer}
 abbrev pub observer_of : {A : Type 0} → Entry A → Observer
 observer_of e = record { to = e.to; token = e.token; path = e.path; szx = e.szx; marked = e.marked }
 
-abbrev pub kept : {A : Type 0} → List (Entry A) → List Observer
-kept {A} es = map (λ (e : Entry A). observer_of e) es
+abbrev pub observers_of : {A : Type 0} → List (Entry A) → List Observer
+observers_of {A} es = map (λ (e : Entry A). observer_of e) es

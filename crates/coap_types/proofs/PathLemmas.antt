@@ -1,6 +1,6 @@
--- Equality of paths, and a segment more.
-use Rattle.std.proofs.Common.{◌≡◌, ℕ, Bool, ◌&&◌, ◌++◌, List, [], ◌∷◌, refl, ap, sym, nat_eq, nat_cmp, Decides}
-use Rattle.std.specs.Cmp.Lexicographic.{pointwise, pointwise_decides, bytes_decides, slice_cmp}
+-- Vectors of bytes are compared, ordered, cloned and hashed as their bytes are.
+use Rattle.std.proofs.Common.{◌≡◌, ℕ, Bool, ◌&&◌, ◌++◌, List, [], ◌∷◌, refl, ap, sym, nat_eq, nat_cmp}
+use Rattle.std.specs.Cmp.Lexicographic.{pointwise, slice_cmp}
 use Rattle.std.specs.declared.cmp.Ordering.{Ordering}
 use Rattle.std.specs.Hash as fed
 use Rattle.std.specs.List.{AllZip, each_same, flat_map}
@@ -22,10 +22,6 @@ same_segments (x ∷ xs) (y ∷ ys) = ap (λ (b : Bool). pointwise nat_eq x.item
 pub segments_append : {Z : Type 0} (xs ys : List (Vec ℕ Z)) → segments_of (xs ++ ys) ≡ segments_of xs ++ segments_of ys
 segments_append [] ys = refl
 segments_append (x ∷ xs) ys = ap (λ (r : List (List ℕ)). x.items ∷ r) (segments_append xs ys)
-
--- the test decides equality
-pub same_path-decides : (p q : List (List ℕ)) → Decides (same_path p q) (p ≡ q)
-same_path-decides = pointwise_decides bytes_decides
 
 -- two lists of vectors are ordered as their bytes are
 pub same_order : {Z : Type 0} (xs ys : List (Vec ℕ Z))

@@ -6,7 +6,7 @@ use Rattle.coap_types.specs.declared.direction.Direction.{Direction}
 use Rattle.coap_types.specs.CoapOption.{CoapOption}
 use Rattle.coap_types.specs.Recognised.{is_recognised, is_critical, placed}
 use Rattle.coap_types.specs.SeenNumbers.{Remembers}
-use Rattle.coap_types.specs.Unrecognised.{lacks_critical, carries}
+use Rattle.coap_types.specs.Recognised.{lacks_critical, carries}
 use Rattle.coap_types.proofs.RecognisedLemmas.{placed_more, bad_more, or_false, unseen}
 
 -- what holds of the options so far

@@ -45,7 +45,19 @@ placed before (o ∷ os) = (before, o) ∷ placed (before ++ o ∷ []) os
 abbrev pub is_critical : CoapOption → Bool
 is_critical o = o.number % 2 == 1
 
+-- the options of a message that are recognised, in order
+abbrev pub recognised : Direction → List CoapOption → List CoapOption
+recognised direction options = map (λ p. p.1) (filter (λ p. is_recognised direction p.0 p.1) (placed [] options))
+
+-- whether a critical option is not recognised
+abbrev pub lacks_critical : Direction → List CoapOption → Bool
+lacks_critical direction options = list_any (λ p. is_critical p.1 && not (is_recognised direction p.0 p.1)) (placed [] options)
+
+-- whether an option of this number is recognised
+abbrev pub carries : Direction → ℕ → List CoapOption → Bool
+carries direction number options = list_any (λ p. (p.1.number == number) && is_recognised direction p.0 p.1) (placed [] options)
+
 -- the options of a message, those that are recognised, and whether a critical one is not
 pub record Recognised (direction : Direction) (options kept : List CoapOption) (bad : Bool) : Type 0 where
-  pub list : kept ≡ map (λ p. p.1) (filter (λ p. is_recognised direction p.0 p.1) (placed [] options))
-  pub rest : bad ≡ list_any (λ p. is_critical p.1 && not (is_recognised direction p.0 p.1)) (placed [] options)
+  pub list : kept ≡ recognised direction options
+  pub rest : bad ≡ lacks_critical direction options

@@ -3,7 +3,7 @@ ghost use Rattle.std.specs.Iterator.{Drains, IsFinite};
 ghost use Rattle.coap_types.specs.CoapOption.{CoapOption, option_of, options_of};
 ghost use Rattle.coap_types.specs.Recognised.{Recognised, has_number, is_recognised};
 ghost use Rattle.coap_types.specs.SeenNumbers.{Remembers};
-ghost use Rattle.coap_types.specs.Unrecognised.{lacks_critical, carries};
+ghost use Rattle.coap_types.specs.Recognised.{lacks_critical, carries};
 
 use crate::direction::Direction;
 use crate::option_number::SIZE1;

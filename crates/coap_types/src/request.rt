@@ -1,5 +1,5 @@
 ghost use Rattle.std.specs.Prelude.{◌≡◌};
-ghost use Rattle.coap_types.specs.MethodCode.{method_code};
+ghost use Rattle.coap_types.specs.MethodCode.{method_code, method_of};
 
 use crate::message::Code;
 use crate::path::Path;
@@ -30,6 +30,19 @@ impl Method {
             Method::Post => Code::POST,
             Method::Put => Code::PUT,
             Method::Delete => Code::DELETE,
+        }
+    }
+
+    /// The method of a code (RFC 7252, section 12.1.1); None where it is not that of one of these.
+    pub fn of(code: Code) -> Option<Method>
+        ensures { result ≡ method_of code.0 }
+    {
+        match code {
+            Code::GET => Some(Method::Get),
+            Code::POST => Some(Method::Post),
+            Code::PUT => Some(Method::Put),
+            Code::DELETE => Some(Method::Delete),
+            _ => None,
         }
     }
 }

@@ -10,6 +10,8 @@ use std::marker::Model;
 /// The most bytes that an entity-tag has (RFC 7252, section 5.10, table 4).
 pub const MAX_TAG_LEN: usize = 8;
 
+const _: () = prove!(MAX_TAG_LEN == 8);
+
 /// An entity-tag: 1 to 8 bytes, which tell one representation of a resource from another
 /// (RFC 7252, section 5.10.6). Tags are equal by their bytes.
 #[derive(Debug, Drop)]
@@ -19,18 +21,19 @@ pub struct Tag {
 
 impl Model for Tag {
     ghost use Rattle.std.specs.Prelude.{ℕ, List, ◌≤◌, length};
+    ghost use Rattle.coap_types.specs.declared.tag.TheConstants.{MAX_TAG_LEN};
 
     ghost Value = { List ℕ };
 
     ghost view = { λ t. t.bytes.items };
 
-    ghost invariant = { λ t. (1 ≤ length t.bytes.items) × (length t.bytes.items ≤ 8) };
+    ghost invariant = { λ t. (1 ≤ length t.bytes.items) × (length t.bytes.items ≤ MAX_TAG_LEN) };
 }
 
 impl Tag {
     /// The tag of these bytes, where they are 1 to 8.
     pub fn new(bytes: &[u8]) -> Option<Tag>
-        ensures { SomeIff result ((1 ≤ length bytes.now) × (length bytes.now ≤ 8)) bytes.now }
+        ensures { SomeIff result ((1 ≤ length bytes.now) × (length bytes.now ≤ MAX_TAG_LEN)) bytes.now }
     {
         if bytes.is_empty() {
             return None;
@@ -51,7 +54,7 @@ impl Tag {
     pub fn as_slice(&self) -> &[u8]
         ensures bytes { result.now ≡ self.now }
         ensures some { 1 ≤ length self.now }
-        ensures few { length self.now ≤ 8 }
+        ensures few { length self.now ≤ MAX_TAG_LEN }
     {
         self.bytes.as_slice()
     }
@@ -107,12 +110,13 @@ pub struct Tags {
 
 impl Model for Tags {
     ghost use Rattle.std.specs.Prelude.{ℕ, List, ◌≡◌, ◌≤◌, length, take};
+    ghost use Rattle.coap_types.specs.declared.tag.TheConstants.{MAX_TAGS};
 
     ghost Value = { List (List ℕ) };
 
     ghost view = { λ t. take t.len t.tags };
 
-    ghost invariant = { λ t. (length t.tags ≡ 4) × (t.len ≤ 4) };
+    ghost invariant = { λ t. (length t.tags ≡ MAX_TAGS) × (t.len ≤ MAX_TAGS) };
 }
 
 impl Tags {

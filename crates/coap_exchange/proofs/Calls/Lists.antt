@@ -4,7 +4,7 @@ use Rattle.std.specs.List.{cons_option}
 use Rattle.coap_types.specs.declared.endpoint.Endpoint.{Endpoint}
 use Rattle.coap_exchange.specs.declared.listed.Listed.{Listed}
 use Rattle.coap_exchange.specs.declared.separate.Separate.{Separate}
-use Rattle.coap_exchange.specs.AnswererSteps.{goes_to, without}
+use Rattle.coap_exchange.specs.AnswererSteps.{goes_to, without_separate}
 use Rattle.coap_exchange.specs.Machine.Outstanding.{over}
 use Rattle.coap_exchange.specs.Machine.Listed.{entry_if, listed, listed_before, noted, reverted}
 
@@ -42,13 +42,13 @@ module _ {T : Type 0} where
   enlisted_before [] x = refl
   enlisted_before (k ∷ ks) x = ap (cons_option (entry_if k.before k.entry)) (enlisted_before ks x)
 
--- what is taken off the list is without it
-over_one : (to : Endpoint) (id : ℕ) (k : Listed Separate) (xs : List Separate) (n g : Bool) → goes_to to id k.entry ≡ g → cons_option (entry_if (n && not g) k.entry) (without to id xs) ≡ without to id (cons_option (entry_if n k.entry) xs)
-over_one to id k xs true true e = sym (ap (λ b. cond (not b) (k.entry ∷ without to id xs) (without to id xs)) e)
-over_one to id k xs true false e = sym (ap (λ b. cond (not b) (k.entry ∷ without to id xs) (without to id xs)) e)
+-- what is taken off the list
+over_one : (to : Endpoint) (id : ℕ) (k : Listed Separate) (xs : List Separate) (n g : Bool) → goes_to to id k.entry ≡ g → cons_option (entry_if (n && not g) k.entry) (without_separate to id xs) ≡ without_separate to id (cons_option (entry_if n k.entry) xs)
+over_one to id k xs true true e = sym (ap (λ b. cond (not b) (k.entry ∷ without_separate to id xs) (without_separate to id xs)) e)
+over_one to id k xs true false e = sym (ap (λ b. cond (not b) (k.entry ∷ without_separate to id xs) (without_separate to id xs)) e)
 over_one to id k xs false g e = refl
 
-pub over_is : (to : Endpoint) (id : ℕ) (ks : List (Listed Separate)) → listed (map (over to id) ks) ≡ without to id (listed ks)
+pub over_is : (to : Endpoint) (id : ℕ) (ks : List (Listed Separate)) → listed (map (over to id) ks) ≡ without_separate to id (listed ks)
 over_is to id [] = refl
 over_is to id (k ∷ ks) = ap (cons_option (entry_if (k.now && not (goes_to to id k.entry)) k.entry)) (over_is to id ks) ∙ over_one to id k (listed ks) k.now (goes_to to id k.entry) refl
 

@@ -1,5 +1,5 @@
 -- Time passes at the server's side, as the code makes it of the layer's calls.
-use Rattle.std.proofs.Common.{◌≡◌, ◌⊎◌, inl, inr, ℕ, max, Bool, true, false, Option, Some, None, is_some, IfSome, List, [], ◌∷◌, refl, ap, sym, subst, ◌∙◌, ◌&&◌, not, map, arith}
+use Rattle.std.proofs.Common.{◌≡◌, ◌≢◌, cond, ◌⊎◌, inl, inr, ℕ, max, Bool, true, false, Option, Some, None, is_some, IfSome, List, [], ◌∷◌, refl, ap, sym, subst, ◌∙◌, ◌&&◌, not, map, arith}
 use Rattle.std.specs.Option.{option_map}
 use Rattle.coap_types.specs.declared.endpoint.Endpoint.{Endpoint}
 use Rattle.coap_types.specs.declared.message.Id.{Id}
@@ -77,20 +77,50 @@ module _ (one two : shown.Shown) (now : ℕ) (tick_is : Tick) (done : T.Answer) 
   freely to e kept (inl has) = inl (kept has)
   freely to e kept (inr cannot) = inr (idle_room one.state two.state now to (idly e) ∙ cannot)
 
-  pub asks_freely : (was ready : Option Asked) → (ready ≡ None) ⊎ ((tick_is ≡ tick.Idle) × (ready ≡ was)) → (one.has_room ≡ true → two.has_room ≡ true) → IfSome was (λ a. AsksFreely one now a.from) → IfSome ready (λ a. AsksFreely two now a.from)
-  asks_freely was None which kept free = tt
-  asks_freely was (Some a) (inl e) kept free = absurd (cc e)
-  asks_freely was (Some a) (inr e) kept free = freely a.from e.0 kept (subst (λ (o : Option Asked). IfSome o (λ a. AsksFreely one now a.from)) (sym e.1) free)
+  pub asks_freely : (ready : Option Asked) → (ready ≡ None) ⊎ (tick_is ≡ tick.Idle) → (one.has_room ≡ true → two.has_room ≡ true) → IfSome ready (λ a. AsksFreely one now a.from) → IfSome ready (λ a. AsksFreely two now a.from)
+  asks_freely None which kept free = tt
+  asks_freely (Some a) (inl e) kept free = absurd (cc e)
+  asks_freely (Some a) (inr e) kept free = freely a.from e kept free
 
   -- what was made ready for it stands
-  pub placed : (P : Type 0) (was ready : Option Asked) → (ready ≡ None) ⊎ ((tick_is ≡ tick.Idle) × (ready ≡ was)) → is_some ready ≡ true
-      → IfSome was (λ a. answer_of one.state (max one.state.clock now) (T.Room a.from) ≡ T.Is true → P)
+  pub placed : (P : Type 0) (ready : Option Asked) → (ready ≡ None) ⊎ (tick_is ≡ tick.Idle) → is_some ready ≡ true
+      → IfSome ready (λ a. answer_of one.state (max one.state.clock now) (T.Room a.from) ≡ T.Is true → P)
       → IfSome ready (λ a. answer_of two.state (max two.state.clock now) (T.Room a.from) ≡ T.Is true) → P
-  placed P was None which some there may = absurd (cc some)
-  placed P was (Some a) (inl e) some there may = absurd (cc e)
-  placed P was (Some a) (inr e) some there may =
-      let at : answer_of one.state (max one.state.clock now) (T.Room a.from) ≡ T.Is true → P = subst (λ (o : Option Asked). IfSome o (λ a. answer_of one.state (max one.state.clock now) (T.Room a.from) ≡ T.Is true → P)) (sym e.1) there in
-      at (sym (idle_room one.state two.state now a.from (idly e.0)) ∙ may)
+  placed P None which some there may = absurd (cc some)
+  placed P (Some a) (inl e) some there may = absurd (cc e)
+  placed P (Some a) (inr e) some there may = there (sym (idle_room one.state two.state now a.from (idly e)) ∙ may)
+
+-- the deferred request that is ready waits while the layer has a step to do
+
+idle_tick : (t : Tick) (done : T.Answer) → IsTick t done → done ≡ T.Idle → t ≡ tick.Idle
+idle_tick tick.Idle done h e = refl
+idle_tick (tick.Copied id) done h e = absurd (cc (h.1, e))
+idle_tick (tick.Expired to id) done h e = absurd (cc (h, e))
+
+not_idle : (done : T.Answer) (d : Option Deferred) → done ≢ T.Idle → ready_if done d ≡ None
+not_idle T.Idle d h = absurd (h refl)
+not_idle (T.Copied to id) d h = refl
+not_idle (T.Expired to id) d h = refl
+not_idle (T.Becomes what) d h = refl
+not_idle T.Nothing d h = refl
+not_idle (T.Is holds) d h = refl
+not_idle (T.Sent id) d h = refl
+not_idle T.Busied d h = refl
+not_idle T.NoIds d h = refl
+not_idle (T.Gives packet) d h = refl
+
+module _ (l from mid : L.State) (now : ℕ) (t : Tick) (done : T.Answer) (same : from ≡ l) (told : IsTick t done) (step : L.Step from now T.Ticks done mid) where
+  done_is : done ≡ answer_of l (max l.clock now) T.Ticks
+  done_is = step.right ∙ ap (λ s. answer_of s (max s.clock now) T.Ticks) same
+
+  pub waits_its_turn : (due : Bool) (was ready : Option Asked) → (due ≡ false → answer_of l (max l.clock now) T.Ticks ≡ T.Idle) → ready ≡ cond due None was → (ready ≡ None) ⊎ (t ≡ tick.Idle)
+  waits_its_turn true was ready idle is = inl is
+  waits_its_turn false was ready idle is = inr (idle_tick t done told (done_is ∙ idle refl))
+
+  pub readied : (due : Bool) (was ready : Option Asked) (d : Option Deferred) → (due ≡ false → answer_of l (max l.clock now) T.Ticks ≡ T.Idle) → (due ≡ true → answer_of l (max l.clock now) T.Ticks ≢ T.Idle) → ready ≡ cond due None was
+      → was ≡ option_map (λ (x : Deferred). x.asked) d → ready ≡ option_map (λ (x : Deferred). x.asked) (ready_if done d)
+  readied true was ready d idle busy is found = is ∙ ap (option_map (λ (x : Deferred). x.asked)) (sym (not_idle done d (λ e. busy refl (sym done_is ∙ e))))
+  readied false was ready d idle busy is found = is ∙ (found ∙ ap (λ a. option_map (λ (x : Deferred). x.asked) (ready_if a d)) (sym (done_is ∙ idle refl)))
 
 -- a failure ends a separate response
 
@@ -155,7 +185,7 @@ module _ (l : L.State) (pending : Option Asked) (deferred : List Deferred) (sepa
       subst (λ x. Step old (Ticks now done room turn) (state_of h x deferred xs end)) (sym none_is) (with_none old is mid h now done room turn xs end step asks turn_is xs_is end_is)
 
   -- what is ready may be responded to
-  pub may_respond : (h : L.State) (now : ℕ) (done : T.Answer) (room : Bool) (turn : Due) (unasked : Option Asked) (xs : List Separate) (end : Option Ended) (shown : Shown) (a : Asked) → shown.state ≡ state_of h unasked deferred xs end → shown.room ≡ room
+  pub may_respond : (h : L.State) (now : ℕ) (done : T.Answer) (room : Bool) (turn : Due) (unasked : Option Asked) (xs : List Separate) (end : Option Ended) (shown : Shown) (a : Asked) → shown.state ≡ state_of h unasked deferred xs end → (room ≡ true → shown.room ≡ true)
       → h.clock ≡ max l.clock now → turn ≡ due_of done (ready_at s now) room → xs ≡ separate_unless done separate
       → (room ≡ true → (x : Asked) → option_map (λ (d : Deferred). d.asked) (ready_if done (ready_at s now)) ≡ Some x → is_busy x.from h.open_cons ≡ false)
       → (room ≡ true → is_free (max h.clock now) h.upcoming h.last_used ≡ true) → turn ≡ due.Ready a → MayRespond shown now a
@@ -168,7 +198,7 @@ module _ (l : L.State) (pending : Option Asked) (deferred : List Deferred) (sepa
       record {
         ready = ap (λ (x : State). option_map (λ (d : Deferred). d.asked) (ready_at x.own now)) state_is ∙ (ap (option_map (λ (d : Deferred). d.asked)) ready ∙ k.1);
         con = record {
-          room = room_is ∙ k.0;
+          room = room_is k.0;
           idle = ap (λ (x : State). is_busy a.from x.layer.open_cons) state_is ∙ idle k.0 a asks;
           free = ap (λ (x : State). is_free (max x.layer.clock now) x.layer.upcoming x.layer.last_used) state_is ∙ free k.0;
         };

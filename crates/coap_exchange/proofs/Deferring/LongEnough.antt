@@ -3,7 +3,7 @@ use Rattle.std.proofs.Common.{◌≡◌, ◌≢◌, ◌≤◌, ◌⊎◌, inl, i
 use Rattle.std.specs.Option.{option_map}
 use Rattle.coap_types.specs.Past.{Sometime}
 use Rattle.coap_types.proofs.PastLemmas.{Sometime_map}
-use Rattle.coap_layer.proofs.ListLemmas.{le_true, true_le}
+use Rattle.std.proofs.lemmas.Bool.{leb-true, le-leb}
 use Rattle.coap_layer.specs.Trace as T
 use Rattle.coap_exchange.specs.declared.answerer.Asked.{Asked}
 use Rattle.coap_exchange.specs.declared.answerer.Due.{Due}
@@ -49,7 +49,7 @@ module _ (t : List Call) (at : ℕ) (xs : List Separate) where
   stand_without (d ∷ ds) h = stand_by d ds (is_ready at xs d) h (stand_without ds h.1)
 
   pub passed_by : (delay from : ℕ) (free : Bool) → from ≤ at → (nat_le delay (at - from) && free) ≡ true → from + delay ≤ at
-  passed_by delay from free since h = let k = le_true delay (at - from) (and_parts (nat_le delay (at - from)) free h).0 in omega (arith, k, since)
+  passed_by delay from free since h = let k = leb-true delay (at - from) (and_parts (nat_le delay (at - from)) free h).0 in omega (arith, k, since)
 
   deferred_until : (d : Deferred) → (own_of t).clock ≤ at → Stands t d → is_ready at xs d ≡ true → Sometime (DefersUntil d.asked at) t
   deferred_until d clock s h =
@@ -131,7 +131,7 @@ module _ (a : Asked) (at : ℕ) where
   module _ (xs : List Separate) (free : is_waited_for a.from xs ≡ false) where
     pub ready_now : (d : Deferred) → d.asked ≡ a → d.at + d.delay ≤ at → is_ready at xs d ≡ true
     ready_now d same passed =
-        let le = true_le d.delay (at - d.at) (omega (arith, passed)) in
+        let le = le-leb d.delay (at - d.at) (omega (arith, passed)) in
         let idle : is_waited_for d.asked.from xs ≡ false = subst (λ (x : Asked). is_waited_for x.from xs ≡ false) (sym same) free in
         cc (le, idle)
 

@@ -8,7 +8,7 @@ use Rattle.coap_types.proofs.EndpointLemmas.{same_endpoint_is, same_endpoint_sel
 use Rattle.coap_layer.specs.Trace.{Answer, Idle, Copied, Expired}
 use Rattle.coap_layer.specs.Words.{Open, same}
 use Rattle.coap_layer.specs.State.{tick_of, is_failed, is_copy_due}
-use Rattle.coap_layer.proofs.ListLemmas.{le_true}
+use Rattle.std.proofs.lemmas.Bool.{leb-true}
 use Rattle.coap_exchange.specs.declared.asker.Exchange.{Exchange}
 use Rattle.coap_exchange.specs.AskerTrace.{Own}
 use Rattle.coap_exchange.specs.AskerArrivals.{has_id, is_of_request}
@@ -146,6 +146,6 @@ failed_one at c false false h k e = absurd (cc e)
 pub failed : (server : Endpoint) (x : Exchange) (b : Option Begun) (cs : List Open) (at : ℕ) (to : Endpoint) (id : ℕ) → Lone server (Some x) b cs → Expired to id ≡ tick_of at cs → HasFailed at b
 failed server x b cs at to id (inl z) is =
     let e : is_expired (tick_of at (z.con ∷ [])) ≡ true = sym (ap (λ ds. is_expired (tick_of at ds)) z.only) ∙ sym (ap is_expired is) in
-    let f : z.con.timeout * 31 ≤ at - z.con.first = le_true _ _ (failed_one at z.con (is_failed at z.con) (is_copy_due at z.con) refl refl e) in
+    let f : z.con.timeout * 31 ≤ at - z.con.first = leb-true _ _ (failed_one at z.con (is_failed at z.con) (is_copy_due at z.con) refl refl e) in
     record { begun = z.begun; last = z.last; late = subst (λ w. w * 31 ≤ at - z.begun.at) z.timeout (subst (λ w. z.con.timeout * 31 ≤ at - w) z.first f) }
 failed server x b cs at to id (inr h) is = let e : is_expired (tick_of at cs) ≡ true = sym (ap is_expired is) in absurd (cc (e, ap (λ ds. is_expired (tick_of at ds)) h.none))

@@ -5,7 +5,7 @@ use Rattle.coap_layer.specs.State as L
 use Rattle.coap_layer.specs.State.{out_of, tick_of}
 use Rattle.coap_layer.specs.Steps.{Steps}
 use Rattle.coap_layer.specs.Trace as T
-use Rattle.coap_layer.proofs.ListLemmas.{le_true}
+use Rattle.std.proofs.lemmas.Bool.{leb-true}
 use Rattle.coap_exchange.specs.declared.asker.Event.TheVariants as event
 use Rattle.coap_exchange.specs.declared.asker.Turn.{Turn}
 use Rattle.coap_exchange.specs.declared.asker.Turn.TheVariants as turn
@@ -116,7 +116,7 @@ module _ (server : Endpoint) (word : ℕ) where
 
   waited_at : (at : ℕ) (a : Option ℕ) → has_waited at a ≡ true → (acked : ℕ) × (a ≡ Some acked) × (247000 ≤ at - acked)
   waited_at at None h = absurd (cc h)
-  waited_at at (Some acked) h = (acked, refl, le_true _ _ h)
+  waited_at at (Some acked) h = (acked, refl, leb-true _ _ h)
 
   gives_up : (t : List Call) (now : ℕ) (below : T.Answer) → AskerLaw server word (Ticks now below (turn.End event.NoResponse) ∷ t) → GivesUp server word t now
   gives_up t now below law =

@@ -9,7 +9,7 @@ use Rattle.coap_layer.specs.State.{tick_of, is_failed, is_copy_due}
 use Rattle.coap_layer.specs.Steps.{Steps}
 use Rattle.coap_layer.specs.Trace as T
 use Rattle.coap_layer.specs.Words.{Open}
-use Rattle.coap_layer.proofs.ListLemmas.{true_le}
+use Rattle.std.proofs.lemmas.Bool.{le-leb}
 use Rattle.coap_exchange.specs.declared.asker.Event.{Event}
 use Rattle.coap_exchange.specs.declared.asker.Event.TheVariants as event
 use Rattle.coap_exchange.specs.declared.asker.Turn.{Turn}
@@ -47,7 +47,7 @@ fails s x at c runs to_is id_is late =
 gives_up : (s : Own) (x : Exchange) (at acked : ℕ) → s.running ≡ Some x → x.acked ≡ Some acked → 247000 ≤ at - acked → turn_of s at (tick_of at []) ≡ turn.End event.NoResponse
 gives_up s x at acked runs since late =
     ap (λ r. cond (has_waited at (acked_in r)) (turn.End event.NoResponse) turn.Idle) runs
-    ∙ (ap (λ a. cond (has_waited at a) (turn.End event.NoResponse) turn.Idle) since ∙ ap (λ b. cond b (turn.End event.NoResponse) turn.Idle) (true_le 247000 (at - acked) late))
+    ∙ (ap (λ a. cond (has_waited at a) (turn.End event.NoResponse) turn.Idle) since ∙ ap (λ b. cond b (turn.End event.NoResponse) turn.Idle) (le-leb 247000 (at - acked) late))
 
 module _ (s : Own) (b : Option Begun) (at : ℕ) (cs : List Open) (x : Exchange) (runs : s.running ≡ Some x) (lone : Lone s.server s.running b cs) where
   here : Lone s.server (Some x) b cs
@@ -69,7 +69,7 @@ module _ (s : Own) (b : Option Begun) (at : ℕ) (cs : List Open) (x : Exchange)
   ends_unheard z late =
       let timed : z.con.timeout * 31 ≤ at - z.begun.at = subst (λ w. w * 31 ≤ at - z.begun.at) (sym z.timeout) late in
       let due : z.con.timeout * 31 ≤ at - z.con.first = subst (λ w. z.con.timeout * 31 ≤ at - w) (sym z.first) timed in
-      ap (λ ds. turn_of s at (tick_of at ds)) z.only ∙ fails s x at z.con runs z.to_is z.id_is (true_le (z.con.timeout * 31) (at - z.con.first) due)
+      ap (λ ds. turn_of s at (tick_of at ds)) z.only ∙ fails s x at z.con runs z.to_is z.id_is (le-leb (z.con.timeout * 31) (at - z.con.first) due)
 
 module _ (server : Endpoint) (word : ℕ) where
   -- when the request was acknowledged

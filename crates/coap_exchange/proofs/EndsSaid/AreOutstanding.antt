@@ -15,7 +15,7 @@ use Rattle.coap_exchange.specs.declared.answerer.Asked.{Asked}
 use Rattle.coap_exchange.specs.declared.separate.Deferred.{Deferred}
 use Rattle.coap_exchange.specs.declared.separate.Separate.{Separate}
 use Rattle.coap_exchange.specs.AnswererTrace.{Response, Own, Call, Incoming, Answers, Defers, Ticks, Responds, Ready, Notifies, Take}
-use Rattle.coap_exchange.specs.AnswererSteps.{lower, after, goes_to, without, separate_after, separate_unless, is_waited_for, content_of, content_with, answering, deferring, may_defer, asking_room, ready_if, ready_at, reject_by}
+use Rattle.coap_exchange.specs.AnswererSteps.{lower, after, goes_to, without_separate, separate_after, separate_unless, is_waited_for, content_of, content_with, answering, deferring, may_defer, asking_room, ready_if, ready_at, reject_by}
 use Rattle.coap_exchange.specs.AnswererLaw.{own_of, lower_of, ResponseLaw}
 use Rattle.coap_exchange.specs.AnswererFollows.{WaitsForOutstanding}
 use Rattle.coap_exchange.specs.AskerRequests.{asked}
@@ -43,12 +43,12 @@ module _ (to : Endpoint) (id : ℕ) where
   left_one x xs c cs true p q m = m
   left_one x xs c cs false p q m = (p, q, m)
 
-  without_mirrors : (xs : List Separate) (cs : List Open) → Mirrors xs cs → Mirrors (without to id xs) (without_con to id cs)
+  without_mirrors : (xs : List Separate) (cs : List Open) → Mirrors xs cs → Mirrors (without_separate to id xs) (without_con to id cs)
   without_mirrors [] [] m = tt
   without_mirrors (x ∷ xs) (c ∷ cs) m =
       let e : same to id c.to c.id ≡ same to id x.to x.id.0 = ap (λ p. same to id p c.id) (sym m.0) ∙ ap (λ n. same to id x.to n) (sym m.1) in
-      subst (λ b. Mirrors (without to id (x ∷ xs)) (cons_option (cond b None (Some c)) (without_con to id cs))) (sym e)
-      (left_one x (without to id xs) c (without_con to id cs) (same to id x.to x.id.0) m.0 m.1 (without_mirrors xs cs m.2))
+      subst (λ b. Mirrors (without_separate to id (x ∷ xs)) (cons_option (cond b None (Some c)) (without_con to id cs))) (sym e)
+      (left_one x (without_separate to id xs) c (without_con to id cs) (same to id x.to x.id.0) m.0 m.1 (without_mirrors xs cs m.2))
   without_mirrors [] (c ∷ cs) m = absurd m
   without_mirrors (x ∷ xs) [] m = absurd m
 
@@ -88,8 +88,8 @@ module _ (at : ℕ) (out : List T.Packet) (xs : List Separate) (cs : List Open) 
   same_mirrors call answer f none =
       subst (Mirrors xs) (sym (ap (λ o. filter_map (left_by (entry_of at call answer out)) cs ++ option_to_list o) none ∙ left_same_nil (entry_of at call answer out) f cs)) m
 
-  gone_mirrors : (to : Endpoint) (id : ℕ) → Mirrors (without to id xs) (without_con to id cs ++ [])
-  gone_mirrors to id = subst (Mirrors (without to id xs)) (sym (append-nil (without_con to id cs))) (without_mirrors to id xs cs m)
+  gone_mirrors : (to : Endpoint) (id : ℕ) → Mirrors (without_separate to id xs) (without_con to id cs ++ [])
+  gone_mirrors to id = subst (Mirrors (without_separate to id xs)) (sym (append-nil (without_con to id cs))) (without_mirrors to id xs cs m)
 
   arrival_mirrors : (from : Endpoint) (bytes : List ℕ) (up : T.Answer) → Mirrors (separate_after from up xs) (opens_then at (T.Receive from bytes) up out cs)
   arrival_mirrors from bytes (T.Becomes (T.Acked id)) = gone_mirrors from id

@@ -8,9 +8,9 @@ use Rattle.coap_layer.specs.Trace as L
 use Rattle.coap_exchange.specs.declared.answerer.Ended.{Ended}
 use Rattle.coap_exchange.specs.declared.separate.Separate.{Separate}
 use Rattle.coap_exchange.specs.AnswererTrace.{Call, Incoming, Answers, Defers, Ticks, Responds, Ready, Notifies, Take}
-use Rattle.coap_exchange.specs.AnswererSteps.{goes_to, found, ended_as, separate_of, without, separate_after, separate_unless, reset_by, failed_by}
+use Rattle.coap_exchange.specs.AnswererSteps.{goes_to, found, ended_as, separate_of, without_separate, separate_after, separate_unless, reset_by, failed_by}
 use Rattle.coap_exchange.specs.AnswererLaw.{own_of}
-use Rattle.coap_exchange.specs.AnswererFollows.{hits, times, sends, says, same_ended, SaysOnce, EndsOnce}
+use Rattle.coap_exchange.specs.AnswererFollows.{hits, times, sends, end_told, same_ended, ToldOnce, EndsOnce}
 use Rattle.coap_exchange.proofs.Facts.SameToken.{same_token_self}
 
 beq_self : (b : Bool) → beq b b ≡ true
@@ -37,16 +37,16 @@ module _ (x : Ended) (to : Endpoint) (id : ℕ) where
   less_by y ys zs true h = omega (arith, h)
   less_by y ys zs false h = omega (arith, h)
 
-  less : (ys : List Separate) → separate_hits x (without to id ys) ≤ separate_hits x ys
+  less : (ys : List Separate) → separate_hits x (without_separate to id ys) ≤ separate_hits x ys
   less [] = omega arith
-  less (y ∷ ys) = less_by y ys (without to id ys) (not (goes_to to id y)) (less ys)
+  less (y ∷ ys) = less_by y ys (without_separate to id ys) (not (goes_to to id y)) (less ys)
 
-  found_by : (y : Separate) (ys : List Separate) (b : Bool) → hits (same_ended x) (option_map ended_as (found to id ys)) + separate_hits x (without to id ys) ≤ separate_hits x ys
-      → hits (same_ended x) (option_map ended_as (cond b (Some y) (found to id ys))) + separate_hits x (cond (not b) (y ∷ without to id ys) (without to id ys)) ≤ separate_hits x (y ∷ ys)
+  found_by : (y : Separate) (ys : List Separate) (b : Bool) → hits (same_ended x) (option_map ended_as (found to id ys)) + separate_hits x (without_separate to id ys) ≤ separate_hits x ys
+      → hits (same_ended x) (option_map ended_as (cond b (Some y) (found to id ys))) + separate_hits x (cond (not b) (y ∷ without_separate to id ys) (without_separate to id ys)) ≤ separate_hits x (y ∷ ys)
   found_by y ys true h = let l = less ys in omega (arith, l)
   found_by y ys false h = omega (arith, h)
 
-  found_less : (ys : List Separate) → hits (same_ended x) (option_map ended_as (found to id ys)) + separate_hits x (without to id ys) ≤ separate_hits x ys
+  found_less : (ys : List Separate) → hits (same_ended x) (option_map ended_as (found to id ys)) + separate_hits x (without_separate to id ys) ≤ separate_hits x ys
   found_less [] = omega arith
   found_less (y ∷ ys) = found_by y ys (goes_to to id y) (found_less ys)
 
@@ -87,13 +87,13 @@ module _ (x : Ended) (ys : List Separate) where
 
 -- what was said and what is outstanding was sent
 abbrev Sent : List Call → Type 0
-Sent t = (x : Ended) → times (same_ended x) says t + separate_hits x (own_of t).separate ≤ times (same_ended x) (λ old b. sends b) t
+Sent t = (x : Ended) → times (same_ended x) end_told t + separate_hits x (own_of t).separate ≤ times (same_ended x) (λ old b. sends b) t
 
 module _ (t : List Call) (sent : Sent t) where
-  quiet : (c : Call) → says t c ≡ None → SaysOnce t c
+  quiet : (c : Call) → end_told t c ≡ None → ToldOnce t c
   quiet c none = record { once = λ x h. absurd (cc (h, none)) }
 
-  says_one : (c : Call) (left : List Separate) → ((x : Ended) → hits (same_ended x) (says t c) + separate_hits x left ≤ separate_hits x (own_of t).separate) → SaysOnce t c
+  says_one : (c : Call) (left : List Separate) → ((x : Ended) → hits (same_ended x) (end_told t c) + separate_hits x left ≤ separate_hits x (own_of t).separate) → ToldOnce t c
   says_one c left f = record {
     once = λ x h.
         let k = sent x in
@@ -102,7 +102,7 @@ module _ (t : List Call) (sent : Sent t) where
         omega (arith, k, one, fewer);
   }
 
-  on : (c : Call) → SaysOnce t c × Sent (c ∷ t)
+  on : (c : Call) → ToldOnce t c × Sent (c ∷ t)
   on (Incoming now from bytes up answer) =
       let f : (x : Ended) → hits (same_ended x) (reset_by from up (own_of t).separate) + separate_hits x (separate_after from up (own_of t).separate) ≤ separate_hits x (own_of t).separate =
       λ x. arrival_fewer x (own_of t).separate from up in

@@ -13,7 +13,7 @@ use Rattle.coap_types.specs.declared.role.Role.TheVariants as role
 use Rattle.coap_types.specs.SameEndpoint.{same_endpoint}
 use Rattle.coap_types.proofs.EndpointLemmas.{same_endpoint_is, same_endpoint_self}
 use Rattle.coap_codec.specs.Message.{Message}
-use Rattle.coap_layer.proofs.ListLemmas.{same_nat}
+use Rattle.std.proofs.lemmas.Bool.{eqb-true}
 use Rattle.coap_layer.specs.Arrivals.{Arrival, Unreadable, Faulted, Whole, arrival_at}
 use Rattle.coap_layer.specs.State as L
 use Rattle.coap_layer.specs.State.{answer_to, is_outstanding, is_busy, is_failed, is_copy_due, tick_of, sending}
@@ -24,7 +24,7 @@ use Rattle.coap_layer.specs.Words.{Open, is_con, is_to}
 use Rattle.coap_exchange.specs.declared.answerer.Ended.{Ended}
 use Rattle.coap_exchange.specs.declared.separate.Separate.{Separate}
 use Rattle.coap_exchange.specs.AnswererTrace.{Own, Call, Incoming, Answers, Defers, Ticks, Responds, Ready, Notifies, Take}
-use Rattle.coap_exchange.specs.AnswererSteps.{lower, goes_to, found, ended_as, separate_of, without, separate_after, separate_unless, is_waited_for, asking_room, ready_if, ready_at, reject_by}
+use Rattle.coap_exchange.specs.AnswererSteps.{lower, goes_to, found, ended_as, separate_of, without_separate, separate_after, separate_unless, is_waited_for, asking_room, ready_if, ready_at, reject_by}
 use Rattle.coap_exchange.specs.AnswererLaw.{own_of, lower_of, AnswererLaw, ResponseLaw}
 use Rattle.coap_exchange.specs.AnswererSends.{begins}
 use Rattle.coap_exchange.specs.AnswererTells.{Sending, SentIn, TellsIf, EndsTold, fails}
@@ -127,11 +127,11 @@ module _ (t : List Call) where
   last_by x xs true h k = h
   last_by x xs false h k = k
 
-  last_without : (to : Endpoint) (id : ℕ) (xs : List Separate) → AllLast t xs → AllLast t (without to id xs)
+  last_without : (to : Endpoint) (id : ℕ) (xs : List Separate) → AllLast t xs → AllLast t (without_separate to id xs)
   last_without to id [] h = tt
   last_without to id (x ∷ xs) h =
       let k = last_without to id xs h.1 in
-      last_by x (without to id xs) (not (goes_to to id x)) (h.0, k) k
+      last_by x (without_separate to id xs) (not (goes_to to id x)) (h.0, k) k
 
   last_with : (xs : List Separate) (x : Separate) → AllLast t xs → Last t (con_of x) (ended_as x) → AllLast t (xs ++ x ∷ [])
   last_with [] x h k = (k, tt)
@@ -167,7 +167,7 @@ module _ (to : Endpoint) (id : ℕ) (t : List Call) where
   con_is : (x : Separate) → goes_to to id x ≡ true → con_of x ≡ con
   con_is x h =
       let k = and_parts (same_endpoint x.to to) (x.id.0 == id) h in
-      same_con x.to to x.id.0 id (same_endpoint_is x.to to k.0) (same_nat x.id.0 id k.1)
+      same_con x.to to x.id.0 id (same_endpoint_is x.to to k.0) (eqb-true x.id.0 id k.1)
 
   find_by : (x : Separate) (xs : List Separate) (b : Bool) → goes_to to id x ≡ b → AllLast t (x ∷ xs) → (list_any (goes_to to id) xs ≡ true → Found t con (found to id xs)) → (b || list_any (goes_to to id) xs) ≡ true
       → Found t con (cond b (Some x) (found to id xs))

@@ -5,7 +5,7 @@ use Rattle.coap_layer.specs.State as L
 use Rattle.coap_layer.specs.State.{answer_of}
 use Rattle.coap_layer.specs.Steps.{Asked, Steps}
 use Rattle.coap_layer.specs.Trace as T
-use Rattle.coap_layer.proofs.StepsLemmas.{steps_left}
+use Rattle.coap_layer.proofs.Facts.Calls.{steps_left}
 use Rattle.coap_exchange.specs.declared.asker.Event.{Event}
 use Rattle.coap_exchange.specs.declared.asker.Exchange.{Exchange}
 use Rattle.coap_exchange.specs.AskerTrace.{Own, Call, Receive}

@@ -2,7 +2,7 @@
 use Rattle.std.proofs.Common.{◌≡◌, ◌≤◌, ◌+◌, ℕ, nat_lt, Bool, true, false, List, [], ◌∷◌, ◌++◌, length, refl, sym, subst, arith, not, cond}
 use Rattle.std.proofs.lemmas.List.Filters.{length-filter_both}
 use Rattle.coap_types.specs.declared.endpoint.Endpoint.{Endpoint}
-use Rattle.coap_layer.proofs.ListLemmas.{lt_true}
+use Rattle.std.proofs.lemmas.Bool.{ltb-true}
 use Rattle.coap_exchange.specs.AskerTrace.{Own, Call, Ask, Receive, Ticks, Keep, Release, Take}
 use Rattle.coap_exchange.specs.AskerSteps.{after}
 use Rattle.coap_exchange.specs.AskerRequests.{opening_of, sent_as}
@@ -17,7 +17,7 @@ length_with (k ∷ kept) token = let h = length_with kept token in omega (arith,
 
 few_with : (token : List ℕ) (kept : List (List ℕ)) (b r : Bool) → nat_lt (length kept) max_kept ≡ r → length kept ≤ max_kept → length (cond b kept (cond r (kept ++ token ∷ []) kept)) ≤ max_kept
 few_with token kept true r h few = few
-few_with token kept false true h few = let l = length_with kept token in let lt = lt_true (length kept) max_kept h in omega (arith, l, lt)
+few_with token kept false true h few = let l = length_with kept token in let lt = ltb-true (length kept) max_kept h in omega (arith, l, lt)
 few_with token kept false false h few = few
 
 few_without : (token : List ℕ) (kept : List (List ℕ)) → length kept ≤ max_kept → length (kept_without token kept) ≤ max_kept

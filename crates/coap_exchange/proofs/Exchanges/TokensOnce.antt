@@ -13,7 +13,7 @@ use Rattle.coap_exchange.specs.AskerTrace.{Request, Own, Call, Ask, Receive, Tic
 use Rattle.coap_exchange.specs.AskerSteps.{IsRight, after}
 use Rattle.coap_exchange.specs.AskerRequests.{opening, opening_of, opened, sent_as, request_token, token_or, is_busied, send_refusal, sent_answer, ask_answer}
 use Rattle.coap_exchange.specs.AskerLaw.{own_of, AskerLaw}
-use Rattle.coap_exchange.specs.AskerFollows.{begun, fresh, unless_cancel, cancels, Begins, given_by, given_in, CancelsAreGiven, Tokens, AreTokens}
+use Rattle.coap_exchange.specs.AskerFollows.{begun, fresh, unless_cancel, cancels, Begins, tokens_spent, fresh_in, CancelsAreGiven, Tokens, AreTokens}
 use Rattle.coap_exchange.specs.Tokens.{is_spent, token_of}
 use Rattle.coap_exchange.proofs.Exchanges.TokensDiffer.{tokens_apart}
 use Rattle.coap_exchange.proofs.Facts.Moves as move
@@ -110,7 +110,7 @@ fresh_or_cancel (Take answer) token h = absurd (cc h)
 -- what the words find
 pub record Counted (word : ℕ) (t : List Call) (s : Own) : Type 0 where
   pub word_is : s.word ≡ word
-  pub given : s.given ≡ given_in t
+  pub given : s.given ≡ fresh_in t
   pub small : s.given < 2 ^ 64
   pub each : (token : List ℕ) → Ever (λ b. fresh b ≡ Some token) t → (k : ℕ) × (k < s.given) × (token ≡ token_of word k)
 
@@ -136,7 +136,7 @@ module _ (word : ℕ) (t : List Call) (s : Own) (c : Call) (new : Own) (known : 
   counted_on : Gives s new c → ((token : List ℕ) → cancels c ≡ Some token → Begins token c) → Tokens word t c × Counted word (c ∷ t) new
   counted_on (gives f left n w) cancel =
       let spare : s.given ≢ 2 ^ 64 - 1 = λ e. let k : is_spent s.given ≡ true = (unsigned_Decides s.given (2 ^ 64 - 1)).1 e in cc (k, left) in
-      let token_is : token_of s.word s.given ≡ token_of word (given_in t) = ap (λ w. token_of w s.given) known.word_is ∙ ap (λ g. token_of word g) known.given in (
+      let token_is : token_of s.word s.given ≡ token_of word (fresh_in t) = ap (λ w. token_of w s.given) known.word_is ∙ ap (λ g. token_of word g) known.given in (
         record {
           counted = λ token h. (some_is token _ (sym h ∙ f) ∙ token_is, omega (arith, spare, known.small, known.given));
           once = once_of f;
@@ -145,7 +145,7 @@ module _ (word : ℕ) (t : List Call) (s : Own) (c : Call) (new : Own) (known : 
         },
         record {
           word_is = w ∙ known.word_is;
-          given = n ∙ (ap (λ g. g + 1) known.given ∙ ap (λ x. given_in t + given_by x) (sym f));
+          given = n ∙ (ap (λ g. g + 1) known.given ∙ ap (λ x. fresh_in t + tokens_spent x) (sym f));
           small = omega (arith, n, spare, known.small);
           each = λ token h. elim h [
             | inl now ↦ (s.given, omega (arith, n), (some_is token _ (sym now ∙ f) ∙ ap (λ x. token_of x s.given) known.word_is))
@@ -162,7 +162,7 @@ module _ (word : ℕ) (t : List Call) (s : Own) (c : Call) (new : Own) (known : 
     },
     record {
       word_is = w ∙ known.word_is;
-      given = n ∙ (known.given ∙ (let z : given_in t ≡ given_in t + given_by None = omega arith in z ∙ ap (λ x. given_in t + given_by x) (sym f)));
+      given = n ∙ (known.given ∙ (let z : fresh_in t ≡ fresh_in t + tokens_spent None = omega arith in z ∙ ap (λ x. fresh_in t + tokens_spent x) (sym f)));
       small = omega (arith, n, known.small);
       each = λ token h. elim h [ inl now ↦ absurd (cc (now, f)) | inr old ↦ (let k = known.each token old in (k.0, omega (arith, n, k.1), k.2)) ];
     },

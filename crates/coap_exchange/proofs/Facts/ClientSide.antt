@@ -6,7 +6,7 @@ use Rattle.coap_exchange.specs.AskerLaw.{AskerLaw}
 use Rattle.coap_exchange.specs.AskerFollows.{AreExchanges, AreTokens}
 use Rattle.coap_exchange.proofs.Exchanges.OneAtATime.{known}
 use Rattle.coap_exchange.proofs.Exchanges.TokensOnce.{counted}
-pub use Rattle.coap_exchange.proofs.Leading.ClientLeads.{led_start, led_call, led_law, layer_stands}
+pub use Rattle.coap_exchange.proofs.Leading.ClientLeads.{led_start, led_call, led_exchanged, led_law, layer_stands, exchanged_join, exchanged_split, exchanged_own}
 pub use Rattle.coap_exchange.proofs.Exact.ClientExactly.{exact}
 pub use Rattle.coap_exchange.proofs.Telling.FromServer.{came_from, server_is}
 pub use Rattle.coap_exchange.proofs.Ending.WhenDue.{when_due}

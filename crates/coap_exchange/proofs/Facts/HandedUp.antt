@@ -13,7 +13,7 @@ use Rattle.coap_layer.specs.State.{answer_of, answer_to}
 use Rattle.coap_layer.specs.Table.{up_of, again_or}
 use Rattle.coap_layer.specs.Trace as T
 use Rattle.coap_layer.specs.Words.{is_con}
-use Rattle.coap_layer.proofs.ReadingLemmas.{shows_at}
+use Rattle.coap_layer.proofs.Facts.Arrivals.{shows_at}
 
 -- the message that is handed up
 abbrev pub handed_in : T.Disposition → Option Message

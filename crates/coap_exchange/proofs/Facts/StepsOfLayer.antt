@@ -4,7 +4,7 @@ use Rattle.coap_layer.specs.State as L
 use Rattle.coap_layer.specs.State.{answer_of}
 use Rattle.coap_layer.specs.Steps.{Asked, Steps}
 use Rattle.coap_layer.specs.Trace as T
-use Rattle.coap_layer.proofs.StepsLemmas.{steps_left}
+use Rattle.coap_layer.proofs.Facts.Calls.{steps_left}
 
 pub steps_join : (old mid new : L.State) (later earlier : List Asked) → Steps old earlier mid → Steps mid later new → Steps old (later ++ earlier) new
 steps_join old mid new [] earlier h k = subst (Steps old earlier) (sym k) h

@@ -12,8 +12,8 @@ use Rattle.coap_layer.specs.Steps.{Asked as Below, Steps, left_after}
 use Rattle.coap_layer.specs.Trace as T
 use Rattle.coap_layer.specs.Trace.{with_head, Entry, Content}
 use Rattle.coap_layer.specs.Words.{numbers}
-use Rattle.coap_layer.proofs.IdsApart.{small}
-use Rattle.coap_layer.proofs.StepsLemmas.{steps_left}
+use Rattle.coap_layer.proofs.Facts.Laws.{small}
+use Rattle.coap_layer.proofs.Facts.Calls.{steps_left}
 use Rattle.coap_exchange.specs.declared.answerer.Asked.{Asked}
 use Rattle.coap_exchange.specs.AnswererTrace.{Response, Own, Call, Incoming, Answers, Defers, Ticks, Responds, Ready, Notifies, Take}
 use Rattle.coap_exchange.specs.AnswererSteps.{lower, IsRight, IsResponse, IsSentAs, answering, content_of, content_with}

@@ -6,7 +6,7 @@ use Rattle.coap_types.specs.Past.{Ever}
 use Rattle.coap_types.specs.declared.endpoint.Endpoint.{Endpoint}
 use Rattle.coap_types.proofs.EndpointLemmas.{same_endpoint_self}
 use Rattle.coap_codec.specs.Message.{kind_number}
-use Rattle.coap_layer.proofs.ListLemmas.{lt_true}
+use Rattle.std.proofs.lemmas.Bool.{ltb-true}
 use Rattle.coap_exchange.specs.declared.answerer.Asked.{Asked}
 use Rattle.coap_exchange.specs.declared.separate.Deferred.{Deferred}
 use Rattle.coap_exchange.specs.declared.separate.Separate.{Separate}
@@ -141,7 +141,7 @@ module _ (t : List Call) (s : Own) (known : Counted t s) where
             omega (arith, k, l);
         pending = λ a h. absurd (cc h);
         deferred = all_later (Defers now b delay true) t (s.deferred ++ d ∷ []) (all_with t s.deferred d known.deferred (known.pending b is));
-        few = let l = length_with s.deferred d in let lt = lt_true (length s.deferred) max_deferred (sym right) in omega (arith, l, lt);
+        few = let l = length_with s.deferred d in let lt = ltb-true (length s.deferred) max_deferred (sym right) in omega (arith, l, lt);
       }
   defers_on now b delay false is right = record {
     count = λ a. let k = known.count a in omega (arith, k);

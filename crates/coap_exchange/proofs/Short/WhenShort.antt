@@ -1,6 +1,6 @@
 -- A short request may be asked, and a short response given.
 use Rattle.std.proofs.Common.{◌≤◌, ℕ, ◌+◌, length, arith}
-use Rattle.coap_layer.proofs.SendableLemmas.{sendable_when_short}
+use Rattle.coap_layer.proofs.Facts.Sendable.{sendable_when_short}
 use Rattle.coap_codec.specs.BoundedSpelling.{most_bytes}
 use Rattle.coap_exchange.specs.AskerRequests.{content_of}
 use Rattle.coap_exchange.specs.Machine.AskerShown.{IsAskableWhenShort}

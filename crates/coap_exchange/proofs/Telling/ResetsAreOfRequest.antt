@@ -8,8 +8,8 @@ use Rattle.coap_types.specs.declared.role.Role.{Role}
 use Rattle.coap_types.specs.declared.role.Role.TheVariants as role
 use Rattle.coap_types.specs.SameEndpoint.{same_endpoint}
 use Rattle.coap_codec.specs.Message.{Message, Spells}
-use Rattle.coap_layer.proofs.ListLemmas.{same_nat}
-use Rattle.coap_layer.proofs.ReadingLemmas.{shows_at}
+use Rattle.std.proofs.lemmas.Bool.{eqb-true}
+use Rattle.coap_layer.proofs.Facts.Arrivals.{shows_at}
 use Rattle.coap_layer.specs.Arrivals.{Arrival, Unreadable, Faulted, Whole, Shows, arrival_at}
 use Rattle.coap_layer.specs.State as L
 use Rattle.coap_layer.specs.State.{answer_to}
@@ -73,7 +73,7 @@ up_resets Rst role.Response n o r f i = tt
 up_resets Rst role.Reserved n o r f i = tt
 
 code_zero : (code : ℕ) (a b c : Bool) → (code == 0) ≡ a → cond a role.Empty (cond b role.Request (cond c role.Response role.Reserved)) ≡ role.Empty → code ≡ 0
-code_zero code true b c is h = same_nat code 0 is
+code_zero code true b c is h = eqb-true code 0 is
 code_zero code false true c is h = absurd (cc h)
 code_zero code false false true is h = absurd (cc h)
 code_zero code false false false is h = absurd (cc h)

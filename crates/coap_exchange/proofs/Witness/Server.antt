@@ -5,7 +5,7 @@ use Rattle.coap_codec.specs.Reading.{extended, value_at, nibbles_at, option_at, 
 use Rattle.coap_layer.specs.Rows.{IsSpelled}
 use Rattle.coap_layer.specs.State as L
 use Rattle.coap_layer.specs.Steps.{Asked as Below, Steps, left_after}
-use Rattle.coap_layer.proofs.SendableLemmas.{sendable_when_short}
+use Rattle.coap_layer.proofs.Facts.Sendable.{sendable_when_short}
 use Rattle.coap_exchange.specs.AnswererSteps.{content_of, content_with}
 use Rattle.coap_exchange.specs.AnswererLaw.{lower_of, ResponseLaw}
 use Rattle.coap_exchange.specs.ServerExample.{token, get, asked, content, notification, run}

@@ -3,11 +3,11 @@ use Rattle.std.proofs.Common.{◌≡◌, ℕ, Option, Some, None, List, Result, 
 use Rattle.coap_types.specs.declared.message.Id.{Id}
 use Rattle.coap_types.specs.declared.message.Kind.{Kind}
 use Rattle.coap_codec.specs.Faulty.{Faulty, head_of}
-use Rattle.coap_codec.specs.Message.{AreBytes, Message}
-use Rattle.coap_codec.specs.Reading.{message_at}
+use Rattle.coap_types.specs.Bytes.{AreBytes}
+use Rattle.coap_codec.specs.Message.{Message}
+use Rattle.coap_codec.specs.Decoded.{decoded}
 use Rattle.coap_codec.specs.declared.fault.Reason.{Reason}
-use Rattle.coap_codec.proofs.ReadLemmas.{message_reads, message_faults}
-use Rattle.coap_codec.proofs.ReadAgain.{spelled_again, faulty_again}
+use Rattle.coap_codec.proofs.Facts.EveryDatagram.{decoded_spells, decoded_faulty, spelled_decoded, faulty_decoded}
 use Rattle.coap_layer.specs.Arrivals.{Arrival, Unreadable, Faulted, Whole, by_head, Shows, arrival_of, arrival_at}
 
 pub faulty_shows : (bytes : List ℕ) (reason : Reason) (at : ℕ) → Faulty bytes reason at → (o : Option (Kind × Id)) → head_of reason bytes ≡ o → Shows bytes (by_head o)
@@ -15,13 +15,13 @@ faulty_shows bytes reason at f None h = (reason, at, f, sym (ap by_head h))
 faulty_shows bytes reason at f (Some head) h = (reason, at, f, sym (ap by_head h))
 
 pub shows_at : (bytes : List ℕ) → AreBytes bytes → Shows bytes (arrival_at bytes)
-shows_at bytes are = go (message_at bytes) refl
+shows_at bytes are = go (decoded bytes) refl
   where
-    go : (r : Result Message (Reason × ℕ)) → message_at bytes ≡ r → Shows bytes (arrival_of bytes r)
-    go (Ok m) h = message_reads bytes are m h
-    go (Err fault) h = faulty_shows bytes fault.0 fault.1 (message_faults bytes are fault.0 fault.1 h) (head_of fault.0 bytes) refl
+    go : (r : Result Message (Reason × ℕ)) → decoded bytes ≡ r → Shows bytes (arrival_of bytes r)
+    go (Ok m) h = decoded_spells bytes are m h
+    go (Err fault) h = faulty_shows bytes fault.0 fault.1 (decoded_faulty bytes are fault.0 fault.1 h) (head_of fault.0 bytes) refl
 
 pub one_arrival : (bytes : List ℕ) (what : Arrival) → AreBytes bytes → Shows bytes what → what ≡ arrival_at bytes
-one_arrival bytes (Whole m) are h = sym (ap (arrival_of bytes) (spelled_again bytes m are h))
-one_arrival bytes Unreadable are h = h.3 ∙ sym (ap (arrival_of bytes) (faulty_again bytes h.0 h.1 are h.2))
-one_arrival bytes (Faulted kind id) are h = h.3 ∙ sym (ap (arrival_of bytes) (faulty_again bytes h.0 h.1 are h.2))
+one_arrival bytes (Whole m) are h = sym (ap (arrival_of bytes) (spelled_decoded bytes m are h))
+one_arrival bytes Unreadable are h = h.3 ∙ sym (ap (arrival_of bytes) (faulty_decoded bytes h.0 h.1 are h.2))
+one_arrival bytes (Faulted kind id) are h = h.3 ∙ sym (ap (arrival_of bytes) (faulty_decoded bytes h.0 h.1 are h.2))

@@ -1,7 +1,7 @@
 -- Two layers' traces, entry by entry.
 use Rattle.std.proofs.Common.{◌≡◌, inl, inr, ℕ, List, [], ◌∷◌, ◌++◌, refl, ap, sym, ◌∙◌, subst}
 use Rattle.coap_types.specs.Past.{Ever, Always}
-use Rattle.coap_types.proofs.PastLemmas.{Ever_back}
+use Rattle.coap_types.proofs.Facts.Traces.{Ever_back}
 use Rattle.coap_types.specs.declared.endpoint.Endpoint.{Endpoint}
 use Rattle.coap_layer.specs.Trace.{Entry}
 use Rattle.coap_layer.specs.Channel.{Hop, Near, Far, near_of, far_of, OnNear, OnFar, ChannelLaw}

@@ -1,4 +1,4 @@
-use Rattle.coap_exchange.proofs.Leading.ClientLeads.{led_start, led_call, led_law, layer_stands}
+use Rattle.coap_exchange.proofs.Leading.ClientLeads.{led_start, led_call, led_exchanged, led_law, layer_stands}
 use Rattle.coap_exchange.proofs.Exact.ClientExactly.{exact}
 use Rattle.coap_exchange.proofs.Exchanges.OneAtATime.{known}
 use Rattle.coap_exchange.proofs.Exchanges.RefusedWhileOneRuns.{refused}
@@ -16,6 +16,9 @@ returns-clause-start c = led_start
 
 pub returns-clause-step : goal.returns-clause-step
 returns-clause-step c = led_call
+
+pub returns-clause-steps : goal.returns-clause-steps
+returns-clause-steps c = led_exchanged
 
 pub returns-clause-law : goal.returns-clause-law
 returns-clause-law c = led_law

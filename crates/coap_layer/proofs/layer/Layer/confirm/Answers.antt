@@ -2,7 +2,7 @@ use Rattle.std.proofs.Common.{rules, ◌≡◌, ap, sym, ◌∙◌, [], ◌∷�
 use Rattle.std.specs.List.{list_any}
 use Rattle.coap_types.specs.declared.message.Kind.TheVariants.{Con}
 use Rattle.coap_types.specs.SameEndpoint.{same_endpoint}
-use Rattle.coap_codec.specs.Writing.{message_bytes}
+use Rattle.coap_codec.specs.Spelling.{message_bytes}
 use Rattle.coap_layer.specs.Entries.{arrivals_in}
 use Rattle.coap_layer.specs.Parts.{held, open_before}
 use Rattle.coap_layer.specs.Sendings.{open_now}

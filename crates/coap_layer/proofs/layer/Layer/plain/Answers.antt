@@ -1,6 +1,6 @@
 use Rattle.std.proofs.Common.{rules, ap, sym, ◌∙◌, [], ◌∷◌, ◌++◌, List}
 use Rattle.coap_types.specs.declared.message.Kind.TheVariants.{Non}
-use Rattle.coap_codec.specs.Writing.{message_bytes}
+use Rattle.coap_codec.specs.Spelling.{message_bytes}
 use Rattle.coap_layer.specs.Entries.{arrivals_in}
 use Rattle.coap_layer.specs.Parts.{held}
 use Rattle.coap_layer.specs.Sendings.{open_now}

@@ -1,7 +1,7 @@
 -- The registration of one endpoint and token in the list after each change.
 use Rattle.std.proofs.Common.{◌≡◌, ◌∙◌, ℕ, Bool, true, false, not, ◌&&◌, ◌<◌, ◌++◌, List, [], ◌∷◌, length, filter, find, Option, None, Some, option_map, if◌then◌else◌, Decides, refl, ap, sym, subst, arith}
 use Rattle.std.specs.Cmp.Lexicographic.{bytes_decides}
-use Rattle.std.proofs.lemmas.Bool.Decides.{Decides-and, Decides-eqb}
+use Rattle.std.proofs.lemmas.Bool.Decides.{Decides-and}
 use Rattle.std.proofs.lemmas.List.{length-append, length-map}
 use Rattle.coap_types.specs.declared.endpoint.Endpoint.{Endpoint}
 use Rattle.coap_types.proofs.EndpointLemmas.{same_endpoint-decides}

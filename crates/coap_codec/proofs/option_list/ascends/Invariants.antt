@@ -2,7 +2,7 @@ use Rattle.std.proofs.Common.{◌≡◌, ℕ, ◌<◌, ◌^◌, get_or, drop}
 use Rattle.coap_types.specs.declared.options.Opt.{Opt}
 use Rattle.coap_types.specs.CoapOption.{options_of}
 use Rattle.coap_codec.specs.Refused.{ascends}
-use Rattle.coap_codec.proofs.encoder.ascends.Given as goal
+use Rattle.coap_codec.proofs.option_list.ascends.Given as goal
 
 abbrev pub invariant-loop-option : goal.invariant-loop-option
 invariant-loop-option l = record {

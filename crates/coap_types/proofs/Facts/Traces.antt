@@ -1,5 +1,5 @@
 -- Laws of the words for traces.
-use Rattle.std.proofs.Common.{◌⊎◌, inl, inr, ⊎_elim, List, [], ◌∷◌, ◌++◌}
+use Rattle.std.proofs.Common.{◌≡◌, ◌⊎◌, inl, inr, ⊎_elim, List, [], ◌∷◌, ◌++◌, ◌∙◌, refl, ap, sym, append_assoc}
 use Rattle.coap_types.specs.Past.{Ever, Sometime, Always, Since, all_of}
 
 module _ {E : Type 0} where
@@ -92,6 +92,15 @@ module _ {E : Type 0} where
   same_place P Q R (e ∷ past) law (inr a) (inl b) = absurd (law.0 b.0 (Ever_map _ P (λ x h. h.0) past a))
   same_place P Q R (e ∷ past) law (inr a) (inr b) = inr (same_place P Q R past law.1 a b)
 
+  -- of two things that happened, which came first
+  pub which_first : (A B : E → Type 0) (t : List E) → Ever A t → Ever B t
+      → Ever (λ e. A e × B e) t ⊎ Sometime (λ past e. B e × Ever A past) t ⊎ Sometime (λ past e. A e × Ever B past) t
+  which_first A B [] a b = absurd a
+  which_first A B (e ∷ t) (inl a) (inl b) = inl (inl (a, b))
+  which_first A B (e ∷ t) (inl a) (inr b) = inr (inr (inl (a, b)))
+  which_first A B (e ∷ t) (inr a) (inl b) = inr (inl (inl (b, a)))
+  which_first A B (e ∷ t) (inr a) (inr b) = ⊎_elim (λ x. inl (inr x)) (λ y. ⊎_elim (λ x. inr (inl (inr x))) (λ x. inr (inr (inr x))) y) (which_first A B t a b)
+
 -- a fact of some entry that names it no more
 pub forget : {E : Type 0} (X : Type 0) → (t : List E) → Ever (λ e. X) t → X
 forget X (e ∷ past) (inl x) = x
@@ -99,6 +108,10 @@ forget X (e ∷ past) (inr h) = forget X past h
 forget X [] h = absurd h
 
 module _ {E F : Type 0} (f : E → List F) where
+  pub all_of_append : (s t : List E) → all_of f (s ++ t) ≡ all_of f s ++ all_of f t
+  all_of_append [] t = refl
+  all_of_append (e ∷ s) t = ap (λ r. f e ++ r) (all_of_append s t) ∙ sym (append_assoc (f e) (all_of f s) (all_of f t))
+
   pub Ever_in : (P : F → Type 0) (t : List E) → Ever P (all_of f t) → Ever (λ e. Ever P (f e)) t
   Ever_in P [] h = h
   Ever_in P (e ∷ past) h = ⊎_elim (λ l. inl l) (λ r. inr (Ever_in P past r)) (Ever_append P (f e) (all_of f past) h)

@@ -1,0 +1,5 @@
+pub mod Bytes
+pub mod Endpoints
+pub mod Paths
+pub mod Traces
+pub mod Uints
