@@ -11,6 +11,8 @@ pub mod Roles
 pub mod Recognised
 pub mod SeenNumbers
 pub mod RequestPath
+pub mod EntityTag
+pub mod RequestRange
 pub mod BlockValue
 pub mod Piece
 pub mod Past

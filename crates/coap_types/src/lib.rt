@@ -36,7 +36,7 @@ pub use message::{Code, Id, Kind};
 pub use option_rule::{Occurrence, Rule};
 pub use options::Opt;
 pub use path::{MAX_SEGMENT_LEN, MAX_SEGMENTS, Path, PathRefusal};
-pub use recognised_options::{carries, lacks_critical, recognised};
+pub use recognised_options::{carries, lacks_critical, recognised, recognised_value};
 pub use recognition::rule;
 pub use request::{Method, Request};
 pub use role::Role;

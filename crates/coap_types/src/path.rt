@@ -1,4 +1,5 @@
-ghost use Rattle.std.specs.Prelude.{◌≡◌, ◌<◌, ◌≤◌, ◌∷◌, ◌++◌, ◌⊎◌, [], length, IsTrue, IfOk, IfErr, OnOk, OnErr, ◌↔◌, Some, None, refl};
+ghost use Rattle.std.specs.Prelude.{◌≡◌, ◌<◌, ◌≤◌, ◌∷◌, ◌++◌, ◌⊎◌, [], length, IsTrue, IfOk, IfErr, OnOk, OnErr, All, ◌↔◌, Some, None, refl};
+ghost use Rattle.coap_types.specs.Bytes.{AreBytes};
 ghost use Rattle.coap_types.specs.CoapOption.{options_of};
 ghost use Rattle.coap_types.specs.Path.{HoldsAtMost, segments_of, same_path, path_order};
 ghost use Rattle.coap_types.specs.RequestPath.{path_of, path_refusal};
@@ -46,14 +47,13 @@ pub struct Path<A: Allocator = Global> {
 
 impl<A: Allocator> Model for Path<A> {
     ghost use Rattle.std.specs.Prelude.{ℕ, List};
-    ghost use Rattle.coap_types.specs.declared.path.TheConstants.{MAX_SEGMENT_LEN, MAX_SEGMENTS};
-    ghost use Rattle.coap_types.specs.Path.{HoldsAtMost, segments_of};
+    ghost use Rattle.coap_types.specs.Path.{IsPath, segments_of};
 
     ghost Value = { List (List ℕ) };
 
     ghost view = { λ p. segments_of p.segments.items };
 
-    ghost invariant = { λ p. HoldsAtMost MAX_SEGMENTS MAX_SEGMENT_LEN (segments_of p.segments.items) };
+    ghost invariant = { λ p. IsPath (segments_of p.segments.items) };
 }
 
 impl<A: Allocator + Copy> Path<A> {
@@ -108,6 +108,7 @@ impl<A: Allocator + Copy> Path<A> {
     pub fn segments(&self) -> &[Vec<u8, A>]
         ensures segments { segments_of result.now ≡ self.now }
         ensures bounds { HoldsAtMost MAX_SEGMENTS MAX_SEGMENT_LEN self.now }
+        ensures bytes { All AreBytes self.now }
     {
         self.segments.as_slice()
     }

@@ -1,4 +1,5 @@
-ghost use Rattle.std.specs.Prelude.{◌≡◌, ◌<◌, ◌≤◌, ◌∷◌, ◌++◌, [], length, nat_eq, IsTrue, IfErr, OnErr, OnOk, ◌↔◌, ⊤};
+ghost use Rattle.std.specs.Prelude.{◌≡◌, ◌<◌, ◌≤◌, ◌∷◌, ◌++◌, [], length, nat_eq, All, IsTrue, IfErr, OnErr, OnOk, ◌↔◌, ⊤};
+ghost use Rattle.coap_types.specs.EntityTag.{IsTag};
 ghost use Rattle.std.specs.Option.{SomeIff};
 ghost use Rattle.std.specs.Cmp.{partial_equiv_from_equiv};
 ghost use Rattle.std.specs.Cmp.Lexicographic.{pointwise, nat_list_eq_equiv};
@@ -20,14 +21,14 @@ pub struct Tag {
 }
 
 impl Model for Tag {
-    ghost use Rattle.std.specs.Prelude.{ℕ, List, ◌≤◌, length};
-    ghost use Rattle.coap_types.specs.declared.tag.TheConstants.{MAX_TAG_LEN};
+    ghost use Rattle.std.specs.Prelude.{ℕ, List};
+    ghost use Rattle.coap_types.specs.EntityTag.{IsTag};
 
     ghost Value = { List ℕ };
 
     ghost view = { λ t. t.bytes.items };
 
-    ghost invariant = { λ t. (1 ≤ length t.bytes.items) × (length t.bytes.items ≤ MAX_TAG_LEN) };
+    ghost invariant = { λ t. IsTag t.bytes.items };
 }
 
 impl Tag {
@@ -44,7 +45,9 @@ impl Tag {
     }
 
     // What stands in a place that holds no tag.
-    fn unused() -> Tag {
+    fn unused() -> Tag
+        ensures { result ≡ 0 ∷ [] }
+    {
         let mut bytes = ArrayVec::new();
         bytes.push(0);
         Tag { bytes }
@@ -55,6 +58,7 @@ impl Tag {
         ensures bytes { result.now ≡ self.now }
         ensures some { 1 ≤ length self.now }
         ensures few { length self.now ≤ MAX_TAG_LEN }
+        ensures tag { IsTag self.now }
     {
         self.bytes.as_slice()
     }
@@ -109,14 +113,15 @@ pub struct Tags {
 }
 
 impl Model for Tags {
-    ghost use Rattle.std.specs.Prelude.{ℕ, List, ◌≡◌, ◌≤◌, length, take};
+    ghost use Rattle.std.specs.Prelude.{ℕ, List, All, ◌≡◌, ◌≤◌, length, take};
     ghost use Rattle.coap_types.specs.declared.tag.TheConstants.{MAX_TAGS};
+    ghost use Rattle.coap_types.specs.EntityTag.{IsTag};
 
     ghost Value = { List (List ℕ) };
 
     ghost view = { λ t. take t.len t.tags };
 
-    ghost invariant = { λ t. (length t.tags ≡ MAX_TAGS) × (t.len ≤ MAX_TAGS) };
+    ghost invariant = { λ t. (length t.tags ≡ MAX_TAGS) × (t.len ≤ MAX_TAGS) × All IsTag t.tags };
 }
 
 impl Tags {
@@ -141,6 +146,7 @@ impl Tags {
         if self.len >= MAX_TAGS {
             return Err(tag);
         }
+        let _it_has_1_to_8_bytes = tag.as_slice();
         self.tags[self.len] = tag;
         self.len += 1;
         Ok(())
@@ -150,6 +156,7 @@ impl Tags {
     pub fn as_slice(&self) -> &[Tag]
         ensures tags { result.now ≡ self.now }
         ensures few { length self.now ≤ MAX_TAGS }
+        ensures each { All IsTag self.now }
     {
         &self.tags[..self.len]
     }
