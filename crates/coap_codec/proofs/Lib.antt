@@ -13,5 +13,6 @@ pub mod LoopLemmas
 pub mod SpellLemmas
 pub mod SpellingLength
 pub mod SpellingLaw
+pub mod SpelledInBytes
 pub mod Facts
 pub mod StandardFacts

@@ -1,7 +1,6 @@
 -- Bytes whose header and token are sound: the message that they spell, or their fault.
-use Rattle.std.proofs.Common.{◌≡◌, ℕ, zero, suc, ◌+◌, ◌-◌, ◌*◌, ◌/◌, ◌%◌, ◌^◌, ◌<◌, cond, eqb, List, [], ◌∷◌, ◌++◌, length, take, drop, Ok, Err, refl, sym, ap, subst, ◌∙◌, arith, inl, inr}
-use Rattle.std.proofs.lemmas.List.{take-append-drop, length-append, length-take, drop-drop, get_or_append_left, get_or_past}
-use Rattle.std.proofs.lemmas.Bool.{cases_lt}
+use Rattle.std.proofs.Common.{◌≡◌, ℕ, zero, suc, ◌+◌, ◌-◌, ◌*◌, ◌/◌, ◌%◌, ◌^◌, ◌<◌, cond, eqb, List, [], ◌∷◌, ◌++◌, length, take, drop, Ok, Err, refl, sym, ap, ◌∙◌, arith}
+use Rattle.std.proofs.lemmas.List.{take-append-drop, length-append, length-take, drop-drop}
 use Rattle.coap_types.specs.declared.message.Kind.TheVariants.{Con, Non, Ack, Rst}
 use Rattle.coap_codec.specs.declared.fault.Reason.{Reason}
 use Rattle.coap_codec.specs.declared.fault.Reason.TheVariants.{Short, Version, TokenLength, TokenCut, EmptyNotBare, DeltaReserved, LengthReserved, OptionCut, NumberTooLarge, NoPayload}
@@ -10,7 +9,6 @@ use Rattle.coap_codec.specs.Message.{kind_number, header, marked, Spells}
 use Rattle.coap_codec.specs.Header.{token_length, kind_of, id_of}
 use Rattle.coap_codec.specs.Faulty.{Leaves, BadRest, place, IsFramed, Faulty}
 use Rattle.coap_codec.specs.Reading.{walk, payload_at, behind_token, message_of, body_at}
-use Rattle.coap_types.proofs.Facts.Bytes.{AreBytes-rest}
 use Rattle.coap_types.proofs.Facts.Bytes.{AreBytes-drop, byte_at}
 use Rattle.coap_codec.proofs.WalkLemmas.{walked, walk_longest}
 

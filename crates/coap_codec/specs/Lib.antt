@@ -4,6 +4,7 @@ pub mod Message
 pub mod Header
 pub mod Faulty
 pub mod Spelling
+pub mod OfBytes
 pub mod Refused
 pub mod BoundedSpelling
 pub mod Reading

@@ -1,5 +1,5 @@
 -- A message, and the bytes that spell it (RFC 7252, section 3).
-use Rattle.std.specs.Prelude.{◌≡◌, ℕ, ◌+◌, ◌*◌, ◌^◌, ◌<◌, ◌≤◌, List, [], ◌∷◌, ◌++◌, length, slice_index}
+use Rattle.std.specs.Prelude.{◌≡◌, ℕ, ◌+◌, ◌*◌, ◌^◌, ◌<◌, ◌≤◌, List, [], ◌∷◌, ◌++◌, length}
 use Rattle.byteorder.specs.Endian.{big_bytes}
 use Rattle.coap_types.specs.CoapOption.{CoapOption, options_of}
 use Rattle.coap_types.specs.declared.message.Kind.{Kind}

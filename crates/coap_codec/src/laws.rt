@@ -1,4 +1,5 @@
 ghost use Rattle.coap_codec.specs.BoundedSpelling.{BoundedSpelling};
+ghost use Rattle.coap_codec.specs.OfBytes.{BytesSpellBytes, SpelledInBytes};
 ghost use Rattle.coap_codec.specs.Laws.{EachIsRead, NotBoth, OneMessage, OneFault, MessageIsDecoded, FaultIsDecoded, OneSpelling, SpelledByItsBytes, SpelledByNoOthers, NoOtherIsSpelled};
 
 /// Every datagram spells exactly one message, or has exactly one fault; `decoded` of the
@@ -24,9 +25,11 @@ pub fn bounded_spelling()
 {}
 
 /// The messages that have a spelling, and that `message_bytes` of the specifications is the one
-/// that they have.
+/// that they have; it is of bytes where the parts of the message are.
 pub fn spelling_law()
     ensures spelled { SpelledByItsBytes }
     ensures only { SpelledByNoOthers }
     ensures others { NoOtherIsSpelled }
+    ensures in_bytes { SpelledInBytes }
+    ensures of_bytes { BytesSpellBytes }
 {}

@@ -6,6 +6,7 @@ use Rattle.coap_types.specs.CoapOption.{CoapOption}
 use Rattle.coap_codec.specs.BoundedSpelling.{BoundedSpelling, CanBeSpelled, is_numbered}
 use Rattle.coap_codec.specs.Laws.{OneSpelling, SpelledByItsBytes, SpelledByNoOthers, NoOtherIsSpelled}
 use Rattle.coap_codec.specs.Message.{Message, Spells}
+use Rattle.coap_codec.specs.OfBytes.{BytesSpellBytes, SpelledInBytes}
 use Rattle.coap_codec.specs.Options.{Options}
 use Rattle.coap_codec.specs.Refused.{ascends, is_short}
 use Rattle.coap_codec.specs.Spelling.{options_bytes, message_bytes}
@@ -13,6 +14,7 @@ use Rattle.coap_codec.proofs.OneSpelling as one
 use Rattle.coap_codec.proofs.SpellLemmas as spell
 use Rattle.coap_codec.proofs.SpellingLaw as law
 use Rattle.coap_codec.proofs.SpellingLength as bounded
+use Rattle.coap_codec.proofs.SpelledInBytes as in_bytes
 
 -- options
 
@@ -41,3 +43,11 @@ no_other_is_spelled = law.no_other_is_spelled
 
 pub bounded_spelling : BoundedSpelling
 bounded_spelling = bounded.bounded_spelling
+
+-- bytes
+
+pub spelled_in_bytes : SpelledInBytes
+spelled_in_bytes = in_bytes.spelled_in_bytes
+
+pub bytes_spell_bytes : BytesSpellBytes
+bytes_spell_bytes = in_bytes.bytes_spell_bytes

@@ -4,7 +4,7 @@ use Rattle.std.specs.Cmp.Lexicographic.{bytes_decides}
 use Rattle.std.proofs.lemmas.Bool.Decides.{Decides-and}
 use Rattle.std.proofs.lemmas.List.{length-append, length-map}
 use Rattle.coap_types.specs.declared.endpoint.Endpoint.{Endpoint}
-use Rattle.coap_types.proofs.EndpointLemmas.{same_endpoint-decides}
+use Rattle.coap_types.proofs.Facts.Endpoints.{same_endpoint-decides}
 use Rattle.coap_observe.specs.Observers.{Observer, AreDistinct, AreRegistrations, changed_at, is_of, marked_by, registered, registration, removed, sent_to, unmarked_by}
 use Rattle.coap_observe.specs.Registrations.{IsOther, OthersStay}
 use Rattle.coap_observe.proofs.ListLemmas.{find_before, find_behind, find_gone, find_kept, find_none, find_of_map, length_filter}
