@@ -6,7 +6,7 @@ use Rattle.coap_types.specs.CoapOption.{CoapOption}
 use Rattle.coap_types.specs.declared.message.Code.{Code}
 use Rattle.coap_types.specs.declared.request.Method.{Method}
 use Rattle.coap_types.specs.declared.request.Method.TheVariants.{Get, Post, Put, Delete}
-use Rattle.coap_resource.specs.RequestOptions.{has, uint_option, value_of}
+use Rattle.coap_types.specs.OptionValues.{has, uint_in, value_of}
 
 -- the code c.dd, as one byte (RFC 7252, section 3)
 abbrev pub code_of : ℕ → ℕ → ℕ
@@ -38,7 +38,7 @@ abbrev pub checked_method : Option Method → List CoapOption → Result Method 
 checked_method None options = refused 4 5
 checked_method (Some method) options =
     if nat_lt 16 (length (path_of options)) then refused 4 0
-    else if is_reserved (uint_option (value_of 23 options)) then refused 4 0
+    else if is_reserved (uint_in (value_of 23 options)) then refused 4 0
     else Ok method
 
 -- The first that holds refuses the request: a critical option that is not recognised, 4.02; Proxy-Uri (35) or Proxy-Scheme (39), 5.05; the

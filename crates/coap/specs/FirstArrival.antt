@@ -8,7 +8,8 @@ use Rattle.coap_types.specs.declared.message.Kind.TheVariants.{Con, Non, Ack, Rs
 use Rattle.coap_types.specs.declared.role.Role.{Role}
 use Rattle.coap_types.specs.declared.role.Role.TheVariants.{Empty, Request, Response, Reserved}
 use Rattle.coap_codec.specs.Faulty.{Faulty, head_of}
-use Rattle.coap_codec.specs.Message.{AreBytes, Message, Spells}
+use Rattle.coap_types.specs.Bytes.{AreBytes}
+use Rattle.coap_codec.specs.Message.{Message, Spells}
 use Rattle.coap_codec.specs.declared.fault.Reason.{Reason}
 use Rattle.coap.specs.declared.arrival.Arrival.{Arrival}
 use Rattle.coap.specs.declared.arrival.Arrival.TheVariants.{Ignored, Rejected, HandedUp}

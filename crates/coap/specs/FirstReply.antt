@@ -12,10 +12,11 @@ use Rattle.coap_types.specs.declared.request.Method.{Method}
 use Rattle.coap_types.specs.declared.role.Role.TheVariants.{Request}
 use Rattle.coap_codec.specs.Message.{Message, Spells}
 use Rattle.coap_resource.specs.Content.{Content}
-use Rattle.coap_resource.specs.RequestOptions.{has}
+use Rattle.coap_types.specs.OptionValues.{has}
 use Rattle.coap_resource.specs.ResponseOptions.{Says}
 use Rattle.coap_resource.specs.Serves.{Question, Reply, Serves}
-use Rattle.coap.specs.Checks.{checked, path_of}
+use Rattle.coap.specs.Checks.{checked}
+use Rattle.coap_types.specs.RequestPath.{path_of}
 use Rattle.coap.specs.FirstArrival.{FirstArrival, reset}
 use Rattle.coap.specs.declared.arrival.Arrival.TheVariants.{Ignored, Rejected, HandedUp}
 

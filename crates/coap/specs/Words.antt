@@ -42,14 +42,14 @@ abbrev pub HasNoBytes : List Row → Type 0
 HasNoBytes values = (text : Text) × IsValue (codes "HEX") values text × ((bytes : List ℕ) → decode_of text ≢ Ok bytes)
 
 -- the subcommand with these values says this order
-abbrev pub SaysIn : Text → List Row → Order → Type 0
-SaysIn subcommand values (Show datagram) = (subcommand ≡ codes "show") × HasBytes values datagram.items
-SaysIn subcommand values (Answer path body datagram) =
-    (subcommand ≡ codes "answer") × HasPath values path × IsValue (codes "BODY") values body.now × HasBytes values datagram.items
+abbrev pub AsksForIn : Text → List Row → Order → Type 0
+AsksForIn subcommand values (Show datagram) = (subcommand ≡ codes "show") × HasBytes values datagram.items
+AsksForIn subcommand values (Answer path body datagram) =
+    (subcommand ≡ codes "answer") × HasPath values path × HoldsAtMost 16 255 path × IsValue (codes "BODY") values body.now × HasBytes values datagram.items
 
 -- the words say this order
-abbrev pub Says : List Text → Order → Type 0
-Says words order = (subcommand : Text) × (values : List Row) × Enters words subcommand values × SaysIn subcommand values order
+abbrev pub AsksFor : List Text → Order → Type 0
+AsksFor words order = (subcommand : Text) × (values : List Row) × Enters words subcommand values × AsksForIn subcommand values order
 
 -- the subcommand takes no PATH, or its PATH is a text of a path
 abbrev pub IsPathFine : Text → List Row → Type 0

@@ -7,7 +7,7 @@ ghost use Rattle.coap_types.specs.Roles.{role_of};
 ghost use Rattle.coap_codec.specs.Message.{Message, Spells};
 ghost use Rattle.coap_resource.specs.ResponseOptions.{Says};
 ghost use Rattle.coap_resource.specs.Serves.{Reply, Serves};
-ghost use Rattle.coap.specs.Checks.{path_of};
+ghost use Rattle.coap_types.specs.RequestPath.{path_of};
 ghost use Rattle.coap.specs.FirstReply.{Answers, IsSent, IsServed, IsSpelled, is_ignored, question, response_to};
 ghost use Rattle.coap.specs.Sayable.{AreSegments};
 ghost use Rattle.coap.specs.declared.reply.Unanswered.TheVariants.{Memory, NotYet};
@@ -123,8 +123,8 @@ fn recognise<'a, A: Allocator + Copy>(
     recognised(alloc, Direction::Request, request.options())
 }
 
-/// Answers what is handed up.
-pub(crate) fn answer<A: Allocator + Copy, S: Store<A>>(
+/// Replies to what is handed up.
+pub(crate) fn reply_to<A: Allocator + Copy, S: Store<A>>(
     alloc: A,
     store: &mut S,
     request: &View<'_>,

@@ -1,8 +1,10 @@
 //! What is asked of a request before its resource is looked at.
 ghost use Rattle.std.specs.Prelude.{◌≡◌, ◌<◌, ◌≤◌, ◌++◌, ◌∷◌, [], IfOk, OnOk, length, map, option_copied};
 ghost use Rattle.coap_types.specs.CoapOption.{options_of};
-ghost use Rattle.coap_resource.specs.RequestOptions.{has, uint_option, value_of};
-ghost use Rattle.coap.specs.Checks.{checked, checked_method, is_reserved, method_of, path_of};
+ghost use Rattle.coap_types.specs.OptionValues.{has, uint_in, value_of};
+ghost use Rattle.coap.specs.Checks.{checked, checked_method, is_reserved};
+ghost use Rattle.coap_types.specs.MethodCode.{method_of};
+ghost use Rattle.coap_types.specs.RequestPath.{path_of};
 ghost use Rattle.coap.specs.FirstReply.{is_plain};
 ghost use Rattle.coap.specs.Sayable.{AreSegments};
 
@@ -60,7 +62,7 @@ fn segment_count(options: &[Opt<'_>]) -> usize
 
 // Whether Block2 has the reserved size.
 fn has_reserved_size(options: &[Opt<'_>]) -> bool
-    ensures { result ≡ is_reserved (uint_option (value_of 23 (options_of options.now))) }
+    ensures { result ≡ is_reserved (uint_in (value_of 23 (options_of options.now))) }
 {
     let Some(value) = value_of(options, BLOCK2) else {
         return false;

@@ -8,7 +8,7 @@ use std::alloc::Global;
 
 /// The path that a text says: its segments are joined by `/`, and one leading `/` is dropped. The
 /// empty text and `/` alone are the path without segments.
-pub fn path_of(alloc: Global, text: &str) -> Result<Path, PathRefusal>
+pub fn path_of_text(alloc: Global, text: &str) -> Result<Path, PathRefusal>
     // The path is what the text says, and the text says no other.
     ensures ok { IfOk result (λ p. IsPathText text.now p × HoldsAtMost 16 255 p) }
     ensures only { IfOk result (λ p. (segments : List (List ℕ)) → IsPathText text.now segments

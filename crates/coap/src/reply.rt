@@ -6,7 +6,7 @@ ghost use Rattle.coap.specs.FirstArrival.{FirstArrival};
 ghost use Rattle.coap.specs.FirstReply.{FirstReply, IsSent, IsServed};
 ghost use Rattle.coap.specs.declared.reply.Unanswered.TheVariants.{Memory, NotYet};
 
-use crate::answering::answer;
+use crate::answering::reply_to;
 use crate::arrival::{Arrival, first_arrival};
 use crate::reply_put::put_reset;
 use coap_resource::Store;
@@ -67,6 +67,6 @@ pub fn first_reply<A: Allocator + Copy, S: Store<A>>(
     match first_arrival(bytes) {
         Arrival::Ignored => Ok(None),
         Arrival::Rejected(id) => Ok(Some(put_reset(id, out))),
-        Arrival::HandedUp(request) => answer(alloc, store, &request, out),
+        Arrival::HandedUp(request) => reply_to(alloc, store, &request, out),
     }
 }

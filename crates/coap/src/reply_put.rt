@@ -2,7 +2,8 @@
 ghost use Rattle.std.specs.Prelude.{◌≡◌, ◌<◌, ◌≤◌, ◌++◌, List, length, take, drop, option_copied, Some, IfSome};
 ghost use Rattle.coap_types.specs.CoapOption.{CoapOption, options_of};
 ghost use Rattle.coap_codec.specs.Message.{Spells};
-ghost use Rattle.coap_resource.specs.ResponseOptions.{Fits, IsUint, Says, block_number, option_with};
+ghost use Rattle.coap_resource.specs.ResponseOptions.{Fits, IsUint, Says, block_number};
+ghost use Rattle.coap_types.specs.OptionValues.{option_with};
 ghost use Rattle.coap_resource.specs.Serves.{reply_of};
 ghost use Rattle.coap.specs.FirstArrival.{reset};
 ghost use Rattle.coap.specs.FirstReply.{IsSpelled, response_id, response_kind, response_to};

@@ -8,9 +8,10 @@ use crate::entries::{find, put_in, take_out};
 use crate::entry::Entry;
 use crate::refusal::StoreRefusal;
 use crate::representation::Representation;
-use crate::store::{MAX_BODY_LEN, MAX_PATHS, Store};
+use crate::store::{MAX_PATHS, Store};
 use crate::tally::{MAX_CHANGES_PER_WINDOW, Tally};
 use bytes::Bytes;
+use coap_types::limits::MAX_BODY_LEN;
 use coap_types::{Moment, Path};
 use std::alloc::{AllocError, Allocator, Global};
 use std::marker::Model;
@@ -23,13 +24,13 @@ pub struct ListStore<A: Allocator = Global> {
 }
 
 impl<A: Allocator> Model for ListStore<A> {
-    ghost use Rattle.coap_resource.specs.Entries.{AreShort, Listed, Unique, kept};
+    ghost use Rattle.coap_resource.specs.Entries.{AreShort, Listed, Unique, held_entries};
 
     ghost Value = { Listed };
 
-    ghost view = { λ s. record { entries = kept s.entries.items; tally = s.tally } };
+    ghost view = { λ s. record { entries = held_entries s.entries.items; tally = s.tally } };
 
-    ghost invariant = { λ s. Unique (kept s.entries.items) × AreShort (kept s.entries.items) };
+    ghost invariant = { λ s. Unique (held_entries s.entries.items) × AreShort (held_entries s.entries.items) };
 }
 
 impl<A: Allocator + Copy> ListStore<A> {

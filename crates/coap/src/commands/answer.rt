@@ -1,6 +1,7 @@
 ghost use Rattle.std.specs.Prelude.{◌<◌, Some, IfOk, IfSome, IfNone, length};
 ghost use Rattle.coap_resource.specs.Content.{Changes, nothing};
 ghost use Rattle.coap_resource.specs.Entries.{content_of};
+ghost use Rattle.coap.specs.Statuses.{IsCarriedOut};
 
 use crate::commands::{Status, Stop};
 use crate::reply::{MAX_MESSAGE_LEN, Unanswered, first_reply};
@@ -41,7 +42,9 @@ pub fn answer<W: Write>(
     body: &str,
     datagram: &[u8],
     out: &mut W,
-) -> Result<Status, Stop> {
+) -> Result<Status, Stop>
+    ensures { IfOk result IsCarriedOut }
+{
     let Some(mut store) = store_of(alloc, path, body.as_bytes())? else {
         writeln!(out, "refused {TOO_LARGE}")?;
         return Ok(Status::Refused);

@@ -1,6 +1,6 @@
 use Rattle.std.proofs.Common.{◌≡◌, ◌++◌, drop}
 use Rattle.coap_types.specs.CoapOption.{options_of}
-use Rattle.coap.specs.Checks.{path_of}
+use Rattle.coap_types.specs.RequestPath.{path_of}
 use Rattle.coap.specs.Sayable.{AreSegments}
 use Rattle.coap.proofs.checks.asked_path.Given as goal
 

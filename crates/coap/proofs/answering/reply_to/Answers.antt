@@ -6,7 +6,7 @@ use Rattle.coap_types.specs.declared.direction.Direction.TheVariants as directio
 use Rattle.coap_types.specs.declared.role.Role.TheVariants.{Request}
 use Rattle.coap.specs.FirstReply.{IsServed, is_plain}
 use Rattle.coap.proofs.CheckLemmas.{one_list}
-use Rattle.coap.proofs.answering.answer.Goals as goal
+use Rattle.coap.proofs.answering.reply_to.Goals as goal
 
 pub returns-then-not-is_plain-clause-not_yet : goal.returns-then-not-is_plain-clause-not_yet
 returns-then-not-is_plain-clause-not_yet g c = λ e served.
