@@ -1,5 +1,6 @@
 -- The value of a Block option: NUM, the bit M, and SZX (RFC 7959, section 2.2).
-use Rattle.std.specs.Prelude.{◌≡◌, ℕ, Bool, true, false, ◌+◌, ◌*◌, ◌/◌, ◌%◌, ◌≤◌, ◌==◌, ◌&&◌, nat_le, List, length, Option, Some, None, if◌then◌else◌}
+use Rattle.std.specs.Prelude.{◌≡◌, ℕ, Bool, true, false, ◌+◌, ◌*◌, ◌/◌, ◌%◌, ◌≤◌, ◌==◌, ◌&&◌, ◌↔◌, IsSome, IfSome, nat_le, List, length, Option, Some, None, if◌then◌else◌}
+use Rattle.coap_types.specs.Bytes.{AreBytes}
 use Rattle.coap_types.specs.Uint.{number_of}
 use Rattle.coap_types.specs.declared.block.Block.{Block}
 use Rattle.coap_types.specs.declared.block.TheConstants.{MAX_BLOCK_LEN as max_block_len, MAX_NUM as max_num}
@@ -23,9 +24,20 @@ block_by n =
 abbrev pub block_in : List ℕ → Option Block
 block_in bytes = if nat_le (length bytes) max_block_len then block_by (number_of bytes) else None
 
+-- what the block of a value says, and when there is one
+pub record BlockSays (bytes : List ℕ) (block : Option Block) : Type 0 where
+  pub value : IfSome block (λ b. block_value b ≡ number_of bytes)
+  pub num : IfSome block (λ b. b.num ≤ max_num)
+  pub szx : IfSome block (λ b. b.szx ≤ max_szx)
+  pub when : IsSome block ↔ ((length bytes ≤ max_block_len) × (number_of bytes % 8 ≤ max_szx))
+
 -- a value is that of one block
 abbrev pub OneBlock : Type 0
 OneBlock = (a b : Block) → a.szx ≤ 7 → b.szx ≤ 7 → block_value a ≡ block_value b → a ≡ b
+
+-- the function and the relation say the same
+abbrev pub BlockIsSaid : Type 0
+BlockIsSaid = (bytes : List ℕ) → AreBytes bytes → BlockSays bytes (block_in bytes)
 
 -- what is written for a block is read as that block
 abbrev pub BlockReadsBack : Type 0

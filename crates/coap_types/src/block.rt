@@ -1,6 +1,6 @@
 ghost use Rattle.std.specs.Prelude.{◌≡◌, ◌≤◌, ◌%◌, ◌↔◌, IsSome, IfSome, length};
 ghost use Rattle.coap_types.specs.Uint.{IsSpelling, number_of, uint};
-ghost use Rattle.coap_types.specs.BlockValue.{block_in, block_value, BlockReadsBack, OneBlock};
+ghost use Rattle.coap_types.specs.BlockValue.{block_by, block_in, block_value, BlockIsSaid, BlockReadsBack, OneBlock};
 
 use crate::szx::{MAX_SZX, Szx};
 use crate::uint::{UintBytes, uint_bytes, uint_of};
@@ -32,6 +32,23 @@ pub struct Block {
 }
 
 impl Block {
+    /// The block that a number says; None where NUM is over `MAX_NUM`, and at the reserved SZX 7
+    /// (RFC 7959, section 2.2).
+    pub fn of(number: u32) -> Option<Block>
+        ensures { result ≡ block_by number }
+    {
+        let num = number / NUM_UNIT;
+        if num > MAX_NUM {
+            return None;
+        }
+        let szx = Szx::new((number % SZX_VALUES) as u8)?;
+        Some(Block {
+            num,
+            more: number / MORE_BIT % 2 == 1,
+            szx,
+        })
+    }
+
     /// The block that an option's value says; None past 3 bytes, and at the reserved SZX 7
     /// (RFC 7959, section 2.2).
     pub fn read(bytes: &[u8]) -> Option<Block>
@@ -45,13 +62,7 @@ impl Block {
         if bytes.len() > MAX_BLOCK_LEN {
             return None;
         }
-        let value = uint_of(bytes)?;
-        let szx = Szx::new((value % SZX_VALUES) as u8)?;
-        Some(Block {
-            num: value / NUM_UNIT,
-            more: value / MORE_BIT % 2 == 1,
-            szx,
-        })
+        Block::of(uint_of(bytes)?)
     }
 
     /// The value of the option, in the fewest bytes (RFC 7959, section 2.2); None where NUM is over
@@ -70,9 +81,10 @@ impl Block {
     }
 }
 
-/// A value of a Block option is that of one block, and a block that is written is read back
-/// (RFC 7959, section 2.2).
+/// A value of a Block option is that of one block; what the block that is read says, and when one
+/// is; and a block that is written is read back (RFC 7959, section 2.2).
 pub fn block_law()
     ensures one_block { OneBlock }
+    ensures says { BlockIsSaid }
     ensures read_back { BlockReadsBack }
 {}

@@ -22,6 +22,13 @@ fn a_block_option_is_read(rt: HostRuntime) {
     for bytes in refused {
         assert!(rt; Block::read(bytes).is_none());
     }
+    let largest = (1 << 24) - 2;
+    let szx = Szx::new(6);
+    assert!(rt;
+        matches!(Block::of(largest), Some(block) if block.num == MAX_NUM && Some(block.szx) == szx)
+    );
+    assert_eq!(rt; Block::of(largest + 1), None);
+    assert_eq!(rt; Block::of(largest + 2), None);
     block_law();
 }
 

@@ -290,6 +290,7 @@ fn a_request_holds_what_it_was_given(rt: HostRuntime) {
         if_none_match: false,
         accept: None,
     };
+    request.ranges();
     assert_eq!(rt; request.path.len(), 1);
     assert_eq!(rt; request.body.as_slice(), b"22.3 C".as_slice());
     assert_eq!(rt; request.etags.as_slice().len(), 4);
