@@ -1,5 +1,5 @@
 -- What bytes say, as a function (RFC 7252, section 3): the message that they spell, or their first fault and its place.
--- `one_reading` says that it is just that; how it is found stands in Reading, and is no matter of who cites it.
+-- The law `one_reading` says that it is just that, so whoever cites it need not know the steps (Reading).
 use Rattle.std.specs.Prelude.{◌≡◌, ℕ, List, Some, None, Result, Ok, Err}
 use Rattle.coap_codec.specs.Faulty.{head_of}
 use Rattle.coap_codec.specs.Message.{Message}

@@ -1,5 +1,6 @@
--- The steps of the reader, on lists: what it takes from left to right, and the first fault that it meets. Only
--- private contracts cite them; what they mean is said in Message and Faulty.
+-- The steps of the reader, on lists: what it takes from left to right, and the first fault that it meets. Private
+-- contracts cite them, and `decoded` and the values of View and Options are made of them. What they mean is said in
+-- Message and Faulty, and no clause of a public function needs more.
 use Rattle.std.specs.Prelude.{◌≡◌, ℕ, zero, suc, ◌+◌, ◌*◌, ◌-◌, ◌/◌, ◌%◌, ◌==◌, ◌&&◌, not, nat_lt, if◌then◌else◌, List, [], ◌∷◌, length, take, drop, slice_index, Option, Some, None, Result, Ok, Err}
 use Rattle.coap_types.specs.CoapOption.{CoapOption}
 use Rattle.coap_types.specs.declared.message.Kind.{Kind}

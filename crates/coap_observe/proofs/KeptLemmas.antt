@@ -7,12 +7,8 @@ use Rattle.std.proofs.lemmas.List.{length-map, map-append, map-set}
 use Rattle.coap_types.specs.declared.endpoint.Endpoint.{Endpoint}
 use Rattle.coap_observe.specs.declared.entry.Entry.{Entry}
 use Rattle.coap_observe.specs.Observers.{Observer, is_of, is_due_at, is_due_of, is_registered, marked_in, removed}
-use Rattle.coap_observe.specs.Shown.{observers_of, observer_of}
+use Rattle.coap_observe.specs.Shown.{observers_of, observer_of, others_of}
 use Rattle.coap_observe.proofs.ListLemmas.{filter_of_map, find_of_map, list_any_of_map, mapped_step}
-
--- the entries of other endpoints and tokens
-abbrev pub others_of : {A : Type 0} → Endpoint → List ℕ → List (Entry A) → List (Entry A)
-others_of {A} to token es = filter (λ (e : Entry A). not (is_of to token (observer_of e))) es
 
 kept_others : {A : Type 0} (to : Endpoint) (token : List ℕ) (es : List (Entry A)) → removed to token (observers_of es) ≡ observers_of (others_of to token es)
 kept_others {A} to token es = filter_of_map (λ (e : Entry A). observer_of e) (λ (o : Observer). not (is_of to token o)) es

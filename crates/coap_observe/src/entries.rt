@@ -1,7 +1,7 @@
-ghost use Rattle.std.specs.Prelude.{◌≡◌, ◌<◌, ◌≤◌, ◌++◌, ◌∷◌, [], filter, find, length, not, option_copied, slice_get, true, IfSome, IsOk, OnOk, vec_len, vec_capacity};
+ghost use Rattle.std.specs.Prelude.{◌≡◌, ◌<◌, ◌≤◌, ◌++◌, ◌∷◌, [], filter, find, length, option_copied, slice_get, true, IfSome, IsOk, OnOk, vec_len, vec_capacity};
 ghost use Rattle.std.specs.List.{list_any};
 ghost use Rattle.coap_observe.specs.Observers.{changed_at, is_due_at, is_due_of, is_of, sent_to};
-ghost use Rattle.coap_observe.specs.Shown.{observers_of, observer_of};
+ghost use Rattle.coap_observe.specs.Shown.{observers_of, observer_of, others_of};
 
 use crate::entry::Entry;
 use coap_types::{Endpoint, Path, Token};
@@ -9,7 +9,7 @@ use std::alloc::{AllocError, Allocator};
 
 /// How many registrations there are of other endpoints and tokens.
 pub(crate) fn others<A: Allocator>(entries: &[Entry<A>], to: Endpoint, token: &Token) -> usize
-    ensures { result ≡ length (filter (λ e. not (is_of to token.now (observer_of e))) entries.now) }
+    ensures { result ≡ length (others_of to token.now entries.now) }
 {
     entries
         .iter()
@@ -64,7 +64,7 @@ pub(crate) fn take_out<A: Allocator + Copy>(
     to: Endpoint,
     token: &Token,
 )
-    ensures left { entries.new.items ≡ filter (λ e. not (is_of to token.now (observer_of e))) entries.old.items }
+    ensures left { entries.new.items ≡ others_of to token.now entries.old.items }
     ensures len { vec_len entries.new ≤ vec_len entries.old }
     ensures room { vec_capacity entries.new ≡ vec_capacity entries.old }
 {
@@ -79,7 +79,7 @@ pub(crate) fn make_room<A: Allocator + Copy>(
     token: &Token,
 ) -> Result<(), AllocError>
     ensures items { entries.new.items ≡ entries.old.items }
-    ensures room { OnOk result (length (filter (λ e. not (is_of to token.now (observer_of e))) entries.old.items) < vec_capacity entries.new) }
+    ensures room { OnOk result (length (others_of to token.now entries.old.items) < vec_capacity entries.new) }
     ensures again { list_any (λ e. is_of to token.now (observer_of e)) entries.old.items ≡ true → IsOk result }
 {
     if has(entries, to, token) {
