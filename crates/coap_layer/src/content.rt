@@ -33,7 +33,7 @@ impl<'a> Model for Content<'a> {
     ghost view = { λ c. record { code = c.code.0; token = c.token.now; options = options_of c.options.now; payload = c.payload.now } };
 }
 
-/// The head of the message with this type and Message ID.
+// The head of the message with this type and Message ID.
 fn head_of(content: &Content<'_>, kind: Kind, id: Id) -> Head
     ensures kind { result.kind ≡ kind }
     ensures code { result.code.0 ≡ content.now.code }

@@ -2,13 +2,13 @@ ghost use Rattle.std.specs.Prelude.{◌≡◌, ℕ, List, [], ◌∷◌, ◌++�
 ghost use Rattle.coap_layer.specs.Trace.{Call, Answer, Entry};
 ghost use Rattle.coap_layer.specs.Rows.{LayerLaw};
 ghost use Rattle.coap_layer.specs.Sendable.{IsSendableWhenShort};
-ghost use Rattle.coap_layer.specs.State.{State, Step, made, start};
-ghost use Rattle.coap_layer.specs.LayerLed.{LayerLed};
+ghost use Rattle.coap_layer.specs.Machine.State.{State, Step, made, start};
+ghost use Rattle.coap_layer.specs.Machine.LayerLed.{LayerLed};
 ghost use Rattle.coap_layer.specs.Follows.{HandedUpOnce, CopiesInTime, IdsApart, OneOutstanding, EndsOutstanding, IsExact, RemembersFew, IdsSmall, ResponsesSpelled};
 ghost use Rattle.coap_types.specs.declared.endpoint.Endpoint.{Endpoint};
 ghost use Rattle.coap_layer.specs.Channel.{Hop, ChannelLaw, HandedAsSpelled, AcksHeard, ArrivesAsSent, ConsBegun, NonsSent, OnlyThatCon, HandedOnce, AcksReplied, AcksTaken, TakenOnce};
 ghost use Rattle.coap_layer.specs.Sends.{FiveAtMost, AllAlike, ConsSpelled, OneOpen, LastBegun, EachGoesOut, InOrder, TakenSent, TakenSince};
-ghost use Rattle.coap_layer.specs.Steps.{Asked, Steps, entries};
+ghost use Rattle.coap_layer.specs.Machine.Steps.{Asked, Steps, entries};
 ghost use Rattle.coap_layer.specs.Examples.{FiveTimes, IsAcknowledged};
 
 /// What leads to a layer's state stands in the law, and what follows from that.

@@ -1,10 +1,10 @@
 ghost use Rattle.std.specs.Prelude.{◌≡◌, ◌≤◌, length, filter};
 ghost use Rattle.std.specs.Vec.{vec_len, vec_capacity};
 ghost use Rattle.std.specs.VecDeque.{deque_len, deque_capacity};
-ghost use Rattle.coap_layer.specs.Entries.{arrived_as};
-ghost use Rattle.coap_layer.specs.Parts.{noted, open_before};
-ghost use Rattle.coap_layer.specs.Sendings.{open_now};
-ghost use Rattle.coap_layer.specs.State.{is_live};
+ghost use Rattle.coap_layer.specs.Machine.Entries.{arrived_as};
+ghost use Rattle.coap_layer.specs.Machine.Parts.{noted, open_before};
+ghost use Rattle.coap_layer.specs.Machine.Sendings.{open_now};
+ghost use Rattle.coap_layer.specs.Machine.State.{is_live};
 
 use crate::IdSource;
 use crate::dedup::forget;

@@ -2,12 +2,12 @@ ghost use Rattle.std.specs.Prelude.{◌≡◌, ◌≤◌, ◌<◌, ◌+◌, ◌%
 ghost use Rattle.std.specs.Vec.{vec_len, vec_capacity};
 ghost use Rattle.coap_types.specs.declared.message.Kind.TheVariants.{Con, Non};
 ghost use Rattle.coap_codec.specs.Spelling.{message_bytes};
-ghost use Rattle.coap_layer.specs.Parts.{open_before};
+ghost use Rattle.coap_layer.specs.Machine.Parts.{open_before};
 ghost use Rattle.coap_layer.specs.Sendable.{IsSendable};
-ghost use Rattle.coap_layer.specs.Sendings.{open_now};
-ghost use Rattle.coap_layer.specs.Sound.{HasBuffers, HasRoom};
+ghost use Rattle.coap_layer.specs.Machine.Sendings.{open_now};
+ghost use Rattle.coap_layer.specs.Machine.Sound.{HasBuffers, HasRoom};
 ghost use Rattle.coap_layer.specs.Trace.{with_head};
-ghost use Rattle.coap_layer.specs.Ups.{refusal_of};
+ghost use Rattle.coap_layer.specs.Machine.Ups.{refusal_of};
 ghost use Rattle.coap_types.specs.declared.transmission.TheConstants.{ACK_TIMEOUT_MS as ack_timeout, TIMEOUT_VALUES as timeout_values};
 
 use crate::SendRefusal;
@@ -34,14 +34,14 @@ pub(crate) fn refusal(busy: bool, free: bool) -> Option<SendRefusal>
     None
 }
 
-/// The initial timeout that the word picks, in milliseconds.
+// The initial timeout that the word picks, in milliseconds.
 fn initial_timeout(word: u64) -> u16
     ensures { result ≡ ack_timeout + word % timeout_values }
 {
     (ACK_TIMEOUT_MS + word % TIMEOUT_VALUES) as u16
 }
 
-/// Keeps a Confirmable message that is sent now, for which there is room.
+// Keeps a Confirmable message that is sent now, for which there is room.
 fn keep<A: Allocator + Copy>(lists: &mut Lists<A>, sending: Sending<A>)
     requires { vec_len lists.old.sendings < vec_capacity lists.old.sendings }
     ensures sendings { lists.new.sendings.items ≡ lists.old.sendings.items ++ sending ∷ [] }

@@ -2,12 +2,12 @@ ghost use Rattle.std.specs.Prelude.{◌≡◌, ◌≤◌, ◌<◌, ◌+◌, ◌+
 ghost use Rattle.std.specs.List.{filter_map};
 ghost use Rattle.std.specs.Vec.{vec_len, vec_capacity};
 ghost use Rattle.std.specs.VecDeque.{deque_len, deque_capacity};
-ghost use Rattle.coap_layer.specs.Arriving.{awaits_by, hands, keeps, newly_by, open_by};
-ghost use Rattle.coap_layer.specs.Entries.{arrivals_in};
-ghost use Rattle.coap_layer.specs.Parts.{awaited, before_of, state_of_parts};
-ghost use Rattle.coap_layer.specs.Sendings.{answer_for, open_now};
-ghost use Rattle.coap_layer.specs.Sound.{HasRoom, IsPlaced, IsWithin};
-ghost use Rattle.coap_layer.specs.State.{forgotten, is_live, is_remembered, tick_of};
+ghost use Rattle.coap_layer.specs.Machine.Arriving.{awaits_by, hands, keeps, newly_by, open_by};
+ghost use Rattle.coap_layer.specs.Machine.Entries.{arrivals_in};
+ghost use Rattle.coap_layer.specs.Machine.Parts.{awaited, before_of, state_of_parts};
+ghost use Rattle.coap_layer.specs.Machine.Sendings.{answer_for, open_now};
+ghost use Rattle.coap_layer.specs.Machine.Sound.{HasRoom, IsPlaced, IsWithin};
+ghost use Rattle.coap_layer.specs.Machine.State.{forgotten, is_live, is_remembered, tick_of};
 ghost use Rattle.coap_layer.specs.Trace.{Packet, Ticks};
 ghost use Rattle.coap_layer.specs.Words.{left_by};
 

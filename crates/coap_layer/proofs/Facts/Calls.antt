@@ -1,10 +1,10 @@
 -- Several calls lengthen the trace.
 use Rattle.std.proofs.Common.{◌≡◌, ℕ, List, [], ◌∷◌, ◌++◌, ap, sym, ◌∙◌, subst}
 use Rattle.coap_layer.specs.Trace.{Entry}
-use Rattle.coap_layer.specs.State.{State, after, forgotten, made}
-use Rattle.coap_layer.specs.LayerLed.{LayerLed}
-use Rattle.coap_layer.specs.Steps.{Asked, left_after, entries, Steps}
-use Rattle.coap_layer.proofs.Forgetting.{led_step}
+use Rattle.coap_layer.specs.Machine.State.{State, after, forgotten, made}
+use Rattle.coap_layer.specs.Machine.LayerLed.{LayerLed}
+use Rattle.coap_layer.specs.Machine.Steps.{Asked, left_after, entries, Steps}
+use Rattle.coap_layer.proofs.Machine.Forgetting.{led_step}
 
 pub steps_left : (old : State) (calls : List Asked) (new : State) → Steps old calls new → new ≡ left_after old calls
 steps_left old [] new h = h

@@ -11,15 +11,15 @@ use Rattle.coap_layer.specs.Rows.{LayerLaw}
 use Rattle.coap_layer.specs.Follows.{HandedUpOnce, CopiesInTime}
 use Rattle.coap_layer.specs.Sends.{Begins, ConsSpelled, SpellsCon, EachGoesOut, TakenSince}
 use Rattle.coap_layer.specs.Channel.{Hop, Far, near_of, HandedAsSpelled, ChannelLaw, BegunAs, NonsSent, HandedOnce}
-use Rattle.coap_layer.proofs.ComesLemmas as comes
-use Rattle.coap_layer.proofs.CopyLemmas as copies
-use Rattle.coap_layer.proofs.HandedLemmas as handed
-use Rattle.coap_layer.proofs.HopLemmas as hops
-use Rattle.coap_layer.proofs.IdsApart as ids
-use Rattle.coap_layer.proofs.NumberedLemmas as numbered
-use Rattle.coap_layer.proofs.OrderLemmas as order
-use Rattle.coap_layer.proofs.OutLemmas as outs
-use Rattle.coap_layer.proofs.TakenLemmas as takings
+use Rattle.coap_layer.proofs.Between.WhatComesByType as comes
+use Rattle.coap_layer.proofs.Copies.CopiesInTime as copies
+use Rattle.coap_layer.proofs.Arrivals.HandedAsSpelled as handed
+use Rattle.coap_layer.proofs.Between.WhatArrivesWasSent as hops
+use Rattle.coap_layer.proofs.Numbers.EqualIdsAreApart as ids
+use Rattle.coap_layer.proofs.Numbers.OneEntryForAnId as numbered
+use Rattle.coap_layer.proofs.Out.InOrder as order
+use Rattle.coap_layer.proofs.Out.EachGoesOut as outs
+use Rattle.coap_layer.proofs.Between.TakenOnce as takings
 
 pub handed_up_once : (word : ℕ) (t : List Entry) → LayerLaw word t → HandedUpOnce t
 handed_up_once = copies.handed_up_once

@@ -1,6 +1,6 @@
 use Rattle.std.proofs.Common.{arith}
 use Rattle.coap_types.proofs.Facts.Bytes.{are_bytes}
-use Rattle.coap_layer.proofs.ArrivingLemmas.{read_shows}
+use Rattle.coap_layer.proofs.Calls.JudgedByTable.{read_shows}
 use Rattle.coap_layer.proofs.arriving.read.Goals as goal
 
 pub returns-clause-shows : goal.returns-clause-shows

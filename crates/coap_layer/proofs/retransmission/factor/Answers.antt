@@ -1,4 +1,4 @@
-use Rattle.coap_layer.proofs.BackOffLemmas.{short}
+use Rattle.coap_layer.proofs.Copies.BackOffIsShort.{short}
 use Rattle.coap_layer.proofs.retransmission.factor.Goals as goal
 
 pub returns-clause-short : goal.returns-clause-short

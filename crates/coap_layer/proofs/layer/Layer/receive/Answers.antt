@@ -1,16 +1,16 @@
 use Rattle.std.proofs.Common.{rules, ◌≡◌, ap, sym, subst, ◌∙◌, ◌++◌, ℕ, refl, true, false, filter, Some, None}
 use Rattle.std.specs.Option.{option_to_list}
 use Rattle.coap_layer.specs.Arrivals.{arrival_at}
-use Rattle.coap_layer.specs.Arriving.{IsArriving, newly_by, open_by}
-use Rattle.coap_layer.specs.Entries.{arrivals_in}
-use Rattle.coap_layer.specs.Parts.{held}
-use Rattle.coap_layer.specs.Sendings.{open_now}
-use Rattle.coap_layer.specs.Sound.{IsPlaced}
-use Rattle.coap_layer.specs.State.{State, answer_to, is_live, is_remembered}
+use Rattle.coap_layer.specs.Machine.Arriving.{IsArriving, newly_by, open_by}
+use Rattle.coap_layer.specs.Machine.Entries.{arrivals_in}
+use Rattle.coap_layer.specs.Machine.Parts.{held}
+use Rattle.coap_layer.specs.Machine.Sendings.{open_now}
+use Rattle.coap_layer.specs.Machine.Sound.{IsPlaced}
+use Rattle.coap_layer.specs.Machine.State.{State, answer_to, is_live, is_remembered}
 use Rattle.coap_layer.specs.Trace.{Becomes}
-use Rattle.coap_layer.proofs.Forgetting.{led_step}
-use Rattle.coap_layer.proofs.ReceiveLemmas.{received, awaited_so, quiet_so}
-use Rattle.coap_layer.proofs.TakingLemmas.{none_of, room_kept}
+use Rattle.coap_layer.proofs.Machine.Forgetting.{led_step}
+use Rattle.coap_layer.proofs.Calls.Received.{received, awaited_so, quiet_so}
+use Rattle.coap_layer.proofs.Calls.TakenIn.{none_of, room_kept}
 use Rattle.coap_layer.proofs.layer.Layer.receive.Goals as goal
 
 pub take_in-mark-requires-clause-place : goal.take_in-mark-requires-clause-place
