@@ -15,6 +15,7 @@ use Rattle.coap.specs.declared.orders.Order.TheVariants.{Show, Answer}
 use Rattle.coap.specs.declared.orders.Wrong.{Wrong}
 use Rattle.coap.specs.declared.orders.Wrong.TheVariants.{Words, Path, Hex, Memory}
 use Rattle.coap_types.specs.declared.path.PathRefusal.{PathRefusal}
+use Rattle.coap_types.specs.declared.path.TheConstants.{MAX_SEGMENT_LEN as max_segment_len, MAX_SEGMENTS as max_segments}
 
 -- ---- one subcommand, and one value of an argument
 
@@ -35,7 +36,7 @@ not_both e = absurd (let n : 4 ≡ 6 = ap length e in omega (arith, n))
 bytes_or_not : (v : List Row) (bytes : List ℕ) → HasBytes v bytes → HasNoBytes v → ⊥
 bytes_or_not v bytes p q = q.2 bytes (subst (λ (t : Text). decode_of t ≡ Ok bytes) (value_one (codes "HEX") v p.0 q.0 p.1 q.1) p.2)
 
-path_or_not : (v : List Row) (path : List (List ℕ)) (why : PathRefusal) → HasPath v path → HoldsAtMost 16 255 path → HasNoPath v why → ⊥
+path_or_not : (v : List Row) (path : List (List ℕ)) (why : PathRefusal) → HasPath v path → HoldsAtMost max_segments max_segment_len path → HasNoPath v why → ⊥
 path_or_not v path why p holds q =
     let same = value_one (codes "PATH") v p.0 q.0 p.1 q.1 in
     q.2 path (subst (λ (t : Text). Rattle.coap.specs.PathText.IsPathText t path) same p.2) holds
@@ -53,7 +54,7 @@ has_bytes : (name : Text) (v : List Row) (order : Order) → AsksForIn name v or
 has_bytes name v (Show datagram) h = (datagram.items, h.1)
 has_bytes name v (Answer path body datagram) h = (datagram.items, h.4)
 
-has_path : (name : Text) (v : List Row) (order : Order) → name ≡ codes "answer" → AsksForIn name v order → (path : List (List ℕ)) × HasPath v path × HoldsAtMost 16 255 path
+has_path : (name : Text) (v : List Row) (order : Order) → name ≡ codes "answer" → AsksForIn name v order → (path : List (List ℕ)) × HasPath v path × HoldsAtMost max_segments max_segment_len path
 has_path name v (Show datagram) is h = absurd (not_both (sym h.0 ∙ is))
 has_path name v (Answer path body datagram) is h = (path, h.1, h.2)
 

@@ -3,6 +3,7 @@
 use Rattle.std.specs.Prelude.{◌≡◌, ℕ, List, [], Option, Some, None}
 use Rattle.coap_types.specs.Roles.{role_of}
 use Rattle.coap_types.specs.declared.message.Id.{Id}
+use Rattle.coap_types.specs.declared.message.TheConstants.Code as codes
 use Rattle.coap_types.specs.declared.message.Kind.{Kind}
 use Rattle.coap_types.specs.declared.message.Kind.TheVariants.{Con, Non, Ack, Rst}
 use Rattle.coap_types.specs.declared.role.Role.{Role}
@@ -46,4 +47,4 @@ OneArrival = (datagram : List ℕ) (a b : Arrival) → AreBytes datagram → Fir
 
 -- a Reset, with the Message ID of what it rejects (section 4.2)
 abbrev pub reset : Id → Message
-reset id = record { kind = Rst; code = 0; id = id.0; token = []; options = []; payload = [] }
+reset id = record { kind = Rst; code = codes.EMPTY.0; id = id.0; token = []; options = []; payload = [] }

@@ -4,6 +4,7 @@ use Rattle.clap.specs.Words.{IsAmong, Row, Text, fault_of, first_of, kind_of, su
 use Rattle.clap.specs.declared.error.Error.{Error}
 use Rattle.coap_types.specs.Path.{HoldsAtMost}
 use Rattle.coap_types.specs.declared.path.PathRefusal.{PathRefusal}
+use Rattle.coap_types.specs.declared.path.TheConstants.{MAX_SEGMENT_LEN as max_segment_len, MAX_SEGMENTS as max_segments}
 use Rattle.hex.specs.Hex.{decode_of}
 use Rattle.coap.specs.CommandLine.{coap_app}
 use Rattle.coap.specs.PathText.{IsNoPath, IsPathText, IsTrueOf}
@@ -45,7 +46,7 @@ HasNoBytes values = (text : Text) × IsValue (codes "HEX") values text × ((byte
 abbrev pub AsksForIn : Text → List Row → Order → Type 0
 AsksForIn subcommand values (Show datagram) = (subcommand ≡ codes "show") × HasBytes values datagram.items
 AsksForIn subcommand values (Answer path body datagram) =
-    (subcommand ≡ codes "answer") × HasPath values path × HoldsAtMost 16 255 path × IsValue (codes "BODY") values body.now × HasBytes values datagram.items
+    (subcommand ≡ codes "answer") × HasPath values path × HoldsAtMost max_segments max_segment_len path × IsValue (codes "BODY") values body.now × HasBytes values datagram.items
 
 -- the words say this order
 abbrev pub AsksFor : List Text → Order → Type 0
@@ -54,7 +55,7 @@ AsksFor words order = (subcommand : Text) × (values : List Row) × Enters words
 -- the subcommand takes no PATH, or its PATH is a text of a path
 abbrev pub IsPathFine : Text → List Row → Type 0
 IsPathFine subcommand values = (subcommand ≡ codes "show")
-    ⊎ ((subcommand ≡ codes "answer") × (segments : List (List ℕ)) × HasPath values segments × HoldsAtMost 16 255 segments)
+    ⊎ ((subcommand ≡ codes "answer") × (segments : List (List ℕ)) × HasPath values segments × HoldsAtMost max_segments max_segment_len segments)
 
 -- clap refuses the words, and the error is of a kind that they call for
 abbrev pub IsRefusedBy : Error → List Text → Type 0

@@ -11,13 +11,9 @@ use crate::arrival::{Arrival, first_arrival};
 use crate::reply_put::put_reset;
 use coap_resource::Store;
 use coap_types::Role;
+use coap_types::limits::MAX_MESSAGE_LEN;
 use std::alloc::{AllocError, Allocator};
 use thiserror::Error;
-
-/// The most bytes of a message that an end sends (RFC 7252, section 4.6).
-pub const MAX_MESSAGE_LEN: usize = 1_152;
-
-const _: () = prove!(MAX_MESSAGE_LEN == 1_152);
 
 /// Why a datagram has no reply, not even silence.
 #[derive(Clone, Copy, Debug, PartialEq, Eq, Error)]

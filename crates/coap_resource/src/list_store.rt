@@ -71,8 +71,8 @@ impl<A: Allocator + Copy> ListStore<A> {
     }
 }
 
-// The bytes of both, one after the other.
-fn joined<A: Allocator + Copy>(alloc: A, front: &[u8], back: &[u8]) -> Result<Bytes<A>, AllocError>
+// One body of two slices, the one behind the other.
+fn appended<A: Allocator + Copy>(alloc: A, front: &[u8], back: &[u8]) -> Result<Bytes<A>, AllocError>
     ensures { IfOk result (λ body. body ≡ front.now ++ back.now) }
 {
     let mut body = Vec::from_slice(alloc, front)?;
@@ -152,7 +152,7 @@ impl<A: Allocator + Copy> Store<A> for ListStore<A> {
         let tally = self.tally.counted(now);
         let version = tally.version;
         let format = held.format;
-        let body = joined(*self.entries.allocator(), &held.body, body)?;
+        let body = appended(*self.entries.allocator(), &held.body, body)?;
         put_in(
             &mut self.entries,
             path,
