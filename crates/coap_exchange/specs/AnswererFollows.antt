@@ -6,7 +6,7 @@ use Rattle.coap_types.specs.Recognised.{has_number}
 use Rattle.coap_types.specs.declared.endpoint.Endpoint.{Endpoint}
 use Rattle.coap_types.specs.SameEndpoint.{same_endpoint}
 use Rattle.coap_codec.specs.Message.{Message, Spells, kind_number}
-use Rattle.coap_layer.specs.State as L
+use Rattle.coap_layer.specs.Machine.State as L
 use Rattle.coap_exchange.specs.declared.answerer.Asked.{Asked}
 use Rattle.coap_exchange.specs.declared.answerer.Ended.{Ended}
 use Rattle.coap_exchange.specs.AnswererTrace.{Call, Incoming, Answers, Ticks, Responds, Notifies}

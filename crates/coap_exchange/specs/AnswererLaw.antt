@@ -1,7 +1,7 @@
 -- The law of the server's side, over whole traces of its calls, the newest first (RFC 7252, section 5.2).
 use Rattle.std.specs.Prelude.{ℕ, List}
-use Rattle.coap_layer.specs.State as L
-use Rattle.coap_layer.specs.Steps.{Asked, Steps, entries}
+use Rattle.coap_layer.specs.Machine.State as L
+use Rattle.coap_layer.specs.Machine.Steps.{Asked, Steps, entries}
 use Rattle.coap_layer.specs.Trace.{Entry}
 use Rattle.coap_exchange.specs.Above as above
 use Rattle.coap_exchange.specs.Above.{sum_of, asked_by, Rows}

@@ -11,16 +11,17 @@ use Rattle.coap_types.specs.declared.message.Kind.{Kind}
 use Rattle.coap_types.specs.declared.message.Kind.TheVariants.{Con, Ack}
 use Rattle.coap_types.specs.SameEndpoint.{same_endpoint}
 use Rattle.coap_codec.specs.Message.{Message}
-use Rattle.coap_codec.specs.Writing.{message_bytes}
+use Rattle.coap_codec.specs.Spelling.{message_bytes}
 use Rattle.coap_layer.specs.Rows.{IsSpelled}
 use Rattle.coap_layer.specs.Trace as L
 use Rattle.coap_layer.specs.Trace.{with_head}
 use Rattle.coap_layer.specs.Words.{is_kept, same}
-use Rattle.coap_layer.specs.Steps.{Asked as Below}
+use Rattle.coap_layer.specs.Machine.Steps.{Asked as Below}
 use Rattle.coap_exchange.specs.declared.answerer.Asked.{Asked}
 use Rattle.coap_exchange.specs.declared.answerer.Due.{Due}
 use Rattle.coap_exchange.specs.declared.answerer.Due.TheVariants as due
 use Rattle.coap_exchange.specs.declared.answerer.Ended.{Ended}
+use Rattle.coap_exchange.specs.declared.deferrals.TheConstants.{MAX_DEFERRED as most_deferred}
 use Rattle.coap_exchange.specs.declared.separate.Deferred.{Deferred}
 use Rattle.coap_exchange.specs.declared.separate.Separate.{Separate}
 use Rattle.coap_exchange.specs.AnswererTrace.{Response, Own, Call, Incoming, Answers, Defers, Ticks, Responds, Ready, Notifies, Take}
@@ -111,10 +112,10 @@ IsResponse a r = IsResponseWith a.token r
 abbrev pub separate_of : Endpoint → ℕ → List ℕ → Response → Separate
 separate_of to id token r = record { to = to; id = record { 0 = id }; token = token; observe = has_number observe r.options }
 
--- deferral (section 5.2.2): an Empty acknowledgement now, and a CON later; at most 16 are deferred (profile)
+-- deferral (section 5.2.2): an Empty acknowledgement now, and a CON later; at most so many are deferred (profile)
 
 abbrev pub max_deferred : ℕ
-max_deferred = 16
+max_deferred = most_deferred
 
 abbrev pub may_defer : List Deferred → Bool
 may_defer ds = nat_lt (length ds) max_deferred

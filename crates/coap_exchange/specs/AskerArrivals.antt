@@ -1,13 +1,15 @@
 -- What a client makes of what the message layer hands up, and of time (RFC 7252, sections 4.2, 5.2 and 5.3.2).
 use Rattle.std.specs.Prelude.{ℕ, ◌-◌, nat_le, Bool, true, false, Option, Some, None, List, [], ◌∷◌, ◌++◌, ◌&&◌, ◌==◌, if◌then◌else◌}
 use Rattle.std.specs.Option.{option_map}
-use Rattle.coap_types.specs.Unrecognised.{lacks_critical, carries}
+use Rattle.coap_types.specs.Recognised.{lacks_critical, carries}
 use Rattle.coap_types.specs.declared.direction.Direction.TheVariants.{Response}
 use Rattle.coap_types.specs.declared.endpoint.Endpoint.{Endpoint}
+use Rattle.coap_types.specs.declared.option_number.TheConstants.{OBSERVE as option_observe}
+use Rattle.coap_types.specs.declared.transmission.TheConstants.{EXCHANGE_LIFETIME_MS as exchange_lifetime}
 use Rattle.coap_types.specs.SameEndpoint.{same_endpoint}
 use Rattle.coap_codec.specs.Message.{Message}
 use Rattle.coap_layer.specs.Trace as L
-use Rattle.coap_layer.specs.Steps.{Asked}
+use Rattle.coap_layer.specs.Machine.Steps.{Asked}
 use Rattle.coap_exchange.specs.declared.asker.Event.{Event}
 use Rattle.coap_exchange.specs.declared.asker.Event.TheVariants as event
 use Rattle.coap_exchange.specs.declared.asker.Turn.{Turn}
@@ -36,7 +38,7 @@ is_cancel (Some x) = x.cancel
 
 -- the number of the option Observe (RFC 7641, section 2)
 abbrev pub observe : ℕ
-observe = 6
+observe = option_observe
 
 abbrev pub known_of : Own → Endpoint → Message → Known
 known_of s from m =
@@ -112,7 +114,7 @@ running_after at _ running = running
 
 abbrev pub has_waited : ℕ → Option ℕ → Bool
 has_waited at None = false
-has_waited at (Some acked) = nat_le 247000 (at - acked)
+has_waited at (Some acked) = nat_le exchange_lifetime (at - acked)
 
 abbrev pub acked_in : Option Exchange → Option ℕ
 acked_in None = None

@@ -2,6 +2,7 @@
 use Rattle.std.specs.Prelude.{◌≡◌, ◌↔◌, ◌≤◌, ◌<◌, ℕ, ◌+◌, ◌-◌, ◌*◌, ◌%◌, ◌^◌, max, Bool, true, false, IsTrue, Option, Some, None, List, [], ◌∷◌, length, Ok, Err}
 use Rattle.coap_types.specs.Past.{Ever, Always, Since}
 use Rattle.coap_types.specs.declared.endpoint.Endpoint.{Endpoint}
+use Rattle.coap_types.specs.declared.transmission.TheConstants.{ACK_TIMEOUT_MS as ack_timeout, EXCHANGE_LIFETIME_MS as exchange_lifetime, FAILURE_TIMEOUTS as failure_timeouts, TIMEOUT_VALUES as timeout_values}
 use Rattle.coap_types.specs.SameEndpoint.{same_endpoint}
 use Rattle.coap_codec.specs.Message.{Message, Spells}
 use Rattle.coap_exchange.specs.declared.asker.Event.{Event}
@@ -126,22 +127,22 @@ module _ (server : Endpoint) (word : ℕ) where
 
   abbrev pub last_begun : List Call → Option Begun
   last_begun [] = None
-  last_begun (Ask now r w below (Ok token) ∷ past) = Some (record { at = moment past now; timeout = 2000 + w % 1001 })
+  last_begun (Ask now r w below (Ok token) ∷ past) = Some (record { at = moment past now; timeout = ack_timeout + w % timeout_values })
   last_begun (c ∷ past) = last_begun past
 
-  -- a Timeout comes 31 initial timeouts after the request was sent, and no earlier
+  -- a Timeout comes FAILURE_TIMEOUTS initial timeouts after the request was sent, and no earlier
   pub record TimesOut (past : List Call) (now : ℕ) : Type 0 where
     pub begun : Begun
     pub last : last_begun past ≡ Some begun
-    pub late : begun.timeout * 31 ≤ moment past now - begun.at
+    pub late : begun.timeout * failure_timeouts ≤ moment past now - begun.at
 
-  -- NoResponse comes 247,000 ms after the Empty acknowledgement, and no earlier
+  -- NoResponse comes EXCHANGE_LIFETIME after the Empty acknowledgement, and no earlier
   pub record GivesUp (past : List Call) (now : ℕ) : Type 0 where
     pub exchange : Exchange
     pub runs : (own_of server word past).running ≡ Some exchange
     pub acked : ℕ
     pub since : exchange.acked ≡ Some acked
-    pub late : 247000 ≤ moment past now - acked
+    pub late : exchange_lifetime ≤ moment past now - acked
 
   pub record InTime (past : List Call) (c : Call) : Type 0 where
     pub timeout : (now : ℕ) (below : _) → c ≡ Ticks now below (turn.End event.Timeout) → TimesOut past now

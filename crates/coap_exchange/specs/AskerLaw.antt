@@ -1,8 +1,8 @@
 -- The law of the client's side, over whole traces of its calls, the newest first (RFC 7252, section 5).
 use Rattle.std.specs.Prelude.{ℕ, List}
 use Rattle.coap_types.specs.declared.endpoint.Endpoint.{Endpoint}
-use Rattle.coap_layer.specs.State as L
-use Rattle.coap_layer.specs.Steps.{Asked, Steps, entries}
+use Rattle.coap_layer.specs.Machine.State as L
+use Rattle.coap_layer.specs.Machine.Steps.{Asked, Steps, entries}
 use Rattle.coap_layer.specs.Trace.{Entry}
 use Rattle.coap_exchange.specs.Above as above
 use Rattle.coap_exchange.specs.Above.{sum_of, asked_by, Rows}

@@ -1,21 +1,21 @@
 ghost use Rattle.std.specs.Prelude.{◌≡◌, ◌≢◌, ◌≤◌, ℕ, max, length, IfSome, Bool, ◌&&◌, true, false, None, Some, List, [], ◌∷◌, IsSome, is_some, IsOk, IfOk, OnOk, OnErr};
 ghost use Rattle.coap_types.specs.declared.endpoint.Endpoint.{Endpoint as EndpointSpec};
 ghost use Rattle.coap_types.specs.declared.message.Kind.TheVariants.{Con};
-ghost use Rattle.coap_layer.specs.State.{answer_of, copies, is_free, made};
+ghost use Rattle.coap_layer.specs.Machine.State.{answer_of, copies, is_free, made};
 ghost use Rattle.coap_layer.specs.Trace as below;
-ghost use Rattle.coap_layer.specs.Ups.{IsQuiet};
+ghost use Rattle.coap_layer.specs.Machine.Ups.{IsQuiet};
 ghost use Rattle.coap_exchange.specs.declared.answerer.Asked.{Asked as AskedSpec};
 ghost use Rattle.coap_exchange.specs.declared.answerer.Due.TheVariants as dues;
 ghost use Rattle.coap_exchange.specs.AnswererSteps.{asked_in, ready_at};
 ghost use Rattle.coap_exchange.specs.AnswererLaw.{Led, Step, fresh_state};
-ghost use Rattle.coap_exchange.specs.Machine.AnswererShown.{MayAnswer, MayNotify, MayRespond, IsAnswer, IsAnswerWith};
+ghost use Rattle.coap_exchange.specs.Machine.AnswererShown.{Leads, MayAnswer, MayNotify, MayRespond, IsAnswer, IsAnswerWith};
 ghost use Rattle.coap_exchange.specs.AnswererTrace.{Call, Incoming, Answers, Defers, Ticks, Responds, Ready, Notifies, Take};
 
 use crate::deferrals::Deferrals;
 use crate::empty::ack;
 use crate::listed::{Listed, enlist, put_back, settle_down};
 use crate::replies::{
-    after_arrival, asked_in, copied, copied_end, handed_up, reject, reset_by, send,
+    after_arrival, asked_in, copied, copied_end, handed_up, keeps_room, reject, reset_by, send,
 };
 use crate::separate::{Deferred, Separate};
 use crate::waiting::{
@@ -186,7 +186,7 @@ impl<A: Allocator + Copy> Answerer<A> {
         bytes: &'d [u8],
     ) -> Result<Option<(Asked, View<'d>)>, AllocError>
         ensures step { IfOk result (λ answer. (up : below.Answer) × Step self.old.state (Incoming now.0 from bytes.now up answer) self.new.state) }
-        ensures led { (word : ℕ) (t : List Call) → Led word t self.old.state → IfOk result (λ answer. (up : below.Answer) × Led word (Incoming now.0 from bytes.now up answer ∷ t) self.new.state) }
+        ensures led { IfOk result (λ answer. (up : below.Answer) × Leads self.old (Incoming now.0 from bytes.now up answer) self.new) }
         ensures answerable { OnOk result (self.new.answerable ≡ true) }
         ensures few { IfOk result (λ answer. IfSome (asked_in answer) (λ asked. length asked.token ≤ 8)) }
         // What hands up a request ends nothing.
@@ -209,7 +209,7 @@ impl<A: Allocator + Copy> Answerer<A> {
         let asked = asked_in(from, &up);
         self.pending = copied(&asked);
         self.answerable = true;
-        self.room = self.room && !rejected;
+        self.room = keeps_room(self.room, rejected);
         Ok(handed_up(asked, up))
     }
 
@@ -220,7 +220,7 @@ impl<A: Allocator + Copy> Answerer<A> {
         requires may { MayAnswer self.old asked.now }
         requires response { IsAnswer asked.now response.now }
         ensures step { (sent : below.Answer) × Step self.old.state (Answers asked.now response.now sent) self.new.state }
-        ensures led { (word : ℕ) (t : List Call) → Led word t self.old.state → (sent : below.Answer) × Led word (Answers asked.now response.now sent ∷ t) self.new.state }
+        ensures led { (sent : below.Answer) × Leads self.old (Answers asked.now response.now sent) self.new }
         ensures before { self.new.before ≡ self.old.before }
     {
         send(&mut self.layer, asked, response);
@@ -235,7 +235,7 @@ impl<A: Allocator + Copy> Answerer<A> {
         requires may { MayAnswer self.old asked.now }
         requires con { asked.now.kind ≡ Con }
         ensures step { Step self.old.state (Defers now.0 asked.now delay_ms result) self.new.state }
-        ensures led { (word : ℕ) (t : List Call) → Led word t self.old.state → Led word (Defers now.0 asked.now delay_ms result ∷ t) self.new.state }
+        ensures led { Leads self.old (Defers now.0 asked.now delay_ms result) self.new }
         ensures answerable { self.new.answerable ≡ true }
         // Where a notification could be sent and nothing is sent now, it still can.
         ensures kept { result ≡ false → (at : ℕ) (there : EndpointSpec) → MayNotify self.old at there → MayNotify self.new at there }
@@ -261,7 +261,7 @@ impl<A: Allocator + Copy> Answerer<A> {
     /// 5.2.2). `respond` is to be called for that, at the same moment, and takes no memory then.
     pub fn tick(&mut self, now: Moment) -> Result<Due, AllocError>
         ensures step { IfOk result (λ due. (done : below.Answer) × (room : Bool) × Step self.old.state (Ticks now.0 done room due) self.new.state) }
-        ensures led { (word : ℕ) (t : List Call) → Led word t self.old.state → IfOk result (λ due. (done : below.Answer) × (room : Bool) × Led word (Ticks now.0 done room due ∷ t) self.new.state) }
+        ensures led { IfOk result (λ due. (done : below.Answer) × (room : Bool) × Leads self.old (Ticks now.0 done room due) self.new) }
         ensures ready { IfOk result (λ due. (a : AskedSpec) → due ≡ dues.Ready a → MayRespond self.new now.0 a) }
         ensures few { IfOk result (λ due. (a : AskedSpec) → due ≡ dues.Ready a → length a.token ≤ 8) }
         // Where a notification could be sent, it still can.
@@ -298,7 +298,7 @@ impl<A: Allocator + Copy> Answerer<A> {
         requires may { MayRespond self.old now.0 asked.now }
         requires response { IsAnswer asked.now response.now }
         ensures step { Step self.old.state (Responds now.0 asked.now response.now word result.0) self.new.state }
-        ensures led { (begin : ℕ) (t : List Call) → Led begin t self.old.state → Led begin (Responds now.0 asked.now response.now word result.0 ∷ t) self.new.state }
+        ensures led { Leads self.old (Responds now.0 asked.now response.now word result.0) self.new }
         ensures before { self.new.before ≡ self.old.before }
     {
         let id = confirm(
@@ -330,7 +330,7 @@ impl<A: Allocator + Copy> Answerer<A> {
     /// may be called at the same moment, and takes no memory. Where it is false, it takes no memory.
     pub fn ready(&mut self, now: Moment, to: Endpoint) -> Result<bool, AllocError>
         ensures step { IfOk result (λ may. Step self.old.state (Ready now.0 to may) self.new.state) }
-        ensures led { (word : ℕ) (t : List Call) → Led word t self.old.state → IfOk result (λ may. Led word (Ready now.0 to may ∷ t) self.new.state) }
+        ensures led { IfOk result (λ may. Leads self.old (Ready now.0 to may) self.new) }
         ensures may { IfOk result (λ may. may ≡ true → MayNotify self.new now.0 to) }
         ensures answerable { self.new.answerable ≡ self.old.answerable }
         // Where a notification could be sent, it still can.
@@ -362,7 +362,7 @@ impl<A: Allocator + Copy> Answerer<A> {
         requires may { MayNotify self.old now.0 to }
         requires response { IsAnswerWith token.now response.now }
         ensures step { Step self.old.state (Notifies now.0 to token.now response.now word result.0) self.new.state }
-        ensures led { (begin : ℕ) (t : List Call) → Led begin t self.old.state → Led begin (Notifies now.0 to token.now response.now word result.0 ∷ t) self.new.state }
+        ensures led { Leads self.old (Notifies now.0 to token.now response.now word result.0) self.new }
         ensures before { self.new.before ≡ self.old.before }
     {
         let id = confirm(&mut self.layer, now, to, token, response, word);
@@ -376,7 +376,7 @@ impl<A: Allocator + Copy> Answerer<A> {
     /// memory.
     pub fn next_out(&mut self) -> Option<Datagram<A>>
         ensures step { Step self.old.state (Take result) self.new.state }
-        ensures led { (word : ℕ) (t : List Call) → Led word t self.old.state → Led word (Take result ∷ t) self.new.state }
+        ensures led { Leads self.old (Take result) self.new }
         ensures answerable { self.new.answerable ≡ self.old.answerable }
         // Where a notification could be sent, it still can.
         ensures kept { (at : ℕ) (there : EndpointSpec) → MayNotify self.old at there → MayNotify self.new at there }

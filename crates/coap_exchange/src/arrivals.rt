@@ -1,11 +1,11 @@
 ghost use Rattle.std.specs.Prelude.{◌≡◌, ℕ, Bool, true, ◌++◌, is_some, if◌then◌else◌};
 ghost use Rattle.std.specs.Option.{option_map};
-ghost use Rattle.coap_types.specs.Unrecognised as options;
+ghost use Rattle.coap_types.specs.Recognised as options;
 ghost use Rattle.coap_types.specs.declared.direction.Direction.TheVariants as direction;
-ghost use Rattle.coap_layer.specs.Shown.{MayReply};
-ghost use Rattle.coap_layer.specs.Steps.{Steps};
+ghost use Rattle.coap_layer.specs.Machine.Shown.{MayReply};
+ghost use Rattle.coap_layer.specs.Machine.Steps.{Steps};
 ghost use Rattle.coap_layer.specs.Trace as below;
-ghost use Rattle.coap_layer.specs.Ups.{answer_as, IsTick};
+ghost use Rattle.coap_layer.specs.Machine.Ups.{answer_as, IsTick};
 ghost use Rattle.coap_exchange.specs.declared.asker.AskRefusal.TheVariants as refusals;
 ghost use Rattle.coap_exchange.specs.declared.asker.Event.TheVariants as events;
 ghost use Rattle.coap_exchange.specs.declared.asker.Turn.TheVariants as turns;

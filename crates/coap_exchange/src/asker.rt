@@ -1,14 +1,14 @@
 ghost use Rattle.std.specs.Prelude.{◌≡◌, ◌≢◌, ◌≤◌, ℕ, length, IfSome, Bool, false, List, [], ◌∷◌, None, Some, Err, IsOk, IfOk, OnOk, OnErr, IsSome, max};
 ghost use Rattle.coap_types.specs.declared.endpoint.Endpoint.{Endpoint};
-ghost use Rattle.coap_layer.specs.State.{answer_of, copies, made};
+ghost use Rattle.coap_layer.specs.Machine.State.{answer_of, copies, made};
 ghost use Rattle.coap_layer.specs.Trace as below;
-ghost use Rattle.coap_layer.specs.Ups.{IsQuiet};
+ghost use Rattle.coap_layer.specs.Machine.Ups.{IsQuiet};
 ghost use Rattle.coap_exchange.specs.declared.asker.AskRefusal.TheVariants as refusals;
 ghost use Rattle.coap_exchange.specs.declared.matching.Opening.TheVariants as openings;
 ghost use Rattle.coap_exchange.specs.AskerFollows.{message_told};
 ghost use Rattle.coap_exchange.specs.AskerLaw.{Led, Step, fresh_state};
 ghost use Rattle.coap_exchange.specs.AskerRequests.{opening_of};
-ghost use Rattle.coap_exchange.specs.Machine.AskerShown.{IsAskable};
+ghost use Rattle.coap_exchange.specs.Machine.AskerShown.{IsAskable, Leads};
 ghost use Rattle.coap_exchange.specs.AskerTrace.{Call, Ask as Asks, Receive, Ticks, Keep, Release, Take};
 
 use crate::arrivals::{
@@ -160,7 +160,7 @@ impl<A: Allocator + Copy> Asker<A> {
     pub fn ask(&mut self, now: Moment, ask: &Ask<'_>, word: u64) -> Result<Token, AskRefusal>
         requires { IsAskable ask.now }
         ensures step { result ≢ Err refusals.Memory → (answer : below.Answer) × Step self.old.state (Asks now.0 ask.now word answer result) self.new.state }
-        ensures led { (server : Endpoint) (begin : ℕ) (t : List Call) → Led server begin t self.old.state → result ≢ Err refusals.Memory → (answer : below.Answer) × Led server begin (Asks now.0 ask.now word answer result ∷ t) self.new.state }
+        ensures led { result ≢ Err refusals.Memory → (answer : below.Answer) × Leads self.old (Asks now.0 ask.now word answer result) self.new }
         ensures few { IfOk result (λ token. length token ≤ 8) }
         ensures before { self.new.before ≡ self.old.before }
         ensures memory { result ≡ Err refusals.Memory → self.new ≡ self.old }
@@ -217,7 +217,7 @@ impl<A: Allocator + Copy> Asker<A> {
         bytes: &'d [u8],
     ) -> Result<Option<Event<'d>>, AllocError>
         ensures step { IfOk result (λ event. (up : below.Answer) × (settled : Bool) × Step self.old.state (Receive now.0 from bytes.now up settled event) self.new.state) }
-        ensures led { (server : Endpoint) (word : ℕ) (t : List Call) → Led server word t self.old.state → IfOk result (λ event. (up : below.Answer) × (settled : Bool) × Led server word (Receive now.0 from bytes.now up settled event ∷ t) self.new.state) }
+        ensures led { IfOk result (λ event. (up : below.Answer) × (settled : Bool) × Leads self.old (Receive now.0 from bytes.now up settled event) self.new) }
         ensures few { IfOk result (λ event. IfSome (message_told event) (λ m. length m.token ≤ 8)) }
         ensures before { OnOk result (self.new.before ≡ Some self.old.state) }
         ensures err { OnErr result (self.new ≡ self.old) }
@@ -246,7 +246,7 @@ impl<A: Allocator + Copy> Asker<A> {
     /// for a response (RFC 7252, sections 4.2 and 5.2.2).
     pub fn tick(&mut self, now: Moment) -> Result<Turn, AllocError>
         ensures step { IfOk result (λ turn. (answer : below.Answer) × Step self.old.state (Ticks now.0 answer turn) self.new.state) }
-        ensures led { (server : Endpoint) (word : ℕ) (t : List Call) → Led server word t self.old.state → IfOk result (λ turn. (answer : below.Answer) × Led server word (Ticks now.0 answer turn ∷ t) self.new.state) }
+        ensures led { IfOk result (λ turn. (answer : below.Answer) × Leads self.old (Ticks now.0 answer turn) self.new) }
         ensures before { OnOk result (self.new.before ≡ Some self.old.state) }
         ensures err { OnErr result (self.new ≡ self.old) }
         ensures quiet { copies (max self.old.state.own.clock now.0) self.old.state.layer.open_cons ≡ [] → IsOk result }
@@ -263,7 +263,7 @@ impl<A: Allocator + Copy> Asker<A> {
     /// 3.2); false where 16 others are kept. It takes no memory.
     pub fn keep(&mut self, token: &Token) -> bool
         ensures step { Step self.old.state (Keep token.now result) self.new.state }
-        ensures led { (server : Endpoint) (word : ℕ) (t : List Call) → Led server word t self.old.state → Led server word (Keep token.now result ∷ t) self.new.state }
+        ensures led { Leads self.old (Keep token.now result) self.new }
         ensures before { self.new.before ≡ self.old.before }
     {
         self.held.kept.keep(token)
@@ -273,7 +273,7 @@ impl<A: Allocator + Copy> Asker<A> {
     /// It takes no memory.
     pub fn release(&mut self, token: &Token) -> bool
         ensures step { Step self.old.state (Release token.now result) self.new.state }
-        ensures led { (server : Endpoint) (word : ℕ) (t : List Call) → Led server word t self.old.state → Led server word (Release token.now result ∷ t) self.new.state }
+        ensures led { Leads self.old (Release token.now result) self.new }
         ensures before { self.new.before ≡ self.old.before }
     {
         self.held.kept.release(token)
@@ -283,7 +283,7 @@ impl<A: Allocator + Copy> Asker<A> {
     /// memory.
     pub fn next_out(&mut self) -> Option<Datagram<A>>
         ensures step { Step self.old.state (Take result) self.new.state }
-        ensures led { (server : Endpoint) (word : ℕ) (t : List Call) → Led server word t self.old.state → Led server word (Take result ∷ t) self.new.state }
+        ensures led { Leads self.old (Take result) self.new }
         ensures before { self.new.before ≡ None }
     {
         self.layer.next_out()

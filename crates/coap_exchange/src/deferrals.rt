@@ -1,6 +1,6 @@
 ghost use Rattle.std.specs.Prelude.{◌≡◌, ◌≤◌, ◌<◌, [], ◌∷◌, length, remove, IfSome, IfNone};
 ghost use Rattle.std.specs.Option.{option_map};
-ghost use Rattle.coap_exchange.specs.AnswererSteps.{deferred_with, first_ready, may_defer, without_ready};
+ghost use Rattle.coap_exchange.specs.AnswererSteps.{max_deferred, deferred_with, first_ready, may_defer, without_ready};
 ghost use Rattle.coap_exchange.specs.Machine.Listed.{listed};
 
 use crate::answerer::Asked;
@@ -31,7 +31,7 @@ impl Model for Deferrals {
 
 // The same requests again.
 fn copied(requests: &[Deferred]) -> ArrayVec<Deferred, MAX_DEFERRED>
-    requires { length requests.now ≤ 16 }
+    requires { length requests.now ≤ max_deferred }
     ensures { result.items ≡ requests.now }
 {
     let mut copies = ArrayVec::new();

@@ -7,8 +7,9 @@ ghost use Rattle.coap_exchange.specs.AskerExact.{IsExact};
 ghost use Rattle.coap_exchange.specs.AskerFollows.{AreExchanges, AreTokens, EndInTime, FewKept, AreFromServer};
 ghost use Rattle.coap_exchange.specs.AskerDue.{EndWhenDue};
 ghost use Rattle.coap_exchange.specs.AskerTells.{AreRefused, AreRejected};
-ghost use Rattle.coap_exchange.specs.AskerResponses.{AreMatched};
-ghost use Rattle.coap_exchange.specs.Machine.AskerShown.{IsAskableWhenShort};
+ghost use Rattle.coap_exchange.specs.AskerResponses.{AreMatched, AreToldAs};
+ghost use Rattle.coap_exchange.specs.AskerEmpties as empties;
+ghost use Rattle.coap_exchange.specs.ShortRequests.{IsAskableWhenShort, IsAskableWhenShortExactly};
 ghost use Rattle.coap_exchange.specs.ShortAnswers.{IsAnswerWhenShort, IsNotificationWhenShort};
 ghost use Rattle.coap_exchange.specs.ClientExample as client_example;
 ghost use Rattle.coap_exchange.specs.ServerExample as server_example;
@@ -17,6 +18,7 @@ ghost use Rattle.coap_exchange.specs.AnswererLaw as answerer;
 ghost use Rattle.coap_exchange.specs.AnswererLaw.{ResponseLaw};
 ghost use Rattle.coap_exchange.specs.AnswererExact as exactly;
 ghost use Rattle.coap_exchange.specs.AnswererSends.{AllGoBack, BeginAlone};
+ghost use Rattle.coap_exchange.specs.AnswererEmpties as rejections;
 ghost use Rattle.coap_exchange.specs.AnswererTells.{EndsTold, HandsOrEnds};
 ghost use Rattle.coap_exchange.specs.AnswererDeferrals.{DeferredLongEnough, ReadyWhenDue, EarliestReady};
 ghost use Rattle.coap_exchange.specs.AnswererFollows.{AreResponses, AreRequests, EndsOnce, WaitsForOutstanding, FewDeferred};
@@ -50,6 +52,11 @@ pub fn asker_law()
     // .. has no critical option that is not recognised (section 5.4.1), and matches in Message ID where it is
     // piggybacked (section 5.3.2).
     ensures matched { (server : Endpoint) (word : ℕ) (t : List Call) → ExchangeLaw server word t → AreMatched server word t }
+    // A response with the token of the exchange that runs is its answer, and one with a kept token alone a
+    // notification (RFC 7252, section 5.3.2; RFC 7641, section 3.2).
+    ensures told_as { (server : Endpoint) (word : ℕ) (t : List Call) → ExchangeLaw server word t → AreToldAs server word t }
+    // What arrives is acknowledged, rejected or neither (RFC 7252, sections 4.2, 4.3 and 5.3.2).
+    ensures replied { (server : Endpoint) (word : ℕ) (t : List Call) → ExchangeLaw server word t → empties.AreReplied server word t }
     // A Reset that is told is that of the request of the exchange (RFC 7252, section 4.2).
     ensures rejected { (server : Endpoint) (word : ℕ) (t : List Call) → ExchangeLaw server word t → AreRejected server word t }
 {}
@@ -85,6 +92,8 @@ pub fn answerer_law()
     ensures earliest { (word : ℕ) (t : List trace.Call) → ResponseLaw word t → EarliestReady t }
     // A response goes to its request's endpoint and carries its token (RFC 7252, sections 5.2 and 5.3.2).
     ensures back { (word : ℕ) (t : List trace.Call) → ResponseLaw word t → AllGoBack word t }
+    // A response that arrives is rejected, and a request that is deferred acknowledged (RFC 7252, sections 4.3 and 5.2.2).
+    ensures replied { (word : ℕ) (t : List trace.Call) → ResponseLaw word t → rejections.AreReplied t }
     // A CON begins only where none to its endpoint is outstanding (RFC 7252, section 4.7).
     ensures alone { (word : ℕ) (t : List trace.Call) → ResponseLaw word t → BeginAlone word t }
     ensures few { (word : ℕ) (t : List trace.Call) → ResponseLaw word t → FewDeferred t }
@@ -93,7 +102,8 @@ pub fn answerer_law()
 /// A request may be asked that isn't Empty, whose options ascend and are short, and that is short
 /// enough (RFC 7252, section 4.6).
 pub fn askable_law()
-    ensures { IsAskableWhenShort }
+    ensures counted { IsAskableWhenShort }
+    ensures exact { IsAskableWhenShortExactly }
 {}
 
 /// A response may be given whose code is of class 2 to 5, whose options ascend and are short, and

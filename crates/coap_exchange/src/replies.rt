@@ -1,17 +1,18 @@
-ghost use Rattle.std.specs.Prelude.{◌≡◌, ◌≤◌, ℕ, Some, None, IfSome, is_some, length, take, true};
+ghost use Rattle.std.specs.Prelude.{◌≡◌, ◌≤◌, ℕ, Some, None, IfSome, is_some, length, take, true, ◌&&◌, not};
 ghost use Rattle.std.specs.Option.{option_map};
 ghost use Rattle.std.specs.Vec.{vec_len, vec_capacity};
 ghost use Rattle.coap_types.specs.declared.message.Kind.TheVariants.{Con, Ack};
+ghost use Rattle.coap_types.specs.declared.limits.TheConstants.{MAX_MESSAGE_LEN as max_message_len};
 ghost use Rattle.coap_codec.specs.Message.{Message};
-ghost use Rattle.coap_codec.specs.Writing.{message_bytes};
+ghost use Rattle.coap_codec.specs.Spelling.{message_bytes};
 ghost use Rattle.coap_layer.specs.Sendable.{IsSendable};
-ghost use Rattle.coap_layer.specs.Shown.{MayReply};
-ghost use Rattle.coap_layer.specs.State as layer_state;
-ghost use Rattle.coap_layer.specs.State.{is_free};
-ghost use Rattle.coap_layer.specs.Steps.{Steps};
+ghost use Rattle.coap_layer.specs.Machine.Shown.{MayReply};
+ghost use Rattle.coap_layer.specs.Machine.State as layer_state;
+ghost use Rattle.coap_layer.specs.Machine.State.{is_free};
+ghost use Rattle.coap_layer.specs.Machine.Steps.{Steps};
 ghost use Rattle.coap_layer.specs.Trace as below;
 ghost use Rattle.coap_layer.specs.Trace.{with_head};
-ghost use Rattle.coap_layer.specs.Ups.{answer_as};
+ghost use Rattle.coap_layer.specs.Machine.Ups.{answer_as};
 ghost use Rattle.coap_layer.specs.Words.{handed_by};
 ghost use Rattle.coap_exchange.specs.Machine.AnswererShown.{Takes};
 ghost use Rattle.coap_types.specs.declared.endpoint.Endpoint.{Endpoint};
@@ -26,7 +27,8 @@ use crate::empty::reset;
 use crate::listed::Listed;
 use crate::separate::{Separate, found, take_off};
 use coap_codec::{Head, View, encode, one_spelling};
-use coap_layer::{Content, Layer, MAX_MESSAGE_LEN, Up};
+use coap_layer::{Content, Layer, Up};
+use coap_types::limits::MAX_MESSAGE_LEN;
 use coap_types::{Endpoint, Kind, Token};
 use std::alloc::Allocator;
 
@@ -131,6 +133,13 @@ pub(crate) fn reject<A: Allocator + Copy>(
     }
 }
 
+/// Whether there is still room for a message, where there was and a response was rejected or not.
+pub(crate) fn keeps_room(room: bool, rejected: bool) -> bool
+    ensures { result ≡ (room && not rejected) }
+{
+    room && !rejected
+}
+
 /// The separate response that a Reset ends (RFC 7252, section 5.2.2).
 pub(crate) fn reset_by(from: Endpoint, up: &Up<'_>, separate: &[Listed<Separate>]) -> Option<Ended>
     ensures { result ≡ reset_by from (answer_as up.now) (listed separate.now) }
@@ -185,7 +194,7 @@ fn head_of(asked: &Asked, response: &Response<'_>) -> Head
 // Spells the piggybacked response from the start of the buffer on, and answers its length.
 fn spell(asked: &Asked, response: &Response<'_>, buffer: &mut [u8]) -> usize
     requires sendable { IsSendable (content_of asked.now response.now) }
-    requires room { length buffer.old ≡ 1152 }
+    requires room { length buffer.old ≡ max_message_len }
     ensures bytes { take result buffer.new ≡ message_bytes (with_head Ack asked.now.id.0 (content_of asked.now response.now)) }
     ensures within { result ≤ length buffer.new }
     ensures len { length buffer.new ≡ length buffer.old }

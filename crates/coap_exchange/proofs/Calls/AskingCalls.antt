@@ -3,7 +3,7 @@ use Rattle.std.proofs.Common.{◌≡◌, ℕ, ◌+◌, max, Bool, true, false, O
 use Rattle.std.specs.Option.{option_map}
 use Rattle.coap_types.specs.declared.endpoint.Endpoint.{Endpoint}
 use Rattle.coap_types.specs.declared.message.Id.{Id}
-use Rattle.coap_layer.specs.State as L
+use Rattle.coap_layer.specs.Machine.State as L
 use Rattle.coap_layer.specs.Trace as T
 use Rattle.coap_exchange.specs.declared.asker.AskRefusal.{AskRefusal}
 use Rattle.coap_exchange.specs.declared.held.Held.{Held}
@@ -15,7 +15,7 @@ use Rattle.coap_exchange.specs.Machine.AskerShown.{own_with, state_of, refusal_a
 use Rattle.coap_exchange.specs.declared.asker.AskRefusal.TheVariants as refusal
 use Rattle.coap_layer.specs.declared.up.SendRefusal.{SendRefusal}
 use Rattle.coap_layer.specs.declared.up.SendRefusal.TheVariants as send
-use Rattle.coap_layer.specs.Ups as ups
+use Rattle.coap_layer.specs.Machine.Ups as ups
 use Rattle.coap_exchange.specs.AskerTrace.{Request, Own, Ask}
 use Rattle.coap_exchange.proofs.Ending.RequestIsOutstanding.{ask_opens}
 

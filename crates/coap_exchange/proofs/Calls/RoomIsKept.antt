@@ -4,13 +4,13 @@ use Rattle.std.proofs.lemmas.Bool.Decides.{nat_tests}
 use Rattle.std.specs.List.{filter_map, cons_option}
 use Rattle.std.proofs.lemmas.List.{append-nil, length-append}
 use Rattle.coap_types.specs.declared.endpoint.Endpoint.{Endpoint}
-use Rattle.coap_layer.specs.State as L
-use Rattle.coap_layer.specs.State.{is_busy, is_free, is_rested, moment, next_after, out_of, uses_after}
+use Rattle.coap_layer.specs.Machine.State as L
+use Rattle.coap_layer.specs.Machine.State.{is_busy, is_free, is_rested, moment, next_after, out_of, uses_after}
 use Rattle.coap_layer.specs.Trace as T
 use Rattle.coap_layer.specs.Trace.{Entry}
-use Rattle.coap_layer.specs.Steps.{Steps}
-use Rattle.coap_layer.specs.Words.{Open, left_by, begun_in, ends_in, copies_in, given_by}
-use Rattle.coap_layer.specs.Ups.{IsTick}
+use Rattle.coap_layer.specs.Machine.Steps.{Steps}
+use Rattle.coap_layer.specs.Words.{Open, left_by, begun_in, ends_in, copies_in, issued_by}
+use Rattle.coap_layer.specs.Machine.Ups.{IsTick}
 use Rattle.coap_layer.specs.declared.up.Tick.{Tick}
 use Rattle.coap_layer.specs.declared.up.Tick.TheVariants as tick
 use Rattle.coap_types.specs.SameEndpoint.{same_endpoint}
@@ -64,7 +64,7 @@ pub record MayConfirm (l : L.State) (at : ℕ) (to : Endpoint) : Type 0 where
 module _ (old new : L.State) (now : ℕ) (call : T.Call) (answer : T.Answer) (step : L.Step old now call answer new) where
   pub record IsStill : Type 0 where
     pub begun : (at : ℕ) → begun_in at call answer ≡ None
-    pub given : (at : ℕ) → given_by at answer ≡ []
+    pub given : (at : ℕ) → issued_by at answer ≡ []
     pub later : old.clock ≤ moment old now call
 
   module _ (still : IsStill) where
@@ -79,13 +79,13 @@ module _ (old new : L.State) (now : ℕ) (call : T.Call) (answer : T.Answer) (st
     upcoming =
         let at : ℕ = moment old now call in
         ap (λ (s : L.State). s.upcoming) step.new_is
-        ∙ (ap (λ a. next_after (given_by at a) old.upcoming) (sym step.right) ∙ ap (λ gs. next_after gs old.upcoming) (still.given at))
+        ∙ (ap (λ a. next_after (issued_by at a) old.upcoming) (sym step.right) ∙ ap (λ gs. next_after gs old.upcoming) (still.given at))
 
     uses : new.last_used ≡ old.last_used
     uses =
         let at : ℕ = moment old now call in
         ap (λ (s : L.State). s.last_used) step.new_is
-        ∙ (ap (λ a. uses_after (given_by at a) old.last_used) (sym step.right) ∙ ap (λ gs. uses_after gs old.last_used) (still.given at))
+        ∙ (ap (λ a. uses_after (issued_by at a) old.last_used) (sym step.right) ∙ ap (λ gs. uses_after gs old.last_used) (still.given at))
 
     pub still_confirms : (m : ℕ) (to : Endpoint) → MayConfirm old m to → MayConfirm new m to
     still_confirms m to may =
@@ -112,10 +112,10 @@ still_may old new now call answer step still one two m to one_is two_is room may
     may_still one two old new m to one_is two_is room (still_confirms old new now call answer step still m to) may
 
 -- a tick, and asking whether there is room
-tick_gives : (t : Tick) (done : T.Answer) (at : ℕ) → IsTick t done → given_by at done ≡ []
-tick_gives tick.Idle done at h = ap (given_by at) h
-tick_gives (tick.Copied id) done at h = ap (given_by at) h.1
-tick_gives (tick.Expired to id) done at h = ap (given_by at) h
+tick_gives : (t : Tick) (done : T.Answer) (at : ℕ) → IsTick t done → issued_by at done ≡ []
+tick_gives tick.Idle done at h = ap (issued_by at) h
+tick_gives (tick.Copied id) done at h = ap (issued_by at) h.1
+tick_gives (tick.Expired to id) done at h = ap (issued_by at) h
 
 tick_confirms : (l from mid : L.State) (now : ℕ) (t : Tick) (done : T.Answer) → from ≡ l → IsTick t done → L.Step from now T.Ticks done mid → (m : ℕ) (to : Endpoint) → MayConfirm l m to → MayConfirm mid m to
 tick_confirms l from mid now t done e told step m to may =

@@ -1,19 +1,29 @@
 -- The calls of the server's side, as the code makes them of the layer's.
-use Rattle.std.proofs.Common.{◌≡◌, ℕ, ◌≤◌, max, Bool, true, false, Option, Some, None, List, [], ◌∷◌, refl, ap, sym, subst, ◌∙◌, is_some, length, cond, ◌⊎◌, inl, inr, map, arith}
+use Rattle.std.proofs.Common.{◌≡◌, ◌≢◌, ◌&&◌, not, ℕ, ◌≤◌, max, Bool, true, false, Option, Some, None, List, [], ◌∷◌, refl, ap, sym, subst, ◌∙◌, is_some, length, cond, ◌⊎◌, inl, inr, map, arith}
 use Rattle.coap_types.specs.declared.message.Kind.{Kind}
 use Rattle.coap_types.specs.declared.message.Kind.TheVariants.{Con, Non, Ack, Rst}
 use Rattle.coap_codec.specs.Message.{Message}
 use Rattle.coap_types.specs.declared.endpoint.Endpoint.{Endpoint}
 use Rattle.coap_types.specs.declared.message.Id.{Id}
-use Rattle.coap_layer.specs.State as L
-use Rattle.coap_layer.specs.State.{moment}
-use Rattle.coap_layer.specs.Steps.{Steps}
+use Rattle.coap_layer.specs.Machine.State as L
+use Rattle.coap_layer.specs.Machine.State.{moment}
+use Rattle.coap_layer.specs.Machine.Steps.{Steps}
 use Rattle.coap_layer.specs.Trace as T
 use Rattle.coap_layer.specs.Trace.{with_head}
-use Rattle.coap_layer.specs.Ups.{answer_as}
+use Rattle.coap_layer.specs.Machine.Ups.{answer_as}
 use Rattle.coap_layer.specs.declared.up.Up.{Up}
 use Rattle.coap_layer.specs.declared.up.Up.TheVariants as ups
 use Rattle.coap_layer.specs.Words.{handed_by, is_kept}
+use Rattle.coap_types.specs.Roles.{role_of}
+use Rattle.coap_types.specs.declared.role.Role.{Role}
+use Rattle.coap_types.specs.declared.role.Role.TheVariants as role
+use Rattle.coap_layer.specs.Arrivals.{Arrival, Unreadable, Faulted, Whole, arrival_at}
+use Rattle.coap_layer.specs.Machine.Shown.{Shown as Below, MayReply}
+use Rattle.coap_layer.specs.Machine.State.{answer_to, is_free, next_after, uses_after}
+use Rattle.coap_layer.specs.Machine.Table.{up_of, again_or}
+use Rattle.coap_layer.specs.Words.{is_con, issued_by}
+use Rattle.coap_exchange.specs.Machine.AnswererShown.{Takes}
+use Rattle.coap_exchange.specs.AnswererSteps.{asked_of}
 use Rattle.coap_exchange.specs.declared.answerer.Asked.{Asked}
 use Rattle.coap_exchange.specs.declared.answerer.Ended.{Ended}
 use Rattle.coap_exchange.specs.declared.listed.Listed.{Listed}
@@ -148,3 +158,82 @@ received l mid h pending asked_now deferred separate xs ended end old now from b
       own_is = own_same h.clock (max l.clock now) asked_now (asked_in answer) deferred xs (separate_after from up separate) end (reset_by from up separate) clock (asked_is ∙ ap asked_in (sym answer_is)) xs_is end_is;
       under = steps_join l mid h (replying from (id_in up) (reject_by up)) (asked now (T.Receive from bytes) up ∷ []) (l, refl, step) replies;
     })
+
+-- what is handed up may be answered
+
+abbrev IfKept : Bool → T.Disposition → Type 0
+IfKept free (T.Request m true) = m.kind ≢ Con → free ≡ true
+IfKept free _ = Unit {0}
+
+given_kept : (n : Message) (free : Bool) → IfKept free (T.Request n free)
+given_kept n true = λ other. refl
+given_kept n false = tt
+
+again_kept : (free : Bool) (a : T.Disposition) → IfKept free a → (r f : Bool) → IfKept free (again_or r f a)
+again_kept free a h true f = tt
+again_kept free a h false true = tt
+again_kept free a h false false = h
+
+up_kept : (kind : Kind) (c : Role) (n : Message) (o r f free : Bool) → n.kind ≡ kind → IfKept free (up_of kind c n o r f free)
+up_kept Con role.Request n o r f free is = again_kept free (T.Request n true) (λ other. absurd (other is)) r f
+up_kept Con role.Response n o r f free is = again_kept free (T.Response n) tt r f
+up_kept Con role.Empty n o r f free is = tt
+up_kept Con role.Reserved n o r f free is = tt
+up_kept Non role.Request n o r f free is = again_kept free (T.Request n free) (given_kept n free) r f
+up_kept Non role.Response n o r f free is = again_kept free (T.Response n) tt r f
+up_kept Non role.Empty n o r f free is = tt
+up_kept Non role.Reserved n o r f free is = tt
+up_kept Ack role.Empty n true r f free is = tt
+up_kept Ack role.Empty n false r f free is = tt
+up_kept Ack role.Response n true r f free is = tt
+up_kept Ack role.Response n false r f free is = tt
+up_kept Ack role.Request n o r f free is = tt
+up_kept Ack role.Reserved n o r f free is = tt
+up_kept Rst role.Empty n true r f free is = tt
+up_kept Rst role.Empty n false r f free is = tt
+up_kept Rst role.Request n o r f free is = tt
+up_kept Rst role.Response n o r f free is = tt
+up_kept Rst role.Reserved n o r f free is = tt
+
+fault_other : (b : Bool) (m : Message) → cond b T.Rejected T.Dropped ≡ T.Request m true → ⊥
+fault_other true m h = cc h
+fault_other false m h = cc h
+
+free_for : (s : L.State) (at : ℕ) (from : Endpoint) (what : Arrival) (m : Message) → answer_to s at from what ≡ T.Request m true → m.kind ≢ Con → is_free at s.upcoming s.last_used ≡ true
+free_for s at from Unreadable m h other = absurd (cc h)
+free_for s at from (Faulted kind id) m h other = absurd (fault_other (is_con kind) m h)
+free_for s at from (Whole n) m h other =
+    let kept : IfKept (is_free at s.upcoming s.last_used) (T.Request m true) = subst (IfKept (is_free at s.upcoming s.last_used)) h (up_kept n.kind (role_of n.code) n _ _ _ (is_free at s.upcoming s.last_used) refl) in
+    kept other
+
+became : (a b : T.Disposition) → T.Becomes a ≡ T.Becomes b → a ≡ b
+became a b h = cc h
+
+still_free : (l mid : L.State) (now : ℕ) (from : Endpoint) (bytes : List ℕ) (m : Message) → L.Step l now (T.Receive from bytes) (T.Becomes (T.Request m true)) mid → m.kind ≢ Con → is_free mid.clock mid.upcoming mid.last_used ≡ true
+still_free l mid now from bytes m step other =
+    let at : ℕ = max l.clock now in
+    let free : is_free at l.upcoming l.last_used ≡ true = free_for l at from (arrival_at bytes) m (became (answer_to l at from (arrival_at bytes)) (T.Request m true) (sym step.right)) other in
+    let clock : mid.clock ≡ at = step_clock l mid now (T.Receive from bytes) (T.Becomes (T.Request m true)) step in
+    let upcoming : mid.upcoming ≡ l.upcoming = ap (λ (s : L.State). s.upcoming) step.new_is ∙ ap (λ a. next_after (issued_by at a) l.upcoming) (sym step.right) in
+    let uses : mid.last_used ≡ l.last_used = ap (λ (s : L.State). s.last_used) step.new_is ∙ ap (λ a. uses_after (issued_by at a) l.last_used) (sym step.right) in
+    cc (clock, upcoming, uses, free)
+
+pub may_take : (l mid h : Below) (now : ℕ) (from : Endpoint) (bytes : List ℕ) (up : T.Answer) (a : Asked) → L.Step l.state now (T.Receive from bytes) up mid.state → ((m : Message) → handed_by up ≡ Some m → MayReply mid from m.id)
+    → (reject_by up ≡ None → h ≡ mid) → asked_in (handed_up from up) ≡ Some a → Takes h a
+may_take l mid h now from bytes (T.Becomes (T.Request m true)) a step may kept is =
+    let same : asked_of from m ≡ a = cc is in
+    subst (λ x. Takes h x) same (subst (λ x. Takes x (asked_of from m)) (sym (kept refl)) (record { reply = may m refl; free = λ other. still_free l.state mid.state now from bytes m step other }))
+may_take l mid h now from bytes up a step may kept is = absurd (cc is)
+
+none_of : (o : Option (List ℕ)) → not (is_some o) ≡ true → o ≡ None
+none_of None h = refl
+none_of (Some b) h = absurd (cc h)
+
+-- there is room for a message where no response was rejected
+pub has_room : (mid h : Below) (up : T.Answer) (b : Bool) → b ≡ is_some (reject_by up) → (reject_by up ≡ None → h ≡ mid) → mid.has_room ≡ true → not b ≡ true → h.has_room ≡ true
+has_room mid h up b is kept room none_is = let none = none_of (reject_by up) (ap not (sym is) ∙ none_is) in ap (λ (s : Below). s.has_room) (kept none) ∙ room
+
+pub keeps : (room b : Bool) → room ≡ true → b ≡ false → (room && not b) ≡ true
+keeps true false h k = refl
+keeps false b h k = absurd (cc h)
+keeps true true h k = absurd (cc k)

@@ -3,13 +3,13 @@ use Rattle.std.proofs.Common.{◌≡◌, ◌≢◌, cond, ◌⊎◌, inl, inr, �
 use Rattle.std.specs.Option.{option_map}
 use Rattle.coap_types.specs.declared.endpoint.Endpoint.{Endpoint}
 use Rattle.coap_types.specs.declared.message.Id.{Id}
-use Rattle.coap_layer.specs.State as L
-use Rattle.coap_layer.specs.Shown as shown
-use Rattle.coap_layer.specs.State.{answer_of, is_busy, is_free, next_after, out_of, uses_after}
-use Rattle.coap_layer.specs.Steps.{Steps}
+use Rattle.coap_layer.specs.Machine.State as L
+use Rattle.coap_layer.specs.Machine.Shown as shown
+use Rattle.coap_layer.specs.Machine.State.{answer_of, is_busy, is_free, next_after, out_of, uses_after}
+use Rattle.coap_layer.specs.Machine.Steps.{Steps}
 use Rattle.coap_layer.specs.Trace as T
-use Rattle.coap_layer.specs.Ups.{IsTick}
-use Rattle.coap_layer.specs.Words.{given_by}
+use Rattle.coap_layer.specs.Machine.Ups.{IsTick}
+use Rattle.coap_layer.specs.Words.{issued_by}
 use Rattle.coap_layer.specs.declared.up.Tick.{Tick}
 use Rattle.coap_layer.specs.declared.up.Tick.TheVariants as tick
 use Rattle.coap_exchange.specs.declared.answerer.Asked.{Asked}
@@ -64,8 +64,8 @@ idle_room old mid now to step =
     let at : ℕ = max old.clock now in
     let clock : max mid.clock now ≡ at = ap (λ c. max c now) (step_clock old mid now T.Ticks T.Idle step) ∙ clock_then old.clock now in
     let opens : mid.open_cons ≡ old.open_cons = step_opens old mid now T.Ticks T.Idle step ∙ left_same_nil (entry_of at T.Ticks T.Idle (out_of old at T.Ticks)) (λ c. refl) old.open_cons in
-    let upcoming : mid.upcoming ≡ old.upcoming = ap (λ (s : L.State). s.upcoming) step.new_is ∙ ap (λ a. next_after (given_by at a) old.upcoming) (sym step.right) in
-    let uses : mid.last_used ≡ old.last_used = ap (λ (s : L.State). s.last_used) step.new_is ∙ ap (λ a. uses_after (given_by at a) old.last_used) (sym step.right) in
+    let upcoming : mid.upcoming ≡ old.upcoming = ap (λ (s : L.State). s.upcoming) step.new_is ∙ ap (λ a. next_after (issued_by at a) old.upcoming) (sym step.right) in
+    let uses : mid.last_used ≡ old.last_used = ap (λ (s : L.State). s.last_used) step.new_is ∙ ap (λ a. uses_after (issued_by at a) old.last_used) (sym step.right) in
     cc (clock, opens, upcoming, uses)
 
 -- .. and so to which question no memory is refused

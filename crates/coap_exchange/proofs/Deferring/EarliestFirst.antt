@@ -2,7 +2,7 @@
 use Rattle.std.proofs.Common.{◌≡◌, ◌≢◌, ◌≤◌, ◌⊎◌, inl, inr, ℕ, ◌+◌, Bool, true, false, Some, List, [], ◌∷◌, ◌++◌, length, refl, ap, sym, subst, ◌∙◌, cond, arith, not}
 use Rattle.std.specs.Option.{option_map}
 use Rattle.coap_types.specs.Past.{Sometime}
-use Rattle.coap_types.proofs.PastLemmas.{Sometime_map}
+use Rattle.coap_types.proofs.Facts.Traces.{Sometime_map}
 use Rattle.coap_exchange.specs.declared.answerer.Asked.{Asked}
 use Rattle.coap_exchange.specs.declared.answerer.Due.TheVariants as due
 use Rattle.coap_exchange.specs.declared.separate.Deferred.{Deferred}

@@ -2,7 +2,7 @@
 use Rattle.std.proofs.Common.{◌≡◌, ◌≢◌, ◌≤◌, ◌⊎◌, inl, inr, ℕ, ◌+◌, ◌-◌, max, nat_le, Bool, true, false, Some, List, [], ◌∷◌, ◌++◌, refl, ap, sym, subst, ◌∙◌, cond, arith, ◌&&◌, not}
 use Rattle.std.specs.Option.{option_map}
 use Rattle.coap_types.specs.Past.{Sometime}
-use Rattle.coap_types.proofs.PastLemmas.{Sometime_map}
+use Rattle.coap_types.proofs.Facts.Traces.{Sometime_map}
 use Rattle.std.proofs.lemmas.Bool.{leb-true, le-leb}
 use Rattle.coap_layer.specs.Trace as T
 use Rattle.coap_exchange.specs.declared.answerer.Asked.{Asked}

@@ -4,10 +4,10 @@ use Rattle.std.specs.List.{filter_map, cons_option}
 use Rattle.std.specs.Cmp.{unsigned_Decides}
 use Rattle.coap_types.specs.declared.endpoint.Endpoint.{Endpoint}
 use Rattle.coap_types.specs.SameEndpoint.{same_endpoint}
-use Rattle.coap_types.proofs.EndpointLemmas.{same_endpoint_is, same_endpoint_self}
+use Rattle.coap_types.proofs.Facts.Endpoints.{same_endpoint_is, same_endpoint_self}
 use Rattle.coap_layer.specs.Trace.{Answer, Idle, Copied, Expired}
 use Rattle.coap_layer.specs.Words.{Open, same}
-use Rattle.coap_layer.specs.State.{tick_of, is_failed, is_copy_due}
+use Rattle.coap_layer.specs.Machine.State.{tick_of, is_failed, is_copy_due}
 use Rattle.std.proofs.lemmas.Bool.{leb-true}
 use Rattle.coap_exchange.specs.declared.asker.Exchange.{Exchange}
 use Rattle.coap_exchange.specs.AskerTrace.{Own}

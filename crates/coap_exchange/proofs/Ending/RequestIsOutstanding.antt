@@ -2,10 +2,10 @@
 use Rattle.std.proofs.Common.{◌≡◌, ◌⊎◌, inl, inr, ℕ, ◌+◌, ◌%◌, max, Bool, true, false, Option, Some, None, List, [], ◌++◌, refl, ap, sym, subst, ◌∙◌, cond, option_to_list}
 use Rattle.std.proofs.lemmas.List.{append-nil}
 use Rattle.coap_types.specs.declared.endpoint.Endpoint.{Endpoint}
-use Rattle.coap_types.proofs.EndpointLemmas.{same_endpoint_is}
-use Rattle.coap_layer.specs.State as L
-use Rattle.coap_layer.specs.State.{out_of, tick_of}
-use Rattle.coap_layer.specs.Steps.{Steps}
+use Rattle.coap_types.proofs.Facts.Endpoints.{same_endpoint_is}
+use Rattle.coap_layer.specs.Machine.State as L
+use Rattle.coap_layer.specs.Machine.State.{out_of, tick_of}
+use Rattle.coap_layer.specs.Machine.Steps.{Steps}
 use Rattle.coap_layer.specs.Trace as T
 use Rattle.coap_layer.specs.Words.{Open, open_of, begun_in, left_by}
 use Rattle.coap_exchange.specs.declared.asker.Event.TheVariants as event

@@ -3,10 +3,10 @@ use Rattle.std.proofs.Common.{◌≡◌, ◌≢◌, inl, inr, ◌≤◌, ℕ, �
 use Rattle.std.specs.Option.{option_map}
 use Rattle.std.specs.Cmp.{unsigned_Decides}
 use Rattle.coap_types.specs.declared.endpoint.Endpoint.{Endpoint}
-use Rattle.coap_types.proofs.EndpointLemmas.{same_endpoint_self}
-use Rattle.coap_layer.specs.State as L
-use Rattle.coap_layer.specs.State.{tick_of, is_failed, is_copy_due}
-use Rattle.coap_layer.specs.Steps.{Steps}
+use Rattle.coap_types.proofs.Facts.Endpoints.{same_endpoint_self}
+use Rattle.coap_layer.specs.Machine.State as L
+use Rattle.coap_layer.specs.Machine.State.{tick_of, is_failed, is_copy_due}
+use Rattle.coap_layer.specs.Machine.Steps.{Steps}
 use Rattle.coap_layer.specs.Trace as T
 use Rattle.coap_layer.specs.Words.{Open}
 use Rattle.std.proofs.lemmas.Bool.{le-leb}

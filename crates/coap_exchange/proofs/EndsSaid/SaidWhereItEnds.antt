@@ -11,14 +11,14 @@ use Rattle.coap_types.specs.declared.message.Kind.TheVariants.{Con, Non, Ack, Rs
 use Rattle.coap_types.specs.declared.role.Role.{Role}
 use Rattle.coap_types.specs.declared.role.Role.TheVariants as role
 use Rattle.coap_types.specs.SameEndpoint.{same_endpoint}
-use Rattle.coap_types.proofs.EndpointLemmas.{same_endpoint_is, same_endpoint_self}
+use Rattle.coap_types.proofs.Facts.Endpoints.{same_endpoint_is, same_endpoint_self}
 use Rattle.coap_codec.specs.Message.{Message}
 use Rattle.std.proofs.lemmas.Bool.{eqb-true}
 use Rattle.coap_layer.specs.Arrivals.{Arrival, Unreadable, Faulted, Whole, arrival_at}
-use Rattle.coap_layer.specs.State as L
-use Rattle.coap_layer.specs.State.{answer_to, is_outstanding, is_busy, is_failed, is_copy_due, tick_of, sending}
-use Rattle.coap_layer.specs.Steps.{Steps}
-use Rattle.coap_layer.specs.Table.{up_of, again_or}
+use Rattle.coap_layer.specs.Machine.State as L
+use Rattle.coap_layer.specs.Machine.State.{answer_to, is_outstanding, is_busy, is_failed, is_copy_due, tick_of, sending}
+use Rattle.coap_layer.specs.Machine.Steps.{Steps}
+use Rattle.coap_layer.specs.Machine.Table.{up_of, again_or}
 use Rattle.coap_layer.specs.Trace as T
 use Rattle.coap_layer.specs.Words.{Open, is_con, is_to}
 use Rattle.coap_exchange.specs.declared.answerer.Ended.{Ended}

@@ -1,9 +1,9 @@
 -- The law leaves each call of the client's side one answer.
 use Rattle.std.proofs.Common.{◌≡◌, ℕ, Bool, true, false, Option, Some, None, List, [], ◌∷◌, ◌++◌, max, refl, ap, sym, subst, ◌∙◌}
 use Rattle.coap_types.specs.declared.endpoint.Endpoint.{Endpoint}
-use Rattle.coap_layer.specs.State as L
-use Rattle.coap_layer.specs.State.{answer_of}
-use Rattle.coap_layer.specs.Steps.{Asked, Steps}
+use Rattle.coap_layer.specs.Machine.State as L
+use Rattle.coap_layer.specs.Machine.State.{answer_of}
+use Rattle.coap_layer.specs.Machine.Steps.{Asked, Steps}
 use Rattle.coap_layer.specs.Trace as T
 use Rattle.coap_layer.proofs.Facts.Calls.{steps_left}
 use Rattle.coap_exchange.specs.declared.asker.Event.{Event}

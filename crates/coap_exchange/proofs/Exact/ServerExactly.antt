@@ -1,7 +1,7 @@
 -- The law leaves each call of the server's side one answer.
 use Rattle.std.proofs.Common.{◌≡◌, ℕ, Bool, Option, Some, None, List, [], ◌∷◌, ◌++◌, refl, ap, sym, subst, ◌∙◌}
-use Rattle.coap_layer.specs.State as L
-use Rattle.coap_layer.specs.Steps.{Asked as Below, Steps}
+use Rattle.coap_layer.specs.Machine.State as L
+use Rattle.coap_layer.specs.Machine.Steps.{Asked as Below, Steps}
 use Rattle.coap_layer.specs.Trace as T
 use Rattle.coap_exchange.specs.declared.separate.Deferred.{Deferred}
 use Rattle.coap_exchange.specs.AnswererTrace.{Own, Call}

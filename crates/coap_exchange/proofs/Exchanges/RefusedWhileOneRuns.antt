@@ -1,9 +1,9 @@
 -- A request is refused as Running exactly where an exchange runs: the layer's own refusal never comes.
 use Rattle.std.proofs.Common.{◌≡◌, ℕ, max, Bool, true, false, Option, Some, None, List, [], ◌∷◌, Result, Err, refl, ap, sym, subst, ◌∙◌, is_some, cond}
 use Rattle.coap_types.specs.declared.endpoint.Endpoint.{Endpoint}
-use Rattle.coap_layer.specs.State as L
-use Rattle.coap_layer.specs.State.{is_busy, is_free, sending}
-use Rattle.coap_layer.specs.Steps.{Steps}
+use Rattle.coap_layer.specs.Machine.State as L
+use Rattle.coap_layer.specs.Machine.State.{is_busy, is_free, sending}
+use Rattle.coap_layer.specs.Machine.Steps.{Steps}
 use Rattle.coap_layer.specs.Trace as T
 use Rattle.coap_layer.specs.Words.{sent_by, Open as OpenCon}
 use Rattle.coap_exchange.specs.declared.asker.AskRefusal.{AskRefusal}

@@ -1,7 +1,7 @@
 -- Of an object above another: one call more, for all its calls; and what it asks of the one beneath, call by call.
 use Rattle.std.proofs.Common.{◌≡◌, inl, inr, ⊎_elim, List, [], ◌∷◌, ◌++◌, refl, ap, sym, subst, ◌∙◌}
 use Rattle.coap_types.specs.Past.{Ever, Sometime}
-use Rattle.coap_types.proofs.PastLemmas.{Ever_append, Ever_front, Ever_back}
+use Rattle.coap_types.proofs.Facts.Traces.{Ever_append, Ever_front, Ever_back}
 use Rattle.coap_exchange.specs.Above.{sum_of, asked_by, State, Step, Chain, Law, Led}
 
 module _ {Own Call Below Layer : Type 0} (IsRight : Own → Call → Type 0) (after : Own → Call → Own) (lower : Own → Call → List Below) (Steps : Layer → List Below → Layer → Type 0) where

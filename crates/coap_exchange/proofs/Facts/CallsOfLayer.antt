@@ -2,8 +2,8 @@
 use Rattle.std.proofs.Common.{◌≡◌, ℕ, Bool, true, false, Some, List, [], ◌∷◌, ◌++◌, refl, ap, sym, ◌∙◌, ◌&&◌, option_to_list}
 use Rattle.std.specs.List.{filter_map, cons_option}
 use Rattle.std.proofs.lemmas.List.{append-nil}
-use Rattle.coap_layer.specs.State as L
-use Rattle.coap_layer.specs.State.{answer_of, out_of, moment, made, tick_of, is_failed, is_copy_due}
+use Rattle.coap_layer.specs.Machine.State as L
+use Rattle.coap_layer.specs.Machine.State.{answer_of, out_of, moment, made, tick_of, is_failed, is_copy_due}
 use Rattle.coap_layer.specs.Trace.{Packet, Call, Answer, Entry}
 use Rattle.coap_layer.specs.Words.{Open, left_by, begun_in}
 

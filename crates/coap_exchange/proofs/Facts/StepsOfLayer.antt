@@ -1,8 +1,8 @@
 -- Calls of the message layer, one behind the other: they are joined and parted, and leave and answer the same.
 use Rattle.std.proofs.Common.{◌≡◌, ℕ, List, [], ◌∷◌, ◌++◌, ap, sym, ◌∙◌, subst, refl}
-use Rattle.coap_layer.specs.State as L
-use Rattle.coap_layer.specs.State.{answer_of}
-use Rattle.coap_layer.specs.Steps.{Asked, Steps}
+use Rattle.coap_layer.specs.Machine.State as L
+use Rattle.coap_layer.specs.Machine.State.{answer_of}
+use Rattle.coap_layer.specs.Machine.Steps.{Asked, Steps}
 use Rattle.coap_layer.specs.Trace as T
 use Rattle.coap_layer.proofs.Facts.Calls.{steps_left}
 

@@ -4,11 +4,11 @@ use Rattle.coap_types.specs.Past.{Ever}
 use Rattle.coap_types.specs.declared.endpoint.Endpoint.{Endpoint}
 use Rattle.coap_types.specs.declared.message.Kind.{Kind}
 use Rattle.coap_types.specs.declared.message.Kind.TheVariants.{Con, Non, Ack, Rst}
-use Rattle.coap_codec.specs.Writing.{message_bytes}
+use Rattle.coap_codec.specs.Spelling.{message_bytes}
 use Rattle.coap_layer.specs.Rows.{Busy, Row, Stands, LayerLaw, Plains, Confirms, IsSpelled}
-use Rattle.coap_layer.specs.State as L
-use Rattle.coap_layer.specs.State.{made}
-use Rattle.coap_layer.specs.Steps.{Asked as Below, Steps, left_after}
+use Rattle.coap_layer.specs.Machine.State as L
+use Rattle.coap_layer.specs.Machine.State.{made}
+use Rattle.coap_layer.specs.Machine.Steps.{Asked as Below, Steps, left_after}
 use Rattle.coap_layer.specs.Trace as T
 use Rattle.coap_layer.specs.Trace.{with_head, Entry, Content}
 use Rattle.coap_layer.specs.Words.{numbers}

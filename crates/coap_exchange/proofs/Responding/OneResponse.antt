@@ -4,7 +4,7 @@ use Rattle.std.specs.Option.{option_map}
 use Rattle.std.specs.Cmp.{unsigned_Decides}
 use Rattle.coap_types.specs.Past.{Ever}
 use Rattle.coap_types.specs.declared.endpoint.Endpoint.{Endpoint}
-use Rattle.coap_types.proofs.EndpointLemmas.{same_endpoint_self}
+use Rattle.coap_types.proofs.Facts.Endpoints.{same_endpoint_self}
 use Rattle.coap_codec.specs.Message.{kind_number}
 use Rattle.std.proofs.lemmas.Bool.{ltb-true}
 use Rattle.coap_exchange.specs.declared.answerer.Asked.{Asked}

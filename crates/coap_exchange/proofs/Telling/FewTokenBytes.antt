@@ -2,7 +2,7 @@
 use Rattle.std.proofs.Common.{◌≡◌, ◌≤◌, ℕ, Option, Some, None, IfSome, List, length, refl, sym, subst}
 use Rattle.coap_types.specs.declared.endpoint.Endpoint.{Endpoint}
 use Rattle.coap_codec.specs.Message.{Message}
-use Rattle.coap_layer.specs.State as L
+use Rattle.coap_layer.specs.Machine.State as L
 use Rattle.coap_layer.specs.Trace as T
 use Rattle.coap_exchange.specs.declared.matching.Verdict.{Verdict}
 use Rattle.coap_exchange.specs.declared.matching.Verdict.TheVariants.{Ignore, Reject, Acknowledge, AnswerCon, Answer, NoticeCon, Notice, Await, EndByReset}

@@ -3,8 +3,8 @@ use Rattle.std.proofs.Common.{◌≡◌, ℕ, Bool, true, Option, Some, None, Li
 use Rattle.coap_types.specs.declared.endpoint.Endpoint.{Endpoint}
 use Rattle.coap_types.specs.SameEndpoint.{same_endpoint}
 use Rattle.coap_codec.specs.Message.{Message, Spells}
-use Rattle.coap_layer.specs.State as L
-use Rattle.coap_layer.specs.Steps.{Steps}
+use Rattle.coap_layer.specs.Machine.State as L
+use Rattle.coap_layer.specs.Machine.Steps.{Steps}
 use Rattle.coap_layer.specs.Trace as T
 use Rattle.coap_exchange.specs.declared.asker.Event.{Event}
 use Rattle.coap_exchange.specs.declared.asker.Event.TheVariants as event

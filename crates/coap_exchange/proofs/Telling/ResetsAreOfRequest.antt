@@ -11,10 +11,10 @@ use Rattle.coap_codec.specs.Message.{Message, Spells}
 use Rattle.std.proofs.lemmas.Bool.{eqb-true}
 use Rattle.coap_layer.proofs.Facts.Arrivals.{shows_at}
 use Rattle.coap_layer.specs.Arrivals.{Arrival, Unreadable, Faulted, Whole, Shows, arrival_at}
-use Rattle.coap_layer.specs.State as L
-use Rattle.coap_layer.specs.State.{answer_to}
-use Rattle.coap_layer.specs.Steps.{Steps}
-use Rattle.coap_layer.specs.Table.{up_of, again_or}
+use Rattle.coap_layer.specs.Machine.State as L
+use Rattle.coap_layer.specs.Machine.State.{answer_to}
+use Rattle.coap_layer.specs.Machine.Steps.{Steps}
+use Rattle.coap_layer.specs.Machine.Table.{up_of, again_or}
 use Rattle.coap_layer.specs.Trace as T
 use Rattle.coap_layer.specs.Words.{is_con}
 use Rattle.coap_exchange.specs.declared.asker.Event.{Event}

@@ -1,7 +1,7 @@
 -- What a response has that the client's side tells, by the table.
 use Rattle.std.proofs.Common.{◌≡◌, ◌≢◌, ℕ, Bool, true, false, Option, Some, None, List, [], ◌∷◌, refl, ap, sym, subst, ◌∙◌, ◌&&◌}
 use Rattle.std.specs.Cmp.{unsigned_Decides}
-use Rattle.coap_types.specs.Unrecognised.{lacks_critical, carries}
+use Rattle.coap_types.specs.Recognised.{lacks_critical, carries}
 use Rattle.coap_types.specs.declared.direction.Direction.TheVariants.{Response}
 use Rattle.coap_types.specs.declared.endpoint.Endpoint.{Endpoint}
 use Rattle.coap_types.specs.declared.message.Kind.{Kind}

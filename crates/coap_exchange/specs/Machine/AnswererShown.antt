@@ -1,23 +1,23 @@
 -- What contracts see of a server's side.
-use Rattle.std.specs.Prelude.{◌≡◌, ◌≢◌, ◌<◌, ◌⊎◌, ℕ, max, Bool, true, false, Option, Some, None, List}
+use Rattle.std.specs.Prelude.{◌≡◌, ◌≢◌, ◌<◌, ◌⊎◌, ℕ, max, Bool, true, false, Option, Some, None, List, ◌∷◌}
 use Rattle.std.specs.Option.{option_map}
 use Rattle.coap_types.specs.Roles.{role_of}
 use Rattle.coap_types.specs.declared.endpoint.Endpoint.{Endpoint}
 use Rattle.coap_types.specs.declared.message.Kind.TheVariants.{Con}
 use Rattle.coap_types.specs.declared.role.Role.TheVariants as role
 use Rattle.coap_layer.specs.Sendable.{IsSendable}
-use Rattle.coap_layer.specs.Shown as shown
-use Rattle.coap_layer.specs.Shown.{MayReply}
-use Rattle.coap_layer.specs.State as L
-use Rattle.coap_layer.specs.State.{is_free, is_busy, answer_of}
+use Rattle.coap_layer.specs.Machine.Shown as shown
+use Rattle.coap_layer.specs.Machine.Shown.{MayReply}
+use Rattle.coap_layer.specs.Machine.State as L
+use Rattle.coap_layer.specs.Machine.State.{is_free, is_busy, answer_of}
 use Rattle.coap_layer.specs.Trace as T
 use Rattle.coap_exchange.specs.declared.answerer.Asked.{Asked}
 use Rattle.coap_exchange.specs.declared.answerer.Ended.{Ended}
 use Rattle.coap_exchange.specs.declared.separate.Deferred.{Deferred}
 use Rattle.coap_exchange.specs.declared.separate.Separate.{Separate}
-use Rattle.coap_exchange.specs.AnswererTrace.{Response, Own}
+use Rattle.coap_exchange.specs.AnswererTrace.{Response, Own, Call}
 use Rattle.coap_exchange.specs.AnswererSteps.{content_with, ready_at}
-use Rattle.coap_exchange.specs.AnswererLaw.{State}
+use Rattle.coap_exchange.specs.AnswererLaw.{State, Led}
 
 -- its state, the state that `undo` would leave, whether the request that the last input handed up may be answered, and
 -- whether there is room for a separate response
@@ -26,6 +26,10 @@ pub record Shown : Type 0 where
   pub before : Option State
   pub answerable : Bool
   pub room : Bool
+
+-- what led to the one leads by this call to the other
+abbrev pub Leads : Shown → Call → Shown → Type 0
+Leads old c new = (word : ℕ) (t : List Call) → Led word t old.state → Led word (c ∷ t) new.state
 
 abbrev pub own_with : ℕ → Option Asked → List Deferred → List Separate → Option Ended → Own
 own_with clock pending deferred separate ended = record { clock = clock; pending = pending; deferred = deferred; separate = separate; ended = ended }

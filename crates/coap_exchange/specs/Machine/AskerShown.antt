@@ -1,24 +1,25 @@
 -- What contracts see of a client's side.
-use Rattle.std.specs.Prelude.{◌≡◌, ◌<◌, ◌≤◌, ℕ, ◌+◌, ◌^◌, true, Option, Some, None, List, length}
-use Rattle.std.specs.List.{list_all}
-use Rattle.coap_codec.specs.BoundedSpelling.{is_numbered, most_bytes}
-use Rattle.coap_codec.specs.Refused.{ascends, is_short}
+use Rattle.std.specs.Prelude.{◌≤◌, ℕ, Option, Some, None, List, ◌∷◌, length}
 use Rattle.coap_types.specs.declared.endpoint.Endpoint.{Endpoint}
 use Rattle.coap_layer.specs.Sendable.{IsSendable}
-use Rattle.coap_layer.specs.State as L
+use Rattle.coap_layer.specs.Machine.State as L
 use Rattle.coap_layer.specs.declared.up.SendRefusal.{SendRefusal}
 use Rattle.coap_layer.specs.declared.up.SendRefusal.TheVariants as send
 use Rattle.coap_exchange.specs.declared.asker.AskRefusal.{AskRefusal}
 use Rattle.coap_exchange.specs.declared.asker.AskRefusal.TheVariants as refusal
 use Rattle.coap_exchange.specs.declared.held.Held.{Held}
-use Rattle.coap_exchange.specs.AskerTrace.{Request, Own}
+use Rattle.coap_exchange.specs.AskerTrace.{Request, Own, Call}
 use Rattle.coap_exchange.specs.AskerRequests.{content_of}
-use Rattle.coap_exchange.specs.AskerLaw.{State}
+use Rattle.coap_exchange.specs.AskerLaw.{State, Led}
 
 -- its state, and the state that `undo` would leave
 pub record Shown : Type 0 where
   pub state : State
   pub before : Option State
+
+-- what led to the one leads by this call to the other
+abbrev pub Leads : Shown → Call → Shown → Type 0
+Leads old c new = (server : Endpoint) (word : ℕ) (t : List Call) → Led server word t old.state → Led server word (c ∷ t) new.state
 
 abbrev pub own_with : ℕ → Endpoint → ℕ → Held → Own
 own_with clock server word held = record { clock = clock; server = server; word = word; given = held.given; running = held.running; kept = held.kept }
@@ -39,15 +40,3 @@ abbrev pub refusal_as : SendRefusal → AskRefusal
 refusal_as send.Outstanding = refusal.Running
 refusal_as send.NoIds = refusal.NoIds
 refusal_as send.Memory = refusal.Memory
-
--- .. for which it is enough that it isn't Empty, its options ascend and are short, and it is short by this count
-pub record IsShort (r : Request) : Type 0 where
-  pub some : 0 < r.code
-  pub code : r.code < 2 ^ 8
-  pub order : ascends 0 r.options ≡ true
-  pub numbers : list_all is_numbered r.options ≡ true
-  pub short : list_all is_short r.options ≡ true
-  pub fits : 4 + (8 + (most_bytes r.options + (1 + length r.payload))) ≤ 1152
-
-abbrev pub IsAskableWhenShort : Type 0
-IsAskableWhenShort = (r : Request) → IsShort r → IsAskable r

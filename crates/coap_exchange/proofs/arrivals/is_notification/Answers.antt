@@ -1,5 +1,5 @@
 use Rattle.std.proofs.Common.{ap, ◌∙◌}
-use Rattle.coap_types.specs.Unrecognised.{carries}
+use Rattle.coap_types.specs.Recognised.{carries}
 use Rattle.coap_types.specs.declared.direction.Direction.TheVariants as direction
 use Rattle.coap_exchange.proofs.Calls.DrainedOptions.{drained}
 use Rattle.coap_exchange.proofs.arrivals.is_notification.Goals as goal

@@ -8,6 +8,7 @@ use Rattle.coap_exchange.proofs.Deferring.LongEnough.{long_enough, ready_when_du
 use Rattle.coap_exchange.proofs.Deferring.EarliestFirst.{earliest}
 use Rattle.coap_exchange.proofs.EndsSaid.HandsOrEnds.{hands_or_ends}
 use Rattle.coap_exchange.proofs.EndsSaid.AreOutstanding.{waits}
+use Rattle.coap_exchange.proofs.Responding.EmptyReplies.{are_replied}
 use Rattle.coap_exchange.proofs.Responding.GoesBack.{sends_so}
 use Rattle.coap_exchange.proofs.laws.answerer_law.Goals as goal
 
@@ -58,6 +59,9 @@ returns-clause-earliest c word t law = earliest t law.rows
 
 pub returns-clause-back : goal.returns-clause-back
 returns-clause-back c word t law = (sends_so word t law.rows law.left law.layer).0
+
+pub returns-clause-replied : goal.returns-clause-replied
+returns-clause-replied c word t law = are_replied t law.rows
 
 pub returns-clause-alone : goal.returns-clause-alone
 returns-clause-alone c word t law = (sends_so word t law.rows law.left law.layer).1

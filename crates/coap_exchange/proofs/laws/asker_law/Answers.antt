@@ -8,6 +8,8 @@ use Rattle.coap_exchange.proofs.Ending.WhenDue.{when_due}
 use Rattle.coap_exchange.proofs.Exchanges.FewAreKept.{few_kept}
 use Rattle.coap_exchange.proofs.Telling.FromServer.{came_from}
 use Rattle.coap_exchange.proofs.Telling.ResetsAreOfRequest.{rejected}
+use Rattle.coap_exchange.proofs.Telling.KindsAreTold.{told_as}
+use Rattle.coap_exchange.proofs.Telling.EmptyReplies.{are_replied}
 use Rattle.coap_exchange.proofs.Telling.ResponsesMatch.{matched}
 use Rattle.coap_exchange.proofs.laws.asker_law.Goals as goal
 
@@ -52,6 +54,12 @@ returns-clause-from_server c server word t law = came_from server word t law.row
 
 pub returns-clause-matched : goal.returns-clause-matched
 returns-clause-matched c server word t law = matched server word t law.rows
+
+pub returns-clause-told_as : goal.returns-clause-told_as
+returns-clause-told_as c server word t law = told_as server word t law.rows
+
+pub returns-clause-replied : goal.returns-clause-replied
+returns-clause-replied c server word t law = are_replied server word t law.rows
 
 pub returns-clause-rejected : goal.returns-clause-rejected
 returns-clause-rejected c server word t law = rejected server word t law.rows law.left law.layer

@@ -1,6 +1,6 @@
 use Rattle.std.proofs.Common.{rules, subst, sym, ◌∙◌}
-use Rattle.coap_layer.specs.Shown.{MayReply}
-use Rattle.coap_layer.specs.Ups.{answer_as}
+use Rattle.coap_layer.specs.Machine.Shown.{MayReply}
+use Rattle.coap_layer.specs.Machine.Ups.{answer_as}
 use Rattle.coap_exchange.proofs.Calls.ServerCalls.{rejected}
 use Rattle.coap_exchange.proofs.replies.reject.Goals as goal
 

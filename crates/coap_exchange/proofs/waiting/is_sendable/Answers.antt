@@ -1,5 +1,5 @@
 use Rattle.std.proofs.Common.{◌≡◌, Some, false, ◌∙◌, sym, subst}
-use Rattle.coap_layer.specs.State.{is_busy}
+use Rattle.coap_layer.specs.Machine.State.{is_busy}
 use Rattle.coap_exchange.specs.declared.answerer.Asked.{Asked}
 use Rattle.coap_exchange.proofs.Calls.ServerTicks.{room_idle}
 use Rattle.coap_exchange.proofs.waiting.is_sendable.Goals as goal

@@ -1,7 +1,8 @@
-use Rattle.std.proofs.Common.{◌≡◌, false, is_some, refl, rules, ap, sym, subst, ◌∙◌, arith}
-use Rattle.coap_layer.specs.Ups.{answer_as}
+use Rattle.std.proofs.Common.{◌≡◌, not, false, is_some, refl, rules, ap, sym, subst, ◌∙◌, arith}
+use Rattle.coap_layer.specs.Machine.Ups.{answer_as}
 use Rattle.coap_exchange.proofs.Leading.ServerLeads.{led_call}
-use Rattle.coap_exchange.proofs.Calls.ServerCalls.{received}
+use Rattle.coap_exchange.proofs.Calls.ServerCalls.{has_room, keeps, may_take, received}
+use Rattle.std.proofs.lemmas.Bool.{and_parts}
 use Rattle.coap_exchange.specs.Machine.Listed.{listed}
 use Rattle.coap_exchange.specs.AnswererSteps.{reject_by, separate_after}
 use Rattle.coap_exchange.specs.AskerArrivals.{id_in}
@@ -14,6 +15,21 @@ pub asked_in-asked-requires : goal.asked_in-asked-requires
 asked_in-asked-requires g c m h =
     short_token c.self.inside.layer.state c.receive.new.self.state c.args.now.0 c.args.from c.args.bytes.now (answer_as c.in_ok-up.up) m c.in_ok-up.ensures.step h
 
+pub invariant_of-self-2 : goal.invariant_of-self-2
+invariant_of-self-2 g c =
+    let up = answer_as c.in_ok-up.up in (
+      λ h a is. may_take c.self.inside.layer c.receive.new.self c.reject-rejected.new.layer c.args.now.0 c.args.from c.args.bytes.now up a c.in_ok-up.ensures.step c.in_ok-up.ensures.may_reply c.reject-rejected.ensures.kept
+          (sym (c.copied-self-inside.ensures ∙ c.asked_in-asked.ensures.asked) ∙ is),
+      λ may.
+          let p = and_parts c.self.inside.room (not c.reject-rejected.result) (sym c.keeps_room-self-inside.ensures ∙ may) in
+          let was = c.self.invariant.1 p.0 in
+          let settled = c.settle_down.ensures in
+          let after = c.after_arrival.ensures in (
+            has_room c.receive.new.self c.reject-rejected.new.layer up c.reject-rejected.result c.reject-rejected.ensures.rejects c.reject-rejected.ensures.kept (c.in_ok-up.ensures.kept was.0) p.1,
+            omega (arith, was.1, settled.len, settled.capacity, after.len, after.capacity),
+          ),
+    )
+
 pub returns-clause-step : goal.returns-clause-step
 returns-clause-step g c =
     let i = c.self.inside in
@@ -25,7 +41,7 @@ returns-clause-step g c =
     )
 
 pub returns-clause-led : goal.returns-clause-led
-returns-clause-led g c word t led = let s = returns-clause-step g c in (s.0, led_call word t _ _ _ led s.1)
+returns-clause-led g c = let s = returns-clause-step g c in (s.0, λ word t led. led_call word t _ _ _ led s.1)
 
 pub returns-clause-kept : goal.returns-clause-kept
 returns-clause-kept g c same at there may =
@@ -38,6 +54,6 @@ returns-clause-kept g c same at there may =
     let step = c.in_ok-up.ensures.step in
     let none = none_rejected l mid h c.args.now.0 c.args.from c.args.bytes.now up (id_in up) (reject_by up) step c.reject-rejected.ensures.steps (same ∙ ap (λ s. s.queue) was) in
     let no : c.reject-rejected.result ≡ false = c.reject-rejected.ensures.rejects ∙ ap is_some none in
-    may_still c.args.self.now _ l h at there was refl (λ room. search (rules, room, no))
+    may_still c.args.self.now _ l h at there was refl (λ room. c.keeps_room-self-inside.ensures ∙ keeps c.self.inside.room c.reject-rejected.result (ap (λ s. s.room) c.self.view_is ∙ room) no)
     (λ m. subst (λ s. MayConfirm s at there) (sym (ap (λ x. x.state) (c.reject-rejected.ensures.kept none)))
     (still_confirms l mid c.args.now.0 (T.Receive c.args.from c.args.bytes.now) up step (record { begun = λ n. refl; given = λ n. refl; later = omega arith }) at there m)) may

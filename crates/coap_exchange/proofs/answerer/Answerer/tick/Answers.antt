@@ -1,7 +1,7 @@
 use Rattle.std.proofs.Common.{◌≡◌, ◌<◌, true, refl, sym, rules, ap, ◌∙◌, subst, arith}
 use Rattle.std.specs.Vec.{vec_len, vec_capacity}
 use Rattle.std.specs.Option.{option_map}
-use Rattle.coap_layer.specs.State as L
+use Rattle.coap_layer.specs.Machine.State as L
 use Rattle.coap_layer.specs.Trace as T
 use Rattle.coap_exchange.specs.declared.separate.Deferred.{Deferred}
 use Rattle.coap_exchange.specs.Machine.AnswererShown.{own_with}
@@ -52,7 +52,7 @@ returns-clause-step g c =
     )
 
 pub returns-clause-led : goal.returns-clause-led
-returns-clause-led g c word t led = let s = returns-clause-step g c in (s.0, s.1, led_call word t _ _ _ led s.2)
+returns-clause-led g c = let s = returns-clause-step g c in (s.0, s.1, λ word t led. led_call word t _ _ _ led s.2)
 
 pub returns-clause-ready : goal.returns-clause-ready
 returns-clause-ready g c a h =

@@ -1,6 +1,6 @@
 use Rattle.std.proofs.Common.{◌≤◌, IfSome, length, rules, ap, sym, subst, ◌∙◌}
-use Rattle.coap_layer.specs.Shown.{MayReply}
-use Rattle.coap_layer.specs.Ups.{answer_as}
+use Rattle.coap_layer.specs.Machine.Shown.{MayReply}
+use Rattle.coap_layer.specs.Machine.Ups.{answer_as}
 use Rattle.coap_exchange.specs.Machine.AskerShown.{own_with}
 use Rattle.coap_exchange.specs.AskerArrivals.{told}
 use Rattle.coap_exchange.specs.AskerFollows.{message_told}
@@ -29,7 +29,7 @@ returns-clause-step g c =
     )
 
 pub returns-clause-led : goal.returns-clause-led
-returns-clause-led g c server word t led = let s = returns-clause-step g c in (s.0, s.1, led_call server word t _ _ _ led s.2)
+returns-clause-led g c = let s = returns-clause-step g c in (s.0, s.1, λ server word t led. led_call server word t _ _ _ led s.2)
 
 pub returns-clause-few : goal.returns-clause-few
 returns-clause-few g c =

@@ -1,6 +1,6 @@
 use Rattle.std.proofs.Common.{◌≡◌, rules, ap, ◌∙◌, Err}
 use Rattle.coap_layer.specs.Trace as below
-use Rattle.coap_layer.specs.Ups as ups
+use Rattle.coap_layer.specs.Machine.Ups as ups
 use Rattle.coap_layer.specs.declared.up.SendRefusal.TheVariants as send
 use Rattle.coap_exchange.specs.Machine.AskerShown.{refusal_as}
 use Rattle.coap_exchange.proofs.Calls.AskingCalls.{sent_content, refused_content}
