@@ -5,3 +5,4 @@ pub mod ClientSent
 pub mod SentOnce
 pub mod NumbersRise
 pub mod ClientQueued
+pub mod InOrder

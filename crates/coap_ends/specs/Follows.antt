@@ -23,3 +23,4 @@ pub mod ServerBrings
 pub mod ServerTable
 pub mod ClientEnds
 pub mod ClientQueue
+pub mod ClientInOrder

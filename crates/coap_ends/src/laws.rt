@@ -12,6 +12,7 @@ ghost use Rattle.coap_ends.specs.Follows.ClientGives.{GivesInOrder};
 ghost use Rattle.coap_ends.specs.Follows.ClientGoesOn.{GoesOn};
 ghost use Rattle.coap_ends.specs.Follows.ClientHears.{AreHeard};
 ghost use Rattle.coap_ends.specs.ClientLaw.{ClientLaw, layer_of};
+ghost use Rattle.coap_ends.specs.Follows.ClientInOrder.{AreInOrder};
 ghost use Rattle.coap_ends.specs.Follows.ClientNumbering.{OneCall};
 ghost use Rattle.coap_ends.specs.Follows.ClientQueue.{StartsInOrder, AllTaken};
 ghost use Rattle.coap_ends.specs.Follows.ClientRests.{ComesToRest};
@@ -58,6 +59,9 @@ pub fn client_law()
     ensures sent { (server : Endpoint) (szx word : ℕ) (t : List Call) → ClientLaw server szx word t → AreSent t }
     // A call has one request, and no other has its token (RFC 7252, section 5.3.1).
     ensures sending { (server : Endpoint) (szx word : ℕ) (t : List Call) → ClientLaw server szx word t → OneSending t }
+    // The requests of the calls are sent in the order of their numbers, none for a call that was reported, and each is
+    // answered once (RFC 7252, sections 4.7 and 5.3).
+    ensures order { (server : Endpoint) (szx word : ℕ) (t : List Call) → ClientLaw server szx word t → AreInOrder t }
     // A number names one call.
     ensures numbers { (server : Endpoint) (szx word : ℕ) (t : List Call) → ClientLaw server szx word t → OneCall t }
     // A report of a response is of the answer to a request of that call (RFC 7252, section 5.3.2).

@@ -4,7 +4,7 @@ use Rattle.std.specs.Prelude.{◌≡◌, ◌≢◌, ◌⊎◌, ◌≤◌, ◌<�
 use Rattle.coap_types.specs.Past.{Always}
 use Rattle.coap_types.specs.Path.{HoldsAtMost}
 use Rattle.coap_types.specs.declared.endpoint.Endpoint.{Endpoint}
-use Rattle.coap_codec.specs.Message.{AreBytes}
+use Rattle.coap_types.specs.Bytes.{AreBytes}
 use Rattle.coap_ends.specs.ClientTrace.{Request}
 use Rattle.coap_world.specs.Events.{client_end, server_end, What, Calls, Sets, Removes, Deliver, StrangerToClient, StrangerToServer}
 use Rattle.coap_world.specs.Record.{Given, Turn, IsNumber}

@@ -1,8 +1,8 @@
 -- The laws of a trace hold of each of its pasts.
 use Rattle.std.proofs.Common.{ℕ, List, [], ◌∷◌, ◌++◌}
 use Rattle.coap_types.specs.declared.endpoint.Endpoint.{Endpoint}
-use Rattle.coap_layer.specs.State as S
-use Rattle.coap_layer.specs.Steps.{Steps}
+use Rattle.coap_layer.specs.Machine.State as S
+use Rattle.coap_layer.specs.Machine.Steps.{Steps}
 use Rattle.coap_exchange.specs.AskerLaw.{ExchangeLaw}
 use Rattle.coap_exchange.specs.AskerSteps as A
 use Rattle.coap_exchange.specs.AskerTrace as A_trace

@@ -4,7 +4,7 @@ use Rattle.coap_types.specs.Past.{Always}
 use Rattle.coap_types.specs.declared.endpoint.Endpoint.{Endpoint}
 use Rattle.coap_layer.specs.Channel.{RepliesSo}
 use Rattle.coap_layer.specs.Rows.{LayerLaw}
-use Rattle.coap_layer.specs.State.{start}
+use Rattle.coap_layer.specs.Machine.State.{start}
 use Rattle.coap_exchange.specs.AskerLaw as asker
 use Rattle.coap_exchange.specs.declared.asker.Turn.{Turn}
 use Rattle.coap_exchange.proofs.Facts.ClientSide as E
@@ -16,6 +16,7 @@ use Rattle.coap_ends.specs.Follows.ClientFollows.{WasTaken, AreSent, ReportsAreA
 use Rattle.coap_ends.specs.Follows.ClientGives.{GivesInOrder}
 use Rattle.coap_ends.specs.Follows.ClientGoesOn.{GoesOn}
 use Rattle.coap_ends.specs.Follows.ClientHears.{AreHeard}
+use Rattle.coap_ends.specs.Follows.ClientInOrder.{AreInOrder}
 use Rattle.coap_ends.specs.Follows.ClientNumbering.{OneCall}
 use Rattle.coap_ends.specs.Follows.ClientEnds.{AllEnds}
 use Rattle.coap_ends.specs.Follows.ClientQueue.{StartsInOrder, AllTaken}
@@ -32,6 +33,7 @@ use Rattle.coap_ends.proofs.Sending.ClientQueued.{in_order as start_in_order, al
 use Rattle.coap_ends.proofs.Rest.ClientResting.{comes_to_rest}
 use Rattle.coap_ends.proofs.Sending.ClientSent.{once_of, are_sent, first_taken, waiting_taken}
 use Rattle.coap_ends.proofs.Sending.ConsAreRequests.{asked_for, exchange_of, request_of}
+use Rattle.coap_ends.proofs.Sending.InOrder.{are_in_order}
 use Rattle.coap_ends.proofs.Sending.NoNons.{no_nons}
 use Rattle.coap_ends.proofs.Sending.NumbersRise.{one_call}
 use Rattle.coap_ends.proofs.Sending.OneCon.{one_con}
@@ -101,3 +103,6 @@ module _ (server : Endpoint) (szx word : ℕ) (t : List Call) (law : ClientLaw s
 
   pub ends : AllEnds t
   ends = all_ends server szx word t law
+
+  pub order : AreInOrder t
+  order = are_in_order szx t law.rows sent (E.are_exchanges server word (lower_of t) law.exchanges.rows)

@@ -5,29 +5,18 @@ use Rattle.std.specs.List.{filter}
 use Rattle.std.proofs.Math.Nat.{pow-le-pow_right}
 use Rattle.std.proofs.lemmas.Bool.{cases_lt}
 use Rattle.std.proofs.lemmas.Nat.{mul-le}
+use Rattle.coap_types.proofs.Facts.Uints.{few_bytes}
 use Rattle.coap_types.specs.CoapOption.{CoapOption}
 use Rattle.coap_types.specs.Recognised.{placed, is_recognised}
 use Rattle.coap_types.specs.Uint.{IsSpelling, number_of, uint_value}
 use Rattle.coap_types.specs.declared.direction.Direction.TheVariants as direction
 use Rattle.std.proofs.lemmas.Bool.{le-leb, lt-ltb, and_from}
-use Rattle.coap_resource.specs.RequestOptions.{has, format_of, within_16}
-use Rattle.coap_resource.specs.ResponseOptions.{option_with, IsUint}
-use Rattle.coap_ends.specs.ClientRequests.{block2}
-use Rattle.coap_ends.specs.ClientReports.{recognised}
-
--- a number below this power of 256 has at most so many bytes
-pub few_bytes : (bytes : List ℕ) (number most : ℕ) → IsSpelling bytes number → number < 256 ^ most → length bytes ≤ most
-few_bytes [] number most s below = omega arith
-few_bytes (b ∷ bs) number most s below =
-    elim (cases_lt (length bs) most) [
-      | inl shorter ↦ omega arith
-      | inr longer ↦
-          let powers : 256 ^ most ≤ 256 ^ length bs = pow-le-pow_right {n = 256} (omega arith) longer in
-          let lead : 0 < b = s.no_zero in
-          let head : 1 * 256 ^ length bs ≤ b * 256 ^ length bs = mul-le 1 (256 ^ length bs) b (256 ^ length bs) (omega arith) (omega arith) in
-          let spelt : b * 256 ^ length bs + number_of bs ≡ number = s.spelt in
-          absurd (omega (arith, powers, head, spelt, below))
-    ]
+use Rattle.coap_types.specs.OptionValues.{has}
+use Rattle.coap_resource.specs.RequestOptions.{format_of, within_16}
+use Rattle.coap_types.specs.OptionValues.{option_with}
+use Rattle.coap_resource.specs.ResponseOptions.{IsUint}
+use Rattle.coap_types.specs.declared.option_number.TheConstants.{BLOCK2 as block2}
+use Rattle.coap_types.specs.Recognised.{recognised}
 
 -- options that are recognised one behind the other
 abbrev AreKnown : List CoapOption → List CoapOption → Type 0

@@ -2,11 +2,12 @@
 use Rattle.std.proofs.Common.{◌≡◌, ◌⊎◌, inl, inr, ◌≤◌, ℕ, max, Bool, true, false, Option, Some, None, List, [], ◌∷◌, ◌++◌, refl, ap, sym, subst, ◌∙◌, cond, arith}
 use Rattle.coap_types.specs.declared.endpoint.Endpoint.{Endpoint}
 use Rattle.coap_types.specs.declared.message.Kind.TheVariants.{Con, Non}
-use Rattle.coap_codec.specs.Message.{AreBytes, Message}
+use Rattle.coap_types.specs.Bytes.{AreBytes}
+use Rattle.coap_codec.specs.Message.{Message}
 use Rattle.coap_layer.specs.Arrivals.{arrival_at}
-use Rattle.coap_layer.specs.State as S
-use Rattle.coap_layer.specs.State.{is_busy, is_free, sending, next_after, uses_after}
-use Rattle.coap_layer.specs.Steps.{Steps}
+use Rattle.coap_layer.specs.Machine.State as S
+use Rattle.coap_layer.specs.Machine.State.{is_busy, is_free, sending, next_after, uses_after}
+use Rattle.coap_layer.specs.Machine.Steps.{Steps}
 use Rattle.coap_layer.specs.Trace as L
 use Rattle.coap_layer.specs.Trace.{with_head}
 use Rattle.coap_layer.specs.Words.{awaited_of, from_there, handed_by, issued_by, is_kept}

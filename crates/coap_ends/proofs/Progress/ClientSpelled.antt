@@ -11,13 +11,16 @@ use Rattle.coap_types.specs.declared.request.Method.TheVariants.{Get, Post, Put,
 use Rattle.coap_codec.specs.BoundedSpelling.{is_numbered}
 use Rattle.coap_codec.specs.Options.{Options}
 use Rattle.coap_codec.specs.Refused.{ascends, is_short}
-use Rattle.coap_codec.specs.Writing.{more, option_bytes, options_bytes}
+use Rattle.coap_codec.specs.Spelling.{more, option_bytes, options_bytes}
 use Rattle.coap_codec.proofs.SpellLemmas.{option_is}
 use Rattle.std.proofs.lemmas.Bool.{le-leb, and_from}
 use Rattle.coap_layer.specs.Rows.{IsSpelled}
 use Rattle.coap_exchange.specs.AskerRequests.{content_of}
 use Rattle.coap_ends.specs.ClientTrace.{Request}
-use Rattle.coap_ends.specs.ClientRequests.{content_format, accept, uint_option, path_options, more_options, options_of, message_of, longest, max_options}
+use Rattle.coap_types.specs.declared.option_number.TheConstants.{CONTENT_FORMAT as content_format, ACCEPT as accept}
+use Rattle.coap_ends.specs.declared.limits.TheConstants.{MAX_OPTIONS_LEN as max_options}
+use Rattle.coap_ends.specs.ClientRequests.{path_options, more_options, options_of, message_of, longest}
+use Rattle.coap_types.specs.OptionValues.{uint_option}
 
 -- options that ascend, have numbers and are short, have a spelling
 pub options_spelled : (os : List CoapOption) (base : ℕ) → ascends base os ≡ true → list_all is_numbered os ≡ true → list_all is_short os ≡ true → Options base (options_bytes base os) os

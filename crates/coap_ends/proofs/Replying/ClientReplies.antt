@@ -8,8 +8,8 @@ use Rattle.coap_types.specs.declared.message.Kind.TheVariants.{Con, Non, Ack, Rs
 use Rattle.coap_codec.specs.Message.{Message, Spells}
 use Rattle.coap_layer.specs.Trace as T
 use Rattle.coap_layer.specs.Words.{is_kept, handed, handed_by, from_there}
-use Rattle.coap_layer.specs.State as L
-use Rattle.coap_layer.specs.Steps.{Asked, Steps, entries, left_after}
+use Rattle.coap_layer.specs.Machine.State as L
+use Rattle.coap_layer.specs.Machine.Steps.{Asked, Steps, entries, left_after}
 use Rattle.coap_layer.specs.Channel.{RepliesSo}
 use Rattle.coap_layer.proofs.Facts.Calls.{steps_left}
 use Rattle.coap_exchange.specs.declared.asker.Exchange.{Exchange}

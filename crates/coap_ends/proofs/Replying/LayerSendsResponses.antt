@@ -1,15 +1,15 @@
 -- What the message layer of a server sends beside Empty messages carries a response that its exchanges were given.
 use Rattle.std.proofs.Common.{◌≡◌, ◌⊎◌, inl, inr, ℕ, ◌<◌, Bool, true, false, Option, Some, None, List, [], ◌∷◌, ◌++◌, refl, ap, sym, subst, ◌∙◌, cond, arith}
 use Rattle.coap_types.specs.Past.{Ever}
-use Rattle.coap_types.proofs.PastLemmas.{Ever_append}
+use Rattle.coap_types.proofs.Facts.Traces.{Ever_append}
 use Rattle.coap_types.specs.declared.endpoint.Endpoint.{Endpoint}
 use Rattle.coap_types.specs.declared.message.Kind.{Kind}
 use Rattle.coap_types.specs.declared.message.Kind.TheVariants.{Con, Non, Ack, Rst}
 use Rattle.coap_codec.specs.Message.{Message, Spells}
-use Rattle.coap_codec.specs.Writing.{message_bytes}
-use Rattle.coap_layer.specs.State as S
-use Rattle.coap_layer.specs.Steps as G
-use Rattle.coap_layer.specs.Steps.{entries}
+use Rattle.coap_codec.specs.Spelling.{message_bytes}
+use Rattle.coap_layer.specs.Machine.State as S
+use Rattle.coap_layer.specs.Machine.Steps as G
+use Rattle.coap_layer.specs.Machine.Steps.{entries}
 use Rattle.coap_layer.specs.Trace as L
 use Rattle.coap_layer.specs.Trace.{Content, with_head}
 use Rattle.coap_layer.specs.Words.{is_kept}

@@ -3,12 +3,12 @@ use Rattle.std.specs.Prelude.{All}
 use Rattle.std.proofs.Common.{◌≡◌, inl, inr, ℕ, max, Bool, Option, Some, None, List, [], ◌∷◌, length, refl, sym, subst}
 use Rattle.coap_types.specs.CoapOption.{CoapOption}
 use Rattle.coap_types.specs.Past.{Ever, Sometime}
-use Rattle.coap_types.specs.Uint.{AreBytes}
-use Rattle.coap_types.proofs.PastLemmas.{Ever_append}
+use Rattle.coap_types.specs.Bytes.{AreBytes}
+use Rattle.coap_types.proofs.Facts.Traces.{Ever_append}
 use Rattle.coap_types.specs.declared.endpoint.Endpoint.{Endpoint}
 use Rattle.coap_types.specs.declared.message.Kind.{Kind}
 use Rattle.coap_codec.specs.Message.{Message}
-use Rattle.coap_layer.specs.State as S
+use Rattle.coap_layer.specs.Machine.State as S
 use Rattle.coap_layer.specs.Trace as L
 use Rattle.coap_resource.specs.Content.{Content}
 use Rattle.coap_resource.specs.ResponseOptions.{Says}

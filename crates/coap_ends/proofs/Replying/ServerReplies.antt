@@ -5,13 +5,13 @@ use Rattle.coap_types.specs.declared.endpoint.Endpoint.{Endpoint}
 use Rattle.coap_types.specs.declared.message.Kind.{Kind}
 use Rattle.coap_types.specs.declared.message.Kind.TheVariants.{Con, Non, Ack, Rst}
 use Rattle.coap_codec.specs.Message.{Message, Spells}
-use Rattle.coap_codec.specs.Writing.{message_bytes}
+use Rattle.coap_codec.specs.Spelling.{message_bytes}
 use Rattle.coap_layer.specs.Trace as T
 use Rattle.coap_layer.specs.Trace.{with_head, Entry}
 use Rattle.coap_layer.specs.Words.{is_kept, handed, handed_by, from_there}
-use Rattle.coap_layer.specs.State as L
-use Rattle.coap_layer.specs.Steps as G
-use Rattle.coap_layer.specs.Steps.{Steps, entries, left_after}
+use Rattle.coap_layer.specs.Machine.State as L
+use Rattle.coap_layer.specs.Machine.Steps as G
+use Rattle.coap_layer.specs.Machine.Steps.{Steps, entries, left_after}
 use Rattle.coap_layer.specs.Channel.{RepliesSo}
 use Rattle.coap_layer.proofs.Facts.Calls.{steps_left}
 use Rattle.coap_exchange.specs.declared.answerer.Asked.{Asked}

@@ -1,21 +1,22 @@
 -- Where a datagram that a message layer sends comes from: it is a Reset, or an entry gives it as a reply, a NON or a CON
 -- (RFC 7252, sections 4.2 and 4.3).
-use Rattle.std.proofs.Common.{◌≡◌, ◌⊎◌, inl, inr, ℕ, ◌<◌, ◌==◌, Bool, true, false, ◌&&◌, Option, Some, None, List, [], ◌∷◌, refl, ap, sym, subst, ◌∙◌, cond, arith}
+use Rattle.std.proofs.Common.{◌≡◌, ◌⊎◌, inl, inr, ℕ, ◌<◌, ◌==◌, Bool, true, false, ◌&&◌, Option, Some, None, List, [], ◌∷◌, refl, ap, sym, subst, ◌∙◌, cond, arith, drop}
 use Rattle.coap_types.specs.Past.{Ever}
 use Rattle.coap_ends.specs.Follows.Sources.{GivesReply, GivesMessage, Source}
-use Rattle.coap_types.proofs.PastLemmas.{Ever_by_law, Ever_of_Since}
+use Rattle.coap_types.proofs.Facts.Traces.{Ever_by_law, Ever_of_Since}
 use Rattle.coap_types.specs.declared.endpoint.Endpoint.{Endpoint}
 use Rattle.coap_types.specs.declared.message.Kind.{Kind}
 use Rattle.coap_types.specs.declared.message.Kind.TheVariants.{Con, Non, Rst}
 use Rattle.coap_types.specs.SameEndpoint.{same_endpoint}
-use Rattle.coap_types.proofs.EndpointLemmas.{same_endpoint_is}
+use Rattle.coap_types.proofs.Facts.Endpoints.{same_endpoint_is}
 use Rattle.coap_codec.specs.declared.fault.Reason.{Reason}
 use Rattle.coap_codec.specs.declared.fault.Reason.TheVariants as fault
 use Rattle.coap_codec.specs.Faulty.{head_of}
 use Rattle.coap_codec.specs.Header.{id_of}
-use Rattle.coap_codec.specs.Message.{AreBytes, Message, Spells}
-use Rattle.coap_codec.specs.Writing.{message_bytes}
-use Rattle.coap_codec.proofs.SoundBytes.{AreBytes-drop}
+use Rattle.coap_types.specs.Bytes.{AreBytes}
+use Rattle.coap_codec.specs.Message.{Message, Spells}
+use Rattle.coap_codec.specs.Spelling.{message_bytes}
+use Rattle.coap_types.proofs.Facts.Bytes.{AreBytes-drop, byte_at}
 use Rattle.coap_layer.specs.Arrivals.{Faulted, Whole, Shows, by_head}
 use Rattle.coap_layer.specs.Trace.{Content, with_head, Packet, Call, Receive, Reply, Confirm, Plain, Settle, Ticks, Take, Room, AsksFree, Pass, Entry}
 use Rattle.coap_layer.specs.Words.{Awaited, awaits, awaits_in, awaited_of, Incoming, handed, handed_in, handed_by, from_there, reply_in, hands_up, Open, begun}
@@ -34,7 +35,7 @@ only_out p q out is h = elim (subst (IsIn p) is h) [ inl k ↦ k | inr k ↦ abs
 -- Message IDs have 16 bits
 
 id_small : (bytes : List ℕ) → AreBytes bytes → id_of bytes < 65536
-id_small bytes fits = let d = AreBytes-drop 2 bytes fits in omega (arith, d 0, d 1)
+id_small bytes fits = let d = AreBytes-drop 2 bytes fits in omega (arith, byte_at (drop 2 bytes) d 0, byte_at (drop 2 bytes) d 1)
 
 fault_id : (reason : Reason) (bytes : List ℕ) (kind : Kind) (id : ℕ) → Faulted kind id ≡ by_head (head_of reason bytes) → id ≡ id_of bytes
 fault_id fault.Short bytes kind id h = absurd (cc h)

@@ -1,11 +1,12 @@
 -- Each report is of a call; an exchange that ends without a response is reported so, and nothing else is.
 use Rattle.std.proofs.Common.{◌≡◌, ◌⊎◌, inl, inr, ℕ, max, length, nat_lt, ◌==◌, ◌||◌, Bool, true, false, Option, Some, None, List, [], ◌∷◌, ◌++◌, refl, ap, sym, subst, ◌∙◌, Result, Ok, Err, cond}
-use Rattle.coap_types.proofs.PastLemmas.{Always_back}
+use Rattle.coap_types.proofs.Facts.Traces.{Always_back}
 use Rattle.coap_types.specs.declared.endpoint.Endpoint.{Endpoint}
 use Rattle.coap_types.specs.declared.request.Method.{Method}
 use Rattle.coap_types.specs.declared.request.Method.TheVariants.{Get, Post, Put, Delete}
 use Rattle.coap_codec.specs.Message.{Message}
-use Rattle.coap_resource.specs.RequestOptions.{has, value_of, format_of}
+use Rattle.coap_types.specs.OptionValues.{has, value_of}
+use Rattle.coap_resource.specs.RequestOptions.{format_of}
 use Rattle.coap_layer.specs.Trace as L
 use Rattle.coap_layer.specs.Words.{sent_by}
 use Rattle.coap_exchange.specs.declared.asker.AskRefusal.{AskRefusal}
@@ -24,11 +25,12 @@ use Rattle.coap_exchange.specs.AskerLaw as W
 use Rattle.coap_exchange.specs.AskerLaw.{AskerLaw, ExchangeLaw}
 use Rattle.coap_exchange.specs.AskerFollows as F
 use Rattle.coap_exchange.specs.AskerTells.{AreRefused}
-use Rattle.coap_exchange.proofs.Facts.ClientSide.{are_exchanges}
-use Rattle.coap_exchange.proofs.Exchanges.RefusedWhileOneRuns as R
+use Rattle.coap_exchange.proofs.Facts.ClientSide.{are_exchanges, are_refused}
 use Rattle.coap_ends.specs.ClientTrace.{Operation, Request, Report, Body, Done, Failed, TooLarge, Timeout, Reset, NoResponse, NoIds, Reported, Own, Call, Calls, Feeds, Ticks, NextOut, NextReport}
-use Rattle.coap_ends.specs.ClientRequests.{message_of, max_body, block2}
-use Rattle.coap_ends.specs.ClientReports.{report_of, lapse, said, body_of, content, etag, is_success}
+use Rattle.coap_types.specs.declared.limits.TheConstants.{MAX_BODY_LEN as max_body}
+use Rattle.coap_types.specs.declared.option_number.TheConstants.{BLOCK2 as block2, ETAG as etag}
+use Rattle.coap_ends.specs.ClientRequests.{message_of}
+use Rattle.coap_ends.specs.ClientReports.{report_of, lapse, said, body_of, content, is_success}
 use Rattle.coap_ends.specs.ClientSteps.{lower, reported, running_unless, lapsed, refused, either, is_idle, starting_if, starting, started, asking, reports}
 use Rattle.coap_ends.specs.ClientLaw.{own_of, lower_of, ClientLaw}
 use Rattle.coap_ends.specs.Follows.ClientFollows.{WasTaken, WasSent}
@@ -335,4 +337,4 @@ module _ (server : Endpoint) (w0 : ℕ) where
 
 pub all_ends : (server : Endpoint) (szx word : ℕ) (t : List Call) → ClientLaw server szx word t → AllEnds t
 all_ends server szx word t law =
-    all_in server word t law.exchanges.rows (are_exchanges server word (lower_of t) law.exchanges.rows) (R.refused server word (lower_of t) law.exchanges.rows law.exchanges.left law.exchanges.layer)
+    all_in server word t law.exchanges.rows (are_exchanges server word (lower_of t) law.exchanges.rows) (are_refused server word (lower_of t) law.exchanges)

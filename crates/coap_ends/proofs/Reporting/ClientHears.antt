@@ -1,15 +1,15 @@
 -- What a client takes as an answer was handed up by its message layer.
 use Rattle.std.proofs.Common.{◌≡◌, inl, ℕ, max, Bool, true, Some, None, List, [], ◌∷◌, ◌++◌, ap, sym, subst, ◌∙◌}
 use Rattle.coap_types.specs.Past.{Ever}
-use Rattle.coap_types.proofs.PastLemmas.{Ever_front, Ever_back, Ever_map}
+use Rattle.coap_types.proofs.Facts.Traces.{Ever_front, Ever_back, Ever_map}
 use Rattle.coap_types.specs.declared.endpoint.Endpoint.{Endpoint}
 use Rattle.coap_types.specs.SameEndpoint.{same_endpoint}
-use Rattle.coap_types.proofs.EndpointLemmas.{same_endpoint_is}
+use Rattle.coap_types.proofs.Facts.Endpoints.{same_endpoint_is}
 use Rattle.coap_codec.specs.Message.{Message}
 use Rattle.coap_layer.specs.Trace as L
-use Rattle.coap_layer.specs.State as S
-use Rattle.coap_layer.specs.Steps as G
-use Rattle.coap_layer.specs.Steps.{Steps}
+use Rattle.coap_layer.specs.Machine.State as S
+use Rattle.coap_layer.specs.Machine.Steps as G
+use Rattle.coap_layer.specs.Machine.Steps.{Steps}
 use Rattle.coap_exchange.specs.declared.asker.Event.TheVariants as event
 use Rattle.coap_exchange.specs.declared.matching.Verdict.{Verdict}
 use Rattle.coap_exchange.specs.declared.matching.Verdict.TheVariants.{Ignore, Reject, Acknowledge, Await, EndByReset, AnswerCon, Answer, NoticeCon, Notice}

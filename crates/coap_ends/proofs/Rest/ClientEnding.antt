@@ -1,8 +1,8 @@
 -- At one moment, the ticks of a client end, and so do what it has out and its reports (RFC 7252, sections 4.2 and 5.2).
 use Rattle.std.proofs.Common.{◌≡◌, ◌≤◌, ◌<◌, ◌⊎◌, inl, inr, ℕ, ◌+◌, ◌*◌, max, Bool, true, false, Option, Some, None, is_some, List, [], ◌∷◌, ◌++◌, drop, length, slice_get, Result, refl, ap, sym, subst, ◌∙◌, cond, arith}
 use Rattle.coap_types.specs.declared.endpoint.Endpoint.{Endpoint}
-use Rattle.coap_layer.specs.State as S
-use Rattle.coap_layer.specs.Steps.{Asked, Steps, left_after}
+use Rattle.coap_layer.specs.Machine.State as S
+use Rattle.coap_layer.specs.Machine.Steps.{Asked, Steps, left_after}
 use Rattle.coap_layer.specs.Trace as L
 use Rattle.coap_exchange.specs.declared.asker.AskRefusal.{AskRefusal}
 use Rattle.coap_exchange.specs.declared.asker.Event.{Event}

@@ -2,7 +2,7 @@
 use Rattle.std.proofs.Common.{◌≡◌, ℕ, ◌+◌, ◌-◌, ◌^◌, ◌==◌, nat_le, nat_lt, ◌||◌, Bool, true, false, Option, Some, None, List, [], ◌∷◌, ◌++◌, length, refl, ap, sym, ◌∙◌, arith, append_assoc, if◌then◌else◌}
 use Rattle.std.specs.Prelude.{option_to_list}
 use Rattle.std.proofs.lemmas.List.{append-nil, length-append}
-use Rattle.coap_codec.specs.Writing.{options_bytes}
+use Rattle.coap_codec.specs.Spelling.{options_bytes}
 use Rattle.coap_ends.specs.ClientTrace.{Request, Operation, Taking, Taken, QueueFull, BodyTooLarge, BadPath, CallsSpent, Call, Calls, Feeds, Ticks, NextOut, NextReport}
 use Rattle.coap_ends.specs.ClientRequests.{payload_by, longest, taking}
 use Rattle.coap_ends.specs.ClientSteps.{queued, taken_by, is_idle, starting_if, starting, waiting_after}

@@ -2,16 +2,16 @@
 use Rattle.std.proofs.Common.{◌≡◌, inl, inr, ℕ, ◌+◌, ◌%◌, max, Bool, true, false, Option, Some, None, List, [], ◌∷◌, ◌++◌, refl, ap, sym, subst, ◌∙◌, Result, Ok, Err}
 use Rattle.std.specs.Option.{option_map}
 use Rattle.coap_types.specs.Past.{Ever}
-use Rattle.coap_types.proofs.PastLemmas.{Ever_append}
+use Rattle.coap_types.proofs.Facts.Traces.{Ever_append}
 use Rattle.coap_types.specs.declared.endpoint.Endpoint.{Endpoint}
 use Rattle.coap_types.specs.declared.message.Kind.TheVariants.{Con}
-use Rattle.coap_codec.specs.Writing.{message_bytes}
+use Rattle.coap_codec.specs.Spelling.{message_bytes}
 use Rattle.coap_layer.specs.Trace as L
 use Rattle.coap_layer.specs.Trace.{with_head}
 use Rattle.coap_layer.specs.Words.{Open, begun, begun_in, open_of, sent_by}
 use Rattle.coap_layer.specs.Rows.{IsSpelled}
-use Rattle.coap_layer.specs.State as S
-use Rattle.coap_layer.specs.Steps.{Asked, Steps, entries, left_after}
+use Rattle.coap_layer.specs.Machine.State as S
+use Rattle.coap_layer.specs.Machine.Steps.{Asked, Steps, entries, left_after}
 use Rattle.coap_exchange.specs.declared.asker.AskRefusal.{AskRefusal}
 use Rattle.coap_exchange.specs.declared.asker.Turn.{Turn}
 use Rattle.coap_exchange.specs.declared.asker.Exchange.{Exchange}

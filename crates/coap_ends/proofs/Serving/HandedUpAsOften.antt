@@ -2,9 +2,9 @@
 use Rattle.std.proofs.Common.{◌≡◌, ◌≤◌, ℕ, ◌+◌, Option, None, List, [], ◌∷◌, ◌++◌, refl, ap, subst, ◌∙◌, arith}
 use Rattle.coap_types.specs.Past.{Always}
 use Rattle.coap_layer.specs.Trace as L
-use Rattle.coap_layer.specs.State as S
-use Rattle.coap_layer.specs.Steps.{Steps, entries, left_after}
-use Rattle.coap_layer.specs.Steps as G
+use Rattle.coap_layer.specs.Machine.State as S
+use Rattle.coap_layer.specs.Machine.Steps.{Steps, entries, left_after}
+use Rattle.coap_layer.specs.Machine.Steps as G
 use Rattle.coap_exchange.specs.declared.answerer.Asked.{Asked}
 use Rattle.coap_exchange.specs.AnswererTrace as E
 use Rattle.coap_exchange.specs.AnswererSteps as P

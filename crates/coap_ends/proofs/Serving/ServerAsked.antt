@@ -3,23 +3,26 @@ use Rattle.std.proofs.Common.{◌≡◌, ◌⊎◌, ◌≤◌, ◌<◌, inl, inr
 use Rattle.std.specs.Cmp.{unsigned_Decides}
 use Rattle.std.proofs.lemmas.Bool.{lt-ltb, ltb-true}
 use Rattle.coap_types.specs.MethodCode.{method_code}
-use Rattle.coap_types.proofs.PastLemmas.{Always_back}
-use Rattle.coap_types.specs.Unrecognised.{lacks_critical}
+use Rattle.coap_types.proofs.Facts.Traces.{Always_back}
+use Rattle.coap_types.specs.Recognised.{lacks_critical}
 use Rattle.coap_types.specs.declared.direction.Direction.TheVariants as direction
 use Rattle.coap_types.specs.declared.message.Kind.{Kind}
 use Rattle.coap_types.specs.declared.message.Kind.TheVariants.{Con, Non, Ack, Rst}
 use Rattle.coap_types.specs.declared.request.Method.{Method}
 use Rattle.coap_types.specs.declared.request.Method.TheVariants.{Get, Post, Put, Delete}
 use Rattle.coap_codec.specs.Message.{Message}
-use Rattle.coap_resource.specs.RequestOptions.{has, value_of}
+use Rattle.coap_types.specs.OptionValues.{has, value_of}
 use Rattle.coap_resource.specs.Serves.{Question}
 use Rattle.coap_layer.specs.Trace as L
 use Rattle.coap_exchange.specs.declared.answerer.Asked.{Asked}
 use Rattle.coap_exchange.specs.AnswererFollows.{AreRequests}
 use Rattle.coap_exchange.proofs.Facts.ServerSide.{came_in}
-use Rattle.coap_ends.specs.ClientRequests.{block1, block2}
+use Rattle.coap_types.specs.declared.option_number.TheConstants.{BLOCK1 as block1, BLOCK2 as block2, PROXY_URI as proxy_uri, PROXY_SCHEME as proxy_scheme}
 use Rattle.coap_ends.specs.ServerTrace.{Own, Handling, Call, Feeds}
-use Rattle.coap_ends.specs.ServerChecks.{Verdict, Refused, Asks, verdict_on, bad_by, bad_request, proxying_not_supported, proxy_uri, proxy_scheme, asked_by, method_by, question, path_of, asks, max_segments, is_reserved}
+use Rattle.coap_types.specs.declared.path.TheConstants.{MAX_SEGMENTS as max_segments}
+use Rattle.coap_ends.specs.ServerChecks.{Verdict, Refused, Asks, verdict_on, bad_by, bad_request, proxying_not_supported, asked_by, question, asks, is_reserved}
+use Rattle.coap_types.specs.MethodCode.{method_of}
+use Rattle.coap_types.specs.RequestPath.{path_of}
 use Rattle.coap_ends.specs.ServerSteps.{lower, Handles, AsksBy, waits_by, delay_of, max_waiting}
 use Rattle.coap_ends.specs.ServerLaw.{own_of, lower_of, ServerRows, ServerLaw}
 use Rattle.coap_ends.specs.Follows.ServerFollows.{Serving, serving}
@@ -31,7 +34,7 @@ use Rattle.coap_ends.proofs.Holding.ServerHolds.{all_served}
 
 -- what is asked of the store has no fault
 
-code_of : (n : ℕ) (method : Method) → method_by n ≡ Some method → (method_code method).0 ≡ n
+code_of : (n : ℕ) (method : Method) → method_of n ≡ Some method → (method_code method).0 ≡ n
 code_of n method h = first (n == 1) refl h
   where
     some : (k : ℕ) (m : Method) → (method_code m).0 ≡ k → n ≡ k → Some m ≡ Some method → (method_code method).0 ≡ n
@@ -53,7 +56,7 @@ code_of n method h = first (n == 1) refl h
     first true e g = some 1 Get refl ((unsigned_Decides n 1).0 e) g
     first false e g = second (n == 2) refl g
 
-method_is : (m : Method) → method_by (method_code m).0 ≡ Some m
+method_is : (m : Method) → method_of (method_code m).0 ≡ Some m
 method_is Get = refl
 method_is Post = refl
 method_is Put = refl
@@ -81,7 +84,7 @@ pub is_asked : (szx : ℕ) (m : Message) (q : Question) → verdict_on szx m ≡
 is_asked szx m q h =
     first (lacks_critical direction.Request m.options) (has block1 (asks m)) refl refl h
   where
-    fifth : lacks_critical direction.Request m.options ≡ false → has block1 (asks m) ≡ false → has proxy_uri (asks m) ≡ false → has proxy_scheme (asks m) ≡ false → (method : Method) → method_by m.code ≡ Some method
+    fifth : lacks_critical direction.Request m.options ≡ false → has block1 (asks m) ≡ false → has proxy_uri (asks m) ≡ false → has proxy_scheme (asks m) ≡ false → (method : Method) → method_of m.code ≡ Some method
         → (a b : Bool) → nat_lt max_segments (length (path_of (asks m))) ≡ a → is_reserved (value_of block2 (asks m)) ≡ b → cond a (Refused bad_request) (cond b (Refused bad_request) (Asks (question szx method m))) ≡ Asks q → IsAsked szx m q
     fifth l w u s method by true b n r e = absurd (cc e)
     fifth l w u s method by false true n r e = absurd (cc e)
@@ -94,17 +97,17 @@ is_asked szx m q h =
           is = sym same ∙ ap (λ z. question_of szx z m) (sym is);
         }
 
-    fourth : lacks_critical direction.Request m.options ≡ false → has block1 (asks m) ≡ false → has proxy_uri (asks m) ≡ false → has proxy_scheme (asks m) ≡ false → (o : Option Method) → method_by m.code ≡ o → asked_by szx o m ≡ Asks q → IsAsked szx m q
+    fourth : lacks_critical direction.Request m.options ≡ false → has block1 (asks m) ≡ false → has proxy_uri (asks m) ≡ false → has proxy_scheme (asks m) ≡ false → (o : Option Method) → method_of m.code ≡ o → asked_by szx o m ≡ Asks q → IsAsked szx m q
     fourth l w u s None by e = absurd (cc e)
     fourth l w u s (Some method) by e = fifth l w u s method by (nat_lt max_segments (length (path_of (asks m)))) (is_reserved (value_of block2 (asks m))) refl refl e
 
-    second : lacks_critical direction.Request m.options ≡ false → has block1 (asks m) ≡ false → (u s : Bool) → has proxy_uri (asks m) ≡ u → has proxy_scheme (asks m) ≡ s → cond (u || s) (Refused proxying_not_supported) (asked_by szx (method_by m.code) m) ≡ Asks q → IsAsked szx m q
+    second : lacks_critical direction.Request m.options ≡ false → has block1 (asks m) ≡ false → (u s : Bool) → has proxy_uri (asks m) ≡ u → has proxy_scheme (asks m) ≡ s → cond (u || s) (Refused proxying_not_supported) (asked_by szx (method_of m.code) m) ≡ Asks q → IsAsked szx m q
     second l w true s uu ss e = absurd (cc e)
     second l w false true uu ss e = absurd (cc e)
-    second l w false false uu ss e = fourth l w uu ss (method_by m.code) refl e
+    second l w false false uu ss e = fourth l w uu ss (method_of m.code) refl e
 
     first : (l w : Bool) → lacks_critical direction.Request m.options ≡ l → has block1 (asks m) ≡ w
-        → cond (l || w) (bad_by m.kind) (cond (has proxy_uri (asks m) || has proxy_scheme (asks m)) (Refused proxying_not_supported) (asked_by szx (method_by m.code) m)) ≡ Asks q → IsAsked szx m q
+        → cond (l || w) (bad_by m.kind) (cond (has proxy_uri (asks m) || has proxy_scheme (asks m)) (Refused proxying_not_supported) (asked_by szx (method_of m.code) m)) ≡ Asks q → IsAsked szx m q
     first true w ll ww e = absurd (no_bad m.kind q e)
     first false true ll ww e = absurd (no_bad m.kind q e)
     first false false ll ww e = second ll ww (has proxy_uri (asks m)) (has proxy_scheme (asks m)) refl refl e
@@ -121,14 +124,14 @@ pub asked_when_good : (szx : ℕ) (m : Message) (method : Method) → (method_co
 asked_when_good szx m method code good =
     ap (λ l. cond (l || has block1 (asks m)) (bad_by m.kind) rest) good.critical
     ∙ (ap (λ w. cond w (bad_by m.kind) rest) good.whole
-    ∙ (ap (λ u. cond (u || has proxy_scheme (asks m)) (Refused proxying_not_supported) (asked_by szx (method_by m.code) m)) good.uri
-    ∙ (ap (λ s. cond s (Refused proxying_not_supported) (asked_by szx (method_by m.code) m)) good.scheme
-    ∙ (ap (λ o. asked_by szx o m) (ap method_by (sym code) ∙ method_is method)
+    ∙ (ap (λ u. cond (u || has proxy_scheme (asks m)) (Refused proxying_not_supported) (asked_by szx (method_of m.code) m)) good.uri
+    ∙ (ap (λ s. cond s (Refused proxying_not_supported) (asked_by szx (method_of m.code) m)) good.scheme
+    ∙ (ap (λ o. asked_by szx o m) (ap method_of (sym code) ∙ method_is method)
     ∙ (ap (λ a. cond a (Refused bad_request) (cond (is_reserved (value_of block2 (asks m))) (Refused bad_request) (Asks (question szx method m)))) (not_over (length (path_of (asks m))) good.segments)
     ∙ ap (λ b. cond b (Refused bad_request) (Asks (question szx method m))) good.size)))))
   where
     rest : Verdict
-    rest = cond (has proxy_uri (asks m) || has proxy_scheme (asks m)) (Refused proxying_not_supported) (asked_by szx (method_by m.code) m)
+    rest = cond (has proxy_uri (asks m) || has proxy_scheme (asks m)) (Refused proxying_not_supported) (asked_by szx (method_of m.code) m)
 
 -- what is asked is served here, or waits
 

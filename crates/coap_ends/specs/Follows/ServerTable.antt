@@ -3,18 +3,20 @@ use Rattle.std.specs.Prelude.{◌≡◌, ◌⊎◌, ◌≤◌, ℕ, false, Some,
 use Rattle.coap_types.specs.CoapOption.{CoapOption}
 use Rattle.coap_types.specs.MethodCode.{method_code}
 use Rattle.coap_types.specs.Past.{Ever, Always}
-use Rattle.coap_types.specs.Unrecognised.{lacks_critical}
+use Rattle.coap_types.specs.Recognised.{lacks_critical}
 use Rattle.coap_types.specs.declared.direction.Direction.TheVariants.{Request}
+use Rattle.coap_types.specs.declared.path.TheConstants.{MAX_SEGMENTS as max_segments}
 use Rattle.coap_types.specs.declared.request.Method.{Method}
 use Rattle.coap_codec.specs.Message.{Message}
-use Rattle.coap_resource.specs.RequestOptions.{has, value_of}
+use Rattle.coap_types.specs.OptionValues.{has, value_of}
 use Rattle.coap_resource.specs.Serves.{Question}
 use Rattle.coap_resource.specs.Serves as R
 use Rattle.coap_exchange.specs.declared.answerer.Asked.{Asked}
-use Rattle.coap_ends.specs.ClientReports.{recognised}
-use Rattle.coap_ends.specs.ClientRequests.{block1, block2}
+use Rattle.coap_types.specs.Recognised.{recognised}
+use Rattle.coap_types.specs.declared.option_number.TheConstants.{BLOCK1 as block1, BLOCK2 as block2, PROXY_URI as proxy_uri, PROXY_SCHEME as proxy_scheme}
 use Rattle.coap_ends.specs.ServerTrace.{Call}
-use Rattle.coap_ends.specs.ServerChecks.{proxy_uri, proxy_scheme, path_of, is_reserved}
+use Rattle.coap_ends.specs.ServerChecks.{is_reserved}
+use Rattle.coap_types.specs.RequestPath.{path_of}
 use Rattle.coap_ends.specs.ServerSteps.{delay_of}
 use Rattle.coap_ends.specs.ServerLaw.{own_of}
 use Rattle.coap_ends.specs.Follows.ServerFollows.{Serving, serving}
@@ -31,7 +33,7 @@ pub record HasNoFault (m : Message) : Type 0 where
   pub whole : has block1 (options_of m) ≡ false
   pub uri : has proxy_uri (options_of m) ≡ false
   pub scheme : has proxy_scheme (options_of m) ≡ false
-  pub segments : length (path_of (options_of m)) ≤ 16
+  pub segments : length (path_of (options_of m)) ≤ max_segments
   pub size : is_reserved (value_of block2 (options_of m)) ≡ false
 
 -- what a request with this method asks of the store

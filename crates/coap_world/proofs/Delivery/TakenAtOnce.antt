@@ -1,7 +1,7 @@
 -- What is taken in a turn was sent in that turn: each turn before took all that waited.
 use Rattle.std.proofs.Common.{◌≡◌, ◌⊎◌, inl, inr, ◌≤◌, ℕ, zero, suc, Option, Some, None, List, [], ◌∷◌, ◌++◌, drop, slice_get, refl, ap, sym, subst, ◌∙◌, arith}
 use Rattle.coap_types.specs.Past.{Ever}
-use Rattle.coap_types.proofs.PastLemmas.{Ever_back, Ever_by_law}
+use Rattle.coap_types.proofs.Facts.Traces.{Ever_back, Ever_by_law}
 use Rattle.coap_types.specs.declared.endpoint.Endpoint.{Endpoint}
 use Rattle.coap_layer.specs.Trace.{Packet, Take, Gives, Entry}
 use Rattle.coap_layer.specs.Words.{waiting, takes_in}

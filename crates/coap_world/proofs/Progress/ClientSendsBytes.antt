@@ -5,7 +5,7 @@ use Rattle.coap_types.specs.Past.{Ever}
 use Rattle.coap_types.specs.declared.endpoint.Endpoint.{Endpoint}
 use Rattle.coap_types.specs.declared.request.Method.{Method}
 use Rattle.coap_types.specs.declared.request.Method.TheVariants.{Get, Post, Put, Delete}
-use Rattle.coap_codec.specs.Message.{AreBytes}
+use Rattle.coap_types.specs.Bytes.{AreBytes}
 use Rattle.std.proofs.lemmas.Bool.{ltb-true}
 use Rattle.coap_layer.specs.Sends.{IsIn}
 use Rattle.coap_layer.specs.Trace as L
@@ -23,7 +23,9 @@ use Rattle.coap_exchange.specs.AskerLaw as W
 use Rattle.coap_exchange.specs.Tokens.{token_of}
 use Rattle.coap_exchange.proofs.Facts.ClientSide.{layer_stands}
 use Rattle.coap_ends.specs.ClientTrace.{Request, Operation, Call, Calls, Feeds, Ticks, NextOut, NextReport}
-use Rattle.coap_ends.specs.ClientRequests.{uint, uint_option, path_options, more_options, payload_by}
+use Rattle.coap_types.specs.Uint.{uint}
+use Rattle.coap_types.specs.OptionValues.{uint_option}
+use Rattle.coap_ends.specs.ClientRequests.{path_options, more_options, payload_by}
 use Rattle.coap_ends.specs.ClientSteps.{is_idle, starting, asking}
 use Rattle.coap_ends.specs.ClientLaw.{ClientLaw, own_of, lower_of, layer_of}
 use Rattle.coap_ends.specs.Follows.ClientFollows.{WasTaken}

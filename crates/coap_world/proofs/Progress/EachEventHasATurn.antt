@@ -2,16 +2,17 @@
 use Rattle.std.proofs.Common.{◌≡◌, ◌≤◌, inl, inr, ℕ, Bool, true, false, not, Some, None, List, [], ◌∷◌, ◌++◌, map, length, length-append, refl, ap, sym, subst, ◌∙◌, append_assoc, cond, arith}
 use Rattle.coap_types.specs.Path.{same_path}
 use Rattle.coap_types.specs.declared.endpoint.Endpoint.{Endpoint}
-use Rattle.coap_codec.specs.Message.{AreBytes}
+use Rattle.coap_types.specs.Bytes.{AreBytes}
 use Rattle.std.proofs.lemmas.Bool.{lt-ltb}
-use Rattle.coap_layer.specs.State as layer
+use Rattle.coap_layer.specs.Machine.State as layer
 use Rattle.coap_ends.specs.ClientTrace as C
 use Rattle.coap_ends.specs.ClientLaw.{ClientLaw}
 use Rattle.coap_ends.specs.Follows.Endings.{UpToIdle, all_taken}
 use Rattle.coap_ends.specs.ServerTrace as S
 use Rattle.coap_ends.specs.ServerLaw.{ServerLaw, own_of}
 use Rattle.coap_ends.specs.Follows.ServerShows.{FormatsInRange}
-use Rattle.coap_ends.specs.ServerSteps.{max_delays, others}
+use Rattle.coap_ends.specs.declared.limits.TheConstants.{MAX_DELAYS as max_delays}
+use Rattle.coap_ends.specs.ServerSteps.{others}
 use Rattle.coap_ends.specs.Follows.ServerRests.{Stands}
 use Rattle.coap_ends.proofs.Facts.OfClient as client_facts
 use Rattle.coap_ends.proofs.Facts.OfServer as server_facts

@@ -3,12 +3,13 @@
 use Rattle.std.proofs.Common.{ℕ, Bool, true, false, Option, Some, None, List, [], ◌∷◌, ◌++◌, refl, sym, subst, cond}
 use Rattle.coap_types.specs.declared.message.Kind.{Kind}
 use Rattle.coap_types.specs.declared.message.Kind.TheVariants.{Con, Non, Ack, Rst}
-use Rattle.coap_codec.specs.Message.{AreBytes, Message, Spells, header, marked}
-use Rattle.coap_codec.specs.Writing.{message_bytes}
-use Rattle.coap_codec.proofs.StepLemmas.{AreBytes-rest, AreBytes-tail}
-use Rattle.coap_codec.proofs.SoundBytes.{AreBytes-front}
-use Rattle.coap_layer.specs.State as S
-use Rattle.coap_layer.specs.Steps.{Asked as Below, Steps}
+use Rattle.coap_types.specs.Bytes.{AreBytes}
+use Rattle.coap_codec.specs.Message.{Message, Spells, header, marked}
+use Rattle.coap_codec.specs.Spelling.{message_bytes}
+use Rattle.coap_types.proofs.Facts.Bytes.{AreBytes-rest, AreBytes-tail}
+use Rattle.coap_types.proofs.Facts.Bytes.{AreBytes-front}
+use Rattle.coap_layer.specs.Machine.State as S
+use Rattle.coap_layer.specs.Machine.Steps.{Asked as Below, Steps}
 use Rattle.coap_layer.specs.Trace as L
 use Rattle.coap_layer.specs.Trace.{with_head}
 use Rattle.coap_layer.specs.Words.{is_kept}

@@ -6,8 +6,9 @@ use Rattle.coap_types.specs.CoapOption.{CoapOption}
 use Rattle.coap_types.specs.Uint as uint
 use Rattle.coap_types.specs.declared.message.Kind.{Kind}
 use Rattle.coap_types.specs.declared.message.Kind.TheVariants.{Con, Non, Ack, Rst}
-use Rattle.coap_codec.specs.Message.{AreBytes, Message, Spells, header, marked, kind_number}
-use Rattle.coap_codec.specs.Writing.{nibble, more, option_bytes, options_bytes, message_bytes}
+use Rattle.coap_types.specs.Bytes.{AreBytes}
+use Rattle.coap_codec.specs.Message.{Message, Spells, header, marked, kind_number}
+use Rattle.coap_codec.specs.Spelling.{nibble, more, option_bytes, options_bytes, message_bytes}
 use Rattle.std.proofs.lemmas.Bool.{ltb-true}
 
 -- lists

@@ -1,11 +1,11 @@
 -- What a client hears as an answer is the response to the request of a call: of one that the server served, or refused.
 use Rattle.std.proofs.Common.{◌≡◌, ◌⊎◌, inl, inr, true, Some, List, [], ◌∷◌, map, refl, ap, sym, subst, ◌∙◌}
 use Rattle.coap_types.specs.Past.{Ever, Sometime}
-use Rattle.coap_types.proofs.PastLemmas.{by_suffix}
+use Rattle.coap_types.proofs.Facts.Traces.{by_suffix}
 use Rattle.coap_types.specs.Roles.{role_of}
 use Rattle.coap_types.specs.declared.role.Role.TheVariants as role
 use Rattle.coap_codec.specs.Message.{Message}
-use Rattle.coap_codec.proofs.EveryDatagram.{one_message}
+use Rattle.coap_codec.proofs.Facts.EveryDatagram.{one_message}
 use Rattle.coap_layer.specs.Trace as T
 use Rattle.coap_layer.specs.Trace.{with_head}
 use Rattle.coap_layer.proofs.Facts.Hops.{far_ever}

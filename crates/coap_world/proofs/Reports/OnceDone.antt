@@ -1,14 +1,14 @@
 -- Where success is reported, a request of the call was applied since the call; a body that is reported was held since.
 use Rattle.std.proofs.Common.{◌≡◌, inl, inr, ℕ, true, false, Option, Some, List, [], ◌∷◌, refl, ap, sym, subst, ◌∙◌}
 use Rattle.coap_types.specs.Past.{Sometime, Always}
-use Rattle.coap_types.proofs.PastLemmas.{Sometime_map}
+use Rattle.coap_types.proofs.Facts.Traces.{Sometime_map}
 use Rattle.coap_codec.specs.Message.{Message}
 use Rattle.coap_resource.specs.Content.{Held}
-use Rattle.coap_resource.specs.RequestOptions.{has}
+use Rattle.coap_types.specs.OptionValues.{has}
 use Rattle.coap_exchange.specs.declared.answerer.Asked.{Asked}
 use Rattle.coap_ends.specs.Follows.ClientFollows.{Sending}
 use Rattle.coap_ends.specs.ClientReports.{content, said}
-use Rattle.coap_ends.specs.ClientRequests.{block2}
+use Rattle.coap_types.specs.declared.option_number.TheConstants.{BLOCK2 as block2}
 use Rattle.coap_ends.specs.Follows.ClientSendings.{OneSending}
 use Rattle.coap_ends.specs.ClientTrace.{Body, Done, Report}
 use Rattle.coap_ends.specs.Follows.ServerFollows.{is_applied}

@@ -1,7 +1,7 @@
 -- A report of a response is of a request of that call, which was served or refused since the call.
 use Rattle.std.proofs.Common.{◌≡◌, ℕ, true, List, [], ◌∷◌, refl, ap, sym, subst, ◌∙◌}
 use Rattle.coap_types.specs.Past.{Sometime, Always}
-use Rattle.coap_types.proofs.PastLemmas.{by_suffix}
+use Rattle.coap_types.proofs.Facts.Traces.{by_suffix}
 use Rattle.coap_codec.specs.Message.{Message}
 use Rattle.coap_exchange.proofs.Facts.ClientSide.{are_exchanges}
 use Rattle.coap_exchange.proofs.Facts.ClientSide.{are_tokens}

@@ -1,13 +1,14 @@
 -- A request from the client's address that is served is the request of a call.
 use Rattle.std.proofs.Common.{◌≡◌, ◌<◌, inl, inr, ℕ, true, Some, List, [], ◌∷◌, ◌++◌, map, refl, ap, sym, subst, ◌∙◌, arith}
 use Rattle.coap_types.specs.Past.{Ever}
-use Rattle.coap_types.proofs.PastLemmas.{Ever_map}
+use Rattle.coap_types.proofs.Facts.Traces.{Ever_map}
 use Rattle.coap_types.specs.declared.endpoint.Endpoint.{Endpoint}
 use Rattle.coap_types.specs.declared.message.Kind.TheVariants.{Con}
-use Rattle.coap_codec.specs.Message.{AreBytes, Message, Spells}
-use Rattle.coap_codec.proofs.EveryDatagram.{one_message}
+use Rattle.coap_types.specs.Bytes.{AreBytes}
+use Rattle.coap_codec.specs.Message.{Message, Spells}
+use Rattle.coap_codec.proofs.Facts.EveryDatagram.{one_message}
 use Rattle.coap_layer.specs.Channel.{Hop, Near, Far, near_of, far_of, OnFar, ChannelLaw, HandedBy, HandsUpAs, PlainSent, BegunAs}
-use Rattle.coap_layer.specs.State as L
+use Rattle.coap_layer.specs.Machine.State as L
 use Rattle.coap_layer.specs.Trace as T
 use Rattle.coap_layer.specs.Words.{Open, begun, handed, handed_in, Incoming}
 use Rattle.coap_layer.proofs.Facts.Laws.{handed_spelled}

@@ -1,9 +1,10 @@
 -- A legal run: a stranger pings the server, which answers with a Reset (RFC 7252, sections 4.2 and 4.3).
 use Rattle.std.proofs.Common.{◌≡◌, ◌≢◌, false, Some, None, List, [], ◌∷◌, refl, ap, sym, arith}
 use Rattle.coap_types.specs.declared.endpoint.Endpoint.{Endpoint}
-use Rattle.coap_codec.specs.Reading.{extended, value_at, nibbles_at, option_at, walk_of, walk, payload_at, frame_fault, body_at, message_at}
-use Rattle.coap_layer.specs.State.{start}
-use Rattle.coap_layer.specs.Steps.{Asked, Steps, left_after}
+use Rattle.coap_codec.specs.Reading.{extended, value_at, nibbles_at, option_at, walk_of, walk, payload_at, frame_fault, body_at}
+use Rattle.coap_codec.specs.Decoded.{decoded}
+use Rattle.coap_layer.specs.Machine.State.{start}
+use Rattle.coap_layer.specs.Machine.Steps.{Asked, Steps, left_after}
 use Rattle.coap_layer.specs.Trace as L
 use Rattle.coap_ends.specs.ServerTrace as S
 use Rattle.coap_world.specs.Events.{client_end, server_end, localhost, StrangerToServer}
@@ -31,7 +32,7 @@ run =
     []
 
 steps : Steps (start 0) run (left_after (start 0) run)
-unfolding message_at frame_fault body_at walk walk_of option_at nibbles_at value_at extended payload_at
+unfolding decoded frame_fault body_at walk walk_of option_at nibbles_at value_at extended payload_at
 steps = (
   _,
   (_, (_, refl, record { may = bytes_are ping refl; right = refl; new_is = refl }), record { may = tt; right = refl; new_is = refl }),

@@ -8,7 +8,8 @@ use Rattle.coap_exchange.specs.AnswererSteps.{asked_of}
 use Rattle.coap_ends.specs.Follows.ServerFollows.{Serving}
 use Rattle.coap_world.specs.Words.{AppliesFor}
 use Rattle.coap_world.specs.Events.{Calls, Sets, TickClient, Deliver, client_end}
-use Rattle.coap_world.specs.Legal.{IsPath, IsRequest, Legal}
+use Rattle.coap_types.specs.Path.{IsPath}
+use Rattle.coap_world.specs.Legal.{IsRequest, Legal}
 use Rattle.coap_world.specs.LegalRuns.{config, event, from_client, from_server, plain, log, post, post_bytes, changed_bytes, done, Posts}
 use Rattle.coap_world.specs.Record.{Entry, OfClient, OfServer, Turn, Makes, entries_of}
 use Rattle.coap_world.proofs.Witness.Words.{bytes_are, path_of_one}

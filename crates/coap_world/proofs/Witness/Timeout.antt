@@ -4,7 +4,7 @@ pub mod Server
 use Rattle.std.proofs.Common.{◌≡◌, ◌++◌, inl, inr, Some, List, [], ◌∷◌, map, refl, arith}
 use Rattle.std.specs.Prelude.{codes}
 use Rattle.coap_types.specs.Past.{Sometime, Always}
-use Rattle.coap_types.proofs.PastLemmas.{Sometime_back}
+use Rattle.coap_types.proofs.Facts.Traces.{Sometime_back}
 use Rattle.coap_exchange.specs.AnswererSteps.{asked_of}
 use Rattle.coap_ends.specs.Follows.ClientFollows.{sends}
 use Rattle.coap_ends.specs.ClientLaw.{own_of}

@@ -4,14 +4,14 @@ use Rattle.std.proofs.lemmas.Bool.{and_parts, ltb-true}
 use Rattle.std.proofs.lemmas.List.Elements.{All-nil, All-cons}
 use Rattle.std.specs.Prelude.{All, nat_lt}
 use Rattle.std.specs.List.{list_all}
-use Rattle.coap_codec.specs.Message.{AreBytes}
+use Rattle.coap_types.specs.Bytes.{AreBytes}
 use Rattle.coap_types.specs.CoapOption.{CoapOption}
 use Rattle.coap_types.specs.Uint as uint
 use Rattle.coap_types.specs.Past.{Sometime}
 use Rattle.coap_ends.specs.ClientTrace as C
 use Rattle.coap_world.specs.Words.{AppliesFor}
 use Rattle.coap_world.specs.Events.{Config}
-use Rattle.coap_world.specs.Legal.{IsPath}
+use Rattle.coap_types.specs.Path.{IsPath}
 use Rattle.coap_world.specs.Record.{Entry, OfClient}
 
 abbrev pub is_byte : ℕ → Bool

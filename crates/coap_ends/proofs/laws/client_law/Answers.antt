@@ -66,3 +66,6 @@ returns-clause-takes c server szx word t law = client.takes server szx word t la
 
 pub returns-clause-ends : goal.returns-clause-ends
 returns-clause-ends c server szx word t law = client.ends server szx word t law
+
+pub returns-clause-order : goal.returns-clause-order
+returns-clause-order c server szx word t law = client.order server szx word t law
