@@ -1,7 +1,7 @@
 //! What an end takes at most (a profile).
 
-use coap_types::{MAX_SZX, MAX_TOKEN_LEN};
 use coap_types::limits::MAX_MESSAGE_LEN;
+use coap_types::{MAX_SZX, MAX_TOKEN_LEN};
 
 /// How many calls wait at a client at most.
 pub const MAX_WAITING_CALLS: usize = 8;

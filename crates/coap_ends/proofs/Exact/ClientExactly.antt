@@ -1,7 +1,6 @@
 -- The law leaves each call of a client one answer.
 use Rattle.std.proofs.Common.{◌≡◌, ℕ, max, Bool, Option, Some, None, List, [], ◌∷◌, ◌++◌, Result, refl, ap, sym, subst, ◌∙◌}
 use Rattle.coap_types.specs.declared.endpoint.Endpoint.{Endpoint}
-use Rattle.coap_layer.specs.Machine.State as S
 use Rattle.coap_layer.specs.Trace as L
 use Rattle.coap_exchange.specs.declared.asker.AskRefusal.{AskRefusal}
 use Rattle.coap_exchange.specs.declared.asker.Event.{Event}

@@ -1,9 +1,8 @@
 -- The response of a server has a spelling (RFC 7252, sections 3.1 and 3.2; RFC 7959, section 2.2).
-use Rattle.std.proofs.Common.{◌≡◌, ℕ, ◌/◌, ◌%◌, ◌<◌, ◌≤◌, ◌==◌, nat_lt, Bool, true, false, Option, Some, None, List, [], ◌∷◌, ◌++◌, length, refl, sym, arith}
+use Rattle.std.proofs.Common.{◌≡◌, ℕ, ◌<◌, ◌≤◌, true, Option, Some, None, List, [], ◌++◌, length, refl, arith}
 use Rattle.std.specs.Prelude.{IfSome}
 use Rattle.std.specs.List.{All, list_all}
 use Rattle.std.proofs.lemmas.List.Elements.{All-nil, All-cons}
-use Rattle.std.proofs.lemmas.Bool.Decides.{nat_tests}
 use Rattle.coap_types.specs.CoapOption.{CoapOption}
 use Rattle.coap_types.specs.Roles.{role_of}
 use Rattle.coap_types.specs.Bytes.{AreBytes}

@@ -18,7 +18,7 @@ use Rattle.coap_codec.specs.Message.{Message, Spells}
 use Rattle.coap_codec.specs.Spelling.{message_bytes}
 use Rattle.coap_types.proofs.Facts.Bytes.{AreBytes-drop, byte_at}
 use Rattle.coap_layer.specs.Arrivals.{Faulted, Whole, Shows, by_head}
-use Rattle.coap_layer.specs.Trace.{Content, with_head, Packet, Call, Receive, Reply, Confirm, Plain, Settle, Ticks, Take, Room, AsksFree, Pass, Entry}
+use Rattle.coap_layer.specs.Trace.{with_head, Packet, Call, Receive, Reply, Confirm, Plain, Settle, Ticks, Take, Room, AsksFree, Pass, Entry}
 use Rattle.coap_layer.specs.Words.{Awaited, awaits, awaits_in, awaited_of, Incoming, handed, handed_in, handed_by, from_there, reply_in, hands_up, Open, begun}
 use Rattle.coap_layer.specs.Rows.{Stands, LayerLaw, Row, IsSpelled, Confirms, SendsAs, RefusesIds}
 use Rattle.coap_layer.specs.Sends.{IsIn, packet_of, PlainOut, ResetOut, GoesOut}

@@ -1,21 +1,19 @@
 -- Requests are sent in the order of their calls, for a call that was not reported; each is answered once.
-use Rattle.std.proofs.Common.{◌≡◌, ◌≤◌, ◌<◌, inl, inr, ℕ, ◌+◌, Bool, true, false, max, Option, Some, None, List, [], ◌∷◌, refl, ap, sym, subst, ◌∙◌, Result, Ok, Err, arith}
-use Rattle.coap_types.specs.Past.{Ever, Sometime, Always}
+use Rattle.std.proofs.Common.{◌≡◌, ◌≤◌, inl, inr, ℕ, ◌+◌, Bool, Option, Some, None, List, [], ◌∷◌, refl, ap, sym, subst, ◌∙◌, Result, arith}
+use Rattle.coap_types.specs.Past.{Ever, Sometime}
 use Rattle.coap_types.proofs.Facts.Traces.{Always_back}
 use Rattle.coap_codec.specs.Message.{Message}
 use Rattle.coap_layer.specs.Trace as L
 use Rattle.coap_exchange.specs.declared.asker.AskRefusal.{AskRefusal}
-use Rattle.coap_exchange.specs.declared.asker.Event.{Event}
 use Rattle.coap_exchange.specs.declared.asker.Event.TheVariants as event
 use Rattle.coap_exchange.specs.declared.asker.Turn.{Turn}
 use Rattle.coap_exchange.specs.AskerFollows as F
-use Rattle.coap_ends.specs.ClientTrace.{Operation, Reported, Call, Calls, Feeds, Ticks, NextOut, NextReport}
+use Rattle.coap_ends.specs.ClientTrace.{Operation, Reported, Call, Feeds, Ticks}
 use Rattle.coap_ends.specs.ClientReports.{report_of}
 use Rattle.coap_ends.specs.ClientSteps.{lower, is_idle, starting, lapsed, refused, either, reported, reports}
 use Rattle.coap_ends.specs.ClientLaw.{own_of, lower_of, ClientRows}
-use Rattle.coap_ends.specs.Follows.ClientFollows.{Sending, sends, WasSent, heard, AreSent, ReportedOnce}
-use Rattle.coap_ends.specs.Follows.ClientInOrder.{HearsBy, ReportsOf, InOrder, AreInOrder}
-use Rattle.coap_ends.specs.Follows.ClientSendings.{OneSending}
+use Rattle.coap_ends.specs.Follows.ClientFollows.{Sending, sends, WasSent, AreSent}
+use Rattle.coap_ends.specs.Follows.ClientInOrder.{HearsBy, InOrder, AreInOrder}
 use Rattle.coap_ends.proofs.Reporting.ClientOpen.{Runs, open_runs}
 use Rattle.coap_ends.proofs.Reporting.ReportedOnce.{Counts, WasReported, First, first_of, numbered, reported_once}
 use Rattle.coap_ends.proofs.Sending.ClientSent.{sends_it}

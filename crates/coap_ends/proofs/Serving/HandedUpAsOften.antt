@@ -1,6 +1,5 @@
 -- How often a server is handed a request: as often as its message layer hands it up.
-use Rattle.std.proofs.Common.{◌≡◌, ◌≤◌, ℕ, ◌+◌, Option, None, List, [], ◌∷◌, ◌++◌, refl, ap, subst, ◌∙◌, arith}
-use Rattle.coap_types.specs.Past.{Always}
+use Rattle.std.proofs.Common.{◌≡◌, ◌≤◌, ℕ, ◌+◌, List, [], ◌∷◌, ◌++◌, refl, ap, subst, ◌∙◌, arith}
 use Rattle.coap_layer.specs.Trace as L
 use Rattle.coap_layer.specs.Machine.State as S
 use Rattle.coap_layer.specs.Machine.Steps.{Steps, entries, left_after}
@@ -15,9 +14,8 @@ use Rattle.coap_exchange.specs.AskerArrivals.{id_in, replying}
 use Rattle.coap_exchange.specs.AskerRequests.{asked}
 use Rattle.coap_ends.specs.ServerTrace.{Call}
 use Rattle.coap_ends.specs.ServerSteps.{lower}
-use Rattle.coap_ends.specs.ServerLaw.{own_of, lower_of, layer_of}
+use Rattle.coap_ends.specs.ServerLaw.{own_of, lower_of}
 use Rattle.coap_ends.specs.Follows.ServerCounts.{asked_at, ups, Counted}
-use Rattle.coap_ends.specs.Follows.ServerFollows.{times_handed}
 use Rattle.coap_ends.proofs.Serving.ServedWasHandedUp.{left_is}
 use Rattle.coap_ends.proofs.Serving.ServedOnce.{H, handed_is}
 use Rattle.coap_ends.proofs.Replying.ServerRepliesSo.{steps_back, law_back}
