@@ -2,6 +2,7 @@
 use Rattle.std.proofs.Common.{◌≡◌, inr, ℕ, ◌<◌, ◌/◌, ◌%◌, ◌==◌, ◌^◌, ◌++◌, max, nat_lt, Bool, true, false, Option, Some, None, List, [], ◌∷◌, refl, ap, sym, subst, cond, mod-lt, arith, suc, Result}
 use Rattle.std.specs.Prelude.{All, IfSome}
 use Rattle.coap_types.specs.Past.{Ever}
+use Rattle.coap_types.proofs.Facts.Uints.{uint_spells}
 use Rattle.coap_types.specs.declared.endpoint.Endpoint.{Endpoint}
 use Rattle.coap_types.specs.declared.request.Method.{Method}
 use Rattle.coap_types.specs.declared.request.Method.TheVariants.{Get, Post, Put, Delete}
@@ -42,12 +43,7 @@ path_are [] h = tt
 path_are (segment ∷ path) h = (h 0 [] (omega arith), path_are path (λ i d low. h (suc i) d (omega (arith, low))))
 
 uint_are : (n : ℕ) → n < 65536 → AreBytes (uint n)
-uint_are n low = by (n == 0) (nat_lt n 256) refl
-  where
-    by : (a b : Bool) → nat_lt n 256 ≡ b → AreBytes (cond a [] (cond b (n ∷ []) (n / 256 ∷ n % 256 ∷ [])))
-    by true b h = none_are
-    by false true h = cons_are n [] (ltb-true n 256 h) none_are
-    by false false h = cons_are (n / 256) (n % 256 ∷ []) (omega (arith, low)) (cons_are (n % 256) [] (mod-lt n {m = 256} (omega arith)) none_are)
+uint_are n low = (uint_spells n (omega (arith, low))).are_bytes
 
 uint_option_are : (number : ℕ) (o : Option ℕ) → IfSome o (λ f. f < 2 ^ 16) → ValuesAre (uint_option number o)
 uint_option_are number None h = tt

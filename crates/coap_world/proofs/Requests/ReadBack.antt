@@ -15,7 +15,7 @@ use Rattle.coap_types.specs.declared.message.Kind.TheVariants.{Con, Non, Ack, Rs
 use Rattle.coap_types.specs.declared.request.Method.{Method}
 use Rattle.coap_types.specs.declared.request.Method.TheVariants.{Get, Post, Put, Delete}
 use Rattle.coap_codec.specs.Message.{Message}
-use Rattle.std.proofs.lemmas.Bool.{lt-ltb}
+use Rattle.std.proofs.lemmas.Bool.{lt-ltb, le-leb}
 use Rattle.coap_types.specs.OptionValues.{has, value_of}
 use Rattle.coap_resource.specs.RequestOptions.{format_of, within_16}
 use Rattle.coap_resource.specs.Serves.{Question}
@@ -24,6 +24,7 @@ use Rattle.coap_types.specs.declared.option_number.TheConstants.{URI_PATH as uri
 use Rattle.coap_ends.specs.ClientRequests.{path_options, more_options, options_of, payload_by}
 use Rattle.coap_types.specs.CoapOption.{option}
 use Rattle.coap_types.specs.Uint.{uint}
+use Rattle.coap_types.proofs.Facts.Uints.{few_bytes, uint_spells, uint_read}
 use Rattle.coap_types.specs.OptionValues.{uint_option}
 use Rattle.coap_types.specs.declared.path.TheConstants.{MAX_SEGMENTS as max_segments}
 use Rattle.coap_ends.specs.ServerChecks.{Refused, Asks, verdict_on, bad_by, bad_request, proxying_not_supported, asked_by, question, asks, is_reserved}
@@ -133,21 +134,11 @@ body_back Delete body = refl
 
 -- the format of a body
 
-length_of : (n : ℕ) → nat_le (length (uint n)) 2 ≡ true
-length_of n = by (n == 0) (nat_lt n 256)
-  where
-    by : (a b : Bool) → nat_le (length (cond a [] (cond b (n ∷ []) (n / 256 ∷ n % 256 ∷ [])))) 2 ≡ true
-    by true b = refl
-    by false true = refl
-    by false false = refl
+length_of : (n : ℕ) → n < 65536 → nat_le (length (uint n)) 2 ≡ true
+length_of n small = le-leb (length (uint n)) 2 (few_bytes (uint n) n 2 (uint_spells n (omega (arith, small))) small)
 
-value_is : (n : ℕ) → uint_value (uint n) ≡ Some n
-value_is n = by (n == 0) (nat_lt n 256) refl
-  where
-    by : (a b : Bool) → (n == 0) ≡ a → uint_value (cond a [] (cond b (n ∷ []) (n / 256 ∷ n % 256 ∷ []))) ≡ Some n
-    by true b is = let zero : n ≡ 0 = (unsigned_Decides n 0).0 is in ap (λ k. Some k) (sym zero)
-    by false true is = ap (λ k. Some k) (let e : n * 1 + 0 ≡ n = omega arith in e)
-    by false false is = ap (λ k. Some k) (let e : (n / 256) * 256 + ((n % 256) * 1 + 0) ≡ n = omega arith in e)
+value_is : (n : ℕ) → n < 65536 → uint_value (uint n) ≡ Some n
+value_is n small = uint_read n (omega (arith, small))
 
 small_format : (n : ℕ) → n < 65536 → within_16 (Some n) ≡ Some n
 small_format n h = ap (λ b. cond b (Some n) None) (lt-ltb n 65536 h)
@@ -175,10 +166,10 @@ format_behind [] before None small none = refl
 format_behind [] before (Some n) small none = by (is_recognised direction.Request before (option content_format (uint n))) known
   where
     known : is_recognised direction.Request before (option content_format (uint n)) ≡ true
-    known = is_known (uint n) (has_number 12 before) (nat_le (length (uint n)) 2) none (length_of n)
+    known = is_known (uint n) (has_number 12 before) (nat_le (length (uint n)) 2) none (length_of n small)
 
     by : (b : Bool) → b ≡ true → format_of (map (λ (p : List CoapOption × CoapOption). p.1) (cond b ((before, option content_format (uint n)) ∷ []) [])) ≡ Some n
-    by true is = ap within_16 (value_is n) ∙ small_format n small
+    by true is = ap within_16 (value_is n small) ∙ small_format n small
     by false is = absurd (cc is)
 format_behind (s ∷ path) before format small none =
     by (is_recognised direction.Request before (option uri_path s)) (format_behind path (before ++ option uri_path s ∷ []) format small (has_more 12 before (option uri_path s) none refl))

@@ -1,6 +1,7 @@
 -- The server of a legal run: it is given a representation, and serves it (RFC 7252, sections 5.2.1 and 5.8.1).
 use Rattle.std.proofs.Common.{ℕ, true, Some, None, List, [], ◌∷◌, ◌++◌, Ok, refl, arith}
 use Rattle.std.specs.Prelude.{codes}
+use Rattle.coap_types.proofs.Facts.Bytes.{AreBytes-nil}
 use Rattle.coap_types.specs.declared.message.Kind.TheVariants.{Con}
 use Rattle.coap_types.specs.declared.request.Method.TheVariants.{Get}
 use Rattle.coap_codec.specs.Message.{Message}
@@ -68,7 +69,7 @@ served at = record {
   options = content.options;
   left = stored;
   serves = (refl, refl);
-  says = record { format = Some []; block2 = None; format_is = record { spelt = refl; no_zero = tt }; block2_is = tt; list = refl };
+  says = record { format = Some []; block2 = None; format_is = record { are_bytes = AreBytes-nil; spelt = refl; no_zero = tt }; block2_is = tt; list = refl };
   bytes = values_are content.options refl;
   is = refl;
 }
