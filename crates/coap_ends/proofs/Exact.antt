@@ -2,3 +2,4 @@ pub mod ClientExactly
 pub mod ServerExactly
 pub mod OneHandling
 pub mod StoreExactly
+pub mod LawOfAPast

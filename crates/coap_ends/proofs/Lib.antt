@@ -1,3 +1,4 @@
+pub mod Facts
 pub mod Exact
 pub mod Progress
 pub mod Rest

@@ -3,3 +3,4 @@ pub mod ClientOpen
 pub mod ClientHears
 pub mod ReportedOnce
 pub mod GivenInOrder
+pub mod ClientEnded

@@ -4,3 +4,5 @@ pub mod NoNons
 pub mod ClientSent
 pub mod SentOnce
 pub mod NumbersRise
+pub mod ClientQueued
+pub mod InOrder

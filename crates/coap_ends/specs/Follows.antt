@@ -17,3 +17,10 @@ pub mod ServerRests
 pub mod ServerShows
 pub mod ServerTags
 pub mod ServerWaits
+pub mod ServerCounts
+pub mod Sources
+pub mod ServerBrings
+pub mod ServerTable
+pub mod ClientEnds
+pub mod ClientQueue
+pub mod ClientInOrder

@@ -1,83 +1,57 @@
 -- What is promised of the record of a legal run.
-use Rattle.std.specs.Prelude.{◌≡◌, ◌⊎◌, ℕ, true, Option, Some, List, ◌∷◌}
+use Rattle.std.specs.Prelude.{◌≡◌, ℕ, ◌+◌, true, Option, None, Some, List, ◌∷◌, ◌++◌}
 use Rattle.coap_types.specs.Past.{Sometime, Always}
-use Rattle.coap_types.specs.declared.request.Method.TheVariants.{Put}
-use Rattle.coap_resource.specs.RequestOptions.{tag_of, format_of}
-use Rattle.coap_ends.specs.ClientTrace.{Request, Body, Done, Failed, Reported}
-use Rattle.coap_ends.specs.ClientRequests.{payload_by}
-use Rattle.coap_ends.specs.ClientSteps.{reports}
-use Rattle.coap_ends.specs.ClientLaw as C
-use Rattle.coap_ends.specs.Follows.ClientFollows.{WasTaken, WasSent, ReportedOnce}
+use Rattle.coap_types.specs.declared.request.Method.{Method}
+use Rattle.coap_types.specs.declared.request.Method.TheVariants.{Get, Post, Put, Delete}
+use Rattle.coap_resource.specs.Content.{Held}
+use Rattle.coap_resource.specs.RequestOptions.{tag_of}
+use Rattle.coap_ends.specs.ClientTrace.{Request, Body, Done, Failed}
+use Rattle.coap_ends.specs.Follows.ClientFollows.{ReportedOnce}
 use Rattle.coap_ends.specs.Follows.ClientGives.{made, given}
 use Rattle.coap_ends.specs.Follows.ClientNumbering.{OneCall}
-use Rattle.coap_ends.specs.ServerTrace as S
-use Rattle.coap_ends.specs.ServerLaw.{own_of}
-use Rattle.coap_ends.specs.Follows.ServerFollows.{Serving, serving, is_applied, IsApplied, Change, change, held_at}
+use Rattle.coap_ends.specs.Follows.ServerFollows.{Serving, is_applied}
 use Rattle.coap_world.specs.Events.{client_end, Config}
-use Rattle.coap_world.specs.Record.{Entry, OfClient, OfServer, client_of, server_trace}
-
--- this is reported here
-abbrev pub ReportsAt : Reported → List Entry → Entry → Type 0
-ReportsAt r past (OfClient c) = reports (C.own_of (client_of past)) c ≡ Some r
-ReportsAt r past (OfServer c) = ⊥
-
--- a call of this number and this request was taken
-abbrev pub WasCalled : ℕ → Request → List Entry → Type 0
-WasCalled number r past = WasTaken (record { number = number; request = r }) (client_of past)
-
--- the client sent a request of this call under this token
-abbrev pub SentFor : ℕ → List ℕ → List Entry → Type 0
-SentFor number token all = (r : Request) × WasSent (record { operation = record { number = number; request = r }; token = token }) (client_of all)
+use Rattle.coap_world.specs.Holds.{HoldsChanges, ChangesOwned}
+use Rattle.coap_world.specs.Local.{LocalRight}
+use Rattle.coap_world.specs.Record.{Entry, client_of}
+use Rattle.coap_world.specs.Words.{ReportsAt, WasCalled, SentFor, ServesAt, AppliesFor, holds_at, last_at, changes_in}
 
 -- What is taken of the client's reports is what it reported: in order, each once, and none is left.
 abbrev pub AllGiven : List Entry → Type 0
 AllGiven all = given (client_of all) ≡ made (client_of all)
 
--- a local change
-abbrev pub IsLocal : S.Call → Type 0
-IsLocal (S.Sets now path format body answer left) = Unit {0}
-IsLocal (S.Removes now path answer left) = Unit {0}
-IsLocal c = ⊥
+-- What the request of a call makes of what its path holds: a PUT puts its body, with its format, a POST joins its body to
+-- what is there, whose format stays, each under the next version; after a DELETE nothing is there.
+abbrev pub Does : Method → Request → ℕ → Option Held → Option Held → Type 0
+Does Get r version before after = ⊥
+Does Put r version before after = after ≡ Some (record { version = version; format = r.format; body = r.body })
+Does Post r version before after = (held : Held) × (before ≡ Some held) × (after ≡ Some (record { version = version; format = held.format; body = held.body ++ r.body }))
+Does Delete r version before after = after ≡ None
 
 module _ (config : Config) where
-  -- the server serves this request here
-  abbrev pub ServesAt : Serving → List Entry → Entry → Type 0
-  ServesAt x past (OfClient c) = ⊥
-  ServesAt x past (OfServer c) = serving (own_of config.limit config.server_szx (server_trace config past)) c ≡ Some x
-
-  -- A request from the client's address, which is applied here, belongs to the call for which the client sent its token.
-  pub record AppliesFor (number : ℕ) (all : List Entry) (past : List Entry) (e : Entry) : Type 0 where
-    pub request : Serving
-    pub here : ServesAt request past e
-    pub applied : is_applied request.reply.code ≡ true
-    pub from : request.asked.from ≡ client_end
-    pub belongs : SentFor number request.asked.token all
-
   -- Each that is applied belongs to a call.
   abbrev pub EachBelongs : List Entry → Type 0
-  EachBelongs all = Always (λ past e. (x : Serving) → ServesAt x past e → is_applied x.reply.code ≡ true → x.asked.from ≡ client_end → (number : ℕ) × SentFor number x.asked.token all) all
+  EachBelongs all = Always (λ past e. (x : Serving) → ServesAt config x past e → is_applied x.reply.code ≡ true → x.asked.from ≡ client_end → (number : ℕ) × SentFor number x.asked.token all) all
 
-  -- It has the path and the method of the call, which was made before; the preconditions hold there, and the change puts,
-  -- with the format of the call, or joins all of its body, or removes.
-  pub record IsWhole (number : ℕ) (past : List Entry) (x : Serving) : Type 0 where
+  -- It has the path and the method of the call, which was made before, and does to that path all that the call asks: by what
+  -- the server holds there before this entry and after it.
+  pub record IsWhole (number : ℕ) (past : List Entry) (e : Entry) (x : Serving) : Type 0 where
     pub request : Request
     pub called : WasCalled number request past
     pub method : x.question.method ≡ request.method
     pub path : x.question.path ≡ request.path
-    pub body : payload_by request.method x.question.body ≡ payload_by request.method request.body
-    pub format : request.method ≡ Put → format_of x.question.options ≡ request.format
-    pub applied : IsApplied x
+    pub does : Does request.method request (changes_in config past + 1) (holds_at config request.path past) (holds_at config request.path (e ∷ past))
 
   abbrev pub AppliedWhole : List Entry → Type 0
-  AppliedWhole all = (number : ℕ) → Always (λ past e. (a : AppliesFor number all past e) → IsWhole number past a.request) all
+  AppliedWhole all = (number : ℕ) → Always (λ past e. (a : AppliesFor config number all past e) → IsWhole number past e a.request) all
 
   -- At most one applied request belongs to a call.
   abbrev pub AtMostOnce : List Entry → Type 0
-  AtMostOnce all = (number : ℕ) → Always (λ past e. AppliesFor number all past e → Sometime (AppliesFor number all) past → ⊥) all
+  AtMostOnce all = (number : ℕ) → Always (λ past e. AppliesFor config number all past e → Sometime (AppliesFor config number all) past → ⊥) all
 
   -- Where success is reported, one was applied after the call and not after the report.
   pub record AppliesSince (number : ℕ) (all past : List Entry) (e : Entry) : Type 0 where
-    pub applies : AppliesFor number all past e
+    pub applies : AppliesFor config number all past e
     pub request : Request
     pub called : WasCalled number request past
 
@@ -86,7 +60,7 @@ module _ (config : Config) where
 
   -- Where another response than a success is reported, none is applied, before or after.
   abbrev pub NeverFailed : List Entry → Type 0
-  NeverFailed all = (number code : ℕ) → Sometime (ReportsAt (record { number = number; report = Failed code })) all → Sometime (AppliesFor number all) all → ⊥
+  NeverFailed all = (number code : ℕ) → Sometime (ReportsAt (record { number = number; report = Failed code })) all → Sometime (AppliesFor config number all) all → ⊥
 
   -- A body that is reported was held by the server at the path of the call, under the version that its ETag names, after
   -- the call and not after the report.
@@ -95,25 +69,11 @@ module _ (config : Config) where
     pub called : WasCalled number request past
     pub version : ℕ
     pub tag_is : tag ≡ Some (tag_of version)
-    pub held : held_at config.limit config.server_szx request.path (server_trace config (e ∷ past)) ≡ Some (record { version = version; format = format; body = body })
+    pub held : last_at config request.path (e ∷ past) ≡ Some (record { version = version; format = format; body = body })
 
   abbrev pub EachHeld : List Entry → Type 0
   EachHeld all = (number : ℕ) (tag : Option (List ℕ)) (format : Option ℕ) (body : List ℕ)
       → Always (λ past e. ReportsAt (record { number = number; report = Body tag format body }) past e → Sometime (HeldSince number tag format body) past) all
-
-  -- Each change is a local one, or that of the one request that is applied with it.
-  pub record IsOwned (past : List Entry) (c : S.Call) (x : Change) : Type 0 where
-    pub request : Serving
-    pub here : ServesAt request past (OfServer c)
-    pub applied : is_applied request.reply.code ≡ true
-    pub path : x.path ≡ request.question.path
-
-  abbrev pub OwnedAt : List Entry → Entry → Type 0
-  OwnedAt past (OfClient c) = Unit {0}
-  OwnedAt past (OfServer c) = (x : Change) → change (own_of config.limit config.server_szx (server_trace config past)) c ≡ Some x → IsLocal c ⊎ IsOwned past c x
-
-  abbrev pub ChangesOwned : List Entry → Type 0
-  ChangesOwned all = Always OwnedAt all
 
   pub record Agrees (all : List Entry) : Type 0 where
     pub each_held : EachHeld all
@@ -122,7 +82,10 @@ module _ (config : Config) where
     pub at_most_once : AtMostOnce all
     pub once_done : OnceDone all
     pub never_failed : NeverFailed all
-    pub changes_owned : ChangesOwned all
+    -- what the server holds are its changes, each owned; a local one does what it answers
+    pub holds_changes : HoldsChanges config all
+    pub changes_owned : ChangesOwned config all
+    pub local_right : LocalRight config all
     -- a number names one call, which is reported at most once, and all reports are taken
     pub one_call : OneCall (client_of all)
     pub one_report : ReportedOnce (client_of all)

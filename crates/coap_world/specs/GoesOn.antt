@@ -2,7 +2,7 @@
 -- that are legal one after the other.
 use Rattle.std.specs.Prelude.{◌≡◌, ◌≤◌, false, List, [], ◌∷◌, length}
 use Rattle.coap_types.specs.Past.{Always}
-use Rattle.coap_ends.specs.ServerSteps.{max_delays}
+use Rattle.coap_ends.specs.declared.limits.TheConstants.{MAX_DELAYS as max_delays}
 use Rattle.coap_world.specs.Events.{Config, Event}
 use Rattle.coap_world.specs.Legal.{IsLegal, Legal}
 use Rattle.coap_world.specs.Record.{Entry, Turn, RecordOf}

@@ -2,9 +2,9 @@
 -- what comes from an end's address was given out by that end.
 use Rattle.std.specs.Prelude.{◌≡◌, ◌≢◌, ◌⊎◌, ◌≤◌, ◌<◌, ℕ, ◌+◌, ◌^◌, IfSome, List, [], ◌∷◌, length, All}
 use Rattle.coap_types.specs.Past.{Always}
-use Rattle.coap_types.specs.Path.{HoldsAtMost}
+use Rattle.coap_types.specs.Path.{IsPath}
 use Rattle.coap_types.specs.declared.endpoint.Endpoint.{Endpoint}
-use Rattle.coap_codec.specs.Message.{AreBytes}
+use Rattle.coap_types.specs.Bytes.{AreBytes}
 use Rattle.coap_ends.specs.ClientTrace.{Request}
 use Rattle.coap_world.specs.Events.{client_end, server_end, What, Calls, Sets, Removes, Deliver, StrangerToClient, StrangerToServer}
 use Rattle.coap_world.specs.Record.{Given, Turn, IsNumber}
@@ -27,10 +27,6 @@ MayCome past at (StrangerToServer from bytes) = (from ≢ client_end) × (from �
 MayCome past at what = Unit {0}
 
 -- each number is in the range of its type
-
-pub record IsPath (path : List (List ℕ)) : Type 0 where
-  pub bounds : HoldsAtMost 16 255 path
-  pub bytes : All AreBytes path
 
 pub record IsEndpoint (e : Endpoint) : Type 0 where
   pub four : length e.ip ≡ 4

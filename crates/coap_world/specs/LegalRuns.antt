@@ -7,7 +7,8 @@ use Rattle.coap_ends.specs.ClientReports.{changed}
 use Rattle.coap_ends.specs.ClientTrace.{Body, Done, Failed, Timeout, Reported, Request}
 use Rattle.coap_ends.specs.Follows.ServerFollows.{Serving, is_applied, held_at}
 use Rattle.coap_ends.specs.ServerTrace.{Delay}
-use Rattle.coap_world.specs.Agrees.{ReportsAt, ServesAt, AppliesFor, HeldSince, AppliesSince}
+use Rattle.coap_world.specs.Words.{ReportsAt, ServesAt, AppliesFor}
+use Rattle.coap_world.specs.Agrees.{HeldSince, AppliesSince}
 use Rattle.coap_world.specs.Events.{client_end, server_end, localhost, Config, What, Calls, Sets, TickClient, TickServer, Deliver, StrangerToServer, Event}
 use Rattle.coap_world.specs.Legal.{Legal}
 use Rattle.coap_world.specs.Record.{Entry, Given, Turn, given_in, RecordOf, entries_of, server_trace}

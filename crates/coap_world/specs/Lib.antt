@@ -2,6 +2,9 @@ pub mod Events
 pub mod Record
 pub mod Legal
 pub mod Delivery
+pub mod Words
+pub mod Holds
+pub mod Local
 pub mod Agrees
 pub mod Hops
 pub mod CameFrom

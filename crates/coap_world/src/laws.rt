@@ -2,15 +2,17 @@ ghost use Rattle.std.specs.Prelude.{◌≡◌, List};
 ghost use Rattle.coap_layer.specs.Channel.{ChannelLaw, near_of, far_of};
 ghost use Rattle.coap_ends.specs.ClientLaw as clients;
 ghost use Rattle.coap_ends.specs.ServerLaw as servers;
-ghost use Rattle.coap_world.specs.Agrees.{Agrees, AppliedWhole, AtMostOnce, ChangesOwned};
+ghost use Rattle.coap_world.specs.Agrees.{Agrees, AppliedWhole, AtMostOnce};
 ghost use Rattle.coap_world.specs.CameFrom.{CamesFrom};
 ghost use Rattle.coap_world.specs.Delivery.{AllFair};
 ghost use Rattle.coap_world.specs.Events.{client_end, server_end, Config, Event};
 ghost use Rattle.coap_world.specs.GoesOn.{GoesOn, Begins, MayRun, HasRecord};
+ghost use Rattle.coap_world.specs.Holds.{HoldsChanges, ChangesOwned};
 ghost use Rattle.coap_world.specs.Hops.{hops_of, across, TakenAtOnce};
 ghost use Rattle.coap_world.specs.Legal.{Legal};
 ghost use Rattle.coap_world.specs.LegalEvents.{NoneRuns, MayComeTill, NotAfter, never_given, NoneFrom};
 ghost use Rattle.coap_world.specs.LegalRuns.{Pings, Gets, GetsLate, Posts, Fails, TimesOut, Interferes};
+ghost use Rattle.coap_world.specs.Local.{LocalRight};
 ghost use Rattle.coap_world.specs.Record.{Turn, RecordOf, entries_of, client_of, server_trace};
 
 /// What comes from an end's address was given out by that end, for the one that it comes to, at most 100,000 ms before.
@@ -20,7 +22,11 @@ pub fn delivery_law()
 
 /// What the server's changes are, whatever the events are.
 pub fn changes_law()
-    // Each change of the server is a local one, or that of a request that is applied (RFC 7252, section 5.8).
+    // Each path holds its last change, and the versions are 1, 2, 3 and so on (RFC 7252, section 5.10.6).
+    ensures holds { (config : Config) (events : List Event) (turns : List Turn) → RecordOf config events turns → Legal turns → HoldsChanges config (entries_of turns) }
+    // A local change does what it answers: it puts, or removes, by one change, or nothing changes.
+    ensures local { (config : Config) (events : List Event) (turns : List Turn) → RecordOf config events turns → Legal turns → LocalRight config (entries_of turns) }
+    // What a path holds changes by a local change of it, or by a request to it that is applied (RFC 7252, section 5.8).
     ensures owned { (config : Config) (events : List Event) (turns : List Turn) → RecordOf config events turns → Legal turns → ChangesOwned config (entries_of turns) }
 {}
 

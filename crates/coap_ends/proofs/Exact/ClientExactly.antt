@@ -1,7 +1,6 @@
 -- The law leaves each call of a client one answer.
 use Rattle.std.proofs.Common.{◌≡◌, ℕ, max, Bool, Option, Some, None, List, [], ◌∷◌, ◌++◌, Result, refl, ap, sym, subst, ◌∙◌}
 use Rattle.coap_types.specs.declared.endpoint.Endpoint.{Endpoint}
-use Rattle.coap_layer.specs.State as S
 use Rattle.coap_layer.specs.Trace as L
 use Rattle.coap_exchange.specs.declared.asker.AskRefusal.{AskRefusal}
 use Rattle.coap_exchange.specs.declared.asker.Event.{Event}
@@ -10,25 +9,20 @@ use Rattle.coap_exchange.specs.AskerTrace as A
 use Rattle.coap_exchange.specs.AskerSteps as P
 use Rattle.coap_exchange.specs.AskerLaw as E
 use Rattle.coap_exchange.specs.AskerLaw.{ExchangeLaw}
-use Rattle.coap_exchange.proofs.AskerExactly.{exact}
-use Rattle.coap_exchange.proofs.AskerLeading.{steps_split}
+use Rattle.coap_exchange.proofs.Facts.ClientSide.{exact}
+use Rattle.coap_ends.proofs.Exact.LawOfAPast.{exchange_back}
 use Rattle.coap_ends.specs.ClientTrace.{Operation, Own, Call, Feeds, Ticks}
 use Rattle.coap_ends.specs.ClientRequests.{message_of}
 use Rattle.coap_ends.specs.ClientSteps.{asking, starting, started, refused, after}
 use Rattle.coap_ends.specs.ClientLaw.{ClientLaw, own_of, lower_of}
 use Rattle.coap_ends.specs.Follows.ClientExact.{LeaveAlike, IsExact}
 
-one_back : (server : Endpoint) (word : ℕ) (c : A.Call) (calls : List A.Call) → ExchangeLaw server word (c ∷ calls) → ExchangeLaw server word calls
-one_back server word c calls law =
-    let k = steps_split (S.start word) law.left (P.lower (E.own_of server word calls) c) (E.lower_of server word calls) law.layer in
-    record { rows = law.rows.1; left = k.0; layer = k.1 }
-
 module _ (server : Endpoint) (word : ℕ) (at w : ℕ) where
   module _ (ticks : A.Call) (calls : List A.Call) where
     -- without the request of the operation that starts
     unasked : (o : Option Operation) (sent : L.Answer) (token : Result (List ℕ) AskRefusal) → ExchangeLaw server word ((asking at o w sent token ++ ticks ∷ []) ++ calls) → ExchangeLaw server word (ticks ∷ calls)
     unasked None sent token law = law
-    unasked (Some op) sent token law = one_back server word (A.Ask at (message_of op.request) w sent token) (ticks ∷ calls) law
+    unasked (Some op) sent token law = exchange_back server word (A.Ask at (message_of op.request) w sent token ∷ []) (ticks ∷ calls) law
 
     asked_alike : (o : Option Operation) (sent gone : L.Answer) (token key : Result (List ℕ) AskRefusal) → ExchangeLaw server word ((asking at o w sent token ++ ticks ∷ []) ++ calls)
         → ExchangeLaw server word ((asking at o w gone key ++ ticks ∷ []) ++ calls) → asking at o w sent token ≡ asking at o w gone key

@@ -2,9 +2,9 @@
 use Rattle.std.proofs.Common.{◌≡◌, ℕ, max, Bool, true, false, Option, Some, None, List, [], ◌∷◌, ◌++◌, length, refl, ap, sym, subst, ◌∙◌}
 use Rattle.coap_types.specs.declared.endpoint.Endpoint.{Endpoint}
 use Rattle.coap_codec.specs.Message.{Message}
-use Rattle.coap_layer.specs.State as S
-use Rattle.coap_layer.specs.Steps as G
-use Rattle.coap_layer.specs.Steps.{Steps}
+use Rattle.coap_layer.specs.Machine.State as S
+use Rattle.coap_layer.specs.Machine.Steps as G
+use Rattle.coap_layer.specs.Machine.Steps.{Steps}
 use Rattle.coap_layer.specs.Trace as L
 use Rattle.coap_resource.specs.Content.{put_refusal}
 use Rattle.coap_resource.specs.Rate.{rate_refusal}
@@ -17,13 +17,13 @@ use Rattle.coap_exchange.specs.AnswererTrace as E
 use Rattle.coap_exchange.specs.AnswererSteps as P
 use Rattle.coap_exchange.specs.AnswererLaw as W
 use Rattle.coap_exchange.specs.AnswererLaw.{ResponseLaw}
-use Rattle.coap_exchange.proofs.AnswererExactly.{exact}
-use Rattle.coap_exchange.proofs.AskerExactly.{one_left, one_answer}
-use Rattle.coap_exchange.proofs.AskerLeading.{steps_split}
+use Rattle.coap_exchange.proofs.Facts.ServerSide.{exact}
+use Rattle.coap_exchange.proofs.Facts.StepsOfLayer.{one_left, one_answer, steps_split}
 use Rattle.coap_ends.specs.ServerTrace.{Own, Handling, Silent, Refuses, Serves, Waits, Call, Feeds, Ticks}
 use Rattle.coap_ends.specs.ServerSteps.{answering, responding}
 use Rattle.coap_ends.specs.ServerLaw.{own_of, lower_of, ServerLaw}
 use Rattle.coap_ends.specs.Follows.ServerExact.{LeaveAlike, IsExact}
+use Rattle.coap_ends.proofs.Exact.LawOfAPast.{response_back}
 use Rattle.coap_ends.proofs.Exact.OneHandling.{came_alike, due_alike}
 use Rattle.coap_ends.proofs.Exact.StoreExactly.{set_alike, removed_alike}
 
@@ -40,31 +40,14 @@ ready_room below o false a h = absurd (none below h)
     none (L.Copied to id) e = absurd (cc e)
     none (L.Expired to id) e = absurd (cc e)
     none L.Idle e = if_none o e
-    none (L.Request m k) e = absurd (cc e)
-    none (L.Response m) e = absurd (cc e)
-    none (L.Acked id) e = absurd (cc e)
-    none (L.Reset id) e = absurd (cc e)
-    none L.Dropped e = absurd (cc e)
-    none L.Replayed e = absurd (cc e)
-    none L.Rejected e = absurd (cc e)
-    none L.Nothing e = absurd (cc e)
-    none (L.Is holds) e = absurd (cc e)
-    none (L.Sent id) e = absurd (cc e)
-    none L.Busied e = absurd (cc e)
-    none L.NoIds e = absurd (cc e)
-    none (L.Gives packet) e = absurd (cc e)
+    none up e = absurd (cc e)
 
 -- the calls of the exchanges
 
 module _ (word : ℕ) where
-  one_back : (c : E.Call) (calls : List E.Call) → ResponseLaw word (c ∷ calls) → ResponseLaw word calls
-  one_back c calls law =
-      let k = steps_split (S.start word) law.left (P.lower (W.own_of calls) c) (W.lower_of calls) law.layer in
-      record { rows = law.rows.1; left = k.0; layer = k.1 }
-
   behind : (xs : List E.Call) (c : E.Call) (calls : List E.Call) → ResponseLaw word ((xs ++ c ∷ []) ++ calls) → ResponseLaw word (c ∷ calls)
   behind [] c calls law = law
-  behind (x ∷ xs) c calls law = behind xs c calls (one_back x ((xs ++ c ∷ []) ++ calls) law)
+  behind (x ∷ xs) c calls law = behind xs c calls (response_back word (x ∷ []) ((xs ++ c ∷ []) ++ calls) law)
 
   module _ (at : ℕ) (first : E.Call) (calls : List E.Call) where
     abbrev LawOf : List E.Call → Type 0

@@ -3,16 +3,17 @@ use Rattle.std.proofs.Common.{◌≡◌, ◌≢◌, ℕ, suc, ◌+◌, Bool, tru
 use Rattle.std.specs.List.{All}
 use Rattle.coap_types.specs.CoapOption.{CoapOption}
 use Rattle.coap_types.specs.Path.{same_path}
-use Rattle.coap_types.specs.Uint.{AreBytes}
-use Rattle.coap_types.proofs.PathLemmas.{same_path-decides}
-use Rattle.coap_types.proofs.UintLemmas.{one_spelling}
+use Rattle.coap_types.specs.Bytes.{AreBytes}
+use Rattle.coap_types.proofs.Facts.Paths.{same_path-decides}
+use Rattle.coap_types.proofs.Facts.Uints.{one_spelling}
 use Rattle.coap_types.specs.declared.request.Method.{Method}
 use Rattle.coap_types.specs.declared.request.Method.TheVariants.{Get, Post, Put, Delete}
 use Rattle.coap_resource.specs.declared.refusal.StoreRefusal.{StoreRefusal}
 use Rattle.coap_resource.specs.Content.{Content, Held, Changes, append_refusal, put_refusal}
 use Rattle.coap_resource.specs.Rate.{rate_refusal}
 use Rattle.coap_resource.specs.RequestOptions.{precondition_fails}
-use Rattle.coap_resource.specs.ResponseOptions.{option_with, IsUint, block_number, Says}
+use Rattle.coap_types.specs.OptionValues.{option_with}
+use Rattle.coap_resource.specs.ResponseOptions.{IsUint, block_number, Says}
 use Rattle.coap_resource.specs.Serves.{Question, Reply, PutBy, JoinBy, PostBy, RemoveBy, DeleteBy, ServesMethod, ServesUnless}
 use Rattle.coap_resource.specs.Serves as R
 use Rattle.coap_ends.specs.ServerSteps.{SetsBy, RemovesBy}
@@ -99,7 +100,7 @@ OptionBytes options = All (λ o. AreBytes o.value) options
 
 uint_alike : (n : Option ℕ) (f g : Option (List ℕ)) → IsUint n f → IsUint n g → InBytesIf f → InBytesIf g → f ≡ g
 uint_alike None None None h k a b = refl
-uint_alike (Some n) (Some f) (Some g) h k a b = ap Some (one_spelling f g n a b h k)
+uint_alike (Some n) (Some f) (Some g) h k a b = ap Some (one_spelling f g n h k)
 uint_alike None (Some f) g h k a b = absurd h
 uint_alike None None (Some g) h k a b = absurd k
 uint_alike (Some n) None g h k a b = absurd h

@@ -1,33 +1,19 @@
 -- What a client reads from the options of a response is what the response says (RFC 7252, sections 3.2 and 5.4.1).
-use Rattle.std.proofs.Common.{◌≡◌, inl, inr, ℕ, ◌+◌, ◌*◌, ◌^◌, ◌<◌, ◌≤◌, nat_le, Bool, true, false, ◌&&◌, Option, Some, None, is_some, List, [], ◌∷◌, ◌++◌, length, map, refl, ap, ◌∙◌, cond, arith}
+use Rattle.std.proofs.Common.{◌≡◌, ℕ, ◌<◌, ◌≤◌, nat_le, Bool, true, false, ◌&&◌, Option, Some, None, is_some, List, [], ◌∷◌, ◌++◌, length, map, refl, ap, ◌∙◌, cond, arith}
 use Rattle.std.specs.Prelude.{IfSome}
 use Rattle.std.specs.List.{filter}
-use Rattle.std.proofs.Math.Nat.{pow-le-pow_right}
-use Rattle.std.proofs.lemmas.Bool.{cases_lt}
-use Rattle.std.proofs.lemmas.Nat.{mul-le}
+use Rattle.coap_types.proofs.Facts.Uints.{few_bytes}
 use Rattle.coap_types.specs.CoapOption.{CoapOption}
 use Rattle.coap_types.specs.Recognised.{placed, is_recognised}
 use Rattle.coap_types.specs.Uint.{IsSpelling, number_of, uint_value}
 use Rattle.coap_types.specs.declared.direction.Direction.TheVariants as direction
-use Rattle.coap_layer.proofs.ListLemmas.{true_le, true_lt, both}
-use Rattle.coap_resource.specs.RequestOptions.{has, format_of, within_16}
-use Rattle.coap_resource.specs.ResponseOptions.{option_with, IsUint}
-use Rattle.coap_ends.specs.ClientRequests.{block2}
-use Rattle.coap_ends.specs.ClientReports.{recognised}
-
--- a number below this power of 256 has at most so many bytes
-pub few_bytes : (bytes : List ℕ) (number most : ℕ) → IsSpelling bytes number → number < 256 ^ most → length bytes ≤ most
-few_bytes [] number most s below = omega arith
-few_bytes (b ∷ bs) number most s below =
-    elim (cases_lt (length bs) most) [
-      | inl shorter ↦ omega arith
-      | inr longer ↦
-          let powers : 256 ^ most ≤ 256 ^ length bs = pow-le-pow_right {n = 256} (omega arith) longer in
-          let lead : 0 < b = s.no_zero in
-          let head : 1 * 256 ^ length bs ≤ b * 256 ^ length bs = mul-le 1 (256 ^ length bs) b (256 ^ length bs) (omega arith) (omega arith) in
-          let spelt : b * 256 ^ length bs + number_of bs ≡ number = s.spelt in
-          absurd (omega (arith, powers, head, spelt, below))
-    ]
+use Rattle.std.proofs.lemmas.Bool.{le-leb, lt-ltb, and_from}
+use Rattle.coap_types.specs.OptionValues.{has}
+use Rattle.coap_resource.specs.RequestOptions.{format_of, within_16}
+use Rattle.coap_types.specs.OptionValues.{option_with}
+use Rattle.coap_resource.specs.ResponseOptions.{IsUint}
+use Rattle.coap_types.specs.declared.option_number.TheConstants.{BLOCK2 as block2}
+use Rattle.coap_types.specs.Recognised.{recognised}
 
 -- options that are recognised one behind the other
 abbrev AreKnown : List CoapOption → List CoapOption → Type 0
@@ -44,7 +30,7 @@ keeps_known before (o ∷ os) h = by (is_recognised direction.Response before o)
 
 -- the bounds of the lengths
 zero_least : (n : ℕ) → nat_le 0 n ≡ true
-zero_least n = true_le 0 n (omega arith)
+zero_least n = le-leb 0 n (omega arith)
 
 -- the values have the lengths that the options allow
 pub record AreShort (tag : List ℕ) (format block : Option (List ℕ)) : Type 0 where
@@ -56,7 +42,7 @@ tag_known : (tag : List ℕ) → length tag ≡ 8 → is_recognised direction.Re
 tag_known tag h = ap (λ n. nat_le 1 n && nat_le n 8) h
 
 known : (value : List ℕ) (most : ℕ) → length value ≤ most → (nat_le 0 (length value) && nat_le (length value) most) ≡ true
-known value most h = both (nat_le 0 (length value)) (nat_le (length value) most) (zero_least (length value)) (true_le (length value) most h)
+known value most h = and_from (nat_le 0 (length value)) (nat_le (length value) most) (zero_least (length value)) (le-leb (length value) most h)
 
 all_known : (tag : List ℕ) (format block : Option (List ℕ)) → AreShort tag format block → AreKnown [] (option_with 4 (Some tag) ++ (option_with 12 format ++ option_with 23 block))
 all_known tag None None h = (tag_known tag h.tag_fits, tt)
@@ -71,9 +57,9 @@ all_recognised tag format block h = keeps_known [] _ (all_known tag format block
 -- a number of 16 bits is read back from its spelling
 spelt_back : (n : ℕ) (bytes : List ℕ) → IsSpelling bytes n → n < 65536 → within_16 (uint_value bytes) ≡ Some n
 spelt_back n bytes s small =
-    ap (λ b. within_16 (cond b (Some (number_of bytes)) None)) (true_le (length bytes) 4 (let short : length bytes ≤ 2 = few_bytes bytes n 2 s small in omega (arith, short)))
+    ap (λ b. within_16 (cond b (Some (number_of bytes)) None)) (le-leb (length bytes) 4 (let short : length bytes ≤ 2 = few_bytes bytes n 2 s small in omega (arith, short)))
     ∙ ap (λ k. within_16 (Some k)) s.spelt
-    ∙ ap (λ b. cond b (Some n) None) (true_lt n 65536 small)
+    ∙ ap (λ b. cond b (Some n) None) (lt-ltb n 65536 small)
 
 -- what is read from them
 module _ (tag : List ℕ) where

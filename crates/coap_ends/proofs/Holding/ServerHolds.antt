@@ -2,7 +2,7 @@
 use Rattle.std.proofs.Common.{◌≡◌, inl, inr, ℕ, ◌+◌, ◌==◌, max, Bool, true, false, Option, Some, None, List, [], ◌∷◌, refl, ap, sym, subst, ◌∙◌, cond, arith, length}
 use Rattle.std.specs.Cmp.{unsigned_Decides}
 use Rattle.coap_types.specs.Path.{same_path}
-use Rattle.coap_types.proofs.PathLemmas.{same_path-decides}
+use Rattle.coap_types.proofs.Facts.Paths.{same_path-decides}
 use Rattle.coap_types.specs.declared.message.Kind.{Kind}
 use Rattle.coap_resource.specs.Content.{Content, put_refusal}
 use Rattle.coap_resource.specs.Rate.{rate_refusal}

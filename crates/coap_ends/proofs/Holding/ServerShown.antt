@@ -2,20 +2,25 @@
 use Rattle.std.proofs.Common.{◌≡◌, ℕ, ◌<◌, ◌≤◌, ◌^◌, Bool, false, ◌++◌, Option, Some, None, is_some, List, [], ◌∷◌, length, refl, ap, sym, subst, ◌∙◌}
 use Rattle.std.specs.Prelude.{IfSome}
 use Rattle.coap_types.specs.declared.direction.Direction.TheVariants as direction
+use Rattle.coap_types.specs.declared.block.Block.{Block}
 use Rattle.coap_codec.specs.Message.{Message}
 use Rattle.coap_resource.specs.Content.{Content, Held}
-use Rattle.coap_resource.specs.RequestOptions.{has, value_of, format_of, tag_of, block_of, offset_by, szx_by, uint_option}
-use Rattle.coap_resource.specs.ResponseOptions.{option_with, IsUint, Says, block_number}
+use Rattle.coap_types.specs.OptionValues.{has, value_of, uint_at}
+use Rattle.coap_resource.specs.RequestOptions.{format_of, tag_of, block_of, offset_by, szx_by}
+use Rattle.coap_types.specs.OptionValues.{option_with}
+use Rattle.coap_resource.specs.ResponseOptions.{IsUint, Says, block_number}
 use Rattle.coap_resource.specs.Serves.{Question, Reply, content_reply}
-use Rattle.coap_ends.specs.ClientRequests.{block2}
-use Rattle.coap_ends.specs.ClientReports.{recognised, said, etag, content}
+use Rattle.coap_types.specs.declared.option_number.TheConstants.{BLOCK2 as block2, ETAG as etag}
+use Rattle.coap_types.specs.Recognised.{recognised}
+use Rattle.coap_ends.specs.ClientReports.{said, content}
 use Rattle.coap_ends.specs.ServerTrace.{Call}
 use Rattle.coap_ends.specs.ServerLaw.{ServerRows, own_of}
 use Rattle.coap_ends.specs.Follows.ServerFollows.{Serving, serving}
 use Rattle.coap_ends.specs.Follows.ServerShows.{FormatsInRange, Shows, ShowsHeld}
 use Rattle.coap_ends.proofs.Holding.ContentIsOfAGet.{IsContent, is_content}
 use Rattle.coap_ends.proofs.Holding.ServerHolds.{serves_right, held_is}
-use Rattle.coap_ends.proofs.Holding.ResponseReadsBack.{few_bytes, AreShort, all_recognised, block_read, format_read}
+use Rattle.coap_types.proofs.Facts.Uints.{few_bytes}
+use Rattle.coap_ends.proofs.Holding.ResponseReadsBack.{AreShort, all_recognised, block_read, format_read}
 use Rattle.coap_ends.proofs.Progress.ServerStoreBounds.{IsBounded, left_is, store_bounded}
 use Rattle.coap_ends.proofs.Progress.ServerWhole.{block_below, whole_body}
 
@@ -37,7 +42,7 @@ no_block None h = refl
 no_block (Some b) h = absurd (cc h)
 
 -- a message that says a 2.05, and carries its payload
-module _ (m : Message) (held : Held) (b : Option (ℕ × ℕ)) (szx : ℕ) where
+module _ (m : Message) (held : Held) (b : Option Block) (szx : ℕ) where
   abbrev sent : Reply
   sent = content_reply held (is_some b) (offset_by b) (szx_by b szx)
 
@@ -66,7 +71,7 @@ module _ (m : Message) (held : Held) (b : Option (ℕ × ℕ)) (szx : ℕ) where
 -- a request that is served with a 2.05
 shows : (q : Question) (old left : Content) (reply : Reply) (m : Message) → (w : IsContent old q reply left) → IsBounded w.held → Says reply m.options → m.payload ≡ reply.part → has block2 (said m) ≡ false → IsShown m w.held (block_of q.options) q.szx
 shows q old left reply m w bounded says payload none =
-    shown m w.held (block_of q.options) q.szx bounded (block_below (uint_option (value_of 23 q.options)) w.held q.szx w.within bounded.body)
+    shown m w.held (block_of q.options) q.szx bounded (block_below (uint_at block2 q.options) w.held q.szx w.within bounded.body)
     (subst (λ r. Says r m.options) w.is says) (payload ∙ ap (λ (r : Reply). r.part) w.is) none
 
 module _ (limit szx : ℕ) where

@@ -4,7 +4,7 @@ use Rattle.coap_types.specs.declared.request.Method.{Method}
 use Rattle.coap_types.specs.declared.request.Method.TheVariants.{Get, Post, Put, Delete}
 use Rattle.coap_resource.specs.declared.refusal.StoreRefusal.{StoreRefusal}
 use Rattle.coap_resource.specs.declared.refusal.StoreRefusal.TheVariants.{Memory, TooLarge, TooManyPaths, RateExceeded, VersionsSpent}
-use Rattle.coap_resource.specs.Content.{Content, Held, Changes, unchanged, append_refusal, put_refusal}
+use Rattle.coap_resource.specs.Content.{Content, Held, Changes, later, append_refusal, put_refusal}
 use Rattle.coap_resource.specs.Rate.{rate_refusal}
 use Rattle.coap_resource.specs.RequestOptions.{precondition_fails, accepts, etag_names, block_of, offset_by, tag_of, szx_by}
 use Rattle.coap_resource.specs.Serves.{Question, Reply, bare, got, got_at, refusal_code, content_reply, PutBy, JoinBy, PostBy, RemoveBy, DeleteBy, ServesMethod, ServesUnless}
@@ -27,7 +27,7 @@ Effect path old left = IsKept old left ⊎ IsChanged path old left
 pub kept_by : (old left : Content) → left ≡ old → IsKept old left
 kept_by old left h = record { holds = ap (λ (s : Content). s.holds) h; version = ap (λ (s : Content). s.tally.version) h }
 
-pub unchanged_by : (old left : Content) (at : ℕ) → left ≡ unchanged old at → IsKept old left
+pub unchanged_by : (old left : Content) (at : ℕ) → left ≡ later old at → IsKept old left
 unchanged_by old left at h = record { holds = ap (λ (s : Content). s.holds) h; version = ap (λ (s : Content). s.tally.version) h }
 
 pub changed_by : (path : List (List ℕ)) (old left : Content) (at : ℕ) (held : Option Held) → Changes old at path held left → IsChanged path old left

@@ -2,14 +2,15 @@
 use Rattle.std.proofs.Common.{◌≡◌, ◌⊎◌, inl, inr, ◌≤◌, ℕ, max, Bool, true, false, Option, Some, None, List, [], ◌∷◌, ◌++◌, refl, ap, sym, subst, ◌∙◌, cond, arith}
 use Rattle.coap_types.specs.declared.endpoint.Endpoint.{Endpoint}
 use Rattle.coap_types.specs.declared.message.Kind.TheVariants.{Con, Non}
-use Rattle.coap_codec.specs.Message.{AreBytes, Message}
+use Rattle.coap_types.specs.Bytes.{AreBytes}
+use Rattle.coap_codec.specs.Message.{Message}
 use Rattle.coap_layer.specs.Arrivals.{arrival_at}
-use Rattle.coap_layer.specs.State as S
-use Rattle.coap_layer.specs.State.{is_busy, is_free, sending, next_after, uses_after}
-use Rattle.coap_layer.specs.Steps.{Steps}
+use Rattle.coap_layer.specs.Machine.State as S
+use Rattle.coap_layer.specs.Machine.State.{is_busy, is_free, sending, next_after, uses_after}
+use Rattle.coap_layer.specs.Machine.Steps.{Steps}
 use Rattle.coap_layer.specs.Trace as L
 use Rattle.coap_layer.specs.Trace.{with_head}
-use Rattle.coap_layer.specs.Words.{awaited_of, from_there, handed_by, given_by, is_kept}
+use Rattle.coap_layer.specs.Words.{awaited_of, from_there, handed_by, issued_by, is_kept}
 use Rattle.coap_exchange.specs.declared.answerer.Asked.{Asked}
 use Rattle.coap_exchange.specs.AnswererTrace as E
 use Rattle.coap_exchange.specs.AnswererSteps as P
@@ -18,10 +19,10 @@ use Rattle.coap_exchange.specs.AnswererLaw.{ResponseLaw}
 use Rattle.coap_exchange.specs.AskerRequests.{asked}
 use Rattle.coap_exchange.specs.AskerArrivals.{id_in, replying}
 use Rattle.coap_exchange.specs.EmptyMessages.{reset_bytes}
-use Rattle.coap_exchange.proofs.ArrivalFacts.{spelled}
+use Rattle.coap_exchange.proofs.Facts.HandedUp.{spelled}
 use Rattle.coap_ends.proofs.Progress.ClientGoing.{left_by, answer_by, one_step}
 use Rattle.coap_ends.proofs.Progress.AnswererGoing.{Takes}
-use Rattle.coap_ends.proofs.Progress.RequestsKept.{Kept, kept_to}
+use Rattle.coap_ends.proofs.Progress.RequestsKept.{KeptIn, kept_to}
 
 module _ (word : ℕ) (calls : List E.Call) (law : ResponseLaw word calls) where
   abbrev own : E.Own
@@ -57,12 +58,12 @@ module _ (word : ℕ) (calls : List E.Call) (law : ResponseLaw word calls) where
       takes_it = λ p h. absurd (cc h);
     }
 
-    rejects : (m : Message) → L.Response m ≡ answer_by left at arrives → Receives (L.Response m) None
+    rejects : (m : Message) → L.Becomes (L.Response m) ≡ answer_by left at arrives → Receives (L.Becomes (L.Response m)) None
     unfolding left_by
     rejects m right = by (is_kept m.kind) refl
       where
-        by : (b : Bool) → is_kept m.kind ≡ b → Receives (L.Response m) None
-        by false not_kept = passes (L.Response m) right (ap (λ b. cond b (Some (reset_bytes m.id)) None) not_kept) refl
+        by : (b : Bool) → is_kept m.kind ≡ b → Receives (L.Becomes (L.Response m)) None
+        by false not_kept = passes (L.Becomes (L.Response m)) right (ap (λ b. cond b (Some (reset_bytes m.id)) None) not_kept) refl
         by true kept =
             let reply : L.Call = L.Reply from m.id (reset_bytes m.id) in
             let awaits : first.awaits ≡ Some (record { from = from; id = m.id }) =
@@ -71,22 +72,22 @@ module _ (word : ℕ) (calls : List E.Call) (law : ResponseLaw word calls) where
               law_of = record {
                 rows = (refl, law.rows);
                 left = left_by first 0 reply;
-                layer = subst (λ o. Steps (S.start word) ((replying from m.id o ++ asked at arrives (L.Response m) ∷ []) ++ W.lower_of calls) (left_by first 0 reply))
-                    (sym (ap (λ b. cond b (Some (reset_bytes m.id)) None) kept)) (first, (left, law.layer, received (L.Response m) right), one_step first 0 reply awaits);
+                layer = subst (λ o. Steps (S.start word) ((replying from m.id o ++ asked at arrives (L.Becomes (L.Response m)) ∷ []) ++ W.lower_of calls) (left_by first 0 reply))
+                    (sym (ap (λ b. cond b (Some (reset_bytes m.id)) None) kept)) (first, (left, law.layer, received (L.Becomes (L.Response m)) right), one_step first 0 reply awaits);
               };
               takes_it = λ p h. absurd (cc h);
             }
 
-    hands_up : (m : Message) → L.Request m true ≡ answer_by left at arrives → Receives (L.Request m true) (Some (P.asked_of from m, m))
+    hands_up : (m : Message) → L.Becomes (L.Request m true) ≡ answer_by left at arrives → Receives (L.Becomes (L.Request m true)) (Some (P.asked_of from m, m))
     unfolding left_by
     hands_up m right =
-        let step = received (L.Request m true) right in
+        let step = received (L.Becomes (L.Request m true)) right in
         record {
           law_of = record { rows = (refl, law.rows); left = first; layer = (left, law.layer, step) };
           takes_it = λ p h. (let same : ◌≡◌ {A = Asked × Message} (P.asked_of from m, m) p = cc h in subst (λ (q : Asked × Message). Takes first (max own.clock at) q.0) same (record {
             awaits = ap (λ u. awaited_of (from_there from (handed_by u))) (sym right);
-            kind = by (subst (Kept (is_free (max left.clock at) left.upcoming left.last_used)) (sym right) (kept_to left (max left.clock at) from (arrival_at bytes)));
-            short = (spelled left first at from bytes (L.Request m true) m step refl).token;
+            kind = by (subst (KeptIn (is_free (max left.clock at) left.upcoming left.last_used)) (sym right) (kept_to left (max left.clock at) from (arrival_at bytes)));
+            short = (spelled left first at from bytes (L.Becomes (L.Request m true)) m step refl).token;
           }));
         }
       where
@@ -96,8 +97,8 @@ module _ (word : ℕ) (calls : List E.Call) (law : ResponseLaw word calls) where
         free : is_free (max first.clock (max own.clock at)) first.upcoming first.last_used ≡ is_free (max left.clock at) left.upcoming left.last_used
         free =
             ap (λ n. is_free n first.upcoming first.last_used) moment
-            ∙ (ap (λ u. is_free (max left.clock at) u first.last_used) (sym (ap (λ u. next_after (given_by (max left.clock at) u) left.upcoming) right))
-            ∙ ap (λ us. is_free (max left.clock at) left.upcoming us) (sym (ap (λ u. uses_after (given_by (max left.clock at) u) left.last_used) right)))
+            ∙ (ap (λ u. is_free (max left.clock at) u first.last_used) (sym (ap (λ u. next_after (issued_by (max left.clock at) u) left.upcoming) right))
+            ∙ ap (λ us. is_free (max left.clock at) left.upcoming us) (sym (ap (λ u. uses_after (issued_by (max left.clock at) u) left.last_used) right)))
 
         by : (m.kind ≡ Con) ⊎ ((m.kind ≡ Non) × (is_free (max left.clock at) left.upcoming left.last_used ≡ true))
             → (m.kind ≡ Con) ⊎ ((m.kind ≡ Non) × (is_free (max first.clock (max own.clock at)) first.upcoming first.last_used ≡ true))
@@ -108,20 +109,6 @@ module _ (word : ℕ) (calls : List E.Call) (law : ResponseLaw word calls) where
     receives = by (answer_by left at arrives) refl
       where
         by : (u : L.Answer) → u ≡ answer_by left at arrives → (up : L.Answer) × (came : Option (Asked × Message)) × Receives up came
-        by (L.Request m true) is = (L.Request m true, Some (P.asked_of from m, m), hands_up m is)
-        by (L.Request m false) is = (L.Request m false, None, passes (L.Request m false) is refl refl)
-        by (L.Response m) is = (L.Response m, None, rejects m is)
-        by L.Dropped is = (L.Dropped, None, passes L.Dropped is refl refl)
-        by L.Replayed is = (L.Replayed, None, passes L.Replayed is refl refl)
-        by L.Rejected is = (L.Rejected, None, passes L.Rejected is refl refl)
-        by (L.Acked id) is = (L.Acked id, None, passes (L.Acked id) is refl refl)
-        by (L.Reset id) is = (L.Reset id, None, passes (L.Reset id) is refl refl)
-        by L.Nothing is = (L.Nothing, None, passes L.Nothing is refl refl)
-        by (L.Is holds) is = (L.Is holds, None, passes (L.Is holds) is refl refl)
-        by (L.Sent id) is = (L.Sent id, None, passes (L.Sent id) is refl refl)
-        by L.Busied is = (L.Busied, None, passes L.Busied is refl refl)
-        by L.NoIds is = (L.NoIds, None, passes L.NoIds is refl refl)
-        by L.Idle is = (L.Idle, None, passes L.Idle is refl refl)
-        by (L.Copied to id) is = (L.Copied to id, None, passes (L.Copied to id) is refl refl)
-        by (L.Expired to id) is = (L.Expired to id, None, passes (L.Expired to id) is refl refl)
-        by (L.Gives packet) is = (L.Gives packet, None, passes (L.Gives packet) is refl refl)
+        by (L.Becomes (L.Request m true)) is = (L.Becomes (L.Request m true), Some (P.asked_of from m, m), hands_up m is)
+        by (L.Becomes (L.Response m)) is = (L.Becomes (L.Response m), None, rejects m is)
+        by up is = (up, None, passes up is refl refl)

@@ -1,8 +1,8 @@
 -- Time passes for the exchanges of a server (RFC 7252, sections 4.2 and 5.2.2).
 use Rattle.std.proofs.Common.{◌≡◌, ℕ, max, Bool, true, false, ◌&&◌, not, Option, Some, None, List, [], ◌∷◌, ◌++◌, refl, ap, sym, subst, ◌∙◌, arith}
-use Rattle.coap_layer.specs.State as S
-use Rattle.coap_layer.specs.State.{is_busy, is_free, sending, next_after, uses_after}
-use Rattle.coap_layer.specs.Steps.{Steps}
+use Rattle.coap_layer.specs.Machine.State as S
+use Rattle.coap_layer.specs.Machine.State.{is_busy, is_free, sending, next_after, uses_after}
+use Rattle.coap_layer.specs.Machine.Steps.{Steps}
 use Rattle.coap_layer.specs.Trace as L
 use Rattle.coap_layer.specs.Trace.{with_head}
 use Rattle.coap_exchange.specs.declared.answerer.Asked.{Asked}
@@ -14,8 +14,9 @@ use Rattle.coap_exchange.specs.AnswererSteps as P
 use Rattle.coap_exchange.specs.AnswererLaw as W
 use Rattle.coap_exchange.specs.AnswererLaw.{ResponseLaw}
 use Rattle.coap_exchange.specs.AskerRequests.{asked}
-use Rattle.coap_exchange.proofs.AskerLeading.{steps_join}
-use Rattle.coap_exchange.proofs.LayerFacts.{both, left_same_nil}
+use Rattle.coap_exchange.proofs.Facts.StepsOfLayer.{steps_join}
+use Rattle.std.proofs.lemmas.Bool.{and_parts}
+use Rattle.coap_exchange.proofs.Facts.CallsOfLayer.{left_same_nil}
 use Rattle.coap_ends.proofs.Progress.ClientGoing.{left_by, answer_by, one_step}
 use Rattle.coap_ends.proofs.Serving.ServerWaiting.{found_ready}
 use Rattle.coap_ends.proofs.Progress.AnswererGoing.{TakesCon}
@@ -58,7 +59,7 @@ module _ (word : ℕ) (calls : List E.Call) (law : ResponseLaw word calls) where
       where
         so : (not (is_busy d.asked.from ticked.open_cons) && is_free (max ticked.clock at) ticked.upcoming ticked.last_used) ≡ true → TakesCon (left_by ticked at (L.Room d.asked.from)) at d.asked.from
         so may =
-            let k = both (not (is_busy d.asked.from ticked.open_cons)) (is_free (max ticked.clock at) ticked.upcoming ticked.last_used) may in
+            let k = and_parts (not (is_busy d.asked.from ticked.open_cons)) (is_free (max ticked.clock at) ticked.upcoming ticked.last_used) may in
             let moment : max (max ticked.clock at) at ≡ max ticked.clock at = omega arith in
             let same : (left_by ticked at (L.Room d.asked.from)).open_cons ≡ ticked.open_cons = left_same_nil (S.made ticked at (L.Room d.asked.from)) (λ c. refl) ticked.open_cons in
             record {

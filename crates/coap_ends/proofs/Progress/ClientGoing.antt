@@ -1,11 +1,11 @@
 -- What stands in the law of a client goes on.
 use Rattle.std.proofs.Common.{◌≡◌, ◌≤◌, ℕ, ◌==◌, nat_le, nat_lt, max, Bool, true, false, Option, Some, None, List, [], ◌∷◌, ◌++◌, length, slice_get, Result, Ok, refl, ap, sym, subst, ◌∙◌, cond, arith}
 use Rattle.coap_types.specs.declared.endpoint.Endpoint.{Endpoint}
-use Rattle.coap_codec.specs.Message.{AreBytes}
-use Rattle.coap_codec.specs.Writing.{options_bytes}
+use Rattle.coap_types.specs.Bytes.{AreBytes}
+use Rattle.coap_codec.specs.Spelling.{options_bytes}
 use Rattle.coap_layer.specs.Rows.{IsSpelled}
-use Rattle.coap_layer.specs.State as S
-use Rattle.coap_layer.specs.Steps.{Asked, Steps}
+use Rattle.coap_layer.specs.Machine.State as S
+use Rattle.coap_layer.specs.Machine.Steps.{Asked, Steps}
 use Rattle.coap_layer.specs.Trace as L
 use Rattle.coap_layer.specs.Words.{awaited_of, from_there}
 use Rattle.coap_exchange.specs.declared.asker.AskRefusal.{AskRefusal}
@@ -20,9 +20,10 @@ use Rattle.coap_exchange.specs.AskerRequests.{asked, content_of}
 use Rattle.coap_exchange.specs.AskerArrivals as R
 use Rattle.coap_exchange.specs.AskerLaw as E
 use Rattle.coap_exchange.specs.AskerLaw.{ExchangeLaw}
-use Rattle.coap_exchange.proofs.AskerLeading.{steps_join}
+use Rattle.coap_exchange.proofs.Facts.StepsOfLayer.{steps_join}
 use Rattle.coap_ends.specs.ClientTrace.{Request, Operation, Own, Taking, Taken, QueueFull, BodyTooLarge, BadPath, CallsSpent, Call, Calls, Feeds, Ticks, NextOut, NextReport}
-use Rattle.coap_ends.specs.ClientRequests.{is_too_large, message_of, longest, max_options, max_waiting, max_calls, taking}
+use Rattle.coap_ends.specs.declared.limits.TheConstants.{MAX_OPTIONS_LEN as max_options, MAX_WAITING_CALLS as max_waiting}
+use Rattle.coap_ends.specs.ClientRequests.{is_too_large, message_of, longest, max_calls, taking}
 use Rattle.coap_ends.specs.ClientSteps.{queued, asking, starting, starting_if, is_idle, waiting_after, IsRight}
 use Rattle.coap_ends.specs.ClientLaw.{ClientLaw, ClientRows, own_of, lower_of}
 use Rattle.coap_ends.specs.Follows.ClientGoesOn.{GoesOn}

@@ -11,13 +11,16 @@ use Rattle.coap_types.specs.declared.request.Method.TheVariants.{Get, Post, Put,
 use Rattle.coap_codec.specs.BoundedSpelling.{is_numbered}
 use Rattle.coap_codec.specs.Options.{Options}
 use Rattle.coap_codec.specs.Refused.{ascends, is_short}
-use Rattle.coap_codec.specs.Writing.{more, option_bytes, options_bytes}
+use Rattle.coap_codec.specs.Spelling.{more, option_bytes, options_bytes}
 use Rattle.coap_codec.proofs.SpellLemmas.{option_is}
-use Rattle.coap_layer.proofs.ListLemmas.{true_le, both}
+use Rattle.std.proofs.lemmas.Bool.{le-leb, and_from}
 use Rattle.coap_layer.specs.Rows.{IsSpelled}
 use Rattle.coap_exchange.specs.AskerRequests.{content_of}
 use Rattle.coap_ends.specs.ClientTrace.{Request}
-use Rattle.coap_ends.specs.ClientRequests.{content_format, accept, uint_option, path_options, more_options, options_of, message_of, longest, max_options}
+use Rattle.coap_types.specs.declared.option_number.TheConstants.{CONTENT_FORMAT as content_format, ACCEPT as accept}
+use Rattle.coap_ends.specs.declared.limits.TheConstants.{MAX_OPTIONS_LEN as max_options}
+use Rattle.coap_ends.specs.ClientRequests.{path_options, more_options, options_of, message_of, longest}
+use Rattle.coap_types.specs.OptionValues.{uint_option}
 
 -- options that ascend, have numbers and are short, have a spelling
 pub options_spelled : (os : List CoapOption) (base : ℕ) → ascends base os ≡ true → list_all is_numbered os ≡ true → list_all is_short os ≡ true → Options base (options_bytes base os) os
@@ -41,7 +44,7 @@ short_front (o ∷ os) tail base h =
     let value = length-append (more (length o.value)) o.value in
     let here : length o.value ≤ 65804 = omega (arith, h, all, delta, value) in
     let there : length rest ≤ 115 = omega (arith, h, all) in
-    both _ _ (true_le (length o.value) 65804 here) (short_front os tail o.number there)
+    and_from _ _ (le-leb (length o.value) 65804 here) (short_front os tail o.number there)
 
 order_path : (path : List (List ℕ)) (more : List CoapOption) → ascends 11 more ≡ true → ascends 11 (path_options path ++ more) ≡ true
 order_path [] more h = h
@@ -53,7 +56,7 @@ numbers_path (s ∷ path) more h = numbers_path path more h
 
 from_0 : (os : List CoapOption) → ascends 11 os ≡ true → ascends 0 os ≡ true
 from_0 [] h = refl
-from_0 (o ∷ os) h = both _ _ (true_le 0 o.number (omega arith)) (and_parts (nat_le 11 o.number) (ascends o.number os) h).1
+from_0 (o ∷ os) h = and_from _ _ (le-leb 0 o.number (omega arith)) (and_parts (nat_le 11 o.number) (ascends o.number os) h).1
 
 order_format : (o : Option ℕ) → ascends 11 (uint_option content_format o) ≡ true
 order_format None = refl

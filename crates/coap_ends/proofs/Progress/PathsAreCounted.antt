@@ -2,11 +2,11 @@
 use Rattle.std.proofs.Common.{◌≡◌, ◌≢◌, inl, inr, ℕ, ◌+◌, ◌-◌, ◌≤◌, Bool, true, false, Option, Some, None, is_some, List, [], ◌∷◌, length, Result, refl, ap, sym, subst, ◌∙◌, cond, max, arith}
 use Rattle.coap_types.specs.Past.{Ever}
 use Rattle.coap_types.specs.Path.{same_path}
-use Rattle.coap_types.proofs.PathLemmas.{same_path-decides}
+use Rattle.coap_types.proofs.Facts.Paths.{same_path-decides}
 use Rattle.coap_types.specs.declared.request.Method.{Method}
 use Rattle.coap_types.specs.declared.request.Method.TheVariants.{Get, Post, Put, Delete}
 use Rattle.coap_resource.specs.declared.refusal.StoreRefusal.{StoreRefusal}
-use Rattle.coap_resource.specs.Content.{Content, Held, Changes, unchanged, append_refusal, put_refusal}
+use Rattle.coap_resource.specs.Content.{Content, Held, Changes, later, append_refusal, put_refusal}
 use Rattle.coap_resource.specs.Rate.{rate_refusal, counted}
 use Rattle.coap_resource.specs.RequestOptions.{precondition_fails}
 use Rattle.coap_resource.specs.Serves.{Question, Reply, PutBy, JoinBy, PostBy, RemoveBy, DeleteBy, ServesMethod, ServesUnless}
@@ -127,7 +127,7 @@ can_change old at path now k =
 same_moves : (old left : Content) → left ≡ old → Moves old left
 same_moves old left h = stays (ap (λ (s : Content). s.holds) h) (ap (λ (s : Content). s.paths) h)
 
-unchanged_moves : (old left : Content) (at : ℕ) → left ≡ unchanged old at → Moves old left
+unchanged_moves : (old left : Content) (at : ℕ) → left ≡ later old at → Moves old left
 unchanged_moves old left at h = stays (ap (λ (s : Content). s.holds) h) (ap (λ (s : Content). s.paths) h)
 
 put_moves : (o : Option StoreRefusal) (old : Content) (at : ℕ) (q : Question) (reply : Reply) (left : Content) → PutBy o old at q reply left → Moves old left

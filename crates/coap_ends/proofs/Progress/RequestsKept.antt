@@ -8,18 +8,23 @@ use Rattle.coap_types.specs.declared.role.Role.{Role}
 use Rattle.coap_types.specs.declared.role.Role.TheVariants as role
 use Rattle.coap_codec.specs.Message.{Message}
 use Rattle.coap_layer.specs.Arrivals.{Arrival, Unreadable, Faulted, Whole}
-use Rattle.coap_layer.specs.State as S
-use Rattle.coap_layer.specs.State.{is_busy, is_free, sending, next_after, uses_after}
-use Rattle.coap_layer.specs.Table.{up_of, again_or}
+use Rattle.coap_layer.specs.Machine.State as S
+use Rattle.coap_layer.specs.Machine.State.{is_busy, is_free, sending, next_after, uses_after}
+use Rattle.coap_layer.specs.Machine.Table.{up_of, again_or}
 use Rattle.coap_layer.specs.Trace as L
 use Rattle.coap_layer.specs.Trace.{with_head}
 use Rattle.coap_layer.specs.Words.{is_con}
 
-abbrev pub Kept : Bool → L.Answer → Type 0
+abbrev pub Kept : Bool → L.Disposition → Type 0
 Kept free (L.Request m true) = (m.kind ≡ Con) ⊎ ((m.kind ≡ Non) × (free ≡ true))
 Kept free _ = Unit {0}
 
-again_kept : (free : Bool) (a : L.Answer) → Kept free a → (r f : Bool) → Kept free (again_or r f a)
+-- .. where an answer tells of a datagram
+abbrev pub KeptIn : Bool → L.Answer → Type 0
+KeptIn free (L.Becomes u) = Kept free u
+KeptIn free _ = Unit {0}
+
+again_kept : (free : Bool) (a : L.Disposition) → Kept free a → (r f : Bool) → Kept free (again_or r f a)
 again_kept free a h true f = tt
 again_kept free a h false true = tt
 again_kept free a h false false = h

@@ -2,19 +2,20 @@
 use Rattle.std.proofs.Common.{◌≡◌, ◌≤◌, ◌<◌, ℕ, ◌+◌, max, nat_lt, Bool, true, false, ◌||◌, Option, Some, None, List, [], ◌∷◌, ◌++◌, length, map, Result, Ok, Err, refl, ap, sym, subst, ◌∙◌, cond, arith}
 use Rattle.std.proofs.lemmas.List.{length-map}
 use Rattle.coap_types.specs.Roles.{role_of}
-use Rattle.coap_types.specs.Unrecognised.{lacks_critical}
+use Rattle.coap_types.specs.Recognised.{lacks_critical}
 use Rattle.coap_types.specs.declared.direction.Direction.TheVariants as direction
 use Rattle.coap_types.specs.declared.endpoint.Endpoint.{Endpoint}
 use Rattle.coap_types.specs.declared.message.Kind.{Kind}
 use Rattle.coap_types.specs.declared.message.Kind.TheVariants.{Con, Non, Ack, Rst}
 use Rattle.coap_types.specs.declared.request.Method.{Method}
 use Rattle.coap_types.specs.declared.role.Role.TheVariants as role
-use Rattle.coap_codec.specs.Message.{AreBytes, Message}
+use Rattle.coap_types.specs.Bytes.{AreBytes}
+use Rattle.coap_codec.specs.Message.{Message}
 use Rattle.coap_layer.specs.Trace as L
 use Rattle.coap_resource.specs.declared.refusal.StoreRefusal.{StoreRefusal}
-use Rattle.coap_resource.specs.Content.{Content, Held, put_refusal, unchanged}
+use Rattle.coap_resource.specs.Content.{Content, Held, put_refusal, later}
 use Rattle.coap_resource.specs.Rate.{rate_refusal}
-use Rattle.coap_resource.specs.RequestOptions.{has, value_of}
+use Rattle.coap_types.specs.OptionValues.{has, value_of}
 use Rattle.coap_resource.specs.Serves.{Question, Reply}
 use Rattle.coap_exchange.specs.declared.answerer.Asked.{Asked}
 use Rattle.coap_exchange.specs.declared.answerer.Due.{Due}
@@ -23,10 +24,13 @@ use Rattle.coap_exchange.specs.AnswererTrace as E
 use Rattle.coap_exchange.specs.AnswererSteps as P
 use Rattle.coap_exchange.specs.AnswererLaw as W
 use Rattle.coap_exchange.specs.AnswererLaw.{ResponseLaw}
-use Rattle.coap_exchange.proofs.AnswererCame.{came_in}
-use Rattle.coap_ends.specs.ClientRequests.{block1, block2}
+use Rattle.coap_exchange.proofs.Facts.ServerSide.{came_in}
+use Rattle.coap_types.specs.declared.option_number.TheConstants.{BLOCK1 as block1, BLOCK2 as block2, PROXY_URI as proxy_uri, PROXY_SCHEME as proxy_scheme}
 use Rattle.coap_ends.specs.ServerTrace.{Own, Handling, Silent, Refuses, Serves, Waits, Call, Sets, Removes, Feeds, Ticks}
-use Rattle.coap_ends.specs.ServerChecks.{Verdict, Ignored, Refused, Asks, bad_by, bad_request, proxying_not_supported, proxy_uri, proxy_scheme, max_segments, asks, path_of, is_reserved, method_by, asked_by, question, verdict_on}
+use Rattle.coap_types.specs.declared.path.TheConstants.{MAX_SEGMENTS as max_segments}
+use Rattle.coap_ends.specs.ServerChecks.{Verdict, Ignored, Refused, Asks, bad_by, bad_request, proxying_not_supported, asks, is_reserved, asked_by, question, verdict_on}
+use Rattle.coap_types.specs.RequestPath.{path_of}
+use Rattle.coap_types.specs.MethodCode.{method_of}
 use Rattle.coap_ends.specs.ServerSteps.{SetsBy, RemovesBy, IsServed, AsksBy, Handles, HandlesCame, HandlesDue, AnswersWaiting, answering, responding, bare, waits_by, max_waiting, delay_of, may_delay, is_done}
 use Rattle.coap_ends.specs.ServerLaw.{ServerLaw, own_of, lower_of}
 use Rattle.coap_ends.specs.Follows.ServerGoesOn.{GoesOn}
@@ -66,10 +70,10 @@ asked_refusal szx (Some method) m = by (nat_lt max_segments (length (path_of (as
 is_refusal : (szx : ℕ) (m : Message) → IsRefusal (verdict_on szx m)
 is_refusal szx m = by (lacks_critical direction.Request m.options || has block1 (asks m)) (has proxy_uri (asks m) || has proxy_scheme (asks m))
   where
-    by : (a b : Bool) → IsRefusal (cond a (bad_by m.kind) (cond b (Refused proxying_not_supported) (asked_by szx (method_by m.code) m)))
+    by : (a b : Bool) → IsRefusal (cond a (bad_by m.kind) (cond b (Refused proxying_not_supported) (asked_by szx (method_of m.code) m)))
     by true b = bad_refusal m.kind
     by false true = (refl, omega arith, omega arith)
-    by false false = asked_refusal szx (method_by m.code) m
+    by false false = asked_refusal szx (method_of m.code) m
 
 -- what waits is a CON, and there is a place
 waits_where : (kind : Kind) (d : Option ℕ) (n delay : ℕ) → waits_by kind d n ≡ Some delay → (kind ≡ Con) × (nat_lt n max_waiting ≡ true)
@@ -112,7 +116,7 @@ module _ (limit szx word : ℕ) (t : List Call) (law : ServerLaw limit szx word 
       at = max mine.clock now
 
       by : (o : Option StoreRefusal) → (answer : Result ℕ StoreRefusal) × (left : Content) × SetsBy o mine.store at path format body answer left
-      by (Some why) = (Err why, unchanged mine.store at, (refl, refl))
+      by (Some why) = (Err why, later mine.store at, (refl, refl))
       by None =
           let new : Held = record { version = mine.store.tally.version + 1; format = format; body = body } in
           let k = can_change mine.store at path (Some new) counted in
@@ -127,8 +131,8 @@ module _ (limit szx word : ℕ) (t : List Call) (law : ServerLaw limit szx word 
       at = max mine.clock now
 
       by : (o : Option Held) (why : Option StoreRefusal) → (answer : Result Bool StoreRefusal) × (left : Content) × RemovesBy o why mine.store at path answer left
-      by None why = (Ok false, unchanged mine.store at, (refl, refl))
-      by (Some held) (Some why) = (Err why, unchanged mine.store at, (refl, refl))
+      by None why = (Ok false, later mine.store at, (refl, refl))
+      by (Some held) (Some why) = (Err why, later mine.store at, (refl, refl))
       by (Some held) None = let k = can_change mine.store at path None counted in (Ok true, k.0, (refl, k.1))
 
   -- the store serves a request

@@ -1,51 +1,32 @@
 -- The response of a server has a spelling (RFC 7252, sections 3.1 and 3.2; RFC 7959, section 2.2).
-use Rattle.std.proofs.Common.{◌≡◌, ℕ, ◌/◌, ◌%◌, ◌<◌, ◌≤◌, ◌==◌, nat_lt, Bool, true, false, Option, Some, None, List, [], ◌∷◌, ◌++◌, length, refl, sym, arith}
+use Rattle.std.proofs.Common.{◌≡◌, ℕ, ◌<◌, ◌≤◌, true, Option, Some, None, List, [], ◌++◌, length, refl, arith}
 use Rattle.std.specs.Prelude.{IfSome}
 use Rattle.std.specs.List.{All, list_all}
 use Rattle.std.proofs.lemmas.List.Elements.{All-nil, All-cons}
-use Rattle.std.proofs.lemmas.Bool.Decides.{nat_tests}
 use Rattle.coap_types.specs.CoapOption.{CoapOption}
 use Rattle.coap_types.specs.Roles.{role_of}
-use Rattle.coap_types.specs.Uint.{AreBytes, IsSpelling}
+use Rattle.coap_types.specs.Bytes.{AreBytes}
+use Rattle.coap_types.specs.Uint.{uint}
 use Rattle.coap_types.specs.declared.role.Role.TheVariants as role
 use Rattle.coap_codec.specs.BoundedSpelling.{is_numbered}
 use Rattle.coap_codec.specs.Refused.{ascends, is_short}
-use Rattle.coap_codec.specs.Writing.{options_bytes}
-use Rattle.coap_layer.proofs.ListLemmas.{true_le, both}
+use Rattle.coap_codec.specs.Spelling.{options_bytes}
+use Rattle.std.proofs.lemmas.Bool.{le-leb, and_from}
 use Rattle.coap_layer.specs.Rows.{IsSpelled}
-use Rattle.coap_resource.specs.ResponseOptions.{Says, IsUint, option_with, block_number}
+use Rattle.coap_resource.specs.ResponseOptions.{Says, IsUint, block_number}
+use Rattle.coap_types.specs.OptionValues.{option_with}
 use Rattle.coap_resource.specs.Serves.{Reply}
 use Rattle.coap_exchange.specs.AnswererSteps.{content_with, IsResponseWith}
 use Rattle.coap_ends.specs.ServerSteps.{bare}
 use Rattle.coap_ends.proofs.Progress.ClientSpelled.{options_spelled}
-use Rattle.coap_ends.proofs.Holding.ResponseReadsBack.{few_bytes}
+use Rattle.coap_types.proofs.Facts.Uints.{few_bytes, uint_spells}
 use Rattle.coap_ends.proofs.Progress.StoreAnswers.{IsGood}
 
 -- a number of three bytes
 
-none_bytes : AreBytes []
-none_bytes = All-nil (λ b. b < 256)
-
-byte : (b : ℕ) (bs : List ℕ) → b < 256 → AreBytes bs → AreBytes (b ∷ bs)
-byte b bs h k = All-cons (λ x. x < 256) b bs h k
-
-spelling : (n : ℕ) → n < 16777216 → (bytes : List ℕ) × IsSpelling bytes n × AreBytes bytes
-spelling n below = by (n == 0) (nat_lt n 256) (nat_lt n 65536) refl refl refl
-  where
-    by : (a b c : Bool) → (n == 0) ≡ a → nat_lt n 256 ≡ b → nat_lt n 65536 ≡ c → (bytes : List ℕ) × IsSpelling bytes n × AreBytes bytes
-    by true b c none one two = ([], record { spelt = (let z : n ≡ 0 = grind (arith, nat_tests) in sym z); no_zero = tt }, none_bytes)
-    by false true c none one two = (let some : 0 < n = grind (arith, nat_tests) in (n ∷ [], record { spelt = omega arith; no_zero = some }, byte n [] (let small : n < 256 = grind (arith, nat_tests) in small) none_bytes))
-    by false false true none one two =
-        let least : 256 ≤ n = grind (arith, nat_tests) in
-        let most : n < 65536 = grind (arith, nat_tests) in
-        (n / 256 ∷ n % 256 ∷ [], record { spelt = omega (arith, least, most); no_zero = omega (arith, least) }, byte (n / 256) (n % 256 ∷ []) (omega (arith, most)) (byte (n % 256) [] (omega arith) none_bytes))
-    by false false false none one two =
-        let least : 65536 ≤ n = grind (arith, nat_tests) in
-        (n / 65536 ∷ n / 256 % 256 ∷ n % 256 ∷ [], record { spelt = omega (arith, least, below); no_zero = omega (arith, least) }, byte (n / 65536) (n / 256 % 256 ∷ n % 256 ∷ []) (omega (arith, below)) (byte (n / 256 % 256) (n % 256 ∷ []) (omega arith) (byte (n % 256) [] (omega arith) none_bytes)))
-
 uint_of : (o : Option ℕ) → IfSome o (λ n. n < 16777216) → (bytes : Option (List ℕ)) × IsUint o bytes × IfSome bytes (λ b. length b ≤ 3) × IfSome bytes AreBytes
 uint_of None h = (None, tt, tt, tt)
-uint_of (Some n) h = let k = spelling n h in (Some k.0, k.1, few_bytes k.0 n 3 k.1 (omega (arith, h)), k.2)
+uint_of (Some n) h = let k = uint_spells n (omega (arith, h)) in (Some (uint n), k, few_bytes (uint n) n 3 k (omega (arith, h)), k.are_bytes)
 
 -- the options
 
@@ -71,11 +52,11 @@ numbered (Some t) (Some f) (Some b) = refl
 
 short_with : (number : ℕ) (o : Option (List ℕ)) (most : ℕ) (rest : List CoapOption) → IfSome o (λ v. length v ≤ most) → most ≤ 8 → list_all is_short rest ≡ true → list_all is_short (option_with number o ++ rest) ≡ true
 short_with number None most rest h small k = k
-short_with number (Some v) most rest h small k = both _ _ (true_le (length v) 65804 (omega (arith, h, small))) k
+short_with number (Some v) most rest h small k = and_from _ _ (le-leb (length v) 65804 (omega (arith, h, small))) k
 
 short_last : (o : Option (List ℕ)) → IfSome o (λ v. length v ≤ 3) → list_all is_short (option_with 23 o) ≡ true
 short_last None h = refl
-short_last (Some v) h = both _ _ (true_le (length v) 65804 (omega (arith, h))) refl
+short_last (Some v) h = and_from _ _ (le-leb (length v) 65804 (omega (arith, h))) refl
 
 spelled_with : (code : ℕ) (token : List ℕ) (options : List CoapOption) (payload : List ℕ) → 0 < code → code < 256 → length token ≤ 8
     → ascends 0 options ≡ true → list_all is_numbered options ≡ true → list_all is_short options ≡ true

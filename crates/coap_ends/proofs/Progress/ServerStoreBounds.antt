@@ -3,15 +3,16 @@ use Rattle.std.proofs.Common.{◌≡◌, ℕ, ◌+◌, ◌<◌, ◌≤◌, ◌^�
 use Rattle.std.specs.Prelude.{IfSome}
 use Rattle.std.proofs.lemmas.Bool.Decides.{nat_tests}
 use Rattle.coap_types.specs.Path.{same_path}
-use Rattle.coap_types.proofs.PathLemmas.{same_path-decides}
+use Rattle.coap_types.proofs.Facts.Paths.{same_path-decides}
 use Rattle.coap_types.specs.declared.request.Method.{Method}
 use Rattle.coap_types.specs.declared.request.Method.TheVariants.{Get, Post, Put, Delete}
-use Rattle.coap_layer.proofs.ListLemmas.{lt_true}
+use Rattle.std.proofs.lemmas.Bool.{ltb-true}
 use Rattle.coap_resource.specs.declared.refusal.StoreRefusal.{StoreRefusal}
 use Rattle.coap_resource.specs.declared.refusal.StoreRefusal.TheVariants.{TooLarge}
-use Rattle.coap_resource.specs.Content.{Content, Held, Changes, unchanged, append_refusal, put_refusal}
+use Rattle.coap_resource.specs.Content.{Content, Held, Changes, later, append_refusal, put_refusal}
 use Rattle.coap_resource.specs.Rate.{rate_refusal}
-use Rattle.coap_resource.specs.RequestOptions.{format_of, precondition_fails, value_of, uint_option, within_16}
+use Rattle.coap_resource.specs.RequestOptions.{format_of, precondition_fails, within_16}
+use Rattle.coap_types.specs.OptionValues.{value_of, uint_in}
 use Rattle.coap_resource.specs.Serves.{Question, Reply, PutBy, JoinBy, PostBy, RemoveBy, DeleteBy, ServesMethod, ServesUnless}
 use Rattle.coap_resource.specs.Serves as R
 use Rattle.coap_exchange.specs.declared.answerer.Due.TheVariants as due
@@ -34,7 +35,7 @@ pub record AreBounded (s : Content) : Type 0 where
 same_bounded : (old left : Content) → left.holds ≡ old.holds → AreBounded old → AreBounded left
 same_bounded old left same b = record { each = λ path held h. b.each path held (sym (ap (λ f. f path) same) ∙ h) }
 
-unchanged_bounded : (old left : Content) (at : ℕ) → left ≡ unchanged old at → AreBounded old → AreBounded left
+unchanged_bounded : (old left : Content) (at : ℕ) → left ≡ later old at → AreBounded old → AreBounded left
 unchanged_bounded old left at h b = same_bounded old left (ap (λ (s : Content). s.holds) h) b
 
 changed_bounded : (old left : Content) (at : ℕ) (path : List (List ℕ)) (now : Option Held) → Changes old at path now left → AreBounded old → ((held : Held) → now ≡ Some held → IsBounded held) → AreBounded left
@@ -58,7 +59,7 @@ fits_16 None = tt
 fits_16 (Some n) = by (nat_lt n 65536) refl
   where
     by : (b : Bool) → nat_lt n 65536 ≡ b → IfSome (cond b (Some n) None) (λ f. f < 65536)
-    by true is = lt_true n 65536 is
+    by true is = ltb-true n 65536 is
     by false is = tt
 
 -- a request
@@ -68,7 +69,7 @@ put_bounded (Some why) old at q reply left is h b = unchanged_bounded old left a
 put_bounded None old at q reply left is h b =
     changed_bounded old left at q.path _ h.1 b
     (λ held e. subst IsBounded (let same : ◌≡◌ {A = Held} (record { version = old.tally.version + 1; format = format_of q.options; body = q.body }) held = cc e in same)
-    (record { format = fits_16 (uint_option (value_of 12 q.options)); body = not_large (length q.body) _ is }))
+    (record { format = fits_16 (uint_in (value_of 12 q.options)); body = not_large (length q.body) _ is }))
 
 join_bounded : (o : Option StoreRefusal) (was : Held) (old : Content) (at : ℕ) (q : Question) (reply : Reply) (left : Content) → append_refusal old at was (length q.body) ≡ o → IsBounded was → JoinBy o was old at q reply left → AreBounded old → AreBounded left
 join_bounded (Some why) was old at q reply left is w h b = unchanged_bounded old left at h.1 b

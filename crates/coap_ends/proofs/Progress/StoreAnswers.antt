@@ -4,15 +4,17 @@ use Rattle.std.specs.Int.{byte_at, bytes_high_first}
 use Rattle.std.specs.Prelude.{IfSome}
 use Rattle.std.proofs.lemmas.List.Elements.{All-nil, All-cons}
 use Rattle.coap_types.specs.Roles.{role_of}
-use Rattle.coap_types.specs.Uint.{AreBytes}
+use Rattle.coap_types.specs.Bytes.{AreBytes}
 use Rattle.coap_types.specs.declared.request.Method.{Method}
 use Rattle.coap_types.specs.declared.request.Method.TheVariants.{Get, Post, Put, Delete}
 use Rattle.coap_types.specs.declared.role.Role.TheVariants as role
 use Rattle.coap_resource.specs.declared.refusal.StoreRefusal.{StoreRefusal}
 use Rattle.coap_resource.specs.declared.refusal.StoreRefusal.TheVariants.{Memory, TooLarge, TooManyPaths, RateExceeded, VersionsSpent}
-use Rattle.coap_resource.specs.Content.{Content, Held, unchanged, append_refusal, put_refusal}
+use Rattle.coap_resource.specs.Content.{Content, Held, later, append_refusal, put_refusal}
 use Rattle.coap_resource.specs.Rate.{rate_refusal}
-use Rattle.coap_resource.specs.RequestOptions.{precondition_fails, accepts, etag_names, block_of, offset_by, tag_of, szx_by, format_of, uint_option, value_of}
+use Rattle.coap_types.specs.declared.block.Block.{Block}
+use Rattle.coap_resource.specs.RequestOptions.{precondition_fails, accepts, etag_names, block_of, offset_by, tag_of, szx_by, format_of}
+use Rattle.coap_types.specs.OptionValues.{uint_in, value_of}
 use Rattle.coap_resource.specs.ResponseOptions.{block_number}
 use Rattle.coap_resource.specs.Serves.{Question, Reply, bare, got, refusal_code, content_reply, asked_offset, PutBy, JoinBy, PostBy, RemoveBy, DeleteBy, ServesMethod, ServesUnless}
 use Rattle.coap_resource.specs.Serves as R
@@ -59,8 +61,8 @@ refusal_good RateExceeded = bare_good 163 0 refl (omega arith) (omega arith)
 refusal_good VersionsSpent = bare_good 163 0 refl (omega arith) (omega arith)
 
 module _ (old : Content) (at : ℕ) (q : Question) (c : AreCounted old) where
-  refused : (why : StoreRefusal) → IsAnswered (λ reply left. (reply ≡ bare (refusal_code why) 0) × (left ≡ unchanged old at))
-  refused why = record { reply = bare (refusal_code why) 0; left = unchanged old at; serves = (refl, refl); good = refusal_good why }
+  refused : (why : StoreRefusal) → IsAnswered (λ reply left. (reply ≡ bare (refusal_code why) 0) × (left ≡ later old at))
+  refused why = record { reply = bare (refusal_code why) 0; left = later old at; serves = (refl, refl); good = refusal_good why }
 
   put_answered : (o : Option StoreRefusal) → IsAnswered (λ reply left. PutBy o old at q reply left)
   put_answered (Some why) = refused why
@@ -79,7 +81,7 @@ module _ (old : Content) (at : ℕ) (q : Question) (c : AreCounted old) where
       record { reply = bare 68 0; left = k.0; serves = (refl, k.1); good = bare_good 68 0 refl (omega arith) (omega arith) }
 
   post_answered : (o : Option Held) → IsAnswered (λ reply left. PostBy o old at q reply left)
-  post_answered None = record { reply = bare 132 0; left = unchanged old at; serves = (refl, refl); good = bare_good 132 0 refl (omega arith) (omega arith) }
+  post_answered None = record { reply = bare 132 0; left = later old at; serves = (refl, refl); good = bare_good 132 0 refl (omega arith) (omega arith) }
   post_answered (Some was) = join_answered (append_refusal old at was (length q.body)) was
 
   remove_answered : (o : Option StoreRefusal) → IsAnswered (λ reply left. RemoveBy o old at q reply left)
@@ -87,12 +89,12 @@ module _ (old : Content) (at : ℕ) (q : Question) (c : AreCounted old) where
   remove_answered None = let k = can_change old at q.path None c in record { reply = bare 66 0; left = k.0; serves = (refl, k.1); good = bare_good 66 0 refl (omega arith) (omega arith) }
 
   delete_answered : (o : Option Held) → IsAnswered (λ reply left. DeleteBy o old at q reply left)
-  delete_answered None = record { reply = bare 66 0; left = unchanged old at; serves = (refl, refl); good = bare_good 66 0 refl (omega arith) (omega arith) }
+  delete_answered None = record { reply = bare 66 0; left = later old at; serves = (refl, refl); good = bare_good 66 0 refl (omega arith) (omega arith) }
   delete_answered (Some was) = remove_answered (rate_refusal old.tally at)
 
   -- a GET
   module _ (held : Held) (bounded : IsBounded held) where
-    abbrev asked : Option (ℕ × ℕ)
+    abbrev asked : Option Block
     asked = block_of q.options
 
     abbrev offset : ℕ
@@ -113,7 +115,7 @@ module _ (old : Content) (at : ℕ) (q : Question) (c : AreCounted old) where
       tag = omega arith;
       tag_bytes = bytes_of_tag held.version;
       format = bounded.format;
-      block2 = block_below (uint_option (value_of 23 q.options)) held q.szx is bounded.body;
+      block2 = block_below (uint_in (value_of 23 q.options)) held q.szx is bounded.body;
     }
 
     held_good : IsGood (got (Some held) q)

@@ -6,9 +6,9 @@ use Rattle.coap_exchange.specs.declared.answerer.Due.{Due}
 use Rattle.coap_exchange.specs.declared.answerer.Due.TheVariants as due
 use Rattle.coap_exchange.specs.AnswererTrace as E
 use Rattle.coap_exchange.specs.AnswererFollows.{AreRequests, same_asked}
-use Rattle.coap_exchange.proofs.LayerFacts.{both}
+use Rattle.std.proofs.lemmas.Bool.{and_parts}
 use Rattle.coap_ends.specs.ServerTrace.{Waiting, Own, Silent, Refuses, Serves, Waits, Call, Sets, Removes, Delays, Feeds, Ticks, NextOut}
-use Rattle.coap_ends.specs.ServerSteps.{lower, is_of, question_of, without, waiting_after}
+use Rattle.coap_ends.specs.ServerSteps.{lower, is_of, question_of, without_waiting, waiting_after}
 use Rattle.coap_ends.specs.ServerLaw.{own_of, lower_of}
 use Rattle.coap_ends.proofs.Serving.ServedWasHandedUp.{same_asked_is}
 
@@ -20,11 +20,11 @@ short_more : (ws : List Waiting) (w : Waiting) → AreShort ws → length w.aske
 short_more [] w h few = (few, tt)
 short_more (x ∷ ws) w h few = (h.0, short_more ws w h.1 few)
 
-short_without : (at : ℕ) (a : Asked) (ws : List Waiting) → AreShort ws → AreShort (without at a ws)
+short_without : (at : ℕ) (a : Asked) (ws : List Waiting) → AreShort ws → AreShort (without_waiting at a ws)
 short_without at a [] h = tt
 short_without at a (w ∷ ws) h = by (is_of at a w) (short_without at a ws h.1)
   where
-    by : (b : Bool) → AreShort (without at a ws) → AreShort (cond b ws (w ∷ without at a ws))
+    by : (b : Bool) → AreShort (without_waiting at a ws) → AreShort (cond b ws (w ∷ without_waiting at a ws))
     by true k = h.1
     by false k = (h.0, k)
 
@@ -40,7 +40,7 @@ asked_short at a [] q h is = absurd (cc is)
 asked_short at a (w ∷ ws) q h is = by (is_of at a w) refl is (asked_short at a ws q h.1)
   where
     by : (b : Bool) → is_of at a w ≡ b → cond b (Some w.question) (question_of at a ws) ≡ Some q → (question_of at a ws ≡ Some q → length a.token ≤ 8) → length a.token ≤ 8
-    by true so k f = subst (λ (x : Asked). length x.token ≤ 8) (sym (same_asked_is a w.asked (both (same_asked a w.asked) (nat_le w.delay (at - w.at)) so).0)) h.0
+    by true so k f = subst (λ (x : Asked). length x.token ≤ 8) (sym (same_asked_is a w.asked (and_parts (same_asked a w.asked) (nat_le w.delay (at - w.at)) so).0)) h.0
     by false so k f = f k
 
 requests_back : (xs ys : List E.Call) → AreRequests (xs ++ ys) → AreRequests ys

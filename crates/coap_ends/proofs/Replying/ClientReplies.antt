@@ -8,10 +8,10 @@ use Rattle.coap_types.specs.declared.message.Kind.TheVariants.{Con, Non, Ack, Rs
 use Rattle.coap_codec.specs.Message.{Message, Spells}
 use Rattle.coap_layer.specs.Trace as T
 use Rattle.coap_layer.specs.Words.{is_kept, handed, handed_by, from_there}
-use Rattle.coap_layer.specs.State as L
-use Rattle.coap_layer.specs.Steps.{Asked, Steps, entries, left_after}
+use Rattle.coap_layer.specs.Machine.State as L
+use Rattle.coap_layer.specs.Machine.Steps.{Asked, Steps, entries, left_after}
 use Rattle.coap_layer.specs.Channel.{RepliesSo}
-use Rattle.coap_layer.proofs.StepsLemmas.{steps_left}
+use Rattle.coap_layer.proofs.Facts.Calls.{steps_left}
 use Rattle.coap_exchange.specs.declared.asker.Exchange.{Exchange}
 use Rattle.coap_exchange.specs.declared.matching.Known.{Known}
 use Rattle.coap_exchange.specs.declared.matching.Opening.{Opening}
@@ -25,8 +25,8 @@ use Rattle.coap_exchange.specs.AskerRequests as Q
 use Rattle.coap_exchange.specs.AskerArrivals as R
 use Rattle.coap_exchange.specs.AskerSteps as P
 use Rattle.coap_exchange.specs.AskerLaw as W
-use Rattle.coap_exchange.proofs.AskerLeading.{steps_split}
-use Rattle.coap_exchange.proofs.ArrivalFacts.{message_in, spelled}
+use Rattle.coap_exchange.proofs.Facts.StepsOfLayer.{steps_split}
+use Rattle.coap_exchange.proofs.Facts.HandedUp.{message_in, spelled}
 
 -- Empty messages
 
@@ -96,7 +96,7 @@ rst_quiet id k =
     six (Quiet id) (not k.from_server || not (k.of_exchange || k.kept)) (false && not (k.of_exchange && k.same_id)) k.bad_option (not false && k.cancelled) k.of_exchange k.kept Ignore Ignore Ignore Ignore Ignore Ignore
     refl refl refl refl refl refl refl
 
-response_replies : (m : Message) (kind : Kind) (k : Known) (b : List ℕ) → m.kind ≡ kind → R.reply_by (judged kind k) m.id ≡ Some b → Replies (T.Response m) m.id b
+response_replies : (m : Message) (kind : Kind) (k : Known) (b : List ℕ) → m.kind ≡ kind → R.reply_by (judged kind k) m.id ≡ Some b → Replies (T.Becomes (T.Response m)) m.id b
 response_replies m Con k b is h =
     record {
       message = m;
@@ -110,7 +110,7 @@ response_replies m Non k b is h =
 response_replies m Ack k b is h = absurd (cc (h, ack_quiet m.id k))
 response_replies m Rst k b is h = absurd (cc (h, rst_quiet m.id k))
 
-request_replies : (m : Message) (kept : Bool) (kind : Kind) (b : List ℕ) → R.reply_by (request_judged kind) m.id ≡ Some b → Replies (T.Request m kept) m.id b
+request_replies : (m : Message) (kept : Bool) (kind : Kind) (b : List ℕ) → R.reply_by (request_judged kind) m.id ≡ Some b → Replies (T.Becomes (T.Request m kept)) m.id b
 request_replies m kept Con b h = record { message = m; up_is = refl; in_is = refl; id_is = refl; shape = inl (sym (some_same _ _ h)) }
 request_replies m kept Non b h = absurd (cc h)
 request_replies m kept Ack b h = absurd (cc h)
@@ -121,22 +121,11 @@ none_if true v w id b p q h = cc (p, h)
 none_if false v w id b p q h = cc (q, h)
 
 pub what_replies : (s : E.Own) (from : Endpoint) (up : T.Answer) (b : List ℕ) → R.reply_by (R.verdict_on s from up) (R.id_in up) ≡ Some b → Replies up (R.id_in up) b
-what_replies s from (T.Response m) b h = response_replies m m.kind (R.known_of s from m) b refl h
-what_replies s from (T.Request m kept) b h = request_replies m kept m.kind b h
-what_replies s from (T.Acked id) b h = absurd (none_if (R.is_of_request s from id) Await Ignore 0 b refl refl h)
-what_replies s from (T.Reset id) b h = absurd (none_if (R.is_of_request s from id) EndByReset Ignore 0 b refl refl h)
-what_replies s from T.Dropped b h = absurd (cc h)
-what_replies s from T.Replayed b h = absurd (cc h)
-what_replies s from T.Rejected b h = absurd (cc h)
-what_replies s from T.Nothing b h = absurd (cc h)
-what_replies s from (T.Is holds) b h = absurd (cc h)
-what_replies s from (T.Sent id) b h = absurd (cc h)
-what_replies s from T.Busied b h = absurd (cc h)
-what_replies s from T.NoIds b h = absurd (cc h)
-what_replies s from T.Idle b h = absurd (cc h)
-what_replies s from (T.Copied to id) b h = absurd (cc h)
-what_replies s from (T.Expired to id) b h = absurd (cc h)
-what_replies s from (T.Gives p) b h = absurd (cc h)
+what_replies s from (T.Becomes (T.Response m)) b h = response_replies m m.kind (R.known_of s from m) b refl h
+what_replies s from (T.Becomes (T.Request m kept)) b h = request_replies m kept m.kind b h
+what_replies s from (T.Becomes (T.Acked id)) b h = absurd (none_if (R.is_of_request s from id) Await Ignore 0 b refl refl h)
+what_replies s from (T.Becomes (T.Reset id)) b h = absurd (none_if (R.is_of_request s from id) EndByReset Ignore 0 b refl refl h)
+what_replies s from up b h = absurd (cc h)
 
 -- calls that are no replies
 

@@ -1,15 +1,15 @@
 -- What the message layer of a server sends beside Empty messages carries a response that its exchanges were given.
 use Rattle.std.proofs.Common.{◌≡◌, ◌⊎◌, inl, inr, ℕ, ◌<◌, Bool, true, false, Option, Some, None, List, [], ◌∷◌, ◌++◌, refl, ap, sym, subst, ◌∙◌, cond, arith}
 use Rattle.coap_types.specs.Past.{Ever}
-use Rattle.coap_types.proofs.PastLemmas.{Ever_append}
+use Rattle.coap_types.proofs.Facts.Traces.{Ever_append}
 use Rattle.coap_types.specs.declared.endpoint.Endpoint.{Endpoint}
 use Rattle.coap_types.specs.declared.message.Kind.{Kind}
 use Rattle.coap_types.specs.declared.message.Kind.TheVariants.{Con, Non, Ack, Rst}
 use Rattle.coap_codec.specs.Message.{Message, Spells}
-use Rattle.coap_codec.specs.Writing.{message_bytes}
-use Rattle.coap_layer.specs.State as S
-use Rattle.coap_layer.specs.Steps as G
-use Rattle.coap_layer.specs.Steps.{entries}
+use Rattle.coap_codec.specs.Spelling.{message_bytes}
+use Rattle.coap_layer.specs.Machine.State as S
+use Rattle.coap_layer.specs.Machine.Steps as G
+use Rattle.coap_layer.specs.Machine.Steps.{entries}
 use Rattle.coap_layer.specs.Trace as L
 use Rattle.coap_layer.specs.Trace.{Content, with_head}
 use Rattle.coap_layer.specs.Words.{is_kept}
@@ -23,7 +23,7 @@ use Rattle.coap_exchange.specs.AskerRequests.{asked}
 use Rattle.coap_exchange.specs.AskerArrivals.{id_in, replying}
 use Rattle.coap_ends.specs.Follows.ServerGives.{Carries, IsEmpty}
 use Rattle.coap_ends.proofs.Replying.ClientReplies.{empty_of, ack_spells, reset_spells}
-use Rattle.coap_ends.proofs.Replying.Sources.{GivesMessage, Source}
+use Rattle.coap_ends.specs.Follows.Sources.{GivesMessage, Source}
 
 -- from the entries of the layer to what was asked of it
 pub called : (K : L.Call → Type 0) (old : S.State) (calls : List G.Asked) → Ever (λ (e : L.Entry). K e.call) (entries old calls) → Ever (λ (b : G.Asked). K b.call) calls
@@ -94,27 +94,13 @@ module _ (p : L.Packet) where
   in_bare_ack to n h = let k = replied to n (ack_bytes n) h in (empty_of Ack n, subst (λ b. Spells b (empty_of Ack n)) (sym k.1) (ack_spells n k.2), refl)
 
   rejected : (from : Endpoint) (up : L.Answer) → From (replying from (id_in up) (P.reject_by up)) → IsEmpty p
-  rejected from (L.Response m) h = by (is_kept m.kind) h
+  rejected from (L.Becomes (L.Response m)) h = by (is_kept m.kind) h
     where
       by : (k : Bool) → From (replying from m.id (cond k (Some (reset_bytes m.id)) None)) → IsEmpty p
       by true (inl g) = in_reset from m.id g
       by true (inr g) = absurd g
       by false g = absurd g
-  rejected from (L.Request m kept) h = absurd h
-  rejected from (L.Acked id) h = absurd h
-  rejected from (L.Reset id) h = absurd h
-  rejected from L.Dropped h = absurd h
-  rejected from L.Replayed h = absurd h
-  rejected from L.Rejected h = absurd h
-  rejected from L.Nothing h = absurd h
-  rejected from (L.Is holds) h = absurd h
-  rejected from (L.Sent id) h = absurd h
-  rejected from L.Busied h = absurd h
-  rejected from L.NoIds h = absurd h
-  rejected from L.Idle h = absurd h
-  rejected from (L.Copied to id) h = absurd h
-  rejected from (L.Expired to id) h = absurd h
-  rejected from (L.Gives packet) h = absurd h
+  rejected from up h = absurd h
 
   -- what sends nothing
   abbrev Quiet : L.Call → Type 0

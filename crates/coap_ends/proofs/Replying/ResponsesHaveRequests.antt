@@ -3,12 +3,12 @@ use Rattle.std.specs.Prelude.{All}
 use Rattle.std.proofs.Common.{◌≡◌, inl, inr, ℕ, max, Bool, Option, Some, None, List, [], ◌∷◌, length, refl, sym, subst}
 use Rattle.coap_types.specs.CoapOption.{CoapOption}
 use Rattle.coap_types.specs.Past.{Ever, Sometime}
-use Rattle.coap_types.specs.Uint.{AreBytes}
-use Rattle.coap_types.proofs.PastLemmas.{Ever_append}
+use Rattle.coap_types.specs.Bytes.{AreBytes}
+use Rattle.coap_types.proofs.Facts.Traces.{Ever_append}
 use Rattle.coap_types.specs.declared.endpoint.Endpoint.{Endpoint}
 use Rattle.coap_types.specs.declared.message.Kind.{Kind}
 use Rattle.coap_codec.specs.Message.{Message}
-use Rattle.coap_layer.specs.State as S
+use Rattle.coap_layer.specs.Machine.State as S
 use Rattle.coap_layer.specs.Trace as L
 use Rattle.coap_resource.specs.Content.{Content}
 use Rattle.coap_resource.specs.ResponseOptions.{Says}
@@ -18,7 +18,7 @@ use Rattle.coap_exchange.specs.declared.answerer.Due.{Due}
 use Rattle.coap_exchange.specs.declared.answerer.Due.TheVariants as due
 use Rattle.coap_exchange.specs.AnswererTrace as E
 use Rattle.coap_exchange.specs.AnswererLaw as W
-use Rattle.coap_exchange.proofs.AnswererLeading.{layer_stands}
+use Rattle.coap_exchange.proofs.Facts.ServerSide.{layer_stands}
 use Rattle.coap_ends.specs.ServerTrace.{Own, Handling, Silent, Refuses, Serves, Waits, Call, Sets, Removes, Delays, Feeds, Ticks, NextOut}
 use Rattle.coap_ends.specs.ServerChecks.{Verdict, Ignored, Refused, Asks, verdict_on}
 use Rattle.coap_ends.specs.ServerSteps.{lower, bare, IsServed, AsksBy, Handles, AnswersWaiting, waits_by, delay_of, question_of}
@@ -26,15 +26,9 @@ use Rattle.coap_ends.specs.ServerLaw.{own_of, lower_of, ServerLaw}
 use Rattle.coap_ends.specs.Follows.ServerGives.{Carries, CarriesResponse, SentResponses, SendsResponses}
 use Rattle.coap_ends.proofs.Serving.ServedWasHandedUp.{are_handed}
 use Rattle.coap_ends.proofs.Replying.LayerSendsResponses.{called, CarriesIn, made}
-use Rattle.coap_ends.proofs.Replying.ServerRepliesSo.{steps_back, law_back}
-use Rattle.coap_ends.proofs.Replying.Sources.{Source, sourced}
-
--- the law of a past
-pub server_back : (limit szx word : ℕ) (c : Call) (t : List Call) → ServerLaw limit szx word (c ∷ t) → ServerLaw limit szx word t
-server_back limit szx word c t law =
-    let xs : List E.Call = lower (own_of limit szx t) c in
-    let k = steps_back word xs (lower_of limit szx t) (law.exchanges.left, law.exchanges.layer) in
-    record { rows = law.rows.1; exchanges = record { rows = law_back word xs (lower_of limit szx t) law.exchanges.rows; left = k.0; layer = k.1 } }
+use Rattle.coap_ends.proofs.Exact.LawOfAPast.{server_back}
+use Rattle.coap_ends.specs.Follows.Sources.{Source}
+use Rattle.coap_ends.proofs.Replying.Sources.{sourced}
 
 -- a refusal is what the checks come to
 refuses : (s : Own) (at : ℕ) (kind : Kind) (v : Verdict) (r : E.Response) → Handles s at kind v (Refuses r) → (code : ℕ) × (v ≡ Refused code) × (r ≡ bare code)
@@ -127,7 +121,7 @@ module _ (limit szx word : ℕ) (p : L.Packet) where
   responded (c ∷ t) law h =
       elim (Ever_append (CarriesIn p) (lower (own t) c) (lower_of limit szx t) h) [
         | inl k ↦ inl (here t c law k)
-        | inr k ↦ inr (responded t (server_back limit szx word c t law) k)
+        | inr k ↦ inr (responded t (server_back limit szx word (c ∷ []) t law) k)
       ]
 
 pub sent_responses : (limit szx word : ℕ) (t : List Call) → ServerLaw limit szx word t → SentResponses limit szx word t
@@ -140,4 +134,4 @@ sent_responses limit szx word t law p h =
 
 pub sends_responses : (limit szx word : ℕ) (t : List Call) → ServerLaw limit szx word t → SendsResponses limit szx word t
 sends_responses limit szx word [] law = tt
-sends_responses limit szx word (c ∷ t) law = (sent_responses limit szx word (c ∷ t) law, sends_responses limit szx word t (server_back limit szx word c t law))
+sends_responses limit szx word (c ∷ t) law = (sent_responses limit szx word (c ∷ t) law, sends_responses limit szx word t (server_back limit szx word (c ∷ []) t law))

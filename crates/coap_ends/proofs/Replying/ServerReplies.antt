@@ -5,22 +5,22 @@ use Rattle.coap_types.specs.declared.endpoint.Endpoint.{Endpoint}
 use Rattle.coap_types.specs.declared.message.Kind.{Kind}
 use Rattle.coap_types.specs.declared.message.Kind.TheVariants.{Con, Non, Ack, Rst}
 use Rattle.coap_codec.specs.Message.{Message, Spells}
-use Rattle.coap_codec.specs.Writing.{message_bytes}
+use Rattle.coap_codec.specs.Spelling.{message_bytes}
 use Rattle.coap_layer.specs.Trace as T
 use Rattle.coap_layer.specs.Trace.{with_head, Entry}
 use Rattle.coap_layer.specs.Words.{is_kept, handed, handed_by, from_there}
-use Rattle.coap_layer.specs.State as L
-use Rattle.coap_layer.specs.Steps as G
-use Rattle.coap_layer.specs.Steps.{Steps, entries, left_after}
+use Rattle.coap_layer.specs.Machine.State as L
+use Rattle.coap_layer.specs.Machine.Steps as G
+use Rattle.coap_layer.specs.Machine.Steps.{Steps, entries, left_after}
 use Rattle.coap_layer.specs.Channel.{RepliesSo}
-use Rattle.coap_layer.proofs.StepsLemmas.{steps_left}
+use Rattle.coap_layer.proofs.Facts.Calls.{steps_left}
 use Rattle.coap_exchange.specs.declared.answerer.Asked.{Asked}
 use Rattle.coap_exchange.specs.EmptyMessages.{ack_bytes, reset_bytes}
 use Rattle.coap_exchange.specs.AnswererTrace as E
 use Rattle.coap_exchange.specs.AnswererSteps as P
 use Rattle.coap_exchange.specs.AskerRequests.{asked}
 use Rattle.coap_exchange.specs.AskerArrivals.{id_in, replying}
-use Rattle.coap_exchange.proofs.ArrivalFacts.{message_in, spelled}
+use Rattle.coap_exchange.proofs.Facts.HandedUp.{message_in, spelled}
 use Rattle.coap_ends.proofs.Replying.ClientReplies.{empty_of, ack_spells, reset_spells, So, over}
 
 -- what is handed up
@@ -88,53 +88,24 @@ module _ (begin : L.State) (from : Endpoint) (now : ℕ) (bytes : List ℕ) (up 
 
 -- the request that is handed up
 pub record Came (from : Endpoint) (up : T.Answer) (a : Asked) (m : Message) : Type 0 where
-  pub up_is : up ≡ T.Request m true
+  pub up_is : up ≡ T.Becomes (T.Request m true)
   pub asked_is : a ≡ P.asked_of from m
 
 pub came_by : (from : Endpoint) (up : T.Answer) (a : Asked) (m : Message) → Some (a, m) ≡ P.handed_up from up → Came from up a m
-came_by from (T.Request n true) a m h =
+came_by from (T.Becomes (T.Request n true)) a m h =
     let p : ◌≡◌ {A = Asked × Message} (a, m) (P.asked_of from n, n) = cc h in
     let same : m ≡ n = ap (λ (q : Asked × Message). q.1) p in
-    record { up_is = ap (λ k. T.Request k true) (sym same); asked_is = ap (λ (q : Asked × Message). q.0) p ∙ ap (P.asked_of from) (sym same) }
-came_by from (T.Request n false) a m h = absurd (cc h)
-came_by from (T.Response n) a m h = absurd (cc h)
-came_by from (T.Acked id) a m h = absurd (cc h)
-came_by from (T.Reset id) a m h = absurd (cc h)
-came_by from T.Dropped a m h = absurd (cc h)
-came_by from T.Replayed a m h = absurd (cc h)
-came_by from T.Rejected a m h = absurd (cc h)
-came_by from T.Nothing a m h = absurd (cc h)
-came_by from (T.Is holds) a m h = absurd (cc h)
-came_by from (T.Sent id) a m h = absurd (cc h)
-came_by from T.Busied a m h = absurd (cc h)
-came_by from T.NoIds a m h = absurd (cc h)
-came_by from T.Idle a m h = absurd (cc h)
-came_by from (T.Copied to id) a m h = absurd (cc h)
-came_by from (T.Expired to id) a m h = absurd (cc h)
-came_by from (T.Gives packet) a m h = absurd (cc h)
+    record { up_is = ap (λ k. T.Becomes (T.Request k true)) (sym same); asked_is = ap (λ (q : Asked × Message). q.0) p ∙ ap (P.asked_of from) (sym same) }
+came_by from up a m h = absurd (cc h)
 
 -- a response that is rejected
 reject_hands : (up : T.Answer) (b : List ℕ) → P.reject_by up ≡ Some b → (m : Message) × Hands up m × (id_in up ≡ m.id) × (b ≡ reset_bytes m.id)
-reject_hands (T.Response m) b h = by (is_kept m.kind) refl h
+reject_hands (T.Becomes (T.Response m)) b h = by (is_kept m.kind) refl h
   where
-    by : (k : Bool) → is_kept m.kind ≡ k → cond k (Some (reset_bytes m.id)) None ≡ Some b → (n : Message) × Hands (T.Response m) n × (m.id ≡ n.id) × (b ≡ reset_bytes n.id)
+    by : (k : Bool) → is_kept m.kind ≡ k → cond k (Some (reset_bytes m.id)) None ≡ Some b → (n : Message) × Hands (T.Becomes (T.Response m)) n × (m.id ≡ n.id) × (b ≡ reset_bytes n.id)
     by true is e = (m, record { up_is = ap (λ w. cond w (Some m) None) is; in_is = refl }, refl, sym (let s : reset_bytes m.id ≡ b = cc e in s))
     by false is e = absurd (cc e)
-reject_hands (T.Request n k) b h = absurd (cc h)
-reject_hands (T.Acked id) b h = absurd (cc h)
-reject_hands (T.Reset id) b h = absurd (cc h)
-reject_hands T.Dropped b h = absurd (cc h)
-reject_hands T.Replayed b h = absurd (cc h)
-reject_hands T.Rejected b h = absurd (cc h)
-reject_hands T.Nothing b h = absurd (cc h)
-reject_hands (T.Is holds) b h = absurd (cc h)
-reject_hands (T.Sent id) b h = absurd (cc h)
-reject_hands T.Busied b h = absurd (cc h)
-reject_hands T.NoIds b h = absurd (cc h)
-reject_hands T.Idle b h = absurd (cc h)
-reject_hands (T.Copied to id) b h = absurd (cc h)
-reject_hands (T.Expired to id) b h = absurd (cc h)
-reject_hands (T.Gives packet) b h = absurd (cc h)
+reject_hands up b h = absurd (cc h)
 
 module _ (begin : L.State) (from : Endpoint) (now : ℕ) (bytes : List ℕ) (up : T.Answer) (rest : List G.Asked) (mid new : L.State) (before : Steps begin rest mid) (step : L.Step mid now (T.Receive from bytes) up new) (so : So begin rest) where
   abbrev first : List G.Asked

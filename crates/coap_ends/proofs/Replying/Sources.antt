@@ -1,49 +1,33 @@
 -- Where a datagram that a message layer sends comes from: it is a Reset, or an entry gives it as a reply, a NON or a CON
 -- (RFC 7252, sections 4.2 and 4.3).
-use Rattle.std.proofs.Common.{◌≡◌, ◌⊎◌, inl, inr, ℕ, ◌<◌, ◌==◌, Bool, true, false, ◌&&◌, Option, Some, None, List, [], ◌∷◌, refl, ap, sym, subst, ◌∙◌, cond, arith}
+use Rattle.std.proofs.Common.{◌≡◌, ◌⊎◌, inl, inr, ℕ, ◌<◌, ◌==◌, Bool, true, false, ◌&&◌, Option, Some, None, List, [], ◌∷◌, refl, ap, sym, subst, ◌∙◌, cond, arith, drop}
 use Rattle.coap_types.specs.Past.{Ever}
-use Rattle.coap_types.proofs.PastLemmas.{Ever_by_law, Ever_of_Since}
+use Rattle.coap_ends.specs.Follows.Sources.{GivesReply, GivesMessage, Source}
+use Rattle.coap_types.proofs.Facts.Traces.{Ever_by_law, Ever_of_Since}
 use Rattle.coap_types.specs.declared.endpoint.Endpoint.{Endpoint}
 use Rattle.coap_types.specs.declared.message.Kind.{Kind}
 use Rattle.coap_types.specs.declared.message.Kind.TheVariants.{Con, Non, Rst}
 use Rattle.coap_types.specs.SameEndpoint.{same_endpoint}
-use Rattle.coap_types.proofs.EndpointLemmas.{same_endpoint_is}
+use Rattle.coap_types.proofs.Facts.Endpoints.{same_endpoint_is}
 use Rattle.coap_codec.specs.declared.fault.Reason.{Reason}
 use Rattle.coap_codec.specs.declared.fault.Reason.TheVariants as fault
 use Rattle.coap_codec.specs.Faulty.{head_of}
 use Rattle.coap_codec.specs.Header.{id_of}
-use Rattle.coap_codec.specs.Message.{AreBytes, Message, Spells}
-use Rattle.coap_codec.specs.Writing.{message_bytes}
-use Rattle.coap_codec.proofs.SoundBytes.{AreBytes-drop}
+use Rattle.coap_types.specs.Bytes.{AreBytes}
+use Rattle.coap_codec.specs.Message.{Message, Spells}
+use Rattle.coap_codec.specs.Spelling.{message_bytes}
+use Rattle.coap_types.proofs.Facts.Bytes.{AreBytes-drop, byte_at}
 use Rattle.coap_layer.specs.Arrivals.{Faulted, Whole, Shows, by_head}
-use Rattle.coap_layer.specs.Trace.{Content, with_head, Packet, Call, Receive, Reply, Confirm, Plain, Settle, Ticks, Take, Room, AsksFree, Pass, Entry}
+use Rattle.coap_layer.specs.Trace.{with_head, Packet, Call, Receive, Reply, Confirm, Plain, Settle, Ticks, Take, Room, AsksFree, Pass, Entry}
 use Rattle.coap_layer.specs.Words.{Awaited, awaits, awaits_in, awaited_of, Incoming, handed, handed_in, handed_by, from_there, reply_in, hands_up, Open, begun}
 use Rattle.coap_layer.specs.Rows.{Stands, LayerLaw, Row, IsSpelled, Confirms, SendsAs, RefusesIds}
 use Rattle.coap_layer.specs.Sends.{IsIn, packet_of, PlainOut, ResetOut, GoesOut}
-use Rattle.coap_layer.proofs.HandedLemmas.{handed_spelled}
-use Rattle.coap_layer.proofs.NumberedLemmas.{begins_of}
-use Rattle.coap_layer.proofs.OutLemmas.{cons_spelled, each_goes_out}
-use Rattle.coap_exchange.proofs.LayerFacts.{both}
+use Rattle.coap_layer.proofs.Facts.Laws.{handed_spelled}
+use Rattle.coap_layer.proofs.Facts.Laws.{begins_of}
+use Rattle.coap_layer.proofs.Facts.Laws.{cons_spelled, each_goes_out}
+use Rattle.std.proofs.lemmas.Bool.{and_parts}
 use Rattle.coap_ends.specs.Follows.ServerGives.{IsEmpty}
 use Rattle.coap_ends.proofs.Replying.ClientReplies.{empty_of, reset_spells}
-
--- a reply, as it is given
-pub record GivesReply (p : Packet) (call : Call) : Type 0 where
-  pub id : ℕ
-  pub call_is : call ≡ Reply p.to id p.bytes
-  pub small : id < 65536
-
--- a NON or a CON with this content
-pub record GivesMessage (p : Packet) (call : Call) : Type 0 where
-  pub kind : Kind
-  pub content : Content
-  pub id : ℕ
-  pub call_is : (call ≡ Plain p.to content) ⊎ ((word : ℕ) × (call ≡ Confirm p.to content word))
-  pub bytes : p.bytes ≡ message_bytes (with_head kind id content)
-  pub spells : Spells p.bytes (with_head kind id content)
-
-abbrev pub Source : Packet → Call → Type 0
-Source p call = GivesReply p call ⊎ GivesMessage p call
 
 only_out : (p q : Packet) (out : List Packet) → out ≡ q ∷ [] → IsIn p out → q ≡ p
 only_out p q out is h = elim (subst (IsIn p) is h) [ inl k ↦ k | inr k ↦ absurd k ]
@@ -51,7 +35,7 @@ only_out p q out is h = elim (subst (IsIn p) is h) [ inl k ↦ k | inr k ↦ abs
 -- Message IDs have 16 bits
 
 id_small : (bytes : List ℕ) → AreBytes bytes → id_of bytes < 65536
-id_small bytes fits = let d = AreBytes-drop 2 bytes fits in omega (arith, d 0, d 1)
+id_small bytes fits = let d = AreBytes-drop 2 bytes fits in omega (arith, byte_at (drop 2 bytes) d 0, byte_at (drop 2 bytes) d 1)
 
 fault_id : (reason : Reason) (bytes : List ℕ) (kind : Kind) (id : ℕ) → Faulted kind id ≡ by_head (head_of reason bytes) → id ≡ id_of bytes
 fault_id fault.Short bytes kind id h = absurd (cc h)
@@ -119,7 +103,7 @@ module _ (word : ℕ) where
         placed : (to : Endpoint) (n : ℕ) (bytes : List ℕ) → e.call ≡ Reply to n bytes → (b : Bool) → (same_endpoint to p.to && (n == id)) ≡ b → cond b (Some bytes) None ≡ Some p.bytes → GivesReply p e.call
         placed to n bytes is false k g = absurd (cc g)
         placed to n bytes is true k g =
-            let place : to ≡ p.to = same_endpoint_is to p.to (both (same_endpoint to p.to) (n == id) k).0 in
+            let place : to ≡ p.to = same_endpoint_is to p.to (and_parts (same_endpoint to p.to) (n == id) k).0 in
             let given : bytes ≡ p.bytes = cc g in
             let row = subst (Row word past e) is law.0.row in
             record { id = n; call_is = is ∙ (ap (λ x. Reply x n bytes) place ∙ ap (λ x. Reply p.to n x) given); small = awaited_small past law.1 (record { from = to; id = n }) row.0 }

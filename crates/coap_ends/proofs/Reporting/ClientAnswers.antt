@@ -1,6 +1,6 @@
 -- A report of a response is of the answer to a request of that call.
 use Rattle.std.proofs.Common.{◌≡◌, inl, inr, ℕ, max, Bool, true, false, Option, Some, None, List, [], ◌∷◌, refl, ap, sym, subst, ◌∙◌, Result, Ok, Err}
-use Rattle.coap_types.proofs.PastLemmas.{Always_back}
+use Rattle.coap_types.proofs.Facts.Traces.{Always_back}
 use Rattle.coap_types.specs.declared.endpoint.Endpoint.{Endpoint}
 use Rattle.coap_codec.specs.Message.{Message}
 use Rattle.coap_layer.specs.Trace as L

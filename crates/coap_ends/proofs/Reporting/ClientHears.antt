@@ -1,15 +1,15 @@
 -- What a client takes as an answer was handed up by its message layer.
 use Rattle.std.proofs.Common.{◌≡◌, inl, ℕ, max, Bool, true, Some, None, List, [], ◌∷◌, ◌++◌, ap, sym, subst, ◌∙◌}
 use Rattle.coap_types.specs.Past.{Ever}
-use Rattle.coap_types.proofs.PastLemmas.{Ever_front, Ever_back, Ever_map}
+use Rattle.coap_types.proofs.Facts.Traces.{Ever_front, Ever_back, Ever_map}
 use Rattle.coap_types.specs.declared.endpoint.Endpoint.{Endpoint}
 use Rattle.coap_types.specs.SameEndpoint.{same_endpoint}
-use Rattle.coap_types.proofs.EndpointLemmas.{same_endpoint_is}
+use Rattle.coap_types.proofs.Facts.Endpoints.{same_endpoint_is}
 use Rattle.coap_codec.specs.Message.{Message}
 use Rattle.coap_layer.specs.Trace as L
-use Rattle.coap_layer.specs.State as S
-use Rattle.coap_layer.specs.Steps as G
-use Rattle.coap_layer.specs.Steps.{Steps}
+use Rattle.coap_layer.specs.Machine.State as S
+use Rattle.coap_layer.specs.Machine.Steps as G
+use Rattle.coap_layer.specs.Machine.Steps.{Steps}
 use Rattle.coap_exchange.specs.declared.asker.Event.TheVariants as event
 use Rattle.coap_exchange.specs.declared.matching.Verdict.{Verdict}
 use Rattle.coap_exchange.specs.declared.matching.Verdict.TheVariants.{Ignore, Reject, Acknowledge, Await, EndByReset, AnswerCon, Answer, NoticeCon, Notice}
@@ -18,9 +18,9 @@ use Rattle.coap_exchange.specs.AskerArrivals.{told, verdict_on, acts}
 use Rattle.coap_exchange.specs.AskerRequests.{asked}
 use Rattle.coap_exchange.specs.AskerSteps as P
 use Rattle.coap_exchange.specs.AskerLaw as W
-use Rattle.coap_exchange.proofs.AskerCame.{server_is}
-use Rattle.coap_exchange.proofs.AskerLeading.{steps_split}
-use Rattle.coap_exchange.proofs.MatchingLemmas.{Fits, verdict_fits}
+use Rattle.coap_exchange.proofs.Facts.ClientSide.{server_is}
+use Rattle.coap_exchange.proofs.Facts.StepsOfLayer.{steps_split}
+use Rattle.coap_exchange.proofs.Facts.Verdicts.{Fits, verdict_fits}
 use Rattle.coap_ends.specs.ClientTrace.{Call, Calls, Feeds, Ticks, NextOut, NextReport}
 use Rattle.coap_ends.specs.ClientSteps.{lower}
 use Rattle.coap_ends.specs.ClientLaw.{own_of, lower_of}
@@ -29,7 +29,7 @@ use Rattle.coap_ends.specs.Follows.ClientHears.{Hears, AreHeard}
 use Rattle.coap_ends.proofs.Serving.ServedWasHandedUp.{entry_of}
 
 abbrev Is : E.Own → Endpoint → L.Answer → Message → Type 0
-Is s from up m = (same_endpoint from s.server ≡ true) × (up ≡ L.Response m)
+Is s from up m = (same_endpoint from s.server ≡ true) × (up ≡ L.Becomes (L.Response m))
 
 response_of : (s : E.Own) (from : Endpoint) (up : L.Answer) (m : Message) (v : Verdict) → Fits s from up v → told v up ≡ Some (event.Answer m) → Is s from up m
 response_of s from up m Ignore f h = absurd (cc h)
@@ -38,14 +38,14 @@ response_of s from up m Acknowledge f h = absurd (cc h)
 response_of s from up m Await f h = absurd (cc h)
 response_of s from up m EndByReset f h = absurd (cc h)
 response_of s from up m AnswerCon f h =
-    let e : Some (event.Answer f.message) ≡ Some (event.Answer m) = sym (ap (told AnswerCon) f.is) ∙ h in let same : f.message ≡ m = cc e in (f.there, f.is ∙ ap (λ x. L.Response x) same)
+    let e : Some (event.Answer f.message) ≡ Some (event.Answer m) = sym (ap (told AnswerCon) f.is) ∙ h in let same : f.message ≡ m = cc e in (f.there, f.is ∙ ap (λ x. L.Becomes (L.Response x)) same)
 response_of s from up m Answer f h =
-    let e : Some (event.Answer f.message) ≡ Some (event.Answer m) = sym (ap (told Answer) f.is) ∙ h in let same : f.message ≡ m = cc e in (f.there, f.is ∙ ap (λ x. L.Response x) same)
+    let e : Some (event.Answer f.message) ≡ Some (event.Answer m) = sym (ap (told Answer) f.is) ∙ h in let same : f.message ≡ m = cc e in (f.there, f.is ∙ ap (λ x. L.Becomes (L.Response x)) same)
 response_of s from up m NoticeCon f h = let e : Some (event.Notice f.message) ≡ Some (event.Answer m) = sym (ap (told NoticeCon) f.is) ∙ h in absurd (cc e)
 response_of s from up m Notice f h = let e : Some (event.Notice f.message) ≡ Some (event.Answer m) = sym (ap (told Notice) f.is) ∙ h in absurd (cc e)
 
 abbrev Comes : Endpoint → Message → L.Call → L.Answer → Type 0
-Comes server m call answer = (bytes : List ℕ) × (call ≡ L.Receive server bytes) × (answer ≡ L.Response m)
+Comes server m call answer = (bytes : List ℕ) × (call ≡ L.Receive server bytes) × (answer ≡ L.Becomes (L.Response m))
 
 module _ (server : Endpoint) (word : ℕ) where
   abbrev Told : Message → List E.Call → Type 0

@@ -1,8 +1,8 @@
 -- At one moment, the ticks of a client end, and so do what it has out and its reports (RFC 7252, sections 4.2 and 5.2).
 use Rattle.std.proofs.Common.{◌≡◌, ◌≤◌, ◌<◌, ◌⊎◌, inl, inr, ℕ, ◌+◌, ◌*◌, max, Bool, true, false, Option, Some, None, is_some, List, [], ◌∷◌, ◌++◌, drop, length, slice_get, Result, refl, ap, sym, subst, ◌∙◌, cond, arith}
 use Rattle.coap_types.specs.declared.endpoint.Endpoint.{Endpoint}
-use Rattle.coap_layer.specs.State as S
-use Rattle.coap_layer.specs.Steps.{Asked, Steps, left_after}
+use Rattle.coap_layer.specs.Machine.State as S
+use Rattle.coap_layer.specs.Machine.Steps.{Asked, Steps, left_after}
 use Rattle.coap_layer.specs.Trace as L
 use Rattle.coap_exchange.specs.declared.asker.AskRefusal.{AskRefusal}
 use Rattle.coap_exchange.specs.declared.asker.Event.{Event}
@@ -50,19 +50,7 @@ turn_taken : (s : A.Own) (at : ℕ) (below : L.Answer) → IsTaken (R.turn_of s 
 turn_taken s at (L.Copied to id) = refl
 turn_taken s at (L.Expired to id) = expired_taken to id s.running (R.is_of_request s to id) _
 turn_taken s at L.Idle = waited_taken at s.running _
-turn_taken s at (L.Request m k) = tt
-turn_taken s at (L.Response m) = tt
-turn_taken s at (L.Acked id) = tt
-turn_taken s at (L.Reset id) = tt
-turn_taken s at L.Dropped = tt
-turn_taken s at L.Replayed = tt
-turn_taken s at L.Rejected = tt
-turn_taken s at L.Nothing = tt
-turn_taken s at (L.Is holds) = tt
-turn_taken s at (L.Sent id) = tt
-turn_taken s at L.Busied = tt
-turn_taken s at L.NoIds = tt
-turn_taken s at (L.Gives packet) = tt
+turn_taken s at up = tt
 
 -- an operation that starts waits no more
 starts_one : (running : Option Operation) (waiting : List Operation) (op : Operation) → starting_if true running waiting ≡ Some op → length (drop 1 waiting) + 1 ≡ length waiting

@@ -12,7 +12,7 @@ use Rattle.coap_ends.proofs.Rest.ClientEnding.{size, less, out_count, out_less, 
 use Rattle.coap_ends.proofs.Progress.ClientGoing.{goes_on}
 
 module _ (server : Endpoint) (szx word : ℕ) where
-  abbrev pub Law : List Call → Type 0
+  abbrev Law : List Call → Type 0
   Law t = ClientLaw server szx word t
 
   next_tick : (now w : ℕ) (t : List Call) → Law t → Next Law (size server szx word now) (IsTick now w) t
@@ -51,13 +51,13 @@ module _ (server : Endpoint) (szx word : ℕ) where
       by None more = record { answer = None; law = more; less = tt }
       by (Some r) more = record { answer = Some r; law = more; less = report_less server szx word t r more }
 
-  pub ticks_rest : (now w : ℕ) (t : List Call) → Law t → Rests Law (size server szx word now) (IsTick now w) t
+  ticks_rest : (now w : ℕ) (t : List Call) → Law t → Rests Law (size server szx word now) (IsTick now w) t
   ticks_rest now w t law = rests Law (size server szx word now) (IsTick now w) (next_tick now w) (size server szx word now t) t law (omega arith)
 
-  pub outs_end : (t : List Call) → Law t → Drains Law (out_count server szx word) NextOut t
+  outs_end : (t : List Call) → Law t → Drains Law (out_count server szx word) NextOut t
   outs_end t law = drains Law (out_count server szx word) NextOut next_out (out_count server szx word t) t law (omega arith)
 
-  pub reports_end : (t : List Call) → Law t → Drains Law (report_count server szx word) NextReport t
+  reports_end : (t : List Call) → Law t → Drains Law (report_count server szx word) NextReport t
   reports_end t law = drains Law (report_count server szx word) NextReport next_report (report_count server szx word t) t law (omega arith)
 
   pub comes_to_rest : (t : List Call) → Law t → ComesToRest server szx word t

@@ -1,8 +1,8 @@
 -- The last of some calls of a layer, and what it takes of what waits to be sent.
 use Rattle.std.proofs.Common.{◌≡◌, ◌<◌, Some, List, [], ◌∷◌, ◌++◌, drop, length, slice_get, refl, ap, subst, ◌∙◌, arith}
 use Rattle.std.proofs.lemmas.List.{append-nil}
-use Rattle.coap_layer.specs.State as S
-use Rattle.coap_layer.specs.Steps.{Asked, Steps, left_after}
+use Rattle.coap_layer.specs.Machine.State as S
+use Rattle.coap_layer.specs.Machine.Steps.{Asked, Steps, left_after}
 use Rattle.coap_layer.specs.Trace as L
 use Rattle.coap_exchange.specs.AskerRequests.{asked}
 use Rattle.coap_ends.proofs.Serving.ServedWasHandedUp.{left_is}

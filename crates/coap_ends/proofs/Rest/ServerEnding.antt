@@ -1,7 +1,7 @@
 -- At one moment, the ticks of a server end, and so does what it has out (RFC 7252, sections 4.2 and 5.2.2).
 use Rattle.std.proofs.Common.{◌≡◌, ◌≤◌, ◌<◌, ℕ, ◌+◌, max, Bool, true, false, Option, Some, None, List, [], ◌∷◌, ◌++◌, length, refl, ap, sym, subst, ◌∙◌, cond, arith}
-use Rattle.coap_layer.specs.State as S
-use Rattle.coap_layer.specs.Steps.{Asked, Steps, left_after}
+use Rattle.coap_layer.specs.Machine.State as S
+use Rattle.coap_layer.specs.Machine.Steps.{Asked, Steps, left_after}
 use Rattle.coap_layer.specs.Trace as L
 use Rattle.coap_resource.specs.Serves.{Question}
 use Rattle.coap_exchange.specs.declared.answerer.Asked as answerer
@@ -13,7 +13,7 @@ use Rattle.coap_exchange.specs.AnswererSteps as P
 use Rattle.coap_exchange.specs.AnswererLaw as W
 use Rattle.coap_exchange.specs.AskerRequests.{asked}
 use Rattle.coap_ends.specs.ServerTrace.{Waiting, Handling, Silent, Refuses, Serves, Waits, Call, Ticks, NextOut}
-use Rattle.coap_ends.specs.ServerSteps.{AnswersWaiting, is_of, question_of, without}
+use Rattle.coap_ends.specs.ServerSteps.{AnswersWaiting, is_of, question_of, without_waiting}
 use Rattle.coap_ends.specs.ServerLaw.{ServerLaw, own_of, lower_of}
 use Rattle.coap_ends.proofs.Rest.LastStep.{last_step, take_less}
 use Rattle.coap_ends.proofs.Serving.ServerWaiting.{ready_are_served}
@@ -35,26 +35,14 @@ due_taken : (below : L.Answer) (o : Option Deferred) (room : Bool) → IsTaken (
 due_taken (L.Copied to id) o room = refl
 due_taken (L.Expired to id) o room = refl
 due_taken L.Idle o room = if_taken L.Idle o room
-due_taken (L.Request m k) o room = tt
-due_taken (L.Response m) o room = tt
-due_taken (L.Acked id) o room = tt
-due_taken (L.Reset id) o room = tt
-due_taken L.Dropped o room = tt
-due_taken L.Replayed o room = tt
-due_taken L.Rejected o room = tt
-due_taken L.Nothing o room = tt
-due_taken (L.Is holds) o room = tt
-due_taken (L.Sent id) o room = tt
-due_taken L.Busied o room = tt
-due_taken L.NoIds o room = tt
-due_taken (L.Gives packet) o room = tt
+due_taken up o room = tt
 
 -- a request that is ready waits no more
-without_one : (at : ℕ) (a : answerer.Asked) (ws : List Waiting) (q : Question) → question_of at a ws ≡ Some q → length (without at a ws) + 1 ≡ length ws
+without_one : (at : ℕ) (a : answerer.Asked) (ws : List Waiting) (q : Question) → question_of at a ws ≡ Some q → length (without_waiting at a ws) + 1 ≡ length ws
 without_one at a [] q h = absurd (cc h)
 without_one at a (w ∷ ws) q h = by (is_of at a w) h (without_one at a ws q)
   where
-    by : (b : Bool) → cond b (Some w.question) (question_of at a ws) ≡ Some q → (question_of at a ws ≡ Some q → length (without at a ws) + 1 ≡ length ws) → length (cond b ws (w ∷ without at a ws)) + 1 ≡ length (w ∷ ws)
+    by : (b : Bool) → cond b (Some w.question) (question_of at a ws) ≡ Some q → (question_of at a ws ≡ Some q → length (without_waiting at a ws) + 1 ≡ length ws) → length (cond b ws (w ∷ without_waiting at a ws)) + 1 ≡ length (w ∷ ws)
     by true k f = omega arith
     by false k f = let e = f k in omega (arith, e)
 
@@ -136,7 +124,7 @@ module _ (limit szx word : ℕ) where
     served_less : (a : answerer.Asked) (r : E.Response) (id : ℕ) (q : Question) (new : S.State)
         → Steps (S.start word) (asked at (L.Confirm a.from (P.content_of a r) w) (L.Sent id) ∷ asking word at (W.lower_of under) below ready room) new → question_of at a (own_of limit szx t).waiting ≡ Some q
         → (let last = left_after (S.start word) (asked at (L.Confirm a.from (P.content_of a r) w) (L.Sent id) ∷ asking word at (W.lower_of under) below ready room) in
-        due_count (max last.clock (max at now)) last.open_cons + length (without at a (own_of limit szx t).waiting) < size now t)
+        due_count (max last.clock (max at now)) last.open_cons + length (without_waiting at a (own_of limit szx t).waiting) < size now t)
     unfolding size
     served_less a r id q new steps is =
         let last = left_after (S.start word) (asked at (L.Confirm a.from (P.content_of a r) w) (L.Sent id) ∷ asking word at (W.lower_of under) below ready room) in

@@ -2,7 +2,7 @@
 use Rattle.std.proofs.Common.{◌≡◌, inl, inr, ℕ, max, Bool, true, false, Option, Some, None, List, [], ◌∷◌, ◌++◌, refl, ap, subst, Result, Ok, Err, drop}
 use Rattle.std.specs.Option.{option_map}
 use Rattle.coap_types.specs.Past.{Ever, Always}
-use Rattle.coap_types.proofs.PastLemmas.{Ever_back, Always_back}
+use Rattle.coap_types.proofs.Facts.Traces.{Ever_back, Always_back}
 use Rattle.coap_layer.specs.Trace as L
 use Rattle.coap_exchange.specs.declared.asker.AskRefusal.{AskRefusal}
 use Rattle.coap_exchange.specs.declared.asker.Turn.{Turn}

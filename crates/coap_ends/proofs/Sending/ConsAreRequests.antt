@@ -2,16 +2,16 @@
 use Rattle.std.proofs.Common.{◌≡◌, inl, inr, ℕ, ◌+◌, ◌%◌, max, Bool, true, false, Option, Some, None, List, [], ◌∷◌, ◌++◌, refl, ap, sym, subst, ◌∙◌, Result, Ok, Err}
 use Rattle.std.specs.Option.{option_map}
 use Rattle.coap_types.specs.Past.{Ever}
-use Rattle.coap_types.proofs.PastLemmas.{Ever_append}
+use Rattle.coap_types.proofs.Facts.Traces.{Ever_append}
 use Rattle.coap_types.specs.declared.endpoint.Endpoint.{Endpoint}
 use Rattle.coap_types.specs.declared.message.Kind.TheVariants.{Con}
-use Rattle.coap_codec.specs.Writing.{message_bytes}
+use Rattle.coap_codec.specs.Spelling.{message_bytes}
 use Rattle.coap_layer.specs.Trace as L
 use Rattle.coap_layer.specs.Trace.{with_head}
 use Rattle.coap_layer.specs.Words.{Open, begun, begun_in, open_of, sent_by}
 use Rattle.coap_layer.specs.Rows.{IsSpelled}
-use Rattle.coap_layer.specs.State as S
-use Rattle.coap_layer.specs.Steps.{Asked, Steps, entries, left_after}
+use Rattle.coap_layer.specs.Machine.State as S
+use Rattle.coap_layer.specs.Machine.Steps.{Asked, Steps, entries, left_after}
 use Rattle.coap_exchange.specs.declared.asker.AskRefusal.{AskRefusal}
 use Rattle.coap_exchange.specs.declared.asker.Turn.{Turn}
 use Rattle.coap_exchange.specs.declared.asker.Exchange.{Exchange}
@@ -23,7 +23,7 @@ use Rattle.coap_exchange.specs.AskerRequests as Q
 use Rattle.coap_exchange.specs.AskerArrivals as R
 use Rattle.coap_exchange.specs.AskerSteps as P
 use Rattle.coap_exchange.specs.AskerLaw as W
-use Rattle.coap_exchange.proofs.AskerCame.{server_is}
+use Rattle.coap_exchange.proofs.Facts.ClientSide.{server_is}
 use Rattle.coap_ends.specs.ClientTrace.{Operation, Call, Calls, Feeds, Ticks, NextOut, NextReport}
 use Rattle.coap_ends.specs.ClientRequests.{message_of}
 use Rattle.coap_ends.specs.ClientSteps.{lower, starting, asking}
@@ -52,21 +52,7 @@ open_parts con at to content word (Some id) h = by _ _ _ (let e : ◌≡◌ {A =
 
 sent_id : (a : L.Answer) (id : ℕ) → sent_by a ≡ Some id → a ≡ L.Sent id
 sent_id (L.Sent n) id h = ap (λ k. L.Sent k) (let e : n ≡ id = cc h in e)
-sent_id L.Dropped id h = absurd (cc h)
-sent_id L.Replayed id h = absurd (cc h)
-sent_id L.Rejected id h = absurd (cc h)
-sent_id (L.Request m k) id h = absurd (cc h)
-sent_id (L.Response m) id h = absurd (cc h)
-sent_id (L.Acked n) id h = absurd (cc h)
-sent_id (L.Reset n) id h = absurd (cc h)
-sent_id L.Nothing id h = absurd (cc h)
-sent_id (L.Is b) id h = absurd (cc h)
-sent_id L.Busied id h = absurd (cc h)
-sent_id L.NoIds id h = absurd (cc h)
-sent_id L.Idle id h = absurd (cc h)
-sent_id (L.Copied to n) id h = absurd (cc h)
-sent_id (L.Expired to n) id h = absurd (cc h)
-sent_id (L.Gives p) id h = absurd (cc h)
+sent_id up id h = absurd (cc h)
 
 asks_by : (con : Open) (a : Asked) (at : ℕ) (call : L.Call) → a.call ≡ call → ((to : Endpoint) (content : L.Content) (word : ℕ) → call ≡ L.Confirm to content word → IsSpelled content)
     → begun_in at call a.answer ≡ Some con → Asks con a

@@ -1,10 +1,9 @@
 -- How often a server is handed a request: as often as its message layer hands it up.
-use Rattle.std.proofs.Common.{◌≡◌, ◌≤◌, ℕ, ◌+◌, Option, None, List, [], ◌∷◌, ◌++◌, refl, ap, subst, ◌∙◌, arith}
-use Rattle.coap_types.specs.Past.{Always}
+use Rattle.std.proofs.Common.{◌≡◌, ◌≤◌, ℕ, ◌+◌, List, [], ◌∷◌, ◌++◌, refl, ap, subst, ◌∙◌, arith}
 use Rattle.coap_layer.specs.Trace as L
-use Rattle.coap_layer.specs.State as S
-use Rattle.coap_layer.specs.Steps.{Steps, entries, left_after}
-use Rattle.coap_layer.specs.Steps as G
+use Rattle.coap_layer.specs.Machine.State as S
+use Rattle.coap_layer.specs.Machine.Steps.{Steps, entries, left_after}
+use Rattle.coap_layer.specs.Machine.Steps as G
 use Rattle.coap_exchange.specs.declared.answerer.Asked.{Asked}
 use Rattle.coap_exchange.specs.AnswererTrace as E
 use Rattle.coap_exchange.specs.AnswererSteps as P
@@ -15,20 +14,11 @@ use Rattle.coap_exchange.specs.AskerArrivals.{id_in, replying}
 use Rattle.coap_exchange.specs.AskerRequests.{asked}
 use Rattle.coap_ends.specs.ServerTrace.{Call}
 use Rattle.coap_ends.specs.ServerSteps.{lower}
-use Rattle.coap_ends.specs.ServerLaw.{own_of, lower_of, layer_of}
-use Rattle.coap_ends.specs.Follows.ServerFollows.{times_handed}
+use Rattle.coap_ends.specs.ServerLaw.{own_of, lower_of}
+use Rattle.coap_ends.specs.Follows.ServerCounts.{asked_at, ups, Counted}
 use Rattle.coap_ends.proofs.Serving.ServedWasHandedUp.{left_is}
 use Rattle.coap_ends.proofs.Serving.ServedOnce.{H, handed_is}
 use Rattle.coap_ends.proofs.Replying.ServerRepliesSo.{steps_back, law_back}
-
--- the request that a call of the layer hands up
-abbrev pub asked_at : L.Call → L.Answer → Option Asked
-asked_at (L.Receive from bytes) answer = asked_in (handed_up from answer)
-asked_at _ answer = None
-
-abbrev pub ups : Asked → List L.Entry → ℕ
-ups a [] = 0
-ups a (e ∷ past) = hits (same_asked a) (asked_at e.call e.answer) + ups a past
 
 abbrev asked_ups : Asked → List G.Asked → ℕ
 asked_ups a [] = 0
@@ -64,9 +54,6 @@ handed_at_most a (E.Responds now b r word id ∷ t) law = let k = handed_at_most
 handed_at_most a (E.Ready now to answer ∷ t) law = let k = handed_at_most a t law.1 in let e = ups_append a (P.lower (W.own_of t) (E.Ready now to answer)) (W.lower_of t) in omega (arith, k, e)
 handed_at_most a (E.Notifies now to token r word id ∷ t) law = let k = handed_at_most a t law.1 in let e = ups_append a (P.lower (W.own_of t) (E.Notifies now to token r word id)) (W.lower_of t) in omega (arith, k, e)
 handed_at_most a (E.Take answer ∷ t) law = let k = handed_at_most a t law.1 in let e = ups_append a (P.lower (W.own_of t) (E.Take answer)) (W.lower_of t) in omega (arith, k, e)
-
-abbrev pub Counted : ℕ → ℕ → ℕ → List Call → Type 0
-Counted limit szx word t = Always (λ past c. (a : Asked) → times_handed limit szx a (c ∷ past) ≤ ups a (layer_of limit szx word (c ∷ past))) t
 
 pub counted : (limit szx word : ℕ) (t : List Call) → W.AnswererLaw (lower_of limit szx t) → (h : S.State) → Steps (S.start word) (W.lower_of (lower_of limit szx t)) h → Counted limit szx word t
 counted limit szx word [] law h steps = tt

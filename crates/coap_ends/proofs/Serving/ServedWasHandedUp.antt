@@ -2,17 +2,17 @@
 use Rattle.std.proofs.Common.{◌≡◌, inl, inr, ℕ, max, ◌==◌, ◌&&◌, ◌-◌, nat_le, Bool, true, false, Option, Some, None, List, [], ◌∷◌, ◌++◌, length, refl, ap, sym, subst, ◌∙◌, cond}
 use Rattle.std.specs.Cmp.{unsigned_Decides}
 use Rattle.coap_types.specs.Past.{Ever}
-use Rattle.coap_types.proofs.PastLemmas.{Ever_front, Ever_back, Ever_map}
+use Rattle.coap_types.proofs.Facts.Traces.{Ever_front, Ever_back, Ever_map}
 use Rattle.coap_types.specs.declared.endpoint.Endpoint.{Endpoint}
 use Rattle.coap_types.specs.declared.message.Kind.{Kind}
 use Rattle.coap_types.specs.declared.message.Kind.TheVariants.{Con, Non, Ack, Rst}
 use Rattle.coap_types.specs.SameEndpoint.{same_endpoint}
-use Rattle.coap_types.proofs.EndpointLemmas.{same_endpoint_is}
+use Rattle.coap_types.proofs.Facts.Endpoints.{same_endpoint_is}
 use Rattle.coap_codec.specs.Message.{Message, kind_number}
 use Rattle.coap_layer.specs.Trace as L
-use Rattle.coap_layer.specs.State as S
-use Rattle.coap_layer.specs.Steps.{Steps, entries, left_after}
-use Rattle.coap_layer.specs.Steps as G
+use Rattle.coap_layer.specs.Machine.State as S
+use Rattle.coap_layer.specs.Machine.Steps.{Steps, entries, left_after}
+use Rattle.coap_layer.specs.Machine.Steps as G
 use Rattle.coap_resource.specs.Content.{Content}
 use Rattle.coap_resource.specs.Serves.{Question}
 use Rattle.coap_exchange.specs.declared.answerer.Asked.{Asked}
@@ -26,11 +26,11 @@ use Rattle.coap_exchange.specs.AnswererLaw as W
 use Rattle.coap_exchange.specs.AskerRequests.{asked}
 use Rattle.coap_exchange.specs.AskerArrivals.{id_in, replying}
 use Rattle.coap_exchange.specs.Tokens.{same_token}
-use Rattle.coap_exchange.proofs.LayerFacts.{both}
-use Rattle.coap_exchange.proofs.TokenLemmas.{same_token_is}
+use Rattle.std.proofs.lemmas.Bool.{and_parts}
+use Rattle.coap_exchange.proofs.Facts.SameToken.{same_token_is}
 use Rattle.coap_ends.specs.ServerTrace.{Waiting, Own, Handling, Silent, Refuses, Serves, Waits, Call, Sets, Removes, Delays, Feeds, Ticks, NextOut}
 use Rattle.coap_ends.specs.ServerChecks.{Verdict, Ignored, Refused, Asks, verdict_on}
-use Rattle.coap_ends.specs.ServerSteps.{lower, answering, Handles, AsksBy, AnswersWaiting, IsRight, is_of, question_of, without, waiting_with, waiting_after, waits_by, delay_of}
+use Rattle.coap_ends.specs.ServerSteps.{lower, answering, Handles, AsksBy, AnswersWaiting, IsRight, is_of, question_of, without_waiting, waiting_with, waiting_after, waits_by, delay_of}
 use Rattle.coap_ends.specs.ServerLaw.{own_of, lower_of, ServerRows}
 use Rattle.coap_ends.specs.Follows.ServerFollows.{Serving, serving}
 use Rattle.coap_ends.specs.Follows.ServerHands.{HandsUp, AreHandedUp}
@@ -58,9 +58,9 @@ kind_is Rst Ack h = absurd (cc h)
 
 pub same_asked_is : (a b : Asked) → same_asked a b ≡ true → a ≡ b
 same_asked_is a b h =
-    let p = both (same_endpoint a.from b.from) ((kind_number a.kind == kind_number b.kind) && ((a.id.0 == b.id.0) && same_token a.token b.token)) h in
-    let q = both (kind_number a.kind == kind_number b.kind) ((a.id.0 == b.id.0) && same_token a.token b.token) p.1 in
-    let r = both (a.id.0 == b.id.0) (same_token a.token b.token) q.1 in
+    let p = and_parts (same_endpoint a.from b.from) ((kind_number a.kind == kind_number b.kind) && ((a.id.0 == b.id.0) && same_token a.token b.token)) h in
+    let q = and_parts (kind_number a.kind == kind_number b.kind) ((a.id.0 == b.id.0) && same_token a.token b.token) p.1 in
+    let r = and_parts (a.id.0 == b.id.0) (same_token a.token b.token) q.1 in
     let from = same_endpoint_is a.from b.from p.0 in
     let kind = kind_is a.kind b.kind q.0 in
     let id = (unsigned_Decides a.id.0 b.id.0).0 r.0 in
@@ -114,11 +114,11 @@ module _ (szx : ℕ) where
   from_with t [] w h k = (k, tt)
   from_with t (v ∷ ws) w h k = (h.0, from_with t ws w h.1 k)
 
-  from_without : (t : List Call) (at : ℕ) (a : Asked) (ws : List Waiting) → AllFrom t ws → AllFrom t (without at a ws)
+  from_without : (t : List Call) (at : ℕ) (a : Asked) (ws : List Waiting) → AllFrom t ws → AllFrom t (without_waiting at a ws)
   from_without t at a [] h = tt
   from_without t at a (w ∷ ws) h = by (is_of at a w) (from_without t at a ws h.1)
     where
-      by : (b : Bool) → AllFrom t (without at a ws) → AllFrom t (cond b ws (w ∷ without at a ws))
+      by : (b : Bool) → AllFrom t (without_waiting at a ws) → AllFrom t (cond b ws (w ∷ without_waiting at a ws))
       by true k = h.1
       by false k = (h.0, k)
 
@@ -128,7 +128,7 @@ module _ (szx : ℕ) where
     where
       by : (b : Bool) → is_of at a w ≡ b → (question_of at a ws ≡ Some q → Ever (Hands szx a (Asks q)) t) → cond b (Some w.question) (question_of at a ws) ≡ Some q → Ever (Hands szx a (Asks q)) t
       by true k z e =
-          let same = same_asked_is a w.asked (both (same_asked a w.asked) (nat_le w.delay (at - w.at)) k).0 in
+          let same = same_asked_is a w.asked (and_parts (same_asked a w.asked) (nat_le w.delay (at - w.at)) k).0 in
           let asks : w.question ≡ q = cc e in
           subst (λ x. Ever (Hands szx a (Asks x)) t) asks (subst (λ x. Ever (Hands szx x (Asks w.question)) t) (sym same) h.0)
       by false k z e = z e
@@ -223,7 +223,7 @@ module _ (limit szx : ℕ) (a : Asked) (v : Verdict) where
   )
 
 abbrev Arrives : Asked → Message → L.Call → L.Answer → Type 0
-Arrives a m call answer = (bytes : List ℕ) × (call ≡ L.Receive a.from bytes) × (answer ≡ L.Request m true) × (a ≡ asked_of a.from m)
+Arrives a m call answer = (bytes : List ℕ) × (call ≡ L.Receive a.from bytes) × (answer ≡ L.Becomes (L.Request m true)) × (a ≡ asked_of a.from m)
 
 arrives_here : (a : Asked) (m : Message) (s : E.Own) (at : ℕ) (from : Endpoint) (bytes : List ℕ) (up : L.Answer) → P.IsRight s (E.Incoming at from bytes up (Some (a, m)))
     → Ever (λ (b : G.Asked). Arrives a m b.call b.answer) (P.lower s (E.Incoming at from bytes up (Some (a, m))))

@@ -15,10 +15,10 @@ use Rattle.coap_exchange.specs.AnswererSteps as P
 use Rattle.coap_exchange.specs.AnswererSteps.{is_ready, first_ready, without_ready, is_waited_for}
 use Rattle.coap_exchange.specs.AnswererFollows.{same_asked}
 use Rattle.coap_exchange.specs.AnswererLaw as W
-use Rattle.coap_exchange.proofs.AnswererOnce.{same_asked_self}
-use Rattle.coap_exchange.proofs.LayerFacts.{both}
+use Rattle.coap_exchange.proofs.Facts.ServerSide.{same_asked_self}
+use Rattle.std.proofs.lemmas.Bool.{and_parts}
 use Rattle.coap_ends.specs.ServerTrace.{Waiting, Own, Handling, Silent, Refuses, Serves, Waits, Call, Sets, Removes, Delays, Feeds, Ticks, NextOut}
-use Rattle.coap_ends.specs.ServerSteps.{lower, responding, is_of, question_of, without, AnswersWaiting, IsServed, IsRight}
+use Rattle.coap_ends.specs.ServerSteps.{lower, responding, is_of, question_of, without_waiting, AnswersWaiting, IsServed, IsRight}
 use Rattle.coap_ends.specs.ServerLaw.{own_of, lower_of, ServerRows}
 use Rattle.coap_ends.specs.Follows.ServerFollows.{Serving, serving}
 use Rattle.coap_ends.specs.Follows.ServerWaits.{deferred_as, ready_in, WaitsAsDeferred, ReadyAreServed}
@@ -43,7 +43,7 @@ module _ (at : ℕ) (xs : List Separate) (a : Asked) where
   pub record IsTaken (ws : List Waiting) : Type 0 where
     pub question : Question
     pub asks : question_of at a ws ≡ Some question
-    pub left : map deferred_as (without at a ws) ≡ without_ready at xs (map deferred_as ws)
+    pub left : map deferred_as (without_waiting at a ws) ≡ without_ready at xs (map deferred_as ws)
 
   pub taken : (ws : List Waiting) (d : Deferred) → first_ready at xs (map deferred_as ws) ≡ Some d → d.asked ≡ a → IsTaken ws
   taken [] d h same = absurd (cc h)
@@ -57,24 +57,24 @@ module _ (at : ℕ) (xs : List Separate) (a : Asked) where
       by true true ready of is f = record {
         question = w.question;
         asks = ap (λ b. cond b (Some w.question) (question_of at a ws)) of;
-        left = ap (λ b. map deferred_as (cond b ws (w ∷ without at a ws))) of ∙ sym (ap (λ b. cond b (map deferred_as ws) (deferred_as w ∷ without_ready at xs (map deferred_as ws))) ready);
+        left = ap (λ b. map deferred_as (cond b ws (w ∷ without_waiting at a ws))) of ∙ sym (ap (λ b. cond b (map deferred_as ws) (deferred_as w ∷ without_ready at xs (map deferred_as ws))) ready);
       }
       by true false ready of is f =
           let one : deferred_as w ≡ d = cc is in
           let asked_is : w.asked ≡ a = ap (λ (x : Deferred). x.asked) one ∙ same in
-          let passed = (both (nat_le w.delay (at - w.at)) (not (is_waited_for w.asked.from xs)) ready).0 in
+          let passed = (and_parts (nat_le w.delay (at - w.at)) (not (is_waited_for w.asked.from xs)) ready).0 in
           let so : is_of at a w ≡ true = all_true _ _ (subst (λ x. same_asked a x ≡ true) (sym asked_is) (same_asked_self a)) passed in
           absurd (cc (of, so))
       by false true ready of is f =
-          let k = both (same_asked a w.asked) (nat_le w.delay (at - w.at)) of in
+          let k = and_parts (same_asked a w.asked) (nat_le w.delay (at - w.at)) of in
           let asked_is : d.asked ≡ w.asked = same ∙ same_asked_is a w.asked k.0 in
-          let idle = (both (nat_le d.delay (at - d.at)) (not (is_waited_for d.asked.from xs)) (first_is_ready at xs rest d is)).1 in
+          let idle = (and_parts (nat_le d.delay (at - d.at)) (not (is_waited_for d.asked.from xs)) (first_is_ready at xs rest d is)).1 in
           let so : is_ready at xs (deferred_as w) ≡ true = all_true _ _ k.1 (subst (λ (x : Asked). not (is_waited_for x.from xs) ≡ true) asked_is idle) in
           absurd (cc (ready, so))
       by false false ready of is f = let k = f is in record {
         question = k.question;
         asks = ap (λ b. cond b (Some w.question) (question_of at a ws)) of ∙ k.asks;
-        left = ap (λ b. map deferred_as (cond b ws (w ∷ without at a ws))) of
+        left = ap (λ b. map deferred_as (cond b ws (w ∷ without_waiting at a ws))) of
             ∙ (ap (λ z. deferred_as w ∷ z) k.left ∙ sym (ap (λ b. cond b (map deferred_as ws) (deferred_as w ∷ without_ready at xs (map deferred_as ws))) ready));
       }
 
@@ -89,21 +89,7 @@ pub found_ready : (below : L.Answer) (o : Option Deferred) (room : Bool) (a : As
 found_ready L.Idle (Some d) true a h = record { idle = refl; deferred = d; first = refl; asked = (let e : a ≡ d.asked = cc h in sym e) }
 found_ready L.Idle (Some d) false a h = absurd (cc h)
 found_ready L.Idle None room a h = absurd (cc h)
-found_ready (L.Copied to id) o room a h = absurd (cc h)
-found_ready (L.Expired to id) o room a h = absurd (cc h)
-found_ready (L.Request m k) o room a h = absurd (cc h)
-found_ready (L.Response m) o room a h = absurd (cc h)
-found_ready (L.Acked id) o room a h = absurd (cc h)
-found_ready (L.Reset id) o room a h = absurd (cc h)
-found_ready L.Dropped o room a h = absurd (cc h)
-found_ready L.Replayed o room a h = absurd (cc h)
-found_ready L.Rejected o room a h = absurd (cc h)
-found_ready L.Nothing o room a h = absurd (cc h)
-found_ready (L.Is holds) o room a h = absurd (cc h)
-found_ready (L.Sent id) o room a h = absurd (cc h)
-found_ready L.Busied o room a h = absurd (cc h)
-found_ready L.NoIds o room a h = absurd (cc h)
-found_ready (L.Gives packet) o room a h = absurd (cc h)
+found_ready up o room a h = absurd (cc h)
 
 behind : (xs : List E.Call) (c : E.Call) (calls : List E.Call) → W.AnswererLaw ((xs ++ c ∷ []) ++ calls) → W.AnswererLaw (c ∷ calls)
 behind [] c calls law = law

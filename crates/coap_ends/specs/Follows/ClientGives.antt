@@ -10,15 +10,14 @@ made [] = []
 made (c ∷ past) = made past ++ option_to_list (reports (own_of past) c)
 
 -- .. and those that were taken
-abbrev pub given_by : Call → List Reported
-given_by (NextReport (Some r)) = r ∷ []
-given_by c = []
+abbrev pub reports_given : Call → List Reported
+reports_given (NextReport (Some r)) = r ∷ []
+reports_given c = []
 
 abbrev pub given : List Call → List Reported
 given [] = []
-given (c ∷ past) = given past ++ given_by c
+given (c ∷ past) = given past ++ reports_given c
 
 -- What was taken is a front of what was made; the rest waits to be taken.
-pub record GivesInOrder (t : List Call) : Type 0 where
-  pub rest : List Reported
-  pub is : made t ≡ given t ++ rest
+abbrev pub GivesInOrder : List Call → Type 0
+GivesInOrder t = made t ≡ given t ++ (own_of t).reports

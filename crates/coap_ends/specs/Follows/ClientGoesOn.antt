@@ -1,7 +1,7 @@
 -- What stands in the law of a client goes on: each further call, whatever its arguments, has an answer that stands in it too.
 use Rattle.std.specs.Prelude.{ℕ, Bool, Option, List, ◌∷◌, Result}
 use Rattle.coap_types.specs.declared.endpoint.Endpoint.{Endpoint}
-use Rattle.coap_codec.specs.Message.{AreBytes}
+use Rattle.coap_types.specs.Bytes.{AreBytes}
 use Rattle.coap_layer.specs.Trace as L
 use Rattle.coap_exchange.specs.declared.asker.AskRefusal.{AskRefusal}
 use Rattle.coap_exchange.specs.declared.asker.Event.{Event}

@@ -1,7 +1,8 @@
 -- What stands in the law of a server goes on: each further call, whatever its arguments, has an answer that stands in it too.
 use Rattle.std.specs.Prelude.{ℕ, Bool, Option, List, ◌∷◌, Result}
 use Rattle.coap_types.specs.declared.endpoint.Endpoint.{Endpoint}
-use Rattle.coap_codec.specs.Message.{AreBytes, Message}
+use Rattle.coap_types.specs.Bytes.{AreBytes}
+use Rattle.coap_codec.specs.Message.{Message}
 use Rattle.coap_layer.specs.Trace as L
 use Rattle.coap_resource.specs.Content.{Content}
 use Rattle.coap_resource.specs.declared.refusal.StoreRefusal.{StoreRefusal}

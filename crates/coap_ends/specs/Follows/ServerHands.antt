@@ -2,7 +2,7 @@
 use Rattle.std.specs.Prelude.{◌≡◌, ℕ, true, Some, List, ◌∷◌}
 use Rattle.coap_types.specs.Past.{Ever, Always}
 use Rattle.coap_codec.specs.Message.{Message}
-use Rattle.coap_layer.specs.Trace.{Receive, Request, Entry}
+use Rattle.coap_layer.specs.Trace.{Receive, Becomes, Request, Entry}
 use Rattle.coap_exchange.specs.declared.answerer.Asked.{Asked}
 use Rattle.coap_exchange.specs.AnswererSteps.{asked_of}
 use Rattle.coap_ends.specs.ServerTrace.{Call}
@@ -15,7 +15,7 @@ pub record HandsUp (szx : ℕ) (asked : Asked) (v : Verdict) (e : Entry) : Type 
   pub message : Message
   pub bytes : List ℕ
   pub call : e.call ≡ Receive asked.from bytes
-  pub answer : e.answer ≡ Request message true
+  pub answer : e.answer ≡ Becomes (Request message true)
   pub asked_is : asked ≡ asked_of asked.from message
   pub verdict : verdict_on szx message ≡ v
 

@@ -3,10 +3,11 @@ use Rattle.std.specs.Prelude.{◌≡◌, ℕ, ◌<◌, ◌^◌, false, Some, Lis
 use Rattle.coap_types.specs.Past.{Always}
 use Rattle.coap_codec.specs.Message.{Message}
 use Rattle.coap_resource.specs.Content.{Held}
-use Rattle.coap_resource.specs.RequestOptions.{has, value_of, format_of, tag_of}
+use Rattle.coap_types.specs.OptionValues.{has, value_of}
+use Rattle.coap_resource.specs.RequestOptions.{format_of, tag_of}
 use Rattle.coap_resource.specs.ResponseOptions.{Says}
-use Rattle.coap_ends.specs.ClientRequests.{block2}
-use Rattle.coap_ends.specs.ClientReports.{said, etag, content}
+use Rattle.coap_types.specs.declared.option_number.TheConstants.{BLOCK2 as block2, ETAG as etag}
+use Rattle.coap_ends.specs.ClientReports.{said, content}
 use Rattle.coap_ends.specs.ServerTrace.{Call, Sets}
 use Rattle.coap_ends.specs.ServerLaw.{own_of}
 use Rattle.coap_ends.specs.Follows.ServerFollows.{Serving, serving, held_at}

@@ -1,4 +1,4 @@
-use Rattle.coap_world.proofs.Promised.{agrees}
+use Rattle.coap_world.proofs.Reports.Promised.{agrees}
 use Rattle.coap_world.proofs.laws.agreement.Goals as goal
 
 pub returns : goal.returns

@@ -1,4 +1,4 @@
-use Rattle.coap_world.proofs.Fair.{all_fair}
+use Rattle.coap_world.proofs.Delivery.GivenOutBefore.{all_fair}
 use Rattle.coap_world.proofs.laws.delivery_law.Goals as goal
 
 pub returns : goal.returns

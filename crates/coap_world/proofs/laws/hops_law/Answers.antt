@@ -1,9 +1,9 @@
 use Rattle.coap_world.specs.Events.{client_end, server_end}
 use Rattle.coap_world.specs.Hops.{hops_of}
 use Rattle.coap_world.specs.Record.{entries_of}
-use Rattle.coap_world.proofs.Across.{channel_across}
-use Rattle.coap_world.proofs.HopsAre.{near_is, far_is}
-use Rattle.coap_world.proofs.Joined as joined
+use Rattle.coap_world.proofs.Delivery.ChannelAcross.{channel_across}
+use Rattle.coap_world.proofs.Delivery.HopsAreEntries.{near_is, far_is}
+use Rattle.coap_world.proofs.Delivery.HopsAreAChannel as joined
 use Rattle.coap_world.proofs.laws.hops_law.Goals as goal
 
 pub returns-clause-near : goal.returns-clause-near

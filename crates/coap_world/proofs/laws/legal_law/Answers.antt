@@ -1,5 +1,5 @@
-use Rattle.coap_world.proofs.WitnessDelivery.{may_come}
-use Rattle.coap_world.proofs.WitnessRefused.{not_after, never, not_of_client, not_of_server}
+use Rattle.coap_world.proofs.Witness.ComesTill.{may_come}
+use Rattle.coap_world.proofs.Witness.NoneRuns.{not_after, never, not_of_client, not_of_server}
 use Rattle.coap_world.proofs.laws.legal_law.Goals as goal
 
 pub returns : goal.returns

@@ -1,4 +1,4 @@
-use Rattle.coap_world.proofs.Promised.{came, applied_whole, at_most_once}
+use Rattle.coap_world.proofs.Reports.Promised.{came, applied_whole, at_most_once}
 use Rattle.coap_world.proofs.laws.requests_law.Goals as goal
 
 pub returns-clause-came : goal.returns-clause-came

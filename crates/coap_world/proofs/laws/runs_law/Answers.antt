@@ -1,4 +1,4 @@
-use Rattle.coap_world.proofs.Following.{goes_on, has_record}
+use Rattle.coap_world.proofs.Progress.EachEventHasATurn.{goes_on, has_record}
 use Rattle.coap_world.proofs.laws.runs_law.Goals as goal
 
 pub returns : goal.returns

@@ -1,10 +1,10 @@
-use Rattle.coap_world.proofs.WitnessFail.{refused}
-use Rattle.coap_world.proofs.WitnessGet.{gotten}
-use Rattle.coap_world.proofs.WitnessLate.{gotten_late}
-use Rattle.coap_world.proofs.WitnessPing.{pinged}
-use Rattle.coap_world.proofs.WitnessPost.{posted}
-use Rattle.coap_world.proofs.WitnessStranger.{interfered}
-use Rattle.coap_world.proofs.WitnessTimeout.{timed}
+use Rattle.coap_world.proofs.Witness.Fail.{refused}
+use Rattle.coap_world.proofs.Witness.Get.{gotten}
+use Rattle.coap_world.proofs.Witness.Late.{gotten_late}
+use Rattle.coap_world.proofs.Witness.Ping.{pinged}
+use Rattle.coap_world.proofs.Witness.Post.{posted}
+use Rattle.coap_world.proofs.Witness.Stranger.{interfered}
+use Rattle.coap_world.proofs.Witness.Timeout.{timed}
 use Rattle.coap_world.proofs.laws.witness_law.Goals as goal
 
 pub returns : goal.returns

@@ -1,0 +1,100 @@
+-- The hops are the entries of the two layers.
+use Rattle.std.proofs.Common.{◌≡◌, ℕ, true, List, [], ◌∷◌, ◌++◌, map, refl, ap, sym, ◌∙◌, append_assoc}
+use Rattle.coap_types.specs.declared.endpoint.Endpoint.{Endpoint}
+use Rattle.coap_layer.specs.Channel.{Hop, Near, Far, near_of, far_of}
+use Rattle.coap_layer.specs.Machine.State.{State, start, made, after, forgotten}
+use Rattle.coap_layer.specs.Machine.Steps.{Asked, left_after, entries}
+use Rattle.coap_layer.specs.Trace as L
+use Rattle.coap_exchange.specs.AskerTrace as A
+use Rattle.coap_exchange.specs.AskerLaw as asker
+use Rattle.coap_exchange.specs.AskerSteps as asker_steps
+use Rattle.coap_exchange.specs.AnswererTrace as R
+use Rattle.coap_exchange.specs.AnswererLaw as answerer
+use Rattle.coap_exchange.specs.AnswererSteps as answerer_steps
+use Rattle.coap_ends.specs.ClientTrace as C
+use Rattle.coap_ends.specs.ClientLaw as client
+use Rattle.coap_ends.specs.ClientSteps as client_steps
+use Rattle.coap_ends.specs.ServerTrace as S
+use Rattle.coap_ends.specs.ServerLaw as server
+use Rattle.coap_ends.specs.ServerSteps as server_steps
+use Rattle.coap_world.specs.Events.{server_end, Config}
+use Rattle.coap_world.specs.Record.{Entry, OfClient, OfServer, client_of, server_trace}
+use Rattle.coap_world.specs.Hops.{asked_by_client, asked_by_server, client_asks, client_asked, client_adds, server_asks, server_asked, server_adds, hops_in}
+
+-- calls of a layer, one behind the other
+
+pub left_append : (old : State) (later earlier : List Asked) → left_after old (later ++ earlier) ≡ left_after (left_after old earlier) later
+left_append old [] earlier = refl
+left_append old (a ∷ later) earlier = ap (λ s. forgotten (after s (made s a.now a.call))) (left_append old later earlier)
+
+pub entries_append : (old : State) (later earlier : List Asked) → entries old (later ++ earlier) ≡ entries (left_after old earlier) later ++ entries old earlier
+entries_append old [] earlier = refl
+entries_append old (a ∷ later) earlier =
+    ap (λ s. made s a.now a.call ∷ entries old (later ++ earlier)) (left_append old later earlier)
+    ∙ ap (λ t. made (left_after (left_after old earlier) later) a.now a.call ∷ t) (entries_append old later earlier)
+
+-- what the exchanges ask, one behind the other
+
+pub asker_append : (to : Endpoint) (word : ℕ) (later past : List A.Call) → asker.lower_of to word (later ++ past) ≡ asked_by_client to word past later ++ asker.lower_of to word past
+asker_append to word [] past = refl
+asker_append to word (c ∷ later) past =
+    ap (λ t. asker_steps.lower (asker.own_of to word (later ++ past)) c ++ t) (asker_append to word later past)
+    ∙ sym (append_assoc (asker_steps.lower (asker.own_of to word (later ++ past)) c) (asked_by_client to word past later) (asker.lower_of to word past))
+
+pub answerer_append : (later past : List R.Call) → answerer.lower_of (later ++ past) ≡ asked_by_server past later ++ answerer.lower_of past
+answerer_append [] past = refl
+answerer_append (c ∷ later) past =
+    ap (λ t. answerer_steps.lower (answerer.own_of (later ++ past)) c ++ t) (answerer_append later past)
+    ∙ sym (append_assoc (answerer_steps.lower (answerer.own_of (later ++ past)) c) (asked_by_server past later) (answerer.lower_of past))
+
+-- hops
+
+near_near : (xs : List L.Entry) (hs : List Hop) → near_of (map Near xs ++ hs) ≡ xs ++ near_of hs
+near_near [] hs = refl
+near_near (x ∷ xs) hs = ap (λ t. x ∷ t) (near_near xs hs)
+
+near_far : (xs : List L.Entry) (hs : List Hop) → near_of (map Far xs ++ hs) ≡ near_of hs
+near_far [] hs = refl
+near_far (x ∷ xs) hs = near_far xs hs
+
+far_far : (xs : List L.Entry) (hs : List Hop) → far_of (map Far xs ++ hs) ≡ xs ++ far_of hs
+far_far [] hs = refl
+far_far (x ∷ xs) hs = ap (λ t. x ∷ t) (far_far xs hs)
+
+far_near : (xs : List L.Entry) (hs : List Hop) → far_of (map Near xs ++ hs) ≡ far_of hs
+far_near [] hs = refl
+far_near (x ∷ xs) hs = far_near xs hs
+
+module _ (config : Config) where
+  abbrev pub client_layer : List C.Call → List L.Entry
+  client_layer t = client.layer_of server_end config.client_word t
+
+  abbrev pub server_layer : List S.Call → List L.Entry
+  server_layer t = server.layer_of config.limit config.server_szx config.server_word t
+
+  pub client_asked_next : (past : List C.Call) (c : C.Call) → client_asked config (c ∷ past) ≡ client_asks config past c ++ client_asked config past
+  client_asked_next past c = asker_append server_end config.client_word (client_steps.lower (client.own_of past) c) (client.lower_of past)
+
+  pub server_asked_next : (past : List S.Call) (c : S.Call) → server_asked config (c ∷ past) ≡ server_asks config past c ++ server_asked config past
+  server_asked_next past c = answerer_append (server_steps.lower (server.own_of config.limit config.server_szx past) c) (server.lower_of config.limit config.server_szx past)
+
+  pub client_next : (past : List C.Call) (c : C.Call) → client_layer (c ∷ past) ≡ client_adds config past c ++ client_layer past
+  client_next past c = ap (entries (start config.client_word)) (client_asked_next past c) ∙ entries_append (start config.client_word) (client_asks config past c) (client_asked config past)
+
+  pub server_next : (past : List S.Call) (c : S.Call) → server_layer (c ∷ past) ≡ server_adds config past c ++ server_layer past
+  server_next past c = ap (entries (start config.server_word)) (server_asked_next past c) ∙ entries_append (start config.server_word) (server_asks config past c) (server_asked config past)
+
+  -- a server begins with no call of its layer
+  pub begins_silent : (ds : List S.Delay) → server.lower_of config.limit config.server_szx (map (λ (d : S.Delay). S.Delays d.path d.ms true) ds) ≡ []
+  begins_silent [] = refl
+  begins_silent (d ∷ ds) = begins_silent ds
+
+  pub near_is : (all : List Entry) → near_of (hops_in config all) ≡ client_layer (client_of all)
+  near_is [] = refl
+  near_is (OfClient c ∷ past) = near_near (client_adds config (client_of past) c) (hops_in config past) ∙ ap (λ t. client_adds config (client_of past) c ++ t) (near_is past) ∙ sym (client_next (client_of past) c)
+  near_is (OfServer c ∷ past) = near_far (server_adds config (server_trace config past) c) (hops_in config past) ∙ near_is past
+
+  pub far_is : (all : List Entry) → far_of (hops_in config all) ≡ server_layer (server_trace config all)
+  far_is [] = sym (ap (λ t. entries (start config.server_word) (answerer.lower_of t)) (begins_silent config.delays))
+  far_is (OfServer c ∷ past) = far_far (server_adds config (server_trace config past) c) (hops_in config past) ∙ ap (λ t. server_adds config (server_trace config past) c ++ t) (far_is past) ∙ sym (server_next (server_trace config past) c)
+  far_is (OfClient c ∷ past) = far_near (client_adds config (client_of past) c) (hops_in config past) ∙ far_is past

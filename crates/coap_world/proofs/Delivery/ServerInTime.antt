@@ -1,0 +1,216 @@
+-- When the calls of the server, at one moment, have their entries in its layer.
+use Rattle.std.proofs.Common.{◌≡◌, ◌≤◌, ℕ, max, Bool, true, false, Option, Some, None, List, [], ◌∷◌, ◌++◌, refl, ap, sym, subst, ◌∙◌, arith, append_assoc}
+use Rattle.coap_types.specs.declared.endpoint.Endpoint.{Endpoint}
+use Rattle.coap_types.specs.declared.message.Kind.{Kind}
+use Rattle.coap_types.specs.declared.message.Kind.TheVariants.{Con, Non, Ack, Rst}
+use Rattle.coap_codec.specs.Message.{Message}
+use Rattle.coap_layer.specs.Trace as L
+use Rattle.coap_layer.specs.Machine.State.{State, start}
+use Rattle.coap_layer.specs.Machine.Steps.{left_after}
+use Rattle.coap_exchange.specs.declared.answerer.Asked as request
+use Rattle.coap_exchange.specs.declared.answerer.Due.{Due}
+use Rattle.coap_exchange.specs.declared.answerer.Due.TheVariants as due
+use Rattle.coap_exchange.specs.declared.separate.Deferred.{Deferred}
+use Rattle.coap_exchange.specs.AskerRequests.{asked}
+use Rattle.coap_exchange.specs.AskerArrivals.{replying, id_in}
+use Rattle.coap_exchange.specs.AnswererTrace as R
+use Rattle.coap_exchange.specs.AnswererSteps.{reject_by, deferring, may_defer, asking_room, ready_if, ready_at, content_of}
+use Rattle.coap_exchange.specs.AnswererSteps as answerer_steps
+use Rattle.coap_exchange.specs.AnswererLaw as answerer
+use Rattle.coap_ends.specs.ServerTrace.{Own, Handling, Silent, Refuses, Serves, Waits, Call, Sets, Removes, Delays, Feeds, Ticks, NextOut}
+use Rattle.coap_ends.specs.ServerSteps.{answering, responding}
+use Rattle.coap_ends.specs.ServerSteps as steps
+use Rattle.coap_ends.specs.ServerLaw.{own_of, lower_of}
+use Rattle.coap_world.specs.Delivery.{FedToServer}
+use Rattle.coap_world.specs.Events.{Config}
+use Rattle.coap_world.specs.Record.{OfServer}
+use Rattle.coap_world.specs.Hops.{asked_by_server, server_asks, server_asked, server_adds}
+use Rattle.coap_world.proofs.Delivery.HopsAreEntries.{left_append, server_asked_next}
+use Rattle.coap_world.proofs.Delivery.EntriesInTime.{Every, every_join, Wish, Timely, Done, Ends, ends_over, done, nothing_done, takes}
+use Rattle.coap_world.proofs.Delivery.ClientInTime.{replying_wish, timed_wish, receive_wish}
+
+-- the moment that it is handed
+abbrev pub IsAt : ℕ → Call → Type 0
+IsAt t (Sets now path format body answer left) = now ≡ t
+IsAt t (Removes now path answer left) = now ≡ t
+IsAt t (Delays path ms answer) = Unit {0}
+IsAt t (Feeds now from bytes word up came h below) = now ≡ t
+IsAt t (Ticks now word below room d h id answer) = now ≡ t
+IsAt t (NextOut answer) = Unit {0}
+
+abbrev pub Fed : Call → Endpoint → List ℕ → Type 0
+Fed c from bytes = FedToServer from bytes (OfServer c)
+
+module _ (t : ℕ) (F : Endpoint → List ℕ → Type 0) where
+  -- what is asked of the exchanges
+  abbrev Asks : R.Call → Type 0
+  Asks (R.Incoming now from bytes up answer) = (now ≤ t) × F from bytes
+  Asks (R.Answers a r below) = Unit {0}
+  Asks (R.Defers now a delay answer) = now ≤ t
+  Asks (R.Ticks now below room answer) = now ≤ t
+  Asks (R.Responds now a r word id) = now ≤ t
+  Asks (R.Ready now to answer) = now ≤ t
+  Asks (R.Notifies now to token r word id) = now ≤ t
+  Asks (R.Take answer) = Unit {0}
+
+  own_by : (s : R.Own) (c : R.Call) → s.clock ≤ t → Asks c → (answerer_steps.after s c).clock ≤ t
+  own_by s (R.Incoming now from bytes up answer) h a = let k = a.0 in omega (arith, h, k)
+  own_by s (R.Answers a r below) h k = h
+  own_by s (R.Defers now a delay answer) h k = omega (arith, h, k)
+  own_by s (R.Ticks now below room answer) h k = omega (arith, h, k)
+  own_by s (R.Responds now a r word id) h k = omega (arith, h, k)
+  own_by s (R.Ready now to answer) h k = omega (arith, h, k)
+  own_by s (R.Notifies now to token r word id) h k = omega (arith, h, k)
+  own_by s (R.Take answer) h k = h
+
+  pub owns_by : (past later : List R.Call) → (answerer.own_of past).clock ≤ t → Every Asks later → (answerer.own_of (later ++ past)).clock ≤ t
+  owns_by past [] h a = h
+  owns_by past (c ∷ later) h a = own_by (answerer.own_of (later ++ past)) c (owns_by past later h a.1) a.0
+
+  -- other calls of the layer than arrivals
+  other_wish : (now : ℕ) (call : L.Call) (up : L.Answer) → now ≤ t → ((from : Endpoint) (bytes : List ℕ) → call ≡ L.Receive from bytes → ⊥) → Wish t F (asked now call up)
+  other_wish now call up h f = record { now = h; fed = λ from bytes is. absurd (f from bytes is) }
+
+  answering_other : (s : R.Own) (kind : Kind) (a : request.Asked) (r : R.Response) (from : Endpoint) (bytes : List ℕ) → answerer_steps.answering s kind a r ≡ L.Receive from bytes → ⊥
+  answering_other s Con a r from bytes is = cc is
+  answering_other s Non a r from bytes is = cc is
+  answering_other s Ack a r from bytes is = cc is
+  answering_other s Rst a r from bytes is = cc is
+
+  deferring_wish : (b : Bool) (a : request.Asked) → Every (Wish t F) (deferring b a)
+  deferring_wish true a = (other_wish 0 _ _ (omega arith) (λ from bytes is. cc is), tt)
+  deferring_wish false a = tt
+
+  room_wish : (now : ℕ) (o : Option Deferred) (room : Bool) → now ≤ t → Every (Wish t F) (asking_room now o room)
+  room_wish now None room h = tt
+  room_wish now (Some d) room h = (other_wish now _ _ h (λ from bytes is. cc is), tt)
+
+  lower_wish : (s : R.Own) (c : R.Call) → s.clock ≤ t → Asks c → Every (Wish t F) (answerer_steps.lower s c)
+  lower_wish s (R.Incoming now from bytes up answer) h a =
+      every_join (Wish t F) (replying from (id_in up) (reject_by up)) (asked now (L.Receive from bytes) up ∷ []) (replying_wish t F from (id_in up) (reject_by up)) (receive_wish t F now from bytes up a.0 a.1, tt)
+  lower_wish s (R.Answers a r below) h k = (other_wish s.clock _ below h (answering_other s a.kind a r), tt)
+  lower_wish s (R.Defers now a delay answer) h k =
+      every_join (Wish t F) (deferring (may_defer s.deferred) a) (asked now L.Pass L.Nothing ∷ []) (deferring_wish (may_defer s.deferred) a) (other_wish now L.Pass L.Nothing k (λ from bytes is. cc is), tt)
+  lower_wish s (R.Ticks now below room answer) h k =
+      every_join (Wish t F) (asking_room now (ready_if below (ready_at s now)) room) (asked now L.Ticks below ∷ []) (room_wish now (ready_if below (ready_at s now)) room k) (timed_wish t F now below k, tt)
+  lower_wish s (R.Responds now a r word id) h k = (other_wish now _ (L.Sent id) k (λ from bytes is. cc is), tt)
+  lower_wish s (R.Ready now to answer) h k = (other_wish now _ (L.Is answer) k (λ from bytes is. cc is), tt)
+  lower_wish s (R.Notifies now to token r word id) h k = (other_wish now _ (L.Sent id) k (λ from bytes is. cc is), tt)
+  lower_wish s (R.Take answer) h k = (other_wish 0 L.Take (L.Gives answer) (omega arith) (λ from bytes is. cc is), tt)
+
+  wishes : (past later : List R.Call) → (answerer.own_of past).clock ≤ t → Every Asks later → Every (Wish t F) (asked_by_server past later)
+  wishes past [] h a = tt
+  wishes past (c ∷ later) h a =
+      every_join (Wish t F) (answerer_steps.lower (answerer.own_of (later ++ past)) c) (asked_by_server past later) (lower_wish (answerer.own_of (later ++ past)) c (owns_by past later h a.1) a.0) (wishes past later h a.1)
+
+  -- the oldest is an arrival or a tick
+  abbrev Begins : R.Call → Type 0
+  Begins (R.Incoming now from bytes up answer) = t ≤ now
+  Begins (R.Ticks now below room answer) = t ≤ now
+  Begins _ = ⊥
+
+  first_ends : (s : R.Own) (c : R.Call) → Begins c → Ends t F (answerer_steps.lower s c ++ [])
+  first_ends s (R.Incoming now from bytes up answer) k =
+      subst (Ends t F) (sym (append_assoc (replying from (id_in up) (reject_by up)) (asked now (L.Receive from bytes) up ∷ []) [])) (ends_over t F (replying from (id_in up) (reject_by up)) (asked now (L.Receive from bytes) up ∷ []) (k, tt))
+  first_ends s (R.Ticks now below room answer) k =
+      subst (Ends t F) (sym (append_assoc (asking_room now (ready_if below (ready_at s now)) room) (asked now L.Ticks below ∷ []) [])) (ends_over t F (asking_room now (ready_if below (ready_at s now)) room) (asked now L.Ticks below ∷ []) (k, tt))
+  first_ends s (R.Answers a r below) k = absurd k
+  first_ends s (R.Defers now a delay answer) k = absurd k
+  first_ends s (R.Responds now a r word id) k = absurd k
+  first_ends s (R.Ready now to answer) k = absurd k
+  first_ends s (R.Notifies now to token r word id) k = absurd k
+  first_ends s (R.Take answer) k = absurd k
+
+  ends : (past later : List R.Call) (c : R.Call) → Begins c → Ends t F (asked_by_server past (later ++ c ∷ []))
+  ends past [] c k = first_ends (answerer.own_of past) c k
+  ends past (d ∷ later) c k = ends_over t F (answerer_steps.lower (answerer.own_of ((later ++ c ∷ []) ++ past)) d) (asked_by_server past (later ++ c ∷ [])) (ends past later c k)
+
+  answering_asks : (at : ℕ) (came : Option (request.Asked × Message)) (h : Handling) (below : L.Answer) → at ≤ t → Every Asks (answering at came h below)
+  answering_asks at None h below k = tt
+  answering_asks at (Some p) Silent below k = tt
+  answering_asks at (Some p) (Refuses response) below k = (tt, tt)
+  answering_asks at (Some p) (Serves q reply response left) below k = (tt, tt)
+  answering_asks at (Some p) (Waits q delay) below k = (k, tt)
+
+  responding_asks : (at : ℕ) (d : Due) (h : Handling) (word id : ℕ) → at ≤ t → Every Asks (responding at d h word id)
+  responding_asks at (due.Ready a) (Serves q reply response left) word id k = (k, tt)
+  responding_asks at (due.Ready a) Silent word id k = tt
+  responding_asks at (due.Ready a) (Refuses response) word id k = tt
+  responding_asks at (due.Ready a) (Waits q delay) word id k = tt
+  responding_asks at due.Idle h word id k = tt
+  responding_asks at due.Copied h word id k = tt
+  responding_asks at due.Expired h word id k = tt
+
+  -- what a call asks of the exchanges
+  lower_asks : (s : Own) (c : Call) → s.clock ≤ t → IsAt t c → ((from : Endpoint) (bytes : List ℕ) → Fed c from bytes → F from bytes) → Every Asks (steps.lower s c)
+  lower_asks s (Sets now path format body answer left) h at f = tt
+  lower_asks s (Removes now path answer left) h at f = tt
+  lower_asks s (Delays path ms answer) h at f = tt
+  lower_asks s (Feeds now from bytes word up came w below) h at f =
+      let k : max s.clock now ≤ t = omega (arith, h, at) in
+      every_join Asks (answering (max s.clock now) came w below) (R.Incoming (max s.clock now) from bytes up came ∷ []) (answering_asks (max s.clock now) came w below k) ((k, f from bytes (now, word, up, came, w, below, refl)), tt)
+  lower_asks s (Ticks now word below room d w id answer) h at f =
+      let k : max s.clock now ≤ t = omega (arith, h, at) in
+      every_join Asks (responding (max s.clock now) d w word id) (R.Ticks (max s.clock now) below room d ∷ []) (responding_asks (max s.clock now) d w word id k) (k, tt)
+  lower_asks s (NextOut answer) h at f = (tt, tt)
+
+module _ (config : Config) where
+  abbrev own : List Call → Own
+  own past = own_of config.limit config.server_szx past
+
+  abbrev exchanges : List Call → List R.Call
+  exchanges past = lower_of config.limit config.server_szx past
+
+  abbrev before : List Call → State
+  before past = left_after (start config.server_word) (server_asked config past)
+
+  -- no clock of the server is past this moment
+  pub record IsBy (t : ℕ) (past : List Call) : Type 0 where
+    pub own : (own past).clock ≤ t
+    pub between : (answerer.own_of (exchanges past)).clock ≤ t
+    pub layer : (before past).clock ≤ t
+
+  asks : (t : ℕ) (past : List Call) (c : Call) → IsBy t past → IsAt t c → Every (Asks t (Fed c)) (steps.lower (own past) c)
+  asks t past c by at = lower_asks t (Fed c) (own past) c by.own at (λ from bytes f. f)
+
+  asks_done : (t : ℕ) (past : List Call) (c : Call) → IsBy t past → IsAt t c → Done t (Fed c) (before past) (server_asks config past c)
+  asks_done t past (Sets now path format body answer left) by at = nothing_done t (Fed (Sets now path format body answer left)) (before past) by.layer
+  asks_done t past (Removes now path answer left) by at = nothing_done t (Fed (Removes now path answer left)) (before past) by.layer
+  asks_done t past (Delays path ms answer) by at = nothing_done t (Fed (Delays path ms answer)) (before past) by.layer
+  asks_done t past (NextOut answer) by at = takes t (Fed (NextOut answer)) (before past) (L.Gives answer) by.layer
+  asks_done t past (Feeds now from bytes word up came w below) by at =
+      let F = Fed (Feeds now from bytes word up came w below) in
+      let k : t ≤ max (own past).clock now = omega (arith, at) in
+      done t F (before past) _ by.layer (wishes t F (exchanges past) (steps.lower (own past) (Feeds now from bytes word up came w below)) by.between (asks t past (Feeds now from bytes word up came w below) by at))
+      (ends t F (exchanges past) (answering (max (own past).clock now) came w below) (R.Incoming (max (own past).clock now) from bytes up came) k)
+  asks_done t past (Ticks now word below room d w id answer) by at =
+      let F = Fed (Ticks now word below room d w id answer) in
+      let k : t ≤ max (own past).clock now = omega (arith, at) in
+      done t F (before past) _ by.layer (wishes t F (exchanges past) (steps.lower (own past) (Ticks now word below room d w id answer)) by.between (asks t past (Ticks now word below room d w id answer) by at))
+      (ends t F (exchanges past) (responding (max (own past).clock now) d w word id) (R.Ticks (max (own past).clock now) below room d) k)
+
+  end_by : (t : ℕ) (s : Own) (c : Call) → s.clock ≤ t → IsAt t c → (steps.after s c).clock ≤ t
+  end_by t s (Sets now path format body answer left) h at = omega (arith, h, at)
+  end_by t s (Removes now path answer left) h at = omega (arith, h, at)
+  end_by t s (Delays path ms answer) h at = h
+  end_by t s (Feeds now from bytes word up came w below) h at = omega (arith, h, at)
+  end_by t s (Ticks now word below room d w id answer) h at = omega (arith, h, at)
+  end_by t s (NextOut answer) h at = h
+
+  pub next_by : (t : ℕ) (past : List Call) (c : Call) → IsBy t past → IsAt t c → IsBy t (c ∷ past)
+  next_by t past c by at =
+      record {
+        own = end_by t (own past) c by.own at;
+        between = owns_by t (Fed c) (exchanges past) (steps.lower (own past) c) by.between (asks t past c by at);
+        layer = subst (λ (s : State). s.clock ≤ t) (sym (ap (left_after (start config.server_word)) (server_asked_next config past c) ∙ left_append (start config.server_word) (server_asks config past c) (server_asked config past))) (asks_done t past c by at).till;
+      }
+
+  pub later_by : (t u : ℕ) (past : List Call) → t ≤ u → IsBy t past → IsBy u past
+  later_by t u past h by =
+      let a = by.own in
+      let b = by.layer in
+      let c = by.between in
+      record { own = omega (arith, a, h); between = omega (arith, c, h); layer = omega (arith, b, h) }
+
+  pub adds_timely : (t : ℕ) (past : List Call) (c : Call) → IsBy t past → IsAt t c → Every (Timely t (Fed c)) (server_adds config past c)
+  adds_timely t past c by at = (asks_done t past c by at).timely

@@ -1,0 +1,101 @@
+-- A request of the client's address is handed up once at most, and so is applied once at most for each call.
+use Rattle.std.proofs.Common.{◌≡◌, ◌≤◌, inl, inr, ℕ, ◌+◌, Bool, true, false, Option, Some, None, List, [], ◌∷◌, refl, ap, sym, subst, ◌∙◌, cond, arith}
+use Rattle.coap_types.specs.Past.{Ever, Always}
+use Rattle.coap_types.specs.declared.endpoint.Endpoint.{Endpoint}
+use Rattle.coap_codec.specs.Message.{Message}
+use Rattle.coap_layer.specs.Channel.{Hop, Near, Far, near_of, far_of, OnFar, ChannelLaw, HandsUpAs}
+use Rattle.coap_layer.specs.Trace as T
+use Rattle.coap_layer.proofs.Facts.Hops.{earlier}
+use Rattle.coap_layer.proofs.Facts.Laws.{handed_once}
+use Rattle.coap_exchange.specs.declared.answerer.Asked.{Asked}
+use Rattle.coap_exchange.specs.AnswererFollows.{hits, same_asked}
+use Rattle.coap_exchange.specs.AnswererSteps.{asked_of, asked_in, handed_up}
+use Rattle.coap_ends.specs.Follows.ClientSendings.{NoNons, OneCon}
+use Rattle.coap_ends.specs.Follows.ServerCounts.{asked_at, ups}
+use Rattle.coap_ends.proofs.Facts.OfServer.{same_asked_is}
+use Rattle.coap_world.proofs.Requests.CameFrom.{UpOf, here, find, no_more}
+
+-- an entry that hands up this request
+abbrev pub Any : Message → Type 0
+Any m = Unit {0}
+
+up_in : (a : Asked) (from : Endpoint) (bytes : List ℕ) (e : T.Entry) (answer : T.Answer) → e.call ≡ T.Receive from bytes → e.answer ≡ answer → asked_in (handed_up from answer) ≡ Some a → UpOf Any a e
+up_in a from bytes e (T.Becomes (T.Request m true)) call is h =
+    let same : asked_of from m ≡ a = cc h in
+    let from_is : from ≡ a.from = ap (λ (x : Asked). x.from) same in
+    record { message = m; bytes = bytes; call = call ∙ ap (λ f. T.Receive f bytes) from_is; answer = is; asked_is = sym same ∙ ap (λ f. asked_of f m) from_is; verdict = tt }
+up_in a from bytes e (T.Becomes u) call is h = absurd (cc h)
+up_in a from bytes e T.Nothing call is h = absurd (cc h)
+up_in a from bytes e (T.Is holds) call is h = absurd (cc h)
+up_in a from bytes e (T.Sent id) call is h = absurd (cc h)
+up_in a from bytes e T.Busied call is h = absurd (cc h)
+up_in a from bytes e T.NoIds call is h = absurd (cc h)
+up_in a from bytes e T.Idle call is h = absurd (cc h)
+up_in a from bytes e (T.Copied to id) call is h = absurd (cc h)
+up_in a from bytes e (T.Expired to id) call is h = absurd (cc h)
+up_in a from bytes e (T.Gives packet) call is h = absurd (cc h)
+
+up_by : (a : Asked) (e : T.Entry) (call : T.Call) → e.call ≡ call → asked_at call e.answer ≡ Some a → UpOf Any a e
+up_by a e (T.Receive from bytes) is h = up_in a from bytes e e.answer is refl h
+up_by a e (T.Reply to id bytes) is h = absurd (cc h)
+up_by a e (T.Confirm to content word) is h = absurd (cc h)
+up_by a e (T.Plain to content) is h = absurd (cc h)
+up_by a e (T.Settle to id) is h = absurd (cc h)
+up_by a e T.Ticks is h = absurd (cc h)
+up_by a e T.Take is h = absurd (cc h)
+up_by a e (T.Room to) is h = absurd (cc h)
+up_by a e T.AsksFree is h = absurd (cc h)
+up_by a e T.Pass is h = absurd (cc h)
+
+-- an entry counts once where it hands it up, and else not
+data Counts (a : Asked) (e : T.Entry) (n : ℕ) : Type 0 where
+  counts : UpOf Any a e → n ≡ 1 → Counts a e n
+  silent : n ≡ 0 → Counts a e n
+
+counts_by : (a : Asked) (e : T.Entry) (o : Option Asked) → asked_at e.call e.answer ≡ o → Counts a e (hits (same_asked a) o)
+counts_by a e None is = silent refl
+counts_by a e (Some b) is = by (same_asked a b) refl
+  where
+    by : (w : Bool) → same_asked a b ≡ w → Counts a e (cond w 1 0)
+    by true k = counts (up_by a e e.call refl (is ∙ ap (λ x. Some x) (sym (same_asked_is a b k)))) refl
+    by false k = silent refl
+
+none_counted : (a : Asked) (hs : List Hop) → (Ever (OnFar (UpOf Any a)) hs → ⊥) → ups a (far_of hs) ≡ 0
+none_counted a [] f = refl
+none_counted a (Near e ∷ past) f = none_counted a past (λ k. f (inr k))
+none_counted a (Far e ∷ past) f = by (counts_by a e (asked_at e.call e.answer) refl) (none_counted a past (λ k. f (inr k)))
+  where
+    by : Counts a e (hits (same_asked a) (asked_at e.call e.answer)) → ups a (far_of past) ≡ 0 → hits (same_asked a) (asked_at e.call e.answer) + ups a (far_of past) ≡ 0
+    by (counts u n) k = absurd (f (inl u))
+    by (silent n) k = omega (arith, n, k)
+
+abbrev pub UpOnce : Asked → List Hop → Type 0
+UpOnce a hs = Always (λ past h. OnFar (UpOf Any a) h → Ever (OnFar (UpOf Any a)) past → ⊥) hs
+
+pub once_counted : (a : Asked) (hs : List Hop) → UpOnce a hs → ups a (far_of hs) ≤ 1
+once_counted a [] h = omega arith
+once_counted a (Near e ∷ past) h = once_counted a past h.1
+once_counted a (Far e ∷ past) h = by (counts_by a e (asked_at e.call e.answer) refl) (once_counted a past h.1)
+  where
+    by : Counts a e (hits (same_asked a) (asked_at e.call e.answer)) → ups a (far_of past) ≤ 1 → hits (same_asked a) (asked_at e.call e.answer) + ups a (far_of past) ≤ 1
+    by (counts u n) k = let z = none_counted a past (λ w. h.0 u w) in omega (arith, n, z)
+    by (silent n) k = omega (arith, n, k)
+
+module _ (one other : ℕ) (near far : Endpoint) (a : Asked) (from : a.from ≡ near) where
+  one_more : (h : Hop) (past : List Hop) → OneCon (near_of (h ∷ past)) → OneCon (near_of past)
+  one_more (Near e) past f = λ x y k l. f x y (inr k) (inr l)
+  one_more (Far e) past f = f
+
+  pub up_once : (hs : List Hop) → ChannelLaw one other near far hs → NoNons (near_of hs) → OneCon (near_of hs) → UpOnce a hs
+  up_once [] law nons cons = tt
+  up_once (Near e ∷ past) law nons cons =
+      (λ u k. u, up_once past (earlier one other near far past (Near e) law) (no_more one other near far Any a from (Near e) past nons) (one_more (Near e) past cons))
+  up_once (Far e ∷ past) law nons cons = (λ u k. twice u k, up_once past (earlier one other near far past (Far e) law) nons cons)
+    where
+      twice : UpOf Any a e → Ever (OnFar (UpOf Any a)) past → ⊥
+      twice u k =
+          let f = here one other near far Any a from past e law nons u in
+          let g = find one other near far Any a from past (earlier one other near far past (Far e) law) nons k in
+          let token = sym (ap (λ (x : Asked). x.token) f.0.asked) ∙ ap (λ (x : Asked). x.token) g.asked in
+          let same : f.0.con ≡ g.con = cons f.0.con g.con f.0.begun_before g.begun_before f.0.message g.message f.0.are_bytes g.are_bytes f.0.spells g.spells token in
+          (handed_once one other near far (Far e ∷ past) law f.0.con f.0.begun_before).0 f.1 (subst (λ c. Ever (OnFar (HandsUpAs near c)) past) (sym same) g.arrived)
