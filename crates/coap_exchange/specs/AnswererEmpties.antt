@@ -1,6 +1,6 @@
 -- When a server sends an Empty message, and which: a Reset to a response that arrives, and the acknowledgement of a request
 -- whose response is deferred (RFC 7252, sections 4.2, 4.3 and 5.2.2). A Reset to a NON is a profile.
-use Rattle.std.specs.Prelude.{◌≡◌, ◌≢◌, ◌⊎◌, true, false, List, []}
+use Rattle.std.specs.Prelude.{◌≡◌, ◌⊎◌, true, List, []}
 use Rattle.coap_types.specs.Past.{Always}
 use Rattle.coap_types.specs.declared.endpoint.Endpoint.{Endpoint}
 use Rattle.coap_types.specs.declared.message.Kind.TheVariants.{Con, Non, Ack}

@@ -1,12 +1,12 @@
 -- What hands up a request ends no separate response and no notification.
-use Rattle.std.proofs.Common.{◌≡◌, ℕ, Bool, true, false, Option, Some, None, List, [], ◌∷◌, IfSome, ap, sym, ◌∙◌, refl}
+use Rattle.std.proofs.Common.{◌≡◌, ℕ, Option, Some, None, List, [], ◌∷◌, IfSome, refl}
 use Rattle.coap_types.specs.declared.endpoint.Endpoint.{Endpoint}
 use Rattle.coap_codec.specs.Message.{Message}
 use Rattle.coap_layer.specs.Trace as T
 use Rattle.coap_exchange.specs.declared.answerer.Asked.{Asked}
 use Rattle.coap_exchange.specs.declared.separate.Separate.{Separate}
-use Rattle.coap_exchange.specs.AnswererTrace.{Own, Call, Incoming, Answers, Defers, Ticks, Responds, Ready, Notifies, Take}
-use Rattle.coap_exchange.specs.AnswererSteps.{after, handed_up, reset_by}
+use Rattle.coap_exchange.specs.AnswererTrace.{Call, Incoming, Answers, Defers, Ticks, Responds, Ready, Notifies, Take}
+use Rattle.coap_exchange.specs.AnswererSteps.{handed_up, reset_by}
 use Rattle.coap_exchange.specs.AnswererLaw.{own_of, AnswererLaw}
 use Rattle.coap_exchange.specs.AnswererFollows.{hands, end_told}
 use Rattle.coap_exchange.specs.AnswererTells.{HandsOrEnds}

@@ -1,9 +1,8 @@
 -- Tokens of the counter differ, and the tests on tokens decide.
-use Rattle.std.proofs.Common.{◌≡◌, ℕ, ◌+◌, ◌%◌, ◌^◌, ◌<◌, true, List, [], ◌++◌, refl, ap, sym, ◌∙◌, arith}
-use Rattle.std.specs.Cmp.Lexicographic.{bytes_decides}
+use Rattle.std.proofs.Common.{◌≡◌, ℕ, ◌+◌, ◌%◌, ◌^◌, ◌<◌, [], ◌++◌, ap, sym, ◌∙◌, arith}
 use Rattle.byteorder.specs.Endian.{big_bytes, big_from}
 use Rattle.byteorder.specs.Numbers.{big_number-reads_back}
-use Rattle.coap_exchange.specs.Tokens.{same_token, token_of}
+use Rattle.coap_exchange.specs.Tokens.{token_of}
 
 number_below : (x : ℕ) → x % 2 ^ 64 < 256 ^ 8
 number_below x = omega arith

@@ -1,16 +1,16 @@
 -- One call more, for all calls of the client's side.
-use Rattle.std.proofs.Common.{◌≡◌, ℕ, List, [], ◌∷◌, ◌++◌, sym, ap, ◌∙◌, subst, refl}
+use Rattle.std.proofs.Common.{◌≡◌, ℕ, List, [], ◌∷◌, ◌++◌, subst, refl}
 use Rattle.std.proofs.lemmas.List.{append-nil}
 use Rattle.coap_types.specs.declared.endpoint.Endpoint.{Endpoint}
 use Rattle.coap_layer.specs.Machine.State as L
 use Rattle.coap_layer.specs.Rows.{LayerLaw}
 use Rattle.coap_layer.proofs.Facts.Calls.{led_steps}
-use Rattle.coap_layer.specs.Machine.Steps.{Asked, Steps}
+use Rattle.coap_layer.specs.Machine.Steps.{Steps}
 use Rattle.coap_exchange.proofs.Facts.Above.{led_call as above_call, led_chain as above_chain, chain_join, chain_split, chain_own}
 use Rattle.coap_exchange.specs.Above.{sum_of}
 use Rattle.coap_exchange.specs.AskerTrace.{start, Call}
 use Rattle.coap_exchange.specs.AskerSteps.{lower, IsRight, after}
-use Rattle.coap_exchange.specs.AskerLaw.{own_of, lower_of, below_of, fresh_state, ExchangeLaw, State, Step, Exchanged, Led}
+use Rattle.coap_exchange.specs.AskerLaw.{lower_of, below_of, fresh_state, ExchangeLaw, State, Step, Exchanged, Led}
 use Rattle.coap_exchange.proofs.Facts.StepsOfLayer.{steps_join}
 
 pub led_call : (server : Endpoint) (word : ℕ) (t : List Call) (c : Call) (old new : State) → Led server word t old → Step old c new → Led server word (c ∷ t) new

@@ -1,5 +1,5 @@
 -- One call more, for all calls of the server's side.
-use Rattle.std.proofs.Common.{◌≡◌, ◌++◌, ℕ, List, [], ◌∷◌, refl, ap, ◌∙◌, subst}
+use Rattle.std.proofs.Common.{◌≡◌, ◌++◌, ℕ, List, [], ◌∷◌, refl, subst}
 use Rattle.std.proofs.lemmas.List.{append-nil}
 use Rattle.coap_layer.specs.Machine.State as L
 use Rattle.coap_layer.specs.Rows.{LayerLaw}
@@ -9,7 +9,7 @@ use Rattle.coap_exchange.proofs.Facts.Above.{led_call as above_call, led_chain a
 use Rattle.coap_exchange.specs.Above.{sum_of}
 use Rattle.coap_exchange.specs.AnswererTrace.{start, Call}
 use Rattle.coap_exchange.specs.AnswererSteps.{lower, IsRight, after}
-use Rattle.coap_exchange.specs.AnswererLaw.{own_of, lower_of, below_of, fresh_state, ResponseLaw, State, Step, Exchanged, Led}
+use Rattle.coap_exchange.specs.AnswererLaw.{lower_of, below_of, fresh_state, ResponseLaw, State, Step, Exchanged, Led}
 use Rattle.coap_exchange.proofs.Facts.StepsOfLayer.{steps_join}
 
 pub led_start : (word : ℕ) → Led word [] (fresh_state word)

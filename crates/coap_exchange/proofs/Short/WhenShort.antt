@@ -9,7 +9,7 @@ use Rattle.coap_codec.specs.Message.{Message, marked}
 use Rattle.coap_codec.specs.Spelling.{message_bytes, options_bytes}
 use Rattle.coap_codec.proofs.Facts.Spelling.{spelled_by}
 use Rattle.coap_exchange.specs.AskerRequests.{content_of}
-use Rattle.coap_exchange.specs.ShortRequests.{HasParts, IsAskableWhenShort, IsAskableWhenShortExactly}
+use Rattle.coap_exchange.specs.ShortRequests.{IsAskableWhenShort, IsAskableWhenShortExactly}
 use Rattle.coap_exchange.specs.AnswererSteps as answer
 use Rattle.coap_exchange.specs.ShortAnswers.{IsAnswerWhenShort, IsNotificationWhenShort}
 

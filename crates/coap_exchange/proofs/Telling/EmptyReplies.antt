@@ -1,13 +1,9 @@
 -- Which Empty message answers what arrives at a client: by the table of verdicts.
-use Rattle.std.proofs.Common.{◌≡◌, ◌≢◌, ◌⊎◌, inl, inr, ℕ, Bool, true, false, Option, Some, None, List, [], ◌∷◌, ◌++◌, refl, ap, subst, sym, ◌∙◌, cond, ◌&&◌, ◌||◌}
-use Rattle.coap_types.specs.declared.direction.Direction.TheVariants as direction
+use Rattle.std.proofs.Common.{◌≡◌, ◌≢◌, inl, inr, ℕ, Bool, true, false, Option, Some, None, List, [], ◌∷◌, ◌++◌, refl, ap, subst, sym, ◌∙◌, cond, ◌&&◌, ◌||◌}
 use Rattle.coap_types.specs.declared.endpoint.Endpoint.{Endpoint}
 use Rattle.coap_types.specs.declared.message.Kind.{Kind}
 use Rattle.coap_types.specs.declared.message.Kind.TheVariants.{Con, Non, Ack, Rst}
-use Rattle.coap_types.specs.Recognised.{carries, lacks_critical}
-use Rattle.coap_types.specs.SameEndpoint.{same_endpoint}
 use Rattle.coap_codec.specs.Message.{Message}
-use Rattle.coap_layer.specs.Machine.Steps.{Asked}
 use Rattle.coap_layer.specs.Trace as T
 use Rattle.coap_exchange.specs.declared.asker.Event.{Event}
 use Rattle.coap_exchange.specs.declared.asker.Exchange.{Exchange}
@@ -18,14 +14,13 @@ use Rattle.coap_exchange.specs.AskerTrace.{Own, Call, Ask, Receive, Ticks, Keep,
 use Rattle.coap_exchange.specs.AskerRequests.{asked, opening_of, request_token, content_of, beneath}
 use Rattle.coap_exchange.specs.declared.matching.Opening.{Opening}
 use Rattle.coap_exchange.specs.declared.matching.Opening.TheVariants.{Running, Spent, Sends}
-use Rattle.coap_exchange.specs.AskerArrivals.{told, verdict_on, known_of, has_token, is_cancel, is_of_request, observe, id_in, reply_by, settles, replying, settling}
-use Rattle.coap_exchange.specs.AskerSteps.{lower, IsRight}
+use Rattle.coap_exchange.specs.AskerArrivals.{told, verdict_on, known_of, is_of_request, id_in, reply_by, settles, replying, settling}
+use Rattle.coap_exchange.specs.AskerSteps.{IsRight}
 use Rattle.coap_exchange.specs.AskerLaw.{own_of, AskerLaw}
 use Rattle.coap_exchange.specs.AskerFollows.{message_told}
-use Rattle.coap_exchange.specs.AskerEmpties.{is_known, is_late, RepliesTo, RepliesBy, RepliesRightly, AreReplied}
-use Rattle.coap_exchange.specs.EmptyMessages.{ack_bytes, reset_bytes, acknowledging, rejecting, replies_in}
+use Rattle.coap_exchange.specs.AskerEmpties.{RepliesTo, RepliesBy, RepliesRightly, AreReplied}
+use Rattle.coap_exchange.specs.EmptyMessages.{ack_bytes, reset_bytes, replies_in}
 use Rattle.coap_exchange.specs.Matching.{judged, request_judged}
-use Rattle.coap_exchange.specs.Tokens.{is_kept}
 
 -- what a verdict replies
 

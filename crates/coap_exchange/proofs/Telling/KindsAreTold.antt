@@ -1,5 +1,5 @@
 -- A response with the token of the exchange that runs is told as its answer, one with a kept token alone as a notification.
-use Rattle.std.proofs.Common.{◌≡◌, ◌⊎◌, inl, inr, ⊎_elim, ℕ, Bool, true, false, Option, Some, List, [], ◌∷◌, refl, ap, subst, sym, ◌∙◌, ◌&&◌}
+use Rattle.std.proofs.Common.{◌≡◌, ◌⊎◌, inl, inr, ℕ, Bool, true, false, Some, List, [], ◌∷◌, refl, ap, subst, sym, ◌∙◌, ◌&&◌}
 use Rattle.std.specs.Cmp.{unsigned_Decides}
 use Rattle.coap_types.specs.declared.endpoint.Endpoint.{Endpoint}
 use Rattle.coap_types.specs.declared.direction.Direction.TheVariants as direction
@@ -13,7 +13,7 @@ use Rattle.coap_exchange.specs.declared.asker.Event.{Event}
 use Rattle.coap_exchange.specs.declared.asker.Event.TheVariants as event
 use Rattle.coap_exchange.specs.declared.asker.Exchange.{Exchange}
 use Rattle.coap_exchange.specs.declared.matching.Known.{Known}
-use Rattle.coap_exchange.specs.AskerTrace.{Own, Call, Receive}
+use Rattle.coap_exchange.specs.AskerTrace.{Own, Call}
 use Rattle.coap_exchange.specs.AskerArrivals.{told, verdict_on, known_of, has_token, has_id, is_cancel, observe}
 use Rattle.coap_exchange.specs.AskerSteps.{IsRight}
 use Rattle.coap_exchange.specs.AskerLaw.{own_of, AskerLaw}
