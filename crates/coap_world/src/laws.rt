@@ -14,6 +14,7 @@ ghost use Rattle.coap_world.specs.LegalEvents.{NoneRuns, MayComeTill, NotAfter, 
 ghost use Rattle.coap_world.specs.LegalRuns.{Pings, Gets, GetsLate, Posts, Fails, TimesOut, Interferes};
 ghost use Rattle.coap_world.specs.Local.{LocalRight};
 ghost use Rattle.coap_world.specs.Record.{Turn, RecordOf, entries_of, client_of, server_trace};
+ghost use Rattle.coap_world.specs.Serves.{AllServed};
 
 /// What comes from an end's address was given out by that end, for the one that it comes to, at most 100,000 ms before.
 pub fn delivery_law()
@@ -48,6 +49,9 @@ pub fn requests_law()
     ensures came { (config : Config) (events : List Event) (turns : List Turn) → RecordOf config events turns → Legal turns → CamesFrom config (entries_of turns) }
     // What is applied for a call has its method and path, its format and all of its body (RFC 7252, section 5.8).
     ensures whole { (config : Config) (events : List Event) (turns : List Turn) → RecordOf config events turns → Legal turns → AppliedWhole config (entries_of turns) }
+    // Each request that is handed up is served, by the table of the methods, and applied only where its preconditions hold
+    // (RFC 7252, sections 5.8 and 5.10.8).
+    ensures served { (config : Config) (events : List Event) (turns : List Turn) → RecordOf config events turns → Legal turns → AllServed config (entries_of turns) }
     // For each call at most one request is applied (RFC 7252, section 4.5).
     ensures once { (config : Config) (events : List Event) (turns : List Turn) → RecordOf config events turns → Legal turns → AtMostOnce config (entries_of turns) }
 {}

@@ -12,6 +12,8 @@ use Rattle.coap_ends.specs.ServerFollows.{Serving, is_applied}
 use Rattle.coap_ends.specs.ServerLaw as server
 use Rattle.coap_ends.proofs.ClientCons.{one_con}
 use Rattle.coap_ends.proofs.ClientCounted.{one_call}
+use Rattle.coap_ends.proofs.ClientEnded.{all_ends}
+use Rattle.coap_ends.proofs.ClientQueued.{in_order, all_taken}
 use Rattle.coap_ends.proofs.ClientNons.{no_nons}
 use Rattle.coap_ends.proofs.ClientNumbers.{one_sending}
 use Rattle.coap_ends.proofs.ClientOnce.{reported_once}
@@ -36,6 +38,7 @@ use Rattle.coap_world.proofs.Delivery.HopsAreAChannel as joined
 use Rattle.coap_world.proofs.Reports.NeverFailed as F
 use Rattle.coap_world.proofs.Requests.ChangesOwned as O
 use Rattle.coap_world.proofs.Requests.HoldsChanges.{changes_held}
+use Rattle.coap_world.proofs.Requests.ServedRight.{served_right}
 use Rattle.coap_world.proofs.Requests.LocalChanges.{local_right}
 use Rattle.coap_world.proofs.Reports.PartsOfARecord.{Lawful, PartOf, part_back, whole}
 use Rattle.coap_world.proofs.Reports.ReportsAreOfRequests.{sent_for}
@@ -99,6 +102,10 @@ module _ (config : Config) (events : List Event) (turns : List Turn) (run : Reco
     holds_changes = changes_held config all run.server.rows;
     changes_owned = O.owned config all run.server.rows;
     local_right = local_right config all run.server.rows;
+    served_right = served_right config all run.server;
+    calls_taken = all_taken config.client_szx (client_of all) run.client.rows;
+    in_order = in_order (client_of all);
+    ends_reported = all_ends server_end config.client_szx config.client_word (client_of all) run.client;
     one_call = one_call config.client_szx (client_of all) run.client.rows;
     one_report = reported_once config.client_szx (client_of all) run.client.rows;
     all_given = all_given config.client_szx turns run.made run.client.rows;

@@ -1,3 +1,5 @@
+use Rattle.coap_world.proofs.Requests.ServedRight.{served_right}
+use Rattle.coap_world.specs.Record.{entries_of}
 use Rattle.coap_world.proofs.Reports.Promised.{came, applied_whole, at_most_once}
 use Rattle.coap_world.proofs.laws.requests_law.Goals as goal
 
@@ -9,3 +11,6 @@ returns-clause-whole c config events turns run legal = applied_whole config even
 
 pub returns-clause-once : goal.returns-clause-once
 returns-clause-once c config events turns run legal = at_most_once config events turns run legal
+
+pub returns-clause-served : goal.returns-clause-served
+returns-clause-served c config events turns run legal = served_right config (entries_of turns) run.server
