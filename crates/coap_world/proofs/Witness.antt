@@ -12,3 +12,4 @@ pub mod Timeout
 pub mod Stranger
 pub mod ComesTill
 pub mod NoneRuns
+pub mod Legal

@@ -34,7 +34,7 @@ from_server at to bytes = record { at = at; from = server_end; packet = record {
 pub record Runs (config : Config) (events : List Event) (given : List Given) : Type 0 where
   pub turns : List Turn
   pub made : RecordOf config events turns
-  pub legal : Legal turns
+  pub legal : Legal config turns
   pub gives : all_of given_in turns ≡ given
 
 -- 8 bytes, all 0: the first token of a client of word 0

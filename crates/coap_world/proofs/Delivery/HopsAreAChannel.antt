@@ -11,13 +11,13 @@ use Rattle.coap_ends.proofs.ClientReplies as client_replies
 use Rattle.coap_ends.proofs.ServerRepliesSo as server_replies
 use Rattle.coap_world.specs.Events.{client_end, server_end, Config, Event}
 use Rattle.coap_world.specs.Hops.{hops_of}
-use Rattle.coap_world.specs.Legal.{Legal}
+use Rattle.coap_world.specs.Legal.{AllLegal}
 use Rattle.coap_world.specs.Record.{Turn, RecordOf, entries_of, client_of, server_trace}
 use Rattle.coap_world.proofs.Delivery.GivenOutBefore.{all_fair}
 use Rattle.coap_world.proofs.Delivery.HopsAreEntries.{near_is, far_is}
 use Rattle.coap_world.proofs.Delivery.HopsAreFair.{Ran, ran}
 
-module _ (config : Config) (events : List Event) (turns : List Turn) (made : RecordOf config events turns) (legal : Legal turns) where
+module _ (config : Config) (events : List Event) (turns : List Turn) (made : RecordOf config events turns) (legal : AllLegal turns) where
   pub run : Ran config turns
   run =
       let below = made.client.exchanges in

@@ -24,7 +24,7 @@ use Rattle.coap_world.specs.Words.{ServesAt, SentFor}
 use Rattle.coap_world.specs.Agrees.{Agrees, AppliedWhole, AtMostOnce}
 use Rattle.coap_world.specs.CameFrom.{CameFrom, CamesFrom}
 use Rattle.coap_world.specs.Events.{client_end, server_end, Config, Event}
-use Rattle.coap_world.specs.Legal.{Legal}
+use Rattle.coap_world.specs.Legal.{AllLegal}
 use Rattle.coap_world.specs.Record.{Entry, Turn, RecordOf, client_of, entries_of, server_trace}
 use Rattle.coap_types.specs.Past.{Sometime, Always}
 use Rattle.coap_world.proofs.Requests.AtMostOnce as W
@@ -56,7 +56,7 @@ belongs_in config all (e ∷ past) part came = (
   belongs_in config all past (part_back config all past e part) came.1,
 )
 
-module _ (config : Config) (events : List Event) (turns : List Turn) (run : RecordOf config events turns) (legal : Legal turns) where
+module _ (config : Config) (events : List Event) (turns : List Turn) (run : RecordOf config events turns) (legal : AllLegal turns) where
   abbrev all : List Entry
   all = entries_of turns
 
