@@ -11,7 +11,7 @@ ghost use Rattle.coap_world.specs.Holds.{HoldsChanges, ChangesOwned};
 ghost use Rattle.coap_world.specs.Hops.{hops_of, across, TakenAtOnce};
 ghost use Rattle.coap_world.specs.Legal.{IsConfig, Legal};
 ghost use Rattle.coap_world.specs.LegalEvents.{NoneRuns, MayComeTill, NotAfter, never_given, NoneFrom, CallsMay, SetsMay, RemovesMay, TicksMay, StrangersMay, DeliveriesMay, NoneFalls, NoneOver, NoneLonger, NoneBeyond};
-ghost use Rattle.coap_world.specs.LegalRuns.{Pings, Gets, GetsLate, Posts, Fails, TimesOut, Interferes};
+ghost use Rattle.coap_world.specs.LegalRuns.{Pings, PingsClient, Gets, GetsLate, Posts, Fails, TimesOut, Interferes, Puts, Nons, Changes, Waits};
 ghost use Rattle.coap_world.specs.Local.{LocalRight};
 ghost use Rattle.coap_world.specs.Record.{Turn, RecordOf, entries_of, client_of, server_trace};
 ghost use Rattle.coap_world.specs.Serves.{AllServed};
@@ -73,6 +73,16 @@ pub fn witness_law()
     ensures times_out { TimesOut }
     // A stranger's DELETE, under the token of a call, is applied, and not for that call (RFC 7252, section 5.8.4).
     ensures interferes { Interferes }
+    // A stranger pings the client, which answers with a Reset (RFC 7252, section 4.3).
+    ensures pings_client { PingsClient }
+    // A PUT with a format makes what its path holds (RFC 7252, section 5.8.3).
+    ensures puts { Puts }
+    // A stranger's DELETE comes in a Non-confirmable message, and is answered in one (RFC 7252, section 5.2.3).
+    ensures nons { Nons }
+    // A local change meets want of memory and comes again at the same moment; then its path is removed.
+    ensures changes { Changes }
+    // Two calls, of which the second waits while the first has its exchange (RFC 7252, section 4.7).
+    ensures waits { Waits }
 {}
 
 /// Which events are legal.

@@ -19,7 +19,7 @@ use Rattle.coap_world.proofs.Witness.Ping.{elsewhere}
 use Rattle.coap_world.proofs.Witness.Stranger.Client as client
 use Rattle.coap_world.proofs.Witness.Stranger.Server as server
 
-range : IsRequest delete
+pub range : IsRequest delete
 range = record { path = path; accept = tt; format = tt; body = bytes_are [] refl }
 
 abbrev turns : List Turn
