@@ -4,6 +4,7 @@ use Rattle.std.specs.Prelude.{◌≡◌, ◌≢◌, ◌⊎◌, ◌≤◌, ◌<�
 use Rattle.coap_types.specs.Past.{Always}
 use Rattle.coap_types.specs.Path.{HoldsAtMost}
 use Rattle.coap_types.specs.declared.endpoint.Endpoint.{Endpoint}
+use Rattle.coap_types.specs.declared.transmission.TheConstants.{MAX_LATENCY_MS as max_latency}
 use Rattle.coap_codec.specs.Message.{AreBytes}
 use Rattle.coap_ends.specs.ClientTrace.{Request}
 use Rattle.coap_ends.specs.ServerTrace.{Delay}
@@ -11,9 +12,9 @@ use Rattle.coap_resource.specs.declared.tally.TheConstants.{MAX_CHANGES_PER_WIND
 use Rattle.coap_world.specs.Events.{client_end, server_end, Config, What, Calls, Sets, Removes, Deliver, StrangerToClient, StrangerToServer}
 use Rattle.coap_world.specs.Record.{Given, Turn, IsNumber}
 
--- a datagram is delivered at most so many milliseconds after it was given out (profile)
+-- a datagram is delivered at most MAX_LATENCY after it was given out
 abbrev pub max_delivery : ℕ
-max_delivery = 100000
+max_delivery = max_latency
 
 -- moments don't fall
 abbrev pub NotBefore : List Turn → ℕ → Type 0

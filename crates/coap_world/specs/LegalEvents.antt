@@ -28,7 +28,7 @@ abbrev pub Segments : List (List ℕ) → Type 0
 Segments path = (length path ≤ 16) × All (λ s. length s ≤ 255) path × All AreBytes path
 
 abbrev pub Is16 : Option ℕ → Type 0
-Is16 o = IfSome o (λ n. n < 65536)
+Is16 o = IfSome o (λ n. n < 2 ^ 16)
 
 abbrev pub CallsMay : Type 0
 CallsMay = (r : Request) → Segments r.path → Is16 r.accept → Is16 r.format → AreBytes r.body → May (Calls r)
@@ -44,7 +44,7 @@ TicksMay = May TickClient × May TickServer
 
 -- a stranger, at any address that is no end's
 abbrev pub StrangersMay : Type 0
-StrangersMay = (ip : List ℕ) (port : ℕ) (bytes : List ℕ) → length ip ≡ 4 → AreBytes ip → port < 65536 → AreBytes bytes
+StrangersMay = (ip : List ℕ) (port : ℕ) (bytes : List ℕ) → length ip ≡ 4 → AreBytes ip → port < 2 ^ 16 → AreBytes bytes
     → record { ip = ip; port = port } ≢ client_end → record { ip = ip; port = port } ≢ server_end
     → May (StrangerToServer (record { ip = ip; port = port }) bytes) × May (StrangerToClient (record { ip = ip; port = port }) bytes)
 
@@ -65,7 +65,7 @@ abbrev pub NoneLonger : Type 0
 NoneLonger = (path : List (List ℕ)) → 16 < length path → NoneRuns (event 0 (Removes path) ∷ [])
 
 abbrev pub NoneBeyond : Type 0
-NoneBeyond = (path : List (List ℕ)) (format : ℕ) (body : List ℕ) → 65536 ≤ format → NoneRuns (event 0 (Sets path (Some format) body) ∷ [])
+NoneBeyond = (path : List (List ℕ)) (format : ℕ) (body : List ℕ) → 2 ^ 16 ≤ format → NoneRuns (event 0 (Sets path (Some format) body) ∷ [])
 
 -- a datagram that was given out at 0 comes
 

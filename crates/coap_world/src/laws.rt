@@ -1,4 +1,5 @@
 ghost use Rattle.std.specs.Prelude.{◌≡◌, List};
+ghost use Rattle.coap_types.specs.declared.transmission.TheConstants.{MAX_LATENCY_MS as max_latency};
 ghost use Rattle.coap_layer.specs.Channel.{ChannelLaw, near_of, far_of};
 ghost use Rattle.coap_ends.specs.ClientLaw as clients;
 ghost use Rattle.coap_ends.specs.ServerLaw as servers;
@@ -88,8 +89,8 @@ pub fn witness_law()
 /// Which events are legal.
 pub fn legal_law()
     // A datagram may come to 100,000 ms after it was given out, and no later (MAX_LATENCY, RFC 7252, section 4.8.2).
-    ensures comes { MayComeTill 100000 }
-    ensures late { NotAfter 100000 }
+    ensures comes { MayComeTill max_latency }
+    ensures late { NotAfter max_latency }
     // Each kind of event may happen with numbers in range, at a moment that is not before the last: a call, a local change and
     // a removal, ticks, a datagram of any stranger, and each datagram that was given out to an end.
     ensures calls { CallsMay }
@@ -97,7 +98,7 @@ pub fn legal_law()
     ensures removes { RemovesMay }
     ensures ticks { TicksMay }
     ensures strangers { StrangersMay }
-    ensures deliveries { DeliveriesMay 100000 }
+    ensures deliveries { DeliveriesMay max_latency }
     // Moments don't fall; moments and words have 64 bits, a path has 16 segments at most, and a format has 16 bits.
     ensures falls { NoneFalls }
     ensures over { NoneOver }
