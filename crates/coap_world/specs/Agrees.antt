@@ -12,10 +12,11 @@ use Rattle.coap_ends.specs.ClientGives.{made, given}
 use Rattle.coap_ends.specs.ClientNumbering.{OneCall}
 use Rattle.coap_ends.specs.ClientQueue.{StartsInOrder, AllTaken}
 use Rattle.coap_ends.specs.ServerFollows.{Serving, is_applied}
+use Rattle.coap_ends.specs.ServerWaits.{ReadyAreServed}
 use Rattle.coap_world.specs.Events.{client_end, Config}
 use Rattle.coap_world.specs.Holds.{HoldsChanges, ChangesOwned}
 use Rattle.coap_world.specs.Local.{LocalRight}
-use Rattle.coap_world.specs.Record.{Entry, client_of}
+use Rattle.coap_world.specs.Record.{Entry, client_of, server_trace}
 use Rattle.coap_world.specs.Serves.{AllServed}
 use Rattle.coap_world.specs.Words.{ReportsAt, WasCalled, SentFor, ServesAt, AppliesFor, holds_at, last_at, changes_in}
 
@@ -91,6 +92,8 @@ module _ (config : Config) where
     pub local_right : LocalRight config all
     -- each request that is handed up is served, by the table of the methods, and applied where its preconditions hold
     pub served_right : AllServed config all
+    -- .. and one that waits is served when its delay has passed and it can be answered
+    pub ready_served : ReadyAreServed config.limit config.server_szx (server_trace config all)
     -- a call is refused exactly where it has to be, and calls start in their order
     pub calls_taken : AllTaken config.client_szx (client_of all)
     pub in_order : StartsInOrder (client_of all)

@@ -19,6 +19,7 @@ use Rattle.coap_ends.proofs.ClientNumbers.{one_sending}
 use Rattle.coap_ends.proofs.ClientOnce.{reported_once}
 use Rattle.coap_ends.proofs.ClientSent.{once_of, are_sent}
 use Rattle.coap_ends.proofs.ServerCounts as N
+use Rattle.coap_ends.proofs.ServerWaiting.{ready_are_served}
 use Rattle.coap_ends.proofs.ServerOnce.{served_once}
 use Rattle.coap_world.specs.Words.{ServesAt, SentFor}
 use Rattle.coap_world.specs.Agrees.{Agrees, AppliedWhole, AtMostOnce}
@@ -103,6 +104,7 @@ module _ (config : Config) (events : List Event) (turns : List Turn) (run : Reco
     changes_owned = O.owned config all run.server.rows;
     local_right = local_right config all run.server.rows;
     served_right = served_right config all run.server;
+    ready_served = ready_are_served config.limit config.server_szx (server_trace config all) run.server.rows run.server.exchanges.rows;
     calls_taken = all_taken config.client_szx (client_of all) run.client.rows;
     in_order = in_order (client_of all);
     ends_reported = all_ends server_end config.client_szx config.client_word (client_of all) run.client;
