@@ -7,7 +7,7 @@ use Rattle.clap.proofs.OnLiterals.{clap_on_literals}
 use Rattle.clap.specs.Words.{App, HasMatchesOf, Row, Text, fault_of, is_simple, is_simple_and_free, subcommand_name_of, subcommand_of, subcommand_rows_of}
 use Rattle.clap.specs.declared.parser.matches.ArgMatches.{ArgMatches}
 use Rattle.coap.specs.CommandLine.{coap_app}
-use Rattle.coap.specs.Words.{Enters, IsGiven, IsWrong, IsWrongIn, Says, SaysIn}
+use Rattle.coap.specs.Words.{Enters, IsGiven, IsWrong, IsWrongIn, AsksFor, AsksForIn}
 use Rattle.coap.specs.declared.orders.Order.{Order}
 use Rattle.coap.specs.declared.orders.Wrong.{Wrong}
 use Rattle.coap.specs.declared.orders.Wrong.TheVariants.{Words, Path, Hex, Memory}
@@ -94,7 +94,7 @@ ours words name rows e =
 
 -- ---- what a subcommand answers
 
-pub said_by : (words : List Text) (name : Text) (rows : List Row) (r : Result Order Wrong) → Enters words name rows → MatchResult r (SaysIn name rows) (IsWrongIn name rows) → IfOk r (Says words)
+pub said_by : (words : List Text) (name : Text) (rows : List Row) (r : Result Order Wrong) → Enters words name rows → MatchResult r (AsksForIn name rows) (IsWrongIn name rows) → IfOk r (AsksFor words)
 said_by words name rows (Ok o) e h = (name, rows, e, h)
 said_by words name rows (Err w) e h = tt
 
@@ -104,6 +104,6 @@ wrong_in words name rows (Path refusal) e h = (rows, subst (λ n. Enters words n
 wrong_in words name rows Hex e h = (name, rows, e, h.0, h.1)
 wrong_in words name rows Memory e h = tt
 
-pub wrong_by : (words : List Text) (name : Text) (rows : List Row) (r : Result Order Wrong) → Enters words name rows → MatchResult r (SaysIn name rows) (IsWrongIn name rows) → IfErr r (IsWrong words)
+pub wrong_by : (words : List Text) (name : Text) (rows : List Row) (r : Result Order Wrong) → Enters words name rows → MatchResult r (AsksForIn name rows) (IsWrongIn name rows) → IfErr r (IsWrong words)
 wrong_by words name rows (Ok o) e h = tt
 wrong_by words name rows (Err w) e h = wrong_in words name rows w e h

@@ -6,3 +6,4 @@ pub mod FilledRows
 pub mod GivenWords
 pub mod PathTexts
 pub mod ReplyLemmas
+pub mod Statuses

@@ -6,7 +6,7 @@ use Rattle.coap_codec.specs.Message.{Message}
 use Rattle.coap_codec.specs.Refused.{HasNoSpelling, is_short}
 use Rattle.coap_types.specs.declared.message.Kind.{Kind}
 use Rattle.coap_types.specs.declared.message.Kind.TheVariants.{Con, Non, Ack, Rst}
-use Rattle.coap_resource.specs.ResponseOptions.{option_with}
+use Rattle.coap_types.specs.OptionValues.{option_with}
 use Rattle.coap.specs.FirstReply.{IsSpelled, response_id, response_to}
 use Rattle.coap.specs.Sayable.{AreSayable}
 

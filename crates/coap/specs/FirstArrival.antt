@@ -3,12 +3,14 @@
 use Rattle.std.specs.Prelude.{◌≡◌, ℕ, List, [], Option, Some, None}
 use Rattle.coap_types.specs.Roles.{role_of}
 use Rattle.coap_types.specs.declared.message.Id.{Id}
+use Rattle.coap_types.specs.declared.message.TheConstants.Code as codes
 use Rattle.coap_types.specs.declared.message.Kind.{Kind}
 use Rattle.coap_types.specs.declared.message.Kind.TheVariants.{Con, Non, Ack, Rst}
 use Rattle.coap_types.specs.declared.role.Role.{Role}
 use Rattle.coap_types.specs.declared.role.Role.TheVariants.{Empty, Request, Response, Reserved}
 use Rattle.coap_codec.specs.Faulty.{Faulty, head_of}
-use Rattle.coap_codec.specs.Message.{AreBytes, Message, Spells}
+use Rattle.coap_types.specs.Bytes.{AreBytes}
+use Rattle.coap_codec.specs.Message.{Message, Spells}
 use Rattle.coap_codec.specs.declared.fault.Reason.{Reason}
 use Rattle.coap.specs.declared.arrival.Arrival.{Arrival}
 use Rattle.coap.specs.declared.arrival.Arrival.TheVariants.{Ignored, Rejected, HandedUp}
@@ -45,4 +47,4 @@ OneArrival = (datagram : List ℕ) (a b : Arrival) → AreBytes datagram → Fir
 
 -- a Reset, with the Message ID of what it rejects (section 4.2)
 abbrev pub reset : Id → Message
-reset id = record { kind = Rst; code = 0; id = id.0; token = []; options = []; payload = [] }
+reset id = record { kind = Rst; code = codes.EMPTY.0; id = id.0; token = []; options = []; payload = [] }

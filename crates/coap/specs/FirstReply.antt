@@ -5,6 +5,8 @@ use Rattle.coap_types.specs.Recognised.{Recognised}
 use Rattle.coap_types.specs.Roles.{role_of}
 use Rattle.coap_types.specs.declared.direction.Direction.TheVariants as direction
 use Rattle.coap_types.specs.declared.message.Code.{Code}
+use Rattle.coap_types.specs.declared.option_number.TheConstants as numbers
+use Rattle.coap_types.specs.declared.szx.TheConstants.{MAX_SZX as max_szx}
 use Rattle.coap_types.specs.declared.message.Id.{Id}
 use Rattle.coap_types.specs.declared.message.Kind.{Kind}
 use Rattle.coap_types.specs.declared.message.Kind.TheVariants.{Con, Non, Ack}
@@ -12,10 +14,11 @@ use Rattle.coap_types.specs.declared.request.Method.{Method}
 use Rattle.coap_types.specs.declared.role.Role.TheVariants.{Request}
 use Rattle.coap_codec.specs.Message.{Message, Spells}
 use Rattle.coap_resource.specs.Content.{Content}
-use Rattle.coap_resource.specs.RequestOptions.{has}
+use Rattle.coap_types.specs.OptionValues.{has}
 use Rattle.coap_resource.specs.ResponseOptions.{Says}
 use Rattle.coap_resource.specs.Serves.{Question, Reply, Serves}
-use Rattle.coap.specs.Checks.{checked, path_of}
+use Rattle.coap.specs.Checks.{checked}
+use Rattle.coap_types.specs.RequestPath.{path_of}
 use Rattle.coap.specs.FirstArrival.{FirstArrival, reset}
 use Rattle.coap.specs.declared.arrival.Arrival.TheVariants.{Ignored, Rejected, HandedUp}
 
@@ -41,14 +44,14 @@ response_to request code options payload = record {
   payload = payload;
 }
 
--- a request as the store is asked it: its recognised options, and blocks of at most 1,024 bytes (size exponent 6)
+-- a request as the store is asked it: its recognised options, and blocks of the largest size
 abbrev pub question : Message → List CoapOption → Method → Question
 question request options method =
-    record { method = method; path = path_of options; options = options; body = request.payload; szx = 6 }
+    record { method = method; path = path_of options; options = options; body = request.payload; szx = max_szx }
 
--- neither Observe (6) nor Block1 (27) is among the options
+-- neither Observe nor Block1 is among the options
 abbrev pub is_plain : List CoapOption → Bool
-is_plain options = not (has 6 options || has 27 options)
+is_plain options = not (has numbers.OBSERVE options || has numbers.BLOCK1 options)
 
 -- the request is one that is served: neither of them is recognised in it
 pub record IsServed (request : Message) : Type 0 where

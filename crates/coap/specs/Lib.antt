@@ -4,5 +4,6 @@ pub mod FirstArrival
 pub mod FirstReply
 pub mod PathText
 pub mod Sayable
+pub mod Statuses
 pub mod Words
 pub mod Wrongs

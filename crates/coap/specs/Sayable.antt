@@ -2,6 +2,8 @@
 use Rattle.std.specs.Prelude.{◌≡◌, ◌≤◌, true, List, [], ◌∷◌, length}
 use Rattle.std.specs.List.{list_all}
 use Rattle.coap_types.specs.CoapOption.{CoapOption}
+use Rattle.coap_types.specs.declared.path.TheConstants.{MAX_SEGMENT_LEN as max_segment_len}
+use Rattle.coap_types.specs.declared.option_number.TheConstants.{URI_PATH as uri_path}
 use Rattle.coap_codec.specs.BoundedSpelling.{is_numbered, most_bytes}
 use Rattle.coap_codec.specs.Refused.{ascends, is_short}
 
@@ -14,4 +16,4 @@ pub record AreSayable (options : List CoapOption) : Type 0 where
 -- each segment of the path that options ask for has at most 255 bytes
 abbrev pub AreSegments : List CoapOption → Type 0
 AreSegments [] = Unit {0}
-AreSegments (o ∷ os) = (o.number ≡ 11 → length o.value ≤ 255) × AreSegments os
+AreSegments (o ∷ os) = (o.number ≡ uri_path → length o.value ≤ max_segment_len) × AreSegments os

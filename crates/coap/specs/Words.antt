@@ -4,6 +4,7 @@ use Rattle.clap.specs.Words.{IsAmong, Row, Text, fault_of, first_of, kind_of, su
 use Rattle.clap.specs.declared.error.Error.{Error}
 use Rattle.coap_types.specs.Path.{HoldsAtMost}
 use Rattle.coap_types.specs.declared.path.PathRefusal.{PathRefusal}
+use Rattle.coap_types.specs.declared.path.TheConstants.{MAX_SEGMENT_LEN as max_segment_len, MAX_SEGMENTS as max_segments}
 use Rattle.hex.specs.Hex.{decode_of}
 use Rattle.coap.specs.CommandLine.{coap_app}
 use Rattle.coap.specs.PathText.{IsNoPath, IsPathText, IsTrueOf}
@@ -42,19 +43,19 @@ abbrev pub HasNoBytes : List Row → Type 0
 HasNoBytes values = (text : Text) × IsValue (codes "HEX") values text × ((bytes : List ℕ) → decode_of text ≢ Ok bytes)
 
 -- the subcommand with these values says this order
-abbrev pub SaysIn : Text → List Row → Order → Type 0
-SaysIn subcommand values (Show datagram) = (subcommand ≡ codes "show") × HasBytes values datagram.items
-SaysIn subcommand values (Answer path body datagram) =
-    (subcommand ≡ codes "answer") × HasPath values path × IsValue (codes "BODY") values body.now × HasBytes values datagram.items
+abbrev pub AsksForIn : Text → List Row → Order → Type 0
+AsksForIn subcommand values (Show datagram) = (subcommand ≡ codes "show") × HasBytes values datagram.items
+AsksForIn subcommand values (Answer path body datagram) =
+    (subcommand ≡ codes "answer") × HasPath values path × HoldsAtMost max_segments max_segment_len path × IsValue (codes "BODY") values body.now × HasBytes values datagram.items
 
 -- the words say this order
-abbrev pub Says : List Text → Order → Type 0
-Says words order = (subcommand : Text) × (values : List Row) × Enters words subcommand values × SaysIn subcommand values order
+abbrev pub AsksFor : List Text → Order → Type 0
+AsksFor words order = (subcommand : Text) × (values : List Row) × Enters words subcommand values × AsksForIn subcommand values order
 
 -- the subcommand takes no PATH, or its PATH is a text of a path
 abbrev pub IsPathFine : Text → List Row → Type 0
 IsPathFine subcommand values = (subcommand ≡ codes "show")
-    ⊎ ((subcommand ≡ codes "answer") × (segments : List (List ℕ)) × HasPath values segments × HoldsAtMost 16 255 segments)
+    ⊎ ((subcommand ≡ codes "answer") × (segments : List (List ℕ)) × HasPath values segments × HoldsAtMost max_segments max_segment_len segments)
 
 -- clap refuses the words, and the error is of a kind that they call for
 abbrev pub IsRefusedBy : Error → List Text → Type 0

@@ -1,5 +1,5 @@
--- What an error of a crate below is among those of this one: want of memory stays that.
-use Rattle.std.specs.Prelude.{◌≡◌, ◌≢◌}
+-- What an error of a crate below is among those of this one, and the numbers of these.
+use Rattle.std.specs.Prelude.{◌≡◌, ◌≢◌, ℕ}
 use Rattle.clap.specs.Words.{kind_of}
 use Rattle.clap.specs.declared.error.Error.{Error}
 use Rattle.clap.specs.declared.error.kind.ErrorKind.TheVariants as kind
@@ -10,7 +10,14 @@ use Rattle.hex.specs.declared.FromHexError.TheVariants as hex
 use Rattle.coap.specs.declared.orders.Wrong.{Wrong}
 use Rattle.coap.specs.declared.orders.Wrong.TheVariants.{Words, Path, Hex, Memory}
 
--- an error of clap is handed on as it is
+-- the number of a refusal: that of the words has two texts
+abbrev pub wrong_number : Wrong → ℕ
+wrong_number (Words error) = 1
+wrong_number (Path refusal) = 1
+wrong_number Hex = 2
+wrong_number Memory = 3
+
+-- an error of clap is handed on as it is, but for want of memory, which stays that
 abbrev pub IsWrongOfClap : Error → Wrong → Type 0
 IsWrongOfClap error (Words own) = (own ≡ error) × (kind_of error ≢ kind.OutOfMemory)
 IsWrongOfClap error Memory = kind_of error ≡ kind.OutOfMemory

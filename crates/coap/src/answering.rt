@@ -7,7 +7,7 @@ ghost use Rattle.coap_types.specs.Roles.{role_of};
 ghost use Rattle.coap_codec.specs.Message.{Message, Spells};
 ghost use Rattle.coap_resource.specs.ResponseOptions.{Says};
 ghost use Rattle.coap_resource.specs.Serves.{Reply, Serves};
-ghost use Rattle.coap.specs.Checks.{path_of};
+ghost use Rattle.coap_types.specs.RequestPath.{path_of};
 ghost use Rattle.coap.specs.FirstReply.{Answers, IsSent, IsServed, IsSpelled, is_ignored, question, response_to};
 ghost use Rattle.coap.specs.Sayable.{AreSegments};
 ghost use Rattle.coap.specs.declared.reply.Unanswered.TheVariants.{Memory, NotYet};
@@ -17,23 +17,22 @@ use crate::reply::Unanswered;
 use crate::reply_put::{put_reply, put_response};
 use coap_codec::View;
 use coap_resource::{Asking, Store, serve};
-use coap_types::{Direction, Kind, Method, Moment, Opt, Role, Szx, recognised};
+use coap_types::limits::MAX_MESSAGE_LEN;
+use coap_types::{
+    Direction, Kind, MAX_SEGMENTS, MAX_SZX, Method, Moment, Opt, Role, Szx, recognised,
+};
 use std::alloc::{AllocError, Allocator};
-
-/// The size exponent of the largest blocks that the server sends, of 1,024 bytes (RFC 7959,
-/// section 2.2).
-const SERVER_SZX: u8 = 6;
 
 /// The moment of a first arrival.
 const FIRST_MOMENT: Moment = Moment(0);
 
-const _: () = prove!(SERVER_SZX == 6 && FIRST_MOMENT.0 == 0);
+const _: () = prove!(FIRST_MOMENT.0 == 0);
 
-// The size of the server's blocks.
+// The size of the server's blocks: the largest (RFC 7959, section 2.2).
 fn server_szx() -> Szx
-    ensures { result ≡ 6 }
+    ensures { result ≡ MAX_SZX }
 {
-    match Szx::new(SERVER_SZX) {
+    match Szx::new(MAX_SZX) {
         Some(szx) => szx,
         None => unreachable!(),
     }
@@ -49,9 +48,9 @@ fn serve_request<A: Allocator + Copy, S: Store<A>>(
     out: &mut [u8],
 ) -> Result<usize, AllocError>
     requires request { IsSpelled request.now }
-    requires few { length (path_of (options_of options.now)) ≤ 16 }
+    requires few { length (path_of (options_of options.now)) ≤ MAX_SEGMENTS }
     requires short { AreSegments (options_of options.now) }
-    requires room { 1152 ≤ length out.old }
+    requires room { MAX_MESSAGE_LEN ≤ length out.old }
     ensures fits { IfOk result (λ len. len ≤ length out.old) }
     ensures served { IfOk result (λ len. (reply : Reply) × (said : List CoapOption)
         × Serves (S.content store.old) 0 (question request.now (options_of options.now) method) reply (S.content store.new)
@@ -93,7 +92,7 @@ fn answer_by<A: Allocator + Copy, S: Store<A>>(
 ) -> Result<Option<usize>, AllocError>
     requires request { IsSpelled request.now }
     requires options { Recognised Direction.Request request.now.options (options_of options.now) bad }
-    requires room { 1152 ≤ length out.old }
+    requires room { MAX_MESSAGE_LEN ≤ length out.old }
     ensures answered { IfOk result (λ len. (sent : Option Message)
         × Answers (S.content store.old) request.now sent (S.content store.new) × IsSent sent len out.new) }
     ensures fits { IfOk result (λ sent. IfSome sent (λ len. len ≤ length out.old)) }
@@ -123,15 +122,15 @@ fn recognise<'a, A: Allocator + Copy>(
     recognised(alloc, Direction::Request, request.options())
 }
 
-/// Answers what is handed up.
-pub(crate) fn answer<A: Allocator + Copy, S: Store<A>>(
+/// Replies to what is handed up.
+pub(crate) fn reply_to<A: Allocator + Copy, S: Store<A>>(
     alloc: A,
     store: &mut S,
     request: &View<'_>,
     out: &mut [u8],
 ) -> Result<Option<usize>, Unanswered>
     requires request { IsSpelled request.now }
-    requires room { 1152 ≤ length out.old }
+    requires room { MAX_MESSAGE_LEN ≤ length out.old }
     ensures answered { IfOk result (λ len. IsServed request.now × (sent : Option Message)
         × Answers (S.content store.old) request.now sent (S.content store.new) × IsSent sent len out.new) }
     ensures fits { IfOk result (λ sent. IfSome sent (λ len. len ≤ length out.old)) }

@@ -1,12 +1,14 @@
 //! What is asked of a request before its resource is looked at.
 ghost use Rattle.std.specs.Prelude.{◌≡◌, ◌<◌, ◌≤◌, ◌++◌, ◌∷◌, [], IfOk, OnOk, length, map, option_copied};
 ghost use Rattle.coap_types.specs.CoapOption.{options_of};
-ghost use Rattle.coap_resource.specs.RequestOptions.{has, uint_option, value_of};
-ghost use Rattle.coap.specs.Checks.{checked, checked_method, is_reserved, method_of, path_of};
+ghost use Rattle.coap_types.specs.OptionValues.{has, uint_at};
+ghost use Rattle.coap.specs.Checks.{checked, checked_method, is_reserved};
+ghost use Rattle.coap_types.specs.MethodCode.{method_of};
+ghost use Rattle.coap_types.specs.RequestPath.{path_of};
 ghost use Rattle.coap.specs.FirstReply.{is_plain};
 ghost use Rattle.coap.specs.Sayable.{AreSegments};
 
-use coap_resource::value_of;
+use coap_resource::{has, value_of};
 use coap_types::option_number::{BLOCK1, BLOCK2, OBSERVE, PROXY_SCHEME, PROXY_URI, URI_PATH};
 use coap_types::{Code, MAX_SEGMENTS, Method, Opt, Path, PathRefusal, uint_of};
 use std::alloc::{AllocError, Allocator};
@@ -18,31 +20,11 @@ const RESERVED_EXPONENT: u32 = 7;
 
 const _: () = prove!(SIZE_EXPONENTS == 8 && RESERVED_EXPONENT == 7);
 
-// Whether there is an option of this number.
-fn has(options: &[Opt<'_>], number: u16) -> bool
-    ensures { result ≡ has number (options_of options.now) }
-{
-    value_of(options, number).is_some()
-}
-
 /// Whether neither Observe nor Block1 is among the options.
 pub(crate) fn is_plain(options: &[Opt<'_>]) -> bool
     ensures { result ≡ is_plain (options_of options.now) }
 {
     !(has(options, OBSERVE) || has(options, BLOCK1))
-}
-
-// The method of a request's code.
-fn method_of(code: Code) -> Option<Method>
-    ensures { result ≡ method_of code.0 }
-{
-    match code {
-        Code::GET => Some(Method::Get),
-        Code::POST => Some(Method::Post),
-        Code::PUT => Some(Method::Put),
-        Code::DELETE => Some(Method::Delete),
-        _ => None,
-    }
 }
 
 // How many segments the path has that the options ask for.
@@ -60,7 +42,7 @@ fn segment_count(options: &[Opt<'_>]) -> usize
 
 // Whether Block2 has the reserved size.
 fn has_reserved_size(options: &[Opt<'_>]) -> bool
-    ensures { result ≡ is_reserved (uint_option (value_of 23 (options_of options.now))) }
+    ensures { result ≡ is_reserved (uint_at BLOCK2 (options_of options.now)) }
 {
     let Some(value) = value_of(options, BLOCK2) else {
         return false;
@@ -95,20 +77,7 @@ pub(crate) fn check(code: Code, options: &[Opt<'_>], bad: bool) -> Result<Method
     if has(options, PROXY_URI) || has(options, PROXY_SCHEME) {
         return Err(Code::PROXYING_NOT_SUPPORTED);
     }
-    check_method(method_of(code), options)
-}
-
-// Adds a segment to a path that has room for it.
-fn push_segment<A: Allocator + Copy>(path: &mut Path<A>, segment: &[u8]) -> Result<(), AllocError>
-    requires few { length path.old < 16 }
-    requires short { length segment.now ≤ 255 }
-    ensures { OnOk result (path.new ≡ path.old ++ segment.now ∷ []) }
-{
-    match path.push(segment) {
-        Ok(()) => Ok(()),
-        Err(PathRefusal::Memory) => Err(AllocError),
-        Err(PathRefusal::SegmentTooLong | PathRefusal::TooManySegments) => unreachable!(),
-    }
+    check_method(Method::of(code), options)
 }
 
 /// The path that the options ask for.
@@ -116,15 +85,14 @@ pub(crate) fn asked_path<A: Allocator + Copy>(
     alloc: A,
     options: &[Opt<'_>],
 ) -> Result<Path<A>, AllocError>
-    requires few { length (path_of (options_of options.now)) ≤ 16 }
+    requires few { length (path_of (options_of options.now)) ≤ MAX_SEGMENTS }
     requires short { AreSegments (options_of options.now) }
     ensures { IfOk result (λ path. path ≡ path_of (options_of options.now)) }
 {
-    let mut path = Path::new(alloc);
-    for option in options {
-        if option.number == URI_PATH {
-            push_segment(&mut path, option.value)?;
-        }
+    match Path::of_options(alloc, options) {
+        Ok(path) => Ok(path),
+        Err(PathRefusal::Memory) => Err(AllocError),
+        Err(PathRefusal::SegmentTooLong) => unreachable!(),
+        Err(PathRefusal::TooManySegments) => unreachable!(),
     }
-    Ok(path)
 }

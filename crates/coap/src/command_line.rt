@@ -7,18 +7,20 @@ ghost use Rattle.coap.specs.CommandLine.{answer_app, coap_app, required_word, sh
 use clap::{Arg, ArgAction, Command};
 use std::alloc::{AllocError, Global};
 
-fn positional<'a>(alloc: Global, name: &'a str) -> Arg<'a>
+fn positional<'a>(alloc: Global, name: &'a str, help: &'a str) -> Arg<'a>
     ensures rule { rule_of result ≡ required_word name.entry.now }
     ensures own { result.global ≡ false }
 {
-    Arg::new(alloc, name).required(true).action(ArgAction::Set)
+    Arg::new(alloc, name).help(help).required(true).action(ArgAction::Set)
 }
 
 fn show_command<'a>(alloc: Global) -> Result<Command<'a>, AllocError>
     ensures app { IfOk result (λ c. app_of c ≡ show_app) }
     ensures own { IfOk result (λ c. (out-Command c).has_globals ≡ false) }
 {
-    Command::new(alloc, "show").arg(positional(alloc, "HEX"))
+    Command::new(alloc, "show")
+        .about("Prints the message in a datagram, or its first fault")
+        .arg(positional(alloc, "HEX", "the bytes of a datagram, as 40010001"))
 }
 
 fn answer_command<'a>(alloc: Global) -> Result<Command<'a>, AllocError>
@@ -26,9 +28,10 @@ fn answer_command<'a>(alloc: Global) -> Result<Command<'a>, AllocError>
     ensures own { IfOk result (λ c. (out-Command c).has_globals ≡ false) }
 {
     Command::new(alloc, "answer")
-        .arg(positional(alloc, "PATH"))?
-        .arg(positional(alloc, "BODY"))?
-        .arg(positional(alloc, "HEX"))
+        .about("Prints what a server that holds BODY at PATH replies to a datagram")
+        .arg(positional(alloc, "PATH", "segments joined by /, as sensors/temperature"))?
+        .arg(positional(alloc, "BODY", "what the server holds there, as text"))?
+        .arg(positional(alloc, "HEX", "the bytes of a datagram, as 40010001"))
 }
 
 /// The command line that the program takes: its words name a subcommand.

@@ -1,4 +1,11 @@
 //! One run of the program, over the writers that it is handed.
+ghost use Rattle.std.specs.Prelude.{◌≡◌, ◌≢◌, ◌≤◌, ◌⊎◌, IfOk, map, string_bytes};
+ghost use Rattle.coap.specs.Statuses.{Ends, IsAnswered, IsCarriedOut, IsTold, status_number, status_of};
+ghost use Rattle.coap.specs.Words.{AsksFor, IsWrong};
+ghost use Rattle.coap.specs.declared.commands.Stop.TheVariants.{Memory, Output};
+ghost use Rattle.coap.specs.declared.orders.Order.{Order};
+ghost use Rattle.coap.specs.declared.orders.Wrong.{Wrong};
+ghost use Rattle.coap.specs.declared.orders.Wrong.TheVariants as wrongs;
 
 mod answer;
 mod show;
@@ -35,19 +42,41 @@ pub enum Stop {
     Memory,
 }
 
+impl Status {
+    // The exit status as a number.
+    fn number(self) -> u8
+        ensures { result ≡ status_number self }
+    {
+        match self {
+            Status::Done => 0,
+            Status::Refused => 1,
+            Status::Words => 2,
+            Status::Failed => 3,
+            Status::Memory => 4,
+        }
+    }
+}
+
 impl From<io::Error> for Stop {
+    ghost from_gives = { λ _ stop. stop ≡ Output };
+
     fn from(_error: io::Error) -> Stop {
         Stop::Output
     }
 }
 
 impl From<AllocError> for Stop {
+    ghost from_gives = { λ _ stop. stop ≡ Memory };
+
     fn from(_error: AllocError) -> Stop {
         Stop::Memory
     }
 }
 
-fn perform<W: Write>(alloc: Global, order: &Order<'_>, out: &mut W) -> Result<Status, Stop> {
+// Carries an order out.
+fn perform<W: Write>(alloc: Global, order: &Order<'_>, out: &mut W) -> Result<Status, Stop>
+    ensures { IfOk result IsCarriedOut }
+{
     match order {
         Order::Show { datagram } => show(alloc, datagram.as_slice(), out),
         Order::Answer {
@@ -58,8 +87,10 @@ fn perform<W: Write>(alloc: Global, order: &Order<'_>, out: &mut W) -> Result<St
     }
 }
 
-/// Says why the words give no order.
-fn refuse<O: Write, E: Write>(wrong: Wrong, out: &mut O, err: &mut E) -> Result<Status, Stop> {
+// Says why the words give no order.
+fn refuse<O: Write, E: Write>(wrong: Wrong, out: &mut O, err: &mut E) -> Result<Status, Stop>
+    ensures { IsTold wrong result }
+{
     match wrong {
         Wrong::Memory => Err(Stop::Memory),
         Wrong::Hex => {
@@ -73,20 +104,26 @@ fn refuse<O: Write, E: Write>(wrong: Wrong, out: &mut O, err: &mut E) -> Result<
     }
 }
 
-/// Runs the words of one run, the program's own name first, and answers the exit status. What a
-/// subcommand prints goes to `out`; help, usage, `failed` and `no memory` go to `err`.
-pub fn command<R: AllocGlobal, O: Write, E: Write>(
-    rt: &R,
+// Runs the words.
+fn run<O: Write, E: Write>(
+    alloc: Global,
     words: &[String],
     out: &mut O,
     err: &mut E,
-) -> u8 {
-    let alloc = rt.alloc();
-    let ended = match order(alloc, words) {
+) -> Result<Status, Stop>
+    ensures { Ends (map string_bytes words.now) result }
+{
+    match order(alloc, words) {
         Ok(order) => perform(alloc, &order, out),
         Err(wrong) => refuse(wrong, out, err),
-    };
-    let status = match ended {
+    }
+}
+
+// Says why a run stopped, where it did.
+fn close<E: Write>(ended: Result<Status, Stop>, err: &mut E) -> Status
+    ensures { result ≡ status_of ended }
+{
+    match ended {
         Ok(status) => status,
         Err(Stop::Output) => {
             let _ = writeln!(err, "failed");
@@ -96,12 +133,33 @@ pub fn command<R: AllocGlobal, O: Write, E: Write>(
             let _ = writeln!(err, "no memory");
             Status::Memory
         }
-    };
-    status as u8
+    }
+}
+
+/// Runs the words of one run, the program's own name first, and answers the exit status. What a
+/// subcommand prints goes to `out`; help, usage, `failed` and `no memory` go to `err`.
+pub fn command<R: AllocGlobal, O: Write, E: Write>(
+    rt: &R,
+    words: &[String],
+    out: &mut O,
+    err: &mut E,
+) -> u8
+    ensures most { result ≤ 4 }
+    // What is wrong in the words is answered with 2, unless that can't be told ..
+    ensures wrong { (wrong : Wrong) → IsWrong (map string_bytes words.now) wrong → IsAnswered wrong result }
+    // .. and nothing else is.
+    ensures words { result ≡ 2 → (wrong : Wrong) × IsWrong (map string_bytes words.now) wrong × (wrong ≢ wrongs.Memory) }
+    // An order is carried out only where the words ask for it.
+    ensures done { result ≤ 1 → (order : Order) × AsksFor (map string_bytes words.now) order }
+{
+    let ended = run(rt.alloc(), words, out, err);
+    close(ended, err).number()
 }
 
 /// Says why the words of the command line can't be read, and answers the exit status.
-pub fn without_words<E: Write>(error: &io::Error, err: &mut E) -> u8 {
+pub fn without_words<E: Write>(error: &io::Error, err: &mut E) -> u8
+    ensures { (result ≡ 2) ⊎ (result ≡ 4) }
+{
     let status = if error.kind() == ErrorKind::OutOfMemory {
         let _ = writeln!(err, "no memory");
         Status::Memory
@@ -109,7 +167,7 @@ pub fn without_words<E: Write>(error: &io::Error, err: &mut E) -> u8 {
         let _ = writeln!(err, "an argument is no UTF-8 text");
         Status::Words
     };
-    status as u8
+    status.number()
 }
 
 #[cfg(test)]

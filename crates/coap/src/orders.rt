@@ -1,5 +1,6 @@
 //! What the words of the program can ask for, and what can be wrong with them.
 ghost use Rattle.std.specs.Prelude.{◌≡◌};
+ghost use Rattle.coap.specs.Wrongs.{wrong_number};
 
 use clap::error::ErrorKind;
 use coap_types::{Path, PathRefusal};
@@ -27,7 +28,7 @@ pub enum Order<'a> {
 }
 
 /// Why the words give no order. `Words` and `Path` are one refusal, that of wrong words, with a text
-/// of its own for each.
+/// of its own for each. The refusals are tested in the order of their numbers.
 #[derive(Debug, Drop, Error)]
 pub enum Wrong {
     /// The words are no command line of the program, or ask for help.
@@ -42,6 +43,19 @@ pub enum Wrong {
     /// An allocation was refused.
     #[error("no memory")]
     Memory,
+}
+
+impl Wrong {
+    /// The number of the refusal: 1 for wrong words, 2 for wrong hex, 3 for want of memory.
+    pub fn number(&self) -> u8
+        ensures { result ≡ wrong_number self.now }
+    {
+        match self {
+            Wrong::Words(_) | Wrong::Path(_) => 1,
+            Wrong::Hex => 2,
+            Wrong::Memory => 3,
+        }
+    }
 }
 
 impl From<AllocError> for Wrong {

@@ -3,14 +3,14 @@ ghost use Rattle.std.specs.Prelude.{◌≡◌, ◌⊎◌, ℕ, List, IfOk, IfErr
 ghost use Rattle.coap_types.specs.Path.{HoldsAtMost};
 ghost use Rattle.coap.specs.PathText.{IsNoPath, IsPathText, IsTrueOf};
 
-use coap_types::{Path, PathRefusal};
+use coap_types::{MAX_SEGMENT_LEN, MAX_SEGMENTS, Path, PathRefusal};
 use std::alloc::Global;
 
 /// The path that a text says: its segments are joined by `/`, and one leading `/` is dropped. The
 /// empty text and `/` alone are the path without segments.
-pub fn path_of(alloc: Global, text: &str) -> Result<Path, PathRefusal>
+pub fn path_of_text(alloc: Global, text: &str) -> Result<Path, PathRefusal>
     // The path is what the text says, and the text says no other.
-    ensures ok { IfOk result (λ p. IsPathText text.now p × HoldsAtMost 16 255 p) }
+    ensures ok { IfOk result (λ p. IsPathText text.now p × HoldsAtMost MAX_SEGMENTS MAX_SEGMENT_LEN p) }
     ensures only { IfOk result (λ p. (segments : List (List ℕ)) → IsPathText text.now segments
         → segments ≡ p) }
     // A text is refused only where what it says is no path, and for the reason that is given; or

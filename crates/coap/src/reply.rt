@@ -6,18 +6,14 @@ ghost use Rattle.coap.specs.FirstArrival.{FirstArrival};
 ghost use Rattle.coap.specs.FirstReply.{FirstReply, IsSent, IsServed};
 ghost use Rattle.coap.specs.declared.reply.Unanswered.TheVariants.{Memory, NotYet};
 
-use crate::answering::answer;
+use crate::answering::reply_to;
 use crate::arrival::{Arrival, first_arrival};
 use crate::reply_put::put_reset;
 use coap_resource::Store;
 use coap_types::Role;
+use coap_types::limits::MAX_MESSAGE_LEN;
 use std::alloc::{AllocError, Allocator};
 use thiserror::Error;
-
-/// The most bytes of a message that an end sends (RFC 7252, section 4.6).
-pub const MAX_MESSAGE_LEN: usize = 1_152;
-
-const _: () = prove!(MAX_MESSAGE_LEN == 1_152);
 
 /// Why a datagram has no reply, not even silence.
 #[derive(Clone, Copy, Debug, PartialEq, Eq, Error)]
@@ -67,6 +63,6 @@ pub fn first_reply<A: Allocator + Copy, S: Store<A>>(
     match first_arrival(bytes) {
         Arrival::Ignored => Ok(None),
         Arrival::Rejected(id) => Ok(Some(put_reset(id, out))),
-        Arrival::HandedUp(request) => answer(alloc, store, &request, out),
+        Arrival::HandedUp(request) => reply_to(alloc, store, &request, out),
     }
 }

@@ -1,7 +1,7 @@
 //! The options of a response.
 ghost use Rattle.std.specs.Prelude.{◌≡◌, ◌<◌, ◌++◌, [], length, option_copied};
 ghost use Rattle.coap_types.specs.CoapOption.{options_of};
-ghost use Rattle.coap_resource.specs.ResponseOptions.{option_with};
+ghost use Rattle.coap_types.specs.OptionValues.{option_with};
 
 use coap_types::Opt;
 use std::marker::Model;

@@ -2,7 +2,9 @@
 ghost use Rattle.std.specs.Prelude.{◌≡◌, ◌<◌, ◌≤◌, ◌++◌, List, length, take, drop, option_copied, Some, IfSome};
 ghost use Rattle.coap_types.specs.CoapOption.{CoapOption, options_of};
 ghost use Rattle.coap_codec.specs.Message.{Spells};
-ghost use Rattle.coap_resource.specs.ResponseOptions.{Fits, IsUint, Says, block_number, option_with};
+ghost use Rattle.coap_resource.specs.ResponseOptions.{Fits, IsUint, Says, block_number};
+ghost use Rattle.coap_types.specs.OptionValues.{option_with};
+ghost use Rattle.coap_types.specs.Piece.{size_of};
 ghost use Rattle.coap_resource.specs.Serves.{reply_of};
 ghost use Rattle.coap.specs.FirstArrival.{reset};
 ghost use Rattle.coap.specs.FirstReply.{IsSpelled, response_id, response_kind, response_to};
@@ -12,22 +14,20 @@ use crate::reply_options::ReplyOptions;
 use coap_codec::{Head, View, bounded_spelling, encode};
 use coap_resource::Response;
 use coap_types::option_number::{BLOCK2, CONTENT_FORMAT, ETAG};
-use coap_types::{Code, Id, Kind, Opt, Szx, Tag, Token, UintBytes, uint_bytes};
+use coap_types::limits::MAX_MESSAGE_LEN;
+use coap_types::{
+    Block, Code, Id, Kind, MAX_NUM, MAX_SZX, MAX_UINT_LEN, Opt, Szx, Tag, Token, UintBytes,
+    uint_bytes,
+};
 use std::alloc::Allocator;
 
 /// The first Message ID that the server gives (RFC 7252, section 4.4).
 const FIRST_ID: Id = Id(0);
-/// What NUM counts in the number of a Block option, of which M and SZX are the lower 4 bits
-/// (RFC 7959, section 2.2).
-const NUM_UNIT: u32 = 16;
-/// What M counts in the number of a Block option (RFC 7959, section 2.2).
-const MORE_UNIT: u32 = 8;
-
-const _: () = prove!(FIRST_ID.0 == 0 && NUM_UNIT == 16 && MORE_UNIT == 8);
+const _: () = prove!(FIRST_ID.0 == 0);
 
 /// Writes a Reset with this Message ID, and answers its length (RFC 7252, section 4.2).
 pub(crate) fn put_reset(id: Id, out: &mut [u8]) -> usize
-    requires room { 1152 ≤ length out.old }
+    requires room { MAX_MESSAGE_LEN ≤ length out.old }
     ensures fits { result ≤ length out.old }
     ensures spelled { Spells (take result out.new) (reset id) }
     ensures behind { drop result out.new ≡ drop result out.old }
@@ -66,8 +66,8 @@ pub(crate) fn put_reply(
     requires request { IsSpelled request.now }
     requires code { 0 < code.0 }
     requires options { AreSayable (options_of options.now) }
-    requires payload { length payload.now ≤ 1024 }
-    requires room { 1152 ≤ length out.old }
+    requires payload { length payload.now ≤ size_of MAX_SZX }
+    requires room { MAX_MESSAGE_LEN ≤ length out.old }
     ensures fits { result ≤ length out.old }
     ensures spelled { Spells (take result out.new) (response_to request.now code.0 (options_of options.now) payload.now) }
     ensures behind { drop result out.new ≡ drop result out.old }
@@ -89,15 +89,6 @@ pub(crate) fn put_reply(
     }
 }
 
-// What Block2 says, as one number.
-fn block_number(num: u32, more: bool, szx: Szx) -> u32
-    requires { num < 1048576 }
-    ensures { Some result ≡ block_number (Some (num, more, szx)) }
-{
-    let more = if more { MORE_UNIT } else { 0 };
-    num * NUM_UNIT + (more + u32::from(szx.get()))
-}
-
 // The bytes of a Content-Format.
 fn format_bytes(format: Option<u16>) -> Option<UintBytes>
     ensures { IsUint format result }
@@ -110,13 +101,11 @@ fn format_bytes(format: Option<u16>) -> Option<UintBytes>
 
 // The bytes of a Block2.
 fn block_bytes(block: Option<(u32, bool, Szx)>) -> Option<UintBytes>
-    requires { IfSome block (λ b. b.0 < 1048576) }
+    requires { IfSome block (λ b. b.0 ≤ MAX_NUM) }
     ensures { IsUint (block_number block) result }
 {
-    match block {
-        None => None,
-        Some((num, more, szx)) => Some(uint_bytes(block_number(num, more, szx))),
-    }
+    let (num, more, szx) = block?;
+    Block { num, more, szx }.write()
 }
 
 // The bytes of an entity-tag.
@@ -132,7 +121,7 @@ fn tag_slice(tag: &Option<Tag>) -> Option<&[u8]>
 // The bytes of a number.
 fn uint_slice(bytes: &Option<UintBytes>) -> Option<&[u8]>
     ensures same { option_copied result ≡ bytes.now }
-    ensures few { IfSome bytes.now (λ b. length b ≤ 4) }
+    ensures few { IfSome bytes.now (λ b. length b ≤ MAX_UINT_LEN) }
 {
     match bytes {
         None => None,
@@ -146,7 +135,8 @@ fn options_with<'a>(
     format: Option<&'a [u8]>,
     block2: Option<&'a [u8]>,
 ) -> ReplyOptions<'a>
-    ensures { result ≡ option_with 4 (option_copied tag.entry) ++ (option_with 12 (option_copied format.entry) ++ option_with 23 (option_copied block2.entry)) }
+    ensures { result ≡ option_with ETAG (option_copied tag.entry)
+        ++ (option_with CONTENT_FORMAT (option_copied format.entry) ++ option_with BLOCK2 (option_copied block2.entry)) }
 {
     let mut options = ReplyOptions::new();
     options.push(ETAG, tag);
@@ -163,7 +153,7 @@ pub(crate) fn put_response<A: Allocator>(
 ) -> usize
     requires request { IsSpelled request.now }
     requires fits { Fits (reply_of response) }
-    requires room { 1152 ≤ length out.old }
+    requires room { MAX_MESSAGE_LEN ≤ length out.old }
     ensures fits { result ≤ length out.old }
     ensures said { (said : List CoapOption) × Says (reply_of response) said
         × Spells (take result out.new) (response_to request.now response.code.0 said response.part) }

@@ -1,13 +1,15 @@
 -- Every datagram spells one message or has one fault, and decoding finds it.
 use Rattle.std.proofs.Common.{◌≡◌, ℕ, List, None, Result, Ok, Err, sym, ap, ◌∙◌, inl, inr}
 use Rattle.coap_codec.specs.declared.fault.Reason.{Reason}
-use Rattle.coap_codec.specs.Message.{AreBytes, Message, Spells}
+use Rattle.coap_types.specs.Bytes.{AreBytes}
+use Rattle.coap_codec.specs.Message.{Message, Spells}
 use Rattle.coap_codec.specs.Faulty.{Faulty}
-use Rattle.coap_codec.specs.Reading.{frame_fault, message_at, Reads, ReadsBody}
+use Rattle.coap_codec.specs.Reading.{frame_fault, ReadsBody}
+use Rattle.coap_codec.specs.Decoded.{decoded, Reads}
 use Rattle.coap_codec.specs.declared.fault.Fault.{Fault}
 use Rattle.std.specs.Prelude.{IfOk, IfErr, OnErr}
 use Rattle.coap_codec.proofs.StepLemmas.{cases_result}
-use Rattle.coap_codec.specs.Laws.{EachIsRead, NotBoth, OneMessage, OneFault}
+use Rattle.coap_codec.specs.Laws.{EachIsRead, NotBoth, OneMessage, OneFault, MessageIsDecoded, FaultIsDecoded}
 use Rattle.coap_codec.proofs.ReadLemmas.{message_reads, message_faults, message_body}
 use Rattle.coap_codec.proofs.ReadAgain.{spelled_again, faulty_again}
 
@@ -35,7 +37,7 @@ reads_body bytes (Err f) e h = (message_body bytes e ∙ h.0, h.1)
 
 pub each_is_read : EachIsRead
 each_is_read bytes fits =
-    elim (cases_result (message_at bytes)) [
+    elim (cases_result (decoded bytes)) [
       | inl h ↦ inl (h.0, message_reads bytes fits h.0 h.1)
       | inr h ↦ inr (h.0.0, h.0.1, message_faults bytes fits h.0.0 h.0.1 h.1)
     ]
@@ -57,3 +59,9 @@ one_fault bytes r s a b fits f g =
     let both : Path (Result Message (Reason × ℕ)) (Err (r, a)) (Err (s, b)) = sym (faulty_again bytes r a fits f) ∙ faulty_again bytes s b fits g in
     let is : Path (Reason × ℕ) (r, a) (s, b) = cc in
     (ap (λ (x : Reason × ℕ). x.0) is, ap (λ (x : Reason × ℕ). x.1) is)
+
+pub message_is_decoded : MessageIsDecoded
+message_is_decoded bytes m fits = (message_reads bytes fits m, spelled_again bytes m fits)
+
+pub fault_is_decoded : FaultIsDecoded
+fault_is_decoded bytes reason at fits = (message_faults bytes fits reason at, faulty_again bytes reason at fits)

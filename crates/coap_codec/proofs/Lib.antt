@@ -12,4 +12,7 @@ pub mod PutLemmas
 pub mod LoopLemmas
 pub mod SpellLemmas
 pub mod SpellingLength
+pub mod SpellingLaw
+pub mod SpelledInBytes
+pub mod Facts
 pub mod StandardFacts

@@ -7,7 +7,7 @@ use Rattle.std.specs.List.{list_all}
 use Rattle.coap_types.specs.CoapOption.{option_of, options_of}
 use Rattle.coap_types.specs.declared.options.Opt.{Opt}
 use Rattle.coap_codec.specs.Refused.{ascends, is_short}
-use Rattle.coap_codec.specs.Writing.{option_bytes, options_bytes}
+use Rattle.coap_codec.specs.Spelling.{option_bytes, options_bytes}
 
 module _ (base i : ℕ) (xs : List Opt) (d : Opt) (h : i < length xs) where
   pub bytes_step : options_bytes base (options_of (drop i xs)) ≡ option_bytes base (option_of (get_or xs i d)) ++ options_bytes (get_or xs i d).number (options_of (drop (i + 1) xs))

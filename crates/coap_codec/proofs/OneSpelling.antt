@@ -24,7 +24,7 @@ Ext-once n i j (a ∷ b ∷ []) (c ∷ d ∷ []) p q =
 Ext-once n i j (a ∷ b ∷ []) (c ∷ d ∷ e ∷ y) p q = absurd q
 Ext-once n i j (a ∷ b ∷ c ∷ x) y p q = absurd p
 
-IsOption-once : (base : ℕ) (option : CoapOption) (x y : List ℕ) → IsOption base option x → IsOption base option y → x ≡ y
+pub IsOption-once : (base : ℕ) (option : CoapOption) (x y : List ℕ) → IsOption base option x → IsOption base option y → x ≡ y
 IsOption-once base option x y p q =
     let d = Ext-once (option.number - base) p.delta q.delta p.more_delta q.more_delta p.number q.number in
     let l = Ext-once (length option.value) p.len q.len p.more_len q.more_len p.value q.value in

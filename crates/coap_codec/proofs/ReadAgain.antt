@@ -1,21 +1,24 @@
 -- Bytes that spell a message are read as it, and at bytes that are faulty reading meets that fault.
 use Rattle.std.proofs.Common.{◌≡◌, ℕ, ◌+◌, ◌-◌, ◌*◌, ◌/◌, ◌%◌, ◌^◌, ◌<◌, ◌≤◌, List, [], ◌++◌, length, get_or, take, drop, Ok, Err, refl, sym, ap, subst, ◌∙◌, arith}
-use Rattle.std.proofs.lemmas.List.{take_at, drop_at, length-append, append-nil}
+use Rattle.std.proofs.lemmas.List.{take_at, drop_at, drop-drop, length-append, append-nil}
 use Rattle.coap_types.specs.CoapOption.{CoapOption}
 use Rattle.coap_types.specs.declared.message.Kind.{Kind}
 use Rattle.coap_types.specs.declared.message.Kind.TheVariants.{Con, Non, Ack, Rst}
 use Rattle.coap_codec.specs.declared.fault.Reason.{Reason}
 use Rattle.coap_codec.specs.declared.fault.Reason.TheVariants.{Short, Version, TokenLength, TokenCut, EmptyNotBare, DeltaReserved, LengthReserved, OptionCut, NumberTooLarge, NoPayload}
 use Rattle.coap_codec.specs.Options.{Options}
-use Rattle.coap_codec.specs.Message.{AreBytes, Message, kind_number, header, marked, Spells}
+use Rattle.coap_types.specs.Bytes.{AreBytes}
+use Rattle.coap_codec.specs.Message.{Message, kind_number, header, marked, Spells}
 use Rattle.coap_codec.specs.Header.{version, token_length, code, kind_of, id_of}
 use Rattle.coap_codec.specs.Faulty.{last_number, Leaves, BadRest, place, IsFramed, Faulty}
-use Rattle.coap_codec.specs.Reading.{option_at, walk, payload_at, behind_token, message_of, body_at, message_at}
-use Rattle.coap_codec.proofs.StepLemmas.{AreBytes-rest}
+use Rattle.coap_codec.specs.Reading.{option_at, walk, payload_at, behind_token, viewed, message_of, body_at}
+use Rattle.coap_codec.specs.Decoded.{decoded}
+use Rattle.coap_types.proofs.Facts.Bytes.{AreBytes-rest}
 use Rattle.coap_codec.proofs.WalkLemmas.{walked, walk_again, walk_longest}
 use Rattle.coap_codec.proofs.RestLemmas.{payload_again, marked_ends, payload_bad_again}
 use Rattle.coap_codec.proofs.FrameLemmas.{framed_none, short_again, version_again, token_length_again, empty_again, token_cut_again}
-use Rattle.coap_codec.proofs.SoundBytes.{AreBytes-drop, AreBytes-front, body_ok, body_err}
+use Rattle.coap_types.proofs.Facts.Bytes.{AreBytes-drop, AreBytes-front}
+use Rattle.coap_codec.proofs.SoundBytes.{body_ok, body_err}
 use Rattle.coap_codec.proofs.ReadLemmas.{message_fault, message_body}
 
 kind_is : (first : ℕ) (kind : Kind) → first / 16 % 4 ≡ kind_number kind → kind_of first ≡ kind
@@ -30,10 +33,19 @@ kind_small Non = omega arith
 kind_small Ack = omega arith
 kind_small Rst = omega arith
 
-pub same_message : (a b : Message) → a.kind ≡ b.kind → a.code ≡ b.code → a.id ≡ b.id → a.token ≡ b.token → a.options ≡ b.options → a.payload ≡ b.payload → a ≡ b
+same_message : (a b : Message) → a.kind ≡ b.kind → a.code ≡ b.code → a.id ≡ b.id → a.token ≡ b.token → a.options ≡ b.options → a.payload ≡ b.payload → a ≡ b
 same_message a b k c i t o p =
     let whole : Path Message (record { kind = a.kind; code = a.code; id = a.id; token = a.token; options = a.options; payload = a.payload }) b = rw (k, c, i, t, o, p) refl in
     whole
+
+-- what `body` makes of the parts of sound bytes
+pub viewed_body : (bytes : List ℕ) (n : ℕ) (token options payload : List ℕ) (kind : Kind) (id : ℕ) → n ≡ token_length bytes → token ≡ take n (drop 4 bytes) → options ≡ drop n (drop 4 bytes)
+    → kind ≡ kind_of (get_or bytes 0 0) → id ≡ id_of bytes → payload_at (walk 0 options).reason (walk 0 options).rest ≡ Ok payload → body_at bytes ≡ Ok (viewed kind (code bytes) id token options payload)
+viewed_body bytes n token options payload kind id len front back k i read =
+    let behind : options ≡ behind_token bytes = back ∙ drop-drop n 4 bytes ∙ ap (λ (j : ℕ). drop (4 + j) bytes) len in
+    let at : payload_at (walk 0 (behind_token bytes)).reason (walk 0 (behind_token bytes)).rest ≡ Ok payload = rw (← behind) read in
+    let same = same_message (message_of bytes payload) (viewed kind (code bytes) id token options payload) (sym k) refl (sym i) (sym (front ∙ ap (λ (j : ℕ). take j (drop 4 bytes)) len)) (ap (λ (b : List ℕ). (walk 0 b).options) (sym behind)) refl in
+    body_ok bytes payload at ∙ ap (λ m. Ok m) same
 
 module _ (m : Message) (front : List ℕ) (few : length m.token ≤ 8) where
   text : List ℕ
@@ -89,14 +101,14 @@ module _ (m : Message) (front : List ℕ) (few : length m.token ≤ 8) where
       body_ok text m.payload payload ∙ ap (λ x. Ok x) (same_message (message_of text m.payload) m first_parts.2 text_code (text_id small) text_token options refl)
 
 -- the message that bytes spell is read
-pub spelled_again : (bytes : List ℕ) (m : Message) → AreBytes bytes → Spells bytes m → message_at bytes ≡ Ok m
+pub spelled_again : (bytes : List ℕ) (m : Message) → AreBytes bytes → Spells bytes m → decoded bytes ≡ Ok m
 unfolding text
 spelled_again bytes m fits s =
     let t = text m s.option_bytes s.token in
     let fits' : AreBytes (s.option_bytes ++ marked m.payload) = AreBytes-rest (header m ++ m.token) (s.option_bytes ++ marked m.payload) (subst AreBytes s.parts fits) in
     let bare : m.code ≡ 0 → length t ≡ 4 = λ z. sym (ap length s.parts) ∙ s.empty z in
     let framed = text_framed m s.option_bytes s.token bare in
-    subst (λ (b : List ℕ). message_at b ≡ Ok m) (sym s.parts)
+    subst (λ (b : List ℕ). decoded b ≡ Ok m) (sym s.parts)
     (message_body t (framed_none t framed) ∙ text_body m s.option_bytes s.token fits' s.options s.id)
 
 no_option : (base : ℕ) → option_at base [] ≡ Err OptionCut
@@ -129,7 +141,7 @@ leaves_walk bytes number rest fits l =
     (h.last ∙ ap (last_number 0) options ∙ sym l.last, back)
 
 rest_again : (bytes : List ℕ) (reason : Reason) (at number : ℕ) (rest : List ℕ) → AreBytes bytes → IsFramed bytes → Leaves (behind_token bytes) number rest → BadRest number rest reason
-    → at ≡ place reason (length bytes - length rest) (length bytes) → message_at bytes ≡ Err (reason, at)
+    → at ≡ place reason (length bytes - length rest) (length bytes) → decoded bytes ≡ Err (reason, at)
 rest_again bytes reason at number rest fits f l bad is =
     let fits' = AreBytes-drop (4 + token_length bytes) bytes fits in
     let w = walk 0 (behind_token bytes) in
@@ -141,7 +153,7 @@ rest_again bytes reason at number rest fits f l bad is =
     message_body bytes (framed_none bytes f) ∙ e ∙ ap (λ (a : ℕ). Err (reason, a)) placed
 
 -- reading finds that bytes are faulty
-pub faulty_again : (bytes : List ℕ) (reason : Reason) (at : ℕ) → AreBytes bytes → Faulty bytes reason at → message_at bytes ≡ Err (reason, at)
+pub faulty_again : (bytes : List ℕ) (reason : Reason) (at : ℕ) → AreBytes bytes → Faulty bytes reason at → decoded bytes ≡ Err (reason, at)
 faulty_again bytes Short at fits h = message_fault bytes (Short, at) (short_again bytes at h)
 faulty_again bytes Version at fits h = message_fault bytes (Version, at) (version_again bytes at h)
 faulty_again bytes TokenLength at fits h = message_fault bytes (TokenLength, at) (token_length_again bytes at h)

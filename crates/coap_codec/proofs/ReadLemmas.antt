@@ -1,31 +1,34 @@
 -- Bytes that are read as a message spell it, and bytes at which reading meets a fault are faulty so.
 use Rattle.std.proofs.Common.{◌≡◌, ℕ, ◌+◌, ◌-◌, ◌⊎◌, List, length, Option, Some, None, Result, Ok, Err, refl, sym, ap, subst, ◌∙◌, inl, inr}
 use Rattle.coap_codec.specs.declared.fault.Reason.{Reason}
-use Rattle.coap_codec.specs.Message.{AreBytes, Message, Spells}
+use Rattle.coap_types.specs.Bytes.{AreBytes}
+use Rattle.coap_codec.specs.Message.{Message, Spells}
 use Rattle.coap_codec.specs.Header.{token_length}
 use Rattle.coap_codec.specs.Faulty.{place, IsFramed, Faulty}
-use Rattle.coap_codec.specs.Reading.{walk, payload_at, frame_fault, behind_token, message_of, body_at, message_at}
+use Rattle.coap_codec.specs.Reading.{walk, payload_at, frame_fault, behind_token, message_of, body_at}
+use Rattle.coap_codec.specs.Decoded.{decoded}
 use Rattle.coap_codec.proofs.StepLemmas.{cases_result}
 use Rattle.coap_codec.proofs.WalkLemmas.{walked}
 use Rattle.coap_codec.proofs.RestLemmas.{payload_reads, payload_bad}
 use Rattle.coap_codec.proofs.FrameLemmas.{frame_none, frame_some}
-use Rattle.coap_codec.proofs.SoundBytes.{AreBytes-drop, body_ok, body_err, sound_spells, bad_rest_faulty, walk_leaves}
+use Rattle.coap_types.proofs.Facts.Bytes.{AreBytes-drop}
+use Rattle.coap_codec.proofs.SoundBytes.{body_ok, body_err, sound_spells, bad_rest_faulty, walk_leaves}
 
 cases_option : {A : Type 0} (o : Option A) → ((x : A) × (o ≡ Some x)) ⊎ (o ≡ None)
 cases_option (Some x) = inl (x, refl)
 cases_option None = inr refl
 
-pub message_fault : (bytes : List ℕ) (x : Reason × ℕ) → frame_fault bytes ≡ Some x → message_at bytes ≡ Err x
-unfolding message_at
-message_fault bytes x e = rw (e, message_at) refl
+pub message_fault : (bytes : List ℕ) (x : Reason × ℕ) → frame_fault bytes ≡ Some x → decoded bytes ≡ Err x
+unfolding decoded
+message_fault bytes x e = rw (e, decoded) refl
 
-pub message_body : (bytes : List ℕ) → frame_fault bytes ≡ None → message_at bytes ≡ body_at bytes
-unfolding message_at
-message_body bytes e = rw (e, message_at) refl
+pub message_body : (bytes : List ℕ) → frame_fault bytes ≡ None → decoded bytes ≡ body_at bytes
+unfolding decoded
+message_body bytes e = rw (e, decoded) refl
 
 -- what reading gives at sound bytes
 module _ (bytes : List ℕ) (fits : AreBytes bytes) where
-  body_reads : (m : Message) → IsFramed bytes → body_at bytes ≡ Ok m → Spells bytes m
+  pub body_reads : (m : Message) → IsFramed bytes → body_at bytes ≡ Ok m → Spells bytes m
   body_reads m f e =
       let w = walk 0 (behind_token bytes) in
       elim (cases_result (payload_at w.reason w.rest)) [
@@ -51,7 +54,7 @@ module _ (bytes : List ℕ) (fits : AreBytes bytes) where
       ]
 
   -- a message that is read is spelled so
-  pub message_reads : (m : Message) → message_at bytes ≡ Ok m → Spells bytes m
+  pub message_reads : (m : Message) → decoded bytes ≡ Ok m → Spells bytes m
   message_reads m e =
       elim (cases_option (frame_fault bytes)) [
         | inl h ↦ absurd (let e' : Path (Result Message (Reason × ℕ)) (Err h.0) (Ok m) = sym (message_fault bytes h.0 h.1) ∙ e in cc)
@@ -59,7 +62,7 @@ module _ (bytes : List ℕ) (fits : AreBytes bytes) where
       ]
 
   -- bytes are faulty as reading finds
-  pub message_faults : (reason : Reason) (at : ℕ) → message_at bytes ≡ Err (reason, at) → Faulty bytes reason at
+  pub message_faults : (reason : Reason) (at : ℕ) → decoded bytes ≡ Err (reason, at) → Faulty bytes reason at
   message_faults reason at e =
       elim (cases_option (frame_fault bytes)) [
         | inl h ↦

@@ -12,24 +12,24 @@ use Rattle.coap_codec.specs.declared.encoder.Refusal.{Refusal}
 use Rattle.coap_codec.specs.declared.encoder.Refusal.TheVariants.{NoRoom, OptionOrder, OptionTooLong, EmptyNotBare}
 use Rattle.coap_codec.proofs.OneSpelling.{one_spelling}
 
-Ext-most : (n nibble : ℕ) (more : List ℕ) → Ext n nibble more → n ≤ 65804
+pub Ext-most : (n nibble : ℕ) (more : List ℕ) → Ext n nibble more → n ≤ 65804
 Ext-most n nibble [] p = omega arith
 Ext-most n nibble (b ∷ []) p = omega arith
 Ext-most n nibble (a ∷ b ∷ []) p = omega arith
 Ext-most n nibble (a ∷ b ∷ c ∷ more) p = absurd p
 
-Options-ascends : (options : List CoapOption) (base : ℕ) (bytes : List ℕ) → Options base bytes options → ascends base options ≡ true
+pub Options-ascends : (options : List CoapOption) (base : ℕ) (bytes : List ℕ) → Options base bytes options → ascends base options ≡ true
 Options-ascends [] base bytes o = refl
 Options-ascends (option ∷ options) base bytes o = rw (le-leb base option.number o.3.rises) (Options-ascends options option.number o.1 o.4)
 
-Options-short : (options : List CoapOption) (base : ℕ) (bytes : List ℕ) → Options base bytes options → list_all is_short options ≡ true
+pub Options-short : (options : List CoapOption) (base : ℕ) (bytes : List ℕ) → Options base bytes options → list_all is_short options ≡ true
 Options-short [] base bytes o = refl
 Options-short (option ∷ options) base bytes o =
     let short = Ext-most (length option.value) o.3.len o.3.more_len o.3.value in
     rw (le-leb (length option.value) 65804 short) (Options-short options option.number o.1 o.4)
 
 -- an option takes at least a byte
-Options-long : (options : List CoapOption) (base : ℕ) (bytes : List ℕ) → Options base bytes options → length options ≤ length bytes
+pub Options-long : (options : List CoapOption) (base : ℕ) (bytes : List ℕ) → Options base bytes options → length options ≤ length bytes
 Options-long [] base bytes o = omega arith
 Options-long (option ∷ options) base bytes o =
     let rest = Options-long options option.number o.1 o.4 in
@@ -37,7 +37,7 @@ Options-long (option ∷ options) base bytes o =
     let first = ap length o.3.parts in
     omega arith
 
-marked-long : (payload : List ℕ) → length payload ≤ length (marked payload)
+pub marked-long : (payload : List ℕ) → length payload ≤ length (marked payload)
 marked-long [] = omega arith
 marked-long (b ∷ bytes) = omega arith
 

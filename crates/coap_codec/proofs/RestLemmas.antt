@@ -6,10 +6,13 @@ use Rattle.coap_types.specs.CoapOption.{CoapOption}
 use Rattle.coap_codec.specs.declared.fault.Reason.{Reason}
 use Rattle.coap_codec.specs.declared.fault.Reason.TheVariants.{Short, Version, TokenLength, TokenCut, EmptyNotBare, DeltaReserved, LengthReserved, OptionCut, NumberTooLarge, NoPayload}
 use Rattle.coap_codec.specs.Extension.{Ext}
-use Rattle.coap_codec.specs.Message.{AreBytes, marked}
-use Rattle.coap_codec.specs.Faulty.{needs, Says, BadRest}
+use Rattle.coap_types.specs.Bytes.{AreBytes}
+use Rattle.coap_codec.specs.Message.{marked}
+use Rattle.coap_codec.specs.Faulty.{needs, HeadsOption, BadRest}
 use Rattle.coap_codec.specs.Reading.{◌>>=◌, one_more, two_more, extended, value_at, nibbles_at, option_at, payload_at}
-use Rattle.coap_codec.proofs.StepLemmas.{AreBytes-rest, AreBytes-tail, chosen, cases_result, done, ok_is, extended_reads, extended_again}
+use Rattle.coap_types.proofs.Facts.Bytes.{byte_at}
+use Rattle.coap_types.proofs.Facts.Bytes.{AreBytes-rest, AreBytes-tail}
+use Rattle.coap_codec.proofs.StepLemmas.{chosen, cases_result, done, ok_is, extended_reads, extended_again}
 
 abbrev pub fault : {A : Type 0} → Reason → Result A Reason
 fault r = Err r
@@ -90,7 +93,7 @@ nibbles_bad base first bytes r fits byte delta len e =
             | inr q ↦
                 let l = q.0 in
                 let said' = extended_reads (first % 16) d.1 l.0 l.1 (AreBytes-rest said.more d.1 (subst AreBytes said.parts fits)) small' q.1 in
-                let says : Says first bytes d.0 l.0 l.1 = record {
+                let says : HeadsOption first bytes d.0 l.0 l.1 = record {
                   more_delta = said.more;
                   more_len = said'.more;
                   number = said.says;
@@ -115,7 +118,7 @@ option_bad base first bytes d fits unmarked e =
           let delta : first / 16 ≢ 15 = eqb-false (first / 16) 15 p.0 in
           elim (chosen (eqb (first % 16) 15) (fault LengthReserved) read (Err d) p.1) [
             | inl q ↦ subst bad (err_is LengthReserved d q.1) (eqb-true (first % 16) 15 q.0, delta)
-            | inr q ↦ nibbles_bad base first bytes d (AreBytes-tail first bytes fits) (fits 0) delta (eqb-false (first % 16) 15 q.0) q.1
+            | inr q ↦ nibbles_bad base first bytes d (AreBytes-tail first bytes fits) (byte_at (first ∷ bytes) fits 0) delta (eqb-false (first % 16) 15 q.0) q.1
           ]
     ]
 
@@ -129,7 +132,7 @@ value_cut : (number len : ℕ) (bytes : List ℕ) → number < 2 ^ 16 → length
 unfolding value_at
 value_cut number len bytes p q = rw (le-ltb 65535 number (omega arith), lt-ltb (length bytes) len q) refl
 
-nibbles_say : (base first : ℕ) (bytes : List ℕ) (delta len : ℕ) (rest : List ℕ) → Says first bytes delta len rest → nibbles_at base (first / 16) (first % 16) bytes ≡ value_at (base + delta) len rest
+nibbles_say : (base first : ℕ) (bytes : List ℕ) (delta len : ℕ) (rest : List ℕ) → HeadsOption first bytes delta len rest → nibbles_at base (first / 16) (first % 16) bytes ≡ value_at (base + delta) len rest
 unfolding nibbles_at
 nibbles_say base first bytes delta len rest s =
     rw (s.parts, extended_again delta (first / 16) s.more_delta (s.more_len ++ rest) s.number, extended_again len (first % 16) s.more_len rest s.value) refl
@@ -165,7 +168,7 @@ option_bad_again base first bytes EmptyNotBare fits n h = absurd h
 option_bad_again base first bytes DeltaReserved fits n h = (rw (eq-eqb (first / 16) 15 h.0) refl, h.1)
 option_bad_again base first bytes LengthReserved fits n h = (rw (ne_eqb (first / 16) 15 h.1, eq-eqb (first % 16) 15 h.0) refl, λ e. h.1 (omega arith))
 option_bad_again base first bytes OptionCut fits n h =
-    let byte : first < 256 = fits 0 in
+    let byte : first < 256 = byte_at (first ∷ bytes) fits 0 in
     let unmarked : first ≢ 255 = λ e. h.0 (omega arith) in
     elim h.2 [
       | inl s ↦ (rw (ne_eqb (first / 16) 15 h.0, ne_eqb (first % 16) 15 h.1) (nibbles_short base (first / 16) (first % 16) bytes (AreBytes-tail first bytes fits) (omega arith) (omega arith) s), unmarked)

@@ -1,15 +1,15 @@
 -- Bytes whose header and token are sound: the message that they spell, or their fault.
-use Rattle.std.proofs.Common.{◌≡◌, ℕ, zero, suc, ◌+◌, ◌-◌, ◌*◌, ◌/◌, ◌%◌, ◌^◌, ◌<◌, cond, eqb, List, [], ◌∷◌, ◌++◌, length, take, drop, Ok, Err, refl, sym, ap, subst, ◌∙◌, arith, inl, inr}
-use Rattle.std.proofs.lemmas.List.{take-append-drop, length-append, length-take, drop-drop, get_or_append_left, get_or_past}
-use Rattle.std.proofs.lemmas.Bool.{cases_lt}
+use Rattle.std.proofs.Common.{◌≡◌, ℕ, zero, suc, ◌+◌, ◌-◌, ◌*◌, ◌/◌, ◌%◌, ◌^◌, ◌<◌, cond, eqb, List, [], ◌∷◌, ◌++◌, length, take, drop, Ok, Err, refl, sym, ap, ◌∙◌, arith}
+use Rattle.std.proofs.lemmas.List.{take-append-drop, length-append, length-take, drop-drop}
 use Rattle.coap_types.specs.declared.message.Kind.TheVariants.{Con, Non, Ack, Rst}
 use Rattle.coap_codec.specs.declared.fault.Reason.{Reason}
 use Rattle.coap_codec.specs.declared.fault.Reason.TheVariants.{Short, Version, TokenLength, TokenCut, EmptyNotBare, DeltaReserved, LengthReserved, OptionCut, NumberTooLarge, NoPayload}
-use Rattle.coap_codec.specs.Message.{AreBytes, kind_number, header, marked, Spells}
+use Rattle.coap_types.specs.Bytes.{AreBytes}
+use Rattle.coap_codec.specs.Message.{kind_number, header, marked, Spells}
 use Rattle.coap_codec.specs.Header.{token_length, kind_of, id_of}
 use Rattle.coap_codec.specs.Faulty.{Leaves, BadRest, place, IsFramed, Faulty}
 use Rattle.coap_codec.specs.Reading.{walk, payload_at, behind_token, message_of, body_at}
-use Rattle.coap_codec.proofs.StepLemmas.{AreBytes-rest}
+use Rattle.coap_types.proofs.Facts.Bytes.{AreBytes-drop, byte_at}
 use Rattle.coap_codec.proofs.WalkLemmas.{walked, walk_longest}
 
 kind_number_is : (k : ℕ) → k < 4 → kind_number (cond (eqb k 0) Con (cond (eqb k 1) Non (cond (eqb k 2) Ack Rst))) ≡ k
@@ -28,8 +28,10 @@ header_reads (a ∷ b ∷ c ∷ d ∷ rest) payload fits f =
     let token : length (take (a % 16) rest) ≡ a % 16 = omega (arith, length-take (a % 16) rest, f.token) in
     let kind = kind_number_is (a / 16 % 4) (omega arith) in
     let first : 64 + (kind_number (kind_of a) * 16 + length (take (a % 16) rest)) ≡ a = omega (arith, token, kind, f.header.version) in
-    let high : (c * 256 + (d * 1 + 0)) / 256 % 256 ≡ c = omega (arith, fits 2, fits 3) in
-    let low : (c * 256 + (d * 1 + 0)) % 256 ≡ d = omega (arith, fits 2, fits 3) in
+    let third = byte_at (a ∷ b ∷ c ∷ d ∷ rest) fits 2 in
+    let fourth = byte_at (a ∷ b ∷ c ∷ d ∷ rest) fits 3 in
+    let high : (c * 256 + (d * 1 + 0)) / 256 % 256 ≡ c = omega (arith, third, fourth) in
+    let low : (c * 256 + (d * 1 + 0)) % 256 ≡ d = omega (arith, third, fourth) in
     rw (first, high, low) refl
 
 pub body_ok : (bytes payload : List ℕ) → payload_at (walk 0 (behind_token bytes)).reason (walk 0 (behind_token bytes)).rest ≡ Ok payload → body_at bytes ≡ Ok (message_of bytes payload)
@@ -41,18 +43,8 @@ pub body_err : (bytes : List ℕ) (reason : Reason) → payload_at (walk 0 (behi
 unfolding body_at
 body_err bytes reason e = rw (e, body_at) refl
 
-pub AreBytes-drop : (n : ℕ) (bytes : List ℕ) → AreBytes bytes → AreBytes (drop n bytes)
-AreBytes-drop n bytes fits = AreBytes-rest (take n bytes) (drop n bytes) (subst AreBytes (sym (take-append-drop n bytes)) fits)
-
-pub AreBytes-front : (front rest : List ℕ) → AreBytes (front ++ rest) → AreBytes front
-AreBytes-front front rest fits i =
-    elim (cases_lt i (length front)) [
-      | inl lt ↦ rw (← get_or_append_left front rest 0 i lt) (fits i)
-      | inr le ↦ rw (get_or_past front i 0 le) (omega arith)
-    ]
-
 id_small : (bytes : List ℕ) → AreBytes bytes → id_of bytes < 2 ^ 16
-id_small bytes fits = let d = AreBytes-drop 2 bytes fits in omega (arith, d 0, d 1)
+id_small bytes fits = let are = AreBytes-drop 2 bytes fits in let high = byte_at (drop 2 bytes) are 0 in let low = byte_at (drop 2 bytes) are 1 in omega (arith, high, low)
 
 -- sound bytes whose rest is a payload spell a message
 pub sound_spells : (bytes payload : List ℕ) → AreBytes bytes → IsFramed bytes → (walk 0 (behind_token bytes)).rest ≡ marked payload → Spells bytes (message_of bytes payload)
@@ -67,7 +59,7 @@ sound_spells bytes payload fits f e =
     let body : drop 4 bytes ≡ token ++ (h.front ++ marked payload) = sym (take-append-drop n (drop 4 bytes)) ∙ ap (λ (r : List ℕ). token ++ r) (cut ∙ tail) in
     let whole : bytes ≡ take 4 bytes ++ (token ++ (h.front ++ marked payload)) = sym (take-append-drop 4 bytes) ∙ ap (λ (r : List ℕ). take 4 bytes ++ r) body in
     record {
-      code = fits 1;
+      code = byte_at bytes fits 1;
       id = id_small bytes fits;
       token = omega (arith, length-take n (drop 4 bytes), f.header.token);
       option_bytes = h.front;

@@ -2,15 +2,17 @@
 use Rattle.std.proofs.Common.{◌≡◌, ℕ, suc, ◌+◌, ◌-◌, ◌^◌, ◌<◌, ◌≤◌, true, List, [], ◌∷◌, ◌++◌, length, get_or, take, drop, refl, sym, ap, ◌∙◌, arith, inl, inr}
 use Rattle.std.specs.Prelude.{nat_le}
 use Rattle.std.specs.List.{list_all}
-use Rattle.std.proofs.lemmas.Bool.{cases_lt, lt-ltb, le-ltb, and_parts, leb-true}
+use Rattle.std.proofs.lemmas.Bool.{cases_lt, lt-ltb, le-ltb, and_parts, leb-true, ltb-true}
 use Rattle.std.proofs.lemmas.List.{take_at, drop_at, length-append, nil_from_length}
 use Rattle.coap_types.specs.CoapOption.{CoapOption, option_of, options_of}
 use Rattle.coap_types.specs.declared.options.Opt.{Opt}
+use Rattle.coap_codec.specs.BoundedSpelling.{CanBeSpelled, is_numbered}
 use Rattle.coap_codec.specs.Extension.{Ext}
 use Rattle.coap_codec.specs.Options.{IsOption, Options}
 use Rattle.coap_codec.specs.Message.{Message, marked, Spells}
 use Rattle.coap_codec.specs.Refused.{ascends, is_short, IsEmptyNotBare}
-use Rattle.coap_codec.specs.Writing.{Puts, nibble, more, option_bytes, options_bytes, message_bytes}
+use Rattle.coap_codec.specs.Writing.{Puts}
+use Rattle.coap_codec.specs.Spelling.{nibble, more, option_bytes, options_bytes, message_bytes}
 
 Ext-of : (n : ℕ) → n ≤ 65804 → Ext n (nibble n) (more n)
 Ext-of n most =
@@ -36,7 +38,29 @@ option_is base option rises fits short = record {
   parts = refl;
 }
 
-options_are : (options : List Opt) (base : ℕ) → ascends base (options_of options) ≡ true → list_all is_short (options_of options) ≡ true
+-- options that ascend, have numbers and are short, have this spelling
+pub options_spelled : (os : List CoapOption) (base : ℕ) → ascends base os ≡ true → list_all is_numbered os ≡ true → list_all is_short os ≡ true → Options base (options_bytes base os) os
+unfolding options_bytes
+options_spelled [] base order numbers short = refl
+options_spelled (o ∷ os) base order numbers short =
+    let p = and_parts (nat_le base o.number) (ascends o.number os) order in
+    let n = and_parts (is_numbered o) (list_all is_numbered os) numbers in
+    let q = and_parts (is_short o) (list_all is_short os) short in
+    let first = option_is base o (leb-true base o.number p.0) (ltb-true o.number (2 ^ 16) n.0) (leb-true (length o.value) 65804 q.0) in
+    (option_bytes base o, options_bytes o.number os, refl, first, options_spelled os o.number p.1 n.1 q.1)
+
+pub spelled_by : (m : Message) → CanBeSpelled m → Spells (message_bytes m) m
+spelled_by m can = record {
+  code = can.code;
+  id = can.id;
+  token = can.token;
+  option_bytes = options_bytes 0 m.options;
+  options = options_spelled m.options 0 can.order can.numbers can.short;
+  parts = refl;
+  empty = λ none. absurd (let some = can.some in omega arith);
+}
+
+pub options_are : (options : List Opt) (base : ℕ) → ascends base (options_of options) ≡ true → list_all is_short (options_of options) ≡ true
     → ((k : ℕ) (d : Opt) → k < length options → (get_or options k d).number < 2 ^ 16) → Options base (options_bytes base (options_of options)) (options_of options)
 unfolding options_bytes
 options_are [] base order short numbers = refl

@@ -1,15 +1,18 @@
 -- Figures of RFC 7252, said of the specs, so that a slip in a definition or in a test does not check.
-use Rattle.std.proofs.Common.{◌≡◌, ℕ, zero, suc, Bool, true, List, [], ◌∷◌, Ok, Err, refl, arith}
+use Rattle.std.proofs.Common.{◌≡◌, ℕ, Bool, true, List, [], ◌∷◌, Ok, Err, refl, arith}
 use Rattle.std.proofs.lemmas.Bool.{and_parts, ltb-true}
 use Rattle.std.specs.Prelude.{nat_lt, codes}
 use Rattle.std.specs.List.{list_all}
 use Rattle.coap_types.specs.declared.message.Kind.TheVariants.{Con, Non, Ack, Rst}
+use Rattle.coap_types.proofs.Facts.Bytes.{AreBytes-cons, AreBytes-nil}
 use Rattle.coap_codec.specs.Extension.{Ext}
-use Rattle.coap_codec.specs.Message.{AreBytes, Message, Spells}
+use Rattle.coap_types.specs.Bytes.{AreBytes}
+use Rattle.coap_codec.specs.Message.{Message, Spells}
 use Rattle.coap_codec.specs.Faulty.{Faulty}
 use Rattle.coap_codec.specs.declared.fault.Reason.{Reason}
 use Rattle.coap_codec.specs.declared.fault.Reason.TheVariants.{Short, Version, TokenLength, TokenCut, EmptyNotBare, DeltaReserved, LengthReserved, OptionCut, NumberTooLarge, NoPayload}
-use Rattle.coap_codec.specs.Reading.{extended, value_at, nibbles_at, option_at, walk_of, walk, payload_at, frame_fault, body_at, message_at}
+use Rattle.coap_codec.specs.Reading.{extended, value_at, nibbles_at, option_at, walk_of, walk, payload_at, frame_fault, body_at}
+use Rattle.coap_codec.specs.Decoded.{decoded}
 use Rattle.coap_codec.proofs.ReadLemmas.{message_reads, message_faults}
 
 -- ---- extended numbers (section 3.1)
@@ -42,108 +45,109 @@ abbrev pub is_byte : ℕ → Bool
 is_byte b = nat_lt b 256
 
 bytes_are : (bytes : List ℕ) → list_all is_byte bytes ≡ true → AreBytes bytes
-bytes_are [] e i = omega arith
-bytes_are (b ∷ bytes) e zero = ltb-true b 256 (and_parts (is_byte b) (list_all is_byte bytes) e).0
-bytes_are (b ∷ bytes) e (suc i) = bytes_are bytes (and_parts (is_byte b) (list_all is_byte bytes) e).1 i
+bytes_are [] e = AreBytes-nil
+bytes_are (b ∷ bytes) e =
+    let p = and_parts (is_byte b) (list_all is_byte bytes) e in
+    AreBytes-cons b bytes (ltb-true b 256 p.0) (bytes_are bytes p.1)
 
-spelled : (bytes : List ℕ) (m : Message) → list_all is_byte bytes ≡ true → message_at bytes ≡ Ok m → Spells bytes m
+spelled : (bytes : List ℕ) (m : Message) → list_all is_byte bytes ≡ true → decoded bytes ≡ Ok m → Spells bytes m
 spelled bytes m fits read = message_reads bytes (bytes_are bytes fits) m read
 
 -- a Confirmable request, GET /temperature, and its piggybacked response (Appendix A)
 pub request : Spells (64 ∷ 1 ∷ 125 ∷ 52 ∷ 187 ∷ codes "temperature")
     (record { kind = Con; code = 1; id = 32052; token = []; options = record { number = 11; value = codes "temperature" } ∷ []; payload = [] })
-unfolding message_at frame_fault body_at walk walk_of option_at nibbles_at value_at extended payload_at
+unfolding decoded frame_fault body_at walk walk_of option_at nibbles_at value_at extended payload_at
 request = spelled _ _ refl refl
 
 pub response : Spells (96 ∷ 69 ∷ 125 ∷ 52 ∷ 255 ∷ codes "22.3 C")
     (record { kind = Ack; code = 69; id = 32052; token = []; options = []; payload = codes "22.3 C" })
-unfolding message_at frame_fault body_at walk walk_of option_at nibbles_at value_at extended payload_at
+unfolding decoded frame_fault body_at walk walk_of option_at nibbles_at value_at extended payload_at
 response = spelled _ _ refl refl
 
 -- the same with a token
 pub request_of_a_token : Spells (65 ∷ 1 ∷ 125 ∷ 53 ∷ 32 ∷ 187 ∷ codes "temperature")
     (record { kind = Con; code = 1; id = 32053; token = 32 ∷ []; options = record { number = 11; value = codes "temperature" } ∷ []; payload = [] })
-unfolding message_at frame_fault body_at walk walk_of option_at nibbles_at value_at extended payload_at
+unfolding decoded frame_fault body_at walk walk_of option_at nibbles_at value_at extended payload_at
 request_of_a_token = spelled _ _ refl refl
 
 pub response_of_a_token : Spells (97 ∷ 69 ∷ 125 ∷ 53 ∷ 32 ∷ 255 ∷ codes "22.3 C")
     (record { kind = Ack; code = 69; id = 32053; token = 32 ∷ []; options = []; payload = codes "22.3 C" })
-unfolding message_at frame_fault body_at walk walk_of option_at nibbles_at value_at extended payload_at
+unfolding decoded frame_fault body_at walk walk_of option_at nibbles_at value_at extended payload_at
 response_of_a_token = spelled _ _ refl refl
 
 -- an Empty Confirmable message, and the Reset that answers it (sections 4.1 and 4.3)
 pub ping : Spells (64 ∷ 0 ∷ 0 ∷ 1 ∷ [])
     (record { kind = Con; code = 0; id = 1; token = []; options = []; payload = [] })
-unfolding message_at frame_fault body_at walk walk_of option_at nibbles_at value_at extended payload_at
+unfolding decoded frame_fault body_at walk walk_of option_at nibbles_at value_at extended payload_at
 ping = spelled _ _ refl refl
 
 pub reset : Spells (112 ∷ 0 ∷ 0 ∷ 1 ∷ [])
     (record { kind = Rst; code = 0; id = 1; token = []; options = []; payload = [] })
-unfolding message_at frame_fault body_at walk walk_of option_at nibbles_at value_at extended payload_at
+unfolding decoded frame_fault body_at walk walk_of option_at nibbles_at value_at extended payload_at
 reset = spelled _ _ refl refl
 
 -- an option of the greatest number, with an empty value (section 3.1)
 pub greatest_option : Spells (80 ∷ 1 ∷ 0 ∷ 1 ∷ 224 ∷ 254 ∷ 242 ∷ [])
     (record { kind = Non; code = 1; id = 1; token = []; options = record { number = 65535; value = [] } ∷ []; payload = [] })
-unfolding message_at frame_fault body_at walk walk_of option_at nibbles_at value_at extended payload_at
+unfolding decoded frame_fault body_at walk walk_of option_at nibbles_at value_at extended payload_at
 greatest_option = spelled _ _ refl refl
 
 -- ---- faults
 
-at_fault : (bytes : List ℕ) (reason : Reason) (at : ℕ) → list_all is_byte bytes ≡ true → message_at bytes ≡ Err (reason, at) → Faulty bytes reason at
+at_fault : (bytes : List ℕ) (reason : Reason) (at : ℕ) → list_all is_byte bytes ≡ true → decoded bytes ≡ Err (reason, at) → Faulty bytes reason at
 at_fault bytes reason at fits read = message_faults bytes (bytes_are bytes fits) reason at read
 
 -- fewer than four bytes
 pub no_header : Faulty (64 ∷ []) Short 1
-unfolding message_at frame_fault body_at walk walk_of option_at nibbles_at value_at extended payload_at
+unfolding decoded frame_fault body_at walk walk_of option_at nibbles_at value_at extended payload_at
 no_header = at_fault (64 ∷ []) Short 1 refl refl
 
 -- version 2
 pub no_version : Faulty (128 ∷ 1 ∷ 0 ∷ 1 ∷ []) Version 0
-unfolding message_at frame_fault body_at walk walk_of option_at nibbles_at value_at extended payload_at
+unfolding decoded frame_fault body_at walk walk_of option_at nibbles_at value_at extended payload_at
 no_version = at_fault (128 ∷ 1 ∷ 0 ∷ 1 ∷ []) Version 0 refl refl
 
 -- a token length of 9
 pub long_token : Faulty (73 ∷ 1 ∷ 18 ∷ 52 ∷ []) TokenLength 0
-unfolding message_at frame_fault body_at walk walk_of option_at nibbles_at value_at extended payload_at
+unfolding decoded frame_fault body_at walk walk_of option_at nibbles_at value_at extended payload_at
 long_token = at_fault (73 ∷ 1 ∷ 18 ∷ 52 ∷ []) TokenLength 0 refl refl
 
 -- a token length of 2, and one byte
 pub cut_token : Faulty (66 ∷ 1 ∷ 0 ∷ 1 ∷ 10 ∷ []) TokenCut 5
-unfolding message_at frame_fault body_at walk walk_of option_at nibbles_at value_at extended payload_at
+unfolding decoded frame_fault body_at walk walk_of option_at nibbles_at value_at extended payload_at
 cut_token = at_fault (66 ∷ 1 ∷ 0 ∷ 1 ∷ 10 ∷ []) TokenCut 5 refl refl
 
 -- an Empty message with a byte behind the Message ID
 pub not_bare : Faulty (64 ∷ 0 ∷ 0 ∷ 1 ∷ 1 ∷ []) EmptyNotBare 4
-unfolding message_at frame_fault body_at walk walk_of option_at nibbles_at value_at extended payload_at
+unfolding decoded frame_fault body_at walk walk_of option_at nibbles_at value_at extended payload_at
 not_bare = at_fault (64 ∷ 0 ∷ 0 ∷ 1 ∷ 1 ∷ []) EmptyNotBare 4 refl refl
 
 -- a delta nibble 15 that is no payload marker, behind an option
 pub reserved_delta : Faulty (64 ∷ 1 ∷ 0 ∷ 1 ∷ 177 ∷ 116 ∷ 241 ∷ []) DeltaReserved 6
-unfolding message_at frame_fault body_at walk walk_of option_at nibbles_at value_at extended payload_at
+unfolding decoded frame_fault body_at walk walk_of option_at nibbles_at value_at extended payload_at
 reserved_delta = at_fault (64 ∷ 1 ∷ 0 ∷ 1 ∷ 177 ∷ 116 ∷ 241 ∷ []) DeltaReserved 6 refl refl
 
 -- a length nibble 15
 pub reserved_length : Faulty (64 ∷ 1 ∷ 0 ∷ 1 ∷ 31 ∷ []) LengthReserved 4
-unfolding message_at frame_fault body_at walk walk_of option_at nibbles_at value_at extended payload_at
+unfolding decoded frame_fault body_at walk walk_of option_at nibbles_at value_at extended payload_at
 reserved_length = at_fault (64 ∷ 1 ∷ 0 ∷ 1 ∷ 31 ∷ []) LengthReserved 4 refl refl
 
 -- an extended length that is cut
 pub cut_extension : Faulty (64 ∷ 1 ∷ 0 ∷ 1 ∷ 221 ∷ 0 ∷ []) OptionCut 6
-unfolding message_at frame_fault body_at walk walk_of option_at nibbles_at value_at extended payload_at
+unfolding decoded frame_fault body_at walk walk_of option_at nibbles_at value_at extended payload_at
 cut_extension = at_fault (64 ∷ 1 ∷ 0 ∷ 1 ∷ 221 ∷ 0 ∷ []) OptionCut 6 refl refl
 
 -- a value that is cut
 pub cut_value : Faulty (64 ∷ 1 ∷ 0 ∷ 1 ∷ 178 ∷ 116 ∷ []) OptionCut 6
-unfolding message_at frame_fault body_at walk walk_of option_at nibbles_at value_at extended payload_at
+unfolding decoded frame_fault body_at walk walk_of option_at nibbles_at value_at extended payload_at
 cut_value = at_fault (64 ∷ 1 ∷ 0 ∷ 1 ∷ 178 ∷ 116 ∷ []) OptionCut 6 refl refl
 
 -- an option behind that of the greatest number
 pub large_number : Faulty (64 ∷ 1 ∷ 0 ∷ 1 ∷ 224 ∷ 254 ∷ 242 ∷ 16 ∷ []) NumberTooLarge 7
-unfolding message_at frame_fault body_at walk walk_of option_at nibbles_at value_at extended payload_at
+unfolding decoded frame_fault body_at walk walk_of option_at nibbles_at value_at extended payload_at
 large_number = at_fault (64 ∷ 1 ∷ 0 ∷ 1 ∷ 224 ∷ 254 ∷ 242 ∷ 16 ∷ []) NumberTooLarge 7 refl refl
 
 -- a payload marker with no payload
 pub bare_marker : Faulty (64 ∷ 1 ∷ 18 ∷ 52 ∷ 255 ∷ []) NoPayload 5
-unfolding message_at frame_fault body_at walk walk_of option_at nibbles_at value_at extended payload_at
+unfolding decoded frame_fault body_at walk walk_of option_at nibbles_at value_at extended payload_at
 bare_marker = at_fault (64 ∷ 1 ∷ 18 ∷ 52 ∷ 255 ∷ []) NoPayload 5 refl refl

@@ -1,20 +1,15 @@
 -- One option that is read is in the grammar, and one in the grammar is read again.
 use Rattle.std.proofs.Common.{◌≡◌, ◌≢◌, ℕ, suc, ◌+◌, ◌-◌, ◌*◌, ◌/◌, ◌%◌, ◌^◌, ◌<◌, ◌≤◌, ◌⊎◌, Bool, true, false, cond, ltb, eqb, List, [], ◌∷◌, ◌++◌, length, take, drop, Result, Ok, Err, refl, sym, ap, subst, ◌∙◌, append_assoc, arith, inl, inr}
 use Rattle.std.proofs.lemmas.Bool.{ltb-true, ltb-false, eqb-true, eqb-false, lt-ltb, le-ltb, ne_eqb}
-use Rattle.std.proofs.lemmas.List.{take_at, drop_at, take-append-drop, length-append, length-take, get_or-append-add}
+use Rattle.std.proofs.lemmas.List.{take_at, drop_at, take-append-drop, length-append, length-take}
 use Rattle.coap_types.specs.CoapOption.{CoapOption}
 use Rattle.coap_codec.specs.declared.fault.Reason.{Reason}
 use Rattle.coap_codec.specs.declared.fault.Reason.TheVariants.{DeltaReserved, LengthReserved, OptionCut, NumberTooLarge}
 use Rattle.coap_codec.specs.Extension.{Ext}
 use Rattle.coap_codec.specs.Options.{IsOption}
-use Rattle.coap_codec.specs.Message.{AreBytes}
+use Rattle.coap_types.specs.Bytes.{AreBytes}
+use Rattle.coap_types.proofs.Facts.Bytes.{AreBytes-rest, AreBytes-tail, byte_at}
 use Rattle.coap_codec.specs.Reading.{◌>>=◌, one_more, two_more, extended, value_at, nibbles_at, option_at}
-
-pub AreBytes-rest : (front rest : List ℕ) → AreBytes (front ++ rest) → AreBytes rest
-AreBytes-rest front rest h i = rw get_or-append-add at (h (length front + i))
-
-pub AreBytes-tail : (b : ℕ) (bytes : List ℕ) → AreBytes (b ∷ bytes) → AreBytes bytes
-AreBytes-tail b bytes h i = h (suc i)
 
 pub chosen : {A : Type 0} (b : Bool) (x y z : A) → cond b x y ≡ z → ((b ≡ true) × (x ≡ z)) ⊎ ((b ≡ false) × (y ≡ z))
 chosen true x y z e = inl (refl, e)
@@ -46,12 +41,12 @@ said_at nibble bytes m left n rest e s = subst (λ (p : ℕ × List ℕ). Said p
 
 one_reads : (nibble : ℕ) (bytes : List ℕ) (n : ℕ) (rest : List ℕ) → AreBytes bytes → nibble ≡ 13 → one_more bytes ≡ Ok (n, rest) → Said n nibble bytes rest
 one_reads nibble [] n rest fits is e = absurd cc
-one_reads nibble (b ∷ bytes) n rest fits is e = said_at nibble (b ∷ bytes) (13 + b) bytes n rest e (record { more = b ∷ []; says = (fits 0, refl, is); parts = refl })
+one_reads nibble (b ∷ bytes) n rest fits is e = said_at nibble (b ∷ bytes) (13 + b) bytes n rest e (record { more = b ∷ []; says = (byte_at (b ∷ bytes) fits 0, refl, is); parts = refl })
 
 two_reads : (nibble : ℕ) (bytes : List ℕ) (n : ℕ) (rest : List ℕ) → AreBytes bytes → nibble ≡ 14 → two_more bytes ≡ Ok (n, rest) → Said n nibble bytes rest
 two_reads nibble [] n rest fits is e = absurd cc
 two_reads nibble (a ∷ []) n rest fits is e = absurd cc
-two_reads nibble (a ∷ b ∷ bytes) n rest fits is e = said_at nibble (a ∷ b ∷ bytes) (269 + (a * 256 + b)) bytes n rest e (record { more = a ∷ b ∷ []; says = (fits 0, fits 1, refl, is); parts = refl })
+two_reads nibble (a ∷ b ∷ bytes) n rest fits is e = said_at nibble (a ∷ b ∷ bytes) (269 + (a * 256 + b)) bytes n rest e (record { more = a ∷ b ∷ []; says = (byte_at (a ∷ b ∷ bytes) fits 0, byte_at (a ∷ b ∷ bytes) fits 1, refl, is); parts = refl })
 
 pub extended_reads : (nibble : ℕ) (bytes : List ℕ) (n : ℕ) (rest : List ℕ) → AreBytes bytes → nibble < 15 → extended nibble bytes ≡ Ok (n, rest) → Said n nibble bytes rest
 unfolding extended
@@ -170,7 +165,7 @@ option_reads base (first ∷ bytes) option rest fits e =
       | inr p ↦ elim (chosen (eqb (first % 16) 15) (Err LengthReserved) read (Ok (option, rest)) p.1) [
         | inl q ↦ absurd cc
         | inr q ↦
-            let byte : first < 256 = fits 0 in
+            let byte : first < 256 = byte_at (first ∷ bytes) fits 0 in
             let delta : first / 16 ≢ 15 = eqb-false (first / 16) 15 p.0 in
             let len : first % 16 ≢ 15 = eqb-false (first % 16) 15 q.0 in
             let h = nibbles_reads base (first / 16) (first % 16) bytes option rest (AreBytes-tail first bytes fits) (omega arith) (omega arith) q.1 in

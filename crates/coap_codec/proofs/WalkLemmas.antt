@@ -7,8 +7,9 @@ use Rattle.coap_codec.specs.declared.fault.Reason.TheVariants.{OptionCut}
 use Rattle.coap_codec.specs.Options.{Options}
 use Rattle.coap_codec.specs.Faulty.{last_number}
 use Rattle.coap_codec.specs.Reading.{option_at, Walk, with_first, ends_at, walk_of, walk}
-use Rattle.coap_codec.specs.Message.{AreBytes}
-use Rattle.coap_codec.proofs.StepLemmas.{AreBytes-rest, cases_result, option_reads, option_again, option_shorter}
+use Rattle.coap_types.specs.Bytes.{AreBytes}
+use Rattle.coap_types.proofs.Facts.Bytes.{AreBytes-rest}
+use Rattle.coap_codec.proofs.StepLemmas.{cases_result, option_reads, option_again, option_shorter}
 
 one_step : (n base : ℕ) (bytes : List ℕ) (option : CoapOption) (rest : List ℕ) → option_at base bytes ≡ Ok (option, rest) → walk_of (suc n) base bytes ≡ with_first option (walk_of n option.number rest)
 unfolding walk_of

@@ -3,6 +3,7 @@ use Rattle.std.specs.Prelude.{◌≡◌, ◌≢◌, ℕ, ◌+◌, ◌-◌, ◌/�
 use Rattle.coap_types.specs.CoapOption.{CoapOption}
 use Rattle.coap_types.specs.declared.message.Id.{Id}
 use Rattle.coap_types.specs.declared.message.Kind.{Kind}
+use Rattle.coap_types.specs.declared.message.TheConstants.Code.{EMPTY as empty_code}
 use Rattle.coap_codec.specs.Extension.{Ext}
 use Rattle.coap_codec.specs.Header.{version, kind_of, token_length, code, id_of}
 use Rattle.coap_codec.specs.Options.{Options}
@@ -54,7 +55,7 @@ abbrev pub needs : ℕ → ℕ
 needs nibble = if nibble == 13 then 1 else if nibble == 14 then 2 else 0
 
 -- Behind an option's first byte, the bytes say this delta and this length, and then this rest is left.
-pub record Says (first : ℕ) (bytes : List ℕ) (delta len : ℕ) (rest : List ℕ) : Type 0 where
+pub record HeadsOption (first : ℕ) (bytes : List ℕ) (delta len : ℕ) (rest : List ℕ) : Type 0 where
   pub more_delta : List ℕ
   pub more_len : List ℕ
   pub number : Ext delta (first / 16) more_delta
@@ -68,9 +69,9 @@ BadRest base (first ∷ bytes) DeltaReserved = (first / 16 ≡ 15) × (first ≢
 BadRest base (first ∷ bytes) LengthReserved = (first % 16 ≡ 15) × (first / 16 ≢ 15)
 BadRest base (first ∷ bytes) OptionCut = (first / 16 ≢ 15) × (first % 16 ≢ 15) ×
     ((length bytes < needs (first / 16) + needs (first % 16))
-    ⊎ ((delta : ℕ) × (len : ℕ) × (rest : List ℕ) × Says first bytes delta len rest × (base + delta < 2 ^ 16) × (length rest < len)))
+    ⊎ ((delta : ℕ) × (len : ℕ) × (rest : List ℕ) × HeadsOption first bytes delta len rest × (base + delta < 2 ^ 16) × (length rest < len)))
 BadRest base (first ∷ bytes) NumberTooLarge = (first / 16 ≢ 15) × (first % 16 ≢ 15) ×
-    ((delta : ℕ) × (len : ℕ) × (rest : List ℕ) × Says first bytes delta len rest × (2 ^ 16 ≤ base + delta))
+    ((delta : ℕ) × (len : ℕ) × (rest : List ℕ) × HeadsOption first bytes delta len rest × (2 ^ 16 ≤ base + delta))
 BadRest base (first ∷ bytes) NoPayload = (first ≡ 255) × (bytes ≡ [])
 BadRest base _ _ = ⊥
 
@@ -89,7 +90,7 @@ pub record IsHeader (bytes : List ℕ) : Type 0 where
 -- The token is there too, and an Empty message has nothing behind its header.
 pub record IsFramed (bytes : List ℕ) : Type 0 where
   pub header : IsHeader bytes
-  pub bare : code bytes ≡ 0 → (token_length bytes ≡ 0) × (length bytes ≡ 4)
+  pub bare : code bytes ≡ empty_code.0 → (token_length bytes ≡ 0) × (length bytes ≡ 4)
   pub token : 4 + token_length bytes ≤ length bytes
 
 -- The bytes are faulty for this reason at this place. Each case says what the reasons before it leave.
@@ -97,8 +98,8 @@ abbrev pub Faulty : List ℕ → Reason → ℕ → Type 0
 Faulty bytes Short at = (length bytes < 4) × (at ≡ length bytes)
 Faulty bytes Version at = (4 ≤ length bytes) × (version bytes ≢ 1) × (at ≡ 0)
 Faulty bytes TokenLength at = (4 ≤ length bytes) × (version bytes ≡ 1) × (8 < token_length bytes) × (at ≡ 0)
-Faulty bytes EmptyNotBare at = IsHeader bytes × (code bytes ≡ 0) × ((token_length bytes ≢ 0) ⊎ (4 < length bytes)) × (at ≡ 4)
-Faulty bytes TokenCut at = IsHeader bytes × (code bytes ≢ 0) × (length bytes < 4 + token_length bytes) × (at ≡ length bytes)
+Faulty bytes EmptyNotBare at = IsHeader bytes × (code bytes ≡ empty_code.0) × ((token_length bytes ≢ 0) ⊎ (4 < length bytes)) × (at ≡ 4)
+Faulty bytes TokenCut at = IsHeader bytes × (code bytes ≢ empty_code.0) × (length bytes < 4 + token_length bytes) × (at ≡ length bytes)
 Faulty bytes reason at = IsFramed bytes ×
     ((number : ℕ) × (rest : List ℕ) × Leaves (drop (4 + token_length bytes) bytes) number rest × BadRest number rest reason
     × (at ≡ place reason (length bytes - length rest) (length bytes)))

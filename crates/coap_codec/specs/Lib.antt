@@ -3,8 +3,11 @@ pub mod Options
 pub mod Message
 pub mod Header
 pub mod Faulty
+pub mod Spelling
+pub mod OfBytes
 pub mod Refused
 pub mod BoundedSpelling
-pub mod Laws
 pub mod Reading
+pub mod Decoded
 pub mod Writing
+pub mod Laws

@@ -1,16 +1,13 @@
 -- A message, and the bytes that spell it (RFC 7252, section 3).
-use Rattle.std.specs.Prelude.{◌≡◌, ℕ, ◌+◌, ◌*◌, ◌^◌, ◌<◌, ◌≤◌, List, [], ◌∷◌, ◌++◌, length, slice_index}
+use Rattle.std.specs.Prelude.{◌≡◌, ℕ, ◌+◌, ◌*◌, ◌^◌, ◌<◌, ◌≤◌, List, [], ◌∷◌, ◌++◌, length}
 use Rattle.byteorder.specs.Endian.{big_bytes}
 use Rattle.coap_types.specs.CoapOption.{CoapOption, options_of}
 use Rattle.coap_types.specs.declared.message.Kind.{Kind}
 use Rattle.coap_types.specs.declared.message.Kind.TheVariants.{Con, Non, Ack, Rst}
+use Rattle.coap_types.specs.declared.message.TheConstants.Code.{EMPTY as empty_code}
 use Rattle.coap_types.specs.declared.options.Opt.{Opt}
 use Rattle.coap_codec.specs.Options.{Options}
 use Rattle.coap_codec.specs.declared.head.Head.{Head}
-
--- each number is that of a byte
-abbrev pub AreBytes : List ℕ → Type 0
-AreBytes bytes = (i : ℕ) → slice_index bytes i < 2 ^ 8
 
 -- A message, wherever it lies in memory. One without a payload has the empty payload.
 pub record Message : Type 0 where
@@ -58,4 +55,8 @@ pub record Spells (bytes : List ℕ) (m : Message) : Type 0 where
   pub option_bytes : List ℕ
   pub options : Options 0 option_bytes m.options
   pub parts : bytes ≡ header m ++ (m.token ++ (option_bytes ++ marked m.payload))
-  pub empty : m.code ≡ 0 → length bytes ≡ 4
+  pub empty : m.code ≡ empty_code.0 → length bytes ≡ 4
+
+-- some bytes spell it
+abbrev pub HasSpelling : Message → Type 0
+HasSpelling m = (bytes : List ℕ) × Spells bytes m

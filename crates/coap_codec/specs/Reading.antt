@@ -1,7 +1,9 @@
--- The steps of the reader, on lists: what it takes from left to right, and the first fault that it meets. Only
--- private contracts cite them; what they mean is said in Message and Faulty.
+-- The steps of the reader, on lists: what it takes from left to right, and the first fault that it meets. Private
+-- contracts cite them, and `decoded` and the values of View and Options are made of them. What they mean is said in
+-- Message and Faulty, and no clause of a public function needs more.
 use Rattle.std.specs.Prelude.{◌≡◌, ℕ, zero, suc, ◌+◌, ◌*◌, ◌-◌, ◌/◌, ◌%◌, ◌==◌, ◌&&◌, not, nat_lt, if◌then◌else◌, List, [], ◌∷◌, length, take, drop, slice_index, Option, Some, None, Result, Ok, Err}
 use Rattle.coap_types.specs.CoapOption.{CoapOption}
+use Rattle.coap_types.specs.declared.message.Kind.{Kind}
 use Rattle.coap_codec.specs.Faulty.{place, head_of}
 use Rattle.coap_codec.specs.Header.{version, kind_of, token_length, code, id_of}
 use Rattle.coap_codec.specs.Message.{Message}
@@ -95,16 +97,21 @@ frame_fault bytes =
 abbrev pub behind_token : List ℕ → List ℕ
 behind_token bytes = drop (4 + token_length bytes) bytes
 
--- the message of sound bytes with this payload
-abbrev pub message_of : List ℕ → List ℕ → Message
-message_of bytes payload = record {
-  kind = kind_of (slice_index bytes 0);
-  code = code bytes;
-  id = id_of bytes;
-  token = take (token_length bytes) (drop 4 bytes);
-  options = (walk 0 (behind_token bytes)).options;
+-- the message of these parts, whose options are those that stand whole in front of the bytes
+abbrev pub viewed : Kind → ℕ → ℕ → List ℕ → List ℕ → List ℕ → Message
+viewed kind code id token bytes payload = record {
+  kind = kind;
+  code = code;
+  id = id;
+  token = token;
+  options = (walk 0 bytes).options;
   payload = payload;
 }
+
+-- the message of sound bytes with this payload
+abbrev pub message_of : List ℕ → List ℕ → Message
+message_of bytes payload =
+    viewed (kind_of (slice_index bytes 0)) (code bytes) (id_of bytes) (take (token_length bytes) (drop 4 bytes)) (behind_token bytes) payload
 
 unfoldable pub body_at : List ℕ → Result Message (Reason × ℕ)
 body_at bytes =
@@ -114,16 +121,7 @@ body_at bytes =
       | Err reason ↦ Err (reason, place reason (length bytes - length w.rest) (length bytes))
     ]
 
--- the message of the bytes, or the first fault and its place
-unfoldable pub message_at : List ℕ → Result Message (Reason × ℕ)
-message_at bytes = elim (frame_fault bytes) [ Some fault ↦ Err fault | None ↦ body_at bytes ]
-
--- what decoding gave is what reading gives
-abbrev pub Reads : List ℕ → Result Message Fault → Type 0
-Reads bytes (Ok m) = message_at bytes ≡ Ok m
-Reads bytes (Err f) = (message_at bytes ≡ Err (f.reason, f.at)) × (f.head ≡ head_of f.reason bytes)
-
--- the same of bytes whose header and token are sound
+-- what decoding gave is what reading gives, at bytes whose header and token are sound
 abbrev pub ReadsBody : List ℕ → Result Message Fault → Type 0
 ReadsBody bytes (Ok m) = body_at bytes ≡ Ok m
 ReadsBody bytes (Err f) = (body_at bytes ≡ Err (f.reason, f.at)) × (f.head ≡ head_of f.reason bytes)

@@ -2,6 +2,7 @@
 use Rattle.std.specs.Prelude.{◌≡◌, ℕ, ◌+◌, ◌<◌, ◌≤◌, nat_le, Bool, true, false, ◌&&◌, List, [], ◌∷◌, length, codes}
 use Rattle.std.specs.List.{list_all}
 use Rattle.coap_types.specs.CoapOption.{CoapOption}
+use Rattle.coap_types.specs.declared.message.TheConstants.Code.{EMPTY as empty_code}
 use Rattle.coap_codec.specs.Message.{Message, Spells}
 use Rattle.coap_codec.specs.declared.encoder.Refusal.{Refusal}
 use Rattle.coap_codec.specs.declared.encoder.Refusal.TheVariants.{NoRoom, OptionOrder, OptionTooLong, EmptyNotBare}
@@ -22,7 +23,7 @@ refusal_name EmptyNotBare = codes "EmptyNotBare"
 
 -- Code 0.00 with a token, an option or a payload: an Empty message has none of them.
 abbrev pub IsEmptyNotBare : Message → Type 0
-IsEmptyNotBare m = (m.code ≡ 0) × (0 < length m.token + (length m.options + length m.payload))
+IsEmptyNotBare m = (m.code ≡ empty_code.0) × (0 < length m.token + (length m.options + length m.payload))
 
 -- No option's number is below that of the option before it, nor the first below base: a delta is never negative.
 abbrev pub ascends : ℕ → List CoapOption → Bool

@@ -1,11 +1,11 @@
--- The steps of the writer, on lists. Only private contracts cite them; what they mean is said in Message.
-use Rattle.std.specs.Prelude.{◌≡◌, ℕ, ◌+◌, ◌-◌, ◌*◌, ◌^◌, ◌<◌, ◌≤◌, true, nat_lt, if◌then◌else◌, Option, Some, None, List, [], ◌∷◌, ◌++◌, length, take, drop}
+-- The steps of the writer, on lists. Only private contracts cite them; what is written is said in Spelling.
+use Rattle.std.specs.Prelude.{◌≡◌, ℕ, ◌+◌, ◌-◌, ◌^◌, ◌<◌, ◌≤◌, true, nat_lt, if◌then◌else◌, Option, Some, None, List, ◌++◌, length, take, drop}
 use Rattle.std.specs.List.{list_all}
-use Rattle.byteorder.specs.Endian.{big_bytes}
 use Rattle.coap_types.specs.CoapOption.{CoapOption}
 use Rattle.coap_types.specs.declared.options.Opt.{Opt}
-use Rattle.coap_codec.specs.Message.{Message, header, marked, Spells}
+use Rattle.coap_codec.specs.Message.{Message, marked, Spells}
 use Rattle.coap_codec.specs.Refused.{ascends, is_short}
+use Rattle.coap_codec.specs.Spelling.{options_bytes, message_bytes}
 
 -- the number is one that an option may have
 abbrev pub HasNumber : Opt → Type 0
@@ -14,28 +14,6 @@ HasNumber option = option.number < 2 ^ 16
 -- new is old with these bytes at this place
 abbrev pub Puts : List ℕ → ℕ → List ℕ → List ℕ → Type 0
 Puts old at bytes new = new ≡ take at old ++ (bytes ++ drop (at + length bytes) old)
-
--- the nibble of a number
-abbrev pub nibble : ℕ → ℕ
-nibble n = if nat_lt n 13 then n else if nat_lt n 269 then 13 else 14
-
--- the bytes that extend it
-abbrev pub more : ℕ → List ℕ
-more n = if nat_lt n 13 then [] else if nat_lt n 269 then (n - 13) ∷ [] else big_bytes 2 (n - 269)
-
--- an option behind one of number base
-unfoldable pub option_bytes : ℕ → CoapOption → List ℕ
-option_bytes base option =
-    (nibble (option.number - base) * 16 + nibble (length option.value)) ∷ (more (option.number - base) ++ (more (length option.value) ++ option.value))
-
--- options, the first behind one of number base
-unfoldable pub options_bytes : ℕ → List CoapOption → List ℕ
-options_bytes base [] = []
-options_bytes base (option ∷ options) = option_bytes base option ++ options_bytes option.number options
-
--- the bytes of a message
-abbrev pub message_bytes : Message → List ℕ
-message_bytes m = header m ++ (m.token ++ (options_bytes 0 m.options ++ marked m.payload))
 
 -- how many bytes a message of this token, these options and this payload has
 abbrev pub spelled_length : List ℕ → List CoapOption → List ℕ → ℕ

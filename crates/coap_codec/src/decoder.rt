@@ -1,7 +1,8 @@
 ghost use Rattle.std.specs.Prelude.{◌≡◌, ◌≤◌, ◌⊎◌, length, IfOk, IfErr, OnErr};
 ghost use Rattle.coap_codec.specs.Faulty.{Faulty, IsFramed, place, head_of};
 ghost use Rattle.coap_codec.specs.Message.{Message, Spells};
-ghost use Rattle.coap_codec.specs.Reading.{Reads, ReadsBody, frame_fault};
+ghost use Rattle.coap_codec.specs.Decoded.{Reads};
+ghost use Rattle.coap_codec.specs.Reading.{ReadsBody, frame_fault};
 
 use crate::fault::{Fault, Reason};
 use crate::head::{HEADER_LEN, VERSION, id_of, kind_of, token_len_of, version_of};
@@ -10,7 +11,7 @@ use crate::payload::payload_at;
 use crate::view::View;
 use coap_types::{Code, MAX_TOKEN_LEN};
 
-/// The first fault in front of the options, and its place.
+// The first fault in front of the options, and its place.
 #[tactic(auto, unfolding(crate::specs::Reading::frame_fault))]
 fn frame_fault(bytes: &[u8]) -> Option<(Reason, usize)>
     ensures { result ≡ frame_fault bytes.now }
@@ -37,7 +38,7 @@ fn frame_fault(bytes: &[u8]) -> Option<(Reason, usize)>
     None
 }
 
-/// The place of a fault, in `len` bytes of which what is behind the options begins at `start`.
+// The place of a fault, in `len` bytes of which what is behind the options begins at `start`.
 fn place(reason: Reason, start: usize, len: usize) -> usize
     ensures { result ≡ place reason start len }
 {
@@ -47,7 +48,7 @@ fn place(reason: Reason, start: usize, len: usize) -> usize
     }
 }
 
-/// The fault for this reason at this place.
+// The fault for this reason at this place.
 fn fault(bytes: &[u8], reason: Reason, at: usize) -> Fault
     requires { reason ≡ Reason.Short ⊎ 4 ≤ length bytes.now }
     ensures reason { result.reason ≡ reason }
@@ -61,7 +62,7 @@ fn fault(bytes: &[u8], reason: Reason, at: usize) -> Fault
     Fault { reason, at, head }
 }
 
-/// The message of bytes whose header and token are sound.
+// The message of bytes whose header and token are sound.
 #[tactic(auto, unfolding(crate::specs::Reading::body_at))]
 fn body(bytes: &[u8]) -> Result<View<'_>, Fault>
     requires { IsFramed bytes.now }
@@ -86,7 +87,7 @@ fn body(bytes: &[u8]) -> Result<View<'_>, Fault>
     }
 }
 
-/// The message of the bytes, or their first fault.
+// The message of the bytes, or their first fault.
 fn read(bytes: &[u8]) -> Result<View<'_>, Fault>
     ensures { Reads bytes.now result }
 {

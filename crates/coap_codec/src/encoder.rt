@@ -3,19 +3,16 @@ ghost use Rattle.std.specs.List.{list_all, All};
 ghost use Rattle.coap_types.specs.CoapOption.{options_of};
 ghost use Rattle.coap_codec.specs.Message.{Spells, message};
 ghost use Rattle.coap_codec.specs.Refused.{HasNoSpelling, IsEmptyNotBare, Refused, ascends, is_short, refusal_number};
-ghost use Rattle.coap_codec.specs.Writing.{Puts, HasNumber, IsWritable, message_bytes, spelled_length};
+ghost use Rattle.coap_codec.specs.Writing.{Puts, HasNumber, IsWritable, spelled_length};
+ghost use Rattle.coap_codec.specs.Spelling.{message_bytes};
 
 use crate::head::{HEADER_LEN, Head, header};
-use crate::nibble::MAX_EXTENDED;
+use crate::option_list::{are_short, ascends};
 use crate::option_put::{put_options, room_behind};
 use crate::payload::put_payload;
 use crate::put::put;
 use coap_types::{Code, Opt};
 use std::fmt;
-
-/// The longest value of an option, in bytes: the greatest length that can be said (RFC 7252,
-/// section 3.1).
-const MAX_VALUE_LEN: usize = MAX_EXTENDED;
 
 /// Why a message was not written.
 #[derive(Clone, Copy, Debug, PartialEq, Eq)]
@@ -61,57 +58,21 @@ impl fmt::Display for Refusal {
     }
 }
 
-/// The option's number, which fits its type.
-fn number_of(option: &Opt<'_>) -> u16
-    ensures { result ≡ option.now.number }
-{
-    option.number
-}
-
-/// The code's byte, which fits its type.
+// The code's byte, which fits its type.
 fn code_of(head: &Head) -> u8
     ensures { result ≡ head.now.code.0 }
 {
     head.code.0
 }
 
-/// The Message ID's number, which fits its type.
+// The Message ID's number, which fits its type.
 fn id_of(head: &Head) -> u16
     ensures { result ≡ head.now.id.0 }
 {
     head.id.0
 }
 
-/// No number is below the one before.
-fn ascends(options: &[Opt<'_>]) -> bool
-    ensures exact { result ≡ ascends 0 (options_of options.now) }
-    // The numbers are those of options.
-    ensures numbers { IsTrue result → All HasNumber options.now }
-{
-    let mut base = 0;
-    for option in options {
-        let number = number_of(option);
-        if number < base {
-            return false;
-        }
-        base = number;
-    }
-    true
-}
-
-/// No value is too long to be written.
-fn are_short(options: &[Opt<'_>]) -> bool
-    ensures { result ≡ list_all is_short (options_of options.now) }
-{
-    for option in options {
-        if option.value.len() > MAX_VALUE_LEN {
-            return false;
-        }
-    }
-    true
-}
-
-/// The message is Empty by its code, and has more than a header.
+// The message is Empty by its code, and has more than a header.
 fn is_empty_not_bare(head: &Head, options: &[Opt<'_>], payload: &[u8]) -> bool
     ensures { IsTrue result ↔ IsEmptyNotBare (message head.now options.now payload.now) }
 {
@@ -119,7 +80,7 @@ fn is_empty_not_bare(head: &Head, options: &[Opt<'_>], payload: &[u8]) -> bool
     head.code == Code::EMPTY && !bare
 }
 
-/// There is room for a message with this token.
+// There is room for a message with this token.
 fn has_room(token: &[u8], options: &[Opt<'_>], payload: &[u8], room: usize) -> bool
     requires token { length token.now ≤ 8 }
     requires order { ascends 0 (options_of options.now) ≡ true }
@@ -136,7 +97,7 @@ fn has_room(token: &[u8], options: &[Opt<'_>], payload: &[u8], room: usize) -> b
     }
 }
 
-/// Why a message is not to be written into this room.
+// Why a message is not to be written into this room.
 fn refuses(head: &Head, options: &[Opt<'_>], payload: &[u8], room: usize) -> Option<Refusal>
     ensures refused { IfSome result (λ r. Refused r (message head.now options.now payload.now) room) }
     ensures none { IfNone result (IsWritable (message head.now options.now payload.now) room) }
@@ -159,7 +120,7 @@ fn refuses(head: &Head, options: &[Opt<'_>], payload: &[u8], room: usize) -> Opt
     None
 }
 
-/// Writes a message from the start on, and answers its length.
+// Writes a message from the start on, and answers its length.
 fn put_message(out: &mut [u8], head: &Head, options: &[Opt<'_>], payload: &[u8]) -> usize
     requires { IsWritable (message head.now options.now payload.now) (length out.old) }
     ensures written { Puts out.old 0 (message_bytes (message head.now options.now payload.now)) out.new }

@@ -9,13 +9,13 @@ use coap_types::{Code, Id, Kind, Token};
 pub(crate) const HEADER_LEN: usize = 4;
 /// The version of CoAP, in the upper 2 bits of the first byte (RFC 7252, section 3).
 pub(crate) const VERSION: u8 = 1;
-/// Where the Message ID stands, in 2 bytes, most significant first (RFC 7252, section 3).
+// Where the Message ID stands, in 2 bytes, most significant first (RFC 7252, section 3).
 const ID_AT: usize = 2;
-/// The version counts this many times in the first byte.
+// The version counts this many times in the first byte.
 const VERSION_UNIT: u8 = 64;
-/// The type, of 2 bits, counts this many times in the first byte; the token length is below it.
+// The type, of 2 bits, counts this many times in the first byte; the token length is below it.
 const KIND_UNIT: u8 = 16;
-/// How many types there are.
+// How many types there are.
 const KINDS: u8 = 4;
 
 /// What a message begins with: the header, of 4 bytes, and the token (RFC 7252, section 3).
@@ -66,7 +66,7 @@ pub(crate) fn id_of(bytes: &[u8]) -> Id
     Id(BigEndian::read_u16(&bytes[ID_AT..]))
 }
 
-/// The 2 bits of a type.
+// The 2 bits of a type.
 fn kind_number(kind: Kind) -> u8
     ensures exact { result ≡ kind_number kind }
     ensures small { result ≤ 3 }

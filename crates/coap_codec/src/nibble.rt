@@ -1,22 +1,23 @@
 ghost use Rattle.std.specs.Prelude.{◌≡◌, ◌≤◌, ◌<◌, ◌+◌, ◌^◌, length, IfOk};
 ghost use Rattle.coap_codec.specs.Reading.{Gives, extended};
-ghost use Rattle.coap_codec.specs.Writing.{Puts, nibble, more};
+ghost use Rattle.coap_codec.specs.Writing.{Puts};
+ghost use Rattle.coap_codec.specs.Spelling.{nibble, more};
 
 use crate::fault::Reason;
 use crate::put::put;
 use byteorder::{BigEndian, ByteOrder};
 
-/// The nibble of a number that stands in one byte more (RFC 7252, section 3.1).
+// The nibble of a number that stands in one byte more (RFC 7252, section 3.1).
 const ONE_BYTE: u8 = 13;
-/// The nibble of a number that stands in two bytes more (RFC 7252, section 3.1).
+// The nibble of a number that stands in two bytes more (RFC 7252, section 3.1).
 const TWO_BYTES: u8 = 14;
 /// The nibble that stands for no number (RFC 7252, section 3.1).
 pub(crate) const RESERVED: u8 = 15;
 /// The delta nibble counts this many times in an option's first byte; the length nibble is below it.
 pub(crate) const DELTA_UNIT: u8 = 16;
-/// The least number that takes one byte more, which holds what the number is above it.
+// The least number that takes one byte more, which holds what the number is above it.
 const ONE_BYTE_BASE: usize = 13;
-/// The least number that takes two bytes more, which hold what the number is above it.
+// The least number that takes two bytes more, which hold what the number is above it.
 const TWO_BYTE_BASE: usize = ONE_BYTE_BASE + 256;
 /// The greatest number that a nibble and two bytes more say.
 pub(crate) const MAX_EXTENDED: usize = TWO_BYTE_BASE + 65_535;

@@ -2,14 +2,15 @@ ghost use Rattle.std.specs.Prelude.{◌≡◌, ◌≤◌, ◌+◌, true, length}
 ghost use Rattle.std.specs.List.{list_all};
 ghost use Rattle.coap_types.specs.CoapOption.{option_of, options_of};
 ghost use Rattle.coap_codec.specs.Refused.{ascends, is_short};
-ghost use Rattle.coap_codec.specs.Writing.{Puts, option_bytes, options_bytes, room_after};
+ghost use Rattle.coap_codec.specs.Writing.{Puts, room_after};
+ghost use Rattle.coap_codec.specs.Spelling.{option_bytes, options_bytes};
 
 use crate::nibble::{DELTA_UNIT, more_len, nibble, put_more};
 use crate::put::put;
 use coap_types::Opt;
 
-/// How many bytes an option takes behind one of number `base`.
-#[tactic(auto, unfolding(crate::specs::Writing::option_bytes))]
+// How many bytes an option takes behind one of number `base`.
+#[tactic(auto, unfolding(crate::specs::Spelling::option_bytes))]
 fn option_len(base: u16, option: &Opt<'_>) -> usize
     requires order { base ≤ option.now.number }
     requires short { length option.now.value.now ≤ 65804 }
@@ -39,8 +40,8 @@ pub(crate) fn room_behind(options: &[Opt<'_>], room: usize) -> Option<usize>
     Some(left)
 }
 
-/// Writes an option behind one of number `base`, and answers the place behind it.
-#[tactic(auto, unfolding(crate::specs::Writing::option_bytes))]
+// Writes an option behind one of number `base`, and answers the place behind it.
+#[tactic(auto, unfolding(crate::specs::Spelling::option_bytes))]
 fn put_option(out: &mut [u8], at: usize, base: u16, option: &Opt<'_>) -> usize
     requires order { base ≤ option.now.number }
     requires short { length option.now.value.now ≤ 65804 }

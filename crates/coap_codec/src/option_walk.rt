@@ -6,10 +6,10 @@ use crate::fault::Reason;
 use crate::nibble::{DELTA_UNIT, RESERVED, extended};
 use coap_types::Opt;
 
-/// The greatest option number (RFC 7252, section 12.2).
+// The greatest option number (RFC 7252, section 12.2).
 const MAX_OPTION_NUMBER: usize = 65_535;
 
-/// The option of this number, whose value is in front of the bytes.
+// The option of this number, whose value is in front of the bytes.
 #[tactic(auto, unfolding(crate::specs::Reading::value_at))]
 fn value_at(number: usize, len: usize, bytes: &[u8]) -> Result<(Opt<'_>, &[u8]), Reason>
     ensures { Gives (λ x. (option_of x.0, x.1.now)) result (value_at number len bytes.now) }
@@ -25,7 +25,7 @@ fn value_at(number: usize, len: usize, bytes: &[u8]) -> Result<(Opt<'_>, &[u8]),
     Ok((Opt { number, value }, rest))
 }
 
-/// The option of these nibbles, behind one of number `base`.
+// The option of these nibbles, behind one of number `base`.
 #[tactic(auto, unfolding(crate::specs::Reading::nibbles_at))]
 fn nibbles_at(base: u16, delta: u8, len: u8, bytes: &[u8]) -> Result<(Opt<'_>, &[u8]), Reason>
     requires delta { delta < 15 }

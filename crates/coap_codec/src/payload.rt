@@ -6,7 +6,7 @@ ghost use Rattle.coap_codec.specs.Writing.{Puts};
 use crate::fault::Reason;
 use crate::put::put;
 
-/// The byte between the options and the payload (RFC 7252, section 3).
+// The byte between the options and the payload (RFC 7252, section 3).
 const PAYLOAD_MARKER: u8 = 0xff;
 
 /// The payload in what is behind the options, of which no further one begins for this reason.

@@ -3,7 +3,7 @@ use coap_types::{Code, Id, Kind, Opt, Token};
 use std::alloc::{AllocError, Global};
 use std::test::*;
 
-/// A message and its spelling.
+// A message and its spelling.
 #[derive(Clone, Copy)]
 struct Row {
     bytes: &'static [u8],
@@ -89,7 +89,7 @@ const LONG: Row = Row {
     payload: b"\xff",
 };
 
-/// One byte more than a value has.
+// One byte more than a value has.
 static TOO_LONG: [u8; 65_805] = [0; 65_805];
 
 fn head_of(row: &Row) -> Option<Head> {
@@ -212,7 +212,7 @@ fn tokens_have_0_to_8_bytes(rt: HostRuntime) -> Result<(), Fail> {
     Ok(())
 }
 
-/// What a front of a datagram comes to.
+// What a front of a datagram comes to.
 #[derive(Clone, Copy)]
 enum Front {
     Message,
@@ -339,6 +339,42 @@ fn refusals_come_in_order(rt: HostRuntime) -> Result<(), Fail> {
 }
 
 #[test]
+fn options_are_counted_as_they_are_written(rt: HostRuntime) -> Result<(), Fail> {
+    let falling = [
+        Opt {
+            number: 12,
+            value: b"",
+        },
+        Opt {
+            number: 11,
+            value: b"",
+        },
+    ];
+    let longest = [Opt {
+        number: 65_535,
+        value: &TOO_LONG[1..],
+    }];
+    let too_long = [Opt {
+        number: 0,
+        value: &TOO_LONG,
+    }];
+    let cases: [(&[Opt<'_>], Option<usize>); 8] = [
+        (GET.options, Some(12)),
+        (CONTENT.options, Some(10)),
+        (PING.options, Some(0)),
+        (CONTINUE.options, Some(3)),
+        (LONG.options, Some(19)),
+        (&longest, Some(65_809)),
+        (&falling, None),
+        (&too_long, None),
+    ];
+    for (options, len) in cases {
+        assert_eq!(rt; options_len(options), len);
+    }
+    Ok(())
+}
+
+#[test]
 fn reasons_and_refusals_are_printed_by_name(rt: HostRuntime) -> Result<(), Fail> {
     let printed = format!(in rt.alloc(); "{} {}", Reason::NoPayload, Refusal::NoRoom)?;
     assert_eq!(rt; printed.as_str(), "NoPayload NoRoom");
@@ -349,5 +385,6 @@ fn reasons_and_refusals_are_printed_by_name(rt: HostRuntime) -> Result<(), Fail>
 fn laws(_rt: HostRuntime) {
     one_reading();
     one_spelling();
+    spelling_law();
     bounded_spelling();
 }

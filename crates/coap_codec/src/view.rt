@@ -1,10 +1,12 @@
-ghost use Rattle.std.specs.Prelude.{◌≡◌, ◌<◌, ◌^◌, length};
+ghost use Rattle.std.specs.Prelude.{◌≡◌, ◌≤◌, ◌<◌, ◌^◌, true, length};
+ghost use Rattle.coap_codec.specs.Message.{HasSpelling};
+ghost use Rattle.coap_codec.specs.Refused.{ascends};
 
 use crate::option_walk::option_at;
 use coap_types::{Code, Id, Kind, Opt};
 use std::marker::Model;
 
-/// A message, lent from the datagram that spells it (RFC 7252, section 3).
+/// A message, lent from a datagram that spells it (RFC 7252, section 3).
 #[derive(Drop)]
 pub struct View<'a> {
     pub(crate) kind: Kind,
@@ -16,19 +18,14 @@ pub struct View<'a> {
 }
 
 impl<'a> Model for View<'a> {
-    ghost use Rattle.coap_codec.specs.Message.{Message};
-    ghost use Rattle.coap_codec.specs.Reading.{walk};
+    ghost use Rattle.coap_codec.specs.Message.{Message, HasSpelling};
+    ghost use Rattle.coap_codec.specs.Reading.{viewed};
 
     ghost Value = { Message };
 
-    ghost view = { λ v. record {
-      kind = v.kind;
-      code = v.code.0;
-      id = v.id.0;
-      token = v.token.now;
-      options = (walk 0 v.options.now).options;
-      payload = v.payload.now;
-    } };
+    ghost view = { λ v. viewed v.kind v.code.0 v.id.0 v.token.now v.options.now v.payload.now };
+
+    ghost invariant = { λ v. HasSpelling (viewed v.kind v.code.0 v.id.0 v.token.now v.options.now v.payload.now) };
 }
 
 impl<'a> View<'a> {
@@ -53,9 +50,10 @@ impl<'a> View<'a> {
         self.id
     }
 
-    /// The token; of 0 to 8 bytes in what `decode` gives.
+    /// The token, of 0 to 8 bytes.
     pub fn token(&self) -> &'a [u8]
-        ensures { result.now ≡ self.now.token }
+        ensures bytes { result.now ≡ self.now.token }
+        ensures few { length result.now ≤ 8 }
     {
         self.token
     }
@@ -67,9 +65,10 @@ impl<'a> View<'a> {
         self.payload
     }
 
-    /// The options in order; their numbers don't fall in what `decode` gives.
+    /// The options, none of whose numbers is below that of the one before it.
     pub fn options(&self) -> Options<'a>
         ensures list { result ≡ self.now.options }
+        ensures order { ascends 0 self.now.options ≡ true }
         ensures few { length self.now.options < 2 ^ 63 }
     {
         // An option takes at least a byte, so there are no more of them than a slice has bytes.

@@ -1,56 +1,38 @@
 -- What a server checks of a request before its store serves it, in this order (RFC 7252, sections 5.4.1, 5.7.2, 5.8 and
 -- 5.10; RFC 7959, section 2.2; the order, and the bounds, are a profile).
-use Rattle.std.specs.Prelude.{ℕ, ◌==◌, ◌%◌, nat_lt, Bool, false, ◌||◌, Option, Some, None, List, length, map, if◌then◌else◌}
-use Rattle.std.specs.List.{filter}
+use Rattle.std.specs.Prelude.{ℕ, ◌==◌, ◌%◌, nat_lt, Bool, false, ◌||◌, Option, Some, None, List, length, if◌then◌else◌}
 use Rattle.coap_types.specs.CoapOption.{CoapOption}
 use Rattle.coap_types.specs.Uint.{uint_value}
-use Rattle.coap_types.specs.Unrecognised.{lacks_critical}
+use Rattle.coap_types.specs.Recognised.{lacks_critical}
 use Rattle.coap_types.specs.declared.direction.Direction.TheVariants as direction
+use Rattle.coap_types.specs.MethodCode.{method_of}
+use Rattle.coap_types.specs.RequestPath.{path_of}
+use Rattle.coap_types.specs.declared.message.TheConstants.Code as codes
+use Rattle.coap_types.specs.declared.path.TheConstants.{MAX_SEGMENTS as max_segments}
 use Rattle.coap_types.specs.declared.message.Kind.{Kind}
 use Rattle.coap_types.specs.declared.message.Kind.TheVariants.{Con}
 use Rattle.coap_types.specs.declared.request.Method.{Method}
-use Rattle.coap_types.specs.declared.request.Method.TheVariants.{Get, Post, Put, Delete}
 use Rattle.coap_codec.specs.Message.{Message}
-use Rattle.coap_resource.specs.RequestOptions.{has, value_of}
+use Rattle.coap_types.specs.OptionValues.{has, value_of}
 use Rattle.coap_resource.specs.Serves.{Question}
-use Rattle.coap_ends.specs.ClientRequests.{uri_path, block1, block2}
-use Rattle.coap_ends.specs.ClientReports.{recognised}
+use Rattle.coap_types.specs.declared.option_number.TheConstants.{BLOCK1 as block1, BLOCK2 as block2, PROXY_URI as proxy_uri, PROXY_SCHEME as proxy_scheme}
+use Rattle.coap_types.specs.Recognised.{recognised}
 
--- the numbers of the options, and the codes of the refusals
-abbrev pub proxy_uri : ℕ
-proxy_uri = 35
-
-abbrev pub proxy_scheme : ℕ
-proxy_scheme = 39
-
+-- the codes of the refusals
 abbrev pub bad_request : ℕ
-bad_request = 128
+bad_request = codes.BAD_REQUEST.0
 
 abbrev pub bad_option : ℕ
-bad_option = 130
+bad_option = codes.BAD_OPTION.0
 
 abbrev pub method_not_allowed : ℕ
-method_not_allowed = 133
+method_not_allowed = codes.METHOD_NOT_ALLOWED.0
 
 abbrev pub proxying_not_supported : ℕ
-proxying_not_supported = 165
-
-abbrev pub max_segments : ℕ
-max_segments = 16
+proxying_not_supported = codes.PROXYING_NOT_SUPPORTED.0
 
 abbrev pub asks : Message → List CoapOption
 asks m = recognised direction.Request m.options
-
-abbrev pub method_by : ℕ → Option Method
-method_by code =
-    if code == 1 then Some Get
-    else (if code == 2 then Some Post
-    else (if code == 3 then Some Put
-    else (if code == 4 then Some Delete
-    else None)))
-
-abbrev pub path_of : List CoapOption → List (List ℕ)
-path_of options = map (λ o. o.value) (filter (λ o. o.number == uri_path) options)
 
 -- a Block option whose size exponent is 7, which is reserved
 abbrev pub ends_in_7 : Option ℕ → Bool
@@ -88,4 +70,4 @@ abbrev pub verdict_on : ℕ → Message → Verdict
 verdict_on szx m =
     if lacks_critical direction.Request m.options || has block1 (asks m) then bad_by m.kind
     else (if has proxy_uri (asks m) || has proxy_scheme (asks m) then Refused proxying_not_supported
-    else asked_by szx (method_by m.code) m)
+    else asked_by szx (method_of m.code) m)

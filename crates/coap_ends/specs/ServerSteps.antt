@@ -2,13 +2,13 @@
 use Rattle.std.specs.Prelude.{◌≡◌, ℕ, ◌+◌, ◌-◌, max, nat_lt, nat_le, Bool, true, false, ◌&&◌, not, Option, Some, None, List, [], ◌∷◌, ◌++◌, length, filter, Result, Ok, Err, if◌then◌else◌, All}
 use Rattle.coap_types.specs.CoapOption.{CoapOption}
 use Rattle.coap_types.specs.Path.{same_path}
-use Rattle.coap_types.specs.Uint.{AreBytes}
+use Rattle.coap_types.specs.Bytes.{AreBytes}
 use Rattle.coap_types.specs.declared.message.Kind.{Kind}
 use Rattle.coap_types.specs.declared.message.Kind.TheVariants.{Con}
 use Rattle.coap_codec.specs.Message.{Message}
 use Rattle.coap_layer.specs.Trace as L
 use Rattle.coap_resource.specs.declared.refusal.StoreRefusal.{StoreRefusal}
-use Rattle.coap_resource.specs.Content.{Content, Held, Changes, put_refusal, unchanged}
+use Rattle.coap_resource.specs.Content.{Content, Held, Changes, put_refusal, later}
 use Rattle.coap_resource.specs.Rate.{rate_refusal}
 use Rattle.coap_resource.specs.ResponseOptions.{Says}
 use Rattle.coap_resource.specs.Serves.{Question, Reply}
@@ -18,25 +18,24 @@ use Rattle.coap_exchange.specs.declared.answerer.Due.{Due}
 use Rattle.coap_exchange.specs.declared.answerer.Due.TheVariants as due
 use Rattle.coap_exchange.specs.AnswererTrace as E
 use Rattle.coap_exchange.specs.AnswererFollows.{same_asked}
+use Rattle.coap_exchange.specs.AnswererSteps.{max_deferred}
+use Rattle.coap_ends.specs.declared.limits.TheConstants.{MAX_DELAYS as max_delays}
 use Rattle.coap_ends.specs.ServerTrace.{Waiting, Delay, Own, Handling, Silent, Refuses, Serves, Waits, Call, Sets, Removes, Delays, Feeds, Ticks, NextOut}
 use Rattle.coap_ends.specs.ServerChecks.{Verdict, Ignored, Refused, Asks, verdict_on}
 
 -- local changes
 
 abbrev pub SetsBy : Option StoreRefusal → Content → ℕ → List (List ℕ) → Option ℕ → List ℕ → Result ℕ StoreRefusal → Content → Type 0
-SetsBy (Some why) old at path format body answer left = (answer ≡ Err why) × (left ≡ unchanged old at)
+SetsBy (Some why) old at path format body answer left = (answer ≡ Err why) × (left ≡ later old at)
 SetsBy None old at path format body answer left =
     (answer ≡ Ok (old.tally.version + 1)) × Changes old at path (Some (record { version = old.tally.version + 1; format = format; body = body })) left
 
 abbrev pub RemovesBy : Option Held → Option StoreRefusal → Content → ℕ → List (List ℕ) → Result Bool StoreRefusal → Content → Type 0
-RemovesBy None why old at path answer left = (answer ≡ Ok false) × (left ≡ unchanged old at)
-RemovesBy (Some held) (Some why) old at path answer left = (answer ≡ Err why) × (left ≡ unchanged old at)
+RemovesBy None why old at path answer left = (answer ≡ Ok false) × (left ≡ later old at)
+RemovesBy (Some held) (Some why) old at path answer left = (answer ≡ Err why) × (left ≡ later old at)
 RemovesBy (Some held) None old at path answer left = (answer ≡ Ok true) × Changes old at path None left
 
--- delays, at most 16 (profile)
-
-abbrev pub max_delays : ℕ
-max_delays = 16
+-- delays
 
 abbrev pub others : List (List ℕ) → List Delay → List Delay
 others path ds = filter (λ d. not (same_path d.path path)) ds
@@ -68,9 +67,9 @@ pub record IsServed (old : Content) (at : ℕ) (q : Question) (h : Handling) : T
 abbrev pub bare : ℕ → E.Response
 bare code = record { code = code; options = []; payload = [] }
 
--- at most 16 requests wait (profile)
+-- as many requests wait at most as are deferred at most
 abbrev pub max_waiting : ℕ
-max_waiting = 16
+max_waiting = max_deferred
 
 -- a CON to a path that has a delay waits, where there is a place
 abbrev pub waits_by : Kind → Option ℕ → ℕ → Option ℕ
@@ -99,9 +98,9 @@ abbrev pub question_of : ℕ → Asked → List Waiting → Option Question
 question_of at a [] = None
 question_of at a (w ∷ ws) = if is_of at a w then Some w.question else question_of at a ws
 
-abbrev pub without : ℕ → Asked → List Waiting → List Waiting
-without at a [] = []
-without at a (w ∷ ws) = if is_of at a w then ws else w ∷ without at a ws
+abbrev pub without_waiting : ℕ → Asked → List Waiting → List Waiting
+without_waiting at a [] = []
+without_waiting at a (w ∷ ws) = if is_of at a w then ws else w ∷ without_waiting at a ws
 
 abbrev pub AnswersWaiting : Option Question → Content → ℕ → Handling → Type 0
 AnswersWaiting None old at h = h ≡ Silent
@@ -157,7 +156,7 @@ waiting_with at (Some p) (Waits q delay) ws = ws ++ record { asked = p.0; at = a
 waiting_with at came h ws = ws
 
 abbrev pub waiting_after : ℕ → Due → List Waiting → List Waiting
-waiting_after at (due.Ready a) ws = without at a ws
+waiting_after at (due.Ready a) ws = without_waiting at a ws
 waiting_after at d ws = ws
 
 abbrev pub after : Own → Call → Own

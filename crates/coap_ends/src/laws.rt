@@ -1,40 +1,44 @@
-ghost use Rattle.std.specs.Prelude.{ℕ, List};
+ghost use Rattle.std.specs.Prelude.{ℕ, List, ◌++◌};
 ghost use Rattle.coap_types.specs.declared.endpoint.Endpoint.{Endpoint};
 ghost use Rattle.coap_types.specs.Past.{Always};
 ghost use Rattle.coap_layer.specs.Channel.{RepliesSo};
 ghost use Rattle.coap_layer.specs.Follows.{CopiesInTime, HandedUpOnce};
 ghost use Rattle.coap_layer.specs.Rows.{LayerLaw};
-ghost use Rattle.coap_ends.specs.ClientBegins.{ConsAreRequests};
-ghost use Rattle.coap_ends.specs.ClientEnds.{AllEnds};
-ghost use Rattle.coap_ends.specs.ClientExact as clients_exact;
-ghost use Rattle.coap_ends.specs.ClientFollows.{AreSent, ReportsAreAnswers, AreFromServer, ReportedOnce};
-ghost use Rattle.coap_ends.specs.ClientGives.{GivesInOrder};
-ghost use Rattle.coap_ends.specs.ClientGoesOn.{GoesOn};
-ghost use Rattle.coap_ends.specs.ClientHears.{AreHeard};
+ghost use Rattle.coap_ends.specs.Follows.ClientBegins.{ConsAreRequests};
+ghost use Rattle.coap_ends.specs.Follows.ClientEnds.{AllEnds};
+ghost use Rattle.coap_ends.specs.Follows.ClientExact as clients_exact;
+ghost use Rattle.coap_ends.specs.Follows.ClientFollows.{AreSent, ReportsAreAnswers, AreFromServer, ReportedOnce};
+ghost use Rattle.coap_ends.specs.Follows.ClientGives.{GivesInOrder};
+ghost use Rattle.coap_ends.specs.Follows.ClientGoesOn.{GoesOn};
+ghost use Rattle.coap_ends.specs.Follows.ClientHears.{AreHeard};
 ghost use Rattle.coap_ends.specs.ClientLaw.{ClientLaw, layer_of};
-ghost use Rattle.coap_ends.specs.ClientNumbering.{OneCall};
-ghost use Rattle.coap_ends.specs.ClientQueue.{StartsInOrder, AllTaken};
-ghost use Rattle.coap_ends.specs.ClientRests.{ComesToRest};
-ghost use Rattle.coap_ends.specs.ClientSendings.{OneSending, NoNons, OneCon};
+ghost use Rattle.coap_ends.specs.Follows.ClientInOrder.{AreInOrder};
+ghost use Rattle.coap_ends.specs.Follows.ClientNumbering.{OneCall};
+ghost use Rattle.coap_ends.specs.Follows.ClientQueue.{StartsInOrder, AllTaken};
+ghost use Rattle.coap_ends.specs.Follows.ClientRests.{ComesToRest};
+ghost use Rattle.coap_ends.specs.Follows.ClientSendings.{OneSending, NoNons, OneCon};
 ghost use Rattle.coap_ends.specs.ClientTrace.{Call};
-ghost use Rattle.coap_ends.specs.ServerExact as servers_exact;
-ghost use Rattle.coap_ends.specs.ServerFollows.{ServedOnce, AllServed, HoldsChanges};
-ghost use Rattle.coap_ends.specs.ServerGives.{SendsResponses};
-ghost use Rattle.coap_ends.specs.ServerGoesOn as servers_go;
-ghost use Rattle.coap_ends.specs.ServerHands.{AreHandedUp};
+ghost use Rattle.coap_ends.specs.Follows.ServerCounts.{Counted};
+ghost use Rattle.coap_ends.specs.Follows.ServerExact as servers_exact;
+ghost use Rattle.coap_ends.specs.Follows.ServerFollows.{ServedOnce, AllServed, HoldsChanges};
+ghost use Rattle.coap_ends.specs.Follows.ServerGives.{SendsResponses};
+ghost use Rattle.coap_ends.specs.Follows.ServerGoesOn as servers_go;
+ghost use Rattle.coap_ends.specs.Follows.ServerHands.{AreHandedUp};
 ghost use Rattle.coap_ends.specs.ServerLaw as servers;
 ghost use Rattle.coap_ends.specs.ServerLaw.{ServerLaw};
-ghost use Rattle.coap_ends.specs.ServerRests as servers_rest;
-ghost use Rattle.coap_ends.specs.ServerShows.{FormatsInRange, ShowsHeld};
-ghost use Rattle.coap_ends.specs.ServerTable.{AllMethods};
-ghost use Rattle.coap_ends.specs.ServerTags.{AreStamped, OneTag};
+ghost use Rattle.coap_ends.specs.Follows.ServerRests as servers_rest;
+ghost use Rattle.coap_ends.specs.Follows.ServerShows.{FormatsInRange, ShowsHeld};
+ghost use Rattle.coap_ends.specs.Follows.ServerTable.{AllMethods};
+ghost use Rattle.coap_ends.specs.Follows.ServerTags.{AreStamped, OneTag};
 ghost use Rattle.coap_ends.specs.ServerTrace as server;
-ghost use Rattle.coap_ends.specs.ServerWaits.{WaitsAsDeferred, ReadyAreServed};
+ghost use Rattle.coap_ends.specs.Follows.ServerWaits.{WaitsAsDeferred, ReadyAreServed};
 
 /// What follows from the law of a client, over its own trace.
 pub fn client_law()
     // The calls of its message layer stand in the law of that layer (RFC 7252, section 4).
     ensures layer { (server : Endpoint) (szx word : ℕ) (t : List Call) → ClientLaw server szx word t → LayerLaw word (layer_of server word t) }
+    // The calls before some calls stand in the law too.
+    ensures back { (server : Endpoint) (szx word : ℕ) (calls t : List Call) → ClientLaw server szx word (calls ++ t) → ClientLaw server szx word t }
     // The law leaves each call one answer.
     ensures exact { (server : Endpoint) (szx word : ℕ) (past : List Call) → clients_exact.IsExact server szx word past }
     // .. and each has one: what stands in the law goes on.
@@ -55,6 +59,9 @@ pub fn client_law()
     ensures sent { (server : Endpoint) (szx word : ℕ) (t : List Call) → ClientLaw server szx word t → AreSent t }
     // A call has one request, and no other has its token (RFC 7252, section 5.3.1).
     ensures sending { (server : Endpoint) (szx word : ℕ) (t : List Call) → ClientLaw server szx word t → OneSending t }
+    // The requests of the calls are sent in the order of their numbers, none for a call that was reported, and each is
+    // answered once (RFC 7252, sections 4.7 and 5.3).
+    ensures order { (server : Endpoint) (szx word : ℕ) (t : List Call) → ClientLaw server szx word t → AreInOrder t }
     // A number names one call.
     ensures numbers { (server : Endpoint) (szx word : ℕ) (t : List Call) → ClientLaw server szx word t → OneCall t }
     // A report of a response is of the answer to a request of that call (RFC 7252, section 5.3.2).
@@ -78,6 +85,8 @@ pub fn client_law()
 pub fn server_law()
     // The calls of its message layer stand in the law of that layer (RFC 7252, section 4).
     ensures layer { (limit szx word : ℕ) (t : List server.Call) → ServerLaw limit szx word t → LayerLaw word (servers.layer_of limit szx word t) }
+    // The calls before some calls stand in the law too.
+    ensures back { (limit szx word : ℕ) (calls t : List server.Call) → ServerLaw limit szx word (calls ++ t) → ServerLaw limit szx word t }
     // The law leaves each call one answer.
     ensures exact { (limit szx word : ℕ) (past : List server.Call) → servers_exact.IsExact limit szx word past }
     // .. and each has one, whatever its arguments, where the formats of local changes are numbers of 16 bits: what stands
@@ -95,6 +104,8 @@ pub fn server_law()
     ensures once { (limit szx word : ℕ) (t : List server.Call) → ServerLaw limit szx word t → HandedUpOnce (servers.layer_of limit szx word t) }
     // What is served was handed up, and asks what the datagram says (section 5.2).
     ensures handed { (limit szx word : ℕ) (t : List server.Call) → ServerLaw limit szx word t → AreHandedUp limit szx word t }
+    // .. what is handed up so came up from the message layer, as often ..
+    ensures counts { (limit szx word : ℕ) (t : List server.Call) → ServerLaw limit szx word t → Counted limit szx word t }
     // .. and a request that is handed up is served at most once (section 5.2).
     ensures served { (limit szx word : ℕ) (t : List server.Call) → ServerLaw limit szx word t → ServedOnce limit szx t }
     // Each method is served by its table, and only what a datagram asks (section 5.8).

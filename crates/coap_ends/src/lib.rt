@@ -2,5 +2,7 @@
 #![tactic(auto)]
 
 mod laws;
+mod limits;
 
 pub use laws::{client_law, server_law};
+pub use limits::{MAX_DELAYS, MAX_OPTIONS_LEN, MAX_WAITING_CALLS};

@@ -5,7 +5,7 @@ use Rattle.coap_types.specs.declared.message.Id.{Id}
 use Rattle.coap_types.specs.declared.message.Kind.{Kind}
 use Rattle.coap_codec.specs.Faulty.{Faulty, head_of}
 use Rattle.coap_codec.specs.Message.{Message, Spells}
-use Rattle.coap_codec.specs.Reading.{message_at}
+use Rattle.coap_codec.specs.Decoded.{decoded}
 use Rattle.coap_codec.specs.declared.fault.Reason.{Reason}
 
 pub data Arrival : Type 0 where
@@ -28,4 +28,4 @@ arrival_of bytes (Ok m) = Whole m
 arrival_of bytes (Err fault) = by_head (head_of fault.0 bytes)
 
 abbrev pub arrival_at : List ℕ → Arrival
-arrival_at bytes = arrival_of bytes (message_at bytes)
+arrival_at bytes = arrival_of bytes (decoded bytes)

@@ -4,11 +4,13 @@ use Rattle.std.specs.Prelude.{◌≡◌, ◌⊎◌, ◌≤◌, ℕ, ◌+◌, tru
 use Rattle.coap_types.specs.Past.{Ever, Sometime, Always, Since}
 use Rattle.coap_types.specs.declared.endpoint.Endpoint.{Endpoint}
 use Rattle.coap_types.specs.declared.message.Kind.TheVariants.{Con, Non, Ack, Rst}
-use Rattle.coap_codec.specs.Message.{AreBytes, Message, Spells}
-use Rattle.coap_layer.specs.Trace.{Receive, Reply, Answer, Response, Acked, Entry}
+use Rattle.coap_types.specs.Bytes.{AreBytes}
+use Rattle.coap_codec.specs.Message.{Message, Spells}
+use Rattle.coap_layer.specs.Trace.{Receive, Reply, Response, Acked, Answer, Becomes, Entry}
 use Rattle.coap_layer.specs.Words.{Incoming, handed, taken, hands_up, Open, begun, outstanding}
 use Rattle.coap_layer.specs.Rows.{LayerLaw}
 use Rattle.coap_layer.specs.Sends.{IsIn, PlainOut, GoesOut}
+use Rattle.coap_types.specs.declared.transmission.TheConstants.{LAST_ARRIVAL_MS as last_arrival, MAX_LATENCY_MS as max_latency}
 
 -- an entry of the one layer, or of the other
 pub data Hop : Type 0 where
@@ -37,7 +39,7 @@ OnFar P (Far e) = P e
 pub record GaveOut (to : Endpoint) (bytes : List ℕ) (when : ℕ) (e : Entry) : Type 0 where
   pub out : IsIn (record { to = to; bytes = bytes }) e.out
   pub from : e.at ≤ when
-  pub till : when ≤ e.at + 100000
+  pub till : when ≤ e.at + max_latency
 
 -- what comes from the other's address was sent by it, once or more often, or never arrives
 abbrev pub IsFair : Endpoint → Endpoint → List Hop → Hop → Type 0
@@ -85,7 +87,7 @@ HandedAsSpelled t = Always (λ past e. (m : Incoming) → handed e ≡ Some m �
 pub record SentSo (to : Endpoint) (bytes : List ℕ) (when : ℕ) (past : List Entry) (e : Entry) : Type 0 where
   pub goes : GoesOut past e (record { to = to; bytes = bytes })
   pub from : e.at ≤ when
-  pub till : when ≤ e.at + 100000
+  pub till : when ≤ e.at + max_latency
 
 abbrev pub ArrivesAsSent : Endpoint → Endpoint → List Hop → Type 0
 ArrivesAsSent near far all =
@@ -99,7 +101,7 @@ pub record BegunAs (to : Endpoint) (bytes : List ℕ) (id when : ℕ) (t : List 
   pub bytes_are : con.bytes ≡ bytes
   pub id_is : con.id ≡ id
   pub from : con.first ≤ when
-  pub till : when ≤ con.first + 147000
+  pub till : when ≤ con.first + last_arrival
 
 abbrev pub ConsBegun : Endpoint → Endpoint → List Hop → Type 0
 ConsBegun near far all =
@@ -110,7 +112,7 @@ ConsBegun near far all =
 pub record PlainSent (to : Endpoint) (bytes : List ℕ) (when : ℕ) (e : Entry) : Type 0 where
   pub goes : PlainOut e (record { to = to; bytes = bytes })
   pub from : e.at ≤ when
-  pub till : when ≤ e.at + 100000
+  pub till : when ≤ e.at + max_latency
 
 abbrev pub NonsSent : Endpoint → Endpoint → List Hop → Type 0
 NonsSent near far all =
@@ -119,7 +121,7 @@ NonsSent near far all =
 
 -- the answer takes the acknowledgement with this Message ID, Empty or with a response (sections 4.2 and 5.2.1)
 abbrev pub TakesAckOf : ℕ → Answer → Type 0
-TakesAckOf id answer = (answer ≡ Acked id) ⊎ ((m : Message) × (answer ≡ Response m) × (m.kind ≡ Ack) × (m.id ≡ id))
+TakesAckOf id answer = (answer ≡ Becomes (Acked id)) ⊎ ((m : Message) × (answer ≡ Becomes (Response m)) × (m.kind ≡ Ack) × (m.id ≡ id))
 
 -- an acknowledgement of this CON is taken while it is outstanding
 pub record HearsAck (con : Open) (past : List Entry) (e : Entry) : Type 0 where
@@ -139,7 +141,7 @@ pub record Takes (near : Endpoint) (con : Open) (e : Entry) : Type 0 where
   pub call : e.call ≡ Receive near con.bytes
   pub up : hands_up near con.id e ≡ true
   pub from : con.first ≤ e.at
-  pub till : e.at ≤ con.first + 147000
+  pub till : e.at ≤ con.first + last_arrival
 
 -- An acknowledgement says that the other layer has taken that very CON.
 abbrev pub AcksTaken : Endpoint → Endpoint → List Hop → Type 0
@@ -166,7 +168,7 @@ pub record HandsUpAs (near : Endpoint) (con : Open) (e : Entry) : Type 0 where
   pub from_is : message.from ≡ near
   pub id_is : message.message.id ≡ con.id
   pub from : con.first ≤ e.at
-  pub till : e.at ≤ con.first + 147000
+  pub till : e.at ≤ con.first + last_arrival
 
 -- What was taken is not handed up again: 147,000 ms are less than EXCHANGE_LIFETIME (section 4.8.2).
 abbrev pub TakenOnce : Endpoint → List Hop → Type 0

@@ -1,12 +1,16 @@
 -- What follows from the layer's law (RFC 7252, sections 4.2, 4.4, 4.5 and 4.7).
-use Rattle.std.specs.Prelude.{◌≡◌, ◌⊎◌, ◌≤◌, ℕ, ◌+◌, true, Some, List, [], ◌∷◌}
+use Rattle.std.specs.Prelude.{◌≡◌, ◌⊎◌, ◌≤◌, ◌<◌, ℕ, ◌+◌, ◌^◌, true, Some, List, [], ◌∷◌}
 use Rattle.coap_types.specs.Past.{Ever, Always}
 use Rattle.coap_types.specs.declared.endpoint.Endpoint.{Endpoint}
 use Rattle.coap_types.specs.SameEndpoint.{same_endpoint}
+use Rattle.coap_types.specs.Bytes.{AreBytes}
+use Rattle.coap_codec.specs.Message.{Message, Spells}
 use Rattle.coap_layer.specs.Ids.{AreApart}
-use Rattle.coap_layer.specs.Trace.{Receive, Copied, Acked, Reset, Entry}
+use Rattle.coap_layer.specs.Trace.{Receive, Response, Acked, Reset, Becomes, Sent, Copied, Entry}
 use Rattle.coap_layer.specs.Rows.{Stands, LayerLaw, Outstanding}
-use Rattle.coap_layer.specs.Words.{Incoming, handed, Remembered, Open, begun, numbers, outstanding}
+use Rattle.coap_layer.specs.Words.{clock, Incoming, handed, Remembered, remembered, Open, begun, numbers, outstanding}
+use Rattle.coap_types.specs.declared.transmission.TheConstants.{LAST_RETRANSMISSION_MS as last_retransmission}
+use Rattle.coap_layer.specs.declared.dedup.TheConstants.{MAX_REMEMBERED as max_remembered}
 
 -- No message is handed up that was handed up, and remembered, at most 247,000 ms before.
 abbrev pub HandedUpOnce : List Entry → Type 0
@@ -19,7 +23,7 @@ pub record CopyOf (past : List Entry) (e : Entry) (to : Endpoint) (id : ℕ) : T
   pub to_is : con.to ≡ to
   pub id_is : con.id ≡ id
   pub from : con.first ≤ e.at
-  pub till : e.at ≤ con.first + 47000
+  pub till : e.at ≤ con.first + last_retransmission
   pub out : e.out ≡ record { to = con.to; bytes = con.bytes } ∷ []
 
 abbrev pub CopiesInTime : List Entry → Type 0
@@ -42,4 +46,24 @@ IsExact =
 -- An acknowledgement and a Reset are taken only for a CON that is outstanding.
 abbrev pub EndsOutstanding : List Entry → Type 0
 EndsOutstanding t =
-    Always (λ past e. (from : Endpoint) (bytes : List ℕ) (id : ℕ) → e.call ≡ Receive from bytes → (e.answer ≡ Acked id) ⊎ (e.answer ≡ Reset id) → Outstanding past from id) t
+    Always (λ past e. (from : Endpoint) (bytes : List ℕ) (id : ℕ) → e.call ≡ Receive from bytes → (e.answer ≡ Becomes (Acked id)) ⊎ (e.answer ≡ Becomes (Reset id)) → Outstanding past from id) t
+
+-- No more are remembered than there is a place for (profile).
+abbrev pub RemembersFew : List Entry → Type 0
+RemembersFew t = (now : ℕ) → clock t ≤ now → remembered now t ≤ max_remembered
+
+-- Each Message ID that is given has 16 bits (section 3).
+abbrev pub IdsSmall : List Entry → Type 0
+IdsSmall t = Always (λ past e. (id : ℕ) → e.answer ≡ Sent id → id < 2 ^ 16) t
+
+-- the message is what the datagram that arrives spells
+pub record Carried (e : Entry) (m : Message) : Type 0 where
+  pub from : Endpoint
+  pub bytes : List ℕ
+  pub call : e.call ≡ Receive from bytes
+  pub are_bytes : AreBytes bytes
+  pub spells : Spells bytes m
+
+-- A response is what its datagram spells, in an acknowledgement too (section 5.2.1).
+abbrev pub ResponsesSpelled : List Entry → Type 0
+ResponsesSpelled t = Always (λ past e. (m : Message) → e.answer ≡ Becomes (Response m) → Carried e m) t

@@ -2,62 +2,64 @@
 -- numbers, each group used again only after 400,000 ms.
 use Rattle.std.specs.Prelude.{◌≡◌, ℕ, ◌+◌, ◌*◌, ◌/◌, ◌%◌, ◌<◌, ◌≤◌, ◌==◌, Bool, true, false, Option, Some, None, List, [], ◌∷◌, if◌then◌else◌}
 use Rattle.coap_types.specs.Past.{Always, Ever, all_of}
+use Rattle.coap_types.specs.declared.transmission.TheConstants.{ID_REUSE_AFTER_MS as id_reuse_after}
+use Rattle.coap_layer.specs.declared.message_id.TheConstants.{GROUP_SIZE as group_size, GROUPS as groups}
 
--- a number that was given, and when
-pub record Given : Type 0 where
+-- a number that was issued, and when
+pub record Issued : Type 0 where
   pub at : ℕ
   pub id : ℕ
 
 -- the number that comes next in order; at first, the first of the group that the word picks
-abbrev pub upcoming : ℕ → List Given → ℕ
-upcoming word [] = word % 16 * 4096
+abbrev pub upcoming : ℕ → List Issued → ℕ
+upcoming word [] = word % groups * group_size
 upcoming word (g ∷ past) = (g.id + 1) % 65536
 
--- when a number of the group was last given
-abbrev pub last_use : List Given → ℕ → Option ℕ
+-- when a number of the group was last issued
+abbrev pub last_use : List Issued → ℕ → Option ℕ
 last_use [] group = None
-last_use (g ∷ past) group = if g.id / 4096 == group then Some g.at else last_use past group
+last_use (g ∷ past) group = if g.id / group_size == group then Some g.at else last_use past group
 
 -- never used, or last used more than 400,000 ms before
 abbrev pub IsRested : Option ℕ → ℕ → Type 0
 IsRested None now = Unit {0}
-IsRested (Some last) now = last + 400000 < now
+IsRested (Some last) now = last + id_reuse_after < now
 
 -- last used at most 400,000 ms before
 abbrev pub IsHeld : Option ℕ → ℕ → Type 0
 IsHeld None now = ⊥
-IsHeld (Some last) now = now ≤ last + 400000
+IsHeld (Some last) now = now ≤ last + id_reuse_after
 
 -- a number may be given: the group goes on, or the next group may be entered
-abbrev pub MayGive : ℕ → List Given → ℕ → Type 0
-MayGive word past now = upcoming word past % 4096 ≡ 0 → IsRested (last_use past (upcoming word past / 4096)) now
+abbrev pub MayGive : ℕ → List Issued → ℕ → Type 0
+MayGive word past now = upcoming word past % group_size ≡ 0 → IsRested (last_use past (upcoming word past / group_size)) now
 
 -- none may be given: the group is spent, and the next one is held
-pub record Withholds (word : ℕ) (past : List Given) (now : ℕ) : Type 0 where
-  pub spent : upcoming word past % 4096 ≡ 0
-  pub held : IsHeld (last_use past (upcoming word past / 4096)) now
+pub record Withholds (word : ℕ) (past : List Issued) (now : ℕ) : Type 0 where
+  pub spent : upcoming word past % group_size ≡ 0
+  pub held : IsHeld (last_use past (upcoming word past / group_size)) now
 
 -- the number is the next one, given when it may be
-pub record Gives (word : ℕ) (past : List Given) (now id : ℕ) : Type 0 where
+pub record Gives (word : ℕ) (past : List Issued) (now id : ℕ) : Type 0 where
   pub next : id ≡ upcoming word past
   pub may : MayGive word past now
 
--- the moment of the number given last
-abbrev pub latest : List Given → ℕ
+-- the moment of the number issued last
+abbrev pub latest : List Issued → ℕ
 latest [] = 0
 latest (g ∷ past) = g.at
 
 -- the law of the numbers: moments don't fall, and each number is the next one, given when it may be
-pub record IsGiven (word : ℕ) (past : List Given) (g : Given) : Type 0 where
+pub record IsIssued (word : ℕ) (past : List Issued) (g : Issued) : Type 0 where
   pub time : latest past ≤ g.at
   pub right : Gives word past g.at g.id
 
-abbrev pub NumbersLaw : ℕ → List Given → Type 0
-NumbersLaw word = Always (IsGiven word)
+abbrev pub NumbersLaw : ℕ → List Issued → Type 0
+NumbersLaw word = Always (IsIssued word)
 
 -- equal numbers are more than 400,000 ms apart
-abbrev pub AreApart : List Given → Type 0
-AreApart = Always (λ past g. Ever (λ (h : Given). (h.id ≡ g.id) × (g.at ≤ h.at + 400000)) past → ⊥)
+abbrev pub AreApart : List Issued → Type 0
+AreApart = Always (λ past g. Ever (λ (h : Issued). (h.id ≡ g.id) × (g.at ≤ h.at + id_reuse_after)) past → ⊥)
 
 -- the calls of a source, each with its answer
 pub data IdCall : Type 0 where
@@ -73,19 +75,19 @@ abbrev pub clock : List IdEntry → ℕ
 clock [] = 0
 clock (e ∷ past) = e.at
 
--- the number that the call gives
-abbrev pub given_in : ℕ → IdCall → List Given
-given_in at (Next (Some id)) = record { at = at; id = id } ∷ []
-given_in at _ = []
+-- the number that the call issues
+abbrev pub issued_in : ℕ → IdCall → List Issued
+issued_in at (Next (Some id)) = record { at = at; id = id } ∷ []
+issued_in at _ = []
 
-abbrev pub given : IdEntry → List Given
-given e = given_in e.at e.call
+abbrev pub issued : IdEntry → List Issued
+issued e = issued_in e.at e.call
 
-abbrev pub numbers : List IdEntry → List Given
-numbers = all_of given
+abbrev pub numbers : List IdEntry → List Issued
+numbers = all_of issued
 
 -- the rows: what each call answers, and when
-abbrev pub IdRow : ℕ → List Given → ℕ → IdCall → Type 0
+abbrev pub IdRow : ℕ → List Issued → ℕ → IdCall → Type 0
 IdRow word past at (Next (Some id)) = Gives word past at id
 IdRow word past at (Next None) = Withholds word past at
 IdRow word past at (IsFree true) = MayGive word past at

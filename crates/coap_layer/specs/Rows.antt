@@ -7,12 +7,16 @@ use Rattle.coap_types.specs.declared.message.Kind.{Kind}
 use Rattle.coap_types.specs.declared.message.Kind.TheVariants.{Con, Non, Ack, Rst}
 use Rattle.coap_types.specs.declared.role.Role.TheVariants as role
 use Rattle.coap_types.specs.SameEndpoint.{same_endpoint}
-use Rattle.coap_codec.specs.Message.{AreBytes, Spells}
-use Rattle.coap_codec.specs.Writing.{message_bytes}
+use Rattle.coap_types.specs.Bytes.{AreBytes}
+use Rattle.coap_codec.specs.Message.{Spells}
+use Rattle.coap_codec.specs.Spelling.{message_bytes}
+use Rattle.coap_layer.specs.BackOff.{factors}
 use Rattle.coap_layer.specs.Arrivals.{Arrival, Unreadable, Faulted, Whole, Shows}
 use Rattle.coap_layer.specs.Ids as ids
-use Rattle.coap_layer.specs.Trace.{Content, with_head, Packet, Call, Receive, Reply, Confirm, Plain, Settle, Ticks, Take, Room, AsksFree, Pass, Dropped, Replayed, Rejected, Request, Response, Acked, Reset, Nothing, Is, Sent, Busied, NoIds, Idle, Copied, Expired, Gives, Entry}
+use Rattle.coap_layer.specs.Trace.{Content, with_head, Packet, Call, Receive, Reply, Confirm, Plain, Settle, Ticks, Take, Room, AsksFree, Pass, Dropped, Replayed, Rejected, Request, Response, Acked, Reset, Becomes, Nothing, Is, Sent, Busied, NoIds, Idle, Copied, Expired, Gives, Entry}
 use Rattle.coap_layer.specs.Words.{awaits, clock, Incoming, Remembered, remembered, was_con, replied, is_con, Open, is_to, outstanding, waiting, numbers}
+use Rattle.coap_types.specs.declared.transmission.TheConstants.{LAST_RETRANSMISSION_MS as last_retransmission, MAX_RETRANSMIT as max_retransmit, FAILURE_TIMEOUTS as failure_timeouts}
+use Rattle.coap_layer.specs.declared.dedup.TheConstants.{MAX_REMEMBERED as max_remembered}
 
 -- a CON to this place with this id is unacknowledged
 abbrev pub Outstanding : List Entry → Endpoint → ℕ → Type 0
@@ -38,30 +42,61 @@ reset_to to id = record { to = to; bytes = 0x70 ∷ 0 ∷ id / 256 ∷ id % 256 
 pub record Rejects (past : List Entry) (e : Entry) (m : Incoming) : Type 0 where
   pub kind : m.message.kind ≡ Con
   pub class : (role_of m.message.code ≡ role.Empty) ⊎ (role_of m.message.code ≡ role.Reserved)
-  pub answer : e.answer ≡ Rejected
+  pub answer : e.answer ≡ Becomes Rejected
   pub out : e.out ≡ reset_to m.from m.message.id ∷ []
 
+-- an Empty NON, or one of a reserved class
+pub record IsStrayNon (m : Incoming) : Type 0 where
+  pub kind : m.message.kind ≡ Non
+  pub class : (role_of m.message.code ≡ role.Empty) ⊎ (role_of m.message.code ≡ role.Reserved)
+
+-- a Reset that isn't Empty
+pub record IsFullReset (m : Incoming) : Type 0 where
+  pub kind : m.message.kind ≡ Rst
+  pub class : role_of m.message.code ≢ role.Empty
+
+-- an acknowledgement that carries a request, or is of a reserved class
+pub record IsOddAck (m : Incoming) : Type 0 where
+  pub kind : m.message.kind ≡ Ack
+  pub class : (role_of m.message.code ≡ role.Request) ⊎ (role_of m.message.code ≡ role.Reserved)
+
+-- any other acknowledgement or Reset, of what is not outstanding
+pub record IsUnmatched (past : List Entry) (m : Incoming) : Type 0 where
+  pub kind : ((m.message.kind ≡ Ack) × ((role_of m.message.code ≡ role.Empty) ⊎ (role_of m.message.code ≡ role.Response))) ⊎ ((m.message.kind ≡ Rst) × (role_of m.message.code ≡ role.Empty))
+  pub alone : Outstanding past m.from m.message.id → ⊥
+
+-- a new CON or NON with a request or a response, where no more can be remembered
+pub record FindsFull (past : List Entry) (e : Entry) (m : Incoming) : Type 0 where
+  pub kind : (m.message.kind ≡ Con) ⊎ (m.message.kind ≡ Non)
+  pub class : (role_of m.message.code ≡ role.Request) ⊎ (role_of m.message.code ≡ role.Response)
+  pub new : Remembered past e.at m.from m.message.id → ⊥
+  pub full : max_remembered ≤ remembered e.at past
+
+-- what is silently ignored
+pub data Ignores (past : List Entry) (e : Entry) (m : Incoming) : Type 0 where
+  ignores_non : IsStrayNon m → Ignores past e m
+  ignores_reset : IsFullReset m → Ignores past e m
+  ignores_ack : IsOddAck m → Ignores past e m
+  ignores_unmatched : IsUnmatched past m → Ignores past e m
+  ignores_new : FindsFull past e m → Ignores past e m
+
 pub record Drops (past : List Entry) (e : Entry) (m : Incoming) : Type 0 where
-  pub why : ((m.message.kind ≡ Non) × ((role_of m.message.code ≡ role.Empty) ⊎ (role_of m.message.code ≡ role.Reserved)))
-      ⊎ ((m.message.kind ≡ Rst) × (role_of m.message.code ≢ role.Empty))
-      ⊎ ((m.message.kind ≡ Ack) × ((role_of m.message.code ≡ role.Request) ⊎ (role_of m.message.code ≡ role.Reserved)))
-      ⊎ (((m.message.kind ≡ Ack) ⊎ (m.message.kind ≡ Rst)) × (Outstanding past m.from m.message.id → ⊥))
-      ⊎ (((m.message.kind ≡ Con) ⊎ (m.message.kind ≡ Non)) × ((role_of m.message.code ≡ role.Request) ⊎ (role_of m.message.code ≡ role.Response)) × (Remembered past e.at m.from m.message.id → ⊥) × (4096 ≤ remembered e.at past))
-  pub answer : e.answer ≡ Dropped
+  pub why : Ignores past e m
+  pub answer : e.answer ≡ Becomes Dropped
   pub out : e.out ≡ []
 
 pub record TakesAck (past : List Entry) (e : Entry) (m : Incoming) : Type 0 where
   pub kind : m.message.kind ≡ Ack
   pub class : role_of m.message.code ≡ role.Empty
   pub matches : Outstanding past m.from m.message.id
-  pub answer : e.answer ≡ Acked m.message.id
+  pub answer : e.answer ≡ Becomes (Acked m.message.id)
   pub out : e.out ≡ []
 
 pub record TakesReset (past : List Entry) (e : Entry) (m : Incoming) : Type 0 where
   pub kind : m.message.kind ≡ Rst
   pub class : role_of m.message.code ≡ role.Empty
   pub matches : Outstanding past m.from m.message.id
-  pub answer : e.answer ≡ Reset m.message.id
+  pub answer : e.answer ≡ Becomes (Reset m.message.id)
   pub out : e.out ≡ []
 
 -- a piggybacked response (section 5.2.1); retransmission goes on until the layer above settles it
@@ -69,7 +104,7 @@ pub record TakesAnswer (past : List Entry) (e : Entry) (m : Incoming) : Type 0 w
   pub kind : m.message.kind ≡ Ack
   pub class : role_of m.message.code ≡ role.Response
   pub matches : Outstanding past m.from m.message.id
-  pub answer : e.answer ≡ Response m.message
+  pub answer : e.answer ≡ Becomes (Response m.message)
   pub out : e.out ≡ []
 
 -- the stored reply, where both are CONs
@@ -80,21 +115,21 @@ pub record Replays (past : List Entry) (e : Entry) (m : Incoming) : Type 0 where
   pub kind : (m.message.kind ≡ Con) ⊎ (m.message.kind ≡ Non)
   pub class : (role_of m.message.code ≡ role.Request) ⊎ (role_of m.message.code ≡ role.Response)
   pub old : Remembered past e.at m.from m.message.id
-  pub answer : e.answer ≡ Replayed
+  pub answer : e.answer ≡ Becomes Replayed
   pub out : e.out ≡ stored past m
 
 -- What is handed up: a CON request or a NON request for which a Message ID is free, which is remembered; a NON request
 -- for which none is free, which is not; a response, which is remembered.
 abbrev pub HandedAs : ℕ → List Entry → Entry → Incoming → Type 0
 HandedAs word past e m =
-    ((role_of m.message.code ≡ role.Request) × ((m.message.kind ≡ Con) ⊎ MayGive word past e.at) × (e.answer ≡ Request m.message true))
-    ⊎ ((role_of m.message.code ≡ role.Request) × (m.message.kind ≡ Non) × Withholds word past e.at × (e.answer ≡ Request m.message false))
-    ⊎ ((role_of m.message.code ≡ role.Response) × (e.answer ≡ Response m.message))
+    ((role_of m.message.code ≡ role.Request) × ((m.message.kind ≡ Con) ⊎ MayGive word past e.at) × (e.answer ≡ Becomes (Request m.message true)))
+    ⊎ ((role_of m.message.code ≡ role.Request) × (m.message.kind ≡ Non) × Withholds word past e.at × (e.answer ≡ Becomes (Request m.message false)))
+    ⊎ ((role_of m.message.code ≡ role.Response) × (e.answer ≡ Becomes (Response m.message)))
 
 pub record HandsOver (word : ℕ) (past : List Entry) (e : Entry) (m : Incoming) : Type 0 where
   pub kind : (m.message.kind ≡ Con) ⊎ (m.message.kind ≡ Non)
   pub new : Remembered past e.at m.from m.message.id → ⊥
-  pub room : remembered e.at past < 4096
+  pub room : remembered e.at past < max_remembered
   pub answer : HandedAs word past e m
   pub out : e.out ≡ []
 
@@ -110,11 +145,11 @@ pub data Sorts (word : ℕ) (past : List Entry) (e : Entry) (m : Incoming) : Typ
 
 -- a datagram: what can't be read, and a fault, are dropped, but for a fault in a CON, which is rejected
 abbrev pub Arrives : ℕ → List Entry → Entry → Endpoint → Arrival → Type 0
-Arrives word past e from Unreadable = (e.answer ≡ Dropped) × (e.out ≡ [])
-Arrives word past e from (Faulted Con id) = (e.answer ≡ Rejected) × (e.out ≡ reset_to from id ∷ [])
-Arrives word past e from (Faulted Non id) = (e.answer ≡ Dropped) × (e.out ≡ [])
-Arrives word past e from (Faulted Ack id) = (e.answer ≡ Dropped) × (e.out ≡ [])
-Arrives word past e from (Faulted Rst id) = (e.answer ≡ Dropped) × (e.out ≡ [])
+Arrives word past e from Unreadable = (e.answer ≡ Becomes Dropped) × (e.out ≡ [])
+Arrives word past e from (Faulted Con id) = (e.answer ≡ Becomes Rejected) × (e.out ≡ reset_to from id ∷ [])
+Arrives word past e from (Faulted Non id) = (e.answer ≡ Becomes Dropped) × (e.out ≡ [])
+Arrives word past e from (Faulted Ack id) = (e.answer ≡ Becomes Dropped) × (e.out ≡ [])
+Arrives word past e from (Faulted Rst id) = (e.answer ≡ Becomes Dropped) × (e.out ≡ [])
 Arrives word past e from (Whole m) = Sorts word past e (record { from = from; message = m })
 
 -- sendings
@@ -160,14 +195,14 @@ AsksIds word past e = ((MayGive word past e.at × (e.answer ≡ Is true)) ⊎ (W
 
 -- ticks (section 4.2)
 
--- 31 initial timeouts have passed: the binary exponential back-off is over
+-- so many initial timeouts have passed that the binary exponential back-off is over
 abbrev pub Fails : ℕ → Open → Type 0
-Fails now c = c.timeout * 31 ≤ now - c.first
+Fails now c = c.timeout * failure_timeouts ≤ now - c.first
 
 -- a retransmission is due that was due at no earlier sending, and 47,000 ms have not passed (profile)
 pub record CopyDue (now : ℕ) (c : Open) : Type 0 where
-  pub due : Ever (λ (k : ℕ). (c.last - c.first < c.timeout * k) × (c.timeout * k ≤ now - c.first)) (1 ∷ 3 ∷ 7 ∷ 15 ∷ [])
-  pub early : now - c.first ≤ 47000
+  pub due : Ever (λ (k : ℕ). (c.last - c.first < c.timeout * k) × (c.timeout * k ≤ now - c.first)) (factors max_retransmit)
+  pub early : now - c.first ≤ last_retransmission
 
 abbrev pub HasStep : ℕ → Open → Type 0
 HasStep now c = Fails now c ⊎ CopyDue now c

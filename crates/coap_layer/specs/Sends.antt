@@ -3,10 +3,12 @@ use Rattle.std.specs.Prelude.{◌≡◌, ◌⊎◌, ◌≤◌, ℕ, zero, suc, �
 use Rattle.coap_types.specs.Past.{Ever, Sometime, Always, Since}
 use Rattle.coap_types.specs.declared.message.Kind.TheVariants.{Con, Non}
 use Rattle.coap_codec.specs.Message.{Message, Spells}
+use Rattle.coap_codec.specs.Spelling.{message_bytes}
 use Rattle.coap_layer.specs.Arrivals.{Faulted, Whole, Shows}
-use Rattle.coap_layer.specs.Trace.{Content, with_head, Packet, Call, Receive, Reply, Plain, Take, Answer, Replayed, Rejected, Sent, Copied, Gives, Entry}
+use Rattle.coap_layer.specs.Trace.{Content, with_head, Packet, Call, Receive, Reply, Confirm, Plain, Take, Replayed, Rejected, Answer, Becomes, Sent, Copied, Gives, Entry}
 use Rattle.coap_layer.specs.Words.{awaits, Remembered, hands_up, was_con, reply_in, Open, begun, copies_in, outstanding, waiting}
 use Rattle.coap_layer.specs.Rows.{LayerLaw, reset_to}
+use Rattle.coap_types.specs.declared.transmission.TheConstants.{LAST_RETRANSMISSION_MS as last_retransmission, MAX_RETRANSMIT as max_retransmit}
 
 -- at n entries, one after the other, and perhaps at more
 abbrev pub AtLeast : {E : Type 0} → ℕ → (List E → E → Type 0) → List E → Type 0
@@ -16,6 +18,16 @@ AtLeast (suc n) P t = Sometime (λ past e. P past e × AtLeast n P past) t
 -- it is in the list
 abbrev pub IsIn : {A : Type 0} → A → List A → Type 0
 IsIn x xs = Ever (λ y. y ≡ x) xs
+
+-- the call of which a CON is the first sending
+pub record Begins (at : ℕ) (call : Call) (answer : Answer) (c : Open) : Type 0 where
+  pub content : Content
+  pub word : ℕ
+  pub call_is : call ≡ Confirm c.to content word
+  pub answer_is : answer ≡ Sent c.id
+  pub first_is : c.first ≡ at
+  pub last_is : c.last ≡ at
+  pub bytes_are : c.bytes ≡ message_bytes (with_head Con c.id content)
 
 -- how often a CON goes out (section 4.2)
 
@@ -33,7 +45,7 @@ SendsIt c past e = (begun e ≡ Some c) ⊎ (IsOpen past c × (copies_in e.call 
 
 -- A CON goes out at most five times: once, and MAX_RETRANSMIT times again (section 4.8).
 abbrev pub FiveAtMost : List Entry → Type 0
-FiveAtMost t = (c : Open) → AtLeast 6 (SendsIt c) t → ⊥
+FiveAtMost t = (c : Open) → AtLeast (2 + max_retransmit) (SendsIt c) t → ⊥
 
 abbrev pub packet_of : Open → Packet
 packet_of c = record { to = c.to; bytes = c.bytes }
@@ -41,7 +53,7 @@ packet_of c = record { to = c.to; bytes = c.bytes }
 -- Each time it goes out within 47,000 ms of the first (profile), to the same place, with equal bytes.
 pub record GoesAlike (c : Open) (e : Entry) : Type 0 where
   pub from : c.first ≤ e.at
-  pub till : e.at ≤ c.first + 47000
+  pub till : e.at ≤ c.first + last_retransmission
   pub out : e.out ≡ packet_of c ∷ []
 
 abbrev pub AllAlike : List Entry → Type 0
@@ -76,7 +88,7 @@ pub record CopyOut (past : List Entry) (e : Entry) (p : Packet) : Type 0 where
   pub begun_before : Ever (λ b. begun b ≡ Some con) past
   pub sends : SendsIt con past e
   pub from : con.first ≤ e.at
-  pub till : e.at ≤ con.first + 47000
+  pub till : e.at ≤ con.first + last_retransmission
   pub answer : e.answer ≡ Copied con.to con.id
   pub is : p ≡ packet_of con
 
@@ -101,7 +113,7 @@ pub record StoredOut (past : List Entry) (e : Entry) (p : Packet) : Type 0 where
   pub call : e.call ≡ Receive p.to bytes
   pub spells : Spells bytes message
   pub kind : message.kind ≡ Con
-  pub answer : e.answer ≡ Replayed
+  pub answer : e.answer ≡ Becomes Replayed
   pub old : Remembered past e.at p.to message.id
   pub con : was_con p.to message.id past ≡ true
   pub given : Since (λ b. reply_in p.to message.id b.call ≡ Some p.bytes) (λ b. hands_up p.to message.id b ≡ false) past
@@ -112,7 +124,7 @@ pub record ResetOut (e : Entry) (p : Packet) : Type 0 where
   pub id : ℕ
   pub call : e.call ≡ Receive p.to bytes
   pub shows : Shows bytes (Faulted Con id) ⊎ ((m : Message) × Shows bytes (Whole m) × (m.kind ≡ Con) × (m.id ≡ id))
-  pub answer : e.answer ≡ Rejected
+  pub answer : e.answer ≡ Becomes Rejected
   pub is : p ≡ reset_to p.to id
 
 pub data GoesOut (past : List Entry) (e : Entry) (p : Packet) : Type 0 where

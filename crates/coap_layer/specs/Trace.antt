@@ -33,15 +33,18 @@ pub data Call : Type 0 where
   AsksFree : Call
   Pass : Call
 
--- of a request that is handed up, also whether it is remembered
+-- what becomes of a datagram that arrived; of a request that is handed up, also whether it is remembered
+pub data Disposition : Type 0 where
+  Dropped : Disposition
+  Replayed : Disposition
+  Rejected : Disposition
+  Request : (message : Message) (kept : Bool) → Disposition
+  Response : (message : Message) → Disposition
+  Acked : (id : ℕ) → Disposition
+  Reset : (id : ℕ) → Disposition
+
 pub data Answer : Type 0 where
-  Dropped : Answer
-  Replayed : Answer
-  Rejected : Answer
-  Request : (message : Message) (kept : Bool) → Answer
-  Response : (message : Message) → Answer
-  Acked : (id : ℕ) → Answer
-  Reset : (id : ℕ) → Answer
+  Becomes : (what : Disposition) → Answer
   Nothing : Answer
   Is : (holds : Bool) → Answer
   Sent : (id : ℕ) → Answer

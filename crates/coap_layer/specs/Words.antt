@@ -7,9 +7,10 @@ use Rattle.coap_types.specs.declared.message.Kind.{Kind}
 use Rattle.coap_types.specs.declared.message.Kind.TheVariants.{Con, Non}
 use Rattle.coap_types.specs.SameEndpoint.{same_endpoint}
 use Rattle.coap_codec.specs.Message.{Message}
-use Rattle.coap_codec.specs.Writing.{message_bytes}
-use Rattle.coap_layer.specs.Ids.{Given}
-use Rattle.coap_layer.specs.Trace.{Content, with_head, Packet, Call, Receive, Reply, Confirm, Settle, Ticks, Take, Room, AsksFree, Pass, Answer, Request, Response, Acked, Reset, Sent, Copied, Expired, Entry}
+use Rattle.coap_codec.specs.Spelling.{message_bytes}
+use Rattle.coap_layer.specs.Ids.{Issued}
+use Rattle.coap_layer.specs.Trace.{Content, with_head, Packet, Call, Receive, Reply, Confirm, Settle, Ticks, Take, Room, AsksFree, Pass, Request, Response, Acked, Reset, Answer, Becomes, Sent, Copied, Expired, Entry}
+use Rattle.coap_types.specs.declared.transmission.TheConstants.{EXCHANGE_LIFETIME_MS as exchange_lifetime, ACK_TIMEOUT_MS as ack_timeout, TIMEOUT_VALUES as timeout_values}
 
 -- the moment of the newest entry
 abbrev pub clock : List Entry → ℕ
@@ -34,13 +35,13 @@ is_kept _ = false
 
 -- the CON or NON that the answer hands up, and that which is to be remembered
 abbrev pub handed_by : Answer → Option Message
-handed_by (Request m kept) = Some m
-handed_by (Response m) = if is_kept m.kind then Some m else None
+handed_by (Becomes (Request m kept)) = Some m
+handed_by (Becomes (Response m)) = if is_kept m.kind then Some m else None
 handed_by _ = None
 
 abbrev pub kept_by : Answer → Option Message
-kept_by (Request m kept) = if kept then Some m else None
-kept_by (Response m) = if is_kept m.kind then Some m else None
+kept_by (Becomes (Request m kept)) = if kept then Some m else None
+kept_by (Becomes (Response m)) = if is_kept m.kind then Some m else None
 kept_by _ = None
 
 abbrev pub from_there : Endpoint → Option Message → Option Incoming
@@ -72,7 +73,7 @@ hands_up from id e = elim (taken e) [ Some m ↦ is_from from id m | None ↦ fa
 -- .. at most 247,000 ms before (EXCHANGE_LIFETIME, section 4.8.2; for a NON: profile)
 pub record HandsUpSince (now : ℕ) (from : Endpoint) (id : ℕ) (e : Entry) : Type 0 where
   pub up : hands_up from id e ≡ true
-  pub young : now ≤ e.at + 247000
+  pub young : now ≤ e.at + exchange_lifetime
 
 abbrev pub Remembered : List Entry → ℕ → Endpoint → ℕ → Type 0
 Remembered past now from id = Ever (HandsUpSince now from id) past
@@ -80,7 +81,7 @@ Remembered past now from id = Ever (HandsUpSince now from id) past
 -- how many are remembered
 abbrev pub remembered : ℕ → List Entry → ℕ
 remembered now [] = 0
-remembered now (e ∷ past) = elim (taken e) [ Some m ↦ (if nat_le now (e.at + 247000) then 1 + remembered now past else remembered now past) | None ↦ remembered now past ]
+remembered now (e ∷ past) = elim (taken e) [ Some m ↦ (if nat_le now (e.at + exchange_lifetime) then 1 + remembered now past else remembered now past) | None ↦ remembered now past ]
 
 -- the message that was remembered last, from there with this id, was a CON
 abbrev pub was_con : Endpoint → ℕ → List Entry → Bool
@@ -121,17 +122,17 @@ abbrev pub awaits : List Entry → Option Awaited
 awaits [] = None
 awaits (e ∷ past) = awaits_in e.call e.answer (awaits past)
 
--- the Message IDs that were given (section 4.4)
+-- the Message IDs that were issued (section 4.4)
 
-abbrev pub given_by : ℕ → Answer → List Given
-given_by at (Sent id) = record { at = at; id = id } ∷ []
-given_by at _ = []
+abbrev pub issued_by : ℕ → Answer → List Issued
+issued_by at (Sent id) = record { at = at; id = id } ∷ []
+issued_by at _ = []
 
-abbrev pub given : Entry → List Given
-given e = given_by e.at e.answer
+abbrev pub issued : Entry → List Issued
+issued e = issued_by e.at e.answer
 
-abbrev pub numbers : List Entry → List Given
-numbers = all_of given
+abbrev pub numbers : List Entry → List Issued
+numbers = all_of issued
 
 -- the CONs that are outstanding (section 4.2)
 
@@ -151,7 +152,7 @@ sent_by _ = None
 abbrev pub open_of : ℕ → Endpoint → Content → ℕ → Option ℕ → Option Open
 open_of at to content word None = None
 open_of at to content word (Some id) =
-    Some (record { to = to; id = id; bytes = message_bytes (with_head Con id content); timeout = 2000 + word % 1001; first = at; last = at })
+    Some (record { to = to; id = id; bytes = message_bytes (with_head Con id content); timeout = ack_timeout + word % timeout_values; first = at; last = at })
 
 abbrev pub begun_in : ℕ → Call → Answer → Option Open
 begun_in at (Confirm to content word) answer = open_of at to content word (sent_by answer)
@@ -168,8 +169,8 @@ same to id place n = same_endpoint place to && (n == id)
 
 -- the call ends the retransmission of the CON to this place with this id
 abbrev pub ends_in : Call → Answer → Endpoint → ℕ → Bool
-ends_in (Receive from bytes) (Acked id) place n = same from id place n
-ends_in (Receive from bytes) (Reset id) place n = same from id place n
+ends_in (Receive from bytes) (Becomes (Acked id)) place n = same from id place n
+ends_in (Receive from bytes) (Becomes (Reset id)) place n = same from id place n
 ends_in (Settle to id) _ place n = same to id place n
 ends_in Ticks (Expired to id) place n = same to id place n
 ends_in _ _ place n = false

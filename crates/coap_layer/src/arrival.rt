@@ -1,7 +1,7 @@
 ghost use Rattle.std.specs.Prelude.{◌≡◌};
 ghost use Rattle.coap_codec.specs.Message.{Message};
-ghost use Rattle.coap_layer.specs.Table.{up_of};
-ghost use Rattle.coap_layer.specs.Verdicts.{answer_by};
+ghost use Rattle.coap_layer.specs.Machine.Table.{up_of};
+ghost use Rattle.coap_layer.specs.Machine.Verdicts.{answer_by};
 
 use coap_types::{Kind, Role};
 

@@ -1,14 +1,14 @@
 ghost use Rattle.std.specs.Prelude.{◌≡◌, ◌≤◌, ◌<◌, length, ◌++◌, ◌∷◌, [], true, List, Ok, option_to_list, IfOk, IsOk};
 ghost use Rattle.std.specs.Vec.{vec_len, vec_capacity};
-ghost use Rattle.coap_codec.specs.Message.{AreBytes};
+ghost use Rattle.coap_types.specs.Bytes.{AreBytes};
 ghost use Rattle.coap_layer.specs.Arrivals.{arrival_at};
-ghost use Rattle.coap_layer.specs.Arriving.{IsArriving, shown_by, told_by, of_head, sent_by, newly_by, awaits_by, open_by, ends as ends_lem, hands as hands_lem, keeps as keeps_lem};
-ghost use Rattle.coap_layer.specs.Entries.{arrivals_in};
-ghost use Rattle.coap_layer.specs.Parts.{awaited, open_before};
+ghost use Rattle.coap_layer.specs.Machine.Arriving.{IsArriving, shown_by, told_by, of_head, sent_by, newly_by, awaits_by, open_by, ends as ends_lem, hands as hands_lem, keeps as keeps_lem};
+ghost use Rattle.coap_layer.specs.Machine.Entries.{arrivals_in};
+ghost use Rattle.coap_layer.specs.Machine.Parts.{awaited, open_before};
 ghost use Rattle.coap_layer.specs.Rows.{reset_to};
-ghost use Rattle.coap_layer.specs.Sendings.{open_now};
-ghost use Rattle.coap_layer.specs.State.{State, answer_to, is_free};
-ghost use Rattle.coap_layer.specs.Ups.{answer_as};
+ghost use Rattle.coap_layer.specs.Machine.Sendings.{open_now};
+ghost use Rattle.coap_layer.specs.Machine.State.{State, answer_to, is_free};
+ghost use Rattle.coap_layer.specs.Machine.Ups.{disposition_of};
 
 use crate::Up;
 use crate::arrival::{Known, Verdict, classify};
@@ -21,7 +21,7 @@ use coap_codec::{Fault, View, decode};
 use coap_types::{Code, Endpoint, Id, Kind, Role};
 use std::alloc::{AllocError, Allocator};
 
-/// The first byte of a Reset: version 1, type 3, no token (RFC 7252, section 3).
+// The first byte of a Reset: version 1, type 3, no token (RFC 7252, section 3).
 const RESET: u8 = 0x70;
 
 /// A datagram that arrived: its type and Message ID, and what becomes of it.
@@ -40,7 +40,7 @@ pub(crate) fn read(bytes: &[u8]) -> Result<View<'_>, Fault>
     decode(bytes)
 }
 
-/// What becomes of a datagram that spells no message.
+// What becomes of a datagram that spells no message.
 fn of_fault(fault: &Fault) -> Arriving
     ensures { result ≡ of_head fault.now.head }
 {
@@ -63,7 +63,7 @@ fn of_fault(fault: &Fault) -> Arriving
     }
 }
 
-/// What becomes of a message.
+// What becomes of a message.
 fn of_message<A: Allocator + Copy>(
     message: &View<'_>,
     at: u64,
@@ -108,7 +108,7 @@ pub(crate) fn judge<A: Allocator + Copy>(
 
 /// What the layer above is told.
 pub(crate) fn told<'d>(read: Result<View<'d>, Fault>, verdict: Verdict) -> Up<'d>
-    ensures { answer_as result ≡ told_by verdict read.entry }
+    ensures { disposition_of result ≡ told_by verdict read.entry }
 {
     match (read, verdict) {
         (_, Verdict::Reject) => Up::Rejected,
@@ -124,7 +124,7 @@ pub(crate) fn told<'d>(read: Result<View<'d>, Fault>, verdict: Verdict) -> Up<'d
     }
 }
 
-/// A Reset (RFC 7252, section 4.2).
+// A Reset (RFC 7252, section 4.2).
 fn reset<A: Allocator + Copy>(alloc: A, to: Endpoint, id: Id) -> Result<Datagram<A>, AllocError>
     ensures { IfOk result (λ d. d ≡ reset_to to id.0) }
 {
@@ -157,7 +157,7 @@ pub(crate) fn sent<A: Allocator + Copy>(
     }
 }
 
-/// Whether a retransmission ends.
+// Whether a retransmission ends.
 fn ends(verdict: Verdict) -> bool
     ensures { result ≡ ends_lem verdict }
 {

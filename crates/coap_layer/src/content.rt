@@ -1,18 +1,14 @@
 ghost use Rattle.std.specs.Prelude.{◌≡◌, ◌≤◌, take, length};
 ghost use Rattle.coap_types.specs.CoapOption.{options_of};
 ghost use Rattle.coap_codec.specs.Message.{message};
-ghost use Rattle.coap_codec.specs.Writing.{message_bytes};
+ghost use Rattle.coap_codec.specs.Spelling.{message_bytes};
 ghost use Rattle.coap_layer.specs.Trace.{with_head};
 ghost use Rattle.coap_layer.specs.Sendable.{IsSendable};
+ghost use Rattle.coap_types.specs.declared.limits.TheConstants.{MAX_MESSAGE_LEN as max_message_len};
 
 use coap_codec::{Head, encode, one_spelling};
 use coap_types::{Code, Id, Kind, Opt, Token};
 use std::marker::Model;
-
-/// The most bytes that a message has which is sent (RFC 7252, section 4.6).
-pub const MAX_MESSAGE_LEN: usize = 1_152;
-
-const _: () = prove!(MAX_MESSAGE_LEN == 1_152);
 
 /// What is to be sent: a message but for its type and its Message ID, which the layer gives it
 /// (RFC 7252, section 3).
@@ -37,7 +33,7 @@ impl<'a> Model for Content<'a> {
     ghost view = { λ c. record { code = c.code.0; token = c.token.now; options = options_of c.options.now; payload = c.payload.now } };
 }
 
-/// The head of the message with this type and Message ID.
+// The head of the message with this type and Message ID.
 fn head_of(content: &Content<'_>, kind: Kind, id: Id) -> Head
     ensures kind { result.kind ≡ kind }
     ensures code { result.code.0 ≡ content.now.code }
@@ -56,7 +52,7 @@ fn head_of(content: &Content<'_>, kind: Kind, id: Id) -> Head
 /// its length.
 pub(crate) fn spell(content: &Content<'_>, kind: Kind, id: Id, buffer: &mut [u8]) -> usize
     requires sendable { IsSendable content.now }
-    requires room { length buffer.old ≡ 1152 }
+    requires room { length buffer.old ≡ max_message_len }
     ensures bytes { take result buffer.new ≡ message_bytes (with_head kind id.0 content.now) }
     ensures within { result ≤ length buffer.new }
     ensures len { length buffer.new ≡ length buffer.old }

@@ -2,8 +2,9 @@ ghost use Rattle.std.specs.Prelude.{◌≡◌, ◌<◌, ◌≤◌, ◌+◌, ◌+
 ghost use Rattle.std.specs.List.{list_any};
 ghost use Rattle.std.specs.Option.{option_map};
 ghost use Rattle.std.specs.Vec.{vec_len, vec_capacity};
-ghost use Rattle.coap_layer.specs.State.{is_live, is_of, reply_of};
-ghost use Rattle.coap_layer.specs.Entries.{arrived_as, arrivals_in, storing};
+ghost use Rattle.coap_layer.specs.Machine.State.{is_live, is_of, reply_of};
+ghost use Rattle.coap_layer.specs.Machine.Entries.{arrived_as, arrivals_in, storing};
+ghost use Rattle.coap_layer.specs.declared.dedup.TheConstants.{MAX_REMEMBERED as max_remembered};
 
 use coap_types::transmission::EXCHANGE_LIFETIME_MS;
 use coap_types::{Endpoint, Id};
@@ -27,14 +28,14 @@ pub(crate) struct Remembered<A: Allocator + Copy> {
     pub(crate) reply: Option<Vec<u8, A>>,
 }
 
-/// Whether it is still remembered.
+// Whether it is still remembered.
 fn is_live<A: Allocator + Copy>(e: &Remembered<A>, now: u64) -> bool
     ensures { result ≡ is_live now (arrived_as e.now) }
 {
     now.saturating_sub(e.at) <= EXCHANGE_LIFETIME_MS
 }
 
-/// Whether it is still remembered, and came from there with this Message ID.
+// Whether it is still remembered, and came from there with this Message ID.
 fn is_of<A: Allocator + Copy>(e: &Remembered<A>, now: u64, from: Endpoint, id: Id) -> bool
     ensures { result ≡ is_of now from id.0 (arrived_as e.now) }
 {
@@ -55,7 +56,7 @@ pub(crate) fn is_remembered<A: Allocator + Copy>(
 
 /// Whether no further message can be remembered.
 pub(crate) fn is_full<A: Allocator + Copy>(entries: &[Remembered<A>], now: u64) -> bool
-    ensures { result ≡ nat_le 4096 (count_by (λ e. is_live now (arrived_as e)) entries.now) }
+    ensures { result ≡ nat_le max_remembered (count_by (λ e. is_live now (arrived_as e)) entries.now) }
 {
     entries.iter().filter(|e| is_live(e, now)).count() >= MAX_REMEMBERED
 }
@@ -97,7 +98,7 @@ pub(crate) fn remember<A: Allocator + Copy>(
     let _ = entries.push(entry);
 }
 
-/// The reply as it is stored: that to a Confirmable message is.
+// The reply as it is stored: that to a Confirmable message is.
 fn stored<A: Allocator + Copy>(con: bool, reply: Vec<u8, A>) -> Option<Vec<u8, A>>
     ensures { option_map (λ v. v.items) result ≡ (if con then Some reply.items else None) }
 {

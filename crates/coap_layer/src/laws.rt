@@ -2,13 +2,13 @@ ghost use Rattle.std.specs.Prelude.{◌≡◌, ℕ, List, [], ◌∷◌, ◌++�
 ghost use Rattle.coap_layer.specs.Trace.{Call, Answer, Entry};
 ghost use Rattle.coap_layer.specs.Rows.{LayerLaw};
 ghost use Rattle.coap_layer.specs.Sendable.{IsSendableWhenShort};
-ghost use Rattle.coap_layer.specs.State.{State, Step, made, start};
-ghost use Rattle.coap_layer.specs.LayerLed.{LayerLed};
-ghost use Rattle.coap_layer.specs.Follows.{HandedUpOnce, CopiesInTime, IdsApart, OneOutstanding, EndsOutstanding, IsExact};
+ghost use Rattle.coap_layer.specs.Machine.State.{State, Step, made, start};
+ghost use Rattle.coap_layer.specs.Machine.LayerLed.{LayerLed};
+ghost use Rattle.coap_layer.specs.Follows.{HandedUpOnce, CopiesInTime, IdsApart, OneOutstanding, EndsOutstanding, IsExact, RemembersFew, IdsSmall, ResponsesSpelled};
 ghost use Rattle.coap_types.specs.declared.endpoint.Endpoint.{Endpoint};
 ghost use Rattle.coap_layer.specs.Channel.{Hop, ChannelLaw, HandedAsSpelled, AcksHeard, ArrivesAsSent, ConsBegun, NonsSent, OnlyThatCon, HandedOnce, AcksReplied, AcksTaken, TakenOnce};
 ghost use Rattle.coap_layer.specs.Sends.{FiveAtMost, AllAlike, ConsSpelled, OneOpen, LastBegun, EachGoesOut, InOrder, TakenSent, TakenSince};
-ghost use Rattle.coap_layer.specs.Steps.{Asked, Steps, entries};
+ghost use Rattle.coap_layer.specs.Machine.Steps.{Asked, Steps, entries};
 ghost use Rattle.coap_layer.specs.Examples.{FiveTimes, IsAcknowledged};
 
 /// What leads to a layer's state stands in the law, and what follows from that.
@@ -30,6 +30,12 @@ pub fn layer_law()
     ensures one { (word : ℕ) (t : List Entry) → LayerLaw word t → OneOutstanding t }
     // An acknowledgement or a Reset is taken only for what is outstanding (sections 4.2 and 5.3.2).
     ensures ends { (word : ℕ) (t : List Entry) → LayerLaw word t → EndsOutstanding t }
+    // No more messages are remembered than there is a place for (profile).
+    ensures few { (word : ℕ) (t : List Entry) → LayerLaw word t → RemembersFew t }
+    // Each Message ID that is given has 16 bits (section 3).
+    ensures small { (word : ℕ) (t : List Entry) → LayerLaw word t → IdsSmall t }
+    // A response is what its datagram spells, in an acknowledgement too (section 5.2.1).
+    ensures responses { (word : ℕ) (t : List Entry) → LayerLaw word t → ResponsesSpelled t }
 {}
 
 /// What a layer sends: how often, what, and in which order.

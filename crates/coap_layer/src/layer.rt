@@ -1,13 +1,15 @@
 ghost use Rattle.std.specs.Prelude.{◌≡◌, ◌≢◌, ◌≤◌, ℕ, List, ◌∷◌, [], Err, None, Some, IsSome, IsOk, IfOk, OnOk, OnErr, length, true, false, max};
 ghost use Rattle.coap_codec.specs.Message.{Message};
 ghost use Rattle.coap_layer.specs.declared.up.SendRefusal.TheVariants as refused;
-ghost use Rattle.coap_layer.specs.LayerLed.{LayerLed};
+ghost use Rattle.coap_layer.specs.Machine.LayerLed.{LayerLed};
+ghost use Rattle.coap_layer.specs.Machine.Moves.{Leads, Moves, would_answer};
 ghost use Rattle.coap_layer.specs.Sendable.{IsSendable};
-ghost use Rattle.coap_layer.specs.Shown.{MayReply};
-ghost use Rattle.coap_layer.specs.State.{Step, answer_of, copies, made, start};
-ghost use Rattle.coap_layer.specs.Trace.{Answer, Entry, Receive, Reply, Confirm, Plain, Settle, Ticks, Take, Room as AsksRoom, AsksFree, Pass, Nothing, Is, Gives};
-ghost use Rattle.coap_layer.specs.Ups.{IsQuiet, IsTick, answer_as, sent_as};
+ghost use Rattle.coap_layer.specs.Machine.Shown.{MayReply};
+ghost use Rattle.coap_layer.specs.Machine.State.{copies, made, start};
+ghost use Rattle.coap_layer.specs.Trace.{Answer, Entry, Receive, Reply, Confirm, Plain, Settle, Ticks, Take, Room as AsksRoom, AsksFree, Pass, Nothing, Is, Idle, Gives};
+ghost use Rattle.coap_layer.specs.Machine.Ups.{IsQuiet, IsTick, answer_as, sent_as};
 ghost use Rattle.coap_layer.specs.Words.{handed_by};
+ghost use Rattle.coap_types.specs.declared.limits.TheConstants.{MAX_MESSAGE_LEN as max_message_len};
 
 use crate::arriving::{awaiting, hands, judge, keeps, read, sent, told};
 use crate::datagram::push_within;
@@ -15,7 +17,7 @@ use crate::dedup::store_reply;
 use crate::lists::Lists;
 use crate::mark::{Awaiting, Mark};
 use crate::outstanding::{due_copy, put_back};
-use crate::retransmission::{end_all, is_busy, is_outstanding, ticked};
+use crate::retransmission::{end_all, find_step, is_busy, is_outstanding, is_step, ticked};
 use crate::room::{Brings, Room, filled, grow, make_room, take_room};
 use crate::sending::{refusal, send_con, send_non};
 use crate::taking::{Moments, take_in, take_tick};
@@ -45,14 +47,14 @@ pub struct Layer<A: Allocator + Copy> {
 }
 
 impl<A: Allocator + Copy> Model for Layer<A> {
-    ghost use Rattle.coap_layer.specs.Shown.{Shown};
+    ghost use Rattle.coap_layer.specs.Machine.Shown.{Shown};
 
     ghost Value = { Shown };
 
     ghost use Rattle.std.specs.Prelude.{is_some, length};
-    ghost use Rattle.coap_layer.specs.Parts.{awaited, before_of, held};
-    ghost use Rattle.coap_layer.specs.Sound.{IsWithin, HasRoom, IsPlaced};
-    ghost use Rattle.coap_layer.specs.State.{forgotten};
+    ghost use Rattle.coap_layer.specs.Machine.Parts.{awaited, before_of, held};
+    ghost use Rattle.coap_layer.specs.Machine.Sound.{IsWithin, HasRoom, IsPlaced};
+    ghost use Rattle.coap_layer.specs.Machine.State.{forgotten};
 
     ghost view = { λ l. record {
       state = forgotten (held l.clock l.awaits l.ids l.lists);
@@ -107,10 +109,11 @@ impl<A: Allocator + Copy> Layer<A> {
         from: Endpoint,
         bytes: &'d [u8],
     ) -> Result<Up<'d>, AllocError>
-        ensures step { IfOk result (λ up. Step self.old.state now.0 (Receive from bytes.now) (answer_as up) self.new.state) }
-        ensures led { IsOk result → (word : ℕ) (t : List Entry) → LayerLed word t self.old.state → LayerLed word (made self.old.state now.0 (Receive from bytes.now) ∷ t) self.new.state }
+        ensures step { IfOk result (λ up. Moves self.old now.0 (Receive from bytes.now) (answer_as up) self.new) }
+        ensures led { IsOk result → Leads self.old now.0 (Receive from bytes.now) self.new }
         ensures before { OnOk result (self.new.before ≡ Some self.old.state) }
         ensures may_reply { IfOk result (λ up. (m : Message) → handed_by (answer_as up) ≡ Some m → MayReply self.new from m.id) }
+        ensures kept { self.old.has_room ≡ true → self.new.has_room ≡ true }
         ensures err { OnErr result (self.new ≡ self.old) }
         // Where nothing is sent and nothing is handed up, it takes no memory.
         ensures quiet { IsQuiet (made self.old.state now.0 (Receive from bytes.now)) → IsOk result }
@@ -151,9 +154,9 @@ impl<A: Allocator + Copy> Layer<A> {
     /// so that a duplicate gets it again (RFC 7252, sections 4.2 and 4.5). It takes no memory.
     pub fn reply(&mut self, to: Endpoint, id: Id, bytes: &[u8])
         requires may { MayReply self.old to id.0 }
-        requires short { length bytes.now ≤ 1152 }
-        ensures step { Step self.old.state 0 (Reply to id.0 bytes.now) Nothing self.new.state }
-        ensures led { (word : ℕ) (t : List Entry) → LayerLed word t self.old.state → LayerLed word (made self.old.state 0 (Reply to id.0 bytes.now) ∷ t) self.new.state }
+        requires short { length bytes.now ≤ max_message_len }
+        ensures step { Moves self.old 0 (Reply to id.0 bytes.now) Nothing self.new }
+        ensures led { Leads self.old 0 (Reply to id.0 bytes.now) self.new }
         ensures before { self.new.before ≡ self.old.before }
     {
         if let Some(room) = self.room.take() {
@@ -176,12 +179,13 @@ impl<A: Allocator + Copy> Layer<A> {
         word: u64,
     ) -> Result<Id, SendRefusal>
         requires { IsSendable content.now }
-        ensures step { result ≢ Err refused.Memory → Step self.old.state now.0 (Confirm to content.now word) (sent_as result) self.new.state }
-        ensures led { result ≢ Err refused.Memory → (first : ℕ) (t : List Entry) → LayerLed first t self.old.state → LayerLed first (made self.old.state now.0 (Confirm to content.now word) ∷ t) self.new.state }
+        ensures step { result ≢ Err refused.Memory → Moves self.old now.0 (Confirm to content.now word) (sent_as result) self.new }
+        ensures led { result ≢ Err refused.Memory → Leads self.old now.0 (Confirm to content.now word) self.new }
         ensures before { self.new.before ≡ self.old.before }
         ensures room { self.old.has_room ≡ true → result ≢ Err refused.Memory }
+        ensures kept { OnErr result (self.new.has_room ≡ self.old.has_room) }
         // Where it refuses for another reason, it takes no memory.
-        ensures quiet { answer_of self.old.state (max self.old.state.clock now.0) (AsksRoom to) ≡ Is false → result ≢ Err refused.Memory }
+        ensures quiet { would_answer self.old now.0 (AsksRoom to) ≡ Is false → result ≢ Err refused.Memory }
         ensures memory { result ≡ Err refused.Memory → self.new ≡ self.old }
     {
         let at = self.clock.max(now.0);
@@ -210,12 +214,13 @@ impl<A: Allocator + Copy> Layer<A> {
         content: &Content<'_>,
     ) -> Result<Id, SendRefusal>
         requires { IsSendable content.now }
-        ensures step { result ≢ Err refused.Memory → Step self.old.state now.0 (Plain to content.now) (sent_as result) self.new.state }
-        ensures led { result ≢ Err refused.Memory → (first : ℕ) (t : List Entry) → LayerLed first t self.old.state → LayerLed first (made self.old.state now.0 (Plain to content.now) ∷ t) self.new.state }
+        ensures step { result ≢ Err refused.Memory → Moves self.old now.0 (Plain to content.now) (sent_as result) self.new }
+        ensures led { result ≢ Err refused.Memory → Leads self.old now.0 (Plain to content.now) self.new }
         ensures before { self.new.before ≡ self.old.before }
         ensures room { self.old.has_room ≡ true → result ≢ Err refused.Memory }
+        ensures kept { OnErr result (self.new.has_room ≡ self.old.has_room) }
         // Where it refuses for another reason, it takes no memory.
-        ensures quiet { answer_of self.old.state (max self.old.state.clock now.0) AsksFree ≡ Is false → result ≢ Err refused.Memory }
+        ensures quiet { would_answer self.old now.0 AsksFree ≡ Is false → result ≢ Err refused.Memory }
         ensures memory { result ≡ Err refused.Memory → self.new ≡ self.old }
     {
         let at = self.clock.max(now.0);
@@ -237,24 +242,34 @@ impl<A: Allocator + Copy> Layer<A> {
 
     /// What `room` would answer now. Nothing changes: the moment doesn't count.
     pub fn would_confirm(&self, now: Moment, to: Endpoint) -> bool
-        ensures { answer_of self.now.state (max self.now.state.clock now.0) (AsksRoom to) ≡ Is result }
+        ensures { would_answer self.now now.0 (AsksRoom to) ≡ Is result }
     {
         let at = self.clock.max(now.0);
         let busy = is_busy(&self.lists.sendings, to);
         refusal(busy, self.ids.would_give(at)).is_none()
     }
 
+    /// Whether `tick` would do a step now. Nothing changes: the moment doesn't count. It takes no
+    /// memory.
+    pub fn would_tick(&self, now: Moment) -> bool
+        ensures idle { result ≡ false → would_answer self.now now.0 Ticks ≡ Idle }
+        ensures due { result ≡ true → would_answer self.now now.0 Ticks ≢ Idle }
+    {
+        let at = self.clock.max(now.0);
+        is_step(find_step(&self.lists.sendings, at))
+    }
+
     /// Whether `confirm` would refuse a message to this endpoint with neither `Outstanding` nor
     /// `NoIds`. After true, `confirm` and `plain` are not refused memory, until one of them or
     /// `reply` is called. Where it is false, it takes no memory.
     pub fn room(&mut self, now: Moment, to: Endpoint) -> Result<bool, AllocError>
-        ensures step { IfOk result (λ may. Step self.old.state now.0 (AsksRoom to) (Is may) self.new.state) }
-        ensures led { IsOk result → (word : ℕ) (t : List Entry) → LayerLed word t self.old.state → LayerLed word (made self.old.state now.0 (AsksRoom to) ∷ t) self.new.state }
+        ensures step { IfOk result (λ may. Moves self.old now.0 (AsksRoom to) (Is may) self.new) }
+        ensures led { IsOk result → Leads self.old now.0 (AsksRoom to) self.new }
         ensures before { self.new.before ≡ self.old.before }
         ensures room { IfOk result (λ may. may ≡ true → self.new.has_room ≡ true) }
         ensures kept { self.old.has_room ≡ true → self.new.has_room ≡ true }
         ensures replies { self.new.replies ≡ self.old.replies }
-        ensures quiet { answer_of self.old.state (max self.old.state.clock now.0) (AsksRoom to) ≡ Is false → IsOk result }
+        ensures quiet { would_answer self.old now.0 (AsksRoom to) ≡ Is false → IsOk result }
         ensures had { self.old.has_room ≡ true → IsOk result }
         ensures err { OnErr result (self.new ≡ self.old) }
     {
@@ -277,6 +292,7 @@ impl<A: Allocator + Copy> Layer<A> {
         ensures before { self.new.before ≡ self.old.before }
         ensures replies { self.new.replies ≡ self.old.replies }
         ensures room { OnOk result (self.new.has_room ≡ true) }
+        ensures had { self.old.has_room ≡ true → IsOk result }
         ensures err { OnErr result (self.new ≡ self.old) }
     {
         make_room(self.alloc, &mut self.room, &mut self.lists)?;
@@ -285,8 +301,8 @@ impl<A: Allocator + Copy> Layer<A> {
 
     /// Whether a Message ID is free. It takes no memory.
     pub fn is_free(&mut self, now: Moment) -> bool
-        ensures step { Step self.old.state now.0 AsksFree (Is result) self.new.state }
-        ensures led { (word : ℕ) (t : List Entry) → LayerLed word t self.old.state → LayerLed word (made self.old.state now.0 AsksFree ∷ t) self.new.state }
+        ensures step { Moves self.old now.0 AsksFree (Is result) self.new }
+        ensures led { Leads self.old now.0 AsksFree self.new }
         ensures before { self.new.before ≡ self.old.before }
         ensures room { self.new.has_room ≡ self.old.has_room }
         ensures replies { self.new.replies ≡ self.old.replies }
@@ -297,8 +313,8 @@ impl<A: Allocator + Copy> Layer<A> {
 
     /// Lets time pass: the moment counts, and nothing else is done. It takes no memory.
     pub fn pass(&mut self, now: Moment)
-        ensures step { Step self.old.state now.0 Pass Nothing self.new.state }
-        ensures led { (word : ℕ) (t : List Entry) → LayerLed word t self.old.state → LayerLed word (made self.old.state now.0 Pass ∷ t) self.new.state }
+        ensures step { Moves self.old now.0 Pass Nothing self.new }
+        ensures led { Leads self.old now.0 Pass self.new }
         ensures before { self.new.before ≡ self.old.before }
         ensures room { self.new.has_room ≡ self.old.has_room }
         ensures replies { self.new.replies ≡ self.old.replies }
@@ -309,8 +325,8 @@ impl<A: Allocator + Copy> Layer<A> {
     /// Ends the retransmission of the message to this endpoint with this Message ID; false where
     /// none is outstanding. It takes no memory.
     pub fn settle(&mut self, to: Endpoint, id: Id) -> bool
-        ensures step { Step self.old.state 0 (Settle to id.0) (Is result) self.new.state }
-        ensures led { (word : ℕ) (t : List Entry) → LayerLed word t self.old.state → LayerLed word (made self.old.state 0 (Settle to id.0) ∷ t) self.new.state }
+        ensures step { Moves self.old 0 (Settle to id.0) (Is result) self.new }
+        ensures led { Leads self.old 0 (Settle to id.0) self.new }
         ensures before { self.new.before ≡ self.old.before }
         ensures room { self.new.has_room ≡ self.old.has_room }
         ensures replies { self.new.replies ≡ self.old.replies }
@@ -323,8 +339,8 @@ impl<A: Allocator + Copy> Layer<A> {
     /// Does one step that is due: a retransmission, or the failure of one (RFC 7252, section 4.2).
     /// Where nothing is due, it takes no memory.
     pub fn tick(&mut self, now: Moment) -> Result<Tick, AllocError>
-        ensures step { IfOk result (λ tick. (answer : Answer) × IsTick tick answer × Step self.old.state now.0 Ticks answer self.new.state) }
-        ensures led { IsOk result → (word : ℕ) (t : List Entry) → LayerLed word t self.old.state → LayerLed word (made self.old.state now.0 Ticks ∷ t) self.new.state }
+        ensures step { IfOk result (λ tick. (answer : Answer) × IsTick tick answer × Moves self.old now.0 Ticks answer self.new) }
+        ensures led { IsOk result → Leads self.old now.0 Ticks self.new }
         ensures before { OnOk result (self.new.before ≡ Some self.old.state) }
         ensures err { OnErr result (self.new ≡ self.old) }
         ensures quiet { copies (max self.old.state.clock now.0) self.old.state.open_cons ≡ [] → IsOk result }
@@ -352,8 +368,8 @@ impl<A: Allocator + Copy> Layer<A> {
     /// The datagram that is to be sent next. After it, nothing can be taken back. It takes no
     /// memory.
     pub fn next_out(&mut self) -> Option<Datagram<A>>
-        ensures step { Step self.old.state 0 Take (Gives result) self.new.state }
-        ensures led { (word : ℕ) (t : List Entry) → LayerLed word t self.old.state → LayerLed word (made self.old.state 0 Take ∷ t) self.new.state }
+        ensures step { Moves self.old 0 Take (Gives result) self.new }
+        ensures led { Leads self.old 0 Take self.new }
         ensures before { self.new.before ≡ None }
         ensures room { self.new.has_room ≡ self.old.has_room }
         ensures replies { self.new.replies ≡ self.old.replies }
@@ -363,11 +379,13 @@ impl<A: Allocator + Copy> Layer<A> {
     }
 
     /// Takes back the last `receive` or `tick` that was not refused memory, and every call since.
-    /// No reply may be given then. It takes no memory.
+    /// No reply may be given then. The room for a message that there is stays. It takes no memory.
     pub fn undo(&mut self)
         requires { IsSome self.old.before }
         ensures back { self.old.before ≡ Some self.new.state }
         ensures spent { self.new.before ≡ None }
+        ensures room { self.new.has_room ≡ self.old.has_room }
+        ensures replies { self.new.replies ≡ false }
     {
         if let Some(mark) = self.mark.take() {
             self.clock = mark.clock;

@@ -24,7 +24,7 @@ mod sending;
 mod taking;
 mod up;
 
-pub use content::{Content, MAX_MESSAGE_LEN};
+pub use content::Content;
 pub use datagram::Datagram;
 pub use laws::{channel_law, layer_law, sendable_law, sending_law, witness_law};
 pub use layer::Layer;

@@ -1,10 +1,10 @@
 ghost use Rattle.std.specs.Prelude.{◌≡◌, ◌≤◌, length, filter};
 ghost use Rattle.std.specs.Vec.{vec_len, vec_capacity};
 ghost use Rattle.std.specs.VecDeque.{deque_len, deque_capacity};
-ghost use Rattle.coap_layer.specs.Entries.{arrived_as};
-ghost use Rattle.coap_layer.specs.Parts.{open_before};
-ghost use Rattle.coap_layer.specs.Sendings.{open_now};
-ghost use Rattle.coap_layer.specs.State.{is_live};
+ghost use Rattle.coap_layer.specs.Machine.Entries.{arrived_as};
+ghost use Rattle.coap_layer.specs.Machine.Parts.{noted, open_before};
+ghost use Rattle.coap_layer.specs.Machine.Sendings.{open_now};
+ghost use Rattle.coap_layer.specs.Machine.State.{is_live};
 
 use crate::IdSource;
 use crate::dedup::forget;
@@ -42,6 +42,7 @@ pub(crate) fn begin<A: Allocator + Copy>(
     ensures entries { lists.new.entries.items ≡ filter (λ e. is_live clock (arrived_as e)) lists.old.entries.items }
     ensures entries_len { vec_len lists.new.entries ≤ vec_len lists.old.entries }
     ensures entries_capacity { vec_capacity lists.new.entries ≡ vec_capacity lists.old.entries }
+    ensures sendings { lists.new.sendings.items ≡ noted lists.old.sendings.items }
     ensures open { open_now lists.new.sendings.items ≡ open_now lists.old.sendings.items }
     ensures open_before { open_before lists.new.sendings.items ≡ open_now lists.old.sendings.items }
     ensures sendings_len { vec_len lists.new.sendings ≤ vec_len lists.old.sendings }

@@ -1,17 +1,20 @@
 ghost use Rattle.std.specs.Prelude.{not, Some, ◌≡◌, ◌+◌, ◌*◌, ◌/◌, ◌%◌, IsTrue, false, List, [], ◌∷◌, ℕ, None, replicate, slice_set};
-ghost use Rattle.coap_layer.specs.Ids.{Given, IdEntry, Ids, IdsAreExact, NumbersLaw, AreApart, IsHeld, IsRested, MayGive, Withholds, numbers, upcoming as upcoming_number};
-ghost use Rattle.coap_layer.specs.State.{is_free, is_rested};
-ghost use Rattle.coap_layer.specs.IdStep.{Asks, Draws};
-ghost use Rattle.coap_layer.specs.IdState.{AreUses, Led, next_entry, free_entry};
+ghost use Rattle.coap_layer.specs.Ids.{Issued, IdEntry, Ids, IdsAreExact, NumbersLaw, AreApart, IsHeld, IsRested, MayGive, Withholds, numbers, upcoming as upcoming_number};
+ghost use Rattle.coap_layer.specs.declared.message_id.TheConstants.{GROUP_SIZE as group_size, GROUPS as groups};
+ghost use Rattle.coap_layer.specs.Machine.State.{is_free, is_rested};
+ghost use Rattle.coap_layer.specs.Machine.IdStep.{Asks, Draws};
+ghost use Rattle.coap_layer.specs.Machine.IdState.{AreUses, Led, next_entry, free_entry};
 
 use coap_types::transmission::ID_REUSE_AFTER_MS;
 use coap_types::{Id, Moment};
 use std::marker::Model;
 
-/// How many groups the Message IDs are in (profile).
+// How many groups the Message IDs are in (profile).
 const GROUPS: usize = 16;
-/// How many Message IDs a group has (profile).
+// How many Message IDs a group has (profile).
 const GROUP_SIZE: u16 = 4_096;
+
+const _: () = prove!(GROUPS == 16 && GROUP_SIZE == 4_096);
 
 /// A source of Message IDs (RFC 7252, section 4.4): 16 groups of 4,096 numbers, given in rising
 /// order, each group used again only more than 400,000 ms after its last use (profile).
@@ -24,14 +27,14 @@ pub struct IdSource {
 
 impl Model for IdSource {
     ghost use Rattle.std.specs.Prelude.{◌≡◌, length, ◌<◌};
-    ghost use Rattle.coap_layer.specs.IdState.{IdState};
+    ghost use Rattle.coap_layer.specs.Machine.IdState.{IdState};
 
     ghost Value = { IdState };
 
     ghost view = { λ s. record { clock = s.clock; upcoming = s.upcoming; last_used = s.last_used } };
 }
 
-/// Whether a group last used then is still held.
+// Whether a group last used then is still held.
 fn is_held(last_use: Option<u64>, now: u64) -> bool
     ensures yes { IsTrue result → IsHeld last_use now }
     ensures no { result ≡ false → IsRested last_use now }
@@ -43,10 +46,10 @@ fn is_held(last_use: Option<u64>, now: u64) -> bool
     }
 }
 
-/// Whether the number that comes next may be given.
+// Whether the number that comes next may be given.
 fn may_give(upcoming: u16, last_used: &[Option<u64>; GROUPS], now: u64) -> bool
-    ensures yes { (word : ℕ) (past : List Given) → upcoming ≡ upcoming_number word past → AreUses past last_used.now → IsTrue result → MayGive word past now }
-    ensures no { (word : ℕ) (past : List Given) → upcoming ≡ upcoming_number word past → AreUses past last_used.now → result ≡ false → Withholds word past now }
+    ensures yes { (word : ℕ) (past : List Issued) → upcoming ≡ upcoming_number word past → AreUses past last_used.now → IsTrue result → MayGive word past now }
+    ensures no { (word : ℕ) (past : List Issued) → upcoming ≡ upcoming_number word past → AreUses past last_used.now → result ≡ false → Withholds word past now }
     ensures test { result ≡ is_free now upcoming last_used.now }
 {
     upcoming % GROUP_SIZE != 0 || !is_held(last_used[(upcoming / GROUP_SIZE) as usize], now)
@@ -74,7 +77,7 @@ impl IdSource {
     /// Gives the number that comes next.
     pub(crate) fn give(&mut self, at: u64) -> Id
         ensures id { result.0 ≡ self.old.upcoming }
-        ensures new { self.new ≡ record { clock = at; upcoming = (self.old.upcoming + 1) % 65536; last_used = slice_set self.old.last_used (self.old.upcoming / 4096) (Some at) } }
+        ensures new { self.new ≡ record { clock = at; upcoming = (self.old.upcoming + 1) % 65536; last_used = slice_set self.old.last_used (self.old.upcoming / group_size) (Some at) } }
     {
         let id = self.upcoming;
         self.clock = at;
@@ -86,7 +89,7 @@ impl IdSource {
     /// A source that begins at the group that the word picks: group `word` mod 16.
     pub fn new(word: u64) -> IdSource
         ensures led { Led word [] result }
-        ensures start { result ≡ record { clock = 0; upcoming = word % 16 * 4096; last_used = replicate 16 None } }
+        ensures start { result ≡ record { clock = 0; upcoming = word % groups * group_size; last_used = replicate groups None } }
     {
         IdSource {
             clock: 0,
@@ -124,5 +127,5 @@ pub fn ids_law()
     ensures law { (word : ℕ) (t : List IdEntry) (s : _) → Led word t s → Ids word t }
     ensures exact { IdsAreExact }
     ensures numbers { (word : ℕ) (t : List IdEntry) → Ids word t → NumbersLaw word (numbers t) }
-    ensures apart { (word : ℕ) (given : List Given) → NumbersLaw word given → AreApart given }
+    ensures apart { (word : ℕ) (issued : List Issued) → NumbersLaw word issued → AreApart issued }
 {}

@@ -1,14 +1,14 @@
 ghost use Rattle.std.specs.Prelude.{◌≡◌, ◌≤◌, ◌<◌, ◌+◌, ◌++◌, [], ◌∷◌, map, filter, is_some, option_to_list, IfOk, IsOk};
 ghost use Rattle.std.specs.Vec.{vec_len, vec_capacity};
-ghost use Rattle.coap_layer.specs.Parts.{open_before, settled, put_back as put_back_lem};
-ghost use Rattle.coap_layer.specs.Sendings.{open_now};
-ghost use Rattle.coap_layer.specs.State.{copies};
+ghost use Rattle.coap_layer.specs.Machine.Parts.{noted, open_before, settled, put_back as put_back_lem};
+ghost use Rattle.coap_layer.specs.Machine.Sendings.{open_now};
+ghost use Rattle.coap_layer.specs.Machine.State.{copies};
 
 use crate::datagram::Datagram;
 use crate::retransmission::{Sending, has_failed, is_copy_due};
 use std::alloc::{AllocError, Allocator};
 
-/// Drops the messages that have ended.
+// Drops the messages that have ended.
 fn drop_ended<A: Allocator + Copy>(sendings: &mut Vec<Sending<A>, A>)
     ensures items { sendings.new.items ≡ filter (λ c. is_some c.last) sendings.old.items }
     ensures len { vec_len sendings.new ≤ vec_len sendings.old }
@@ -17,7 +17,7 @@ fn drop_ended<A: Allocator + Copy>(sendings: &mut Vec<Sending<A>, A>)
     sendings.retain(|c| c.last.is_some());
 }
 
-/// Notes each last sending as that which an input finds.
+// Notes each last sending as that which an input finds.
 fn note<A: Allocator + Copy>(sendings: &mut [Sending<A>])
     ensures { sendings.new ≡ map settled sendings.old }
 {
@@ -26,7 +26,7 @@ fn note<A: Allocator + Copy>(sendings: &mut [Sending<A>])
     }
 }
 
-/// Notes each last sending as that which an input finds.
+// Notes each last sending as that which an input finds.
 fn note_all<A: Allocator + Copy>(sendings: &mut Vec<Sending<A>, A>)
     ensures items { sendings.new.items ≡ map settled sendings.old.items }
     ensures len { vec_len sendings.new ≡ vec_len sendings.old }
@@ -37,6 +37,7 @@ fn note_all<A: Allocator + Copy>(sendings: &mut Vec<Sending<A>, A>)
 
 /// Lets go of what the input before found, and notes what this one finds.
 pub(crate) fn settle_down<A: Allocator + Copy>(sendings: &mut Vec<Sending<A>, A>)
+    ensures items { sendings.new.items ≡ noted sendings.old.items }
     ensures open { open_now sendings.new.items ≡ open_now sendings.old.items }
     ensures before { open_before sendings.new.items ≡ open_now sendings.old.items }
     ensures len { vec_len sendings.new ≤ vec_len sendings.old }
@@ -46,7 +47,7 @@ pub(crate) fn settle_down<A: Allocator + Copy>(sendings: &mut Vec<Sending<A>, A>
     note_all(sendings);
 }
 
-/// Puts back what the last input found.
+// Puts back what the last input found.
 fn put_each_back<A: Allocator + Copy>(sendings: &mut [Sending<A>])
     ensures { sendings.new ≡ map put_back_lem sendings.old }
 {
@@ -55,7 +56,7 @@ fn put_each_back<A: Allocator + Copy>(sendings: &mut [Sending<A>])
     }
 }
 
-/// Puts back what the last input found.
+// Puts back what the last input found.
 fn put_all_back<A: Allocator + Copy>(sendings: &mut Vec<Sending<A>, A>)
     ensures items { sendings.new.items ≡ map put_back_lem sendings.old.items }
     ensures len { vec_len sendings.new ≡ vec_len sendings.old }

@@ -1,24 +1,20 @@
-ghost use Rattle.std.specs.Prelude.{◌≡◌, ℕ, List, nat_le, nat_lt, ◌≤◌, ◌*◌, ◌-◌, ◌==◌, ◌&&◌, is_some, None, Some, if◌then◌else◌, map};
+ghost use Rattle.std.specs.Prelude.{◌≡◌, ◌≢◌, true, false, ℕ, List, nat_le, nat_lt, ◌≤◌, ◌*◌, ◌-◌, ◌^◌, ◌==◌, ◌&&◌, is_some, None, Some, if◌then◌else◌, map};
 ghost use Rattle.std.specs.List.{list_any, filter_map};
 ghost use Rattle.std.specs.Vec.{vec_len, vec_capacity};
 ghost use Rattle.coap_types.specs.SameEndpoint.{same_endpoint};
-ghost use Rattle.coap_layer.specs.Trace.{Packet, Ticks};
+ghost use Rattle.coap_types.specs.declared.transmission.TheConstants.{MAX_RETRANSMIT as max_retransmit, FAILURE_TIMEOUTS as failure_timeouts};
+ghost use Rattle.coap_layer.specs.BackOff.{factors};
+ghost use Rattle.coap_layer.specs.Trace.{Idle, Packet, Ticks};
 ghost use Rattle.coap_layer.specs.Words.{left_by};
-ghost use Rattle.coap_layer.specs.State.{is_copy_due, tick_of};
-ghost use Rattle.coap_layer.specs.Parts.{open_before};
-ghost use Rattle.coap_layer.specs.Sendings.{answer_for, ended, marked, open_now};
-ghost use Rattle.coap_layer.specs.Ups.{IsTick};
+ghost use Rattle.coap_layer.specs.Machine.State.{is_copy_due, tick_of};
+ghost use Rattle.coap_layer.specs.Machine.Parts.{open_before};
+ghost use Rattle.coap_layer.specs.Machine.Sendings.{answer_for, ended, marked, open_now};
+ghost use Rattle.coap_layer.specs.Machine.Ups.{IsTick};
 
 use crate::Tick;
-use coap_types::transmission::{LAST_RETRANSMISSION_MS, MAX_RETRANSMIT};
+use coap_types::transmission::{FAILURE_TIMEOUTS, LAST_RETRANSMISSION_MS, MAX_RETRANSMIT};
 use coap_types::{Endpoint, Id};
 use std::alloc::Allocator;
-
-/// So many initial timeouts pass from the first sending to the failure of the transmission: 1, 2,
-/// 4, 8 and 16 of them (RFC 7252, section 4.2).
-const FAILURE_TIMEOUTS: u64 = (1 << (MAX_RETRANSMIT + 1)) - 1;
-
-const _: () = prove!(FAILURE_TIMEOUTS == 31);
 
 /// A Confirmable message that was sent (RFC 7252, section 4.2).
 #[derive(Drop)]
@@ -47,7 +43,7 @@ pub(crate) enum Due {
     Failure(Endpoint, Id),
 }
 
-/// Whether it went to this endpoint, with this Message ID.
+// Whether it went to this endpoint, with this Message ID.
 fn goes_to<A: Allocator + Copy>(c: &Sending<A>, to: Endpoint, id: Id) -> bool
     ensures { result ≡ (same_endpoint c.now.to to && (c.now.id.0 == id.0)) }
 {
@@ -75,14 +71,14 @@ pub(crate) fn is_busy<A: Allocator + Copy>(sendings: &[Sending<A>], to: Endpoint
     sendings.iter().any(|c| c.last.is_some() && c.to == to)
 }
 
-/// The moment of the last sending, or none where it is over.
+// The moment of the last sending, or none where it is over.
 fn unless(over: bool, last: Option<u64>) -> Option<u64>
     ensures { result ≡ (if over then None else last) }
 {
     if over { None } else { last }
 }
 
-/// The moment of the last sending, which is now where it is sent again.
+// The moment of the last sending, which is now where it is sent again.
 fn moved(again: bool, last: Option<u64>, at: u64) -> Option<u64>
     ensures { result ≡ (if is_some last && again then Some at else last) }
 {
@@ -102,7 +98,7 @@ pub(crate) fn end<A: Allocator + Copy>(sendings: &mut [Sending<A>], to: Endpoint
     }
 }
 
-/// Notes that what is outstanding there with this Message ID is sent again.
+// Notes that what is outstanding there with this Message ID is sent again.
 fn mark<A: Allocator + Copy>(sendings: &mut [Sending<A>], to: Endpoint, id: Id, at: u64)
     ensures { sendings.new ≡ map (marked to id.0 at) sendings.old }
 {
@@ -113,19 +109,40 @@ fn mark<A: Allocator + Copy>(sendings: &mut [Sending<A>], to: Endpoint, id: Id, 
 
 /// Whether the transmission has failed (RFC 7252, section 4.2).
 pub(crate) fn has_failed<A: Allocator + Copy>(c: &Sending<A>, now: u64) -> bool
-    ensures { result ≡ nat_le (c.now.timeout * 31) (now - c.now.first) }
+    ensures { result ≡ nat_le (c.now.timeout * failure_timeouts) (now - c.now.first) }
 {
     u64::from(c.timeout) * FAILURE_TIMEOUTS <= now.saturating_sub(c.first)
 }
 
-/// Whether the retransmission that is due so many timeouts after the first sending is due and was
-/// not at the last sending.
+// Whether the retransmission that is due so many timeouts after the first sending is due and was
+// not at the last sending.
 fn falls_due(timeouts: u64, timeout: u16, sent: u64, elapsed: u64) -> bool
-    requires { timeouts ≤ 15 }
+    requires { timeouts ≤ failure_timeouts }
     ensures { result ≡ (nat_lt sent (timeout * timeouts) && nat_le (timeout * timeouts) elapsed) }
 {
     let due = u64::from(timeout) * timeouts;
     sent < due && due <= elapsed
+}
+
+// After so many initial timeouts the retransmission of this number is due: 1, 3, 7, 15.
+fn factor(retransmission: u32) -> u64
+    requires { retransmission ≤ max_retransmit }
+    ensures is { result ≡ 2 ^ retransmission - 1 }
+    ensures short { result ≤ failure_timeouts }
+{
+    (1 << retransmission) - 1
+}
+
+// Whether one of the first so many retransmissions is due and was not at the last sending.
+fn any_falls_due(retransmissions: u32, timeout: u16, sent: u64, elapsed: u64) -> bool
+    requires { retransmissions ≤ max_retransmit }
+    ensures { result ≡ list_any (λ k. nat_lt sent (timeout * k) && nat_le (timeout * k) elapsed) (factors retransmissions) }
+{
+    if retransmissions == 0 {
+        return false;
+    }
+    any_falls_due(retransmissions - 1, timeout, sent, elapsed)
+        || falls_due(factor(retransmissions), timeout, sent, elapsed)
 }
 
 /// Whether a retransmission is due: of those that are, one is sent and the others count as sent
@@ -135,11 +152,7 @@ pub(crate) fn is_copy_due<A: Allocator + Copy>(c: &Sending<A>, last: u64, now: u
 {
     let sent = last.saturating_sub(c.first);
     let elapsed = now.saturating_sub(c.first);
-    elapsed <= LAST_RETRANSMISSION_MS
-        && (falls_due(1, c.timeout, sent, elapsed)
-            || falls_due(3, c.timeout, sent, elapsed)
-            || falls_due(7, c.timeout, sent, elapsed)
-            || falls_due(15, c.timeout, sent, elapsed))
+    elapsed <= LAST_RETRANSMISSION_MS && any_falls_due(MAX_RETRANSMIT, c.timeout, sent, elapsed)
 }
 
 /// The step of the message that was sent first of those that have one.
@@ -157,6 +170,14 @@ pub(crate) fn find_step<A: Allocator + Copy>(sendings: &Vec<Sending<A>, A>, at: 
         }
     }
     Due::Nothing
+}
+
+/// Whether it is a step.
+pub(crate) fn is_step(due: Due) -> bool
+    ensures idle { result ≡ false → answer_for due ≡ Idle }
+    ensures due { result ≡ true → answer_for due ≢ Idle }
+{
+    !matches!(due, Due::Nothing)
 }
 
 /// What the layer above is told of the step.
@@ -179,7 +200,7 @@ pub(crate) fn end_all<A: Allocator + Copy>(sendings: &mut Vec<Sending<A>, A>, to
     end(sendings, to, id);
 }
 
-/// Notes that what is outstanding there with this Message ID is sent again.
+// Notes that what is outstanding there with this Message ID is sent again.
 fn mark_all<A: Allocator + Copy>(sendings: &mut Vec<Sending<A>, A>, to: Endpoint, id: Id, at: u64)
     ensures items { sendings.new.items ≡ map (marked to id.0 at) sendings.old.items }
     ensures len { vec_len sendings.new ≡ vec_len sendings.old }

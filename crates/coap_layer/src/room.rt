@@ -1,10 +1,10 @@
 ghost use Rattle.std.specs.Prelude.{◌≡◌, ◌≤◌, ◌<◌, ◌+◌, length, true, false, None, Some, is_some, IfOk, OnOk, OnErr, IsOk};
 ghost use Rattle.std.specs.Vec.{vec_len, vec_capacity};
 ghost use Rattle.std.specs.VecDeque.{deque_len, deque_capacity};
-ghost use Rattle.coap_layer.specs.Sound.{HasRoom, HasBuffers};
+ghost use Rattle.coap_layer.specs.Machine.Sound.{HasRoom, HasBuffers};
 
-use crate::content::MAX_MESSAGE_LEN;
 use crate::lists::Lists;
+use coap_types::limits::MAX_MESSAGE_LEN;
 use std::alloc::{AllocError, Allocator};
 
 /// Buffers for a message of the greatest length: one that is sent, and one that is kept.

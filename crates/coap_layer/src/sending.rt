@@ -1,28 +1,25 @@
 ghost use Rattle.std.specs.Prelude.{◌≡◌, ◌≤◌, ◌<◌, ◌+◌, ◌%◌, ◌++◌, ◌∷◌, [], None, Some, true, length, is_some, if◌then◌else◌, IfOk, IsOk, OnOk, OnErr};
 ghost use Rattle.std.specs.Vec.{vec_len, vec_capacity};
 ghost use Rattle.coap_types.specs.declared.message.Kind.TheVariants.{Con, Non};
-ghost use Rattle.coap_codec.specs.Writing.{message_bytes};
-ghost use Rattle.coap_layer.specs.Parts.{open_before};
+ghost use Rattle.coap_codec.specs.Spelling.{message_bytes};
+ghost use Rattle.coap_layer.specs.Machine.Parts.{open_before};
 ghost use Rattle.coap_layer.specs.Sendable.{IsSendable};
-ghost use Rattle.coap_layer.specs.Sendings.{open_now};
-ghost use Rattle.coap_layer.specs.Sound.{HasBuffers, HasRoom};
+ghost use Rattle.coap_layer.specs.Machine.Sendings.{open_now};
+ghost use Rattle.coap_layer.specs.Machine.Sound.{HasBuffers, HasRoom};
 ghost use Rattle.coap_layer.specs.Trace.{with_head};
-ghost use Rattle.coap_layer.specs.Ups.{refusal_of};
+ghost use Rattle.coap_layer.specs.Machine.Ups.{refusal_of};
+ghost use Rattle.coap_types.specs.declared.transmission.TheConstants.{ACK_TIMEOUT_MS as ack_timeout, TIMEOUT_VALUES as timeout_values};
 
 use crate::SendRefusal;
-use crate::content::{Content, MAX_MESSAGE_LEN, spell};
+use crate::content::{Content, spell};
 use crate::datagram::{Datagram, push_within};
 use crate::lists::Lists;
 use crate::retransmission::Sending;
 use crate::room::{Room, filled};
-use coap_types::transmission::{ACK_TIMEOUT_MS, MAX_ACK_TIMEOUT_MS};
+use coap_types::limits::MAX_MESSAGE_LEN;
+use coap_types::transmission::{ACK_TIMEOUT_MS, TIMEOUT_VALUES};
 use coap_types::{Endpoint, Id, Kind};
 use std::alloc::Allocator;
-
-/// So many initial timeouts there are, one a millisecond (RFC 7252, section 4.2).
-const TIMEOUTS: u64 = MAX_ACK_TIMEOUT_MS - ACK_TIMEOUT_MS + 1;
-
-const _: () = prove!(TIMEOUTS == 1_001);
 
 /// Why a message is not sent, but for want of memory.
 pub(crate) fn refusal(busy: bool, free: bool) -> Option<SendRefusal>
@@ -37,14 +34,14 @@ pub(crate) fn refusal(busy: bool, free: bool) -> Option<SendRefusal>
     None
 }
 
-/// The initial timeout that the word picks, in milliseconds.
+// The initial timeout that the word picks, in milliseconds.
 fn initial_timeout(word: u64) -> u16
-    ensures { result ≡ 2000 + word % 1001 }
+    ensures { result ≡ ack_timeout + word % timeout_values }
 {
-    (ACK_TIMEOUT_MS + word % TIMEOUTS) as u16
+    (ACK_TIMEOUT_MS + word % TIMEOUT_VALUES) as u16
 }
 
-/// Keeps a Confirmable message that is sent now, for which there is room.
+// Keeps a Confirmable message that is sent now, for which there is room.
 fn keep<A: Allocator + Copy>(lists: &mut Lists<A>, sending: Sending<A>)
     requires { vec_len lists.old.sendings < vec_capacity lists.old.sendings }
     ensures sendings { lists.new.sendings.items ≡ lists.old.sendings.items ++ sending ∷ [] }
@@ -66,7 +63,7 @@ pub(crate) fn send_con<A: Allocator + Copy>(
 )
     requires sendable { IsSendable content.now }
     requires room { HasRoom (Some room) lists.old }
-    ensures open { open_now lists.new.sendings.items ≡ open_now lists.old.sendings.items ++ record { to = to; id = id.0; bytes = message_bytes (with_head Con id.0 content.now); timeout = 2000 + word % 1001; first = at; last = at } ∷ [] }
+    ensures open { open_now lists.new.sendings.items ≡ open_now lists.old.sendings.items ++ record { to = to; id = id.0; bytes = message_bytes (with_head Con id.0 content.now); timeout = ack_timeout + word % timeout_values; first = at; last = at } ∷ [] }
     ensures before { open_before lists.new.sendings.items ≡ open_before lists.old.sendings.items }
     ensures waiting { lists.new.waiting.items ≡ lists.old.waiting.items ++ record { to = to; bytes = message_bytes (with_head Con id.0 content.now) } ∷ [] }
     ensures entries { lists.new.entries ≡ lists.old.entries }

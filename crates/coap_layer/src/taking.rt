@@ -2,12 +2,12 @@ ghost use Rattle.std.specs.Prelude.{◌≡◌, ◌≤◌, ◌<◌, ◌+◌, ◌+
 ghost use Rattle.std.specs.List.{filter_map};
 ghost use Rattle.std.specs.Vec.{vec_len, vec_capacity};
 ghost use Rattle.std.specs.VecDeque.{deque_len, deque_capacity};
-ghost use Rattle.coap_layer.specs.Arriving.{awaits_by, hands, keeps, newly_by, open_by};
-ghost use Rattle.coap_layer.specs.Entries.{arrivals_in};
-ghost use Rattle.coap_layer.specs.Parts.{awaited, before_of, kept};
-ghost use Rattle.coap_layer.specs.Sendings.{answer_for, open_now};
-ghost use Rattle.coap_layer.specs.Sound.{HasRoom, IsPlaced, IsWithin};
-ghost use Rattle.coap_layer.specs.State.{forgotten, is_live, is_remembered, tick_of};
+ghost use Rattle.coap_layer.specs.Machine.Arriving.{awaits_by, hands, keeps, newly_by, open_by};
+ghost use Rattle.coap_layer.specs.Machine.Entries.{arrivals_in};
+ghost use Rattle.coap_layer.specs.Machine.Parts.{awaited, before_of, state_of_parts};
+ghost use Rattle.coap_layer.specs.Machine.Sendings.{answer_for, open_now};
+ghost use Rattle.coap_layer.specs.Machine.Sound.{HasRoom, IsPlaced, IsWithin};
+ghost use Rattle.coap_layer.specs.Machine.State.{forgotten, is_live, is_remembered, tick_of};
 ghost use Rattle.coap_layer.specs.Trace.{Packet, Ticks};
 ghost use Rattle.coap_layer.specs.Words.{left_by};
 
@@ -44,7 +44,7 @@ pub(crate) fn take_in<A: Allocator + Copy>(
     ensures open { open_now lists.new.sendings.items ≡ open_by from arriving (open_now lists.old.sendings.items) }
     ensures waiting { lists.new.waiting.items ≡ lists.old.waiting.items ++ option_to_list sent }
     ensures before { before_of (Some result) lists.new.entries.items lists.new.sendings.items lists.new.waiting.items
-        ≡ Some (forgotten (kept moments.last (awaited awaits) ids.now (arrivals_in lists.old.entries.items) (open_now lists.old.sendings.items) lists.old.waiting.items)) }
+        ≡ Some (forgotten (state_of_parts moments.last (awaited awaits) ids.now (arrivals_in lists.old.entries.items) (open_now lists.old.sendings.items) lists.old.waiting.items)) }
     ensures within { IsWithin (Some result) (length lists.new.entries.items) (length lists.new.waiting.items) }
     ensures placed { (hands arriving.verdict arriving.kind ≡ true → is_remembered moments.at from arriving.id.0 (arrivals_in lists.old.entries.items) ≡ false)
         → IsPlaced moments.at (awaits_by from arriving) true result.entries (Some result) lists.new.entries.items }
@@ -74,7 +74,7 @@ pub(crate) fn take_tick<A: Allocator + Copy>(
     ensures open { (out : List Packet) → open_now lists.new.sendings.items ≡ filter_map (left_by (record { at = moments.at; call = Ticks; answer = answer_for result.1; out = out })) (open_now lists.old.sendings.items) }
     ensures waiting { lists.new.waiting.items ≡ lists.old.waiting.items ++ option_to_list sent }
     ensures before { before_of (Some result.0) lists.new.entries.items lists.new.sendings.items lists.new.waiting.items
-        ≡ Some (forgotten (kept moments.last (awaited awaits) ids.now (arrivals_in lists.old.entries.items) (open_now lists.old.sendings.items) lists.old.waiting.items)) }
+        ≡ Some (forgotten (state_of_parts moments.last (awaited awaits) ids.now (arrivals_in lists.old.entries.items) (open_now lists.old.sendings.items) lists.old.waiting.items)) }
     ensures within { IsWithin (Some result.0) (length lists.new.entries.items) (length lists.new.waiting.items) }
     ensures sendings_len { vec_len lists.new.sendings ≤ vec_len lists.old.sendings }
     ensures sendings_capacity { vec_capacity lists.new.sendings ≡ vec_capacity lists.old.sendings }

@@ -1,10 +1,11 @@
 -- The observers of a server's resources, in order of registration (RFC 7641, section 4.1).
-use Rattle.std.specs.Prelude.{◌≡◌, ◌≤◌, ℕ, Bool, false, not, ◌&&◌, ◌||◌, ◌==◌, nat_eq, List, [], ◌∷◌, ◌++◌, length, map, filter, find, Option, None}
+use Rattle.std.specs.Prelude.{◌≡◌, ◌≤◌, ℕ, Bool, false, not, ◌&&◌, ◌||◌, nat_eq, List, [], ◌∷◌, ◌++◌, length, map, filter, find, Option, None}
 use Rattle.std.specs.Cmp.Lexicographic.{pointwise}
 use Rattle.std.specs.List.{list_any}
 use Rattle.coap_types.specs.declared.endpoint.Endpoint.{Endpoint}
 use Rattle.coap_types.specs.Path.{same_path}
 use Rattle.coap_types.specs.SameEndpoint.{same_endpoint}
+use Rattle.coap_observe.specs.declared.observers.TheConstants.{MAX_OBSERVERS as max_observers}
 
 -- One registration: the endpoint and the token of the request, which tell it from the others; the
 -- path of the resource; the size exponent of its blocks; and whether a notification is due.
@@ -39,6 +40,10 @@ marked_by path o = record o { marked = o.marked || same_path o.path path }
 abbrev pub changed_at : List (List ℕ) → List Observer → List Observer
 changed_at path os = map (marked_by path) os
 
+-- those to which a notification is due, in order
+abbrev pub marked_in : List Observer → List Observer
+marked_in os = filter (λ o. o.marked) os
+
 -- a notification is due to this endpoint and token
 abbrev pub is_due_of : Endpoint → List ℕ → Observer → Bool
 is_due_of to token o = o.marked && is_of to token o
@@ -64,7 +69,7 @@ abbrev pub AreDistinct : List Observer → Type 0
 AreDistinct [] = Unit {0}
 AreDistinct (o ∷ os) = (registration o.to o.token os ≡ None) × AreDistinct os
 
--- what is always so of them: there are at most 64 (profile), and no two of one endpoint and token
+-- what is always so of them: there are no more than may be (profile), and no two of one endpoint and token
 pub record AreRegistrations (os : List Observer) : Type 0 where
-  pub few : length os ≤ 64
+  pub few : length os ≤ max_observers
   pub distinct : AreDistinct os

@@ -1,9 +1,11 @@
 -- What each change of the list makes of the registration of one endpoint and token, and of those of
 -- others (RFC 7641, sections 4.1 and 4.2).
-use Rattle.std.specs.Prelude.{◌≡◌, ◌↔◌, ◌<◌, IsTrue, ℕ, false, List, length, None, Some}
+use Rattle.std.specs.Prelude.{◌≡◌, ◌↔◌, ◌+◌, ◌<◌, ◌≤◌, IsTrue, true, ℕ, false, List, length, None, Some}
+use Rattle.std.specs.List.{list_any}
 use Rattle.std.specs.Option.{option_map}
 use Rattle.coap_types.specs.declared.endpoint.Endpoint.{Endpoint}
-use Rattle.coap_observe.specs.Observers.{AreRegistrations, Observer, changed_at, is_of, marked_by, registered, registration, removed, sent_to}
+use Rattle.coap_observe.specs.Observers.{AreRegistrations, Observer, changed_at, is_due_of, is_of, marked_by, marked_in, registered, registration, removed, sent_to}
+use Rattle.coap_observe.specs.declared.observers.TheConstants.{MAX_OBSERVERS as max_observers}
 
 -- a registration is known by its endpoint and its token
 abbrev pub IsKnownByPair : Type 0
@@ -44,10 +46,23 @@ EachStays = (to : Endpoint) (token : List ℕ) (by : Endpoint) (bytes : List ℕ
 -- what is always so of the registrations stays so
 pub record StayRegistrations (os : List Observer) : Type 0 where
   pub registered_stay : (to : Endpoint) (token : List ℕ) (path : List (List ℕ)) (szx : ℕ)
-      → length (removed to token os) < 64 → AreRegistrations (registered to token path szx os)
+      → length (removed to token os) < max_observers → AreRegistrations (registered to token path szx os)
   pub removed_stay : (to : Endpoint) (token : List ℕ) → AreRegistrations (removed to token os)
   pub changed_stay : (path : List (List ℕ)) → AreRegistrations (changed_at path os)
   pub sent_stay : (to : Endpoint) (token : List ℕ) → AreRegistrations (sent_to to token os)
 
 abbrev pub AlwaysRegistrations : Type 0
 AlwaysRegistrations = (os : List Observer) → AreRegistrations os → StayRegistrations os
+
+-- one that was due and is sent leaves one less that is due
+abbrev pub SendLowers : Type 0
+SendLowers = (to : Endpoint) (token : List ℕ) (os : List Observer) → AreRegistrations os
+    → list_any (is_due_of to token) os ≡ true → length (marked_in (sent_to to token os)) + 1 ≡ length (marked_in os)
+
+-- where none was due, nothing is changed by a sending
+abbrev pub SendKeeps : Type 0
+SendKeeps = (to : Endpoint) (token : List ℕ) (os : List Observer) → list_any (is_due_of to token) os ≡ false → sent_to to token os ≡ os
+
+-- no more are due when one is removed
+abbrev pub RemoveNeverRaises : Type 0
+RemoveNeverRaises = (to : Endpoint) (token : List ℕ) (os : List Observer) → length (marked_in (removed to token os)) ≤ length (marked_in os)

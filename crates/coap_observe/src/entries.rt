@@ -1,7 +1,7 @@
-ghost use Rattle.std.specs.Prelude.{◌≡◌, ◌<◌, ◌≤◌, ◌++◌, ◌∷◌, [], filter, find, length, not, option_copied, true, IfSome, IsOk, OnOk, vec_len, vec_capacity};
+ghost use Rattle.std.specs.Prelude.{◌≡◌, ◌<◌, ◌≤◌, ◌++◌, ◌∷◌, [], filter, find, length, option_copied, slice_get, true, IfSome, IsOk, OnOk, vec_len, vec_capacity};
 ghost use Rattle.std.specs.List.{list_any};
 ghost use Rattle.coap_observe.specs.Observers.{changed_at, is_due_at, is_due_of, is_of, sent_to};
-ghost use Rattle.coap_observe.specs.Shown.{kept, observer_of};
+ghost use Rattle.coap_observe.specs.Shown.{observers_of, observer_of, others_of};
 
 use crate::entry::Entry;
 use coap_types::{Endpoint, Path, Token};
@@ -9,7 +9,7 @@ use std::alloc::{AllocError, Allocator};
 
 /// How many registrations there are of other endpoints and tokens.
 pub(crate) fn others<A: Allocator>(entries: &[Entry<A>], to: Endpoint, token: &Token) -> usize
-    ensures { result ≡ length (filter (λ e. not (is_of to token.now (observer_of e))) entries.now) }
+    ensures { result ≡ length (others_of to token.now entries.now) }
 {
     entries
         .iter()
@@ -43,13 +43,28 @@ pub(crate) fn first_due<A: Allocator>(entries: &[Entry<A>], to: Endpoint) -> Opt
     }
 }
 
+/// The entry behind `passed` others, of those to which a notification is due.
+pub(crate) fn due_behind<A: Allocator>(entries: &[Entry<A>], passed: usize) -> Option<&Entry<A>>
+    ensures place { option_copied result ≡ slice_get (filter (λ e. e.marked) entries.now) passed }
+    ensures due { IfSome result (λ e. e.now.marked ≡ true) }
+{
+    match entries {
+        [] => None,
+        [first, rest @ ..] if !first.marked => due_behind(rest, passed),
+        [first, rest @ ..] => match passed.checked_sub(1) {
+            None => Some(first),
+            Some(left) => due_behind(rest, left),
+        },
+    }
+}
+
 /// Takes the registration of this endpoint and token out.
 pub(crate) fn take_out<A: Allocator + Copy>(
     entries: &mut Vec<Entry<A>, A>,
     to: Endpoint,
     token: &Token,
 )
-    ensures left { entries.new.items ≡ filter (λ e. not (is_of to token.now (observer_of e))) entries.old.items }
+    ensures left { entries.new.items ≡ others_of to token.now entries.old.items }
     ensures len { vec_len entries.new ≤ vec_len entries.old }
     ensures room { vec_capacity entries.new ≡ vec_capacity entries.old }
 {
@@ -64,7 +79,7 @@ pub(crate) fn make_room<A: Allocator + Copy>(
     token: &Token,
 ) -> Result<(), AllocError>
     ensures items { entries.new.items ≡ entries.old.items }
-    ensures room { OnOk result (length (filter (λ e. not (is_of to token.now (observer_of e))) entries.old.items) < vec_capacity entries.new) }
+    ensures room { OnOk result (length (others_of to token.now entries.old.items) < vec_capacity entries.new) }
     ensures again { list_any (λ e. is_of to token.now (observer_of e)) entries.old.items ≡ true → IsOk result }
 {
     if has(entries, to, token) {
@@ -84,13 +99,13 @@ pub(crate) fn push_within<A: Allocator + Copy>(entries: &mut Vec<Entry<A>, A>, e
 
 /// Marks the entries of this path.
 pub(crate) fn mark_all<A: Allocator>(entries: &mut Vec<Entry<A>, A>, path: &Path<A>)
-    ensures { kept entries.new.items ≡ changed_at path.now (kept entries.old.items) }
+    ensures { observers_of entries.new.items ≡ changed_at path.now (observers_of entries.old.items) }
 {
     mark_each(entries, path);
 }
 
 fn mark_each<A: Allocator>(entries: &mut [Entry<A>], path: &Path<A>)
-    ensures { kept entries.new ≡ changed_at path.now (kept entries.old) }
+    ensures { observers_of entries.new ≡ changed_at path.now (observers_of entries.old) }
 {
     for entry in entries.iter_mut() {
         entry.mark(path);
@@ -99,13 +114,13 @@ fn mark_each<A: Allocator>(entries: &mut [Entry<A>], path: &Path<A>)
 
 /// Takes the mark of this endpoint and token away.
 pub(crate) fn unmark_all<A: Allocator>(entries: &mut Vec<Entry<A>, A>, to: Endpoint, token: &Token)
-    ensures { kept entries.new.items ≡ sent_to to token.now (kept entries.old.items) }
+    ensures { observers_of entries.new.items ≡ sent_to to token.now (observers_of entries.old.items) }
 {
     unmark_each(entries, to, token);
 }
 
 fn unmark_each<A: Allocator>(entries: &mut [Entry<A>], to: Endpoint, token: &Token)
-    ensures { kept entries.new ≡ sent_to to token.now (kept entries.old) }
+    ensures { observers_of entries.new ≡ sent_to to token.now (observers_of entries.old) }
 {
     for entry in entries.iter_mut() {
         entry.unmark(to, token);

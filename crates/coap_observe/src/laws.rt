@@ -1,17 +1,20 @@
-ghost use Rattle.coap_observe.specs.Registrations.{AlwaysRegistrations, ChangeMarks, EachStays, IsKnownByPair, RegisterPuts, RemoveTakes, SendUnmarks};
-ghost use Rattle.coap_observe.specs.Versions.{LaterIsNewer, NewerIsLater, OldIsReplaced};
+ghost use Rattle.coap_observe.specs.Registrations.{AlwaysRegistrations, ChangeMarks, EachStays, IsKnownByPair, RegisterPuts, RemoveNeverRaises, RemoveTakes, SendKeeps, SendLowers, SendUnmarks};
+ghost use Rattle.coap_observe.specs.Versions.{LaterIsNewer, NewerIsDecided, NewerIsLater, OldIsReplaced};
 
 /// What the rule of freshness says of versions that a server numbers modulo 2^24, less than 2^23
 /// apart (RFC 7641, sections 3.4 and 4.4): a later version is always newer, and where at most 128 s
-/// passed, only a later version is. Where more passed, each number is newer.
+/// passed, only a later version is. Where more passed, each number is newer. `is_newer` of the
+/// specifications is the test of it.
 pub fn newer_laws()
     ensures later_is_newer { LaterIsNewer }
     ensures newer_is_later { NewerIsLater }
     ensures old_is_replaced { OldIsReplaced }
+    ensures decided { NewerIsDecided }
 {}
 
 /// What the calls of `Observers` make of the registration of one endpoint and token, and that they
-/// leave those of others as they were (RFC 7641, sections 4.1 and 4.2).
+/// leave those of others as they were (RFC 7641, sections 4.1 and 4.2). One that was due and is sent
+/// leaves one less that is due; a removal leaves no more.
 pub fn observer_laws()
     ensures known_by_pair { IsKnownByPair }
     ensures register_puts { RegisterPuts }
@@ -20,4 +23,7 @@ pub fn observer_laws()
     ensures send_unmarks { SendUnmarks }
     ensures each_stays { EachStays }
     ensures registrations { AlwaysRegistrations }
+    ensures send_lowers { SendLowers }
+    ensures send_keeps { SendKeeps }
+    ensures remove_never_raises { RemoveNeverRaises }
 {}

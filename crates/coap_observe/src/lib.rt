@@ -20,5 +20,5 @@ mod watch;
 pub use laws::{newer_laws, observer_laws};
 pub use notice::Notice;
 pub use observers::{MAX_OBSERVERS, Observers};
-pub use sequence::{HALF_RANGE, REORDERING_MS, SEQUENCE_BITS};
+pub use sequence::{HALF_RANGE, REORDERING_MS, SEQUENCE_BITS, sequence_number};
 pub use watch::Watch;

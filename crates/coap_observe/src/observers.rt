@@ -1,10 +1,11 @@
 ghost use Rattle.std.specs.Prelude.{◌≡◌, ◌<◌, ◌≤◌, [], find, length, true, false, IfOk, IsOk, OnErr, slice_get};
 ghost use Rattle.std.specs.List.{list_any};
 ghost use Rattle.coap_observe.specs.Notices.{told_at, told_due};
-ghost use Rattle.coap_observe.specs.Observers.{AreRegistrations, changed_at, is_registered, is_due_at, is_due_of, registered, removed, sent_to};
+ghost use Rattle.coap_observe.specs.Observers.{AreRegistrations, changed_at, is_registered, is_due_at, is_due_of, marked_in, registered, removed, sent_to};
 
 use crate::entries::{
-    first_due, has, is_due, make_room, mark_all, others, push_within, take_out, unmark_all,
+    due_behind, first_due, has, is_due, make_room, mark_all, others, push_within, take_out,
+    unmark_all,
 };
 use crate::entry::Entry;
 use crate::notice::Notice;
@@ -27,13 +28,13 @@ pub struct Observers<A: Allocator = Global> {
 impl<A: Allocator> Model for Observers<A> {
     ghost use Rattle.std.specs.Prelude.{List};
     ghost use Rattle.coap_observe.specs.Observers.{AreRegistrations, Observer};
-    ghost use Rattle.coap_observe.specs.Shown.{kept};
+    ghost use Rattle.coap_observe.specs.Shown.{observers_of};
 
     ghost Value = { List Observer };
 
-    ghost view = { λ o. kept o.list.items };
+    ghost view = { λ o. observers_of o.list.items };
 
-    ghost invariant = { λ o. AreRegistrations (kept o.list.items) };
+    ghost invariant = { λ o. AreRegistrations (observers_of o.list.items) };
 }
 
 impl<A: Allocator + Copy> Observers<A> {
@@ -107,6 +108,16 @@ impl<A: Allocator + Copy> Observers<A> {
         ensures registrations { AreRegistrations self.now }
     {
         let entry = first_due(&self.list, to)?;
+        Some(entry.notice())
+    }
+
+    /// The observer behind `passed` others, of those to which a notification is due, in order of
+    /// registration.
+    pub fn due_after(&self, passed: usize) -> Option<Notice<'_, A>>
+        ensures place { told_due result ≡ slice_get (marked_in self.now) passed }
+        ensures registrations { AreRegistrations self.now }
+    {
+        let entry = due_behind(&self.list, passed)?;
         Some(entry.notice())
     }
 

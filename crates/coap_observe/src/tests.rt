@@ -1,8 +1,11 @@
-use crate::{HALF_RANGE, MAX_OBSERVERS, Notice, Observers, REORDERING_MS, SEQUENCE_BITS, Watch};
+use crate::{
+    HALF_RANGE, MAX_OBSERVERS, Notice, Observers, REORDERING_MS, SEQUENCE_BITS, Watch,
+    sequence_number,
+};
 use coap_types::{Endpoint, Moment, Path, Szx, Token};
 use std::alloc::{AllocError, Global};
 
-/// A first number at moment 0, then a second one: whether the second is newer.
+// A first number at moment 0, then a second one: whether the second is newer.
 fn second_is_newer(first: u32, second: u32, after: u64) -> bool {
     let mut watch = Watch::new();
     let _first = watch.arrive(Moment(0), first);
@@ -58,8 +61,30 @@ fn a_watch_keeps_the_last_newer_number_and_its_moment(rt: HostRuntime) {
     assert!(rt; !watch.arrive(Moment(0), 9));
     assert!(rt; watch.arrive(Moment(5), 10));
     assert!(rt; !watch.arrive(Moment(257_001), 10));
+    // Asked of, a number is not kept; nor by a copy.
+    assert!(rt; watch.is_newer(Moment(257_002), 10));
+    let mut copy = watch;
+    assert!(rt; copy.arrive(Moment(300_000), 11));
+    assert!(rt; !watch.is_newer(Moment(257_001), 10));
     assert!(rt; watch.arrive(Moment(257_002), 10));
     crate::newer_laws();
+}
+
+#[test]
+fn versions_are_numbered_modulo_2_to_the_24(rt: HostRuntime) {
+    // RFC 7641, sections 3.4 and 4.4: the number behind 16,777,215 is 0, and it is newer.
+    let rows = [
+        (0, 0),
+        (1, 1),
+        (16_777_215, 16_777_215),
+        (16_777_216, 0),
+        (16_777_217, 1),
+        (u64::MAX, 16_777_215),
+    ];
+    for (version, number) in rows {
+        assert_eq!(rt; sequence_number(version), number, "{version}");
+    }
+    assert!(rt; second_is_newer(sequence_number(16_777_215), sequence_number(16_777_216), 0));
 }
 
 const SERVER_PORT: u16 = 5683;
@@ -88,7 +113,7 @@ fn register(observers: &mut Observers, from: u8, byte: u8, path: Path) -> Result
     }
 }
 
-/// Which observer it is, by the last byte of its endpoint and the byte of its token.
+// Which observer it is, by the last byte of its endpoint and the byte of its token.
 fn who(notice: &Notice<'_>) -> (u8, Option<u8>) {
     (notice.to.ip[3], notice.token.as_slice().first().copied())
 }
@@ -142,6 +167,12 @@ fn a_change_is_due_to_each_observer_of_its_path(rt: HostRuntime) -> Result<(), A
         place += 1;
     }
     assert!(rt; observers.at(5).is_none());
+    let due = [(0, (1, 10)), (1, (2, 10)), (2, (2, 12))];
+    for (passed, (from, byte)) in due {
+        let notice = observers.due_after(passed).expect(&rt, "three are due");
+        assert_eq!(rt; who(&notice), (from, Some(byte)));
+    }
+    assert!(rt; observers.due_after(3).is_none());
     assert!(rt; observers.remove(endpoint(2), &token(10)));
     assert!(rt; !observers.remove(endpoint(2), &token(10)));
     assert!(rt; observers.at(4).is_none());

@@ -1,2 +1,6 @@
 pub mod EntryLemmas
+pub mod QuietLemmas
 pub mod RateLemmas
+pub mod ServedContent
+pub mod ServedParts
+pub mod ServedSame

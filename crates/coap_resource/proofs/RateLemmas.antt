@@ -1,23 +1,19 @@
--- Why any 256 s hold at most twice the changes that a window takes.
-use Rattle.std.proofs.Common.{◌≡◌, ◌≢◌, ◌≤◌, ◌<◌, ℕ, Bool, true, false, ◌&&◌, ◌+◌, ◌==◌, ◌∙◌, max, List, [], ◌∷◌, refl, sym, ap, arith, None, if◌then◌else◌, leb}
+-- What a tally has counted are the changes among the calls, and any 256 s hold at most twice the changes that a window takes.
+use Rattle.std.proofs.Common.{◌≡◌, ◌≢◌, ◌≤◌, ◌<◌, ℕ, Bool, true, false, ◌&&◌, ◌+◌, ◌==◌, ◌∙◌, max, ◌↔◌, List, [], ◌∷◌, refl, sym, ap, arith, Some, None, if◌then◌else◌, leb}
 use Rattle.std.proofs.lemmas.Grind.{common_steps}
 use Rattle.coap_resource.specs.declared.tally.Tally.{Tally}
 use Rattle.coap_resource.specs.Rate.{window, used, rate_refusal, waited, counted}
 use Rattle.coap_resource.specs.Content.{Content, nothing}
-use Rattle.coap_resource.specs.RateLaw.{Goes, Leads, last, changes_between, RateLaw}
-
--- the changes that counted in a window
-abbrev pub in_window : ℕ → List (ℕ × Bool) → ℕ
-in_window w [] = 0
-in_window w (call ∷ past) = (if call.1 && (window (last (call ∷ past)) == w) then 1 else 0) + in_window w past
+use Rattle.coap_resource.specs.declared.refusal.StoreRefusal.TheVariants.{RateExceeded, VersionsSpent}
+use Rattle.coap_resource.specs.RateLaw.{Goes, Leads, last, changes_between, changes_in, CountLaw, ExceededLaw, RateLaw}
 
 -- what a tally says of the calls
 pub record Counts (limit : ℕ) (calls : List (ℕ × Bool)) (t : Tally) : Type 0 where
   pub clock : t.clock.0 ≡ last calls
   pub limited : t.limit ≡ limit
-  pub now : t.changes ≡ in_window (window (last calls)) calls
-  pub each : (w : ℕ) → in_window w calls ≤ limit
-  pub later : (w : ℕ) → window (last calls) < w → in_window w calls ≡ 0
+  pub now : t.changes ≡ changes_in (window (last calls)) calls
+  pub each : (w : ℕ) → changes_in w calls ≤ limit
+  pub ahead : (w : ℕ) → window (last calls) < w → changes_in w calls ≡ 0
 
 later_window : (m n : ℕ) → m ≤ n → window m ≢ window n → window m < window n
 later_window m n le ne = omega arith
@@ -39,18 +35,18 @@ used_by true changes k same other = same refl
 used_by false changes k same other = other refl
 
 used_is : (limit : ℕ) (past : List (ℕ × Bool)) (t : Tally) (at : ℕ) → Counts limit past t
-    → used t at ≡ in_window (window (max (last past) at)) past
+    → used t at ≡ changes_in (window (max (last past) at)) past
 used_is limit past t at counts =
     rw counts.clock (used_by (window (max (last past) at) == window (last past)) t.changes _
-    (λ e. counts.now ∙ ap (λ w. in_window w past) (sym (same_by (window (max (last past) at)) (window (last past)) e)))
+    (λ e. counts.now ∙ ap (λ w. changes_in w past) (sym (same_by (window (max (last past) at)) (window (last past)) e)))
     (λ e. let ne = other_by (window (max (last past) at)) (window (last past)) e in
-    sym (counts.later _ (later_window (last past) (max (last past) at) (omega arith) (λ same. ne (sym same))))))
+    sym (counts.ahead _ (later_window (last past) (max (last past) at) (omega arith) (λ same. ne (sym same))))))
 
 room : (t : Tally) (at : ℕ) → rate_refusal t at ≡ None → used t at < t.limit
 room t at none = grind (arith, common_steps)
 
 start : (limit : ℕ) → Counts limit [] (nothing limit).tally
-start limit = record { clock = refl; limited = refl; now = refl; each = λ w. omega arith; later = λ w h. refl }
+start limit = record { clock = refl; limited = refl; now = refl; each = λ w. omega arith; ahead = λ w h. refl }
 
 waits : (limit : ℕ) (past : List (ℕ × Bool)) (t : Tally) (at : ℕ) → Counts limit past t → Counts limit ((at, false) ∷ past) (waited t at)
 waits limit past t at counts = record {
@@ -58,7 +54,7 @@ waits limit past t at counts = record {
   limited = counts.limited;
   now = omega (arith, used_is limit past t at counts);
   each = λ w. omega (arith, counts.each w);
-  later = λ w h. omega (arith, counts.later w (omega arith));
+  ahead = λ w h. omega (arith, counts.ahead w (omega arith));
 }
 
 one_more : (b : Bool) (n limit : ℕ) → (b ≡ true → n < limit) → n ≤ limit → (if b then 1 else 0) + n ≤ limit
@@ -75,16 +71,16 @@ adds : (limit : ℕ) (past : List (ℕ × Bool)) (t : Tally) (at : ℕ) → used
     → Counts limit ((at, true) ∷ past) (counted t at)
 adds limit past t at room counts =
     let m : ℕ = max (last past) at in
-    let was : used t at ≡ in_window (window m) past = used_is limit past t at counts in
+    let was : used t at ≡ changes_in (window m) past = used_is limit past t at counts in
     let limited : t.limit ≡ limit = counts.limited in
     record {
       clock = ap (λ c. max c at) counts.clock;
       limited = limited;
       now = rw (self_same (window m)) (omega (arith, was));
-      each = λ w. one_more (window m == w) (in_window w past) limit
-          (λ e. let same = same_by (window m) w e in let here = ap (λ v. in_window v past) same in omega (arith, was, here, room, limited))
+      each = λ w. one_more (window m == w) (changes_in w past) limit
+          (λ e. let same = same_by (window m) w e in let here = ap (λ v. changes_in v past) same in omega (arith, was, here, room, limited))
           (counts.each w);
-      later = λ w h. no_more (window m == w) (in_window w past) (apart (window m) w h) (counts.later w (omega (arith, h)));
+      ahead = λ w h. no_more (window m == w) (changes_in w past) (apart (window m) w h) (counts.ahead w (omega (arith, h)));
     }
 
 goes : (limit : ℕ) (past : List (ℕ × Bool)) (changed : Bool) (old new : Content) (at : ℕ) → Counts limit past old.tally
@@ -123,7 +119,7 @@ one true from m = covered (leb from m && leb m (from + 256000)) (window m == win
     (near from m (at_most from m b.0) (at_most m (from + 256000) b.1) (other_by (window m) (window from) other)))
 
 spread : (from : ℕ) (calls : List (ℕ × Bool))
-    → changes_between from (from + 256000) calls ≤ in_window (window from) calls + in_window (window from + 1) calls
+    → changes_between from (from + 256000) calls ≤ changes_in (window from) calls + changes_in (window from + 1) calls
 spread from [] = omega arith
 spread from (call ∷ past) = omega (arith, one call.1 from (last (call ∷ past)), spread from past)
 
@@ -131,3 +127,30 @@ pub rate : RateLaw
 rate limit calls s led from =
     let counts = leads limit calls s led in
     omega (arith, spread from calls, counts.each (window from), counts.each (window from + 1))
+
+pub count : CountLaw
+count limit calls s led now = used_is limit calls s.tally now (leads limit calls s led)
+
+full_by : (b c : Bool) → (if b then Some RateExceeded else if c then Some VersionsSpent else None) ≡ Some RateExceeded → b ≡ true
+full_by true c h = refl
+full_by false true h = absurd cc
+full_by false false h = absurd cc
+
+as_test : (m n : ℕ) → m ≤ n → leb m n ≡ true
+as_test m n h = search arith
+
+-- the window is full where so many changes were counted in it
+full : (t : Tally) (at : ℕ) → (rate_refusal t at ≡ Some RateExceeded) ↔ (t.limit ≤ used t at)
+full t at = (
+  λ h. at_most t.limit (used t at) (full_by (leb t.limit (used t at)) (t.version == 18446744073709551615) h),
+  λ h. let most = as_test t.limit (used t at) h in rw most refl,
+)
+
+pub exceeded : ExceededLaw
+exceeded limit calls s led now =
+    let counts = leads limit calls s led in
+    let was = used_is limit calls s.tally now counts in
+    let each = counts.each (window (max (last calls) now)) in
+    let limited = counts.limited in
+    let iff = full s.tally now in
+    (λ h. omega (arith, iff.0 h, was, each, limited), λ h. iff.1 (omega (arith, h, was, limited)))

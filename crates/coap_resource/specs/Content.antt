@@ -1,7 +1,9 @@
 -- What a store holds, when a change of it is refused, and what a change is (RFC 7252, section 5.8).
 use Rattle.std.specs.Prelude.{◌≡◌, ◌≢◌, ℕ, not, ◌&&◌, ◌+◌, nat_lt, nat_le, List, length, Option, Some, None, is_some, if◌then◌else◌}
 use Rattle.coap_resource.specs.declared.refusal.StoreRefusal.{StoreRefusal}
-use Rattle.coap_resource.specs.declared.refusal.StoreRefusal.TheVariants.{TooLarge, TooManyPaths}
+use Rattle.coap_resource.specs.declared.refusal.StoreRefusal.TheVariants.{Memory, TooLarge, TooManyPaths, RateExceeded, VersionsSpent}
+use Rattle.coap_types.specs.declared.limits.TheConstants.{MAX_BODY_LEN as max_body_len}
+use Rattle.coap_resource.specs.declared.store.TheConstants.{MAX_PATHS as max_paths}
 use Rattle.coap_resource.specs.declared.tally.Tally.{Tally}
 use Rattle.coap_resource.specs.Rate.{unused, rate_refusal, waited, counted}
 
@@ -22,19 +24,27 @@ abbrev pub nothing : ℕ → Content
 nothing limit = record { holds = λ _. None; paths = 0; tally = unused limit }
 
 -- the same store when a moment has counted
-abbrev pub unchanged : Content → ℕ → Content
-unchanged s now = record s { tally = waited s.tally now }
+abbrev pub later : Content → ℕ → Content
+later s now = record s { tally = waited s.tally now }
+
+-- the number of a refusal
+abbrev pub refusal_number : StoreRefusal → ℕ
+refusal_number Memory = 1
+refusal_number TooLarge = 2
+refusal_number TooManyPaths = 3
+refusal_number RateExceeded = 4
+refusal_number VersionsSpent = 5
 
 -- why a path can't be given a body of this length, in the order of the tests
 abbrev pub put_refusal : Content → ℕ → List (List ℕ) → ℕ → Option StoreRefusal
 put_refusal s now path len =
-    if nat_lt 65536 len then Some TooLarge
-    else if not (is_some (s.holds path)) && nat_le 256 s.paths then Some TooManyPaths
+    if nat_lt max_body_len len then Some TooLarge
+    else if not (is_some (s.holds path)) && nat_le max_paths s.paths then Some TooManyPaths
     else rate_refusal s.tally now
 
 -- why so many bytes can't be joined to what a path holds, in the order of the tests
 abbrev pub append_refusal : Content → ℕ → Held → ℕ → Option StoreRefusal
-append_refusal s now held len = if nat_lt 65536 (length held.body + len) then Some TooLarge else rate_refusal s.tally now
+append_refusal s now held len = if nat_lt max_body_len (length held.body + len) then Some TooLarge else rate_refusal s.tally now
 
 -- one change: this path holds that from now on, and the others what they held
 pub record Changes (old : Content) (now : ℕ) (path : List (List ℕ)) (held : Option Held) (new : Content) : Type 0 where

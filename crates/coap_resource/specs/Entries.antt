@@ -3,6 +3,7 @@ use Rattle.std.specs.Prelude.{◌≡◌, ◌≤◌, ℕ, not, List, [], ◌∷�
 use Rattle.std.specs.List.{filter}
 use Rattle.coap_types.specs.Path.{same_path}
 use Rattle.coap_resource.specs.declared.entry.Entry.{Entry}
+use Rattle.coap_types.specs.declared.limits.TheConstants.{MAX_BODY_LEN as max_body_len}
 use Rattle.coap_resource.specs.declared.tally.Tally.{Tally}
 use Rattle.coap_resource.specs.Content.{Held, Content}
 use Rattle.coap_resource.specs.Shown.{held_of}
@@ -10,8 +11,8 @@ use Rattle.coap_resource.specs.Shown.{held_of}
 abbrev pub entry_of : {A : Type 0} → Entry A → List (List ℕ) × Held
 entry_of e = (e.path, held_of e.held)
 
-abbrev pub kept : {A : Type 0} → List (Entry A) → List (List (List ℕ) × Held)
-kept {A} es = map (λ (e : Entry A). entry_of e) es
+abbrev pub held_entries : {A : Type 0} → List (Entry A) → List (List (List ℕ) × Held)
+held_entries {A} es = map (λ (e : Entry A). entry_of e) es
 
 -- what the entries hold at a path
 abbrev pub find : List (List (List ℕ) × Held) → List (List ℕ) → Option Held
@@ -19,8 +20,8 @@ find [] path = None
 find (e ∷ es) path = if same_path e.0 path then Some e.1 else find es path
 
 -- the entries of the other paths
-abbrev pub without : List (List (List ℕ) × Held) → List (List ℕ) → List (List (List ℕ) × Held)
-without es path = filter (λ e. not (same_path e.0 path)) es
+abbrev pub without_path : List (List (List ℕ) × Held) → List (List ℕ) → List (List (List ℕ) × Held)
+without_path es path = filter (λ e. not (same_path e.0 path)) es
 
 -- no path has two entries
 abbrev pub Unique : List (List (List ℕ) × Held) → Type 0
@@ -30,7 +31,7 @@ Unique (e ∷ es) = (find es e.0 ≡ None) × Unique es
 -- no body is longer than a store takes
 abbrev pub AreShort : List (List (List ℕ) × Held) → Type 0
 AreShort [] = Unit {0}
-AreShort (e ∷ es) = (length e.1.body ≤ 65536) × AreShort es
+AreShort (e ∷ es) = (length e.1.body ≤ max_body_len) × AreShort es
 
 -- a store that is a list of entries
 pub record Listed : Type 0 where

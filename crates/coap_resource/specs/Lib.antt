@@ -6,3 +6,5 @@ pub mod RequestOptions
 pub mod Serves
 pub mod RateLaw
 pub mod ResponseOptions
+pub mod Quiet
+pub mod ServedLaw

@@ -1,8 +1,9 @@
--- How often a store changes: moments fall into windows of 256 s, and a window takes so many changes (RFC 7641, section 4.4).
+-- How often a store changes: moments fall into windows (of 256 s), and a window takes so many changes (RFC 7641, section 4.4).
 use Rattle.std.specs.Prelude.{ℕ, ◌+◌, ◌/◌, ◌==◌, max, nat_le, Option, Some, None, if◌then◌else◌}
 use Rattle.coap_resource.specs.declared.refusal.StoreRefusal.{StoreRefusal}
 use Rattle.coap_resource.specs.declared.refusal.StoreRefusal.TheVariants.{RateExceeded, VersionsSpent}
 use Rattle.coap_resource.specs.declared.tally.Tally.{Tally}
+use Rattle.coap_resource.specs.declared.tally.TheConstants.{WINDOW_MS as window_ms}
 
 -- no change yet, and no moment
 abbrev pub unused : ℕ → Tally
@@ -10,7 +11,7 @@ unused limit = record { version = 0; clock = record { 0 = 0 }; limit = limit; ch
 
 -- the window of a moment, by its number
 abbrev pub window : ℕ → ℕ
-window moment = moment / 256000
+window moment = moment / window_ms
 
 -- the changes in the window of a moment; a moment before the last one counts as the last one
 abbrev pub used : Tally → ℕ → ℕ

@@ -1,13 +1,17 @@
 -- The options that say a response, and how large a response is (RFC 7252, sections 3.2, 4.6, 5.10.3 and 5.10.6; RFC 7959, section 2.2).
-use Rattle.std.specs.Prelude.{◌≡◌, ℕ, ◌+◌, ◌*◌, ◌<◌, ◌≤◌, ◌++◌, Bool, if◌then◌else◌, List, [], ◌∷◌, length, Option, Some, None, IfSome}
+use Rattle.std.specs.Prelude.{◌≡◌, ℕ, ◌^◌, ◌<◌, ◌≤◌, ◌++◌, Bool, List, length, Option, Some, None, IfSome}
 use Rattle.coap_types.specs.CoapOption.{CoapOption}
+use Rattle.coap_types.specs.BlockValue.{block_value}
+use Rattle.coap_types.specs.OptionValues.{option_with}
+use Rattle.coap_types.specs.Piece.{size_of}
+use Rattle.coap_types.specs.Roles.{role_of}
+use Rattle.coap_types.specs.declared.block.TheConstants.{MAX_NUM as max_num}
+use Rattle.coap_types.specs.declared.szx.TheConstants.{MAX_SZX as max_szx}
+use Rattle.coap_types.specs.declared.tag.TheConstants.{MAX_TAG_LEN as max_tag_len}
 use Rattle.coap_types.specs.Uint.{IsSpelling}
+use Rattle.coap_types.specs.declared.role.Role.TheVariants.{Response}
+use Rattle.coap_types.specs.declared.option_number.TheConstants as numbers
 use Rattle.coap_resource.specs.Serves.{Reply}
-
--- the option of a number, where it has a value
-abbrev pub option_with : ℕ → Option (List ℕ) → List CoapOption
-option_with number None = []
-option_with number (Some value) = record { number = number; value = value } ∷ []
 
 -- the value of an option in the uint format, where there is a number: the fewest bytes that spell it
 abbrev pub IsUint : Option ℕ → Option (List ℕ) → Type 0
@@ -19,22 +23,22 @@ IsUint (Some number) None = ⊥
 -- what Block2 says: NUM, M and SZX in one number
 abbrev pub block_number : Option (ℕ × Bool × ℕ) → Option ℕ
 block_number None = None
-block_number (Some b) = Some (b.0 * 16 + ((if b.1 then 8 else 0) + b.2))
+block_number (Some b) = Some (block_value (record { num = b.0; more = b.1; szx = b.2 }))
 
--- The options are ETag (4), Content-Format (12) and Block2 (23) in this order, each where the response has it.
+-- The options are ETag, Content-Format and Block2 in this order, each where the response has it.
 pub record Says (reply : Reply) (options : List CoapOption) : Type 0 where
   pub format : Option (List ℕ)
   pub block2 : Option (List ℕ)
   pub format_is : IsUint reply.format format
   pub block2_is : IsUint (block_number reply.block2) block2
-  pub list : options ≡ option_with 4 reply.tag ++ (option_with 12 format ++ option_with 23 block2)
+  pub list : options ≡ option_with numbers.ETAG reply.tag ++ (option_with numbers.CONTENT_FORMAT format ++ option_with numbers.BLOCK2 block2)
 
--- A response has a code of one byte other than 0.00, and its values have the lengths that the options allow: 8 bytes of ETag, 2 of
+-- A response has a code of one byte and of a response, and its values have the lengths that the options allow: 8 bytes of ETag, 2 of
 -- Content-Format, 20 bits of NUM. Its payload is at most a block of the largest size.
 pub record Fits (reply : Reply) : Type 0 where
-  pub some : 0 < reply.code
-  pub code : reply.code < 256
-  pub tag : IfSome reply.tag (λ t. length t ≤ 8)
-  pub format : IfSome reply.format (λ f. f < 65536)
-  pub block2 : IfSome reply.block2 (λ b. (b.0 < 1048576) × (b.2 ≤ 6))
-  pub part : length reply.part ≤ 1024
+  pub role : role_of reply.code ≡ Response
+  pub code : reply.code < 2 ^ 8
+  pub tag : IfSome reply.tag (λ t. length t ≤ max_tag_len)
+  pub format : IfSome reply.format (λ f. f < 2 ^ 16)
+  pub block2 : IfSome reply.block2 (λ b. (b.0 ≤ max_num) × (b.2 ≤ max_szx))
+  pub part : length reply.part ≤ size_of max_szx

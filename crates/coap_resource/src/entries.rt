@@ -1,7 +1,7 @@
 ghost use Rattle.std.specs.Prelude.{◌≡◌, ◌<◌, ◌≤◌, vec_len, ◌++◌, [], ◌∷◌, not, OnOk, OnErr, vec_capacity, option_copied};
 ghost use Rattle.std.specs.List.{filter};
 ghost use Rattle.coap_types.specs.Path.{same_path};
-ghost use Rattle.coap_resource.specs.Entries.{find, kept, without};
+ghost use Rattle.coap_resource.specs.Entries.{find, held_entries, without_path};
 ghost use Rattle.coap_resource.specs.Shown.{held_of, shown};
 
 use crate::entry::Entry;
@@ -14,7 +14,7 @@ pub(crate) fn find<'a, A: Allocator + Copy>(
     entries: &'a [Entry<A>],
     path: &Path<A>,
 ) -> Option<&'a Representation<A>>
-    ensures { shown (option_copied result) ≡ find (kept entries.now) path.now }
+    ensures { shown (option_copied result) ≡ find (held_entries entries.now) path.now }
 {
     match entries {
         [] => None,
@@ -51,7 +51,7 @@ pub(crate) fn put_in<A: Allocator + Copy>(
     path: &Path<A>,
     held: Representation<A>,
 ) -> Result<(), AllocError>
-    ensures ok { OnOk result (kept entries.new.items ≡ without (kept entries.old.items) path.now ++ (path.now, held_of held) ∷ []) }
+    ensures ok { OnOk result (held_entries entries.new.items ≡ without_path (held_entries entries.old.items) path.now ++ (path.now, held_of held) ∷ []) }
     ensures err { OnErr result (entries.new.items ≡ entries.old.items) }
 {
     let copy = path.clone()?;

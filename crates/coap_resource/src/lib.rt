@@ -21,12 +21,12 @@ mod tally;
 mod tests;
 
 pub use asking::Asking;
-pub use laws::rate_law;
+pub use laws::{rate_law, served_law};
 pub use list_store::ListStore;
 pub use refusal::StoreRefusal;
 pub use representation::Representation;
-pub use request_options::value_of;
+pub use request_options::{has, value_of};
 pub use response::Response;
 pub use serving::serve;
-pub use store::{MAX_BODY_LEN, MAX_PATHS, Store};
+pub use store::{MAX_PATHS, Store};
 pub use tally::{MAX_CHANGES_PER_WINDOW, WINDOW_MS};

@@ -8,9 +8,10 @@ use crate::entries::{find, put_in, take_out};
 use crate::entry::Entry;
 use crate::refusal::StoreRefusal;
 use crate::representation::Representation;
-use crate::store::{MAX_BODY_LEN, MAX_PATHS, Store};
+use crate::store::{MAX_PATHS, Store};
 use crate::tally::{MAX_CHANGES_PER_WINDOW, Tally};
 use bytes::Bytes;
+use coap_types::limits::MAX_BODY_LEN;
 use coap_types::{Moment, Path};
 use std::alloc::{AllocError, Allocator, Global};
 use std::marker::Model;
@@ -23,13 +24,13 @@ pub struct ListStore<A: Allocator = Global> {
 }
 
 impl<A: Allocator> Model for ListStore<A> {
-    ghost use Rattle.coap_resource.specs.Entries.{AreShort, Listed, Unique, kept};
+    ghost use Rattle.coap_resource.specs.Entries.{AreShort, Listed, Unique, held_entries};
 
     ghost Value = { Listed };
 
-    ghost view = { λ s. record { entries = kept s.entries.items; tally = s.tally } };
+    ghost view = { λ s. record { entries = held_entries s.entries.items; tally = s.tally } };
 
-    ghost invariant = { λ s. Unique (kept s.entries.items) × AreShort (kept s.entries.items) };
+    ghost invariant = { λ s. Unique (held_entries s.entries.items) × AreShort (held_entries s.entries.items) };
 }
 
 impl<A: Allocator + Copy> ListStore<A> {
@@ -70,8 +71,8 @@ impl<A: Allocator + Copy> ListStore<A> {
     }
 }
 
-// The bytes of both, one after the other.
-fn joined<A: Allocator + Copy>(alloc: A, front: &[u8], back: &[u8]) -> Result<Bytes<A>, AllocError>
+// One body of two slices, the one behind the other.
+fn appended<A: Allocator + Copy>(alloc: A, front: &[u8], back: &[u8]) -> Result<Bytes<A>, AllocError>
     ensures { IfOk result (λ body. body ≡ front.now ++ back.now) }
 {
     let mut body = Vec::from_slice(alloc, front)?;
@@ -151,7 +152,7 @@ impl<A: Allocator + Copy> Store<A> for ListStore<A> {
         let tally = self.tally.counted(now);
         let version = tally.version;
         let format = held.format;
-        let body = joined(*self.entries.allocator(), &held.body, body)?;
+        let body = appended(*self.entries.allocator(), &held.body, body)?;
         put_in(
             &mut self.entries,
             path,

@@ -1,4 +1,5 @@
 ghost use Rattle.std.specs.Prelude.{◌≡◌};
+ghost use Rattle.coap_resource.specs.Content.{refusal_number};
 ghost use Rattle.coap_resource.specs.declared.refusal.StoreRefusal.TheVariants.{Memory};
 
 use std::alloc::{AllocError, AllocFailed};
@@ -23,6 +24,21 @@ pub enum StoreRefusal {
     /// The last change had the greatest version.
     #[error("the versions are spent")]
     VersionsSpent,
+}
+
+impl StoreRefusal {
+    /// The number of the refusal, 1 to 5, in the order of the variants.
+    pub fn number(self) -> u8
+        ensures { result ≡ refusal_number self }
+    {
+        match self {
+            StoreRefusal::Memory => 1,
+            StoreRefusal::TooLarge => 2,
+            StoreRefusal::TooManyPaths => 3,
+            StoreRefusal::RateExceeded => 4,
+            StoreRefusal::VersionsSpent => 5,
+        }
+    }
 }
 
 impl From<AllocError> for StoreRefusal {

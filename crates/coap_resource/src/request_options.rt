@@ -1,11 +1,13 @@
-ghost use Rattle.std.specs.Prelude.{◌≡◌, ◌<◌, IfSome, is_some, option_copied};
+ghost use Rattle.std.specs.Prelude.{◌≡◌, ◌≤◌, IfSome, is_some, option_copied};
 ghost use Rattle.coap_types.specs.CoapOption.{options_of};
-ghost use Rattle.coap_resource.specs.RequestOptions.{accepts, block_of, etag_names, format_of, has, if_match_names, is_tag_of, matches, offset_by, precondition_fails, szx_by, uint_option, value_of};
+ghost use Rattle.coap_resource.specs.RequestOptions.{accepts, block_of, etag_names, format_of, if_match_names, is_tag_of, matches, offset_by, precondition_fails, szx_by};
+ghost use Rattle.coap_types.specs.BlockValue.{block_by};
+ghost use Rattle.coap_types.specs.OptionValues.{has, uint_at, value_of};
 ghost use Rattle.coap_resource.specs.Shown.{shown};
 
 use crate::representation::Representation;
 use coap_types::option_number::{ACCEPT, BLOCK2, CONTENT_FORMAT, ETAG, IF_MATCH, IF_NONE_MATCH};
-use coap_types::{Opt, Szx, uint_of};
+use coap_types::{Block, MAX_NUM, Opt, Szx, uint_of};
 use std::alloc::Allocator;
 
 /// The value of the first option of this number.
@@ -20,16 +22,16 @@ pub fn value_of<'a>(options: &[Opt<'a>], number: u16) -> Option<&'a [u8]>
     None
 }
 
-// Whether there is an option of this number.
-fn has(options: &[Opt<'_>], number: u16) -> bool
+/// Whether there is an option of this number.
+pub fn has(options: &[Opt<'_>], number: u16) -> bool
     ensures { result ≡ has number (options_of options.now) }
 {
     value_of(options, number).is_some()
 }
 
 // The number that the first option of this number spells.
-fn number_of(options: &[Opt<'_>], number: u16) -> Option<u32>
-    ensures { result ≡ uint_option (value_of number (options_of options.now)) }
+fn uint_at(options: &[Opt<'_>], number: u16) -> Option<u32>
+    ensures { result ≡ uint_at number (options_of options.now) }
 {
     uint_of(value_of(options, number)?)
 }
@@ -95,7 +97,7 @@ pub(crate) fn precondition_fails<A: Allocator>(
 pub(crate) fn format_of(options: &[Opt<'_>]) -> Option<u16>
     ensures { result ≡ format_of (options_of options.now) }
 {
-    let number = number_of(options, CONTENT_FORMAT)?;
+    let number = uint_at(options, CONTENT_FORMAT)?;
     if number <= 0xffff {
         Some(number as u16)
     } else {
@@ -127,17 +129,28 @@ pub(crate) struct Wanted {
     pub(crate) szx: Szx,
 }
 
-// NUM and SZX of a Block2.
-fn block_of(options: &[Opt<'_>]) -> Option<(u32, Szx)>
-    ensures block { result ≡ block_of (options_of options.now) }
-    ensures few { IfSome result (λ b. b.0 < 1048576) }
+// The block that a number says.
+fn block_by(number: u32) -> Option<Block>
+    ensures block { result ≡ block_by number }
+    ensures few { IfSome result (λ block. block.num ≤ MAX_NUM) }
 {
-    let number = number_of(options, BLOCK2)?;
-    if number >= 1 << 24 {
-        return None;
-    }
     let szx = Szx::new((number % 8) as u8)?;
-    Some((number / 16, szx))
+    let num = number / 16;
+    let more = number / 8 % 2 == 1;
+    if num <= MAX_NUM {
+        Some(Block { num, more, szx })
+    } else {
+        None
+    }
+}
+
+// The block that Block2 asks for.
+fn block_of(options: &[Opt<'_>]) -> Option<Block>
+    ensures block { result ≡ block_of (options_of options.now) }
+    ensures few { IfSome result (λ block. block.num ≤ MAX_NUM) }
+{
+    let number = uint_at(options, BLOCK2)?;
+    block_by(number)
 }
 
 /// What the Block2 of a request asks for, where the server sends blocks of at most this size
@@ -153,10 +166,10 @@ pub(crate) fn wanted_block(options: &[Opt<'_>], szx: Szx) -> Wanted
             offset: 0,
             szx,
         },
-        Some((num, asked)) => Wanted {
+        Some(block) => Wanted {
             by_block: true,
-            offset: num * asked.size() as u32,
-            szx: if asked.get() < szx.get() { asked } else { szx },
+            offset: block.num * block.szx.size() as u32,
+            szx: if block.szx.get() < szx.get() { block.szx } else { szx },
         },
     }
 }

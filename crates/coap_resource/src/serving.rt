@@ -1,7 +1,9 @@
-ghost use Rattle.std.specs.Prelude.{◌≡◌, ◌≢◌, ◌<◌, ◌≤◌, IfOk, IfSome, OnErr, OnOk, length, take, drop};
+ghost use Rattle.std.specs.Prelude.{◌≡◌, ◌≢◌, ◌<◌, ◌≤◌, ◌^◌, IfOk, IsOk, IfSome, OnErr, OnOk, true, [], length, take, drop};
 ghost use Rattle.coap_types.specs.CoapOption.{options_of};
 ghost use Rattle.coap_resource.specs.Content.{append_refusal, put_refusal};
+ghost use Rattle.coap_resource.specs.Quiet.{IsQuiet, IsQuietBy};
 ghost use Rattle.coap_resource.specs.Rate.{rate_refusal};
+ghost use Rattle.coap_resource.specs.RequestOptions.{precondition_fails};
 ghost use Rattle.coap_resource.specs.ResponseOptions.{Fits};
 ghost use Rattle.coap_resource.specs.Serves.{DeleteBy, PostBy, PutBy, Serves, block2_of, content_reply, got, question_of, refusal_code, reply_of};
 ghost use Rattle.coap_resource.specs.Shown.{held_of};
@@ -14,9 +16,10 @@ use crate::request_options::{
     Wanted, accepts, etag_names, format_of, precondition_fails, wanted_block,
 };
 use crate::response::{Response, bare};
-use crate::store::{MAX_BODY_LEN, Store};
+use crate::store::Store;
 use bytes::Bytes;
-use coap_types::{Code, Method, Moment, Szx, Tag};
+use coap_types::limits::MAX_BODY_LEN;
+use coap_types::{Code, MAX_NUM, MAX_SZX, Method, Moment, Szx, Tag};
 use std::alloc::{AllocError, Allocator};
 
 // The code of a response to what the store refuses.
@@ -41,7 +44,8 @@ fn block_at<A: Allocator + Copy>(
     size: usize,
 ) -> Result<Bytes<A>, AllocError>
     requires { start ≤ length body.now }
-    ensures { IfOk result (λ part. part ≡ take size (drop start body.now)) }
+    ensures part { IfOk result (λ part. part ≡ take size (drop start body.now)) }
+    ensures empty { take size (drop start body.now) ≡ [] → IsOk result }
 {
     if body.len() - start > size {
         body.slice(start..start + size)
@@ -60,7 +64,7 @@ fn of_16_bits(number: u16) -> u16
 // The format of a representation.
 fn own_format<A: Allocator>(held: &Representation<A>) -> Option<u16>
     ensures same { result ≡ held.now.format }
-    ensures few { IfSome result (λ f. f < 65536) }
+    ensures few { IfSome result (λ f. f < 2 ^ 16) }
 {
     match held.format {
         None => None,
@@ -73,7 +77,7 @@ fn block_sent(wanted: &Wanted, len: usize) -> Option<(u32, bool, Szx)>
     requires place { wanted.now.offset ≤ len }
     requires short { len ≤ MAX_BODY_LEN }
     ensures sent { result ≡ block2_of wanted.now.by_block wanted.now.offset wanted.now.szx len }
-    ensures few { IfSome result (λ b. (b.0 < 1048576) × (b.2 ≤ 6)) }
+    ensures few { IfSome result (λ b. (b.0 ≤ MAX_NUM) × (b.2 ≤ MAX_SZX)) }
 {
     let size = wanted.szx.size();
     if !wanted.by_block && len <= size {
@@ -94,6 +98,7 @@ fn content<A: Allocator + Copy>(
     requires short { length held.now.body ≤ MAX_BODY_LEN }
     ensures content { IfOk result (λ r. reply_of r ≡ content_reply (held_of held.now) wanted.by_block wanted.offset wanted.szx) }
     ensures fits { IfOk result (λ r. Fits (reply_of r)) }
+    ensures quiet { (content_reply (held_of held.now) wanted.by_block wanted.offset wanted.szx).part ≡ [] → IsOk result }
 {
     let len = held.body.len();
     let block2 = block_sent(&wanted, len);
@@ -119,6 +124,7 @@ fn serve_get<A: Allocator + Copy, S: Store<A>>(
 ) -> Result<Response<A>, AllocError>
     ensures got { IfOk result (λ r. reply_of r ≡ got ((S.content store.now).holds asking.now.path.now) (question_of asking.now)) }
     ensures fits { IfOk result (λ r. Fits (reply_of r)) }
+    ensures quiet { (got ((S.content store.now).holds asking.now.path.now) (question_of asking.now)).part ≡ [] → IsOk result }
 {
     let wanted = wanted_block(asking.options, asking.szx);
     let Some(held) = store.get(asking.path) else {
@@ -148,6 +154,7 @@ fn serve_post<A: Allocator + Copy, S: Store<A>>(
 ) -> Result<Response<A>, AllocError>
     ensures served { IfOk result (λ r. PostBy ((S.content store.old).holds asking.now.path.now) (S.content store.old) now.0 (question_of asking.now) (reply_of r) (S.content store.new)) }
     ensures fits { IfOk result (λ r. Fits (reply_of r)) }
+    ensures quiet { IsQuietBy Method.Post (S.content store.old) now.0 (question_of asking.now) → IsOk result }
     ensures err { OnErr result (store.new ≡ store.old) }
 {
     match store.append(now, asking.path, asking.body) {
@@ -165,6 +172,7 @@ fn serve_put<A: Allocator + Copy, S: Store<A>>(
 ) -> Result<Response<A>, AllocError>
     ensures served { IfOk result (λ r. PutBy (put_refusal (S.content store.old) now.0 asking.now.path.now (length asking.now.body.now)) (S.content store.old) now.0 (question_of asking.now) (reply_of r) (S.content store.new)) }
     ensures fits { IfOk result (λ r. Fits (reply_of r)) }
+    ensures quiet { IsQuietBy Method.Put (S.content store.old) now.0 (question_of asking.now) → IsOk result }
     ensures err { OnErr result (store.new ≡ store.old) }
 {
     let was_there = store.get(asking.path).is_some();
@@ -190,7 +198,7 @@ fn serve_delete<A: Allocator + Copy, S: Store<A>>(
 ) -> Result<Response<A>, AllocError>
     ensures served { IfOk result (λ r. DeleteBy ((S.content store.old).holds asking.now.path.now) (S.content store.old) now.0 (question_of asking.now) (reply_of r) (S.content store.new)) }
     ensures fits { IfOk result (λ r. Fits (reply_of r)) }
-    ensures err { OnErr result (store.new ≡ store.old) }
+    ensures quiet { IsOk result }
 {
     match store.delete(now, asking.path) {
         Ok(_) => Ok(bare(Code::DELETED, 0)),
@@ -209,6 +217,12 @@ pub fn serve<A: Allocator + Copy, S: Store<A>>(
     ensures served { IfOk result (λ r. Serves (S.content store.old) now.0 (question_of asking.now) (reply_of r) (S.content store.new)) }
     ensures fits { IfOk result (λ r. Fits (reply_of r)) }
     ensures err { OnErr result (store.new ≡ store.old) }
+    // A GET leaves the store as it is, and so does a 4.12. What else changes nothing lets the moment count.
+    ensures get { asking.now.method ≡ Method.Get → store.new ≡ store.old }
+    ensures failed { precondition_fails ((S.content store.old).holds asking.now.path.now) (options_of asking.now.options.now) ≡ true
+        → store.new ≡ store.old }
+    // What is quiet takes no memory.
+    ensures quiet { IsQuiet (S.content store.old) now.0 (question_of asking.now) → IsOk result }
 {
     if precondition_fails(store.get(asking.path), asking.options) {
         let offset = match asking.method {

@@ -1,5 +1,5 @@
 ghost use Rattle.std.specs.Prelude.{◌≡◌, ◌≤◌, ◌↔◌, ◌+◌, ◌++◌, Option, None, Some, List, ℕ, IfOk, IfErr, IfSome, IsSome, length, option_copied};
-ghost use Rattle.coap_resource.specs.Content.{Changes, Content, Held, append_refusal, nothing, put_refusal, unchanged};
+ghost use Rattle.coap_resource.specs.Content.{Changes, Content, Held, append_refusal, nothing, put_refusal, later};
 ghost use Rattle.coap_resource.specs.Rate.{rate_refusal};
 ghost use Rattle.coap_resource.specs.declared.refusal.StoreRefusal.{StoreRefusal};
 ghost use Rattle.coap_resource.specs.declared.refusal.StoreRefusal.TheVariants.{Memory};
@@ -7,15 +7,15 @@ ghost use Rattle.coap_resource.specs.Shown.{shown};
 
 use crate::refusal::StoreRefusal;
 use crate::representation::Representation;
+use crate::tally::MAX_CHANGES_PER_WINDOW;
+use coap_types::limits::MAX_BODY_LEN;
 use coap_types::{Moment, Path};
 use std::alloc::Allocator;
 
-/// The most bytes of a body (profile: RFC 7252 sets no bound).
-pub const MAX_BODY_LEN: usize = 65_536;
 /// The most paths that hold something (profile).
 pub const MAX_PATHS: usize = 256;
 
-const _: () = prove!(MAX_BODY_LEN == 65_536 && MAX_PATHS == 256);
+const _: () = prove!(MAX_PATHS == 256);
 
 /// The resources of a server: what each path holds (RFC 7252, section 5.8).
 ///
@@ -32,7 +32,7 @@ pub trait Store<A: Allocator + Copy>: Drop {
     where
         Self: Sized,
         ensures empty { IfSome result (λ store. content store ≡ nothing changes_per_window) }
-        ensures when { IsSome result ↔ ((1 ≤ changes_per_window) × (changes_per_window ≤ 4194303)) };
+        ensures when { IsSome result ↔ ((1 ≤ changes_per_window) × (changes_per_window ≤ MAX_CHANGES_PER_WINDOW)) };
 
     /// What the path holds; its body has at most `MAX_BODY_LEN` bytes.
     fn get(&self, path: &Path<A>) -> Option<&Representation<A>>
@@ -52,7 +52,7 @@ pub trait Store<A: Allocator + Copy>: Drop {
         body: &[u8],
     ) -> Result<u64, StoreRefusal>
         ensures refused { (why : StoreRefusal) → put_refusal (content self.old) now.0 path.now (length body.now) ≡ Some why
-            → (result ≡ Err why) × (content self.new ≡ unchanged (content self.old) now.0) }
+            → (result ≡ Err why) × (content self.new ≡ later (content self.old) now.0) }
         ensures taken { put_refusal (content self.old) now.0 path.now (length body.now) ≡ None → IfErr result (λ why. why ≡ Memory) }
         ensures room { IfOk result (λ version. rate_refusal (content self.old).tally now.0 ≡ None) }
         ensures version { IfOk result (λ version. version ≡ (content self.old).tally.version + 1) }
@@ -69,10 +69,10 @@ pub trait Store<A: Allocator + Copy>: Drop {
         body: &[u8],
     ) -> Result<Option<u64>, StoreRefusal>
         ensures absent { (content self.old).holds path.now ≡ None
-            → (result ≡ Ok None) × (content self.new ≡ unchanged (content self.old) now.0) }
+            → (result ≡ Ok None) × (content self.new ≡ later (content self.old) now.0) }
         ensures refused { (held : Held) (why : StoreRefusal) → (content self.old).holds path.now ≡ Some held
             → append_refusal (content self.old) now.0 held (length body.now) ≡ Some why
-            → (result ≡ Err why) × (content self.new ≡ unchanged (content self.old) now.0) }
+            → (result ≡ Err why) × (content self.new ≡ later (content self.old) now.0) }
         ensures taken { (held : Held) → (content self.old).holds path.now ≡ Some held
             → append_refusal (content self.old) now.0 held (length body.now) ≡ None
             → IfErr result (λ why. why ≡ Memory) × IfOk result IsSome }
@@ -88,10 +88,10 @@ pub trait Store<A: Allocator + Copy>: Drop {
     /// It takes no memory.
     fn delete(&mut self, now: Moment, path: &Path<A>) -> Result<Option<u64>, StoreRefusal>
         ensures absent { (content self.old).holds path.now ≡ None
-            → (result ≡ Ok None) × (content self.new ≡ unchanged (content self.old) now.0) }
+            → (result ≡ Ok None) × (content self.new ≡ later (content self.old) now.0) }
         ensures refused { (held : Held) (why : StoreRefusal) → (content self.old).holds path.now ≡ Some held
             → rate_refusal (content self.old).tally now.0 ≡ Some why
-            → (result ≡ Err why) × (content self.new ≡ unchanged (content self.old) now.0) }
+            → (result ≡ Err why) × (content self.new ≡ later (content self.old) now.0) }
         ensures taken { (held : Held) → (content self.old).holds path.now ≡ Some held
             → rate_refusal (content self.old).tally now.0 ≡ None
             → result ≡ Ok (Some ((content self.old).tally.version + 1)) }

@@ -1,5 +1,5 @@
-ghost use Rattle.std.specs.Prelude.{◌≡◌, ◌<◌, ◌+◌, None};
-ghost use Rattle.coap_resource.specs.Rate.{counted, rate_refusal, used, waited};
+ghost use Rattle.std.specs.Prelude.{◌≡◌, ◌<◌, ◌+◌, None, max};
+ghost use Rattle.coap_resource.specs.Rate.{counted, rate_refusal, used, waited, window};
 
 use crate::refusal::StoreRefusal;
 use coap_types::Moment;
@@ -26,12 +26,26 @@ pub(crate) struct Tally {
     pub(crate) changes: u32,
 }
 
+// The window of a moment, by its number.
+fn window(moment: Moment) -> u64
+    ensures { result ≡ window moment.0 }
+{
+    moment.0 / WINDOW_MS
+}
+
 impl Tally {
-    /// How many changes there were in the window of this moment.
+    // The last moment that counted, when this one has: one before the last counts as the last.
+    fn clock_at(&self, now: Moment) -> Moment
+        ensures { result.0 ≡ max self.now.clock.0 now.0 }
+    {
+        self.clock.max(now)
+    }
+
+    // How many changes there were in the window of this moment.
     fn used(&self, now: Moment) -> u32
         ensures { result ≡ used self.now now.0 }
     {
-        if self.clock.0.max(now.0) / WINDOW_MS == self.clock.0 / WINDOW_MS {
+        if window(self.clock_at(now)) == window(self.clock) {
             self.changes
         } else {
             0
@@ -58,7 +72,7 @@ impl Tally {
         ensures { result ≡ waited self now.0 }
     {
         Tally {
-            clock: Moment(self.clock.0.max(now.0)),
+            clock: self.clock_at(now),
             changes: self.used(now),
             ..self
         }
@@ -72,7 +86,7 @@ impl Tally {
     {
         Tally {
             version: self.version + 1,
-            clock: Moment(self.clock.0.max(now.0)),
+            clock: self.clock_at(now),
             changes: self.used(now) + 1,
             ..self
         }

@@ -1,5 +1,5 @@
 use crate::{
-    Asking, ListStore, MAX_PATHS, Response, Store, StoreRefusal, rate_law, serve, value_of,
+    Asking, ListStore, MAX_PATHS, Response, Store, StoreRefusal, rate_law, serve, served_law, value_of,
 };
 use StoreRefusal::{RateExceeded, TooLarge, TooManyPaths};
 use coap_types::{Code, Direction, Method, Moment, Opt, Path, Szx, recognised};
@@ -303,6 +303,7 @@ fn a_window_of_256_s_takes_so_many_changes(rt: HostRuntime) -> Result<(), AllocE
         assert!(rt; none.is_none());
     }
     rate_law();
+    served_law();
     Ok(())
 }
 

@@ -1,6 +1,6 @@
+pub mod Facts
 pub mod PathLemmas
 pub mod UintLemmas
+pub mod BlockLemmas
 pub mod RecognisedLemmas
 pub mod UnrecognisedLemmas
-pub mod PastLemmas
-pub mod EndpointLemmas

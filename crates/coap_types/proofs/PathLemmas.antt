@@ -1,14 +1,16 @@
--- Equality of paths, and a segment more.
-use Rattle.std.proofs.Common.{◌≡◌, ℕ, Bool, ◌&&◌, ◌++◌, List, [], ◌∷◌, refl, ap, sym, nat_eq, nat_cmp, Decides}
-use Rattle.std.specs.Cmp.Lexicographic.{pointwise, pointwise_decides, bytes_decides, slice_cmp}
+-- Vectors of bytes are compared, ordered, cloned and hashed as their bytes are.
+use Rattle.std.proofs.Common.{◌≡◌, ℕ, ◌<◌, ◌≤◌, arith, subst, length, true, false, if◌then◌else◌, Bool, ◌&&◌, ◌++◌, List, [], ◌∷◌, refl, ap, sym, nat_eq, nat_cmp}
+use Rattle.std.specs.Cmp.Lexicographic.{pointwise, slice_cmp}
 use Rattle.std.specs.declared.cmp.Ordering.{Ordering}
 use Rattle.std.specs.Hash as fed
 use Rattle.std.specs.List.{AllZip, each_same, flat_map}
-use Rattle.std.proofs.lemmas.List.{length-map}
+use Rattle.std.proofs.lemmas.List.{length-append, length-map}
+use Rattle.std.proofs.lemmas.List.Elements.{All-append, All-cons, All-nil}
 use Rattle.std.specs.Vec.{vec_len}
 use Rattle.std.specs.Ordering.{ordering_then}
 use Rattle.std.specs.declared.vec.Vec.{Vec}
-use Rattle.coap_types.specs.Path.{segments_of, same_path, path_order}
+use Rattle.coap_types.specs.Bytes.{AreBytes}
+use Rattle.coap_types.specs.Path.{IsPath, segments_of, same_path, path_order}
 
 -- two lists of vectors are equal where their bytes are
 pub same_segments : {Z : Type 0} (xs ys : List (Vec ℕ Z))
@@ -22,10 +24,6 @@ same_segments (x ∷ xs) (y ∷ ys) = ap (λ (b : Bool). pointwise nat_eq x.item
 pub segments_append : {Z : Type 0} (xs ys : List (Vec ℕ Z)) → segments_of (xs ++ ys) ≡ segments_of xs ++ segments_of ys
 segments_append [] ys = refl
 segments_append (x ∷ xs) ys = ap (λ (r : List (List ℕ)). x.items ∷ r) (segments_append xs ys)
-
--- the test decides equality
-pub same_path-decides : (p q : List (List ℕ)) → Decides (same_path p q) (p ≡ q)
-same_path-decides = pointwise_decides bytes_decides
 
 -- two lists of vectors are ordered as their bytes are
 pub same_order : {Z : Type 0} (xs ys : List (Vec ℕ Z))
@@ -52,3 +50,27 @@ fed_bytes (x ∷ xs) = ap (λ (r : fed.HashWrites). fed.slice fed.u8 x.items ++ 
 pub same_input : {Z : Type 0} (xs : List (Vec ℕ Z))
     → fed.slice (λ (v : Vec ℕ Z). fed.slice fed.u8 v.items) xs ≡ fed.slice (fed.slice fed.u8) (segments_of xs)
 same_input {Z} xs = λ i. fed.usize (sym (length-map xs (λ (v : Vec ℕ Z). v.items)) i) ++ fed_bytes xs i
+
+abbrev is_short : List ℕ → Type 0
+is_short segment = length segment ≤ 255
+
+-- a path with a segment more, or as it was
+more_path : {Z : Type 0} (vs : List (Vec ℕ Z)) (v : Vec ℕ Z) → IsPath (segments_of vs) → length vs < 16 → length v.items ≤ 255 → AreBytes v.items
+    → IsPath (segments_of (vs ++ v ∷ []))
+more_path {Z} vs v p room short bytes =
+    let one : List (List ℕ) = v.items ∷ [] in
+    let few : length (segments_of vs ++ one) ≤ 16 = simp (length-append, length-map) (omega arith) in
+    let path : IsPath (segments_of vs ++ one) =
+    record {
+      bounds = record {
+        few = few;
+        short = All-append is_short (segments_of vs) one p.bounds.short (All-cons is_short v.items [] short (All-nil is_short));
+      };
+      bytes = All-append AreBytes (segments_of vs) one p.bytes (All-cons AreBytes v.items [] bytes (All-nil AreBytes));
+    } in
+    subst IsPath (sym (segments_append vs (v ∷ []))) path
+
+pub pushed_path : {Z : Type 0} (b : Bool) (vs after : List (Vec ℕ Z)) (v : Vec ℕ Z) → after ≡ (if b then vs ++ v ∷ [] else vs)
+    → IsPath (segments_of vs) → length vs < 16 → length v.items ≤ 255 → AreBytes v.items → IsPath (segments_of after)
+pushed_path true vs after v is p room short bytes = rw is (more_path vs v p room short bytes)
+pushed_path false vs after v is p room short bytes = rw is p

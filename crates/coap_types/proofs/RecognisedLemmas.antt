@@ -34,7 +34,7 @@ one_kept : (b : Bool) (x : List CoapOption × CoapOption) → map option_in (if 
 one_kept true x = refl
 one_kept false x = refl
 
-kept_more : (direction : Direction) (os : List CoapOption) (o : CoapOption)
+pub kept_more : (direction : Direction) (os : List CoapOption) (o : CoapOption)
     → map option_in (filter (passing direction) (placed [] (os ++ o ∷ [])))
     ≡ map option_in (filter (passing direction) (placed [] os)) ++ (if is_recognised direction os o then o ∷ [] else [])
 kept_more direction os o =

@@ -6,6 +6,10 @@ pub record CoapOption : Type 0 where
   pub number : ℕ
   pub value : List ℕ
 
+-- the option of a number with a value
+abbrev pub option : ℕ → List ℕ → CoapOption
+option number value = record { number = number; value = value }
+
 abbrev pub option_of : Opt → CoapOption
 option_of o = record { number = o.number; value = o.value.now }
 

@@ -1,5 +1,6 @@
 -- The options that are recognised, by their numbers (RFC 7252, section 5.10, table 4; RFC 7641, section 2; RFC 7959, sections 2.1 and 4).
 use Rattle.std.specs.Prelude.{ℕ, Option, Some, None, List, [], ◌∷◌, ◌==◌, if◌then◌else◌}
+use Rattle.coap_types.specs.declared.option_number.TheConstants.{IF_MATCH as if_match, URI_HOST as uri_host, ETAG as etag, IF_NONE_MATCH as if_none_match, OBSERVE as observe, URI_PORT as uri_port, URI_PATH as uri_path, CONTENT_FORMAT as content_format, ACCEPT as accept, BLOCK2 as block2, BLOCK1 as block1, SIZE2 as size2, PROXY_URI as proxy_uri, PROXY_SCHEME as proxy_scheme, SIZE1 as size1}
 use Rattle.coap_types.specs.declared.option_rule.Rule.{Rule}
 use Rattle.coap_types.specs.declared.option_rule.Occurrence.{Occurrence}
 use Rattle.coap_types.specs.declared.option_rule.Occurrence.TheVariants.{Never, Once, Repeatable}
@@ -12,21 +13,21 @@ rule_of fewest most in_request in_response =
 -- the table: one line an option
 abbrev pub option_table : List (ℕ × Rule)
 option_table =
-    (1, rule_of 0 8 Repeatable Never) ∷  -- If-Match
-    (3, rule_of 1 255 Once Never) ∷  -- Uri-Host
-    (4, rule_of 1 8 Repeatable Once) ∷  -- ETag
-    (5, rule_of 0 0 Once Never) ∷  -- If-None-Match
-    (6, rule_of 0 3 Once Once) ∷  -- Observe
-    (7, rule_of 0 2 Once Never) ∷  -- Uri-Port
-    (11, rule_of 0 255 Repeatable Never) ∷  -- Uri-Path
-    (12, rule_of 0 2 Once Once) ∷  -- Content-Format
-    (17, rule_of 0 2 Once Never) ∷  -- Accept
-    (23, rule_of 0 3 Once Once) ∷  -- Block2
-    (27, rule_of 0 3 Once Once) ∷  -- Block1
-    (28, rule_of 0 4 Once Once) ∷  -- Size2
-    (35, rule_of 1 1034 Once Never) ∷  -- Proxy-Uri
-    (39, rule_of 1 255 Once Never) ∷  -- Proxy-Scheme
-    (60, rule_of 0 4 Once Once) ∷  -- Size1
+    (if_match, rule_of 0 8 Repeatable Never) ∷
+    (uri_host, rule_of 1 255 Once Never) ∷
+    (etag, rule_of 1 8 Repeatable Once) ∷
+    (if_none_match, rule_of 0 0 Once Never) ∷
+    (observe, rule_of 0 3 Once Once) ∷
+    (uri_port, rule_of 0 2 Once Never) ∷
+    (uri_path, rule_of 0 255 Repeatable Never) ∷
+    (content_format, rule_of 0 2 Once Once) ∷
+    (accept, rule_of 0 2 Once Never) ∷
+    (block2, rule_of 0 3 Once Once) ∷
+    (block1, rule_of 0 3 Once Once) ∷
+    (size2, rule_of 0 4 Once Once) ∷
+    (proxy_uri, rule_of 1 1034 Once Never) ∷
+    (proxy_scheme, rule_of 1 255 Once Never) ∷
+    (size1, rule_of 0 4 Once Once) ∷
     []
 
 -- the line of a number, if it has one

@@ -8,6 +8,7 @@ use Rattle.coap_types.specs.declared.option_rule.Occurrence.{Occurrence}
 use Rattle.coap_types.specs.declared.option_rule.Occurrence.TheVariants.{Never, Once, Repeatable}
 use Rattle.coap_types.specs.CoapOption.{CoapOption}
 use Rattle.coap_types.specs.OptionTable.{option_rule}
+use Rattle.coap_types.specs.OptionValues.{has, value_of}
 
 -- how often an option is recognised in a message of this direction
 abbrev pub occurrence : Direction → Rule → Occurrence
@@ -45,7 +46,23 @@ placed before (o ∷ os) = (before, o) ∷ placed (before ++ o ∷ []) os
 abbrev pub is_critical : CoapOption → Bool
 is_critical o = o.number % 2 == 1
 
+-- the options of a message that are recognised, in order
+abbrev pub recognised : Direction → List CoapOption → List CoapOption
+recognised direction options = map (λ p. p.1) (filter (λ p. is_recognised direction p.0 p.1) (placed [] options))
+
+-- whether a critical option is not recognised
+abbrev pub lacks_critical : Direction → List CoapOption → Bool
+lacks_critical direction options = list_any (λ p. is_critical p.1 && not (is_recognised direction p.0 p.1)) (placed [] options)
+
+-- the value of the first option of this number that is recognised
+abbrev pub recognised_value : Direction → ℕ → List CoapOption → Option (List ℕ)
+recognised_value direction number options = value_of number (recognised direction options)
+
+-- whether an option of this number is recognised
+abbrev pub carries : Direction → ℕ → List CoapOption → Bool
+carries direction number options = has number (recognised direction options)
+
 -- the options of a message, those that are recognised, and whether a critical one is not
 pub record Recognised (direction : Direction) (options kept : List CoapOption) (bad : Bool) : Type 0 where
-  pub list : kept ≡ map (λ p. p.1) (filter (λ p. is_recognised direction p.0 p.1) (placed [] options))
-  pub rest : bad ≡ list_any (λ p. is_critical p.1 && not (is_recognised direction p.0 p.1)) (placed [] options)
+  pub list : kept ≡ recognised direction options
+  pub rest : bad ≡ lacks_critical direction options

@@ -1,4 +1,4 @@
--- A flag for each number up to that of Size1, 60, which says whether an option of the number was seen.
+-- A flag for each number up to that of Size1, which says whether an option of the number was seen.
 use Rattle.std.specs.Prelude.{◌≡◌, ℕ, ◌<◌, Bool, false, List, slice_index_or}
 use Rattle.coap_types.specs.CoapOption.{CoapOption}
 use Rattle.coap_types.specs.Recognised.{has_number}

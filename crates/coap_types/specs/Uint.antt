@@ -1,5 +1,6 @@
 -- Option values in the uint format: a number in network byte order (RFC 7252, section 3.2).
-use Rattle.std.specs.Prelude.{ℕ, ◌+◌, ◌*◌, ◌^◌, ◌<◌, ◌≡◌, List, [], ◌∷◌, length, All, Option, Some, None, nat_le, if◌then◌else◌}
+use Rattle.std.specs.Prelude.{ℕ, ◌+◌, ◌*◌, ◌/◌, ◌%◌, ◌^◌, ◌<◌, ◌==◌, ◌≡◌, List, [], ◌∷◌, length, Option, Some, None, nat_le, nat_lt, if◌then◌else◌}
+use Rattle.coap_types.specs.Bytes.{AreBytes}
 
 -- the number that bytes spell, the most significant byte first; no byte spells 0
 abbrev pub number_of : List ℕ → ℕ
@@ -17,9 +18,15 @@ LeadsWithNoZero (b ∷ bs) = 0 < b
 
 -- what is sent for a number: bytes that spell it, with no zero byte in front
 pub record IsSpelling (bytes : List ℕ) (number : ℕ) : Type 0 where
+  pub are_bytes : AreBytes bytes
   pub spelt : number_of bytes ≡ number
   pub no_zero : LeadsWithNoZero bytes
 
--- each is a byte
-abbrev pub AreBytes : List ℕ → Type 0
-AreBytes = All (λ b. b < 256)
+-- the fewest bytes that spell a number of 32 bits, the most significant one first; none for 0
+abbrev pub uint : ℕ → List ℕ
+uint n =
+    if n == 0 then []
+    else if nat_lt n 256 then n ∷ []
+    else if nat_lt n (256 ^ 2) then n / 256 ∷ n % 256 ∷ []
+    else if nat_lt n (256 ^ 3) then n / 256 ^ 2 ∷ n / 256 % 256 ∷ n % 256 ∷ []
+    else n / 256 ^ 3 ∷ n / 256 ^ 2 % 256 ∷ n / 256 % 256 ∷ n % 256 ∷ []

@@ -1,11 +1,15 @@
 //! The values that every layer of CoAP (RFC 7252) speaks of: endpoints and moments, what a message
-//! is made of, the options that are recognised, paths and requests, and the transmission parameters.
+//! is made of, the options that are recognised, blocks, paths and requests, and the parameters and limits.
 //! Nothing here reads or writes a message. What can be refused memory says so by its answer: only
-//! `Path::push`, the `clone` of a `Path` and `recognised`.
+//! `Path::push`, `Path::of_options`, the `clone` of a `Path` and `recognised`.
 #![tactic(auto)]
 
+mod block;
+#[cfg(test)]
+mod block_tests;
 mod direction;
 mod endpoint;
+pub mod limits;
 mod message;
 pub mod option_number;
 mod option_rule;
@@ -25,17 +29,18 @@ mod token;
 pub mod transmission;
 mod uint;
 
+pub use block::{Block, MAX_BLOCK_LEN, MAX_NUM, block_law};
 pub use direction::Direction;
 pub use endpoint::{Endpoint, Moment};
 pub use message::{Code, Id, Kind};
 pub use option_rule::{Occurrence, Rule};
 pub use options::Opt;
 pub use path::{MAX_SEGMENT_LEN, MAX_SEGMENTS, Path, PathRefusal};
-pub use recognised_options::{carries, lacks_critical, recognised};
+pub use recognised_options::{carries, lacks_critical, recognised, recognised_value};
 pub use recognition::rule;
 pub use request::{Method, Request};
 pub use role::Role;
-pub use szx::Szx;
+pub use szx::{MAX_SZX, Szx};
 pub use tag::{MAX_TAG_LEN, MAX_TAGS, Tag, Tags};
 pub use token::{MAX_TOKEN_LEN, Token};
 pub use uint::{MAX_UINT_LEN, UintBytes, uint_bytes, uint_laws, uint_of};

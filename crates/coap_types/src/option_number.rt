@@ -32,3 +32,14 @@ pub const PROXY_URI: u16 = 35;
 pub const PROXY_SCHEME: u16 = 39;
 /// The size of the body of a request, in bytes (RFC 7252, section 5.10.9, and RFC 7959, section 4).
 pub const SIZE1: u16 = 60;
+
+// The numbers, as the registry has them.
+const _: () = prove!(IF_MATCH == 1 && URI_HOST == 3 && ETAG == 4);
+
+const _: () = prove!(IF_NONE_MATCH == 5 && OBSERVE == 6 && URI_PORT == 7);
+
+const _: () = prove!(URI_PATH == 11 && CONTENT_FORMAT == 12 && ACCEPT == 17);
+
+const _: () = prove!(BLOCK2 == 23 && BLOCK1 == 27 && SIZE2 == 28);
+
+const _: () = prove!(PROXY_URI == 35 && PROXY_SCHEME == 39 && SIZE1 == 60);

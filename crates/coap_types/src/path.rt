@@ -1,9 +1,14 @@
-ghost use Rattle.std.specs.Prelude.{◌≡◌, ◌<◌, ◌≤◌, ◌∷◌, ◌++◌, [], length, IsTrue, OnOk, OnErr, ◌↔◌, Some, refl};
+ghost use Rattle.std.specs.Prelude.{◌≡◌, ◌<◌, ◌≤◌, ◌∷◌, ◌++◌, ◌⊎◌, [], length, IsTrue, IfOk, IfErr, OnOk, OnErr, All, ◌↔◌, Some, None, refl};
+ghost use Rattle.coap_types.specs.Bytes.{AreBytes};
+ghost use Rattle.coap_types.specs.CoapOption.{options_of};
 ghost use Rattle.coap_types.specs.Path.{HoldsAtMost, segments_of, same_path, path_order};
+ghost use Rattle.coap_types.specs.RequestPath.{path_of, path_refusal};
 ghost use Rattle.coap_types.specs.PathOrder.{path_hash_respects_eq, path_order_ties, path_order_total, path_partial_order, same_path_equiv};
 ghost use Rattle.std.specs.Cmp.{partial_equiv_from_equiv};
 ghost use Rattle.std.specs.Hash as fed;
 
+use crate::option_number::URI_PATH;
+use crate::options::Opt;
 use std::alloc::{AllocError, Allocator, Global};
 use std::cmp::Ordering;
 use std::hash::{Hash, Hasher};
@@ -42,13 +47,13 @@ pub struct Path<A: Allocator = Global> {
 
 impl<A: Allocator> Model for Path<A> {
     ghost use Rattle.std.specs.Prelude.{ℕ, List};
-    ghost use Rattle.coap_types.specs.Path.{HoldsAtMost, segments_of};
+    ghost use Rattle.coap_types.specs.Path.{IsPath, segments_of};
 
     ghost Value = { List (List ℕ) };
 
     ghost view = { λ p. segments_of p.segments.items };
 
-    ghost invariant = { λ p. HoldsAtMost 16 255 (segments_of p.segments.items) };
+    ghost invariant = { λ p. IsPath (segments_of p.segments.items) };
 }
 
 impl<A: Allocator + Copy> Path<A> {
@@ -59,6 +64,23 @@ impl<A: Allocator + Copy> Path<A> {
         Path {
             segments: Vec::new(alloc),
         }
+    }
+
+    /// The path that the options of a request say: the values of Uri-Path, in order. Where several
+    /// hold, the first refusal of `push` is answered.
+    pub fn of_options(alloc: A, options: &[Opt<'_>]) -> Result<Path<A>, PathRefusal>
+        ensures path { IfOk result (λ path. path ≡ path_of (options_of options.now)) }
+        ensures fits { OnOk result (path_refusal (path_of (options_of options.now)) ≡ None) }
+        ensures refused { IfErr result (λ why. (why ≡ PathRefusal.Memory)
+            ⊎ (path_refusal (path_of (options_of options.now)) ≡ Some why)) }
+    {
+        let mut path = Path::new(alloc);
+        for option in options {
+            if option.number == URI_PATH {
+                path.push(option.value)?;
+            }
+        }
+        Ok(path)
     }
 
     /// Adds a segment at the end. After an `Err` the path is as before.
@@ -86,6 +108,7 @@ impl<A: Allocator + Copy> Path<A> {
     pub fn segments(&self) -> &[Vec<u8, A>]
         ensures segments { segments_of result.now ≡ self.now }
         ensures bounds { HoldsAtMost MAX_SEGMENTS MAX_SEGMENT_LEN self.now }
+        ensures bytes { All AreBytes self.now }
     {
         self.segments.as_slice()
     }

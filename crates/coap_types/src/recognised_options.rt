@@ -1,9 +1,8 @@
-ghost use Rattle.std.specs.Prelude.{◌≡◌, ◌<◌, ◌++◌, ◌||◌, ◌&&◌, ◌%◌, ◌==◌, not, [], ◌∷◌, List, ℕ, IfOk};
+ghost use Rattle.std.specs.Prelude.{◌≡◌, ◌<◌, ◌++◌, ◌||◌, ◌&&◌, ◌%◌, ◌==◌, not, [], ◌∷◌, List, ℕ, IfOk, Some, is_some, option_copied, if◌then◌else◌};
 ghost use Rattle.std.specs.Iterator.{Drains, IsFinite};
 ghost use Rattle.coap_types.specs.CoapOption.{CoapOption, option_of, options_of};
-ghost use Rattle.coap_types.specs.Recognised.{Recognised, has_number, is_recognised};
+ghost use Rattle.coap_types.specs.Recognised.{Recognised, carries, has_number, is_recognised, lacks_critical, recognised_value};
 ghost use Rattle.coap_types.specs.SeenNumbers.{Remembers};
-ghost use Rattle.coap_types.specs.Unrecognised.{lacks_critical, carries};
 
 use crate::direction::Direction;
 use crate::option_number::SIZE1;
@@ -109,11 +108,44 @@ pub fn lacks_critical<'a, I: Iterator<Item = Opt<'a>> + Drop>(
     bad
 }
 
-// Whether a recognised option of the number was found, or this one is such.
-fn or_carried(found: bool, same: bool, recognised: bool) -> bool
-    ensures { result ≡ (found || (same && recognised)) }
+// The value of an option of the number that was found, or else that of this one, where it has the
+// number and is recognised.
+fn or_else<'a>(
+    found: Option<&'a [u8]>,
+    same: bool,
+    recognised: bool,
+    value: &'a [u8],
+) -> Option<&'a [u8]>
+    ensures { option_copied result ≡ (if is_some (option_copied found.entry) || not (same && recognised)
+        then option_copied found.entry else Some value.now) }
 {
-    found || (same && recognised)
+    match found {
+        None if same && recognised => Some(value),
+        _ => found,
+    }
+}
+
+/// The value of the first option of this number that is recognised in a message of this direction
+/// (RFC 7252, section 5.4). It takes no memory.
+pub fn recognised_value<'a, I: Iterator<Item = Opt<'a>> + Drop>(
+    direction: Direction,
+    number: u16,
+    options: I,
+) -> Option<&'a [u8]>
+    requires can { I.can_next options }
+    requires ends { IsFinite (I.remaining options) }
+    ensures { (all : List _) × Drains I.next_gives options all
+        × (option_copied result ≡ recognised_value direction number (options_of all)) }
+{
+    let mut seen = [false; NUMBERS];
+    let mut found = None;
+    for option in options {
+        let again = was_seen(&seen, option.number);
+        let known = is_recognised(direction, option, again);
+        found = or_else(found, option.number == number, known, option.value);
+        see(&mut seen, option.number);
+    }
+    found
 }
 
 /// Whether a message of this direction carries a recognised option of this number (RFC 7252,
@@ -127,13 +159,5 @@ pub fn carries<'a, I: Iterator<Item = Opt<'a>> + Drop>(
     requires ends { IsFinite (I.remaining options) }
     ensures { (all : List _) × Drains I.next_gives options all × (result ≡ carries direction number (options_of all)) }
 {
-    let mut seen = [false; NUMBERS];
-    let mut found = false;
-    for option in options {
-        let again = was_seen(&seen, option.number);
-        let known = is_recognised(direction, option, again);
-        found = or_carried(found, option.number == number, known);
-        see(&mut seen, option.number);
-    }
-    found
+    recognised_value(direction, number, options).is_some()
 }

@@ -1,4 +1,4 @@
-use crate::{Direction, Opt, recognised};
+use crate::{Direction, Opt, carries, lacks_critical, recognised, recognised_value};
 use Direction::{Request, Response};
 use std::alloc::AllocError;
 
@@ -70,4 +70,42 @@ fn options_are_recognised_by_table_length_and_occurrence(
         assert_eq!(rt; unrecognised, bad);
     }
     Ok(())
+}
+
+#[test]
+fn one_value_is_read_without_memory(rt: HostRuntime) {
+    let options = [
+        Opt {
+            number: 11,
+            value: b"temperature",
+        },
+        // Four bytes are too many for Observe, and the next one is a repeat of it.
+        Opt {
+            number: 6,
+            value: &[0, 0, 0, 0],
+        },
+        Opt {
+            number: 6,
+            value: &[1],
+        },
+        Opt {
+            number: 17,
+            value: &[50],
+        },
+        Opt {
+            number: 17,
+            value: &[60],
+        },
+    ];
+    let value = |number| recognised_value(Request, number, options.iter().copied());
+    assert_eq!(rt; value(11), Some(b"temperature".as_slice()));
+    assert_eq!(rt; value(6), None);
+    // The second Accept is supernumerary, and critical.
+    assert_eq!(rt; value(17), Some([50].as_slice()));
+    assert_eq!(rt; value(12), None);
+    assert!(rt; carries(Request, 17, options.iter().copied()));
+    assert!(rt; !carries(Request, 6, options.iter().copied()));
+    assert!(rt; !carries(Response, 17, options.iter().copied()));
+    assert!(rt; lacks_critical(Request, options.iter().copied()));
+    assert!(rt; !lacks_critical(Request, options[..4].iter().copied()));
 }

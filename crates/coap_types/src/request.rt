@@ -1,5 +1,7 @@
-ghost use Rattle.std.specs.Prelude.{◌≡◌};
-ghost use Rattle.coap_types.specs.MethodCode.{method_code};
+ghost use Rattle.std.specs.Prelude.{◌≡◌, ◌<◌, ◌^◌, IfSome};
+ghost use Rattle.coap_types.specs.Bytes.{AreBytes};
+ghost use Rattle.coap_types.specs.MethodCode.{method_code, method_of};
+ghost use Rattle.coap_types.specs.RequestRange.{IsInRange};
 
 use crate::message::Code;
 use crate::path::Path;
@@ -32,6 +34,19 @@ impl Method {
             Method::Delete => Code::DELETE,
         }
     }
+
+    /// The method of a code (RFC 7252, section 12.1.1); None where it is not that of one of these.
+    pub fn of(code: Code) -> Option<Method>
+        ensures { result ≡ method_of code.0 }
+    {
+        match code {
+            Code::GET => Some(Method::Get),
+            Code::POST => Some(Method::Post),
+            Code::PUT => Some(Method::Put),
+            Code::DELETE => Some(Method::Delete),
+            _ => None,
+        }
+    }
 }
 
 /// What a client asks of a server (RFC 7252, section 5.1).
@@ -56,3 +71,28 @@ pub struct Request<A: Allocator = Global> {
     /// The format that the client wants, if it does (RFC 7252, section 5.10.4).
     pub accept: Option<u16>,
 }
+
+impl<A: Allocator + Copy> Request<A> {
+    /// What its type says of a request: its numbers are in range and its fields within their
+    /// bounds. It does nothing.
+    pub fn ranges(&self)
+        ensures { IsInRange self.now }
+    {
+        let _path = self.path.segments();
+        show_16_bits(self.format);
+        show_16_bits(self.accept);
+        show_bytes(self.body.as_slice());
+        let _etags = self.etags.as_slice();
+        let _if_match = self.if_match.as_slice();
+    }
+}
+
+// Each number of a slice of bytes is that of a byte.
+fn show_bytes(bytes: &[u8])
+    ensures { AreBytes bytes.now }
+{}
+
+// A number that is there has 16 bits.
+fn show_16_bits(number: Option<u16>)
+    ensures { IfSome number (λ n. n < 2 ^ 16) }
+{}

@@ -18,12 +18,13 @@ pub struct Szx {
 
 impl Model for Szx {
     ghost use Rattle.std.specs.Prelude.{ℕ, ◌≤◌};
+    ghost use Rattle.coap_types.specs.declared.szx.TheConstants.{MAX_SZX};
 
     ghost Value = { ℕ };
 
     ghost view = { λ s. s.exponent };
 
-    ghost invariant = { λ s. s.exponent ≤ 6 };
+    ghost invariant = { λ s. s.exponent ≤ MAX_SZX };
 
     ghost inverse = { λ n. record { exponent = n } };
 }

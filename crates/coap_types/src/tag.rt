@@ -1,4 +1,5 @@
-ghost use Rattle.std.specs.Prelude.{◌≡◌, ◌<◌, ◌≤◌, ◌∷◌, ◌++◌, [], length, nat_eq, IsTrue, IfErr, OnErr, OnOk, ◌↔◌, ⊤};
+ghost use Rattle.std.specs.Prelude.{◌≡◌, ◌<◌, ◌≤◌, ◌∷◌, ◌++◌, [], length, nat_eq, All, IsTrue, IfErr, OnErr, OnOk, ◌↔◌, ⊤};
+ghost use Rattle.coap_types.specs.EntityTag.{IsTag};
 ghost use Rattle.std.specs.Option.{SomeIff};
 ghost use Rattle.std.specs.Cmp.{partial_equiv_from_equiv};
 ghost use Rattle.std.specs.Cmp.Lexicographic.{pointwise, nat_list_eq_equiv};
@@ -10,6 +11,8 @@ use std::marker::Model;
 /// The most bytes that an entity-tag has (RFC 7252, section 5.10, table 4).
 pub const MAX_TAG_LEN: usize = 8;
 
+const _: () = prove!(MAX_TAG_LEN == 8);
+
 /// An entity-tag: 1 to 8 bytes, which tell one representation of a resource from another
 /// (RFC 7252, section 5.10.6). Tags are equal by their bytes.
 #[derive(Debug, Drop)]
@@ -18,19 +21,20 @@ pub struct Tag {
 }
 
 impl Model for Tag {
-    ghost use Rattle.std.specs.Prelude.{ℕ, List, ◌≤◌, length};
+    ghost use Rattle.std.specs.Prelude.{ℕ, List};
+    ghost use Rattle.coap_types.specs.EntityTag.{IsTag};
 
     ghost Value = { List ℕ };
 
     ghost view = { λ t. t.bytes.items };
 
-    ghost invariant = { λ t. (1 ≤ length t.bytes.items) × (length t.bytes.items ≤ 8) };
+    ghost invariant = { λ t. IsTag t.bytes.items };
 }
 
 impl Tag {
     /// The tag of these bytes, where they are 1 to 8.
     pub fn new(bytes: &[u8]) -> Option<Tag>
-        ensures { SomeIff result ((1 ≤ length bytes.now) × (length bytes.now ≤ 8)) bytes.now }
+        ensures { SomeIff result ((1 ≤ length bytes.now) × (length bytes.now ≤ MAX_TAG_LEN)) bytes.now }
     {
         if bytes.is_empty() {
             return None;
@@ -41,7 +45,9 @@ impl Tag {
     }
 
     // What stands in a place that holds no tag.
-    fn unused() -> Tag {
+    fn unused() -> Tag
+        ensures { result ≡ 0 ∷ [] }
+    {
         let mut bytes = ArrayVec::new();
         bytes.push(0);
         Tag { bytes }
@@ -51,7 +57,8 @@ impl Tag {
     pub fn as_slice(&self) -> &[u8]
         ensures bytes { result.now ≡ self.now }
         ensures some { 1 ≤ length self.now }
-        ensures few { length self.now ≤ 8 }
+        ensures few { length self.now ≤ MAX_TAG_LEN }
+        ensures tag { IsTag self.now }
     {
         self.bytes.as_slice()
     }
@@ -106,13 +113,15 @@ pub struct Tags {
 }
 
 impl Model for Tags {
-    ghost use Rattle.std.specs.Prelude.{ℕ, List, ◌≡◌, ◌≤◌, length, take};
+    ghost use Rattle.std.specs.Prelude.{ℕ, List, All, ◌≡◌, ◌≤◌, length, take};
+    ghost use Rattle.coap_types.specs.declared.tag.TheConstants.{MAX_TAGS};
+    ghost use Rattle.coap_types.specs.EntityTag.{IsTag};
 
     ghost Value = { List (List ℕ) };
 
     ghost view = { λ t. take t.len t.tags };
 
-    ghost invariant = { λ t. (length t.tags ≡ 4) × (t.len ≤ 4) };
+    ghost invariant = { λ t. (length t.tags ≡ MAX_TAGS) × (t.len ≤ MAX_TAGS) × All IsTag t.tags };
 }
 
 impl Tags {
@@ -137,6 +146,7 @@ impl Tags {
         if self.len >= MAX_TAGS {
             return Err(tag);
         }
+        let _it_has_1_to_8_bytes = tag.as_slice();
         self.tags[self.len] = tag;
         self.len += 1;
         Ok(())
@@ -146,6 +156,7 @@ impl Tags {
     pub fn as_slice(&self) -> &[Tag]
         ensures tags { result.now ≡ self.now }
         ensures few { length self.now ≤ MAX_TAGS }
+        ensures each { All IsTag self.now }
     {
         &self.tags[..self.len]
     }

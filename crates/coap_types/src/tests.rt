@@ -37,6 +37,47 @@ fn a_path_refuses_what_it_cannot_hold(rt: HostRuntime) -> Result<(), AllocError>
 }
 
 #[test]
+fn a_path_is_read_from_options(rt: HostRuntime) -> Result<(), AllocError> {
+    let long = [b'a'; 256];
+    let segment = |value| Opt {
+        number: option_number::URI_PATH,
+        value,
+    };
+    // coap://example.net/.well-known/core (RFC 7252, section 5.10.1).
+    let options = [
+        Opt {
+            number: option_number::URI_HOST,
+            value: b"example.net",
+        },
+        segment(b".well-known"),
+        segment(b"core"),
+        Opt {
+            number: option_number::ACCEPT,
+            value: &[40],
+        },
+    ];
+    let path = Path::of_options(rt.alloc(), &options).expect(&rt, "two short segments");
+    let mut core = Path::new(rt.alloc());
+    assert_eq!(rt; core.push(b".well-known"), Ok(()));
+    assert_eq!(rt; core.push(b"core"), Ok(()));
+    assert!(rt; path == core);
+    let many = [segment(b""); 17];
+    assert!(rt; matches!(Path::of_options(rt.alloc(), &many[..16]), Ok(path) if path.len() == 16));
+    let refused: [(&[Opt<'_>], PathRefusal); 3] = [
+        (&many, PathRefusal::TooManySegments),
+        (&[segment(&long)], PathRefusal::SegmentTooLong),
+        (
+            &[segment(b"a"), segment(&long)],
+            PathRefusal::SegmentTooLong,
+        ),
+    ];
+    for (options, why) in refused {
+        assert!(rt; matches!(Path::of_options(rt.alloc(), options), Err(is) if is == why));
+    }
+    Ok(())
+}
+
+#[test]
 fn paths_are_compared_by_bytes_segment_by_segment(rt: HostRuntime) -> Result<(), AllocError> {
     let root = Path::new(rt.alloc());
     let mut whole = Path::new(rt.alloc());
@@ -225,6 +266,10 @@ fn a_request_holds_what_it_was_given(rt: HostRuntime) {
     ];
     for (method, byte) in methods {
         assert_eq!(rt; method.code(), Code(byte));
+        assert_eq!(rt; Method::of(Code(byte)), Some(method));
+    }
+    for byte in [0, 5, 31, 69] {
+        assert_eq!(rt; Method::of(Code(byte)), None);
     }
     let mut etags = Tags::new();
     for byte in 0..4 {
@@ -245,6 +290,7 @@ fn a_request_holds_what_it_was_given(rt: HostRuntime) {
         if_none_match: false,
         accept: None,
     };
+    request.ranges();
     assert_eq!(rt; request.path.len(), 1);
     assert_eq!(rt; request.body.as_slice(), b"22.3 C".as_slice());
     assert_eq!(rt; request.etags.as_slice().len(), 4);

@@ -16,6 +16,8 @@ use std::marker::Model;
 /// The most bytes that a token has (RFC 7252, section 3).
 pub const MAX_TOKEN_LEN: usize = 8;
 
+const _: () = prove!(MAX_TOKEN_LEN == 8);
+
 /// A token: 0 to 8 bytes, by which a response is matched with its request (RFC 7252,
 /// section 5.3.1). Tokens are equal, ordered and hashed by their bytes.
 #[derive(Debug, Drop)]
@@ -25,12 +27,13 @@ pub struct Token {
 
 impl Model for Token {
     ghost use Rattle.std.specs.Prelude.{ℕ, List, ◌≤◌, length};
+    ghost use Rattle.coap_types.specs.declared.token.TheConstants.{MAX_TOKEN_LEN};
 
     ghost Value = { List ℕ };
 
     ghost view = { λ t. t.bytes.items };
 
-    ghost invariant = { λ t. length t.bytes.items ≤ 8 };
+    ghost invariant = { λ t. length t.bytes.items ≤ MAX_TOKEN_LEN };
 }
 
 impl Token {
@@ -45,7 +48,7 @@ impl Token {
 
     /// The token of these bytes, where they are at most 8.
     pub fn new(bytes: &[u8]) -> Option<Token>
-        ensures { SomeIff result (length bytes.now ≤ 8) bytes.now }
+        ensures { SomeIff result (length bytes.now ≤ MAX_TOKEN_LEN) bytes.now }
     {
         let mut token = Token::empty();
         token.bytes.try_extend_from_slice(bytes).ok()?;
@@ -55,7 +58,7 @@ impl Token {
     /// The bytes.
     pub fn as_slice(&self) -> &[u8]
         ensures bytes { result.now ≡ self.now }
-        ensures few { length self.now ≤ 8 }
+        ensures few { length self.now ≤ MAX_TOKEN_LEN }
     {
         self.bytes.as_slice()
     }

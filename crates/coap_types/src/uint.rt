@@ -1,5 +1,6 @@
-ghost use Rattle.std.specs.Prelude.{◌≡◌, ◌≤◌, ◌<◌, ◌∷◌, List, ℕ, Some, length};
-ghost use Rattle.coap_types.specs.Uint.{AreBytes, IsSpelling, LeadsWithNoZero, number_of, uint_value};
+ghost use Rattle.std.specs.Prelude.{◌≡◌, ◌≤◌, ◌<◌, ◌^◌, ◌∷◌, List, ℕ, Some, length};
+ghost use Rattle.coap_types.specs.Bytes.{AreBytes};
+ghost use Rattle.coap_types.specs.Uint.{IsSpelling, LeadsWithNoZero, number_of, uint, uint_value};
 
 use arrayvec::ArrayVec;
 use std::marker::Model;
@@ -18,13 +19,15 @@ pub struct UintBytes {
 
 impl Model for UintBytes {
     ghost use Rattle.std.specs.Prelude.{ℕ, List, ◌≤◌, length};
+    ghost use Rattle.coap_types.specs.declared.uint.TheConstants.{MAX_UINT_LEN};
+    ghost use Rattle.coap_types.specs.Bytes.{AreBytes};
     ghost use Rattle.coap_types.specs.Uint.{LeadsWithNoZero};
 
     ghost Value = { List ℕ };
 
     ghost view = { λ u. u.bytes.items };
 
-    ghost invariant = { λ u. (length u.bytes.items ≤ 4) × LeadsWithNoZero u.bytes.items };
+    ghost invariant = { λ u. (length u.bytes.items ≤ MAX_UINT_LEN) × LeadsWithNoZero u.bytes.items × AreBytes u.bytes.items };
 }
 
 impl UintBytes {
@@ -33,6 +36,7 @@ impl UintBytes {
         ensures bytes { result.now ≡ self.now }
         ensures few { length self.now ≤ MAX_UINT_LEN }
         ensures no_zero { LeadsWithNoZero self.now }
+        ensures are_bytes { AreBytes self.now }
     {
         self.bytes.as_slice()
     }
@@ -57,6 +61,7 @@ pub fn uint_of(bytes: &[u8]) -> Option<u32>
 /// The fewest bytes that spell this number, in network byte order; none for 0 (RFC 7252, section
 /// 3.2).
 pub fn uint_bytes(number: u32) -> UintBytes
+    ensures bytes { result ≡ uint number }
     ensures spelling { IsSpelling result number }
     ensures read_back { uint_value result ≡ Some number }
 {
@@ -73,12 +78,16 @@ pub fn uint_bytes(number: u32) -> UintBytes
     UintBytes { bytes }
 }
 
-/// The laws of the uint format (RFC 7252, section 3.2): a zero byte in front changes nothing; where
-/// none leads, no fewer bytes spell the number; and a number has one such spelling.
+/// The laws of the uint format (RFC 7252, section 3.2): a zero byte in front changes nothing; a
+/// number of 32 bits is spelt by bytes of which none leads with zero, at most 4, and read back from
+/// them; no fewer bytes spell it; and a number has one such spelling.
 pub fn uint_laws()
     ensures leading_zero { (bytes : List ℕ) → number_of (0 ∷ bytes) ≡ number_of bytes }
+    ensures spelling { (number : ℕ) → number < 2 ^ 32 → IsSpelling (uint number) number }
+    ensures few { (number : ℕ) → length (uint number) ≤ MAX_UINT_LEN }
+    ensures read_back { (number : ℕ) → number < 2 ^ 32 → uint_value (uint number) ≡ Some number }
     ensures fewest { (xs ys : List ℕ) (number : ℕ) → IsSpelling xs number → AreBytes ys
         → number_of ys ≡ number → length xs ≤ length ys }
-    ensures one_spelling { (xs ys : List ℕ) (number : ℕ) → AreBytes xs → AreBytes ys
-        → IsSpelling xs number → IsSpelling ys number → xs ≡ ys }
+    ensures one_spelling { (xs ys : List ℕ) (number : ℕ) → IsSpelling xs number → IsSpelling ys number
+        → xs ≡ ys }
 {}

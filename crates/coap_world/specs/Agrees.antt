@@ -6,13 +6,13 @@ use Rattle.coap_types.specs.declared.request.Method.TheVariants.{Get, Post, Put,
 use Rattle.coap_resource.specs.Content.{Held}
 use Rattle.coap_resource.specs.RequestOptions.{tag_of}
 use Rattle.coap_ends.specs.ClientTrace.{Request, Body, Done, Failed}
-use Rattle.coap_ends.specs.ClientEnds.{AllEnds}
-use Rattle.coap_ends.specs.ClientFollows.{ReportedOnce}
-use Rattle.coap_ends.specs.ClientGives.{made, given}
-use Rattle.coap_ends.specs.ClientNumbering.{OneCall}
-use Rattle.coap_ends.specs.ClientQueue.{StartsInOrder, AllTaken}
-use Rattle.coap_ends.specs.ServerFollows.{Serving, is_applied}
-use Rattle.coap_ends.specs.ServerWaits.{ReadyAreServed}
+use Rattle.coap_ends.specs.Follows.ClientEnds.{AllEnds}
+use Rattle.coap_ends.specs.Follows.ClientFollows.{ReportedOnce}
+use Rattle.coap_ends.specs.Follows.ClientGives.{made, given}
+use Rattle.coap_ends.specs.Follows.ClientNumbering.{OneCall}
+use Rattle.coap_ends.specs.Follows.ServerFollows.{Serving, is_applied}
+use Rattle.coap_ends.specs.Follows.ClientQueue.{StartsInOrder, AllTaken}
+use Rattle.coap_ends.specs.Follows.ServerWaits.{ReadyAreServed}
 use Rattle.coap_world.specs.Events.{client_end, Config}
 use Rattle.coap_world.specs.Holds.{HoldsChanges, ChangesOwned}
 use Rattle.coap_world.specs.Local.{LocalRight}

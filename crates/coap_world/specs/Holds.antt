@@ -3,7 +3,7 @@ use Rattle.std.specs.Prelude.{◌≡◌, ◌⊎◌, ℕ, ◌+◌, true, None, So
 use Rattle.coap_types.specs.Past.{Always}
 use Rattle.coap_ends.specs.ServerTrace as S
 use Rattle.coap_ends.specs.ServerLaw.{own_of}
-use Rattle.coap_ends.specs.ServerFollows.{Serving, is_applied, Change, change}
+use Rattle.coap_ends.specs.Follows.ServerFollows.{Serving, is_applied, Change, change}
 use Rattle.coap_world.specs.Events.{Config}
 use Rattle.coap_world.specs.Record.{Entry, OfClient, OfServer, server_trace}
 use Rattle.coap_world.specs.Words.{ServesAt, holds_at, last_at, changes_in}

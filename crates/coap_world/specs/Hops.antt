@@ -4,8 +4,8 @@ use Rattle.coap_types.specs.Past.{Ever, all_of}
 use Rattle.coap_types.specs.declared.endpoint.Endpoint.{Endpoint}
 use Rattle.coap_layer.specs.Channel.{Hop, Near, Far, OnNear, OnFar}
 use Rattle.coap_layer.specs.Sends.{IsIn}
-use Rattle.coap_layer.specs.State.{start}
-use Rattle.coap_layer.specs.Steps.{Asked, left_after, entries}
+use Rattle.coap_layer.specs.Machine.State.{start}
+use Rattle.coap_layer.specs.Machine.Steps.{Asked, left_after, entries}
 use Rattle.coap_layer.specs.Trace as L
 use Rattle.coap_exchange.specs.AskerTrace as A
 use Rattle.coap_exchange.specs.AskerLaw as asker

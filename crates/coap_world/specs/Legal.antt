@@ -2,10 +2,10 @@
 -- what comes from an end's address was given out by that end.
 use Rattle.std.specs.Prelude.{◌≡◌, ◌≢◌, ◌⊎◌, ◌≤◌, ◌<◌, ℕ, ◌+◌, ◌^◌, IfSome, List, [], ◌∷◌, length, All}
 use Rattle.coap_types.specs.Past.{Always}
-use Rattle.coap_types.specs.Path.{HoldsAtMost}
+use Rattle.coap_types.specs.Path.{IsPath}
 use Rattle.coap_types.specs.declared.endpoint.Endpoint.{Endpoint}
 use Rattle.coap_types.specs.declared.transmission.TheConstants.{MAX_LATENCY_MS as max_latency}
-use Rattle.coap_codec.specs.Message.{AreBytes}
+use Rattle.coap_types.specs.Bytes.{AreBytes}
 use Rattle.coap_ends.specs.ClientTrace.{Request}
 use Rattle.coap_ends.specs.ServerTrace.{Delay}
 use Rattle.coap_resource.specs.declared.tally.TheConstants.{MAX_CHANGES_PER_WINDOW as max_changes}
@@ -30,10 +30,6 @@ MayCome past at (StrangerToServer from bytes) = (from ≢ client_end) × (from �
 MayCome past at what = Unit {0}
 
 -- each number is in the range of its type
-
-pub record IsPath (path : List (List ℕ)) : Type 0 where
-  pub bounds : HoldsAtMost 16 255 path
-  pub bytes : All AreBytes path
 
 pub record IsEndpoint (e : Endpoint) : Type 0 where
   pub four : length e.ip ≡ 4

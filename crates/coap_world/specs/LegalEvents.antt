@@ -2,7 +2,7 @@
 use Rattle.std.specs.Prelude.{◌≡◌, ◌≢◌, ◌⊎◌, ◌≤◌, ◌<◌, ℕ, ◌+◌, ◌^◌, Option, Some, IfSome, List, [], ◌∷◌, length, All}
 use Rattle.coap_types.specs.declared.endpoint.Endpoint.{Endpoint}
 use Rattle.coap_world.specs.Events.{client_end, server_end, Config, What, Calls, Sets, Removes, TickClient, TickServer, Deliver, StrangerToServer, StrangerToClient, Event}
-use Rattle.coap_codec.specs.Message.{AreBytes}
+use Rattle.coap_types.specs.Bytes.{AreBytes}
 use Rattle.coap_ends.specs.ClientTrace.{Request}
 use Rattle.coap_world.specs.GoesOn.{MayHappen}
 use Rattle.coap_world.specs.Legal.{AllLegal}

@@ -5,8 +5,8 @@ use Rattle.coap_types.specs.declared.endpoint.Endpoint.{Endpoint}
 use Rattle.coap_types.specs.declared.request.Method.TheVariants.{Get, Post, Put, Delete}
 use Rattle.coap_ends.specs.ClientReports.{created, changed}
 use Rattle.coap_ends.specs.ClientTrace.{Body, Done, Failed, Timeout, Reported, Request}
-use Rattle.coap_ends.specs.ClientQueue.{taken_in, started_in}
-use Rattle.coap_ends.specs.ServerFollows.{Serving, is_applied, held_at}
+use Rattle.coap_ends.specs.Follows.ClientQueue.{taken_in, started_in}
+use Rattle.coap_ends.specs.Follows.ServerFollows.{Serving, is_applied, held_at}
 use Rattle.coap_ends.specs.ServerTrace.{Delay}
 use Rattle.coap_world.specs.Words.{ReportsAt, ServesAt, AppliesFor, holds_at, changes_in}
 use Rattle.coap_world.specs.Agrees.{HeldSince, AppliesSince}

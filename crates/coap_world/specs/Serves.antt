@@ -8,12 +8,12 @@ use Rattle.coap_resource.specs.RequestOptions.{precondition_fails}
 use Rattle.coap_resource.specs.Serves.{Question}
 use Rattle.coap_resource.specs.Serves as R
 use Rattle.coap_exchange.specs.declared.answerer.Asked.{Asked}
-use Rattle.coap_ends.specs.ServerBrings.{Brings}
-use Rattle.coap_ends.specs.ServerChecks.{path_of}
-use Rattle.coap_ends.specs.ServerFollows.{Serving, is_applied}
+use Rattle.coap_ends.specs.Follows.ServerBrings.{Brings}
+use Rattle.coap_types.specs.RequestPath.{path_of}
+use Rattle.coap_ends.specs.Follows.ServerFollows.{Serving, is_applied}
 use Rattle.coap_ends.specs.ServerLaw.{own_of}
 use Rattle.coap_ends.specs.ServerSteps.{delay_of}
-use Rattle.coap_ends.specs.ServerTable.{options_of, HasNoFault, question_of}
+use Rattle.coap_ends.specs.Follows.ServerTable.{options_of, HasNoFault, question_of}
 use Rattle.coap_ends.specs.ServerTrace.{Own}
 use Rattle.coap_world.specs.Events.{Config}
 use Rattle.coap_world.specs.Record.{Entry, OfClient, OfServer, server_trace}

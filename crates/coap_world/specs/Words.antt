@@ -4,9 +4,9 @@ use Rattle.coap_resource.specs.Content.{Held}
 use Rattle.coap_ends.specs.ClientTrace.{Request, Reported}
 use Rattle.coap_ends.specs.ClientSteps.{reports}
 use Rattle.coap_ends.specs.ClientLaw as C
-use Rattle.coap_ends.specs.ClientFollows.{WasTaken, WasSent}
+use Rattle.coap_ends.specs.Follows.ClientFollows.{WasTaken, WasSent}
 use Rattle.coap_ends.specs.ServerLaw.{own_of}
-use Rattle.coap_ends.specs.ServerFollows.{Serving, serving, is_applied, held_at, changes}
+use Rattle.coap_ends.specs.Follows.ServerFollows.{Serving, serving, is_applied, held_at, changes}
 use Rattle.coap_world.specs.Events.{client_end, Config}
 use Rattle.coap_world.specs.Record.{Entry, OfClient, OfServer, client_of, server_trace}
 

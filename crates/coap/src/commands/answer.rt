@@ -1,10 +1,12 @@
 ghost use Rattle.std.specs.Prelude.{◌<◌, Some, IfOk, IfSome, IfNone, length};
 ghost use Rattle.coap_resource.specs.Content.{Changes, nothing};
 ghost use Rattle.coap_resource.specs.Entries.{content_of};
+ghost use Rattle.coap.specs.Statuses.{IsCarriedOut};
 
 use crate::commands::{Status, Stop};
-use crate::reply::{MAX_MESSAGE_LEN, Unanswered, first_reply};
+use crate::reply::{Unanswered, first_reply};
 use coap_resource::{ListStore, MAX_CHANGES_PER_WINDOW, Store, StoreRefusal};
+use coap_types::limits::{MAX_BODY_LEN, MAX_MESSAGE_LEN};
 use coap_types::{Moment, Path};
 use std::alloc::{AllocError, Global};
 use std::io::Write;
@@ -12,17 +14,14 @@ use std::io::Write;
 /// Content-Format 0: text/plain (RFC 7252, section 12.3).
 const TEXT_PLAIN: u16 = 0;
 
-/// The number of the refusal of a body that is too large.
-const TOO_LARGE: u8 = 2;
-
-const _: () = prove!(TEXT_PLAIN == 0 && TOO_LARGE == 2);
+const _: () = prove!(TEXT_PLAIN == 0);
 
 /// A store that holds this body at this path alone, as its first change; None where the body is
 /// too large.
 fn store_of(alloc: Global, path: &Path, body: &[u8]) -> Result<Option<ListStore>, AllocError>
-    ensures holds { IfOk result (λ made. IfSome made (λ store. Changes (nothing 4194303) 0 path.now
+    ensures holds { IfOk result (λ made. IfSome made (λ store. Changes (nothing MAX_CHANGES_PER_WINDOW) 0 path.now
         (Some (record { version = 1; format = Some TEXT_PLAIN; body = body.now })) (content_of store))) }
-    ensures large { IfOk result (λ made. IfNone made (65536 < length body.now)) }
+    ensures large { IfOk result (λ made. IfNone made (MAX_BODY_LEN < length body.now)) }
 {
     let Some(mut store) = ListStore::new(alloc, MAX_CHANGES_PER_WINDOW) else {
         unreachable!()
@@ -41,9 +40,12 @@ pub fn answer<W: Write>(
     body: &str,
     datagram: &[u8],
     out: &mut W,
-) -> Result<Status, Stop> {
+) -> Result<Status, Stop>
+    ensures { IfOk result IsCarriedOut }
+{
     let Some(mut store) = store_of(alloc, path, body.as_bytes())? else {
-        writeln!(out, "refused {TOO_LARGE}")?;
+        let number = StoreRefusal::TooLarge.number();
+        writeln!(out, "refused {number}")?;
         return Ok(Status::Refused);
     };
     let mut room = [0; MAX_MESSAGE_LEN];

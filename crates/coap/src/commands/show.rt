@@ -1,3 +1,6 @@
+ghost use Rattle.std.specs.Prelude.{IfOk};
+ghost use Rattle.coap.specs.Statuses.{IsCarriedOut};
+
 use crate::commands::{Status, Stop};
 use crate::text::hex_or_dash;
 use coap_codec::{Fault, View, decode};
@@ -5,15 +8,19 @@ use std::alloc::Global;
 use std::io::Write;
 
 /// Prints what the datagram spells: a message, or the first fault.
-pub fn show<W: Write>(alloc: Global, datagram: &[u8], out: &mut W) -> Result<Status, Stop> {
+pub fn show<W: Write>(alloc: Global, datagram: &[u8], out: &mut W) -> Result<Status, Stop>
+    ensures { IfOk result IsCarriedOut }
+{
     match decode(datagram) {
         Ok(message) => show_message(alloc, &message, out),
         Err(fault) => show_fault(&fault, out),
     }
 }
 
-/// Kind, code, Message ID and token, then a line for each option, then the payload.
-fn show_message<W: Write>(alloc: Global, message: &View<'_>, out: &mut W) -> Result<Status, Stop> {
+// Kind, code, Message ID and token, then a line for each option, then the payload.
+fn show_message<W: Write>(alloc: Global, message: &View<'_>, out: &mut W) -> Result<Status, Stop>
+    ensures { IfOk result IsCarriedOut }
+{
     let kind = message.kind();
     let code = message.code();
     let id = message.id().0;
@@ -31,8 +38,10 @@ fn show_message<W: Write>(alloc: Global, message: &View<'_>, out: &mut W) -> Res
     Ok(Status::Done)
 }
 
-/// The number of the reason, its name and its place.
-fn show_fault<W: Write>(fault: &Fault, out: &mut W) -> Result<Status, Stop> {
+// The number of the reason, its name and its place.
+fn show_fault<W: Write>(fault: &Fault, out: &mut W) -> Result<Status, Stop>
+    ensures { IfOk result IsCarriedOut }
+{
     let number = fault.reason.number();
     let reason = fault.reason;
     let at = fault.at;

@@ -1,4 +1,5 @@
 ghost use Rattle.std.specs.Prelude.{◌≤◌, length};
+ghost use Rattle.coap_types.specs.declared.limits.TheConstants.{MAX_MESSAGE_LEN as max_message_len};
 
 use super::sendings::plain_content;
 use super::{THERE, at_port, confirm_get, is_sent};
@@ -8,7 +9,7 @@ use std::alloc::{AllocError, AllocGlobal, Global};
 use std::process::Abort;
 use std::test::*;
 
-/// What an arrival came to, without the message.
+// What an arrival came to, without the message.
 #[derive(Clone, Copy, Debug, PartialEq, Eq)]
 enum Came {
     Dropped,
@@ -39,7 +40,7 @@ fn outcome(up: &Up<'_>) -> Came {
     }
 }
 
-/// Hands in a datagram: what it came to, and what is sent at once.
+// Hands in a datagram: what it came to, and what is sent at once.
 fn arrives<R: Abort + AllocGlobal>(
     rt: &R,
     layer: &mut Layer<Global>,
@@ -171,7 +172,7 @@ fn what_is_outstanding_is_acknowledged_and_reset(rt: HostRuntime) -> Result<(), 
     )
 }
 
-/// Answers the request that is handed in.
+// Answers the request that is handed in.
 fn is_answered<R: Abort + AllocGlobal>(
     rt: &R,
     layer: &mut Layer<Global>,
@@ -179,7 +180,7 @@ fn is_answered<R: Abort + AllocGlobal>(
     request: &[u8],
     reply: &[u8],
 ) -> Result<(), AllocError>
-    requires { length reply.now ≤ 1152 }
+    requires { length reply.now ≤ max_message_len }
 {
     match layer.receive(Moment(now), THERE, request)? {
         Up::Request { message, .. } => {
@@ -242,7 +243,7 @@ fn a_full_table_forgets_nothing(rt: HostRuntime) -> Result<(), AllocError> {
     arrives(&rt, &mut layer, 247_001, get, Came::Request, &[])
 }
 
-/// Sends so many Non-confirmable messages.
+// Sends so many Non-confirmable messages.
 fn sends_plain<R: Abort + AllocGlobal>(rt: &R, layer: &mut Layer<Global>, count: u32) {
     for _ in 0..count {
         assert!(rt; plain_content(rt, layer, 0).is_ok());

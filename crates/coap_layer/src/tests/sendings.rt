@@ -7,7 +7,7 @@ use std::test::*;
 
 const GET_0000: &[u8] = &[0x40, 0x01, 0x00, 0x00];
 
-/// A tick at which nothing is due.
+// A tick at which nothing is due.
 fn is_idle<R: Abort + AllocGlobal>(
     rt: &R,
     layer: &mut Layer<Global>,
@@ -18,7 +18,7 @@ fn is_idle<R: Abort + AllocGlobal>(
     Ok(())
 }
 
-/// A tick that sends the first message again.
+// A tick that sends the first message again.
 fn is_copied<R: Abort + AllocGlobal>(
     rt: &R,
     layer: &mut Layer<Global>,
@@ -39,7 +39,7 @@ fn has_failed<R: Abort + AllocGlobal>(
     is_idle(rt, layer, now)
 }
 
-/// Begins a message at a moment, with a word, and ticks to its failure.
+// Begins a message at a moment, with a word, and ticks to its failure.
 fn runs<R: Abort + AllocGlobal>(
     rt: &R,
     word: u64,
@@ -74,7 +74,7 @@ fn a_copy_is_not_sent_too_late(rt: HostRuntime) -> Result<(), AllocError> {
     has_failed(&rt, &mut layer, 93_000)
 }
 
-/// With a fourth copy that is due at 45,000 ms, a tick at this moment.
+// With a fourth copy that is due at 45,000 ms, a tick at this moment.
 fn late_copy<R: Abort + AllocGlobal>(rt: &R, now: u64) -> Result<Tick, AllocError> {
     let mut layer = Layer::new(rt.alloc(), 0);
     assert_eq!(rt; confirm_get(rt, &mut layer, 0, THERE, 1_000), Ok(Id(0)));

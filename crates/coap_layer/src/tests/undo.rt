@@ -9,7 +9,7 @@ const POST: &[u8] = &[0x40, 0x02, 0x00, 0x09];
 
 const CHANGED: &[u8] = &[0x60, 0x44, 0x00, 0x09];
 
-/// Takes back a request.
+// Takes back a request.
 fn taken_back<R: Abort + AllocGlobal>(
     rt: &R,
     layer: &mut Layer<Global>,
@@ -30,7 +30,7 @@ fn taken_back<R: Abort + AllocGlobal>(
     Ok(())
 }
 
-/// Takes back a request together with the reply to it.
+// Takes back a request together with the reply to it.
 fn taken_back_with_reply<R: Abort + AllocGlobal>(
     rt: &R,
     layer: &mut Layer<Global>,

@@ -1,7 +1,7 @@
 -- What a turn leaves: no clock is past it, nothing waits, what was given out is in the hops, and the hops are fair.
 use Rattle.std.proofs.Common.{◌≡◌, inl, inr, ℕ, List, [], ◌∷◌, ◌++◌, map, refl, ap, subst, arith}
 use Rattle.coap_types.specs.Past.{Ever, Always, all_of}
-use Rattle.coap_types.proofs.PastLemmas.{Ever_back}
+use Rattle.coap_types.proofs.Facts.Traces.{Ever_back}
 use Rattle.coap_types.specs.declared.endpoint.Endpoint.{Endpoint}
 use Rattle.coap_layer.specs.Trace.{Receive, Entry}
 use Rattle.coap_layer.specs.Words.{waiting}

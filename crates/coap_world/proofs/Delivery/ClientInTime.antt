@@ -2,8 +2,8 @@
 use Rattle.std.proofs.Common.{◌≡◌, ◌≤◌, ℕ, max, Bool, true, false, Option, Some, None, List, [], ◌∷◌, ◌++◌, Result, refl, ap, sym, subst, ◌∙◌, arith, append_assoc}
 use Rattle.coap_types.specs.declared.endpoint.Endpoint.{Endpoint}
 use Rattle.coap_layer.specs.Trace as L
-use Rattle.coap_layer.specs.State.{State, start}
-use Rattle.coap_layer.specs.Steps.{left_after}
+use Rattle.coap_layer.specs.Machine.State.{State, start}
+use Rattle.coap_layer.specs.Machine.Steps.{left_after}
 use Rattle.coap_exchange.specs.declared.asker.AskRefusal.{AskRefusal}
 use Rattle.coap_exchange.specs.declared.asker.Exchange.{Exchange}
 use Rattle.coap_exchange.specs.declared.matching.Opening.{Opening}

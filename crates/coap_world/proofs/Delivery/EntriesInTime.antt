@@ -2,8 +2,8 @@
 use Rattle.std.proofs.Common.{◌≡◌, ◌⊎◌, inl, inr, ◌≤◌, ℕ, List, [], ◌∷◌, ◌++◌, refl, arith}
 use Rattle.coap_types.specs.Past.{Always}
 use Rattle.coap_types.specs.declared.endpoint.Endpoint.{Endpoint}
-use Rattle.coap_layer.specs.State.{State, moment, made}
-use Rattle.coap_layer.specs.Steps.{Asked, left_after, entries}
+use Rattle.coap_layer.specs.Machine.State.{State, moment, made}
+use Rattle.coap_layer.specs.Machine.Steps.{Asked, left_after, entries}
 use Rattle.coap_layer.specs.Trace.{Call, Receive, Reply, Confirm, Plain, Settle, Ticks, Take, Room, AsksFree, Pass, Answer, Entry}
 
 -- each of a list

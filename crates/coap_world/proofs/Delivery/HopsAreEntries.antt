@@ -2,8 +2,8 @@
 use Rattle.std.proofs.Common.{◌≡◌, ℕ, true, List, [], ◌∷◌, ◌++◌, map, refl, ap, sym, ◌∙◌, append_assoc}
 use Rattle.coap_types.specs.declared.endpoint.Endpoint.{Endpoint}
 use Rattle.coap_layer.specs.Channel.{Hop, Near, Far, near_of, far_of}
-use Rattle.coap_layer.specs.State.{State, start, made, after, forgotten}
-use Rattle.coap_layer.specs.Steps.{Asked, left_after, entries}
+use Rattle.coap_layer.specs.Machine.State.{State, start, made, after, forgotten}
+use Rattle.coap_layer.specs.Machine.Steps.{Asked, left_after, entries}
 use Rattle.coap_layer.specs.Trace as L
 use Rattle.coap_exchange.specs.AskerTrace as A
 use Rattle.coap_exchange.specs.AskerLaw as asker

@@ -1,11 +1,11 @@
 -- The hops of a legal run are fair: what comes from an end's address was sent by that end's layer, at most 100,000 ms before.
 use Rattle.std.proofs.Common.{◌≡◌, ◌⊎◌, inl, inr, ◌≤◌, ℕ, true, List, [], ◌∷◌, ◌++◌, map, refl, ap, sym, subst, ◌∙◌, arith}
 use Rattle.coap_types.specs.Past.{Ever, Always, all_of}
-use Rattle.coap_types.proofs.PastLemmas.{Ever_append, Ever_back, Ever_map}
+use Rattle.coap_types.proofs.Facts.Traces.{Ever_append, Ever_back, Ever_map}
 use Rattle.coap_types.specs.declared.endpoint.Endpoint.{Endpoint}
 use Rattle.coap_layer.specs.Channel.{Hop, Near, Far, OnNear, OnFar, GaveOut, IsFair}
-use Rattle.coap_layer.specs.State.{start}
-use Rattle.coap_layer.specs.Steps.{left_after, entries}
+use Rattle.coap_layer.specs.Machine.State.{start}
+use Rattle.coap_layer.specs.Machine.Steps.{left_after, entries}
 use Rattle.coap_layer.specs.Trace as L
 use Rattle.coap_layer.specs.Words.{waiting}
 use Rattle.coap_ends.specs.ServerTrace as S

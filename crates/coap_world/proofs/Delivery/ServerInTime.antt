@@ -5,8 +5,8 @@ use Rattle.coap_types.specs.declared.message.Kind.{Kind}
 use Rattle.coap_types.specs.declared.message.Kind.TheVariants.{Con, Non, Ack, Rst}
 use Rattle.coap_codec.specs.Message.{Message}
 use Rattle.coap_layer.specs.Trace as L
-use Rattle.coap_layer.specs.State.{State, start}
-use Rattle.coap_layer.specs.Steps.{left_after}
+use Rattle.coap_layer.specs.Machine.State.{State, start}
+use Rattle.coap_layer.specs.Machine.Steps.{left_after}
 use Rattle.coap_exchange.specs.declared.answerer.Asked as request
 use Rattle.coap_exchange.specs.declared.answerer.Due.{Due}
 use Rattle.coap_exchange.specs.declared.answerer.Due.TheVariants as due

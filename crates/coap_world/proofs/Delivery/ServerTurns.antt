@@ -5,13 +5,13 @@ use Rattle.coap_types.specs.Past.{Ever, Always, all_of}
 use Rattle.coap_types.specs.declared.endpoint.Endpoint.{Endpoint}
 use Rattle.coap_layer.specs.Channel.{Far, OnNear, OnFar, GaveOut, IsFair}
 use Rattle.coap_layer.specs.Rows.{LayerLaw}
-use Rattle.coap_layer.specs.State.{State, start, made}
-use Rattle.coap_layer.specs.Steps.{Steps, left_after}
+use Rattle.coap_layer.specs.Machine.State.{State, start, made}
+use Rattle.coap_layer.specs.Machine.Steps.{Steps, left_after}
 use Rattle.coap_layer.specs.Trace as L
 use Rattle.coap_layer.specs.Trace.{Packet}
 use Rattle.coap_layer.specs.Words.{waiting}
-use Rattle.coap_layer.proofs.StepsLemmas.{steps_left, led_steps}
-use Rattle.coap_exchange.proofs.AskerLeading.{steps_split}
+use Rattle.coap_layer.proofs.Facts.Calls.{steps_left, led_steps}
+use Rattle.coap_exchange.proofs.Facts.StepsOfLayer.{steps_split}
 use Rattle.coap_ends.specs.ServerTrace.{Call, NextOut}
 use Rattle.coap_world.specs.Delivery.{FedToServer}
 use Rattle.coap_world.specs.Events.{client_end, server_end, Config}

@@ -1,13 +1,13 @@
 -- What is taken in a turn was sent in that turn: each turn before took all that waited.
 use Rattle.std.proofs.Common.{◌≡◌, ◌⊎◌, inl, inr, ◌≤◌, ℕ, zero, suc, Option, Some, None, List, [], ◌∷◌, ◌++◌, drop, slice_get, refl, ap, sym, subst, ◌∙◌, arith}
 use Rattle.coap_types.specs.Past.{Ever}
-use Rattle.coap_types.proofs.PastLemmas.{Ever_back, Ever_by_law}
+use Rattle.coap_types.proofs.Facts.Traces.{Ever_back, Ever_by_law}
 use Rattle.coap_types.specs.declared.endpoint.Endpoint.{Endpoint}
 use Rattle.coap_layer.specs.Trace.{Packet, Take, Gives, Entry}
 use Rattle.coap_layer.specs.Words.{waiting, takes_in}
 use Rattle.coap_layer.specs.Rows.{LayerLaw, Row}
 use Rattle.coap_layer.specs.Sends.{IsIn}
-use Rattle.coap_layer.proofs.OrderLemmas.{taken_since}
+use Rattle.coap_layer.proofs.Facts.Laws.{taken_since}
 use Rattle.coap_world.specs.Hops.{SendsAt}
 use Rattle.coap_world.proofs.Delivery.EntriesInTime.{Every, every_join, every_map, Timely}
 

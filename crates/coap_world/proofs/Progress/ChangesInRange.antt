@@ -2,10 +2,10 @@
 use Rattle.std.proofs.Common.{inl, inr, ℕ, Bool, true, false, Some, None, List, [], ◌∷◌, ◌++◌, map, sym, subst}
 use Rattle.std.specs.Prelude.{IfSome, ◌^◌, ◌<◌}
 use Rattle.coap_types.specs.Past.{Always}
-use Rattle.coap_codec.specs.Message.{AreBytes}
+use Rattle.coap_types.specs.Bytes.{AreBytes}
 use Rattle.coap_layer.specs.Trace.{Packet}
 use Rattle.coap_ends.specs.ClientTrace as C
-use Rattle.coap_ends.specs.ServerShows.{FormatInRange, FormatsInRange}
+use Rattle.coap_ends.specs.Follows.ServerShows.{FormatInRange, FormatsInRange}
 use Rattle.coap_ends.specs.ServerTrace as S
 use Rattle.coap_world.proofs.Delivery.EntriesInTime.{Every, every_map}
 use Rattle.coap_world.proofs.Progress.ServerSendsBytes.{BodyAre}

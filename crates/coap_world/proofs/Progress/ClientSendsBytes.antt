@@ -1,12 +1,12 @@
 -- What a client sends is of bytes, where the paths and the bodies of its calls are (RFC 7252, sections 3 and 5.10).
-use Rattle.std.proofs.Common.{◌≡◌, inr, ℕ, ◌<◌, ◌/◌, ◌%◌, ◌==◌, ◌^◌, ◌++◌, max, nat_lt, Bool, true, false, Option, Some, None, List, [], ◌∷◌, refl, ap, sym, subst, cond, mod-lt, arith, suc, Result}
+use Rattle.std.proofs.Common.{◌≡◌, inr, ℕ, ◌<◌, ◌^◌, ◌++◌, max, Bool, true, false, Option, Some, None, List, [], ◌∷◌, refl, ap, sym, subst, arith, suc, Result}
 use Rattle.std.specs.Prelude.{All, IfSome}
 use Rattle.coap_types.specs.Past.{Ever}
+use Rattle.coap_types.proofs.Facts.Uints.{uint_spells}
 use Rattle.coap_types.specs.declared.endpoint.Endpoint.{Endpoint}
 use Rattle.coap_types.specs.declared.request.Method.{Method}
 use Rattle.coap_types.specs.declared.request.Method.TheVariants.{Get, Post, Put, Delete}
-use Rattle.coap_codec.specs.Message.{AreBytes}
-use Rattle.coap_layer.proofs.ListLemmas.{lt_true}
+use Rattle.coap_types.specs.Bytes.{AreBytes}
 use Rattle.coap_layer.specs.Sends.{IsIn}
 use Rattle.coap_layer.specs.Trace as L
 use Rattle.coap_exchange.specs.declared.asker.AskRefusal.{AskRefusal}
@@ -21,15 +21,17 @@ use Rattle.coap_exchange.specs.AskerArrivals as R
 use Rattle.coap_exchange.specs.AskerSteps as P
 use Rattle.coap_exchange.specs.AskerLaw as W
 use Rattle.coap_exchange.specs.Tokens.{token_of}
-use Rattle.coap_exchange.proofs.AskerLeading.{layer_stands}
+use Rattle.coap_exchange.proofs.Facts.ClientSide.{layer_stands}
 use Rattle.coap_ends.specs.ClientTrace.{Request, Operation, Call, Calls, Feeds, Ticks, NextOut, NextReport}
-use Rattle.coap_ends.specs.ClientRequests.{uint, uint_option, path_options, more_options, payload_by}
-use Rattle.coap_ends.specs.ClientSteps.{is_idle, starting, asking}
+use Rattle.coap_types.specs.Uint.{uint}
+use Rattle.coap_types.specs.OptionValues.{uint_option}
+use Rattle.coap_ends.specs.ClientRequests.{path_options, more_options, payload_by}
+use Rattle.coap_ends.specs.ClientSteps.{starting, asking}
 use Rattle.coap_ends.specs.ClientLaw.{ClientLaw, own_of, lower_of, layer_of}
-use Rattle.coap_ends.specs.ClientFollows.{WasTaken}
-use Rattle.coap_ends.proofs.ClientSent.{waiting_taken, first_taken}
+use Rattle.coap_ends.specs.Follows.ClientFollows.{WasTaken}
+use Rattle.coap_ends.proofs.Facts.OfClient.{starts_taken}
 use Rattle.coap_world.specs.Legal.{IsRequest}
-use Rattle.coap_world.proofs.Progress.SpelledInBytes.{ValuesAre, none_are, cons_are, high_are, values_append}
+use Rattle.coap_world.proofs.Progress.SpelledInBytes.{ValuesAre, none_are, high_are, values_append}
 use Rattle.coap_world.proofs.Delivery.EntriesInTime.{Every, every_join}
 use Rattle.coap_world.proofs.Progress.LayerSendsBytes.{ContentAre, CallAre, EachAre, sent_are, ack_are, reset_are, ReplyAre, replying_are}
 
@@ -40,12 +42,7 @@ path_are [] h = tt
 path_are (segment ∷ path) h = (h 0 [] (omega arith), path_are path (λ i d low. h (suc i) d (omega (arith, low))))
 
 uint_are : (n : ℕ) → n < 65536 → AreBytes (uint n)
-uint_are n low = by (n == 0) (nat_lt n 256) refl
-  where
-    by : (a b : Bool) → nat_lt n 256 ≡ b → AreBytes (cond a [] (cond b (n ∷ []) (n / 256 ∷ n % 256 ∷ [])))
-    by true b h = none_are
-    by false true h = cons_are n [] (lt_true n 256 h) none_are
-    by false false h = cons_are (n / 256) (n % 256 ∷ []) (omega (arith, low)) (cons_are (n % 256) [] (mod-lt n {m = 256} (omega arith)) none_are)
+uint_are n low = (uint_spells n (omega (arith, low))).are_bytes
 
 uint_option_are : (number : ℕ) (o : Option ℕ) → IfSome o (λ f. f < 2 ^ 16) → ValuesAre (uint_option number o)
 uint_option_are number None h = tt
@@ -127,7 +124,7 @@ requests_are (Ticks now word below w sent z answer ∷ t) f =
     let o : Option Operation = starting (own_of t) w in
     every_join _ (asking at o word sent z ++ E.Ticks at below w ∷ []) (lower_of t)
     (every_join _ (asking at o word sent z) (E.Ticks at below w ∷ [])
-    (asking_are at o word sent z (λ op is. f op (inr (first_taken t op (is_idle w) (own_of t).running (own_of t).waiting is (waiting_taken t))))) (tt, tt)) (requests_are t (λ op w. f op (inr w)))
+    (asking_are at o word sent z (λ op is. f op (inr (starts_taken t w op is)))) (tt, tt)) (requests_are t (λ op w. f op (inr w)))
 requests_are (NextOut answer ∷ t) f = (tt, requests_are t (λ op w. f op (inr w)))
 requests_are (NextReport answer ∷ t) f = requests_are t (λ op w. f op (inr w))
 

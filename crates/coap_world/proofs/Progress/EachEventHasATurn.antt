@@ -2,20 +2,20 @@
 use Rattle.std.proofs.Common.{◌≡◌, ◌≤◌, inl, inr, ℕ, Bool, true, false, not, Some, None, List, [], ◌∷◌, ◌++◌, map, length, length-append, refl, ap, sym, subst, ◌∙◌, append_assoc, cond, arith}
 use Rattle.coap_types.specs.Path.{same_path}
 use Rattle.coap_types.specs.declared.endpoint.Endpoint.{Endpoint}
-use Rattle.coap_codec.specs.Message.{AreBytes}
-use Rattle.coap_layer.proofs.ListLemmas.{true_lt}
-use Rattle.coap_layer.specs.State as layer
+use Rattle.coap_types.specs.Bytes.{AreBytes}
+use Rattle.std.proofs.lemmas.Bool.{lt-ltb}
+use Rattle.coap_layer.specs.Machine.State as layer
 use Rattle.coap_ends.specs.ClientTrace as C
 use Rattle.coap_ends.specs.ClientLaw.{ClientLaw}
-use Rattle.coap_ends.specs.Endings.{UpToIdle, all_taken}
+use Rattle.coap_ends.specs.Follows.Endings.{UpToIdle, all_taken}
 use Rattle.coap_ends.specs.ServerTrace as S
 use Rattle.coap_ends.specs.ServerLaw.{ServerLaw, own_of}
-use Rattle.coap_ends.specs.ServerShows.{FormatsInRange}
-use Rattle.coap_ends.specs.ServerSteps.{max_delays, others}
-use Rattle.coap_ends.proofs.ClientGoing as client_going
-use Rattle.coap_ends.proofs.ClientResting as client_resting
-use Rattle.coap_ends.proofs.ServerGoing as server_going
-use Rattle.coap_ends.proofs.ServerResting as server_resting
+use Rattle.coap_ends.specs.Follows.ServerShows.{FormatsInRange}
+use Rattle.coap_ends.specs.declared.limits.TheConstants.{MAX_DELAYS as max_delays}
+use Rattle.coap_ends.specs.ServerSteps.{others}
+use Rattle.coap_ends.specs.Follows.ServerRests.{Stands}
+use Rattle.coap_ends.proofs.Facts.OfClient as client_facts
+use Rattle.coap_ends.proofs.Facts.OfServer as server_facts
 use Rattle.coap_world.specs.Events.{server_end, Config, What, Calls, Sets, Removes, TickClient, TickServer, Deliver, StrangerToClient, StrangerToServer, Event}
 use Rattle.coap_world.specs.GoesOn.{turn_of, MayHappen, Follows, GoesOn, MayRun, HasRecord}
 use Rattle.coap_world.specs.Legal.{IsConfig, AllLegal}
@@ -59,65 +59,65 @@ module _ (config : Config) (events : List Event) (turns : List Turn) (run : Reco
   of_client : (what : What) → MayHappen turns (event what) → (calls : List C.Call) → ClientLaw server_end config.client_szx config.client_word (calls ++ clients)
       → ((entries : List Entry) → OnClient calls entries → Makes turns at word what false entries) → Follows config events turns (event what)
   of_client what may calls law makes =
-      let outs = client_resting.outs_end server_end config.client_szx config.client_word (calls ++ clients) law in
-      let reports = client_resting.reports_end server_end config.client_szx config.client_word (all_taken C.NextOut outs.taken ++ (calls ++ clients)) outs.law in
-      let taken : List C.Call = C.NextOut None ∷ (map (λ p. C.NextOut (Some p)) outs.taken ++ calls) in
-      let given : List C.Call = map (λ r. C.NextReport (Some r)) reports.taken in
+      let outs = (client_facts.rests server_end config.client_szx config.client_word (calls ++ clients) law).outs in
+      let reports = (client_facts.rests server_end config.client_szx config.client_word (all_taken C.NextOut outs.0 ++ (calls ++ clients)) outs.1).reports in
+      let taken : List C.Call = C.NextOut None ∷ (map (λ p. C.NextOut (Some p)) outs.0 ++ calls) in
+      let given : List C.Call = map (λ r. C.NextReport (Some r)) reports.0 in
       let list : List C.Call = C.NextReport None ∷ (given ++ taken) in
-      let same : list ++ clients ≡ all_taken C.NextReport reports.taken ++ (all_taken C.NextOut outs.taken ++ (calls ++ clients)) =
+      let same : list ++ clients ≡ all_taken C.NextReport reports.0 ++ (all_taken C.NextOut outs.0 ++ (calls ++ clients)) =
       ap (λ xs. C.NextReport None ∷ xs)
-      (append_assoc given taken clients ∙ ap (λ xs. given ++ C.NextOut None ∷ xs) (append_assoc (map (λ p. C.NextOut (Some p)) outs.taken) calls clients)) in
-      follows what may (map OfClient list) (makes (map OfClient list) (record { outs = outs.taken; reports = reports.taken; is = refl }))
-      (subst (ClientLaw server_end config.client_szx config.client_word) (sym (client_client list all ∙ same)) reports.law)
+      (append_assoc given taken clients ∙ ap (λ xs. given ++ C.NextOut None ∷ xs) (append_assoc (map (λ p. C.NextOut (Some p)) outs.0) calls clients)) in
+      follows what may (map OfClient list) (makes (map OfClient list) (record { outs = outs.0; reports = reports.0; is = refl }))
+      (subst (ClientLaw server_end config.client_szx config.client_word) (sym (client_client list all ∙ same)) reports.1)
       (subst (λ xs. ServerLaw config.limit config.server_szx config.server_word (xs ++ begun_with config)) (sym (server_client list all)) run.server)
 
   -- a turn of the server: its calls, and all that it has out
-  of_server : (what : What) → MayHappen turns (event what) → (calls : List S.Call) → server_resting.Law config.limit config.server_szx config.server_word (calls ++ servers)
+  of_server : (what : What) → MayHappen turns (event what) → (calls : List S.Call) → Stands config.limit config.server_szx config.server_word (calls ++ servers)
       → ((entries : List Entry) → OnServer calls entries → Makes turns at word what false entries) → Follows config events turns (event what)
   of_server what may calls law makes =
-      let outs = server_resting.outs_end config.limit config.server_szx config.server_word (calls ++ servers) law in
-      let given : List S.Call = map (λ p. S.NextOut (Some p)) outs.taken in
+      let outs = (server_facts.rests config.limit config.server_szx config.server_word (calls ++ servers) law.0 law.1).outs in
+      let given : List S.Call = map (λ p. S.NextOut (Some p)) outs.0 in
       let list : List S.Call = S.NextOut None ∷ (given ++ calls) in
-      let same : (list ++ server_of all) ++ begun_with config ≡ all_taken S.NextOut outs.taken ++ (calls ++ servers) =
+      let same : (list ++ server_of all) ++ begun_with config ≡ all_taken S.NextOut outs.0 ++ (calls ++ servers) =
       append_assoc list (server_of all) (begun_with config) ∙ ap (λ xs. S.NextOut None ∷ xs) (append_assoc given calls servers) in
-      follows what may (map OfServer list) (makes (map OfServer list) (record { outs = outs.taken; is = refl }))
+      follows what may (map OfServer list) (makes (map OfServer list) (record { outs = outs.0; is = refl }))
       (subst (ClientLaw server_end config.client_szx config.client_word) (sym (client_server list all)) run.client)
-      (subst (ServerLaw config.limit config.server_szx config.server_word) (sym (ap (λ xs. xs ++ begun_with config) (server_server list all) ∙ same)) outs.law.0)
+      (subst (ServerLaw config.limit config.server_szx config.server_word) (sym (ap (λ xs. xs ++ begun_with config) (server_server list all) ∙ same)) outs.1.0)
 
   -- a datagram
   to_client : (what : What) → MayHappen turns (event what) → (from : Endpoint) (bytes : List ℕ) → AreBytes bytes
       → ((calls : List C.Call) (entries : List Entry) → IsOne (FeedsClient at word from bytes) false calls → OnClient calls entries → Makes turns at word what false entries) → Follows config events turns (event what)
   to_client what may from bytes are makes =
-      let k = (client_going.goes_on server_end config.client_szx config.client_word clients run.client).feeds at from bytes word are in
+      let k = (client_facts.goes server_end config.client_szx config.client_word clients run.client).feeds at from bytes word are in
       let call : C.Call = C.Feeds at from bytes word k.0 k.1 k.2 in
       of_client what may (call ∷ []) k.3 (λ entries on. makes (call ∷ []) entries (call, (k.0, k.1, k.2, refl), refl) on)
 
   to_server : (what : What) → MayHappen turns (event what) → (from : Endpoint) (bytes : List ℕ) → AreBytes bytes
       → ((calls : List S.Call) (entries : List Entry) → IsOne (FeedsServer at word from bytes) false calls → OnServer calls entries → Makes turns at word what false entries) → Follows config events turns (event what)
   to_server what may from bytes are makes =
-      let k = (server_going.goes_on config.limit config.server_szx config.server_word servers run.server formats).feeds at from bytes word are in
+      let k = (server_facts.goes config.limit config.server_szx config.server_word servers run.server formats).feeds at from bytes word are in
       let call : S.Call = S.Feeds at from bytes word k.0 k.1 k.2 k.3 in
       of_server what may (call ∷ []) (k.4, (tt, formats)) (λ entries on. makes (call ∷ []) entries (call, (k.0, k.1, k.2, k.3, refl), refl) on)
 
   by_what : (what : What) → MayHappen turns (event what) → Follows config events turns (event what)
   by_what (Calls r) may =
-      let k = (client_going.goes_on server_end config.client_szx config.client_word clients run.client).calls at r in
+      let k = (client_facts.goes server_end config.client_szx config.client_word clients run.client).calls at r in
       let call : C.Call = C.Calls at r k.0 in
       of_client (Calls r) may (call ∷ []) k.1 (λ entries on. (call ∷ [], (call, (k.0, refl), refl), on))
   by_what (Sets path format body) may =
-      let k = (server_going.goes_on config.limit config.server_szx config.server_word servers run.server formats).sets at path format body in
+      let k = (server_facts.goes config.limit config.server_szx config.server_word servers run.server formats).sets at path format body in
       let call : S.Call = S.Sets at path format body k.0 k.1 in
       of_server (Sets path format body) may (call ∷ []) (k.2, (may.range.1, formats)) (λ entries on. (call ∷ [], (call, (k.0, k.1, refl), refl), on))
   by_what (Removes path) may =
-      let k = (server_going.goes_on config.limit config.server_szx config.server_word servers run.server formats).removes at path in
+      let k = (server_facts.goes config.limit config.server_szx config.server_word servers run.server formats).removes at path in
       let call : S.Call = S.Removes at path k.0 k.1 in
       of_server (Removes path) may (call ∷ []) (k.2, (tt, formats)) (λ entries on. (call ∷ [], (call, (k.0, k.1, refl), refl), on))
   by_what TickClient may =
-      let k = client_resting.ticks_rest server_end config.client_szx config.client_word at word clients run.client in
-      of_client TickClient may k.calls k.law (λ entries on. (k.calls, are_ticks (ClientTick at word) k.calls k.are, on))
+      let k = (client_facts.rests server_end config.client_szx config.client_word clients run.client).ticks at word in
+      of_client TickClient may k.0 k.2 (λ entries on. (k.0, are_ticks (ClientTick at word) k.0 k.1, on))
   by_what TickServer may =
-      let k = server_resting.ticks_rest config.limit config.server_szx config.server_word at word servers (run.server, formats) in
-      of_server TickServer may k.calls k.law (λ entries on. (k.calls, are_ticks (ServerTick at word) k.calls k.are, on))
+      let k = (server_facts.rests config.limit config.server_szx config.server_word servers run.server formats).ticks at word in
+      of_server TickServer may k.0 k.2 (λ entries on. (k.0, are_ticks (ServerTick at word) k.0 k.1, on))
   by_what (StrangerToClient from bytes) may = to_client (StrangerToClient from bytes) may from bytes may.range.1 (λ calls entries one on. (calls, one, on))
   by_what (StrangerToServer from bytes) may = to_server (StrangerToServer from bytes) may from bytes may.range.1 (λ calls entries one on. (calls, one, on))
   by_what (Deliver number) may =
@@ -162,7 +162,7 @@ module _ (config : Config) where
       let k = few_delays ds in
       let o = few_others d.path have in
       let law = begins_by ds (omega (arith, few)) in
-      record { rows = (sym (true_lt (length (others d.path have)) max_delays (omega (arith, few, k, o))), law.rows); exchanges = law.exchanges }
+      record { rows = (sym (lt-ltb (length (others d.path have)) max_delays (omega (arith, few, k, o))), law.rows); exchanges = law.exchanges }
 
   begins : IsConfig config → RecordOf config [] []
   begins range = record {

@@ -3,12 +3,13 @@
 use Rattle.std.proofs.Common.{ℕ, Bool, true, false, Option, Some, None, List, [], ◌∷◌, ◌++◌, refl, sym, subst, cond}
 use Rattle.coap_types.specs.declared.message.Kind.{Kind}
 use Rattle.coap_types.specs.declared.message.Kind.TheVariants.{Con, Non, Ack, Rst}
-use Rattle.coap_codec.specs.Message.{AreBytes, Message, Spells, header, marked}
-use Rattle.coap_codec.specs.Writing.{message_bytes}
-use Rattle.coap_codec.proofs.StepLemmas.{AreBytes-rest, AreBytes-tail}
-use Rattle.coap_codec.proofs.SoundBytes.{AreBytes-front}
-use Rattle.coap_layer.specs.State as S
-use Rattle.coap_layer.specs.Steps.{Asked as Below, Steps}
+use Rattle.coap_types.specs.Bytes.{AreBytes}
+use Rattle.coap_codec.specs.Message.{Message, Spells, header, marked}
+use Rattle.coap_codec.specs.Spelling.{message_bytes}
+use Rattle.coap_types.proofs.Facts.Bytes.{AreBytes-rest, AreBytes-tail}
+use Rattle.coap_types.proofs.Facts.Bytes.{AreBytes-front}
+use Rattle.coap_layer.specs.Machine.State as S
+use Rattle.coap_layer.specs.Machine.Steps.{Asked as Below, Steps}
 use Rattle.coap_layer.specs.Trace as L
 use Rattle.coap_layer.specs.Trace.{with_head}
 use Rattle.coap_layer.specs.Words.{is_kept}
@@ -47,17 +48,12 @@ answering_are s Ack a r is h k = record { token = h; values = k.values; payload 
 answering_are s Rst a r is h k = record { token = h; values = k.values; payload = k.payload }
 
 reject_are : (up : L.Answer) → ReplyAre (R.id_in up) (P.reject_by up)
-reject_are (L.Response m) = by (is_kept m.kind)
+reject_are (L.Becomes (L.Response m)) = by (is_kept m.kind)
   where
     by : (b : Bool) → ReplyAre m.id (cond b (Some (reset_bytes m.id)) None)
     by true = reset_are m.id
     by false = tt
-reject_are (L.Request m kept) = tt
-reject_are (L.Acked id) = tt
-reject_are (L.Reset id) = tt
-reject_are L.Dropped = tt
-reject_are L.Replayed = tt
-reject_are L.Rejected = tt
+reject_are (L.Becomes u) = tt
 reject_are L.Nothing = tt
 reject_are (L.Is holds) = tt
 reject_are (L.Sent id) = tt

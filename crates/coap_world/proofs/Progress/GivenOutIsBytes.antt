@@ -1,12 +1,12 @@
 -- Each datagram that an end of a legal run gives out is one of bytes (RFC 7252, section 3).
 use Rattle.std.proofs.Common.{◌≡◌, inl, inr, ℕ, List, subst}
 use Rattle.coap_types.specs.Past.{Ever, all_of}
-use Rattle.coap_types.proofs.PastLemmas.{Ever_map, Ever_of_Sometime}
-use Rattle.coap_codec.specs.Message.{AreBytes}
+use Rattle.coap_types.proofs.Facts.Traces.{Ever_map, Ever_of_Sometime}
+use Rattle.coap_types.specs.Bytes.{AreBytes}
 use Rattle.coap_layer.specs.Channel.{Hop, near_of, far_of}
 use Rattle.coap_layer.specs.Sends.{IsIn}
 use Rattle.coap_layer.specs.Trace as L
-use Rattle.coap_layer.proofs.HopLemmas.{near_ever, far_ever}
+use Rattle.coap_layer.proofs.Facts.Hops.{near_ever, far_ever}
 use Rattle.coap_world.specs.Events.{server_end, Config, Event}
 use Rattle.coap_world.specs.Hops.{hops_of, SendsAt}
 use Rattle.coap_world.specs.Legal.{AllLegal}

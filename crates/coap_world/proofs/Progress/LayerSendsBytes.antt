@@ -2,17 +2,17 @@
 use Rattle.std.proofs.Common.{inl, inr, ℕ, ◌<◌, ◌/◌, ◌%◌, Option, Some, None, List, [], ◌∷◌, sym, subst, mod-lt, arith}
 use Rattle.coap_types.specs.Past.{Ever}
 use Rattle.coap_types.specs.declared.endpoint.Endpoint.{Endpoint}
-use Rattle.coap_codec.specs.Message.{AreBytes}
+use Rattle.coap_types.specs.Bytes.{AreBytes}
 use Rattle.coap_layer.specs.Rows.{LayerLaw}
 use Rattle.coap_layer.specs.Sends.{IsIn}
-use Rattle.coap_layer.specs.State.{start}
-use Rattle.coap_layer.specs.Steps.{Asked, entries}
+use Rattle.coap_layer.specs.Machine.State.{start}
+use Rattle.coap_layer.specs.Machine.Steps.{Asked, entries}
 use Rattle.coap_layer.specs.Trace as L
 use Rattle.coap_layer.specs.Trace.{with_head}
 use Rattle.coap_exchange.specs.AskerArrivals.{replying}
 use Rattle.coap_exchange.specs.EmptyMessages.{ack_bytes, reset_bytes}
-use Rattle.coap_ends.proofs.ServerMakes.{called}
-use Rattle.coap_ends.proofs.Sources.{Source, sourced}
+use Rattle.coap_ends.specs.Follows.Sources.{Source}
+use Rattle.coap_ends.proofs.Facts.Sources.{called, sourced}
 use Rattle.coap_world.proofs.Progress.SpelledInBytes.{ValuesAre, none_are, cons_are, message_are, empty_are}
 use Rattle.coap_world.proofs.Delivery.EntriesInTime.{Every}
 

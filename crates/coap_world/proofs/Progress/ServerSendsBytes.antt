@@ -1,18 +1,19 @@
 -- What a server sends is of bytes, where the bodies of its local changes are (RFC 7252, sections 3, 5.2 and 5.8).
 use Rattle.std.proofs.Common.{◌≡◌, ℕ, ◌-◌, max, nat_le, nat_lt, Bool, true, false, ◌||◌, Option, Some, None, List, [], ◌∷◌, length, refl, sym, subst, cond}
 use Rattle.coap_types.specs.Past.{Ever}
-use Rattle.coap_types.specs.Unrecognised.{lacks_critical}
+use Rattle.coap_types.specs.Recognised.{lacks_critical}
 use Rattle.coap_types.specs.declared.direction.Direction.TheVariants as direction
 use Rattle.coap_types.specs.declared.message.Kind.{Kind}
 use Rattle.coap_types.specs.declared.message.Kind.TheVariants.{Con, Non, Ack, Rst}
 use Rattle.coap_types.specs.declared.request.Method.{Method}
-use Rattle.coap_codec.specs.Message.{AreBytes, Message}
+use Rattle.coap_types.specs.Bytes.{AreBytes}
+use Rattle.coap_codec.specs.Message.{Message}
 use Rattle.coap_layer.specs.Sends.{IsIn}
-use Rattle.coap_layer.specs.State as layer
+use Rattle.coap_layer.specs.Machine.State as layer
 use Rattle.coap_layer.specs.Trace as L
 use Rattle.coap_resource.specs.Content.{Content, put_refusal}
 use Rattle.coap_resource.specs.Rate.{rate_refusal}
-use Rattle.coap_resource.specs.RequestOptions.{has, value_of}
+use Rattle.coap_types.specs.OptionValues.{has, value_of}
 use Rattle.coap_resource.specs.Serves.{Question}
 use Rattle.coap_exchange.specs.declared.answerer.Asked.{Asked}
 use Rattle.coap_exchange.specs.declared.answerer.Due.{Due}
@@ -20,15 +21,18 @@ use Rattle.coap_exchange.specs.declared.answerer.Due.TheVariants as due
 use Rattle.coap_exchange.specs.AnswererTrace as E
 use Rattle.coap_exchange.specs.AnswererFollows.{same_asked}
 use Rattle.coap_exchange.specs.AnswererLaw as W
-use Rattle.coap_exchange.proofs.AnswererCame.{came_in}
-use Rattle.coap_exchange.proofs.AnswererLeading.{layer_stands}
-use Rattle.coap_exchange.proofs.LayerFacts.{both}
-use Rattle.coap_ends.specs.ClientRequests.{block1, block2}
+use Rattle.coap_exchange.proofs.Facts.ServerSide.{came_in}
+use Rattle.coap_exchange.proofs.Facts.ServerSide.{layer_stands}
+use Rattle.std.proofs.lemmas.Bool.{and_parts}
+use Rattle.coap_types.specs.declared.option_number.TheConstants.{BLOCK1 as block1, BLOCK2 as block2, PROXY_URI as proxy_uri, PROXY_SCHEME as proxy_scheme}
 use Rattle.coap_ends.specs.ServerTrace.{Waiting, Own, Handling, Silent, Refuses, Serves, Waits, Call, Sets, Removes, Delays, Feeds, Ticks, NextOut}
-use Rattle.coap_ends.specs.ServerChecks.{Verdict, Ignored, Refused, Asks, bad_by, bad_request, proxying_not_supported, proxy_uri, proxy_scheme, max_segments, asks, path_of, is_reserved, method_by, asked_by, question, verdict_on}
-use Rattle.coap_ends.specs.ServerSteps.{lower, answering, responding, is_of, question_of, without, waits_by, delay_of, left_by, waiting_with, waiting_after, IsServed, AsksBy, Handles, HandlesCame, HandlesDue, AnswersWaiting, IsRight, after}
+use Rattle.coap_types.specs.declared.path.TheConstants.{MAX_SEGMENTS as max_segments}
+use Rattle.coap_ends.specs.ServerChecks.{Verdict, Ignored, Refused, Asks, bad_by, bad_request, proxying_not_supported, asks, is_reserved, asked_by, question, verdict_on}
+use Rattle.coap_types.specs.RequestPath.{path_of}
+use Rattle.coap_types.specs.MethodCode.{method_of}
+use Rattle.coap_ends.specs.ServerSteps.{lower, answering, responding, is_of, question_of, without_waiting, waits_by, delay_of, left_by, waiting_with, waiting_after, IsServed, AsksBy, Handles, HandlesCame, HandlesDue, AnswersWaiting, IsRight, after}
 use Rattle.coap_ends.specs.ServerLaw.{ServerLaw, ServerRows, own_of, lower_of, layer_of}
-use Rattle.coap_ends.proofs.ServerHanding.{same_asked_is}
+use Rattle.coap_ends.proofs.Facts.OfServer.{same_asked_is}
 use Rattle.coap_world.proofs.Progress.SpelledInBytes.{none_are, values_from_all}
 use Rattle.coap_world.proofs.Delivery.EntriesInTime.{Every, every_join}
 use Rattle.coap_world.proofs.Progress.ExchangesSendBytes.{ResponseAre, RespondAre, each_are, every_front, every_back, last_of, steps_are, CameAre, IncomingAre, all_incoming}
@@ -59,10 +63,10 @@ asked_are szx (Some method) m h = by (nat_lt max_segments (length (path_of (asks
 verdict_are : (szx : ℕ) (m : Message) → AreBytes m.payload → VerdictAre (verdict_on szx m)
 verdict_are szx m h = by (lacks_critical direction.Request m.options || has block1 (asks m)) (has proxy_uri (asks m) || has proxy_scheme (asks m))
   where
-    by : (a b : Bool) → VerdictAre (cond a (bad_by m.kind) (cond b (Refused proxying_not_supported) (asked_by szx (method_by m.code) m)))
+    by : (a b : Bool) → VerdictAre (cond a (bad_by m.kind) (cond b (Refused proxying_not_supported) (asked_by szx (method_of m.code) m)))
     by true b = bad_are m.kind
     by false true = tt
-    by false false = asked_are szx (method_by m.code) m h
+    by false false = asked_are szx (method_of m.code) m h
 
 -- what becomes of it
 
@@ -91,11 +95,11 @@ handles_are s at kind (Asks q) h b is k = asks_are (waits_by kind (delay_of q.pa
 abbrev OneAre : Waiting → Type 0
 OneAre w = AreBytes w.asked.token × AreBytes w.question.body
 
-without_are : (at : ℕ) (a : Asked) (ws : List Waiting) → Every OneAre ws → Every OneAre (without at a ws)
+without_are : (at : ℕ) (a : Asked) (ws : List Waiting) → Every OneAre ws → Every OneAre (without_waiting at a ws)
 without_are at a [] h = tt
 without_are at a (w ∷ ws) h = by (is_of at a w) (without_are at a ws h.1)
   where
-    by : (b : Bool) → Every OneAre (without at a ws) → Every OneAre (cond b ws (w ∷ without at a ws))
+    by : (b : Bool) → Every OneAre (without_waiting at a ws) → Every OneAre (cond b ws (w ∷ without_waiting at a ws))
     by true k = h.1
     by false k = (h.0, k)
 
@@ -105,7 +109,7 @@ question_are at a (w ∷ ws) q h is = by (is_of at a w) refl is (question_are at
   where
     by : (b : Bool) → is_of at a w ≡ b → cond b (Some w.question) (question_of at a ws) ≡ Some q → (question_of at a ws ≡ Some q → AreBytes a.token × AreBytes q.body) → AreBytes a.token × AreBytes q.body
     by true so k f = (
-      subst (λ (x : Asked). AreBytes x.token) (sym (same_asked_is a w.asked (both (same_asked a w.asked) (nat_le w.delay (at - w.at)) so).0)) h.0.0,
+      subst (λ (x : Asked). AreBytes x.token) (sym (same_asked_is a w.asked (and_parts (same_asked a w.asked) (nat_le w.delay (at - w.at)) so).0)) h.0.0,
       subst (λ (x : Question). AreBytes x.body) (let e : w.question ≡ q = cc k in e) h.0.1,
     )
     by false so k f = f k
@@ -162,7 +166,7 @@ module _ (szx : ℕ) (s : Own) (own : OwnAre s) where
       token : AreBytes a.token
       token = (question_are at a s.waiting q own.waiting is).0
 
-      left : Every OneAre (without at a s.waiting)
+      left : Every OneAre (without_waiting at a s.waiting)
       left = without_are at a s.waiting own.waiting
 
       by : (w : Handling) → HandlingAre w → DueAre at (due.Ready a) w word id

@@ -3,30 +3,28 @@ use Rattle.std.proofs.Common.{◌≡◌, ◌<◌, ◌≤◌, ℕ, zero, suc, ◌
 use Rattle.std.specs.Prelude.{All}
 use Rattle.std.specs.Int.{byte_at, bytes_high_first}
 use Rattle.coap_types.specs.CoapOption.{CoapOption}
-use Rattle.coap_types.specs.Uint as uint
 use Rattle.coap_types.specs.declared.message.Kind.{Kind}
 use Rattle.coap_types.specs.declared.message.Kind.TheVariants.{Con, Non, Ack, Rst}
-use Rattle.coap_codec.specs.Message.{AreBytes, Message, Spells, header, marked, kind_number}
-use Rattle.coap_codec.specs.Writing.{nibble, more, option_bytes, options_bytes, message_bytes}
-use Rattle.coap_layer.proofs.ListLemmas.{lt_true}
+use Rattle.coap_types.specs.Bytes.{AreBytes}
+use Rattle.coap_types.proofs.Facts.Bytes.{AreBytes-nil, AreBytes-cons, AreBytes-append}
+use Rattle.coap_codec.specs.Message.{Message, Spells, header, marked, kind_number}
+use Rattle.coap_codec.specs.Spelling.{nibble, more, option_bytes, options_bytes, message_bytes}
+use Rattle.std.proofs.lemmas.Bool.{ltb-true}
 
 -- lists
 
 pub none_are : AreBytes []
-none_are i = omega arith
+none_are = AreBytes-nil
 
 pub cons_are : (b : ℕ) (bs : List ℕ) → b < 256 → AreBytes bs → AreBytes (b ∷ bs)
-cons_are b bs h k zero = h
-cons_are b bs h k (suc i) = k i
+cons_are b bs h k = AreBytes-cons b bs h k
 
 pub append_are : (xs ys : List ℕ) → AreBytes xs → AreBytes ys → AreBytes (xs ++ ys)
-append_are [] ys h k = k
-append_are (x ∷ xs) ys h k = cons_are x (xs ++ ys) (h 0) (append_are xs ys (λ i. h (suc i)) k)
+append_are xs ys h k = AreBytes-append xs ys h k
 
 -- the same, where it is said of each element
-pub from_all : (bs : List ℕ) → uint.AreBytes bs → AreBytes bs
-from_all [] h = none_are
-from_all (b ∷ bs) h = cons_are b bs (h 0 0 (omega arith)) (from_all bs (λ i d low. h (suc i) d (omega (arith, low))))
+pub from_all : (bs : List ℕ) → AreBytes bs → AreBytes bs
+from_all bs h = h
 
 -- a number in so many bytes
 byte_below : (k n : ℕ) → byte_at k n < 256
@@ -43,7 +41,7 @@ abbrev pub ValuesAre : List CoapOption → Type 0
 ValuesAre [] = Unit {0}
 ValuesAre (o ∷ options) = AreBytes o.value × ValuesAre options
 
-pub values_from_all : (options : List CoapOption) → All (λ o. uint.AreBytes o.value) options → ValuesAre options
+pub values_from_all : (options : List CoapOption) → All (λ o. AreBytes o.value) options → ValuesAre options
 values_from_all [] h = tt
 values_from_all (o ∷ options) h = (from_all o.value (h 0 o (omega arith)), values_from_all options (λ i d low. h (suc i) d (omega (arith, low))))
 
@@ -55,7 +53,7 @@ nibble_below : (n : ℕ) → nibble n < 15
 nibble_below n = by (nat_lt n 13) (nat_lt n 269) refl
   where
     by : (a b : Bool) → nat_lt n 13 ≡ a → cond a n (cond b 13 14) < 15
-    by true b h = let k = lt_true n 13 h in omega (arith, k)
+    by true b h = let k = ltb-true n 13 h in omega (arith, k)
     by false true h = omega arith
     by false false h = omega arith
 
@@ -64,7 +62,7 @@ more_are n = by (nat_lt n 13) (nat_lt n 269) refl
   where
     by : (a b : Bool) → nat_lt n 269 ≡ b → AreBytes (cond a [] (cond b ((n - 13) ∷ []) (bytes_high_first 2 (n - 269))))
     by true b h = none_are
-    by false true h = cons_are (n - 13) [] (let k = lt_true n 269 h in omega (arith, k)) none_are
+    by false true h = cons_are (n - 13) [] (let k = ltb-true n 269 h in omega (arith, k)) none_are
     by false false h = high_are 2 (n - 269)
 
 option_are : (base : ℕ) (o : CoapOption) → AreBytes o.value → AreBytes (option_bytes base o)

@@ -2,13 +2,13 @@
 use Rattle.std.proofs.Common.{◌≡◌, ℕ, ◌+◌, ◌^◌, nat_lt, nat_le, Bool, true, false, not, ◌&&◌, is_some, Option, Some, None, List, ◌++◌, length, take, drop, ap, sym, subst, ◌∙◌, cond, Result, refl}
 use Rattle.std.proofs.lemmas.List.{take-append-drop}
 use Rattle.coap_types.specs.Path.{same_path}
-use Rattle.coap_types.proofs.PathLemmas.{same_path-decides}
+use Rattle.coap_types.proofs.Facts.Paths.{same_path-decides}
 use Rattle.coap_types.specs.declared.request.Method.{Method}
 use Rattle.coap_types.specs.declared.request.Method.TheVariants.{Get, Post, Put, Delete}
-use Rattle.coap_codec.specs.Message.{AreBytes}
-use Rattle.coap_codec.proofs.SoundBytes.{AreBytes-drop, AreBytes-front}
+use Rattle.coap_types.specs.Bytes.{AreBytes}
+use Rattle.coap_types.proofs.Facts.Bytes.{AreBytes-drop, AreBytes-front}
 use Rattle.coap_resource.specs.declared.refusal.StoreRefusal.{StoreRefusal}
-use Rattle.coap_resource.specs.Content.{Content, Held, Changes, unchanged, append_refusal, put_refusal}
+use Rattle.coap_resource.specs.Content.{Content, Held, Changes, later, append_refusal, put_refusal}
 use Rattle.coap_resource.specs.Rate.{rate_refusal}
 use Rattle.coap_resource.specs.RequestOptions.{format_of, precondition_fails, accepts, etag_names, block_of, offset_by, tag_of, szx_by}
 use Rattle.coap_resource.specs.Serves.{Question, Reply, bare, got, content_reply, PutBy, JoinBy, PostBy, RemoveBy, DeleteBy, ServesMethod, ServesUnless}
@@ -24,7 +24,7 @@ pub record StoreAre (s : Content) : Type 0 where
 same_are : (old left : Content) → left.holds ≡ old.holds → StoreAre old → StoreAre left
 same_are old left same b = record { each = λ path held h. b.each path held (sym (ap (λ f. f path) same) ∙ h) }
 
-unchanged_are : (old left : Content) (at : ℕ) → left ≡ unchanged old at → StoreAre old → StoreAre left
+unchanged_are : (old left : Content) (at : ℕ) → left ≡ later old at → StoreAre old → StoreAre left
 unchanged_are old left at h b = same_are old left (ap (λ (s : Content). s.holds) h) b
 
 kept_are : (old left : Content) → left ≡ old → StoreAre old → StoreAre left

@@ -1,31 +1,30 @@
 -- What a client hears as an answer is the response to the request of a call: of one that the server served, or refused.
 use Rattle.std.proofs.Common.{◌≡◌, ◌⊎◌, inl, inr, true, Some, List, [], ◌∷◌, map, refl, ap, sym, subst, ◌∙◌}
 use Rattle.coap_types.specs.Past.{Ever, Sometime}
-use Rattle.coap_types.proofs.PastLemmas.{by_suffix}
+use Rattle.coap_types.proofs.Facts.Traces.{by_suffix}
 use Rattle.coap_types.specs.Roles.{role_of}
 use Rattle.coap_types.specs.declared.role.Role.TheVariants as role
 use Rattle.coap_codec.specs.Message.{Message}
-use Rattle.coap_codec.proofs.EveryDatagram.{one_message}
+use Rattle.coap_codec.proofs.Facts.EveryDatagram.{one_message}
 use Rattle.coap_layer.specs.Trace as T
 use Rattle.coap_layer.specs.Trace.{with_head}
-use Rattle.coap_layer.proofs.HopLemmas.{far_ever}
+use Rattle.coap_layer.proofs.Facts.Hops.{far_ever}
 use Rattle.coap_resource.specs.ResponseOptions.{Says}
 use Rattle.coap_exchange.specs.declared.answerer.Asked.{Asked}
 use Rattle.coap_exchange.specs.AnswererSteps.{content_of}
 use Rattle.coap_exchange.specs.AnswererTrace as R
 use Rattle.coap_exchange.specs.AnswererLaw.{below_of}
-use Rattle.coap_ends.specs.ClientFollows.{heard}
-use Rattle.coap_ends.specs.ClientHears.{Hears}
+use Rattle.coap_ends.specs.Follows.ClientFollows.{heard}
+use Rattle.coap_ends.specs.Follows.ClientHears.{Hears}
 use Rattle.coap_ends.specs.ClientTrace as C
 use Rattle.coap_ends.specs.ServerChecks.{Refused, Asks}
-use Rattle.coap_ends.specs.ServerFollows.{Serving}
-use Rattle.coap_ends.specs.ServerGives.{Carries, IsEmpty, CarriesServed, CarriesRefusal, CarriesResponse}
-use Rattle.coap_ends.specs.ServerHands.{HandsUp}
+use Rattle.coap_ends.specs.Follows.ServerFollows.{Serving}
+use Rattle.coap_ends.specs.Follows.ServerGives.{Carries, IsEmpty, CarriesServed, CarriesRefusal, CarriesResponse}
+use Rattle.coap_ends.specs.Follows.ServerHands.{HandsUp}
 use Rattle.coap_ends.specs.ServerLaw.{layer_of}
 use Rattle.coap_ends.specs.ServerTrace as S
-use Rattle.coap_ends.proofs.ClientHears.{are_heard}
-use Rattle.coap_ends.proofs.ServerGiving.{sent_responses}
-use Rattle.coap_ends.proofs.ServerHanding.{handed_up}
+use Rattle.coap_ends.proofs.Facts.OfClient as client_facts
+use Rattle.coap_ends.proofs.Facts.OfServer as server_facts
 use Rattle.coap_world.specs.Words.{ServesAt}
 use Rattle.coap_world.specs.CameFrom.{CameFrom}
 use Rattle.coap_world.specs.Events.{client_end, server_end, Config}
@@ -92,7 +91,7 @@ module _ (config : Config) where
         let is = carried x.asked r k.carries in
         let from = of_client x.asked r k.carries in
         let t : List S.Call = server_trace config (OfServer c ∷ past) in
-        let up = (handed_up config.limit config.server_szx config.server_word t law.server.rows law.server.exchanges.rows law.server.exchanges.left law.server.exchanges.layer).0 x k.here in
+        let up = (server_facts.handed config.limit config.server_szx config.server_word t law.server).0 x k.here in
         let came : CameFrom config past (OfServer c) x.asked (Asks x.question) = came_here config past c law.channel law.client x.asked (Asks x.question) up from in
         record {
           request = x;
@@ -134,11 +133,10 @@ module _ (config : Config) where
   pub answered : (past : List Entry) (c : C.Call) → Lawful config (OfClient c ∷ past) → (m : Message) → heard c ≡ Some m → Sometime (Answers config m) past
   answered past c law m is =
       let e : Entry = OfClient c in
-      let own = law.client.exchanges in
-      let hears = (are_heard server_end config.client_word (client_of (e ∷ past)) own.rows own.left own.layer).0 m is in
+      let hears = (client_facts.heard server_end config.client_szx config.client_word (client_of (e ∷ past)) law.client).0 m is in
       let near = subst (Ever (Hears server_end m)) (sym (near_is config (e ∷ past))) hears in
       let g = was_given config.client_word config.server_word client_end server_end m (hops_in config (e ∷ past)) law.channel near in
       let p : T.Packet = record { to = client_end; bytes = g.bytes } in
       let far = subst (Ever (SendsTo client_end g.bytes)) (far_is config (e ∷ past)) (far_ever (SendsTo client_end g.bytes) (hops_in config (e ∷ past)) g.sent) in
       let earlier = lawful_back config past e law in
-      by_given m p g.reads refl past earlier (sent_responses config.limit config.server_szx config.server_word (server_trace config past) earlier.server p far)
+      by_given m p g.reads refl past earlier (server_facts.gives config.limit config.server_szx config.server_word (server_trace config past) earlier.server p far)

@@ -2,7 +2,7 @@
 use Rattle.std.proofs.Common.{◌≡◌, ℕ, ◌==◌, nat_lt, Bool, true, false, ◌&&◌, ◌||◌, not, Option, Some, None, List, length, refl, ap, sym, subst, ◌∙◌, cond}
 use Rattle.std.specs.Prelude.{nat_le, is_some}
 use Rattle.std.specs.Cmp.{unsigned_Decides}
-use Rattle.coap_types.specs.Unrecognised.{lacks_critical}
+use Rattle.coap_types.specs.Recognised.{lacks_critical}
 use Rattle.coap_types.specs.declared.direction.Direction.TheVariants as direction
 use Rattle.coap_types.specs.declared.message.Kind.{Kind}
 use Rattle.coap_types.specs.declared.message.Kind.TheVariants.{Con, Non, Ack, Rst}
@@ -11,16 +11,21 @@ use Rattle.coap_types.specs.declared.request.Method.TheVariants.{Get, Post, Put,
 use Rattle.coap_codec.specs.Message.{Message}
 use Rattle.coap_resource.specs.Content.{Content, Held, append_refusal, put_refusal}
 use Rattle.coap_resource.specs.Rate.{rate_refusal}
-use Rattle.coap_resource.specs.RequestOptions.{has, value_of, format_of, tag_of, precondition_fails, accepts, etag_names, block_of, offset_by, szx_by}
+use Rattle.coap_types.specs.OptionValues.{has, value_of}
+use Rattle.coap_resource.specs.RequestOptions.{format_of, tag_of, precondition_fails, accepts, etag_names, block_of, offset_by, szx_by}
 use Rattle.coap_resource.specs.Serves.{Question, Reply}
 use Rattle.coap_resource.specs.Serves as R
 use Rattle.coap_resource.specs.declared.refusal.StoreRefusal.{StoreRefusal}
 use Rattle.coap_resource.specs.declared.refusal.StoreRefusal.TheVariants as why
-use Rattle.coap_ends.specs.ClientReports.{report_of, is_success, created, deleted, changed, content, etag, said}
-use Rattle.coap_ends.specs.ClientRequests.{block1, block2, max_body}
+use Rattle.coap_types.specs.declared.option_number.TheConstants.{ETAG as etag, BLOCK1 as block1, BLOCK2 as block2, PROXY_URI as proxy_uri, PROXY_SCHEME as proxy_scheme}
+use Rattle.coap_ends.specs.ClientReports.{report_of, is_success, created, deleted, changed, content, said}
+use Rattle.coap_types.specs.declared.limits.TheConstants.{MAX_BODY_LEN as max_body}
 use Rattle.coap_ends.specs.ClientTrace.{Body, Done, Failed, TooLarge}
-use Rattle.coap_ends.specs.ServerChecks.{Verdict, Refused, Asks, verdict_on, bad_by, bad_request, proxying_not_supported, asked_by, method_by, question, proxy_uri, proxy_scheme, path_of, asks, max_segments, is_reserved}
-use Rattle.coap_ends.specs.ServerFollows.{is_applied}
+use Rattle.coap_types.specs.declared.path.TheConstants.{MAX_SEGMENTS as max_segments}
+use Rattle.coap_ends.specs.ServerChecks.{Verdict, Refused, Asks, verdict_on, bad_by, bad_request, proxying_not_supported, asked_by, question, asks, is_reserved}
+use Rattle.coap_types.specs.MethodCode.{method_of}
+use Rattle.coap_types.specs.RequestPath.{path_of}
+use Rattle.coap_ends.specs.Follows.ServerFollows.{is_applied}
 
 -- what is reported
 
@@ -194,11 +199,11 @@ module _ (szx : ℕ) (m : Message) (code : ℕ) where
   asked_code (Some method) h =
       check_code (Asks (question szx method m)) (nat_lt max_segments (length (path_of (asks m)))) (is_reserved (value_of block2 (asks m))) (λ k. cc k) h
 
-  proxy_code : (b : Bool) → cond b (Refused proxying_not_supported) (asked_by szx (method_by m.code) m) ≡ Refused code → succeeds code ≡ false
+  proxy_code : (b : Bool) → cond b (Refused proxying_not_supported) (asked_by szx (method_of m.code) m) ≡ Refused code → succeeds code ≡ false
   proxy_code true h = code_of 165 code h refl
-  proxy_code false h = asked_code (method_by m.code) h
+  proxy_code false h = asked_code (method_of m.code) h
 
-  verdict_code : (b : Bool) → cond b (bad_by m.kind) (cond (has proxy_uri (asks m) || has proxy_scheme (asks m)) (Refused proxying_not_supported) (asked_by szx (method_by m.code) m)) ≡ Refused code
+  verdict_code : (b : Bool) → cond b (bad_by m.kind) (cond (has proxy_uri (asks m) || has proxy_scheme (asks m)) (Refused proxying_not_supported) (asked_by szx (method_of m.code) m)) ≡ Refused code
       → succeeds code ≡ false
   verdict_code true h = bad_code m.kind h
   verdict_code false h = proxy_code (has proxy_uri (asks m) || has proxy_scheme (asks m)) h

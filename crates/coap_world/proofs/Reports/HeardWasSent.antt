@@ -1,19 +1,20 @@
 -- What a client hears: the server's message layer sent it before.
 use Rattle.std.proofs.Common.{◌≡◌, inl, inr, ℕ, List, [], ◌∷◌, subst}
 use Rattle.coap_types.specs.Past.{Ever}
-use Rattle.coap_types.proofs.PastLemmas.{Ever_map}
+use Rattle.coap_types.proofs.Facts.Traces.{Ever_map}
 use Rattle.coap_types.specs.Roles.{role_of}
 use Rattle.coap_types.specs.declared.endpoint.Endpoint.{Endpoint}
 use Rattle.coap_types.specs.declared.message.Kind.TheVariants.{Con, Non, Ack, Rst}
 use Rattle.coap_types.specs.declared.role.Role.TheVariants as role
-use Rattle.coap_codec.specs.Message.{AreBytes, Message, Spells}
+use Rattle.coap_types.specs.Bytes.{AreBytes}
+use Rattle.coap_codec.specs.Message.{Message, Spells}
 use Rattle.coap_layer.specs.Arrivals.{Arrival, Unreadable, Faulted, Whole, Shows}
 use Rattle.coap_layer.specs.Channel.{Hop, Near, Far, near_of, OnFar, GaveOut, ChannelLaw}
 use Rattle.coap_layer.specs.Rows.{Stands, Row, Sorts, HandedAs, Arrives, rejects, drops, takes_ack, takes_reset, takes_answer, replays, hands_over}
 use Rattle.coap_layer.specs.Sends.{IsIn}
 use Rattle.coap_layer.specs.Trace as T
-use Rattle.coap_layer.proofs.HopLemmas.{earlier}
-use Rattle.coap_ends.specs.ClientHears.{Hears}
+use Rattle.coap_layer.proofs.Facts.Hops.{earlier}
+use Rattle.coap_ends.specs.Follows.ClientHears.{Hears}
 
 -- a response that is handed up is what the datagram spells
 pub record Reads (bytes : List ℕ) (m : Message) : Type 0 where
@@ -21,8 +22,8 @@ pub record Reads (bytes : List ℕ) (m : Message) : Type 0 where
   pub spells : Spells bytes m
   pub role : role_of m.code ≡ role.Response
 
-module _ (word : ℕ) (past : List T.Entry) (e : T.Entry) (from : Endpoint) (bytes : List ℕ) (m : Message) (are : AreBytes bytes) (up : e.answer ≡ T.Response m) where
-  reads_this : (n : Message) → Spells bytes n → role_of n.code ≡ role.Response → e.answer ≡ T.Response n → Reads bytes m
+module _ (word : ℕ) (past : List T.Entry) (e : T.Entry) (from : Endpoint) (bytes : List ℕ) (m : Message) (are : AreBytes bytes) (up : e.answer ≡ T.Becomes (T.Response m)) where
+  reads_this : (n : Message) → Spells bytes n → role_of n.code ≡ role.Response → e.answer ≡ T.Becomes (T.Response n) → Reads bytes m
   reads_this n s k is = let same : n ≡ m = cc (is, up) in record { are_bytes = are; spells = subst (Spells bytes) same s; role = subst (λ (x : Message). role_of x.code ≡ role.Response) same k }
 
   sorted : (n : Message) → Spells bytes n → Sorts word past e (record { from = from; message = n }) → Reads bytes m
@@ -47,7 +48,7 @@ module _ (word : ℕ) (past : List T.Entry) (e : T.Entry) (from : Endpoint) (byt
   arrived (Faulted Rst id) s r = absurd (cc (r.0, up))
   arrived (Whole n) s r = sorted n s r
 
-reads : (word : ℕ) (past : List T.Entry) (e : T.Entry) (from : Endpoint) (bytes : List ℕ) (m : Message) → Stands word past e → e.call ≡ T.Receive from bytes → e.answer ≡ T.Response m → Reads bytes m
+reads : (word : ℕ) (past : List T.Entry) (e : T.Entry) (from : Endpoint) (bytes : List ℕ) (m : Message) → Stands word past e → e.call ≡ T.Receive from bytes → e.answer ≡ T.Becomes (T.Response m) → Reads bytes m
 reads word past e from bytes m here call up =
     let row : Row word past e (T.Receive from bytes) = subst (Row word past e) call here.row in arrived word past e from bytes m row.0 up row.1.0 row.1.1 row.1.2
 

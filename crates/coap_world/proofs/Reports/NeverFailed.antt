@@ -1,19 +1,20 @@
 -- Where another response than a success is reported, no request of the call is applied, before or after.
 use Rattle.std.proofs.Common.{◌≡◌, ◌⊎◌, inl, inr, ℕ, Bool, true, false, Option, Some, None, List, [], ◌∷◌, refl, ap, sym, subst, ◌∙◌, ◌||◌, cond}
 use Rattle.coap_types.specs.Past.{Sometime, Always}
-use Rattle.coap_types.proofs.PastLemmas.{Sometime_map, Sometime_of_Sometime, Ever_of_Sometime, by_suffix, forget}
-use Rattle.coap_types.specs.Unrecognised.{lacks_critical}
+use Rattle.coap_types.proofs.Facts.Traces.{Sometime_map, Sometime_of_Sometime, Ever_of_Sometime, by_suffix, forget}
+use Rattle.coap_types.specs.Recognised.{lacks_critical}
 use Rattle.coap_types.specs.declared.direction.Direction.TheVariants as direction
 use Rattle.coap_types.specs.declared.request.Method.{Method}
 use Rattle.coap_codec.specs.Message.{Message}
-use Rattle.coap_resource.specs.RequestOptions.{has}
-use Rattle.coap_ends.specs.ClientFollows.{Sending, WasSent}
-use Rattle.coap_ends.specs.ClientSendings.{OneSending}
+use Rattle.coap_types.specs.OptionValues.{has}
+use Rattle.coap_ends.specs.Follows.ClientFollows.{Sending, WasSent}
+use Rattle.coap_ends.specs.Follows.ClientSendings.{OneSending}
 use Rattle.coap_ends.specs.ClientTrace.{Failed}
-use Rattle.coap_ends.specs.ClientRequests.{block1}
-use Rattle.coap_ends.specs.ServerChecks.{Refused, Asks, verdict_on, asked_by as verdict_by, bad_by, asks, method_by, proxy_uri, proxy_scheme, proxying_not_supported}
-use Rattle.coap_ends.specs.ServerFollows.{Serving, is_applied}
-use Rattle.coap_ends.proofs.ServerHolds.{all_served}
+use Rattle.coap_types.specs.declared.option_number.TheConstants.{BLOCK1 as block1, PROXY_URI as proxy_uri, PROXY_SCHEME as proxy_scheme}
+use Rattle.coap_ends.specs.ServerChecks.{Refused, Asks, verdict_on, asked_by as verdict_by, bad_by, asks, proxying_not_supported}
+use Rattle.coap_types.specs.MethodCode.{method_of}
+use Rattle.coap_ends.specs.Follows.ServerFollows.{Serving, is_applied}
+use Rattle.coap_ends.proofs.Facts.OfServer.{all_served}
 use Rattle.coap_exchange.specs.declared.answerer.Asked.{Asked}
 use Rattle.coap_resource.specs.Serves.{Question}
 use Rattle.coap_world.specs.Words.{AppliesFor, ReportsAt, ServesAt}
@@ -65,7 +66,7 @@ verdict_alike : (szx i j : ℕ) (s : Sending) → verdict_on szx (request_of i s
 verdict_alike szx i j s =
     let m : Message = request_of i s in
     ap (λ v. cond (lacks_critical direction.Request m.options || has block1 (asks m)) (bad_by m.kind) (cond (has proxy_uri (asks m) || has proxy_scheme (asks m)) (Refused proxying_not_supported) v))
-    (asked_alike szx i j s (method_by m.code))
+    (asked_alike szx i j s (method_of m.code))
 
 module _ (config : Config) (all : List Entry) (number : ℕ) where
   -- the request with this outcome is served here

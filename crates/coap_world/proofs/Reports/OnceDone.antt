@@ -1,19 +1,19 @@
 -- Where success is reported, a request of the call was applied since the call; a body that is reported was held since.
 use Rattle.std.proofs.Common.{◌≡◌, inl, inr, ℕ, true, false, Option, Some, List, [], ◌∷◌, refl, ap, sym, subst, ◌∙◌}
 use Rattle.coap_types.specs.Past.{Sometime, Always}
-use Rattle.coap_types.proofs.PastLemmas.{Sometime_map}
+use Rattle.coap_types.proofs.Facts.Traces.{Sometime_map}
 use Rattle.coap_codec.specs.Message.{Message}
 use Rattle.coap_resource.specs.Content.{Held}
-use Rattle.coap_resource.specs.RequestOptions.{has}
+use Rattle.coap_types.specs.OptionValues.{has}
 use Rattle.coap_exchange.specs.declared.answerer.Asked.{Asked}
-use Rattle.coap_ends.specs.ClientFollows.{Sending}
+use Rattle.coap_ends.specs.Follows.ClientFollows.{Sending}
 use Rattle.coap_ends.specs.ClientReports.{content, said}
-use Rattle.coap_ends.specs.ClientRequests.{block2}
-use Rattle.coap_ends.specs.ClientSendings.{OneSending}
+use Rattle.coap_types.specs.declared.option_number.TheConstants.{BLOCK2 as block2}
+use Rattle.coap_ends.specs.Follows.ClientSendings.{OneSending}
 use Rattle.coap_ends.specs.ClientTrace.{Body, Done, Report}
-use Rattle.coap_ends.specs.ServerFollows.{is_applied}
-use Rattle.coap_ends.specs.ServerShows.{Shows}
-use Rattle.coap_ends.proofs.ServerShown.{shows_held}
+use Rattle.coap_ends.specs.Follows.ServerFollows.{is_applied}
+use Rattle.coap_ends.specs.Follows.ServerShows.{Shows}
+use Rattle.coap_ends.proofs.Facts.OfServer as server_facts
 use Rattle.coap_world.specs.Agrees.{AppliesSince, OnceDone, HeldSince, EachHeld}
 use Rattle.coap_world.specs.Words.{ReportsAt, last_at}
 use Rattle.coap_world.specs.CameFrom.{request_of}
@@ -65,7 +65,7 @@ module _ (config : Config) (all : List Entry) (one : OneSending (client_of all))
       → Shows config.limit config.server_szx k.request.question.path m (server_trace config (e ∷ past))
   shown past (OfClient c) law m k code none = absurd k.here
   shown past (OfServer c) law m k code none =
-      (shows_held config.limit config.server_szx (server_trace config (OfServer c ∷ past)) law.server.rows law.formats).0 k.request m k.here (sym k.code ∙ code) k.says k.payload none
+      (server_facts.shows config.limit config.server_szx config.server_word (server_trace config (OfServer c ∷ past)) law.server law.formats).0 k.request m k.here (sym k.code ∙ code) k.says k.payload none
 
   module _ (number : ℕ) (tag : Option (List ℕ)) (format : Option ℕ) (body : List ℕ) (past : List Entry) (e : Entry) (r : Reporting config number (Body tag format body) all past e) where
     reported : IsBody r.sending.operation.request.method r.message tag format body

@@ -1,26 +1,12 @@
 -- What is promised of a legal run, clause by clause.
 use Rattle.std.proofs.Common.{◌≡◌, ℕ, true, List, [], ◌∷◌, refl, ap, sym}
 use Rattle.coap_exchange.specs.declared.answerer.Asked.{Asked}
-use Rattle.coap_exchange.proofs.AnswererOnce as A
-use Rattle.coap_exchange.proofs.AskerLeading.{layer_stands}
-use Rattle.coap_exchange.proofs.AskerTokens.{counted}
-use Rattle.coap_ends.specs.ClientFollows.{AreSent}
-use Rattle.coap_ends.specs.ClientLaw.{lower_of}
-use Rattle.coap_ends.specs.ClientSendings.{OneSending}
+use Rattle.coap_ends.specs.Follows.ClientFollows.{AreSent}
+use Rattle.coap_ends.specs.Follows.ClientSendings.{OneSending}
 use Rattle.coap_ends.specs.ServerChecks.{Asks}
-use Rattle.coap_ends.specs.ServerFollows.{Serving, is_applied}
-use Rattle.coap_ends.specs.ServerLaw as server
-use Rattle.coap_ends.proofs.ClientCons.{one_con}
-use Rattle.coap_ends.proofs.ClientCounted.{one_call}
-use Rattle.coap_ends.proofs.ClientEnded.{all_ends}
-use Rattle.coap_ends.proofs.ClientQueued.{in_order, all_taken}
-use Rattle.coap_ends.proofs.ClientNons.{no_nons}
-use Rattle.coap_ends.proofs.ClientNumbers.{one_sending}
-use Rattle.coap_ends.proofs.ClientOnce.{reported_once}
-use Rattle.coap_ends.proofs.ClientSent.{once_of, are_sent}
-use Rattle.coap_ends.proofs.ServerCounts as N
-use Rattle.coap_ends.proofs.ServerWaiting.{ready_are_served}
-use Rattle.coap_ends.proofs.ServerOnce.{served_once}
+use Rattle.coap_ends.specs.Follows.ServerFollows.{Serving, is_applied}
+use Rattle.coap_ends.proofs.Facts.OfClient as client_facts
+use Rattle.coap_ends.proofs.Facts.OfServer as server_facts
 use Rattle.coap_world.specs.Words.{ServesAt, SentFor}
 use Rattle.coap_world.specs.Agrees.{Agrees, AppliedWhole, AtMostOnce}
 use Rattle.coap_world.specs.CameFrom.{CameFrom, CamesFrom}
@@ -65,10 +51,10 @@ module _ (config : Config) (events : List Event) (turns : List Turn) (run : Reco
   lawful = record { channel = joined.channel config events turns run legal; client = run.client; server = run.server; formats = formats_in config turns run.made legal }
 
   sent : AreSent (client_of all)
-  sent = are_sent (client_of all) (once_of config.client_word (lower_of (client_of all)) (counted server_end config.client_word (lower_of (client_of all)) run.client.exchanges.rows).0)
+  sent = client_facts.sent server_end config.client_szx config.client_word (client_of all) run.client
 
   one : OneSending (client_of all)
-  one = one_sending config.client_szx (client_of all) run.client.rows sent
+  one = client_facts.sending server_end config.client_szx config.client_word (client_of all) run.client
 
   pub came : CamesFrom config all
   came = came_from config all lawful.channel run.client run.server
@@ -81,13 +67,8 @@ module _ (config : Config) (events : List Event) (turns : List Turn) (run : Reco
   most =
       let t = client_of all in
       let calls = server_trace config all in
-      let own = run.client.exchanges in
-      let far = run.server.exchanges in
-      W.served_at_most config all one
-      (one_con server_end config.client_word t own (once_of config.client_word (lower_of t) (counted server_end config.client_word (lower_of t) own.rows).0) (layer_stands server_end config.client_word (lower_of t) own))
-      (λ past. no_nons server_end config.client_word (lower_of (client_of past))) lawful.channel came
-      (served_once config.limit config.server_szx calls (A.counted (server.lower_of config.limit config.server_szx calls) far.rows).0)
-      (N.counted config.limit config.server_szx config.server_word calls far.rows far.left far.layer)
+      W.served_at_most config all one (client_facts.one_con_each server_end config.client_szx config.client_word t run.client) (λ past. client_facts.nons server_end config.client_word (client_of past)) lawful.channel came
+      (server_facts.served config.limit config.server_szx config.server_word calls run.server) (server_facts.counts config.limit config.server_szx config.server_word calls run.server)
 
   pub at_most_once : AtMostOnce config all
   at_most_once = W.at_most_once config all most
@@ -104,11 +85,11 @@ module _ (config : Config) (events : List Event) (turns : List Turn) (run : Reco
     changes_owned = O.owned config all run.server.rows;
     local_right = local_right config all run.server.rows;
     served_right = served_right config all run.server;
-    ready_served = ready_are_served config.limit config.server_szx (server_trace config all) run.server.rows run.server.exchanges.rows;
-    calls_taken = all_taken config.client_szx (client_of all) run.client.rows;
-    in_order = in_order (client_of all);
-    ends_reported = all_ends server_end config.client_szx config.client_word (client_of all) run.client;
-    one_call = one_call config.client_szx (client_of all) run.client.rows;
-    one_report = reported_once config.client_szx (client_of all) run.client.rows;
+    ready_served = server_facts.ready config.limit config.server_szx config.server_word (server_trace config all) run.server;
+    calls_taken = client_facts.takes server_end config.client_szx config.client_word (client_of all) run.client;
+    in_order = client_facts.starts server_end config.client_szx config.client_word (client_of all) run.client;
+    ends_reported = client_facts.ends server_end config.client_szx config.client_word (client_of all) run.client;
+    one_call = client_facts.numbers server_end config.client_szx config.client_word (client_of all) run.client;
+    one_report = client_facts.once server_end config.client_szx config.client_word (client_of all) run.client;
     all_given = all_given config.client_szx turns run.made run.client.rows;
   }

@@ -1,18 +1,15 @@
 -- A report of a response is of a request of that call, which was served or refused since the call.
 use Rattle.std.proofs.Common.{◌≡◌, ℕ, true, List, [], ◌∷◌, refl, ap, sym, subst, ◌∙◌}
 use Rattle.coap_types.specs.Past.{Sometime, Always}
-use Rattle.coap_types.proofs.PastLemmas.{by_suffix}
+use Rattle.coap_types.proofs.Facts.Traces.{by_suffix}
 use Rattle.coap_codec.specs.Message.{Message}
-use Rattle.coap_exchange.proofs.AskerApart.{known}
-use Rattle.coap_exchange.proofs.AskerTokens.{counted}
 use Rattle.coap_ends.specs.ClientTrace as C
 use Rattle.coap_ends.specs.ClientTrace.{Operation, Request, Report, Reported}
-use Rattle.coap_ends.specs.ClientFollows.{Sending, WasSent, OfAnswer, is_of_response, AreSent, ReportsAreAnswers}
-use Rattle.coap_ends.specs.ClientLaw.{ClientLaw, lower_of}
+use Rattle.coap_ends.specs.Follows.ClientFollows.{Sending, WasSent, OfAnswer, is_of_response, AreSent, ReportsAreAnswers}
+use Rattle.coap_ends.specs.ClientLaw.{ClientLaw}
 use Rattle.coap_ends.specs.ClientReports.{report_of}
-use Rattle.coap_ends.specs.ClientSendings.{OneSending}
-use Rattle.coap_ends.proofs.ClientAnswers.{are_answers}
-use Rattle.coap_ends.proofs.ClientSent.{once_of, are_sent}
+use Rattle.coap_ends.specs.Follows.ClientSendings.{OneSending}
+use Rattle.coap_ends.proofs.Facts.OfClient as client
 use Rattle.coap_world.specs.Words.{ReportsAt, WasCalled, SentFor}
 use Rattle.coap_world.specs.Events.{server_end, Config}
 use Rattle.coap_world.specs.Record.{Entry, OfClient, OfServer, client_of}
@@ -31,10 +28,10 @@ sent_for all s number token sent n t = (s.operation.request, subst (λ x. WasSen
 
 -- what a client's law says of its sendings and its reports
 sent_by : (config : Config) (t : List C.Call) → ClientLaw server_end config.client_szx config.client_word t → AreSent t
-sent_by config t law = are_sent t (once_of config.client_word (lower_of t) (counted server_end config.client_word (lower_of t) law.exchanges.rows).0)
+sent_by config t law = client.sent server_end config.client_szx config.client_word t law
 
 answers_by : (config : Config) (t : List C.Call) → ClientLaw server_end config.client_szx config.client_word t → ReportsAreAnswers t
-answers_by config t law = are_answers t (sent_by config t law) (known server_end config.client_word (lower_of t) law.exchanges.rows).0
+answers_by config t law = client.answers server_end config.client_szx config.client_word t law
 
 -- the request of the call is served, or refused, here, and the response to it is reported
 pub record Reporting (config : Config) (number : ℕ) (report : Report) (all past : List Entry) (e : Entry) : Type 0 where

@@ -10,13 +10,13 @@ use Rattle.coap_resource.specs.Serves.{Question}
 use Rattle.coap_ends.specs.ClientTrace as C
 use Rattle.coap_ends.specs.ClientTrace.{Operation, Request}
 use Rattle.coap_ends.specs.ClientRequests.{payload_by}
-use Rattle.coap_ends.specs.ClientFollows.{Sending, WasSent, WasTaken, AreSent}
-use Rattle.coap_ends.specs.ClientSendings.{OneSending}
+use Rattle.coap_ends.specs.Follows.ClientFollows.{Sending, WasSent, WasTaken, AreSent}
+use Rattle.coap_ends.specs.Follows.ClientSendings.{OneSending}
 use Rattle.coap_ends.specs.ServerChecks.{Asks}
-use Rattle.coap_ends.specs.ServerFollows.{Serving, IsApplied}
-use Rattle.coap_ends.specs.ServerFollows as S
+use Rattle.coap_ends.specs.Follows.ServerFollows.{Serving, IsApplied}
+use Rattle.coap_ends.specs.Follows.ServerFollows as S
 use Rattle.coap_ends.specs.ServerLaw.{own_of}
-use Rattle.coap_ends.proofs.ServerHolds.{all_served, version_is}
+use Rattle.coap_ends.proofs.Facts.OfServer.{all_served, version_is}
 use Rattle.coap_world.specs.Words.{AppliesFor, WasCalled, ServesAt, holds_at, changes_in}
 use Rattle.coap_world.specs.Agrees.{Does, IsWhole, AppliedWhole}
 use Rattle.coap_world.specs.CameFrom.{CameFrom, CamesFrom, request_of}

@@ -1,21 +1,21 @@
 -- At most one applied request belongs to a call.
 use Rattle.std.proofs.Common.{◌≡◌, ◌≤◌, inl, inr, ℕ, Some, List, [], ◌∷◌, refl, ap, sym, subst, ◌∙◌, arith}
 use Rattle.coap_types.specs.Past.{Ever, Sometime, Always}
-use Rattle.coap_types.proofs.PastLemmas.{Ever_back, Sometime_map}
+use Rattle.coap_types.proofs.Facts.Traces.{Ever_back, Sometime_map}
 use Rattle.coap_layer.specs.Channel.{near_of}
 use Rattle.coap_layer.specs.Words.{Open, begun}
 use Rattle.coap_exchange.specs.declared.answerer.Asked.{Asked}
 use Rattle.coap_exchange.specs.AnswererFollows.{hits, same_asked}
 use Rattle.coap_exchange.specs.AnswererSteps.{asked_of}
-use Rattle.coap_exchange.proofs.AnswererOnce.{self_hits}
-use Rattle.coap_ends.specs.ClientFollows.{Sending, WasSent}
+use Rattle.coap_exchange.proofs.Facts.ServerSide.{self_hits}
+use Rattle.coap_ends.specs.Follows.ClientFollows.{Sending, WasSent}
 use Rattle.coap_ends.specs.ClientLaw.{layer_of}
-use Rattle.coap_ends.specs.ClientSendings.{NoNons, OneCon, OneSending}
+use Rattle.coap_ends.specs.Follows.ClientSendings.{NoNons, OneCon, OneSending}
 use Rattle.coap_ends.specs.ServerTrace as S
 use Rattle.coap_ends.specs.ServerChecks.{Asks}
-use Rattle.coap_ends.specs.ServerFollows.{Serving, serving, asked_of as served_as, times_served, ServedOnce}
+use Rattle.coap_ends.specs.Follows.ServerFollows.{Serving, serving, asked_of as served_as, times_served, ServedOnce}
 use Rattle.coap_ends.specs.ServerLaw.{own_of}
-use Rattle.coap_ends.proofs.ServerCounts.{ups, Counted}
+use Rattle.coap_ends.specs.Follows.ServerCounts.{ups, Counted}
 use Rattle.coap_world.specs.Words.{ServesAt, SentFor, AppliesFor}
 use Rattle.coap_world.specs.Agrees.{AtMostOnce}
 use Rattle.coap_world.specs.CameFrom.{IsChannel, CameFrom, CamesFrom, request_of}

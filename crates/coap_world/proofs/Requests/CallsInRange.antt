@@ -1,11 +1,11 @@
 -- The calls of a legal run are in range.
 use Rattle.std.proofs.Common.{◌≡◌, inl, inr, ℕ, Bool, Some, None, List, [], ◌∷◌, ◌++◌, map, ap, subst}
 use Rattle.coap_types.specs.Past.{Ever, Always}
-use Rattle.coap_types.proofs.PastLemmas.{Ever_append}
+use Rattle.coap_types.proofs.Facts.Traces.{Ever_append}
 use Rattle.coap_layer.specs.Trace.{Packet}
 use Rattle.coap_ends.specs.ClientTrace as C
 use Rattle.coap_ends.specs.ClientTrace.{Operation, Request, Taking, Taken, QueueFull, BodyTooLarge, BadPath, CallsSpent}
-use Rattle.coap_ends.specs.ClientFollows.{takes, WasTaken}
+use Rattle.coap_ends.specs.Follows.ClientFollows.{takes, WasTaken}
 use Rattle.coap_ends.specs.ServerTrace as S
 use Rattle.coap_world.specs.Events.{What, Calls, Sets, Removes, TickClient, TickServer, Deliver, StrangerToClient, StrangerToServer}
 use Rattle.coap_world.specs.Legal.{IsRequest, InRange, AllLegal}

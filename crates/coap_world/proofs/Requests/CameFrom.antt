@@ -1,36 +1,30 @@
 -- A request from the client's address that is served is the request of a call.
 use Rattle.std.proofs.Common.{◌≡◌, ◌<◌, inl, inr, ℕ, true, Some, List, [], ◌∷◌, ◌++◌, map, refl, ap, sym, subst, ◌∙◌, arith}
 use Rattle.coap_types.specs.Past.{Ever}
-use Rattle.coap_types.proofs.PastLemmas.{Ever_map}
+use Rattle.coap_types.proofs.Facts.Traces.{Ever_map}
 use Rattle.coap_types.specs.declared.endpoint.Endpoint.{Endpoint}
 use Rattle.coap_types.specs.declared.message.Kind.TheVariants.{Con}
-use Rattle.coap_codec.specs.Message.{AreBytes, Message, Spells}
-use Rattle.coap_codec.proofs.EveryDatagram.{one_message}
+use Rattle.coap_types.specs.Bytes.{AreBytes}
+use Rattle.coap_codec.specs.Message.{Message, Spells}
+use Rattle.coap_codec.proofs.Facts.EveryDatagram.{one_message}
 use Rattle.coap_layer.specs.Channel.{Hop, Near, Far, near_of, far_of, OnFar, ChannelLaw, HandedBy, HandsUpAs, PlainSent, BegunAs}
-use Rattle.coap_layer.specs.State as L
 use Rattle.coap_layer.specs.Trace as T
 use Rattle.coap_layer.specs.Words.{Open, begun, handed, handed_in, Incoming}
-use Rattle.coap_layer.proofs.HandedLemmas.{handed_spelled}
-use Rattle.coap_layer.proofs.HopLemmas.{earlier, begun_as, nons_sent, to_far}
+use Rattle.coap_layer.proofs.Facts.Laws.{handed_spelled}
+use Rattle.coap_layer.proofs.Facts.Hops.{earlier, to_far}
+use Rattle.coap_layer.proofs.Facts.Laws.{begun_as, nons_sent}
 use Rattle.coap_exchange.specs.declared.answerer.Asked.{Asked}
 use Rattle.coap_exchange.specs.AnswererSteps.{asked_of}
-use Rattle.coap_exchange.specs.AskerLaw as asker
-use Rattle.coap_exchange.specs.AskerSteps as P
-use Rattle.coap_exchange.specs.AskerTrace as A
-use Rattle.coap_exchange.proofs.AskerLeading.{steps_split}
 use Rattle.coap_ends.specs.ClientTrace as C
-use Rattle.coap_ends.specs.ClientBegins.{IsRequestOf}
-use Rattle.coap_ends.specs.ClientLaw as client
+use Rattle.coap_ends.specs.Follows.ClientBegins.{IsRequestOf}
 use Rattle.coap_ends.specs.ClientLaw.{ClientLaw}
-use Rattle.coap_ends.specs.ClientSendings.{SendsNon, NoNons}
-use Rattle.coap_ends.specs.ClientSteps as client_steps
+use Rattle.coap_ends.specs.Follows.ClientSendings.{SendsNon, NoNons}
 use Rattle.coap_ends.specs.ServerTrace as S
 use Rattle.coap_ends.specs.ServerChecks.{Verdict, Asks, verdict_on}
-use Rattle.coap_ends.specs.ServerHands.{HandsUp, AreHandedUp}
+use Rattle.coap_ends.specs.Follows.ServerHands.{HandsUp, AreHandedUp}
 use Rattle.coap_ends.specs.ServerLaw.{ServerLaw, layer_of}
-use Rattle.coap_ends.proofs.ClientBegun.{asked_for, exchange_of, request_of}
-use Rattle.coap_ends.proofs.ClientNons.{no_nons}
-use Rattle.coap_ends.proofs.ServerHanding.{handed_up}
+use Rattle.coap_ends.proofs.Facts.OfClient as client_facts
+use Rattle.coap_ends.proofs.Facts.OfServer as server_facts
 use Rattle.coap_world.specs.CameFrom as W
 use Rattle.coap_world.specs.CameFrom.{IsChannel, CameFrom, CamesFrom}
 use Rattle.coap_world.specs.Events.{client_end, server_end, Config}
@@ -43,7 +37,7 @@ pub record UpOf (V : Message → Type 0) (a : Asked) (e : T.Entry) : Type 0 wher
   pub message : Message
   pub bytes : List ℕ
   pub call : e.call ≡ T.Receive a.from bytes
-  pub answer : e.answer ≡ T.Request message true
+  pub answer : e.answer ≡ T.Becomes (T.Request message true)
   pub asked_is : a ≡ asked_of a.from message
   pub verdict : V message
 
@@ -133,15 +127,6 @@ module _ (one other : ℕ) (near far : Endpoint) (V : Message → Type 0) (a : A
 
 -- each law holds of each past
 
-exchange_back : (to : Endpoint) (word : ℕ) (xs calls : List A.Call) → asker.ExchangeLaw to word (xs ++ calls) → asker.ExchangeLaw to word calls
-exchange_back to word [] calls law = law
-exchange_back to word (x ∷ xs) calls law =
-    let k = steps_split (L.start word) law.left (P.lower (asker.own_of to word (xs ++ calls)) x) (asker.lower_of to word (xs ++ calls)) law.layer in
-    exchange_back to word xs calls (record { rows = law.rows.1; left = k.0; layer = k.1 })
-
-pub client_back : (to : Endpoint) (szx word : ℕ) (c : C.Call) (t : List C.Call) → ClientLaw to szx word (c ∷ t) → ClientLaw to szx word t
-client_back to szx word c t law = record { rows = law.rows.1; exchanges = exchange_back to word (client_steps.lower (client.own_of t) c) (client.lower_of t) law.exchanges }
-
 pub channel_back : (one other : ℕ) (near far : Endpoint) (later past : List Hop) → ChannelLaw one other near far (later ++ past) → ChannelLaw one other near far past
 channel_back one other near far [] past law = law
 channel_back one other near far (h ∷ later) past law = channel_back one other near far later past (earlier one other near far (later ++ past) h law)
@@ -179,12 +164,10 @@ module _ (config : Config) where
       let hops = to_far (UpOf (λ m. verdict_on config.server_szx m ≡ v) a) (hops_in config (e ∷ past))
       (Ever_map (HandsUp config.server_szx a v) (UpOf (λ m. verdict_on config.server_szx m ≡ v) a)
       (λ z u. record { message = u.message; bytes = u.bytes; call = u.call; answer = u.answer; asked_is = u.asked_is; verdict = u.verdict }) (far_of (hops_in config (e ∷ past))) there) in
-      let none = subst NoNons (sym (near_is config (e ∷ past))) (no_nons server_end config.client_word (client.lower_of (client_of past))) in
+      let none = subst NoNons (sym (near_is config (e ∷ past))) (client_facts.nons server_end config.client_word (client_of past)) in
       let f = find config.client_word config.server_word client_end server_end (λ m. verdict_on config.server_szx m ≡ v) a from (hops_in config (e ∷ past)) law none hops in
       let layer = subst (Ever (λ b. begun b ≡ Some f.con)) (near_is config (e ∷ past)) f.begun_before in
-      let calls = asker.lower_of server_end config.client_word (client.lower_of (client_of past)) in
-      let r : IsRequestOf server_end f.con (client_of past) = request_of server_end f.con (client_of past)
-      (exchange_of server_end config.client_word f.con (client.lower_of (client_of past)) own.exchanges.rows (asked_for f.con (L.start config.client_word) own.exchanges.left calls own.exchanges.layer layer)) in
+      let r : IsRequestOf server_end f.con (client_of past) = client_facts.begins server_end config.client_szx config.client_word (client_of past) own f.con layer in
       let request : Message = W.request_of f.con.id r.request in
       let same = same_request f.con f.message server_end (client_of past) r f.are_bytes f.spells f.id in
       record {
@@ -206,7 +189,7 @@ module _ (config : Config) where
   all_came (OfClient c ∷ past) law own up = (
     λ x serves from. absurd serves,
     all_came past (channel_back config.client_word config.server_word client_end server_end (map Near (client_adds config (client_of past) c)) (hops_in config past) law)
-        (client_back server_end config.client_szx config.client_word c (client_of past) own) up,
+        (client_facts.back server_end config.client_szx config.client_word (c ∷ []) (client_of past) own) up,
   )
   all_came (OfServer c ∷ past) law own up = (
     λ x serves from. came_here past c law own x.asked (Asks x.question) (up.0 x serves) from,
@@ -215,4 +198,4 @@ module _ (config : Config) where
 
   pub came_from : (all : List Entry) → IsChannel config all → FromClient all → ServerLaw config.limit config.server_szx config.server_word (server_trace config all) → CamesFrom config all
   came_from all law own far =
-      all_came all law own (handed_up config.limit config.server_szx config.server_word (server_trace config all) far.rows far.exchanges.rows far.exchanges.left far.exchanges.layer)
+      all_came all law own (server_facts.handed config.limit config.server_szx config.server_word (server_trace config all) far)

@@ -1,12 +1,12 @@
 -- What a path holds changes by a local change of it, or by the request to it that is applied there.
 use Rattle.std.proofs.Common.{◌≡◌, ◌⊎◌, inl, inr, Bool, true, false, Option, Some, None, List, [], ◌∷◌, ℕ, refl, ap, sym, subst, ◌∙◌, cond, ◌==◌}
 use Rattle.coap_types.specs.Path.{same_path}
-use Rattle.coap_types.proofs.PathLemmas.{same_path-decides}
+use Rattle.coap_types.proofs.Facts.Paths.{same_path-decides}
 use Rattle.coap_resource.specs.Content.{Content}
 use Rattle.coap_ends.specs.ServerTrace.{Own, Call, Sets, Removes, Delays, Feeds, Ticks, NextOut}
 use Rattle.coap_ends.specs.ServerLaw.{own_of}
-use Rattle.coap_ends.specs.ServerFollows.{Serving, serving, Change, change, change_of, changed_by, held_then, ServesRight}
-use Rattle.coap_ends.proofs.ServerHolds.{all_served}
+use Rattle.coap_ends.specs.Follows.ServerFollows.{Serving, serving, Change, change, change_of, changed_by, held_then, ServesRight}
+use Rattle.coap_ends.proofs.Facts.OfServer.{all_served}
 use Rattle.coap_world.specs.Events.{Config}
 use Rattle.coap_world.specs.Holds.{ChangesLocally, AppliesTo, IsOwned, ChangesOwned}
 use Rattle.coap_world.specs.Record.{Entry, OfClient, OfServer, server_trace}

@@ -5,14 +5,14 @@ use Rattle.coap_types.specs.declared.endpoint.Endpoint.{Endpoint}
 use Rattle.coap_codec.specs.Message.{Message}
 use Rattle.coap_layer.specs.Channel.{Hop, Near, Far, near_of, far_of, OnFar, ChannelLaw, HandsUpAs}
 use Rattle.coap_layer.specs.Trace as T
-use Rattle.coap_layer.proofs.HopLemmas.{earlier}
-use Rattle.coap_layer.proofs.TakenLemmas.{handed_once}
+use Rattle.coap_layer.proofs.Facts.Hops.{earlier}
+use Rattle.coap_layer.proofs.Facts.Laws.{handed_once}
 use Rattle.coap_exchange.specs.declared.answerer.Asked.{Asked}
 use Rattle.coap_exchange.specs.AnswererFollows.{hits, same_asked}
 use Rattle.coap_exchange.specs.AnswererSteps.{asked_of, asked_in, handed_up}
-use Rattle.coap_ends.specs.ClientSendings.{NoNons, OneCon}
-use Rattle.coap_ends.proofs.ServerCounts.{asked_at, ups}
-use Rattle.coap_ends.proofs.ServerHanding.{same_asked_is}
+use Rattle.coap_ends.specs.Follows.ClientSendings.{NoNons, OneCon}
+use Rattle.coap_ends.specs.Follows.ServerCounts.{asked_at, ups}
+use Rattle.coap_ends.proofs.Facts.OfServer.{same_asked_is}
 use Rattle.coap_world.proofs.Requests.CameFrom.{UpOf, here, find, no_more}
 
 -- an entry that hands up this request
@@ -20,17 +20,11 @@ abbrev pub Any : Message → Type 0
 Any m = Unit {0}
 
 up_in : (a : Asked) (from : Endpoint) (bytes : List ℕ) (e : T.Entry) (answer : T.Answer) → e.call ≡ T.Receive from bytes → e.answer ≡ answer → asked_in (handed_up from answer) ≡ Some a → UpOf Any a e
-up_in a from bytes e (T.Request m true) call is h =
+up_in a from bytes e (T.Becomes (T.Request m true)) call is h =
     let same : asked_of from m ≡ a = cc h in
     let from_is : from ≡ a.from = ap (λ (x : Asked). x.from) same in
     record { message = m; bytes = bytes; call = call ∙ ap (λ f. T.Receive f bytes) from_is; answer = is; asked_is = sym same ∙ ap (λ f. asked_of f m) from_is; verdict = tt }
-up_in a from bytes e (T.Request m false) call is h = absurd (cc h)
-up_in a from bytes e (T.Response m) call is h = absurd (cc h)
-up_in a from bytes e (T.Acked id) call is h = absurd (cc h)
-up_in a from bytes e (T.Reset id) call is h = absurd (cc h)
-up_in a from bytes e T.Dropped call is h = absurd (cc h)
-up_in a from bytes e T.Replayed call is h = absurd (cc h)
-up_in a from bytes e T.Rejected call is h = absurd (cc h)
+up_in a from bytes e (T.Becomes u) call is h = absurd (cc h)
 up_in a from bytes e T.Nothing call is h = absurd (cc h)
 up_in a from bytes e (T.Is holds) call is h = absurd (cc h)
 up_in a from bytes e (T.Sent id) call is h = absurd (cc h)

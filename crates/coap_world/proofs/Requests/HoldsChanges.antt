@@ -3,7 +3,7 @@ use Rattle.std.proofs.Common.{◌≡◌, ℕ, true, None, List, [], ◌∷◌, r
 use Rattle.coap_types.specs.Past.{Always}
 use Rattle.coap_ends.specs.ServerTrace as S
 use Rattle.coap_ends.specs.ServerLaw.{own_of, ServerRows}
-use Rattle.coap_ends.proofs.ServerHolds.{held_is, holds_changes}
+use Rattle.coap_ends.proofs.Facts.OfServer.{held_is, holds_changes}
 use Rattle.coap_world.specs.Events.{Config}
 use Rattle.coap_world.specs.Holds.{Holds, HoldsChanges}
 use Rattle.coap_world.specs.Record.{Entry, OfClient, OfServer, server_trace}

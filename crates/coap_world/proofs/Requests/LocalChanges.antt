@@ -1,12 +1,12 @@
 -- A local change of the server does just what it answers.
 use Rattle.std.proofs.Common.{◌≡◌, ℕ, ◌+◌, max, Bool, Option, Some, None, List, [], ◌∷◌, length, refl, ap, sym, ◌∙◌, Result}
-use Rattle.coap_resource.specs.Content.{Content, Held, Changes, put_refusal, unchanged}
+use Rattle.coap_resource.specs.Content.{Content, Held, Changes, put_refusal, later}
 use Rattle.coap_resource.specs.Rate.{rate_refusal}
 use Rattle.coap_resource.specs.declared.refusal.StoreRefusal.{StoreRefusal}
 use Rattle.coap_ends.specs.ServerTrace as S
 use Rattle.coap_ends.specs.ServerSteps.{SetsBy, RemovesBy}
 use Rattle.coap_ends.specs.ServerLaw.{own_of}
-use Rattle.coap_ends.proofs.ServerHolds.{version_is}
+use Rattle.coap_ends.proofs.Facts.OfServer.{version_is}
 use Rattle.coap_world.specs.Events.{Config}
 use Rattle.coap_world.specs.Local.{IsSame, SetsRight, RemovesRight, IsLocalRight, LocalRight}
 use Rattle.coap_world.specs.Record.{Entry, OfClient, OfServer, server_trace}
@@ -26,7 +26,7 @@ module _ (config : Config) (past : List Entry) where
     abbrev e : Entry
     e = OfServer c
 
-    kept : (at : ℕ) → left ≡ unchanged own.store at → IsSame config past e
+    kept : (at : ℕ) → left ≡ later own.store at → IsSame config past e
     kept at h =
         let is = store ∙ h in
         record {

@@ -1,5 +1,5 @@
 -- What a server reads from the request of a call is what the call asks.
-use Rattle.std.proofs.Common.{◌≡◌, ◌<◌, ℕ, ◌+◌, ◌*◌, ◌/◌, ◌%◌, ◌==◌, nat_lt, nat_le, Bool, true, false, ◌&&◌, ◌||◌, not, Option, Some, None, List, [], ◌∷◌, ◌++◌, length, map, refl, ap, sym, ◌∙◌, cond, arith}
+use Rattle.std.proofs.Common.{◌≡◌, ◌<◌, ℕ, ◌%◌, ◌==◌, nat_lt, nat_le, Bool, true, false, ◌&&◌, ◌||◌, not, Option, Some, None, List, [], ◌∷◌, ◌++◌, length, map, refl, ap, ◌∙◌, cond, arith}
 use Rattle.std.specs.Prelude.{IfSome}
 use Rattle.std.specs.List.{filter, list_any}
 use Rattle.std.specs.Cmp.{unsigned_Decides}
@@ -7,7 +7,7 @@ use Rattle.std.proofs.lemmas.Bool.Decides.{nat_tests}
 use Rattle.coap_types.specs.CoapOption.{CoapOption}
 use Rattle.coap_types.specs.MethodCode.{method_code}
 use Rattle.coap_types.specs.Recognised.{placed, is_recognised, is_critical, has_number}
-use Rattle.coap_types.specs.Unrecognised.{lacks_critical}
+use Rattle.coap_types.specs.Recognised.{lacks_critical}
 use Rattle.coap_types.specs.Uint.{uint_value}
 use Rattle.coap_types.specs.declared.direction.Direction.TheVariants as direction
 use Rattle.coap_types.specs.declared.message.Kind.{Kind}
@@ -15,18 +15,27 @@ use Rattle.coap_types.specs.declared.message.Kind.TheVariants.{Con, Non, Ack, Rs
 use Rattle.coap_types.specs.declared.request.Method.{Method}
 use Rattle.coap_types.specs.declared.request.Method.TheVariants.{Get, Post, Put, Delete}
 use Rattle.coap_codec.specs.Message.{Message}
-use Rattle.coap_layer.proofs.ListLemmas.{true_lt}
-use Rattle.coap_resource.specs.RequestOptions.{has, value_of, format_of, within_16}
+use Rattle.std.proofs.lemmas.Bool.{lt-ltb, le-leb}
+use Rattle.coap_types.specs.OptionValues.{has, value_of}
+use Rattle.coap_resource.specs.RequestOptions.{format_of, within_16}
 use Rattle.coap_resource.specs.Serves.{Question}
 use Rattle.coap_ends.specs.ClientTrace.{Request}
-use Rattle.coap_ends.specs.ClientRequests.{uri_path, content_format, block1, block2, option, uint, uint_option, path_options, more_options, options_of, payload_by}
-use Rattle.coap_ends.specs.ServerChecks.{Refused, Asks, verdict_on, bad_by, bad_request, proxying_not_supported, proxy_uri, proxy_scheme, asked_by, method_by, question, path_of, asks, max_segments, is_reserved}
+use Rattle.coap_types.specs.declared.option_number.TheConstants.{URI_PATH as uri_path, CONTENT_FORMAT as content_format, BLOCK1 as block1, BLOCK2 as block2, PROXY_URI as proxy_uri, PROXY_SCHEME as proxy_scheme}
+use Rattle.coap_ends.specs.ClientRequests.{path_options, more_options, options_of, payload_by}
+use Rattle.coap_types.specs.CoapOption.{option}
+use Rattle.coap_types.specs.Uint.{uint}
+use Rattle.coap_types.proofs.Facts.Uints.{few_bytes, uint_spells, uint_read}
+use Rattle.coap_types.specs.OptionValues.{uint_option}
+use Rattle.coap_types.specs.declared.path.TheConstants.{MAX_SEGMENTS as max_segments}
+use Rattle.coap_ends.specs.ServerChecks.{Refused, Asks, verdict_on, bad_by, bad_request, proxying_not_supported, asked_by, question, asks, is_reserved}
+use Rattle.coap_types.specs.MethodCode.{method_of}
+use Rattle.coap_types.specs.RequestPath.{path_of}
 
 -- a request that is asked of the store
 pub record IsAsked (szx : ℕ) (m : Message) (q : Question) : Type 0 where
   pub known : lacks_critical direction.Request m.options ≡ false
   pub method : Method
-  pub by : method_by m.code ≡ Some method
+  pub by : method_of m.code ≡ Some method
   pub is : q ≡ question szx method m
 
 bad_is_none : (k : Kind) (q : Question) → bad_by k ≡ Asks q → ⊥
@@ -36,7 +45,7 @@ bad_is_none Ack q h = cc h
 bad_is_none Rst q h = cc h
 
 module _ (szx : ℕ) (m : Message) (q : Question) (known : lacks_critical direction.Request m.options ≡ false) where
-  by_checks : (method : Method) → method_by m.code ≡ Some method → (a b : Bool) → cond a (Refused bad_request) (cond b (Refused bad_request) (Asks (question szx method m))) ≡ Asks q → IsAsked szx m q
+  by_checks : (method : Method) → method_of m.code ≡ Some method → (a b : Bool) → cond a (Refused bad_request) (cond b (Refused bad_request) (Asks (question szx method m))) ≡ Asks q → IsAsked szx m q
   by_checks method is true b e = absurd (cc e)
   by_checks method is false true e = absurd (cc e)
   by_checks method is false false e = record { known = known; method = method; by = is; is = one e }
@@ -44,24 +53,24 @@ module _ (szx : ℕ) (m : Message) (q : Question) (known : lacks_critical direct
       one : Asks (question szx method m) ≡ Asks q → q ≡ question szx method m
       one k = cc k
 
-  by_method : (o : Option Method) → method_by m.code ≡ o → asked_by szx o m ≡ Asks q → IsAsked szx m q
+  by_method : (o : Option Method) → method_of m.code ≡ o → asked_by szx o m ≡ Asks q → IsAsked szx m q
   by_method None is e = absurd (cc e)
   by_method (Some method) is e =
       by_checks method is (nat_lt max_segments (length (path_of (asks m)))) (is_reserved (value_of block2 (asks m))) e
 
-  by_proxy : (b : Bool) → cond b (Refused proxying_not_supported) (asked_by szx (method_by m.code) m) ≡ Asks q → IsAsked szx m q
+  by_proxy : (b : Bool) → cond b (Refused proxying_not_supported) (asked_by szx (method_of m.code) m) ≡ Asks q → IsAsked szx m q
   by_proxy true e = absurd (cc e)
-  by_proxy false e = by_method (method_by m.code) refl e
+  by_proxy false e = by_method (method_of m.code) refl e
 
 pub is_asked : (szx : ℕ) (m : Message) (q : Question) → verdict_on szx m ≡ Asks q → IsAsked szx m q
 is_asked szx m q h = by (lacks_critical direction.Request m.options) (has block1 (asks m)) refl h
   where
-    by : (l b : Bool) → lacks_critical direction.Request m.options ≡ l → cond (l || b) (bad_by m.kind) (cond (has proxy_uri (asks m) || has proxy_scheme (asks m)) (Refused proxying_not_supported) (asked_by szx (method_by m.code) m)) ≡ Asks q → IsAsked szx m q
+    by : (l b : Bool) → lacks_critical direction.Request m.options ≡ l → cond (l || b) (bad_by m.kind) (cond (has proxy_uri (asks m) || has proxy_scheme (asks m)) (Refused proxying_not_supported) (asked_by szx (method_of m.code) m)) ≡ Asks q → IsAsked szx m q
     by true b is e = absurd (bad_is_none m.kind q e)
     by false true is e = absurd (bad_is_none m.kind q e)
     by false false is e = by_proxy szx m q is (has proxy_uri (asks m) || has proxy_scheme (asks m)) e
 
-pub method_is : (m : Method) → method_by (method_code m).0 ≡ Some m
+pub method_is : (m : Method) → method_of (method_code m).0 ≡ Some m
 method_is Get = refl
 method_is Post = refl
 method_is Put = refl
@@ -125,24 +134,14 @@ body_back Delete body = refl
 
 -- the format of a body
 
-length_of : (n : ℕ) → nat_le (length (uint n)) 2 ≡ true
-length_of n = by (n == 0) (nat_lt n 256)
-  where
-    by : (a b : Bool) → nat_le (length (cond a [] (cond b (n ∷ []) (n / 256 ∷ n % 256 ∷ [])))) 2 ≡ true
-    by true b = refl
-    by false true = refl
-    by false false = refl
+length_of : (n : ℕ) → n < 65536 → nat_le (length (uint n)) 2 ≡ true
+length_of n small = le-leb (length (uint n)) 2 (few_bytes (uint n) n 2 (uint_spells n (omega (arith, small))) small)
 
-value_is : (n : ℕ) → uint_value (uint n) ≡ Some n
-value_is n = by (n == 0) (nat_lt n 256) refl
-  where
-    by : (a b : Bool) → (n == 0) ≡ a → uint_value (cond a [] (cond b (n ∷ []) (n / 256 ∷ n % 256 ∷ []))) ≡ Some n
-    by true b is = let zero : n ≡ 0 = (unsigned_Decides n 0).0 is in ap (λ k. Some k) (sym zero)
-    by false true is = ap (λ k. Some k) (let e : n * 1 + 0 ≡ n = omega arith in e)
-    by false false is = ap (λ k. Some k) (let e : (n / 256) * 256 + ((n % 256) * 1 + 0) ≡ n = omega arith in e)
+value_is : (n : ℕ) → n < 65536 → uint_value (uint n) ≡ Some n
+value_is n small = uint_read n (omega (arith, small))
 
 small_format : (n : ℕ) → n < 65536 → within_16 (Some n) ≡ Some n
-small_format n h = ap (λ b. cond b (Some n) None) (true_lt n 65536 h)
+small_format n h = ap (λ b. cond b (Some n) None) (lt-ltb n 65536 h)
 
 has_more : (number : ℕ) (before : List CoapOption) (o : CoapOption) → has_number number before ≡ false → (o.number == number) ≡ false → has_number number (before ++ o ∷ []) ≡ false
 has_more number [] o h k = ap (λ b. b || false) k
@@ -167,10 +166,10 @@ format_behind [] before None small none = refl
 format_behind [] before (Some n) small none = by (is_recognised direction.Request before (option content_format (uint n))) known
   where
     known : is_recognised direction.Request before (option content_format (uint n)) ≡ true
-    known = is_known (uint n) (has_number 12 before) (nat_le (length (uint n)) 2) none (length_of n)
+    known = is_known (uint n) (has_number 12 before) (nat_le (length (uint n)) 2) none (length_of n small)
 
     by : (b : Bool) → b ≡ true → format_of (map (λ (p : List CoapOption × CoapOption). p.1) (cond b ((before, option content_format (uint n)) ∷ []) [])) ≡ Some n
-    by true is = ap within_16 (value_is n) ∙ small_format n small
+    by true is = ap within_16 (value_is n small) ∙ small_format n small
     by false is = absurd (cc is)
 format_behind (s ∷ path) before format small none =
     by (is_recognised direction.Request before (option uri_path s)) (format_behind path (before ++ option uri_path s ∷ []) format small (has_more 12 before (option uri_path s) none refl))

@@ -3,7 +3,7 @@ use Rattle.std.proofs.Common.{◌≡◌, Some, None, refl, ap, sym, ◌∙◌}
 use Rattle.coap_exchange.specs.declared.answerer.Due.TheVariants as due
 use Rattle.coap_ends.specs.ServerTrace.{Own, Silent, Refuses, Serves, Waits, Call, Sets, Removes, Delays, Feeds, Ticks, NextOut}
 use Rattle.coap_ends.specs.ServerSteps.{after}
-use Rattle.coap_ends.specs.ServerFollows.{Serving, serving}
+use Rattle.coap_ends.specs.Follows.ServerFollows.{Serving, serving}
 
 pub record Leaves (s : Own) (c : Call) (x : Serving) : Type 0 where
   pub found : x.old ≡ s.store

@@ -7,14 +7,14 @@ use Rattle.coap_resource.specs.RequestOptions.{precondition_fails}
 use Rattle.coap_resource.specs.Serves.{Question}
 use Rattle.coap_resource.specs.Serves as R
 use Rattle.coap_exchange.specs.declared.answerer.Asked.{Asked}
-use Rattle.coap_ends.specs.ServerBrings.{Brings}
-use Rattle.coap_ends.specs.ServerFollows.{Serving, is_applied}
+use Rattle.coap_ends.specs.Follows.ServerBrings.{Brings}
+use Rattle.coap_ends.specs.Follows.ServerFollows.{Serving, is_applied}
 use Rattle.coap_ends.specs.ServerLaw.{ServerLaw, own_of}
-use Rattle.coap_ends.specs.ServerTable as T
-use Rattle.coap_ends.specs.ServerTable.{options_of, AllMethods, ServesMethods}
+use Rattle.coap_ends.specs.Follows.ServerTable as T
+use Rattle.coap_ends.specs.Follows.ServerTable.{options_of, AllMethods, ServesMethods}
 use Rattle.coap_ends.specs.ServerTrace as S
-use Rattle.coap_ends.proofs.ServerAsked.{all_methods}
-use Rattle.coap_ends.proofs.ServerHolds.{all_served}
+use Rattle.coap_ends.proofs.Serving.ServerAsked.{all_methods}
+use Rattle.coap_ends.proofs.Holding.ServerHolds.{all_served}
 use Rattle.coap_world.specs.Events.{Config}
 use Rattle.coap_world.specs.Record.{Entry, OfClient, OfServer, server_trace}
 use Rattle.coap_world.specs.Serves.{BringsIn, IsBrought, ServesRight, AllServed}

@@ -1,11 +1,11 @@
 -- A client's first request: the calls until it is out stand in their laws (RFC 7252, sections 4.2 and 5.2).
 use Rattle.std.proofs.Common.{◌≡◌, ℕ, Some, None, List, [], ◌∷◌, ◌++◌, refl, subst}
 use Rattle.std.specs.Prelude.{replicate}
-use Rattle.coap_codec.specs.Writing.{message_bytes}
+use Rattle.coap_codec.specs.Spelling.{message_bytes}
 use Rattle.coap_types.specs.declared.message.Kind.TheVariants.{Con}
 use Rattle.coap_layer.specs.Rows.{IsSpelled}
-use Rattle.coap_layer.specs.State.{State, start}
-use Rattle.coap_layer.specs.Steps.{Asked, Steps}
+use Rattle.coap_layer.specs.Machine.State.{State, start}
+use Rattle.coap_layer.specs.Machine.Steps.{Asked, Steps}
 use Rattle.coap_layer.specs.Trace.{with_head}
 use Rattle.coap_exchange.specs.AskerLaw as asker
 use Rattle.coap_exchange.specs.AskerRequests.{content_of}

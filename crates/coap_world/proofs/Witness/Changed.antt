@@ -2,8 +2,8 @@
 use Rattle.std.proofs.Common.{inl, inr, true, Some, None, List, [], ◌∷◌, ◌++◌, map, Ok, refl, arith}
 use Rattle.std.specs.Prelude.{codes}
 use Rattle.coap_types.specs.Past.{Always}
-use Rattle.coap_layer.specs.State.{start}
-use Rattle.coap_layer.specs.Steps.{Asked, Steps, left_after}
+use Rattle.coap_layer.specs.Machine.State.{start}
+use Rattle.coap_layer.specs.Machine.Steps.{Asked, Steps, left_after}
 use Rattle.coap_resource.specs.Content.{Content}
 use Rattle.coap_resource.specs.Rate.{counted, unused}
 use Rattle.coap_exchange.specs.AnswererLaw as answerer

@@ -3,7 +3,7 @@ pub mod Client
 pub mod Server
 use Rattle.std.proofs.Common.{◌≡◌, ◌++◌, inl, inr, ℕ, true, Option, Some, None, List, [], ◌∷◌, map, refl, ap, sym, subst, arith}
 use Rattle.coap_types.specs.Past.{Sometime, Always}
-use Rattle.coap_ends.specs.ServerFollows.{Serving, is_applied}
+use Rattle.coap_ends.specs.Follows.ServerFollows.{Serving, is_applied}
 use Rattle.coap_world.specs.Words.{AppliesFor}
 use Rattle.coap_world.specs.Events.{Calls, TickClient, Deliver, client_end}
 use Rattle.coap_world.specs.Legal.{AllLegal}

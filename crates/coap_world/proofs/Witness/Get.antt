@@ -5,7 +5,8 @@ use Rattle.std.proofs.Common.{inl, inr, Some, List, [], ◌∷◌, map, refl, ar
 use Rattle.std.specs.Prelude.{codes}
 use Rattle.coap_types.specs.Past.{Always}
 use Rattle.coap_world.specs.Events.{Calls, Sets, TickClient, Deliver, client_end}
-use Rattle.coap_world.specs.Legal.{IsPath, IsRequest, AllLegal}
+use Rattle.coap_types.specs.Path.{IsPath}
+use Rattle.coap_world.specs.Legal.{IsRequest, AllLegal}
 use Rattle.coap_world.specs.LegalRuns.{event, from_client, from_server, plain, get, get_bytes, content_bytes, got, Gets}
 use Rattle.coap_world.specs.Record.{OfClient, OfServer, Turn, Makes}
 use Rattle.coap_world.proofs.Witness.Words.{config_range, bytes_are, path_of_one}

@@ -3,7 +3,8 @@ use Rattle.std.proofs.Common.{◌≡◌, ◌≤◌, ◌<◌, ℕ, ◌^◌, inl, 
 use Rattle.coap_types.specs.declared.endpoint.Endpoint.{Endpoint}
 use Rattle.coap_world.specs.Events.{Event, What, Calls, Sets, Removes, TickClient, TickServer, StrangerToServer, StrangerToClient}
 use Rattle.coap_world.specs.GoesOn.{MayHappen}
-use Rattle.coap_world.specs.Legal.{IsPath, InRange, NotBefore, MayCome}
+use Rattle.coap_types.specs.Path.{IsPath}
+use Rattle.coap_world.specs.Legal.{InRange, NotBefore, MayCome}
 use Rattle.coap_world.specs.LegalEvents.{May, at_with, Segments, CallsMay, SetsMay, RemovesMay, TicksMay, StrangersMay, DeliveriesMay, NoneFalls, NoneOver, NoneLonger, NoneBeyond}
 use Rattle.coap_world.specs.Record.{Turn}
 use Rattle.coap_world.proofs.Witness.NoneRuns.{events_of, newest}

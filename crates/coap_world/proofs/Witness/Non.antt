@@ -1,7 +1,7 @@
 -- A legal run in which a stranger's DELETE comes in a Non-confirmable message, and is answered in one (RFC 7252, section 5.2.3).
 pub mod Server
 use Rattle.std.proofs.Common.{[], ◌∷◌, inl, inr, List, map, refl, arith}
-use Rattle.coap_layer.specs.State.{start}
+use Rattle.coap_layer.specs.Machine.State.{start}
 use Rattle.coap_exchange.specs.AnswererSteps.{asked_of}
 use Rattle.coap_resource.specs.Content.{nothing}
 use Rattle.coap_world.specs.Events.{StrangerToServer, localhost}

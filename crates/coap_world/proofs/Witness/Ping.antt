@@ -1,9 +1,10 @@
 -- A legal run: a stranger pings the server, which answers with a Reset (RFC 7252, sections 4.2 and 4.3).
 use Rattle.std.proofs.Common.{◌≡◌, ◌≢◌, false, Some, None, List, [], ◌∷◌, refl, ap, sym, arith}
 use Rattle.coap_types.specs.declared.endpoint.Endpoint.{Endpoint}
-use Rattle.coap_codec.specs.Reading.{extended, value_at, nibbles_at, option_at, walk_of, walk, payload_at, frame_fault, body_at, message_at}
-use Rattle.coap_layer.specs.State.{start}
-use Rattle.coap_layer.specs.Steps.{Asked, Steps, left_after}
+use Rattle.coap_codec.specs.Reading.{extended, value_at, nibbles_at, option_at, walk_of, walk, payload_at, frame_fault, body_at}
+use Rattle.coap_codec.specs.Decoded.{decoded}
+use Rattle.coap_layer.specs.Machine.State.{start}
+use Rattle.coap_layer.specs.Machine.Steps.{Asked, Steps, left_after}
 use Rattle.coap_layer.specs.Trace as L
 use Rattle.coap_ends.specs.ServerTrace as S
 use Rattle.coap_world.specs.Events.{client_end, server_end, localhost, StrangerToServer}
@@ -16,7 +17,7 @@ abbrev pong_out : L.Packet
 pong_out = record { to = stranger; bytes = pong }
 
 abbrev fed : S.Call
-fed = S.Feeds 0 stranger ping 0 L.Rejected None S.Silent L.Nothing
+fed = S.Feeds 0 stranger ping 0 (L.Becomes L.Rejected) None S.Silent L.Nothing
 
 abbrev turns : List Turn
 turns =
@@ -27,11 +28,11 @@ abbrev run : List Asked
 run =
     record { now = 0; call = L.Take; answer = L.Gives None } ∷
     record { now = 0; call = L.Take; answer = L.Gives (Some pong_out) } ∷
-    record { now = 0; call = L.Receive stranger ping; answer = L.Rejected } ∷
+    record { now = 0; call = L.Receive stranger ping; answer = (L.Becomes L.Rejected) } ∷
     []
 
 steps : Steps (start 0) run (left_after (start 0) run)
-unfolding message_at frame_fault body_at walk walk_of option_at nibbles_at value_at extended payload_at
+unfolding decoded frame_fault body_at walk walk_of option_at nibbles_at value_at extended payload_at
 steps = (
   _,
   (_, (_, refl, record { may = bytes_are ping refl; right = refl; new_is = refl }), record { may = tt; right = refl; new_is = refl }),
@@ -41,7 +42,7 @@ steps = (
 made : RecordOf config pings turns
 made = record {
   events_are = refl;
-  made = ((fed ∷ [], (fed, (L.Rejected, None, S.Silent, L.Nothing, refl), refl), record { outs = pong_out ∷ []; is = refl }), tt);
+  made = ((fed ∷ [], (fed, (L.Becomes L.Rejected, None, S.Silent, L.Nothing, refl), refl), record { outs = pong_out ∷ []; is = refl }), tt);
   client = record { rows = tt; exchanges = record { rows = tt; left = start 0; layer = refl } };
   server = record { rows = (tt, (tt, (refl, tt))); exchanges = record { rows = (tt, (tt, (refl, tt))); left = left_after (start 0) run; layer = steps } };
 }

@@ -5,10 +5,11 @@ use Rattle.std.proofs.Common.{◌++◌, inl, inr, Some, List, [], ◌∷◌, map
 use Rattle.std.specs.Prelude.{codes}
 use Rattle.coap_types.specs.Past.{Always}
 use Rattle.coap_exchange.specs.AnswererSteps.{asked_of}
-use Rattle.coap_ends.specs.ServerFollows.{Serving}
+use Rattle.coap_ends.specs.Follows.ServerFollows.{Serving}
 use Rattle.coap_world.specs.Words.{AppliesFor}
 use Rattle.coap_world.specs.Events.{Calls, Sets, TickClient, Deliver, client_end}
-use Rattle.coap_world.specs.Legal.{IsPath, IsRequest, AllLegal}
+use Rattle.coap_types.specs.Path.{IsPath}
+use Rattle.coap_world.specs.Legal.{IsRequest, AllLegal}
 use Rattle.coap_world.specs.LegalRuns.{config, event, from_client, from_server, plain, log, post, post_bytes, changed_bytes, done, Posts}
 use Rattle.coap_world.specs.Record.{Entry, OfClient, OfServer, Turn, Makes, entries_of}
 use Rattle.coap_world.proofs.Witness.Words.{config_range, bytes_are, path_of_one}

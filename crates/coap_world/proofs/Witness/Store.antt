@@ -1,7 +1,7 @@
 -- A store in which one path holds something and no other does, and its changes (RFC 7252, section 5.8).
 use Rattle.std.proofs.Common.{◌≡◌, ◌≢◌, ℕ, ◌+◌, Bool, true, false, Option, Some, None, is_some, if◌then◌else◌, List, refl, ap, sym, ◌∙◌, cond}
 use Rattle.coap_types.specs.Path.{same_path}
-use Rattle.coap_types.proofs.PathLemmas.{same_path-decides}
+use Rattle.coap_types.proofs.Facts.Paths.{same_path-decides}
 use Rattle.coap_resource.specs.Content.{Content, Held, Changes, nothing}
 use Rattle.coap_resource.specs.Rate.{counted, unused}
 use Rattle.coap_resource.specs.declared.tally.Tally.{Tally}

@@ -38,7 +38,7 @@ ticked bytes = C.NextReport None ∷ C.NextOut None ∷ C.NextOut (Some (to_serv
 
 -- its piggybacked response comes, and is reported
 abbrev pub hears : ℕ → List ℕ → Message → C.Call
-hears at bytes m = C.Feeds at server_end bytes 0 (L.Response m) true (Some (event.Answer m))
+hears at bytes m = C.Feeds at server_end bytes 0 (L.Becomes (L.Response m)) true (Some (event.Answer m))
 
 abbrev pub heard : ℕ → List ℕ → Message → C.Reported → List C.Call
 heard at bytes m r = C.NextReport None ∷ C.NextReport (Some r) ∷ C.NextOut None ∷ hears at bytes m ∷ []

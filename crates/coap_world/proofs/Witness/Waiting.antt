@@ -2,10 +2,10 @@
 use Rattle.std.proofs.Common.{ℕ, None, List, [], ◌∷◌, ◌++◌, map, refl, arith, subst}
 use Rattle.coap_types.specs.Past.{Always}
 use Rattle.coap_types.specs.declared.message.Kind.TheVariants.{Con}
-use Rattle.coap_codec.specs.Writing.{message_bytes, option_bytes, options_bytes}
+use Rattle.coap_codec.specs.Spelling.{message_bytes, option_bytes, options_bytes}
 use Rattle.coap_layer.specs.Rows.{IsSpelled}
-use Rattle.coap_layer.specs.State.{start}
-use Rattle.coap_layer.specs.Steps.{Asked, Steps}
+use Rattle.coap_layer.specs.Machine.State.{start}
+use Rattle.coap_layer.specs.Machine.Steps.{Asked, Steps}
 use Rattle.coap_layer.specs.Trace.{with_head}
 use Rattle.coap_exchange.specs.AskerLaw as asker
 use Rattle.coap_exchange.specs.AskerRequests.{content_of}

@@ -4,14 +4,14 @@ use Rattle.std.proofs.lemmas.Bool.{and_parts, ltb-true}
 use Rattle.std.proofs.lemmas.List.Elements.{All-nil, All-cons}
 use Rattle.std.specs.Prelude.{All, nat_lt, codes}
 use Rattle.std.specs.List.{list_all}
-use Rattle.coap_codec.specs.Message.{AreBytes}
+use Rattle.coap_types.specs.Bytes.{AreBytes}
 use Rattle.coap_types.specs.CoapOption.{CoapOption}
-use Rattle.coap_types.specs.Uint as uint
 use Rattle.coap_types.specs.Past.{Sometime}
 use Rattle.coap_ends.specs.ClientTrace as C
 use Rattle.coap_world.specs.Words.{AppliesFor}
 use Rattle.coap_world.specs.Events.{Config}
-use Rattle.coap_world.specs.Legal.{IsPath, IsDelay, IsConfig}
+use Rattle.coap_types.specs.Path.{IsPath}
+use Rattle.coap_world.specs.Legal.{IsDelay, IsConfig}
 use Rattle.coap_world.specs.LegalRuns.{with_delays, config, slow}
 use Rattle.coap_ends.specs.ServerTrace.{Delay}
 use Rattle.coap_world.specs.Record.{Entry, OfClient}
@@ -20,25 +20,20 @@ abbrev pub is_byte : ℕ → Bool
 is_byte b = nat_lt b 256
 
 pub bytes_are : (bytes : List ℕ) → list_all is_byte bytes ≡ true → AreBytes bytes
-bytes_are [] e i = omega arith
-bytes_are (b ∷ bytes) e zero = ltb-true b 256 (and_parts (is_byte b) (list_all is_byte bytes) e).0
-bytes_are (b ∷ bytes) e (suc i) = bytes_are bytes (and_parts (is_byte b) (list_all is_byte bytes) e).1 i
+bytes_are [] e = All-nil (λ b. b < 256)
+bytes_are (b ∷ bytes) e =
+    let k = and_parts (is_byte b) (list_all is_byte bytes) e in
+    All-cons (λ x. x < 256) b bytes (ltb-true b 256 k.0) (bytes_are bytes k.1)
 
 -- the same of each value of options
 abbrev pub has_bytes : CoapOption → Bool
 has_bytes o = list_all is_byte o.value
 
-value_is : (bytes : List ℕ) → list_all is_byte bytes ≡ true → uint.AreBytes bytes
-value_is [] e = All-nil (λ b. b < 256)
-value_is (b ∷ bytes) e =
-    let k = and_parts (is_byte b) (list_all is_byte bytes) e in
-    All-cons (λ x. x < 256) b bytes (ltb-true b 256 k.0) (value_is bytes k.1)
-
-pub values_are : (options : List CoapOption) → list_all has_bytes options ≡ true → All (λ o. uint.AreBytes o.value) options
-values_are [] e = All-nil (λ o. uint.AreBytes o.value)
+pub values_are : (options : List CoapOption) → list_all has_bytes options ≡ true → All (λ o. AreBytes o.value) options
+values_are [] e = All-nil (λ o. AreBytes o.value)
 values_are (o ∷ options) e =
     let k = and_parts (has_bytes o) (list_all has_bytes options) e in
-    All-cons (λ p. uint.AreBytes p.value) o options (value_is o.value k.0) (values_are options k.1)
+    All-cons (λ p. AreBytes p.value) o options (bytes_are o.value k.0) (values_are options k.1)
 
 of_one : {X : Type 0} (P : X → Type 0) (x : X) → P x → All P (x ∷ [])
 of_one P x h zero d small = h

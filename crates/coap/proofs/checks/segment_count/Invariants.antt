@@ -1,6 +1,6 @@
 use Rattle.std.proofs.Common.{◌≡◌, ◌≤◌, ◌+◌, length, drop}
 use Rattle.coap_types.specs.CoapOption.{options_of}
-use Rattle.coap.specs.Checks.{path_of}
+use Rattle.coap_types.specs.RequestPath.{path_of}
 use Rattle.coap.proofs.checks.segment_count.Given as goal
 
 -- what is counted and what is left make the whole

@@ -2,7 +2,8 @@ use Rattle.std.proofs.Common.{◌≡◌, ◌++◌, ◌+◌, List, ℕ, length, s
 use Rattle.std.proofs.lemmas.List.{length-append}
 use Rattle.coap_types.specs.CoapOption.{options_of}
 use Rattle.coap_codec.specs.Message.{header, marked, message}
-use Rattle.coap_codec.specs.Writing.{Puts, options_bytes, message_bytes}
+use Rattle.coap_codec.specs.Writing.{Puts}
+use Rattle.coap_codec.specs.Spelling.{options_bytes, message_bytes}
 use Rattle.coap_codec.proofs.PutLemmas.{Puts-then}
 use Rattle.coap_codec.proofs.SpellLemmas.{message_length}
 use Rattle.coap_codec.proofs.encoder.put_message.Goals as goal

@@ -2,7 +2,8 @@ use Rattle.std.proofs.Common.{◌<◌, ◌^◌, length, refl, sym, ap, ◌∙◌
 use Rattle.std.proofs.lemmas.Bool.{iff_false, leb-true, leb-false}
 use Rattle.coap_types.specs.CoapOption.{options_of}
 use Rattle.coap_codec.specs.Message.{message}
-use Rattle.coap_codec.specs.Writing.{message_bytes, spelled_length}
+use Rattle.coap_codec.specs.Spelling.{message_bytes}
+use Rattle.coap_codec.specs.Writing.{spelled_length}
 use Rattle.coap_codec.proofs.SpellLemmas.{message_is, message_length}
 use Rattle.coap_codec.proofs.encoder.refuses.Goals as goal
 

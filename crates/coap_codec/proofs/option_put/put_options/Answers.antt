@@ -2,7 +2,8 @@ use Rattle.std.proofs.Common.{◌≡◌, ◌++◌, ◌+◌, ◌≤◌, List, ℕ
 use Rattle.std.proofs.lemmas.List.{length-append, append-nil}
 use Rattle.coap_types.specs.CoapOption.{option_of, options_of}
 use Rattle.coap_types.specs.declared.options.Opt.{Opt}
-use Rattle.coap_codec.specs.Writing.{Puts, option_bytes, options_bytes}
+use Rattle.coap_codec.specs.Writing.{Puts}
+use Rattle.coap_codec.specs.Spelling.{option_bytes, options_bytes}
 use Rattle.coap_codec.proofs.PutLemmas.{Puts-then, Puts-length}
 use Rattle.coap_codec.proofs.LoopLemmas.{bytes_step, bytes_end, order_step, short_step}
 use Rattle.coap_codec.proofs.option_put.put_options.Goals as goal

@@ -2,7 +2,8 @@ use Rattle.std.proofs.Common.{◌≡◌, ◌+◌, ◌++◌, ℕ, List, true, len
 use Rattle.std.specs.List.{list_all}
 use Rattle.coap_types.specs.CoapOption.{options_of}
 use Rattle.coap_codec.specs.Refused.{ascends, is_short}
-use Rattle.coap_codec.specs.Writing.{Puts, options_bytes}
+use Rattle.coap_codec.specs.Writing.{Puts}
+use Rattle.coap_codec.specs.Spelling.{options_bytes}
 use Rattle.coap_codec.proofs.option_put.put_options.Given as goal
 
 abbrev pub invariant-loop-option : goal.invariant-loop-option

@@ -2,7 +2,7 @@ use Rattle.std.proofs.Common.{◌≡◌, ◌+◌, true, length, drop}
 use Rattle.std.specs.List.{list_all}
 use Rattle.coap_types.specs.CoapOption.{options_of}
 use Rattle.coap_codec.specs.Refused.{ascends, is_short}
-use Rattle.coap_codec.specs.Writing.{options_bytes}
+use Rattle.coap_codec.specs.Spelling.{options_bytes}
 use Rattle.coap_codec.proofs.option_put.room_behind.Given as goal
 
 abbrev pub invariant-loop-option : goal.invariant-loop-option

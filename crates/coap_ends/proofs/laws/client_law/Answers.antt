@@ -1,89 +1,71 @@
-use Rattle.coap_layer.proofs.CopyLemmas.{copies_in_time}
-use Rattle.coap_exchange.proofs.AskerLeading.{layer_stands}
-use Rattle.coap_exchange.proofs.AskerApart.{known}
-use Rattle.coap_exchange.proofs.AskerCame.{came_from}
-use Rattle.coap_exchange.proofs.AskerTokens.{counted}
-use Rattle.coap_ends.proofs.ClientExactly.{is_exact}
-use Rattle.coap_ends.proofs.ClientGoing.{goes_on}
-use Rattle.coap_ends.proofs.ClientResting.{comes_to_rest}
-use Rattle.coap_ends.specs.ClientLaw.{lower_of, layer_of}
-use Rattle.coap_layer.specs.State.{start}
-use Rattle.coap_exchange.specs.AskerLaw as asker
-use Rattle.coap_ends.proofs.ClientBegun.{asked_for, exchange_of, request_of}
-use Rattle.coap_ends.proofs.ClientReplies.{replies_so}
-use Rattle.coap_ends.proofs.ClientNons.{no_nons}
-use Rattle.coap_ends.proofs.ClientCons.{one_con}
-use Rattle.coap_ends.proofs.ClientSent.{once_of, are_sent}
-use Rattle.coap_ends.proofs.ClientAnswers.{are_answers, are_from_server}
-use Rattle.coap_ends.proofs.ClientOnce.{reported_once}
-use Rattle.coap_ends.proofs.ClientHears.{are_heard}
-use Rattle.coap_ends.proofs.ClientNumbers.{one_sending}
-use Rattle.coap_ends.proofs.ClientGiven.{gives_in_order}
-use Rattle.coap_ends.proofs.ClientCounted.{one_call}
-use Rattle.coap_ends.proofs.ClientEnded.{all_ends}
-use Rattle.coap_ends.proofs.ClientQueued.{in_order, all_taken}
+use Rattle.coap_layer.proofs.Facts.Laws.{copies_in_time}
+use Rattle.coap_ends.specs.ClientLaw.{layer_of}
+use Rattle.coap_ends.proofs.Exact.ClientExactly.{is_exact}
+use Rattle.coap_ends.proofs.Facts.OfClient as client
 use Rattle.coap_ends.proofs.laws.client_law.Goals as goal
 
 pub returns-clause-layer : goal.returns-clause-layer
-returns-clause-layer c server szx word t law = layer_stands server word (lower_of t) law.exchanges
+returns-clause-layer c server szx word t law = client.layer server szx word t law
+
+pub returns-clause-back : goal.returns-clause-back
+returns-clause-back c server szx word calls t law = client.back server szx word calls t law
 
 pub returns-clause-exact : goal.returns-clause-exact
 returns-clause-exact c server szx word past = is_exact server szx word past
 
-pub returns-clause-goes : goal.returns-clause-goes
-returns-clause-goes c server szx word t law = goes_on server szx word t law
-
 pub returns-clause-copies : goal.returns-clause-copies
-returns-clause-copies c server szx word t law = copies_in_time word (layer_of server word t) (layer_stands server word (lower_of t) law.exchanges)
+returns-clause-copies c server szx word t law = copies_in_time word (layer_of server word t) (client.layer server szx word t law)
 
-pub returns-clause-begins : goal.returns-clause-begins
-returns-clause-begins c server szx word t law con h =
-    request_of server con t (exchange_of server word con (lower_of t) law.exchanges.rows
-    (asked_for con (start word) law.exchanges.left (asker.lower_of server word (lower_of t)) law.exchanges.layer h))
-
-pub returns-clause-one_con : goal.returns-clause-one_con
-returns-clause-one_con c server szx word t law =
-    one_con server word t law.exchanges (once_of word (lower_of t) (counted server word (lower_of t) law.exchanges.rows).0) (layer_stands server word (lower_of t) law.exchanges)
-
-pub returns-clause-nons : goal.returns-clause-nons
-returns-clause-nons c server szx word t law = no_nons server word (lower_of t)
-
-pub returns-clause-replies : goal.returns-clause-replies
-returns-clause-replies c server szx word t law = replies_so server word (lower_of t) law.exchanges.rows law.exchanges.left law.exchanges.layer
-
-pub returns-clause-sent : goal.returns-clause-sent
-returns-clause-sent c server szx word t law = are_sent t (once_of word (lower_of t) (counted server word (lower_of t) law.exchanges.rows).0)
-
-pub returns-clause-sending : goal.returns-clause-sending
-returns-clause-sending c server szx word t law = one_sending szx t law.rows (are_sent t (once_of word (lower_of t) (counted server word (lower_of t) law.exchanges.rows).0))
-
-pub returns-clause-answers : goal.returns-clause-answers
-returns-clause-answers c server szx word t law =
-    are_answers t (are_sent t (once_of word (lower_of t) (counted server word (lower_of t) law.exchanges.rows).0)) (known server word (lower_of t) law.exchanges.rows).0
-
-pub returns-clause-from_server : goal.returns-clause-from_server
-returns-clause-from_server c server szx word t law = are_from_server server t (came_from server word (lower_of t) law.exchanges.rows law.exchanges.left law.exchanges.layer)
-
-pub returns-clause-heard : goal.returns-clause-heard
-returns-clause-heard c server szx word t law = are_heard server word t law.exchanges.rows law.exchanges.left law.exchanges.layer
-
-pub returns-clause-once : goal.returns-clause-once
-returns-clause-once c server szx word t law = reported_once szx t law.rows
-
-pub returns-clause-in_order : goal.returns-clause-in_order
-returns-clause-in_order c server szx word t law = gives_in_order szx t law.rows
-
-pub returns-clause-numbers : goal.returns-clause-numbers
-returns-clause-numbers c server szx word t law = one_call szx t law.rows
+pub returns-clause-goes : goal.returns-clause-goes
+returns-clause-goes c server szx word t law = client.goes server szx word t law
 
 pub returns-clause-rests : goal.returns-clause-rests
-returns-clause-rests c server szx word t law = comes_to_rest server szx word t law
+returns-clause-rests c server szx word t law = client.rests server szx word t law
+
+pub returns-clause-begins : goal.returns-clause-begins
+returns-clause-begins c server szx word t law = client.begins server szx word t law
+
+pub returns-clause-one_con : goal.returns-clause-one_con
+returns-clause-one_con c server szx word t law = client.one_con_each server szx word t law
+
+pub returns-clause-nons : goal.returns-clause-nons
+returns-clause-nons c server szx word t law = client.nons server word t
+
+pub returns-clause-replies : goal.returns-clause-replies
+returns-clause-replies c server szx word t law = client.replies server szx word t law
+
+pub returns-clause-sent : goal.returns-clause-sent
+returns-clause-sent c server szx word t law = client.sent server szx word t law
+
+pub returns-clause-sending : goal.returns-clause-sending
+returns-clause-sending c server szx word t law = client.sending server szx word t law
+
+pub returns-clause-numbers : goal.returns-clause-numbers
+returns-clause-numbers c server szx word t law = client.numbers server szx word t law
+
+pub returns-clause-answers : goal.returns-clause-answers
+returns-clause-answers c server szx word t law = client.answers server szx word t law
+
+pub returns-clause-from_server : goal.returns-clause-from_server
+returns-clause-from_server c server szx word t law = client.from_server server szx word t law
+
+pub returns-clause-heard : goal.returns-clause-heard
+returns-clause-heard c server szx word t law = client.heard server szx word t law
+
+pub returns-clause-once : goal.returns-clause-once
+returns-clause-once c server szx word t law = client.once server szx word t law
+
+pub returns-clause-in_order : goal.returns-clause-in_order
+returns-clause-in_order c server szx word t law = client.in_order server szx word t law
 
 pub returns-clause-starts : goal.returns-clause-starts
-returns-clause-starts c server szx word t law = in_order t
+returns-clause-starts c server szx word t law = client.starts server szx word t law
 
 pub returns-clause-takes : goal.returns-clause-takes
-returns-clause-takes c server szx word t law = all_taken szx t law.rows
+returns-clause-takes c server szx word t law = client.takes server szx word t law
 
 pub returns-clause-ends : goal.returns-clause-ends
-returns-clause-ends c server szx word t law = all_ends server szx word t law
+returns-clause-ends c server szx word t law = client.ends server szx word t law
+
+pub returns-clause-order : goal.returns-clause-order
+returns-clause-order c server szx word t law = client.order server szx word t law

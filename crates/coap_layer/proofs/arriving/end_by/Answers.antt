@@ -1,7 +1,7 @@
 use Rattle.std.proofs.Common.{ap, sym, ◌∙◌}
-use Rattle.coap_layer.specs.Parts.{open_before}
-use Rattle.coap_layer.specs.Sendings.{open_now}
-use Rattle.coap_layer.proofs.OutstandingLemmas.{ended_by, ended_open, ended_before}
+use Rattle.coap_layer.specs.Machine.Parts.{open_before}
+use Rattle.coap_layer.specs.Machine.Sendings.{open_now}
+use Rattle.coap_layer.proofs.Calls.Outstanding.{ended_by, ended_open, ended_before}
 use Rattle.coap_layer.proofs.arriving.end_by.Goals as goal
 
 pub returns-then-ends-clause-open : goal.returns-then-ends-clause-open

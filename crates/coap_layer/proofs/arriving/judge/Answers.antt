@@ -1,4 +1,4 @@
-use Rattle.coap_layer.proofs.ArrivingLemmas.{fault_judged}
+use Rattle.coap_layer.proofs.Calls.JudgedByTable.{fault_judged}
 use Rattle.coap_layer.proofs.arriving.judge.Goals as goal
 
 pub returns-in-Err : goal.returns-in-Err

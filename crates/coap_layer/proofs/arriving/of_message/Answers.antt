@@ -1,11 +1,11 @@
 use Rattle.std.proofs.Common.{◌≡◌, ap, sym, ◌∙◌, nat_le, count_by, ◌&&◌, ◌==◌, is_some}
 use Rattle.std.specs.List.{list_any}
 use Rattle.coap_types.specs.SameEndpoint.{same_endpoint}
-use Rattle.coap_layer.specs.Entries.{arrived_as}
-use Rattle.coap_layer.specs.State.{is_of, is_live, is_outstanding, is_remembered, is_full}
-use Rattle.coap_layer.proofs.ArrivingLemmas.{judged}
-use Rattle.coap_layer.proofs.EntryLemmas.{remembered_is, full_is}
-use Rattle.coap_layer.proofs.SendingLemmas.{outstanding_is}
+use Rattle.coap_layer.specs.Machine.Entries.{arrived_as}
+use Rattle.coap_layer.specs.Machine.State.{is_of, is_live, is_outstanding, is_remembered, is_full}
+use Rattle.coap_layer.proofs.Calls.JudgedByTable.{judged}
+use Rattle.coap_layer.proofs.Calls.Entries.{remembered_is, full_is}
+use Rattle.coap_layer.proofs.Calls.Sendings.{outstanding_is}
 use Rattle.coap_layer.proofs.arriving.of_message.Goals as goal
 
 pub returns : goal.returns

@@ -1,6 +1,6 @@
 use Rattle.std.proofs.Common.{rules, ◌<◌, subst}
 use Rattle.coap_codec.specs.Refused.{HasNoSpelling}
-use Rattle.coap_layer.proofs.SpellingLemmas.{same_message, not_refused, spelled_so}
+use Rattle.coap_layer.proofs.Facts.Spelling.{same_message, not_refused, spelled_so}
 use Rattle.coap_layer.proofs.content.spell.Goals as goal
 
 pub unreachable-requires : goal.unreachable-requires

@@ -2,8 +2,8 @@ use Rattle.std.proofs.Common.{rules, ◌≡◌, ◌<◌, ap, sym, ◌∙◌, ◌
 use Rattle.std.proofs.lemmas.List.{get_or_default}
 use Rattle.coap_types.specs.SameEndpoint.{same_endpoint}
 use Rattle.coap_layer.specs.declared.dedup.Remembered.{Remembered}
-use Rattle.coap_layer.specs.Entries.{storing}
-use Rattle.coap_layer.proofs.EntryLemmas.{changed_last, stored_there}
+use Rattle.coap_layer.specs.Machine.Entries.{storing}
+use Rattle.coap_layer.proofs.Calls.Entries.{changed_last, stored_there}
 use Rattle.coap_layer.proofs.dedup.store_reply.Goals as goal
 
 pub returns-then-id-index-clause-items : goal.returns-then-id-index-clause-items

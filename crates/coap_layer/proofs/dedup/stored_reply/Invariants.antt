@@ -1,6 +1,6 @@
 use Rattle.std.proofs.Common.{◌≡◌, drop}
-use Rattle.coap_layer.specs.State.{reply_of}
-use Rattle.coap_layer.specs.Entries.{arrivals_in}
+use Rattle.coap_layer.specs.Machine.State.{reply_of}
+use Rattle.coap_layer.specs.Machine.Entries.{arrivals_in}
 use Rattle.coap_layer.proofs.dedup.stored_reply.Given as goal
 
 abbrev pub invariant-loop-e : goal.invariant-loop-e

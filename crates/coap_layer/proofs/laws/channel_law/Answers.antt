@@ -1,7 +1,7 @@
-use Rattle.coap_layer.proofs.AckLemmas.{acks_replied, acks_taken}
-use Rattle.coap_layer.proofs.HandedLemmas.{handed_spelled, acks_heard}
-use Rattle.coap_layer.proofs.HopLemmas.{arrives_as_sent, cons_begun, nons_sent}
-use Rattle.coap_layer.proofs.TakenLemmas.{only_that_con, taken_once, handed_once}
+use Rattle.coap_layer.proofs.Between.AcksAreReplies.{acks_replied, acks_taken}
+use Rattle.coap_layer.proofs.Arrivals.HandedAsSpelled.{handed_spelled, acks_heard}
+use Rattle.coap_layer.proofs.Between.WhatArrivesWasSent.{arrives_as_sent, cons_begun, nons_sent}
+use Rattle.coap_layer.proofs.Between.TakenOnce.{only_that_con, taken_once, handed_once}
 use Rattle.coap_layer.proofs.laws.channel_law.Goals as goal
 
 pub returns-clause-sent : goal.returns-clause-sent

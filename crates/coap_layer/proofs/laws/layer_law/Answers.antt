@@ -1,8 +1,11 @@
-use Rattle.coap_layer.proofs.Forgetting.{led_step}
-use Rattle.coap_layer.proofs.RowLemmas.{exact}
-use Rattle.coap_layer.proofs.CopyLemmas.{handed_up_once, copies_in_time, ids_apart, one_outstanding}
-use Rattle.coap_layer.proofs.StepsLemmas.{led_steps}
-use Rattle.coap_layer.proofs.EndsLemmas.{ends_outstanding}
+use Rattle.coap_layer.proofs.Machine.Forgetting.{led_step}
+use Rattle.coap_layer.proofs.Machine.RowsAreSteps.{exact}
+use Rattle.coap_layer.proofs.Copies.CopiesInTime.{handed_up_once, copies_in_time, ids_apart, one_outstanding}
+use Rattle.coap_layer.proofs.Facts.Calls.{led_steps}
+use Rattle.coap_layer.proofs.Arrivals.EndsOfOutstanding.{ends_outstanding}
+use Rattle.coap_layer.proofs.Arrivals.FewAreRemembered.{few}
+use Rattle.coap_layer.proofs.Numbers.IdsAreSmall.{ids_small}
+use Rattle.coap_layer.proofs.Arrivals.ResponsesAreSpelled.{responses_spelled}
 use Rattle.coap_layer.proofs.laws.layer_law.Goals as goal
 
 pub returns-clause-step : goal.returns-clause-step
@@ -28,3 +31,12 @@ returns-clause-steps c = led_steps
 
 pub returns-clause-ends : goal.returns-clause-ends
 returns-clause-ends c = ends_outstanding
+
+pub returns-clause-few : goal.returns-clause-few
+returns-clause-few c = few
+
+pub returns-clause-small : goal.returns-clause-small
+returns-clause-small c = ids_small
+
+pub returns-clause-responses : goal.returns-clause-responses
+returns-clause-responses c = responses_spelled

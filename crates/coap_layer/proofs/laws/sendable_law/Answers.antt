@@ -1,4 +1,4 @@
-use Rattle.coap_layer.proofs.SendableLemmas.{sendable_when_short}
+use Rattle.coap_layer.proofs.Facts.Sendable.{sendable_when_short}
 use Rattle.coap_layer.proofs.laws.sendable_law.Goals as goal
 
 pub returns : goal.returns

@@ -1,5 +1,5 @@
-use Rattle.coap_layer.proofs.SendWitness.{five_times}
-use Rattle.coap_layer.proofs.ChannelWitness.{acknowledged}
+use Rattle.coap_layer.proofs.Witness.FiveTimes.{five_times}
+use Rattle.coap_layer.proofs.Witness.IsAcknowledged.{acknowledged}
 use Rattle.coap_layer.proofs.laws.witness_law.Goals as goal
 
 pub returns-clause-five : goal.returns-clause-five

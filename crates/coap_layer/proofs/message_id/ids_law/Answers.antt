@@ -1,4 +1,4 @@
-use Rattle.coap_layer.proofs.IdsApart.{apart, numbers_law, ids_exact}
+use Rattle.coap_layer.proofs.Numbers.EqualIdsAreApart.{apart, numbers_law, ids_exact}
 use Rattle.coap_layer.proofs.message_id.ids_law.Goals as goal
 
 pub returns-clause-exact : goal.returns-clause-exact

@@ -1,6 +1,6 @@
 use Rattle.std.proofs.Common.{◌≡◌, drop}
-use Rattle.coap_layer.specs.Sendings.{open_now}
-use Rattle.coap_layer.specs.State.{copies}
+use Rattle.coap_layer.specs.Machine.Sendings.{open_now}
+use Rattle.coap_layer.specs.Machine.State.{copies}
 use Rattle.coap_layer.proofs.outstanding.due_copy.Given as goal
 
 abbrev pub invariant-loop-c : goal.invariant-loop-c

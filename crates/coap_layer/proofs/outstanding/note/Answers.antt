@@ -1,5 +1,5 @@
 use Rattle.std.proofs.lemmas.List.Edits.{map_over_more}
-use Rattle.coap_layer.specs.Parts.{settled}
+use Rattle.coap_layer.specs.Machine.Parts.{settled}
 use Rattle.coap_layer.proofs.outstanding.note.Goals as goal
 
 pub loop-c-preserved : goal.loop-c-preserved

@@ -1,5 +1,5 @@
 use Rattle.std.proofs.Common.{◌≡◌, ◌++◌, take, drop, map}
-use Rattle.coap_layer.specs.Parts.{settled}
+use Rattle.coap_layer.specs.Machine.Parts.{settled}
 use Rattle.coap_layer.proofs.outstanding.note.Given as goal
 
 abbrev pub invariant-loop-c : goal.invariant-loop-c

@@ -1,6 +1,6 @@
 use Rattle.std.proofs.Common.{ap, ◌∙◌}
-use Rattle.coap_layer.specs.Sendings.{open_now}
-use Rattle.coap_layer.proofs.OutstandingLemmas.{back_open}
+use Rattle.coap_layer.specs.Machine.Sendings.{open_now}
+use Rattle.coap_layer.proofs.Calls.Outstanding.{back_open}
 use Rattle.coap_layer.proofs.outstanding.put_back.Goals as goal
 
 pub returns-clause-open : goal.returns-clause-open

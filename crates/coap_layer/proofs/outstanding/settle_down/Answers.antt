@@ -1,7 +1,7 @@
 use Rattle.std.proofs.Common.{ap, ◌∙◌}
-use Rattle.coap_layer.specs.Parts.{open_before}
-use Rattle.coap_layer.specs.Sendings.{open_now}
-use Rattle.coap_layer.proofs.OutstandingLemmas.{dropped_open, settled_open, settled_before}
+use Rattle.coap_layer.specs.Machine.Parts.{open_before}
+use Rattle.coap_layer.specs.Machine.Sendings.{open_now}
+use Rattle.coap_layer.proofs.Calls.Outstanding.{dropped_open, settled_open, settled_before}
 use Rattle.coap_layer.proofs.outstanding.settle_down.Goals as goal
 
 pub returns-clause-open : goal.returns-clause-open

@@ -1,5 +1,5 @@
 use Rattle.std.proofs.lemmas.List.Edits.{map_over_more}
-use Rattle.coap_layer.specs.Sendings.{ended}
+use Rattle.coap_layer.specs.Machine.Sendings.{ended}
 use Rattle.coap_layer.proofs.retransmission.end.Goals as goal
 
 pub loop-c-preserved : goal.loop-c-preserved

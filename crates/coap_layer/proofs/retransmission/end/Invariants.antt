@@ -1,5 +1,5 @@
 use Rattle.std.proofs.Common.{◌≡◌, ◌++◌, take, drop, map}
-use Rattle.coap_layer.specs.Sendings.{ended}
+use Rattle.coap_layer.specs.Machine.Sendings.{ended}
 use Rattle.coap_layer.proofs.retransmission.end.Given as goal
 
 abbrev pub invariant-loop-c : goal.invariant-loop-c

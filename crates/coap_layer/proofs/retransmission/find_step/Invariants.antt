@@ -1,6 +1,6 @@
 use Rattle.std.proofs.Common.{◌≡◌, drop}
-use Rattle.coap_layer.specs.State.{tick_of}
-use Rattle.coap_layer.specs.Sendings.{open_now}
+use Rattle.coap_layer.specs.Machine.State.{tick_of}
+use Rattle.coap_layer.specs.Machine.Sendings.{open_now}
 use Rattle.coap_layer.proofs.retransmission.find_step.Given as goal
 
 abbrev pub invariant-loop-c : goal.invariant-loop-c

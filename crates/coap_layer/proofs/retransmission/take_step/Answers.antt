@@ -1,7 +1,7 @@
 use Rattle.std.proofs.Common.{ap, sym, ◌∙◌}
-use Rattle.coap_layer.specs.Parts.{open_before}
-use Rattle.coap_layer.proofs.OutstandingLemmas.{marked_before, ended_before}
-use Rattle.coap_layer.proofs.SendingLemmas.{idle_left, copy_left, failure_left}
+use Rattle.coap_layer.specs.Machine.Parts.{open_before}
+use Rattle.coap_layer.proofs.Calls.Outstanding.{marked_before, ended_before}
+use Rattle.coap_layer.proofs.Calls.Sendings.{idle_left, copy_left, failure_left}
 use Rattle.coap_layer.proofs.retransmission.take_step.Goals as goal
 
 pub returns-in-Nothing-clause-open : goal.returns-in-Nothing-clause-open

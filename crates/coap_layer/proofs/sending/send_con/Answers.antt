@@ -1,5 +1,5 @@
 use Rattle.std.proofs.Common.{◌∙◌, refl}
-use Rattle.coap_layer.proofs.OutstandingLemmas.{begun_open, begun_before}
+use Rattle.coap_layer.proofs.Calls.Outstanding.{begun_open, begun_before}
 use Rattle.coap_layer.proofs.sending.send_con.Goals as goal
 
 pub returns-clause-open : goal.returns-clause-open

@@ -1,8 +1,8 @@
 use Rattle.std.proofs.Common.{rules, ap, ◌∙◌, filter}
 use Rattle.std.specs.Option.{option_to_list}
-use Rattle.coap_layer.specs.Arriving.{hands, newly_by}
-use Rattle.coap_layer.specs.State.{is_live}
-use Rattle.coap_layer.proofs.TakingLemmas.{grown_arrivals, before_grown, placed_grown}
+use Rattle.coap_layer.specs.Machine.Arriving.{hands, newly_by}
+use Rattle.coap_layer.specs.Machine.State.{is_live}
+use Rattle.coap_layer.proofs.Calls.TakenIn.{grown_arrivals, before_grown, placed_grown}
 use Rattle.coap_layer.proofs.taking.take_in.Goals as goal
 
 pub returns-clause-arrived : goal.returns-clause-arrived

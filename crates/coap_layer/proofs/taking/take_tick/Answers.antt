@@ -1,9 +1,9 @@
 use Rattle.std.proofs.Common.{rules, ap, sym, ◌∙◌, []}
 use Rattle.std.proofs.lemmas.List.{append-nil}
 use Rattle.std.specs.Option.{option_to_list}
-use Rattle.coap_layer.specs.Entries.{arrivals_in}
-use Rattle.coap_layer.proofs.EntryLemmas.{live_arrivals}
-use Rattle.coap_layer.proofs.TakingLemmas.{before_grown}
+use Rattle.coap_layer.specs.Machine.Entries.{arrivals_in}
+use Rattle.coap_layer.proofs.Calls.Entries.{live_arrivals}
+use Rattle.coap_layer.proofs.Calls.TakenIn.{before_grown}
 use Rattle.coap_layer.proofs.taking.take_tick.Goals as goal
 
 pub returns-clause-arrived : goal.returns-clause-arrived

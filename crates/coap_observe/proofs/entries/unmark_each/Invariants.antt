@@ -1,7 +1,7 @@
 use Rattle.std.proofs.Common.{◌≡◌, ◌++◌, take, drop}
 use Rattle.coap_observe.specs.Observers.{sent_to}
-use Rattle.coap_observe.specs.Shown.{kept}
+use Rattle.coap_observe.specs.Shown.{observers_of}
 use Rattle.coap_observe.proofs.entries.unmark_each.Given as goal
 
 abbrev pub invariant-loop-entry : goal.invariant-loop-entry
-invariant-loop-entry g l = kept l.entries ≡ sent_to l.to l.token (take l.entry-index (kept l.initial.entries)) ++ drop l.entry-index (kept l.initial.entries)
+invariant-loop-entry g l = observers_of l.entries ≡ sent_to l.to l.token (take l.entry-index (observers_of l.initial.entries)) ++ drop l.entry-index (observers_of l.initial.entries)

@@ -1,4 +1,5 @@
-use Rattle.coap_observe.proofs.ObserverLemmas.{is_of-decides, others_stay, registration-changed_at, registration-registered, registration-removed, registration-sent_to, registrations-changed, registrations-registered, registrations-removed, registrations-sent}
+use Rattle.coap_observe.proofs.Facts.DueCounts.{remove_never_raises, send_keeps, send_lowers}
+use Rattle.coap_observe.proofs.Facts.Registrations.{is_of-decides, others_stay, registration-changed_at, registration-registered, registration-removed, registration-sent_to, registrations-changed, registrations-registered, registrations-removed, registrations-sent}
 use Rattle.coap_observe.proofs.laws.observer_laws.Goals as goal
 
 pub returns-clause-known_by_pair : goal.returns-clause-known_by_pair
@@ -26,3 +27,12 @@ returns-clause-registrations c = λ os r. record {
   changed_stay = λ path. registrations-changed path os r;
   sent_stay = λ to token. registrations-sent to token os r;
 }
+
+pub returns-clause-send_lowers : goal.returns-clause-send_lowers
+returns-clause-send_lowers c = send_lowers
+
+pub returns-clause-send_keeps : goal.returns-clause-send_keeps
+returns-clause-send_keeps c = send_keeps
+
+pub returns-clause-remove_never_raises : goal.returns-clause-remove_never_raises
+returns-clause-remove_never_raises c = remove_never_raises

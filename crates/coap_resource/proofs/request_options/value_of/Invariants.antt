@@ -1,6 +1,6 @@
 use Rattle.std.proofs.Common.{◌≡◌, drop}
 use Rattle.coap_types.specs.CoapOption.{options_of}
-use Rattle.coap_resource.specs.RequestOptions.{value_of}
+use Rattle.coap_types.specs.OptionValues.{value_of}
 use Rattle.coap_resource.proofs.request_options.value_of.Given as goal
 
 abbrev pub invariant-loop-option : goal.invariant-loop-option

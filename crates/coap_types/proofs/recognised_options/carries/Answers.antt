@@ -1,17 +1,6 @@
-use Rattle.std.proofs.Common.{rules, [], ◌∷◌, refl}
-use Rattle.coap_types.specs.CoapOption.{option_of, options_of}
-use Rattle.coap_types.proofs.RecognisedLemmas.{options_append}
-use Rattle.coap_types.proofs.UnrecognisedLemmas.{none_carried, carried_more}
+use Rattle.std.proofs.Common.{◌∙◌, is_some, ap}
+use Rattle.coap_types.proofs.UnrecognisedLemmas.{lent}
 use Rattle.coap_types.proofs.recognised_options.carries.Goals as goal
 
-pub loop-option-init : goal.loop-option-init
-loop-option-init g c = (search rules, (search rules, none_carried _ _ _ refl))
-
-pub loop-option-preserved : goal.loop-option-preserved
-loop-option-preserved g c =
-    let so = c.loop-option.invariant.1.1 in
-    let before = options_of c.loop-option.yielded in
-    let o = option_of c.in-Some.option in
-    let is = c.is_recognised-known.ensures before (λ low. c.was_seen-again.ensures before so.numbers low) in
-    let numbers = c.see.ensures before o refl so.numbers in
-    (search rules, (search rules, rw (options_append c.loop-option.yielded (c.in-Some.option ∷ [])) (carried_more _ _ before o _ _ _ _ _ so numbers is c.or_carried-found.ensures)))
+pub returns : goal.returns
+returns g c = let e = c.recognised_value.ensures in (e.0, e.1, c.is_some.ensures ∙ lent _ ∙ ap is_some e.2)

@@ -1,14 +1,15 @@
 -- The server of a legal run: it refuses a POST to a path that holds nothing (RFC 7252, sections 5.8.2 and 5.9.2.5).
 use Rattle.std.proofs.Common.{ℕ, true, Some, None, List, [], refl, arith}
-use Rattle.coap_codec.specs.Reading.{extended, value_at, nibbles_at, option_at, walk_of, walk, payload_at, frame_fault, body_at, message_at}
-use Rattle.coap_codec.specs.Writing.{option_bytes, options_bytes}
-use Rattle.coap_layer.proofs.SendableLemmas.{sendable_when_short}
+use Rattle.coap_codec.specs.Reading.{extended, value_at, nibbles_at, option_at, walk_of, walk, payload_at, frame_fault, body_at}
+use Rattle.coap_codec.specs.Decoded.{decoded}
+use Rattle.coap_codec.specs.Spelling.{option_bytes, options_bytes}
+use Rattle.coap_layer.proofs.Facts.Sendable.{sendable_when_short}
 use Rattle.coap_layer.specs.Rows.{IsSpelled}
-use Rattle.coap_layer.specs.State.{start}
-use Rattle.coap_layer.specs.Steps.{Asked, Steps, left_after}
+use Rattle.coap_layer.specs.Machine.State.{start}
+use Rattle.coap_layer.specs.Machine.Steps.{Asked, Steps, left_after}
 use Rattle.coap_layer.specs.Trace as L
 use Rattle.std.specs.Prelude.{max}
-use Rattle.coap_resource.specs.Content.{Content, nothing, unchanged}
+use Rattle.coap_resource.specs.Content.{Content, nothing, later}
 use Rattle.coap_resource.specs.Serves.{Reply, bare}
 use Rattle.coap_exchange.specs.AnswererLaw as answerer
 use Rattle.coap_exchange.specs.AnswererSteps.{asked_of, content_of}
@@ -36,11 +37,11 @@ sendable =
 module _ (at : ℕ) where
   -- a POST to what isn't there changes nothing
   abbrev pub left : Content
-  left = unchanged (nothing 4194303) (max 0 at)
+  left = later (nothing 4194303) (max 0 at)
 
   -- the calls, the newest first
   abbrev pub serves : S.Call
-  serves = S.Feeds at client_end post_bytes 0 (L.Request request true) (Some (asked_of client_end request, request)) (S.Serves question reply response left) L.Nothing
+  serves = S.Feeds at client_end post_bytes 0 (L.Becomes (L.Request request true)) (Some (asked_of client_end request, request)) (S.Serves question reply response left) L.Nothing
 
   abbrev pub calls : List S.Call
   calls = with_out serves client_end not_found_bytes
@@ -73,7 +74,7 @@ module _ (at : ℕ) where
   run = answerer.lower_of (lower_of 4194303 6 calls)
 
   steps : Steps (start 0) run (left_after (start 0) run)
-  unfolding message_at frame_fault body_at walk walk_of option_at nibbles_at value_at extended payload_at option_bytes options_bytes
+  unfolding decoded frame_fault body_at walk walk_of option_at nibbles_at value_at extended payload_at option_bytes options_bytes
   steps = (
     _,
     (

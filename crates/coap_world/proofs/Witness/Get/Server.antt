@@ -1,15 +1,17 @@
 -- The server of a legal run: it is given a representation, and serves it (RFC 7252, sections 5.2.1 and 5.8.1).
 use Rattle.std.proofs.Common.{ℕ, true, Some, None, List, [], ◌∷◌, ◌++◌, Ok, refl, arith}
 use Rattle.std.specs.Prelude.{codes}
+use Rattle.coap_types.proofs.Facts.Bytes.{AreBytes-nil}
 use Rattle.coap_types.specs.declared.message.Kind.TheVariants.{Con}
 use Rattle.coap_types.specs.declared.request.Method.TheVariants.{Get}
 use Rattle.coap_codec.specs.Message.{Message}
-use Rattle.coap_codec.specs.Reading.{extended, value_at, nibbles_at, option_at, walk_of, walk, payload_at, frame_fault, body_at, message_at}
-use Rattle.coap_codec.specs.Writing.{option_bytes, options_bytes}
-use Rattle.coap_layer.proofs.SendableLemmas.{sendable_when_short}
+use Rattle.coap_codec.specs.Reading.{extended, value_at, nibbles_at, option_at, walk_of, walk, payload_at, frame_fault, body_at}
+use Rattle.coap_codec.specs.Decoded.{decoded}
+use Rattle.coap_codec.specs.Spelling.{option_bytes, options_bytes}
+use Rattle.coap_layer.proofs.Facts.Sendable.{sendable_when_short}
 use Rattle.coap_layer.specs.Rows.{IsSpelled}
-use Rattle.coap_layer.specs.State.{start}
-use Rattle.coap_layer.specs.Steps.{Asked, Steps, left_after}
+use Rattle.coap_layer.specs.Machine.State.{start}
+use Rattle.coap_layer.specs.Machine.Steps.{Asked, Steps, left_after}
 use Rattle.coap_layer.specs.Trace as L
 use Rattle.coap_resource.specs.Content.{Content, Changes, nothing}
 use Rattle.coap_resource.specs.Rate.{counted, unused}
@@ -49,7 +51,7 @@ abbrev pub sets : S.Call
 sets = S.Sets 0 (codes "t" ∷ []) (Some plain) (codes "hi") (Ok 1) stored
 
 abbrev pub serves : S.Call
-serves = S.Feeds 5 client_end get_bytes 0 (L.Request request true) (Some (asked_of client_end request, request)) (S.Serves question reply response stored) L.Nothing
+serves = S.Feeds 5 client_end get_bytes 0 (L.Becomes (L.Request request true)) (Some (asked_of client_end request, request)) (S.Serves question reply response stored) L.Nothing
 
 abbrev pub set : List S.Call
 set = alone sets
@@ -67,7 +69,7 @@ served at = record {
   options = content.options;
   left = stored;
   serves = (refl, refl);
-  says = record { format = Some []; block2 = None; format_is = record { spelt = refl; no_zero = tt }; block2_is = tt; list = refl };
+  says = record { format = Some []; block2 = None; format_is = record { are_bytes = AreBytes-nil; spelt = refl; no_zero = tt }; block2_is = tt; list = refl };
   bytes = values_are content.options refl;
   is = refl;
 }
@@ -90,7 +92,7 @@ abbrev run : List Asked
 run = answerer.lower_of (lower_of 4194303 6 calls)
 
 steps : Steps (start 0) run (left_after (start 0) run)
-unfolding message_at frame_fault body_at walk walk_of option_at nibbles_at value_at extended payload_at option_bytes options_bytes
+unfolding decoded frame_fault body_at walk walk_of option_at nibbles_at value_at extended payload_at option_bytes options_bytes
 steps = (
   _,
   (

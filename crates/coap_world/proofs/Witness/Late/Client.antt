@@ -2,9 +2,10 @@
 use Rattle.std.proofs.Common.{false, Some, None, List, [], ◌∷◌, ◌++◌, refl}
 use Rattle.coap_types.specs.declared.message.Kind.TheVariants.{Con}
 use Rattle.coap_codec.specs.Message.{Message}
-use Rattle.coap_codec.specs.Reading.{extended, value_at, nibbles_at, option_at, walk_of, walk, payload_at, frame_fault, body_at, message_at}
-use Rattle.coap_layer.specs.State.{start}
-use Rattle.coap_layer.specs.Steps.{Asked, Steps, left_after}
+use Rattle.coap_codec.specs.Reading.{extended, value_at, nibbles_at, option_at, walk_of, walk, payload_at, frame_fault, body_at}
+use Rattle.coap_codec.specs.Decoded.{decoded}
+use Rattle.coap_layer.specs.Machine.State.{start}
+use Rattle.coap_layer.specs.Machine.Steps.{Asked, Steps, left_after}
 use Rattle.coap_layer.specs.Trace as L
 use Rattle.coap_exchange.specs.declared.asker.Event.TheVariants as event
 use Rattle.coap_exchange.specs.AskerLaw as asker
@@ -26,10 +27,10 @@ ack_out = to_server empty_ack
 
 -- the calls of each turn from the first acknowledgement on, the newest first
 abbrev pub awaits : C.Call
-awaits = C.Feeds 0 server_end empty_ack 0 (L.Acked 0) false None
+awaits = C.Feeds 0 server_end empty_ack 0 (L.Becomes (L.Acked 0)) false None
 
 abbrev pub hears : C.Call
-hears = C.Feeds 1000 server_end separate_bytes 0 (L.Response separate) false (Some (event.Answer separate))
+hears = C.Feeds 1000 server_end separate_bytes 0 (L.Becomes (L.Response separate)) false (Some (event.Answer separate))
 
 abbrev pub told : List C.Call
 told = C.NextReport None ∷ C.NextOut None ∷ awaits ∷ []
@@ -44,7 +45,7 @@ abbrev run : List Asked
 run = asker.lower_of server_end 0 (lower_of calls)
 
 steps : Steps (start 0) run (left_after (start 0) run)
-unfolding message_at frame_fault body_at walk walk_of option_at nibbles_at value_at extended payload_at
+unfolding decoded frame_fault body_at walk walk_of option_at nibbles_at value_at extended payload_at
 steps = (
   _,
   (

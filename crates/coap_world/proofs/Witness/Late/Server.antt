@@ -1,10 +1,11 @@
 -- The server of a legal run: it serves a representation by a separate response (RFC 7252, sections 5.2.2 and 5.8.1).
 use Rattle.std.proofs.Common.{true, false, Some, None, List, [], ◌∷◌, ◌++◌, Ok, refl}
 use Rattle.std.specs.Prelude.{codes}
-use Rattle.coap_codec.specs.Reading.{extended, value_at, nibbles_at, option_at, walk_of, walk, payload_at, frame_fault, body_at, message_at}
-use Rattle.coap_codec.specs.Writing.{option_bytes, options_bytes}
-use Rattle.coap_layer.specs.State.{start}
-use Rattle.coap_layer.specs.Steps.{Asked as Below, Steps, left_after}
+use Rattle.coap_codec.specs.Reading.{extended, value_at, nibbles_at, option_at, walk_of, walk, payload_at, frame_fault, body_at}
+use Rattle.coap_codec.specs.Decoded.{decoded}
+use Rattle.coap_codec.specs.Spelling.{option_bytes, options_bytes}
+use Rattle.coap_layer.specs.Machine.State.{start}
+use Rattle.coap_layer.specs.Machine.Steps.{Asked as Below, Steps, left_after}
 use Rattle.coap_layer.specs.Trace as L
 use Rattle.coap_exchange.specs.declared.answerer.Asked.{Asked}
 use Rattle.coap_exchange.specs.declared.answerer.Due.TheVariants as due
@@ -29,7 +30,7 @@ abbrev pub asked : Asked
 asked = asked_of client_end request
 
 abbrev pub waits : S.Call
-waits = S.Feeds 0 client_end get_bytes 0 (L.Request request true) (Some (asked, request)) (S.Waits question 1000) L.Nothing
+waits = S.Feeds 0 client_end get_bytes 0 (L.Becomes (L.Request request true)) (Some (asked, request)) (S.Waits question 1000) L.Nothing
 
 abbrev pub serves : S.Call
 serves = S.Ticks 1000 0 L.Idle true (due.Ready asked) (S.Serves question reply response stored) 0 true
@@ -38,7 +39,7 @@ abbrev pub rests : S.Call
 rests = S.Ticks 1000 0 L.Idle false due.Idle S.Silent 0 false
 
 abbrev pub hears : S.Call
-hears = S.Feeds 1000 client_end empty_ack 0 (L.Acked 0) None S.Silent L.Nothing
+hears = S.Feeds 1000 client_end empty_ack 0 (L.Becomes (L.Acked 0)) None S.Silent L.Nothing
 
 abbrev pub set : List S.Call
 set = alone sets
@@ -66,7 +67,7 @@ abbrev run : List Below
 run = answerer.lower_of (lower_of 4194303 6 calls)
 
 steps : Steps (start 0) run (left_after (start 0) run)
-unfolding message_at frame_fault body_at walk walk_of option_at nibbles_at value_at extended payload_at option_bytes options_bytes
+unfolding decoded frame_fault body_at walk walk_of option_at nibbles_at value_at extended payload_at option_bytes options_bytes
 steps = (
   _,
   (

@@ -1,14 +1,15 @@
 -- The server of a legal run: it applies the DELETE of a stranger that came in a Non-confirmable message (RFC 7252, section 5.2.3).
 use Rattle.std.proofs.Common.{true, Some, None, List, [], ◌∷◌, refl, arith}
-use Rattle.coap_codec.specs.Reading.{extended, value_at, nibbles_at, option_at, walk_of, walk, payload_at, frame_fault, body_at, message_at}
-use Rattle.coap_codec.specs.Writing.{option_bytes, options_bytes}
-use Rattle.coap_layer.proofs.SendableLemmas.{sendable_when_short}
+use Rattle.coap_codec.specs.Reading.{extended, value_at, nibbles_at, option_at, walk_of, walk, payload_at, frame_fault, body_at}
+use Rattle.coap_codec.specs.Decoded.{decoded}
+use Rattle.coap_codec.specs.Spelling.{option_bytes, options_bytes}
+use Rattle.coap_layer.proofs.Facts.Sendable.{sendable_when_short}
 use Rattle.coap_layer.specs.Rows.{IsSpelled}
-use Rattle.coap_layer.specs.State.{start}
-use Rattle.coap_layer.specs.Steps.{Asked, Steps, left_after}
+use Rattle.coap_layer.specs.Machine.State.{start}
+use Rattle.coap_layer.specs.Machine.Steps.{Asked, Steps, left_after}
 use Rattle.coap_layer.specs.Trace as L
 use Rattle.std.specs.Prelude.{codes}
-use Rattle.coap_resource.specs.Content.{Content, nothing, unchanged}
+use Rattle.coap_resource.specs.Content.{Content, nothing, later}
 use Rattle.coap_resource.specs.Serves.{Question, Reply, bare}
 use Rattle.coap_types.specs.declared.message.Kind.TheVariants.{Non}
 use Rattle.coap_types.specs.declared.request.Method.TheVariants.{Delete}
@@ -33,14 +34,14 @@ abbrev pub reply : Reply
 reply = bare 66 0
 
 abbrev pub left : Content
-left = unchanged (nothing 4194303) 0
+left = later (nothing 4194303) 0
 
 abbrev pub response : E.Response
 response = record { code = 66; options = []; payload = [] }
 
 -- the calls, the newest first
 abbrev pub serves : S.Call
-serves = S.Feeds 0 stranger delete_non 0 (L.Request request true) (Some (asked_of stranger request, request)) (S.Serves question reply response left) (L.Sent 0)
+serves = S.Feeds 0 stranger delete_non 0 (L.Becomes (L.Request request true)) (Some (asked_of stranger request, request)) (S.Serves question reply response left) (L.Sent 0)
 
 abbrev pub calls : List S.Call
 calls = with_out serves stranger deleted_non
@@ -78,7 +79,7 @@ abbrev run : List Asked
 run = answerer.lower_of (lower_of 4194303 6 calls)
 
 steps : Steps (start 0) run (left_after (start 0) run)
-unfolding message_at frame_fault body_at walk walk_of option_at nibbles_at value_at extended payload_at option_bytes options_bytes
+unfolding decoded frame_fault body_at walk walk_of option_at nibbles_at value_at extended payload_at option_bytes options_bytes
 steps = (
   _,
   (

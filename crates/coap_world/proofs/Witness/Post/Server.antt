@@ -4,12 +4,13 @@ use Rattle.std.specs.Prelude.{codes}
 use Rattle.coap_types.specs.declared.message.Kind.TheVariants.{Con}
 use Rattle.coap_types.specs.declared.request.Method.TheVariants.{Post}
 use Rattle.coap_codec.specs.Message.{Message}
-use Rattle.coap_codec.specs.Reading.{extended, value_at, nibbles_at, option_at, walk_of, walk, payload_at, frame_fault, body_at, message_at}
-use Rattle.coap_codec.specs.Writing.{option_bytes, options_bytes}
-use Rattle.coap_layer.proofs.SendableLemmas.{sendable_when_short}
+use Rattle.coap_codec.specs.Reading.{extended, value_at, nibbles_at, option_at, walk_of, walk, payload_at, frame_fault, body_at}
+use Rattle.coap_codec.specs.Decoded.{decoded}
+use Rattle.coap_codec.specs.Spelling.{option_bytes, options_bytes}
+use Rattle.coap_layer.proofs.Facts.Sendable.{sendable_when_short}
 use Rattle.coap_layer.specs.Rows.{IsSpelled}
-use Rattle.coap_layer.specs.State.{start}
-use Rattle.coap_layer.specs.Steps.{Asked, Steps, left_after}
+use Rattle.coap_layer.specs.Machine.State.{start}
+use Rattle.coap_layer.specs.Machine.Steps.{Asked, Steps, left_after}
 use Rattle.coap_layer.specs.Trace as L
 use Rattle.coap_resource.specs.Content.{Content, Held}
 use Rattle.coap_resource.specs.Rate.{counted, unused}
@@ -56,10 +57,10 @@ abbrev pub sets : S.Call
 sets = S.Sets 0 log (Some plain) (codes "x") (Ok 1) before
 
 abbrev pub serves : S.Call
-serves = S.Feeds 0 client_end post_bytes 0 (L.Request request true) (Some (asked_of client_end request, request)) (S.Serves question reply response after) L.Nothing
+serves = S.Feeds 0 client_end post_bytes 0 (L.Becomes (L.Request request true)) (Some (asked_of client_end request, request)) (S.Serves question reply response after) L.Nothing
 
 abbrev pub replays : S.Call
-replays = S.Feeds 5 client_end post_bytes 0 L.Replayed None S.Silent L.Nothing
+replays = S.Feeds 5 client_end post_bytes 0 (L.Becomes L.Replayed) None S.Silent L.Nothing
 
 abbrev pub set : List S.Call
 set = alone sets
@@ -115,7 +116,7 @@ abbrev run : List Asked
 run = answerer.lower_of (lower_of 4194303 6 calls)
 
 steps : Steps (start 0) run (left_after (start 0) run)
-unfolding message_at frame_fault body_at walk walk_of option_at nibbles_at value_at extended payload_at option_bytes options_bytes
+unfolding decoded frame_fault body_at walk walk_of option_at nibbles_at value_at extended payload_at option_bytes options_bytes
 steps = (
   _,
   (

@@ -2,11 +2,12 @@
 use Rattle.std.proofs.Common.{List, [], ◌++◌, refl, arith}
 use Rattle.coap_types.specs.declared.message.Kind.TheVariants.{Ack}
 use Rattle.coap_codec.specs.Message.{Message}
-use Rattle.coap_codec.specs.Writing.{option_bytes, options_bytes}
-use Rattle.coap_layer.proofs.SendableLemmas.{sendable_when_short}
-use Rattle.coap_codec.specs.Reading.{extended, value_at, nibbles_at, option_at, walk_of, walk, payload_at, frame_fault, body_at, message_at}
-use Rattle.coap_layer.specs.State.{start}
-use Rattle.coap_layer.specs.Steps.{Asked, Steps, left_after}
+use Rattle.coap_codec.specs.Spelling.{option_bytes, options_bytes}
+use Rattle.coap_layer.proofs.Facts.Sendable.{sendable_when_short}
+use Rattle.coap_codec.specs.Reading.{extended, value_at, nibbles_at, option_at, walk_of, walk, payload_at, frame_fault, body_at}
+use Rattle.coap_codec.specs.Decoded.{decoded}
+use Rattle.coap_layer.specs.Machine.State.{start}
+use Rattle.coap_layer.specs.Machine.Steps.{Asked, Steps, left_after}
 use Rattle.coap_exchange.specs.AskerLaw as asker
 use Rattle.coap_ends.specs.ClientTrace as C
 use Rattle.coap_ends.specs.ClientLaw.{ClientLaw, lower_of}
@@ -36,7 +37,7 @@ abbrev run : List Asked
 run = asker.lower_of server_end 0 (lower_of calls)
 
 steps : Steps (start 0) run (left_after (start 0) run)
-unfolding message_at frame_fault body_at walk walk_of option_at nibbles_at value_at extended payload_at
+unfolding decoded frame_fault body_at walk walk_of option_at nibbles_at value_at extended payload_at
 steps = (
   _,
   (

@@ -1,11 +1,12 @@
 -- The server of a legal run: a PUT makes what its path holds (RFC 7252, sections 5.8.3 and 5.9.1.1).
 use Rattle.std.proofs.Common.{true, Some, None, List, [], ◌∷◌, refl, arith}
-use Rattle.coap_codec.specs.Reading.{extended, value_at, nibbles_at, option_at, walk_of, walk, payload_at, frame_fault, body_at, message_at}
-use Rattle.coap_codec.specs.Writing.{option_bytes, options_bytes}
-use Rattle.coap_layer.proofs.SendableLemmas.{sendable_when_short}
+use Rattle.coap_codec.specs.Reading.{extended, value_at, nibbles_at, option_at, walk_of, walk, payload_at, frame_fault, body_at}
+use Rattle.coap_codec.specs.Decoded.{decoded}
+use Rattle.coap_codec.specs.Spelling.{option_bytes, options_bytes}
+use Rattle.coap_layer.proofs.Facts.Sendable.{sendable_when_short}
 use Rattle.coap_layer.specs.Rows.{IsSpelled}
-use Rattle.coap_layer.specs.State.{start}
-use Rattle.coap_layer.specs.Steps.{Asked, Steps, left_after}
+use Rattle.coap_layer.specs.Machine.State.{start}
+use Rattle.coap_layer.specs.Machine.Steps.{Asked, Steps, left_after}
 use Rattle.coap_layer.specs.Trace as L
 use Rattle.std.specs.Prelude.{codes}
 use Rattle.coap_types.specs.declared.message.Kind.TheVariants.{Con}
@@ -52,7 +53,7 @@ left = one (codes "t" ∷ []) held (counted (unused 4194303) 5)
 
 -- the calls, the newest first
 abbrev pub serves : S.Call
-serves = S.Feeds 5 client_end put_bytes 0 (L.Request request true) (Some (asked_of client_end request, request)) (S.Serves question reply response left) L.Nothing
+serves = S.Feeds 5 client_end put_bytes 0 (L.Becomes (L.Request request true)) (Some (asked_of client_end request, request)) (S.Serves question reply response left) L.Nothing
 
 abbrev pub calls : List S.Call
 calls = with_out serves client_end created_bytes
@@ -85,7 +86,7 @@ abbrev run : List Asked
 run = answerer.lower_of (lower_of 4194303 6 calls)
 
 steps : Steps (start 0) run (left_after (start 0) run)
-unfolding message_at frame_fault body_at walk walk_of option_at nibbles_at value_at extended payload_at option_bytes options_bytes
+unfolding decoded frame_fault body_at walk walk_of option_at nibbles_at value_at extended payload_at option_bytes options_bytes
 steps = (
   _,
   (

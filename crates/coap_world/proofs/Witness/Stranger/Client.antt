@@ -1,7 +1,7 @@
 -- The client of a legal run: its DELETE is sent, and not answered (RFC 7252, sections 4.2 and 5.8.4).
 use Rattle.std.proofs.Common.{refl, arith}
-use Rattle.coap_codec.specs.Writing.{option_bytes, options_bytes}
-use Rattle.coap_layer.proofs.SendableLemmas.{sendable_when_short}
+use Rattle.coap_codec.specs.Spelling.{option_bytes, options_bytes}
+use Rattle.coap_layer.proofs.Facts.Sendable.{sendable_when_short}
 use Rattle.coap_ends.specs.ClientLaw.{ClientLaw}
 use Rattle.coap_world.specs.Events.{server_end}
 use Rattle.coap_world.specs.LegalRuns.{delete, delete_bytes}

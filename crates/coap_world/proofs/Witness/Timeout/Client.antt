@@ -1,9 +1,9 @@
 -- The client of a legal run: its POST goes out five times and is not acknowledged (RFC 7252, section 4.2).
 use Rattle.std.proofs.Common.{ℕ, true, Ok, Some, None, List, [], ◌∷◌, ◌++◌, refl}
 use Rattle.std.specs.Prelude.{replicate}
-use Rattle.coap_codec.specs.Writing.{option_bytes, options_bytes}
-use Rattle.coap_layer.specs.State.{State, Step, start}
-use Rattle.coap_layer.specs.Steps.{Asked, Steps}
+use Rattle.coap_codec.specs.Spelling.{option_bytes, options_bytes}
+use Rattle.coap_layer.specs.Machine.State.{State, Step, start}
+use Rattle.coap_layer.specs.Machine.Steps.{Asked, Steps}
 use Rattle.coap_layer.specs.Trace as L
 use Rattle.coap_exchange.specs.declared.asker.Event.TheVariants as event
 use Rattle.coap_exchange.specs.declared.asker.Turn.TheVariants as turn

@@ -1,9 +1,10 @@
 -- The server of a legal run: it applies a POST that comes 130,000 ms after it was sent first (RFC 7252, section 5.8.2).
 use Rattle.std.proofs.Common.{true, Some, None, List, [], ◌++◌, refl}
-use Rattle.coap_codec.specs.Reading.{extended, value_at, nibbles_at, option_at, walk_of, walk, payload_at, frame_fault, body_at, message_at}
-use Rattle.coap_codec.specs.Writing.{option_bytes, options_bytes}
-use Rattle.coap_layer.specs.State.{start}
-use Rattle.coap_layer.specs.Steps.{Asked, Steps, left_after}
+use Rattle.coap_codec.specs.Reading.{extended, value_at, nibbles_at, option_at, walk_of, walk, payload_at, frame_fault, body_at}
+use Rattle.coap_codec.specs.Decoded.{decoded}
+use Rattle.coap_codec.specs.Spelling.{option_bytes, options_bytes}
+use Rattle.coap_layer.specs.Machine.State.{start}
+use Rattle.coap_layer.specs.Machine.Steps.{Asked, Steps, left_after}
 use Rattle.coap_layer.specs.Trace as L
 use Rattle.coap_resource.specs.Content.{Content}
 use Rattle.coap_resource.specs.Rate.{counted}
@@ -23,7 +24,7 @@ after = one log new (counted before.tally 130000)
 
 -- the calls of each turn, the newest first
 abbrev pub serves : S.Call
-serves = S.Feeds 130000 client_end post_bytes 0 (L.Request request true) (Some (asked_of client_end request, request)) (S.Serves question reply response after) L.Nothing
+serves = S.Feeds 130000 client_end post_bytes 0 (L.Becomes (L.Request request true)) (Some (asked_of client_end request, request)) (S.Serves question reply response after) L.Nothing
 
 abbrev pub fed : List S.Call
 fed = with_out serves client_end changed_bytes
@@ -59,7 +60,7 @@ abbrev run : List Asked
 run = answerer.lower_of (lower_of 4194303 6 calls)
 
 steps : Steps (start 0) run (left_after (start 0) run)
-unfolding message_at frame_fault body_at walk walk_of option_at nibbles_at value_at extended payload_at option_bytes options_bytes
+unfolding decoded frame_fault body_at walk walk_of option_at nibbles_at value_at extended payload_at option_bytes options_bytes
 steps = (
   _,
   (

@@ -2,17 +2,17 @@ use Rattle.std.proofs.Common.{rules, ◌≡◌, ap, sym, ◌∙◌, [], ◌∷�
 use Rattle.std.specs.List.{list_any}
 use Rattle.coap_types.specs.declared.message.Kind.TheVariants.{Con}
 use Rattle.coap_types.specs.SameEndpoint.{same_endpoint}
-use Rattle.coap_codec.specs.Writing.{message_bytes}
-use Rattle.coap_layer.specs.Entries.{arrivals_in}
-use Rattle.coap_layer.specs.Parts.{held, open_before}
-use Rattle.coap_layer.specs.Sendings.{open_now}
-use Rattle.coap_layer.specs.State.{State, is_busy}
+use Rattle.coap_codec.specs.Spelling.{message_bytes}
+use Rattle.coap_layer.specs.Machine.Entries.{arrivals_in}
+use Rattle.coap_layer.specs.Machine.Parts.{held, open_before}
+use Rattle.coap_layer.specs.Machine.Sendings.{open_now}
+use Rattle.coap_layer.specs.Machine.State.{State, is_busy}
 use Rattle.coap_layer.specs.Trace.{Packet, with_head}
 use Rattle.coap_layer.specs.Words.{Open}
-use Rattle.coap_layer.proofs.Forgetting.{led_step}
-use Rattle.coap_layer.proofs.OutstandingLemmas.{busy_is}
-use Rattle.coap_layer.proofs.PlaceLemmas.{before_same, within_pushed}
-use Rattle.coap_layer.proofs.SendLemmas.{con_left, con_refused, not_refused}
+use Rattle.coap_layer.proofs.Machine.Forgetting.{led_step}
+use Rattle.coap_layer.proofs.Calls.Outstanding.{busy_is}
+use Rattle.coap_layer.proofs.Calls.Places.{before_same, within_pushed}
+use Rattle.coap_layer.proofs.Calls.Sent.{con_left, con_refused, not_refused}
 use Rattle.coap_layer.proofs.layer.Layer.confirm.Goals as goal
 
 pub returns-in-Some-clause-step : goal.returns-in-Some-clause-step

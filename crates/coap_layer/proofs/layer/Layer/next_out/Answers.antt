@@ -1,11 +1,11 @@
 use Rattle.std.proofs.Common.{rules, ap, sym, ◌∙◌, refl, [], arith}
-use Rattle.coap_layer.specs.Parts.{held}
-use Rattle.coap_layer.specs.State.{State, forgotten}
+use Rattle.coap_layer.specs.Machine.Parts.{held}
+use Rattle.coap_layer.specs.Machine.State.{State, forgotten}
 use Rattle.coap_layer.specs.Trace.{Gives, Take}
-use Rattle.coap_layer.proofs.CallLemmas.{first_is, moved, step_of, taken_so}
-use Rattle.coap_layer.proofs.Forgetting.{led_step}
-use Rattle.coap_layer.proofs.PlaceLemmas.{placed_unmarked}
-use Rattle.coap_layer.proofs.TakingLemmas.{room_kept}
+use Rattle.coap_layer.proofs.Calls.CallsAreSteps.{first_is, moved, step_of, taken_so}
+use Rattle.coap_layer.proofs.Machine.Forgetting.{led_step}
+use Rattle.coap_layer.proofs.Calls.Places.{placed_unmarked}
+use Rattle.coap_layer.proofs.Calls.TakenIn.{room_kept}
 use Rattle.coap_layer.proofs.layer.Layer.next_out.Goals as goal
 
 pub invariant_of-self : goal.invariant_of-self

@@ -1,10 +1,10 @@
 use Rattle.std.proofs.Common.{rules, ap, sym, refl, []}
-use Rattle.coap_layer.specs.Parts.{held}
-use Rattle.coap_layer.specs.State.{State, forgotten}
+use Rattle.coap_layer.specs.Machine.Parts.{held}
+use Rattle.coap_layer.specs.Machine.State.{State, forgotten}
 use Rattle.coap_layer.specs.Trace.{Nothing, Pass}
-use Rattle.coap_layer.proofs.CallLemmas.{step_of, still}
-use Rattle.coap_layer.proofs.Forgetting.{led_step}
-use Rattle.coap_layer.proofs.PlaceLemmas.{placed_later}
+use Rattle.coap_layer.proofs.Calls.CallsAreSteps.{step_of, still}
+use Rattle.coap_layer.proofs.Machine.Forgetting.{led_step}
+use Rattle.coap_layer.proofs.Calls.Places.{placed_later}
 use Rattle.coap_layer.proofs.layer.Layer.pass.Goals as goal
 
 pub invariant_of-self : goal.invariant_of-self

@@ -1,13 +1,13 @@
 use Rattle.std.proofs.Common.{rules, ap, sym, ◌∙◌, [], ◌∷◌, ◌++◌, List}
 use Rattle.coap_types.specs.declared.message.Kind.TheVariants.{Non}
-use Rattle.coap_codec.specs.Writing.{message_bytes}
-use Rattle.coap_layer.specs.Entries.{arrivals_in}
-use Rattle.coap_layer.specs.Parts.{held}
-use Rattle.coap_layer.specs.Sendings.{open_now}
-use Rattle.coap_layer.specs.State.{State}
+use Rattle.coap_codec.specs.Spelling.{message_bytes}
+use Rattle.coap_layer.specs.Machine.Entries.{arrivals_in}
+use Rattle.coap_layer.specs.Machine.Parts.{held}
+use Rattle.coap_layer.specs.Machine.Sendings.{open_now}
+use Rattle.coap_layer.specs.Machine.State.{State}
 use Rattle.coap_layer.specs.Trace.{Packet, with_head}
-use Rattle.coap_layer.proofs.Forgetting.{led_step}
-use Rattle.coap_layer.proofs.SendLemmas.{non_left, non_refused, not_without}
+use Rattle.coap_layer.proofs.Machine.Forgetting.{led_step}
+use Rattle.coap_layer.proofs.Calls.Sent.{non_left, non_refused, not_without}
 use Rattle.coap_layer.proofs.layer.Layer.plain.Goals as goal
 
 pub returns-in-Some-clause-step : goal.returns-in-Some-clause-step

@@ -1,15 +1,16 @@
 use Rattle.std.proofs.Common.{rules, ◌≡◌, ap, sym, subst, ◌∙◌, ◌++◌, ℕ, refl, true, false, filter, Some, None}
 use Rattle.std.specs.Option.{option_to_list}
 use Rattle.coap_layer.specs.Arrivals.{arrival_at}
-use Rattle.coap_layer.specs.Arriving.{IsArriving, newly_by, open_by}
-use Rattle.coap_layer.specs.Entries.{arrivals_in}
-use Rattle.coap_layer.specs.Parts.{held}
-use Rattle.coap_layer.specs.Sendings.{open_now}
-use Rattle.coap_layer.specs.Sound.{IsPlaced}
-use Rattle.coap_layer.specs.State.{State, answer_to, is_live, is_remembered}
-use Rattle.coap_layer.proofs.Forgetting.{led_step}
-use Rattle.coap_layer.proofs.ReceiveLemmas.{received, awaited_so, quiet_so}
-use Rattle.coap_layer.proofs.TakingLemmas.{none_of, room_kept}
+use Rattle.coap_layer.specs.Machine.Arriving.{IsArriving, newly_by, open_by}
+use Rattle.coap_layer.specs.Machine.Entries.{arrivals_in}
+use Rattle.coap_layer.specs.Machine.Parts.{held}
+use Rattle.coap_layer.specs.Machine.Sendings.{open_now}
+use Rattle.coap_layer.specs.Machine.Sound.{IsPlaced}
+use Rattle.coap_layer.specs.Machine.State.{State, answer_to, is_live, is_remembered}
+use Rattle.coap_layer.specs.Trace.{Becomes}
+use Rattle.coap_layer.proofs.Machine.Forgetting.{led_step}
+use Rattle.coap_layer.proofs.Calls.Received.{received, awaited_so, quiet_so}
+use Rattle.coap_layer.proofs.Calls.TakenIn.{none_of, room_kept}
 use Rattle.coap_layer.proofs.layer.Layer.receive.Goals as goal
 
 pub take_in-mark-requires-clause-place : goal.take_in-mark-requires-clause-place
@@ -26,7 +27,7 @@ returns-clause-step g c =
     (arrivals_in c.take_in-mark.new.lists.entries.items) (open_now c.take_in-mark.new.lists.sendings.items) (option_to_list c.in_ok-sent.sent) c.take_in-mark.new.lists.waiting.items _
     (ap (λ s. s.state) c.self.view_is) c.read-datagram.ensures.bytes
     (subst (λ x. IsArriving h at c.args.from x a) shows judged.0)
-    (c.told.ensures ∙ (judged.1 ∙ ap (answer_to h at c.args.from) shows))
+    (ap Becomes (c.told.ensures ∙ (judged.1 ∙ ap (answer_to h at c.args.from) shows)))
     (c.take_in-mark.ensures.arrived ∙ ap (λ es. filter (is_live at) (filter (is_live c.self.inside.clock) (arrivals_in es) ++ newly_by at c.args.from a)) c.in_ok-grow.ensures.entries)
     (c.take_in-mark.ensures.open ∙ ap (λ cs. open_by c.args.from a (open_now cs)) c.in_ok-grow.ensures.sendings)
     c.in_ok-sent.ensures.sent
@@ -78,9 +79,12 @@ returns-clause-may_reply g c m up =
     let shows = c.read-datagram.ensures.shows in
     let judged = c.judge-arriving.ensures h refl refl (sym c.would_give-free.ensures) in
     let arrives : IsArriving h at c.args.from (arrival_at c.args.bytes.now) a = subst (λ x. IsArriving h at c.args.from x a) shows judged.0 in
-    let there = awaited_so h c.args.now.0 c.args.from c.args.bytes.now a at None _ m arrives (c.told.ensures ∙ (judged.1 ∙ ap (answer_to h at c.args.from) shows)) up in
+    let there = awaited_so h c.args.now.0 c.args.from c.args.bytes.now a at None _ m arrives (ap Becomes (c.told.ensures ∙ (judged.1 ∙ ap (answer_to h at c.args.from) shows))) up in
     record {
       awaited = c.awaiting-self-inside.ensures ∙ there.0;
       room = c.in_ok-grow.ensures.there (c.hands.ensures ∙ there.1);
       replies = refl;
     }
+
+pub returns-clause-kept : goal.returns-clause-kept
+returns-clause-kept g c has = c.in_ok-grow.ensures.kept (ap (λ s. s.has_room) c.self.view_is ∙ has)

@@ -1,12 +1,12 @@
 use Rattle.std.proofs.Common.{rules, ap, ◌∙◌, refl, [], ◌∷◌, ◌++◌, arith, map, take, drop}
-use Rattle.coap_layer.specs.Entries.{arrivals_in, storing}
-use Rattle.coap_layer.specs.Parts.{awaited, held}
-use Rattle.coap_layer.specs.State.{State}
+use Rattle.coap_layer.specs.Machine.Entries.{arrivals_in, storing}
+use Rattle.coap_layer.specs.Machine.Parts.{awaited, held}
+use Rattle.coap_layer.specs.Machine.State.{State}
 use Rattle.coap_layer.specs.Trace.{Nothing, Reply}
-use Rattle.coap_layer.proofs.CallLemmas.{step_of, replied_left}
-use Rattle.coap_layer.proofs.Forgetting.{led_step}
-use Rattle.coap_layer.proofs.PlaceLemmas.{placed_there, within_more}
-use Rattle.coap_layer.proofs.StoredLemmas.{before_stored, stored_last}
+use Rattle.coap_layer.proofs.Calls.CallsAreSteps.{step_of, replied_left}
+use Rattle.coap_layer.proofs.Machine.Forgetting.{led_step}
+use Rattle.coap_layer.proofs.Calls.Places.{placed_there, within_more}
+use Rattle.coap_layer.proofs.Calls.Stored.{before_stored, stored_last}
 use Rattle.coap_layer.proofs.layer.Layer.reply.Goals as goal
 
 pub store_reply-requires : goal.store_reply-requires

@@ -1,15 +1,15 @@
 use Rattle.std.proofs.Common.{rules, ◌≡◌, ap, sym, subst, ◌∙◌, refl, [], ℕ, false}
 use Rattle.std.proofs.lemmas.List.{append-nil}
-use Rattle.coap_layer.specs.Entries.{arrivals_in}
-use Rattle.coap_layer.specs.Parts.{awaited, held}
-use Rattle.coap_layer.specs.Sound.{IsPlaced}
-use Rattle.coap_layer.specs.Sendings.{open_now}
-use Rattle.coap_layer.specs.State.{State}
+use Rattle.coap_layer.specs.Machine.Entries.{arrivals_in}
+use Rattle.coap_layer.specs.Machine.Parts.{awaited, held}
+use Rattle.coap_layer.specs.Machine.Sound.{IsPlaced}
+use Rattle.coap_layer.specs.Machine.Sendings.{open_now}
+use Rattle.coap_layer.specs.Machine.State.{State}
 use Rattle.coap_layer.specs.Trace.{Is, Room}
-use Rattle.coap_layer.proofs.CallLemmas.{step_of, still}
-use Rattle.coap_layer.proofs.Forgetting.{led_step}
-use Rattle.coap_layer.proofs.PlaceLemmas.{placed_later, within_pushed}
-use Rattle.coap_layer.proofs.SendLemmas.{so_told}
+use Rattle.coap_layer.proofs.Calls.CallsAreSteps.{step_of, still}
+use Rattle.coap_layer.proofs.Machine.Forgetting.{led_step}
+use Rattle.coap_layer.proofs.Calls.Places.{placed_later, within_pushed}
+use Rattle.coap_layer.proofs.Calls.Sent.{so_told}
 use Rattle.coap_layer.proofs.layer.Layer.room.Goals as goal
 
 pub returns-clause-step : goal.returns-clause-step

@@ -1,16 +1,16 @@
 use Rattle.std.proofs.Common.{rules, ◌≡◌, ap, sym, ◌∙◌, refl, [], is_some, ◌&&◌, ◌==◌}
 use Rattle.std.specs.List.{list_any}
 use Rattle.coap_types.specs.SameEndpoint.{same_endpoint}
-use Rattle.coap_layer.specs.Parts.{held, open_before}
-use Rattle.coap_layer.specs.Sendings.{open_now}
-use Rattle.coap_layer.specs.State.{State, forgotten, is_outstanding}
+use Rattle.coap_layer.specs.Machine.Parts.{held, open_before}
+use Rattle.coap_layer.specs.Machine.Sendings.{open_now}
+use Rattle.coap_layer.specs.Machine.State.{State, forgotten, is_outstanding}
 use Rattle.coap_layer.specs.Trace.{Is, Settle}
-use Rattle.coap_layer.proofs.CallLemmas.{moved, step_of, settled_so}
-use Rattle.coap_layer.proofs.Forgetting.{led_step}
-use Rattle.coap_layer.proofs.OutstandingLemmas.{ended_before, ended_open}
-use Rattle.coap_layer.proofs.PlaceLemmas.{before_ended}
-use Rattle.coap_layer.proofs.SendingLemmas.{outstanding_is}
-use Rattle.coap_layer.proofs.TakingLemmas.{room_kept}
+use Rattle.coap_layer.proofs.Calls.CallsAreSteps.{moved, step_of, settled_so}
+use Rattle.coap_layer.proofs.Machine.Forgetting.{led_step}
+use Rattle.coap_layer.proofs.Calls.Outstanding.{ended_before, ended_open}
+use Rattle.coap_layer.proofs.Calls.Places.{before_ended}
+use Rattle.coap_layer.proofs.Calls.Sendings.{outstanding_is}
+use Rattle.coap_layer.proofs.Calls.TakenIn.{room_kept}
 use Rattle.coap_layer.proofs.layer.Layer.settle.Goals as goal
 
 pub invariant_of-self : goal.invariant_of-self

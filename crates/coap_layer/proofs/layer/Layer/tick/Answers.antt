@@ -1,15 +1,15 @@
 use Rattle.std.proofs.Common.{rules, ap, sym, ◌∙◌, ◌++◌, ℕ, filter, subst, refl, max, false, [], ◌≡◌}
 use Rattle.std.specs.List.{filter_map}
 use Rattle.std.specs.Option.{option_to_list}
-use Rattle.coap_layer.specs.Entries.{arrivals_in}
-use Rattle.coap_layer.specs.Parts.{held}
-use Rattle.coap_layer.specs.Sendings.{answer_for, open_now}
-use Rattle.coap_layer.specs.State.{copies, State, is_live, tick_of}
+use Rattle.coap_layer.specs.Machine.Entries.{arrivals_in}
+use Rattle.coap_layer.specs.Machine.Parts.{held}
+use Rattle.coap_layer.specs.Machine.Sendings.{answer_for, open_now}
+use Rattle.coap_layer.specs.Machine.State.{copies, State, is_live, tick_of}
 use Rattle.coap_layer.specs.Trace.{Ticks}
 use Rattle.coap_layer.specs.Words.{left_by}
-use Rattle.coap_layer.proofs.CallLemmas.{step_of, ticked_left}
-use Rattle.coap_layer.proofs.Forgetting.{led_step}
-use Rattle.coap_layer.proofs.TakingLemmas.{none_of}
+use Rattle.coap_layer.proofs.Calls.CallsAreSteps.{step_of, ticked_left}
+use Rattle.coap_layer.proofs.Machine.Forgetting.{led_step}
+use Rattle.coap_layer.proofs.Calls.TakenIn.{none_of}
 use Rattle.coap_layer.proofs.layer.Layer.tick.Goals as goal
 
 pub returns-clause-step : goal.returns-clause-step

@@ -1,6 +1,6 @@
 use Rattle.std.proofs.Common.{rules, arith}
-use Rattle.coap_layer.proofs.PlaceLemmas.{placed_not}
-use Rattle.coap_layer.proofs.TakingLemmas.{room_kept}
+use Rattle.coap_layer.proofs.Calls.Places.{placed_not}
+use Rattle.coap_layer.proofs.Calls.TakenIn.{room_kept}
 use Rattle.coap_layer.proofs.layer.Layer.undo.Goals as goal
 
 pub invariant_of-self : goal.invariant_of-self

@@ -1,10 +1,10 @@
 use Rattle.std.proofs.Common.{rules, ◌≡◌, ap, ◌∙◌, is_some, ◌&&◌, not}
 use Rattle.std.specs.List.{list_any}
 use Rattle.coap_types.specs.SameEndpoint.{same_endpoint}
-use Rattle.coap_layer.specs.Parts.{held}
-use Rattle.coap_layer.specs.State.{State, is_busy, is_free}
-use Rattle.coap_layer.proofs.OutstandingLemmas.{busy_is}
-use Rattle.coap_layer.proofs.SendLemmas.{may_be, told_so}
+use Rattle.coap_layer.specs.Machine.Parts.{held}
+use Rattle.coap_layer.specs.Machine.State.{State, is_busy, is_free}
+use Rattle.coap_layer.proofs.Calls.Outstanding.{busy_is}
+use Rattle.coap_layer.proofs.Calls.Sent.{may_be, told_so}
 use Rattle.coap_layer.proofs.layer.Layer.would_confirm.Goals as goal
 
 pub returns : goal.returns

@@ -1,7 +1,7 @@
 use Rattle.std.proofs.Common.{◌≡◌, sym, subst, max}
 use Rattle.coap_layer.specs.Ids.{numbers}
-use Rattle.coap_layer.specs.IdState.{IdState, Led}
-use Rattle.coap_layer.proofs.IdSteps.{free_led}
+use Rattle.coap_layer.specs.Machine.IdState.{IdState, Led}
+use Rattle.coap_layer.proofs.Numbers.StepsOfASource.{free_led}
 use Rattle.coap_layer.proofs.message_id.IdSource.is_free.Goals as goal
 
 pub returns-clause-led : goal.returns-clause-led

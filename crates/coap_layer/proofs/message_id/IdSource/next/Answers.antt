@@ -1,7 +1,7 @@
 use Rattle.std.proofs.Common.{rules, refl, sym, subst}
 use Rattle.coap_layer.specs.Ids.{numbers}
-use Rattle.coap_layer.specs.IdState.{IdState, Led}
-use Rattle.coap_layer.proofs.IdSteps.{gave_led}
+use Rattle.coap_layer.specs.Machine.IdState.{IdState, Led}
+use Rattle.coap_layer.proofs.Numbers.StepsOfASource.{gave_led}
 use Rattle.coap_layer.proofs.message_id.IdSource.next.Goals as goal
 
 pub returns-clause-led : goal.returns-clause-led

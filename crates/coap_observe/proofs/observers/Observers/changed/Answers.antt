@@ -1,6 +1,6 @@
 use Rattle.std.proofs.Common.{◌∙◌, sym, ap}
 use Rattle.coap_observe.specs.Observers.{changed_at}
-use Rattle.coap_observe.proofs.ObserverLemmas.{registrations-changed, registrations-same}
+use Rattle.coap_observe.proofs.Facts.Registrations.{registrations-changed, registrations-same}
 use Rattle.coap_observe.proofs.observers.Observers.changed.Goals as goal
 
 pub invariant_of-self : goal.invariant_of-self

@@ -1,7 +1,7 @@
 use Rattle.std.proofs.Common.{◌≡◌, ◌∙◌, true, false, refl, ap, sym, arith}
-use Rattle.coap_observe.specs.Shown.{kept}
+use Rattle.coap_observe.specs.Shown.{observers_of}
 use Rattle.coap_observe.proofs.KeptLemmas.{length_others, put_behind, registered_any}
-use Rattle.coap_observe.proofs.ObserverLemmas.{registrations-registered, registrations-same}
+use Rattle.coap_observe.proofs.Facts.Registrations.{registrations-registered, registrations-same}
 use Rattle.coap_observe.proofs.observers.Observers.register.Goals as goal
 
 pub returns-then-others-ge-MAX_OBSERVERS-clause-taken : goal.returns-then-others-ge-MAX_OBSERVERS-clause-taken
@@ -26,12 +26,12 @@ returns-clause-full g c = λ many.
 
 pub returns-clause-taken : goal.returns-clause-taken
 returns-clause-taken g c = λ few.
-    (refl, put_behind c.args.from c.args.token _ _ _ _ _ (ap (λ l. kept l) c.in_ok-make_room.ensures.items ∙ c.self.view_is) c.take_out.ensures.left c.push_within.ensures)
+    (refl, put_behind c.args.from c.args.token _ _ _ _ _ (ap (λ l. observers_of l) c.in_ok-make_room.ensures.items ∙ c.self.view_is) c.take_out.ensures.left c.push_within.ensures)
 
 pub invariant_of-self-2 : goal.invariant_of-self-2
 invariant_of-self-2 g c =
     let n = length_others c.args.from c.args.token _ _ _ _ c.deref.ensures.value c.self.view_is c.others.ensures in
-    let all = put_behind c.args.from c.args.token _ _ _ _ _ (ap (λ l. kept l) c.in_ok-make_room.ensures.items ∙ c.self.view_is) c.take_out.ensures.left c.push_within.ensures in
+    let all = put_behind c.args.from c.args.token _ _ _ _ _ (ap (λ l. observers_of l) c.in_ok-make_room.ensures.items ∙ c.self.view_is) c.take_out.ensures.left c.push_within.ensures in
     registrations-same _ _ (sym all)
     (registrations-registered c.args.from c.args.token c.args.path c.args.szx c.args.self.now
     (registrations-same _ _ c.self.view_is c.self.invariant) (omega (arith, n, c.if-others-ge-MAX_OBSERVERS.false)))

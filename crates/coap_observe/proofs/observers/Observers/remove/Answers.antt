@@ -1,6 +1,6 @@
 use Rattle.std.proofs.Common.{sym}
 use Rattle.coap_observe.proofs.KeptLemmas.{any_registered, left_others}
-use Rattle.coap_observe.proofs.ObserverLemmas.{registrations-removed, registrations-same}
+use Rattle.coap_observe.proofs.Facts.Registrations.{registrations-removed, registrations-same}
 use Rattle.coap_observe.proofs.observers.Observers.remove.Goals as goal
 
 pub returns-clause-was : goal.returns-clause-was

@@ -1,7 +1,7 @@
 use Rattle.std.proofs.Common.{◌∙◌, sym, ap}
 use Rattle.coap_observe.specs.Observers.{sent_to}
 use Rattle.coap_observe.proofs.KeptLemmas.{any_due}
-use Rattle.coap_observe.proofs.ObserverLemmas.{registrations-same, registrations-sent}
+use Rattle.coap_observe.proofs.Facts.Registrations.{registrations-same, registrations-sent}
 use Rattle.coap_observe.proofs.observers.Observers.sent.Goals as goal
 
 pub returns-clause-was : goal.returns-clause-was

@@ -1,0 +1,159 @@
+-- Words that ask for an order have nothing wrong, and what is wrong in words is one thing.
+use Rattle.std.proofs.Common.{◌≡◌, ◌≢◌, ◌∙◌, inl, inr, ap, sym, subst, ℕ, ◌≤◌, List, [], ◌∷◌, length, Option, Some, unwrap_or, codes, arith, Result, Ok, Err, IfOk}
+use Rattle.clap.specs.Words.{Row, Text, IsAmong, fault_of}
+use Rattle.coap_types.specs.Path.{HoldsAtMost}
+use Rattle.hex.specs.Hex.{decode_of}
+use Rattle.coap.specs.CommandLine.{coap_app}
+use Rattle.coap.specs.Statuses.{Ends, IsAnswered, IsCarriedOut, IsTold, status_number, status_of}
+use Rattle.coap.specs.Words.{AsksFor, AsksForIn, Enters, HasBadHex, HasBytes, HasNoBytes, HasNoPath, HasPath, IsRefusedBy, IsValue, IsWrong, NamesNoPath}
+use Rattle.coap.specs.declared.commands.Status.{Status}
+use Rattle.coap.specs.declared.commands.Status.TheVariants as status
+use Rattle.coap.specs.declared.commands.Stop.{Stop}
+use Rattle.coap.specs.declared.commands.Stop.TheVariants as stop
+use Rattle.coap.specs.declared.orders.Order.{Order}
+use Rattle.coap.specs.declared.orders.Order.TheVariants.{Show, Answer}
+use Rattle.coap.specs.declared.orders.Wrong.{Wrong}
+use Rattle.coap.specs.declared.orders.Wrong.TheVariants.{Words, Path, Hex, Memory}
+use Rattle.coap_types.specs.declared.path.PathRefusal.{PathRefusal}
+use Rattle.coap_types.specs.declared.path.TheConstants.{MAX_SEGMENT_LEN as max_segment_len, MAX_SEGMENTS as max_segments}
+
+-- ---- one subcommand, and one value of an argument
+
+same_pair : (a b : Text) (v u : List Row) → ◌≡◌ {A = Option (Text × List Row)} (Some (a, v)) (Some (b, u)) → (a ≡ b) × (v ≡ u)
+same_pair a b v u h =
+    let none : Text × List Row = (a, v) in
+    (ap (λ (o : Option (Text × List Row)). (unwrap_or o none).0) h, ap (λ (o : Option (Text × List Row)). (unwrap_or o none).1) h)
+
+enters_one : (words : List Text) (a b : Text) (v u : List Row) → Enters words a v → Enters words b u → (a ≡ b) × (v ≡ u)
+enters_one words a b v u e f = same_pair a b v u (sym e.entered ∙ f.entered)
+
+value_one : (name : Text) (v : List Row) (a b : Text) → IsValue name v a → IsValue name v b → a ≡ b
+value_one name v a b p q = ap (λ (o : Option Text). unwrap_or o a) (sym p ∙ q)
+
+not_both : codes "show" ≡ codes "answer" → ⊥
+not_both e = absurd (let n : 4 ≡ 6 = ap length e in omega (arith, n))
+
+bytes_or_not : (v : List Row) (bytes : List ℕ) → HasBytes v bytes → HasNoBytes v → ⊥
+bytes_or_not v bytes p q = q.2 bytes (subst (λ (t : Text). decode_of t ≡ Ok bytes) (value_one (codes "HEX") v p.0 q.0 p.1 q.1) p.2)
+
+path_or_not : (v : List Row) (path : List (List ℕ)) (why : PathRefusal) → HasPath v path → HoldsAtMost max_segments max_segment_len path → HasNoPath v why → ⊥
+path_or_not v path why p holds q =
+    let same = value_one (codes "PATH") v p.0 q.0 p.1 q.1 in
+    q.2 path (subst (λ (t : Text). Rattle.coap.specs.PathText.IsPathText t path) same p.2) holds
+
+-- ---- words that ask for an order
+
+none_refused : (kind : Rattle.clap.specs.declared.error.kind.ErrorKind.ErrorKind) (faults : Rattle.clap.specs.Kinds.Kinds) → faults ≡ [] → IsAmong kind faults → ⊥
+none_refused kind [] is h = h
+none_refused kind (x ∷ xs) is h = absurd (cc is)
+
+not_refused : (words : List Text) (error : Rattle.clap.specs.declared.error.Error.Error) → fault_of coap_app words ≡ [] → IsRefusedBy error words → ⊥
+not_refused words error taken h = none_refused _ (fault_of coap_app words) taken h
+
+has_bytes : (name : Text) (v : List Row) (order : Order) → AsksForIn name v order → (bytes : List ℕ) × HasBytes v bytes
+has_bytes name v (Show datagram) h = (datagram.items, h.1)
+has_bytes name v (Answer path body datagram) h = (datagram.items, h.4)
+
+has_path : (name : Text) (v : List Row) (order : Order) → name ≡ codes "answer" → AsksForIn name v order → (path : List (List ℕ)) × HasPath v path × HoldsAtMost max_segments max_segment_len path
+has_path name v (Show datagram) is h = absurd (not_both (sym h.0 ∙ is))
+has_path name v (Answer path body datagram) is h = (path, h.1, h.2)
+
+asked_path : (words : List Text) (order : Order) (why : PathRefusal) → AsksFor words order → NamesNoPath words why → ⊥
+asked_path words order why (name, v, e, asks) (u, f, none) =
+    let one = enters_one words name (codes "answer") v u e f in
+    let p = has_path name v order one.0 asks in
+    path_or_not u p.0 why (subst (λ (r : List Row). HasPath r p.0) one.1 p.1) p.2 none
+
+asked_hex : (words : List Text) (order : Order) → AsksFor words order → HasBadHex words → ⊥
+asked_hex words order (name, v, e, asks) (other, u, f, fine, none) =
+    let one = enters_one words name other v u e f in
+    let b = has_bytes name v order asks in
+    bytes_or_not u b.0 (subst (λ (r : List Row). HasBytes r b.0) one.1 b.1) none
+
+-- ---- one wrong
+
+path_hex : (words : List Text) (why : PathRefusal) → NamesNoPath words why → HasBadHex words → ⊥
+path_hex words why (v, e, none) (name, u, f, fine, bad) =
+    let one = enters_one words (codes "answer") name v u e f in
+    elim fine [
+      | inl shows ↦ not_both (sym shows ∙ sym one.0)
+      | inr h ↦ path_or_not u h.1 why h.2 h.3 (subst (λ (r : List Row). HasNoPath r why) one.1 none)
+    ]
+
+-- ---- the statuses
+
+abbrev number : Result Status Stop → ℕ
+number ended = status_number (status_of ended)
+
+pub at_most : (s : Status) → status_number s ≤ 4
+at_most status.Done = omega arith
+at_most status.Refused = omega arith
+at_most status.Words = omega arith
+at_most status.Failed = omega arith
+at_most status.Memory = omega arith
+
+with_2 : (wrong : Wrong) (n : ℕ) → n ≡ 2 → IsAnswered wrong n
+with_2 (Words error) n is = inl is
+with_2 (Path why) n is = inl is
+with_2 Hex n is = inl is
+with_2 Memory n is = tt
+
+with_4 : (wrong : Wrong) (n : ℕ) → n ≡ 4 → IsAnswered wrong n
+with_4 (Words error) n is = inr is
+with_4 (Path why) n is = inr is
+with_4 Hex n is = inr (inr is)
+with_4 Memory n is = tt
+
+-- bad hex that can't be printed
+with_3 : (words : List Text) (wrong : Wrong) (n : ℕ) → HasBadHex words → IsWrong words wrong → n ≡ 3 → IsAnswered wrong n
+with_3 words (Words error) n (name, v, e, fine, bad) is three = absurd (not_refused words error e.taken is)
+with_3 words (Path why) n bad is three = absurd (path_hex words why is bad)
+with_3 words Hex n bad is three = inr (inl three)
+with_3 words Memory n bad is three = tt
+
+order_answered : (words : List Text) (order : Order) (wrong : Wrong) (n : ℕ) → AsksFor words order → IsWrong words wrong → IsAnswered wrong n
+order_answered words order (Words error) n (name, v, e, asks) is = absurd (not_refused words error e.taken is)
+order_answered words order (Path why) n asks is = absurd (asked_path words order why asks is)
+order_answered words order Hex n asks is = absurd (asked_hex words order asks is)
+order_answered words order Memory n asks is = tt
+
+wrong_answered : (words : List Text) (ended : Result Status Stop) (own wrong : Wrong) → IsWrong words own → IsTold own ended → IsWrong words wrong → IsAnswered wrong (number ended)
+wrong_answered words ended (Words error) wrong own told is = with_2 wrong _ (ap number told)
+wrong_answered words ended (Path why) wrong own told is = with_2 wrong _ (ap number told)
+wrong_answered words ended Hex wrong own (inl told) is = with_2 wrong _ (ap number told)
+wrong_answered words ended Hex wrong own (inr told) is = with_3 words wrong _ own is (ap number told)
+wrong_answered words ended Memory wrong own told is = with_4 wrong _ (ap number told)
+
+-- what is wrong is answered so
+pub answered : (words : List Text) (ended : Result Status Stop) → Ends words ended → (wrong : Wrong) → IsWrong words wrong → IsAnswered wrong (number ended)
+answered words ended (inl h) wrong is = order_answered words h.0 wrong _ h.1 is
+answered words ended (inr h) wrong is = wrong_answered words ended h.0 wrong h.1 h.2 is
+
+carried_out : (ended : Result Status Stop) → IfOk ended IsCarriedOut → number ended ≡ 2 → ⊥
+carried_out (Ok s) (inl is) h = absurd (let n : 0 ≡ 2 = sym (ap status_number is) ∙ h in omega (arith, n))
+carried_out (Ok s) (inr is) h = absurd (let n : 1 ≡ 2 = sym (ap status_number is) ∙ h in omega (arith, n))
+carried_out (Err stop.Output) c h = absurd (let n : 3 ≡ 2 = h in omega (arith, n))
+carried_out (Err stop.Memory) c h = absurd (let n : 4 ≡ 2 = h in omega (arith, n))
+
+of_words : (words : List Text) (ended : Result Status Stop) (wrong : Wrong) → IsWrong words wrong → IsTold wrong ended → number ended ≡ 2 → (wrong : Wrong) × IsWrong words wrong × (wrong ≢ Memory)
+of_words words ended (Words error) is told h = (Words error, is, λ e. cc e)
+of_words words ended (Path why) is told h = (Path why, is, λ e. cc e)
+of_words words ended Hex is told h = (Hex, is, λ e. cc e)
+of_words words ended Memory is told h = absurd (let n : 4 ≡ 2 = sym (ap number told) ∙ h in omega (arith, n))
+
+-- 2 says that something is wrong
+pub wrong_words : (words : List Text) (ended : Result Status Stop) → Ends words ended → number ended ≡ 2 → (wrong : Wrong) × IsWrong words wrong × (wrong ≢ Memory)
+wrong_words words ended (inl e) h = absurd (carried_out ended e.2 h)
+wrong_words words ended (inr e) h = of_words words ended e.0 e.1 e.2 h
+
+told_more : (ended : Result Status Stop) (wrong : Wrong) → IsTold wrong ended → number ended ≤ 1 → ⊥
+told_more ended (Words error) told h = absurd (let n : number ended ≡ 2 = ap number told in omega (arith, n, h))
+told_more ended (Path why) told h = absurd (let n : number ended ≡ 2 = ap number told in omega (arith, n, h))
+told_more ended Hex (inl told) h = absurd (let n : number ended ≡ 2 = ap number told in omega (arith, n, h))
+told_more ended Hex (inr told) h = absurd (let n : number ended ≡ 3 = ap number told in omega (arith, n, h))
+told_more ended Memory told h = absurd (let n : number ended ≡ 4 = ap number told in omega (arith, n, h))
+
+-- 0 and 1 say that the words ask for an order
+pub asked : (words : List Text) (ended : Result Status Stop) → Ends words ended → number ended ≤ 1 → (order : Order) × AsksFor words order
+asked words ended (inl e) h = (e.0, e.1)
+asked words ended (inr e) h = absurd (told_more ended e.0 e.2 h)

@@ -1,0 +1,5 @@
+pub mod ClientExactly
+pub mod ServerExactly
+pub mod OneHandling
+pub mod StoreExactly
+pub mod LawOfAPast

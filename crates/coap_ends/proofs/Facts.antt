@@ -1,0 +1,3 @@
+pub mod OfClient
+pub mod OfServer
+pub mod Sources

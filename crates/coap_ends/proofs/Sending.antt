@@ -1,0 +1,8 @@
+pub mod ConsAreRequests
+pub mod OneCon
+pub mod NoNons
+pub mod ClientSent
+pub mod SentOnce
+pub mod NumbersRise
+pub mod ClientQueued
+pub mod InOrder

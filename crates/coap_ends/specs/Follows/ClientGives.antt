@@ -1,0 +1,23 @@
+-- Which reports a client gives: those that it made, in their order, each once (RFC 7252, section 5.2).
+use Rattle.std.specs.Prelude.{◌≡◌, Some, List, [], ◌∷◌, ◌++◌, option_to_list}
+use Rattle.coap_ends.specs.ClientTrace.{Reported, Call, NextReport}
+use Rattle.coap_ends.specs.ClientSteps.{reports}
+use Rattle.coap_ends.specs.ClientLaw.{own_of}
+
+-- the reports that were made, the oldest first
+abbrev pub made : List Call → List Reported
+made [] = []
+made (c ∷ past) = made past ++ option_to_list (reports (own_of past) c)
+
+-- .. and those that were taken
+abbrev pub reports_given : Call → List Reported
+reports_given (NextReport (Some r)) = r ∷ []
+reports_given c = []
+
+abbrev pub given : List Call → List Reported
+given [] = []
+given (c ∷ past) = given past ++ reports_given c
+
+-- What was taken is a front of what was made; the rest waits to be taken.
+abbrev pub GivesInOrder : List Call → Type 0
+GivesInOrder t = made t ≡ given t ++ (own_of t).reports

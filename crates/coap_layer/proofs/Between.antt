@@ -1,0 +1,5 @@
+-- What two layers do together.
+pub mod WhatComesByType
+pub mod WhatArrivesWasSent
+pub mod TakenOnce
+pub mod AcksAreReplies

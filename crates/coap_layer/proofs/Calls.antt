@@ -1,0 +1,11 @@
+-- What the calls' answers cite.
+pub mod JudgedByTable
+pub mod CallsAreSteps
+pub mod Entries
+pub mod Outstanding
+pub mod Places
+pub mod Received
+pub mod Sent
+pub mod Sendings
+pub mod Stored
+pub mod TakenIn

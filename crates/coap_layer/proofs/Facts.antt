@@ -1,0 +1,7 @@
+-- What the crates above may cite: statements over the words of specs/ alone.
+pub mod Arrivals
+pub mod Calls
+pub mod Hops
+pub mod Laws
+pub mod Sendable
+pub mod Spelling

@@ -1,0 +1,3 @@
+-- What goes out, and in which order.
+pub mod EachGoesOut
+pub mod InOrder

@@ -1,0 +1,47 @@
+-- What the parts of a layer stand for.
+use Rattle.std.specs.Prelude.{ℕ, Option, Some, None, List, take, map, filter, is_some}
+use Rattle.std.specs.List.{filter_map}
+use Rattle.coap_layer.specs.declared.dedup.Remembered.{Remembered}
+use Rattle.coap_layer.specs.declared.lists.Lists.{Lists}
+use Rattle.coap_layer.specs.declared.mark.Awaiting.{Awaiting}
+use Rattle.coap_layer.specs.declared.mark.Mark.{Mark}
+use Rattle.coap_layer.specs.declared.retransmission.Sending.{Sending}
+use Rattle.coap_layer.specs.Machine.Entries.{arrivals_in}
+use Rattle.coap_layer.specs.Machine.IdState.{IdState}
+use Rattle.coap_layer.specs.Machine.Sendings.{open_at, open_now}
+use Rattle.coap_layer.specs.Machine.State.{Arrived, State, forgotten}
+use Rattle.coap_layer.specs.Trace.{Packet}
+use Rattle.coap_layer.specs.Words.{Awaited, Open}
+
+abbrev pub awaited : Option Awaiting → Option Awaited
+awaited None = None
+awaited (Some a) = Some (record { from = a.from; id = a.id.0 })
+
+-- the outstanding CONs as the last input found them
+abbrev pub open_before : {Z : Type 0} → List (Sending Z) → List Open
+open_before cs = filter_map (λ c. open_at c c.before) cs
+
+-- what the last input finds is noted, and put back
+abbrev pub settled : {Z : Type 0} → Sending Z → Sending Z
+settled c = record c { before = c.last }
+
+-- what an input leaves of the list: what has ended goes, and the rest is noted
+abbrev pub noted : {Z : Type 0} → List (Sending Z) → List (Sending Z)
+noted cs = map settled (filter (λ c. is_some c.last) cs)
+
+abbrev pub put_back : {Z : Type 0} → Sending Z → Sending Z
+put_back c = record c { last = c.before }
+
+-- what is kept, with what is no longer remembered still there
+abbrev pub state_of_parts : ℕ → Option Awaited → IdState → List Arrived → List Open → List Packet → State
+state_of_parts clock awaits ids es cs q =
+    record { clock = clock; awaits = awaits; upcoming = ids.upcoming; last_used = ids.last_used; arrived = es; open_cons = cs; queue = q }
+
+-- .. by an object's parts
+abbrev pub held : {Z : Type 0} → ℕ → Option Awaiting → IdState → Lists Z → State
+held clock awaits ids lists = state_of_parts clock (awaited awaits) ids (arrivals_in lists.entries.items) (open_now lists.sendings.items) lists.waiting.items
+
+-- what `undo` would leave
+abbrev pub before_of : {Z : Type 0} → Option Mark → List (Remembered Z) → List (Sending Z) → List Packet → Option State
+before_of None es cs q = None
+before_of (Some m) es cs q = Some (forgotten (state_of_parts m.clock (awaited m.awaits) m.ids (arrivals_in (take m.entries es)) (open_before cs) (take m.queued q)))

@@ -1,0 +1,4 @@
+-- What proofs of other crates cite: statements over the words of specs/ alone.
+pub mod Registrations
+pub mod Newer
+pub mod DueCounts

@@ -1,0 +1,6 @@
+pub mod Blocks
+pub mod Bytes
+pub mod Endpoints
+pub mod Paths
+pub mod Traces
+pub mod Uints

@@ -1,9 +1,0 @@
-use Rattle.coap_types.specs.CoapOption.{options_of}
-use Rattle.coap_types.proofs.UnrecognisedLemmas.{Carried}
-use Rattle.coap_types.proofs.recognised_options.carries.Given as goal
-
-abbrev pub invariant-loop-option : goal.invariant-loop-option
-invariant-loop-option g l =
-    (goal.iterator-loop-option g).can_next l.option-iterator
-    × ((goal.iterator-loop-option g).is_finite l.option-iterator
-    × Carried l.direction l.number (options_of l.yielded) l.found l.seen)

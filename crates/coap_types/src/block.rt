@@ -1,0 +1,90 @@
+ghost use Rattle.std.specs.Prelude.{◌≡◌, ◌≤◌, ◌%◌, ◌↔◌, IsSome, IfSome, length};
+ghost use Rattle.coap_types.specs.Uint.{IsSpelling, number_of, uint};
+ghost use Rattle.coap_types.specs.BlockValue.{block_by, block_in, block_value, BlockIsSaid, BlockReadsBack, OneBlock};
+
+use crate::szx::{MAX_SZX, Szx};
+use crate::uint::{UintBytes, uint_bytes, uint_of};
+
+/// The most bytes of the value of a Block option (RFC 7959, section 2.1).
+pub const MAX_BLOCK_LEN: usize = 3;
+/// The greatest block number: NUM has 20 bits (RFC 7959, section 2.2).
+pub const MAX_NUM: u32 = (1 << 20) - 1;
+
+const _: () = prove!(MAX_BLOCK_LEN == 3 && MAX_NUM == 1_048_575);
+
+/// How many values the field SZX has, in the lowest bits (RFC 7959, section 2.2).
+const SZX_VALUES: u32 = 8;
+/// The bit M (RFC 7959, section 2.2).
+const MORE_BIT: u32 = 8;
+/// What NUM is counted in, above M and SZX (RFC 7959, section 2.2).
+const NUM_UNIT: u32 = 16;
+
+/// The value of a Block1 or Block2 option (RFC 7959, section 2.2).
+#[derive(Clone, Copy, Debug, PartialEq, Eq)]
+pub struct Block {
+    /// The number of the block, in blocks of its size (NUM). Any number is allowed here; one over
+    /// `MAX_NUM` cannot be written.
+    pub num: u32,
+    /// Whether more blocks follow (M).
+    pub more: bool,
+    /// The size of the block (SZX).
+    pub szx: Szx,
+}
+
+impl Block {
+    /// The block that a number says; None where NUM is over `MAX_NUM`, and at the reserved SZX 7
+    /// (RFC 7959, section 2.2).
+    pub fn of(number: u32) -> Option<Block>
+        ensures { result ≡ block_by number }
+    {
+        let num = number / NUM_UNIT;
+        if num > MAX_NUM {
+            return None;
+        }
+        let szx = Szx::new((number % SZX_VALUES) as u8)?;
+        Some(Block {
+            num,
+            more: number / MORE_BIT % 2 == 1,
+            szx,
+        })
+    }
+
+    /// The block that an option's value says; None past 3 bytes, and at the reserved SZX 7
+    /// (RFC 7959, section 2.2).
+    pub fn read(bytes: &[u8]) -> Option<Block>
+        ensures block { result ≡ block_in bytes.now }
+        ensures value { IfSome result (λ block. block_value block ≡ number_of bytes.now) }
+        ensures num { IfSome result (λ block. block.num ≤ MAX_NUM) }
+        ensures szx { IfSome result (λ block. block.szx ≤ MAX_SZX) }
+        ensures when { IsSome result
+            ↔ ((length bytes.now ≤ MAX_BLOCK_LEN) × (number_of bytes.now % 8 ≤ MAX_SZX)) }
+    {
+        if bytes.len() > MAX_BLOCK_LEN {
+            return None;
+        }
+        Block::of(uint_of(bytes)?)
+    }
+
+    /// The value of the option, in the fewest bytes (RFC 7959, section 2.2); None where NUM is over
+    /// `MAX_NUM`.
+    pub fn write(self) -> Option<UintBytes>
+        ensures bytes { IfSome result (λ bytes. bytes ≡ uint (block_value self)) }
+        ensures spelling { IfSome result (λ bytes. IsSpelling bytes (block_value self)) }
+        ensures few { IfSome result (λ bytes. length bytes ≤ MAX_BLOCK_LEN) }
+        ensures when { IsSome result ↔ (self.num ≤ MAX_NUM) }
+    {
+        if self.num > MAX_NUM {
+            return None;
+        }
+        let more = if self.more { MORE_BIT } else { 0 };
+        Some(uint_bytes(self.num * NUM_UNIT + more + u32::from(self.szx.get())))
+    }
+}
+
+/// A value of a Block option is that of one block; what the block that is read says, and when one
+/// is; and a block that is written is read back (RFC 7959, section 2.2).
+pub fn block_law()
+    ensures one_block { OneBlock }
+    ensures says { BlockIsSaid }
+    ensures read_back { BlockReadsBack }
+{}
