@@ -7,6 +7,7 @@ use Rattle.coap_types.specs.declared.endpoint.Endpoint.{Endpoint}
 use Rattle.coap_types.specs.declared.transmission.TheConstants.{MAX_LATENCY_MS as max_latency}
 use Rattle.coap_types.specs.Bytes.{AreBytes}
 use Rattle.coap_ends.specs.ClientTrace.{Request}
+use Rattle.coap_ends.specs.declared.limits.TheConstants.{MAX_DELAYS as max_delays}
 use Rattle.coap_ends.specs.ServerTrace.{Delay}
 use Rattle.coap_resource.specs.declared.tally.TheConstants.{MAX_CHANGES_PER_WINDOW as max_changes}
 use Rattle.coap_world.specs.Events.{client_end, server_end, Config, What, Calls, Sets, Removes, Deliver, StrangerToClient, StrangerToServer}
@@ -74,7 +75,7 @@ pub record IsConfig (config : Config) : Type 0 where
   pub some : 1 ≤ config.limit
   pub limit : config.limit ≤ max_changes
   pub delays : All IsDelay config.delays
-  pub few : length config.delays ≤ 16
+  pub few : length config.delays ≤ max_delays
 
 -- a configuration in range, and legal events
 pub record Legal (config : Config) (turns : List Turn) : Type 0 where
