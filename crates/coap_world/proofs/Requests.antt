@@ -9,3 +9,4 @@ pub mod AtMostOnce
 pub mod HoldsChanges
 pub mod ChangesOwned
 pub mod LocalChanges
+pub mod ServedRight

@@ -12,3 +12,9 @@ pub mod Timeout
 pub mod Stranger
 pub mod ComesTill
 pub mod NoneRuns
+pub mod Legal
+pub mod Changed
+pub mod PingClient
+pub mod Waiting
+pub mod Non
+pub mod Put

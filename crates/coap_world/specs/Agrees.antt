@@ -6,14 +6,18 @@ use Rattle.coap_types.specs.declared.request.Method.TheVariants.{Get, Post, Put,
 use Rattle.coap_resource.specs.Content.{Held}
 use Rattle.coap_resource.specs.RequestOptions.{tag_of}
 use Rattle.coap_ends.specs.ClientTrace.{Request, Body, Done, Failed}
+use Rattle.coap_ends.specs.Follows.ClientEnds.{AllEnds}
 use Rattle.coap_ends.specs.Follows.ClientFollows.{ReportedOnce}
 use Rattle.coap_ends.specs.Follows.ClientGives.{made, given}
 use Rattle.coap_ends.specs.Follows.ClientNumbering.{OneCall}
 use Rattle.coap_ends.specs.Follows.ServerFollows.{Serving, is_applied}
+use Rattle.coap_ends.specs.Follows.ClientQueue.{StartsInOrder, AllTaken}
+use Rattle.coap_ends.specs.Follows.ServerWaits.{ReadyAreServed}
 use Rattle.coap_world.specs.Events.{client_end, Config}
 use Rattle.coap_world.specs.Holds.{HoldsChanges, ChangesOwned}
 use Rattle.coap_world.specs.Local.{LocalRight}
-use Rattle.coap_world.specs.Record.{Entry, client_of}
+use Rattle.coap_world.specs.Record.{Entry, client_of, server_trace}
+use Rattle.coap_world.specs.Serves.{AllServed}
 use Rattle.coap_world.specs.Words.{ReportsAt, WasCalled, SentFor, ServesAt, AppliesFor, holds_at, last_at, changes_in}
 
 -- What is taken of the client's reports is what it reported: in order, each once, and none is left.
@@ -86,6 +90,15 @@ module _ (config : Config) where
     pub holds_changes : HoldsChanges config all
     pub changes_owned : ChangesOwned config all
     pub local_right : LocalRight config all
+    -- each request that is handed up is served, by the table of the methods, and applied where its preconditions hold
+    pub served_right : AllServed config all
+    -- .. and one that waits is served when its delay has passed and it can be answered
+    pub ready_served : ReadyAreServed config.limit config.server_szx (server_trace config all)
+    -- a call is refused exactly where it has to be, and calls start in their order
+    pub calls_taken : AllTaken config.client_szx (client_of all)
+    pub in_order : StartsInOrder (client_of all)
+    -- each report is of a call; a Reset, a failure and want of a response are reported, each where the exchange ends so
+    pub ends_reported : AllEnds (client_of all)
     -- a number names one call, which is reported at most once, and all reports are taken
     pub one_call : OneCall (client_of all)
     pub one_report : ReportedOnce (client_of all)

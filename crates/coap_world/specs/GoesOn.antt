@@ -1,8 +1,7 @@
 -- A record goes on with each legal event: no event is left without a turn, and so there are records of each list of events
 -- that are legal one after the other.
-use Rattle.std.specs.Prelude.{◌≡◌, ◌≤◌, false, List, [], ◌∷◌, length}
+use Rattle.std.specs.Prelude.{◌≡◌, false, List, [], ◌∷◌}
 use Rattle.coap_types.specs.Past.{Always}
-use Rattle.coap_ends.specs.declared.limits.TheConstants.{MAX_DELAYS as max_delays}
 use Rattle.coap_world.specs.Events.{Config, Event}
 use Rattle.coap_world.specs.Legal.{IsLegal, Legal}
 use Rattle.coap_world.specs.Record.{Entry, Turn, RecordOf}
@@ -19,19 +18,15 @@ MayHappen past event = IsLegal past (turn_of event [])
 pub record Follows (config : Config) (events : List Event) (turns : List Turn) (event : Event) : Type 0 where
   pub entries : List Entry
   pub made : RecordOf config (event ∷ events) (turn_of event entries ∷ turns)
-  pub legal : Legal (turn_of event entries ∷ turns)
+  pub legal : Legal config (turn_of event entries ∷ turns)
 
 abbrev pub GoesOn : Config → Type 0
-GoesOn config = (events : List Event) (turns : List Turn) (event : Event) → RecordOf config events turns → Legal turns → MayHappen turns event → Follows config events turns event
-
--- A server begins with at most 16 delays (profile).
-abbrev pub Begins : Config → Type 0
-Begins config = length config.delays ≤ max_delays
+GoesOn config = (events : List Event) (turns : List Turn) (event : Event) → RecordOf config events turns → Legal config turns → MayHappen turns event → Follows config events turns event
 
 -- a record in which nothing is refused
 pub record Ran (config : Config) (events : List Event) (turns : List Turn) : Type 0 where
   pub made : RecordOf config events turns
-  pub legal : Legal turns
+  pub legal : Legal config turns
   pub all_made : Always (λ past t. t.refused ≡ false) turns
 
 -- events that may happen one after the other

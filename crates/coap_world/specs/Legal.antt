@@ -4,14 +4,18 @@ use Rattle.std.specs.Prelude.{◌≡◌, ◌≢◌, ◌⊎◌, ◌≤◌, ◌<�
 use Rattle.coap_types.specs.Past.{Always}
 use Rattle.coap_types.specs.Path.{IsPath}
 use Rattle.coap_types.specs.declared.endpoint.Endpoint.{Endpoint}
+use Rattle.coap_types.specs.declared.transmission.TheConstants.{MAX_LATENCY_MS as max_latency}
 use Rattle.coap_types.specs.Bytes.{AreBytes}
 use Rattle.coap_ends.specs.ClientTrace.{Request}
-use Rattle.coap_world.specs.Events.{client_end, server_end, What, Calls, Sets, Removes, Deliver, StrangerToClient, StrangerToServer}
+use Rattle.coap_ends.specs.declared.limits.TheConstants.{MAX_DELAYS as max_delays}
+use Rattle.coap_ends.specs.ServerTrace.{Delay}
+use Rattle.coap_resource.specs.declared.tally.TheConstants.{MAX_CHANGES_PER_WINDOW as max_changes}
+use Rattle.coap_world.specs.Events.{client_end, server_end, Config, What, Calls, Sets, Removes, Deliver, StrangerToClient, StrangerToServer}
 use Rattle.coap_world.specs.Record.{Given, Turn, IsNumber}
 
--- a datagram is delivered at most so many milliseconds after it was given out (profile)
+-- a datagram is delivered at most MAX_LATENCY after it was given out
 abbrev pub max_delivery : ℕ
-max_delivery = 100000
+max_delivery = max_latency
 
 -- moments don't fall
 abbrev pub NotBefore : List Turn → ℕ → Type 0
@@ -54,5 +58,26 @@ pub record IsLegal (past : List Turn) (turn : Turn) : Type 0 where
   pub later : NotBefore past turn.event.at
   pub comes : MayCome past turn.event.at turn.event.what
 
-abbrev pub Legal : List Turn → Type 0
-Legal turns = Always IsLegal turns
+abbrev pub AllLegal : List Turn → Type 0
+AllLegal turns = Always IsLegal turns
+
+-- the words and sizes with which the ends begin, how many changes a window takes, and at most 16 delays (profile)
+
+pub record IsDelay (d : Delay) : Type 0 where
+  pub path : IsPath d.path
+  pub ms : d.ms < 2 ^ 64
+
+pub record IsConfig (config : Config) : Type 0 where
+  pub client_word : config.client_word < 2 ^ 64
+  pub client_szx : config.client_szx ≤ 6
+  pub server_word : config.server_word < 2 ^ 64
+  pub server_szx : config.server_szx ≤ 6
+  pub some : 1 ≤ config.limit
+  pub limit : config.limit ≤ max_changes
+  pub delays : All IsDelay config.delays
+  pub few : length config.delays ≤ max_delays
+
+-- a configuration in range, and legal events
+pub record Legal (config : Config) (turns : List Turn) : Type 0 where
+  pub range : IsConfig config
+  pub events : AllLegal turns

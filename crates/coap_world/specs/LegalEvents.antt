@@ -1,14 +1,71 @@
--- When a datagram may come, and from where none may (MAX_LATENCY, RFC 7252, section 4.8.2).
-use Rattle.std.specs.Prelude.{◌≤◌, ◌<◌, ℕ, List, [], ◌∷◌}
+-- Which events are legal, kind by kind and at each border, and of which no run is (RFC 7252, section 4.8.2: MAX_LATENCY).
+use Rattle.std.specs.Prelude.{◌≡◌, ◌≢◌, ◌⊎◌, ◌≤◌, ◌<◌, ℕ, ◌+◌, ◌^◌, Option, Some, IfSome, List, [], ◌∷◌, length, All}
 use Rattle.coap_types.specs.declared.endpoint.Endpoint.{Endpoint}
-use Rattle.coap_world.specs.Events.{client_end, Config, Calls, TickClient, Deliver, StrangerToServer, StrangerToClient, Event}
-use Rattle.coap_world.specs.Legal.{Legal}
+use Rattle.coap_world.specs.Events.{client_end, server_end, Config, What, Calls, Sets, Removes, TickClient, TickServer, Deliver, StrangerToServer, StrangerToClient, Event}
+use Rattle.coap_types.specs.Bytes.{AreBytes}
+use Rattle.coap_ends.specs.ClientTrace.{Request}
+use Rattle.coap_world.specs.GoesOn.{MayHappen}
+use Rattle.coap_world.specs.Legal.{AllLegal}
 use Rattle.coap_world.specs.LegalRuns.{config, event, from_client, from_server, Runs, post, post_bytes, not_found_bytes}
-use Rattle.coap_world.specs.Record.{Turn, RecordOf}
+use Rattle.coap_world.specs.Record.{Given, Turn, RecordOf, IsNumber}
 
 -- no run of these events is legal
 abbrev pub NoneRuns : List Event → Type 0
-NoneRuns events = (config : Config) (turns : List Turn) → RecordOf config events turns → Legal turns → ⊥
+NoneRuns events = (config : Config) (turns : List Turn) → RecordOf config events turns → AllLegal turns → ⊥
+
+-- Each kind of event may happen, first and then at a moment that is not before the last, where its numbers are in range.
+
+abbrev pub at_with : ℕ → ℕ → What → Event
+at_with at word what = record { at = at; word = word; what = what }
+
+pub record May (what : What) : Type 0 where
+  pub first : (at word : ℕ) → at < 2 ^ 64 → word < 2 ^ 64 → MayHappen [] (at_with at word what)
+  pub then : (last : Turn) (past : List Turn) (at word : ℕ) → at < 2 ^ 64 → word < 2 ^ 64 → last.event.at ≤ at → MayHappen (last ∷ past) (at_with at word what)
+
+-- a path of at most 16 segments, each of at most 255 bytes; a number of 16 bits, if any; an endpoint of IPv4
+
+abbrev pub Segments : List (List ℕ) → Type 0
+Segments path = (length path ≤ 16) × All (λ s. length s ≤ 255) path × All AreBytes path
+
+abbrev pub Is16 : Option ℕ → Type 0
+Is16 o = IfSome o (λ n. n < 2 ^ 16)
+
+abbrev pub CallsMay : Type 0
+CallsMay = (r : Request) → Segments r.path → Is16 r.accept → Is16 r.format → AreBytes r.body → May (Calls r)
+
+abbrev pub SetsMay : Type 0
+SetsMay = (path : List (List ℕ)) (format : Option ℕ) (body : List ℕ) → Segments path → Is16 format → AreBytes body → May (Sets path format body)
+
+abbrev pub RemovesMay : Type 0
+RemovesMay = (path : List (List ℕ)) → Segments path → May (Removes path)
+
+abbrev pub TicksMay : Type 0
+TicksMay = May TickClient × May TickServer
+
+-- a stranger, at any address that is no end's
+abbrev pub StrangersMay : Type 0
+StrangersMay = (ip : List ℕ) (port : ℕ) (bytes : List ℕ) → length ip ≡ 4 → AreBytes ip → port < 2 ^ 16 → AreBytes bytes
+    → record { ip = ip; port = port } ≢ client_end → record { ip = ip; port = port } ≢ server_end
+    → May (StrangerToServer (record { ip = ip; port = port }) bytes) × May (StrangerToClient (record { ip = ip; port = port }) bytes)
+
+-- any datagram that was given out to an end, once or more often
+abbrev pub DeliveriesMay : ℕ → Type 0
+DeliveriesMay last = (turn : Turn) (past : List Turn) (at word number : ℕ) (g : Given) → at < 2 ^ 64 → word < 2 ^ 64 → turn.event.at ≤ at → IsNumber number g (turn ∷ past)
+    → ((g.packet.to ≡ client_end) ⊎ (g.packet.to ≡ server_end)) → at ≤ g.at + last → MayHappen (turn ∷ past) (at_with at word (Deliver number))
+
+-- moments don't fall, and have 64 bits; so have words; a path has no more segments, and a format no more bits
+
+abbrev pub NoneFalls : Type 0
+NoneFalls = (at later : ℕ) → at < later → NoneRuns (event at TickClient ∷ event later TickServer ∷ [])
+
+abbrev pub NoneOver : Type 0
+NoneOver = (at word : ℕ) → (2 ^ 64 ≤ at) ⊎ (2 ^ 64 ≤ word) → NoneRuns (at_with at word TickClient ∷ [])
+
+abbrev pub NoneLonger : Type 0
+NoneLonger = (path : List (List ℕ)) → 16 < length path → NoneRuns (event 0 (Removes path) ∷ [])
+
+abbrev pub NoneBeyond : Type 0
+NoneBeyond = (path : List (List ℕ)) (format : ℕ) (body : List ℕ) → 2 ^ 16 ≤ format → NoneRuns (event 0 (Sets path (Some format) body) ∷ [])
 
 -- a datagram that was given out at 0 comes
 

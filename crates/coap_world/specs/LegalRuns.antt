@@ -2,16 +2,17 @@
 use Rattle.std.specs.Prelude.{◌≡◌, ℕ, true, Option, Some, None, List, [], ◌∷◌, ◌++◌, codes}
 use Rattle.coap_types.specs.Past.{Sometime, all_of}
 use Rattle.coap_types.specs.declared.endpoint.Endpoint.{Endpoint}
-use Rattle.coap_types.specs.declared.request.Method.TheVariants.{Get, Post, Delete}
-use Rattle.coap_ends.specs.ClientReports.{changed}
+use Rattle.coap_types.specs.declared.request.Method.TheVariants.{Get, Post, Put, Delete}
+use Rattle.coap_ends.specs.ClientReports.{created, changed}
 use Rattle.coap_ends.specs.ClientTrace.{Body, Done, Failed, Timeout, Reported, Request}
+use Rattle.coap_ends.specs.Follows.ClientQueue.{taken_in, started_in}
 use Rattle.coap_ends.specs.Follows.ServerFollows.{Serving, is_applied, held_at}
 use Rattle.coap_ends.specs.ServerTrace.{Delay}
-use Rattle.coap_world.specs.Words.{ReportsAt, ServesAt, AppliesFor}
+use Rattle.coap_world.specs.Words.{ReportsAt, ServesAt, AppliesFor, holds_at, changes_in}
 use Rattle.coap_world.specs.Agrees.{HeldSince, AppliesSince}
-use Rattle.coap_world.specs.Events.{client_end, server_end, localhost, Config, What, Calls, Sets, TickClient, TickServer, Deliver, StrangerToServer, Event}
+use Rattle.coap_world.specs.Events.{client_end, server_end, localhost, Config, What, Calls, Sets, Removes, TickClient, TickServer, Deliver, StrangerToServer, StrangerToClient, Event}
 use Rattle.coap_world.specs.Legal.{Legal}
-use Rattle.coap_world.specs.Record.{Entry, Given, Turn, given_in, RecordOf, entries_of, server_trace}
+use Rattle.coap_world.specs.Record.{Entry, Given, Turn, given_in, RecordOf, entries_of, client_of, server_trace}
 
 -- words 0, blocks of 1,024 bytes, 4,194,303 changes a window
 abbrev pub with_delays : List Delay → Config
@@ -34,7 +35,7 @@ from_server at to bytes = record { at = at; from = server_end; packet = record {
 pub record Runs (config : Config) (events : List Event) (given : List Given) : Type 0 where
   pub turns : List Turn
   pub made : RecordOf config events turns
-  pub legal : Legal turns
+  pub legal : Legal config turns
   pub gives : all_of given_in turns ≡ given
 
 -- 8 bytes, all 0: the first token of a client of word 0
@@ -225,3 +226,74 @@ pub record Interferes : Type 0 where
   pub run : Runs config interferes (from_server 0 stranger deleted_bytes ∷ from_client 0 (delete_bytes 0) ∷ [])
   pub applies : Sometime (λ past e. (x : Serving) × ServesAt config x past e × (is_applied x.reply.code ≡ true)) (entries_of run.turns)
   pub for_none : Sometime (AppliesFor config 0 (entries_of run.turns)) (entries_of run.turns) → ⊥
+
+-- the store's memory is refused once, and the same change comes again at the same moment; then it is removed (section 5.8)
+
+abbrev pub changes : List Event
+changes = event 0 (Removes (codes "t" ∷ [])) ∷ event 0 (Sets (codes "t" ∷ []) (Some plain) (codes "hi")) ∷ event 0 (Sets (codes "t" ∷ []) (Some plain) (codes "hi")) ∷ []
+
+abbrev pub WasRefused : List Turn → Type 0
+WasRefused turns = Sometime (λ past t. t.refused ≡ true) turns
+
+pub record Changes : Type 0 where
+  pub run : Runs config changes []
+  pub refused : WasRefused run.turns
+  pub held : Sometime (λ past e. holds_at config (codes "t" ∷ []) (e ∷ past) ≡ Some (record { version = 1; format = Some plain; body = codes "hi" })) (entries_of run.turns)
+  pub gone : holds_at config (codes "t" ∷ []) (entries_of run.turns) ≡ None
+  pub twice : changes_in config (entries_of run.turns) ≡ 2
+
+-- a stranger pings the client, which answers with a Reset (section 4.3)
+
+abbrev pub pings_client : List Event
+pings_client = event 0 (StrangerToClient stranger ping) ∷ []
+
+abbrev pub PingsClient : Type 0
+PingsClient = Runs config pings_client (record { at = 0; from = client_end; packet = record { to = stranger; bytes = pong } } ∷ [])
+
+-- two calls: the first is sent, and the second waits (NSTART is 1: section 4.7)
+
+abbrev pub waits : List Event
+waits = event 0 TickClient ∷ event 0 (Calls get) ∷ event 0 (Calls delete) ∷ []
+
+pub record Waits : Type 0 where
+  pub run : Runs config waits (from_client 0 (delete_bytes 0) ∷ [])
+  pub taken : taken_in (client_of (entries_of run.turns)) ≡ record { number = 0; request = delete } ∷ record { number = 1; request = get } ∷ []
+  pub started : started_in (client_of (entries_of run.turns)) ≡ record { number = 0; request = delete } ∷ []
+
+-- a stranger sends a DELETE in a Non-confirmable message, and is answered in one (section 5.2.3)
+
+abbrev pub delete_non : List ℕ
+delete_non = 0x58 ∷ 4 ∷ 0 ∷ 1 ∷ token ++ 0xb1 ∷ codes "t"
+
+abbrev pub deleted_non : List ℕ
+deleted_non = 0x58 ∷ 0x42 ∷ 0 ∷ 0 ∷ token
+
+pub record Nons : Type 0 where
+  pub run : Runs config (event 0 (StrangerToServer stranger delete_non) ∷ []) (from_server 0 stranger deleted_non ∷ [])
+  pub applies : Sometime (λ past e. (x : Serving) × ServesAt config x past e × (is_applied x.reply.code ≡ true)) (entries_of run.turns)
+
+-- a PUT with a format of its body, to a path that holds nothing: 2.01, and the path holds just that (section 5.8.3)
+
+-- the format application/json
+abbrev pub json : ℕ
+json = 50
+
+abbrev pub put : Request
+put = record { method = Put; path = codes "t" ∷ []; accept = None; format = Some json; body = codes "a" }
+
+abbrev pub puts : List Event
+puts = event 9 (Deliver 1) ∷ event 5 (Deliver 0) ∷ event 0 TickClient ∷ event 0 (Calls put) ∷ []
+
+abbrev pub put_bytes : List ℕ
+put_bytes = 0x48 ∷ 3 ∷ 0 ∷ 0 ∷ token ++ 0xb1 ∷ codes "t" ++ 0x11 ∷ json ∷ 0xff ∷ codes "a"
+
+abbrev pub created_bytes : List ℕ
+created_bytes = 0x68 ∷ 0x41 ∷ 0 ∷ 0 ∷ token
+
+abbrev pub made : Reported
+made = record { number = 0; report = Done created }
+
+pub record Puts : Type 0 where
+  pub run : Runs config puts (from_server 5 client_end created_bytes ∷ from_client 0 put_bytes ∷ [])
+  pub reports : Sometime (ReportsAt made) (entries_of run.turns)
+  pub held : holds_at config (codes "t" ∷ []) (entries_of run.turns) ≡ Some (record { version = 1; format = Some json; body = codes "a" })

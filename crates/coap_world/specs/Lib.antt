@@ -5,6 +5,7 @@ pub mod Delivery
 pub mod Words
 pub mod Holds
 pub mod Local
+pub mod Serves
 pub mod Agrees
 pub mod Hops
 pub mod CameFrom

@@ -8,7 +8,7 @@ use Rattle.coap_ends.specs.ClientTrace as C
 use Rattle.coap_ends.specs.ServerTrace as S
 use Rattle.coap_world.specs.Events.{client_end, server_end, What, Calls, Sets, Removes, TickClient, TickServer, Deliver, StrangerToClient, StrangerToServer}
 use Rattle.coap_world.specs.Record.{Entry, OfClient, OfServer, Given, Turn, given_as, given_by, given_in, IsNumber, OnClient, OnServer, IsOne, AreTicks, ClientTick, ServerTick, Makes}
-use Rattle.coap_world.specs.Legal.{NotBefore, MayCome, Legal}
+use Rattle.coap_world.specs.Legal.{NotBefore, MayCome, AllLegal}
 use Rattle.coap_world.specs.Delivery.{GaveOut, FedToServer, FedToClient, AllFair}
 
 -- moments of what was given out
@@ -38,7 +38,7 @@ in_at : (at : ℕ) (es : List Entry) (g : Given) → Ever (λ h. h ≡ g) (all_o
 in_at at [] g h = absurd h
 in_at at (e ∷ es) g h = elim (Ever_append (λ x. x ≡ g) (given_by at e) (all_of (given_by at) es) h) [ inl p ↦ by_at at e g p | inr q ↦ in_at at es g q ]
 
-pub not_later : (past : List Turn) (at : ℕ) (g : Given) → Legal past → NotBefore past at → Ever (λ h. h ≡ g) (all_of given_in past) → g.at ≤ at
+pub not_later : (past : List Turn) (at : ℕ) (g : Given) → AllLegal past → NotBefore past at → Ever (λ h. h ≡ g) (all_of given_in past) → g.at ≤ at
 not_later [] at g legal n h = absurd h
 not_later (t ∷ past) at g legal n h = elim (Ever_append (λ x. x ≡ g) (given_in t) (all_of given_in past) h) [
   | inl p ↦ (let e = in_at t.event.at t.entries g p in omega (arith, e, n))
@@ -153,7 +153,7 @@ packet_is : (p : Packet) (to : Endpoint) (bytes : List ℕ) → p.to ≡ to → 
 packet_is p to bytes h k = ap {B = Packet} (λ t. record { to = t; bytes = p.bytes }) h ∙ ap {B = Packet} (λ b. record { to = to; bytes = b }) k
 
 -- the datagram of a number
-module _ (past : List Turn) (at : ℕ) (number : ℕ) (legal : Legal past) (later : NotBefore past at) (may : MayCome past at (Deliver number)) (g : Given) (is : IsNumber number g past) where
+module _ (past : List Turn) (at : ℕ) (number : ℕ) (legal : AllLegal past) (later : NotBefore past at) (may : MayCome past at (Deliver number)) (g : Given) (is : IsNumber number g past) where
   gave : (from to : Endpoint) (bytes : List ℕ) → g.from ≡ from → g.packet.to ≡ to → g.packet.bytes ≡ bytes → Ever (GaveOut from to bytes at) (all_of given_in past)
   gave from to bytes f t b =
       let here : Ever (λ h. h ≡ g) (all_of given_in past) = Ever_of_Sometime _ (λ h. h ≡ g) (λ before h k. inl k.0) (all_of given_in past) is in
@@ -163,7 +163,7 @@ module _ (past : List Turn) (at : ℕ) (number : ℕ) (legal : Legal past) (late
       let n = not_later past at g legal later here in
       Ever_map (λ h. h ≡ g) (GaveOut from to bytes at) (λ h k. subst (GaveOut from to bytes at) (sym k) (record { packet = packet_is g.packet to bytes t b; by = f; early = n; young = omega (arith, y, e) })) (all_of given_in past) here
 
-module _ (past : List Turn) (at word : ℕ) (refused : Bool) (entries : List Entry) (legal : Legal past) (later : NotBefore past at) (bytes : List ℕ) where
+module _ (past : List Turn) (at word : ℕ) (refused : Bool) (entries : List Entry) (legal : AllLegal past) (later : NotBefore past at) (bytes : List ℕ) where
   to_server : (what : What) → Makes past at word what refused entries → MayCome past at what → Ever (FedToServer client_end bytes) entries → Ever (GaveOut client_end server_end bytes at) (all_of given_in past)
   to_server (Calls r) m may h = absurd (never_there client_end bytes m.0 entries m.2 h)
   to_server TickClient m may h = absurd (never_there client_end bytes m.0 entries m.2 h)
@@ -198,7 +198,7 @@ module _ (past : List Turn) (at word : ℕ) (refused : Bool) (entries : List Ent
         gave past at number legal later may m.0 m.1 server_end client_end bytes (cc (k.1.3, k.2.5)) d.0 (cc (k.1.3, k.2.5)))
   ]
 
-pub all_fair : (turns : List Turn) → Always (λ past t. Makes past t.event.at t.event.word t.event.what t.refused t.entries) turns → Legal turns → AllFair turns
+pub all_fair : (turns : List Turn) → Always (λ past t. Makes past t.event.at t.event.word t.event.what t.refused t.entries) turns → AllLegal turns → AllFair turns
 all_fair [] made legal = tt
 all_fair (t ∷ past) made legal = (
   record {

@@ -3,21 +3,17 @@ use Rattle.std.proofs.Common.{List, sym, subst}
 use Rattle.coap_types.specs.Past.{Always}
 use Rattle.coap_layer.specs.Channel.{RepliesSo, ChannelLaw}
 use Rattle.coap_layer.specs.Rows.{LayerLaw}
-use Rattle.coap_exchange.proofs.Facts.ClientSide as asker
-use Rattle.coap_exchange.proofs.Facts.ServerSide as answerer
-use Rattle.coap_ends.specs.ClientLaw as client_law
-use Rattle.coap_ends.specs.ServerLaw as server_law
 use Rattle.coap_ends.proofs.Facts.OfClient as client_facts
 use Rattle.coap_ends.proofs.Facts.OfServer as server_facts
 use Rattle.coap_world.specs.Events.{client_end, server_end, Config, Event}
 use Rattle.coap_world.specs.Hops.{hops_of}
-use Rattle.coap_world.specs.Legal.{Legal}
+use Rattle.coap_world.specs.Legal.{AllLegal}
 use Rattle.coap_world.specs.Record.{Turn, RecordOf, entries_of, client_of, server_trace}
 use Rattle.coap_world.proofs.Delivery.GivenOutBefore.{all_fair}
 use Rattle.coap_world.proofs.Delivery.HopsAreEntries.{near_is, far_is}
 use Rattle.coap_world.proofs.Delivery.HopsAreFair.{Ran, ran}
 
-module _ (config : Config) (events : List Event) (turns : List Turn) (made : RecordOf config events turns) (legal : Legal turns) where
+module _ (config : Config) (events : List Event) (turns : List Turn) (made : RecordOf config events turns) (legal : AllLegal turns) where
   pub run : Ran config turns
   run =
       let below = made.client.exchanges in

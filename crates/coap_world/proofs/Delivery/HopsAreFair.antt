@@ -14,7 +14,7 @@ use Rattle.coap_exchange.specs.AnswererLaw as answerer
 use Rattle.coap_world.specs.Delivery as D
 use Rattle.coap_world.specs.Events.{client_end, server_end, Config}
 use Rattle.coap_world.specs.Hops.{client_adds, server_adds, hops_in, hops_of, SendsAt, SentIn}
-use Rattle.coap_world.specs.Legal.{NotBefore, Legal}
+use Rattle.coap_world.specs.Legal.{NotBefore, AllLegal}
 use Rattle.coap_world.specs.Record.{Entry, OfClient, OfServer, client_of, server_trace, Given, Turn, given_in, entries_of, Makes}
 use Rattle.coap_world.proofs.Delivery.ClientInTime as client
 use Rattle.coap_world.proofs.Delivery.ClientTurns as client_turns
@@ -136,7 +136,7 @@ module _ (config : Config) where
   server_down (OfClient c ∷ later) es good = server_down later es good
   server_down (OfServer c ∷ later) es good = server_down later es (server_turns.down config (server_trace config (later ++ es)) c good)
 
-  pub ran : (turns : List Turn) → Always (λ past t. Makes past t.event.at t.event.word t.event.what t.refused t.entries) turns → Legal turns → D.AllFair turns
+  pub ran : (turns : List Turn) → Always (λ past t. Makes past t.event.at t.event.word t.event.what t.refused t.entries) turns → AllLegal turns → D.AllFair turns
       → client_turns.IsGood config (client_of (entries_of turns)) → server_turns.IsGood config (server_trace config (entries_of turns)) → Ran turns
   ran [] made legal fair good_client good_server = ran_first
   ran (turn ∷ past) made legal fair good_client good_server =

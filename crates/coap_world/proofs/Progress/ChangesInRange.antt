@@ -10,7 +10,7 @@ use Rattle.coap_ends.specs.ServerTrace as S
 use Rattle.coap_world.proofs.Delivery.EntriesInTime.{Every, every_map}
 use Rattle.coap_world.proofs.Progress.ServerSendsBytes.{BodyAre}
 use Rattle.coap_world.specs.Events.{Config, What, Calls, Sets, Removes, TickClient, TickServer, Deliver, StrangerToClient, StrangerToServer}
-use Rattle.coap_world.specs.Legal.{InRange, Legal}
+use Rattle.coap_world.specs.Legal.{InRange, AllLegal}
 use Rattle.coap_world.specs.Record.{Entry, OfClient, OfServer, Turn, OnClient, OnServer, IsOne, AreTicks, Makes, ServerTick, server_trace, entries_of}
 
 abbrev SetsInRange : S.Call → Type 0
@@ -83,7 +83,7 @@ behind [] more h k = k
 behind (OfClient c ∷ t) more h k = behind t more h k
 behind (OfServer c ∷ t) more h k = (h.0, behind t more h.1 k)
 
-all_turns : (turns : List Turn) → Always (λ past t. Makes past t.event.at t.event.word t.event.what t.refused t.entries) turns → Legal turns → AllOf (entries_of turns)
+all_turns : (turns : List Turn) → Always (λ past t. Makes past t.event.at t.event.word t.event.what t.refused t.entries) turns → AllLegal turns → AllOf (entries_of turns)
 all_turns [] made legal = tt
 all_turns (t ∷ past) made legal =
     behind t.entries (entries_of past) (in_turn past t.event.at t.event.word t.refused t.entries t.event.what made.0 legal.0.range) (all_turns past made.1 legal.1)
@@ -113,7 +113,7 @@ body_of (S.Feeds now from bytes word up came w below) h = tt
 body_of (S.Ticks now word below room d w id answer) h = tt
 body_of (S.NextOut answer) h = tt
 
-module _ (config : Config) (turns : List Turn) (made : Always (λ past t. Makes past t.event.at t.event.word t.event.what t.refused t.entries) turns) (legal : Legal turns) where
+module _ (config : Config) (turns : List Turn) (made : Always (λ past t. Makes past t.event.at t.event.word t.event.what t.refused t.entries) turns) (legal : AllLegal turns) where
   abbrev servers : List S.Call
   servers = server_trace config (entries_of turns)
 

@@ -1,5 +1,5 @@
 -- What a client sends is of bytes, where the paths and the bodies of its calls are (RFC 7252, sections 3 and 5.10).
-use Rattle.std.proofs.Common.{◌≡◌, inr, ℕ, ◌<◌, ◌/◌, ◌%◌, ◌==◌, ◌^◌, ◌++◌, max, nat_lt, Bool, true, false, Option, Some, None, List, [], ◌∷◌, refl, ap, sym, subst, cond, mod-lt, arith, suc, Result}
+use Rattle.std.proofs.Common.{◌≡◌, inr, ℕ, ◌<◌, ◌^◌, ◌++◌, max, Bool, true, false, Option, Some, None, List, [], ◌∷◌, refl, ap, sym, subst, arith, suc, Result}
 use Rattle.std.specs.Prelude.{All, IfSome}
 use Rattle.coap_types.specs.Past.{Ever}
 use Rattle.coap_types.proofs.Facts.Uints.{uint_spells}
@@ -7,7 +7,6 @@ use Rattle.coap_types.specs.declared.endpoint.Endpoint.{Endpoint}
 use Rattle.coap_types.specs.declared.request.Method.{Method}
 use Rattle.coap_types.specs.declared.request.Method.TheVariants.{Get, Post, Put, Delete}
 use Rattle.coap_types.specs.Bytes.{AreBytes}
-use Rattle.std.proofs.lemmas.Bool.{ltb-true}
 use Rattle.coap_layer.specs.Sends.{IsIn}
 use Rattle.coap_layer.specs.Trace as L
 use Rattle.coap_exchange.specs.declared.asker.AskRefusal.{AskRefusal}
@@ -27,12 +26,12 @@ use Rattle.coap_ends.specs.ClientTrace.{Request, Operation, Call, Calls, Feeds, 
 use Rattle.coap_types.specs.Uint.{uint}
 use Rattle.coap_types.specs.OptionValues.{uint_option}
 use Rattle.coap_ends.specs.ClientRequests.{path_options, more_options, payload_by}
-use Rattle.coap_ends.specs.ClientSteps.{is_idle, starting, asking}
+use Rattle.coap_ends.specs.ClientSteps.{starting, asking}
 use Rattle.coap_ends.specs.ClientLaw.{ClientLaw, own_of, lower_of, layer_of}
 use Rattle.coap_ends.specs.Follows.ClientFollows.{WasTaken}
 use Rattle.coap_ends.proofs.Facts.OfClient.{starts_taken}
 use Rattle.coap_world.specs.Legal.{IsRequest}
-use Rattle.coap_world.proofs.Progress.SpelledInBytes.{ValuesAre, none_are, cons_are, high_are, values_append}
+use Rattle.coap_world.proofs.Progress.SpelledInBytes.{ValuesAre, none_are, high_are, values_append}
 use Rattle.coap_world.proofs.Delivery.EntriesInTime.{Every, every_join}
 use Rattle.coap_world.proofs.Progress.LayerSendsBytes.{ContentAre, CallAre, EachAre, sent_are, ack_are, reset_are, ReplyAre, replying_are}
 

@@ -17,8 +17,8 @@ use Rattle.coap_ends.specs.Follows.ServerRests.{Stands}
 use Rattle.coap_ends.proofs.Facts.OfClient as client_facts
 use Rattle.coap_ends.proofs.Facts.OfServer as server_facts
 use Rattle.coap_world.specs.Events.{server_end, Config, What, Calls, Sets, Removes, TickClient, TickServer, Deliver, StrangerToClient, StrangerToServer, Event}
-use Rattle.coap_world.specs.GoesOn.{turn_of, MayHappen, Follows, GoesOn, Begins, MayRun, HasRecord}
-use Rattle.coap_world.specs.Legal.{Legal}
+use Rattle.coap_world.specs.GoesOn.{turn_of, MayHappen, Follows, GoesOn, MayRun, HasRecord}
+use Rattle.coap_world.specs.Legal.{IsConfig, AllLegal}
 use Rattle.coap_world.specs.Record.{Entry, OfClient, OfServer, Turn, entries_of, client_of, server_of, begun_with, server_trace, OnClient, OnServer, IsOne, AreTicks, FeedsClient, FeedsServer, Makes, ClientTick, ServerTick, RecordOf}
 use Rattle.coap_world.proofs.Progress.ChangesInRange.{formats_in}
 use Rattle.coap_world.proofs.Progress.GivenOutIsBytes.{given_are}
@@ -29,7 +29,7 @@ are_ticks : {X : Type 0} (IsTick : Bool → X → Type 0) (calls : List X) → U
 are_ticks IsTick [] h = h
 are_ticks IsTick (c ∷ calls) h = h
 
-module _ (config : Config) (events : List Event) (turns : List Turn) (run : RecordOf config events turns) (legal : Legal turns) (at word : ℕ) where
+module _ (config : Config) (events : List Event) (turns : List Turn) (run : RecordOf config events turns) (range : IsConfig config) (legal : AllLegal turns) (at word : ℕ) where
   abbrev event : What → Event
   event what = record { at = at; word = word; what = what }
 
@@ -52,7 +52,7 @@ module _ (config : Config) (events : List Event) (turns : List Turn) (run : Reco
   follows what may entries makes on_client on_server = record {
     entries = entries;
     made = record { events_are = ap (λ es. event what ∷ es) run.events_are; made = (makes, run.made); client = on_client; server = on_server };
-    legal = (record { at = may.at; word = may.word; range = may.range; later = may.later; comes = may.comes }, legal);
+    legal = record { range = range; events = (record { at = may.at; word = may.word; range = may.range; later = may.later; comes = may.comes }, legal) };
   }
 
   -- a turn of the client: its calls, all that it has out, and its reports
@@ -130,7 +130,7 @@ module _ (config : Config) (events : List Event) (turns : List Turn) (run : Reco
       ]
 
 pub goes_on : (config : Config) → GoesOn config
-goes_on config events turns event run legal may = by_what config events turns run legal event.at event.word event.what may
+goes_on config events turns event run legal may = by_what config events turns run legal.range legal.events event.at event.word event.what may
 
 -- the beginning
 
@@ -164,17 +164,17 @@ module _ (config : Config) where
       let law = begins_by ds (omega (arith, few)) in
       record { rows = (sym (lt-ltb (length (others d.path have)) max_delays (omega (arith, few, k, o))), law.rows); exchanges = law.exchanges }
 
-  begins : Begins config → RecordOf config [] []
-  begins few = record {
+  begins : IsConfig config → RecordOf config [] []
+  begins range = record {
     events_are = refl;
     made = tt;
     client = record { rows = tt; exchanges = record { rows = tt; left = layer.start config.client_word; layer = refl } };
-    server = begins_by config.delays few;
+    server = begins_by config.delays range.few;
   }
 
-  pub has_record : Begins config → (events : List Event) → MayRun config events → HasRecord config events
-  has_record few [] may = ([], record { made = begins few; legal = tt; all_made = tt })
-  has_record few (event ∷ events) may =
-      let k = has_record few events may.1 in
+  pub has_record : IsConfig config → (events : List Event) → MayRun config events → HasRecord config events
+  has_record range [] may = ([], record { made = begins range; legal = record { range = range; events = tt }; all_made = tt })
+  has_record range (event ∷ events) may =
+      let k = has_record range events may.1 in
       let f = goes_on config events k.0 event k.1.made k.1.legal (may.0 k.0 k.1) in
       (turn_of event f.entries ∷ k.0, record { made = f.made; legal = f.legal; all_made = (refl, k.1.all_made) })

@@ -9,7 +9,7 @@ use Rattle.coap_layer.specs.Trace as L
 use Rattle.coap_layer.proofs.Facts.Hops.{near_ever, far_ever}
 use Rattle.coap_world.specs.Events.{server_end, Config, Event}
 use Rattle.coap_world.specs.Hops.{hops_of, SendsAt}
-use Rattle.coap_world.specs.Legal.{Legal}
+use Rattle.coap_world.specs.Legal.{AllLegal}
 use Rattle.coap_world.specs.Record.{Entry, Given, Turn, IsNumber, RecordOf, given_in, entries_of, client_of, server_trace}
 use Rattle.coap_world.proofs.Requests.CallsInRange.{in_range}
 use Rattle.coap_world.proofs.Progress.ClientSendsBytes.{client_are}
@@ -18,7 +18,7 @@ use Rattle.coap_world.proofs.Delivery.HopsAreEntries.{near_is, far_is}
 use Rattle.coap_world.proofs.Delivery.HopsAreAChannel.{run}
 use Rattle.coap_world.proofs.Progress.ServerSendsBytes.{server_are}
 
-module _ (config : Config) (events : List Event) (turns : List Turn) (made : RecordOf config events turns) (legal : Legal turns) (g : Given) where
+module _ (config : Config) (events : List Event) (turns : List Turn) (made : RecordOf config events turns) (legal : AllLegal turns) (g : Given) where
   abbrev all : List Entry
   all = entries_of turns
 

@@ -1,22 +1,17 @@
 -- What is promised of a legal run, clause by clause.
 use Rattle.std.proofs.Common.{◌≡◌, ℕ, true, List, [], ◌∷◌, refl, ap, sym}
 use Rattle.coap_exchange.specs.declared.answerer.Asked.{Asked}
-use Rattle.coap_exchange.proofs.Facts.ServerSide as A
-use Rattle.coap_exchange.proofs.Facts.ClientSide.{layer_stands}
-use Rattle.coap_exchange.proofs.Facts.ClientSide.{are_tokens}
 use Rattle.coap_ends.specs.Follows.ClientFollows.{AreSent}
-use Rattle.coap_ends.specs.ClientLaw.{lower_of}
 use Rattle.coap_ends.specs.Follows.ClientSendings.{OneSending}
 use Rattle.coap_ends.specs.ServerChecks.{Asks}
 use Rattle.coap_ends.specs.Follows.ServerFollows.{Serving, is_applied}
-use Rattle.coap_ends.specs.ServerLaw as server
 use Rattle.coap_ends.proofs.Facts.OfClient as client_facts
 use Rattle.coap_ends.proofs.Facts.OfServer as server_facts
 use Rattle.coap_world.specs.Words.{ServesAt, SentFor}
 use Rattle.coap_world.specs.Agrees.{Agrees, AppliedWhole, AtMostOnce}
 use Rattle.coap_world.specs.CameFrom.{CameFrom, CamesFrom}
 use Rattle.coap_world.specs.Events.{client_end, server_end, Config, Event}
-use Rattle.coap_world.specs.Legal.{Legal}
+use Rattle.coap_world.specs.Legal.{AllLegal}
 use Rattle.coap_world.specs.Record.{Entry, Turn, RecordOf, client_of, entries_of, server_trace}
 use Rattle.coap_types.specs.Past.{Sometime, Always}
 use Rattle.coap_world.proofs.Requests.AtMostOnce as W
@@ -30,6 +25,7 @@ use Rattle.coap_world.proofs.Delivery.HopsAreAChannel as joined
 use Rattle.coap_world.proofs.Reports.NeverFailed as F
 use Rattle.coap_world.proofs.Requests.ChangesOwned as O
 use Rattle.coap_world.proofs.Requests.HoldsChanges.{changes_held}
+use Rattle.coap_world.proofs.Requests.ServedRight.{served_right}
 use Rattle.coap_world.proofs.Requests.LocalChanges.{local_right}
 use Rattle.coap_world.proofs.Reports.PartsOfARecord.{Lawful, PartOf, part_back, whole}
 use Rattle.coap_world.proofs.Reports.ReportsAreOfRequests.{sent_for}
@@ -47,7 +43,7 @@ belongs_in config all (e ∷ past) part came = (
   belongs_in config all past (part_back config all past e part) came.1,
 )
 
-module _ (config : Config) (events : List Event) (turns : List Turn) (run : RecordOf config events turns) (legal : Legal turns) where
+module _ (config : Config) (events : List Event) (turns : List Turn) (run : RecordOf config events turns) (legal : AllLegal turns) where
   abbrev all : List Entry
   all = entries_of turns
 
@@ -88,6 +84,11 @@ module _ (config : Config) (events : List Event) (turns : List Turn) (run : Reco
     holds_changes = changes_held config all run.server.rows;
     changes_owned = O.owned config all run.server.rows;
     local_right = local_right config all run.server.rows;
+    served_right = served_right config all run.server;
+    ready_served = server_facts.ready config.limit config.server_szx config.server_word (server_trace config all) run.server;
+    calls_taken = client_facts.takes server_end config.client_szx config.client_word (client_of all) run.client;
+    in_order = client_facts.starts server_end config.client_szx config.client_word (client_of all) run.client;
+    ends_reported = client_facts.ends server_end config.client_szx config.client_word (client_of all) run.client;
     one_call = client_facts.numbers server_end config.client_szx config.client_word (client_of all) run.client;
     one_report = client_facts.once server_end config.client_szx config.client_word (client_of all) run.client;
     all_given = all_given config.client_szx turns run.made run.client.rows;

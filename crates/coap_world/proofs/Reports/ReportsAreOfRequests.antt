@@ -3,12 +3,10 @@ use Rattle.std.proofs.Common.{◌≡◌, ℕ, true, List, [], ◌∷◌, refl, a
 use Rattle.coap_types.specs.Past.{Sometime, Always}
 use Rattle.coap_types.proofs.Facts.Traces.{by_suffix}
 use Rattle.coap_codec.specs.Message.{Message}
-use Rattle.coap_exchange.proofs.Facts.ClientSide.{are_exchanges}
-use Rattle.coap_exchange.proofs.Facts.ClientSide.{are_tokens}
 use Rattle.coap_ends.specs.ClientTrace as C
 use Rattle.coap_ends.specs.ClientTrace.{Operation, Request, Report, Reported}
 use Rattle.coap_ends.specs.Follows.ClientFollows.{Sending, WasSent, OfAnswer, is_of_response, AreSent, ReportsAreAnswers}
-use Rattle.coap_ends.specs.ClientLaw.{ClientLaw, lower_of}
+use Rattle.coap_ends.specs.ClientLaw.{ClientLaw}
 use Rattle.coap_ends.specs.ClientReports.{report_of}
 use Rattle.coap_ends.specs.Follows.ClientSendings.{OneSending}
 use Rattle.coap_ends.proofs.Facts.OfClient as client

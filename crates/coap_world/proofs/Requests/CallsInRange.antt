@@ -8,7 +8,7 @@ use Rattle.coap_ends.specs.ClientTrace.{Operation, Request, Taking, Taken, Queue
 use Rattle.coap_ends.specs.Follows.ClientFollows.{takes, WasTaken}
 use Rattle.coap_ends.specs.ServerTrace as S
 use Rattle.coap_world.specs.Events.{What, Calls, Sets, Removes, TickClient, TickServer, Deliver, StrangerToClient, StrangerToServer}
-use Rattle.coap_world.specs.Legal.{IsRequest, InRange, Legal}
+use Rattle.coap_world.specs.Legal.{IsRequest, InRange, AllLegal}
 use Rattle.coap_world.specs.Record.{Entry, OfClient, OfServer, Turn, OnClient, OnServer, Makes, ClientTick, client_of, entries_of}
 use Rattle.coap_world.proofs.Delivery.GivenOutBefore.{of_map, none_in, one_call, tick_of}
 
@@ -83,13 +83,13 @@ module _ (past : List Turn) (at word : ℕ) (refused : Bool) (entries : List Ent
   in_turn TickServer m range h = absurd (never_there op m.0 entries m.2 h)
   in_turn (StrangerToServer from b) m range h = absurd (never_there op m.0 entries m.2 h)
 
-taken_in : (op : Operation) (turns : List Turn) → Always (λ past t. Makes past t.event.at t.event.word t.event.what t.refused t.entries) turns → Legal turns → Ever (Takes op) (entries_of turns) → IsRequest op.request
+taken_in : (op : Operation) (turns : List Turn) → Always (λ past t. Makes past t.event.at t.event.word t.event.what t.refused t.entries) turns → AllLegal turns → Ever (Takes op) (entries_of turns) → IsRequest op.request
 taken_in op [] made legal h = absurd h
 taken_in op (t ∷ past) made legal h = elim (Ever_append (Takes op) t.entries (entries_of past) h) [
   | inl k ↦ in_turn past t.event.at t.event.word t.refused t.entries op t.event.what made.0 legal.0.range k
   | inr k ↦ taken_in op past made.1 legal.1 k
 ]
 
-pub in_range : (op : Operation) (turns : List Turn) → Always (λ past t. Makes past t.event.at t.event.word t.event.what t.refused t.entries) turns → Legal turns
+pub in_range : (op : Operation) (turns : List Turn) → Always (λ past t. Makes past t.event.at t.event.word t.event.what t.refused t.entries) turns → AllLegal turns
     → WasTaken op (client_of (entries_of turns)) → IsRequest op.request
 in_range op turns made legal h = taken_in op turns made legal (in_entries op (entries_of turns) h)

@@ -8,7 +8,6 @@ use Rattle.coap_types.specs.Bytes.{AreBytes}
 use Rattle.coap_codec.specs.Message.{Message, Spells}
 use Rattle.coap_codec.proofs.Facts.EveryDatagram.{one_message}
 use Rattle.coap_layer.specs.Channel.{Hop, Near, Far, near_of, far_of, OnFar, ChannelLaw, HandedBy, HandsUpAs, PlainSent, BegunAs}
-use Rattle.coap_layer.specs.Machine.State as L
 use Rattle.coap_layer.specs.Trace as T
 use Rattle.coap_layer.specs.Words.{Open, begun, handed, handed_in, Incoming}
 use Rattle.coap_layer.proofs.Facts.Laws.{handed_spelled}
@@ -16,16 +15,10 @@ use Rattle.coap_layer.proofs.Facts.Hops.{earlier, to_far}
 use Rattle.coap_layer.proofs.Facts.Laws.{begun_as, nons_sent}
 use Rattle.coap_exchange.specs.declared.answerer.Asked.{Asked}
 use Rattle.coap_exchange.specs.AnswererSteps.{asked_of}
-use Rattle.coap_exchange.specs.AskerLaw as asker
-use Rattle.coap_exchange.specs.AskerSteps as P
-use Rattle.coap_exchange.specs.AskerTrace as A
-use Rattle.coap_exchange.proofs.Facts.StepsOfLayer.{steps_split}
 use Rattle.coap_ends.specs.ClientTrace as C
 use Rattle.coap_ends.specs.Follows.ClientBegins.{IsRequestOf}
-use Rattle.coap_ends.specs.ClientLaw as client
 use Rattle.coap_ends.specs.ClientLaw.{ClientLaw}
 use Rattle.coap_ends.specs.Follows.ClientSendings.{SendsNon, NoNons}
-use Rattle.coap_ends.specs.ClientSteps as client_steps
 use Rattle.coap_ends.specs.ServerTrace as S
 use Rattle.coap_ends.specs.ServerChecks.{Verdict, Asks, verdict_on}
 use Rattle.coap_ends.specs.Follows.ServerHands.{HandsUp, AreHandedUp}

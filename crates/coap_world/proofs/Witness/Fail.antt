@@ -6,10 +6,10 @@ use Rattle.coap_types.specs.Past.{Sometime, Always}
 use Rattle.coap_ends.specs.Follows.ServerFollows.{Serving, is_applied}
 use Rattle.coap_world.specs.Words.{AppliesFor}
 use Rattle.coap_world.specs.Events.{Calls, TickClient, Deliver, client_end}
-use Rattle.coap_world.specs.Legal.{Legal}
+use Rattle.coap_world.specs.Legal.{AllLegal}
 use Rattle.coap_world.specs.LegalRuns.{config, event, from_client, from_server, failed, post, post_bytes, not_found_bytes, Fails}
 use Rattle.coap_world.specs.Record.{Entry, OfClient, OfServer, Turn, Makes, entries_of}
-use Rattle.coap_world.proofs.Witness.Words.{clients_none}
+use Rattle.coap_world.proofs.Witness.Words.{config_range, clients_none}
 use Rattle.coap_world.proofs.Witness.Turns.{a_turn, called, ticked, heard, made_call, made_tick, made_heard, made_fed, legal_call, legal_tick, legal_to_client, legal_to_server}
 use Rattle.coap_world.proofs.Witness.Post.{range}
 use Rattle.coap_world.proofs.Witness.Fail.Client as client
@@ -29,7 +29,7 @@ made = (
   ((from_client 0 post_bytes, inl (refl, refl), made_fed 5 0 post_bytes not_found_bytes _ _ _ _), (made_tick post_bytes, (made_call post, tt))),
 )
 
-legal : Legal turns
+legal : AllLegal turns
 legal = (
   legal_to_client 9 1 5 not_found_bytes (inl (refl, refl)) (omega arith) (omega arith) (omega arith),
   (
@@ -67,7 +67,7 @@ refused = record {
   run = record {
     turns = turns;
     made = record { events_are = refl; made = made; client = client.lawful; server = server.lawful 5 };
-    legal = legal;
+    legal = record { range = config_range; events = legal };
     gives = refl;
   };
   reports = inr (inr (inr (inl refl)));

@@ -6,10 +6,10 @@ use Rattle.std.specs.Prelude.{codes}
 use Rattle.coap_types.specs.Past.{Always}
 use Rattle.coap_world.specs.Events.{Calls, Sets, TickClient, Deliver, client_end}
 use Rattle.coap_types.specs.Path.{IsPath}
-use Rattle.coap_world.specs.Legal.{IsRequest, Legal}
+use Rattle.coap_world.specs.Legal.{IsRequest, AllLegal}
 use Rattle.coap_world.specs.LegalRuns.{event, from_client, from_server, plain, get, get_bytes, content_bytes, got, Gets}
 use Rattle.coap_world.specs.Record.{OfClient, OfServer, Turn, Makes}
-use Rattle.coap_world.proofs.Witness.Words.{bytes_are, path_of_one}
+use Rattle.coap_world.proofs.Witness.Words.{config_range, bytes_are, path_of_one}
 use Rattle.coap_world.proofs.Witness.Turns.{a_turn, called, ticked, heard, made_call, made_tick, made_set, made_heard, made_fed, legal_call, legal_set, legal_tick, legal_to_client, legal_to_server}
 use Rattle.coap_world.proofs.Witness.Get.Client as client
 use Rattle.coap_world.proofs.Witness.Get.Server as server
@@ -38,7 +38,7 @@ made = (
   ),
 )
 
-legal : Legal turns
+legal : AllLegal turns
 legal = (
   legal_to_client 9 1 5 content_bytes (inl (refl, refl)) (omega arith) (omega arith) (omega arith),
   (
@@ -55,7 +55,7 @@ gotten = record {
   run = record {
     turns = turns;
     made = record { events_are = refl; made = made; client = client.lawful; server = server.lawful };
-    legal = legal;
+    legal = record { range = config_range; events = legal };
     gives = refl;
   };
   reports = inr (inr (inr (inl (refl, inl (record { request = get; called = (inr (inr (inr (inr (inr (inr (inr (inl refl)))))))); version = 1; tag_is = refl; held = refl })))));

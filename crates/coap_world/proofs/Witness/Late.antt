@@ -5,10 +5,10 @@ use Rattle.std.proofs.Common.{inl, inr, Some, List, [], ◌∷◌, map, refl, ar
 use Rattle.std.specs.Prelude.{codes}
 use Rattle.coap_types.specs.Past.{Always}
 use Rattle.coap_world.specs.Events.{Calls, Sets, TickClient, TickServer, Deliver, client_end}
-use Rattle.coap_world.specs.Legal.{Legal}
+use Rattle.coap_world.specs.Legal.{AllLegal}
 use Rattle.coap_world.specs.LegalRuns.{event, from_client, from_server, plain, get, get_bytes, empty_ack, separate_bytes, got, GetsLate}
 use Rattle.coap_world.specs.Record.{OfClient, OfServer, Turn, Makes}
-use Rattle.coap_world.proofs.Witness.Words.{bytes_are}
+use Rattle.coap_world.proofs.Witness.Words.{slow_range, bytes_are}
 use Rattle.coap_world.proofs.Witness.Turns.{a_turn, called, ticked, made_call, made_tick, made_set, made_fed, legal_call, legal_set, legal_tick, legal_to_client, legal_to_server}
 use Rattle.coap_world.proofs.Witness.Get.{path, range}
 use Rattle.coap_world.proofs.Witness.Late.Client as client
@@ -56,7 +56,7 @@ made = (
   ),
 )
 
-legal : Legal turns
+legal : AllLegal turns
 legal = (
   legal_to_server 1000 3 1000 empty_ack (inl (refl, refl)) (omega arith) (omega arith) (omega arith),
   (
@@ -82,7 +82,7 @@ gotten_late = record {
   run = record {
     turns = turns;
     made = record { events_are = refl; made = made; client = client.lawful; server = server.lawful };
-    legal = legal;
+    legal = record { range = slow_range; events = legal };
     gives = refl;
   };
   reports = inr (inr (inr (inr (inr (inr (inl (refl, inl (record { request = get; called = (inr (inr (inr (inr (inr (inr (inr (inr (inr (inr (inl refl))))))))))); version = 1; tag_is = refl; held = refl }))))))));

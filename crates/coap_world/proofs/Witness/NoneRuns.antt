@@ -1,28 +1,41 @@
 -- Events of which no run is legal: a datagram that comes too late, one that was never given out, and a stranger with an end's address.
-use Rattle.std.proofs.Common.{◌≡◌, inl, ℕ, List, [], ◌∷◌, map, ap, subst, refl, arith}
+use Rattle.std.proofs.Common.{◌≡◌, ◌<◌, ◌^◌, inl, ℕ, List, [], ◌∷◌, map, ap, subst, refl, arith}
 use Rattle.coap_types.specs.Past.{Ever, all_of}
 use Rattle.coap_types.proofs.Facts.Traces.{Ever_of_Sometime}
 use Rattle.coap_world.specs.Events.{Event, client_end, server_end}
-use Rattle.coap_world.specs.Legal.{NotBefore, MayCome, Legal}
+use Rattle.coap_world.specs.Legal.{NotBefore, MayCome, InRange, AllLegal}
 use Rattle.coap_world.specs.LegalEvents.{NoneRuns, NotAfter, never_given, NoneFrom}
 use Rattle.coap_world.specs.Record.{Given, Turn, given_in, IsNumber}
 use Rattle.coap_world.proofs.Delivery.GivenOutBefore.{not_later}
 
-abbrev events_of : List Turn → List Event
+abbrev pub events_of : List Turn → List Event
 events_of turns = map (λ (t : Turn). t.event) turns
 
 -- what the newest event asks of the turns before it
-record Newest (e : Event) (es : List Event) : Type 0 where
-  past : List Turn
-  events_are : events_of past ≡ es
-  legal : Legal past
-  comes : MayCome past e.at e.what
+pub record Newest (e : Event) (es : List Event) : Type 0 where
+  pub past : List Turn
+  pub events_are : events_of past ≡ es
+  pub legal : AllLegal past
+  pub at : e.at < 2 ^ 64
+  pub word : e.word < 2 ^ 64
+  pub range : InRange e.what
+  pub later : NotBefore past e.at
+  pub comes : MayCome past e.at e.what
 
-newest : (turns : List Turn) (e : Event) (es : List Event) → events_of turns ≡ e ∷ es → Legal turns → Newest e es
+pub newest : (turns : List Turn) (e : Event) (es : List Event) → events_of turns ≡ e ∷ es → AllLegal turns → Newest e es
 newest [] e es h legal = absurd (cc h)
 newest (t ∷ past) e es h legal =
     let same : t.event ≡ e = cc h in
-    record { past = past; events_are = cc h; legal = legal.1; comes = subst (λ (x : Event). MayCome past x.at x.what) same legal.0.comes }
+    record {
+      past = past;
+      events_are = cc h;
+      legal = legal.1;
+      at = subst (λ (x : Event). x.at < 2 ^ 64) same legal.0.at;
+      word = subst (λ (x : Event). x.word < 2 ^ 64) same legal.0.word;
+      range = subst (λ (x : Event). InRange x.what) same legal.0.range;
+      later = subst (λ (x : Event). NotBefore past x.at) same legal.0.later;
+      comes = subst (λ (x : Event). MayCome past x.at x.what) same legal.0.comes;
+    }
 
 -- all that was given out before has a moment that is not after the newest event
 till : (past : List Turn) (e : Event) (es : List Event) → events_of past ≡ e ∷ es → NotBefore past e.at

@@ -8,10 +8,10 @@ use Rattle.coap_layer.specs.Machine.Steps.{Asked, Steps, left_after}
 use Rattle.coap_layer.specs.Trace as L
 use Rattle.coap_ends.specs.ServerTrace as S
 use Rattle.coap_world.specs.Events.{client_end, server_end, localhost, StrangerToServer}
-use Rattle.coap_world.specs.Legal.{Legal}
+use Rattle.coap_world.specs.Legal.{AllLegal}
 use Rattle.coap_world.specs.LegalRuns.{config, event, stranger, ping, pong, pings, Pings}
 use Rattle.coap_world.specs.Record.{OfServer, Turn, RecordOf}
-use Rattle.coap_world.proofs.Witness.Words.{bytes_are}
+use Rattle.coap_world.proofs.Witness.Words.{config_range, bytes_are}
 
 abbrev pong_out : L.Packet
 pong_out = record { to = stranger; bytes = pong }
@@ -53,7 +53,7 @@ other e f h = f (ap (λ (x : Endpoint). x.port) (sym h))
 pub elsewhere : (stranger ≢ client_end) × (stranger ≢ server_end)
 elsewhere = (other client_end (λ h. omega (arith, h)), other server_end (λ h. omega (arith, h)))
 
-legal : Legal turns
+legal : AllLegal turns
 legal = (
   record {
     at = omega arith;
@@ -66,4 +66,4 @@ legal = (
 )
 
 pub pinged : Pings
-pinged = record { turns = turns; made = made; legal = legal; gives = refl }
+pinged = record { turns = turns; made = made; legal = record { range = config_range; events = legal }; gives = refl }

@@ -9,10 +9,10 @@ use Rattle.coap_ends.specs.Follows.ServerFollows.{Serving}
 use Rattle.coap_world.specs.Words.{AppliesFor}
 use Rattle.coap_world.specs.Events.{Calls, Sets, TickClient, Deliver, client_end}
 use Rattle.coap_types.specs.Path.{IsPath}
-use Rattle.coap_world.specs.Legal.{IsRequest, Legal}
+use Rattle.coap_world.specs.Legal.{IsRequest, AllLegal}
 use Rattle.coap_world.specs.LegalRuns.{config, event, from_client, from_server, plain, log, post, post_bytes, changed_bytes, done, Posts}
 use Rattle.coap_world.specs.Record.{Entry, OfClient, OfServer, Turn, Makes, entries_of}
-use Rattle.coap_world.proofs.Witness.Words.{bytes_are, path_of_one}
+use Rattle.coap_world.proofs.Witness.Words.{config_range, bytes_are, path_of_one}
 use Rattle.coap_world.proofs.Witness.Turns.{a_turn, called, ticked, heard, made_call, made_tick, made_set, made_heard, made_fed, legal_call, legal_set, legal_tick, legal_to_client, legal_to_server}
 use Rattle.coap_world.proofs.Witness.Post.Client as client
 use Rattle.coap_world.proofs.Witness.Post.Server as server
@@ -45,7 +45,7 @@ made = (
   ),
 )
 
-legal : Legal turns
+legal : AllLegal turns
 legal = (
   legal_to_client 7 2 5 changed_bytes (inl (refl, refl)) (omega arith) (omega arith) (omega arith),
   (
@@ -81,7 +81,7 @@ posted = record {
   run = record {
     turns = turns;
     made = record { events_are = refl; made = made; client = client.lawful; server = server.lawful };
-    legal = legal;
+    legal = record { range = config_range; events = legal };
     gives = refl;
   };
   reports = inr (inr (inr (inl (refl, (inr (inr (inr (inr (inr (inl (record { applies = applied; request = post; called = (inr (inr (inr (inr (inr (inr (inr (inl refl)))))))) })))))))))));

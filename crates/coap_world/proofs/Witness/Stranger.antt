@@ -9,17 +9,17 @@ use Rattle.coap_resource.specs.Content.{nothing}
 use Rattle.coap_ends.specs.Follows.ServerFollows.{Serving}
 use Rattle.coap_world.specs.Words.{AppliesFor}
 use Rattle.coap_world.specs.Events.{Calls, TickClient, StrangerToServer, localhost}
-use Rattle.coap_world.specs.Legal.{IsRequest, Legal}
+use Rattle.coap_world.specs.Legal.{IsRequest, AllLegal}
 use Rattle.coap_world.specs.LegalRuns.{config, event, stranger, delete, delete_bytes, deleted_bytes, Interferes}
 use Rattle.coap_world.specs.Record.{Entry, OfClient, OfServer, Turn, Makes, entries_of}
-use Rattle.coap_world.proofs.Witness.Words.{bytes_are, clients_none}
+use Rattle.coap_world.proofs.Witness.Words.{config_range, bytes_are, clients_none}
 use Rattle.coap_world.proofs.Witness.Turns.{a_turn, called, ticked, made_call, made_tick, legal_call, legal_tick}
 use Rattle.coap_world.proofs.Witness.Get.{path}
 use Rattle.coap_world.proofs.Witness.Ping.{elsewhere}
 use Rattle.coap_world.proofs.Witness.Stranger.Client as client
 use Rattle.coap_world.proofs.Witness.Stranger.Server as server
 
-range : IsRequest delete
+pub range : IsRequest delete
 range = record { path = path; accept = tt; format = tt; body = bytes_are [] refl }
 
 abbrev turns : List Turn
@@ -35,7 +35,7 @@ made = (
   (made_tick (delete_bytes 0), (made_call delete, tt)),
 )
 
-legal : Legal turns
+legal : AllLegal turns
 legal = (
   record { at = omega arith; word = omega arith; range = (record { four = refl; bytes = bytes_are localhost refl; port = omega arith }, bytes_are (delete_bytes 1) refl); later = omega arith; comes = elsewhere },
   (legal_tick 0 (omega arith) (omega arith), (legal_call delete range tt, tt)),
@@ -70,7 +70,7 @@ interfered = record {
   run = record {
     turns = turns;
     made = record { events_are = refl; made = made; client = client.lawful; server = server.lawful };
-    legal = legal;
+    legal = record { range = config_range; events = legal };
     gives = refl;
   };
   applies = inr (inr (inl (served, refl, refl)));

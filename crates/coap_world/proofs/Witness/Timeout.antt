@@ -12,10 +12,10 @@ use Rattle.coap_ends.specs.ClientTrace as C
 use Rattle.coap_ends.specs.Follows.ServerFollows.{Serving}
 use Rattle.coap_world.specs.Words.{AppliesFor}
 use Rattle.coap_world.specs.Events.{Calls, Sets, TickClient, Deliver, client_end}
-use Rattle.coap_world.specs.Legal.{Legal}
+use Rattle.coap_world.specs.Legal.{AllLegal}
 use Rattle.coap_world.specs.LegalRuns.{config, event, from_client, plain, log, token, post, post_bytes, changed_bytes, timed_out, TimesOut}
 use Rattle.coap_world.specs.Record.{Entry, OfClient, OfServer, Turn, Makes, entries_of}
-use Rattle.coap_world.proofs.Witness.Words.{bytes_are}
+use Rattle.coap_world.proofs.Witness.Words.{config_range, bytes_are}
 use Rattle.coap_world.proofs.Witness.Turns.{a_turn, called, ticked, rests, to_server, made_call, made_tick, made_set, made_fed, legal_call, legal_set, legal_tick, legal_to_server}
 use Rattle.coap_world.proofs.Witness.Asking as asking
 use Rattle.coap_world.proofs.Witness.Post.{path, range}
@@ -73,7 +73,7 @@ made = (
   ),
 )
 
-legal : Legal turns
+legal : AllLegal turns
 legal = (
   legal_to_server 130000 4 30000 post_bytes (inl (refl, refl)) (omega arith) (omega arith) (omega arith),
   (
@@ -118,7 +118,7 @@ timed = record {
   run = record {
     turns = turns;
     made = record { events_are = refl; made = made; client = client.lawful; server = server.lawful };
-    legal = legal;
+    legal = record { range = config_range; events = legal };
     gives = refl;
   };
   applies_after = inr (inr (inl (applied, inr (inr (inr (inr (inl refl)))))));

@@ -1,8 +1,8 @@
 -- Bytes and paths that are in range, by tests; calls of the client apply nothing.
-use Rattle.std.proofs.Common.{inl, inr, ◌++◌, map, ◌≡◌, ◌≤◌, ◌<◌, ℕ, zero, suc, Bool, true, List, [], ◌∷◌, length, arith}
+use Rattle.std.proofs.Common.{inl, inr, ◌++◌, map, ◌≡◌, ◌≤◌, ◌<◌, ℕ, zero, suc, Bool, true, List, [], ◌∷◌, length, arith, refl}
 use Rattle.std.proofs.lemmas.Bool.{and_parts, ltb-true}
 use Rattle.std.proofs.lemmas.List.Elements.{All-nil, All-cons}
-use Rattle.std.specs.Prelude.{All, nat_lt}
+use Rattle.std.specs.Prelude.{All, nat_lt, codes}
 use Rattle.std.specs.List.{list_all}
 use Rattle.coap_types.specs.Bytes.{AreBytes}
 use Rattle.coap_types.specs.CoapOption.{CoapOption}
@@ -11,6 +11,9 @@ use Rattle.coap_ends.specs.ClientTrace as C
 use Rattle.coap_world.specs.Words.{AppliesFor}
 use Rattle.coap_world.specs.Events.{Config}
 use Rattle.coap_types.specs.Path.{IsPath}
+use Rattle.coap_world.specs.Legal.{IsDelay, IsConfig}
+use Rattle.coap_world.specs.LegalRuns.{with_delays, config, slow}
+use Rattle.coap_ends.specs.ServerTrace.{Delay}
 use Rattle.coap_world.specs.Record.{Entry, OfClient}
 
 abbrev pub is_byte : ℕ → Bool
@@ -46,6 +49,29 @@ path_of_one segment short bytes = record {
 -- no call of the client applies anything
 pub clients_none : (config : Config) (number : ℕ) (all : List Entry) (cs : List C.Call) (es : List Entry) → (Sometime (AppliesFor config number all) es → ⊥)
     → Sometime (AppliesFor config number all) (map OfClient cs ++ es) → ⊥
-clients_none config number all [] es none h = none h
-clients_none config number all (c ∷ cs) es none (inl h) = h.here
-clients_none config number all (c ∷ cs) es none (inr h) = clients_none config number all cs es none h
+clients_none g number all [] es none h = none h
+clients_none g number all (c ∷ cs) es none (inl h) = h.here
+clients_none g number all (c ∷ cs) es none (inr h) = clients_none g number all cs es none h
+
+-- the configurations of the legal runs
+
+configured : (delays : List Delay) → All IsDelay delays → length delays ≤ 16 → IsConfig (with_delays delays)
+configured delays each few =
+    record {
+      client_word = omega arith;
+      client_szx = omega arith;
+      server_word = omega arith;
+      server_szx = omega arith;
+      some = omega arith;
+      limit = (let most : 4194303 ≤ 4194303 = omega arith in most);
+      delays = each;
+      few = few;
+    }
+
+pub config_range : IsConfig config
+config_range = configured [] (All-nil IsDelay) (omega arith)
+
+pub slow_range : IsConfig slow
+slow_range =
+    configured (record { path = codes "t" ∷ []; ms = 1000 } ∷ [])
+    (of_one IsDelay (record { path = codes "t" ∷ []; ms = 1000 }) (record { path = path_of_one (codes "t") (omega arith) (bytes_are (codes "t") refl); ms = omega arith })) (omega arith)

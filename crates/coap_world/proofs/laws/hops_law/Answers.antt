@@ -13,10 +13,10 @@ pub returns-clause-far : goal.returns-clause-far
 returns-clause-far c config turns = far_is config (entries_of turns)
 
 pub returns-clause-channel : goal.returns-clause-channel
-returns-clause-channel c config events turns made legal = joined.channel config events turns made legal
+returns-clause-channel c config events turns made legal = joined.channel config events turns made legal.events
 
 pub returns-clause-back : goal.returns-clause-back
-returns-clause-back c config events turns made legal = channel_across config.client_word config.server_word client_end server_end (hops_of config turns) (joined.channel config events turns made legal)
+returns-clause-back c config events turns made legal = channel_across config.client_word config.server_word client_end server_end (hops_of config turns) (joined.channel config events turns made legal.events)
 
 pub returns-clause-at_once : goal.returns-clause-at_once
-returns-clause-at_once c config events turns made legal = (joined.run config events turns made legal).sent
+returns-clause-at_once c config events turns made legal = (joined.run config events turns made legal.events).sent
