@@ -1,7 +1,8 @@
 -- The law of a client, over whole traces of its calls, the newest first (RFC 7252, section 5).
-use Rattle.std.specs.Prelude.{ℕ, List, [], ◌∷◌, ◌++◌}
+use Rattle.std.specs.Prelude.{ℕ, List}
 use Rattle.coap_types.specs.declared.endpoint.Endpoint.{Endpoint}
 use Rattle.coap_layer.specs.Trace.{Entry}
+use Rattle.coap_exchange.specs.Above.{sum_of, asked_by, Rows}
 use Rattle.coap_exchange.specs.AskerTrace as E
 use Rattle.coap_exchange.specs.AskerLaw.{ExchangeLaw, below_of}
 use Rattle.coap_ends.specs.ClientTrace.{Own, start, Call}
@@ -9,18 +10,15 @@ use Rattle.coap_ends.specs.ClientSteps.{lower, IsRight, after}
 
 -- what the calls so far add up to
 abbrev pub own_of : List Call → Own
-own_of [] = start
-own_of (c ∷ past) = after (own_of past) c
+own_of trace = sum_of start after trace
 
 -- the calls of the exchanges, one behind the other: nothing is added or left out
 abbrev pub lower_of : List Call → List E.Call
-lower_of [] = []
-lower_of (c ∷ past) = lower (own_of past) c ++ lower_of past
+lower_of trace = asked_by start after lower trace
 
 -- each call of a client that sends blocks of this size has its row
 abbrev pub ClientRows : ℕ → List Call → Type 0
-ClientRows szx [] = Unit {0}
-ClientRows szx (c ∷ past) = IsRight szx (own_of past) c × ClientRows szx past
+ClientRows szx trace = Rows start after (IsRight szx) trace
 
 -- .. and the calls of its exchanges stand in their law, those of the message layer in its own
 pub record ClientLaw (server : Endpoint) (szx word : ℕ) (trace : List Call) : Type 0 where

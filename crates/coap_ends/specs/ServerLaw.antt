@@ -1,6 +1,7 @@
 -- The law of a server, over whole traces of its calls, the newest first (RFC 7252, section 5).
-use Rattle.std.specs.Prelude.{ℕ, List, [], ◌∷◌, ◌++◌}
+use Rattle.std.specs.Prelude.{ℕ, List}
 use Rattle.coap_layer.specs.Trace.{Entry}
+use Rattle.coap_exchange.specs.Above.{sum_of, asked_by, Rows}
 use Rattle.coap_exchange.specs.AnswererTrace as E
 use Rattle.coap_exchange.specs.AnswererLaw.{ResponseLaw, below_of}
 use Rattle.coap_ends.specs.ServerTrace.{Own, start, Call}
@@ -9,18 +10,15 @@ use Rattle.coap_ends.specs.ServerSteps.{lower, IsRight, after}
 module _ (limit szx : ℕ) where
   -- what the calls so far add up to, where a window takes so many changes
   abbrev pub own_of : List Call → Own
-  own_of [] = start limit
-  own_of (c ∷ past) = after (own_of past) c
+  own_of trace = sum_of (start limit) after trace
 
   -- the calls of the exchanges, one behind the other: nothing is added or left out
   abbrev pub lower_of : List Call → List E.Call
-  lower_of [] = []
-  lower_of (c ∷ past) = lower (own_of past) c ++ lower_of past
+  lower_of trace = asked_by (start limit) after lower trace
 
   -- each call of a server that sends blocks of this size has its row
   abbrev pub ServerRows : List Call → Type 0
-  ServerRows [] = Unit {0}
-  ServerRows (c ∷ past) = IsRight szx (own_of past) c × ServerRows past
+  ServerRows trace = Rows (start limit) after (IsRight szx) trace
 
   -- .. and the calls of its exchanges stand in their law, those of the message layer in its own
   pub record ServerLaw (word : ℕ) (trace : List Call) : Type 0 where

@@ -6,7 +6,7 @@ use Rattle.coap_types.specs.Recognised.{has_number}
 use Rattle.coap_types.specs.declared.endpoint.Endpoint.{Endpoint}
 use Rattle.coap_types.specs.SameEndpoint.{same_endpoint}
 use Rattle.coap_codec.specs.Message.{Message, Spells, kind_number}
-use Rattle.coap_layer.specs.State as L
+use Rattle.coap_layer.specs.Machine.State as L
 use Rattle.coap_exchange.specs.declared.answerer.Asked.{Asked}
 use Rattle.coap_exchange.specs.declared.answerer.Ended.{Ended}
 use Rattle.coap_exchange.specs.AnswererTrace.{Call, Incoming, Answers, Ticks, Responds, Notifies}
@@ -66,20 +66,20 @@ sends (Responds now a r word id) = Some (record { to = a.from; token = a.token; 
 sends (Notifies now to token r word id) = Some (record { to = to; token = token; observe = has_number observe r.options })
 sends _ = None
 
-abbrev pub says : List Call → Call → Option Ended
-says past (Incoming now from bytes up answer) = reset_by from up (own_of past).separate
-says past (Ticks now below room answer) = failed_by below (own_of past).separate
-says past _ = None
+abbrev pub end_told : List Call → Call → Option Ended
+end_told past (Incoming now from bytes up answer) = reset_by from up (own_of past).separate
+end_told past (Ticks now below room answer) = failed_by below (own_of past).separate
+end_told past _ = None
 
 abbrev pub same_ended : Ended → Ended → Bool
 same_ended x y = same_endpoint x.to y.to && (same_token x.token y.token && beq x.observe y.observe)
 
 -- Each that is said to have ended was sent, and is said once.
-pub record SaysOnce (past : List Call) (c : Call) : Type 0 where
-  pub once : (x : Ended) → says past c ≡ Some x → times (same_ended x) says past < times (same_ended x) (λ old b. sends b) past
+pub record ToldOnce (past : List Call) (c : Call) : Type 0 where
+  pub once : (x : Ended) → end_told past c ≡ Some x → times (same_ended x) end_told past < times (same_ended x) (λ old b. sends b) past
 
 abbrev pub EndsOnce : List Call → Type 0
-EndsOnce trace = Always SaysOnce trace
+EndsOnce trace = Always ToldOnce trace
 
 -- Where a separate response or a notification to an endpoint is not acknowledged, the layer has a CON to it outstanding, and only there.
 abbrev pub WaitsForOutstanding : (word : ℕ) (trace : List Call) → ResponseLaw word trace → Type 0

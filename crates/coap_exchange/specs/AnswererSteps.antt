@@ -11,16 +11,17 @@ use Rattle.coap_types.specs.declared.message.Kind.{Kind}
 use Rattle.coap_types.specs.declared.message.Kind.TheVariants.{Con, Ack}
 use Rattle.coap_types.specs.SameEndpoint.{same_endpoint}
 use Rattle.coap_codec.specs.Message.{Message}
-use Rattle.coap_codec.specs.Writing.{message_bytes}
+use Rattle.coap_codec.specs.Spelling.{message_bytes}
 use Rattle.coap_layer.specs.Rows.{IsSpelled}
 use Rattle.coap_layer.specs.Trace as L
 use Rattle.coap_layer.specs.Trace.{with_head}
 use Rattle.coap_layer.specs.Words.{is_kept, same}
-use Rattle.coap_layer.specs.Steps.{Asked as Below}
+use Rattle.coap_layer.specs.Machine.Steps.{Asked as Below}
 use Rattle.coap_exchange.specs.declared.answerer.Asked.{Asked}
 use Rattle.coap_exchange.specs.declared.answerer.Due.{Due}
 use Rattle.coap_exchange.specs.declared.answerer.Due.TheVariants as due
 use Rattle.coap_exchange.specs.declared.answerer.Ended.{Ended}
+use Rattle.coap_exchange.specs.declared.deferrals.TheConstants.{MAX_DEFERRED as most_deferred}
 use Rattle.coap_exchange.specs.declared.separate.Deferred.{Deferred}
 use Rattle.coap_exchange.specs.declared.separate.Separate.{Separate}
 use Rattle.coap_exchange.specs.AnswererTrace.{Response, Own, Call, Incoming, Answers, Defers, Ticks, Responds, Ready, Notifies, Take}
@@ -36,7 +37,7 @@ asked_of from m = record { from = from; kind = m.kind; id = record { 0 = m.id };
 
 -- a request is handed up, but for a NON for which no Message ID is free: the layer doesn't remember that
 abbrev pub handed_up : Endpoint → L.Answer → Option (Asked × Message)
-handed_up from (L.Request m true) = Some (asked_of from m, m)
+handed_up from (L.Becomes (L.Request m true)) = Some (asked_of from m, m)
 handed_up from _ = None
 
 abbrev pub asked_in : Option (Asked × Message) → Option Asked
@@ -45,7 +46,7 @@ asked_in (Some pair) = Some pair.0
 
 -- a response at a server is rejected: a CON and a NON with a Reset (a NON: profile), an ACK by silence
 abbrev pub reject_by : L.Answer → Option (List ℕ)
-reject_by (L.Response m) = if is_kept m.kind then Some (reset_bytes m.id) else None
+reject_by (L.Becomes (L.Response m)) = if is_kept m.kind then Some (reset_bytes m.id) else None
 reject_by _ = None
 
 -- the separate responses and notifications that are outstanding
@@ -60,22 +61,22 @@ found to id (x ∷ xs) = if goes_to to id x then Some x else found to id xs
 abbrev pub ended_as : Separate → Ended
 ended_as x = record { to = x.to; token = x.token; observe = x.observe }
 
-abbrev pub without : Endpoint → ℕ → List Separate → List Separate
-without to id xs = filter (λ x. not (goes_to to id x)) xs
+abbrev pub without_separate : Endpoint → ℕ → List Separate → List Separate
+without_separate to id xs = filter (λ x. not (goes_to to id x)) xs
 
 -- what an acknowledgement and a Reset leave, and a failure
 abbrev pub separate_after : Endpoint → L.Answer → List Separate → List Separate
-separate_after from (L.Acked id) xs = without from id xs
-separate_after from (L.Reset id) xs = without from id xs
+separate_after from (L.Becomes (L.Acked id)) xs = without_separate from id xs
+separate_after from (L.Becomes (L.Reset id)) xs = without_separate from id xs
 separate_after from _ xs = xs
 
 abbrev pub separate_unless : L.Answer → List Separate → List Separate
-separate_unless (L.Expired to id) xs = without to id xs
+separate_unless (L.Expired to id) xs = without_separate to id xs
 separate_unless _ xs = xs
 
 -- the one that a Reset ends, and that a failure ends (section 5.2.2; RFC 7641, sections 3.6 and 4.5)
 abbrev pub reset_by : Endpoint → L.Answer → List Separate → Option Ended
-reset_by from (L.Reset id) xs = option_map ended_as (found from id xs)
+reset_by from (L.Becomes (L.Reset id)) xs = option_map ended_as (found from id xs)
 reset_by from _ xs = None
 
 abbrev pub failed_by : L.Answer → List Separate → Option Ended
@@ -111,10 +112,10 @@ IsResponse a r = IsResponseWith a.token r
 abbrev pub separate_of : Endpoint → ℕ → List ℕ → Response → Separate
 separate_of to id token r = record { to = to; id = record { 0 = id }; token = token; observe = has_number observe r.options }
 
--- deferral (section 5.2.2): an Empty acknowledgement now, and a CON later; at most 16 are deferred (profile)
+-- deferral (section 5.2.2): an Empty acknowledgement now, and a CON later; at most so many are deferred (profile)
 
 abbrev pub max_deferred : ℕ
-max_deferred = 16
+max_deferred = most_deferred
 
 abbrev pub may_defer : List Deferred → Bool
 may_defer ds = nat_lt (length ds) max_deferred

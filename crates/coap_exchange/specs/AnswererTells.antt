@@ -1,12 +1,13 @@
 -- A separate response or a notification that a Reset rejects, or that is given up, is said to have ended
 -- (RFC 7252, sections 4.2 and 5.2.2; RFC 7641, sections 3.6 and 4.5).
-use Rattle.std.specs.Prelude.{◌≡◌, ◌≢◌, ℕ, Option, Some, None, List}
+use Rattle.std.specs.Prelude.{◌≡◌, ◌≢◌, ℕ, Option, Some, None, List, ◌∷◌, IfSome}
 use Rattle.coap_types.specs.Past.{Since, Always}
 use Rattle.coap_types.specs.declared.endpoint.Endpoint.{Endpoint}
 use Rattle.coap_layer.specs.Trace as L
 use Rattle.coap_exchange.specs.declared.answerer.Ended.{Ended}
 use Rattle.coap_exchange.specs.AnswererTrace.{Call, Incoming, Ticks, Responds, Notifies}
-use Rattle.coap_exchange.specs.AnswererFollows.{sends, says}
+use Rattle.coap_exchange.specs.AnswererFollows.{hands, sends, end_told}
+use Rattle.coap_exchange.specs.AnswererLaw.{own_of}
 use Rattle.coap_exchange.specs.AnswererSends.{begins}
 
 -- where a CON went, and its Message ID
@@ -15,7 +16,7 @@ pub record Sending : Type 0 where
   pub id : ℕ
 
 abbrev pub reset_from : Endpoint → L.Answer → Option Sending
-reset_from from (L.Reset id) = Some (record { to = from; id = id })
+reset_from from (L.Becomes (L.Reset id)) = Some (record { to = from; id = id })
 reset_from from _ = None
 
 abbrev pub failed_in : L.Answer → Option Sending
@@ -41,13 +42,17 @@ pub record SentIn (con : Sending) (x : Ended) (c : Call) : Type 0 where
 -- what is said is what was sent in this CON, the last one to its endpoint
 pub record Tells (past : List Call) (c : Call) (con : Sending) : Type 0 where
   pub ended : Ended
-  pub said : says past c ≡ Some ended
+  pub said : end_told past c ≡ Some ended
   pub last : Since (SentIn con ended) (λ b. begins b ≢ Some con.to) past
 
 -- It is said at once; and nothing is said of an acknowledgement, or otherwise.
 abbrev pub TellsIf : List Call → Call → Option Sending → Type 0
-TellsIf past c None = says past c ≡ None
+TellsIf past c None = end_told past c ≡ None
 TellsIf past c (Some con) = Tells past c con
+
+-- What hands up a request ends none.
+abbrev pub HandsOrEnds : List Call → Type 0
+HandsOrEnds trace = Always (λ past c. IfSome (hands c) (λ asked. (end_told past c ≡ None) × ((own_of (c ∷ past)).ended ≡ None))) trace
 
 abbrev pub EndsTold : List Call → Type 0
 EndsTold trace = Always (λ past c. TellsIf past c (fails c)) trace

@@ -1,13 +1,15 @@
 -- What a client makes of what the message layer hands up, and of time (RFC 7252, sections 4.2, 5.2 and 5.3.2).
 use Rattle.std.specs.Prelude.{ℕ, ◌-◌, nat_le, Bool, true, false, Option, Some, None, List, [], ◌∷◌, ◌++◌, ◌&&◌, ◌==◌, if◌then◌else◌}
 use Rattle.std.specs.Option.{option_map}
-use Rattle.coap_types.specs.Unrecognised.{lacks_critical, carries}
+use Rattle.coap_types.specs.Recognised.{lacks_critical, carries}
 use Rattle.coap_types.specs.declared.direction.Direction.TheVariants.{Response}
 use Rattle.coap_types.specs.declared.endpoint.Endpoint.{Endpoint}
+use Rattle.coap_types.specs.declared.option_number.TheConstants.{OBSERVE as option_observe}
+use Rattle.coap_types.specs.declared.transmission.TheConstants.{EXCHANGE_LIFETIME_MS as exchange_lifetime}
 use Rattle.coap_types.specs.SameEndpoint.{same_endpoint}
 use Rattle.coap_codec.specs.Message.{Message}
 use Rattle.coap_layer.specs.Trace as L
-use Rattle.coap_layer.specs.Steps.{Asked}
+use Rattle.coap_layer.specs.Machine.Steps.{Asked}
 use Rattle.coap_exchange.specs.declared.asker.Event.{Event}
 use Rattle.coap_exchange.specs.declared.asker.Event.TheVariants as event
 use Rattle.coap_exchange.specs.declared.asker.Turn.{Turn}
@@ -36,7 +38,7 @@ is_cancel (Some x) = x.cancel
 
 -- the number of the option Observe (RFC 7641, section 2)
 abbrev pub observe : ℕ
-observe = 6
+observe = option_observe
 
 abbrev pub known_of : Own → Endpoint → Message → Known
 known_of s from m =
@@ -54,15 +56,15 @@ abbrev pub is_of_request : Own → Endpoint → ℕ → Bool
 is_of_request s from id = same_endpoint from s.server && has_id s.running id
 
 abbrev pub verdict_on : Own → Endpoint → L.Answer → Verdict
-verdict_on s from (L.Response m) = judged m.kind (known_of s from m)
-verdict_on s from (L.Request m remembered) = request_judged m.kind
-verdict_on s from (L.Acked id) = if is_of_request s from id then Await else Ignore
-verdict_on s from (L.Reset id) = if is_of_request s from id then EndByReset else Ignore
+verdict_on s from (L.Becomes (L.Response m)) = judged m.kind (known_of s from m)
+verdict_on s from (L.Becomes (L.Request m remembered)) = request_judged m.kind
+verdict_on s from (L.Becomes (L.Acked id)) = if is_of_request s from id then Await else Ignore
+verdict_on s from (L.Becomes (L.Reset id)) = if is_of_request s from id then EndByReset else Ignore
 verdict_on s from _ = Ignore
 
 abbrev pub id_in : L.Answer → ℕ
-id_in (L.Request m remembered) = m.id
-id_in (L.Response m) = m.id
+id_in (L.Becomes (L.Request m remembered)) = m.id
+id_in (L.Becomes (L.Response m)) = m.id
 id_in _ = 0
 
 -- the Empty message that answers the arrival
@@ -93,10 +95,10 @@ abbrev pub acts : Own → Endpoint → L.Answer → Bool → Verdict → List As
 acts s from up settled v = settling (settles v) s.server s.running settled ++ replying from (id_in up) (reply_by v (id_in up))
 
 abbrev pub told : Verdict → L.Answer → Option Event
-told AnswerCon (L.Response m) = Some (event.Answer m)
-told Answer (L.Response m) = Some (event.Answer m)
-told NoticeCon (L.Response m) = Some (event.Notice m)
-told Notice (L.Response m) = Some (event.Notice m)
+told AnswerCon (L.Becomes (L.Response m)) = Some (event.Answer m)
+told Answer (L.Becomes (L.Response m)) = Some (event.Answer m)
+told NoticeCon (L.Becomes (L.Response m)) = Some (event.Notice m)
+told Notice (L.Becomes (L.Response m)) = Some (event.Notice m)
 told EndByReset up = Some event.Reset
 told _ up = None
 
@@ -112,7 +114,7 @@ running_after at _ running = running
 
 abbrev pub has_waited : ℕ → Option ℕ → Bool
 has_waited at None = false
-has_waited at (Some acked) = nat_le 247000 (at - acked)
+has_waited at (Some acked) = nat_le exchange_lifetime (at - acked)
 
 abbrev pub acked_in : Option Exchange → Option ℕ
 acked_in None = None

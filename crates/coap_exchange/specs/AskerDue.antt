@@ -2,6 +2,7 @@
 use Rattle.std.specs.Prelude.{◌≡◌, ◌≤◌, ℕ, ◌-◌, ◌*◌, Option, Some, None, List, [], ◌∷◌, Ok, if◌then◌else◌}
 use Rattle.coap_types.specs.Past.{Always}
 use Rattle.coap_types.specs.declared.endpoint.Endpoint.{Endpoint}
+use Rattle.coap_types.specs.declared.transmission.TheConstants.{EXCHANGE_LIFETIME_MS as exchange_lifetime, FAILURE_TIMEOUTS as failure_timeouts}
 use Rattle.coap_layer.specs.Trace as L
 use Rattle.coap_exchange.specs.declared.asker.Event.TheVariants as event
 use Rattle.coap_exchange.specs.declared.asker.Turn.{Turn}
@@ -17,24 +18,24 @@ module _ (server : Endpoint) (word : ℕ) where
   abbrev pub last_acked : List Call → Option ℕ
   last_acked [] = None
   last_acked (Ask now r w below (Ok token) ∷ past) = None
-  last_acked (Receive now from bytes (L.Acked id) settled answer ∷ past) = if is_of_request (own_of server word past) from id then Some (moment server word past now) else last_acked past
+  last_acked (Receive now from bytes (L.Becomes (L.Acked id)) settled answer ∷ past) = if is_of_request (own_of server word past) from id then Some (moment server word past now) else last_acked past
   last_acked (c ∷ past) = last_acked past
 
-  -- At the first tick 31 initial timeouts after its request was sent, the exchange that runs ends, where no Empty
+  -- At the first tick FAILURE_TIMEOUTS initial timeouts after its request was sent, the exchange that runs ends, where no Empty
   -- acknowledgement came (section 4.2)
   pub record FailsWhenDue (past : List Call) (now : ℕ) (answer : Turn) : Type 0 where
     pub begun : Begun
     pub last : last_begun server word past ≡ Some begun
-    pub ends : begun.timeout * 31 ≤ moment server word past now - begun.at → answer ≡ turn.End event.Timeout
+    pub ends : begun.timeout * failure_timeouts ≤ moment server word past now - begun.at → answer ≡ turn.End event.Timeout
 
-  -- .. and else at the first tick 247,000 ms after that acknowledgement (section 5.2.2; profile)
+  -- .. and else at the first tick EXCHANGE_LIFETIME after that acknowledgement (section 5.2.2; profile)
   pub record WhenDue (past : List Call) (c : Call) : Type 0 where
     pub unheard :
         (now : ℕ) (below : _) (answer : Turn) (x : Exchange) → c ≡ Ticks now below answer → (own_of server word past).running ≡ Some x → x.acked ≡ None
         → FailsWhenDue past now answer
     pub heard :
         (now : ℕ) (below : _) (answer : Turn) (x : Exchange) (acked : ℕ) → c ≡ Ticks now below answer → (own_of server word past).running ≡ Some x → x.acked ≡ Some acked
-        → 247000 ≤ moment server word past now - acked → answer ≡ turn.End event.NoResponse
+        → exchange_lifetime ≤ moment server word past now - acked → answer ≡ turn.End event.NoResponse
     pub acked : (x : Exchange) → (own_of server word past).running ≡ Some x → x.acked ≡ last_acked past
 
   abbrev pub EndWhenDue : List Call → Type 0

@@ -2,6 +2,7 @@
 use Rattle.std.specs.Prelude.{◌≡◌, ◌↔◌, ◌≤◌, ◌<◌, ℕ, ◌+◌, ◌-◌, ◌*◌, ◌%◌, ◌^◌, max, Bool, true, false, IsTrue, Option, Some, None, List, [], ◌∷◌, length, Ok, Err}
 use Rattle.coap_types.specs.Past.{Ever, Always, Since}
 use Rattle.coap_types.specs.declared.endpoint.Endpoint.{Endpoint}
+use Rattle.coap_types.specs.declared.transmission.TheConstants.{ACK_TIMEOUT_MS as ack_timeout, EXCHANGE_LIFETIME_MS as exchange_lifetime, FAILURE_TIMEOUTS as failure_timeouts, TIMEOUT_VALUES as timeout_values}
 use Rattle.coap_types.specs.SameEndpoint.{same_endpoint}
 use Rattle.coap_codec.specs.Message.{Message, Spells}
 use Rattle.coap_exchange.specs.declared.asker.Event.{Event}
@@ -72,13 +73,13 @@ abbrev pub AreExchanges : List Call → Type 0
 AreExchanges trace = Always Exchanges trace
 
 -- how many fresh tokens were given
-abbrev pub given_by : Option (List ℕ) → ℕ
-given_by None = 0
-given_by (Some token) = 1
+abbrev pub tokens_spent : Option (List ℕ) → ℕ
+tokens_spent None = 0
+tokens_spent (Some token) = 1
 
-abbrev pub given_in : List Call → ℕ
-given_in [] = 0
-given_in (c ∷ past) = given_in past + given_by (fresh c)
+abbrev pub fresh_in : List Call → ℕ
+fresh_in [] = 0
+fresh_in (c ∷ past) = fresh_in past + tokens_spent (fresh c)
 
 -- each cancel has a token that was given before
 abbrev pub cancels : Call → Option (List ℕ)
@@ -91,7 +92,7 @@ CancelsAreGiven trace = Always (λ past c. (token : List ℕ) → cancels c ≡ 
 -- Fresh tokens are those of the counter, each is given once, and all are given before TokensSpent is told. A cancel has
 -- the token that it is given.
 pub record Tokens (word : ℕ) (past : List Call) (c : Call) : Type 0 where
-  pub counted : (token : List ℕ) → fresh c ≡ Some token → (token ≡ token_of word (given_in past)) × (given_in past < 2 ^ 64 - 1)
+  pub counted : (token : List ℕ) → fresh c ≡ Some token → (token ≡ token_of word (fresh_in past)) × (fresh_in past < 2 ^ 64 - 1)
   pub once : (token : List ℕ) → fresh c ≡ Some token → Ever (λ b. fresh b ≡ Some token) past → ⊥
   -- no token serves two requests but an observation and its cancel
   pub unused : CancelsAreGiven past → (token : List ℕ) → fresh c ≡ Some token → Ever (Begins token) past → ⊥
@@ -99,7 +100,7 @@ pub record Tokens (word : ℕ) (past : List Call) (c : Call) : Type 0 where
 
 -- TokensSpent is told where each token but one was given
 pub record TellsSpent (word : ℕ) (past : List Call) (c : Call) : Type 0 where
-  pub spent : (now w : ℕ) (r : Request) (below : _) → c ≡ Ask now r w below (Err refusal.TokensSpent) → given_in past ≡ 2 ^ 64 - 1
+  pub spent : (now w : ℕ) (r : Request) (below : _) → c ≡ Ask now r w below (Err refusal.TokensSpent) → fresh_in past ≡ 2 ^ 64 - 1
 
 abbrev pub AreTokens : ℕ → List Call → Type 0
 AreTokens word trace = Always (λ past c. Tokens word past c × TellsSpent word past c) trace
@@ -109,10 +110,14 @@ pub record Begun : Type 0 where
   pub at : ℕ
   pub timeout : ℕ
 
--- the response that a call tells
+-- the response that is told, and that a call tells
+abbrev pub message_told : Option Event → Option Message
+message_told (Some (event.Answer m)) = Some m
+message_told (Some (event.Notice m)) = Some m
+message_told _ = None
+
 abbrev pub carried : Call → Option Message
-carried (Receive now from bytes up settled (Some (event.Answer m))) = Some m
-carried (Receive now from bytes up settled (Some (event.Notice m))) = Some m
+carried (Receive now from bytes up settled answer) = message_told answer
 carried _ = None
 
 module _ (server : Endpoint) (word : ℕ) where
@@ -122,22 +127,22 @@ module _ (server : Endpoint) (word : ℕ) where
 
   abbrev pub last_begun : List Call → Option Begun
   last_begun [] = None
-  last_begun (Ask now r w below (Ok token) ∷ past) = Some (record { at = moment past now; timeout = 2000 + w % 1001 })
+  last_begun (Ask now r w below (Ok token) ∷ past) = Some (record { at = moment past now; timeout = ack_timeout + w % timeout_values })
   last_begun (c ∷ past) = last_begun past
 
-  -- a Timeout comes 31 initial timeouts after the request was sent, and no earlier
+  -- a Timeout comes FAILURE_TIMEOUTS initial timeouts after the request was sent, and no earlier
   pub record TimesOut (past : List Call) (now : ℕ) : Type 0 where
     pub begun : Begun
     pub last : last_begun past ≡ Some begun
-    pub late : begun.timeout * 31 ≤ moment past now - begun.at
+    pub late : begun.timeout * failure_timeouts ≤ moment past now - begun.at
 
-  -- NoResponse comes 247,000 ms after the Empty acknowledgement, and no earlier
+  -- NoResponse comes EXCHANGE_LIFETIME after the Empty acknowledgement, and no earlier
   pub record GivesUp (past : List Call) (now : ℕ) : Type 0 where
     pub exchange : Exchange
     pub runs : (own_of server word past).running ≡ Some exchange
     pub acked : ℕ
     pub since : exchange.acked ≡ Some acked
-    pub late : 247000 ≤ moment past now - acked
+    pub late : exchange_lifetime ≤ moment past now - acked
 
   pub record InTime (past : List Call) (c : Call) : Type 0 where
     pub timeout : (now : ℕ) (below : _) → c ≡ Ticks now below (turn.End event.Timeout) → TimesOut past now

@@ -1,55 +1,51 @@
 -- The law of the client's side, over whole traces of its calls, the newest first (RFC 7252, section 5).
-use Rattle.std.specs.Prelude.{◌≡◌, ℕ, List, [], ◌∷◌, ◌++◌}
+use Rattle.std.specs.Prelude.{ℕ, List}
 use Rattle.coap_types.specs.declared.endpoint.Endpoint.{Endpoint}
-use Rattle.coap_layer.specs.State as L
-use Rattle.coap_layer.specs.Steps.{Asked, Steps, entries}
+use Rattle.coap_layer.specs.Machine.State as L
+use Rattle.coap_layer.specs.Machine.Steps.{Asked, Steps, entries}
 use Rattle.coap_layer.specs.Trace.{Entry}
+use Rattle.coap_exchange.specs.Above as above
+use Rattle.coap_exchange.specs.Above.{sum_of, asked_by, Rows}
 use Rattle.coap_exchange.specs.AskerTrace.{Own, start, Call}
 use Rattle.coap_exchange.specs.AskerSteps.{lower, IsRight, after}
 
 module _ (server : Endpoint) (word : ℕ) where
   -- what the calls so far add up to
   abbrev pub own_of : List Call → Own
-  own_of [] = start server word
-  own_of (c ∷ past) = after (own_of past) c
+  own_of trace = sum_of (start server word) after trace
 
   -- the calls of the layer beneath, one behind the other: nothing is added or left out
   abbrev pub lower_of : List Call → List Asked
-  lower_of [] = []
-  lower_of (c ∷ past) = lower (own_of past) c ++ lower_of past
+  lower_of trace = asked_by (start server word) after lower trace
 
   -- each call has its row
   abbrev pub AskerLaw : List Call → Type 0
-  AskerLaw [] = Unit {0}
-  AskerLaw (c ∷ past) = IsRight (own_of past) c × AskerLaw past
+  AskerLaw trace = Rows (start server word) after IsRight trace
 
   -- .. and what was asked of a layer that began with the word was answered by it, step by step: what these steps add
   -- stands in the law of the layer
-  pub record ExchangeLaw (trace : List Call) : Type 0 where
-    pub rows : AskerLaw trace
-    pub left : L.State
-    pub layer : Steps (L.start word) (lower_of trace) left
+  abbrev pub ExchangeLaw : List Call → Type 0
+  ExchangeLaw trace = above.Law IsRight after lower Steps (start server word) (L.start word) trace
 
   -- the trace of that layer
   abbrev pub below_of : List Call → List Entry
   below_of trace = entries (L.start word) (lower_of trace)
 
 -- what is kept: by the client's side itself, and by its layer
-pub record State : Type 0 where
-  pub own : Own
-  pub layer : L.State
-
--- one call
-pub record Step (old : State) (c : Call) (new : State) : Type 0 where
-  pub right : IsRight old.own c
-  pub own_is : new.own ≡ after old.own c
-  pub under : Steps old.layer (lower old.own c) new.layer
-
--- these calls can leave it so
-pub record Led (server : Endpoint) (word : ℕ) (trace : List Call) (s : State) : Type 0 where
-  pub rows : AskerLaw server word trace
-  pub own_is : s.own ≡ own_of server word trace
-  pub layer : Steps (L.start word) (lower_of server word trace) s.layer
+abbrev pub State : Type 0
+State = above.State Own L.State
 
 abbrev pub fresh_state : Endpoint → ℕ → State
 fresh_state server word = record { own = start server word; layer = L.start word }
+
+-- one call
+abbrev pub Step : State → Call → State → Type 0
+Step old c new = above.Step IsRight after lower Steps old c new
+
+-- several, the newest first
+abbrev pub Exchanged : State → List Call → State → Type 0
+Exchanged old calls new = above.Chain IsRight after lower Steps old calls new
+
+-- these calls can leave it so
+abbrev pub Led : Endpoint → ℕ → List Call → State → Type 0
+Led server word trace s = above.Led IsRight after lower Steps (start server word) (L.start word) trace s

@@ -1,7 +1,7 @@
 -- What each call of the client's side asks of the message layer, answers and leaves (RFC 7252, sections 4.2, 5.2, 5.3).
 use Rattle.std.specs.Prelude.{◌≡◌, max, List, [], ◌∷◌, ◌++◌}
 use Rattle.coap_layer.specs.Trace as L
-use Rattle.coap_layer.specs.Steps.{Asked}
+use Rattle.coap_layer.specs.Machine.Steps.{Asked}
 use Rattle.coap_exchange.specs.AskerTrace.{Own, Call, Ask, Receive, Ticks, Keep, Release, Take}
 use Rattle.coap_exchange.specs.Tokens.{is_kept, may_keep, kept_with, kept_without}
 use Rattle.coap_exchange.specs.AskerRequests.{asked, opening_of, request_token, content_of, beneath, sent_as, ask_answer, opened}

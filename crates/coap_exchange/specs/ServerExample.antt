@@ -46,5 +46,5 @@ run =
     Ticks 1000 T.Idle true (due.Ready asked) ∷
     Ticks 999 T.Idle true due.Idle ∷
     Defers 0 asked 1000 true ∷
-    Incoming 0 client get (T.Request request true) (Some (asked, request)) ∷
+    Incoming 0 client get (T.Becomes (T.Request request true)) (Some (asked, request)) ∷
     []

@@ -3,6 +3,7 @@
 use Rattle.std.specs.Prelude.{ℕ, ◌+◌, ◌-◌, ◌%◌, ◌^◌, ◌==◌, nat_eq, nat_lt, Bool, List, [], ◌∷◌, ◌++◌, length, filter, if◌then◌else◌, ◌||◌, not}
 use Rattle.std.specs.List.{list_any}
 use Rattle.std.specs.Cmp.Lexicographic.{pointwise}
+use Rattle.coap_exchange.specs.declared.kept_tokens.TheConstants.{MAX_KEPT as most_kept}
 use Rattle.byteorder.specs.Endian.{big_bytes}
 
 abbrev pub same_token : List ℕ → List ℕ → Bool
@@ -16,10 +17,9 @@ token_of word given = big_bytes 8 ((word + given) % 2 ^ 64)
 abbrev pub is_spent : ℕ → Bool
 is_spent given = given == 2 ^ 64 - 1
 
--- the kept tokens, at most 16 (profile)
-
+-- the kept tokens, at most so many (profile)
 abbrev pub max_kept : ℕ
-max_kept = 16
+max_kept = most_kept
 
 abbrev pub is_kept : List ℕ → List (List ℕ) → Bool
 is_kept token kept = list_any (same_token token) kept

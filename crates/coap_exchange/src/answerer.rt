@@ -1,25 +1,25 @@
-ghost use Rattle.std.specs.Prelude.{◌≡◌, ℕ, max, Bool, ◌&&◌, true, false, None, Some, List, [], ◌∷◌, IsSome, is_some, IsOk, IfOk, OnOk, OnErr};
+ghost use Rattle.std.specs.Prelude.{◌≡◌, ◌≢◌, ◌≤◌, ℕ, max, length, IfSome, Bool, ◌&&◌, true, false, None, Some, List, [], ◌∷◌, IsSome, is_some, IsOk, IfOk, OnOk, OnErr};
 ghost use Rattle.coap_types.specs.declared.endpoint.Endpoint.{Endpoint as EndpointSpec};
 ghost use Rattle.coap_types.specs.declared.message.Kind.TheVariants.{Con};
-ghost use Rattle.coap_layer.specs.State.{answer_of, copies, is_free, made};
+ghost use Rattle.coap_layer.specs.Machine.State.{answer_of, copies, is_free, made};
 ghost use Rattle.coap_layer.specs.Trace as below;
-ghost use Rattle.coap_layer.specs.Ups.{IsQuiet};
+ghost use Rattle.coap_layer.specs.Machine.Ups.{IsQuiet};
 ghost use Rattle.coap_exchange.specs.declared.answerer.Asked.{Asked as AskedSpec};
 ghost use Rattle.coap_exchange.specs.declared.answerer.Due.TheVariants as dues;
-ghost use Rattle.coap_exchange.specs.AnswererSteps.{ready_at};
+ghost use Rattle.coap_exchange.specs.AnswererSteps.{asked_in, ready_at};
 ghost use Rattle.coap_exchange.specs.AnswererLaw.{Led, Step, fresh_state};
-ghost use Rattle.coap_exchange.specs.AnswererShown.{MayAnswer, MayNotify, MayRespond, IsAnswer, IsAnswerWith};
+ghost use Rattle.coap_exchange.specs.Machine.AnswererShown.{Leads, MayAnswer, MayNotify, MayRespond, IsAnswer, IsAnswerWith};
 ghost use Rattle.coap_exchange.specs.AnswererTrace.{Call, Incoming, Answers, Defers, Ticks, Responds, Ready, Notifies, Take};
 
 use crate::deferrals::Deferrals;
 use crate::empty::ack;
 use crate::listed::{Listed, enlist, put_back, settle_down};
 use crate::replies::{
-    after_arrival, asked_in, copied, copied_end, handed_up, reject, reset_by, send,
+    after_arrival, asked_in, copied, copied_end, handed_up, keeps_room, reject, reset_by, send,
 };
 use crate::separate::{Deferred, Separate};
 use crate::waiting::{
-    confirm, due_of, failed_by, is_sendable, make_room, ready_if, separate_of, unless_failed,
+    confirm, due_of, failed_by, is_sendable, make_room, separate_of, unless_due, unless_failed,
 };
 use coap_codec::View;
 use coap_layer::{Datagram, Layer};
@@ -28,7 +28,7 @@ use std::alloc::{AllocError, Allocator};
 use std::marker::Model;
 
 /// A request that was handed up, as its response needs it (RFC 7252, section 5.2).
-#[derive(Drop)]
+#[derive(Debug, PartialEq, Eq, Drop)]
 pub struct Asked {
     /// Where it came from.
     pub from: Endpoint,
@@ -38,6 +38,22 @@ pub struct Asked {
     pub id: Id,
     /// Its token.
     pub token: Token,
+}
+
+impl Asked {
+    /// The same again. It takes no memory.
+    pub fn copy(&self) -> Asked
+        ensures same { result ≡ self.now }
+        ensures few { length result.token ≤ 8 }
+    {
+        let _few = self.token.as_slice();
+        Asked {
+            from: self.from,
+            kind: self.kind,
+            id: self.id,
+            token: self.token.copy(),
+        }
+    }
 }
 
 /// What a tick of the server did.
@@ -108,8 +124,8 @@ pub struct Answerer<A: Allocator + Copy> {
 
 impl<A: Allocator + Copy> Model for Answerer<A> {
     ghost use Rattle.std.specs.Vec.{vec_len, vec_capacity};
-    ghost use Rattle.coap_exchange.specs.AnswererShown.{Shown, state_of, before_of, IsAnswerable, HasPlace};
-    ghost use Rattle.coap_exchange.specs.Listed.{listed, listed_before};
+    ghost use Rattle.coap_exchange.specs.Machine.AnswererShown.{Shown, state_of, before_of, IsAnswerable, HasPlace};
+    ghost use Rattle.coap_exchange.specs.Machine.Listed.{listed, listed_before};
 
     ghost Value = { Shown };
 
@@ -170,15 +186,20 @@ impl<A: Allocator + Copy> Answerer<A> {
         bytes: &'d [u8],
     ) -> Result<Option<(Asked, View<'d>)>, AllocError>
         ensures step { IfOk result (λ answer. (up : below.Answer) × Step self.old.state (Incoming now.0 from bytes.now up answer) self.new.state) }
-        ensures led { (word : ℕ) (t : List Call) → Led word t self.old.state → IfOk result (λ answer. (up : below.Answer) × Led word (Incoming now.0 from bytes.now up answer ∷ t) self.new.state) }
+        ensures led { IfOk result (λ answer. (up : below.Answer) × Leads self.old (Incoming now.0 from bytes.now up answer) self.new) }
         ensures answerable { OnOk result (self.new.answerable ≡ true) }
+        ensures few { IfOk result (λ answer. IfSome (asked_in answer) (λ asked. length asked.token ≤ 8)) }
+        // What hands up a request ends nothing.
+        ensures ends_none { IfOk result (λ answer. is_some answer ≡ true → self.new.state.own.ended ≡ None) }
+        // Where a notification could be sent and nothing is sent now, it still can.
+        ensures kept { OnOk result (self.new.state.layer.queue ≡ self.old.state.layer.queue → (at : ℕ) (there : EndpointSpec) → MayNotify self.old at there → MayNotify self.new at there) }
         ensures before { OnOk result (self.new.before ≡ Some self.old.state) }
         ensures err { OnErr result (self.new ≡ self.old) }
         // Where the layer sends nothing and hands nothing up, it takes no memory.
         ensures quiet { IsQuiet (made self.old.state.layer now.0 (below.Receive from bytes.now)) → IsOk result }
     {
         let up = self.layer.receive(now, from, bytes)?;
-        reject(&mut self.layer, from, &up);
+        let rejected = reject(&mut self.layer, from, &up);
         settle_down(&mut self.separate);
         self.pending_before = self.pending.take();
         self.deferred_before = self.deferred.copy();
@@ -188,7 +209,7 @@ impl<A: Allocator + Copy> Answerer<A> {
         let asked = asked_in(from, &up);
         self.pending = copied(&asked);
         self.answerable = true;
-        self.room = false;
+        self.room = keeps_room(self.room, rejected);
         Ok(handed_up(asked, up))
     }
 
@@ -199,7 +220,7 @@ impl<A: Allocator + Copy> Answerer<A> {
         requires may { MayAnswer self.old asked.now }
         requires response { IsAnswer asked.now response.now }
         ensures step { (sent : below.Answer) × Step self.old.state (Answers asked.now response.now sent) self.new.state }
-        ensures led { (word : ℕ) (t : List Call) → Led word t self.old.state → (sent : below.Answer) × Led word (Answers asked.now response.now sent ∷ t) self.new.state }
+        ensures led { (sent : below.Answer) × Leads self.old (Answers asked.now response.now sent) self.new }
         ensures before { self.new.before ≡ self.old.before }
     {
         send(&mut self.layer, asked, response);
@@ -214,7 +235,7 @@ impl<A: Allocator + Copy> Answerer<A> {
         requires may { MayAnswer self.old asked.now }
         requires con { asked.now.kind ≡ Con }
         ensures step { Step self.old.state (Defers now.0 asked.now delay_ms result) self.new.state }
-        ensures led { (word : ℕ) (t : List Call) → Led word t self.old.state → Led word (Defers now.0 asked.now delay_ms result ∷ t) self.new.state }
+        ensures led { Leads self.old (Defers now.0 asked.now delay_ms result) self.new }
         ensures answerable { self.new.answerable ≡ true }
         // Where a notification could be sent and nothing is sent now, it still can.
         ensures kept { result ≡ false → (at : ℕ) (there : EndpointSpec) → MayNotify self.old at there → MayNotify self.new at there }
@@ -240,20 +261,24 @@ impl<A: Allocator + Copy> Answerer<A> {
     /// 5.2.2). `respond` is to be called for that, at the same moment, and takes no memory then.
     pub fn tick(&mut self, now: Moment) -> Result<Due, AllocError>
         ensures step { IfOk result (λ due. (done : below.Answer) × (room : Bool) × Step self.old.state (Ticks now.0 done room due) self.new.state) }
-        ensures led { (word : ℕ) (t : List Call) → Led word t self.old.state → IfOk result (λ due. (done : below.Answer) × (room : Bool) × Led word (Ticks now.0 done room due ∷ t) self.new.state) }
+        ensures led { IfOk result (λ due. (done : below.Answer) × (room : Bool) × Leads self.old (Ticks now.0 done room due) self.new) }
         ensures ready { IfOk result (λ due. (a : AskedSpec) → due ≡ dues.Ready a → MayRespond self.new now.0 a) }
+        ensures few { IfOk result (λ due. (a : AskedSpec) → due ≡ dues.Ready a → length a.token ≤ 8) }
+        // Where a notification could be sent, it still can.
+        ensures kept { OnOk result ((at : ℕ) (there : EndpointSpec) → MayNotify self.old at there → MayNotify self.new at there) }
         ensures before { OnOk result (self.new.before ≡ Some self.old.state) }
         ensures err { OnErr result (self.new ≡ self.old) }
-        // Where no retransmission is due, and no deferred request is ready or no Message ID is free, it
-        // takes no memory.
+        // Where no retransmission is due, and no deferred request is ready or no Message ID is free, or a
+        // failure comes first, it takes no memory.
         ensures quiet { copies (max self.old.state.own.clock now.0) self.old.state.layer.open_cons ≡ [] → (is_some (ready_at self.old.state.own now.0) && is_free (max self.old.state.own.clock now.0) self.old.state.layer.upcoming self.old.state.layer.last_used) ≡ false → IsOk result }
+        ensures fails { copies (max self.old.state.own.clock now.0) self.old.state.layer.open_cons ≡ [] → answer_of self.old.state.layer (max self.old.state.layer.clock now.0) below.Ticks ≢ below.Idle → IsOk result }
     {
         let at = self.layer.clock().0.max(now.0);
-        let ready = self.deferred.ready(at, &self.separate);
+        let due = self.layer.would_tick(now);
+        let ready = unless_due(due, self.deferred.ready(at, &self.separate));
         make_room(&mut self.layer, &mut self.separate, now, &ready)?;
         let tick = self.layer.tick(now)?;
         // Nothing fails from here on.
-        let ready = ready_if(tick, ready);
         let room = is_sendable(&mut self.layer, now, &ready);
         settle_down(&mut self.separate);
         self.pending_before = self.pending.take();
@@ -262,7 +287,7 @@ impl<A: Allocator + Copy> Answerer<A> {
         self.ended = failed_by(tick, &self.separate);
         unless_failed(tick, &mut self.separate);
         self.answerable = false;
-        self.room = room;
+        self.room = self.room || room;
         Ok(due_of(tick, ready, room))
     }
 
@@ -273,7 +298,7 @@ impl<A: Allocator + Copy> Answerer<A> {
         requires may { MayRespond self.old now.0 asked.now }
         requires response { IsAnswer asked.now response.now }
         ensures step { Step self.old.state (Responds now.0 asked.now response.now word result.0) self.new.state }
-        ensures led { (begin : ℕ) (t : List Call) → Led begin t self.old.state → Led begin (Responds now.0 asked.now response.now word result.0 ∷ t) self.new.state }
+        ensures led { Leads self.old (Responds now.0 asked.now response.now word result.0) self.new }
         ensures before { self.new.before ≡ self.old.before }
     {
         let id = confirm(
@@ -293,12 +318,19 @@ impl<A: Allocator + Copy> Answerer<A> {
         id
     }
 
+    /// What `ready` would answer now. Nothing changes: the moment doesn't count. It takes no memory.
+    pub fn would_notify(&self, now: Moment, to: Endpoint) -> bool
+        ensures { answer_of self.now.state.layer (max self.now.state.own.clock now.0) (below.Room to) ≡ below.Is result }
+    {
+        self.layer.would_confirm(now, to)
+    }
+
     /// Whether a notification could be sent there now: no Confirmable message to this endpoint is
     /// outstanding, and a Message ID is free (RFC 7252, sections 4.4 and 4.7). After true, `notify`
     /// may be called at the same moment, and takes no memory. Where it is false, it takes no memory.
     pub fn ready(&mut self, now: Moment, to: Endpoint) -> Result<bool, AllocError>
         ensures step { IfOk result (λ may. Step self.old.state (Ready now.0 to may) self.new.state) }
-        ensures led { (word : ℕ) (t : List Call) → Led word t self.old.state → IfOk result (λ may. Led word (Ready now.0 to may ∷ t) self.new.state) }
+        ensures led { IfOk result (λ may. Leads self.old (Ready now.0 to may) self.new) }
         ensures may { IfOk result (λ may. may ≡ true → MayNotify self.new now.0 to) }
         ensures answerable { self.new.answerable ≡ self.old.answerable }
         // Where a notification could be sent, it still can.
@@ -316,8 +348,8 @@ impl<A: Allocator + Copy> Answerer<A> {
     }
 
     /// Sends a notification to an observer in a Confirmable message, where `ready` answered true at
-    /// this moment, and nothing was sent and no datagram or tick was taken since; answers its Message
-    /// ID (RFC 7641, sections 4.2 and 4.5). A request that was handed up before can't be answered any
+    /// this moment, and since then nothing was sent and no input taken back; answers its Message ID
+    /// (RFC 7641, sections 4.2 and 4.5). A request that was handed up before can't be answered any
     /// more. The word picks the initial timeout. It takes no memory.
     pub fn notify(
         &mut self,
@@ -330,7 +362,7 @@ impl<A: Allocator + Copy> Answerer<A> {
         requires may { MayNotify self.old now.0 to }
         requires response { IsAnswerWith token.now response.now }
         ensures step { Step self.old.state (Notifies now.0 to token.now response.now word result.0) self.new.state }
-        ensures led { (begin : ℕ) (t : List Call) → Led begin t self.old.state → Led begin (Notifies now.0 to token.now response.now word result.0 ∷ t) self.new.state }
+        ensures led { Leads self.old (Notifies now.0 to token.now response.now word result.0) self.new }
         ensures before { self.new.before ≡ self.old.before }
     {
         let id = confirm(&mut self.layer, now, to, token, response, word);
@@ -344,7 +376,7 @@ impl<A: Allocator + Copy> Answerer<A> {
     /// memory.
     pub fn next_out(&mut self) -> Option<Datagram<A>>
         ensures step { Step self.old.state (Take result) self.new.state }
-        ensures led { (word : ℕ) (t : List Call) → Led word t self.old.state → Led word (Take result ∷ t) self.new.state }
+        ensures led { Leads self.old (Take result) self.new }
         ensures answerable { self.new.answerable ≡ self.old.answerable }
         // Where a notification could be sent, it still can.
         ensures kept { (at : ℕ) (there : EndpointSpec) → MayNotify self.old at there → MayNotify self.new at there }

@@ -1,18 +1,18 @@
 ghost use Rattle.std.specs.Prelude.{◌≡◌, ℕ, Bool, true, ◌++◌, is_some, if◌then◌else◌};
 ghost use Rattle.std.specs.Option.{option_map};
-ghost use Rattle.coap_types.specs.Unrecognised as options;
+ghost use Rattle.coap_types.specs.Recognised as options;
 ghost use Rattle.coap_types.specs.declared.direction.Direction.TheVariants as direction;
-ghost use Rattle.coap_layer.specs.Shown.{MayReply};
-ghost use Rattle.coap_layer.specs.Steps.{Steps};
+ghost use Rattle.coap_layer.specs.Machine.Shown.{MayReply};
+ghost use Rattle.coap_layer.specs.Machine.Steps.{Steps};
 ghost use Rattle.coap_layer.specs.Trace as below;
-ghost use Rattle.coap_layer.specs.Ups.{answer_as, IsTick};
+ghost use Rattle.coap_layer.specs.Machine.Ups.{answer_as, IsTick};
 ghost use Rattle.coap_exchange.specs.declared.asker.AskRefusal.TheVariants as refusals;
 ghost use Rattle.coap_exchange.specs.declared.asker.Event.TheVariants as events;
 ghost use Rattle.coap_exchange.specs.declared.asker.Turn.TheVariants as turns;
 ghost use Rattle.coap_exchange.specs.declared.matching.Verdict.TheVariants as verdicts;
 ghost use Rattle.coap_exchange.specs.AskerArrivals.{known_of, verdict_on, id_in, reply_by, settles, replying, settling, told, observe, is_of_request, turn_of, running_unless};
 ghost use Rattle.coap_exchange.specs.AskerRequests.{token_or};
-ghost use Rattle.coap_exchange.specs.AskerShown.{own_with, refusal_as};
+ghost use Rattle.coap_exchange.specs.Machine.AskerShown.{own_with, refusal_as};
 ghost use Rattle.coap_exchange.specs.Tokens.{token_of};
 
 use crate::asker::{AskRefusal, Event, Exchange, Turn};

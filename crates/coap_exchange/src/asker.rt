@@ -1,13 +1,14 @@
-ghost use Rattle.std.specs.Prelude.{◌≡◌, ◌≢◌, ℕ, Bool, false, List, [], ◌∷◌, None, Some, Err, IsOk, IfOk, OnOk, OnErr, IsSome, max};
+ghost use Rattle.std.specs.Prelude.{◌≡◌, ◌≢◌, ◌≤◌, ℕ, length, IfSome, Bool, false, List, [], ◌∷◌, None, Some, Err, IsOk, IfOk, OnOk, OnErr, IsSome, max};
 ghost use Rattle.coap_types.specs.declared.endpoint.Endpoint.{Endpoint};
-ghost use Rattle.coap_layer.specs.State.{answer_of, copies, made};
+ghost use Rattle.coap_layer.specs.Machine.State.{answer_of, copies, made};
 ghost use Rattle.coap_layer.specs.Trace as below;
-ghost use Rattle.coap_layer.specs.Ups.{IsQuiet};
+ghost use Rattle.coap_layer.specs.Machine.Ups.{IsQuiet};
 ghost use Rattle.coap_exchange.specs.declared.asker.AskRefusal.TheVariants as refusals;
 ghost use Rattle.coap_exchange.specs.declared.matching.Opening.TheVariants as openings;
+ghost use Rattle.coap_exchange.specs.AskerFollows.{message_told};
 ghost use Rattle.coap_exchange.specs.AskerLaw.{Led, Step, fresh_state};
 ghost use Rattle.coap_exchange.specs.AskerRequests.{opening_of};
-ghost use Rattle.coap_exchange.specs.AskerShown.{IsAskable};
+ghost use Rattle.coap_exchange.specs.Machine.AskerShown.{IsAskable, Leads};
 ghost use Rattle.coap_exchange.specs.AskerTrace.{Call, Ask as Asks, Receive, Ticks, Keep, Release, Take};
 
 use crate::arrivals::{
@@ -118,7 +119,7 @@ pub struct Asker<A: Allocator + Copy> {
 }
 
 impl<A: Allocator + Copy> Model for Asker<A> {
-    ghost use Rattle.coap_exchange.specs.AskerShown.{Shown, state_of, before_of};
+    ghost use Rattle.coap_exchange.specs.Machine.AskerShown.{Shown, state_of, before_of};
 
     ghost Value = { Shown };
 
@@ -159,7 +160,8 @@ impl<A: Allocator + Copy> Asker<A> {
     pub fn ask(&mut self, now: Moment, ask: &Ask<'_>, word: u64) -> Result<Token, AskRefusal>
         requires { IsAskable ask.now }
         ensures step { result ≢ Err refusals.Memory → (answer : below.Answer) × Step self.old.state (Asks now.0 ask.now word answer result) self.new.state }
-        ensures led { (server : Endpoint) (begin : ℕ) (t : List Call) → Led server begin t self.old.state → result ≢ Err refusals.Memory → (answer : below.Answer) × Led server begin (Asks now.0 ask.now word answer result ∷ t) self.new.state }
+        ensures led { result ≢ Err refusals.Memory → (answer : below.Answer) × Leads self.old (Asks now.0 ask.now word answer result) self.new }
+        ensures few { IfOk result (λ token. length token ≤ 8) }
         ensures before { self.new.before ≡ self.old.before }
         ensures memory { result ≡ Err refusals.Memory → self.new ≡ self.old }
         // Where it refuses for another reason, it takes no memory.
@@ -183,6 +185,7 @@ impl<A: Allocator + Copy> Asker<A> {
         requires askable { IsAskable ask.now }
         requires opening { opening_of self.old.state.own ask.now ≡ openings.Sends }
         ensures step { result ≢ Err refusals.Memory → (answer : below.Answer) × Step self.old.state (Asks now.0 ask.now word answer result) self.new.state }
+        ensures few { IfOk result (λ token. length token ≤ 8) }
         ensures before { self.new.before ≡ self.old.before }
         ensures memory { result ≡ Err refusals.Memory → self.new ≡ self.old }
         ensures quiet { answer_of self.old.state.layer (max self.old.state.own.clock now.0) (below.Room self.old.state.own.server) ≡ below.Is false → result ≢ Err refusals.Memory }
@@ -214,7 +217,8 @@ impl<A: Allocator + Copy> Asker<A> {
         bytes: &'d [u8],
     ) -> Result<Option<Event<'d>>, AllocError>
         ensures step { IfOk result (λ event. (up : below.Answer) × (settled : Bool) × Step self.old.state (Receive now.0 from bytes.now up settled event) self.new.state) }
-        ensures led { (server : Endpoint) (word : ℕ) (t : List Call) → Led server word t self.old.state → IfOk result (λ event. (up : below.Answer) × (settled : Bool) × Led server word (Receive now.0 from bytes.now up settled event ∷ t) self.new.state) }
+        ensures led { IfOk result (λ event. (up : below.Answer) × (settled : Bool) × Leads self.old (Receive now.0 from bytes.now up settled event) self.new) }
+        ensures few { IfOk result (λ event. IfSome (message_told event) (λ m. length m.token ≤ 8)) }
         ensures before { OnOk result (self.new.before ≡ Some self.old.state) }
         ensures err { OnErr result (self.new ≡ self.old) }
         // Where the layer sends nothing and hands nothing up, it takes no memory.
@@ -242,7 +246,7 @@ impl<A: Allocator + Copy> Asker<A> {
     /// for a response (RFC 7252, sections 4.2 and 5.2.2).
     pub fn tick(&mut self, now: Moment) -> Result<Turn, AllocError>
         ensures step { IfOk result (λ turn. (answer : below.Answer) × Step self.old.state (Ticks now.0 answer turn) self.new.state) }
-        ensures led { (server : Endpoint) (word : ℕ) (t : List Call) → Led server word t self.old.state → IfOk result (λ turn. (answer : below.Answer) × Led server word (Ticks now.0 answer turn ∷ t) self.new.state) }
+        ensures led { IfOk result (λ turn. (answer : below.Answer) × Leads self.old (Ticks now.0 answer turn) self.new) }
         ensures before { OnOk result (self.new.before ≡ Some self.old.state) }
         ensures err { OnErr result (self.new ≡ self.old) }
         ensures quiet { copies (max self.old.state.own.clock now.0) self.old.state.layer.open_cons ≡ [] → IsOk result }
@@ -259,7 +263,7 @@ impl<A: Allocator + Copy> Asker<A> {
     /// 3.2); false where 16 others are kept. It takes no memory.
     pub fn keep(&mut self, token: &Token) -> bool
         ensures step { Step self.old.state (Keep token.now result) self.new.state }
-        ensures led { (server : Endpoint) (word : ℕ) (t : List Call) → Led server word t self.old.state → Led server word (Keep token.now result ∷ t) self.new.state }
+        ensures led { Leads self.old (Keep token.now result) self.new }
         ensures before { self.new.before ≡ self.old.before }
     {
         self.held.kept.keep(token)
@@ -269,7 +273,7 @@ impl<A: Allocator + Copy> Asker<A> {
     /// It takes no memory.
     pub fn release(&mut self, token: &Token) -> bool
         ensures step { Step self.old.state (Release token.now result) self.new.state }
-        ensures led { (server : Endpoint) (word : ℕ) (t : List Call) → Led server word t self.old.state → Led server word (Release token.now result ∷ t) self.new.state }
+        ensures led { Leads self.old (Release token.now result) self.new }
         ensures before { self.new.before ≡ self.old.before }
     {
         self.held.kept.release(token)
@@ -279,7 +283,7 @@ impl<A: Allocator + Copy> Asker<A> {
     /// memory.
     pub fn next_out(&mut self) -> Option<Datagram<A>>
         ensures step { Step self.old.state (Take result) self.new.state }
-        ensures led { (server : Endpoint) (word : ℕ) (t : List Call) → Led server word t self.old.state → Led server word (Take result ∷ t) self.new.state }
+        ensures led { Leads self.old (Take result) self.new }
         ensures before { self.new.before ≡ None }
     {
         self.layer.next_out()

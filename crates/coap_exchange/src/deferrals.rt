@@ -1,7 +1,7 @@
 ghost use Rattle.std.specs.Prelude.{◌≡◌, ◌≤◌, ◌<◌, [], ◌∷◌, length, remove, IfSome, IfNone};
 ghost use Rattle.std.specs.Option.{option_map};
-ghost use Rattle.coap_exchange.specs.AnswererSteps.{deferred_with, first_ready, may_defer, without_ready};
-ghost use Rattle.coap_exchange.specs.Listed.{listed};
+ghost use Rattle.coap_exchange.specs.AnswererSteps.{max_deferred, deferred_with, first_ready, may_defer, without_ready};
+ghost use Rattle.coap_exchange.specs.Machine.Listed.{listed};
 
 use crate::answerer::Asked;
 use crate::listed::Listed;
@@ -31,7 +31,7 @@ impl Model for Deferrals {
 
 // The same requests again.
 fn copied(requests: &[Deferred]) -> ArrayVec<Deferred, MAX_DEFERRED>
-    requires { length requests.now ≤ 16 }
+    requires { length requests.now ≤ max_deferred }
     ensures { result.items ≡ requests.now }
 {
     let mut copies = ArrayVec::new();
@@ -43,7 +43,8 @@ fn copied(requests: &[Deferred]) -> ArrayVec<Deferred, MAX_DEFERRED>
 
 // The first that is ready.
 fn first_ready(requests: &[Deferred], at: u64, separate: &[Listed<Separate>]) -> Option<Asked>
-    ensures { result ≡ option_map (λ d. d.asked) (first_ready at (listed separate.now) requests.now) }
+    ensures few { IfSome result (λ a. length a.token ≤ 8) }
+    ensures first { result ≡ option_map (λ d. d.asked) (first_ready at (listed separate.now) requests.now) }
 {
     for request in requests {
         if is_ready(request, at, separate) {
@@ -89,7 +90,8 @@ impl Deferrals {
 
     /// The first that is ready at this moment.
     pub(crate) fn ready(&self, at: u64, separate: &[Listed<Separate>]) -> Option<Asked>
-        ensures { result ≡ option_map (λ d. d.asked) (first_ready at (listed separate.now) self.now) }
+        ensures few { IfSome result (λ a. length a.token ≤ 8) }
+        ensures first { result ≡ option_map (λ d. d.asked) (first_ready at (listed separate.now) self.now) }
     {
         first_ready(self.requests.as_slice(), at, separate)
     }

@@ -1,5 +1,5 @@
 ghost use Rattle.std.specs.Prelude.{◌≡◌, ◌≤◌, ◌<◌, ◌++◌, [], ◌∷◌, length};
-ghost use Rattle.coap_exchange.specs.Tokens.{is_kept, same_token, may_keep, kept_with, kept_without};
+ghost use Rattle.coap_exchange.specs.Tokens.{max_kept, is_kept, same_token, may_keep, kept_with, kept_without};
 
 use arrayvec::ArrayVec;
 use coap_types::Token;
@@ -12,7 +12,7 @@ const _: () = prove!(MAX_KEPT == 16);
 
 /// The tokens of a client's observations (RFC 7641, section 3.2), at most `MAX_KEPT`.
 #[derive(Drop)]
-pub(crate) struct KeptTokens {
+pub struct KeptTokens {
     tokens: ArrayVec<Token, MAX_KEPT>,
 }
 
@@ -26,7 +26,7 @@ impl Model for KeptTokens {
 
 // The same tokens again.
 fn copied(tokens: &[Token]) -> ArrayVec<Token, MAX_KEPT>
-    requires { length tokens.now ≤ 16 }
+    requires { length tokens.now ≤ max_kept }
     ensures { result.items ≡ tokens.now }
 {
     let mut copies = ArrayVec::new();

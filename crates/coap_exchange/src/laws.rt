@@ -1,14 +1,15 @@
-ghost use Rattle.std.specs.Prelude.{ℕ, List, [], ◌∷◌};
+ghost use Rattle.std.specs.Prelude.{ℕ, List, [], ◌∷◌, ◌++◌};
 ghost use Rattle.coap_types.specs.declared.endpoint.Endpoint.{Endpoint};
 ghost use Rattle.coap_layer.specs.Rows.{LayerLaw};
 ghost use Rattle.coap_exchange.specs.AskerTrace.{Call};
-ghost use Rattle.coap_exchange.specs.AskerLaw.{State, Step, Led, ExchangeLaw, fresh_state, below_of};
+ghost use Rattle.coap_exchange.specs.AskerLaw.{State, Step, Exchanged, Led, ExchangeLaw, fresh_state, below_of};
 ghost use Rattle.coap_exchange.specs.AskerExact.{IsExact};
 ghost use Rattle.coap_exchange.specs.AskerFollows.{AreExchanges, AreTokens, EndInTime, FewKept, AreFromServer};
 ghost use Rattle.coap_exchange.specs.AskerDue.{EndWhenDue};
 ghost use Rattle.coap_exchange.specs.AskerTells.{AreRefused, AreRejected};
-ghost use Rattle.coap_exchange.specs.AskerResponses.{AreMatched};
-ghost use Rattle.coap_exchange.specs.AskerShown.{IsAskableWhenShort};
+ghost use Rattle.coap_exchange.specs.AskerResponses.{AreMatched, AreToldAs};
+ghost use Rattle.coap_exchange.specs.AskerEmpties as empties;
+ghost use Rattle.coap_exchange.specs.ShortRequests.{IsAskableWhenShort, IsAskableWhenShortExactly};
 ghost use Rattle.coap_exchange.specs.ShortAnswers.{IsAnswerWhenShort, IsNotificationWhenShort};
 ghost use Rattle.coap_exchange.specs.ClientExample as client_example;
 ghost use Rattle.coap_exchange.specs.ServerExample as server_example;
@@ -17,7 +18,8 @@ ghost use Rattle.coap_exchange.specs.AnswererLaw as answerer;
 ghost use Rattle.coap_exchange.specs.AnswererLaw.{ResponseLaw};
 ghost use Rattle.coap_exchange.specs.AnswererExact as exactly;
 ghost use Rattle.coap_exchange.specs.AnswererSends.{AllGoBack, BeginAlone};
-ghost use Rattle.coap_exchange.specs.AnswererTells.{EndsTold};
+ghost use Rattle.coap_exchange.specs.AnswererEmpties as rejections;
+ghost use Rattle.coap_exchange.specs.AnswererTells.{EndsTold, HandsOrEnds};
 ghost use Rattle.coap_exchange.specs.AnswererDeferrals.{DeferredLongEnough, ReadyWhenDue, EarliestReady};
 ghost use Rattle.coap_exchange.specs.AnswererFollows.{AreResponses, AreRequests, EndsOnce, WaitsForOutstanding, FewDeferred};
 
@@ -26,6 +28,7 @@ pub fn asker_law()
     ensures start { (server : Endpoint) (word : ℕ) → Led server word [] (fresh_state server word) }
     // A step lengthens the calls that led to the state before it.
     ensures step { (server : Endpoint) (word : ℕ) (t : List Call) (c : Call) (old new : State) → Led server word t old → Step old c new → Led server word (c ∷ t) new }
+    ensures steps { (server : Endpoint) (word : ℕ) (t calls : List Call) (old new : State) → Led server word t old → Exchanged old calls new → Led server word (calls ++ t) new }
     ensures law { (server : Endpoint) (word : ℕ) (t : List Call) (s : State) → Led server word t s → ExchangeLaw server word t }
     // The calls of the layer beneath stand in its law (RFC 7252, section 4).
     ensures layer { (server : Endpoint) (word : ℕ) (t : List Call) → ExchangeLaw server word t → LayerLaw word (below_of server word t) }
@@ -49,6 +52,11 @@ pub fn asker_law()
     // .. has no critical option that is not recognised (section 5.4.1), and matches in Message ID where it is
     // piggybacked (section 5.3.2).
     ensures matched { (server : Endpoint) (word : ℕ) (t : List Call) → ExchangeLaw server word t → AreMatched server word t }
+    // A response with the token of the exchange that runs is its answer, and one with a kept token alone a
+    // notification (RFC 7252, section 5.3.2; RFC 7641, section 3.2).
+    ensures told_as { (server : Endpoint) (word : ℕ) (t : List Call) → ExchangeLaw server word t → AreToldAs server word t }
+    // What arrives is acknowledged, rejected or neither (RFC 7252, sections 4.2, 4.3 and 5.3.2).
+    ensures replied { (server : Endpoint) (word : ℕ) (t : List Call) → ExchangeLaw server word t → empties.AreReplied server word t }
     // A Reset that is told is that of the request of the exchange (RFC 7252, section 4.2).
     ensures rejected { (server : Endpoint) (word : ℕ) (t : List Call) → ExchangeLaw server word t → AreRejected server word t }
 {}
@@ -58,6 +66,7 @@ pub fn answerer_law()
     ensures start { (word : ℕ) → answerer.Led word [] (answerer.fresh_state word) }
     // A step lengthens the calls that led to the state before it.
     ensures step { (word : ℕ) (t : List trace.Call) (c : trace.Call) (old new : answerer.State) → answerer.Led word t old → answerer.Step old c new → answerer.Led word (c ∷ t) new }
+    ensures steps { (word : ℕ) (t calls : List trace.Call) (old new : answerer.State) → answerer.Led word t old → answerer.Exchanged old calls new → answerer.Led word (calls ++ t) new }
     ensures law { (word : ℕ) (t : List trace.Call) (s : answerer.State) → answerer.Led word t s → ResponseLaw word t }
     // The calls of the layer beneath stand in its law (RFC 7252, section 4).
     ensures layer { (word : ℕ) (t : List trace.Call) → ResponseLaw word t → LayerLaw word (answerer.below_of word t) }
@@ -67,6 +76,8 @@ pub fn answerer_law()
     ensures responses { (word : ℕ) (t : List trace.Call) → ResponseLaw word t → AreResponses t }
     // What is handed up is what a datagram spelled (RFC 7252, section 5.2).
     ensures requests { (word : ℕ) (t : List trace.Call) → ResponseLaw word t → AreRequests t }
+    // What hands up a request ends no separate response and no notification (RFC 7252, section 4.3).
+    ensures ends_none { (word : ℕ) (t : List trace.Call) → ResponseLaw word t → HandsOrEnds t }
     // A separate response that a Reset or a failure ends is said once (RFC 7252, section 5.2.2).
     ensures ends { (word : ℕ) (t : List trace.Call) → ResponseLaw word t → EndsOnce t }
     // .. and it is said where it ends (RFC 7252, section 5.2.2; RFC 7641, sections 3.6 and 4.5).
@@ -81,6 +92,8 @@ pub fn answerer_law()
     ensures earliest { (word : ℕ) (t : List trace.Call) → ResponseLaw word t → EarliestReady t }
     // A response goes to its request's endpoint and carries its token (RFC 7252, sections 5.2 and 5.3.2).
     ensures back { (word : ℕ) (t : List trace.Call) → ResponseLaw word t → AllGoBack word t }
+    // A response that arrives is rejected, and a request that is deferred acknowledged (RFC 7252, sections 4.3 and 5.2.2).
+    ensures replied { (word : ℕ) (t : List trace.Call) → ResponseLaw word t → rejections.AreReplied t }
     // A CON begins only where none to its endpoint is outstanding (RFC 7252, section 4.7).
     ensures alone { (word : ℕ) (t : List trace.Call) → ResponseLaw word t → BeginAlone word t }
     ensures few { (word : ℕ) (t : List trace.Call) → ResponseLaw word t → FewDeferred t }
@@ -89,7 +102,8 @@ pub fn answerer_law()
 /// A request may be asked that isn't Empty, whose options ascend and are short, and that is short
 /// enough (RFC 7252, section 4.6).
 pub fn askable_law()
-    ensures { IsAskableWhenShort }
+    ensures counted { IsAskableWhenShort }
+    ensures exact { IsAskableWhenShortExactly }
 {}
 
 /// A response may be given whose code is of class 2 to 5, whose options ascend and are short, and

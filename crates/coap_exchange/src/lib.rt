@@ -17,8 +17,11 @@ mod token_source;
 mod waiting;
 
 pub use answerer::{Answerer, Asked, Due, Ended, Response};
-pub use asker::{Ask, AskRefusal, Asker, Event, Turn};
+pub use asker::{Ask, AskRefusal, Asker, Event, Exchange, Turn};
+pub use held::Held;
+pub use kept_tokens::KeptTokens;
 pub use laws::{answerable_law, answerer_law, askable_law, asker_law, notifiable_law, witness_law};
+pub use separate::{Deferred, Separate};
 
 #[cfg(test)]
 mod tests;

@@ -1,6 +1,6 @@
 ghost use Rattle.std.specs.Prelude.{◌≡◌, ◌≤◌, ◌<◌, ◌++◌, [], ◌∷◌, map, filter};
 ghost use Rattle.std.specs.Vec.{vec_len, vec_capacity};
-ghost use Rattle.coap_exchange.specs.Listed.{listed, listed_before, noted, reverted as reverted_lem};
+ghost use Rattle.coap_exchange.specs.Machine.Listed.{listed, listed_before, noted, reverted as reverted_lem};
 
 use std::alloc::Allocator;
 
@@ -47,6 +47,8 @@ fn note_all<T: Drop, A: Allocator + Copy>(list: &mut Vec<Listed<T>, A>)
 pub(crate) fn settle_down<T: Drop, A: Allocator + Copy>(list: &mut Vec<Listed<T>, A>)
     ensures now { listed list.new.items ≡ listed list.old.items }
     ensures before { listed_before list.new.items ≡ listed list.old.items }
+    // What is off the list goes.
+    ensures gone { list.new.items ≡ map noted (filter (λ k. k.now) list.old.items) }
     ensures len { vec_len list.new ≤ vec_len list.old }
     ensures capacity { vec_capacity list.new ≡ vec_capacity list.old }
 {

@@ -1,23 +1,25 @@
-ghost use Rattle.std.specs.Prelude.{◌≡◌, ◌≤◌, ℕ, Some, None, length, take, true};
+ghost use Rattle.std.specs.Prelude.{◌≡◌, ◌≤◌, ℕ, Some, None, IfSome, is_some, length, take, true, ◌&&◌, not};
 ghost use Rattle.std.specs.Option.{option_map};
+ghost use Rattle.std.specs.Vec.{vec_len, vec_capacity};
 ghost use Rattle.coap_types.specs.declared.message.Kind.TheVariants.{Con, Ack};
+ghost use Rattle.coap_types.specs.declared.limits.TheConstants.{MAX_MESSAGE_LEN as max_message_len};
 ghost use Rattle.coap_codec.specs.Message.{Message};
-ghost use Rattle.coap_codec.specs.Writing.{message_bytes};
+ghost use Rattle.coap_codec.specs.Spelling.{message_bytes};
 ghost use Rattle.coap_layer.specs.Sendable.{IsSendable};
-ghost use Rattle.coap_layer.specs.Shown.{MayReply};
-ghost use Rattle.coap_layer.specs.State as layer_state;
-ghost use Rattle.coap_layer.specs.State.{is_free};
-ghost use Rattle.coap_layer.specs.Steps.{Steps};
+ghost use Rattle.coap_layer.specs.Machine.Shown.{MayReply};
+ghost use Rattle.coap_layer.specs.Machine.State as layer_state;
+ghost use Rattle.coap_layer.specs.Machine.State.{is_free};
+ghost use Rattle.coap_layer.specs.Machine.Steps.{Steps};
 ghost use Rattle.coap_layer.specs.Trace as below;
 ghost use Rattle.coap_layer.specs.Trace.{with_head};
-ghost use Rattle.coap_layer.specs.Ups.{answer_as};
+ghost use Rattle.coap_layer.specs.Machine.Ups.{answer_as};
 ghost use Rattle.coap_layer.specs.Words.{handed_by};
-ghost use Rattle.coap_exchange.specs.AnswererShown.{Takes};
+ghost use Rattle.coap_exchange.specs.Machine.AnswererShown.{Takes};
 ghost use Rattle.coap_types.specs.declared.endpoint.Endpoint.{Endpoint};
 ghost use Rattle.coap_exchange.specs.AnswererSteps.{answering, asked_in, asked_of, content_of, handed_up, reject_by, reset_by, separate_after, IsSentAs};
 ghost use Rattle.coap_exchange.specs.AnswererTrace.{Own};
 ghost use Rattle.coap_exchange.specs.AskerArrivals.{id_in, replying};
-ghost use Rattle.coap_exchange.specs.Listed.{listed, listed_before};
+ghost use Rattle.coap_exchange.specs.Machine.Listed.{listed, listed_before};
 
 use crate::answerer::{Asked, Ended, Response};
 use crate::arrivals::id_in;
@@ -25,7 +27,8 @@ use crate::empty::reset;
 use crate::listed::Listed;
 use crate::separate::{Separate, found, take_off};
 use coap_codec::{Head, View, encode, one_spelling};
-use coap_layer::{Content, Layer, MAX_MESSAGE_LEN, Up};
+use coap_layer::{Content, Layer, Up};
+use coap_types::limits::MAX_MESSAGE_LEN;
 use coap_types::{Endpoint, Kind, Token};
 use std::alloc::Allocator;
 
@@ -68,7 +71,8 @@ fn asked_of(from: Endpoint, request: &View<'_>) -> Asked
 /// The request that is handed up, as its response needs it.
 pub(crate) fn asked_in(from: Endpoint, up: &Up<'_>) -> Option<Asked>
     requires { (m : Message) → handed_by (answer_as up.now) ≡ Some m → length m.token ≤ 8 }
-    ensures { result ≡ asked_in (handed_up from (answer_as up.now)) }
+    ensures asked { result ≡ asked_in (handed_up from (answer_as up.now)) }
+    ensures few { IfSome result (λ a. length a.token ≤ 8) }
 {
     match up {
         Up::Request {
@@ -108,16 +112,28 @@ fn rejection(up: &Up<'_>) -> Option<[u8; 4]>
     }
 }
 
-/// Rejects a response that arrived (RFC 7252, sections 4.2 and 4.3).
-pub(crate) fn reject<A: Allocator + Copy>(layer: &mut Layer<A>, from: Endpoint, up: &Up<'_>)
+/// Rejects a response that arrived, and answers whether it did (RFC 7252, sections 4.2 and 4.3).
+pub(crate) fn reject<A: Allocator + Copy>(layer: &mut Layer<A>, from: Endpoint, up: &Up<'_>) -> bool
     requires { (m : Message) → handed_by (answer_as up.now) ≡ Some m → MayReply layer.old from m.id }
     ensures steps { Steps layer.old.state (replying from (id_in (answer_as up.now)) (reject_by (answer_as up.now))) layer.new.state }
     ensures before { layer.new.before ≡ layer.old.before }
+    ensures rejects { result ≡ is_some (reject_by (answer_as up.now)) }
     ensures kept { reject_by (answer_as up.now) ≡ None → layer.new ≡ layer.old }
 {
-    if let Some(bytes) = rejection(up) {
-        layer.reply(from, id_in(up), &bytes);
+    match rejection(up) {
+        Some(bytes) => {
+            layer.reply(from, id_in(up), &bytes);
+            true
+        }
+        None => false,
     }
+}
+
+/// Whether there is still room for a message, where there was and a response was rejected or not.
+pub(crate) fn keeps_room(room: bool, rejected: bool) -> bool
+    ensures { result ≡ (room && not rejected) }
+{
+    room && !rejected
 }
 
 /// The separate response that a Reset ends (RFC 7252, section 5.2.2).
@@ -130,8 +146,8 @@ pub(crate) fn reset_by(from: Endpoint, up: &Up<'_>, separate: &[Listed<Separate>
     }
 }
 
-/// Takes the separate response off the list that an acknowledgement or a Reset ends.
-pub(crate) fn after_arrival(from: Endpoint, up: &Up<'_>, separate: &mut [Listed<Separate>])
+// Takes the separate response off the list that an acknowledgement or a Reset ends.
+fn off_where_ended(from: Endpoint, up: &Up<'_>, separate: &mut [Listed<Separate>])
     ensures now { listed separate.new ≡ separate_after from (answer_as up.now) (listed separate.old) }
     ensures before { listed_before separate.new ≡ listed_before separate.old }
     ensures len { length separate.new ≡ length separate.old }
@@ -140,6 +156,20 @@ pub(crate) fn after_arrival(from: Endpoint, up: &Up<'_>, separate: &mut [Listed<
         Up::Acked(id) | Up::Reset(id) => take_off(separate, from, *id),
         _ => {}
     }
+}
+
+/// The same of a vector.
+pub(crate) fn after_arrival<A: Allocator + Copy>(
+    from: Endpoint,
+    up: &Up<'_>,
+    separate: &mut Vec<Listed<Separate>, A>,
+)
+    ensures now { listed separate.new.items ≡ separate_after from (answer_as up.now) (listed separate.old.items) }
+    ensures before { listed_before separate.new.items ≡ listed_before separate.old.items }
+    ensures len { vec_len separate.new ≡ vec_len separate.old }
+    ensures capacity { vec_capacity separate.new ≡ vec_capacity separate.old }
+{
+    off_where_ended(from, up, separate);
 }
 
 // The head of a piggybacked response.
@@ -160,7 +190,7 @@ fn head_of(asked: &Asked, response: &Response<'_>) -> Head
 // Spells the piggybacked response from the start of the buffer on, and answers its length.
 fn spell(asked: &Asked, response: &Response<'_>, buffer: &mut [u8]) -> usize
     requires sendable { IsSendable (content_of asked.now response.now) }
-    requires room { length buffer.old ≡ 1152 }
+    requires room { length buffer.old ≡ max_message_len }
     ensures bytes { take result buffer.new ≡ message_bytes (with_head Ack asked.now.id.0 (content_of asked.now response.now)) }
     ensures within { result ≤ length buffer.new }
     ensures len { length buffer.new ≡ length buffer.old }

@@ -1,8 +1,8 @@
 ghost use Rattle.std.specs.Prelude.{◌≡◌, ◌&&◌, not, map};
 ghost use Rattle.std.specs.Option.{option_map};
 ghost use Rattle.coap_exchange.specs.AnswererSteps.{ended_as, found, goes_to, is_ready, is_waited_for};
-ghost use Rattle.coap_exchange.specs.Listed.{listed};
-ghost use Rattle.coap_exchange.specs.Outstanding.{over};
+ghost use Rattle.coap_exchange.specs.Machine.Listed.{listed};
+ghost use Rattle.coap_exchange.specs.Machine.Outstanding.{over};
 
 use crate::answerer::{Asked, Ended};
 use crate::listed::Listed;
@@ -30,20 +30,6 @@ pub struct Separate {
     pub token: Token,
     /// Whether it carries Observe (RFC 7641, section 3.2).
     pub observe: bool,
-}
-
-impl Asked {
-    /// The same again.
-    pub(crate) fn copy(&self) -> Asked
-        ensures { result ≡ self.now }
-    {
-        Asked {
-            from: self.from,
-            kind: self.kind,
-            id: self.id,
-            token: self.token.copy(),
-        }
-    }
 }
 
 impl Default for Deferred {

@@ -1,21 +1,21 @@
-ghost use Rattle.std.specs.Prelude.{◌≡◌, ◌≤◌, ◌<◌, ◌⊎◌, ℕ, IsOk, OnOk, IfSome, max, Bool, Option, Some, None, true, false, length, is_some};
+ghost use Rattle.std.specs.Prelude.{◌≡◌, ◌≤◌, ◌<◌, ◌⊎◌, ℕ, IsOk, OnOk, IfSome, max, Bool, Option, Some, None, true, false, length, is_some, if◌then◌else◌};
 ghost use Rattle.std.specs.Option.{option_map};
 ghost use Rattle.std.specs.Vec.{vec_len, vec_capacity};
 ghost use Rattle.coap_types.specs.Recognised.{has_number};
 ghost use Rattle.coap_types.specs.CoapOption.{options_of};
 ghost use Rattle.coap_layer.specs.Sendable.{IsSendable};
-ghost use Rattle.coap_layer.specs.State as layer_state;
-ghost use Rattle.coap_layer.specs.State.{answer_of, is_busy, is_free};
-ghost use Rattle.coap_layer.specs.Steps.{Steps};
+ghost use Rattle.coap_layer.specs.Machine.State as layer_state;
+ghost use Rattle.coap_layer.specs.Machine.State.{answer_of, is_busy, is_free};
+ghost use Rattle.coap_layer.specs.Machine.Steps.{Steps};
 ghost use Rattle.coap_layer.specs.Trace as below;
-ghost use Rattle.coap_layer.specs.Ups.{IsTick};
-ghost use Rattle.coap_layer.specs.declared.up.Tick.TheVariants as ticks;
+ghost use Rattle.coap_layer.specs.Machine.Ups.{IsTick};
 ghost use Rattle.coap_exchange.specs.declared.answerer.Asked.{Asked as AskedSpec};
+ghost use Rattle.coap_exchange.specs.declared.answerer.Due.TheVariants as dues;
 ghost use Rattle.coap_exchange.specs.declared.separate.Deferred.{Deferred};
 ghost use Rattle.coap_exchange.specs.AnswererSteps.{asking_room, content_with, due_of, failed_by, ready_if, separate_of, separate_unless};
-ghost use Rattle.coap_exchange.specs.AnswererShown.{AsksFreely};
+ghost use Rattle.coap_exchange.specs.Machine.AnswererShown.{AsksFreely};
 ghost use Rattle.coap_exchange.specs.AskerArrivals.{observe};
-ghost use Rattle.coap_exchange.specs.Listed.{listed, listed_before};
+ghost use Rattle.coap_exchange.specs.Machine.Listed.{listed, listed_before};
 
 use crate::answerer::{Asked, Due, Ended, Response};
 use crate::listed::Listed;
@@ -53,15 +53,11 @@ pub(crate) fn make_room<A: Allocator + Copy>(
     Ok(())
 }
 
-/// The deferred request that is ready, where the layer was idle.
-pub(crate) fn ready_if(tick: Tick, ready: Option<Asked>) -> Option<Asked>
-    ensures ready { (answer : below.Answer) (d : Option Deferred) → IsTick tick answer → ready ≡ option_map (λ d. d.asked) d → result ≡ option_map (λ d. d.asked) (ready_if answer d) }
-    ensures idle { (result ≡ None) ⊎ ((tick ≡ ticks.Idle) × (result ≡ ready)) }
+/// The deferred request that is ready, where no step of the layer is due.
+pub(crate) fn unless_due(due: bool, ready: Option<Asked>) -> Option<Asked>
+    ensures { result ≡ (if due then None else ready) }
 {
-    match tick {
-        Tick::Idle => ready,
-        Tick::Copied(_) | Tick::Expired(_, _) => None,
-    }
+    if due { None } else { ready }
 }
 
 /// Whether the response to the deferred request that is ready can be sent, for which room was made
@@ -76,6 +72,7 @@ pub(crate) fn is_sendable<A: Allocator + Copy>(
     ensures before { layer.new.before ≡ layer.old.before }
     ensures room { result ≡ true → layer.new.has_room ≡ true }
     ensures some { result ≡ true → is_some ready.now ≡ true }
+    ensures kept { layer.old.has_room ≡ true → layer.new.has_room ≡ true }
     ensures may { result ≡ true → IfSome ready.now (λ a. answer_of layer.old.state (max layer.old.state.clock now.0) (below.Room a.from) ≡ below.Is true) }
     ensures idle { result ≡ true → (a : AskedSpec) → ready.now ≡ Some a → is_busy a.from layer.new.state.open_cons ≡ false }
     ensures free { result ≡ true → is_free (max layer.new.state.clock now.0) layer.new.state.upcoming layer.new.state.last_used ≡ true }
@@ -125,7 +122,8 @@ pub(crate) fn unless_failed<A: Allocator + Copy>(
 
 /// What a tick of the layer is to the server.
 pub(crate) fn due_of(tick: Tick, ready: Option<Asked>, room: bool) -> Due
-    ensures { (answer : below.Answer) (d : Option Deferred) → IsTick tick answer → ready ≡ option_map (λ d. d.asked) (ready_if answer d) → result ≡ due_of answer d room }
+    ensures ready { (a : AskedSpec) → result ≡ dues.Ready a → ready ≡ Some a }
+    ensures due { (answer : below.Answer) (d : Option Deferred) → IsTick tick answer → ready ≡ option_map (λ d. d.asked) (ready_if answer d) → result ≡ due_of answer d room }
 {
     match tick {
         Tick::Copied(_) => Due::Copied,
@@ -136,7 +134,8 @@ pub(crate) fn due_of(tick: Tick, ready: Option<Asked>, room: bool) -> Due
 
 // The deferred request that is ready, where there is room for its response.
 fn ready_or_idle(ready: Option<Asked>, room: bool) -> Due
-    ensures { (d : Option Deferred) → ready ≡ option_map (λ d. d.asked) d → result ≡ due_of below.Idle d room }
+    ensures ready { (a : AskedSpec) → result ≡ dues.Ready a → ready ≡ Some a }
+    ensures due { (d : Option Deferred) → ready ≡ option_map (λ d. d.asked) d → result ≡ due_of below.Idle d room }
 {
     match ready {
         Some(asked) if room => Due::Ready(asked),

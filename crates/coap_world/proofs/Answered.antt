@@ -14,18 +14,18 @@ use Rattle.coap_exchange.specs.declared.answerer.Asked.{Asked}
 use Rattle.coap_exchange.specs.AnswererSteps.{content_of}
 use Rattle.coap_exchange.specs.AnswererTrace as R
 use Rattle.coap_exchange.specs.AnswererLaw.{below_of}
-use Rattle.coap_ends.specs.ClientFollows.{heard}
-use Rattle.coap_ends.specs.ClientHears.{Hears}
+use Rattle.coap_ends.specs.Follows.ClientFollows.{heard}
+use Rattle.coap_ends.specs.Follows.ClientHears.{Hears}
 use Rattle.coap_ends.specs.ClientTrace as C
 use Rattle.coap_ends.specs.ServerChecks.{Refused, Asks}
-use Rattle.coap_ends.specs.ServerFollows.{Serving}
-use Rattle.coap_ends.specs.ServerGives.{Carries, IsEmpty, CarriesServed, CarriesRefusal, CarriesResponse}
-use Rattle.coap_ends.specs.ServerHands.{HandsUp}
+use Rattle.coap_ends.specs.Follows.ServerFollows.{Serving}
+use Rattle.coap_ends.specs.Follows.ServerGives.{Carries, IsEmpty, CarriesServed, CarriesRefusal, CarriesResponse}
+use Rattle.coap_ends.specs.Follows.ServerHands.{HandsUp}
 use Rattle.coap_ends.specs.ServerLaw.{layer_of}
 use Rattle.coap_ends.specs.ServerTrace as S
-use Rattle.coap_ends.proofs.ClientHears.{are_heard}
-use Rattle.coap_ends.proofs.ServerGiving.{sent_responses}
-use Rattle.coap_ends.proofs.ServerHanding.{handed_up}
+use Rattle.coap_ends.proofs.Reporting.ClientHears.{are_heard}
+use Rattle.coap_ends.proofs.Replying.ResponsesHaveRequests.{sent_responses}
+use Rattle.coap_ends.proofs.Serving.ServedWasHandedUp.{handed_up}
 use Rattle.coap_world.specs.Agrees.{ServesAt}
 use Rattle.coap_world.specs.CameFrom.{CameFrom}
 use Rattle.coap_world.specs.Events.{client_end, server_end, Config}

@@ -8,14 +8,14 @@ use Rattle.coap_exchange.specs.declared.answerer.Asked.{Asked}
 use Rattle.coap_exchange.specs.AnswererFollows.{hits, same_asked}
 use Rattle.coap_exchange.specs.AnswererSteps.{asked_of}
 use Rattle.coap_exchange.proofs.AnswererOnce.{self_hits}
-use Rattle.coap_ends.specs.ClientFollows.{Sending, WasSent}
+use Rattle.coap_ends.specs.Follows.ClientFollows.{Sending, WasSent}
 use Rattle.coap_ends.specs.ClientLaw.{layer_of}
-use Rattle.coap_ends.specs.ClientSendings.{NoNons, OneCon, OneSending}
+use Rattle.coap_ends.specs.Follows.ClientSendings.{NoNons, OneCon, OneSending}
 use Rattle.coap_ends.specs.ServerTrace as S
 use Rattle.coap_ends.specs.ServerChecks.{Asks}
-use Rattle.coap_ends.specs.ServerFollows.{Serving, serving, asked_of as served_as, times_served, ServedOnce}
+use Rattle.coap_ends.specs.Follows.ServerFollows.{Serving, serving, asked_of as served_as, times_served, ServedOnce}
 use Rattle.coap_ends.specs.ServerLaw.{own_of}
-use Rattle.coap_ends.proofs.ServerCounts.{ups, Counted}
+use Rattle.coap_ends.proofs.Serving.HandedUpAsOften.{ups, Counted}
 use Rattle.coap_world.specs.Agrees.{ServesAt, SentFor, AppliesFor, AtMostOnce}
 use Rattle.coap_world.specs.CameFrom.{IsChannel, CameFrom, CamesFrom, request_of}
 use Rattle.coap_world.specs.Events.{client_end, server_end, Config}

@@ -5,7 +5,7 @@ use Rattle.coap_types.proofs.PastLemmas.{Ever_append}
 use Rattle.coap_layer.specs.Trace.{Packet}
 use Rattle.coap_ends.specs.ClientTrace as C
 use Rattle.coap_ends.specs.ClientTrace.{Operation, Request, Taking, Taken, QueueFull, BodyTooLarge, BadPath, CallsSpent}
-use Rattle.coap_ends.specs.ClientFollows.{takes, WasTaken}
+use Rattle.coap_ends.specs.Follows.ClientFollows.{takes, WasTaken}
 use Rattle.coap_ends.specs.ServerTrace as S
 use Rattle.coap_world.specs.Events.{What, Calls, Sets, Removes, TickClient, TickServer, Deliver, StrangerToClient, StrangerToServer}
 use Rattle.coap_world.specs.Legal.{IsRequest, InRange, Legal}

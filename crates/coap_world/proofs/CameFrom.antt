@@ -19,18 +19,18 @@ use Rattle.coap_exchange.specs.AskerSteps as P
 use Rattle.coap_exchange.specs.AskerTrace as A
 use Rattle.coap_exchange.proofs.AskerLeading.{steps_split}
 use Rattle.coap_ends.specs.ClientTrace as C
-use Rattle.coap_ends.specs.ClientBegins.{IsRequestOf}
+use Rattle.coap_ends.specs.Follows.ClientBegins.{IsRequestOf}
 use Rattle.coap_ends.specs.ClientLaw as client
 use Rattle.coap_ends.specs.ClientLaw.{ClientLaw}
-use Rattle.coap_ends.specs.ClientSendings.{SendsNon, NoNons}
+use Rattle.coap_ends.specs.Follows.ClientSendings.{SendsNon, NoNons}
 use Rattle.coap_ends.specs.ClientSteps as client_steps
 use Rattle.coap_ends.specs.ServerTrace as S
 use Rattle.coap_ends.specs.ServerChecks.{Verdict, Asks, verdict_on}
-use Rattle.coap_ends.specs.ServerHands.{HandsUp, AreHandedUp}
+use Rattle.coap_ends.specs.Follows.ServerHands.{HandsUp, AreHandedUp}
 use Rattle.coap_ends.specs.ServerLaw.{ServerLaw, layer_of}
-use Rattle.coap_ends.proofs.ClientBegun.{asked_for, exchange_of, request_of}
-use Rattle.coap_ends.proofs.ClientNons.{no_nons}
-use Rattle.coap_ends.proofs.ServerHanding.{handed_up}
+use Rattle.coap_ends.proofs.Sending.ConsAreRequests.{asked_for, exchange_of, request_of}
+use Rattle.coap_ends.proofs.Sending.NoNons.{no_nons}
+use Rattle.coap_ends.proofs.Serving.ServedWasHandedUp.{handed_up}
 use Rattle.coap_world.specs.CameFrom as W
 use Rattle.coap_world.specs.CameFrom.{IsChannel, CameFrom, CamesFrom}
 use Rattle.coap_world.specs.Events.{client_end, server_end, Config}

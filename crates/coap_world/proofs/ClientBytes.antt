@@ -26,8 +26,8 @@ use Rattle.coap_ends.specs.ClientTrace.{Request, Operation, Call, Calls, Feeds, 
 use Rattle.coap_ends.specs.ClientRequests.{uint, uint_option, path_options, more_options, payload_by}
 use Rattle.coap_ends.specs.ClientSteps.{is_idle, starting, asking}
 use Rattle.coap_ends.specs.ClientLaw.{ClientLaw, own_of, lower_of, layer_of}
-use Rattle.coap_ends.specs.ClientFollows.{WasTaken}
-use Rattle.coap_ends.proofs.ClientSent.{waiting_taken, first_taken}
+use Rattle.coap_ends.specs.Follows.ClientFollows.{WasTaken}
+use Rattle.coap_ends.proofs.Sending.ClientSent.{waiting_taken, first_taken}
 use Rattle.coap_world.specs.Legal.{IsRequest}
 use Rattle.coap_world.proofs.InBytes.{ValuesAre, none_are, cons_are, high_are, values_append}
 use Rattle.coap_world.proofs.Moments.{Every, every_join}

@@ -20,7 +20,7 @@ use Rattle.coap_ends.specs.ClientReports.{report_of, is_success, created, delete
 use Rattle.coap_ends.specs.ClientRequests.{block1, block2, max_body}
 use Rattle.coap_ends.specs.ClientTrace.{Body, Done, Failed, TooLarge}
 use Rattle.coap_ends.specs.ServerChecks.{Verdict, Refused, Asks, verdict_on, bad_by, bad_request, proxying_not_supported, asked_by, method_by, question, proxy_uri, proxy_scheme, path_of, asks, max_segments, is_reserved}
-use Rattle.coap_ends.specs.ServerFollows.{is_applied}
+use Rattle.coap_ends.specs.Follows.ServerFollows.{is_applied}
 
 -- what is reported
 

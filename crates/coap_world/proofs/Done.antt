@@ -6,14 +6,14 @@ use Rattle.coap_codec.specs.Message.{Message}
 use Rattle.coap_resource.specs.Content.{Held}
 use Rattle.coap_resource.specs.RequestOptions.{has}
 use Rattle.coap_exchange.specs.declared.answerer.Asked.{Asked}
-use Rattle.coap_ends.specs.ClientFollows.{Sending}
+use Rattle.coap_ends.specs.Follows.ClientFollows.{Sending}
 use Rattle.coap_ends.specs.ClientReports.{content, said}
 use Rattle.coap_ends.specs.ClientRequests.{block2}
-use Rattle.coap_ends.specs.ClientSendings.{OneSending}
+use Rattle.coap_ends.specs.Follows.ClientSendings.{OneSending}
 use Rattle.coap_ends.specs.ClientTrace.{Body, Done, Report}
-use Rattle.coap_ends.specs.ServerFollows.{is_applied, held_at}
-use Rattle.coap_ends.specs.ServerShows.{Shows}
-use Rattle.coap_ends.proofs.ServerShown.{shows_held}
+use Rattle.coap_ends.specs.Follows.ServerFollows.{is_applied, held_at}
+use Rattle.coap_ends.specs.Follows.ServerShows.{Shows}
+use Rattle.coap_ends.proofs.Holding.ServerShown.{shows_held}
 use Rattle.coap_world.specs.Agrees.{AppliesSince, OnceDone, HeldSince, EachHeld, ReportsAt}
 use Rattle.coap_world.specs.CameFrom.{request_of}
 use Rattle.coap_world.specs.Events.{Config}

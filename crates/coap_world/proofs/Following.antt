@@ -7,15 +7,15 @@ use Rattle.coap_layer.proofs.ListLemmas.{true_lt}
 use Rattle.coap_layer.specs.State as layer
 use Rattle.coap_ends.specs.ClientTrace as C
 use Rattle.coap_ends.specs.ClientLaw.{ClientLaw}
-use Rattle.coap_ends.specs.Endings.{UpToIdle, all_taken}
+use Rattle.coap_ends.specs.Follows.Endings.{UpToIdle, all_taken}
 use Rattle.coap_ends.specs.ServerTrace as S
 use Rattle.coap_ends.specs.ServerLaw.{ServerLaw, own_of}
-use Rattle.coap_ends.specs.ServerShows.{FormatsInRange}
+use Rattle.coap_ends.specs.Follows.ServerShows.{FormatsInRange}
 use Rattle.coap_ends.specs.ServerSteps.{max_delays, others}
-use Rattle.coap_ends.proofs.ClientGoing as client_going
-use Rattle.coap_ends.proofs.ClientResting as client_resting
-use Rattle.coap_ends.proofs.ServerGoing as server_going
-use Rattle.coap_ends.proofs.ServerResting as server_resting
+use Rattle.coap_ends.proofs.Progress.ClientGoing as client_going
+use Rattle.coap_ends.proofs.Rest.ClientResting as client_resting
+use Rattle.coap_ends.proofs.Progress.ServerGoing as server_going
+use Rattle.coap_ends.proofs.Rest.ServerResting as server_resting
 use Rattle.coap_world.specs.Events.{server_end, Config, What, Calls, Sets, Removes, TickClient, TickServer, Deliver, StrangerToClient, StrangerToServer, Event}
 use Rattle.coap_world.specs.GoesOn.{turn_of, MayHappen, Follows, GoesOn, Begins, MayRun, HasRecord}
 use Rattle.coap_world.specs.Legal.{Legal}

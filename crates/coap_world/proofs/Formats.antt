@@ -5,7 +5,7 @@ use Rattle.coap_types.specs.Past.{Always}
 use Rattle.coap_codec.specs.Message.{AreBytes}
 use Rattle.coap_layer.specs.Trace.{Packet}
 use Rattle.coap_ends.specs.ClientTrace as C
-use Rattle.coap_ends.specs.ServerShows.{FormatInRange, FormatsInRange}
+use Rattle.coap_ends.specs.Follows.ServerShows.{FormatInRange, FormatsInRange}
 use Rattle.coap_ends.specs.ServerTrace as S
 use Rattle.coap_world.proofs.Moments.{Every, every_map}
 use Rattle.coap_world.proofs.ServerBytes.{BodyAre}

@@ -4,10 +4,10 @@ use Rattle.std.specs.Prelude.{slice_get}
 use Rattle.std.proofs.lemmas.List.{append-nil}
 use Rattle.coap_types.specs.Past.{Always}
 use Rattle.coap_ends.specs.ClientLaw.{own_of, ClientRows}
-use Rattle.coap_ends.specs.ClientGives.{made, given}
+use Rattle.coap_ends.specs.Follows.ClientGives.{made, given}
 use Rattle.coap_ends.specs.ClientTrace as C
 use Rattle.coap_ends.specs.ServerTrace as S
-use Rattle.coap_ends.proofs.ClientGiven.{waits}
+use Rattle.coap_ends.proofs.Reporting.GivenInOrder.{waits}
 use Rattle.coap_world.specs.Agrees.{AllGiven}
 use Rattle.coap_world.specs.Record.{Turn, Makes, client_of, entries_of}
 use Rattle.coap_world.proofs.Turns.{ClientTurn, ServerTurn, side, client_client, client_server}

@@ -13,7 +13,7 @@ use Rattle.coap_layer.specs.Rows.{Stands, Row, Sorts, HandedAs, Arrives, rejects
 use Rattle.coap_layer.specs.Sends.{IsIn}
 use Rattle.coap_layer.specs.Trace as T
 use Rattle.coap_layer.proofs.HopLemmas.{earlier}
-use Rattle.coap_ends.specs.ClientHears.{Hears}
+use Rattle.coap_ends.specs.Follows.ClientHears.{Hears}
 
 -- a response that is handed up is what the datagram spells
 pub record Reads (bytes : List ℕ) (m : Message) : Type 0 where

@@ -7,8 +7,8 @@ use Rattle.coap_exchange.proofs.AskerLeading as asker
 use Rattle.coap_exchange.proofs.AnswererLeading as answerer
 use Rattle.coap_ends.specs.ClientLaw as client_law
 use Rattle.coap_ends.specs.ServerLaw as server_law
-use Rattle.coap_ends.proofs.ClientReplies as client_replies
-use Rattle.coap_ends.proofs.ServerRepliesSo as server_replies
+use Rattle.coap_ends.proofs.Replying.ClientReplies as client_replies
+use Rattle.coap_ends.proofs.Replying.ServerRepliesSo as server_replies
 use Rattle.coap_world.specs.Events.{client_end, server_end, Config, Event}
 use Rattle.coap_world.specs.Hops.{hops_of}
 use Rattle.coap_world.specs.Legal.{Legal}

@@ -7,13 +7,13 @@ use Rattle.coap_types.specs.declared.direction.Direction.TheVariants as directio
 use Rattle.coap_types.specs.declared.request.Method.{Method}
 use Rattle.coap_codec.specs.Message.{Message}
 use Rattle.coap_resource.specs.RequestOptions.{has}
-use Rattle.coap_ends.specs.ClientFollows.{Sending, WasSent}
-use Rattle.coap_ends.specs.ClientSendings.{OneSending}
+use Rattle.coap_ends.specs.Follows.ClientFollows.{Sending, WasSent}
+use Rattle.coap_ends.specs.Follows.ClientSendings.{OneSending}
 use Rattle.coap_ends.specs.ClientTrace.{Failed}
 use Rattle.coap_ends.specs.ClientRequests.{block1}
 use Rattle.coap_ends.specs.ServerChecks.{Refused, Asks, verdict_on, asked_by as verdict_by, bad_by, asks, method_by, proxy_uri, proxy_scheme, proxying_not_supported}
-use Rattle.coap_ends.specs.ServerFollows.{Serving, is_applied}
-use Rattle.coap_ends.proofs.ServerHolds.{all_served}
+use Rattle.coap_ends.specs.Follows.ServerFollows.{Serving, is_applied}
+use Rattle.coap_ends.proofs.Holding.ServerHolds.{all_served}
 use Rattle.coap_exchange.specs.declared.answerer.Asked.{Asked}
 use Rattle.coap_resource.specs.Serves.{Question}
 use Rattle.coap_world.specs.Agrees.{AppliesFor, NeverFailed, ReportsAt, ServesAt}

@@ -2,7 +2,7 @@
 use Rattle.std.proofs.Common.{◌≡◌, ◌⊎◌, inl, inr, Bool, true, false, Option, Some, None, List, [], ◌∷◌, refl, ap, sym}
 use Rattle.coap_ends.specs.ServerTrace.{Own, Call, Sets, Removes, Delays, Feeds, Ticks, NextOut}
 use Rattle.coap_ends.specs.ServerLaw.{own_of}
-use Rattle.coap_ends.specs.ServerFollows.{Serving, serving, Change, change, change_of, changed_by, ServesRight, AllServed}
+use Rattle.coap_ends.specs.Follows.ServerFollows.{Serving, serving, Change, change, change_of, changed_by, ServesRight, AllServed}
 use Rattle.std.specs.Prelude.{cond, ◌==◌}
 use Rattle.coap_world.specs.Events.{Config}
 use Rattle.coap_world.specs.Record.{Entry, OfClient, OfServer, server_trace}

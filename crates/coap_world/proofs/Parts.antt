@@ -3,14 +3,14 @@ use Rattle.std.proofs.Common.{inr, ℕ, List, ◌∷◌, ◌++◌, map}
 use Rattle.coap_layer.specs.Channel.{Near, Far}
 use Rattle.coap_exchange.specs.AnswererLaw as answerer
 use Rattle.coap_exchange.specs.AnswererTrace as R
-use Rattle.coap_ends.specs.ClientFollows.{Sending, WasSent}
+use Rattle.coap_ends.specs.Follows.ClientFollows.{Sending, WasSent}
 use Rattle.coap_ends.specs.ClientLaw.{ClientLaw}
 use Rattle.coap_ends.specs.ServerLaw as server
 use Rattle.coap_ends.specs.ServerLaw.{ServerLaw}
-use Rattle.coap_ends.specs.ServerShows.{FormatsInRange}
+use Rattle.coap_ends.specs.Follows.ServerShows.{FormatsInRange}
 use Rattle.coap_ends.specs.ServerSteps as server_steps
 use Rattle.coap_ends.specs.ServerTrace as S
-use Rattle.coap_ends.proofs.ServerRepliesSo.{steps_back, law_back}
+use Rattle.coap_ends.proofs.Replying.ServerRepliesSo.{steps_back, law_back}
 use Rattle.coap_world.specs.CameFrom.{IsChannel}
 use Rattle.coap_world.specs.Events.{server_end, Config}
 use Rattle.coap_world.specs.Hops.{hops_in, client_adds, server_adds}

@@ -4,21 +4,21 @@ use Rattle.coap_exchange.specs.declared.answerer.Asked.{Asked}
 use Rattle.coap_exchange.proofs.AnswererOnce as A
 use Rattle.coap_exchange.proofs.AskerLeading.{layer_stands}
 use Rattle.coap_exchange.proofs.AskerTokens.{counted}
-use Rattle.coap_ends.specs.ClientFollows.{AreSent}
+use Rattle.coap_ends.specs.Follows.ClientFollows.{AreSent}
 use Rattle.coap_ends.specs.ClientLaw.{lower_of}
-use Rattle.coap_ends.specs.ClientSendings.{OneSending}
+use Rattle.coap_ends.specs.Follows.ClientSendings.{OneSending}
 use Rattle.coap_ends.specs.ServerChecks.{Asks}
-use Rattle.coap_ends.specs.ServerFollows.{Serving, is_applied}
+use Rattle.coap_ends.specs.Follows.ServerFollows.{Serving, is_applied}
 use Rattle.coap_ends.specs.ServerLaw as server
-use Rattle.coap_ends.proofs.ClientCons.{one_con}
-use Rattle.coap_ends.proofs.ClientCounted.{one_call}
-use Rattle.coap_ends.proofs.ClientNons.{no_nons}
-use Rattle.coap_ends.proofs.ClientNumbers.{one_sending}
-use Rattle.coap_ends.proofs.ClientOnce.{reported_once}
-use Rattle.coap_ends.proofs.ClientSent.{once_of, are_sent}
-use Rattle.coap_ends.proofs.ServerCounts as N
-use Rattle.coap_ends.proofs.ServerHolds.{all_served}
-use Rattle.coap_ends.proofs.ServerOnce.{served_once}
+use Rattle.coap_ends.proofs.Sending.OneCon.{one_con}
+use Rattle.coap_ends.proofs.Sending.NumbersRise.{one_call}
+use Rattle.coap_ends.proofs.Sending.NoNons.{no_nons}
+use Rattle.coap_ends.proofs.Sending.SentOnce.{one_sending}
+use Rattle.coap_ends.proofs.Reporting.ReportedOnce.{reported_once}
+use Rattle.coap_ends.proofs.Sending.ClientSent.{once_of, are_sent}
+use Rattle.coap_ends.proofs.Serving.HandedUpAsOften as N
+use Rattle.coap_ends.proofs.Holding.ServerHolds.{all_served}
+use Rattle.coap_ends.proofs.Serving.ServedOnce.{served_once}
 use Rattle.coap_world.specs.Agrees.{ServesAt, SentFor, Agrees, AppliedWhole, AtMostOnce, ChangesOwned}
 use Rattle.coap_world.specs.CameFrom.{CameFrom, CamesFrom}
 use Rattle.coap_world.specs.Events.{client_end, server_end, Config, Event}

@@ -7,12 +7,12 @@ use Rattle.coap_exchange.proofs.AskerApart.{known}
 use Rattle.coap_exchange.proofs.AskerTokens.{counted}
 use Rattle.coap_ends.specs.ClientTrace as C
 use Rattle.coap_ends.specs.ClientTrace.{Operation, Request, Report, Reported}
-use Rattle.coap_ends.specs.ClientFollows.{Sending, WasSent, OfAnswer, is_of_response, AreSent, ReportsAreAnswers}
+use Rattle.coap_ends.specs.Follows.ClientFollows.{Sending, WasSent, OfAnswer, is_of_response, AreSent, ReportsAreAnswers}
 use Rattle.coap_ends.specs.ClientLaw.{ClientLaw, lower_of}
 use Rattle.coap_ends.specs.ClientReports.{report_of}
-use Rattle.coap_ends.specs.ClientSendings.{OneSending}
-use Rattle.coap_ends.proofs.ClientAnswers.{are_answers}
-use Rattle.coap_ends.proofs.ClientSent.{once_of, are_sent}
+use Rattle.coap_ends.specs.Follows.ClientSendings.{OneSending}
+use Rattle.coap_ends.proofs.Reporting.ClientAnswers.{are_answers}
+use Rattle.coap_ends.proofs.Sending.ClientSent.{once_of, are_sent}
 use Rattle.coap_world.specs.Agrees.{ReportsAt, WasCalled, SentFor}
 use Rattle.coap_world.specs.Events.{server_end, Config}
 use Rattle.coap_world.specs.Record.{Entry, OfClient, OfServer, client_of}

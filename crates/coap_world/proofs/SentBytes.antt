@@ -11,8 +11,8 @@ use Rattle.coap_layer.specs.Trace as L
 use Rattle.coap_layer.specs.Trace.{with_head}
 use Rattle.coap_exchange.specs.AskerArrivals.{replying}
 use Rattle.coap_exchange.specs.EmptyMessages.{ack_bytes, reset_bytes}
-use Rattle.coap_ends.proofs.ServerMakes.{called}
-use Rattle.coap_ends.proofs.Sources.{Source, sourced}
+use Rattle.coap_ends.proofs.Replying.LayerSendsResponses.{called}
+use Rattle.coap_ends.proofs.Replying.Sources.{Source, sourced}
 use Rattle.coap_world.proofs.InBytes.{ValuesAre, none_are, cons_are, message_are, empty_are}
 use Rattle.coap_world.proofs.Moments.{Every}
 

@@ -28,7 +28,7 @@ use Rattle.coap_ends.specs.ServerTrace.{Waiting, Own, Handling, Silent, Refuses,
 use Rattle.coap_ends.specs.ServerChecks.{Verdict, Ignored, Refused, Asks, bad_by, bad_request, proxying_not_supported, proxy_uri, proxy_scheme, max_segments, asks, path_of, is_reserved, method_by, asked_by, question, verdict_on}
 use Rattle.coap_ends.specs.ServerSteps.{lower, answering, responding, is_of, question_of, without, waits_by, delay_of, left_by, waiting_with, waiting_after, IsServed, AsksBy, Handles, HandlesCame, HandlesDue, AnswersWaiting, IsRight, after}
 use Rattle.coap_ends.specs.ServerLaw.{ServerLaw, ServerRows, own_of, lower_of, layer_of}
-use Rattle.coap_ends.proofs.ServerHanding.{same_asked_is}
+use Rattle.coap_ends.proofs.Serving.ServedWasHandedUp.{same_asked_is}
 use Rattle.coap_world.proofs.InBytes.{none_are, values_from_all}
 use Rattle.coap_world.proofs.Moments.{Every, every_join}
 use Rattle.coap_world.proofs.ResponseBytes.{ResponseAre, RespondAre, each_are, every_front, every_back, last_of, steps_are, CameAre, IncomingAre, all_incoming}

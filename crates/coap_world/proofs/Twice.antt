@@ -10,9 +10,9 @@ use Rattle.coap_layer.proofs.TakenLemmas.{handed_once}
 use Rattle.coap_exchange.specs.declared.answerer.Asked.{Asked}
 use Rattle.coap_exchange.specs.AnswererFollows.{hits, same_asked}
 use Rattle.coap_exchange.specs.AnswererSteps.{asked_of, asked_in, handed_up}
-use Rattle.coap_ends.specs.ClientSendings.{NoNons, OneCon}
-use Rattle.coap_ends.proofs.ServerCounts.{asked_at, ups}
-use Rattle.coap_ends.proofs.ServerHanding.{same_asked_is}
+use Rattle.coap_ends.specs.Follows.ClientSendings.{NoNons, OneCon}
+use Rattle.coap_ends.proofs.Serving.HandedUpAsOften.{asked_at, ups}
+use Rattle.coap_ends.proofs.Serving.ServedWasHandedUp.{same_asked_is}
 use Rattle.coap_world.proofs.CameFrom.{UpOf, here, find, no_more}
 
 -- an entry that hands up this request

@@ -7,10 +7,10 @@ use Rattle.coap_resource.specs.RequestOptions.{format_of}
 use Rattle.coap_ends.specs.ClientTrace as C
 use Rattle.coap_ends.specs.ClientTrace.{Operation, Request}
 use Rattle.coap_ends.specs.ClientRequests.{payload_by}
-use Rattle.coap_ends.specs.ClientFollows.{Sending, WasSent, WasTaken, AreSent}
-use Rattle.coap_ends.specs.ClientSendings.{OneSending}
+use Rattle.coap_ends.specs.Follows.ClientFollows.{Sending, WasSent, WasTaken, AreSent}
+use Rattle.coap_ends.specs.Follows.ClientSendings.{OneSending}
 use Rattle.coap_ends.specs.ServerChecks.{Asks}
-use Rattle.coap_ends.specs.ServerFollows.{Serving, IsApplied, AllServed}
+use Rattle.coap_ends.specs.Follows.ServerFollows.{Serving, IsApplied, AllServed}
 use Rattle.coap_world.specs.Agrees.{AppliesFor, IsWhole, AppliedWhole, WasCalled}
 use Rattle.coap_world.specs.CameFrom.{CameFrom, CamesFrom, request_of}
 use Rattle.coap_world.specs.Events.{Config}

@@ -3,7 +3,7 @@ use Rattle.std.proofs.Common.{◌++◌, inl, inr, Some, List, [], ◌∷◌, map
 use Rattle.std.specs.Prelude.{codes}
 use Rattle.coap_types.specs.Past.{Always}
 use Rattle.coap_exchange.specs.AnswererSteps.{asked_of}
-use Rattle.coap_ends.specs.ServerFollows.{Serving}
+use Rattle.coap_ends.specs.Follows.ServerFollows.{Serving}
 use Rattle.coap_world.specs.Agrees.{AppliesFor}
 use Rattle.coap_world.specs.Events.{Calls, Sets, TickClient, Deliver, client_end}
 use Rattle.coap_world.specs.Legal.{IsPath, IsRequest, Legal}

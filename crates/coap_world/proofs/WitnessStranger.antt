@@ -4,7 +4,7 @@ use Rattle.coap_types.specs.Past.{Sometime, Always}
 use Rattle.coap_types.specs.declared.endpoint.Endpoint.{Endpoint}
 use Rattle.coap_exchange.specs.AnswererSteps.{asked_of}
 use Rattle.coap_resource.specs.Content.{nothing}
-use Rattle.coap_ends.specs.ServerFollows.{Serving}
+use Rattle.coap_ends.specs.Follows.ServerFollows.{Serving}
 use Rattle.coap_world.specs.Agrees.{AppliesFor}
 use Rattle.coap_world.specs.Events.{Calls, TickClient, StrangerToServer, localhost}
 use Rattle.coap_world.specs.Legal.{IsRequest, Legal}

@@ -7,12 +7,12 @@ use Rattle.coap_ends.specs.ClientTrace.{Request, Body, Done, Failed, Reported}
 use Rattle.coap_ends.specs.ClientRequests.{payload_by}
 use Rattle.coap_ends.specs.ClientSteps.{reports}
 use Rattle.coap_ends.specs.ClientLaw as C
-use Rattle.coap_ends.specs.ClientFollows.{WasTaken, WasSent, ReportedOnce}
-use Rattle.coap_ends.specs.ClientGives.{made, given}
-use Rattle.coap_ends.specs.ClientNumbering.{OneCall}
+use Rattle.coap_ends.specs.Follows.ClientFollows.{WasTaken, WasSent, ReportedOnce}
+use Rattle.coap_ends.specs.Follows.ClientGives.{made, given}
+use Rattle.coap_ends.specs.Follows.ClientNumbering.{OneCall}
 use Rattle.coap_ends.specs.ServerTrace as S
 use Rattle.coap_ends.specs.ServerLaw.{own_of}
-use Rattle.coap_ends.specs.ServerFollows.{Serving, serving, is_applied, IsApplied, Change, change, held_at}
+use Rattle.coap_ends.specs.Follows.ServerFollows.{Serving, serving, is_applied, IsApplied, Change, change, held_at}
 use Rattle.coap_world.specs.Events.{client_end, Config}
 use Rattle.coap_world.specs.Record.{Entry, OfClient, OfServer, client_of, server_trace}
 

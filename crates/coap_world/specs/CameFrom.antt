@@ -10,10 +10,10 @@ use Rattle.coap_layer.specs.Words.{Open, begun}
 use Rattle.coap_exchange.specs.declared.answerer.Asked.{Asked}
 use Rattle.coap_exchange.specs.AskerRequests.{content_of}
 use Rattle.coap_exchange.specs.AnswererSteps.{asked_of}
-use Rattle.coap_ends.specs.ClientFollows.{Sending, WasSent}
+use Rattle.coap_ends.specs.Follows.ClientFollows.{Sending, WasSent}
 use Rattle.coap_ends.specs.ClientRequests.{message_of}
 use Rattle.coap_ends.specs.ServerChecks.{Verdict, Asks, verdict_on}
-use Rattle.coap_ends.specs.ServerFollows.{Serving}
+use Rattle.coap_ends.specs.Follows.ServerFollows.{Serving}
 use Rattle.coap_world.specs.Agrees.{ServesAt}
 use Rattle.coap_world.specs.Events.{client_end, server_end, Config}
 use Rattle.coap_world.specs.Hops.{hops_in}

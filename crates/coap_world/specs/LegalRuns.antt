@@ -5,7 +5,7 @@ use Rattle.coap_types.specs.declared.endpoint.Endpoint.{Endpoint}
 use Rattle.coap_types.specs.declared.request.Method.TheVariants.{Get, Post, Delete}
 use Rattle.coap_ends.specs.ClientReports.{changed}
 use Rattle.coap_ends.specs.ClientTrace.{Body, Done, Failed, Timeout, Reported, Request}
-use Rattle.coap_ends.specs.ServerFollows.{Serving, is_applied, held_at}
+use Rattle.coap_ends.specs.Follows.ServerFollows.{Serving, is_applied, held_at}
 use Rattle.coap_ends.specs.ServerTrace.{Delay}
 use Rattle.coap_world.specs.Agrees.{ReportsAt, ServesAt, AppliesFor, HeldSince, AppliesSince}
 use Rattle.coap_world.specs.Events.{client_end, server_end, localhost, Config, What, Calls, Sets, TickClient, TickServer, Deliver, StrangerToServer, Event}

@@ -3,23 +3,23 @@ use Rattle.coap_exchange.proofs.AskerLeading.{layer_stands}
 use Rattle.coap_exchange.proofs.AskerApart.{known}
 use Rattle.coap_exchange.proofs.AskerCame.{came_from}
 use Rattle.coap_exchange.proofs.AskerTokens.{counted}
-use Rattle.coap_ends.proofs.ClientExactly.{is_exact}
-use Rattle.coap_ends.proofs.ClientGoing.{goes_on}
-use Rattle.coap_ends.proofs.ClientResting.{comes_to_rest}
+use Rattle.coap_ends.proofs.Exact.ClientExactly.{is_exact}
+use Rattle.coap_ends.proofs.Progress.ClientGoing.{goes_on}
+use Rattle.coap_ends.proofs.Rest.ClientResting.{comes_to_rest}
 use Rattle.coap_ends.specs.ClientLaw.{lower_of, layer_of}
 use Rattle.coap_layer.specs.State.{start}
 use Rattle.coap_exchange.specs.AskerLaw as asker
-use Rattle.coap_ends.proofs.ClientBegun.{asked_for, exchange_of, request_of}
-use Rattle.coap_ends.proofs.ClientReplies.{replies_so}
-use Rattle.coap_ends.proofs.ClientNons.{no_nons}
-use Rattle.coap_ends.proofs.ClientCons.{one_con}
-use Rattle.coap_ends.proofs.ClientSent.{once_of, are_sent}
-use Rattle.coap_ends.proofs.ClientAnswers.{are_answers, are_from_server}
-use Rattle.coap_ends.proofs.ClientOnce.{reported_once}
-use Rattle.coap_ends.proofs.ClientHears.{are_heard}
-use Rattle.coap_ends.proofs.ClientNumbers.{one_sending}
-use Rattle.coap_ends.proofs.ClientGiven.{gives_in_order}
-use Rattle.coap_ends.proofs.ClientCounted.{one_call}
+use Rattle.coap_ends.proofs.Sending.ConsAreRequests.{asked_for, exchange_of, request_of}
+use Rattle.coap_ends.proofs.Replying.ClientReplies.{replies_so}
+use Rattle.coap_ends.proofs.Sending.NoNons.{no_nons}
+use Rattle.coap_ends.proofs.Sending.OneCon.{one_con}
+use Rattle.coap_ends.proofs.Sending.ClientSent.{once_of, are_sent}
+use Rattle.coap_ends.proofs.Reporting.ClientAnswers.{are_answers, are_from_server}
+use Rattle.coap_ends.proofs.Reporting.ReportedOnce.{reported_once}
+use Rattle.coap_ends.proofs.Reporting.ClientHears.{are_heard}
+use Rattle.coap_ends.proofs.Sending.SentOnce.{one_sending}
+use Rattle.coap_ends.proofs.Reporting.GivenInOrder.{gives_in_order}
+use Rattle.coap_ends.proofs.Sending.NumbersRise.{one_call}
 use Rattle.coap_ends.proofs.laws.client_law.Goals as goal
 
 pub returns-clause-layer : goal.returns-clause-layer

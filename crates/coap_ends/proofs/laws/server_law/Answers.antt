@@ -1,19 +1,19 @@
 use Rattle.coap_layer.proofs.CopyLemmas.{handed_up_once}
 use Rattle.coap_exchange.proofs.AnswererLeading.{layer_stands}
 use Rattle.coap_exchange.proofs.AnswererOnce.{counted}
-use Rattle.coap_ends.proofs.ServerExactly.{is_exact}
-use Rattle.coap_ends.proofs.ServerWaiting.{waits_as_deferred, ready_are_served}
+use Rattle.coap_ends.proofs.Exact.ServerExactly.{is_exact}
+use Rattle.coap_ends.proofs.Serving.ServerWaiting.{waits_as_deferred, ready_are_served}
 use Rattle.coap_ends.specs.ServerLaw.{lower_of, layer_of}
-use Rattle.coap_ends.proofs.ServerHolds.{all_served, holds_changes}
-use Rattle.coap_ends.proofs.ServerRepliesSo.{replies_so}
-use Rattle.coap_ends.proofs.ServerOnce.{served_once}
-use Rattle.coap_ends.proofs.ServerHanding.{handed_up}
-use Rattle.coap_ends.proofs.ServerGiving.{sends_responses}
-use Rattle.coap_ends.proofs.ServerShown.{shows_held}
-use Rattle.coap_ends.proofs.ServerStamps.{are_stamped}
-use Rattle.coap_ends.proofs.ServerTagged.{one_tag}
-use Rattle.coap_ends.proofs.ServerGoing.{goes_on}
-use Rattle.coap_ends.proofs.ServerResting.{comes_to_rest}
+use Rattle.coap_ends.proofs.Holding.ServerHolds.{all_served, holds_changes}
+use Rattle.coap_ends.proofs.Replying.ServerRepliesSo.{replies_so}
+use Rattle.coap_ends.proofs.Serving.ServedOnce.{served_once}
+use Rattle.coap_ends.proofs.Serving.ServedWasHandedUp.{handed_up}
+use Rattle.coap_ends.proofs.Replying.ResponsesHaveRequests.{sends_responses}
+use Rattle.coap_ends.proofs.Holding.ServerShown.{shows_held}
+use Rattle.coap_ends.proofs.Holding.ServerStamps.{are_stamped}
+use Rattle.coap_ends.proofs.Holding.OneTag.{one_tag}
+use Rattle.coap_ends.proofs.Progress.ServerGoing.{goes_on}
+use Rattle.coap_ends.proofs.Rest.ServerResting.{comes_to_rest}
 use Rattle.coap_ends.proofs.laws.server_law.Goals as goal
 
 pub returns-clause-layer : goal.returns-clause-layer

@@ -1,7 +1,7 @@
 use Rattle.std.proofs.Common.{ap, ◌∙◌}
-use Rattle.coap_types.specs.Unrecognised.{lacks_critical}
+use Rattle.coap_types.specs.Recognised.{lacks_critical}
 use Rattle.coap_types.specs.declared.direction.Direction.TheVariants as direction
-use Rattle.coap_exchange.proofs.OptionFacts.{drained}
+use Rattle.coap_exchange.proofs.Calls.DrainedOptions.{drained}
 use Rattle.coap_exchange.proofs.arrivals.has_bad_option.Goals as goal
 
 pub returns : goal.returns

@@ -1,7 +1,7 @@
 use Rattle.std.proofs.Common.{ap, ◌∙◌}
-use Rattle.coap_types.specs.Unrecognised.{carries}
+use Rattle.coap_types.specs.Recognised.{carries}
 use Rattle.coap_types.specs.declared.direction.Direction.TheVariants as direction
-use Rattle.coap_exchange.proofs.OptionFacts.{drained}
+use Rattle.coap_exchange.proofs.Calls.DrainedOptions.{drained}
 use Rattle.coap_exchange.proofs.arrivals.is_notification.Goals as goal
 
 pub returns : goal.returns

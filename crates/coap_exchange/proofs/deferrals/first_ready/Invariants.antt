@@ -1,6 +1,6 @@
 use Rattle.std.proofs.Common.{◌≡◌, drop}
 use Rattle.coap_exchange.specs.AnswererSteps.{first_ready}
-use Rattle.coap_exchange.specs.Listed.{listed}
+use Rattle.coap_exchange.specs.Machine.Listed.{listed}
 use Rattle.coap_exchange.proofs.deferrals.first_ready.Given as goal
 
 abbrev pub invariant-loop-request : goal.invariant-loop-request

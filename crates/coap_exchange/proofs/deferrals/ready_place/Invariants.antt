@@ -1,6 +1,6 @@
 use Rattle.std.proofs.Common.{◌≡◌, ◌++◌, ◌-◌, length, take, drop}
 use Rattle.coap_exchange.specs.AnswererSteps.{without_ready}
-use Rattle.coap_exchange.specs.Listed.{listed}
+use Rattle.coap_exchange.specs.Machine.Listed.{listed}
 use Rattle.coap_exchange.proofs.deferrals.ready_place.Given as goal
 
 abbrev pub invariant-loop-i : goal.invariant-loop-i

@@ -1,4 +1,4 @@
-use Rattle.coap_exchange.proofs.AskableLemmas.{answer_when_short}
+use Rattle.coap_exchange.proofs.Short.WhenShort.{answer_when_short}
 use Rattle.coap_exchange.proofs.laws.answerable_law.Goals as goal
 
 pub returns : goal.returns

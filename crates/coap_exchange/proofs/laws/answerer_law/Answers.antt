@@ -1,13 +1,15 @@
-use Rattle.coap_exchange.proofs.AnswererLeading.{led_start, led_call, led_law, layer_stands}
-use Rattle.coap_exchange.proofs.AnswererExactly.{exact}
-use Rattle.coap_exchange.proofs.AnswererOnce.{counted}
-use Rattle.coap_exchange.proofs.AnswererCame.{came_in}
-use Rattle.coap_exchange.proofs.AnswererEnds.{ends_once}
-use Rattle.coap_exchange.proofs.AnswererTells.{told}
-use Rattle.coap_exchange.proofs.AnswererDeferrals.{long_enough, ready_when_due}
-use Rattle.coap_exchange.proofs.AnswererEarliest.{earliest}
-use Rattle.coap_exchange.proofs.AnswererMirror.{waits}
-use Rattle.coap_exchange.proofs.AnswererSends.{sends_so}
+use Rattle.coap_exchange.proofs.Leading.ServerLeads.{led_start, led_call, led_exchanged, led_law, layer_stands}
+use Rattle.coap_exchange.proofs.Exact.ServerExactly.{exact}
+use Rattle.coap_exchange.proofs.Responding.OneResponse.{counted}
+use Rattle.coap_exchange.proofs.Responding.RequestsCame.{came_in}
+use Rattle.coap_exchange.proofs.EndsSaid.SaidOnce.{ends_once}
+use Rattle.coap_exchange.proofs.EndsSaid.SaidWhereItEnds.{told}
+use Rattle.coap_exchange.proofs.Deferring.LongEnough.{long_enough, ready_when_due}
+use Rattle.coap_exchange.proofs.Deferring.EarliestFirst.{earliest}
+use Rattle.coap_exchange.proofs.EndsSaid.HandsOrEnds.{hands_or_ends}
+use Rattle.coap_exchange.proofs.EndsSaid.AreOutstanding.{waits}
+use Rattle.coap_exchange.proofs.Responding.EmptyReplies.{are_replied}
+use Rattle.coap_exchange.proofs.Responding.GoesBack.{sends_so}
 use Rattle.coap_exchange.proofs.laws.answerer_law.Goals as goal
 
 pub returns-clause-start : goal.returns-clause-start
@@ -15,6 +17,9 @@ returns-clause-start c = led_start
 
 pub returns-clause-step : goal.returns-clause-step
 returns-clause-step c = led_call
+
+pub returns-clause-steps : goal.returns-clause-steps
+returns-clause-steps c = led_exchanged
 
 pub returns-clause-law : goal.returns-clause-law
 returns-clause-law c = led_law
@@ -30,6 +35,9 @@ returns-clause-responses c word t law = (counted t law.rows).0
 
 pub returns-clause-requests : goal.returns-clause-requests
 returns-clause-requests c word t law = came_in word t law.rows law.left law.layer
+
+pub returns-clause-ends_none : goal.returns-clause-ends_none
+returns-clause-ends_none c word t law = hands_or_ends t law.rows
 
 pub returns-clause-ends : goal.returns-clause-ends
 returns-clause-ends c word t law = ends_once t
@@ -51,6 +59,9 @@ returns-clause-earliest c word t law = earliest t law.rows
 
 pub returns-clause-back : goal.returns-clause-back
 returns-clause-back c word t law = (sends_so word t law.rows law.left law.layer).0
+
+pub returns-clause-replied : goal.returns-clause-replied
+returns-clause-replied c word t law = are_replied t law.rows
 
 pub returns-clause-alone : goal.returns-clause-alone
 returns-clause-alone c word t law = (sends_so word t law.rows law.left law.layer).1

@@ -1,14 +1,16 @@
-use Rattle.coap_exchange.proofs.AskerLeading.{led_start, led_call, led_law, layer_stands}
-use Rattle.coap_exchange.proofs.AskerExactly.{exact}
-use Rattle.coap_exchange.proofs.AskerApart.{known}
-use Rattle.coap_exchange.proofs.AskerRefused.{refused}
-use Rattle.coap_exchange.proofs.AskerTokens.{counted}
-use Rattle.coap_exchange.proofs.AskerInTime.{in_time}
-use Rattle.coap_exchange.proofs.AskerDue.{when_due}
-use Rattle.coap_exchange.proofs.AskerKept.{few_kept}
-use Rattle.coap_exchange.proofs.AskerCame.{came_from}
-use Rattle.coap_exchange.proofs.AskerRejected.{rejected}
-use Rattle.coap_exchange.proofs.AskerResponses.{matched}
+use Rattle.coap_exchange.proofs.Leading.ClientLeads.{led_start, led_call, led_exchanged, led_law, layer_stands}
+use Rattle.coap_exchange.proofs.Exact.ClientExactly.{exact}
+use Rattle.coap_exchange.proofs.Exchanges.OneAtATime.{known}
+use Rattle.coap_exchange.proofs.Exchanges.RefusedWhileOneRuns.{refused}
+use Rattle.coap_exchange.proofs.Exchanges.TokensOnce.{counted}
+use Rattle.coap_exchange.proofs.Ending.NoEarlier.{in_time}
+use Rattle.coap_exchange.proofs.Ending.WhenDue.{when_due}
+use Rattle.coap_exchange.proofs.Exchanges.FewAreKept.{few_kept}
+use Rattle.coap_exchange.proofs.Telling.FromServer.{came_from}
+use Rattle.coap_exchange.proofs.Telling.ResetsAreOfRequest.{rejected}
+use Rattle.coap_exchange.proofs.Telling.KindsAreTold.{told_as}
+use Rattle.coap_exchange.proofs.Telling.EmptyReplies.{are_replied}
+use Rattle.coap_exchange.proofs.Telling.ResponsesMatch.{matched}
 use Rattle.coap_exchange.proofs.laws.asker_law.Goals as goal
 
 pub returns-clause-start : goal.returns-clause-start
@@ -16,6 +18,9 @@ returns-clause-start c = led_start
 
 pub returns-clause-step : goal.returns-clause-step
 returns-clause-step c = led_call
+
+pub returns-clause-steps : goal.returns-clause-steps
+returns-clause-steps c = led_exchanged
 
 pub returns-clause-law : goal.returns-clause-law
 returns-clause-law c = led_law
@@ -49,6 +54,12 @@ returns-clause-from_server c server word t law = came_from server word t law.row
 
 pub returns-clause-matched : goal.returns-clause-matched
 returns-clause-matched c server word t law = matched server word t law.rows
+
+pub returns-clause-told_as : goal.returns-clause-told_as
+returns-clause-told_as c server word t law = told_as server word t law.rows
+
+pub returns-clause-replied : goal.returns-clause-replied
+returns-clause-replied c server word t law = are_replied server word t law.rows
 
 pub returns-clause-rejected : goal.returns-clause-rejected
 returns-clause-rejected c server word t law = rejected server word t law.rows law.left law.layer

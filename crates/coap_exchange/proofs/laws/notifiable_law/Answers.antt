@@ -1,4 +1,4 @@
-use Rattle.coap_exchange.proofs.AskableLemmas.{notification_when_short}
+use Rattle.coap_exchange.proofs.Short.WhenShort.{notification_when_short}
 use Rattle.coap_exchange.proofs.laws.notifiable_law.Goals as goal
 
 pub returns : goal.returns

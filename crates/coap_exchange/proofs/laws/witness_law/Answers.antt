@@ -1,5 +1,5 @@
-use Rattle.coap_exchange.proofs.AskerWitness as asker
-use Rattle.coap_exchange.proofs.AnswererWitness as answerer
+use Rattle.coap_exchange.proofs.Witness.Client as asker
+use Rattle.coap_exchange.proofs.Witness.Server as answerer
 use Rattle.coap_exchange.proofs.laws.witness_law.Goals as goal
 
 pub returns-clause-client : goal.returns-clause-client

@@ -1,6 +1,6 @@
 use Rattle.std.proofs.Common.{◌≡◌, ◌++◌, ◌∷◌, [], true, false, rules, ap, ◌∙◌}
-use Rattle.coap_exchange.specs.Listed.{listed, listed_before}
-use Rattle.coap_exchange.proofs.ListedLemmas.{enlisted, enlisted_before}
+use Rattle.coap_exchange.specs.Machine.Listed.{listed, listed_before}
+use Rattle.coap_exchange.proofs.Calls.Lists.{enlisted, enlisted_before}
 use Rattle.coap_exchange.proofs.listed.enlist.Goals as goal
 
 pub returns-clause-now : goal.returns-clause-now

@@ -1,5 +1,5 @@
 use Rattle.std.proofs.lemmas.List.Edits.{map_over_more}
-use Rattle.coap_exchange.specs.Listed.{noted}
+use Rattle.coap_exchange.specs.Machine.Listed.{noted}
 use Rattle.coap_exchange.proofs.listed.note.Goals as goal
 
 pub loop-k-preserved : goal.loop-k-preserved

@@ -1,5 +1,5 @@
 use Rattle.std.proofs.Common.{◌≡◌, ◌++◌, take, drop, map}
-use Rattle.coap_exchange.specs.Listed.{noted}
+use Rattle.coap_exchange.specs.Machine.Listed.{noted}
 use Rattle.coap_exchange.proofs.listed.note.Given as goal
 
 abbrev pub invariant-loop-k : goal.invariant-loop-k

@@ -1,6 +1,6 @@
 use Rattle.std.proofs.Common.{ap, ◌∙◌}
-use Rattle.coap_exchange.specs.Listed.{listed}
-use Rattle.coap_exchange.proofs.ListedLemmas.{reverted_now}
+use Rattle.coap_exchange.specs.Machine.Listed.{listed}
+use Rattle.coap_exchange.proofs.Calls.Lists.{reverted_now}
 use Rattle.coap_exchange.proofs.listed.put_back.Goals as goal
 
 pub returns-clause-now : goal.returns-clause-now

@@ -1,5 +1,5 @@
 use Rattle.std.proofs.Common.{◌≡◌, ◌++◌, take, drop, map}
-use Rattle.coap_exchange.specs.Listed.{reverted}
+use Rattle.coap_exchange.specs.Machine.Listed.{reverted}
 use Rattle.coap_exchange.proofs.listed.revert.Given as goal
 
 abbrev pub invariant-loop-k : goal.invariant-loop-k

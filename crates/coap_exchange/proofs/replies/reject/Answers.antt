@@ -1,7 +1,7 @@
 use Rattle.std.proofs.Common.{rules, subst, sym, ◌∙◌}
-use Rattle.coap_layer.specs.Shown.{MayReply}
-use Rattle.coap_layer.specs.Ups.{answer_as}
-use Rattle.coap_exchange.proofs.AnswererCode.{rejected}
+use Rattle.coap_layer.specs.Machine.Shown.{MayReply}
+use Rattle.coap_layer.specs.Machine.Ups.{answer_as}
+use Rattle.coap_exchange.proofs.Calls.ServerCalls.{rejected}
 use Rattle.coap_exchange.proofs.replies.reject.Goals as goal
 
 pub reply-requires-clause-may : goal.reply-requires-clause-may

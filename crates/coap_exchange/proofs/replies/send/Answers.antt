@@ -1,5 +1,5 @@
 use Rattle.std.proofs.Common.{rules}
-use Rattle.coap_exchange.proofs.AnswererCode.{not_con, sent_con, sent_plain}
+use Rattle.coap_exchange.proofs.Calls.ServerCalls.{not_con, sent_con, sent_plain}
 use Rattle.coap_exchange.proofs.replies.send.Goals as goal
 
 pub returns-in-Con-clause-sent : goal.returns-in-Con-clause-sent

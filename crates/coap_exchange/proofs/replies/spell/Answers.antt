@@ -1,7 +1,7 @@
 use Rattle.std.proofs.Common.{rules, ◌<◌, subst, ap}
 use Rattle.coap_types.specs.declared.message.Kind.TheVariants.{Ack}
 use Rattle.coap_codec.specs.Refused.{HasNoSpelling}
-use Rattle.coap_layer.proofs.SpellingLemmas.{same_message, not_refused, spelled_so}
+use Rattle.coap_layer.proofs.Facts.Spelling.{same_message, not_refused, spelled_so}
 use Rattle.coap_exchange.specs.AnswererSteps.{content_of}
 use Rattle.coap_exchange.proofs.replies.spell.Goals as goal
 

@@ -1,6 +1,6 @@
 use Rattle.std.proofs.Common.{◌≡◌, drop}
 use Rattle.coap_exchange.specs.AnswererSteps.{found}
-use Rattle.coap_exchange.specs.Listed.{listed}
+use Rattle.coap_exchange.specs.Machine.Listed.{listed}
 use Rattle.coap_exchange.proofs.separate.found.Given as goal
 
 abbrev pub invariant-loop-k : goal.invariant-loop-k

@@ -1,5 +1,5 @@
 use Rattle.std.proofs.lemmas.List.Edits.{map_over_more}
-use Rattle.coap_exchange.specs.Outstanding.{over}
+use Rattle.coap_exchange.specs.Machine.Outstanding.{over}
 use Rattle.coap_exchange.proofs.separate.take_off.Goals as goal
 
 pub loop-k-preserved : goal.loop-k-preserved

@@ -1,5 +1,5 @@
 use Rattle.std.proofs.Common.{◌≡◌, ◌++◌, take, drop, map}
-use Rattle.coap_exchange.specs.Outstanding.{over}
+use Rattle.coap_exchange.specs.Machine.Outstanding.{over}
 use Rattle.coap_exchange.proofs.separate.take_off.Given as goal
 
 abbrev pub invariant-loop-k : goal.invariant-loop-k

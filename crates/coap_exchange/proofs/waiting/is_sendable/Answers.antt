@@ -1,7 +1,7 @@
 use Rattle.std.proofs.Common.{◌≡◌, Some, false, ◌∙◌, sym, subst}
-use Rattle.coap_layer.specs.State.{is_busy}
+use Rattle.coap_layer.specs.Machine.State.{is_busy}
 use Rattle.coap_exchange.specs.declared.answerer.Asked.{Asked}
-use Rattle.coap_exchange.proofs.AnswererTicks.{room_idle}
+use Rattle.coap_exchange.proofs.Calls.ServerTicks.{room_idle}
 use Rattle.coap_exchange.proofs.waiting.is_sendable.Goals as goal
 
 pub returns-clause-idle : goal.returns-clause-idle

@@ -1,7 +1,7 @@
 use Rattle.std.proofs.Common.{ap, ◌∙◌}
-use Rattle.coap_exchange.specs.Listed.{listed_before}
-use Rattle.coap_exchange.proofs.ListedLemmas.{over_before}
-use Rattle.coap_exchange.proofs.AnswererTicks.{failed_off}
+use Rattle.coap_exchange.specs.Machine.Listed.{listed_before}
+use Rattle.coap_exchange.proofs.Calls.Lists.{over_before}
+use Rattle.coap_exchange.proofs.Calls.ServerTicks.{failed_off}
 use Rattle.coap_exchange.proofs.waiting.off_where_failed.Goals as goal
 
 pub returns-in-Expired-clause-now : goal.returns-in-Expired-clause-now

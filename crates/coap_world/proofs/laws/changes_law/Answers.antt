@@ -1,4 +1,4 @@
-use Rattle.coap_ends.proofs.ServerHolds.{all_served}
+use Rattle.coap_ends.proofs.Holding.ServerHolds.{all_served}
 use Rattle.coap_world.specs.Record.{entries_of, server_trace}
 use Rattle.coap_world.proofs.Owned as O
 use Rattle.coap_world.proofs.laws.changes_law.Goals as goal

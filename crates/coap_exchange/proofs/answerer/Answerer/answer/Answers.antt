@@ -1,7 +1,7 @@
 use Rattle.std.proofs.Common.{ap}
-use Rattle.coap_exchange.specs.Listed.{listed}
-use Rattle.coap_exchange.proofs.AnswererLeading.{led_call}
-use Rattle.coap_exchange.proofs.AnswererCode.{answered}
+use Rattle.coap_exchange.specs.Machine.Listed.{listed}
+use Rattle.coap_exchange.proofs.Leading.ServerLeads.{led_call}
+use Rattle.coap_exchange.proofs.Calls.ServerCalls.{answered}
 use Rattle.coap_exchange.proofs.answerer.Answerer.answer.Goals as goal
 
 pub returns-clause-step : goal.returns-clause-step
@@ -14,4 +14,4 @@ returns-clause-step g c =
     )
 
 pub returns-clause-led : goal.returns-clause-led
-returns-clause-led g c word t led = let s = returns-clause-step g c in (s.0, led_call word t _ _ _ led s.1)
+returns-clause-led g c = let s = returns-clause-step g c in (s.0, λ word t led. led_call word t _ _ _ led s.1)

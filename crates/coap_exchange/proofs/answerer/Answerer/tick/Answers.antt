@@ -1,21 +1,24 @@
-use Rattle.std.proofs.Common.{◌≡◌, ◌<◌, refl, rules, ap, ◌∙◌, subst, arith}
+use Rattle.std.proofs.Common.{◌≡◌, ◌<◌, true, refl, sym, rules, ap, ◌∙◌, subst}
 use Rattle.std.specs.Vec.{vec_len, vec_capacity}
 use Rattle.std.specs.Option.{option_map}
-use Rattle.coap_layer.specs.State as L
+use Rattle.coap_layer.specs.Machine.State as L
 use Rattle.coap_layer.specs.Trace as T
 use Rattle.coap_exchange.specs.declared.separate.Deferred.{Deferred}
-use Rattle.coap_exchange.specs.AnswererShown.{own_with}
+use Rattle.coap_exchange.specs.Machine.AnswererShown.{own_with}
 use Rattle.coap_exchange.specs.AnswererSteps.{failed_by, ready_at, ready_if, separate_unless}
-use Rattle.coap_exchange.specs.Listed.{listed}
-use Rattle.coap_exchange.proofs.AnswererLeading.{led_call}
-use Rattle.coap_exchange.proofs.AnswererTicks.{asks_freely, asking_clock, may_respond, placed, ticked}
-use Rattle.coap_exchange.proofs.LayerFacts.{step_clock}
+use Rattle.coap_exchange.specs.Machine.Listed.{listed}
+use Rattle.coap_exchange.proofs.Leading.ServerLeads.{led_call}
+use Rattle.coap_exchange.proofs.Calls.ServerTicks.{asks_freely, asking_clock, may_respond, placed, readied, ticked, waits_its_turn}
+use Rattle.coap_exchange.proofs.Calls.RoomIsKept.{may_still, ticked_confirms}
+use Rattle.coap_exchange.proofs.Facts.CallsOfLayer.{step_clock}
 use Rattle.coap_exchange.proofs.answerer.Answerer.tick.Goals as goal
 
 pub is_sendable-room-requires : goal.is_sendable-room-requires
 is_sendable-room-requires g c =
     let step = c.in_ok-tick.ensures.step in
-    asks_freely c.make_room.new.layer c.tick.new.self c.args.now.0 c.in_ok-tick.tick step.0 step.1 step.2 c.ready-ready.result c.ready_if-ready.result c.ready_if-ready.ensures.idle c.in_ok-tick.ensures.kept c.in_ok-make_room.ensures.room
+    asks_freely c.make_room.new.layer c.tick.new.self c.args.now.0 c.in_ok-tick.tick step.0 step.1 step.2 c.unless_due-ready.result
+    (waits_its_turn c.self.inside.layer.state c.make_room.new.layer.state c.tick.new.self.state c.args.now.0 c.in_ok-tick.tick step.0 c.in_ok-make_room.ensures.state step.1 step.2 c.would_tick-due.result c.ready.result c.unless_due-ready.result c.would_tick-due.ensures.idle c.unless_due-ready.ensures)
+    c.in_ok-tick.ensures.kept c.in_ok-make_room.ensures.room
 
 pub invariant_of-self-2 : goal.invariant_of-self-2
 invariant_of-self-2 g c = (
@@ -23,10 +26,11 @@ invariant_of-self-2 g c = (
   λ may.
       let step = c.in_ok-tick.ensures.step in
       let sends = c.is_sendable-room.ensures in
-      let place : vec_len c.make_room.new.separate < vec_capacity c.make_room.new.separate =
-      placed c.make_room.new.layer c.tick.new.self c.args.now.0 c.in_ok-tick.tick step.0 step.1 step.2 (vec_len c.make_room.new.separate < vec_capacity c.make_room.new.separate) c.ready-ready.result c.ready_if-ready.result
-      c.ready_if-ready.ensures.idle (sends.some may) c.in_ok-make_room.ensures.place (sends.may may) in
-      (sends.room may, omega (arith, place)),
+      let which = waits_its_turn c.self.inside.layer.state c.make_room.new.layer.state c.tick.new.self.state c.args.now.0 c.in_ok-tick.tick step.0 c.in_ok-make_room.ensures.state step.1 step.2 c.would_tick-due.result c.ready.result c.unless_due-ready.result c.would_tick-due.ensures.idle c.unless_due-ready.ensures in
+      let place : c.is_sendable-room.result ≡ true → vec_len c.make_room.new.separate < vec_capacity c.make_room.new.separate =
+      λ now. placed c.make_room.new.layer c.tick.new.self c.args.now.0 c.in_ok-tick.tick step.0 step.1 step.2 (vec_len c.make_room.new.separate < vec_capacity c.make_room.new.separate) c.unless_due-ready.result
+      which (sends.some now) c.in_ok-make_room.ensures.place (sends.may now) in
+      search rules,
 )
 
 pub returns-clause-step : goal.returns-clause-step
@@ -35,20 +39,20 @@ returns-clause-step g c =
     let step = c.in_ok-tick.ensures.step in
     let now = c.args.now.0 in
     let d = ready_at (own_with i.layer.state.clock i.pending i.deferred (listed i.separate.items) i.ended) now in
-    let found : c.ready-ready.result ≡ option_map (λ (x : Deferred). x.asked) d = search (rules, c.ready-ready.ensures, c.max-at.ensures, c.clock.ensures, c.deref.ensures.value) in
-    let ready = c.ready_if-ready.ensures.ready step.0 d step.1 found in
+    let found : c.ready.result ≡ option_map (λ (x : Deferred). x.asked) d = search (rules, c.ready.ensures.first, c.max-at.ensures, c.clock.ensures, c.deref.ensures.value) in
+    let ready = readied i.layer.state c.make_room.new.layer.state c.tick.new.self.state now c.in_ok-tick.tick step.0 c.in_ok-make_room.ensures.state step.1 step.2 c.would_tick-due.result c.ready.result c.unless_due-ready.result d c.would_tick-due.ensures.idle c.would_tick-due.ensures.due c.unless_due-ready.ensures found in
     let list = c.settle_down.ensures.now ∙ ap listed c.in_ok-make_room.ensures.items in (
       step.0,
       c.is_sendable-room.result,
       ticked i.layer.state i.pending i.deferred (listed i.separate.items) i.ended c.args.self.now.state (ap (λ s. s.state) c.self.view_is) c.make_room.new.layer.state c.tick.new.self.state c.is_sendable-room.new.layer.state now step.0
           c.is_sendable-room.result c.due_of.result c.take-self-inside.new.self (listed c.unless_failed.new.separate.items) c.failed_by-self-inside.result c.in_ok-make_room.ensures.state step.2
-          (c.is_sendable-room.ensures.steps (ready_if step.0 d) ready) (c.due_of.ensures step.0 d step.1 ready) (search rules)
+          (c.is_sendable-room.ensures.steps (ready_if step.0 d) ready) (c.due_of.ensures.due step.0 d step.1 ready) (search rules)
           (c.unless_failed.ensures.now step.0 step.1 ∙ ap (separate_unless step.0) list)
           (c.failed_by-self-inside.ensures step.0 step.1 ∙ ap (failed_by step.0) (ap listed c.deref-2.ensures.value ∙ list)),
     )
 
 pub returns-clause-led : goal.returns-clause-led
-returns-clause-led g c word t led = let s = returns-clause-step g c in (s.0, s.1, led_call word t _ _ _ led s.2)
+returns-clause-led g c = let s = returns-clause-step g c in (s.0, s.1, λ word t led. led_call word t _ _ _ led s.2)
 
 pub returns-clause-ready : goal.returns-clause-ready
 returns-clause-ready g c a h =
@@ -56,12 +60,24 @@ returns-clause-ready g c a h =
     let step = c.in_ok-tick.ensures.step in
     let now = c.args.now.0 in
     let d = ready_at (own_with i.layer.state.clock i.pending i.deferred (listed i.separate.items) i.ended) now in
-    let found : c.ready-ready.result ≡ option_map (λ (x : Deferred). x.asked) d = search (rules, c.ready-ready.ensures, c.max-at.ensures, c.clock.ensures, c.deref.ensures.value) in
-    let ready = c.ready_if-ready.ensures.ready step.0 d step.1 found in
+    let found : c.ready.result ≡ option_map (λ (x : Deferred). x.asked) d = search (rules, c.ready.ensures.first, c.max-at.ensures, c.clock.ensures, c.deref.ensures.value) in
+    let ready = readied i.layer.state c.make_room.new.layer.state c.tick.new.self.state now c.in_ok-tick.tick step.0 c.in_ok-make_room.ensures.state step.1 step.2 c.would_tick-due.result c.ready.result c.unless_due-ready.result d c.would_tick-due.ensures.idle c.would_tick-due.ensures.due c.unless_due-ready.ensures found in
     let list = c.settle_down.ensures.now ∙ ap listed c.in_ok-make_room.ensures.items in
     let first : L.Step i.layer.state now T.Ticks step.0 c.tick.new.self.state = subst (λ x. L.Step x now T.Ticks step.0 c.tick.new.self.state) c.in_ok-make_room.ensures.state step.2 in
     let clock = asking_clock now (ready_if step.0 d) c.is_sendable-room.result c.tick.new.self.state c.is_sendable-room.new.layer.state i.layer.state.clock (step_clock i.layer.state c.tick.new.self.state now T.Ticks step.0 first)
     (c.is_sendable-room.ensures.steps (ready_if step.0 d) ready) in
     may_respond i.layer.state i.pending i.deferred (listed i.separate.items) i.ended c.is_sendable-room.new.layer.state now step.0 c.is_sendable-room.result c.due_of.result c.take-self-inside.new.self
-    (listed c.unless_failed.new.separate.items) c.failed_by-self-inside.result _ a refl refl clock (c.due_of.ensures step.0 d step.1 ready) (c.unless_failed.ensures.now step.0 step.1 ∙ ap (separate_unless step.0) list)
+    (listed c.unless_failed.new.separate.items) c.failed_by-self-inside.result _ a refl (λ sends. search rules) clock (c.due_of.ensures.due step.0 d step.1 ready) (c.unless_failed.ensures.now step.0 step.1 ∙ ap (separate_unless step.0) list)
     (λ may x is. c.is_sendable-room.ensures.idle may x (ready ∙ is)) c.is_sendable-room.ensures.free h
+
+pub returns-clause-kept : goal.returns-clause-kept
+returns-clause-kept g c at there may =
+    let i = c.self.inside in
+    let step = c.in_ok-tick.ensures.step in
+    let now = c.args.now.0 in
+    let d = ready_at (own_with i.layer.state.clock i.pending i.deferred (listed i.separate.items) i.ended) now in
+    let found : c.ready.result ≡ option_map (λ (x : Deferred). x.asked) d = search (rules, c.ready.ensures.first, c.max-at.ensures, c.clock.ensures, c.deref.ensures.value) in
+    let ready = readied i.layer.state c.make_room.new.layer.state c.tick.new.self.state now c.in_ok-tick.tick step.0 c.in_ok-make_room.ensures.state step.1 step.2 c.would_tick-due.result c.ready.result c.unless_due-ready.result d c.would_tick-due.ensures.idle c.would_tick-due.ensures.due c.unless_due-ready.ensures found in
+    may_still c.args.self.now _ i.layer.state c.is_sendable-room.new.layer.state at there (sym (ap (λ s. s.state.layer) c.self.view_is)) refl (λ h. search rules)
+    (ticked_confirms i.layer.state c.make_room.new.layer.state c.tick.new.self.state c.is_sendable-room.new.layer.state now c.in_ok-tick.tick step.0 (ready_if step.0 d) c.is_sendable-room.result c.in_ok-make_room.ensures.state step.1 step.2
+    (c.is_sendable-room.ensures.steps (ready_if step.0 d) ready) at there) may

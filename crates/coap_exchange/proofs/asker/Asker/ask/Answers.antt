@@ -1,8 +1,8 @@
 use Rattle.std.proofs.Common.{rules, ap, refl, []}
 use Rattle.coap_layer.specs.Trace as below
 use Rattle.coap_exchange.specs.declared.matching.Opening.TheVariants as openings
-use Rattle.coap_exchange.proofs.AskerLeading.{led_call}
-use Rattle.coap_exchange.proofs.AskCode.{refused, told_spent}
+use Rattle.coap_exchange.proofs.Leading.ClientLeads.{led_call}
+use Rattle.coap_exchange.proofs.Calls.AskingCalls.{refused, told_spent}
 use Rattle.coap_exchange.proofs.asker.Asker.ask.Goals as goal
 
 pub returns-in-Running-clause-step : goal.returns-in-Running-clause-step
@@ -20,10 +20,10 @@ returns-in-Spent-clause-step g c e = (
 )
 
 pub returns-in-Running-clause-led : goal.returns-in-Running-clause-led
-returns-in-Running-clause-led g c server begin t led e = let s = returns-in-Running-clause-step g c e in (s.0, led_call server begin t _ _ _ led s.1)
+returns-in-Running-clause-led g c e = let s = returns-in-Running-clause-step g c e in (s.0, λ server word t led. led_call server word t _ _ _ led s.1)
 
 pub returns-in-Spent-clause-led : goal.returns-in-Spent-clause-led
-returns-in-Spent-clause-led g c server begin t led e = let s = returns-in-Spent-clause-step g c e in (s.0, led_call server begin t _ _ _ led s.1)
+returns-in-Spent-clause-led g c e = let s = returns-in-Spent-clause-step g c e in (s.0, λ server word t led. led_call server word t _ _ _ led s.1)
 
 pub returns-in-Sends-clause-led : goal.returns-in-Sends-clause-led
-returns-in-Sends-clause-led g c server begin t led e = let s = c.send.ensures.step e in (s.0, led_call server begin t _ _ _ led s.1)
+returns-in-Sends-clause-led g c e = let s = c.send.ensures.step e in (s.0, λ server word t led. led_call server word t _ _ _ led s.1)

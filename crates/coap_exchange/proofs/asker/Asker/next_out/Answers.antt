@@ -1,5 +1,5 @@
 use Rattle.std.proofs.Common.{rules}
-use Rattle.coap_exchange.proofs.AskerLeading.{led_call}
+use Rattle.coap_exchange.proofs.Leading.ClientLeads.{led_call}
 use Rattle.coap_exchange.proofs.asker.Asker.next_out.Goals as goal
 
 pub returns-clause-step : goal.returns-clause-step

@@ -1,9 +1,12 @@
-use Rattle.std.proofs.Common.{rules, ap, sym, subst, ◌∙◌}
-use Rattle.coap_layer.specs.Shown.{MayReply}
-use Rattle.coap_layer.specs.Ups.{answer_as}
-use Rattle.coap_exchange.specs.AskerShown.{own_with}
-use Rattle.coap_exchange.proofs.AskerLeading.{led_call}
-use Rattle.coap_exchange.proofs.AskerCode.{received_old, replied}
+use Rattle.std.proofs.Common.{◌≤◌, IfSome, length, rules, ap, sym, subst, ◌∙◌}
+use Rattle.coap_layer.specs.Machine.Shown.{MayReply}
+use Rattle.coap_layer.specs.Machine.Ups.{answer_as}
+use Rattle.coap_exchange.specs.Machine.AskerShown.{own_with}
+use Rattle.coap_exchange.specs.AskerArrivals.{told}
+use Rattle.coap_exchange.specs.AskerFollows.{message_told}
+use Rattle.coap_exchange.proofs.Leading.ClientLeads.{led_call}
+use Rattle.coap_exchange.proofs.Telling.FewTokenBytes.{told_few}
+use Rattle.coap_exchange.proofs.Calls.ClientCalls.{received_old, replied}
 use Rattle.coap_exchange.proofs.asker.Asker.receive.Goals as goal
 
 pub act-requires : goal.act-requires
@@ -26,4 +29,12 @@ returns-clause-step g c =
     )
 
 pub returns-clause-led : goal.returns-clause-led
-returns-clause-led g c server word t led = let s = returns-clause-step g c in (s.0, s.1, led_call server word t _ _ _ led s.2)
+returns-clause-led g c = let s = returns-clause-step g c in (s.0, s.1, λ server word t led. led_call server word t _ _ _ led s.2)
+
+pub returns-clause-few : goal.returns-clause-few
+returns-clause-few g c =
+    let i = c.self.inside in
+    let up = answer_as c.in_ok-up.up in
+    let own = own_with i.layer.state.clock i.server i.word i.held in
+    let told_is = c.told.ensures ∙ ap (λ v. told v up) (c.verdict-verdict.ensures i.layer.state.clock i.word) in
+    subst (λ e. IfSome (message_told e) (λ m. length m.token ≤ 8)) (sym told_is) (told_few own i.layer.state c.receive.new.self.state c.args.now.0 c.args.from c.args.bytes.now up c.in_ok-up.ensures.step)

@@ -1,9 +1,9 @@
 use Rattle.std.proofs.Common.{◌≡◌, rules, ap, ◌∙◌, Err}
 use Rattle.coap_layer.specs.Trace as below
-use Rattle.coap_layer.specs.Ups as ups
+use Rattle.coap_layer.specs.Machine.Ups as ups
 use Rattle.coap_layer.specs.declared.up.SendRefusal.TheVariants as send
-use Rattle.coap_exchange.specs.AskerShown.{refusal_as}
-use Rattle.coap_exchange.proofs.AskCode.{sent_content, refused_content}
+use Rattle.coap_exchange.specs.Machine.AskerShown.{refusal_as}
+use Rattle.coap_exchange.proofs.Calls.AskingCalls.{sent_content, refused_content}
 use Rattle.coap_exchange.proofs.asker.Asker.send.Goals as goal
 
 pub returns-in-Ok-clause-step : goal.returns-in-Ok-clause-step

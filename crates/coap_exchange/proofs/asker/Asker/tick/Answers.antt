@@ -1,6 +1,6 @@
 use Rattle.std.proofs.Common.{rules, ap}
-use Rattle.coap_exchange.proofs.AskerLeading.{led_call}
-use Rattle.coap_exchange.proofs.AskerCode.{ticked_old}
+use Rattle.coap_exchange.proofs.Leading.ClientLeads.{led_call}
+use Rattle.coap_exchange.proofs.Calls.ClientCalls.{ticked_old}
 use Rattle.coap_exchange.proofs.asker.Asker.tick.Goals as goal
 
 pub returns-clause-step : goal.returns-clause-step
@@ -13,4 +13,4 @@ returns-clause-step g c =
     )
 
 pub returns-clause-led : goal.returns-clause-led
-returns-clause-led g c server word t led = let s = returns-clause-step g c in (s.0, led_call server word t _ _ _ led s.1)
+returns-clause-led g c = let s = returns-clause-step g c in (s.0, λ server word t led. led_call server word t _ _ _ led s.1)

@@ -1,0 +1,4 @@
+pub mod ClientExactly
+pub mod ServerExactly
+pub mod OneHandling
+pub mod StoreExactly

@@ -1,0 +1,7 @@
+pub mod ServerStore
+pub mod ServerHolds
+pub mod ServerStamps
+pub mod OneTag
+pub mod ContentIsOfAGet
+pub mod ServerShown
+pub mod ResponseReadsBack

@@ -1,0 +1,189 @@
+-- The versions of a server's changes are 1, 2, 3 and so on; a path holds its last change; what is served is served right.
+use Rattle.std.proofs.Common.{◌≡◌, inl, inr, ℕ, ◌+◌, ◌==◌, max, Bool, true, false, Option, Some, None, List, [], ◌∷◌, refl, ap, sym, subst, ◌∙◌, cond, arith, length}
+use Rattle.std.specs.Cmp.{unsigned_Decides}
+use Rattle.coap_types.specs.Path.{same_path}
+use Rattle.coap_types.proofs.PathLemmas.{same_path-decides}
+use Rattle.coap_types.specs.declared.message.Kind.{Kind}
+use Rattle.coap_resource.specs.Content.{Content, put_refusal}
+use Rattle.coap_resource.specs.Rate.{rate_refusal}
+use Rattle.coap_resource.specs.Serves.{Question}
+use Rattle.coap_resource.specs.Serves as R
+use Rattle.coap_exchange.specs.declared.answerer.Due.TheVariants as due
+use Rattle.coap_exchange.specs.AnswererTrace as E
+use Rattle.coap_ends.specs.ServerTrace.{Own, Silent, Refuses, Serves, Waits, Call, Sets, Removes, Delays, Feeds, Ticks, NextOut}
+use Rattle.coap_ends.specs.ServerChecks.{Verdict, Ignored, Refused, Asks, verdict_on}
+use Rattle.coap_ends.specs.ServerSteps.{IsRight, IsServed, Handles, AsksBy, AnswersWaiting, waits_by, delay_of, question_of, left_by, after}
+use Rattle.coap_ends.specs.ServerLaw.{own_of, ServerRows}
+use Rattle.coap_ends.specs.Follows.ServerFollows.{Serving, serving, Change, change_of, changed_by, change, counted, held_then, changes, held_at, HoldsChanges, AllServed, is_applied}
+use Rattle.coap_ends.proofs.Holding.ServerStore.{Effect, IsKept, IsChanged, served_effect, sets_effect, removes_effect, applied_whole, kept_or_applied}
+
+-- a handling that serves, in the rows
+module _ (old : Content) (at : ℕ) (q : Question) (reply : R.Reply) (response : E.Response) (left : Content) where
+  abbrev Here : Type 0
+  Here = R.Serves old at q reply left
+
+  is_served : (p : Question) → IsServed old at p (Serves q reply response left) → Here
+  is_served p s =
+      subst (λ w. R.Serves old at q reply w) (let e : s.left ≡ left = cc (s.is) in e)
+      (subst (λ w. R.Serves old at q w s.left) (let e : s.reply ≡ reply = cc (s.is) in e)
+      (subst (λ w. R.Serves old at w s.reply s.left) (let e : p ≡ q = cc (s.is) in e) s.serves))
+
+  asks_served : (o : Option ℕ) (p : Question) → AsksBy o old at p (Serves q reply response left) → Here
+  asks_served None p h = is_served p h
+  asks_served (Some delay) p h = absurd (cc h)
+
+  due_served : (o : Option Question) → AnswersWaiting o old at (Serves q reply response left) → Here
+  due_served None h = absurd (cc h)
+  due_served (Some p) h = is_served p h
+
+handles_served : (s : Own) (at : ℕ) (kind : Kind) (v : Verdict) (q : Question) (reply : R.Reply) (response : E.Response) (left : Content) → Handles s at kind v (Serves q reply response left) → R.Serves s.store at q reply left
+handles_served s at kind Ignored q reply response left h = absurd (cc h)
+handles_served s at kind (Refused code) q reply response left h = absurd (cc h)
+handles_served s at kind (Asks p) q reply response left h = asks_served s.store at q reply response left (waits_by kind (delay_of p.path s.delays) (length s.waiting)) p h
+
+-- a call that serves does so by the store's table
+pub serves_right : (szx : ℕ) (s : Own) (c : Call) → IsRight szx s c → (x : Serving) → serving s c ≡ Some x → (at : ℕ) × (x.old ≡ s.store) × R.Serves x.old at x.question x.reply x.left
+serves_right szx s (Feeds now from bytes word up (Some p) (Serves q reply response left) below) right x h =
+    let same : ◌≡◌ {A = Serving} (record { asked = p.0; question = q; reply = reply; old = s.store; left = left }) x = cc h in (
+      max s.clock now,
+      sym (ap (λ (y : Serving). y.old) same),
+      subst (λ (y : Serving). R.Serves y.old (max s.clock now) y.question y.reply y.left) same
+          (handles_served s (max s.clock now) p.0.kind (verdict_on szx p.1) q reply response left right),
+    )
+serves_right szx s (Ticks now word below room (due.Ready a) (Serves q reply response left) id answer) right x h =
+    let same : ◌≡◌ {A = Serving} (record { asked = a; question = q; reply = reply; old = s.store; left = left }) x = cc h in (
+      max s.clock now,
+      sym (ap (λ (y : Serving). y.old) same),
+      subst (λ (y : Serving). R.Serves y.old (max s.clock now) y.question y.reply y.left) same
+          (due_served s.store (max s.clock now) q reply response left (question_of (max s.clock now) a s.waiting) right.0),
+    )
+serves_right szx s (Feeds now from bytes word up None h below) right x e = absurd (cc e)
+serves_right szx s (Feeds now from bytes word up (Some p) Silent below) right x e = absurd (cc e)
+serves_right szx s (Feeds now from bytes word up (Some p) (Refuses r) below) right x e = absurd (cc e)
+serves_right szx s (Feeds now from bytes word up (Some p) (Waits q d) below) right x e = absurd (cc e)
+serves_right szx s (Ticks now word below room due.Idle h id answer) right x e = absurd (cc e)
+serves_right szx s (Ticks now word below room due.Copied h id answer) right x e = absurd (cc e)
+serves_right szx s (Ticks now word below room due.Expired h id answer) right x e = absurd (cc e)
+serves_right szx s (Ticks now word below room (due.Ready a) Silent id answer) right x e = absurd (cc e)
+serves_right szx s (Ticks now word below room (due.Ready a) (Refuses r) id answer) right x e = absurd (cc e)
+serves_right szx s (Ticks now word below room (due.Ready a) (Waits q d) id answer) right x e = absurd (cc e)
+serves_right szx s (Sets now path format body answer left) right x e = absurd (cc e)
+serves_right szx s (Removes now path answer left) right x e = absurd (cc e)
+serves_right szx s (Delays path ms answer) right x e = absurd (cc e)
+serves_right szx s (NextOut answer) right x e = absurd (cc e)
+
+-- what a change leaves
+
+is_same : (n : ℕ) → (n == n) ≡ true
+is_same n = (unsigned_Decides n n).1 refl
+
+is_next : (n m : ℕ) (b : Bool) → (n == m) ≡ b → n ≡ m + 1 → b ≡ false
+is_next n m true h k = let e : n ≡ m = (unsigned_Decides n m).0 h in absurd (omega (arith, e, k))
+is_next n m false h k = refl
+
+abbrev some_change : List (List ℕ) → Content → Change
+some_change path left = record { path = path; version = left.tally.version; held = left.holds path }
+
+none_kept : (path : List (List ℕ)) (old left : Content) → IsKept old left → change_of path old left ≡ None
+none_kept path old left k = ap (λ b. cond b None (Some (some_change path left))) (ap (λ v. v == old.tally.version) k.version ∙ is_same old.tally.version)
+
+one_changed : (path : List (List ℕ)) (old left : Content) → IsChanged path old left → change_of path old left ≡ Some (some_change path left)
+one_changed path old left k = ap (λ b. cond b None (Some (some_change path left))) (is_next left.tally.version old.tally.version (left.tally.version == old.tally.version) refl k.version)
+
+-- the change that a call makes of the store, and what is held then
+pub record Moves (old left : Content) (x : Option Change) : Type 0 where
+  pub version : left.tally.version ≡ counted x + old.tally.version
+  pub held : (path : List (List ℕ)) → left.holds path ≡ held_then path x (old.holds path)
+  pub new : (y : Change) → x ≡ Some y → y.version ≡ old.tally.version + 1
+
+held_by : (path other : List (List ℕ)) (old left : Content) → IsChanged path old left → (b : Bool) → same_path path other ≡ b → left.holds other ≡ cond b (left.holds path) (old.holds other)
+held_by path other old left k true h = ap left.holds (sym ((same_path-decides path other).0 h))
+held_by path other old left k false h = k.others other (λ e. let same : same_path path other ≡ true = (same_path-decides path other).1 (sym e) in cc (same, h))
+
+pub moves : (path : List (List ℕ)) (old left : Content) → Effect path old left → Moves old left (change_of path old left)
+moves path old left (inl k) =
+    subst (Moves old left) (sym (none_kept path old left k)) (record { version = (let v = k.version in omega (arith, v)); held = λ p. ap (λ f. f p) k.holds; new = λ y h. absurd (cc h) })
+moves path old left (inr k) =
+    subst (Moves old left) (sym (one_changed path old left k)) (
+    record {
+      version = (let v = k.version in omega (arith, v));
+      held = λ p. held_by path p old left k (same_path path p) refl;
+      new = λ y h. (let same : ◌≡◌ {A = Change} (some_change path left) y = cc h in let e : left.tally.version ≡ y.version = ap (λ (z : Change). z.version) same in let v = k.version in omega (arith, e, v));
+    })
+
+stays : (s : Own) → Moves s.store s.store None
+stays s = record { version = omega arith; held = λ path. refl; new = λ y h. absurd (cc h) }
+
+serving_moves : (szx : ℕ) (s : Own) (c : Call) → IsRight szx s c → (x : Serving) → serving s c ≡ Some x → Moves x.old x.left (change_of x.question.path x.old x.left)
+serving_moves szx s c right x h = let k = serves_right szx s c right x h in moves x.question.path x.old x.left (served_effect x.old k.0 x.question x.reply x.left k.2)
+
+pub moves_by : (szx : ℕ) (s : Own) (c : Call) → IsRight szx s c → Moves s.store (after s c).store (change s c)
+moves_by szx s (Sets now path format body answer left) right =
+    moves path s.store left (sets_effect (put_refusal s.store (max s.clock now) path (length body)) s.store (max s.clock now) path format body answer left right)
+moves_by szx s (Removes now path answer left) right =
+    moves path s.store left (removes_effect (s.store.holds path) (rate_refusal s.store.tally (max s.clock now)) s.store (max s.clock now) path answer left right)
+moves_by szx s (Delays path ms answer) right = stays s
+moves_by szx s (NextOut answer) right = stays s
+moves_by szx s (Feeds now from bytes word up (Some p) (Serves q reply response left) below) right = serving_moves szx s (Feeds now from bytes word up (Some p) (Serves q reply response left) below) right _ refl
+moves_by szx s (Ticks now word below room (due.Ready a) (Serves q reply response left) id answer) right = serving_moves szx s (Ticks now word below room (due.Ready a) (Serves q reply response left) id answer) right _ refl
+moves_by szx s (Feeds now from bytes word up None Silent below) right = stays s
+moves_by szx s (Feeds now from bytes word up None (Refuses r) below) right = stays s
+moves_by szx s (Feeds now from bytes word up None (Serves q reply response left) below) right = absurd (cc right)
+moves_by szx s (Feeds now from bytes word up None (Waits q d) below) right = stays s
+moves_by szx s (Feeds now from bytes word up (Some p) Silent below) right = stays s
+moves_by szx s (Feeds now from bytes word up (Some p) (Refuses r) below) right = stays s
+moves_by szx s (Feeds now from bytes word up (Some p) (Waits q d) below) right = stays s
+moves_by szx s (Ticks now word below room due.Idle h id answer) right = subst (λ w. Moves s.store (left_by w s.store) None) (sym right.0) (stays s)
+moves_by szx s (Ticks now word below room due.Copied h id answer) right = subst (λ w. Moves s.store (left_by w s.store) None) (sym right.0) (stays s)
+moves_by szx s (Ticks now word below room due.Expired h id answer) right = subst (λ w. Moves s.store (left_by w s.store) None) (sym right.0) (stays s)
+moves_by szx s (Ticks now word below room (due.Ready a) Silent id answer) right = stays s
+moves_by szx s (Ticks now word below room (due.Ready a) (Refuses r) id answer) right = stays s
+moves_by szx s (Ticks now word below room (due.Ready a) (Waits q d) id answer) right = stays s
+
+module _ (limit szx : ℕ) where
+  pub version_is : (t : List Call) → ServerRows limit szx t → (own_of limit szx t).store.tally.version ≡ changes limit szx t
+  version_is [] law = refl
+  version_is (c ∷ t) law = (moves_by szx (own_of limit szx t) c law.0).version ∙ ap (λ n. counted (change (own_of limit szx t) c) + n) (version_is t law.1)
+
+  pub held_is : (t : List Call) → ServerRows limit szx t → (path : List (List ℕ)) → (own_of limit szx t).store.holds path ≡ held_at limit szx path t
+  held_is [] law path = refl
+  held_is (c ∷ t) law path = (moves_by szx (own_of limit szx t) c law.0).held path ∙ ap (held_then path (change (own_of limit szx t) c)) (held_is t law.1 path)
+
+  pub holds_changes : (t : List Call) → ServerRows limit szx t → HoldsChanges limit szx t
+  holds_changes [] law = tt
+  holds_changes (c ∷ t) law = (
+    record {
+      version = λ x h. (moves_by szx (own_of limit szx t) c law.0).new x h ∙ ap (λ n. n + 1) (version_is t law.1);
+      held = held_is t law.1;
+    },
+    holds_changes t law.1,
+  )
+
+-- only what is applied changes anything
+
+served_changes : (s : Own) (c : Call) (x : Serving) (y : Change) → serving s c ≡ Some x → change s c ≡ Some y → change_of x.question.path x.old x.left ≡ Some y
+served_changes s (Sets now path format body answer left) x y h k = absurd (cc h)
+served_changes s (Removes now path answer left) x y h k = absurd (cc h)
+served_changes s (Delays path ms answer) x y h k = absurd (cc h)
+served_changes s (NextOut answer) x y h k = absurd (cc h)
+served_changes s (Feeds now from bytes word up came w below) x y h k = sym (ap changed_by h) ∙ k
+served_changes s (Ticks now word below room d w id answer) x y h k = sym (ap changed_by h) ∙ k
+
+applied_by : (szx : ℕ) (s : Own) (c : Call) → IsRight szx s c → (x : Serving) (y : Change) → serving s c ≡ Some x → change s c ≡ Some y → is_applied x.reply.code ≡ true
+applied_by szx s c right x y h k =
+    let r = serves_right szx s c right x h in
+    elim (kept_or_applied x.old r.0 x.question x.reply x.left r.2) [
+      | inl kept ↦ (let e = none_kept x.question.path x.old x.left kept in let f = served_changes s c x y h k in absurd (cc (e, f)))
+      | inr good ↦ good
+    ]
+
+pub all_served : (limit szx : ℕ) (t : List Call) → ServerRows limit szx t → AllServed limit szx t
+all_served limit szx [] law = tt
+all_served limit szx (c ∷ t) law = (
+  record {
+    serves = λ x h. (let k = serves_right szx (own_of limit szx t) c law.0 x h in (k.0, k.2));
+    applied = λ x h yes. (let k = serves_right szx (own_of limit szx t) c law.0 x h in applied_whole x k.0 k.2 yes);
+    changes_by = λ x y h k. applied_by szx (own_of limit szx t) c law.0 x y h k;
+  },
+  all_served limit szx t law.1,
+)

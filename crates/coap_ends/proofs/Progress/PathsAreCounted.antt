@@ -1,0 +1,205 @@
+-- A store counts its paths: where a path holds something, the count is not 0, and so each change can be made (RFC 7252, section 5.8).
+use Rattle.std.proofs.Common.{◌≡◌, ◌≢◌, inl, inr, ℕ, ◌+◌, ◌-◌, ◌≤◌, Bool, true, false, Option, Some, None, is_some, List, [], ◌∷◌, length, Result, refl, ap, sym, subst, ◌∙◌, cond, max, arith}
+use Rattle.coap_types.specs.Past.{Ever}
+use Rattle.coap_types.specs.Path.{same_path}
+use Rattle.coap_types.proofs.PathLemmas.{same_path-decides}
+use Rattle.coap_types.specs.declared.request.Method.{Method}
+use Rattle.coap_types.specs.declared.request.Method.TheVariants.{Get, Post, Put, Delete}
+use Rattle.coap_resource.specs.declared.refusal.StoreRefusal.{StoreRefusal}
+use Rattle.coap_resource.specs.Content.{Content, Held, Changes, unchanged, append_refusal, put_refusal}
+use Rattle.coap_resource.specs.Rate.{rate_refusal, counted}
+use Rattle.coap_resource.specs.RequestOptions.{precondition_fails}
+use Rattle.coap_resource.specs.Serves.{Question, Reply, PutBy, JoinBy, PostBy, RemoveBy, DeleteBy, ServesMethod, ServesUnless}
+use Rattle.coap_resource.specs.Serves as R
+use Rattle.coap_exchange.specs.declared.answerer.Due.TheVariants as due
+use Rattle.coap_ends.specs.ServerTrace.{Own, Silent, Refuses, Serves, Waits, Call, Sets, Removes, Delays, Feeds, Ticks, NextOut}
+use Rattle.coap_ends.specs.ServerSteps.{IsRight, SetsBy, RemovesBy, left_by, after}
+use Rattle.coap_ends.specs.ServerLaw.{own_of, ServerRows}
+use Rattle.coap_ends.specs.Follows.ServerFollows.{Serving, serving}
+use Rattle.coap_ends.proofs.Holding.ServerHolds.{serves_right}
+use Rattle.coap_ends.proofs.Progress.ServerStoreBounds.{left_is}
+
+-- so many paths, among them each that holds something
+pub record AreCounted (s : Content) : Type 0 where
+  pub paths : List (List (List ℕ))
+  pub many : length paths ≡ s.paths
+  pub each : (path : List (List ℕ)) (held : Held) → s.holds path ≡ Some held → Ever (λ p. p ≡ path) paths
+
+-- a store stays, or changes at one path
+pub data Moves (old left : Content) : Type 0 where
+  stays : left.holds ≡ old.holds → left.paths ≡ old.paths → Moves old left
+  moves : (at : ℕ) (path : List (List ℕ)) (now : Option Held) → Changes old at path now left → Moves old left
+
+-- a list without one of its paths
+
+record IsWithout (path : List (List ℕ)) (paths : List (List (List ℕ))) : Type 0 where
+  rest : List (List (List ℕ))
+  one : length rest + 1 ≡ length paths
+  others : (other : List (List ℕ)) → other ≢ path → Ever (λ p. p ≡ other) paths → Ever (λ p. p ≡ other) rest
+
+without : (path : List (List ℕ)) (paths : List (List (List ℕ))) → Ever (λ p. p ≡ path) paths → IsWithout path paths
+without path [] h = absurd h
+without path (p ∷ ps) (inl here) = record { rest = ps; one = omega arith; others = by }
+  where
+    by : (other : List (List ℕ)) → other ≢ path → Ever (λ q. q ≡ other) (p ∷ ps) → Ever (λ q. q ≡ other) ps
+    by other differs (inl is) = absurd (differs (sym is ∙ here))
+    by other differs (inr is) = is
+without path (p ∷ ps) (inr there) =
+    let k = without path ps there in
+    let one = k.one in
+    record { rest = p ∷ k.rest; one = omega (arith, one); others = by k.rest k.others }
+  where
+    by : (rest : List (List (List ℕ))) → ((other : List (List ℕ)) → other ≢ path → Ever (λ q. q ≡ other) ps → Ever (λ q. q ≡ other) rest)
+        → (other : List (List ℕ)) → other ≢ path → Ever (λ q. q ≡ other) (p ∷ ps) → Ever (λ q. q ≡ other) (p ∷ rest)
+    by rest f other differs (inl is) = inl is
+    by rest f other differs (inr is) = inr (f other differs is)
+
+-- what one change leaves
+module _ (old left : Content) (at : ℕ) (path : List (List ℕ)) (now : Option Held) (c : Changes old at path now left) (k : AreCounted old) where
+  each_by : (paths : List (List (List ℕ))) → ((held : Held) → now ≡ Some held → Ever (λ p. p ≡ path) paths)
+      → ((other : List (List ℕ)) → other ≢ path → Ever (λ p. p ≡ other) k.paths → Ever (λ p. p ≡ other) paths)
+      → (other : List (List ℕ)) (held : Held) → left.holds other ≡ Some held → Ever (λ p. p ≡ other) paths
+  each_by paths here there other held h = by (same_path path other) refl
+    where
+      by : (b : Bool) → same_path path other ≡ b → Ever (λ p. p ≡ other) paths
+      by true is =
+          let same = (same_path-decides path other).0 is in
+          subst (λ o. Ever (λ p. p ≡ o) paths) same (here held (sym c.there ∙ ap left.holds same ∙ h))
+      by false is =
+          let differs : other ≢ path = λ e. (let same : same_path path other ≡ true = (same_path-decides path other).1 (sym e) in cc (same, is)) in
+          there other differs (k.each other held (sym (c.others other differs) ∙ h))
+
+  change_counted : (was later : Option Held) → old.holds path ≡ was → now ≡ later → left.paths + cond (is_some was) 1 0 ≡ old.paths + cond (is_some later) 1 0 → AreCounted left
+  change_counted None None was is sum =
+      let many = k.many in
+      record { paths = k.paths; many = omega (arith, many, sum); each = each_by k.paths (λ held h. absurd (cc (h, is))) (λ other differs e. e) }
+  change_counted None (Some new) was is sum =
+      let many = k.many in
+      record { paths = path ∷ k.paths; many = omega (arith, many, sum); each = each_by (path ∷ k.paths) (λ held h. inl refl) (λ other differs e. inr e) }
+  change_counted (Some held) (Some new) was is sum =
+      let many = k.many in
+      record { paths = k.paths; many = omega (arith, many, sum); each = each_by k.paths (λ x h. k.each path held was) (λ other differs e. e) }
+  change_counted (Some held) None was is sum =
+      let many = k.many in
+      let w = without path k.paths (k.each path held was) in
+      let one = w.one in
+      record { paths = w.rest; many = omega (arith, many, sum, one); each = each_by w.rest (λ x h. absurd (cc (h, is))) w.others }
+
+counted_by : (old left : Content) → Moves old left → AreCounted old → AreCounted left
+counted_by old left (stays holds paths) k = record { paths = k.paths; many = k.many ∙ sym paths; each = λ path held h. k.each path held (sym (ap (λ f. f path) holds) ∙ h) }
+counted_by old left (moves at path now c) k = change_counted old left at path now c k (old.holds path) now refl refl c.paths
+
+-- a change can be made
+
+pub least : (s : Content) → AreCounted s → (path : List (List ℕ)) → cond (is_some (s.holds path)) 1 0 ≤ s.paths
+least s k path = by (s.holds path) refl
+  where
+    some : (paths : List (List (List ℕ))) → length paths ≡ s.paths → Ever (λ p. p ≡ path) paths → 1 ≤ s.paths
+    some [] many e = absurd e
+    some (p ∷ ps) many e = omega (arith, many)
+
+    by : (o : Option Held) → s.holds path ≡ o → cond (is_some o) 1 0 ≤ s.paths
+    by None h = omega arith
+    by (Some held) h = some k.paths k.many (k.each path held h)
+
+pub can_change : (old : Content) (at : ℕ) (path : List (List ℕ)) (now : Option Held) → AreCounted old → (left : Content) × Changes old at path now left
+can_change old at path now k =
+    let few = least old k path in (
+      record {
+        holds = λ p. cond (same_path p path) now (old.holds p);
+        paths = (old.paths + cond (is_some now) 1 0) - cond (is_some (old.holds path)) 1 0;
+        tally = counted old.tally at;
+      },
+      record {
+        there = ap (λ b. cond b now (old.holds path)) ((same_path-decides path path).1 refl);
+        others = λ other differs. at_other other differs (same_path other path) refl;
+        paths = omega (arith, few);
+        tally = refl;
+      },
+    )
+  where
+    at_other : (other : List (List ℕ)) → other ≢ path → (b : Bool) → same_path other path ≡ b → cond b now (old.holds other) ≡ old.holds other
+    at_other other differs true h = absurd (differs ((same_path-decides other path).0 h))
+    at_other other differs false h = refl
+
+-- a request, and a local change
+
+same_moves : (old left : Content) → left ≡ old → Moves old left
+same_moves old left h = stays (ap (λ (s : Content). s.holds) h) (ap (λ (s : Content). s.paths) h)
+
+unchanged_moves : (old left : Content) (at : ℕ) → left ≡ unchanged old at → Moves old left
+unchanged_moves old left at h = stays (ap (λ (s : Content). s.holds) h) (ap (λ (s : Content). s.paths) h)
+
+put_moves : (o : Option StoreRefusal) (old : Content) (at : ℕ) (q : Question) (reply : Reply) (left : Content) → PutBy o old at q reply left → Moves old left
+put_moves (Some why) old at q reply left h = unchanged_moves old left at h.1
+put_moves None old at q reply left h = moves at q.path _ h.1
+
+join_moves : (o : Option StoreRefusal) (was : Held) (old : Content) (at : ℕ) (q : Question) (reply : Reply) (left : Content) → JoinBy o was old at q reply left → Moves old left
+join_moves (Some why) was old at q reply left h = unchanged_moves old left at h.1
+join_moves None was old at q reply left h = moves at q.path _ h.1
+
+post_moves : (o : Option Held) (old : Content) (at : ℕ) (q : Question) (reply : Reply) (left : Content) → PostBy o old at q reply left → Moves old left
+post_moves None old at q reply left h = unchanged_moves old left at h.1
+post_moves (Some was) old at q reply left h = join_moves (append_refusal old at was (length q.body)) was old at q reply left h
+
+remove_moves : (o : Option StoreRefusal) (old : Content) (at : ℕ) (q : Question) (reply : Reply) (left : Content) → RemoveBy o old at q reply left → Moves old left
+remove_moves (Some why) old at q reply left h = unchanged_moves old left at h.1
+remove_moves None old at q reply left h = moves at q.path None h.1
+
+delete_moves : (o : Option Held) (old : Content) (at : ℕ) (q : Question) (reply : Reply) (left : Content) → DeleteBy o old at q reply left → Moves old left
+delete_moves None old at q reply left h = unchanged_moves old left at h.1
+delete_moves (Some was) old at q reply left h = remove_moves (rate_refusal old.tally at) old at q reply left h
+
+method_moves : (m : Method) (old : Content) (at : ℕ) (q : Question) (reply : Reply) (left : Content) → ServesMethod m old at q reply left → Moves old left
+method_moves Get old at q reply left h = same_moves old left h.1
+method_moves Post old at q reply left h = post_moves (old.holds q.path) old at q reply left h
+method_moves Put old at q reply left h = put_moves (put_refusal old at q.path (length q.body)) old at q reply left h
+method_moves Delete old at q reply left h = delete_moves (old.holds q.path) old at q reply left h
+
+unless_moves : (f : Bool) (old : Content) (at : ℕ) (q : Question) (reply : Reply) (left : Content) → ServesUnless f old at q reply left → Moves old left
+unless_moves true old at q reply left h = same_moves old left h.1
+unless_moves false old at q reply left h = method_moves q.method old at q reply left h
+
+served_moves : (old : Content) (at : ℕ) (q : Question) (reply : Reply) (left : Content) → R.Serves old at q reply left → Moves old left
+served_moves old at q reply left h = unless_moves (precondition_fails (old.holds q.path) q.options) old at q reply left h
+
+sets_moves : (o : Option StoreRefusal) (old : Content) (at : ℕ) (path : List (List ℕ)) (format : Option ℕ) (body : List ℕ) (answer : Result ℕ StoreRefusal) (left : Content) → SetsBy o old at path format body answer left → Moves old left
+sets_moves (Some why) old at path format body answer left h = unchanged_moves old left at h.1
+sets_moves None old at path format body answer left h = moves at path _ h.1
+
+removes_moves : (o : Option Held) (why : Option StoreRefusal) (old : Content) (at : ℕ) (path : List (List ℕ)) (answer : Result Bool StoreRefusal) (left : Content) → RemovesBy o why old at path answer left → Moves old left
+removes_moves None why old at path answer left h = unchanged_moves old left at h.1
+removes_moves (Some was) (Some why) old at path answer left h = unchanged_moves old left at h.1
+removes_moves (Some was) None old at path answer left h = moves at path None h.1
+
+-- a call, and all calls
+
+serving_moves : (szx : ℕ) (s : Own) (c : Call) → IsRight szx s c → (x : Serving) → serving s c ≡ Some x → Moves s.store (after s c).store
+serving_moves szx s c right x h =
+    let k = serves_right szx s c right x h in
+    subst (λ old. Moves old (after s c).store) k.1 (subst (Moves x.old) (sym (left_is s c x h)) (served_moves x.old k.0 x.question x.reply x.left k.2))
+
+kept : (old : Content) → Moves old old
+kept old = stays refl refl
+
+moves_by : (szx : ℕ) (s : Own) (c : Call) → IsRight szx s c → Moves s.store (after s c).store
+moves_by szx s (Sets now path format body answer left) right = sets_moves (put_refusal s.store (max s.clock now) path (length body)) s.store (max s.clock now) path format body answer left right
+moves_by szx s (Removes now path answer left) right = removes_moves (s.store.holds path) (rate_refusal s.store.tally (max s.clock now)) s.store (max s.clock now) path answer left right
+moves_by szx s (Delays path ms answer) right = kept s.store
+moves_by szx s (NextOut answer) right = kept s.store
+moves_by szx s (Feeds now from bytes word up (Some p) (Serves q reply response left) below) right = serving_moves szx s (Feeds now from bytes word up (Some p) (Serves q reply response left) below) right _ refl
+moves_by szx s (Ticks now word below room (due.Ready a) (Serves q reply response left) id answer) right = serving_moves szx s (Ticks now word below room (due.Ready a) (Serves q reply response left) id answer) right _ refl
+moves_by szx s (Feeds now from bytes word up None h below) right = subst (λ w. Moves s.store (left_by w s.store)) (sym right) (kept s.store)
+moves_by szx s (Feeds now from bytes word up (Some p) Silent below) right = kept s.store
+moves_by szx s (Feeds now from bytes word up (Some p) (Refuses r) below) right = kept s.store
+moves_by szx s (Feeds now from bytes word up (Some p) (Waits q delay) below) right = kept s.store
+moves_by szx s (Ticks now word below room due.Idle h id answer) right = subst (λ w. Moves s.store (left_by w s.store)) (sym right.0) (kept s.store)
+moves_by szx s (Ticks now word below room due.Copied h id answer) right = subst (λ w. Moves s.store (left_by w s.store)) (sym right.0) (kept s.store)
+moves_by szx s (Ticks now word below room due.Expired h id answer) right = subst (λ w. Moves s.store (left_by w s.store)) (sym right.0) (kept s.store)
+moves_by szx s (Ticks now word below room (due.Ready a) Silent id answer) right = kept s.store
+moves_by szx s (Ticks now word below room (due.Ready a) (Refuses r) id answer) right = kept s.store
+moves_by szx s (Ticks now word below room (due.Ready a) (Waits q delay) id answer) right = kept s.store
+
+pub store_counted : (limit szx : ℕ) (t : List Call) → ServerRows limit szx t → AreCounted (own_of limit szx t).store
+store_counted limit szx [] rows = record { paths = []; many = refl; each = λ path held h. absurd (cc h) }
+store_counted limit szx (c ∷ t) rows = counted_by (own_of limit szx t).store (own_of limit szx (c ∷ t)).store (moves_by szx (own_of limit szx t) c rows.0) (store_counted limit szx t rows.1)

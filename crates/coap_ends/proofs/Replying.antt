@@ -1,0 +1,6 @@
+pub mod ClientReplies
+pub mod ServerReplies
+pub mod ServerRepliesSo
+pub mod LayerSendsResponses
+pub mod ResponsesHaveRequests
+pub mod Sources

@@ -1,0 +1,5 @@
+pub mod ClientAnswers
+pub mod ClientOpen
+pub mod ClientHears
+pub mod ReportedOnce
+pub mod GivenInOrder

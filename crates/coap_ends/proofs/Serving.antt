@@ -1,0 +1,4 @@
+pub mod ServedWasHandedUp
+pub mod ServedOnce
+pub mod HandedUpAsOften
+pub mod ServerWaiting

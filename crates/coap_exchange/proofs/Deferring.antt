@@ -1,0 +1,2 @@
+pub mod EarliestFirst
+pub mod LongEnough

@@ -1,0 +1,4 @@
+pub mod LoneRequest
+pub mod NoEarlier
+pub mod RequestIsOutstanding
+pub mod WhenDue

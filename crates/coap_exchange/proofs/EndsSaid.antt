@@ -1,0 +1,4 @@
+pub mod AreOutstanding
+pub mod SaidOnce
+pub mod SaidWhereItEnds
+pub mod HandsOrEnds

@@ -1,0 +1,2 @@
+pub mod ClientExactly
+pub mod ServerExactly

@@ -1,0 +1,15 @@
+-- The law of the server's side: what leads to it, and what follows from it.
+use Rattle.std.proofs.Common.{List}
+use Rattle.coap_exchange.specs.AnswererTrace.{Call}
+use Rattle.coap_exchange.specs.AnswererLaw.{AnswererLaw}
+use Rattle.coap_exchange.specs.AnswererFollows.{AreResponses}
+use Rattle.coap_exchange.proofs.Responding.OneResponse.{counted}
+pub use Rattle.coap_exchange.proofs.Leading.ServerLeads.{led_start, led_call, led_exchanged, led_law, layer_stands, exchanged_join, exchanged_split, exchanged_own}
+pub use Rattle.coap_exchange.proofs.Exact.ServerExactly.{exact}
+pub use Rattle.coap_exchange.proofs.Responding.OneResponse.{same_asked_self, self_hits}
+pub use Rattle.coap_exchange.proofs.Responding.RequestsCame.{came_in}
+pub use Rattle.coap_exchange.proofs.EndsSaid.AreOutstanding.{waits}
+pub use Rattle.coap_exchange.proofs.EndsSaid.HandsOrEnds.{none_ended, hands_or_ends}
+
+pub are_responses : (t : List Call) → AnswererLaw t → AreResponses t
+are_responses t law = (counted t law).0

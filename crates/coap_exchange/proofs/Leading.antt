@@ -1,0 +1,2 @@
+pub mod ClientLeads
+pub mod ServerLeads

@@ -1,0 +1,4 @@
+pub mod GoesBack
+pub mod OneResponse
+pub mod RequestsCame
+pub mod EmptyReplies

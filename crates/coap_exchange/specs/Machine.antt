@@ -1,0 +1,4 @@
+pub mod Listed
+pub mod Outstanding
+pub mod AskerShown
+pub mod AnswererShown

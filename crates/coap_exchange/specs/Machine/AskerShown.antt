@@ -1,0 +1,42 @@
+-- What contracts see of a client's side.
+use Rattle.std.specs.Prelude.{◌≤◌, ℕ, Option, Some, None, List, ◌∷◌, length}
+use Rattle.coap_types.specs.declared.endpoint.Endpoint.{Endpoint}
+use Rattle.coap_layer.specs.Sendable.{IsSendable}
+use Rattle.coap_layer.specs.Machine.State as L
+use Rattle.coap_layer.specs.declared.up.SendRefusal.{SendRefusal}
+use Rattle.coap_layer.specs.declared.up.SendRefusal.TheVariants as send
+use Rattle.coap_exchange.specs.declared.asker.AskRefusal.{AskRefusal}
+use Rattle.coap_exchange.specs.declared.asker.AskRefusal.TheVariants as refusal
+use Rattle.coap_exchange.specs.declared.held.Held.{Held}
+use Rattle.coap_exchange.specs.AskerTrace.{Request, Own, Call}
+use Rattle.coap_exchange.specs.AskerRequests.{content_of}
+use Rattle.coap_exchange.specs.AskerLaw.{State, Led}
+
+-- its state, and the state that `undo` would leave
+pub record Shown : Type 0 where
+  pub state : State
+  pub before : Option State
+
+-- what led to the one leads by this call to the other
+abbrev pub Leads : Shown → Call → Shown → Type 0
+Leads old c new = (server : Endpoint) (word : ℕ) (t : List Call) → Led server word t old.state → Led server word (c ∷ t) new.state
+
+abbrev pub own_with : ℕ → Endpoint → ℕ → Held → Own
+own_with clock server word held = record { clock = clock; server = server; word = word; given = held.given; running = held.running; kept = held.kept }
+
+abbrev pub state_of : L.State → Endpoint → ℕ → Held → State
+state_of l server word held = record { own = own_with l.clock server word held; layer = l }
+
+abbrev pub before_of : Option L.State → Endpoint → ℕ → Held → Option State
+before_of None server word held = None
+before_of (Some l) server word held = Some (state_of l server word held)
+
+-- with any token of at most 8 bytes, the request can be sent
+abbrev pub IsAskable : Request → Type 0
+IsAskable r = (token : List ℕ) → length token ≤ 8 → IsSendable (content_of token r)
+
+-- why a request is refused, by why its message is
+abbrev pub refusal_as : SendRefusal → AskRefusal
+refusal_as send.Outstanding = refusal.Running
+refusal_as send.NoIds = refusal.NoIds
+refusal_as send.Memory = refusal.Memory
