@@ -2,17 +2,16 @@
 use Rattle.std.proofs.Common.{◌≡◌, ◌≤◌, ◌<◌, ◌-◌, ℕ, true, false, nat_le, nat_lt, Option, Some, None, List, [], ◌∷◌, ◌++◌, length, refl, arith}
 use Rattle.std.specs.List.{list_all}
 use Rattle.std.proofs.lemmas.List.{length-append}
-use Rattle.std.proofs.lemmas.Bool.{and_parts, leb-true, ltb-true}
+use Rattle.std.proofs.lemmas.Bool.{and_parts}
 use Rattle.std.proofs.lemmas.Bool.Decides.{nat_tests}
 use Rattle.coap_types.specs.CoapOption.{CoapOption}
 use Rattle.coap_types.specs.MethodCode.{method_code}
 use Rattle.coap_types.specs.declared.request.Method.{Method}
 use Rattle.coap_types.specs.declared.request.Method.TheVariants.{Get, Post, Put, Delete}
 use Rattle.coap_codec.specs.BoundedSpelling.{is_numbered}
-use Rattle.coap_codec.specs.Options.{Options}
 use Rattle.coap_codec.specs.Refused.{ascends, is_short}
 use Rattle.coap_codec.specs.Spelling.{more, option_bytes, options_bytes}
-use Rattle.coap_codec.proofs.SpellLemmas.{option_is}
+use Rattle.coap_codec.proofs.Facts.Spelling.{options_spelled}
 use Rattle.std.proofs.lemmas.Bool.{le-leb, and_from}
 use Rattle.coap_layer.specs.Rows.{IsSpelled}
 use Rattle.coap_exchange.specs.AskerRequests.{content_of}
@@ -21,17 +20,6 @@ use Rattle.coap_types.specs.declared.option_number.TheConstants.{CONTENT_FORMAT 
 use Rattle.coap_ends.specs.declared.limits.TheConstants.{MAX_OPTIONS_LEN as max_options}
 use Rattle.coap_ends.specs.ClientRequests.{path_options, more_options, options_of, message_of, longest}
 use Rattle.coap_types.specs.OptionValues.{uint_option}
-
--- options that ascend, have numbers and are short, have a spelling
-pub options_spelled : (os : List CoapOption) (base : ℕ) → ascends base os ≡ true → list_all is_numbered os ≡ true → list_all is_short os ≡ true → Options base (options_bytes base os) os
-unfolding options_bytes
-options_spelled [] base order numbers short = refl
-options_spelled (o ∷ os) base order numbers short =
-    let p = and_parts (nat_le base o.number) (ascends o.number os) order in
-    let n = and_parts (is_numbered o) (list_all is_numbered os) numbers in
-    let q = and_parts (is_short o) (list_all is_short os) short in
-    let first = option_is base o (leb-true base o.number p.0) (ltb-true o.number 65536 n.0) (leb-true (length o.value) 65804 q.0) in
-    (option_bytes base o, options_bytes o.number os, refl, first, options_spelled os o.number p.1 n.1 q.1)
 
 -- options whose bytes are few are short
 short_front : (os tail : List CoapOption) (base : ℕ) → length (options_bytes base (os ++ tail)) ≤ 115 → list_all is_short os ≡ true

@@ -18,7 +18,7 @@ use Rattle.coap_types.specs.OptionValues.{option_with}
 use Rattle.coap_resource.specs.Serves.{Reply}
 use Rattle.coap_exchange.specs.AnswererSteps.{content_with, IsResponseWith}
 use Rattle.coap_ends.specs.ServerSteps.{bare}
-use Rattle.coap_ends.proofs.Progress.ClientSpelled.{options_spelled}
+use Rattle.coap_codec.proofs.Facts.Spelling.{options_spelled}
 use Rattle.coap_types.proofs.Facts.Uints.{few_bytes, uint_spells}
 use Rattle.coap_ends.proofs.Progress.StoreAnswers.{IsGood}
 
