@@ -285,7 +285,7 @@ impl<A: Allocator + Copy, S: BuildHasher> Answerer<A, S> {
         ensures quiet { copies (max self.old.state.own.clock now.0) self.old.state.layer.open_cons ≡ [] → (is_some (ready_at self.old.state.own now.0) && is_free (max self.old.state.own.clock now.0) self.old.state.layer.upcoming self.old.state.layer.last_used) ≡ false → IsOk result }
         ensures fails { copies (max self.old.state.own.clock now.0) self.old.state.layer.open_cons ≡ [] → answer_of self.old.state.layer (max self.old.state.layer.clock now.0) below.Ticks ≢ below.Idle → IsOk result }
     {
-        let at = self.layer.clock().0.max(now.0);
+        let at = Moment(self.layer.clock().0.max(now.0));
         let due = self.layer.would_tick(now);
         let ready = unless_due(due, self.deferred.ready(at, &self.separate));
         make_room(&mut self.layer, &mut self.separate, now, &ready)?;
@@ -321,8 +321,7 @@ impl<A: Allocator + Copy, S: BuildHasher> Answerer<A, S> {
             response,
             word,
         );
-        self.deferred
-            .take_ready(self.layer.clock().0, &self.separate);
+        self.deferred.take_ready(self.layer.clock(), &self.separate);
         let separate = separate_of(asked.from, id, &asked.token, response);
         enlist(&mut self.separate, separate);
         self.pending = None;

@@ -151,7 +151,7 @@ pub(crate) fn turn_of(server: Endpoint, held: &Held, at: Moment, tick: Tick) -> 
     match tick {
         Tick::Expired(to, id) => expired(is_of_request(server, held, to, id)),
         Tick::Copied(_) => Turn::Copied,
-        Tick::Idle => waited(has_waited(at.0, &held.running)),
+        Tick::Idle => waited(has_waited(at, &held.running)),
     }
 }
 

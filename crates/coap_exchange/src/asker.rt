@@ -250,7 +250,7 @@ impl<A: Allocator + Copy, S: BuildHasher> Asker<A, S> {
         );
         self.before = self.held.copy();
         let running = self.held.running.take();
-        self.held.running = after_arrival(at.0, verdict, running);
+        self.held.running = after_arrival(at, verdict, running);
         Ok(told(verdict, up))
     }
 

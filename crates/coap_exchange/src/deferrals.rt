@@ -7,6 +7,7 @@ use crate::answerer::Asked;
 use crate::listed::Listed;
 use crate::separate::{Deferred, Separate, is_ready};
 use arrayvec::ArrayVec;
+use coap_types::Moment;
 use std::marker::Model;
 
 /// So many requests are deferred at most (profile).
@@ -42,9 +43,9 @@ fn copied(requests: &[Deferred]) -> ArrayVec<Deferred, MAX_DEFERRED>
 }
 
 // The first that is ready.
-fn first_ready(requests: &[Deferred], at: u64, separate: &[Listed<Separate>]) -> Option<Asked>
+fn first_ready(requests: &[Deferred], at: Moment, separate: &[Listed<Separate>]) -> Option<Asked>
     ensures few { IfSome result (λ a. length a.token ≤ 8) }
-    ensures first { result ≡ option_map (λ d. d.asked) (first_ready at (listed separate.now) requests.now) }
+    ensures first { result ≡ option_map (λ d. d.asked) (first_ready at.0 (listed separate.now) requests.now) }
 {
     for request in requests {
         if is_ready(request, at, separate) {
@@ -55,10 +56,10 @@ fn first_ready(requests: &[Deferred], at: u64, separate: &[Listed<Separate>]) ->
 }
 
 // Where the first that is ready stands.
-fn ready_place(requests: &[Deferred], at: u64, separate: &[Listed<Separate>]) -> Option<usize>
+fn ready_place(requests: &[Deferred], at: Moment, separate: &[Listed<Separate>]) -> Option<usize>
     ensures within { IfSome result (λ i. i < length requests.now) }
-    ensures taken { IfSome result (λ i. remove requests.now i ≡ without_ready at (listed separate.now) requests.now) }
-    ensures none { IfNone result (requests.now ≡ without_ready at (listed separate.now) requests.now) }
+    ensures taken { IfSome result (λ i. remove requests.now i ≡ without_ready at.0 (listed separate.now) requests.now) }
+    ensures none { IfNone result (requests.now ≡ without_ready at.0 (listed separate.now) requests.now) }
 {
     let mut i = 0;
     while i < requests.len() {
@@ -89,16 +90,16 @@ impl Deferrals {
     }
 
     /// The first that is ready at this moment.
-    pub(crate) fn ready(&self, at: u64, separate: &[Listed<Separate>]) -> Option<Asked>
+    pub(crate) fn ready(&self, at: Moment, separate: &[Listed<Separate>]) -> Option<Asked>
         ensures few { IfSome result (λ a. length a.token ≤ 8) }
-        ensures first { result ≡ option_map (λ d. d.asked) (first_ready at (listed separate.now) self.now) }
+        ensures first { result ≡ option_map (λ d. d.asked) (first_ready at.0 (listed separate.now) self.now) }
     {
         first_ready(self.requests.as_slice(), at, separate)
     }
 
     /// Takes out the first that is ready at this moment.
-    pub(crate) fn take_ready(&mut self, at: u64, separate: &[Listed<Separate>])
-        ensures { self.new ≡ without_ready at (listed separate.now) self.old }
+    pub(crate) fn take_ready(&mut self, at: Moment, separate: &[Listed<Separate>])
+        ensures { self.new ≡ without_ready at.0 (listed separate.now) self.old }
     {
         if let Some(place) = ready_place(self.requests.as_slice(), at, separate) {
             let _ = self.requests.remove(place);

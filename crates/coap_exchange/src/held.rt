@@ -7,7 +7,7 @@ use crate::asker::{Exchange, Turn};
 use crate::kept_tokens::KeptTokens;
 use crate::matching::Verdict;
 use coap_types::transmission::EXCHANGE_LIFETIME_MS;
-use coap_types::{Id, Token};
+use coap_types::{Id, Moment, Token};
 
 /// What a client's side keeps beside its layer.
 #[derive(Drop)]
@@ -109,18 +109,18 @@ pub(crate) fn is_cancel(running: &Option<Exchange>) -> bool
 
 /// What an arrival leaves of it.
 pub(crate) fn after_arrival(
-    at: u64,
+    at: Moment,
     verdict: Verdict,
     running: Option<Exchange>,
 ) -> Option<Exchange>
-    ensures { result ≡ running_after at verdict running }
+    ensures { result ≡ running_after at.0 verdict running }
 {
     match verdict {
         Verdict::AnswerCon | Verdict::Answer | Verdict::EndByReset => None,
         Verdict::Await => {
             let exchange = running?;
             Some(Exchange {
-                acked: Some(at),
+                acked: Some(at.0),
                 ..exchange
             })
         }
@@ -133,8 +133,8 @@ pub(crate) fn after_arrival(
 }
 
 /// Whether the wait for its separate response is over (RFC 7252, section 5.2.2).
-pub(crate) fn has_waited(at: u64, running: &Option<Exchange>) -> bool
-    ensures { result ≡ has_waited at (acked_in running.now) }
+pub(crate) fn has_waited(at: Moment, running: &Option<Exchange>) -> bool
+    ensures { result ≡ has_waited at.0 (acked_in running.now) }
 {
     match running {
         Some(
@@ -142,7 +142,7 @@ pub(crate) fn has_waited(at: u64, running: &Option<Exchange>) -> bool
                 acked: Some(acked),
                 ..
             },
-        ) => at.saturating_sub(*acked) >= EXCHANGE_LIFETIME_MS,
+        ) => at.0.saturating_sub(*acked) >= EXCHANGE_LIFETIME_MS,
         _ => false,
     }
 }

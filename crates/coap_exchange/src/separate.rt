@@ -6,7 +6,7 @@ ghost use Rattle.coap_exchange.specs.Machine.Outstanding.{over};
 
 use crate::answerer::{Asked, Ended};
 use crate::listed::Listed;
-use coap_types::{Endpoint, Id, Kind, Token};
+use coap_types::{Endpoint, Id, Kind, Moment, Token};
 
 /// A request whose response is deferred (RFC 7252, section 5.2.2).
 #[derive(Drop)]
@@ -116,9 +116,9 @@ pub(crate) fn take_off(list: &mut [Listed<Separate>], to: Endpoint, id: Id)
 
 /// Whether the delay of a deferred request has passed, and its endpoint has no response that is not
 /// acknowledged.
-pub(crate) fn is_ready(deferred: &Deferred, at: u64, separate: &[Listed<Separate>]) -> bool
-    ensures { result ≡ is_ready at (listed separate.now) deferred.now }
+pub(crate) fn is_ready(deferred: &Deferred, at: Moment, separate: &[Listed<Separate>]) -> bool
+    ensures { result ≡ is_ready at.0 (listed separate.now) deferred.now }
 {
-    at.saturating_sub(deferred.at) >= deferred.delay
+    at.0.saturating_sub(deferred.at) >= deferred.delay
         && !is_waited_for(separate, deferred.asked.from)
 }

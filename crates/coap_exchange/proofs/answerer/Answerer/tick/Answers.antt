@@ -39,7 +39,7 @@ returns-clause-step g c =
     let step = c.in_ok-tick.ensures.step in
     let now = c.args.now.0 in
     let d = ready_at (own_with i.layer.state.clock i.pending i.deferred (listed i.separate.items) i.ended) now in
-    let found : c.ready.result ≡ option_map (λ (x : Deferred). x.asked) d = search (rules, c.ready.ensures.first, c.max-at.ensures, c.clock.ensures, c.deref.ensures.value) in
+    let found : c.ready.result ≡ option_map (λ (x : Deferred). x.asked) d = search (rules, c.ready.ensures.first, c.max.ensures, c.clock.ensures, c.deref.ensures.value) in
     let ready = readied i.layer.state c.make_room.new.layer.state c.tick.new.self.state now c.in_ok-tick.tick step.0 c.in_ok-make_room.ensures.state step.1 step.2 c.would_tick-due.result c.ready.result c.unless_due-ready.result d c.would_tick-due.ensures.idle c.would_tick-due.ensures.due c.unless_due-ready.ensures found in
     let list = c.settle_down.ensures.now ∙ ap listed c.in_ok-make_room.ensures.items in (
       step.0,
@@ -60,7 +60,7 @@ returns-clause-ready g c a h =
     let step = c.in_ok-tick.ensures.step in
     let now = c.args.now.0 in
     let d = ready_at (own_with i.layer.state.clock i.pending i.deferred (listed i.separate.items) i.ended) now in
-    let found : c.ready.result ≡ option_map (λ (x : Deferred). x.asked) d = search (rules, c.ready.ensures.first, c.max-at.ensures, c.clock.ensures, c.deref.ensures.value) in
+    let found : c.ready.result ≡ option_map (λ (x : Deferred). x.asked) d = search (rules, c.ready.ensures.first, c.max.ensures, c.clock.ensures, c.deref.ensures.value) in
     let ready = readied i.layer.state c.make_room.new.layer.state c.tick.new.self.state now c.in_ok-tick.tick step.0 c.in_ok-make_room.ensures.state step.1 step.2 c.would_tick-due.result c.ready.result c.unless_due-ready.result d c.would_tick-due.ensures.idle c.would_tick-due.ensures.due c.unless_due-ready.ensures found in
     let list = c.settle_down.ensures.now ∙ ap listed c.in_ok-make_room.ensures.items in
     let first : L.Step i.layer.state now T.Ticks step.0 c.tick.new.self.state = subst (λ x. L.Step x now T.Ticks step.0 c.tick.new.self.state) c.in_ok-make_room.ensures.state step.2 in
@@ -76,7 +76,7 @@ returns-clause-kept g c at there may =
     let step = c.in_ok-tick.ensures.step in
     let now = c.args.now.0 in
     let d = ready_at (own_with i.layer.state.clock i.pending i.deferred (listed i.separate.items) i.ended) now in
-    let found : c.ready.result ≡ option_map (λ (x : Deferred). x.asked) d = search (rules, c.ready.ensures.first, c.max-at.ensures, c.clock.ensures, c.deref.ensures.value) in
+    let found : c.ready.result ≡ option_map (λ (x : Deferred). x.asked) d = search (rules, c.ready.ensures.first, c.max.ensures, c.clock.ensures, c.deref.ensures.value) in
     let ready = readied i.layer.state c.make_room.new.layer.state c.tick.new.self.state now c.in_ok-tick.tick step.0 c.in_ok-make_room.ensures.state step.1 step.2 c.would_tick-due.result c.ready.result c.unless_due-ready.result d c.would_tick-due.ensures.idle c.would_tick-due.ensures.due c.unless_due-ready.ensures found in
     may_still c.args.self.now _ i.layer.state c.is_sendable-room.new.layer.state at there (sym (ap (λ s. s.state.layer) c.self.view_is)) refl (λ h. search rules)
     (ticked_confirms i.layer.state c.make_room.new.layer.state c.tick.new.self.state c.is_sendable-room.new.layer.state now c.in_ok-tick.tick step.0 (ready_if step.0 d) c.is_sendable-room.result c.in_ok-make_room.ensures.state step.1 step.2
