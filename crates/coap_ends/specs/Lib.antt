@@ -9,3 +9,4 @@ pub mod ServerChecks
 pub mod ServerSteps
 pub mod ServerLaw
 pub mod Adds
+pub mod WholeServer
