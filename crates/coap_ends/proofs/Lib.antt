@@ -7,3 +7,4 @@ pub mod Reporting
 pub mod Serving
 pub mod Replying
 pub mod Holding
+pub mod WholeClient

@@ -8,3 +8,4 @@ pub mod ServerTrace
 pub mod ServerChecks
 pub mod ServerSteps
 pub mod ServerLaw
+pub mod WholeClient

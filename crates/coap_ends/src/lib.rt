@@ -3,6 +3,10 @@
 
 mod laws;
 mod limits;
+mod refusals;
+mod whole_client;
 
 pub use laws::{client_law, server_law};
-pub use limits::{MAX_DELAYS, MAX_OPTIONS_LEN, MAX_WAITING_CALLS};
+pub use limits::{MAX_DELAYS, MAX_OBSERVATIONS, MAX_OPTIONS_LEN, MAX_WAITING_CALLS};
+pub use refusals::{CallRefusal, CancelRefusal};
+pub use whole_client::{whole_client_law, whole_client_witness};

@@ -1,0 +1,3 @@
+pub mod ClientLeading
+pub mod ClientExactly
+pub mod ClientWitness
