@@ -16,3 +16,9 @@ pub mod ClientLaw
 pub mod ClientStep
 pub mod ClientExact
 pub mod ClientExample
+pub mod ClientWords
+pub mod ClientPlaces
+pub mod ClientAnswered
+pub mod ClientAnswers
+pub mod ClientBlocks
+pub mod ClientHolds
