@@ -180,12 +180,14 @@ closed_retains s m e token asks h Rests is = h
 closed_retains s m e token asks h (Keeps t) is = record { per = h.per }
 closed_retains s m e token asks h (Releases t) is = record { per = h.per }
 closed_retains s m e (Ok key) asks h (Asks op) is = record { per = λ n. let a = h.per n in let b = ap (final_of n) (asks op is).0 in omega (arith, a, b) }
-closed_retains s m e (Err why) asks h (Asks op) is = record { per = λ n.
-    let a = h.per n in
-    let b = ap (final_of n) (asks op is).0 in
-    let f = failed_retains e.own has_sent R.NoIds refl (Some op) (asks op is).1 in
-    let f2 = f.per n in
-    omega (arith, a, b, f2) }
+closed_retains s m e (Err why) asks h (Asks op) is = record {
+  per = λ n.
+      let a = h.per n in
+      let b = ap (final_of n) (asks op is).0 in
+      let f = failed_retains e.own has_sent R.NoIds refl (Some op) (asks op is).1 in
+      let f2 = f.per n in
+      omega (arith, a, b, f2);
+}
 
 calls_append : (n : ℕ) (xs ys : List Operation) → calls_in n (xs ++ ys) ≡ calls_in n xs + calls_in n ys
 calls_append n [] ys = omega arith

@@ -55,7 +55,6 @@ use Rattle.coap_ends.proofs.WholeClient.ClientHolding.{Steady, Steadied, steadie
 
 -- what is sent on an answer is no first block
 
-
 abbrev Later : Deed → Type 0
 Later d = (op : Operation) (y : Carried) → d ≡ Asks op → carried op ≡ Some y → y.upload.num ≡ 0 → ⊥
 
@@ -296,14 +295,19 @@ module _ (server : Endpoint) (szx word : ℕ) where
     stands = λ other z h. elim h [
       | inl now ↦ absurd (elim now.0 [ inl x ↦ (let e : false ≡ true = sym (ap (sends_of other) no_sending) ∙ x in cc e) | inr x ↦ (let e : false ≡ true = sym no_copy ∙ x.0 in cc e) ])
       | inr before ↦ (let g = k.stands other z before in
-          let bound = g.0 in
-          (omega (arith, bound, sent), elim g.1 [
-            | inl up ↦ inl (still other up)
-            | inr over ↦ (let o = over.0 in inr (omega (arith, o), λ w. elim w [
-              | inl y ↦ absurd (cc (no_report, y.made))
-              | inr y ↦ (let q = over.1 y in (q.0, hold ∙ q.1, q.2))
-            ]))
-          ]))
+          let bound = g.0 in (
+            omega (arith, bound, sent),
+            elim g.1 [
+              | inl up ↦ inl (still other up)
+              | inr over ↦ (let o = over.0 in inr (
+                omega (arith, o),
+                λ w. elim w [
+                  | inl y ↦ absurd (cc (no_report, y.made))
+                  | inr y ↦ (let q = over.1 y in (q.0, hold ∙ q.1, q.2))
+                ],
+              ))
+            ],
+          ))
     ];
   }
 
@@ -327,22 +331,31 @@ module _ (server : Endpoint) (szx word : ℕ) where
       sent = later_sent;
       stands = λ other z h. elim h [
         | inl now ↦ (let f = first other now.0 in let b = now.1 in let x = f.0 in (omega (arith, b, x, sent, moment_is), inl (ap (is_upload_of other) running ∙ f.1)))
-        | inr before ↦ (let g = keeping.stands other z before in (bounded z g.0, elim g.1 [
-          | inl up ↦ elim (fate other up) [
-            | inl o ↦ inr (over_gone other o, λ w. elim w [
-              | inl y ↦ ((own t).sent, hold ∙ o.holds (sym final_is ∙ y.not_final), g.0)
-              | inr y ↦ absurd (both_one (places other (own t)) (gone szx other t) _ (k.one other) (up_place other (own t) up) (unanswered_gone other t y))
-            ])
-            | inr r ↦ inl (ap (is_upload_of other) running ∙ r)
-          ]
-          | inr over ↦ (let o = over.0 in inr (omega (arith, o), λ w. elim w [
-            | inl y ↦ absurd (both_one (places y.report.number (own t)) (gone szx y.report.number t) _ (k.one y.report.number) (from_place server szx word t c k law y.report y.made) (subst (λ i. 1 ≤ gone szx i t) (sym y.is) o))
-            | inr y ↦ elim st.hold [
-              | inl same ↦ (let q = over.1 y in (q.0, hold ∙ (same ∙ q.1), q.2))
-              | inr set ↦ ((own t).sent, hold ∙ set, g.0)
+        | inr before ↦ (let g = keeping.stands other z before in (
+          bounded z g.0,
+          elim g.1 [
+            | inl up ↦ elim (fate other up) [
+              | inl o ↦ inr (
+                over_gone other o,
+                λ w. elim w [
+                  | inl y ↦ ((own t).sent, hold ∙ o.holds (sym final_is ∙ y.not_final), g.0)
+                  | inr y ↦ absurd (both_one (places other (own t)) (gone szx other t) _ (k.one other) (up_place other (own t) up) (unanswered_gone other t y))
+                ],
+              )
+              | inr r ↦ inl (ap (is_upload_of other) running ∙ r)
             ]
-          ]))
-        ]))
+            | inr over ↦ (let o = over.0 in inr (
+              omega (arith, o),
+              λ w. elim w [
+                | inl y ↦ absurd (both_one (places y.report.number (own t)) (gone szx y.report.number t) _ (k.one y.report.number) (from_place server szx word t c k law y.report y.made) (subst (λ i. 1 ≤ gone szx i t) (sym y.is) o))
+                | inr y ↦ elim st.hold [
+                  | inl same ↦ (let q = over.1 y in (q.0, hold ∙ (same ∙ q.1), q.2))
+                  | inr set ↦ ((own t).sent, hold ∙ set, g.0)
+                ]
+              ],
+            ))
+          ],
+        ))
       ];
     }
       where

@@ -259,7 +259,7 @@ module _ (server : Endpoint) (szx word : ℕ) where
     linked = subst (λ (o : Own). Linked o.running o.observations (beneath (c ∷ t)).running) (sym own_is) z.linked;
     one = λ n.
         subst (λ (o : Own). places n o + gone szx n (c ∷ t) ≡ cond (nat_lt n o.taken) 1 0) (sym own_is)
-            (let a = z.conserved n in let b = k.one n in let d = ap (final_of n) report_is in let f = none n in let i = ap (below n) z.taken_is in omega (arith, a, b, d, f, i));
+        (let a = z.conserved n in let b = k.one n in let d = ap (final_of n) report_is in let f = none n in let i = ap (below n) z.taken_is in omega (arith, a, b, d, f, i));
   }
 
   pub known : (t : List Call) → ClientRows szx t → X.AskerLaw server word (lower_of szx t) → Known t

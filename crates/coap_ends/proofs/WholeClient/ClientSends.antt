@@ -210,7 +210,6 @@ pub record Runs (s : Own) (e : Effect) : Type 1 where
   pub running : (e.own.running ≡ None) ⊎ (((k : ℕ) × (e.own.running ≡ dropped k s.running)) ⊎ ((e.own.running ≡ s.running) ⊎ ((op : Operation) × (e.deed ≡ Asks op))))
   pub waits : (P : Operation → Type 0) → AllOf P s.queue → AllOf P e.own.queue
 
-
 pub all_uncancelled : (k : ℕ) (P : Operation → Type 0) (ops : List Operation) → AllOf P ops → AllOf P (filter (λ op. not (is_cancel_of k op)) ops)
 all_uncancelled k P [] h = tt
 all_uncancelled k P (op ∷ ops) h = by (not (is_cancel_of k op)) (all_uncancelled k P ops h.1)

@@ -118,10 +118,10 @@ registered_goes s x sound none k path is at m = by (is_notification m)
   where
     by : (b : Bool)
         → Goes s x (cond b (record {
-              own = record s { running = None; observations = s.observations ++ begun k path s.szx at m ∷ [] };
-              report = first_value k s.szx m;
-              deed = Keeps m.token;
-            }) (ends (of k (Ended m.code)) s))
+          own = record s { running = None; observations = s.observations ++ begun k path s.szx at m ∷ [] };
+          report = first_value k s.szx m;
+          deed = Keeps m.token;
+        }) (ends (of k (Ended m.code)) s))
     by true = record {
       conserved = λ n.
           let a = value_quiet n k (sequence_in m) (F.start s.szx 0) m (part (F.start s.szx 0) m) in
