@@ -8,3 +8,4 @@ pub mod Serving
 pub mod Replying
 pub mod Holding
 pub mod WholeServer
+pub mod WholeClient

@@ -10,3 +10,4 @@ pub mod ServerSteps
 pub mod ServerLaw
 pub mod Adds
 pub mod WholeServer
+pub mod WholeClient
