@@ -3,12 +3,12 @@ ghost use Rattle.coap_block.specs.FetchStep.{start, verdict};
 ghost use Rattle.coap_block.specs.FetchTrace.{FetchTrace, Led, Made, Took};
 ghost use Rattle.coap_block.specs.FetchAnswer.{block_asked, Takes, IsNumbered, IsQuiet};
 
-use crate::body::{appended, put_at};
+use crate::body::put_at;
 use crate::fetch_judging::judge;
 use crate::fetch_progress::{Asked, Before, Progress};
 use crate::fetch_step::Step;
 use crate::fetch_verdict::Verdict;
-use coap_types::{Block, MAX_NUM, Szx, Tag};
+use coap_types::{Block, MAX_NUM, Szx, Tag, appended};
 use std::alloc::{AllocError, Allocator, Global};
 use std::marker::Model;
 use std::mem;

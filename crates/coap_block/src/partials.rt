@@ -6,11 +6,10 @@ ghost use Rattle.coap_block.specs.AssemblyKept.{begun, body_of, changed_at, grow
 
 use crate::assembly_judging::MAX_PARTIALS;
 use crate::assembly_undo::Change;
-use crate::body::appended;
 use crate::partial::Partial;
 use crate::upload_key::UploadKey;
 use bytes::Bytes;
-use coap_types::Moment;
+use coap_types::{Moment, appended};
 use std::alloc::{AllocError, Allocator};
 use std::mem;
 

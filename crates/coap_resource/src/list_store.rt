@@ -1,4 +1,4 @@
-ghost use Rattle.std.specs.Prelude.{◌≡◌, ◌<◌, ◌≤◌, ◌+◌, ◌++◌, None, Some, IfOk, length};
+ghost use Rattle.std.specs.Prelude.{◌≡◌, ◌<◌, ◌≤◌, ◌+◌, None, Some, length};
 ghost use Rattle.coap_resource.specs.Content.{append_refusal, put_refusal};
 ghost use Rattle.coap_resource.specs.Entries.{content_of};
 ghost use Rattle.coap_resource.specs.Rate.{rate_refusal, used};
@@ -12,8 +12,8 @@ use crate::store::{MAX_PATHS, Store};
 use crate::tally::{MAX_CHANGES_PER_WINDOW, Tally};
 use bytes::Bytes;
 use coap_types::limits::MAX_BODY_LEN;
-use coap_types::{Moment, Path};
-use std::alloc::{AllocError, Allocator, Global};
+use coap_types::{Moment, Path, appended};
+use std::alloc::{Allocator, Global};
 use std::marker::Model;
 
 /// A store that looks through a list of entries.
@@ -69,19 +69,6 @@ impl<A: Allocator + Copy> ListStore<A> {
         }
         self.tally.refusal(now)
     }
-}
-
-// One body of two slices, the one behind the other.
-fn appended<A: Allocator + Copy>(
-    alloc: A,
-    front: &[u8],
-    back: &[u8],
-) -> Result<Bytes<A>, AllocError>
-    ensures { IfOk result (λ body. body ≡ front.now ++ back.now) }
-{
-    let mut body = Vec::from_slice(alloc, front)?;
-    body.extend_from_slice(back)?;
-    Ok(Bytes::from_vec(body)?)
 }
 
 impl<A: Allocator + Copy> Store<A> for ListStore<A> {

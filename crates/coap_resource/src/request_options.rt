@@ -1,7 +1,6 @@
 ghost use Rattle.std.specs.Prelude.{◌≡◌, ◌≤◌, IfSome, is_some, option_copied};
 ghost use Rattle.coap_types.specs.CoapOption.{options_of};
 ghost use Rattle.coap_resource.specs.RequestOptions.{accepts, block_of, etag_names, format_of, if_match_names, is_tag_of, matches, offset_by, precondition_fails, szx_by};
-ghost use Rattle.coap_types.specs.BlockValue.{block_by};
 ghost use Rattle.coap_types.specs.OptionValues.{has, uint_at, value_of};
 ghost use Rattle.coap_resource.specs.Shown.{shown};
 
@@ -129,28 +128,12 @@ pub(crate) struct Wanted {
     pub(crate) szx: Szx,
 }
 
-// The block that a number says.
-fn block_by(number: u32) -> Option<Block>
-    ensures block { result ≡ block_by number }
-    ensures few { IfSome result (λ block. block.num ≤ MAX_NUM) }
-{
-    let szx = Szx::new((number % 8) as u8)?;
-    let num = number / 16;
-    let more = number / 8 % 2 == 1;
-    if num <= MAX_NUM {
-        Some(Block { num, more, szx })
-    } else {
-        None
-    }
-}
-
 // The block that Block2 asks for.
 fn block_of(options: &[Opt<'_>]) -> Option<Block>
     ensures block { result ≡ block_of (options_of options.now) }
     ensures few { IfSome result (λ block. block.num ≤ MAX_NUM) }
 {
-    let number = uint_at(options, BLOCK2)?;
-    block_by(number)
+    Block::of(uint_at(options, BLOCK2)?)
 }
 
 /// What the Block2 of a request asks for, where the server sends blocks of at most this size

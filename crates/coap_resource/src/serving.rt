@@ -1,11 +1,10 @@
 ghost use Rattle.std.specs.Prelude.{◌≡◌, ◌≢◌, ◌<◌, ◌≤◌, ◌^◌, IfOk, IsOk, IfSome, OnErr, OnOk, true, [], length, take, drop};
 ghost use Rattle.coap_types.specs.CoapOption.{options_of};
-ghost use Rattle.coap_resource.specs.Content.{append_refusal, put_refusal};
 ghost use Rattle.coap_resource.specs.Quiet.{IsQuiet, IsQuietBy};
 ghost use Rattle.coap_resource.specs.Rate.{rate_refusal};
 ghost use Rattle.coap_resource.specs.RequestOptions.{precondition_fails};
 ghost use Rattle.coap_resource.specs.ResponseOptions.{Fits};
-ghost use Rattle.coap_resource.specs.Serves.{DeleteBy, PostBy, PutBy, Serves, block2_of, content_reply, got, question_of, refusal_code, reply_of};
+ghost use Rattle.coap_resource.specs.Serves.{Serves, ServesMethod, block2_of, content_reply, got, question_of, refusal_code, reply_of};
 ghost use Rattle.coap_resource.specs.Shown.{held_of};
 ghost use Rattle.coap_resource.specs.declared.refusal.StoreRefusal.TheVariants.{Memory};
 
@@ -96,7 +95,8 @@ fn content<A: Allocator + Copy>(
 ) -> Result<Response<A>, AllocError>
     requires place { wanted.offset ≤ length held.now.body }
     requires short { length held.now.body ≤ MAX_BODY_LEN }
-    ensures content { IfOk result (λ r. reply_of r ≡ content_reply (held_of held.now) wanted.by_block wanted.offset wanted.szx) }
+    ensures content { IfOk result
+        (λ r. reply_of r ≡ content_reply (held_of held.now) wanted.by_block wanted.offset wanted.szx) }
     ensures fits { IfOk result (λ r. Fits (reply_of r)) }
     ensures quiet { (content_reply (held_of held.now) wanted.by_block wanted.offset wanted.szx).part ≡ [] → IsOk result }
 {
@@ -122,7 +122,8 @@ fn serve_get<A: Allocator + Copy, S: Store<A>>(
     store: &S,
     asking: &Asking<'_, A>,
 ) -> Result<Response<A>, AllocError>
-    ensures got { IfOk result (λ r. reply_of r ≡ got ((S.content store.now).holds asking.now.path.now) (question_of asking.now)) }
+    ensures got { IfOk result
+        (λ r. reply_of r ≡ got ((S.content store.now).holds asking.now.path.now) (question_of asking.now)) }
     ensures fits { IfOk result (λ r. Fits (reply_of r)) }
     ensures quiet { (got ((S.content store.now).holds asking.now.path.now) (question_of asking.now)).part ≡ [] → IsOk result }
 {
@@ -152,7 +153,8 @@ fn serve_post<A: Allocator + Copy, S: Store<A>>(
     now: Moment,
     asking: &Asking<'_, A>,
 ) -> Result<Response<A>, AllocError>
-    ensures served { IfOk result (λ r. PostBy ((S.content store.old).holds asking.now.path.now) (S.content store.old) now.0 (question_of asking.now) (reply_of r) (S.content store.new)) }
+    ensures served { IfOk result (λ r. ServesMethod Method.Post (S.content store.old) now.0
+        (question_of asking.now) (reply_of r) (S.content store.new)) }
     ensures fits { IfOk result (λ r. Fits (reply_of r)) }
     ensures quiet { IsQuietBy Method.Post (S.content store.old) now.0 (question_of asking.now) → IsOk result }
     ensures err { OnErr result (store.new ≡ store.old) }
@@ -170,7 +172,8 @@ fn serve_put<A: Allocator + Copy, S: Store<A>>(
     now: Moment,
     asking: &Asking<'_, A>,
 ) -> Result<Response<A>, AllocError>
-    ensures served { IfOk result (λ r. PutBy (put_refusal (S.content store.old) now.0 asking.now.path.now (length asking.now.body.now)) (S.content store.old) now.0 (question_of asking.now) (reply_of r) (S.content store.new)) }
+    ensures served { IfOk result (λ r. ServesMethod Method.Put (S.content store.old) now.0
+        (question_of asking.now) (reply_of r) (S.content store.new)) }
     ensures fits { IfOk result (λ r. Fits (reply_of r)) }
     ensures quiet { IsQuietBy Method.Put (S.content store.old) now.0 (question_of asking.now) → IsOk result }
     ensures err { OnErr result (store.new ≡ store.old) }
@@ -196,7 +199,8 @@ fn serve_delete<A: Allocator + Copy, S: Store<A>>(
     now: Moment,
     asking: &Asking<'_, A>,
 ) -> Result<Response<A>, AllocError>
-    ensures served { IfOk result (λ r. DeleteBy ((S.content store.old).holds asking.now.path.now) (S.content store.old) now.0 (question_of asking.now) (reply_of r) (S.content store.new)) }
+    ensures served { IfOk result (λ r. ServesMethod Method.Delete (S.content store.old) now.0
+        (question_of asking.now) (reply_of r) (S.content store.new)) }
     ensures fits { IfOk result (λ r. Fits (reply_of r)) }
     ensures quiet { IsOk result }
 {
@@ -214,13 +218,14 @@ pub fn serve<A: Allocator + Copy, S: Store<A>>(
     now: Moment,
     asking: &Asking<'_, A>,
 ) -> Result<Response<A>, AllocError>
-    ensures served { IfOk result (λ r. Serves (S.content store.old) now.0 (question_of asking.now) (reply_of r) (S.content store.new)) }
+    ensures served { IfOk result (λ r. Serves (S.content store.old) now.0
+        (question_of asking.now) (reply_of r) (S.content store.new)) }
     ensures fits { IfOk result (λ r. Fits (reply_of r)) }
     ensures err { OnErr result (store.new ≡ store.old) }
     // A GET leaves the store as it is, and so does a 4.12. What else changes nothing lets the moment count.
     ensures get { asking.now.method ≡ Method.Get → store.new ≡ store.old }
-    ensures failed { precondition_fails ((S.content store.old).holds asking.now.path.now) (options_of asking.now.options.now) ≡ true
-        → store.new ≡ store.old }
+    ensures failed { precondition_fails ((S.content store.old).holds asking.now.path.now) (options_of asking.now.options.now)
+        ≡ true → store.new ≡ store.old }
     // What is quiet takes no memory.
     ensures quiet { IsQuiet (S.content store.old) now.0 (question_of asking.now) → IsOk result }
 {

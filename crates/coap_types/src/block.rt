@@ -35,7 +35,8 @@ impl Block {
     /// The block that a number says; None where NUM is over `MAX_NUM`, and at the reserved SZX 7
     /// (RFC 7959, section 2.2).
     pub fn of(number: u32) -> Option<Block>
-        ensures { result ≡ block_by number }
+        ensures block { result ≡ block_by number }
+        ensures num { IfSome result (λ block. block.num ≤ MAX_NUM) }
     {
         let num = number / NUM_UNIT;
         if num > MAX_NUM {

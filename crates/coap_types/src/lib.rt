@@ -2,12 +2,13 @@
 //! is made of, the options that are recognised, blocks, paths and requests, the transmission
 //! parameters and the limits.
 //! Nothing here reads or writes a message. What can be refused memory says so by its answer: only
-//! `Path::push`, `Path::of_options`, the `clone` of a `Path` and `recognised`.
+//! `Path::push`, `Path::of_options`, the `clone` of a `Path`, `recognised` and `appended`.
 #![tactic(auto)]
 
 mod block;
 #[cfg(test)]
 mod block_tests;
+mod bodies;
 mod direction;
 mod endpoint;
 pub mod limits;
@@ -31,6 +32,7 @@ pub mod transmission;
 mod uint;
 
 pub use block::{Block, MAX_BLOCK_LEN, MAX_NUM, block_law};
+pub use bodies::appended;
 pub use direction::Direction;
 pub use endpoint::{Endpoint, Moment};
 pub use message::{Code, Id, Kind};

@@ -18,7 +18,7 @@ const _: () = prove!(NUMBERS == 61);
 
 // Whether an option of this number was seen.
 fn was_seen(seen: &[bool; NUMBERS], number: u16) -> bool
-    ensures { (before : List CoapOption) → Remembers seen.now before → number < 61 → result ≡ has_number number before }
+    ensures { (before : List CoapOption) → Remembers seen.now before → number < NUMBERS → result ≡ has_number number before }
 {
     let index = usize::from(number);
     index < NUMBERS && seen[index]
@@ -37,7 +37,7 @@ fn see(seen: &mut [bool; NUMBERS], number: u16)
 
 // Whether an option is recognised, where one of its number stood before it or not.
 fn is_recognised(direction: Direction, option: Opt<'_>, again: bool) -> bool
-    ensures { (before : List CoapOption) → (option.entry.number < 61 → again ≡ has_number option.entry.number before)
+    ensures { (before : List CoapOption) → (option.entry.number < NUMBERS → again ≡ has_number option.entry.number before)
         → result ≡ is_recognised direction before (option_of option.entry) }
 {
     let Some(rule) = rule(option.number) else {

@@ -52,7 +52,7 @@ impl Szx {
     /// The size of a block, in bytes.
     pub fn size(self) -> usize
         ensures size { result ≡ 2 ^ (self + 4) }
-        ensures least { 16 ≤ result }
+        ensures least { MIN_BLOCK_SIZE ≤ result }
         ensures most { result ≤ 1024 }
     {
         match self.get() {

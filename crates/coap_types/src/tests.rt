@@ -1,6 +1,7 @@
 use crate::{
     Code, Endpoint, Id, Kind, Method, Moment, Occurrence, Opt, Path, PathRefusal, Request, Role,
-    Rule, Szx, Tag, Tags, Token, option_number, path_law, rule, uint_bytes, uint_laws, uint_of,
+    Rule, Szx, Tag, Tags, Token, appended, option_number, path_law, rule, uint_bytes, uint_laws,
+    uint_of,
 };
 use Occurrence::{Never, Once, Repeatable};
 use bytes::Bytes;
@@ -11,6 +12,20 @@ fn hash_of<T: Hash>(x: &T) -> u64 {
     let mut state = DefaultHasher::new();
     x.hash(&mut state);
     state.finish()
+}
+
+#[test]
+fn slices_are_joined(rt: HostRuntime) -> Result<(), AllocError> {
+    for (front, back, whole) in [
+        ("", "", ""),
+        ("ab", "", "ab"),
+        ("", "c", "c"),
+        ("ab", "c", "abc"),
+    ] {
+        let body = appended(rt.alloc(), front.as_bytes(), back.as_bytes())?;
+        assert_eq!(rt; &body[..], whole.as_bytes());
+    }
+    Ok(())
 }
 
 #[test]
