@@ -1,7 +1,7 @@
 -- Each CON that a client's message layer begins is the request of one of its calls, and begins as that is sent.
 use Rattle.std.proofs.Common.{◌≡◌, inl, inr, ℕ, ◌+◌, ◌%◌, max, Bool, true, false, Option, Some, None, List, [], ◌∷◌, ◌++◌, refl, ap, sym, subst, ◌∙◌, Result, Ok, Err}
 use Rattle.std.specs.Option.{option_map}
-use Rattle.coap_types.specs.Past.{Ever, Always}
+use Rattle.coap_types.specs.Past.{Ever}
 use Rattle.coap_types.proofs.Facts.Traces.{Ever_append}
 use Rattle.coap_types.specs.declared.endpoint.Endpoint.{Endpoint}
 use Rattle.coap_types.specs.declared.message.Kind.TheVariants.{Con}
@@ -31,7 +31,6 @@ use Rattle.coap_exchange.proofs.Facts.StepsOfLayer.{steps_split}
 use Rattle.coap_ends.specs.Adds.{asked_by_client, client_asks, client_asked, client_adds}
 use Rattle.coap_ends.specs.ClientLaw.{ClientLaw, own_of, lower_of}
 use Rattle.coap_ends.specs.Follows.ClientBegins.{IsRequestOf, SendsNow, BeginAtOnce}
-use Rattle.coap_ends.specs.Follows.ClientFollows.{Sending, sends}
 use Rattle.coap_ends.proofs.Exact.LawOfAPast.{client_back}
 use Rattle.coap_ends.proofs.Facts.Adds.{client_asked_next}
 
