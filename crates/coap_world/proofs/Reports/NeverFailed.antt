@@ -17,6 +17,7 @@ use Rattle.coap_ends.specs.ServerLaw.{layer_of}
 use Rattle.coap_exchange.specs.AnswererFollows.{hits, same_asked}
 use Rattle.coap_exchange.proofs.Facts.ServerSide.{self_hits}
 use Rattle.coap_ends.specs.ServerTrace as S
+use Rattle.coap_ends.proofs.Facts.OfClient as client_facts
 use Rattle.coap_ends.proofs.Facts.OfServer as server_facts
 use Rattle.coap_ends.proofs.Facts.OfServer.{all_served}
 use Rattle.coap_exchange.specs.declared.answerer.Asked.{Asked}
@@ -177,7 +178,7 @@ module _ (config : Config) (all : List Entry) (number : ℕ) where
 
     not_asked : OneSending (client_of all) → IsRefused → IsAsked → ⊥
     not_asked one r a =
-        let same : r.1.sending ≡ a.1.sending = one.of_number r.1.sending a.1.sending r.1.sent a.1.sent (r.1.number_is ∙ sym a.1.number_is) in
+        let same : r.1.sending ≡ a.1.sending = one.of_last r.1.sending a.1.sending r.1.sent a.1.sent (r.1.number_is ∙ sym a.1.number_is) (client_facts.each_last r.1.sending.role) (client_facts.each_last a.1.sending.role) in
         let e : Refused r.0 ≡ Asks a.0 = one_outcome_of (Refused r.0) (Asks a.0) r.1 a.1 (ap (λ (s : Sending). s.token) same) in
         cc e
 
@@ -236,12 +237,12 @@ module _ (config : Config) (all : List Entry) (number : ℕ) where
         let came : CameFrom config past e a.request.asked (Asks a.request.question) = l.1.0 a.request a.here a.from in
         let sent = (part_back config all past e l.0).sent came.sending came.sent in
         let token : came.sending.token ≡ a.request.asked.token = sym (ap (λ (k : Asked). k.token) came.asked) in
-        let same = one.of_token came.sending (record { operation = record { number = number; request = a.belongs.0 }; token = a.request.asked.token }) sent a.belongs.1 token in (
+        let same = one.of_token came.sending a.belongs.0 sent a.belongs.1 (token ∙ sym a.belongs.3) (client_facts.each_own came.sending.role) (client_facts.each_own a.belongs.0.role) in (
           a.request.question,
           record {
             sending = came.sending;
             sent = sent;
-            number_is = ap (λ (x : Sending). x.operation.number) same;
+            number_is = ap (λ (x : Sending). x.operation.number) same ∙ a.belongs.2;
             asked = a.request.asked;
             from = a.from;
             token = token;
