@@ -4,3 +4,4 @@ pub mod HandedUpAsOften
 pub mod ServerWaiting
 pub mod ServerAsked
 pub mod ServerBrought
+pub mod ComesUp

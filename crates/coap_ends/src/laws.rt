@@ -59,7 +59,7 @@ pub fn client_law()
     ensures replies { (server : Endpoint) (szx word : ℕ) (t : List Call) → ClientLaw server szx word t → Always RepliesSo (layer_of server word t) }
     // What is sent was asked for before, and no request has the token of another (RFC 7252, section 5.3.1).
     ensures sent { (server : Endpoint) (szx word : ℕ) (t : List Call) → ClientLaw server szx word t → AreSent t }
-    // A call has one request, and no other has its token (RFC 7252, section 5.3.1).
+    // A call has one last request, and no other has its token (RFC 7252, section 5.3.1).
     ensures sending { (server : Endpoint) (szx word : ℕ) (t : List Call) → ClientLaw server szx word t → OneSending t }
     // The requests of the calls are sent in the order of their numbers, none for a call that was reported, and each is
     // answered once (RFC 7252, sections 4.7 and 5.3).

@@ -12,7 +12,7 @@ use Rattle.coap_exchange.specs.declared.answerer.Asked.{Asked}
 use Rattle.coap_exchange.specs.AskerRequests.{content_of}
 use Rattle.coap_exchange.specs.AnswererSteps.{asked_of}
 use Rattle.coap_ends.specs.Follows.ClientFollows.{Sending, WasSent}
-use Rattle.coap_ends.specs.ClientRequests.{message_of}
+use Rattle.coap_ends.specs.ClientRequests.{message_by}
 use Rattle.coap_ends.specs.ServerChecks.{Verdict, Asks, verdict_on}
 use Rattle.coap_ends.specs.Follows.ServerFollows.{Serving}
 use Rattle.coap_world.specs.Words.{ServesAt}
@@ -22,7 +22,7 @@ use Rattle.coap_world.specs.Record.{Entry, client_of}
 
 -- the message that carries the request of a call, under this Message ID
 abbrev pub request_of : ℕ → Sending → Message
-request_of id x = with_head Con id (content_of x.token (message_of x.operation.request))
+request_of id x = with_head Con id (content_of x.token (message_by x.operation.request x.role))
 
 -- no datagram is older than 100,000 ms, and each layer replies at once
 abbrev pub IsChannel : Config → List Entry → Type 0

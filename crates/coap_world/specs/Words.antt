@@ -4,7 +4,7 @@ use Rattle.coap_resource.specs.Content.{Held}
 use Rattle.coap_ends.specs.ClientTrace.{Request, Reported}
 use Rattle.coap_ends.specs.ClientSteps.{reports}
 use Rattle.coap_ends.specs.ClientLaw as C
-use Rattle.coap_ends.specs.Follows.ClientFollows.{WasTaken, WasSent}
+use Rattle.coap_ends.specs.Follows.ClientFollows.{Sending, WasTaken, WasSent}
 use Rattle.coap_ends.specs.ServerLaw.{own_of}
 use Rattle.coap_ends.specs.Follows.ServerFollows.{Serving, serving, is_applied, held_at, changes}
 use Rattle.coap_world.specs.Events.{client_end, Config}
@@ -21,7 +21,7 @@ WasCalled number r past = WasTaken (record { number = number; request = r }) (cl
 
 -- the client sent a request of this call under this token
 abbrev pub SentFor : ℕ → List ℕ → List Entry → Type 0
-SentFor number token all = (r : Request) × WasSent (record { operation = record { number = number; request = r }; token = token }) (client_of all)
+SentFor number token all = (x : Sending) × WasSent x (client_of all) × (x.operation.number ≡ number) × (x.token ≡ token)
 
 module _ (config : Config) where
   -- the server serves this request here

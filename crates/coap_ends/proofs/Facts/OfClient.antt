@@ -1,5 +1,5 @@
 -- What follows from the law of a client: the clauses of `client_law`, for proofs above; and what starts was taken.
-use Rattle.std.proofs.Common.{◌≡◌, ℕ, Some, List, ◌++◌}
+use Rattle.std.proofs.Common.{◌≡◌, ℕ, true, Some, List, ◌++◌, refl}
 use Rattle.coap_types.specs.Past.{Always}
 use Rattle.coap_types.specs.declared.endpoint.Endpoint.{Endpoint}
 use Rattle.coap_layer.specs.Channel.{RepliesSo}
@@ -8,7 +8,8 @@ use Rattle.coap_layer.specs.Machine.State.{start}
 use Rattle.coap_exchange.specs.AskerLaw as asker
 use Rattle.coap_exchange.specs.declared.asker.Turn.{Turn}
 use Rattle.coap_exchange.proofs.Facts.ClientSide as E
-use Rattle.coap_ends.specs.ClientTrace.{Operation, Call}
+use Rattle.coap_ends.specs.ClientTrace.{Request, Operation, Call}
+use Rattle.coap_ends.specs.ClientRequests.{Role, Alone, message_of, message_by, is_last, has_own_token}
 use Rattle.coap_ends.specs.ClientSteps.{is_idle, starting}
 use Rattle.coap_ends.specs.ClientLaw.{ClientLaw, own_of, lower_of, layer_of}
 use Rattle.coap_ends.specs.Follows.ClientBegins.{ConsAreRequests, BeginAtOnce}
@@ -39,6 +40,16 @@ use Rattle.coap_ends.proofs.Sending.NumbersRise.{one_call}
 use Rattle.coap_ends.proofs.Sending.OneCon.{one_con}
 use Rattle.coap_ends.proofs.Sending.SentOnce.{one_sending}
 pub use Rattle.coap_ends.proofs.Reporting.GivenInOrder.{waits}
+
+-- whatever a request is of its call, so far
+pub each_last : (r : Role) → is_last r ≡ true
+each_last Alone = refl
+
+pub each_own : (r : Role) → has_own_token r ≡ true
+each_own Alone = refl
+
+pub each_alone : (r : Request) (role : Role) → message_by r role ≡ message_of r
+each_alone r Alone = refl
 
 pub starts_taken : (t : List Call) (turn : Turn) (op : Operation) → starting (own_of t) turn ≡ Some op → WasTaken op t
 starts_taken t turn op is = first_taken t op (is_idle turn) (own_of t).running (own_of t).waiting is (waiting_taken t)

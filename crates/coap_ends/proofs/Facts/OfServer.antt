@@ -27,9 +27,10 @@ use Rattle.coap_ends.proofs.Rest.ServerResting.{comes_to_rest}
 use Rattle.coap_ends.proofs.Serving.ServerAsked.{all_methods}
 use Rattle.coap_ends.proofs.Serving.HandedUpAsOften.{counted}
 use Rattle.coap_ends.proofs.Serving.ServedOnce.{served_once}
-use Rattle.coap_ends.proofs.Serving.ServedWasHandedUp.{handed_up}
+use Rattle.coap_ends.proofs.Serving.ComesUp.{handed_up}
 use Rattle.coap_ends.proofs.Serving.ServerWaiting.{waits_as_deferred, ready_are_served}
 pub use Rattle.coap_ends.proofs.Holding.ServerHolds.{all_served, holds_changes, version_is, held_is}
+pub use Rattle.coap_ends.proofs.Serving.ComesUp.{IsUp, up_in_layer}
 pub use Rattle.coap_ends.proofs.Serving.ServedWasHandedUp.{same_asked_is}
 
 module _ (limit szx word : ℕ) where
@@ -56,7 +57,7 @@ module _ (limit szx word : ℕ) where
     replies = replies_so word limit szx t law.exchanges.rows law.exchanges.left law.exchanges.layer
 
     pub handed : AreHandedUp limit szx word t
-    handed = handed_up limit szx word t law.rows law.exchanges.rows law.exchanges.left law.exchanges.layer
+    handed = handed_up limit szx word t law
 
     pub counts : Counted limit szx word t
     counts = counted limit szx word t law.exchanges.rows law.exchanges.left law.exchanges.layer

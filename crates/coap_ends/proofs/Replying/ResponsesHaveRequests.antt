@@ -24,7 +24,7 @@ use Rattle.coap_ends.specs.ServerChecks.{Verdict, Ignored, Refused, Asks, verdic
 use Rattle.coap_ends.specs.ServerSteps.{lower, bare, IsServed, AsksBy, Handles, AnswersWaiting, waits_by, delay_of, question_of}
 use Rattle.coap_ends.specs.ServerLaw.{own_of, lower_of, ServerLaw}
 use Rattle.coap_ends.specs.Follows.ServerGives.{Carries, CarriesResponse, SentResponses, SendsResponses}
-use Rattle.coap_ends.proofs.Serving.ServedWasHandedUp.{are_handed}
+use Rattle.coap_ends.proofs.Serving.ComesUp.{comes}
 use Rattle.coap_ends.proofs.Replying.LayerSendsResponses.{called, CarriesIn, made}
 use Rattle.coap_ends.proofs.Exact.LawOfAPast.{server_back}
 use Rattle.coap_ends.specs.Follows.Sources.{Source}
@@ -80,7 +80,7 @@ module _ (limit szx word : ℕ) (p : L.Packet) where
         inr (record {
           asked = a.0;
           code = v.0;
-          handed = are_handed limit szx word (Feeds now from bytes w up (Some a) (Refuses r) below ∷ t) law.rows law.exchanges.rows law.exchanges.left law.exchanges.layer a.0 (Refused v.0)
+          handed = comes limit szx word (Feeds now from bytes w up (Some a) (Refuses r) below ∷ t) law a.0 (Refused v.0)
               (inl (record { now = now; from = from; bytes = bytes; word = w; up = up; message = a.1; handling = Refuses r; below = below; is = refl; verdict = v.1 }));
           carries = subst (Carries p a.0) v.2 k;
         })

@@ -11,6 +11,7 @@ use Rattle.coap_exchange.specs.declared.asker.Turn.{Turn}
 use Rattle.coap_exchange.specs.declared.asker.Turn.TheVariants as turn
 use Rattle.coap_exchange.specs.AskerTrace as E
 use Rattle.coap_exchange.specs.AskerFollows as F
+use Rattle.coap_ends.specs.ClientRequests.{Alone}
 use Rattle.coap_ends.specs.ClientTrace.{Operation, Reset, NoIds, Reported, Call, Calls, Feeds, Ticks, NextOut, NextReport}
 use Rattle.coap_ends.specs.ClientReports.{report_of, lapse}
 use Rattle.coap_ends.specs.ClientSteps.{lower, reported, lapsed, refused, either, starting, reports}
@@ -40,6 +41,7 @@ module _ (t : List Call) (sent : AreSent t) (now : ℕ) (from : Endpoint) (bytes
         operation = r.operation;
         number = ap (λ (y : Reported). y.number) same;
         taken = sent_taken _ t sent r.sent;
+        role = Alone;
         sent = r.sent;
         report = sym (ap (λ (y : Reported). y.report) same);
       }

@@ -26,6 +26,7 @@ use Rattle.coap_exchange.specs.AskerLaw.{AskerLaw, ExchangeLaw}
 use Rattle.coap_exchange.specs.AskerFollows as F
 use Rattle.coap_exchange.specs.AskerTells.{AreRefused}
 use Rattle.coap_exchange.proofs.Facts.ClientSide.{are_exchanges, are_refused}
+use Rattle.coap_ends.specs.ClientRequests.{Alone}
 use Rattle.coap_ends.specs.ClientTrace.{Operation, Request, Report, Body, Done, Failed, TooLarge, Timeout, Reset, NoResponse, NoIds, Reported, Own, Call, Calls, Feeds, Ticks, NextOut, NextReport}
 use Rattle.coap_types.specs.declared.limits.TheConstants.{MAX_BODY_LEN as max_body}
 use Rattle.coap_types.specs.declared.option_number.TheConstants.{BLOCK2 as block2, ETAG as etag}
@@ -33,7 +34,7 @@ use Rattle.coap_ends.specs.ClientRequests.{message_of}
 use Rattle.coap_ends.specs.ClientReports.{report_of, lapse, said, body_of, content, is_success}
 use Rattle.coap_ends.specs.ClientSteps.{lower, reported, running_unless, lapsed, refused, either, is_idle, starting_if, starting, started, asking, reports}
 use Rattle.coap_ends.specs.ClientLaw.{own_of, lower_of, ClientLaw}
-use Rattle.coap_ends.specs.Follows.ClientFollows.{WasTaken, WasSent}
+use Rattle.coap_ends.specs.Follows.ClientFollows.{Sending, WasTaken, WasSent}
 use Rattle.coap_ends.specs.Follows.ClientEnds.{ends_as, is_end, refuses, IsWant, AllEnds}
 use Rattle.coap_ends.proofs.Reporting.ClientOpen.{open_runs}
 use Rattle.coap_ends.proofs.Sending.ClientSent.{first_taken, waiting_taken}
@@ -132,24 +133,24 @@ of_call t (NextReport answer) x h = absurd (cc h)
 -- an exchange that ends so is that of what runs
 
 abbrev Each : List Call → Call → Report → Type 0
-Each t c r = (op : Operation) × (token : List ℕ) × WasSent (record { operation = op; token = token }) t × (reports (own_of t) c ≡ Some (record { number = op.number; report = r }))
+Each t c r = (x : Sending) × WasSent x t × (reports (own_of t) c ≡ Some (record { number = x.operation.number; report = r }))
 
 each_end : (t : List Call) (c : Call) → F.AreExchanges (lower_of (c ∷ t)) → (r : Report) → ends_as c ≡ Some r → Each t c r
 each_end t (Feeds now from bytes word up settled (Some event.Reset)) ex r h =
     let o = ex.0.of_open refl in
     let k = open_runs t o.0 o.1 in
     let same : Reset ≡ r = cc h in
-    (k.operation, o.0, k.sent, ap (λ q. reported q (Some event.Reset)) k.runs ∙ ap (λ y. Some (record { number = k.operation.number; report = y })) same)
+    (record { operation = k.operation; role = Alone; token = o.0 }, k.sent, ap (λ q. reported q (Some event.Reset)) k.runs ∙ ap (λ y. Some (record { number = k.operation.number; report = y })) same)
 each_end t (Ticks now word below (turn.End event.Timeout) sent z answer) ex r h =
     let o = ex.0.of_open refl in
     let k = open_runs t o.0 o.1 in
     let same : Timeout ≡ r = cc h in
-    (k.operation, o.0, k.sent, ap (λ q. either (lapsed q (turn.End event.Timeout)) None) k.runs ∙ ap (λ y. Some (record { number = k.operation.number; report = y })) same)
+    (record { operation = k.operation; role = Alone; token = o.0 }, k.sent, ap (λ q. either (lapsed q (turn.End event.Timeout)) None) k.runs ∙ ap (λ y. Some (record { number = k.operation.number; report = y })) same)
 each_end t (Ticks now word below (turn.End event.NoResponse) sent z answer) ex r h =
     let o = ex.0.of_open refl in
     let k = open_runs t o.0 o.1 in
     let same : NoResponse ≡ r = cc h in
-    (k.operation, o.0, k.sent, ap (λ q. either (lapsed q (turn.End event.NoResponse)) None) k.runs ∙ ap (λ y. Some (record { number = k.operation.number; report = y })) same)
+    (record { operation = k.operation; role = Alone; token = o.0 }, k.sent, ap (λ q. either (lapsed q (turn.End event.NoResponse)) None) k.runs ∙ ap (λ y. Some (record { number = k.operation.number; report = y })) same)
 each_end t (Feeds now from bytes word up settled None) ex r h = absurd (cc h)
 each_end t (Feeds now from bytes word up settled (Some (event.Answer m))) ex r h = absurd (cc h)
 each_end t (Feeds now from bytes word up settled (Some (event.Notice m))) ex r h = absurd (cc h)

@@ -26,7 +26,7 @@ use Rattle.coap_ends.specs.ClientSteps.{lower}
 use Rattle.coap_ends.specs.ClientLaw.{own_of, lower_of}
 use Rattle.coap_ends.specs.Follows.ClientFollows.{heard}
 use Rattle.coap_ends.specs.Follows.ClientHears.{Hears, AreHeard}
-use Rattle.coap_ends.proofs.Serving.ServedWasHandedUp.{entry_of}
+use Rattle.coap_ends.proofs.Serving.ComesUp.{entry_of}
 
 abbrev Is : E.Own → Endpoint → L.Answer → Message → Type 0
 Is s from up m = (same_endpoint from s.server ≡ true) × (up ≡ L.Becomes (L.Response m))

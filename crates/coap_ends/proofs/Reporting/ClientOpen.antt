@@ -10,6 +10,7 @@ use Rattle.coap_exchange.specs.declared.asker.Turn.{Turn}
 use Rattle.coap_exchange.specs.declared.asker.Turn.TheVariants as turn
 use Rattle.coap_exchange.specs.AskerTrace as E
 use Rattle.coap_exchange.specs.AskerFollows as F
+use Rattle.coap_ends.specs.ClientRequests.{Alone}
 use Rattle.coap_ends.specs.ClientTrace.{Operation, Call, Calls, Feeds, Ticks, NextOut, NextReport}
 use Rattle.coap_ends.specs.ClientSteps.{reported, running_unless, lapsed, is_idle, starting_if, starting, started, either, asking}
 use Rattle.coap_ends.specs.ClientLaw.{own_of, lower_of}
@@ -19,7 +20,7 @@ use Rattle.coap_ends.specs.Follows.ClientFollows.{sends, WasSent}
 pub record Runs (running : Option Operation) (t : List Call) (token : List ℕ) : Type 0 where
   pub operation : Operation
   pub runs : running ≡ Some operation
-  pub sent : WasSent (record { operation = operation; token = token }) t
+  pub sent : WasSent (record { operation = operation; role = Alone; token = token }) t
 
 -- an arrival
 arrived : (running : Option Operation) (c : Call) (t : List Call) (token : List ℕ) (now : ℕ) (from : Endpoint) (bytes : List ℕ) (up : L.Answer) (settled : Bool) (e : Option Event)
@@ -56,7 +57,7 @@ module _ (t : List Call) (c : Call) (now word : ℕ) (below : L.Answer) (w : Tur
   Opens calls = (token : List ℕ) → F.Open token calls → Runs (own_of t).running t token
 
   ticked : (o : Option Operation) (z : Result (List ℕ) AskRefusal) → starting (own_of t) w ≡ o → Opens (lower_of t)
-      → ((op : Operation) (token : List ℕ) → o ≡ Some op → z ≡ Ok token → sends (own_of t) c ≡ Some (record { operation = op; token = token }))
+      → ((op : Operation) (token : List ℕ) → o ≡ Some op → z ≡ Ok token → sends (own_of t) c ≡ Some (record { operation = op; role = Alone; token = token }))
       → (token : List ℕ) → F.Open token (asking (max (own_of t).clock now) o word sent z ++ (E.Ticks (max (own_of t).clock now) below w ∷ lower_of t))
       → Runs (either (started o z) (running_unless (lapsed (own_of t).running w) (own_of t).running)) (c ∷ t) token
   ticked None z is old at_once token (inl h) = absurd (cc h)
@@ -74,10 +75,10 @@ later : (c : Call) (t : List Call) (running : Option Operation) (token : List �
 later c t running token r = record { operation = r.operation; runs = r.runs; sent = inr r.sent }
 
 sent_by : (t : List Call) (now word : ℕ) (below : L.Answer) (w : Turn) (sent : L.Answer) (z : Result (List ℕ) AskRefusal) (answer : Bool) (o : Option Operation) → starting (own_of t) w ≡ o
-    → (op : Operation) (token : List ℕ) → o ≡ Some op → z ≡ Ok token → sends (own_of t) (Ticks now word below w sent z answer) ≡ Some (record { operation = op; token = token })
+    → (op : Operation) (token : List ℕ) → o ≡ Some op → z ≡ Ok token → sends (own_of t) (Ticks now word below w sent z answer) ≡ Some (record { operation = op; role = Alone; token = token })
 sent_by t now word below w sent z answer o is op token h k =
-    subst (λ y. sends (own_of t) (Ticks now word below w sent y answer) ≡ Some (record { operation = op; token = token })) (sym k)
-    (ap (option_map (λ p. record { operation = p; token = token })) (is ∙ h))
+    subst (λ y. sends (own_of t) (Ticks now word below w sent y answer) ≡ Some (record { operation = op; role = Alone; token = token })) (sym k)
+    (ap (option_map (λ p. record { operation = p; role = Alone; token = token })) (is ∙ h))
 
 pub open_runs : (t : List Call) (token : List ℕ) → F.Open token (lower_of t) → Runs (own_of t).running t token
 open_runs [] token h = absurd h

@@ -5,7 +5,7 @@ use Rattle.coap_layer.specs.Machine.State as S
 use Rattle.coap_layer.specs.Machine.Steps.{Asked, Steps, left_after}
 use Rattle.coap_layer.specs.Trace as L
 use Rattle.coap_exchange.specs.AskerRequests.{asked}
-use Rattle.coap_ends.proofs.Serving.ServedWasHandedUp.{left_is}
+use Rattle.coap_ends.proofs.Serving.ComesUp.{left_is}
 
 pub last_step : (old new : S.State) (a : Asked) (earlier : List Asked) → Steps old (a ∷ earlier) new → S.Step (left_after old earlier) a.now a.call a.answer (left_after old (a ∷ earlier))
 last_step old new a earlier h =

@@ -8,6 +8,7 @@ use Rattle.coap_exchange.specs.declared.asker.AskRefusal.{AskRefusal}
 use Rattle.coap_exchange.specs.declared.asker.Turn.{Turn}
 use Rattle.coap_exchange.specs.AskerTrace as E
 use Rattle.coap_exchange.specs.AskerFollows as F
+use Rattle.coap_ends.specs.ClientRequests.{Alone}
 use Rattle.coap_ends.specs.ClientTrace.{Request, Operation, Taking, Taken, QueueFull, BodyTooLarge, BadPath, CallsSpent, Call, Calls, Feeds, Ticks, NextOut, NextReport}
 use Rattle.coap_ends.specs.ClientSteps.{lower, is_idle, starting_if, starting, asking, queued, waiting_after}
 use Rattle.coap_ends.specs.ClientLaw.{own_of, lower_of}
@@ -63,10 +64,10 @@ pub record Starts (x : Sending) (o : Option Operation) (z : Result (List ℕ) As
   pub first : o ≡ Some x.operation
   pub given : z ≡ Ok x.token
 
-pub starts_it : (x : Sending) (o : Option Operation) (token : List ℕ) → option_map (λ op. record { operation = op; token = token }) o ≡ Some x → Starts x o (Ok token)
+pub starts_it : (x : Sending) (o : Option Operation) (token : List ℕ) → option_map (λ op. record { operation = op; role = Alone; token = token }) o ≡ Some x → Starts x o (Ok token)
 starts_it x None token h = absurd (cc h)
 starts_it x (Some op) token h =
-    let same : ◌≡◌ {A = Sending} (record { operation = op; token = token }) x = cc h in
+    let same : ◌≡◌ {A = Sending} (record { operation = op; role = Alone; token = token }) x = cc h in
     record { first = ap (λ (y : Sending). Some y.operation) same; given = ap (λ (y : Sending). Ok y.token) same }
 
 pub sends_it : (t : List Call) (x : Sending) (now word : ℕ) (below : L.Answer) (w : Turn) (sent : L.Answer) (z : Result (List ℕ) AskRefusal) (answer : Bool)
@@ -113,7 +114,7 @@ sent_here : (t : List Call) (c : Call) → TokensOnce (lower_of (c ∷ t)) → I
 sent_here t (Ticks now word below w sent z answer) once =
     record {
       taken = λ x h. first_taken t x.operation (is_idle w) (own_of t).running (own_of t).waiting (sends_it t x now word below w sent z answer h).first (waiting_taken t);
-      fresh = λ x y h was same.
+      fresh = λ x y h own was same.
           fresh_first x (max (own_of t).clock now) (starting (own_of t) w) word sent z (E.Ticks (max (own_of t).clock now) below w) (lower_of t) (sends_it t x now word below w sent z answer h) once
           (subst (λ k. GivesFresh k (lower_of t)) same (sent_fresh y t was));
     }

@@ -1,7 +1,7 @@
 -- Each CON that a client's message layer begins is the request of one of its calls, and begins as that is sent.
 use Rattle.std.proofs.Common.{◌≡◌, inl, inr, ℕ, ◌+◌, ◌%◌, max, Bool, true, false, Option, Some, None, List, [], ◌∷◌, ◌++◌, refl, ap, sym, subst, ◌∙◌, Result, Ok, Err}
 use Rattle.std.specs.Option.{option_map}
-use Rattle.coap_types.specs.Past.{Ever, Always}
+use Rattle.coap_types.specs.Past.{Ever}
 use Rattle.coap_types.proofs.Facts.Traces.{Ever_append}
 use Rattle.coap_types.specs.declared.endpoint.Endpoint.{Endpoint}
 use Rattle.coap_types.specs.declared.message.Kind.TheVariants.{Con}
@@ -24,6 +24,7 @@ use Rattle.coap_exchange.specs.AskerArrivals as R
 use Rattle.coap_exchange.specs.AskerSteps as P
 use Rattle.coap_exchange.specs.AskerLaw as W
 use Rattle.coap_exchange.proofs.Facts.ClientSide.{server_is}
+use Rattle.coap_ends.specs.ClientRequests.{Alone}
 use Rattle.coap_ends.specs.ClientTrace.{Operation, Call, Calls, Feeds, Ticks, NextOut, NextReport}
 use Rattle.coap_ends.specs.ClientRequests.{message_of}
 use Rattle.coap_ends.specs.ClientSteps.{lower, starting, asking}
@@ -31,7 +32,6 @@ use Rattle.coap_exchange.proofs.Facts.StepsOfLayer.{steps_split}
 use Rattle.coap_ends.specs.Adds.{asked_by_client, client_asks, client_asked, client_adds}
 use Rattle.coap_ends.specs.ClientLaw.{ClientLaw, own_of, lower_of}
 use Rattle.coap_ends.specs.Follows.ClientBegins.{IsRequestOf, SendsNow, BeginAtOnce}
-use Rattle.coap_ends.specs.Follows.ClientFollows.{Sending, sends}
 use Rattle.coap_ends.proofs.Exact.LawOfAPast.{client_back}
 use Rattle.coap_ends.proofs.Facts.Adds.{client_asked_next}
 
@@ -185,8 +185,8 @@ module _ (server : Endpoint) (con : Open) where
       let r_is : message_of op.request ≡ h.request = cc (h.is) in
       let k_is : token ≡ h.token = cc (h.is) in
       record {
-        request = record { operation = op; token = token };
-        sends_it = ap (option_map (λ p. record { operation = p; token = token })) is;
+        request = record { operation = op; role = Alone; token = token };
+        sends_it = ap (option_map (λ p. record { operation = p; role = Alone; token = token })) is;
         to = h.to;
         bytes = h.bytes ∙ (ap (λ k. message_bytes (with_head Con con.id (Q.content_of k h.request))) (sym k_is) ∙ ap (λ r. message_bytes (with_head Con con.id (Q.content_of token r))) (sym r_is));
         spelled = subst (λ k. IsSpelled (Q.content_of k (message_of op.request))) (sym k_is) (subst (λ r. IsSpelled (Q.content_of h.token r)) (sym r_is) h.spelled);

@@ -8,6 +8,7 @@ use Rattle.coap_exchange.specs.declared.asker.AskRefusal.{AskRefusal}
 use Rattle.coap_exchange.specs.declared.asker.Event.TheVariants as event
 use Rattle.coap_exchange.specs.declared.asker.Turn.{Turn}
 use Rattle.coap_exchange.specs.AskerFollows as F
+use Rattle.coap_ends.specs.ClientRequests.{Alone}
 use Rattle.coap_ends.specs.ClientTrace.{Operation, Reported, Call, Feeds, Ticks}
 use Rattle.coap_ends.specs.ClientReports.{report_of}
 use Rattle.coap_ends.specs.ClientSteps.{lower, is_idle, starting, lapsed, refused, either, reported, reports}
@@ -55,12 +56,12 @@ module _ (t : List Call) (now word : ℕ) (below : L.Answer) (w : Turn) (sent : 
 -- an answer: the call that runs is reported here, and its request had this token
 record Answered (t : List Call) (c : Call) (token : List ℕ) : Type 0 where
   operation : Operation
-  sent : WasSent (record { operation = operation; token = token }) t
+  sent : WasSent (record { operation = operation; role = Alone; token = token }) t
   report : Reported
   reports_it : reports (own_of t) c ≡ Some report
   number : report.number ≡ operation.number
 
-answered_by : (running : Option Operation) (m : Message) (t : List Call) → Runs running t m.token → (x : Operation) × WasSent (record { operation = x; token = m.token }) t × (reported running (Some (event.Answer m)) ≡ Some (record { number = x.number; report = report_of x.request.method m }))
+answered_by : (running : Option Operation) (m : Message) (t : List Call) → Runs running t m.token → (x : Operation) × WasSent (record { operation = x; role = Alone; token = m.token }) t × (reported running (Some (event.Answer m)) ≡ Some (record { number = x.number; report = report_of x.request.method m }))
 answered_by running m t r = (r.operation, r.sent, ap (λ o. reported o (Some (event.Answer m))) r.runs)
 
 answered : (t : List Call) (c : Call) → F.AreExchanges (lower_of (c ∷ t)) → (token : List ℕ) → HearsBy token c → Answered t c token
@@ -70,7 +71,7 @@ answered t (Feeds now from bytes word up settled (Some (event.Answer n))) ex tok
     let k = answered_by (own_of t).running n t (open_runs t n.token (ex.0.answer n refl)) in
     record {
       operation = k.0;
-      sent = subst (λ z. WasSent (record { operation = k.0; token = z }) t) token_is k.1;
+      sent = subst (λ z. WasSent (record { operation = k.0; role = Alone; token = z }) t) token_is k.1;
       report = record { number = k.0.number; report = report_of k.0.request.method n };
       reports_it = k.2;
       number = refl;
@@ -80,7 +81,7 @@ answered t c ex token h = absurd (cc h.1)
 -- one that was answered before was reported then
 record AnsweredBefore (t : List Call) (token : List ℕ) : Type 0 where
   operation : Operation
-  sent : WasSent (record { operation = operation; token = token }) t
+  sent : WasSent (record { operation = operation; role = Alone; token = token }) t
   reported_then : WasReported t operation.number
 
 before : (t : List Call) → F.AreExchanges (lower_of t) → (token : List ℕ) → Ever (HearsBy token) t → AnsweredBefore t token
@@ -101,7 +102,7 @@ twice szx t c rows sent ex token now past =
     let a = answered t c ex token now in
     let b = before t (Always_back _ (lower (own_of t) c) (lower_of t) ex) token past in
     let one = one_sending szx t rows.1 sent in
-    let same = one.of_token (record { operation = a.operation; token = token }) (record { operation = b.operation; token = token }) a.sent b.sent refl in
+    let same = one.of_token (record { operation = a.operation; role = Alone; token = token }) (record { operation = b.operation; role = Alone; token = token }) a.sent b.sent refl refl refl in
     let number : a.operation.number ≡ b.operation.number = ap (λ (x : Sending). x.operation.number) same in
     let r = some_report t b.operation.number b.reported_then in
     (reported_once szx (c ∷ t) rows).0 a.report r.0 a.reports_it r.1 (r.2 ∙ (sym number ∙ sym a.number))
@@ -112,7 +113,7 @@ in_order_here szx t (Ticks at word below w sent z answer) rows are ex =
     record {
       none_after = λ y h was. not_reported t at word below w sent z answer szx rows.1 y h was;
       none_with = λ y h r. (let q = quiet t at word below w sent z answer y h in let k = r.1 in cc (q, k));
-      none_behind = λ x y h was same. (let k = later x y h was in omega (arith, k, same));
+      none_behind = λ x y h was same last. (let k = later x y h was in omega (arith, k, same));
       one_by_one = λ x y h was same. absurd (let k = later x y h was in omega (arith, k, same));
       heard_once = λ x now past. twice szx t (Ticks at word below w sent z answer) rows are ex x.token now past;
       in_turn = λ x y h was. (let k = later x y h was in omega (arith, k));
@@ -121,7 +122,7 @@ in_order_here szx t c rows are ex =
     record {
       none_after = λ y h was. cc h;
       none_with = λ y h r. cc h;
-      none_behind = λ x y h was same. cc h;
+      none_behind = λ x y h was same last. cc h;
       one_by_one = λ x y h was same. absurd (cc h);
       heard_once = λ x now past. twice szx t c rows are ex x.token now past;
       in_turn = λ x y h was. absurd (cc h);

@@ -1,9 +1,10 @@
 -- A call is sent at most once: what was sent comes before what waits.
-use Rattle.std.proofs.Common.{◌≡◌, ◌≤◌, inl, inr, ℕ, ◌+◌, Bool, Option, Some, None, List, [], ◌∷◌, ◌++◌, refl, sym, subst, ◌∙◌, Result, drop, arith}
+use Rattle.std.proofs.Common.{◌≡◌, ◌≤◌, inl, inr, ℕ, ◌+◌, Bool, true, Option, Some, None, List, [], ◌∷◌, ◌++◌, refl, sym, subst, ◌∙◌, Result, drop, arith}
 use Rattle.std.proofs.lemmas.List.{append-nil}
 use Rattle.coap_layer.specs.Trace as L
 use Rattle.coap_exchange.specs.declared.asker.AskRefusal.{AskRefusal}
 use Rattle.coap_exchange.specs.declared.asker.Turn.{Turn}
+use Rattle.coap_ends.specs.ClientRequests.{has_own_token}
 use Rattle.coap_ends.specs.ClientTrace.{Request, Operation, Taking, Taken, QueueFull, BodyTooLarge, BadPath, CallsSpent, Call, Calls, Feeds, Ticks, NextOut, NextReport}
 use Rattle.coap_ends.specs.ClientRequests.{taking}
 use Rattle.coap_ends.specs.ClientSteps.{queued, taken_by, is_idle, starting, waiting_after}
@@ -92,12 +93,12 @@ by_number szx (c ∷ t) law x y (inl h) (inr k) same = absurd (new_number t c (n
 by_number szx (c ∷ t) law x y (inr h) (inl k) same = absurd (new_number t c (numbers szx t law.1) y x k h (sym same))
 by_number szx (c ∷ t) law x y (inr h) (inr k) same = by_number szx t law.1 x y h k same
 
-by_token : (t : List Call) → AreSent t → (x y : Sending) → WasSent x t → WasSent y t → x.token ≡ y.token → x ≡ y
-by_token [] law x y h k same = absurd h
-by_token (c ∷ t) law x y (inl h) (inl k) same = one_of x y (sends (own_of t) c) h k
-by_token (c ∷ t) law x y (inl h) (inr k) same = absurd (law.0.fresh x y h k (sym same))
-by_token (c ∷ t) law x y (inr h) (inl k) same = absurd (law.0.fresh y x k h same)
-by_token (c ∷ t) law x y (inr h) (inr k) same = by_token t law.1 x y h k same
+by_token : (t : List Call) → AreSent t → (x y : Sending) → WasSent x t → WasSent y t → x.token ≡ y.token → has_own_token x.role ≡ true → has_own_token y.role ≡ true → x ≡ y
+by_token [] law x y h k same p q = absurd h
+by_token (c ∷ t) law x y (inl h) (inl k) same p q = one_of x y (sends (own_of t) c) h k
+by_token (c ∷ t) law x y (inl h) (inr k) same p q = absurd (law.0.fresh x y h p k (sym same))
+by_token (c ∷ t) law x y (inr h) (inl k) same p q = absurd (law.0.fresh y x k q h same)
+by_token (c ∷ t) law x y (inr h) (inr k) same p q = by_token t law.1 x y h k same p q
 
 pub one_sending : (szx : ℕ) (t : List Call) → ClientRows szx t → AreSent t → OneSending t
-one_sending szx t rows sent = record { of_number = by_number szx t rows; of_token = by_token t sent }
+one_sending szx t rows sent = record { of_last = λ x y h k same p q. by_number szx t rows x y h k same; of_token = by_token t sent }

@@ -16,7 +16,7 @@ use Rattle.coap_ends.specs.ServerTrace.{Call}
 use Rattle.coap_ends.specs.ServerSteps.{lower}
 use Rattle.coap_ends.specs.ServerLaw.{own_of, lower_of}
 use Rattle.coap_ends.specs.Follows.ServerCounts.{asked_at, ups, Counted}
-use Rattle.coap_ends.proofs.Serving.ServedWasHandedUp.{left_is}
+use Rattle.coap_ends.proofs.Serving.ComesUp.{left_is}
 use Rattle.coap_ends.proofs.Serving.ServedOnce.{H, handed_is}
 use Rattle.coap_ends.proofs.Replying.ServerRepliesSo.{steps_back, law_back}
 

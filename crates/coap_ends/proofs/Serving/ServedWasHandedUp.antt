@@ -1,8 +1,7 @@
--- What a server serves was handed up by its message layer.
+-- What a server serves was brought by a call, and what waits too.
 use Rattle.std.proofs.Common.{◌≡◌, inl, inr, ℕ, max, ◌==◌, ◌&&◌, ◌-◌, nat_le, Bool, true, false, Option, Some, None, List, [], ◌∷◌, ◌++◌, length, refl, ap, sym, subst, ◌∙◌, cond}
 use Rattle.std.specs.Cmp.{unsigned_Decides}
 use Rattle.coap_types.specs.Past.{Ever}
-use Rattle.coap_types.proofs.Facts.Traces.{Ever_front, Ever_back, Ever_map}
 use Rattle.coap_types.specs.declared.endpoint.Endpoint.{Endpoint}
 use Rattle.coap_types.specs.declared.message.Kind.{Kind}
 use Rattle.coap_types.specs.declared.message.Kind.TheVariants.{Con, Non, Ack, Rst}
@@ -10,32 +9,20 @@ use Rattle.coap_types.specs.SameEndpoint.{same_endpoint}
 use Rattle.coap_types.proofs.Facts.Endpoints.{same_endpoint_is}
 use Rattle.coap_codec.specs.Message.{Message, kind_number}
 use Rattle.coap_layer.specs.Trace as L
-use Rattle.coap_layer.specs.Machine.State as S
-use Rattle.coap_layer.specs.Machine.Steps.{Steps, entries, left_after}
-use Rattle.coap_layer.specs.Machine.Steps as G
 use Rattle.coap_resource.specs.Content.{Content}
 use Rattle.coap_resource.specs.Serves.{Question}
 use Rattle.coap_exchange.specs.declared.answerer.Asked.{Asked}
 use Rattle.coap_exchange.specs.declared.answerer.Due.{Due}
 use Rattle.coap_exchange.specs.declared.answerer.Due.TheVariants as due
-use Rattle.coap_exchange.specs.AnswererTrace as E
-use Rattle.coap_exchange.specs.AnswererSteps as P
-use Rattle.coap_exchange.specs.AnswererSteps.{asked_of}
 use Rattle.coap_exchange.specs.AnswererFollows.{same_asked}
-use Rattle.coap_exchange.specs.AnswererLaw as W
-use Rattle.coap_exchange.specs.AskerRequests.{asked}
-use Rattle.coap_exchange.specs.AskerArrivals.{id_in, replying}
 use Rattle.coap_exchange.specs.Tokens.{same_token}
 use Rattle.std.proofs.lemmas.Bool.{and_parts}
 use Rattle.coap_exchange.proofs.Facts.SameToken.{same_token_is}
 use Rattle.coap_ends.specs.ServerTrace.{Waiting, Own, Handling, Silent, Refuses, Serves, Waits, Call, Sets, Removes, Delays, Feeds, Ticks, NextOut}
 use Rattle.coap_ends.specs.ServerChecks.{Verdict, Ignored, Refused, Asks, verdict_on}
-use Rattle.coap_ends.specs.ServerSteps.{lower, answering, Handles, AsksBy, AnswersWaiting, IsRight, is_of, question_of, without_waiting, waiting_with, waiting_after, waits_by, delay_of}
-use Rattle.coap_ends.specs.ServerLaw.{own_of, lower_of, ServerRows}
+use Rattle.coap_ends.specs.ServerSteps.{Handles, AsksBy, AnswersWaiting, IsRight, is_of, question_of, without_waiting, waiting_with, waiting_after, waits_by, delay_of}
+use Rattle.coap_ends.specs.ServerLaw.{own_of, ServerRows}
 use Rattle.coap_ends.specs.Follows.ServerFollows.{Serving, serving}
-use Rattle.coap_ends.specs.Follows.ServerHands.{HandsUp, AreHandedUp}
-use Rattle.coap_ends.proofs.Replying.ServerReplies.{Came, came_by}
-use Rattle.coap_ends.proofs.Replying.ServerRepliesSo.{steps_back, law_back}
 
 -- requests that are alike are equal
 kind_is : (a b : Kind) → (kind_number a == kind_number b) ≡ true → a ≡ b
@@ -199,73 +186,3 @@ module _ (szx : ℕ) where
     served_from t (Removes now path answer left) law x e = absurd (cc e)
     served_from t (Delays path ms answer) law x e = absurd (cc e)
     served_from t (NextOut answer) law x e = absurd (cc e)
-
--- down to the layer
-abbrev Comes : Asked → Message → E.Call → Type 0
-Comes a m c = (at : ℕ) × (from : Endpoint) × (bytes : List ℕ) × (up : L.Answer) × (c ≡ E.Incoming at from bytes up (Some (a, m)))
-
-comes_fed : (a : Asked) (m : Message) (s : Own) (now : ℕ) (from : Endpoint) (bytes : List ℕ) (word : ℕ) (up : L.Answer) (h : Handling) (below : L.Answer)
-    → Ever (Comes a m) (lower s (Feeds now from bytes word up (Some (a, m)) h below))
-comes_fed a m s now from bytes word up h below =
-    let at : ℕ = max s.clock now in
-    Ever_back (Comes a m) (answering at (Some (a, m)) h below) (E.Incoming at from bytes up (Some (a, m)) ∷ []) (inl (at, from, bytes, up, refl))
-
-module _ (limit szx : ℕ) (a : Asked) (v : Verdict) where
-  -- the exchanges are told of it
-  pub told : (t : List Call) → Ever (Hands szx a v) t → (m : Message) × (verdict_on szx m ≡ v) × Ever (Comes a m) (lower_of limit szx t)
-  told [] h = absurd h
-  told (c ∷ t) (inr h) = let k = told t h in (k.0, k.1, Ever_back (Comes a k.0) (lower (own_of limit szx t) c) (lower_of limit szx t) k.2)
-  told (c ∷ t) (inl h) = (
-    h.message,
-    h.verdict,
-    Ever_front (Comes a h.message) (lower (own_of limit szx t) c) (lower_of limit szx t)
-        (subst (λ d. Ever (Comes a h.message) (lower (own_of limit szx t) d)) (sym h.is) (comes_fed a h.message (own_of limit szx t) h.now h.from h.bytes h.word h.up h.handling h.below)),
-  )
-
-abbrev Arrives : Asked → Message → L.Call → L.Answer → Type 0
-Arrives a m call answer = (bytes : List ℕ) × (call ≡ L.Receive a.from bytes) × (answer ≡ L.Becomes (L.Request m true)) × (a ≡ asked_of a.from m)
-
-arrives_here : (a : Asked) (m : Message) (s : E.Own) (at : ℕ) (from : Endpoint) (bytes : List ℕ) (up : L.Answer) → P.IsRight s (E.Incoming at from bytes up (Some (a, m)))
-    → Ever (λ (b : G.Asked). Arrives a m b.call b.answer) (P.lower s (E.Incoming at from bytes up (Some (a, m))))
-arrives_here a m s at from bytes up right =
-    let c : Came from up a m = came_by from up a m right in
-    let from_is : a.from ≡ from = ap (λ (x : Asked). x.from) c.asked_is in
-    Ever_back (λ (b : G.Asked). Arrives a m b.call b.answer) (replying from (id_in up) (P.reject_by up)) (asked at (L.Receive from bytes) up ∷ [])
-    (inl (bytes, ap (λ x. L.Receive x bytes) (sym from_is), c.up_is, c.asked_is ∙ ap (λ x. asked_of x m) (sym from_is)))
-
-arrives : (a : Asked) (m : Message) (t : List E.Call) → W.AnswererLaw t → Ever (Comes a m) t → Ever (λ (b : G.Asked). Arrives a m b.call b.answer) (W.lower_of t)
-arrives a m [] law h = h
-arrives a m (c ∷ t) law (inr h) = Ever_back (λ (b : G.Asked). Arrives a m b.call b.answer) (P.lower (W.own_of t) c) (W.lower_of t) (arrives a m t law.1 h)
-arrives a m (c ∷ t) law (inl h) =
-    Ever_front (λ (b : G.Asked). Arrives a m b.call b.answer) (P.lower (W.own_of t) c) (W.lower_of t)
-    (subst (λ d. Ever (λ (b : G.Asked). Arrives a m b.call b.answer) (P.lower (W.own_of t) d)) (sym h.4) (arrives_here a m (W.own_of t) h.0 h.1 h.2 h.3 (subst (P.IsRight (W.own_of t)) h.4 law.0)))
-
--- an entry for each call
-pub left_is : (old new : S.State) (calls : List G.Asked) → Steps old calls new → new ≡ left_after old calls
-left_is old new [] h = h
-left_is old new (a ∷ earlier) h = h.2.new_is ∙ ap (λ s. S.forgotten (S.after s (S.made s a.now a.call))) (left_is old h.0 earlier h.1)
-
-pub entry_of : (K : L.Call → L.Answer → Type 0) (old new : S.State) (calls : List G.Asked) → Steps old calls new → Ever (λ (b : G.Asked). K b.call b.answer) calls → Ever (λ (e : L.Entry). K e.call e.answer) (entries old calls)
-entry_of K old new [] h e = e
-entry_of K old new (a ∷ earlier) h (inr e) = inr (entry_of K old h.0 earlier h.1 e)
-entry_of K old new (a ∷ earlier) h (inl e) =
-    let s : S.State = left_after old earlier in
-    let right : a.answer ≡ S.answer_of s (S.moment s a.now a.call) a.call = subst (λ w. a.answer ≡ S.answer_of w (S.moment w a.now a.call) a.call) (left_is old h.0 earlier h.1) h.2.right in
-    inl (subst (K a.call) right e)
-
-pub are_handed : (limit szx word : ℕ) (t : List Call) → ServerRows limit szx t → W.AnswererLaw (lower_of limit szx t) → (h : S.State) → Steps (S.start word) (W.lower_of (lower_of limit szx t)) h
-    → (a : Asked) (v : Verdict) → Ever (Hands szx a v) t → Ever (HandsUp szx a v) (W.below_of word (lower_of limit szx t))
-are_handed limit szx word t rows law h steps a v here =
-    let k = told limit szx a v t here in
-    Ever_map (λ (e : L.Entry). Arrives a k.0 e.call e.answer) (HandsUp szx a v) (λ e z. record { message = k.0; bytes = z.0; call = z.1; answer = z.2; asked_is = z.3; verdict = k.1 })
-    (W.below_of word (lower_of limit szx t)) (entry_of (Arrives a k.0) (S.start word) h (W.lower_of (lower_of limit szx t)) steps (arrives a k.0 (lower_of limit szx t) law k.2))
-
--- each serving, at its place
-pub handed_up : (limit szx word : ℕ) (t : List Call) → ServerRows limit szx t → W.AnswererLaw (lower_of limit szx t) → (h : S.State) → Steps (S.start word) (W.lower_of (lower_of limit szx t)) h → AreHandedUp limit szx word t
-handed_up limit szx word [] rows law h steps = tt
-handed_up limit szx word (c ∷ t) rows law h steps =
-    let xs : List E.Call = lower (own_of limit szx t) c in
-    let back = steps_back word xs (lower_of limit szx t) (h, steps) in (
-      λ x is. are_handed limit szx word (c ∷ t) rows law h steps x.asked (Asks x.question) (served_from szx limit t c rows x is),
-      handed_up limit szx word t rows.1 (law_back word xs (lower_of limit szx t) law) back.0 back.1,
-    )

@@ -32,7 +32,7 @@ module _ (limit szx : ℕ) (a : Asked) (v : Verdict) where
   abbrev pub Brought : List Call → Type 0
   Brought t = (m : Message) × Ever (Brings a m) t × (verdict_on szx m ≡ v)
 
-  here : (t : List Call) (c : Call) → AreRequests (lower_of limit szx (c ∷ t)) → (h : Hands szx a v c) → Brings a h.message c
+  pub here : (t : List Call) (c : Call) → AreRequests (lower_of limit szx (c ∷ t)) → (h : Hands szx a v c) → Brings a h.message c
   here t c law h =
       let d : Call = Feeds h.now h.from h.bytes h.word h.up (Some (a, h.message)) h.handling h.below in
       let at : ℕ = max (own_of limit szx t).clock h.now in

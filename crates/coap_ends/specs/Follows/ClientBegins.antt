@@ -9,7 +9,7 @@ use Rattle.coap_layer.specs.Trace.{with_head}
 use Rattle.coap_layer.specs.Words.{Open, begun}
 use Rattle.coap_exchange.specs.AskerRequests.{content_of}
 use Rattle.coap_ends.specs.ClientTrace.{Call}
-use Rattle.coap_ends.specs.ClientRequests.{message_of}
+use Rattle.coap_ends.specs.ClientRequests.{message_by}
 use Rattle.coap_ends.specs.Adds.{client_adds}
 use Rattle.coap_ends.specs.ClientLaw.{own_of, layer_of}
 use Rattle.coap_ends.specs.Follows.ClientFollows.{Sending, sends, WasSent}
@@ -19,8 +19,8 @@ pub record IsRequestOf (server : Endpoint) (con : Open) (t : List Call) : Type 0
   pub request : Sending
   pub sent : WasSent request t
   pub to : con.to ≡ server
-  pub bytes : con.bytes ≡ message_bytes (with_head Con con.id (content_of request.token (message_of request.operation.request)))
-  pub spelled : IsSpelled (content_of request.token (message_of request.operation.request))
+  pub bytes : con.bytes ≡ message_bytes (with_head Con con.id (content_of request.token (message_by request.operation.request request.role)))
+  pub spelled : IsSpelled (content_of request.token (message_by request.operation.request request.role))
 
 abbrev pub ConsAreRequests : Endpoint → ℕ → List Call → Type 0
 ConsAreRequests server word t = (con : Open) → Ever (λ b. begun b ≡ Some con) (layer_of server word t) → IsRequestOf server con t
@@ -30,8 +30,8 @@ pub record SendsNow (server : Endpoint) (con : Open) (past : List Call) (c : Cal
   pub request : Sending
   pub sends_it : sends (own_of past) c ≡ Some request
   pub to : con.to ≡ server
-  pub bytes : con.bytes ≡ message_bytes (with_head Con con.id (content_of request.token (message_of request.operation.request)))
-  pub spelled : IsSpelled (content_of request.token (message_of request.operation.request))
+  pub bytes : con.bytes ≡ message_bytes (with_head Con con.id (content_of request.token (message_by request.operation.request request.role)))
+  pub spelled : IsSpelled (content_of request.token (message_by request.operation.request request.role))
 
 -- A CON begins in the entries that the very call adds which sends its request.
 abbrev pub BeginAtOnce : Endpoint → ℕ → List Call → Type 0

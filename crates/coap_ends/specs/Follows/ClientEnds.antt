@@ -5,10 +5,10 @@ use Rattle.coap_exchange.specs.declared.asker.AskRefusal.{AskRefusal}
 use Rattle.coap_exchange.specs.declared.asker.AskRefusal.TheVariants as refusal
 use Rattle.coap_exchange.specs.declared.asker.Event.TheVariants as event
 use Rattle.coap_exchange.specs.declared.asker.Turn.TheVariants as turn
-use Rattle.coap_ends.specs.ClientTrace.{Operation, Request, Report, Timeout, Reset, NoResponse, NoIds, Reported, Call, Feeds, Ticks}
+use Rattle.coap_ends.specs.ClientTrace.{Request, Report, Timeout, Reset, NoResponse, NoIds, Reported, Call, Feeds, Ticks}
 use Rattle.coap_ends.specs.ClientSteps.{reports}
 use Rattle.coap_ends.specs.ClientLaw.{own_of}
-use Rattle.coap_ends.specs.Follows.ClientFollows.{WasTaken, WasSent}
+use Rattle.coap_ends.specs.Follows.ClientFollows.{Sending, WasTaken, WasSent}
 
 -- how the exchanges say that one ends: by a Reset, a failure, or want of a response
 abbrev pub ends_as : Call → Option Report
@@ -35,7 +35,7 @@ pub record ReportsEnds (past : List Call) (c : Call) : Type 0 where
   -- Each report is of a call that was taken.
   pub of_call : (x : Reported) → reports (own_of past) c ≡ Some x → (r : Request) × WasTaken (record { number = x.number; request = r }) past
   -- Each exchange that ends so is reported so, for a call whose request was sent; nothing else is reported so.
-  pub each : (r : Report) → ends_as c ≡ Some r → (op : Operation) × (token : List ℕ) × WasSent (record { operation = op; token = token }) past × (reports (own_of past) c ≡ Some (record { number = op.number; report = r }))
+  pub each : (r : Report) → ends_as c ≡ Some r → (x : Sending) × WasSent x past × (reports (own_of past) c ≡ Some (record { number = x.operation.number; report = r }))
   pub only : (x : Reported) → reports (own_of past) c ≡ Some x → is_end x.report ≡ true → ends_as c ≡ Some x.report
   -- NoIds is reported for want of a Message ID or of a token.
   pub no_ids : (number : ℕ) → reports (own_of past) c ≡ Some (record { number = number; report = NoIds }) → (why : AskRefusal) × (refuses c ≡ Some why) × IsWant why

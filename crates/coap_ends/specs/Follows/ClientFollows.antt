@@ -7,6 +7,7 @@ use Rattle.coap_types.specs.SameEndpoint.{same_endpoint}
 use Rattle.coap_codec.specs.Message.{Message, Spells}
 use Rattle.coap_exchange.specs.declared.asker.Event.TheVariants as event
 use Rattle.coap_ends.specs.ClientTrace.{Operation, Report, Body, Done, Failed, TooLarge, Reported, Taken, Own, Call, Calls, Feeds, Ticks}
+use Rattle.coap_ends.specs.ClientRequests.{Role, Alone, has_own_token}
 use Rattle.coap_ends.specs.ClientReports.{report_of}
 use Rattle.coap_ends.specs.ClientSteps.{starting, reports}
 use Rattle.coap_ends.specs.ClientLaw.{own_of}
@@ -19,23 +20,24 @@ takes _ = None
 abbrev pub WasTaken : Operation → List Call → Type 0
 WasTaken op t = Ever (λ c. takes c ≡ Some op) t
 
--- a request of an operation, by its token
+-- a request of an operation: what it is of it, and its token
 pub record Sending : Type 0 where
   pub operation : Operation
+  pub role : Role
   pub token : List ℕ
 
 -- what a call sends for the first time
 abbrev pub sends : Own → Call → Option Sending
-sends s (Ticks now word below t sent (Ok token) answer) = option_map (λ op. record { operation = op; token = token }) (starting s t)
+sends s (Ticks now word below t sent (Ok token) answer) = option_map (λ op. record { operation = op; role = Alone; token = token }) (starting s t)
 sends s _ = None
 
 abbrev pub WasSent : Sending → List Call → Type 0
 WasSent x t = Sometime (λ past c. sends (own_of past) c ≡ Some x) t
 
--- What is sent was taken before, and no request has had its token.
+-- What is sent was taken before, and no request has had its token, where that is its own.
 pub record IsSent (past : List Call) (c : Call) : Type 0 where
   pub taken : (x : Sending) → sends (own_of past) c ≡ Some x → WasTaken x.operation past
-  pub fresh : (x y : Sending) → sends (own_of past) c ≡ Some x → WasSent y past → y.token ≡ x.token → ⊥
+  pub fresh : (x y : Sending) → sends (own_of past) c ≡ Some x → has_own_token x.role ≡ true → WasSent y past → y.token ≡ x.token → ⊥
 
 abbrev pub AreSent : List Call → Type 0
 AreSent trace = Always IsSent trace
@@ -61,7 +63,8 @@ pub record OfAnswer (past : List Call) (c : Call) (x : Reported) : Type 0 where
   pub operation : Operation
   pub number : operation.number ≡ x.number
   pub taken : WasTaken operation past
-  pub sent : WasSent (record { operation = operation; token = message.token }) past
+  pub role : Role
+  pub sent : WasSent (record { operation = operation; role = role; token = message.token }) past
   pub report : x.report ≡ report_of operation.request.method message
 
 abbrev pub ReportsAreAnswers : List Call → Type 0

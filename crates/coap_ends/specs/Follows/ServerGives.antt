@@ -18,7 +18,7 @@ use Rattle.coap_ends.specs.ServerChecks.{Refused}
 use Rattle.coap_ends.specs.ServerSteps.{bare}
 use Rattle.coap_ends.specs.ServerLaw.{own_of, layer_of}
 use Rattle.coap_ends.specs.Follows.ServerFollows.{Serving, serving}
-use Rattle.coap_ends.specs.Follows.ServerHands.{HandsUp}
+use Rattle.coap_ends.specs.Follows.ServerHands.{Comes}
 
 -- The datagram carries this response to this request: to its endpoint and with its token, whatever the type and the
 -- Message ID.
@@ -47,7 +47,7 @@ module _ (limit szx : ℕ) where
   pub record CarriesRefusal (word : ℕ) (past : List Call) (c : Call) (p : L.Packet) : Type 0 where
     pub asked : Asked
     pub code : ℕ
-    pub handed : Ever (HandsUp szx asked (Refused code)) (layer_of limit szx word (c ∷ past))
+    pub handed : Sometime (Comes limit szx word asked (Refused code)) (c ∷ past)
     pub carries : Carries p asked (bare code)
 
   abbrev pub CarriesResponse : ℕ → L.Packet → List Call → Call → Type 0

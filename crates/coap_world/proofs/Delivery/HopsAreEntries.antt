@@ -1,22 +1,14 @@
 -- The hops are the entries of the two layers.
-use Rattle.std.proofs.Common.{◌≡◌, ℕ, true, List, [], ◌∷◌, ◌++◌, map, refl, ap, sym, ◌∙◌, append_assoc}
-use Rattle.coap_types.specs.declared.endpoint.Endpoint.{Endpoint}
+use Rattle.std.proofs.Common.{◌≡◌, true, List, [], ◌∷◌, ◌++◌, map, refl, ap, sym, ◌∙◌}
 use Rattle.coap_layer.specs.Channel.{Hop, Near, Far, near_of, far_of}
-use Rattle.coap_layer.specs.Machine.State.{State, start, made, after, forgotten}
-use Rattle.coap_layer.specs.Machine.Steps.{Asked, left_after, entries}
+use Rattle.coap_layer.specs.Machine.State.{start}
+use Rattle.coap_layer.specs.Machine.Steps.{entries}
 use Rattle.coap_layer.specs.Trace as L
-use Rattle.coap_exchange.specs.AskerTrace as A
-use Rattle.coap_exchange.specs.AskerLaw as asker
-use Rattle.coap_exchange.specs.AskerSteps as asker_steps
-use Rattle.coap_exchange.specs.AnswererTrace as R
 use Rattle.coap_exchange.specs.AnswererLaw as answerer
-use Rattle.coap_exchange.specs.AnswererSteps as answerer_steps
 use Rattle.coap_ends.specs.ClientTrace as C
 use Rattle.coap_ends.specs.ClientLaw as client
-use Rattle.coap_ends.specs.ClientSteps as client_steps
 use Rattle.coap_ends.specs.ServerTrace as S
 use Rattle.coap_ends.specs.ServerLaw as server
-use Rattle.coap_ends.specs.ServerSteps as server_steps
 use Rattle.coap_world.specs.Events.{server_end, Config}
 use Rattle.coap_world.specs.Record.{Entry, OfClient, OfServer, client_of, server_trace}
 use Rattle.coap_ends.proofs.Facts.Adds as adds

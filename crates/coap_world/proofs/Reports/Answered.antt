@@ -13,15 +13,13 @@ use Rattle.coap_resource.specs.ResponseOptions.{Says}
 use Rattle.coap_exchange.specs.declared.answerer.Asked.{Asked}
 use Rattle.coap_exchange.specs.AnswererSteps.{content_of}
 use Rattle.coap_exchange.specs.AnswererTrace as R
-use Rattle.coap_exchange.specs.AnswererLaw.{below_of}
 use Rattle.coap_ends.specs.Follows.ClientFollows.{heard}
 use Rattle.coap_ends.specs.Follows.ClientHears.{Hears}
 use Rattle.coap_ends.specs.ClientTrace as C
-use Rattle.coap_ends.specs.ServerChecks.{Refused, Asks}
+use Rattle.coap_ends.specs.ServerChecks.{Verdict, Refused, Asks}
 use Rattle.coap_ends.specs.Follows.ServerFollows.{Serving}
 use Rattle.coap_ends.specs.Follows.ServerGives.{Carries, IsEmpty, CarriesServed, CarriesRefusal, CarriesResponse}
-use Rattle.coap_ends.specs.Follows.ServerHands.{HandsUp}
-use Rattle.coap_ends.specs.ServerLaw.{layer_of}
+use Rattle.coap_ends.specs.Follows.ServerHands.{Comes}
 use Rattle.coap_ends.specs.ServerTrace as S
 use Rattle.coap_ends.proofs.Facts.OfClient as client_facts
 use Rattle.coap_ends.proofs.Facts.OfServer as server_facts
@@ -32,7 +30,7 @@ use Rattle.coap_world.specs.Hops.{hops_in}
 use Rattle.coap_world.specs.Record.{Entry, OfClient, OfServer, client_of, server_trace}
 use Rattle.coap_world.proofs.Requests.CameFrom.{came_here}
 use Rattle.coap_world.proofs.Reports.HeardWasSent.{Reads, SendsTo, was_given}
-use Rattle.coap_world.proofs.Delivery.HopsAreEntries.{near_is, far_is, begins_silent}
+use Rattle.coap_world.proofs.Delivery.HopsAreEntries.{near_is, far_is}
 use Rattle.coap_world.proofs.Reports.PartsOfARecord.{Lawful, IsHanded, lawful_back}
 
 -- the response is the reply of the store, to the request of a call, which is served here
@@ -63,11 +61,16 @@ module _ (config : Config) where
   CarriesAt p past (OfClient c) = ⊥
   CarriesAt p past (OfServer c) = CarriesResponse config.limit config.server_szx config.server_word p (server_trace config past) c
 
+  none_comes : (a : Asked) (v : Verdict) (ds : List S.Delay) → Sometime (Comes config.limit config.server_szx config.server_word a v) (map (λ (d : S.Delay). S.Delays d.path d.ms true) ds) → ⊥
+  none_comes a v [] h = h
+  none_comes a v (d ∷ ds) (inr h) = none_comes a v ds h
+  none_comes a v (d ∷ ds) (inl h) = let is = h.brings.is in cc is
+
   none_begun : (p : T.Packet) (ds : List S.Delay) → Sometime (CarriesResponse config.limit config.server_szx config.server_word p) (map (λ (d : S.Delay). S.Delays d.path d.ms true) ds) → ⊥
   none_begun p [] h = h
   none_begun p (d ∷ ds) (inr h) = none_begun p ds h
   none_begun p (d ∷ ds) (inl (inl k)) = let here = k.here in cc here
-  none_begun p (d ∷ ds) (inl (inr k)) = subst (λ calls. Ever (HandsUp config.server_szx k.asked (Refused k.code)) (below_of config.server_word calls)) (begins_silent config (d ∷ ds)) k.handed
+  none_begun p (d ∷ ds) (inl (inr k)) = none_comes k.asked (Refused k.code) (d ∷ ds) k.handed
 
   in_entries : (p : T.Packet) (all : List Entry) → Sometime (CarriesResponse config.limit config.server_szx config.server_word p) (server_trace config all) → Sometime (CarriesAt p) all
   in_entries p [] h = absurd (none_begun p config.delays h)
@@ -110,7 +113,7 @@ module _ (config : Config) where
     refused past c law k =
         let r : R.Response = record { code = k.code; options = []; payload = [] } in
         let code : k.code ≡ m.code = sym (ap (λ (y : Message). y.code) (carried k.asked r k.carries)) in
-        let up = subst (λ n. Ever (HandsUp config.server_szx k.asked (Refused n)) (layer_of config.limit config.server_szx config.server_word (server_trace config (OfServer c ∷ past)))) code k.handed in
+        let up = subst (λ n. Sometime (Comes config.limit config.server_szx config.server_word k.asked (Refused n)) (server_trace config (OfServer c ∷ past))) code k.handed in
         let came : CameFrom config past (OfServer c) k.asked (Refused m.code) = came_here config past c law.channel law.client k.asked (Refused m.code) up (of_client k.asked r k.carries) in
         record { asked = k.asked; came = came; from = of_client k.asked r k.carries; handed = up; token = sym (ap (λ (a : Asked). a.token) came.asked) ∙ token_of k.asked r k.carries }
 

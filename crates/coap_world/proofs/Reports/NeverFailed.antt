@@ -1,19 +1,23 @@
 -- Where another response than a success is reported, no request of the call is applied, before or after.
-use Rattle.std.proofs.Common.{◌≡◌, ◌⊎◌, inl, inr, ℕ, Bool, true, false, List, [], ◌∷◌, refl, ap, sym, subst, ◌∙◌}
-use Rattle.coap_types.specs.Past.{Ever, Sometime, Always}
-use Rattle.coap_types.proofs.Facts.Traces.{Ever_map, Sometime_map, Sometime_of_Sometime, Ever_of_Sometime, by_suffix, forget, same_place}
+use Rattle.std.proofs.Common.{◌≡◌, ◌⊎◌, ◌≤◌, inl, inr, ℕ, Bool, true, false, Option, Some, None, List, [], ◌∷◌, refl, ap, sym, subst, ◌∙◌, arith}
+use Rattle.coap_types.specs.Past.{Sometime, Always}
+use Rattle.coap_types.proofs.Facts.Traces.{Sometime_map, Sometime_of_Sometime, Ever_of_Sometime, by_suffix, forget}
 use Rattle.coap_codec.specs.Message.{Message, Spells}
 use Rattle.coap_codec.proofs.Facts.EveryDatagram.{one_message}
-use Rattle.coap_layer.specs.Channel.{Hop, Near, Far, near_of, far_of, OnFar}
+use Rattle.coap_layer.specs.Channel.{Hop, near_of}
 use Rattle.coap_layer.specs.Words.{Open}
-use Rattle.coap_layer.proofs.Facts.Hops.{to_far}
 use Rattle.coap_ends.specs.Follows.ClientFollows.{Sending, WasSent}
 use Rattle.coap_ends.specs.Follows.ClientSendings.{NoNons, OneCon, OneSending}
 use Rattle.coap_ends.specs.ClientTrace.{Failed}
 use Rattle.coap_ends.specs.ServerChecks.{Verdict, Refused, Asks, verdict_on}
-use Rattle.coap_ends.specs.Follows.ServerHands.{HandsUp}
-use Rattle.coap_ends.specs.Follows.ServerFollows.{Serving, is_applied}
+use Rattle.coap_ends.specs.Follows.ServerHands.{Comes}
+use Rattle.coap_ends.specs.Follows.ServerFollows.{Serving, hands, is_applied, times_handed}
+use Rattle.coap_ends.specs.Follows.ServerCounts.{ups, Counted}
+use Rattle.coap_ends.specs.ServerLaw.{layer_of}
+use Rattle.coap_exchange.specs.AnswererFollows.{hits, same_asked}
+use Rattle.coap_exchange.proofs.Facts.ServerSide.{self_hits}
 use Rattle.coap_ends.specs.ServerTrace as S
+use Rattle.coap_ends.proofs.Facts.OfClient as client_facts
 use Rattle.coap_ends.proofs.Facts.OfServer as server_facts
 use Rattle.coap_ends.proofs.Facts.OfServer.{all_served}
 use Rattle.coap_exchange.specs.declared.answerer.Asked.{Asked}
@@ -28,8 +32,8 @@ use Rattle.coap_world.specs.Record.{Entry, OfClient, OfServer, client_of, server
 use Rattle.coap_world.proofs.Delivery.HopsAreEntries.{far_is}
 use Rattle.coap_world.proofs.Reports.Answered.{Answers}
 use Rattle.coap_world.proofs.Requests.AtMostOnce.{ServesFor, applies_serves}
-use Rattle.coap_world.proofs.Requests.CameFrom.{UpOf, Found, find}
-use Rattle.coap_world.proofs.Requests.HandedUpOnce.{Any, up_once}
+use Rattle.coap_world.proofs.Requests.CameFrom.{Found, find, up_of}
+use Rattle.coap_world.proofs.Requests.HandedUpOnce.{up_once, once_counted}
 use Rattle.coap_world.proofs.Reports.Codes.{applied_by, failed_is, reply_right}
 use Rattle.coap_world.proofs.Reports.OnceDone.{came_is}
 use Rattle.coap_world.proofs.Reports.PartsOfARecord.{Lawful, PartOf, IsHanded, part_back, whole}
@@ -63,18 +67,43 @@ never P f [] h = h
 never P f (e ∷ past) (inl h) = f past e h
 never P f (e ∷ past) (inr h) = never P f past h
 
--- at one entry a request has one outcome
-one_outcome : (szx : ℕ) (a : Asked) (v w : Verdict) (h : Hop) → OnFar (UpOf (λ m. verdict_on szx m ≡ v) a) h → OnFar (UpOf (λ m. verdict_on szx m ≡ w) a) h → v ≡ w
-one_outcome szx a v w (Near e) k l = absurd k
-one_outcome szx a v w (Far e) k l =
-    let p = k.answer in
-    let q = l.answer in
-    let same : k.message ≡ l.message = cc (p, q) in
-    sym k.verdict ∙ (ap (verdict_on szx) same ∙ l.verdict)
+-- in one call a request comes to one thing
+abbrev brought_in : S.Call → Option Message
+brought_in (S.Feeds now from bytes word up (Some p) h below) = Some p.1
+brought_in c = None
 
-any_up : (V : Message → Type 0) (a : Asked) (h : Hop) → OnFar (UpOf V a) h → OnFar (UpOf Any a) h × OnFar (UpOf V a) h
-any_up V a (Near e) k = absurd k
-any_up V a (Far e) k = (record { message = k.message; bytes = k.bytes; call = k.call; answer = k.answer; asked_is = k.asked_is; verdict = tt }, k)
+one_brought : (m n : Message) → Some m ≡ Some n → m ≡ n
+one_brought m n h = cc h
+
+one_outcome : (limit szx word : ℕ) (a : Asked) (v w : Verdict) (past : List S.Call) (c : S.Call) → Comes limit szx word a v past c × Comes limit szx word a w past c → v ≡ w
+one_outcome limit szx word a v w past c k =
+    let same : k.0.message ≡ k.1.message = one_brought k.0.message k.1.message (sym (ap brought_in k.0.brings.is) ∙ ap brought_in k.1.brings.is) in
+    sym k.0.verdict ∙ (ap (verdict_on szx) same ∙ k.1.verdict)
+
+-- .. and it comes but once
+hands_it : (limit szx word : ℕ) (a : Asked) (v : Verdict) (past : List S.Call) (c : S.Call) → Comes limit szx word a v past c → hands c ≡ Some a × Comes limit szx word a v past c
+hands_it limit szx word a v past c k = (ap hands k.brings.is, k)
+
+module _ (limit szx : ℕ) (a : Asked) where
+  at_least : (t : List S.Call) → Sometime (λ past c. hands c ≡ Some a) t → 1 ≤ times_handed limit szx a t
+  at_least [] h = absurd h
+  at_least (c ∷ t) (inl h) = let e : hits (same_asked a) (hands c) ≡ hits (same_asked a) (Some a) = ap (λ o. hits (same_asked a) o) h in let f = self_hits a in omega (arith, e, f)
+  at_least (c ∷ t) (inr h) = let k = at_least t h in omega (arith, k)
+
+  handed_once : (t : List S.Call) → times_handed limit szx a t ≤ 1 → Always (λ past c. hands c ≡ Some a → Sometime (λ past c. hands c ≡ Some a) past → ⊥) t
+  handed_once [] few = tt
+  handed_once (c ∷ t) few = (
+    λ h before.
+        let e : hits (same_asked a) (hands c) ≡ hits (same_asked a) (Some a) = ap (λ o. hits (same_asked a) o) h in
+        let f = self_hits a in
+        let k = at_least t before in
+        omega (arith, few, e, f, k),
+    handed_once t (omega (arith, few)),
+  )
+
+  counted_in : (word : ℕ) (t : List S.Call) → Counted limit szx word t → times_handed limit szx a t ≤ ups a (layer_of limit szx word t)
+  counted_in word [] h = omega arith
+  counted_in word (c ∷ t) h = h.0 a
 
 module _ (config : Config) (all : List Entry) (number : ℕ) where
   -- the request with this outcome is served here
@@ -116,17 +145,11 @@ module _ (config : Config) (all : List Entry) (number : ℕ) where
     abbrev hops : List Hop
     hops = hops_in config all
 
-    up : (a : Asked) (v : Verdict) → IsHanded config a v all → Ever (OnFar (UpOf (λ m. verdict_on config.server_szx m ≡ v) a)) hops
-    up a v h =
-        to_far (UpOf (λ m. verdict_on config.server_szx m ≡ v) a) hops
-        (Ever_map (HandsUp config.server_szx a v) (UpOf (λ m. verdict_on config.server_szx m ≡ v) a)
-        (λ e u. record { message = u.message; bytes = u.bytes; call = u.call; answer = u.answer; asked_is = u.asked_is; verdict = u.verdict }) (far_of hops) (subst (Ever (HandsUp config.server_szx a v)) (sym (far_is config all)) h))
-
     found : (v : Verdict) (k : HasOutcome v) → Found client_end server_end (λ m. verdict_on config.server_szx m ≡ v) k.asked hops
-    found v k = find config.client_word config.server_word client_end server_end (λ m. verdict_on config.server_szx m ≡ v) k.asked k.from hops law.channel nons (up k.asked v k.handed)
+    found v k = find config.client_word config.server_word client_end server_end (λ m. verdict_on config.server_szx m ≡ v) k.asked k.from hops law.channel nons (up_of config all k.asked v k.handed)
 
-    same_asked : (v w : Verdict) (k : HasOutcome v) (l : HasOutcome w) → k.sending.token ≡ l.sending.token → k.asked ≡ l.asked
-    same_asked v w k l same =
+    same_asked_of : (v w : Verdict) (k : HasOutcome v) (l : HasOutcome w) → k.sending.token ≡ l.sending.token → k.asked ≡ l.asked
+    same_asked_of v w k l same =
         let f = found v k in
         let g = found w l in
         let token : f.message.token ≡ g.message.token = sym (ap (λ (a : Asked). a.token) f.asked) ∙ (sym k.token ∙ (same ∙ (l.token ∙ ap (λ (a : Asked). a.token) g.asked))) in
@@ -134,20 +157,28 @@ module _ (config : Config) (all : List Entry) (number : ℕ) where
         let message = one_message f.con.bytes f.message g.message f.are_bytes f.spells (subst (λ (c : Open). Spells c.bytes g.message) (sym con) g.spells) in
         f.asked ∙ (ap (asked_of client_end) message ∙ sym g.asked)
 
+    once : (a : Asked) → a.from ≡ client_end → Always (λ past c. hands c ≡ Some a → Sometime (λ past c. hands c ≡ Some a) past → ⊥) (server_trace config all)
+    once a from =
+        let few = once_counted a hops (up_once config.client_word config.server_word client_end server_end a from hops law.channel nons cons) in
+        let same = ap (ups a) (far_is config all) in
+        let as_often = counted_in config.limit config.server_szx a config.server_word (server_trace config all) (server_facts.counts config.limit config.server_szx config.server_word (server_trace config all) law.server) in
+        handed_once config.limit config.server_szx a (server_trace config all) (omega (arith, few, same, as_often))
+
     one_outcome_of : (v w : Verdict) (k : HasOutcome v) (l : HasOutcome w) → k.sending.token ≡ l.sending.token → v ≡ w
     one_outcome_of v w k l same =
         let a : Asked = k.asked in
-        let V = λ (x : Verdict) (m : Message). verdict_on config.server_szx m ≡ x in
-        let is = sym (same_asked v w k l same) in
-        let there = Ever_map (OnFar (UpOf (V v) a)) (λ h. OnFar (UpOf Any a) h × OnFar (UpOf (V v) a) h) (any_up (V v) a) hops (up a v k.handed) in
-        let here = Ever_map (OnFar (UpOf (V w) a)) (λ h. OnFar (UpOf Any a) h × OnFar (UpOf (V w) a) h) (any_up (V w) a) hops (up a w (subst (λ z. IsHanded config z w all) is l.handed)) in
-        forget (v ≡ w) hops
-        (Ever_map _ (λ h. v ≡ w) (λ h z. one_outcome config.server_szx a v w h z.1 z.2) hops
-        (same_place (OnFar (UpOf Any a)) (OnFar (UpOf (V v) a)) (OnFar (UpOf (V w) a)) hops (up_once config.client_word config.server_word client_end server_end a k.from hops law.channel nons cons) there here))
+        let t : List S.Call = server_trace config all in
+        let C = Comes config.limit config.server_szx config.server_word a in
+        let H = λ (past : List S.Call) (c : S.Call). hands c ≡ Some a in
+        let there = Sometime_map (C v) (λ past c. H past c × C v past c) (hands_it config.limit config.server_szx config.server_word a v) t k.handed in
+        let here = Sometime_map (C w) (λ past c. H past c × C w past c) (hands_it config.limit config.server_szx config.server_word a w) t (subst (λ z. IsHanded config z w all) (sym (same_asked_of v w k l same)) l.handed) in
+        forget (v ≡ w) t
+        (Ever_of_Sometime (λ past c. C v past c × C w past c) (λ c. v ≡ w) (λ past c z. inl (one_outcome config.limit config.server_szx config.server_word a v w past c z)) t
+        (once_same H (C v) (C w) t (once a k.from) there here))
 
     not_asked : OneSending (client_of all) → IsRefused → IsAsked → ⊥
     not_asked one r a =
-        let same : r.1.sending ≡ a.1.sending = one.of_number r.1.sending a.1.sending r.1.sent a.1.sent (r.1.number_is ∙ sym a.1.number_is) in
+        let same : r.1.sending ≡ a.1.sending = one.of_last r.1.sending a.1.sending r.1.sent a.1.sent (r.1.number_is ∙ sym a.1.number_is) (client_facts.each_last r.1.sending.role) (client_facts.each_last a.1.sending.role) in
         let e : Refused r.0 ≡ Asks a.0 = one_outcome_of (Refused r.0) (Asks a.0) r.1 a.1 (ap (λ (s : Sending). s.token) same) in
         cc e
 
@@ -206,12 +237,12 @@ module _ (config : Config) (all : List Entry) (number : ℕ) where
         let came : CameFrom config past e a.request.asked (Asks a.request.question) = l.1.0 a.request a.here a.from in
         let sent = (part_back config all past e l.0).sent came.sending came.sent in
         let token : came.sending.token ≡ a.request.asked.token = sym (ap (λ (k : Asked). k.token) came.asked) in
-        let same = one.of_token came.sending (record { operation = record { number = number; request = a.belongs.0 }; token = a.request.asked.token }) sent a.belongs.1 token in (
+        let same = one.of_token came.sending a.belongs.0 sent a.belongs.1 (token ∙ sym a.belongs.3) (client_facts.each_own came.sending.role) (client_facts.each_own a.belongs.0.role) in (
           a.request.question,
           record {
             sending = came.sending;
             sent = sent;
-            number_is = ap (λ (x : Sending). x.operation.number) same;
+            number_is = ap (λ (x : Sending). x.operation.number) same ∙ a.belongs.2;
             asked = a.request.asked;
             from = a.from;
             token = token;

@@ -1,14 +1,13 @@
 -- The laws of a record hold of each part of it: of what came before an entry.
-use Rattle.std.proofs.Common.{inr, sym, subst, List, [], ◌∷◌, map}
-use Rattle.coap_types.specs.Past.{Ever}
-use Rattle.coap_types.proofs.Facts.Traces.{Ever_back}
+use Rattle.std.proofs.Common.{inr, List, [], ◌∷◌, map}
+use Rattle.coap_types.specs.Past.{Sometime}
 use Rattle.coap_layer.specs.Channel.{Near, Far}
 use Rattle.coap_exchange.specs.declared.answerer.Asked.{Asked}
 use Rattle.coap_ends.specs.Follows.ClientFollows.{Sending, WasSent}
 use Rattle.coap_ends.specs.ClientLaw.{ClientLaw}
 use Rattle.coap_ends.specs.ServerChecks.{Verdict}
-use Rattle.coap_ends.specs.ServerLaw.{ServerLaw, layer_of}
-use Rattle.coap_ends.specs.Follows.ServerHands.{HandsUp}
+use Rattle.coap_ends.specs.ServerLaw.{ServerLaw}
+use Rattle.coap_ends.specs.Follows.ServerHands.{Comes}
 use Rattle.coap_ends.specs.Follows.ServerShows.{FormatsInRange}
 use Rattle.coap_ends.proofs.Facts.OfClient as client_facts
 use Rattle.coap_ends.proofs.Facts.OfServer as server_facts
@@ -16,7 +15,6 @@ use Rattle.coap_world.specs.CameFrom.{IsChannel}
 use Rattle.coap_world.specs.Events.{server_end, Config}
 use Rattle.coap_world.specs.Hops.{hops_in, client_adds, server_adds}
 use Rattle.coap_world.specs.Record.{Entry, OfClient, OfServer, client_of, server_trace}
-use Rattle.coap_world.proofs.Delivery.HopsAreEntries.{server_next}
 use Rattle.coap_world.proofs.Requests.CameFrom.{channel_back}
 
 pub record Lawful (config : Config) (t : List Entry) : Type 0 where
@@ -43,7 +41,7 @@ lawful_back config past (OfServer c) law =
 
 -- a request with this outcome is handed up
 abbrev pub IsHanded : Config → Asked → Verdict → List Entry → Type 0
-IsHanded config a v t = Ever (HandsUp config.server_szx a v) (layer_of config.limit config.server_szx config.server_word (server_trace config t))
+IsHanded config a v t = Sometime (Comes config.limit config.server_szx config.server_word a v) (server_trace config t)
 
 -- a part of this record: what was sent, and handed up, then, was so in it
 pub record PartOf (config : Config) (all t : List Entry) : Type 0 where
@@ -54,9 +52,7 @@ pub record PartOf (config : Config) (all t : List Entry) : Type 0 where
 handed_back : (config : Config) (all past : List Entry) (e : Entry) → ((a : Asked) (v : Verdict) → IsHanded config a v (e ∷ past) → IsHanded config a v all) → (a : Asked) (v : Verdict) → IsHanded config a v past
     → IsHanded config a v all
 handed_back config all past (OfClient c) f = f
-handed_back config all past (OfServer c) f = λ a v k.
-    f a v (subst (Ever (HandsUp config.server_szx a v)) (sym (server_next config (server_trace config past) c))
-    (Ever_back (HandsUp config.server_szx a v) (server_adds config (server_trace config past) c) (layer_of config.limit config.server_szx config.server_word (server_trace config past)) k))
+handed_back config all past (OfServer c) f = λ a v k. f a v (inr k)
 
 sent_back : (all past : List Entry) (e : Entry) → ((x : Sending) → WasSent x (client_of (e ∷ past)) → WasSent x (client_of all)) → (x : Sending) → WasSent x (client_of past) → WasSent x (client_of all)
 sent_back all past (OfClient c) f = λ x k. f x (inr k)

@@ -1,5 +1,5 @@
 -- A report of a response is of a request of that call, which was served or refused since the call.
-use Rattle.std.proofs.Common.{◌≡◌, ℕ, true, List, [], ◌∷◌, refl, ap, sym, subst, ◌∙◌}
+use Rattle.std.proofs.Common.{◌≡◌, ℕ, true, List, [], ◌∷◌, refl, sym, subst, ◌∙◌}
 use Rattle.coap_types.specs.Past.{Sometime, Always}
 use Rattle.coap_types.proofs.Facts.Traces.{by_suffix}
 use Rattle.coap_codec.specs.Message.{Message}
@@ -17,14 +17,8 @@ use Rattle.coap_world.proofs.Reports.Answered.{Answers, answered}
 use Rattle.coap_world.proofs.Reports.PartsOfARecord.{Lawful, PartOf, part_back}
 use Rattle.coap_world.proofs.Requests.AppliedWhole.{taken_before}
 
--- a sending is its call's number, its request and its token
-sending_is : (s : Sending) (number : ℕ) (token : List ℕ) → s.operation.number ≡ number → s.token ≡ token → s ≡ record { operation = record { number = number; request = s.operation.request }; token = token }
-sending_is s number token n t =
-    ap {B = Sending} (λ k. record { operation = record { number = k; request = s.operation.request }; token = s.token }) n
-    ∙ ap {B = Sending} (λ k. record { operation = record { number = number; request = s.operation.request }; token = k }) t
-
 pub sent_for : (all : List Entry) (s : Sending) (number : ℕ) (token : List ℕ) → WasSent s (client_of all) → s.operation.number ≡ number → s.token ≡ token → SentFor number token all
-sent_for all s number token sent n t = (s.operation.request, subst (λ x. WasSent x (client_of all)) (sending_is s number token n t) sent)
+sent_for all s number token sent n t = (s, sent, n, t)
 
 -- what a client's law says of its sendings and its reports
 sent_by : (config : Config) (t : List C.Call) → ClientLaw server_end config.client_szx config.client_word t → AreSent t
@@ -52,7 +46,7 @@ module _ (config : Config) (number : ℕ) (report : Report) (all : List Entry) (
       let x : Reported = record { number = number; report = report } in
       let earlier = part_back config all past e part in
       let a : OfAnswer (client_of past) c x = (answers_by config (client_of (e ∷ past)) part.law.client).0 x here is_response in
-      let s : Sending = record { operation = a.operation; token = a.message.token } in
+      let s : Sending = record { operation = a.operation; role = a.role; token = a.message.token } in
       by_suffix (PartOf config all) (Answers config a.message) (Reporting config number report all) (part_back config all)
       (λ t b p k. record {
         message = a.message;
@@ -77,4 +71,4 @@ was_called config past s number law sent is =
 
 -- what came from a call, and has the token of a sending, is that sending
 pub one_is : (config : Config) (all : List Entry) → OneSending (client_of all) → (s came : Sending) (token : List ℕ) → WasSent s (client_of all) → WasSent came (client_of all) → s.token ≡ token → came.token ≡ token → came ≡ s
-one_is config all one s came token sent other k l = one.of_token came s other sent (l ∙ sym k)
+one_is config all one s came token sent other k l = one.of_token came s other sent (l ∙ sym k) (client.each_own came.role) (client.each_own s.role)

@@ -7,6 +7,10 @@ use Rattle.coap_types.specs.declared.request.Method.TheVariants.{Get, Post, Put,
 use Rattle.coap_resource.specs.Content.{Content, Held}
 use Rattle.coap_resource.specs.RequestOptions.{format_of}
 use Rattle.coap_resource.specs.Serves.{Question}
+use Rattle.coap_types.specs.declared.message.Kind.TheVariants.{Con}
+use Rattle.coap_layer.specs.Trace.{with_head}
+use Rattle.coap_exchange.specs.AskerRequests.{content_of}
+use Rattle.coap_ends.proofs.Facts.OfClient as client_facts
 use Rattle.coap_ends.specs.ClientTrace as C
 use Rattle.coap_ends.specs.ClientTrace.{Operation, Request}
 use Rattle.coap_ends.specs.ClientRequests.{payload_by}
@@ -43,8 +47,9 @@ pub record Asked (r : Request) (x : Serving) : Type 0 where
   pub format : r.method ≡ Put → IfSome r.format (λ f. f < 65536) → format_of x.question.options ≡ r.format
 
 pub asked_by : (szx id : ℕ) (s : Sending) (x : Serving) → IsAsked szx (request_of id s) x.question → Asked s.operation.request x
-asked_by szx id s x a =
+asked_by szx id s x b =
     let r : Request = s.operation.request in
+    let a = subst (λ m. IsAsked szx (with_head Con id (content_of s.token m)) x.question) (client_facts.each_alone r s.role) b in
     let same : a.method ≡ r.method = some_is a.method r.method (sym a.by ∙ method_is r.method) in
     record {
       method = ap (λ q. q.method) a.is ∙ same;
@@ -90,8 +95,8 @@ module _ (config : Config) (number : ℕ) (all : List Entry) (one : OneSending (
   whole_here past e up calls sent a came rows =
       let s : Sending = came.sending in
       let token : s.token ≡ a.request.asked.token = sym (ap (λ k. k.token) came.asked) in
-      let same = one.of_token s (record { operation = record { number = number; request = a.belongs.0 }; token = a.request.asked.token }) (up s came.sent) a.belongs.1 token in
-      let is_number : s.operation.number ≡ number = ap (λ (x : Sending). x.operation.number) same in
+      let same = one.of_token s a.belongs.0 (up s came.sent) a.belongs.1 (token ∙ sym a.belongs.3) (client_facts.each_own s.role) (client_facts.each_own a.belongs.0.role) in
+      let is_number : s.operation.number ≡ number = ap (λ (x : Sending). x.operation.number) same ∙ a.belongs.2 in
       let taken = taken_before s (client_of past) sent came.sent in
       let asked : Asked s.operation.request a.request = asked_by config.server_szx came.con.id s a.request (is_asked config.server_szx (request_of came.con.id s) a.request.question came.verdict) in
       record {

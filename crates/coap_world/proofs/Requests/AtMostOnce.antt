@@ -12,6 +12,7 @@ use Rattle.coap_ends.specs.Follows.ClientFollows.{Sending, WasSent}
 use Rattle.coap_ends.specs.ClientLaw.{layer_of}
 use Rattle.coap_ends.specs.Follows.ClientSendings.{NoNons, OneCon, OneSending}
 use Rattle.coap_ends.specs.ServerTrace as S
+use Rattle.coap_ends.proofs.Facts.OfClient as client_facts
 use Rattle.coap_ends.specs.ServerChecks.{Asks}
 use Rattle.coap_ends.specs.Follows.ServerFollows.{Serving, serving, asked_of as served_as, times_served, ServedOnce}
 use Rattle.coap_ends.specs.ServerLaw.{own_of}
@@ -62,11 +63,11 @@ module _ (config : Config) (number : ℕ) (all : List Entry) (one : OneSending (
   known : (past : List Entry) (e : Entry) → Later past → (a : ServesFor config number all past e) → CameFrom config past e a.request.asked (Asks a.request.question) → Known a.request
   known past e later a came =
       let token : came.sending.token ≡ a.request.asked.token = sym (ap (λ k. k.token) came.asked) in
-      let same = one.of_token came.sending (record { operation = record { number = number; request = a.belongs.0 }; token = a.request.asked.token }) (later.0 came.sending came.sent) a.belongs.1 token in
+      let same = one.of_token came.sending a.belongs.0 (later.0 came.sending came.sent) a.belongs.1 (token ∙ sym a.belongs.3) (client_facts.each_own came.sending.role) (client_facts.each_own a.belongs.0.role) in
       record {
         sending = came.sending;
         sent = later.0 came.sending came.sent;
-        number_is = ap (λ (x : Sending). x.operation.number) same;
+        number_is = ap (λ (x : Sending). x.operation.number) same ∙ a.belongs.2;
         past = past;
         entry = e;
         came = came;
@@ -74,10 +75,10 @@ module _ (config : Config) (number : ℕ) (all : List Entry) (one : OneSending (
         begun_then = later.1 came.con (subst (Ever (λ b. begun b ≡ Some came.con)) (near_is config past) came.begun_before);
       }
 
-  -- so two are one request
+  -- so two are one request: only the last of a call can be served
   same_request : (x y : Serving) → Known x → Known y → x.asked ≡ y.asked
   same_request x y k l =
-      let s : k.sending ≡ l.sending = one.of_number k.sending l.sending k.sent l.sent (k.number_is ∙ sym l.number_is) in
+      let s : k.sending ≡ l.sending = one.of_last k.sending l.sending k.sent l.sent (k.number_is ∙ sym l.number_is) (client_facts.each_last k.sending.role) (client_facts.each_last l.sending.role) in
       let r : k.came.sending ≡ l.came.sending = k.is ∙ (s ∙ sym l.is) in
       let c : k.came.con ≡ l.came.con = cons k.came.con l.came.con k.begun_then l.begun_then (request_of k.came.con.id k.came.sending) (request_of l.came.con.id l.came.sending) k.came.are_bytes l.came.are_bytes k.came.spells l.came.spells
       (ap (λ (z : Sending). z.token) r) in

@@ -1,6 +1,6 @@
 -- A request from the client's address that is served is the request of a call.
 use Rattle.std.proofs.Common.{◌≡◌, ◌<◌, inl, inr, ℕ, true, Some, List, [], ◌∷◌, ◌++◌, map, refl, ap, sym, subst, ◌∙◌, arith}
-use Rattle.coap_types.specs.Past.{Ever}
+use Rattle.coap_types.specs.Past.{Ever, Sometime}
 use Rattle.coap_types.proofs.Facts.Traces.{Ever_map}
 use Rattle.coap_types.specs.declared.endpoint.Endpoint.{Endpoint}
 use Rattle.coap_types.specs.declared.message.Kind.TheVariants.{Con}
@@ -21,8 +21,8 @@ use Rattle.coap_ends.specs.ClientLaw.{ClientLaw}
 use Rattle.coap_ends.specs.Follows.ClientSendings.{SendsNon, NoNons}
 use Rattle.coap_ends.specs.ServerTrace as S
 use Rattle.coap_ends.specs.ServerChecks.{Verdict, Asks, verdict_on}
-use Rattle.coap_ends.specs.Follows.ServerHands.{HandsUp, AreHandedUp}
-use Rattle.coap_ends.specs.ServerLaw.{ServerLaw, layer_of}
+use Rattle.coap_ends.specs.Follows.ServerHands.{Comes, AreHandedUp}
+use Rattle.coap_ends.specs.ServerLaw.{ServerLaw}
 use Rattle.coap_ends.proofs.Facts.OfClient as client_facts
 use Rattle.coap_ends.proofs.Facts.OfServer as server_facts
 use Rattle.coap_world.specs.CameFrom as W
@@ -155,15 +155,22 @@ module _ (config : Config) where
   abbrev OfLayer : List Entry → Type 0
   OfLayer t = AreHandedUp config.limit config.server_szx config.server_word (server_trace config t)
 
+  -- what comes to this is handed up by the server's layer
+  pub up_of : (t : List Entry) (a : Asked) (v : Verdict) → Sometime (Comes config.limit config.server_szx config.server_word a v) (server_trace config t)
+      → Ever (OnFar (UpOf (λ m. verdict_on config.server_szx m ≡ v) a)) (hops_in config t)
+  up_of t a v h =
+      let V = λ (m : Message). verdict_on config.server_szx m ≡ v in
+      let is = server_facts.IsUp config.limit config.server_szx config.server_word a v in
+      let layer = subst (Ever is) (sym (far_is config t)) (server_facts.up_in_layer config.limit config.server_szx config.server_word a v (server_trace config t) h) in
+      to_far (UpOf V a) (hops_in config t)
+      (Ever_map is (UpOf V a) (λ e u. record { message = u.0; bytes = u.1.bytes; call = u.1.call; answer = u.1.answer; asked_is = u.1.asked_is; verdict = u.2 }) (far_of (hops_in config t)) layer)
+
   -- what is handed up of the client's address, with this verdict
   pub came_here : (past : List Entry) (c : S.Call) → IsChannel config (OfServer c ∷ past) → FromClient past → (a : Asked) (v : Verdict)
-      → Ever (HandsUp config.server_szx a v) (layer_of config.limit config.server_szx config.server_word (server_trace config (OfServer c ∷ past))) → a.from ≡ client_end → CameFrom config past (OfServer c) a v
+      → Sometime (Comes config.limit config.server_szx config.server_word a v) (server_trace config (OfServer c ∷ past)) → a.from ≡ client_end → CameFrom config past (OfServer c) a v
   came_here past c law own a v up from =
       let e : Entry = OfServer c in
-      let there = subst (Ever (HandsUp config.server_szx a v)) (sym (far_is config (e ∷ past))) up in
-      let hops = to_far (UpOf (λ m. verdict_on config.server_szx m ≡ v) a) (hops_in config (e ∷ past))
-      (Ever_map (HandsUp config.server_szx a v) (UpOf (λ m. verdict_on config.server_szx m ≡ v) a)
-      (λ z u. record { message = u.message; bytes = u.bytes; call = u.call; answer = u.answer; asked_is = u.asked_is; verdict = u.verdict }) (far_of (hops_in config (e ∷ past))) there) in
+      let hops = up_of (e ∷ past) a v up in
       let none = subst NoNons (sym (near_is config (e ∷ past))) (client_facts.nons server_end config.client_word (client_of past)) in
       let f = find config.client_word config.server_word client_end server_end (λ m. verdict_on config.server_szx m ≡ v) a from (hops_in config (e ∷ past)) law none hops in
       let layer = subst (Ever (λ b. begun b ≡ Some f.con)) (near_is config (e ∷ past)) f.begun_before in

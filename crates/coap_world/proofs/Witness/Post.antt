@@ -5,12 +5,13 @@ use Rattle.std.proofs.Common.{◌++◌, inl, inr, Some, List, [], ◌∷◌, map
 use Rattle.std.specs.Prelude.{codes}
 use Rattle.coap_types.specs.Past.{Always}
 use Rattle.coap_exchange.specs.AnswererSteps.{asked_of}
+use Rattle.coap_ends.specs.ClientRequests.{Alone}
 use Rattle.coap_ends.specs.Follows.ServerFollows.{Serving}
 use Rattle.coap_world.specs.Words.{AppliesFor}
 use Rattle.coap_world.specs.Events.{Calls, Sets, TickClient, Deliver, client_end}
 use Rattle.coap_types.specs.Path.{IsPath}
 use Rattle.coap_world.specs.Legal.{IsRequest, AllLegal}
-use Rattle.coap_world.specs.LegalRuns.{config, event, from_client, from_server, plain, log, post, post_bytes, changed_bytes, done, Posts}
+use Rattle.coap_world.specs.LegalRuns.{config, event, from_client, from_server, plain, log, post, post_bytes, changed_bytes, done, Posts, token}
 use Rattle.coap_world.specs.Record.{Entry, OfClient, OfServer, Turn, Makes, entries_of}
 use Rattle.coap_world.proofs.Witness.Words.{config_range, bytes_are, path_of_one}
 use Rattle.coap_world.proofs.Witness.Turns.{a_turn, called, ticked, heard, made_call, made_tick, made_set, made_heard, made_fed, legal_call, legal_set, legal_tick, legal_to_client, legal_to_server}
@@ -73,7 +74,7 @@ applied = record {
   here = refl;
   applied = refl;
   from = refl;
-  belongs = (post, inr (inr (inr (inr (inr (inr (inr (inr (inl refl)))))))));
+  belongs = (record { operation = record { number = 0; request = post }; role = Alone; token = token }, inr (inr (inr (inr (inr (inr (inr (inr (inl refl)))))))), refl, refl);
 }
 
 pub posted : Posts

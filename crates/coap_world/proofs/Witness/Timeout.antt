@@ -6,6 +6,7 @@ use Rattle.std.specs.Prelude.{codes}
 use Rattle.coap_types.specs.Past.{Sometime, Always}
 use Rattle.coap_types.proofs.Facts.Traces.{Sometime_back}
 use Rattle.coap_exchange.specs.AnswererSteps.{asked_of}
+use Rattle.coap_ends.specs.ClientRequests.{Alone}
 use Rattle.coap_ends.specs.Follows.ClientFollows.{sends}
 use Rattle.coap_ends.specs.ClientLaw.{own_of}
 use Rattle.coap_ends.specs.ClientTrace as C
@@ -105,13 +106,13 @@ before = map OfClient client.calls ++ map OfServer post_server.set
 
 -- the request was sent before its copies
 abbrev SendsIt : List C.Call → C.Call → Type 0
-SendsIt past c = sends (own_of past) c ≡ Some (record { operation = record { number = 0; request = post }; token = token })
+SendsIt past c = sends (own_of past) c ≡ Some (record { operation = record { number = 0; request = post }; role = Alone; token = token })
 
 sent : Sometime SendsIt client.calls
 sent = Sometime_back SendsIt client.later (asking.before post post_bytes) (inr (inr (inr (inr (inl refl)))))
 
 applied : AppliesFor config 0 (entries_of turns) before (OfServer server.serves)
-applied = record { request = served; here = refl; applied = refl; from = refl; belongs = (post, sent) }
+applied = record { request = served; here = refl; applied = refl; from = refl; belongs = (record { operation = record { number = 0; request = post }; role = Alone; token = token }, sent, refl, refl) }
 
 pub timed : TimesOut
 timed = record {
