@@ -1,16 +1,19 @@
 ghost use Rattle.std.specs.Prelude.{◌≡◌, ℕ, List, [], ◌∷◌};
-ghost use Rattle.coap_ends.specs.WholeServer.ServerExact.{IsExact};
+ghost use Rattle.coap_ends.specs.WholeServer.Follows.ServerExact.{IsExact};
 ghost use Rattle.coap_ends.specs.WholeServer.ServerExample as example;
 ghost use Rattle.coap_ends.specs.WholeServer.ServerUploadExample as upload_example;
 ghost use Rattle.coap_exchange.specs.AnswererLaw as below;
 ghost use Rattle.coap_ends.specs.WholeServer.ServerLaw.{ServerLaw, lower_of, own_of};
 ghost use Rattle.coap_ends.specs.WholeServer.ServerLed.{Led, State, Step, fresh_state};
-ghost use Rattle.coap_ends.specs.WholeServer.ServerFollows.{AreHandedUp, BlocksCome, ServedOnce, VerdictsRead};
-ghost use Rattle.coap_ends.specs.WholeServer.ServerGives.{NoneContinues, SendsResponses};
-ghost use Rattle.coap_ends.specs.WholeServer.ServerRests.{TicksEnd};
-ghost use Rattle.coap_ends.specs.WholeServer.ServerTells.{AreObservers, EndsObservation, Follows};
+ghost use Rattle.coap_ends.specs.WholeServer.Follows.ServerBrings.{AreHandedUp, BlocksCome};
+ghost use Rattle.coap_ends.specs.WholeServer.Follows.ServerServes.{ServedOnce};
+ghost use Rattle.coap_ends.specs.WholeServer.Follows.ServerReads.{VerdictsRead};
+ghost use Rattle.coap_ends.specs.WholeServer.Follows.ServerGives.{NoneContinues, SendsResponses};
+ghost use Rattle.coap_ends.specs.WholeServer.Follows.ServerRests.{TicksEnd};
+ghost use Rattle.coap_ends.specs.WholeServer.Follows.ServerObserves.{AreObservers, EndsObservation};
+ghost use Rattle.coap_ends.specs.WholeServer.Follows.ServerTells.{Follows};
 ghost use Rattle.coap_ends.specs.WholeServer.ServerTrace.{Call};
-ghost use Rattle.coap_ends.specs.WholeServer.ServerWaits.{ReadyAreServed, WaitsAsDeferred};
+ghost use Rattle.coap_ends.specs.WholeServer.Follows.ServerWaits.{ReadyAreServed, WaitsAsDeferred};
 
 /// What leads to the state of a server stands in its whole law, uploads in blocks and observers among it, and what follows
 /// from that.

@@ -1,14 +1,14 @@
-use Rattle.coap_ends.proofs.WholeServer.ServerExactly.{is_exact}
-use Rattle.coap_ends.proofs.WholeServer.ServerLeading.{exchanges_kept, led_empty, led_further, led_lawful}
-use Rattle.coap_ends.proofs.WholeServer.ServerEnding.{ticks_end}
-use Rattle.coap_ends.proofs.WholeServer.ServerReads.{verdicts_read}
-use Rattle.coap_ends.proofs.WholeServer.ServerWaiting.{ready_are_served, waits_as_deferred}
-use Rattle.coap_ends.proofs.WholeServer.ServerEnds.{ends_observation, none_continues}
-use Rattle.coap_ends.proofs.WholeServer.ServerFollowing.{follows}
-use Rattle.coap_ends.proofs.WholeServer.ServerGiving.{sends_responses}
-use Rattle.coap_ends.proofs.WholeServer.ServerHanding.{handed_up, blocks_come}
-use Rattle.coap_ends.proofs.WholeServer.ServerObserving.{are_observers}
-use Rattle.coap_ends.proofs.WholeServer.ServerOnce.{served_once}
+use Rattle.coap_ends.proofs.WholeServer.Exact.ServerExactly.{is_exact}
+use Rattle.coap_ends.proofs.WholeServer.Exact.ServerLeads.{exchanges_kept, led_empty, led_further, led_lawful}
+use Rattle.coap_ends.proofs.WholeServer.Rest.ServerEnding.{ticks_end}
+use Rattle.coap_ends.proofs.WholeServer.Serving.ServerReads.{verdicts_read}
+use Rattle.coap_ends.proofs.WholeServer.Serving.ServerWaiting.{ready_are_served, waits_as_deferred}
+use Rattle.coap_ends.proofs.WholeServer.Observing.EndsObservation.{ends_observation, none_continues}
+use Rattle.coap_ends.proofs.WholeServer.Observing.ToldInOrder.{follows}
+use Rattle.coap_ends.proofs.WholeServer.Replying.ResponsesHaveRequests.{sends_responses}
+use Rattle.coap_ends.proofs.WholeServer.Serving.ServedWasHandedUp.{handed_up, blocks_come}
+use Rattle.coap_ends.proofs.WholeServer.Observing.ObserversWereMade.{are_observers}
+use Rattle.coap_ends.proofs.WholeServer.Serving.ServedOnce.{served_once}
 use Rattle.coap_exchange.proofs.Facts.ServerSide.{are_responses}
 use Rattle.coap_ends.specs.WholeServer.ServerLaw.{lower_of}
 use Rattle.coap_ends.proofs.whole_server.whole_server_law.Goals as goal

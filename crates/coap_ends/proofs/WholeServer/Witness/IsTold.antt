@@ -5,7 +5,7 @@ use Rattle.coap_layer.specs.Trace as L
 use Rattle.coap_exchange.specs.declared.answerer.Due.TheVariants as due
 use Rattle.coap_ends.specs.WholeServer.ServerTrace.{Serves, Notifies, Call, Sets, Feeds, Ticks, NextOut}
 use Rattle.coap_ends.specs.WholeServer.ServerLaw.{own_of}
-use Rattle.coap_ends.specs.WholeServer.ServerTells.{telling, NoneMade}
+use Rattle.coap_ends.specs.WholeServer.Follows.ServerTells.{telling, NoneMade}
 use Rattle.coap_ends.specs.WholeServer.ServerExample.{limit, client, token, path, get, request, asked, question, content_of, observer, a, b, response, sends}
 
 abbrev first : Call

@@ -20,10 +20,10 @@ use Rattle.coap_ends.specs.WholeServer.ServerHandling.{HandlesDue, is_done}
 use Rattle.coap_ends.specs.WholeServer.ServerAsks.{answering, responding}
 use Rattle.coap_ends.specs.WholeServer.ServerSteps.{came_after, due_after}
 use Rattle.coap_ends.specs.WholeServer.ServerLaw.{own_of, lower_of, ServerLaw}
-use Rattle.coap_ends.specs.WholeServer.ServerExact.{fed, turned, LeaveAlike, IsExact}
-use Rattle.coap_ends.proofs.WholeServer.ServerAsked.{joined, one_back, back, found, ticked, lower_same, moved}
-use Rattle.coap_ends.proofs.WholeServer.ServerHandled.{came_alike, waited_alike, next_alike}
-use Rattle.coap_ends.proofs.WholeServer.StoreExactly.{set_alike, removed_alike}
+use Rattle.coap_ends.specs.WholeServer.Follows.ServerExact.{fed, turned, LeaveAlike, IsExact}
+use Rattle.coap_ends.proofs.WholeServer.Exact.ServerAsked.{joined, one_back, back, found, ticked, lower_same, moved}
+use Rattle.coap_ends.proofs.WholeServer.Exact.OneHandling.{came_alike, waited_alike, next_alike}
+use Rattle.coap_ends.proofs.WholeServer.Exact.StoreExactly.{set_alike, removed_alike}
 
 module _ (word : ℕ) (s : Own) where
   -- a response

@@ -31,13 +31,13 @@ use Rattle.coap_ends.specs.WholeServer.ServerHandling.{incoming, ticking, heard,
 use Rattle.coap_ends.specs.WholeServer.ServerAsks.{responding}
 use Rattle.coap_ends.specs.WholeServer.ServerSteps.{exchanges_after}
 use Rattle.coap_ends.specs.WholeServer.ServerLaw.{ServerLaw, own_of, lower_of}
-use Rattle.coap_ends.specs.WholeServer.ServerFollows.{Serving, serving, serving_of}
+use Rattle.coap_ends.specs.WholeServer.Follows.ServerServes.{Serving, serving, serving_of}
 use Rattle.coap_exchange.specs.AnswererSteps.{may_defer}
-use Rattle.coap_ends.proofs.WholeServer.ServerComing.{server_back}
-use Rattle.coap_ends.proofs.WholeServer.ServerEnds.{first_row}
-use Rattle.coap_ends.proofs.WholeServer.ServerLeading.{exchanges_kept}
-use Rattle.coap_ends.specs.WholeServer.ServerWaits.{deferred_as, ready_in, WaitsAsDeferred, ReadyAreServed}
-use Rattle.coap_ends.proofs.WholeServer.ServerHanding.{same_asked_is}
+use Rattle.coap_ends.proofs.WholeServer.Serving.ServerBrought.{server_back}
+use Rattle.coap_ends.proofs.WholeServer.Observing.EndsObservation.{first_row}
+use Rattle.coap_ends.proofs.WholeServer.Exact.ServerLeads.{exchanges_kept}
+use Rattle.coap_ends.specs.WholeServer.Follows.ServerWaits.{deferred_as, ready_in, WaitsAsDeferred, ReadyAreServed}
+use Rattle.coap_ends.proofs.WholeServer.Serving.ServedWasHandedUp.{same_asked_is}
 
 -- what is ready, of what waits
 

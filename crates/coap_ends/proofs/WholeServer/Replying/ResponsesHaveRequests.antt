@@ -51,14 +51,15 @@ use Rattle.coap_ends.specs.WholeServer.ServerNotifying.{NotifiesNext, marked, be
 use Rattle.coap_ends.specs.WholeServer.ServerHandling.{incoming, ticking, heard, HandlesBlock, Handles}
 use Rattle.coap_ends.specs.WholeServer.ServerAsks.{lower}
 use Rattle.coap_ends.specs.WholeServer.ServerLaw.{ServerLaw, own_of, lower_of}
-use Rattle.coap_ends.specs.WholeServer.ServerFollows.{serving_of, took, took_by, taken_by}
-use Rattle.coap_ends.specs.WholeServer.ServerTells.{WasMade}
-use Rattle.coap_ends.specs.WholeServer.ServerGives.{Carries, NoticeOf, CarriesResponse, SentResponses, SendsResponses}
-use Rattle.coap_ends.proofs.WholeServer.ServerComing.{server_back, comes_here}
-use Rattle.coap_ends.proofs.WholeServer.ServerHanding.{joins_more}
-use Rattle.coap_ends.proofs.WholeServer.ServerObserving.{good, good_ended}
-use Rattle.coap_ends.proofs.WholeServer.ServerRising.{IsThere, behind_there, marked_there, next_is}
-use Rattle.coap_ends.proofs.WholeServer.ServerMakes.{called, CarriesIn, made}
+use Rattle.coap_ends.specs.WholeServer.Follows.ServerServes.{serving_of}
+use Rattle.coap_ends.specs.WholeServer.Follows.ServerTakes.{took, took_by, taken_by}
+use Rattle.coap_ends.specs.WholeServer.Follows.ServerObserves.{WasMade}
+use Rattle.coap_ends.specs.WholeServer.Follows.ServerGives.{Carries, NoticeOf, CarriesResponse, SentResponses, SendsResponses}
+use Rattle.coap_ends.proofs.WholeServer.Serving.ServerBrought.{server_back, comes_here}
+use Rattle.coap_ends.proofs.WholeServer.Serving.ServedWasHandedUp.{joins_more}
+use Rattle.coap_ends.proofs.WholeServer.Observing.ObserversWereMade.{good, good_ended}
+use Rattle.coap_ends.proofs.WholeServer.Observing.VersionsRise.{IsThere, behind_there, marked_there, next_is}
+use Rattle.coap_ends.proofs.WholeServer.Replying.LayerSendsResponses.{called, CarriesIn, made}
 use Rattle.coap_ends.specs.Follows.Sources.{Source}
 use Rattle.coap_ends.proofs.Facts.Sources.{sourced}
 

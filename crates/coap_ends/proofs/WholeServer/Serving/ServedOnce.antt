@@ -20,7 +20,7 @@ use Rattle.coap_ends.specs.WholeServer.ServerHandling.{incoming, ticking, heard}
 use Rattle.coap_ends.specs.WholeServer.ServerAsks.{lower, answering, responding}
 use Rattle.coap_exchange.specs.AnswererSteps.{may_defer}
 use Rattle.coap_ends.specs.WholeServer.ServerLaw.{own_of, lower_of}
-use Rattle.coap_ends.specs.WholeServer.ServerFollows.{Serving, serving, serving_of, asked_of, times_handed, times_served, ServedOnce}
+use Rattle.coap_ends.specs.WholeServer.Follows.ServerServes.{Serving, serving, serving_of, asked_of, times_handed, times_served, ServedOnce}
 
 abbrev pub H : Asked → List E.Call → ℕ
 H a calls = F.times_handed a calls

@@ -16,7 +16,7 @@ use Rattle.coap_ends.specs.WholeServer.ServerServing.{IsServed}
 use Rattle.coap_ends.specs.WholeServer.ServerDeferring.{WaitsBy, HandlesWhole, delay_for, AnswersWaiting}
 use Rattle.coap_ends.specs.WholeServer.ServerNotifying.{NotifiesNext}
 use Rattle.coap_ends.specs.WholeServer.ServerHandling.{HandlesBlock, Handles, HandlesCame}
-use Rattle.coap_ends.proofs.WholeServer.StoreExactly.{served_alike}
+use Rattle.coap_ends.proofs.WholeServer.Exact.StoreExactly.{served_alike}
 
 is_served : (old : Content) (at : ℕ) (q : Question) (h k : Handling) → IsServed old at q h → IsServed old at q k → h ≡ k
 is_served old at q h k a b =

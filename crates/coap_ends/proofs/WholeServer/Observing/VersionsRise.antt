@@ -32,12 +32,12 @@ use Rattle.coap_ends.specs.WholeServer.ServerHandling.{incoming, ticking, heard,
 use Rattle.coap_ends.specs.WholeServer.ServerAsks.{answering, responding}
 use Rattle.coap_ends.specs.WholeServer.ServerSteps.{exchanges_after}
 use Rattle.coap_ends.specs.WholeServer.ServerLaw.{ServerLaw, own_of}
-use Rattle.coap_ends.specs.WholeServer.ServerTells.{Pair, Telling, registers_by, registering, HearsAck, NoneMade}
-use Rattle.coap_ends.proofs.WholeServer.ServerStore.{Effect, served_effect, sets_effect, removes_effect}
-use Rattle.coap_ends.proofs.WholeServer.ServerTurns.{Turn, removed_turn, sent_turn, registered_turn, marked_turn, same_turn, Lives, turned}
-use Rattle.coap_ends.proofs.WholeServer.ServerOutcomes.{serves_came, never_notifies, serves_waited, never_notifies_ready}
-use Rattle.coap_ends.proofs.WholeServer.ServerFlying.{Flying, arrival, turn, IsLater, later}
-use Rattle.coap_ends.proofs.WholeServer.ServerComing.{server_back}
+use Rattle.coap_ends.specs.WholeServer.Follows.ServerTells.{Pair, Telling, registers_by, registering, HearsAck, NoneMade}
+use Rattle.coap_ends.proofs.WholeServer.Observing.ServerStore.{Effect, served_effect, sets_effect, removes_effect}
+use Rattle.coap_ends.proofs.WholeServer.Observing.OneRegistration.{Turn, removed_turn, sent_turn, registered_turn, marked_turn, same_turn, Lives, turned}
+use Rattle.coap_ends.proofs.WholeServer.Observing.ServerOutcomes.{serves_came, never_notifies, serves_waited, never_notifies_ready}
+use Rattle.coap_ends.proofs.WholeServer.Observing.ConsAreAcknowledged.{Flying, arrival, turn, IsLater, later}
+use Rattle.coap_ends.proofs.WholeServer.Serving.ServerBrought.{server_back}
 
 -- what a store holds has a version that was counted
 abbrev pub AreLow : Content → Type 0

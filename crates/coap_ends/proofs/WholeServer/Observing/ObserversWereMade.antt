@@ -27,8 +27,8 @@ use Rattle.coap_ends.specs.WholeServer.ServerNotifying.{notified}
 use Rattle.coap_ends.specs.WholeServer.ServerHandling.{incoming, ticking, heard}
 use Rattle.coap_ends.specs.WholeServer.ServerSteps.{observers_after, ready_in}
 use Rattle.coap_ends.specs.WholeServer.ServerLaw.{own_of}
-use Rattle.coap_ends.specs.WholeServer.ServerFollows.{serving_of}
-use Rattle.coap_ends.specs.WholeServer.ServerTells.{MadeBy, WasMade, AreObservers}
+use Rattle.coap_ends.specs.WholeServer.Follows.ServerServes.{serving_of}
+use Rattle.coap_ends.specs.WholeServer.Follows.ServerObserves.{MadeBy, WasMade, AreObservers}
 
 module _ (Q : Observer → Type 0) where
   each_kept : (p : Observer → Bool) (os : List Observer) → Each Q os → Each Q (filter p os)

@@ -15,7 +15,7 @@ use Rattle.coap_ends.specs.WholeServer.ServerTrace.{Own, Call, Sets, Removes, De
 use Rattle.coap_ends.specs.WholeServer.ServerChecks.{Verdict, Ignored, Refused, Asks, Uploads, verdict_on}
 use Rattle.coap_ends.specs.WholeServer.ServerUploads.{key_of, uploads_after}
 use Rattle.coap_ends.specs.WholeServer.ServerLaw.{own_of}
-use Rattle.coap_ends.specs.WholeServer.ServerFollows.{Took, took, took_by, taken_by, behind, since_with, blocks_since}
+use Rattle.coap_ends.specs.WholeServer.Follows.ServerTakes.{Took, took, took_by, taken_by, behind, since_with, blocks_since}
 
 -- the history of the assembly
 abbrev pub arrived : AssemblyTrace → ℕ → Asked → Verdict → AssemblyTrace

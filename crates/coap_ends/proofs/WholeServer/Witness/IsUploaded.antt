@@ -17,7 +17,7 @@ use Rattle.coap_exchange.specs.AnswererSteps.{content_of}
 use Rattle.coap_ends.specs.WholeServer.ServerLaw.{ServerLaw, ServerRows, lower_of}
 use Rattle.coap_ends.specs.WholeServer.ServerExample.{limit, path}
 use Rattle.coap_ends.specs.WholeServer.ServerUploadExample.{front, last, held, made, put, asked, continues, created, run}
-use Rattle.coap_ends.proofs.WholeServer.ServerWitness.{bytes_are}
+use Rattle.coap_ends.proofs.WholeServer.Witness.IsNotified.{bytes_are}
 
 there : cond (same_path path path) (Some held) None ≡ Some held
 there = ap (λ z. cond z (Some held) None) ((same_path-decides path path).1 refl)

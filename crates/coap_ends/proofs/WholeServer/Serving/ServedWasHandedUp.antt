@@ -36,9 +36,11 @@ use Rattle.coap_ends.specs.WholeServer.ServerDeferring.{WaitsBy, AnswersWaiting,
 use Rattle.coap_ends.specs.WholeServer.ServerHandling.{incoming, ticking, heard, HandlesBlock, Handles}
 use Rattle.coap_ends.specs.WholeServer.ServerSteps.{waiting_due, ready_in}
 use Rattle.coap_ends.specs.WholeServer.ServerLaw.{ServerLaw, own_of}
-use Rattle.coap_ends.specs.WholeServer.ServerFollows.{Serving, serving, serving_of, Took, took, took_by, taken_by, takes_block, Comes, Completes, AsksBy, Brings, AreHandedUp, ComesIn, BlocksCome}
-use Rattle.coap_ends.proofs.WholeServer.ServerComing.{server_back, szx_is, comes_here}
-use Rattle.coap_ends.proofs.WholeServer.ServerTaking.{history, arrived, uploads_is, since_is}
+use Rattle.coap_ends.specs.WholeServer.Follows.ServerServes.{Serving, serving, serving_of}
+use Rattle.coap_ends.specs.WholeServer.Follows.ServerTakes.{Took, took, took_by, taken_by, takes_block}
+use Rattle.coap_ends.specs.WholeServer.Follows.ServerBrings.{Comes, Completes, AsksBy, Brings, AreHandedUp, ComesIn, BlocksCome}
+use Rattle.coap_ends.proofs.WholeServer.Serving.ServerBrought.{server_back, szx_is, comes_here}
+use Rattle.coap_ends.proofs.WholeServer.Serving.BlocksTaken.{history, arrived, uploads_is, since_is}
 
 -- requests that are alike are equal
 kind_is : (a b : Kind) → (kind_number a == kind_number b) ≡ true → a ≡ b

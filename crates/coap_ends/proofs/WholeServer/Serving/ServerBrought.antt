@@ -20,8 +20,8 @@ use Rattle.coap_ends.specs.WholeServer.ServerChecks.{Verdict, verdict_on}
 use Rattle.coap_ends.specs.WholeServer.ServerHandling.{incoming, heard}
 use Rattle.coap_ends.specs.WholeServer.ServerAsks.{lower, answering}
 use Rattle.coap_ends.specs.WholeServer.ServerLaw.{ServerLaw, own_of, lower_of}
-use Rattle.coap_ends.specs.WholeServer.ServerFollows.{HandsUp, Comes}
-use Rattle.coap_ends.proofs.WholeServer.ServerAsked.{back}
+use Rattle.coap_ends.specs.WholeServer.Follows.ServerBrings.{HandsUp, Comes}
+use Rattle.coap_ends.proofs.WholeServer.Exact.ServerAsked.{back}
 
 -- the law of a past
 pub server_back : (limit szx word : ℕ) (c : Call) (t : List Call) → ServerLaw limit szx word (c ∷ t) → ServerLaw limit szx word t

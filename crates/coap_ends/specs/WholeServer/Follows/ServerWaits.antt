@@ -7,7 +7,7 @@ use Rattle.coap_exchange.specs.declared.separate.Deferred.{Deferred}
 use Rattle.coap_exchange.specs.AnswererLaw as E
 use Rattle.coap_ends.specs.WholeServer.ServerTrace.{Waiting, Call, Ticks}
 use Rattle.coap_ends.specs.WholeServer.ServerLaw.{own_of, lower_of}
-use Rattle.coap_ends.specs.WholeServer.ServerFollows.{Serving, serving}
+use Rattle.coap_ends.specs.WholeServer.Follows.ServerServes.{Serving, serving}
 
 abbrev pub deferred_as : Waiting → Deferred
 deferred_as w = record { asked = w.asked; at = w.at; delay = w.delay }

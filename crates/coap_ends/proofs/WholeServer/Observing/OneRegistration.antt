@@ -9,8 +9,8 @@ use Rattle.coap_observe.specs.Registrations.{IsOther}
 use Rattle.coap_observe.proofs.Facts.Registrations.{is_of-decides, others_stay, registration-removed, registration-changed_at, registration-sent_to}
 use Rattle.coap_resource.specs.Content.{Content, Held}
 use Rattle.coap_ends.specs.WholeServer.ServerObservers.{marked_if}
-use Rattle.coap_ends.specs.WholeServer.ServerTells.{Telling}
-use Rattle.coap_ends.proofs.WholeServer.ServerStore.{IsKept, IsChanged, Effect, kept_by}
+use Rattle.coap_ends.specs.WholeServer.Follows.ServerTells.{Telling}
+use Rattle.coap_ends.proofs.WholeServer.Observing.ServerStore.{IsKept, IsChanged, Effect, kept_by}
 
 -- one pair or another
 pub pair_of : (to : Endpoint) (token : List ℕ) (by : Endpoint) (bytes : List ℕ) → ((to ≡ by) × (token ≡ bytes)) ⊎ IsOther to token by bytes

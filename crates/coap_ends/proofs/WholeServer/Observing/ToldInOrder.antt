@@ -34,15 +34,15 @@ use Rattle.coap_ends.specs.WholeServer.ServerNotifying.{marked, behind, readies,
 use Rattle.coap_ends.specs.WholeServer.ServerHandling.{incoming, ticking, heard}
 use Rattle.coap_ends.specs.WholeServer.ServerSteps.{exchanges_after}
 use Rattle.coap_ends.specs.WholeServer.ServerLaw.{ServerLaw, own_of, lower_of}
-use Rattle.coap_ends.specs.WholeServer.ServerTells.{Telling, tells, tells_if, telling, HearsAck, FollowsOn, Follows}
-use Rattle.coap_ends.proofs.WholeServer.ServerStore.{kept_by, get_same}
-use Rattle.coap_ends.proofs.WholeServer.ServerTurns.{marked_turn, unmark, LivesAt, Lives, turned}
-use Rattle.coap_ends.proofs.WholeServer.ServerOutcomes.{serves_came, serves_waited}
-use Rattle.coap_ends.proofs.WholeServer.ServerFlying.{alone, alone_later, later, begins, not_flying}
-use Rattle.coap_ends.proofs.WholeServer.ServerLeading.{exchanges_kept, kept_behind}
-use Rattle.coap_ends.proofs.WholeServer.ServerObserving.{good_ended, good}
-use Rattle.coap_ends.proofs.WholeServer.ServerComing.{server_back}
-use Rattle.coap_ends.proofs.WholeServer.ServerRising.{AreLow, are_low, FlightOf, At, observe_there, behind_there, marked_there, there_is, next_is, readies_later, heard_ticked, steps}
+use Rattle.coap_ends.specs.WholeServer.Follows.ServerTells.{Telling, tells, tells_if, telling, HearsAck, FollowsOn, Follows}
+use Rattle.coap_ends.proofs.WholeServer.Observing.ServerStore.{kept_by, get_same}
+use Rattle.coap_ends.proofs.WholeServer.Observing.OneRegistration.{marked_turn, unmark, LivesAt, Lives, turned}
+use Rattle.coap_ends.proofs.WholeServer.Observing.ServerOutcomes.{serves_came, serves_waited}
+use Rattle.coap_ends.proofs.WholeServer.Observing.ConsAreAcknowledged.{alone, alone_later, later, begins, not_flying}
+use Rattle.coap_ends.proofs.WholeServer.Exact.ServerLeads.{exchanges_kept, kept_behind}
+use Rattle.coap_ends.proofs.WholeServer.Observing.ObserversWereMade.{good_ended, good}
+use Rattle.coap_ends.proofs.WholeServer.Serving.ServerBrought.{server_back}
+use Rattle.coap_ends.proofs.WholeServer.Observing.VersionsRise.{AreLow, are_low, FlightOf, At, observe_there, behind_there, marked_there, there_is, next_is, readies_later, heard_ticked, steps}
 
 one : (a b : Telling) → Some a ≡ Some b → a ≡ b
 one a b e = cc e

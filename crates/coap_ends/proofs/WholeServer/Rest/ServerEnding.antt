@@ -28,13 +28,13 @@ use Rattle.coap_ends.specs.WholeServer.ServerNotifying as N
 use Rattle.coap_ends.specs.WholeServer.ServerServing as R
 use Rattle.coap_ends.specs.WholeServer.ServerHandling.{ticking, heard}
 use Rattle.coap_ends.specs.WholeServer.ServerLaw.{ServerLaw, own_of, lower_of}
-use Rattle.coap_ends.specs.WholeServer.ServerRests.{IsTick, TicksEnd}
+use Rattle.coap_ends.specs.WholeServer.Follows.ServerRests.{IsTick, TicksEnd}
 use Rattle.coap_ends.proofs.Rest.LastStep.{last_step}
-use Rattle.coap_ends.proofs.WholeServer.ServerAsked.{joined, back}
-use Rattle.coap_ends.proofs.WholeServer.ServerComing.{server_back}
-use Rattle.coap_ends.proofs.WholeServer.ServerObserving.{are_observers}
-use Rattle.coap_ends.proofs.WholeServer.ServerRising.{IsThere, behind_there, marked_there, next_is, next_serves}
-use Rattle.coap_ends.proofs.WholeServer.ServerWaiting.{ready_are_served}
+use Rattle.coap_ends.proofs.WholeServer.Exact.ServerAsked.{joined, back}
+use Rattle.coap_ends.proofs.WholeServer.Serving.ServerBrought.{server_back}
+use Rattle.coap_ends.proofs.WholeServer.Observing.ObserversWereMade.{are_observers}
+use Rattle.coap_ends.proofs.WholeServer.Observing.VersionsRise.{IsThere, behind_there, marked_there, next_is, next_serves}
+use Rattle.coap_ends.proofs.WholeServer.Serving.ServerWaiting.{ready_are_served}
 use Rattle.coap_ends.proofs.Rest.StepsDue.{due_count, is_step, ticks_least, ticks_fewer, confirm_least, room_same}
 
 -- how many are marked

@@ -1,23 +1,18 @@
 -- What a server tells its observers (RFC 7641, sections 3, 4.2 and 4.5).
 use Rattle.std.specs.Prelude.{◌≡◌, ◌<◌, ℕ, Bool, true, false, Option, Some, None, List, [], ◌∷◌, ◌++◌, if◌then◌else◌}
-use Rattle.coap_types.specs.Past.{Ever, Sometime, Always}
+use Rattle.coap_types.specs.Past.{Ever}
 use Rattle.coap_types.specs.declared.endpoint.Endpoint.{Endpoint}
 use Rattle.coap_codec.specs.Message.{Message}
 use Rattle.coap_layer.specs.Trace as L
-use Rattle.coap_block.specs.Whole.{Each}
-use Rattle.coap_observe.specs.Observers.{Observer, AreRegistrations, registration}
+use Rattle.coap_observe.specs.Observers.{registration}
 use Rattle.coap_resource.specs.Content.{Held}
 use Rattle.coap_resource.specs.Serves.{Question, Reply}
 use Rattle.coap_exchange.specs.declared.answerer.Asked.{Asked}
 use Rattle.coap_exchange.specs.declared.answerer.Due.TheVariants as due
-use Rattle.coap_exchange.specs.declared.answerer.Ended.{Ended}
-use Rattle.coap_exchange.specs.AnswererSteps.{reset_by, failed_by}
-use Rattle.coap_ends.specs.ClientReports.{content}
 use Rattle.coap_ends.specs.WholeServer.ServerTrace.{Own, Handling, Serves, Notifies, Call, Feeds, Ticks}
-use Rattle.coap_ends.specs.WholeServer.ServerObservers.{observes, registers}
+use Rattle.coap_ends.specs.WholeServer.ServerObservers.{registers}
 use Rattle.coap_ends.specs.WholeServer.ServerHandling.{incoming, ticking, heard}
 use Rattle.coap_ends.specs.WholeServer.ServerLaw.{own_of}
-use Rattle.coap_ends.specs.WholeServer.ServerFollows.{Serving, serving}
 
 -- whose registration a call makes, or makes anew
 pub record Pair : Type 0 where
@@ -69,12 +64,6 @@ pub record HearsAck (to : Endpoint) (id : ℕ) (c : Call) : Type 0 where
   pub below : L.Answer
   pub is : c ≡ Feeds now to bytes word (L.Becomes (L.Acked id)) came handling below
 
--- the separate response or notification that a call says to have ended, by a Reset or since it was given up
-abbrev pub ends_in : Own → Call → Option Ended
-ends_in s (Feeds now from bytes word up came h below) = reset_by from up s.exchanges.separate
-ends_in s (Ticks now word below room d passed h id answer) = failed_by below s.exchanges.separate
-ends_in s _ = None
-
 -- of two that are told under one registration: of one path, the versions rise, and the CON of the older was acknowledged
 pub record FollowsOn (after : List Call) (x y : Telling) : Type 0 where
   pub path : y.path ≡ x.path
@@ -82,24 +71,6 @@ pub record FollowsOn (after : List Call) (x y : Telling) : Type 0 where
   pub acknowledged : (id : ℕ) → x.con ≡ Some id → Ever (HearsAck x.to id) after
 
 module _ (limit szx : ℕ) where
-  -- a GET with Observe 0 of this endpoint and token was served with a 2.05, and made the registration
-  pub record MadeBy (to : Endpoint) (token : List ℕ) (path : List (List ℕ)) (past : List Call) (c : Call) : Type 0 where
-    pub request : Serving
-    pub here : serving (own_of limit szx past) c ≡ Some request
-    pub from : request.asked.from ≡ to
-    pub token_is : request.asked.token ≡ token
-    pub path_is : request.question.path ≡ path
-    pub observe : observes 0 request.question ≡ true
-    pub code : request.reply.code ≡ content
-
-  abbrev pub WasMade : List Call → Observer → Type 0
-  WasMade t o = Sometime (MadeBy o.to o.token o.path) t
-
-  -- the observers are registrations, and each was made so
-  pub record AreObservers (t : List Call) : Type 0 where
-    pub registrations : AreRegistrations (own_of limit szx t).observers
-    pub made : Each (WasMade t) (own_of limit szx t).observers
-
   -- no registration of this endpoint and token is made in these calls, the first of which came behind those others
   abbrev pub NoneMade : Endpoint → List ℕ → List Call → List Call → Type 0
   NoneMade to token [] base = Unit {0}
@@ -111,8 +82,3 @@ module _ (limit szx : ℕ) where
       (after older : List Call) (c d : Call) (x y : Telling) → t ≡ d ∷ (after ++ c ∷ older)
       → telling (own_of limit szx older) c ≡ Some x → telling (own_of limit szx (after ++ c ∷ older)) d ≡ Some y → y.registers ≡ false → y.to ≡ x.to → y.token ≡ x.token
       → NoneMade x.to x.token after (c ∷ older) → FollowsOn after x y
-
-  -- What is told to have ended by a Reset or because it was given up, where it carried Observe, is observed no more.
-  abbrev pub EndsObservation : List Call → Type 0
-  EndsObservation t =
-      Always (λ past c. (x : Ended) → ends_in (own_of limit szx past) c ≡ Some x → x.observe ≡ true → registration x.to x.token (own_of limit szx (c ∷ past)).observers ≡ None) t

@@ -9,7 +9,7 @@ use Rattle.coap_ends.specs.WholeServer.ServerHandling.{incoming, ticking, heard}
 use Rattle.coap_ends.specs.WholeServer.ServerAsks.{answering, responding, lower}
 use Rattle.coap_ends.specs.WholeServer.ServerSteps.{IsRight, after, exchanges_after}
 use Rattle.coap_ends.specs.WholeServer.ServerLaw.{own_of, lower_of, ServerLaw}
-use Rattle.coap_ends.proofs.WholeServer.ServerAsked.{joined}
+use Rattle.coap_ends.proofs.WholeServer.Exact.ServerAsked.{joined}
 use Rattle.coap_ends.specs.WholeServer.ServerLed.{State, exchanges_of, fresh_state, Step, Led}
 
 -- what they keep is what their calls add up to

@@ -21,7 +21,7 @@ use Rattle.coap_exchange.specs.AnswererSteps as P
 use Rattle.coap_exchange.specs.AnswererLaw as W
 use Rattle.coap_exchange.specs.AskerRequests.{asked}
 use Rattle.coap_exchange.specs.AskerArrivals.{id_in, replying}
-use Rattle.coap_ends.specs.WholeServer.ServerGives.{Carries, IsEmpty}
+use Rattle.coap_ends.specs.WholeServer.Follows.ServerGives.{Carries, IsEmpty}
 use Rattle.coap_ends.proofs.Replying.ClientReplies.{empty_of, ack_spells, reset_spells}
 use Rattle.coap_ends.specs.Follows.Sources.{GivesMessage, Source}
 

@@ -22,8 +22,10 @@ use Rattle.coap_ends.specs.WholeServer.ServerResponses as R
 use Rattle.coap_ends.specs.WholeServer.ServerChecks.{Verdict}
 use Rattle.coap_ends.specs.WholeServer.ServerUploads.{continue, continuing, last_block}
 use Rattle.coap_ends.specs.WholeServer.ServerLaw.{own_of, layer_of}
-use Rattle.coap_ends.specs.WholeServer.ServerFollows.{Serving, serving, hands, Took, takes_block, Comes}
-use Rattle.coap_ends.specs.WholeServer.ServerTells.{WasMade}
+use Rattle.coap_ends.specs.WholeServer.Follows.ServerServes.{Serving, serving, hands}
+use Rattle.coap_ends.specs.WholeServer.Follows.ServerTakes.{Took, takes_block}
+use Rattle.coap_ends.specs.WholeServer.Follows.ServerBrings.{Comes}
+use Rattle.coap_ends.specs.WholeServer.Follows.ServerObserves.{WasMade}
 
 -- The datagram carries this response there, with this token, whatever the type and the Message ID.
 pub record Carries (p : L.Packet) (to : Endpoint) (token : List ℕ) (r : E.Response) : Type 0 where

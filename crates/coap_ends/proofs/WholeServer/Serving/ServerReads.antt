@@ -20,7 +20,7 @@ use Rattle.coap_types.specs.OptionValues.{has}
 use Rattle.coap_ends.specs.WholeServer.ServerChecks.{Refused, verdict_on, bad_by, asked_by, uploading, question, asks, is_reserved, bad_request, proxying_not_supported}
 use Rattle.coap_types.specs.RequestPath.{path_of}
 use Rattle.coap_types.specs.MethodCode.{method_of}
-use Rattle.coap_ends.specs.WholeServer.ServerFollows.{ReadsAs, ReadsOf, VerdictsRead}
+use Rattle.coap_ends.specs.WholeServer.Follows.ServerReads.{ReadsAs, ReadsOf, VerdictsRead}
 
 module _ (szx : ℕ) (m : Message) where
   bad_reads : (k : Kind) → ReadsOf szx m (bad_by k)

@@ -24,13 +24,13 @@ use Rattle.coap_ends.specs.WholeServer.ServerDeferring.{question_of}
 use Rattle.coap_ends.specs.WholeServer.ServerHandling.{incoming, ticking, heard, HandlesCame}
 use Rattle.coap_ends.specs.WholeServer.ServerAsks.{answering, responding}
 use Rattle.coap_ends.specs.WholeServer.ServerLaw.{ServerLaw, own_of, lower_of}
-use Rattle.coap_ends.specs.WholeServer.ServerFollows.{Serving, serving, serving_of}
-use Rattle.coap_ends.specs.WholeServer.ServerGives.{NoneContinues}
-use Rattle.coap_ends.specs.WholeServer.ServerTells.{ends_in, EndsObservation}
-use Rattle.coap_ends.proofs.WholeServer.ServerAsked.{joined, back}
-use Rattle.coap_ends.proofs.WholeServer.ServerComing.{server_back}
-use Rattle.coap_ends.proofs.WholeServer.ServerOutcomes.{serves_came, serves_waited}
-use Rattle.coap_ends.proofs.WholeServer.ServerCodes.{never_continues}
+use Rattle.coap_ends.specs.WholeServer.Follows.ServerServes.{Serving, serving, serving_of}
+use Rattle.coap_ends.specs.WholeServer.Follows.ServerGives.{NoneContinues}
+use Rattle.coap_ends.specs.WholeServer.Follows.ServerObserves.{ends_in, EndsObservation}
+use Rattle.coap_ends.proofs.WholeServer.Exact.ServerAsked.{joined, back}
+use Rattle.coap_ends.proofs.WholeServer.Serving.ServerBrought.{server_back}
+use Rattle.coap_ends.proofs.WholeServer.Observing.ServerOutcomes.{serves_came, serves_waited}
+use Rattle.coap_ends.proofs.WholeServer.Replying.NoneContinues.{never_continues}
 
 -- the row of the first call that a call makes of the exchanges
 pub first_row : (word : ℕ) (asks : List E.Call) (first : E.Call) (older : List E.Call) → W.ResponseLaw word ((asks ++ first ∷ []) ++ older) → P.IsRight (W.own_of older) first

@@ -1,0 +1,3 @@
+pub mod LayerSendsResponses
+pub mod NoneContinues
+pub mod ResponsesHaveRequests

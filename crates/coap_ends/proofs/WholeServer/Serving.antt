@@ -1,0 +1,6 @@
+pub mod ServerReads
+pub mod ServerBrought
+pub mod BlocksTaken
+pub mod ServedWasHandedUp
+pub mod ServedOnce
+pub mod ServerWaiting
