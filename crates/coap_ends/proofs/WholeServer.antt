@@ -4,3 +4,4 @@ pub mod Replying
 pub mod Observing
 pub mod Rest
 pub mod Witness
+pub mod Holding

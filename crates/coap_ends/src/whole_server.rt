@@ -1,9 +1,12 @@
-ghost use Rattle.std.specs.Prelude.{◌≡◌, ℕ, List, [], ◌∷◌};
+ghost use Rattle.std.specs.Prelude.{◌≡◌, ℕ, List, [], ◌∷◌, ◌++◌};
 ghost use Rattle.coap_ends.specs.WholeServer.Follows.ServerExact.{IsExact};
 ghost use Rattle.coap_ends.specs.WholeServer.ServerExample as example;
 ghost use Rattle.coap_ends.specs.WholeServer.ServerUploadExample as upload_example;
 ghost use Rattle.coap_exchange.specs.AnswererLaw as below;
-ghost use Rattle.coap_ends.specs.WholeServer.ServerLaw.{ServerLaw, lower_of, own_of};
+ghost use Rattle.coap_layer.specs.Follows.{HandedUpOnce};
+ghost use Rattle.coap_layer.specs.Rows.{LayerLaw};
+ghost use Rattle.coap_ends.specs.WholeServer.Follows.ServerHolds.{AllServed, HoldsChanges};
+ghost use Rattle.coap_ends.specs.WholeServer.ServerLaw.{ServerLaw, layer_of, lower_of, own_of};
 ghost use Rattle.coap_ends.specs.WholeServer.ServerLed.{Led, State, Step, fresh_state};
 ghost use Rattle.coap_ends.specs.WholeServer.Follows.ServerBrings.{AreHandedUp, BlocksCome};
 ghost use Rattle.coap_ends.specs.WholeServer.Follows.ServerServes.{ServedOnce};
@@ -24,8 +27,14 @@ pub fn whole_server_law()
     // What it keeps of its exchanges is what their calls add up to.
     ensures exchanges { (limit szx : ℕ) (t : List Call) → (own_of limit szx t).exchanges ≡ below.own_of (lower_of limit szx t) }
     ensures law { (limit szx word : ℕ) (t : List Call) (s : State) → Led limit szx word t s → ServerLaw limit szx word t }
+    // The calls of its message layer stand in the law of that layer (RFC 7252, section 4).
+    ensures layer { (limit szx word : ℕ) (t : List Call) → ServerLaw limit szx word t → LayerLaw word (layer_of limit szx word t) }
+    // The calls before some calls stand in the law too.
+    ensures back { (limit szx word : ℕ) (calls t : List Call) → ServerLaw limit szx word (calls ++ t) → ServerLaw limit szx word t }
     // The law leaves each call one answer.
     ensures exact { (limit szx word : ℕ) (past : List Call) → IsExact limit szx word past }
+    // A message is handed up once in EXCHANGE_LIFETIME (RFC 7252, section 4.5).
+    ensures once { (limit szx word : ℕ) (t : List Call) → ServerLaw limit szx word t → HandedUpOnce (layer_of limit szx word t) }
     // What is served was handed up, and asks what came, with the whole body of its upload (RFC 7252, section 5.2; RFC 7959,
     // section 2.5).
     ensures handed { (limit szx word : ℕ) (t : List Call) → ServerLaw limit szx word t → AreHandedUp limit szx word t }
@@ -38,6 +47,10 @@ pub fn whole_server_law()
     ensures ready { (limit szx word : ℕ) (t : List Call) → ServerLaw limit szx word t → ReadyAreServed limit szx t }
     // A request that is handed up is served at most once (RFC 7252, section 5.2).
     ensures served { (limit szx word : ℕ) (t : List Call) → ServerLaw limit szx word t → ServedOnce limit szx t }
+    // It is served as the table of the methods says, and what is applied is applied whole (RFC 7252, section 5.8).
+    ensures right { (limit szx word : ℕ) (t : List Call) → ServerLaw limit szx word t → AllServed limit szx t }
+    // The versions of the changes are 1, 2, 3 and so on, and each path holds its last change (RFC 7252, section 5.10.6).
+    ensures holds { (limit szx word : ℕ) (t : List Call) → ServerLaw limit szx word t → HoldsChanges limit szx t }
     // What it sends is Empty, or carries a response to a request that was handed up, or a notification (RFC 7252, sections
     // 4.2 and 5.2; RFC 7641, section 3.2).
     ensures gives { (limit szx word : ℕ) (t : List Call) → ServerLaw limit szx word t → SendsResponses limit szx word t }

@@ -8,3 +8,4 @@ pub mod ServerTells
 pub mod ServerGives
 pub mod ServerWaits
 pub mod ServerRests
+pub mod ServerHolds

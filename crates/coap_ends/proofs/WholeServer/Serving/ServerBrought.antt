@@ -27,6 +27,10 @@ use Rattle.coap_ends.proofs.WholeServer.Exact.ServerAsked.{back}
 pub server_back : (limit szx word : ℕ) (c : Call) (t : List Call) → ServerLaw limit szx word (c ∷ t) → ServerLaw limit szx word t
 server_back limit szx word c t law = record { rows = law.rows.1; exchanges = back word (lower (own_of limit szx t) c) (lower_of limit szx t) law.exchanges }
 
+pub servers_back : (limit szx word : ℕ) (calls t : List Call) → ServerLaw limit szx word (calls ++ t) → ServerLaw limit szx word t
+servers_back limit szx word [] t law = law
+servers_back limit szx word (c ∷ calls) t law = servers_back limit szx word calls t (server_back limit szx word c (calls ++ t) law)
+
 -- the size of blocks stays
 pub szx_is : (limit szx : ℕ) (t : List Call) → (own_of limit szx t).szx ≡ szx
 szx_is limit szx [] = refl

@@ -12,6 +12,11 @@ use Rattle.coap_ends.proofs.WholeServer.Serving.ServedOnce.{served_once}
 use Rattle.coap_exchange.proofs.Facts.ServerSide.{are_responses}
 use Rattle.coap_ends.specs.WholeServer.ServerLaw.{lower_of}
 use Rattle.coap_ends.proofs.whole_server.whole_server_law.Goals as goal
+use Rattle.coap_layer.proofs.Facts.Laws.{handed_up_once}
+use Rattle.coap_exchange.proofs.Facts.ServerSide.{layer_stands}
+use Rattle.coap_ends.specs.WholeServer.ServerLaw.{layer_of}
+use Rattle.coap_ends.proofs.WholeServer.Serving.ServerBrought.{servers_back}
+use Rattle.coap_ends.proofs.WholeServer.Holding.ServerHolds.{all_served, holds_changes}
 
 pub returns-clause-start : goal.returns-clause-start
 returns-clause-start c = led_empty
@@ -63,3 +68,18 @@ returns-clause-ready c limit szx word t law = ready_are_served limit szx word t 
 
 pub returns-clause-ticks : goal.returns-clause-ticks
 returns-clause-ticks c limit szx word t = ticks_end limit szx word t
+
+pub returns-clause-layer : goal.returns-clause-layer
+returns-clause-layer c limit szx word t law = layer_stands word (lower_of limit szx t) law.exchanges
+
+pub returns-clause-back : goal.returns-clause-back
+returns-clause-back c limit szx word calls t law = servers_back limit szx word calls t law
+
+pub returns-clause-once : goal.returns-clause-once
+returns-clause-once c limit szx word t law = handed_up_once word (layer_of limit szx word t) (layer_stands word (lower_of limit szx t) law.exchanges)
+
+pub returns-clause-right : goal.returns-clause-right
+returns-clause-right c limit szx word t law = all_served limit szx t law.rows
+
+pub returns-clause-holds : goal.returns-clause-holds
+returns-clause-holds c limit szx word t law = holds_changes limit szx t law.rows

@@ -1,0 +1,2 @@
+pub mod AppliedWhole
+pub mod ServerHolds
