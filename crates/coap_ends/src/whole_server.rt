@@ -5,6 +5,8 @@ ghost use Rattle.coap_ends.specs.WholeServer.ServerUploadExample as upload_examp
 ghost use Rattle.coap_exchange.specs.AnswererLaw as below;
 ghost use Rattle.coap_layer.specs.Follows.{HandedUpOnce};
 ghost use Rattle.coap_layer.specs.Rows.{LayerLaw};
+ghost use Rattle.coap_ends.specs.WholeServer.Follows.ServerCounts.{Counted};
+ghost use Rattle.coap_ends.specs.WholeServer.Follows.ServerTags.{AreStamped, OneTag};
 ghost use Rattle.coap_ends.specs.WholeServer.Follows.ServerHolds.{AllServed, HoldsChanges};
 ghost use Rattle.coap_ends.specs.WholeServer.ServerLaw.{ServerLaw, layer_of, lower_of, own_of};
 ghost use Rattle.coap_ends.specs.WholeServer.ServerLed.{Led, State, Step, fresh_state};
@@ -45,12 +47,18 @@ pub fn whole_server_law()
     // What waits is what the exchanges defer, and a request that they say is ready is served then (RFC 7252, section 5.2.2).
     ensures waits { (limit szx word : ℕ) (t : List Call) → ServerLaw limit szx word t → WaitsAsDeferred limit szx t }
     ensures ready { (limit szx word : ℕ) (t : List Call) → ServerLaw limit szx word t → ReadyAreServed limit szx t }
-    // A request that is handed up is served at most once (RFC 7252, section 5.2).
+    // What is handed up came up from the message layer, as often ..
+    ensures counts { (limit szx word : ℕ) (t : List Call) → ServerLaw limit szx word t → Counted limit szx word t }
+    // .. and a request that is handed up is served at most once (RFC 7252, section 5.2).
     ensures served { (limit szx word : ℕ) (t : List Call) → ServerLaw limit szx word t → ServedOnce limit szx t }
     // It is served as the table of the methods says, and what is applied is applied whole (RFC 7252, section 5.8).
     ensures right { (limit szx word : ℕ) (t : List Call) → ServerLaw limit szx word t → AllServed limit szx t }
     // The versions of the changes are 1, 2, 3 and so on, and each path holds its last change (RFC 7252, section 5.10.6).
     ensures holds { (limit szx word : ℕ) (t : List Call) → ServerLaw limit szx word t → HoldsChanges limit szx t }
+    // A version is a number of 64 bits, and what a change puts has the version of the change (RFC 7252, section 5.10.6) ..
+    ensures stamped { (limit szx word : ℕ) (t : List Call) → ServerLaw limit szx word t → AreStamped limit szx t }
+    // .. so an entity-tag names one representation.
+    ensures tags { (limit szx word : ℕ) (t : List Call) → ServerLaw limit szx word t → OneTag limit szx t }
     // What it sends is Empty, or carries a response to a request that was handed up, or a notification (RFC 7252, sections
     // 4.2 and 5.2; RFC 7641, section 3.2).
     ensures gives { (limit szx word : ℕ) (t : List Call) → ServerLaw limit szx word t → SendsResponses limit szx word t }

@@ -4,3 +4,4 @@ pub mod BlocksTaken
 pub mod ServedWasHandedUp
 pub mod ServedOnce
 pub mod ServerWaiting
+pub mod HandedUpAsOften

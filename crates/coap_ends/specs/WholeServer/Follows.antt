@@ -9,3 +9,5 @@ pub mod ServerGives
 pub mod ServerWaits
 pub mod ServerRests
 pub mod ServerHolds
+pub mod ServerTags
+pub mod ServerCounts

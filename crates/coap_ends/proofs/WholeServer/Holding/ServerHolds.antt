@@ -26,15 +26,17 @@ use Rattle.coap_ends.proofs.WholeServer.Observing.VersionsRise.{next_serves}
 use Rattle.coap_ends.proofs.WholeServer.Holding.AppliedWhole.{applied_whole, kept_or_applied}
 
 -- a call that serves does so by the store's table
-pub serves_right : (s : Own) (c : Call) → IsRight s c → (x : Serving) → serving s c ≡ Some x → (at : ℕ) × R.Serves x.old at x.question x.reply x.left
+pub serves_right : (s : Own) (c : Call) → IsRight s c → (x : Serving) → serving s c ≡ Some x → (at : ℕ) × (x.old ≡ s.store) × R.Serves x.old at x.question x.reply x.left
 serves_right s (Feeds now from bytes word up (Some p) (Serves q reply left) below) right x h =
     let w : Own = heard s now (incoming s now from bytes up (Some p)) in
     let same : ◌≡◌ {A = Serving} (serving_of w p.0 q reply left) x = cc h in
-    subst (λ (y : Serving). (at : ℕ) × R.Serves y.old at y.question y.reply y.left) same (serves_came w p q reply left right)
+    let k = serves_came w p q reply left right in
+    (k.0, sym (ap (λ (y : Serving). y.old) same), subst (λ (y : Serving). R.Serves y.old k.0 y.question y.reply y.left) same k.1)
 serves_right s (Ticks now word below room (due.Ready a) passed (Serves q reply left) id answer) right x h =
     let w : Own = heard s now (ticking s now below room (due.Ready a)) in
     let same : ◌≡◌ {A = Serving} (serving_of w a q reply left) x = cc h in
-    subst (λ (y : Serving). (at : ℕ) × R.Serves y.old at y.question y.reply y.left) same (serves_waited (question_of w.clock a w.waiting) w.store w.clock q reply left right.0)
+    let k = serves_waited (question_of w.clock a w.waiting) w.store w.clock q reply left right.0 in
+    (k.0, sym (ap (λ (y : Serving). y.old) same), subst (λ (y : Serving). R.Serves y.old k.0 y.question y.reply y.left) same k.1)
 serves_right s (Feeds now from bytes word up None h below) right x e = absurd (cc e)
 serves_right s (Feeds now from bytes word up (Some p) Silent below) right x e = absurd (cc e)
 serves_right s (Feeds now from bytes word up (Some p) (Replies r) below) right x e = absurd (cc e)
@@ -95,7 +97,7 @@ stays : (s : Own) → Moves s.store s.store None
 stays s = record { version = omega arith; held = λ path. refl; new = λ y h. absurd (cc h) }
 
 serving_moves : (s : Own) (c : Call) → IsRight s c → (x : Serving) → serving s c ≡ Some x → Moves x.old x.left (change_of x.question.path x.old x.left)
-serving_moves s c right x h = let k = serves_right s c right x h in moves x.question.path x.old x.left (served_effect x.old k.0 x.question x.reply x.left k.1)
+serving_moves s c right x h = let k = serves_right s c right x h in moves x.question.path x.old x.left (served_effect x.old k.0 x.question x.reply x.left k.2)
 
 pub moves_by : (s : Own) (c : Call) → IsRight s c → Moves s.store (after s c).store (change s c)
 moves_by s (Sets now path format body answer left) right =
@@ -169,7 +171,7 @@ served_changes s (Ticks now word below room d passed w id answer) x y h k = sym 
 applied_by : (s : Own) (c : Call) → IsRight s c → (x : Serving) (y : Change) → serving s c ≡ Some x → change s c ≡ Some y → is_applied x.reply.code ≡ true
 applied_by s c right x y h k =
     let r = serves_right s c right x h in
-    elim (kept_or_applied x.old r.0 x.question x.reply x.left r.1) [
+    elim (kept_or_applied x.old r.0 x.question x.reply x.left r.2) [
       | inl kept ↦ (let e = none_kept x.question.path x.old x.left kept in let f = served_changes s c x y h k in absurd (cc (e, f)))
       | inr good ↦ good
     ]
@@ -178,8 +180,8 @@ pub all_served : (limit szx : ℕ) (t : List Call) → ServerRows limit szx t �
 all_served limit szx [] law = tt
 all_served limit szx (c ∷ t) law = (
   record {
-    serves = λ x h. (let k = serves_right (own_of limit szx t) c law.0 x h in k);
-    applied = λ x h yes. (let k = serves_right (own_of limit szx t) c law.0 x h in applied_whole x k.0 k.1 yes);
+    serves = λ x h. (let k = serves_right (own_of limit szx t) c law.0 x h in (k.0, k.2));
+    applied = λ x h yes. (let k = serves_right (own_of limit szx t) c law.0 x h in applied_whole x k.0 k.2 yes);
     changes_by = λ x y h k. applied_by (own_of limit szx t) c law.0 x y h k;
   },
   all_served limit szx t law.1,

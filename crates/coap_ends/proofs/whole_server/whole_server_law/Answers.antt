@@ -17,6 +17,9 @@ use Rattle.coap_exchange.proofs.Facts.ServerSide.{layer_stands}
 use Rattle.coap_ends.specs.WholeServer.ServerLaw.{layer_of}
 use Rattle.coap_ends.proofs.WholeServer.Serving.ServerBrought.{servers_back}
 use Rattle.coap_ends.proofs.WholeServer.Holding.ServerHolds.{all_served, holds_changes}
+use Rattle.coap_ends.proofs.WholeServer.Holding.ServerStamps.{are_stamped}
+use Rattle.coap_ends.proofs.WholeServer.Holding.OneTag.{one_tag}
+use Rattle.coap_ends.proofs.WholeServer.Serving.HandedUpAsOften.{counted}
 
 pub returns-clause-start : goal.returns-clause-start
 returns-clause-start c = led_empty
@@ -83,3 +86,12 @@ returns-clause-right c limit szx word t law = all_served limit szx t law.rows
 
 pub returns-clause-holds : goal.returns-clause-holds
 returns-clause-holds c limit szx word t law = holds_changes limit szx t law.rows
+
+pub returns-clause-stamped : goal.returns-clause-stamped
+returns-clause-stamped c limit szx word t law = are_stamped limit szx t law.rows
+
+pub returns-clause-tags : goal.returns-clause-tags
+returns-clause-tags c limit szx word t law = one_tag limit szx t law.rows
+
+pub returns-clause-counts : goal.returns-clause-counts
+returns-clause-counts c limit szx word t law = counted limit szx word t law
