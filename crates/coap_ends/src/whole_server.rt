@@ -3,6 +3,8 @@ ghost use Rattle.coap_ends.specs.WholeServer.Follows.ServerExact.{IsExact};
 ghost use Rattle.coap_ends.specs.WholeServer.ServerExample as example;
 ghost use Rattle.coap_ends.specs.WholeServer.ServerUploadExample as upload_example;
 ghost use Rattle.coap_exchange.specs.AnswererLaw as below;
+ghost use Rattle.coap_types.specs.Past.{Always};
+ghost use Rattle.coap_layer.specs.Channel.{RepliesSo};
 ghost use Rattle.coap_layer.specs.Follows.{HandedUpOnce};
 ghost use Rattle.coap_layer.specs.Rows.{LayerLaw};
 ghost use Rattle.coap_ends.specs.WholeServer.Follows.ServerCounts.{Counted};
@@ -35,6 +37,9 @@ pub fn whole_server_law()
     ensures back { (limit szx word : ℕ) (calls t : List Call) → ServerLaw limit szx word (calls ++ t) → ServerLaw limit szx word t }
     // The law leaves each call one answer.
     ensures exact { (limit szx word : ℕ) (past : List Call) → IsExact limit szx word past }
+    // It replies at once: with the Reset of a response, or the acknowledgement of a CON, which may carry the response to it
+    // (RFC 7252, sections 4.2 and 5.2.1).
+    ensures replies { (limit szx word : ℕ) (t : List Call) → ServerLaw limit szx word t → Always RepliesSo (layer_of limit szx word t) }
     // A message is handed up once in EXCHANGE_LIFETIME (RFC 7252, section 4.5).
     ensures once { (limit szx word : ℕ) (t : List Call) → ServerLaw limit szx word t → HandedUpOnce (layer_of limit szx word t) }
     // What is served was handed up, and asks what came, with the whole body of its upload (RFC 7252, section 5.2; RFC 7959,

@@ -1,10 +1,10 @@
 -- What is applied is applied whole, and what changes anything is applied.
-use Rattle.std.proofs.Common.{◌≡◌, ◌≢◌, ◌⊎◌, inl, inr, ℕ, ◌+◌, Bool, true, false, Option, Some, None, List, refl, ap, ◌∙◌, length, Result, cond, not, nat_lt, nat_le, ◌&&◌, is_some}
+use Rattle.std.proofs.Common.{◌≡◌, ◌⊎◌, inl, inr, ℕ, Bool, true, false, Option, Some, None, refl, ap, ◌∙◌, length, cond, not, nat_lt, nat_le, ◌&&◌, is_some}
 use Rattle.coap_types.specs.declared.request.Method.{Method}
 use Rattle.coap_types.specs.declared.request.Method.TheVariants.{Get, Post, Put, Delete}
 use Rattle.coap_resource.specs.declared.refusal.StoreRefusal.{StoreRefusal}
 use Rattle.coap_resource.specs.declared.refusal.StoreRefusal.TheVariants.{Memory, TooLarge, TooManyPaths, RateExceeded, VersionsSpent}
-use Rattle.coap_resource.specs.Content.{Content, Held, Changes, later, append_refusal, put_refusal}
+use Rattle.coap_resource.specs.Content.{Content, Held, append_refusal, put_refusal}
 use Rattle.coap_resource.specs.Rate.{rate_refusal}
 use Rattle.coap_resource.specs.RequestOptions.{precondition_fails, accepts, etag_names, block_of, offset_by, tag_of, szx_by}
 use Rattle.coap_resource.specs.Serves.{Question, Reply, bare, got, got_at, refusal_code, content_reply, PutBy, JoinBy, PostBy, RemoveBy, DeleteBy, ServesMethod, ServesUnless}

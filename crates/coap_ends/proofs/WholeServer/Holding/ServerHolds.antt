@@ -3,14 +3,11 @@ use Rattle.std.proofs.Common.{◌≡◌, inl, inr, ℕ, ◌+◌, ◌==◌, max, 
 use Rattle.std.specs.Cmp.{unsigned_Decides}
 use Rattle.coap_types.specs.Path.{same_path}
 use Rattle.coap_types.proofs.Facts.Paths.{same_path-decides}
-use Rattle.coap_types.specs.declared.message.Kind.{Kind}
 use Rattle.coap_resource.specs.Content.{Content, put_refusal}
 use Rattle.coap_resource.specs.Rate.{rate_refusal}
 use Rattle.coap_resource.specs.Serves.{Question}
 use Rattle.coap_resource.specs.Serves as R
 use Rattle.coap_exchange.specs.declared.answerer.Due.TheVariants as due
-use Rattle.coap_exchange.specs.AnswererTrace as E
-use Rattle.coap_observe.specs.Observers.{Observer}
 use Rattle.coap_ends.specs.WholeServer.ServerTrace.{Own, Silent, Replies, Serves, Waits, Notifies, Call, Sets, Removes, Delays, Feeds, Ticks, NextOut}
 use Rattle.coap_ends.specs.WholeServer.ServerServing.{is_applied}
 use Rattle.coap_ends.specs.WholeServer.ServerDeferring.{question_of}

@@ -20,6 +20,7 @@ use Rattle.coap_ends.proofs.WholeServer.Holding.ServerHolds.{all_served, holds_c
 use Rattle.coap_ends.proofs.WholeServer.Holding.ServerStamps.{are_stamped}
 use Rattle.coap_ends.proofs.WholeServer.Holding.OneTag.{one_tag}
 use Rattle.coap_ends.proofs.WholeServer.Serving.HandedUpAsOften.{counted}
+use Rattle.coap_ends.proofs.WholeServer.Replying.RepliesAtOnce.{replies_at_once}
 
 pub returns-clause-start : goal.returns-clause-start
 returns-clause-start c = led_empty
@@ -95,3 +96,6 @@ returns-clause-tags c limit szx word t law = one_tag limit szx t law.rows
 
 pub returns-clause-counts : goal.returns-clause-counts
 returns-clause-counts c limit szx word t law = counted limit szx word t law
+
+pub returns-clause-replies : goal.returns-clause-replies
+returns-clause-replies c limit szx word t law = replies_at_once limit szx word t law

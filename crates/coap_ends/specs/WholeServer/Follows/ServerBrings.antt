@@ -9,7 +9,7 @@ use Rattle.coap_resource.specs.Serves.{Question}
 use Rattle.coap_exchange.specs.declared.answerer.Asked.{Asked}
 use Rattle.coap_exchange.specs.AnswererSteps as P
 use Rattle.coap_ends.specs.WholeServer.ServerTrace.{Call}
-use Rattle.coap_ends.specs.WholeServer.ServerChecks.{Verdict, Asks, Uploads, verdict_on, question, asks}
+use Rattle.coap_ends.specs.WholeServer.ServerChecks.{Verdict, Asks, Uploads, verdict_on}
 use Rattle.coap_ends.specs.WholeServer.ServerUploads.{key_of}
 use Rattle.coap_ends.specs.WholeServer.ServerLaw.{own_of, layer_of}
 use Rattle.coap_ends.specs.WholeServer.Follows.ServerServes.{Serving, serving}

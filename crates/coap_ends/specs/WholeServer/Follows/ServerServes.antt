@@ -1,7 +1,6 @@
 -- Which requests a server hands up and serves (RFC 7252, sections 4.5 and 5.2).
 use Rattle.std.specs.Prelude.{◌≡◌, ◌<◌, ℕ, ◌+◌, Option, Some, None, List, [], ◌∷◌}
 use Rattle.coap_types.specs.Past.{Always}
-use Rattle.coap_codec.specs.Message.{Message}
 use Rattle.coap_resource.specs.Content.{Content}
 use Rattle.coap_resource.specs.Serves.{Question, Reply}
 use Rattle.coap_exchange.specs.declared.answerer.Asked.{Asked}
@@ -9,7 +8,6 @@ use Rattle.coap_exchange.specs.declared.answerer.Due.TheVariants as due
 use Rattle.coap_exchange.specs.AnswererFollows.{hits, same_asked}
 use Rattle.coap_exchange.specs.AnswererSteps.{asked_in}
 use Rattle.coap_ends.specs.WholeServer.ServerTrace.{Own, Serves, Call, Feeds, Ticks}
-use Rattle.coap_ends.specs.WholeServer.ServerChecks.{question}
 use Rattle.coap_ends.specs.WholeServer.ServerObservers.{registers, sequence_if}
 use Rattle.coap_ends.specs.WholeServer.ServerHandling.{incoming, ticking, heard}
 use Rattle.coap_ends.specs.WholeServer.ServerLaw.{own_of}

@@ -4,7 +4,6 @@ use Rattle.coap_types.specs.Past.{Ever}
 use Rattle.coap_types.specs.declared.endpoint.Endpoint.{Endpoint}
 use Rattle.coap_codec.specs.Message.{Message}
 use Rattle.coap_layer.specs.Trace as L
-use Rattle.coap_observe.specs.Observers.{registration}
 use Rattle.coap_resource.specs.Content.{Held}
 use Rattle.coap_resource.specs.Serves.{Question, Reply}
 use Rattle.coap_exchange.specs.declared.answerer.Asked.{Asked}
