@@ -1,3 +1,4 @@
+pub mod Follows
 pub mod ServerTrace
 pub mod ServerResponses
 pub mod ServerChecks
@@ -11,12 +12,6 @@ pub mod ServerHandling
 pub mod ServerAsks
 pub mod ServerSteps
 pub mod ServerLaw
-pub mod ServerExact
 pub mod ServerLed
 pub mod ServerExample
 pub mod ServerUploadExample
-pub mod ServerFollows
-pub mod ServerTells
-pub mod ServerGives
-pub mod ServerWaits
-pub mod ServerRests

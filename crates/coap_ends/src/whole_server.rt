@@ -1,16 +1,26 @@
-ghost use Rattle.std.specs.Prelude.{◌≡◌, ℕ, List, [], ◌∷◌};
-ghost use Rattle.coap_ends.specs.WholeServer.ServerExact.{IsExact};
+ghost use Rattle.std.specs.Prelude.{◌≡◌, ℕ, List, [], ◌∷◌, ◌++◌};
+ghost use Rattle.coap_ends.specs.WholeServer.Follows.ServerExact.{IsExact};
 ghost use Rattle.coap_ends.specs.WholeServer.ServerExample as example;
 ghost use Rattle.coap_ends.specs.WholeServer.ServerUploadExample as upload_example;
 ghost use Rattle.coap_exchange.specs.AnswererLaw as below;
-ghost use Rattle.coap_ends.specs.WholeServer.ServerLaw.{ServerLaw, lower_of, own_of};
+ghost use Rattle.coap_types.specs.Past.{Always};
+ghost use Rattle.coap_layer.specs.Channel.{RepliesSo};
+ghost use Rattle.coap_layer.specs.Follows.{HandedUpOnce};
+ghost use Rattle.coap_layer.specs.Rows.{LayerLaw};
+ghost use Rattle.coap_ends.specs.WholeServer.Follows.ServerCounts.{Counted};
+ghost use Rattle.coap_ends.specs.WholeServer.Follows.ServerTags.{AreStamped, OneTag};
+ghost use Rattle.coap_ends.specs.WholeServer.Follows.ServerHolds.{AllServed, HoldsChanges};
+ghost use Rattle.coap_ends.specs.WholeServer.ServerLaw.{ServerLaw, layer_of, lower_of, own_of};
 ghost use Rattle.coap_ends.specs.WholeServer.ServerLed.{Led, State, Step, fresh_state};
-ghost use Rattle.coap_ends.specs.WholeServer.ServerFollows.{AreHandedUp, BlocksCome, ServedOnce, VerdictsRead};
-ghost use Rattle.coap_ends.specs.WholeServer.ServerGives.{NoneContinues, SendsResponses};
-ghost use Rattle.coap_ends.specs.WholeServer.ServerRests.{TicksEnd};
-ghost use Rattle.coap_ends.specs.WholeServer.ServerTells.{AreObservers, EndsObservation, Follows};
+ghost use Rattle.coap_ends.specs.WholeServer.Follows.ServerBrings.{AreHandedUp, BlocksCome};
+ghost use Rattle.coap_ends.specs.WholeServer.Follows.ServerServes.{ServedOnce};
+ghost use Rattle.coap_ends.specs.WholeServer.Follows.ServerReads.{VerdictsRead};
+ghost use Rattle.coap_ends.specs.WholeServer.Follows.ServerGives.{NoneContinues, SendsResponses};
+ghost use Rattle.coap_ends.specs.WholeServer.Follows.ServerRests.{TicksEnd};
+ghost use Rattle.coap_ends.specs.WholeServer.Follows.ServerObserves.{AreObservers, EndsObservation};
+ghost use Rattle.coap_ends.specs.WholeServer.Follows.ServerTells.{Follows};
 ghost use Rattle.coap_ends.specs.WholeServer.ServerTrace.{Call};
-ghost use Rattle.coap_ends.specs.WholeServer.ServerWaits.{ReadyAreServed, WaitsAsDeferred};
+ghost use Rattle.coap_ends.specs.WholeServer.Follows.ServerWaits.{ReadyAreServed, WaitsAsDeferred};
 
 /// What leads to the state of a server stands in its whole law, uploads in blocks and observers among it, and what follows
 /// from that.
@@ -21,8 +31,17 @@ pub fn whole_server_law()
     // What it keeps of its exchanges is what their calls add up to.
     ensures exchanges { (limit szx : ℕ) (t : List Call) → (own_of limit szx t).exchanges ≡ below.own_of (lower_of limit szx t) }
     ensures law { (limit szx word : ℕ) (t : List Call) (s : State) → Led limit szx word t s → ServerLaw limit szx word t }
+    // The calls of its message layer stand in the law of that layer (RFC 7252, section 4).
+    ensures layer { (limit szx word : ℕ) (t : List Call) → ServerLaw limit szx word t → LayerLaw word (layer_of limit szx word t) }
+    // The calls before some calls stand in the law too.
+    ensures back { (limit szx word : ℕ) (calls t : List Call) → ServerLaw limit szx word (calls ++ t) → ServerLaw limit szx word t }
     // The law leaves each call one answer.
     ensures exact { (limit szx word : ℕ) (past : List Call) → IsExact limit szx word past }
+    // It replies at once: with the Reset of a response, or the acknowledgement of a CON, which may carry the response to it
+    // (RFC 7252, sections 4.2 and 5.2.1).
+    ensures replies { (limit szx word : ℕ) (t : List Call) → ServerLaw limit szx word t → Always RepliesSo (layer_of limit szx word t) }
+    // A message is handed up once in EXCHANGE_LIFETIME (RFC 7252, section 4.5).
+    ensures once { (limit szx word : ℕ) (t : List Call) → ServerLaw limit szx word t → HandedUpOnce (layer_of limit szx word t) }
     // What is served was handed up, and asks what came, with the whole body of its upload (RFC 7252, section 5.2; RFC 7959,
     // section 2.5).
     ensures handed { (limit szx word : ℕ) (t : List Call) → ServerLaw limit szx word t → AreHandedUp limit szx word t }
@@ -33,8 +52,18 @@ pub fn whole_server_law()
     // What waits is what the exchanges defer, and a request that they say is ready is served then (RFC 7252, section 5.2.2).
     ensures waits { (limit szx word : ℕ) (t : List Call) → ServerLaw limit szx word t → WaitsAsDeferred limit szx t }
     ensures ready { (limit szx word : ℕ) (t : List Call) → ServerLaw limit szx word t → ReadyAreServed limit szx t }
-    // A request that is handed up is served at most once (RFC 7252, section 5.2).
+    // What is handed up came up from the message layer, as often ..
+    ensures counts { (limit szx word : ℕ) (t : List Call) → ServerLaw limit szx word t → Counted limit szx word t }
+    // .. and a request that is handed up is served at most once (RFC 7252, section 5.2).
     ensures served { (limit szx word : ℕ) (t : List Call) → ServerLaw limit szx word t → ServedOnce limit szx t }
+    // It is served as the table of the methods says, and what is applied is applied whole (RFC 7252, section 5.8).
+    ensures right { (limit szx word : ℕ) (t : List Call) → ServerLaw limit szx word t → AllServed limit szx t }
+    // The versions of the changes are 1, 2, 3 and so on, and each path holds its last change (RFC 7252, section 5.10.6).
+    ensures holds { (limit szx word : ℕ) (t : List Call) → ServerLaw limit szx word t → HoldsChanges limit szx t }
+    // A version is a number of 64 bits, and what a change puts has the version of the change (RFC 7252, section 5.10.6) ..
+    ensures stamped { (limit szx word : ℕ) (t : List Call) → ServerLaw limit szx word t → AreStamped limit szx t }
+    // .. so an entity-tag names one representation.
+    ensures tags { (limit szx word : ℕ) (t : List Call) → ServerLaw limit szx word t → OneTag limit szx t }
     // What it sends is Empty, or carries a response to a request that was handed up, or a notification (RFC 7252, sections
     // 4.2 and 5.2; RFC 7641, section 3.2).
     ensures gives { (limit szx word : ℕ) (t : List Call) → ServerLaw limit szx word t → SendsResponses limit szx word t }

@@ -20,7 +20,7 @@ use Rattle.coap_ends.proofs.Serving.ComesUp.{left_is}
 use Rattle.coap_ends.proofs.Serving.ServedOnce.{H, handed_is}
 use Rattle.coap_ends.proofs.Replying.ServerRepliesSo.{steps_back, law_back}
 
-abbrev asked_ups : Asked → List G.Asked → ℕ
+abbrev pub asked_ups : Asked → List G.Asked → ℕ
 asked_ups a [] = 0
 asked_ups a (b ∷ past) = hits (same_asked a) (asked_at b.call b.answer) + asked_ups a past
 
@@ -28,7 +28,7 @@ ups_append : (a : Asked) (xs ys : List G.Asked) → asked_ups a (xs ++ ys) ≡ a
 ups_append a [] ys = omega arith
 ups_append a (x ∷ xs) ys = let k = ups_append a xs ys in omega (arith, k)
 
-at_entries : (a : Asked) (old new : S.State) (calls : List G.Asked) → Steps old calls new → asked_ups a calls ≡ ups a (entries old calls)
+pub at_entries : (a : Asked) (old new : S.State) (calls : List G.Asked) → Steps old calls new → asked_ups a calls ≡ ups a (entries old calls)
 at_entries a old new [] h = refl
 at_entries a old new (b ∷ earlier) h =
     let s : S.State = left_after old earlier in
@@ -36,7 +36,7 @@ at_entries a old new (b ∷ earlier) h =
     ap (λ r. hits (same_asked a) (asked_at b.call r) + asked_ups a earlier) right
     ∙ ap (λ n. hits (same_asked a) (asked_at b.call (S.answer_of s (S.moment s b.now b.call) b.call)) + n) (at_entries a old h.0 earlier h.1)
 
-handed_at_most : (a : Asked) (t : List E.Call) → W.AnswererLaw t → H a t ≤ asked_ups a (W.lower_of t)
+pub handed_at_most : (a : Asked) (t : List E.Call) → W.AnswererLaw t → H a t ≤ asked_ups a (W.lower_of t)
 handed_at_most a [] law = omega arith
 handed_at_most a (E.Incoming now from bytes up answer ∷ t) law =
     let s : E.Own = W.own_of t in

@@ -1,17 +1,26 @@
-use Rattle.coap_ends.proofs.WholeServer.ServerExactly.{is_exact}
-use Rattle.coap_ends.proofs.WholeServer.ServerLeading.{exchanges_kept, led_empty, led_further, led_lawful}
-use Rattle.coap_ends.proofs.WholeServer.ServerEnding.{ticks_end}
-use Rattle.coap_ends.proofs.WholeServer.ServerReads.{verdicts_read}
-use Rattle.coap_ends.proofs.WholeServer.ServerWaiting.{ready_are_served, waits_as_deferred}
-use Rattle.coap_ends.proofs.WholeServer.ServerEnds.{ends_observation, none_continues}
-use Rattle.coap_ends.proofs.WholeServer.ServerFollowing.{follows}
-use Rattle.coap_ends.proofs.WholeServer.ServerGiving.{sends_responses}
-use Rattle.coap_ends.proofs.WholeServer.ServerHanding.{handed_up, blocks_come}
-use Rattle.coap_ends.proofs.WholeServer.ServerObserving.{are_observers}
-use Rattle.coap_ends.proofs.WholeServer.ServerOnce.{served_once}
+use Rattle.coap_ends.proofs.WholeServer.Exact.ServerExactly.{is_exact}
+use Rattle.coap_ends.proofs.WholeServer.Exact.ServerLeads.{exchanges_kept, led_empty, led_further, led_lawful}
+use Rattle.coap_ends.proofs.WholeServer.Rest.ServerEnding.{ticks_end}
+use Rattle.coap_ends.proofs.WholeServer.Serving.ServerReads.{verdicts_read}
+use Rattle.coap_ends.proofs.WholeServer.Serving.ServerWaiting.{ready_are_served, waits_as_deferred}
+use Rattle.coap_ends.proofs.WholeServer.Observing.EndsObservation.{ends_observation, none_continues}
+use Rattle.coap_ends.proofs.WholeServer.Observing.ToldInOrder.{follows}
+use Rattle.coap_ends.proofs.WholeServer.Replying.ResponsesHaveRequests.{sends_responses}
+use Rattle.coap_ends.proofs.WholeServer.Serving.ServedWasHandedUp.{handed_up, blocks_come}
+use Rattle.coap_ends.proofs.WholeServer.Observing.ObserversWereMade.{are_observers}
+use Rattle.coap_ends.proofs.WholeServer.Serving.ServedOnce.{served_once}
 use Rattle.coap_exchange.proofs.Facts.ServerSide.{are_responses}
 use Rattle.coap_ends.specs.WholeServer.ServerLaw.{lower_of}
 use Rattle.coap_ends.proofs.whole_server.whole_server_law.Goals as goal
+use Rattle.coap_layer.proofs.Facts.Laws.{handed_up_once}
+use Rattle.coap_exchange.proofs.Facts.ServerSide.{layer_stands}
+use Rattle.coap_ends.specs.WholeServer.ServerLaw.{layer_of}
+use Rattle.coap_ends.proofs.WholeServer.Serving.ServerBrought.{servers_back}
+use Rattle.coap_ends.proofs.WholeServer.Holding.ServerHolds.{all_served, holds_changes}
+use Rattle.coap_ends.proofs.WholeServer.Holding.ServerStamps.{are_stamped}
+use Rattle.coap_ends.proofs.WholeServer.Holding.OneTag.{one_tag}
+use Rattle.coap_ends.proofs.WholeServer.Serving.HandedUpAsOften.{counted}
+use Rattle.coap_ends.proofs.WholeServer.Replying.RepliesAtOnce.{replies_at_once}
 
 pub returns-clause-start : goal.returns-clause-start
 returns-clause-start c = led_empty
@@ -63,3 +72,30 @@ returns-clause-ready c limit szx word t law = ready_are_served limit szx word t 
 
 pub returns-clause-ticks : goal.returns-clause-ticks
 returns-clause-ticks c limit szx word t = ticks_end limit szx word t
+
+pub returns-clause-layer : goal.returns-clause-layer
+returns-clause-layer c limit szx word t law = layer_stands word (lower_of limit szx t) law.exchanges
+
+pub returns-clause-back : goal.returns-clause-back
+returns-clause-back c limit szx word calls t law = servers_back limit szx word calls t law
+
+pub returns-clause-once : goal.returns-clause-once
+returns-clause-once c limit szx word t law = handed_up_once word (layer_of limit szx word t) (layer_stands word (lower_of limit szx t) law.exchanges)
+
+pub returns-clause-right : goal.returns-clause-right
+returns-clause-right c limit szx word t law = all_served limit szx t law.rows
+
+pub returns-clause-holds : goal.returns-clause-holds
+returns-clause-holds c limit szx word t law = holds_changes limit szx t law.rows
+
+pub returns-clause-stamped : goal.returns-clause-stamped
+returns-clause-stamped c limit szx word t law = are_stamped limit szx t law.rows
+
+pub returns-clause-tags : goal.returns-clause-tags
+returns-clause-tags c limit szx word t law = one_tag limit szx t law.rows
+
+pub returns-clause-counts : goal.returns-clause-counts
+returns-clause-counts c limit szx word t law = counted limit szx word t law
+
+pub returns-clause-replies : goal.returns-clause-replies
+returns-clause-replies c limit szx word t law = replies_at_once limit szx word t law

@@ -1,5 +1,5 @@
-use Rattle.coap_ends.proofs.WholeServer.ServerWitness.{lawful}
-use Rattle.coap_ends.proofs.WholeServer.ServerUploadWitness as upload
+use Rattle.coap_ends.proofs.WholeServer.Witness.IsNotified.{lawful}
+use Rattle.coap_ends.proofs.WholeServer.Witness.IsUploaded as upload
 use Rattle.coap_ends.proofs.whole_server.whole_server_runs.Goals as goal
 
 pub returns-clause-observation : goal.returns-clause-observation

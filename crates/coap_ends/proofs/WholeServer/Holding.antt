@@ -1,0 +1,4 @@
+pub mod AppliedWhole
+pub mod ServerHolds
+pub mod ServerStamps
+pub mod OneTag

@@ -1,0 +1,4 @@
+pub mod LayerSendsResponses
+pub mod NoneContinues
+pub mod ResponsesHaveRequests
+pub mod RepliesAtOnce

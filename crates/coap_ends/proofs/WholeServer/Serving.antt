@@ -1,0 +1,7 @@
+pub mod ServerReads
+pub mod ServerBrought
+pub mod BlocksTaken
+pub mod ServedWasHandedUp
+pub mod ServedOnce
+pub mod ServerWaiting
+pub mod HandedUpAsOften

@@ -1,0 +1,3 @@
+pub mod IsNotified
+pub mod IsTold
+pub mod IsUploaded

@@ -1,0 +1,13 @@
+pub mod ServerExact
+pub mod ServerServes
+pub mod ServerTakes
+pub mod ServerReads
+pub mod ServerBrings
+pub mod ServerObserves
+pub mod ServerTells
+pub mod ServerGives
+pub mod ServerWaits
+pub mod ServerRests
+pub mod ServerHolds
+pub mod ServerTags
+pub mod ServerCounts
