@@ -13,3 +13,5 @@ pub mod ClientSends
 pub mod ClientPieces
 pub mod ClientResting
 pub mod ClientAnswered
+pub mod ClientScenes
+pub mod HoldScenes

@@ -22,3 +22,5 @@ pub mod ClientAnswered
 pub mod ClientAnswers
 pub mod ClientBlocks
 pub mod ClientHolds
+pub mod ClientScenes
+pub mod HoldScenes

@@ -1,6 +1,10 @@
 ghost use Rattle.std.specs.Prelude.{ℕ, List, [], ◌∷◌, ◌++◌};
 ghost use Rattle.coap_types.specs.declared.endpoint.Endpoint.{Endpoint};
+ghost use Rattle.coap_types.specs.Past.{Always};
+ghost use Rattle.coap_layer.specs.Channel.{RepliesSo};
+ghost use Rattle.coap_layer.specs.Follows.{CopiesInTime};
 ghost use Rattle.coap_layer.specs.Rows.{LayerLaw};
+ghost use Rattle.coap_ends.specs.Follows.ClientSendings.{NoNons};
 ghost use Rattle.coap_ends.specs.WholeClient.ClientAnswered.{AreAnswered, AreResting, NoneAfter, ReportedOnce};
 ghost use Rattle.coap_ends.specs.WholeClient.ClientAnswers.{AnswersLast};
 ghost use Rattle.coap_ends.specs.WholeClient.ClientBlocks.{SendsPieces};
@@ -9,6 +13,8 @@ ghost use Rattle.coap_ends.specs.WholeClient.ClientExact.{IsExact};
 ghost use Rattle.coap_ends.specs.WholeClient.ClientHolds.{AllHold};
 ghost use Rattle.coap_ends.specs.WholeClient.ClientLaw.{ClientLaw, layer_of};
 ghost use Rattle.coap_ends.specs.WholeClient.ClientPlaces.{InOnePlace};
+ghost use Rattle.coap_ends.specs.WholeClient.ClientScenes.{Scenes};
+ghost use Rattle.coap_ends.specs.WholeClient.HoldScenes.{HoldScenes};
 ghost use Rattle.coap_ends.specs.WholeClient.ClientStep.{State, Step, Led, fresh_state};
 ghost use Rattle.coap_ends.specs.WholeClient.ClientTrace.{Call};
 
@@ -25,6 +31,12 @@ pub fn whole_client_law()
     ensures back { (server : Endpoint) (szx word : ℕ) (calls t : List Call) → ClientLaw server szx word (calls ++ t) → ClientLaw server szx word t }
     // The law leaves each call one answer.
     ensures exact { (server : Endpoint) (szx word : ℕ) (past : List Call) → IsExact server szx word past }
+    // A retransmission is of a CON that was begun at most LAST_RETRANSMISSION_MS before, with the same bytes (RFC 7252, section 4.2).
+    ensures copies { (server : Endpoint) (szx word : ℕ) (t : List Call) → ClientLaw server szx word t → CopiesInTime (layer_of server szx word t) }
+    // It sends no NON (RFC 7252, section 4.3).
+    ensures nons { (server : Endpoint) (szx word : ℕ) (t : List Call) → ClientLaw server szx word t → NoNons (layer_of server szx word t) }
+    // It replies at once: with a Reset, or the acknowledgement of a CON (RFC 7252, section 4.2).
+    ensures replies { (server : Endpoint) (szx word : ℕ) (t : List Call) → ClientLaw server szx word t → Always RepliesSo (layer_of server szx word t) }
     // Each number that was given is in one place: it waits, runs or is live, or is gone.
     ensures places { (server : Endpoint) (szx word : ℕ) (t : List Call) → ClientLaw server szx word t → InOnePlace szx t }
     // A number has at most one last report, and nothing is reported of it (RFC 7252, section 5.2) ..
@@ -48,4 +60,7 @@ pub fn whole_client_law()
 pub fn whole_client_witness()
     ensures observes { ClientLaw example.server 6 0 example.run }
     ensures uploads { ClientLaw example.server 3 0 example.upload }
+    // What single calls ask and report behind others, by computation.
+    ensures scenes { Scenes }
+    ensures hold { HoldScenes }
 {}
