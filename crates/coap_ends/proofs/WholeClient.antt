@@ -15,3 +15,5 @@ pub mod ClientResting
 pub mod ClientAnswered
 pub mod ClientScenes
 pub mod HoldScenes
+pub mod ClientHears
+pub mod ClientNumbers

@@ -24,3 +24,5 @@ pub mod ClientBlocks
 pub mod ClientHolds
 pub mod ClientScenes
 pub mod HoldScenes
+pub mod ClientHears
+pub mod ClientNumbers

@@ -10,8 +10,10 @@ ghost use Rattle.coap_ends.specs.WholeClient.ClientAnswers.{AnswersLast};
 ghost use Rattle.coap_ends.specs.WholeClient.ClientBlocks.{SendsPieces};
 ghost use Rattle.coap_ends.specs.WholeClient.ClientExample as example;
 ghost use Rattle.coap_ends.specs.WholeClient.ClientExact.{IsExact};
+ghost use Rattle.coap_ends.specs.WholeClient.ClientHears.{AreFromServer};
 ghost use Rattle.coap_ends.specs.WholeClient.ClientHolds.{AllHold};
 ghost use Rattle.coap_ends.specs.WholeClient.ClientLaw.{ClientLaw, layer_of};
+ghost use Rattle.coap_ends.specs.WholeClient.ClientNumbers.{NumbersOnce};
 ghost use Rattle.coap_ends.specs.WholeClient.ClientPlaces.{InOnePlace};
 ghost use Rattle.coap_ends.specs.WholeClient.ClientScenes.{Scenes};
 ghost use Rattle.coap_ends.specs.WholeClient.HoldScenes.{HoldScenes};
@@ -43,6 +45,10 @@ pub fn whole_client_law()
     ensures once { (server : Endpoint) (szx word : ℕ) (t : List Call) → ClientLaw server szx word t → ReportedOnce server szx word t }
     // .. or sent for it after that.
     ensures none_after { (server : Endpoint) (szx word : ℕ) (t : List Call) → ClientLaw server szx word t → NoneAfter server szx word t }
+    // It gives each number once.
+    ensures numbers { (server : Endpoint) (szx word : ℕ) (t : List Call) → ClientLaw server szx word t → NumbersOnce t }
+    // What it takes came from the server, as a datagram that spells it (RFC 7252, section 5.3.2).
+    ensures from_server { (server : Endpoint) (szx word : ℕ) (t : List Call) → ClientLaw server szx word t → AreFromServer server t }
     // What is heard answers the request that was sent last (RFC 7252, section 5.3.2).
     ensures answers { (server : Endpoint) (szx word : ℕ) (t : List Call) → ClientLaw server szx word t → AnswersLast szx t }
     // A body is sent block by block, each after the answer to the one before (RFC 7959, section 2.5).

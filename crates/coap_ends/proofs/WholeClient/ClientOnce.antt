@@ -106,7 +106,7 @@ both_one a b true h p q = absurd (omega (arith, h, p, q))
 both_one a b false h p q = absurd (omega (arith, h, p, q))
 
 -- a number that is given
-given_is : (a b c d : Bool) (e f g i : CallRefusal) (k taken : ℕ) → Ok k ≡ cond a (Err e) (cond b (Err f) (cond c (Err g) (cond d (Err i) (Ok taken)))) → k ≡ taken
+pub given_is : (a b c d : Bool) (e f g i : CallRefusal) (k taken : ℕ) → Ok k ≡ cond a (Err e) (cond b (Err f) (cond c (Err g) (cond d (Err i) (Ok taken)))) → k ≡ taken
 given_is true b c d e f g i k taken h = absurd (cc h)
 given_is false true c d e f g i k taken h = absurd (cc h)
 given_is false false true d e f g i k taken h = absurd (cc h)

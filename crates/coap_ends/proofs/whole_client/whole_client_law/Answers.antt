@@ -5,6 +5,8 @@ use Rattle.coap_ends.proofs.Replying.ClientReplies.{replies_so}
 use Rattle.coap_ends.proofs.WholeClient.ClientLeading.{client_start, led_client, client_stands, client_layer, client_back}
 use Rattle.coap_ends.proofs.WholeClient.ClientExactly.{is_exact}
 use Rattle.coap_ends.proofs.WholeClient.ClientOnce.{known, reported_once}
+use Rattle.coap_ends.proofs.WholeClient.ClientHears.{are_from_server}
+use Rattle.coap_ends.proofs.WholeClient.ClientNumbers.{numbers_once}
 use Rattle.coap_ends.proofs.WholeClient.ClientHolds.{all_hold}
 use Rattle.coap_ends.proofs.WholeClient.ClientResting.{are_resting}
 use Rattle.coap_ends.proofs.WholeClient.ClientAnswered.{are_answered}
@@ -61,3 +63,9 @@ returns-clause-nons c server szx word t law = no_nons server word (lower_of szx 
 
 pub returns-clause-replies : goal.returns-clause-replies
 returns-clause-replies c server szx word t law = replies_so server word (lower_of szx t) law.exchanges.rows law.exchanges.left law.exchanges.layer
+
+pub returns-clause-numbers : goal.returns-clause-numbers
+returns-clause-numbers c server szx word t law = numbers_once server szx word t law.rows law.exchanges.rows
+
+pub returns-clause-from_server : goal.returns-clause-from_server
+returns-clause-from_server c = are_from_server
