@@ -26,3 +26,4 @@ pub mod ClientScenes
 pub mod HoldScenes
 pub mod ClientHears
 pub mod ClientNumbers
+pub mod ClientGives

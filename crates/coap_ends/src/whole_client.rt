@@ -10,6 +10,7 @@ ghost use Rattle.coap_ends.specs.WholeClient.ClientAnswers.{AnswersLast};
 ghost use Rattle.coap_ends.specs.WholeClient.ClientBlocks.{SendsPieces};
 ghost use Rattle.coap_ends.specs.WholeClient.ClientExample as example;
 ghost use Rattle.coap_ends.specs.WholeClient.ClientExact.{IsExact};
+ghost use Rattle.coap_ends.specs.WholeClient.ClientGives.{GivesInOrder};
 ghost use Rattle.coap_ends.specs.WholeClient.ClientHears.{AreFromServer};
 ghost use Rattle.coap_ends.specs.WholeClient.ClientHolds.{AllHold};
 ghost use Rattle.coap_ends.specs.WholeClient.ClientLaw.{ClientLaw, layer_of};
@@ -51,6 +52,8 @@ pub fn whole_client_law()
     ensures from_server { (server : Endpoint) (szx word : ℕ) (t : List Call) → ClientLaw server szx word t → AreFromServer server t }
     // What is heard answers the request that was sent last (RFC 7252, section 5.3.2).
     ensures answers { (server : Endpoint) (szx word : ℕ) (t : List Call) → ClientLaw server szx word t → AnswersLast szx t }
+    // It gives the reports that it made, in order, each once, but for those of a forgotten observation.
+    ensures in_order { (server : Endpoint) (szx word : ℕ) (t : List Call) → ClientLaw server szx word t → GivesInOrder szx t }
     // A body is sent block by block, each after the answer to the one before (RFC 7959, section 2.5).
     ensures pieces { (server : Endpoint) (szx word : ℕ) (t : List Call) → ClientLaw server szx word t → SendsPieces szx t }
     // An upload that ended without a final response holds back the later ones (RFC 7252, section 4.8.2; profile).

@@ -5,6 +5,7 @@ use Rattle.coap_ends.proofs.Replying.ClientReplies.{replies_so}
 use Rattle.coap_ends.proofs.WholeClient.ClientLeading.{client_start, led_client, client_stands, client_layer, client_back}
 use Rattle.coap_ends.proofs.WholeClient.ClientExactly.{is_exact}
 use Rattle.coap_ends.proofs.WholeClient.ClientOnce.{known, reported_once}
+use Rattle.coap_ends.proofs.WholeClient.ClientGives.{waits}
 use Rattle.coap_ends.proofs.WholeClient.ClientHears.{are_from_server}
 use Rattle.coap_ends.proofs.WholeClient.ClientNumbers.{numbers_once}
 use Rattle.coap_ends.proofs.WholeClient.ClientHolds.{all_hold}
@@ -69,3 +70,6 @@ returns-clause-numbers c server szx word t law = numbers_once server szx word t 
 
 pub returns-clause-from_server : goal.returns-clause-from_server
 returns-clause-from_server c = are_from_server
+
+pub returns-clause-in_order : goal.returns-clause-in_order
+returns-clause-in_order c server szx word t law = waits szx t law.rows
