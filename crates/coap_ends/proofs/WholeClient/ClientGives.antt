@@ -9,7 +9,7 @@ use Rattle.coap_ends.specs.WholeClient.ClientEffects.{Effect}
 use Rattle.coap_ends.specs.WholeClient.ClientEvents.{happened, passes}
 use Rattle.coap_ends.specs.WholeClient.ClientDeeds.{at, close}
 use Rattle.coap_ends.specs.WholeClient.ClientLaw.{ClientRows, own_of}
-use Rattle.coap_ends.specs.WholeClient.ClientGives.{made, given, reports_given, NoneForgotten, GivesInOrder}
+use Rattle.coap_ends.specs.WholeClient.ClientGives.{made, given, reports_given, GivesInOrder}
 use Rattle.coap_ends.proofs.WholeClient.PlaceLemmas.{same_number}
 use Rattle.coap_ends.proofs.WholeClient.ClientHolding.{steadied, happened_steady, passes_steady}
 

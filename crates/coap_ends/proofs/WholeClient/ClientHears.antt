@@ -15,7 +15,7 @@ use Rattle.coap_ends.specs.WholeClient.ClientOwn.{Own}
 use Rattle.coap_ends.specs.WholeClient.ClientEvents.{happened}
 use Rattle.coap_ends.specs.WholeClient.ClientDeeds.{at}
 use Rattle.coap_ends.specs.WholeClient.ClientLaw.{ClientLaw, own_of, lower_of}
-use Rattle.coap_ends.specs.WholeClient.ClientHears.{CameFrom, AreFromServer}
+use Rattle.coap_ends.specs.WholeClient.ClientHears.{AreFromServer}
 use Rattle.coap_ends.proofs.WholeClient.ClientExactly.{stripped}
 use Rattle.coap_ends.proofs.WholeClient.ClientLeading.{client_back}
 

@@ -1,6 +1,6 @@
 -- How long an upload holds back others.
-use Rattle.std.proofs.Common.{◌≡◌, ◌≤◌, ◌<◌, ◌⊎◌, inl, inr, ℕ, ◌+◌, max, Bool, true, false, cond, not, ◌&&◌, Option, Some, None, List, [], ◌∷◌, refl, ap, sym, subst, ◌∙◌, arith, Result, Ok, Err}
-use Rattle.std.specs.Prelude.{◌==◌, nat_lt, nat_le}
+use Rattle.std.proofs.Common.{◌≡◌, ◌⊎◌, inl, inr, ℕ, Bool, true, false, cond, not, ◌&&◌, Option, Some, None, List, [], ◌∷◌, refl, ap, sym, subst, ◌∙◌, Result, Ok, Err}
+use Rattle.std.specs.Prelude.{◌==◌, nat_lt}
 use Rattle.coap_codec.specs.Message.{Message}
 use Rattle.coap_types.specs.declared.block.Block.{Block}
 use Rattle.coap_block.specs.declared.fetch_verdict.Verdict.{Verdict}
@@ -19,19 +19,18 @@ use Rattle.coap_ends.specs.WholeClient.ClientTrace as R
 use Rattle.coap_ends.specs.WholeClient.ClientOwn.{Transfer, Fetches, Uploads, Single, Operation, Calling, Registering, Fetching, Cancelling, Dropped, Notified, Observation, Own}
 use Rattle.coap_ends.specs.WholeClient.ClientObservations.{observation_of, observation_with, rest_of, to_fetch, dropped}
 use Rattle.coap_ends.specs.WholeClient.ClientRequests.{is_longer}
-use Rattle.coap_ends.specs.WholeClient.ClientResponses.{content, continue, block_at, is_notification, sequence_in, part}
+use Rattle.coap_ends.specs.WholeClient.ClientResponses.{continue, block_at, is_notification, sequence_in}
 use Rattle.coap_ends.specs.WholeClient.ClientReports.{lapse}
 use Rattle.coap_ends.specs.WholeClient.ClientReports as reports_of
 use Rattle.coap_ends.specs.WholeClient.ClientCalls.{Next, answer}
 use Rattle.coap_ends.specs.WholeClient.ClientCalls as calls
 use Rattle.coap_ends.specs.WholeClient.ClientEffects.{Deed, Rests, Asks, Keeps, Releases, Effect, stays, runs, ends, of, is_upload, held_by, has_sent}
-use Rattle.coap_ends.specs.WholeClient.ClientFetching.{fetch_over, fetch_by, fetch_answered}
-use Rattle.coap_ends.specs.WholeClient.ClientObserving.{is_over, registered, releases, renewed, passed, noticed_by, noticed}
-use Rattle.coap_ends.specs.WholeClient.ClientEvents.{called, cancel_over, answered, failed, happened, is_held, is_upload_op, starts, idle, passes, closed}
-use Rattle.coap_ends.specs.WholeClient.ClientBlocks.{Carried, carried}
+use Rattle.coap_ends.specs.WholeClient.ClientFetching.{fetch_by, fetch_answered}
+use Rattle.coap_ends.specs.WholeClient.ClientObserving.{is_over, releases, renewed, passed, noticed_by}
+use Rattle.coap_ends.specs.WholeClient.ClientEvents.{called, answered, failed, happened, is_held, is_upload_op, starts, idle, passes, closed}
 use Rattle.coap_ends.specs.WholeClient.ClientHolds.{is_upload_of}
 use Rattle.coap_ends.proofs.WholeClient.UploadSteps.{and_parts, longer_moved, later_moved}
-use Rattle.coap_ends.proofs.WholeClient.PlaceLemmas.{same_number, number_self}
+use Rattle.coap_ends.proofs.WholeClient.PlaceLemmas.{same_number}
 
 -- what becomes of the two moments
 

@@ -1,5 +1,5 @@
 -- Numbers are given one by one: those that were given are below those to come.
-use Rattle.std.proofs.Common.{◌≡◌, ◌≤◌, inl, inr, ℕ, ◌+◌, max, true, false, Some, None, List, [], ◌∷◌, refl, sym, ◌∙◌, arith, Ok, Err}
+use Rattle.std.proofs.Common.{◌≡◌, ◌≤◌, inl, inr, ℕ, ◌+◌, true, false, Some, None, List, [], ◌∷◌, refl, sym, ◌∙◌, arith, Ok, Err}
 use Rattle.std.specs.Prelude.{◌==◌, nat_lt, nat_le, length}
 use Rattle.coap_types.specs.Past.{Ever}
 use Rattle.coap_types.specs.declared.endpoint.Endpoint.{Endpoint}
