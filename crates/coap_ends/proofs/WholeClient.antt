@@ -13,3 +13,8 @@ pub mod ClientSends
 pub mod ClientPieces
 pub mod ClientResting
 pub mod ClientAnswered
+pub mod ClientScenes
+pub mod HoldScenes
+pub mod ClientHears
+pub mod ClientNumbers
+pub mod ClientGives

@@ -22,3 +22,8 @@ pub mod ClientAnswered
 pub mod ClientAnswers
 pub mod ClientBlocks
 pub mod ClientHolds
+pub mod ClientScenes
+pub mod HoldScenes
+pub mod ClientHears
+pub mod ClientNumbers
+pub mod ClientGives

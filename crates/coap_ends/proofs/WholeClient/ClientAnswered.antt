@@ -1,7 +1,6 @@
 -- A call that was taken has its last report, waits or runs.
 use Rattle.std.proofs.Common.{◌≡◌, ◌≤◌, ◌⊎◌, inl, inr, ℕ, ◌+◌, max, Bool, true, false, cond, not, ◌&&◌, Option, Some, None, List, [], ◌∷◌, ◌++◌, refl, ap, sym, subst, ◌∙◌, arith, Result, Ok, Err}
 use Rattle.std.specs.Prelude.{◌==◌, filter}
-use Rattle.coap_types.specs.Past.{Ever, Sometime, Always}
 use Rattle.coap_types.specs.declared.endpoint.Endpoint.{Endpoint}
 use Rattle.coap_codec.specs.Message.{Message}
 use Rattle.coap_block.specs.declared.fetch_verdict.Verdict.{Verdict}
@@ -30,17 +29,17 @@ use Rattle.coap_ends.specs.WholeClient.ClientEvents.{called, cancel_over, answer
 use Rattle.coap_ends.specs.WholeClient.ClientDeeds.{at, close}
 use Rattle.coap_ends.specs.WholeClient.ClientSteps.{lower, reports}
 use Rattle.coap_ends.specs.WholeClient.ClientLaw.{ClientLaw, ClientRows, own_of, lower_of}
-use Rattle.coap_ends.specs.WholeClient.ClientWords.{Taken, takes, WasTaken}
+use Rattle.coap_ends.specs.WholeClient.ClientWords.{Taken, WasTaken}
 use Rattle.coap_ends.specs.WholeClient.ClientPlaces.{hit, final_of}
-use Rattle.coap_ends.specs.WholeClient.ClientAnswered.{IsFinal, HasReport, IsIdleTick, WaitsFor, IsEmpty, AreResting, AreAnswered}
+use Rattle.coap_ends.specs.WholeClient.ClientAnswered.{HasReport, IsIdleTick, WaitsFor, IsEmpty, AreResting, AreAnswered}
 use Rattle.coap_ends.proofs.WholeClient.PlaceLemmas.{same_number, hit_self, hits}
 use Rattle.coap_ends.proofs.WholeClient.PlaceEffects.{final_hit}
 use Rattle.coap_ends.proofs.WholeClient.PlaceEvents.{answer_last, LastOnly, lapse_last}
-use Rattle.coap_ends.proofs.WholeClient.ClientOnce.{law_back, Known, known}
+use Rattle.coap_ends.proofs.WholeClient.ClientOnce.{law_back, known}
 use Rattle.coap_ends.proofs.WholeClient.ClientHolds.{goes_fed, goes_ticked}
 use Rattle.coap_layer.specs.Trace as L
 use Rattle.coap_ends.specs.WholeClient.ClientSteps.{IsRight}
-use Rattle.coap_ends.proofs.WholeClient.ClientResting.{Rested, rested, are_resting}
+use Rattle.coap_ends.proofs.WholeClient.ClientResting.{rested, are_resting}
 
 -- how often a number is that of a call
 

@@ -79,7 +79,7 @@ module _ (server : Endpoint) (word : ℕ) where
     closed_alike (Releases t) s e same = refl
 
     -- the input alone
-    stripped : (e : Effect) (input : A.Call) (calls : List A.Call) → Law (done_for e now w sent token kept input ++ calls) → Law (input ∷ calls)
+    pub stripped : (e : Effect) (input : A.Call) (calls : List A.Call) → Law (done_for e now w sent token kept input ++ calls) → Law (input ∷ calls)
     stripped e input calls p =
         let c = close now e token in
         let later = deeds c.deed c.own now w sent token kept in

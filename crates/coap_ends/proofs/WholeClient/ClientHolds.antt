@@ -1,7 +1,7 @@
 -- No first block is sent at most 100,000 ms after a datagram of an upload that ended without a final response.
-use Rattle.std.proofs.Common.{◌≡◌, ◌≤◌, ◌<◌, ◌⊎◌, inl, inr, ℕ, ◌+◌, max, Bool, true, false, cond, not, ◌&&◌, Option, Some, None, List, [], ◌∷◌, ◌++◌, refl, ap, sym, subst, ◌∙◌, arith, Result, Ok, Err}
-use Rattle.std.specs.Prelude.{◌==◌, nat_lt, nat_le}
-use Rattle.coap_types.specs.Past.{Sometime, Always}
+use Rattle.std.proofs.Common.{◌≡◌, ◌≤◌, ◌⊎◌, inl, inr, ℕ, ◌+◌, max, Bool, true, false, cond, not, ◌&&◌, Option, Some, None, List, [], ◌∷◌, ◌++◌, refl, ap, sym, subst, ◌∙◌, arith, Result, Ok, Err}
+use Rattle.std.specs.Prelude.{◌==◌, nat_le}
+use Rattle.coap_types.specs.Past.{Sometime}
 use Rattle.coap_types.specs.declared.endpoint.Endpoint.{Endpoint}
 use Rattle.coap_codec.specs.Message.{Message}
 use Rattle.coap_types.specs.declared.block.Block.{Block}
@@ -34,24 +34,24 @@ use Rattle.coap_ends.specs.WholeClient.ClientReports.{lapse}
 use Rattle.coap_ends.specs.WholeClient.ClientReports as reports_of
 use Rattle.coap_ends.specs.WholeClient.ClientCalls.{Next, answer}
 use Rattle.coap_ends.specs.WholeClient.ClientCalls as calls
-use Rattle.coap_ends.specs.WholeClient.ClientEffects.{Deed, Rests, Asks, Keeps, Releases, Effect, stays, runs, ends, of, is_upload}
+use Rattle.coap_ends.specs.WholeClient.ClientEffects.{Deed, Rests, Asks, Keeps, Releases, Effect, stays, runs, ends, of}
 use Rattle.coap_ends.specs.WholeClient.ClientFetching.{fetch_by, fetch_answered}
-use Rattle.coap_ends.specs.WholeClient.ClientObserving.{begun, first_value, is_over, registered, releases, renewed, passed, noticed_by, noticed}
+use Rattle.coap_ends.specs.WholeClient.ClientObserving.{begun, first_value, is_over, registered, releases, renewed, passed, noticed_by}
 use Rattle.coap_ends.specs.WholeClient.ClientEvents.{called, answered, failed, happened, is_held, is_upload_op, starts, idle, passes, closed}
-use Rattle.coap_ends.specs.WholeClient.ClientDeeds.{at, close, deeds, done_for}
+use Rattle.coap_ends.specs.WholeClient.ClientDeeds.{at, close, deeds}
 use Rattle.coap_ends.specs.WholeClient.ClientSteps.{lower, reports}
 use Rattle.coap_ends.specs.WholeClient.ClientLaw.{ClientLaw, ClientRows, own_of, lower_of}
-use Rattle.coap_ends.specs.WholeClient.ClientWords.{Sending, sends, sent_by, hears}
+use Rattle.coap_ends.specs.WholeClient.ClientWords.{Sending, sends, sent_by}
 use Rattle.coap_ends.specs.WholeClient.ClientBlocks.{Carried, carried}
 use Rattle.coap_ends.specs.WholeClient.ClientPlaces.{hit, in_running, places, final_of, gone}
 use Rattle.coap_ends.specs.WholeClient.ClientHolds.{moment, is_copy, is_final, is_upload_of, sends_of, SendsOf, EndsUnanswered, Holds, AllHold}
-use Rattle.coap_ends.proofs.WholeClient.PlaceLemmas.{same_number, number_self, hit_self}
-use Rattle.coap_ends.proofs.WholeClient.UploadSteps.{and_parts, number_moved}
+use Rattle.coap_ends.proofs.WholeClient.PlaceLemmas.{same_number, hit_self}
+use Rattle.coap_ends.proofs.WholeClient.UploadSteps.{number_moved}
 use Rattle.coap_ends.proofs.WholeClient.ExchangeCame.{came}
-use Rattle.coap_ends.proofs.WholeClient.PlaceEffects.{Sound, Linked, Goes}
+use Rattle.coap_ends.proofs.WholeClient.PlaceEffects.{Goes}
 use Rattle.coap_ends.proofs.WholeClient.PlaceEvents.{happened_goes, passes_goes}
 use Rattle.coap_ends.proofs.WholeClient.ClientOnce.{law_back, law_front, done_right, both_one, beneath, Known, sound_of, known, from_place}
-use Rattle.coap_ends.proofs.WholeClient.ClientHolding.{Steady, Steadied, steadied, happened_steady, passes_steady, IsOver, Fate, IsUp, up_of, happened_fate, passes_fate, finality, closed_fate}
+use Rattle.coap_ends.proofs.WholeClient.ClientHolding.{Steadied, steadied, happened_steady, passes_steady, IsOver, up_of, happened_fate, passes_fate, finality, closed_fate}
 
 -- what is sent on an answer is no first block
 

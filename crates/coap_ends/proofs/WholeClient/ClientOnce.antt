@@ -1,10 +1,9 @@
 -- Each number that a client gave is in one place, and a call is reported for the last time at most once.
-use Rattle.std.proofs.Common.{◌≡◌, ◌≤◌, ◌<◌, ◌⊎◌, inl, inr, ℕ, ◌+◌, max, Bool, true, false, cond, not, ◌&&◌, ◌||◌, Option, Some, None, List, [], ◌∷◌, ◌++◌, refl, ap, sym, subst, ◌∙◌, arith, is_some, Result, Ok, Err}
-use Rattle.std.specs.Prelude.{◌==◌, nat_lt, nat_le, filter, length, option_to_list}
+use Rattle.std.proofs.Common.{◌≡◌, ◌≤◌, inl, inr, ℕ, ◌+◌, max, Bool, true, false, cond, not, ◌&&◌, ◌||◌, Option, Some, None, List, [], ◌∷◌, ◌++◌, refl, ap, sym, subst, ◌∙◌, arith, Result, Ok, Err}
+use Rattle.std.specs.Prelude.{◌==◌, nat_lt, nat_le, length, option_to_list}
 use Rattle.std.specs.List.{list_any}
 use Rattle.std.proofs.lemmas.List.{append_assoc}
 use Rattle.std.proofs.lemmas.Bool.Decides.{nat_tests}
-use Rattle.coap_types.specs.Past.{Sometime, Always}
 use Rattle.coap_types.specs.declared.endpoint.Endpoint.{Endpoint}
 use Rattle.coap_layer.specs.Trace as L
 use Rattle.std.proofs.lemmas.Bool.{ltb-true}
@@ -21,22 +20,22 @@ use Rattle.coap_ends.specs.declared.refusals.CallRefusal.TheVariants.{QueueFull,
 use Rattle.coap_ends.specs.declared.refusals.CancelRefusal.{CancelRefusal}
 use Rattle.coap_ends.specs.declared.refusals.CancelRefusal.TheVariants as cancel
 use Rattle.coap_types.specs.declared.option_number.TheConstants.{BLOCK2 as block2}
-use Rattle.coap_ends.specs.WholeClient.ClientTrace.{is_value, Request, Reported, Ended, Call, Calls, Observes, Cancels, Forgets, Feeds, Ticks, NextOut, NextReport}
-use Rattle.coap_ends.specs.WholeClient.ClientOwn.{Operation, Calling, Registering, Cancelling, Observation, Own}
+use Rattle.coap_ends.specs.WholeClient.ClientTrace.{Request, Reported, Ended, Call, Calls, Observes, Cancels, Forgets, Feeds, Ticks, NextOut, NextReport}
+use Rattle.coap_ends.specs.WholeClient.ClientOwn.{Operation, Registering, Cancelling, Observation, Own}
 use Rattle.coap_ends.specs.WholeClient.ClientObservations.{observation_of, is_cancel_of, is_cancelled, is_live, over}
 use Rattle.coap_ends.specs.WholeClient.ClientRequests.{options_of, path_options}
-use Rattle.coap_ends.specs.WholeClient.ClientEffects.{Deed, Asks, Effect}
+use Rattle.coap_ends.specs.WholeClient.ClientEffects.{Asks, Effect}
 use Rattle.coap_ends.specs.WholeClient.ClientObserving.{releases, is_over}
-use Rattle.coap_ends.specs.WholeClient.ClientEvents.{happened, passes, closed}
-use Rattle.coap_ends.specs.WholeClient.ClientQueue.{max_numbers, are_long, block_number, is_full, observed, taken_by, call_answer, observe_answer, cancel_answer, may_forget, calling}
+use Rattle.coap_ends.specs.WholeClient.ClientEvents.{happened, passes}
+use Rattle.coap_ends.specs.WholeClient.ClientQueue.{max_numbers, are_long, block_number, is_full, observed, call_answer, observe_answer, cancel_answer, may_forget, calling}
 use Rattle.coap_ends.specs.WholeClient.ClientDeeds.{at, close, deeds, done_for}
 use Rattle.coap_ends.specs.WholeClient.ClientSteps.{lower, reports, reporting}
 use Rattle.coap_ends.specs.WholeClient.ClientLaw.{ClientLaw, ClientRows, own_of, lower_of}
-use Rattle.coap_ends.specs.WholeClient.ClientAnswered.{IsFinal, HasReport, ReportedOnce}
+use Rattle.coap_ends.specs.WholeClient.ClientAnswered.{HasReport, ReportedOnce}
 use Rattle.coap_ends.specs.WholeClient.ClientPlaces.{hit, in_op, in_running, in_queue, in_observations, places, final_of, forgotten_by, gone, InOnePlace}
-use Rattle.coap_ends.proofs.WholeClient.PlaceLemmas.{same_number, number_self, hit_self, hits, in_queue_append, found_by_number}
+use Rattle.coap_ends.proofs.WholeClient.PlaceLemmas.{same_number, number_self, hit_self, in_queue_append, found_by_number}
 use Rattle.coap_ends.proofs.WholeClient.ExchangeCame.{came}
-use Rattle.coap_ends.proofs.WholeClient.PlaceEffects.{Waits, AllWait, RunsOn, IfRuns, Sound, Linked, Leaves, Goes, NoCancel, over_goes}
+use Rattle.coap_ends.proofs.WholeClient.PlaceEffects.{Waits, AllWait, IfRuns, Sound, Linked, Goes, NoCancel, over_goes}
 use Rattle.coap_ends.proofs.WholeClient.PlaceEvents.{happened_goes, passes_goes, ran, AreRight, ran_append, are_right_back, are_right_front, Closes, closes, quiet_deeds, linked_of}
 
 -- of exchanges' calls, those behind others
@@ -106,7 +105,7 @@ both_one a b true h p q = absurd (omega (arith, h, p, q))
 both_one a b false h p q = absurd (omega (arith, h, p, q))
 
 -- a number that is given
-given_is : (a b c d : Bool) (e f g i : CallRefusal) (k taken : ℕ) → Ok k ≡ cond a (Err e) (cond b (Err f) (cond c (Err g) (cond d (Err i) (Ok taken)))) → k ≡ taken
+pub given_is : (a b c d : Bool) (e f g i : CallRefusal) (k taken : ℕ) → Ok k ≡ cond a (Err e) (cond b (Err f) (cond c (Err g) (cond d (Err i) (Ok taken)))) → k ≡ taken
 given_is true b c d e f g i k taken h = absurd (cc h)
 given_is false true c d e f g i k taken h = absurd (cc h)
 given_is false false true d e f g i k taken h = absurd (cc h)

@@ -1,12 +1,11 @@
 -- A call's body is sent block by block, each after the answer to the one before.
-use Rattle.std.proofs.Common.{◌≡◌, ◌≤◌, ◌<◌, ◌⊎◌, inl, inr, ℕ, ◌+◌, ◌*◌, max, Bool, true, false, cond, not, ◌&&◌, Option, Some, None, List, [], ◌∷◌, ◌++◌, length, refl, ap, sym, subst, ◌∙◌, arith, Result, Ok, Err, append-nil}
-use Rattle.std.specs.Prelude.{◌==◌, nat_lt, nat_le, filter}
-use Rattle.coap_types.specs.Past.{Ever, Sometime, Always}
+use Rattle.std.proofs.Common.{◌≡◌, ◌≤◌, ◌⊎◌, inl, inr, ℕ, ◌+◌, max, Bool, true, false, cond, Option, Some, None, List, [], ◌∷◌, ◌++◌, refl, ap, sym, subst, ◌∙◌, arith, Result, Ok, Err, append-nil}
+use Rattle.std.specs.Prelude.{◌==◌, nat_lt}
 use Rattle.coap_types.specs.declared.endpoint.Endpoint.{Endpoint}
 use Rattle.coap_types.specs.declared.request.Method.{Method}
 use Rattle.coap_types.specs.declared.request.Method.TheVariants.{Get, Post, Put, Delete}
 use Rattle.coap_codec.specs.Message.{Message}
-use Rattle.coap_types.specs.Piece.{part_of, size_of}
+use Rattle.coap_types.specs.Piece.{part_of}
 use Rattle.coap_block.specs.Whole.{Part}
 use Rattle.coap_block.specs.Sent.{Sent, part_to_send}
 use Rattle.coap_block.specs.UploadStep.{UploadState, upload_start, moved}
@@ -23,29 +22,29 @@ use Rattle.coap_exchange.specs.AskerSteps as P
 use Rattle.coap_exchange.specs.AskerLaw as X
 use Rattle.coap_ends.specs.WholeClient.ClientTrace.{Request, Reported, Call, Calls, Observes, Cancels, Forgets, Feeds, Ticks, NextOut, NextReport}
 use Rattle.coap_ends.specs.WholeClient.ClientTrace as R
-use Rattle.coap_ends.specs.WholeClient.ClientOwn.{Transfer, Fetches, Uploads, Single, Operation, Calling, Registering, Fetching, Cancelling, Dropped, Observation, Own}
+use Rattle.coap_ends.specs.WholeClient.ClientOwn.{Fetches, Uploads, Single, Operation, Calling, Registering, Fetching, Cancelling, Dropped, Observation, Own}
 use Rattle.coap_ends.specs.WholeClient.ClientAnswered.{of_call, NoneAfter}
 use Rattle.coap_ends.specs.WholeClient.ClientAnswers.{Answers, AnswersLast}
 use Rattle.coap_ends.specs.WholeClient.ClientObserving.{releases}
 use Rattle.coap_ends.proofs.WholeClient.PlaceEffects as Effects
 use Rattle.coap_ends.proofs.WholeClient.PlaceEffects.{IfRuns, Linked}
-use Rattle.coap_ends.specs.WholeClient.ClientObservations.{observation_of, is_cancel_of, dropped, over}
+use Rattle.coap_ends.specs.WholeClient.ClientObservations.{observation_of, dropped}
 use Rattle.coap_ends.specs.WholeClient.ClientRequests.{message_of}
-use Rattle.coap_ends.specs.WholeClient.ClientQueue.{transfer_of, calling, numbered, cancelling}
+use Rattle.coap_ends.specs.WholeClient.ClientQueue.{transfer_of, calling}
 use Rattle.coap_ends.specs.WholeClient.ClientEffects.{Deed, Rests, Asks, Keeps, Releases, Effect, has_sent}
 use Rattle.coap_ends.specs.WholeClient.ClientEvents.{failed, happened, passes, closed}
 use Rattle.coap_ends.specs.WholeClient.ClientDeeds.{at, close, deeds, done_for}
 use Rattle.coap_ends.specs.WholeClient.ClientSteps.{lower}
 use Rattle.coap_ends.specs.WholeClient.ClientLaw.{ClientLaw, ClientRows, own_of, lower_of}
-use Rattle.coap_ends.specs.WholeClient.ClientWords.{Taken, takes, WasTaken, Sending, sends, sent_by, hears, last_sent, runs_call, runs_fetch}
-use Rattle.coap_ends.specs.WholeClient.ClientBlocks.{Carried, carried, block_of, block_in_sending, blocks, FollowsContinue, SendsPiece, SendsPieces}
+use Rattle.coap_ends.specs.WholeClient.ClientWords.{WasTaken, Sending, sends, sent_by, hears, last_sent, runs_call, runs_fetch}
+use Rattle.coap_ends.specs.WholeClient.ClientBlocks.{Carried, carried, block_of, block_in_sending, blocks, SendsPiece, SendsPieces}
 use Rattle.coap_ends.specs.WholeClient.ClientPlaces.{hit, in_op, in_running, in_queue, in_observations, places, final_of, gone}
 use Rattle.coap_ends.proofs.WholeClient.PlaceLemmas.{same_number, number_self, hit_self, in_queue_append, in_uncancelled}
 use Rattle.coap_ends.proofs.WholeClient.UploadSteps.{continues_is}
 use Rattle.coap_ends.proofs.WholeClient.ExchangeCame.{Came, came}
-use Rattle.coap_ends.proofs.WholeClient.PlaceEvents.{ran, AreRight, ran_append, quiet_deeds, Closes}
+use Rattle.coap_ends.proofs.WholeClient.PlaceEvents.{ran, AreRight, ran_append, quiet_deeds}
 use Rattle.coap_ends.proofs.WholeClient.ClientOnce.{law_back, law_front, own_ran, done_ran, done_right, beneath, Known, known, fed, ticked, both_one, final_gone}
-use Rattle.coap_ends.proofs.WholeClient.ClientHolds.{SentOf, sent_of, goes_fed, goes_ticked}
+use Rattle.coap_ends.proofs.WholeClient.ClientHolds.{sent_of, goes_fed, goes_ticked}
 use Rattle.coap_ends.proofs.WholeClient.ClientSends.{Starts, Follows, From, heard_in, happened_from, passes_from, AllOf, Runs, all_uncancelled, failed_runs, happened_runs, passes_runs, TokenStays, came_stays, turned_stays, token_sent}
 
 sent_at_start : (body : List ℕ) (szx : ℕ) → Sent [] (upload_start body szx)

@@ -1,6 +1,5 @@
 -- What a client waits for where a tick does nothing.
-use Rattle.std.proofs.Common.{◌≡◌, ◌≤◌, ◌<◌, ◌⊎◌, inl, inr, ℕ, ◌+◌, ◌-◌, ◌*◌, max, Bool, true, false, cond, not, ◌&&◌, ◌||◌, Option, Some, None, List, [], ◌∷◌, ◌++◌, refl, ap, sym, subst, ◌∙◌, arith, Result, Ok, Err}
-use Rattle.coap_types.specs.Past.{Always}
+use Rattle.std.proofs.Common.{◌≡◌, ◌≤◌, ◌<◌, ◌⊎◌, inl, inr, ℕ, ◌-◌, ◌*◌, max, Bool, true, false, cond, not, ◌&&◌, ◌||◌, Option, Some, None, List, [], ◌∷◌, ◌++◌, refl, ap, sym, subst, ◌∙◌, arith, Result, Ok, Err}
 use Rattle.coap_types.specs.declared.endpoint.Endpoint.{Endpoint}
 use Rattle.coap_layer.specs.Trace as L
 use Rattle.coap_exchange.specs.declared.asker.AskRefusal.{AskRefusal}
@@ -13,7 +12,7 @@ use Rattle.coap_exchange.specs.AskerSteps as P
 use Rattle.coap_exchange.specs.AskerRequests as Q
 use Rattle.coap_exchange.specs.AskerFollows as A
 use Rattle.coap_exchange.specs.AskerFollows.{Begun}
-use Rattle.coap_exchange.specs.AskerDue.{WhenDue, EndWhenDue}
+use Rattle.coap_exchange.specs.AskerDue.{EndWhenDue}
 use Rattle.coap_exchange.specs.AskerLaw as X
 use Rattle.coap_exchange.proofs.Facts.ClientSide.{when_due}
 use Rattle.coap_ends.specs.WholeClient.ClientTrace.{Call, Calls, Observes, Cancels, Forgets, Feeds, Ticks, NextOut, NextReport}
@@ -29,11 +28,11 @@ use Rattle.coap_ends.specs.WholeClient.ClientSteps.{lower, IsRight, is_idle, ask
 use Rattle.coap_ends.specs.WholeClient.ClientLaw.{ClientLaw, ClientRows, own_of, lower_of}
 use Rattle.coap_exchange.specs.AskerArrivals as R
 use Rattle.coap_ends.specs.WholeClient.ClientSteps.{reporting}
-use Rattle.coap_ends.specs.WholeClient.ClientAnswered.{IsNotDue, IsHeld, WaitsFor, IsEmpty, IsIdleTick, AreResting}
+use Rattle.coap_ends.specs.WholeClient.ClientAnswered.{IsNotDue, WaitsFor, IsEmpty, IsIdleTick, AreResting}
 use Rattle.coap_ends.proofs.WholeClient.PlaceEffects.{Linked}
 use Rattle.coap_ends.proofs.WholeClient.PlaceEvents.{ran, ran_append}
 use Rattle.coap_ends.proofs.WholeClient.ClientOnce.{law_back, own_ran, beneath, Known, known}
-use Rattle.coap_ends.proofs.WholeClient.ClientHolding.{Steadied, steadied, happened_steady, passes_steady}
+use Rattle.coap_ends.proofs.WholeClient.ClientHolding.{steadied, happened_steady, passes_steady}
 
 -- the clock of the exchanges is never ahead
 

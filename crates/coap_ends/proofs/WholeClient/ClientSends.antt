@@ -1,32 +1,20 @@
 -- What is sent block by block, and what is heard.
-use Rattle.std.proofs.Common.{◌≡◌, ◌≤◌, ◌<◌, ◌⊎◌, inl, inr, ℕ, ◌+◌, max, Bool, true, false, cond, not, ◌&&◌, Option, Some, None, List, [], ◌∷◌, ◌++◌, refl, ap, sym, subst, ◌∙◌, arith, Result, Ok, Err}
-use Rattle.std.specs.Prelude.{◌==◌, nat_lt, nat_le, filter}
-use Rattle.std.proofs.lemmas.List.{append-nil, append_assoc}
-use Rattle.coap_types.specs.Past.{Ever, Sometime, Always}
-use Rattle.coap_types.specs.declared.endpoint.Endpoint.{Endpoint}
-use Rattle.coap_types.specs.declared.request.Method.{Method}
-use Rattle.coap_types.specs.declared.request.Method.TheVariants.{Get, Post, Put, Delete}
+use Rattle.std.proofs.Common.{◌≡◌, ◌⊎◌, inl, inr, ℕ, Bool, true, false, cond, not, ◌&&◌, Option, Some, None, List, [], ◌∷◌, ◌++◌, refl, ap, sym, subst, ◌∙◌, Ok}
+use Rattle.std.specs.Prelude.{◌==◌, filter}
 use Rattle.coap_codec.specs.Message.{Message}
 use Rattle.coap_types.specs.declared.block.Block.{Block}
 use Rattle.coap_block.specs.declared.fetch_verdict.Verdict.{Verdict}
 use Rattle.coap_block.specs.declared.fetch_verdict.Verdict.TheVariants as verdict
-use Rattle.coap_types.specs.Piece.{part_of, size_of}
-use Rattle.coap_block.specs.Whole.{Part}
-use Rattle.coap_block.specs.Sent.{Sent, part_to_send}
-use Rattle.coap_block.specs.UploadStep.{UploadState, upload_start, Continues, moved, more_follows}
-use Rattle.coap_block.proofs.Facts.Laws.{sent_by_part}
+use Rattle.coap_block.specs.UploadStep.{UploadState, moved, more_follows}
 use Rattle.coap_layer.specs.Trace as L
-use Rattle.coap_exchange.specs.declared.asker.AskRefusal.{AskRefusal}
 use Rattle.coap_exchange.specs.declared.asker.Event.{Event}
 use Rattle.coap_exchange.specs.declared.asker.Event.TheVariants as event_of
 use Rattle.coap_exchange.specs.declared.asker.Turn.{Turn}
 use Rattle.coap_exchange.specs.declared.asker.Turn.TheVariants as turn_of
 use Rattle.coap_exchange.specs.declared.asker.Exchange.{Exchange}
 use Rattle.coap_exchange.specs.AskerTrace as E
-use Rattle.coap_exchange.specs.AskerSteps as P
 use Rattle.coap_exchange.specs.AskerRequests as Q
 use Rattle.coap_exchange.specs.AskerArrivals as A
-use Rattle.coap_exchange.specs.AskerLaw as X
 use Rattle.coap_exchange.proofs.Facts.Moves.{token_in}
 use Rattle.coap_exchange.proofs.Facts.Moves.{refused, sent as sent_it}
 use Rattle.coap_exchange.proofs.Facts.Moves as move
@@ -36,22 +24,21 @@ use Rattle.coap_block.specs.UploadStep.{continues}
 use Rattle.coap_ends.specs.WholeClient.ClientTrace.{Request, Report, Reported, Call, Calls, Observes, Cancels, Forgets, Feeds, Ticks, NextOut, NextReport}
 use Rattle.coap_ends.specs.WholeClient.ClientTrace as R
 use Rattle.coap_ends.specs.WholeClient.ClientOwn.{Transfer, Fetches, Uploads, Single, Operation, Calling, Registering, Fetching, Cancelling, Dropped, Notified, Observation, Own}
-use Rattle.coap_ends.specs.WholeClient.ClientObservations.{observation_of, observation_with, rest_of, to_fetch, is_cancel_of, dropped, over}
-use Rattle.coap_ends.specs.WholeClient.ClientRequests.{is_longer, message_of}
+use Rattle.coap_ends.specs.WholeClient.ClientObservations.{observation_of, observation_with, rest_of, to_fetch, is_cancel_of, dropped}
+use Rattle.coap_ends.specs.WholeClient.ClientRequests.{is_longer}
 use Rattle.coap_ends.specs.WholeClient.ClientResponses.{content, continue, block_at, is_notification, sequence_in, part}
 use Rattle.coap_ends.specs.WholeClient.ClientResponses as T
 use Rattle.coap_ends.specs.WholeClient.ClientReports.{lapse}
 use Rattle.coap_ends.specs.WholeClient.ClientReports as reports_of
 use Rattle.coap_ends.specs.WholeClient.ClientCalls.{Next, answer}
 use Rattle.coap_ends.specs.WholeClient.ClientCalls as calls
-use Rattle.coap_ends.specs.WholeClient.ClientEffects.{Deed, Rests, Asks, Keeps, Releases, Effect, stays, runs, ends, of, is_upload, has_sent}
+use Rattle.coap_ends.specs.WholeClient.ClientEffects.{Asks, Keeps, Effect, stays, runs, ends, of, is_upload}
 use Rattle.coap_ends.specs.WholeClient.ClientFetching.{fetch_by, fetch_answered}
-use Rattle.coap_ends.specs.WholeClient.ClientObserving.{begun, first_value, is_over, registered, releases, renewed, passed, noticed_by, noticed}
+use Rattle.coap_ends.specs.WholeClient.ClientObserving.{begun, first_value, is_over, registered, releases, renewed, passed, noticed_by}
 use Rattle.coap_ends.specs.WholeClient.ClientEvents.{called, answered, failed, happened, is_held, is_upload_op, starts, idle, passes, closed}
-use Rattle.coap_ends.proofs.WholeClient.PlaceLemmas.{same_number, number_self, hit_self, hits, in_uncancelled, in_queue_append}
-use Rattle.coap_ends.specs.WholeClient.ClientPlaces.{hit, in_op, in_running, in_queue, in_observations, places, gone}
+use Rattle.coap_ends.proofs.WholeClient.PlaceLemmas.{same_number}
+use Rattle.coap_ends.specs.WholeClient.ClientPlaces.{gone}
 use Rattle.coap_ends.specs.WholeClient.ClientBlocks.{Carried, carried}
-use Rattle.coap_ends.proofs.WholeClient.UploadSteps.{and_parts, continues_is}
 use Rattle.coap_ends.proofs.WholeClient.ExchangeCame.{Came}
 
 -- from where the operation that is asked for comes: the first of the queue, or the next block of the transfer that runs

@@ -1,5 +1,5 @@
 -- What an arrival tells of the exchange that runs.
-use Rattle.std.proofs.Common.{◌≡◌, ℕ, max, Bool, true, false, Option, Some, None, List, refl, ap, sym, subst, ◌∙◌, cond}
+use Rattle.std.proofs.Common.{◌≡◌, ℕ, Bool, true, false, Option, Some, None, refl, sym, subst}
 use Rattle.std.specs.Option.{option_map}
 use Rattle.coap_types.specs.declared.endpoint.Endpoint.{Endpoint}
 use Rattle.coap_types.specs.declared.message.Kind.{Kind}
@@ -13,8 +13,8 @@ use Rattle.coap_exchange.specs.declared.matching.Known.{Known}
 use Rattle.coap_exchange.specs.declared.matching.Verdict.{Verdict}
 use Rattle.coap_exchange.specs.declared.matching.Verdict.TheVariants.{Ignore, Reject, Acknowledge, AnswerCon, Answer, NoticeCon, Notice, Await, EndByReset}
 use Rattle.coap_exchange.specs.AskerTrace.{Own}
-use Rattle.coap_exchange.specs.AskerArrivals.{has_token, known_of, is_of_request, verdict_on, told, running_after}
-use Rattle.coap_exchange.specs.Matching.{judged, request_judged}
+use Rattle.coap_exchange.specs.AskerArrivals.{has_token, known_of, verdict_on, told, running_after}
+use Rattle.coap_exchange.specs.Matching.{judged}
 use Rattle.coap_exchange.proofs.Facts.Moves.{token_in}
 use Rattle.coap_exchange.proofs.Facts.Verdicts.{Fits, verdict_fits}
 

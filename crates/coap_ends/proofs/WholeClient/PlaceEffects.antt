@@ -1,35 +1,21 @@
 -- What each effect leaves of the numbers that a client keeps, and of the exchange beneath.
-use Rattle.std.proofs.Common.{◌≡◌, ◌≤◌, ℕ, ◌+◌, Bool, true, false, cond, not, ◌&&◌, Option, Some, None, List, [], ◌∷◌, ◌++◌, map, refl, ap, sym, subst, ◌∙◌, arith, is_some, Result, Ok, Err}
+use Rattle.std.proofs.Common.{◌≡◌, ◌≤◌, ℕ, ◌+◌, Bool, true, false, cond, not, Option, Some, None, List, [], ◌∷◌, ◌++◌, map, refl, ap, sym, subst, ◌∙◌, arith}
 use Rattle.std.specs.Prelude.{filter, ◌==◌}
 use Rattle.coap_codec.specs.Message.{Message}
 use Rattle.coap_block.specs.declared.fetch_verdict.Verdict.{Verdict}
 use Rattle.coap_block.specs.declared.fetch_verdict.Verdict.TheVariants as verdict
 use Rattle.coap_block.specs.FetchStep.{FetchState}
-use Rattle.coap_exchange.specs.declared.asker.AskRefusal.{AskRefusal}
-use Rattle.coap_exchange.specs.declared.asker.Event.{Event}
-use Rattle.coap_exchange.specs.declared.asker.Event.TheVariants as event
-use Rattle.coap_exchange.specs.declared.asker.Turn.{Turn}
-use Rattle.coap_exchange.specs.declared.asker.Turn.TheVariants as turn
 use Rattle.coap_exchange.specs.declared.asker.Exchange.{Exchange}
-use Rattle.coap_exchange.specs.AskerArrivals.{has_token, running_unless}
-use Rattle.coap_exchange.specs.Tokens.{same_token}
 use Rattle.coap_exchange.proofs.Facts.Moves.{token_in}
-use Rattle.coap_exchange.proofs.Facts.SameToken.{same_token_self}
-use Rattle.coap_observe.specs.Newer.{is_newer}
-use Rattle.coap_ends.specs.WholeClient.ClientTrace.{is_value, Request, Report, Reported, Ended, Cancelled, NoIds}
-use Rattle.coap_ends.specs.WholeClient.ClientOwn.{Transfer, Operation, Calling, Registering, Fetching, Cancelling, Dropped, Notified, Observation, Own}
-use Rattle.coap_ends.specs.WholeClient.ClientObservations.{observation_of, observation_with, token_of, rest_of, to_fetch, with_rest, is_cancel_of, dropped, over}
-use Rattle.coap_ends.specs.WholeClient.ClientResponses.{content, is_notification, sequence_in, part}
-use Rattle.coap_ends.specs.WholeClient.ClientReports.{lapse}
-use Rattle.coap_ends.specs.WholeClient.ClientCalls.{Next, answer}
-use Rattle.coap_ends.specs.WholeClient.ClientCalls as calls
-use Rattle.coap_ends.specs.WholeClient.ClientEffects.{Deed, Rests, Asks, Keeps, Releases, Effect, stays, runs, ends, of, is_upload, held_by, has_sent}
+use Rattle.coap_ends.specs.WholeClient.ClientTrace.{is_value, Report, Reported}
+use Rattle.coap_ends.specs.WholeClient.ClientOwn.{Operation, Calling, Registering, Fetching, Cancelling, Dropped, Notified, Observation, Own}
+use Rattle.coap_ends.specs.WholeClient.ClientObservations.{observation_of, token_of, with_rest, is_cancel_of, dropped}
+use Rattle.coap_ends.specs.WholeClient.ClientEffects.{Deed, Rests, Asks, Keeps, Releases, Effect, stays, runs, ends, of}
 use Rattle.coap_ends.specs.WholeClient.ClientFetching.{value, rest, fetch_over, fetch_by, fetch_answered}
-use Rattle.coap_ends.specs.WholeClient.ClientObserving.{first_value, first_rest, releases, is_over, begun, registered, renewed, passed, noticed_by, noticed}
-use Rattle.coap_ends.specs.WholeClient.ClientEvents.{called, cancel_over, answered, failed, happened, is_held, is_upload_op, starts, idle, passes, closed}
-use Rattle.coap_ends.specs.WholeClient.ClientPlaces.{hit, in_op, in_running, in_queue, in_observations, places, final_of}
-use Rattle.coap_ends.proofs.WholeClient.PlaceLemmas.{same_number, number_self, hit_self, hits, in_queue_append, in_observations_append, in_map, in_uncancelled, in_dropped, without, in_without_other, in_without, found_by_token, number_of_found, token_of_map, token_of_without, number_if, token_if}
-use Rattle.coap_ends.proofs.WholeClient.ExchangeCame.{Came}
+use Rattle.coap_ends.specs.WholeClient.ClientObserving.{releases, is_over}
+use Rattle.coap_ends.specs.WholeClient.ClientEvents.{cancel_over}
+use Rattle.coap_ends.specs.WholeClient.ClientPlaces.{hit, in_op, in_running, in_observations, places, final_of}
+use Rattle.coap_ends.proofs.WholeClient.PlaceLemmas.{same_number, number_self, hit_self, in_observations_append, in_map, in_uncancelled, in_dropped, without, in_without_other, in_without, token_of_map, token_of_without, number_if}
 
 -- what waits and what runs is of a live observation, where it is of one
 

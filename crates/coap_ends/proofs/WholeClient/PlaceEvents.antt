@@ -1,6 +1,6 @@
 -- What each event and each turn leaves of the numbers that a client keeps, and of the exchange beneath.
-use Rattle.std.proofs.Common.{◌≡◌, ◌≤◌, ℕ, ◌+◌, Bool, true, false, cond, not, ◌&&◌, Option, Some, None, List, [], ◌∷◌, ◌++◌, map, refl, ap, sym, subst, ◌∙◌, arith, is_some, Result, Ok, Err}
-use Rattle.std.specs.Prelude.{filter, ◌==◌}
+use Rattle.std.proofs.Common.{◌≡◌, ◌≤◌, ℕ, ◌+◌, Bool, true, false, cond, not, ◌&&◌, Option, Some, None, List, [], ◌∷◌, ◌++◌, refl, ap, sym, subst, ◌∙◌, arith, is_some, Result, Ok, Err}
+use Rattle.std.specs.Prelude.{◌==◌}
 use Rattle.coap_codec.specs.Message.{Message}
 use Rattle.coap_block.specs.FetchStep as F
 use Rattle.coap_observe.specs.Newer.{arrived}
@@ -17,7 +17,7 @@ use Rattle.coap_exchange.proofs.Facts.SameToken.{same_token_self}
 use Rattle.coap_observe.specs.Newer.{is_newer}
 use Rattle.coap_block.specs.UploadStep.{continues}
 use Rattle.coap_ends.specs.WholeClient.ClientTrace.{is_value, Request, Report, Reported, Ended, Cancelled, NoIds}
-use Rattle.coap_ends.specs.WholeClient.ClientOwn.{Transfer, Operation, Calling, Registering, Fetching, Cancelling, Dropped, Notified, Observation, Own}
+use Rattle.coap_ends.specs.WholeClient.ClientOwn.{Transfer, Operation, Calling, Registering, Fetching, Cancelling, Dropped, Observation, Own}
 use Rattle.coap_ends.specs.WholeClient.ClientObservations.{observation_of, observation_with, token_of, rest_of, to_fetch, dropped}
 use Rattle.coap_ends.specs.WholeClient.ClientResponses.{content, is_notification, sequence_in, part}
 use Rattle.coap_ends.specs.WholeClient.ClientReports.{lapse}
@@ -50,11 +50,11 @@ use Rattle.coap_ends.specs.WholeClient.ClientDeeds.{deeds}
 use Rattle.coap_ends.proofs.WholeClient.PlaceLemmas.{token_there}
 use Rattle.coap_ends.specs.WholeClient.ClientCalls.{Next, answer}
 use Rattle.coap_ends.specs.WholeClient.ClientCalls as calls
-use Rattle.coap_ends.specs.WholeClient.ClientEffects.{Deed, Rests, Asks, Keeps, Releases, Effect, stays, runs, ends, of, is_upload, held_by, has_sent}
+use Rattle.coap_ends.specs.WholeClient.ClientEffects.{Deed, Rests, Asks, Keeps, Releases, Effect, stays, runs, ends, of, is_upload, has_sent}
 use Rattle.coap_ends.specs.WholeClient.ClientObserving.{first_value, first_rest, is_over, begun, registered, renewed, passed, noticed_by, noticed}
 use Rattle.coap_ends.specs.WholeClient.ClientEvents.{called, answered, failed, happened, is_held, is_upload_op, starts, idle, passes, closed}
-use Rattle.coap_ends.specs.WholeClient.ClientPlaces.{hit, in_op, in_running, in_queue, in_observations, places, final_of}
-use Rattle.coap_ends.proofs.WholeClient.PlaceLemmas.{same_number, number_self, hit_self, hits, in_observations_append, in_map, in_dropped, found_by_token, number_of_found, number_if, token_if}
+use Rattle.coap_ends.specs.WholeClient.ClientPlaces.{hit, in_running, in_queue, in_observations, places, final_of}
+use Rattle.coap_ends.proofs.WholeClient.PlaceLemmas.{same_number, hit_self, in_observations_append, in_map, in_dropped, found_by_token, number_of_found, number_if, token_if}
 use Rattle.coap_ends.proofs.WholeClient.ExchangeCame.{Came}
 use Rattle.coap_ends.proofs.WholeClient.PlaceEffects.{Waits, AllWait, RunsOn, IfRuns, Sound, HasToken, Linked, Leaves, Goes, NoCancel, stays_goes, ends_goes, ends_quietly, held_goes, again_goes, over_goes, cancel_goes, fetch_over_goes, fetch_goes, value_quiet, value_of_number, wait_map, wait_append, runs_map, runs_dropped, linked_map, linked_dropped, linked_same}
 

@@ -1,14 +1,13 @@
 -- The steps of an upload, by their tests.
-use Rattle.std.proofs.Common.{◌≡◌, ◌⊎◌, inl, inr, ◌≤◌, ◌<◌, ℕ, ◌+◌, ◌*◌, ◌/◌, ◌^◌, Bool, true, false, ◌&&◌, ◌||◌, nat_lt, nat_le, ◌==◌, length, refl, ap, sym, subst, ◌∙◌, arith, pow_pos}
+use Rattle.std.proofs.Common.{◌≡◌, ◌⊎◌, inl, inr, ◌≤◌, ◌<◌, ℕ, ◌+◌, ◌*◌, Bool, true, false, ◌&&◌, ◌||◌, nat_lt, nat_le, length, refl, ap, ◌∙◌, arith}
 use Rattle.std.proofs.lemmas.Bool.Decides.{nat_tests}
 use Rattle.std.proofs.Math.Pow.{pow_mono}
-use Rattle.std.specs.Cmp.{unsigned_Decides}
 use Rattle.coap_types.specs.declared.block.Block.{Block}
-use Rattle.coap_types.specs.Piece.{size_of, offset_of}
-use Rattle.coap_block.specs.UploadStep.{UploadState, more_follows, number_after, KeepsSize, Continues, moved}
+use Rattle.coap_types.specs.Piece.{size_of}
+use Rattle.coap_block.specs.UploadStep.{UploadState, number_after, KeepsSize, Continues, moved}
 use Rattle.coap_block.proofs.Facts.Laws.{continues_is_tested}
 use Rattle.coap_block.proofs.Facts.Sizes.{size_some, aligned_to}
-use Rattle.coap_block.specs.UploadStep.{keeps_size, continues}
+use Rattle.coap_block.specs.UploadStep.{continues}
 use Rattle.coap_ends.specs.WholeClient.ClientRequests.{is_longer}
 
 pub and_parts : (a b : Bool) → (a && b) ≡ true → (a ≡ true) × (b ≡ true)

@@ -1,5 +1,5 @@
 -- What notifications make of a client (RFC 7641, sections 3.2 to 3.6; RFC 7959, section 2.6).
-use Rattle.std.specs.Prelude.{ℕ, ◌+◌, ◌-◌, ◌^◌, ◌==◌, ◌&&◌, ◌||◌, not, nat_lt, Bool, true, false, Option, Some, None, List, [], ◌∷◌, ◌++◌, map, if◌then◌else◌}
+use Rattle.std.specs.Prelude.{ℕ, ◌==◌, not, true, false, Option, Some, None, List, [], ◌∷◌, ◌++◌, map, if◌then◌else◌}
 use Rattle.coap_codec.specs.Message.{Message}
 use Rattle.coap_block.specs.FetchStep as F
 use Rattle.coap_observe.specs.Newer.{is_newer, arrived}

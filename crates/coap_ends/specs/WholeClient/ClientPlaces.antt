@@ -1,7 +1,7 @@
 -- Where each number of a client is: it waits, runs or is live, or it was reported for the last time or forgotten (RFC 7252, section
 -- 5.2; RFC 7641, section 3).
-use Rattle.std.specs.Prelude.{◌≡◌, ℕ, ◌+◌, ◌==◌, nat_lt, Bool, true, false, Option, Some, None, List, [], ◌∷◌, Ok, if◌then◌else◌}
-use Rattle.coap_ends.specs.WholeClient.ClientTrace.{is_value, Reported, Call, Calls, Observes, Forgets}
+use Rattle.std.specs.Prelude.{◌≡◌, ℕ, ◌+◌, ◌==◌, nat_lt, true, Option, Some, None, List, [], ◌∷◌, if◌then◌else◌}
+use Rattle.coap_ends.specs.WholeClient.ClientTrace.{is_value, Reported, Call, Forgets}
 use Rattle.coap_ends.specs.WholeClient.ClientOwn.{Operation, Calling, Registering, Fetching, Cancelling, Dropped, Observation, Own}
 use Rattle.coap_ends.specs.WholeClient.ClientSteps.{reports}
 use Rattle.coap_ends.specs.WholeClient.ClientLaw.{own_of}

@@ -1,6 +1,6 @@
 -- The request that carries each operation, block by block (RFC 7252, sections 5.8 and 5.10; RFC 7641, section 2; RFC 7959,
 -- sections 2.4 and 2.5).
-use Rattle.std.specs.Prelude.{ℕ, ◌+◌, ◌/◌, ◌%◌, ◌==◌, nat_lt, Bool, true, false, Option, Some, None, List, [], ◌∷◌, ◌++◌, length, map, if◌then◌else◌}
+use Rattle.std.specs.Prelude.{ℕ, nat_lt, Bool, true, false, Option, Some, None, List, [], ◌∷◌, ◌++◌, length, map, if◌then◌else◌}
 use Rattle.coap_types.specs.CoapOption.{CoapOption, option}
 use Rattle.coap_types.specs.OptionValues.{uint_option}
 use Rattle.coap_types.specs.Uint.{uint}
@@ -8,7 +8,6 @@ use Rattle.coap_types.specs.MethodCode.{method_code}
 use Rattle.coap_types.specs.declared.request.Method.{Method}
 use Rattle.coap_types.specs.declared.request.Method.TheVariants.{Get, Post, Put, Delete}
 use Rattle.coap_types.specs.BlockValue.{block_value}
-use Rattle.coap_types.specs.declared.block.Block.{Block}
 use Rattle.coap_block.specs.declared.fetch_progress.Asked.{Asked}
 use Rattle.coap_types.specs.Piece.{size_of, part_of}
 use Rattle.coap_block.specs.UploadStep.{UploadState, block_to_send}

@@ -1,5 +1,5 @@
 -- What a response says to a client (RFC 7252, sections 5.9 and 5.10; RFC 7641, section 3.2; RFC 7959, section 2.2).
-use Rattle.std.specs.Prelude.{ℕ, ◌/◌, ◌%◌, ◌==◌, ◌&&◌, Bool, Option, Some, None, is_some, List, [], length, map, if◌then◌else◌}
+use Rattle.std.specs.Prelude.{ℕ, ◌==◌, ◌&&◌, Bool, Option, Some, None, is_some, List, length}
 use Rattle.coap_types.specs.CoapOption.{CoapOption}
 use Rattle.coap_types.specs.BlockValue.{block_in}
 use Rattle.coap_types.specs.Recognised.{recognised}

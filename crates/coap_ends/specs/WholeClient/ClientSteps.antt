@@ -1,5 +1,5 @@
 -- What each call of a client asks of its exchanges, answers and leaves (RFC 7252, sections 4.7, 5.2 and 5.3).
-use Rattle.std.specs.Prelude.{◌≡◌, max, Bool, true, false, ◌||◌, not, Option, Some, None, List, [], ◌∷◌, ◌++◌, drop, slice_get, Ok, option_to_list}
+use Rattle.std.specs.Prelude.{◌≡◌, max, Bool, true, false, ◌||◌, not, Option, None, List, [], ◌∷◌, ◌++◌, drop, slice_get, Ok, option_to_list}
 use Rattle.coap_exchange.specs.declared.asker.Turn.{Turn}
 use Rattle.coap_exchange.specs.declared.asker.Turn.TheVariants as turn
 use Rattle.coap_exchange.specs.AskerTrace as E

@@ -1,6 +1,13 @@
+use Rattle.coap_layer.proofs.Facts.Laws.{copies_in_time}
+use Rattle.coap_ends.specs.WholeClient.ClientLaw.{lower_of, layer_of}
+use Rattle.coap_ends.proofs.Sending.NoNons.{no_nons}
+use Rattle.coap_ends.proofs.Replying.ClientReplies.{replies_so}
 use Rattle.coap_ends.proofs.WholeClient.ClientLeading.{client_start, led_client, client_stands, client_layer, client_back}
 use Rattle.coap_ends.proofs.WholeClient.ClientExactly.{is_exact}
 use Rattle.coap_ends.proofs.WholeClient.ClientOnce.{known, reported_once}
+use Rattle.coap_ends.proofs.WholeClient.ClientGives.{waits}
+use Rattle.coap_ends.proofs.WholeClient.ClientHears.{are_from_server}
+use Rattle.coap_ends.proofs.WholeClient.ClientNumbers.{numbers_once}
 use Rattle.coap_ends.proofs.WholeClient.ClientHolds.{all_hold}
 use Rattle.coap_ends.proofs.WholeClient.ClientResting.{are_resting}
 use Rattle.coap_ends.proofs.WholeClient.ClientAnswered.{are_answered}
@@ -48,3 +55,21 @@ returns-clause-resting c = are_resting
 
 pub returns-clause-answered : goal.returns-clause-answered
 returns-clause-answered c = are_answered
+
+pub returns-clause-copies : goal.returns-clause-copies
+returns-clause-copies c server szx word t law = copies_in_time word (layer_of server szx word t) (client_layer server szx word t law)
+
+pub returns-clause-nons : goal.returns-clause-nons
+returns-clause-nons c server szx word t law = no_nons server word (lower_of szx t)
+
+pub returns-clause-replies : goal.returns-clause-replies
+returns-clause-replies c server szx word t law = replies_so server word (lower_of szx t) law.exchanges.rows law.exchanges.left law.exchanges.layer
+
+pub returns-clause-numbers : goal.returns-clause-numbers
+returns-clause-numbers c server szx word t law = numbers_once server szx word t law.rows law.exchanges.rows
+
+pub returns-clause-from_server : goal.returns-clause-from_server
+returns-clause-from_server c = are_from_server
+
+pub returns-clause-in_order : goal.returns-clause-in_order
+returns-clause-in_order c server szx word t law = waits szx t law.rows

@@ -1,4 +1,6 @@
 use Rattle.coap_ends.proofs.WholeClient.ClientWitness.{witness, uploads}
+use Rattle.coap_ends.proofs.WholeClient.ClientScenes as client
+use Rattle.coap_ends.proofs.WholeClient.HoldScenes.{hold_scenes}
 use Rattle.coap_ends.proofs.whole_client.whole_client_witness.Goals as goal
 
 pub returns-clause-observes : goal.returns-clause-observes
@@ -6,3 +8,9 @@ returns-clause-observes c = witness
 
 pub returns-clause-uploads : goal.returns-clause-uploads
 returns-clause-uploads c = uploads
+
+pub returns-clause-scenes : goal.returns-clause-scenes
+returns-clause-scenes c = client.scenes
+
+pub returns-clause-hold : goal.returns-clause-hold
+returns-clause-hold c = hold_scenes
