@@ -8,7 +8,7 @@ use Rattle.coap_layer.specs.Sends.{SendsIt}
 use Rattle.coap_layer.specs.Channel.{Hop, Near, Far, near_of, OnFar, Takes, HandsUpAs}
 use Rattle.coap_types.specs.declared.transmission.TheConstants.{MAX_LATENCY_MS as max_latency}
 
--- nothing of the CON is under way: it was taken, or each of its sendings so far is more than 100,000 ms old
+-- the CON was taken, or each of its sendings so far is more than 100,000 ms old
 abbrev pub Gone : Endpoint → Open → ℕ → List Hop → Type 0
 Gone near con at past = Ever (OnFar (Takes near con)) past ⊎ Always (λ t e. SendsIt con t e → e.at + max_latency < at) (near_of past)
 
@@ -24,7 +24,7 @@ abbrev pub OnNearAfter : (List Hop → Entry → Type 0) → List Hop → Hop �
 OnNearAfter P past (Near e) = P past e
 OnNearAfter P past (Far e) = ⊥
 
--- Where the new CON was handed up, the old one isn't handed up any more.
+-- Where the new CON followed and was handed up, the old one isn't handed up any more.
 abbrev pub ConsApart : Endpoint → List Hop → Type 0
 ConsApart near all =
     (old new : Open) → Always (λ past h. Sometime (OnNearAfter (Follows near old new)) past → Ever (OnFar (HandsUpAs near new)) past → OnFar (HandsUpAs near old) h → ⊥) all

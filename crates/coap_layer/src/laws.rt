@@ -76,7 +76,7 @@ pub fn channel_law()
     // It is handed up at most once.
     ensures handed { (one other : ℕ) (near far : Endpoint) (all : List Hop) → ChannelLaw one other near far all → HandedOnce near all }
     ensures once { (one other : ℕ) (near far : Endpoint) (all : List Hop) → ChannelLaw one other near far all → TakenOnce near all }
-    // One of which nothing is under way where a newer one begins isn't handed up behind that one (sections 4.2 and 4.7).
+    // One that is taken, or too old to arrive, where a newer one begins isn't handed up behind that one (section 4.7).
     ensures apart { (one other : ℕ) (near far : Endpoint) (all : List Hop) → ChannelLaw one other near far all → ConsApart near all }
     // An acknowledgement that is taken is the reply that was given to that very message, which was taken (section 4.2).
     ensures replied { (one other : ℕ) (near far : Endpoint) (all : List Hop) → ChannelLaw one other near far all → AcksReplied near far all }
