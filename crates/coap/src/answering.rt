@@ -117,7 +117,8 @@ fn recognise<'a, A: Allocator + Copy>(
     alloc: A,
     request: &View<'a>,
 ) -> Result<(Vec<Opt<'a>, A>, bool), AllocError>
-    ensures { IfOk result (λ found. Recognised Direction.Request request.now.options (options_of found.0.items) found.1) }
+    ensures { IfOk result (λ found.
+        Recognised Direction.Request request.now.options (options_of found.0.items) found.1) }
 {
     recognised(alloc, Direction::Request, request.options())
 }

@@ -148,7 +148,8 @@ pub fn command<R: AllocGlobal, O: Write, E: Write>(
     // What is wrong in the words is answered with 2, unless that can't be told ..
     ensures wrong { (wrong : Wrong) → IsWrong (map string_bytes words.now) wrong → IsAnswered wrong result }
     // .. and nothing else is.
-    ensures words { result ≡ 2 → (wrong : Wrong) × IsWrong (map string_bytes words.now) wrong × (wrong ≢ wrongs.Memory) }
+    ensures words { result ≡ 2 → (wrong : Wrong) × IsWrong (map string_bytes words.now) wrong
+        × (wrong ≢ wrongs.Memory) }
     // An order is carried out only where the words ask for it.
     ensures done { result ≤ 1 → (order : Order) × AsksFor (map string_bytes words.now) order }
 {

@@ -57,7 +57,8 @@ pub(crate) fn are_short(options: &[Opt<'_>]) -> bool
 /// longer than 65,804 bytes; and where they are more bytes than a `usize` counts.
 pub fn options_len(options: &[Opt<'_>]) -> Option<usize>
     ensures some { IfSome result (λ n. n ≡ length (options_bytes 0 (options_of options.now))) }
-    ensures spelled { IfSome result (λ n. Options 0 (options_bytes 0 (options_of options.now)) (options_of options.now)) }
+    ensures spelled { IfSome result (λ n.
+        Options 0 (options_bytes 0 (options_of options.now)) (options_of options.now)) }
     ensures none { IfNone result ((bytes : List ℕ)
         → Options 0 bytes (options_of options.now) → length bytes < 2 ^ 64 → ⊥) }
 {

@@ -39,7 +39,8 @@ pub(crate) struct Known {
 
 /// The table of arrivals.
 pub(crate) fn classify(kind: Kind, role: Role, known: Known) -> Verdict
-    ensures { (m : Message) → answer_by result m ≡ up_of kind role m known.outstanding known.remembered known.full known.free }
+    ensures { (m : Message)
+        → answer_by result m ≡ up_of kind role m known.outstanding known.remembered known.full known.free }
 {
     match (kind, role) {
         (Kind::Con, Role::Empty | Role::Reserved) => Verdict::Reject,

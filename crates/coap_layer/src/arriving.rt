@@ -225,7 +225,8 @@ pub(crate) fn keep_by<A: Allocator + Copy, S: BuildHasher>(
     entries: &mut Memory<A, S>,
 )
     requires spare { keeps_lem arriving.verdict arriving.kind ≡ true → 0 < entries.old.spare }
-    requires unknown { keeps_lem arriving.verdict arriving.kind ≡ true → is_remembered at from arriving.id.0 entries.old.settled ≡ false }
+    requires unknown { keeps_lem arriving.verdict arriving.kind ≡ true
+        → is_remembered at from arriving.id.0 entries.old.settled ≡ false }
     requires up_to { IsUpTo at entries.old.settled }
     requires newest { entries.old.newest ≡ None }
     ensures settled { entries.new.settled ≡ entries.old.settled }

@@ -58,7 +58,8 @@ pub(crate) fn push_some<A: Allocator + Copy>(
     requires { is_some datagram ≡ true → deque_len waiting.old + 1 < deque_capacity waiting.old }
     ensures items { waiting.new.items ≡ waiting.old.items ++ option_to_list datagram }
     ensures capacity { deque_capacity waiting.new ≡ deque_capacity waiting.old }
-    ensures place { deque_len waiting.old < deque_capacity waiting.old → deque_len waiting.new < deque_capacity waiting.new }
+    ensures place { deque_len waiting.old < deque_capacity waiting.old
+        → deque_len waiting.new < deque_capacity waiting.new }
 {
     if let Some(datagram) = datagram {
         push_within(waiting, datagram);

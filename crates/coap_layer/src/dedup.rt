@@ -110,7 +110,8 @@ impl<A: Allocator + Copy, S: BuildHasher> Memory<A, S> {
     // What is settled of the message of this key, if it is still remembered.
     fn find(&self, now: u64, key: Key) -> Option<&Kept<A>>
         ensures there { is_some result ≡ is_remembered now key.from key.id.0 self.now.settled }
-        ensures reply { option_and_then (λ k. option_map (λ v. v.items) k.reply) (option_copied result) ≡ reply_of now key.from key.id.0 self.now.settled }
+        ensures reply { option_and_then (λ k.
+            option_map (λ v. v.items) k.reply) (option_copied result) ≡ reply_of now key.from key.id.0 self.now.settled }
     {
         while_live(self.settled.get(&key), now)
     }
@@ -118,7 +119,8 @@ impl<A: Allocator + Copy, S: BuildHasher> Memory<A, S> {
     // The newest message, if it is of this key and still remembered.
     fn find_newest(&self, now: u64, key: Key) -> Option<&Kept<A>>
         ensures there { is_some result ≡ is_remembered now key.from key.id.0 (option_to_list self.now.newest) }
-        ensures reply { option_and_then (λ k. option_map (λ v. v.items) k.reply) (option_copied result) ≡ reply_of now key.from key.id.0 (option_to_list self.now.newest) }
+        ensures reply { option_and_then (λ k.
+            option_map (λ v. v.items) k.reply) (option_copied result) ≡ reply_of now key.from key.id.0 (option_to_list self.now.newest) }
     {
         if let Some((newest, kept)) = &self.newest {
             if *newest == key {

@@ -16,8 +16,10 @@ ghost use Rattle.coap_layer.specs.Examples.{FiveTimes, IsAcknowledged};
 pub fn layer_law()
     ensures start { (word : ℕ) → LayerLed word [] (start word) }
     // A step lengthens the calls that led to the state before it.
-    ensures step { (word : ℕ) (t : List Entry) (old new : State) (now : ℕ) (call : Call) (answer : Answer) → LayerLed word t old → Step old now call answer new → LayerLed word (made old now call ∷ t) new }
-    ensures steps { (word : ℕ) (t : List Entry) (old new : State) (calls : List Asked) → LayerLed word t old → Steps old calls new → LayerLed word (entries old calls ++ t) new }
+    ensures step { (word : ℕ) (t : List Entry) (old new : State) (now : ℕ) (call : Call) (answer : Answer)
+        → LayerLed word t old → Step old now call answer new → LayerLed word (made old now call ∷ t) new }
+    ensures steps { (word : ℕ) (t : List Entry) (old new : State) (calls : List Asked) → LayerLed word t old
+        → Steps old calls new → LayerLed word (entries old calls ++ t) new }
     ensures law { (word : ℕ) (t : List Entry) (s : State) → LayerLed word t s → LayerLaw word t }
     // The law leaves each call one answer.
     ensures exact { IsExact }
@@ -66,21 +68,30 @@ pub fn channel_law()
     // An acknowledgement is taken of a message that is outstanding to its source.
     ensures heard { (word : ℕ) (t : List Entry) → LayerLaw word t → AcksHeard t }
     // What arrives was sent by one of the rows.
-    ensures sent { (one other : ℕ) (near far : Endpoint) (all : List Hop) → ChannelLaw one other near far all → ArrivesAsSent near far all }
+    ensures sent { (one other : ℕ) (near far : Endpoint) (all : List Hop) → ChannelLaw one other near far all
+        → ArrivesAsSent near far all }
     // A Confirmable message that arrives was begun at most 147,000 ms before (RFC 7252, section 4.8.2).
-    ensures begun { (one other : ℕ) (near far : Endpoint) (all : List Hop) → ChannelLaw one other near far all → ConsBegun near far all }
+    ensures begun { (one other : ℕ) (near far : Endpoint) (all : List Hop) → ChannelLaw one other near far all
+        → ConsBegun near far all }
     // A Non-confirmable message that arrives was sent at most 100,000 ms before (section 4.3).
-    ensures plain { (one other : ℕ) (near far : Endpoint) (all : List Hop) → ChannelLaw one other near far all → NonsSent near far all }
+    ensures plain { (one other : ℕ) (near far : Endpoint) (all : List Hop) → ChannelLaw one other near far all
+        → NonsSent near far all }
     // What arrives under a Confirmable message's Message ID meanwhile is that very message (section 4.4).
-    ensures only { (one other : ℕ) (near far : Endpoint) (all : List Hop) → ChannelLaw one other near far all → OnlyThatCon near far all }
+    ensures only { (one other : ℕ) (near far : Endpoint) (all : List Hop) → ChannelLaw one other near far all
+        → OnlyThatCon near far all }
     // It is handed up at most once.
-    ensures handed { (one other : ℕ) (near far : Endpoint) (all : List Hop) → ChannelLaw one other near far all → HandedOnce near all }
-    ensures once { (one other : ℕ) (near far : Endpoint) (all : List Hop) → ChannelLaw one other near far all → TakenOnce near all }
+    ensures handed { (one other : ℕ) (near far : Endpoint) (all : List Hop) → ChannelLaw one other near far all
+        → HandedOnce near all }
+    ensures once { (one other : ℕ) (near far : Endpoint) (all : List Hop) → ChannelLaw one other near far all
+        → TakenOnce near all }
     // One that is taken, or too old to arrive, where a newer one begins isn't handed up behind that one (section 4.7).
-    ensures apart { (one other : ℕ) (near far : Endpoint) (all : List Hop) → ChannelLaw one other near far all → ConsApart near all }
+    ensures apart { (one other : ℕ) (near far : Endpoint) (all : List Hop) → ChannelLaw one other near far all
+        → ConsApart near all }
     // An acknowledgement that is taken is the reply that was given to that very message, which was taken (section 4.2).
-    ensures replied { (one other : ℕ) (near far : Endpoint) (all : List Hop) → ChannelLaw one other near far all → AcksReplied near far all }
-    ensures taken { (one other : ℕ) (near far : Endpoint) (all : List Hop) → ChannelLaw one other near far all → AcksTaken near far all }
+    ensures replied { (one other : ℕ) (near far : Endpoint) (all : List Hop) → ChannelLaw one other near far all
+        → AcksReplied near far all }
+    ensures taken { (one other : ℕ) (near far : Endpoint) (all : List Hop) → ChannelLaw one other near far all
+        → AcksTaken near far all }
 {}
 
 /// What isn't Empty, and has options that ascend and are short, may be sent where its header, its

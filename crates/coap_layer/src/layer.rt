@@ -122,7 +122,8 @@ impl<A: Allocator + Copy, S: BuildHasher> Layer<A, S> {
         ensures step { IfOk result (λ up. Moves self.old now.0 (Receive from bytes.now) (answer_as up) self.new) }
         ensures led { IsOk result → Leads self.old now.0 (Receive from bytes.now) self.new }
         ensures before { OnOk result (self.new.before ≡ Some self.old.state) }
-        ensures may_reply { IfOk result (λ up. (m : Message) → handed_by (answer_as up) ≡ Some m → MayReply self.new from m.id) }
+        ensures may_reply { IfOk result (λ up. (m : Message) → handed_by (answer_as up) ≡ Some m
+            → MayReply self.new from m.id) }
         ensures kept { self.old.has_room ≡ true → self.new.has_room ≡ true }
         ensures err { OnErr result (self.new ≡ self.old) }
         // Where nothing is sent and nothing is handed up, it takes no memory.
@@ -188,7 +189,8 @@ impl<A: Allocator + Copy, S: BuildHasher> Layer<A, S> {
         word: u64,
     ) -> Result<Id, SendRefusal>
         requires { IsSendable content.now }
-        ensures step { result ≢ Err refused.Memory → Moves self.old now.0 (Confirm to content.now word) (sent_as result) self.new }
+        ensures step { result ≢ Err refused.Memory
+            → Moves self.old now.0 (Confirm to content.now word) (sent_as result) self.new }
         ensures led { result ≢ Err refused.Memory → Leads self.old now.0 (Confirm to content.now word) self.new }
         ensures before { self.new.before ≡ self.old.before }
         ensures room { self.old.has_room ≡ true → result ≢ Err refused.Memory }
@@ -223,7 +225,8 @@ impl<A: Allocator + Copy, S: BuildHasher> Layer<A, S> {
         content: &Content<'_>,
     ) -> Result<Id, SendRefusal>
         requires { IsSendable content.now }
-        ensures step { result ≢ Err refused.Memory → Moves self.old now.0 (Plain to content.now) (sent_as result) self.new }
+        ensures step { result ≢ Err refused.Memory
+            → Moves self.old now.0 (Plain to content.now) (sent_as result) self.new }
         ensures led { result ≢ Err refused.Memory → Leads self.old now.0 (Plain to content.now) self.new }
         ensures before { self.new.before ≡ self.old.before }
         ensures room { self.old.has_room ≡ true → result ≢ Err refused.Memory }
@@ -348,7 +351,8 @@ impl<A: Allocator + Copy, S: BuildHasher> Layer<A, S> {
     /// Does one step that is due: a retransmission, or the failure of one (RFC 7252, section 4.2).
     /// Where nothing is due, it takes no memory.
     pub fn tick(&mut self, now: Moment) -> Result<Tick, AllocError>
-        ensures step { IfOk result (λ tick. (answer : Answer) × IsTick tick answer × Moves self.old now.0 Ticks answer self.new) }
+        ensures step { IfOk result (λ tick. (answer : Answer) × IsTick tick answer
+            × Moves self.old now.0 Ticks answer self.new) }
         ensures led { IsOk result → Leads self.old now.0 Ticks self.new }
         ensures before { OnOk result (self.new.before ≡ Some self.old.state) }
         ensures err { OnErr result (self.new ≡ self.old) }

@@ -48,8 +48,10 @@ fn is_held(last_use: Option<u64>, now: u64) -> bool
 
 // Whether the number that comes next may be given.
 fn may_give(upcoming: u16, last_used: &[Option<u64>; GROUPS], now: u64) -> bool
-    ensures yes { (word : ℕ) (past : List Issued) → upcoming ≡ upcoming_number word past → AreUses past last_used.now → IsTrue result → MayGive word past now }
-    ensures no { (word : ℕ) (past : List Issued) → upcoming ≡ upcoming_number word past → AreUses past last_used.now → result ≡ false → Withholds word past now }
+    ensures yes { (word : ℕ) (past : List Issued) → upcoming ≡ upcoming_number word past → AreUses past last_used.now
+        → IsTrue result → MayGive word past now }
+    ensures no { (word : ℕ) (past : List Issued) → upcoming ≡ upcoming_number word past → AreUses past last_used.now
+        → result ≡ false → Withholds word past now }
     ensures test { result ≡ is_free now upcoming last_used.now }
 {
     upcoming % GROUP_SIZE != 0 || !is_held(last_used[(upcoming / GROUP_SIZE) as usize], now)
@@ -100,7 +102,8 @@ impl IdSource {
 
     /// Whether `next` would give a number now. A moment before the last one counts as the last.
     pub fn is_free(&mut self, now: Moment) -> bool
-        ensures led { (word : ℕ) (t : List IdEntry) → Led word t self.old → Led word (free_entry t now.0 result ∷ t) self.new }
+        ensures led { (word : ℕ) (t : List IdEntry) → Led word t self.old
+            → Led word (free_entry t now.0 result ∷ t) self.new }
         ensures step { Asks self.old now.0 result self.new }
     {
         self.clock = self.clock.max(now.0);
@@ -110,7 +113,8 @@ impl IdSource {
     /// The next number; `None` where the group is spent and the next one was used at most
     /// 400,000 ms ago. A moment before the last one counts as the last.
     pub fn next(&mut self, now: Moment) -> Option<Id>
-        ensures led { (word : ℕ) (t : List IdEntry) → Led word t self.old → Led word (next_entry t now.0 result ∷ t) self.new }
+        ensures led { (word : ℕ) (t : List IdEntry) → Led word t self.old
+            → Led word (next_entry t now.0 result ∷ t) self.new }
         ensures step { Draws self.old now.0 result self.new }
     {
         self.clock = self.clock.max(now.0);

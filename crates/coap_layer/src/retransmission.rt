@@ -136,7 +136,8 @@ fn factor(retransmission: u32) -> u64
 // Whether one of the first so many retransmissions is due and was not at the last sending.
 fn any_falls_due(retransmissions: u32, timeout: u16, sent: u64, elapsed: u64) -> bool
     requires { retransmissions ≤ max_retransmit }
-    ensures { result ≡ list_any (λ k. nat_lt sent (timeout * k) && nat_le (timeout * k) elapsed) (factors retransmissions) }
+    ensures { result ≡ list_any (λ k.
+        nat_lt sent (timeout * k) && nat_le (timeout * k) elapsed) (factors retransmissions) }
 {
     if retransmissions == 0 {
         return false;
@@ -211,7 +212,8 @@ fn mark_all<A: Allocator + Copy>(sendings: &mut Vec<Sending<A>, A>, to: Endpoint
 
 /// Does the step.
 pub(crate) fn take_step<A: Allocator + Copy>(sendings: &mut Vec<Sending<A>, A>, step: Due, at: u64)
-    ensures open { (out : List Packet) → open_now sendings.new.items ≡ filter_map (left_by (record { at = at; call = Ticks; answer = answer_for step; out = out })) (open_now sendings.old.items) }
+    ensures open { (out : List Packet)
+        → open_now sendings.new.items ≡ filter_map (left_by (record { at = at; call = Ticks; answer = answer_for step; out = out })) (open_now sendings.old.items) }
     ensures before { open_before sendings.new.items ≡ open_before sendings.old.items }
     ensures len { vec_len sendings.new ≡ vec_len sendings.old }
     ensures capacity { vec_capacity sendings.new ≡ vec_capacity sendings.old }

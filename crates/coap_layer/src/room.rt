@@ -94,7 +94,8 @@ pub(crate) fn grow<A: Allocator + Copy, S: BuildHasher>(
     ensures sendings { lists.new.sendings.items ≡ lists.old.sendings.items }
     ensures waiting { lists.new.waiting.items ≡ lists.old.waiting.items }
     ensures entry { OnOk result (brings.keeps ≡ true → 2 ≤ lists.new.entries.spare) }
-    ensures place { OnOk result (brings.sends ≡ true → deque_len lists.new.waiting + 1 < deque_capacity lists.new.waiting) }
+    ensures place { OnOk result (brings.sends ≡ true
+        → deque_len lists.new.waiting + 1 < deque_capacity lists.new.waiting) }
     ensures there { OnOk result (brings.hands ≡ true → is_some room.new ≡ true) }
     ensures kept { is_some room.old ≡ true → is_some room.new ≡ true }
     ensures room { HasRoom room.new lists.new }

@@ -41,7 +41,8 @@ pub(crate) fn take_in<A: Allocator + Copy, S: BuildHasher>(
     requires moment { moments.last ≤ moments.at }
     requires up_to { IsUpTo moments.last (arrivals_in lists.old.entries) }
     requires entry { keeps arriving.verdict arriving.kind ≡ true → 2 ≤ lists.old.entries.spare }
-    requires unknown { hands arriving.verdict arriving.kind ≡ true → is_remembered moments.at from arriving.id.0 (arrivals_in lists.old.entries) ≡ false }
+    requires unknown { hands arriving.verdict arriving.kind ≡ true
+        → is_remembered moments.at from arriving.id.0 (arrivals_in lists.old.entries) ≡ false }
     requires place { is_some sent ≡ true → deque_len lists.old.waiting + 1 < deque_capacity lists.old.waiting }
     ensures arrived { filter (is_live moments.at) (arrivals_in lists.new.entries) ≡ filter (is_live moments.at) (filter (is_live moments.last) (arrivals_in lists.old.entries) ++ newly_by moments.at from arriving) }
     ensures open { open_now lists.new.sendings.items ≡ open_by from arriving (open_now lists.old.sendings.items) }
@@ -52,7 +53,8 @@ pub(crate) fn take_in<A: Allocator + Copy, S: BuildHasher>(
     ensures kept { IsKept moments.at (awaits_by from arriving) true lists.new.entries }
     ensures sendings_len { vec_len lists.new.sendings ≤ vec_len lists.old.sendings }
     ensures sendings_capacity { vec_capacity lists.new.sendings ≡ vec_capacity lists.old.sendings }
-    ensures waiting_room { deque_len lists.old.waiting < deque_capacity lists.old.waiting → deque_len lists.new.waiting < deque_capacity lists.new.waiting }
+    ensures waiting_room { deque_len lists.old.waiting < deque_capacity lists.old.waiting
+        → deque_len lists.new.waiting < deque_capacity lists.new.waiting }
 {
     let mark = begin(moments.last, awaits, ids, lists);
     end_by(from, arriving, &mut lists.sendings);
@@ -74,7 +76,8 @@ pub(crate) fn take_tick<A: Allocator + Copy, S: BuildHasher>(
     requires place { is_some sent ≡ true → deque_len lists.old.waiting + 1 < deque_capacity lists.old.waiting }
     ensures due { answer_for result.1 ≡ tick_of moments.at (open_now lists.old.sendings.items) }
     ensures arrived { arrivals_in lists.new.entries ≡ filter (is_live moments.last) (arrivals_in lists.old.entries) }
-    ensures open { (out : List Packet) → open_now lists.new.sendings.items ≡ filter_map (left_by (record { at = moments.at; call = Ticks; answer = answer_for result.1; out = out })) (open_now lists.old.sendings.items) }
+    ensures open { (out : List Packet)
+        → open_now lists.new.sendings.items ≡ filter_map (left_by (record { at = moments.at; call = Ticks; answer = answer_for result.1; out = out })) (open_now lists.old.sendings.items) }
     ensures waiting { lists.new.waiting.items ≡ lists.old.waiting.items ++ option_to_list sent }
     ensures before { before_of (Some result.0) lists.new.entries.settled lists.new.sendings.items lists.new.waiting.items
         ≡ Some (forgotten (state_of_parts moments.last (awaited awaits) ids.now (arrivals_in lists.old.entries) (open_now lists.old.sendings.items) lists.old.waiting.items)) }
@@ -82,7 +85,8 @@ pub(crate) fn take_tick<A: Allocator + Copy, S: BuildHasher>(
     ensures kept { IsKept moments.at None true lists.new.entries }
     ensures sendings_len { vec_len lists.new.sendings ≤ vec_len lists.old.sendings }
     ensures sendings_capacity { vec_capacity lists.new.sendings ≡ vec_capacity lists.old.sendings }
-    ensures waiting_room { deque_len lists.old.waiting < deque_capacity lists.old.waiting → deque_len lists.new.waiting < deque_capacity lists.new.waiting }
+    ensures waiting_room { deque_len lists.old.waiting < deque_capacity lists.old.waiting
+        → deque_len lists.new.waiting < deque_capacity lists.new.waiting }
 {
     let mark = begin(moments.last, awaits, ids, lists);
     let due = find_step(&lists.sendings, moments.at);

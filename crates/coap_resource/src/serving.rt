@@ -98,7 +98,8 @@ fn content<A: Allocator + Copy>(
     ensures content { IfOk result
         (λ r. reply_of r ≡ content_reply (held_of held.now) wanted.by_block wanted.offset wanted.szx) }
     ensures fits { IfOk result (λ r. Fits (reply_of r)) }
-    ensures quiet { (content_reply (held_of held.now) wanted.by_block wanted.offset wanted.szx).part ≡ [] → IsOk result }
+    ensures quiet { (content_reply (held_of held.now) wanted.by_block wanted.offset wanted.szx).part ≡ []
+        → IsOk result }
 {
     let len = held.body.len();
     let block2 = block_sent(&wanted, len);
@@ -125,7 +126,8 @@ fn serve_get<A: Allocator + Copy, S: Store<A>>(
     ensures got { IfOk result
         (λ r. reply_of r ≡ got ((S.content store.now).holds asking.now.path.now) (question_of asking.now)) }
     ensures fits { IfOk result (λ r. Fits (reply_of r)) }
-    ensures quiet { (got ((S.content store.now).holds asking.now.path.now) (question_of asking.now)).part ≡ [] → IsOk result }
+    ensures quiet { (got ((S.content store.now).holds asking.now.path.now) (question_of asking.now)).part ≡ []
+        → IsOk result }
 {
     let wanted = wanted_block(asking.options, asking.szx);
     let Some(held) = store.get(asking.path) else {

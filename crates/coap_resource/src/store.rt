@@ -53,7 +53,8 @@ pub trait Store<A: Allocator + Copy>: Drop {
     ) -> Result<u64, StoreRefusal>
         ensures refused { (why : StoreRefusal) → put_refusal (content self.old) now.0 path.now (length body.now) ≡ Some why
             → (result ≡ Err why) × (content self.new ≡ later (content self.old) now.0) }
-        ensures taken { put_refusal (content self.old) now.0 path.now (length body.now) ≡ None → IfErr result (λ why. why ≡ Memory) }
+        ensures taken { put_refusal (content self.old) now.0 path.now (length body.now) ≡ None
+            → IfErr result (λ why. why ≡ Memory) }
         ensures room { IfOk result (λ version. rate_refusal (content self.old).tally now.0 ≡ None) }
         ensures version { IfOk result (λ version. version ≡ (content self.old).tally.version + 1) }
         ensures change { IfOk result (λ version.
@@ -76,8 +77,10 @@ pub trait Store<A: Allocator + Copy>: Drop {
         ensures taken { (held : Held) → (content self.old).holds path.now ≡ Some held
             → append_refusal (content self.old) now.0 held (length body.now) ≡ None
             → IfErr result (λ why. why ≡ Memory) × IfOk result IsSome }
-        ensures room { IfOk result (λ done. IfSome done (λ version. rate_refusal (content self.old).tally now.0 ≡ None)) }
-        ensures version { IfOk result (λ done. IfSome done (λ version. version ≡ (content self.old).tally.version + 1)) }
+        ensures room { IfOk result (λ done.
+            IfSome done (λ version. rate_refusal (content self.old).tally now.0 ≡ None)) }
+        ensures version { IfOk result (λ done.
+            IfSome done (λ version. version ≡ (content self.old).tally.version + 1)) }
         ensures change { IfOk result (λ done. IfSome done (λ version.
             (held : Held) → (content self.old).holds path.now ≡ Some held
             → Changes (content self.old) now.0 path.now
@@ -95,7 +98,8 @@ pub trait Store<A: Allocator + Copy>: Drop {
         ensures taken { (held : Held) → (content self.old).holds path.now ≡ Some held
             → rate_refusal (content self.old).tally now.0 ≡ None
             → result ≡ Ok (Some ((content self.old).tally.version + 1)) }
-        ensures room { IfOk result (λ done. IfSome done (λ version. rate_refusal (content self.old).tally now.0 ≡ None)) }
+        ensures room { IfOk result (λ done.
+            IfSome done (λ version. rate_refusal (content self.old).tally now.0 ≡ None)) }
         ensures change { IfOk result (λ done. IfSome done (λ version.
             Changes (content self.old) now.0 path.now None (content self.new))) };
 }

@@ -18,7 +18,8 @@ const _: () = prove!(NUMBERS == 61);
 
 // Whether an option of this number was seen.
 fn was_seen(seen: &[bool; NUMBERS], number: u16) -> bool
-    ensures { (before : List CoapOption) → Remembers seen.now before → number < NUMBERS → result ≡ has_number number before }
+    ensures { (before : List CoapOption) → Remembers seen.now before → number < NUMBERS
+        → result ≡ has_number number before }
 {
     let index = usize::from(number);
     index < NUMBERS && seen[index]

@@ -19,42 +19,55 @@ ghost use Rattle.coap_world.specs.Serves.{AllServed};
 
 /// What comes from an end's address was given out by that end, for the one that it comes to, at most 100,000 ms before.
 pub fn delivery_law()
-    ensures fair { (config : Config) (events : List Event) (turns : List Turn) → RecordOf config events turns → Legal config turns → AllFair turns }
+    ensures fair { (config : Config) (events : List Event) (turns : List Turn) → RecordOf config events turns
+        → Legal config turns → AllFair turns }
 {}
 
 /// What the server's changes are, whatever the events are.
 pub fn changes_law()
     // Each path holds its last change, and the versions are 1, 2, 3 and so on (RFC 7252, section 5.10.6).
-    ensures holds { (config : Config) (events : List Event) (turns : List Turn) → RecordOf config events turns → Legal config turns → HoldsChanges config (entries_of turns) }
+    ensures holds { (config : Config) (events : List Event) (turns : List Turn) → RecordOf config events turns
+        → Legal config turns → HoldsChanges config (entries_of turns) }
     // A local change does what it answers: it puts, or removes, by one change, or nothing changes.
-    ensures local { (config : Config) (events : List Event) (turns : List Turn) → RecordOf config events turns → Legal config turns → LocalRight config (entries_of turns) }
+    ensures local { (config : Config) (events : List Event) (turns : List Turn) → RecordOf config events turns
+        → Legal config turns → LocalRight config (entries_of turns) }
     // What a path holds changes by a local change of it, or by a request to it that is applied (RFC 7252, section 5.8).
-    ensures owned { (config : Config) (events : List Event) (turns : List Turn) → RecordOf config events turns → Legal config turns → ChangesOwned config (entries_of turns) }
+    ensures owned { (config : Config) (events : List Event) (turns : List Turn) → RecordOf config events turns
+        → Legal config turns → ChangesOwned config (entries_of turns) }
 {}
 
 /// What the message layers of the two ends do in a run, in one order (RFC 7252, section 4).
 pub fn hops_law()
     // The near hops are the entries of the client's layer, the far ones of the server's.
-    ensures near { (config : Config) (turns : List Turn) → near_of (hops_of config turns) ≡ clients.layer_of server_end config.client_word (client_of (entries_of turns)) }
-    ensures far { (config : Config) (turns : List Turn) → far_of (hops_of config turns) ≡ servers.layer_of config.limit config.server_szx config.server_word (server_trace config (entries_of turns)) }
+    ensures near { (config : Config) (turns : List Turn)
+        → near_of (hops_of config turns) ≡ clients.layer_of server_end config.client_word (client_of (entries_of turns)) }
+    ensures far { (config : Config) (turns : List Turn)
+        → far_of (hops_of config turns) ≡ servers.layer_of config.limit config.server_szx config.server_word (server_trace config (entries_of turns)) }
     // In a legal run they stand in the law of two layers and the datagrams between them.
-    ensures channel { (config : Config) (events : List Event) (turns : List Turn) → RecordOf config events turns → Legal config turns → ChannelLaw config.client_word config.server_word client_end server_end (hops_of config turns) }
-    ensures back { (config : Config) (events : List Event) (turns : List Turn) → RecordOf config events turns → Legal config turns → ChannelLaw config.server_word config.client_word server_end client_end (across (hops_of config turns)) }
+    ensures channel { (config : Config) (events : List Event) (turns : List Turn) → RecordOf config events turns
+        → Legal config turns → ChannelLaw config.client_word config.server_word client_end server_end (hops_of config turns) }
+    ensures back { (config : Config) (events : List Event) (turns : List Turn) → RecordOf config events turns
+        → Legal config turns → ChannelLaw config.server_word config.client_word server_end client_end (across (hops_of config turns)) }
     // What an end gives out in a turn was sent by its layer in that turn, at its moment.
-    ensures at_once { (config : Config) (events : List Event) (turns : List Turn) → RecordOf config events turns → Legal config turns → TakenAtOnce (hops_of config turns) turns }
+    ensures at_once { (config : Config) (events : List Event) (turns : List Turn) → RecordOf config events turns
+        → Legal config turns → TakenAtOnce (hops_of config turns) turns }
 {}
 
 /// Whose requests the server serves in a legal run.
 pub fn requests_law()
     // What comes from the client's address is the request of a call, as it was sent (RFC 7252, sections 4.2 and 5.2).
-    ensures came { (config : Config) (events : List Event) (turns : List Turn) → RecordOf config events turns → Legal config turns → CamesFrom config (entries_of turns) }
+    ensures came { (config : Config) (events : List Event) (turns : List Turn) → RecordOf config events turns
+        → Legal config turns → CamesFrom config (entries_of turns) }
     // What is applied for a call has its method and path, its format and all of its body (RFC 7252, section 5.8).
-    ensures whole { (config : Config) (events : List Event) (turns : List Turn) → RecordOf config events turns → Legal config turns → AppliedWhole config (entries_of turns) }
+    ensures whole { (config : Config) (events : List Event) (turns : List Turn) → RecordOf config events turns
+        → Legal config turns → AppliedWhole config (entries_of turns) }
     // Each request that is handed up is served, by the table of the methods, and applied only where its preconditions hold
     // (RFC 7252, sections 5.8 and 5.10.8).
-    ensures served { (config : Config) (events : List Event) (turns : List Turn) → RecordOf config events turns → Legal config turns → AllServed config (entries_of turns) }
+    ensures served { (config : Config) (events : List Event) (turns : List Turn) → RecordOf config events turns
+        → Legal config turns → AllServed config (entries_of turns) }
     // For each call at most one request is applied (RFC 7252, section 4.5).
-    ensures once { (config : Config) (events : List Event) (turns : List Turn) → RecordOf config events turns → Legal config turns → AtMostOnce config (entries_of turns) }
+    ensures once { (config : Config) (events : List Event) (turns : List Turn) → RecordOf config events turns
+        → Legal config turns → AtMostOnce config (entries_of turns) }
 {}
 
 /// Legal runs: what this crate says of them, it says of something.
@@ -115,7 +128,8 @@ pub fn agreement()
     // Each body that is reported was held at its path between call and report; each request body is applied whole, at most
     // once, exactly once where success is reported and never where another response is (RFC 7252, sections 4.2, 4.5, 5.3.2,
     // 5.8 and 5.9).
-    ensures agrees { (config : Config) (events : List Event) (turns : List Turn) → RecordOf config events turns → Legal config turns → Agrees config (entries_of turns) }
+    ensures agrees { (config : Config) (events : List Event) (turns : List Turn) → RecordOf config events turns
+        → Legal config turns → Agrees config (entries_of turns) }
 {}
 
 /// There are records: what the agreement says of legal runs, it says of each list of events that are legal one after the
@@ -124,5 +138,6 @@ pub fn runs_law()
     // A record goes on with each further event that is legal after it, and nothing is refused.
     ensures goes { (config : Config) → GoesOn config }
     // Events that may happen one after the other have a record in which nothing is refused.
-    ensures runs { (config : Config) → IsConfig config → (events : List Event) → MayRun config events → HasRecord config events }
+    ensures runs { (config : Config) → IsConfig config → (events : List Event) → MayRun config events
+        → HasRecord config events }
 {}
