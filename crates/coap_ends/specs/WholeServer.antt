@@ -15,3 +15,4 @@ pub mod ServerLaw
 pub mod ServerLed
 pub mod ServerExample
 pub mod ServerUploadExample
+pub mod ToldExample

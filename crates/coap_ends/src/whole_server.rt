@@ -20,6 +20,7 @@ ghost use Rattle.coap_ends.specs.WholeServer.Follows.ServerRests.{TicksEnd};
 ghost use Rattle.coap_ends.specs.WholeServer.Follows.ServerObserves.{AreObservers, EndsObservation};
 ghost use Rattle.coap_ends.specs.WholeServer.Follows.ServerTells.{Follows};
 ghost use Rattle.coap_ends.specs.WholeServer.ServerTrace.{Call};
+ghost use Rattle.coap_ends.specs.WholeServer.ToldExample.{IsTold};
 ghost use Rattle.coap_ends.specs.WholeServer.Follows.ServerWaits.{ReadyAreServed, WaitsAsDeferred};
 
 /// What leads to the state of a server stands in its whole law, uploads in blocks and observers among it, and what follows
@@ -83,5 +84,7 @@ pub fn whole_server_law()
 /// Histories that stand in that law, with their bytes.
 pub fn whole_server_runs()
     ensures observation { ServerLaw example.limit 6 0 example.run }
+    // Its observer is told of version 1 by the answer that registers it, and of version 2 by a notification.
+    ensures told { IsTold }
     ensures upload { ServerLaw example.limit 6 0 upload_example.run }
 {}
