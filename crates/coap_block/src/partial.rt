@@ -11,6 +11,8 @@ use std::alloc::{AllocError, Allocator};
 /// RFC 7252, section 4.8.2; RFC 7959, section 7, asks for a bound).
 pub const PARTIAL_LIFETIME_MS: u64 = EXCHANGE_LIFETIME_MS;
 
+const _: () = prove!(PARTIAL_LIFETIME_MS == EXCHANGE_LIFETIME_MS);
+
 /// The blocks of one upload, joined so far.
 #[derive(Drop)]
 #[derive_where(Debug)]

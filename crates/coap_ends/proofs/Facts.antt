@@ -1,3 +1,4 @@
 pub mod OfClient
 pub mod OfServer
 pub mod Sources
+pub mod Adds

@@ -7,3 +7,5 @@ pub mod Reporting
 pub mod Serving
 pub mod Replying
 pub mod Holding
+pub mod WholeServer
+pub mod WholeClient

@@ -8,3 +8,6 @@ pub mod ServerTrace
 pub mod ServerChecks
 pub mod ServerSteps
 pub mod ServerLaw
+pub mod Adds
+pub mod WholeServer
+pub mod WholeClient

@@ -4,7 +4,7 @@ ghost use Rattle.coap_types.specs.Past.{Always};
 ghost use Rattle.coap_layer.specs.Channel.{RepliesSo};
 ghost use Rattle.coap_layer.specs.Follows.{CopiesInTime, HandedUpOnce};
 ghost use Rattle.coap_layer.specs.Rows.{LayerLaw};
-ghost use Rattle.coap_ends.specs.Follows.ClientBegins.{ConsAreRequests};
+ghost use Rattle.coap_ends.specs.Follows.ClientBegins.{ConsAreRequests, BeginAtOnce};
 ghost use Rattle.coap_ends.specs.Follows.ClientEnds.{AllEnds};
 ghost use Rattle.coap_ends.specs.Follows.ClientExact as clients_exact;
 ghost use Rattle.coap_ends.specs.Follows.ClientFollows.{AreSent, ReportsAreAnswers, AreFromServer, ReportedOnce};
@@ -49,6 +49,8 @@ pub fn client_law()
     ensures copies { (server : Endpoint) (szx word : ℕ) (t : List Call) → ClientLaw server szx word t → CopiesInTime (layer_of server word t) }
     // It begins no other CON than the requests of its calls, each with its token, to the server (RFC 7252, section 5.2).
     ensures begins { (server : Endpoint) (szx word : ℕ) (t : List Call) → ClientLaw server szx word t → ConsAreRequests server word t }
+    // .. and begins each in the very call that sends its request.
+    ensures begins_now { (server : Endpoint) (szx word : ℕ) (t : List Call) → ClientLaw server szx word t → BeginAtOnce server word t }
     // No two have one token (RFC 7252, section 5.3.1).
     ensures one_con { (server : Endpoint) (szx word : ℕ) (t : List Call) → ClientLaw server szx word t → OneCon (layer_of server word t) }
     // .. and no NON (RFC 7252, section 4.3).

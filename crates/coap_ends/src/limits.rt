@@ -6,6 +6,9 @@ use coap_types::{MAX_SZX, MAX_TOKEN_LEN};
 /// How many calls wait at a client at most.
 pub const MAX_WAITING_CALLS: usize = 8;
 
+/// How many observations wait, run or are live at a client at most.
+pub const MAX_OBSERVATIONS: usize = 16;
+
 /// How many paths of a server have a delay at most.
 pub const MAX_DELAYS: usize = 16;
 
@@ -14,3 +17,5 @@ pub const MAX_DELAYS: usize = 16;
 pub const MAX_OPTIONS_LEN: usize = MAX_MESSAGE_LEN - 4 - MAX_TOKEN_LEN - 1 - (1 << (MAX_SZX + 4));
 
 const _: () = prove!(MAX_WAITING_CALLS == 8 && MAX_DELAYS == 16 && MAX_OPTIONS_LEN == 115);
+
+const _: () = prove!(MAX_OBSERVATIONS == 16);

@@ -25,6 +25,7 @@ use coap_codec::View;
 use coap_layer::{Datagram, Layer};
 use coap_types::{Code, Endpoint, Id, Kind, Moment, Opt, Token};
 use std::alloc::{AllocError, Allocator};
+use std::hash::{BuildHasher, BuildHasherDefault, FoldHasher};
 use std::marker::Model;
 
 /// A request that was handed up, as its response needs it (RFC 7252, section 5.2).
@@ -106,8 +107,8 @@ impl<'a> Model for Response<'a> {
 ///
 /// After each call take `next_out` until None; a moment before the last one counts as the last.
 #[derive(Drop)]
-pub struct Answerer<A: Allocator + Copy> {
-    layer: Layer<A>,
+pub struct Answerer<A: Allocator + Copy, S: BuildHasher = BuildHasherDefault<FoldHasher>> {
+    layer: Layer<A, S>,
     pending: Option<Asked>,
     deferred: Deferrals,
     separate: Vec<Listed<Separate>, A>,
@@ -122,7 +123,7 @@ pub struct Answerer<A: Allocator + Copy> {
     ended_before: Option<Ended>,
 }
 
-impl<A: Allocator + Copy> Model for Answerer<A> {
+impl<A: Allocator + Copy, S: BuildHasher> Model for Answerer<A, S> {
     ghost use Rattle.std.specs.Vec.{vec_len, vec_capacity};
     ghost use Rattle.coap_exchange.specs.Machine.AnswererShown.{Shown, state_of, before_of, IsAnswerable, HasPlace};
     ghost use Rattle.coap_exchange.specs.Machine.Listed.{listed, listed_before};
@@ -140,15 +141,26 @@ impl<A: Allocator + Copy> Model for Answerer<A> {
         × HasPlace a.room a.layer (vec_len a.separate) (vec_capacity a.separate) };
 }
 
-impl<A: Allocator + Copy> Answerer<A> {
+impl<A: Allocator + Copy> Answerer<A, BuildHasherDefault<FoldHasher>> {
     /// A server's side to which nothing has happened. The word picks its first Message ID.
-    pub fn new(alloc: A, word: u64) -> Answerer<A>
+    pub fn new(alloc: A, word: u64) -> Self
+        ensures led { Led word [] result.state }
+        ensures start { result.state ≡ fresh_state word }
+        ensures before { result.before ≡ None }
+    {
+        Answerer::with_hasher(alloc, word, BuildHasherDefault::new())
+    }
+}
+
+impl<A: Allocator + Copy, S: BuildHasher> Answerer<A, S> {
+    /// The same, with a hasher for the messages that are remembered.
+    pub fn with_hasher(alloc: A, word: u64, hasher: S) -> Self
         ensures led { Led word [] result.state }
         ensures start { result.state ≡ fresh_state word }
         ensures before { result.before ≡ None }
     {
         Answerer {
-            layer: Layer::new(alloc, word),
+            layer: Layer::with_hasher(alloc, word, hasher),
             pending: None,
             deferred: Deferrals::new(),
             separate: Vec::new(alloc),

@@ -24,6 +24,7 @@ use coap_layer::{Layer, SendRefusal, Tick, Up};
 use coap_types::option_number::OBSERVE;
 use coap_types::{Direction, Endpoint, Id, Moment, Token, carries, lacks_critical};
 use std::alloc::Allocator;
+use std::hash::BuildHasher;
 
 /// Whether the response has a critical option that is not recognised (RFC 7252, section 5.4.1).
 fn has_bad_option(response: &View<'_>) -> bool
@@ -109,8 +110,8 @@ pub(crate) fn told<'a>(verdict: Verdict, up: Up<'a>) -> Option<Event<'a>>
 }
 
 /// Answers an arrival, and settles the request, as the verdict wants it.
-pub(crate) fn act<A: Allocator + Copy>(
-    layer: &mut Layer<A>,
+pub(crate) fn act<A: Allocator + Copy, S: BuildHasher>(
+    layer: &mut Layer<A, S>,
     server: Endpoint,
     running: &Option<Exchange>,
     from: Endpoint,
@@ -130,7 +131,11 @@ pub(crate) fn act<A: Allocator + Copy>(
 }
 
 /// Ends the retransmission of the request.
-fn settle<A: Allocator + Copy>(layer: &mut Layer<A>, server: Endpoint, running: &Option<Exchange>)
+fn settle<A: Allocator + Copy, S: BuildHasher>(
+    layer: &mut Layer<A, S>,
+    server: Endpoint,
+    running: &Option<Exchange>,
+)
     ensures steps { (settled : Bool) × Steps layer.old.state (settling true server running.now settled) layer.new.state }
     ensures before { layer.new.before ≡ layer.old.before }
 {

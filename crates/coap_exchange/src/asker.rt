@@ -21,6 +21,7 @@ use coap_codec::View;
 use coap_layer::{Content, Datagram, Layer};
 use coap_types::{Endpoint, Id, Method, Moment, Opt, Token};
 use std::alloc::{AllocError, Allocator};
+use std::hash::{BuildHasher, BuildHasherDefault, FoldHasher};
 use std::marker::Model;
 
 /// What the client's exchange came to, or what came beside it (RFC 7252, section 5.3).
@@ -109,8 +110,8 @@ impl<'a> Model for Ask<'a> {
 /// It runs one exchange at a time. After each call take `next_out` until None; a moment before the
 /// last one counts as the last.
 #[derive(Drop)]
-pub struct Asker<A: Allocator + Copy> {
-    layer: Layer<A>,
+pub struct Asker<A: Allocator + Copy, S: BuildHasher = BuildHasherDefault<FoldHasher>> {
+    layer: Layer<A, S>,
     server: Endpoint,
     word: u64,
     held: Held,
@@ -118,7 +119,7 @@ pub struct Asker<A: Allocator + Copy> {
     before: Held,
 }
 
-impl<A: Allocator + Copy> Model for Asker<A> {
+impl<A: Allocator + Copy, S: BuildHasher> Model for Asker<A, S> {
     ghost use Rattle.coap_exchange.specs.Machine.AskerShown.{Shown, state_of, before_of};
 
     ghost Value = { Shown };
@@ -129,16 +130,27 @@ impl<A: Allocator + Copy> Model for Asker<A> {
     } };
 }
 
-impl<A: Allocator + Copy> Asker<A> {
+impl<A: Allocator + Copy> Asker<A, BuildHasherDefault<FoldHasher>> {
     /// A client's side to which nothing has happened. The word picks the first token and the first
     /// Message ID.
-    pub fn new(alloc: A, server: Endpoint, word: u64) -> Asker<A>
+    pub fn new(alloc: A, server: Endpoint, word: u64) -> Self
+        ensures led { Led server word [] result.state }
+        ensures start { result.state ≡ fresh_state server word }
+        ensures before { result.before ≡ None }
+    {
+        Asker::with_hasher(alloc, server, word, BuildHasherDefault::new())
+    }
+}
+
+impl<A: Allocator + Copy, S: BuildHasher> Asker<A, S> {
+    /// The same, with a hasher for the messages that are remembered.
+    pub fn with_hasher(alloc: A, server: Endpoint, word: u64, hasher: S) -> Self
         ensures led { Led server word [] result.state }
         ensures start { result.state ≡ fresh_state server word }
         ensures before { result.before ≡ None }
     {
         Asker {
-            layer: Layer::new(alloc, word),
+            layer: Layer::with_hasher(alloc, word, hasher),
             server,
             word,
             held: Held::new(),

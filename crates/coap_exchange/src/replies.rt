@@ -31,6 +31,7 @@ use coap_layer::{Content, Layer, Up};
 use coap_types::limits::MAX_MESSAGE_LEN;
 use coap_types::{Endpoint, Kind, Token};
 use std::alloc::Allocator;
+use std::hash::BuildHasher;
 
 /// The same request again, if there is one.
 pub(crate) fn copied(asked: &Option<Asked>) -> Option<Asked>
@@ -113,7 +114,11 @@ fn rejection(up: &Up<'_>) -> Option<[u8; 4]>
 }
 
 /// Rejects a response that arrived, and answers whether it did (RFC 7252, sections 4.2 and 4.3).
-pub(crate) fn reject<A: Allocator + Copy>(layer: &mut Layer<A>, from: Endpoint, up: &Up<'_>) -> bool
+pub(crate) fn reject<A: Allocator + Copy, S: BuildHasher>(
+    layer: &mut Layer<A, S>,
+    from: Endpoint,
+    up: &Up<'_>,
+) -> bool
     requires { (m : Message) → handed_by (answer_as up.now) ≡ Some m → MayReply layer.old from m.id }
     ensures steps { Steps layer.old.state (replying from (id_in (answer_as up.now)) (reject_by (answer_as up.now))) layer.new.state }
     ensures before { layer.new.before ≡ layer.old.before }
@@ -204,7 +209,11 @@ fn spell(asked: &Asked, response: &Response<'_>, buffer: &mut [u8]) -> usize
 }
 
 // Sends the response in the acknowledgement of its request (RFC 7252, section 5.2.1).
-fn piggyback<A: Allocator + Copy>(layer: &mut Layer<A>, asked: &Asked, response: &Response<'_>)
+fn piggyback<A: Allocator + Copy, S: BuildHasher>(
+    layer: &mut Layer<A, S>,
+    asked: &Asked,
+    response: &Response<'_>,
+)
     requires may { MayReply layer.old asked.now.from asked.now.id.0 }
     requires sendable { IsSendable (content_of asked.now response.now) }
     ensures step { (s : Own) → layer_state.Step layer.old.state layer.old.state.clock (answering s Con asked.now response.now) below.Nothing layer.new.state }
@@ -216,7 +225,11 @@ fn piggyback<A: Allocator + Copy>(layer: &mut Layer<A>, asked: &Asked, response:
 }
 
 // Sends the response to a Non-confirmable request as such (RFC 7252, section 5.2.3).
-fn send_plain<A: Allocator + Copy>(layer: &mut Layer<A>, asked: &Asked, response: &Response<'_>)
+fn send_plain<A: Allocator + Copy, S: BuildHasher>(
+    layer: &mut Layer<A, S>,
+    asked: &Asked,
+    response: &Response<'_>,
+)
     requires room { layer.old.has_room ≡ true }
     requires free { is_free layer.old.state.clock layer.old.state.upcoming layer.old.state.last_used ≡ true }
     requires sendable { IsSendable (content_of asked.now response.now) }
@@ -237,8 +250,8 @@ fn send_plain<A: Allocator + Copy>(layer: &mut Layer<A>, asked: &Asked, response
 }
 
 /// Sends the response to the request that was handed up last.
-pub(crate) fn send<A: Allocator + Copy>(
-    layer: &mut Layer<A>,
+pub(crate) fn send<A: Allocator + Copy, S: BuildHasher>(
+    layer: &mut Layer<A, S>,
     asked: &Asked,
     response: &Response<'_>,
 )

@@ -24,11 +24,12 @@ use coap_layer::{Content, Layer, Tick};
 use coap_types::option_number::OBSERVE;
 use coap_types::{Endpoint, Id, Moment, Opt, Token};
 use std::alloc::{AllocError, Allocator};
+use std::hash::BuildHasher;
 
 /// Makes room for the response to the deferred request that is ready, if one is, where it can be
 /// sent now.
-pub(crate) fn make_room<A: Allocator + Copy>(
-    layer: &mut Layer<A>,
+pub(crate) fn make_room<A: Allocator + Copy, S: BuildHasher>(
+    layer: &mut Layer<A, S>,
     separate: &mut Vec<Listed<Separate>, A>,
     now: Moment,
     ready: &Option<Asked>,
@@ -62,8 +63,8 @@ pub(crate) fn unless_due(due: bool, ready: Option<Asked>) -> Option<Asked>
 
 /// Whether the response to the deferred request that is ready can be sent, for which room was made
 /// if it can.
-pub(crate) fn is_sendable<A: Allocator + Copy>(
-    layer: &mut Layer<A>,
+pub(crate) fn is_sendable<A: Allocator + Copy, S: BuildHasher>(
+    layer: &mut Layer<A, S>,
     now: Moment,
     ready: &Option<Asked>,
 ) -> bool
@@ -169,8 +170,8 @@ pub(crate) fn separate_of(to: Endpoint, id: Id, token: &Token, response: &Respon
 
 /// Sends the separate response or the notification, for which there is room, and answers its
 /// Message ID (RFC 7252, section 5.2.2; RFC 7641, section 4.2).
-pub(crate) fn confirm<A: Allocator + Copy>(
-    layer: &mut Layer<A>,
+pub(crate) fn confirm<A: Allocator + Copy, S: BuildHasher>(
+    layer: &mut Layer<A, S>,
     now: Moment,
     to: Endpoint,
     token: &Token,

@@ -2,4 +2,5 @@
 pub mod WhatComesByType
 pub mod WhatArrivesWasSent
 pub mod TakenOnce
+pub mod GoneIsNotBehind
 pub mod AcksAreReplies

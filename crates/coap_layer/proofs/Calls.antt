@@ -2,6 +2,7 @@
 pub mod JudgedByTable
 pub mod CallsAreSteps
 pub mod Entries
+pub mod Remembered
 pub mod Outstanding
 pub mod Places
 pub mod Received

@@ -8,5 +8,6 @@ pub mod Follows
 pub mod Sendable
 pub mod Sends
 pub mod Channel
+pub mod Apart
 pub mod Examples
 pub mod Machine

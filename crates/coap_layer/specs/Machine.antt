@@ -1,4 +1,4 @@
--- What a layer keeps, and how the rows come out of it: nobody has to believe it.
+-- What a layer keeps, and how the rows come out of it; what an object shows (Shown) is in the conditions of calls.
 pub mod State
 pub mod Steps
 pub mod LayerLed

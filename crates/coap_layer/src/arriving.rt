@@ -1,25 +1,26 @@
-ghost use Rattle.std.specs.Prelude.{◌≡◌, ◌≤◌, ◌<◌, length, ◌++◌, ◌∷◌, [], true, List, Ok, option_to_list, IfOk, IsOk};
+ghost use Rattle.std.specs.Prelude.{◌≡◌, ◌<◌, [], true, false, None, Ok, option_to_list, IfOk, IsOk};
 ghost use Rattle.std.specs.Vec.{vec_len, vec_capacity};
 ghost use Rattle.coap_types.specs.Bytes.{AreBytes};
 ghost use Rattle.coap_layer.specs.Arrivals.{arrival_at};
 ghost use Rattle.coap_layer.specs.Machine.Arriving.{IsArriving, shown_by, told_by, of_head, sent_by, newly_by, awaits_by, open_by, ends as ends_lem, hands as hands_lem, keeps as keeps_lem};
-ghost use Rattle.coap_layer.specs.Machine.Entries.{arrivals_in};
+ghost use Rattle.coap_layer.specs.Machine.Entries.{IsUpTo, arrivals_in};
 ghost use Rattle.coap_layer.specs.Machine.Parts.{awaited, open_before};
 ghost use Rattle.coap_layer.specs.Rows.{reset_to};
 ghost use Rattle.coap_layer.specs.Machine.Sendings.{open_now};
-ghost use Rattle.coap_layer.specs.Machine.State.{State, answer_to, is_free};
+ghost use Rattle.coap_layer.specs.Machine.State.{State, answer_to, is_free, is_remembered};
 ghost use Rattle.coap_layer.specs.Machine.Ups.{disposition_of};
 
 use crate::Up;
 use crate::arrival::{Known, Verdict, classify};
 use crate::datagram::Datagram;
-use crate::dedup::{Remembered, is_full, is_remembered, remember, stored_reply};
+use crate::dedup::Memory;
 use crate::lists::Lists;
 use crate::mark::Awaiting;
 use crate::retransmission::{Sending, end_all, is_outstanding};
 use coap_codec::{Fault, View, decode};
 use coap_types::{Code, Endpoint, Id, Kind, Role};
 use std::alloc::{AllocError, Allocator};
+use std::hash::BuildHasher;
 
 // The first byte of a Reset: version 1, type 3, no token (RFC 7252, section 3).
 const RESET: u8 = 0x70;
@@ -64,22 +65,22 @@ fn of_fault(fault: &Fault) -> Arriving
 }
 
 // What becomes of a message.
-fn of_message<A: Allocator + Copy>(
+fn of_message<A: Allocator + Copy, S: BuildHasher>(
     message: &View<'_>,
     at: u64,
     from: Endpoint,
-    lists: &Lists<A>,
+    lists: &Lists<A, S>,
     free: bool,
 ) -> Arriving
-    ensures { (s : State) → s.arrived ≡ arrivals_in lists.now.entries.items → s.open_cons ≡ open_now lists.now.sendings.items → is_free at s.upcoming s.last_used ≡ free
+    ensures { (s : State) → s.arrived ≡ arrivals_in lists.now.entries → s.open_cons ≡ open_now lists.now.sendings.items → is_free at s.upcoming s.last_used ≡ free
         → IsArriving s at from (shown_by (Ok message.now)) result × (told_by result.verdict (Ok message.now) ≡ answer_to s at from (shown_by (Ok message.now))) }
 {
     let kind = message.kind();
     let id = message.id();
     let known = Known {
         outstanding: is_outstanding(&lists.sendings, from, id),
-        remembered: is_remembered(&lists.entries, at, from, id),
-        full: is_full(&lists.entries, at),
+        remembered: lists.entries.is_remembered(at, from, id),
+        full: lists.entries.is_full(at),
         free,
     };
     Arriving {
@@ -90,14 +91,14 @@ fn of_message<A: Allocator + Copy>(
 }
 
 /// What becomes of a datagram.
-pub(crate) fn judge<A: Allocator + Copy>(
+pub(crate) fn judge<A: Allocator + Copy, S: BuildHasher>(
     read: &Result<View<'_>, Fault>,
     at: u64,
     from: Endpoint,
-    lists: &Lists<A>,
+    lists: &Lists<A, S>,
     free: bool,
 ) -> Arriving
-    ensures { (s : State) → s.arrived ≡ arrivals_in lists.now.entries.items → s.open_cons ≡ open_now lists.now.sendings.items → is_free at s.upcoming s.last_used ≡ free
+    ensures { (s : State) → s.arrived ≡ arrivals_in lists.now.entries → s.open_cons ≡ open_now lists.now.sendings.items → is_free at s.upcoming s.last_used ≡ free
         → IsArriving s at from (shown_by read.now) result × (told_by result.verdict read.now ≡ answer_to s at from (shown_by read.now)) }
 {
     match read {
@@ -134,19 +135,19 @@ fn reset<A: Allocator + Copy>(alloc: A, to: Endpoint, id: Id) -> Result<Datagram
 }
 
 /// What is sent at once.
-pub(crate) fn sent<A: Allocator + Copy>(
+pub(crate) fn sent<A: Allocator + Copy, S: BuildHasher>(
     alloc: A,
     at: u64,
     from: Endpoint,
     arriving: Arriving,
-    entries: &Vec<Remembered<A>, A>,
+    entries: &Memory<A, S>,
 ) -> Result<Option<Datagram<A>>, AllocError>
-    ensures sent { IfOk result (λ d. option_to_list d ≡ sent_by at from (arrivals_in entries.now.items) arriving) }
-    ensures silent { sent_by at from (arrivals_in entries.now.items) arriving ≡ [] → IsOk result }
+    ensures sent { IfOk result (λ d. option_to_list d ≡ sent_by at from (arrivals_in entries.now) arriving) }
+    ensures silent { sent_by at from (arrivals_in entries.now) arriving ≡ [] → IsOk result }
 {
     match (arriving.verdict, arriving.kind) {
         (Verdict::Reject, _) => Ok(Some(reset(alloc, from, arriving.id)?)),
-        (Verdict::Replay, Kind::Con) => match stored_reply(entries, at, from, arriving.id) {
+        (Verdict::Replay, Kind::Con) => match entries.stored_reply(at, from, arriving.id) {
             Some(reply) => {
                 let bytes = Vec::from_slice(alloc, reply)?;
                 Ok(Some(Datagram { to: from, bytes }))
@@ -217,23 +218,21 @@ pub(crate) fn end_by<A: Allocator + Copy>(
 }
 
 /// Remembers a message that is handed up, for which there is room.
-pub(crate) fn keep_by<A: Allocator + Copy>(
+pub(crate) fn keep_by<A: Allocator + Copy, S: BuildHasher>(
     at: u64,
     from: Endpoint,
     arriving: Arriving,
-    entries: &mut Vec<Remembered<A>, A>,
+    entries: &mut Memory<A, S>,
 )
-    requires { keeps_lem arriving.verdict arriving.kind ≡ true → vec_len entries.old < vec_capacity entries.old }
-    ensures items { (more : List _) × (entries.new.items ≡ entries.old.items ++ more) × (arrivals_in more ≡ newly_by at from arriving) × (length more ≤ 1) }
+    requires spare { keeps_lem arriving.verdict arriving.kind ≡ true → 0 < entries.old.spare }
+    requires unknown { keeps_lem arriving.verdict arriving.kind ≡ true → is_remembered at from arriving.id.0 entries.old.settled ≡ false }
+    requires up_to { IsUpTo at entries.old.settled }
+    requires newest { entries.old.newest ≡ None }
+    ensures settled { entries.new.settled ≡ entries.old.settled }
+    ensures newest { option_to_list entries.new.newest ≡ newly_by at from arriving }
 {
     if keeps(arriving) {
-        let entry = Remembered {
-            from,
-            id: arriving.id,
-            at,
-            con: arriving.kind == Kind::Con,
-            reply: None,
-        };
-        remember(entries, entry);
+        let con = arriving.kind == Kind::Con;
+        entries.remember(at, from, arriving.id, con);
     }
 }

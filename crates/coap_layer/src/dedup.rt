@@ -1,14 +1,16 @@
-ghost use Rattle.std.specs.Prelude.{◌≡◌, ◌<◌, ◌≤◌, ◌+◌, ◌++◌, [], ◌∷◌, nat_le, filter, count_by, map, take, drop, length, Some, None, if◌then◌else◌};
-ghost use Rattle.std.specs.List.{list_any};
-ghost use Rattle.std.specs.Option.{option_map};
-ghost use Rattle.std.specs.Vec.{vec_len, vec_capacity};
-ghost use Rattle.coap_layer.specs.Machine.State.{is_live, is_of, reply_of};
-ghost use Rattle.coap_layer.specs.Machine.Entries.{arrived_as, arrivals_in, storing};
-ghost use Rattle.coap_layer.specs.declared.dedup.TheConstants.{MAX_REMEMBERED as max_remembered};
+ghost use Rattle.std.specs.Prelude.{◌≡◌, ◌<◌, ◌≤◌, ◌+◌, ◌++◌, [], ◌∷◌, false, nat_le, filter, drop, length, Some, None, is_some, option_to_list, if◌then◌else◌, OnOk};
+ghost use Rattle.std.specs.Option.{option_map, option_and_then, option_copied};
+ghost use Rattle.indexmap.specs.IndexMap.{get, spare, IsUnique};
+ghost use Rattle.coap_layer.specs.Machine.State.{is_live, is_of, is_full, is_remembered, reply_of};
+ghost use Rattle.coap_layer.specs.Machine.Entries.{AreLive, IsUpTo, arrivals_in, live_of, same_key, storing};
+ghost use Rattle.coap_types.specs.declared.transmission.TheConstants.{EXCHANGE_LIFETIME_MS as exchange_lifetime};
 
 use coap_types::transmission::EXCHANGE_LIFETIME_MS;
 use coap_types::{Endpoint, Id};
-use std::alloc::Allocator;
+use indexmap::IndexMap;
+use std::alloc::{AllocError, Allocator};
+use std::hash::BuildHasher;
+use std::marker::Model;
 
 /// So many messages are remembered at most (profile). A full table takes no new message, and never
 /// forgets a live one.
@@ -16,11 +18,16 @@ pub(crate) const MAX_REMEMBERED: usize = 4_096;
 
 const _: () = prove!(MAX_REMEMBERED == 4_096);
 
-/// A message that was handed up, and the reply to it (RFC 7252, section 4.5).
-#[derive(Drop)]
-pub(crate) struct Remembered<A: Allocator + Copy> {
+/// What tells messages apart: where one came from, and its Message ID (RFC 7252, section 4.4).
+#[derive(Clone, Copy, PartialEq, Eq, Hash)]
+pub(crate) struct Key {
     pub(crate) from: Endpoint,
     pub(crate) id: Id,
+}
+
+/// What is kept of a message that was handed up, and the reply to it (RFC 7252, section 4.5).
+#[derive(Drop)]
+pub(crate) struct Kept<A: Allocator + Copy> {
     /// The moment of its first arrival.
     pub(crate) at: u64,
     /// It was Confirmable: its reply is stored.
@@ -28,74 +35,42 @@ pub(crate) struct Remembered<A: Allocator + Copy> {
     pub(crate) reply: Option<Vec<u8, A>>,
 }
 
+/// The messages that are remembered, in the order of their first arrival. That of the last input is
+/// kept apart from the others, until the next input: so it can be taken back.
+#[derive(Drop)]
+pub(crate) struct Memory<A: Allocator + Copy, S: BuildHasher> {
+    settled: IndexMap<Key, Kept<A>, S, A>,
+    newest: Option<(Key, Kept<A>)>,
+}
+
+impl<A: Allocator + Copy, S: BuildHasher> Model for Memory<A, S> {
+    ghost use Rattle.std.specs.Option.{option_map};
+    ghost use Rattle.std.specs.List.Sorted.{IsNonDecreasingBy};
+    ghost use Rattle.indexmap.specs.IndexMap.{spare, IsUnique};
+    ghost use Rattle.coap_layer.specs.Machine.Entries.{Memory, arrived_as, arrivals_as, same_key, IsApart};
+
+    ghost Value = { Memory };
+
+    ghost view = { λ m. record { settled = arrivals_as m.settled.entries; newest = option_map arrived_as m.newest; spare = spare m.settled } };
+
+    ghost invariant = { λ m. IsUnique same_key m.settled
+        × IsNonDecreasingBy (λ e. e.1.at) m.settled.entries
+        × IsApart (option_map arrived_as m.newest) (arrivals_as m.settled.entries) (spare m.settled) };
+}
+
 // Whether it is still remembered.
-fn is_live<A: Allocator + Copy>(e: &Remembered<A>, now: u64) -> bool
-    ensures { result ≡ is_live now (arrived_as e.now) }
+fn is_live<A: Allocator + Copy>(kept: &Kept<A>, now: u64) -> bool
+    ensures { result ≡ nat_le now (kept.now.at + exchange_lifetime) }
 {
-    now.saturating_sub(e.at) <= EXCHANGE_LIFETIME_MS
+    now.saturating_sub(kept.at) <= EXCHANGE_LIFETIME_MS
 }
 
-// Whether it is still remembered, and came from there with this Message ID.
-fn is_of<A: Allocator + Copy>(e: &Remembered<A>, now: u64, from: Endpoint, id: Id) -> bool
-    ensures { result ≡ is_of now from id.0 (arrived_as e.now) }
+// The same, if it is still remembered.
+fn while_live<A: Allocator + Copy>(kept: Option<&Kept<A>>, now: u64) -> Option<&Kept<A>>
+    ensures { option_copied result ≡ live_of now (option_copied kept.entry) }
 {
-    is_live(e, now) && e.from == from && e.id.0 == id.0
-}
-
-/// Whether a message from there with this Message ID is remembered.
-pub(crate) fn is_remembered<A: Allocator + Copy>(
-    entries: &[Remembered<A>],
-    now: u64,
-    from: Endpoint,
-    id: Id,
-) -> bool
-    ensures { result ≡ list_any (λ e. is_of now from id.0 (arrived_as e)) entries.now }
-{
-    entries.iter().any(|e| is_of(e, now, from, id))
-}
-
-/// Whether no further message can be remembered.
-pub(crate) fn is_full<A: Allocator + Copy>(entries: &[Remembered<A>], now: u64) -> bool
-    ensures { result ≡ nat_le max_remembered (count_by (λ e. is_live now (arrived_as e)) entries.now) }
-{
-    entries.iter().filter(|e| is_live(e, now)).count() >= MAX_REMEMBERED
-}
-
-/// The reply that is stored for the message from there with this Message ID.
-pub(crate) fn stored_reply<A: Allocator + Copy>(
-    entries: &[Remembered<A>],
-    now: u64,
-    from: Endpoint,
-    id: Id,
-) -> Option<&Vec<u8, A>>
-    ensures { option_map (λ v. v.now.items) result ≡ reply_of now from id.0 (arrivals_in entries.now) }
-{
-    for e in entries {
-        if is_of(e, now, from, id) {
-            return e.reply.as_ref();
-        }
-    }
-    None
-}
-
-/// Lets go of the messages that are no longer remembered.
-pub(crate) fn forget<A: Allocator + Copy>(entries: &mut Vec<Remembered<A>, A>, now: u64)
-    ensures items { entries.new.items ≡ filter (λ e. is_live now (arrived_as e)) entries.old.items }
-    ensures len { vec_len entries.new ≤ vec_len entries.old }
-    ensures capacity { vec_capacity entries.new ≡ vec_capacity entries.old }
-{
-    entries.retain(|e| is_live(e, now));
-}
-
-/// Remembers one more message, for which there is room.
-pub(crate) fn remember<A: Allocator + Copy>(
-    entries: &mut Vec<Remembered<A>, A>,
-    entry: Remembered<A>,
-)
-    requires { vec_len entries.old < vec_capacity entries.old }
-    ensures { entries.new.items ≡ entries.old.items ++ entry ∷ [] }
-{
-    let _ = entries.push(entry);
+    let kept = kept?;
+    if is_live(kept, now) { Some(kept) } else { None }
 }
 
 // The reply as it is stored: that to a Confirmable message is.
@@ -105,24 +80,187 @@ fn stored<A: Allocator + Copy>(con: bool, reply: Vec<u8, A>) -> Option<Vec<u8, A
     if con { Some(reply) } else { None }
 }
 
-/// Stores the reply to the message from there with this Message ID, if it stands at this place,
-/// which is the last.
-pub(crate) fn store_reply<A: Allocator + Copy>(
-    entries: &mut Vec<Remembered<A>, A>,
-    place: usize,
-    to: Endpoint,
-    id: Id,
-    reply: Vec<u8, A>,
+// Puts one more message to those that are there, for which there is room.
+fn put_last<A: Allocator + Copy, S: BuildHasher>(
+    entries: &mut IndexMap<Key, Kept<A>, S, A>,
+    key: Key,
+    kept: Kept<A>,
 )
-    requires { length entries.old.items ≤ place + 1 }
-    ensures items { arrivals_in entries.new.items ≡ take place (arrivals_in entries.old.items) ++ map (storing to id.0 reply.items) (drop place (arrivals_in entries.old.items)) }
-    ensures front { take place entries.new.items ≡ take place entries.old.items }
-    ensures len { length entries.new.items ≡ length entries.old.items }
+    requires spare { 0 < spare entries.old }
+    requires unknown { get same_key entries.old key ≡ None }
+    ensures entries { entries.new.entries ≡ entries.old.entries ++ (key, kept) ∷ [] }
+    ensures spare { spare entries.old ≤ spare entries.new + 1 }
+    ensures unique { IsUnique same_key entries.new }
 {
-    if place < entries.len() {
-        let con = entries[place].con;
-        if to == entries[place].from && id.0 == entries[place].id.0 {
-            entries[place].reply = stored(con, reply);
+    let _ = entries.insert(key, kept);
+}
+
+impl<A: Allocator + Copy, S: BuildHasher> Memory<A, S> {
+    /// Nothing is remembered. It takes no memory.
+    pub(crate) fn with_hasher(alloc: A, hasher: S) -> Memory<A, S>
+        ensures settled { result.settled ≡ [] }
+        ensures newest { result.newest ≡ None }
+    {
+        Memory {
+            settled: IndexMap::with_hasher(alloc, hasher),
+            newest: None,
         }
+    }
+
+    // What is settled of the message of this key, if it is still remembered.
+    fn find(&self, now: u64, key: Key) -> Option<&Kept<A>>
+        ensures there { is_some result ≡ is_remembered now key.from key.id.0 self.now.settled }
+        ensures reply { option_and_then (λ k. option_map (λ v. v.items) k.reply) (option_copied result) ≡ reply_of now key.from key.id.0 self.now.settled }
+    {
+        while_live(self.settled.get(&key), now)
+    }
+
+    // The newest message, if it is of this key and still remembered.
+    fn find_newest(&self, now: u64, key: Key) -> Option<&Kept<A>>
+        ensures there { is_some result ≡ is_remembered now key.from key.id.0 (option_to_list self.now.newest) }
+        ensures reply { option_and_then (λ k. option_map (λ v. v.items) k.reply) (option_copied result) ≡ reply_of now key.from key.id.0 (option_to_list self.now.newest) }
+    {
+        if let Some((newest, kept)) = &self.newest {
+            if *newest == key {
+                return while_live(Some(kept), now);
+            }
+        }
+        None
+    }
+
+    /// Whether a message from there with this Message ID is remembered.
+    pub(crate) fn is_remembered(&self, now: u64, from: Endpoint, id: Id) -> bool
+        ensures { result ≡ is_remembered now from id.0 (arrivals_in self.now) }
+    {
+        let key = Key { from, id };
+        self.find(now, key).is_some() || self.find_newest(now, key).is_some()
+    }
+
+    /// The reply that is stored for the message from there with this Message ID.
+    pub(crate) fn stored_reply(&self, now: u64, from: Endpoint, id: Id) -> Option<&Vec<u8, A>>
+        ensures { option_map (λ v. v.now.items) result ≡ reply_of now from id.0 (arrivals_in self.now) }
+    {
+        let key = Key { from, id };
+        match self.find(now, key) {
+            Some(kept) => kept.reply.as_ref(),
+            None => match self.find_newest(now, key) {
+                Some(kept) => kept.reply.as_ref(),
+                None => None,
+            },
+        }
+    }
+
+    // How many of those that are settled, the first ones, are no longer remembered.
+    fn forgotten(&self, now: u64) -> usize
+        ensures within { result ≤ length self.now.settled }
+        ensures live { filter (is_live now) self.now.settled ≡ drop result self.now.settled }
+    {
+        self.settled.partition_point(|_, kept| !is_live(kept, now))
+    }
+
+    // How many of the newest, 0 or 1, are still remembered.
+    fn live_newest(&self, now: u64) -> usize
+        ensures { result ≡ length (filter (is_live now) (option_to_list self.now.newest)) }
+    {
+        if let Some((_, kept)) = &self.newest {
+            if is_live(kept, now) {
+                return 1;
+            }
+        }
+        0
+    }
+
+    /// Whether no further message can be remembered.
+    pub(crate) fn is_full(&self, now: u64) -> bool
+        ensures { result ≡ is_full now (arrivals_in self.now) }
+    {
+        let settled = self.settled.len() - self.forgotten(now);
+        settled + self.live_newest(now) >= MAX_REMEMBERED
+    }
+
+    /// Makes room for the newest message, and for one after it.
+    pub(crate) fn reserve(&mut self) -> Result<(), AllocError>
+        ensures settled { self.new.settled ≡ self.old.settled }
+        ensures newest { self.new.newest ≡ self.old.newest }
+        ensures spare { self.old.spare ≤ self.new.spare }
+        ensures ok { OnOk result (2 ≤ self.new.spare) }
+    {
+        self.settled.reserve(2)
+    }
+
+    // Lets go of what is settled and no longer remembered.
+    fn forget(&mut self, now: u64)
+        ensures settled { self.new.settled ≡ filter (is_live now) self.old.settled }
+        ensures newest { self.new.newest ≡ self.old.newest }
+        ensures spare { self.old.spare ≤ self.new.spare }
+    {
+        let forgotten = self.forgotten(now);
+        if forgotten > 0 {
+            self.settled.drain(..forgotten);
+        }
+    }
+
+    // Puts the newest message to the others, if it is still remembered.
+    fn settle_newest(&mut self, now: u64)
+        requires live { AreLive now self.old.settled }
+        requires up_to { IsUpTo now (option_to_list self.old.newest) }
+        ensures settled { self.new.settled ≡ self.old.settled ++ filter (is_live now) (option_to_list self.old.newest) }
+        ensures newest { self.new.newest ≡ None }
+        ensures spare { self.old.spare ≤ self.new.spare + 1 }
+    {
+        if let Some((key, kept)) = self.newest.take() {
+            if is_live(&kept, now) {
+                put_last(&mut self.settled, key, kept);
+            }
+        }
+    }
+
+    /// Lets go of the messages that are no longer remembered, and puts the newest to the others.
+    pub(crate) fn settle(&mut self, now: u64)
+        requires up_to { IsUpTo now (arrivals_in self.old) }
+        ensures settled { self.new.settled ≡ filter (is_live now) (arrivals_in self.old) }
+        ensures newest { self.new.newest ≡ None }
+        ensures spare { self.old.spare ≤ self.new.spare + 1 }
+    {
+        self.forget(now);
+        self.settle_newest(now);
+    }
+
+    /// Remembers one more message, for which there is room.
+    pub(crate) fn remember(&mut self, at: u64, from: Endpoint, id: Id, con: bool)
+        requires spare { 0 < self.old.spare }
+        requires up_to { IsUpTo at self.old.settled }
+        requires unknown { is_remembered at from id.0 self.old.settled ≡ false }
+        ensures settled { self.new.settled ≡ self.old.settled }
+        ensures newest { self.new.newest ≡ Some (record { from = from; id = id.0; at = at; con = con; reply = None }) }
+        ensures spare { self.new.spare ≡ self.old.spare }
+    {
+        let kept = Kept {
+            at,
+            con,
+            reply: None,
+        };
+        self.newest = Some((Key { from, id }, kept));
+    }
+
+    /// Stores the reply to the newest message, if it is that from there with this Message ID.
+    pub(crate) fn store_reply(&mut self, to: Endpoint, id: Id, reply: Vec<u8, A>)
+        ensures settled { self.new.settled ≡ self.old.settled }
+        ensures newest { self.new.newest ≡ option_map (storing to id.0 reply.items) self.old.newest }
+        ensures spare { self.new.spare ≡ self.old.spare }
+    {
+        if let Some((key, kept)) = &mut self.newest {
+            if to == key.from && id.0 == key.id.0 {
+                kept.reply = stored(kept.con, reply);
+            }
+        }
+    }
+
+    /// Takes back the newest message.
+    pub(crate) fn forget_newest(&mut self)
+        ensures settled { self.new.settled ≡ self.old.settled }
+        ensures newest { self.new.newest ≡ None }
+    {
+        self.newest = None;
     }
 }

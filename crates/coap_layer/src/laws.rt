@@ -7,6 +7,7 @@ ghost use Rattle.coap_layer.specs.Machine.LayerLed.{LayerLed};
 ghost use Rattle.coap_layer.specs.Follows.{HandedUpOnce, CopiesInTime, IdsApart, OneOutstanding, EndsOutstanding, IsExact, RemembersFew, IdsSmall, ResponsesSpelled};
 ghost use Rattle.coap_types.specs.declared.endpoint.Endpoint.{Endpoint};
 ghost use Rattle.coap_layer.specs.Channel.{Hop, ChannelLaw, HandedAsSpelled, AcksHeard, ArrivesAsSent, ConsBegun, NonsSent, OnlyThatCon, HandedOnce, AcksReplied, AcksTaken, TakenOnce};
+ghost use Rattle.coap_layer.specs.Apart.{ConsApart};
 ghost use Rattle.coap_layer.specs.Sends.{FiveAtMost, AllAlike, ConsSpelled, OneOpen, LastBegun, EachGoesOut, InOrder, TakenSent, TakenSince};
 ghost use Rattle.coap_layer.specs.Machine.Steps.{Asked, Steps, entries};
 ghost use Rattle.coap_layer.specs.Examples.{FiveTimes, IsAcknowledged};
@@ -75,6 +76,8 @@ pub fn channel_law()
     // It is handed up at most once.
     ensures handed { (one other : ℕ) (near far : Endpoint) (all : List Hop) → ChannelLaw one other near far all → HandedOnce near all }
     ensures once { (one other : ℕ) (near far : Endpoint) (all : List Hop) → ChannelLaw one other near far all → TakenOnce near all }
+    // One of which nothing is under way where a newer one begins isn't handed up behind that one (sections 4.2 and 4.7).
+    ensures apart { (one other : ℕ) (near far : Endpoint) (all : List Hop) → ChannelLaw one other near far all → ConsApart near all }
     // An acknowledgement that is taken is the reply that was given to that very message, which was taken (section 4.2).
     ensures replied { (one other : ℕ) (near far : Endpoint) (all : List Hop) → ChannelLaw one other near far all → AcksReplied near far all }
     ensures taken { (one other : ℕ) (near far : Endpoint) (all : List Hop) → ChannelLaw one other near far all → AcksTaken near far all }

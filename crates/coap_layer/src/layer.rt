@@ -13,7 +13,7 @@ ghost use Rattle.coap_types.specs.declared.limits.TheConstants.{MAX_MESSAGE_LEN 
 
 use crate::arriving::{awaiting, hands, judge, keeps, read, sent, told};
 use crate::datagram::push_within;
-use crate::dedup::store_reply;
+use crate::dedup::Memory;
 use crate::lists::Lists;
 use crate::mark::{Awaiting, Mark};
 use crate::outstanding::{due_copy, put_back};
@@ -25,6 +25,7 @@ use crate::{Content, Datagram, IdSource, SendRefusal, Tick, Up};
 use coap_types::{Endpoint, Id, Moment};
 use std::alloc::{AllocError, Allocator};
 use std::collections::VecDeque;
+use std::hash::{BuildHasher, BuildHasherDefault, FoldHasher};
 use std::marker::Model;
 
 /// The message layer of an end (RFC 7252, section 4).
@@ -32,46 +33,56 @@ use std::marker::Model;
 /// It is handed what arrives, what is to be sent, and the time; it says what an arrival is, and
 /// gives out datagrams. A moment before the last one counts as the last.
 #[derive(Drop)]
-pub struct Layer<A: Allocator + Copy> {
+pub struct Layer<A: Allocator + Copy, S: BuildHasher = BuildHasherDefault<FoldHasher>> {
     alloc: A,
     clock: u64,
     awaits: Option<Awaiting>,
     ids: IdSource,
-    lists: Lists<A>,
+    lists: Lists<A, S>,
     room: Option<Room<A>>,
     /// A reply may be given to the message that was handed up last.
     replies: bool,
-    /// Where that message stands, if it is remembered.
-    place: usize,
     mark: Option<Mark>,
 }
 
-impl<A: Allocator + Copy> Model for Layer<A> {
+impl<A: Allocator + Copy, S: BuildHasher> Model for Layer<A, S> {
     ghost use Rattle.coap_layer.specs.Machine.Shown.{Shown};
 
     ghost Value = { Shown };
 
     ghost use Rattle.std.specs.Prelude.{is_some, length};
     ghost use Rattle.coap_layer.specs.Machine.Parts.{awaited, before_of, held};
-    ghost use Rattle.coap_layer.specs.Machine.Sound.{IsWithin, HasRoom, IsPlaced};
+    ghost use Rattle.coap_layer.specs.Machine.Sound.{IsWithin, HasRoom, IsKept};
     ghost use Rattle.coap_layer.specs.Machine.State.{forgotten};
 
     ghost view = { λ l. record {
       state = forgotten (held l.clock l.awaits l.ids l.lists);
-      before = before_of l.mark l.lists.entries.items l.lists.sendings.items l.lists.waiting.items;
+      before = before_of l.mark l.lists.entries.settled l.lists.sendings.items l.lists.waiting.items;
       has_room = is_some l.room;
       replies = l.replies;
     } };
 
-    ghost invariant = { λ l. IsWithin l.mark (length l.lists.entries.items) (length l.lists.waiting.items)
+    ghost invariant = { λ l. IsWithin l.mark l.lists.entries.settled (length l.lists.waiting.items)
         × HasRoom l.room l.lists
-        × IsPlaced l.clock (awaited l.awaits) l.replies l.place l.mark l.lists.entries.items };
+        × IsKept l.clock (awaited l.awaits) l.replies l.lists.entries };
 }
 
-impl<A: Allocator + Copy> Layer<A> {
+impl<A: Allocator + Copy> Layer<A, BuildHasherDefault<FoldHasher>> {
     /// A layer to which nothing has happened. The word picks its first Message ID: the first of
     /// group `word` mod 16.
-    pub fn new(alloc: A, word: u64) -> Layer<A>
+    pub fn new(alloc: A, word: u64) -> Self
+        ensures start { result.state ≡ start word }
+        ensures led { LayerLed word [] result.state }
+        ensures before { result.before ≡ None }
+    {
+        Layer::with_hasher(alloc, word, BuildHasherDefault::new())
+    }
+}
+
+impl<A: Allocator + Copy, S: BuildHasher> Layer<A, S> {
+    /// The same, with a hasher for the messages that are remembered. With one that has random keys,
+    /// no stranger can pick Message IDs that make a look-up slow.
+    pub fn with_hasher(alloc: A, word: u64, hasher: S) -> Self
         ensures start { result.state ≡ start word }
         ensures led { LayerLed word [] result.state }
         ensures before { result.before ≡ None }
@@ -82,13 +93,12 @@ impl<A: Allocator + Copy> Layer<A> {
             awaits: None,
             ids: IdSource::new(word),
             lists: Lists {
-                entries: Vec::new(alloc),
+                entries: Memory::with_hasher(alloc, hasher),
                 sendings: Vec::new(alloc),
                 waiting: VecDeque::new(alloc),
             },
             room: None,
             replies: false,
-            place: 0,
             mark: None,
         }
     }
@@ -145,7 +155,6 @@ impl<A: Allocator + Copy> Layer<A> {
         self.clock = moments.at;
         self.awaits = awaiting(from, arriving);
         self.replies = true;
-        self.place = mark.entries;
         self.mark = Some(mark);
         Ok(told(datagram, arriving.verdict))
     }
@@ -163,7 +172,7 @@ impl<A: Allocator + Copy> Layer<A> {
             let Room { sent, kept } = room;
             let sent = filled(sent, bytes);
             let stored = filled(kept, bytes);
-            store_reply(&mut self.lists.entries, self.place, to, id, stored);
+            self.lists.entries.store_reply(to, id, stored);
             push_within(&mut self.lists.waiting, Datagram { to, bytes: sent });
             self.awaits = None;
         }
@@ -392,7 +401,7 @@ impl<A: Allocator + Copy> Layer<A> {
             self.awaits = mark.awaits;
             self.ids = mark.ids;
             self.replies = false;
-            self.lists.entries.truncate(mark.entries);
+            self.lists.entries.forget_newest();
             put_back(&mut self.lists.sendings);
             self.lists.waiting.truncate(mark.queued);
         }

@@ -6,6 +6,7 @@ ghost use Rattle.coap_layer.specs.Machine.Sound.{HasRoom, HasBuffers};
 use crate::lists::Lists;
 use coap_types::limits::MAX_MESSAGE_LEN;
 use std::alloc::{AllocError, Allocator};
+use std::hash::BuildHasher;
 
 /// Buffers for a message of the greatest length: one that is sent, and one that is kept.
 #[derive(Drop)]
@@ -32,10 +33,10 @@ fn new_room<A: Allocator + Copy>(alloc: A) -> Result<Room<A>, AllocError>
 }
 
 /// Makes room for a message that is sent and kept, if there is none.
-pub(crate) fn make_room<A: Allocator + Copy>(
+pub(crate) fn make_room<A: Allocator + Copy, S: BuildHasher>(
     alloc: A,
     room: &mut Option<Room<A>>,
-    lists: &mut Lists<A>,
+    lists: &mut Lists<A, S>,
 ) -> Result<(), AllocError>
     requires { HasRoom room.old lists.old }
     ensures entries { lists.new.entries ≡ lists.old.entries }
@@ -58,10 +59,10 @@ pub(crate) fn make_room<A: Allocator + Copy>(
 }
 
 /// The room for a message that is sent and kept, made if there is none.
-pub(crate) fn take_room<A: Allocator + Copy>(
+pub(crate) fn take_room<A: Allocator + Copy, S: BuildHasher>(
     alloc: A,
     room: &mut Option<Room<A>>,
-    lists: &mut Lists<A>,
+    lists: &mut Lists<A, S>,
 ) -> Result<Room<A>, AllocError>
     requires { HasRoom room.old lists.old }
     ensures entries { lists.new.entries ≡ lists.old.entries }
@@ -81,17 +82,18 @@ pub(crate) fn take_room<A: Allocator + Copy>(
 }
 
 /// Makes room for what an input brings.
-pub(crate) fn grow<A: Allocator + Copy>(
+pub(crate) fn grow<A: Allocator + Copy, S: BuildHasher>(
     alloc: A,
     brings: Brings,
     room: &mut Option<Room<A>>,
-    lists: &mut Lists<A>,
+    lists: &mut Lists<A, S>,
 ) -> Result<(), AllocError>
     requires { HasRoom room.old lists.old }
-    ensures entries { lists.new.entries.items ≡ lists.old.entries.items }
+    ensures settled { lists.new.entries.settled ≡ lists.old.entries.settled }
+    ensures newest { lists.new.entries.newest ≡ lists.old.entries.newest }
     ensures sendings { lists.new.sendings.items ≡ lists.old.sendings.items }
     ensures waiting { lists.new.waiting.items ≡ lists.old.waiting.items }
-    ensures entry { OnOk result (brings.keeps ≡ true → vec_len lists.new.entries < vec_capacity lists.new.entries) }
+    ensures entry { OnOk result (brings.keeps ≡ true → 2 ≤ lists.new.entries.spare) }
     ensures place { OnOk result (brings.sends ≡ true → deque_len lists.new.waiting + 1 < deque_capacity lists.new.waiting) }
     ensures there { OnOk result (brings.hands ≡ true → is_some room.new ≡ true) }
     ensures kept { is_some room.old ≡ true → is_some room.new ≡ true }
@@ -104,7 +106,7 @@ pub(crate) fn grow<A: Allocator + Copy>(
         lists.waiting.reserve(2)?;
     }
     if brings.keeps {
-        lists.entries.reserve(1)?;
+        lists.entries.reserve()?;
     }
     if brings.hands {
         make_room(alloc, room, lists)?;

@@ -20,6 +20,7 @@ use coap_types::limits::MAX_MESSAGE_LEN;
 use coap_types::transmission::{ACK_TIMEOUT_MS, TIMEOUT_VALUES};
 use coap_types::{Endpoint, Id, Kind};
 use std::alloc::Allocator;
+use std::hash::BuildHasher;
 
 /// Why a message is not sent, but for want of memory.
 pub(crate) fn refusal(busy: bool, free: bool) -> Option<SendRefusal>
@@ -42,7 +43,7 @@ fn initial_timeout(word: u64) -> u16
 }
 
 // Keeps a Confirmable message that is sent now, for which there is room.
-fn keep<A: Allocator + Copy>(lists: &mut Lists<A>, sending: Sending<A>)
+fn keep<A: Allocator + Copy, S: BuildHasher>(lists: &mut Lists<A, S>, sending: Sending<A>)
     requires { vec_len lists.old.sendings < vec_capacity lists.old.sendings }
     ensures sendings { lists.new.sendings.items ≡ lists.old.sendings.items ++ sending ∷ [] }
     ensures entries { lists.new.entries ≡ lists.old.entries }
@@ -52,14 +53,14 @@ fn keep<A: Allocator + Copy>(lists: &mut Lists<A>, sending: Sending<A>)
 }
 
 /// Sends a Confirmable message, for which there is room (RFC 7252, section 4.2).
-pub(crate) fn send_con<A: Allocator + Copy>(
+pub(crate) fn send_con<A: Allocator + Copy, S: BuildHasher>(
     room: Room<A>,
     at: u64,
     to: Endpoint,
     id: Id,
     word: u64,
     content: &Content<'_>,
-    lists: &mut Lists<A>,
+    lists: &mut Lists<A, S>,
 )
     requires sendable { IsSendable content.now }
     requires room { HasRoom (Some room) lists.old }
@@ -87,12 +88,12 @@ pub(crate) fn send_con<A: Allocator + Copy>(
 }
 
 /// Sends a Non-confirmable message, for which there is room (RFC 7252, section 4.3).
-pub(crate) fn send_non<A: Allocator + Copy>(
+pub(crate) fn send_non<A: Allocator + Copy, S: BuildHasher>(
     room: Room<A>,
     to: Endpoint,
     id: Id,
     content: &Content<'_>,
-    lists: &mut Lists<A>,
+    lists: &mut Lists<A, S>,
 )
     requires sendable { IsSendable content.now }
     requires room { HasRoom (Some room) lists.old }

@@ -1,12 +1,12 @@
-ghost use Rattle.std.specs.Prelude.{◌≡◌, ◌≤◌, ◌<◌, ◌+◌, ◌++◌, true, false, Some, List, length, filter, is_some, option_to_list};
+ghost use Rattle.std.specs.Prelude.{◌≡◌, ◌≤◌, ◌<◌, ◌+◌, ◌++◌, true, false, None, Some, List, length, filter, is_some, option_to_list};
 ghost use Rattle.std.specs.List.{filter_map};
 ghost use Rattle.std.specs.Vec.{vec_len, vec_capacity};
 ghost use Rattle.std.specs.VecDeque.{deque_len, deque_capacity};
 ghost use Rattle.coap_layer.specs.Machine.Arriving.{awaits_by, hands, keeps, newly_by, open_by};
-ghost use Rattle.coap_layer.specs.Machine.Entries.{arrivals_in};
+ghost use Rattle.coap_layer.specs.Machine.Entries.{IsUpTo, arrivals_in};
 ghost use Rattle.coap_layer.specs.Machine.Parts.{awaited, before_of, state_of_parts};
 ghost use Rattle.coap_layer.specs.Machine.Sendings.{answer_for, open_now};
-ghost use Rattle.coap_layer.specs.Machine.Sound.{HasRoom, IsPlaced, IsWithin};
+ghost use Rattle.coap_layer.specs.Machine.Sound.{IsKept, IsWithin};
 ghost use Rattle.coap_layer.specs.Machine.State.{forgotten, is_live, is_remembered, tick_of};
 ghost use Rattle.coap_layer.specs.Trace.{Packet, Ticks};
 ghost use Rattle.coap_layer.specs.Words.{left_by};
@@ -19,6 +19,7 @@ use crate::mark::{Awaiting, Mark, begin};
 use crate::retransmission::{Due, find_step, take_step};
 use coap_types::Endpoint;
 use std::alloc::Allocator;
+use std::hash::BuildHasher;
 
 /// The moments of an input: the last that counted, and that which counts now.
 #[derive(Clone, Copy)]
@@ -28,26 +29,27 @@ pub(crate) struct Moments {
 }
 
 /// Takes in what arrived, where there is room for all that it brings.
-pub(crate) fn take_in<A: Allocator + Copy>(
+pub(crate) fn take_in<A: Allocator + Copy, S: BuildHasher>(
     moments: Moments,
     awaits: Option<Awaiting>,
     ids: &IdSource,
     from: Endpoint,
     arriving: Arriving,
     sent: Option<Datagram<A>>,
-    lists: &mut Lists<A>,
+    lists: &mut Lists<A, S>,
 ) -> Mark
     requires moment { moments.last ≤ moments.at }
-    requires entry { keeps arriving.verdict arriving.kind ≡ true → vec_len lists.old.entries < vec_capacity lists.old.entries }
+    requires up_to { IsUpTo moments.last (arrivals_in lists.old.entries) }
+    requires entry { keeps arriving.verdict arriving.kind ≡ true → 2 ≤ lists.old.entries.spare }
+    requires unknown { hands arriving.verdict arriving.kind ≡ true → is_remembered moments.at from arriving.id.0 (arrivals_in lists.old.entries) ≡ false }
     requires place { is_some sent ≡ true → deque_len lists.old.waiting + 1 < deque_capacity lists.old.waiting }
-    ensures arrived { filter (is_live moments.at) (arrivals_in lists.new.entries.items) ≡ filter (is_live moments.at) (filter (is_live moments.last) (arrivals_in lists.old.entries.items) ++ newly_by moments.at from arriving) }
+    ensures arrived { filter (is_live moments.at) (arrivals_in lists.new.entries) ≡ filter (is_live moments.at) (filter (is_live moments.last) (arrivals_in lists.old.entries) ++ newly_by moments.at from arriving) }
     ensures open { open_now lists.new.sendings.items ≡ open_by from arriving (open_now lists.old.sendings.items) }
     ensures waiting { lists.new.waiting.items ≡ lists.old.waiting.items ++ option_to_list sent }
-    ensures before { before_of (Some result) lists.new.entries.items lists.new.sendings.items lists.new.waiting.items
-        ≡ Some (forgotten (state_of_parts moments.last (awaited awaits) ids.now (arrivals_in lists.old.entries.items) (open_now lists.old.sendings.items) lists.old.waiting.items)) }
-    ensures within { IsWithin (Some result) (length lists.new.entries.items) (length lists.new.waiting.items) }
-    ensures placed { (hands arriving.verdict arriving.kind ≡ true → is_remembered moments.at from arriving.id.0 (arrivals_in lists.old.entries.items) ≡ false)
-        → IsPlaced moments.at (awaits_by from arriving) true result.entries (Some result) lists.new.entries.items }
+    ensures before { before_of (Some result) lists.new.entries.settled lists.new.sendings.items lists.new.waiting.items
+        ≡ Some (forgotten (state_of_parts moments.last (awaited awaits) ids.now (arrivals_in lists.old.entries) (open_now lists.old.sendings.items) lists.old.waiting.items)) }
+    ensures within { IsWithin (Some result) lists.new.entries.settled (length lists.new.waiting.items) }
+    ensures kept { IsKept moments.at (awaits_by from arriving) true lists.new.entries }
     ensures sendings_len { vec_len lists.new.sendings ≤ vec_len lists.old.sendings }
     ensures sendings_capacity { vec_capacity lists.new.sendings ≡ vec_capacity lists.old.sendings }
     ensures waiting_room { deque_len lists.old.waiting < deque_capacity lists.old.waiting → deque_len lists.new.waiting < deque_capacity lists.new.waiting }
@@ -60,22 +62,24 @@ pub(crate) fn take_in<A: Allocator + Copy>(
 }
 
 /// Takes the step that is due, where there is room for what it sends.
-pub(crate) fn take_tick<A: Allocator + Copy>(
+pub(crate) fn take_tick<A: Allocator + Copy, S: BuildHasher>(
     moments: Moments,
     awaits: Option<Awaiting>,
     ids: &IdSource,
     sent: Option<Datagram<A>>,
-    lists: &mut Lists<A>,
+    lists: &mut Lists<A, S>,
 ) -> (Mark, Due)
     requires moment { moments.last ≤ moments.at }
+    requires up_to { IsUpTo moments.last (arrivals_in lists.old.entries) }
     requires place { is_some sent ≡ true → deque_len lists.old.waiting + 1 < deque_capacity lists.old.waiting }
     ensures due { answer_for result.1 ≡ tick_of moments.at (open_now lists.old.sendings.items) }
-    ensures arrived { arrivals_in lists.new.entries.items ≡ filter (is_live moments.last) (arrivals_in lists.old.entries.items) }
+    ensures arrived { arrivals_in lists.new.entries ≡ filter (is_live moments.last) (arrivals_in lists.old.entries) }
     ensures open { (out : List Packet) → open_now lists.new.sendings.items ≡ filter_map (left_by (record { at = moments.at; call = Ticks; answer = answer_for result.1; out = out })) (open_now lists.old.sendings.items) }
     ensures waiting { lists.new.waiting.items ≡ lists.old.waiting.items ++ option_to_list sent }
-    ensures before { before_of (Some result.0) lists.new.entries.items lists.new.sendings.items lists.new.waiting.items
-        ≡ Some (forgotten (state_of_parts moments.last (awaited awaits) ids.now (arrivals_in lists.old.entries.items) (open_now lists.old.sendings.items) lists.old.waiting.items)) }
-    ensures within { IsWithin (Some result.0) (length lists.new.entries.items) (length lists.new.waiting.items) }
+    ensures before { before_of (Some result.0) lists.new.entries.settled lists.new.sendings.items lists.new.waiting.items
+        ≡ Some (forgotten (state_of_parts moments.last (awaited awaits) ids.now (arrivals_in lists.old.entries) (open_now lists.old.sendings.items) lists.old.waiting.items)) }
+    ensures within { IsWithin (Some result.0) lists.new.entries.settled (length lists.new.waiting.items) }
+    ensures kept { IsKept moments.at None true lists.new.entries }
     ensures sendings_len { vec_len lists.new.sendings ≤ vec_len lists.old.sendings }
     ensures sendings_capacity { vec_capacity lists.new.sendings ≡ vec_capacity lists.old.sendings }
     ensures waiting_room { deque_len lists.old.waiting < deque_capacity lists.old.waiting → deque_len lists.new.waiting < deque_capacity lists.new.waiting }

@@ -1,6 +1,7 @@
 ghost use Rattle.std.specs.Prelude.{◌≡◌};
 
 mod arrivals;
+mod hashers;
 mod message_ids;
 mod sendings;
 mod undo;
@@ -8,6 +9,7 @@ mod undo;
 use crate::{Content, Datagram, Layer, SendRefusal, sendable_law};
 use coap_types::{Code, Endpoint, Id, Moment, Token};
 use std::alloc::{AllocGlobal, Global};
+use std::hash::BuildHasher;
 use std::process::Abort;
 use std::test::*;
 
@@ -47,9 +49,9 @@ pub(crate) fn confirm_get<R: Abort + AllocGlobal>(
 }
 
 /// What is to be sent next goes there and has these bytes.
-pub(crate) fn is_sent<R: Abort + AllocGlobal>(
+pub(crate) fn is_sent<R: Abort + AllocGlobal, S: BuildHasher>(
     rt: &R,
-    layer: &mut Layer<Global>,
+    layer: &mut Layer<Global, S>,
     to: Endpoint,
     bytes: &[u8],
 ) {

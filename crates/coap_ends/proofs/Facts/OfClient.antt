@@ -11,7 +11,7 @@ use Rattle.coap_exchange.proofs.Facts.ClientSide as E
 use Rattle.coap_ends.specs.ClientTrace.{Operation, Call}
 use Rattle.coap_ends.specs.ClientSteps.{is_idle, starting}
 use Rattle.coap_ends.specs.ClientLaw.{ClientLaw, own_of, lower_of, layer_of}
-use Rattle.coap_ends.specs.Follows.ClientBegins.{ConsAreRequests}
+use Rattle.coap_ends.specs.Follows.ClientBegins.{ConsAreRequests, BeginAtOnce}
 use Rattle.coap_ends.specs.Follows.ClientFollows.{WasTaken, AreSent, ReportsAreAnswers, AreFromServer, ReportedOnce}
 use Rattle.coap_ends.specs.Follows.ClientGives.{GivesInOrder}
 use Rattle.coap_ends.specs.Follows.ClientGoesOn.{GoesOn}
@@ -32,7 +32,7 @@ use Rattle.coap_ends.proofs.Reporting.ClientEnded.{all_ends}
 use Rattle.coap_ends.proofs.Sending.ClientQueued.{in_order as start_in_order, all_taken}
 use Rattle.coap_ends.proofs.Rest.ClientResting.{comes_to_rest}
 use Rattle.coap_ends.proofs.Sending.ClientSent.{once_of, are_sent, first_taken, waiting_taken}
-use Rattle.coap_ends.proofs.Sending.ConsAreRequests.{asked_for, exchange_of, request_of}
+use Rattle.coap_ends.proofs.Sending.ConsAreRequests.{asked_for, exchange_of, request_of, begin_at_once}
 use Rattle.coap_ends.proofs.Sending.InOrder.{are_in_order}
 use Rattle.coap_ends.proofs.Sending.NoNons.{no_nons}
 use Rattle.coap_ends.proofs.Sending.NumbersRise.{one_call}
@@ -64,6 +64,9 @@ module _ (server : Endpoint) (szx word : ℕ) (t : List Call) (law : ClientLaw s
   begins con h =
       request_of server con t (exchange_of server word con (lower_of t) law.exchanges.rows
       (asked_for con (start word) law.exchanges.left (asker.lower_of server word (lower_of t)) law.exchanges.layer h))
+
+  pub begins_now : BeginAtOnce server word t
+  begins_now = begin_at_once server szx word t law
 
   pub sent : AreSent t
   sent = are_sent t (once_of word (lower_of t) (E.are_tokens server word (lower_of t) law.exchanges.rows))

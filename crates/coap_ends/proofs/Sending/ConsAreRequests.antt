@@ -1,7 +1,7 @@
--- Each CON that a client's message layer begins is the request of one of its calls.
+-- Each CON that a client's message layer begins is the request of one of its calls, and begins as that is sent.
 use Rattle.std.proofs.Common.{◌≡◌, inl, inr, ℕ, ◌+◌, ◌%◌, max, Bool, true, false, Option, Some, None, List, [], ◌∷◌, ◌++◌, refl, ap, sym, subst, ◌∙◌, Result, Ok, Err}
 use Rattle.std.specs.Option.{option_map}
-use Rattle.coap_types.specs.Past.{Ever}
+use Rattle.coap_types.specs.Past.{Ever, Always}
 use Rattle.coap_types.proofs.Facts.Traces.{Ever_append}
 use Rattle.coap_types.specs.declared.endpoint.Endpoint.{Endpoint}
 use Rattle.coap_types.specs.declared.message.Kind.TheVariants.{Con}
@@ -27,8 +27,13 @@ use Rattle.coap_exchange.proofs.Facts.ClientSide.{server_is}
 use Rattle.coap_ends.specs.ClientTrace.{Operation, Call, Calls, Feeds, Ticks, NextOut, NextReport}
 use Rattle.coap_ends.specs.ClientRequests.{message_of}
 use Rattle.coap_ends.specs.ClientSteps.{lower, starting, asking}
-use Rattle.coap_ends.specs.ClientLaw.{own_of, lower_of}
-use Rattle.coap_ends.specs.Follows.ClientBegins.{IsRequestOf}
+use Rattle.coap_exchange.proofs.Facts.StepsOfLayer.{steps_split}
+use Rattle.coap_ends.specs.Adds.{asked_by_client, client_asks, client_asked, client_adds}
+use Rattle.coap_ends.specs.ClientLaw.{ClientLaw, own_of, lower_of}
+use Rattle.coap_ends.specs.Follows.ClientBegins.{IsRequestOf, SendsNow, BeginAtOnce}
+use Rattle.coap_ends.specs.Follows.ClientFollows.{Sending, sends}
+use Rattle.coap_ends.proofs.Exact.LawOfAPast.{client_back}
+use Rattle.coap_ends.proofs.Facts.Adds.{client_asked_next}
 
 -- a call of the layer that begins this CON
 pub record Asks (con : Open) (a : Asked) : Type 0 where
@@ -170,7 +175,7 @@ module _ (server : Endpoint) (word : ℕ) where
 -- the call of the client
 module _ (server : Endpoint) (con : Open) where
   tick_begins : (t : List Call) (now word : ℕ) (below : L.Answer) (w : Turn) (sent : L.Answer) (z : Result (List ℕ) AskRefusal) (answer : Bool) (o : Option Operation) → starting (own_of t) w ≡ o
-      → Ever (Begins server con) (asking (max (own_of t).clock now) o word sent z ++ E.Ticks (max (own_of t).clock now) below w ∷ []) → IsRequestOf server con (Ticks now word below w sent z answer ∷ t)
+      → Ever (Begins server con) (asking (max (own_of t).clock now) o word sent z ++ E.Ticks (max (own_of t).clock now) below w ∷ []) → SendsNow server con t (Ticks now word below w sent z answer)
   tick_begins t now word below w sent z answer None is (inl h) = absurd (cc (h.is))
   tick_begins t now word below w sent z answer None is (inr h) = absurd h
   tick_begins t now word below w sent z answer (Some op) is (inr (inl h)) = absurd (cc (h.is))
@@ -181,7 +186,7 @@ module _ (server : Endpoint) (con : Open) where
       let k_is : token ≡ h.token = cc (h.is) in
       record {
         request = record { operation = op; token = token };
-        sent = inl (ap (option_map (λ p. record { operation = p; token = token })) is);
+        sends_it = ap (option_map (λ p. record { operation = p; token = token })) is;
         to = h.to;
         bytes = h.bytes ∙ (ap (λ k. message_bytes (with_head Con con.id (Q.content_of k h.request))) (sym k_is) ∙ ap (λ r. message_bytes (with_head Con con.id (Q.content_of token r))) (sym r_is));
         spelled = subst (λ k. IsSpelled (Q.content_of k (message_of op.request))) (sym k_is) (subst (λ r. IsSpelled (Q.content_of h.token r)) (sym r_is) h.spelled);
@@ -190,7 +195,7 @@ module _ (server : Endpoint) (con : Open) where
   later : (c : Call) (t : List Call) → IsRequestOf server con t → IsRequestOf server con (c ∷ t)
   later c t k = record { request = k.request; sent = inr k.sent; to = k.to; bytes = k.bytes; spelled = k.spelled }
 
-  call_of : (t : List Call) (c : Call) → Ever (Begins server con) (lower (own_of t) c) → IsRequestOf server con (c ∷ t)
+  call_of : (t : List Call) (c : Call) → Ever (Begins server con) (lower (own_of t) c) → SendsNow server con t c
   call_of t (Calls now r answer) h = absurd h
   call_of t (Feeds now from bytes word up settled e) (inl h) = absurd (cc (h.is))
   call_of t (Feeds now from bytes word up settled e) (inr h) = absurd h
@@ -202,6 +207,28 @@ module _ (server : Endpoint) (con : Open) where
   pub request_of : (t : List Call) → Ever (Begins server con) (lower_of t) → IsRequestOf server con t
   request_of [] h = absurd h
   request_of (c ∷ t) h = elim (Ever_append (Begins server con) (lower (own_of t) c) (lower_of t) h) [
-    | inl p ↦ call_of t c p
+    | inl p ↦ let k = call_of t c p in record { request = k.request; sent = inl k.sends_it; to = k.to; bytes = k.bytes; spelled = k.spelled }
     | inr q ↦ later c t (request_of t q)
   ]
+
+-- in which entries
+in_exchange : (server : Endpoint) (word : ℕ) (con : Open) (later past : List E.Call) → W.AskerLaw server word (later ++ past) → Ever (Asks con) (asked_by_client server word past later) → Ever (Begins server con) later
+in_exchange server word con [] past law h = h
+in_exchange server word con (c ∷ later) past law h = elim (Ever_append (Asks con) (P.lower (W.own_of server word (later ++ past)) c) (asked_by_client server word past later) h) [
+  | inl k ↦ inl (begins_here server word con (later ++ past) c law.0 k)
+  | inr k ↦ inr (in_exchange server word con later past law.1 k)
+]
+
+begins_now : (server : Endpoint) (szx word : ℕ) (past : List Call) (c : Call) → ClientLaw server szx word (c ∷ past) → (con : Open) → Ever (λ b. begun b ≡ Some con) (client_adds server word past c) → SendsNow server con past c
+begins_now server szx word past c law con h =
+    let asks = client_asks server word past c in
+    let asked = client_asked server word past in
+    let steps = subst (λ (z : List Asked). Steps (S.start word) z law.exchanges.left) (client_asked_next server word past c) law.exchanges.layer in
+    let k = steps_split (S.start word) law.exchanges.left asks asked steps in
+    let from = left_is (S.start word) k.0 asked k.1 in
+    let there = asked_for con k.0 law.exchanges.left asks k.2 (subst (λ s. Ever (λ b. begun b ≡ Some con) (entries s asks)) (sym from) h) in
+    call_of server con past c (in_exchange server word con (lower (own_of past) c) (lower_of past) law.exchanges.rows there)
+
+pub begin_at_once : (server : Endpoint) (szx word : ℕ) (t : List Call) → ClientLaw server szx word t → BeginAtOnce server word t
+begin_at_once server szx word [] law = tt
+begin_at_once server szx word (c ∷ t) law = (begins_now server szx word t c law, begin_at_once server szx word t (client_back server szx word (c ∷ []) t law))

@@ -4,6 +4,7 @@ use Rattle.std.specs.List.{filter_map, cons_option}
 use Rattle.std.specs.Cmp.{unsigned_Decides}
 use Rattle.coap_types.specs.declared.endpoint.Endpoint.{Endpoint}
 use Rattle.coap_types.specs.declared.endpoint.Moment.{Moment}
+use Rattle.coap_types.specs.declared.transmission.TheConstants.{FAILURE_TIMEOUTS as failure_timeouts}
 use Rattle.coap_types.specs.SameEndpoint.{same_endpoint}
 use Rattle.coap_types.proofs.Facts.Endpoints.{same_endpoint_is, same_endpoint_self}
 use Rattle.coap_layer.specs.Trace.{Answer, Idle, Copied, Expired}
@@ -133,7 +134,7 @@ copied_left server (Some x) b cs at to id (inr h) = inr (record { none = ap (cop
 pub record HasFailed (at : ℕ) (b : Option Begun) : Type 0 where
   pub begun : Begun
   pub last : b ≡ Some begun
-  pub late : begun.timeout * 31 ≤ at - begun.at
+  pub late : begun.timeout * failure_timeouts ≤ at - begun.at
 
 abbrev is_expired : Answer → Bool
 is_expired (Expired to id) = true
@@ -147,6 +148,6 @@ failed_one at c false false h k e = absurd (cc e)
 pub failed : (server : Endpoint) (x : Exchange) (b : Option Begun) (cs : List Open) (at : ℕ) (to : Endpoint) (id : ℕ) → Lone server (Some x) b cs → Expired to id ≡ tick_of at cs → HasFailed at b
 failed server x b cs at to id (inl z) is =
     let e : is_expired (tick_of at (z.con ∷ [])) ≡ true = sym (ap (λ ds. is_expired (tick_of at ds)) z.only) ∙ sym (ap is_expired is) in
-    let f : z.con.timeout * 31 ≤ at - z.con.first = leb-true _ _ (failed_one at z.con (is_failed at z.con) (is_copy_due at z.con) refl refl e) in
-    record { begun = z.begun; last = z.last; late = subst (λ w. w * 31 ≤ at - z.begun.at) z.timeout (subst (λ w. z.con.timeout * 31 ≤ at - w) z.first f) }
+    let f : z.con.timeout * failure_timeouts ≤ at - z.con.first = leb-true _ _ (failed_one at z.con (is_failed at z.con) (is_copy_due at z.con) refl refl e) in
+    record { begun = z.begun; last = z.last; late = subst (λ w. w * failure_timeouts ≤ at - z.begun.at) z.timeout (subst (λ w. z.con.timeout * failure_timeouts ≤ at - w) z.first f) }
 failed server x b cs at to id (inr h) is = let e : is_expired (tick_of at cs) ≡ true = sym (ap is_expired is) in absurd (cc (e, ap (λ ds. is_expired (tick_of at ds)) h.none))

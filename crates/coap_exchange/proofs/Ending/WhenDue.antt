@@ -4,6 +4,7 @@ use Rattle.std.specs.Option.{option_map}
 use Rattle.std.specs.Cmp.{unsigned_Decides}
 use Rattle.coap_types.specs.declared.endpoint.Endpoint.{Endpoint}
 use Rattle.coap_types.specs.declared.endpoint.Moment.{Moment}
+use Rattle.coap_types.specs.declared.transmission.TheConstants.{EXCHANGE_LIFETIME_MS as exchange_lifetime, FAILURE_TIMEOUTS as failure_timeouts}
 use Rattle.coap_types.proofs.Facts.Endpoints.{same_endpoint_self}
 use Rattle.coap_layer.specs.Machine.State as L
 use Rattle.coap_layer.specs.Machine.State.{tick_of, is_failed, is_copy_due}
@@ -48,16 +49,16 @@ fails s x at c runs to_is id_is late =
 abbrev as_moment : ℕ → Moment
 as_moment n = record { 0 = n }
 
-gives_up : (s : Own) (x : Exchange) (at : ℕ) (acked : Moment) → s.running ≡ Some x → x.acked ≡ Some acked → 247000 ≤ at - acked.0 → turn_of s at (tick_of at []) ≡ turn.End event.NoResponse
+gives_up : (s : Own) (x : Exchange) (at : ℕ) (acked : Moment) → s.running ≡ Some x → x.acked ≡ Some acked → exchange_lifetime ≤ at - acked.0 → turn_of s at (tick_of at []) ≡ turn.End event.NoResponse
 gives_up s x at acked runs since late =
     ap (λ r. cond (has_waited at (acked_in r)) (turn.End event.NoResponse) turn.Idle) runs
-    ∙ (ap (λ a. cond (has_waited at a) (turn.End event.NoResponse) turn.Idle) since ∙ ap (λ b. cond b (turn.End event.NoResponse) turn.Idle) (le-leb 247000 (at - acked.0) late))
+    ∙ (ap (λ a. cond (has_waited at a) (turn.End event.NoResponse) turn.Idle) since ∙ ap (λ b. cond b (turn.End event.NoResponse) turn.Idle) (le-leb exchange_lifetime (at - acked.0) late))
 
 module _ (s : Own) (b : Option Begun) (at : ℕ) (cs : List Open) (x : Exchange) (runs : s.running ≡ Some x) (lone : Lone s.server s.running b cs) where
   here : Lone s.server (Some x) b cs
   here = subst (λ r. Lone s.server r b cs) runs lone
 
-  pub ends_heard : (acked : Moment) → x.acked ≡ Some acked → 247000 ≤ at - acked.0 → turn_of s at (tick_of at cs) ≡ turn.End event.NoResponse
+  pub ends_heard : (acked : Moment) → x.acked ≡ Some acked → exchange_lifetime ≤ at - acked.0 → turn_of s at (tick_of at cs) ≡ turn.End event.NoResponse
   ends_heard acked since late = elim here [
     | inl z ↦ absurd (cc (since, z.unheard))
     | inr z ↦ ap (λ ds. turn_of s at (tick_of at ds)) z.none ∙ gives_up s x at acked runs since late
@@ -69,11 +70,11 @@ module _ (s : Own) (b : Option Begun) (at : ℕ) (cs : List Open) (x : Exchange)
     | inr z ↦ absurd (cc (none, z.since))
   ]
 
-  pub ends_unheard : (z : IsSent s.server x b cs) → z.begun.timeout * 31 ≤ at - z.begun.at → turn_of s at (tick_of at cs) ≡ turn.End event.Timeout
+  pub ends_unheard : (z : IsSent s.server x b cs) → z.begun.timeout * failure_timeouts ≤ at - z.begun.at → turn_of s at (tick_of at cs) ≡ turn.End event.Timeout
   ends_unheard z late =
-      let timed : z.con.timeout * 31 ≤ at - z.begun.at = subst (λ w. w * 31 ≤ at - z.begun.at) (sym z.timeout) late in
-      let due : z.con.timeout * 31 ≤ at - z.con.first = subst (λ w. z.con.timeout * 31 ≤ at - w) (sym z.first) timed in
-      ap (λ ds. turn_of s at (tick_of at ds)) z.only ∙ fails s x at z.con runs z.to_is z.id_is (le-leb (z.con.timeout * 31) (at - z.con.first) due)
+      let timed : z.con.timeout * failure_timeouts ≤ at - z.begun.at = subst (λ w. w * failure_timeouts ≤ at - z.begun.at) (sym z.timeout) late in
+      let due : z.con.timeout * failure_timeouts ≤ at - z.con.first = subst (λ w. z.con.timeout * failure_timeouts ≤ at - w) (sym z.first) timed in
+      ap (λ ds. turn_of s at (tick_of at ds)) z.only ∙ fails s x at z.con runs z.to_is z.id_is (le-leb (z.con.timeout * failure_timeouts) (at - z.con.first) due)
 
 module _ (server : Endpoint) (word : ℕ) where
   -- when the request was acknowledged
@@ -174,7 +175,7 @@ module _ (server : Endpoint) (word : ℕ) where
         let z = unheard_is_sent own (last_begun server word t) (moment server word t now) steps.0.open_cons x runs old.lone none in
         record { begun = z.begun; last = z.last; ends = λ late. answer_is ∙ ends_unheard own (last_begun server word t) (moment server word t now) steps.0.open_cons x runs old.lone z late }
 
-    gives_up_when_due : (acked : Moment) → own.running ≡ Some x → x.acked ≡ Some acked → 247000 ≤ moment server word t now - acked.0 → answer ≡ turn.End event.NoResponse
+    gives_up_when_due : (acked : Moment) → own.running ≡ Some x → x.acked ≡ Some acked → exchange_lifetime ≤ moment server word t now - acked.0 → answer ≡ turn.End event.NoResponse
     gives_up_when_due acked runs heard late =
         let old = fits server word t law.1 steps.0 steps.1 in
         answer_is ∙ ends_heard own (last_begun server word t) (moment server word t now) steps.0.open_cons x runs old.lone acked heard late

@@ -13,7 +13,7 @@ use Rattle.coap_codec.proofs.Facts.EveryDatagram.{spelled_decoded}
 use Rattle.coap_layer.specs.Trace.{Packet, with_head, Call, Receive, Reply, Confirm, Plain, Settle, Ticks, Take, Room, AsksFree, Pass, Entry}
 use Rattle.coap_layer.specs.Words.{reply_in, Open, begun}
 use Rattle.coap_layer.specs.Rows.{LayerLaw}
-use Rattle.coap_layer.specs.Sends.{packet_of, SpellsCon, GoesOut, PlainOut, ReplyOut, StoredOut, first, copy, plain, reply, stored, reset, Begins}
+use Rattle.coap_layer.specs.Sends.{SendsIt, packet_of, SpellsCon, GoesOut, PlainOut, ReplyOut, StoredOut, first, copy, plain, reply, stored, reset, Begins}
 use Rattle.coap_layer.specs.Channel.{RepliesAtOnce, RepliesSo}
 use Rattle.coap_layer.proofs.ListLemmas.{same_nat, and_left, and_right}
 use Rattle.coap_layer.proofs.Out.EachGoesOut.{cons_spelled}
@@ -22,17 +22,18 @@ use Rattle.coap_layer.proofs.Numbers.OneEntryForAnId.{IsBegun, SendsPlain, begin
 pub one_message : (bytes : List ℕ) (m n : Message) → AreBytes bytes → Spells bytes m → Spells bytes n → m ≡ n
 one_message bytes m n are s t = let a = spelled_decoded bytes m are s in let b = spelled_decoded bytes n are t in cc (a, b)
 
--- a CON that was begun
-pub record BegunHere (p : Packet) (m : Message) (at : ℕ) (t : List Entry) : Type 0 where
+-- a CON that was begun, and is sent now
+pub record BegunHere (past : List Entry) (e : Entry) (p : Packet) (m : Message) : Type 0 where
   pub con : Open
-  pub begun : Ever (IsBegun con) t
+  pub begun : Ever (IsBegun con) (e ∷ past)
+  pub sends : SendsIt con past e
   pub is : p ≡ packet_of con
   pub id_is : con.id ≡ m.id
-  pub from : con.first ≤ at
-  pub till : at ≤ con.first + 47000
+  pub from : con.first ≤ e.at
+  pub till : e.at ≤ con.first + 47000
 
 pub data Comes (past : List Entry) (e : Entry) (p : Packet) (m : Message) : Type 0 where
-  a_con : m.kind ≡ Con → BegunHere p m e.at (e ∷ past) → Comes past e p m
+  a_con : m.kind ≡ Con → BegunHere past e p m → Comes past e p m
   a_non : m.kind ≡ Non → PlainOut e p → SendsPlain m.id e.at e → Comes past e p m
   a_reply : (m.kind ≡ Ack) ⊎ (m.kind ≡ Rst) → (r : ReplyOut past e p) → (a : RepliesAtOnce past e.at r.id p.bytes) → a.reply ≡ m → Comes past e p m
   a_stored : (m.kind ≡ Ack) ⊎ (m.kind ≡ Rst) → (r : StoredOut past e p) → r.message.id ≡ m.id → Comes past e p m
@@ -100,15 +101,15 @@ module _ (word : ℕ) (past : List Entry) (e : Entry) (p : Packet) (m : Message)
   same_message : (n : Message) → Spells p.bytes n → n ≡ m
   same_message n s = one_message p.bytes n m are s spells
 
-  same_con : (c : Open) → p ≡ packet_of c → Ever (IsBegun c) (e ∷ past) → c.first ≤ e.at → e.at ≤ c.first + 47000 → Comes past e p m
-  same_con c is begun from till =
+  same_con : (c : Open) → p ≡ packet_of c → Ever (IsBegun c) (e ∷ past) → SendsIt c past e → c.first ≤ e.at → e.at ≤ c.first + 47000 → Comes past e p m
+  same_con c is begun sends from till =
       let s : SpellsCon c = spelled_begun word (e ∷ past) c law begun in
       let same : s.0 ≡ m = same_message s.0 (subst (λ (x : List ℕ). Spells x s.0) (sym (ap (λ (x : Packet). x.bytes) is)) s.1) in
-      a_con (ap (λ (x : Message). x.kind) (sym same) ∙ s.2) (record { con = c; begun = begun; is = is; id_is = sym s.3 ∙ ap (λ (x : Message). x.id) same; from = from; till = till })
+      a_con (ap (λ (x : Message). x.kind) (sym same) ∙ s.2) (record { con = c; begun = begun; sends = sends; is = is; id_is = sym s.3 ∙ ap (λ (x : Message). x.id) same; from = from; till = till })
 
   pub comes : GoesOut past e p → Comes past e p m
-  comes (first r) = let b : Begins e.at e.call e.answer r.con = begins_of e r.con r.begins in let at : r.con.first ≡ e.at = b.first_is in same_con r.con r.is (inl r.begins) (omega (arith, at)) (omega (arith, at))
-  comes (copy r) = same_con r.con r.is (inr r.begun_before) r.from r.till
+  comes (first r) = let b : Begins e.at e.call e.answer r.con = begins_of e r.con r.begins in let at : r.con.first ≡ e.at = b.first_is in same_con r.con r.is (inl r.begins) (inl r.begins) (omega (arith, at)) (omega (arith, at))
+  comes (copy r) = same_con r.con r.is (inr r.begun_before) r.sends r.from r.till
   comes (plain r) =
       let same : with_head Non r.id r.content ≡ m = same_message _ r.spells in
       a_non (ap (λ (x : Message). x.kind) (sym same)) r (subst (λ (i : ℕ). SendsPlain i e.at e) (ap (λ (x : Message). x.id) same) (record { to = p.to; content = r.content; call = r.call; answer = r.answer; at_is = refl }))

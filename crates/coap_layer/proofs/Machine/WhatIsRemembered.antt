@@ -19,6 +19,9 @@ module _ (e : Entry) (a : Arrived) where
   pub same_live : (now : ℕ) → is_live now (stores e a) ≡ is_live now a
   same_live now = let s = stored_is _ refl in cc (s.2)
 
+  pub same_at : (stores e a).at ≡ a.at
+  same_at = (stored_is _ refl).2
+
   pub same_con : (stores e a).con ≡ a.con
   same_con = (stored_is _ refl).3
 

@@ -1,7 +1,6 @@
 -- What the parts of a layer stand for.
 use Rattle.std.specs.Prelude.{ℕ, Option, Some, None, List, take, map, filter, is_some}
 use Rattle.std.specs.List.{filter_map}
-use Rattle.coap_layer.specs.declared.dedup.Remembered.{Remembered}
 use Rattle.coap_layer.specs.declared.lists.Lists.{Lists}
 use Rattle.coap_layer.specs.declared.mark.Awaiting.{Awaiting}
 use Rattle.coap_layer.specs.declared.mark.Mark.{Mark}
@@ -38,10 +37,10 @@ state_of_parts clock awaits ids es cs q =
     record { clock = clock; awaits = awaits; upcoming = ids.upcoming; last_used = ids.last_used; arrived = es; open_cons = cs; queue = q }
 
 -- .. by an object's parts
-abbrev pub held : {Z : Type 0} → ℕ → Option Awaiting → IdState → Lists Z → State
-held clock awaits ids lists = state_of_parts clock (awaited awaits) ids (arrivals_in lists.entries.items) (open_now lists.sendings.items) lists.waiting.items
+abbrev pub held : {Z X Y : Type 0} → ℕ → Option Awaiting → IdState → Lists Z X Y → State
+held clock awaits ids lists = state_of_parts clock (awaited awaits) ids (arrivals_in lists.entries) (open_now lists.sendings.items) lists.waiting.items
 
--- what `undo` would leave
-abbrev pub before_of : {Z : Type 0} → Option Mark → List (Remembered Z) → List (Sending Z) → List Packet → Option State
+-- what `undo` would leave, where these are settled
+abbrev pub before_of : {Z : Type 0} → Option Mark → List Arrived → List (Sending Z) → List Packet → Option State
 before_of None es cs q = None
-before_of (Some m) es cs q = Some (forgotten (state_of_parts m.clock (awaited m.awaits) m.ids (arrivals_in (take m.entries es)) (open_before cs) (take m.queued q)))
+before_of (Some m) es cs q = Some (forgotten (state_of_parts m.clock (awaited m.awaits) m.ids es (open_before cs) (take m.queued q)))

@@ -2,7 +2,7 @@ ghost use Rattle.std.specs.Prelude.{◌≤◌, length};
 ghost use Rattle.coap_types.specs.declared.limits.TheConstants.{MAX_MESSAGE_LEN as max_message_len};
 
 use super::sendings::plain_content;
-use super::{THERE, at_port, confirm_get, is_sent};
+use super::{THERE, confirm_get, is_sent};
 use crate::{Layer, Up};
 use coap_types::{Code, Id, Moment};
 use std::alloc::{AllocError, AllocGlobal, Global};
@@ -226,21 +226,6 @@ fn a_non_confirmable_message_and_a_confirmable_one_may_be_the_same(
         Came::Replayed,
         &[],
     )
-}
-
-#[test]
-fn a_full_table_forgets_nothing(rt: HostRuntime) -> Result<(), AllocError> {
-    let mut layer = Layer::new(rt.alloc(), 0);
-    let get = &[0x40, 0x01, 0x00, 0x01];
-    for port in 0..4_096 {
-        let up = layer.receive(Moment(0), at_port(port), get)?;
-        assert_eq!(rt; outcome(&up), Came::Request);
-    }
-    arrives(&rt, &mut layer, 247_000, get, Came::Dropped, &[])?;
-    // The first is still remembered.
-    let up = layer.receive(Moment(247_000), at_port(0), get)?;
-    assert_eq!(rt; outcome(&up), Came::Replayed);
-    arrives(&rt, &mut layer, 247_001, get, Came::Request, &[])
 }
 
 // Sends so many Non-confirmable messages.

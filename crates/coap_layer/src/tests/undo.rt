@@ -2,6 +2,8 @@ use super::{THERE, confirm_get, is_sent};
 use crate::{Layer, Tick, Up};
 use coap_types::{Id, Moment};
 use std::alloc::{AllocError, AllocGlobal, Global};
+use std::hash::RandomState;
+use std::io;
 use std::process::Abort;
 use std::test::*;
 
@@ -88,5 +90,37 @@ fn an_acknowledgement_and_a_tick_are_taken_back(rt: HostRuntime) -> Result<(), A
     assert_eq!(rt; layer.tick(Moment(2_000))?, Tick::Copied(Id(0)));
     is_sent(&rt, &mut layer, THERE, &[0x40, 0x01, 0x00, 0x00]);
     assert!(rt; layer.settle(THERE, Id(0)));
+    Ok(())
+}
+
+#[test]
+fn one_whose_key_was_forgotten_is_taken_back(rt: HostRuntime) -> io::Result<()> {
+    let hasher = RandomState::new(&rt)?;
+    let mut layer = Layer::with_hasher(rt.alloc(), 0, hasher);
+    assert!(rt; matches!(layer.receive(Moment(0), THERE, POST)?, Up::Request { .. }));
+    layer.pass(Moment(247_000));
+    // It is forgotten at the new moment, and remembered again once that is taken back.
+    assert!(rt;
+        matches!(
+            layer.receive(Moment(247_001), THERE, POST)?,
+            Up::Request { .. }
+        )
+    );
+    layer.undo();
+    assert_eq!(rt; layer.clock(), Moment(247_000));
+    assert!(rt; matches!(layer.receive(Moment(247_000), THERE, POST)?, Up::Replayed));
+    assert!(rt;
+        matches!(
+            layer.receive(Moment(247_001), THERE, POST)?,
+            Up::Request { .. }
+        )
+    );
+    assert!(rt; matches!(layer.receive(Moment(494_001), THERE, POST)?, Up::Replayed));
+    assert!(rt;
+        matches!(
+            layer.receive(Moment(494_002), THERE, POST)?,
+            Up::Request { .. }
+        )
+    );
     Ok(())
 }

@@ -19,8 +19,10 @@ use Rattle.coap_ends.specs.ClientLaw.{own_of, lower_of}
 use Rattle.coap_world.specs.Delivery.{FedToClient}
 use Rattle.coap_world.specs.Events.{server_end, Config}
 use Rattle.coap_world.specs.Record.{OfClient}
-use Rattle.coap_world.specs.Hops.{asked_by_client, client_asks, client_asked, client_adds}
-use Rattle.coap_world.proofs.Delivery.HopsAreEntries.{left_append, client_asked_next}
+use Rattle.coap_ends.specs.Adds.{asked_by_client}
+use Rattle.coap_ends.proofs.Facts.Adds.{left_append}
+use Rattle.coap_world.specs.Hops.{client_asks, client_asked, client_adds}
+use Rattle.coap_world.proofs.Delivery.HopsAreEntries.{client_asked_next}
 use Rattle.coap_world.proofs.Delivery.EntriesInTime.{Every, every_join, Wish, Timely, Done, Ends, ends_over, done, nothing_done, takes}
 
 -- the moment that it is handed

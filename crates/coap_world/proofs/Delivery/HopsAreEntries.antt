@@ -19,33 +19,8 @@ use Rattle.coap_ends.specs.ServerLaw as server
 use Rattle.coap_ends.specs.ServerSteps as server_steps
 use Rattle.coap_world.specs.Events.{server_end, Config}
 use Rattle.coap_world.specs.Record.{Entry, OfClient, OfServer, client_of, server_trace}
-use Rattle.coap_world.specs.Hops.{asked_by_client, asked_by_server, client_asks, client_asked, client_adds, server_asks, server_asked, server_adds, hops_in}
-
--- calls of a layer, one behind the other
-
-pub left_append : (old : State) (later earlier : List Asked) → left_after old (later ++ earlier) ≡ left_after (left_after old earlier) later
-left_append old [] earlier = refl
-left_append old (a ∷ later) earlier = ap (λ s. forgotten (after s (made s a.now a.call))) (left_append old later earlier)
-
-pub entries_append : (old : State) (later earlier : List Asked) → entries old (later ++ earlier) ≡ entries (left_after old earlier) later ++ entries old earlier
-entries_append old [] earlier = refl
-entries_append old (a ∷ later) earlier =
-    ap (λ s. made s a.now a.call ∷ entries old (later ++ earlier)) (left_append old later earlier)
-    ∙ ap (λ t. made (left_after (left_after old earlier) later) a.now a.call ∷ t) (entries_append old later earlier)
-
--- what the exchanges ask, one behind the other
-
-pub asker_append : (to : Endpoint) (word : ℕ) (later past : List A.Call) → asker.lower_of to word (later ++ past) ≡ asked_by_client to word past later ++ asker.lower_of to word past
-asker_append to word [] past = refl
-asker_append to word (c ∷ later) past =
-    ap (λ t. asker_steps.lower (asker.own_of to word (later ++ past)) c ++ t) (asker_append to word later past)
-    ∙ sym (append_assoc (asker_steps.lower (asker.own_of to word (later ++ past)) c) (asked_by_client to word past later) (asker.lower_of to word past))
-
-pub answerer_append : (later past : List R.Call) → answerer.lower_of (later ++ past) ≡ asked_by_server past later ++ answerer.lower_of past
-answerer_append [] past = refl
-answerer_append (c ∷ later) past =
-    ap (λ t. answerer_steps.lower (answerer.own_of (later ++ past)) c ++ t) (answerer_append later past)
-    ∙ sym (append_assoc (answerer_steps.lower (answerer.own_of (later ++ past)) c) (asked_by_server past later) (answerer.lower_of past))
+use Rattle.coap_ends.proofs.Facts.Adds as adds
+use Rattle.coap_world.specs.Hops.{client_asks, client_asked, client_adds, server_asks, server_asked, server_adds, hops_in}
 
 -- hops
 
@@ -73,16 +48,16 @@ module _ (config : Config) where
   server_layer t = server.layer_of config.limit config.server_szx config.server_word t
 
   pub client_asked_next : (past : List C.Call) (c : C.Call) → client_asked config (c ∷ past) ≡ client_asks config past c ++ client_asked config past
-  client_asked_next past c = asker_append server_end config.client_word (client_steps.lower (client.own_of past) c) (client.lower_of past)
+  client_asked_next past c = adds.client_asked_next server_end config.client_word past c
 
   pub server_asked_next : (past : List S.Call) (c : S.Call) → server_asked config (c ∷ past) ≡ server_asks config past c ++ server_asked config past
-  server_asked_next past c = answerer_append (server_steps.lower (server.own_of config.limit config.server_szx past) c) (server.lower_of config.limit config.server_szx past)
+  server_asked_next past c = adds.server_asked_next config.limit config.server_szx config.server_word past c
 
   pub client_next : (past : List C.Call) (c : C.Call) → client_layer (c ∷ past) ≡ client_adds config past c ++ client_layer past
-  client_next past c = ap (entries (start config.client_word)) (client_asked_next past c) ∙ entries_append (start config.client_word) (client_asks config past c) (client_asked config past)
+  client_next past c = adds.client_next server_end config.client_word past c
 
   pub server_next : (past : List S.Call) (c : S.Call) → server_layer (c ∷ past) ≡ server_adds config past c ++ server_layer past
-  server_next past c = ap (entries (start config.server_word)) (server_asked_next past c) ∙ entries_append (start config.server_word) (server_asks config past c) (server_asked config past)
+  server_next past c = adds.server_next config.limit config.server_szx config.server_word past c
 
   -- a server begins with no call of its layer
   pub begins_silent : (ds : List S.Delay) → server.lower_of config.limit config.server_szx (map (λ (d : S.Delay). S.Delays d.path d.ms true) ds) ≡ []

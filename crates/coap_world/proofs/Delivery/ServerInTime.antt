@@ -24,8 +24,10 @@ use Rattle.coap_ends.specs.ServerLaw.{own_of, lower_of}
 use Rattle.coap_world.specs.Delivery.{FedToServer}
 use Rattle.coap_world.specs.Events.{Config}
 use Rattle.coap_world.specs.Record.{OfServer}
-use Rattle.coap_world.specs.Hops.{asked_by_server, server_asks, server_asked, server_adds}
-use Rattle.coap_world.proofs.Delivery.HopsAreEntries.{left_append, server_asked_next}
+use Rattle.coap_ends.specs.Adds.{asked_by_server}
+use Rattle.coap_ends.proofs.Facts.Adds.{left_append}
+use Rattle.coap_world.specs.Hops.{server_asks, server_asked, server_adds}
+use Rattle.coap_world.proofs.Delivery.HopsAreEntries.{server_asked_next}
 use Rattle.coap_world.proofs.Delivery.EntriesInTime.{Every, every_join, Wish, Timely, Done, Ends, ends_over, done, nothing_done, takes}
 use Rattle.coap_world.proofs.Delivery.ClientInTime.{replying_wish, timed_wish, receive_wish}
 

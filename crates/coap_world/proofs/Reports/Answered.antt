@@ -33,7 +33,7 @@ use Rattle.coap_world.specs.Record.{Entry, OfClient, OfServer, client_of, server
 use Rattle.coap_world.proofs.Requests.CameFrom.{came_here}
 use Rattle.coap_world.proofs.Reports.HeardWasSent.{Reads, SendsTo, was_given}
 use Rattle.coap_world.proofs.Delivery.HopsAreEntries.{near_is, far_is, begins_silent}
-use Rattle.coap_world.proofs.Reports.PartsOfARecord.{Lawful, lawful_back}
+use Rattle.coap_world.proofs.Reports.PartsOfARecord.{Lawful, IsHanded, lawful_back}
 
 -- the response is the reply of the store, to the request of a call, which is served here
 pub record IsReply (config : Config) (m : Message) (past : List Entry) (e : Entry) : Type 0 where
@@ -50,6 +50,8 @@ pub record IsReply (config : Config) (m : Message) (past : List Entry) (e : Entr
 pub record IsRefusal (config : Config) (m : Message) (past : List Entry) (e : Entry) : Type 0 where
   pub asked : Asked
   pub came : CameFrom config past e asked (Refused m.code)
+  pub from : asked.from ≡ client_end
+  pub handed : IsHanded config asked (Refused m.code) (e ∷ past)
   pub token : came.sending.token ≡ m.token
 
 abbrev pub Answers : Config → Message → List Entry → Entry → Type 0
@@ -110,7 +112,7 @@ module _ (config : Config) where
         let code : k.code ≡ m.code = sym (ap (λ (y : Message). y.code) (carried k.asked r k.carries)) in
         let up = subst (λ n. Ever (HandsUp config.server_szx k.asked (Refused n)) (layer_of config.limit config.server_szx config.server_word (server_trace config (OfServer c ∷ past)))) code k.handed in
         let came : CameFrom config past (OfServer c) k.asked (Refused m.code) = came_here config past c law.channel law.client k.asked (Refused m.code) up (of_client k.asked r k.carries) in
-        record { asked = k.asked; came = came; token = sym (ap (λ (a : Asked). a.token) came.asked) ∙ token_of k.asked r k.carries }
+        record { asked = k.asked; came = came; from = of_client k.asked r k.carries; handed = up; token = sym (ap (λ (a : Asked). a.token) came.asked) ∙ token_of k.asked r k.carries }
 
     answers_at : (past : List Entry) (e : Entry) → Lawful config (e ∷ past) → CarriesAt p past e → Answers config m past e
     answers_at past (OfClient c) law k = absurd k

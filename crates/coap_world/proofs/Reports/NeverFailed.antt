@@ -1,32 +1,38 @@
 -- Where another response than a success is reported, no request of the call is applied, before or after.
-use Rattle.std.proofs.Common.{◌≡◌, ◌⊎◌, inl, inr, ℕ, Bool, true, false, Option, Some, None, List, [], ◌∷◌, refl, ap, sym, subst, ◌∙◌, ◌||◌, cond}
-use Rattle.coap_types.specs.Past.{Sometime, Always}
-use Rattle.coap_types.proofs.Facts.Traces.{Sometime_map, Sometime_of_Sometime, Ever_of_Sometime, by_suffix, forget}
-use Rattle.coap_types.specs.Recognised.{lacks_critical}
-use Rattle.coap_types.specs.declared.direction.Direction.TheVariants as direction
-use Rattle.coap_types.specs.declared.request.Method.{Method}
-use Rattle.coap_codec.specs.Message.{Message}
-use Rattle.coap_types.specs.OptionValues.{has}
+use Rattle.std.proofs.Common.{◌≡◌, ◌⊎◌, inl, inr, ℕ, Bool, true, false, List, [], ◌∷◌, refl, ap, sym, subst, ◌∙◌}
+use Rattle.coap_types.specs.Past.{Ever, Sometime, Always}
+use Rattle.coap_types.proofs.Facts.Traces.{Ever_map, Sometime_map, Sometime_of_Sometime, Ever_of_Sometime, by_suffix, forget, same_place}
+use Rattle.coap_codec.specs.Message.{Message, Spells}
+use Rattle.coap_codec.proofs.Facts.EveryDatagram.{one_message}
+use Rattle.coap_layer.specs.Channel.{Hop, Near, Far, near_of, far_of, OnFar}
+use Rattle.coap_layer.specs.Words.{Open}
+use Rattle.coap_layer.proofs.Facts.Hops.{to_far}
 use Rattle.coap_ends.specs.Follows.ClientFollows.{Sending, WasSent}
-use Rattle.coap_ends.specs.Follows.ClientSendings.{OneSending}
+use Rattle.coap_ends.specs.Follows.ClientSendings.{NoNons, OneCon, OneSending}
 use Rattle.coap_ends.specs.ClientTrace.{Failed}
-use Rattle.coap_types.specs.declared.option_number.TheConstants.{BLOCK1 as block1, PROXY_URI as proxy_uri, PROXY_SCHEME as proxy_scheme}
-use Rattle.coap_ends.specs.ServerChecks.{Refused, Asks, verdict_on, asked_by as verdict_by, bad_by, asks, proxying_not_supported}
-use Rattle.coap_types.specs.MethodCode.{method_of}
+use Rattle.coap_ends.specs.ServerChecks.{Verdict, Refused, Asks, verdict_on}
+use Rattle.coap_ends.specs.Follows.ServerHands.{HandsUp}
 use Rattle.coap_ends.specs.Follows.ServerFollows.{Serving, is_applied}
+use Rattle.coap_ends.specs.ServerTrace as S
+use Rattle.coap_ends.proofs.Facts.OfServer as server_facts
 use Rattle.coap_ends.proofs.Facts.OfServer.{all_served}
 use Rattle.coap_exchange.specs.declared.answerer.Asked.{Asked}
+use Rattle.coap_exchange.specs.AnswererSteps.{asked_of}
 use Rattle.coap_resource.specs.Serves.{Question}
 use Rattle.coap_world.specs.Words.{AppliesFor, ReportsAt, ServesAt}
 use Rattle.coap_world.specs.Agrees.{NeverFailed}
 use Rattle.coap_world.specs.CameFrom.{CameFrom, CamesFrom, request_of}
-use Rattle.coap_world.specs.Events.{Config}
+use Rattle.coap_world.specs.Events.{client_end, server_end, Config}
+use Rattle.coap_world.specs.Hops.{hops_in}
 use Rattle.coap_world.specs.Record.{Entry, OfClient, OfServer, client_of, server_trace}
+use Rattle.coap_world.proofs.Delivery.HopsAreEntries.{far_is}
 use Rattle.coap_world.proofs.Reports.Answered.{Answers}
 use Rattle.coap_world.proofs.Requests.AtMostOnce.{ServesFor, applies_serves}
+use Rattle.coap_world.proofs.Requests.CameFrom.{UpOf, Found, find}
+use Rattle.coap_world.proofs.Requests.HandedUpOnce.{Any, up_once}
 use Rattle.coap_world.proofs.Reports.Codes.{applied_by, failed_is, reply_right}
 use Rattle.coap_world.proofs.Reports.OnceDone.{came_is}
-use Rattle.coap_world.proofs.Reports.PartsOfARecord.{Lawful, PartOf, part_back, whole}
+use Rattle.coap_world.proofs.Reports.PartsOfARecord.{Lawful, PartOf, IsHanded, part_back, whole}
 use Rattle.coap_world.proofs.Requests.ReadBack.{is_asked}
 use Rattle.coap_world.proofs.Reports.ReportsAreOfRequests.{Reporting, each_reporting, one_is, sent_for}
 use Rattle.coap_world.proofs.Requests.AppliedWhole.{asked_by}
@@ -57,16 +63,18 @@ never P f [] h = h
 never P f (e ∷ past) (inl h) = f past e h
 never P f (e ∷ past) (inr h) = never P f past h
 
--- what is wrong with a request, or what it asks, its Message ID doesn't say
-asked_alike : (szx i j : ℕ) (s : Sending) (o : Option Method) → verdict_by szx o (request_of i s) ≡ verdict_by szx o (request_of j s)
-asked_alike szx i j s None = refl
-asked_alike szx i j s (Some method) = refl
+-- at one entry a request has one outcome
+one_outcome : (szx : ℕ) (a : Asked) (v w : Verdict) (h : Hop) → OnFar (UpOf (λ m. verdict_on szx m ≡ v) a) h → OnFar (UpOf (λ m. verdict_on szx m ≡ w) a) h → v ≡ w
+one_outcome szx a v w (Near e) k l = absurd k
+one_outcome szx a v w (Far e) k l =
+    let p = k.answer in
+    let q = l.answer in
+    let same : k.message ≡ l.message = cc (p, q) in
+    sym k.verdict ∙ (ap (verdict_on szx) same ∙ l.verdict)
 
-verdict_alike : (szx i j : ℕ) (s : Sending) → verdict_on szx (request_of i s) ≡ verdict_on szx (request_of j s)
-verdict_alike szx i j s =
-    let m : Message = request_of i s in
-    ap (λ v. cond (lacks_critical direction.Request m.options || has block1 (asks m)) (bad_by m.kind) (cond (has proxy_uri (asks m) || has proxy_scheme (asks m)) (Refused proxying_not_supported) v))
-    (asked_alike szx i j s (method_of m.code))
+any_up : (V : Message → Type 0) (a : Asked) (h : Hop) → OnFar (UpOf V a) h → OnFar (UpOf Any a) h × OnFar (UpOf V a) h
+any_up V a (Near e) k = absurd k
+any_up V a (Far e) k = (record { message = k.message; bytes = k.bytes; call = k.call; answer = k.answer; asked_is = k.asked_is; verdict = tt }, k)
 
 module _ (config : Config) (all : List Entry) (number : ℕ) where
   -- the request with this outcome is served here
@@ -87,29 +95,61 @@ module _ (config : Config) (all : List Entry) (number : ℕ) where
       let yes = h.1.2 in
       cc (one, no, yes)
 
-  -- a request of the call is refused, and is asked of the store, under some Message ID
-  record IsRefused : Type 0 where
+  -- a request of the call is handed up, with this outcome
+  record HasOutcome (v : Verdict) : Type 0 where
     pub sending : Sending
     pub sent : WasSent sending (client_of all)
     pub number_is : sending.operation.number ≡ number
-    pub id : ℕ
-    pub code : ℕ
-    pub verdict : verdict_on config.server_szx (request_of id sending) ≡ Refused code
+    pub asked : Asked
+    pub from : asked.from ≡ client_end
+    pub token : sending.token ≡ asked.token
+    pub handed : IsHanded config asked v all
 
-  record IsAsked : Type 0 where
-    pub sending : Sending
-    pub sent : WasSent sending (client_of all)
-    pub number_is : sending.operation.number ≡ number
-    pub id : ℕ
-    pub question : Question
-    pub verdict : verdict_on config.server_szx (request_of id sending) ≡ Asks question
+  abbrev IsRefused : Type 0
+  IsRefused = (code : ℕ) × HasOutcome (Refused code)
 
-  not_asked : OneSending (client_of all) → IsRefused → IsAsked → ⊥
-  not_asked one r a =
-      let same : r.sending ≡ a.sending = one.of_number r.sending a.sending r.sent a.sent (r.number_is ∙ sym a.number_is) in
-      let v : verdict_on config.server_szx (request_of r.id a.sending) ≡ Refused r.code = subst (λ s. verdict_on config.server_szx (request_of r.id s) ≡ Refused r.code) same r.verdict in
-      let e : Refused r.code ≡ Asks a.question = sym v ∙ (verdict_alike config.server_szx r.id a.id a.sending ∙ a.verdict) in
-      cc e
+  abbrev IsAsked : Type 0
+  IsAsked = (question : Question) × HasOutcome (Asks question)
+
+  -- The one request of the call is handed up once, so it has one outcome.
+  module _ (law : Lawful config all) (cons : OneCon (near_of (hops_in config all))) (nons : NoNons (near_of (hops_in config all))) where
+    abbrev hops : List Hop
+    hops = hops_in config all
+
+    up : (a : Asked) (v : Verdict) → IsHanded config a v all → Ever (OnFar (UpOf (λ m. verdict_on config.server_szx m ≡ v) a)) hops
+    up a v h =
+        to_far (UpOf (λ m. verdict_on config.server_szx m ≡ v) a) hops
+        (Ever_map (HandsUp config.server_szx a v) (UpOf (λ m. verdict_on config.server_szx m ≡ v) a)
+        (λ e u. record { message = u.message; bytes = u.bytes; call = u.call; answer = u.answer; asked_is = u.asked_is; verdict = u.verdict }) (far_of hops) (subst (Ever (HandsUp config.server_szx a v)) (sym (far_is config all)) h))
+
+    found : (v : Verdict) (k : HasOutcome v) → Found client_end server_end (λ m. verdict_on config.server_szx m ≡ v) k.asked hops
+    found v k = find config.client_word config.server_word client_end server_end (λ m. verdict_on config.server_szx m ≡ v) k.asked k.from hops law.channel nons (up k.asked v k.handed)
+
+    same_asked : (v w : Verdict) (k : HasOutcome v) (l : HasOutcome w) → k.sending.token ≡ l.sending.token → k.asked ≡ l.asked
+    same_asked v w k l same =
+        let f = found v k in
+        let g = found w l in
+        let token : f.message.token ≡ g.message.token = sym (ap (λ (a : Asked). a.token) f.asked) ∙ (sym k.token ∙ (same ∙ (l.token ∙ ap (λ (a : Asked). a.token) g.asked))) in
+        let con = cons f.con g.con f.begun_before g.begun_before f.message g.message f.are_bytes g.are_bytes f.spells g.spells token in
+        let message = one_message f.con.bytes f.message g.message f.are_bytes f.spells (subst (λ (c : Open). Spells c.bytes g.message) (sym con) g.spells) in
+        f.asked ∙ (ap (asked_of client_end) message ∙ sym g.asked)
+
+    one_outcome_of : (v w : Verdict) (k : HasOutcome v) (l : HasOutcome w) → k.sending.token ≡ l.sending.token → v ≡ w
+    one_outcome_of v w k l same =
+        let a : Asked = k.asked in
+        let V = λ (x : Verdict) (m : Message). verdict_on config.server_szx m ≡ x in
+        let is = sym (same_asked v w k l same) in
+        let there = Ever_map (OnFar (UpOf (V v) a)) (λ h. OnFar (UpOf Any a) h × OnFar (UpOf (V v) a) h) (any_up (V v) a) hops (up a v k.handed) in
+        let here = Ever_map (OnFar (UpOf (V w) a)) (λ h. OnFar (UpOf Any a) h × OnFar (UpOf (V w) a) h) (any_up (V w) a) hops (up a w (subst (λ z. IsHanded config z w all) is l.handed)) in
+        forget (v ≡ w) hops
+        (Ever_map _ (λ h. v ≡ w) (λ h z. one_outcome config.server_szx a v w h z.1 z.2) hops
+        (same_place (OnFar (UpOf Any a)) (OnFar (UpOf (V v) a)) (OnFar (UpOf (V w) a)) hops (up_once config.client_word config.server_word client_end server_end a k.from hops law.channel nons cons) there here))
+
+    not_asked : OneSending (client_of all) → IsRefused → IsAsked → ⊥
+    not_asked one r a =
+        let same : r.1.sending ≡ a.1.sending = one.of_number r.1.sending a.1.sending r.1.sent a.1.sent (r.1.number_is ∙ sym a.1.number_is) in
+        let e : Refused r.0 ≡ Asks a.0 = one_outcome_of (Refused r.0) (Asks a.0) r.1 a.1 (ap (λ (s : Sending). s.token) same) in
+        cc e
 
   module _ (law : Lawful config all) (one : OneSending (client_of all)) where
     -- the request of a call that is reported as failed is served so that it changes nothing, or is refused
@@ -143,30 +183,41 @@ module _ (config : Config) (all : List Entry) (number : ℕ) where
         by (inr k) =
             let sent = earlier.sent k.came.sending k.came.sent in
             let same = one_is config all one s k.came.sending r.message.token r.sent sent r.token k.token in
-            inr (record {
-              sending = k.came.sending;
-              sent = sent;
-              number_is = ap (λ (x : Sending). x.operation.number) same ∙ r.number_is;
-              id = k.came.con.id;
-              code = r.message.code;
-              verdict = k.came.verdict;
-            })
+            inr (
+              r.message.code,
+              record {
+                sending = k.came.sending;
+                sent = sent;
+                number_is = ap (λ (x : Sending). x.operation.number) same ∙ r.number_is;
+                asked = k.asked;
+                from = k.from;
+                token = sym (ap (λ (a : Asked). a.token) k.came.asked);
+                handed = r.part.handed k.asked (Refused r.message.code) k.handed;
+              },
+            )
 
     -- what is applied for the call is asked
     asked_here : (past : List Entry) (e : Entry) → PartOf config all (e ∷ past) × CamesFrom config (e ∷ past) → AppliesFor config number all past e → IsAsked
-    asked_here past e l a =
+    asked_here past (OfClient c) l a = absurd a.here
+    asked_here past (OfServer c) l a =
+        let e : Entry = OfServer c in
+        let t : List S.Call = server_trace config (e ∷ past) in
+        let up = (server_facts.handed config.limit config.server_szx config.server_word t l.0.law.server).0 a.request a.here in
         let came : CameFrom config past e a.request.asked (Asks a.request.question) = l.1.0 a.request a.here a.from in
         let sent = (part_back config all past e l.0).sent came.sending came.sent in
         let token : came.sending.token ≡ a.request.asked.token = sym (ap (λ (k : Asked). k.token) came.asked) in
-        let same = one.of_token came.sending (record { operation = record { number = number; request = a.belongs.0 }; token = a.request.asked.token }) sent a.belongs.1 token in
-        record {
-          sending = came.sending;
-          sent = sent;
-          number_is = ap (λ (x : Sending). x.operation.number) same;
-          id = came.con.id;
-          question = a.request.question;
-          verdict = came.verdict;
-        }
+        let same = one.of_token came.sending (record { operation = record { number = number; request = a.belongs.0 }; token = a.request.asked.token }) sent a.belongs.1 token in (
+          a.request.question,
+          record {
+            sending = came.sending;
+            sent = sent;
+            number_is = ap (λ (x : Sending). x.operation.number) same;
+            asked = a.request.asked;
+            from = a.from;
+            token = token;
+            handed = l.0.handed a.request.asked (Asks a.request.question) up;
+          },
+        )
 
     is_asked_for : CamesFrom config all → Sometime (AppliesFor config number all) all → IsAsked
     is_asked_for came h =
@@ -181,15 +232,15 @@ module _ (config : Config) (all : List Entry) (number : ℕ) where
         (at_each (λ past e. ReportsAt (record { number = number; report = Failed code }) past e → Sometime R past) (ReportsAt (record { number = number; report = Failed code })) (λ past e. Sometime R past) (λ past e f k. f k) all
         (each_reporting config number (Failed code) all refl all (whole config all law)) h))
 
-    neither : CamesFrom config all → Always (λ past e. ServesFor config number all past e → Sometime (ServesFor config number all) past → ⊥) all → Sometime (AppliesFor config number all) all
+    neither : OneCon (near_of (hops_in config all)) → NoNons (near_of (hops_in config all)) → CamesFrom config all → Always (λ past e. ServesFor config number all past e → Sometime (ServesFor config number all) past → ⊥) all → Sometime (AppliesFor config number all) all
         → Sometime (Serves false) all ⊎ Sometime (λ past e. IsRefused) all → ⊥
-    neither came most applied (inl h) =
+    neither cons nons came most applied (inl h) =
         never (λ past e. Outcome false past e × Outcome true past e) not_both all
         (once_same (ServesFor config number all) (Outcome false) (Outcome true) all most h
         (Sometime_map (AppliesFor config number all) (Serves true) (λ past e a. (applies_serves config number all past e a, (a.request, a.here, a.applied))) all applied))
-    neither came most applied (inr h) = not_asked one (forget IsRefused all (Ever_of_Sometime (λ past e. IsRefused) (λ e. IsRefused) (λ past e k. inl k) all h)) (is_asked_for came applied)
+    neither cons nons came most applied (inr h) = not_asked law cons nons one (forget IsRefused all (Ever_of_Sometime (λ past e. IsRefused) (λ e. IsRefused) (λ past e k. inl k) all h)) (is_asked_for came applied)
 
-pub never_failed : (config : Config) (all : List Entry) → Lawful config all → OneSending (client_of all) → CamesFrom config all
+pub never_failed : (config : Config) (all : List Entry) → Lawful config all → OneSending (client_of all) → OneCon (near_of (hops_in config all)) → NoNons (near_of (hops_in config all)) → CamesFrom config all
     → ((number : ℕ) → Always (λ past e. ServesFor config number all past e → Sometime (ServesFor config number all) past → ⊥) all) → NeverFailed config all
-never_failed config all law one came most number code failed applied =
-    neither config all number law one came (most number) applied (once_either (Serves config all number false) (λ past e. IsRefused config all number) all (failing config all number law one code failed))
+never_failed config all law one cons nons came most number code failed applied =
+    neither config all number law one cons nons came (most number) applied (once_either (Serves config all number false) (λ past e. IsRefused config all number) all (failing config all number law one code failed))

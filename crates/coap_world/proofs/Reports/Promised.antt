@@ -1,8 +1,9 @@
 -- What is promised of a legal run, clause by clause.
-use Rattle.std.proofs.Common.{◌≡◌, ℕ, true, List, [], ◌∷◌, refl, ap, sym}
+use Rattle.std.proofs.Common.{◌≡◌, ℕ, true, List, [], ◌∷◌, refl, ap, sym, subst}
+use Rattle.coap_layer.specs.Channel.{near_of}
 use Rattle.coap_exchange.specs.declared.answerer.Asked.{Asked}
 use Rattle.coap_ends.specs.Follows.ClientFollows.{AreSent}
-use Rattle.coap_ends.specs.Follows.ClientSendings.{OneSending}
+use Rattle.coap_ends.specs.Follows.ClientSendings.{NoNons, OneCon, OneSending}
 use Rattle.coap_ends.specs.ServerChecks.{Asks}
 use Rattle.coap_ends.specs.Follows.ServerFollows.{Serving, is_applied}
 use Rattle.coap_ends.proofs.Facts.OfClient as client_facts
@@ -11,6 +12,7 @@ use Rattle.coap_world.specs.Words.{ServesAt, SentFor}
 use Rattle.coap_world.specs.Agrees.{Agrees, AppliedWhole, AtMostOnce}
 use Rattle.coap_world.specs.CameFrom.{CameFrom, CamesFrom}
 use Rattle.coap_world.specs.Events.{client_end, server_end, Config, Event}
+use Rattle.coap_world.specs.Hops.{hops_in}
 use Rattle.coap_world.specs.Legal.{AllLegal}
 use Rattle.coap_world.specs.Record.{Entry, Turn, RecordOf, client_of, entries_of, server_trace}
 use Rattle.coap_types.specs.Past.{Sometime, Always}
@@ -22,6 +24,7 @@ use Rattle.coap_world.proofs.Reports.OnceDone as D
 use Rattle.coap_world.proofs.Progress.ChangesInRange.{formats_in}
 use Rattle.coap_world.proofs.Delivery.ReportsAreTaken.{all_given}
 use Rattle.coap_world.proofs.Delivery.HopsAreAChannel as joined
+use Rattle.coap_world.proofs.Delivery.HopsAreEntries.{near_is}
 use Rattle.coap_world.proofs.Reports.NeverFailed as F
 use Rattle.coap_world.proofs.Requests.ChangesOwned as O
 use Rattle.coap_world.proofs.Requests.HoldsChanges.{changes_held}
@@ -73,6 +76,12 @@ module _ (config : Config) (events : List Event) (turns : List Turn) (run : Reco
   pub at_most_once : AtMostOnce config all
   at_most_once = W.at_most_once config all most
 
+  cons : OneCon (near_of (hops_in config all))
+  cons = subst OneCon (sym (near_is config all)) (client_facts.one_con_each server_end config.client_szx config.client_word (client_of all) run.client)
+
+  nons : NoNons (near_of (hops_in config all))
+  nons = subst NoNons (sym (near_is config all)) (client_facts.nons server_end config.client_word (client_of all))
+
   pub agrees : Agrees config all
   agrees = record {
     each_held = D.each_held config all lawful one;
@@ -80,7 +89,7 @@ module _ (config : Config) (events : List Event) (turns : List Turn) (run : Reco
     applied_whole = applied_whole;
     at_most_once = at_most_once;
     once_done = D.once_done config all lawful one;
-    never_failed = F.never_failed config all lawful one came most;
+    never_failed = F.never_failed config all lawful one cons nons came most;
     holds_changes = changes_held config all run.server.rows;
     changes_owned = O.owned config all run.server.rows;
     local_right = local_right config all run.server.rows;

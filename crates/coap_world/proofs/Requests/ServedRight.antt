@@ -13,8 +13,8 @@ use Rattle.coap_ends.specs.ServerLaw.{ServerLaw, own_of}
 use Rattle.coap_ends.specs.Follows.ServerTable as T
 use Rattle.coap_ends.specs.Follows.ServerTable.{options_of, AllMethods, ServesMethods}
 use Rattle.coap_ends.specs.ServerTrace as S
-use Rattle.coap_ends.proofs.Serving.ServerAsked.{all_methods}
-use Rattle.coap_ends.proofs.Holding.ServerHolds.{all_served}
+use Rattle.coap_ends.proofs.Facts.OfServer as server_facts
+use Rattle.coap_ends.proofs.Facts.OfServer.{all_served}
 use Rattle.coap_world.specs.Events.{Config}
 use Rattle.coap_world.specs.Record.{Entry, OfClient, OfServer, server_trace}
 use Rattle.coap_world.specs.Serves.{BringsIn, IsBrought, ServesRight, AllServed}
@@ -70,4 +70,4 @@ in_order config (OfClient c ∷ past) rows law = (record { brought = λ x h. abs
 in_order config (OfServer c ∷ past) rows law = (right_here config past c rows law.0, in_order config past rows.1 law.1)
 
 pub served_right : (config : Config) (all : List Entry) → ServerLaw config.limit config.server_szx config.server_word (server_trace config all) → AllServed config all
-served_right config all law = in_order config all law.rows (all_methods config.limit config.server_szx config.server_word (server_trace config all) law)
+served_right config all law = in_order config all law.rows (server_facts.methods config.limit config.server_szx config.server_word (server_trace config all) law)

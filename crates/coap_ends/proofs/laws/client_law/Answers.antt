@@ -25,6 +25,9 @@ returns-clause-rests c server szx word t law = client.rests server szx word t la
 pub returns-clause-begins : goal.returns-clause-begins
 returns-clause-begins c server szx word t law = client.begins server szx word t law
 
+pub returns-clause-begins_now : goal.returns-clause-begins_now
+returns-clause-begins_now c server szx word t law = client.begins_now server szx word t law
+
 pub returns-clause-one_con : goal.returns-clause-one_con
 returns-clause-one_con c server szx word t law = client.one_con_each server szx word t law
 

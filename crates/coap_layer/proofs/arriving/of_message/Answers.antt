@@ -1,10 +1,8 @@
-use Rattle.std.proofs.Common.{◌≡◌, ap, sym, ◌∙◌, nat_le, count_by, ◌&&◌, ◌==◌, is_some}
+use Rattle.std.proofs.Common.{◌≡◌, ap, sym, ◌∙◌, ◌&&◌, ◌==◌, is_some}
 use Rattle.std.specs.List.{list_any}
 use Rattle.coap_types.specs.SameEndpoint.{same_endpoint}
-use Rattle.coap_layer.specs.Machine.Entries.{arrived_as}
-use Rattle.coap_layer.specs.Machine.State.{is_of, is_live, is_outstanding, is_remembered, is_full}
+use Rattle.coap_layer.specs.Machine.State.{is_outstanding, is_remembered, is_full}
 use Rattle.coap_layer.proofs.Calls.JudgedByTable.{judged}
-use Rattle.coap_layer.proofs.Calls.Entries.{remembered_is, full_is}
 use Rattle.coap_layer.proofs.Calls.Sendings.{outstanding_is}
 use Rattle.coap_layer.proofs.arriving.of_message.Goals as goal
 
@@ -18,6 +16,6 @@ returns g c s arrived opened free =
     c.is_outstanding.result c.is_remembered.result c.is_full.result c.args.free
     c.kind-kind.ensures id (cc (c.classify.ensures c.args.message.now, c.of.ensures, code))
     (rw (← id) (c.is_outstanding.ensures ∙ (ap (λ cs. list_any (λ x. is_some x.last && (same_endpoint x.to from && (x.id.0 == n))) cs) c.deref.ensures.value ∙ (outstanding_is from n c.args.lists.now.sendings.items ∙ ap (is_outstanding from n) (sym opened)))))
-    (rw (← id) (c.is_remembered.ensures ∙ (ap (λ es. list_any (λ e. is_of c.args.at from n (arrived_as e)) es) c.deref-2.ensures.value ∙ (remembered_is c.args.at from n c.args.lists.now.entries.items ∙ ap (is_remembered c.args.at from n) (sym arrived)))))
-    (c.is_full.ensures ∙ (ap (λ es. nat_le 4096 (count_by (λ e. is_live c.args.at (arrived_as e)) es)) c.deref-3.ensures.value ∙ (full_is c.args.at c.args.lists.now.entries.items ∙ ap (is_full c.args.at) (sym arrived))))
+    (rw (← id) (c.is_remembered.ensures ∙ ap (is_remembered c.args.at from n) (sym arrived)))
+    (c.is_full.ensures ∙ ap (is_full c.args.at) (sym arrived))
     (sym free)

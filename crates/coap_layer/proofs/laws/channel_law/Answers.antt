@@ -1,4 +1,5 @@
 use Rattle.coap_layer.proofs.Between.AcksAreReplies.{acks_replied, acks_taken}
+use Rattle.coap_layer.proofs.Between.GoneIsNotBehind.{cons_apart}
 use Rattle.coap_layer.proofs.Arrivals.HandedAsSpelled.{handed_spelled, acks_heard}
 use Rattle.coap_layer.proofs.Between.WhatArrivesWasSent.{arrives_as_sent, cons_begun, nons_sent}
 use Rattle.coap_layer.proofs.Between.TakenOnce.{only_that_con, taken_once, handed_once}
@@ -33,3 +34,6 @@ returns-clause-plain c = nons_sent
 
 pub returns-clause-handed : goal.returns-clause-handed
 returns-clause-handed c = handed_once
+
+pub returns-clause-apart : goal.returns-clause-apart
+returns-clause-apart c = cons_apart

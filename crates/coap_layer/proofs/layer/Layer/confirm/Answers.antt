@@ -1,15 +1,16 @@
-use Rattle.std.proofs.Common.{rules, ◌≡◌, ap, sym, ◌∙◌, [], ◌∷◌, ◌++◌, ◌+◌, ◌%◌, is_some, ◌&&◌, List}
+use Rattle.std.proofs.Common.{rules, ◌≡◌, ap, sym, subst, ◌∙◌, [], ◌∷◌, ◌++◌, ◌+◌, ◌%◌, is_some, ◌&&◌, List}
 use Rattle.std.specs.List.{list_any}
 use Rattle.coap_types.specs.declared.message.Kind.TheVariants.{Con}
 use Rattle.coap_types.specs.SameEndpoint.{same_endpoint}
 use Rattle.coap_codec.specs.Spelling.{message_bytes}
-use Rattle.coap_layer.specs.Machine.Entries.{arrivals_in}
+use Rattle.coap_layer.specs.Machine.Entries.{IsUpTo, arrivals_in}
 use Rattle.coap_layer.specs.Machine.Parts.{held, open_before}
 use Rattle.coap_layer.specs.Machine.Sendings.{open_now}
 use Rattle.coap_layer.specs.Machine.State.{State, is_busy}
 use Rattle.coap_layer.specs.Trace.{Packet, with_head}
 use Rattle.coap_layer.specs.Words.{Open}
 use Rattle.coap_layer.proofs.Machine.Forgetting.{led_step}
+use Rattle.coap_layer.proofs.Calls.Remembered.{upto_later}
 use Rattle.coap_layer.proofs.Calls.Outstanding.{busy_is}
 use Rattle.coap_layer.proofs.Calls.Places.{before_same, within_pushed}
 use Rattle.coap_layer.proofs.Calls.Sent.{con_left, con_refused, not_refused}
@@ -32,10 +33,10 @@ returns-in_default-take_room-clause-room g c has same = absurd (cc (c.in_default
 pub invariant_of-self-2 : goal.invariant_of-self-2
 invariant_of-self-2 g c =
     let out : List Packet = record { to = c.args.to; bytes = message_bytes (with_head Con c.give-id.result.0 c.args.content.now) } ∷ [] in (
-      within_pushed c.self.inside.mark c.self.inside.lists.entries.items c.send_con.new.lists.entries.items c.self.inside.lists.waiting.items c.send_con.new.lists.waiting.items out c.self.invariant.0
-          (ap (λ v. v.items) (c.send_con.ensures.entries ∙ c.take_room.ensures.entries)) (c.send_con.ensures.waiting ∙ ap (λ (q : List Packet). q ++ out) c.take_room.ensures.waiting),
+      within_pushed c.self.inside.mark c.self.inside.lists.entries.settled c.send_con.new.lists.entries.settled c.self.inside.lists.waiting.items c.send_con.new.lists.waiting.items out c.self.invariant.0
+          (ap (λ m. m.settled) (c.send_con.ensures.entries ∙ c.take_room.ensures.entries)) (c.send_con.ensures.waiting ∙ ap (λ (q : List Packet). q ++ out) c.take_room.ensures.waiting),
       search rules,
-      tt,
+      (subst (λ m. IsUpTo c.max-at.result (arrivals_in m)) (sym (c.send_con.ensures.entries ∙ c.take_room.ensures.entries)) (upto_later _ _ _ (search rules) c.self.invariant.2.0), tt),
     )
 
 pub returns-clause-step : goal.returns-clause-step
@@ -48,7 +49,7 @@ returns-clause-step g c _ =
     con_left h c.args.self.now.state c.args.now.0 c.max-at.result c.args.to c.args.content.now (ap (λ s. s.state) c.self.view_is) c.requires.spelled (search rules)
     c.args.word c.is_busy-busy.result c.would_give.result c.give-id.result _ _ _ _ _ busy c.would_give.ensures (sym c.refusal.ensures ∙ c.in_default.is) c.give-id.ensures.id
     (ap (λ s. s.upcoming) c.give-id.ensures.new) (ap (λ s. s.last_used) c.give-id.ensures.new)
-    (ap (λ v. arrivals_in v.items) (c.send_con.ensures.entries ∙ c.take_room.ensures.entries))
+    (ap arrivals_in (c.send_con.ensures.entries ∙ c.take_room.ensures.entries))
     (c.send_con.ensures.open ∙ ap (λ cs. open_now cs ++ begun) c.take_room.ensures.sendings)
     (c.send_con.ensures.waiting ∙ ap (λ (q : List Packet). q ++ out) c.take_room.ensures.waiting)
 
@@ -58,8 +59,8 @@ returns-clause-led g c sent first t led = led_step first t _ _ _ _ _ led (return
 pub returns-clause-before : goal.returns-clause-before
 returns-clause-before g c =
     let out : List Packet = record { to = c.args.to; bytes = message_bytes (with_head Con c.give-id.result.0 c.args.content.now) } ∷ [] in
-    before_same c.self.inside.mark c.self.inside.lists.entries.items c.send_con.new.lists.entries.items c.self.inside.lists.sendings.items c.send_con.new.lists.sendings.items c.self.inside.lists.waiting.items c.send_con.new.lists.waiting.items out
-    c.self.invariant.0 (ap (λ v. v.items) (c.send_con.ensures.entries ∙ c.take_room.ensures.entries)) (c.send_con.ensures.before ∙ ap open_before c.take_room.ensures.sendings)
+    before_same c.self.inside.mark c.self.inside.lists.entries.settled c.send_con.new.lists.entries.settled c.self.inside.lists.sendings.items c.send_con.new.lists.sendings.items c.self.inside.lists.waiting.items c.send_con.new.lists.waiting.items out
+    c.self.invariant.0 (ap (λ m. m.settled) (c.send_con.ensures.entries ∙ c.take_room.ensures.entries)) (c.send_con.ensures.before ∙ ap open_before c.take_room.ensures.sendings)
     (c.send_con.ensures.waiting ∙ ap (λ (q : List Packet). q ++ out) c.take_room.ensures.waiting)
     ∙ ap (λ s. s.before) c.self.view_is
 

@@ -4,13 +4,13 @@ use Rattle.coap_layer.specs.Machine.State.{State, forgotten}
 use Rattle.coap_layer.specs.Trace.{AsksFree, Is}
 use Rattle.coap_layer.proofs.Calls.CallsAreSteps.{step_of, still}
 use Rattle.coap_layer.proofs.Machine.Forgetting.{led_step}
-use Rattle.coap_layer.proofs.Calls.Places.{placed_later}
+use Rattle.coap_layer.proofs.Calls.Places.{kept_later}
 use Rattle.coap_layer.proofs.layer.Layer.is_free.Goals as goal
 
 pub invariant_of-self : goal.invariant_of-self
 invariant_of-self g c =
     let i = c.self.invariant in
-    (i.0, i.1, placed_later _ _ _ _ _ _ c.self.inside.lists.entries.items (search rules) i.2)
+    (i.0, i.1, kept_later _ _ _ _ c.self.inside.lists.entries (search rules) i.2)
 
 pub returns-clause-step : goal.returns-clause-step
 returns-clause-step g c =

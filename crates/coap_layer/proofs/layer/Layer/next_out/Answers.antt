@@ -4,14 +4,13 @@ use Rattle.coap_layer.specs.Machine.State.{State, forgotten}
 use Rattle.coap_layer.specs.Trace.{Gives, Take}
 use Rattle.coap_layer.proofs.Calls.CallsAreSteps.{first_is, moved, step_of, taken_so}
 use Rattle.coap_layer.proofs.Machine.Forgetting.{led_step}
-use Rattle.coap_layer.proofs.Calls.Places.{placed_unmarked}
 use Rattle.coap_layer.proofs.Calls.TakenIn.{room_kept}
 use Rattle.coap_layer.proofs.layer.Layer.next_out.Goals as goal
 
 pub invariant_of-self : goal.invariant_of-self
 invariant_of-self g c =
     let i = c.self.invariant in
-    (tt, room_kept c.self.inside.room c.self.inside.lists _ i.1 (omega arith) refl (λ x. search rules), placed_unmarked _ _ _ _ c.self.inside.mark c.self.inside.lists.entries.items i.2)
+    (tt, room_kept c.self.inside.room c.self.inside.lists _ i.1 (omega arith) refl (λ x. search rules), i.2)
 
 pub returns-clause-step : goal.returns-clause-step
 returns-clause-step g c =

@@ -26,7 +26,7 @@ returns-clause-step g c _ =
     non_left h c.args.self.now.state c.args.now.0 c.max-at.result c.args.to c.args.content.now (ap (λ s. s.state) c.self.view_is) c.requires.spelled (search rules)
     c.would_give.result c.give-id.result _ _ _ _ _ c.would_give.ensures (sym c.refusal.ensures ∙ c.in_default.is) c.give-id.ensures.id
     (ap (λ s. s.upcoming) c.give-id.ensures.new) (ap (λ s. s.last_used) c.give-id.ensures.new)
-    (ap (λ v. arrivals_in v.items) (c.send_non.ensures.entries ∙ c.take_room.ensures.entries))
+    (ap arrivals_in (c.send_non.ensures.entries ∙ c.take_room.ensures.entries))
     (ap (λ v. open_now v.items) c.send_non.ensures.sendings ∙ ap open_now c.take_room.ensures.sendings)
     (c.send_non.ensures.waiting ∙ ap (λ (q : List Packet). q ++ out) c.take_room.ensures.waiting)
 

@@ -1,20 +1,33 @@
-use Rattle.std.proofs.Common.{rules, ◌≡◌, ap, sym, subst, ◌∙◌, ◌++◌, ℕ, refl, true, false, filter, Some, None}
+use Rattle.std.proofs.Common.{rules, ◌≡◌, ap, sym, subst, ◌∙◌, ◌++◌, ℕ, refl, true, false, filter, None}
 use Rattle.std.specs.Option.{option_to_list}
 use Rattle.coap_layer.specs.Arrivals.{arrival_at}
 use Rattle.coap_layer.specs.Machine.Arriving.{IsArriving, newly_by, open_by}
-use Rattle.coap_layer.specs.Machine.Entries.{arrivals_in}
+use Rattle.coap_layer.specs.Machine.Entries.{IsUpTo, arrivals_in}
 use Rattle.coap_layer.specs.Machine.Parts.{held}
 use Rattle.coap_layer.specs.Machine.Sendings.{open_now}
-use Rattle.coap_layer.specs.Machine.Sound.{IsPlaced}
+use Rattle.coap_layer.specs.Machine.Sound.{IsKept}
 use Rattle.coap_layer.specs.Machine.State.{State, answer_to, is_live, is_remembered}
 use Rattle.coap_layer.specs.Trace.{Becomes}
 use Rattle.coap_layer.proofs.Machine.Forgetting.{led_step}
+use Rattle.coap_layer.proofs.Calls.Remembered.{same_arrivals}
 use Rattle.coap_layer.proofs.Calls.Received.{received, awaited_so, quiet_so}
 use Rattle.coap_layer.proofs.Calls.TakenIn.{none_of, room_kept}
 use Rattle.coap_layer.proofs.layer.Layer.receive.Goals as goal
 
 pub take_in-mark-requires-clause-place : goal.take_in-mark-requires-clause-place
 take_in-mark-requires-clause-place g c some = c.in_ok-grow.ensures.place (c.is_some.ensures ∙ some)
+
+pub take_in-mark-requires-clause-up_to : goal.take_in-mark-requires-clause-up_to
+take_in-mark-requires-clause-up_to g c = subst (IsUpTo c.self.inside.clock) (sym (same_arrivals c.in_ok-grow.ensures.settled c.in_ok-grow.ensures.newest)) c.self.invariant.2.0
+
+pub take_in-mark-requires-clause-unknown : goal.take_in-mark-requires-clause-unknown
+take_in-mark-requires-clause-unknown g c up =
+    let h : State = held c.self.inside.clock c.self.inside.awaits c.self.inside.ids c.self.inside.lists in
+    let at : ℕ = c.max.result in
+    let a = c.judge-arriving.result in
+    let judged = c.judge-arriving.ensures h refl refl (sym c.would_give-free.ensures) in
+    let arrives : IsArriving h at c.args.from (arrival_at c.args.bytes.now) a = subst (λ x. IsArriving h at c.args.from x a) c.read-datagram.ensures.shows judged.0 in
+    ap (is_remembered at c.args.from a.id.0) (same_arrivals c.in_ok-grow.ensures.settled c.in_ok-grow.ensures.newest) ∙ arrives.new up
 
 pub returns-clause-step : goal.returns-clause-step
 returns-clause-step g c =
@@ -24,11 +37,11 @@ returns-clause-step g c =
     let shows = c.read-datagram.ensures.shows in
     let judged = c.judge-arriving.ensures h refl refl (sym c.would_give-free.ensures) in
     received h c.args.now.0 c.args.from c.args.bytes.now a at (search rules) c.args.self.now.state _
-    (arrivals_in c.take_in-mark.new.lists.entries.items) (open_now c.take_in-mark.new.lists.sendings.items) (option_to_list c.in_ok-sent.sent) c.take_in-mark.new.lists.waiting.items _
+    (arrivals_in c.take_in-mark.new.lists.entries) (open_now c.take_in-mark.new.lists.sendings.items) (option_to_list c.in_ok-sent.sent) c.take_in-mark.new.lists.waiting.items _
     (ap (λ s. s.state) c.self.view_is) c.read-datagram.ensures.bytes
     (subst (λ x. IsArriving h at c.args.from x a) shows judged.0)
     (ap Becomes (c.told.ensures ∙ (judged.1 ∙ ap (answer_to h at c.args.from) shows)))
-    (c.take_in-mark.ensures.arrived ∙ ap (λ es. filter (is_live at) (filter (is_live c.self.inside.clock) (arrivals_in es) ++ newly_by at c.args.from a)) c.in_ok-grow.ensures.entries)
+    (c.take_in-mark.ensures.arrived ∙ ap (λ es. filter (is_live at) (filter (is_live c.self.inside.clock) es ++ newly_by at c.args.from a)) (same_arrivals c.in_ok-grow.ensures.settled c.in_ok-grow.ensures.newest))
     (c.take_in-mark.ensures.open ∙ ap (λ cs. open_by c.args.from a (open_now cs)) c.in_ok-grow.ensures.sendings)
     c.in_ok-sent.ensures.sent
     (c.take_in-mark.ensures.waiting ∙ ap (λ q. q ++ option_to_list c.in_ok-sent.sent) c.in_ok-grow.ensures.waiting)
@@ -60,15 +73,10 @@ returns-in_err-grow-clause-quiet g c quiet =
 
 pub invariant_of-self-2 : goal.invariant_of-self-2
 invariant_of-self-2 g c =
-    let h : State = held c.self.inside.clock c.self.inside.awaits c.self.inside.ids c.self.inside.lists in
-    let at : ℕ = c.max.result in
-    let a = c.judge-arriving.result in
-    let judged = c.judge-arriving.ensures h refl refl (sym c.would_give-free.ensures) in
-    let arrives : IsArriving h at c.args.from (arrival_at c.args.bytes.now) a = subst (λ x. IsArriving h at c.args.from x a) c.read-datagram.ensures.shows judged.0 in (
+    let at : ℕ = c.max.result in (
       c.take_in-mark.ensures.within,
       room_kept c.grow.new.room c.grow.new.lists c.take_in-mark.new.lists c.in_ok-grow.ensures.room c.take_in-mark.ensures.sendings_len c.take_in-mark.ensures.sendings_capacity c.take_in-mark.ensures.waiting_room,
-      subst (λ w. IsPlaced at w true c.take_in-mark.result.entries (Some c.take_in-mark.result) c.take_in-mark.new.lists.entries.items) (sym c.awaiting-self-inside.ensures)
-          (c.take_in-mark.ensures.placed (λ up. ap (λ es. is_remembered at c.args.from a.id.0 (arrivals_in es)) c.in_ok-grow.ensures.entries ∙ arrives.new up)),
+      subst (λ w. IsKept at w true c.take_in-mark.new.lists.entries) (sym c.awaiting-self-inside.ensures) c.take_in-mark.ensures.kept,
     )
 
 pub returns-clause-may_reply : goal.returns-clause-may_reply

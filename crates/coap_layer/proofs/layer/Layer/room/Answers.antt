@@ -1,14 +1,15 @@
 use Rattle.std.proofs.Common.{rules, ◌≡◌, ap, sym, subst, ◌∙◌, refl, [], ℕ, false}
 use Rattle.std.proofs.lemmas.List.{append-nil}
-use Rattle.coap_layer.specs.Machine.Entries.{arrivals_in}
+use Rattle.coap_layer.specs.Machine.Entries.{IsUpTo, arrivals_in}
 use Rattle.coap_layer.specs.Machine.Parts.{awaited, held}
-use Rattle.coap_layer.specs.Machine.Sound.{IsPlaced}
+use Rattle.coap_layer.specs.Machine.Sound.{IsUnknown}
 use Rattle.coap_layer.specs.Machine.Sendings.{open_now}
 use Rattle.coap_layer.specs.Machine.State.{State}
 use Rattle.coap_layer.specs.Trace.{Is, Room}
 use Rattle.coap_layer.proofs.Calls.CallsAreSteps.{step_of, still}
 use Rattle.coap_layer.proofs.Machine.Forgetting.{led_step}
-use Rattle.coap_layer.proofs.Calls.Places.{placed_later, within_pushed}
+use Rattle.coap_layer.proofs.Calls.Remembered.{same_arrivals, upto_later}
+use Rattle.coap_layer.proofs.Calls.Places.{unknown_later, within_pushed}
 use Rattle.coap_layer.proofs.Calls.Sent.{so_told}
 use Rattle.coap_layer.proofs.layer.Layer.room.Goals as goal
 
@@ -17,7 +18,7 @@ returns-clause-step g c =
     let h : State = held c.self.inside.clock c.self.inside.awaits c.self.inside.ids c.self.inside.lists in
     let at : ℕ = c.max-at.result in
     let told = so_told h c.args.self.now.state c.args.to c.args.now.0 at c.would_confirm-may.result (ap (λ s. s.state) c.self.view_is) (search rules) c.would_confirm-may.ensures in
-    let entries = ap arrivals_in c.in_ok-grow.ensures.entries in
+    let entries : arrivals_in c.grow.new.lists.entries ≡ arrivals_in c.self.inside.lists.entries = same_arrivals c.in_ok-grow.ensures.settled c.in_ok-grow.ensures.newest in
     let sendings = ap open_now c.in_ok-grow.ensures.sendings in
     let waiting = c.in_ok-grow.ensures.waiting in
     step_of h c.args.self.now.state _ c.args.now.0 at (Room c.args.to) (Is c.would_confirm-may.result) [] (ap (λ s. s.state) c.self.view_is) tt (search rules) told refl
@@ -34,12 +35,14 @@ returns-in_err-grow-clause-quiet g c quiet =
 pub invariant_of-self-2 : goal.invariant_of-self-2
 invariant_of-self-2 g c =
     let i = c.self.invariant in
-    let entries = c.in_ok-grow.ensures.entries in (
-      within_pushed c.self.inside.mark c.self.inside.lists.entries.items c.grow.new.lists.entries.items c.self.inside.lists.waiting.items c.grow.new.lists.waiting.items [] i.0 entries
+    let entries : arrivals_in c.grow.new.lists.entries ≡ arrivals_in c.self.inside.lists.entries = same_arrivals c.in_ok-grow.ensures.settled c.in_ok-grow.ensures.newest in (
+      within_pushed c.self.inside.mark c.self.inside.lists.entries.settled c.grow.new.lists.entries.settled c.self.inside.lists.waiting.items c.grow.new.lists.waiting.items [] i.0 c.in_ok-grow.ensures.settled
           (c.in_ok-grow.ensures.waiting ∙ sym (append-nil c.self.inside.lists.waiting.items)),
       c.in_ok-grow.ensures.room,
-      subst (λ es. IsPlaced c.max-at.result (awaited c.self.inside.awaits) c.self.inside.replies c.self.inside.place c.self.inside.mark es) (sym entries)
-          (placed_later _ _ _ _ _ _ c.self.inside.lists.entries.items (search rules) i.2),
+      (
+        subst (IsUpTo c.max-at.result) (sym entries) (upto_later _ _ _ (search rules) i.2.0),
+        subst (IsUnknown c.max-at.result (awaited c.self.inside.awaits) c.self.inside.replies) (sym c.in_ok-grow.ensures.settled) (unknown_later _ _ _ _ _ (search rules) i.2.1),
+      ),
     )
 
 pub returns-clause-kept : goal.returns-clause-kept

@@ -32,6 +32,6 @@ returns-clause-led g c word t led = led_step word t _ _ _ _ _ led (returns-claus
 
 pub returns-clause-before : goal.returns-clause-before
 returns-clause-before g c =
-    before_ended c.self.inside.mark c.self.inside.lists.entries.items c.self.inside.lists.sendings.items c.end_all.new.sendings.items c.self.inside.lists.waiting.items
+    before_ended c.self.inside.mark c.self.inside.lists.entries.settled c.self.inside.lists.sendings.items c.end_all.new.sendings.items c.self.inside.lists.waiting.items
     (ap open_before c.end_all.ensures.items ∙ ended_before c.args.to c.args.id.0 c.self.inside.lists.sendings.items)
     ∙ ap (λ s. s.before) c.self.view_is

@@ -1,15 +1,19 @@
 use Rattle.std.proofs.Common.{rules, ap, sym, ◌∙◌, ◌++◌, ℕ, filter, subst, refl, max, false, [], ◌≡◌}
+use Rattle.std.proofs.lemmas.List.{append-nil}
 use Rattle.std.specs.List.{filter_map}
 use Rattle.std.specs.Option.{option_to_list}
-use Rattle.coap_layer.specs.Machine.Entries.{arrivals_in}
-use Rattle.coap_layer.specs.Machine.Parts.{held}
+use Rattle.coap_layer.specs.Machine.Entries.{IsUpTo, arrivals_in}
+use Rattle.coap_layer.specs.Machine.Parts.{awaited, held}
+use Rattle.coap_layer.specs.Machine.Sound.{IsUnknown}
 use Rattle.coap_layer.specs.Machine.Sendings.{answer_for, open_now}
 use Rattle.coap_layer.specs.Machine.State.{copies, State, is_live, tick_of}
 use Rattle.coap_layer.specs.Trace.{Ticks}
 use Rattle.coap_layer.specs.Words.{left_by}
 use Rattle.coap_layer.proofs.Calls.CallsAreSteps.{step_of, ticked_left}
 use Rattle.coap_layer.proofs.Machine.Forgetting.{led_step}
-use Rattle.coap_layer.proofs.Calls.TakenIn.{none_of}
+use Rattle.coap_layer.proofs.Calls.Remembered.{on_err, same_arrivals}
+use Rattle.coap_layer.proofs.Calls.Places.{within_pushed}
+use Rattle.coap_layer.proofs.Calls.TakenIn.{none_of, room_kept}
 use Rattle.coap_layer.proofs.layer.Layer.tick.Goals as goal
 
 pub returns-clause-step : goal.returns-clause-step
@@ -23,14 +27,17 @@ returns-clause-step g c =
       c.ticked.ensures,
       step_of h c.args.self.now.state _ c.args.now.0 at Ticks (answer_for due) out (ap (λ s. s.state) c.self.view_is) tt (search rules)
           (c.take_tick-mark.ensures.due ∙ ap (λ cs. tick_of at (open_now cs)) sendings) (sym c.in_ok-sent.ensures.copy)
-          (ticked_left h at due out (arrivals_in c.take_tick-mark.new.lists.entries.items) (open_now c.take_tick-mark.new.lists.sendings.items) c.take_tick-mark.new.lists.waiting.items (search rules)
-          (c.take_tick-mark.ensures.arrived ∙ ap (λ es. filter (is_live c.self.inside.clock) (arrivals_in es)) c.in_ok-grow.ensures.entries)
+          (ticked_left h at due out (arrivals_in c.take_tick-mark.new.lists.entries) (open_now c.take_tick-mark.new.lists.sendings.items) c.take_tick-mark.new.lists.waiting.items (search rules)
+          (c.take_tick-mark.ensures.arrived ∙ ap (filter (is_live c.self.inside.clock)) (same_arrivals c.in_ok-grow.ensures.settled c.in_ok-grow.ensures.newest))
           (c.take_tick-mark.ensures.open out ∙ ap (λ cs. filter_map (left_by (record { at = at; call = Ticks; answer = answer_for due; out = out })) (open_now cs)) sendings)
           (c.take_tick-mark.ensures.waiting ∙ ap (λ q. q ++ out) c.in_ok-grow.ensures.waiting)),
     )
 
 pub returns-clause-led : goal.returns-clause-led
 returns-clause-led g c _ word t led = led_step word t _ _ _ _ _ led ((returns-clause-step g c).2)
+
+pub take_tick-mark-requires-clause-up_to : goal.take_tick-mark-requires-clause-up_to
+take_tick-mark-requires-clause-up_to g c = subst (IsUpTo c.self.inside.clock) (sym (same_arrivals c.in_ok-grow.ensures.settled c.in_ok-grow.ensures.newest)) c.self.invariant.2.0
 
 pub take_tick-mark-requires-clause-place : goal.take_tick-mark-requires-clause-place
 take_tick-mark-requires-clause-place g c some = c.in_ok-grow.ensures.place (c.is_some.ensures ∙ some)
@@ -46,3 +53,40 @@ returns-in_err-grow-clause-quiet g c idle =
     let moment : c.max.result ≡ max c.self.inside.clock c.args.now.0 = search rules in
     let unsent : c.is_some.result ≡ false = c.is_some.ensures ∙ none_of c.in_ok-sent.sent (c.in_ok-sent.ensures.copy ∙ (ap (λ t. copies t cs) moment ∙ here)) in
     absurd (cc (c.in_err-grow.ensures.idle refl refl unsent))
+
+pub returns-in_err-sent-clause-quiet : goal.returns-in_err-sent-clause-quiet
+returns-in_err-sent-clause-quiet g c idle =
+    let cs = open_now c.self.inside.lists.sendings.items in
+    let here : copies (max c.self.inside.clock c.args.now.0) cs ≡ [] =
+    subst (λ (x : State). copies (max x.clock c.args.now.0) x.open_cons ≡ []) (sym (ap (λ s. s.state) c.self.view_is)) idle in
+    let moment : c.max.result ≡ max c.self.inside.clock c.args.now.0 = search rules in
+    absurd (cc (c.in_err-sent.ensures.idle (ap (λ t. copies t cs) moment ∙ here)))
+
+pub invariant_of-self : goal.invariant_of-self
+invariant_of-self g c =
+    let i = c.self.invariant in
+    let old = c.self.inside.lists in (
+      within_pushed c.self.inside.mark old.entries.settled c.grow.new.lists.entries.settled old.waiting.items c.grow.new.lists.waiting.items [] i.0 c.in_err-grow.ensures.settled
+          (c.in_err-grow.ensures.waiting ∙ sym (append-nil old.waiting.items)),
+      c.in_err-grow.ensures.room,
+      (
+        subst (IsUpTo c.self.inside.clock) (sym (same_arrivals c.in_err-grow.ensures.settled c.in_err-grow.ensures.newest)) i.2.0,
+        subst (IsUnknown c.self.inside.clock (awaited c.self.inside.awaits) c.self.inside.replies) (sym c.in_err-grow.ensures.settled) i.2.1,
+      ),
+    )
+
+pub returns-in_err-grow-clause-err : goal.returns-in_err-grow-clause-err
+returns-in_err-grow-clause-err g c =
+    let settled = c.in_err-grow.ensures.settled in
+    let newest = c.in_err-grow.ensures.newest in
+    let sendings = c.in_err-grow.ensures.sendings in
+    let waiting = c.in_err-grow.ensures.waiting in
+    let room = c.in_err-grow.ensures.err in
+    on_err _ (cc (settled, newest, sendings, waiting, room) ∙ c.self.view_is)
+
+pub invariant_of-self-2 : goal.invariant_of-self-2
+invariant_of-self-2 g c = (
+  c.take_tick-mark.ensures.within,
+  room_kept c.grow.new.room c.grow.new.lists c.take_tick-mark.new.lists c.in_ok-grow.ensures.room c.take_tick-mark.ensures.sendings_len c.take_tick-mark.ensures.sendings_capacity c.take_tick-mark.ensures.waiting_room,
+  c.take_tick-mark.ensures.kept,
+)

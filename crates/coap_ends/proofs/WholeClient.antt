@@ -1,0 +1,15 @@
+pub mod ClientLeading
+pub mod ClientExactly
+pub mod ClientWitness
+pub mod PlaceLemmas
+pub mod ExchangeCame
+pub mod PlaceEffects
+pub mod PlaceEvents
+pub mod ClientOnce
+pub mod UploadSteps
+pub mod ClientHolding
+pub mod ClientHolds
+pub mod ClientSends
+pub mod ClientPieces
+pub mod ClientResting
+pub mod ClientAnswered

@@ -1,0 +1,66 @@
+-- What a response says to a client (RFC 7252, sections 5.9 and 5.10; RFC 7641, section 3.2; RFC 7959, section 2.2).
+use Rattle.std.specs.Prelude.{ℕ, ◌/◌, ◌%◌, ◌==◌, ◌&&◌, Bool, Option, Some, None, is_some, List, [], length, map, if◌then◌else◌}
+use Rattle.coap_types.specs.CoapOption.{CoapOption}
+use Rattle.coap_types.specs.BlockValue.{block_in}
+use Rattle.coap_types.specs.Recognised.{recognised}
+use Rattle.coap_types.specs.Uint.{number_of}
+use Rattle.coap_types.specs.declared.direction.Direction.TheVariants as direction
+use Rattle.coap_types.specs.declared.message.TheConstants.Code as codes
+use Rattle.coap_codec.specs.Message.{Message}
+use Rattle.coap_types.specs.declared.block.Block.{Block}
+use Rattle.coap_block.specs.declared.fetch_step.FetchRefusal.TheVariants as refusal
+use Rattle.coap_block.specs.declared.fetch_verdict.Verdict.{Verdict}
+use Rattle.coap_block.specs.declared.fetch_verdict.Verdict.TheVariants.{Refuse}
+use Rattle.coap_block.specs.FetchStep.{FetchState, verdict}
+use Rattle.coap_types.specs.OptionValues.{value_of}
+use Rattle.coap_resource.specs.RequestOptions.{format_of}
+use Rattle.coap_types.specs.declared.option_number.TheConstants.{ETAG as etag, OBSERVE as observe, BLOCK2 as block2}
+
+-- the codes (RFC 7252, section 5.9; RFC 7959, section 2.9.1)
+
+abbrev pub created : ℕ
+created = codes.CREATED.0
+
+abbrev pub deleted : ℕ
+deleted = codes.DELETED.0
+
+abbrev pub valid : ℕ
+valid = codes.VALID.0
+
+abbrev pub changed : ℕ
+changed = codes.CHANGED.0
+
+abbrev pub content : ℕ
+content = codes.CONTENT.0
+
+abbrev pub continue : ℕ
+continue = codes.CONTINUE.0
+
+-- the options that are recognised, in order
+abbrev pub said : Message → List CoapOption
+said m = recognised direction.Response m.options
+
+abbrev pub tag_in : Message → Option (List ℕ)
+tag_in m = value_of etag (said m)
+
+abbrev pub format_in : Message → Option ℕ
+format_in m = format_of (said m)
+
+-- the sequence number of a notification: a 2.05 with Observe
+abbrev pub is_notification : Message → Bool
+is_notification m = (m.code == content) && is_some (value_of observe (said m))
+
+abbrev pub sequence_in : Message → ℕ
+sequence_in m = elim (value_of observe (said m)) [ None ↦ 0 | Some value ↦ number_of value ]
+
+-- the block that an option says, none at the reserved SZX 7
+abbrev pub block_at : ℕ → Message → Option Block
+block_at number m = elim (value_of number (said m)) [ None ↦ None | Some value ↦ block_in value ]
+
+-- What a 2.05 means to a Block2 transfer; one whose Block2 says no block is a bad part.
+abbrev pub part_by : FetchState → Option (List ℕ) → ℕ → Option (List ℕ) → Verdict
+part_by f tag len None = verdict f None tag len
+part_by f tag len (Some value) = elim (block_in value) [ None ↦ Refuse refusal.BadBlock | Some b ↦ verdict f (Some b) tag len ]
+
+abbrev pub part : FetchState → Message → Verdict
+part f m = part_by f (tag_in m) (length m.payload) (value_of block2 (said m))

@@ -1,0 +1,92 @@
+-- What a server sends beside Empty messages: responses to the requests that were handed up, and notifications (RFC 7252,
+-- sections 4.2 and 5.2; RFC 7641, sections 3.2 and 4.2; RFC 7959, section 2.9).
+use Rattle.std.specs.Prelude.{◌≡◌, ◌≢◌, ◌⊎◌, ℕ, true, false, Option, Some, None, List, ◌∷◌}
+use Rattle.coap_types.specs.Past.{Ever, Sometime, Always}
+use Rattle.coap_types.specs.declared.endpoint.Endpoint.{Endpoint}
+use Rattle.coap_types.specs.declared.message.Kind.{Kind}
+use Rattle.coap_codec.specs.Message.{Message, Spells}
+use Rattle.coap_codec.specs.Spelling.{message_bytes}
+use Rattle.coap_layer.specs.Sends.{IsIn}
+use Rattle.coap_layer.specs.Trace as L
+use Rattle.coap_layer.specs.Trace.{with_head}
+use Rattle.coap_observe.specs.Observers.{Observer}
+use Rattle.coap_observe.specs.Versions.{sequence_number}
+use Rattle.coap_resource.specs.Content.{Held}
+use Rattle.coap_resource.specs.Serves.{bare, content_reply}
+use Rattle.coap_exchange.specs.declared.answerer.Asked.{Asked}
+use Rattle.coap_exchange.specs.AnswererTrace as E
+use Rattle.coap_exchange.specs.AnswererSteps.{content_with}
+use Rattle.coap_ends.specs.WholeServer.ServerTrace.{Call}
+use Rattle.coap_ends.specs.WholeServer.ServerResponses.{response_with}
+use Rattle.coap_ends.specs.WholeServer.ServerResponses as R
+use Rattle.coap_ends.specs.WholeServer.ServerChecks.{Verdict}
+use Rattle.coap_ends.specs.WholeServer.ServerUploads.{continue, continuing, last_block}
+use Rattle.coap_ends.specs.WholeServer.ServerLaw.{own_of, layer_of}
+use Rattle.coap_ends.specs.WholeServer.ServerFollows.{Serving, serving, hands, Took, takes_block, Comes}
+use Rattle.coap_ends.specs.WholeServer.ServerTells.{WasMade}
+
+-- The datagram carries this response there, with this token, whatever the type and the Message ID.
+pub record Carries (p : L.Packet) (to : Endpoint) (token : List ℕ) (r : E.Response) : Type 0 where
+  pub there : p.to ≡ to
+  pub kind : Kind
+  pub id : ℕ
+  pub bytes : p.bytes ≡ message_bytes (with_head kind id (content_with token r))
+  pub spells : Spells p.bytes (with_head kind id (content_with token r))
+
+-- neither a request nor a response: code 0.00
+abbrev pub IsEmpty : L.Packet → Type 0
+IsEmpty p = (m : Message) × Spells p.bytes m × (m.code ≡ 0)
+
+-- a notification shows what a path holds: 2.05 with its version as Observe, or 4.04 without Observe where it holds nothing
+abbrev pub NoticeOf : ℕ → Option Held → E.Response → Type 0
+NoticeOf szx None r = r ≡ response_with (bare 132 0) None None
+NoticeOf szx (Some held) r = r ≡ response_with (content_reply held false 0 szx) (Some (sequence_number held.version)) None
+
+module _ (limit szx : ℕ) where
+  -- what the store served here
+  pub record CarriesServed (past : List Call) (c : Call) (p : L.Packet) : Type 0 where
+    pub request : Serving
+    pub here : serving (own_of limit szx past) c ≡ Some request
+    pub carries : Carries p request.asked.from request.asked.token (response_with request.reply request.sequence (last_block request.question))
+
+  -- 2.31 to a block that was taken here
+  pub record CarriesContinue (past : List Call) (c : Call) (p : L.Packet) : Type 0 where
+    pub block : Took
+    pub taken : takes_block (own_of limit szx past) c ≡ Some block
+    pub more : block.part.more ≡ true
+    pub size : ℕ
+    pub carries : Carries p block.asked.from block.asked.token (continuing size (record { num = block.part.num; more = true; szx = block.part.szx }))
+
+  -- the refusal, without the store, of a request that was handed up here
+  pub record CarriesRefusal (word : ℕ) (past : List Call) (c : Call) (p : L.Packet) : Type 0 where
+    pub asked : Asked
+    pub verdict : Verdict
+    pub code : ℕ
+    pub comes : Comes limit szx word past c asked verdict
+    pub handed : hands c ≡ Some asked
+    pub unserved : serving (own_of limit szx past) c ≡ None
+    pub not_continue : code ≢ continue
+    pub carries : Carries p asked.from asked.token (R.bare code)
+
+  -- a notification to an observer, of what its path holds here
+  pub record CarriesNotice (past : List Call) (c : Call) (p : L.Packet) : Type 0 where
+    pub observer : Observer
+    pub made : WasMade limit szx past observer
+    pub response : E.Response
+    pub shows : NoticeOf observer.szx ((own_of limit szx past).store.holds observer.path) response
+    pub carries : Carries p observer.to observer.token response
+
+  abbrev pub CarriesResponse : ℕ → L.Packet → List Call → Call → Type 0
+  CarriesResponse word p past c = CarriesServed past c p ⊎ (CarriesContinue past c p ⊎ (CarriesRefusal word past c p ⊎ CarriesNotice past c p))
+
+  -- what the message layer sent in all these calls is Empty, or carries a response that was made in them
+  abbrev pub SentResponses : ℕ → List Call → Type 0
+  SentResponses word t = (p : L.Packet) → Ever (λ e. IsIn p e.out) (layer_of limit szx word t) → IsEmpty p ⊎ Sometime (CarriesResponse word p) t
+
+  -- Whatever is sent, at any time, is Empty, or carries a response that was made by then.
+  abbrev pub SendsResponses : ℕ → List Call → Type 0
+  SendsResponses word trace = Always (λ past c. SentResponses word (c ∷ past)) trace
+
+  -- The store never answers 2.31.
+  abbrev pub NoneContinues : List Call → Type 0
+  NoneContinues t = Always (λ past c. (x : Serving) → serving (own_of limit szx past) c ≡ Some x → x.reply.code ≢ continue) t
