@@ -139,7 +139,7 @@ abbrev pub is_waited_for : Endpoint → List Separate → Bool
 is_waited_for to xs = list_any (λ (x : Separate). same_endpoint x.to to) xs
 
 abbrev pub is_ready : ℕ → List Separate → Deferred → Bool
-is_ready at xs d = nat_le d.delay (at - d.at) && not (is_waited_for d.asked.from xs)
+is_ready at xs d = nat_le d.delay (at - d.at.0) && not (is_waited_for d.asked.from xs)
 
 abbrev pub first_ready : ℕ → List Separate → List Deferred → Option Deferred
 first_ready at xs [] = None
@@ -203,7 +203,7 @@ after s (Defers now a delay answer) =
     record s {
       clock = max s.clock now;
       pending = pending_unless answer s.pending;
-      deferred = deferred_with answer (record { asked = a; at = max s.clock now; delay = delay }) s.deferred;
+      deferred = deferred_with answer (record { asked = a; at = record { 0 = max s.clock now }; delay = delay }) s.deferred;
     }
 after s (Ticks now below room answer) =
     record s { clock = max s.clock now; pending = None; separate = separate_unless below s.separate; ended = failed_by below s.separate }

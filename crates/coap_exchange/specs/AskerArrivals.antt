@@ -4,6 +4,7 @@ use Rattle.std.specs.Option.{option_map}
 use Rattle.coap_types.specs.Recognised.{lacks_critical, carries}
 use Rattle.coap_types.specs.declared.direction.Direction.TheVariants.{Response}
 use Rattle.coap_types.specs.declared.endpoint.Endpoint.{Endpoint}
+use Rattle.coap_types.specs.declared.endpoint.Moment.{Moment}
 use Rattle.coap_types.specs.declared.option_number.TheConstants.{OBSERVE as option_observe}
 use Rattle.coap_types.specs.declared.transmission.TheConstants.{EXCHANGE_LIFETIME_MS as exchange_lifetime}
 use Rattle.coap_types.specs.SameEndpoint.{same_endpoint}
@@ -106,17 +107,17 @@ abbrev pub running_after : ℕ → Verdict → Option Exchange → Option Exchan
 running_after at AnswerCon running = None
 running_after at Answer running = None
 running_after at EndByReset running = None
-running_after at Await running = option_map (λ (x : Exchange). record x { acked = Some at }) running
+running_after at Await running = option_map (λ (x : Exchange). record x { acked = Some (record { 0 = at }) }) running
 running_after at _ running = running
 
 -- time passes (sections 4.2 and 5.2.2): the failure of the request, a retransmission, the end of the wait for a separate
 -- response, EXCHANGE_LIFETIME after the Empty acknowledgement (profile)
 
-abbrev pub has_waited : ℕ → Option ℕ → Bool
+abbrev pub has_waited : ℕ → Option Moment → Bool
 has_waited at None = false
-has_waited at (Some acked) = nat_le exchange_lifetime (at - acked)
+has_waited at (Some acked) = nat_le exchange_lifetime (at - acked.0)
 
-abbrev pub acked_in : Option Exchange → Option ℕ
+abbrev pub acked_in : Option Exchange → Option Moment
 acked_in None = None
 acked_in (Some x) = x.acked
 

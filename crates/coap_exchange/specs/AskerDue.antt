@@ -2,6 +2,7 @@
 use Rattle.std.specs.Prelude.{◌≡◌, ◌≤◌, ℕ, ◌-◌, ◌*◌, Option, Some, None, List, [], ◌∷◌, Ok, if◌then◌else◌}
 use Rattle.coap_types.specs.Past.{Always}
 use Rattle.coap_types.specs.declared.endpoint.Endpoint.{Endpoint}
+use Rattle.coap_types.specs.declared.endpoint.Moment.{Moment}
 use Rattle.coap_types.specs.declared.transmission.TheConstants.{EXCHANGE_LIFETIME_MS as exchange_lifetime, FAILURE_TIMEOUTS as failure_timeouts}
 use Rattle.coap_layer.specs.Trace as L
 use Rattle.coap_exchange.specs.declared.asker.Event.TheVariants as event
@@ -15,10 +16,10 @@ use Rattle.coap_exchange.specs.AskerFollows.{Begun, last_begun, moment}
 
 module _ (server : Endpoint) (word : ℕ) where
   -- when the request that was sent last was acknowledged by an Empty message
-  abbrev pub last_acked : List Call → Option ℕ
+  abbrev pub last_acked : List Call → Option Moment
   last_acked [] = None
   last_acked (Ask now r w below (Ok token) ∷ past) = None
-  last_acked (Receive now from bytes (L.Becomes (L.Acked id)) settled answer ∷ past) = if is_of_request (own_of server word past) from id then Some (moment server word past now) else last_acked past
+  last_acked (Receive now from bytes (L.Becomes (L.Acked id)) settled answer ∷ past) = if is_of_request (own_of server word past) from id then Some (record { 0 = moment server word past now }) else last_acked past
   last_acked (c ∷ past) = last_acked past
 
   -- At the first tick FAILURE_TIMEOUTS initial timeouts after its request was sent, the exchange that runs ends, where no Empty
@@ -34,8 +35,8 @@ module _ (server : Endpoint) (word : ℕ) where
         (now : ℕ) (below : _) (answer : Turn) (x : Exchange) → c ≡ Ticks now below answer → (own_of server word past).running ≡ Some x → x.acked ≡ None
         → FailsWhenDue past now answer
     pub heard :
-        (now : ℕ) (below : _) (answer : Turn) (x : Exchange) (acked : ℕ) → c ≡ Ticks now below answer → (own_of server word past).running ≡ Some x → x.acked ≡ Some acked
-        → exchange_lifetime ≤ moment server word past now - acked → answer ≡ turn.End event.NoResponse
+        (now : ℕ) (below : _) (answer : Turn) (x : Exchange) (acked : Moment) → c ≡ Ticks now below answer → (own_of server word past).running ≡ Some x → x.acked ≡ Some acked
+        → exchange_lifetime ≤ moment server word past now - acked.0 → answer ≡ turn.End event.NoResponse
     pub acked : (x : Exchange) → (own_of server word past).running ≡ Some x → x.acked ≡ last_acked past
 
   abbrev pub EndWhenDue : List Call → Type 0

@@ -2,6 +2,7 @@
 use Rattle.std.specs.Prelude.{◌≡◌, ◌↔◌, ◌≤◌, ◌<◌, ℕ, ◌+◌, ◌-◌, ◌*◌, ◌%◌, ◌^◌, max, Bool, true, false, IsTrue, Option, Some, None, List, [], ◌∷◌, length, Ok, Err}
 use Rattle.coap_types.specs.Past.{Ever, Always, Since}
 use Rattle.coap_types.specs.declared.endpoint.Endpoint.{Endpoint}
+use Rattle.coap_types.specs.declared.endpoint.Moment.{Moment}
 use Rattle.coap_types.specs.declared.transmission.TheConstants.{ACK_TIMEOUT_MS as ack_timeout, EXCHANGE_LIFETIME_MS as exchange_lifetime, FAILURE_TIMEOUTS as failure_timeouts, TIMEOUT_VALUES as timeout_values}
 use Rattle.coap_types.specs.SameEndpoint.{same_endpoint}
 use Rattle.coap_codec.specs.Message.{Message, Spells}
@@ -140,9 +141,9 @@ module _ (server : Endpoint) (word : ℕ) where
   pub record GivesUp (past : List Call) (now : ℕ) : Type 0 where
     pub exchange : Exchange
     pub runs : (own_of server word past).running ≡ Some exchange
-    pub acked : ℕ
+    pub acked : Moment
     pub since : exchange.acked ≡ Some acked
-    pub late : exchange_lifetime ≤ moment past now - acked
+    pub late : exchange_lifetime ≤ moment past now - acked.0
 
   pub record InTime (past : List Call) (c : Call) : Type 0 where
     pub timeout : (now : ℕ) (below : _) → c ≡ Ticks now below (turn.End event.Timeout) → TimesOut past now

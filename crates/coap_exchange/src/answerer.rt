@@ -256,7 +256,7 @@ impl<A: Allocator + Copy, S: BuildHasher> Answerer<A, S> {
         self.layer.pass(now);
         let deferred = self.deferred.push(Deferred {
             asked: asked.copy(),
-            at: self.layer.clock().0,
+            at: self.layer.clock(),
             delay: delay_ms,
         });
         if deferred {

@@ -71,7 +71,7 @@ pub struct Exchange {
     /// The Message ID of its request.
     pub id: Id,
     /// The moment of the Empty acknowledgement of its request, if one came.
-    pub acked: Option<u64>,
+    pub acked: Option<Moment>,
     /// It cancels an observation (RFC 7641, section 3.6).
     pub cancel: bool,
 }

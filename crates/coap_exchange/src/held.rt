@@ -120,7 +120,7 @@ pub(crate) fn after_arrival(
         Verdict::Await => {
             let exchange = running?;
             Some(Exchange {
-                acked: Some(at.0),
+                acked: Some(at),
                 ..exchange
             })
         }
@@ -142,7 +142,7 @@ pub(crate) fn has_waited(at: Moment, running: &Option<Exchange>) -> bool
                 acked: Some(acked),
                 ..
             },
-        ) => at.0.saturating_sub(*acked) >= EXCHANGE_LIFETIME_MS,
+        ) => at.0.saturating_sub(acked.0) >= EXCHANGE_LIFETIME_MS,
         _ => false,
     }
 }

@@ -13,8 +13,8 @@ use coap_types::{Endpoint, Id, Kind, Moment, Token};
 pub struct Deferred {
     /// The request.
     pub asked: Asked,
-    /// The moment of its deferral, in milliseconds.
-    pub at: u64,
+    /// The moment of its deferral.
+    pub at: Moment,
     /// By how many milliseconds it is deferred.
     pub delay: u64,
 }
@@ -44,7 +44,7 @@ impl Default for Deferred {
                 id: Id(0),
                 token: Token::empty(),
             },
-            at: 0,
+            at: Moment(0),
             delay: 0,
         }
     }
@@ -119,6 +119,6 @@ pub(crate) fn take_off(list: &mut [Listed<Separate>], to: Endpoint, id: Id)
 pub(crate) fn is_ready(deferred: &Deferred, at: Moment, separate: &[Listed<Separate>]) -> bool
     ensures { result ≡ is_ready at.0 (listed separate.now) deferred.now }
 {
-    at.0.saturating_sub(deferred.at) >= deferred.delay
+    at.0.saturating_sub(deferred.at.0) >= deferred.delay
         && !is_waited_for(separate, deferred.asked.from)
 }

@@ -1,6 +1,7 @@
 -- What a client waits for where a tick does nothing.
 use Rattle.std.proofs.Common.{◌≡◌, ◌≤◌, ◌<◌, ◌⊎◌, inl, inr, ℕ, ◌-◌, ◌*◌, max, Bool, true, false, cond, not, ◌&&◌, ◌||◌, Option, Some, None, List, [], ◌∷◌, ◌++◌, refl, ap, sym, subst, ◌∙◌, arith, Result, Ok, Err}
 use Rattle.coap_types.specs.declared.endpoint.Endpoint.{Endpoint}
+use Rattle.coap_types.specs.declared.endpoint.Moment.{Moment}
 use Rattle.coap_layer.specs.Trace as L
 use Rattle.coap_exchange.specs.declared.asker.AskRefusal.{AskRefusal}
 use Rattle.coap_exchange.specs.declared.asker.Event.TheVariants as event_of
@@ -198,7 +199,7 @@ module _ (server : Endpoint) (szx word : ℕ) where
     moment_is : A.moment server word (lower_of szx t) at_m ≡ at_m
     moment_is = let a = clocks t in omega (arith, a)
 
-    not_due : (x : Exchange) → (beneath server szx word t).running ≡ Some x → (acked : Option ℕ) → x.acked ≡ acked → IsNotDue server szx word (c ∷ t) (own_of szx (c ∷ t)).clock
+    not_due : (x : Exchange) → (beneath server szx word t).running ≡ Some x → (acked : Option Moment) → x.acked ≡ acked → IsNotDue server szx word (c ∷ t) (own_of szx (c ∷ t)).clock
     not_due x runs None none =
         let f = due_now.0.unheard at_m below turn x refl runs none in
         let late : f.begun.timeout * failure_timeouts ≤ at_m - f.begun.at → ⊥ = λ h. idle_ends turn event_of.Timeout r.idle_is (f.ends (subst (λ i. f.begun.timeout * failure_timeouts ≤ i - f.begun.at) (sym moment_is) h)) in
@@ -209,12 +210,12 @@ module _ (server : Endpoint) (szx word : ℕ) where
           not_due = inl (none, (f.begun, last_is ∙ f.last, subst (λ i. i - f.begun.at < f.begun.timeout * failure_timeouts) (sym clock_is) soon));
         }
     not_due x runs (Some acked) heard =
-        let late : exchange_lifetime ≤ at_m - acked → ⊥ = λ h. idle_ends turn event_of.NoResponse r.idle_is (due_now.0.heard at_m below turn x acked refl runs heard (subst (λ i. exchange_lifetime ≤ i - acked) (sym moment_is) h)) in
-        let soon : at_m - acked < exchange_lifetime = lt_of (at_m - acked) exchange_lifetime late in
+        let late : exchange_lifetime ≤ at_m - acked.0 → ⊥ = λ h. idle_ends turn event_of.NoResponse r.idle_is (due_now.0.heard at_m below turn x acked refl runs heard (subst (λ i. exchange_lifetime ≤ i - acked.0) (sym moment_is) h)) in
+        let soon : at_m - acked.0 < exchange_lifetime = lt_of (at_m - acked.0) exchange_lifetime late in
         record {
           exchange = x;
           running = exchange_is ∙ runs;
-          not_due = inr (acked, heard, subst (λ i. i - acked < exchange_lifetime) (sym clock_is) soon);
+          not_due = inr (acked, heard, subst (λ i. i - acked.0 < exchange_lifetime) (sym clock_is) soon);
         }
 
     held_same : is_held (own_of szx (c ∷ t)) (own_of szx (c ∷ t)).clock ≡ is_held (at now (own_of szx t)) at_m

@@ -104,7 +104,7 @@ Came before now (Some event.Reset) = (x : Exchange) × (before ≡ Some x) × (n
 Came before now (Some event.Timeout) = ⊥
 Came before now (Some event.NoResponse) = ⊥
 
-acked_token : (running : Option Exchange) (at : ℕ) → token_in (option_map (λ (x : Exchange). record x { acked = Some at }) running) ≡ token_in running
+acked_token : (running : Option Exchange) (at : ℕ) → token_in (option_map (λ (x : Exchange). record x { acked = Some (record { 0 = at }) }) running) ≡ token_in running
 acked_token None at = refl
 acked_token (Some x) at = refl
 

@@ -10,7 +10,7 @@ use Rattle.coap_ends.specs.ServerLaw.{own_of, lower_of}
 use Rattle.coap_ends.specs.Follows.ServerFollows.{Serving, serving}
 
 abbrev pub deferred_as : Waiting → Deferred
-deferred_as w = record { asked = w.asked; at = w.at; delay = w.delay }
+deferred_as w = record { asked = w.asked; at = record { 0 = w.at }; delay = w.delay }
 
 -- the request that the exchanges say is ready
 abbrev pub ready_in : Call → Option Asked

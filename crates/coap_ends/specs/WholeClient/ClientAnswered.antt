@@ -2,6 +2,7 @@
 use Rattle.std.specs.Prelude.{◌≡◌, ◌<◌, ◌⊎◌, ℕ, ◌-◌, ◌*◌, true, false, Option, Some, None, List, [], ◌∷◌}
 use Rattle.coap_types.specs.Past.{Sometime, Always}
 use Rattle.coap_types.specs.declared.endpoint.Endpoint.{Endpoint}
+use Rattle.coap_types.specs.declared.endpoint.Moment.{Moment}
 use Rattle.coap_types.specs.declared.transmission.TheConstants.{EXCHANGE_LIFETIME_MS as exchange_lifetime, FAILURE_TIMEOUTS as failure_timeouts}
 use Rattle.coap_exchange.specs.declared.asker.Exchange.{Exchange}
 use Rattle.coap_exchange.specs.AskerFollows.{Begun}
@@ -33,7 +34,7 @@ module _ (server : Endpoint) (szx word : ℕ) where
     pub running : (X.own_of server word (lower_of szx t)).running ≡ Some exchange
     pub not_due :
         ((exchange.acked ≡ None) × ((begun : Begun) × (A.last_begun server word (lower_of szx t) ≡ Some begun) × (at - begun.at < begun.timeout * failure_timeouts)))
-        ⊎ ((acked : ℕ) × (exchange.acked ≡ Some acked) × (at - acked < exchange_lifetime))
+        ⊎ ((acked : Moment) × (exchange.acked ≡ Some acked) × (at - acked.0 < exchange_lifetime))
 
   -- the first of what waits is an upload that is held back
   pub record IsHeld (s : Own) : Type 0 where

@@ -17,7 +17,7 @@ use Rattle.coap_exchange.proofs.Calls.ServerTicks.{due_ready}
 -- deferred when there were n calls at most
 
 abbrev NoLater : ℕ → List Call → Deferred → Type 0
-NoLater n t d = Sometime (λ old c. DefersAs d old c × (length old ≤ n)) t × (d.at ≤ (own_of t).clock)
+NoLater n t d = Sometime (λ old c. DefersAs d old c × (length old ≤ n)) t × (d.at.0 ≤ (own_of t).clock)
 
 in_all : (d : Deferred) (n : ℕ) (t : List Call) → length t ≤ n → Sometime (DefersAs d) t → Sometime (λ old c. DefersAs d old c × (length old ≤ n)) t
 in_all d n [] le h = h
@@ -31,24 +31,24 @@ module _ (n : ℕ) (a : Asked) (at : ℕ) where
   -- it is kept, and so are those before it
   abbrev Has : List Call → List Deferred → Type 0
   Has t [] = ⊥
-  Has t (d ∷ ds) = NoLater n t d × (((d.asked ≡ a) × (d.at + d.delay ≤ at)) ⊎ Has t ds)
+  Has t (d ∷ ds) = NoLater n t d × (((d.asked ≡ a) × (d.at.0 + d.delay ≤ at)) ⊎ Has t ds)
 
   has_later : (c : Call) (t : List Call) → (own_of t).clock ≤ (own_of (c ∷ t)).clock → (ds : List Deferred) → Has t ds → Has (c ∷ t) ds
   has_later c t later [] h = h
-  has_later c t later (d ∷ ds) h = (no_later_then n c t d later h.0, elim h.1 as (λ u. ((d.asked ≡ a) × (d.at + d.delay ≤ at)) ⊎ Has (c ∷ t) ds) [ inl p ↦ inl p | inr q ↦ inr (has_later c t later ds q) ])
+  has_later c t later (d ∷ ds) h = (no_later_then n c t d later h.0, elim h.1 as (λ u. ((d.asked ≡ a) × (d.at.0 + d.delay ≤ at)) ⊎ Has (c ∷ t) ds) [ inl p ↦ inl p | inr q ↦ inr (has_later c t later ds q) ])
 
   has_before : (t : List Call) (ds : List Deferred) (d : Deferred) → Has t ds → Has t (ds ++ d ∷ [])
   has_before t [] d h = absurd h
-  has_before t (e ∷ ds) d h = (h.0, elim h.1 as (λ u. ((e.asked ≡ a) × (e.at + e.delay ≤ at)) ⊎ Has t (ds ++ d ∷ [])) [ inl p ↦ inl p | inr q ↦ inr (has_before t ds d q) ])
+  has_before t (e ∷ ds) d h = (h.0, elim h.1 as (λ u. ((e.asked ≡ a) × (e.at.0 + e.delay ≤ at)) ⊎ Has t (ds ++ d ∷ [])) [ inl p ↦ inl p | inr q ↦ inr (has_before t ds d q) ])
 
-  has_last : (c : Call) (t : List Call) → length t ≤ n → (own_of t).clock ≤ (own_of (c ∷ t)).clock → (ds : List Deferred) (d : Deferred) → AllStand t ds → NoLater n (c ∷ t) d → d.asked ≡ a → d.at + d.delay ≤ at → Has (c ∷ t) (ds ++ d ∷ [])
+  has_last : (c : Call) (t : List Call) → length t ≤ n → (own_of t).clock ≤ (own_of (c ∷ t)).clock → (ds : List Deferred) (d : Deferred) → AllStand t ds → NoLater n (c ∷ t) d → d.asked ≡ a → d.at.0 + d.delay ≤ at → Has (c ∷ t) (ds ++ d ∷ [])
   has_last c t le later [] d s k e h = (k, inl (e, h))
   has_last c t le later (x ∷ ds) d s k e h = (no_later_then n c t x later (in_all x n t le s.0.0, s.0.1), inr (has_last c t le later ds d s.1 k e h))
 
   module _ (t : List Call) (moment_is : ℕ) (xs : List Separate) (b : Asked) (other : Some b ≢ Some a) where
     has_by : (d : Deferred) (ds : List Deferred) (w : Bool) → option_map (λ (e : Deferred). e.asked) (cond w (Some d) (first_ready moment_is xs ds)) ≡ Some b
         → (option_map (λ (e : Deferred). e.asked) (first_ready moment_is xs ds) ≡ Some b → Has t ds → Has t (without_ready moment_is xs ds)) → NoLater n t d
-        → ((d.asked ≡ a) × (d.at + d.delay ≤ at)) ⊎ Has t ds → Has t (cond w ds (d ∷ without_ready moment_is xs ds))
+        → ((d.asked ≡ a) × (d.at.0 + d.delay ≤ at)) ⊎ Has t ds → Has t (cond w ds (d ∷ without_ready moment_is xs ds))
     has_by d ds true is ih k (inl h) = absurd (other (sym is ∙ ap (λ x. Some x) h.0))
     has_by d ds true is ih k (inr h) = h
     has_by d ds false is ih k (inl h) = (k, inl h)
@@ -71,13 +71,13 @@ module _ (n : ℕ) (a : Asked) (at : ℕ) where
       let now_is : now ≡ h.0.now = cc h.0.defers in
       let long : delay ≡ h.0.delay = cc h.0.defers in
       let place = h.1 in
-      has_last (Defers now b delay true) t (omega (arith, place)) (later_clock (own_of t).clock now) (own_of t).deferred (record { asked = b; at = moment t now; delay = delay }) stand
+      has_last (Defers now b delay true) t (omega (arith, place)) (later_clock (own_of t).clock now) (own_of t).deferred (record { asked = b; at = record { 0 = moment t now }; delay = delay }) stand
       (inl (record { now = now; defers = refl; at = refl }, omega (arith, place)), omega (arith)) same (until h.0.now h.0.delay now_is long h.0.passed)
     where
       until : (m k : ℕ) → now ≡ m → delay ≡ k → moment t m + k ≤ at → moment t now + delay ≤ at
       until m k p q h = subst (λ z. moment t now + z ≤ at) (sym q) (subst (λ z. moment t z + k ≤ at) (sym p) h)
   defers_due now b delay t stand ih (inr h) =
-      has_before (Defers now b delay true ∷ t) (own_of t).deferred (record { asked = b; at = moment t now; delay = delay }) (has_later (Defers now b delay true) t (later_clock (own_of t).clock now) (own_of t).deferred (ih h.1))
+      has_before (Defers now b delay true ∷ t) (own_of t).deferred (record { asked = b; at = record { 0 = moment t now }; delay = delay }) (has_later (Defers now b delay true) t (later_clock (own_of t).clock now) (own_of t).deferred (ih h.1))
 
   responds_due : (now : ℕ) (b : Asked) (r : _) (word id : ℕ) (t : List Call) → IsRight (own_of t) (Responds now b r word id) → Keeps t → Keeps (Responds now b r word id ∷ t)
   responds_due now b r word id t right ih (inl h) = absurd (cc h.0.defers)
@@ -104,11 +104,11 @@ module _ (n : ℕ) (a : Asked) (at : ℕ) where
     early : (d : Deferred) → NoLater n t d → is_ready at xs d ≡ true → Early d.asked
     early d k h =
         let since = k.1 in
-        let passed = passed_by t at xs d.delay d.at (not (is_waited_for d.asked.from xs)) (omega (arith, since, clock)) h in
+        let passed = passed_by t at xs d.delay d.at.0 (not (is_waited_for d.asked.from xs)) (omega (arith, since, clock)) h in
         Sometime_map (λ old c. DefersAs d old c × (length old ≤ n)) (λ old c. DefersUntil d.asked at old c × (length old ≤ n))
         (λ past c k. (record { now = k.0.now; delay = d.delay; defers = k.0.defers; passed = subst (λ m. m + d.delay ≤ at) k.0.at passed }, k.1)) t k.0
 
-    first_by : (d : Deferred) (ds : List Deferred) (w : Bool) → is_ready at xs d ≡ w → NoLater n t d → ((d.asked ≡ a) × (d.at + d.delay ≤ at)) ⊎ Has t ds
+    first_by : (d : Deferred) (ds : List Deferred) (w : Bool) → is_ready at xs d ≡ w → NoLater n t d → ((d.asked ≡ a) × (d.at.0 + d.delay ≤ at)) ⊎ Has t ds
         → (Has t ds → option_map (λ (e : Deferred). e.asked) (first_ready at xs ds) ≡ Some b → Early b) → option_map (λ (e : Deferred). e.asked) (cond w (Some d) (first_ready at xs ds)) ≡ Some b → Early b
     first_by d ds true is k h ih e = let same : d.asked ≡ b = cc e in subst Early same (early d k is)
     first_by d ds false is k (inl h) ih e = let r = ready_now a at xs free d h.0 h.1 in absurd (cc (r, is))

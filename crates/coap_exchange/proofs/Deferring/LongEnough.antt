@@ -22,10 +22,10 @@ use Rattle.std.proofs.lemmas.Bool.{and_parts}
 pub record DefersAs (d : Deferred) (past : List Call) (c : Call) : Type 0 where
   pub now : ℕ
   pub defers : c ≡ Defers now d.asked d.delay true
-  pub at : d.at ≡ moment past now
+  pub at : d.at.0 ≡ moment past now
 
 abbrev pub Stands : List Call → Deferred → Type 0
-Stands t d = Sometime (DefersAs d) t × (d.at ≤ (own_of t).clock)
+Stands t d = Sometime (DefersAs d) t × (d.at.0 ≤ (own_of t).clock)
 
 abbrev pub AllStand : List Call → List Deferred → Type 0
 AllStand t [] = Unit {0}
@@ -54,7 +54,7 @@ module _ (t : List Call) (at : ℕ) (xs : List Separate) where
   deferred_until : (d : Deferred) → (own_of t).clock ≤ at → Stands t d → is_ready at xs d ≡ true → Sometime (DefersUntil d.asked at) t
   deferred_until d clock s h =
       let since = s.1 in
-      let passed = passed_by d.delay d.at (not (is_waited_for d.asked.from xs)) (omega (arith, since, clock)) h in
+      let passed = passed_by d.delay d.at.0 (not (is_waited_for d.asked.from xs)) (omega (arith, since, clock)) h in
       Sometime_map (DefersAs d) (DefersUntil d.asked at) (λ past c k. record { now = k.now; delay = d.delay; defers = k.defers; passed = subst (λ n. n + d.delay ≤ at) k.at passed }) t s.0
 
   ready_by : (a : Asked) (d : Deferred) (ds : List Deferred) (w : Bool) → is_ready at xs d ≡ w → (own_of t).clock ≤ at → Stands t d
@@ -71,7 +71,7 @@ module _ (t : List Call) (at : ℕ) (xs : List Separate) where
 
 abbrev Has : Asked → ℕ → List Deferred → Type 0
 Has a at [] = ⊥
-Has a at (d ∷ ds) = ((d.asked ≡ a) × (d.at + d.delay ≤ at)) ⊎ Has a at ds
+Has a at (d ∷ ds) = ((d.asked ≡ a) × (d.at.0 + d.delay ≤ at)) ⊎ Has a at ds
 
 module _ (a : Asked) (at : ℕ) where
   has_before : (ds : List Deferred) (d : Deferred) → Has a at ds → Has a at (ds ++ d ∷ [])
@@ -79,7 +79,7 @@ module _ (a : Asked) (at : ℕ) where
   has_before (e ∷ ds) d (inl h) = inl h
   has_before (e ∷ ds) d (inr h) = inr (has_before ds d h)
 
-  has_last : (ds : List Deferred) (d : Deferred) → d.asked ≡ a → d.at + d.delay ≤ at → Has a at (ds ++ d ∷ [])
+  has_last : (ds : List Deferred) (d : Deferred) → d.asked ≡ a → d.at.0 + d.delay ≤ at → Has a at (ds ++ d ∷ [])
   has_last [] d e h = inl (e, h)
   has_last (x ∷ ds) d e h = inr (has_last ds d e h)
 
@@ -104,11 +104,11 @@ module _ (a : Asked) (at : ℕ) where
       let same : b ≡ a = cc h.defers in
       let then_is : now ≡ h.now = cc h.defers in
       let long : delay ≡ h.delay = cc h.defers in
-      has_last (own_of t).deferred (record { asked = b; at = moment t now; delay = delay }) same (until h.now h.delay then_is long h.passed)
+      has_last (own_of t).deferred (record { asked = b; at = record { 0 = moment t now }; delay = delay }) same (until h.now h.delay then_is long h.passed)
     where
       until : (n k : ℕ) → now ≡ n → delay ≡ k → moment t n + k ≤ at → moment t now + delay ≤ at
       until n k p q h = subst (λ z. moment t now + z ≤ at) (sym q) (subst (λ z. moment t z + k ≤ at) (sym p) h)
-  defers_due now b delay t ih (inr h) = has_before (own_of t).deferred (record { asked = b; at = moment t now; delay = delay }) (ih h.1)
+  defers_due now b delay t ih (inr h) = has_before (own_of t).deferred (record { asked = b; at = record { 0 = moment t now }; delay = delay }) (ih h.1)
 
   responds_due : (now : ℕ) (b : Asked) (r : _) (word id : ℕ) (t : List Call) → IsRight (own_of t) (Responds now b r word id) → (IsDue a at t → Has a at (own_of t).deferred) → IsDue a at (Responds now b r word id ∷ t)
       → Has a at (own_of (Responds now b r word id ∷ t)).deferred
@@ -129,9 +129,9 @@ module _ (a : Asked) (at : ℕ) where
 
   -- .. and one is ready
   module _ (xs : List Separate) (free : is_waited_for a.from xs ≡ false) where
-    pub ready_now : (d : Deferred) → d.asked ≡ a → d.at + d.delay ≤ at → is_ready at xs d ≡ true
+    pub ready_now : (d : Deferred) → d.asked ≡ a → d.at.0 + d.delay ≤ at → is_ready at xs d ≡ true
     ready_now d same passed =
-        let le = le-leb d.delay (at - d.at) (omega (arith, passed)) in
+        let le = le-leb d.delay (at - d.at.0) (omega (arith, passed)) in
         let idle : is_waited_for d.asked.from xs ≡ false = subst (λ (x : Asked). is_waited_for x.from xs ≡ false) (sym same) free in
         cc (le, idle)
 

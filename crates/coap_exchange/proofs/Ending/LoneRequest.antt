@@ -3,6 +3,7 @@ use Rattle.std.proofs.Common.{◌≡◌, ◌⊎◌, inl, inr, ◌≤◌, ℕ, �
 use Rattle.std.specs.List.{filter_map, cons_option}
 use Rattle.std.specs.Cmp.{unsigned_Decides}
 use Rattle.coap_types.specs.declared.endpoint.Endpoint.{Endpoint}
+use Rattle.coap_types.specs.declared.endpoint.Moment.{Moment}
 use Rattle.coap_types.specs.declared.transmission.TheConstants.{FAILURE_TIMEOUTS as failure_timeouts}
 use Rattle.coap_types.specs.SameEndpoint.{same_endpoint}
 use Rattle.coap_types.proofs.Facts.Endpoints.{same_endpoint_is, same_endpoint_self}
@@ -31,7 +32,7 @@ pub record IsSent (server : Endpoint) (x : Exchange) (b : Option Begun) (cs : Li
 -- it was acknowledged
 pub record IsHeard (x : Exchange) (cs : List Open) : Type 0 where
   pub none : cs ≡ []
-  pub at : ℕ
+  pub at : Moment
   pub since : x.acked ≡ Some at
 
 abbrev pub Lone : Endpoint → Option Exchange → Option Begun → List Open → Type 0

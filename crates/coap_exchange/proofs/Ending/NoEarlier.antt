@@ -1,6 +1,7 @@
 -- A Timeout and NoResponse come in time, over whole traces.
 use Rattle.std.proofs.Common.{◌≡◌, ◌≤◌, ℕ, ◌*◌, ◌-◌, max, Bool, true, Option, Some, None, List, [], ◌∷◌, ◌++◌, Result, refl, ap, sym, subst, ◌∙◌}
 use Rattle.coap_types.specs.declared.endpoint.Endpoint.{Endpoint}
+use Rattle.coap_types.specs.declared.endpoint.Moment.{Moment}
 use Rattle.coap_types.specs.declared.transmission.TheConstants.{EXCHANGE_LIFETIME_MS as exchange_lifetime, FAILURE_TIMEOUTS as failure_timeouts}
 use Rattle.coap_layer.specs.Machine.State as L
 use Rattle.coap_layer.specs.Machine.State.{out_of, tick_of}
@@ -115,7 +116,7 @@ module _ (server : Endpoint) (word : ℕ) where
       let has = failed s.server f.3.exchange (last_begun server word t) steps.0.open_cons (max steps.0.clock now) f.0 f.1 lone (sym f.2 ∙ steps.2.right) in
       record { begun = has.begun; last = has.last; late = subst (λ z. has.begun.timeout * failure_timeouts ≤ max z now - has.begun.at) old.clock has.late }
 
-  waited_at : (at : ℕ) (a : Option ℕ) → has_waited at a ≡ true → (acked : ℕ) × (a ≡ Some acked) × (exchange_lifetime ≤ at - acked)
+  waited_at : (at : ℕ) (a : Option Moment) → has_waited at a ≡ true → (acked : Moment) × (a ≡ Some acked) × (exchange_lifetime ≤ at - acked.0)
   waited_at at None h = absurd (cc h)
   waited_at at (Some acked) h = (acked, refl, leb-true _ _ h)
 

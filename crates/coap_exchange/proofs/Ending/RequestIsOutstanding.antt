@@ -164,7 +164,7 @@ module _ (s : Own) (b : Option Begun) (at now : ℕ) (from : Endpoint) (bytes : 
   left_by_verdict EndByReset is f = ap (λ u. opens_then now (T.Receive from bytes) u out cs) f.1 ∙ gone s b now from bytes out cs lone f.0 f.2
   left_by_verdict Await is f =
       let none : heard ≡ [] = ap (λ u. opens_then now (T.Receive from bytes) u out cs) f.1 ∙ gone s b now from bytes out cs lone f.0 f.2 in
-      subst (λ r. Lone s.server (running_after at Await r) b heard) (sym f.2.runs) (inr (record { none = none; at = at; since = refl }))
+      subst (λ r. Lone s.server (running_after at Await r) b heard) (sym f.2.runs) (inr (record { none = none; at = record { 0 = at }; since = refl }))
 
 -- time passes
 module _ (s : Own) (b : Option Begun) (at l_at : ℕ) (out : List T.Packet) (cs : List Open) (lone : Lone s.server s.running b cs) where

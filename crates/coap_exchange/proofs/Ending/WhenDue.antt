@@ -3,6 +3,7 @@ use Rattle.std.proofs.Common.{◌≡◌, ◌≢◌, inl, inr, ◌≤◌, ℕ, �
 use Rattle.std.specs.Option.{option_map}
 use Rattle.std.specs.Cmp.{unsigned_Decides}
 use Rattle.coap_types.specs.declared.endpoint.Endpoint.{Endpoint}
+use Rattle.coap_types.specs.declared.endpoint.Moment.{Moment}
 use Rattle.coap_types.specs.declared.transmission.TheConstants.{EXCHANGE_LIFETIME_MS as exchange_lifetime, FAILURE_TIMEOUTS as failure_timeouts}
 use Rattle.coap_types.proofs.Facts.Endpoints.{same_endpoint_self}
 use Rattle.coap_layer.specs.Machine.State as L
@@ -45,16 +46,19 @@ fails s x at c runs to_is id_is late =
     ap (λ b. turn_of s at (cond b (T.Expired c.to c.id) (cond (is_copy_due at c) (T.Copied c.to c.id) T.Idle))) late
     ∙ (ap (λ to. turn_of s at (T.Expired to c.id)) to_is ∙ (ap (λ id. turn_of s at (T.Expired s.server id)) id_is ∙ ap (λ b. cond b (turn.End event.Timeout) turn.Idle) (own_request s x runs)))
 
-gives_up : (s : Own) (x : Exchange) (at acked : ℕ) → s.running ≡ Some x → x.acked ≡ Some acked → exchange_lifetime ≤ at - acked → turn_of s at (tick_of at []) ≡ turn.End event.NoResponse
+abbrev as_moment : ℕ → Moment
+as_moment n = record { 0 = n }
+
+gives_up : (s : Own) (x : Exchange) (at : ℕ) (acked : Moment) → s.running ≡ Some x → x.acked ≡ Some acked → exchange_lifetime ≤ at - acked.0 → turn_of s at (tick_of at []) ≡ turn.End event.NoResponse
 gives_up s x at acked runs since late =
     ap (λ r. cond (has_waited at (acked_in r)) (turn.End event.NoResponse) turn.Idle) runs
-    ∙ (ap (λ a. cond (has_waited at a) (turn.End event.NoResponse) turn.Idle) since ∙ ap (λ b. cond b (turn.End event.NoResponse) turn.Idle) (le-leb exchange_lifetime (at - acked) late))
+    ∙ (ap (λ a. cond (has_waited at a) (turn.End event.NoResponse) turn.Idle) since ∙ ap (λ b. cond b (turn.End event.NoResponse) turn.Idle) (le-leb exchange_lifetime (at - acked.0) late))
 
 module _ (s : Own) (b : Option Begun) (at : ℕ) (cs : List Open) (x : Exchange) (runs : s.running ≡ Some x) (lone : Lone s.server s.running b cs) where
   here : Lone s.server (Some x) b cs
   here = subst (λ r. Lone s.server r b cs) runs lone
 
-  pub ends_heard : (acked : ℕ) → x.acked ≡ Some acked → exchange_lifetime ≤ at - acked → turn_of s at (tick_of at cs) ≡ turn.End event.NoResponse
+  pub ends_heard : (acked : Moment) → x.acked ≡ Some acked → exchange_lifetime ≤ at - acked.0 → turn_of s at (tick_of at cs) ≡ turn.End event.NoResponse
   ends_heard acked since late = elim here [
     | inl z ↦ absurd (cc (since, z.unheard))
     | inr z ↦ ap (λ ds. turn_of s at (tick_of at ds)) z.none ∙ gives_up s x at acked runs since late
@@ -89,12 +93,12 @@ module _ (server : Endpoint) (word : ℕ) where
         ap acked_in (sym e) ∙ sym (ap (λ a. last_acked server word (Ask now r w below a ∷ t)) is)
 
     module _ (now : ℕ) (from : Endpoint) (bytes : List ℕ) (settled : Bool) (answer : Option Event) where
-      abbrev then_acked : T.Answer → Option ℕ
+      abbrev then_acked : T.Answer → Option Moment
       then_acked up = last_acked server word (Receive now from bytes up settled answer ∷ t)
 
       other_acked : (id : ℕ) (b : Bool) → is_of_request s from id ≡ b → verdict_on s from (T.Becomes (T.Acked id)) ≢ Await → then_acked (T.Becomes (T.Acked id)) ≡ last_acked server word t
       other_acked id true is not_await = absurd (not_await (ap (λ b. cond b Await Ignore) is))
-      other_acked id false is not_await = ap (λ b. cond b (Some (moment server word t now)) (last_acked server word t)) is
+      other_acked id false is not_await = ap (λ b. cond b (Some (as_moment (moment server word t now))) (last_acked server word t)) is
 
       still_acked : (up : T.Answer) → verdict_on s from up ≢ Await → then_acked up ≡ last_acked server word t
       still_acked (T.Becomes (T.Acked id)) not_await = other_acked id (is_of_request s from id) refl not_await
@@ -114,11 +118,11 @@ module _ (server : Endpoint) (word : ℕ) where
       still_acked T.NoIds not_await = refl
       still_acked (T.Gives packet) not_await = refl
 
-      acked_now : (id : ℕ) (b : Bool) → is_of_request s from id ≡ b → verdict_on s from (T.Becomes (T.Acked id)) ≡ Await → then_acked (T.Becomes (T.Acked id)) ≡ Some (moment server word t now)
-      acked_now id true is await = ap (λ b. cond b (Some (moment server word t now)) (last_acked server word t)) is
+      acked_now : (id : ℕ) (b : Bool) → is_of_request s from id ≡ b → verdict_on s from (T.Becomes (T.Acked id)) ≡ Await → then_acked (T.Becomes (T.Acked id)) ≡ Some (as_moment (moment server word t now))
+      acked_now id true is await = ap (λ b. cond b (Some (as_moment (moment server word t now))) (last_acked server word t)) is
       acked_now id false is await = let e : verdict_on s from (T.Becomes (T.Acked id)) ≡ Ignore = ap (λ b. cond b Await Ignore) is in absurd (cc (e, await))
 
-      heard_at : (running : Option Exchange) (at : ℕ) (x : Exchange) → option_map (λ (y : Exchange). record y { acked = Some at }) running ≡ Some x → x.acked ≡ Some at
+      heard_at : (running : Option Exchange) (at : ℕ) (x : Exchange) → option_map (λ (y : Exchange). record y { acked = Some (as_moment at) }) running ≡ Some x → x.acked ≡ Some (as_moment at)
       heard_at None at x h = absurd (cc h)
       heard_at (Some y) at x h = ap acked_in (sym h)
 
@@ -171,7 +175,7 @@ module _ (server : Endpoint) (word : ℕ) where
         let z = unheard_is_sent own (last_begun server word t) (moment server word t now) steps.0.open_cons x runs old.lone none in
         record { begun = z.begun; last = z.last; ends = λ late. answer_is ∙ ends_unheard own (last_begun server word t) (moment server word t now) steps.0.open_cons x runs old.lone z late }
 
-    gives_up_when_due : (acked : ℕ) → own.running ≡ Some x → x.acked ≡ Some acked → exchange_lifetime ≤ moment server word t now - acked → answer ≡ turn.End event.NoResponse
+    gives_up_when_due : (acked : Moment) → own.running ≡ Some x → x.acked ≡ Some acked → exchange_lifetime ≤ moment server word t now - acked.0 → answer ≡ turn.End event.NoResponse
     gives_up_when_due acked runs heard late =
         let old = fits server word t law.1 steps.0 steps.1 in
         answer_is ∙ ends_heard own (last_begun server word t) (moment server word t now) steps.0.open_cons x runs old.lone acked heard late

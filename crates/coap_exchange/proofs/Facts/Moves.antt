@@ -105,7 +105,7 @@ module _ (s : Own) where
         stops a.exchange refl (ap (λ x. ends (arrival x)) is)
         (λ m h. let e : Some m ≡ Some a.message = sym h ∙ ap (λ x. answered (arrival x)) is in let k : m ≡ a.message = cc e in ap (λ (x : Message). x.token) k ∙ a.token) a.runs none
 
-    acked_token : (running : Option Exchange) (at : ℕ) → token_in (option_map (λ (x : Exchange). record x { acked = Some at }) running) ≡ token_in running
+    acked_token : (running : Option Exchange) (at : ℕ) → token_in (option_map (λ (x : Exchange). record x { acked = Some (record { 0 = at }) }) running) ≡ token_in running
     acked_token None at = refl
     acked_token (Some x) at = refl
 

@@ -133,7 +133,7 @@ module _ (t : List Call) (s : Own) (known : Counted t s) where
 
   defers_on : (now : ℕ) (b : Asked) (delay : ℕ) (answer : Bool) → s.pending ≡ Some b → answer ≡ may_defer s.deferred → Counted (Defers now b delay answer ∷ t) (after s (Defers now b delay answer))
   defers_on now b delay true is right =
-      let d : Deferred = record { asked = b; at = max s.clock now; delay = delay } in
+      let d : Deferred = record { asked = b; at = record { 0 = max s.clock now }; delay = delay } in
       record {
         count = λ a.
             let k = subst (λ o. times_answered a t + (hits (same_asked a) o + deferred_hits a s.deferred) ≤ times_handed a t) is (known.count a) in

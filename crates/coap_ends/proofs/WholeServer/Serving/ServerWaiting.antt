@@ -82,7 +82,7 @@ module _ (at : ℕ) (xs : List Separate) (a : Asked) where
       by false true ready of is f =
           let k = and_parts (same_asked a w.asked) (nat_le w.delay (at - w.at)) of in
           let asked_is : d.asked ≡ w.asked = same ∙ same_asked_is a w.asked k.0 in
-          let idle = (and_parts (nat_le d.delay (at - d.at)) (not (is_waited_for d.asked.from xs)) (first_is_ready at xs rest d is)).1 in
+          let idle = (and_parts (nat_le d.delay (at - d.at.0)) (not (is_waited_for d.asked.from xs)) (first_is_ready at xs rest d is)).1 in
           let so : is_ready at xs (deferred_as w) ≡ true = all_true _ _ k.1 (subst (λ (x : Asked). not (is_waited_for x.from xs) ≡ true) asked_is idle) in
           absurd (cc (ready, so))
       by false false ready of is f = let k = f is in record {
@@ -203,8 +203,8 @@ module _ (limit szx word : ℕ) where
         record {
           clock = (let c = ap (λ (z : E.Own). z.clock) after in omega (arith, k, c));
           lists = map-append deferred_as (own t).waiting (record { asked = p.0; at = at; delay = delay; question = q } ∷ [])
-              ∙ (ap (λ ds. ds ++ record { asked = p.0; at = at; delay = delay } ∷ []) m.lists
-              ∙ (ap (λ n. (own t).exchanges.deferred ++ record { asked = p.0; at = n; delay = delay } ∷ []) same ∙ sym (ap (λ (z : E.Own). z.deferred) after)));
+              ∙ (ap (λ ds. ds ++ record { asked = p.0; at = record { 0 = at }; delay = delay } ∷ []) m.lists
+              ∙ (ap (λ n. (own t).exchanges.deferred ++ record { asked = p.0; at = record { 0 = n }; delay = delay } ∷ []) same ∙ sym (ap (λ (z : E.Own). z.deferred) after)));
         }
 
     -- a request that is ready
