@@ -30,7 +30,7 @@ use Rattle.coap_ends.proofs.Serving.ServedOnce.{served_once}
 use Rattle.coap_ends.proofs.Serving.ComesUp.{handed_up}
 use Rattle.coap_ends.proofs.Serving.ServerWaiting.{waits_as_deferred, ready_are_served}
 pub use Rattle.coap_ends.proofs.Holding.ServerHolds.{all_served, holds_changes, version_is, held_is}
-pub use Rattle.coap_ends.proofs.Serving.ComesUp.{IsUp, up_in_layer}
+pub use Rattle.coap_ends.proofs.Serving.ComesUp.{message_in, up_in_layer}
 pub use Rattle.coap_ends.proofs.Serving.ServedWasHandedUp.{same_asked_is}
 
 module _ (limit szx word : ℕ) where

@@ -16,7 +16,7 @@ use Rattle.coap_exchange.specs.AnswererLaw as W
 use Rattle.coap_exchange.specs.AskerRequests.{asked}
 use Rattle.coap_exchange.specs.AskerArrivals.{id_in, replying}
 use Rattle.coap_ends.specs.ServerTrace.{Own, Handling, Call, Feeds}
-use Rattle.coap_ends.specs.ServerChecks.{Verdict, Asks, verdict_on}
+use Rattle.coap_ends.specs.ServerChecks.{Verdict, Asks}
 use Rattle.coap_ends.specs.ServerSteps.{lower, answering}
 use Rattle.coap_ends.specs.ServerLaw.{own_of, lower_of}
 use Rattle.coap_ends.proofs.Replying.ServerReplies.{Came, came_by}
@@ -25,7 +25,7 @@ use Rattle.coap_exchange.proofs.Facts.ServerSide.{came_in}
 use Rattle.coap_exchange.proofs.Facts.StepsOfLayer.{steps_split}
 use Rattle.coap_ends.specs.Adds.{asked_by_server, server_asks, server_asked, server_adds}
 use Rattle.coap_ends.specs.ServerLaw.{ServerLaw, layer_of}
-use Rattle.coap_ends.specs.Follows.ServerHands.{HandsUp, Comes, AreHandedUp}
+use Rattle.coap_ends.specs.Follows.ServerHands.{HandsUp, Comes, ComesAs, AreHandedUp}
 use Rattle.coap_ends.proofs.Exact.LawOfAPast.{server_back}
 use Rattle.coap_ends.proofs.Facts.Adds.{server_asked_next, server_next}
 use Rattle.coap_ends.proofs.Serving.ServedWasHandedUp.{Hands, served_from}
@@ -107,14 +107,16 @@ module _ (limit szx word : ℕ) where
   handed_up (c ∷ t) law =
       (λ x is. comes (c ∷ t) law x.asked (Asks x.question) (served_from szx limit t c law.rows x is), handed_up t (server_back limit szx word (c ∷ []) t law))
 
-  -- so the layer handed it up
-  abbrev pub IsUp : Asked → Verdict → L.Entry → Type 0
-  IsUp a v e = (m : Message) × HandsUp a m e × (verdict_on szx m ≡ v)
+  pub message_in : (a : Asked) (v : Verdict) (t : List Call) → Sometime (Comes limit szx word a v) t → (m : Message) × Sometime (ComesAs limit szx word a m v) t
+  message_in a v [] h = absurd h
+  message_in a v (c ∷ t) (inl h) = (h.message, inl (h, refl))
+  message_in a v (c ∷ t) (inr h) = let k = message_in a v t h in (k.0, inr k.1)
 
-  pub up_in_layer : (a : Asked) (v : Verdict) (t : List Call) → Sometime (Comes limit szx word a v) t → Ever (IsUp a v) (layer_of limit szx word t)
-  up_in_layer a v [] h = absurd h
-  up_in_layer a v (c ∷ t) (inl h) =
-      subst (Ever (IsUp a v)) (sym (server_next limit szx word t c)) (Ever_front (IsUp a v) (server_adds limit szx word t c) (layer_of limit szx word t)
-      (Ever_map (HandsUp a h.message) (IsUp a v) (λ e u. (h.message, u, h.verdict)) (server_adds limit szx word t c) h.up))
-  up_in_layer a v (c ∷ t) (inr h) =
-      subst (Ever (IsUp a v)) (sym (server_next limit szx word t c)) (Ever_back (IsUp a v) (server_adds limit szx word t c) (layer_of limit szx word t) (up_in_layer a v t h))
+  -- so the layer handed it up
+  pub up_in_layer : (a : Asked) (m : Message) (v : Verdict) (t : List Call) → Sometime (ComesAs limit szx word a m v) t → Ever (HandsUp a m) (layer_of limit szx word t)
+  up_in_layer a m v [] h = absurd h
+  up_in_layer a m v (c ∷ t) (inl h) =
+      subst (Ever (HandsUp a m)) (sym (server_next limit szx word t c)) (Ever_front (HandsUp a m) (server_adds limit szx word t c) (layer_of limit szx word t)
+      (subst (λ n. Ever (HandsUp a n) (server_adds limit szx word t c)) h.1 h.0.up))
+  up_in_layer a m v (c ∷ t) (inr h) =
+      subst (Ever (HandsUp a m)) (sym (server_next limit szx word t c)) (Ever_back (HandsUp a m) (server_adds limit szx word t c) (layer_of limit szx word t) (up_in_layer a m v t h))

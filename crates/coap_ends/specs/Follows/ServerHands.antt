@@ -27,6 +27,10 @@ pub record Comes (limit szx word : ℕ) (asked : Asked) (v : Verdict) (past : Li
   pub up : Ever (HandsUp asked message) (server_adds limit szx word past c)
   pub verdict : verdict_on szx message ≡ v
 
+-- .. as this message
+abbrev pub ComesAs : ℕ → ℕ → ℕ → Asked → Message → Verdict → List Call → Call → Type 0
+ComesAs limit szx word asked m v past c = (k : Comes limit szx word asked v past c) × (k.message ≡ m)
+
 -- What is served was handed up, at once or before; nothing was wrong with it, and it asks this.
 abbrev pub AreHandedUp : ℕ → ℕ → ℕ → List Call → Type 0
 AreHandedUp limit szx word t =

@@ -32,8 +32,8 @@ use Rattle.coap_world.specs.Record.{Entry, OfClient, OfServer, client_of, server
 use Rattle.coap_world.proofs.Delivery.HopsAreEntries.{far_is}
 use Rattle.coap_world.proofs.Reports.Answered.{Answers}
 use Rattle.coap_world.proofs.Requests.AtMostOnce.{ServesFor, applies_serves}
-use Rattle.coap_world.proofs.Requests.CameFrom.{Found, find, up_of}
-use Rattle.coap_world.proofs.Requests.HandedUpOnce.{up_once, once_counted}
+use Rattle.coap_world.proofs.Requests.CameFrom.{Found, find, up_of, verdict_of}
+use Rattle.coap_world.proofs.Requests.HandedUpOnce.{Any, up_once, once_counted}
 use Rattle.coap_world.proofs.Reports.Codes.{applied_by, failed_is, reply_right}
 use Rattle.coap_world.proofs.Reports.OnceDone.{came_is}
 use Rattle.coap_world.proofs.Reports.PartsOfARecord.{Lawful, PartOf, IsHanded, part_back, whole}
@@ -145,8 +145,10 @@ module _ (config : Config) (all : List Entry) (number : ℕ) where
     abbrev hops : List Hop
     hops = hops_in config all
 
-    found : (v : Verdict) (k : HasOutcome v) → Found client_end server_end (λ m. verdict_on config.server_szx m ≡ v) k.asked hops
-    found v k = find config.client_word config.server_word client_end server_end (λ m. verdict_on config.server_szx m ≡ v) k.asked k.from hops law.channel nons (up_of config all k.asked v k.handed)
+    found : (v : Verdict) (k : HasOutcome v) → Found client_end server_end Any k.asked hops
+    found v k =
+        let m = server_facts.message_in config.limit config.server_szx config.server_word k.asked v (server_trace config all) k.handed in
+        find config.client_word config.server_word client_end server_end Any k.asked k.from hops law.channel nons (up_of config Any all k.asked m.0 v tt m.1)
 
     same_asked_of : (v w : Verdict) (k : HasOutcome v) (l : HasOutcome w) → k.sending.token ≡ l.sending.token → k.asked ≡ l.asked
     same_asked_of v w k l same =
@@ -203,7 +205,7 @@ module _ (config : Config) (all : List Entry) (number : ℕ) where
             let same = came_is config all one number (Failed code) past e r k in
             let is : k.came.sending.operation.number ≡ number = ap (λ (x : Sending). x.operation.number) same ∙ r.number_is in
             let token : k.came.sending.token ≡ k.request.asked.token = sym (ap (λ (a : Asked). a.token) k.came.asked) in
-            let asked = asked_by config.server_szx k.came.con.id k.came.sending k.request (is_asked config.server_szx (request_of k.came.con.id k.came.sending) k.request.question k.came.verdict) in
+            let asked = asked_by config.server_szx k.came.con.id k.came.sending k.request (is_asked config.server_szx (request_of k.came.con.id k.came.sending) k.request.question (verdict_of config _ _ _ _ k.came)) in
             let method : k.request.question.method ≡ s.operation.request.method = asked.method ∙ ap (λ (x : Sending). x.operation.request.method) same in
             let none : applied_by s.operation.request.method r.message.code ≡ false = failed_is s.operation.request.method r.message code (sym r.report_is) in
             let so : applied_by k.request.question.method k.request.reply.code ≡ false = ap (λ m. applied_by m k.request.reply.code) method ∙ (ap (applied_by s.operation.request.method) (sym k.code) ∙ none) in

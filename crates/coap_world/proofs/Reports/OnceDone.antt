@@ -14,6 +14,7 @@ use Rattle.coap_ends.specs.ClientTrace.{Body, Done, Report}
 use Rattle.coap_ends.specs.Follows.ServerFollows.{is_applied}
 use Rattle.coap_ends.specs.Follows.ServerShows.{Shows}
 use Rattle.coap_ends.proofs.Facts.OfServer as server_facts
+use Rattle.coap_world.proofs.Requests.CameFrom.{verdict_of}
 use Rattle.coap_world.specs.Agrees.{AppliesSince, OnceDone, HeldSince, EachHeld}
 use Rattle.coap_world.specs.Words.{ReportsAt, last_at}
 use Rattle.coap_world.specs.CameFrom.{request_of}
@@ -58,7 +59,7 @@ module _ (config : Config) (all : List Entry) (one : OneSending (client_of all))
           request = s.operation.request;
           called = was_called config past s number earlier.law k.came.sent is;
         }
-    done_by (inr k) = absurd (not_applied r.message.code (refusal_code config.server_szx (request_of k.came.con.id k.came.sending) r.message.code k.came.verdict) done)
+    done_by (inr k) = absurd (not_applied r.message.code (refusal_code config.server_szx (request_of k.came.con.id k.came.sending) r.message.code (verdict_of config _ _ _ _ k.came)) done)
 
   -- what a reply shows was held at the path of the call
   shown : (past : List Entry) (e : Entry) → Lawful config (e ∷ past) → (m : Message) (k : IsReply config m past e) → m.code ≡ content → has block2 (said m) ≡ false
@@ -82,7 +83,7 @@ module _ (config : Config) (all : List Entry) (one : OneSending (client_of all))
         = ap {B = Held} (λ f. record { version = h.version; format = f; body = h.body }) (sym b.format ∙ reported.format_is)
         ∙ ap {B = Held} (λ y. record { version = h.version; format = format; body = y }) (sym b.body ∙ reported.body_is)
         in
-        let asked = asked_by config.server_szx k.came.con.id s k.request (is_asked config.server_szx (request_of k.came.con.id s) k.request.question k.came.verdict) in
+        let asked = asked_by config.server_szx k.came.con.id s k.request (is_asked config.server_szx (request_of k.came.con.id s) k.request.question (verdict_of config _ _ _ _ k.came)) in
         record {
           request = s.operation.request;
           called = was_called config past s number earlier.law k.came.sent is;
@@ -91,7 +92,7 @@ module _ (config : Config) (all : List Entry) (one : OneSending (client_of all))
           held = subst (λ p. last_at config p (e ∷ past) ≡ Some (record { version = h.version; format = format; body = body })) asked.path
               (b.is_held ∙ ap (λ x. Some x) same);
         }
-    held_by (inr k) = absurd (not_content r.message.code (refusal_code config.server_szx (request_of k.came.con.id k.came.sending) r.message.code k.came.verdict) reported.code)
+    held_by (inr k) = absurd (not_content r.message.code (refusal_code config.server_szx (request_of k.came.con.id k.came.sending) r.message.code (verdict_of config _ _ _ _ k.came)) reported.code)
 
 pub once_done : (config : Config) (all : List Entry) → Lawful config all → OneSending (client_of all) → OnceDone config all
 once_done config all law one number code =

@@ -21,6 +21,7 @@ use Rattle.coap_ends.specs.Follows.ServerFollows.{Serving, IsApplied}
 use Rattle.coap_ends.specs.Follows.ServerFollows as S
 use Rattle.coap_ends.specs.ServerLaw.{own_of}
 use Rattle.coap_ends.proofs.Facts.OfServer.{all_served, version_is}
+use Rattle.coap_world.proofs.Requests.CameFrom.{verdict_of}
 use Rattle.coap_world.specs.Words.{AppliesFor, WasCalled, ServesAt, holds_at, changes_in}
 use Rattle.coap_world.specs.Agrees.{Does, IsWhole, AppliedWhole}
 use Rattle.coap_world.specs.CameFrom.{CameFrom, CamesFrom, request_of}
@@ -98,7 +99,7 @@ module _ (config : Config) (number : ℕ) (all : List Entry) (one : OneSending (
       let same = one.of_token s a.belongs.0 (up s came.sent) a.belongs.1 (token ∙ sym a.belongs.3) (client_facts.each_own s.role) (client_facts.each_own a.belongs.0.role) in
       let is_number : s.operation.number ≡ number = ap (λ (x : Sending). x.operation.number) same ∙ a.belongs.2 in
       let taken = taken_before s (client_of past) sent came.sent in
-      let asked : Asked s.operation.request a.request = asked_by config.server_szx came.con.id s a.request (is_asked config.server_szx (request_of came.con.id s) a.request.question came.verdict) in
+      let asked : Asked s.operation.request a.request = asked_by config.server_szx came.con.id s a.request (is_asked config.server_szx (request_of came.con.id s) a.request.question (verdict_of config _ _ _ _ came)) in
       record {
         request = s.operation.request;
         called = subst (λ n. WasCalled n s.operation.request past) is_number taken;

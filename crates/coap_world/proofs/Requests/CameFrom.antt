@@ -1,7 +1,7 @@
 -- A request from the client's address that is served is the request of a call.
 use Rattle.std.proofs.Common.{◌≡◌, ◌<◌, inl, inr, ℕ, true, Some, List, [], ◌∷◌, ◌++◌, map, refl, ap, sym, subst, ◌∙◌, arith}
 use Rattle.coap_types.specs.Past.{Ever, Sometime}
-use Rattle.coap_types.proofs.Facts.Traces.{Ever_map}
+use Rattle.coap_types.proofs.Facts.Traces.{Ever_map, Ever_of_Sometime, forget}
 use Rattle.coap_types.specs.declared.endpoint.Endpoint.{Endpoint}
 use Rattle.coap_types.specs.declared.message.Kind.TheVariants.{Con}
 use Rattle.coap_types.specs.Bytes.{AreBytes}
@@ -21,7 +21,7 @@ use Rattle.coap_ends.specs.ClientLaw.{ClientLaw}
 use Rattle.coap_ends.specs.Follows.ClientSendings.{SendsNon, NoNons}
 use Rattle.coap_ends.specs.ServerTrace as S
 use Rattle.coap_ends.specs.ServerChecks.{Verdict, Asks, verdict_on}
-use Rattle.coap_ends.specs.Follows.ServerHands.{Comes, AreHandedUp}
+use Rattle.coap_ends.specs.Follows.ServerHands.{HandsUp, Comes, ComesAs, AreHandedUp}
 use Rattle.coap_ends.specs.ServerLaw.{ServerLaw}
 use Rattle.coap_ends.proofs.Facts.OfClient as client_facts
 use Rattle.coap_ends.proofs.Facts.OfServer as server_facts
@@ -145,8 +145,17 @@ spells_so bytes m n is h = subst (Spells bytes) is h
 asked_so : (a : Asked) (m n : Message) → m ≡ n → a ≡ asked_of client_end m → a ≡ asked_of client_end n
 asked_so a m n is h = h ∙ ap (asked_of client_end) is
 
-verdict_so : (szx : ℕ) (v : Verdict) (m n : Message) → m ≡ n → verdict_on szx m ≡ v → verdict_on szx n ≡ v
-verdict_so szx v m n is h = subst (λ x. verdict_on szx x ≡ v) is h
+comes_so : (limit szx word : ℕ) (a : Asked) (v : Verdict) (k m n : Message) (t : List S.Call) → m ≡ k → m ≡ n → Sometime (ComesAs limit szx word a k v) t → Sometime (ComesAs limit szx word a n v) t
+comes_so limit szx word a v k m n t same is h = subst (λ x. Sometime (ComesAs limit szx word a x v) t) (sym same ∙ is) h
+
+-- what it came to
+pub verdict_of : (config : Config) (past : List Entry) (e : Entry) (a : Asked) (v : Verdict) → (k : CameFrom config past e a v) → verdict_on config.server_szx (W.request_of k.con.id k.sending) ≡ v
+verdict_of config past e a v k =
+    let m : Message = W.request_of k.con.id k.sending in
+    let t : List S.Call = server_trace config (e ∷ past) in
+    forget (verdict_on config.server_szx m ≡ v) t
+    (Ever_of_Sometime (ComesAs config.limit config.server_szx config.server_word a m v) (λ c. verdict_on config.server_szx m ≡ v)
+    (λ before c z. inl (subst (λ n. verdict_on config.server_szx n ≡ v) z.1 z.0.verdict)) t k.comes)
 
 module _ (config : Config) where
   abbrev pub FromClient : List Entry → Type 0
@@ -155,24 +164,24 @@ module _ (config : Config) where
   abbrev OfLayer : List Entry → Type 0
   OfLayer t = AreHandedUp config.limit config.server_szx config.server_word (server_trace config t)
 
-  -- what comes to this is handed up by the server's layer
-  pub up_of : (t : List Entry) (a : Asked) (v : Verdict) → Sometime (Comes config.limit config.server_szx config.server_word a v) (server_trace config t)
-      → Ever (OnFar (UpOf (λ m. verdict_on config.server_szx m ≡ v) a)) (hops_in config t)
-  up_of t a v h =
-      let V = λ (m : Message). verdict_on config.server_szx m ≡ v in
-      let is = server_facts.IsUp config.limit config.server_szx config.server_word a v in
-      let layer = subst (Ever is) (sym (far_is config t)) (server_facts.up_in_layer config.limit config.server_szx config.server_word a v (server_trace config t) h) in
+  -- what comes so is handed up by the server's layer
+  pub up_of : (V : Message → Type 0) (t : List Entry) (a : Asked) (m : Message) (v : Verdict) → V m → Sometime (ComesAs config.limit config.server_szx config.server_word a m v) (server_trace config t)
+      → Ever (OnFar (UpOf V a)) (hops_in config t)
+  up_of V t a m v is h =
+      let layer = subst (Ever (HandsUp a m)) (sym (far_is config t)) (server_facts.up_in_layer config.limit config.server_szx config.server_word a m v (server_trace config t) h) in
       to_far (UpOf V a) (hops_in config t)
-      (Ever_map is (UpOf V a) (λ e u. record { message = u.0; bytes = u.1.bytes; call = u.1.call; answer = u.1.answer; asked_is = u.1.asked_is; verdict = u.2 }) (far_of (hops_in config t)) layer)
+      (Ever_map (HandsUp a m) (UpOf V a) (λ e u. record { message = m; bytes = u.bytes; call = u.call; answer = u.answer; asked_is = u.asked_is; verdict = is }) (far_of (hops_in config t)) layer)
 
   -- what is handed up of the client's address, with this verdict
   pub came_here : (past : List Entry) (c : S.Call) → IsChannel config (OfServer c ∷ past) → FromClient past → (a : Asked) (v : Verdict)
       → Sometime (Comes config.limit config.server_szx config.server_word a v) (server_trace config (OfServer c ∷ past)) → a.from ≡ client_end → CameFrom config past (OfServer c) a v
   came_here past c law own a v up from =
       let e : Entry = OfServer c in
-      let hops = up_of (e ∷ past) a v up in
+      let k = server_facts.message_in config.limit config.server_szx config.server_word a v (server_trace config (e ∷ past)) up in
+      let V = λ (n : Message). n ≡ k.0 in
+      let hops = up_of V (e ∷ past) a k.0 v refl k.1 in
       let none = subst NoNons (sym (near_is config (e ∷ past))) (client_facts.nons server_end config.client_word (client_of past)) in
-      let f = find config.client_word config.server_word client_end server_end (λ m. verdict_on config.server_szx m ≡ v) a from (hops_in config (e ∷ past)) law none hops in
+      let f = find config.client_word config.server_word client_end server_end V a from (hops_in config (e ∷ past)) law none hops in
       let layer = subst (Ever (λ b. begun b ≡ Some f.con)) (near_is config (e ∷ past)) f.begun_before in
       let r : IsRequestOf server_end f.con (client_of past) = client_facts.begins server_end config.client_szx config.client_word (client_of past) own f.con layer in
       let request : Message = W.request_of f.con.id r.request in
@@ -188,7 +197,7 @@ module _ (config : Config) where
         spells = spells_so f.con.bytes f.message request same f.spells;
         arrived = f.arrived;
         asked = asked_so a f.message request same f.asked;
-        verdict = verdict_so config.server_szx v f.message request same f.verdict;
+        comes = comes_so config.limit config.server_szx config.server_word a v k.0 f.message request (server_trace config (e ∷ past)) f.verdict same k.1;
       }
 
   all_came : (all : List Entry) → IsChannel config all → FromClient all → OfLayer all → CamesFrom config all
