@@ -28,21 +28,28 @@ ghost use Rattle.coap_ends.specs.WholeServer.Follows.ServerWaits.{ReadyAreServed
 pub fn whole_server_law()
     ensures start { (limit szx word : ℕ) → Led limit szx word [] (fresh_state limit szx word) }
     // A step lengthens the calls that led to the state before it.
-    ensures step { (limit szx word : ℕ) (t : List Call) (c : Call) (old new : State) → Led limit szx word t old → Step old c new → Led limit szx word (c ∷ t) new }
+    ensures step { (limit szx word : ℕ) (t : List Call) (c : Call) (old new : State) → Led limit szx word t old
+        → Step old c new → Led limit szx word (c ∷ t) new }
     // What it keeps of its exchanges is what their calls add up to.
-    ensures exchanges { (limit szx : ℕ) (t : List Call) → (own_of limit szx t).exchanges ≡ below.own_of (lower_of limit szx t) }
-    ensures law { (limit szx word : ℕ) (t : List Call) (s : State) → Led limit szx word t s → ServerLaw limit szx word t }
+    ensures exchanges { (limit szx : ℕ) (t : List Call)
+        → (own_of limit szx t).exchanges ≡ below.own_of (lower_of limit szx t) }
+    ensures law { (limit szx word : ℕ) (t : List Call) (s : State) → Led limit szx word t s
+        → ServerLaw limit szx word t }
     // The calls of its message layer stand in the law of that layer (RFC 7252, section 4).
-    ensures layer { (limit szx word : ℕ) (t : List Call) → ServerLaw limit szx word t → LayerLaw word (layer_of limit szx word t) }
+    ensures layer { (limit szx word : ℕ) (t : List Call) → ServerLaw limit szx word t
+        → LayerLaw word (layer_of limit szx word t) }
     // The calls before some calls stand in the law too.
-    ensures back { (limit szx word : ℕ) (calls t : List Call) → ServerLaw limit szx word (calls ++ t) → ServerLaw limit szx word t }
+    ensures back { (limit szx word : ℕ) (calls t : List Call) → ServerLaw limit szx word (calls ++ t)
+        → ServerLaw limit szx word t }
     // The law leaves each call one answer.
     ensures exact { (limit szx word : ℕ) (past : List Call) → IsExact limit szx word past }
     // It replies at once: with the Reset of a response, or the acknowledgement of a CON, which may carry the response to it
     // (RFC 7252, sections 4.2 and 5.2.1).
-    ensures replies { (limit szx word : ℕ) (t : List Call) → ServerLaw limit szx word t → Always RepliesSo (layer_of limit szx word t) }
+    ensures replies { (limit szx word : ℕ) (t : List Call) → ServerLaw limit szx word t
+        → Always RepliesSo (layer_of limit szx word t) }
     // A message is handed up once in EXCHANGE_LIFETIME (RFC 7252, section 4.5).
-    ensures once { (limit szx word : ℕ) (t : List Call) → ServerLaw limit szx word t → HandedUpOnce (layer_of limit szx word t) }
+    ensures once { (limit szx word : ℕ) (t : List Call) → ServerLaw limit szx word t
+        → HandedUpOnce (layer_of limit szx word t) }
     // What is served was handed up, and asks what came, with the whole body of its upload (RFC 7252, section 5.2; RFC 7959,
     // section 2.5).
     ensures handed { (limit szx word : ℕ) (t : List Call) → ServerLaw limit szx word t → AreHandedUp limit szx word t }
@@ -67,7 +74,8 @@ pub fn whole_server_law()
     ensures tags { (limit szx word : ℕ) (t : List Call) → ServerLaw limit szx word t → OneTag limit szx t }
     // What it sends is Empty, or carries a response to a request that was handed up, or a notification (RFC 7252, sections
     // 4.2 and 5.2; RFC 7641, section 3.2).
-    ensures gives { (limit szx word : ℕ) (t : List Call) → ServerLaw limit szx word t → SendsResponses limit szx word t }
+    ensures gives { (limit szx word : ℕ) (t : List Call) → ServerLaw limit szx word t
+        → SendsResponses limit szx word t }
     // The store never answers 2.31 (RFC 7959, section 2.9.1).
     ensures continues { (limit szx word : ℕ) (t : List Call) → ServerLaw limit szx word t → NoneContinues limit szx t }
     // Each observer was made by a GET that was served (RFC 7641, section 4.1).

@@ -197,14 +197,17 @@ impl<A: Allocator + Copy, S: BuildHasher> Answerer<A, S> {
         from: Endpoint,
         bytes: &'d [u8],
     ) -> Result<Option<(Asked, View<'d>)>, AllocError>
-        ensures step { IfOk result (λ answer. (up : below.Answer) × Step self.old.state (Incoming now.0 from bytes.now up answer) self.new.state) }
-        ensures led { IfOk result (λ answer. (up : below.Answer) × Leads self.old (Incoming now.0 from bytes.now up answer) self.new) }
+        ensures step { IfOk result (λ answer. (up : below.Answer)
+            × Step self.old.state (Incoming now.0 from bytes.now up answer) self.new.state) }
+        ensures led { IfOk result (λ answer. (up : below.Answer)
+            × Leads self.old (Incoming now.0 from bytes.now up answer) self.new) }
         ensures answerable { OnOk result (self.new.answerable ≡ true) }
         ensures few { IfOk result (λ answer. IfSome (asked_in answer) (λ asked. length asked.token ≤ 8)) }
         // What hands up a request ends nothing.
         ensures ends_none { IfOk result (λ answer. is_some answer ≡ true → self.new.state.own.ended ≡ None) }
         // Where a notification could be sent and nothing is sent now, it still can.
-        ensures kept { OnOk result (self.new.state.layer.queue ≡ self.old.state.layer.queue → (at : ℕ) (there : EndpointSpec) → MayNotify self.old at there → MayNotify self.new at there) }
+        ensures kept { OnOk result (self.new.state.layer.queue ≡ self.old.state.layer.queue
+            → (at : ℕ) (there : EndpointSpec) → MayNotify self.old at there → MayNotify self.new at there) }
         ensures before { OnOk result (self.new.before ≡ Some self.old.state) }
         ensures err { OnErr result (self.new ≡ self.old) }
         // Where the layer sends nothing and hands nothing up, it takes no memory.
@@ -231,7 +234,8 @@ impl<A: Allocator + Copy, S: BuildHasher> Answerer<A, S> {
     pub fn answer(&mut self, asked: &Asked, response: &Response<'_>)
         requires may { MayAnswer self.old asked.now }
         requires response { IsAnswer asked.now response.now }
-        ensures step { (sent : below.Answer) × Step self.old.state (Answers asked.now response.now sent) self.new.state }
+        ensures step { (sent : below.Answer)
+            × Step self.old.state (Answers asked.now response.now sent) self.new.state }
         ensures led { (sent : below.Answer) × Leads self.old (Answers asked.now response.now sent) self.new }
         ensures before { self.new.before ≡ self.old.before }
     {
@@ -250,7 +254,8 @@ impl<A: Allocator + Copy, S: BuildHasher> Answerer<A, S> {
         ensures led { Leads self.old (Defers now.0 asked.now delay_ms result) self.new }
         ensures answerable { self.new.answerable ≡ true }
         // Where a notification could be sent and nothing is sent now, it still can.
-        ensures kept { result ≡ false → (at : ℕ) (there : EndpointSpec) → MayNotify self.old at there → MayNotify self.new at there }
+        ensures kept { result ≡ false → (at : ℕ) (there : EndpointSpec) → MayNotify self.old at there
+            → MayNotify self.new at there }
         ensures before { self.new.before ≡ self.old.before }
     {
         self.layer.pass(now);
@@ -272,18 +277,24 @@ impl<A: Allocator + Copy, S: BuildHasher> Answerer<A, S> {
     /// message is outstanding, and for which a Message ID is free (RFC 7252, sections 4.2, 4.7 and
     /// 5.2.2). `respond` is to be called for that, at the same moment, and takes no memory then.
     pub fn tick(&mut self, now: Moment) -> Result<Due, AllocError>
-        ensures step { IfOk result (λ due. (done : below.Answer) × (room : Bool) × Step self.old.state (Ticks now.0 done room due) self.new.state) }
-        ensures led { IfOk result (λ due. (done : below.Answer) × (room : Bool) × Leads self.old (Ticks now.0 done room due) self.new) }
+        ensures step { IfOk result (λ due. (done : below.Answer) × (room : Bool)
+            × Step self.old.state (Ticks now.0 done room due) self.new.state) }
+        ensures led { IfOk result (λ due. (done : below.Answer) × (room : Bool)
+            × Leads self.old (Ticks now.0 done room due) self.new) }
         ensures ready { IfOk result (λ due. (a : AskedSpec) → due ≡ dues.Ready a → MayRespond self.new now.0 a) }
         ensures few { IfOk result (λ due. (a : AskedSpec) → due ≡ dues.Ready a → length a.token ≤ 8) }
         // Where a notification could be sent, it still can.
-        ensures kept { OnOk result ((at : ℕ) (there : EndpointSpec) → MayNotify self.old at there → MayNotify self.new at there) }
+        ensures kept { OnOk result ((at : ℕ) (there : EndpointSpec) → MayNotify self.old at there
+            → MayNotify self.new at there) }
         ensures before { OnOk result (self.new.before ≡ Some self.old.state) }
         ensures err { OnErr result (self.new ≡ self.old) }
         // Where no retransmission is due, and no deferred request is ready or no Message ID is free, or a
         // failure comes first, it takes no memory.
-        ensures quiet { copies (max self.old.state.own.clock now.0) self.old.state.layer.open_cons ≡ [] → (is_some (ready_at self.old.state.own now.0) && is_free (max self.old.state.own.clock now.0) self.old.state.layer.upcoming self.old.state.layer.last_used) ≡ false → IsOk result }
-        ensures fails { copies (max self.old.state.own.clock now.0) self.old.state.layer.open_cons ≡ [] → answer_of self.old.state.layer (max self.old.state.layer.clock now.0) below.Ticks ≢ below.Idle → IsOk result }
+        ensures quiet { copies (max self.old.state.own.clock now.0) self.old.state.layer.open_cons ≡ []
+            → (is_some (ready_at self.old.state.own now.0) && is_free (max self.old.state.own.clock now.0) self.old.state.layer.upcoming self.old.state.layer.last_used) ≡ false → IsOk result }
+        ensures fails { copies (max self.old.state.own.clock now.0) self.old.state.layer.open_cons ≡ []
+            → answer_of self.old.state.layer (max self.old.state.layer.clock now.0) below.Ticks ≢ below.Idle
+            → IsOk result }
     {
         let at = Moment(self.layer.clock().0.max(now.0));
         let due = self.layer.would_tick(now);

@@ -119,7 +119,8 @@ pub(crate) fn act<A: Allocator + Copy, S: BuildHasher>(
     verdict: Verdict,
 )
     requires { is_some (reply_by verdict id.0) ≡ true → MayReply layer.old from id.0 }
-    ensures steps { (settled : Bool) × Steps layer.old.state (settling (settles verdict) server running.now settled ++ replying from id.0 (reply_by verdict id.0)) layer.new.state }
+    ensures steps { (settled : Bool)
+        × Steps layer.old.state (settling (settles verdict) server running.now settled ++ replying from id.0 (reply_by verdict id.0)) layer.new.state }
     ensures before { layer.new.before ≡ layer.old.before }
 {
     if let Some(bytes) = reply_by(verdict, id) {
@@ -136,7 +137,8 @@ fn settle<A: Allocator + Copy, S: BuildHasher>(
     server: Endpoint,
     running: &Option<Exchange>,
 )
-    ensures steps { (settled : Bool) × Steps layer.old.state (settling true server running.now settled) layer.new.state }
+    ensures steps { (settled : Bool)
+        × Steps layer.old.state (settling true server running.now settled) layer.new.state }
     ensures before { layer.new.before ≡ layer.old.before }
 {
     if let Some(exchange) = running {
@@ -146,7 +148,8 @@ fn settle<A: Allocator + Copy, S: BuildHasher>(
 
 /// What a tick of the layer is to the client.
 pub(crate) fn turn_of(server: Endpoint, held: &Held, at: Moment, tick: Tick) -> Turn
-    ensures { (clock word : ℕ) (answer : below.Answer) → IsTick tick answer → result ≡ turn_of (own_with clock server word held.now) at.0 answer }
+    ensures { (clock word : ℕ) (answer : below.Answer) → IsTick tick answer
+        → result ≡ turn_of (own_with clock server word held.now) at.0 answer }
 {
     match tick {
         Tick::Expired(to, id) => expired(is_of_request(server, held, to, id)),

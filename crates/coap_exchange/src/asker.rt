@@ -171,8 +171,10 @@ impl<A: Allocator + Copy, S: BuildHasher> Asker<A, S> {
     /// other does.
     pub fn ask(&mut self, now: Moment, ask: &Ask<'_>, word: u64) -> Result<Token, AskRefusal>
         requires { IsAskable ask.now }
-        ensures step { result ≢ Err refusals.Memory → (answer : below.Answer) × Step self.old.state (Asks now.0 ask.now word answer result) self.new.state }
-        ensures led { result ≢ Err refusals.Memory → (answer : below.Answer) × Leads self.old (Asks now.0 ask.now word answer result) self.new }
+        ensures step { result ≢ Err refusals.Memory → (answer : below.Answer)
+            × Step self.old.state (Asks now.0 ask.now word answer result) self.new.state }
+        ensures led { result ≢ Err refusals.Memory → (answer : below.Answer)
+            × Leads self.old (Asks now.0 ask.now word answer result) self.new }
         ensures few { IfOk result (λ token. length token ≤ 8) }
         ensures before { self.new.before ≡ self.old.before }
         ensures memory { result ≡ Err refusals.Memory → self.new ≡ self.old }
@@ -196,7 +198,8 @@ impl<A: Allocator + Copy, S: BuildHasher> Asker<A, S> {
     fn send(&mut self, now: Moment, ask: &Ask<'_>, word: u64) -> Result<Token, AskRefusal>
         requires askable { IsAskable ask.now }
         requires opening { opening_of self.old.state.own ask.now ≡ openings.Sends }
-        ensures step { result ≢ Err refusals.Memory → (answer : below.Answer) × Step self.old.state (Asks now.0 ask.now word answer result) self.new.state }
+        ensures step { result ≢ Err refusals.Memory → (answer : below.Answer)
+            × Step self.old.state (Asks now.0 ask.now word answer result) self.new.state }
         ensures few { IfOk result (λ token. length token ≤ 8) }
         ensures before { self.new.before ≡ self.old.before }
         ensures memory { result ≡ Err refusals.Memory → self.new ≡ self.old }
@@ -228,8 +231,10 @@ impl<A: Allocator + Copy, S: BuildHasher> Asker<A, S> {
         from: Endpoint,
         bytes: &'d [u8],
     ) -> Result<Option<Event<'d>>, AllocError>
-        ensures step { IfOk result (λ event. (up : below.Answer) × (settled : Bool) × Step self.old.state (Receive now.0 from bytes.now up settled event) self.new.state) }
-        ensures led { IfOk result (λ event. (up : below.Answer) × (settled : Bool) × Leads self.old (Receive now.0 from bytes.now up settled event) self.new) }
+        ensures step { IfOk result (λ event. (up : below.Answer) × (settled : Bool)
+            × Step self.old.state (Receive now.0 from bytes.now up settled event) self.new.state) }
+        ensures led { IfOk result (λ event. (up : below.Answer) × (settled : Bool)
+            × Leads self.old (Receive now.0 from bytes.now up settled event) self.new) }
         ensures few { IfOk result (λ event. IfSome (message_told event) (λ m. length m.token ≤ 8)) }
         ensures before { OnOk result (self.new.before ≡ Some self.old.state) }
         ensures err { OnErr result (self.new ≡ self.old) }
@@ -257,8 +262,10 @@ impl<A: Allocator + Copy, S: BuildHasher> Asker<A, S> {
     /// Does the first that is due: the failure of the request, a retransmission, the end of the wait
     /// for a response (RFC 7252, sections 4.2 and 5.2.2).
     pub fn tick(&mut self, now: Moment) -> Result<Turn, AllocError>
-        ensures step { IfOk result (λ turn. (answer : below.Answer) × Step self.old.state (Ticks now.0 answer turn) self.new.state) }
-        ensures led { IfOk result (λ turn. (answer : below.Answer) × Leads self.old (Ticks now.0 answer turn) self.new) }
+        ensures step { IfOk result (λ turn. (answer : below.Answer)
+            × Step self.old.state (Ticks now.0 answer turn) self.new.state) }
+        ensures led { IfOk result (λ turn. (answer : below.Answer)
+            × Leads self.old (Ticks now.0 answer turn) self.new) }
         ensures before { OnOk result (self.new.before ≡ Some self.old.state) }
         ensures err { OnErr result (self.new ≡ self.old) }
         ensures quiet { copies (max self.old.state.own.clock now.0) self.old.state.layer.open_cons ≡ [] → IsOk result }

@@ -27,11 +27,15 @@ ghost use Rattle.coap_exchange.specs.AnswererFollows.{AreResponses, AreRequests,
 pub fn asker_law()
     ensures start { (server : Endpoint) (word : ℕ) → Led server word [] (fresh_state server word) }
     // A step lengthens the calls that led to the state before it.
-    ensures step { (server : Endpoint) (word : ℕ) (t : List Call) (c : Call) (old new : State) → Led server word t old → Step old c new → Led server word (c ∷ t) new }
-    ensures steps { (server : Endpoint) (word : ℕ) (t calls : List Call) (old new : State) → Led server word t old → Exchanged old calls new → Led server word (calls ++ t) new }
-    ensures law { (server : Endpoint) (word : ℕ) (t : List Call) (s : State) → Led server word t s → ExchangeLaw server word t }
+    ensures step { (server : Endpoint) (word : ℕ) (t : List Call) (c : Call) (old new : State) → Led server word t old
+        → Step old c new → Led server word (c ∷ t) new }
+    ensures steps { (server : Endpoint) (word : ℕ) (t calls : List Call) (old new : State) → Led server word t old
+        → Exchanged old calls new → Led server word (calls ++ t) new }
+    ensures law { (server : Endpoint) (word : ℕ) (t : List Call) (s : State) → Led server word t s
+        → ExchangeLaw server word t }
     // The calls of the layer beneath stand in its law (RFC 7252, section 4).
-    ensures layer { (server : Endpoint) (word : ℕ) (t : List Call) → ExchangeLaw server word t → LayerLaw word (below_of server word t) }
+    ensures layer { (server : Endpoint) (word : ℕ) (t : List Call) → ExchangeLaw server word t
+        → LayerLaw word (below_of server word t) }
     // The law leaves each call one answer.
     ensures exact { (server : Endpoint) (word : ℕ) (past : List Call) → IsExact server word past }
     // Exchanges don't overlap, each ends at most once, and an answer has the token of the one that is open
@@ -42,31 +46,41 @@ pub fn asker_law()
     // No token serves two requests but an observation and its cancel (RFC 7252, section 5.3.1; RFC 7641, section 3.6).
     ensures tokens { (server : Endpoint) (word : ℕ) (t : List Call) → ExchangeLaw server word t → AreTokens word t }
     // A Timeout and NoResponse come in time (RFC 7252, sections 4.2 and 5.2.2).
-    ensures in_time { (server : Endpoint) (word : ℕ) (t : List Call) → ExchangeLaw server word t → EndInTime server word t }
+    ensures in_time { (server : Endpoint) (word : ℕ) (t : List Call) → ExchangeLaw server word t
+        → EndInTime server word t }
     // .. and no later than at the first tick then (RFC 7252, sections 4.2 and 5.2.2).
-    ensures when_due { (server : Endpoint) (word : ℕ) (t : List Call) → ExchangeLaw server word t → EndWhenDue server word t }
+    ensures when_due { (server : Endpoint) (word : ℕ) (t : List Call) → ExchangeLaw server word t
+        → EndWhenDue server word t }
     // The tokens that are kept, at most 16 (RFC 7641, section 3.2).
-    ensures few_kept { (server : Endpoint) (word : ℕ) (t : List Call) → ExchangeLaw server word t → FewKept server word t }
+    ensures few_kept { (server : Endpoint) (word : ℕ) (t : List Call) → ExchangeLaw server word t
+        → FewKept server word t }
     // What is told came from the server, and is what a datagram spelled (RFC 7252, section 5.3.2).
-    ensures from_server { (server : Endpoint) (word : ℕ) (t : List Call) → ExchangeLaw server word t → AreFromServer server t }
+    ensures from_server { (server : Endpoint) (word : ℕ) (t : List Call) → ExchangeLaw server word t
+        → AreFromServer server t }
     // .. has no critical option that is not recognised (section 5.4.1), and matches in Message ID where it is
     // piggybacked (section 5.3.2).
-    ensures matched { (server : Endpoint) (word : ℕ) (t : List Call) → ExchangeLaw server word t → AreMatched server word t }
+    ensures matched { (server : Endpoint) (word : ℕ) (t : List Call) → ExchangeLaw server word t
+        → AreMatched server word t }
     // A response with the token of the exchange that runs is its answer, and one with a kept token alone a
     // notification (RFC 7252, section 5.3.2; RFC 7641, section 3.2).
-    ensures told_as { (server : Endpoint) (word : ℕ) (t : List Call) → ExchangeLaw server word t → AreToldAs server word t }
+    ensures told_as { (server : Endpoint) (word : ℕ) (t : List Call) → ExchangeLaw server word t
+        → AreToldAs server word t }
     // What arrives is acknowledged, rejected or neither (RFC 7252, sections 4.2, 4.3 and 5.3.2).
-    ensures replied { (server : Endpoint) (word : ℕ) (t : List Call) → ExchangeLaw server word t → empties.AreReplied server word t }
+    ensures replied { (server : Endpoint) (word : ℕ) (t : List Call) → ExchangeLaw server word t
+        → empties.AreReplied server word t }
     // A Reset that is told is that of the request of the exchange (RFC 7252, section 4.2).
-    ensures rejected { (server : Endpoint) (word : ℕ) (t : List Call) → ExchangeLaw server word t → AreRejected server word t }
+    ensures rejected { (server : Endpoint) (word : ℕ) (t : List Call) → ExchangeLaw server word t
+        → AreRejected server word t }
 {}
 
 /// What leads to the state of a server's side stands in the law, and what follows from that.
 pub fn answerer_law()
     ensures start { (word : ℕ) → answerer.Led word [] (answerer.fresh_state word) }
     // A step lengthens the calls that led to the state before it.
-    ensures step { (word : ℕ) (t : List trace.Call) (c : trace.Call) (old new : answerer.State) → answerer.Led word t old → answerer.Step old c new → answerer.Led word (c ∷ t) new }
-    ensures steps { (word : ℕ) (t calls : List trace.Call) (old new : answerer.State) → answerer.Led word t old → answerer.Exchanged old calls new → answerer.Led word (calls ++ t) new }
+    ensures step { (word : ℕ) (t : List trace.Call) (c : trace.Call) (old new : answerer.State)
+        → answerer.Led word t old → answerer.Step old c new → answerer.Led word (c ∷ t) new }
+    ensures steps { (word : ℕ) (t calls : List trace.Call) (old new : answerer.State) → answerer.Led word t old
+        → answerer.Exchanged old calls new → answerer.Led word (calls ++ t) new }
     ensures law { (word : ℕ) (t : List trace.Call) (s : answerer.State) → answerer.Led word t s → ResponseLaw word t }
     // The calls of the layer beneath stand in its law (RFC 7252, section 4).
     ensures layer { (word : ℕ) (t : List trace.Call) → ResponseLaw word t → LayerLaw word (answerer.below_of word t) }

@@ -86,7 +86,8 @@ pub(crate) fn asked_in(from: Endpoint, up: &Up<'_>) -> Option<Asked>
 
 /// The request that is handed up, and what it asks.
 pub(crate) fn handed_up<'a>(asked: Option<Asked>, up: Up<'a>) -> Option<(Asked, View<'a>)>
-    ensures { (from : Endpoint) → asked ≡ asked_in (handed_up from (answer_as up.entry)) → result ≡ handed_up from (answer_as up.entry) }
+    ensures { (from : Endpoint) → asked ≡ asked_in (handed_up from (answer_as up.entry))
+        → result ≡ handed_up from (answer_as up.entry) }
 {
     match (asked, up) {
         (
@@ -216,7 +217,8 @@ fn piggyback<A: Allocator + Copy, S: BuildHasher>(
 )
     requires may { MayReply layer.old asked.now.from asked.now.id.0 }
     requires sendable { IsSendable (content_of asked.now response.now) }
-    ensures step { (s : Own) → layer_state.Step layer.old.state layer.old.state.clock (answering s Con asked.now response.now) below.Nothing layer.new.state }
+    ensures step { (s : Own)
+        → layer_state.Step layer.old.state layer.old.state.clock (answering s Con asked.now response.now) below.Nothing layer.new.state }
     ensures before { layer.new.before ≡ layer.old.before }
 {
     let mut buffer = [0; MAX_MESSAGE_LEN];
@@ -233,7 +235,8 @@ fn send_plain<A: Allocator + Copy, S: BuildHasher>(
     requires room { layer.old.has_room ≡ true }
     requires free { is_free layer.old.state.clock layer.old.state.upcoming layer.old.state.last_used ≡ true }
     requires sendable { IsSendable (content_of asked.now response.now) }
-    ensures step { (id : ℕ) × layer_state.Step layer.old.state layer.old.state.clock (below.Plain asked.now.from (content_of asked.now response.now)) (below.Sent id) layer.new.state }
+    ensures step { (id : ℕ)
+        × layer_state.Step layer.old.state layer.old.state.clock (below.Plain asked.now.from (content_of asked.now response.now)) (below.Sent id) layer.new.state }
     ensures before { layer.new.before ≡ layer.old.before }
 {
     let content = Content {
@@ -257,7 +260,8 @@ pub(crate) fn send<A: Allocator + Copy, S: BuildHasher>(
 )
     requires takes { Takes layer.old asked.now }
     requires sendable { IsSendable (content_of asked.now response.now) }
-    ensures sent { (sent : below.Answer) × IsSentAs asked.now.kind sent × ((s : Own) → layer_state.Step layer.old.state layer.old.state.clock (answering s asked.now.kind asked.now response.now) sent layer.new.state) }
+    ensures sent { (sent : below.Answer) × IsSentAs asked.now.kind sent
+        × ((s : Own) → layer_state.Step layer.old.state layer.old.state.clock (answering s asked.now.kind asked.now response.now) sent layer.new.state) }
     ensures before { layer.new.before ≡ layer.old.before }
 {
     match asked.kind {

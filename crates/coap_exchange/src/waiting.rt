@@ -42,8 +42,12 @@ pub(crate) fn make_room<A: Allocator + Copy, S: BuildHasher>(
     ensures replies { layer.new.replies ≡ layer.old.replies }
     ensures kept { layer.old.has_room ≡ true → layer.new.has_room ≡ true }
     ensures room { OnOk result (IfSome ready.now (λ a. AsksFreely layer.new now.0 a.from)) }
-    ensures place { OnOk result (IfSome ready.now (λ a. answer_of layer.new.state (max layer.new.state.clock now.0) (below.Room a.from) ≡ below.Is true → vec_len separate.new < vec_capacity separate.new)) }
-    ensures quiet { IfSome ready.now (λ a. answer_of layer.old.state (max layer.old.state.clock now.0) (below.Room a.from) ≡ below.Is false) → IsOk result }
+    ensures place { OnOk result (IfSome ready.now (λ a.
+        answer_of layer.new.state (max layer.new.state.clock now.0) (below.Room a.from) ≡ below.Is true
+        → vec_len separate.new < vec_capacity separate.new)) }
+    ensures quiet { IfSome ready.now (λ a.
+        answer_of layer.old.state (max layer.old.state.clock now.0) (below.Room a.from) ≡ below.Is false)
+        → IsOk result }
 {
     if let Some(asked) = ready {
         if layer.would_confirm(now, asked.from) {
@@ -69,14 +73,19 @@ pub(crate) fn is_sendable<A: Allocator + Copy, S: BuildHasher>(
     ready: &Option<Asked>,
 ) -> bool
     requires { IfSome ready.now (λ a. AsksFreely layer.old now.0 a.from) }
-    ensures steps { (d : Option Deferred) → ready.now ≡ option_map (λ d. d.asked) d → Steps layer.old.state (asking_room now.0 d result) layer.new.state }
+    ensures steps { (d : Option Deferred) → ready.now ≡ option_map (λ d. d.asked) d
+        → Steps layer.old.state (asking_room now.0 d result) layer.new.state }
     ensures before { layer.new.before ≡ layer.old.before }
     ensures room { result ≡ true → layer.new.has_room ≡ true }
     ensures some { result ≡ true → is_some ready.now ≡ true }
     ensures kept { layer.old.has_room ≡ true → layer.new.has_room ≡ true }
-    ensures may { result ≡ true → IfSome ready.now (λ a. answer_of layer.old.state (max layer.old.state.clock now.0) (below.Room a.from) ≡ below.Is true) }
-    ensures idle { result ≡ true → (a : AskedSpec) → ready.now ≡ Some a → is_busy a.from layer.new.state.open_cons ≡ false }
-    ensures free { result ≡ true → is_free (max layer.new.state.clock now.0) layer.new.state.upcoming layer.new.state.last_used ≡ true }
+    ensures may { result ≡ true
+        → IfSome ready.now (λ a.
+        answer_of layer.old.state (max layer.old.state.clock now.0) (below.Room a.from) ≡ below.Is true) }
+    ensures idle { result ≡ true → (a : AskedSpec) → ready.now ≡ Some a
+        → is_busy a.from layer.new.state.open_cons ≡ false }
+    ensures free { result ≡ true
+        → is_free (max layer.new.state.clock now.0) layer.new.state.upcoming layer.new.state.last_used ≡ true }
 {
     let Some(asked) = ready else {
         return false;
@@ -99,7 +108,8 @@ pub(crate) fn failed_by(tick: Tick, separate: &[Listed<Separate>]) -> Option<End
 
 // Takes the separate response off the list that a failure ends.
 fn off_where_failed(tick: Tick, separate: &mut [Listed<Separate>])
-    ensures now { (answer : below.Answer) → IsTick tick answer → listed separate.new ≡ separate_unless answer (listed separate.old) }
+    ensures now { (answer : below.Answer) → IsTick tick answer
+        → listed separate.new ≡ separate_unless answer (listed separate.old) }
     ensures before { listed_before separate.new ≡ listed_before separate.old }
     ensures len { length separate.new ≡ length separate.old }
 {
@@ -113,7 +123,8 @@ pub(crate) fn unless_failed<A: Allocator + Copy>(
     tick: Tick,
     separate: &mut Vec<Listed<Separate>, A>,
 )
-    ensures now { (answer : below.Answer) → IsTick tick answer → listed separate.new.items ≡ separate_unless answer (listed separate.old.items) }
+    ensures now { (answer : below.Answer) → IsTick tick answer
+        → listed separate.new.items ≡ separate_unless answer (listed separate.old.items) }
     ensures before { listed_before separate.new.items ≡ listed_before separate.old.items }
     ensures len { vec_len separate.new ≡ vec_len separate.old }
     ensures capacity { vec_capacity separate.new ≡ vec_capacity separate.old }
@@ -124,7 +135,8 @@ pub(crate) fn unless_failed<A: Allocator + Copy>(
 /// What a tick of the layer is to the server.
 pub(crate) fn due_of(tick: Tick, ready: Option<Asked>, room: bool) -> Due
     ensures ready { (a : AskedSpec) → result ≡ dues.Ready a → ready ≡ Some a }
-    ensures due { (answer : below.Answer) (d : Option Deferred) → IsTick tick answer → ready ≡ option_map (λ d. d.asked) (ready_if answer d) → result ≡ due_of answer d room }
+    ensures due { (answer : below.Answer) (d : Option Deferred) → IsTick tick answer
+        → ready ≡ option_map (λ d. d.asked) (ready_if answer d) → result ≡ due_of answer d room }
 {
     match tick {
         Tick::Copied(_) => Due::Copied,
