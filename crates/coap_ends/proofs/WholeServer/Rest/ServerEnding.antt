@@ -1,5 +1,6 @@
 -- At one moment, the ticks of a server end (RFC 7252, sections 4.2 and 5.2.2; RFC 7641, section 4.5).
 use Rattle.std.proofs.Common.{◌≡◌, ◌≤◌, ◌<◌, inl, inr, ℕ, zero, suc, ◌+◌, ◌*◌, ◌&&◌, max, not, Bool, true, false, Option, Some, None, List, [], ◌∷◌, ◌++◌, length, filter, refl, ap, sym, subst, ◌∙◌, cond, arith}
+use Rattle.std.proofs.lemmas.List.Filters.{length-filter_both}
 use Rattle.coap_types.specs.declared.endpoint.Endpoint.{Endpoint}
 use Rattle.coap_layer.specs.Machine.State as S
 use Rattle.coap_layer.specs.Machine.Steps.{Asked, Steps, left_after}
@@ -7,7 +8,6 @@ use Rattle.coap_layer.specs.Trace as L
 use Rattle.coap_block.specs.Whole.{Each}
 use Rattle.coap_observe.specs.Observers.{Observer, is_of, removed, sent_to, unmarked_by}
 use Rattle.coap_observe.proofs.Facts.Registrations.{is_of-decides}
-use Rattle.coap_observe.proofs.ListLemmas.{length_filter}
 use Rattle.coap_resource.specs.Content.{Held}
 use Rattle.coap_resource.specs.Serves.{Question}
 use Rattle.coap_exchange.specs.declared.answerer.Asked as answerer
@@ -339,7 +339,7 @@ module _ (limit szx word : ℕ) where
             let turn = back word (E.Responds at a (R.response_to s.store s.observers a q reply) w id ∷ []) (ticking (own t) now below room (due.Ready a) ∷ under) law.exchanges in
             let k = begun_least asked_room (asking word at (W.lower_of under) below ready room) a.from (P.content_of a (R.response_to s.store s.observers a q reply)) id law.exchanges.left refl refl refl turn.left turn.layer law.exchanges.layer in
             let few = (are_observers limit szx (c ∷ t)).registrations.few in
-            let most = length_filter (λ (o : Observer). o.marked) (own (c ∷ t)).observers in
+            let most = length-filter_both (λ (o : Observer). o.marked) (λ (o : Observer). not o.marked) (λ o. refl) (own (c ∷ t)).observers in
             let one = without_one at a (own t).waiting x is in
             omega (arith, k, few, most, one)
     less (due.Ready a) passed Silent id law = let k = (ready_are_served limit szx word (Ticks now w below room (due.Ready a) passed Silent id true ∷ t) law).0 a refl in let no = k.1 in absurd (cc no)
