@@ -1,0 +1,168 @@
+//! Times the proved message layer and a plain one on the same datagrams, and prints a table.
+
+mod plain;
+mod proved;
+
+use std::hint::black_box;
+use std::time::Instant;
+
+/// How many timings the least is taken of.
+const TIMINGS: usize = 301;
+
+/// So far apart, in milliseconds, requests come of which each forgets one, once 3,984 are remembered.
+const DENSE: u64 = 62;
+/// The same, once two are remembered.
+const SPARSE: u64 = 130_000;
+
+/// What a layer is asked for.
+#[derive(Clone, Copy)]
+enum Work {
+    /// So many requests, so many milliseconds apart, and so often again.
+    Requests(u32, u64, u32),
+    /// With so many messages outstanding, so many ticks.
+    Ticks(u32, u32),
+}
+
+impl Work {
+    fn of_proved(self) -> u64 {
+        match self {
+            Work::Requests(count, step, again) => proved::requests(count, step, again),
+            Work::Ticks(outstanding, ticks) => proved::ticks(outstanding, ticks),
+        }
+    }
+
+    fn of_plain(self) -> u64 {
+        match self {
+            Work::Requests(count, step, again) => plain::requests(count, step, again),
+            Work::Ticks(outstanding, ticks) => plain::ticks(outstanding, ticks),
+        }
+    }
+}
+
+/// One row of the table: what the greater work takes longer than the smaller.
+struct Row {
+    name: &'static str,
+    works: [Work; 2],
+    /// So many steps more has the greater.
+    steps: f64,
+    /// The least nanoseconds of each work: the proved layer's, and the plain one's.
+    least: [[f64; 2]; 2],
+}
+
+fn nanoseconds(run: impl Fn() -> u64) -> f64 {
+    let start = Instant::now();
+    black_box(run());
+    start.elapsed().as_nanos() as f64
+}
+
+impl Row {
+    fn new(name: &'static str, smaller: Work, greater: Work, steps: u32) -> Row {
+        Row {
+            name,
+            works: [smaller, greater],
+            steps: f64::from(steps),
+            least: [[f64::INFINITY; 2]; 2],
+        }
+    }
+
+    fn time(&mut self) {
+        for (work, [proved, plain]) in self.works.iter().zip(&mut self.least) {
+            *proved = proved.min(nanoseconds(|| black_box(*work).of_proved()));
+            *plain = plain.min(nanoseconds(|| black_box(*work).of_plain()));
+        }
+    }
+
+    /// Nanoseconds of a step: the proved layer's, and the plain one's.
+    fn steps(&self) -> [f64; 2] {
+        let [smaller, greater] = self.least;
+        [0, 1].map(|layer| (greater[layer] - smaller[layer]) / self.steps)
+    }
+
+    fn print(&self) {
+        let name = self.name;
+        let [proved, plain] = self.steps();
+        let ratio = proved / plain;
+        println!("| {name} | {proved:.0} | {plain:.0} | {ratio:.2} |");
+    }
+}
+
+fn rows() -> Vec<Row> {
+    use Work::{Requests, Ticks};
+    vec![
+        Row::new(
+            "a new request, 0 to 400 remembered",
+            Requests(0, 0, 0),
+            Requests(400, 0, 0),
+            400,
+        ),
+        Row::new(
+            "a new request, 3,650 to 4,050 remembered",
+            Requests(3_650, 0, 0),
+            Requests(4_050, 0, 0),
+            400,
+        ),
+        Row::new(
+            "a duplicate, 1 remembered",
+            Requests(1, 0, 0),
+            Requests(1, 0, 4_000),
+            4_000,
+        ),
+        Row::new(
+            "a duplicate, 4,000 remembered",
+            Requests(4_000, 0, 0),
+            Requests(4_000, 0, 1),
+            4_000,
+        ),
+        Row::new(
+            "a new request, 2 remembered, one forgotten",
+            Requests(10, SPARSE, 0),
+            Requests(510, SPARSE, 0),
+            500,
+        ),
+        Row::new(
+            "a new request, 3,984 remembered, one forgotten",
+            Requests(4_100, DENSE, 0),
+            Requests(4_600, DENSE, 0),
+            500,
+        ),
+        Row::new("a tick, 1 outstanding", Ticks(1, 0), Ticks(1, 1_000), 1_000),
+        Row::new(
+            "a tick, 1,000 outstanding",
+            Ticks(1_000, 0),
+            Ticks(1_000, 1_000),
+            1_000,
+        ),
+    ]
+}
+
+fn main() {
+    let mut rows = rows();
+    for _ in 0..TIMINGS {
+        rows.iter_mut().for_each(Row::time);
+    }
+    println!("| nanoseconds | proved | plain Rust | ratio |");
+    println!("|---|---:|---:|---:|");
+    rows.iter().for_each(Row::print);
+}
+
+#[test]
+fn both_answer_alike() {
+    for work in [
+        Work::Requests(1, 0, 3),
+        Work::Requests(4_200, 0, 2),
+        Work::Requests(5_000, DENSE, 1),
+        Work::Requests(300, 1_000, 1),
+        Work::Requests(20, SPARSE, 1),
+        Work::Ticks(1_000, 3),
+    ] {
+        assert_eq!(work.of_proved(), work.of_plain());
+    }
+    for Row { works, .. } in rows() {
+        for work in works {
+            assert_eq!(work.of_proved(), work.of_plain());
+        }
+    }
+    assert_eq!(proved::ticks(1_000, 3), 1_000);
+    // 4,096 replies of 4 bytes, and two of each again: the table is full then.
+    assert_eq!(proved::requests(4_200, 0, 2), 3 * 4_096 * 4);
+}
