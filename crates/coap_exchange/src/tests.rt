@@ -1,3 +1,4 @@
 mod client;
+mod hashers;
 mod notifications;
 mod server;

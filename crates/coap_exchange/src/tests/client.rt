@@ -109,23 +109,33 @@ fn is_nothing<R: Abort + AllocGlobal>(
 }
 
 #[test]
-fn a_response_answers_its_request(rt: HostRuntime) -> Result<(), AllocError> {
-    let mut piggybacked = asked(&rt);
-    is_answer(&rt, &mut piggybacked, 5, ANSWER)?;
-    assert!(rt; piggybacked.next_out().is_none());
-    let mut separate = asked(&rt);
-    is_nothing(&rt, &mut separate, 0, SERVER, EMPTY_ACK)?;
-    is_answer(&rt, &mut separate, 5, SEPARATE)?;
-    is_sent(&rt, &mut separate, SERVER, &[0x60, 0, 0, 7]);
+fn a_piggybacked_response_answers_its_request(rt: HostRuntime) -> Result<(), AllocError> {
+    let mut asker = asked(&rt);
+    is_answer(&rt, &mut asker, 5, ANSWER)?;
+    assert!(rt; asker.next_out().is_none());
+    Ok(())
+}
+
+#[test]
+fn a_separate_response_answers_its_request(rt: HostRuntime) -> Result<(), AllocError> {
+    let mut asker = asked(&rt);
+    is_nothing(&rt, &mut asker, 0, SERVER, EMPTY_ACK)?;
+    is_answer(&rt, &mut asker, 5, SEPARATE)?;
+    is_sent(&rt, &mut asker, SERVER, &[0x60, 0, 0, 7]);
     // A duplicate is acknowledged again, and not told.
-    is_nothing(&rt, &mut separate, 6, SERVER, SEPARATE)?;
-    is_sent(&rt, &mut separate, SERVER, &[0x60, 0, 0, 7]);
-    let mut overtaking = asked(&rt);
-    is_answer(&rt, &mut overtaking, 5, SEPARATE_NON)?;
-    is_nothing(&rt, &mut overtaking, 6, SERVER, EMPTY_ACK)?;
-    assert!(rt; overtaking.next_out().is_none());
+    is_nothing(&rt, &mut asker, 6, SERVER, SEPARATE)?;
+    is_sent(&rt, &mut asker, SERVER, &[0x60, 0, 0, 7]);
+    Ok(())
+}
+
+#[test]
+fn a_response_may_overtake_the_acknowledgement(rt: HostRuntime) -> Result<(), AllocError> {
+    let mut asker = asked(&rt);
+    is_answer(&rt, &mut asker, 5, SEPARATE_NON)?;
+    is_nothing(&rt, &mut asker, 6, SERVER, EMPTY_ACK)?;
+    assert!(rt; asker.next_out().is_none());
     // It also ended the retransmission of the request.
-    assert!(rt; matches!(overtaking.tick(Moment(2_000))?, Turn::Idle));
+    assert!(rt; matches!(asker.tick(Moment(2_000))?, Turn::Idle));
     Ok(())
 }
 
@@ -134,10 +144,15 @@ fn an_answer_counts_until_the_tick(rt: HostRuntime) -> Result<(), AllocError> {
     let mut asker = asked(&rt);
     is_answer(&rt, &mut asker, 70_000, ANSWER)?;
     assert!(rt; matches!(asker.tick(Moment(70_000))?, Turn::Idle));
-    let mut acknowledged = asked(&rt);
-    is_nothing(&rt, &mut acknowledged, 0, SERVER, EMPTY_ACK)?;
-    is_answer(&rt, &mut acknowledged, 250_000, SEPARATE)?;
-    assert!(rt; matches!(acknowledged.tick(Moment(250_000))?, Turn::Idle));
+    Ok(())
+}
+
+#[test]
+fn a_separate_response_counts_until_the_tick(rt: HostRuntime) -> Result<(), AllocError> {
+    let mut asker = asked(&rt);
+    is_nothing(&rt, &mut asker, 0, SERVER, EMPTY_ACK)?;
+    is_answer(&rt, &mut asker, 250_000, SEPARATE)?;
+    assert!(rt; matches!(asker.tick(Moment(250_000))?, Turn::Idle));
     Ok(())
 }
 

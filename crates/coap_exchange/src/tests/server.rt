@@ -298,20 +298,25 @@ fn has_ended<R: Abort>(rt: &R, answerer: &Answerer<Global>, observe: bool) {
 }
 
 #[test]
-fn an_end_is_told_once(rt: HostRuntime) -> Result<(), AllocError> {
-    let mut rejected = responded(&rt)?;
-    is_nothing(&rt, &mut rejected, 1_001, OTHER, RESET)?;
-    assert!(rt; rejected.ended().is_none());
-    is_nothing(&rt, &mut rejected, 1_001, CLIENT, RESET)?;
-    has_ended(&rt, &rejected, false);
-    is_nothing(&rt, &mut rejected, 1_001, CLIENT, RESET)?;
-    assert!(rt; rejected.ended().is_none());
-    let mut failing = responded(&rt)?;
-    assert!(rt; matches!(failing.tick(Moment(62_999))?, Due::Idle));
-    assert!(rt; matches!(failing.tick(Moment(63_000))?, Due::Expired));
-    has_ended(&rt, &failing, false);
-    assert!(rt; matches!(failing.tick(Moment(63_000))?, Due::Idle));
-    assert!(rt; failing.ended().is_none());
+fn a_rejected_response_is_told_once(rt: HostRuntime) -> Result<(), AllocError> {
+    let mut answerer = responded(&rt)?;
+    is_nothing(&rt, &mut answerer, 1_001, OTHER, RESET)?;
+    assert!(rt; answerer.ended().is_none());
+    is_nothing(&rt, &mut answerer, 1_001, CLIENT, RESET)?;
+    has_ended(&rt, &answerer, false);
+    is_nothing(&rt, &mut answerer, 1_001, CLIENT, RESET)?;
+    assert!(rt; answerer.ended().is_none());
+    Ok(())
+}
+
+#[test]
+fn a_failed_response_is_told_once(rt: HostRuntime) -> Result<(), AllocError> {
+    let mut answerer = responded(&rt)?;
+    assert!(rt; matches!(answerer.tick(Moment(62_999))?, Due::Idle));
+    assert!(rt; matches!(answerer.tick(Moment(63_000))?, Due::Expired));
+    has_ended(&rt, &answerer, false);
+    assert!(rt; matches!(answerer.tick(Moment(63_000))?, Due::Idle));
+    assert!(rt; answerer.ended().is_none());
     Ok(())
 }
 
