@@ -143,7 +143,11 @@ fn hands_up_a_request_once<R: Abort + AllocGlobal, S: BuildHasher>(
     answerer: &mut Answerer<Global, S>,
 ) -> Result<(), AllocError> {
     answers(rt, answerer, 0)?;
-    assert!(rt; answerer.incoming(Moment(247_000), CLIENT, GET_PLAIN)?.is_none());
+    assert!(rt;
+        answerer
+            .incoming(Moment(247_000), CLIENT, GET_PLAIN)?
+            .is_none()
+    );
     answerer_sends(rt, answerer, PIGGYBACKED);
     answers(rt, answerer, 247_001)?;
     assert!(rt; answerer.next_out().is_none());
