@@ -10,7 +10,7 @@ use Rattle.coap.specs.CommandLine.{coap_app}
 use Rattle.coap.specs.Words.{Enters, IsGiven, IsWrong, IsWrongIn, AsksFor, AsksForIn}
 use Rattle.coap.specs.declared.orders.Order.{Order}
 use Rattle.coap.specs.declared.orders.Wrong.{Wrong}
-use Rattle.coap.specs.declared.orders.Wrong.TheVariants.{Words, Path, Hex, Memory}
+use Rattle.coap.specs.declared.orders.Wrong.TheVariants.{Words, Path, Number, Hex, Memory}
 use Rattle.coap.proofs.Entered.{enters}
 use Rattle.coap.proofs.GivenWords.{required_word}
 
@@ -37,17 +37,31 @@ unfolding clap_on_literals
 is_free_coap = refl
 
 -- the names of the subcommands, but for `help`
+abbrev pub IsOurs : Text → Type 0
+IsOurs name =
+    (name ≡ codes "show") ⊎ ((name ≡ codes "answer") ⊎ ((name ≡ codes "pair") ⊎ ((name ≡ codes "serve") ⊎ (name ≡ codes "get"))))
+
 abbrev is_ours : Text → Bool
-is_ours name = bytes_eq name (codes "show") || bytes_eq name (codes "answer")
+is_ours name =
+    bytes_eq name (codes "show")
+    || (bytes_eq name (codes "answer") || (bytes_eq name (codes "pair") || (bytes_eq name (codes "serve") || bytes_eq name (codes "get"))))
 
-one_of_ours : (name : Text) → is_ours name ≡ true → (name ≡ codes "show") ⊎ (name ≡ codes "answer")
-one_of_ours name is = go (bytes_eq name (codes "show")) refl is
+-- the name is this one, or the other test holds
+first_or : (P : Type 0) (name known : Text) (rest : Bool) → (rest ≡ true → P) → (bytes_eq name known || rest) ≡ true → (name ≡ known) ⊎ P
+first_or P name known rest other is = go (bytes_eq name known) refl is
   where
-    go : (b : Bool) → bytes_eq name (codes "show") ≡ b → (b || bytes_eq name (codes "answer")) ≡ true → (name ≡ codes "show") ⊎ (name ≡ codes "answer")
-    go true same h = inl ((bytes_eq-Decides name (codes "show")).0 same)
-    go false same h = inr ((bytes_eq-Decides name (codes "answer")).0 h)
+    go : (b : Bool) → bytes_eq name known ≡ b → (b || rest) ≡ true → (name ≡ known) ⊎ P
+    go true same h = inl ((bytes_eq-Decides name known).0 same)
+    go false same h = inr (other h)
 
--- words that clap takes enter `show` or `answer`
+one_of_ours : (name : Text) → is_ours name ≡ true → IsOurs name
+one_of_ours name is =
+    first_or _ name (codes "show") _
+    (first_or _ name (codes "answer") _
+    (first_or _ name (codes "pair") _
+    (first_or _ name (codes "serve") _ (λ h. (bytes_eq-Decides name (codes "get")).0 h)))) is
+
+-- words that clap takes enter one of them
 enters_ours : (words : List Text) → fault_of coap_app words ≡ [] → (name : Text) × (rows : List Row) × (subcommand_of coap_app words ≡ Some (name, rows)) × (is_ours name ≡ true)
 unfolding clap_on_literals
 enters_ours words none = enters is_ours coap_app words refl refl refl none
@@ -69,6 +83,30 @@ pub answer_hex : (words : List Text) (rows : List Row) → Enters words (codes "
 unfolding clap_on_literals
 answer_hex words rows e = required_word coap_app words (codes "answer") (codes "HEX") rows refl e.taken e.entered
 
+pub pair_path : (words : List Text) (rows : List Row) → Enters words (codes "pair") rows → IsGiven (codes "PATH") rows
+unfolding clap_on_literals
+pair_path words rows e = required_word coap_app words (codes "pair") (codes "PATH") rows refl e.taken e.entered
+
+pub pair_body : (words : List Text) (rows : List Row) → Enters words (codes "pair") rows → IsGiven (codes "BODY") rows
+unfolding clap_on_literals
+pair_body words rows e = required_word coap_app words (codes "pair") (codes "BODY") rows refl e.taken e.entered
+
+pub serve_port : (words : List Text) (rows : List Row) → Enters words (codes "serve") rows → IsGiven (codes "PORT") rows
+unfolding clap_on_literals
+serve_port words rows e = required_word coap_app words (codes "serve") (codes "PORT") rows refl e.taken e.entered
+
+pub serve_count : (words : List Text) (rows : List Row) → Enters words (codes "serve") rows → IsGiven (codes "COUNT") rows
+unfolding clap_on_literals
+serve_count words rows e = required_word coap_app words (codes "serve") (codes "COUNT") rows refl e.taken e.entered
+
+pub get_port : (words : List Text) (rows : List Row) → Enters words (codes "get") rows → IsGiven (codes "PORT") rows
+unfolding clap_on_literals
+get_port words rows e = required_word coap_app words (codes "get") (codes "PORT") rows refl e.taken e.entered
+
+pub get_path : (words : List Text) (rows : List Row) → Enters words (codes "get") rows → IsGiven (codes "PATH") rows
+unfolding clap_on_literals
+get_path words rows e = required_word coap_app words (codes "get") (codes "PATH") rows refl e.taken e.entered
+
 -- ---- a parse that succeeds
 
 module _ (app : App) (is : app ≡ coap_app) (words : List Text) (m : ArgMatches) (found : HasMatchesOf app words m) (kinds : is_simple_and_free app ≡ true → fault_of app words ≡ []) where
@@ -85,8 +123,8 @@ module _ (app : App) (is : app ≡ coap_app) (words : List Text) (m : ArgMatches
       let met : subcommand_rows_of m ≡ Some (name, rows) = joined _ _ _ _ _ by_name by_rows in
       subst (λ n. Enters words n rows) same (record { taken = no_faults; entered = sym rows_are ∙ met })
 
--- which is one of the two
-pub ours : (words : List Text) (name : Text) (rows : List Row) → Enters words name rows → (name ≡ codes "show") ⊎ (name ≡ codes "answer")
+-- which is one of ours
+pub ours : (words : List Text) (name : Text) (rows : List Row) → Enters words name rows → IsOurs name
 ours words name rows e =
     let one = enters_ours words e.taken in
     let same : one.0 ≡ name = ap (λ (o : Option (Text × List Row)). (unwrap_or o (name, rows)).0) (sym one.2 ∙ e.entered) in
@@ -100,7 +138,8 @@ said_by words name rows (Err w) e h = tt
 
 wrong_in : (words : List Text) (name : Text) (rows : List Row) (w : Wrong) → Enters words name rows → IsWrongIn name rows w → IsWrong words w
 wrong_in words name rows (Words error) e h = absurd h
-wrong_in words name rows (Path refusal) e h = (rows, subst (λ n. Enters words n rows) h.0 e, h.1)
+wrong_in words name rows (Path refusal) e h = (name, rows, e, h.0, h.1)
+wrong_in words name rows (Number refusal) e h = (name, rows, e, h.0, h.1)
 wrong_in words name rows Hex e h = (name, rows, e, h.0, h.1)
 wrong_in words name rows Memory e h = tt
 

@@ -1,4 +1,5 @@
--- The command line of the program, as a value: `coap show HEX` and `coap answer PATH BODY HEX`.
+-- The command line of the program, as a value: `coap show HEX`, `coap answer PATH BODY HEX`, `coap pair PATH BODY`,
+-- `coap serve PORT COUNT` and `coap get PORT PATH`, where the last three take `--word N`.
 use Rattle.std.specs.Prelude.{Some, true, codes}
 use Rattle.clap.specs.Words.{App, Rule, Text, new_app, new_rule, with_rule, with_subcommand}
 use Rattle.clap.specs.declared.builder.ArgAction.TheVariants.{Set}
@@ -7,16 +8,33 @@ use Rattle.clap.specs.declared.builder.ArgAction.TheVariants.{Set}
 abbrev pub required_word : Text → Rule
 required_word name = record (new_rule name) { action = Some Set; required = true }
 
+-- `--word N`, which may be left out
+abbrev pub word_option : Rule
+word_option = record (new_rule (codes "word")) { long = Some (codes "word"); action = Some Set; value_names = 1 }
+
 abbrev pub show_app : App
 show_app = with_rule (new_app (codes "show")) (required_word (codes "HEX"))
 
 abbrev pub answer_app : App
 answer_app = with_rule (with_rule (with_rule (new_app (codes "answer")) (required_word (codes "PATH"))) (required_word (codes "BODY"))) (required_word (codes "HEX"))
 
+abbrev pub pair_app : App
+pair_app = with_rule (with_rule (with_rule (new_app (codes "pair")) (required_word (codes "PATH"))) (required_word (codes "BODY"))) word_option
+
+abbrev pub serve_app : App
+serve_app = with_rule (with_rule (with_rule (new_app (codes "serve")) (required_word (codes "PORT"))) (required_word (codes "COUNT"))) word_option
+
+abbrev pub get_app : App
+get_app = with_rule (with_rule (with_rule (new_app (codes "get")) (required_word (codes "PORT"))) (required_word (codes "PATH"))) word_option
+
 -- the program, without its subcommands
 abbrev pub base_app : App
 base_app = record (new_app (codes "coap")) { top = record (new_app (codes "coap")).top { subcommand_required = true } }
 
+-- the program, of the subcommands that need no socket
+abbrev pub datagram_app : App
+datagram_app = with_subcommand (with_subcommand base_app show_app.top) answer_app.top
+
 -- the program, whose words name one of its subcommands
 abbrev pub coap_app : App
-coap_app = with_subcommand (with_subcommand base_app show_app.top) answer_app.top
+coap_app = with_subcommand (with_subcommand (with_subcommand datagram_app pair_app.top) serve_app.top) get_app.top

@@ -1,9 +1,12 @@
-pub mod Checks
+pub mod Bearing
+pub mod Carried
 pub mod CommandLine
-pub mod FirstArrival
-pub mod FirstReply
+pub mod Faults
+pub mod MemoryCarries
+pub mod Numbers
 pub mod PathText
-pub mod Sayable
+pub mod Pumping
 pub mod Statuses
+pub mod Turning
 pub mod Words
 pub mod Wrongs

@@ -8,7 +8,7 @@ use Rattle.coap.specs.declared.commands.Stop.{Stop}
 use Rattle.coap.specs.declared.commands.Stop.TheVariants as stop
 use Rattle.coap.specs.declared.orders.Order.{Order}
 use Rattle.coap.specs.declared.orders.Wrong.{Wrong}
-use Rattle.coap.specs.declared.orders.Wrong.TheVariants.{Words, Path, Hex, Memory}
+use Rattle.coap.specs.declared.orders.Wrong.TheVariants.{Words, Path, Number, Hex, Memory}
 
 abbrev pub status_number : Status → ℕ
 status_number status.Done = 0
@@ -20,7 +20,7 @@ status_number status.Memory = 4
 -- the status of a run that came to its end, or stopped
 abbrev pub status_of : Result Status Stop → Status
 status_of (Ok s) = s
-status_of (Err stop.Output) = status.Failed
+status_of (Err stop.Failed) = status.Failed
 status_of (Err stop.Memory) = status.Memory
 
 -- what an order comes to that is carried out to its end
@@ -31,7 +31,8 @@ IsCarriedOut s = (s ≡ status.Done) ⊎ (s ≡ status.Refused)
 abbrev pub IsTold : Wrong → Result Status Stop → Type 0
 IsTold (Words error) ended = ended ≡ Ok status.Words
 IsTold (Path refusal) ended = ended ≡ Ok status.Words
-IsTold Hex ended = (ended ≡ Ok status.Words) ⊎ (ended ≡ Err stop.Output)
+IsTold (Number refusal) ended = ended ≡ Ok status.Words
+IsTold Hex ended = (ended ≡ Ok status.Words) ⊎ (ended ≡ Err stop.Failed)
 IsTold Memory ended = ended ≡ Err stop.Memory
 
 -- What is wrong in the words is answered so: 2, or 4 where memory is refused; where bad hex can't be printed, 3. Want of memory says
@@ -39,6 +40,7 @@ IsTold Memory ended = ended ≡ Err stop.Memory
 abbrev pub IsAnswered : Wrong → ℕ → Type 0
 IsAnswered (Words error) n = (n ≡ 2) ⊎ (n ≡ 4)
 IsAnswered (Path refusal) n = (n ≡ 2) ⊎ (n ≡ 4)
+IsAnswered (Number refusal) n = (n ≡ 2) ⊎ (n ≡ 4)
 IsAnswered Hex n = (n ≡ 2) ⊎ ((n ≡ 3) ⊎ (n ≡ 4))
 IsAnswered Memory n = ⊤
 

@@ -1,5 +1,5 @@
 -- What the words of the program say, as clap reads them.
-use Rattle.std.specs.Prelude.{ℕ, List, [], ◌≡◌, ◌≢◌, ◌⊎◌, ⊤, Some, Ok, true, is_some, codes}
+use Rattle.std.specs.Prelude.{ℕ, List, [], ◌≡◌, ◌≢◌, ◌⊎◌, ⊤, Some, None, Ok, true, is_some, codes}
 use Rattle.clap.specs.Words.{IsAmong, Row, Text, fault_of, first_of, kind_of, subcommand_of}
 use Rattle.clap.specs.declared.error.Error.{Error}
 use Rattle.coap_types.specs.Path.{HoldsAtMost}
@@ -7,11 +7,15 @@ use Rattle.coap_types.specs.declared.path.PathRefusal.{PathRefusal}
 use Rattle.coap_types.specs.declared.path.TheConstants.{MAX_SEGMENT_LEN as max_segment_len, MAX_SEGMENTS as max_segments}
 use Rattle.hex.specs.Hex.{decode_of}
 use Rattle.coap.specs.CommandLine.{coap_app}
+use Rattle.coap.specs.Numbers.{IsInRange, IsOutOfRange, argument_of}
 use Rattle.coap.specs.PathText.{IsNoPath, IsPathText, IsTrueOf}
 use Rattle.coap.specs.declared.orders.Order.{Order}
-use Rattle.coap.specs.declared.orders.Order.TheVariants.{Show, Answer}
+use Rattle.coap.specs.declared.orders.Order.TheVariants.{Show, Answer, Pair, Serve, Get}
+use Rattle.coap.specs.declared.orders.NumberRefusal.{NumberRefusal}
+use Rattle.coap.specs.declared.orders.NumberRefusal.TheVariants.{Port, Count, Word}
+use Rattle.coap.specs.declared.orders.TheConstants.{DEFAULT_WORD as default_word}
 use Rattle.coap.specs.declared.orders.Wrong.{Wrong}
-use Rattle.coap.specs.declared.orders.Wrong.TheVariants.{Words, Path, Hex, Memory}
+use Rattle.coap.specs.declared.orders.Wrong.TheVariants.{Words, Path, Number, Hex, Memory}
 
 -- clap takes the words, which enter this subcommand, and these are the values of its arguments
 pub record Enters (words : List Text) (subcommand : Text) (values : List Row) : Type 0 where
@@ -42,11 +46,29 @@ HasBytes values bytes = (text : Text) × IsValue (codes "HEX") values text × (d
 abbrev pub HasNoBytes : List Row → Type 0
 HasNoBytes values = (text : Text) × IsValue (codes "HEX") values text × ((bytes : List ℕ) → decode_of text ≢ Ok bytes)
 
+-- the argument has this number
+abbrev pub HasNumber : NumberRefusal → List Row → ℕ → Type 0
+HasNumber argument values n = (text : Text) × IsValue (argument_of argument) values text × IsInRange argument text n
+
+-- the argument has a value that is no number in its range
+abbrev pub HasNoNumber : NumberRefusal → List Row → Type 0
+HasNoNumber argument values = (text : Text) × IsValue (argument_of argument) values text × IsOutOfRange argument text
+
+-- `--word` has this number, or is left out and stands for the default
+abbrev pub HasWord : List Row → ℕ → Type 0
+HasWord values n = ((first_of (codes "word") values ≡ None) × (n ≡ default_word)) ⊎ HasNumber Word values n
+
 -- the subcommand with these values says this order
 abbrev pub AsksForIn : Text → List Row → Order → Type 0
 AsksForIn subcommand values (Show datagram) = (subcommand ≡ codes "show") × HasBytes values datagram.items
 AsksForIn subcommand values (Answer path body datagram) =
     (subcommand ≡ codes "answer") × HasPath values path × HoldsAtMost max_segments max_segment_len path × IsValue (codes "BODY") values body.now × HasBytes values datagram.items
+AsksForIn subcommand values (Pair path body word) =
+    (subcommand ≡ codes "pair") × HasPath values path × HoldsAtMost max_segments max_segment_len path × IsValue (codes "BODY") values body.now × HasWord values word
+AsksForIn subcommand values (Serve port count word) =
+    (subcommand ≡ codes "serve") × HasNumber Port values port × HasNumber Count values count × HasWord values word
+AsksForIn subcommand values (Get port path word) =
+    (subcommand ≡ codes "get") × HasNumber Port values port × HasPath values path × HoldsAtMost max_segments max_segment_len path × HasWord values word
 
 -- the words say this order
 abbrev pub AsksFor : List Text → Order → Type 0
@@ -57,13 +79,28 @@ abbrev pub IsPathFine : Text → List Row → Type 0
 IsPathFine subcommand values = (subcommand ≡ codes "show")
     ⊎ ((subcommand ≡ codes "answer") × (segments : List (List ℕ)) × HasPath values segments × HoldsAtMost max_segments max_segment_len segments)
 
+-- the subcommand takes a PATH
+abbrev pub TakesPath : Text → Type 0
+TakesPath subcommand = (subcommand ≡ codes "answer") ⊎ ((subcommand ≡ codes "pair") ⊎ (subcommand ≡ codes "get"))
+
+-- the subcommand takes this argument, a number
+abbrev pub TakesNumber : NumberRefusal → Text → Type 0
+TakesNumber Port subcommand = (subcommand ≡ codes "serve") ⊎ (subcommand ≡ codes "get")
+TakesNumber Count subcommand = subcommand ≡ codes "serve"
+TakesNumber Word subcommand = (subcommand ≡ codes "pair") ⊎ ((subcommand ≡ codes "serve") ⊎ (subcommand ≡ codes "get"))
+
 -- clap refuses the words, and the error is of a kind that they call for
 abbrev pub IsRefusedBy : Error → List Text → Type 0
 IsRefusedBy error words = IsAmong (kind_of error) (fault_of coap_app words)
 
--- clap takes the words, and the PATH of `answer` is a text of no path, for this reason
+-- clap takes the words, and the PATH among them is a text of no path, for this reason
 abbrev pub NamesNoPath : List Text → PathRefusal → Type 0
-NamesNoPath words refusal = (values : List Row) × Enters words (codes "answer") values × HasNoPath values refusal
+NamesNoPath words refusal = (subcommand : Text) × (values : List Row) × Enters words subcommand values × TakesPath subcommand × HasNoPath values refusal
+
+-- clap takes the words, and this argument among them is no number in its range
+abbrev pub NamesNoNumber : List Text → NumberRefusal → Type 0
+NamesNoNumber words refusal =
+    (subcommand : Text) × (values : List Row) × Enters words subcommand values × TakesNumber refusal subcommand × HasNoNumber refusal values
 
 -- clap takes the words, a PATH among them is a text of a path, and HEX is the hex of no list of bytes
 abbrev pub HasBadHex : List Text → Type 0
@@ -73,12 +110,14 @@ HasBadHex words = (subcommand : Text) × (values : List Row) × Enters words sub
 abbrev pub IsWrong : List Text → Wrong → Type 0
 IsWrong words (Words error) = IsRefusedBy error words
 IsWrong words (Path refusal) = NamesNoPath words refusal
+IsWrong words (Number refusal) = NamesNoNumber words refusal
 IsWrong words Hex = HasBadHex words
 IsWrong words Memory = ⊤
 
 -- the same, once it is known which subcommand they enter, with which values
 abbrev pub IsWrongIn : Text → List Row → Wrong → Type 0
 IsWrongIn subcommand values (Words error) = ⊥
-IsWrongIn subcommand values (Path refusal) = (subcommand ≡ codes "answer") × HasNoPath values refusal
+IsWrongIn subcommand values (Path refusal) = TakesPath subcommand × HasNoPath values refusal
+IsWrongIn subcommand values (Number refusal) = TakesNumber refusal subcommand × HasNoNumber refusal values
 IsWrongIn subcommand values Hex = IsPathFine subcommand values × HasNoBytes values
 IsWrongIn subcommand values Memory = ⊤

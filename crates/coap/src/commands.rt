@@ -2,32 +2,39 @@
 ghost use Rattle.std.specs.Prelude.{◌≡◌, ◌≢◌, ◌≤◌, ◌⊎◌, IfOk, map, string_bytes};
 ghost use Rattle.coap.specs.Statuses.{Ends, IsAnswered, IsCarriedOut, IsTold, status_number, status_of};
 ghost use Rattle.coap.specs.Words.{AsksFor, IsWrong};
-ghost use Rattle.coap.specs.declared.commands.Stop.TheVariants.{Memory, Output};
+ghost use Rattle.coap.specs.declared.commands.Stop.TheVariants.{Failed, Memory};
 ghost use Rattle.coap.specs.declared.orders.Order.{Order};
 ghost use Rattle.coap.specs.declared.orders.Wrong.{Wrong};
 ghost use Rattle.coap.specs.declared.orders.Wrong.TheVariants as wrongs;
 
 mod answer;
+mod bearing;
+mod ends;
+mod serve;
 mod show;
 
 use crate::orders::{Order, Wrong};
 use crate::words::order;
 use answer::answer;
+use serve::serve;
 use show::show;
-use std::alloc::{AllocError, Global};
+use std::alloc::AllocError;
 use std::io;
 use std::io::{ErrorKind, Write};
+use std::net::Net;
+use std::random::RandomSource;
+use std::rt::Clock;
 
 /// How a run ends: the exit status of the program.
 #[derive(Clone, Copy, Debug, PartialEq, Eq)]
 pub enum Status {
     /// What was asked for is printed.
     Done = 0,
-    /// A refused datagram, or one that is not served yet.
+    /// A refused datagram or body, or an order that can't be carried out yet.
     Refused = 1,
     /// Wrong words or hex.
     Words = 2,
-    /// Standard output failed.
+    /// A socket, the clock or standard output failed.
     Failed = 3,
     /// An allocation was refused.
     Memory = 4,
@@ -36,8 +43,8 @@ pub enum Status {
 /// Why a run stops before its end.
 #[derive(Debug, Drop)]
 pub enum Stop {
-    /// Standard output failed.
-    Output,
+    /// A socket, the clock or standard output failed.
+    Failed,
     /// An allocation was refused.
     Memory,
 }
@@ -58,10 +65,10 @@ impl Status {
 }
 
 impl From<io::Error> for Stop {
-    ghost from_gives = { λ _ stop. stop ≡ Output };
+    ghost from_gives = { λ _ stop. stop ≡ Failed };
 
     fn from(_error: io::Error) -> Stop {
-        Stop::Output
+        Stop::Failed
     }
 }
 
@@ -73,10 +80,23 @@ impl From<AllocError> for Stop {
     }
 }
 
-// Carries an order out.
-fn perform<W: Write>(alloc: Global, order: &Order<'_>, out: &mut W) -> Result<Status, Stop>
+// Says that an order can't be carried out yet.
+fn not_yet<W: Write>(out: &mut W) -> Result<Status, Stop>
     ensures { IfOk result IsCarriedOut }
 {
+    writeln!(out, "not yet")?;
+    Ok(Status::Refused)
+}
+
+// Carries an order out.
+fn perform<R: AllocGlobal + Net + Clock + RandomSource, W: Write>(
+    rt: &R,
+    order: &Order<'_>,
+    out: &mut W,
+) -> Result<Status, Stop>
+    ensures { IfOk result IsCarriedOut }
+{
+    let alloc = rt.alloc();
     match order {
         Order::Show { datagram } => show(alloc, datagram.as_slice(), out),
         Order::Answer {
@@ -84,6 +104,8 @@ fn perform<W: Write>(alloc: Global, order: &Order<'_>, out: &mut W) -> Result<St
             body,
             datagram,
         } => answer(alloc, path, body, datagram.as_slice(), out),
+        Order::Serve { port, count, word } => serve(rt, *port, *count, *word, out),
+        Order::Pair { .. } | Order::Get { .. } => not_yet(out),
     }
 }
 
@@ -97,7 +119,7 @@ fn refuse<O: Write, E: Write>(wrong: Wrong, out: &mut O, err: &mut E) -> Result<
             writeln!(out, "{wrong}")?;
             Ok(Status::Words)
         }
-        Wrong::Words(_) | Wrong::Path(_) => {
+        Wrong::Words(_) | Wrong::Path(_) | Wrong::Number(_) => {
             let _ = writeln!(err, "{wrong}");
             Ok(Status::Words)
         }
@@ -105,16 +127,16 @@ fn refuse<O: Write, E: Write>(wrong: Wrong, out: &mut O, err: &mut E) -> Result<
 }
 
 // Runs the words.
-fn run<O: Write, E: Write>(
-    alloc: Global,
+fn run<R: AllocGlobal + Net + Clock + RandomSource, O: Write, E: Write>(
+    rt: &R,
     words: &[String],
     out: &mut O,
     err: &mut E,
 ) -> Result<Status, Stop>
     ensures { Ends (map string_bytes words.now) result }
 {
-    match order(alloc, words) {
-        Ok(order) => perform(alloc, &order, out),
+    match order(rt.alloc(), words) {
+        Ok(order) => perform(rt, &order, out),
         Err(wrong) => refuse(wrong, out, err),
     }
 }
@@ -125,7 +147,7 @@ fn close<E: Write>(ended: Result<Status, Stop>, err: &mut E) -> Status
 {
     match ended {
         Ok(status) => status,
-        Err(Stop::Output) => {
+        Err(Stop::Failed) => {
             let _ = writeln!(err, "failed");
             Status::Failed
         }
@@ -138,7 +160,7 @@ fn close<E: Write>(ended: Result<Status, Stop>, err: &mut E) -> Status
 
 /// Runs the words of one run, the program's own name first, and answers the exit status. What a
 /// subcommand prints goes to `out`; help, usage, `failed` and `no memory` go to `err`.
-pub fn command<R: AllocGlobal, O: Write, E: Write>(
+pub fn command<R: AllocGlobal + Net + Clock + RandomSource, O: Write, E: Write>(
     rt: &R,
     words: &[String],
     out: &mut O,
@@ -153,7 +175,7 @@ pub fn command<R: AllocGlobal, O: Write, E: Write>(
     // An order is carried out only where the words ask for it.
     ensures done { result ≤ 1 → (order : Order) × AsksFor (map string_bytes words.now) order }
 {
-    let ended = run(rt.alloc(), words, out, err);
+    let ended = run(rt, words, out, err);
     close(ended, err).number()
 }
 

@@ -1,17 +1,19 @@
 //! The program `coap`: a client and a server of CoAP (RFC 7252) on the command line.
 #![tactic(auto)]
 
-mod answering;
-pub mod arrival;
-mod checks;
+pub mod carried;
 pub mod command_line;
 pub mod commands;
+pub mod driver;
+pub mod link;
+pub mod memory_link;
 pub mod orders;
 pub mod path_text;
-pub mod reply;
-mod reply_options;
-mod reply_put;
+pub mod tally;
 mod text;
+pub mod timekeeper;
+pub mod turning;
+pub mod udp_link;
 pub mod words;
 
 use commands::{command, without_words};
@@ -19,7 +21,7 @@ use std::process::ExitCode;
 use std::rt::Env;
 use std::{env, io};
 
-/// The words of the command line, the program's own name first.
+// The words of the command line, the program's own name first.
 fn arguments<R: Env + AllocGlobal>(rt: &R) -> io::Result<Vec<String>> {
     Ok(env::args(rt)?.collect(rt.alloc())?)
 }
@@ -33,3 +35,10 @@ fn main(rt: HostRuntime) -> ExitCode {
     };
     ExitCode::from(status)
 }
+
+#[cfg(test)]
+mod link_tests;
+#[cfg(test)]
+mod test_end;
+#[cfg(test)]
+mod turning_tests;

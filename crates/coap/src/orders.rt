@@ -25,10 +25,56 @@ pub enum Order<'a> {
         /// The datagram.
         datagram: Vec<u8>,
     },
+    /// Put a body at a path and get it back, between two ends of this program.
+    Pair {
+        /// Where the body is put.
+        path: Path,
+        /// The body: the bytes of this text.
+        body: &'a str,
+        /// The word that each end begins with.
+        word: u64,
+    },
+    /// Serve a resource until so many datagrams came.
+    Serve {
+        /// The UDP port.
+        port: u16,
+        /// How many datagrams.
+        count: u64,
+        /// The word that the server begins with.
+        word: u64,
+    },
+    /// Get what a server holds at a path.
+    Get {
+        /// The server's UDP port.
+        port: u16,
+        /// Where the resource is.
+        path: Path,
+        /// The word that the client begins with.
+        word: u64,
+    },
 }
 
-/// Why the words give no order. `Words` and `Path` are one refusal, that of wrong words, with a text
-/// of its own for each. The refusals are tested in the order of their numbers.
+/// The word that an end begins with where none is given.
+pub const DEFAULT_WORD: u64 = 1;
+
+const _: () = prove!(DEFAULT_WORD == 1);
+
+/// Which argument is no number in its range.
+#[derive(Clone, Copy, Debug, PartialEq, Eq, Error)]
+pub enum NumberRefusal {
+    /// A UDP port.
+    #[error("PORT is no number from 0 to 65535")]
+    Port,
+    /// A number of datagrams.
+    #[error("COUNT is no number from 0 to 18446744073709551615")]
+    Count,
+    /// A word.
+    #[error("--word is no number from 0 to 18446744073709551615")]
+    Word,
+}
+
+/// Why the words give no order. `Words`, `Path` and `Number` are one refusal, that of wrong words,
+/// with a text of its own for each. The refusals are tested in the order of their numbers.
 #[derive(Debug, Drop, Error)]
 pub enum Wrong {
     /// The words are no command line of the program, or ask for help.
@@ -37,6 +83,9 @@ pub enum Wrong {
     /// PATH is no path.
     #[error("PATH is no path: {0}")]
     Path(PathRefusal),
+    /// A number is out of its range.
+    #[error("{0}")]
+    Number(NumberRefusal),
     /// HEX is not the hex of any list of bytes.
     #[error("bad hex")]
     Hex,
@@ -51,7 +100,7 @@ impl Wrong {
         ensures { result ≡ wrong_number self.now }
     {
         match self {
-            Wrong::Words(_) | Wrong::Path(_) => 1,
+            Wrong::Words(_) | Wrong::Path(_) | Wrong::Number(_) => 1,
             Wrong::Hex => 2,
             Wrong::Memory => 3,
         }

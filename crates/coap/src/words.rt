@@ -1,21 +1,25 @@
 //! The words of the program, read.
-ghost use Rattle.std.specs.Prelude.{◌≡◌, IfOk, IfErr, MatchResult, map, codes, string_bytes};
-ghost use Rattle.clap.specs.Words.{found_of, rows_of};
-ghost use Rattle.coap.specs.Words.{IsGiven, IsValue, IsWrong, IsWrongIn, AsksFor, AsksForIn};
+ghost use Rattle.std.specs.Prelude.{◌≡◌, ◌<◌, ◌-◌, ◌^◌, ℕ, IfOk, IfErr, None, MatchOption, MatchResult, map, codes, string_bytes};
+ghost use Rattle.clap.specs.Words.{first_of, found_of, rows_of};
+ghost use Rattle.coap.specs.Words.{AsksFor, AsksForIn, HasNoNumber, HasNumber, HasWord, IsGiven, IsValue, IsWrong, IsWrongIn};
+ghost use Rattle.coap.specs.Numbers.{IsNumber};
+ghost use Rattle.coap.specs.declared.orders.NumberRefusal.TheVariants.{Count, Port, Word};
 
 use crate::command_line::coap_command;
-use crate::orders::{Order, Wrong};
+use crate::orders::{DEFAULT_WORD, NumberRefusal, Order, Wrong};
 use crate::path_text::path_of_text;
 use clap::ArgMatches;
 use std::alloc::Global;
 
 /// The order that the words give, of which the first is the program's own name. `clap` reads them,
-/// `path_of_text` reads PATH, `hex` reads HEX in upper and lower case, and BODY is taken as it is.
+/// `path_of_text` reads PATH, `hex` reads HEX in upper and lower case, `parse` reads a number, and BODY
+/// is taken as it is.
 pub fn order<'a>(alloc: Global, words: &'a [String]) -> Result<Order<'a>, Wrong>
     // The order is the one that the words say.
     ensures ok { IfOk result (AsksFor (map string_bytes words.now)) }
     // What is called wrong is wrong. `Words`: clap refuses the words, with an error of a kind that
     // they call for. `Path`: clap takes them, and PATH is no path, for the reason that is given.
+    // `Number`: clap takes them, and an argument is no number in its range.
     // `Hex`: clap takes them, PATH is a path where there is one, and HEX is the hex of no bytes.
     // `Memory` says nothing of the words.
     ensures wrong { IfErr result (IsWrong (map string_bytes words.now)) }
@@ -27,6 +31,9 @@ pub fn order<'a>(alloc: Global, words: &'a [String]) -> Result<Order<'a>, Wrong>
     match subcommand {
         "show" => show_order(alloc, given),
         "answer" => answer_order(alloc, given),
+        "pair" => pair_order(alloc, given),
+        "serve" => serve_order(given),
+        "get" => get_order(alloc, given),
         _ => unreachable!(),
     }
 }
@@ -56,6 +63,104 @@ fn answer_order<'a>(alloc: Global, given: &ArgMatches<'a>) -> Result<Order<'a>, 
         body: value(given, "BODY"),
         datagram,
     })
+}
+
+// `coap pair PATH BODY`
+fn pair_order<'a>(alloc: Global, given: &ArgMatches<'a>) -> Result<Order<'a>, Wrong>
+    requires path { IsGiven (codes "PATH") (rows_of (found_of given.now)) }
+    requires body { IsGiven (codes "BODY") (rows_of (found_of given.now)) }
+    ensures { MatchResult result (AsksForIn (codes "pair") (rows_of (found_of given.now)))
+        (IsWrongIn (codes "pair") (rows_of (found_of given.now))) }
+{
+    let text = value(given, "PATH");
+    let path = path_of_text(alloc, text)?;
+    let Some(word) = word(given) else {
+        return Err(Wrong::Number(NumberRefusal::Word));
+    };
+    let body = value(given, "BODY");
+    Ok(Order::Pair { path, body, word })
+}
+
+// `coap serve PORT COUNT`
+fn serve_order<'a>(given: &ArgMatches<'a>) -> Result<Order<'a>, Wrong>
+    requires port { IsGiven (codes "PORT") (rows_of (found_of given.now)) }
+    requires count { IsGiven (codes "COUNT") (rows_of (found_of given.now)) }
+    ensures { MatchResult result (AsksForIn (codes "serve") (rows_of (found_of given.now)))
+        (IsWrongIn (codes "serve") (rows_of (found_of given.now))) }
+{
+    let Some(port) = port(given) else {
+        return Err(Wrong::Number(NumberRefusal::Port));
+    };
+    let Some(count) = count(given) else {
+        return Err(Wrong::Number(NumberRefusal::Count));
+    };
+    let Some(word) = word(given) else {
+        return Err(Wrong::Number(NumberRefusal::Word));
+    };
+    Ok(Order::Serve { port, count, word })
+}
+
+// `coap get PORT PATH`
+fn get_order<'a>(alloc: Global, given: &ArgMatches<'a>) -> Result<Order<'a>, Wrong>
+    requires port { IsGiven (codes "PORT") (rows_of (found_of given.now)) }
+    requires path { IsGiven (codes "PATH") (rows_of (found_of given.now)) }
+    ensures { MatchResult result (AsksForIn (codes "get") (rows_of (found_of given.now)))
+        (IsWrongIn (codes "get") (rows_of (found_of given.now))) }
+{
+    let Some(port) = port(given) else {
+        return Err(Wrong::Number(NumberRefusal::Port));
+    };
+    let text = value(given, "PATH");
+    let path = path_of_text(alloc, text)?;
+    let Some(word) = word(given) else {
+        return Err(Wrong::Number(NumberRefusal::Word));
+    };
+    Ok(Order::Get { port, path, word })
+}
+
+// A number of 64 bits.
+fn number(text: &str) -> Option<u64>
+    ensures { MatchOption result ((n : ℕ) → IsNumber text.now n → 2 ^ 64 - 1 < n) (IsNumber text.now) }
+{
+    text.parse::<u64>().ok()
+}
+
+// PORT, where it is in range.
+fn port(given: &ArgMatches<'_>) -> Option<u16>
+    requires { IsGiven (codes "PORT") (rows_of (found_of given.now)) }
+    ensures { MatchOption result (HasNoNumber Port (rows_of (found_of given.now)))
+        (HasNumber Port (rows_of (found_of given.now))) }
+{
+    let number = number(value(given, "PORT"))?;
+    u16::try_from(number).ok()
+}
+
+// COUNT, where it is in range.
+fn count(given: &ArgMatches<'_>) -> Option<u64>
+    requires { IsGiven (codes "COUNT") (rows_of (found_of given.now)) }
+    ensures { MatchOption result (HasNoNumber Count (rows_of (found_of given.now)))
+        (HasNumber Count (rows_of (found_of given.now))) }
+{
+    number(value(given, "COUNT"))
+}
+
+// The word that an end begins with, where it is in range.
+fn word(given: &ArgMatches<'_>) -> Option<u64>
+    ensures { MatchOption result (HasNoNumber Word (rows_of (found_of given.now)))
+        (HasWord (rows_of (found_of given.now))) }
+{
+    match optional(given, "word") {
+        Some(text) => number(text),
+        None => Some(DEFAULT_WORD),
+    }
+}
+
+// The value of an argument that may be left out.
+fn optional<'a>(given: &ArgMatches<'a>, name: &str) -> Option<&'a str>
+    ensures { MatchOption result (first_of name.now (rows_of (found_of given.now)) ≡ None)
+        (λ text. IsValue name.now (rows_of (found_of given.now)) text.now) }
+{
+    given.get_str(name)
 }
 
 // The value of an argument that clap requires.

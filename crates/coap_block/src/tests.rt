@@ -7,12 +7,12 @@ use bytes::Bytes;
 use coap_types::Szx;
 use std::alloc::{AllocError, Global};
 
-/// A body of which no two neighbouring bytes are equal.
+// A body of which no two neighbouring bytes are equal.
 fn body_of(alloc: Global, len: usize) -> Result<Vec<u8>, AllocError> {
     body_from(alloc, 0, len)
 }
 
-/// The same from another first byte on.
+// The same from another first byte on.
 fn body_from(alloc: Global, first: u8, len: usize) -> Result<Vec<u8>, AllocError> {
     let mut body = Vec::new(alloc);
     let mut byte = first;
@@ -23,7 +23,7 @@ fn body_from(alloc: Global, first: u8, len: usize) -> Result<Vec<u8>, AllocError
     Ok(body)
 }
 
-/// The bytes from one place to another, none where the body ends before.
+// The bytes from one place to another, none where the body ends before.
 fn part(body: &[u8], from: usize, to: usize) -> &[u8] {
     body.get(from..to).unwrap_or(&[])
 }

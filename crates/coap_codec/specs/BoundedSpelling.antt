@@ -5,6 +5,8 @@ use Rattle.coap_types.specs.CoapOption.{CoapOption}
 use Rattle.coap_types.specs.declared.message.TheConstants.Code.{EMPTY as empty_code}
 use Rattle.coap_codec.specs.Message.{Message, Spells}
 use Rattle.coap_codec.specs.Refused.{ascends, is_short}
+use Rattle.coap_types.specs.declared.token.TheConstants.{MAX_TOKEN_LEN as max_token_len}
+use Rattle.coap_types.specs.declared.message.TheConstants.{MESSAGE_IDS as message_ids}
 
 -- the number has 16 bits
 abbrev pub is_numbered : CoapOption → Bool
@@ -20,8 +22,8 @@ most_bytes (option ∷ options) = (5 + length option.value) + most_bytes options
 pub record CanBeSpelled (m : Message) : Type 0 where
   pub some : 0 < m.code
   pub code : m.code < 2 ^ 8
-  pub id : m.id < 2 ^ 16
-  pub token : length m.token ≤ 8
+  pub id : m.id < message_ids
+  pub token : length m.token ≤ max_token_len
   pub order : ascends 0 m.options ≡ true
   pub numbers : list_all is_numbered m.options ≡ true
   pub short : list_all is_short m.options ≡ true
@@ -29,7 +31,7 @@ pub record CanBeSpelled (m : Message) : Type 0 where
 -- The message is Empty, and no more than its header (section 4.1).
 pub record IsBare (m : Message) : Type 0 where
   pub code : m.code ≡ empty_code.0
-  pub id : m.id < 2 ^ 16
+  pub id : m.id < message_ids
   pub token : m.token ≡ []
   pub options : m.options ≡ []
   pub payload : m.payload ≡ []

@@ -9,6 +9,7 @@ use Rattle.coap_codec.specs.Header.{version, kind_of, token_length, code, id_of}
 use Rattle.coap_codec.specs.Options.{Options}
 use Rattle.coap_codec.specs.declared.fault.Reason.{Reason}
 use Rattle.coap_codec.specs.declared.fault.Reason.TheVariants.{Short, Version, TokenLength, TokenCut, EmptyNotBare, DeltaReserved, LengthReserved, OptionCut, NumberTooLarge, NoPayload}
+use Rattle.coap_types.specs.declared.token.TheConstants.{MAX_TOKEN_LEN as max_token_len}
 
 -- how the reasons are counted
 abbrev pub reason_number : Reason → ℕ
@@ -85,7 +86,7 @@ place _ p len = p
 pub record IsHeader (bytes : List ℕ) : Type 0 where
   pub long : 4 ≤ length bytes
   pub version : version bytes ≡ 1
-  pub token : token_length bytes ≤ 8
+  pub token : token_length bytes ≤ max_token_len
 
 -- The token is there too, and an Empty message has nothing behind its header.
 pub record IsFramed (bytes : List ℕ) : Type 0 where

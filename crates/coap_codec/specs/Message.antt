@@ -8,6 +8,8 @@ use Rattle.coap_types.specs.declared.message.TheConstants.Code.{EMPTY as empty_c
 use Rattle.coap_types.specs.declared.options.Opt.{Opt}
 use Rattle.coap_codec.specs.Options.{Options}
 use Rattle.coap_codec.specs.declared.head.Head.{Head}
+use Rattle.coap_types.specs.declared.token.TheConstants.{MAX_TOKEN_LEN as max_token_len}
+use Rattle.coap_types.specs.declared.message.TheConstants.{MESSAGE_IDS as message_ids}
 
 -- A message, wherever it lies in memory. One without a payload has the empty payload.
 pub record Message : Type 0 where
@@ -50,8 +52,8 @@ marked (b ∷ bytes) = 255 ∷ b ∷ bytes
 -- Empty message, code 0.00, is its header alone (section 4.1).
 pub record Spells (bytes : List ℕ) (m : Message) : Type 0 where
   pub code : m.code < 2 ^ 8
-  pub id : m.id < 2 ^ 16
-  pub token : length m.token ≤ 8
+  pub id : m.id < message_ids
+  pub token : length m.token ≤ max_token_len
   pub option_bytes : List ℕ
   pub options : Options 0 option_bytes m.options
   pub parts : bytes ≡ header m ++ (m.token ++ (option_bytes ++ marked m.payload))

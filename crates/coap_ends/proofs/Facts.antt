@@ -2,3 +2,4 @@ pub mod OfClient
 pub mod OfServer
 pub mod Sources
 pub mod Adds
+pub mod OfWholeServer

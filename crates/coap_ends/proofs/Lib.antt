@@ -9,3 +9,5 @@ pub mod Replying
 pub mod Holding
 pub mod WholeServer
 pub mod WholeClient
+pub mod ServerCalls
+pub mod ClientCalls

@@ -1,3 +1,5 @@
+pub mod Progress
+pub mod Answering
 pub mod Exact
 pub mod Serving
 pub mod Replying

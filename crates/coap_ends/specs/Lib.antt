@@ -11,3 +11,7 @@ pub mod ServerLaw
 pub mod Adds
 pub mod WholeServer
 pub mod WholeClient
+pub mod ServerObject
+pub mod ServerTurns
+pub mod StepsDue
+pub mod ClientObject

@@ -27,3 +27,12 @@ pub mod HoldScenes
 pub mod ClientHears
 pub mod ClientNumbers
 pub mod ClientGives
+pub mod ClientAdds
+pub mod ClientBegins
+pub mod ClientOrder
+pub mod ClientTokens
+pub mod ClientBodies
+pub mod ClientTakes
+pub mod ClientNewer
+pub mod ClientValid
+pub mod ClientContinued

@@ -1,14 +1,22 @@
-//! The two ends of CoAP, a client and a server (RFC 7252, section 5): what they do, as laws.
+//! The two ends of CoAP, a client and a server (RFC 7252, section 5), and their laws.
 #![tactic(auto)]
 
+mod client;
+mod client_follows;
+mod end;
 mod laws;
 mod limits;
 mod refusals;
+mod server;
 mod whole_client;
 mod whole_server;
 
+pub use client::{CallId, Client, Fetched, Report};
+pub use client_follows::client_follows_law;
+pub use end::End;
 pub use laws::{client_law, server_law};
 pub use limits::{MAX_DELAYS, MAX_OBSERVATIONS, MAX_OPTIONS_LEN, MAX_WAITING_CALLS};
 pub use refusals::{CallRefusal, CancelRefusal};
+pub use server::{Applied, DelayRefusal, Server};
 pub use whole_client::{whole_client_law, whole_client_witness};
 pub use whole_server::{whole_server_law, whole_server_runs};

@@ -1,5 +1,5 @@
--- An object above another: what its calls add up to, what they ask of the one beneath, that each has its row; and how it
--- comes from one state to the next.
+-- An object above another: what its calls add up to, what they ask of the one beneath, that each has its row; and how
+-- it comes from one state to the next.
 use Rattle.std.specs.Prelude.{◌≡◌, List, [], ◌∷◌, ◌++◌}
 use Rattle.coap_types.specs.Past.{Always}
 
@@ -23,7 +23,8 @@ pub record State (Own Layer : Type 0) : Type 0 where
   pub own : Own
   pub layer : Layer
 
-module _ {Own Call Below Layer : Type 0} (IsRight : Own → Call → Type 0) (after : Own → Call → Own) (lower : Own → Call → List Below) (Steps : Layer → List Below → Layer → Type 0) where
+module _ {Own Call Below Layer : Type 0} (IsRight : Own → Call → Type 0) (after : Own → Call → Own)
+    (lower : Own → Call → List Below) (Steps : Layer → List Below → Layer → Type 0) where
   -- one call
   pub record Step (old : State Own Layer) (c : Call) (new : State Own Layer) : Type 0 where
     pub right : IsRight old.own c
@@ -36,7 +37,8 @@ module _ {Own Call Below Layer : Type 0} (IsRight : Own → Call → Type 0) (af
   Chain old (c ∷ earlier) new = (between : State Own Layer) × Chain old earlier between × Step between c new
 
   module _ (start : Own) (fresh : Layer) where
-    -- The law: each call has its row, and an object beneath that began fresh answered what was asked of it, step by step.
+    -- The law: each call has its row, and an object beneath that began fresh answered what was asked of it, step by
+    -- step.
     pub record Law (trace : List Call) : Type 0 where
       pub rows : Rows start after IsRight trace
       pub left : Layer

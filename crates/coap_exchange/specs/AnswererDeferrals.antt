@@ -22,8 +22,10 @@ pub record DefersUntil (a : Asked) (at : ℕ) (past : List Call) (c : Call) : Ty
 
 -- A separate response, and that a request is ready for one, comes no earlier than the delay after its deferral.
 pub record LongEnough (past : List Call) (c : Call) : Type 0 where
-  pub ready : (now : ℕ) (below : L.Answer) (room : _) (a : Asked) → c ≡ Ticks now below room (due.Ready a) → Sometime (DefersUntil a (moment past now)) past
-  pub responds : (now : ℕ) (a : Asked) (r : Response) (word id : ℕ) → c ≡ Responds now a r word id → Sometime (DefersUntil a (moment past now)) past
+  pub ready : (now : ℕ) (below : L.Answer) (room : _) (a : Asked) → c ≡ Ticks now below room (due.Ready a)
+      → Sometime (DefersUntil a (moment past now)) past
+  pub responds : (now : ℕ) (a : Asked) (r : Response) (word id : ℕ) → c ≡ Responds now a r word id
+      → Sometime (DefersUntil a (moment past now)) past
 
 abbrev pub DeferredLongEnough : List Call → Type 0
 DeferredLongEnough trace = Always LongEnough trace
@@ -38,10 +40,12 @@ abbrev pub IsDue : Asked → ℕ → List Call → Type 0
 IsDue a at [] = ⊥
 IsDue a at (c ∷ past) = DefersUntil a at past c ⊎ ((responds_later c ≢ Some a) × IsDue a at past)
 
--- Where a request is due and no CON to its endpoint is outstanding, an idle tick that finds room says that one is ready.
+-- Where a request is due and no CON to its endpoint is outstanding, an idle tick that finds room says that one is
+-- ready.
 pub record IsReadied (past : List Call) (c : Call) : Type 0 where
   pub readied :
-      (now : ℕ) (answer : Due) (a : Asked) → c ≡ Ticks now L.Idle true answer → IsDue a (moment past now) past → is_waited_for a.from (own_of past).separate ≡ false
+      (now : ℕ) (answer : Due) (a : Asked) → c ≡ Ticks now L.Idle true answer → IsDue a (moment past now) past
+      → is_waited_for a.from (own_of past).separate ≡ false
       → (b : Asked) × (answer ≡ due.Ready b)
 
 abbrev pub ReadyWhenDue : List Call → Type 0
@@ -50,7 +54,8 @@ ReadyWhenDue trace = Always IsReadied trace
 -- .. it was deferred when there were n calls
 abbrev pub IsDueFrom : ℕ → Asked → ℕ → List Call → Type 0
 IsDueFrom n a at [] = ⊥
-IsDueFrom n a at (c ∷ past) = (DefersUntil a at past c × (n ≡ length past)) ⊎ ((responds_later c ≢ Some a) × IsDueFrom n a at past)
+IsDueFrom n a at (c ∷ past) =
+    (DefersUntil a at past c × (n ≡ length past)) ⊎ ((responds_later c ≢ Some a) × IsDueFrom n a at past)
 
 -- The one that is ready was deferred no later than any that is due and to whose endpoint no CON is outstanding.
 pub record IsEarliest (past : List Call) (c : Call) : Type 0 where

@@ -36,7 +36,9 @@ times p f (c ∷ past) = hits p (f past c) + times p f past
 
 -- of one endpoint, type, Message ID and token
 abbrev pub same_asked : Asked → Asked → Bool
-same_asked a b = same_endpoint a.from b.from && ((kind_number a.kind == kind_number b.kind) && ((a.id.0 == b.id.0) && same_token a.token b.token))
+same_asked a b =
+    same_endpoint a.from b.from && ((kind_number a.kind == kind_number b.kind)
+    && ((a.id.0 == b.id.0) && same_token a.token b.token))
 
 abbrev pub times_handed : Asked → List Call → ℕ
 times_handed a t = times (same_asked a) (λ past c. hands c) t
@@ -54,7 +56,8 @@ AreResponses trace = Always Responses trace
 
 -- What is handed up came in a datagram; its endpoint, type, Message ID and token are those of the request.
 pub record CameIn (c : Call) : Type 0 where
-  pub came : (now : ℕ) (from : Endpoint) (bytes : List ℕ) (up : _) (a : Asked) (m : Message) → c ≡ Incoming now from bytes up (Some (a, m)) → (a ≡ asked_of from m) × Spells bytes m
+  pub came : (now : ℕ) (from : Endpoint) (bytes : List ℕ) (up : _) (a : Asked) (m : Message)
+      → c ≡ Incoming now from bytes up (Some (a, m)) → (a ≡ asked_of from m) × Spells bytes m
 
 abbrev pub AreRequests : List Call → Type 0
 AreRequests trace = Always (λ past c. CameIn c) trace
@@ -62,8 +65,10 @@ AreRequests trace = Always (λ past c. CameIn c) trace
 -- the separate response or notification that a call sends, and that which it says has ended by a Reset or a failure
 -- (section 5.2.2; RFC 7641, sections 3.6 and 4.5)
 abbrev pub sends : Call → Option Ended
-sends (Responds now a r word id) = Some (record { to = a.from; token = a.token; observe = has_number observe r.options })
-sends (Notifies now to token r word id) = Some (record { to = to; token = token; observe = has_number observe r.options })
+sends (Responds now a r word id) =
+    Some (record { to = a.from; token = a.token; observe = has_number observe r.options })
+sends (Notifies now to token r word id) =
+    Some (record { to = to; token = token; observe = has_number observe r.options })
 sends _ = None
 
 abbrev pub end_told : List Call → Call → Option Ended
@@ -76,14 +81,17 @@ same_ended x y = same_endpoint x.to y.to && (same_token x.token y.token && beq x
 
 -- Each that is said to have ended was sent, and is said once.
 pub record ToldOnce (past : List Call) (c : Call) : Type 0 where
-  pub once : (x : Ended) → end_told past c ≡ Some x → times (same_ended x) end_told past < times (same_ended x) (λ old b. sends b) past
+  pub once : (x : Ended) → end_told past c ≡ Some x
+      → times (same_ended x) end_told past < times (same_ended x) (λ old b. sends b) past
 
 abbrev pub EndsOnce : List Call → Type 0
 EndsOnce trace = Always ToldOnce trace
 
--- Where a separate response or a notification to an endpoint is not acknowledged, the layer has a CON to it outstanding, and only there.
+-- Where a separate response or a notification to an endpoint is not acknowledged, the layer has a CON to it
+-- outstanding, and only there.
 abbrev pub WaitsForOutstanding : (word : ℕ) (trace : List Call) → ResponseLaw word trace → Type 0
-WaitsForOutstanding word trace law = (to : Endpoint) → is_waited_for to (own_of trace).separate ≡ L.is_busy to law.left.open_cons
+WaitsForOutstanding word trace law =
+    (to : Endpoint) → is_waited_for to (own_of trace).separate ≡ L.is_busy to law.left.open_cons
 
 -- At most 16 requests are deferred.
 abbrev pub FewDeferred : List Call → Type 0

@@ -13,7 +13,8 @@ use Rattle.coap_exchange.specs.AnswererLaw.{below_of}
 
 -- the message that carries a response or a notification
 abbrev pub carrying : Kind → ℕ → List ℕ → Response → Message
-carrying kind id token r = record { kind = kind; code = r.code; id = id; token = token; options = r.options; payload = r.payload }
+carrying kind id token r =
+    record { kind = kind; code = r.code; id = id; token = token; options = r.options; payload = r.payload }
 
 -- a call of the message layer sends this message there, and nothing else
 pub record SendsThere (e : Entry) (to : Endpoint) (m : Message) : Type 0 where
@@ -27,15 +28,17 @@ pub record SendsOne (word : ℕ) (past : List Call) (c : Call) (to : Endpoint) (
   pub makes : below_of word (c ∷ past) ≡ entry ∷ below_of word past
   pub sends : SendsThere entry to m
 
--- A response goes to the endpoint of its request and carries its token: in the acknowledgement of a CON, whose Message ID
--- it has (section 5.2.1); to a NON in a NON (5.2.3); later in a CON (5.2.2). A notification goes in a CON to its observer,
--- with the token of the registration (RFC 7641, section 4.2).
+-- A response goes to the endpoint of its request and carries its token: in the acknowledgement of a CON, whose
+-- Message ID it has (section 5.2.1); to a NON in a NON (5.2.3); later in a CON (5.2.2). A notification goes in a CON
+-- to its observer, with the token of the registration (RFC 7641, section 4.2).
 abbrev pub GoesBack : ℕ → List Call → Call → Type 0
 GoesBack word past (Answers a r below) =
     (a.kind ≡ Con → SendsOne word past (Answers a r below) a.from (carrying Ack a.id.0 a.token r))
     × (a.kind ≢ Con → (id : ℕ) × SendsOne word past (Answers a r below) a.from (carrying Non id a.token r))
-GoesBack word past (Responds now a r w id) = SendsOne word past (Responds now a r w id) a.from (carrying Con id a.token r)
-GoesBack word past (Notifies now to token r w id) = SendsOne word past (Notifies now to token r w id) to (carrying Con id token r)
+GoesBack word past (Responds now a r w id) =
+    SendsOne word past (Responds now a r w id) a.from (carrying Con id a.token r)
+GoesBack word past (Notifies now to token r w id) =
+    SendsOne word past (Notifies now to token r w id) to (carrying Con id token r)
 GoesBack word past _ = Unit {0}
 
 abbrev pub AllGoBack : ℕ → List Call → Type 0
@@ -47,6 +50,7 @@ begins (Responds now a r word id) = Some a.from
 begins (Notifies now to token r word id) = Some to
 begins _ = None
 
--- A separate response and a notification begin only where no CON to that endpoint is outstanding (NSTART is 1, section 4.7).
+-- A separate response and a notification begin only where no CON to that endpoint is outstanding (NSTART is 1,
+-- section 4.7).
 abbrev pub BeginAlone : ℕ → List Call → Type 0
 BeginAlone word trace = Always (λ past c. IfSome (begins c) (λ to. Busy (below_of word past) to → ⊥)) trace

@@ -1,5 +1,5 @@
--- What each call of the server's side asks of the message layer, answers and leaves (RFC 7252, sections 4.2, 4.3, 5.2; RFC
--- 7641, section 4.2).
+-- What each call of the server's side asks of the message layer, answers and leaves (RFC 7252, sections 4.2, 4.3,
+-- 5.2; RFC 7641, section 4.2).
 use Rattle.std.specs.Prelude.{◌≡◌, ℕ, ◌-◌, nat_le, nat_lt, max, Bool, true, false, Option, Some, None, List, [], ◌∷◌, ◌++◌, length, filter, ◌&&◌, not, if◌then◌else◌}
 use Rattle.std.specs.List.{list_any}
 use Rattle.std.specs.Option.{option_map}
@@ -110,7 +110,8 @@ IsResponse a r = IsResponseWith a.token r
 
 -- what is outstanding of a separate response or a notification that was sent there with this Message ID
 abbrev pub separate_of : Endpoint → ℕ → List ℕ → Response → Separate
-separate_of to id token r = record { to = to; id = record { 0 = id }; token = token; observe = has_number observe r.options }
+separate_of to id token r =
+    record { to = to; id = record { 0 = id }; token = token; observe = has_number observe r.options }
 
 -- deferral (section 5.2.2): an Empty acknowledgement now, and a CON later; at most so many are deferred (profile)
 
@@ -132,8 +133,8 @@ abbrev pub pending_unless : Bool → Option Asked → Option Asked
 pending_unless true pending = None
 pending_unless false pending = pending
 
--- time passes: a failure, a retransmission, and then the first deferred request whose delay has passed and whose endpoint
--- has no CON outstanding (NSTART is 1, section 4.7), where a Message ID is free
+-- time passes: a failure, a retransmission, and then the first deferred request whose delay has passed and whose
+-- endpoint has no CON outstanding (NSTART is 1, section 4.7), where a Message ID is free
 
 abbrev pub is_waited_for : Endpoint → List Separate → Bool
 is_waited_for to xs = list_any (λ (x : Separate). same_endpoint x.to to) xs
@@ -174,39 +175,54 @@ ready_at s now = first_ready (max s.clock now) s.separate s.deferred
 -- all calls
 
 abbrev pub lower : Own → Call → List Below
-lower s (Incoming now from bytes up answer) = replying from (id_in up) (reject_by up) ++ asked now (L.Receive from bytes) up ∷ []
+lower s (Incoming now from bytes up answer) =
+    replying from (id_in up) (reject_by up) ++ asked now (L.Receive from bytes) up ∷ []
 lower s (Answers a r below) = asked s.clock (answering s a.kind a r) below ∷ []
 lower s (Defers now a delay answer) = deferring (may_defer s.deferred) a ++ asked now L.Pass L.Nothing ∷ []
-lower s (Ticks now below room answer) = asking_room now (ready_if below (ready_at s now)) room ++ asked now L.Ticks below ∷ []
+lower s (Ticks now below room answer) =
+    asking_room now (ready_if below (ready_at s now)) room ++ asked now L.Ticks below ∷ []
 lower s (Responds now a r word id) = asked now (L.Confirm a.from (content_of a r) word) (L.Sent id) ∷ []
 lower s (Ready now to answer) = asked now (L.Room to) (L.Is answer) ∷ []
 lower s (Notifies now to token r word id) = asked now (L.Confirm to (content_with token r) word) (L.Sent id) ∷ []
 lower s (Take answer) = asked 0 L.Take (L.Gives answer) ∷ []
 
--- what is answered; of an answer, a deferral and a response also the caller's condition: it is to the request that the
--- last input handed up, or to the one that is ready; and of these and a notification: it is a response that can be spelled
+-- what is answered; of an answer, a deferral and a response also the caller's condition: it is to the request that
+-- the last input handed up, or to the one that is ready; and of these and a notification: it is a response that can
+-- be spelled
 abbrev pub IsRight : Own → Call → Type 0
 IsRight s (Incoming now from bytes up answer) = answer ≡ handed_up from up
 IsRight s (Answers a r below) = (s.pending ≡ Some a) × IsResponse a r × IsSentAs a.kind below
 IsRight s (Defers now a delay answer) = (s.pending ≡ Some a) × (a.kind ≡ Con) × (answer ≡ may_defer s.deferred)
 IsRight s (Ticks now below room answer) = answer ≡ due_of below (ready_at s now) room
-IsRight s (Responds now a r word id) = (option_map (λ (d : Deferred). d.asked) (ready_at s now) ≡ Some a) × IsResponse a r
+IsRight s (Responds now a r word id) =
+    (option_map (λ (d : Deferred). d.asked) (ready_at s now) ≡ Some a) × IsResponse a r
 IsRight s (Ready now to answer) = Unit {0}
 IsRight s (Notifies now to token r word id) = IsResponseWith token r
 IsRight s (Take answer) = Unit {0}
 
 abbrev pub after : Own → Call → Own
 after s (Incoming now from bytes up answer) =
-    record s { clock = max s.clock now; pending = asked_in answer; separate = separate_after from up s.separate; ended = reset_by from up s.separate }
+    record s {
+      clock = max s.clock now;
+      pending = asked_in answer;
+      separate = separate_after from up s.separate;
+      ended = reset_by from up s.separate;
+    }
 after s (Answers a r below) = record s { pending = None }
 after s (Defers now a delay answer) =
     record s {
       clock = max s.clock now;
       pending = pending_unless answer s.pending;
-      deferred = deferred_with answer (record { asked = a; at = record { 0 = max s.clock now }; delay = delay }) s.deferred;
+      deferred =
+          deferred_with answer (record { asked = a; at = record { 0 = max s.clock now }; delay = delay }) s.deferred;
     }
 after s (Ticks now below room answer) =
-    record s { clock = max s.clock now; pending = None; separate = separate_unless below s.separate; ended = failed_by below s.separate }
+    record s {
+      clock = max s.clock now;
+      pending = None;
+      separate = separate_unless below s.separate;
+      ended = failed_by below s.separate;
+    }
 after s (Responds now a r word id) =
     record s {
       clock = max s.clock now;
@@ -215,5 +231,6 @@ after s (Responds now a r word id) =
       separate = s.separate ++ separate_of a.from id a.token r ∷ [];
     }
 after s (Ready now to answer) = record s { clock = max s.clock now }
-after s (Notifies now to token r word id) = record s { clock = max s.clock now; pending = None; separate = s.separate ++ separate_of to id token r ∷ [] }
+after s (Notifies now to token r word id) =
+    record s { clock = max s.clock now; pending = None; separate = s.separate ++ separate_of to id token r ∷ [] }
 after s (Take answer) = s

@@ -52,7 +52,8 @@ TellsIf past c (Some con) = Tells past c con
 
 -- What hands up a request ends none.
 abbrev pub HandsOrEnds : List Call → Type 0
-HandsOrEnds trace = Always (λ past c. IfSome (hands c) (λ asked. (end_told past c ≡ None) × ((own_of (c ∷ past)).ended ≡ None))) trace
+HandsOrEnds trace =
+    Always (λ past c. IfSome (hands c) (λ asked. (end_told past c ≡ None) × ((own_of (c ∷ past)).ended ≡ None))) trace
 
 abbrev pub EndsTold : List Call → Type 0
 EndsTold trace = Always (λ past c. TellsIf past c (fails c)) trace

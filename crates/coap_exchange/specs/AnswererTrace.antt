@@ -17,8 +17,8 @@ pub record Response : Type 0 where
   pub options : List CoapOption
   pub payload : List ℕ
 
--- the latest moment, the request that may be answered or deferred now, those that are deferred and the separate responses
--- and notifications that are outstanding, in order, and that of them which the last input ended
+-- the latest moment, the request that may be answered or deferred now, those that are deferred and the separate
+-- responses and notifications that are outstanding, in order, and that of them which the last input ended
 pub record Own : Type 0 where
   pub clock : ℕ
   pub pending : Option Asked

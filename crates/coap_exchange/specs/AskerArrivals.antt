@@ -93,7 +93,8 @@ settling false server running settled = []
 
 -- what is asked of the layer, the newest first
 abbrev pub acts : Own → Endpoint → L.Answer → Bool → Verdict → List Asked
-acts s from up settled v = settling (settles v) s.server s.running settled ++ replying from (id_in up) (reply_by v (id_in up))
+acts s from up settled v =
+    settling (settles v) s.server s.running settled ++ replying from (id_in up) (reply_by v (id_in up))
 
 abbrev pub told : Verdict → L.Answer → Option Event
 told AnswerCon (L.Becomes (L.Response m)) = Some (event.Answer m)
@@ -110,8 +111,8 @@ running_after at EndByReset running = None
 running_after at Await running = option_map (λ (x : Exchange). record x { acked = Some (record { 0 = at }) }) running
 running_after at _ running = running
 
--- time passes (sections 4.2 and 5.2.2): the failure of the request, a retransmission, the end of the wait for a separate
--- response, EXCHANGE_LIFETIME after the Empty acknowledgement (profile)
+-- time passes (sections 4.2 and 5.2.2): the failure of the request, a retransmission, the end of the wait for a
+-- separate response, EXCHANGE_LIFETIME after the Empty acknowledgement (profile)
 
 abbrev pub has_waited : ℕ → Option Moment → Bool
 has_waited at None = false

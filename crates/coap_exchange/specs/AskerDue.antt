@@ -19,23 +19,28 @@ module _ (server : Endpoint) (word : ℕ) where
   abbrev pub last_acked : List Call → Option Moment
   last_acked [] = None
   last_acked (Ask now r w below (Ok token) ∷ past) = None
-  last_acked (Receive now from bytes (L.Becomes (L.Acked id)) settled answer ∷ past) = if is_of_request (own_of server word past) from id then Some (record { 0 = moment server word past now }) else last_acked past
+  last_acked (Receive now from bytes (L.Becomes (L.Acked id)) settled answer ∷ past) =
+      if is_of_request (own_of server word past) from id then Some (record { 0 = moment server word past now })
+      else last_acked past
   last_acked (c ∷ past) = last_acked past
 
-  -- At the first tick FAILURE_TIMEOUTS initial timeouts after its request was sent, the exchange that runs ends, where no Empty
-  -- acknowledgement came (section 4.2)
+  -- At the first tick FAILURE_TIMEOUTS initial timeouts after its request was sent, the exchange that runs ends,
+  -- where no Empty acknowledgement came (section 4.2)
   pub record FailsWhenDue (past : List Call) (now : ℕ) (answer : Turn) : Type 0 where
     pub begun : Begun
     pub last : last_begun server word past ≡ Some begun
-    pub ends : begun.timeout * failure_timeouts ≤ moment server word past now - begun.at → answer ≡ turn.End event.Timeout
+    pub ends : begun.timeout * failure_timeouts ≤ moment server word past now - begun.at
+        → answer ≡ turn.End event.Timeout
 
   -- .. and else at the first tick EXCHANGE_LIFETIME after that acknowledgement (section 5.2.2; profile)
   pub record WhenDue (past : List Call) (c : Call) : Type 0 where
     pub unheard :
-        (now : ℕ) (below : _) (answer : Turn) (x : Exchange) → c ≡ Ticks now below answer → (own_of server word past).running ≡ Some x → x.acked ≡ None
+        (now : ℕ) (below : _) (answer : Turn) (x : Exchange) → c ≡ Ticks now below answer
+        → (own_of server word past).running ≡ Some x → x.acked ≡ None
         → FailsWhenDue past now answer
     pub heard :
-        (now : ℕ) (below : _) (answer : Turn) (x : Exchange) (acked : Moment) → c ≡ Ticks now below answer → (own_of server word past).running ≡ Some x → x.acked ≡ Some acked
+        (now : ℕ) (below : _) (answer : Turn) (x : Exchange) (acked : Moment) → c ≡ Ticks now below answer
+        → (own_of server word past).running ≡ Some x → x.acked ≡ Some acked
         → exchange_lifetime ≤ moment server word past now - acked.0 → answer ≡ turn.End event.NoResponse
     pub acked : (x : Exchange) → (own_of server word past).running ≡ Some x → x.acked ≡ last_acked past
 

@@ -27,31 +27,37 @@ abbrev pub is_late : Own → Message → Bool
 is_late s m = has_token s.running m.token && (is_cancel s.running && carries Response observe m.options)
 
 -- a response that arrives: what is replied to it
-pub record RepliesTo (s : Own) (from : Endpoint) (m : Message) (told : Option Event) (out : List L.Packet) : Type 0 where
+pub record RepliesTo (s : Own) (from : Endpoint) (m : Message) (told : Option Event)
+    (out : List L.Packet) : Type 0 where
   -- what is told is acknowledged
   pub told_con : message_told told ≡ Some m → m.kind ≡ Con → out ≡ acknowledging from m.id
   pub told_other : message_told told ≡ Some m → m.kind ≢ Con → out ≡ []
   -- what belongs to no request is rejected
   pub strange : (m.kind ≡ Con) ⊎ (m.kind ≡ Non) → is_known s from m ≡ false → out ≡ rejecting from m.id
   -- a critical option that is not recognised
-  pub critical_con : m.kind ≡ Con → is_known s from m ≡ true → lacks_critical Response m.options ≡ true → out ≡ rejecting from m.id
+  pub critical_con : m.kind ≡ Con → is_known s from m ≡ true → lacks_critical Response m.options ≡ true
+      → out ≡ rejecting from m.id
   pub critical_non : m.kind ≡ Non → is_known s from m ≡ true → lacks_critical Response m.options ≡ true → out ≡ []
-  pub late_con : m.kind ≡ Con → is_known s from m ≡ true → lacks_critical Response m.options ≡ false → is_late s m ≡ true → out ≡ acknowledging from m.id
-  pub late_non : m.kind ≡ Non → is_known s from m ≡ true → lacks_critical Response m.options ≡ false → is_late s m ≡ true → out ≡ []
+  pub late_con : m.kind ≡ Con → is_known s from m ≡ true → lacks_critical Response m.options ≡ false
+      → is_late s m ≡ true → out ≡ acknowledging from m.id
+  pub late_non : m.kind ≡ Non → is_known s from m ≡ true → lacks_critical Response m.options ≡ false
+      → is_late s m ≡ true → out ≡ []
   -- an acknowledgement is never replied to
   pub ack : m.kind ≡ Ack → out ≡ []
 
 -- .. and to what else arrives: a request that is a CON is rejected
 abbrev pub RepliesBy : Own → Endpoint → L.Answer → Option Event → List L.Packet → Type 0
 RepliesBy s from (L.Becomes (L.Response m)) told out = RepliesTo s from m told out
-RepliesBy s from (L.Becomes (L.Request m kept)) told out = (m.kind ≡ Con → out ≡ rejecting from m.id) × (m.kind ≢ Con → out ≡ [])
+RepliesBy s from (L.Becomes (L.Request m kept)) told out =
+    (m.kind ≡ Con → out ≡ rejecting from m.id) × (m.kind ≢ Con → out ≡ [])
 RepliesBy s from _ told out = out ≡ []
 
 module _ (server : Endpoint) (word : ℕ) where
   -- nothing but an arrival is replied to
   abbrev pub RepliesRightly : List Call → Call → Type 0
   RepliesRightly past (Receive now from bytes up settled answer) =
-      RepliesBy (own_of server word past) from up answer (replies_in (lower (own_of server word past) (Receive now from bytes up settled answer)))
+      RepliesBy (own_of server word past) from up answer
+      (replies_in (lower (own_of server word past) (Receive now from bytes up settled answer)))
   RepliesRightly past c = replies_in (lower (own_of server word past) c) ≡ []
 
   abbrev pub AreReplied : List Call → Type 0

@@ -88,12 +88,14 @@ cancels (Ask now r word below (Ok token)) = r.token
 cancels _ = None
 
 abbrev pub CancelsAreGiven : List Call → Type 0
-CancelsAreGiven trace = Always (λ past c. (token : List ℕ) → cancels c ≡ Some token → Ever (λ b. fresh b ≡ Some token) past) trace
+CancelsAreGiven trace =
+    Always (λ past c. (token : List ℕ) → cancels c ≡ Some token → Ever (λ b. fresh b ≡ Some token) past) trace
 
 -- Fresh tokens are those of the counter, each is given once, and all are given before TokensSpent is told. A cancel has
 -- the token that it is given.
 pub record Tokens (word : ℕ) (past : List Call) (c : Call) : Type 0 where
-  pub counted : (token : List ℕ) → fresh c ≡ Some token → (token ≡ token_of word (fresh_in past)) × (fresh_in past < 2 ^ 64 - 1)
+  pub counted : (token : List ℕ) → fresh c ≡ Some token → (token ≡ token_of word (fresh_in past))
+      × (fresh_in past < 2 ^ 64 - 1)
   pub once : (token : List ℕ) → fresh c ≡ Some token → Ever (λ b. fresh b ≡ Some token) past → ⊥
   -- no token serves two requests but an observation and its cancel
   pub unused : CancelsAreGiven past → (token : List ℕ) → fresh c ≡ Some token → Ever (Begins token) past → ⊥
@@ -101,7 +103,8 @@ pub record Tokens (word : ℕ) (past : List Call) (c : Call) : Type 0 where
 
 -- TokensSpent is told where each token but one was given
 pub record TellsSpent (word : ℕ) (past : List Call) (c : Call) : Type 0 where
-  pub spent : (now w : ℕ) (r : Request) (below : _) → c ≡ Ask now r w below (Err refusal.TokensSpent) → fresh_in past ≡ 2 ^ 64 - 1
+  pub spent : (now w : ℕ) (r : Request) (below : _) → c ≡ Ask now r w below (Err refusal.TokensSpent)
+      → fresh_in past ≡ 2 ^ 64 - 1
 
 abbrev pub AreTokens : ℕ → List Call → Type 0
 AreTokens word trace = Always (λ past c. Tokens word past c × TellsSpent word past c) trace
@@ -128,7 +131,8 @@ module _ (server : Endpoint) (word : ℕ) where
 
   abbrev pub last_begun : List Call → Option Begun
   last_begun [] = None
-  last_begun (Ask now r w below (Ok token) ∷ past) = Some (record { at = moment past now; timeout = ack_timeout + w % timeout_values })
+  last_begun (Ask now r w below (Ok token) ∷ past) =
+      Some (record { at = moment past now; timeout = ack_timeout + w % timeout_values })
   last_begun (c ∷ past) = last_begun past
 
   -- a Timeout comes FAILURE_TIMEOUTS initial timeouts after the request was sent, and no earlier
@@ -160,7 +164,8 @@ module _ (server : Endpoint) (word : ℕ) where
 -- an answer and a notification came from the server, and are what the datagram spells
 pub record CameFrom (server : Endpoint) (c : Call) : Type 0 where
   pub came :
-      (now : ℕ) (from : Endpoint) (bytes : List ℕ) (up : _) (settled : Bool) (answer : Option Event) (m : Message) → c ≡ Receive now from bytes up settled answer → carried c ≡ Some m
+      (now : ℕ) (from : Endpoint) (bytes : List ℕ) (up : _) (settled : Bool) (answer : Option Event) (m : Message)
+      → c ≡ Receive now from bytes up settled answer → carried c ≡ Some m
       → (same_endpoint from server ≡ true) × Spells bytes m
 
 abbrev pub AreFromServer : Endpoint → List Call → Type 0

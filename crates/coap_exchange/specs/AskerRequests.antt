@@ -75,5 +75,6 @@ opened s r None = s
 opened s r (Some id) =
     record s {
       given = if is_some r.token then s.given else s.given + 1;
-      running = Some (record { token = request_token s r; id = record { 0 = id }; acked = None; cancel = is_some r.token });
+      running =
+          Some (record { token = request_token s r; id = record { 0 = id }; acked = None; cancel = is_some r.token });
     }

@@ -32,7 +32,8 @@ module _ (server : Endpoint) (word : ℕ) where
     pub piggybacked : (m : Message) → carried c ≡ Some m → m.kind ≡ Ack → Answers past m
     -- what answers a cancel is no notification that was under way (RFC 7641, section 3.6)
     pub cancelled :
-        (m : Message) (x : Exchange) → answered c ≡ Some m → (own_of server word past).running ≡ Some x → x.cancel ≡ true → m.kind ≢ Ack
+        (m : Message) (x : Exchange) → answered c ≡ Some m → (own_of server word past).running ≡ Some x
+        → x.cancel ≡ true → m.kind ≢ Ack
         → carries Response observe m.options ≡ false
 
   abbrev pub AreMatched : List Call → Type 0
@@ -44,17 +45,22 @@ module _ (server : Endpoint) (word : ℕ) where
     pub understood : lacks_critical Response m.options ≡ false
 
   pub record TellsKind (past : List Call) (c : Call) : Type 0 where
-    -- with the token of the exchange that runs it is the answer: piggybacked, where the Message ID is that of the request
-    -- (section 5.3.2); else, where it is no notification that was under way when the observation was cancelled
+    -- with the token of the exchange that runs it is the answer: piggybacked, where the Message ID is that of the
+    -- request (section 5.3.2); else, where it is no notification that was under way when the observation was
+    -- cancelled
     pub answer :
-        (now : ℕ) (from : Endpoint) (bytes : List ℕ) (settled : Bool) (answer : Option Event) (m : Message) (x : Exchange) → c ≡ Receive now from bytes (L.Becomes (L.Response m)) settled answer
+        (now : ℕ) (from : Endpoint) (bytes : List ℕ) (settled : Bool) (answer : Option Event) (m : Message)
+        (x : Exchange) → c ≡ Receive now from bytes (L.Becomes (L.Response m)) settled answer
         → IsSound from m → (own_of server word past).running ≡ Some x → m.token ≡ x.token
-        → ((m.kind ≡ Ack) × (m.id ≡ x.id.0)) ⊎ (((m.kind ≡ Con) ⊎ (m.kind ≡ Non)) × ((x.cancel ≡ false) ⊎ (carries Response observe m.options ≡ false)))
+        → ((m.kind ≡ Ack) × (m.id ≡ x.id.0)) ⊎ (((m.kind ≡ Con) ⊎ (m.kind ≡ Non))
+        × ((x.cancel ≡ false) ⊎ (carries Response observe m.options ≡ false)))
         → answer ≡ Some (event.Answer m)
     -- with a kept token that is not that of the exchange it is a notification (RFC 7641, section 3.2)
     pub notice :
-        (now : ℕ) (from : Endpoint) (bytes : List ℕ) (settled : Bool) (answer : Option Event) (m : Message) → c ≡ Receive now from bytes (L.Becomes (L.Response m)) settled answer
-        → IsSound from m → has_token (own_of server word past).running m.token ≡ false → is_kept m.token (own_of server word past).kept ≡ true → (m.kind ≡ Con) ⊎ (m.kind ≡ Non)
+        (now : ℕ) (from : Endpoint) (bytes : List ℕ) (settled : Bool) (answer : Option Event) (m : Message)
+        → c ≡ Receive now from bytes (L.Becomes (L.Response m)) settled answer
+        → IsSound from m → has_token (own_of server word past).running m.token ≡ false
+        → is_kept m.token (own_of server word past).kept ≡ true → (m.kind ≡ Con) ⊎ (m.kind ≡ Non)
         → answer ≡ Some (event.Notice m)
 
   abbrev pub AreToldAs : List Call → Type 0

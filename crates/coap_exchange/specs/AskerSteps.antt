@@ -8,8 +8,10 @@ use Rattle.coap_exchange.specs.AskerRequests.{asked, opening_of, request_token, 
 use Rattle.coap_exchange.specs.AskerArrivals.{verdict_on, acts, told, running_after, turn_of, running_unless}
 
 abbrev pub lower : Own → Call → List Asked
-lower s (Ask now r word below answer) = asked now (beneath (opening_of s r) s.server (content_of (request_token s r) r) word) below ∷ []
-lower s (Receive now from bytes up settled answer) = acts s from up settled (verdict_on s from up) ++ asked now (L.Receive from bytes) up ∷ []
+lower s (Ask now r word below answer) =
+    asked now (beneath (opening_of s r) s.server (content_of (request_token s r) r) word) below ∷ []
+lower s (Receive now from bytes up settled answer) =
+    acts s from up settled (verdict_on s from up) ++ asked now (L.Receive from bytes) up ∷ []
 lower s (Ticks now below answer) = asked now L.Ticks below ∷ []
 lower s (Keep token answer) = []
 lower s (Release token answer) = []
@@ -24,7 +26,8 @@ IsRight s (Release token answer) = answer ≡ is_kept token s.kept
 IsRight s (Take answer) = Unit {0}
 
 abbrev pub after : Own → Call → Own
-after s (Ask now r word below answer) = let t = opened s r (sent_as (opening_of s r) below) in record t { clock = max s.clock now }
+after s (Ask now r word below answer) =
+    let t = opened s r (sent_as (opening_of s r) below) in record t { clock = max s.clock now }
 after s (Receive now from bytes up settled answer) =
     record s { clock = max s.clock now; running = running_after (max s.clock now) (verdict_on s from up) s.running }
 after s (Ticks now below answer) = record s { clock = max s.clock now; running = running_unless answer s.running }

@@ -14,8 +14,10 @@ use Rattle.coap_exchange.specs.AskerFollows.{Open}
 
 -- Running is told exactly where an exchange runs (NSTART is 1: section 4.7).
 pub record TellsRunning (past : List Call) (c : Call) : Type 0 where
-  pub runs : (now w : ℕ) (r : Request) (below : _) → c ≡ Ask now r w below (Err refusal.Running) → (token : List ℕ) × Open token past
-  pub told : (now w : ℕ) (r : Request) (below : _) (answer : _) (token : List ℕ) → c ≡ Ask now r w below answer → Open token past → answer ≡ Err refusal.Running
+  pub runs : (now w : ℕ) (r : Request) (below : _) → c ≡ Ask now r w below (Err refusal.Running) → (token : List ℕ)
+      × Open token past
+  pub told : (now w : ℕ) (r : Request) (below : _) (answer : _) (token : List ℕ) → c ≡ Ask now r w below answer
+      → Open token past → answer ≡ Err refusal.Running
 
 abbrev pub AreRefused : List Call → Type 0
 AreRefused trace = Always TellsRunning trace
@@ -35,4 +37,5 @@ module _ (server : Endpoint) (word : ℕ) where
 
   abbrev pub AreRejected : List Call → Type 0
   AreRejected trace =
-      Always (λ past c. (now : ℕ) (from : Endpoint) (bytes : List ℕ) (up : _) (settled : Bool) → c ≡ Receive now from bytes up settled (Some event.Reset) → Rejects past from bytes) trace
+      Always (λ past c. (now : ℕ) (from : Endpoint) (bytes : List ℕ) (up : _) (settled : Bool)
+      → c ≡ Receive now from bytes up settled (Some event.Reset) → Rejects past from bytes) trace

@@ -8,7 +8,8 @@ use Rattle.coap_exchange.specs.declared.asker.Exchange.{Exchange}
 use Rattle.coap_exchange.specs.declared.asker.Turn.{Turn}
 use Rattle.coap_exchange.specs.declared.asker.AskRefusal.{AskRefusal}
 
--- a request, without what the client gives it; one that cancels an observation has the token of that (RFC 7641, section 3.6)
+-- a request, without what the client gives it; one that cancels an observation has the token of that (RFC 7641,
+-- section 3.6)
 pub record Request : Type 0 where
   pub code : ℕ
   pub token : Option (List ℕ)

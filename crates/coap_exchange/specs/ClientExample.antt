@@ -1,5 +1,5 @@
--- A history of a client: a GET asked at 0 with an initial timeout of 3,000 ms, sent again at 3,000, another refused meanwhile,
--- and its Timeout at 93,000 (RFC 7252, sections 4.2 and 4.7).
+-- A history of a client: a GET asked at 0 with an initial timeout of 3,000 ms, sent again at 3,000, another refused
+-- meanwhile, and its Timeout at 93,000 (RFC 7252, sections 4.2 and 4.7).
 use Rattle.std.specs.Prelude.{None, List, [], ◌∷◌, Ok, Err}
 use Rattle.coap_types.specs.declared.endpoint.Endpoint.{Endpoint}
 use Rattle.coap_layer.specs.Trace as T

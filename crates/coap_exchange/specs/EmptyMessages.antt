@@ -1,14 +1,9 @@
--- The Empty messages that answer an arrival: an acknowledgement and a Reset, with its Message ID (RFC 7252, section 4.2).
-use Rattle.std.specs.Prelude.{ℕ, ◌/◌, ◌%◌, Option, Some, None, List, [], ◌∷◌, ◌++◌, option_to_list}
+-- The Empty messages that answer an arrival, as datagrams and as calls of the message layer (RFC 7252, section 4.2).
+use Rattle.std.specs.Prelude.{ℕ, Option, Some, None, List, [], ◌∷◌, ◌++◌, option_to_list}
 use Rattle.coap_types.specs.declared.endpoint.Endpoint.{Endpoint}
 use Rattle.coap_layer.specs.Machine.Steps.{Asked}
 use Rattle.coap_layer.specs.Trace as L
-
-abbrev pub ack_bytes : ℕ → List ℕ
-ack_bytes id = 0x60 ∷ 0 ∷ id / 256 ∷ id % 256 ∷ []
-
-abbrev pub reset_bytes : ℕ → List ℕ
-reset_bytes id = 0x70 ∷ 0 ∷ id / 256 ∷ id % 256 ∷ []
+pub use Rattle.coap_layer.specs.EmptyMessages.{ack_bytes, reset_bytes}
 
 abbrev pub acknowledging : Endpoint → ℕ → List L.Packet
 acknowledging to id = record { to = to; bytes = ack_bytes id } ∷ []

@@ -2,3 +2,5 @@ pub mod Listed
 pub mod Outstanding
 pub mod AskerShown
 pub mod AnswererShown
+pub mod VerdictFits
+pub mod ExchangeMoves

@@ -21,7 +21,8 @@ pub record Row : Type 0 where
 abbrev pub row : Bool → (con non ack : Verdict) → Row
 row holds con non ack = record { holds = holds; con = con; non = non; ack = ack }
 
--- The table. A CON or a NON meets no row that asks for an ACK, and an ACK none that asks for a CON or a NON, nor the last.
+-- The table. A CON or a NON meets no row that asks for an ACK, and an ACK none that asks for a CON or a NON, nor the
+-- last.
 abbrev pub table : Kind → Known → List Row
 table kind k =
     -- a response to no request of this client's (section 5.3.2)

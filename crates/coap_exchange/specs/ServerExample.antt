@@ -24,7 +24,15 @@ abbrev pub get : List ℕ
 get = 0x48 ∷ 1 ∷ 0 ∷ 0 ∷ (token ++ 0xb1 ∷ 0x74 ∷ [])
 
 abbrev pub request : Message
-request = record { kind = Con; code = 1; id = 0; token = token; options = record { number = 11; value = 0x74 ∷ [] } ∷ []; payload = [] }
+request =
+    record {
+      kind = Con;
+      code = 1;
+      id = 0;
+      token = token;
+      options = record { number = 11; value = 0x74 ∷ [] } ∷ [];
+      payload = [];
+    }
 
 abbrev pub asked : Asked
 asked = asked_of client request

@@ -9,6 +9,7 @@ use Rattle.coap_codec.specs.Refused.{ascends, is_short}
 use Rattle.coap_exchange.specs.declared.answerer.Asked.{Asked}
 use Rattle.coap_exchange.specs.AnswererTrace.{Response}
 use Rattle.coap_exchange.specs.Machine.AnswererShown.{IsAnswer, IsAnswerWith}
+use Rattle.coap_types.specs.declared.token.TheConstants.{MAX_TOKEN_LEN as max_token_len}
 
 -- a code of class 2 to 5, options that ascend and are short, and few bytes by this count
 pub record IsShortAnswer (r : Response) : Type 0 where
@@ -21,7 +22,8 @@ pub record IsShortAnswer (r : Response) : Type 0 where
   pub fits : 4 + (8 + (most_bytes r.options + (1 + length r.payload))) ≤ max_message_len
 
 abbrev pub IsAnswerWhenShort : Type 0
-IsAnswerWhenShort = (a : Asked) (r : Response) → length a.token ≤ 8 → IsShortAnswer r → IsAnswer a r
+IsAnswerWhenShort = (a : Asked) (r : Response) → length a.token ≤ max_token_len → IsShortAnswer r → IsAnswer a r
 
 abbrev pub IsNotificationWhenShort : Type 0
-IsNotificationWhenShort = (token : List ℕ) (r : Response) → length token ≤ 8 → IsShortAnswer r → IsAnswerWith token r
+IsNotificationWhenShort =
+    (token : List ℕ) (r : Response) → length token ≤ max_token_len → IsShortAnswer r → IsAnswerWith token r

@@ -5,13 +5,15 @@ use Rattle.std.specs.List.{list_any}
 use Rattle.std.specs.Cmp.Lexicographic.{pointwise}
 use Rattle.coap_exchange.specs.declared.kept_tokens.TheConstants.{MAX_KEPT as most_kept}
 use Rattle.byteorder.specs.Endian.{big_bytes}
+use Rattle.coap_types.specs.declared.token.TheConstants.{MAX_TOKEN_LEN as max_token_len}
 
 abbrev pub same_token : List ℕ → List ℕ → Bool
 same_token = pointwise nat_eq
 
--- the token that is given next: 8 bytes, most significant first, of a counter that begins at the word and wraps (profile)
+-- the token that is given next: 8 bytes, most significant first, of a counter that begins at the word and wraps
+-- (profile)
 abbrev pub token_of : (word given : ℕ) → List ℕ
-token_of word given = big_bytes 8 ((word + given) % 2 ^ 64)
+token_of word given = big_bytes max_token_len ((word + given) % 2 ^ 64)
 
 -- no further token is given
 abbrev pub is_spent : ℕ → Bool
@@ -29,7 +31,8 @@ abbrev pub may_keep : List ℕ → List (List ℕ) → Bool
 may_keep token kept = is_kept token kept || nat_lt (length kept) max_kept
 
 abbrev pub kept_with : List ℕ → List (List ℕ) → List (List ℕ)
-kept_with token kept = if is_kept token kept then kept else if nat_lt (length kept) max_kept then kept ++ token ∷ [] else kept
+kept_with token kept =
+    if is_kept token kept then kept else if nat_lt (length kept) max_kept then kept ++ token ∷ [] else kept
 
 abbrev pub kept_without : List ℕ → List (List ℕ) → List (List ℕ)
 kept_without token kept = filter (λ other. not (same_token token other)) kept

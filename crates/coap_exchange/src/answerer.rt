@@ -1,4 +1,4 @@
-ghost use Rattle.std.specs.Prelude.{◌≡◌, ◌≢◌, ◌≤◌, ℕ, max, length, IfSome, Bool, ◌&&◌, true, false, None, Some, List, [], ◌∷◌, IsSome, is_some, IsOk, IfOk, OnOk, OnErr};
+ghost use Rattle.std.specs.Prelude.{◌≡◌, ◌≢◌, ◌≤◌, ◌<◌, ◌^◌, ℕ, max, length, IfSome, Bool, ◌&&◌, true, false, None, Some, List, [], ◌∷◌, IsSome, is_some, IsOk, IfOk, OnOk, OnErr};
 ghost use Rattle.coap_types.specs.declared.endpoint.Endpoint.{Endpoint as EndpointSpec};
 ghost use Rattle.coap_types.specs.declared.message.Kind.TheVariants.{Con};
 ghost use Rattle.coap_layer.specs.Machine.State.{answer_of, copies, is_free, made};
@@ -12,7 +12,6 @@ ghost use Rattle.coap_exchange.specs.Machine.AnswererShown.{Leads, MayAnswer, Ma
 ghost use Rattle.coap_exchange.specs.AnswererTrace.{Call, Incoming, Answers, Defers, Ticks, Responds, Ready, Notifies, Take};
 
 use crate::deferrals::Deferrals;
-use crate::empty::ack;
 use crate::listed::{Listed, enlist, put_back, settle_down};
 use crate::replies::{
     after_arrival, asked_in, copied, copied_end, handed_up, keeps_room, reject, reset_by, send,
@@ -22,7 +21,7 @@ use crate::waiting::{
     confirm, due_of, failed_by, is_sendable, make_room, separate_of, unless_due, unless_failed,
 };
 use coap_codec::View;
-use coap_layer::{Datagram, Layer};
+use coap_layer::{Datagram, Layer, ack};
 use coap_types::{Code, Endpoint, Id, Kind, Moment, Opt, Token};
 use std::alloc::{AllocError, Allocator};
 use std::hash::{BuildHasher, BuildHasherDefault, FoldHasher};
@@ -132,7 +131,8 @@ impl<A: Allocator + Copy, S: BuildHasher> Model for Answerer<A, S> {
 
     ghost view = { λ a. record {
       state = state_of a.layer.state a.pending a.deferred (listed a.separate.items) a.ended;
-      before = before_of a.layer.before a.pending_before a.deferred_before (listed_before a.separate.items) a.ended_before;
+      before = before_of a.layer.before a.pending_before a.deferred_before
+          (listed_before a.separate.items) a.ended_before;
       answerable = a.answerable;
       room = a.room;
     } };
@@ -291,7 +291,9 @@ impl<A: Allocator + Copy, S: BuildHasher> Answerer<A, S> {
         // Where no retransmission is due, and no deferred request is ready or no Message ID is free, or a
         // failure comes first, it takes no memory.
         ensures quiet { copies (max self.old.state.own.clock now.0) self.old.state.layer.open_cons ≡ []
-            → (is_some (ready_at self.old.state.own now.0) && is_free (max self.old.state.own.clock now.0) self.old.state.layer.upcoming self.old.state.layer.last_used) ≡ false → IsOk result }
+            → (is_some (ready_at self.old.state.own now.0) && is_free
+            (max self.old.state.own.clock now.0) self.old.state.layer.upcoming self.old.state.layer.last_used)
+            ≡ false → IsOk result }
         ensures fails { copies (max self.old.state.own.clock now.0) self.old.state.layer.open_cons ≡ []
             → answer_of self.old.state.layer (max self.old.state.layer.clock now.0) below.Ticks ≢ below.Idle
             → IsOk result }
@@ -342,7 +344,8 @@ impl<A: Allocator + Copy, S: BuildHasher> Answerer<A, S> {
 
     /// What `ready` would answer now. Nothing changes: the moment doesn't count. It takes no memory.
     pub fn would_notify(&self, now: Moment, to: Endpoint) -> bool
-        ensures { answer_of self.now.state.layer (max self.now.state.own.clock now.0) (below.Room to) ≡ below.Is result }
+        ensures { answer_of self.now.state.layer (max self.now.state.own.clock now.0) (below.Room to)
+            ≡ below.Is result }
     {
         self.layer.would_confirm(now, to)
     }
@@ -359,7 +362,8 @@ impl<A: Allocator + Copy, S: BuildHasher> Answerer<A, S> {
         ensures kept { (at : ℕ) (there : EndpointSpec) → MayNotify self.old at there → MayNotify self.new at there }
         ensures before { self.new.before ≡ self.old.before }
         ensures err { OnErr result (self.new ≡ self.old) }
-        ensures quiet { answer_of self.old.state.layer (max self.old.state.layer.clock now.0) (below.Room to) ≡ below.Is false → IsOk result }
+        ensures quiet { answer_of self.old.state.layer (max self.old.state.layer.clock now.0) (below.Room to)
+            ≡ below.Is false → IsOk result }
     {
         if self.layer.would_confirm(now, to) {
             self.separate.reserve(1)?;
@@ -403,6 +407,8 @@ impl<A: Allocator + Copy, S: BuildHasher> Answerer<A, S> {
         // Where a notification could be sent, it still can.
         ensures kept { (at : ℕ) (there : EndpointSpec) → MayNotify self.old at there → MayNotify self.new at there }
         ensures before { self.new.before ≡ None }
+        // No more datagrams wait than a list in memory holds.
+        ensures few { length self.old.state.layer.queue < 2 ^ 64 }
     {
         self.layer.next_out()
     }

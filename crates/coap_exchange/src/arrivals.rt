@@ -26,21 +26,21 @@ use coap_types::{Direction, Endpoint, Id, Moment, Token, carries, lacks_critical
 use std::alloc::Allocator;
 use std::hash::BuildHasher;
 
-/// Whether the response has a critical option that is not recognised (RFC 7252, section 5.4.1).
+// Whether the response has a critical option that is not recognised (RFC 7252, section 5.4.1).
 fn has_bad_option(response: &View<'_>) -> bool
     ensures { result ≡ options.lacks_critical direction.Response response.now.options }
 {
     lacks_critical(Direction::Response, response.options())
 }
 
-/// Whether the response is a notification (RFC 7641, section 3.2).
+// Whether the response is a notification (RFC 7641, section 3.2).
 fn is_notification(response: &View<'_>) -> bool
     ensures { result ≡ options.carries direction.Response observe response.now.options }
 {
     carries(Direction::Response, OBSERVE, response.options())
 }
 
-/// What is known of a response that came from there.
+// What is known of a response that came from there.
 fn known(server: Endpoint, held: &Held, from: Endpoint, response: &View<'_>) -> Known
     ensures { (clock word : ℕ) → result ≡ known_of (own_with clock server word held.now) from response.now }
 {
@@ -55,8 +55,8 @@ fn known(server: Endpoint, held: &Held, from: Endpoint, response: &View<'_>) -> 
     }
 }
 
-/// Whether what came from there, or went there, under this Message ID is of the request of the
-/// exchange that runs.
+// Whether what came from there, or went there, under this Message ID is of the request of the
+// exchange that runs.
 fn is_of_request(server: Endpoint, held: &Held, from: Endpoint, id: Id) -> bool
     ensures { (clock word : ℕ) → result ≡ is_of_request (own_with clock server word held.now) from id.0 }
 {
@@ -120,7 +120,8 @@ pub(crate) fn act<A: Allocator + Copy, S: BuildHasher>(
 )
     requires { is_some (reply_by verdict id.0) ≡ true → MayReply layer.old from id.0 }
     ensures steps { (settled : Bool)
-        × Steps layer.old.state (settling (settles verdict) server running.now settled ++ replying from id.0 (reply_by verdict id.0)) layer.new.state }
+        × Steps layer.old.state (settling (settles verdict) server running.now settled ++ replying from id.0
+        (reply_by verdict id.0)) layer.new.state }
     ensures before { layer.new.before ≡ layer.old.before }
 {
     if let Some(bytes) = reply_by(verdict, id) {
@@ -131,7 +132,7 @@ pub(crate) fn act<A: Allocator + Copy, S: BuildHasher>(
     }
 }
 
-/// Ends the retransmission of the request.
+// Ends the retransmission of the request.
 fn settle<A: Allocator + Copy, S: BuildHasher>(
     layer: &mut Layer<A, S>,
     server: Endpoint,
@@ -190,7 +191,7 @@ pub(crate) fn unless_ended(turn: &Turn, running: Option<Exchange>) -> Option<Exc
     }
 }
 
-// Why a request is refused where no token is left: the lack of a Message ID is told first.
+/// Why a request is refused where no token is left: the lack of a Message ID is told first.
 pub(crate) fn spent_refusal(free: bool) -> AskRefusal
     ensures { result ≡ (if free then refusals.TokensSpent else refusals.NoIds) }
 {
@@ -201,7 +202,7 @@ pub(crate) fn spent_refusal(free: bool) -> AskRefusal
     }
 }
 
-// Why a request is refused, by why its message is.
+/// Why a request is refused, by why its message is.
 pub(crate) fn send_refusal(refusal: SendRefusal) -> AskRefusal
     ensures { result ≡ refusal_as refusal }
 {
@@ -212,7 +213,7 @@ pub(crate) fn send_refusal(refusal: SendRefusal) -> AskRefusal
     }
 }
 
-// The token of a request: that of a cancel, or the one that is given next.
+/// The token of a request: that of a cancel, or the one that is given next.
 pub(crate) fn token_for(word: u64, given: u64, cancel: Option<&Token>) -> Token
     ensures { result ≡ token_or (option_map (λ t. t.now) cancel.entry) (token_of word given) }
 {

@@ -1,4 +1,4 @@
-ghost use Rattle.std.specs.Prelude.{◌≡◌, ◌≢◌, ◌≤◌, ℕ, length, IfSome, Bool, false, List, [], ◌∷◌, None, Some, Err, IsOk, IfOk, OnOk, OnErr, IsSome, max};
+ghost use Rattle.std.specs.Prelude.{◌≡◌, ◌≢◌, ◌≤◌, ◌<◌, ◌^◌, ℕ, length, IfSome, Bool, false, List, [], ◌∷◌, None, Some, Err, IsOk, IfOk, OnOk, OnErr, IsSome, max};
 ghost use Rattle.coap_types.specs.declared.endpoint.Endpoint.{Endpoint};
 ghost use Rattle.coap_layer.specs.Machine.State.{answer_of, copies, made};
 ghost use Rattle.coap_layer.specs.Trace as below;
@@ -180,7 +180,8 @@ impl<A: Allocator + Copy, S: BuildHasher> Asker<A, S> {
         ensures memory { result ≡ Err refusals.Memory → self.new ≡ self.old }
         // Where it refuses for another reason, it takes no memory.
         ensures opens { opening_of self.old.state.own ask.now ≢ openings.Sends → result ≢ Err refusals.Memory }
-        ensures quiet { answer_of self.old.state.layer (max self.old.state.own.clock now.0) (below.Room self.old.state.own.server) ≡ below.Is false → result ≢ Err refusals.Memory }
+        ensures quiet { answer_of self.old.state.layer (max self.old.state.own.clock now.0)
+            (below.Room self.old.state.own.server) ≡ below.Is false → result ≢ Err refusals.Memory }
     {
         let running = self.held.running.is_some();
         let spent = is_spent(self.held.given);
@@ -203,7 +204,8 @@ impl<A: Allocator + Copy, S: BuildHasher> Asker<A, S> {
         ensures few { IfOk result (λ token. length token ≤ 8) }
         ensures before { self.new.before ≡ self.old.before }
         ensures memory { result ≡ Err refusals.Memory → self.new ≡ self.old }
-        ensures quiet { answer_of self.old.state.layer (max self.old.state.own.clock now.0) (below.Room self.old.state.own.server) ≡ below.Is false → result ≢ Err refusals.Memory }
+        ensures quiet { answer_of self.old.state.layer (max self.old.state.own.clock now.0)
+            (below.Room self.old.state.own.server) ≡ below.Is false → result ≢ Err refusals.Memory }
     {
         let token = token_for(self.word, self.held.given, ask.token);
         let _few = token.as_slice();
@@ -304,6 +306,8 @@ impl<A: Allocator + Copy, S: BuildHasher> Asker<A, S> {
         ensures step { Step self.old.state (Take result) self.new.state }
         ensures led { Leads self.old (Take result) self.new }
         ensures before { self.new.before ≡ None }
+        // No more datagrams wait than a list in memory holds.
+        ensures few { length self.old.state.layer.queue < 2 ^ 64 }
     {
         self.layer.next_out()
     }

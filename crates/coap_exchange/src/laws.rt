@@ -106,7 +106,8 @@ pub fn answerer_law()
     ensures earliest { (word : ℕ) (t : List trace.Call) → ResponseLaw word t → EarliestReady t }
     // A response goes to its request's endpoint and carries its token (RFC 7252, sections 5.2 and 5.3.2).
     ensures back { (word : ℕ) (t : List trace.Call) → ResponseLaw word t → AllGoBack word t }
-    // A response that arrives is rejected, and a request that is deferred acknowledged (RFC 7252, sections 4.3 and 5.2.2).
+    // A response that arrives is rejected, and a request that is deferred acknowledged (RFC 7252,
+    // sections 4.3 and 5.2.2).
     ensures replied { (word : ℕ) (t : List trace.Call) → ResponseLaw word t → rejections.AreReplied t }
     // A CON begins only where none to its endpoint is outstanding (RFC 7252, section 4.7).
     ensures alone { (word : ℕ) (t : List trace.Call) → ResponseLaw word t → BeginAlone word t }

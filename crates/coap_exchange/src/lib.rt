@@ -5,7 +5,6 @@ mod answerer;
 mod arrivals;
 mod asker;
 mod deferrals;
-mod empty;
 mod held;
 mod kept_tokens;
 mod laws;

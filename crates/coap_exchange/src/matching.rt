@@ -3,7 +3,7 @@ ghost use Rattle.coap_exchange.specs.Matching.{judged, request_judged, in_row, r
 ghost use Rattle.coap_exchange.specs.AskerRequests.{opening};
 ghost use Rattle.coap_exchange.specs.AskerArrivals.{reply_by, settles};
 
-use crate::empty::{ack, reset};
+use coap_layer::{ack, reset};
 use coap_types::{Id, Kind};
 
 /// What becomes of a message that the message layer hands up to a client.

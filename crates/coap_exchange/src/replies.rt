@@ -23,11 +23,10 @@ ghost use Rattle.coap_exchange.specs.Machine.Listed.{listed, listed_before};
 
 use crate::answerer::{Asked, Ended, Response};
 use crate::arrivals::id_in;
-use crate::empty::reset;
 use crate::listed::Listed;
 use crate::separate::{Separate, found, take_off};
 use coap_codec::{Head, View, encode, one_spelling};
-use coap_layer::{Content, Layer, Up};
+use coap_layer::{Content, Layer, Up, reset};
 use coap_types::limits::MAX_MESSAGE_LEN;
 use coap_types::{Endpoint, Kind, Token};
 use std::alloc::Allocator;
@@ -121,7 +120,8 @@ pub(crate) fn reject<A: Allocator + Copy, S: BuildHasher>(
     up: &Up<'_>,
 ) -> bool
     requires { (m : Message) → handed_by (answer_as up.now) ≡ Some m → MayReply layer.old from m.id }
-    ensures steps { Steps layer.old.state (replying from (id_in (answer_as up.now)) (reject_by (answer_as up.now))) layer.new.state }
+    ensures steps { Steps layer.old.state (replying from (id_in (answer_as up.now))
+        (reject_by (answer_as up.now))) layer.new.state }
     ensures before { layer.new.before ≡ layer.old.before }
     ensures rejects { result ≡ is_some (reject_by (answer_as up.now)) }
     ensures kept { reject_by (answer_as up.now) ≡ None → layer.new ≡ layer.old }
@@ -197,7 +197,8 @@ fn head_of(asked: &Asked, response: &Response<'_>) -> Head
 fn spell(asked: &Asked, response: &Response<'_>, buffer: &mut [u8]) -> usize
     requires sendable { IsSendable (content_of asked.now response.now) }
     requires room { length buffer.old ≡ max_message_len }
-    ensures bytes { take result buffer.new ≡ message_bytes (with_head Ack asked.now.id.0 (content_of asked.now response.now)) }
+    ensures bytes { take result buffer.new ≡ message_bytes
+        (with_head Ack asked.now.id.0 (content_of asked.now response.now)) }
     ensures within { result ≤ length buffer.new }
     ensures len { length buffer.new ≡ length buffer.old }
 {
@@ -218,7 +219,8 @@ fn piggyback<A: Allocator + Copy, S: BuildHasher>(
     requires may { MayReply layer.old asked.now.from asked.now.id.0 }
     requires sendable { IsSendable (content_of asked.now response.now) }
     ensures step { (s : Own)
-        → layer_state.Step layer.old.state layer.old.state.clock (answering s Con asked.now response.now) below.Nothing layer.new.state }
+        → layer_state.Step layer.old.state layer.old.state.clock
+        (answering s Con asked.now response.now) below.Nothing layer.new.state }
     ensures before { layer.new.before ≡ layer.old.before }
 {
     let mut buffer = [0; MAX_MESSAGE_LEN];
@@ -236,7 +238,8 @@ fn send_plain<A: Allocator + Copy, S: BuildHasher>(
     requires free { is_free layer.old.state.clock layer.old.state.upcoming layer.old.state.last_used ≡ true }
     requires sendable { IsSendable (content_of asked.now response.now) }
     ensures step { (id : ℕ)
-        × layer_state.Step layer.old.state layer.old.state.clock (below.Plain asked.now.from (content_of asked.now response.now)) (below.Sent id) layer.new.state }
+        × layer_state.Step layer.old.state layer.old.state.clock
+        (below.Plain asked.now.from (content_of asked.now response.now)) (below.Sent id) layer.new.state }
     ensures before { layer.new.before ≡ layer.old.before }
 {
     let content = Content {
@@ -261,7 +264,8 @@ pub(crate) fn send<A: Allocator + Copy, S: BuildHasher>(
     requires takes { Takes layer.old asked.now }
     requires sendable { IsSendable (content_of asked.now response.now) }
     ensures sent { (sent : below.Answer) × IsSentAs asked.now.kind sent
-        × ((s : Own) → layer_state.Step layer.old.state layer.old.state.clock (answering s asked.now.kind asked.now response.now) sent layer.new.state) }
+        × ((s : Own) → layer_state.Step layer.old.state layer.old.state.clock
+        (answering s asked.now.kind asked.now response.now) sent layer.new.state) }
     ensures before { layer.new.before ≡ layer.old.before }
 {
     match asked.kind {

@@ -63,7 +63,7 @@ impl Deferred {
     }
 }
 
-/// Whether it went to this endpoint, with this Message ID.
+// Whether it went to this endpoint, with this Message ID.
 fn goes_to(response: &Separate, to: Endpoint, id: Id) -> bool
     ensures { result ≡ goes_to to id.0 response.now }
 {

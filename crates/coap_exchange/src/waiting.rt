@@ -192,9 +192,11 @@ pub(crate) fn confirm<A: Allocator + Copy, S: BuildHasher>(
 ) -> Id
     requires room { layer.old.has_room ≡ true }
     requires idle { is_busy to layer.old.state.open_cons ≡ false }
-    requires free { is_free (max layer.old.state.clock now.0) layer.old.state.upcoming layer.old.state.last_used ≡ true }
+    requires free { is_free (max layer.old.state.clock now.0) layer.old.state.upcoming layer.old.state.last_used
+        ≡ true }
     requires sendable { IsSendable (content_with token.now response.now) }
-    ensures step { layer_state.Step layer.old.state now.0 (below.Confirm to (content_with token.now response.now) word) (below.Sent result.0) layer.new.state }
+    ensures step { layer_state.Step layer.old.state now.0 (below.Confirm to (content_with token.now response.now) word)
+        (below.Sent result.0) layer.new.state }
     ensures before { layer.new.before ≡ layer.old.before }
 {
     let content = Content {

@@ -1,7 +1,10 @@
 -- What the crates above may cite: statements over the words of specs/ alone.
 pub mod Arrivals
 pub mod Calls
+pub mod CallsOfLayer
+pub mod HandedUp
 pub mod Hops
 pub mod Laws
 pub mod Sendable
 pub mod Spelling
+pub mod StepsOfLayer

@@ -8,9 +8,10 @@ use Rattle.coap_layer.specs.Sends.{SendsIt}
 use Rattle.coap_layer.specs.Channel.{Hop, Near, Far, near_of, OnFar, Takes, HandsUpAs}
 use Rattle.coap_types.specs.declared.transmission.TheConstants.{MAX_LATENCY_MS as max_latency}
 
--- the CON was taken, or each of its sendings so far is more than 100,000 ms old
+-- the CON was taken, or each of its sendings so far is older than MAX_LATENCY
 abbrev pub Gone : Endpoint → Open → ℕ → List Hop → Type 0
-Gone near con at past = Ever (OnFar (Takes near con)) past ⊎ Always (λ t e. SendsIt con t e → e.at + max_latency < at) (near_of past)
+Gone near con at past =
+    Ever (OnFar (Takes near con)) past ⊎ Always (λ t e. SendsIt con t e → e.at + max_latency < at) (near_of past)
 
 -- the new CON begins, to the same place, where the old one was begun and is gone
 pub record Follows (near : Endpoint) (old new : Open) (past : List Hop) (e : Entry) : Type 0 where
@@ -27,4 +28,5 @@ OnNearAfter P past (Far e) = ⊥
 -- Where the new CON followed and was handed up, the old one isn't handed up any more.
 abbrev pub ConsApart : Endpoint → List Hop → Type 0
 ConsApart near all =
-    (old new : Open) → Always (λ past h. Sometime (OnNearAfter (Follows near old new)) past → Ever (OnFar (HandsUpAs near new)) past → OnFar (HandsUpAs near old) h → ⊥) all
+    (old new : Open) → Always (λ past h. Sometime (OnNearAfter (Follows near old new)) past
+    → Ever (OnFar (HandsUpAs near new)) past → OnFar (HandsUpAs near old) h → ⊥) all

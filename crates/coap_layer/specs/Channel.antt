@@ -1,5 +1,5 @@
--- Two layers, and the datagrams between them (RFC 7252, sections 4.2 to 4.5). Profile: none arrives more than 100,000 ms
--- after it was sent.
+-- Two layers, and the datagrams between them (RFC 7252, sections 4.2 to 4.5). None arrives later than MAX_LATENCY after
+-- it was sent (section 4.8.2).
 use Rattle.std.specs.Prelude.{◌≡◌, ◌⊎◌, ◌≤◌, ℕ, ◌+◌, true, Some, None, List, [], ◌∷◌}
 use Rattle.coap_types.specs.Past.{Ever, Sometime, Always, Since}
 use Rattle.coap_types.specs.declared.endpoint.Endpoint.{Endpoint}
@@ -35,7 +35,7 @@ abbrev pub OnFar : (Entry → Type 0) → Hop → Type 0
 OnFar P (Near e) = ⊥
 OnFar P (Far e) = P e
 
--- it was sent there, at most 100,000 ms before
+-- it was sent there, at most MAX_LATENCY before
 pub record GaveOut (to : Endpoint) (bytes : List ℕ) (when : ℕ) (e : Entry) : Type 0 where
   pub out : IsIn (record { to = to; bytes = bytes }) e.out
   pub from : e.at ≤ when
@@ -43,15 +43,17 @@ pub record GaveOut (to : Endpoint) (bytes : List ℕ) (when : ℕ) (e : Entry) :
 
 -- what comes from the other's address was sent by it, once or more often, or never arrives
 abbrev pub IsFair : Endpoint → Endpoint → List Hop → Hop → Type 0
-IsFair near far past (Near e) = (bytes : List ℕ) → e.call ≡ Receive far bytes → Ever (OnFar (GaveOut near bytes e.at)) past
-IsFair near far past (Far e) = (bytes : List ℕ) → e.call ≡ Receive near bytes → Ever (OnNear (GaveOut far bytes e.at)) past
+IsFair near far past (Near e) =
+    (bytes : List ℕ) → e.call ≡ Receive far bytes → Ever (OnFar (GaveOut near bytes e.at)) past
+IsFair near far past (Far e) =
+    (bytes : List ℕ) → e.call ≡ Receive near bytes → Ever (OnNear (GaveOut far bytes e.at)) past
 
 -- the message that was handed up last, at this moment
 abbrev pub IsLatest : List Entry → ℕ → Incoming → Type 0
 IsLatest past at m = Since (λ h. (handed h ≡ Some m) × (h.at ≡ at)) (λ h. handed h ≡ None) past
 
--- A reply is given at the moment at which the message was handed up. It is a Reset, or the acknowledgement of a CON (a NON
--- isn't acknowledged: section 4.3), with the message's Message ID (section 4.2).
+-- A reply is given at the moment at which the message was handed up. It is a Reset, or the acknowledgement of a CON
+-- (a NON isn't acknowledged: section 4.3), with the message's Message ID (section 4.2).
 pub record RepliesAtOnce (past : List Entry) (at id : ℕ) (bytes : List ℕ) : Type 0 where
   pub to_what : Incoming
   pub latest : IsLatest past at to_what
@@ -61,7 +63,8 @@ pub record RepliesAtOnce (past : List Entry) (at id : ℕ) (bytes : List ℕ) : 
   pub kind : (reply.kind ≡ Rst) ⊎ ((reply.kind ≡ Ack) × (to_what.message.kind ≡ Con))
 
 abbrev pub RepliesSo : List Entry → Entry → Type 0
-RepliesSo past e = (to : Endpoint) (id : ℕ) (bytes : List ℕ) → e.call ≡ Reply to id bytes → RepliesAtOnce past e.at id bytes
+RepliesSo past e =
+    (to : Endpoint) (id : ℕ) (bytes : List ℕ) → e.call ≡ Reply to id bytes → RepliesAtOnce past e.at id bytes
 
 -- the layers that began with these words, what went between them, and how each replies
 pub record ChannelLaw (one other : ℕ) (near far : Endpoint) (all : List Hop) : Type 0 where
@@ -83,7 +86,7 @@ pub record HandedBy (e : Entry) (m : Incoming) : Type 0 where
 abbrev pub HandedAsSpelled : List Entry → Type 0
 HandedAsSpelled t = Always (λ past e. (m : Incoming) → handed e ≡ Some m → HandedBy e m) t
 
--- What arrives is what the other layer sends by one of its rows, at most 100,000 ms before.
+-- What arrives is what the other layer sends by one of its rows, at most MAX_LATENCY before.
 pub record SentSo (to : Endpoint) (bytes : List ℕ) (when : ℕ) (past : List Entry) (e : Entry) : Type 0 where
   pub goes : GoesOut past e (record { to = to; bytes = bytes })
   pub from : e.at ≤ when
@@ -91,9 +94,10 @@ pub record SentSo (to : Endpoint) (bytes : List ℕ) (when : ℕ) (past : List E
 
 abbrev pub ArrivesAsSent : Endpoint → Endpoint → List Hop → Type 0
 ArrivesAsSent near far all =
-    Always (λ past e. (x : Entry) (bytes : List ℕ) → e ≡ Far x → x.call ≡ Receive near bytes → Sometime (SentSo far bytes x.at) (near_of past)) all
+    Always (λ past e. (x : Entry) (bytes : List ℕ) → e ≡ Far x → x.call ≡ Receive near bytes
+    → Sometime (SentSo far bytes x.at) (near_of past)) all
 
--- A CON that arrives was begun at most 147,000 ms before, with these bytes, for this place.
+-- A CON that arrives was begun at most LAST_ARRIVAL_MS before, with these bytes, for this place.
 pub record BegunAs (to : Endpoint) (bytes : List ℕ) (id when : ℕ) (t : List Entry) : Type 0 where
   pub con : Open
   pub begun : Ever (λ b. begun b ≡ Some con) t
@@ -105,10 +109,11 @@ pub record BegunAs (to : Endpoint) (bytes : List ℕ) (id when : ℕ) (t : List 
 
 abbrev pub ConsBegun : Endpoint → Endpoint → List Hop → Type 0
 ConsBegun near far all =
-    Always (λ past e. (x : Entry) (bytes : List ℕ) (m : Message) → e ≡ Far x → x.call ≡ Receive near bytes → Spells bytes m → m.kind ≡ Con
+    Always (λ past e. (x : Entry) (bytes : List ℕ) (m : Message) → e ≡ Far x → x.call ≡ Receive near bytes
+    → Spells bytes m → m.kind ≡ Con
     → BegunAs far bytes m.id x.at (near_of past)) all
 
--- A NON that arrives was sent at most 100,000 ms before.
+-- A NON that arrives was sent at most MAX_LATENCY before.
 pub record PlainSent (to : Endpoint) (bytes : List ℕ) (when : ℕ) (e : Entry) : Type 0 where
   pub goes : PlainOut e (record { to = to; bytes = bytes })
   pub from : e.at ≤ when
@@ -116,12 +121,14 @@ pub record PlainSent (to : Endpoint) (bytes : List ℕ) (when : ℕ) (e : Entry)
 
 abbrev pub NonsSent : Endpoint → Endpoint → List Hop → Type 0
 NonsSent near far all =
-    Always (λ past e. (x : Entry) (bytes : List ℕ) (m : Message) → e ≡ Far x → x.call ≡ Receive near bytes → Spells bytes m → m.kind ≡ Non
+    Always (λ past e. (x : Entry) (bytes : List ℕ) (m : Message) → e ≡ Far x → x.call ≡ Receive near bytes
+    → Spells bytes m → m.kind ≡ Non
     → Ever (PlainSent far bytes x.at) (near_of past)) all
 
 -- the answer takes the acknowledgement with this Message ID, Empty or with a response (sections 4.2 and 5.2.1)
 abbrev pub TakesAckOf : ℕ → Answer → Type 0
-TakesAckOf id answer = (answer ≡ Becomes (Acked id)) ⊎ ((m : Message) × (answer ≡ Becomes (Response m)) × (m.kind ≡ Ack) × (m.id ≡ id))
+TakesAckOf id answer =
+    (answer ≡ Becomes (Acked id)) ⊎ ((m : Message) × (answer ≡ Becomes (Response m)) × (m.kind ≡ Ack) × (m.id ≡ id))
 
 -- an acknowledgement of this CON is taken while it is outstanding
 pub record HearsAck (con : Open) (past : List Entry) (e : Entry) : Type 0 where
@@ -145,7 +152,9 @@ pub record Takes (near : Endpoint) (con : Open) (e : Entry) : Type 0 where
 
 -- An acknowledgement says that the other layer has taken that very CON.
 abbrev pub AcksTaken : Endpoint → Endpoint → List Hop → Type 0
-AcksTaken near far all = Always (λ past e. (x : Entry) (con : Open) → e ≡ Near x → con.to ≡ far → HearsAck con (near_of past) x → Ever (OnFar (Takes near con)) past) all
+AcksTaken near far all =
+    Always (λ past e. (x : Entry) (con : Open) → e ≡ Near x → con.to ≡ far → HearsAck con (near_of past) x
+    → Ever (OnFar (Takes near con)) past) all
 
 -- these bytes are given as the reply to this very CON, at the moment at which it is handed up
 pub record RepliesTo (near : Endpoint) (con : Open) (bytes : List ℕ) (past : List Entry) (e : Entry) : Type 0 where
@@ -159,7 +168,8 @@ OnFarThen P past (Far e) = P (far_of past) e
 -- The acknowledgement is the very reply that the other layer was given to that CON, for the first time or again.
 abbrev pub AcksReplied : Endpoint → Endpoint → List Hop → Type 0
 AcksReplied near far all =
-    Always (λ past e. (x : Entry) (con : Open) → e ≡ Near x → con.to ≡ far → (h : HearsAck con (near_of past) x) → Sometime (OnFarThen (RepliesTo near con h.bytes)) past) all
+    Always (λ past e. (x : Entry) (con : Open) → e ≡ Near x → con.to ≡ far → (h : HearsAck con (near_of past) x)
+    → Sometime (OnFarThen (RepliesTo near con h.bytes)) past) all
 
 -- a message from there with the CON's Message ID is handed up, while the CON can arrive
 pub record HandsUpAs (near : Endpoint) (con : Open) (e : Entry) : Type 0 where
@@ -170,14 +180,19 @@ pub record HandsUpAs (near : Endpoint) (con : Open) (e : Entry) : Type 0 where
   pub from : con.first ≤ e.at
   pub till : e.at ≤ con.first + last_arrival
 
--- What was taken is not handed up again: 147,000 ms are less than EXCHANGE_LIFETIME (section 4.8.2).
+-- What was taken is not handed up again: LAST_ARRIVAL_MS is less than EXCHANGE_LIFETIME (section 4.8.2).
 abbrev pub TakenOnce : Endpoint → List Hop → Type 0
-TakenOnce near all = (con : Open) → Always (λ past e. OnFar (HandsUpAs near con) e → Ever (OnFar (Takes near con)) past → ⊥) all
+TakenOnce near all =
+    (con : Open) → Always (λ past e. OnFar (HandsUpAs near con) e → Ever (OnFar (Takes near con)) past → ⊥) all
 
 -- What is handed up with a CON's Message ID, while the CON can arrive, is that very CON, and is remembered.
 abbrev pub OnlyThatCon : Endpoint → Endpoint → List Hop → Type 0
-OnlyThatCon near far all = (con : Open) → Ever (λ b. begun b ≡ Some con) (near_of all) → Always (λ past e. OnFar (HandsUpAs near con) e → OnFar (Takes near con) e) all
+OnlyThatCon near far all =
+    (con : Open) → Ever (λ b. begun b ≡ Some con) (near_of all)
+    → Always (λ past e. OnFar (HandsUpAs near con) e → OnFar (Takes near con) e) all
 
 -- So a CON is handed up at most once.
 abbrev pub HandedOnce : Endpoint → List Hop → Type 0
-HandedOnce near all = (con : Open) → Ever (λ b. begun b ≡ Some con) (near_of all) → Always (λ past e. OnFar (HandsUpAs near con) e → Ever (OnFar (HandsUpAs near con)) past → ⊥) all
+HandedOnce near all =
+    (con : Open) → Ever (λ b. begun b ≡ Some con) (near_of all)
+    → Always (λ past e. OnFar (HandsUpAs near con) e → Ever (OnFar (HandsUpAs near con)) past → ⊥) all

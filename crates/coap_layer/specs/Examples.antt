@@ -27,4 +27,5 @@ pub record IsAcknowledged : Type 0 where
   pub apart : near ≢ far
   pub law : ChannelLaw 0 0 near far hops
   pub con : Open
-  pub heard : Sometime (λ past h. (e : Entry) × (h ≡ Near e) × HearsAck con (near_of past) e × Ever (OnFar (Takes near con)) past) hops
+  pub heard : Sometime (λ past h. (e : Entry) × (h ≡ Near e) × HearsAck con (near_of past) e
+      × Ever (OnFar (Takes near con)) past) hops

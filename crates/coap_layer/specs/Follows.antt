@@ -11,12 +11,14 @@ use Rattle.coap_layer.specs.Rows.{Stands, LayerLaw, Outstanding}
 use Rattle.coap_layer.specs.Words.{clock, Incoming, handed, Remembered, remembered, Open, begun, numbers, outstanding}
 use Rattle.coap_types.specs.declared.transmission.TheConstants.{LAST_RETRANSMISSION_MS as last_retransmission}
 use Rattle.coap_layer.specs.declared.dedup.TheConstants.{MAX_REMEMBERED as max_remembered}
+use Rattle.coap_types.specs.declared.message.TheConstants.{MESSAGE_IDS as message_ids}
 
--- No message is handed up that was handed up, and remembered, at most 247,000 ms before.
+-- No message is handed up that was handed up, and remembered, at most EXCHANGE_LIFETIME before.
 abbrev pub HandedUpOnce : List Entry → Type 0
 HandedUpOnce t = Always (λ past e. (m : Incoming) → handed e ≡ Some m → Remembered past e.at m.from m.message.id → ⊥) t
 
--- A retransmission's CON was begun at most 47,000 ms before, to the same place, under the same id, with the same bytes.
+-- A retransmission's CON was begun at most LAST_RETRANSMISSION_MS before, to the same place, under the same id, with
+-- the same bytes.
 pub record CopyOf (past : List Entry) (e : Entry) (to : Endpoint) (id : ℕ) : Type 0 where
   pub con : Open
   pub begun_before : Ever (λ b. begun b ≡ Some con) past
@@ -29,13 +31,15 @@ pub record CopyOf (past : List Entry) (e : Entry) (to : Endpoint) (id : ℕ) : T
 abbrev pub CopiesInTime : List Entry → Type 0
 CopiesInTime t = Always (λ past e. (to : Endpoint) (id : ℕ) → e.answer ≡ Copied to id → CopyOf past e to id) t
 
--- Equal Message IDs are more than 400,000 ms apart.
+-- Equal Message IDs are more than ID_REUSE_AFTER_MS apart.
 abbrev pub IdsApart : List Entry → Type 0
 IdsApart t = AreApart (numbers t)
 
 -- A CON is begun only where none to that endpoint is outstanding.
 abbrev pub OneOutstanding : List Entry → Type 0
-OneOutstanding t = Always (λ past e. (c : Open) → begun e ≡ Some c → Ever (λ (d : Open). same_endpoint d.to c.to ≡ true) (outstanding past) → ⊥) t
+OneOutstanding t =
+    Always (λ past e. (c : Open) → begun e ≡ Some c
+    → Ever (λ (d : Open). same_endpoint d.to c.to ≡ true) (outstanding past) → ⊥) t
 
 -- One call has one answer, and sends one thing.
 abbrev pub IsExact : Type 0
@@ -46,7 +50,8 @@ IsExact =
 -- An acknowledgement and a Reset are taken only for a CON that is outstanding.
 abbrev pub EndsOutstanding : List Entry → Type 0
 EndsOutstanding t =
-    Always (λ past e. (from : Endpoint) (bytes : List ℕ) (id : ℕ) → e.call ≡ Receive from bytes → (e.answer ≡ Becomes (Acked id)) ⊎ (e.answer ≡ Becomes (Reset id)) → Outstanding past from id) t
+    Always (λ past e. (from : Endpoint) (bytes : List ℕ) (id : ℕ) → e.call ≡ Receive from bytes
+    → (e.answer ≡ Becomes (Acked id)) ⊎ (e.answer ≡ Becomes (Reset id)) → Outstanding past from id) t
 
 -- No more are remembered than there is a place for (profile).
 abbrev pub RemembersFew : List Entry → Type 0
@@ -54,7 +59,7 @@ RemembersFew t = (now : ℕ) → clock t ≤ now → remembered now t ≤ max_re
 
 -- Each Message ID that is given has 16 bits (section 3).
 abbrev pub IdsSmall : List Entry → Type 0
-IdsSmall t = Always (λ past e. (id : ℕ) → e.answer ≡ Sent id → id < 2 ^ 16) t
+IdsSmall t = Always (λ past e. (id : ℕ) → e.answer ≡ Sent id → id < message_ids) t
 
 -- the message is what the datagram that arrives spells
 pub record Carried (e : Entry) (m : Message) : Type 0 where

@@ -1,9 +1,10 @@
--- Which Message IDs a source gives (RFC 7252, section 4.4), over whole lists of its calls. Profile: 16 groups of 4,096
--- numbers, each group used again only after 400,000 ms.
+-- Which Message IDs a source gives (RFC 7252, section 4.4), over whole lists of its calls. Profile: GROUPS groups of
+-- GROUP_SIZE numbers, each group used again only after ID_REUSE_AFTER_MS.
 use Rattle.std.specs.Prelude.{◌≡◌, ℕ, ◌+◌, ◌*◌, ◌/◌, ◌%◌, ◌<◌, ◌≤◌, ◌==◌, Bool, true, false, Option, Some, None, List, [], ◌∷◌, if◌then◌else◌}
 use Rattle.coap_types.specs.Past.{Always, Ever, all_of}
 use Rattle.coap_types.specs.declared.transmission.TheConstants.{ID_REUSE_AFTER_MS as id_reuse_after}
 use Rattle.coap_layer.specs.declared.message_id.TheConstants.{GROUP_SIZE as group_size, GROUPS as groups}
+use Rattle.coap_types.specs.declared.message.TheConstants.{MESSAGE_IDS as message_ids}
 
 -- a number that was issued, and when
 pub record Issued : Type 0 where
@@ -13,26 +14,27 @@ pub record Issued : Type 0 where
 -- the number that comes next in order; at first, the first of the group that the word picks
 abbrev pub upcoming : ℕ → List Issued → ℕ
 upcoming word [] = word % groups * group_size
-upcoming word (g ∷ past) = (g.id + 1) % 65536
+upcoming word (g ∷ past) = (g.id + 1) % message_ids
 
 -- when a number of the group was last issued
 abbrev pub last_use : List Issued → ℕ → Option ℕ
 last_use [] group = None
 last_use (g ∷ past) group = if g.id / group_size == group then Some g.at else last_use past group
 
--- never used, or last used more than 400,000 ms before
+-- never used, or last used more than ID_REUSE_AFTER_MS before
 abbrev pub IsRested : Option ℕ → ℕ → Type 0
 IsRested None now = Unit {0}
 IsRested (Some last) now = last + id_reuse_after < now
 
--- last used at most 400,000 ms before
+-- last used at most ID_REUSE_AFTER_MS before
 abbrev pub IsHeld : Option ℕ → ℕ → Type 0
 IsHeld None now = ⊥
 IsHeld (Some last) now = now ≤ last + id_reuse_after
 
 -- a number may be given: the group goes on, or the next group may be entered
 abbrev pub MayGive : ℕ → List Issued → ℕ → Type 0
-MayGive word past now = upcoming word past % group_size ≡ 0 → IsRested (last_use past (upcoming word past / group_size)) now
+MayGive word past now =
+    upcoming word past % group_size ≡ 0 → IsRested (last_use past (upcoming word past / group_size)) now
 
 -- none may be given: the group is spent, and the next one is held
 pub record Withholds (word : ℕ) (past : List Issued) (now : ℕ) : Type 0 where
@@ -57,7 +59,7 @@ pub record IsIssued (word : ℕ) (past : List Issued) (g : Issued) : Type 0 wher
 abbrev pub NumbersLaw : ℕ → List Issued → Type 0
 NumbersLaw word = Always (IsIssued word)
 
--- equal numbers are more than 400,000 ms apart
+-- equal numbers are more than ID_REUSE_AFTER_MS apart
 abbrev pub AreApart : List Issued → Type 0
 AreApart = Always (λ past g. Ever (λ (h : Issued). (h.id ≡ g.id) × (g.at ≤ h.at + id_reuse_after)) past → ⊥)
 

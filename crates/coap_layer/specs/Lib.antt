@@ -5,6 +5,7 @@ pub mod BackOff
 pub mod Words
 pub mod Rows
 pub mod Follows
+pub mod EmptyMessages
 pub mod Sendable
 pub mod Sends
 pub mod Channel

@@ -1,5 +1,5 @@
 -- The message layer's law (RFC 7252, section 4): each call, in its whole trace, is one of these rows.
-use Rattle.std.specs.Prelude.{◌≡◌, ◌≢◌, ◌⊎◌, ◌<◌, ◌≤◌, ℕ, ◌*◌, ◌-◌, ◌/◌, ◌%◌, true, false, Some, None, List, [], ◌∷◌, slice_get, if◌then◌else◌, ◌&&◌}
+use Rattle.std.specs.Prelude.{◌≡◌, ◌≢◌, ◌⊎◌, ◌<◌, ◌≤◌, ℕ, ◌*◌, ◌-◌, true, false, Some, None, List, [], ◌∷◌, slice_get, if◌then◌else◌, ◌&&◌}
 use Rattle.coap_types.specs.Past.{Ever, Always, Since}
 use Rattle.coap_types.specs.Roles.{role_of}
 use Rattle.coap_types.specs.declared.endpoint.Endpoint.{Endpoint}
@@ -11,12 +11,14 @@ use Rattle.coap_types.specs.Bytes.{AreBytes}
 use Rattle.coap_codec.specs.Message.{Spells}
 use Rattle.coap_codec.specs.Spelling.{message_bytes}
 use Rattle.coap_layer.specs.BackOff.{factors}
+use Rattle.coap_layer.specs.EmptyMessages.{reset_bytes}
 use Rattle.coap_layer.specs.Arrivals.{Arrival, Unreadable, Faulted, Whole, Shows}
 use Rattle.coap_layer.specs.Ids as ids
 use Rattle.coap_layer.specs.Trace.{Content, with_head, Packet, Call, Receive, Reply, Confirm, Plain, Settle, Ticks, Take, Room, AsksFree, Pass, Dropped, Replayed, Rejected, Request, Response, Acked, Reset, Becomes, Nothing, Is, Sent, Busied, NoIds, Idle, Copied, Expired, Gives, Entry}
 use Rattle.coap_layer.specs.Words.{awaits, clock, Incoming, Remembered, remembered, was_con, replied, is_con, Open, is_to, outstanding, waiting, numbers}
 use Rattle.coap_types.specs.declared.transmission.TheConstants.{LAST_RETRANSMISSION_MS as last_retransmission, MAX_RETRANSMIT as max_retransmit, FAILURE_TIMEOUTS as failure_timeouts}
 use Rattle.coap_layer.specs.declared.dedup.TheConstants.{MAX_REMEMBERED as max_remembered}
+use Rattle.coap_types.specs.declared.message.TheConstants.{MESSAGE_IDS as message_ids}
 
 -- a CON to this place with this id is unacknowledged
 abbrev pub Outstanding : List Entry → Endpoint → ℕ → Type 0
@@ -37,7 +39,7 @@ Withholds word past now = ids.Withholds word (numbers past) now
 
 -- a Reset: Empty, with the Message ID of what is rejected (section 4.2)
 abbrev pub reset_to : Endpoint → ℕ → Packet
-reset_to to id = record { to = to; bytes = 0x70 ∷ 0 ∷ id / 256 ∷ id % 256 ∷ [] }
+reset_to to id = record { to = to; bytes = reset_bytes id }
 
 pub record Rejects (past : List Entry) (e : Entry) (m : Incoming) : Type 0 where
   pub kind : m.message.kind ≡ Con
@@ -62,7 +64,10 @@ pub record IsOddAck (m : Incoming) : Type 0 where
 
 -- any other acknowledgement or Reset, of what is not outstanding
 pub record IsUnmatched (past : List Entry) (m : Incoming) : Type 0 where
-  pub kind : ((m.message.kind ≡ Ack) × ((role_of m.message.code ≡ role.Empty) ⊎ (role_of m.message.code ≡ role.Response))) ⊎ ((m.message.kind ≡ Rst) × (role_of m.message.code ≡ role.Empty))
+  pub kind :
+      ((m.message.kind ≡ Ack)
+      × ((role_of m.message.code ≡ role.Empty) ⊎ (role_of m.message.code ≡ role.Response)))
+      ⊎ ((m.message.kind ≡ Rst) × (role_of m.message.code ≡ role.Empty))
   pub alone : Outstanding past m.from m.message.id → ⊥
 
 -- a new CON or NON with a request or a response, where no more can be remembered
@@ -109,7 +114,10 @@ pub record TakesAnswer (past : List Entry) (e : Entry) (m : Incoming) : Type 0 w
 
 -- the stored reply, where both are CONs
 abbrev pub stored : List Entry → Incoming → List Packet
-stored past m = if is_con m.message.kind && was_con m.from m.message.id past then elim (replied m.from m.message.id past) [ Some bytes ↦ record { to = m.from; bytes = bytes } ∷ [] | None ↦ [] ] else []
+stored past m =
+    if is_con m.message.kind && was_con m.from m.message.id past
+    then elim (replied m.from m.message.id past) [ Some bytes ↦ record { to = m.from; bytes = bytes } ∷ [] | None ↦ [] ]
+    else []
 
 pub record Replays (past : List Entry) (e : Entry) (m : Incoming) : Type 0 where
   pub kind : (m.message.kind ≡ Con) ⊎ (m.message.kind ≡ Non)
@@ -122,8 +130,10 @@ pub record Replays (past : List Entry) (e : Entry) (m : Incoming) : Type 0 where
 -- for which none is free, which is not; a response, which is remembered.
 abbrev pub HandedAs : ℕ → List Entry → Entry → Incoming → Type 0
 HandedAs word past e m =
-    ((role_of m.message.code ≡ role.Request) × ((m.message.kind ≡ Con) ⊎ MayGive word past e.at) × (e.answer ≡ Becomes (Request m.message true)))
-    ⊎ ((role_of m.message.code ≡ role.Request) × (m.message.kind ≡ Non) × Withholds word past e.at × (e.answer ≡ Becomes (Request m.message false)))
+    ((role_of m.message.code ≡ role.Request) × ((m.message.kind ≡ Con) ⊎ MayGive word past e.at)
+    × (e.answer ≡ Becomes (Request m.message true)))
+    ⊎ ((role_of m.message.code ≡ role.Request) × (m.message.kind ≡ Non) × Withholds word past e.at
+    × (e.answer ≡ Becomes (Request m.message false)))
     ⊎ ((role_of m.message.code ≡ role.Response) × (e.answer ≡ Becomes (Response m.message)))
 
 pub record HandsOver (word : ℕ) (past : List Entry) (e : Entry) (m : Incoming) : Type 0 where
@@ -156,9 +166,12 @@ Arrives word past e from (Whole m) = Sorts word past e (record { from = from; me
 
 -- whatever its type and Message ID, the content has a spelling
 abbrev pub IsSpelled : Content → Type 0
-IsSpelled content = (kind : Kind) (id : ℕ) → id < 65536 → Spells (message_bytes (with_head kind id content)) (with_head kind id content)
+IsSpelled content =
+    (kind : Kind) (id : ℕ) → id < message_ids
+    → Spells (message_bytes (with_head kind id content)) (with_head kind id content)
 
-pub record SendsAs (kind : Kind) (word : ℕ) (past : List Entry) (e : Entry) (to : Endpoint) (content : Content) : Type 0 where
+pub record SendsAs (kind : Kind) (word : ℕ) (past : List Entry) (e : Entry) (to : Endpoint)
+    (content : Content) : Type 0 where
   pub id : ℕ
   pub gives : ids.Gives word (numbers past) e.at id
   pub answer : e.answer ≡ Sent id
@@ -183,15 +196,20 @@ abbrev pub Plains : ℕ → List Entry → Entry → Endpoint → Content → Ty
 Plains word past e to content = RefusesIds word past e ⊎ SendsAs Non word past e to content
 
 abbrev pub Settles : List Entry → Entry → Endpoint → ℕ → Type 0
-Settles past e to id = ((Outstanding past to id × (e.answer ≡ Is true)) ⊎ ((Outstanding past to id → ⊥) × (e.answer ≡ Is false))) × (e.out ≡ [])
+Settles past e to id =
+    ((Outstanding past to id × (e.answer ≡ Is true)) ⊎ ((Outstanding past to id → ⊥) × (e.answer ≡ Is false)))
+    × (e.out ≡ [])
 
 -- is there room for a CON, and is a Message ID free
 abbrev pub AsksRoom : ℕ → List Entry → Entry → Endpoint → Type 0
 AsksRoom word past e to =
-    (((Busy past to → ⊥) × MayGive word past e.at × (e.answer ≡ Is true)) ⊎ ((Busy past to ⊎ Withholds word past e.at) × (e.answer ≡ Is false))) × (e.out ≡ [])
+    (((Busy past to → ⊥) × MayGive word past e.at × (e.answer ≡ Is true))
+    ⊎ ((Busy past to ⊎ Withholds word past e.at) × (e.answer ≡ Is false))) × (e.out ≡ [])
 
 abbrev pub AsksIds : ℕ → List Entry → Entry → Type 0
-AsksIds word past e = ((MayGive word past e.at × (e.answer ≡ Is true)) ⊎ (Withholds word past e.at × (e.answer ≡ Is false))) × (e.out ≡ [])
+AsksIds word past e =
+    ((MayGive word past e.at × (e.answer ≡ Is true)) ⊎ (Withholds word past e.at × (e.answer ≡ Is false)))
+    × (e.out ≡ [])
 
 -- ticks (section 4.2)
 
@@ -199,9 +217,10 @@ AsksIds word past e = ((MayGive word past e.at × (e.answer ≡ Is true)) ⊎ (W
 abbrev pub Fails : ℕ → Open → Type 0
 Fails now c = c.timeout * failure_timeouts ≤ now - c.first
 
--- a retransmission is due that was due at no earlier sending, and 47,000 ms have not passed (profile)
+-- a retransmission is due that was due at no earlier sending, and LAST_RETRANSMISSION_MS have not passed (profile)
 pub record CopyDue (now : ℕ) (c : Open) : Type 0 where
-  pub due : Ever (λ (k : ℕ). (c.last - c.first < c.timeout * k) × (c.timeout * k ≤ now - c.first)) (factors max_retransmit)
+  pub due : Ever (λ (k : ℕ). (c.last - c.first < c.timeout * k) × (c.timeout * k ≤ now - c.first))
+      (factors max_retransmit)
   pub early : now - c.first ≤ last_retransmission
 
 abbrev pub HasStep : ℕ → Open → Type 0
@@ -237,8 +256,11 @@ pub data Turns (past : List Entry) (e : Entry) : Type 0 where
 
 -- the table, by call
 abbrev pub Row : ℕ → List Entry → Entry → Call → Type 0
-Row word past e (Receive from bytes) = AreBytes bytes × ((what : Arrival) × Shows bytes what × Arrives word past e from what)
-Row word past e (Reply to id bytes) = (awaits past ≡ Some (record { from = to; id = id })) × (e.answer ≡ Nothing) × (e.out ≡ record { to = to; bytes = bytes } ∷ []) × (e.at ≡ clock past)
+Row word past e (Receive from bytes) =
+    AreBytes bytes × ((what : Arrival) × Shows bytes what × Arrives word past e from what)
+Row word past e (Reply to id bytes) =
+    (awaits past ≡ Some (record { from = to; id = id })) × (e.answer ≡ Nothing)
+    × (e.out ≡ record { to = to; bytes = bytes } ∷ []) × (e.at ≡ clock past)
 Row word past e (Confirm to content wish) = IsSpelled content × Confirms word past e to content
 Row word past e (Plain to content) = IsSpelled content × Plains word past e to content
 Row word past e (Settle to id) = Settles past e to id × (e.at ≡ clock past)

@@ -50,7 +50,7 @@ FiveAtMost t = (c : Open) → AtLeast (2 + max_retransmit) (SendsIt c) t → ⊥
 abbrev pub packet_of : Open → Packet
 packet_of c = record { to = c.to; bytes = c.bytes }
 
--- Each time it goes out within 47,000 ms of the first (profile), to the same place, with equal bytes.
+-- Each time it goes out within LAST_RETRANSMISSION_MS of the first (profile), to the same place, with equal bytes.
 pub record GoesAlike (c : Open) (e : Entry) : Type 0 where
   pub from : c.first ≤ e.at
   pub till : e.at ≤ c.first + last_retransmission
@@ -82,7 +82,7 @@ pub record FirstOut (e : Entry) (p : Packet) : Type 0 where
   pub begins : begun e ≡ Some con
   pub is : p ≡ packet_of con
 
--- a copy of a CON that was begun at most 47,000 ms before, with equal bytes (section 4.2)
+-- a copy of a CON that was begun at most LAST_RETRANSMISSION_MS before, with equal bytes (section 4.2)
 pub record CopyOut (past : List Entry) (e : Entry) (p : Packet) : Type 0 where
   pub con : Open
   pub begun_before : Ever (λ b. begun b ≡ Some con) past
@@ -160,10 +160,12 @@ abbrev pub InOrder : List Entry → Type 0
 InOrder t = sent t ≡ collected t ++ waiting t
 
 abbrev pub TakenSent : List Entry → Type 0
-TakenSent t = Always (λ past e. (p : Packet) → e.call ≡ Take → e.answer ≡ Gives (Some p) → Ever (λ b. IsIn p b.out) past) t
+TakenSent t =
+    Always (λ past e. (p : Packet) → e.call ≡ Take → e.answer ≡ Gives (Some p) → Ever (λ b. IsIn p b.out) past) t
 
 -- What is taken was sent since nothing waited.
 abbrev pub TakenSince : Type 0
 TakenSince =
-    (word : ℕ) (past later : List Entry) (e : Entry) (p : Packet) → LayerLaw word (e ∷ later ++ past) → waiting past ≡ []
+    (word : ℕ) (past later : List Entry) (e : Entry) (p : Packet) → LayerLaw word (e ∷ later ++ past)
+    → waiting past ≡ []
     → e.call ≡ Take → e.answer ≡ Gives (Some p) → Ever (λ b. IsIn p b.out) later

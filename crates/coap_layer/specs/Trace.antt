@@ -1,4 +1,4 @@
--- The calls of a message layer: each with its moment, its arguments, its answer and what it sends (RFC 7252, section 4).
+-- The calls of a message layer: each with its moment, arguments, answer and what it sends (RFC 7252, section 4).
 use Rattle.std.specs.Prelude.{ℕ, Bool, Option, List}
 use Rattle.coap_types.specs.CoapOption.{CoapOption}
 use Rattle.coap_types.specs.declared.endpoint.Endpoint.{Endpoint}
@@ -13,7 +13,8 @@ pub record Content : Type 0 where
   pub payload : List ℕ
 
 abbrev pub with_head : Kind → ℕ → Content → Message
-with_head kind id c = record { kind = kind; code = c.code; id = id; token = c.token; options = c.options; payload = c.payload }
+with_head kind id c =
+    record { kind = kind; code = c.code; id = id; token = c.token; options = c.options; payload = c.payload }
 
 pub record Packet : Type 0 where
   pub to : Endpoint

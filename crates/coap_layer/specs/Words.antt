@@ -70,7 +70,7 @@ is_from from id m = same_endpoint m.from from && (m.message.id == id)
 abbrev pub hands_up : Endpoint → ℕ → Entry → Bool
 hands_up from id e = elim (taken e) [ Some m ↦ is_from from id m | None ↦ false ]
 
--- .. at most 247,000 ms before (EXCHANGE_LIFETIME, section 4.8.2; for a NON: profile)
+-- .. at most EXCHANGE_LIFETIME before (section 4.8.2; for a NON: profile)
 pub record HandsUpSince (now : ℕ) (from : Endpoint) (id : ℕ) (e : Entry) : Type 0 where
   pub up : hands_up from id e ≡ true
   pub young : now ≤ e.at + exchange_lifetime
@@ -81,12 +81,20 @@ Remembered past now from id = Ever (HandsUpSince now from id) past
 -- how many are remembered
 abbrev pub remembered : ℕ → List Entry → ℕ
 remembered now [] = 0
-remembered now (e ∷ past) = elim (taken e) [ Some m ↦ (if nat_le now (e.at + exchange_lifetime) then 1 + remembered now past else remembered now past) | None ↦ remembered now past ]
+remembered now (e ∷ past) =
+    elim (taken e) [
+      | Some m ↦ (if nat_le now (e.at + exchange_lifetime) then 1 + remembered now past else remembered now past)
+      | None ↦ remembered now past
+    ]
 
 -- the message that was remembered last, from there with this id, was a CON
 abbrev pub was_con : Endpoint → ℕ → List Entry → Bool
 was_con from id [] = false
-was_con from id (e ∷ past) = elim (taken e) [ Some m ↦ (if is_from from id m then is_con m.message.kind else was_con from id past) | None ↦ was_con from id past ]
+was_con from id (e ∷ past) =
+    elim (taken e) [
+      | Some m ↦ (if is_from from id m then is_con m.message.kind else was_con from id past)
+      | None ↦ was_con from id past
+    ]
 
 -- the bytes that the call gives as the reply to that message
 abbrev pub reply_in : Endpoint → ℕ → Call → Option (List ℕ)
@@ -148,11 +156,18 @@ abbrev pub sent_by : Answer → Option ℕ
 sent_by (Sent id) = Some id
 sent_by _ = None
 
--- the CON of which the entry is the first sending; its initial timeout lies between 2,000 and 3,000 ms
+-- the CON of which the entry is the first sending; its initial timeout lies between ACK_TIMEOUT and MAX_ACK_TIMEOUT_MS
 abbrev pub open_of : ℕ → Endpoint → Content → ℕ → Option ℕ → Option Open
 open_of at to content word None = None
 open_of at to content word (Some id) =
-    Some (record { to = to; id = id; bytes = message_bytes (with_head Con id content); timeout = ack_timeout + word % timeout_values; first = at; last = at })
+    Some (record {
+      to = to;
+      id = id;
+      bytes = message_bytes (with_head Con id content);
+      timeout = ack_timeout + word % timeout_values;
+      first = at;
+      last = at;
+    })
 
 abbrev pub begun_in : ℕ → Call → Answer → Option Open
 begun_in at (Confirm to content word) answer = open_of at to content word (sent_by answer)

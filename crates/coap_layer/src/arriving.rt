@@ -14,16 +14,14 @@ use crate::Up;
 use crate::arrival::{Known, Verdict, classify};
 use crate::datagram::Datagram;
 use crate::dedup::Memory;
+use crate::empty::reset;
 use crate::lists::Lists;
 use crate::mark::Awaiting;
 use crate::retransmission::{Sending, end_all, is_outstanding};
 use coap_codec::{Fault, View, decode};
-use coap_types::{Code, Endpoint, Id, Kind, Role};
+use coap_types::{Endpoint, Id, Kind, Moment, Role};
 use std::alloc::{AllocError, Allocator};
 use std::hash::BuildHasher;
-
-// The first byte of a Reset: version 1, type 3, no token (RFC 7252, section 3).
-const RESET: u8 = 0x70;
 
 /// A datagram that arrived: its type and Message ID, and what becomes of it.
 #[derive(Clone, Copy)]
@@ -67,13 +65,15 @@ fn of_fault(fault: &Fault) -> Arriving
 // What becomes of a message.
 fn of_message<A: Allocator + Copy, S: BuildHasher>(
     message: &View<'_>,
-    at: u64,
+    at: Moment,
     from: Endpoint,
     lists: &Lists<A, S>,
     free: bool,
 ) -> Arriving
-    ensures { (s : State) → s.arrived ≡ arrivals_in lists.now.entries → s.open_cons ≡ open_now lists.now.sendings.items → is_free at s.upcoming s.last_used ≡ free
-        → IsArriving s at from (shown_by (Ok message.now)) result × (told_by result.verdict (Ok message.now) ≡ answer_to s at from (shown_by (Ok message.now))) }
+    ensures { (s : State) → s.arrived ≡ arrivals_in lists.now.entries → s.open_cons ≡ open_now lists.now.sendings.items
+        → is_free at.0 s.upcoming s.last_used ≡ free
+        → IsArriving s at.0 from (shown_by (Ok message.now)) result
+        × (told_by result.verdict (Ok message.now) ≡ answer_to s at.0 from (shown_by (Ok message.now))) }
 {
     let kind = message.kind();
     let id = message.id();
@@ -93,13 +93,15 @@ fn of_message<A: Allocator + Copy, S: BuildHasher>(
 /// What becomes of a datagram.
 pub(crate) fn judge<A: Allocator + Copy, S: BuildHasher>(
     read: &Result<View<'_>, Fault>,
-    at: u64,
+    at: Moment,
     from: Endpoint,
     lists: &Lists<A, S>,
     free: bool,
 ) -> Arriving
-    ensures { (s : State) → s.arrived ≡ arrivals_in lists.now.entries → s.open_cons ≡ open_now lists.now.sendings.items → is_free at s.upcoming s.last_used ≡ free
-        → IsArriving s at from (shown_by read.now) result × (told_by result.verdict read.now ≡ answer_to s at from (shown_by read.now)) }
+    ensures { (s : State) → s.arrived ≡ arrivals_in lists.now.entries → s.open_cons ≡ open_now lists.now.sendings.items
+        → is_free at.0 s.upcoming s.last_used ≡ free
+        → IsArriving s at.0 from (shown_by read.now) result
+        × (told_by result.verdict read.now ≡ answer_to s at.0 from (shown_by read.now)) }
 {
     match read {
         Ok(message) => of_message(message, at, from, lists, free),
@@ -125,28 +127,27 @@ pub(crate) fn told<'d>(read: Result<View<'d>, Fault>, verdict: Verdict) -> Up<'d
     }
 }
 
-// A Reset (RFC 7252, section 4.2).
-fn reset<A: Allocator + Copy>(alloc: A, to: Endpoint, id: Id) -> Result<Datagram<A>, AllocError>
+// The datagram with the Reset of what came from there (RFC 7252, section 4.2).
+fn rejection<A: Allocator + Copy>(alloc: A, to: Endpoint, id: Id) -> Result<Datagram<A>, AllocError>
     ensures { IfOk result (λ d. d ≡ reset_to to id.0) }
 {
-    let [high, low] = id.0.to_be_bytes();
-    let bytes = Vec::from_slice(alloc, &[RESET, Code::EMPTY.0, high, low])?;
+    let bytes = Vec::from_slice(alloc, &reset(id))?;
     Ok(Datagram { to, bytes })
 }
 
 /// What is sent at once.
 pub(crate) fn sent<A: Allocator + Copy, S: BuildHasher>(
     alloc: A,
-    at: u64,
+    at: Moment,
     from: Endpoint,
     arriving: Arriving,
     entries: &Memory<A, S>,
 ) -> Result<Option<Datagram<A>>, AllocError>
-    ensures sent { IfOk result (λ d. option_to_list d ≡ sent_by at from (arrivals_in entries.now) arriving) }
-    ensures silent { sent_by at from (arrivals_in entries.now) arriving ≡ [] → IsOk result }
+    ensures sent { IfOk result (λ d. option_to_list d ≡ sent_by at.0 from (arrivals_in entries.now) arriving) }
+    ensures silent { sent_by at.0 from (arrivals_in entries.now) arriving ≡ [] → IsOk result }
 {
     match (arriving.verdict, arriving.kind) {
-        (Verdict::Reject, _) => Ok(Some(reset(alloc, from, arriving.id)?)),
+        (Verdict::Reject, _) => Ok(Some(rejection(alloc, from, arriving.id)?)),
         (Verdict::Replay, Kind::Con) => match entries.stored_reply(at, from, arriving.id) {
             Some(reply) => {
                 let bytes = Vec::from_slice(alloc, reply)?;
@@ -219,18 +220,18 @@ pub(crate) fn end_by<A: Allocator + Copy>(
 
 /// Remembers a message that is handed up, for which there is room.
 pub(crate) fn keep_by<A: Allocator + Copy, S: BuildHasher>(
-    at: u64,
+    at: Moment,
     from: Endpoint,
     arriving: Arriving,
     entries: &mut Memory<A, S>,
 )
     requires spare { keeps_lem arriving.verdict arriving.kind ≡ true → 0 < entries.old.spare }
     requires unknown { keeps_lem arriving.verdict arriving.kind ≡ true
-        → is_remembered at from arriving.id.0 entries.old.settled ≡ false }
-    requires up_to { IsUpTo at entries.old.settled }
+        → is_remembered at.0 from arriving.id.0 entries.old.settled ≡ false }
+    requires up_to { IsUpTo at.0 entries.old.settled }
     requires newest { entries.old.newest ≡ None }
     ensures settled { entries.new.settled ≡ entries.old.settled }
-    ensures newest { option_to_list entries.new.newest ≡ newly_by at from arriving }
+    ensures newest { option_to_list entries.new.newest ≡ newly_by at.0 from arriving }
 {
     if keeps(arriving) {
         let con = arriving.kind == Kind::Con;

@@ -30,7 +30,12 @@ impl<'a> Model for Content<'a> {
 
     ghost Value = { Content };
 
-    ghost view = { λ c. record { code = c.code.0; token = c.token.now; options = options_of c.options.now; payload = c.payload.now } };
+    ghost view = { λ c. record {
+      code = c.code.0;
+      token = c.token.now;
+      options = options_of c.options.now;
+      payload = c.payload.now;
+    } };
 }
 
 // The head of the message with this type and Message ID.

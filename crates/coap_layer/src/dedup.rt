@@ -6,7 +6,7 @@ ghost use Rattle.coap_layer.specs.Machine.Entries.{AreLive, IsUpTo, arrivals_in,
 ghost use Rattle.coap_types.specs.declared.transmission.TheConstants.{EXCHANGE_LIFETIME_MS as exchange_lifetime};
 
 use coap_types::transmission::EXCHANGE_LIFETIME_MS;
-use coap_types::{Endpoint, Id};
+use coap_types::{Endpoint, Id, Moment};
 use indexmap::IndexMap;
 use std::alloc::{AllocError, Allocator};
 use std::hash::BuildHasher;
@@ -29,7 +29,7 @@ pub(crate) struct Key {
 #[derive(Drop)]
 pub(crate) struct Kept<A: Allocator + Copy> {
     /// The moment of its first arrival.
-    pub(crate) at: u64,
+    pub(crate) at: Moment,
     /// It was Confirmable: its reply is stored.
     pub(crate) con: bool,
     pub(crate) reply: Option<Vec<u8, A>>,
@@ -51,23 +51,27 @@ impl<A: Allocator + Copy, S: BuildHasher> Model for Memory<A, S> {
 
     ghost Value = { Memory };
 
-    ghost view = { λ m. record { settled = arrivals_as m.settled.entries; newest = option_map arrived_as m.newest; spare = spare m.settled } };
+    ghost view = { λ m. record {
+      settled = arrivals_as m.settled.entries;
+      newest = option_map arrived_as m.newest;
+      spare = spare m.settled;
+    } };
 
     ghost invariant = { λ m. IsUnique same_key m.settled
-        × IsNonDecreasingBy (λ e. e.1.at) m.settled.entries
+        × IsNonDecreasingBy (λ e. e.1.at.0) m.settled.entries
         × IsApart (option_map arrived_as m.newest) (arrivals_as m.settled.entries) (spare m.settled) };
 }
 
 // Whether it is still remembered.
-fn is_live<A: Allocator + Copy>(kept: &Kept<A>, now: u64) -> bool
-    ensures { result ≡ nat_le now (kept.now.at + exchange_lifetime) }
+fn is_live<A: Allocator + Copy>(kept: &Kept<A>, now: Moment) -> bool
+    ensures { result ≡ nat_le now.0 (kept.now.at.0 + exchange_lifetime) }
 {
-    now.saturating_sub(kept.at) <= EXCHANGE_LIFETIME_MS
+    now.since(kept.at) <= EXCHANGE_LIFETIME_MS
 }
 
 // The same, if it is still remembered.
-fn while_live<A: Allocator + Copy>(kept: Option<&Kept<A>>, now: u64) -> Option<&Kept<A>>
-    ensures { option_copied result ≡ live_of now (option_copied kept.entry) }
+fn while_live<A: Allocator + Copy>(kept: Option<&Kept<A>>, now: Moment) -> Option<&Kept<A>>
+    ensures { option_copied result ≡ live_of now.0 (option_copied kept.entry) }
 {
     let kept = kept?;
     if is_live(kept, now) { Some(kept) } else { None }
@@ -108,19 +112,21 @@ impl<A: Allocator + Copy, S: BuildHasher> Memory<A, S> {
     }
 
     // What is settled of the message of this key, if it is still remembered.
-    fn find(&self, now: u64, key: Key) -> Option<&Kept<A>>
-        ensures there { is_some result ≡ is_remembered now key.from key.id.0 self.now.settled }
+    fn find(&self, now: Moment, key: Key) -> Option<&Kept<A>>
+        ensures there { is_some result ≡ is_remembered now.0 key.from key.id.0 self.now.settled }
         ensures reply { option_and_then (λ k.
-            option_map (λ v. v.items) k.reply) (option_copied result) ≡ reply_of now key.from key.id.0 self.now.settled }
+            option_map (λ v. v.items) k.reply) (option_copied result)
+            ≡ reply_of now.0 key.from key.id.0 self.now.settled }
     {
         while_live(self.settled.get(&key), now)
     }
 
     // The newest message, if it is of this key and still remembered.
-    fn find_newest(&self, now: u64, key: Key) -> Option<&Kept<A>>
-        ensures there { is_some result ≡ is_remembered now key.from key.id.0 (option_to_list self.now.newest) }
+    fn find_newest(&self, now: Moment, key: Key) -> Option<&Kept<A>>
+        ensures there { is_some result ≡ is_remembered now.0 key.from key.id.0 (option_to_list self.now.newest) }
         ensures reply { option_and_then (λ k.
-            option_map (λ v. v.items) k.reply) (option_copied result) ≡ reply_of now key.from key.id.0 (option_to_list self.now.newest) }
+            option_map (λ v. v.items) k.reply) (option_copied result)
+            ≡ reply_of now.0 key.from key.id.0 (option_to_list self.now.newest) }
     {
         if let Some((newest, kept)) = &self.newest {
             if *newest == key {
@@ -131,16 +137,16 @@ impl<A: Allocator + Copy, S: BuildHasher> Memory<A, S> {
     }
 
     /// Whether a message from there with this Message ID is remembered.
-    pub(crate) fn is_remembered(&self, now: u64, from: Endpoint, id: Id) -> bool
-        ensures { result ≡ is_remembered now from id.0 (arrivals_in self.now) }
+    pub(crate) fn is_remembered(&self, now: Moment, from: Endpoint, id: Id) -> bool
+        ensures { result ≡ is_remembered now.0 from id.0 (arrivals_in self.now) }
     {
         let key = Key { from, id };
         self.find(now, key).is_some() || self.find_newest(now, key).is_some()
     }
 
     /// The reply that is stored for the message from there with this Message ID.
-    pub(crate) fn stored_reply(&self, now: u64, from: Endpoint, id: Id) -> Option<&Vec<u8, A>>
-        ensures { option_map (λ v. v.now.items) result ≡ reply_of now from id.0 (arrivals_in self.now) }
+    pub(crate) fn stored_reply(&self, now: Moment, from: Endpoint, id: Id) -> Option<&Vec<u8, A>>
+        ensures { option_map (λ v. v.now.items) result ≡ reply_of now.0 from id.0 (arrivals_in self.now) }
     {
         let key = Key { from, id };
         match self.find(now, key) {
@@ -153,16 +159,16 @@ impl<A: Allocator + Copy, S: BuildHasher> Memory<A, S> {
     }
 
     // How many of those that are settled, the first ones, are no longer remembered.
-    fn forgotten(&self, now: u64) -> usize
+    fn forgotten(&self, now: Moment) -> usize
         ensures within { result ≤ length self.now.settled }
-        ensures live { filter (is_live now) self.now.settled ≡ drop result self.now.settled }
+        ensures live { filter (is_live now.0) self.now.settled ≡ drop result self.now.settled }
     {
         self.settled.partition_point(|_, kept| !is_live(kept, now))
     }
 
     // How many of the newest, 0 or 1, are still remembered.
-    fn live_newest(&self, now: u64) -> usize
-        ensures { result ≡ length (filter (is_live now) (option_to_list self.now.newest)) }
+    fn live_newest(&self, now: Moment) -> usize
+        ensures { result ≡ length (filter (is_live now.0) (option_to_list self.now.newest)) }
     {
         if let Some((_, kept)) = &self.newest {
             if is_live(kept, now) {
@@ -173,8 +179,8 @@ impl<A: Allocator + Copy, S: BuildHasher> Memory<A, S> {
     }
 
     /// Whether no further message can be remembered.
-    pub(crate) fn is_full(&self, now: u64) -> bool
-        ensures { result ≡ is_full now (arrivals_in self.now) }
+    pub(crate) fn is_full(&self, now: Moment) -> bool
+        ensures { result ≡ is_full now.0 (arrivals_in self.now) }
     {
         let settled = self.settled.len() - self.forgotten(now);
         settled + self.live_newest(now) >= MAX_REMEMBERED
@@ -191,8 +197,8 @@ impl<A: Allocator + Copy, S: BuildHasher> Memory<A, S> {
     }
 
     // Lets go of what is settled and no longer remembered.
-    fn forget(&mut self, now: u64)
-        ensures settled { self.new.settled ≡ filter (is_live now) self.old.settled }
+    fn forget(&mut self, now: Moment)
+        ensures settled { self.new.settled ≡ filter (is_live now.0) self.old.settled }
         ensures newest { self.new.newest ≡ self.old.newest }
         ensures spare { self.old.spare ≤ self.new.spare }
     {
@@ -203,10 +209,11 @@ impl<A: Allocator + Copy, S: BuildHasher> Memory<A, S> {
     }
 
     // Puts the newest message to the others, if it is still remembered.
-    fn settle_newest(&mut self, now: u64)
-        requires live { AreLive now self.old.settled }
-        requires up_to { IsUpTo now (option_to_list self.old.newest) }
-        ensures settled { self.new.settled ≡ self.old.settled ++ filter (is_live now) (option_to_list self.old.newest) }
+    fn settle_newest(&mut self, now: Moment)
+        requires live { AreLive now.0 self.old.settled }
+        requires up_to { IsUpTo now.0 (option_to_list self.old.newest) }
+        ensures settled { self.new.settled ≡ self.old.settled ++ filter (is_live now.0)
+            (option_to_list self.old.newest) }
         ensures newest { self.new.newest ≡ None }
         ensures spare { self.old.spare ≤ self.new.spare + 1 }
     {
@@ -218,9 +225,9 @@ impl<A: Allocator + Copy, S: BuildHasher> Memory<A, S> {
     }
 
     /// Lets go of the messages that are no longer remembered, and puts the newest to the others.
-    pub(crate) fn settle(&mut self, now: u64)
-        requires up_to { IsUpTo now (arrivals_in self.old) }
-        ensures settled { self.new.settled ≡ filter (is_live now) (arrivals_in self.old) }
+    pub(crate) fn settle(&mut self, now: Moment)
+        requires up_to { IsUpTo now.0 (arrivals_in self.old) }
+        ensures settled { self.new.settled ≡ filter (is_live now.0) (arrivals_in self.old) }
         ensures newest { self.new.newest ≡ None }
         ensures spare { self.old.spare ≤ self.new.spare + 1 }
     {
@@ -229,12 +236,13 @@ impl<A: Allocator + Copy, S: BuildHasher> Memory<A, S> {
     }
 
     /// Remembers one more message, for which there is room.
-    pub(crate) fn remember(&mut self, at: u64, from: Endpoint, id: Id, con: bool)
+    pub(crate) fn remember(&mut self, at: Moment, from: Endpoint, id: Id, con: bool)
         requires spare { 0 < self.old.spare }
-        requires up_to { IsUpTo at self.old.settled }
-        requires unknown { is_remembered at from id.0 self.old.settled ≡ false }
+        requires up_to { IsUpTo at.0 self.old.settled }
+        requires unknown { is_remembered at.0 from id.0 self.old.settled ≡ false }
         ensures settled { self.new.settled ≡ self.old.settled }
-        ensures newest { self.new.newest ≡ Some (record { from = from; id = id.0; at = at; con = con; reply = None }) }
+        ensures newest { self.new.newest ≡ Some
+            (record { from = from; id = id.0; at = at.0; con = con; reply = None }) }
         ensures spare { self.new.spare ≡ self.old.spare }
     {
         let kept = Kept {

@@ -45,7 +45,7 @@ pub fn layer_law()
 pub fn sending_law()
     // A Confirmable message goes out at most five times (RFC 7252, section 4.2).
     ensures five { (word : ℕ) (t : List Entry) → LayerLaw word t → FiveAtMost t }
-    // Each time it goes out within 47,000 ms of the first, with equal bytes, under one Message ID.
+    // Each time it goes out within LAST_RETRANSMISSION_MS of the first, with equal bytes, under one Message ID.
     ensures alike { (word : ℕ) (t : List Entry) → LayerLaw word t → AllAlike t }
     ensures spelled { (word : ℕ) (t : List Entry) → LayerLaw word t → ConsSpelled t }
     // What is outstanding to an endpoint is one Confirmable message (section 4.7).
@@ -60,8 +60,9 @@ pub fn sending_law()
     ensures since { TakenSince }
 {}
 
-/// What two layers do together, where no datagram arrives more than 100,000 ms after it was sent, and each reply is given
-/// at once, with the Message ID of what it replies to. Each clause is of what the near layer sends and the far one takes.
+/// What two layers do together, where no datagram arrives later than MAX_LATENCY after it was sent, and
+/// each reply is given at once, with the Message ID of what it replies to. Each clause is of what the
+/// near layer sends and the far one takes.
 pub fn channel_law()
     // What one layer hands up arrived as a datagram that spells it.
     ensures spelled { (word : ℕ) (t : List Entry) → LayerLaw word t → HandedAsSpelled t }
@@ -70,10 +71,10 @@ pub fn channel_law()
     // What arrives was sent by one of the rows.
     ensures sent { (one other : ℕ) (near far : Endpoint) (all : List Hop) → ChannelLaw one other near far all
         → ArrivesAsSent near far all }
-    // A Confirmable message that arrives was begun at most 147,000 ms before (RFC 7252, section 4.8.2).
+    // A Confirmable message that arrives was begun at most LAST_ARRIVAL_MS before (RFC 7252, section 4.8.2).
     ensures begun { (one other : ℕ) (near far : Endpoint) (all : List Hop) → ChannelLaw one other near far all
         → ConsBegun near far all }
-    // A Non-confirmable message that arrives was sent at most 100,000 ms before (section 4.3).
+    // A Non-confirmable message that arrives was sent at most MAX_LATENCY before (section 4.3).
     ensures plain { (one other : ℕ) (near far : Endpoint) (all : List Hop) → ChannelLaw one other near far all
         → NonsSent near far all }
     // What arrives under a Confirmable message's Message ID meanwhile is that very message (section 4.4).
@@ -95,7 +96,7 @@ pub fn channel_law()
 {}
 
 /// What isn't Empty, and has options that ascend and are short, may be sent where its header, its
-/// token, 5 bytes and the value for each option, one byte and its payload are at most 1,152 bytes.
+/// token, 5 bytes and the value for each option, one byte and its payload are at most `MAX_MESSAGE_LEN`.
 pub fn sendable_law()
     ensures { IsSendableWhenShort }
 {}

@@ -1,4 +1,4 @@
-ghost use Rattle.std.specs.Prelude.{◌≡◌, ◌≢◌, ◌≤◌, ℕ, List, ◌∷◌, [], Err, None, Some, IsSome, IsOk, IfOk, OnOk, OnErr, length, true, false, max};
+ghost use Rattle.std.specs.Prelude.{◌≡◌, ◌≢◌, ◌≤◌, ◌<◌, ◌^◌, ℕ, List, ◌∷◌, [], Err, None, Some, IsSome, IsOk, IfOk, OnOk, OnErr, length, true, false, max};
 ghost use Rattle.coap_codec.specs.Message.{Message};
 ghost use Rattle.coap_layer.specs.declared.up.SendRefusal.TheVariants as refused;
 ghost use Rattle.coap_layer.specs.Machine.LayerLed.{LayerLed};
@@ -35,7 +35,7 @@ use std::marker::Model;
 #[derive(Drop)]
 pub struct Layer<A: Allocator + Copy, S: BuildHasher = BuildHasherDefault<FoldHasher>> {
     alloc: A,
-    clock: u64,
+    clock: Moment,
     awaits: Option<Awaiting>,
     ids: IdSource,
     lists: Lists<A, S>,
@@ -56,7 +56,7 @@ impl<A: Allocator + Copy, S: BuildHasher> Model for Layer<A, S> {
     ghost use Rattle.coap_layer.specs.Machine.State.{forgotten};
 
     ghost view = { λ l. record {
-      state = forgotten (held l.clock l.awaits l.ids l.lists);
+      state = forgotten (held l.clock.0 l.awaits l.ids l.lists);
       before = before_of l.mark l.lists.entries.settled l.lists.sendings.items l.lists.waiting.items;
       has_room = is_some l.room;
       replies = l.replies;
@@ -64,7 +64,7 @@ impl<A: Allocator + Copy, S: BuildHasher> Model for Layer<A, S> {
 
     ghost invariant = { λ l. IsWithin l.mark l.lists.entries.settled (length l.lists.waiting.items)
         × HasRoom l.room l.lists
-        × IsKept l.clock (awaited l.awaits) l.replies l.lists.entries };
+        × IsKept l.clock.0 (awaited l.awaits) l.replies l.lists.entries };
 }
 
 impl<A: Allocator + Copy> Layer<A, BuildHasherDefault<FoldHasher>> {
@@ -89,7 +89,7 @@ impl<A: Allocator + Copy, S: BuildHasher> Layer<A, S> {
     {
         Layer {
             alloc,
-            clock: 0,
+            clock: Moment(0),
             awaits: None,
             ids: IdSource::new(word),
             lists: Lists {
@@ -107,7 +107,7 @@ impl<A: Allocator + Copy, S: BuildHasher> Layer<A, S> {
     pub fn clock(&self) -> Moment
         ensures { result.0 ≡ self.now.state.clock }
     {
-        Moment(self.clock)
+        self.clock
     }
 
     /// Takes a datagram that arrived, and says what becomes of it (RFC 7252, sections 4.2, 4.3 and
@@ -131,7 +131,7 @@ impl<A: Allocator + Copy, S: BuildHasher> Layer<A, S> {
     {
         let moments = Moments {
             last: self.clock,
-            at: self.clock.max(now.0),
+            at: self.clock.later(now),
         };
         let datagram = read(bytes);
         let free = self.ids.would_give(moments.at);
@@ -180,7 +180,7 @@ impl<A: Allocator + Copy, S: BuildHasher> Layer<A, S> {
     }
 
     /// Sends a Confirmable message, and answers its Message ID (RFC 7252, section 4.2). The word
-    /// picks the initial timeout: 2,000 ms and `word` mod 1,001.
+    /// picks the initial timeout: `ACK_TIMEOUT_MS` and `word` mod `TIMEOUT_VALUES`.
     pub fn confirm(
         &mut self,
         now: Moment,
@@ -199,7 +199,7 @@ impl<A: Allocator + Copy, S: BuildHasher> Layer<A, S> {
         ensures quiet { would_answer self.old now.0 (AsksRoom to) ≡ Is false → result ≢ Err refused.Memory }
         ensures memory { result ≡ Err refused.Memory → self.new ≡ self.old }
     {
-        let at = self.clock.max(now.0);
+        let at = self.clock.later(now);
         let busy = is_busy(&self.lists.sendings, to);
         if let Some(refusal) = refusal(busy, self.ids.would_give(at)) {
             self.clock = at;
@@ -235,7 +235,7 @@ impl<A: Allocator + Copy, S: BuildHasher> Layer<A, S> {
         ensures quiet { would_answer self.old now.0 AsksFree ≡ Is false → result ≢ Err refused.Memory }
         ensures memory { result ≡ Err refused.Memory → self.new ≡ self.old }
     {
-        let at = self.clock.max(now.0);
+        let at = self.clock.later(now);
         if let Some(refusal) = refusal(false, self.ids.would_give(at)) {
             self.clock = at;
             self.awaits = None;
@@ -256,7 +256,7 @@ impl<A: Allocator + Copy, S: BuildHasher> Layer<A, S> {
     pub fn would_confirm(&self, now: Moment, to: Endpoint) -> bool
         ensures { would_answer self.now now.0 (AsksRoom to) ≡ Is result }
     {
-        let at = self.clock.max(now.0);
+        let at = self.clock.later(now);
         let busy = is_busy(&self.lists.sendings, to);
         refusal(busy, self.ids.would_give(at)).is_none()
     }
@@ -267,7 +267,7 @@ impl<A: Allocator + Copy, S: BuildHasher> Layer<A, S> {
         ensures idle { result ≡ false → would_answer self.now now.0 Ticks ≡ Idle }
         ensures due { result ≡ true → would_answer self.now now.0 Ticks ≢ Idle }
     {
-        let at = self.clock.max(now.0);
+        let at = self.clock.later(now);
         is_step(find_step(&self.lists.sendings, at))
     }
 
@@ -285,7 +285,7 @@ impl<A: Allocator + Copy, S: BuildHasher> Layer<A, S> {
         ensures had { self.old.has_room ≡ true → IsOk result }
         ensures err { OnErr result (self.new ≡ self.old) }
     {
-        let at = self.clock.max(now.0);
+        let at = self.clock.later(now);
         let may = self.would_confirm(now, to);
         let brings = Brings {
             keeps: false,
@@ -319,7 +319,7 @@ impl<A: Allocator + Copy, S: BuildHasher> Layer<A, S> {
         ensures room { self.new.has_room ≡ self.old.has_room }
         ensures replies { self.new.replies ≡ self.old.replies }
     {
-        self.clock = self.clock.max(now.0);
+        self.clock = self.clock.later(now);
         self.ids.would_give(self.clock)
     }
 
@@ -331,7 +331,7 @@ impl<A: Allocator + Copy, S: BuildHasher> Layer<A, S> {
         ensures room { self.new.has_room ≡ self.old.has_room }
         ensures replies { self.new.replies ≡ self.old.replies }
     {
-        self.clock = now.0.max(self.clock);
+        self.clock = now.later(self.clock);
     }
 
     /// Ends the retransmission of the message to this endpoint with this Message ID; false where
@@ -361,7 +361,7 @@ impl<A: Allocator + Copy, S: BuildHasher> Layer<A, S> {
     {
         let moments = Moments {
             last: self.clock,
-            at: self.clock.max(now.0),
+            at: self.clock.later(now),
         };
         let sent = due_copy(self.alloc, &self.lists.sendings, moments.at)?;
         let brings = Brings {
@@ -386,8 +386,11 @@ impl<A: Allocator + Copy, S: BuildHasher> Layer<A, S> {
         ensures before { self.new.before ≡ None }
         ensures room { self.new.has_room ≡ self.old.has_room }
         ensures replies { self.new.replies ≡ self.old.replies }
+        // No more datagrams wait than a list in memory holds.
+        ensures few { length self.old.state.queue < 2 ^ 64 }
     {
         self.mark = None;
+        let _waiting = self.lists.waiting.len();
         self.lists.waiting.pop_front()
     }
 

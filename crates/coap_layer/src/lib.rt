@@ -1,6 +1,6 @@
 //! The message layer of CoAP (RFC 7252, section 4): Message IDs, duplicates, retransmission.
 //!
-//! [`IdSource`] gives Message IDs, of which equal ones are more than 400,000 ms apart. What a layer
+//! [`IdSource`] gives Message IDs, of which equal ones are more than `ID_REUSE_AFTER_MS` apart. What a layer
 //! answers and sends at each of its calls is a law over the list of all its calls so far
 //! (`specs/Rows.antt`), with what a layer keeps of them beside it (`specs/Machine/State.antt`);
 //! [`layer_law`] says that the two fit, and what follows from the law. Nothing here reads a clock,
@@ -12,6 +12,7 @@ mod arriving;
 mod content;
 mod datagram;
 mod dedup;
+mod empty;
 mod laws;
 mod layer;
 mod lists;
@@ -26,6 +27,7 @@ mod up;
 
 pub use content::Content;
 pub use datagram::Datagram;
+pub use empty::{ack, reset};
 pub use laws::{channel_law, layer_law, sendable_law, sending_law, witness_law};
 pub use layer::Layer;
 pub use message_id::{IdSource, ids_law};

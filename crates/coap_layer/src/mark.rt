@@ -9,7 +9,7 @@ ghost use Rattle.coap_layer.specs.Machine.State.{is_live};
 use crate::IdSource;
 use crate::lists::Lists;
 use crate::outstanding::settle_down;
-use coap_types::{Endpoint, Id};
+use coap_types::{Endpoint, Id, Moment};
 use std::alloc::Allocator;
 use std::hash::BuildHasher;
 
@@ -24,7 +24,7 @@ pub(crate) struct Awaiting {
 /// the same, and a message that came with that input isn't settled.
 #[derive(Drop)]
 pub(crate) struct Mark {
-    pub(crate) clock: u64,
+    pub(crate) clock: Moment,
     pub(crate) awaits: Option<Awaiting>,
     pub(crate) ids: IdSource,
     /// How many datagrams waited.
@@ -33,13 +33,13 @@ pub(crate) struct Mark {
 
 /// Lets go of what the input before left to be taken back, and says what this one finds.
 pub(crate) fn begin<A: Allocator + Copy, S: BuildHasher>(
-    clock: u64,
+    clock: Moment,
     awaits: Option<Awaiting>,
     ids: &IdSource,
     lists: &mut Lists<A, S>,
 ) -> Mark
-    requires { IsUpTo clock (arrivals_in lists.old.entries) }
-    ensures settled { lists.new.entries.settled ≡ filter (is_live clock) (arrivals_in lists.old.entries) }
+    requires { IsUpTo clock.0 (arrivals_in lists.old.entries) }
+    ensures settled { lists.new.entries.settled ≡ filter (is_live clock.0) (arrivals_in lists.old.entries) }
     ensures newest { lists.new.entries.newest ≡ None }
     ensures spare { lists.old.entries.spare ≤ lists.new.entries.spare + 1 }
     ensures sendings { lists.new.sendings.items ≡ noted lists.old.sendings.items }

@@ -2,6 +2,7 @@ ghost use Rattle.std.specs.Prelude.{not, Some, ◌≡◌, ◌+◌, ◌*◌, ◌/
 ghost use Rattle.coap_layer.specs.Ids.{Issued, IdEntry, Ids, IdsAreExact, NumbersLaw, AreApart, IsHeld, IsRested, MayGive, Withholds, numbers, upcoming as upcoming_number};
 ghost use Rattle.coap_layer.specs.declared.message_id.TheConstants.{GROUP_SIZE as group_size, GROUPS as groups};
 ghost use Rattle.coap_layer.specs.Machine.State.{is_free, is_rested};
+ghost use Rattle.coap_types.specs.declared.message.TheConstants.{MESSAGE_IDS as message_ids};
 ghost use Rattle.coap_layer.specs.Machine.IdStep.{Asks, Draws};
 ghost use Rattle.coap_layer.specs.Machine.IdState.{AreUses, Led, next_entry, free_entry};
 
@@ -16,11 +17,12 @@ const GROUP_SIZE: u16 = 4_096;
 
 const _: () = prove!(GROUPS == 16 && GROUP_SIZE == 4_096);
 
-/// A source of Message IDs (RFC 7252, section 4.4): 16 groups of 4,096 numbers, given in rising
-/// order, each group used again only more than 400,000 ms after its last use (profile).
+/// A source of Message IDs (RFC 7252, section 4.4): `GROUPS` groups of `GROUP_SIZE` numbers, given in rising
+/// order, each group used again only more than `ID_REUSE_AFTER_MS` after its last use
+/// (profile).
 #[derive(Drop)]
 pub struct IdSource {
-    clock: u64,
+    clock: Moment,
     upcoming: u16,
     last_used: [Option<u64>; GROUPS],
 }
@@ -31,28 +33,28 @@ impl Model for IdSource {
 
     ghost Value = { IdState };
 
-    ghost view = { λ s. record { clock = s.clock; upcoming = s.upcoming; last_used = s.last_used } };
+    ghost view = { λ s. record { clock = s.clock.0; upcoming = s.upcoming; last_used = s.last_used } };
 }
 
 // Whether a group last used then is still held.
-fn is_held(last_use: Option<u64>, now: u64) -> bool
-    ensures yes { IsTrue result → IsHeld last_use now }
-    ensures no { result ≡ false → IsRested last_use now }
-    ensures test { result ≡ not (is_rested now (Some last_use)) }
+fn is_held(last_use: Option<u64>, now: Moment) -> bool
+    ensures yes { IsTrue result → IsHeld last_use now.0 }
+    ensures no { result ≡ false → IsRested last_use now.0 }
+    ensures test { result ≡ not (is_rested now.0 (Some last_use)) }
 {
     match last_use {
-        Some(last) => now.saturating_sub(last) <= ID_REUSE_AFTER_MS,
+        Some(last) => now.0.saturating_sub(last) <= ID_REUSE_AFTER_MS,
         None => false,
     }
 }
 
 // Whether the number that comes next may be given.
-fn may_give(upcoming: u16, last_used: &[Option<u64>; GROUPS], now: u64) -> bool
+fn may_give(upcoming: u16, last_used: &[Option<u64>; GROUPS], now: Moment) -> bool
     ensures yes { (word : ℕ) (past : List Issued) → upcoming ≡ upcoming_number word past → AreUses past last_used.now
-        → IsTrue result → MayGive word past now }
+        → IsTrue result → MayGive word past now.0 }
     ensures no { (word : ℕ) (past : List Issued) → upcoming ≡ upcoming_number word past → AreUses past last_used.now
-        → result ≡ false → Withholds word past now }
-    ensures test { result ≡ is_free now upcoming last_used.now }
+        → result ≡ false → Withholds word past now.0 }
+    ensures test { result ≡ is_free now.0 upcoming last_used.now }
 {
     upcoming % GROUP_SIZE != 0 || !is_held(last_used[(upcoming / GROUP_SIZE) as usize], now)
 }
@@ -70,20 +72,24 @@ impl IdSource {
     }
 
     /// Whether a number may be given at this moment.
-    pub(crate) fn would_give(&self, at: u64) -> bool
-        ensures { result ≡ is_free at self.now.upcoming self.now.last_used }
+    pub(crate) fn would_give(&self, at: Moment) -> bool
+        ensures { result ≡ is_free at.0 self.now.upcoming self.now.last_used }
     {
         may_give(self.upcoming, &self.last_used, at)
     }
 
     /// Gives the number that comes next.
-    pub(crate) fn give(&mut self, at: u64) -> Id
+    pub(crate) fn give(&mut self, at: Moment) -> Id
         ensures id { result.0 ≡ self.old.upcoming }
-        ensures new { self.new ≡ record { clock = at; upcoming = (self.old.upcoming + 1) % 65536; last_used = slice_set self.old.last_used (self.old.upcoming / group_size) (Some at) } }
+        ensures new { self.new ≡ record {
+          clock = at.0;
+          upcoming = (self.old.upcoming + 1) % message_ids;
+          last_used = slice_set self.old.last_used (self.old.upcoming / group_size) (Some at.0);
+        } }
     {
         let id = self.upcoming;
         self.clock = at;
-        self.last_used[(id / GROUP_SIZE) as usize] = Some(at);
+        self.last_used[(id / GROUP_SIZE) as usize] = Some(at.0);
         self.upcoming = id.wrapping_add(1);
         Id(id)
     }
@@ -91,10 +97,14 @@ impl IdSource {
     /// A source that begins at the group that the word picks: group `word` mod 16.
     pub fn new(word: u64) -> IdSource
         ensures led { Led word [] result }
-        ensures start { result ≡ record { clock = 0; upcoming = word % groups * group_size; last_used = replicate groups None } }
+        ensures start { result ≡ record {
+          clock = 0;
+          upcoming = word % groups * group_size;
+          last_used = replicate groups None;
+        } }
     {
         IdSource {
-            clock: 0,
+            clock: Moment(0),
             upcoming: (word % GROUPS as u64) as u16 * GROUP_SIZE,
             last_used: [None; GROUPS],
         }
@@ -106,18 +116,18 @@ impl IdSource {
             → Led word (free_entry t now.0 result ∷ t) self.new }
         ensures step { Asks self.old now.0 result self.new }
     {
-        self.clock = self.clock.max(now.0);
+        self.clock = self.clock.later(now);
         may_give(self.upcoming, &self.last_used, self.clock)
     }
 
     /// The next number; `None` where the group is spent and the next one was used at most
-    /// 400,000 ms ago. A moment before the last one counts as the last.
+    /// `ID_REUSE_AFTER_MS` ago. A moment before the last one counts as the last.
     pub fn next(&mut self, now: Moment) -> Option<Id>
         ensures led { (word : ℕ) (t : List IdEntry) → Led word t self.old
             → Led word (next_entry t now.0 result ∷ t) self.new }
         ensures step { Draws self.old now.0 result self.new }
     {
-        self.clock = self.clock.max(now.0);
+        self.clock = self.clock.later(now);
         if !may_give(self.upcoming, &self.last_used, self.clock) {
             return None;
         }
@@ -126,7 +136,7 @@ impl IdSource {
 }
 
 /// What leads to a source stands in the law, which leaves each call one answer, and by which equal
-/// numbers are more than 400,000 ms apart.
+/// numbers are more than `ID_REUSE_AFTER_MS` apart.
 pub fn ids_law()
     ensures law { (word : ℕ) (t : List IdEntry) (s : _) → Led word t s → Ids word t }
     ensures exact { IdsAreExact }

@@ -6,6 +6,7 @@ ghost use Rattle.coap_layer.specs.Machine.State.{copies};
 
 use crate::datagram::Datagram;
 use crate::retransmission::{Sending, has_failed, is_copy_due};
+use coap_types::Moment;
 use std::alloc::{AllocError, Allocator};
 
 // Drops the messages that have ended.
@@ -78,10 +79,10 @@ pub(crate) fn put_back<A: Allocator + Copy>(sendings: &mut Vec<Sending<A>, A>)
 pub(crate) fn due_copy<A: Allocator + Copy>(
     alloc: A,
     sendings: &Vec<Sending<A>, A>,
-    at: u64,
+    at: Moment,
 ) -> Result<Option<Datagram<A>>, AllocError>
-    ensures copy { IfOk result (λ d. option_to_list d ≡ copies at (open_now sendings.now.items)) }
-    ensures idle { copies at (open_now sendings.now.items) ≡ [] → IsOk result }
+    ensures copy { IfOk result (λ d. option_to_list d ≡ copies at.0 (open_now sendings.now.items)) }
+    ensures idle { copies at.0 (open_now sendings.now.items) ≡ [] → IsOk result }
 {
     for c in sendings {
         if let Some(last) = c.last {

@@ -13,7 +13,7 @@ ghost use Rattle.coap_layer.specs.Machine.Ups.{IsTick};
 
 use crate::Tick;
 use coap_types::transmission::{FAILURE_TIMEOUTS, LAST_RETRANSMISSION_MS, MAX_RETRANSMIT};
-use coap_types::{Endpoint, Id};
+use coap_types::{Endpoint, Id, Moment};
 use std::alloc::Allocator;
 
 /// A Confirmable message that was sent (RFC 7252, section 4.2).
@@ -25,11 +25,11 @@ pub(crate) struct Sending<A: Allocator + Copy> {
     /// The initial timeout, in milliseconds.
     pub(crate) timeout: u16,
     /// The moment of the first sending.
-    pub(crate) first: u64,
+    pub(crate) first: Moment,
     /// The moment of the last sending; `None` once retransmission has ended.
-    pub(crate) last: Option<u64>,
+    pub(crate) last: Option<Moment>,
     /// The same as the last input found it.
-    pub(crate) before: Option<u64>,
+    pub(crate) before: Option<Moment>,
 }
 
 /// The step that is due.
@@ -72,14 +72,14 @@ pub(crate) fn is_busy<A: Allocator + Copy>(sendings: &[Sending<A>], to: Endpoint
 }
 
 // The moment of the last sending, or none where it is over.
-fn unless(over: bool, last: Option<u64>) -> Option<u64>
+fn unless(over: bool, last: Option<Moment>) -> Option<Moment>
     ensures { result ≡ (if over then None else last) }
 {
     if over { None } else { last }
 }
 
 // The moment of the last sending, which is now where it is sent again.
-fn moved(again: bool, last: Option<u64>, at: u64) -> Option<u64>
+fn moved(again: bool, last: Option<Moment>, at: Moment) -> Option<Moment>
     ensures { result ≡ (if is_some last && again then Some at else last) }
 {
     if last.is_some() && again {
@@ -99,7 +99,7 @@ pub(crate) fn end<A: Allocator + Copy>(sendings: &mut [Sending<A>], to: Endpoint
 }
 
 // Notes that what is outstanding there with this Message ID is sent again.
-fn mark<A: Allocator + Copy>(sendings: &mut [Sending<A>], to: Endpoint, id: Id, at: u64)
+fn mark<A: Allocator + Copy>(sendings: &mut [Sending<A>], to: Endpoint, id: Id, at: Moment)
     ensures { sendings.new ≡ map (marked to id.0 at) sendings.old }
 {
     for c in sendings.iter_mut() {
@@ -108,10 +108,10 @@ fn mark<A: Allocator + Copy>(sendings: &mut [Sending<A>], to: Endpoint, id: Id, 
 }
 
 /// Whether the transmission has failed (RFC 7252, section 4.2).
-pub(crate) fn has_failed<A: Allocator + Copy>(c: &Sending<A>, now: u64) -> bool
-    ensures { result ≡ nat_le (c.now.timeout * failure_timeouts) (now - c.now.first) }
+pub(crate) fn has_failed<A: Allocator + Copy>(c: &Sending<A>, now: Moment) -> bool
+    ensures { result ≡ nat_le (c.now.timeout * failure_timeouts) (now.0 - c.now.first.0) }
 {
-    u64::from(c.timeout) * FAILURE_TIMEOUTS <= now.saturating_sub(c.first)
+    u64::from(c.timeout) * FAILURE_TIMEOUTS <= now.since(c.first)
 }
 
 // Whether the retransmission that is due so many timeouts after the first sending is due and was
@@ -147,18 +147,25 @@ fn any_falls_due(retransmissions: u32, timeout: u16, sent: u64, elapsed: u64) ->
 }
 
 /// Whether a retransmission is due: of those that are, one is sent and the others count as sent
-/// (RFC 7252, section 4.2), and none later than 47,000 ms after the first sending (profile).
-pub(crate) fn is_copy_due<A: Allocator + Copy>(c: &Sending<A>, last: u64, now: u64) -> bool
-    ensures { result ≡ is_copy_due now (record { to = c.now.to; id = c.now.id.0; bytes = c.now.bytes.items; timeout = c.now.timeout; first = c.now.first; last = last }) }
+/// (RFC 7252, section 4.2), and none later than `LAST_RETRANSMISSION_MS` after the first sending (profile).
+pub(crate) fn is_copy_due<A: Allocator + Copy>(c: &Sending<A>, last: Moment, now: Moment) -> bool
+    ensures { result ≡ is_copy_due now.0 (record {
+      to = c.now.to;
+      id = c.now.id.0;
+      bytes = c.now.bytes.items;
+      timeout = c.now.timeout;
+      first = c.now.first.0;
+      last = last.0;
+    }) }
 {
-    let sent = last.saturating_sub(c.first);
-    let elapsed = now.saturating_sub(c.first);
+    let sent = last.since(c.first);
+    let elapsed = now.since(c.first);
     elapsed <= LAST_RETRANSMISSION_MS && any_falls_due(MAX_RETRANSMIT, c.timeout, sent, elapsed)
 }
 
 /// The step of the message that was sent first of those that have one.
-pub(crate) fn find_step<A: Allocator + Copy>(sendings: &Vec<Sending<A>, A>, at: u64) -> Due
-    ensures { answer_for result ≡ tick_of at (open_now sendings.now.items) }
+pub(crate) fn find_step<A: Allocator + Copy>(sendings: &Vec<Sending<A>, A>, at: Moment) -> Due
+    ensures { answer_for result ≡ tick_of at.0 (open_now sendings.now.items) }
 {
     for c in sendings {
         if let Some(last) = c.last {
@@ -202,7 +209,12 @@ pub(crate) fn end_all<A: Allocator + Copy>(sendings: &mut Vec<Sending<A>, A>, to
 }
 
 // Notes that what is outstanding there with this Message ID is sent again.
-fn mark_all<A: Allocator + Copy>(sendings: &mut Vec<Sending<A>, A>, to: Endpoint, id: Id, at: u64)
+fn mark_all<A: Allocator + Copy>(
+    sendings: &mut Vec<Sending<A>, A>,
+    to: Endpoint,
+    id: Id,
+    at: Moment,
+)
     ensures items { sendings.new.items ≡ map (marked to id.0 at) sendings.old.items }
     ensures len { vec_len sendings.new ≡ vec_len sendings.old }
     ensures capacity { vec_capacity sendings.new ≡ vec_capacity sendings.old }
@@ -211,9 +223,15 @@ fn mark_all<A: Allocator + Copy>(sendings: &mut Vec<Sending<A>, A>, to: Endpoint
 }
 
 /// Does the step.
-pub(crate) fn take_step<A: Allocator + Copy>(sendings: &mut Vec<Sending<A>, A>, step: Due, at: u64)
+pub(crate) fn take_step<A: Allocator + Copy>(
+    sendings: &mut Vec<Sending<A>, A>,
+    step: Due,
+    at: Moment,
+)
     ensures open { (out : List Packet)
-        → open_now sendings.new.items ≡ filter_map (left_by (record { at = at; call = Ticks; answer = answer_for step; out = out })) (open_now sendings.old.items) }
+        → open_now sendings.new.items ≡ filter_map
+        (left_by (record { at = at.0; call = Ticks; answer = answer_for step; out = out }))
+        (open_now sendings.old.items) }
     ensures before { open_before sendings.new.items ≡ open_before sendings.old.items }
     ensures len { vec_len sendings.new ≡ vec_len sendings.old }
     ensures capacity { vec_capacity sendings.new ≡ vec_capacity sendings.old }

@@ -18,7 +18,7 @@ use crate::retransmission::Sending;
 use crate::room::{Room, filled};
 use coap_types::limits::MAX_MESSAGE_LEN;
 use coap_types::transmission::{ACK_TIMEOUT_MS, TIMEOUT_VALUES};
-use coap_types::{Endpoint, Id, Kind};
+use coap_types::{Endpoint, Id, Kind, Moment};
 use std::alloc::Allocator;
 use std::hash::BuildHasher;
 
@@ -55,7 +55,7 @@ fn keep<A: Allocator + Copy, S: BuildHasher>(lists: &mut Lists<A, S>, sending: S
 /// Sends a Confirmable message, for which there is room (RFC 7252, section 4.2).
 pub(crate) fn send_con<A: Allocator + Copy, S: BuildHasher>(
     room: Room<A>,
-    at: u64,
+    at: Moment,
     to: Endpoint,
     id: Id,
     word: u64,
@@ -64,9 +64,18 @@ pub(crate) fn send_con<A: Allocator + Copy, S: BuildHasher>(
 )
     requires sendable { IsSendable content.now }
     requires room { HasRoom (Some room) lists.old }
-    ensures open { open_now lists.new.sendings.items ≡ open_now lists.old.sendings.items ++ record { to = to; id = id.0; bytes = message_bytes (with_head Con id.0 content.now); timeout = ack_timeout + word % timeout_values; first = at; last = at } ∷ [] }
+    ensures open { open_now lists.new.sendings.items ≡ open_now lists.old.sendings.items
+        ++ record {
+          to = to;
+          id = id.0;
+          bytes = message_bytes (with_head Con id.0 content.now);
+          timeout = ack_timeout + word % timeout_values;
+          first = at.0;
+          last = at.0;
+        } ∷ [] }
     ensures before { open_before lists.new.sendings.items ≡ open_before lists.old.sendings.items }
-    ensures waiting { lists.new.waiting.items ≡ lists.old.waiting.items ++ record { to = to; bytes = message_bytes (with_head Con id.0 content.now) } ∷ [] }
+    ensures waiting { lists.new.waiting.items ≡ lists.old.waiting.items
+        ++ record { to = to; bytes = message_bytes (with_head Con id.0 content.now) } ∷ [] }
     ensures entries { lists.new.entries ≡ lists.old.entries }
 {
     let mut buffer = [0; MAX_MESSAGE_LEN];
@@ -97,7 +106,8 @@ pub(crate) fn send_non<A: Allocator + Copy, S: BuildHasher>(
 )
     requires sendable { IsSendable content.now }
     requires room { HasRoom (Some room) lists.old }
-    ensures waiting { lists.new.waiting.items ≡ lists.old.waiting.items ++ record { to = to; bytes = message_bytes (with_head Non id.0 content.now) } ∷ [] }
+    ensures waiting { lists.new.waiting.items ≡ lists.old.waiting.items
+        ++ record { to = to; bytes = message_bytes (with_head Non id.0 content.now) } ∷ [] }
     ensures sendings { lists.new.sendings ≡ lists.old.sendings }
     ensures entries { lists.new.entries ≡ lists.old.entries }
 {

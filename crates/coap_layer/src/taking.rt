@@ -17,15 +17,15 @@ use crate::datagram::{Datagram, push_some};
 use crate::lists::Lists;
 use crate::mark::{Awaiting, Mark, begin};
 use crate::retransmission::{Due, find_step, take_step};
-use coap_types::Endpoint;
+use coap_types::{Endpoint, Moment};
 use std::alloc::Allocator;
 use std::hash::BuildHasher;
 
 /// The moments of an input: the last that counted, and that which counts now.
 #[derive(Clone, Copy)]
 pub(crate) struct Moments {
-    pub(crate) last: u64,
-    pub(crate) at: u64,
+    pub(crate) last: Moment,
+    pub(crate) at: Moment,
 }
 
 /// Takes in what arrived, where there is room for all that it brings.
@@ -38,19 +38,22 @@ pub(crate) fn take_in<A: Allocator + Copy, S: BuildHasher>(
     sent: Option<Datagram<A>>,
     lists: &mut Lists<A, S>,
 ) -> Mark
-    requires moment { moments.last ≤ moments.at }
-    requires up_to { IsUpTo moments.last (arrivals_in lists.old.entries) }
+    requires moment { moments.last.0 ≤ moments.at.0 }
+    requires up_to { IsUpTo moments.last.0 (arrivals_in lists.old.entries) }
     requires entry { keeps arriving.verdict arriving.kind ≡ true → 2 ≤ lists.old.entries.spare }
     requires unknown { hands arriving.verdict arriving.kind ≡ true
-        → is_remembered moments.at from arriving.id.0 (arrivals_in lists.old.entries) ≡ false }
+        → is_remembered moments.at.0 from arriving.id.0 (arrivals_in lists.old.entries) ≡ false }
     requires place { is_some sent ≡ true → deque_len lists.old.waiting + 1 < deque_capacity lists.old.waiting }
-    ensures arrived { filter (is_live moments.at) (arrivals_in lists.new.entries) ≡ filter (is_live moments.at) (filter (is_live moments.last) (arrivals_in lists.old.entries) ++ newly_by moments.at from arriving) }
+    ensures arrived { filter (is_live moments.at.0) (arrivals_in lists.new.entries)
+        ≡ filter (is_live moments.at.0) (filter (is_live moments.last.0) (arrivals_in lists.old.entries)
+        ++ newly_by moments.at.0 from arriving) }
     ensures open { open_now lists.new.sendings.items ≡ open_by from arriving (open_now lists.old.sendings.items) }
     ensures waiting { lists.new.waiting.items ≡ lists.old.waiting.items ++ option_to_list sent }
     ensures before { before_of (Some result) lists.new.entries.settled lists.new.sendings.items lists.new.waiting.items
-        ≡ Some (forgotten (state_of_parts moments.last (awaited awaits) ids.now (arrivals_in lists.old.entries) (open_now lists.old.sendings.items) lists.old.waiting.items)) }
+        ≡ Some (forgotten (state_of_parts moments.last.0 (awaited awaits) ids.now (arrivals_in lists.old.entries)
+        (open_now lists.old.sendings.items) lists.old.waiting.items)) }
     ensures within { IsWithin (Some result) lists.new.entries.settled (length lists.new.waiting.items) }
-    ensures kept { IsKept moments.at (awaits_by from arriving) true lists.new.entries }
+    ensures kept { IsKept moments.at.0 (awaits_by from arriving) true lists.new.entries }
     ensures sendings_len { vec_len lists.new.sendings ≤ vec_len lists.old.sendings }
     ensures sendings_capacity { vec_capacity lists.new.sendings ≡ vec_capacity lists.old.sendings }
     ensures waiting_room { deque_len lists.old.waiting < deque_capacity lists.old.waiting
@@ -71,18 +74,21 @@ pub(crate) fn take_tick<A: Allocator + Copy, S: BuildHasher>(
     sent: Option<Datagram<A>>,
     lists: &mut Lists<A, S>,
 ) -> (Mark, Due)
-    requires moment { moments.last ≤ moments.at }
-    requires up_to { IsUpTo moments.last (arrivals_in lists.old.entries) }
+    requires moment { moments.last.0 ≤ moments.at.0 }
+    requires up_to { IsUpTo moments.last.0 (arrivals_in lists.old.entries) }
     requires place { is_some sent ≡ true → deque_len lists.old.waiting + 1 < deque_capacity lists.old.waiting }
-    ensures due { answer_for result.1 ≡ tick_of moments.at (open_now lists.old.sendings.items) }
-    ensures arrived { arrivals_in lists.new.entries ≡ filter (is_live moments.last) (arrivals_in lists.old.entries) }
+    ensures due { answer_for result.1 ≡ tick_of moments.at.0 (open_now lists.old.sendings.items) }
+    ensures arrived { arrivals_in lists.new.entries ≡ filter (is_live moments.last.0) (arrivals_in lists.old.entries) }
     ensures open { (out : List Packet)
-        → open_now lists.new.sendings.items ≡ filter_map (left_by (record { at = moments.at; call = Ticks; answer = answer_for result.1; out = out })) (open_now lists.old.sendings.items) }
+        → open_now lists.new.sendings.items ≡ filter_map
+        (left_by (record { at = moments.at.0; call = Ticks; answer = answer_for result.1; out = out }))
+        (open_now lists.old.sendings.items) }
     ensures waiting { lists.new.waiting.items ≡ lists.old.waiting.items ++ option_to_list sent }
     ensures before { before_of (Some result.0) lists.new.entries.settled lists.new.sendings.items lists.new.waiting.items
-        ≡ Some (forgotten (state_of_parts moments.last (awaited awaits) ids.now (arrivals_in lists.old.entries) (open_now lists.old.sendings.items) lists.old.waiting.items)) }
+        ≡ Some (forgotten (state_of_parts moments.last.0 (awaited awaits) ids.now (arrivals_in lists.old.entries)
+        (open_now lists.old.sendings.items) lists.old.waiting.items)) }
     ensures within { IsWithin (Some result.0) lists.new.entries.settled (length lists.new.waiting.items) }
-    ensures kept { IsKept moments.at None true lists.new.entries }
+    ensures kept { IsKept moments.at.0 None true lists.new.entries }
     ensures sendings_len { vec_len lists.new.sendings ≤ vec_len lists.old.sendings }
     ensures sendings_capacity { vec_capacity lists.new.sendings ≡ vec_capacity lists.old.sendings }
     ensures waiting_room { deque_len lists.old.waiting < deque_capacity lists.old.waiting

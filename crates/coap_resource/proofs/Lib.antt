@@ -4,3 +4,5 @@ pub mod RateLemmas
 pub mod ServedContent
 pub mod ServedParts
 pub mod ServedSame
+pub mod SaysOneWay
+pub mod Facts

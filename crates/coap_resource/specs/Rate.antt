@@ -1,5 +1,5 @@
 -- How often a store changes: moments fall into windows (of 256 s), and a window takes so many changes (RFC 7641, section 4.4).
-use Rattle.std.specs.Prelude.{ℕ, ◌+◌, ◌/◌, ◌==◌, max, nat_le, Option, Some, None, if◌then◌else◌}
+use Rattle.std.specs.Prelude.{ℕ, ◌+◌, ◌-◌, ◌^◌, ◌/◌, ◌==◌, max, nat_le, Option, Some, None, if◌then◌else◌}
 use Rattle.coap_resource.specs.declared.refusal.StoreRefusal.{StoreRefusal}
 use Rattle.coap_resource.specs.declared.refusal.StoreRefusal.TheVariants.{RateExceeded, VersionsSpent}
 use Rattle.coap_resource.specs.declared.tally.Tally.{Tally}
@@ -21,7 +21,7 @@ used t now = if window (max t.clock.0 now) == window t.clock.0 then t.changes el
 abbrev pub rate_refusal : Tally → ℕ → Option StoreRefusal
 rate_refusal t now =
     if nat_le t.limit (used t now) then Some RateExceeded
-    else if t.version == 18446744073709551615 then Some VersionsSpent
+    else if t.version == 2 ^ 64 - 1 then Some VersionsSpent
     else None
 
 -- a moment that counts, and changes nothing

@@ -1,8 +1,8 @@
 -- The options that say a response, and how large a response is (RFC 7252, sections 3.2, 4.6, 5.10.3 and 5.10.6; RFC 7959, section 2.2).
-use Rattle.std.specs.Prelude.{◌≡◌, ℕ, ◌^◌, ◌<◌, ◌≤◌, ◌++◌, Bool, List, length, Option, Some, None, IfSome}
+use Rattle.std.specs.Prelude.{◌≡◌, ◌↔◌, ℕ, ◌^◌, ◌<◌, ◌≤◌, ◌++◌, Bool, List, length, Option, Some, None, IfSome}
 use Rattle.coap_types.specs.CoapOption.{CoapOption}
 use Rattle.coap_types.specs.BlockValue.{block_value}
-use Rattle.coap_types.specs.OptionValues.{option_with}
+use Rattle.coap_types.specs.OptionValues.{option_with, uint_option}
 use Rattle.coap_types.specs.Piece.{size_of}
 use Rattle.coap_types.specs.Roles.{role_of}
 use Rattle.coap_types.specs.declared.block.TheConstants.{MAX_NUM as max_num}
@@ -33,8 +33,14 @@ pub record Says (reply : Reply) (options : List CoapOption) : Type 0 where
   pub block2_is : IsUint (block_number reply.block2) block2
   pub list : options ≡ option_with numbers.ETAG reply.tag ++ (option_with numbers.CONTENT_FORMAT format ++ option_with numbers.BLOCK2 block2)
 
--- A response has a code of one byte and of a response, and its values have the lengths that the options allow: 8 bytes of ETag, 2 of
--- Content-Format, 20 bits of NUM. Its payload is at most a block of the largest size.
+-- .. the same as a function
+abbrev pub response_options : Reply → List CoapOption
+response_options reply =
+    option_with numbers.ETAG reply.tag
+    ++ (uint_option numbers.CONTENT_FORMAT reply.format ++ uint_option numbers.BLOCK2 (block_number reply.block2))
+
+-- A response has a code of one byte and of a response, and its values have the lengths that the options allow: those of
+-- ETag, 2 bytes of Content-Format, 20 bits of NUM. Its payload is at most a block of the largest size.
 pub record Fits (reply : Reply) : Type 0 where
   pub role : role_of reply.code ≡ Response
   pub code : reply.code < 2 ^ 8
@@ -42,3 +48,7 @@ pub record Fits (reply : Reply) : Type 0 where
   pub format : IfSome reply.format (λ f. f < 2 ^ 16)
   pub block2 : IfSome reply.block2 (λ b. (b.0 ≤ max_num) × (b.2 ≤ max_szx))
   pub part : length reply.part ≤ size_of max_szx
+
+-- Such a response says its options in one way.
+abbrev pub SaysOneWay : Type 0
+SaysOneWay = (reply : Reply) (options : List CoapOption) → Fits reply → Says reply options ↔ (options ≡ response_options reply)

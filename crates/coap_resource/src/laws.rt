@@ -1,4 +1,5 @@
 ghost use Rattle.coap_resource.specs.RateLaw.{CountLaw, ExceededLaw, RateLaw};
+ghost use Rattle.coap_resource.specs.ResponseOptions.{SaysOneWay};
 ghost use Rattle.coap_resource.specs.ServedLaw.{ContentLaw, PartLaw, SameLaw};
 
 /// The laws of the rate (profile; RFC 7641, section 4.4, wants fewer than 2^23 changes within 256 s),
@@ -20,4 +21,6 @@ pub fn served_law()
     ensures part { PartLaw }
     // Under another code than 2.01, 2.02 and 2.04 nothing changes but the moment.
     ensures same { SameLaw }
+    // A response that fits says its options in one way (RFC 7252, section 3.2; RFC 7959, section 2.2).
+    ensures says { SaysOneWay }
 {}

@@ -23,7 +23,7 @@ pub struct Response<A: Allocator = Global> {
     pub offset: u32,
 }
 
-// A code with no option and no payload.
+/// A code with no option and no payload.
 pub(crate) fn bare<A: Allocator>(code: Code, offset: u32) -> Response<A>
     ensures { reply_of result ≡ bare code.0 offset }
 {

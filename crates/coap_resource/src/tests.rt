@@ -6,7 +6,7 @@ use StoreRefusal::{RateExceeded, TooLarge, TooManyPaths};
 use coap_types::{Code, Direction, Method, Moment, Opt, Path, Szx, recognised};
 use std::alloc::{AllocError, Global};
 
-// A path of one segment.
+/// A path of one segment.
 pub(crate) fn path_of(alloc: Global, segment: &[u8]) -> Result<Path, AllocError> {
     let mut path = Path::new(alloc);
     match path.push(segment) {
@@ -15,7 +15,7 @@ pub(crate) fn path_of(alloc: Global, segment: &[u8]) -> Result<Path, AllocError>
     }
 }
 
-// What a store answers to a request of these options.
+/// What a store answers to a request of these options.
 pub(crate) fn ask(
     store: &mut ListStore,
     method: Method,

@@ -1,6 +1,7 @@
 -- The segments of a request's recognised options are short, so only their number refuses them as a path.
-use Rattle.std.proofs.Common.{◌≡◌, ℕ, ◌+◌, ◌≤◌, ◌==◌, ◌&&◌, ◌∙◌, nat_le, nat_lt, Bool, true, false, Some, None, List, [], ◌∷◌, length, map, refl, ap, sym, zero-add, arith, cond, if◌then◌else◌}
+use Rattle.std.proofs.Common.{◌≡◌, ℕ, ◌+◌, ◌≤◌, ◌==◌, ◌&&◌, ◌∙◌, nat_le, nat_lt, Bool, true, false, Some, None, List, [], ◌∷◌, length, map, All, refl, ap, sym, zero-add, arith, cond, if◌then◌else◌}
 use Rattle.std.specs.List.{filter}
+use Rattle.std.proofs.lemmas.List.Elements.{All-cons, All-head, All-nil, All-tail}
 use Rattle.std.proofs.lemmas.Bool.{and_parts, eqb-true, leb-true}
 use Rattle.std.proofs.lemmas.Bool.Decides.{nat_tests}
 use Rattle.coap_types.specs.declared.direction.Direction.TheVariants.{Request}
@@ -8,7 +9,8 @@ use Rattle.coap_types.specs.declared.path.PathRefusal.TheVariants.{SegmentTooLon
 use Rattle.coap_types.specs.CoapOption.{CoapOption}
 use Rattle.coap_types.specs.OptionTable.{option_rule}
 use Rattle.coap_types.specs.Recognised.{is_recognised, passes, placed}
-use Rattle.coap_types.specs.RequestPath.{PathsOfRecognised, path_of, refusal_after}
+use Rattle.coap_types.specs.declared.path.TheConstants.{MAX_SEGMENT_LEN as max_segment_len, MAX_SEGMENTS as max_segments}
+use Rattle.coap_types.specs.RequestPath.{MakesPathWithin, PathsOfRecognised, path_of, refusal_after}
 
 abbrev AreShort : List (List ℕ) → Type 0
 AreShort [] = Unit {0}
@@ -58,3 +60,41 @@ pub paths_of_recognised : PathsOfRecognised
 paths_of_recognised options =
     by_count 0 (path_of (kept (placed [] options))) (kept_short (placed [] options)) (omega arith)
     ∙ ap (λ (n : ℕ). if nat_lt 16 n then Some TooManySegments else None) (zero-add (length (path_of (kept (placed [] options)))))
+
+abbrev IsShort : List ℕ → Type 0
+IsShort segment = length segment ≤ max_segment_len
+
+module _ (s : List ℕ) (ss : List (List ℕ)) (count : ℕ) where
+  -- one segment more is refused by its length, by the count, or by those behind it
+  taken : (a b : Bool) → nat_lt max_segment_len (length s) ≡ a → nat_le max_segments count ≡ b
+      → (if a then Some SegmentTooLong else if b then Some TooManySegments else refusal_after (count + 1) ss) ≡ None
+      → IsShort s × (count + 1 ≤ max_segments) × (refusal_after (count + 1) ss ≡ None)
+  taken true b long is none = absurd (cc none)
+  taken false true long is none = absurd (cc none)
+  taken false false long is none = (grind (arith, nat_tests), grind (arith, nat_tests), none)
+
+  takes : (a b : Bool) → nat_lt max_segment_len (length s) ≡ a → nat_le max_segments count ≡ b → IsShort s → count + 1 ≤ max_segments
+      → refusal_after (count + 1) ss ≡ None → (if a then Some SegmentTooLong else if b then Some TooManySegments else refusal_after (count + 1) ss) ≡ None
+  takes true b long is short few none = absurd (grind (arith, nat_tests))
+  takes false true long is short few none = absurd (grind (arith, nat_tests))
+  takes false false long is short few none = none
+
+none_within : (count : ℕ) (ss : List (List ℕ)) → count ≤ max_segments → refusal_after count ss ≡ None → (count + length ss ≤ max_segments) × All IsShort ss
+none_within count [] few none = (omega (arith, few), All-nil IsShort)
+none_within count (s ∷ ss) few none =
+    let one = taken s ss count (nat_lt max_segment_len (length s)) (nat_le max_segments count) refl refl none in
+    let rest = none_within (count + 1) ss one.1 one.2 in
+    let more = rest.0 in
+    (omega (arith, more), All-cons IsShort s ss one.0 rest.1)
+
+within_none : (count : ℕ) (ss : List (List ℕ)) → count + length ss ≤ max_segments → All IsShort ss → refusal_after count ss ≡ None
+within_none count [] few short = refl
+within_none count (s ∷ ss) few short =
+    takes s ss count (nat_lt max_segment_len (length s)) (nat_le max_segments count) refl refl (All-head IsShort s ss short) (omega (arith, few))
+    (within_none (count + 1) ss (omega (arith, few)) (All-tail IsShort s ss short))
+
+pub makes_path_within : MakesPathWithin
+makes_path_within segments = (
+  λ none. let w = none_within 0 segments (omega arith) none in let few = w.0 in record { few = omega (arith, few); short = w.1 },
+  λ held. let few = held.few in within_none 0 segments (omega (arith, few)) held.short,
+)

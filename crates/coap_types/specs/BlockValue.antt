@@ -4,7 +4,7 @@ use Rattle.coap_types.specs.Bytes.{AreBytes}
 use Rattle.coap_types.specs.Uint.{number_of}
 use Rattle.coap_types.specs.declared.block.Block.{Block}
 use Rattle.coap_types.specs.declared.block.TheConstants.{MAX_BLOCK_LEN as max_block_len, MAX_NUM as max_num}
-use Rattle.coap_types.specs.declared.szx.TheConstants.{MAX_SZX as max_szx}
+use Rattle.coap_types.specs.declared.szx.TheConstants.{MAX_SZX as max_szx, RESERVED_SZX as reserved_szx}
 
 abbrev pub more_bit : Bool → ℕ
 more_bit true = 8
@@ -33,7 +33,7 @@ pub record BlockSays (bytes : List ℕ) (block : Option Block) : Type 0 where
 
 -- a value is that of one block
 abbrev pub OneBlock : Type 0
-OneBlock = (a b : Block) → a.szx ≤ 7 → b.szx ≤ 7 → block_value a ≡ block_value b → a ≡ b
+OneBlock = (a b : Block) → a.szx ≤ reserved_szx → b.szx ≤ reserved_szx → block_value a ≡ block_value b → a ≡ b
 
 -- the function and the relation say the same
 abbrev pub BlockIsSaid : Type 0

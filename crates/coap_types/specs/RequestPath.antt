@@ -1,7 +1,8 @@
 -- The path that the options of a request say (RFC 7252, section 5.10.1).
-use Rattle.std.specs.Prelude.{◌≡◌, ℕ, ◌+◌, ◌==◌, nat_le, nat_lt, List, [], ◌∷◌, length, map, Option, Some, None, if◌then◌else◌}
+use Rattle.std.specs.Prelude.{◌≡◌, ◌↔◌, ℕ, ◌+◌, ◌==◌, nat_le, nat_lt, List, [], ◌∷◌, length, map, Option, Some, None, if◌then◌else◌}
 use Rattle.std.specs.List.{filter}
 use Rattle.coap_types.specs.CoapOption.{CoapOption}
+use Rattle.coap_types.specs.Path.{HoldsAtMost}
 use Rattle.coap_types.specs.Recognised.{recognised}
 use Rattle.coap_types.specs.declared.direction.Direction.TheVariants.{Request}
 use Rattle.coap_types.specs.declared.option_number.TheConstants.{URI_PATH as uri_path}
@@ -30,3 +31,7 @@ abbrev pub PathsOfRecognised : Type 0
 PathsOfRecognised =
     (options : List CoapOption)
     → path_refusal (path_of (recognised Request options)) ≡ (if nat_lt max_segments (length (path_of (recognised Request options))) then Some TooManySegments else None)
+
+-- segments make a path exactly where they keep within its bounds
+abbrev pub MakesPathWithin : Type 0
+MakesPathWithin = (segments : List (List ℕ)) → (path_refusal segments ≡ None) ↔ HoldsAtMost max_segments max_segment_len segments

@@ -1,5 +1,6 @@
 -- Option values in the uint format: a number in network byte order (RFC 7252, section 3.2).
 use Rattle.std.specs.Prelude.{ℕ, ◌+◌, ◌*◌, ◌/◌, ◌%◌, ◌^◌, ◌<◌, ◌==◌, ◌≡◌, List, [], ◌∷◌, length, Option, Some, None, nat_le, nat_lt, if◌then◌else◌}
+use Rattle.coap_types.specs.declared.uint.TheConstants.{MAX_UINT_LEN as max_uint_len}
 use Rattle.coap_types.specs.Bytes.{AreBytes}
 
 -- the number that bytes spell, the most significant byte first; no byte spells 0
@@ -7,9 +8,9 @@ abbrev pub number_of : List ℕ → ℕ
 number_of [] = 0
 number_of (b ∷ bs) = b * 256 ^ length bs + number_of bs
 
--- what is read: at most four bytes, also where they lead with zeros
+-- what is read: at most MAX_UINT_LEN bytes, also where they lead with zeros
 abbrev pub uint_value : List ℕ → Option ℕ
-uint_value bytes = if nat_le (length bytes) 4 then Some (number_of bytes) else None
+uint_value bytes = if nat_le (length bytes) max_uint_len then Some (number_of bytes) else None
 
 -- no zero byte in front
 abbrev pub LeadsWithNoZero : List ℕ → Type 0

@@ -35,7 +35,7 @@ pub use block::{Block, MAX_BLOCK_LEN, MAX_NUM, block_law};
 pub use bodies::appended;
 pub use direction::Direction;
 pub use endpoint::{Endpoint, Moment};
-pub use message::{Code, Id, Kind};
+pub use message::{Code, Id, Kind, MESSAGE_IDS};
 pub use option_rule::{Occurrence, Rule};
 pub use options::Opt;
 pub use path::{MAX_SEGMENT_LEN, MAX_SEGMENTS, Path, PathRefusal, path_law};
@@ -43,7 +43,7 @@ pub use recognised_options::{carries, lacks_critical, recognised, recognised_val
 pub use recognition::rule;
 pub use request::{Method, Request};
 pub use role::Role;
-pub use szx::{MAX_SZX, Szx};
+pub use szx::{MAX_SZX, RESERVED_SZX, Szx};
 pub use tag::{MAX_TAG_LEN, MAX_TAGS, Tag, Tags};
 pub use token::{MAX_TOKEN_LEN, Token};
 pub use uint::{MAX_UINT_LEN, UintBytes, uint_bytes, uint_laws, uint_of};

@@ -148,3 +148,8 @@ impl fmt::Display for Code {
 /// A Message ID, which ties an acknowledgement or a Reset to its message (RFC 7252, section 4.4).
 #[derive(Clone, Copy, Debug, PartialEq, Eq, PartialOrd, Ord, Hash)]
 pub struct Id(pub u16);
+
+/// How many Message IDs there are: they have 16 bits (RFC 7252, section 3).
+pub const MESSAGE_IDS: u32 = 1 << 16;
+
+const _: () = prove!(MESSAGE_IDS == 65_536);

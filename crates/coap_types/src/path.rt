@@ -2,7 +2,7 @@ ghost use Rattle.std.specs.Prelude.{◌≡◌, ◌<◌, ◌≤◌, ◌∷◌, �
 ghost use Rattle.coap_types.specs.Bytes.{AreBytes};
 ghost use Rattle.coap_types.specs.CoapOption.{options_of};
 ghost use Rattle.coap_types.specs.Path.{HoldsAtMost, segments_of, same_path, path_order};
-ghost use Rattle.coap_types.specs.RequestPath.{PathsOfRecognised, path_of, path_refusal};
+ghost use Rattle.coap_types.specs.RequestPath.{MakesPathWithin, PathsOfRecognised, path_of, path_refusal};
 ghost use Rattle.coap_types.specs.PathOrder.{path_hash_respects_eq, path_order_ties, path_order_total, path_partial_order, same_path_equiv};
 ghost use Rattle.std.specs.Cmp.{partial_equiv_from_equiv};
 ghost use Rattle.std.specs.Hash as fed;
@@ -190,8 +190,9 @@ impl<A: Allocator> Hash for Path<A> {
     }
 }
 
-/// Of the options of a request that are recognised, over `MAX_SEGMENTS` segments alone refuse the
-/// path: none of them is too long (RFC 7252, section 5.10).
+/// Which segments make a path; and of the options of a request that are recognised, over
+/// `MAX_SEGMENTS` segments alone refuse it: none of them is too long (RFC 7252, section 5.10).
 pub fn path_law()
-    ensures { PathsOfRecognised }
+    ensures within { MakesPathWithin }
+    ensures recognised { PathsOfRecognised }
 {}

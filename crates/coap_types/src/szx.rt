@@ -3,12 +3,14 @@ ghost use Rattle.std.specs.Option.{SomeIff};
 
 use std::marker::Model;
 
-/// The greatest size exponent; 7 is reserved (RFC 7959, section 2.2).
+/// The greatest size exponent (RFC 7959, section 2.2).
 pub const MAX_SZX: u8 = 6;
+/// The value of the field SZX that is reserved, and is that of no block (RFC 7959, section 2.2).
+pub const RESERVED_SZX: u8 = 7;
 /// The size of a block at size exponent 0, in bytes (RFC 7959, section 2.2).
 pub const MIN_BLOCK_SIZE: usize = 16;
 
-const _: () = prove!(MAX_SZX == 6 && MIN_BLOCK_SIZE == 16);
+const _: () = prove!(MAX_SZX == 6 && RESERVED_SZX == 7 && MIN_BLOCK_SIZE == 16);
 
 /// The size of a block as an exponent, 0 to 6 for 16 to 1,024 bytes (RFC 7959, section 2.2).
 #[derive(Clone, Copy, Debug, PartialEq, Eq, PartialOrd, Ord, Hash)]

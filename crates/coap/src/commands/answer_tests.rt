@@ -1,12 +1,18 @@
 use super::tests::{Row, check_row, repeated};
 use std::alloc::AllocError;
+use std::net::Net;
 use std::process::Abort;
+use std::random::RandomSource;
+use std::rt::Clock;
 use std::test::Fail;
 
 /// A datagram to a server that holds `hi` at `t`, and what is printed.
 type Reply<'a> = (&'a str, &'a str);
 
-fn check_replies<R: Abort + AllocGlobal>(rt: &R, replies: &[Reply<'_>]) -> Result<(), AllocError> {
+fn check_replies<R: Abort + AllocGlobal + Net + Clock + RandomSource>(
+    rt: &R,
+    replies: &[Reply<'_>],
+) -> Result<(), AllocError> {
     for (datagram, printed) in replies {
         check_row(rt, &["answer", "t", "hi", datagram], 0, printed)?;
     }
@@ -15,6 +21,8 @@ fn check_replies<R: Abort + AllocGlobal>(rt: &R, replies: &[Reply<'_>]) -> Resul
 
 /// 2.05 with `hi`: entity-tag 1, format text/plain.
 const CONTENT: &str = "6045000148000000000000000180ff6869\n";
+/// The same, to an observer: Observe 1.
+const OBSERVED: &str = "60450001480000000000000001210160ff6869\n";
 /// 2.04, 4.00, 4.02, 4.12.
 const CHANGED: &str = "60440001\n";
 
@@ -231,23 +239,56 @@ fn checks_in_their_order(rt: HostRuntime) -> Result<(), Fail> {
 }
 
 #[test]
-fn requests_that_are_not_served_yet(rt: HostRuntime) -> Result<(), Fail> {
-    let datagrams = [
-        // Observe 0 and 1, Block1 `1:0/1/16` and with SZX 7, also beside an option that is not recognised.
-        "40010001605174",
-        "4001000161015174",
-        "50010001605174",
-        "40030001b174d10308ff78",
-        "40030001b174d10307ff78",
-        "400100016051744178",
-        // Responses.
-        "40450001",
-        "50450001",
-        "40bf0001",
+fn observation(rt: HostRuntime) -> Result<(), Fail> {
+    let replies = [
+        // Observe 0 registers: the number of a notification is that of the version, here 1.
+        ("40010001605174", OBSERVED),
+        ("50010001605174", "50450000480000000000000001210160ff6869\n"),
+        (
+            "40010001605174c0",
+            "60450001480000000000000001210160b0ff6869\n",
+        ),
+        // Observe 1 ends that, other values are ignored; as are all of a PUT.
+        ("4001000161015174", CONTENT),
+        ("4001000161025174", CONTENT),
+        ("40030001605174ff78", CHANGED),
+        // Nothing is registered behind a check that fails, at no resource, or at 2.03.
+        ("400100016051744178", BAD_OPTION),
+        ("4001000160517a", "60840001\n"),
+        (
+            "40010001480000000000000001205174",
+            "60430001480000000000000001\n",
+        ),
     ];
-    for datagram in datagrams {
-        check_row(&rt, &["answer", "t", "hi", datagram], 1, "not yet\n")?;
-    }
+    check_replies(&rt, &replies)?;
+    Ok(())
+}
+
+#[test]
+fn blocks_of_an_upload(rt: HostRuntime) -> Result<(), Fail> {
+    let replies = [
+        // `1:0/1/16` with 1 byte, and with 16; `1:0/0/16`, alone, with 1 byte, and with 17.
+        ("40030001b174d10308ff78", BAD_REQUEST),
+        (
+            "40030001b174d10308ff61616161616161616161616161616161",
+            "605f0001d10e08\n",
+        ),
+        ("40030001b174d003ff78", "60440001d00e\n"),
+        ("40030001b17ad003ff78", "60410001d00e\n"),
+        ("40020001b174d003ff78", "60440001d00e\n"),
+        ("40020001b17ad003ff78", "60840001d00e\n"),
+        (
+            "40030001b174d003ff6161616161616161616161616161616161",
+            BAD_REQUEST,
+        ),
+        // `1:1/0/16` with no block before it.
+        ("40030001b174d10310ff78", "60880001\n"),
+        // SZX 7; a Block1 of GET and DELETE.
+        ("40030001b174d10307ff78", BAD_REQUEST),
+        ("40010001b174d003", BAD_REQUEST),
+        ("40040001b174d003", BAD_REQUEST),
+    ];
+    check_replies(&rt, &replies)?;
     Ok(())
 }
 
@@ -278,6 +319,10 @@ fn arrivals(rt: HostRuntime) -> Result<(), Fail> {
         ("60010001", "silence\n"),
         ("60450001", "silence\n"),
         ("70010001", "silence\n"),
+        // A response at a server.
+        ("40450001", "70000001\n"),
+        ("50450001", "70000001\n"),
+        ("40bf0001", "70000001\n"),
     ];
     check_replies(&rt, &replies)?;
     Ok(())

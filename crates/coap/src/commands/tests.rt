@@ -3,7 +3,10 @@ use crate::orders::Wrong;
 use std::alloc::{AllocError, Global};
 use std::io;
 use std::io::{ErrorKind, Write};
+use std::net::Net;
 use std::process::Abort;
+use std::random::RandomSource;
+use std::rt::Clock;
 use std::test::Fail;
 
 fn words_of(alloc: Global, words: &[&str]) -> Result<Vec<String>, AllocError> {
@@ -28,7 +31,7 @@ pub(super) fn repeated(alloc: Global, part: &str, count: usize) -> Result<String
 pub(super) type Row<'a> = (&'a [&'a str], u8, &'a str);
 
 /// One run prints this, and nothing else.
-pub(super) fn check_row<R: Abort + AllocGlobal>(
+pub(super) fn check_row<R: Abort + AllocGlobal + Net + Clock + RandomSource>(
     rt: &R,
     words: &[&str],
     status: u8,
@@ -85,8 +88,11 @@ fn shown_datagrams(rt: HostRuntime) -> Result<(), Fail> {
     Ok(())
 }
 
-/// The words are wrong: only standard error says so.
-fn check_wrong<R: Abort + AllocGlobal>(rt: &R, words: &[&str]) -> Result<(), AllocError> {
+// The words are wrong: only standard error says so.
+fn check_wrong<R: Abort + AllocGlobal + Net + Clock + RandomSource>(
+    rt: &R,
+    words: &[&str],
+) -> Result<(), AllocError> {
     let words = words_of(rt.alloc(), words)?;
     let mut out = Vec::new(rt.alloc());
     let mut err = Vec::new(rt.alloc());
@@ -102,7 +108,18 @@ fn check_wrong<R: Abort + AllocGlobal>(rt: &R, words: &[&str]) -> Result<(), All
 
 #[test]
 fn wrong_words(rt: HostRuntime) -> Result<(), Fail> {
-    let cases: [&[&str]; 9] = [
+    let cases: [&[&str]; 20] = [
+        &["pair"],
+        &["pair", "t"],
+        &["pair", "t", "hi", "--word"],
+        &["pair", "t", "hi", "--word", "18446744073709551616"],
+        &["pair", "t", "hi", "--word", "-1"],
+        &["serve", "5683"],
+        &["serve", "65536", "1"],
+        &["serve", "5683", "18446744073709551616"],
+        &["serve", "5683", "one"],
+        &["get", "5683"],
+        &["get", "", "t"],
         &[],
         &["--help"],
         &["fetch"],

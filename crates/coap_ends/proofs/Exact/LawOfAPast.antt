@@ -10,7 +10,7 @@ use Rattle.coap_exchange.specs.AnswererLaw.{ResponseLaw}
 use Rattle.coap_exchange.specs.AnswererSteps as R
 use Rattle.coap_exchange.specs.AnswererTrace as R_trace
 use Rattle.coap_exchange.proofs.Facts.Above.{law_back}
-use Rattle.coap_exchange.proofs.Facts.StepsOfLayer.{steps_split}
+use Rattle.coap_layer.proofs.Facts.StepsOfLayer.{steps_split}
 use Rattle.coap_ends.specs.ClientLaw as client
 use Rattle.coap_ends.specs.ClientLaw.{ClientLaw}
 use Rattle.coap_ends.specs.ClientSteps as client_steps

@@ -18,7 +18,7 @@ use Rattle.coap_exchange.specs.AnswererSteps as P
 use Rattle.coap_exchange.specs.AnswererLaw as W
 use Rattle.coap_exchange.specs.AnswererLaw.{ResponseLaw}
 use Rattle.coap_exchange.proofs.Facts.ServerSide.{exact}
-use Rattle.coap_exchange.proofs.Facts.StepsOfLayer.{one_left, one_answer, steps_split}
+use Rattle.coap_layer.proofs.Facts.StepsOfLayer.{one_left, one_answer, steps_split}
 use Rattle.coap_ends.specs.ServerTrace.{Own, Handling, Silent, Refuses, Serves, Waits, Call, Feeds, Ticks}
 use Rattle.coap_ends.specs.ServerSteps.{answering, responding}
 use Rattle.coap_ends.specs.ServerLaw.{own_of, lower_of, ServerLaw}

@@ -14,9 +14,9 @@ use Rattle.coap_exchange.specs.AnswererSteps as P
 use Rattle.coap_exchange.specs.AnswererLaw as W
 use Rattle.coap_exchange.specs.AnswererLaw.{ResponseLaw}
 use Rattle.coap_exchange.specs.AskerRequests.{asked}
-use Rattle.coap_exchange.proofs.Facts.StepsOfLayer.{steps_join}
+use Rattle.coap_layer.proofs.Facts.StepsOfLayer.{steps_join}
 use Rattle.std.proofs.lemmas.Bool.{and_parts}
-use Rattle.coap_exchange.proofs.Facts.CallsOfLayer.{left_same_nil}
+use Rattle.coap_layer.proofs.Facts.CallsOfLayer.{left_same_nil}
 use Rattle.coap_ends.proofs.Progress.ClientGoing.{left_by, answer_by, one_step}
 use Rattle.coap_ends.proofs.Serving.ServerWaiting.{found_ready}
 use Rattle.coap_ends.proofs.Progress.AnswererGoing.{TakesCon}

@@ -20,7 +20,7 @@ use Rattle.coap_exchange.specs.AskerRequests.{asked, content_of}
 use Rattle.coap_exchange.specs.AskerArrivals as R
 use Rattle.coap_exchange.specs.AskerLaw as E
 use Rattle.coap_exchange.specs.AskerLaw.{ExchangeLaw}
-use Rattle.coap_exchange.proofs.Facts.StepsOfLayer.{steps_join}
+use Rattle.coap_layer.proofs.Facts.StepsOfLayer.{steps_join}
 use Rattle.coap_ends.specs.ClientTrace.{Request, Operation, Own, Taking, Taken, QueueFull, BodyTooLarge, BadPath, CallsSpent, Call, Calls, Feeds, Ticks, NextOut, NextReport}
 use Rattle.coap_ends.specs.declared.limits.TheConstants.{MAX_OPTIONS_LEN as max_options, MAX_WAITING_CALLS as max_waiting}
 use Rattle.coap_ends.specs.ClientRequests.{is_too_large, message_of, longest, max_calls, taking}

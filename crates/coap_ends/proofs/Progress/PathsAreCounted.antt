@@ -85,7 +85,7 @@ module _ (old left : Content) (at : ℕ) (path : List (List ℕ)) (now : Option 
       let one = w.one in
       record { paths = w.rest; many = omega (arith, many, sum, one); each = each_by w.rest (λ x h. absurd (cc (h, is))) w.others }
 
-counted_by : (old left : Content) → Moves old left → AreCounted old → AreCounted left
+pub counted_by : (old left : Content) → Moves old left → AreCounted old → AreCounted left
 counted_by old left (stays holds paths) k = record { paths = k.paths; many = k.many ∙ sym paths; each = λ path held h. k.each path held (sym (ap (λ f. f path) holds) ∙ h) }
 counted_by old left (moves at path now c) k = change_counted old left at path now c k (old.holds path) now refl refl c.paths
 
@@ -127,7 +127,7 @@ can_change old at path now k =
 same_moves : (old left : Content) → left ≡ old → Moves old left
 same_moves old left h = stays (ap (λ (s : Content). s.holds) h) (ap (λ (s : Content). s.paths) h)
 
-unchanged_moves : (old left : Content) (at : ℕ) → left ≡ later old at → Moves old left
+pub unchanged_moves : (old left : Content) (at : ℕ) → left ≡ later old at → Moves old left
 unchanged_moves old left at h = stays (ap (λ (s : Content). s.holds) h) (ap (λ (s : Content). s.paths) h)
 
 put_moves : (o : Option StoreRefusal) (old : Content) (at : ℕ) (q : Question) (reply : Reply) (left : Content) → PutBy o old at q reply left → Moves old left
@@ -160,7 +160,7 @@ unless_moves : (f : Bool) (old : Content) (at : ℕ) (q : Question) (reply : Rep
 unless_moves true old at q reply left h = same_moves old left h.1
 unless_moves false old at q reply left h = method_moves q.method old at q reply left h
 
-served_moves : (old : Content) (at : ℕ) (q : Question) (reply : Reply) (left : Content) → R.Serves old at q reply left → Moves old left
+pub served_moves : (old : Content) (at : ℕ) (q : Question) (reply : Reply) (left : Content) → R.Serves old at q reply left → Moves old left
 served_moves old at q reply left h = unless_moves (precondition_fails (old.holds q.path) q.options) old at q reply left h
 
 sets_moves : (o : Option StoreRefusal) (old : Content) (at : ℕ) (path : List (List ℕ)) (format : Option ℕ) (body : List ℕ) (answer : Result ℕ StoreRefusal) (left : Content) → SetsBy o old at path format body answer left → Moves old left

@@ -15,7 +15,7 @@ use Rattle.coap_exchange.specs.AnswererSteps as P
 use Rattle.coap_exchange.specs.AnswererLaw as W
 use Rattle.coap_exchange.specs.AskerRequests.{asked}
 use Rattle.coap_exchange.specs.AskerArrivals.{id_in, replying}
-use Rattle.coap_exchange.proofs.Facts.StepsOfLayer.{steps_split}
+use Rattle.coap_layer.proofs.Facts.StepsOfLayer.{steps_split}
 use Rattle.coap_ends.specs.ServerTrace.{Handling, Silent, Refuses, Serves, Waits, Call, Sets, Removes, Delays, Feeds, Ticks, NextOut}
 use Rattle.coap_ends.specs.ServerSteps.{lower, answering, responding}
 use Rattle.coap_ends.specs.ServerLaw.{own_of, lower_of}

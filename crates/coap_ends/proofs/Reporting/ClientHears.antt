@@ -19,7 +19,7 @@ use Rattle.coap_exchange.specs.AskerRequests.{asked}
 use Rattle.coap_exchange.specs.AskerSteps as P
 use Rattle.coap_exchange.specs.AskerLaw as W
 use Rattle.coap_exchange.proofs.Facts.ClientSide.{server_is}
-use Rattle.coap_exchange.proofs.Facts.StepsOfLayer.{steps_split}
+use Rattle.coap_layer.proofs.Facts.StepsOfLayer.{steps_split}
 use Rattle.coap_exchange.proofs.Facts.Verdicts.{Fits, verdict_fits}
 use Rattle.coap_ends.specs.ClientTrace.{Call, Calls, Feeds, Ticks, NextOut, NextReport}
 use Rattle.coap_ends.specs.ClientSteps.{lower}

@@ -22,7 +22,8 @@ use Rattle.coap_ends.specs.ClientRequests.{message_of}
 use Rattle.coap_ends.specs.ClientSteps.{asking, starting, starting_if, waiting_after}
 use Rattle.coap_ends.specs.ClientLaw.{ClientLaw, own_of, lower_of}
 use Rattle.coap_ends.proofs.Rest.LastStep.{last_step, take_less}
-use Rattle.coap_ends.proofs.Rest.StepsDue.{one_if, due_count, is_step, ticks_least, ticks_fewer, confirm_least, same_opens}
+use Rattle.coap_ends.specs.StepsDue.{one_if, due_count}
+use Rattle.coap_ends.proofs.Rest.StepsDue.{is_step, ticks_least, ticks_fewer, confirm_least, same_opens}
 
 -- what is due
 

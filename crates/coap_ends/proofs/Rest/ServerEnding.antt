@@ -17,7 +17,8 @@ use Rattle.coap_ends.specs.ServerSteps.{AnswersWaiting, is_of, question_of, with
 use Rattle.coap_ends.specs.ServerLaw.{ServerLaw, own_of, lower_of}
 use Rattle.coap_ends.proofs.Rest.LastStep.{last_step, take_less}
 use Rattle.coap_ends.proofs.Serving.ServerWaiting.{ready_are_served}
-use Rattle.coap_ends.proofs.Rest.StepsDue.{due_count, is_step, ticks_least, ticks_fewer, confirm_least, room_same}
+use Rattle.coap_ends.specs.StepsDue.{due_count}
+use Rattle.coap_ends.proofs.Rest.StepsDue.{is_step, ticks_least, ticks_fewer, confirm_least, room_same}
 
 -- what is due
 

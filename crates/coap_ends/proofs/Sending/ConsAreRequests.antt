@@ -28,7 +28,7 @@ use Rattle.coap_ends.specs.ClientRequests.{Alone}
 use Rattle.coap_ends.specs.ClientTrace.{Operation, Call, Calls, Feeds, Ticks, NextOut, NextReport}
 use Rattle.coap_ends.specs.ClientRequests.{message_of}
 use Rattle.coap_ends.specs.ClientSteps.{lower, starting, asking}
-use Rattle.coap_exchange.proofs.Facts.StepsOfLayer.{steps_split}
+use Rattle.coap_layer.proofs.Facts.StepsOfLayer.{steps_split}
 use Rattle.coap_ends.specs.Adds.{asked_by_client, client_asks, client_asked, client_adds}
 use Rattle.coap_ends.specs.ClientLaw.{ClientLaw, own_of, lower_of}
 use Rattle.coap_ends.specs.Follows.ClientBegins.{IsRequestOf, SendsNow, BeginAtOnce}

@@ -22,7 +22,7 @@ use Rattle.coap_ends.specs.ServerLaw.{own_of, lower_of}
 use Rattle.coap_ends.proofs.Replying.ServerReplies.{Came, came_by}
 use Rattle.coap_types.specs.Past.{Sometime}
 use Rattle.coap_exchange.proofs.Facts.ServerSide.{came_in}
-use Rattle.coap_exchange.proofs.Facts.StepsOfLayer.{steps_split}
+use Rattle.coap_layer.proofs.Facts.StepsOfLayer.{steps_split}
 use Rattle.coap_ends.specs.Adds.{asked_by_server, server_asks, server_asked, server_adds}
 use Rattle.coap_ends.specs.ServerLaw.{ServerLaw, layer_of}
 use Rattle.coap_ends.specs.Follows.ServerHands.{HandsUp, Comes, ComesAs, AreHandedUp}

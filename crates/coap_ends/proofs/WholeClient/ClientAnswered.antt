@@ -13,7 +13,7 @@ use Rattle.coap_exchange.specs.declared.asker.Turn.{Turn}
 use Rattle.coap_exchange.specs.declared.asker.Turn.TheVariants as turn_of
 use Rattle.coap_exchange.specs.AskerLaw as X
 use Rattle.coap_observe.specs.Newer.{is_newer}
-use Rattle.coap_ends.specs.WholeClient.ClientTrace.{is_value, Request, Report, Reported, Call, Calls, Observes, Cancels, Forgets, Feeds, Ticks, NextOut, NextReport}
+use Rattle.coap_ends.specs.WholeClient.ClientTrace.{is_value, Request, Report, Reported, Call, Calls, Observes, Cancels, Forgets, Feeds, Ticks, NextOut, NextReport, Asked}
 use Rattle.coap_ends.specs.WholeClient.ClientTrace as R
 use Rattle.coap_ends.specs.WholeClient.ClientOwn.{Transfer, Operation, Calling, Registering, Fetching, Cancelling, Dropped, Notified, Observation, Own}
 use Rattle.coap_ends.specs.WholeClient.ClientObservations.{observation_with, rest_of, to_fetch, is_cancel_of, dropped}
@@ -235,6 +235,7 @@ module _ (server : Endpoint) (szx word : ℕ) where
   kept_on n t (Forgets k kept true) rows law h = let a = calls_uncancelled n k (own_of szx t).queue in let b = call_dropped n k (own_of szx t).running in omega (arith, a, b, h)
   kept_on n t (NextOut answer) rows law h = plain_kept n t (NextOut answer) refl (omega arith) refl h
   kept_on n t (NextReport answer) rows law h = plain_kept n t (NextReport answer) refl (omega arith) refl h
+  kept_on n t (Asked answer) rows law h = plain_kept n t (Asked answer) refl (omega arith) refl h
   kept_on n t (Feeds now from bytes w up settled event sent token kept) rows law h =
       let c : Call = Feeds now from bytes w up settled event sent token kept in
       let k = known server szx word t rows.1 (law_back server word (lower (own_of szx t) c) (lower_of szx t) law) in
@@ -266,6 +267,7 @@ module _ (server : Endpoint) (szx word : ℕ) where
   taken_kept x (Forgets k kept answer ∷ t) rows law (inl h) = absurd (cc h)
   taken_kept x (NextOut answer ∷ t) rows law (inl h) = absurd (cc h)
   taken_kept x (NextReport answer ∷ t) rows law (inl h) = absurd (cc h)
+  taken_kept x (Asked answer ∷ t) rows law (inl h) = absurd (cc h)
   taken_kept x (Feeds now from bytes w up settled event sent token kept ∷ t) rows law (inl h) = absurd (cc h)
   taken_kept x (Ticks now w below turn sent token kept answer ∷ t) rows law (inl h) = absurd (cc h)
 

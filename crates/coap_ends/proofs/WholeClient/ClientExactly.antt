@@ -13,13 +13,13 @@ use Rattle.coap_exchange.specs.AskerSteps as P
 use Rattle.coap_exchange.specs.AskerLaw as E
 use Rattle.coap_exchange.specs.AskerLaw.{ExchangeLaw}
 use Rattle.coap_exchange.proofs.Facts.ClientSide.{exact}
-use Rattle.coap_exchange.proofs.Facts.StepsOfLayer.{steps_split}
+use Rattle.coap_layer.proofs.Facts.StepsOfLayer.{steps_split}
 use Rattle.coap_ends.specs.WholeClient.ClientTrace.{Call, Forgets, Feeds, Ticks}
 use Rattle.coap_ends.specs.WholeClient.ClientOwn.{Own}
 use Rattle.coap_ends.specs.WholeClient.ClientRequests.{message_of}
 use Rattle.coap_ends.specs.WholeClient.ClientEffects.{Deed, Rests, Asks, Keeps, Releases, Effect}
 use Rattle.coap_ends.specs.WholeClient.ClientEvents.{closed, happened, passes}
-use Rattle.coap_ends.specs.WholeClient.ClientSteps.{reporting, is_idle, asks}
+use Rattle.coap_ends.specs.WholeClient.ClientSteps.{reporting, requested, asking, is_idle, asks}
 use Rattle.coap_ends.specs.WholeClient.ClientDeeds.{at, close, deeds, done_for, forgets}
 use Rattle.coap_ends.specs.WholeClient.ClientLaw.{ClientLaw, own_of, lower_of}
 use Rattle.coap_ends.specs.WholeClient.ClientExact.{LeaveAlike, IsExact}
@@ -78,6 +78,12 @@ module _ (server : Endpoint) (word : ℕ) where
     closed_alike (Keeps t) s e same = refl
     closed_alike (Releases t) s e same = refl
 
+    requested_alike : (d : Deed) (s : Own) → deeds d s now w sent token kept ≡ deeds d s now w gone key left → requested d token ≡ requested d key
+    requested_alike Rests s same = refl
+    requested_alike (Asks op) s same = let k : token ≡ key = cc same in ap (requested (Asks op)) k
+    requested_alike (Keeps t) s same = refl
+    requested_alike (Releases t) s same = refl
+
     -- the input alone
     pub stripped : (e : Effect) (input : A.Call) (calls : List A.Call) → Law (done_for e now w sent token kept input ++ calls) → Law (input ∷ calls)
     stripped e input calls p =
@@ -89,6 +95,7 @@ module _ (server : Endpoint) (word : ℕ) where
     -- for an effect, behind an input
     pub record DoneAlike (e : Effect) : Type 0 where
       pub left_alike : close now e token ≡ close now e key
+      pub sent_alike : requested e.deed token ≡ requested e.deed key
       pub asked : (input : A.Call) → done_for e now w sent token kept input ≡ done_for e now w gone key left input
 
     done_alike : (e : Effect) (input : A.Call) (calls : List A.Call) → Law (done_for e now w sent token kept input ++ calls) → Law (done_for e now w gone key left input ++ calls) → DoneAlike e
@@ -109,6 +116,7 @@ module _ (server : Endpoint) (word : ℕ) where
         let two = deeds_alike c.deed c.own (first ++ base) p1 q2 in
         record {
           left_alike = same;
+          sent_alike = requested_alike e.deed e.own one;
           asked = λ i.
               ap (λ l. l ++ (first ++ i ∷ [])) two ∙ (ap (λ (x : Effect). deeds x.deed x.own now w gone key left ++ (first ++ i ∷ [])) same ∙ ap (λ l. deeds d.deed d.own now w gone key left ++ (l ++ i ∷ [])) one);
         }
@@ -172,7 +180,7 @@ module _ (server : Endpoint) (szx word : ℕ) (past : List Call) where
         let last : (i : A.Call) → done_for e moment w gone key left i ++ calls ≡ before ++ (i ∷ calls) = λ i. split (deeds d.deed d.own moment w gone key left) (deeds e.deed e.own moment w gone key left) i in
         let k = same_behind server word before x y alike in
         record {
-          own = ap reporting done.left_alike;
+          own = ap (λ x. asking (requested e.deed token) (reporting x)) done.left_alike ∙ ap (λ r. asking r (reporting (close moment e key))) done.sent_alike;
           exchanges = ap (λ l. E.own_of server word (l ++ calls)) (done.asked (taken up settled event)) ∙ (ap (E.own_of server word) (last (taken up settled event)) ∙ (k.own ∙ sym (ap (E.own_of server word) (last (taken other ended event)))));
           beneath = ap (λ l. E.lower_of server word (l ++ calls)) (done.asked (taken up settled event)) ∙ (ap (E.lower_of server word) (last (taken up settled event)) ∙ (k.beneath ∙ sym (ap (E.lower_of server word) (last (taken other ended event)))));
         }
@@ -196,9 +204,10 @@ module _ (server : Endpoint) (szx word : ℕ) (past : List Call) where
   ticked_alike now w below turn sent gone token key kept left answer p q =
       let moment : ℕ = max own.clock now in
       let input : A.Call = A.Ticks moment below turn in
-      let done = done_alike server word moment w sent gone token key kept left (passes (at now own) moment turn) input calls p.exchanges q.exchanges in
+      let e : Effect = passes (at now own) moment turn in
+      let done = done_alike server word moment w sent gone token key kept left e input calls p.exchanges q.exchanges in
       record {
-        own = ap reporting done.left_alike;
+        own = ap (λ x. asking (requested e.deed token) (reporting x)) done.left_alike ∙ ap (λ r. asking r (reporting (close moment e key))) done.sent_alike;
         exchanges = ap (λ l. E.own_of server word (l ++ calls)) (done.asked input);
         beneath = ap (λ l. E.lower_of server word (l ++ calls)) (done.asked input);
       }
@@ -234,4 +243,5 @@ module _ (server : Endpoint) (szx word : ℕ) (past : List Call) where
     ticks = ticked;
     next_out = λ answer another p q. (exact server word calls).take answer another p.exchanges q.exchanges;
     next_report = λ answer another p q. p.rows.0 ∙ sym q.rows.0;
+    asked = λ answer another p q. p.rows.0 ∙ sym q.rows.0;
   }

@@ -3,7 +3,7 @@ use Rattle.std.proofs.Common.{◌≡◌, inl, inr, ℕ, max, Bool, true, false, 
 use Rattle.std.specs.Prelude.{◌==◌, slice_get, option_to_list, filter}
 use Rattle.std.proofs.lemmas.List.{append-nil}
 use Rattle.std.proofs.lemmas.List.Elements.{filter-append}
-use Rattle.coap_ends.specs.WholeClient.ClientTrace.{Reported, Call, Calls, Observes, Cancels, Forgets, Feeds, Ticks, NextOut, NextReport}
+use Rattle.coap_ends.specs.WholeClient.ClientTrace.{Reported, Call, Calls, Observes, Cancels, Forgets, Feeds, Ticks, NextOut, NextReport, Asked}
 use Rattle.coap_ends.specs.WholeClient.ClientOwn.{Own}
 use Rattle.coap_ends.specs.WholeClient.ClientEffects.{Effect}
 use Rattle.coap_ends.specs.WholeClient.ClientEvents.{happened, passes}
@@ -65,6 +65,7 @@ module _ (szx : ℕ) where
       ∙ ap (λ l. filter p (given t ++ []) ++ l) (sym (stay p number (own_of szx t).reports apart))
   waits (NextOut answer ∷ t) rows p none = same p (made szx t) (given t) (own_of szx t).reports (waits t rows.1 p (λ x h e. none x h (inr e)))
   waits (NextReport answer ∷ t) rows p none = taken p (made szx t) (given t) (own_of szx t).reports answer rows.0 (waits t rows.1 p (λ x h e. none x h (inr e)))
+  waits (Asked answer ∷ t) rows p none = same p (made szx t) (given t) (own_of szx t).reports (waits t rows.1 p (λ x h e. none x h (inr e)))
   waits (Feeds now from bytes w up settled event sent token kept ∷ t) rows p none =
       let s : Own = own_of szx t in
       let m : ℕ = max s.clock now in

@@ -22,7 +22,7 @@ use Rattle.coap_exchange.specs.AskerLaw as X
 use Rattle.coap_types.specs.declared.option_number.TheConstants.{BLOCK1 as block1}
 use Rattle.coap_observe.specs.Newer.{is_newer}
 use Rattle.coap_block.specs.UploadStep.{continues}
-use Rattle.coap_ends.specs.WholeClient.ClientTrace.{is_value, Request, Report, Reported, Call, Calls, Observes, Cancels, Forgets, Feeds, Ticks, NextOut, NextReport}
+use Rattle.coap_ends.specs.WholeClient.ClientTrace.{is_value, Request, Report, Reported, Call, Calls, Observes, Cancels, Forgets, Feeds, Ticks, NextOut, NextReport, Asked}
 use Rattle.coap_ends.specs.WholeClient.ClientTrace as R
 use Rattle.coap_types.specs.declared.transmission.TheConstants.{MAX_LATENCY_MS as max_latency}
 use Rattle.coap_ends.specs.WholeClient.ClientOwn.{Transfer, Fetches, Uploads, Single, Operation, Calling, Registering, Fetching, Cancelling, Dropped, Notified, Observation, Own}
@@ -416,6 +416,7 @@ module _ (server : Endpoint) (szx word : ℕ) where
   keeping (Forgets number kept false ∷ t) rows law = plain t (Forgets number kept false) refl refl refl refl refl (omega arith) (λ other h. h) (keeping t rows.1 law)
   keeping (NextOut answer ∷ t) rows law = plain t (NextOut answer) refl refl refl refl refl (omega arith) (λ other h. h) (keeping t rows.1 law.1)
   keeping (NextReport answer ∷ t) rows law = plain t (NextReport answer) refl refl refl refl refl (omega arith) (λ other h. h) (keeping t rows.1 law)
+  keeping (Asked answer ∷ t) rows law = plain t (Asked answer) refl refl refl refl refl (omega arith) (λ other h. h) (keeping t rows.1 law)
   keeping (Feeds now from bytes w up settled event sent token kept ∷ t) rows law =
       let c : Call = Feeds now from bytes w up settled event sent token kept in
       let below = law_back server word (lower (own t) c) (lower_of szx t) law in
@@ -468,6 +469,7 @@ module _ (server : Endpoint) (szx word : ℕ) where
   holds_here t (Forgets number kept answer) k x y h c l zero = absurd (cc h)
   holds_here t (NextOut answer) k x y h c l zero = absurd (cc h)
   holds_here t (NextReport answer) k x y h c l zero = absurd (cc h)
+  holds_here t (Asked answer) k x y h c l zero = absurd (cc h)
 
   pub all_hold : (t : List Call) → ClientLaw server szx word t → AllHold szx t
   all_hold t law = all t law.rows law.exchanges.rows

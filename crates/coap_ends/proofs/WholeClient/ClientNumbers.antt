@@ -8,7 +8,7 @@ use Rattle.coap_types.specs.declared.option_number.TheConstants.{BLOCK2 as block
 use Rattle.coap_exchange.specs.AskerLaw as X
 use Rattle.coap_ends.specs.declared.limits.TheConstants.{MAX_OBSERVATIONS as max_observations}
 use Rattle.coap_ends.specs.declared.refusals.CallRefusal.TheVariants.{QueueFull, BodyTooLarge, BadPath, WatchesFull, CallsSpent}
-use Rattle.coap_ends.specs.WholeClient.ClientTrace.{Call, Calls, Observes, Cancels, Forgets, Feeds, Ticks, NextOut, NextReport}
+use Rattle.coap_ends.specs.WholeClient.ClientTrace.{Call, Calls, Observes, Cancels, Forgets, Feeds, Ticks, NextOut, NextReport, Asked}
 use Rattle.coap_ends.specs.WholeClient.ClientOwn.{Own}
 use Rattle.coap_ends.specs.WholeClient.ClientRequests.{options_of, path_options}
 use Rattle.coap_ends.specs.WholeClient.ClientQueue.{max_numbers, are_long, block_number, is_full, observed}
@@ -39,6 +39,7 @@ module _ (server : Endpoint) (szx word : ℕ) where
   is_next t (Ticks now w below turn sent token kept answer) rows n h = absurd (cc h)
   is_next t (NextOut answer) rows n h = absurd (cc h)
   is_next t (NextReport answer) rows n h = absurd (cc h)
+  is_next t (Asked answer) rows n h = absurd (cc h)
 
   grows : (t : List Call) (c : Call) → Known server szx word t → X.AskerLaw server word (lower_of szx (c ∷ t)) → taken t ≤ taken (c ∷ t)
   grows t (Calls now r (Ok n)) k law = omega arith
@@ -53,6 +54,7 @@ module _ (server : Endpoint) (szx word : ℕ) where
   grows t (Ticks now w below turn sent token kept answer) k law = let e = (ticked server szx word t now w below turn sent token kept answer k law).taken_is in omega (arith, e)
   grows t (NextOut answer) k law = omega arith
   grows t (NextReport answer) k law = omega arith
+  grows t (Asked answer) k law = omega arith
 
   below : (t : List Call) → ClientRows szx t → X.AskerLaw server word (lower_of szx t) → (n : ℕ) → Ever (λ b. number_given b ≡ Some n) t → n + 1 ≤ taken t
   below [] rows law n w = absurd w

@@ -20,7 +20,7 @@ use Rattle.coap_ends.specs.declared.refusals.CallRefusal.TheVariants.{QueueFull,
 use Rattle.coap_ends.specs.declared.refusals.CancelRefusal.{CancelRefusal}
 use Rattle.coap_ends.specs.declared.refusals.CancelRefusal.TheVariants as cancel
 use Rattle.coap_types.specs.declared.option_number.TheConstants.{BLOCK2 as block2}
-use Rattle.coap_ends.specs.WholeClient.ClientTrace.{Request, Reported, Ended, Call, Calls, Observes, Cancels, Forgets, Feeds, Ticks, NextOut, NextReport}
+use Rattle.coap_ends.specs.WholeClient.ClientTrace.{Request, Reported, Requested, Ended, Call, Calls, Observes, Cancels, Forgets, Feeds, Ticks, NextOut, NextReport, Asked}
 use Rattle.coap_ends.specs.WholeClient.ClientOwn.{Operation, Registering, Cancelling, Observation, Own}
 use Rattle.coap_ends.specs.WholeClient.ClientObservations.{observation_of, is_cancel_of, is_cancelled, is_live, over}
 use Rattle.coap_ends.specs.WholeClient.ClientRequests.{options_of, path_options}
@@ -29,7 +29,7 @@ use Rattle.coap_ends.specs.WholeClient.ClientObserving.{releases, is_over}
 use Rattle.coap_ends.specs.WholeClient.ClientEvents.{happened, passes}
 use Rattle.coap_ends.specs.WholeClient.ClientQueue.{max_numbers, are_long, block_number, is_full, observed, call_answer, observe_answer, cancel_answer, may_forget, calling}
 use Rattle.coap_ends.specs.WholeClient.ClientDeeds.{at, close, deeds, done_for}
-use Rattle.coap_ends.specs.WholeClient.ClientSteps.{lower, reports, reporting}
+use Rattle.coap_ends.specs.WholeClient.ClientSteps.{lower, reports, reporting, asking}
 use Rattle.coap_ends.specs.WholeClient.ClientLaw.{ClientLaw, ClientRows, own_of, lower_of}
 use Rattle.coap_ends.specs.WholeClient.ClientAnswered.{HasReport, ReportedOnce}
 use Rattle.coap_ends.specs.WholeClient.ClientPlaces.{hit, in_op, in_running, in_queue, in_observations, places, final_of, forgotten_by, gone, InOnePlace}
@@ -251,8 +251,8 @@ module _ (server : Endpoint) (szx word : ℕ) where
         one = λ n. let a = g.conserved n in let e = k.one n in omega (arith, a, e);
       }
 
-  closed_known : (t : List Call) (c : Call) (now : ℕ) (e : Effect) → own_of szx (c ∷ t) ≡ reporting e → reports (own_of szx t) c ≡ e.report → ((n : ℕ) → forgotten_by n c ≡ 0) → Known t → Closes (at now (own_of szx t)) e (beneath (c ∷ t)).running → Known (c ∷ t)
-  closed_known t c now e own_is report_is none k z = record {
+  closed_known : (t : List Call) (c : Call) (now : ℕ) (e : Effect) (request : Option Requested) → own_of szx (c ∷ t) ≡ asking request (reporting e) → reports (own_of szx t) c ≡ e.report → ((n : ℕ) → forgotten_by n c ≡ 0) → Known t → Closes (at now (own_of szx t)) e (beneath (c ∷ t)).running → Known (c ∷ t)
+  closed_known t c now e request own_is report_is none k z = record {
     waits = subst (λ (o : Own). AllWait o.observations o.queue) (sym own_is) z.waits;
     runs_on = subst (λ (o : Own). IfRuns o.observations o.running) (sym own_is) z.runs_on;
     linked = subst (λ (o : Own). Linked o.running o.observations (beneath (c ∷ t)).running) (sym own_is) z.linked;
@@ -270,13 +270,14 @@ module _ (server : Endpoint) (szx word : ℕ) where
   known (Feeds now from bytes w up settled event sent token kept ∷ t) rows law =
       let c : Call = Feeds now from bytes w up settled event sent token kept in
       let k = known t rows.1 (law_back server word (lower (own_of szx t) c) (lower_of szx t) law) in
-      closed_known t c now _ refl refl (λ n. refl) k (fed t now from bytes w up settled event sent token kept k law)
+      closed_known t c now _ _ refl refl (λ n. refl) k (fed t now from bytes w up settled event sent token kept k law)
   known (Ticks now w below turn sent token kept answer ∷ t) rows law =
       let c : Call = Ticks now w below turn sent token kept answer in
       let k = known t rows.1 (law_back server word (lower (own_of szx t) c) (lower_of szx t) law) in
-      closed_known t c now _ refl refl (λ n. refl) k (ticked t now w below turn sent token kept answer k law)
+      closed_known t c now _ _ refl refl (λ n. refl) k (ticked t now w below turn sent token kept answer k law)
   known (NextOut answer ∷ t) rows law = let k = known t rows.1 law.1 in record { waits = k.waits; runs_on = k.runs_on; linked = k.linked; one = λ n. let e = k.one n in omega (arith, e) }
   known (NextReport answer ∷ t) rows law = let k = known t rows.1 law in record { waits = k.waits; runs_on = k.runs_on; linked = k.linked; one = λ n. let e = k.one n in omega (arith, e) }
+  known (Asked answer ∷ t) rows law = let k = known t rows.1 law in record { waits = k.waits; runs_on = k.runs_on; linked = k.linked; one = λ n. let e = k.one n in omega (arith, e) }
 
   -- what is reported is of a number that was in a place
   pub from_place : (t : List Call) (c : Call) → Known t → X.AskerLaw server word (lower_of szx (c ∷ t)) → (x : Reported) → reports (own_of szx t) c ≡ Some x → 1 ≤ places x.number (own_of szx t)
@@ -286,6 +287,7 @@ module _ (server : Endpoint) (szx word : ℕ) where
   from_place t (Forgets number kept answer) k law x h = absurd (cc h)
   from_place t (NextOut answer) k law x h = absurd (cc h)
   from_place t (NextReport answer) k law x h = absurd (cc h)
+  from_place t (Asked answer) k law x h = absurd (cc h)
   from_place t (Feeds now from bytes w up settled event sent token kept) k law x h = (fed t now from bytes w up settled event sent token kept k law).source x h
   from_place t (Ticks now w below turn sent token kept answer) k law x h = (ticked t now w below turn sent token kept answer k law).source x h
 

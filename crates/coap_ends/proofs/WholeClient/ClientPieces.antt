@@ -20,7 +20,7 @@ use Rattle.coap_exchange.specs.declared.asker.Exchange.{Exchange}
 use Rattle.coap_exchange.specs.AskerTrace as E
 use Rattle.coap_exchange.specs.AskerSteps as P
 use Rattle.coap_exchange.specs.AskerLaw as X
-use Rattle.coap_ends.specs.WholeClient.ClientTrace.{Request, Reported, Call, Calls, Observes, Cancels, Forgets, Feeds, Ticks, NextOut, NextReport}
+use Rattle.coap_ends.specs.WholeClient.ClientTrace.{Request, Reported, Call, Calls, Observes, Cancels, Forgets, Feeds, Ticks, NextOut, NextReport, Asked}
 use Rattle.coap_ends.specs.WholeClient.ClientTrace as R
 use Rattle.coap_ends.specs.WholeClient.ClientOwn.{Fetches, Uploads, Single, Operation, Calling, Registering, Fetching, Cancelling, Dropped, Observation, Own}
 use Rattle.coap_ends.specs.WholeClient.ClientAnswered.{of_call, NoneAfter}
@@ -561,6 +561,7 @@ module _ (szx : ℕ) where
         (λ i. elim (h.waits i) [ inl n ↦ inl n | inr v ↦ inr (in_uncancelled i k s.queue ∙ v.0, v.1) ]) h
     all_sends (NextOut answer ∷ t) rows law = plain_sends t (NextOut answer) refl refl refl refl refl (all_sends t rows.1 law.1)
     all_sends (NextReport answer ∷ t) rows law = plain_sends t (NextReport answer) refl refl refl refl refl (all_sends t rows.1 law)
+    all_sends (Asked answer ∷ t) rows law = plain_sends t (Asked answer) refl refl refl refl refl (all_sends t rows.1 law)
     all_sends (Feeds now from bytes w up settled event sent token kept ∷ t) rows law =
         let c : Call = Feeds now from bytes w up settled event sent token kept in
         let under = law_back server word (lower (own_of szx t) c) (lower_of szx t) law in
@@ -590,6 +591,7 @@ module _ (szx : ℕ) where
     piece_here t (Forgets number kept answer) law h x y is carries = absurd (cc is)
     piece_here t (NextOut answer) law h x y is carries = absurd (cc is)
     piece_here t (NextReport answer) law h x y is carries = absurd (cc is)
+    piece_here t (Asked answer) law h x y is carries = absurd (cc is)
 
     pub sends_pieces : (t : List Call) → ClientLaw server szx word t → SendsPieces szx t
     sends_pieces t law = all t law.rows law.exchanges.rows
@@ -638,6 +640,7 @@ module _ (szx : ℕ) where
     answer_here t (Forgets number kept answer) law h k m is = absurd (cc is)
     answer_here t (NextOut answer) law h k m is = absurd (cc is)
     answer_here t (NextReport answer) law h k m is = absurd (cc is)
+    answer_here t (Asked answer) law h k m is = absurd (cc is)
 
     pub answers_last : (t : List Call) → ClientLaw server szx word t → AnswersLast szx t
     answers_last t law = all t law.rows law.exchanges.rows
@@ -677,6 +680,7 @@ module _ (szx : ℕ) where
     after_here t (Forgets number kept answer) law kn x k is n = absurd (cc is)
     after_here t (NextOut answer) law kn x k is n = absurd (cc is)
     after_here t (NextReport answer) law kn x k is n = absurd (cc is)
+    after_here t (Asked answer) law kn x k is n = absurd (cc is)
 
     pub none_after : (t : List Call) → ClientLaw server szx word t → NoneAfter server szx word t
     none_after t law = all t law.rows law.exchanges.rows

@@ -16,7 +16,7 @@ use Rattle.coap_exchange.specs.AskerFollows.{Begun}
 use Rattle.coap_exchange.specs.AskerDue.{EndWhenDue}
 use Rattle.coap_exchange.specs.AskerLaw as X
 use Rattle.coap_exchange.proofs.Facts.ClientSide.{when_due}
-use Rattle.coap_ends.specs.WholeClient.ClientTrace.{Call, Calls, Observes, Cancels, Forgets, Feeds, Ticks, NextOut, NextReport}
+use Rattle.coap_ends.specs.WholeClient.ClientTrace.{Call, Calls, Observes, Cancels, Forgets, Feeds, Ticks, NextOut, NextReport, Asked}
 use Rattle.coap_types.specs.declared.transmission.TheConstants.{EXCHANGE_LIFETIME_MS as exchange_lifetime, FAILURE_TIMEOUTS as failure_timeouts}
 use Rattle.coap_ends.specs.WholeClient.ClientOwn.{Operation, Registering, Own}
 use Rattle.coap_ends.specs.WholeClient.ClientObservations.{to_fetch, observation_of}
@@ -88,6 +88,7 @@ module _ (server : Endpoint) (szx word : ℕ) where
       let b = clocks t in omega (arith, same, b)
   clocks (NextOut answer ∷ t) = clocks t
   clocks (NextReport answer ∷ t) = clocks t
+  clocks (Asked answer ∷ t) = clocks t
   clocks (Feeds now from bytes w up settled event sent token kept ∷ t) =
       let m : ℕ = max (own_of szx t).clock now in
       let s : Own = at now (own_of szx t) in

@@ -21,7 +21,7 @@ use Rattle.coap_exchange.proofs.Facts.Moves as move
 use Rattle.coap_types.specs.declared.option_number.TheConstants.{BLOCK1 as block1}
 use Rattle.coap_observe.specs.Newer.{is_newer}
 use Rattle.coap_block.specs.UploadStep.{continues}
-use Rattle.coap_ends.specs.WholeClient.ClientTrace.{Request, Report, Reported, Call, Calls, Observes, Cancels, Forgets, Feeds, Ticks, NextOut, NextReport}
+use Rattle.coap_ends.specs.WholeClient.ClientTrace.{Request, Report, Reported, Call, Calls, Observes, Cancels, Forgets, Feeds, Ticks, NextOut, NextReport, Asked}
 use Rattle.coap_ends.specs.WholeClient.ClientTrace as R
 use Rattle.coap_ends.specs.WholeClient.ClientOwn.{Transfer, Fetches, Uploads, Single, Operation, Calling, Registering, Fetching, Cancelling, Dropped, Notified, Observation, Own}
 use Rattle.coap_ends.specs.WholeClient.ClientObservations.{observation_of, observation_with, rest_of, to_fetch, is_cancel_of, dropped}

@@ -2,3 +2,4 @@ pub mod LayerSendsResponses
 pub mod NoneContinues
 pub mod ResponsesHaveRequests
 pub mod RepliesAtOnce
+pub mod GivenInOrder

@@ -1,1 +1,2 @@
 pub mod ServerEnding
+pub mod ServerResting

@@ -5,3 +5,4 @@ pub mod ServedWasHandedUp
 pub mod ServedOnce
 pub mod ServerWaiting
 pub mod HandedUpAsOften
+pub mod MethodsServed

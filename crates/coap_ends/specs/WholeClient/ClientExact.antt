@@ -9,7 +9,7 @@ use Rattle.coap_exchange.specs.declared.asker.Turn.{Turn}
 use Rattle.coap_exchange.specs.AskerLaw as E
 use Rattle.coap_ends.specs.declared.refusals.CallRefusal.{CallRefusal}
 use Rattle.coap_ends.specs.declared.refusals.CancelRefusal.{CancelRefusal}
-use Rattle.coap_ends.specs.WholeClient.ClientTrace.{Request, Reported, Call, Calls, Observes, Cancels, Forgets, Feeds, Ticks, NextOut, NextReport}
+use Rattle.coap_ends.specs.WholeClient.ClientTrace.{Request, Reported, Requested, Call, Calls, Observes, Cancels, Forgets, Feeds, Ticks, NextOut, NextReport, Asked}
 use Rattle.coap_ends.specs.WholeClient.ClientLaw.{ClientLaw, own_of, lower_of}
 
 -- Two calls leave the same: the client's own state, that of its exchanges, and what was asked of its message layer, with
@@ -38,3 +38,4 @@ pub record IsExact (server : Endpoint) (szx word : ℕ) (past : List Call) : Typ
       → (below ≡ other) × (turn ≡ turned) × (answer ≡ another) × LeaveAlike server szx word past (Ticks now w below turn sent token kept answer) (Ticks now w other turned gone key left another)
   pub next_out : (answer another : Option L.Packet) → ClientLaw server szx word (NextOut answer ∷ past) → ClientLaw server szx word (NextOut another ∷ past) → answer ≡ another
   pub next_report : (answer another : Option Reported) → ClientLaw server szx word (NextReport answer ∷ past) → ClientLaw server szx word (NextReport another ∷ past) → answer ≡ another
+  pub asked : (answer another : Option Requested) → ClientLaw server szx word (Asked answer ∷ past) → ClientLaw server szx word (Asked another ∷ past) → answer ≡ another

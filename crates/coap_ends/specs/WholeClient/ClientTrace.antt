@@ -51,8 +51,14 @@ pub record Reported : Type 0 where
   pub number : ℕ
   pub report : Report
 
+-- a request that was sent: the number of its call or observation, and its token
+pub record Requested : Type 0 where
+  pub number : ℕ
+  pub token : List ℕ
+
 -- Each call has its arguments, what the layers answered beneath it, and its answer. A request; an observation, its cancel,
--- and its end without a message; a datagram that arrives; time passes; a datagram is taken to be sent; a report is taken.
+-- and its end without a message; a datagram that arrives; time passes; a datagram is taken to be sent; a report is taken; which
+-- request the last datagram or tick sent is asked for.
 -- Beneath: what became of a request that was sent (`sent`, `token`), and of a token that was kept or released (`kept`).
 pub data Call : Type 0 where
   Calls : (now : ℕ) (request : Request) (answer : Result ℕ CallRefusal) → Call
@@ -67,3 +73,4 @@ pub data Call : Type 0 where
       (sent : L.Answer) (token : Result (List ℕ) AskRefusal) (kept : Bool) (answer : Bool) → Call
   NextOut : (answer : Option L.Packet) → Call
   NextReport : (answer : Option Reported) → Call
+  Asked : (answer : Option Requested) → Call

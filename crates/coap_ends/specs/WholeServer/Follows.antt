@@ -11,3 +11,9 @@ pub mod ServerRests
 pub mod ServerHolds
 pub mod ServerTags
 pub mod ServerCounts
+pub mod ServerAnswers
+pub mod ServerGoesOn
+pub mod ServerShows
+pub mod ServerOuts
+pub mod ServerTokens
+pub mod ServerTable

@@ -6,7 +6,7 @@ use Rattle.coap_exchange.specs.declared.answerer.Asked.{Asked}
 use Rattle.coap_exchange.specs.declared.answerer.Due.{Due}
 use Rattle.coap_exchange.specs.declared.answerer.Due.TheVariants as due
 use Rattle.coap_exchange.specs.AnswererTrace as E
-use Rattle.coap_ends.specs.WholeServer.ServerTrace.{Own, Handling, Replies, Serves, Waits, Notifies, Call, Sets, Removes, Delays, Feeds, Ticks, NextOut}
+use Rattle.coap_ends.specs.WholeServer.ServerTrace.{Own, Handling, Replies, Serves, Waits, Notifies, Call, Sets, Removes, Delays, Feeds, Ticks, NextOut, Gets, TellsApplied}
 use Rattle.coap_ends.specs.WholeServer.ServerServing.{response_to}
 use Rattle.coap_ends.specs.WholeServer.ServerDeferring.{deferral}
 use Rattle.coap_ends.specs.WholeServer.ServerNotifying.{marked, readies, notification}
@@ -35,3 +35,5 @@ lower s (Feeds now from bytes word up came h below) =
 lower s (Ticks now word below room d passed h id answer) =
     responding (heard s now (ticking s now below room d)) d passed h word id ++ ticking s now below room d ∷ []
 lower s (NextOut answer) = E.Take answer ∷ []
+lower s (Gets path answer) = []
+lower s (TellsApplied answer) = []

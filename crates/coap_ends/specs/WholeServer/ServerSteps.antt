@@ -13,7 +13,7 @@ use Rattle.coap_exchange.specs.Above.{sum_of}
 use Rattle.coap_exchange.specs.AnswererSteps.{asked_in}
 use Rattle.coap_exchange.specs.AnswererSteps as P
 use Rattle.coap_exchange.specs.AnswererTrace as E
-use Rattle.coap_ends.specs.WholeServer.ServerTrace.{Waiting, Applied, Own, Handling, Serves, Notifies, Call, Sets, Removes, Delays, Feeds, Ticks, NextOut}
+use Rattle.coap_ends.specs.WholeServer.ServerTrace.{Waiting, Applied, Own, Handling, Serves, Notifies, Call, Sets, Removes, Delays, Feeds, Ticks, NextOut, Gets, TellsApplied}
 use Rattle.coap_ends.specs.WholeServer.ServerChecks.{verdict_on}
 use Rattle.coap_ends.specs.WholeServer.ServerUploads.{uploads_after}
 use Rattle.coap_ends.specs.WholeServer.ServerObservers.{marked_if}
@@ -34,6 +34,8 @@ IsRight s (Delays path ms answer) = answer ≡ may_delay path s.delays
 IsRight s (Feeds now from bytes word up came h below) = HandlesCame (heard s now (incoming s now from bytes up came)) came h
 IsRight s (Ticks now word below room d passed h id answer) = HandlesDue (heard s now (ticking s now below room d)) d passed h × (answer ≡ is_done d h)
 IsRight s (NextOut answer) = Unit {0}
+IsRight s (Gets path answer) = answer ≡ s.store.holds path
+IsRight s (TellsApplied answer) = answer ≡ s.applied
 
 -- what is left of each part, by the request that is served, and whose it is
 
@@ -98,3 +100,5 @@ after s (Feeds now from bytes word up came h below) =
 after s (Ticks now word below room d passed h id answer) =
     due_after (heard s now (ticking s now below room d)) d h (responding (heard s now (ticking s now below room d)) d passed h word id)
 after s (NextOut answer) = record s { exchanges = exchanges_after s.exchanges (E.Take answer ∷ []) }
+after s (Gets path answer) = s
+after s (TellsApplied answer) = s

@@ -22,8 +22,8 @@ use Rattle.coap_exchange.specs.Machine.AskerShown.{own_with, state_of}
 use Rattle.coap_exchange.specs.AskerTrace.{Own, Receive, Ticks}
 use Rattle.coap_exchange.specs.Matching.{judged, request_judged}
 use Rattle.coap_exchange.proofs.Ending.RequestIsOutstanding.{replying_opens, settling_opens}
-use Rattle.coap_exchange.proofs.Facts.StepsOfLayer.{steps_join, steps_split}
-use Rattle.coap_exchange.proofs.Facts.CallsOfLayer.{step_clock}
+use Rattle.coap_layer.proofs.Facts.StepsOfLayer.{steps_join, steps_split}
+use Rattle.coap_layer.proofs.Facts.CallsOfLayer.{step_clock}
 
 -- what is answered was handed up
 

@@ -37,9 +37,9 @@ use Rattle.coap_exchange.specs.AskerArrivals.{id_in, replying}
 use Rattle.coap_exchange.specs.AskerRequests.{asked}
 use Rattle.coap_exchange.specs.Machine.Listed.{listed}
 use Rattle.coap_exchange.specs.Machine.Outstanding.{over}
-use Rattle.coap_exchange.proofs.Facts.StepsOfLayer.{steps_join}
-use Rattle.coap_exchange.proofs.Facts.HandedUp.{message_in, spelled}
-use Rattle.coap_exchange.proofs.Facts.CallsOfLayer.{step_clock}
+use Rattle.coap_layer.proofs.Facts.StepsOfLayer.{steps_join}
+use Rattle.coap_layer.proofs.Facts.HandedUp.{message_in, spelled}
+use Rattle.coap_layer.proofs.Facts.CallsOfLayer.{step_clock}
 use Rattle.coap_exchange.proofs.Calls.Lists.{over_is}
 
 -- what is rejected was handed up

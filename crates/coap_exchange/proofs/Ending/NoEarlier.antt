@@ -18,8 +18,8 @@ use Rattle.coap_exchange.specs.AskerRequests.{asked, opening_of, sent_as, reques
 use Rattle.coap_exchange.specs.AskerArrivals.{verdict_on, id_in, reply_by, settles, replying, settling, acts, running_after, running_unless, turn_of, has_waited}
 use Rattle.coap_exchange.specs.AskerLaw.{own_of, lower_of, AskerLaw}
 use Rattle.coap_exchange.specs.AskerFollows.{last_begun, TimesOut, GivesUp, EndInTime}
-use Rattle.coap_exchange.proofs.Facts.StepsOfLayer.{steps_split}
-use Rattle.coap_exchange.proofs.Facts.CallsOfLayer.{opens_then, step_clock, step_opens, left_same_nil, entry_of}
+use Rattle.coap_layer.proofs.Facts.StepsOfLayer.{steps_split}
+use Rattle.coap_layer.proofs.Facts.CallsOfLayer.{opens_then, step_clock, step_opens, left_same_nil, entry_of}
 use Rattle.coap_exchange.proofs.Ending.LoneRequest.{Lone, failed}
 use Rattle.coap_exchange.proofs.Ending.RequestIsOutstanding.{Opens, ask_opens, refused_lone, sent_lone, settled_opens, replying_opens, settling_opens, left_by_verdict, turned_lone}
 use Rattle.coap_exchange.proofs.Facts.Verdicts.{verdict_fits, TurnFits, turn_fits}

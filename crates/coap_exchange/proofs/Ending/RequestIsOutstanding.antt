@@ -19,7 +19,7 @@ use Rattle.coap_exchange.specs.AskerTrace.{Request, Own}
 use Rattle.coap_exchange.specs.AskerRequests.{beneath, opening_of, opened, sent_as, request_token, content_of}
 use Rattle.coap_exchange.specs.AskerArrivals.{is_of_request, verdict_on, settles, replying, settling, running_after, running_unless, turn_of, has_waited, acked_in}
 use Rattle.coap_exchange.specs.AskerFollows.{Begun}
-use Rattle.coap_exchange.proofs.Facts.CallsOfLayer.{opens_then, entry_of, step_clock, step_opens, left_same, left_same_nil}
+use Rattle.coap_layer.proofs.Facts.CallsOfLayer.{opens_then, entry_of, step_clock, step_opens, left_same, left_same_nil}
 use Rattle.coap_exchange.proofs.Ending.LoneRequest.{Lone, without, ends_of, other_left, copied_left}
 use Rattle.coap_exchange.proofs.Facts.Verdicts as match
 use Rattle.coap_exchange.proofs.Facts.Verdicts.{OfRequest, of_request, verdict_fits, TurnFits, turn_fits}

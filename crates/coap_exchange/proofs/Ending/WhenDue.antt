@@ -27,7 +27,7 @@ use Rattle.coap_exchange.specs.AskerArrivals.{has_id, is_of_request, verdict_on,
 use Rattle.coap_exchange.specs.AskerLaw.{own_of, lower_of, AskerLaw}
 use Rattle.coap_exchange.specs.AskerDue.{last_acked, FailsWhenDue, EndWhenDue}
 use Rattle.coap_exchange.specs.AskerFollows.{Begun, last_begun, moment}
-use Rattle.coap_exchange.proofs.Facts.StepsOfLayer.{steps_split}
+use Rattle.coap_layer.proofs.Facts.StepsOfLayer.{steps_split}
 use Rattle.coap_exchange.proofs.Ending.LoneRequest.{Lone, IsSent}
 use Rattle.coap_exchange.proofs.Ending.NoEarlier.{fits}
 use Rattle.coap_exchange.proofs.Facts.Moves as move

@@ -30,7 +30,7 @@ use Rattle.coap_exchange.specs.AnswererSends.{begins}
 use Rattle.coap_exchange.specs.AnswererTells.{Sending, SentIn, TellsIf, EndsTold, fails}
 use Rattle.coap_exchange.specs.AskerRequests.{asked}
 use Rattle.coap_exchange.specs.AskerArrivals.{id_in, replying}
-use Rattle.coap_exchange.proofs.Facts.StepsOfLayer.{steps_split}
+use Rattle.coap_layer.proofs.Facts.StepsOfLayer.{steps_split}
 use Rattle.coap_exchange.proofs.EndsSaid.AreOutstanding.{waits, waits_for}
 use Rattle.std.proofs.lemmas.Bool.{and_parts}
 

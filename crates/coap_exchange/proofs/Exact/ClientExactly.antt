@@ -13,7 +13,7 @@ use Rattle.coap_exchange.specs.AskerRequests.{asked, opening_of, ask_answer, req
 use Rattle.coap_exchange.specs.AskerArrivals.{told, verdict_on, id_in, reply_by, settles, replying, settling, acts, turn_of}
 use Rattle.coap_exchange.specs.AskerLaw.{own_of, lower_of, ExchangeLaw}
 use Rattle.coap_exchange.specs.AskerExact.{IsExact}
-use Rattle.coap_exchange.proofs.Facts.StepsOfLayer.{one_answer, one_left, steps_split}
+use Rattle.coap_layer.proofs.Facts.StepsOfLayer.{one_answer, one_left, steps_split}
 
 settled_alike : (v : Bool) (server : Endpoint) (running : Option Exchange) (settled ended : Bool) (old same new other : L.State) → old ≡ same → Steps old (settling v server running settled) new → Steps same (settling v server running ended) other
     → settling v server running settled ≡ settling v server running ended

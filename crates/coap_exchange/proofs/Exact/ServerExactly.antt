@@ -10,8 +10,8 @@ use Rattle.coap_exchange.specs.AnswererLaw.{own_of, lower_of}
 use Rattle.coap_exchange.specs.AnswererExact.{IsExact}
 use Rattle.coap_exchange.specs.AskerRequests.{asked}
 use Rattle.coap_exchange.specs.AskerArrivals.{id_in, replying}
-use Rattle.coap_exchange.proofs.Facts.StepsOfLayer.{steps_split}
-use Rattle.coap_exchange.proofs.Facts.StepsOfLayer.{one_left, one_answer}
+use Rattle.coap_layer.proofs.Facts.StepsOfLayer.{steps_split}
+use Rattle.coap_layer.proofs.Facts.StepsOfLayer.{one_left, one_answer}
 
 -- what is due where the layer does nothing for the request that is ready doesn't hang on room
 due_alike : (below : T.Answer) (o : Option Deferred) (room space : Bool) → (asking_room_alike : ready_if below o ≡ None) → due_of below o room ≡ due_of below o space

@@ -22,23 +22,9 @@ use Rattle.coap_exchange.specs.AskerArrivals.{told, verdict_on, running_after, t
 use Rattle.coap_exchange.specs.AskerFollows.{begun, answered, ends}
 use Rattle.coap_exchange.specs.Tokens.{is_spent}
 use Rattle.coap_exchange.proofs.Facts.Verdicts.{Fits, Answers, verdict_fits, TurnFits, turn_fits}
-
-abbrev pub token_in : Option Exchange → Option (List ℕ)
-token_in None = None
-token_in (Some x) = Some x.token
-
--- of the exchange: a call begins it, ends it, or leaves it
-pub data Moves (before now : Option Exchange) (c : Call) : Type 0 where
-  starts : (x : Exchange) → begun c ≡ Some x.token → ends c ≡ false → answered c ≡ None → before ≡ None → now ≡ Some x → Moves before now c
-  stops : (x : Exchange) → begun c ≡ None → ends c ≡ true → ((m : Message) → answered c ≡ Some m → m.token ≡ x.token) → before ≡ Some x → now ≡ None → Moves before now c
-  keeps : begun c ≡ None → ends c ≡ false → answered c ≡ None → token_in now ≡ token_in before → Moves before now c
+pub use Rattle.coap_exchange.specs.Machine.ExchangeMoves.{token_in, Moves, starts, stops, keeps, AskRow, refused, sent}
 
 -- a request
-
--- it was refused, or sent: then none runs, and a fresh token is not the last
-pub data AskRow (s : Own) (r : Request) (below : L.Answer) (answer : Result (List ℕ) AskRefusal) : Type 0 where
-  refused : (e : AskRefusal) → answer ≡ Err e → sent_as (opening_of s r) below ≡ None → AskRow s r below answer
-  sent : (id : ℕ) → answer ≡ Ok (request_token s r) → sent_as (opening_of s r) below ≡ Some id → opening_of s r ≡ Sends → sent_by below ≡ Some id → AskRow s r below answer
 
 module _ (s : Own) (r : Request) (below : L.Answer) (answer : Result (List ℕ) AskRefusal) where
   sends_row : opening_of s r ≡ Sends → (o : Option ℕ) → sent_by below ≡ o → answer ≡ ask_answer Sends below (request_token s r) → AskRow s r below answer

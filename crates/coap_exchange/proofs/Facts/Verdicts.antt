@@ -19,6 +19,7 @@ use Rattle.coap_exchange.specs.AskerArrivals.{has_token, has_id, known_of, is_of
 use Rattle.coap_exchange.specs.Matching.{judged, request_judged}
 use Rattle.coap_exchange.specs.Tokens.{is_kept}
 use Rattle.coap_exchange.proofs.Facts.SameToken.{same_token_is}
+pub use Rattle.coap_exchange.specs.Machine.VerdictFits.{Answers, Notices, OfRequest, Fits, TurnFits}
 
 -- a verdict on a response that takes it rests on its source and its token
 abbrev Rests : Known → Verdict → Type 0
@@ -69,39 +70,6 @@ rests_known Rst true true i p false false = tt
 
 rests : (kind : Kind) (k : Known) → Rests k (judged kind k)
 rests kind k = rests_known kind k.from_server k.of_exchange k.same_id k.kept k.bad_option k.cancelled
-
--- what was handed up, and to which exchange it goes
-
-pub record Answers (s : Own) (from : Endpoint) (up : L.Answer) : Type 0 where
-  pub message : Message
-  pub is : up ≡ L.Becomes (L.Response message)
-  pub there : same_endpoint from s.server ≡ true
-  pub exchange : Exchange
-  pub runs : s.running ≡ Some exchange
-  pub token : message.token ≡ exchange.token
-
-pub record Notices (s : Own) (from : Endpoint) (up : L.Answer) : Type 0 where
-  pub message : Message
-  pub is : up ≡ L.Becomes (L.Response message)
-  pub there : same_endpoint from s.server ≡ true
-  pub kept : is_kept message.token s.kept ≡ true
-
-pub record OfRequest (s : Own) (from : Endpoint) (id : ℕ) : Type 0 where
-  pub there : same_endpoint from s.server ≡ true
-  pub exchange : Exchange
-  pub runs : s.running ≡ Some exchange
-  pub id_is : (id ≡ exchange.id.0)
-
-abbrev pub Fits : Own → Endpoint → L.Answer → Verdict → Type 0
-Fits s from up AnswerCon = Answers s from up
-Fits s from up Answer = Answers s from up
-Fits s from up NoticeCon = Notices s from up
-Fits s from up Notice = Notices s from up
-Fits s from up Await = (id : ℕ) × (up ≡ L.Becomes (L.Acked id)) × OfRequest s from id
-Fits s from up EndByReset = (id : ℕ) × (up ≡ L.Becomes (L.Reset id)) × OfRequest s from id
-Fits s from up Ignore = Unit {0}
-Fits s from up Reject = Unit {0}
-Fits s from up Acknowledge = Unit {0}
 
 with_token : (running : Option Exchange) (token : List ℕ) → has_token running token ≡ true → (x : Exchange) × (running ≡ Some x) × (token ≡ x.token)
 with_token None token h = absurd (cc h)
@@ -167,16 +135,6 @@ verdict_fits s from L.Idle = tt
 verdict_fits s from (L.Copied to id) = tt
 verdict_fits s from (L.Expired to id) = tt
 verdict_fits s from (L.Gives packet) = tt
-
--- what a turn rests on
-abbrev pub TurnFits : Own → ℕ → L.Answer → Turn → Type 0
-TurnFits s at below turn.Idle = Unit {0}
-TurnFits s at below turn.Copied = (to : Endpoint) × (id : ℕ) × (below ≡ L.Copied to id)
-TurnFits s at below (turn.End event.Timeout) = (to : Endpoint) × (id : ℕ) × (below ≡ L.Expired to id) × OfRequest s to id
-TurnFits s at below (turn.End event.NoResponse) = (x : Exchange) × (s.running ≡ Some x) × (has_waited at x.acked ≡ true)
-TurnFits s at below (turn.End event.Reset) = ⊥
-TurnFits s at below (turn.End (event.Answer m)) = ⊥
-TurnFits s at below (turn.End (event.Notice m)) = ⊥
 
 expired_fits : (s : Own) (at : ℕ) (to : Endpoint) (id : ℕ) (b : Bool) → is_of_request s to id ≡ b → TurnFits s at (L.Expired to id) (cond b (turn.End event.Timeout) turn.Idle)
 expired_fits s at to id true h = (to, id, refl, of_request s to id h)

@@ -11,7 +11,7 @@ use Rattle.coap_exchange.specs.Above.{sum_of}
 use Rattle.coap_exchange.specs.AskerTrace.{start, Call}
 use Rattle.coap_exchange.specs.AskerSteps.{lower, IsRight, after}
 use Rattle.coap_exchange.specs.AskerLaw.{lower_of, below_of, fresh_state, ExchangeLaw, State, Step, Exchanged, Led}
-use Rattle.coap_exchange.proofs.Facts.StepsOfLayer.{steps_join}
+use Rattle.coap_layer.proofs.Facts.StepsOfLayer.{steps_join}
 
 pub led_call : (server : Endpoint) (word : ℕ) (t : List Call) (c : Call) (old new : State) → Led server word t old → Step old c new → Led server word (c ∷ t) new
 led_call server word t c old new led step = above_call IsRight after lower Steps (start server word) (L.start word) steps_join t c old new led step

@@ -10,7 +10,7 @@ use Rattle.coap_exchange.specs.Above.{sum_of}
 use Rattle.coap_exchange.specs.AnswererTrace.{start, Call}
 use Rattle.coap_exchange.specs.AnswererSteps.{lower, IsRight, after}
 use Rattle.coap_exchange.specs.AnswererLaw.{lower_of, below_of, fresh_state, ResponseLaw, State, Step, Exchanged, Led}
-use Rattle.coap_exchange.proofs.Facts.StepsOfLayer.{steps_join}
+use Rattle.coap_layer.proofs.Facts.StepsOfLayer.{steps_join}
 
 pub led_start : (word : ℕ) → Led word [] (fresh_state word)
 led_start word = record { rows = tt; own_is = refl; layer = refl }

@@ -1,16 +1,17 @@
--- What a server rejects, and acknowledges with an Empty message.
+-- What a server rejects, acknowledges with an Empty message, and answers in an acknowledgement.
 use Rattle.std.proofs.Common.{◌≡◌, ◌⊎◌, inl, inr, ℕ, Bool, true, false, Option, Some, None, List, [], ◌∷◌, ◌++◌, refl, ap, ◌∙◌, cond}
 use Rattle.coap_types.specs.declared.endpoint.Endpoint.{Endpoint}
-use Rattle.coap_types.specs.declared.message.Kind.TheVariants.{Con, Non, Ack}
+use Rattle.coap_types.specs.declared.message.Kind.{Kind}
+use Rattle.coap_types.specs.declared.message.Kind.TheVariants.{Con, Non, Ack, Rst}
 use Rattle.coap_codec.specs.Message.{Message}
 use Rattle.coap_layer.specs.Trace as T
 use Rattle.coap_layer.specs.Words.{is_kept}
 use Rattle.coap_exchange.specs.declared.answerer.Asked.{Asked}
 use Rattle.coap_exchange.specs.declared.separate.Deferred.{Deferred}
-use Rattle.coap_exchange.specs.AnswererTrace.{Call, Incoming, Answers, Defers, Ticks, Responds, Ready, Notifies, Take}
-use Rattle.coap_exchange.specs.AnswererSteps.{reject_by, IsRight, may_defer, deferring, asking_room, ready_if, ready_at}
+use Rattle.coap_exchange.specs.AnswererTrace.{Response, Own, Call, Incoming, Answers, Defers, Ticks, Responds, Ready, Notifies, Take}
+use Rattle.coap_exchange.specs.AnswererSteps.{reject_by, answering, IsRight, may_defer, deferring, asking_room, ready_if, ready_at}
 use Rattle.coap_exchange.specs.AnswererLaw.{own_of, AnswererLaw}
-use Rattle.coap_exchange.specs.AnswererEmpties.{RejectsIn, RepliesRightly, AreReplied}
+use Rattle.coap_exchange.specs.AnswererEmpties.{AnswersIn, RejectsIn, RepliesRightly, AreReplied}
 use Rattle.coap_exchange.specs.AskerRequests.{asked}
 use Rattle.coap_exchange.specs.AskerArrivals.{id_in, replying}
 use Rattle.coap_exchange.specs.EmptyMessages.{reset_bytes, acknowledging, replies_in}
@@ -58,9 +59,22 @@ defers now a false false e = refl
 defers now a true false e = absurd (cc e)
 defers now a false true e = absurd (cc e)
 
+-- a NON isn't replied to
+no_reply : (s : Own) (kind : Kind) (a : Asked) (r : Response) (below : T.Answer) → (kind ≡ Con → ⊥) → replies_in (asked s.clock (answering s kind a r) below ∷ []) ≡ []
+no_reply s Con a r below other = absurd (other refl)
+no_reply s Non a r below other = refl
+no_reply s Ack a r below other = refl
+no_reply s Rst a r below other = refl
+
+answers : (s : Own) (a : Asked) (r : Response) (below : T.Answer) → AnswersIn a r (replies_in (asked s.clock (answering s a.kind a r) below ∷ []))
+answers s a r below = (
+  λ con. ap (λ k. replies_in (asked s.clock (answering s k a r) below ∷ [])) con,
+  λ other. no_reply s a.kind a r below other,
+)
+
 rightly : (t : List Call) (c : Call) → IsRight (own_of t) c → RepliesRightly t c
 rightly t (Incoming now from bytes up answer) right = rejects from bytes now up
-rightly t (Answers a r below) right = tt
+rightly t (Answers a r below) right = answers (own_of t) a r below
 rightly t (Defers now a delay true) right = defers now a (may_defer (own_of t).deferred) true right.2
 rightly t (Defers now a delay false) right = defers now a (may_defer (own_of t).deferred) false right.2
 rightly t (Ticks now below room answer) right = none_asked now below (ready_if below (ready_at (own_of t) now)) room

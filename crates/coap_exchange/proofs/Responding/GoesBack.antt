@@ -23,7 +23,7 @@ use Rattle.coap_exchange.specs.AnswererSends.{carrying, SendsThere, GoesBack, Al
 use Rattle.coap_exchange.proofs.Responding.RequestsCame.{came_in}
 use Rattle.coap_exchange.proofs.Leading.ServerLeads.{layer_stands}
 use Rattle.coap_exchange.proofs.Responding.OneResponse.{counted}
-use Rattle.coap_exchange.proofs.Facts.StepsOfLayer.{steps_split}
+use Rattle.coap_layer.proofs.Facts.StepsOfLayer.{steps_split}
 
 -- a CON that was sent, and a NON
 module _ (word : ℕ) (past : List Entry) (e : Entry) (to : Endpoint) (content : Content) (id : ℕ) (here : Stands word past e) (told : e.answer ≡ T.Sent id) where

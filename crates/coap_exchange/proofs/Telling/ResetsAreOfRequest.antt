@@ -28,7 +28,7 @@ use Rattle.coap_exchange.specs.AskerArrivals.{told, verdict_on, acts}
 use Rattle.coap_exchange.specs.AskerLaw.{own_of, lower_of, AskerLaw}
 use Rattle.coap_exchange.specs.AskerTells.{Rejects, AreRejected}
 use Rattle.coap_exchange.proofs.Telling.FromServer.{server_is}
-use Rattle.coap_exchange.proofs.Facts.StepsOfLayer.{steps_split}
+use Rattle.coap_layer.proofs.Facts.StepsOfLayer.{steps_split}
 use Rattle.coap_exchange.proofs.Facts.Verdicts.{Fits, OfRequest, verdict_fits}
 
 -- what the layer takes as a Reset

@@ -32,23 +32,25 @@ abbrev pub Leads : Shown → Call → Shown → Type 0
 Leads old c new = (word : ℕ) (t : List Call) → Led word t old.state → Led word (c ∷ t) new.state
 
 abbrev pub own_with : ℕ → Option Asked → List Deferred → List Separate → Option Ended → Own
-own_with clock pending deferred separate ended = record { clock = clock; pending = pending; deferred = deferred; separate = separate; ended = ended }
+own_with clock pending deferred separate ended =
+    record { clock = clock; pending = pending; deferred = deferred; separate = separate; ended = ended }
 
 abbrev pub state_of : L.State → Option Asked → List Deferred → List Separate → Option Ended → State
-state_of l pending deferred separate ended = record { own = own_with l.clock pending deferred separate ended; layer = l }
+state_of l pending deferred separate ended =
+    record { own = own_with l.clock pending deferred separate ended; layer = l }
 
 abbrev pub before_of : Option L.State → Option Asked → List Deferred → List Separate → Option Ended → Option State
 before_of None pending deferred separate ended = None
 before_of (Some l) pending deferred separate ended = Some (state_of l pending deferred separate ended)
 
--- The request is the one that the last input handed up, and nothing was sent or taken back since: what answers or defers
--- it takes no memory.
+-- The request is the one that the last input handed up, and nothing was sent or taken back since: what answers or
+-- defers it takes no memory.
 pub record MayAnswer (s : Shown) (a : Asked) : Type 0 where
   pub answerable : s.answerable ≡ true
   pub pending : s.state.own.pending ≡ Some a
 
--- It was said at this moment that a CON can be sent there, and nothing was sent or taken back since: what sends it takes
--- no memory.
+-- It was said at this moment that a CON can be sent there, and nothing was sent or taken back since: what sends it
+-- takes no memory.
 pub record MayNotify (s : Shown) (now : ℕ) (to : Endpoint) : Type 0 where
   pub room : s.room ≡ true
   pub idle : is_busy to s.state.layer.open_cons ≡ false

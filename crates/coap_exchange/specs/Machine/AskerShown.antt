@@ -11,6 +11,7 @@ use Rattle.coap_exchange.specs.declared.held.Held.{Held}
 use Rattle.coap_exchange.specs.AskerTrace.{Request, Own, Call}
 use Rattle.coap_exchange.specs.AskerRequests.{content_of}
 use Rattle.coap_exchange.specs.AskerLaw.{State, Led}
+use Rattle.coap_types.specs.declared.token.TheConstants.{MAX_TOKEN_LEN as max_token_len}
 
 -- its state, and the state that `undo` would leave
 pub record Shown : Type 0 where
@@ -19,10 +20,12 @@ pub record Shown : Type 0 where
 
 -- what led to the one leads by this call to the other
 abbrev pub Leads : Shown → Call → Shown → Type 0
-Leads old c new = (server : Endpoint) (word : ℕ) (t : List Call) → Led server word t old.state → Led server word (c ∷ t) new.state
+Leads old c new =
+    (server : Endpoint) (word : ℕ) (t : List Call) → Led server word t old.state → Led server word (c ∷ t) new.state
 
 abbrev pub own_with : ℕ → Endpoint → ℕ → Held → Own
-own_with clock server word held = record { clock = clock; server = server; word = word; given = held.given; running = held.running; kept = held.kept }
+own_with clock server word held =
+    record { clock = clock; server = server; word = word; given = held.given; running = held.running; kept = held.kept }
 
 abbrev pub state_of : L.State → Endpoint → ℕ → Held → State
 state_of l server word held = record { own = own_with l.clock server word held; layer = l }
@@ -33,7 +36,7 @@ before_of (Some l) server word held = Some (state_of l server word held)
 
 -- with any token of at most 8 bytes, the request can be sent
 abbrev pub IsAskable : Request → Type 0
-IsAskable r = (token : List ℕ) → length token ≤ 8 → IsSendable (content_of token r)
+IsAskable r = (token : List ℕ) → length token ≤ max_token_len → IsSendable (content_of token r)
 
 -- why a request is refused, by why its message is
 abbrev pub refusal_as : SendRefusal → AskRefusal

@@ -5,6 +5,8 @@ use Rattle.coap_layer.specs.Trace.{Entry}
 use Rattle.coap_layer.specs.Words.{clock, Incoming, taken, remembered}
 use Rattle.coap_layer.specs.Rows.{LayerLaw}
 use Rattle.coap_layer.specs.Follows.{RemembersFew}
+use Rattle.coap_types.specs.declared.transmission.TheConstants.{EXCHANGE_LIFETIME_MS as exchange_lifetime}
+use Rattle.coap_layer.specs.declared.dedup.TheConstants.{MAX_REMEMBERED as max_remembered}
 use Rattle.coap_layer.proofs.Arrivals.HandedUpOnce.{taken_handed, up_room}
 
 -- later, fewer are
@@ -18,16 +20,16 @@ later_fewer : (t : List Entry) (now later : ℕ) → now ≤ later → remembere
 later_fewer [] now later le = omega arith
 later_fewer (e ∷ past) now later le = go (taken e) (later_fewer past now later le)
   where
-    young : nat_le later (e.at + 247000) ≡ true → nat_le now (e.at + 247000) ≡ true
-    young h = let k = leb-true later (e.at + 247000) h in le-leb now (e.at + 247000) (omega (arith, k, le))
+    young : nat_le later (e.at + exchange_lifetime) ≡ true → nat_le now (e.at + exchange_lifetime) ≡ true
+    young h = let k = leb-true later (e.at + exchange_lifetime) h in le-leb now (e.at + exchange_lifetime) (omega (arith, k, le))
 
     go : (o : Option Incoming) → remembered later past ≤ remembered now past
-        → elim o [ Some m ↦ (if nat_le later (e.at + 247000) then 1 + remembered later past else remembered later past) | None ↦ remembered later past ]
-        ≤ elim o [ Some m ↦ (if nat_le now (e.at + 247000) then 1 + remembered now past else remembered now past) | None ↦ remembered now past ]
-    go (Some m) fewer = counted (nat_le later (e.at + 247000)) (nat_le now (e.at + 247000)) _ _ young fewer
+        → elim o [ Some m ↦ (if nat_le later (e.at + exchange_lifetime) then 1 + remembered later past else remembered later past) | None ↦ remembered later past ]
+        ≤ elim o [ Some m ↦ (if nat_le now (e.at + exchange_lifetime) then 1 + remembered now past else remembered now past) | None ↦ remembered now past ]
+    go (Some m) fewer = counted (nat_le later (e.at + exchange_lifetime)) (nat_le now (e.at + exchange_lifetime)) _ _ young fewer
     go None fewer = fewer
 
-one_more : (b : Bool) (n : ℕ) → n + 1 ≤ 4096 → cond b (1 + n) n ≤ 4096
+one_more : (b : Bool) (n : ℕ) → n + 1 ≤ max_remembered → cond b (1 + n) n ≤ max_remembered
 one_more true n le = omega (arith, le)
 one_more false n le = omega (arith, le)
 
@@ -38,9 +40,9 @@ few word (e ∷ past) law now le = go (taken e) refl (few word past law.1 now be
     before : clock past ≤ now
     before = let a : clock past ≤ e.at = law.0.time in let b : e.at ≤ now = le in omega (arith, a, b)
 
-    go : (o : Option Incoming) → taken e ≡ o → remembered now past ≤ 4096 → elim o [ Some m ↦ (if nat_le now (e.at + 247000) then 1 + remembered now past else remembered now past) | None ↦ remembered now past ] ≤ 4096
+    go : (o : Option Incoming) → taken e ≡ o → remembered now past ≤ max_remembered → elim o [ Some m ↦ (if nat_le now (e.at + exchange_lifetime) then 1 + remembered now past else remembered now past) | None ↦ remembered now past ] ≤ max_remembered
     go None is fewer = fewer
     go (Some m) is fewer =
         let room = up_room word past e m law.0 (taken_handed e m is) in
         let less = later_fewer past e.at now le in
-        one_more (nat_le now (e.at + 247000)) (remembered now past) (omega (arith, room, less))
+        one_more (nat_le now (e.at + exchange_lifetime)) (remembered now past) (omega (arith, room, less))

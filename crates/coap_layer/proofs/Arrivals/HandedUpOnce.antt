@@ -8,6 +8,7 @@ use Rattle.coap_layer.specs.Arrivals.{Arrival, Unreadable, Faulted, Whole}
 use Rattle.coap_layer.specs.Trace.{Call, Receive, Reply, Confirm, Plain, Settle, Ticks, Take, Room, AsksFree, Pass, Dropped, Replayed, Rejected, Request, Response, Acked, Reset, Answer, Becomes, Entry}
 use Rattle.coap_layer.specs.Words.{Incoming, handed_by, kept_by, from_there, handed_in, taken_in, handed, taken, Remembered, remembered}
 use Rattle.coap_layer.specs.Rows.{Stands, Row, Arrives, Sorts, HandedAs, rejects, drops, takes_ack, takes_reset, takes_answer, replays, hands_over}
+use Rattle.coap_layer.specs.declared.dedup.TheConstants.{MAX_REMEMBERED as max_remembered}
 
 -- an answer that hands nothing up
 nothing_up : (from : Endpoint) (answer a : Answer) (m : Incoming) → answer ≡ a → handed_by a ≡ None → from_there from (handed_by answer) ≡ Some m → ⊥
@@ -39,7 +40,7 @@ handed_up word past e m k (inr (inr a)) = ap handed_by a.1 ∙ response_up m.mes
 
 -- .. is not remembered, and there is a place for it
 abbrev IsNew : List Entry → Entry → Incoming → Type 0
-IsNew past e m = (Remembered past e.at m.from m.message.id → ⊥) × (remembered e.at past < 4096)
+IsNew past e m = (Remembered past e.at m.from m.message.id → ⊥) × (remembered e.at past < max_remembered)
 
 sorted_new : (word : ℕ) (past : List Entry) (e : Entry) (n m : Incoming) → Sorts word past e n → from_there n.from (handed_by e.answer) ≡ Some m → IsNew past e m
 sorted_new word past e n m (rejects r) h = absurd (nothing_up n.from e.answer _ m r.answer refl h)
@@ -74,7 +75,7 @@ handed_new word past e Pass m row h = absurd (cc h)
 pub up_new : (word : ℕ) (past : List Entry) (e : Entry) (m : Incoming) → Stands word past e → handed e ≡ Some m → Remembered past e.at m.from m.message.id → ⊥
 up_new word past e m law h = (handed_new word past e e.call m law.row h).0
 
-pub up_room : (word : ℕ) (past : List Entry) (e : Entry) (m : Incoming) → Stands word past e → handed e ≡ Some m → remembered e.at past < 4096
+pub up_room : (word : ℕ) (past : List Entry) (e : Entry) (m : Incoming) → Stands word past e → handed e ≡ Some m → remembered e.at past < max_remembered
 up_room word past e m law h = (handed_new word past e e.call m law.row h).1
 
 -- what is remembered is handed up

@@ -1,5 +1,5 @@
 -- An acknowledgement is the reply that the other layer was given to that very CON.
-use Rattle.std.proofs.Common.{◌≡◌, inl, inr, ⊎_elim, ℕ, ◌+◌, ◌≤◌, false, List, [], ◌∷◌, ◌++◌, Some, None, refl, ap, sym, ◌∙◌, subst, arith, append_assoc}
+use Rattle.std.proofs.Common.{◌-◌, ◌≡◌, inl, inr, ⊎_elim, ℕ, ◌+◌, ◌≤◌, false, List, [], ◌∷◌, ◌++◌, Some, None, refl, ap, sym, ◌∙◌, subst, arith, append_assoc}
 use Rattle.coap_types.specs.Past.{Ever, Sometime, Since}
 use Rattle.coap_types.proofs.Facts.Traces.{Ever_map, Ever_of_Sometime, Ever_of_Since, Sometime_of_Ever, Sometime_of_Sometime, by_suffix, forget}
 use Rattle.coap_types.specs.declared.endpoint.Endpoint.{Endpoint}
@@ -11,6 +11,7 @@ use Rattle.coap_layer.specs.Words.{Incoming, clock, handed, hands_up, reply_in, 
 use Rattle.coap_layer.specs.Rows.{LayerLaw, Row}
 use Rattle.coap_layer.specs.Sends.{IsIn, as_begun, ReplyOut, StoredOut}
 use Rattle.coap_layer.specs.Channel.{HandedBy, Hop, Near, Far, near_of, far_of, OnFar, GaveOut, IsLatest, RepliesAtOnce, ChannelLaw, BegunAs, HearsAck, Takes, AcksTaken, RepliesTo, OnFarThen, AcksReplied}
+use Rattle.coap_types.specs.declared.transmission.TheConstants.{EXCHANGE_LIFETIME_MS as exchange_lifetime, LAST_ARRIVAL_MS as last_arrival, ID_REUSE_AFTER_MS as id_reuse_after, MAX_LATENCY_MS as max_latency}
 use Rattle.coap_layer.proofs.Copies.CopiesInTime.{was_begun, begun_by}
 use Rattle.coap_layer.proofs.Between.WhatComesByType.{Comes, a_con, a_non, a_reply, a_stored, a_reset, comes, one_message, replied_call}
 use Rattle.coap_layer.proofs.Arrivals.HandedAsSpelled.{handed_so, Heard, heard, IsOf, latest_is}
@@ -27,11 +28,11 @@ by_clock word P (e ∷ past) now law le (inl h) = inl (h, le)
 by_clock word P (e ∷ past) now law le (inr h) = inr (by_clock word P past now law.1 (let l = law.0.time in omega (arith, l, le)) h)
 
 -- a stored reply was given at most 247 s before
-since_young : (word now : ℕ) (from : Endpoint) (id : ℕ) (B : Entry → Type 0) (t : List Entry) → LayerLaw word t → Since B (λ b. hands_up from id b ≡ false) t → Remembered t now from id → Ever (λ b. B b × (now ≤ b.at + 247000)) t
+since_young : (word now : ℕ) (from : Endpoint) (id : ℕ) (B : Entry → Type 0) (t : List Entry) → LayerLaw word t → Since B (λ b. hands_up from id b ≡ false) t → Remembered t now from id → Ever (λ b. B b × (now ≤ b.at + exchange_lifetime)) t
 since_young word now from id B [] law h k = absurd h
 since_young word now from id B (e ∷ past) law (inl b) (inl k) = inl (b, k.young)
 since_young word now from id B (e ∷ past) law (inl b) (inr k) =
-    inl (b, forget _ past (Ever_map _ (λ y. now ≤ e.at + 247000) (λ y z. let a = z.0.young in let l = z.1 in omega (arith, a, l)) past (by_clock word _ past e.at law.1 law.0.time k)))
+    inl (b, forget _ past (Ever_map _ (λ y. now ≤ e.at + exchange_lifetime) (λ y z. let a = z.0.young in let l = z.1 in omega (arith, a, l)) past (by_clock word _ past e.at law.1 law.0.time k)))
 since_young word now from id B (e ∷ past) law (inr h) (inl k) = let a = h.0 in let b = k.up in absurd (cc (a, b))
 since_young word now from id B (e ∷ past) law (inr h) (inr k) = inr (since_young word now from id B past law.1 h.1 k)
 
@@ -62,7 +63,7 @@ module _ (one other : ℕ) (near far : Endpoint) (whole : List Hop) (x : Entry) 
   late = let k = begun_by one (near_of whole) (as_begun con) near_law begun in let t = all_law.near_law.0.time in omega (arith, k, t)
 
   -- a CON under the same Message ID that reached the other layer at most 100 s before is this one
-  this_con : (q : List Hop) (bytes : List ℕ) (id when : ℕ) → P q → BegunAs far bytes id when (near_of q) → id ≡ con.id → when ≤ x.at → x.at ≤ when + 100000 → (con.first ≤ when) × (when ≤ con.first + 147000)
+  this_con : (q : List Hop) (bytes : List ℕ) (id when : ℕ) → P q → BegunAs far bytes id when (near_of q) → id ≡ con.id → when ≤ x.at → x.at ≤ when + max_latency → (con.first ≤ when) × (when ≤ con.first + last_arrival)
   this_con q bytes id when p b is before after =
       let there = lift q p (IsBegun b.con) b.begun in
       let first : b.con.first ≤ con.first = alone one (near_of whole) con b.con near_law open_is there (to_is ∙ sym b.to_is) in
@@ -80,7 +81,7 @@ module _ (one other : ℕ) (near far : Endpoint) (whole : List Hop) (x : Entry) 
     R = OnFarThen (RepliesTo near con bytes)
 
     -- what was handed up last is this CON
-    last_is : (at : ℕ) (up : Incoming) → up.from ≡ near → up.message.id ≡ con.id → con.first ≤ at + 253000 → at ≤ con.first + 400000 → (q : List Hop) → P q → IsLatest (far_of q) at up
+    last_is : (at : ℕ) (up : Incoming) → up.from ≡ near → up.message.id ≡ con.id → con.first ≤ at + (id_reuse_after - last_arrival) → at ≤ con.first + id_reuse_after → (q : List Hop) → P q → IsLatest (far_of q) at up
         → Since (λ y. Takes near con y × (y.at ≡ at)) (λ y. handed y ≡ None) (far_of q)
     last_is at up place id before after [] p h = absurd h
     last_is at up place id before after (Near e ∷ q) p h = last_is at up place id before after q (down q (Near e) p) h
@@ -110,7 +111,7 @@ module _ (one other : ℕ) (near far : Endpoint) (whole : List Hop) (x : Entry) 
           con_there = ⊎_elim (λ c. let kind = ap (λ (z : Message). z.kind) same in absurd (cc (c, kind, ack))) (λ c. c.1) a.kind;
         }
 
-    replies_to : (q : List Hop) (k : Entry) (id : ℕ) → P (Far k ∷ q) → Replied q k id → con.first ≤ k.at + 253000 → k.at ≤ con.first + 400000 → R q (Far k)
+    replies_to : (q : List Hop) (k : Entry) (id : ℕ) → P (Far k ∷ q) → Replied q k id → con.first ≤ k.at + (id_reuse_after - last_arrival) → k.at ≤ con.first + id_reuse_after → R q (Far k)
     replies_to q k id p r before after =
         record {
           call = r.call ∙ ap (λ (i : ℕ). Reply near i bytes) r.id_there;
@@ -118,14 +119,14 @@ module _ (one other : ℕ) (near far : Endpoint) (whole : List Hop) (x : Entry) 
         }
 
     -- when it is given, for the first time
-    window : (q : List Hop) (k : Entry) (id : ℕ) → P (Far k ∷ q) → k.at ≤ x.at → x.at ≤ k.at + 100000 → Replied q k id → (con.first ≤ k.at) × (k.at ≤ con.first + 147000)
+    window : (q : List Hop) (k : Entry) (id : ℕ) → P (Far k ∷ q) → k.at ≤ x.at → x.at ≤ k.at + max_latency → Replied q k id → (con.first ≤ k.at) × (k.at ≤ con.first + last_arrival)
     window q k id p before after r =
         forget W q (Ever_of_Sometime _ (λ h. W) (λ t h z. inl z) q
         (by_suffix P (λ t h. OnFar Up h) (λ t h. W) down at_place q (down q (Far k) p)
         (Sometime_of_Ever _ q (to_far _ q (Ever_of_Since _ _ (far_of q) r.at_once.latest)))))
       where
         W : Type 0
-        W = (con.first ≤ k.at) × (k.at ≤ con.first + 147000)
+        W = (con.first ≤ k.at) × (k.at ≤ con.first + last_arrival)
 
         up : Incoming
         up = r.at_once.to_what
@@ -145,7 +146,7 @@ module _ (one other : ℕ) (near far : Endpoint) (whole : List Hop) (x : Entry) 
             let l = c.1 in
             (omega (arith, at, f), omega (arith, at, l))
 
-    given : (q : List Hop) (k : Entry) → P (Far k ∷ q) → k.at ≤ x.at → x.at ≤ k.at + 100000 → (r : ReplyOut (far_of q) k (record { to = near; bytes = bytes })) → R q (Far k)
+    given : (q : List Hop) (k : Entry) → P (Far k ∷ q) → k.at ≤ x.at → x.at ≤ k.at + max_latency → (r : ReplyOut (far_of q) k (record { to = near; bytes = bytes })) → R q (Far k)
     given q k p before after r =
         let is : Replied q k r.id = replied q k r.id r.call r.awaited (p.law.far_replies.0 near r.id bytes r.call) in
         let w = window q k r.id p before after is in
@@ -154,15 +155,15 @@ module _ (one other : ℕ) (near far : Endpoint) (whole : List Hop) (x : Entry) 
         replies_to q k r.id p is (omega (arith, f)) (omega (arith, l))
 
     -- a stored reply
-    stored_again : (q : List Hop) (k : Entry) → P (Far k ∷ q) → k.at ≤ x.at → x.at ≤ k.at + 100000 → (r : StoredOut (far_of q) k (record { to = near; bytes = bytes })) → r.message.id ≡ m.id → Sometime R q
+    stored_again : (q : List Hop) (k : Entry) → P (Far k ∷ q) → k.at ≤ x.at → x.at ≤ k.at + max_latency → (r : StoredOut (far_of q) k (record { to = near; bytes = bytes })) → r.message.id ≡ m.id → Sometime R q
     stored_again q k p before after r is =
         by_suffix P (λ t h. OnFar Gives h) R down at_place q (down q (Far k) p)
         (Sometime_of_Ever _ q (to_far _ q (by_clock other _ (far_of q) k.at p.law.far_law.1 p.law.far_law.0.time (since_young other k.at near r.message.id _ (far_of q) p.law.far_law.1 r.given r.old))))
       where
         Gives : Entry → Type 0
-        Gives b = ((reply_in near r.message.id b.call ≡ Some bytes) × (k.at ≤ b.at + 247000)) × (b.at ≤ k.at)
+        Gives b = ((reply_in near r.message.id b.call ≡ Some bytes) × (k.at ≤ b.at + exchange_lifetime)) × (b.at ≤ k.at)
 
-        here : (con.first ≤ k.at) × (k.at ≤ con.first + 147000)
+        here : (con.first ≤ k.at) × (k.at ≤ con.first + last_arrival)
         here = this_con q r.bytes r.message.id k.at (down q (Far k) p) (begun_as one other near far q k r.bytes r.message p.law r.call r.spells r.kind) (is ∙ id_is) before after
 
         at_place : (t : List Hop) (h : Hop) → P (h ∷ t) → OnFar Gives h → R t h

@@ -1,5 +1,5 @@
 -- What is taken of a CON: that very CON, and once.
-use Rattle.std.proofs.Common.{◌≡◌, inl, inr, ⊎_elim, ℕ, ◌+◌, ◌≤◌, true, false, Option, Some, None, List, [], ◌∷◌, refl, ap, sym, ◌∙◌, subst, arith, option_to_list, append_assoc, ◌++◌}
+use Rattle.std.proofs.Common.{◌-◌, ◌≡◌, inl, inr, ⊎_elim, ℕ, ◌+◌, ◌≤◌, true, false, Option, Some, None, List, [], ◌∷◌, refl, ap, sym, ◌∙◌, subst, arith, option_to_list, append_assoc, ◌++◌}
 use Rattle.std.proofs.lemmas.Bool.Decides.{nat_tests}
 use Rattle.std.specs.List.{filter_map}
 use Rattle.coap_types.specs.Past.{Ever, Always}
@@ -12,6 +12,7 @@ use Rattle.coap_layer.specs.Words.{Incoming, taken, handed, is_from, hands_up, H
 use Rattle.coap_layer.specs.Rows.{LayerLaw}
 use Rattle.coap_layer.specs.Sends.{IsIn, as_begun}
 use Rattle.coap_layer.specs.Channel.{HandedBy, Hop, Near, Far, near_of, far_of, OnFar, ChannelLaw, BegunAs, Takes, HandsUpAs, TakenOnce, OnlyThatCon, HandedOnce}
+use Rattle.coap_types.specs.declared.transmission.TheConstants.{LAST_ARRIVAL_MS as last_arrival, ID_REUSE_AFTER_MS as id_reuse_after}
 use Rattle.coap_layer.proofs.Copies.CopiesInTime.{in_option, in_filter_map, left_same, begun_by, one_outstanding}
 use Rattle.coap_layer.proofs.Copies.WhatIsOpen.{place_same, busy_with}
 use Rattle.coap_layer.proofs.Arrivals.HandedAsSpelled.{handed_so}
@@ -69,11 +70,11 @@ alone word (e ∷ past) c d law h b to = ⊎_elim (old (λ x k l. alone word pas
 module _ (one other : ℕ) (near far : Endpoint) (whole past : List Hop) (x : Entry) (con : Open) (near_law : LayerLaw one (near_of whole)) (law : ChannelLaw one other near far (Far x ∷ past))
     (lift : (P : Entry → Type 0) → Ever P (near_of past) → Ever P (near_of whole)) (begun : Ever (IsBegun con) (near_of whole)) where
   -- a CON that came is that CON
-  pub very_con : (bytes : List ℕ) (id : ℕ) → (b : BegunAs far bytes id x.at (near_of past)) → id ≡ con.id → con.first ≤ b.con.first + 400000 → b.con.first ≤ con.first + 400000 → b.con ≡ con
+  pub very_con : (bytes : List ℕ) (id : ℕ) → (b : BegunAs far bytes id x.at (near_of past)) → id ≡ con.id → con.first ≤ b.con.first + id_reuse_after → b.con.first ≤ con.first + id_reuse_after → b.con ≡ con
   very_con bytes id b is before after = one_con one (near_of whole) b.con con near_law (lift _ b.begun) begun (b.id_is ∙ is) after before
 
   -- taken: handed up, within 400 s
-  pub takes_it : (m : Incoming) → handed x ≡ Some m → m.from ≡ near → m.message.id ≡ con.id → x.at ≤ con.first + 400000 → con.first ≤ x.at + 253000 → Takes near con x
+  pub takes_it : (m : Incoming) → handed x ≡ Some m → m.from ≡ near → m.message.id ≡ con.id → x.at ≤ con.first + id_reuse_after → con.first ≤ x.at + (id_reuse_after - last_arrival) → Takes near con x
   takes_it m up place id after before = go (came one other near far past x h.bytes m.message law call h.are_bytes h.spells)
     where
       h : HandedBy x m

@@ -9,6 +9,7 @@ use Rattle.coap_codec.specs.Message.{Message, Spells}
 use Rattle.coap_layer.specs.Trace.{Packet, Receive, Entry}
 use Rattle.coap_layer.specs.Rows.{Stands, LayerLaw, Row}
 use Rattle.coap_layer.specs.Channel.{Hop, Far, near_of, far_of, GaveOut, RepliesSo, ChannelLaw, SentSo, ArrivesAsSent, BegunAs, ConsBegun, PlainSent, NonsSent}
+use Rattle.coap_types.specs.declared.transmission.TheConstants.{MAX_LATENCY_MS as max_latency}
 use Rattle.coap_layer.proofs.Facts.Hops.{near_ever, each_hop}
 use Rattle.coap_layer.proofs.Out.EachGoesOut.{goes_out}
 use Rattle.coap_layer.proofs.Between.WhatComesByType.{Comes, a_con, a_non, a_reply, a_stored, a_reset, comes}
@@ -27,7 +28,7 @@ module _ (one other : ℕ) (near far : Endpoint) where
 -- whence a message comes, by its type
 pub data Came (to : Endpoint) (bytes : List ℕ) (m : Message) (when : ℕ) (t : List Entry) : Type 0 where
   con_came : m.kind ≡ Con → BegunAs to bytes m.id when t → Came to bytes m when t
-  non_came : m.kind ≡ Non → (at : ℕ) → Ever (SendsPlain m.id at) t → at ≤ when → when ≤ at + 100000 → Came to bytes m when t
+  non_came : m.kind ≡ Non → (at : ℕ) → Ever (SendsPlain m.id at) t → at ≤ when → when ≤ at + max_latency → Came to bytes m when t
   reply_came : (m.kind ≡ Ack) ⊎ (m.kind ≡ Rst) → Came to bytes m when t
 
 begun_later : (to : Endpoint) (bytes : List ℕ) (id when : ℕ) (e : Entry) (t : List Entry) → BegunAs to bytes id when t → BegunAs to bytes id when (e ∷ t)

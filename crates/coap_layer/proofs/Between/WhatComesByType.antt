@@ -15,6 +15,7 @@ use Rattle.coap_layer.specs.Words.{reply_in, Open, begun}
 use Rattle.coap_layer.specs.Rows.{LayerLaw}
 use Rattle.coap_layer.specs.Sends.{SendsIt, packet_of, SpellsCon, GoesOut, PlainOut, ReplyOut, StoredOut, first, copy, plain, reply, stored, reset, Begins}
 use Rattle.coap_layer.specs.Channel.{RepliesAtOnce, RepliesSo}
+use Rattle.coap_types.specs.declared.transmission.TheConstants.{LAST_RETRANSMISSION_MS as last_retransmission}
 use Rattle.coap_layer.proofs.ListLemmas.{same_nat, and_left, and_right}
 use Rattle.coap_layer.proofs.Out.EachGoesOut.{cons_spelled}
 use Rattle.coap_layer.proofs.Numbers.OneEntryForAnId.{IsBegun, SendsPlain, begins_of}
@@ -30,7 +31,7 @@ pub record BegunHere (past : List Entry) (e : Entry) (p : Packet) (m : Message) 
   pub is : p ≡ packet_of con
   pub id_is : con.id ≡ m.id
   pub from : con.first ≤ e.at
-  pub till : e.at ≤ con.first + 47000
+  pub till : e.at ≤ con.first + last_retransmission
 
 pub data Comes (past : List Entry) (e : Entry) (p : Packet) (m : Message) : Type 0 where
   a_con : m.kind ≡ Con → BegunHere past e p m → Comes past e p m
@@ -101,7 +102,7 @@ module _ (word : ℕ) (past : List Entry) (e : Entry) (p : Packet) (m : Message)
   same_message : (n : Message) → Spells p.bytes n → n ≡ m
   same_message n s = one_message p.bytes n m are s spells
 
-  same_con : (c : Open) → p ≡ packet_of c → Ever (IsBegun c) (e ∷ past) → SendsIt c past e → c.first ≤ e.at → e.at ≤ c.first + 47000 → Comes past e p m
+  same_con : (c : Open) → p ≡ packet_of c → Ever (IsBegun c) (e ∷ past) → SendsIt c past e → c.first ≤ e.at → e.at ≤ c.first + last_retransmission → Comes past e p m
   same_con c is begun sends from till =
       let s : SpellsCon c = spelled_begun word (e ∷ past) c law begun in
       let same : s.0 ≡ m = same_message s.0 (subst (λ (x : List ℕ). Spells x s.0) (sym (ap (λ (x : Packet). x.bytes) is)) s.1) in

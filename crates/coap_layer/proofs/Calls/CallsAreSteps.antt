@@ -13,6 +13,9 @@ use Rattle.coap_layer.specs.Machine.Sendings.{answer_for}
 use Rattle.coap_layer.specs.Machine.State.{State, Arrived, May, Step, after, answer_of, forgotten, is_live, made, moment, out_of, stores}
 use Rattle.coap_layer.specs.Trace.{Answer, Call, Confirm, Content, Entry, Gives, Is, Nothing, Packet, Plain, Reply, Sent, Settle, Take, Ticks, with_head}
 use Rattle.coap_layer.specs.Words.{Awaited, Open, awaits_in, begun, issued, left_by, taken, takes_in}
+use Rattle.coap_types.specs.declared.transmission.TheConstants.{ACK_TIMEOUT_MS as ack_timeout, TIMEOUT_VALUES as timeout_values}
+use Rattle.coap_layer.specs.declared.message_id.TheConstants.{GROUP_SIZE as group_size}
+use Rattle.coap_types.specs.declared.message.TheConstants.{MESSAGE_IDS as message_ids}
 use Rattle.coap_layer.proofs.Machine.Forgetting.{live_before, step_by}
 use Rattle.coap_layer.proofs.ListLemmas.{filter_implied, filter_map_all, filter_map_same, map_same}
 
@@ -52,10 +55,10 @@ still h at call answer w s l t b g n a =
 -- a CON, and a NON, that is sent
 module _ (h : State) (at : ℕ) (to : Endpoint) (content : Content) (id : ℕ) where
   abbrev sent : State → List Open → Packet → State
-  sent h cs p = record { clock = at; awaits = None; upcoming = (id + 1) % 65536; last_used = slice_set h.last_used (id / 4096) (Some at); arrived = h.arrived; open_cons = cs; queue = h.queue ++ p ∷ [] }
+  sent h cs p = record { clock = at; awaits = None; upcoming = (id + 1) % message_ids; last_used = slice_set h.last_used (id / group_size) (Some at); arrived = h.arrived; open_cons = cs; queue = h.queue ++ p ∷ [] }
 
   pub con_sent : (word : ℕ) (p : Packet) → after h (record { at = at; call = Confirm to content word; answer = Sent id; out = p ∷ [] })
-      ≡ sent h (h.open_cons ++ record { to = to; id = id; bytes = message_bytes (with_head Con id content); timeout = 2000 + word % 1001; first = at; last = at } ∷ []) p
+      ≡ sent h (h.open_cons ++ record { to = to; id = id; bytes = message_bytes (with_head Con id content); timeout = ack_timeout + word % timeout_values; first = at; last = at } ∷ []) p
   con_sent word p =
       let e : Entry = record { at = at; call = Confirm to content word; answer = Sent id; out = p ∷ [] } in
       let arrived = same_arrived h e (λ a. refl) in

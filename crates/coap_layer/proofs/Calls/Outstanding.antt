@@ -3,6 +3,7 @@ use Rattle.std.proofs.Common.{◌≡◌, ℕ, Bool, true, false, Option, Some, N
 use Rattle.std.proofs.lemmas.List.{append-nil}
 use Rattle.std.specs.List.{list_any, cons_option}
 use Rattle.coap_types.specs.declared.endpoint.Endpoint.{Endpoint}
+use Rattle.coap_types.specs.declared.endpoint.Moment.{Moment}
 use Rattle.coap_types.specs.SameEndpoint.{same_endpoint}
 use Rattle.coap_layer.specs.declared.retransmission.Sending.{Sending}
 use Rattle.coap_layer.specs.Machine.Parts.{open_before, settled, put_back}
@@ -17,7 +18,7 @@ cons_more None xs ys zs e = e
 cons_more (Some x) xs ys zs e = ap (λ w. x ∷ w) e
 
 module _ {Z : Type 0} where
-  busy_one : (to : Endpoint) (c : Sending Z) (cs : List Open) (b : Bool) (l : Option ℕ) → b ≡ is_busy to cs
+  busy_one : (to : Endpoint) (c : Sending Z) (cs : List Open) (b : Bool) (l : Option Moment) → b ≡ is_busy to cs
       → (is_some l && same_endpoint c.to to || b) ≡ is_busy to (cons_option (open_at c l) cs)
   busy_one to c cs b None e = e
   busy_one to c cs b (Some l) e = ap (λ d. same_endpoint c.to to || d) e
@@ -27,7 +28,7 @@ module _ {Z : Type 0} where
   busy_is to [] = refl
   busy_is to (c ∷ cs) = busy_one to c (open_now cs) _ c.last (busy_is to cs)
 
-  kept_one : (c : Sending Z) (cs : List (Sending Z)) (os : List Open) (l : Option ℕ) → c.last ≡ l → open_now cs ≡ os
+  kept_one : (c : Sending Z) (cs : List (Sending Z)) (os : List Open) (l : Option Moment) → c.last ≡ l → open_now cs ≡ os
       → open_now (cond (is_some l) (c ∷ cs) cs) ≡ cons_option (open_at c l) os
   kept_one c cs os None h e = e
   kept_one c cs os (Some l) h e = rw (h, e) refl
@@ -37,7 +38,7 @@ module _ {Z : Type 0} where
   dropped_open (c ∷ cs) = kept_one c (filter (λ c. is_some c.last) cs) (open_now cs) c.last refl (dropped_open cs)
 
   -- only these parts of it count
-  same_open : (c d : Sending Z) (l : Option ℕ) → c.to ≡ d.to → c.id ≡ d.id → c.bytes ≡ d.bytes → c.timeout ≡ d.timeout → c.first ≡ d.first → open_at c l ≡ open_at d l
+  same_open : (c d : Sending Z) (l : Option Moment) → c.to ≡ d.to → c.id ≡ d.id → c.bytes ≡ d.bytes → c.timeout ≡ d.timeout → c.first ≡ d.first → open_at c l ≡ open_at d l
   same_open c d None a b e f g = refl
   same_open c d (Some l) a b e f g = cc
 
@@ -57,7 +58,7 @@ module _ {Z : Type 0} where
   ended_before to id [] = refl
   ended_before to id (c ∷ cs) = rw (same_open (ended to id c) c c.before refl refl refl refl refl) (ap (cons_option (open_at c c.before)) (ended_before to id cs))
 
-  pub marked_before : (to : Endpoint) (id at : ℕ) (cs : List (Sending Z)) → open_before (map (marked to id at) cs) ≡ open_before cs
+  pub marked_before : (to : Endpoint) (id : ℕ) (at : Moment) (cs : List (Sending Z)) → open_before (map (marked to id at) cs) ≡ open_before cs
   marked_before to id at [] = refl
   marked_before to id at (c ∷ cs) = rw (same_open (marked to id at c) c c.before refl refl refl refl refl) (ap (cons_option (open_at c c.before)) (marked_before to id at cs))
 
@@ -70,7 +71,7 @@ module _ {Z : Type 0} where
   more_before (c ∷ cs) ds = cons_more (open_at c c.before) _ _ _ (more_before cs ds)
 
   -- what an end leaves
-  left_one : (to : Endpoint) (id : ℕ) (c : Sending Z) (cs : List Open) (l : Option ℕ) (b : Bool) → same to id c.to c.id.0 ≡ b
+  left_one : (to : Endpoint) (id : ℕ) (c : Sending Z) (cs : List Open) (l : Option Moment) (b : Bool) → same to id c.to c.id.0 ≡ b
       → cons_option (open_at c (cond b None l)) (without_open to id cs) ≡ without_open to id (cons_option (open_at c l) cs)
   left_one to id c cs None true e = refl
   left_one to id c cs None false e = refl
@@ -85,8 +86,8 @@ pub ended_by : (from : Endpoint) (a : Arriving) (cs ds : List Open) → ends a.v
 ended_by from a cs ds h e = rw h e
 
 -- one more that is begun
-pub begun_open : {Z : Type 0} (cs ds : List (Sending Z)) (c : Sending Z) (at t : ℕ) (bytes : List ℕ) → ds ≡ cs ++ c ∷ [] → c.last ≡ Some at → c.first ≡ at → c.timeout ≡ t → c.bytes.items ≡ bytes
-    → open_now ds ≡ open_now cs ++ record { to = c.to; id = c.id.0; bytes = bytes; timeout = t; first = at; last = at } ∷ []
+pub begun_open : {Z : Type 0} (cs ds : List (Sending Z)) (c : Sending Z) (at : Moment) (t : ℕ) (bytes : List ℕ) → ds ≡ cs ++ c ∷ [] → c.last ≡ Some at → c.first ≡ at → c.timeout ≡ t → c.bytes.items ≡ bytes
+    → open_now ds ≡ open_now cs ++ record { to = c.to; id = c.id.0; bytes = bytes; timeout = t; first = at.0; last = at.0 } ∷ []
 begun_open cs ds c at t bytes more last first timeout is =
     ap open_now more ∙ (more_open cs (c ∷ []) ∙ ap (λ w. open_now cs ++ w) (rw last (cc (first, timeout, is))))
 

@@ -63,7 +63,7 @@ before_ended (Some m) es cs ds q e = cc e
 -- a list of what waits that is as long as before, or longer
 pub within_more : (m : Option Mark) (es fs : List Arrived) (queued waiting : ℕ) → IsWithin m es queued → fs ≡ es → queued ≤ waiting → IsWithin m fs waiting
 within_more None es fs queued waiting w a b = tt
-within_more (Some m) es fs queued waiting w a b = let old = w.0 in (omega (arith, old, b), subst (IsUpTo m.clock) (sym a) w.1)
+within_more (Some m) es fs queued waiting w a b = let old = w.0 in (omega (arith, old, b), subst (IsUpTo m.clock.0) (sym a) w.1)
 
 pub within_pushed : {Y : Type 0} (m : Option Mark) (es fs : List Arrived) (q r d : List Y) → IsWithin m es (length q) → fs ≡ es → r ≡ q ++ d → IsWithin m fs (length r)
 within_pushed m es fs q r d w a b =

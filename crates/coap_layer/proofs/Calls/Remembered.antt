@@ -15,6 +15,7 @@ use Rattle.coap_layer.proofs.ListLemmas.{and_left, and_right, same_nat}
 use Rattle.coap_layer.specs.declared.dedup.Key.{Key}
 use Rattle.coap_layer.specs.declared.dedup.Kept.{Kept}
 use Rattle.coap_layer.specs.Machine.Entries.{AreLive, IsApart, IsUpTo, arrived_as, arrivals_as, live_of, same_key}
+use Rattle.coap_types.specs.declared.transmission.TheConstants.{EXCHANGE_LIFETIME_MS as exchange_lifetime}
 
 -- two tests that say the same
 alike : (a b : Bool) → (a ≡ true → b ≡ true) → (b ≡ true → a ≡ true) → a ≡ b
@@ -189,7 +190,7 @@ upto_later now later [] le h = tt
 upto_later now later (a ∷ es) le h = let first = h.0 in (omega (arith, first, le), upto_later now later es le h.1)
 
 -- the last of those that arrived up to now
-pub last_upto : {Z : Type 0} (now : ℕ) (es : List (Key × Kept Z)) (i : ℕ) (d : Key × Kept Z) → IsUpTo now (arrivals_as es) → i < length es → (get_or es i d).1.at ≤ now
+pub last_upto : {Z : Type 0} (now : ℕ) (es : List (Key × Kept Z)) (i : ℕ) (d : Key × Kept Z) → IsUpTo now (arrivals_as es) → i < length es → (get_or es i d).1.at.0 ≤ now
 last_upto now [] i d h lt = absurd (omega (arith, lt))
 last_upto now (e ∷ es) zero d h lt = h.0
 last_upto now (e ∷ es) (suc i) d h lt = last_upto now es i d h.1 (omega (arith, lt))
@@ -208,21 +209,21 @@ module _ {X : Type 0} (p : X → Bool) where
       let rest = front_split xs i (λ k d a b. went (suc k) d (omega arith) (omega (arith, b))) (λ k d a b. stays (suc k) d (omega (arith, a)) (omega (arith, b))) (omega (arith, le)) in
       cc (first, rest)
 
-pub live_arrivals : {Z : Type 0} (now : ℕ) (es : List (Key × Kept Z)) → filter (is_live now) (arrivals_as es) ≡ arrivals_as (filter (λ e. not (nat_lt (e.1.at + 247000) now)) es)
+pub live_arrivals : {Z : Type 0} (now : ℕ) (es : List (Key × Kept Z)) → filter (is_live now) (arrivals_as es) ≡ arrivals_as (filter (λ e. not (nat_lt (e.1.at.0 + exchange_lifetime) now)) es)
 live_arrivals now [] = refl
-live_arrivals now (e ∷ es) = go (is_live now (arrived_as e)) (not (nat_lt (e.1.at + 247000) now)) same (live_arrivals now es)
+live_arrivals now (e ∷ es) = go (is_live now (arrived_as e)) (not (nat_lt (e.1.at.0 + exchange_lifetime) now)) same (live_arrivals now es)
   where
-    same : is_live now (arrived_as e) ≡ not (nat_lt (e.1.at + 247000) now)
+    same : is_live now (arrived_as e) ≡ not (nat_lt (e.1.at.0 + exchange_lifetime) now)
     same = grind (arith, nat_tests)
 
-    go : (b c : Bool) → b ≡ c → filter (is_live now) (arrivals_as es) ≡ arrivals_as (filter (λ x. not (nat_lt (x.1.at + 247000) now)) es)
-        → cond b (arrived_as e ∷ filter (is_live now) (arrivals_as es)) (filter (is_live now) (arrivals_as es)) ≡ arrivals_as (cond c (e ∷ filter (λ x. not (nat_lt (x.1.at + 247000) now)) es) (filter (λ x. not (nat_lt (x.1.at + 247000) now)) es))
+    go : (b c : Bool) → b ≡ c → filter (is_live now) (arrivals_as es) ≡ arrivals_as (filter (λ x. not (nat_lt (x.1.at.0 + exchange_lifetime) now)) es)
+        → cond b (arrived_as e ∷ filter (is_live now) (arrivals_as es)) (filter (is_live now) (arrivals_as es)) ≡ arrivals_as (cond c (e ∷ filter (λ x. not (nat_lt (x.1.at.0 + exchange_lifetime) now)) es) (filter (λ x. not (nat_lt (x.1.at.0 + exchange_lifetime) now)) es))
     go true true h k = ap (λ xs. arrived_as e ∷ xs) k
     go false false h k = k
     go true false h k = absurd (cc h)
     go false true h k = absurd (cc h)
 
-pub later_sorted : {Z : Type 0} (es : List (Key × Kept Z)) → IsNonDecreasingBy (λ e. e.1.at) es → IsNonDecreasingBy (λ e. e.1.at + 247000) es
+pub later_sorted : {Z : Type 0} (es : List (Key × Kept Z)) → IsNonDecreasingBy (λ e. e.1.at.0) es → IsNonDecreasingBy (λ e. e.1.at.0 + exchange_lifetime) es
 later_sorted es h i j d le lt = let k = h i j d le lt in omega (arith, k)
 
 -- the stored reply of the first of two lists that has the message

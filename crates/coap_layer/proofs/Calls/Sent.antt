@@ -12,6 +12,9 @@ use Rattle.coap_layer.specs.Machine.State.{State, Arrived, Step, forgotten, is_b
 use Rattle.coap_layer.specs.Trace.{Busied, Is, Confirm, Content, NoIds, Packet, Plain, Sent, with_head}
 use Rattle.coap_layer.specs.Machine.Ups.{refusal_of, sent_as}
 use Rattle.coap_layer.specs.Words.{Open}
+use Rattle.coap_types.specs.declared.transmission.TheConstants.{ACK_TIMEOUT_MS as ack_timeout, TIMEOUT_VALUES as timeout_values}
+use Rattle.coap_layer.specs.declared.message_id.TheConstants.{GROUP_SIZE as group_size}
+use Rattle.coap_types.specs.declared.message.TheConstants.{MESSAGE_IDS as message_ids}
 use Rattle.coap_layer.proofs.Calls.CallsAreSteps.{con_sent, moved, non_sent, step_of, still}
 
 module _ (h s : State) (now at : ℕ) (to : Endpoint) (content : Content) (is : forgotten h ≡ s) (spelled : IsSpelled content) (moment : at ≡ max h.clock now) where
@@ -31,8 +34,8 @@ module _ (h s : State) (now at : ℕ) (to : Endpoint) (content : Content) (is : 
 
   pub con_left : (word : ℕ) (busy free : Bool) (id : Id) (next : ℕ) (used : List (Option ℕ)) (es : List Arrived) (cs : List Open) (q : List Packet)
       → busy ≡ is_busy to h.open_cons → free ≡ is_free at h.upcoming h.last_used → refusal_of busy free ≡ None → id.0 ≡ h.upcoming
-      → next ≡ (h.upcoming + 1) % 65536 → used ≡ slice_set h.last_used (h.upcoming / 4096) (Some at) → es ≡ h.arrived
-      → cs ≡ h.open_cons ++ record { to = to; id = id.0; bytes = message_bytes (with_head Con id.0 content); timeout = 2000 + word % 1001; first = at; last = at } ∷ []
+      → next ≡ (h.upcoming + 1) % message_ids → used ≡ slice_set h.last_used (h.upcoming / group_size) (Some at) → es ≡ h.arrived
+      → cs ≡ h.open_cons ++ record { to = to; id = id.0; bytes = message_bytes (with_head Con id.0 content); timeout = ack_timeout + word % timeout_values; first = at; last = at } ∷ []
       → q ≡ h.queue ++ record { to = to; bytes = message_bytes (with_head Con id.0 content) } ∷ []
       → Step s now (Confirm to content word) (sent_as (Ok id)) (forgotten (record { clock = at; awaits = None; upcoming = next; last_used = used; arrived = es; open_cons = cs; queue = q }))
   con_left word true free id next used es cs q hb hf e n a b c d f = absurd (cc e)
@@ -56,7 +59,7 @@ module _ (h s : State) (now at : ℕ) (to : Endpoint) (content : Content) (is : 
 
   pub non_left : (free : Bool) (id : Id) (next : ℕ) (used : List (Option ℕ)) (es : List Arrived) (cs : List Open) (q : List Packet)
       → free ≡ is_free at h.upcoming h.last_used → refusal_of false free ≡ None → id.0 ≡ h.upcoming
-      → next ≡ (h.upcoming + 1) % 65536 → used ≡ slice_set h.last_used (h.upcoming / 4096) (Some at) → es ≡ h.arrived → cs ≡ h.open_cons
+      → next ≡ (h.upcoming + 1) % message_ids → used ≡ slice_set h.last_used (h.upcoming / group_size) (Some at) → es ≡ h.arrived → cs ≡ h.open_cons
       → q ≡ h.queue ++ record { to = to; bytes = message_bytes (with_head Non id.0 content) } ∷ []
       → Step s now (Plain to content) (sent_as (Ok id)) (forgotten (record { clock = at; awaits = None; upcoming = next; last_used = used; arrived = es; open_cons = cs; queue = q }))
   non_left false id next used es cs q hf e n a b c d f = absurd (cc e)

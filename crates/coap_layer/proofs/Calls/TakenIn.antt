@@ -21,7 +21,7 @@ use Rattle.coap_layer.proofs.Calls.Remembered.{unknown_filtered, upto_filtered, 
 
 module _ (clock : ℕ) (es fs : List Arrived) (settled : fs ≡ filter (is_live clock) es) where
   pub before_grown : {Z : Type 0} (mark : Mark) (awaits : Option Awaiting) (ids : IdState) (old : List Open) (ds : List (Sending Z)) (q r d : List Packet)
-      → open_before ds ≡ old → r ≡ q ++ d → mark.clock ≡ clock → mark.awaits ≡ awaits → mark.ids ≡ ids → mark.queued ≡ length q
+      → open_before ds ≡ old → r ≡ q ++ d → mark.clock.0 ≡ clock → mark.awaits ≡ awaits → mark.ids ≡ ids → mark.queued ≡ length q
       → before_of (Some mark) fs ds r ≡ Some (forgotten (state_of_parts clock (awaited awaits) ids es old q))
   before_grown mark awaits ids old ds q r d opened sent c w i k =
       let queue : take mark.queued r ≡ q = rw (k, sent) (take-append_seam q d) in
@@ -30,7 +30,7 @@ module _ (clock : ℕ) (es fs : List Arrived) (settled : fs ≡ filter (is_live 
       let awaiting : awaited mark.awaits ≡ awaited awaits = ap awaited w in
       cc (c, here, opened, queue, awaiting, i)
 
-  pub within_grown : (mark : Mark) (q r d : List Packet) → r ≡ q ++ d → mark.queued ≡ length q → mark.clock ≡ clock → IsUpTo clock es → IsWithin (Some mark) fs (length r)
+  pub within_grown : (mark : Mark) (q r d : List Packet) → r ≡ q ++ d → mark.queued ≡ length q → mark.clock.0 ≡ clock → IsUpTo clock es → IsWithin (Some mark) fs (length r)
   within_grown mark q r d sent k c upto =
       let f : length r ≡ length q + length d = ap length sent ∙ length_append q d in
       (omega (arith, f, k), subst (λ n. IsUpTo n fs) (sym c) (subst (IsUpTo clock) (sym settled) (upto_filtered clock clock es upto)))

@@ -12,6 +12,7 @@ use Rattle.coap_layer.specs.Words.{Incoming, clock, Open, ends_in, copies_in, le
 use Rattle.coap_layer.specs.Rows.{Busy, Stands, LayerLaw, Row, Arrives, Sorts, HandedAs, rejects, drops, takes_ack, takes_reset, takes_answer, replays, hands_over, SendsAs, RefusesIds, copies, expires, rests, HasStep, Fails, CopyDue, IsFirst, Copies}
 use Rattle.coap_layer.specs.Follows.{HandedUpOnce, CopyOf, CopiesInTime, IdsApart, OneOutstanding}
 use Rattle.coap_types.proofs.Facts.Traces.{Ever_append}
+use Rattle.coap_types.specs.declared.transmission.TheConstants.{LAST_RETRANSMISSION_MS as last_retransmission, ACK_TIMEOUT_MS as ack_timeout, TIMEOUT_VALUES as timeout_values}
 use Rattle.coap_layer.proofs.Arrivals.HandedUpOnce.{up_new}
 use Rattle.coap_layer.proofs.Machine.WhatIsIssued.{numbers_law}
 use Rattle.coap_layer.proofs.Numbers.EqualIdsAreApart.{apart}
@@ -50,7 +51,7 @@ as_begun c = record c { last = c.first }
 begun_as : (at : ℕ) (to : Endpoint) (content : Content) (wish : ℕ) (o : Option ℕ) (c : Open) → open_of at to content wish o ≡ Some c
     → (c.first ≡ at) × (c.last ≡ at) × (c.to ≡ to) × ((id : ℕ) × (o ≡ Some id))
 begun_as at to content wish (Some id) c h =
-    let new : Open = record { to = to; id = id; bytes = message_bytes (with_head Con id content); timeout = 2000 + wish % 1001; first = at; last = at } in
+    let new : Open = record { to = to; id = id; bytes = message_bytes (with_head Con id content); timeout = ack_timeout + wish % timeout_values; first = at; last = at } in
     let e : new ≡ c = cc h in
     (sym (ap (λ (x : Open). x.first) e), sym (ap (λ (x : Open). x.last) e), sym (ap (λ (x : Open). x.to) e), (id, refl))
 begun_as at to content wish None c h = absurd (cc h)
@@ -143,9 +144,9 @@ copies_row word past e (Room place) to id row h = absurd (⊎_elim (λ k. not_co
 copies_row word past e AsksFree to id row h = absurd (⊎_elim (λ k. not_copied e _ to id k.1 (λ z. cc z) h) (λ k. not_copied e _ to id k.1 (λ z. cc z) h) row.0)
 copies_row word past e Pass to id row h = absurd (not_copied e _ to id row.0 (λ z. cc z) h)
 
-early : (now : ℕ) (con : Open) (cs : List Open) → IsFirst (HasStep now) con cs → (Fails now con → ⊥) → now ≤ con.first + 47000
+early : (now : ℕ) (con : Open) (cs : List Open) → IsFirst (HasStep now) con cs → (Fails now con → ⊥) → now ≤ con.first + last_retransmission
 early now con [] k a = absurd k
-early now con (c ∷ cs) (inl k) a = ⊎_elim (λ f. absurd (a (subst (Fails now) k.0 f))) (λ (d : CopyDue now c). subst (λ (x : Open). now ≤ x.first + 47000) k.0 (let w = d.early in omega (arith, w))) k.1
+early now con (c ∷ cs) (inl k) a = ⊎_elim (λ f. absurd (a (subst (Fails now) k.0 f))) (λ (d : CopyDue now c). subst (λ (x : Open). now ≤ x.first + last_retransmission) k.0 (let w = d.early in omega (arith, w))) k.1
 early now con (c ∷ cs) (inr k) a = early now con cs k.1 a
 
 copy_of : (word : ℕ) (past : List Entry) (e : Entry) (to : Endpoint) (id : ℕ) → LayerLaw word past → Stands word past e → e.answer ≡ Copied to id → CopyOf past e to id

@@ -2,6 +2,7 @@
 use Rattle.std.proofs.Common.{◌≡◌, ◌⊎◌, inl, inr, ⊎_elim, ℕ, zero, suc, ◌+◌, ◌-◌, ◌≤◌, true, false, Some, List, [], ◌∷◌, ap, sym, ◌∙◌, subst, arith, option_to_list}
 use Rattle.std.specs.List.{filter_map}
 use Rattle.coap_types.specs.Past.{Ever, Sometime}
+use Rattle.coap_types.specs.declared.transmission.TheConstants.{MAX_RETRANSMIT as max_retransmit}
 use Rattle.coap_types.proofs.Facts.Traces.{Ever_append, Ever_of_Sometime, Sometime_map}
 use Rattle.coap_layer.specs.Trace.{Call, Answer, Copied, Entry}
 use Rattle.coap_layer.specs.Words.{Open, copies_in, left_by, begun, outstanding}
@@ -120,7 +121,7 @@ counted_in word (e ∷ past) c law x n there is h =
         let at = begins_of e x b in
         begun_here word past e c law f x n (b ∙ ap Some (ap (λ (m : ℕ). record x { last = m }) (at.last_is ∙ sym at.first_is) ∙ is)) h
 
-five_by : (word : ℕ) (t : List Entry) (c : Open) (n : ℕ) → LayerLaw word t → AtLeast n (SendsIt c) t → n ≤ 5
+five_by : (word : ℕ) (t : List Entry) (c : Open) (n : ℕ) → LayerLaw word t → AtLeast n (SendsIt c) t → n ≤ 1 + max_retransmit
 five_by word t c zero law h = omega arith
 five_by word [] c (suc n) law h = absurd h
 five_by word (e ∷ past) c (suc n) law (inr h) = five_by word past c (suc n) law.1 h
@@ -132,8 +133,8 @@ five_by word (e ∷ past) c (suc n) law (inl (inr s, h)) =
     let m = at_most_all q.0.timeout (e.at - q.0.first) in
     sum_up n (count q.0) (passed q.0.timeout (e.at - q.0.first)) k l m
   where
-    sum_up : (n a b : ℕ) → n ≤ a + 1 → a + 1 ≤ b → b ≤ 4 → suc n ≤ 5
+    sum_up : (n a b : ℕ) → n ≤ a + 1 → a + 1 ≤ b → b ≤ max_retransmit → suc n ≤ 1 + max_retransmit
     sum_up n a b h k l = omega (arith, h, k, l)
 
 pub five_at_most : (word : ℕ) (t : List Entry) → LayerLaw word t → FiveAtMost t
-five_at_most word t law c h = let k = five_by word t c 6 law h in absurd (omega (arith, k))
+five_at_most word t law c h = let k = five_by word t c (2 + max_retransmit) law h in absurd (omega (arith, k))

@@ -11,6 +11,7 @@ use Rattle.coap_layer.specs.Rows.{LayerLaw}
 use Rattle.coap_layer.specs.Follows.{HandedUpOnce, CopiesInTime}
 use Rattle.coap_layer.specs.Sends.{Begins, ConsSpelled, SpellsCon, EachGoesOut, TakenSince}
 use Rattle.coap_layer.specs.Channel.{Hop, Far, near_of, HandedAsSpelled, ChannelLaw, BegunAs, NonsSent, HandedOnce}
+use Rattle.coap_types.specs.declared.message.TheConstants.{MESSAGE_IDS as message_ids}
 use Rattle.coap_layer.proofs.Between.WhatComesByType as comes
 use Rattle.coap_layer.proofs.Copies.CopiesInTime as copies
 use Rattle.coap_layer.proofs.Arrivals.HandedAsSpelled as handed
@@ -28,7 +29,7 @@ pub copies_in_time : (word : ℕ) (t : List Entry) → LayerLaw word t → Copie
 copies_in_time = copies.copies_in_time
 
 -- a Message ID has 16 bits
-pub small : (word : ℕ) (t : List Issued) → upcoming word t < 65536
+pub small : (word : ℕ) (t : List Issued) → upcoming word t < message_ids
 small = ids.small
 
 -- what is sent

@@ -8,8 +8,9 @@ use Rattle.coap_codec.specs.Spelling.{message_bytes}
 use Rattle.coap_codec.proofs.Facts.Spelling.{one_spelling, bounded_spelling, spelled_by}
 use Rattle.coap_layer.specs.Sendable.{IsSendableWhenShort}
 use Rattle.coap_layer.specs.Trace.{Content, with_head}
+use Rattle.coap_types.specs.declared.message.TheConstants.{MESSAGE_IDS as message_ids}
 
-can_be : (c : Content) (kind : Kind) (id : ℕ) → id < 65536 → CanBeSpelled (with_head Con 0 c) → CanBeSpelled (with_head kind id c)
+can_be : (c : Content) (kind : Kind) (id : ℕ) → id < message_ids → CanBeSpelled (with_head Con 0 c) → CanBeSpelled (with_head kind id c)
 can_be c kind id small can = record { some = can.some; code = can.code; id = small; token = can.token; order = can.order; numbers = can.numbers; short = can.short }
 
 pub sendable_when_short : IsSendableWhenShort

@@ -8,6 +8,7 @@ use Rattle.coap_codec.specs.Refused.{HasNoSpelling}
 use Rattle.coap_codec.specs.Spelling.{message_bytes}
 use Rattle.coap_layer.specs.Sendable.{IsSendable}
 use Rattle.coap_layer.specs.Trace.{Content, with_head}
+use Rattle.coap_types.specs.declared.message.TheConstants.{MESSAGE_IDS as message_ids}
 
 -- its parts are those of the message
 pub same_message : (kind a : Kind) (id b code d : ℕ) (token t : List ℕ) (options : List CoapOption) (payload : List ℕ) (content : Content)
@@ -18,11 +19,11 @@ same_message kind a id b code d token t options payload content k e i f is =
     let p = ap (λ (c : Content). c.payload) is in
     cc (k, e, i, f, os, p)
 
-pub not_refused : (content : Content) (kind : Kind) (id : ℕ) (m : Message) → IsSendable content → id < 65536 → m ≡ with_head kind id content → HasNoSpelling m 1152 → ⊥
+pub not_refused : (content : Content) (kind : Kind) (id : ℕ) (m : Message) → IsSendable content → id < message_ids → m ≡ with_head kind id content → HasNoSpelling m 1152 → ⊥
 not_refused content kind id m ok small is none =
     subst (λ x. HasNoSpelling x 1152) is none (message_bytes (with_head kind id content)) (ok.spelled kind id small) (ok.fits kind id small)
 
-pub spelled_so : OneSpelling → (content : Content) (kind : Kind) (id : ℕ) (m : Message) (bytes : List ℕ) → IsSendable content → id < 65536 → m ≡ with_head kind id content → Spells bytes m
+pub spelled_so : OneSpelling → (content : Content) (kind : Kind) (id : ℕ) (m : Message) (bytes : List ℕ) → IsSendable content → id < message_ids → m ≡ with_head kind id content → Spells bytes m
     → bytes ≡ message_bytes (with_head kind id content)
 spelled_so one content kind id m bytes ok small is spells =
     one (with_head kind id content) bytes (message_bytes (with_head kind id content)) (subst (Spells bytes) is spells) (ok.spelled kind id small)

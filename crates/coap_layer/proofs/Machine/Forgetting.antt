@@ -10,12 +10,14 @@ use Rattle.coap_layer.specs.Words.{Incoming, awaits_in, issued, clock, is_con, l
 use Rattle.coap_layer.specs.Machine.State.{State, May, history, Arrived, is_live, is_of, is_remembered, is_full, is_free, is_outstanding, reply_of, replay, to_packets, sorted_by, answer_to, answer_of, out_to, out_of, stores, newly, next_after, uses_after, after, forgotten, moment, made, Step}
 use Rattle.coap_layer.specs.Rows.{Stands, LayerLaw}
 use Rattle.coap_layer.specs.Machine.LayerLed.{LayerLed}
+use Rattle.coap_types.specs.declared.transmission.TheConstants.{EXCHANGE_LIFETIME_MS as exchange_lifetime}
+use Rattle.coap_layer.specs.declared.dedup.TheConstants.{MAX_REMEMBERED as max_remembered}
 use Rattle.coap_layer.proofs.ListLemmas.{le_true, true_le, and_left, filter_implied, any_implied, filter_more, filter_changed}
 use Rattle.coap_layer.proofs.Machine.WhatIsRemembered.{same_live}
 use Rattle.coap_layer.proofs.Machine.RowsAreSteps.{IsMoment, row_of}
 
 pub live_before : (now later : ℕ) (a : Arrived) → now ≤ later → is_live later a ≡ true → is_live now a ≡ true
-live_before now later a le h = true_le now (a.at + 247000) (let k = le_true later (a.at + 247000) h in omega (arith, k, le))
+live_before now later a le h = true_le now (a.at + exchange_lifetime) (let k = le_true later (a.at + exchange_lifetime) h in omega (arith, k, le))
 
 pub of_live : (now : ℕ) (from : Endpoint) (id : ℕ) (a : Arrived) → is_of now from id a ≡ true → is_live now a ≡ true
 of_live now from id a h = and_left (is_live now a) _ h
@@ -40,7 +42,7 @@ module _ (h : State) (at : ℕ) (le : h.clock ≤ at) where
   same_sorted m =
       let known : is_remembered at m.from m.message.id (filter (is_live h.clock) h.arrived) ≡ is_remembered at m.from m.message.id h.arrived
       = any_implied (is_live h.clock) (is_of at m.from m.message.id) (λ a k. live_before h.clock at a le (of_live at m.from m.message.id a k)) h.arrived in
-      let full : is_full at (filter (is_live h.clock) h.arrived) ≡ is_full at h.arrived = ap (λ es. nat_le 4096 (length es)) live_then in
+      let full : is_full at (filter (is_live h.clock) h.arrived) ≡ is_full at h.arrived = ap (λ es. nat_le max_remembered (length es)) live_then in
       let free : Bool = is_free at h.upcoming h.last_used in
       ap (λ r. up_of m.message.kind (role_of m.message.code) m.message (is_outstanding m.from m.message.id h.open_cons) r (is_full at (filter (is_live h.clock) h.arrived)) free) known
       ∙ ap (λ f. up_of m.message.kind (role_of m.message.code) m.message (is_outstanding m.from m.message.id h.open_cons) (is_remembered at m.from m.message.id h.arrived) f free) full

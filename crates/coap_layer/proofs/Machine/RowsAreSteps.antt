@@ -16,6 +16,7 @@ use Rattle.coap_layer.specs.Ids as ids
 use Rattle.coap_layer.specs.Words.{Incoming, clock, numbers, Remembered, remembered, was_con, replied, is_con, Open, is_to, outstanding}
 use Rattle.coap_layer.specs.Machine.State.{State, May, history, answer_of, out_of, answer_to, out_to, sorted_by, sending, sent_out, replay, is_outstanding, is_busy, is_remembered, is_full, is_free, to_packets, next_id, uses, tick_of}
 use Rattle.coap_layer.specs.Rows.{Outstanding, Busy, MayGive, Withholds, Ignores, ignores_non, ignores_reset, ignores_ack, ignores_unmatched, ignores_new, Drops, HandedAs, Sorts, rejects, drops, takes_ack, takes_reset, takes_answer, replays, hands_over, Arrives, stored, SendsAs, RefusesIds, Confirms, Turns, copies, expires, rests, Row, Stands, LayerLaw}
+use Rattle.coap_layer.specs.declared.message_id.TheConstants.{GROUP_SIZE as group_size}
 use Rattle.coap_layer.proofs.ListLemmas.{le_true, true_le, any_ever, ever_any}
 use Rattle.coap_layer.proofs.Machine.WhatIsRemembered.{remembered_of, of_remembered, count_is}
 use Rattle.coap_layer.proofs.Machine.WhatIsReplied.{found_is}
@@ -53,8 +54,8 @@ module _ (word : ℕ) (t : List Entry) where
   known_is : (now : ℕ) (from : Endpoint) (id : ℕ) → Decides (is_remembered now from id h.arrived) (Remembered t now from id)
   known_is now from id = decided _ _ (remembered_of now from id t) (of_remembered now from id t)
 
-  full_is : (now : ℕ) → Decides (is_full now h.arrived) (4096 ≤ remembered now t)
-  full_is now = subst (λ n. Decides (nat_le 4096 n) (4096 ≤ remembered now t)) (sym (count_is now t)) (decided (nat_le 4096 (remembered now t)) _ (le_true 4096 (remembered now t)) (true_le 4096 (remembered now t)))
+  full_is : (now : ℕ) → Decides (is_full now h.arrived) (group_size ≤ remembered now t)
+  full_is now = subst (λ n. Decides (nat_le group_size n) (group_size ≤ remembered now t)) (sym (count_is now t)) (decided (nat_le group_size (remembered now t)) _ (le_true group_size (remembered now t)) (true_le group_size (remembered now t)))
 
   stored_shape : (c w : Bool) (to : Endpoint) (r : Option (List ℕ))
       → cond c (to_packets to (cond w r None)) [] ≡ cond (c && w) (elim r [ Some bytes ↦ record { to = to; bytes = bytes } ∷ [] | None ↦ [] ]) []
@@ -101,7 +102,7 @@ module _ (word : ℕ) (t : List Entry) where
     R = Remembered t e.at m.from m.message.id
 
     abbrev F : Type 0
-    F = 4096 ≤ remembered e.at t
+    F = group_size ≤ remembered e.at t
 
     abbrev Out : Type 0
     Out = (e.answer ≡ Becomes Rejected → e.out ≡ replay h e.at m Rejected) × (e.answer ≡ Becomes Replayed → e.out ≡ stored t m) × (e.answer ≢ Becomes Rejected → e.answer ≢ Becomes Replayed → e.out ≡ [])

@@ -11,6 +11,8 @@ use Rattle.coap_layer.specs.Trace.{Content, Call, Receive, Reply, Confirm, Plain
 use Rattle.coap_layer.specs.Words.{Incoming, clock, issued_by, issued, numbers}
 use Rattle.coap_layer.specs.Rows.{LayerLaw, Row, Arrives, Sorts, HandedAs, rejects, drops, takes_ack, takes_reset, takes_answer, replays, hands_over, SendsAs, RefusesIds, Turns, copies, expires, rests}
 use Rattle.coap_layer.specs.Machine.State.{next_after, uses_after, next_id, uses, is_rested, is_free}
+use Rattle.coap_types.specs.declared.transmission.TheConstants.{ID_REUSE_AFTER_MS as id_reuse_after}
+use Rattle.coap_layer.specs.declared.message_id.TheConstants.{GROUP_SIZE as group_size}
 use Rattle.coap_layer.proofs.Numbers.StepsOfASource.{uses_more}
 use Rattle.coap_layer.proofs.Numbers.EqualIdsAreApart.{small, not_both}
 
@@ -120,31 +122,31 @@ Chooses false P Q = Q
 
 rested_is : (now : ℕ) (o : Option ℕ) → Chooses (is_rested now (Some o)) (IsRested o now) (IsHeld o now)
 rested_is now None = tt
-rested_is now (Some last) = go (nat_lt (last + 400000) now) refl
+rested_is now (Some last) = go (nat_lt (last + id_reuse_after) now) refl
   where
-    go : (b : Bool) → nat_lt (last + 400000) now ≡ b → Chooses b (last + 400000 < now) (now ≤ last + 400000)
+    go : (b : Bool) → nat_lt (last + id_reuse_after) now ≡ b → Chooses b (last + id_reuse_after < now) (now ≤ last + id_reuse_after)
     go true h = grind (arith, nat_tests, h)
     go false h = grind (arith, nat_tests, h)
 
 pub free_is : (word : ℕ) (past : List Issued) (us : List (Option ℕ)) (now : ℕ) → AreUses past us
     → Chooses (is_free now (upcoming word past) us) (MayGive word past now) (Withholds word past now)
-free_is word past us now h = go (upcoming word past % 4096 == 0) refl
+free_is word past us now h = go (upcoming word past % group_size == 0) refl
   where
     n : ℕ
     n = upcoming word past
 
-    there : slice_get us (n / 4096) ≡ Some (last_use past (n / 4096))
-    there = h (n / 4096) (let l = small word past in omega (arith, l))
+    there : slice_get us (n / group_size) ≡ Some (last_use past (n / group_size))
+    there = h (n / group_size) (let l = small word past in omega (arith, l))
 
-    rest : (b : Bool) → n % 4096 ≡ 0 → Chooses b (IsRested (last_use past (n / 4096)) now) (IsHeld (last_use past (n / 4096)) now)
+    rest : (b : Bool) → n % group_size ≡ 0 → Chooses b (IsRested (last_use past (n / group_size)) now) (IsHeld (last_use past (n / group_size)) now)
         → Chooses b (MayGive word past now) (Withholds word past now)
     rest true spent r = λ z. r
     rest false spent r = record { spent = spent; held = r }
 
-    go : (b : Bool) → (n % 4096 == 0) ≡ b → Chooses (not b || is_rested now (slice_get us (n / 4096))) (MayGive word past now) (Withholds word past now)
+    go : (b : Bool) → (n % group_size == 0) ≡ b → Chooses (not b || is_rested now (slice_get us (n / group_size))) (MayGive word past now) (Withholds word past now)
     go true k =
         rest _ (grind (arith, nat_tests, k))
-        (subst (λ o. Chooses (is_rested now o) (IsRested (last_use past (n / 4096)) now) (IsHeld (last_use past (n / 4096)) now)) (sym there) (rested_is now (last_use past (n / 4096))))
+        (subst (λ o. Chooses (is_rested now o) (IsRested (last_use past (n / group_size)) now) (IsHeld (last_use past (n / group_size)) now)) (sym there) (rested_is now (last_use past (n / group_size))))
     go false k = λ z. absurd (grind (arith, nat_tests, k, z))
 
 -- a number may be given, or none may

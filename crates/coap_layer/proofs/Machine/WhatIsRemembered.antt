@@ -5,6 +5,7 @@ use Rattle.coap_types.specs.declared.endpoint.Endpoint.{Endpoint}
 use Rattle.coap_layer.specs.Trace.{Entry}
 use Rattle.coap_layer.specs.Words.{Incoming, taken, is_from, hands_up, HandsUpSince, Remembered, remembered, is_con, reply_in}
 use Rattle.coap_layer.specs.Machine.State.{arrivals, Arrived, stores, newly, is_live, is_of, is_remembered}
+use Rattle.coap_types.specs.declared.transmission.TheConstants.{EXCHANGE_LIFETIME_MS as exchange_lifetime}
 use Rattle.coap_layer.proofs.ListLemmas.{le_true, true_le, and_left, and_right, both, or_comm, any_append, any_changed, filter_more, filter_changed, length_map, length_append, any_ever, ever_any}
 
 -- a reply changes nothing of an arrival but its reply
@@ -27,11 +28,11 @@ module _ (e : Entry) (a : Arrived) where
 
 -- the same test, over the trace
 abbrev pub known : ℕ → Endpoint → ℕ → List Entry → Bool
-known now from id t = list_any (λ e. nat_le now (e.at + 247000) && hands_up from id e) t
+known now from id t = list_any (λ e. nat_le now (e.at + exchange_lifetime) && hands_up from id e) t
 
 known_step : (now : ℕ) (from : Endpoint) (id : ℕ) (at : ℕ) (o : Option Incoming)
-    → list_any (is_of now from id) (newly at o) ≡ (nat_le now (at + 247000) && elim o [ Some m ↦ is_from from id m | None ↦ false ])
-known_step now from id at None = go (nat_le now (at + 247000))
+    → list_any (is_of now from id) (newly at o) ≡ (nat_le now (at + exchange_lifetime) && elim o [ Some m ↦ is_from from id m | None ↦ false ])
+known_step now from id at None = go (nat_le now (at + exchange_lifetime))
   where
     go : (b : Bool) → false ≡ (b && false)
     go true = refl
@@ -57,9 +58,9 @@ pub of_remembered : (now : ℕ) (from : Endpoint) (id : ℕ) (t : List Entry) �
 of_remembered now from id t h = known_is now from id t ∙ ever_any _ (HandsUpSince now from id) (λ e k. both _ _ (true_le _ _ k.young) k.up) t h
 
 count_step : (now at n : ℕ) (o : Option Incoming)
-    → n + length (filter (is_live now) (newly at o)) ≡ elim o [ Some m ↦ (if nat_le now (at + 247000) then 1 + n else n) | None ↦ n ]
+    → n + length (filter (is_live now) (newly at o)) ≡ elim o [ Some m ↦ (if nat_le now (at + exchange_lifetime) then 1 + n else n) | None ↦ n ]
 count_step now at n None = omega arith
-count_step now at n (Some m) = go (nat_le now (at + 247000))
+count_step now at n (Some m) = go (nat_le now (at + exchange_lifetime))
   where
     new : Arrived
     new = record { from = m.from; id = m.message.id; at = at; con = is_con m.message.kind; reply = None }

@@ -8,6 +8,7 @@ use Rattle.coap_layer.specs.Trace.{Entry}
 use Rattle.coap_layer.specs.Words.{Incoming, clock, taken, is_from, Remembered, is_con, was_con, reply_in, replied}
 use Rattle.coap_layer.specs.Machine.State.{arrivals, Arrived, stores, newly, is_live, is_of, is_remembered, reply_of}
 use Rattle.coap_layer.specs.Rows.{Stands, LayerLaw}
+use Rattle.coap_types.specs.declared.transmission.TheConstants.{EXCHANGE_LIFETIME_MS as exchange_lifetime}
 use Rattle.coap_layer.proofs.ListLemmas.{same_nat, and_left, and_right, not_true, any_append, any_changed}
 use Rattle.coap_layer.proofs.Machine.WhatIsRemembered.{same_of, same_con, remembered_of}
 use Rattle.coap_layer.proofs.Arrivals.HandedUpOnce.{new_only}
@@ -118,7 +119,7 @@ module _ (now : ℕ) (from : Endpoint) (id : ℕ) where
         → list_any (is_of now from id) (stored_xs ++ newly e.at (Some m)) ≡ true → (is_remembered now from id (arrivals past) ≡ true → Found past)
         → (con_of now from id (stored_xs ++ newly e.at (Some m)) ≡ cond b (is_con m.message.kind) (was_con from id past))
         × (reply_of now from id (stored_xs ++ newly e.at (Some m)) ≡ cond (cond b (is_con m.message.kind) (was_con from id past)) (cond b None (elim (reply_in from id e.call) [ Some bytes ↦ Some bytes | None ↦ replied from id past ])) None)
-    new_found word m false is up law le h found = kept_found (newly e.at (Some m)) (go (list_any (is_of now from id) stored_xs) (sym (any_append (is_of now from id) stored_xs (newly e.at (Some m))) ∙ h) (quiet (nat_le now (e.at + 247000)))) found
+    new_found word m false is up law le h found = kept_found (newly e.at (Some m)) (go (list_any (is_of now from id) stored_xs) (sym (any_append (is_of now from id) stored_xs (newly e.at (Some m))) ∙ h) (quiet (nat_le now (e.at + exchange_lifetime)))) found
       where
         quiet : (c : Bool) → ((c && is_from from id m) || false) ≡ false
         quiet true = rw is refl

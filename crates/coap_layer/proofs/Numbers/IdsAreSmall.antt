@@ -5,11 +5,12 @@ use Rattle.coap_layer.specs.Trace.{Sent, Entry}
 use Rattle.coap_layer.specs.Words.{numbers}
 use Rattle.coap_layer.specs.Rows.{LayerLaw}
 use Rattle.coap_layer.specs.Follows.{IdsSmall}
+use Rattle.coap_types.specs.declared.message.TheConstants.{MESSAGE_IDS as message_ids}
 use Rattle.coap_layer.proofs.Numbers.EqualIdsAreApart.{small}
 use Rattle.coap_layer.proofs.Machine.WhatIsIssued.{numbers_law}
 use Rattle.coap_layer.proofs.Numbers.OneEntryForAnId.{sent_number}
 
-small_here : (word : ℕ) (past : List Entry) (e : Entry) (id : ℕ) → LayerLaw word (e ∷ past) → e.answer ≡ Sent id → id < 2 ^ 16
+small_here : (word : ℕ) (past : List Entry) (e : Entry) (id : ℕ) → LayerLaw word (e ∷ past) → e.answer ≡ Sent id → id < message_ids
 small_here word past e id law h =
     let numbered : NumbersLaw word (record { at = e.at; id = id } ∷ numbers past) = subst (λ (gs : List Issued). NumbersLaw word (gs ++ numbers past)) (sent_number e id h) (numbers_law word (e ∷ past) law) in
     let next = numbered.0.right.next in

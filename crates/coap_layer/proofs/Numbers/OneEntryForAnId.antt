@@ -10,6 +10,7 @@ use Rattle.coap_layer.specs.Trace.{Content, with_head, Call, Receive, Reply, Con
 use Rattle.coap_layer.specs.Words.{Open, sent_by, open_of, begun_in, begun, issued_by, issued, numbers}
 use Rattle.coap_layer.specs.Rows.{LayerLaw}
 use Rattle.coap_layer.specs.Sends.{Begins}
+use Rattle.coap_types.specs.declared.transmission.TheConstants.{ID_REUSE_AFTER_MS as id_reuse_after, ACK_TIMEOUT_MS as ack_timeout, TIMEOUT_VALUES as timeout_values}
 use Rattle.coap_layer.proofs.Copies.CopiesInTime.{ids_apart}
 
 sent_is : (a : Answer) (id : ℕ) → sent_by a ≡ Some id → a ≡ Sent id
@@ -27,7 +28,7 @@ sent_is (Gives p) id h = absurd (cc h)
 begins_as : (at : ℕ) (to : Endpoint) (content : Content) (word : ℕ) (answer : Answer) (o : Option ℕ) (c : Open) → sent_by answer ≡ o → open_of at to content word o ≡ Some c → Begins at (Confirm to content word) answer c
 begins_as at to content word answer None c s h = absurd (cc h)
 begins_as at to content word answer (Some id) c s h =
-    let new : Open = record { to = to; id = id; bytes = message_bytes (with_head Con id content); timeout = 2000 + word % 1001; first = at; last = at } in
+    let new : Open = record { to = to; id = id; bytes = message_bytes (with_head Con id content); timeout = ack_timeout + word % timeout_values; first = at; last = at } in
     let e : new ≡ c = cc h in
     subst (Begins at (Confirm to content word) answer) e (record { content = content; word = word; call_is = refl; answer_is = sent_is answer id s; first_is = refl; last_is = refl; bytes_are = refl })
 
@@ -60,7 +61,7 @@ pub begun_number : (e : Entry) (c : Open) → begun e ≡ Some c → Numbers (nu
 begun_number e c h = let b = begins_of e c h in sent_number e c.id b.answer_is ∙ ap (λ (n : ℕ). record { at = n; id = c.id } ∷ []) (sym b.first_is)
 
 abbrev Near : Issued → Issued → Type 0
-Near g h = (h.id ≡ g.id) × (g.at ≤ h.at + 400000)
+Near g h = (h.id ≡ g.id) × (g.at ≤ h.at + id_reuse_after)
 
 fresh_in : (gs past : List Issued) (g : Issued) → gs ≡ g ∷ [] → AreApart (gs ++ past) → Ever (Near g) past → ⊥
 fresh_in gs past g is apart k = (subst (λ (xs : List Issued). AreApart (xs ++ past)) is apart).0 k
@@ -68,14 +69,14 @@ fresh_in gs past g is apart k = (subst (λ (xs : List Issued). AreApart (xs ++ p
 fresh : (word : ℕ) (past : List Entry) (e : Entry) (g : Issued) → LayerLaw word (e ∷ past) → Numbers g e → Ever (Near g) (numbers past) → ⊥
 fresh word past e g law is k = fresh_in (issued e) (numbers past) g is (ids_apart word (e ∷ past) law) k
 
-given_there : (g h : Issued) → h.id ≡ g.id → g.at ≤ h.at + 400000 → (P : Entry → Type 0) → ((e : Entry) → P e → Numbers h e) → (t : List Entry) → Ever P t → Ever (Near g) (numbers t)
+given_there : (g h : Issued) → h.id ≡ g.id → g.at ≤ h.at + id_reuse_after → (P : Entry → Type 0) → ((e : Entry) → P e → Numbers h e) → (t : List Entry) → Ever P t → Ever (Near g) (numbers t)
 given_there g h id le P f t k = Ever_out issued (Near g) t (Ever_map P (λ e. Ever (Near g) (issued e)) here t k)
   where
     here : (e : Entry) → P e → Ever (Near g) (issued e)
     here e p = subst (Ever (Near g)) (sym (f e p)) (inl (id, le))
 
 -- equal numbers that are no more than 400 s apart are given by one entry
-module _ (P Q : Entry → Type 0) (g h : Issued) (f : (e : Entry) → P e → Numbers g e) (k : (e : Entry) → Q e → Numbers h e) (id : g.id ≡ h.id) (before : g.at ≤ h.at + 400000) (after : h.at ≤ g.at + 400000) where
+module _ (P Q : Entry → Type 0) (g h : Issued) (f : (e : Entry) → P e → Numbers g e) (k : (e : Entry) → Q e → Numbers h e) (id : g.id ≡ h.id) (before : g.at ≤ h.at + id_reuse_after) (after : h.at ≤ g.at + id_reuse_after) where
   pub one_entry : (word : ℕ) (t : List Entry) → LayerLaw word t → Ever P t → Ever Q t → Ever (λ e. P e × Q e) t
   one_entry word [] law a b = a
   one_entry word (e ∷ past) law (inl a) (inl b) = inl (a, b)
@@ -87,7 +88,7 @@ abbrev pub IsBegun : Open → Entry → Type 0
 IsBegun c e = begun e ≡ Some c
 
 -- two CONs under one Message ID, begun no more than 400 s apart, are one
-pub one_con : (word : ℕ) (t : List Entry) (c d : Open) → LayerLaw word t → Ever (IsBegun c) t → Ever (IsBegun d) t → c.id ≡ d.id → c.first ≤ d.first + 400000 → d.first ≤ c.first + 400000 → c ≡ d
+pub one_con : (word : ℕ) (t : List Entry) (c d : Open) → LayerLaw word t → Ever (IsBegun c) t → Ever (IsBegun d) t → c.id ≡ d.id → c.first ≤ d.first + id_reuse_after → d.first ≤ c.first + id_reuse_after → c ≡ d
 one_con word t c d law a b id before after =
     forget (c ≡ d) t (Ever_map _ _ (λ e k. let p = k.0 in let q = k.1 in cc (p, q)) t
     (one_entry (IsBegun c) (IsBegun d) (number_of c) (number_of d) (λ e. begun_number e c) (λ e. begun_number e d) id before after word t law a b))
@@ -100,7 +101,7 @@ pub record SendsPlain (id at : ℕ) (e : Entry) : Type 0 where
   pub answer : e.answer ≡ Sent id
   pub at_is : e.at ≡ at
 
-pub no_plain : (word : ℕ) (t : List Entry) (c : Open) (at : ℕ) → LayerLaw word t → Ever (IsBegun c) t → Ever (SendsPlain c.id at) t → c.first ≤ at + 400000 → at ≤ c.first + 400000 → ⊥
+pub no_plain : (word : ℕ) (t : List Entry) (c : Open) (at : ℕ) → LayerLaw word t → Ever (IsBegun c) t → Ever (SendsPlain c.id at) t → c.first ≤ at + id_reuse_after → at ≤ c.first + id_reuse_after → ⊥
 no_plain word t c at law a b before after =
     forget ⊥ t (Ever_map _ _ both t
     (one_entry (IsBegun c) (SendsPlain c.id at) (number_of c) (record { at = at; id = c.id }) (λ e. begun_number e c) numbered refl before after word t law a b))

@@ -18,6 +18,8 @@ use Rattle.coap_layer.proofs.Numbers.OneEntryForAnId.{begins_of}
 use Rattle.coap_layer.proofs.ListLemmas.{both}
 use Rattle.coap_types.proofs.Facts.Traces.{Ever_map}
 use Rattle.std.proofs.lemmas.Bool.Decides.{nat_tests}
+use Rattle.coap_types.specs.declared.transmission.TheConstants.{ACK_TIMEOUT_MS as ack_timeout, TIMEOUT_VALUES as timeout_values}
+use Rattle.coap_types.specs.declared.message.TheConstants.{MESSAGE_IDS as message_ids}
 
 -- a CON that begins goes out, and is spelled so
 pub record ConGoes (e : Entry) (c : Open) : Type 0 where
@@ -39,7 +41,7 @@ con_row word past e c here h = go row.1
     go (inr (f, inr r)) =
         let id_is : r.id ≡ c.id = let k = b.answer_is in let l = r.answer in cc (k, l) in
         let bytes_is : message_bytes (with_head Con r.id b.content) ≡ c.bytes = ap (λ (n : ℕ). message_bytes (with_head Con n b.content)) id_is ∙ sym b.bytes_are in
-        let bound : c.id < 65536 = let k = r.gives.next in let l = small word (numbers past) in omega (arith, id_is, k, l) in
+        let bound : c.id < message_ids = let k = r.gives.next in let l = small word (numbers past) in omega (arith, id_is, k, l) in
         record {
           out = r.out ∙ ap (λ (x : List ℕ). record { to = c.to; bytes = x } ∷ []) bytes_is;
           spells = (with_head Con c.id b.content, subst (λ (x : List ℕ). Spells x (with_head Con c.id b.content)) (sym b.bytes_are) (row.0 Con c.id bound), refl, refl);
@@ -161,7 +163,7 @@ module _ (word : ℕ) (past : List Entry) (e : Entry) (p : Packet) (law : LayerL
   confirmed_out to content wish call (inr (f, inr r)) =
       subst (GoesOut past e) (one_out p _ e.out r.out sends)
       (first (record {
-        con = record { to = to; id = r.id; bytes = message_bytes (with_head Con r.id content); timeout = 2000 + wish % 1001; first = e.at; last = e.at };
+        con = record { to = to; id = r.id; bytes = message_bytes (with_head Con r.id content); timeout = ack_timeout + wish % timeout_values; first = e.at; last = e.at };
         begins = ap (λ (x : Call). begun_in e.at x e.answer) call ∙ ap (λ (x : Answer). open_of e.at to content wish (sent_by x)) r.answer;
         is = refl;
       }))

@@ -63,7 +63,9 @@ abbrev pub sent_by : ℕ → Endpoint → List Arrived → Arriving → List Pac
 sent_by at from es a = sends a.verdict a.kind a.id.0 at from es
 
 abbrev pub newly_by : ℕ → Endpoint → Arriving → List Arrived
-newly_by at from a = if keeps a.verdict a.kind then record { from = from; id = a.id.0; at = at; con = is_con a.kind; reply = None } ∷ [] else []
+newly_by at from a =
+    if keeps a.verdict a.kind then record { from = from; id = a.id.0; at = at; con = is_con a.kind; reply = None } ∷ []
+    else []
 
 abbrev pub awaits_by : Endpoint → Arriving → Option Awaited
 awaits_by from a = if hands a.verdict a.kind then Some (record { from = from; id = a.id.0 }) else None
@@ -78,7 +80,11 @@ open_by from a cs = if ends a.verdict then without_open from a.id.0 cs else cs
 -- what the layer does at an arrival is what the table of arrivals says
 pub record IsArriving (s : State) (at : ℕ) (from : Endpoint) (what : Arrival) (a : Arriving) : Type 0 where
   pub out : out_to s at from what ≡ sent_by at from s.arrived a
-  pub taken : (bytes : List ℕ) → newly at (taken_in (Receive from bytes) (Becomes (answer_to s at from what))) ≡ newly_by at from a
-  pub awaits : (bytes : List ℕ) (old : Option Awaited) → awaits_in (Receive from bytes) (Becomes (answer_to s at from what)) old ≡ awaits_by from a
-  pub ended : (bytes : List ℕ) (to : Endpoint) (id : ℕ) → ends_in (Receive from bytes) (Becomes (answer_to s at from what)) to id ≡ (ends a.verdict && same from a.id.0 to id)
+  pub taken : (bytes : List ℕ) → newly at (taken_in (Receive from bytes) (Becomes (answer_to s at from what)))
+      ≡ newly_by at from a
+  pub awaits : (bytes : List ℕ) (old : Option Awaited)
+      → awaits_in (Receive from bytes) (Becomes (answer_to s at from what)) old ≡ awaits_by from a
+  pub ended : (bytes : List ℕ) (to : Endpoint) (id : ℕ)
+      → ends_in (Receive from bytes) (Becomes (answer_to s at from what)) to id
+      ≡ (ends a.verdict && same from a.id.0 to id)
   pub new : hands a.verdict a.kind ≡ true → is_remembered at from a.id.0 s.arrived ≡ false

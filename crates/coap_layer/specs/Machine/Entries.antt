@@ -12,7 +12,14 @@ use Rattle.coap_layer.specs.Machine.State.{Arrived, is_live, is_remembered, stor
 use Rattle.coap_layer.specs.Trace.{Nothing, Reply}
 
 abbrev pub arrived_as : {Z : Type 0} → Key × Kept Z → Arrived
-arrived_as {Z} e = record { from = e.0.from; id = e.0.id.0; at = e.1.at; con = e.1.con; reply = option_map (λ (v : Vec ℕ Z). v.items) e.1.reply }
+arrived_as {Z} e =
+    record {
+      from = e.0.from;
+      id = e.0.id.0;
+      at = e.1.at.0;
+      con = e.1.con;
+      reply = option_map (λ (v : Vec ℕ Z). v.items) e.1.reply;
+    }
 
 abbrev pub arrivals_as : {Z : Type 0} → List (Key × Kept Z) → List Arrived
 arrivals_as es = map arrived_as es
@@ -24,7 +31,7 @@ same_key a b = same_endpoint a.from b.from && (a.id.0 == b.id.0)
 -- .. where it is still remembered
 abbrev pub live_of : {Z : Type 0} → ℕ → Option (Kept Z) → Option (Kept Z)
 live_of now None = None
-live_of now (Some k) = if nat_le now (k.at + exchange_lifetime) then Some k else None
+live_of now (Some k) = if nat_le now (k.at.0 + exchange_lifetime) then Some k else None
 
 -- the messages of the inputs before the last, in the order of their arrival, that of the last, and how many more fit
 pub record Memory : Type 0 where

@@ -4,6 +4,7 @@ use Rattle.coap_types.specs.declared.message.Id.{Id}
 use Rattle.coap_layer.specs.Machine.IdState.{IdState, number_in}
 use Rattle.coap_layer.specs.Machine.State.{is_free}
 use Rattle.coap_layer.specs.declared.message_id.TheConstants.{GROUP_SIZE as group_size}
+use Rattle.coap_types.specs.declared.message.TheConstants.{MESSAGE_IDS as message_ids}
 
 -- whether a number may be given
 abbrev pub may_now : IdState → ℕ → Bool
@@ -18,5 +19,6 @@ pub record Asks (old : IdState) (now : ℕ) (answer : Bool) (new : IdState) : Ty
 pub record Draws (old : IdState) (now : ℕ) (answer : Option Id) (new : IdState) : Type 0 where
   pub answer_is : number_in answer ≡ (if may_now old now then Some old.upcoming else None)
   pub clock : new.clock ≡ max old.clock now
-  pub upcoming : new.upcoming ≡ (if may_now old now then (old.upcoming + 1) % 65536 else old.upcoming)
-  pub last_used : new.last_used ≡ (if may_now old now then slice_set old.last_used (old.upcoming / group_size) (Some (max old.clock now)) else old.last_used)
+  pub upcoming : new.upcoming ≡ (if may_now old now then (old.upcoming + 1) % message_ids else old.upcoming)
+  pub last_used : new.last_used ≡ (if may_now old now then slice_set old.last_used (old.upcoming / group_size) (Some (max old.clock now))
+      else old.last_used)

@@ -11,7 +11,8 @@ Moves old now call answer new = Step old.state now call answer new.state
 
 -- what led to the layer, and then the call, leads to the layer as it is then
 abbrev pub Leads : Shown → ℕ → Call → Shown → Type 0
-Leads old now call new = (word : ℕ) (t : List Entry) → LayerLed word t old.state → LayerLed word (made old.state now call ∷ t) new.state
+Leads old now call new =
+    (word : ℕ) (t : List Entry) → LayerLed word t old.state → LayerLed word (made old.state now call ∷ t) new.state
 
 -- what the layer would answer to the call at this moment
 abbrev pub would_answer : Shown → ℕ → Call → Answer

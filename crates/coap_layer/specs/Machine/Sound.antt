@@ -12,7 +12,7 @@ use Rattle.coap_types.specs.declared.limits.TheConstants.{MAX_MESSAGE_LEN as max
 -- what the last input found is still there, and none that is settled arrived later than that found
 abbrev pub IsWithin : Option Mark → List Arrived → ℕ → Type 0
 IsWithin None es queued = Unit {0}
-IsWithin (Some m) es queued = (m.queued ≤ queued) × IsUpTo m.clock es
+IsWithin (Some m) es queued = (m.queued ≤ queued) × IsUpTo m.clock.0 es
 
 -- each buffer has room for a message of the greatest length
 abbrev pub HasBuffers : {Z : Type 0} → Room Z → Type 0
@@ -21,7 +21,9 @@ HasBuffers r = (max_message_len ≤ vec_capacity r.sent) × (max_message_len ≤
 -- .. and there is a place for it among what is outstanding, and among what waits
 abbrev pub HasRoom : {Z X Y : Type 0} → Option (Room Z) → Lists Z X Y → Type 0
 HasRoom None lists = Unit {0}
-HasRoom (Some r) lists = HasBuffers r × (vec_len lists.sendings < vec_capacity lists.sendings) × (deque_len lists.waiting < deque_capacity lists.waiting)
+HasRoom (Some r) lists =
+    HasBuffers r × (vec_len lists.sendings < vec_capacity lists.sendings)
+    × (deque_len lists.waiting < deque_capacity lists.waiting)
 
 -- no settled message is the one that a reply may be given to
 abbrev pub IsUnknown : ℕ → Option Awaited → (replies : Bool) → List Arrived → Type 0

@@ -18,6 +18,7 @@ use Rattle.coap_layer.specs.Rows.{IsSpelled, reset_to}
 use Rattle.coap_types.specs.declared.transmission.TheConstants.{EXCHANGE_LIFETIME_MS as exchange_lifetime, ID_REUSE_AFTER_MS as id_reuse_after, LAST_RETRANSMISSION_MS as last_retransmission, MAX_RETRANSMIT as max_retransmit, FAILURE_TIMEOUTS as failure_timeouts}
 use Rattle.coap_layer.specs.declared.dedup.TheConstants.{MAX_REMEMBERED as max_remembered}
 use Rattle.coap_layer.specs.declared.message_id.TheConstants.{GROUP_SIZE as group_size, GROUPS as groups}
+use Rattle.coap_types.specs.declared.message.TheConstants.{MESSAGE_IDS as message_ids}
 
 pub record Arrived : Type 0 where
   pub from : Endpoint
@@ -38,7 +39,16 @@ pub record State : Type 0 where
   pub queue : List Packet
 
 abbrev pub start : ℕ → State
-start word = record { clock = 0; awaits = None; upcoming = word % groups * group_size; last_used = replicate groups None; arrived = []; open_cons = []; queue = [] }
+start word =
+    record {
+      clock = 0;
+      awaits = None;
+      upcoming = word % groups * group_size;
+      last_used = replicate groups None;
+      arrived = [];
+      open_cons = [];
+      queue = [];
+    }
 
 abbrev pub is_live : ℕ → Arrived → Bool
 is_live now a = nat_le now (a.at + exchange_lifetime)
@@ -101,7 +111,8 @@ copies now (c ∷ cs) =
 -- what becomes of an arrival
 abbrev pub sorted_by : State → ℕ → Incoming → Disposition
 sorted_by s at m =
-    up_of m.message.kind (role_of m.message.code) m.message (is_outstanding m.from m.message.id s.open_cons) (is_remembered at m.from m.message.id s.arrived)
+    up_of m.message.kind (role_of m.message.code) m.message (is_outstanding m.from m.message.id s.open_cons)
+    (is_remembered at m.from m.message.id s.arrived)
     (is_full at s.arrived) (is_free at s.upcoming s.last_used)
 
 abbrev pub answer_to : State → ℕ → Endpoint → Arrival → Disposition
@@ -116,7 +127,8 @@ sending free id = if free then Sent id else NoIds
 abbrev pub answer_of : State → ℕ → Call → Answer
 answer_of s at (Receive from bytes) = Becomes (answer_to s at from (arrival_at bytes))
 answer_of s at (Reply to id bytes) = Nothing
-answer_of s at (Confirm to content word) = if is_busy to s.open_cons then Busied else sending (is_free at s.upcoming s.last_used) s.upcoming
+answer_of s at (Confirm to content word) =
+    if is_busy to s.open_cons then Busied else sending (is_free at s.upcoming s.last_used) s.upcoming
 answer_of s at (Plain to content) = sending (is_free at s.upcoming s.last_used) s.upcoming
 answer_of s at (Settle to id) = Is (is_outstanding to id s.open_cons)
 answer_of s at Ticks = tick_of at s.open_cons
@@ -127,21 +139,25 @@ answer_of s at Pass = Nothing
 
 abbrev pub replay : State → ℕ → Incoming → Disposition → List Packet
 replay s at m Rejected = reset_to m.from m.message.id ∷ []
-replay s at m Replayed = if is_con m.message.kind then to_packets m.from (reply_of at m.from m.message.id s.arrived) else []
+replay s at m Replayed =
+    if is_con m.message.kind then to_packets m.from (reply_of at m.from m.message.id s.arrived) else []
 replay s at m _ = []
 
 abbrev pub out_to : State → ℕ → Endpoint → Arrival → List Packet
 out_to s at from Unreadable = []
 out_to s at from (Faulted kind id) = if is_con kind then reset_to from id ∷ [] else []
-out_to s at from (Whole m) = replay s at (record { from = from; message = m }) (sorted_by s at (record { from = from; message = m }))
+out_to s at from (Whole m) =
+    replay s at (record { from = from; message = m }) (sorted_by s at (record { from = from; message = m }))
 
 abbrev pub sent_out : Bool → Kind → ℕ → Endpoint → Content → List Packet
-sent_out free kind id to content = if free then record { to = to; bytes = message_bytes (with_head kind id content) } ∷ [] else []
+sent_out free kind id to content =
+    if free then record { to = to; bytes = message_bytes (with_head kind id content) } ∷ [] else []
 
 abbrev pub out_of : State → ℕ → Call → List Packet
 out_of s at (Receive from bytes) = out_to s at from (arrival_at bytes)
 out_of s at (Reply to id bytes) = record { to = to; bytes = bytes } ∷ []
-out_of s at (Confirm to content word) = if is_busy to s.open_cons then [] else sent_out (is_free at s.upcoming s.last_used) Con s.upcoming to content
+out_of s at (Confirm to content word) =
+    if is_busy to s.open_cons then [] else sent_out (is_free at s.upcoming s.last_used) Con s.upcoming to content
 out_of s at (Plain to content) = sent_out (is_free at s.upcoming s.last_used) Non s.upcoming to content
 out_of s at (Settle to id) = []
 out_of s at Ticks = copies at s.open_cons
@@ -152,7 +168,11 @@ out_of s at Pass = []
 
 -- what an arrival is after the entry
 abbrev pub stores : Entry → Arrived → Arrived
-stores e a = elim (reply_in a.from a.id e.call) [ Some bytes ↦ record a { reply = if a.con then Some bytes else None } | None ↦ a ]
+stores e a =
+    elim (reply_in a.from a.id e.call) [
+      | Some bytes ↦ record a { reply = if a.con then Some bytes else None }
+      | None ↦ a
+    ]
 
 abbrev pub newly : ℕ → Option Incoming → List Arrived
 newly at None = []
@@ -161,7 +181,7 @@ newly at (Some m) = record { from = m.from; id = m.message.id; at = at; con = is
 -- what the numbers that an entry gives leave
 abbrev pub next_after : List Issued → ℕ → ℕ
 next_after [] n = n
-next_after (g ∷ gs) n = (g.id + 1) % 65536
+next_after (g ∷ gs) n = (g.id + 1) % message_ids
 
 abbrev pub uses_after : List Issued → List (Option ℕ) → List (Option ℕ)
 uses_after [] uses = uses
@@ -194,7 +214,16 @@ uses (e ∷ past) = uses_after (issued e) (uses past)
 
 -- what a trace adds up to, nothing forgotten
 abbrev pub history : ℕ → List Entry → State
-history word t = record { clock = clock t; awaits = awaits t; upcoming = next_id word t; last_used = uses t; arrived = arrivals t; open_cons = outstanding t; queue = waiting t }
+history word t =
+    record {
+      clock = clock t;
+      awaits = awaits t;
+      upcoming = next_id word t;
+      last_used = uses t;
+      arrived = arrivals t;
+      open_cons = outstanding t;
+      queue = waiting t;
+    }
 
 -- only what is live is left
 abbrev pub forgotten : State → State

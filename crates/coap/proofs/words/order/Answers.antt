@@ -1,5 +1,5 @@
 use Rattle.std.proofs.Common.{refl, inl, inr}
-use Rattle.coap.proofs.CoapWords.{enters_met, ours, said_by, wrong_by, show_hex, answer_hex, answer_path, answer_body}
+use Rattle.coap.proofs.CoapWords.{enters_met, ours, said_by, wrong_by, show_hex, answer_hex, answer_path, answer_body, pair_body, pair_path, serve_count, serve_port, get_path, get_port}
 use Rattle.coap.proofs.words.order.Goals as goal
 
 pub show_order-requires : goal.show_order-requires
@@ -22,7 +22,43 @@ returns-in-answer c =
     let enters = enters_met _ c.in_ok-coap_command.ensures _ _ c.in_ok-matches.ensures.matches c.in_ok-matches.ensures.kinds _ _ _ c.in-answer.is c.in-Some.ensures.name c.in-Some.ensures.rows in
     record { ok = said_by _ _ _ c.answer_order.result enters c.answer_order.ensures; wrong = wrong_by _ _ _ c.answer_order.result enters c.answer_order.ensures }
 
+pub pair_order-requires : goal.pair_order-requires
+pair_order-requires c =
+    let enters = enters_met _ c.in_ok-coap_command.ensures _ _ c.in_ok-matches.ensures.matches c.in_ok-matches.ensures.kinds _ _ _ c.in-pair.is c.in-Some.ensures.name c.in-Some.ensures.rows in
+    record { path = pair_path _ _ enters; body = pair_body _ _ enters }
+
+pub returns-in-pair : goal.returns-in-pair
+returns-in-pair c =
+    let enters = enters_met _ c.in_ok-coap_command.ensures _ _ c.in_ok-matches.ensures.matches c.in_ok-matches.ensures.kinds _ _ _ c.in-pair.is c.in-Some.ensures.name c.in-Some.ensures.rows in
+    record { ok = said_by _ _ _ c.pair_order.result enters c.pair_order.ensures; wrong = wrong_by _ _ _ c.pair_order.result enters c.pair_order.ensures }
+
+pub serve_order-requires : goal.serve_order-requires
+serve_order-requires c =
+    let enters = enters_met _ c.in_ok-coap_command.ensures _ _ c.in_ok-matches.ensures.matches c.in_ok-matches.ensures.kinds _ _ _ c.in-serve.is c.in-Some.ensures.name c.in-Some.ensures.rows in
+    record { port = serve_port _ _ enters; count = serve_count _ _ enters }
+
+pub returns-in-serve : goal.returns-in-serve
+returns-in-serve c =
+    let enters = enters_met _ c.in_ok-coap_command.ensures _ _ c.in_ok-matches.ensures.matches c.in_ok-matches.ensures.kinds _ _ _ c.in-serve.is c.in-Some.ensures.name c.in-Some.ensures.rows in
+    record { ok = said_by _ _ _ c.serve_order.result enters c.serve_order.ensures; wrong = wrong_by _ _ _ c.serve_order.result enters c.serve_order.ensures }
+
+pub get_order-requires : goal.get_order-requires
+get_order-requires c =
+    let enters = enters_met _ c.in_ok-coap_command.ensures _ _ c.in_ok-matches.ensures.matches c.in_ok-matches.ensures.kinds _ _ _ c.in-get.is c.in-Some.ensures.name c.in-Some.ensures.rows in
+    record { port = get_port _ _ enters; path = get_path _ _ enters }
+
+pub returns-in-get : goal.returns-in-get
+returns-in-get c =
+    let enters = enters_met _ c.in_ok-coap_command.ensures _ _ c.in_ok-matches.ensures.matches c.in_ok-matches.ensures.kinds _ _ _ c.in-get.is c.in-Some.ensures.name c.in-Some.ensures.rows in
+    record { ok = said_by _ _ _ c.get_order.result enters c.get_order.ensures; wrong = wrong_by _ _ _ c.get_order.result enters c.get_order.ensures }
+
 pub unreachable-requires-in_default-subcommand : goal.unreachable-requires-in_default-subcommand
 unreachable-requires-in_default-subcommand c =
     let enters = enters_met _ c.in_ok-coap_command.ensures _ _ c.in_ok-matches.ensures.matches c.in_ok-matches.ensures.kinds _ _ _ refl c.in-Some.ensures.name c.in-Some.ensures.rows in
-    elim (ours _ _ _ enters) [ inl is ↦ c.in_default-subcommand.not-show is | inr is ↦ c.in_default-subcommand.not-answer is ]
+    elim (ours _ _ _ enters) [
+      | inl is ↦ c.in_default-subcommand.not-show is
+      | inr (inl is) ↦ c.in_default-subcommand.not-answer is
+      | inr (inr (inl is)) ↦ c.in_default-subcommand.not-pair is
+      | inr (inr (inr (inl is))) ↦ c.in_default-subcommand.not-serve is
+      | inr (inr (inr (inr is))) ↦ c.in_default-subcommand.not-get is
+    ]

@@ -13,8 +13,8 @@ use Rattle.coap_exchange.specs.AnswererSteps as P
 use Rattle.coap_exchange.specs.AnswererLaw as W
 use Rattle.coap_exchange.specs.AnswererLaw.{AnswererLaw, ResponseLaw}
 use Rattle.coap_exchange.proofs.Facts.ServerSide.{exact}
-use Rattle.coap_exchange.proofs.Facts.StepsOfLayer.{one_left, one_answer}
-use Rattle.coap_exchange.proofs.Facts.StepsOfLayer.{steps_split}
+use Rattle.coap_layer.proofs.Facts.StepsOfLayer.{one_left, one_answer}
+use Rattle.coap_layer.proofs.Facts.StepsOfLayer.{steps_split}
 use Rattle.coap_ends.specs.WholeServer.ServerNotifying.{behind, readies}
 
 pub joined : (xs : List E.Call) (c : E.Call) (calls : List E.Call) → (xs ++ c ∷ []) ++ calls ≡ xs ++ c ∷ calls

@@ -203,4 +203,6 @@ module _ (limit szx word : ℕ) (past : List Call) where
     feeds = heard_alike;
     ticks = turns_alike;
     next_out = λ answer another p q. (exact word calls).take answer another p.exchanges q.exchanges;
+    gets = λ path answer another p q. p.rows.0 ∙ sym q.rows.0;
+    tells_applied = λ answer another p q. p.rows.0 ∙ sym q.rows.0;
   }

@@ -4,7 +4,7 @@ use Rattle.coap_exchange.specs.AnswererTrace as E
 use Rattle.coap_exchange.specs.AnswererLaw as X
 use Rattle.coap_exchange.specs.AnswererSteps as P
 use Rattle.coap_exchange.proofs.Facts.ServerSide.{led_start, led_exchanged, led_law}
-use Rattle.coap_ends.specs.WholeServer.ServerTrace.{Own, Call, Sets, Removes, Delays, Feeds, Ticks, NextOut}
+use Rattle.coap_ends.specs.WholeServer.ServerTrace.{Own, Call, Sets, Removes, Delays, Feeds, Ticks, NextOut, Gets, TellsApplied}
 use Rattle.coap_ends.specs.WholeServer.ServerHandling.{incoming, ticking, heard}
 use Rattle.coap_ends.specs.WholeServer.ServerAsks.{answering, responding, lower}
 use Rattle.coap_ends.specs.WholeServer.ServerSteps.{IsRight, after, exchanges_after}
@@ -25,6 +25,8 @@ exchanges_kept limit szx [] = refl
 exchanges_kept limit szx (Sets now path format body answer left ∷ t) = exchanges_kept limit szx t
 exchanges_kept limit szx (Removes now path answer left ∷ t) = exchanges_kept limit szx t
 exchanges_kept limit szx (Delays path ms answer ∷ t) = exchanges_kept limit szx t
+exchanges_kept limit szx (Gets path answer ∷ t) = exchanges_kept limit szx t
+exchanges_kept limit szx (TellsApplied answer ∷ t) = exchanges_kept limit szx t
 exchanges_kept limit szx (Feeds now from bytes word up came h below ∷ t) =
     let s : Own = own_of limit szx t in
     let first : E.Call = incoming s now from bytes up came in

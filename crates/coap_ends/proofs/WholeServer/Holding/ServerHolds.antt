@@ -8,7 +8,7 @@ use Rattle.coap_resource.specs.Rate.{rate_refusal}
 use Rattle.coap_resource.specs.Serves.{Question}
 use Rattle.coap_resource.specs.Serves as R
 use Rattle.coap_exchange.specs.declared.answerer.Due.TheVariants as due
-use Rattle.coap_ends.specs.WholeServer.ServerTrace.{Own, Silent, Replies, Serves, Waits, Notifies, Call, Sets, Removes, Delays, Feeds, Ticks, NextOut}
+use Rattle.coap_ends.specs.WholeServer.ServerTrace.{Own, Silent, Replies, Serves, Waits, Notifies, Call, Sets, Removes, Delays, Feeds, Ticks, NextOut, Gets, TellsApplied}
 use Rattle.coap_ends.specs.WholeServer.ServerServing.{is_applied}
 use Rattle.coap_ends.specs.WholeServer.ServerDeferring.{question_of}
 use Rattle.coap_ends.specs.WholeServer.ServerNotifying.{marked, behind}
@@ -49,6 +49,8 @@ serves_right s (Ticks now word below room (due.Ready a) passed (Notifies o reply
 serves_right s (Sets now path format body answer left) right x e = absurd (cc e)
 serves_right s (Removes now path answer left) right x e = absurd (cc e)
 serves_right s (Delays path ms answer) right x e = absurd (cc e)
+serves_right s (Gets path answer) right x e = absurd (cc e)
+serves_right s (TellsApplied answer) right x e = absurd (cc e)
 serves_right s (NextOut answer) right x e = absurd (cc e)
 
 -- what a change leaves
@@ -102,6 +104,8 @@ moves_by s (Sets now path format body answer left) right =
 moves_by s (Removes now path answer left) right =
     moves path s.store left (removes_effect (s.store.holds path) (rate_refusal s.store.tally (max s.clock now)) s.store (max s.clock now) path answer left right)
 moves_by s (Delays path ms answer) right = stays s
+moves_by s (Gets path answer) right = stays s
+moves_by s (TellsApplied answer) right = stays s
 moves_by s (NextOut answer) right = stays s
 moves_by s (Feeds now from bytes word up (Some p) (Serves q reply left) below) right = serving_moves s (Feeds now from bytes word up (Some p) (Serves q reply left) below) right _ refl
 moves_by s (Ticks now word below room (due.Ready a) passed (Serves q reply left) id answer) right =
@@ -161,6 +165,8 @@ served_changes : (s : Own) (c : Call) (x : Serving) (y : Change) → serving s c
 served_changes s (Sets now path format body answer left) x y h k = absurd (cc h)
 served_changes s (Removes now path answer left) x y h k = absurd (cc h)
 served_changes s (Delays path ms answer) x y h k = absurd (cc h)
+served_changes s (Gets path answer) x y h k = absurd (cc h)
+served_changes s (TellsApplied answer) x y h k = absurd (cc h)
 served_changes s (NextOut answer) x y h k = absurd (cc h)
 served_changes s (Feeds now from bytes word up came w below) x y h k = sym (ap changed_by h) ∙ k
 served_changes s (Ticks now word below room d passed w id answer) x y h k = sym (ap changed_by h) ∙ k

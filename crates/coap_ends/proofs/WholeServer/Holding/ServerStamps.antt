@@ -10,7 +10,7 @@ use Rattle.coap_resource.specs.Rate.{rate_refusal, used}
 use Rattle.coap_resource.specs.RequestOptions.{precondition_fails}
 use Rattle.coap_resource.specs.Serves.{Question, Reply, PutBy, JoinBy, PostBy, RemoveBy, DeleteBy, ServesMethod, ServesUnless}
 use Rattle.coap_resource.specs.Serves as R
-use Rattle.coap_ends.specs.WholeServer.ServerTrace.{Own, Call, Sets, Removes, Delays, Feeds, Ticks, NextOut}
+use Rattle.coap_ends.specs.WholeServer.ServerTrace.{Own, Call, Sets, Removes, Delays, Feeds, Ticks, NextOut, Gets, TellsApplied}
 use Rattle.coap_ends.specs.WholeServer.ServerLocal.{SetsBy, RemovesBy}
 use Rattle.coap_ends.specs.WholeServer.ServerSteps.{IsRight}
 use Rattle.coap_ends.specs.WholeServer.ServerLaw.{own_of, ServerRows}
@@ -155,6 +155,8 @@ stamps s (Sets now path format body answer left) x right h =
 stamps s (Removes now path answer left) x right h =
     stamp_of s path s.store left x refl (removes_stamps (s.store.holds path) (rate_refusal s.store.tally (max s.clock now)) s.store (max s.clock now) path answer left refl right) h
 stamps s (Delays path ms answer) x right h = absurd (cc h)
+stamps s (Gets path answer) x right h = absurd (cc h)
+stamps s (TellsApplied answer) x right h = absurd (cc h)
 stamps s (NextOut answer) x right h = absurd (cc h)
 stamps s (Feeds now from bytes word up came w below) x right h = served_stamp s (Feeds now from bytes word up came w below) x (serving s (Feeds now from bytes word up came w below)) right refl h
 stamps s (Ticks now word below room d passed w id answer) x right h = served_stamp s (Ticks now word below room d passed w id answer) x (serving s (Ticks now word below room d passed w id answer)) right refl h

@@ -17,7 +17,7 @@ use Rattle.coap_exchange.specs.AnswererTrace as E
 use Rattle.coap_exchange.specs.AnswererSteps as P
 use Rattle.coap_exchange.specs.AnswererSteps.{reset_by, failed_by}
 use Rattle.coap_exchange.specs.AnswererLaw as W
-use Rattle.coap_ends.specs.WholeServer.ServerTrace.{Own, Handling, Silent, Replies, Serves, Waits, Notifies, Call, Sets, Removes, Delays, Feeds, Ticks, NextOut}
+use Rattle.coap_ends.specs.WholeServer.ServerTrace.{Own, Handling, Silent, Replies, Serves, Waits, Notifies, Call, Sets, Removes, Delays, Feeds, Ticks, NextOut, Gets, TellsApplied}
 use Rattle.coap_ends.specs.WholeServer.ServerChecks.{asks}
 use Rattle.coap_ends.specs.WholeServer.ServerObservers.{unless_ended}
 use Rattle.coap_ends.specs.WholeServer.ServerDeferring.{question_of}
@@ -106,6 +106,8 @@ module _ (limit szx word : ℕ) where
   ends_here t (Sets now path format body answer left) law x is o = absurd (cc is)
   ends_here t (Removes now path answer left) law x is o = absurd (cc is)
   ends_here t (Delays path ms answer) law x is o = absurd (cc is)
+  ends_here t (Gets path answer) law x is o = absurd (cc is)
+  ends_here t (TellsApplied answer) law x is o = absurd (cc is)
   ends_here t (NextOut answer) law x is o = absurd (cc is)
 
   pub ends_observation : (t : List Call) → ServerLaw limit szx word t → EndsObservation limit szx t
@@ -137,6 +139,8 @@ module _ (limit szx word : ℕ) where
   serves_right t (Sets now path format body answer left) law x e = absurd (cc e)
   serves_right t (Removes now path answer left) law x e = absurd (cc e)
   serves_right t (Delays path ms answer) law x e = absurd (cc e)
+  serves_right t (Gets path answer) law x e = absurd (cc e)
+  serves_right t (TellsApplied answer) law x e = absurd (cc e)
   serves_right t (NextOut answer) law x e = absurd (cc e)
 
   pub none_continues : (t : List Call) → ServerLaw limit szx word t → NoneContinues limit szx t

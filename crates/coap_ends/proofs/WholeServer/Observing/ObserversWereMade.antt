@@ -1,6 +1,6 @@
 -- The observers of a server are registrations, and each was made by a GET that was served.
 use Rattle.coap_observe.specs.declared.observers.TheConstants.{MAX_OBSERVERS as max_observers}
-use Rattle.std.proofs.Common.{◌≡◌, ◌<◌, inl, inr, ℕ, ◌==◌, ◌&&◌, nat_lt, Bool, true, false, not, Option, Some, None, List, [], ◌∷◌, ◌++◌, length, filter, map, refl, sym, subst, cond, arith}
+use Rattle.std.proofs.Common.{◌≡◌, ◌<◌, inl, inr, ℕ, ◌==◌, ◌&&◌, nat_lt, Bool, true, false, not, Option, Some, None, List, [], ◌∷◌, ◌++◌, length, filter, map, refl, ap, sym, subst, cond, arith}
 use Rattle.std.proofs.lemmas.Bool.{ltb-true}
 use Rattle.std.specs.Cmp.{unsigned_Decides}
 use Rattle.coap_types.specs.Past.{Sometime}
@@ -20,13 +20,14 @@ use Rattle.coap_exchange.specs.declared.answerer.Ended.{Ended}
 use Rattle.coap_exchange.specs.AnswererSteps as P
 use Rattle.std.proofs.lemmas.Bool.{and_parts}
 use Rattle.coap_ends.specs.ClientReports.{content}
-use Rattle.coap_ends.specs.WholeServer.ServerTrace.{Own, Handling, Silent, Replies, Serves, Waits, Notifies, Call, Sets, Removes, Delays, Feeds, Ticks, NextOut}
+use Rattle.coap_ends.specs.WholeServer.ServerTrace.{Own, Handling, Silent, Replies, Serves, Waits, Notifies, Call, Sets, Removes, Delays, Feeds, Ticks, NextOut, Gets, TellsApplied}
 use Rattle.coap_ends.specs.WholeServer.ServerServing.{observers_served}
 use Rattle.coap_ends.specs.WholeServer.ServerObservers.{observes, registers, observers_with, marked_if, unless_ended}
 use Rattle.coap_ends.specs.WholeServer.ServerNotifying.{notified}
 use Rattle.coap_ends.specs.WholeServer.ServerHandling.{incoming, ticking, heard}
 use Rattle.coap_ends.specs.WholeServer.ServerSteps.{observers_after, ready_in}
 use Rattle.coap_ends.specs.WholeServer.ServerLaw.{own_of}
+use Rattle.coap_ends.specs.WholeServer.Follows.ServerTells.{Pair}
 use Rattle.coap_ends.specs.WholeServer.Follows.ServerServes.{serving_of}
 use Rattle.coap_ends.specs.WholeServer.Follows.ServerObserves.{MadeBy, WasMade, AreObservers}
 
@@ -47,8 +48,12 @@ module _ (Q : Observer → Type 0) where
   each_map f g [] h = tt
   each_map f g (o ∷ os) h = (g o h.0, each_map f g os h.1)
 
+abbrev pair_of : Asked → Pair
+pair_of a = record { to = a.from; token = a.token }
+
 -- what a registration needs
 record Registers (a : Asked) (q : Question) (reply : Reply) (os : List Observer) : Type 0 where
+  so : registers a q reply os ≡ true
   observe : observes 0 q ≡ true
   code : reply.code ≡ content
   room : length (removed a.from a.token os) < 64
@@ -58,7 +63,7 @@ registers_so a q reply os h =
     let x = and_parts (observes 0 q) ((reply.code == content) && ((reply.offset == 0) && nat_lt (length (removed a.from a.token os)) max_observers)) h in
     let y = and_parts (reply.code == content) ((reply.offset == 0) && nat_lt (length (removed a.from a.token os)) max_observers) x.1 in
     let z = and_parts (reply.offset == 0) (nat_lt (length (removed a.from a.token os)) max_observers) y.1 in
-    record { observe = x.0; code = (unsigned_Decides reply.code content).0 y.0; room = ltb-true (length (removed a.from a.token os)) 64 z.1 }
+    record { so = h; observe = x.0; code = (unsigned_Decides reply.code content).0 y.0; room = ltb-true (length (removed a.from a.token os)) 64 z.1 }
 
 module _ (limit szx : ℕ) (t : List Call) where
   pub record Good (os : List Observer) : Type 0 where
@@ -133,7 +138,7 @@ module _ (limit szx : ℕ) where
     fed (Some p) (Serves q reply left) g =
         let s : Own = heard (own t) now (incoming (own t) now from bytes up (Some p)) in
         good_served limit szx (Feeds now from bytes w up (Some p) (Serves q reply left) below ∷ t) s.store p.0 q reply left s.observers
-        (λ k. inl (record { request = serving_of s p.0 q reply left; here = refl; from = refl; token_is = refl; path_is = refl; observe = k.observe; code = k.code })) g
+        (λ k. inl (record { request = serving_of s p.0 q reply left; here = refl; from = refl; token_is = refl; path_is = refl; observe = k.observe; code = k.code; registers = ap (λ b. cond b (Some (pair_of p.0)) None) k.so })) g
 
   module _ (t : List Call) (now w : ℕ) (below : L.Answer) (room : Bool) (passed id : ℕ) (answer : Bool) where
     abbrev call : Due → Handling → Call
@@ -164,7 +169,7 @@ module _ (limit szx : ℕ) where
     ticked (due.Ready a) (Serves q reply left) g =
         let s : Own = stage (due.Ready a) in
         good_served limit szx (call (due.Ready a) (Serves q reply left) ∷ t) s.store a q reply left s.observers
-        (λ k. inl (record { request = serving_of s a q reply left; here = refl; from = refl; token_is = refl; path_is = refl; observe = k.observe; code = k.code })) g
+        (λ k. inl (record { request = serving_of s a q reply left; here = refl; from = refl; token_is = refl; path_is = refl; observe = k.observe; code = k.code; registers = ap (λ b. cond b (Some (pair_of a)) None) k.so })) g
 
   pub good : (t : List Call) → Good limit szx t (own t).observers
   good [] = record { registrations = record { few = omega arith; distinct = tt }; made = tt }
@@ -174,6 +179,8 @@ module _ (limit szx : ℕ) where
       by (Sets now path format body answer left) g = good_marked limit szx (Sets now path format body answer left ∷ t) path (own t).store left (own t).observers g
       by (Removes now path answer left) g = good_marked limit szx (Removes now path answer left ∷ t) path (own t).store left (own t).observers g
       by (Delays path ms answer) g = g
+      by (Gets path answer) g = g
+      by (TellsApplied answer) g = g
       by (Feeds now from bytes w up came h below) g =
           fed t now from bytes w up below came h (good_ended limit szx (Feeds now from bytes w up came h below ∷ t) (P.after (own t).exchanges (incoming (own t) now from bytes up came)).ended (own t).observers g)
       by (Ticks now w below room d passed h id answer) g =

@@ -24,7 +24,7 @@ use Rattle.coap_exchange.specs.AnswererSteps as P
 use Rattle.coap_exchange.specs.AnswererSteps.{is_waited_for, ended_as, separate_of}
 use Rattle.std.proofs.lemmas.Bool.{and_parts}
 use Rattle.coap_ends.specs.ClientReports.{content}
-use Rattle.coap_ends.specs.WholeServer.ServerTrace.{Own, Silent, Replies, Serves, Waits, Notifies, Call, Sets, Removes, Delays, Feeds, Ticks, NextOut}
+use Rattle.coap_ends.specs.WholeServer.ServerTrace.{Own, Silent, Replies, Serves, Waits, Notifies, Call, Sets, Removes, Delays, Feeds, Ticks, NextOut, Gets, TellsApplied}
 use Rattle.coap_ends.specs.WholeServer.ServerResponses.{response_with}
 use Rattle.coap_ends.specs.WholeServer.ServerServing.{response_to, observers_served}
 use Rattle.coap_ends.specs.WholeServer.ServerUploads.{last_block}
@@ -235,6 +235,8 @@ module _ (limit szx word : ℕ) where
     begins_at (Sets now path format body answer left) law e = absurd (cc e)
     begins_at (Removes now path answer left) law e = absurd (cc e)
     begins_at (Delays path ms answer) law e = absurd (cc e)
+    begins_at (Gets path answer) law e = absurd (cc e)
+    begins_at (TellsApplied answer) law e = absurd (cc e)
     begins_at (NextOut answer) law e = absurd (cc e)
 
   -- the later of the two
@@ -313,6 +315,8 @@ module _ (limit szx word : ℕ) where
     follows_at (Sets now path format body answer left) law e first = absurd (cc e)
     follows_at (Removes now path answer left) law e first = absurd (cc e)
     follows_at (Delays path ms answer) law e first = absurd (cc e)
+    follows_at (Gets path answer) law e first = absurd (cc e)
+    follows_at (TellsApplied answer) law e first = absurd (cc e)
     follows_at (NextOut answer) law e first = absurd (cc e)
 
   behind_back : (after base : List Call) → ServerLaw limit szx word (after ++ base) → ServerLaw limit szx word base

@@ -22,7 +22,7 @@ use Rattle.coap_exchange.specs.declared.answerer.Ended.{Ended}
 use Rattle.coap_exchange.specs.declared.separate.Separate.{Separate}
 use Rattle.coap_exchange.specs.AnswererTrace as E
 use Rattle.coap_exchange.specs.AnswererSteps.{separate_after, separate_unless, reset_by, failed_by, may_defer}
-use Rattle.coap_ends.specs.WholeServer.ServerTrace.{Own, Handling, Silent, Replies, Serves, Waits, Notifies, Call, Sets, Removes, Delays, Feeds, Ticks, NextOut}
+use Rattle.coap_ends.specs.WholeServer.ServerTrace.{Own, Handling, Silent, Replies, Serves, Waits, Notifies, Call, Sets, Removes, Delays, Feeds, Ticks, NextOut, Gets, TellsApplied}
 use Rattle.coap_ends.specs.WholeServer.ServerResponses.{response_with}
 use Rattle.coap_ends.specs.WholeServer.ServerServing.{observers_served}
 use Rattle.coap_ends.specs.WholeServer.ServerObservers.{observes, registers, observers_with, marked_if, unless_ended}
@@ -84,6 +84,8 @@ module _ (limit szx : ℕ) where
       let at : ℕ = max (own t).clock now in
       low_by path (own t).store left (removes_effect ((own t).store.holds path) (rate_refusal (own t).store.tally at) (own t).store at path answer left law.rows.0) (path_or path) low
   low_after word t (Delays path ms answer) law low = low
+  low_after word t (Gets path answer) law low = low
+  low_after word t (TellsApplied answer) law low = low
   low_after word t (NextOut answer) law low = low
   low_after word t (Feeds now from bytes w up None (Serves q reply left) below) law low = let e = law.rows.0 in absurd (cc e)
   low_after word t (Feeds now from bytes w up (Some p) (Serves q reply left) below) law low =
@@ -367,6 +369,8 @@ module _ (x : Telling) where
         (marked_turn x.to x.token path s.store left s.observers (removes_effect (s.store.holds path) (rate_refusal s.store.tally at) s.store at path answer left law.rows.0))
         (map_lives s.store s.observers (flight_more x.con s.exchanges.separate after (Removes now path answer left)) l)
     step t after (Delays path ms answer) law none l = map_lives _ _ (flight_more x.con (own limit szx t).exchanges.separate after (Delays path ms answer)) l
+    step t after (Gets path answer) law none l = map_lives _ _ (flight_more x.con (own limit szx t).exchanges.separate after (Gets path answer)) l
+    step t after (TellsApplied answer) law none l = map_lives _ _ (flight_more x.con (own limit szx t).exchanges.separate after (TellsApplied answer)) l
     step t after (NextOut answer) law none l = map_lives _ _ (flight_more x.con (own limit szx t).exchanges.separate after (NextOut answer)) l
     step t after (Feeds now from bytes w up came h below) law none l = fed_step t after now from bytes w up below came h law.rows.0 none l
     step t after (Ticks now w below room d passed h id answer) law none l = tick_step t after now w below room passed id answer d h law none l

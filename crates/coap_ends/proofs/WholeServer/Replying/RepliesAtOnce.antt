@@ -20,8 +20,8 @@ use Rattle.coap_exchange.specs.AnswererTrace as E
 use Rattle.coap_exchange.specs.AnswererSteps as P
 use Rattle.coap_exchange.specs.AnswererLaw as W
 use Rattle.coap_exchange.specs.AskerRequests.{asked}
-use Rattle.coap_exchange.proofs.Facts.HandedUp.{message_in}
-use Rattle.coap_ends.specs.WholeServer.ServerTrace.{Own, Handling, Silent, Replies, Serves, Waits, Notifies, Call, Sets, Removes, Delays, Feeds, Ticks, NextOut}
+use Rattle.coap_layer.proofs.Facts.HandedUp.{message_in}
+use Rattle.coap_ends.specs.WholeServer.ServerTrace.{Own, Handling, Silent, Replies, Serves, Waits, Notifies, Call, Sets, Removes, Delays, Feeds, Ticks, NextOut, Gets, TellsApplied}
 use Rattle.coap_ends.specs.WholeServer.ServerServing.{response_to}
 use Rattle.coap_ends.specs.WholeServer.ServerDeferring.{delay_for, deferral_by}
 use Rattle.coap_ends.specs.WholeServer.ServerNotifying.{marked, readies}
@@ -142,6 +142,8 @@ module _ (limit szx word : ℕ) where
       here (Sets now path format body answer left) law so = so
       here (Removes now path answer left) law so = so
       here (Delays path ms answer) law so = so
+      here (Gets path answer) law so = so
+      here (TellsApplied answer) law so = so
       here (NextOut answer) law so = quiet_over word (E.Take answer ∷ []) (lower_of limit szx t) ((λ s. (refl, tt)), tt) so
       here (Feeds now from bytes w up came h below) law so =
           let s : Own = own_of limit szx t in

@@ -39,7 +39,7 @@ use Rattle.coap_exchange.specs.AnswererSteps.{may_defer}
 use Rattle.coap_exchange.specs.AnswererTrace as E
 use Rattle.coap_exchange.specs.AnswererLaw as W
 use Rattle.coap_exchange.proofs.Facts.ServerSide.{layer_stands}
-use Rattle.coap_ends.specs.WholeServer.ServerTrace.{Own, Handling, Silent, Replies, Serves, Waits, Notifies, Call, Sets, Removes, Delays, Feeds, Ticks, NextOut}
+use Rattle.coap_ends.specs.WholeServer.ServerTrace.{Own, Handling, Silent, Replies, Serves, Waits, Notifies, Call, Sets, Removes, Delays, Feeds, Ticks, NextOut, Gets, TellsApplied}
 use Rattle.coap_ends.specs.WholeServer.ServerResponses.{bare, response_with}
 use Rattle.coap_ends.specs.WholeServer.ServerChecks.{Verdict, Ignored, Refused, Asks, Uploads, verdict_on, bad_by, asked_by, uploading, question, asks, is_reserved, bad_request, proxying_not_supported}
 use Rattle.coap_types.specs.RequestPath.{path_of}
@@ -54,7 +54,7 @@ use Rattle.coap_ends.specs.WholeServer.ServerLaw.{ServerLaw, own_of, lower_of}
 use Rattle.coap_ends.specs.WholeServer.Follows.ServerServes.{serving_of}
 use Rattle.coap_ends.specs.WholeServer.Follows.ServerTakes.{took, took_by, taken_by}
 use Rattle.coap_ends.specs.WholeServer.Follows.ServerObserves.{WasMade}
-use Rattle.coap_ends.specs.WholeServer.Follows.ServerGives.{Carries, NoticeOf, CarriesResponse, SentResponses, SendsResponses}
+use Rattle.coap_ends.specs.WholeServer.Follows.ServerGives.{Carries, refusal_by, refusal_of, size_by, size_of, NoticeOf, CarriesResponse, SentResponses, SendsResponses}
 use Rattle.coap_ends.proofs.WholeServer.Serving.ServerBrought.{server_back, comes_here}
 use Rattle.coap_ends.proofs.WholeServer.Serving.ServedWasHandedUp.{joins_more}
 use Rattle.coap_ends.proofs.WholeServer.Observing.ObserversWereMade.{good, good_ended}
@@ -112,8 +112,9 @@ block_not EntityTooLarge = refl
 block_not Unavailable = refl
 
 -- a response without_key the store refuses, or asks for the next block
-record IsRefusal (r : E.Response) : Type 0 where
+record IsRefusal (s : Own) (a : Asked) (v : Verdict) (r : E.Response) : Type 0 where
   code : ℕ
+  refuses : refusal_of s.uploads s.clock a v ≡ Some code
   other : code ≢ 95
   is : r ≡ bare code
 
@@ -133,22 +134,22 @@ never_replies (Some d) true old at q r h = cc h
 never_replies (Some d) false old at q r h = let e = h.is in cc e
 never_replies None place old at q r h = let e = h.is in cc e
 
-block_replies : (v : BlockVerdict) (s : Own) (a : Asked) (q : Question) (b : Block) (r : E.Response) → ruling_of s.uploads s.clock a q b ≡ v → HandlesBlock v s a q b (Replies r) → IsRefusal r ⊎ IsContinue s a (Uploads q b) r
-block_replies (Refuse why) s a q b r e h = inl (record { code = (refusal_code why).0; other = not_continue (refusal_code why).0 (block_not why); is = one_response r _ h })
+block_replies : (v : BlockVerdict) (s : Own) (a : Asked) (q : Question) (b : Block) (r : E.Response) → ruling_of s.uploads s.clock a q b ≡ v → HandlesBlock v s a q b (Replies r) → IsRefusal s a (Uploads q b) r ⊎ IsContinue s a (Uploads q b) r
+block_replies (Refuse why) s a q b r e h = inl (record { code = (refusal_code why).0; refuses = ap refusal_by e; other = not_continue (refusal_code why).0 (block_not why); is = one_response r _ h })
 block_replies (Join n) s a q b r e h = inr (record { question = q; block = b; size = n; verdict = refl; joins = e; is = one_response r _ h })
 block_replies Done s a q b r e h =
     let it : Question = whole s.uploads s.clock a q b in
     absurd (never_replies (delay_for a.kind q.path s.delays) (may_defer s.exchanges.deferred) s.store s.clock it r h)
 
-replies : (v : Verdict) (s : Own) (a : Asked) (r : E.Response) → refuses_so v ≡ false → Handles s a v (Replies r) → IsRefusal r ⊎ IsContinue s a v r
+replies : (v : Verdict) (s : Own) (a : Asked) (r : E.Response) → refuses_so v ≡ false → Handles s a v (Replies r) → IsRefusal s a v r ⊎ IsContinue s a v r
 replies Ignored s a r n h = absurd (cc h)
-replies (Refused code) s a r n h = inl (record { code = code; other = not_continue code n; is = one_response r _ h })
+replies (Refused code) s a r n h = inl (record { code = code; refuses = refl; other = not_continue code n; is = one_response r _ h })
 replies (Asks q) s a r n h = absurd (never_replies (delay_for a.kind q.path s.delays) (may_defer s.exchanges.deferred) s.store s.clock q r h)
 replies (Uploads q b) s a r n h = block_replies (ruling_of s.uploads s.clock a q b) s a q b r refl h
 
 -- a notification
 
-next_told : (x : Option Observer) (s : Content) (o : Observer) (reply : Reply) → NotifiesNext x s (Notifies o reply) → reply ≡ told s o
+pub next_told : (x : Option Observer) (s : Content) (o : Observer) (reply : Reply) → NotifiesNext x s (Notifies o reply) → reply ≡ told s o
 next_told None s o reply h = absurd (cc h)
 next_told (Some y) s o reply h =
     let same : y ≡ o = cc h in
@@ -214,6 +215,7 @@ module _ (limit szx word : ℕ) (p : L.Packet) where
             comes = comes_here limit szx word t now from bytes w up a (Replies r) below law;
             handed = refl;
             unserved = refl;
+            refuses = f.refuses;
             not_continue = f.other;
             carries = subst (Carries p a.0.from a.0.token) f.is k;
           })))
@@ -225,6 +227,7 @@ module _ (limit szx word : ℕ) (p : L.Packet) where
                 more =
                     joins_more u.szx (reached (key_of a.0 f.question) (there_at u s.clock)) (length (without_key (key_of a.0 f.question) (there_at u s.clock))) f.block (length f.question.body) f.size f.joins;
                 size = f.size;
+                asks = ap (λ v. size_of u s.clock a.0 v) f.verdict ∙ ap size_by f.joins;
                 carries = subst (Carries p a.0.from a.0.token) f.is k;
               }))
               )
@@ -270,6 +273,8 @@ module _ (limit szx word : ℕ) (p : L.Packet) where
     here (Sets now path format body answer left) law k = absurd k
     here (Removes now path answer left) law k = absurd k
     here (Delays path ms answer) law k = absurd k
+    here (Gets path answer) law k = absurd k
+    here (TellsApplied answer) law k = absurd k
     here (Feeds now from bytes w up came h below) law k = fed now from bytes w up came h below law k
     here (Ticks now w below room d passed h id answer) law k = ticked now w below room d passed h id answer law k
     here (NextOut answer) law k = elim k [ inl z ↦ absurd z | inr z ↦ absurd z ]

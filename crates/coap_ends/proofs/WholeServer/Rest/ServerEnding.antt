@@ -35,7 +35,8 @@ use Rattle.coap_ends.proofs.WholeServer.Serving.ServerBrought.{server_back}
 use Rattle.coap_ends.proofs.WholeServer.Observing.ObserversWereMade.{are_observers}
 use Rattle.coap_ends.proofs.WholeServer.Observing.VersionsRise.{IsThere, behind_there, marked_there, next_is, next_serves}
 use Rattle.coap_ends.proofs.WholeServer.Serving.ServerWaiting.{ready_are_served}
-use Rattle.coap_ends.proofs.Rest.StepsDue.{due_count, is_step, ticks_least, ticks_fewer, confirm_least, room_same}
+use Rattle.coap_ends.specs.StepsDue.{due_count}
+use Rattle.coap_ends.proofs.Rest.StepsDue.{is_step, ticks_least, ticks_fewer, confirm_least, room_same}
 
 -- how many are marked
 
@@ -185,7 +186,7 @@ module _ (word at : ℕ) (rest : List Asked) (below : L.Answer) where
       }
 
 -- what calls of the exchanges leave of the layer
-abbrev behind_calls : ℕ → List E.Call → S.State
+abbrev pub behind_calls : ℕ → List E.Call → S.State
 behind_calls word calls = left_after (S.start word) (W.lower_of calls)
 
 -- rooms that are asked for
@@ -223,6 +224,10 @@ module _ (limit szx word : ℕ) where
   -- all 64 observers
   pub size : ℕ → List Call → ℕ
   size now t = due_count (max (layer t).clock (max (own t).clock now)) (layer t).open_cons + (marks (own t).observers + 65 * length (own t).waiting)
+
+  pub size_is : (now : ℕ) (t : List Call) → size now t ≡ due_count (max (layer t).clock (max (own t).clock now)) (layer t).open_cons + (marks (own t).observers + 65 * length (own t).waiting)
+  unfolding size
+  size_is now t = refl
 
   module _ (now w : ℕ) (t : List Call) (below : L.Answer) (room : Bool) where
     abbrev at : ℕ

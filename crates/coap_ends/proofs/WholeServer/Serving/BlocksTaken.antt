@@ -11,7 +11,7 @@ use Rattle.coap_block.specs.Whole.{Part}
 use Rattle.coap_block.specs.Gathered.{part}
 use Rattle.coap_resource.specs.Serves.{Question}
 use Rattle.coap_exchange.specs.declared.answerer.Asked.{Asked}
-use Rattle.coap_ends.specs.WholeServer.ServerTrace.{Own, Call, Sets, Removes, Delays, Feeds, Ticks, NextOut}
+use Rattle.coap_ends.specs.WholeServer.ServerTrace.{Own, Call, Sets, Removes, Delays, Feeds, Ticks, NextOut, Gets, TellsApplied}
 use Rattle.coap_ends.specs.WholeServer.ServerChecks.{Verdict, Ignored, Refused, Asks, Uploads, verdict_on}
 use Rattle.coap_ends.specs.WholeServer.ServerUploads.{key_of, uploads_after}
 use Rattle.coap_ends.specs.WholeServer.ServerLaw.{own_of}
@@ -78,6 +78,8 @@ module _ (limit szx : ℕ) where
   uploads_is (Sets now path format body answer left ∷ t) = uploads_is t
   uploads_is (Removes now path answer left ∷ t) = uploads_is t
   uploads_is (Delays path ms answer ∷ t) = uploads_is t
+  uploads_is (Gets path answer ∷ t) = uploads_is t
+  uploads_is (TellsApplied answer ∷ t) = uploads_is t
   uploads_is (Feeds now from bytes word up None h below ∷ t) = uploads_is t
   uploads_is (Feeds now from bytes word up (Some p) h below ∷ t) = uploads_with (verdict_on (own t).szx p.1) (max (own t).clock now) p.0 (own t).uploads (history t) (uploads_is t)
   uploads_is (Ticks now word below room d passed h id answer ∷ t) = uploads_is t
@@ -98,6 +100,8 @@ module _ (limit szx : ℕ) where
   since_is key (Sets now path format body answer left ∷ t) = since_is key t
   since_is key (Removes now path answer left ∷ t) = since_is key t
   since_is key (Delays path ms answer ∷ t) = since_is key t
+  since_is key (Gets path answer ∷ t) = since_is key t
+  since_is key (TellsApplied answer ∷ t) = since_is key t
   since_is key (Feeds now from bytes word up None h below ∷ t) = since_is key t
   since_is key (Feeds now from bytes word up (Some p) h below ∷ t) =
       since_with_is key (verdict_on (own t).szx p.1) (max (own t).clock now) p.0 (own t).uploads (history t) (blocks_since limit szx key t) (uploads_is t) (since_is key t)

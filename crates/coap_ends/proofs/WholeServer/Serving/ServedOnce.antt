@@ -11,7 +11,7 @@ use Rattle.coap_exchange.specs.AnswererTrace as E
 use Rattle.coap_exchange.specs.AnswererFollows as F
 use Rattle.coap_exchange.specs.AnswererFollows.{hits, same_asked}
 use Rattle.coap_exchange.specs.AnswererSteps.{asked_in}
-use Rattle.coap_ends.specs.WholeServer.ServerTrace.{Own, Handling, Silent, Replies, Serves, Waits, Notifies, Call, Sets, Removes, Delays, Feeds, Ticks, NextOut}
+use Rattle.coap_ends.specs.WholeServer.ServerTrace.{Own, Handling, Silent, Replies, Serves, Waits, Notifies, Call, Sets, Removes, Delays, Feeds, Ticks, NextOut, Gets, TellsApplied}
 use Rattle.coap_observe.specs.Observers.{Observer}
 use Rattle.coap_resource.specs.Serves.{Question}
 use Rattle.coap_ends.specs.WholeServer.ServerDeferring.{deferral, deferral_by, delay_for}
@@ -107,6 +107,8 @@ module _ (limit szx : ℕ) where
   handed_is a (Sets now path format body answer left ∷ t) = let k = handed_is a t in omega (arith, k)
   handed_is a (Removes now path answer left ∷ t) = let k = handed_is a t in omega (arith, k)
   handed_is a (Delays path ms answer ∷ t) = let k = handed_is a t in omega (arith, k)
+  handed_is a (Gets path answer ∷ t) = let k = handed_is a t in omega (arith, k)
+  handed_is a (TellsApplied answer ∷ t) = let k = handed_is a t in omega (arith, k)
   handed_is a (NextOut answer ∷ t) = let k = handed_is a t in omega (arith, k)
   handed_is a (Feeds now from bytes word up came h below ∷ t) =
       let s : Own = own_of limit szx t in
@@ -126,6 +128,8 @@ module _ (limit szx : ℕ) where
   served_at_most a (Sets now path format body answer left ∷ t) = let k = served_at_most a t in omega (arith, k)
   served_at_most a (Removes now path answer left ∷ t) = let k = served_at_most a t in omega (arith, k)
   served_at_most a (Delays path ms answer ∷ t) = let k = served_at_most a t in omega (arith, k)
+  served_at_most a (Gets path answer ∷ t) = let k = served_at_most a t in omega (arith, k)
+  served_at_most a (TellsApplied answer ∷ t) = let k = served_at_most a t in omega (arith, k)
   served_at_most a (NextOut answer ∷ t) = let k = served_at_most a t in omega (arith, k)
   served_at_most a (Feeds now from bytes word up came h below ∷ t) =
       let s : Own = own_of limit szx t in
@@ -181,6 +185,8 @@ module _ (limit szx : ℕ) where
   here t (Sets now path format body answer left) law x e = absurd (cc e)
   here t (Removes now path answer left) law x e = absurd (cc e)
   here t (Delays path ms answer) law x e = absurd (cc e)
+  here t (Gets path answer) law x e = absurd (cc e)
+  here t (TellsApplied answer) law x e = absurd (cc e)
   here t (NextOut answer) law x e = absurd (cc e)
 
   pub served_once : (t : List Call) → F.AreResponses (lower_of limit szx t) → ServedOnce limit szx t

@@ -29,7 +29,7 @@ use Rattle.coap_exchange.specs.AnswererSteps.{may_defer}
 use Rattle.coap_exchange.specs.Tokens.{same_token}
 use Rattle.std.proofs.lemmas.Bool.{and_parts}
 use Rattle.coap_exchange.proofs.Facts.SameToken.{same_token_is}
-use Rattle.coap_ends.specs.WholeServer.ServerTrace.{Waiting, Own, Handling, Silent, Replies, Serves, Waits, Notifies, Call, Sets, Removes, Delays, Feeds, Ticks, NextOut}
+use Rattle.coap_ends.specs.WholeServer.ServerTrace.{Waiting, Own, Handling, Silent, Replies, Serves, Waits, Notifies, Call, Sets, Removes, Delays, Feeds, Ticks, NextOut, Gets, TellsApplied}
 use Rattle.coap_ends.specs.WholeServer.ServerChecks.{Verdict, Ignored, Refused, Asks, Uploads, verdict_on}
 use Rattle.coap_ends.specs.WholeServer.ServerUploads.{key_of, ruling_of, whole}
 use Rattle.coap_ends.specs.WholeServer.ServerDeferring.{WaitsBy, AnswersWaiting, delay_for, is_of, question_of, without_waiting as others}
@@ -255,6 +255,8 @@ module _ (limit szx word : ℕ) where
       by (Sets now path format body answer left) law k = k
       by (Removes now path answer left) law k = k
       by (Delays path ms answer) law k = k
+      by (Gets path answer) law k = k
+      by (TellsApplied answer) law k = k
       by (Feeds now from bytes w up came h below) law k = waits_fed t now from bytes w up came h below law k
       by (Ticks now w below room d passed h id answer) law k = waits_ticked (Ticks now w below room d passed h id answer ∷ t) (max (own t).clock now) d (own t).waiting k
       by (NextOut answer) law k = k
@@ -289,6 +291,8 @@ module _ (limit szx word : ℕ) where
   served_from t (Sets now path format body answer left) law x e = absurd (cc e)
   served_from t (Removes now path answer left) law x e = absurd (cc e)
   served_from t (Delays path ms answer) law x e = absurd (cc e)
+  served_from t (Gets path answer) law x e = absurd (cc e)
+  served_from t (TellsApplied answer) law x e = absurd (cc e)
   served_from t (NextOut answer) law x e = absurd (cc e)
 
   pub handed_up : (t : List Call) → ServerLaw limit szx word t → AreHandedUp limit szx word t
@@ -302,6 +306,8 @@ module _ (limit szx word : ℕ) where
   taken_from t (Sets now path format body answer left) law x e = absurd (cc e)
   taken_from t (Removes now path answer left) law x e = absurd (cc e)
   taken_from t (Delays path ms answer) law x e = absurd (cc e)
+  taken_from t (Gets path answer) law x e = absurd (cc e)
+  taken_from t (TellsApplied answer) law x e = absurd (cc e)
   taken_from t (NextOut answer) law x e = absurd (cc e)
 
   pub blocks_come : (t : List Call) → ServerLaw limit szx word t → BlocksCome limit szx word t

@@ -15,7 +15,7 @@ use Rattle.coap_exchange.specs.AnswererSteps.{asked_of}
 use Rattle.coap_exchange.specs.AnswererLaw as W
 use Rattle.coap_exchange.specs.AskerRequests.{asked}
 use Rattle.coap_exchange.specs.AskerArrivals.{id_in, replying}
-use Rattle.coap_ends.specs.WholeServer.ServerTrace.{Own, Handling, Call, Sets, Removes, Delays, Feeds, Ticks, NextOut}
+use Rattle.coap_ends.specs.WholeServer.ServerTrace.{Own, Handling, Call, Sets, Removes, Delays, Feeds, Ticks, NextOut, Gets, TellsApplied}
 use Rattle.coap_ends.specs.WholeServer.ServerChecks.{Verdict, verdict_on}
 use Rattle.coap_ends.specs.WholeServer.ServerHandling.{incoming, heard}
 use Rattle.coap_ends.specs.WholeServer.ServerAsks.{lower, answering}
@@ -37,6 +37,8 @@ szx_is limit szx [] = refl
 szx_is limit szx (Sets now path format body answer left ∷ t) = szx_is limit szx t
 szx_is limit szx (Removes now path answer left ∷ t) = szx_is limit szx t
 szx_is limit szx (Delays path ms answer ∷ t) = szx_is limit szx t
+szx_is limit szx (Gets path answer ∷ t) = szx_is limit szx t
+szx_is limit szx (TellsApplied answer ∷ t) = szx_is limit szx t
 szx_is limit szx (Feeds now from bytes word up came h below ∷ t) = szx_is limit szx t
 szx_is limit szx (Ticks now word below room d passed h id answer ∷ t) = szx_is limit szx t
 szx_is limit szx (NextOut answer ∷ t) = szx_is limit szx t

@@ -21,7 +21,7 @@ use Rattle.coap_block.specs.declared.block_verdict.BlockVerdict.{BlockVerdict}
 use Rattle.coap_block.specs.declared.block_verdict.BlockVerdict.TheVariants.{Refuse, Join, Done}
 use Rattle.coap_observe.specs.Observers.{Observer}
 use Rattle.coap_resource.specs.Content.{Content}
-use Rattle.coap_ends.specs.WholeServer.ServerTrace.{Waiting, Own, Handling, Silent, Replies, Serves, Waits, Notifies, Call, Sets, Removes, Delays, Feeds, Ticks, NextOut}
+use Rattle.coap_ends.specs.WholeServer.ServerTrace.{Waiting, Own, Handling, Silent, Replies, Serves, Waits, Notifies, Call, Sets, Removes, Delays, Feeds, Ticks, NextOut, Gets, TellsApplied}
 use Rattle.coap_ends.specs.WholeServer.ServerServing.{IsServed}
 use Rattle.coap_ends.specs.WholeServer.ServerChecks.{Verdict, Ignored, Refused, Asks, Uploads, verdict_on}
 use Rattle.coap_ends.specs.WholeServer.ServerUploads.{ruling_of, whole}
@@ -284,6 +284,8 @@ module _ (limit szx word : ℕ) where
     mirrored (Sets now path format body answer left) law = record { clock = let k = m.clock in omega (arith, k); lists = m.lists }
     mirrored (Removes now path answer left) law = record { clock = let k = m.clock in omega (arith, k); lists = m.lists }
     mirrored (Delays path ms answer) law = record { clock = m.clock; lists = m.lists }
+    mirrored (Gets path answer) law = record { clock = m.clock; lists = m.lists }
+    mirrored (TellsApplied answer) law = record { clock = m.clock; lists = m.lists }
     mirrored (Feeds now from bytes w up came h below) law = fed now from bytes w up came h below law.rows.0
     mirrored (Ticks now w below room d passed h id answer) law = ticked now w below room d passed h id answer law
     mirrored (NextOut answer) law = record { clock = m.clock; lists = m.lists }
@@ -312,5 +314,7 @@ module _ (limit szx word : ℕ) where
       here (Sets now path format body answer left) m law a is = absurd (cc is)
       here (Removes now path answer left) m law a is = absurd (cc is)
       here (Delays path ms answer) m law a is = absurd (cc is)
+      here (Gets path answer) m law a is = absurd (cc is)
+      here (TellsApplied answer) m law a is = absurd (cc is)
       here (Feeds now from bytes w up came h below) m law a is = absurd (cc is)
       here (NextOut answer) m law a is = absurd (cc is)

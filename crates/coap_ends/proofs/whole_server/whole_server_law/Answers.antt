@@ -21,6 +21,15 @@ use Rattle.coap_ends.proofs.WholeServer.Holding.ServerStamps.{are_stamped}
 use Rattle.coap_ends.proofs.WholeServer.Holding.OneTag.{one_tag}
 use Rattle.coap_ends.proofs.WholeServer.Serving.HandedUpAsOften.{counted}
 use Rattle.coap_ends.proofs.WholeServer.Replying.RepliesAtOnce.{replies_at_once}
+use Rattle.coap_ends.proofs.WholeServer.Answering.AttendedAtOnce.{all_attended}
+use Rattle.coap_ends.proofs.WholeServer.Answering.HandedOn.{all_handed_on}
+use Rattle.coap_ends.proofs.WholeServer.Answering.FirstAnswered.{first_answered}
+use Rattle.coap_ends.proofs.WholeServer.Progress.ServerGoes.{goes_on}
+use Rattle.coap_ends.proofs.WholeServer.Rest.ServerResting.{comes_to_rest}
+use Rattle.coap_ends.proofs.WholeServer.Replying.GivenInOrder.{gives_in_order}
+use Rattle.coap_ends.proofs.WholeServer.Holding.ServerShown.{shows_held, notices_show}
+use Rattle.coap_ends.proofs.WholeServer.Progress.TokensShort.{short_tokens}
+use Rattle.coap_ends.proofs.WholeServer.Serving.MethodsServed.{all_methods, verdicts_ask}
 
 pub returns-clause-start : goal.returns-clause-start
 returns-clause-start c = led_empty
@@ -99,3 +108,36 @@ returns-clause-counts c limit szx word t law = counted limit szx word t law
 
 pub returns-clause-replies : goal.returns-clause-replies
 returns-clause-replies c limit szx word t law = replies_at_once limit szx word t law
+
+pub returns-clause-handed_on : goal.returns-clause-handed_on
+returns-clause-handed_on c limit szx word t law = all_handed_on limit szx word t law
+
+pub returns-clause-attended : goal.returns-clause-attended
+returns-clause-attended c limit szx word t law = all_attended limit szx word t law
+
+pub returns-clause-answered : goal.returns-clause-answered
+returns-clause-answered c limit szx word t law = first_answered limit szx word t law
+
+pub returns-clause-goes : goal.returns-clause-goes
+returns-clause-goes c limit szx word t law = goes_on limit szx word t law
+
+pub returns-clause-rests : goal.returns-clause-rests
+returns-clause-rests c limit szx word t law = comes_to_rest limit szx word t law
+
+pub returns-clause-in_order : goal.returns-clause-in_order
+returns-clause-in_order c limit szx word t law = gives_in_order limit szx word t law
+
+pub returns-clause-shows : goal.returns-clause-shows
+returns-clause-shows c limit szx word t law = shows_held limit szx t law.rows
+
+pub returns-clause-notices : goal.returns-clause-notices
+returns-clause-notices c limit szx word t law = notices_show limit szx t law.rows
+
+pub returns-clause-tokens : goal.returns-clause-tokens
+returns-clause-tokens c limit szx word t law = short_tokens limit szx word t law
+
+pub returns-clause-asks : goal.returns-clause-asks
+returns-clause-asks c = verdicts_ask
+
+pub returns-clause-methods : goal.returns-clause-methods
+returns-clause-methods c limit szx word t law = all_methods limit szx t law.rows

@@ -3,12 +3,12 @@ use Rattle.std.specs.Prelude.{◌≡◌, ℕ, Bool, Option, List, ◌∷◌, Res
 use Rattle.coap_types.specs.declared.endpoint.Endpoint.{Endpoint}
 use Rattle.coap_codec.specs.Message.{Message}
 use Rattle.coap_layer.specs.Trace as L
-use Rattle.coap_resource.specs.Content.{Content}
+use Rattle.coap_resource.specs.Content.{Content, Held}
 use Rattle.coap_resource.specs.declared.refusal.StoreRefusal.{StoreRefusal}
 use Rattle.coap_exchange.specs.declared.answerer.Asked.{Asked}
 use Rattle.coap_exchange.specs.declared.answerer.Due.{Due}
 use Rattle.coap_exchange.specs.AnswererLaw as E
-use Rattle.coap_ends.specs.WholeServer.ServerTrace.{Own, Handling, Call, Sets, Removes, Delays, Feeds, Ticks, NextOut}
+use Rattle.coap_ends.specs.WholeServer.ServerTrace.{Applied, Own, Handling, Call, Sets, Removes, Delays, Feeds, Ticks, NextOut, Gets, TellsApplied}
 use Rattle.coap_ends.specs.WholeServer.ServerHandling.{incoming, ticking, heard}
 use Rattle.coap_ends.specs.WholeServer.ServerAsks.{answering, responding}
 use Rattle.coap_ends.specs.WholeServer.ServerLaw.{ServerLaw, own_of, lower_of}
@@ -49,3 +49,5 @@ pub record IsExact (limit szx word : ℕ) (past : List Call) : Type 0 where
       × (responding (turned limit szx past now below room d) d passed h w id ≡ responding (turned limit szx past now other space due) due skipped k w number) × (answer ≡ another)
       × LeaveAlike limit szx past (Ticks now w below room d passed h id answer) (Ticks now w other space due skipped k number another)
   pub next_out : (answer another : Option L.Packet) → ServerLaw limit szx word (NextOut answer ∷ past) → ServerLaw limit szx word (NextOut another ∷ past) → answer ≡ another
+  pub gets : (path : List (List ℕ)) (answer another : Option Held) → ServerLaw limit szx word (Gets path answer ∷ past) → ServerLaw limit szx word (Gets path another ∷ past) → answer ≡ another
+  pub tells_applied : (answer another : List Applied) → ServerLaw limit szx word (TellsApplied answer ∷ past) → ServerLaw limit szx word (TellsApplied another ∷ past) → answer ≡ another

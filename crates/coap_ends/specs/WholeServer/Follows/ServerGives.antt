@@ -1,6 +1,6 @@
 -- What a server sends beside Empty messages: responses to the requests that were handed up, and notifications (RFC 7252,
 -- sections 4.2 and 5.2; RFC 7641, sections 3.2 and 4.2; RFC 7959, section 2.9).
-use Rattle.std.specs.Prelude.{◌≡◌, ◌≢◌, ◌⊎◌, ℕ, true, false, Option, Some, None, List, ◌∷◌}
+use Rattle.std.specs.Prelude.{◌≡◌, ◌≢◌, ◌⊎◌, ℕ, max, true, false, Option, Some, None, List, ◌∷◌}
 use Rattle.coap_types.specs.Past.{Ever, Sometime, Always}
 use Rattle.coap_types.specs.declared.endpoint.Endpoint.{Endpoint}
 use Rattle.coap_types.specs.declared.message.Kind.{Kind}
@@ -9,6 +9,10 @@ use Rattle.coap_codec.specs.Spelling.{message_bytes}
 use Rattle.coap_layer.specs.Sends.{IsIn}
 use Rattle.coap_layer.specs.Trace as L
 use Rattle.coap_layer.specs.Trace.{with_head}
+use Rattle.coap_block.specs.declared.block_verdict.BlockVerdict.{BlockVerdict}
+use Rattle.coap_block.specs.declared.block_verdict.BlockVerdict.TheVariants.{Refuse, Join}
+use Rattle.coap_block.specs.AssemblyAnswer.{refusal_code}
+use Rattle.coap_block.specs.AssemblyState.{AssemblyState}
 use Rattle.coap_observe.specs.Observers.{Observer}
 use Rattle.coap_observe.specs.Versions.{sequence_number}
 use Rattle.coap_resource.specs.Content.{Held}
@@ -16,11 +20,11 @@ use Rattle.coap_resource.specs.Serves.{bare, content_reply}
 use Rattle.coap_exchange.specs.declared.answerer.Asked.{Asked}
 use Rattle.coap_exchange.specs.AnswererTrace as E
 use Rattle.coap_exchange.specs.AnswererSteps.{content_with}
-use Rattle.coap_ends.specs.WholeServer.ServerTrace.{Call}
+use Rattle.coap_ends.specs.WholeServer.ServerTrace.{Own, Call, Feeds}
 use Rattle.coap_ends.specs.WholeServer.ServerResponses.{response_with}
 use Rattle.coap_ends.specs.WholeServer.ServerResponses as R
-use Rattle.coap_ends.specs.WholeServer.ServerChecks.{Verdict}
-use Rattle.coap_ends.specs.WholeServer.ServerUploads.{continue, continuing, last_block}
+use Rattle.coap_ends.specs.WholeServer.ServerChecks.{Verdict, Refused, Uploads, verdict_on}
+use Rattle.coap_ends.specs.WholeServer.ServerUploads.{continue, continuing, last_block, ruling_of}
 use Rattle.coap_ends.specs.WholeServer.ServerLaw.{own_of, layer_of}
 use Rattle.coap_ends.specs.WholeServer.Follows.ServerServes.{Serving, serving, hands}
 use Rattle.coap_ends.specs.WholeServer.Follows.ServerTakes.{Took, takes_block}
@@ -38,6 +42,35 @@ pub record Carries (p : L.Packet) (to : Endpoint) (token : List ℕ) (r : E.Resp
 -- neither a request nor a response: code 0.00
 abbrev pub IsEmpty : L.Packet → Type 0
 IsEmpty p = (m : Message) × Spells p.bytes m × (m.code ≡ 0)
+
+-- The code with which a request is refused without the store: by the checks, or since the block of its upload is not taken.
+
+abbrev pub refusal_by : BlockVerdict → Option ℕ
+refusal_by (Refuse why) = Some (refusal_code why).0
+refusal_by _ = None
+
+abbrev pub refusal_of : AssemblyState → ℕ → Asked → Verdict → Option ℕ
+refusal_of uploads at a (Refused code) = Some code
+refusal_of uploads at a (Uploads q b) = refusal_by (ruling_of uploads at a q b)
+refusal_of uploads at a _ = None
+
+abbrev pub refusal_in : Own → Call → Option ℕ
+refusal_in s (Feeds now from bytes word up (Some p) h below) = refusal_of s.uploads (max s.clock now) p.0 (verdict_on s.szx p.1)
+refusal_in s _ = None
+
+-- the size that is asked for with 2.31, where the block is taken and there are more
+
+abbrev pub size_by : BlockVerdict → Option ℕ
+size_by (Join size) = Some size
+size_by _ = None
+
+abbrev pub size_of : AssemblyState → ℕ → Asked → Verdict → Option ℕ
+size_of uploads at a (Uploads q b) = size_by (ruling_of uploads at a q b)
+size_of uploads at a _ = None
+
+abbrev pub size_in : Own → Call → Option ℕ
+size_in s (Feeds now from bytes word up (Some p) h below) = size_of s.uploads (max s.clock now) p.0 (verdict_on s.szx p.1)
+size_in s _ = None
 
 -- a notification shows what a path holds: 2.05 with its version as Observe, or 4.04 without Observe where it holds nothing
 abbrev pub NoticeOf : ℕ → Option Held → E.Response → Type 0
@@ -57,6 +90,7 @@ module _ (limit szx : ℕ) where
     pub taken : takes_block (own_of limit szx past) c ≡ Some block
     pub more : block.part.more ≡ true
     pub size : ℕ
+    pub asks : size_in (own_of limit szx past) c ≡ Some size
     pub carries : Carries p block.asked.from block.asked.token (continuing size (record { num = block.part.num; more = true; szx = block.part.szx }))
 
   -- the refusal, without the store, of a request that was handed up here
@@ -67,6 +101,7 @@ module _ (limit szx : ℕ) where
     pub comes : Comes limit szx word past c asked verdict
     pub handed : hands c ≡ Some asked
     pub unserved : serving (own_of limit szx past) c ≡ None
+    pub refuses : refusal_in (own_of limit szx past) c ≡ Some code
     pub not_continue : code ≢ continue
     pub carries : Carries p asked.from asked.token (R.bare code)
 

@@ -11,6 +11,7 @@ use Rattle.coap_ends.specs.WholeServer.ServerTrace.{Own, Call, Feeds, Ticks}
 use Rattle.coap_ends.specs.WholeServer.ServerObservers.{observes}
 use Rattle.coap_ends.specs.WholeServer.ServerLaw.{own_of}
 use Rattle.coap_ends.specs.WholeServer.Follows.ServerServes.{Serving, serving}
+use Rattle.coap_ends.specs.WholeServer.Follows.ServerTells.{registering}
 
 -- the separate response or notification that a call says to have ended, by a Reset or since it was given up
 abbrev pub ends_in : Own → Call → Option Ended
@@ -19,7 +20,7 @@ ends_in s (Ticks now word below room d passed h id answer) = failed_by below s.e
 ends_in s _ = None
 
 module _ (limit szx : ℕ) where
-  -- a GET with Observe 0 of this endpoint and token was served with a 2.05, and made the registration
+  -- a GET with Observe 0 of this endpoint and token was served with a 2.05, and this call made the registration
   pub record MadeBy (to : Endpoint) (token : List ℕ) (path : List (List ℕ)) (past : List Call) (c : Call) : Type 0 where
     pub request : Serving
     pub here : serving (own_of limit szx past) c ≡ Some request
@@ -28,6 +29,7 @@ module _ (limit szx : ℕ) where
     pub path_is : request.question.path ≡ path
     pub observe : observes 0 request.question ≡ true
     pub code : request.reply.code ≡ content
+    pub registers : registering (own_of limit szx past) c ≡ Some (record { to = to; token = token })
 
   abbrev pub WasMade : List Call → Observer → Type 0
   WasMade t o = Sometime (MadeBy o.to o.token o.path) t

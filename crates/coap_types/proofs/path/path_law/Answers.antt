@@ -1,5 +1,8 @@
-use Rattle.coap_types.proofs.SegmentLemmas.{paths_of_recognised}
+use Rattle.coap_types.proofs.SegmentLemmas.{makes_path_within, paths_of_recognised}
 use Rattle.coap_types.proofs.path.path_law.Goals as goal
 
-pub returns : goal.returns
-returns c = paths_of_recognised
+pub returns-clause-within : goal.returns-clause-within
+returns-clause-within c = makes_path_within
+
+pub returns-clause-recognised : goal.returns-clause-recognised
+returns-clause-recognised c = paths_of_recognised

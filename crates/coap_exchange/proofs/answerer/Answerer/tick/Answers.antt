@@ -10,7 +10,7 @@ use Rattle.coap_exchange.specs.Machine.Listed.{listed}
 use Rattle.coap_exchange.proofs.Leading.ServerLeads.{led_call}
 use Rattle.coap_exchange.proofs.Calls.ServerTicks.{asks_freely, asking_clock, may_respond, placed, readied, ticked, waits_its_turn}
 use Rattle.coap_exchange.proofs.Calls.RoomIsKept.{may_still, ticked_confirms}
-use Rattle.coap_exchange.proofs.Facts.CallsOfLayer.{step_clock}
+use Rattle.coap_layer.proofs.Facts.CallsOfLayer.{step_clock}
 use Rattle.coap_exchange.proofs.answerer.Answerer.tick.Goals as goal
 
 pub is_sendable-room-requires : goal.is_sendable-room-requires

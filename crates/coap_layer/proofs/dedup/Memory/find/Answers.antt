@@ -8,12 +8,12 @@ use Rattle.coap_layer.proofs.dedup.Memory.find.Goals as goal
 pub returns-clause-there : goal.returns-clause-there
 returns-clause-there g c =
     some_copied c.while_live.result
-    ∙ (ap is_some (c.while_live.ensures ∙ ap (live_of c.args.now) c.get.ensures.value)
-    ∙ (found_any c.args.now c.args.key c.self.inside.settled.entries c.self.invariant.0
-    ∙ ap (λ m. is_remembered c.args.now c.args.key.from c.args.key.id.0 m.settled) c.self.view_is))
+    ∙ (ap is_some (c.while_live.ensures ∙ ap (live_of c.args.now.0) c.get.ensures.value)
+    ∙ (found_any c.args.now.0 c.args.key c.self.inside.settled.entries c.self.invariant.0
+    ∙ ap (λ m. is_remembered c.args.now.0 c.args.key.from c.args.key.id.0 m.settled) c.self.view_is))
 
 pub returns-clause-reply : goal.returns-clause-reply
 returns-clause-reply g c =
-    ap (option_and_then items_of) (c.while_live.ensures ∙ ap (live_of c.args.now) c.get.ensures.value)
-    ∙ (found_reply c.args.now c.args.key c.self.inside.settled.entries c.self.invariant.0
-    ∙ ap (λ m. reply_of c.args.now c.args.key.from c.args.key.id.0 m.settled) c.self.view_is)
+    ap (option_and_then items_of) (c.while_live.ensures ∙ ap (live_of c.args.now.0) c.get.ensures.value)
+    ∙ (found_reply c.args.now.0 c.args.key c.self.inside.settled.entries c.self.invariant.0
+    ∙ ap (λ m. reply_of c.args.now.0 c.args.key.from c.args.key.id.0 m.settled) c.self.view_is)

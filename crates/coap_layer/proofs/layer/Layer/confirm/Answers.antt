@@ -9,6 +9,7 @@ use Rattle.coap_layer.specs.Machine.Sendings.{open_now}
 use Rattle.coap_layer.specs.Machine.State.{State, is_busy}
 use Rattle.coap_layer.specs.Trace.{Packet, with_head}
 use Rattle.coap_layer.specs.Words.{Open}
+use Rattle.coap_types.specs.declared.transmission.TheConstants.{ACK_TIMEOUT_MS as ack_timeout, TIMEOUT_VALUES as timeout_values}
 use Rattle.coap_layer.proofs.Machine.Forgetting.{led_step}
 use Rattle.coap_layer.proofs.Calls.Remembered.{upto_later}
 use Rattle.coap_layer.proofs.Calls.Outstanding.{busy_is}
@@ -18,10 +19,10 @@ use Rattle.coap_layer.proofs.layer.Layer.confirm.Goals as goal
 
 pub returns-in-Some-clause-step : goal.returns-in-Some-clause-step
 returns-in-Some-clause-step g c _ =
-    let h : State = held c.self.inside.clock c.self.inside.awaits c.self.inside.ids c.self.inside.lists in
+    let h : State = held c.self.inside.clock.0 c.self.inside.awaits c.self.inside.ids c.self.inside.lists in
     let busy : c.is_busy-busy.result ≡ is_busy c.args.to h.open_cons
     = c.is_busy-busy.ensures ∙ (ap (λ cs. list_any (λ x. is_some x.last && same_endpoint x.to c.args.to) cs) c.deref.ensures.value ∙ busy_is c.args.to c.self.inside.lists.sendings.items) in
-    con_refused h c.args.self.now.state c.args.now.0 c.max-at.result c.args.to c.args.content.now (ap (λ s. s.state) c.self.view_is) c.requires.spelled (search rules)
+    con_refused h c.args.self.now.state c.args.now.0 c.later-at.result.0 c.args.to c.args.content.now (ap (λ s. s.state) c.self.view_is) c.requires.spelled (search rules)
     c.args.word c.is_busy-busy.result c.would_give.result c.in-Some.refusal busy c.would_give.ensures (sym c.refusal.ensures ∙ c.in-Some.is)
 
 pub returns-in-Some-clause-led : goal.returns-in-Some-clause-led
@@ -36,17 +37,17 @@ invariant_of-self-2 g c =
       within_pushed c.self.inside.mark c.self.inside.lists.entries.settled c.send_con.new.lists.entries.settled c.self.inside.lists.waiting.items c.send_con.new.lists.waiting.items out c.self.invariant.0
           (ap (λ m. m.settled) (c.send_con.ensures.entries ∙ c.take_room.ensures.entries)) (c.send_con.ensures.waiting ∙ ap (λ (q : List Packet). q ++ out) c.take_room.ensures.waiting),
       search rules,
-      (subst (λ m. IsUpTo c.max-at.result (arrivals_in m)) (sym (c.send_con.ensures.entries ∙ c.take_room.ensures.entries)) (upto_later _ _ _ (search rules) c.self.invariant.2.0), tt),
+      (subst (λ m. IsUpTo c.later-at.result.0 (arrivals_in m)) (sym (c.send_con.ensures.entries ∙ c.take_room.ensures.entries)) (upto_later _ _ _ (search rules) c.self.invariant.2.0), tt),
     )
 
 pub returns-clause-step : goal.returns-clause-step
 returns-clause-step g c _ =
-    let h : State = held c.self.inside.clock c.self.inside.awaits c.self.inside.ids c.self.inside.lists in
+    let h : State = held c.self.inside.clock.0 c.self.inside.awaits c.self.inside.ids c.self.inside.lists in
     let busy : c.is_busy-busy.result ≡ is_busy c.args.to h.open_cons
     = c.is_busy-busy.ensures ∙ (ap (λ cs. list_any (λ x. is_some x.last && same_endpoint x.to c.args.to) cs) c.deref.ensures.value ∙ busy_is c.args.to c.self.inside.lists.sendings.items) in
     let out : List Packet = record { to = c.args.to; bytes = message_bytes (with_head Con c.give-id.result.0 c.args.content.now) } ∷ [] in
-    let begun : List Open = record { to = c.args.to; id = c.give-id.result.0; bytes = message_bytes (with_head Con c.give-id.result.0 c.args.content.now); timeout = 2000 + c.args.word % 1001; first = c.max-at.result; last = c.max-at.result } ∷ [] in
-    con_left h c.args.self.now.state c.args.now.0 c.max-at.result c.args.to c.args.content.now (ap (λ s. s.state) c.self.view_is) c.requires.spelled (search rules)
+    let begun : List Open = record { to = c.args.to; id = c.give-id.result.0; bytes = message_bytes (with_head Con c.give-id.result.0 c.args.content.now); timeout = ack_timeout + c.args.word % timeout_values; first = c.later-at.result.0; last = c.later-at.result.0 } ∷ [] in
+    con_left h c.args.self.now.state c.args.now.0 c.later-at.result.0 c.args.to c.args.content.now (ap (λ s. s.state) c.self.view_is) c.requires.spelled (search rules)
     c.args.word c.is_busy-busy.result c.would_give.result c.give-id.result _ _ _ _ _ busy c.would_give.ensures (sym c.refusal.ensures ∙ c.in_default.is) c.give-id.ensures.id
     (ap (λ s. s.upcoming) c.give-id.ensures.new) (ap (λ s. s.last_used) c.give-id.ensures.new)
     (ap arrivals_in (c.send_con.ensures.entries ∙ c.take_room.ensures.entries))
@@ -66,7 +67,7 @@ returns-clause-before g c =
 
 pub returns-in_default-take_room-clause-quiet : goal.returns-in_default-take_room-clause-quiet
 returns-in_default-take_room-clause-quiet g c quiet _ =
-    let h : State = held c.self.inside.clock c.self.inside.awaits c.self.inside.ids c.self.inside.lists in
+    let h : State = held c.self.inside.clock.0 c.self.inside.awaits c.self.inside.ids c.self.inside.lists in
     let busy : c.is_busy-busy.result ≡ is_busy c.args.to h.open_cons
     = c.is_busy-busy.ensures ∙ (ap (λ cs. list_any (λ x. is_some x.last && same_endpoint x.to c.args.to) cs) c.deref.ensures.value ∙ busy_is c.args.to c.self.inside.lists.sendings.items) in
-    not_refused h c.args.self.now.state c.args.to c.args.now.0 c.max-at.result c.is_busy-busy.result c.would_give.result (ap (λ s. s.state) c.self.view_is) (search rules) busy c.would_give.ensures (sym c.refusal.ensures ∙ c.in_default.is) quiet
+    not_refused h c.args.self.now.state c.args.to c.args.now.0 c.later-at.result.0 c.is_busy-busy.result c.would_give.result (ap (λ s. s.state) c.self.view_is) (search rules) busy c.would_give.ensures (sym c.refusal.ensures ∙ c.in_default.is) quiet

@@ -18,12 +18,12 @@ pub take_in-mark-requires-clause-place : goal.take_in-mark-requires-clause-place
 take_in-mark-requires-clause-place g c some = c.in_ok-grow.ensures.place (c.is_some.ensures ∙ some)
 
 pub take_in-mark-requires-clause-up_to : goal.take_in-mark-requires-clause-up_to
-take_in-mark-requires-clause-up_to g c = subst (IsUpTo c.self.inside.clock) (sym (same_arrivals c.in_ok-grow.ensures.settled c.in_ok-grow.ensures.newest)) c.self.invariant.2.0
+take_in-mark-requires-clause-up_to g c = subst (IsUpTo c.self.inside.clock.0) (sym (same_arrivals c.in_ok-grow.ensures.settled c.in_ok-grow.ensures.newest)) c.self.invariant.2.0
 
 pub take_in-mark-requires-clause-unknown : goal.take_in-mark-requires-clause-unknown
 take_in-mark-requires-clause-unknown g c up =
-    let h : State = held c.self.inside.clock c.self.inside.awaits c.self.inside.ids c.self.inside.lists in
-    let at : ℕ = c.max.result in
+    let h : State = held c.self.inside.clock.0 c.self.inside.awaits c.self.inside.ids c.self.inside.lists in
+    let at : ℕ = c.later.result.0 in
     let a = c.judge-arriving.result in
     let judged = c.judge-arriving.ensures h refl refl (sym c.would_give-free.ensures) in
     let arrives : IsArriving h at c.args.from (arrival_at c.args.bytes.now) a = subst (λ x. IsArriving h at c.args.from x a) c.read-datagram.ensures.shows judged.0 in
@@ -31,8 +31,8 @@ take_in-mark-requires-clause-unknown g c up =
 
 pub returns-clause-step : goal.returns-clause-step
 returns-clause-step g c =
-    let h : State = held c.self.inside.clock c.self.inside.awaits c.self.inside.ids c.self.inside.lists in
-    let at : ℕ = c.max.result in
+    let h : State = held c.self.inside.clock.0 c.self.inside.awaits c.self.inside.ids c.self.inside.lists in
+    let at : ℕ = c.later.result.0 in
     let a = c.judge-arriving.result in
     let shows = c.read-datagram.ensures.shows in
     let judged = c.judge-arriving.ensures h refl refl (sym c.would_give-free.ensures) in
@@ -41,7 +41,7 @@ returns-clause-step g c =
     (ap (λ s. s.state) c.self.view_is) c.read-datagram.ensures.bytes
     (subst (λ x. IsArriving h at c.args.from x a) shows judged.0)
     (ap Becomes (c.told.ensures ∙ (judged.1 ∙ ap (answer_to h at c.args.from) shows)))
-    (c.take_in-mark.ensures.arrived ∙ ap (λ es. filter (is_live at) (filter (is_live c.self.inside.clock) es ++ newly_by at c.args.from a)) (same_arrivals c.in_ok-grow.ensures.settled c.in_ok-grow.ensures.newest))
+    (c.take_in-mark.ensures.arrived ∙ ap (λ es. filter (is_live at) (filter (is_live c.self.inside.clock.0) es ++ newly_by at c.args.from a)) (same_arrivals c.in_ok-grow.ensures.settled c.in_ok-grow.ensures.newest))
     (c.take_in-mark.ensures.open ∙ ap (λ cs. open_by c.args.from a (open_now cs)) c.in_ok-grow.ensures.sendings)
     c.in_ok-sent.ensures.sent
     (c.take_in-mark.ensures.waiting ∙ ap (λ q. q ++ option_to_list c.in_ok-sent.sent) c.in_ok-grow.ensures.waiting)
@@ -52,8 +52,8 @@ returns-clause-led g c _ word t led = led_step word t _ _ _ _ _ led (returns-cla
 
 pub returns-in_err-sent-clause-quiet : goal.returns-in_err-sent-clause-quiet
 returns-in_err-sent-clause-quiet g c quiet =
-    let h : State = held c.self.inside.clock c.self.inside.awaits c.self.inside.ids c.self.inside.lists in
-    let at : ℕ = c.max.result in
+    let h : State = held c.self.inside.clock.0 c.self.inside.awaits c.self.inside.ids c.self.inside.lists in
+    let at : ℕ = c.later.result.0 in
     let a = c.judge-arriving.result in
     let judged = c.judge-arriving.ensures h refl refl (sym c.would_give-free.ensures) in
     let arrives : IsArriving h at c.args.from (arrival_at c.args.bytes.now) a = subst (λ x. IsArriving h at c.args.from x a) c.read-datagram.ensures.shows judged.0 in
@@ -62,8 +62,8 @@ returns-in_err-sent-clause-quiet g c quiet =
 
 pub returns-in_err-grow-clause-quiet : goal.returns-in_err-grow-clause-quiet
 returns-in_err-grow-clause-quiet g c quiet =
-    let h : State = held c.self.inside.clock c.self.inside.awaits c.self.inside.ids c.self.inside.lists in
-    let at : ℕ = c.max.result in
+    let h : State = held c.self.inside.clock.0 c.self.inside.awaits c.self.inside.ids c.self.inside.lists in
+    let at : ℕ = c.later.result.0 in
     let a = c.judge-arriving.result in
     let judged = c.judge-arriving.ensures h refl refl (sym c.would_give-free.ensures) in
     let arrives : IsArriving h at c.args.from (arrival_at c.args.bytes.now) a = subst (λ x. IsArriving h at c.args.from x a) c.read-datagram.ensures.shows judged.0 in
@@ -73,7 +73,7 @@ returns-in_err-grow-clause-quiet g c quiet =
 
 pub invariant_of-self-2 : goal.invariant_of-self-2
 invariant_of-self-2 g c =
-    let at : ℕ = c.max.result in (
+    let at : ℕ = c.later.result.0 in (
       c.take_in-mark.ensures.within,
       room_kept c.grow.new.room c.grow.new.lists c.take_in-mark.new.lists c.in_ok-grow.ensures.room c.take_in-mark.ensures.sendings_len c.take_in-mark.ensures.sendings_capacity c.take_in-mark.ensures.waiting_room,
       subst (λ w. IsKept at w true c.take_in-mark.new.lists.entries) (sym c.awaiting-self-inside.ensures) c.take_in-mark.ensures.kept,
@@ -81,8 +81,8 @@ invariant_of-self-2 g c =
 
 pub returns-clause-may_reply : goal.returns-clause-may_reply
 returns-clause-may_reply g c m up =
-    let h : State = held c.self.inside.clock c.self.inside.awaits c.self.inside.ids c.self.inside.lists in
-    let at : ℕ = c.max.result in
+    let h : State = held c.self.inside.clock.0 c.self.inside.awaits c.self.inside.ids c.self.inside.lists in
+    let at : ℕ = c.later.result.0 in
     let a = c.judge-arriving.result in
     let shows = c.read-datagram.ensures.shows in
     let judged = c.judge-arriving.ensures h refl refl (sym c.would_give-free.ensures) in

@@ -17,27 +17,27 @@ invariant_of-self g c =
       within_more c.self.inside.mark old.settled c.store_reply.new.self.settled _ _ c.self.invariant.0 c.store_reply.ensures.settled (search rules),
       search rules,
       (
-        subst (IsUpTo c.self.inside.clock) (sym (same_arrivals c.store_reply.ensures.settled c.store_reply.ensures.newest))
-            (upto_more c.self.inside.clock old.settled _ (upto_front c.self.inside.clock old.settled _ c.self.invariant.2.0)
-            (upto_stored c.self.inside.clock c.args.to c.args.id.0 c.filled-stored.result.items old.newest (upto_back c.self.inside.clock old.settled _ c.self.invariant.2.0))),
+        subst (IsUpTo c.self.inside.clock.0) (sym (same_arrivals c.store_reply.ensures.settled c.store_reply.ensures.newest))
+            (upto_more c.self.inside.clock.0 old.settled _ (upto_front c.self.inside.clock.0 old.settled _ c.self.invariant.2.0)
+            (upto_stored c.self.inside.clock.0 c.args.to c.args.id.0 c.filled-stored.result.items old.newest (upto_back c.self.inside.clock.0 old.settled _ c.self.invariant.2.0))),
         tt,
       ),
     )
 
 pub returns-in-Some-clause-step : goal.returns-in-Some-clause-step
 returns-in-Some-clause-step g c =
-    let h : State = held c.self.inside.clock c.self.inside.awaits c.self.inside.ids c.self.inside.lists in
+    let h : State = held c.self.inside.clock.0 c.self.inside.awaits c.self.inside.ids c.self.inside.lists in
     let old = c.self.inside.lists.entries in
     let id = c.args.id.0 in
     let bytes = c.args.bytes.now in
-    let unknown = unknown_there c.self.inside.clock (awaited c.self.inside.awaits) _ c.self.inside.replies old.settled
+    let unknown = unknown_there c.self.inside.clock.0 (awaited c.self.inside.awaits) _ c.self.inside.replies old.settled
     (ap (λ s. s.state.awaits) c.self.view_is ∙ c.requires.may.awaited) (ap (λ s. s.replies) c.self.view_is ∙ c.requires.may.replies) c.self.invariant.2.1 in
     let stored : arrivals_in c.store_reply.new.self ≡ old.settled ++ option_to_list (option_map (storing c.args.to id bytes) old.newest) =
     same_arrivals c.store_reply.ensures.settled
     (c.store_reply.ensures.newest ∙ ap (λ b. option_map (storing c.args.to id b) old.newest) c.filled-stored.ensures) in
     step_of h c.args.self.now.state _ 0 h.clock (Reply c.args.to id bytes) Nothing (record { to = c.args.to; bytes = bytes } ∷ []) (ap (λ s. s.state) c.self.view_is) (ap (λ s. s.state.awaits) c.self.view_is ∙ c.requires.may.awaited) refl refl refl
     (replied_left h c.args.to id bytes (arrivals_in c.store_reply.new.self) c.push_within.new.waiting.items
-    (ap (filter (is_live c.self.inside.clock)) stored ∙ stored_newest c.self.inside.clock c.args.to id bytes old.settled old.newest unknown)
+    (ap (filter (is_live c.self.inside.clock.0)) stored ∙ stored_newest c.self.inside.clock.0 c.args.to id bytes old.settled old.newest unknown)
     (c.push_within.ensures.items ∙ ap (λ b. h.queue ++ record { to = c.args.to; bytes = b } ∷ []) c.filled-sent.ensures))
 
 pub returns-in-Some-clause-led : goal.returns-in-Some-clause-led

@@ -15,8 +15,8 @@ use Rattle.coap_layer.proofs.layer.Layer.room.Goals as goal
 
 pub returns-clause-step : goal.returns-clause-step
 returns-clause-step g c =
-    let h : State = held c.self.inside.clock c.self.inside.awaits c.self.inside.ids c.self.inside.lists in
-    let at : ℕ = c.max-at.result in
+    let h : State = held c.self.inside.clock.0 c.self.inside.awaits c.self.inside.ids c.self.inside.lists in
+    let at : ℕ = c.later-at.result.0 in
     let told = so_told h c.args.self.now.state c.args.to c.args.now.0 at c.would_confirm-may.result (ap (λ s. s.state) c.self.view_is) (search rules) c.would_confirm-may.ensures in
     let entries : arrivals_in c.grow.new.lists.entries ≡ arrivals_in c.self.inside.lists.entries = same_arrivals c.in_ok-grow.ensures.settled c.in_ok-grow.ensures.newest in
     let sendings = ap open_now c.in_ok-grow.ensures.sendings in
@@ -40,8 +40,8 @@ invariant_of-self-2 g c =
           (c.in_ok-grow.ensures.waiting ∙ sym (append-nil c.self.inside.lists.waiting.items)),
       c.in_ok-grow.ensures.room,
       (
-        subst (IsUpTo c.max-at.result) (sym entries) (upto_later _ _ _ (search rules) i.2.0),
-        subst (IsUnknown c.max-at.result (awaited c.self.inside.awaits) c.self.inside.replies) (sym c.in_ok-grow.ensures.settled) (unknown_later _ _ _ _ _ (search rules) i.2.1),
+        subst (IsUpTo c.later-at.result.0) (sym entries) (upto_later _ _ _ (search rules) i.2.0),
+        subst (IsUnknown c.later-at.result.0 (awaited c.self.inside.awaits) c.self.inside.replies) (sym c.in_ok-grow.ensures.settled) (unknown_later _ _ _ _ _ (search rules) i.2.1),
       ),
     )
 

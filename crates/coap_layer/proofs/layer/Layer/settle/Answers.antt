@@ -20,7 +20,7 @@ invariant_of-self g c =
 
 pub returns-clause-step : goal.returns-clause-step
 returns-clause-step g c =
-    let h : State = held c.self.inside.clock c.self.inside.awaits c.self.inside.ids c.self.inside.lists in
+    let h : State = held c.self.inside.clock.0 c.self.inside.awaits c.self.inside.ids c.self.inside.lists in
     let there : c.is_outstanding-open.result ≡ is_outstanding c.args.to c.args.id.0 (open_now c.self.inside.lists.sendings.items)
     = c.is_outstanding-open.ensures ∙ (ap (λ cs. list_any (λ x. is_some x.last && (same_endpoint x.to c.args.to && (x.id.0 == c.args.id.0))) cs) c.deref.ensures.value ∙ outstanding_is c.args.to c.args.id.0 c.self.inside.lists.sendings.items) in
     step_of h c.args.self.now.state _ 0 h.clock (Settle c.args.to c.args.id.0) (Is c.is_outstanding-open.result) [] (ap (λ s. s.state) c.self.view_is) tt refl (ap Is there) refl

@@ -18,8 +18,8 @@ use Rattle.coap_layer.proofs.layer.Layer.tick.Goals as goal
 
 pub returns-clause-step : goal.returns-clause-step
 returns-clause-step g c =
-    let h : State = held c.self.inside.clock c.self.inside.awaits c.self.inside.ids c.self.inside.lists in
-    let at : ℕ = c.max.result in
+    let h : State = held c.self.inside.clock.0 c.self.inside.awaits c.self.inside.ids c.self.inside.lists in
+    let at : ℕ = c.later.result.0 in
     let due = c.take_tick-mark.result.1 in
     let out = option_to_list c.in_ok-sent.sent in
     let sendings = c.in_ok-grow.ensures.sendings in (
@@ -28,7 +28,7 @@ returns-clause-step g c =
       step_of h c.args.self.now.state _ c.args.now.0 at Ticks (answer_for due) out (ap (λ s. s.state) c.self.view_is) tt (search rules)
           (c.take_tick-mark.ensures.due ∙ ap (λ cs. tick_of at (open_now cs)) sendings) (sym c.in_ok-sent.ensures.copy)
           (ticked_left h at due out (arrivals_in c.take_tick-mark.new.lists.entries) (open_now c.take_tick-mark.new.lists.sendings.items) c.take_tick-mark.new.lists.waiting.items (search rules)
-          (c.take_tick-mark.ensures.arrived ∙ ap (filter (is_live c.self.inside.clock)) (same_arrivals c.in_ok-grow.ensures.settled c.in_ok-grow.ensures.newest))
+          (c.take_tick-mark.ensures.arrived ∙ ap (filter (is_live c.self.inside.clock.0)) (same_arrivals c.in_ok-grow.ensures.settled c.in_ok-grow.ensures.newest))
           (c.take_tick-mark.ensures.open out ∙ ap (λ cs. filter_map (left_by (record { at = at; call = Ticks; answer = answer_for due; out = out })) (open_now cs)) sendings)
           (c.take_tick-mark.ensures.waiting ∙ ap (λ q. q ++ out) c.in_ok-grow.ensures.waiting)),
     )
@@ -37,7 +37,7 @@ pub returns-clause-led : goal.returns-clause-led
 returns-clause-led g c _ word t led = led_step word t _ _ _ _ _ led ((returns-clause-step g c).2)
 
 pub take_tick-mark-requires-clause-up_to : goal.take_tick-mark-requires-clause-up_to
-take_tick-mark-requires-clause-up_to g c = subst (IsUpTo c.self.inside.clock) (sym (same_arrivals c.in_ok-grow.ensures.settled c.in_ok-grow.ensures.newest)) c.self.invariant.2.0
+take_tick-mark-requires-clause-up_to g c = subst (IsUpTo c.self.inside.clock.0) (sym (same_arrivals c.in_ok-grow.ensures.settled c.in_ok-grow.ensures.newest)) c.self.invariant.2.0
 
 pub take_tick-mark-requires-clause-place : goal.take_tick-mark-requires-clause-place
 take_tick-mark-requires-clause-place g c some = c.in_ok-grow.ensures.place (c.is_some.ensures ∙ some)
@@ -48,18 +48,18 @@ returns-clause-kept g c has = c.in_ok-grow.ensures.kept (ap (λ s. s.has_room) c
 pub returns-in_err-grow-clause-quiet : goal.returns-in_err-grow-clause-quiet
 returns-in_err-grow-clause-quiet g c idle =
     let cs = open_now c.self.inside.lists.sendings.items in
-    let here : copies (max c.self.inside.clock c.args.now.0) cs ≡ [] =
+    let here : copies (max c.self.inside.clock.0 c.args.now.0) cs ≡ [] =
     subst (λ (x : State). copies (max x.clock c.args.now.0) x.open_cons ≡ []) (sym (ap (λ s. s.state) c.self.view_is)) idle in
-    let moment : c.max.result ≡ max c.self.inside.clock c.args.now.0 = search rules in
+    let moment : c.later.result.0 ≡ max c.self.inside.clock.0 c.args.now.0 = search rules in
     let unsent : c.is_some.result ≡ false = c.is_some.ensures ∙ none_of c.in_ok-sent.sent (c.in_ok-sent.ensures.copy ∙ (ap (λ t. copies t cs) moment ∙ here)) in
     absurd (cc (c.in_err-grow.ensures.idle refl refl unsent))
 
 pub returns-in_err-sent-clause-quiet : goal.returns-in_err-sent-clause-quiet
 returns-in_err-sent-clause-quiet g c idle =
     let cs = open_now c.self.inside.lists.sendings.items in
-    let here : copies (max c.self.inside.clock c.args.now.0) cs ≡ [] =
+    let here : copies (max c.self.inside.clock.0 c.args.now.0) cs ≡ [] =
     subst (λ (x : State). copies (max x.clock c.args.now.0) x.open_cons ≡ []) (sym (ap (λ s. s.state) c.self.view_is)) idle in
-    let moment : c.max.result ≡ max c.self.inside.clock c.args.now.0 = search rules in
+    let moment : c.later.result.0 ≡ max c.self.inside.clock.0 c.args.now.0 = search rules in
     absurd (cc (c.in_err-sent.ensures.idle (ap (λ t. copies t cs) moment ∙ here)))
 
 pub invariant_of-self : goal.invariant_of-self
@@ -70,8 +70,8 @@ invariant_of-self g c =
           (c.in_err-grow.ensures.waiting ∙ sym (append-nil old.waiting.items)),
       c.in_err-grow.ensures.room,
       (
-        subst (IsUpTo c.self.inside.clock) (sym (same_arrivals c.in_err-grow.ensures.settled c.in_err-grow.ensures.newest)) i.2.0,
-        subst (IsUnknown c.self.inside.clock (awaited c.self.inside.awaits) c.self.inside.replies) (sym c.in_err-grow.ensures.settled) i.2.1,
+        subst (IsUpTo c.self.inside.clock.0) (sym (same_arrivals c.in_err-grow.ensures.settled c.in_err-grow.ensures.newest)) i.2.0,
+        subst (IsUnknown c.self.inside.clock.0 (awaited c.self.inside.awaits) c.self.inside.replies) (sym c.in_err-grow.ensures.settled) i.2.1,
       ),
     )
 

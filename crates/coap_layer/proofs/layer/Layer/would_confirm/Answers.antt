@@ -9,8 +9,8 @@ use Rattle.coap_layer.proofs.layer.Layer.would_confirm.Goals as goal
 
 pub returns : goal.returns
 returns g c =
-    let h : State = held c.self.inside.clock c.self.inside.awaits c.self.inside.ids c.self.inside.lists in
-    let at = c.max-at.result in
+    let h : State = held c.self.inside.clock.0 c.self.inside.awaits c.self.inside.ids c.self.inside.lists in
+    let at = c.later-at.result.0 in
     let busy : c.is_busy-busy.result ≡ is_busy c.args.to h.open_cons
     = c.is_busy-busy.ensures ∙ (ap (λ cs. list_any (λ x. is_some x.last && same_endpoint x.to c.args.to) cs) c.deref.ensures.value ∙ busy_is c.args.to c.self.inside.lists.sendings.items) in
     let may : c.is_none.result ≡ (not (is_busy c.args.to h.open_cons) && is_free at h.upcoming h.last_used)

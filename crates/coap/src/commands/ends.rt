@@ -1,0 +1,65 @@
+//! The ends that the programs run.
+ghost use Rattle.std.specs.Prelude.{◌≡◌, ◌<◌, ℕ, [], ◌∷◌, Ok, Some, IfOk, IfErr, length};
+ghost use Rattle.coap_resource.specs.Content.{Content};
+ghost use Rattle.coap_resource.specs.Entries.{content_of};
+ghost use Rattle.coap_ends.specs.ServerObject.ServerShown.{state_of};
+ghost use Rattle.coap_ends.specs.WholeServer.ServerLed.{Led};
+ghost use Rattle.coap_ends.specs.WholeServer.ServerTrace.{Sets};
+
+use crate::commands::Stop;
+use coap_ends::Server;
+use coap_resource::{ListStore, MAX_CHANGES_PER_WINDOW, Store, StoreRefusal};
+use coap_types::{MAX_SZX, Moment, Path, Szx};
+use std::alloc::Global;
+use std::hash::BuildHasher;
+
+/// Content-Format 0: text/plain (RFC 7252, section 12.3).
+const TEXT_PLAIN: u16 = 0;
+
+const _: () = prove!(TEXT_PLAIN == 0);
+
+// The size of the blocks of both ends: the largest (RFC 7959, section 2.2).
+fn largest_szx() -> Szx
+    ensures { result ≡ MAX_SZX }
+{
+    match Szx::new(MAX_SZX) {
+        Some(szx) => szx,
+        None => unreachable!(),
+    }
+}
+
+// A server that holds nothing.
+fn fresh_server<H: BuildHasher + Drop>(
+    alloc: Global,
+    word: u64,
+    hasher: H,
+) -> Server<ListStore, Global, H>
+    ensures { Led MAX_CHANGES_PER_WINDOW MAX_SZX word [] (state_of content_of result) }
+{
+    let Some(store) = ListStore::new(alloc, MAX_CHANGES_PER_WINDOW) else {
+        unreachable!()
+    };
+    Server::with_hasher(alloc, store, largest_szx(), word, hasher)
+}
+
+/// A server that holds this text at this path alone, as its first change; the refusal of the store
+/// where it doesn't.
+pub fn server_with<H: BuildHasher + Drop>(
+    alloc: Global,
+    word: u64,
+    hasher: H,
+    path: &Path,
+    body: &[u8],
+) -> Result<Result<Server<ListStore, Global, H>, StoreRefusal>, Stop>
+    // The one call that made it so.
+    ensures holds { IfOk result (λ made. IfOk made (λ server. (version : ℕ) × (store : Content)
+        × Led MAX_CHANGES_PER_WINDOW MAX_SZX word (Sets 0 path.now (Some TEXT_PLAIN) body.now (Ok version) store ∷ [])
+        (state_of content_of server))) }
+{
+    let mut server = fresh_server(alloc, word, hasher);
+    match server.set(Moment(0), path, Some(TEXT_PLAIN), body) {
+        Ok(_) => Ok(Ok(server)),
+        Err(StoreRefusal::Memory) => Err(Stop::Memory),
+        Err(refusal) => Ok(Err(refusal)),
+    }
+}

@@ -1,0 +1,88 @@
+ghost use Rattle.std.specs.Prelude.{◌≡◌, IfOk};
+ghost use Rattle.coap.specs.Statuses.{IsCarriedOut};
+ghost use Rattle.coap.specs.Turning.{Turns};
+
+use crate::commands::bearing::bear;
+use crate::commands::ends::server_with;
+use crate::commands::{Status, Stop};
+use crate::driver::send_all;
+use crate::link::Link;
+use crate::path_text::path_of_text;
+use crate::tally::{Tally, fresh_tally};
+use crate::timekeeper::{ProgramTime, Timekeeper};
+use crate::turning::turn;
+use crate::udp_link::UdpLink;
+use coap_ends::End;
+use coap_types::Moment;
+use std::alloc::Allocator;
+use std::hash::RandomState;
+use std::io::Write;
+use std::net::Net;
+use std::random::RandomSource;
+use std::rt::Clock;
+
+/// One turn of a server.
+pub fn serve_turn<A: Allocator + Copy, E: End<A>, L: Link>(
+    server: &mut E,
+    link: &mut L,
+    now: Moment,
+    tally: &mut Tally,
+)
+    ensures { Turns E.waiting E.gives L.sends L.receives E.feeds E.ticks
+        (E.state server.old) link.old now.0 tally.old (E.state server.new) link.new tally.new }
+{
+    turn(server, link, now, tally);
+}
+
+/// Serves until so many datagrams were fed, sends what is out then, and prints the number. The
+/// word is the one that the server began with.
+pub fn serve_over<A: Allocator + Copy, E: End<A>, L: Link, T: Timekeeper, W: Write>(
+    server: &mut E,
+    link: &mut L,
+    time: &mut T,
+    count: u64,
+    word: u64,
+    out: &mut W,
+) -> Result<Status, Stop>
+    ensures { IfOk result IsCarriedOut }
+{
+    let mut tally = fresh_tally(word);
+    // More turns than a program lives.
+    for _ in 0..u64::MAX {
+        if tally.fed >= count {
+            break;
+        }
+        serve_turn(server, link, time.now()?, &mut tally);
+        bear(link, &tally)?;
+    }
+    send_all(server, link);
+    writeln!(out, "served {count}")?;
+    Ok(Status::Done)
+}
+
+/// The resource that is served, and what it holds.
+const PATH: &str = "temperature";
+
+const BODY: &str = "22.3 C";
+
+/// Serves the resource at a port of 127.0.0.1 until so many datagrams came.
+pub fn serve<R: AllocGlobal + Net + Clock + RandomSource, W: Write>(
+    rt: &R,
+    port: u16,
+    count: u64,
+    word: u64,
+    out: &mut W,
+) -> Result<Status, Stop>
+    ensures { IfOk result IsCarriedOut }
+{
+    let alloc = rt.alloc();
+    let mut time = ProgramTime::begin(rt)?;
+    let mut link = UdpLink::bind(rt, port)?;
+    let Ok(path) = path_of_text(alloc, PATH) else {
+        return Err(Stop::Memory);
+    };
+    match server_with(alloc, word, RandomState::new(rt)?, &path, BODY.as_bytes())? {
+        Ok(mut server) => serve_over(&mut server, &mut link, &mut time, count, word, out),
+        Err(_) => Err(Stop::Memory),
+    }
+}

@@ -1,0 +1,54 @@
+//! What carries datagrams.
+ghost use Rattle.std.specs.Prelude.{ℕ, List, Option, ◌≡◌, ◌≤◌, IfSome, length};
+ghost use Rattle.coap_types.specs.declared.endpoint.Endpoint.{Endpoint as EndpointSpec};
+ghost use Rattle.coap.specs.Faults.{MayRaise, raised};
+ghost use Rattle.coap.specs.Carried.{Packet, received};
+
+use coap_types::Endpoint;
+
+/// The longest datagram that is received; a longer one is dropped (profile: an end sends at most
+/// 1,152 bytes, RFC 7252, section 4.6).
+pub const MAX_DATAGRAM_LEN: usize = 2_048;
+
+const _: () = prove!(MAX_DATAGRAM_LEN == 2_048);
+
+/// A way to send datagrams and to receive them. A call that fails loses its datagram, and is
+/// counted.
+pub trait Link {
+    /// The link before a send, where the datagram goes to, its bytes, and the link after.
+    ghost sends: { Self → EndpointSpec → List ℕ → Self → Type 0 };
+
+    /// The link before a receive, what came and where from, and the link after.
+    ghost receives: { Self → Option Packet → Self → Type 0 };
+
+    /// How many calls failed.
+    ghost fault_count: { Self → ℕ };
+
+    /// Sends a datagram.
+    fn send(&mut self, to: Endpoint, bytes: &[u8])
+        ensures sends { sends self.old to bytes.now self.new }
+        ensures counted { MayRaise (fault_count self.old) (fault_count self.new) };
+
+    /// Puts a datagram that came into the front of the buffer, and answers where it came from and
+    /// its length; None where none came. One of over `MAX_DATAGRAM_LEN` bytes is dropped.
+    fn receive(&mut self, buf: &mut [u8]) -> Option<(Endpoint, usize)>
+        requires room { MAX_DATAGRAM_LEN ≤ length buf.old }
+        ensures receives { receives self.old (received result buf.new) self.new }
+        ensures fits { IfSome result (λ came. came.1 ≤ MAX_DATAGRAM_LEN) }
+        ensures room { length buf.new ≡ length buf.old }
+        ensures counted { MayRaise (fault_count self.old) (fault_count self.new) };
+
+    /// How many calls failed, up to the last value of a `u64`.
+    fn faults(&self) -> u64
+        ensures { result ≡ fault_count self.now };
+
+    /// Where it receives.
+    fn address(&self) -> Endpoint;
+}
+
+/// One more fault, up to the last value.
+pub(crate) fn raise(count: u64) -> u64
+    ensures { result ≡ raised count }
+{
+    count.saturating_add(1)
+}

@@ -1,0 +1,148 @@
+//! A link in memory.
+ghost use Rattle.std.specs.Prelude.{ℕ, List, [], ◌∷◌, ◌++◌, Option, ◌≡◌, ◌≤◌, map, OnOk, OnErr, IfSome, IfNone, length, ◌-◌, ◌==◌};
+ghost use Rattle.coap_types.specs.declared.endpoint.Endpoint.{Endpoint as EndpointSpec};
+ghost use Rattle.coap.specs.Carried.{Packet, received};
+ghost use Rattle.coap.specs.Faults.{raised};
+ghost use Rattle.coap.specs.MemoryCarries.{Memory, ReceivesFromMemory, SendsToMemory, behind, failed, falls_due, found_in};
+
+use crate::carried::{Carried, keep};
+use crate::link::{Link, MAX_DATAGRAM_LEN, raise};
+use coap_types::Endpoint;
+use std::alloc::{AllocError, Allocator, Global};
+use std::collections::VecDeque;
+use std::marker::Model;
+
+/// A link that keeps what it was handed, and gives what it was told to give. One send and one
+/// receive can be told to fail.
+#[derive(Drop)]
+pub struct MemoryLink<A: Allocator + Copy = Global> {
+    address: Endpoint,
+    handed: VecDeque<Carried<A>, A>,
+    coming: VecDeque<Carried<A>, A>,
+    // Which call from now is to fail, from 1; 0 for none.
+    failing_send: u64,
+    failing_receive: u64,
+    faults: u64,
+}
+
+impl<A: Allocator + Copy> Model for MemoryLink<A> {
+    ghost use Rattle.coap.specs.MemoryCarries.{Memory};
+
+    ghost Value = { Memory };
+
+    ghost view = { λ m. record {
+      handed = m.handed.items;
+      coming = m.coming.items;
+      failing_send = m.failing_send;
+      failing_receive = m.failing_receive;
+      faults = m.faults;
+    } };
+}
+
+// Whether this call is the one that is to fail, and which one it is after this one.
+fn count_down(failing: u64) -> (bool, u64)
+    ensures due { result.0 ≡ falls_due failing }
+    ensures left { result.1 ≡ failing - 1 }
+{
+    (failing == 1, failing.saturating_sub(1))
+}
+
+// Takes the first datagram out, and copies it to the front of a buffer.
+fn take_first<A: Allocator + Copy>(
+    coming: &mut VecDeque<Carried<A>, A>,
+    buf: &mut [u8],
+) -> Option<(Endpoint, usize)>
+    requires room { MAX_DATAGRAM_LEN ≤ length buf.old }
+    ensures found { received result buf.new ≡ found_in coming.old.items }
+    ensures behind { coming.new.items ≡ behind coming.old.items }
+    ensures fits { IfSome result (λ came. came.1 ≤ MAX_DATAGRAM_LEN) }
+    ensures room { length buf.new ≡ length buf.old }
+{
+    let first = coming.pop_front()?;
+    let len = first.bytes().len();
+    if len > MAX_DATAGRAM_LEN {
+        return None;
+    }
+    buf[..len].copy_from_slice(first.bytes());
+    Some((first.peer(), len))
+}
+
+impl<A: Allocator + Copy> MemoryLink<A> {
+    /// A link that receives at this address. It takes no memory.
+    pub fn new(alloc: A, address: Endpoint) -> MemoryLink<A>
+        ensures { result ≡ record { handed = []; coming = []; failing_send = 0; failing_receive = 0; faults = 0 } }
+    {
+        MemoryLink {
+            address,
+            handed: VecDeque::new(alloc),
+            coming: VecDeque::new(alloc),
+            failing_send: 0,
+            failing_receive: 0,
+            faults: 0,
+        }
+    }
+
+    /// Makes the n-th send from now fail, from 1, once; 0 makes none fail.
+    pub fn fail_send(&mut self, n: u64)
+        ensures { self.new ≡ record self.old { failing_send = n } }
+    {
+        self.failing_send = n;
+    }
+
+    /// Makes the n-th receive from now fail, from 1, once; 0 makes none fail.
+    pub fn fail_receive(&mut self, n: u64)
+        ensures { self.new ≡ record self.old { failing_receive = n } }
+    {
+        self.failing_receive = n;
+    }
+
+    /// Adds a datagram to those that are to come.
+    pub fn give(&mut self, from: Endpoint, bytes: &[u8]) -> Result<(), AllocError>
+        ensures ok { OnOk result (self.new ≡ record self.old { coming = self.old.coming ++ (from, bytes.now) ∷ [] }) }
+        ensures err { OnErr result (self.new ≡ self.old) }
+    {
+        keep(&mut self.coming, from, bytes)
+    }
+
+    /// Takes out the first datagram that it was handed.
+    pub fn next_handed(&mut self) -> Option<Carried<A>>
+        ensures some { IfSome result (λ first. self.old ≡ record self.new { handed = first ∷ self.new.handed }) }
+        ensures none { IfNone result ((self.new ≡ self.old) × (self.old.handed ≡ [])) }
+    {
+        self.handed.pop_front()
+    }
+}
+
+impl<A: Allocator + Copy> Link for MemoryLink<A> {
+    ghost sends = { SendsToMemory };
+
+    ghost receives = { ReceivesFromMemory };
+
+    ghost fault_count = { λ link. link.faults };
+
+    fn send(&mut self, to: Endpoint, bytes: &[u8]) {
+        let (fails, left) = count_down(self.failing_send);
+        self.failing_send = left;
+        if fails || keep(&mut self.handed, to, bytes).is_err() {
+            self.faults = raise(self.faults);
+        }
+    }
+
+    fn receive(&mut self, buf: &mut [u8]) -> Option<(Endpoint, usize)> {
+        let (fails, left) = count_down(self.failing_receive);
+        self.failing_receive = left;
+        if fails {
+            self.faults = raise(self.faults);
+            return None;
+        }
+        take_first(&mut self.coming, buf)
+    }
+
+    fn faults(&self) -> u64 {
+        self.faults
+    }
+
+    fn address(&self) -> Endpoint {
+        self.address
+    }
+}

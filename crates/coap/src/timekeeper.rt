@@ -1,0 +1,36 @@
+//! The clock that a program's turns read.
+
+use coap_types::Moment;
+use std::io;
+use std::rt::Clock;
+use std::time::Instant;
+
+/// A clock that tells moments, in milliseconds since one of its own.
+pub trait Timekeeper {
+    /// The moment that it is.
+    fn now(&mut self) -> io::Result<Moment>;
+}
+
+/// The milliseconds since the program began.
+#[derive(Drop)]
+pub struct ProgramTime<'a, R: Clock> {
+    rt: &'a R,
+    begin: Instant,
+}
+
+impl<'a, R: Clock> ProgramTime<'a, R> {
+    /// It begins now.
+    pub fn begin(rt: &'a R) -> io::Result<ProgramTime<'a, R>> {
+        Ok(ProgramTime {
+            rt,
+            begin: Instant::now(rt)?,
+        })
+    }
+}
+
+impl<'a, R: Clock> Timekeeper for ProgramTime<'a, R> {
+    fn now(&mut self) -> io::Result<Moment> {
+        let elapsed = self.begin.elapsed(self.rt)?.as_millis();
+        Ok(Moment(u64::try_from(elapsed).unwrap_or(u64::MAX)))
+    }
+}

@@ -1,0 +1,57 @@
+//! The turns of an end over a link.
+ghost use Rattle.std.specs.Prelude.{ℕ, Bool, true, false, ◌≡◌, ◌<◌, ◌⊎◌};
+ghost use Rattle.coap.specs.Turning.{Rests, TicksOut, Turns, next_word, worded};
+
+use crate::driver::pump;
+use crate::link::Link;
+use crate::tally::{Tally, count_fed, count_refused, count_word, next_word};
+use coap_ends::End;
+use coap_types::Moment;
+use std::alloc::Allocator;
+
+// One tick, and whether another is to follow: where it did something.
+fn step<A: Allocator + Copy, E: End<A>>(end: &mut E, now: Moment, tally: &mut Tally) -> bool
+    ensures further { result ≡ true → E.ticks (E.state end.old) now.0 (next_word tally.old) true (E.state end.new)
+        × (tally.new ≡ worded tally.old) }
+    ensures less { result ≡ true → E.work (E.state end.new) now.0 < E.work (E.state end.old) now.0 }
+    ensures last { result ≡ false → Rests E.ticks (E.state end.old) now.0 tally.old (E.state end.new) tally.new }
+{
+    match end.tick(now, next_word(tally)) {
+        Ok(did) => {
+            count_word(tally);
+            did
+        }
+        Err(_) => {
+            count_refused(tally);
+            false
+        }
+    }
+}
+
+/// Ticks the end until nothing is due at the moment, or a tick is refused memory.
+pub fn tick_out<A: Allocator + Copy, E: End<A>>(end: &mut E, now: Moment, tally: &mut Tally)
+    ensures { TicksOut E.ticks (E.state end.old) now.0 tally.old (E.state end.new) tally.new }
+{
+    while step(end, now, tally) {}
+}
+
+/// One turn: pumps the end once, and then ticks it until nothing is due.
+pub fn turn<A: Allocator + Copy, E: End<A>, L: Link>(
+    end: &mut E,
+    link: &mut L,
+    now: Moment,
+    tally: &mut Tally,
+)
+    ensures { Turns E.waiting E.gives L.sends L.receives E.feeds E.ticks
+        (E.state end.old) link.old now.0 tally.old (E.state end.new) link.new tally.new }
+{
+    match pump(end, link, now, next_word(tally)) {
+        Ok(pumped) => {
+            if pumped.fed {
+                count_fed(tally);
+            }
+        }
+        Err(_) => count_refused(tally),
+    }
+    tick_out(end, now, tally);
+}

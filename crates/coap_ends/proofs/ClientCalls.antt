@@ -1,0 +1,14 @@
+pub mod QueueLemmas
+pub mod ClientHappening
+pub mod GoodOptions
+pub mod AskableRequests
+pub mod ClientWatched
+pub mod ResponseLemmas
+pub mod HeldLemmas
+pub mod FetchingLemmas
+pub mod NoticingLemmas
+pub mod AnsweringLemmas
+pub mod WaitingLemmas
+pub mod PassingLemmas
+pub mod TickSteps
+pub mod ClientIsLed

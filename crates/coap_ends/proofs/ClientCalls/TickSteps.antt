@@ -1,0 +1,103 @@
+-- A tick of a client, and how an observation is forgotten, by what was done for them (RFC 7252, section 4.7; RFC 7641, section 3.6).
+use Rattle.std.proofs.Common.{◌≡◌, ℕ, max, Bool, true, false, not, ◌||◌, cond, Option, Some, None, List, [], ◌∷◌, ◌++◌, Result, Ok, Err, filter, map, sym, ap, ◌∙◌, subst, refl}
+use Rattle.std.specs.Prelude.{◌==◌, IfOk, OnOk}
+use Rattle.std.specs.Option.{option_map}
+use Rattle.coap_layer.specs.Trace as L
+use Rattle.coap_exchange.specs.declared.asker.AskRefusal.{AskRefusal}
+use Rattle.coap_exchange.specs.declared.asker.Turn.{Turn}
+use Rattle.coap_exchange.specs.AskerTrace as E
+use Rattle.coap_exchange.specs.AskerLaw as X
+use Rattle.coap_exchange.proofs.Facts.ClientSide.{exchanged_join}
+use Rattle.coap_ends.specs.WholeClient.ClientTrace.{Reported, Forgets, Ticks}
+use Rattle.coap_ends.specs.WholeClient.ClientOwn.{Observation, Operation, Own, clocked}
+use Rattle.coap_ends.specs.WholeClient.ClientObservations.{dropped, is_cancel_of, observation_of, over}
+use Rattle.coap_ends.specs.WholeClient.ClientObserving.{releases}
+use Rattle.coap_ends.specs.WholeClient.ClientEffects.{Effect}
+use Rattle.coap_ends.specs.WholeClient.ClientEvents.{passes}
+use Rattle.coap_ends.specs.WholeClient.ClientQueue.{may_forget}
+use Rattle.coap_ends.specs.WholeClient.ClientSteps.{asking, asks, is_idle, reporting}
+use Rattle.coap_ends.specs.WholeClient.ClientDeeds.{at, close, deeds, forgotten}
+use Rattle.coap_ends.specs.WholeClient.ClientStep.{State, Step}
+use Rattle.coap_ends.specs.declared.client.report.CallId.{CallId}
+use Rattle.coap_ends.specs.declared.client.report.Report as R
+use Rattle.coap_ends.specs.ClientObject.ClientHappens.{Comes, IsDone, left, releasing}
+use Rattle.coap_ends.specs.ClientObject.ClientShown.{shown_reported}
+
+-- what a tick did, and whether that is anything
+abbrev DoesIt : Own → ℕ → Turn → Bool → Type 0
+DoesIt s m turn did = did ≡ (not (is_idle turn) || asks (passes s m turn).deed)
+
+abbrev Ticked : State → ℕ → ℕ → L.Answer → Turn → Bool → State → Type 0
+Ticked old now word below turn did new = (sent : L.Answer) × (token : Result (List ℕ) AskRefusal) × (kept : Bool) × Step old (Ticks now word below turn sent token kept did) new
+
+ticked : (old new : State) (mid : X.State) (now word : ℕ) (below : L.Answer) (turn : Turn) (did : Bool)
+    → X.Step old.layer (E.Ticks (max old.own.clock now) below turn) mid → Comes mid (passes (at now old.own) (max old.own.clock now) turn) (max old.own.clock now) word new
+    → DoesIt (at now old.own) (max old.own.clock now) turn did → Ticked old now word below turn did new
+ticked old new mid now word below turn did step comes does =
+    let m : ℕ = max old.own.clock now in
+    let e : Effect = passes (at now old.own) m turn in
+    let h = comes.happens in
+    let c : Effect = close m e h.token in
+    let input : E.Call = E.Ticks m below turn in
+    let first : List E.Call = deeds e.deed e.own m word h.sent h.token h.kept in
+    let last : List E.Call = deeds c.deed c.own m word h.sent h.token h.kept in (
+      h.sent,
+      h.token,
+      h.kept,
+      record {
+        right = does;
+        own_is = comes.own_is ∙ (ap (λ o. asking comes.asked o) h.own_is ∙ ap (λ r. asking r (reporting c)) h.asked_is);
+        under = exchanged_join old.layer h.between new.layer last (first ++ input ∷ []) (exchanged_join old.layer mid h.between first (input ∷ []) (old.layer, refl, step) h.first) h.last;
+      },
+    )
+
+-- .. at the moment that is handed down
+pub ticked_by : (s : Own) (x mid : X.State) (new : State) (now m word : ℕ) (below : L.Answer) (turn : Turn) (did : Bool)
+    → m ≡ max s.clock now → X.Step x (E.Ticks m below turn) mid → Comes mid (passes (clocked m s) m turn) m word new → DoesIt (clocked m s) m turn did
+    → Ticked (left s x) now word below turn did new
+ticked_by s x mid new now m word below turn did is step comes does =
+    ticked (left s x) new mid now word below turn did (subst (λ k. X.Step x (E.Ticks k below turn) mid) is step)
+    (subst (λ k. Comes mid (passes (clocked k s) k turn) k word new) is comes)
+    (subst (λ k. DoesIt (clocked k s) k turn did) is does)
+
+pub ok_both : {X Y P : Type 0} {Q R : X → Type 0} (r : Result X Y) → ((x : X) → P → Q x → R x) → OnOk r P → IfOk r Q → IfOk r R
+ok_both (Ok x) f p q = f x p q
+ok_both (Err y) f p q = tt
+
+-- forgotten
+
+pub forgets_it : (s own : Own) (x y : X.State) (number : ℕ) (did : Bool) → did ≡ true → did ≡ may_forget s number → IsDone x (releases (observation_of number s.observations)) y → own ≡ forgotten true number s
+    → (kept : Bool) × Step (left s x) (Forgets number kept did) (left own y)
+forgets_it s own x y number did is may done own_is =
+    subst (λ b. b ≡ may_forget s number → (kept : Bool) × Step (left s x) (Forgets number kept b) (left own y)) (sym is)
+    (λ right. (done.0, record { right = right; own_is = own_is; under = done.1 s 0 0 L.Nothing (Ok []) })) may
+
+pub forgets_none : (s : Own) (x : X.State) (number : ℕ) (did : Bool) → did ≡ false → did ≡ may_forget s number → (kept : Bool) × Step (left s x) (Forgets number kept did) (left s x)
+forgets_none s x number did is may =
+    subst (λ b. b ≡ may_forget s number → (kept : Bool) × Step (left s x) (Forgets number kept b) (left s x)) (sym is)
+    (λ right. (false, record { right = right; own_is = refl; under = refl })) may
+
+pub released : (o : Option Observation) → releasing (option_map (λ (p : Observation). p.token) o) ≡ releases o
+released None = refl
+released (Some o) = refl
+
+pub left_over : (number : ℕ) (s : Own) (queue : List Operation) (running : Option Operation) (os : List Observation) → queue ≡ filter (λ op. not (is_cancel_of number op)) s.queue → running ≡ dropped number s.running
+    → os ≡ filter (λ o. not (o.number == number)) s.observations → record s { queue = queue; running = running; observations = os } ≡ over number s
+left_over number s queue running os a b c =
+    ap (λ q. record s { queue = q; running = running; observations = os }) a
+    ∙ (ap (λ r. record s { queue = filter (λ op. not (is_cancel_of number op)) s.queue; running = r; observations = os }) b
+    ∙ ap (λ l. record s { queue = filter (λ op. not (is_cancel_of number op)) s.queue; running = dropped number s.running; observations = l }) c)
+
+module _ {A : Type 0} where
+  pub reports_left : (number : ℕ) (rs : List (CallId × R.Report A)) → map shown_reported (filter (λ r. not (r.0.0 == number)) rs) ≡ filter (λ r. not (r.number == number)) (map shown_reported rs)
+  reports_left number [] = refl
+  reports_left number (r ∷ rs) = by (r.0.0 == number) (reports_left number rs)
+    where
+      by : (b : Bool) → map (shown_reported {A = A}) (filter (λ r. not (r.0.0 == number)) rs) ≡ filter (λ r. not (r.number == number)) (map (shown_reported {A = A}) rs)
+          → map (shown_reported {A = A}) (cond (not b) (r ∷ filter (λ r. not (r.0.0 == number)) rs) (filter (λ r. not (r.0.0 == number)) rs))
+          ≡ cond (not b) (shown_reported {A = A} r ∷ filter (λ r. not (r.number == number)) (map (shown_reported {A = A}) rs)) (filter (λ r. not (r.number == number)) (map (shown_reported {A = A}) rs))
+      by true h = h
+      by false h = ap (λ l. shown_reported {A = A} r ∷ l) h
+
+  pub reports_are : (number : ℕ) (rs new : List (CallId × R.Report A)) → new ≡ filter (λ r. not (r.0.0 == number)) rs → map shown_reported new ≡ filter (λ r. not (r.number == number)) (map shown_reported rs)
+  reports_are number rs new is = ap (λ l. map (shown_reported {A = A}) l) is ∙ reports_left number rs

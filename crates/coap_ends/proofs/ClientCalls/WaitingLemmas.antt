@@ -1,0 +1,86 @@
+-- What waits at a client, as its operations.
+use Rattle.std.proofs.Common.{◌≡◌, ◌≤◌, ℕ, Bool, true, false, cond, not, Option, Some, None, List, [], ◌∷◌, ◌++◌, filter, length, map, refl, ap, sym, ◌∙◌, arith, suc}
+use Rattle.std.specs.Prelude.{◌==◌, ◌||◌, ◌+◌, is_some, IfOk, Result, Ok, Err}
+use Rattle.std.specs.List.{list_any}
+use Rattle.std.proofs.lemmas.List.Folds.{list_any-append}
+use Rattle.std.proofs.lemmas.List.{length-append}
+use Rattle.std.proofs.lemmas.List.Elements.{filter-append}
+use Rattle.coap_ends.specs.declared.client.call_queue.Queued.{Queued}
+use Rattle.coap_ends.specs.declared.client.call_queue.Queued.TheVariants.{Starts, Cancels}
+use Rattle.coap_ends.specs.ClientObject.Queued.{is_cancel, operations_of}
+use Rattle.coap_ends.specs.WholeClient.ClientOwn.{Operation}
+use Rattle.coap_ends.specs.WholeClient.ClientObservations.{is_cancel_of, observation_of}
+use Rattle.coap_ends.specs.WholeClient.ClientQueue.{is_registration}
+use Rattle.coap_ends.specs.declared.client.operation.Observation as B
+use Rattle.coap_ends.specs.declared.client.operation.Waiting.{Waiting}
+use Rattle.coap_ends.specs.declared.client.operation.Waiting.TheVariants as waiting
+use Rattle.coap_ends.specs.ClientObject.ClientShown.{shown_observation, shown_queued, shown_waiting}
+use Rattle.coap_ends.specs.ClientObject.CallAnswers.{has_number}
+
+-- of what an Ok has
+
+pub if_map : {X Y : Type 0} {P Q : X → Type 0} (r : Result X Y) → ((x : X) → P x → Q x) → IfOk r P → IfOk r Q
+if_map (Ok x) f h = f x h
+if_map (Err y) f h = tt
+
+pub if_all : {X Y Z : Type 0} (P : Z → X → Type 0) (r : Result X Y) → ((z : Z) → IfOk r (P z)) → IfOk r (λ x. (z : Z) → P z x)
+if_all P (Ok x) h = h
+if_all P (Err y) h = tt
+
+length_map : {X Y : Type 0} (f : X → Y) (xs : List X) → length (map f xs) ≡ length xs
+length_map f [] = refl
+length_map f (x ∷ xs) = ap suc (length_map f xs)
+
+module _ {A : Type 0} where
+  -- the registrations that wait are those of the operations that wait
+  pub registrations_wait : (q : List (Queued (Waiting A))) → length (filter is_registration (map shown_queued q)) ≡ length (filter (λ w. is_registration (shown_waiting w)) (operations_of q))
+  registrations_wait [] = refl
+  registrations_wait (Starts (waiting.Calling n c) ∷ q) = registrations_wait q
+  registrations_wait (Starts (waiting.Registering n p) ∷ q) = ap suc (registrations_wait q)
+  registrations_wait (Cancels n ∷ q) = registrations_wait q
+
+  -- .. or run
+  pub registrations_are : (running : List Operation) (q : List (Queued (Waiting A))) → length (filter is_registration (running ++ map shown_queued q)) ≡ length (filter is_registration running) + length (filter (λ w. is_registration (shown_waiting w)) (operations_of q))
+  registrations_are running q =
+      ap length (filter-append is_registration running (map shown_queued q)) ∙ (length-append (filter is_registration running) (filter is_registration (map shown_queued q))
+      ∙ ap (λ k. length (filter is_registration running) + k) (registrations_wait q))
+
+  pub observed_is : (running : List Operation) (q : List (Queued (Waiting A))) (os : List (B.Observation A))
+      → length (filter is_registration running) + length (filter (λ w. is_registration (shown_waiting w)) (operations_of q)) + length os
+      ≡ length (filter is_registration (running ++ map shown_queued q)) + length (map shown_observation os)
+  observed_is running q os = let e = registrations_are running q in let l = length_map (shown_observation {A = A}) os in grind (arith, e, l)
+
+  -- a cancel waits by its key
+  pub cancels_wait : (number : ℕ) (q : List (Queued (Waiting A))) → list_any (is_cancel_of number) (map shown_queued q) ≡ list_any (is_cancel number) q
+  cancels_wait number [] = refl
+  cancels_wait number (Starts (waiting.Calling n c) ∷ q) = cancels_wait number q
+  cancels_wait number (Starts (waiting.Registering n p) ∷ q) = cancels_wait number q
+  cancels_wait number (Cancels n ∷ q) = ap (λ b. (n == number) || b) (cancels_wait number q)
+
+  -- .. or runs
+  pub cancels_are : (number : ℕ) (running : List Operation) (q : List (Queued (Waiting A))) → list_any (is_cancel_of number) (running ++ map shown_queued q) ≡ (list_any (is_cancel_of number) running || list_any (is_cancel number) q)
+  cancels_are number running q =
+      list_any-append (is_cancel_of number) running (map shown_queued q) ∙ ap (λ b. list_any (is_cancel_of number) running || b) (cancels_wait number q)
+
+  -- without the cancel, as operations
+  pub cancels_leave : (number : ℕ) (q : List (Queued (Waiting A))) → map shown_queued (filter (λ k. not (is_cancel number k)) q) ≡ filter (λ op. not (is_cancel_of number op)) (map shown_queued q)
+  cancels_leave number [] = refl
+  cancels_leave number (Starts (waiting.Calling n c) ∷ q) = ap (λ l. shown_waiting {A = A} (waiting.Calling n c) ∷ l) (cancels_leave number q)
+  cancels_leave number (Starts (waiting.Registering n p) ∷ q) = ap (λ l. shown_waiting {A = A} (waiting.Registering n p) ∷ l) (cancels_leave number q)
+  cancels_leave number (Cancels n ∷ q) = by (n == number) (cancels_leave number q)
+    where
+      by : (b : Bool) → map (shown_queued {A = A}) (filter (λ k. not (is_cancel number k)) q) ≡ filter (λ op. not (is_cancel_of number op)) (map (shown_queued {A = A}) q)
+          → map (shown_queued {A = A}) (cond (not b) (Cancels n ∷ filter (λ k. not (is_cancel number k)) q) (filter (λ k. not (is_cancel number k)) q))
+          ≡ cond (not b) (shown_queued {A = A} (Cancels n) ∷ filter (λ op. not (is_cancel_of number op)) (map (shown_queued {A = A}) q)) (filter (λ op. not (is_cancel_of number op)) (map (shown_queued {A = A}) q))
+      by true h = h
+      by false h = ap (λ l. shown_queued {A = A} (Cancels n) ∷ l) h
+
+  -- an observation is live that is there
+  pub live_is : (number : ℕ) (os : List (B.Observation A)) → is_some (observation_of number (map shown_observation os)) ≡ list_any (has_number number) os
+  live_is number [] = refl
+  live_is number (o ∷ os) = by (o.number == number) (live_is number os)
+    where
+      by : (b : Bool) → is_some (observation_of number (map shown_observation os)) ≡ list_any (has_number number) os
+          → is_some (cond b (Some (shown_observation o)) (observation_of number (map shown_observation os))) ≡ (b || list_any (has_number number) os)
+      by true h = refl
+      by false h = h

@@ -1,0 +1,10 @@
+pub mod ShortResponses
+pub mod RequestIsServed
+pub mod RequestIsHandled
+pub mod FeedIsACall
+pub mod WorkFalls
+pub mod TakesOut
+pub mod DelayLists
+pub mod PassedOver
+pub mod WaitingLists
+pub mod TurnSteps

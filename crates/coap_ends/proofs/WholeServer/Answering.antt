@@ -1,0 +1,4 @@
+pub mod LayerIsLed
+pub mod AttendedAtOnce
+pub mod HandedOn
+pub mod FirstAnswered

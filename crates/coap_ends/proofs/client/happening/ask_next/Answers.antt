@@ -1,0 +1,7 @@
+use Rattle.std.proofs.Common.{refl}
+use Rattle.coap_ends.specs.WholeClient.ClientOwn.{Calling}
+use Rattle.coap_ends.specs.ClientObject.ClientHeld.{own_of}
+use Rattle.coap_ends.proofs.client.happening.ask_next.Goals as goal
+
+pub returns-in-Ok-clause-happens : goal.returns-in-Ok-clause-happens
+returns-in-Ok-clause-happens g c = c.close.ensures.closes (Calling c.args.number c.args.call.request c.args.call.transfer) c.args.asker.now.state c.args.word refl (c.in-Ok.ensures.sends (own_of c.args.held.now).observations c.args.number)

@@ -1,0 +1,54 @@
+use Rattle.std.proofs.Common.{◌≡◌, map, ap, sym, subst, ◌∙◌}
+use Rattle.std.specs.Prelude.{IfOk, OnOk}
+use Rattle.coap_ends.specs.WholeClient.ClientObservations.{to_fetch}
+use Rattle.coap_ends.specs.WholeClient.ClientOwn.{clocked}
+use Rattle.coap_ends.specs.WholeClient.ClientEffects.{Effect}
+use Rattle.coap_ends.specs.WholeClient.ClientSteps.{asks}
+use Rattle.coap_ends.specs.ClientObject.ClientHappens.{Comes, left}
+use Rattle.coap_ends.specs.ClientObject.ClientHeld.{own_of}
+use Rattle.coap_ends.specs.ClientObject.ClientShown.{shown_observation, shown_operation}
+use Rattle.coap_ends.specs.ClientObject.Starts.{idle_now}
+use Rattle.coap_ends.proofs.ClientCalls.PassingLemmas.{idle_fetches, idle_starts, idle_stays, rest_comes, shown_none, shown_some}
+use Rattle.coap_ends.proofs.client.passing.pass_idly.Goals as goal
+
+pub returns-then-is_some-clause-happens : goal.returns-then-is_some-clause-happens
+returns-then-is_some-clause-happens g c =
+    let s = own_of c.args.held.now in
+    rest_comes (clocked c.args.at.0 s) (own_of c.rest.new.held) c.args.asker.now.state (idle_now c.args.at.0 s) c.args.at.0 c.args.word
+    (idle_stays (clocked c.args.at.0 s) c.args.at.0 s.running (to_fetch s.observations) (shown_some (shown_operation {A = g.row.A.Denot}) c.args.held.now.running (sym c.is_some.ensures ∙ c.if-is_some.true))) c.rest.ensures
+
+pub returns-in-Some-clause-happens : goal.returns-in-Some-clause-happens
+returns-in-Some-clause-happens g c =
+    let s = own_of c.args.held.now in
+    subst (λ (e : Effect). OnOk c.start_fetch.result (Comes c.args.asker.now.state e c.args.at.0 c.args.word (left (own_of c.start_fetch.new.held) c.start_fetch.new.asker.state)))
+    (sym (idle_fetches (clocked c.args.at.0 s) c.args.at.0 s.running (to_fetch s.observations) c.in-Some.number
+    (shown_none (shown_operation {A = g.row.A.Denot}) c.args.held.now.running (sym c.is_some.ensures ∙ c.if-is_some.false))
+    (ap (λ os. to_fetch (map (shown_observation {A = g.row.A.Denot}) os)) (sym c.as_slice.ensures.value) ∙ (sym c.to_fetch.ensures ∙ c.in-Some.is))))
+    c.start_fetch.ensures.happens
+
+pub returns-in-Some-clause-did : goal.returns-in-Some-clause-did
+returns-in-Some-clause-did g c =
+    let s = own_of c.args.held.now in
+    subst (λ (e : Effect). IfOk c.start_fetch.result (λ did. did ≡ asks e.deed))
+    (sym (idle_fetches (clocked c.args.at.0 s) c.args.at.0 s.running (to_fetch s.observations) c.in-Some.number
+    (shown_none (shown_operation {A = g.row.A.Denot}) c.args.held.now.running (sym c.is_some.ensures ∙ c.if-is_some.false))
+    (ap (λ os. to_fetch (map (shown_observation {A = g.row.A.Denot}) os)) (sym c.as_slice.ensures.value) ∙ (sym c.to_fetch.ensures ∙ c.in-Some.is))))
+    c.start_fetch.ensures.did
+
+pub returns-in-None-clause-happens : goal.returns-in-None-clause-happens
+returns-in-None-clause-happens g c =
+    let s = own_of c.args.held.now in
+    subst (λ (e : Effect). OnOk c.start_first.result (Comes c.args.asker.now.state e c.args.at.0 c.args.word (left (own_of c.start_first.new.held) c.start_first.new.asker.state)))
+    (sym (idle_starts (clocked c.args.at.0 s) c.args.at.0 s.running (to_fetch s.observations)
+    (shown_none (shown_operation {A = g.row.A.Denot}) c.args.held.now.running (sym c.is_some.ensures ∙ c.if-is_some.false))
+    (ap (λ os. to_fetch (map (shown_observation {A = g.row.A.Denot}) os)) (sym c.as_slice.ensures.value) ∙ (sym c.to_fetch.ensures ∙ c.in-None.is))))
+    c.start_first.ensures.happens
+
+pub returns-in-None-clause-did : goal.returns-in-None-clause-did
+returns-in-None-clause-did g c =
+    let s = own_of c.args.held.now in
+    subst (λ (e : Effect). IfOk c.start_first.result (λ did. did ≡ asks e.deed))
+    (sym (idle_starts (clocked c.args.at.0 s) c.args.at.0 s.running (to_fetch s.observations)
+    (shown_none (shown_operation {A = g.row.A.Denot}) c.args.held.now.running (sym c.is_some.ensures ∙ c.if-is_some.false))
+    (ap (λ os. to_fetch (map (shown_observation {A = g.row.A.Denot}) os)) (sym c.as_slice.ensures.value) ∙ (sym c.to_fetch.ensures ∙ c.in-None.is))))
+    c.start_first.ensures.did

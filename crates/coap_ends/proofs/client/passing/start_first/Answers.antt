@@ -1,0 +1,28 @@
+use Rattle.std.proofs.Common.{map, ap, sym, subst, ◌∙◌}
+use Rattle.coap_ends.specs.WholeClient.ClientOwn.{Own, clocked}
+use Rattle.coap_ends.specs.WholeClient.ClientEffects.{Effect}
+use Rattle.coap_ends.specs.WholeClient.ClientSteps.{asks}
+use Rattle.coap_ends.specs.ClientObject.ClientHappens.{Comes, left}
+use Rattle.coap_ends.specs.ClientObject.ClientHeld.{own_of}
+use Rattle.coap_ends.specs.ClientObject.ClientShown.{shown_reported}
+use Rattle.coap_ends.specs.ClientObject.Starts.{starts_now}
+use Rattle.coap_ends.proofs.ClientCalls.PassingLemmas.{rest_comes, starts_ask, starts_rests}
+use Rattle.coap_ends.proofs.client.passing.start_first.Goals as goal
+
+pub returns-in_ok-given-clause-happens : goal.returns-in_ok-given-clause-happens
+returns-in_ok-given-clause-happens g c =
+    subst (λ (s : Own). Comes c.args.asker.now.state (starts_now c.args.at.0 s) c.args.at.0 c.args.word (left (own_of c.take_and_begin.new.held) c.take_and_begin.new.asker.state))
+    (ap (λ rs. record (own_of c.args.held.now) { reports = map (shown_reported {A = g.row.A.Denot}) rs }) c.reserve.ensures.items)
+    (c.take_and_begin.ensures.begun c.args.asker.now.state c.args.word c.in_ok-given.ensures.sends)
+
+pub returns-in_ok-given-clause-did : goal.returns-in_ok-given-clause-did
+returns-in_ok-given-clause-did g c = let s = own_of c.args.held.now in starts_ask c.args.at.0 s s.queue (sym c.may_start.ensures ∙ c.if-may_start.true)
+
+pub returns-else-may_start-clause-happens : goal.returns-else-may_start-clause-happens
+returns-else-may_start-clause-happens g c =
+    let s = own_of c.args.held.now in
+    rest_comes (clocked c.args.at.0 s) (own_of c.rest.new.held) c.args.asker.now.state (starts_now c.args.at.0 s) c.args.at.0 c.args.word (starts_rests c.args.at.0 s s.queue (sym c.may_start.ensures ∙ c.if-may_start.false)) c.rest.ensures
+
+pub returns-else-may_start-clause-did : goal.returns-else-may_start-clause-did
+returns-else-may_start-clause-did g c =
+    let s = own_of c.args.held.now in ap (λ (e : Effect). asks e.deed) (sym (starts_rests c.args.at.0 s s.queue (sym c.may_start.ensures ∙ c.if-may_start.false)))

@@ -1,0 +1,53 @@
+use Rattle.coap_ends.proofs.WholeClient.ClientContinued.{are_continued}
+use Rattle.coap_ends.proofs.WholeClient.ClientValid.{valid_of_tags}
+use Rattle.coap_ends.proofs.WholeClient.ClientMarks.{are_newer}
+use Rattle.coap_ends.proofs.WholeClient.ClientHandedUp.{are_handed_up}
+use Rattle.coap_ends.proofs.WholeClient.ClientBodies.{bodies_are_whole}
+use Rattle.coap_ends.proofs.WholeClient.ClientOneCon.{one_con}
+use Rattle.coap_ends.proofs.WholeClient.ClientTokens.{own_tokens, one_of_token, short_tokens}
+use Rattle.coap_ends.proofs.WholeClient.ClientHeardOnce.{heard_once}
+use Rattle.coap_ends.proofs.WholeClient.ClientOneByOne.{are_in_order, one_last}
+use Rattle.coap_ends.proofs.WholeClient.ClientBegun.{begin_at_once, cons_are_requests}
+use Rattle.coap_ends.proofs.client_follows.client_follows_law.Goals as goal
+
+pub returns-clause-begins_now : goal.returns-clause-begins_now
+returns-clause-begins_now c = begin_at_once
+
+pub returns-clause-begins : goal.returns-clause-begins
+returns-clause-begins c = cons_are_requests
+
+pub returns-clause-order : goal.returns-clause-order
+returns-clause-order c server szx word t law = are_in_order szx server word t law
+
+pub returns-clause-one_last : goal.returns-clause-one_last
+returns-clause-one_last c server szx word t law = one_last szx server word t law
+
+pub returns-clause-own_tokens : goal.returns-clause-own_tokens
+returns-clause-own_tokens c server szx word t law = own_tokens szx server word t law
+
+pub returns-clause-tokens : goal.returns-clause-tokens
+returns-clause-tokens c server szx word t law = one_of_token szx server word t law
+
+pub returns-clause-short_tokens : goal.returns-clause-short_tokens
+returns-clause-short_tokens c server szx word t law = short_tokens szx server word t law
+
+pub returns-clause-heard_once : goal.returns-clause-heard_once
+returns-clause-heard_once c = heard_once
+
+pub returns-clause-one_con : goal.returns-clause-one_con
+returns-clause-one_con c = one_con
+
+pub returns-clause-bodies : goal.returns-clause-bodies
+returns-clause-bodies c = bodies_are_whole
+
+pub returns-clause-heard : goal.returns-clause-heard
+returns-clause-heard c = are_handed_up
+
+pub returns-clause-newer : goal.returns-clause-newer
+returns-clause-newer c = are_newer
+
+pub returns-clause-valid : goal.returns-clause-valid
+returns-clause-valid c = valid_of_tags
+
+pub returns-clause-continued : goal.returns-clause-continued
+returns-clause-continued c = are_continued

@@ -1,0 +1,15 @@
+use Rattle.std.proofs.Common.{◌≡◌, ◌≤◌, ◌-◌, length}
+use Rattle.coap_exchange.specs.AnswererLaw.{Exchanged}
+use Rattle.coap_ends.specs.WholeServer.ServerNotifying.{marked}
+use Rattle.coap_ends.proofs.ServerCalls.PassedOver.{passing}
+use Rattle.coap_ends.proofs.server.notifying.first_ready.Given as goal
+
+abbrev pub invariant-observers : goal.invariant-observers
+invariant-observers g l = record {
+  asked : Exchanged l.initial.exchanges.state (passing l.at.0 l.passed (marked l.observers)) l.exchanges.state;
+  before : l.exchanges.before ≡ l.initial.exchanges.before;
+  within : l.passed ≤ length (marked l.observers);
+}
+
+abbrev pub decreases-observers : goal.decreases-observers
+decreases-observers g l = length (marked l.observers) - l.passed

@@ -1,0 +1,22 @@
+-- What the parts of a client's object add up to (RFC 7252, section 5.2).
+use Rattle.std.specs.Prelude.{map}
+use Rattle.std.specs.Option.{option_map}
+use Rattle.coap_ends.specs.WholeClient.ClientOwn.{Own}
+use Rattle.coap_ends.specs.declared.client.held.Held.{Held}
+use Rattle.coap_ends.specs.ClientObject.ClientShown.{shown_operation, shown_queued, shown_observation, shown_reported, shown_asked}
+
+module _ {A : Type 0} where
+  abbrev pub own_of : Held A → Own
+  own_of h =
+      record {
+        clock = h.clock;
+        szx = h.szx;
+        taken = h.taken;
+        queue = map shown_queued h.queue;
+        running = option_map shown_operation h.running;
+        observations = map shown_observation h.observations.items;
+        sent = h.sent;
+        hold = h.hold;
+        reports = map shown_reported h.reports.items;
+        asked = shown_asked h.asked;
+      }

@@ -1,0 +1,5 @@
+pub mod ServerShown
+pub mod ServerHandled
+pub mod ServerChecked
+pub mod FullResponses
+pub mod Registering

@@ -1,0 +1,3 @@
+pub mod DelaysShown
+pub mod ServerTurned
+pub mod ServerWork

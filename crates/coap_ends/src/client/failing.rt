@@ -1,0 +1,161 @@
+//! How what runs ends without an answer, and how an observation ends.
+ghost use Rattle.std.specs.Prelude.{◌≡◌, ◌<◌, Some, if◌then◌else◌};
+ghost use Rattle.std.specs.Option.{option_map};
+ghost use Rattle.std.specs.VecDeque.{deque_len, deque_capacity};
+ghost use Rattle.coap_ends.specs.WholeClient.ClientEffects.{ends, held_by, of};
+ghost use Rattle.coap_ends.specs.WholeClient.ClientObserving.{is_over};
+ghost use Rattle.coap_ends.specs.WholeClient.ClientOwn.{Operation as Running, Dropped, operation_number};
+ghost use Rattle.coap_ends.specs.WholeClient.ClientObservations.{dropped};
+ghost use Rattle.coap_ends.specs.WholeClient.ClientSteps.{reporting};
+ghost use Rattle.coap_ends.specs.ClientObject.ClientHappens.{failing, left, releasing, Apart, IsDone, Closes};
+ghost use Rattle.coap_ends.specs.ClientObject.ClientHeld.{own_of};
+ghost use Rattle.coap_ends.specs.ClientObject.ClientShown.{shown_asked, shown_operation, shown_report};
+
+use crate::client::held::Held;
+use crate::client::observations;
+use crate::client::operation::Operation;
+use crate::client::report::{CallId, Report};
+use crate::client::reporting::give;
+use crate::client::taken_call::TakenCall;
+use coap_exchange::Asker;
+use coap_types::{Moment, Token};
+use std::alloc::Allocator;
+use std::hash::BuildHasher;
+
+/// A call ends, with its last report: a Block1 transfer without a final response holds back the later
+/// ones (profile).
+pub fn end_call<A: Allocator + Copy>(
+    held: &mut Held<A>,
+    number: u64,
+    call: &TakenCall<A>,
+    unanswered: bool,
+    report: Report<A>,
+)
+    requires room { deque_len held.old.reports < deque_capacity held.old.reports }
+    ensures { own_of held.new
+        ≡ reporting (ends (of number (shown_report report)) (held_by unanswered call.now.transfer (own_of held.old))) }
+{
+    if unanswered && call.is_upload() {
+        held.hold = Some(held.sent);
+    }
+    held.running = None;
+    give(held, number, report);
+}
+
+/// An observation is over, with its last report; its token is kept no more.
+pub fn end_observation<A: Allocator + Copy, H: BuildHasher>(
+    asker: &mut Asker<A, H>,
+    held: &mut Held<A>,
+    number: u64,
+    report: Report<A>,
+)
+    requires room { deque_len held.old.reports < deque_capacity held.old.reports }
+    ensures own { own_of held.new ≡ reporting (is_over number (shown_report report) (own_of held.old)) }
+    ensures deed { IsDone asker.old.state (is_over number (shown_report report) (own_of held.old)).deed asker.new.state }
+    ensures before { asker.new.before ≡ asker.old.before }
+{
+    let_go(asker, observations::token_of(&held.observations, number));
+    held.queue.drop_cancel(number);
+    drop_fetch(&mut held.running, number);
+    observations::remove(&mut held.observations, number);
+    give(held, number, report);
+}
+
+// A token is kept no more, if there is one.
+fn let_go<A: Allocator + Copy, H: BuildHasher>(asker: &mut Asker<A, H>, token: Option<Token>)
+    ensures done { IsDone asker.old.state (releasing token) asker.new.state }
+    ensures before { asker.new.before ≡ asker.old.before }
+{
+    if let Some(token) = token {
+        let _kept = asker.release(&token);
+    }
+}
+
+/// What is fetched for the observation no longer counts.
+pub fn drop_fetch<A: Allocator + Copy>(running: &mut Option<Operation<A>>, number: u64)
+    ensures { option_map shown_operation running.new ≡ dropped number (option_map shown_operation running.old) }
+{
+    if is_fetch_of(running, number) {
+        *running = Some(Operation::Dropped);
+    }
+}
+
+// Whether something is fetched for the observation.
+fn is_fetch_of<A: Allocator + Copy>(running: &Option<Operation<A>>, number: u64) -> bool
+    ensures { dropped number (option_map shown_operation running.now) ≡ (if result then Some Dropped else option_map shown_operation running.now) }
+{
+    match running {
+        None => false,
+        Some(Operation::Calling(_, _)) => false,
+        Some(Operation::Registering(_, _)) => false,
+        Some(Operation::Fetching(other)) => *other == number,
+        Some(Operation::Cancelling(_)) => false,
+        Some(Operation::Dropped) => false,
+    }
+}
+
+/// The operation that runs ends without an answer: its exchange failed, or (`unsent`) its request could
+/// not be sent.
+pub fn fail<A: Allocator + Copy, H: BuildHasher>(
+    asker: &mut Asker<A, H>,
+    held: &mut Held<A>,
+    unsent: bool,
+    report: Report<A>,
+)
+    requires room { deque_len held.old.reports < deque_capacity held.old.reports }
+    requires apart { Apart (own_of held.old) }
+    ensures own { own_of held.new ≡ reporting (failing unsent (shown_report report) (own_of held.old)) }
+    ensures deed { IsDone asker.old.state (failing unsent (shown_report report) (own_of held.old)).deed asker.new.state }
+    ensures before { asker.new.before ≡ asker.old.before }
+{
+    match held.running.take() {
+        None | Some(Operation::Dropped) => {}
+        Some(Operation::Calling(number, call)) => {
+            let unanswered = !unsent || call.has_sent();
+            end_call(held, number, &call, unanswered, report);
+        }
+        Some(Operation::Registering(number, _)) => give(held, number, report),
+        Some(Operation::Fetching(number)) => {
+            observations::set_rest(&mut held.observations, number, None);
+        }
+        Some(Operation::Cancelling(number)) => end_observation(asker, held, number, report),
+    }
+}
+
+/// What becomes of the operation that runs by the sending of its request, which was given a token, or
+/// could not be sent: the request that was sent.
+pub fn close<A: Allocator + Copy, H: BuildHasher>(
+    asker: &mut Asker<A, H>,
+    held: &mut Held<A>,
+    at: Moment,
+    given: Option<Token>,
+) -> Option<(CallId, Token)>
+    requires room { deque_len held.old.reports < deque_capacity held.old.reports }
+    requires apart { Apart (own_of held.old) }
+    ensures closes { Closes (own_of held.old) at.0 given asker.old.state (shown_asked result) (left (own_of held.new) asker.new.state) }
+    ensures before { asker.new.before ≡ asker.old.before }
+{
+    match given {
+        Some(token) => {
+            held.sent = at.0;
+            Some((CallId(number_of(&held.running)?), token))
+        }
+        None => {
+            fail(asker, held, true, Report::NoIds);
+            None
+        }
+    }
+}
+
+// The number of an operation.
+fn number_of<A: Allocator + Copy>(running: &Option<Operation<A>>) -> Option<u64>
+    ensures { (op : Running) → option_map shown_operation running.now ≡ Some op → result ≡ operation_number op }
+{
+    match running.as_ref()? {
+        Operation::Calling(number, _)
+        | Operation::Registering(number, _)
+        | Operation::Fetching(number)
+        | Operation::Cancelling(number) => Some(*number),
+        Operation::Dropped => None,
+    }
+}

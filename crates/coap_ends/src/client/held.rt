@@ -1,0 +1,55 @@
+ghost use Rattle.std.specs.Prelude.{◌≡◌};
+ghost use Rattle.coap_ends.specs.WholeClient.ClientOwn.{start};
+ghost use Rattle.coap_ends.specs.ClientObject.ClientHeld.{own_of};
+
+use crate::client::call_queue::Queue;
+use crate::client::operation::{Observation, Operation, Waiting};
+use crate::client::report::{CallId, Report};
+use coap_types::{Szx, Token};
+use std::alloc::{Allocator, Global};
+use std::collections::VecDeque;
+
+/// What a client keeps beside its exchanges.
+#[derive(Drop)]
+pub struct Held<A: Allocator + Copy = Global> {
+    /// The latest moment.
+    pub clock: u64,
+    /// The client's block size.
+    pub szx: Szx,
+    /// How many numbers were given.
+    pub taken: u64,
+    /// The operations that wait.
+    pub queue: Queue<Waiting<A>, A>,
+    /// The operation that runs.
+    pub running: Option<Operation<A>>,
+    /// The live observations, in the order of their numbers.
+    pub observations: Vec<Observation<A>, A>,
+    /// When the last datagram of the running operation was sent.
+    pub sent: u64,
+    /// .. of the upload that holds back others.
+    pub hold: Option<u64>,
+    /// The reports that wait to be taken.
+    pub reports: VecDeque<(CallId, Report<A>), A>,
+    /// The request that the last datagram or tick sent first, and of which call.
+    pub asked: Option<(CallId, Token)>,
+}
+
+impl<A: Allocator + Copy> Held<A> {
+    /// Nothing yet.
+    pub fn new(alloc: A, szx: Szx) -> Held<A>
+        ensures { own_of result ≡ start szx }
+    {
+        Held {
+            clock: 0,
+            szx,
+            taken: 0,
+            queue: Queue::new(alloc),
+            running: None,
+            observations: Vec::new(alloc),
+            sent: 0,
+            hold: None,
+            reports: VecDeque::new(alloc),
+            asked: None,
+        }
+    }
+}

@@ -1,0 +1,56 @@
+use bytes::Bytes;
+use coap_types::{Code, Tag};
+use std::alloc::{Allocator, Global};
+
+/// The number of a call or of an observation: they are counted from 0 (profile).
+#[derive(Clone, Copy, Debug, PartialEq, Eq)]
+pub struct CallId(pub u64);
+
+/// A representation that was fetched (RFC 7252, section 5.8.1).
+#[derive(Drop)]
+#[derive_where(Debug)]
+pub struct Fetched<A: Allocator = Global> {
+    /// Its entity-tag, where it has one (section 5.10.6).
+    pub tag: Option<Tag>,
+    /// Its format, where it is told (section 5.10.3).
+    pub format: Option<u16>,
+    /// Its bytes.
+    pub body: Bytes<A>,
+}
+
+/// What is reported of a call or an observation. `Value` is not final, each other one is.
+#[derive(Drop)]
+#[derive_where(Debug)]
+pub enum Report<A: Allocator = Global> {
+    /// 1: the representation that a GET has.
+    Body(Fetched<A>),
+    /// 2: a representation that the client has is valid, that of this entity-tag (RFC 7252, section
+    /// 5.9.1.3).
+    Valid(Option<Tag>),
+    /// 3: a POST, a PUT or a DELETE succeeded, with this code (section 5.9.1).
+    Done(Code),
+    /// 4: a representation of an observed resource, with its sequence number (RFC 7641, section 3.2).
+    Value(u32, Fetched<A>),
+    /// 5: the server ended the observation, or did not begin it (RFC 7641, section 3.2).
+    Ended(Code),
+    /// 6: the observation was cancelled (RFC 7641, section 3.6).
+    Cancelled,
+    /// 7: another response came.
+    Failed(Code),
+    /// 8: the request was not acknowledged (RFC 7252, section 4.2).
+    Timeout,
+    /// 9: the request was rejected by a Reset (section 4.2).
+    Reset,
+    /// 10: no separate response came (section 5.2.2).
+    NoResponse,
+    /// 11: the representation changed again and again (RFC 7959, section 2.4).
+    Changed,
+    /// 12: a block is not the one that is awaited (RFC 7959, sections 2.4 and 2.5).
+    BadBlock,
+    /// 13: one of several blocks has no entity-tag (RFC 7959, section 2.4).
+    NoTag,
+    /// 14: the body has over `MAX_BODY_LEN` bytes.
+    TooLarge,
+    /// 15: no Message ID or no token was free (RFC 7252, section 4.4).
+    NoIds,
+}

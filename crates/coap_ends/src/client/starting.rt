@@ -1,0 +1,113 @@
+//! What a tick starts where nothing runs: a fetch for an observation, or the first of what waits
+//! (RFC 7252, section 4.7).
+ghost use Rattle.std.specs.Prelude.{◌≡◌, ◌<◌, ◌≤◌, ℕ, List, None, Some, drop, false, true, length, map, slice_get, if◌then◌else◌, IfOk, OnErr, OnOk};
+ghost use Rattle.std.specs.Option.{option_map};
+ghost use Rattle.std.specs.VecDeque.{deque_len, deque_capacity};
+ghost use Rattle.coap_exchange.specs.AskerLaw as exchange;
+ghost use Rattle.coap_ends.specs.WholeClient.ClientEffects.{runs, stays};
+ghost use Rattle.coap_ends.specs.WholeClient.ClientEvents.{idle, is_held, is_upload_op, starts};
+ghost use Rattle.coap_ends.specs.WholeClient.ClientObservations.{to_fetch};
+ghost use Rattle.coap_ends.specs.WholeClient.ClientOwn.{Observation as Observed, Own, clocked};
+ghost use Rattle.coap_ends.specs.WholeClient.ClientRequests.{message_of};
+ghost use Rattle.coap_ends.specs.ClientObject.ClientHappens.{Apart, Comes, left, running};
+ghost use Rattle.coap_ends.specs.ClientObject.ClientHeld.{own_of};
+ghost use Rattle.coap_ends.specs.ClientObject.ClientSends.{Sends};
+ghost use Rattle.coap_ends.specs.ClientObject.ClientShown.{shown_observation, shown_operation, shown_queued, shown_waiting};
+ghost use Rattle.coap_ends.specs.ClientObject.Starts.{first_runs};
+
+use crate::client::call_queue::{Queue, Queued};
+use crate::client::failing::close;
+use crate::client::held::Held;
+use crate::client::operation::{Observation, Operation, Waiting};
+use crate::client::sending::register;
+use coap_exchange::Asker;
+use coap_types::transmission::MAX_LATENCY_MS;
+use coap_types::{Moment, Token};
+use std::alloc::{AllocError, Allocator};
+use std::hash::BuildHasher;
+
+/// The first observation for which something is to be fetched: that of the lowest number.
+pub(crate) fn to_fetch<A: Allocator + Copy>(observations: &[Observation<A>]) -> Option<u64>
+    ensures { result ≡ to_fetch (map shown_observation observations.now) }
+{
+    match observations {
+        [] => None,
+        [first, ..] if first.rest.is_some() => Some(first.number),
+        [_, others @ ..] => to_fetch(others),
+    }
+}
+
+/// Whether an upload that ended without a final response holds back the later ones (profile).
+pub(crate) fn is_held(hold: Option<u64>, at: Moment) -> bool
+    ensures { (s : Own) → s.hold ≡ hold → result ≡ is_held s at.0 }
+{
+    match hold {
+        None => false,
+        Some(last) => at.0.saturating_sub(last) <= MAX_LATENCY_MS,
+    }
+}
+
+/// Whether it is a call that uploads its body block by block (RFC 7959, section 2.5).
+pub(crate) fn is_upload<A: Allocator + Copy>(waiting: &Waiting<A>) -> bool
+    ensures { result ≡ is_upload_op (shown_waiting waiting.now) }
+{
+    match waiting {
+        Waiting::Calling(_, call) => call.is_upload(),
+        Waiting::Registering(_, _) => false,
+    }
+}
+
+/// Takes the first out of the queue.
+pub(crate) fn take_first<A: Allocator + Copy>(
+    queue: &mut Queue<Waiting<A>, A>,
+) -> Option<Operation<A>>
+    ensures first { option_map shown_operation result ≡ slice_get (map shown_queued queue.old) 0 }
+    ensures left { map shown_queued queue.new ≡ drop 1 (map shown_queued queue.old) }
+{
+    match queue.pop_front()? {
+        Queued::Starts(Waiting::Calling(number, call)) => Some(Operation::Calling(number, call)),
+        Queued::Starts(Waiting::Registering(number, path)) => {
+            Some(Operation::Registering(number, path))
+        }
+        Queued::Cancels(number) => Some(Operation::Cancelling(number)),
+    }
+}
+
+/// Sends the first request of what waits.
+pub(crate) fn send_waiting<A: Allocator + Copy, H: BuildHasher>(
+    asker: &mut Asker<A, H>,
+    waiting: &Waiting<A>,
+    at: Moment,
+    word: u64,
+) -> Result<Option<Token>, AllocError>
+    ensures sends { IfOk result (λ token. (os : List Observed)
+        → Sends asker.old.state at.0 (message_of os (shown_waiting waiting.now)) word token asker.new.state) }
+    ensures before { asker.new.before ≡ asker.old.before }
+    ensures err { OnErr result (asker.new ≡ asker.old) }
+{
+    match waiting {
+        Waiting::Calling(_, call) => call.send(asker, at, word),
+        Waiting::Registering(_, path) => register(asker, path, at, word),
+    }
+}
+
+/// What becomes of a client by the sending of the first request of an operation, which was given a
+/// token or could not be sent.
+pub(crate) fn begin<A: Allocator + Copy, H: BuildHasher>(
+    asker: &mut Asker<A, H>,
+    held: &mut Held<A>,
+    at: Moment,
+    operation: Operation<A>,
+    given: Option<Token>,
+)
+    requires room { deque_len held.old.reports < deque_capacity held.old.reports }
+    requires apart { Apart (running (shown_operation operation) (own_of held.old)) }
+    ensures begun { (behind : exchange.State) (word : ℕ)
+        → Sends behind at.0 (message_of (map shown_observation held.old.observations.items) (shown_operation operation)) word given asker.old.state
+        → Comes behind (runs (shown_operation operation) (clocked at.0 (own_of held.old))) at.0 word (left (own_of held.new) asker.new.state) }
+    ensures before { asker.new.before ≡ asker.old.before }
+{
+    held.clock = at.0;
+    held.running = Some(operation);
+    held.asked = close(asker, held, at, given);
+}

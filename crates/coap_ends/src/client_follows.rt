@@ -1,0 +1,57 @@
+ghost use Rattle.std.specs.Prelude.{ℕ, List};
+ghost use Rattle.coap_types.specs.declared.endpoint.Endpoint.{Endpoint};
+ghost use Rattle.coap_ends.specs.WholeClient.ClientLaw.{ClientLaw};
+ghost use Rattle.coap_ends.specs.WholeClient.ClientTrace.{Call};
+ghost use Rattle.coap_ends.specs.WholeClient.ClientBegins.{BeginAtOnce, ConsAreRequests};
+ghost use Rattle.coap_ends.specs.WholeClient.ClientBodies.{BodiesAreWhole};
+ghost use Rattle.coap_ends.specs.WholeClient.ClientContinued.{AreContinued};
+ghost use Rattle.coap_ends.specs.WholeClient.ClientNewer.{AreNewer};
+ghost use Rattle.coap_ends.specs.WholeClient.ClientOrder.{AreInOrder, HeardOnce, OneLast};
+ghost use Rattle.coap_ends.specs.WholeClient.ClientTakes.{AreHandedUp};
+ghost use Rattle.coap_ends.specs.WholeClient.ClientTokens.{OneConOrCancel, OneOfToken, OwnTokens, ShortTokens};
+ghost use Rattle.coap_ends.specs.WholeClient.ClientValid.{ValidOfTags};
+
+/// What follows further from the law of a client that transfers bodies block by block and observes.
+pub fn client_follows_law()
+    // A CON begins in the very call that sends its request for the first time (RFC 7252, section 4.2) ..
+    ensures begins_now { (server : Endpoint) (szx word : ℕ) (t : List Call) → ClientLaw server szx word t
+        → BeginAtOnce server szx word t }
+    // .. and none is begun but for such a request (RFC 7252, section 5.2).
+    ensures begins { (server : Endpoint) (szx word : ℕ) (t : List Call) → ClientLaw server szx word t
+        → ConsAreRequests server szx word t }
+    // Requests are sent in the order of the numbers, none of a call behind its last, and each of a call where those before
+    // it were answered (RFC 7252, sections 4.7 and 5.3; RFC 7959, section 2.5).
+    ensures order { (server : Endpoint) (szx word : ℕ) (t : List Call) → ClientLaw server szx word t → AreInOrder szx t }
+    // A call has one last request.
+    ensures one_last { (server : Endpoint) (szx word : ℕ) (t : List Call) → ClientLaw server szx word t
+        → OneLast szx t }
+    // What is sent has a token of at most 8 bytes that no request had before, but for a cancel, which has that of its
+    // observation (RFC 7252, section 5.3.1; RFC 7641, section 3.6).
+    ensures own_tokens { (server : Endpoint) (szx word : ℕ) (t : List Call) → ClientLaw server szx word t
+        → OwnTokens szx t }
+    ensures tokens { (server : Endpoint) (szx word : ℕ) (t : List Call) → ClientLaw server szx word t
+        → OneOfToken szx t }
+    ensures short_tokens { (server : Endpoint) (szx word : ℕ) (t : List Call) → ClientLaw server szx word t
+        → ShortTokens szx t }
+    // .. and so have the CONs that are begun.
+    ensures one_con { (server : Endpoint) (szx word : ℕ) (t : List Call) → ClientLaw server szx word t
+        → OneConOrCancel server szx word t }
+    // A request of a call is answered once (RFC 7252, section 5.3.2).
+    ensures heard_once { (server : Endpoint) (szx word : ℕ) (t : List Call) → ClientLaw server szx word t
+        → HeardOnce szx t }
+    // A body is whole by the parts that its call took since it asked for the first block, under one ETag where there are
+    // several (RFC 7959, section 2.4).
+    ensures bodies { (server : Endpoint) (szx word : ℕ) (t : List Call) → ClientLaw server szx word t
+        → BodiesAreWhole szx t }
+    // What is heard its message layer handed up in that very call, as it came from the server (RFC 7252, section 5.3.2).
+    ensures heard { (server : Endpoint) (szx word : ℕ) (t : List Call) → ClientLaw server szx word t
+        → AreHandedUp server szx word t }
+    // Each later notification that is taken of an observation is newer than the one before (RFC 7641, section 3.4).
+    ensures newer { (server : Endpoint) (szx word : ℕ) (t : List Call) → ClientLaw server szx word t → AreNewer szx t }
+    // Valid is reported of a call that carries ETags, where a 2.03 was heard (RFC 7252, section 5.10.6.2).
+    ensures valid { (server : Endpoint) (szx word : ℕ) (t : List Call) → ClientLaw server szx word t
+        → ValidOfTags szx t }
+    // Behind its first block a body goes on where that was answered with 2.31 (RFC 7959, section 2.5).
+    ensures continued { (server : Endpoint) (szx word : ℕ) (t : List Call) → ClientLaw server szx word t
+        → AreContinued szx t }
+{}

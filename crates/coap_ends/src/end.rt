@@ -1,0 +1,63 @@
+//! An end: what a client and a server have in common.
+ghost use Rattle.std.specs.Prelude.{◌≡◌, ◌<◌, ◌^◌, ℕ, Bool, true, List, [], ◌∷◌, Ok, IfOk, OnOk, OnErr, IfSome, IfNone, length};
+ghost use Rattle.coap_types.specs.declared.endpoint.Endpoint.{Endpoint as EndpointSpec};
+ghost use Rattle.coap_layer.specs.Trace.{Packet};
+
+use coap_layer::Datagram;
+use coap_types::{Endpoint, Moment};
+use std::alloc::{AllocError, Allocator};
+
+/// A client or a server (RFC 7252, section 5), as what carries its datagrams sees it.
+///
+/// After each `feed` and `tick` take `next_out` until None. Moments are milliseconds; one before
+/// the last that was handed in counts as that. Nothing here reads a clock, a socket or a random
+/// source.
+pub trait End<A: Allocator + Copy> {
+    /// What contracts see of it.
+    ghost State: { Type 0 };
+
+    /// The state that it is in.
+    ghost state: { Self → State };
+
+    /// The datagrams that are to be sent, the next one first.
+    ghost waiting: { State → List Packet };
+
+    /// How much a tick at a moment still has to do.
+    ghost work: { State → ℕ → ℕ };
+
+    /// The state before a datagram is fed, the moment, where it came from, its bytes, the word, and
+    /// the state after.
+    ghost feeds: { State → ℕ → EndpointSpec → List ℕ → ℕ → State → Type 0 };
+
+    /// The state before a tick, the moment, the word, whether it did something, and the state after.
+    ghost ticks: { State → ℕ → ℕ → Bool → State → Type 0 };
+
+    /// The state before a datagram is taken to be sent, the datagram, and the state after.
+    ghost gives: { State → Packet → State → Type 0 };
+
+    /// Takes a datagram that arrived. After an `Err` it is lost.
+    fn feed(
+        &mut self,
+        now: Moment,
+        from: Endpoint,
+        bytes: &[u8],
+        word: u64,
+    ) -> Result<(), AllocError>
+        ensures ok { OnOk result (feeds (state self.old) now.0 from bytes.now word (state self.new)) }
+        ensures err { OnErr result (state self.new ≡ state self.old) };
+
+    /// Does one step that is due at the moment, and answers whether there was one.
+    fn tick(&mut self, now: Moment, word: u64) -> Result<bool, AllocError>
+        ensures ok { IfOk result (λ did. ticks (state self.old) now.0 word did (state self.new)) }
+        // There is less to do after a step, so that the ticks of one moment come to an end.
+        ensures less { result ≡ Ok true → work (state self.new) now.0 < work (state self.old) now.0 }
+        ensures err { OnErr result (state self.new ≡ state self.old) };
+
+    /// The datagram that is to be sent next. It takes no memory.
+    fn next_out(&mut self) -> Option<Datagram<A>>
+        ensures some { IfSome result (λ datagram. (waiting (state self.old) ≡ datagram ∷ waiting (state self.new))
+            × gives (state self.old) datagram (state self.new)) }
+        ensures none { IfNone result ((waiting (state self.old) ≡ []) × (state self.new ≡ state self.old)) }
+        // They can be counted.
+        ensures few { length (waiting (state self.old)) < 2 ^ 64 };
+}
