@@ -1,12 +1,16 @@
 -- What a server answers to a block of an upload (RFC 7959, sections 2.5 and 2.9).
 use Rattle.std.specs.Prelude.{◌≡◌, ℕ, true, List, length}
 use Rattle.coap_types.specs.declared.message.Code.{Code}
-use Rattle.coap_types.specs.declared.message.TheConstants.Code.{BAD_REQUEST as bad_request, REQUEST_ENTITY_INCOMPLETE as entity_incomplete, REQUEST_ENTITY_TOO_LARGE as entity_too_large, SERVICE_UNAVAILABLE as unavailable}
+use Rattle.coap_types.specs.declared.message.TheConstants.Code.{BAD_REQUEST as bad_request}
+use Rattle.coap_types.specs.declared.message.TheConstants.Code.{REQUEST_ENTITY_INCOMPLETE as entity_incomplete}
+use Rattle.coap_types.specs.declared.message.TheConstants.Code.{REQUEST_ENTITY_TOO_LARGE as entity_too_large}
+use Rattle.coap_types.specs.declared.message.TheConstants.Code.{SERVICE_UNAVAILABLE as unavailable}
 use Rattle.coap_types.specs.declared.block.Block.{Block}
 use Rattle.coap_block.specs.declared.assembly_step.Took.{Took}
 use Rattle.coap_block.specs.declared.assembly_step.Took.TheVariants.{More, Whole, Refused}
 use Rattle.coap_block.specs.declared.assembly_step.AssemblyRefusal.{AssemblyRefusal}
-use Rattle.coap_block.specs.declared.assembly_step.AssemblyRefusal.TheVariants.{BadRequest, EntityIncomplete, EntityTooLarge, Unavailable}
+use Rattle.coap_block.specs.declared.assembly_step.AssemblyRefusal.TheVariants.{BadRequest, EntityIncomplete}
+use Rattle.coap_block.specs.declared.assembly_step.AssemblyRefusal.TheVariants.{EntityTooLarge, Unavailable}
 use Rattle.coap_block.specs.declared.block_verdict.BlockVerdict.{BlockVerdict}
 use Rattle.coap_block.specs.declared.block_verdict.BlockVerdict.TheVariants.{Refuse, Join, Done}
 use Rattle.coap_block.specs.AssemblyState.{Key, AssemblyState}

@@ -1,5 +1,6 @@
 -- The state that an assembly's fields stand for, and what `undo` puts back.
-use Rattle.std.specs.Prelude.{ℕ, zero, suc, if◌then◌else◌, ◌<◌, ◌≤◌, ◌+◌, ◌-◌, ◌++◌, ◌&&◌, Bool, List, [], ◌∷◌, length, map, take, set, Option, Some, None, vec_len, vec_capacity}
+use Rattle.std.specs.Prelude.{ℕ, zero, suc, if◌then◌else◌, ◌<◌, ◌≤◌, ◌+◌, ◌-◌, ◌++◌, ◌&&◌, Bool, List, [], ◌∷◌, length}
+use Rattle.std.specs.Prelude.{map, take, set, Option, Some, None, vec_len, vec_capacity}
 use Rattle.std.specs.List.{insert}
 use Rattle.std.specs.Option.{option_map}
 use Rattle.std.specs.declared.vec.Vec.{Vec}

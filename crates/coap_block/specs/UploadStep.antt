@@ -1,5 +1,6 @@
 -- The steps of a Block1 transfer at the client (RFC 7959, section 2.5).
-use Rattle.std.specs.Prelude.{◌≡◌, ◌↔◌, ◌&&◌, ◌||◌, ◌==◌, IsTrue, ℕ, Bool, true, nat_lt, nat_le, ◌+◌, ◌/◌, ◌<◌, ◌≤◌, ◌⊎◌, List, length, Option, Some, None}
+use Rattle.std.specs.Prelude.{◌≡◌, ◌↔◌, ◌&&◌, ◌||◌, ◌==◌, IsTrue, ℕ, Bool, true, nat_lt, nat_le, ◌+◌, ◌/◌, ◌<◌, ◌≤◌}
+use Rattle.std.specs.Prelude.{◌⊎◌, List, length, Option, Some, None}
 use Rattle.coap_types.specs.declared.block.Block.{Block}
 use Rattle.coap_types.specs.declared.block.TheConstants.{MAX_NUM as max_num}
 use Rattle.coap_block.specs.declared.upload.Place.{Place}

@@ -1,4 +1,5 @@
-ghost use Rattle.std.specs.Prelude.{◌≡◌, ◌≤◌, ◌+◌, ◌++◌, true, None, Some, IfOk, OnOk, OnErr, IsOk, IsSome, length, max, vec_len, vec_capacity};
+ghost use Rattle.std.specs.Prelude.{◌≡◌, ◌≤◌, ◌+◌, true, None, Some, IfOk, OnOk, OnErr, IsOk, IsSome, length, max};
+ghost use Rattle.std.specs.Prelude.{vec_len, vec_capacity};
 ghost use Rattle.coap_block.specs.AssemblyState.{body_with, forgotten, nothing_yet, with_payload};
 ghost use Rattle.coap_block.specs.AssemblyStep.{partials_by, verdict_at};
 ghost use Rattle.coap_block.specs.AssemblyAnswer.{IsRefused, TakesBlock, took};
@@ -28,7 +29,8 @@ pub struct Assembly<A: Allocator = Global> {
 }
 
 impl<A: Allocator> Model for Assembly<A> {
-    ghost use Rattle.coap_block.specs.AssemblyKept.{AssemblyValue, partials_of, value_of, AreFew, AreFewBefore, IsUndoableBefore};
+    ghost use Rattle.coap_block.specs.AssemblyKept.{AssemblyValue, partials_of, value_of, AreFew, AreFewBefore};
+    ghost use Rattle.coap_block.specs.AssemblyKept.{IsUndoableBefore};
 
     ghost Value = { AssemblyValue };
 

@@ -1,6 +1,7 @@
 ghost use Rattle.std.specs.Prelude.{◌≡◌, ◌+◌, ◌<◌, ◌≤◌, List, ℕ, min};
 ghost use Rattle.coap_types.specs.Piece.{offset_of, size_of};
-ghost use Rattle.coap_block.specs.FetchStep.{changed, differs_from, fits, is_sized, lacks_tag, number_behind, same_tag, verdict};
+ghost use Rattle.coap_block.specs.FetchStep.{changed, differs_from, fits, is_sized, lacks_tag, number_behind, same_tag};
+ghost use Rattle.coap_block.specs.FetchStep.{verdict};
 ghost use Rattle.coap_block.specs.FetchState.{state_of, IsNumberedAsk};
 ghost use Rattle.coap_block.specs.declared.fetch_verdict.Verdict.TheVariants.{Again, Ask};
 

@@ -1,7 +1,8 @@
 ghost use Rattle.coap_block.specs.Whole.{OneBody, OneBodyAtServer};
 ghost use Rattle.coap_block.specs.Gathered.{GatheredAtStart, GatheredByPart, WholeByParts};
 ghost use Rattle.coap_block.specs.FetchTrace.{BodyIsShort, GatheredIsShort, WholeByHistory};
-ghost use Rattle.coap_block.specs.AssemblyTrace.{FewPartials, NoneLeft, OneForAKey, OthersStay, PartialsByHistory, WholeByBlocks};
+ghost use Rattle.coap_block.specs.AssemblyTrace.{FewPartials, NoneLeft, OneForAKey, OthersStay, PartialsByHistory};
+ghost use Rattle.coap_block.specs.AssemblyTrace.{WholeByBlocks};
 ghost use Rattle.coap_block.specs.PartialTimes.{JoinsWhereMore, ThereAtMoment, ThereByHistory};
 ghost use Rattle.coap_block.specs.UploadStep.{ContinuesIsTested};
 ghost use Rattle.coap_block.specs.Sent.{SentAtStart, SentByPart, WholeBySent};

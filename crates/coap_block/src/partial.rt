@@ -1,5 +1,5 @@
 ghost use Rattle.std.specs.Prelude.{◌≡◌, IfOk, OnOk, OnErr};
-ghost use Rattle.coap_block.specs.AssemblyState.{is_live, same_key};
+ghost use Rattle.coap_block.specs.AssemblyState.{is_live};
 ghost use Rattle.coap_block.specs.AssemblyKept.{begun, body_of, cut, grown, is_there, key_of};
 
 use crate::upload_key::UploadKey;

@@ -1,8 +1,10 @@
-ghost use Rattle.std.specs.Prelude.{◌≡◌, ◌<◌, ◌≤◌, ◌+◌, ◌++◌, ◌∷◌, [], filter, length, option_copied, set, IfOk, IfSome, IfNone, OnOk, OnErr, vec_len, vec_capacity};
-ghost use Rattle.std.specs.List.{insert, remove};
+ghost use Rattle.std.specs.Prelude.{◌≡◌, ◌<◌, ◌≤◌, ◌+◌, ◌++◌, ◌∷◌, [], filter, length, option_copied, set, IfOk};
+ghost use Rattle.std.specs.Prelude.{IfSome, OnOk, OnErr, vec_len, vec_capacity};
 ghost use Rattle.std.specs.Option.{option_map};
-ghost use Rattle.coap_block.specs.AssemblyState.{body_with, forgotten, is_live, partial_of, put, reached, with_payload, without_key};
-ghost use Rattle.coap_block.specs.AssemblyKept.{begun, body_of, changed_at, grown, partials_of, key_of, place_of, there_of, undone, AreFew, IsUndoable};
+ghost use Rattle.coap_block.specs.AssemblyState.{body_with, forgotten, is_live, partial_of, put, reached, with_payload};
+ghost use Rattle.coap_block.specs.AssemblyState.{without_key};
+ghost use Rattle.coap_block.specs.AssemblyKept.{begun, body_of, changed_at, grown, partials_of, key_of, place_of};
+ghost use Rattle.coap_block.specs.AssemblyKept.{there_of, undone, AreFew, IsUndoable};
 
 use crate::assembly_judging::MAX_PARTIALS;
 use crate::assembly_undo::Change;

@@ -1,6 +1,7 @@
 ghost use Rattle.std.specs.Prelude.{◌≡◌, ◌≤◌, ◌↔◌, false, true, None, Some, IsSome, IfSome};
 ghost use Rattle.coap_types.specs.Piece.{Piece};
-ghost use Rattle.coap_block.specs.UploadStep.{upload_start, block_to_send, at_place, continues, Continues, IsPlaceIn, moved};
+ghost use Rattle.coap_block.specs.UploadStep.{upload_start, block_to_send, at_place, continues, Continues, IsPlaceIn};
+ghost use Rattle.coap_block.specs.UploadStep.{moved};
 
 use crate::piece::slice;
 use bytes::Bytes;

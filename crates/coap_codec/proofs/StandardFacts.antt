@@ -10,10 +10,13 @@ use Rattle.coap_types.specs.Bytes.{AreBytes}
 use Rattle.coap_codec.specs.Message.{Message, Spells}
 use Rattle.coap_codec.specs.Faulty.{Faulty}
 use Rattle.coap_codec.specs.declared.fault.Reason.{Reason}
-use Rattle.coap_codec.specs.declared.fault.Reason.TheVariants.{Short, Version, TokenLength, TokenCut, EmptyNotBare, DeltaReserved, LengthReserved, OptionCut, NumberTooLarge, NoPayload}
-use Rattle.coap_codec.specs.Reading.{extended, value_at, nibbles_at, option_at, walk_of, walk, payload_at, frame_fault, body_at}
+use Rattle.coap_codec.specs.declared.fault.Reason.TheVariants.{Short, Version, TokenLength, TokenCut, EmptyNotBare}
+use Rattle.coap_codec.specs.declared.fault.Reason.TheVariants.{DeltaReserved, LengthReserved, OptionCut, NumberTooLarge}
+use Rattle.coap_codec.specs.declared.fault.Reason.TheVariants.{NoPayload}
+use Rattle.coap_codec.specs.Reading.{extended, value_at, nibbles_at, option_at, walk_of, walk, payload_at, frame_fault}
+use Rattle.coap_codec.specs.Reading.{body_at}
 use Rattle.coap_codec.specs.Decoded.{decoded}
-use Rattle.coap_codec.proofs.ReadLemmas.{message_reads, message_faults}
+use Rattle.coap_codec.proofs.Datagrams.ReadAsSpelled.{message_reads, message_faults}
 
 -- ---- extended numbers (section 3.1)
 

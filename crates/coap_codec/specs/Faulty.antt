@@ -1,5 +1,6 @@
 -- What is wrong with a datagram that spells no message (RFC 7252, section 3): the first fault from left to right.
-use Rattle.std.specs.Prelude.{◌≡◌, ◌≢◌, ℕ, ◌+◌, ◌-◌, ◌/◌, ◌%◌, ◌^◌, ◌<◌, ◌≤◌, ◌⊎◌, ◌==◌, if◌then◌else◌, Option, Some, None, List, [], ◌∷◌, ◌++◌, length, drop, slice_index, codes}
+use Rattle.std.specs.Prelude.{◌≡◌, ◌≢◌, ℕ, ◌+◌, ◌-◌, ◌/◌, ◌%◌, ◌^◌, ◌<◌, ◌≤◌, ◌⊎◌, ◌==◌, if◌then◌else◌, Option, Some}
+use Rattle.std.specs.Prelude.{None, List, [], ◌∷◌, ◌++◌, length, drop, slice_index, codes}
 use Rattle.coap_types.specs.CoapOption.{CoapOption}
 use Rattle.coap_types.specs.declared.message.Id.{Id}
 use Rattle.coap_types.specs.declared.message.Kind.{Kind}
@@ -8,7 +9,9 @@ use Rattle.coap_codec.specs.Extension.{Ext}
 use Rattle.coap_codec.specs.Header.{version, kind_of, token_length, code, id_of}
 use Rattle.coap_codec.specs.Options.{Options}
 use Rattle.coap_codec.specs.declared.fault.Reason.{Reason}
-use Rattle.coap_codec.specs.declared.fault.Reason.TheVariants.{Short, Version, TokenLength, TokenCut, EmptyNotBare, DeltaReserved, LengthReserved, OptionCut, NumberTooLarge, NoPayload}
+use Rattle.coap_codec.specs.declared.fault.Reason.TheVariants.{Short, Version, TokenLength, TokenCut, EmptyNotBare}
+use Rattle.coap_codec.specs.declared.fault.Reason.TheVariants.{DeltaReserved, LengthReserved, OptionCut, NumberTooLarge}
+use Rattle.coap_codec.specs.declared.fault.Reason.TheVariants.{NoPayload}
 use Rattle.coap_types.specs.declared.token.TheConstants.{MAX_TOKEN_LEN as max_token_len}
 
 -- how the reasons are counted

@@ -1,9 +1,10 @@
-ghost use Rattle.std.specs.Prelude.{◌≡◌, ◌≤◌, ◌+◌, true, length, take, drop, nat_le, IsTrue, IfSome, IfNone, IfOk, IfErr, OnErr, ◌↔◌};
-ghost use Rattle.std.specs.List.{list_all, All};
+ghost use Rattle.std.specs.Prelude.{◌≡◌, ◌≤◌, true, length, take, drop, nat_le, IsTrue, IfSome, IfNone, IfOk, IfErr};
+ghost use Rattle.std.specs.Prelude.{OnErr, ◌↔◌};
+ghost use Rattle.std.specs.List.{list_all};
 ghost use Rattle.coap_types.specs.CoapOption.{options_of};
 ghost use Rattle.coap_codec.specs.Message.{Spells, message};
 ghost use Rattle.coap_codec.specs.Refused.{HasNoSpelling, IsEmptyNotBare, Refused, ascends, is_short, refusal_number};
-ghost use Rattle.coap_codec.specs.Writing.{Puts, HasNumber, IsWritable, spelled_length};
+ghost use Rattle.coap_codec.specs.Writing.{Puts, IsWritable, spelled_length};
 ghost use Rattle.coap_codec.specs.Spelling.{message_bytes};
 
 use crate::head::{HEADER_LEN, Head, header};

@@ -1,6 +1,7 @@
 ghost use Rattle.coap_codec.specs.BoundedSpelling.{BoundedSpelling};
 ghost use Rattle.coap_codec.specs.OfBytes.{BytesSpellBytes, SpelledInBytes};
-ghost use Rattle.coap_codec.specs.Laws.{EachIsRead, NotBoth, OneMessage, OneFault, MessageIsDecoded, FaultIsDecoded, OneSpelling, SpelledByItsBytes, SpelledByNoOthers, NoOtherIsSpelled};
+ghost use Rattle.coap_codec.specs.Laws.{EachIsRead, NotBoth, OneMessage, OneFault, MessageIsDecoded, FaultIsDecoded};
+ghost use Rattle.coap_codec.specs.Laws.{OneSpelling, SpelledByItsBytes, SpelledByNoOthers, NoOtherIsSpelled};
 
 /// Every datagram spells exactly one message, or has exactly one fault; `decoded` of the
 /// specifications is that message or that fault.

@@ -5,3 +5,4 @@ pub mod Lists
 pub mod RoomIsKept
 pub mod ServerCalls
 pub mod ServerTicks
+pub mod WhatIsDue

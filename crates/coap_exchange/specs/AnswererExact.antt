@@ -5,7 +5,8 @@ use Rattle.coap_codec.specs.Message.{Message}
 use Rattle.coap_layer.specs.Trace as L
 use Rattle.coap_exchange.specs.declared.answerer.Asked.{Asked}
 use Rattle.coap_exchange.specs.declared.answerer.Due.{Due}
-use Rattle.coap_exchange.specs.AnswererTrace.{Response, Call, Incoming, Answers, Defers, Ticks, Responds, Ready, Notifies, Take}
+use Rattle.coap_exchange.specs.AnswererTrace.{Response, Call, Incoming, Answers, Defers, Ticks, Responds, Ready}
+use Rattle.coap_exchange.specs.AnswererTrace.{Notifies, Take}
 use Rattle.coap_exchange.specs.AnswererLaw.{ResponseLaw}
 
 pub record IsExact (word : ℕ) (past : List Call) : Type 0 where

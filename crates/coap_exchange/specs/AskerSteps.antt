@@ -4,7 +4,8 @@ use Rattle.coap_layer.specs.Trace as L
 use Rattle.coap_layer.specs.Machine.Steps.{Asked}
 use Rattle.coap_exchange.specs.AskerTrace.{Own, Call, Ask, Receive, Ticks, Keep, Release, Take}
 use Rattle.coap_exchange.specs.Tokens.{is_kept, may_keep, kept_with, kept_without}
-use Rattle.coap_exchange.specs.AskerRequests.{asked, opening_of, request_token, content_of, beneath, sent_as, ask_answer, opened}
+use Rattle.coap_exchange.specs.AskerRequests.{asked, opening_of, request_token, content_of, beneath, sent_as}
+use Rattle.coap_exchange.specs.AskerRequests.{ask_answer, opened}
 use Rattle.coap_exchange.specs.AskerArrivals.{verdict_on, acts, told, running_after, turn_of, running_unless}
 
 abbrev pub lower : Own → Call → List Asked

@@ -4,3 +4,4 @@ pub mod AskerShown
 pub mod AnswererShown
 pub mod VerdictFits
 pub mod ExchangeMoves
+pub mod WhatIsDue

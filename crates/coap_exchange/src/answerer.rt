@@ -1,15 +1,18 @@
-ghost use Rattle.std.specs.Prelude.{◌≡◌, ◌≢◌, ◌≤◌, ◌<◌, ◌^◌, ℕ, max, length, IfSome, Bool, ◌&&◌, true, false, None, Some, List, [], ◌∷◌, IsSome, is_some, IsOk, IfOk, OnOk, OnErr};
+ghost use Rattle.std.specs.Prelude.{◌≡◌, ◌≢◌, ◌≤◌, ◌<◌, ◌^◌, ℕ, max, length, IfSome, Bool, true, false, None, Some, []};
+ghost use Rattle.std.specs.Prelude.{IsSome, is_some, Ok, IsOk, IfOk, OnOk, OnErr};
 ghost use Rattle.coap_types.specs.declared.endpoint.Endpoint.{Endpoint as EndpointSpec};
 ghost use Rattle.coap_types.specs.declared.message.Kind.TheVariants.{Con};
-ghost use Rattle.coap_layer.specs.Machine.State.{answer_of, copies, is_free, made};
+ghost use Rattle.coap_layer.specs.Machine.State.{answer_of, copies, made};
 ghost use Rattle.coap_layer.specs.Trace as below;
 ghost use Rattle.coap_layer.specs.Machine.Ups.{IsQuiet};
 ghost use Rattle.coap_exchange.specs.declared.answerer.Asked.{Asked as AskedSpec};
 ghost use Rattle.coap_exchange.specs.declared.answerer.Due.TheVariants as dues;
-ghost use Rattle.coap_exchange.specs.AnswererSteps.{asked_in, ready_at};
+ghost use Rattle.coap_exchange.specs.AnswererSteps.{asked_in};
 ghost use Rattle.coap_exchange.specs.AnswererLaw.{Led, Step, fresh_state};
-ghost use Rattle.coap_exchange.specs.Machine.AnswererShown.{Leads, MayAnswer, MayNotify, MayRespond, IsAnswer, IsAnswerWith};
-ghost use Rattle.coap_exchange.specs.AnswererTrace.{Call, Incoming, Answers, Defers, Ticks, Responds, Ready, Notifies, Take};
+ghost use Rattle.coap_exchange.specs.Machine.WhatIsDue.{takes_con, takes_response};
+ghost use Rattle.coap_exchange.specs.Machine.AnswererShown.{Leads, MayAnswer, MayNotify, MayRespond, IsAnswer};
+ghost use Rattle.coap_exchange.specs.Machine.AnswererShown.{IsAnswerWith};
+ghost use Rattle.coap_exchange.specs.AnswererTrace.{Incoming, Answers, Defers, Ticks, Responds, Ready, Notifies, Take};
 
 use crate::deferrals::Deferrals;
 use crate::listed::{Listed, enlist, put_back, settle_down};
@@ -288,15 +291,19 @@ impl<A: Allocator + Copy, S: BuildHasher> Answerer<A, S> {
             → MayNotify self.new at there) }
         ensures before { OnOk result (self.new.before ≡ Some self.old.state) }
         ensures err { OnErr result (self.new ≡ self.old) }
+        // A request is ready only where its response can be sent.
+        ensures only { IfOk result (λ due. (a : AskedSpec) → due ≡ dues.Ready a
+            → takes_response self.old.state now.0 ≡ true) }
+        // Where nothing was due, a CON can be sent where it could before.
+        ensures same { IfOk result (λ due. due ≡ dues.Idle → (there : EndpointSpec)
+            → takes_con self.new.state now.0 there ≡ takes_con self.old.state now.0 there) }
         // Where no retransmission is due, and no deferred request is ready or no Message ID is free, or a
         // failure comes first, it takes no memory.
         ensures quiet { copies (max self.old.state.own.clock now.0) self.old.state.layer.open_cons ≡ []
-            → (is_some (ready_at self.old.state.own now.0) && is_free
-            (max self.old.state.own.clock now.0) self.old.state.layer.upcoming self.old.state.layer.last_used)
-            ≡ false → IsOk result }
+            → takes_response self.old.state now.0 ≡ false → IsOk result }
         ensures fails { copies (max self.old.state.own.clock now.0) self.old.state.layer.open_cons ≡ []
-            → answer_of self.old.state.layer (max self.old.state.layer.clock now.0) below.Ticks ≢ below.Idle
-            → IsOk result }
+            → answer_of self.old.state.layer (max self.old.state.own.clock now.0) below.Ticks ≢ below.Idle
+            → result ≡ Ok dues.Expired }
     {
         let at = Moment(self.layer.clock().0.max(now.0));
         let due = self.layer.would_tick(now);
@@ -356,14 +363,17 @@ impl<A: Allocator + Copy, S: BuildHasher> Answerer<A, S> {
     pub fn ready(&mut self, now: Moment, to: Endpoint) -> Result<bool, AllocError>
         ensures step { IfOk result (λ may. Step self.old.state (Ready now.0 to may) self.new.state) }
         ensures led { IfOk result (λ may. Leads self.old (Ready now.0 to may) self.new) }
+        ensures answer { IfOk result (λ may. may ≡ takes_con self.old.state now.0 to) }
         ensures may { IfOk result (λ may. may ≡ true → MayNotify self.new now.0 to) }
         ensures answerable { self.new.answerable ≡ self.old.answerable }
+        // A CON can be sent where it could before.
+        ensures same { (there : EndpointSpec)
+            → takes_con self.new.state now.0 there ≡ takes_con self.old.state now.0 there }
         // Where a notification could be sent, it still can.
         ensures kept { (at : ℕ) (there : EndpointSpec) → MayNotify self.old at there → MayNotify self.new at there }
         ensures before { self.new.before ≡ self.old.before }
         ensures err { OnErr result (self.new ≡ self.old) }
-        ensures quiet { answer_of self.old.state.layer (max self.old.state.layer.clock now.0) (below.Room to)
-            ≡ below.Is false → IsOk result }
+        ensures quiet { takes_con self.old.state now.0 to ≡ false → IsOk result }
     {
         if self.layer.would_confirm(now, to) {
             self.separate.reserve(1)?;

@@ -10,7 +10,8 @@ ghost use Rattle.coap_exchange.specs.declared.asker.AskRefusal.TheVariants as re
 ghost use Rattle.coap_exchange.specs.declared.asker.Event.TheVariants as events;
 ghost use Rattle.coap_exchange.specs.declared.asker.Turn.TheVariants as turns;
 ghost use Rattle.coap_exchange.specs.declared.matching.Verdict.TheVariants as verdicts;
-ghost use Rattle.coap_exchange.specs.AskerArrivals.{known_of, verdict_on, id_in, reply_by, settles, replying, settling, told, observe, is_of_request, turn_of, running_unless};
+ghost use Rattle.coap_exchange.specs.AskerArrivals.{known_of, verdict_on, id_in, reply_by, settles, replying, settling};
+ghost use Rattle.coap_exchange.specs.AskerArrivals.{told, observe, is_of_request, turn_of, running_unless};
 ghost use Rattle.coap_exchange.specs.AskerRequests.{token_or};
 ghost use Rattle.coap_exchange.specs.Machine.AskerShown.{own_with, refusal_as};
 ghost use Rattle.coap_exchange.specs.Tokens.{token_of};

@@ -1,5 +1,5 @@
-ghost use Rattle.std.specs.Prelude.{◌≡◌, ◌≢◌, ◌≤◌, ◌<◌, ◌^◌, ℕ, length, IfSome, Bool, false, List, [], ◌∷◌, None, Some, Err, IsOk, IfOk, OnOk, OnErr, IsSome, max};
-ghost use Rattle.coap_types.specs.declared.endpoint.Endpoint.{Endpoint};
+ghost use Rattle.std.specs.Prelude.{◌≡◌, ◌≢◌, ◌≤◌, ◌<◌, ◌^◌, length, IfSome, Bool, false, [], None, Some, Err, IsOk};
+ghost use Rattle.std.specs.Prelude.{IfOk, OnOk, OnErr, IsSome, max};
 ghost use Rattle.coap_layer.specs.Machine.State.{answer_of, copies, made};
 ghost use Rattle.coap_layer.specs.Trace as below;
 ghost use Rattle.coap_layer.specs.Machine.Ups.{IsQuiet};
@@ -9,7 +9,7 @@ ghost use Rattle.coap_exchange.specs.AskerFollows.{message_told};
 ghost use Rattle.coap_exchange.specs.AskerLaw.{Led, Step, fresh_state};
 ghost use Rattle.coap_exchange.specs.AskerRequests.{opening_of};
 ghost use Rattle.coap_exchange.specs.Machine.AskerShown.{IsAskable, Leads};
-ghost use Rattle.coap_exchange.specs.AskerTrace.{Call, Ask as Asks, Receive, Ticks, Keep, Release, Take};
+ghost use Rattle.coap_exchange.specs.AskerTrace.{Ask as Asks, Receive, Ticks, Keep, Release, Take};
 
 use crate::arrivals::{
     act, id_in, send_refusal, spent_refusal, token_for, told, turn_of, unless_ended, verdict,

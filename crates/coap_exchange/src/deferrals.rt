@@ -1,4 +1,4 @@
-ghost use Rattle.std.specs.Prelude.{◌≡◌, ◌≤◌, ◌<◌, [], ◌∷◌, length, remove, IfSome, IfNone};
+ghost use Rattle.std.specs.Prelude.{◌≡◌, ◌≤◌, ◌<◌, [], length, remove, IfSome, IfNone};
 ghost use Rattle.std.specs.Option.{option_map};
 ghost use Rattle.coap_exchange.specs.AnswererSteps.{max_deferred, deferred_with, first_ready, may_defer, without_ready};
 ghost use Rattle.coap_exchange.specs.Machine.Listed.{listed};

@@ -1,7 +1,5 @@
-ghost use Rattle.std.specs.Prelude.{◌≡◌, ◌<◌, ◌+◌, ◌-◌, ◌^◌, ℕ, None, Some, [], false, if◌then◌else◌};
-ghost use Rattle.coap_types.specs.declared.endpoint.Endpoint.{Endpoint};
-ghost use Rattle.coap_exchange.specs.AskerRequests.{opened};
-ghost use Rattle.coap_exchange.specs.AskerArrivals.{has_token, has_id, is_cancel, running_after, running_unless, acked_in, has_waited};
+ghost use Rattle.std.specs.Prelude.{◌≡◌, ◌<◌, ◌+◌, ◌-◌, ◌^◌, None, Some, [], false, if◌then◌else◌};
+ghost use Rattle.coap_exchange.specs.AskerArrivals.{has_token, has_id, is_cancel, running_after, acked_in, has_waited};
 
 use crate::asker::{Exchange, Turn};
 use crate::kept_tokens::KeptTokens;

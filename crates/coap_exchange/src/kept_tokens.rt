@@ -1,5 +1,5 @@
-ghost use Rattle.std.specs.Prelude.{◌≡◌, ◌≤◌, ◌<◌, ◌++◌, [], ◌∷◌, length};
-ghost use Rattle.coap_exchange.specs.Tokens.{max_kept, is_kept, same_token, may_keep, kept_with, kept_without};
+ghost use Rattle.std.specs.Prelude.{◌≡◌, ◌≤◌, [], length};
+ghost use Rattle.coap_exchange.specs.Tokens.{max_kept, is_kept, may_keep, kept_with, kept_without};
 
 use arrayvec::ArrayVec;
 use coap_types::Token;

@@ -21,7 +21,8 @@ ghost use Rattle.coap_exchange.specs.AnswererSends.{AllGoBack, BeginAlone};
 ghost use Rattle.coap_exchange.specs.AnswererEmpties as rejections;
 ghost use Rattle.coap_exchange.specs.AnswererTells.{EndsTold, HandsOrEnds};
 ghost use Rattle.coap_exchange.specs.AnswererDeferrals.{DeferredLongEnough, ReadyWhenDue, EarliestReady};
-ghost use Rattle.coap_exchange.specs.AnswererFollows.{AreResponses, AreRequests, EndsOnce, WaitsForOutstanding, FewDeferred};
+ghost use Rattle.coap_exchange.specs.AnswererFollows.{AreResponses, AreRequests, EndsOnce, WaitsForOutstanding};
+ghost use Rattle.coap_exchange.specs.AnswererFollows.{FewDeferred};
 
 /// What leads to the state of a client's side stands in the law, and what follows from that.
 pub fn asker_law()

@@ -1,5 +1,4 @@
 ghost use Rattle.std.specs.Prelude.{◌≡◌, ◌≤◌, ℕ, Some, None, IfSome, is_some, length, take, true, ◌&&◌, not};
-ghost use Rattle.std.specs.Option.{option_map};
 ghost use Rattle.std.specs.Vec.{vec_len, vec_capacity};
 ghost use Rattle.coap_types.specs.declared.message.Kind.TheVariants.{Con, Ack};
 ghost use Rattle.coap_types.specs.declared.limits.TheConstants.{MAX_MESSAGE_LEN as max_message_len};
@@ -16,7 +15,8 @@ ghost use Rattle.coap_layer.specs.Machine.Ups.{answer_as};
 ghost use Rattle.coap_layer.specs.Words.{handed_by};
 ghost use Rattle.coap_exchange.specs.Machine.AnswererShown.{Takes};
 ghost use Rattle.coap_types.specs.declared.endpoint.Endpoint.{Endpoint};
-ghost use Rattle.coap_exchange.specs.AnswererSteps.{answering, asked_in, asked_of, content_of, handed_up, reject_by, reset_by, separate_after, IsSentAs};
+ghost use Rattle.coap_exchange.specs.AnswererSteps.{answering, asked_in, asked_of, content_of, handed_up, reject_by};
+ghost use Rattle.coap_exchange.specs.AnswererSteps.{reset_by, separate_after, IsSentAs};
 ghost use Rattle.coap_exchange.specs.AnswererTrace.{Own};
 ghost use Rattle.coap_exchange.specs.AskerArrivals.{id_in, replying};
 ghost use Rattle.coap_exchange.specs.Machine.Listed.{listed, listed_before};

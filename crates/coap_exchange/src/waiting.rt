@@ -1,4 +1,5 @@
-ghost use Rattle.std.specs.Prelude.{◌≡◌, ◌≤◌, ◌<◌, ◌⊎◌, ℕ, IsOk, OnOk, IfSome, max, Bool, Option, Some, None, true, false, length, is_some, if◌then◌else◌};
+ghost use Rattle.std.specs.Prelude.{◌≡◌, ◌≤◌, ◌<◌, IsOk, OnOk, IfSome, max, Option, Some, None, true, false, length};
+ghost use Rattle.std.specs.Prelude.{is_some, if◌then◌else◌};
 ghost use Rattle.std.specs.Option.{option_map};
 ghost use Rattle.std.specs.Vec.{vec_len, vec_capacity};
 ghost use Rattle.coap_types.specs.Recognised.{has_number};
@@ -12,7 +13,8 @@ ghost use Rattle.coap_layer.specs.Machine.Ups.{IsTick};
 ghost use Rattle.coap_exchange.specs.declared.answerer.Asked.{Asked as AskedSpec};
 ghost use Rattle.coap_exchange.specs.declared.answerer.Due.TheVariants as dues;
 ghost use Rattle.coap_exchange.specs.declared.separate.Deferred.{Deferred};
-ghost use Rattle.coap_exchange.specs.AnswererSteps.{asking_room, content_with, due_of, failed_by, ready_if, separate_of, separate_unless};
+ghost use Rattle.coap_exchange.specs.AnswererSteps.{asking_room, content_with, due_of, failed_by, ready_if};
+ghost use Rattle.coap_exchange.specs.AnswererSteps.{separate_of, separate_unless};
 ghost use Rattle.coap_exchange.specs.Machine.AnswererShown.{AsksFreely};
 ghost use Rattle.coap_exchange.specs.AskerArrivals.{observe};
 ghost use Rattle.coap_exchange.specs.Machine.Listed.{listed, listed_before};

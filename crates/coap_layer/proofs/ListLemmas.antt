@@ -1,5 +1,6 @@
 -- Tests over lists.
-use Rattle.std.proofs.Common.{◌≡◌, inl, inr, ℕ, ◌+◌, ◌<◌, ◌≤◌, ◌==◌, nat_le, nat_lt, Bool, true, false, Option, Some, List, [], ◌∷◌, ◌++◌, length, filter, map, refl, ap, arith, ◌&&◌, ◌||◌, cond}
+use Rattle.std.proofs.Common.{◌≡◌, inl, inr, ℕ, ◌+◌, ◌<◌, ◌≤◌, ◌==◌, nat_le, nat_lt, Bool, true, false, Option, Some}
+use Rattle.std.proofs.Common.{List, [], ◌∷◌, ◌++◌, length, filter, map, refl, ap, arith, ◌&&◌, ◌||◌, cond}
 use Rattle.std.proofs.lemmas.Bool.Decides.{nat_tests}
 use Rattle.std.specs.List.{list_any, filter_map}
 use Rattle.coap_types.specs.Past.{Ever}

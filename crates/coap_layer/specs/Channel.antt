@@ -10,7 +10,8 @@ use Rattle.coap_layer.specs.Trace.{Receive, Reply, Response, Acked, Answer, Beco
 use Rattle.coap_layer.specs.Words.{Incoming, handed, taken, hands_up, Open, begun, outstanding}
 use Rattle.coap_layer.specs.Rows.{LayerLaw}
 use Rattle.coap_layer.specs.Sends.{IsIn, PlainOut, GoesOut}
-use Rattle.coap_types.specs.declared.transmission.TheConstants.{LAST_ARRIVAL_MS as last_arrival, MAX_LATENCY_MS as max_latency}
+use Rattle.coap_types.specs.declared.transmission.TheConstants.{LAST_ARRIVAL_MS as last_arrival}
+use Rattle.coap_types.specs.declared.transmission.TheConstants.{MAX_LATENCY_MS as max_latency}
 
 -- an entry of the one layer, or of the other
 pub data Hop : Type 0 where

@@ -1,7 +1,8 @@
 -- Histories that show the laws to be of something (RFC 7252, section 4.2).
 use Rattle.std.specs.Prelude.{◌≡◌, ◌≢◌, ◌+◌, List, ◌∷◌}
 use Rattle.coap_types.specs.Past.{Ever, Sometime}
-use Rattle.coap_types.specs.declared.transmission.TheConstants.{MAX_TRANSMIT_WAIT_MS as max_transmit_wait, MAX_RETRANSMIT as max_retransmit}
+use Rattle.coap_types.specs.declared.transmission.TheConstants.{MAX_TRANSMIT_WAIT_MS as max_transmit_wait}
+use Rattle.coap_types.specs.declared.transmission.TheConstants.{MAX_RETRANSMIT as max_retransmit}
 use Rattle.coap_types.specs.declared.endpoint.Endpoint.{Endpoint}
 use Rattle.coap_layer.specs.Trace.{Expired, Entry}
 use Rattle.coap_layer.specs.Words.{Open}

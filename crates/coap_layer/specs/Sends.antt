@@ -5,10 +5,13 @@ use Rattle.coap_types.specs.declared.message.Kind.TheVariants.{Con, Non}
 use Rattle.coap_codec.specs.Message.{Message, Spells}
 use Rattle.coap_codec.specs.Spelling.{message_bytes}
 use Rattle.coap_layer.specs.Arrivals.{Faulted, Whole, Shows}
-use Rattle.coap_layer.specs.Trace.{Content, with_head, Packet, Call, Receive, Reply, Confirm, Plain, Take, Replayed, Rejected, Answer, Becomes, Sent, Copied, Gives, Entry}
-use Rattle.coap_layer.specs.Words.{awaits, Remembered, hands_up, was_con, reply_in, Open, begun, copies_in, outstanding, waiting}
+use Rattle.coap_layer.specs.Trace.{Content, with_head, Packet, Call, Receive, Reply, Confirm, Plain, Take, Replayed}
+use Rattle.coap_layer.specs.Trace.{Rejected, Answer, Becomes, Sent, Copied, Gives, Entry}
+use Rattle.coap_layer.specs.Words.{awaits, Remembered, hands_up, was_con, reply_in, Open, begun, copies_in, outstanding}
+use Rattle.coap_layer.specs.Words.{waiting}
 use Rattle.coap_layer.specs.Rows.{LayerLaw, reset_to}
-use Rattle.coap_types.specs.declared.transmission.TheConstants.{LAST_RETRANSMISSION_MS as last_retransmission, MAX_RETRANSMIT as max_retransmit}
+use Rattle.coap_types.specs.declared.transmission.TheConstants.{LAST_RETRANSMISSION_MS as last_retransmission}
+use Rattle.coap_types.specs.declared.transmission.TheConstants.{MAX_RETRANSMIT as max_retransmit}
 
 -- at n entries, one after the other, and perhaps at more
 abbrev pub AtLeast : {E : Type 0} → ℕ → (List E → E → Type 0) → List E → Type 0

@@ -1,5 +1,6 @@
 -- What a trace of the layer's calls says: what is remembered, what is outstanding, what waits to be taken.
-use Rattle.std.specs.Prelude.{◌≡◌, ◌≤◌, ℕ, ◌+◌, ◌%◌, Bool, true, false, nat_le, Option, Some, None, List, [], ◌∷◌, ◌++◌, ◌&&◌, ◌==◌, drop, if◌then◌else◌, option_to_list}
+use Rattle.std.specs.Prelude.{◌≡◌, ◌≤◌, ℕ, ◌+◌, ◌%◌, Bool, true, false, nat_le, Option, Some, None, List, [], ◌∷◌, ◌++◌}
+use Rattle.std.specs.Prelude.{◌&&◌, ◌==◌, drop, if◌then◌else◌, option_to_list}
 use Rattle.std.specs.List.{filter_map}
 use Rattle.coap_types.specs.Past.{Ever, all_of}
 use Rattle.coap_types.specs.declared.endpoint.Endpoint.{Endpoint}
@@ -9,8 +10,12 @@ use Rattle.coap_types.specs.SameEndpoint.{same_endpoint}
 use Rattle.coap_codec.specs.Message.{Message}
 use Rattle.coap_codec.specs.Spelling.{message_bytes}
 use Rattle.coap_layer.specs.Ids.{Issued}
-use Rattle.coap_layer.specs.Trace.{Content, with_head, Packet, Call, Receive, Reply, Confirm, Settle, Ticks, Take, Room, AsksFree, Pass, Request, Response, Acked, Reset, Answer, Becomes, Sent, Copied, Expired, Entry}
-use Rattle.coap_types.specs.declared.transmission.TheConstants.{EXCHANGE_LIFETIME_MS as exchange_lifetime, ACK_TIMEOUT_MS as ack_timeout, TIMEOUT_VALUES as timeout_values}
+use Rattle.coap_layer.specs.Trace.{Content, with_head, Packet, Call, Receive, Reply, Confirm, Settle, Ticks, Take, Room}
+use Rattle.coap_layer.specs.Trace.{AsksFree, Pass, Request, Response, Acked, Reset, Answer, Becomes, Sent, Copied}
+use Rattle.coap_layer.specs.Trace.{Expired, Entry}
+use Rattle.coap_types.specs.declared.transmission.TheConstants.{EXCHANGE_LIFETIME_MS as exchange_lifetime}
+use Rattle.coap_types.specs.declared.transmission.TheConstants.{ACK_TIMEOUT_MS as ack_timeout}
+use Rattle.coap_types.specs.declared.transmission.TheConstants.{TIMEOUT_VALUES as timeout_values}
 
 -- the moment of the newest entry
 abbrev pub clock : List Entry → ℕ

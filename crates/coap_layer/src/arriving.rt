@@ -2,7 +2,9 @@ ghost use Rattle.std.specs.Prelude.{◌≡◌, ◌<◌, [], true, false, None, O
 ghost use Rattle.std.specs.Vec.{vec_len, vec_capacity};
 ghost use Rattle.coap_types.specs.Bytes.{AreBytes};
 ghost use Rattle.coap_layer.specs.Arrivals.{arrival_at};
-ghost use Rattle.coap_layer.specs.Machine.Arriving.{IsArriving, shown_by, told_by, of_head, sent_by, newly_by, awaits_by, open_by, ends as ends_lem, hands as hands_lem, keeps as keeps_lem};
+ghost use Rattle.coap_layer.specs.Machine.Arriving.{IsArriving, shown_by, told_by, of_head, sent_by, newly_by};
+ghost use Rattle.coap_layer.specs.Machine.Arriving.{awaits_by, open_by, ends as ends_lem, hands as hands_lem};
+ghost use Rattle.coap_layer.specs.Machine.Arriving.{keeps as keeps_lem};
 ghost use Rattle.coap_layer.specs.Machine.Entries.{IsUpTo, arrivals_in};
 ghost use Rattle.coap_layer.specs.Machine.Parts.{awaited, open_before};
 ghost use Rattle.coap_layer.specs.Rows.{reset_to};

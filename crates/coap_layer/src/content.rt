@@ -1,6 +1,5 @@
 ghost use Rattle.std.specs.Prelude.{◌≡◌, ◌≤◌, take, length};
 ghost use Rattle.coap_types.specs.CoapOption.{options_of};
-ghost use Rattle.coap_codec.specs.Message.{message};
 ghost use Rattle.coap_codec.specs.Spelling.{message_bytes};
 ghost use Rattle.coap_layer.specs.Trace.{with_head};
 ghost use Rattle.coap_layer.specs.Sendable.{IsSendable};

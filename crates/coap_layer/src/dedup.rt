@@ -1,7 +1,8 @@
-ghost use Rattle.std.specs.Prelude.{◌≡◌, ◌<◌, ◌≤◌, ◌+◌, ◌++◌, [], ◌∷◌, false, nat_le, filter, drop, length, Some, None, is_some, option_to_list, if◌then◌else◌, OnOk};
+ghost use Rattle.std.specs.Prelude.{◌≡◌, ◌<◌, ◌≤◌, ◌+◌, ◌++◌, [], ◌∷◌, false, nat_le, filter, drop, length, Some, None};
+ghost use Rattle.std.specs.Prelude.{is_some, option_to_list, if◌then◌else◌, OnOk};
 ghost use Rattle.std.specs.Option.{option_map, option_and_then, option_copied};
 ghost use Rattle.indexmap.specs.IndexMap.{get, spare, IsUnique};
-ghost use Rattle.coap_layer.specs.Machine.State.{is_live, is_of, is_full, is_remembered, reply_of};
+ghost use Rattle.coap_layer.specs.Machine.State.{is_live, is_full, is_remembered, reply_of};
 ghost use Rattle.coap_layer.specs.Machine.Entries.{AreLive, IsUpTo, arrivals_in, live_of, same_key, storing};
 ghost use Rattle.coap_types.specs.declared.transmission.TheConstants.{EXCHANGE_LIFETIME_MS as exchange_lifetime};
 

@@ -1,14 +1,17 @@
-ghost use Rattle.std.specs.Prelude.{◌≡◌, ℕ, List, [], ◌∷◌, ◌++◌};
+ghost use Rattle.std.specs.Prelude.{ℕ, List, [], ◌∷◌, ◌++◌};
 ghost use Rattle.coap_layer.specs.Trace.{Call, Answer, Entry};
 ghost use Rattle.coap_layer.specs.Rows.{LayerLaw};
 ghost use Rattle.coap_layer.specs.Sendable.{IsSendableWhenShort};
 ghost use Rattle.coap_layer.specs.Machine.State.{State, Step, made, start};
 ghost use Rattle.coap_layer.specs.Machine.LayerLed.{LayerLed};
-ghost use Rattle.coap_layer.specs.Follows.{HandedUpOnce, CopiesInTime, IdsApart, OneOutstanding, EndsOutstanding, IsExact, RemembersFew, IdsSmall, ResponsesSpelled};
+ghost use Rattle.coap_layer.specs.Follows.{HandedUpOnce, CopiesInTime, IdsApart, OneOutstanding, EndsOutstanding};
+ghost use Rattle.coap_layer.specs.Follows.{IsExact, RemembersFew, IdsSmall, ResponsesSpelled};
 ghost use Rattle.coap_types.specs.declared.endpoint.Endpoint.{Endpoint};
-ghost use Rattle.coap_layer.specs.Channel.{Hop, ChannelLaw, HandedAsSpelled, AcksHeard, ArrivesAsSent, ConsBegun, NonsSent, OnlyThatCon, HandedOnce, AcksReplied, AcksTaken, TakenOnce};
+ghost use Rattle.coap_layer.specs.Channel.{Hop, ChannelLaw, HandedAsSpelled, AcksHeard, ArrivesAsSent, ConsBegun};
+ghost use Rattle.coap_layer.specs.Channel.{NonsSent, OnlyThatCon, HandedOnce, AcksReplied, AcksTaken, TakenOnce};
 ghost use Rattle.coap_layer.specs.Apart.{ConsApart};
-ghost use Rattle.coap_layer.specs.Sends.{FiveAtMost, AllAlike, ConsSpelled, OneOpen, LastBegun, EachGoesOut, InOrder, TakenSent, TakenSince};
+ghost use Rattle.coap_layer.specs.Sends.{FiveAtMost, AllAlike, ConsSpelled, OneOpen, LastBegun, EachGoesOut, InOrder};
+ghost use Rattle.coap_layer.specs.Sends.{TakenSent, TakenSince};
 ghost use Rattle.coap_layer.specs.Machine.Steps.{Asked, Steps, entries};
 ghost use Rattle.coap_layer.specs.Examples.{FiveTimes, IsAcknowledged};
 

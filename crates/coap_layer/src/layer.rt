@@ -1,4 +1,5 @@
-ghost use Rattle.std.specs.Prelude.{◌≡◌, ◌≢◌, ◌≤◌, ◌<◌, ◌^◌, ℕ, List, ◌∷◌, [], Err, None, Some, IsSome, IsOk, IfOk, OnOk, OnErr, length, true, false, max};
+ghost use Rattle.std.specs.Prelude.{◌≡◌, ◌≢◌, ◌≤◌, ◌<◌, ◌^◌, [], Err, None, Some, IsSome, IsOk, IfOk, OnOk, OnErr};
+ghost use Rattle.std.specs.Prelude.{length, true, false, max};
 ghost use Rattle.coap_codec.specs.Message.{Message};
 ghost use Rattle.coap_layer.specs.declared.up.SendRefusal.TheVariants as refused;
 ghost use Rattle.coap_layer.specs.Machine.LayerLed.{LayerLed};
@@ -6,7 +7,8 @@ ghost use Rattle.coap_layer.specs.Machine.Moves.{Leads, Moves, would_answer};
 ghost use Rattle.coap_layer.specs.Sendable.{IsSendable};
 ghost use Rattle.coap_layer.specs.Machine.Shown.{MayReply};
 ghost use Rattle.coap_layer.specs.Machine.State.{copies, made, start};
-ghost use Rattle.coap_layer.specs.Trace.{Answer, Entry, Receive, Reply, Confirm, Plain, Settle, Ticks, Take, Room as AsksRoom, AsksFree, Pass, Nothing, Is, Idle, Gives};
+ghost use Rattle.coap_layer.specs.Trace.{Answer, Receive, Reply, Confirm, Plain, Settle, Ticks, Take, Room as AsksRoom};
+ghost use Rattle.coap_layer.specs.Trace.{AsksFree, Pass, Nothing, Is, Idle, Gives};
 ghost use Rattle.coap_layer.specs.Machine.Ups.{IsQuiet, IsTick, answer_as, sent_as};
 ghost use Rattle.coap_layer.specs.Words.{handed_by};
 ghost use Rattle.coap_types.specs.declared.limits.TheConstants.{MAX_MESSAGE_LEN as max_message_len};

@@ -1,6 +1,5 @@
 ghost use Rattle.std.specs.Prelude.{◌≡◌, ◌≤◌, ◌+◌, None, length, filter};
 ghost use Rattle.std.specs.Vec.{vec_len, vec_capacity};
-ghost use Rattle.std.specs.VecDeque.{deque_len, deque_capacity};
 ghost use Rattle.coap_layer.specs.Machine.Entries.{IsUpTo, arrivals_in};
 ghost use Rattle.coap_layer.specs.Machine.Parts.{noted, open_before};
 ghost use Rattle.coap_layer.specs.Machine.Sendings.{open_now};

@@ -1,10 +1,12 @@
-ghost use Rattle.std.specs.Prelude.{not, Some, ◌≡◌, ◌+◌, ◌*◌, ◌/◌, ◌%◌, IsTrue, false, List, [], ◌∷◌, ℕ, None, replicate, slice_set};
-ghost use Rattle.coap_layer.specs.Ids.{Issued, IdEntry, Ids, IdsAreExact, NumbersLaw, AreApart, IsHeld, IsRested, MayGive, Withholds, numbers, upcoming as upcoming_number};
+ghost use Rattle.std.specs.Prelude.{not, Some, ◌≡◌, ◌+◌, ◌*◌, ◌/◌, ◌%◌, IsTrue, false, List, [], ◌∷◌, ℕ, None};
+ghost use Rattle.std.specs.Prelude.{replicate, slice_set};
+ghost use Rattle.coap_layer.specs.Ids.{Issued, IdEntry, Ids, IdsAreExact, NumbersLaw, AreApart, IsHeld, IsRested};
+ghost use Rattle.coap_layer.specs.Ids.{MayGive, Withholds, numbers, upcoming as upcoming_number};
 ghost use Rattle.coap_layer.specs.declared.message_id.TheConstants.{GROUP_SIZE as group_size, GROUPS as groups};
 ghost use Rattle.coap_layer.specs.Machine.State.{is_free, is_rested};
 ghost use Rattle.coap_types.specs.declared.message.TheConstants.{MESSAGE_IDS as message_ids};
 ghost use Rattle.coap_layer.specs.Machine.IdStep.{Asks, Draws};
-ghost use Rattle.coap_layer.specs.Machine.IdState.{AreUses, Led, next_entry, free_entry};
+ghost use Rattle.coap_layer.specs.Machine.IdState.{AreUses, Led, next_entry, free_entry, use_of, uses_of};
 
 use coap_types::transmission::ID_REUSE_AFTER_MS;
 use coap_types::{Id, Moment};
@@ -24,37 +26,37 @@ const _: () = prove!(GROUPS == 16 && GROUP_SIZE == 4_096);
 pub struct IdSource {
     clock: Moment,
     upcoming: u16,
-    last_used: [Option<u64>; GROUPS],
+    last_used: [Option<Moment>; GROUPS],
 }
 
 impl Model for IdSource {
-    ghost use Rattle.std.specs.Prelude.{◌≡◌, length, ◌<◌};
-    ghost use Rattle.coap_layer.specs.Machine.IdState.{IdState};
+    ghost use Rattle.std.specs.Prelude.{◌≡◌};
+    ghost use Rattle.coap_layer.specs.Machine.IdState.{IdState, uses_of};
 
     ghost Value = { IdState };
 
-    ghost view = { λ s. record { clock = s.clock.0; upcoming = s.upcoming; last_used = s.last_used } };
+    ghost view = { λ s. record { clock = s.clock.0; upcoming = s.upcoming; last_used = uses_of s.last_used } };
 }
 
 // Whether a group last used then is still held.
-fn is_held(last_use: Option<u64>, now: Moment) -> bool
-    ensures yes { IsTrue result → IsHeld last_use now.0 }
-    ensures no { result ≡ false → IsRested last_use now.0 }
-    ensures test { result ≡ not (is_rested now.0 (Some last_use)) }
+fn is_held(last_use: Option<Moment>, now: Moment) -> bool
+    ensures yes { IsTrue result → IsHeld (use_of last_use) now.0 }
+    ensures no { result ≡ false → IsRested (use_of last_use) now.0 }
+    ensures test { result ≡ not (is_rested now.0 (Some (use_of last_use))) }
 {
     match last_use {
-        Some(last) => now.0.saturating_sub(last) <= ID_REUSE_AFTER_MS,
+        Some(last) => now.since(last) <= ID_REUSE_AFTER_MS,
         None => false,
     }
 }
 
 // Whether the number that comes next may be given.
-fn may_give(upcoming: u16, last_used: &[Option<u64>; GROUPS], now: Moment) -> bool
-    ensures yes { (word : ℕ) (past : List Issued) → upcoming ≡ upcoming_number word past → AreUses past last_used.now
+fn may_give(upcoming: u16, last_used: &[Option<Moment>; GROUPS], now: Moment) -> bool
+    ensures yes { (word : ℕ) (past : List Issued) → upcoming ≡ upcoming_number word past → AreUses past (uses_of last_used.now)
         → IsTrue result → MayGive word past now.0 }
-    ensures no { (word : ℕ) (past : List Issued) → upcoming ≡ upcoming_number word past → AreUses past last_used.now
+    ensures no { (word : ℕ) (past : List Issued) → upcoming ≡ upcoming_number word past → AreUses past (uses_of last_used.now)
         → result ≡ false → Withholds word past now.0 }
-    ensures test { result ≡ is_free now.0 upcoming last_used.now }
+    ensures test { result ≡ is_free now.0 upcoming (uses_of last_used.now) }
 {
     upcoming % GROUP_SIZE != 0 || !is_held(last_used[(upcoming / GROUP_SIZE) as usize], now)
 }
@@ -89,7 +91,7 @@ impl IdSource {
     {
         let id = self.upcoming;
         self.clock = at;
-        self.last_used[(id / GROUP_SIZE) as usize] = Some(at.0);
+        self.last_used[(id / GROUP_SIZE) as usize] = Some(at);
         self.upcoming = id.wrapping_add(1);
         Id(id)
     }

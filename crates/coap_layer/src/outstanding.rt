@@ -1,4 +1,4 @@
-ghost use Rattle.std.specs.Prelude.{◌≡◌, ◌≤◌, ◌<◌, ◌+◌, ◌++◌, [], ◌∷◌, map, filter, is_some, option_to_list, IfOk, IsOk};
+ghost use Rattle.std.specs.Prelude.{◌≡◌, ◌≤◌, [], map, filter, is_some, option_to_list, IfOk, IsOk};
 ghost use Rattle.std.specs.Vec.{vec_len, vec_capacity};
 ghost use Rattle.coap_layer.specs.Machine.Parts.{noted, open_before, settled, put_back as put_back_lem};
 ghost use Rattle.coap_layer.specs.Machine.Sendings.{open_now};

@@ -1,8 +1,10 @@
-ghost use Rattle.std.specs.Prelude.{◌≡◌, ◌≢◌, true, false, ℕ, List, nat_le, nat_lt, ◌≤◌, ◌*◌, ◌-◌, ◌^◌, ◌==◌, ◌&&◌, is_some, None, Some, if◌then◌else◌, map};
+ghost use Rattle.std.specs.Prelude.{◌≡◌, ◌≢◌, true, false, List, nat_le, nat_lt, ◌≤◌, ◌*◌, ◌-◌, ◌^◌, ◌==◌, ◌&&◌};
+ghost use Rattle.std.specs.Prelude.{is_some, None, Some, if◌then◌else◌, map};
 ghost use Rattle.std.specs.List.{list_any, filter_map};
 ghost use Rattle.std.specs.Vec.{vec_len, vec_capacity};
 ghost use Rattle.coap_types.specs.SameEndpoint.{same_endpoint};
-ghost use Rattle.coap_types.specs.declared.transmission.TheConstants.{MAX_RETRANSMIT as max_retransmit, FAILURE_TIMEOUTS as failure_timeouts};
+ghost use Rattle.coap_types.specs.declared.transmission.TheConstants.{MAX_RETRANSMIT as max_retransmit};
+ghost use Rattle.coap_types.specs.declared.transmission.TheConstants.{FAILURE_TIMEOUTS as failure_timeouts};
 ghost use Rattle.coap_layer.specs.BackOff.{factors};
 ghost use Rattle.coap_layer.specs.Trace.{Idle, Packet, Ticks};
 ghost use Rattle.coap_layer.specs.Words.{left_by};

@@ -1,14 +1,15 @@
-ghost use Rattle.std.specs.Prelude.{◌≡◌, ◌≤◌, ◌<◌, ◌+◌, ◌%◌, ◌++◌, ◌∷◌, [], None, Some, true, length, is_some, if◌then◌else◌, IfOk, IsOk, OnOk, OnErr};
+ghost use Rattle.std.specs.Prelude.{◌≡◌, ◌<◌, ◌+◌, ◌%◌, ◌++◌, ◌∷◌, [], Some};
 ghost use Rattle.std.specs.Vec.{vec_len, vec_capacity};
 ghost use Rattle.coap_types.specs.declared.message.Kind.TheVariants.{Con, Non};
 ghost use Rattle.coap_codec.specs.Spelling.{message_bytes};
 ghost use Rattle.coap_layer.specs.Machine.Parts.{open_before};
 ghost use Rattle.coap_layer.specs.Sendable.{IsSendable};
 ghost use Rattle.coap_layer.specs.Machine.Sendings.{open_now};
-ghost use Rattle.coap_layer.specs.Machine.Sound.{HasBuffers, HasRoom};
+ghost use Rattle.coap_layer.specs.Machine.Sound.{HasRoom};
 ghost use Rattle.coap_layer.specs.Trace.{with_head};
 ghost use Rattle.coap_layer.specs.Machine.Ups.{refusal_of};
-ghost use Rattle.coap_types.specs.declared.transmission.TheConstants.{ACK_TIMEOUT_MS as ack_timeout, TIMEOUT_VALUES as timeout_values};
+ghost use Rattle.coap_types.specs.declared.transmission.TheConstants.{ACK_TIMEOUT_MS as ack_timeout};
+ghost use Rattle.coap_types.specs.declared.transmission.TheConstants.{TIMEOUT_VALUES as timeout_values};
 
 use crate::SendRefusal;
 use crate::content::{Content, spell};

@@ -1,5 +1,6 @@
 -- Entries as the registrations that contracts see: the entries es are the registrations os.
-use Rattle.std.proofs.Common.{◌≡◌, ◌∙◌, ℕ, Bool, true, not, zero, suc, ◌+◌, ◌<◌, ◌++◌, List, [], ◌∷◌, length, map, filter, find, take, drop, set, get_or, Option, option_map, sym, refl, ap, arith}
+use Rattle.std.proofs.Common.{◌≡◌, ◌∙◌, ℕ, Bool, true, not, zero, suc, ◌+◌, ◌<◌, ◌++◌, List, [], ◌∷◌, length, map}
+use Rattle.std.proofs.Common.{filter, find, take, drop, set, get_or, Option, option_map, sym, refl, ap, arith}
 use Rattle.std.specs.List.{list_any}
 use Rattle.std.specs.Prelude.{slice_get}
 use Rattle.std.proofs.lemmas.Option.{slice_get-map}

@@ -1,5 +1,7 @@
 -- Lists that are mapped, in place and under a test.
-use Rattle.std.proofs.Common.{◌≡◌, ℕ, Bool, true, false, not, zero, suc, ◌+◌, ◌<◌, ◌≤◌, ◌||◌, ◌++◌, List, [], ◌∷◌, length, map, filter, find, take, drop, set, get_or, Option, Some, None, option_map, if◌then◌else◌, refl, ap, add-one, arith}
+use Rattle.std.proofs.Common.{◌≡◌, ℕ, Bool, true, false, not, zero, suc, ◌+◌, ◌<◌, ◌≤◌, ◌||◌, ◌++◌, List, [], ◌∷◌}
+use Rattle.std.proofs.Common.{length, map, filter, find, take, drop, set, get_or, Option, Some, None, option_map}
+use Rattle.std.proofs.Common.{if◌then◌else◌, refl, ap, add-one, arith}
 use Rattle.std.specs.List.{list_any}
 
 mapped_at : {X : Type 0} (f : X → X) (old : List X) (i : ℕ) (d : X) → i < length old

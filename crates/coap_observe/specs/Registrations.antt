@@ -4,7 +4,8 @@ use Rattle.std.specs.Prelude.{◌≡◌, ◌↔◌, ◌+◌, ◌<◌, ◌≤◌,
 use Rattle.std.specs.List.{list_any}
 use Rattle.std.specs.Option.{option_map}
 use Rattle.coap_types.specs.declared.endpoint.Endpoint.{Endpoint}
-use Rattle.coap_observe.specs.Observers.{AreRegistrations, Observer, changed_at, is_due_of, is_of, marked_by, marked_in, registered, registration, removed, sent_to}
+use Rattle.coap_observe.specs.Observers.{AreRegistrations, Observer, changed_at, is_due_of, is_of, marked_by, marked_in}
+use Rattle.coap_observe.specs.Observers.{registered, registration, removed, sent_to}
 use Rattle.coap_observe.specs.declared.observers.TheConstants.{MAX_OBSERVERS as max_observers}
 
 -- a registration is known by its endpoint and its token

@@ -2,7 +2,8 @@
 -- 4.4).
 use Rattle.std.specs.Prelude.{ℕ, IsTrue, ◌↔◌, ◌+◌, ◌<◌, ◌≤◌, ◌^◌, ◌%◌, Option}
 use Rattle.coap_observe.specs.Newer.{Mark, Newer, IsNewer, is_newer}
-use Rattle.coap_observe.specs.declared.sequence.TheConstants.{HALF_RANGE as half_range, REORDERING_MS as reordering_ms, SEQUENCE_BITS as sequence_bits}
+use Rattle.coap_observe.specs.declared.sequence.TheConstants.{HALF_RANGE as half_range, REORDERING_MS as reordering_ms}
+use Rattle.coap_observe.specs.declared.sequence.TheConstants.{SEQUENCE_BITS as sequence_bits}
 
 -- the sequence number of a version
 abbrev pub sequence_number : ℕ → ℕ

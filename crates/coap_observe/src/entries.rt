@@ -1,4 +1,5 @@
-ghost use Rattle.std.specs.Prelude.{◌≡◌, ◌<◌, ◌≤◌, ◌++◌, ◌∷◌, [], filter, find, length, option_copied, slice_get, true, IfSome, IsOk, OnOk, vec_len, vec_capacity};
+ghost use Rattle.std.specs.Prelude.{◌≡◌, ◌<◌, ◌≤◌, ◌++◌, ◌∷◌, [], filter, find, length, option_copied, slice_get, true};
+ghost use Rattle.std.specs.Prelude.{IfSome, IsOk, OnOk, vec_len, vec_capacity};
 ghost use Rattle.std.specs.List.{list_any};
 ghost use Rattle.coap_observe.specs.Observers.{changed_at, is_due_at, is_due_of, is_of, sent_to};
 ghost use Rattle.coap_observe.specs.Shown.{observers_of, observer_of, others_of};

@@ -1,4 +1,6 @@
-ghost use Rattle.coap_observe.specs.Registrations.{AlwaysRegistrations, ChangeMarks, EachStays, IsKnownByPair, RegisterPuts, RemoveNeverRaises, RemoveTakes, SendKeeps, SendLowers, SendUnmarks};
+ghost use Rattle.coap_observe.specs.Registrations.{AlwaysRegistrations, ChangeMarks, EachStays, IsKnownByPair};
+ghost use Rattle.coap_observe.specs.Registrations.{RegisterPuts, RemoveNeverRaises, RemoveTakes, SendKeeps, SendLowers};
+ghost use Rattle.coap_observe.specs.Registrations.{SendUnmarks};
 ghost use Rattle.coap_observe.specs.Versions.{LaterIsNewer, NewerIsDecided, NewerIsLater, OldIsReplaced};
 
 /// What the rule of freshness says of versions that a server numbers modulo 2^24, less than 2^23

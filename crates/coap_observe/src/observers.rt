@@ -1,7 +1,8 @@
 ghost use Rattle.std.specs.Prelude.{◌≡◌, ◌<◌, ◌≤◌, [], find, length, true, false, IfOk, IsOk, OnErr, slice_get};
 ghost use Rattle.std.specs.List.{list_any};
 ghost use Rattle.coap_observe.specs.Notices.{told_at, told_due};
-ghost use Rattle.coap_observe.specs.Observers.{AreRegistrations, changed_at, is_registered, is_due_at, is_due_of, marked_in, registered, removed, sent_to};
+ghost use Rattle.coap_observe.specs.Observers.{AreRegistrations, changed_at, is_registered, is_due_at, is_due_of};
+ghost use Rattle.coap_observe.specs.Observers.{marked_in, registered, removed, sent_to};
 
 use crate::entries::{
     due_behind, first_due, has, is_due, make_room, mark_all, others, push_within, take_out,

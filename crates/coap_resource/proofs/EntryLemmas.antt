@@ -1,5 +1,6 @@
 -- Entries as a map.
-use Rattle.std.proofs.Common.{◌≡◌, ◌≢◌, ◌≤◌, ℕ, Bool, true, false, not, ◌+◌, ◌++◌, ◌∙◌, List, [], ◌∷◌, length, refl, ap, sym, subst, arith, Option, Some, None, IfSome, is_some, if◌then◌else◌, length-append}
+use Rattle.std.proofs.Common.{◌≡◌, ◌≢◌, ◌≤◌, ℕ, Bool, true, false, not, ◌+◌, ◌++◌, ◌∙◌, List, [], ◌∷◌, length, refl, ap}
+use Rattle.std.proofs.Common.{sym, subst, arith, Option, Some, None, IfSome, is_some, if◌then◌else◌, length-append}
 use Rattle.std.specs.List.{filter}
 use Rattle.coap_resource.specs.declared.entry.Entry.{Entry}
 use Rattle.coap_resource.specs.declared.tally.Tally.{Tally}
@@ -7,7 +8,8 @@ use Rattle.coap_types.specs.Path.{same_path}
 use Rattle.coap_types.specs.declared.limits.TheConstants.{MAX_BODY_LEN as max_body_len}
 use Rattle.coap_resource.specs.Content.{Held, Changes}
 use Rattle.coap_resource.specs.Rate.{counted}
-use Rattle.coap_resource.specs.Entries.{entry_of, held_entries, find, without_path, Unique, AreShort, Listed, content_of}
+use Rattle.coap_resource.specs.Entries.{entry_of, held_entries, find, without_path, Unique, AreShort, Listed}
+use Rattle.coap_resource.specs.Entries.{content_of}
 use Rattle.coap_types.proofs.Facts.Paths.{same_path-decides}
 
 pub entries_append : {A : Type 0} (xs ys : List (Entry A)) → held_entries (xs ++ ys) ≡ held_entries xs ++ held_entries ys

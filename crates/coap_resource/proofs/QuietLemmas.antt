@@ -1,7 +1,9 @@
 -- What a store refuses is not for want of memory.
-use Rattle.std.proofs.Common.{◌≡◌, ◌≢◌, ℕ, Bool, true, false, not, ◌&&◌, ◌+◌, ◌==◌, nat_lt, nat_le, List, length, Option, Some, None, is_some, refl, if◌then◌else◌}
+use Rattle.std.proofs.Common.{◌≡◌, ◌≢◌, ℕ, Bool, true, false, not, ◌&&◌, ◌+◌, ◌==◌, nat_lt, nat_le, List, length}
+use Rattle.std.proofs.Common.{Option, Some, None, is_some, refl, if◌then◌else◌}
 use Rattle.coap_resource.specs.declared.refusal.StoreRefusal.{StoreRefusal}
-use Rattle.coap_resource.specs.declared.refusal.StoreRefusal.TheVariants.{Memory, TooLarge, TooManyPaths, RateExceeded, VersionsSpent}
+use Rattle.coap_resource.specs.declared.refusal.StoreRefusal.TheVariants.{Memory, TooLarge, TooManyPaths, RateExceeded}
+use Rattle.coap_resource.specs.declared.refusal.StoreRefusal.TheVariants.{VersionsSpent}
 use Rattle.coap_resource.specs.declared.tally.Tally.{Tally}
 use Rattle.coap_types.specs.declared.limits.TheConstants.{MAX_BODY_LEN as max_body_len}
 use Rattle.coap_resource.specs.declared.store.TheConstants.{MAX_PATHS as max_paths}

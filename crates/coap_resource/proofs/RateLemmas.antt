@@ -1,5 +1,6 @@
 -- What a tally has counted are the changes among the calls, and any 256 s hold at most twice the changes that a window takes.
-use Rattle.std.proofs.Common.{◌≡◌, ◌≢◌, ◌≤◌, ◌<◌, ℕ, Bool, true, false, ◌&&◌, ◌+◌, ◌==◌, ◌∙◌, max, ◌↔◌, List, [], ◌∷◌, refl, sym, ap, arith, Some, None, if◌then◌else◌, leb}
+use Rattle.std.proofs.Common.{◌≡◌, ◌≢◌, ◌≤◌, ◌<◌, ℕ, Bool, true, false, ◌&&◌, ◌+◌, ◌==◌, ◌∙◌, max, ◌↔◌, List, [], ◌∷◌}
+use Rattle.std.proofs.Common.{refl, sym, ap, arith, Some, None, if◌then◌else◌, leb}
 use Rattle.std.proofs.lemmas.Grind.{common_steps}
 use Rattle.coap_resource.specs.declared.tally.Tally.{Tally}
 use Rattle.coap_resource.specs.Rate.{window, used, rate_refusal, waited, counted}

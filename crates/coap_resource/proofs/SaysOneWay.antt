@@ -1,16 +1,15 @@
 -- The options of a response, as the function gives them, are those that say it.
-use Rattle.std.proofs.Common.{◌≡◌, ℕ, ◌+◌, ◌*◌, ◌^◌, ◌<◌, ◌≤◌, ◌++◌, Bool, true, false, Option, Some, None, List, IfSome, refl, ap, sym, ◌∙◌, arith}
+use Rattle.std.proofs.Common.{◌≡◌, ℕ, ◌^◌, ◌<◌, ◌≤◌, ◌++◌, Bool, true, false, Option, Some, None, List, IfSome, refl}
+use Rattle.std.proofs.Common.{ap, sym, ◌∙◌, arith}
 use Rattle.std.specs.Option.{option_map}
 use Rattle.coap_types.specs.BlockValue.{block_value}
-use Rattle.coap_types.specs.CoapOption.{CoapOption}
 use Rattle.coap_types.specs.OptionValues.{option_with, uint_option}
-use Rattle.coap_types.specs.Uint.{IsSpelling, uint}
+use Rattle.coap_types.specs.Uint.{uint}
 use Rattle.coap_types.specs.declared.block.TheConstants.{MAX_NUM as max_num}
 use Rattle.coap_types.specs.declared.option_number.TheConstants as numbers
 use Rattle.coap_types.specs.declared.szx.TheConstants.{MAX_SZX as max_szx}
 use Rattle.coap_types.proofs.Facts.Uints.{one_spelling, uint_spells}
-use Rattle.coap_resource.specs.ResponseOptions.{IsUint, Says, Fits, SaysOneWay, block_number, response_options}
-use Rattle.coap_resource.specs.Serves.{Reply}
+use Rattle.coap_resource.specs.ResponseOptions.{IsUint, SaysOneWay, block_number, response_options}
 
 abbrev IsSmall : Option ℕ → Type 0
 IsSmall number = IfSome number (λ n. n < 2 ^ 32)

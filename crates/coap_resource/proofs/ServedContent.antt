@@ -1,15 +1,19 @@
 -- A 2.05 of the store comes from a GET of what a path holds, which changes nothing (RFC 7252, section 5.8.1; RFC 7959, section 2.4).
-use Rattle.std.proofs.Common.{◌≡◌, ℕ, ◌==◌, nat_lt, nat_le, Bool, true, false, ◌&&◌, not, Option, Some, None, is_some, length, refl, ap, cond}
+use Rattle.std.proofs.Common.{◌≡◌, ℕ, ◌==◌, nat_lt, nat_le, Bool, true, false, ◌&&◌, not, Option, Some, None, is_some}
+use Rattle.std.proofs.Common.{length, refl, ap, cond}
 use Rattle.coap_types.specs.declared.message.TheConstants.Code as codes
 use Rattle.coap_types.specs.declared.request.Method.{Method}
 use Rattle.coap_types.specs.declared.request.Method.TheVariants.{Get, Post, Put, Delete}
 use Rattle.coap_resource.specs.declared.refusal.StoreRefusal.{StoreRefusal}
-use Rattle.coap_resource.specs.declared.refusal.StoreRefusal.TheVariants.{Memory, TooLarge, TooManyPaths, RateExceeded, VersionsSpent}
+use Rattle.coap_resource.specs.declared.refusal.StoreRefusal.TheVariants.{Memory, TooLarge, TooManyPaths, RateExceeded}
+use Rattle.coap_resource.specs.declared.refusal.StoreRefusal.TheVariants.{VersionsSpent}
 use Rattle.coap_resource.specs.Content.{Content, Held, append_refusal, put_refusal}
 use Rattle.coap_resource.specs.Rate.{rate_refusal}
-use Rattle.coap_resource.specs.RequestOptions.{precondition_fails, accepts, etag_names, block_of, offset_by, tag_of, szx_by}
+use Rattle.coap_resource.specs.RequestOptions.{precondition_fails, accepts, etag_names, block_of, offset_by, tag_of}
+use Rattle.coap_resource.specs.RequestOptions.{szx_by}
 use Rattle.coap_resource.specs.ServedLaw.{IsContent, ContentLaw}
-use Rattle.coap_resource.specs.Serves.{Question, Reply, bare, got, refusal_code, content_reply, PutBy, JoinBy, PostBy, RemoveBy, DeleteBy, ServesMethod, ServesUnless}
+use Rattle.coap_resource.specs.Serves.{Question, Reply, bare, got, refusal_code, content_reply, PutBy, JoinBy, PostBy}
+use Rattle.coap_resource.specs.Serves.{RemoveBy, DeleteBy, ServesMethod, ServesUnless}
 
 abbrev content : ℕ
 content = codes.CONTENT.0

@@ -1,5 +1,7 @@
 -- The payload of a 2.05 is a piece of what the path holds, or all of it (RFC 7959, sections 2.2 and 2.4).
-use Rattle.std.proofs.Common.{◌≡◌, ◌⊎◌, ◌↔◌, inl, inr, ℕ, zero, suc, ◌+◌, ◌*◌, ◌/◌, ◌-◌, ◌^◌, ◌<◌, ◌≤◌, min, nat_lt, nat_le, Bool, true, false, ◌&&◌, Option, Some, None, is_some, List, [], length, take, drop, refl, ap, sym, subst, if◌then◌else◌, arith, ◌∙◌}
+use Rattle.std.proofs.Common.{◌≡◌, ◌⊎◌, ◌↔◌, inl, inr, ℕ, zero, suc, ◌+◌, ◌*◌, ◌/◌, ◌-◌, ◌^◌, ◌<◌, ◌≤◌, min, nat_lt}
+use Rattle.std.proofs.Common.{nat_le, Bool, true, false, ◌&&◌, Option, Some, None, is_some, List, [], length, take}
+use Rattle.std.proofs.Common.{drop, refl, ap, sym, subst, if◌then◌else◌, arith, ◌∙◌}
 use Rattle.std.proofs.lemmas.Bool.Decides.{nat_tests}
 use Rattle.std.proofs.lemmas.List.{take_all, nil_from_length}
 use Rattle.std.proofs.lemmas.Nat.{pow-add}

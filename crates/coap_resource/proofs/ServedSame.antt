@@ -1,5 +1,6 @@
 -- Under a code that says no change nothing changes but the moment.
-use Rattle.std.proofs.Common.{◌≡◌, ◌⊎◌, inl, inr, ℕ, Bool, true, false, Option, Some, None, is_some, length, refl, ap, cond}
+use Rattle.std.proofs.Common.{◌≡◌, ◌⊎◌, inl, inr, ℕ, Bool, true, false, Option, Some, None, is_some, length, refl, ap}
+use Rattle.std.proofs.Common.{cond}
 use Rattle.coap_types.specs.declared.message.TheConstants.Code as codes
 use Rattle.coap_types.specs.declared.request.Method.{Method}
 use Rattle.coap_types.specs.declared.request.Method.TheVariants.{Get, Post, Put, Delete}
@@ -8,7 +9,8 @@ use Rattle.coap_resource.specs.Content.{Content, Held, append_refusal, later, pu
 use Rattle.coap_resource.specs.Rate.{rate_refusal}
 use Rattle.coap_resource.specs.RequestOptions.{precondition_fails}
 use Rattle.coap_resource.specs.ServedLaw.{is_change, SameLaw}
-use Rattle.coap_resource.specs.Serves.{Question, Reply, bare, PutBy, JoinBy, PostBy, RemoveBy, DeleteBy, ServesMethod, ServesUnless}
+use Rattle.coap_resource.specs.Serves.{Question, Reply, bare, PutBy, JoinBy, PostBy, RemoveBy, DeleteBy, ServesMethod}
+use Rattle.coap_resource.specs.Serves.{ServesUnless}
 
 abbrev IsSame : Content → ℕ → Content → Type 0
 IsSame old now new = (new ≡ old) ⊎ (new ≡ later old now)

@@ -1,7 +1,9 @@
 -- What a store holds, when a change of it is refused, and what a change is (RFC 7252, section 5.8).
-use Rattle.std.specs.Prelude.{◌≡◌, ◌≢◌, ℕ, not, ◌&&◌, ◌+◌, nat_lt, nat_le, List, length, Option, Some, None, is_some, if◌then◌else◌}
+use Rattle.std.specs.Prelude.{◌≡◌, ◌≢◌, ℕ, not, ◌&&◌, ◌+◌, nat_lt, nat_le, List, length, Option, Some, None, is_some}
+use Rattle.std.specs.Prelude.{if◌then◌else◌}
 use Rattle.coap_resource.specs.declared.refusal.StoreRefusal.{StoreRefusal}
-use Rattle.coap_resource.specs.declared.refusal.StoreRefusal.TheVariants.{Memory, TooLarge, TooManyPaths, RateExceeded, VersionsSpent}
+use Rattle.coap_resource.specs.declared.refusal.StoreRefusal.TheVariants.{Memory, TooLarge, TooManyPaths, RateExceeded}
+use Rattle.coap_resource.specs.declared.refusal.StoreRefusal.TheVariants.{VersionsSpent}
 use Rattle.coap_types.specs.declared.limits.TheConstants.{MAX_BODY_LEN as max_body_len}
 use Rattle.coap_resource.specs.declared.store.TheConstants.{MAX_PATHS as max_paths}
 use Rattle.coap_resource.specs.declared.tally.Tally.{Tally}

@@ -1,5 +1,6 @@
 -- How often a store changes, over all its calls since `new` (RFC 7641, section 4.4).
-use Rattle.std.specs.Prelude.{◌≡◌, ◌≤◌, ◌↔◌, ℕ, Bool, true, false, ◌&&◌, ◌+◌, ◌*◌, ◌==◌, max, nat_le, List, [], ◌∷◌, Option, Some, None, if◌then◌else◌}
+use Rattle.std.specs.Prelude.{◌≡◌, ◌≤◌, ◌↔◌, ℕ, Bool, true, false, ◌&&◌, ◌+◌, ◌*◌, ◌==◌, max, nat_le, List, [], ◌∷◌}
+use Rattle.std.specs.Prelude.{Option, Some, None, if◌then◌else◌}
 use Rattle.coap_resource.specs.declared.refusal.StoreRefusal.TheVariants.{RateExceeded}
 use Rattle.coap_resource.specs.declared.tally.TheConstants.{WINDOW_MS as window_ms}
 use Rattle.coap_resource.specs.Content.{Content, Held, Changes, nothing, later}

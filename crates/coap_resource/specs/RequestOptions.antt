@@ -1,5 +1,6 @@
 -- What the options of a request say (RFC 7252, sections 5.10.3, 5.10.4, 5.10.6 and 5.10.8; RFC 7959, section 2.2).
-use Rattle.std.specs.Prelude.{ℕ, Bool, true, false, not, ◌&&◌, ◌||◌, ◌^◌, ◌==◌, nat_eq, nat_lt, min, List, [], ◌∷◌, Option, Some, None, if◌then◌else◌}
+use Rattle.std.specs.Prelude.{ℕ, Bool, true, false, not, ◌&&◌, ◌||◌, ◌^◌, ◌==◌, nat_eq, nat_lt, min, List, [], ◌∷◌}
+use Rattle.std.specs.Prelude.{Option, Some, None, if◌then◌else◌}
 use Rattle.std.specs.Cmp.Lexicographic.{pointwise}
 use Rattle.std.specs.Int.{w64, to_be_bytes}
 use Rattle.coap_types.specs.CoapOption.{CoapOption}

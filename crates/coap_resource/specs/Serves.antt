@@ -1,5 +1,6 @@
 -- Which response a request has, and what it changes (RFC 7252, section 5.8; RFC 7959, section 2.4).
-use Rattle.std.specs.Prelude.{◌≡◌, ℕ, Bool, true, false, not, ◌&&◌, ◌||◌, ◌+◌, ◌/◌, ◌++◌, nat_lt, nat_le, List, [], length, take, drop, Option, Some, None, is_some, if◌then◌else◌}
+use Rattle.std.specs.Prelude.{◌≡◌, ℕ, Bool, true, false, not, ◌&&◌, ◌||◌, ◌+◌, ◌/◌, ◌++◌, nat_lt, nat_le, List, []}
+use Rattle.std.specs.Prelude.{length, take, drop, Option, Some, None, is_some, if◌then◌else◌}
 use Rattle.coap_types.specs.CoapOption.{CoapOption, options_of}
 use Rattle.coap_types.specs.Piece.{size_of}
 use Rattle.coap_types.specs.declared.block.Block.{Block}
@@ -12,7 +13,8 @@ use Rattle.coap_resource.specs.declared.refusal.StoreRefusal.{StoreRefusal}
 use Rattle.coap_resource.specs.declared.refusal.StoreRefusal.TheVariants.{TooLarge}
 use Rattle.coap_resource.specs.Content.{Content, Held, Changes, append_refusal, put_refusal, later}
 use Rattle.coap_resource.specs.Rate.{rate_refusal}
-use Rattle.coap_resource.specs.RequestOptions.{tag_of, etag_names, precondition_fails, format_of, accepts, block_of, offset_by, szx_by}
+use Rattle.coap_resource.specs.RequestOptions.{tag_of, etag_names, precondition_fails, format_of, accepts, block_of}
+use Rattle.coap_resource.specs.RequestOptions.{offset_by, szx_by}
 
 -- a request, as far as the store answers it: the options are the recognised ones, the exponent is the server's
 pub record Question : Type 0 where

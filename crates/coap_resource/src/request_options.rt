@@ -1,6 +1,7 @@
 ghost use Rattle.std.specs.Prelude.{◌≡◌, ◌≤◌, IfSome, is_some, option_copied};
 ghost use Rattle.coap_types.specs.CoapOption.{options_of};
-ghost use Rattle.coap_resource.specs.RequestOptions.{accepts, block_of, etag_names, format_of, if_match_names, is_tag_of, matches, offset_by, precondition_fails, szx_by};
+ghost use Rattle.coap_resource.specs.RequestOptions.{accepts, block_of, etag_names, format_of, if_match_names};
+ghost use Rattle.coap_resource.specs.RequestOptions.{is_tag_of, matches, offset_by, precondition_fails, szx_by};
 ghost use Rattle.coap_types.specs.OptionValues.{has, uint_at, value_of};
 ghost use Rattle.coap_resource.specs.Shown.{shown};
 

@@ -1,10 +1,11 @@
-ghost use Rattle.std.specs.Prelude.{◌≡◌, ◌≢◌, ◌<◌, ◌≤◌, ◌^◌, IfOk, IsOk, IfSome, OnErr, OnOk, true, [], length, take, drop};
+ghost use Rattle.std.specs.Prelude.{◌≡◌, ◌≢◌, ◌<◌, ◌≤◌, ◌^◌, IfOk, IsOk, IfSome, OnErr, OnOk, true, [], length, take};
+ghost use Rattle.std.specs.Prelude.{drop};
 ghost use Rattle.coap_types.specs.CoapOption.{options_of};
 ghost use Rattle.coap_resource.specs.Quiet.{IsQuiet, IsQuietBy};
-ghost use Rattle.coap_resource.specs.Rate.{rate_refusal};
 ghost use Rattle.coap_resource.specs.RequestOptions.{precondition_fails};
 ghost use Rattle.coap_resource.specs.ResponseOptions.{Fits};
-ghost use Rattle.coap_resource.specs.Serves.{Serves, ServesMethod, block2_of, content_reply, got, question_of, refusal_code, reply_of};
+ghost use Rattle.coap_resource.specs.Serves.{Serves, ServesMethod, block2_of, content_reply, got, question_of};
+ghost use Rattle.coap_resource.specs.Serves.{refusal_code, reply_of};
 ghost use Rattle.coap_resource.specs.Shown.{held_of};
 ghost use Rattle.coap_resource.specs.declared.refusal.StoreRefusal.TheVariants.{Memory};
 

@@ -1,4 +1,4 @@
-ghost use Rattle.std.specs.Prelude.{◌≡◌, ◌<◌, ◌+◌, None, max};
+ghost use Rattle.std.specs.Prelude.{◌≡◌, ◌<◌, None, max};
 ghost use Rattle.coap_resource.specs.Rate.{counted, rate_refusal, used, waited, window};
 
 use crate::refusal::StoreRefusal;

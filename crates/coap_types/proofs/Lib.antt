@@ -1,7 +1,4 @@
 pub mod Facts
-pub mod PathLemmas
-pub mod UintLemmas
-pub mod BlockLemmas
-pub mod RecognisedLemmas
-pub mod UnrecognisedLemmas
-pub mod SegmentLemmas
+pub mod Paths
+pub mod Values
+pub mod OneOptionOn

@@ -1,5 +1,6 @@
 -- The value of a Block option: NUM, the bit M, and SZX (RFC 7959, section 2.2).
-use Rattle.std.specs.Prelude.{◌≡◌, ℕ, Bool, true, false, ◌+◌, ◌*◌, ◌/◌, ◌%◌, ◌≤◌, ◌==◌, ◌&&◌, ◌↔◌, IsSome, IfSome, nat_le, List, length, Option, Some, None, if◌then◌else◌}
+use Rattle.std.specs.Prelude.{◌≡◌, ℕ, Bool, true, false, ◌+◌, ◌*◌, ◌/◌, ◌%◌, ◌≤◌, ◌==◌, ◌&&◌, ◌↔◌, IsSome, IfSome}
+use Rattle.std.specs.Prelude.{nat_le, List, length, Option, Some, None, if◌then◌else◌}
 use Rattle.coap_types.specs.Bytes.{AreBytes}
 use Rattle.coap_types.specs.Uint.{number_of}
 use Rattle.coap_types.specs.declared.block.Block.{Block}
@@ -14,10 +15,20 @@ more_bit false = 0
 abbrev pub block_value : Block → ℕ
 block_value b = b.num * 16 + more_bit b.more + b.szx
 
+-- the three fields of a number: SZX in its lowest three bits, M above it, and NUM above M
+abbrev pub szx_field : ℕ → ℕ
+szx_field n = n % 8
+
+abbrev pub more_field : ℕ → Bool
+more_field n = n / 8 % 2 == 1
+
+abbrev pub num_field : ℕ → ℕ
+num_field n = n / 16
+
 -- the block that a number says: NUM has 20 bits, and SZX 7 is reserved
 abbrev pub block_by : ℕ → Option Block
 block_by n =
-    if nat_le (n / 16) max_num && nat_le (n % 8) max_szx then Some (record { num = n / 16; more = n / 8 % 2 == 1; szx = n % 8 })
+    if nat_le (num_field n) max_num && nat_le (szx_field n) max_szx then Some (record { num = num_field n; more = more_field n; szx = szx_field n })
     else None
 
 -- the block that an option's value says: at most three bytes
@@ -29,7 +40,7 @@ pub record BlockSays (bytes : List ℕ) (block : Option Block) : Type 0 where
   pub value : IfSome block (λ b. block_value b ≡ number_of bytes)
   pub num : IfSome block (λ b. b.num ≤ max_num)
   pub szx : IfSome block (λ b. b.szx ≤ max_szx)
-  pub when : IsSome block ↔ ((length bytes ≤ max_block_len) × (number_of bytes % 8 ≤ max_szx))
+  pub when : IsSome block ↔ ((length bytes ≤ max_block_len) × (szx_field (number_of bytes) ≤ max_szx))
 
 -- a value is that of one block
 abbrev pub OneBlock : Type 0

@@ -1,6 +1,12 @@
 -- The options that are recognised, by their numbers (RFC 7252, section 5.10, table 4; RFC 7641, section 2; RFC 7959, sections 2.1 and 4).
 use Rattle.std.specs.Prelude.{ℕ, Option, Some, None, List, [], ◌∷◌, ◌==◌, if◌then◌else◌}
-use Rattle.coap_types.specs.declared.option_number.TheConstants.{IF_MATCH as if_match, URI_HOST as uri_host, ETAG as etag, IF_NONE_MATCH as if_none_match, OBSERVE as observe, URI_PORT as uri_port, URI_PATH as uri_path, CONTENT_FORMAT as content_format, ACCEPT as accept, BLOCK2 as block2, BLOCK1 as block1, SIZE2 as size2, PROXY_URI as proxy_uri, PROXY_SCHEME as proxy_scheme, SIZE1 as size1}
+use Rattle.coap_types.specs.declared.option_number.TheConstants.{IF_MATCH as if_match, URI_HOST as uri_host}
+use Rattle.coap_types.specs.declared.option_number.TheConstants.{ETAG as etag, IF_NONE_MATCH as if_none_match}
+use Rattle.coap_types.specs.declared.option_number.TheConstants.{OBSERVE as observe, URI_PORT as uri_port}
+use Rattle.coap_types.specs.declared.option_number.TheConstants.{URI_PATH as uri_path, CONTENT_FORMAT as content_format}
+use Rattle.coap_types.specs.declared.option_number.TheConstants.{ACCEPT as accept, BLOCK2 as block2, BLOCK1 as block1}
+use Rattle.coap_types.specs.declared.option_number.TheConstants.{SIZE2 as size2, PROXY_URI as proxy_uri}
+use Rattle.coap_types.specs.declared.option_number.TheConstants.{PROXY_SCHEME as proxy_scheme, SIZE1 as size1}
 use Rattle.coap_types.specs.declared.option_rule.Rule.{Rule}
 use Rattle.coap_types.specs.declared.option_rule.Occurrence.{Occurrence}
 use Rattle.coap_types.specs.declared.option_rule.Occurrence.TheVariants.{Never, Once, Repeatable}

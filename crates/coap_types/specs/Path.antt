@@ -4,7 +4,8 @@ use Rattle.std.specs.Cmp.Lexicographic.{pointwise, slice_cmp}
 use Rattle.std.specs.Ordering.{nat_cmp}
 use Rattle.std.specs.declared.cmp.Ordering.{Ordering}
 use Rattle.std.specs.declared.vec.Vec.{Vec}
-use Rattle.coap_types.specs.declared.path.TheConstants.{MAX_SEGMENT_LEN as max_segment_len, MAX_SEGMENTS as max_segments}
+use Rattle.coap_types.specs.declared.path.TheConstants.{MAX_SEGMENT_LEN as max_segment_len}
+use Rattle.coap_types.specs.declared.path.TheConstants.{MAX_SEGMENTS as max_segments}
 use Rattle.coap_types.specs.Bytes.{AreBytes}
 
 -- the bytes of each segment, wherever they lie

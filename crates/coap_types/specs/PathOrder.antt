@@ -2,7 +2,8 @@
 use Rattle.std.specs.Prelude.{ℕ, List, Some, true, refl, ◌≡◌}
 use Rattle.std.proofs.Common.{ap}
 use Rattle.std.specs.Cmp.{IsEquivalence, IsTotalOrder, IsPartialOrder, partial_order_from_agreeing_total}
-use Rattle.std.specs.Cmp.Lexicographic.{slice_cmp, lists_equiv, nat_list_eq_equiv, lists_total, nat_list_cmp_total, lists_ties, texts_ties, pointwise_decides, bytes_decides}
+use Rattle.std.specs.Cmp.Lexicographic.{slice_cmp, lists_equiv, nat_list_eq_equiv, lists_total, nat_list_cmp_total}
+use Rattle.std.specs.Cmp.Lexicographic.{lists_ties, texts_ties, pointwise_decides, bytes_decides}
 use Rattle.std.specs.Hash as fed
 use Rattle.std.specs.Ordering.{nat_cmp, eq_by_cmp}
 use Rattle.coap_types.specs.Path.{same_path, path_order}

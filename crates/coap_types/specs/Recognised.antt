@@ -1,5 +1,6 @@
 -- Which options of a message are recognised (RFC 7252, sections 5.4.1, 5.4.3 and 5.4.5).
-use Rattle.std.specs.Prelude.{◌≡◌, ℕ, Bool, true, false, not, ◌&&◌, ◌++◌, ◌%◌, ◌==◌, nat_le, List, [], ◌∷◌, length, map, Option, Some, None}
+use Rattle.std.specs.Prelude.{◌≡◌, ℕ, Bool, true, false, not, ◌&&◌, ◌++◌, ◌%◌, ◌==◌, nat_le, List, [], ◌∷◌, length, map}
+use Rattle.std.specs.Prelude.{Option, Some, None}
 use Rattle.std.specs.List.{filter, list_any}
 use Rattle.coap_types.specs.declared.direction.Direction.{Direction}
 use Rattle.coap_types.specs.declared.direction.Direction.TheVariants.{Request, Response}

@@ -1,6 +1,7 @@
-ghost use Rattle.std.specs.Prelude.{◌≡◌, ◌≤◌, ◌%◌, ◌↔◌, IsSome, IfSome, length};
+ghost use Rattle.std.specs.Prelude.{◌≡◌, ◌≤◌, ◌↔◌, IsSome, IfSome, length};
 ghost use Rattle.coap_types.specs.Uint.{IsSpelling, number_of, uint};
-ghost use Rattle.coap_types.specs.BlockValue.{block_by, block_in, block_value, BlockIsSaid, BlockReadsBack, OneBlock};
+ghost use Rattle.coap_types.specs.BlockValue.{block_by, block_in, block_value, szx_field, BlockIsSaid, BlockReadsBack};
+ghost use Rattle.coap_types.specs.BlockValue.{OneBlock};
 
 use crate::szx::{MAX_SZX, Szx};
 use crate::uint::{UintBytes, uint_bytes, uint_of};
@@ -58,7 +59,7 @@ impl Block {
         ensures num { IfSome result (λ block. block.num ≤ MAX_NUM) }
         ensures szx { IfSome result (λ block. block.szx ≤ MAX_SZX) }
         ensures when { IsSome result
-            ↔ ((length bytes.now ≤ MAX_BLOCK_LEN) × (number_of bytes.now % 8 ≤ MAX_SZX)) }
+            ↔ ((length bytes.now ≤ MAX_BLOCK_LEN) × (szx_field (number_of bytes.now) ≤ MAX_SZX)) }
     {
         if bytes.len() > MAX_BLOCK_LEN {
             return None;

@@ -1,9 +1,11 @@
-ghost use Rattle.std.specs.Prelude.{◌≡◌, ◌<◌, ◌≤◌, ◌∷◌, ◌++◌, ◌⊎◌, [], length, IsTrue, IfOk, IfErr, OnOk, OnErr, All, ◌↔◌, Some, None, refl};
+ghost use Rattle.std.specs.Prelude.{◌≡◌, ◌<◌, ◌≤◌, ◌∷◌, ◌++◌, ◌⊎◌, [], length, IsTrue, IfOk, IfErr, OnOk, OnErr, All};
+ghost use Rattle.std.specs.Prelude.{◌↔◌, Some, None, refl};
 ghost use Rattle.coap_types.specs.Bytes.{AreBytes};
 ghost use Rattle.coap_types.specs.CoapOption.{options_of};
 ghost use Rattle.coap_types.specs.Path.{HoldsAtMost, segments_of, same_path, path_order};
 ghost use Rattle.coap_types.specs.RequestPath.{MakesPathWithin, PathsOfRecognised, path_of, path_refusal};
-ghost use Rattle.coap_types.specs.PathOrder.{path_hash_respects_eq, path_order_ties, path_order_total, path_partial_order, same_path_equiv};
+ghost use Rattle.coap_types.specs.PathOrder.{path_hash_respects_eq, path_order_ties, path_order_total};
+ghost use Rattle.coap_types.specs.PathOrder.{path_partial_order, same_path_equiv};
 ghost use Rattle.std.specs.Cmp.{partial_equiv_from_equiv};
 ghost use Rattle.std.specs.Hash as fed;
 

@@ -1,7 +1,9 @@
-ghost use Rattle.std.specs.Prelude.{◌≡◌, ◌<◌, ◌++◌, ◌||◌, ◌&&◌, ◌%◌, ◌==◌, not, [], ◌∷◌, List, ℕ, IfOk, Some, is_some, option_copied, if◌then◌else◌};
+ghost use Rattle.std.specs.Prelude.{◌≡◌, ◌<◌, ◌++◌, ◌||◌, ◌&&◌, ◌%◌, ◌==◌, not, [], ◌∷◌, List, IfOk, Some, is_some};
+ghost use Rattle.std.specs.Prelude.{option_copied, if◌then◌else◌};
 ghost use Rattle.std.specs.Iterator.{Drains, IsFinite};
 ghost use Rattle.coap_types.specs.CoapOption.{CoapOption, option_of, options_of};
-ghost use Rattle.coap_types.specs.Recognised.{Recognised, carries, has_number, is_recognised, lacks_critical, recognised_value};
+ghost use Rattle.coap_types.specs.Recognised.{Recognised, carries, has_number, is_recognised, lacks_critical};
+ghost use Rattle.coap_types.specs.Recognised.{recognised_value};
 ghost use Rattle.coap_types.specs.SeenNumbers.{Remembers};
 
 use crate::direction::Direction;

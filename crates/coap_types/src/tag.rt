@@ -1,4 +1,5 @@
-ghost use Rattle.std.specs.Prelude.{◌≡◌, ◌<◌, ◌≤◌, ◌∷◌, ◌++◌, [], length, nat_eq, All, IsTrue, IfErr, OnErr, OnOk, ◌↔◌, ⊤};
+ghost use Rattle.std.specs.Prelude.{◌≡◌, ◌<◌, ◌≤◌, ◌∷◌, ◌++◌, [], length, nat_eq, All, IsTrue, IfErr, OnErr, OnOk, ◌↔◌};
+ghost use Rattle.std.specs.Prelude.{⊤};
 ghost use Rattle.coap_types.specs.EntityTag.{IsTag};
 ghost use Rattle.std.specs.Option.{SomeIff};
 ghost use Rattle.std.specs.Cmp.{partial_equiv_from_equiv};

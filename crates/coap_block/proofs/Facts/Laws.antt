@@ -4,7 +4,8 @@ use Rattle.coap_block.specs.Gathered.{GatheredByPart, WholeByParts}
 use Rattle.coap_block.specs.FetchTrace.{BodyIsShort, GatheredIsShort, PartsAreGathered, WholeByHistory}
 use Rattle.coap_block.specs.UploadStep.{ContinuesIsTested}
 use Rattle.coap_block.specs.Sent.{SentByPart, WholeBySent}
-use Rattle.coap_block.specs.AssemblyTrace.{FewPartials, NoneLeft, OneForAKey, OthersStay, PartialsByHistory, WholeByBlocks}
+use Rattle.coap_block.specs.AssemblyTrace.{FewPartials, NoneLeft, OneForAKey, OthersStay, PartialsByHistory}
+use Rattle.coap_block.specs.AssemblyTrace.{WholeByBlocks}
 use Rattle.coap_block.specs.PartialTimes.{ThereAtMoment, ThereByHistory}
 use Rattle.coap_block.proofs.Joining.OneBody as wholes
 use Rattle.coap_block.proofs.Fetching.WholeByParts as fetches

@@ -1,5 +1,6 @@
 -- Parts with one more behind them.
-use Rattle.std.proofs.Common.{◌≡◌, ◌≢◌, ◌∙◌, ℕ, false, ◌+◌, ◌++◌, List, [], ◌∷◌, length, ap, sym, arith, append-nil, append_assoc, length-append}
+use Rattle.std.proofs.Common.{◌≡◌, ◌≢◌, ◌∙◌, ℕ, false, ◌+◌, ◌++◌, List, [], ◌∷◌, length, ap, sym, arith, append-nil}
+use Rattle.std.proofs.Common.{append_assoc, length-append}
 use Rattle.coap_types.specs.Piece.{offset_of}
 use Rattle.coap_block.specs.Whole.{Part, Each, joined, Chained, Ends}
 

@@ -1,5 +1,6 @@
 -- What a fetch gathers, and the body that it gives, is never too long.
-use Rattle.std.proofs.Common.{◌≡◌, ℕ, Bool, true, false, nat_lt, ◌&&◌, nat_le, ◌+◌, ◌≤◌, ◌++◌, if◌then◌else◌, List, [], length, Option, Some, None, is_some, refl, ◌∙◌, ap, subst, sym, arith, length-append}
+use Rattle.std.proofs.Common.{◌≡◌, ℕ, Bool, true, false, nat_lt, ◌&&◌, nat_le, ◌+◌, ◌≤◌, ◌++◌, if◌then◌else◌, List, []}
+use Rattle.std.proofs.Common.{length, Option, Some, None, is_some, refl, ◌∙◌, ap, subst, sym, arith, length-append}
 use Rattle.std.proofs.lemmas.Bool.Decides.{nat_tests}
 use Rattle.coap_types.specs.declared.block.Block.{Block}
 use Rattle.coap_block.specs.declared.fetch_verdict.Verdict.{Verdict}
@@ -8,7 +9,8 @@ use Rattle.coap_block.specs.declared.fetch_step.FetchRefusal.TheVariants.{BadBlo
 use Rattle.coap_block.specs.declared.fetch_judging.TheConstants.{MAX_RESTARTS as max_restarts}
 use Rattle.coap_types.specs.Piece.{offset_of, max_body_len}
 use Rattle.coap_block.specs.Whole.{Part, joined}
-use Rattle.coap_block.specs.FetchStep.{FetchState, fits, is_sized, lacks_tag, differs, verdict, after, next_num, next_szx}
+use Rattle.coap_block.specs.FetchStep.{FetchState, fits, is_sized, lacks_tag, differs, verdict, after, next_num}
+use Rattle.coap_block.specs.FetchStep.{next_szx}
 use Rattle.coap_block.specs.Gathered.{Gathered}
 use Rattle.coap_block.specs.FetchTrace.{FetchTrace, Made, Took, state_after, parts_since, GatheredIsShort, BodyIsShort}
 use Rattle.coap_block.proofs.Fetching.WholeByParts.{done_says, ask_says, and_left, begins_at, none_is_start}

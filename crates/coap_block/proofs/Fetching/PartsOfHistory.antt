@@ -1,5 +1,6 @@
 -- The parts of a fetch's history are those that it gathered.
-use Rattle.std.proofs.Common.{◌≡◌, ◌+◌, ℕ, Bool, true, false, nat_lt, if◌then◌else◌, List, [], length, Option, Some, None, is_some, refl, sym, subst}
+use Rattle.std.proofs.Common.{◌≡◌, ◌+◌, ℕ, Bool, true, false, nat_lt, if◌then◌else◌, List, [], length, Option, Some}
+use Rattle.std.proofs.Common.{None, is_some, refl, sym, subst}
 use Rattle.coap_types.specs.declared.block.Block.{Block}
 use Rattle.coap_block.specs.declared.fetch_verdict.Verdict.{Verdict}
 use Rattle.coap_block.specs.declared.fetch_verdict.Verdict.TheVariants.{Refuse, Again, Done, Ask}
@@ -8,7 +9,8 @@ use Rattle.coap_types.specs.Piece.{max_body_len}
 use Rattle.coap_block.specs.Whole.{Part}
 use Rattle.coap_block.specs.FetchStep.{FetchState, start, verdict, after}
 use Rattle.coap_block.specs.Gathered.{Gathered}
-use Rattle.coap_block.specs.FetchTrace.{Made, Took, state_after, parts_by, parts_since, PartsAreGathered, WholeByHistory}
+use Rattle.coap_block.specs.FetchTrace.{Made, Took, state_after, parts_by, parts_since, PartsAreGathered}
+use Rattle.coap_block.specs.FetchTrace.{WholeByHistory}
 use Rattle.coap_block.proofs.Fetching.WholeByParts.{gathered_by_part, whole_by_parts}
 
 at_start : (szx restarts : ℕ) → Gathered [] (start szx restarts)

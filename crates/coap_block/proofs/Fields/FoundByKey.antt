@@ -1,9 +1,12 @@
 -- Partial bodies in a list, found by their keys.
-use Rattle.std.proofs.Common.{◌≡◌, ◌⊎◌, inl, inr, ◌∙◌, ℕ, suc, Bool, true, false, ◌&&◌, ◌==◌, nat_le, ◌+◌, ◌-◌, ◌<◌, ◌≤◌, ◌++◌, List, [], ◌∷◌, length, set, get_or, Option, Some, None, option_map, if◌then◌else◌, refl, ap, sym, subst, arith}
+use Rattle.std.proofs.Common.{◌≡◌, ◌⊎◌, inl, inr, ◌∙◌, ℕ, suc, Bool, true, false, ◌&&◌, ◌==◌, nat_le, ◌+◌, ◌-◌, ◌<◌}
+use Rattle.std.proofs.Common.{◌≤◌, ◌++◌, List, [], ◌∷◌, length, set, get_or, Option, Some, None, option_map}
+use Rattle.std.proofs.Common.{if◌then◌else◌, refl, ap, sym, subst, arith}
 use Rattle.std.specs.List.{remove}
 use Rattle.std.proofs.lemmas.Bool.Decides.{nat_tests}
 use Rattle.std.proofs.lemmas.List.Elements.{filter-append}
-use Rattle.coap_block.specs.AssemblyState.{Key, PartialBody, same_key, is_live, forgotten, partial_of, without_key, put, bytes_of, joined_before}
+use Rattle.coap_block.specs.AssemblyState.{Key, PartialBody, same_key, is_live, forgotten, partial_of, without_key, put}
+use Rattle.coap_block.specs.AssemblyState.{bytes_of, joined_before}
 use Rattle.coap_block.specs.declared.partial.TheConstants.{PARTIAL_LIFETIME_MS as partial_lifetime}
 use Rattle.coap_block.specs.AssemblyKept.{is_there, place_of, changed_at, grown, begun}
 use Rattle.coap_block.proofs.Facts.Keys.{same_key-decides}

@@ -1,5 +1,7 @@
 -- Partial bodies of the code as those that contracts see.
-use Rattle.std.proofs.Common.{◌≡◌, ◌∙◌, ℕ, zero, suc, Bool, true, false, nat_le, ◌-◌, ◌<◌, ◌≤◌, ◌++◌, List, [], ◌∷◌, length, filter, take, set, get_or, if◌then◌else◌, Result, Ok, Err, refl, ap, sym, subst, arith}
+use Rattle.std.proofs.Common.{◌≡◌, ◌∙◌, ℕ, zero, suc, Bool, true, false, nat_le, ◌-◌, ◌<◌, ◌≤◌, ◌++◌, List, [], ◌∷◌}
+use Rattle.std.proofs.Common.{length, filter, take, set, get_or, if◌then◌else◌, Result, Ok, Err, refl, ap, sym, subst}
+use Rattle.std.proofs.Common.{arith}
 use Rattle.std.specs.List.{insert, remove}
 use Rattle.std.specs.Result.{IfOk, OnOk, OnErr, IsOk, is_ok}
 use Rattle.std.proofs.lemmas.Bool.Decides.{nat_tests}

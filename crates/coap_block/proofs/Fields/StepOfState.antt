@@ -3,7 +3,8 @@ use Rattle.std.proofs.Common.{◌≡◌, ◌∙◌, ℕ, ◌++◌, max, List, le
 use Rattle.coap_types.specs.declared.block.Block.{Block}
 use Rattle.coap_block.specs.declared.block_verdict.BlockVerdict.{BlockVerdict}
 use Rattle.coap_block.specs.declared.assembly_step.Took.{Took}
-use Rattle.coap_block.specs.AssemblyState.{Key, PartialBody, AssemblyState, forgotten, without_key, joined_before, reached}
+use Rattle.coap_block.specs.AssemblyState.{Key, PartialBody, AssemblyState, forgotten, without_key, joined_before}
+use Rattle.coap_block.specs.AssemblyState.{reached}
 use Rattle.coap_block.specs.AssemblyStep.{ruling, verdict_at, there_at, partials_by, after_block}
 use Rattle.coap_block.specs.AssemblyAnswer.{TakesBlock, took}
 use Rattle.coap_block.specs.AssemblyTrace.{Arrived, AssemblyTrace, Led}

@@ -1,19 +1,26 @@
 -- The partial bodies of an assembly's history are the blocks that were taken for their keys.
-use Rattle.std.proofs.Common.{◌≡◌, ◌≢◌, ◌∙◌, ℕ, Bool, true, false, not, ◌&&◌, ◌||◌, ◌==◌, nat_lt, nat_le, ◌+◌, ◌<◌, ◌≤◌, ◌++◌, List, [], ◌∷◌, length, Option, Some, None, if◌then◌else◌, refl, sym, subst, arith}
+use Rattle.std.proofs.Common.{◌≡◌, ◌≢◌, ◌∙◌, ℕ, Bool, true, false, not, ◌&&◌, ◌||◌, ◌==◌, nat_lt, nat_le, ◌+◌, ◌<◌, ◌≤◌}
+use Rattle.std.proofs.Common.{◌++◌, List, [], ◌∷◌, length, Option, Some, None, if◌then◌else◌, refl, sym, subst, arith}
 use Rattle.std.proofs.lemmas.Bool.Decides.{nat_tests}
 use Rattle.coap_types.specs.declared.block.Block.{Block}
 use Rattle.coap_block.specs.declared.block_verdict.BlockVerdict.{BlockVerdict}
 use Rattle.coap_block.specs.declared.block_verdict.BlockVerdict.TheVariants.{Refuse, Join, Done}
-use Rattle.coap_block.specs.declared.assembly_step.AssemblyRefusal.TheVariants.{BadRequest, EntityIncomplete, EntityTooLarge, Unavailable}
+use Rattle.coap_block.specs.declared.assembly_step.AssemblyRefusal.TheVariants.{BadRequest, EntityIncomplete}
+use Rattle.coap_block.specs.declared.assembly_step.AssemblyRefusal.TheVariants.{EntityTooLarge, Unavailable}
 use Rattle.coap_block.specs.declared.assembly_judging.TheConstants.{MAX_PARTIALS as max_partials}
 use Rattle.coap_types.specs.Piece.{size_of, offset_of, max_body_len}
 use Rattle.coap_block.specs.Whole.{Part}
 use Rattle.coap_block.specs.Gathered.{part}
-use Rattle.coap_block.specs.AssemblyState.{Key, PartialBody, AssemblyState, same_key, partial_of, without_key, put, bytes_of, reached_of}
-use Rattle.coap_block.specs.AssemblyStep.{fills, ends_at, goes_on, answered_szx, verdict_at, there_at, moment_at, with_block, partials_by, after_block}
-use Rattle.coap_block.specs.AssemblyTrace.{AssemblyTrace, Made, Arrived, state_after, behind, blocks_by, blocks_since, JoinedFrom, IsWholeBody, PartialsByHistory, FewPartials, AreDistinct, OneForAKey, WholeByBlocks, NoneLeft, OthersStay}
+use Rattle.coap_block.specs.AssemblyState.{Key, PartialBody, AssemblyState, same_key, partial_of, without_key, put}
+use Rattle.coap_block.specs.AssemblyState.{bytes_of, reached_of}
+use Rattle.coap_block.specs.AssemblyStep.{fills, ends_at, goes_on, answered_szx, verdict_at, there_at, moment_at}
+use Rattle.coap_block.specs.AssemblyStep.{with_block, partials_by, after_block}
+use Rattle.coap_block.specs.AssemblyTrace.{AssemblyTrace, Made, Arrived, state_after, behind, blocks_by, blocks_since}
+use Rattle.coap_block.specs.AssemblyTrace.{JoinedFrom, IsWholeBody, PartialsByHistory, FewPartials, AreDistinct}
+use Rattle.coap_block.specs.AssemblyTrace.{OneForAKey, WholeByBlocks, NoneLeft, OthersStay}
 use Rattle.coap_block.proofs.Facts.Keys.{same_key-decides}
-use Rattle.coap_block.proofs.Joining.OneForAKey.{out_other, out_none, distinct_out, put_there, put_other, distinct_put, distinct_there, was_there, fewer_there, fewer_out, one_more, as_many}
+use Rattle.coap_block.proofs.Joining.OneForAKey.{out_other, out_none, distinct_out, put_there, put_other, distinct_put}
+use Rattle.coap_block.proofs.Joining.OneForAKey.{distinct_there, was_there, fewer_there, fewer_out, one_more, as_many}
 use Rattle.coap_block.proofs.Fetching.WholeByParts.{same_number}
 use Rattle.coap_block.proofs.Joining.JoinedBehind.{join_first, join_next, whole_first, whole_next}
 

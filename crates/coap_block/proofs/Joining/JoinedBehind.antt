@@ -1,5 +1,6 @@
 -- Blocks that are joined one behind the other at a server.
-use Rattle.std.proofs.Common.{◌≡◌, ◌≢◌, inl, inr, ◌∙◌, ℕ, true, false, ◌+◌, ◌<◌, ◌≤◌, ◌++◌, List, [], ◌∷◌, length, None, refl, ap, sym, subst, arith, append-nil, append_assoc, length-append}
+use Rattle.std.proofs.Common.{◌≡◌, ◌≢◌, inl, inr, ◌∙◌, ℕ, true, false, ◌+◌, ◌<◌, ◌≤◌, ◌++◌, List, [], ◌∷◌, length, None}
+use Rattle.std.proofs.Common.{refl, ap, sym, subst, arith, append-nil, append_assoc, length-append}
 use Rattle.std.proofs.Math.Seq.{drop-append_seam, take-append_seam}
 use Rattle.coap_types.specs.declared.block.Block.{Block}
 use Rattle.coap_types.specs.Piece.{size_of, offset_of, max_body_len}

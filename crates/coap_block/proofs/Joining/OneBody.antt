@@ -1,8 +1,10 @@
 -- Parts that are whole for two bodies are whole for one.
-use Rattle.std.proofs.Common.{◌≡◌, ℕ, zero, suc, ◌+◌, ◌≤◌, ◌++◌, ◌∙◌, inl, inr, List, [], ◌∷◌, length, take, drop, refl, ap, sym, subst, arith, append-nil}
+use Rattle.std.proofs.Common.{◌≡◌, ℕ, zero, suc, ◌+◌, ◌≤◌, ◌++◌, ◌∙◌, inl, inr, List, [], ◌∷◌, length, take, drop, refl}
+use Rattle.std.proofs.Common.{ap, sym, subst, arith, append-nil}
 use Rattle.std.proofs.lemmas.List.{take_all, drop-drop, length-drop}
 use Rattle.coap_types.specs.Piece.{size_of, offset_of}
-use Rattle.coap_block.specs.Whole.{Part, Each, joined, IsPieceOf, Chained, Ends, InOrder, ShowsMore, ClosedByEmpty, Blocks, Alone, WholeAtServer, OneBody, OneBodyAtServer}
+use Rattle.coap_block.specs.Whole.{Part, Each, joined, IsPieceOf, Chained, Ends, InOrder, ShowsMore, ClosedByEmpty}
+use Rattle.coap_block.specs.Whole.{Blocks, Alone, WholeAtServer, OneBody, OneBodyAtServer}
 
 -- what is taken, and what lies behind it
 split_taken : (n : ℕ) (xs : List ℕ) → xs ≡ take n xs ++ drop (length (take n xs)) xs

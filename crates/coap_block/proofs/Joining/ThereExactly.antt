@@ -1,18 +1,23 @@
 -- A partial body is there exactly where the last block of its key was taken recently.
-use Rattle.std.proofs.Common.{◌≡◌, ◌≢◌, ◌∙◌, ℕ, Bool, true, false, ◌&&◌, ◌||◌, ◌==◌, nat_lt, nat_le, ◌+◌, ◌-◌, ◌≤◌, List, [], ◌∷◌, length, Option, Some, None, if◌then◌else◌, refl, ap, sym, arith}
+use Rattle.std.proofs.Common.{◌≡◌, ◌≢◌, ◌∙◌, ℕ, Bool, true, false, ◌&&◌, ◌||◌, ◌==◌, nat_lt, nat_le, ◌+◌, ◌-◌, ◌≤◌}
+use Rattle.std.proofs.Common.{List, [], ◌∷◌, length, Option, Some, None, if◌then◌else◌, refl, ap, sym, arith}
 use Rattle.std.specs.Option.{option_map}
 use Rattle.std.proofs.lemmas.Bool.Decides.{nat_tests}
 use Rattle.coap_types.specs.declared.block.Block.{Block}
 use Rattle.coap_block.specs.declared.block_verdict.BlockVerdict.{BlockVerdict}
 use Rattle.coap_block.specs.declared.block_verdict.BlockVerdict.TheVariants.{Refuse, Join, Done}
-use Rattle.coap_block.specs.declared.assembly_step.AssemblyRefusal.TheVariants.{BadRequest, EntityIncomplete, EntityTooLarge, Unavailable}
+use Rattle.coap_block.specs.declared.assembly_step.AssemblyRefusal.TheVariants.{BadRequest, EntityIncomplete}
+use Rattle.coap_block.specs.declared.assembly_step.AssemblyRefusal.TheVariants.{EntityTooLarge, Unavailable}
 use Rattle.coap_block.specs.declared.partial.TheConstants.{PARTIAL_LIFETIME_MS as partial_lifetime}
 use Rattle.coap_block.specs.declared.assembly_judging.TheConstants.{MAX_PARTIALS as max_partials}
 use Rattle.coap_types.specs.Piece.{offset_of, max_body_len}
-use Rattle.coap_block.specs.AssemblyState.{Key, PartialBody, AssemblyState, same_key, is_live, forgotten, partial_of, without_key, reached_of}
-use Rattle.coap_block.specs.AssemblyStep.{fills, ends_at, goes_on, answered_szx, verdict_at, there_at, moment_at, partials_by, after_block}
+use Rattle.coap_block.specs.AssemblyState.{Key, PartialBody, AssemblyState, same_key, is_live, forgotten, partial_of}
+use Rattle.coap_block.specs.AssemblyState.{without_key, reached_of}
+use Rattle.coap_block.specs.AssemblyStep.{fills, ends_at, goes_on, answered_szx, verdict_at, there_at, moment_at}
+use Rattle.coap_block.specs.AssemblyStep.{partials_by, after_block}
 use Rattle.coap_block.specs.AssemblyTrace.{AssemblyTrace, Made, Arrived, state_after, AreDistinct}
-use Rattle.coap_block.specs.PartialTimes.{last_by, last_taken, IsThereExactly, ThereByHistory, ThereAtMoment, JoinsWhereMore}
+use Rattle.coap_block.specs.PartialTimes.{last_by, last_taken, IsThereExactly, ThereByHistory, ThereAtMoment}
+use Rattle.coap_block.specs.PartialTimes.{JoinsWhereMore}
 use Rattle.coap_block.proofs.Facts.Keys.{same_key-decides}
 use Rattle.coap_block.proofs.Fields.PartialsSeen.{was_live}
 use Rattle.coap_block.proofs.Joining.OneForAKey.{none_forgotten, out_none, put_there, distinct_there}

@@ -1,11 +1,13 @@
 -- The parts that an upload sends are its body in order.
-use Rattle.std.proofs.Common.{◌≡◌, inl, inr, ℕ, Bool, true, false, ◌&&◌, ◌||◌, ◌==◌, nat_le, nat_lt, ◌+◌, ◌<◌, ◌≤◌, ◌++◌, ◌∙◌, List, [], ◌∷◌, length, take, drop, refl, ap, arith, length-append}
+use Rattle.std.proofs.Common.{◌≡◌, inl, inr, ℕ, Bool, true, false, ◌&&◌, ◌||◌, ◌==◌, nat_le, nat_lt, ◌+◌, ◌<◌, ◌≤◌}
+use Rattle.std.proofs.Common.{◌++◌, ◌∙◌, List, [], ◌∷◌, length, take, drop, refl, ap, arith, length-append}
 use Rattle.std.proofs.lemmas.Bool.Decides.{nat_tests}
 use Rattle.std.proofs.lemmas.List.{length-take, length-drop}
 use Rattle.coap_types.specs.declared.block.TheConstants.{MAX_NUM as max_num}
 use Rattle.coap_types.specs.Piece.{size_of, offset_of, part_of, Begins}
 use Rattle.coap_block.specs.Whole.{Part, joined, IsPieceOf, Chained}
-use Rattle.coap_block.specs.UploadStep.{UploadState, more_follows, number_after, KeepsSize, keeps_size, ContinuesIsTested}
+use Rattle.coap_block.specs.UploadStep.{UploadState, more_follows, number_after, KeepsSize, keeps_size}
+use Rattle.coap_block.specs.UploadStep.{ContinuesIsTested}
 use Rattle.coap_block.specs.Sent.{part_to_send, Sent, SentByPart, WholeBySent}
 use Rattle.coap_block.proofs.Facts.Parts.{each_behind, chained_behind, joined_behind, ends_behind}
 use Rattle.coap_block.proofs.Facts.Sizes.{aligned_to}

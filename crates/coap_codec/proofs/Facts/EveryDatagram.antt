@@ -6,9 +6,9 @@ use Rattle.coap_codec.specs.Message.{Message, Spells}
 use Rattle.coap_codec.specs.Faulty.{Faulty}
 use Rattle.coap_codec.specs.Decoded.{decoded}
 use Rattle.coap_codec.specs.Laws.{EachIsRead, NotBoth, OneMessage, OneFault}
-use Rattle.coap_codec.proofs.EveryDatagram as own
-use Rattle.coap_codec.proofs.ReadLemmas as read
-use Rattle.coap_codec.proofs.ReadAgain as again
+use Rattle.coap_codec.proofs.Datagrams.EveryDatagram as own
+use Rattle.coap_codec.proofs.Datagrams.ReadAsSpelled as read
+use Rattle.coap_codec.proofs.Datagrams.ReadAgain as again
 
 pub each_is_read : EachIsRead
 each_is_read = own.each_is_read

@@ -10,11 +10,11 @@ use Rattle.coap_codec.specs.OfBytes.{BytesSpellBytes, SpelledInBytes}
 use Rattle.coap_codec.specs.Options.{Options}
 use Rattle.coap_codec.specs.Refused.{ascends, is_short}
 use Rattle.coap_codec.specs.Spelling.{options_bytes, message_bytes}
-use Rattle.coap_codec.proofs.OneSpelling as one
-use Rattle.coap_codec.proofs.SpellLemmas as spell
-use Rattle.coap_codec.proofs.SpellingLaw as law
-use Rattle.coap_codec.proofs.SpellingLength as bounded
-use Rattle.coap_codec.proofs.SpelledInBytes as in_bytes
+use Rattle.coap_codec.proofs.Spellings.OneSpelling as one
+use Rattle.coap_codec.proofs.Spellings.WhatIsWritten as spell
+use Rattle.coap_codec.proofs.Spellings.ItsOwnBytes as law
+use Rattle.coap_codec.proofs.Spellings.BoundedLength as bounded
+use Rattle.coap_codec.proofs.Spellings.InBytes as in_bytes
 
 -- options
 

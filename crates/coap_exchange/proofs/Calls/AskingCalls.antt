@@ -1,5 +1,6 @@
 -- A request, as the code makes it of the layer's calls.
-use Rattle.std.proofs.Common.{◌≡◌, ℕ, ◌+◌, max, Bool, true, false, Option, Some, None, List, Result, Ok, Err, refl, ap, sym, subst, ◌∙◌, is_some, if◌then◌else◌}
+use Rattle.std.proofs.Common.{◌≡◌, ℕ, ◌+◌, max, Bool, true, false, Option, Some, None, List, Result, Ok, Err, refl, ap}
+use Rattle.std.proofs.Common.{sym, subst, ◌∙◌, is_some, if◌then◌else◌}
 use Rattle.std.specs.Option.{option_map}
 use Rattle.coap_types.specs.declared.endpoint.Endpoint.{Endpoint}
 use Rattle.coap_types.specs.declared.message.Id.{Id}
@@ -10,7 +11,8 @@ use Rattle.coap_exchange.specs.declared.held.Held.{Held}
 use Rattle.coap_exchange.specs.declared.matching.Opening.{Opening}
 use Rattle.coap_exchange.specs.declared.matching.Opening.TheVariants.{Spent, Sends}
 use Rattle.coap_exchange.specs.AskerLaw.{State, Step}
-use Rattle.coap_exchange.specs.AskerRequests.{opening_of, request_token, content_of, beneath, sent_as, spent_refusal, ask_answer, opened}
+use Rattle.coap_exchange.specs.AskerRequests.{opening_of, request_token, content_of, beneath, sent_as, spent_refusal}
+use Rattle.coap_exchange.specs.AskerRequests.{ask_answer, opened}
 use Rattle.coap_exchange.specs.Machine.AskerShown.{own_with, state_of, refusal_as}
 use Rattle.coap_exchange.specs.declared.asker.AskRefusal.TheVariants as refusal
 use Rattle.coap_layer.specs.declared.up.SendRefusal.{SendRefusal}

@@ -1,5 +1,6 @@
 -- The calls of the client's side, as the code makes them of the layer's.
-use Rattle.std.proofs.Common.{◌≡◌, ℕ, max, Bool, true, false, Option, Some, None, List, [], ◌∷◌, ◌++◌, refl, ap, subst, ◌∙◌, is_some, if◌then◌else◌}
+use Rattle.std.proofs.Common.{◌≡◌, ℕ, max, Bool, true, false, Option, Some, None, List, [], ◌∷◌, ◌++◌, refl, ap, subst}
+use Rattle.std.proofs.Common.{◌∙◌, is_some, if◌then◌else◌}
 use Rattle.coap_types.specs.declared.endpoint.Endpoint.{Endpoint}
 use Rattle.coap_types.specs.declared.message.Kind.{Kind}
 use Rattle.coap_types.specs.declared.message.Kind.TheVariants.{Con, Non, Ack, Rst}
@@ -15,7 +16,8 @@ use Rattle.coap_exchange.specs.declared.held.Held.{Held}
 use Rattle.coap_exchange.specs.declared.matching.Known.{Known}
 use Rattle.coap_exchange.specs.declared.matching.Verdict.{Verdict}
 use Rattle.coap_exchange.specs.declared.matching.Verdict.TheVariants.{Ignore, Await, EndByReset}
-use Rattle.coap_exchange.specs.AskerArrivals.{known_of, is_of_request, verdict_on, id_in, reply_by, settles, replying, settling, acts, told, running_after, turn_of, running_unless}
+use Rattle.coap_exchange.specs.AskerArrivals.{known_of, is_of_request, verdict_on, id_in, reply_by, settles, replying}
+use Rattle.coap_exchange.specs.AskerArrivals.{settling, acts, told, running_after, turn_of, running_unless}
 use Rattle.coap_exchange.specs.AskerLaw.{State, Step}
 use Rattle.coap_exchange.specs.AskerRequests.{asked}
 use Rattle.coap_exchange.specs.Machine.AskerShown.{own_with, state_of}

@@ -1,5 +1,7 @@
 -- A CON that can be sent can still be sent after a call that sends nothing.
-use Rattle.std.proofs.Common.{◌≡◌, ◌≤◌, ℕ, ◌+◌, ◌/◌, ◌%◌, ◌==◌, nat_lt, max, Bool, true, false, Option, Some, None, List, [], ◌∷◌, ◌++◌, length, cond, option_to_list, refl, ap, sym, subst, ◌∙◌, ◌||◌, not, slice_get, arith}
+use Rattle.std.proofs.Common.{◌≡◌, ◌≤◌, ℕ, ◌+◌, ◌/◌, ◌%◌, ◌==◌, nat_lt, max, Bool, true, false, Option, Some, None}
+use Rattle.std.proofs.Common.{List, [], ◌∷◌, ◌++◌, length, cond, option_to_list, refl, ap, sym, subst, ◌∙◌, ◌||◌, not}
+use Rattle.std.proofs.Common.{slice_get, arith}
 use Rattle.std.proofs.lemmas.Bool.Decides.{nat_tests}
 use Rattle.std.specs.List.{filter_map, cons_option}
 use Rattle.std.proofs.lemmas.List.{append-nil, length-append}

@@ -1,5 +1,6 @@
 -- The calls of the server's side, as the code makes them of the layer's.
-use Rattle.std.proofs.Common.{◌≡◌, ◌≢◌, ◌&&◌, not, ℕ, ◌≤◌, max, Bool, true, false, Option, Some, None, List, [], ◌∷◌, refl, ap, sym, subst, ◌∙◌, is_some, length, cond, ◌⊎◌, inl, inr, map, arith}
+use Rattle.std.proofs.Common.{◌≡◌, ◌≢◌, ◌&&◌, not, ℕ, ◌≤◌, max, Bool, true, false, Option, Some, None, List, [], ◌∷◌}
+use Rattle.std.proofs.Common.{refl, ap, sym, subst, ◌∙◌, is_some, length, cond, ◌⊎◌, inl, inr, map, arith}
 use Rattle.coap_types.specs.declared.message.Kind.{Kind}
 use Rattle.coap_types.specs.declared.message.Kind.TheVariants.{Con, Non, Ack, Rst}
 use Rattle.coap_codec.specs.Message.{Message}
@@ -9,7 +10,6 @@ use Rattle.coap_layer.specs.Machine.State as L
 use Rattle.coap_layer.specs.Machine.State.{moment}
 use Rattle.coap_layer.specs.Machine.Steps.{Steps}
 use Rattle.coap_layer.specs.Trace as T
-use Rattle.coap_layer.specs.Trace.{with_head}
 use Rattle.coap_layer.specs.Machine.Ups.{answer_as}
 use Rattle.coap_layer.specs.declared.up.Up.{Up}
 use Rattle.coap_layer.specs.declared.up.Up.TheVariants as ups
@@ -31,7 +31,8 @@ use Rattle.coap_exchange.specs.declared.separate.Deferred.{Deferred}
 use Rattle.coap_exchange.specs.declared.separate.Separate.{Separate}
 use Rattle.coap_exchange.specs.AnswererLaw.{State, Step}
 use Rattle.coap_exchange.specs.Machine.AnswererShown.{state_of, own_with, IsAnswer}
-use Rattle.coap_exchange.specs.AnswererSteps.{asked_in, handed_up, reset_by, reject_by, answering, content_of, IsSentAs, separate_after}
+use Rattle.coap_exchange.specs.AnswererSteps.{asked_in, handed_up, reset_by, reject_by, answering, content_of, IsSentAs}
+use Rattle.coap_exchange.specs.AnswererSteps.{separate_after}
 use Rattle.coap_exchange.specs.AnswererTrace.{Own, Response, Answers, Incoming}
 use Rattle.coap_exchange.specs.AskerArrivals.{id_in, replying}
 use Rattle.coap_exchange.specs.AskerRequests.{asked}

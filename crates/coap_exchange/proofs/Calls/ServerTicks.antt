@@ -1,5 +1,6 @@
 -- Time passes at the server's side, as the code makes it of the layer's calls.
-use Rattle.std.proofs.Common.{◌≡◌, ◌≢◌, cond, ◌⊎◌, inl, inr, ℕ, max, Bool, true, false, Option, Some, None, is_some, IfSome, List, [], ◌∷◌, refl, ap, sym, subst, ◌∙◌, ◌&&◌, not, map, arith}
+use Rattle.std.proofs.Common.{◌≡◌, ◌≢◌, cond, ◌⊎◌, inl, inr, ℕ, max, Bool, true, false, Option, Some, None, is_some}
+use Rattle.std.proofs.Common.{IfSome, List, [], ◌∷◌, refl, ap, sym, subst, ◌∙◌, ◌&&◌, not, map, arith}
 use Rattle.std.specs.Option.{option_map}
 use Rattle.coap_types.specs.declared.endpoint.Endpoint.{Endpoint}
 use Rattle.coap_types.specs.declared.message.Id.{Id}
@@ -21,7 +22,8 @@ use Rattle.coap_exchange.specs.declared.separate.Deferred.{Deferred}
 use Rattle.coap_exchange.specs.declared.separate.Separate.{Separate}
 use Rattle.coap_exchange.specs.AnswererLaw.{State, Step}
 use Rattle.coap_exchange.specs.Machine.AnswererShown.{Shown, state_of, own_with, AsksFreely, MayRespond}
-use Rattle.coap_exchange.specs.AnswererSteps.{asking_room, ready_if, ready_at, first_ready, due_of, due_if, failed_by, separate_unless}
+use Rattle.coap_exchange.specs.AnswererSteps.{asking_room, ready_if, ready_at, first_ready, due_of, due_if, failed_by}
+use Rattle.coap_exchange.specs.AnswererSteps.{separate_unless}
 use Rattle.coap_exchange.specs.AnswererTrace.{Own, Ticks}
 use Rattle.coap_exchange.specs.AskerRequests.{asked}
 use Rattle.coap_exchange.specs.Machine.Listed.{listed}

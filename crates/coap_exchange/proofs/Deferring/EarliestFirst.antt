@@ -1,5 +1,6 @@
 -- Of the deferred requests that are due, the one that was deferred first is ready.
-use Rattle.std.proofs.Common.{◌≡◌, ◌≢◌, ◌≤◌, ◌⊎◌, inl, inr, ℕ, ◌+◌, Bool, true, false, Some, List, [], ◌∷◌, ◌++◌, length, refl, ap, sym, subst, ◌∙◌, cond, arith, not}
+use Rattle.std.proofs.Common.{◌≡◌, ◌≢◌, ◌≤◌, ◌⊎◌, inl, inr, ℕ, ◌+◌, Bool, true, false, Some, List, [], ◌∷◌, ◌++◌}
+use Rattle.std.proofs.Common.{length, refl, ap, sym, subst, ◌∙◌, cond, arith, not}
 use Rattle.std.specs.Option.{option_map}
 use Rattle.coap_types.specs.Past.{Sometime}
 use Rattle.coap_types.proofs.Facts.Traces.{Sometime_map}

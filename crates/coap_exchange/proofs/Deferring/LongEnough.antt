@@ -1,5 +1,6 @@
 -- A deferred request has its response no earlier than its delay says, and is ready once that has passed.
-use Rattle.std.proofs.Common.{◌≡◌, ◌≢◌, ◌≤◌, ◌⊎◌, inl, inr, ℕ, ◌+◌, ◌-◌, max, nat_le, Bool, true, false, Some, List, [], ◌∷◌, ◌++◌, refl, ap, sym, subst, ◌∙◌, cond, arith, ◌&&◌, not}
+use Rattle.std.proofs.Common.{◌≡◌, ◌≢◌, ◌≤◌, ◌⊎◌, inl, inr, ℕ, ◌+◌, ◌-◌, max, nat_le, Bool, true, false, Some, List, []}
+use Rattle.std.proofs.Common.{◌∷◌, ◌++◌, refl, ap, sym, subst, ◌∙◌, cond, arith, ◌&&◌, not}
 use Rattle.std.specs.Option.{option_map}
 use Rattle.coap_types.specs.Past.{Sometime}
 use Rattle.coap_types.proofs.Facts.Traces.{Sometime_map}
@@ -11,9 +12,11 @@ use Rattle.coap_exchange.specs.declared.answerer.Due.TheVariants as due
 use Rattle.coap_exchange.specs.declared.separate.Deferred.{Deferred}
 use Rattle.coap_exchange.specs.declared.separate.Separate.{Separate}
 use Rattle.coap_exchange.specs.AnswererTrace.{Call, Incoming, Answers, Defers, Ticks, Responds, Ready, Notifies, Take}
-use Rattle.coap_exchange.specs.AnswererSteps.{IsRight, is_waited_for, is_ready, first_ready, without_ready, due_of, ready_at}
+use Rattle.coap_exchange.specs.AnswererSteps.{IsRight, is_waited_for, is_ready, first_ready, without_ready, due_of}
+use Rattle.coap_exchange.specs.AnswererSteps.{ready_at}
 use Rattle.coap_exchange.specs.AnswererLaw.{own_of, AnswererLaw}
-use Rattle.coap_exchange.specs.AnswererDeferrals.{moment, DefersUntil, LongEnough, DeferredLongEnough, IsDue, IsReadied, ReadyWhenDue}
+use Rattle.coap_exchange.specs.AnswererDeferrals.{moment, DefersUntil, LongEnough, DeferredLongEnough, IsDue, IsReadied}
+use Rattle.coap_exchange.specs.AnswererDeferrals.{ReadyWhenDue}
 use Rattle.coap_exchange.proofs.Calls.ServerTicks.{due_ready}
 use Rattle.std.proofs.lemmas.Bool.{and_parts}
 

@@ -1,10 +1,12 @@
 -- A Timeout and NoResponse come in time, over whole traces.
-use Rattle.std.proofs.Common.{◌≡◌, ◌≤◌, ℕ, ◌*◌, ◌-◌, max, Bool, true, Option, Some, None, List, [], ◌∷◌, ◌++◌, Result, refl, ap, sym, subst, ◌∙◌}
+use Rattle.std.proofs.Common.{◌≡◌, ◌≤◌, ℕ, ◌*◌, ◌-◌, max, Bool, true, Option, Some, None, List, [], ◌∷◌, ◌++◌, Result}
+use Rattle.std.proofs.Common.{refl, ap, sym, subst, ◌∙◌}
 use Rattle.coap_types.specs.declared.endpoint.Endpoint.{Endpoint}
 use Rattle.coap_types.specs.declared.endpoint.Moment.{Moment}
-use Rattle.coap_types.specs.declared.transmission.TheConstants.{EXCHANGE_LIFETIME_MS as exchange_lifetime, FAILURE_TIMEOUTS as failure_timeouts}
+use Rattle.coap_types.specs.declared.transmission.TheConstants.{EXCHANGE_LIFETIME_MS as exchange_lifetime}
+use Rattle.coap_types.specs.declared.transmission.TheConstants.{FAILURE_TIMEOUTS as failure_timeouts}
 use Rattle.coap_layer.specs.Machine.State as L
-use Rattle.coap_layer.specs.Machine.State.{out_of, tick_of}
+use Rattle.coap_layer.specs.Machine.State.{out_of}
 use Rattle.coap_layer.specs.Machine.Steps.{Steps}
 use Rattle.coap_layer.specs.Trace as T
 use Rattle.std.proofs.lemmas.Bool.{leb-true}
@@ -15,13 +17,16 @@ use Rattle.coap_exchange.specs.declared.asker.AskRefusal.{AskRefusal}
 use Rattle.coap_exchange.specs.AskerTrace.{Request, Own, Call, Ask, Receive, Ticks, Keep, Release, Take}
 use Rattle.coap_exchange.specs.AskerSteps.{after, lower}
 use Rattle.coap_exchange.specs.AskerRequests.{asked, opening_of, sent_as, request_token, content_of}
-use Rattle.coap_exchange.specs.AskerArrivals.{verdict_on, id_in, reply_by, settles, replying, settling, acts, running_after, running_unless, turn_of, has_waited}
+use Rattle.coap_exchange.specs.AskerArrivals.{verdict_on, id_in, reply_by, settles, replying, settling, acts}
+use Rattle.coap_exchange.specs.AskerArrivals.{running_after, running_unless, turn_of, has_waited}
 use Rattle.coap_exchange.specs.AskerLaw.{own_of, lower_of, AskerLaw}
 use Rattle.coap_exchange.specs.AskerFollows.{last_begun, TimesOut, GivesUp, EndInTime}
 use Rattle.coap_layer.proofs.Facts.StepsOfLayer.{steps_split}
 use Rattle.coap_layer.proofs.Facts.CallsOfLayer.{opens_then, step_clock, step_opens, left_same_nil, entry_of}
 use Rattle.coap_exchange.proofs.Ending.LoneRequest.{Lone, failed}
-use Rattle.coap_exchange.proofs.Ending.RequestIsOutstanding.{Opens, ask_opens, refused_lone, sent_lone, settled_opens, replying_opens, settling_opens, left_by_verdict, turned_lone}
+use Rattle.coap_exchange.proofs.Ending.RequestIsOutstanding.{Opens, ask_opens, refused_lone, sent_lone, settled_opens}
+use Rattle.coap_exchange.proofs.Ending.RequestIsOutstanding.{replying_opens, settling_opens, left_by_verdict}
+use Rattle.coap_exchange.proofs.Ending.RequestIsOutstanding.{turned_lone}
 use Rattle.coap_exchange.proofs.Facts.Verdicts.{verdict_fits, TurnFits, turn_fits}
 use Rattle.coap_exchange.proofs.Facts.Moves as move
 use Rattle.coap_exchange.proofs.Facts.Moves.{AskRow, ask_row}

@@ -1,10 +1,11 @@
 -- The layer's clock and its outstanding CON are those of the client's side, and ends come in time.
-use Rattle.std.proofs.Common.{◌≡◌, ◌⊎◌, inl, inr, ℕ, ◌+◌, ◌%◌, max, Bool, true, false, Option, Some, None, List, [], ◌++◌, refl, ap, sym, subst, ◌∙◌, cond, option_to_list}
+use Rattle.std.proofs.Common.{◌≡◌, ◌⊎◌, inl, inr, ℕ, ◌+◌, ◌%◌, max, Bool, true, false, Option, Some, None, List, []}
+use Rattle.std.proofs.Common.{◌++◌, refl, ap, sym, subst, ◌∙◌, cond, option_to_list}
 use Rattle.std.proofs.lemmas.List.{append-nil}
 use Rattle.coap_types.specs.declared.endpoint.Endpoint.{Endpoint}
 use Rattle.coap_types.proofs.Facts.Endpoints.{same_endpoint_is}
 use Rattle.coap_layer.specs.Machine.State as L
-use Rattle.coap_layer.specs.Machine.State.{out_of, tick_of}
+use Rattle.coap_layer.specs.Machine.State.{out_of}
 use Rattle.coap_layer.specs.Machine.Steps.{Steps}
 use Rattle.coap_layer.specs.Trace as T
 use Rattle.coap_layer.specs.Words.{Open, open_of, begun_in, left_by}
@@ -13,16 +14,18 @@ use Rattle.coap_exchange.specs.declared.asker.Turn.TheVariants as turn
 use Rattle.coap_exchange.specs.declared.matching.Opening.{Opening}
 use Rattle.coap_exchange.specs.declared.matching.Opening.TheVariants.{Running, Spent, Sends}
 use Rattle.coap_exchange.specs.declared.matching.Verdict.{Verdict}
-use Rattle.coap_exchange.specs.declared.matching.Verdict.TheVariants.{Ignore, Reject, Acknowledge, AnswerCon, Answer, NoticeCon, Notice, Await, EndByReset}
+use Rattle.coap_exchange.specs.declared.matching.Verdict.TheVariants.{Ignore, Reject, Acknowledge, AnswerCon, Answer}
+use Rattle.coap_exchange.specs.declared.matching.Verdict.TheVariants.{NoticeCon, Notice, Await, EndByReset}
 use Rattle.coap_exchange.specs.declared.asker.Exchange.{Exchange}
 use Rattle.coap_exchange.specs.AskerTrace.{Request, Own}
 use Rattle.coap_exchange.specs.AskerRequests.{beneath, opening_of, opened, sent_as, request_token, content_of}
-use Rattle.coap_exchange.specs.AskerArrivals.{is_of_request, verdict_on, settles, replying, settling, running_after, running_unless, turn_of, has_waited, acked_in}
+use Rattle.coap_exchange.specs.AskerArrivals.{is_of_request, verdict_on, settles, replying, settling, running_after}
+use Rattle.coap_exchange.specs.AskerArrivals.{running_unless, turn_of, has_waited, acked_in}
 use Rattle.coap_exchange.specs.AskerFollows.{Begun}
 use Rattle.coap_layer.proofs.Facts.CallsOfLayer.{opens_then, entry_of, step_clock, step_opens, left_same, left_same_nil}
 use Rattle.coap_exchange.proofs.Ending.LoneRequest.{Lone, without, ends_of, other_left, copied_left}
 use Rattle.coap_exchange.proofs.Facts.Verdicts as match
-use Rattle.coap_exchange.proofs.Facts.Verdicts.{OfRequest, of_request, verdict_fits, TurnFits, turn_fits}
+use Rattle.coap_exchange.proofs.Facts.Verdicts.{OfRequest, of_request}
 use Rattle.coap_exchange.proofs.Facts.Moves.{not_running, opened_none, opened_some}
 
 -- a request

@@ -1,10 +1,12 @@
 -- The exchange that runs ends at the first tick at which it is due, over whole traces.
-use Rattle.std.proofs.Common.{◌≡◌, ◌≢◌, inl, inr, ◌≤◌, ℕ, ◌*◌, ◌-◌, max, Bool, true, false, Option, Some, None, List, [], ◌∷◌, Result, refl, ap, sym, subst, ◌∙◌, ◌&&◌, cond}
+use Rattle.std.proofs.Common.{◌≡◌, ◌≢◌, inl, inr, ◌≤◌, ℕ, ◌*◌, ◌-◌, max, Bool, true, false, Option, Some, None, List}
+use Rattle.std.proofs.Common.{[], ◌∷◌, Result, refl, ap, sym, subst, ◌∙◌, ◌&&◌, cond}
 use Rattle.std.specs.Option.{option_map}
 use Rattle.std.specs.Cmp.{unsigned_Decides}
 use Rattle.coap_types.specs.declared.endpoint.Endpoint.{Endpoint}
 use Rattle.coap_types.specs.declared.endpoint.Moment.{Moment}
-use Rattle.coap_types.specs.declared.transmission.TheConstants.{EXCHANGE_LIFETIME_MS as exchange_lifetime, FAILURE_TIMEOUTS as failure_timeouts}
+use Rattle.coap_types.specs.declared.transmission.TheConstants.{EXCHANGE_LIFETIME_MS as exchange_lifetime}
+use Rattle.coap_types.specs.declared.transmission.TheConstants.{FAILURE_TIMEOUTS as failure_timeouts}
 use Rattle.coap_types.proofs.Facts.Endpoints.{same_endpoint_self}
 use Rattle.coap_layer.specs.Machine.State as L
 use Rattle.coap_layer.specs.Machine.State.{tick_of, is_failed, is_copy_due}
@@ -19,11 +21,13 @@ use Rattle.coap_exchange.specs.declared.asker.Turn.TheVariants as turn
 use Rattle.coap_exchange.specs.declared.asker.AskRefusal.{AskRefusal}
 use Rattle.coap_exchange.specs.declared.asker.Exchange.{Exchange}
 use Rattle.coap_exchange.specs.declared.matching.Verdict.{Verdict}
-use Rattle.coap_exchange.specs.declared.matching.Verdict.TheVariants.{Ignore, Reject, Acknowledge, AnswerCon, Answer, NoticeCon, Notice, Await, EndByReset}
+use Rattle.coap_exchange.specs.declared.matching.Verdict.TheVariants.{Ignore, Reject, Acknowledge, AnswerCon, Answer}
+use Rattle.coap_exchange.specs.declared.matching.Verdict.TheVariants.{NoticeCon, Notice, Await, EndByReset}
 use Rattle.coap_exchange.specs.AskerTrace.{Request, Own, Call, Ask, Receive, Ticks, Keep, Release, Take}
 use Rattle.coap_exchange.specs.AskerSteps.{IsRight, after, lower}
 use Rattle.coap_exchange.specs.AskerRequests.{opening_of, opened, sent_as}
-use Rattle.coap_exchange.specs.AskerArrivals.{has_id, is_of_request, verdict_on, turn_of, running_after, has_waited, acked_in}
+use Rattle.coap_exchange.specs.AskerArrivals.{has_id, is_of_request, verdict_on, turn_of, running_after, has_waited}
+use Rattle.coap_exchange.specs.AskerArrivals.{acked_in}
 use Rattle.coap_exchange.specs.AskerLaw.{own_of, lower_of, AskerLaw}
 use Rattle.coap_exchange.specs.AskerDue.{last_acked, FailsWhenDue, EndWhenDue}
 use Rattle.coap_exchange.specs.AskerFollows.{Begun, last_begun, moment}

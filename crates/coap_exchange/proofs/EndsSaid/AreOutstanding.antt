@@ -1,5 +1,6 @@
 -- The separate responses that are not acknowledged are the layer's outstanding CONs.
-use Rattle.std.proofs.Common.{◌≡◌, ℕ, max, Bool, true, false, Option, Some, None, List, [], ◌∷◌, ◌++◌, refl, ap, sym, subst, ◌∙◌, cond, ◌||◌, not, option_to_list}
+use Rattle.std.proofs.Common.{◌≡◌, ℕ, max, Bool, true, false, Option, Some, None, List, [], ◌∷◌, ◌++◌, refl, ap, sym}
+use Rattle.std.proofs.Common.{subst, ◌∙◌, cond, ◌||◌, not, option_to_list}
 use Rattle.std.specs.List.{list_any, filter_map, cons_option}
 use Rattle.std.proofs.lemmas.List.{append-nil}
 use Rattle.coap_types.specs.declared.endpoint.Endpoint.{Endpoint}
@@ -14,8 +15,11 @@ use Rattle.coap_layer.specs.Words.{Open, same, left_by, begun_in}
 use Rattle.coap_exchange.specs.declared.answerer.Asked.{Asked}
 use Rattle.coap_exchange.specs.declared.separate.Deferred.{Deferred}
 use Rattle.coap_exchange.specs.declared.separate.Separate.{Separate}
-use Rattle.coap_exchange.specs.AnswererTrace.{Response, Own, Call, Incoming, Answers, Defers, Ticks, Responds, Ready, Notifies, Take}
-use Rattle.coap_exchange.specs.AnswererSteps.{lower, after, goes_to, without_separate, separate_after, separate_unless, is_waited_for, content_of, content_with, answering, deferring, may_defer, asking_room, ready_if, ready_at, reject_by}
+use Rattle.coap_exchange.specs.AnswererTrace.{Response, Own, Call, Incoming, Answers, Defers, Ticks, Responds, Ready}
+use Rattle.coap_exchange.specs.AnswererTrace.{Notifies, Take}
+use Rattle.coap_exchange.specs.AnswererSteps.{lower, after, goes_to, without_separate, separate_after, separate_unless}
+use Rattle.coap_exchange.specs.AnswererSteps.{is_waited_for, content_of, content_with, answering, deferring, may_defer}
+use Rattle.coap_exchange.specs.AnswererSteps.{asking_room, ready_if, ready_at, reject_by}
 use Rattle.coap_exchange.specs.AnswererLaw.{own_of, lower_of, ResponseLaw}
 use Rattle.coap_exchange.specs.AnswererFollows.{WaitsForOutstanding}
 use Rattle.coap_exchange.specs.AskerRequests.{asked}

@@ -1,5 +1,6 @@
 -- A separate response that a Reset or a failure ends is said once.
-use Rattle.std.proofs.Common.{◌≡◌, ◌≤◌, ℕ, ◌+◌, Bool, true, false, Option, Some, None, List, [], ◌∷◌, ◌++◌, refl, ap, subst, cond, arith, ◌&&◌, not}
+use Rattle.std.proofs.Common.{◌≡◌, ◌≤◌, ℕ, ◌+◌, Bool, true, false, Option, Some, None, List, [], ◌∷◌, ◌++◌, refl, ap}
+use Rattle.std.proofs.Common.{subst, cond, arith, ◌&&◌, not}
 use Rattle.std.specs.Bool.{beq}
 use Rattle.std.specs.Option.{option_map}
 use Rattle.coap_types.specs.declared.endpoint.Endpoint.{Endpoint}
@@ -8,7 +9,8 @@ use Rattle.coap_layer.specs.Trace as L
 use Rattle.coap_exchange.specs.declared.answerer.Ended.{Ended}
 use Rattle.coap_exchange.specs.declared.separate.Separate.{Separate}
 use Rattle.coap_exchange.specs.AnswererTrace.{Call, Incoming, Answers, Defers, Ticks, Responds, Ready, Notifies, Take}
-use Rattle.coap_exchange.specs.AnswererSteps.{goes_to, found, ended_as, separate_of, without_separate, separate_after, separate_unless, reset_by, failed_by}
+use Rattle.coap_exchange.specs.AnswererSteps.{goes_to, found, ended_as, separate_of, without_separate, separate_after}
+use Rattle.coap_exchange.specs.AnswererSteps.{separate_unless, reset_by, failed_by}
 use Rattle.coap_exchange.specs.AnswererLaw.{own_of}
 use Rattle.coap_exchange.specs.AnswererFollows.{hits, times, sends, end_told, same_ended, ToldOnce, EndsOnce}
 use Rattle.coap_exchange.proofs.Facts.SameToken.{same_token_self}

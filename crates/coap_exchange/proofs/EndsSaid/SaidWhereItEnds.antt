@@ -1,5 +1,6 @@
 -- A separate response or a notification that a Reset rejects, or that is given up, is said to have ended.
-use Rattle.std.proofs.Common.{◌≡◌, ◌≢◌, inl, inr, ℕ, max, Bool, true, false, Option, Some, None, List, [], ◌∷◌, ◌++◌, refl, ap, sym, subst, ◌∙◌, cond, ◌||◌, ◌==◌, not}
+use Rattle.std.proofs.Common.{◌≡◌, ◌≢◌, inl, inr, ℕ, max, Bool, true, false, Option, Some, None, List, [], ◌∷◌, ◌++◌}
+use Rattle.std.proofs.Common.{refl, ap, sym, subst, ◌∙◌, cond, ◌||◌, ◌==◌, not}
 use Rattle.std.specs.List.{list_any}
 use Rattle.std.specs.Option.{option_map}
 use Rattle.std.specs.Cmp.{unsigned_Decides}
@@ -23,8 +24,11 @@ use Rattle.coap_layer.specs.Trace as T
 use Rattle.coap_layer.specs.Words.{Open, is_con, is_to}
 use Rattle.coap_exchange.specs.declared.answerer.Ended.{Ended}
 use Rattle.coap_exchange.specs.declared.separate.Separate.{Separate}
-use Rattle.coap_exchange.specs.AnswererTrace.{Own, Call, Incoming, Answers, Defers, Ticks, Responds, Ready, Notifies, Take}
-use Rattle.coap_exchange.specs.AnswererSteps.{lower, goes_to, found, ended_as, separate_of, without_separate, separate_after, separate_unless, is_waited_for, asking_room, ready_if, ready_at, reject_by}
+use Rattle.coap_exchange.specs.AnswererTrace.{Own, Call, Incoming, Answers, Defers, Ticks, Responds, Ready, Notifies}
+use Rattle.coap_exchange.specs.AnswererTrace.{Take}
+use Rattle.coap_exchange.specs.AnswererSteps.{lower, goes_to, found, ended_as, separate_of, without_separate}
+use Rattle.coap_exchange.specs.AnswererSteps.{separate_after, separate_unless, is_waited_for, asking_room, ready_if}
+use Rattle.coap_exchange.specs.AnswererSteps.{ready_at, reject_by}
 use Rattle.coap_exchange.specs.AnswererLaw.{own_of, lower_of, AnswererLaw, ResponseLaw}
 use Rattle.coap_exchange.specs.AnswererSends.{begins}
 use Rattle.coap_exchange.specs.AnswererTells.{Sending, SentIn, TellsIf, EndsTold, fails}

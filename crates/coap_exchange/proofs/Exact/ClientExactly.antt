@@ -1,8 +1,8 @@
 -- The law leaves each call of the client's side one answer.
-use Rattle.std.proofs.Common.{◌≡◌, ℕ, Bool, true, false, Option, Some, None, List, [], ◌∷◌, ◌++◌, max, refl, ap, sym, subst, ◌∙◌}
+use Rattle.std.proofs.Common.{◌≡◌, ℕ, Bool, true, false, Option, Some, None, List, [], ◌∷◌, ◌++◌, max, refl, ap, sym}
+use Rattle.std.proofs.Common.{subst, ◌∙◌}
 use Rattle.coap_types.specs.declared.endpoint.Endpoint.{Endpoint}
 use Rattle.coap_layer.specs.Machine.State as L
-use Rattle.coap_layer.specs.Machine.State.{answer_of}
 use Rattle.coap_layer.specs.Machine.Steps.{Asked, Steps}
 use Rattle.coap_layer.specs.Trace as T
 use Rattle.coap_exchange.specs.declared.asker.Event.{Event}
@@ -10,7 +10,8 @@ use Rattle.coap_exchange.specs.declared.asker.Exchange.{Exchange}
 use Rattle.coap_exchange.specs.AskerTrace.{Own, Call, Receive}
 use Rattle.coap_exchange.specs.AskerSteps.{lower}
 use Rattle.coap_exchange.specs.AskerRequests.{asked, opening_of, ask_answer, request_token}
-use Rattle.coap_exchange.specs.AskerArrivals.{told, verdict_on, id_in, reply_by, settles, replying, settling, acts, turn_of}
+use Rattle.coap_exchange.specs.AskerArrivals.{told, verdict_on, id_in, reply_by, settles, replying, settling, acts}
+use Rattle.coap_exchange.specs.AskerArrivals.{turn_of}
 use Rattle.coap_exchange.specs.AskerLaw.{own_of, lower_of, ExchangeLaw}
 use Rattle.coap_exchange.specs.AskerExact.{IsExact}
 use Rattle.coap_layer.proofs.Facts.StepsOfLayer.{one_answer, one_left, steps_split}

@@ -5,7 +5,8 @@ use Rattle.coap_layer.specs.Machine.Steps.{Asked as Below, Steps}
 use Rattle.coap_layer.specs.Trace as T
 use Rattle.coap_exchange.specs.declared.separate.Deferred.{Deferred}
 use Rattle.coap_exchange.specs.AnswererTrace.{Own, Call}
-use Rattle.coap_exchange.specs.AnswererSteps.{handed_up, answering, content_of, content_with, reject_by, asking_room, ready_if, ready_at, due_of}
+use Rattle.coap_exchange.specs.AnswererSteps.{handed_up, answering, content_of, content_with, reject_by, asking_room}
+use Rattle.coap_exchange.specs.AnswererSteps.{ready_if, ready_at, due_of}
 use Rattle.coap_exchange.specs.AnswererLaw.{own_of, lower_of}
 use Rattle.coap_exchange.specs.AnswererExact.{IsExact}
 use Rattle.coap_exchange.specs.AskerRequests.{asked}

@@ -1,12 +1,14 @@
 -- Exchanges don't overlap, each ends once, and what is told has the token of the exchange or a kept one.
-use Rattle.std.proofs.Common.{◌≡◌, ◌⊎◌, inl, inr, ℕ, Bool, true, false, Option, Some, None, List, [], ◌∷◌, refl, ap, sym, subst, ◌∙◌, ◌&&◌, ◌||◌, not}
+use Rattle.std.proofs.Common.{◌≡◌, ◌⊎◌, inl, inr, ℕ, Bool, true, false, Option, Some, None, List, [], ◌∷◌, refl, ap}
+use Rattle.std.proofs.Common.{sym, subst, ◌∙◌, ◌&&◌, ◌||◌, not}
 use Rattle.coap_types.specs.declared.endpoint.Endpoint.{Endpoint}
 use Rattle.coap_codec.specs.Message.{Message}
 use Rattle.coap_layer.specs.Trace as L
 use Rattle.coap_exchange.specs.declared.asker.Event.{Event}
 use Rattle.coap_exchange.specs.declared.asker.Event.TheVariants as event
 use Rattle.coap_exchange.specs.declared.matching.Verdict.{Verdict}
-use Rattle.coap_exchange.specs.declared.matching.Verdict.TheVariants.{Ignore, Reject, Acknowledge, AnswerCon, Answer, NoticeCon, Notice, Await, EndByReset}
+use Rattle.coap_exchange.specs.declared.matching.Verdict.TheVariants.{Ignore, Reject, Acknowledge, AnswerCon, Answer}
+use Rattle.coap_exchange.specs.declared.matching.Verdict.TheVariants.{NoticeCon, Notice, Await, EndByReset}
 use Rattle.coap_exchange.specs.declared.asker.Exchange.{Exchange}
 use Rattle.coap_exchange.specs.AskerTrace.{Request, Own, Call, Ask, Receive, Ticks, Keep, Release, Take}
 use Rattle.coap_exchange.specs.AskerSteps.{IsRight, after}
@@ -19,7 +21,7 @@ use Rattle.coap_exchange.proofs.Facts.SameToken.{same_token_is, same_token_self}
 use Rattle.coap_exchange.proofs.Exchanges.KeptLemmas.{without_is, with_is}
 use Rattle.coap_exchange.proofs.Facts.Verdicts.{Fits, verdict_fits}
 use Rattle.coap_exchange.proofs.Facts.Moves as move
-use Rattle.coap_exchange.proofs.Facts.Moves.{token_in, Moves, moves, opened_none}
+use Rattle.coap_exchange.proofs.Facts.Moves.{token_in, Moves, moves}
 
 -- the exchange that runs is the one that the words find
 pub record Runs (t : List Call) (running : Option Exchange) : Type 0 where

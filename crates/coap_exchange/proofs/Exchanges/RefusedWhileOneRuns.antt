@@ -1,5 +1,6 @@
 -- A request is refused as Running exactly where an exchange runs: the layer's own refusal never comes.
-use Rattle.std.proofs.Common.{◌≡◌, ℕ, max, Bool, true, false, Option, Some, None, List, [], ◌∷◌, Result, Err, refl, ap, sym, subst, ◌∙◌, is_some, cond}
+use Rattle.std.proofs.Common.{◌≡◌, ℕ, max, Bool, true, false, Option, Some, None, List, [], ◌∷◌, Result, Err, refl, ap}
+use Rattle.std.proofs.Common.{sym, subst, ◌∙◌, is_some, cond}
 use Rattle.coap_types.specs.declared.endpoint.Endpoint.{Endpoint}
 use Rattle.coap_layer.specs.Machine.State as L
 use Rattle.coap_layer.specs.Machine.State.{is_busy, is_free, sending}
@@ -13,7 +14,8 @@ use Rattle.coap_exchange.specs.declared.matching.Opening.{Opening}
 use Rattle.coap_exchange.specs.declared.matching.Opening.TheVariants.{Running, Spent, Sends}
 use Rattle.coap_exchange.specs.AskerTrace.{Request, Own, Call, Ask}
 use Rattle.coap_exchange.specs.AskerSteps.{lower}
-use Rattle.coap_exchange.specs.AskerRequests.{beneath, opening, opening_of, is_busied, is_yes, send_refusal, sent_answer, ask_answer, request_token, content_of}
+use Rattle.coap_exchange.specs.AskerRequests.{beneath, opening, opening_of, is_busied, is_yes, send_refusal}
+use Rattle.coap_exchange.specs.AskerRequests.{sent_answer, ask_answer, request_token, content_of}
 use Rattle.coap_exchange.specs.AskerLaw.{own_of, lower_of, AskerLaw}
 use Rattle.coap_exchange.specs.AskerFollows.{Open, last_begun}
 use Rattle.coap_exchange.specs.AskerTells.{AreRefused}

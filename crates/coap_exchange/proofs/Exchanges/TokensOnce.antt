@@ -1,5 +1,6 @@
 -- Fresh tokens are those of the counter, and no token serves two requests but an observation and its cancel.
-use Rattle.std.proofs.Common.{◌≡◌, ◌≢◌, ◌⊎◌, inl, inr, ⊎_elim, ℕ, ◌+◌, ◌-◌, ◌^◌, ◌<◌, Bool, true, false, Option, Some, None, List, [], ◌∷◌, Result, Ok, Err, refl, ap, sym, subst, ◌∙◌, arith, is_some, cond}
+use Rattle.std.proofs.Common.{◌≡◌, ◌≢◌, ◌⊎◌, inl, inr, ⊎_elim, ℕ, ◌+◌, ◌-◌, ◌^◌, ◌<◌, Bool, true, false, Option, Some}
+use Rattle.std.proofs.Common.{None, List, [], ◌∷◌, Result, Ok, Err, refl, ap, sym, subst, ◌∙◌, arith, is_some, cond}
 use Rattle.std.specs.Cmp.{unsigned_Decides}
 use Rattle.coap_types.specs.Past.{Ever}
 use Rattle.coap_types.specs.declared.endpoint.Endpoint.{Endpoint}
@@ -11,9 +12,11 @@ use Rattle.coap_exchange.specs.declared.matching.Opening.{Opening}
 use Rattle.coap_exchange.specs.declared.matching.Opening.TheVariants.{Running, Spent, Sends}
 use Rattle.coap_exchange.specs.AskerTrace.{Request, Own, Call, Ask, Receive, Ticks, Keep, Release, Take}
 use Rattle.coap_exchange.specs.AskerSteps.{IsRight, after}
-use Rattle.coap_exchange.specs.AskerRequests.{opening, opening_of, opened, sent_as, request_token, token_or, is_busied, send_refusal, sent_answer, ask_answer}
+use Rattle.coap_exchange.specs.AskerRequests.{opening, opening_of, opened, sent_as, request_token, token_or, is_busied}
+use Rattle.coap_exchange.specs.AskerRequests.{send_refusal, sent_answer, ask_answer}
 use Rattle.coap_exchange.specs.AskerLaw.{own_of, AskerLaw}
-use Rattle.coap_exchange.specs.AskerFollows.{begun, fresh, unless_cancel, cancels, Begins, tokens_spent, fresh_in, CancelsAreGiven, Tokens, AreTokens}
+use Rattle.coap_exchange.specs.AskerFollows.{begun, fresh, unless_cancel, cancels, Begins, tokens_spent, fresh_in}
+use Rattle.coap_exchange.specs.AskerFollows.{CancelsAreGiven, Tokens, AreTokens}
 use Rattle.coap_exchange.specs.Tokens.{is_spent, token_of}
 use Rattle.coap_exchange.proofs.Exchanges.TokensDiffer.{tokens_apart}
 use Rattle.coap_exchange.proofs.Facts.Moves as move

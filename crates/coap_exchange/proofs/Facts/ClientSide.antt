@@ -8,7 +8,8 @@ use Rattle.coap_exchange.proofs.Exchanges.OneAtATime.{known}
 use Rattle.coap_exchange.specs.AskerTells.{AreRefused}
 use Rattle.coap_exchange.proofs.Exchanges.TokensOnce.{counted}
 use Rattle.coap_exchange.proofs.Exchanges.RefusedWhileOneRuns.{refused}
-pub use Rattle.coap_exchange.proofs.Leading.ClientLeads.{led_start, led_call, led_exchanged, led_law, layer_stands, exchanged_join, exchanged_split, exchanged_own}
+pub use Rattle.coap_exchange.proofs.Leading.ClientLeads.{led_start, led_call, led_exchanged, led_law, layer_stands}
+pub use Rattle.coap_exchange.proofs.Leading.ClientLeads.{exchanged_join, exchanged_split, exchanged_own}
 pub use Rattle.coap_exchange.proofs.Exact.ClientExactly.{exact}
 pub use Rattle.coap_exchange.proofs.Telling.FromServer.{came_from, server_is}
 pub use Rattle.coap_exchange.proofs.Ending.WhenDue.{when_due}

@@ -1,5 +1,6 @@
 -- What each call does to the exchange that runs, to the count of tokens and to the kept tokens.
-use Rattle.std.proofs.Common.{◌≡◌, ℕ, max, Bool, true, false, Option, Some, None, List, Result, Ok, Err, refl, ap, sym, subst, ◌∙◌, is_some}
+use Rattle.std.proofs.Common.{◌≡◌, ℕ, max, Bool, true, false, Option, Some, None, List, Result, refl, ap, sym, subst}
+use Rattle.std.proofs.Common.{◌∙◌, is_some}
 use Rattle.std.specs.Option.{option_map}
 use Rattle.coap_types.specs.declared.endpoint.Endpoint.{Endpoint}
 use Rattle.coap_codec.specs.Message.{Message}
@@ -13,11 +14,13 @@ use Rattle.coap_exchange.specs.declared.asker.AskRefusal.{AskRefusal}
 use Rattle.coap_exchange.specs.declared.matching.Opening.{Opening}
 use Rattle.coap_exchange.specs.declared.matching.Opening.TheVariants.{Running, Spent, Sends}
 use Rattle.coap_exchange.specs.declared.matching.Verdict.{Verdict}
-use Rattle.coap_exchange.specs.declared.matching.Verdict.TheVariants.{Ignore, Reject, Acknowledge, AnswerCon, Answer, NoticeCon, Notice, Await, EndByReset}
+use Rattle.coap_exchange.specs.declared.matching.Verdict.TheVariants.{Ignore, Reject, Acknowledge, AnswerCon, Answer}
+use Rattle.coap_exchange.specs.declared.matching.Verdict.TheVariants.{NoticeCon, Notice, Await, EndByReset}
 use Rattle.coap_exchange.specs.declared.asker.Exchange.{Exchange}
 use Rattle.coap_exchange.specs.AskerTrace.{Request, Own, Call, Ask, Receive, Ticks, Keep, Release, Take}
 use Rattle.coap_exchange.specs.AskerSteps.{IsRight, after}
-use Rattle.coap_exchange.specs.AskerRequests.{opening, opening_of, opened, sent_as, send_refusal, sent_answer, ask_answer, request_token}
+use Rattle.coap_exchange.specs.AskerRequests.{opening, opening_of, opened, sent_as, send_refusal, sent_answer}
+use Rattle.coap_exchange.specs.AskerRequests.{ask_answer, request_token}
 use Rattle.coap_exchange.specs.AskerArrivals.{told, verdict_on, running_after, turn_of, running_unless}
 use Rattle.coap_exchange.specs.AskerFollows.{begun, answered, ends}
 use Rattle.coap_exchange.specs.Tokens.{is_spent}

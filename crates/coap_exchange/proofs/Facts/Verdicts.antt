@@ -9,15 +9,15 @@ use Rattle.coap_codec.specs.Message.{Message}
 use Rattle.coap_layer.specs.Trace as L
 use Rattle.coap_exchange.specs.declared.matching.Known.{Known}
 use Rattle.coap_exchange.specs.declared.matching.Verdict.{Verdict}
-use Rattle.coap_exchange.specs.declared.matching.Verdict.TheVariants.{Ignore, Reject, Acknowledge, AnswerCon, Answer, NoticeCon, Notice, Await, EndByReset}
-use Rattle.coap_exchange.specs.declared.asker.Turn.{Turn}
+use Rattle.coap_exchange.specs.declared.matching.Verdict.TheVariants.{Ignore, Reject, Acknowledge, AnswerCon, Answer}
+use Rattle.coap_exchange.specs.declared.matching.Verdict.TheVariants.{NoticeCon, Notice, Await, EndByReset}
 use Rattle.coap_exchange.specs.declared.asker.Turn.TheVariants as turn
 use Rattle.coap_exchange.specs.declared.asker.Event.TheVariants as event
 use Rattle.coap_exchange.specs.declared.asker.Exchange.{Exchange}
 use Rattle.coap_exchange.specs.AskerTrace.{Own}
-use Rattle.coap_exchange.specs.AskerArrivals.{has_token, has_id, known_of, is_of_request, verdict_on, has_waited, acked_in, turn_of}
+use Rattle.coap_exchange.specs.AskerArrivals.{has_token, has_id, known_of, is_of_request, verdict_on, has_waited}
+use Rattle.coap_exchange.specs.AskerArrivals.{acked_in, turn_of}
 use Rattle.coap_exchange.specs.Matching.{judged, request_judged}
-use Rattle.coap_exchange.specs.Tokens.{is_kept}
 use Rattle.coap_exchange.proofs.Facts.SameToken.{same_token_is}
 pub use Rattle.coap_exchange.specs.Machine.VerdictFits.{Answers, Notices, OfRequest, Fits, TurnFits}
 

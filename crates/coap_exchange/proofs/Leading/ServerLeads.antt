@@ -5,7 +5,8 @@ use Rattle.coap_layer.specs.Machine.State as L
 use Rattle.coap_layer.specs.Rows.{LayerLaw}
 use Rattle.coap_layer.specs.Machine.Steps.{Steps}
 use Rattle.coap_layer.proofs.Facts.Calls.{led_steps}
-use Rattle.coap_exchange.proofs.Facts.Above.{led_call as above_call, led_chain as above_chain, chain_join, chain_split, chain_own}
+use Rattle.coap_exchange.proofs.Facts.Above.{led_call as above_call, led_chain as above_chain, chain_join, chain_split}
+use Rattle.coap_exchange.proofs.Facts.Above.{chain_own}
 use Rattle.coap_exchange.specs.Above.{sum_of}
 use Rattle.coap_exchange.specs.AnswererTrace.{start, Call}
 use Rattle.coap_exchange.specs.AnswererSteps.{lower, IsRight, after}

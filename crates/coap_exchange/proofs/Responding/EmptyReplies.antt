@@ -1,5 +1,6 @@
 -- What a server rejects, acknowledges with an Empty message, and answers in an acknowledgement.
-use Rattle.std.proofs.Common.{◌≡◌, ◌⊎◌, inl, inr, ℕ, Bool, true, false, Option, Some, None, List, [], ◌∷◌, ◌++◌, refl, ap, ◌∙◌, cond}
+use Rattle.std.proofs.Common.{◌≡◌, ◌⊎◌, inl, inr, ℕ, Bool, true, false, Option, Some, None, List, [], ◌∷◌, ◌++◌, refl}
+use Rattle.std.proofs.Common.{ap, ◌∙◌, cond}
 use Rattle.coap_types.specs.declared.endpoint.Endpoint.{Endpoint}
 use Rattle.coap_types.specs.declared.message.Kind.{Kind}
 use Rattle.coap_types.specs.declared.message.Kind.TheVariants.{Con, Non, Ack, Rst}
@@ -8,8 +9,10 @@ use Rattle.coap_layer.specs.Trace as T
 use Rattle.coap_layer.specs.Words.{is_kept}
 use Rattle.coap_exchange.specs.declared.answerer.Asked.{Asked}
 use Rattle.coap_exchange.specs.declared.separate.Deferred.{Deferred}
-use Rattle.coap_exchange.specs.AnswererTrace.{Response, Own, Call, Incoming, Answers, Defers, Ticks, Responds, Ready, Notifies, Take}
-use Rattle.coap_exchange.specs.AnswererSteps.{reject_by, answering, IsRight, may_defer, deferring, asking_room, ready_if, ready_at}
+use Rattle.coap_exchange.specs.AnswererTrace.{Response, Own, Call, Incoming, Answers, Defers, Ticks, Responds, Ready}
+use Rattle.coap_exchange.specs.AnswererTrace.{Notifies, Take}
+use Rattle.coap_exchange.specs.AnswererSteps.{reject_by, answering, IsRight, may_defer, deferring, asking_room}
+use Rattle.coap_exchange.specs.AnswererSteps.{ready_if, ready_at}
 use Rattle.coap_exchange.specs.AnswererLaw.{own_of, AnswererLaw}
 use Rattle.coap_exchange.specs.AnswererEmpties.{AnswersIn, RejectsIn, RepliesRightly, AreReplied}
 use Rattle.coap_exchange.specs.AskerRequests.{asked}

@@ -1,5 +1,6 @@
 -- A request that is handed up has at most one response, and at most 16 are deferred.
-use Rattle.std.proofs.Common.{◌≡◌, ◌≤◌, ◌<◌, inl, inr, ℕ, ◌+◌, max, Bool, true, false, Some, None, List, [], ◌∷◌, ◌++◌, length, refl, ap, sym, subst, ◌∙◌, cond, arith, ◌&&◌}
+use Rattle.std.proofs.Common.{◌≡◌, ◌≤◌, ◌<◌, inl, inr, ℕ, ◌+◌, max, Bool, true, false, Some, None, List, [], ◌∷◌, ◌++◌}
+use Rattle.std.proofs.Common.{length, refl, ap, sym, subst, ◌∙◌, cond, arith, ◌&&◌}
 use Rattle.std.specs.Option.{option_map}
 use Rattle.std.specs.Cmp.{unsigned_Decides}
 use Rattle.coap_types.specs.Past.{Ever}
@@ -10,10 +11,13 @@ use Rattle.std.proofs.lemmas.Bool.{ltb-true}
 use Rattle.coap_exchange.specs.declared.answerer.Asked.{Asked}
 use Rattle.coap_exchange.specs.declared.separate.Deferred.{Deferred}
 use Rattle.coap_exchange.specs.declared.separate.Separate.{Separate}
-use Rattle.coap_exchange.specs.AnswererTrace.{Own, Call, Incoming, Answers, Defers, Ticks, Responds, Ready, Notifies, Take}
-use Rattle.coap_exchange.specs.AnswererSteps.{IsRight, after, may_defer, is_ready, first_ready, without_ready, max_deferred}
+use Rattle.coap_exchange.specs.AnswererTrace.{Own, Call, Incoming, Answers, Defers, Ticks, Responds, Ready, Notifies}
+use Rattle.coap_exchange.specs.AnswererTrace.{Take}
+use Rattle.coap_exchange.specs.AnswererSteps.{IsRight, after, may_defer, is_ready, first_ready, without_ready}
+use Rattle.coap_exchange.specs.AnswererSteps.{max_deferred}
 use Rattle.coap_exchange.specs.AnswererLaw.{own_of, AnswererLaw}
-use Rattle.coap_exchange.specs.AnswererFollows.{hands, responds, hits, same_asked, times_handed, times_answered, Responses, AreResponses}
+use Rattle.coap_exchange.specs.AnswererFollows.{hands, responds, hits, same_asked, times_handed, times_answered}
+use Rattle.coap_exchange.specs.AnswererFollows.{Responses, AreResponses}
 use Rattle.coap_exchange.proofs.Facts.SameToken.{same_token_self}
 
 pub same_asked_self : (a : Asked) → same_asked a a ≡ true

@@ -1,5 +1,6 @@
 -- Which Empty message answers what arrives at a client: by the table of verdicts.
-use Rattle.std.proofs.Common.{◌≡◌, ◌≢◌, inl, inr, ℕ, Bool, true, false, Option, Some, None, List, [], ◌∷◌, ◌++◌, refl, ap, subst, sym, ◌∙◌, cond, ◌&&◌, ◌||◌}
+use Rattle.std.proofs.Common.{◌≡◌, ◌≢◌, inl, inr, ℕ, Bool, true, false, Option, Some, None, List, [], ◌∷◌, ◌++◌, refl}
+use Rattle.std.proofs.Common.{ap, subst, sym, ◌∙◌, cond, ◌&&◌, ◌||◌}
 use Rattle.coap_types.specs.declared.endpoint.Endpoint.{Endpoint}
 use Rattle.coap_types.specs.declared.message.Kind.{Kind}
 use Rattle.coap_types.specs.declared.message.Kind.TheVariants.{Con, Non, Ack, Rst}
@@ -14,7 +15,8 @@ use Rattle.coap_exchange.specs.AskerTrace.{Own, Call, Ask, Receive, Ticks, Keep,
 use Rattle.coap_exchange.specs.AskerRequests.{asked, opening_of, request_token, content_of, beneath}
 use Rattle.coap_exchange.specs.declared.matching.Opening.{Opening}
 use Rattle.coap_exchange.specs.declared.matching.Opening.TheVariants.{Running, Spent, Sends}
-use Rattle.coap_exchange.specs.AskerArrivals.{told, verdict_on, known_of, is_of_request, id_in, reply_by, settles, replying, settling}
+use Rattle.coap_exchange.specs.AskerArrivals.{told, verdict_on, known_of, is_of_request, id_in, reply_by, settles}
+use Rattle.coap_exchange.specs.AskerArrivals.{replying, settling}
 use Rattle.coap_exchange.specs.AskerSteps.{IsRight}
 use Rattle.coap_exchange.specs.AskerLaw.{own_of, AskerLaw}
 use Rattle.coap_exchange.specs.AskerFollows.{message_told}

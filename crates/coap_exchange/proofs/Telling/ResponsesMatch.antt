@@ -1,5 +1,6 @@
 -- What a response has that the client's side tells, by the table.
-use Rattle.std.proofs.Common.{◌≡◌, ◌≢◌, ℕ, Bool, true, false, Option, Some, None, List, [], ◌∷◌, refl, ap, sym, subst, ◌∙◌, ◌&&◌}
+use Rattle.std.proofs.Common.{◌≡◌, ◌≢◌, ℕ, Bool, true, false, Option, Some, None, List, [], ◌∷◌, refl, ap, sym, subst}
+use Rattle.std.proofs.Common.{◌∙◌, ◌&&◌}
 use Rattle.std.specs.Cmp.{unsigned_Decides}
 use Rattle.coap_types.specs.Recognised.{lacks_critical, carries}
 use Rattle.coap_types.specs.declared.direction.Direction.TheVariants.{Response}
@@ -13,7 +14,8 @@ use Rattle.coap_exchange.specs.declared.asker.Event.TheVariants as event
 use Rattle.coap_exchange.specs.declared.asker.Exchange.{Exchange}
 use Rattle.coap_exchange.specs.declared.matching.Known.{Known}
 use Rattle.coap_exchange.specs.declared.matching.Verdict.{Verdict}
-use Rattle.coap_exchange.specs.declared.matching.Verdict.TheVariants.{Ignore, Reject, Acknowledge, AnswerCon, Answer, NoticeCon, Notice, Await, EndByReset}
+use Rattle.coap_exchange.specs.declared.matching.Verdict.TheVariants.{Ignore, Reject, Acknowledge, AnswerCon, Answer}
+use Rattle.coap_exchange.specs.declared.matching.Verdict.TheVariants.{NoticeCon, Notice, Await, EndByReset}
 use Rattle.coap_exchange.specs.AskerTrace.{Own, Call, Ask, Receive, Ticks, Keep, Release, Take}
 use Rattle.coap_exchange.specs.AskerSteps.{IsRight}
 use Rattle.coap_exchange.specs.AskerArrivals.{observe, has_id, has_token, is_cancel, known_of, told, verdict_on}

@@ -1,7 +1,6 @@
 -- The history of a client stands in its law.
 use Rattle.std.proofs.Common.{List, refl, arith}
 use Rattle.coap_layer.specs.Machine.State as L
-use Rattle.coap_layer.specs.Machine.State.{after, forgotten, made}
 use Rattle.coap_layer.specs.Machine.Steps.{Asked, Steps, left_after}
 use Rattle.coap_layer.proofs.Facts.Sendable.{sendable_when_short}
 use Rattle.coap_exchange.specs.AskerLaw.{lower_of, ExchangeLaw}

@@ -1,7 +1,8 @@
 -- The history of a server stands in its law.
 use Rattle.std.proofs.Common.{slice_index, ◌<◌, ℕ, zero, suc, List, [], ◌∷◌, refl, arith}
 use Rattle.coap_types.specs.Bytes.{AreBytes}
-use Rattle.coap_codec.specs.Reading.{extended, value_at, nibbles_at, option_at, walk_of, walk, payload_at, frame_fault, body_at}
+use Rattle.coap_codec.specs.Reading.{extended, value_at, nibbles_at, option_at, walk_of, walk, payload_at, frame_fault}
+use Rattle.coap_codec.specs.Reading.{body_at}
 use Rattle.coap_codec.specs.Decoded.{decoded}
 use Rattle.coap_layer.specs.Rows.{IsSpelled}
 use Rattle.coap_layer.specs.Machine.State as L

@@ -5,7 +5,8 @@ use Rattle.coap_types.specs.declared.message.Kind.TheVariants.{Con, Non, Ack, Rs
 use Rattle.coap_layer.specs.Arrivals.{Arrival, Unreadable, Faulted, Whole}
 use Rattle.coap_layer.specs.Trace.{Receive, Acked, Reset, Answer, Becomes, Entry}
 use Rattle.coap_layer.specs.Words.{Incoming}
-use Rattle.coap_layer.specs.Rows.{Outstanding, Stands, LayerLaw, Row, Arrives, Sorts, HandedAs, rejects, drops, takes_ack, takes_reset, takes_answer, replays, hands_over}
+use Rattle.coap_layer.specs.Rows.{Outstanding, Stands, LayerLaw, Row, Arrives, Sorts, HandedAs, rejects, drops}
+use Rattle.coap_layer.specs.Rows.{takes_ack, takes_reset, takes_answer, replays, hands_over}
 use Rattle.coap_layer.specs.Follows.{EndsOutstanding}
 
 -- the Message ID of what an answer says has ended

@@ -7,9 +7,12 @@ use Rattle.coap_types.proofs.Facts.Endpoints.{same_endpoint_is}
 use Rattle.coap_types.specs.Bytes.{AreBytes}
 use Rattle.coap_codec.specs.Message.{Message, Spells}
 use Rattle.coap_layer.specs.Arrivals.{Arrival, Unreadable, Faulted, Whole, Shows}
-use Rattle.coap_layer.specs.Trace.{Call, Receive, Reply, Confirm, Plain, Settle, Ticks, Take, Room, AsksFree, Pass, Response, Acked, Answer, Becomes, Entry}
-use Rattle.coap_layer.specs.Words.{Incoming, handed_by, kept_by, from_there, handed_in, handed, taken, awaits_in, awaits, Awaited, Open, is_to, outstanding}
-use Rattle.coap_layer.specs.Rows.{Outstanding, Stands, LayerLaw, Row, Arrives, Sorts, HandedAs, rejects, drops, takes_ack, takes_reset, takes_answer, replays, hands_over}
+use Rattle.coap_layer.specs.Trace.{Call, Receive, Reply, Confirm, Plain, Settle, Ticks, Take, Room, AsksFree, Pass}
+use Rattle.coap_layer.specs.Trace.{Response, Acked, Answer, Becomes, Entry}
+use Rattle.coap_layer.specs.Words.{Incoming, handed_by, kept_by, from_there, handed_in, handed, taken, awaits_in}
+use Rattle.coap_layer.specs.Words.{awaits, Awaited, Open, is_to, outstanding}
+use Rattle.coap_layer.specs.Rows.{Outstanding, Stands, LayerLaw, Row, Arrives, Sorts, HandedAs, rejects, drops}
+use Rattle.coap_layer.specs.Rows.{takes_ack, takes_reset, takes_answer, replays, hands_over}
 use Rattle.coap_layer.specs.Channel.{IsLatest, HandedBy, HandedAsSpelled, TakesAckOf, HearsAck, AcksHeard}
 use Rattle.coap_layer.proofs.ListLemmas.{and_left, and_right, same_nat}
 use Rattle.coap_layer.proofs.Copies.WhatIsOpen.{some_in}

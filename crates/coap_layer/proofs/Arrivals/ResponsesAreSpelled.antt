@@ -4,9 +4,11 @@ use Rattle.coap_types.specs.declared.endpoint.Endpoint.{Endpoint}
 use Rattle.coap_types.specs.declared.message.Kind.TheVariants.{Con, Non, Ack, Rst}
 use Rattle.coap_codec.specs.Message.{Message, Spells}
 use Rattle.coap_layer.specs.Arrivals.{Arrival, Unreadable, Faulted, Whole, Shows}
-use Rattle.coap_layer.specs.Trace.{Call, Receive, Reply, Confirm, Plain, Settle, Ticks, Take, Room, AsksFree, Pass, Answer, Becomes, Response, Entry}
+use Rattle.coap_layer.specs.Trace.{Call, Receive, Reply, Confirm, Plain, Settle, Ticks, Take, Room, AsksFree, Pass}
+use Rattle.coap_layer.specs.Trace.{Answer, Becomes, Response, Entry}
 use Rattle.coap_layer.specs.Words.{Incoming}
-use Rattle.coap_layer.specs.Rows.{LayerLaw, Row, Arrives, Sorts, HandedAs, rejects, drops, takes_ack, takes_reset, takes_answer, replays, hands_over, copies, expires, rests}
+use Rattle.coap_layer.specs.Rows.{LayerLaw, Row, Arrives, Sorts, HandedAs, rejects, drops, takes_ack, takes_reset}
+use Rattle.coap_layer.specs.Rows.{takes_answer, replays, hands_over, copies, expires, rests}
 use Rattle.coap_layer.specs.Follows.{Carried, ResponsesSpelled}
 
 abbrev told_in : Answer → Option Message

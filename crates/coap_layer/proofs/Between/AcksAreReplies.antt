@@ -1,7 +1,9 @@
 -- An acknowledgement is the reply that the other layer was given to that very CON.
-use Rattle.std.proofs.Common.{◌-◌, ◌≡◌, inl, inr, ⊎_elim, ℕ, ◌+◌, ◌≤◌, false, List, [], ◌∷◌, ◌++◌, Some, None, refl, ap, sym, ◌∙◌, subst, arith, append_assoc}
+use Rattle.std.proofs.Common.{◌-◌, ◌≡◌, inl, inr, ⊎_elim, ℕ, ◌+◌, ◌≤◌, false, List, [], ◌∷◌, ◌++◌, Some, None, refl, ap}
+use Rattle.std.proofs.Common.{sym, ◌∙◌, subst, arith, append_assoc}
 use Rattle.coap_types.specs.Past.{Ever, Sometime, Since}
-use Rattle.coap_types.proofs.Facts.Traces.{Ever_map, Ever_of_Sometime, Ever_of_Since, Sometime_of_Ever, Sometime_of_Sometime, by_suffix, forget}
+use Rattle.coap_types.proofs.Facts.Traces.{Ever_map, Ever_of_Sometime, Ever_of_Since, Sometime_of_Ever}
+use Rattle.coap_types.proofs.Facts.Traces.{Sometime_of_Sometime, by_suffix, forget}
 use Rattle.coap_types.specs.declared.endpoint.Endpoint.{Endpoint}
 use Rattle.coap_types.specs.declared.message.Kind.TheVariants.{Con, Ack}
 use Rattle.coap_types.specs.Bytes.{AreBytes}
@@ -10,10 +12,15 @@ use Rattle.coap_layer.specs.Trace.{Packet, Receive, Reply, Entry}
 use Rattle.coap_layer.specs.Words.{Incoming, clock, handed, hands_up, reply_in, awaits, Remembered, Open, outstanding}
 use Rattle.coap_layer.specs.Rows.{LayerLaw, Row}
 use Rattle.coap_layer.specs.Sends.{IsIn, as_begun, ReplyOut, StoredOut}
-use Rattle.coap_layer.specs.Channel.{HandedBy, Hop, Near, Far, near_of, far_of, OnFar, GaveOut, IsLatest, RepliesAtOnce, ChannelLaw, BegunAs, HearsAck, Takes, AcksTaken, RepliesTo, OnFarThen, AcksReplied}
-use Rattle.coap_types.specs.declared.transmission.TheConstants.{EXCHANGE_LIFETIME_MS as exchange_lifetime, LAST_ARRIVAL_MS as last_arrival, ID_REUSE_AFTER_MS as id_reuse_after, MAX_LATENCY_MS as max_latency}
+use Rattle.coap_layer.specs.Channel.{HandedBy, Hop, Near, Far, near_of, far_of, OnFar, GaveOut, IsLatest, RepliesAtOnce}
+use Rattle.coap_layer.specs.Channel.{ChannelLaw, BegunAs, HearsAck, Takes, AcksTaken, RepliesTo, OnFarThen, AcksReplied}
+use Rattle.coap_types.specs.declared.transmission.TheConstants.{EXCHANGE_LIFETIME_MS as exchange_lifetime}
+use Rattle.coap_types.specs.declared.transmission.TheConstants.{LAST_ARRIVAL_MS as last_arrival}
+use Rattle.coap_types.specs.declared.transmission.TheConstants.{ID_REUSE_AFTER_MS as id_reuse_after}
+use Rattle.coap_types.specs.declared.transmission.TheConstants.{MAX_LATENCY_MS as max_latency}
 use Rattle.coap_layer.proofs.Copies.CopiesInTime.{was_begun, begun_by}
-use Rattle.coap_layer.proofs.Between.WhatComesByType.{Comes, a_con, a_non, a_reply, a_stored, a_reset, comes, one_message, replied_call}
+use Rattle.coap_layer.proofs.Between.WhatComesByType.{Comes, a_con, a_non, a_reply, a_stored, a_reset, comes}
+use Rattle.coap_layer.proofs.Between.WhatComesByType.{one_message, replied_call}
 use Rattle.coap_layer.proofs.Arrivals.HandedAsSpelled.{handed_so, Heard, heard, IsOf, latest_is}
 use Rattle.coap_layer.proofs.Facts.Hops.{to_far, near_later, earlier, each_hop}
 use Rattle.coap_layer.proofs.Between.WhatArrivesWasSent.{begun_as}

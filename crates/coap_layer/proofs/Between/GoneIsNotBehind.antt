@@ -1,5 +1,6 @@
 -- A CON that is gone where another one begins isn't handed up behind that one.
-use Rattle.std.proofs.Common.{◌≡◌, ◌⊎◌, inl, inr, ⊎_elim, ℕ, ◌+◌, ◌≤◌, ◌<◌, Some, None, List, [], ◌∷◌, refl, ap, sym, ◌∙◌, subst, arith, option_to_list}
+use Rattle.std.proofs.Common.{◌≡◌, ◌⊎◌, inl, inr, ⊎_elim, ℕ, ◌+◌, ◌≤◌, ◌<◌, Some, None, List, [], ◌∷◌, refl, ap, sym}
+use Rattle.std.proofs.Common.{◌∙◌, subst, arith, option_to_list}
 use Rattle.std.specs.List.{filter_map, cons_option}
 use Rattle.coap_types.specs.Past.{Ever, Sometime, Always}
 use Rattle.coap_types.proofs.Facts.Traces.{Ever_map, Ever_append, Ever_of_Sometime, Sometime_map, by_suffix, forget}
@@ -10,13 +11,15 @@ use Rattle.coap_layer.specs.Trace.{Packet, Entry}
 use Rattle.coap_layer.specs.Words.{clock, Open, left_by, begun, outstanding}
 use Rattle.coap_layer.specs.Rows.{LayerLaw}
 use Rattle.coap_layer.specs.Sends.{as_begun, IsOpen, SendsIt, SpellsCon}
-use Rattle.coap_layer.specs.Channel.{Hop, Near, Far, near_of, far_of, OnFar, RepliesSo, ChannelLaw, SentSo, Takes, HandsUpAs}
+use Rattle.coap_layer.specs.Channel.{Hop, Near, Far, near_of, far_of, OnFar, RepliesSo, ChannelLaw, SentSo, Takes}
+use Rattle.coap_layer.specs.Channel.{HandsUpAs}
 use Rattle.coap_layer.specs.Apart.{Follows, OnNearAfter, ConsApart}
 use Rattle.coap_layer.proofs.Copies.CopiesInTime.{left_same, begun_fresh, one_outstanding}
 use Rattle.coap_layer.proofs.Copies.WhatIsOpen.{copied_by, place_same}
 use Rattle.coap_layer.proofs.Numbers.OneEntryForAnId.{IsBegun, begins_of, begun_once, one_con}
 use Rattle.coap_layer.proofs.Facts.Hops.{far_ever, each_hop}
-use Rattle.coap_layer.proofs.Between.WhatComesByType.{Comes, a_con, a_non, a_reply, a_stored, a_reset, comes, spelled_begun}
+use Rattle.coap_layer.proofs.Between.WhatComesByType.{Comes, a_con, a_non, a_reply, a_stored, a_reset, comes}
+use Rattle.coap_layer.proofs.Between.WhatComesByType.{spelled_begun}
 use Rattle.coap_layer.proofs.Between.WhatArrivesWasSent.{sent_so, are_bytes}
 use Rattle.coap_layer.proofs.Between.TakenOnce.{only_that_con, taken_once}
 use Rattle.coap_types.specs.declared.transmission.TheConstants.{MAX_LATENCY_MS as max_latency}

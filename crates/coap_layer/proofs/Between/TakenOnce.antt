@@ -1,5 +1,6 @@
 -- What is taken of a CON: that very CON, and once.
-use Rattle.std.proofs.Common.{◌-◌, ◌≡◌, inl, inr, ⊎_elim, ℕ, ◌+◌, ◌≤◌, true, false, Option, Some, None, List, [], ◌∷◌, refl, ap, sym, ◌∙◌, subst, arith, option_to_list, append_assoc, ◌++◌}
+use Rattle.std.proofs.Common.{◌-◌, ◌≡◌, inl, inr, ⊎_elim, ℕ, ◌+◌, ◌≤◌, true, false, Option, Some, None, List, [], ◌∷◌}
+use Rattle.std.proofs.Common.{refl, ap, sym, ◌∙◌, subst, arith, option_to_list, append_assoc, ◌++◌}
 use Rattle.std.proofs.lemmas.Bool.Decides.{nat_tests}
 use Rattle.std.specs.List.{filter_map}
 use Rattle.coap_types.specs.Past.{Ever, Always}
@@ -8,11 +9,14 @@ use Rattle.coap_types.specs.declared.endpoint.Endpoint.{Endpoint}
 use Rattle.coap_types.specs.SameEndpoint.{same_endpoint}
 use Rattle.coap_types.proofs.Facts.Endpoints.{same_endpoint_is}
 use Rattle.coap_layer.specs.Trace.{Receive, Entry}
-use Rattle.coap_layer.specs.Words.{Incoming, taken, handed, is_from, hands_up, HandsUpSince, Open, left_by, begun, outstanding}
+use Rattle.coap_layer.specs.Words.{Incoming, taken, handed, is_from, hands_up, HandsUpSince, Open, left_by, begun}
+use Rattle.coap_layer.specs.Words.{outstanding}
 use Rattle.coap_layer.specs.Rows.{LayerLaw}
 use Rattle.coap_layer.specs.Sends.{IsIn, as_begun}
-use Rattle.coap_layer.specs.Channel.{HandedBy, Hop, Near, Far, near_of, far_of, OnFar, ChannelLaw, BegunAs, Takes, HandsUpAs, TakenOnce, OnlyThatCon, HandedOnce}
-use Rattle.coap_types.specs.declared.transmission.TheConstants.{LAST_ARRIVAL_MS as last_arrival, ID_REUSE_AFTER_MS as id_reuse_after}
+use Rattle.coap_layer.specs.Channel.{HandedBy, Hop, Near, Far, near_of, far_of, OnFar, ChannelLaw, BegunAs, Takes}
+use Rattle.coap_layer.specs.Channel.{HandsUpAs, TakenOnce, OnlyThatCon, HandedOnce}
+use Rattle.coap_types.specs.declared.transmission.TheConstants.{LAST_ARRIVAL_MS as last_arrival}
+use Rattle.coap_types.specs.declared.transmission.TheConstants.{ID_REUSE_AFTER_MS as id_reuse_after}
 use Rattle.coap_layer.proofs.Copies.CopiesInTime.{in_option, in_filter_map, left_same, begun_by, one_outstanding}
 use Rattle.coap_layer.proofs.Copies.WhatIsOpen.{place_same, busy_with}
 use Rattle.coap_layer.proofs.Arrivals.HandedAsSpelled.{handed_so}

@@ -8,7 +8,8 @@ use Rattle.coap_types.specs.Bytes.{AreBytes}
 use Rattle.coap_codec.specs.Message.{Message, Spells}
 use Rattle.coap_layer.specs.Trace.{Packet, Receive, Entry}
 use Rattle.coap_layer.specs.Rows.{Stands, LayerLaw, Row}
-use Rattle.coap_layer.specs.Channel.{Hop, Far, near_of, far_of, GaveOut, RepliesSo, ChannelLaw, SentSo, ArrivesAsSent, BegunAs, ConsBegun, PlainSent, NonsSent}
+use Rattle.coap_layer.specs.Channel.{Hop, Far, near_of, far_of, GaveOut, RepliesSo, ChannelLaw, SentSo, ArrivesAsSent}
+use Rattle.coap_layer.specs.Channel.{BegunAs, ConsBegun, PlainSent, NonsSent}
 use Rattle.coap_types.specs.declared.transmission.TheConstants.{MAX_LATENCY_MS as max_latency}
 use Rattle.coap_layer.proofs.Facts.Hops.{near_ever, each_hop}
 use Rattle.coap_layer.proofs.Out.EachGoesOut.{goes_out}

@@ -1,5 +1,6 @@
 -- What goes out, by the type of the message that it spells.
-use Rattle.std.proofs.Common.{◌≡◌, ◌⊎◌, inl, inr, ⊎_elim, ℕ, ◌+◌, ◌*◌, ◌≤◌, Bool, true, false, ◌&&◌, ◌==◌, cond, Some, None, List, [], ◌∷◌, length, refl, ap, sym, ◌∙◌, subst, arith}
+use Rattle.std.proofs.Common.{◌≡◌, ◌⊎◌, inl, inr, ⊎_elim, ℕ, ◌+◌, ◌*◌, ◌≤◌, Bool, true, false, ◌&&◌, ◌==◌, cond, Some}
+use Rattle.std.proofs.Common.{None, List, [], ◌∷◌, length, refl, ap, sym, ◌∙◌, subst, arith}
 use Rattle.coap_types.specs.Past.{Ever, Always}
 use Rattle.coap_types.proofs.Facts.Traces.{Ever_of_Since, Ever_by_law, forget}
 use Rattle.coap_types.specs.declared.endpoint.Endpoint.{Endpoint}
@@ -10,10 +11,12 @@ use Rattle.coap_types.proofs.Facts.Endpoints.{same_endpoint_is}
 use Rattle.coap_types.specs.Bytes.{AreBytes}
 use Rattle.coap_codec.specs.Message.{Message, Spells, kind_number}
 use Rattle.coap_codec.proofs.Facts.EveryDatagram.{spelled_decoded}
-use Rattle.coap_layer.specs.Trace.{Packet, with_head, Call, Receive, Reply, Confirm, Plain, Settle, Ticks, Take, Room, AsksFree, Pass, Entry}
+use Rattle.coap_layer.specs.Trace.{Packet, with_head, Call, Receive, Reply, Confirm, Plain, Settle, Ticks, Take, Room}
+use Rattle.coap_layer.specs.Trace.{AsksFree, Pass, Entry}
 use Rattle.coap_layer.specs.Words.{reply_in, Open, begun}
 use Rattle.coap_layer.specs.Rows.{LayerLaw}
-use Rattle.coap_layer.specs.Sends.{SendsIt, packet_of, SpellsCon, GoesOut, PlainOut, ReplyOut, StoredOut, first, copy, plain, reply, stored, reset, Begins}
+use Rattle.coap_layer.specs.Sends.{SendsIt, packet_of, SpellsCon, GoesOut, PlainOut, ReplyOut, StoredOut, first, copy}
+use Rattle.coap_layer.specs.Sends.{plain, reply, stored, reset, Begins}
 use Rattle.coap_layer.specs.Channel.{RepliesAtOnce, RepliesSo}
 use Rattle.coap_types.specs.declared.transmission.TheConstants.{LAST_RETRANSMISSION_MS as last_retransmission}
 use Rattle.coap_layer.proofs.ListLemmas.{same_nat, and_left, and_right}

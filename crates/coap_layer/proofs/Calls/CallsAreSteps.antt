@@ -1,5 +1,7 @@
 -- The calls of a layer, taken by its parts, are steps.
-use Rattle.std.proofs.Common.{◌≡◌, ℕ, ◌+◌, ◌/◌, ◌%◌, ◌≤◌, Bool, Option, Some, None, List, [], ◌∷◌, ◌++◌, filter, map, drop, slice_set, slice_get, length, ◌<◌, IsSome, option_to_list, refl, ap, sym, ◌∙◌, arith}
+use Rattle.std.proofs.Common.{◌≡◌, ℕ, ◌+◌, ◌/◌, ◌%◌, ◌≤◌, Bool, Option, Some, None, List, [], ◌∷◌, ◌++◌, filter, map}
+use Rattle.std.proofs.Common.{drop, slice_set, slice_get, length, ◌<◌, IsSome, option_to_list, refl, ap, sym, ◌∙◌}
+use Rattle.std.proofs.Common.{arith}
 use Rattle.std.proofs.lemmas.List.{append-nil}
 use Rattle.std.specs.List.{filter_map}
 use Rattle.coap_types.specs.declared.endpoint.Endpoint.{Endpoint}
@@ -10,10 +12,13 @@ use Rattle.coap_layer.specs.declared.retransmission.Due.TheVariants as due
 use Rattle.coap_layer.specs.Machine.Arriving.{without_open}
 use Rattle.coap_layer.specs.Machine.Entries.{storing}
 use Rattle.coap_layer.specs.Machine.Sendings.{answer_for}
-use Rattle.coap_layer.specs.Machine.State.{State, Arrived, May, Step, after, answer_of, forgotten, is_live, made, moment, out_of, stores}
-use Rattle.coap_layer.specs.Trace.{Answer, Call, Confirm, Content, Entry, Gives, Is, Nothing, Packet, Plain, Reply, Sent, Settle, Take, Ticks, with_head}
+use Rattle.coap_layer.specs.Machine.State.{State, Arrived, May, Step, after, answer_of, forgotten, is_live, made}
+use Rattle.coap_layer.specs.Machine.State.{moment, out_of, stores}
+use Rattle.coap_layer.specs.Trace.{Answer, Call, Confirm, Content, Entry, Gives, Is, Nothing, Packet, Plain, Reply}
+use Rattle.coap_layer.specs.Trace.{Sent, Settle, Take, Ticks, with_head}
 use Rattle.coap_layer.specs.Words.{Awaited, Open, awaits_in, begun, issued, left_by, taken, takes_in}
-use Rattle.coap_types.specs.declared.transmission.TheConstants.{ACK_TIMEOUT_MS as ack_timeout, TIMEOUT_VALUES as timeout_values}
+use Rattle.coap_types.specs.declared.transmission.TheConstants.{ACK_TIMEOUT_MS as ack_timeout}
+use Rattle.coap_types.specs.declared.transmission.TheConstants.{TIMEOUT_VALUES as timeout_values}
 use Rattle.coap_layer.specs.declared.message_id.TheConstants.{GROUP_SIZE as group_size}
 use Rattle.coap_types.specs.declared.message.TheConstants.{MESSAGE_IDS as message_ids}
 use Rattle.coap_layer.proofs.Machine.Forgetting.{live_before, step_by}

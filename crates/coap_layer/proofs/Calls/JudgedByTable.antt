@@ -1,5 +1,6 @@
 -- A verdict on an arrival does what the table of arrivals says.
-use Rattle.std.proofs.Common.{◌≡◌, ℕ, Bool, true, false, Option, Some, None, List, [], ◌∷◌, Result, Ok, Err, refl, ap, sym, ◌∙◌, cond, ◌&&◌, IfOk, IfErr}
+use Rattle.std.proofs.Common.{◌≡◌, ℕ, Bool, true, false, Option, Some, None, List, [], ◌∷◌, Result, Ok, Err, refl, ap}
+use Rattle.std.proofs.Common.{sym, ◌∙◌, cond, ◌&&◌, IfOk, IfErr}
 use Rattle.coap_types.specs.Roles.{role_of}
 use Rattle.coap_types.specs.declared.endpoint.Endpoint.{Endpoint}
 use Rattle.coap_types.specs.declared.message.Id.{Id}
@@ -16,7 +17,8 @@ use Rattle.coap_layer.specs.declared.arriving.Arriving.{Arriving}
 use Rattle.coap_layer.specs.declared.arrival.Verdict.TheVariants as verdict
 use Rattle.coap_layer.specs.Arrivals.{Whole, by_head, arrival_at}
 use Rattle.coap_layer.specs.Machine.Arriving.{IsArriving, shown_by, told_by, of_head, sends, ends, hands, keeps}
-use Rattle.coap_layer.specs.Machine.State.{State, answer_to, replay, sorted_by, newly, is_remembered, is_outstanding, is_full, is_free}
+use Rattle.coap_layer.specs.Machine.State.{State, answer_to, replay, sorted_by, newly, is_remembered, is_outstanding}
+use Rattle.coap_layer.specs.Machine.State.{is_full, is_free}
 use Rattle.coap_layer.specs.Machine.Table.{up_of}
 use Rattle.coap_layer.specs.Trace.{Answer, Becomes, Receive}
 use Rattle.coap_layer.specs.Machine.Verdicts.{answer_by}

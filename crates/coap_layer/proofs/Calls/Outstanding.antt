@@ -1,5 +1,6 @@
 -- What the CONs that are kept stand for, now and as the last input found them.
-use Rattle.std.proofs.Common.{◌≡◌, ℕ, Bool, true, false, Option, Some, None, List, [], ◌∷◌, ◌++◌, map, filter, refl, ap, ◌∙◌, ◌&&◌, ◌||◌, cond, is_some}
+use Rattle.std.proofs.Common.{◌≡◌, ℕ, Bool, true, false, Option, Some, None, List, [], ◌∷◌, ◌++◌, map, filter, refl, ap}
+use Rattle.std.proofs.Common.{◌∙◌, ◌&&◌, ◌||◌, cond, is_some}
 use Rattle.std.proofs.lemmas.List.{append-nil}
 use Rattle.std.specs.List.{list_any, cons_option}
 use Rattle.coap_types.specs.declared.endpoint.Endpoint.{Endpoint}

@@ -1,5 +1,6 @@
 -- The messages that are remembered, and the one of them that a reply may be given to.
-use Rattle.std.proofs.Common.{◌≡◌, ◌≤◌, ◌+◌, sym, ℕ, Bool, true, false, Option, Some, None, List, [], ◌∷◌, ◌||◌, ◌++◌, length, take, refl, ap, subst, ◌∙◌, arith}
+use Rattle.std.proofs.Common.{◌≡◌, ◌≤◌, ◌+◌, sym, ℕ, Bool, true, false, Option, Some, None, List, [], ◌∷◌, ◌||◌, ◌++◌}
+use Rattle.std.proofs.Common.{length, take, refl, ap, subst, ◌∙◌, arith}
 use Rattle.std.proofs.lemmas.List.{take-append-le}
 use Rattle.coap_types.specs.declared.endpoint.Endpoint.{Endpoint}
 use Rattle.coap_layer.specs.declared.mark.Mark.{Mark}

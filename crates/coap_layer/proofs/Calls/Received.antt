@@ -1,5 +1,6 @@
 -- An arrival, taken in by the parts of a layer, is a step.
-use Rattle.std.proofs.Common.{◌≡◌, ℕ, max, Bool, true, false, Option, Some, None, List, [], ◌++◌, filter, map, refl, ap, sym, ◌∙◌, subst, arith, cond, ◌&&◌, if◌then◌else◌}
+use Rattle.std.proofs.Common.{◌≡◌, ℕ, max, Bool, true, false, Option, Some, None, List, [], ◌++◌, filter, map, refl, ap}
+use Rattle.std.proofs.Common.{sym, ◌∙◌, subst, arith, cond, ◌&&◌, if◌then◌else◌}
 use Rattle.std.proofs.lemmas.List.{append-nil}
 use Rattle.std.specs.List.{filter_map}
 use Rattle.coap_types.specs.declared.endpoint.Endpoint.{Endpoint}
@@ -7,14 +8,17 @@ use Rattle.coap_types.specs.Bytes.{AreBytes}
 use Rattle.coap_codec.specs.Message.{Message}
 use Rattle.coap_layer.specs.declared.arriving.Arriving.{Arriving}
 use Rattle.coap_layer.specs.Arrivals.{arrival_at}
-use Rattle.coap_layer.specs.Machine.Arriving.{IsArriving, awaits_by, hands, keeps, newly_by, open_by, sent_by, without_open}
-use Rattle.coap_layer.specs.Machine.State.{State, Arrived, Step, after, answer_to, forgotten, is_live, made, out_to, stores}
+use Rattle.coap_layer.specs.Machine.Arriving.{IsArriving, awaits_by, hands, keeps, newly_by, open_by, sent_by}
+use Rattle.coap_layer.specs.Machine.Arriving.{without_open}
+use Rattle.coap_layer.specs.Machine.State.{State, Arrived, Step, after, answer_to, forgotten, is_live, made, out_to}
+use Rattle.coap_layer.specs.Machine.State.{stores}
 use Rattle.coap_layer.specs.Trace.{Answer, Becomes, Entry, Packet, Receive}
 use Rattle.coap_layer.specs.Machine.Ups.{IsQuiet}
 use Rattle.coap_layer.specs.Words.{Awaited, Open, awaited_of, from_there, handed_by, left_by, same}
 use Rattle.coap_layer.proofs.Calls.JudgedByTable.{kept_hands}
 use Rattle.coap_layer.proofs.Machine.Forgetting.{live_before, same_made, step_by}
-use Rattle.coap_layer.proofs.ListLemmas.{filter_implied, filter_map_all, filter_map_same, filter_more, map_same, not_true}
+use Rattle.coap_layer.proofs.ListLemmas.{filter_implied, filter_map_all, filter_map_same, filter_more, map_same}
+use Rattle.coap_layer.proofs.ListLemmas.{not_true}
 
 -- what the entry leaves of the outstanding CONs
 left_so : (e : Entry) (from : Endpoint) (bytes : List ℕ) (a : Arriving) (b : Bool)

@@ -1,5 +1,6 @@
 -- What becomes of the CONs that are kept.
-use Rattle.std.proofs.Common.{◌≡◌, ℕ, Bool, true, false, Option, Some, None, List, [], ◌∷◌, map, refl, ap, ◌∙◌, subst, ◌&&◌, ◌||◌, ◌==◌, cond, is_some}
+use Rattle.std.proofs.Common.{◌≡◌, ℕ, Bool, true, false, Option, Some, None, List, [], ◌∷◌, map, refl, ap, ◌∙◌, subst}
+use Rattle.std.proofs.Common.{◌&&◌, ◌||◌, ◌==◌, cond, is_some}
 use Rattle.std.specs.List.{list_any, filter_map, cons_option}
 use Rattle.coap_types.specs.declared.endpoint.Endpoint.{Endpoint}
 use Rattle.coap_types.specs.declared.endpoint.Moment.{Moment}

@@ -1,5 +1,6 @@
 -- A message that is sent, or refused, is a step.
-use Rattle.std.proofs.Common.{◌≡◌, ℕ, ◌+◌, ◌/◌, ◌%◌, max, Bool, true, false, Option, Some, None, List, [], ◌∷◌, ◌++◌, Ok, Err, slice_set, refl, ap, sym, subst, not, ◌&&◌, is_some}
+use Rattle.std.proofs.Common.{◌≡◌, ℕ, ◌+◌, ◌/◌, ◌%◌, max, Bool, true, false, Option, Some, None, List, [], ◌∷◌, ◌++◌}
+use Rattle.std.proofs.Common.{Ok, Err, slice_set, refl, ap, sym, subst, not, ◌&&◌, is_some}
 use Rattle.std.specs.Option.{is_none}
 use Rattle.coap_types.specs.declared.endpoint.Endpoint.{Endpoint}
 use Rattle.coap_types.specs.declared.message.Id.{Id}
@@ -12,7 +13,8 @@ use Rattle.coap_layer.specs.Machine.State.{State, Arrived, Step, forgotten, is_b
 use Rattle.coap_layer.specs.Trace.{Busied, Is, Confirm, Content, NoIds, Packet, Plain, Sent, with_head}
 use Rattle.coap_layer.specs.Machine.Ups.{refusal_of, sent_as}
 use Rattle.coap_layer.specs.Words.{Open}
-use Rattle.coap_types.specs.declared.transmission.TheConstants.{ACK_TIMEOUT_MS as ack_timeout, TIMEOUT_VALUES as timeout_values}
+use Rattle.coap_types.specs.declared.transmission.TheConstants.{ACK_TIMEOUT_MS as ack_timeout}
+use Rattle.coap_types.specs.declared.transmission.TheConstants.{TIMEOUT_VALUES as timeout_values}
 use Rattle.coap_layer.specs.declared.message_id.TheConstants.{GROUP_SIZE as group_size}
 use Rattle.coap_types.specs.declared.message.TheConstants.{MESSAGE_IDS as message_ids}
 use Rattle.coap_layer.proofs.Calls.CallsAreSteps.{con_sent, moved, non_sent, step_of, still}

@@ -1,5 +1,7 @@
 -- What an input leaves of the lists, and what `undo` would.
-use Rattle.std.proofs.Common.{◌≡◌, ◌≤◌, ◌<◌, ◌+◌, is_some, option_to_list, vec_len, vec_capacity, deque_len, deque_capacity, ℕ, Bool, true, false, Option, Some, None, List, [], ◌∷◌, ◌++◌, length, filter, take, refl, ap, sym, subst, ◌∙◌, arith, cond}
+use Rattle.std.proofs.Common.{◌≡◌, ◌≤◌, ◌<◌, ◌+◌, is_some, option_to_list, vec_len, vec_capacity, deque_len}
+use Rattle.std.proofs.Common.{deque_capacity, ℕ, Bool, true, false, Option, Some, None, List, [], ◌∷◌, ◌++◌, length}
+use Rattle.std.proofs.Common.{filter, take, refl, ap, sym, subst, ◌∙◌, arith, cond}
 use Rattle.std.proofs.Math.Seq.{take-append_seam}
 use Rattle.coap_types.specs.declared.endpoint.Endpoint.{Endpoint}
 use Rattle.coap_layer.specs.declared.arriving.Arriving.{Arriving}

@@ -1,18 +1,25 @@
 -- What is outstanding was begun; a copy goes out at most 47 s after that, with equal bytes.
-use Rattle.std.proofs.Common.{◌≡◌, ◌⊎◌, inl, inr, ⊎_elim, ℕ, ◌+◌, ◌%◌, ◌≤◌, Bool, true, false, Option, Some, None, List, [], ◌∷◌, refl, ap, sym, ◌∙◌, subst, arith, cond, option_to_list}
+use Rattle.std.proofs.Common.{◌≡◌, ◌⊎◌, inl, inr, ⊎_elim, ℕ, ◌+◌, ◌%◌, ◌≤◌, Bool, true, false, Option, Some, None, List}
+use Rattle.std.proofs.Common.{[], ◌∷◌, refl, ap, sym, ◌∙◌, subst, arith, cond, option_to_list}
 use Rattle.std.specs.List.{filter_map, cons_option}
 use Rattle.coap_types.specs.Past.{Ever}
 use Rattle.coap_types.specs.declared.endpoint.Endpoint.{Endpoint}
 use Rattle.coap_types.specs.declared.message.Kind.{Kind}
 use Rattle.coap_types.specs.declared.message.Kind.TheVariants.{Con, Non, Ack, Rst}
-use Rattle.coap_layer.specs.Trace.{Content, with_head, Call, Receive, Reply, Confirm, Plain, Settle, Ticks, Take, Room, AsksFree, Pass, Answer, Copied, Entry}
+use Rattle.coap_layer.specs.Trace.{Content, with_head, Call, Receive, Reply, Confirm, Plain, Settle, Ticks, Take, Room}
+use Rattle.coap_layer.specs.Trace.{AsksFree, Pass, Answer, Copied, Entry}
 use Rattle.coap_codec.specs.Spelling.{message_bytes}
 use Rattle.coap_layer.specs.Arrivals.{Arrival, Unreadable, Faulted, Whole}
-use Rattle.coap_layer.specs.Words.{Incoming, clock, Open, ends_in, copies_in, left_by, sent_by, open_of, begun_in, begun, outstanding, numbers}
-use Rattle.coap_layer.specs.Rows.{Busy, Stands, LayerLaw, Row, Arrives, Sorts, HandedAs, rejects, drops, takes_ack, takes_reset, takes_answer, replays, hands_over, SendsAs, RefusesIds, copies, expires, rests, HasStep, Fails, CopyDue, IsFirst, Copies}
+use Rattle.coap_layer.specs.Words.{Incoming, clock, Open, ends_in, copies_in, left_by, sent_by, open_of, begun_in}
+use Rattle.coap_layer.specs.Words.{begun, outstanding, numbers}
+use Rattle.coap_layer.specs.Rows.{Busy, Stands, LayerLaw, Row, Arrives, Sorts, HandedAs, rejects, drops, takes_ack}
+use Rattle.coap_layer.specs.Rows.{takes_reset, takes_answer, replays, hands_over, SendsAs, RefusesIds, copies, expires}
+use Rattle.coap_layer.specs.Rows.{rests, HasStep, Fails, CopyDue, IsFirst, Copies}
 use Rattle.coap_layer.specs.Follows.{HandedUpOnce, CopyOf, CopiesInTime, IdsApart, OneOutstanding}
 use Rattle.coap_types.proofs.Facts.Traces.{Ever_append}
-use Rattle.coap_types.specs.declared.transmission.TheConstants.{LAST_RETRANSMISSION_MS as last_retransmission, ACK_TIMEOUT_MS as ack_timeout, TIMEOUT_VALUES as timeout_values}
+use Rattle.coap_types.specs.declared.transmission.TheConstants.{LAST_RETRANSMISSION_MS as last_retransmission}
+use Rattle.coap_types.specs.declared.transmission.TheConstants.{ACK_TIMEOUT_MS as ack_timeout}
+use Rattle.coap_types.specs.declared.transmission.TheConstants.{TIMEOUT_VALUES as timeout_values}
 use Rattle.coap_layer.proofs.Arrivals.HandedUpOnce.{up_new}
 use Rattle.coap_layer.proofs.Machine.WhatIsIssued.{numbers_law}
 use Rattle.coap_layer.proofs.Numbers.EqualIdsAreApart.{apart}

@@ -1,5 +1,6 @@
 -- What is outstanding: one CON to a place, each as it was begun, sent again by ticks alone.
-use Rattle.std.proofs.Common.{◌≡◌, ◌⊎◌, inl, inr, ⊎_elim, ℕ, ◌≤◌, Bool, true, false, Some, None, List, [], ◌∷◌, refl, ap, sym, ◌∙◌, subst, arith, cond, option_to_list}
+use Rattle.std.proofs.Common.{◌≡◌, ◌⊎◌, inl, inr, ⊎_elim, ℕ, ◌≤◌, Bool, true, false, Some, None, List, [], ◌∷◌, refl}
+use Rattle.std.proofs.Common.{ap, sym, ◌∙◌, subst, arith, cond, option_to_list}
 use Rattle.std.proofs.lemmas.Bool.Decides.{nat_tests}
 use Rattle.std.specs.Cmp.Lexicographic.{bytes_decides}
 use Rattle.std.specs.List.{filter_map}
@@ -8,7 +9,9 @@ use Rattle.coap_types.specs.declared.endpoint.Endpoint.{Endpoint}
 use Rattle.coap_types.proofs.Facts.Traces.{Ever_append, Ever_map}
 use Rattle.coap_types.specs.SameEndpoint.{same_endpoint}
 use Rattle.coap_types.proofs.Facts.Endpoints.{same_endpoint_is}
-use Rattle.coap_layer.specs.Trace.{Call, Receive, Reply, Confirm, Plain, Settle, Ticks, Take, Room, AsksFree, Pass, Answer, Becomes, Nothing, Is, Sent, Busied, NoIds, Idle, Copied, Expired, Gives, Entry}
+use Rattle.coap_layer.specs.Trace.{Call, Receive, Reply, Confirm, Plain, Settle, Ticks, Take, Room, AsksFree, Pass}
+use Rattle.coap_layer.specs.Trace.{Answer, Becomes, Nothing, Is, Sent, Busied, NoIds, Idle, Copied, Expired, Gives}
+use Rattle.coap_layer.specs.Trace.{Entry}
 use Rattle.coap_layer.specs.Words.{clock, Open, ends_in, copies_in, left_by, begun, outstanding}
 use Rattle.coap_layer.specs.Rows.{Busy, LayerLaw, IsFirst}
 use Rattle.coap_layer.specs.Sends.{IsIn, OneOpen}

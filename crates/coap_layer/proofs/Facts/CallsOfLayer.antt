@@ -3,7 +3,7 @@ use Rattle.std.proofs.Common.{◌≡◌, ℕ, Some, List, [], ◌∷◌, ◌++�
 use Rattle.std.specs.List.{filter_map, cons_option}
 use Rattle.std.proofs.lemmas.List.{append-nil}
 use Rattle.coap_layer.specs.Machine.State as L
-use Rattle.coap_layer.specs.Machine.State.{answer_of, out_of, moment, made, tick_of, is_failed, is_copy_due}
+use Rattle.coap_layer.specs.Machine.State.{out_of, moment}
 use Rattle.coap_layer.specs.Trace.{Packet, Call, Answer, Entry}
 use Rattle.coap_layer.specs.Words.{Open, left_by, begun_in}
 

@@ -9,7 +9,7 @@ use Rattle.coap_types.specs.declared.role.Role.TheVariants as role
 use Rattle.coap_codec.specs.Message.{Message, Spells}
 use Rattle.coap_layer.specs.Arrivals.{Arrival, Unreadable, Faulted, Whole, Shows, arrival_at}
 use Rattle.coap_layer.specs.Machine.State as L
-use Rattle.coap_layer.specs.Machine.State.{answer_of, answer_to}
+use Rattle.coap_layer.specs.Machine.State.{answer_to}
 use Rattle.coap_layer.specs.Machine.Table.{up_of, again_or}
 use Rattle.coap_layer.specs.Trace as T
 use Rattle.coap_layer.specs.Words.{is_con}

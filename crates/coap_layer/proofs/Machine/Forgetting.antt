@@ -1,18 +1,25 @@
 -- What is no longer live decides nothing; and one call more.
-use Rattle.std.proofs.Common.{◌≡◌, ℕ, ◌+◌, ◌≤◌, nat_le, Bool, true, false, Option, List, [], ◌∷◌, ◌++◌, length, filter, map, drop, refl, ap, sym, ◌∙◌, subst, arith, cond, option_to_list}
+use Rattle.std.proofs.Common.{◌≡◌, ℕ, ◌+◌, ◌≤◌, nat_le, Bool, true, false, Option, List, [], ◌∷◌, ◌++◌, length, filter}
+use Rattle.std.proofs.Common.{map, drop, refl, ap, sym, ◌∙◌, subst, arith, cond, option_to_list}
 use Rattle.std.specs.List.{filter_map}
 use Rattle.coap_types.specs.declared.endpoint.Endpoint.{Endpoint}
 use Rattle.coap_types.specs.Roles.{role_of}
-use Rattle.coap_layer.specs.Trace.{Packet, Call, Receive, Reply, Confirm, Plain, Settle, Ticks, Take, Room, AsksFree, Pass, Disposition, Dropped, Replayed, Rejected, Request, Response, Acked, Reset, Answer, Becomes, Entry}
+use Rattle.coap_layer.specs.Trace.{Packet, Call, Receive, Reply, Confirm, Plain, Settle, Ticks, Take, Room, AsksFree}
+use Rattle.coap_layer.specs.Trace.{Pass, Disposition, Dropped, Replayed, Rejected, Request, Response, Acked, Reset}
+use Rattle.coap_layer.specs.Trace.{Answer, Becomes, Entry}
 use Rattle.coap_layer.specs.Machine.Table.{up_of}
 use Rattle.coap_layer.specs.Arrivals.{Arrival, Unreadable, Faulted, Whole, arrival_at}
 use Rattle.coap_layer.specs.Words.{Incoming, awaits_in, issued, clock, is_con, left_by, begun, taken, takes_in}
-use Rattle.coap_layer.specs.Machine.State.{State, May, history, Arrived, is_live, is_of, is_remembered, is_full, is_free, is_outstanding, reply_of, replay, to_packets, sorted_by, answer_to, answer_of, out_to, out_of, stores, newly, next_after, uses_after, after, forgotten, moment, made, Step}
+use Rattle.coap_layer.specs.Machine.State.{State, May, history, Arrived, is_live, is_of, is_remembered, is_full}
+use Rattle.coap_layer.specs.Machine.State.{is_free, is_outstanding, reply_of, replay, to_packets, sorted_by, answer_to}
+use Rattle.coap_layer.specs.Machine.State.{answer_of, out_to, out_of, stores, newly, next_after, uses_after, after}
+use Rattle.coap_layer.specs.Machine.State.{forgotten, moment, made, Step}
 use Rattle.coap_layer.specs.Rows.{Stands, LayerLaw}
 use Rattle.coap_layer.specs.Machine.LayerLed.{LayerLed}
 use Rattle.coap_types.specs.declared.transmission.TheConstants.{EXCHANGE_LIFETIME_MS as exchange_lifetime}
 use Rattle.coap_layer.specs.declared.dedup.TheConstants.{MAX_REMEMBERED as max_remembered}
-use Rattle.coap_layer.proofs.ListLemmas.{le_true, true_le, and_left, filter_implied, any_implied, filter_more, filter_changed}
+use Rattle.coap_layer.proofs.ListLemmas.{le_true, true_le, and_left, filter_implied, any_implied, filter_more}
+use Rattle.coap_layer.proofs.ListLemmas.{filter_changed}
 use Rattle.coap_layer.proofs.Machine.WhatIsRemembered.{same_live}
 use Rattle.coap_layer.proofs.Machine.RowsAreSteps.{IsMoment, row_of}
 

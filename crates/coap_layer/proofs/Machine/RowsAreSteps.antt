@@ -1,5 +1,6 @@
 -- The rows and the steps of the state say the same.
-use Rattle.std.proofs.Common.{◌≡◌, ◌≢◌, ◌⊎◌, inl, inr, ⊎_elim, ℕ, ◌≤◌, nat_le, Bool, true, false, Option, Some, None, List, [], ◌∷◌, refl, ap, sym, ◌∙◌, subst, arith, ◌&&◌, not, cond}
+use Rattle.std.proofs.Common.{◌≡◌, ◌≢◌, ◌⊎◌, inl, inr, ⊎_elim, ℕ, ◌≤◌, nat_le, Bool, true, false, Option, Some, None}
+use Rattle.std.proofs.Common.{List, [], ◌∷◌, refl, ap, sym, ◌∙◌, subst, arith, ◌&&◌, not, cond}
 use Rattle.coap_types.specs.declared.endpoint.Endpoint.{Endpoint}
 use Rattle.coap_types.specs.declared.message.Kind.{Kind}
 use Rattle.coap_types.specs.declared.message.Kind.TheVariants.{Con, Non, Ack, Rst}
@@ -7,15 +8,23 @@ use Rattle.coap_types.specs.Roles.{role_of}
 use Rattle.coap_types.specs.declared.role.Role.{Role}
 use Rattle.coap_types.specs.declared.role.Role.TheVariants as role
 use Rattle.coap_types.specs.SameEndpoint.{same_endpoint}
-use Rattle.coap_layer.specs.Trace.{Content, with_head, Packet, Call, Receive, Reply, Confirm, Plain, Settle, Ticks, Take, Room, AsksFree, Pass, Disposition, Dropped, Replayed, Rejected, Request, Response, Acked, Reset, Answer, Becomes, Is, Sent, Busied, Entry}
+use Rattle.coap_layer.specs.Trace.{Content, with_head, Packet, Call, Receive, Reply, Confirm, Plain, Settle, Ticks}
+use Rattle.coap_layer.specs.Trace.{Take, Room, AsksFree, Pass, Disposition, Dropped, Replayed, Rejected, Request}
+use Rattle.coap_layer.specs.Trace.{Response, Acked, Reset, Answer, Becomes, Is, Sent, Busied, Entry}
 use Rattle.coap_layer.specs.Machine.Table.{up_of, again_or}
 use Rattle.coap_layer.specs.Arrivals.{Arrival, Unreadable, Faulted, Whole, Shows, arrival_at}
 use Rattle.coap_types.specs.Bytes.{AreBytes}
 use Rattle.coap_codec.specs.Spelling.{message_bytes}
 use Rattle.coap_layer.specs.Ids as ids
-use Rattle.coap_layer.specs.Words.{Incoming, clock, numbers, Remembered, remembered, was_con, replied, is_con, Open, is_to, outstanding}
-use Rattle.coap_layer.specs.Machine.State.{State, May, history, answer_of, out_of, answer_to, out_to, sorted_by, sending, sent_out, replay, is_outstanding, is_busy, is_remembered, is_full, is_free, to_packets, next_id, uses, tick_of}
-use Rattle.coap_layer.specs.Rows.{Outstanding, Busy, MayGive, Withholds, Ignores, ignores_non, ignores_reset, ignores_ack, ignores_unmatched, ignores_new, Drops, HandedAs, Sorts, rejects, drops, takes_ack, takes_reset, takes_answer, replays, hands_over, Arrives, stored, SendsAs, RefusesIds, Confirms, Turns, copies, expires, rests, Row, Stands, LayerLaw}
+use Rattle.coap_layer.specs.Words.{Incoming, clock, numbers, Remembered, remembered, was_con, replied, is_con, Open}
+use Rattle.coap_layer.specs.Words.{is_to, outstanding}
+use Rattle.coap_layer.specs.Machine.State.{State, May, history, answer_of, out_of, answer_to, out_to, sorted_by}
+use Rattle.coap_layer.specs.Machine.State.{sending, sent_out, replay, is_outstanding, is_busy, is_remembered, is_full}
+use Rattle.coap_layer.specs.Machine.State.{is_free, to_packets, next_id, uses, tick_of}
+use Rattle.coap_layer.specs.Rows.{Outstanding, Busy, MayGive, Withholds, Ignores, ignores_non, ignores_reset}
+use Rattle.coap_layer.specs.Rows.{ignores_ack, ignores_unmatched, ignores_new, Drops, HandedAs, Sorts, rejects, drops}
+use Rattle.coap_layer.specs.Rows.{takes_ack, takes_reset, takes_answer, replays, hands_over, Arrives, stored, SendsAs}
+use Rattle.coap_layer.specs.Rows.{RefusesIds, Confirms, Turns, copies, expires, rests, Row, Stands, LayerLaw}
 use Rattle.coap_layer.specs.declared.message_id.TheConstants.{GROUP_SIZE as group_size}
 use Rattle.coap_layer.proofs.ListLemmas.{le_true, true_le, any_ever, ever_any}
 use Rattle.coap_layer.proofs.Machine.WhatIsRemembered.{remembered_of, of_remembered, count_is}

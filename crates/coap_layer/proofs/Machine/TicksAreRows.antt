@@ -1,13 +1,16 @@
 -- The tick's step, by the words and by the table.
-use Rattle.std.proofs.Common.{◌≡◌, ◌⊎◌, inl, inr, ⊎_elim, ℕ, ◌*◌, ◌-◌, ◌<◌, ◌≤◌, Bool, true, false, List, [], ◌∷◌, refl, ap, sym, ◌∙◌, subst, cond}
+use Rattle.std.proofs.Common.{◌≡◌, ◌⊎◌, inl, inr, ⊎_elim, ℕ, ◌*◌, ◌-◌, ◌<◌, ◌≤◌, Bool, true, false, List, [], ◌∷◌, refl}
+use Rattle.std.proofs.Common.{ap, sym, ◌∙◌, subst, cond}
 use Rattle.coap_types.specs.Past.{Ever}
-use Rattle.coap_types.specs.declared.transmission.TheConstants.{MAX_RETRANSMIT as max_retransmit, FAILURE_TIMEOUTS as failure_timeouts}
+use Rattle.coap_types.specs.declared.transmission.TheConstants.{MAX_RETRANSMIT as max_retransmit}
+use Rattle.coap_types.specs.declared.transmission.TheConstants.{FAILURE_TIMEOUTS as failure_timeouts}
 use Rattle.coap_layer.specs.BackOff.{factors}
 use Rattle.coap_layer.specs.Trace.{Packet, Answer, Idle, Copied, Expired}
 use Rattle.coap_layer.specs.Words.{Open}
 use Rattle.coap_layer.specs.Machine.State.{is_due, is_copy_due, is_failed, tick_of, copies}
 use Rattle.coap_layer.specs.Rows.{Fails, CopyDue, HasStep, IsFirst}
-use Rattle.coap_layer.proofs.ListLemmas.{le_true, true_le, lt_true, true_lt, and_left, and_right, both, any_ever, ever_any}
+use Rattle.coap_layer.proofs.ListLemmas.{le_true, true_le, lt_true, true_lt, and_left, and_right, both, any_ever}
+use Rattle.coap_layer.proofs.ListLemmas.{ever_any}
 
 module _ (now : ℕ) where
   abbrev Due : Open → ℕ → Type 0

@@ -1,15 +1,20 @@
 -- The Message IDs that a layer gives, in its law and in its state.
-use Rattle.std.proofs.Common.{◌≡◌, ◌⊎◌, inl, inr, ⊎_elim, ℕ, ◌+◌, ◌/◌, ◌%◌, ◌<◌, ◌≤◌, ◌==◌, nat_lt, Bool, true, false, not, ◌||◌, Option, Some, None, List, [], ◌∷◌, ◌++◌, replicate, slice_get, refl, ap, sym, ◌∙◌, subst, arith, zero, suc}
+use Rattle.std.proofs.Common.{◌≡◌, ◌⊎◌, inl, inr, ⊎_elim, ℕ, ◌+◌, ◌/◌, ◌%◌, ◌<◌, ◌≤◌, ◌==◌, nat_lt, Bool, true, false}
+use Rattle.std.proofs.Common.{not, ◌||◌, Option, Some, None, List, [], ◌∷◌, ◌++◌, replicate, slice_get, refl, ap, sym}
+use Rattle.std.proofs.Common.{◌∙◌, subst, arith, zero, suc}
 use Rattle.std.proofs.lemmas.Bool.Decides.{nat_tests}
 use Rattle.coap_types.specs.declared.endpoint.Endpoint.{Endpoint}
 use Rattle.coap_types.specs.declared.message.Kind.{Kind}
 use Rattle.coap_types.specs.declared.message.Kind.TheVariants.{Con, Non, Ack, Rst}
 use Rattle.coap_layer.specs.Arrivals.{Arrival, Unreadable, Faulted, Whole}
-use Rattle.coap_layer.specs.Ids.{Issued, upcoming, last_use, IsRested, IsHeld, MayGive, Withholds, Gives, latest, NumbersLaw}
+use Rattle.coap_layer.specs.Ids.{Issued, upcoming, last_use, IsRested, IsHeld, MayGive, Withholds, Gives, latest}
+use Rattle.coap_layer.specs.Ids.{NumbersLaw}
 use Rattle.coap_layer.specs.Machine.IdState.{AreUses}
-use Rattle.coap_layer.specs.Trace.{Content, Call, Receive, Reply, Confirm, Plain, Settle, Ticks, Take, Room, AsksFree, Pass, Answer, Sent, Entry}
+use Rattle.coap_layer.specs.Trace.{Content, Call, Receive, Reply, Confirm, Plain, Settle, Ticks, Take, Room, AsksFree}
+use Rattle.coap_layer.specs.Trace.{Pass, Answer, Sent, Entry}
 use Rattle.coap_layer.specs.Words.{Incoming, clock, issued_by, issued, numbers}
-use Rattle.coap_layer.specs.Rows.{LayerLaw, Row, Arrives, Sorts, HandedAs, rejects, drops, takes_ack, takes_reset, takes_answer, replays, hands_over, SendsAs, RefusesIds, Turns, copies, expires, rests}
+use Rattle.coap_layer.specs.Rows.{LayerLaw, Row, Arrives, Sorts, HandedAs, rejects, drops, takes_ack, takes_reset}
+use Rattle.coap_layer.specs.Rows.{takes_answer, replays, hands_over, SendsAs, RefusesIds, Turns, copies, expires, rests}
 use Rattle.coap_layer.specs.Machine.State.{next_after, uses_after, next_id, uses, is_rested, is_free}
 use Rattle.coap_types.specs.declared.transmission.TheConstants.{ID_REUSE_AFTER_MS as id_reuse_after}
 use Rattle.coap_layer.specs.declared.message_id.TheConstants.{GROUP_SIZE as group_size}

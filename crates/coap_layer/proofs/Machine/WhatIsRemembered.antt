@@ -1,12 +1,15 @@
 -- The table of arrivals and what the trace says of it.
-use Rattle.std.proofs.Common.{◌≡◌, ℕ, ◌+◌, nat_le, Bool, true, false, Option, Some, None, List, [], ◌∷◌, length, filter, map, refl, ap, sym, ◌∙◌, arith, ◌&&◌, ◌||◌, cond, if◌then◌else◌}
+use Rattle.std.proofs.Common.{◌≡◌, ℕ, ◌+◌, nat_le, Bool, true, false, Option, Some, None, List, [], ◌∷◌, length, filter}
+use Rattle.std.proofs.Common.{map, refl, ap, sym, ◌∙◌, arith, ◌&&◌, ◌||◌, cond, if◌then◌else◌}
 use Rattle.std.specs.List.{list_any}
 use Rattle.coap_types.specs.declared.endpoint.Endpoint.{Endpoint}
 use Rattle.coap_layer.specs.Trace.{Entry}
-use Rattle.coap_layer.specs.Words.{Incoming, taken, is_from, hands_up, HandsUpSince, Remembered, remembered, is_con, reply_in}
+use Rattle.coap_layer.specs.Words.{Incoming, taken, is_from, hands_up, HandsUpSince, Remembered, remembered, is_con}
+use Rattle.coap_layer.specs.Words.{reply_in}
 use Rattle.coap_layer.specs.Machine.State.{arrivals, Arrived, stores, newly, is_live, is_of, is_remembered}
 use Rattle.coap_types.specs.declared.transmission.TheConstants.{EXCHANGE_LIFETIME_MS as exchange_lifetime}
-use Rattle.coap_layer.proofs.ListLemmas.{le_true, true_le, and_left, and_right, both, or_comm, any_append, any_changed, filter_more, filter_changed, length_map, length_append, any_ever, ever_any}
+use Rattle.coap_layer.proofs.ListLemmas.{le_true, true_le, and_left, and_right, both, or_comm, any_append, any_changed}
+use Rattle.coap_layer.proofs.ListLemmas.{filter_more, filter_changed, length_map, length_append, any_ever, ever_any}
 
 -- a reply changes nothing of an arrival but its reply
 module _ (e : Entry) (a : Arrived) where

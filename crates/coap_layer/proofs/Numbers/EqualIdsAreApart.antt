@@ -1,10 +1,12 @@
 -- The numbers of a source, and that equal ones are far apart.
-use Rattle.std.proofs.Common.{◌≡◌, ◌≢◌, ℕ, ◌+◌, ◌/◌, ◌%◌, ◌<◌, ◌≤◌, ◌==◌, inl, inr, Option, Some, None, Bool, true, false, List, [], ◌∷◌, refl, ap, sym, ◌∙◌, subst, arith, ◌++◌, ⊎_elim, if◌then◌else◌}
+use Rattle.std.proofs.Common.{◌≡◌, ◌≢◌, ℕ, ◌+◌, ◌/◌, ◌%◌, ◌<◌, ◌≤◌, ◌==◌, inl, inr, Option, Some, None, Bool, true}
+use Rattle.std.proofs.Common.{false, List, [], ◌∷◌, refl, ap, sym, ◌∙◌, subst, arith, ◌++◌, ⊎_elim, if◌then◌else◌}
 use Rattle.std.proofs.lemmas.Bool.Decides.{nat_tests}
 use native.Mathlib.Decide.{dec_le}
 use Prim.{yes, no}
 use Rattle.coap_types.specs.Past.{Ever}
-use Rattle.coap_layer.specs.Ids.{Issued, upcoming, last_use, IsRested, IsHeld, MayGive, latest, NumbersLaw, AreApart, IdCall, Next, IsFree, IdEntry, clock, issued_in, numbers, IdRow, Ids, IdsAreExact}
+use Rattle.coap_layer.specs.Ids.{Issued, upcoming, last_use, IsRested, IsHeld, MayGive, latest, NumbersLaw, AreApart}
+use Rattle.coap_layer.specs.Ids.{IdCall, Next, IsFree, IdEntry, clock, issued_in, numbers, IdRow, Ids, IdsAreExact}
 use Rattle.coap_types.specs.declared.transmission.TheConstants.{ID_REUSE_AFTER_MS as id_reuse_after}
 use Rattle.coap_layer.specs.declared.message_id.TheConstants.{GROUP_SIZE as group_size}
 use Rattle.coap_types.specs.declared.message.TheConstants.{MESSAGE_IDS as message_ids}

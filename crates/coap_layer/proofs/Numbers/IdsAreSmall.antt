@@ -1,5 +1,5 @@
 -- Each Message ID that is given has 16 bits.
-use Rattle.std.proofs.Common.{◌≡◌, ◌<◌, ◌^◌, ℕ, List, [], ◌∷◌, ◌++◌, subst, arith}
+use Rattle.std.proofs.Common.{◌≡◌, ◌<◌, ℕ, List, [], ◌∷◌, ◌++◌, subst, arith}
 use Rattle.coap_layer.specs.Ids.{Issued, NumbersLaw}
 use Rattle.coap_layer.specs.Trace.{Sent, Entry}
 use Rattle.coap_layer.specs.Words.{numbers}

@@ -1,16 +1,21 @@
 -- What is sent under one Message ID within 400 s is sent by one entry.
-use Rattle.std.proofs.Common.{◌≡◌, inl, inr, ℕ, ◌+◌, ◌%◌, ◌≤◌, Option, Some, None, List, [], ◌∷◌, ◌++◌, refl, ap, sym, ◌∙◌, subst, arith}
+use Rattle.std.proofs.Common.{◌≡◌, inl, inr, ℕ, ◌+◌, ◌%◌, ◌≤◌, Option, Some, None, List, [], ◌∷◌, ◌++◌, refl, ap, sym}
+use Rattle.std.proofs.Common.{◌∙◌, subst, arith}
 use Rattle.coap_types.specs.Past.{Ever}
 use Rattle.coap_types.specs.declared.endpoint.Endpoint.{Endpoint}
 use Rattle.coap_types.specs.declared.message.Kind.TheVariants.{Con}
 use Rattle.coap_types.proofs.Facts.Traces.{Ever_map, Ever_out, forget}
 use Rattle.coap_codec.specs.Spelling.{message_bytes}
 use Rattle.coap_layer.specs.Ids.{Issued, AreApart}
-use Rattle.coap_layer.specs.Trace.{Content, with_head, Call, Receive, Reply, Confirm, Plain, Settle, Ticks, Take, Room, AsksFree, Pass, Answer, Becomes, Nothing, Is, Sent, Busied, NoIds, Idle, Copied, Expired, Gives, Entry}
+use Rattle.coap_layer.specs.Trace.{Content, with_head, Call, Receive, Reply, Confirm, Plain, Settle, Ticks, Take, Room}
+use Rattle.coap_layer.specs.Trace.{AsksFree, Pass, Answer, Becomes, Nothing, Is, Sent, Busied, NoIds, Idle, Copied}
+use Rattle.coap_layer.specs.Trace.{Expired, Gives, Entry}
 use Rattle.coap_layer.specs.Words.{Open, sent_by, open_of, begun_in, begun, issued_by, issued, numbers}
 use Rattle.coap_layer.specs.Rows.{LayerLaw}
 use Rattle.coap_layer.specs.Sends.{Begins}
-use Rattle.coap_types.specs.declared.transmission.TheConstants.{ID_REUSE_AFTER_MS as id_reuse_after, ACK_TIMEOUT_MS as ack_timeout, TIMEOUT_VALUES as timeout_values}
+use Rattle.coap_types.specs.declared.transmission.TheConstants.{ID_REUSE_AFTER_MS as id_reuse_after}
+use Rattle.coap_types.specs.declared.transmission.TheConstants.{ACK_TIMEOUT_MS as ack_timeout}
+use Rattle.coap_types.specs.declared.transmission.TheConstants.{TIMEOUT_VALUES as timeout_values}
 use Rattle.coap_layer.proofs.Copies.CopiesInTime.{ids_apart}
 
 sent_is : (a : Answer) (id : ℕ) → sent_by a ≡ Some id → a ≡ Sent id

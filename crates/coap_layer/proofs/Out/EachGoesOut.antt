@@ -1,5 +1,6 @@
 -- What goes out, by the rows.
-use Rattle.std.proofs.Common.{◌≡◌, ◌⊎◌, inl, inr, ⊎_elim, ℕ, ◌+◌, ◌%◌, ◌<◌, Bool, true, false, ◌&&◌, cond, Option, Some, None, List, [], ◌∷◌, refl, ap, sym, ◌∙◌, subst, arith}
+use Rattle.std.proofs.Common.{◌≡◌, ◌⊎◌, inl, inr, ⊎_elim, ℕ, ◌+◌, ◌%◌, ◌<◌, Bool, true, false, ◌&&◌, cond, Option, Some}
+use Rattle.std.proofs.Common.{None, List, [], ◌∷◌, refl, ap, sym, ◌∙◌, subst, arith}
 use Rattle.coap_types.specs.Past.{Always, Since}
 use Rattle.coap_types.specs.declared.endpoint.Endpoint.{Endpoint}
 use Rattle.coap_types.specs.declared.message.Kind.{Kind}
@@ -7,10 +8,15 @@ use Rattle.coap_types.specs.declared.message.Kind.TheVariants.{Con, Non, Ack, Rs
 use Rattle.coap_codec.specs.Message.{Spells}
 use Rattle.coap_codec.specs.Spelling.{message_bytes}
 use Rattle.coap_layer.specs.Arrivals.{Arrival, Unreadable, Faulted, Whole, Shows}
-use Rattle.coap_layer.specs.Trace.{Content, with_head, Packet, Call, Receive, Reply, Confirm, Plain, Settle, Ticks, Take, Room, AsksFree, Pass, Answer, Copied, Entry}
-use Rattle.coap_layer.specs.Words.{Incoming, is_con, was_con, hands_up, reply_in, replied, Open, sent_by, open_of, begun_in, begun, outstanding, numbers, copies_in}
-use Rattle.coap_layer.specs.Rows.{Stands, LayerLaw, Row, Arrives, Sorts, rejects, drops, takes_ack, takes_reset, takes_answer, replays, hands_over, IsSpelled, Confirms, SendsAs, RefusesIds, copies, expires, rests, HasStep, Fails, CopyDue, Copies}
-use Rattle.coap_layer.specs.Sends.{IsIn, as_begun, SendsIt, packet_of, GoesAlike, AllAlike, SpellsCon, ConsSpelled, GoesOut, first, copy, plain, reply, reset, EachGoesOut, Begins}
+use Rattle.coap_layer.specs.Trace.{Content, with_head, Packet, Call, Receive, Reply, Confirm, Plain, Settle, Ticks}
+use Rattle.coap_layer.specs.Trace.{Take, Room, AsksFree, Pass, Answer, Copied, Entry}
+use Rattle.coap_layer.specs.Words.{Incoming, is_con, was_con, hands_up, reply_in, replied, Open, sent_by, open_of}
+use Rattle.coap_layer.specs.Words.{begun_in, begun, outstanding, numbers, copies_in}
+use Rattle.coap_layer.specs.Rows.{Stands, LayerLaw, Row, Arrives, Sorts, rejects, drops, takes_ack, takes_reset}
+use Rattle.coap_layer.specs.Rows.{takes_answer, replays, hands_over, IsSpelled, Confirms, SendsAs, RefusesIds, copies}
+use Rattle.coap_layer.specs.Rows.{expires, rests, HasStep, Fails, CopyDue, Copies}
+use Rattle.coap_layer.specs.Sends.{IsIn, as_begun, SendsIt, packet_of, GoesAlike, AllAlike, SpellsCon, ConsSpelled}
+use Rattle.coap_layer.specs.Sends.{GoesOut, first, copy, plain, reply, reset, EachGoesOut, Begins}
 use Rattle.coap_layer.proofs.Copies.CopiesInTime.{was_begun, begun_by, in_first, copies_row}
 use Rattle.coap_layer.proofs.Copies.WhatIsOpen.{some_in, first_has, one_open, copied_by, place_same}
 use Rattle.coap_layer.proofs.Numbers.EqualIdsAreApart.{small}
@@ -18,7 +24,8 @@ use Rattle.coap_layer.proofs.Numbers.OneEntryForAnId.{begins_of}
 use Rattle.coap_layer.proofs.ListLemmas.{both}
 use Rattle.coap_types.proofs.Facts.Traces.{Ever_map}
 use Rattle.std.proofs.lemmas.Bool.Decides.{nat_tests}
-use Rattle.coap_types.specs.declared.transmission.TheConstants.{ACK_TIMEOUT_MS as ack_timeout, TIMEOUT_VALUES as timeout_values}
+use Rattle.coap_types.specs.declared.transmission.TheConstants.{ACK_TIMEOUT_MS as ack_timeout}
+use Rattle.coap_types.specs.declared.transmission.TheConstants.{TIMEOUT_VALUES as timeout_values}
 use Rattle.coap_types.specs.declared.message.TheConstants.{MESSAGE_IDS as message_ids}
 
 -- a CON that begins goes out, and is spelled so

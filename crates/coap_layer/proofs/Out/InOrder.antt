@@ -1,8 +1,10 @@
 -- What is taken was sent, in the order of sending.
-use Rattle.std.proofs.Common.{◌≡◌, ◌⊎◌, inl, inr, ⊎_elim, ℕ, zero, suc, Some, List, [], ◌∷◌, ◌++◌, drop, slice_get, refl, ap, sym, ◌∙◌, subst, append_assoc}
+use Rattle.std.proofs.Common.{◌≡◌, ◌⊎◌, inl, inr, ⊎_elim, ℕ, zero, suc, Some, List, [], ◌∷◌, ◌++◌, drop, slice_get}
+use Rattle.std.proofs.Common.{refl, ap, sym, ◌∙◌, subst, append_assoc}
 use Rattle.coap_types.specs.Past.{Ever}
 use Rattle.coap_types.proofs.Facts.Traces.{Ever_append}
-use Rattle.coap_layer.specs.Trace.{Packet, Call, Receive, Reply, Confirm, Plain, Settle, Ticks, Take, Room, AsksFree, Pass, Answer, Gives, Entry}
+use Rattle.coap_layer.specs.Trace.{Packet, Call, Receive, Reply, Confirm, Plain, Settle, Ticks, Take, Room, AsksFree}
+use Rattle.coap_layer.specs.Trace.{Pass, Answer, Gives, Entry}
 use Rattle.coap_layer.specs.Words.{takes_in, waiting}
 use Rattle.coap_layer.specs.Rows.{LayerLaw, Row}
 use Rattle.coap_layer.specs.Sends.{IsIn, collected_in, collected, InOrder, TakenSent, TakenSince}

@@ -1,5 +1,6 @@
 -- What a verdict on an arrival does (RFC 7252, sections 4.2, 4.3 and 4.5).
-use Rattle.std.specs.Prelude.{◌≡◌, ℕ, Bool, true, false, Option, Some, None, List, [], ◌∷◌, Result, Ok, Err, if◌then◌else◌, ◌&&◌}
+use Rattle.std.specs.Prelude.{◌≡◌, ℕ, Bool, true, false, Option, Some, None, List, [], ◌∷◌, Result, Ok, Err}
+use Rattle.std.specs.Prelude.{if◌then◌else◌, ◌&&◌}
 use Rattle.std.specs.List.{filter_map}
 use Rattle.coap_types.specs.declared.endpoint.Endpoint.{Endpoint}
 use Rattle.coap_types.specs.declared.message.Id.{Id}
@@ -12,7 +13,8 @@ use Rattle.coap_layer.specs.declared.arrival.Verdict.TheVariants as verdict
 use Rattle.coap_layer.specs.declared.arriving.Arriving.{Arriving}
 use Rattle.coap_layer.specs.Arrivals.{Arrival, Whole, by_head}
 use Rattle.coap_layer.specs.Rows.{reset_to}
-use Rattle.coap_layer.specs.Machine.State.{State, Arrived, answer_to, out_to, is_remembered, newly, reply_of, to_packets}
+use Rattle.coap_layer.specs.Machine.State.{State, Arrived, answer_to, out_to, is_remembered, newly, reply_of}
+use Rattle.coap_layer.specs.Machine.State.{to_packets}
 use Rattle.coap_layer.specs.Trace.{Disposition, Becomes, Dropped, Rejected, Receive, Packet}
 use Rattle.coap_layer.specs.Machine.Verdicts.{answer_by}
 use Rattle.coap_layer.specs.Words.{Awaited, Open, awaits_in, ends_in, is_con, is_kept, same, taken_in}

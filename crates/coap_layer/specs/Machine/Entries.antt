@@ -1,5 +1,6 @@
 -- What a layer remembers (RFC 7252, section 4.5).
-use Rattle.std.specs.Prelude.{◌≡◌, ◌≤◌, ◌<◌, ◌+◌, ◌&&◌, ◌==◌, nat_le, if◌then◌else◌, ℕ, Bool, true, false, Option, Some, None, List, [], ◌++◌, map, option_to_list}
+use Rattle.std.specs.Prelude.{◌≡◌, ◌≤◌, ◌<◌, ◌+◌, ◌&&◌, ◌==◌, nat_le, if◌then◌else◌, ℕ, Bool, true, false, Option, Some}
+use Rattle.std.specs.Prelude.{None, List, [], ◌++◌, map, option_to_list}
 use Rattle.std.specs.List.{AllByRecursion}
 use Rattle.std.specs.Option.{option_map}
 use Rattle.std.specs.declared.vec.Vec.{Vec}

@@ -1,5 +1,7 @@
 -- What a source of Message IDs keeps of its calls.
-use Rattle.std.specs.Prelude.{◌≡◌, ℕ, ◌<◌, max, Bool, Option, Some, None, List, slice_get}
+use Rattle.std.specs.Prelude.{◌≡◌, ℕ, ◌<◌, max, Bool, Option, Some, None, List, map, slice_get}
+use Rattle.std.specs.Option.{option_map}
+use Rattle.coap_types.specs.declared.endpoint.Moment.{Moment}
 use Rattle.coap_types.specs.declared.message.Id.{Id}
 use Rattle.coap_layer.specs.Ids.{Issued, IdEntry, Next, IsFree, Ids, clock, numbers, upcoming, last_use}
 use Rattle.coap_layer.specs.declared.message_id.TheConstants.{GROUPS as groups}
@@ -34,3 +36,10 @@ next_entry t now answer = record { at = max (clock t) now; call = Next (number_i
 
 abbrev pub free_entry : List IdEntry → ℕ → Bool → IdEntry
 free_entry t now answer = record { at = max (clock t) now; call = IsFree answer }
+
+-- when groups were last used, as a source keeps it
+abbrev pub use_of : Option Moment → Option ℕ
+use_of last = option_map (λ (m : Moment). m.0) last
+
+abbrev pub uses_of : List (Option Moment) → List (Option ℕ)
+uses_of uses = map use_of uses

@@ -1,5 +1,7 @@
 -- What a layer keeps, and the exact step of each call.
-use Rattle.std.specs.Prelude.{◌≡◌, ℕ, ◌+◌, ◌-◌, ◌*◌, ◌/◌, ◌%◌, nat_le, nat_lt, max, Bool, true, Option, Some, None, List, [], ◌∷◌, ◌++◌, length, filter, map, drop, replicate, slice_get, slice_set, if◌then◌else◌, ◌&&◌, ◌||◌, ◌==◌, not, option_to_list}
+use Rattle.std.specs.Prelude.{◌≡◌, ℕ, ◌+◌, ◌-◌, ◌*◌, ◌/◌, ◌%◌, nat_le, nat_lt, max, Bool, true, Option, Some, None}
+use Rattle.std.specs.Prelude.{List, [], ◌∷◌, ◌++◌, length, filter, map, drop, replicate, slice_get, slice_set}
+use Rattle.std.specs.Prelude.{if◌then◌else◌, ◌&&◌, ◌||◌, ◌==◌, not, option_to_list}
 use Rattle.std.specs.List.{list_any, filter_map}
 use Rattle.coap_types.specs.Roles.{role_of}
 use Rattle.coap_types.specs.declared.endpoint.Endpoint.{Endpoint}
@@ -11,11 +13,18 @@ use Rattle.coap_codec.specs.Spelling.{message_bytes}
 use Rattle.coap_layer.specs.BackOff.{factors}
 use Rattle.coap_layer.specs.Arrivals.{Arrival, Unreadable, Faulted, Whole, arrival_at}
 use Rattle.coap_layer.specs.Ids.{Issued}
-use Rattle.coap_layer.specs.Trace.{Content, with_head, Packet, Call, Receive, Reply, Confirm, Plain, Settle, Ticks, Take, Room, AsksFree, Pass, Disposition, Dropped, Replayed, Rejected, Answer, Becomes, Nothing, Is, Sent, Busied, NoIds, Idle, Copied, Expired, Gives, Entry}
+use Rattle.coap_layer.specs.Trace.{Content, with_head, Packet, Call, Receive, Reply, Confirm, Plain, Settle, Ticks}
+use Rattle.coap_layer.specs.Trace.{Take, Room, AsksFree, Pass, Disposition, Dropped, Replayed, Rejected, Answer}
+use Rattle.coap_layer.specs.Trace.{Becomes, Nothing, Is, Sent, Busied, NoIds, Idle, Copied, Expired, Gives, Entry}
 use Rattle.coap_layer.specs.Machine.Table.{up_of}
-use Rattle.coap_layer.specs.Words.{Awaited, awaits, awaits_in, clock, issued, Incoming, outstanding, waiting, Open, is_to, is_con, taken, reply_in, left_by, begun, takes_in}
+use Rattle.coap_layer.specs.Words.{Awaited, awaits, awaits_in, clock, issued, Incoming, outstanding, waiting, Open}
+use Rattle.coap_layer.specs.Words.{is_to, is_con, taken, reply_in, left_by, begun, takes_in}
 use Rattle.coap_layer.specs.Rows.{IsSpelled, reset_to}
-use Rattle.coap_types.specs.declared.transmission.TheConstants.{EXCHANGE_LIFETIME_MS as exchange_lifetime, ID_REUSE_AFTER_MS as id_reuse_after, LAST_RETRANSMISSION_MS as last_retransmission, MAX_RETRANSMIT as max_retransmit, FAILURE_TIMEOUTS as failure_timeouts}
+use Rattle.coap_types.specs.declared.transmission.TheConstants.{EXCHANGE_LIFETIME_MS as exchange_lifetime}
+use Rattle.coap_types.specs.declared.transmission.TheConstants.{ID_REUSE_AFTER_MS as id_reuse_after}
+use Rattle.coap_types.specs.declared.transmission.TheConstants.{LAST_RETRANSMISSION_MS as last_retransmission}
+use Rattle.coap_types.specs.declared.transmission.TheConstants.{MAX_RETRANSMIT as max_retransmit}
+use Rattle.coap_types.specs.declared.transmission.TheConstants.{FAILURE_TIMEOUTS as failure_timeouts}
 use Rattle.coap_layer.specs.declared.dedup.TheConstants.{MAX_REMEMBERED as max_remembered}
 use Rattle.coap_layer.specs.declared.message_id.TheConstants.{GROUP_SIZE as group_size, GROUPS as groups}
 use Rattle.coap_types.specs.declared.message.TheConstants.{MESSAGE_IDS as message_ids}

@@ -8,7 +8,8 @@ use Rattle.coap_layer.specs.declared.up.Tick.{Tick}
 use Rattle.coap_layer.specs.declared.up.Tick.TheVariants as tick
 use Rattle.coap_layer.specs.declared.up.Up.{Up}
 use Rattle.coap_layer.specs.declared.up.Up.TheVariants as up
-use Rattle.coap_layer.specs.Trace.{Disposition, Dropped, Replayed, Rejected, Request, Response, Acked, Reset, Answer, Becomes, Sent, Busied, NoIds, Idle, Copied, Expired, Nothing, Entry}
+use Rattle.coap_layer.specs.Trace.{Disposition, Dropped, Replayed, Rejected, Request, Response, Acked, Reset, Answer}
+use Rattle.coap_layer.specs.Trace.{Becomes, Sent, Busied, NoIds, Idle, Copied, Expired, Nothing, Entry}
 use Rattle.coap_layer.specs.Words.{handed}
 
 abbrev pub disposition_of : Up → Disposition

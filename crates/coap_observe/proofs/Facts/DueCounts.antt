@@ -1,8 +1,10 @@
 -- How many notifications are due, when one is sent and when an observer is removed (RFC 7641, section 4.2).
-use Rattle.std.proofs.Common.{◌≡◌, ℕ, Bool, true, false, not, ◌&&◌, ◌||◌, ◌+◌, ◌≤◌, List, [], ◌∷◌, length, Option, None, Some, if◌then◌else◌, refl, ap, arith}
+use Rattle.std.proofs.Common.{◌≡◌, ℕ, Bool, true, false, not, ◌&&◌, ◌||◌, ◌+◌, ◌≤◌, List, [], ◌∷◌, length, Option, None}
+use Rattle.std.proofs.Common.{Some, if◌then◌else◌, refl, ap, arith}
 use Rattle.std.specs.List.{list_any}
 use Rattle.coap_types.specs.declared.endpoint.Endpoint.{Endpoint}
-use Rattle.coap_observe.specs.Observers.{Observer, AreDistinct, is_of, is_due_of, marked_in, registration, removed, sent_to, unmarked_by}
+use Rattle.coap_observe.specs.Observers.{Observer, AreDistinct, is_of, is_due_of, marked_in, registration, removed}
+use Rattle.coap_observe.specs.Observers.{sent_to, unmarked_by}
 use Rattle.coap_observe.specs.Registrations.{SendLowers, SendKeeps, RemoveNeverRaises}
 use Rattle.coap_observe.proofs.Facts.Registrations.{is_of-decides}
 

@@ -1,13 +1,16 @@
 -- The registration of one endpoint and token in the list after each change.
-use Rattle.std.proofs.Common.{◌≡◌, ◌∙◌, ℕ, Bool, true, false, not, ◌&&◌, ◌<◌, ◌++◌, List, [], ◌∷◌, length, filter, find, Option, None, Some, option_map, if◌then◌else◌, Decides, refl, ap, sym, subst, arith}
+use Rattle.std.proofs.Common.{◌≡◌, ◌∙◌, ℕ, Bool, true, false, not, ◌&&◌, ◌<◌, ◌++◌, List, [], ◌∷◌, length, filter, find}
+use Rattle.std.proofs.Common.{Option, None, Some, option_map, if◌then◌else◌, Decides, refl, ap, sym, subst, arith}
 use Rattle.std.specs.Cmp.Lexicographic.{bytes_decides}
 use Rattle.std.proofs.lemmas.Bool.Decides.{Decides-and}
 use Rattle.std.proofs.lemmas.List.{length-append, length-map}
 use Rattle.coap_types.specs.declared.endpoint.Endpoint.{Endpoint}
 use Rattle.coap_types.proofs.Facts.Endpoints.{same_endpoint-decides}
-use Rattle.coap_observe.specs.Observers.{Observer, AreDistinct, AreRegistrations, changed_at, is_of, marked_by, registered, registration, removed, sent_to, unmarked_by}
+use Rattle.coap_observe.specs.Observers.{Observer, AreDistinct, AreRegistrations, changed_at, is_of, marked_by}
+use Rattle.coap_observe.specs.Observers.{registered, registration, removed, sent_to, unmarked_by}
 use Rattle.coap_observe.specs.Registrations.{IsOther, OthersStay}
-use Rattle.coap_observe.proofs.ListLemmas.{find_before, find_behind, find_gone, find_kept, find_none, find_of_map, length_filter}
+use Rattle.coap_observe.proofs.ListLemmas.{find_before, find_behind, find_gone, find_kept, find_none, find_of_map}
+use Rattle.coap_observe.proofs.ListLemmas.{length_filter}
 
 -- a registration is known by its endpoint and its token
 pub is_of-decides : (to : Endpoint) (token : List ℕ) (o : Observer) → Decides (is_of to token o) ((o.to ≡ to) × (o.token ≡ token))

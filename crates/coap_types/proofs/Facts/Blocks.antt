@@ -5,7 +5,7 @@ use Rattle.coap_types.specs.declared.block.TheConstants.{MAX_NUM as max_num}
 use Rattle.coap_types.specs.declared.szx.TheConstants.{MAX_SZX as max_szx}
 use Rattle.coap_types.specs.BlockValue.{BlockSays, block_by, block_in, block_value}
 use Rattle.coap_types.specs.Bytes.{AreBytes}
-use Rattle.coap_types.proofs.BlockLemmas as B
+use Rattle.coap_types.proofs.Values.BlocksReadBack as B
 
 pub block_says : (bytes : List ℕ) → AreBytes bytes → BlockSays bytes (block_in bytes)
 block_says = B.block_says

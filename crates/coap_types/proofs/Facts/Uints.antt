@@ -1,7 +1,7 @@
 -- Numbers in the uint format: each of 32 bits has one spelling, which is read back.
 use Rattle.std.proofs.Common.{◌≡◌, ℕ, ◌^◌, ◌<◌, ◌≤◌, List, length, Some}
 use Rattle.coap_types.specs.Uint.{IsSpelling, uint, uint_value}
-use Rattle.coap_types.proofs.UintLemmas as U
+use Rattle.coap_types.proofs.Values.UintsHaveOneSpelling as U
 
 pub one_spelling : (xs ys : List ℕ) (number : ℕ) → IsSpelling xs number → IsSpelling ys number → xs ≡ ys
 one_spelling = U.one_spelling

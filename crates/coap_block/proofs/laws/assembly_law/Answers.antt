@@ -1,4 +1,5 @@
-use Rattle.coap_block.proofs.Joining.BlocksOfHistory.{partials_by_history, few_partials, one_for_a_key, whole_by_blocks, none_left, others_stay}
+use Rattle.coap_block.proofs.Joining.BlocksOfHistory.{partials_by_history, few_partials, one_for_a_key, whole_by_blocks}
+use Rattle.coap_block.proofs.Joining.BlocksOfHistory.{none_left, others_stay}
 use Rattle.coap_block.proofs.Joining.ThereExactly.{joins_where_more, there_at_moment, there_by_history}
 use Rattle.coap_block.proofs.laws.assembly_law.Goals as goal
 

@@ -3,9 +3,9 @@ use Rattle.std.proofs.lemmas.List.{drop-drop}
 use Rattle.coap_types.proofs.Facts.Bytes.{are_bytes}
 use Rattle.coap_codec.specs.Header.{token_length}
 use Rattle.coap_codec.specs.Reading.{walk, payload_at, behind_token}
-use Rattle.coap_codec.proofs.SoundBytes.{body_err}
-use Rattle.coap_codec.proofs.ReadAgain.{viewed_body}
-use Rattle.coap_codec.proofs.ReadLemmas.{body_reads}
+use Rattle.coap_codec.proofs.Datagrams.SoundBytes.{body_err}
+use Rattle.coap_codec.proofs.Datagrams.ReadAgain.{viewed_body}
+use Rattle.coap_codec.proofs.Datagrams.ReadAsSpelled.{body_reads}
 use Rattle.coap_codec.proofs.decoder.body.Goals as goal
 
 pub invariant_of-result : goal.invariant_of-result

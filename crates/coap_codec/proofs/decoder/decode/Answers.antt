@@ -1,6 +1,6 @@
 use Rattle.std.proofs.Common.{arith}
 use Rattle.coap_types.proofs.Facts.Bytes.{are_bytes}
-use Rattle.coap_codec.proofs.EveryDatagram.{reads_found, reads_only, reads_none, reads_fault}
+use Rattle.coap_codec.proofs.Datagrams.EveryDatagram.{reads_found, reads_only, reads_none, reads_fault}
 use Rattle.coap_codec.proofs.decoder.decode.Goals as goal
 
 pub returns-clause-found : goal.returns-clause-found

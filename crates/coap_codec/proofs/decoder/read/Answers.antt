@@ -1,7 +1,7 @@
 use Rattle.std.proofs.Common.{sym}
-use Rattle.coap_codec.proofs.FrameLemmas.{frame_none, frame_long}
-use Rattle.coap_codec.proofs.ReadLemmas.{message_fault}
-use Rattle.coap_codec.proofs.EveryDatagram.{reads_body}
+use Rattle.coap_codec.proofs.Datagrams.HeaderAndToken.{frame_none, frame_long}
+use Rattle.coap_codec.proofs.Datagrams.ReadAsSpelled.{message_fault}
+use Rattle.coap_codec.proofs.Datagrams.EveryDatagram.{reads_body}
 use Rattle.coap_codec.proofs.decoder.read.Goals as goal
 
 pub fault-requires : goal.fault-requires

@@ -1,8 +1,8 @@
 use Rattle.std.proofs.Common.{List, ℕ, length, sym, subst, arith}
 use Rattle.coap_codec.specs.Message.{Spells, message}
 use Rattle.coap_codec.specs.Spelling.{message_bytes}
-use Rattle.coap_codec.proofs.RefusedLemmas.{refused_unspelled}
-use Rattle.coap_codec.proofs.SpellLemmas.{front_of, back_of}
+use Rattle.coap_codec.proofs.Spellings.RefusedHasNone.{refused_unspelled}
+use Rattle.coap_codec.proofs.Spellings.WhatIsWritten.{front_of, back_of}
 use Rattle.coap_codec.proofs.encoder.encode.Goals as goal
 
 pub returns-in-Some-clause-none : goal.returns-in-Some-clause-none

@@ -4,8 +4,8 @@ use Rattle.coap_types.specs.CoapOption.{options_of}
 use Rattle.coap_codec.specs.Message.{header, marked, message}
 use Rattle.coap_codec.specs.Writing.{Puts}
 use Rattle.coap_codec.specs.Spelling.{options_bytes, message_bytes}
-use Rattle.coap_codec.proofs.PutLemmas.{Puts-then}
-use Rattle.coap_codec.proofs.SpellLemmas.{message_length}
+use Rattle.coap_codec.proofs.Spellings.OneWriteAfterAnother.{Puts-then}
+use Rattle.coap_codec.proofs.Spellings.WhatIsWritten.{message_length}
 use Rattle.coap_codec.proofs.encoder.put_message.Goals as goal
 
 pub returns-clause-written : goal.returns-clause-written

@@ -4,7 +4,7 @@ use Rattle.coap_types.specs.CoapOption.{options_of}
 use Rattle.coap_codec.specs.Message.{message}
 use Rattle.coap_codec.specs.Spelling.{message_bytes}
 use Rattle.coap_codec.specs.Writing.{spelled_length}
-use Rattle.coap_codec.proofs.SpellLemmas.{message_is, message_length}
+use Rattle.coap_codec.proofs.Spellings.WhatIsWritten.{message_is, message_length}
 use Rattle.coap_codec.proofs.encoder.refuses.Goals as goal
 
 pub returns-then-not-has_room-clause-refused : goal.returns-then-not-has_room-clause-refused

@@ -1,4 +1,5 @@
-use Rattle.coap_codec.proofs.EveryDatagram.{each_is_read, not_both, one_message, one_fault, message_is_decoded, fault_is_decoded}
+use Rattle.coap_codec.proofs.Datagrams.EveryDatagram.{each_is_read, not_both, one_message, one_fault}
+use Rattle.coap_codec.proofs.Datagrams.EveryDatagram.{message_is_decoded, fault_is_decoded}
 use Rattle.coap_codec.proofs.laws.one_reading.Goals as goal
 
 pub returns-clause-each : goal.returns-clause-each

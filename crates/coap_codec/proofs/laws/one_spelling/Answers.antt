@@ -1,4 +1,4 @@
-use Rattle.coap_codec.proofs.OneSpelling.{one_spelling}
+use Rattle.coap_codec.proofs.Spellings.OneSpelling.{one_spelling}
 use Rattle.coap_codec.proofs.laws.one_spelling.Goals as goal
 
 pub returns : goal.returns

@@ -1,5 +1,5 @@
-use Rattle.coap_codec.proofs.SpelledInBytes.{bytes_spell_bytes, spelled_in_bytes}
-use Rattle.coap_codec.proofs.SpellingLaw.{spelled_by_its_bytes, spelled_by_no_others, no_other_is_spelled}
+use Rattle.coap_codec.proofs.Spellings.InBytes.{bytes_spell_bytes, spelled_in_bytes}
+use Rattle.coap_codec.proofs.Spellings.ItsOwnBytes.{spelled_by_its_bytes, spelled_by_no_others, no_other_is_spelled}
 use Rattle.coap_codec.proofs.laws.spelling_law.Goals as goal
 
 pub returns-clause-spelled : goal.returns-clause-spelled

@@ -2,7 +2,7 @@ use Rattle.std.proofs.Common.{◌≡◌, ◌≤◌, ◌<◌, ◌^◌, ℕ, [], g
 use Rattle.std.proofs.lemmas.List.{get_or_default}
 use borrow.Author.Count.{below_more}
 use Rattle.coap_types.specs.declared.options.Opt.{Opt}
-use Rattle.coap_codec.proofs.LoopLemmas.{order_more}
+use Rattle.coap_codec.proofs.OneOption.WhatIsLeft.{order_more}
 use Rattle.coap_codec.proofs.option_list.ascends.Goals as goal
 
 pub loop-option-preserved : goal.loop-option-preserved

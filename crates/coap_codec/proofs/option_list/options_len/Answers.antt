@@ -3,11 +3,12 @@ use Rattle.std.proofs.lemmas.Bool.{le-ltb}
 use Rattle.coap_types.specs.CoapOption.{options_of}
 use Rattle.coap_codec.specs.Spelling.{options_bytes}
 use Rattle.coap_codec.specs.Writing.{room_after}
-use Rattle.coap_codec.proofs.RefusedLemmas.{Options-ascends, Options-short}
-use Rattle.coap_codec.proofs.SpellLemmas.{options_are}
-use Rattle.coap_codec.proofs.SpellingLaw.{options_only}
+use Rattle.coap_codec.proofs.Spellings.RefusedHasNone.{Options-ascends, Options-short}
+use Rattle.coap_codec.proofs.Spellings.WhatIsWritten.{options_are}
+use Rattle.coap_codec.proofs.Spellings.ItsOwnBytes.{options_only}
 use Rattle.coap_codec.proofs.option_list.options_len.Goals as goal
-use Rattle.coap_codec.proofs.option_list.options_len.Goals.{then-not-ascends-via-then-not-ascends, then-not-ascends-via-else-not-ascends+then-not-are_short}
+use Rattle.coap_codec.proofs.option_list.options_len.Goals.{then-not-ascends-via-then-not-ascends}
+use Rattle.coap_codec.proofs.option_list.options_len.Goals.{then-not-ascends-via-else-not-ascends+then-not-are_short}
 
 room_left : (n : ℕ) → n < 2 ^ 64 → room_after 18446744073709551615 n ≡ None → ⊥
 room_left n few none = let left = le-ltb 18446744073709551615 n (omega arith) in cc (left, none)

@@ -2,7 +2,7 @@ use Rattle.std.proofs.Common.{◌≡◌, ◌≤◌, ◌+◌, ◌-◌, ◌*◌, �
 use Rattle.std.proofs.lemmas.List.{length-append}
 use Rattle.coap_codec.specs.Writing.{Puts}
 use Rattle.coap_codec.specs.Spelling.{nibble, more, option_bytes}
-use Rattle.coap_codec.proofs.PutLemmas.{Puts-then}
+use Rattle.coap_codec.proofs.Spellings.OneWriteAfterAnother.{Puts-then}
 use Rattle.coap_codec.proofs.option_put.put_option.Goals as goal
 
 pub returns-clause-written : goal.returns-clause-written

@@ -1,11 +1,12 @@
-use Rattle.std.proofs.Common.{◌≡◌, ◌++◌, ◌+◌, ◌≤◌, List, ℕ, [], length, get_or, drop, append_assoc, sym, subst, ◌∙◌, ap, arith}
+use Rattle.std.proofs.Common.{◌≡◌, ◌++◌, ◌+◌, ◌≤◌, List, ℕ, [], length, get_or, drop, append_assoc, sym, subst, ◌∙◌, ap}
+use Rattle.std.proofs.Common.{arith}
 use Rattle.std.proofs.lemmas.List.{length-append, append-nil}
 use Rattle.coap_types.specs.CoapOption.{option_of, options_of}
 use Rattle.coap_types.specs.declared.options.Opt.{Opt}
 use Rattle.coap_codec.specs.Writing.{Puts}
 use Rattle.coap_codec.specs.Spelling.{option_bytes, options_bytes}
-use Rattle.coap_codec.proofs.PutLemmas.{Puts-then, Puts-length}
-use Rattle.coap_codec.proofs.LoopLemmas.{bytes_step, bytes_end, order_step, short_step}
+use Rattle.coap_codec.proofs.Spellings.OneWriteAfterAnother.{Puts-then, Puts-length}
+use Rattle.coap_codec.proofs.OneOption.WhatIsLeft.{bytes_step, bytes_end, order_step, short_step}
 use Rattle.coap_codec.proofs.option_put.put_options.Goals as goal
 
 pub put_option-at-requires-clause-room : goal.put_option-at-requires-clause-room

@@ -4,7 +4,7 @@ use Rattle.std.proofs.lemmas.List.{length-append}
 use Rattle.coap_types.specs.CoapOption.{option_of, options_of}
 use Rattle.coap_types.specs.declared.options.Opt.{Opt}
 use Rattle.coap_codec.specs.Spelling.{option_bytes, options_bytes}
-use Rattle.coap_codec.proofs.LoopLemmas.{bytes_step, bytes_end, order_step, short_step}
+use Rattle.coap_codec.proofs.OneOption.WhatIsLeft.{bytes_step, bytes_end, order_step, short_step}
 use Rattle.coap_codec.proofs.option_put.room_behind.Goals as goal
 
 pub returns-then-left-len : goal.returns-then-left-len

@@ -1,7 +1,7 @@
 use Rattle.std.proofs.Common.{arith, ap, sym, ◌∙◌}
 use Rattle.coap_types.specs.CoapOption.{option_of}
-use Rattle.coap_codec.proofs.StepLemmas.{option_shorter}
-use Rattle.coap_codec.proofs.WalkLemmas.{walk_step, walk_stop}
+use Rattle.coap_codec.proofs.OneOption.IsRead.{option_shorter}
+use Rattle.coap_codec.proofs.OneOption.LongestRun.{walk_step, walk_stop}
 use Rattle.coap_codec.proofs.option_walk.behind_options.Goals as goal
 
 pub loop-option-smaller : goal.loop-option-smaller

@@ -1,8 +1,8 @@
 use Rattle.std.proofs.Common.{◌∷◌, [], List, ℕ, length, sym, subst, ap, arith}
 use Rattle.std.proofs.lemmas.Bool.{eqb-false}
 use Rattle.coap_codec.specs.Writing.{Puts}
-use Rattle.coap_codec.proofs.PutLemmas.{Puts-then}
-use Rattle.coap_codec.proofs.SpellLemmas.{marked_more}
+use Rattle.coap_codec.proofs.Spellings.OneWriteAfterAnother.{Puts-then}
+use Rattle.coap_codec.proofs.Spellings.WhatIsWritten.{marked_more}
 use Rattle.coap_codec.proofs.payload.put_payload.Goals as goal
 
 pub returns-clause-written : goal.returns-clause-written

@@ -4,7 +4,8 @@ use Rattle.coap_layer.specs.Machine.Arriving.{hands, keeps, newly_by}
 use Rattle.coap_layer.specs.Machine.Entries.{arrivals_in}
 use Rattle.coap_layer.specs.Machine.State.{is_live}
 use Rattle.coap_layer.proofs.Calls.JudgedByTable.{kept_hands}
-use Rattle.coap_layer.proofs.Calls.TakenIn.{before_grown, kept_grown, newly_upto, settled_unknown, settled_upto, within_grown}
+use Rattle.coap_layer.proofs.Calls.TakenIn.{before_grown, kept_grown, newly_upto, settled_unknown, settled_upto}
+use Rattle.coap_layer.proofs.Calls.TakenIn.{within_grown}
 use Rattle.coap_layer.proofs.taking.take_in.Goals as goal
 
 pub keep_by-requires-clause-unknown : goal.keep_by-requires-clause-unknown

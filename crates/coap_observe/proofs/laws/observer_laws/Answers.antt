@@ -1,5 +1,8 @@
 use Rattle.coap_observe.proofs.Facts.DueCounts.{remove_never_raises, send_keeps, send_lowers}
-use Rattle.coap_observe.proofs.Facts.Registrations.{is_of-decides, others_stay, registration-changed_at, registration-registered, registration-removed, registration-sent_to, registrations-changed, registrations-registered, registrations-removed, registrations-sent}
+use Rattle.coap_observe.proofs.Facts.Registrations.{is_of-decides, others_stay, registration-changed_at}
+use Rattle.coap_observe.proofs.Facts.Registrations.{registration-registered, registration-removed, registration-sent_to}
+use Rattle.coap_observe.proofs.Facts.Registrations.{registrations-changed, registrations-registered}
+use Rattle.coap_observe.proofs.Facts.Registrations.{registrations-removed, registrations-sent}
 use Rattle.coap_observe.proofs.laws.observer_laws.Goals as goal
 
 pub returns-clause-known_by_pair : goal.returns-clause-known_by_pair

@@ -1,4 +1,4 @@
-use Rattle.coap_types.proofs.BlockLemmas.{block_says, reads_back}
+use Rattle.coap_types.proofs.Values.BlocksReadBack.{block_says, reads_back}
 use Rattle.coap_types.proofs.block.block_law.Goals as goal
 
 pub returns-clause-read_back : goal.returns-clause-read_back

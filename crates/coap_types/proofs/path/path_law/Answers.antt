@@ -1,4 +1,4 @@
-use Rattle.coap_types.proofs.SegmentLemmas.{makes_path_within, paths_of_recognised}
+use Rattle.coap_types.proofs.Paths.SegmentsAreShort.{makes_path_within, paths_of_recognised}
 use Rattle.coap_types.proofs.path.path_law.Goals as goal
 
 pub returns-clause-within : goal.returns-clause-within

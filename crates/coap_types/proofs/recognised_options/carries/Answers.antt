@@ -1,5 +1,5 @@
 use Rattle.std.proofs.Common.{◌∙◌, is_some, ap}
-use Rattle.coap_types.proofs.UnrecognisedLemmas.{lent}
+use Rattle.coap_types.proofs.OneOptionOn.IsSaid.{lent}
 use Rattle.coap_types.proofs.recognised_options.carries.Goals as goal
 
 pub returns : goal.returns

@@ -1,5 +1,5 @@
 use Rattle.coap_types.specs.CoapOption.{options_of}
-use Rattle.coap_types.proofs.UnrecognisedLemmas.{Lacks}
+use Rattle.coap_types.proofs.OneOptionOn.IsSaid.{Lacks}
 use Rattle.coap_types.proofs.recognised_options.lacks_critical.Given as goal
 
 abbrev pub invariant-loop-option : goal.invariant-loop-option

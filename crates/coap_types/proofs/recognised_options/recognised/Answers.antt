@@ -1,8 +1,11 @@
 use Rattle.std.proofs.Common.{rules, ◌∙◌, [], ◌∷◌, refl, sym, ap}
 use Rattle.coap_types.specs.CoapOption.{option_of, options_of}
-use Rattle.coap_types.proofs.RecognisedLemmas.{none_yet, one_more, options_append, kept_then, kept_else, bad_then, bad_critical, bad_elective}
+use Rattle.coap_types.proofs.OneOptionOn.IsRecognised.{none_yet, one_more, options_append, kept_then, kept_else}
+use Rattle.coap_types.proofs.OneOptionOn.IsRecognised.{bad_then, bad_critical, bad_elective}
 use Rattle.coap_types.proofs.recognised_options.recognised.Goals as goal
-use Rattle.coap_types.proofs.recognised_options.recognised.Goals.{then-is_recognised+in_ok-push, else-is_recognised+then-option-eq1, else-is_recognised+else-option-eq1}
+use Rattle.coap_types.proofs.recognised_options.recognised.Goals.{then-is_recognised+in_ok-push}
+use Rattle.coap_types.proofs.recognised_options.recognised.Goals.{else-is_recognised+then-option-eq1}
+use Rattle.coap_types.proofs.recognised_options.recognised.Goals.{else-is_recognised+else-option-eq1}
 
 pub loop-option-init : goal.loop-option-init
 loop-option-init g c = let none = c.new-list.ensures.items in (search rules, (search rules, rw none (none_yet _ _ refl)))

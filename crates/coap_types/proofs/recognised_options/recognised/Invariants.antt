@@ -1,5 +1,5 @@
 use Rattle.coap_types.specs.CoapOption.{options_of}
-use Rattle.coap_types.proofs.RecognisedLemmas.{SoFar}
+use Rattle.coap_types.proofs.OneOptionOn.IsRecognised.{SoFar}
 use Rattle.coap_types.proofs.recognised_options.recognised.Given as goal
 
 abbrev pub invariant-loop-option : goal.invariant-loop-option

@@ -1,7 +1,7 @@
 use Rattle.std.proofs.Common.{rules, [], ◌∷◌, refl}
 use Rattle.coap_types.specs.CoapOption.{option_of, options_of}
-use Rattle.coap_types.proofs.RecognisedLemmas.{options_append}
-use Rattle.coap_types.proofs.UnrecognisedLemmas.{none_valued, valued_more}
+use Rattle.coap_types.proofs.OneOptionOn.IsRecognised.{options_append}
+use Rattle.coap_types.proofs.OneOptionOn.IsSaid.{none_valued, valued_more}
 use Rattle.coap_types.proofs.recognised_options.recognised_value.Goals as goal
 
 pub loop-option-init : goal.loop-option-init

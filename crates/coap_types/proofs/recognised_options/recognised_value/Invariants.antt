@@ -1,6 +1,6 @@
 use Rattle.std.specs.Prelude.{option_copied}
 use Rattle.coap_types.specs.CoapOption.{options_of}
-use Rattle.coap_types.proofs.UnrecognisedLemmas.{Valued}
+use Rattle.coap_types.proofs.OneOptionOn.IsSaid.{Valued}
 use Rattle.coap_types.proofs.recognised_options.recognised_value.Given as goal
 
 abbrev pub invariant-loop-option : goal.invariant-loop-option

@@ -1,5 +1,5 @@
 use Rattle.std.proofs.Common.{◌∙◌, sym}
-use Rattle.coap_types.proofs.UintLemmas.{fewest, one_spelling, uint_few, uint_read, uint_spells}
+use Rattle.coap_types.proofs.Values.UintsHaveOneSpelling.{fewest, one_spelling, uint_few, uint_read, uint_spells}
 use Rattle.coap_types.proofs.uint.uint_laws.Goals as goal
 
 pub returns-clause-spelling : goal.returns-clause-spelling

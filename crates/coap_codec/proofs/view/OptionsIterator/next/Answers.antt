@@ -1,6 +1,6 @@
 use Rattle.std.proofs.Common.{rules, ap, sym, ◌∙◌, length}
 use Rattle.coap_types.specs.CoapOption.{option_of}
-use Rattle.coap_codec.proofs.WalkLemmas.{walk_step, walk_stop}
+use Rattle.coap_codec.proofs.OneOption.LongestRun.{walk_step, walk_stop}
 use Rattle.coap_codec.proofs.view.OptionsIterator.next.Goals as goal
 
 pub returns-in-Ok-clause-steps : goal.returns-in-Ok-clause-steps

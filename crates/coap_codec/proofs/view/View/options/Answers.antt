@@ -1,6 +1,6 @@
 use Rattle.std.proofs.Common.{length, ap, arith}
-use Rattle.coap_codec.proofs.WalkLemmas.{walk_count}
-use Rattle.coap_codec.proofs.RefusedLemmas.{Options-ascends}
+use Rattle.coap_codec.proofs.OneOption.LongestRun.{walk_count}
+use Rattle.coap_codec.proofs.Spellings.RefusedHasNone.{Options-ascends}
 use Rattle.coap_codec.proofs.view.View.options.Goals as goal
 
 pub returns-clause-few : goal.returns-clause-few

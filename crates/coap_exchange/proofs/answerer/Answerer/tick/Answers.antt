@@ -1,15 +1,19 @@
-use Rattle.std.proofs.Common.{◌≡◌, ◌<◌, true, refl, sym, rules, ap, ◌∙◌, subst}
+use Rattle.std.proofs.Common.{◌≡◌, ◌<◌, max, true, Ok, refl, sym, rules, ap, ◌∙◌, subst}
 use Rattle.std.specs.Vec.{vec_len, vec_capacity}
 use Rattle.std.specs.Option.{option_map}
 use Rattle.coap_layer.specs.Machine.State as L
+use Rattle.coap_layer.specs.Machine.State.{answer_of, copies}
 use Rattle.coap_layer.specs.Trace as T
 use Rattle.coap_exchange.specs.declared.separate.Deferred.{Deferred}
-use Rattle.coap_exchange.specs.Machine.AnswererShown.{own_with}
+use Rattle.coap_exchange.specs.Machine.AnswererShown.{Shown, own_with}
+use Rattle.coap_exchange.specs.Machine.WhatIsDue.{takes_con, takes_response}
 use Rattle.coap_exchange.specs.AnswererSteps.{failed_by, ready_at, ready_if, separate_unless}
 use Rattle.coap_exchange.specs.Machine.Listed.{listed}
 use Rattle.coap_exchange.proofs.Leading.ServerLeads.{led_call}
-use Rattle.coap_exchange.proofs.Calls.ServerTicks.{asks_freely, asking_clock, may_respond, placed, readied, ticked, waits_its_turn}
+use Rattle.coap_exchange.proofs.Calls.ServerTicks.{asks_freely, asking_clock, may_respond, placed, readied, ticked}
+use Rattle.coap_exchange.proofs.Calls.ServerTicks.{waits_its_turn}
 use Rattle.coap_exchange.proofs.Calls.RoomIsKept.{may_still, ticked_confirms}
+use Rattle.coap_exchange.proofs.Calls.WhatIsDue.{expires, ticked_ready, ticked_same}
 use Rattle.coap_layer.proofs.Facts.CallsOfLayer.{step_clock}
 use Rattle.coap_exchange.proofs.answerer.Answerer.tick.Goals as goal
 
@@ -81,3 +85,40 @@ returns-clause-kept g c at there may =
     may_still c.args.self.now _ i.layer.state c.is_sendable-room.new.layer.state at there (sym (ap (λ s. s.state.layer) c.self.view_is)) refl (λ h. search rules)
     (ticked_confirms i.layer.state c.make_room.new.layer.state c.tick.new.self.state c.is_sendable-room.new.layer.state now c.in_ok-tick.tick step.0 (ready_if step.0 d) c.is_sendable-room.result c.in_ok-make_room.ensures.state step.1 step.2
     (c.is_sendable-room.ensures.steps (ready_if step.0 d) ready) at there) may
+
+pub returns-clause-only : goal.returns-clause-only
+returns-clause-only g c a h =
+    let i = c.self.inside in
+    let step = c.in_ok-tick.ensures.step in
+    let now = c.args.now.0 in
+    let d = ready_at (own_with i.layer.state.clock i.pending i.deferred (listed i.separate.items) i.ended) now in
+    let found : c.ready.result ≡ option_map (λ (x : Deferred). x.asked) d = search (rules, c.ready.ensures.first, c.max.ensures, c.clock.ensures, c.deref.ensures.value) in
+    let ready = readied i.layer.state c.make_room.new.layer.state c.tick.new.self.state now c.in_ok-tick.tick step.0 c.in_ok-make_room.ensures.state step.1 step.2 c.would_tick-due.result c.ready.result c.unless_due-ready.result d c.would_tick-due.ensures.idle c.would_tick-due.ensures.due c.unless_due-ready.ensures found in
+    sym (ap (λ s. takes_response s.state now) c.self.view_is)
+    ∙ ticked_ready i.layer.state c.make_room.new.layer.state c.tick.new.self.state c.is_sendable-room.new.layer.state now c.in_ok-tick.tick step.0 d c.is_sendable-room.result c.in_ok-make_room.ensures.state step.1 step.2 a
+    (c.is_sendable-room.ensures.steps (ready_if step.0 d) ready) (sym (c.due_of.ensures.due step.0 d step.1 ready) ∙ h)
+
+pub returns-clause-same : goal.returns-clause-same
+returns-clause-same g c h there =
+    let i = c.self.inside in
+    let step = c.in_ok-tick.ensures.step in
+    let now = c.args.now.0 in
+    let d = ready_at (own_with i.layer.state.clock i.pending i.deferred (listed i.separate.items) i.ended) now in
+    let found : c.ready.result ≡ option_map (λ (x : Deferred). x.asked) d = search (rules, c.ready.ensures.first, c.max.ensures, c.clock.ensures, c.deref.ensures.value) in
+    let ready = readied i.layer.state c.make_room.new.layer.state c.tick.new.self.state now c.in_ok-tick.tick step.0 c.in_ok-make_room.ensures.state step.1 step.2 c.would_tick-due.result c.ready.result c.unless_due-ready.result d c.would_tick-due.ensures.idle c.would_tick-due.ensures.due c.unless_due-ready.ensures found in
+    ticked_same i.layer.state c.make_room.new.layer.state c.tick.new.self.state c.is_sendable-room.new.layer.state now c.in_ok-tick.tick step.0 d c.is_sendable-room.result c.in_ok-make_room.ensures.state step.1 step.2
+    (c.is_sendable-room.ensures.steps (ready_if step.0 d) ready) (sym (c.due_of.ensures.due step.0 d step.1 ready) ∙ h) there
+    ∙ ap (λ s. takes_con s.state now there) c.self.view_is
+
+pub returns-clause-fails : goal.returns-clause-fails
+returns-clause-fails g c none due =
+    let i = c.self.inside in
+    let step = c.in_ok-tick.ensures.step in
+    let now = c.args.now.0 in
+    let d = ready_at (own_with i.layer.state.clock i.pending i.deferred (listed i.separate.items) i.ended) now in
+    let found : c.ready.result ≡ option_map (λ (x : Deferred). x.asked) d = search (rules, c.ready.ensures.first, c.max.ensures, c.clock.ensures, c.deref.ensures.value) in
+    let ready = readied i.layer.state c.make_room.new.layer.state c.tick.new.self.state now c.in_ok-tick.tick step.0 c.in_ok-make_room.ensures.state step.1 step.2 c.would_tick-due.result c.ready.result c.unless_due-ready.result d c.would_tick-due.ensures.idle c.would_tick-due.ensures.due c.unless_due-ready.ensures found in
+    ap Ok (c.due_of.ensures.due step.0 d step.1 ready
+    ∙ expires i.layer.state c.make_room.new.layer.state c.tick.new.self.state now step.0 d c.is_sendable-room.result c.in_ok-make_room.ensures.state step.2
+    (ap (λ (s : Shown). copies (max s.state.own.clock now) s.state.layer.open_cons) c.self.view_is ∙ none)
+    (λ e. due (sym (ap (λ (s : Shown). answer_of s.state.layer (max s.state.own.clock now) T.Ticks) c.self.view_is) ∙ e)))

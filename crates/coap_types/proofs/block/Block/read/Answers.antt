@@ -3,7 +3,7 @@ use Rattle.coap_types.specs.BlockValue.{BlockSays}
 use Rattle.coap_types.specs.Bytes.{AreBytes}
 use Rattle.coap_types.specs.Uint.{uint_value}
 use Rattle.coap_types.proofs.Facts.Bytes.{are_bytes}
-use Rattle.coap_types.proofs.BlockLemmas.{block_read, block_says}
+use Rattle.coap_types.proofs.Values.BlocksReadBack.{block_read, block_says}
 use Rattle.coap_types.proofs.block.Block.read.Goals as goal
 
 pub returns-clause-block : goal.returns-clause-block

@@ -1,7 +1,7 @@
 use Rattle.std.proofs.Common.{◌≡◌, ◌<◌, length, arith, rules}
 use Rattle.coap_types.specs.Bytes.{AreBytes}
 use Rattle.coap_types.proofs.Facts.Bytes.{are_bytes}
-use Rattle.coap_types.proofs.PathLemmas.{pushed_path}
+use Rattle.coap_types.proofs.Paths.AsTheirBytes.{pushed_path}
 use Rattle.coap_types.proofs.path.Path.push.Goals as goal
 
 pub invariant_of-self : goal.invariant_of-self

@@ -1,5 +1,5 @@
 use Rattle.std.proofs.Common.{◌∙◌}
-use Rattle.coap_types.proofs.PathLemmas.{same_clones}
+use Rattle.coap_types.proofs.Paths.AsTheirBytes.{same_clones}
 use Rattle.coap_types.proofs.path.PathClone.clone.Goals as goal
 
 pub invariant_of-result : goal.invariant_of-result

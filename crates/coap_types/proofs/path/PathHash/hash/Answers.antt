@@ -1,7 +1,7 @@
 use Rattle.std.proofs.Common.{◌∙◌, ap}
 use Rattle.std.specs.List.{fold}
 use Rattle.std.specs.Hash as fed
-use Rattle.coap_types.proofs.PathLemmas.{same_input}
+use Rattle.coap_types.proofs.Paths.AsTheirBytes.{same_input}
 use Rattle.coap_types.proofs.path.PathHash.hash.Goals as goal
 
 pub returns : goal.returns

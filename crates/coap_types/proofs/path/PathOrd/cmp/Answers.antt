@@ -1,5 +1,5 @@
 use Rattle.std.proofs.Common.{◌∙◌}
-use Rattle.coap_types.proofs.PathLemmas.{same_order}
+use Rattle.coap_types.proofs.Paths.AsTheirBytes.{same_order}
 use Rattle.coap_types.proofs.path.PathOrd.cmp.Goals as goal
 
 pub returns : goal.returns

@@ -1,7 +1,7 @@
 use Rattle.std.proofs.Common.{◌≡◌, ◌∙◌, sym}
 use Rattle.coap_types.specs.Path.{same_path}
 use Rattle.coap_types.proofs.Facts.Paths.{same_path-decides}
-use Rattle.coap_types.proofs.PathLemmas.{same_segments}
+use Rattle.coap_types.proofs.Paths.AsTheirBytes.{same_segments}
 use Rattle.coap_types.proofs.path.PathPartialEq.eq.Goals as goal
 
 pub returns : goal.returns

@@ -1,0 +1,5 @@
+pub mod HeaderAndToken
+pub mod SoundBytes
+pub mod ReadAsSpelled
+pub mod ReadAgain
+pub mod EveryDatagram

@@ -1,0 +1,4 @@
+pub mod IsRead
+pub mod LongestRun
+pub mod WhereNoneBegins
+pub mod WhatIsLeft

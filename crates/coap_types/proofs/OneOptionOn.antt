@@ -1,0 +1,2 @@
+pub mod IsRecognised
+pub mod IsSaid

@@ -1,0 +1,2 @@
+pub mod AsTheirBytes
+pub mod SegmentsAreShort

@@ -1,0 +1,2 @@
+pub mod UintsHaveOneSpelling
+pub mod BlocksReadBack
