@@ -12,3 +12,5 @@ pub mod WaitingLemmas
 pub mod PassingLemmas
 pub mod TickSteps
 pub mod ClientIsLed
+pub mod WorkFalls
+pub mod TakesOut

@@ -3,3 +3,4 @@ pub mod OfServer
 pub mod Sources
 pub mod Adds
 pub mod OfWholeServer
+pub mod OfWholeClient

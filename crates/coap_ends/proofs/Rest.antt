@@ -1,6 +1,8 @@
 pub mod Ending
 pub mod LastStep
 pub mod StepsDue
+pub mod ExchangeTurns
+pub mod FirstOut
 pub mod ClientEnding
 pub mod ServerEnding
 pub mod ClientResting

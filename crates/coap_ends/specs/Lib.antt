@@ -13,5 +13,6 @@ pub mod WholeServer
 pub mod WholeClient
 pub mod ServerObject
 pub mod ServerTurns
+pub mod ClientTurns
 pub mod StepsDue
 pub mod ClientObject

@@ -1,3 +1,4 @@
 pub mod DelaysShown
 pub mod ServerTurned
 pub mod ServerWork
+pub mod ServerIdle

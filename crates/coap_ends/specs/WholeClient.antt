@@ -36,3 +36,13 @@ pub mod ClientTakes
 pub mod ClientNewer
 pub mod ClientValid
 pub mod ClientContinued
+pub mod ClientOfCalls
+pub mod ClientNotified
+pub mod ClientNoted
+pub mod ClientValues
+pub mod ClientRising
+pub mod ClientEnded
+pub mod ClientOfObservations
+pub mod ClientGoesOn
+pub mod ClientRests
+pub mod ClientBounds

@@ -1,6 +1,7 @@
 //! The client (RFC 7252, section 5; RFC 7641; RFC 7959).
 mod call_queue;
 mod cancelling;
+mod end;
 mod failing;
 mod fetching;
 mod forgetting;
@@ -27,11 +28,9 @@ mod ticking;
 mod transfer;
 mod uploading;
 
-ghost use Rattle.std.specs.Prelude.{◌≡◌, ◌≢◌, ℕ, Bool, List, ◌∷◌, [], Option, Result, Err, None, IfOk, IsOk, OnOk, OnErr};
+ghost use Rattle.std.specs.Prelude.{◌≡◌, ◌≢◌, ◌<◌, ◌^◌, ℕ, Bool, false, true, List, ◌∷◌, [], length, Option, Result, Ok, Err, None, IfNone, IfOk, IfSome, IsOk, OnOk, OnErr, is_ok};
 ghost use Rattle.std.specs.Option.{option_map};
 ghost use Rattle.coap_types.specs.declared.endpoint.Endpoint.{Endpoint};
-ghost use Rattle.coap_layer.specs.Machine.State.{made};
-ghost use Rattle.coap_layer.specs.Machine.Ups.{IsQuiet};
 ghost use Rattle.coap_layer.specs.Trace as L;
 ghost use Rattle.coap_exchange.specs.declared.asker.AskRefusal.{AskRefusal};
 ghost use Rattle.coap_exchange.specs.declared.asker.Event.{Event};
@@ -39,9 +38,12 @@ ghost use Rattle.coap_exchange.specs.declared.asker.Turn.{Turn};
 ghost use Rattle.coap_ends.specs.declared.refusals.CallRefusal.TheVariants as refusals;
 ghost use Rattle.coap_ends.specs.ClientObject.CallShown.{shown_request};
 ghost use Rattle.coap_ends.specs.ClientObject.CallAnswers.{refusal_in};
+ghost use Rattle.coap_ends.specs.WholeClient.ClientQueue.{call_answer, observe_answer};
 ghost use Rattle.coap_ends.specs.WholeClient.ClientStep.{Step, Led, fresh_state};
 ghost use Rattle.coap_ends.specs.WholeClient.ClientTrace.{Call, Calls, Observes, Cancels, Forgets, Feeds, Ticks, NextOut, NextReport, Asked};
 ghost use Rattle.coap_ends.specs.ClientObject.ClientShown.{number_of, shown_asked, shown_reported};
+ghost use Rattle.coap_ends.specs.ClientTurns.ClientQuiet.{IsIdle, TellsNothing};
+ghost use Rattle.coap_ends.specs.ClientTurns.ClientWork.{work};
 
 use crate::client::happening::happen;
 use crate::client::held::Held;
@@ -118,6 +120,8 @@ impl<A: Allocator + Copy, H: BuildHasher> Client<A, H> {
             × (token : Result (List ℕ) AskRefusal) × (kept : Bool)
             × Led server szx w (Feeds now.0 from bytes.now word up settled event sent token kept ∷ t) self.new) }
         ensures err { OnErr result (self.new ≡ self.old) }
+        // Where nothing is sent, kept or told, as for an acknowledgement that matches nothing, it takes no memory.
+        ensures quiet { TellsNothing self.old now.0 from bytes.now → IsOk result }
     {
         let at = Moment(self.held.clock.max(now.0));
         let event = self.asker.receive(at, from, bytes)?;
@@ -138,6 +142,8 @@ impl<A: Allocator + Copy, H: BuildHasher> Client<A, H> {
         ensures led { (server : Endpoint) (szx w : ℕ) (t : List Call) → Led server szx w t self.old → result ≢ Err refusals.Memory
             → Led server szx w (Calls now.0 (shown_request request) (number_of result) ∷ t) self.new }
         ensures memory { result ≡ Err refusals.Memory → self.new ≡ self.old }
+        // Where it is refused for another reason, it takes no memory.
+        ensures refused { is_ok (call_answer self.old.own (shown_request request)) ≡ false → result ≢ Err refusals.Memory }
     {
         let long = is_long_request(&request);
         taking::call(self.alloc, &mut self.held, now, request, long)
@@ -151,6 +157,7 @@ impl<A: Allocator + Copy, H: BuildHasher> Client<A, H> {
         ensures led { (server : Endpoint) (szx w : ℕ) (t : List Call) → Led server szx w t self.old → result ≢ Err refusals.Memory
             → Led server szx w (Observes now.0 path (number_of result) ∷ t) self.new }
         ensures memory { result ≡ Err refusals.Memory → self.new ≡ self.old }
+        ensures refused { is_ok (observe_answer self.old.own path) ≡ false → result ≢ Err refusals.Memory }
     {
         let long = is_long_path(&path);
         taking::observe(&mut self.held, now, path, long)
@@ -186,7 +193,11 @@ impl<A: Allocator + Copy, H: BuildHasher> Client<A, H> {
         ensures led { (server : Endpoint) (szx w : ℕ) (t : List Call) → Led server szx w t self.old
             → IfOk result (λ did. (below : L.Answer) × (due : Turn) × (sent : L.Answer) × (token : Result (List ℕ) AskRefusal)
             × (kept : Bool) × Led server szx w (Ticks now.0 word below due sent token kept did ∷ t) self.new) }
+        // Each tick that does something leaves less to be done at its moment.
+        ensures less { result ≡ Ok true → work self.new now.0 < work self.old now.0 }
         ensures err { OnErr result (self.new ≡ self.old) }
+        // Where nothing is due and nothing begins, it takes no memory.
+        ensures quiet { IsIdle self.old now.0 → IsOk result }
     {
         ticking::tick(&mut self.asker, &mut self.held, now, word)
     }
@@ -206,6 +217,10 @@ impl<A: Allocator + Copy, H: BuildHasher> Client<A, H> {
         ensures step { Step self.old (NextOut result) self.new }
         ensures led { (server : Endpoint) (szx w : ℕ) (t : List Call) → Led server szx w t self.old
             → Led server szx w (NextOut result ∷ t) self.new }
+        ensures some { IfSome result (λ datagram. self.old.layer.layer.queue ≡ datagram ∷ self.new.layer.layer.queue) }
+        ensures none { IfNone result ((self.old.layer.layer.queue ≡ []) × (self.new ≡ self.old)) }
+        // No more datagrams wait than a list in memory holds.
+        ensures few { length self.old.layer.layer.queue < 2 ^ 64 }
     {
         self.asker.next_out()
     }
@@ -215,7 +230,13 @@ impl<A: Allocator + Copy, H: BuildHasher> Client<A, H> {
         ensures step { Step self.old (NextReport (option_map shown_reported result)) self.new }
         ensures led { (server : Endpoint) (szx w : ℕ) (t : List Call) → Led server szx w t self.old
             → Led server szx w (NextReport (option_map shown_reported result) ∷ t) self.new }
+        // Each report that is taken leaves one less to be taken.
+        ensures some { IfSome result (λ report. self.old.own.reports ≡ shown_reported report ∷ self.new.own.reports) }
+        ensures none { IfNone result ((self.old.own.reports ≡ []) × (self.new ≡ self.old)) }
+        // No more reports wait than a list in memory holds.
+        ensures few { length self.old.own.reports < 2 ^ 64 }
     {
+        let _waiting = self.held.reports.len();
         self.held.reports.pop_front()
     }
 }

@@ -4,8 +4,10 @@ ghost use Rattle.coap_ends.specs.WholeClient.ClientLaw.{ClientLaw};
 ghost use Rattle.coap_ends.specs.WholeClient.ClientTrace.{Call};
 ghost use Rattle.coap_ends.specs.WholeClient.ClientBegins.{BeginAtOnce, ConsAreRequests};
 ghost use Rattle.coap_ends.specs.WholeClient.ClientBodies.{BodiesAreWhole};
+ghost use Rattle.coap_ends.specs.WholeClient.ClientBounds.{AreBounded, AskOnce};
 ghost use Rattle.coap_ends.specs.WholeClient.ClientContinued.{AreContinued};
 ghost use Rattle.coap_ends.specs.WholeClient.ClientNewer.{AreNewer};
+ghost use Rattle.coap_ends.specs.WholeClient.ClientOfCalls.{AreOfCalls, OthersAreGets};
 ghost use Rattle.coap_ends.specs.WholeClient.ClientOrder.{AreInOrder, HeardOnce, OneLast};
 ghost use Rattle.coap_ends.specs.WholeClient.ClientTakes.{AreHandedUp};
 ghost use Rattle.coap_ends.specs.WholeClient.ClientTokens.{OneConOrCancel, OneOfToken, OwnTokens, ShortTokens};
@@ -54,4 +56,17 @@ pub fn client_follows_law()
     // Behind its first block a body goes on where that was answered with 2.31 (RFC 7959, section 2.5).
     ensures continued { (server : Endpoint) (szx word : ℕ) (t : List Call) → ClientLaw server szx word t
         → AreContinued szx t }
+    // What is sent for a call is what that call asks for, as it was taken (RFC 7252, section 5.8).
+    ensures of_calls { (server : Endpoint) (szx word : ℕ) (t : List Call) → ClientLaw server szx word t
+        → AreOfCalls szx t }
+    // .. and what is sent for an observation asks for a representation.
+    ensures others { (server : Endpoint) (szx word : ℕ) (t : List Call) → ClientLaw server szx word t
+        → OthersAreGets szx t }
+    // A GET asks for at most all blocks of a body, anew at most MAX_RESTARTS times; an upload sends at most all blocks; any
+    // other call asks once (RFC 7959, sections 2.4 and 2.5).
+    ensures bounded { (server : Endpoint) (szx word : ℕ) (t : List Call) → ClientLaw server szx word t
+        → AreBounded szx t }
+    // An observation is registered once, and cancelled once (RFC 7641, sections 2 and 3.6).
+    ensures asks_once { (server : Endpoint) (szx word : ℕ) (t : List Call) → ClientLaw server szx word t
+        → AskOnce szx t }
 {}

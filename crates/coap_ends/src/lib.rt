@@ -3,6 +3,8 @@
 
 mod client;
 mod client_follows;
+mod client_rests;
+mod client_values;
 mod end;
 mod laws;
 mod limits;
@@ -13,6 +15,8 @@ mod whole_server;
 
 pub use client::{CallId, Client, Fetched, Report};
 pub use client_follows::client_follows_law;
+pub use client_rests::client_rests_law;
+pub use client_values::client_values_law;
 pub use end::End;
 pub use laws::{client_law, server_law};
 pub use limits::{MAX_DELAYS, MAX_OBSERVATIONS, MAX_OPTIONS_LEN, MAX_WAITING_CALLS};

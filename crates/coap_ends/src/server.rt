@@ -19,7 +19,7 @@ mod uploading;
 
 ghost use Rattle.std.specs.Prelude.{◌≡◌, ◌≢◌, ◌<◌, ◌^◌, ℕ, max, Bool, true, false, Option, List, [], ◌∷◌, Ok, Err, is_ok, is_some, length, IfNone, IfOk, IfSome, IsOk, OnErr, OnOk, option_copied};
 ghost use Rattle.coap_codec.specs.Message.{Message};
-ghost use Rattle.coap_layer.specs.Machine.State.{made};
+ghost use Rattle.coap_layer.specs.Machine.State.{answer_of, copies, made};
 ghost use Rattle.coap_layer.specs.Machine.Ups.{IsQuiet};
 ghost use Rattle.coap_layer.specs.Trace as below;
 ghost use Rattle.coap_resource.specs.Content.{nothing};
@@ -32,6 +32,7 @@ ghost use Rattle.coap_ends.specs.declared.server.delaying.DelayRefusal.TheVarian
 ghost use Rattle.coap_ends.specs.WholeServer.ServerLed.{Led, Step, fresh_state};
 ghost use Rattle.coap_ends.specs.WholeServer.ServerTrace.{Call, Delays, Feeds, Gets, Handling, NextOut, Removes, Sets, TellsApplied, Ticks};
 ghost use Rattle.coap_ends.specs.ServerObject.ServerShown.{applied_list, kept_of, seen, state_of};
+ghost use Rattle.coap_ends.specs.ServerTurns.ServerIdle.{IsIdle, moment};
 ghost use Rattle.coap_ends.specs.ServerTurns.ServerWork.{work};
 
 use crate::server::delaying::set_delay_parts;
@@ -152,6 +153,11 @@ impl<S: Store<A>, A: Allocator + Copy, H: BuildHasher> Server<S, A, H> {
         ensures less { result ≡ Ok true
             → work (state_of S.content self.new) now.0 < work (state_of S.content self.old) now.0 }
         ensures err { OnErr result (self.new ≡ self.old) }
+        // Where nothing is to be sent, or a failure comes first, it takes no memory.
+        ensures quiet { IsIdle (state_of S.content self.old) now.0 → IsOk result }
+        ensures fails { copies (moment (state_of S.content self.old) now.0) self.old.exchanges.layer.open_cons ≡ []
+            → answer_of self.old.exchanges.layer (moment (state_of S.content self.old) now.0) below.Ticks ≢ below.Idle
+            → IsOk result }
     {
         tick_parts(&mut self.parts, now, word)
     }

@@ -1,4 +1,5 @@
 ghost use Rattle.std.specs.Prelude.{◌≡◌, ℕ, List, [], ◌∷◌, ◌++◌};
+ghost use Rattle.coap_ends.specs.WholeServer.Follows.ServerLatest.{AreLatest};
 ghost use Rattle.coap_ends.specs.WholeServer.Follows.ServerExact.{IsExact};
 ghost use Rattle.coap_ends.specs.WholeServer.ServerExample as example;
 ghost use Rattle.coap_ends.specs.WholeServer.ServerUploadExample as upload_example;
@@ -123,6 +124,8 @@ pub fn whole_server_law()
     ensures ticks { (limit szx word : ℕ) (t : List Call) → TicksEnd limit szx word t }
     // .. and it comes to rest: so does what it has out.
     ensures rests { (limit szx word : ℕ) (t : List Call) → ServerLaw limit szx word t → ComesToRest limit szx word t }
+    // Each observer is of the latest registration of its endpoint and token (RFC 7641, section 4.1).
+    ensures latest { (limit szx : ℕ) (t : List Call) → AreLatest limit szx t }
     // A Reset, and that it is given up, end an observation (RFC 7641, sections 3.6 and 4.5).
     ensures ends { (limit szx word : ℕ) (t : List Call) → ServerLaw limit szx word t → EndsObservation limit szx t }
 {}

@@ -111,7 +111,7 @@ few_short : (o : Option (List ℕ)) → IsFew o → IfSome o (λ v. length v ≤
 few_short None few = tt
 few_short (Some v) few = omega (arith, few)
 
-uint_short : (v : ℕ) → length (uint v) ≤ 65804
+pub uint_short : (v : ℕ) → length (uint v) ≤ 65804
 uint_short v = by (v == 0) (nat_lt v 256) (nat_lt v 65536) (nat_lt v 16777216)
   where
     by : (a b c d : Bool)

@@ -7,7 +7,6 @@ use Rattle.coap_ends.specs.WholeClient.ClientOwn.{Own}
 use Rattle.coap_ends.specs.WholeClient.ClientTrace.{Call}
 use Rattle.coap_ends.specs.WholeClient.ClientStep.{State, Step}
 use Rattle.coap_ends.specs.ClientObject.ClientHappens.{WasLed, left}
-use Rattle.coap_ends.proofs.ClientCalls.ClientWatched.{led_step}
 
 -- what was changed in nothing is as it was led to
 pub same_led : (old new : State) → WasLed old → new ≡ old → WasLed new

@@ -10,10 +10,10 @@ use Rattle.coap_ends.specs.ClientObject.Queued.{first_cancel, first_operation}
 use Rattle.coap_ends.specs.WholeClient.ClientTrace.{Report}
 use Rattle.coap_ends.specs.WholeClient.ClientOwn.{Transfer, Observation, Operation, Calling, Registering, Fetching, Cancelling, Dropped, Own, clocked}
 use Rattle.coap_ends.specs.WholeClient.ClientObservations.{observation_of}
-use Rattle.coap_ends.specs.WholeClient.ClientEffects.{Effect, stays, runs, ends}
+use Rattle.coap_ends.specs.WholeClient.ClientEffects.{Effect, stays, runs}
 use Rattle.coap_ends.specs.WholeClient.ClientEvents.{failed, idle, is_held, is_upload_op, starts}
 use Rattle.coap_ends.specs.WholeClient.ClientObserving.{releases}
-use Rattle.coap_ends.specs.WholeClient.ClientSteps.{asking, asks, reporting}
+use Rattle.coap_ends.specs.WholeClient.ClientSteps.{asking, asks}
 use Rattle.coap_ends.specs.declared.client.operation.Waiting.{Waiting}
 use Rattle.coap_ends.specs.ClientObject.ClientHappens.{Comes, left}
 use Rattle.coap_ends.specs.ClientObject.ClientShown.{shown_queued, shown_waiting}

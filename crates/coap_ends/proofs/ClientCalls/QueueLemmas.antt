@@ -1,10 +1,9 @@
 -- What waits, by its keys and its operations.
-use Rattle.std.proofs.Common.{◌≡◌, ℕ, Bool, true, false, not, List, [], ◌∷◌, ◌++◌, filter, length, refl, ap, sym, subst, ◌∙◌, cond}
+use Rattle.std.proofs.Common.{◌≡◌, ℕ, Bool, true, false, not, List, [], ◌∷◌, ◌++◌, filter, length, refl, ap, cond}
 use Rattle.std.specs.Prelude.{◌==◌, ◌||◌, suc}
 use Rattle.std.specs.List.{list_any}
 use Rattle.coap_ends.specs.declared.client.call_queue.Key.{Key}
 use Rattle.coap_ends.specs.declared.client.call_queue.Key.TheVariants as key
-use Rattle.coap_ends.specs.declared.client.call_queue.Queued.{Queued}
 use Rattle.coap_ends.specs.declared.client.call_queue.Queued.TheVariants.{Starts, Cancels}
 use Rattle.coap_ends.specs.ClientObject.Queued.{AreMatched, is_cancel, is_cancel_key, operations_of, queued_by}
 

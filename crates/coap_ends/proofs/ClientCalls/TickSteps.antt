@@ -1,16 +1,15 @@
 -- A tick of a client, and how an observation is forgotten, by what was done for them (RFC 7252, section 4.7; RFC 7641, section 3.6).
-use Rattle.std.proofs.Common.{◌≡◌, ℕ, max, Bool, true, false, not, ◌||◌, cond, Option, Some, None, List, [], ◌∷◌, ◌++◌, Result, Ok, Err, filter, map, sym, ap, ◌∙◌, subst, refl}
+use Rattle.std.proofs.Common.{◌≡◌, ℕ, max, Bool, true, false, not, ◌||◌, cond, List, [], ◌∷◌, ◌++◌, Result, Ok, Err, filter, map, sym, ap, ◌∙◌, subst, refl}
 use Rattle.std.specs.Prelude.{◌==◌, IfOk, OnOk}
-use Rattle.std.specs.Option.{option_map}
 use Rattle.coap_layer.specs.Trace as L
 use Rattle.coap_exchange.specs.declared.asker.AskRefusal.{AskRefusal}
 use Rattle.coap_exchange.specs.declared.asker.Turn.{Turn}
 use Rattle.coap_exchange.specs.AskerTrace as E
 use Rattle.coap_exchange.specs.AskerLaw as X
 use Rattle.coap_exchange.proofs.Facts.ClientSide.{exchanged_join}
-use Rattle.coap_ends.specs.WholeClient.ClientTrace.{Reported, Forgets, Ticks}
-use Rattle.coap_ends.specs.WholeClient.ClientOwn.{Observation, Operation, Own, clocked}
-use Rattle.coap_ends.specs.WholeClient.ClientObservations.{dropped, is_cancel_of, observation_of, over}
+use Rattle.coap_ends.specs.WholeClient.ClientTrace.{Forgets, Ticks}
+use Rattle.coap_ends.specs.WholeClient.ClientOwn.{Own, clocked}
+use Rattle.coap_ends.specs.WholeClient.ClientObservations.{observation_of}
 use Rattle.coap_ends.specs.WholeClient.ClientObserving.{releases}
 use Rattle.coap_ends.specs.WholeClient.ClientEffects.{Effect}
 use Rattle.coap_ends.specs.WholeClient.ClientEvents.{passes}
@@ -20,7 +19,7 @@ use Rattle.coap_ends.specs.WholeClient.ClientDeeds.{at, close, deeds, forgotten}
 use Rattle.coap_ends.specs.WholeClient.ClientStep.{State, Step}
 use Rattle.coap_ends.specs.declared.client.report.CallId.{CallId}
 use Rattle.coap_ends.specs.declared.client.report.Report as R
-use Rattle.coap_ends.specs.ClientObject.ClientHappens.{Comes, IsDone, left, releasing}
+use Rattle.coap_ends.specs.ClientObject.ClientHappens.{Comes, IsDone, left}
 use Rattle.coap_ends.specs.ClientObject.ClientShown.{shown_reported}
 
 -- what a tick did, and whether that is anything
@@ -76,17 +75,6 @@ pub forgets_none : (s : Own) (x : X.State) (number : ℕ) (did : Bool) → did �
 forgets_none s x number did is may =
     subst (λ b. b ≡ may_forget s number → (kept : Bool) × Step (left s x) (Forgets number kept b) (left s x)) (sym is)
     (λ right. (false, record { right = right; own_is = refl; under = refl })) may
-
-pub released : (o : Option Observation) → releasing (option_map (λ (p : Observation). p.token) o) ≡ releases o
-released None = refl
-released (Some o) = refl
-
-pub left_over : (number : ℕ) (s : Own) (queue : List Operation) (running : Option Operation) (os : List Observation) → queue ≡ filter (λ op. not (is_cancel_of number op)) s.queue → running ≡ dropped number s.running
-    → os ≡ filter (λ o. not (o.number == number)) s.observations → record s { queue = queue; running = running; observations = os } ≡ over number s
-left_over number s queue running os a b c =
-    ap (λ q. record s { queue = q; running = running; observations = os }) a
-    ∙ (ap (λ r. record s { queue = filter (λ op. not (is_cancel_of number op)) s.queue; running = r; observations = os }) b
-    ∙ ap (λ l. record s { queue = filter (λ op. not (is_cancel_of number op)) s.queue; running = dropped number s.running; observations = l }) c)
 
 module _ {A : Type 0} where
   pub reports_left : (number : ℕ) (rs : List (CallId × R.Report A)) → map shown_reported (filter (λ r. not (r.0.0 == number)) rs) ≡ filter (λ r. not (r.number == number)) (map shown_reported rs)

@@ -1,5 +1,5 @@
 -- What waits at a client, as its operations.
-use Rattle.std.proofs.Common.{◌≡◌, ◌≤◌, ℕ, Bool, true, false, cond, not, Option, Some, None, List, [], ◌∷◌, ◌++◌, filter, length, map, refl, ap, sym, ◌∙◌, arith, suc}
+use Rattle.std.proofs.Common.{◌≡◌, ℕ, Bool, true, false, cond, Some, List, [], ◌∷◌, ◌++◌, filter, length, map, refl, ap, ◌∙◌, arith, suc}
 use Rattle.std.specs.Prelude.{◌==◌, ◌||◌, ◌+◌, is_some, IfOk, Result, Ok, Err}
 use Rattle.std.specs.List.{list_any}
 use Rattle.std.proofs.lemmas.List.Folds.{list_any-append}
@@ -61,19 +61,6 @@ module _ {A : Type 0} where
   pub cancels_are : (number : ℕ) (running : List Operation) (q : List (Queued (Waiting A))) → list_any (is_cancel_of number) (running ++ map shown_queued q) ≡ (list_any (is_cancel_of number) running || list_any (is_cancel number) q)
   cancels_are number running q =
       list_any-append (is_cancel_of number) running (map shown_queued q) ∙ ap (λ b. list_any (is_cancel_of number) running || b) (cancels_wait number q)
-
-  -- without the cancel, as operations
-  pub cancels_leave : (number : ℕ) (q : List (Queued (Waiting A))) → map shown_queued (filter (λ k. not (is_cancel number k)) q) ≡ filter (λ op. not (is_cancel_of number op)) (map shown_queued q)
-  cancels_leave number [] = refl
-  cancels_leave number (Starts (waiting.Calling n c) ∷ q) = ap (λ l. shown_waiting {A = A} (waiting.Calling n c) ∷ l) (cancels_leave number q)
-  cancels_leave number (Starts (waiting.Registering n p) ∷ q) = ap (λ l. shown_waiting {A = A} (waiting.Registering n p) ∷ l) (cancels_leave number q)
-  cancels_leave number (Cancels n ∷ q) = by (n == number) (cancels_leave number q)
-    where
-      by : (b : Bool) → map (shown_queued {A = A}) (filter (λ k. not (is_cancel number k)) q) ≡ filter (λ op. not (is_cancel_of number op)) (map (shown_queued {A = A}) q)
-          → map (shown_queued {A = A}) (cond (not b) (Cancels n ∷ filter (λ k. not (is_cancel number k)) q) (filter (λ k. not (is_cancel number k)) q))
-          ≡ cond (not b) (shown_queued {A = A} (Cancels n) ∷ filter (λ op. not (is_cancel_of number op)) (map (shown_queued {A = A}) q)) (filter (λ op. not (is_cancel_of number op)) (map (shown_queued {A = A}) q))
-      by true h = h
-      by false h = ap (λ l. shown_queued {A = A} (Cancels n) ∷ l) h
 
   -- an observation is live that is there
   pub live_is : (number : ℕ) (os : List (B.Observation A)) → is_some (observation_of number (map shown_observation os)) ≡ list_any (has_number number) os

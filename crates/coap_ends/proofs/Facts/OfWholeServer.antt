@@ -54,7 +54,7 @@ use Rattle.coap_ends.proofs.WholeServer.Serving.ServedWasHandedUp.{handed_up, bl
 use Rattle.coap_ends.proofs.WholeServer.Serving.ServerBrought.{servers_back}
 use Rattle.coap_ends.proofs.WholeServer.Serving.ServerReads.{verdicts_read}
 use Rattle.coap_ends.proofs.WholeServer.Serving.ServerWaiting.{ready_are_served, waits_as_deferred}
-pub use Rattle.coap_ends.proofs.WholeServer.Holding.ServerHolds.{version_is, held_is}
+pub use Rattle.coap_ends.proofs.WholeServer.Holding.ServerHolds.{version_is, held_is, all_served, holds_changes}
 pub use Rattle.coap_ends.proofs.WholeServer.Serving.ServedWasHandedUp.{same_asked_is}
 
 pub reads : VerdictsRead

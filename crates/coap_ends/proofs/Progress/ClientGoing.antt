@@ -95,17 +95,17 @@ module _ (server : Endpoint) (word : ℕ) (calls : List A.Call) (law : ExchangeL
   single : (now : ℕ) (call : L.Call) → S.May law.left call → Steps (S.start word) (asked now call (answer_by law.left now call) ∷ E.lower_of server word calls) (left_by law.left now call)
   single now call may = (law.left, law.layer, one_step law.left now call may)
 
-  takes : (answer : Option L.Packet) × ExchangeLaw server word (A.Take answer ∷ calls)
+  pub takes : (answer : Option L.Packet) × ExchangeLaw server word (A.Take answer ∷ calls)
   takes = (slice_get law.left.queue 0, record { rows = (tt, law.rows); left = left_by law.left 0 L.Take; layer = single 0 L.Take tt })
 
-  ticks : (at : ℕ) → (below : L.Answer) × (d : Turn) × ExchangeLaw server word (A.Ticks at below d ∷ calls)
+  pub ticks : (at : ℕ) → (below : L.Answer) × (d : Turn) × ExchangeLaw server word (A.Ticks at below d ∷ calls)
   ticks at = (
     answer_by law.left at L.Ticks,
     R.turn_of own (max own.clock at) (answer_by law.left at L.Ticks),
     record { rows = (refl, law.rows); left = left_by law.left at L.Ticks; layer = single at L.Ticks tt },
   )
 
-  asks : (at w : ℕ) (r : A.Request) → IsSpelled (content_of (Q.request_token own r) r) → (sent : L.Answer) × (token : Result (List ℕ) AskRefusal) × ExchangeLaw server word (A.Ask at r w sent token ∷ calls)
+  pub asks : (at w : ℕ) (r : A.Request) → IsSpelled (content_of (Q.request_token own r) r) → (sent : L.Answer) × (token : Result (List ℕ) AskRefusal) × ExchangeLaw server word (A.Ask at r w sent token ∷ calls)
   asks at w r spelled =
       let call : L.Call = Q.beneath (Q.opening_of own r) own.server (content_of (Q.request_token own r) r) w in
       let sent : L.Answer = answer_by law.left at call in
@@ -137,7 +137,7 @@ module _ (server : Endpoint) (word : ℕ) (calls : List A.Call) (law : ExchangeL
     settles true None s = (false, s, refl)
     settles false running s = (false, s, refl)
 
-    receives : (up : L.Answer) × (settled : Bool) × (event : Option Event) × ExchangeLaw server word (A.Receive at from bytes up settled event ∷ calls)
+    pub receives : (up : L.Answer) × (settled : Bool) × (event : Option Event) × ExchangeLaw server word (A.Receive at from bytes up settled event ∷ calls)
     receives =
         let v = R.verdict_on own from up in
         let r = replies (R.reply_by v (R.id_in up)) refl in

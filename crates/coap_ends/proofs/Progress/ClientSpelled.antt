@@ -22,7 +22,7 @@ use Rattle.coap_ends.specs.ClientRequests.{path_options, more_options, options_o
 use Rattle.coap_types.specs.OptionValues.{uint_option}
 
 -- options whose bytes are few are short
-short_front : (os tail : List CoapOption) (base : ℕ) → length (options_bytes base (os ++ tail)) ≤ 115 → list_all is_short os ≡ true
+pub short_front : (os tail : List CoapOption) (base : ℕ) → length (options_bytes base (os ++ tail)) ≤ 115 → list_all is_short os ≡ true
 unfolding option_bytes options_bytes
 short_front [] tail base h = refl
 short_front (o ∷ os) tail base h =
@@ -75,13 +75,13 @@ numbers_more Put r = numbers_format r.format
 numbers_more Delete r = refl
 
 -- the code of a method is one byte other than 0.00
-code_of : (m : Method) → ((method_code m).0 < 256) × (0 < (method_code m).0)
+pub code_of : (m : Method) → ((method_code m).0 < 256) × (0 < (method_code m).0)
 code_of Get = (omega arith, omega arith)
 code_of Post = (omega arith, omega arith)
 code_of Put = (omega arith, omega arith)
 code_of Delete = (omega arith, omega arith)
 
-not_more : (n : ℕ) → nat_lt max_options n ≡ false → n ≤ 115
+pub not_more : (n : ℕ) → nat_lt max_options n ≡ false → n ≤ 115
 not_more n h = grind (arith, nat_tests)
 
 pub spelled_request : (r : Request) (token : List ℕ) → nat_lt max_options (length (options_bytes 0 (longest r))) ≡ false → length token ≤ 8 → IsSpelled (content_of token (message_of r))

@@ -1,6 +1,7 @@
 -- Observers that are passed over, and the first that isn't (RFC 7641, section 4.5).
 use Rattle.std.proofs.Common.{◌≡◌, ◌≤◌, ◌<◌, ℕ, zero, suc, ◌+◌, Bool, true, false, Option, Some, None, List, [], ◌∷◌, ◌++◌, length, filter, cond, refl, ap, sym, subst, ◌∙◌, add-one, arith}
-use Rattle.std.specs.List.{slice_get}
+use Rattle.std.proofs.lemmas.Bool.{or_parts}
+use Rattle.std.specs.List.{list_any, slice_get}
 use Rattle.coap_observe.specs.Observers.{Observer}
 use Rattle.coap_exchange.specs.AnswererLaw as X
 use Rattle.coap_exchange.specs.AnswererTrace as E
@@ -68,3 +69,9 @@ module _ (old mid new : X.State) (at n : ℕ) (os : List Observer) (o : Observer
 
 pub all_passed : (old new : X.State) (at n : ℕ) (os : List Observer) → slice_get os n ≡ None → X.Exchanged old (passing at n os) new → X.Exchanged old (readies at n os) new
 all_passed old new at n os none asked = subst (λ (cs : List E.Call). X.Exchanged old cs new) (sym (all_asked at n os none)) asked
+
+-- where none of them can be notified, this one can't
+pub none_taken : (p : Observer → Bool) (n : ℕ) (os : List Observer) (o : Observer) → slice_get os n ≡ Some o → list_any p os ≡ false → p o ≡ false
+none_taken p n [] o h none = absurd (cc h)
+none_taken p zero (x ∷ os) o h none = let same : x ≡ o = cc h in let k = or_parts (p x) (list_any p os) none in ap p (sym same) ∙ k.0
+none_taken p (suc n) (x ∷ os) o h none = none_taken p n os o h (or_parts (p x) (list_any p os) none).1

@@ -280,11 +280,11 @@ move_body s now told (mv.is_ended o a notes found note) = inl refl
 move_body s now told (mv.renews o a notes found note newer) = inl (value_none o.number _ (F.start s.szx 0) a (part (F.start s.szx 0) a))
 move_body s now told (mv.passes_by o a notes found note newer) = inl refl
 
-each_append : (P : Part → Type 0) (xs : List Part) (y : Part) → Each P xs → P y → Each P (xs ++ y ∷ [])
+pub each_append : (P : Part → Type 0) (xs : List Part) (y : Part) → Each P xs → P y → Each P (xs ++ y ∷ [])
 each_append P [] y h k = (k, tt)
 each_append P (x ∷ xs) y h k = (h.0, each_append P xs y h.1 k)
 
-each_map : (P Q : Part → Type 0) → ((p : Part) → P p → Q p) → (xs : List Part) → Each P xs → Each Q xs
+pub each_map : (P Q : Part → Type 0) → ((p : Part) → P p → Q p) → (xs : List Part) → Each P xs → Each Q xs
 each_map P Q f [] h = tt
 each_map P Q f (x ∷ xs) h = (f x h.0, each_map P Q f xs h.1)
 

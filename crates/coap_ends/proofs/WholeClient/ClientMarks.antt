@@ -135,7 +135,7 @@ module _ (s : Own) (now : ℕ) where
   heard_none (Some event_of.Timeout) a n = refl
   heard_none (Some event_of.NoResponse) a n = refl
 
-  unheard_none : (told : Option Event) → Unheard s told → taken_by s now told ≡ None
+  pub unheard_none : (told : Option Event) → Unheard s told → taken_by s now told ≡ None
   unheard_none None un = refl
   unheard_none (Some (event_of.Answer m)) un = ap (λ r. registers r now m) (un.answer m refl)
   unheard_none (Some (event_of.Notice m)) un = ap (λ o. renews o now m) (un.notice m refl)
@@ -144,7 +144,7 @@ module _ (s : Own) (now : ℕ) where
   unheard_none (Some event_of.NoResponse) un = refl
 
   -- an answer to what is no registration
-  answer_none : (told : Option Event) (m : Message) (op : Operation) → ((a : Message) → registers (Some op) now a ≡ None) → Hears told m → s.running ≡ Some op → taken_by s now told ≡ None
+  pub answer_none : (told : Option Event) (m : Message) (op : Operation) → ((a : Message) → registers (Some op) now a ≡ None) → Hears told m → s.running ≡ Some op → taken_by s now told ≡ None
   answer_none told m op none hears_it runs = ap (taken_by s now) hears_it ∙ (ap (λ r. registers r now m) runs ∙ none m)
 
 module _ (s : Own) (now : ℕ) (told : Option Event) (last : ℕ → Option Mark) (h : AllMarked (IsLast last) s.observations) (at_most : (n : ℕ) → places n s ≤ 1) where

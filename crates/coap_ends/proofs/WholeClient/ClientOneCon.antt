@@ -187,8 +187,16 @@ small_id : (word : ℕ) (t : List L.Entry) (con : Open) → LayerLaw word t → 
 small_id word t con law h = let k : SpellsCon con = spelled_begun word t con law h in let low = k.1.id in let e = k.3 in omega (arith, low, e)
 
 module _ (server : Endpoint) (szx word : ℕ) (a b : Open) (x y : Message) (ab : AreBytes a.bytes) (bb : AreBytes b.bytes) (sa : Spells a.bytes x) (sb : Spells b.bytes y) (same : x.token ≡ y.token) (small_a : a.id < 65536) (small_b : b.id < 65536) where
-  abbrev OfOne : Type 0
-  OfOne = (a ≡ b) ⊎ (Ends server a b ⊎ Ends server b a)
+  abbrev OfOne : List Call → Type 0
+  OfOne t = (a ≡ b) ⊎ (Ends server szx t a b ⊎ Ends server szx t b a)
+
+  ends_later : (t : List Call) (c : Call) (p q : Open) → Ends server szx t p q → Ends server szx (c ∷ t) p q
+  ends_later t c p q k = record { first = k.first; second = k.second; first_sent = inr k.first_sent; second_sent = inr k.second_sent; begins = k.begins; ends = k.ends; deregisters = k.deregisters }
+
+  one_later : (t : List Call) (c : Call) → OfOne t → OfOne (c ∷ t)
+  one_later t c (inl k) = inl k
+  one_later t c (inr (inl k)) = inr (inl (ends_later t c a b k))
+  one_later t c (inr (inr k)) = inr (inr (ends_later t c b a k))
 
   same_token : (u v : Sending) → IsRequestOf server a u → IsRequestOf server b v → u.token ≡ v.token
   same_token u v h k = sym (token_of_con server a x u ab sa small_a h) ∙ (same ∙ token_of_con server b y v bb sb small_b k)
@@ -199,7 +207,7 @@ module _ (server : Endpoint) (szx word : ℕ) (a b : Open) (x y : Message) (ab :
       begun_once a b z.0 z.1 (call_asks server szx word t c) (single_beneath server word (lower_of szx t) (lower (own_of szx t) c) (single_lower (own_of szx t) c)) z.2
       (subst (Ever (λ e. begun e ≡ Some a)) z.3 h) (subst (Ever (λ e. begun e ≡ Some b)) z.3 k)
 
-  two_cons : (t : List Call) → ClientLaw server szx word t → Ever (λ e. begun e ≡ Some a) (layer_of server szx word t) → Ever (λ e. begun e ≡ Some b) (layer_of server szx word t) → OfOne
+  two_cons : (t : List Call) → ClientLaw server szx word t → Ever (λ e. begun e ≡ Some a) (layer_of server szx word t) → Ever (λ e. begun e ≡ Some b) (layer_of server szx word t) → OfOne t
   two_cons [] law h k = absurd h
   two_cons (c ∷ t) law h k =
       by (Ever_append (λ e. begun e ≡ Some a) (call_adds server szx word t c) (layer_of server szx word t) (subst (Ever (λ e. begun e ≡ Some a)) (layer_next server szx word t c) h))
@@ -207,19 +215,19 @@ module _ (server : Endpoint) (szx word : ℕ) (a b : Open) (x y : Message) (ab :
       (client_back server szx word (c ∷ []) t law) (two_cons t (client_back server szx word (c ∷ []) t law))
     where
       by : Ever (λ e. begun e ≡ Some a) (call_adds server szx word t c) ⊎ Ever (λ e. begun e ≡ Some a) (layer_of server szx word t) → Ever (λ e. begun e ≡ Some b) (call_adds server szx word t c) ⊎ Ever (λ e. begun e ≡ Some b) (layer_of server szx word t)
-          → ClientLaw server szx word t → (Ever (λ e. begun e ≡ Some a) (layer_of server szx word t) → Ever (λ e. begun e ≡ Some b) (layer_of server szx word t) → OfOne) → OfOne
+          → ClientLaw server szx word t → (Ever (λ e. begun e ≡ Some a) (layer_of server szx word t) → Ever (λ e. begun e ≡ Some b) (layer_of server szx word t) → OfOne t) → OfOne (c ∷ t)
       by (inl now) (inl here) past ih = inl (con_here t c law now here)
       by (inl now) (inr before) past ih =
           let u = begins_now server szx word t c law a now in
           let v = cons_are_requests server szx word t past b before in
           let d = (own_tokens szx server word (c ∷ t) law).0 u.sending v.0 u.sends_it v.1 (sym (same_token u.sending v.0 u.is v.2)) in
-          inr (inr (record { first = v.0; second = u.sending; begins = v.2; ends = u.is; deregisters = d }))
+          inr (inr (record { first = v.0; second = u.sending; first_sent = inr v.1; second_sent = inl u.sends_it; begins = v.2; ends = u.is; deregisters = d }))
       by (inr before) (inl now) past ih =
           let u = begins_now server szx word t c law b now in
           let v = cons_are_requests server szx word t past a before in
           let d = (own_tokens szx server word (c ∷ t) law).0 u.sending v.0 u.sends_it v.1 (same_token v.0 u.sending v.2 u.is) in
-          inr (inl (record { first = v.0; second = u.sending; begins = v.2; ends = u.is; deregisters = d }))
-      by (inr p) (inr q) past ih = ih p q
+          inr (inl (record { first = v.0; second = u.sending; first_sent = inr v.1; second_sent = inl u.sends_it; begins = v.2; ends = u.is; deregisters = d }))
+      by (inr p) (inr q) past ih = one_later t c (ih p q)
 
 pub one_con : (server : Endpoint) (szx word : ℕ) (t : List Call) → ClientLaw server szx word t → OneConOrCancel server szx word t
 one_con server szx word t law a b h k x y ab bb sa sb same =

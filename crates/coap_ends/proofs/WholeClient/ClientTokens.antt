@@ -66,7 +66,7 @@ module _ (P : ℕ → List (List ℕ) → List ℕ → Type 0) where
       by true = same o h.0
       by false = h.0
 
-  live_without : (k : ℕ) (os : List Observation) → AllLive P os → AllLive P (filter (λ (o : Observation). not (o.number == k)) os)
+  pub live_without : (k : ℕ) (os : List Observation) → AllLive P os → AllLive P (filter (λ (o : Observation). not (o.number == k)) os)
   live_without k [] h = tt
   live_without k (o ∷ os) h = by (o.number == k) (live_without k os h.1)
     where
@@ -90,7 +90,7 @@ module _ (P : ℕ → List (List ℕ) → List ℕ → Type 0) where
   live_held s true report h = h
   live_held s false report h = h
 
-  live_failed : (s : Own) (u : Transfer → Bool) (report : Report) (running : Option Operation) → AllLive P s.observations → AllLive P (failed u report s running).own.observations
+  pub live_failed : (s : Own) (u : Transfer → Bool) (report : Report) (running : Option Operation) → AllLive P s.observations → AllLive P (failed u report s running).own.observations
   live_failed s u report None h = h
   live_failed s u report (Some (Calling k r t)) h = live_held s (u t && is_upload t) (of k report) h
   live_failed s u report (Some (Registering k path)) h = h
@@ -99,7 +99,7 @@ module _ (P : ℕ → List (List ℕ) → List ℕ → Type 0) where
   live_failed s u report (Some Dropped) h = h
 
   module _ (s : Own) (now : ℕ) (told : Option Event) (h : AllLive P s.observations) (is_new : (k : ℕ) (path : List (List ℕ)) (m : _) → Hears told m → s.running ≡ Some (Registering k path) → P k path m.token) where
-    live_moves : (mo : Move s now told) → AllLive P (left_by s now told mo).own.observations
+    pub live_moves : (mo : Move s now told) → AllLive P (left_by s now told mo).own.observations
     live_moves (mv.rests un) = h
     live_moves (mv.copies quiet_so) = h
     live_moves (mv.starts_next op queue none rest first quiet_so) = h
@@ -148,7 +148,7 @@ token_asked os (Fetching k) token h = absurd (cc h)
 token_asked os Dropped token h = absurd (cc h)
 
 -- the observations that the request of a cancel is made of are those before
-same_observations : (s : Own) (now : ℕ) (told : Option Event) (mo : Move s now told) (op : Operation) → (left_by s now told mo).deed ≡ Asks op → ((left_by s now told mo).own.observations ≡ s.observations) ⊎ ((k : ℕ) × (op ≡ Fetching k))
+pub same_observations : (s : Own) (now : ℕ) (told : Option Event) (mo : Move s now told) (op : Operation) → (left_by s now told mo).deed ≡ Asks op → ((left_by s now told mo).own.observations ≡ s.observations) ⊎ ((k : ℕ) × (op ≡ Fetching k))
 same_observations s now told (mv.rests un) op h = inl refl
 same_observations s now told (mv.copies quiet_so) op h = inl refl
 same_observations s now told (mv.starts_next o queue none rest first quiet_so) op h = inl refl
@@ -357,7 +357,7 @@ module _ (szx : ℕ) where
         (Ever_back (F.Begins x.token) a.front (lower_of szx t) (Ever_map (AsksFor y.request y.token) (F.Begins x.token) (λ b k. asks_begin y.request y.token b k ∙ ap (λ z. Some z) same) (lower_of szx t) (was_asked t y was)))
 
     -- a cancel that was sent runs, or is over
-    cancel_runs : (t : List Call) (y : Sending) (k : ℕ) → WasSent szx y t → y.operation ≡ Cancelling k → ((own_of szx t).running ≡ Some (Cancelling k)) ⊎ (1 ≤ gone szx k t)
+    pub cancel_runs : (t : List Call) (y : Sending) (k : ℕ) → WasSent szx y t → y.operation ≡ Cancelling k → ((own_of szx t).running ≡ Some (Cancelling k)) ⊎ (1 ≤ gone szx k t)
     cancel_runs [] y k was is = absurd was
     cancel_runs (c ∷ t) y k (inl now) is = inl ((sent_now szx t c y now).runs ∙ ap (λ o. Some o) is)
     cancel_runs (c ∷ t) y k (inr before) is = elim (cancel_runs t y k before is) [
@@ -371,7 +371,7 @@ module _ (szx : ℕ) where
         by (ends_it n number final none) = let e : k ≡ n = cc number in inr (subst (λ j. 1 ≤ gone szx j (c ∷ t)) (sym e) (omega (arith, final)))
 
     -- a cancel is sent once
-    one_cancel : (t : List Call) (c : Call) → ClientLaw server szx word (c ∷ t) → (x y : Sending) (k : ℕ) → sends (own_of szx t) c ≡ Some x → x.operation ≡ Cancelling k → WasSent szx y t → y.operation ≡ Cancelling k → ⊥
+    pub one_cancel : (t : List Call) (c : Call) → ClientLaw server szx word (c ∷ t) → (x y : Sending) (k : ℕ) → sends (own_of szx t) c ≡ Some x → x.operation ≡ Cancelling k → WasSent szx y t → y.operation ≡ Cancelling k → ⊥
     one_cancel t c law x y k is op was other = elim (cancel_runs t y k was other) [
       | inl runs ↦ by (fate szx t c (Cancelling k) tt runs)
       | inr h ↦ (

@@ -180,11 +180,11 @@ taken_later t c (Fetching k) h = tt
 taken_later t c (Cancelling k) h = tt
 taken_later t c Dropped h = tt
 
-all_to : (P Q : Operation → Type 0) → ((op : Operation) → P op → Q op) → (ops : List Operation) → AllOf P ops → AllOf Q ops
+pub all_to : (P Q : Operation → Type 0) → ((op : Operation) → P op → Q op) → (ops : List Operation) → AllOf P ops → AllOf Q ops
 all_to P Q f [] h = tt
 all_to P Q f (op ∷ ops) h = (f op h.0, all_to P Q f ops h.1)
 
-all_more : (P : Operation → Type 0) (ops : List Operation) (op : Operation) → AllOf P ops → P op → AllOf P (ops ++ op ∷ [])
+pub all_more : (P : Operation → Type 0) (ops : List Operation) (op : Operation) → AllOf P ops → P op → AllOf P (ops ++ op ∷ [])
 all_more P [] op h k = (k, tt)
 all_more P (x ∷ ops) op h k = (h.0, all_more P ops op h.1 k)
 

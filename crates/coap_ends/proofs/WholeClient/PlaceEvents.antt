@@ -164,7 +164,7 @@ failed_goes s x sound none u report last (Some Dropped) is = ends_quietly s x so
 -- a notification
 module _ (s : Own) (x : Option Exchange) (sound : Sound s) (l : Linked s.running s.observations x) (at : ℕ) (m : Message) (aside : has_token x m.token ≡ false) where
   -- no cancel of its observation runs: that has its token
-  apart_of : (o : Observation) → observation_with m.token s.observations ≡ Some o → NoCancel o.number s.running
+  pub apart_of : (o : Observation) → observation_with m.token s.observations ≡ Some o → NoCancel o.number s.running
   apart_of o found j is = by (j == o.number) refl
     where
       by : (b : Bool) → (j == o.number) ≡ b → b ≡ false

@@ -6,3 +6,4 @@ pub mod ConsAreAcknowledged
 pub mod VersionsRise
 pub mod ToldInOrder
 pub mod EndsObservation
+pub mod LatestRegistration

@@ -32,9 +32,11 @@ abbrev pub ShortTokens : ℕ → List Call → Type 0
 ShortTokens szx t = (x : Sending) → WasSent szx x t → length x.token ≤ max_token_len
 
 -- the second CON cancels the observation that the first registers
-pub record Ends (server : Endpoint) (a b : Open) : Type 0 where
+pub record Ends (server : Endpoint) (szx : ℕ) (t : List Call) (a b : Open) : Type 0 where
   pub first : Sending
   pub second : Sending
+  pub first_sent : WasSent szx first t
+  pub second_sent : WasSent szx second t
   pub begins : IsRequestOf server a first
   pub ends : IsRequestOf server b second
   pub deregisters : Deregisters first second
@@ -43,4 +45,4 @@ pub record Ends (server : Endpoint) (a b : Open) : Type 0 where
 abbrev pub OneConOrCancel : Endpoint → (szx word : ℕ) → List Call → Type 0
 OneConOrCancel server szx word t =
     (a b : Open) → Ever (λ e. begun e ≡ Some a) (layer_of server szx word t) → Ever (λ e. begun e ≡ Some b) (layer_of server szx word t) → (x y : Message) → AreBytes a.bytes → AreBytes b.bytes
-    → Spells a.bytes x → Spells b.bytes y → x.token ≡ y.token → (a ≡ b) ⊎ (Ends server a b ⊎ Ends server b a)
+    → Spells a.bytes x → Spells b.bytes y → x.token ≡ y.token → (a ≡ b) ⊎ (Ends server szx t a b ⊎ Ends server szx t b a)

@@ -17,3 +17,4 @@ pub mod ServerShows
 pub mod ServerOuts
 pub mod ServerTokens
 pub mod ServerTable
+pub mod ServerLatest

@@ -3,9 +3,9 @@ ghost use Rattle.std.specs.Prelude.{◌≡◌, ◌<◌, Some, if◌then◌else�
 ghost use Rattle.std.specs.Option.{option_map};
 ghost use Rattle.std.specs.VecDeque.{deque_len, deque_capacity};
 ghost use Rattle.coap_ends.specs.WholeClient.ClientEffects.{ends, held_by, of};
-ghost use Rattle.coap_ends.specs.WholeClient.ClientObserving.{is_over};
+ghost use Rattle.coap_ends.specs.WholeClient.ClientObserving.{is_over, releases};
 ghost use Rattle.coap_ends.specs.WholeClient.ClientOwn.{Operation as Running, Dropped, operation_number};
-ghost use Rattle.coap_ends.specs.WholeClient.ClientObservations.{dropped};
+ghost use Rattle.coap_ends.specs.WholeClient.ClientObservations.{dropped, observation_of, over};
 ghost use Rattle.coap_ends.specs.WholeClient.ClientSteps.{reporting};
 ghost use Rattle.coap_ends.specs.ClientObject.ClientHappens.{failing, left, releasing, Apart, IsDone, Closes};
 ghost use Rattle.coap_ends.specs.ClientObject.ClientHeld.{own_of};
@@ -54,11 +54,26 @@ pub fn end_observation<A: Allocator + Copy, H: BuildHasher>(
     ensures deed { IsDone asker.old.state (is_over number (shown_report report) (own_of held.old)).deed asker.new.state }
     ensures before { asker.new.before ≡ asker.old.before }
 {
+    leave(asker, held, number);
+    give(held, number, report);
+}
+
+/// An observation is over: its token is kept no more, its cancel leaves the queue, and what is fetched
+/// for it no longer counts.
+pub fn leave<A: Allocator + Copy, H: BuildHasher>(
+    asker: &mut Asker<A, H>,
+    held: &mut Held<A>,
+    number: u64,
+)
+    ensures own { own_of held.new ≡ over number (own_of held.old) }
+    ensures reports { held.new.reports ≡ held.old.reports }
+    ensures deed { IsDone asker.old.state (releases (observation_of number (own_of held.old).observations)) asker.new.state }
+    ensures before { asker.new.before ≡ asker.old.before }
+{
     let_go(asker, observations::token_of(&held.observations, number));
     held.queue.drop_cancel(number);
     drop_fetch(&mut held.running, number);
     observations::remove(&mut held.observations, number);
-    give(held, number, report);
 }
 
 // A token is kept no more, if there is one.

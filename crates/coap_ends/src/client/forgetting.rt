@@ -1,22 +1,17 @@
 //! How an observation is forgotten (RFC 7641, section 3.6).
 ghost use Rattle.std.specs.Prelude.{◌≡◌, ◌==◌, Bool, not, filter, map};
-ghost use Rattle.coap_exchange.specs.AskerLaw as exchange;
-ghost use Rattle.coap_ends.specs.WholeClient.ClientObservations.{observation_of, over};
-ghost use Rattle.coap_ends.specs.WholeClient.ClientObserving.{releases};
 ghost use Rattle.coap_ends.specs.WholeClient.ClientQueue.{may_forget};
 ghost use Rattle.coap_ends.specs.WholeClient.ClientStep.{Step};
 ghost use Rattle.coap_ends.specs.WholeClient.ClientTrace.{Forgets};
-ghost use Rattle.coap_ends.specs.ClientObject.ClientHappens.{IsDone, left, releasing};
+ghost use Rattle.coap_ends.specs.ClientObject.ClientHappens.{left};
 ghost use Rattle.coap_ends.specs.ClientObject.ClientHeld.{own_of};
 ghost use Rattle.coap_ends.specs.ClientObject.ClientShown.{shown_reported};
 
-use crate::client::failing::drop_fetch;
+use crate::client::failing::leave;
 use crate::client::held::Held;
-use crate::client::observations::{remove, token_of};
 use crate::client::observed::{is_cancelled, is_live};
 use crate::client::report::{CallId, Report};
 use coap_exchange::Asker;
-use coap_types::Token;
 use std::alloc::Allocator;
 use std::collections::VecDeque;
 use std::hash::BuildHasher;
@@ -45,32 +40,6 @@ fn may_forget<A: Allocator + Copy>(held: &Held<A>, number: u64) -> bool
     ensures { result ≡ may_forget (own_of held.now) number }
 {
     is_live(held, number) && !is_cancelled(held, number)
-}
-
-// The observation is over; its token is kept no more.
-fn leave<A: Allocator + Copy, H: BuildHasher>(
-    asker: &mut Asker<A, H>,
-    held: &mut Held<A>,
-    number: u64,
-)
-    ensures own { own_of held.new ≡ over number (own_of held.old) }
-    ensures deed { IsDone asker.old.state (releases (observation_of number (own_of held.old).observations)) asker.new.state }
-    ensures before { asker.new.before ≡ asker.old.before }
-{
-    let_go(asker, token_of(held.observations.as_slice(), number));
-    held.queue.drop_cancel(number);
-    drop_fetch(&mut held.running, number);
-    remove(&mut held.observations, number);
-}
-
-// A token is kept no more, if there is one.
-fn let_go<A: Allocator + Copy, H: BuildHasher>(asker: &mut Asker<A, H>, token: Option<Token>)
-    ensures done { IsDone asker.old.state (releasing token) asker.new.state }
-    ensures before { asker.new.before ≡ asker.old.before }
-{
-    if let Some(token) = token {
-        let _kept = asker.release(&token);
-    }
 }
 
 // The reports of that observation are given no more.

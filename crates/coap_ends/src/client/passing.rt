@@ -1,7 +1,8 @@
 //! What time makes of a client (RFC 7252, sections 4.2, 4.7 and 5.2.2).
-ghost use Rattle.std.specs.Prelude.{◌≡◌, ◌||◌, ◌&&◌, ◌<◌, ℕ, not, true, map, slice_get, None, Some, IfOk, OnErr, OnOk};
+ghost use Rattle.std.specs.Prelude.{◌≡◌, ◌||◌, ◌&&◌, ◌<◌, ℕ, not, false, true, map, slice_get, None, Some, IfOk, IsOk, OnErr, OnOk};
 ghost use Rattle.std.specs.VecDeque.{deque_len, deque_capacity};
 ghost use Rattle.coap_exchange.specs.AskerLaw as exchange;
+ghost use Rattle.coap_exchange.specs.declared.asker.Turn.TheVariants as turns;
 ghost use Rattle.coap_ends.specs.WholeClient.ClientEffects.{runs};
 ghost use Rattle.coap_ends.specs.WholeClient.ClientEvents.{failed, is_held, is_upload_op, passes};
 ghost use Rattle.coap_ends.specs.WholeClient.ClientOwn.{Fetching, Operation as Op, Own, clocked};
@@ -39,6 +40,8 @@ pub fn pass_time<A: Allocator + Copy, H: BuildHasher>(
     ensures did { IfOk result (λ did. did ≡ (not (is_idle turn) || asks (passes (clocked at.0 (own_of held.old)) at.0 turn).deed)) }
     ensures held { OnErr result (own_of held.new ≡ own_of held.old) }
     ensures before { asker.new.before ≡ asker.old.before }
+    // Where nothing was due and nothing begins, it takes no memory.
+    ensures quiet { turn ≡ turns.Idle → asks (idle_now at.0 (own_of held.old)).deed ≡ false → IsOk result }
 {
     match turn {
         Turn::Idle => pass_idly(asker, held, at, word),
@@ -103,6 +106,7 @@ fn pass_idly<A: Allocator + Copy, H: BuildHasher>(
     ensures did { IfOk result (λ did. did ≡ asks (idle_now at.0 (own_of held.old)).deed) }
     ensures held { OnErr result (own_of held.new ≡ own_of held.old) }
     ensures before { asker.new.before ≡ asker.old.before }
+    ensures quiet { asks (idle_now at.0 (own_of held.old)).deed ≡ false → IsOk result }
 {
     if held.running.is_some() {
         rest(held, at);
@@ -148,6 +152,7 @@ fn start_first<A: Allocator + Copy, H: BuildHasher>(
     ensures did { IfOk result (λ did. did ≡ asks (starts_now at.0 (own_of held.old)).deed) }
     ensures held { OnErr result (own_of held.new ≡ own_of held.old) }
     ensures before { asker.new.before ≡ asker.old.before }
+    ensures quiet { asks (starts_now at.0 (own_of held.old)).deed ≡ false → IsOk result }
 {
     if may_start(held, at) {
         held.reports.reserve(1)?;

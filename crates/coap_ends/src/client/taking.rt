@@ -1,9 +1,9 @@
 //! How a client takes a call or an observation.
-ghost use Rattle.std.specs.Prelude.{◌≡◌, ◌≢◌, ◌<◌, ◌^◌, ◌-◌, Err, Ok, IfOk, OnErr, OnOk, length};
+ghost use Rattle.std.specs.Prelude.{◌≡◌, ◌≢◌, ◌<◌, ◌^◌, ◌-◌, false, is_ok, Err, Ok, IfOk, OnErr, OnOk, length};
 ghost use Rattle.coap_exchange.specs.AskerLaw as X;
 ghost use Rattle.coap_ends.specs.declared.refusals.CallRefusal.TheVariants as refusals;
 ghost use Rattle.coap_ends.specs.WholeClient.ClientDeeds.{at};
-ghost use Rattle.coap_ends.specs.WholeClient.ClientQueue.{numbered};
+ghost use Rattle.coap_ends.specs.WholeClient.ClientQueue.{call_answer, numbered, observe_answer};
 ghost use Rattle.coap_ends.specs.WholeClient.ClientStep.{Step};
 ghost use Rattle.coap_ends.specs.WholeClient.ClientTrace.{Calls, Observes};
 ghost use Rattle.coap_ends.specs.ClientObject.CallShown.{is_long, is_long_path, shown_request};
@@ -34,6 +34,7 @@ pub fn call<A: Allocator + Copy>(
     ensures step { result ≢ Err refusals.Memory → (x : X.State)
         → Step (left (own_of held.old) x) (Calls now.0 (shown_request request) (number_of result)) (left (own_of held.new) x) }
     ensures memory { result ≡ Err refusals.Memory → own_of held.new ≡ own_of held.old }
+    ensures refused { is_ok (call_answer (own_of held.old) (shown_request request)) ≡ false → result ≢ Err refusals.Memory }
 {
     match judge_call(held, &request, long) {
         Err(why) => {
@@ -63,6 +64,7 @@ pub fn observe<A: Allocator + Copy>(
     ensures step { result ≢ Err refusals.Memory → (x : X.State)
         → Step (left (own_of held.old) x) (Observes now.0 path (number_of result)) (left (own_of held.new) x) }
     ensures memory { result ≡ Err refusals.Memory → own_of held.new ≡ own_of held.old }
+    ensures refused { is_ok (observe_answer (own_of held.old) path) ≡ false → result ≢ Err refusals.Memory }
 {
     match judge_observation(held, &path, long) {
         Err(why) => {

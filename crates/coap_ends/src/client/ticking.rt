@@ -1,5 +1,5 @@
 //! A tick of a client (RFC 7252, sections 4.2, 4.7 and 5.2.2).
-ghost use Rattle.std.specs.Prelude.{◌≡◌, ℕ, Bool, List, Result, IfOk, OnErr};
+ghost use Rattle.std.specs.Prelude.{◌≡◌, ℕ, Bool, List, Result, IfOk, IsOk, OnErr};
 ghost use Rattle.coap_layer.specs.Trace as L;
 ghost use Rattle.coap_exchange.specs.declared.asker.AskRefusal.{AskRefusal};
 ghost use Rattle.coap_exchange.specs.declared.asker.Turn.{Turn as Due};
@@ -7,6 +7,7 @@ ghost use Rattle.coap_ends.specs.WholeClient.ClientStep.{Step};
 ghost use Rattle.coap_ends.specs.WholeClient.ClientTrace.{Ticks};
 ghost use Rattle.coap_ends.specs.ClientObject.ClientHappens.{Apart, left};
 ghost use Rattle.coap_ends.specs.ClientObject.ClientHeld.{own_of};
+ghost use Rattle.coap_ends.specs.ClientTurns.ClientQuiet.{IsIdle};
 
 use crate::client::held::Held;
 use crate::client::passing::pass_time;
@@ -28,6 +29,7 @@ pub fn tick<A: Allocator + Copy, H: BuildHasher>(
         × Step (left (own_of held.old) asker.old.state) (Ticks now.0 word below due sent token kept did) (left (own_of held.new) asker.new.state)) }
     ensures own { OnErr result (own_of held.new ≡ own_of held.old) }
     ensures layer { OnErr result (asker.new.state ≡ asker.old.state) }
+    ensures quiet { IsIdle (left (own_of held.old) asker.old.state) now.0 → IsOk result }
 {
     let at = Moment(held.clock.max(now.0));
     let turn = asker.tick(at)?;

@@ -1,5 +1,5 @@
 //! Which observer is notified next, and of what (RFC 7641, sections 4.2, 4.4 and 4.5).
-ghost use Rattle.std.specs.Prelude.{◌≡◌, ◌≤◌, ℕ, Option, true, is_some, IfOk, IfSome, OnErr, length};
+ghost use Rattle.std.specs.Prelude.{◌≡◌, ◌≤◌, ℕ, Option, true, false, None, is_some, IfOk, IfSome, IsOk, OnErr, length};
 ghost use Rattle.coap_observe.specs.Notices.{told, told_due};
 ghost use Rattle.coap_observe.specs.Observers.{Observer};
 ghost use Rattle.coap_resource.specs.Content.{Held};
@@ -10,6 +10,7 @@ ghost use Rattle.coap_exchange.specs.Machine.AnswererShown.{MayNotify};
 ghost use Rattle.coap_ends.specs.WholeServer.ServerNotifying as next;
 ghost use Rattle.coap_ends.specs.WholeServer.ServerNotifying.{behind, marked, notified, readies};
 ghost use Rattle.coap_ends.specs.ServerObject.ServerShown.{kept_of, seen};
+ghost use Rattle.coap_ends.specs.ServerTurns.ServerIdle.{takes_notice};
 ghost use Rattle.coap_ends.specs.ServerTurns.ServerTurned.{IsTurned};
 
 use crate::server::full_response::FullResponse;
@@ -35,6 +36,8 @@ fn first_ready<'o, A: Allocator + Copy, H: BuildHasher>(
         × Exchanged exchanges.old.state (readies at.0 passed (marked observers.now)) exchanges.new.state) }
     ensures may { IfOk result (λ found. IfSome found (λ notice. MayNotify exchanges.new at.0 notice.to)) }
     ensures before { exchanges.new.before ≡ exchanges.old.before }
+    ensures none { takes_notice exchanges.old.state at.0 observers.now ≡ false → IfOk result (λ found. found ≡ None) }
+    ensures quiet { takes_notice exchanges.old.state at.0 observers.now ≡ false → IsOk result }
 {
     let mut passed = 0;
     'observers: while let Some(notice) = observers.due_after(passed) {
@@ -120,6 +123,7 @@ pub(crate) fn notify_next<S: Store<A>, A: Allocator + Copy, H: BuildHasher>(
     ensures before { parts.new.exchanges.before ≡ parts.old.exchanges.before }
     ensures err { OnErr result
         (record (kept_of parts.new) { exchanges = parts.old.exchanges.state } ≡ kept_of parts.old) }
+    ensures quiet { takes_notice parts.old.exchanges.state parts.old.clock.0 parts.old.observers ≡ false → IsOk result }
 {
     let at = parts.clock;
     let Some(notice) = first_ready(&mut parts.exchanges, &parts.observers, at)? else {

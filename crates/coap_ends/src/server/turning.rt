@@ -1,6 +1,7 @@
 //! Time passes at a server (RFC 7252, sections 4.2 and 5.2.2; RFC 7641, section 4.5).
-ghost use Rattle.std.specs.Prelude.{◌≡◌, ◌≤◌, ℕ, Bool, IfOk, IsOk, OnErr, length};
+ghost use Rattle.std.specs.Prelude.{◌≡◌, ◌≢◌, ◌≤◌, ℕ, max, Bool, false, [], IfOk, IsOk, OnErr, length};
 ghost use Rattle.coap_types.specs.declared.token.TheConstants.{MAX_TOKEN_LEN as max_token_len};
+ghost use Rattle.coap_layer.specs.Machine.State.{answer_of, copies};
 ghost use Rattle.coap_layer.specs.Trace as below;
 ghost use Rattle.coap_exchange.specs.declared.answerer.Asked.{Asked as AskedSpec};
 ghost use Rattle.coap_exchange.specs.declared.answerer.Due.{Due as DueSpec};
@@ -9,6 +10,7 @@ ghost use Rattle.coap_exchange.specs.Machine.AnswererShown.{MayRespond};
 ghost use Rattle.coap_ends.specs.WholeServer.ServerLed.{Step};
 ghost use Rattle.coap_ends.specs.WholeServer.ServerTrace.{Handling, Ticks};
 ghost use Rattle.coap_ends.specs.ServerObject.ServerShown.{kept_of, seen};
+ghost use Rattle.coap_ends.specs.ServerTurns.ServerIdle.{IsIdle, moment, takes_notice};
 ghost use Rattle.coap_ends.specs.ServerTurns.ServerTurned.{IsTurned};
 
 use crate::server::moments::{forget, later};
@@ -34,6 +36,8 @@ fn turn<S: Store<A>, A: Allocator + Copy, H: BuildHasher>(
     ensures turned { IfOk result (λ did. IsTurned (seen S.content parts.old) due word did (seen S.content parts.new)) }
     ensures copied { due ≡ dues.Copied → IsOk result }
     ensures expired { due ≡ dues.Expired → IsOk result }
+    ensures idle { due ≡ dues.Idle → takes_notice parts.old.exchanges.state parts.old.clock.0 parts.old.observers ≡ false
+        → IsOk result }
     ensures before { parts.new.exchanges.before ≡ parts.old.exchanges.before }
     ensures err { OnErr result
         (record (kept_of parts.new) { exchanges = parts.old.exchanges.state } ≡ kept_of parts.old) }
@@ -67,6 +71,10 @@ pub(crate) fn tick_parts<S: Store<A>, A: Allocator + Copy, H: BuildHasher>(
         × (h : Handling) × (id : ℕ)
         × Step (seen S.content parts.old) (Ticks now.0 word done room due passed h id did) (seen S.content parts.new)) }
     ensures err { OnErr result (kept_of parts.new ≡ kept_of parts.old) }
+    ensures quiet { IsIdle (seen S.content parts.old) now.0 → IsOk result }
+    ensures fails { copies (moment (seen S.content parts.old) now.0) parts.old.exchanges.state.layer.open_cons ≡ []
+        → answer_of parts.old.exchanges.state.layer (moment (seen S.content parts.old) now.0) below.Ticks ≢ below.Idle
+        → IsOk result }
 {
     let was = parts.clock;
     let at = later(was, now);

@@ -1,8 +1,11 @@
+use Rattle.coap_ends.proofs.WholeClient.ClientAsksOnce.{ask_once}
+use Rattle.coap_ends.proofs.WholeClient.ClientBounds.{are_bounded}
 use Rattle.coap_ends.proofs.WholeClient.ClientContinued.{are_continued}
 use Rattle.coap_ends.proofs.WholeClient.ClientValid.{valid_of_tags}
 use Rattle.coap_ends.proofs.WholeClient.ClientMarks.{are_newer}
 use Rattle.coap_ends.proofs.WholeClient.ClientHandedUp.{are_handed_up}
 use Rattle.coap_ends.proofs.WholeClient.ClientBodies.{bodies_are_whole}
+use Rattle.coap_ends.proofs.WholeClient.ClientOfCalls.{are_of_calls, others_are_gets}
 use Rattle.coap_ends.proofs.WholeClient.ClientOneCon.{one_con}
 use Rattle.coap_ends.proofs.WholeClient.ClientTokens.{own_tokens, one_of_token, short_tokens}
 use Rattle.coap_ends.proofs.WholeClient.ClientHeardOnce.{heard_once}
@@ -51,3 +54,15 @@ returns-clause-valid c = valid_of_tags
 
 pub returns-clause-continued : goal.returns-clause-continued
 returns-clause-continued c = are_continued
+
+pub returns-clause-of_calls : goal.returns-clause-of_calls
+returns-clause-of_calls c server szx word t law = are_of_calls szx t
+
+pub returns-clause-others : goal.returns-clause-others
+returns-clause-others c server szx word t law = others_are_gets szx t
+
+pub returns-clause-bounded : goal.returns-clause-bounded
+returns-clause-bounded c = are_bounded
+
+pub returns-clause-asks_once : goal.returns-clause-asks_once
+returns-clause-asks_once c = ask_once

@@ -1,3 +1,4 @@
+use Rattle.coap_ends.proofs.WholeServer.Observing.LatestRegistration.{are_latest}
 use Rattle.coap_ends.proofs.WholeServer.Exact.ServerExactly.{is_exact}
 use Rattle.coap_ends.proofs.WholeServer.Exact.ServerLeads.{exchanges_kept, led_empty, led_further, led_lawful}
 use Rattle.coap_ends.proofs.WholeServer.Rest.ServerEnding.{ticks_end}
@@ -141,3 +142,6 @@ returns-clause-asks c = verdicts_ask
 
 pub returns-clause-methods : goal.returns-clause-methods
 returns-clause-methods c limit szx word t law = all_methods limit szx t law.rows
+
+pub returns-clause-latest : goal.returns-clause-latest
+returns-clause-latest c = are_latest

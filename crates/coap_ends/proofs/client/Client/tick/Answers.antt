@@ -3,6 +3,7 @@ use Rattle.coap_ends.specs.ClientObject.ClientHappens.{left}
 use Rattle.coap_ends.specs.ClientObject.ClientHeld.{own_of}
 use Rattle.coap_ends.proofs.ClientCalls.ClientIsLed.{both_err, closes_if, if_ok, on_err, same_led, same_left, seen_step}
 use Rattle.coap_ends.proofs.ClientCalls.ClientWatched.{apart, led_step}
+use Rattle.coap_ends.proofs.ClientCalls.WorkFalls.{ticks_fall}
 use Rattle.coap_ends.proofs.client.Client.tick.Goals as goal
 
 pub tick-requires : goal.tick-requires
@@ -20,3 +21,6 @@ returns-clause-step g c =
 pub returns-clause-led : goal.returns-clause-led
 returns-clause-led g c server szx w t led =
     if_ok c.tick.result (λ did s. (s.0, s.1, s.2, s.3, s.4, led_client server szx w t _ _ _ led s.5)) (returns-clause-step g c)
+
+pub returns-clause-less : goal.returns-clause-less
+returns-clause-less g c = ticks_fall c.tick.result _ _ _ _ (returns-clause-step g c)

@@ -1,19 +1,9 @@
-use Rattle.std.proofs.Common.{ap, rules, subst, ◌∙◌}
+use Rattle.std.proofs.Common.{ap, ◌∙◌}
 use Rattle.coap_ends.specs.WholeClient.ClientEffects.{Rests, of}
-use Rattle.coap_ends.specs.WholeClient.ClientObservations.{observation_of}
 use Rattle.coap_ends.specs.WholeClient.ClientSteps.{reporting}
-use Rattle.coap_ends.specs.ClientObject.ClientHappens.{IsDone, releasing}
-use Rattle.coap_ends.specs.ClientObject.ClientHeld.{own_of}
 use Rattle.coap_ends.specs.ClientObject.ClientShown.{shown_report}
-use Rattle.coap_ends.proofs.ClientCalls.HeldLemmas.{over_is, releasing_is, seen_cancels}
 use Rattle.coap_ends.proofs.client.failing.end_observation.Goals as goal
 
 pub returns-clause-own : goal.returns-clause-own
 returns-clause-own g c =
-    c.give.ensures
-    ∙ ap (λ s. reporting (record { own = s; report = of c.args.number (shown_report c.args.report); deed = Rests }))
-    (over_is c.args.number (own_of c.args.held.now) _ _ _ (seen_cancels c.args.number _ _ c.drop_cancel.ensures) c.drop_fetch.ensures c.remove.ensures)
-
-pub returns-clause-deed : goal.returns-clause-deed
-returns-clause-deed g c =
-    subst (λ d. IsDone c.args.asker.now.state d c.let_go.new.asker.state) (ap releasing (search rules) ∙ releasing_is (observation_of c.args.number (own_of c.args.held.now).observations)) c.let_go.ensures.done
+    c.give.ensures ∙ ap (λ s. reporting (record { own = s; report = of c.args.number (shown_report c.args.report); deed = Rests })) c.leave.ensures.own

@@ -1,5 +1,5 @@
-use Rattle.std.proofs.Common.{◌≡◌, map, ap, sym, subst, ◌∙◌}
-use Rattle.std.specs.Prelude.{IfOk, OnOk}
+use Rattle.std.proofs.Common.{◌≡◌, true, false, map, ap, sym, subst, ◌∙◌}
+use Rattle.std.specs.Prelude.{IfOk, IsOk, OnOk}
 use Rattle.coap_ends.specs.WholeClient.ClientObservations.{to_fetch}
 use Rattle.coap_ends.specs.WholeClient.ClientOwn.{clocked}
 use Rattle.coap_ends.specs.WholeClient.ClientEffects.{Effect}
@@ -52,3 +52,21 @@ returns-in-None-clause-did g c =
     (shown_none (shown_operation {A = g.row.A.Denot}) c.args.held.now.running (sym c.is_some.ensures ∙ c.if-is_some.false))
     (ap (λ os. to_fetch (map (shown_observation {A = g.row.A.Denot}) os)) (sym c.as_slice.ensures.value) ∙ (sym c.to_fetch.ensures ∙ c.in-None.is))))
     c.start_first.ensures.did
+
+pub returns-in-Some-clause-quiet : goal.returns-in-Some-clause-quiet
+returns-in-Some-clause-quiet g c h =
+    let s = own_of c.args.held.now in
+    let none : true ≡ false =
+    sym (ap (λ (e : Effect). asks e.deed) (idle_fetches (clocked c.args.at.0 s) c.args.at.0 s.running (to_fetch s.observations) c.in-Some.number
+    (shown_none (shown_operation {A = g.row.A.Denot}) c.args.held.now.running (sym c.is_some.ensures ∙ c.if-is_some.false))
+    (ap (λ os. to_fetch (map (shown_observation {A = g.row.A.Denot}) os)) (sym c.as_slice.ensures.value) ∙ (sym c.to_fetch.ensures ∙ c.in-Some.is)))) ∙ h in
+    absurd (cc none)
+
+pub returns-in-None-clause-quiet : goal.returns-in-None-clause-quiet
+returns-in-None-clause-quiet g c =
+    let s = own_of c.args.held.now in
+    subst (λ (e : Effect). asks e.deed ≡ false → IsOk c.start_first.result)
+    (sym (idle_starts (clocked c.args.at.0 s) c.args.at.0 s.running (to_fetch s.observations)
+    (shown_none (shown_operation {A = g.row.A.Denot}) c.args.held.now.running (sym c.is_some.ensures ∙ c.if-is_some.false))
+    (ap (λ os. to_fetch (map (shown_observation {A = g.row.A.Denot}) os)) (sym c.as_slice.ensures.value) ∙ (sym c.to_fetch.ensures ∙ c.in-None.is))))
+    c.start_first.ensures.quiet

@@ -1,4 +1,4 @@
-use Rattle.std.proofs.Common.{map, ap, sym, subst, ◌∙◌, true}
+use Rattle.std.proofs.Common.{map, ap, sym, subst, true}
 use Rattle.coap_ends.specs.WholeClient.ClientOwn.{Own, clocked}
 use Rattle.coap_ends.specs.WholeClient.ClientEffects.{Effect}
 use Rattle.coap_ends.specs.WholeClient.ClientEvents.{failed, passes}

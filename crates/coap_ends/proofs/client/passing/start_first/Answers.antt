@@ -1,4 +1,4 @@
-use Rattle.std.proofs.Common.{map, ap, sym, subst, ◌∙◌}
+use Rattle.std.proofs.Common.{◌≡◌, true, false, map, ap, sym, subst, ◌∙◌}
 use Rattle.coap_ends.specs.WholeClient.ClientOwn.{Own, clocked}
 use Rattle.coap_ends.specs.WholeClient.ClientEffects.{Effect}
 use Rattle.coap_ends.specs.WholeClient.ClientSteps.{asks}
@@ -26,3 +26,13 @@ returns-else-may_start-clause-happens g c =
 pub returns-else-may_start-clause-did : goal.returns-else-may_start-clause-did
 returns-else-may_start-clause-did g c =
     let s = own_of c.args.held.now in ap (λ (e : Effect). asks e.deed) (sym (starts_rests c.args.at.0 s s.queue (sym c.may_start.ensures ∙ c.if-may_start.false)))
+
+pub returns-in_err-reserve-clause-quiet : goal.returns-in_err-reserve-clause-quiet
+returns-in_err-reserve-clause-quiet g c h =
+    let s = own_of c.args.held.now in
+    let begins : true ≡ false = starts_ask c.args.at.0 s s.queue (sym c.may_start.ensures ∙ c.if-may_start.true) ∙ h in absurd (cc begins)
+
+pub returns-in_err-given-clause-quiet : goal.returns-in_err-given-clause-quiet
+returns-in_err-given-clause-quiet g c h =
+    let s = own_of c.args.held.now in
+    let begins : true ≡ false = starts_ask c.args.at.0 s s.queue (sym c.may_start.ensures ∙ c.if-may_start.true) ∙ h in absurd (cc begins)

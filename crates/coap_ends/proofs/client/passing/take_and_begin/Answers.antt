@@ -1,4 +1,4 @@
-use Rattle.std.proofs.Common.{map, ap, sym, subst, ◌∙◌}
+use Rattle.std.proofs.Common.{ap, sym, subst, ◌∙◌}
 use Rattle.std.specs.Option.{option_map}
 use Rattle.coap_ends.specs.WholeClient.ClientOwn.{clocked}
 use Rattle.coap_ends.specs.WholeClient.ClientEffects.{runs}

@@ -1,8 +1,10 @@
 use Rattle.std.proofs.Common.{rules, ◌≡◌, ◌≤◌, ◌<◌, true, length, sym, ◌∙◌, arith}
 use Rattle.std.proofs.lemmas.Option.{slice_get_within}
 use Rattle.coap_observe.specs.Notices.{told}
+use Rattle.coap_observe.specs.Observers.{Observer}
+use Rattle.coap_exchange.specs.Machine.WhatIsDue.{takes_con}
 use Rattle.coap_ends.specs.WholeServer.ServerNotifying.{marked}
-use Rattle.coap_ends.proofs.ServerCalls.PassedOver.{stops, goes_on, all_passed, all_behind, found_behind, marked_most}
+use Rattle.coap_ends.proofs.ServerCalls.PassedOver.{stops, goes_on, all_passed, all_behind, found_behind, marked_most, none_taken}
 use Rattle.coap_ends.proofs.server.notifying.first_ready.Goals as goal
 
 pub returns-then-branch-clause-found : goal.returns-then-branch-clause-found
@@ -33,6 +35,7 @@ observers-preserved g c =
     let within = slice_get_within os c.observers.passed (told c.in-Some.notice true) there in
     record {
       asked = goes_on _ _ _ c.args.at.0 c.observers.passed os (told c.in-Some.notice true) there c.observers.invariant.asked _ c.in_ok-ready.ensures.step c.if-branch.false;
+      same = λ there. c.in_ok-ready.ensures.same there ∙ c.observers.invariant.same there;
       before = c.in_ok-ready.ensures.before ∙ c.observers.invariant.before;
       within = omega (arith, within);
     }
@@ -45,3 +48,18 @@ returns-clause-found g c =
       sym (all_behind c.observers.passed os none),
       all_passed _ _ c.args.at.0 c.observers.passed os none c.observers.invariant.asked,
     )
+
+-- where nobody can be notified, the first of them can't
+
+pub returns-in_err-ready-clause-quiet : goal.returns-in_err-ready-clause-quiet
+returns-in_err-ready-clause-quiet g c none =
+    let o = told c.in-Some.notice true in
+    let shut = none_taken (λ (x : Observer). takes_con c.args.exchanges.now.state c.args.at.0 x.to) c.observers.passed (marked c.args.observers.now) o (sym c.in-Some.ensures.place) none in
+    let ok = c.in_err-ready.ensures.quiet (c.observers.invariant.same o.to ∙ shut) in
+    absurd (cc ok)
+
+pub returns-then-branch-clause-none : goal.returns-then-branch-clause-none
+returns-then-branch-clause-none g c none =
+    let o = told c.in-Some.notice true in
+    let shut = none_taken (λ (x : Observer). takes_con c.args.exchanges.now.state c.args.at.0 x.to) c.observers.passed (marked c.args.observers.now) o (sym c.in-Some.ensures.place) none in
+    absurd (cc (c.if-branch.true, c.in_ok-ready.ensures.answer, c.observers.invariant.same o.to, shut))

@@ -1,0 +1,2 @@
+pub mod ClientWork
+pub mod ClientQuiet
