@@ -3,6 +3,7 @@ pub mod GivenOutBefore
 pub mod HopsAreEntries
 pub mod EntriesInTime
 pub mod ClientInTime
+pub mod ResponsesInTime
 pub mod ServerInTime
 pub mod TakenAtOnce
 pub mod OneEndATurn

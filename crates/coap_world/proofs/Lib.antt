@@ -1,3 +1,4 @@
+pub mod Whole
 pub mod Delivery
 pub mod Requests
 pub mod Reports

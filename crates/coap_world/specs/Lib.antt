@@ -12,3 +12,4 @@ pub mod CameFrom
 pub mod LegalRuns
 pub mod LegalEvents
 pub mod GoesOn
+pub mod Whole

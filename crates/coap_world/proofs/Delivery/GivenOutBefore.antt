@@ -16,7 +16,7 @@ use Rattle.coap_world.specs.Delivery.{GaveOut, FedToServer, FedToClient, AllFair
 AllAt : ℕ → List Given → Type 0
 AllAt at gs = (g : Given) → Ever (λ h. h ≡ g) gs → g.at ≡ at
 
-as_at : (at : ℕ) (from : Endpoint) (o : Option Packet) (g : Given) → Ever (λ h. h ≡ g) (given_as at from o) → g.at ≡ at
+pub as_at : (at : ℕ) (from : Endpoint) (o : Option Packet) (g : Given) → Ever (λ h. h ≡ g) (given_as at from o) → g.at ≡ at
 as_at at from None g h = absurd h
 as_at at from (Some p) g (inl h) = sym (ap (λ (x : Given). x.at) h)
 as_at at from (Some p) g (inr h) = absurd h
@@ -52,7 +52,7 @@ below_length n x [] h = absurd h
 below_length n x (y ∷ t) (inl h) = omega (arith, h.1)
 below_length n x (y ∷ t) (inr h) = omega (arith, below_length n x t h)
 
-number_unique : {A : Type 0} (n : ℕ) (x y : A) (t : List A) → Sometime (λ before s. (s ≡ x) × (length before ≡ n)) t → Sometime (λ before s. (s ≡ y) × (length before ≡ n)) t → x ≡ y
+pub number_unique : {A : Type 0} (n : ℕ) (x y : A) (t : List A) → Sometime (λ before s. (s ≡ x) × (length before ≡ n)) t → Sometime (λ before s. (s ≡ y) × (length before ≡ n)) t → x ≡ y
 number_unique n x y [] h k = absurd h
 number_unique n x y (z ∷ t) (inl h) (inl k) = sym h.0 ∙ k.0
 number_unique n x y (z ∷ t) (inl h) (inr k) = absurd (omega (arith, h.1, below_length n y t k))
@@ -149,7 +149,7 @@ never_here : (from : Endpoint) (bytes : List ℕ) (calls : List S.Call) (entries
 never_here from bytes calls entries on h =
     none_in (λ (c : S.Call). ⊥) (server_calls on.outs calls) (λ c k. k) (of_map OfServer (FedToClient from bytes) (server_calls on.outs calls) (subst (Ever (FedToClient from bytes)) on.is h))
 
-packet_is : (p : Packet) (to : Endpoint) (bytes : List ℕ) → p.to ≡ to → p.bytes ≡ bytes → p ≡ record { to = to; bytes = bytes }
+pub packet_is : (p : Packet) (to : Endpoint) (bytes : List ℕ) → p.to ≡ to → p.bytes ≡ bytes → p ≡ record { to = to; bytes = bytes }
 packet_is p to bytes h k = ap {B = Packet} (λ t. record { to = t; bytes = p.bytes }) h ∙ ap {B = Packet} (λ b. record { to = to; bytes = b }) k
 
 -- the datagram of a number

@@ -16,19 +16,19 @@ use Rattle.coap_world.specs.Hops.{client_asks, client_asked, client_adds, server
 
 -- hops
 
-near_near : (xs : List L.Entry) (hs : List Hop) → near_of (map Near xs ++ hs) ≡ xs ++ near_of hs
+pub near_near : (xs : List L.Entry) (hs : List Hop) → near_of (map Near xs ++ hs) ≡ xs ++ near_of hs
 near_near [] hs = refl
 near_near (x ∷ xs) hs = ap (λ t. x ∷ t) (near_near xs hs)
 
-near_far : (xs : List L.Entry) (hs : List Hop) → near_of (map Far xs ++ hs) ≡ near_of hs
+pub near_far : (xs : List L.Entry) (hs : List Hop) → near_of (map Far xs ++ hs) ≡ near_of hs
 near_far [] hs = refl
 near_far (x ∷ xs) hs = near_far xs hs
 
-far_far : (xs : List L.Entry) (hs : List Hop) → far_of (map Far xs ++ hs) ≡ xs ++ far_of hs
+pub far_far : (xs : List L.Entry) (hs : List Hop) → far_of (map Far xs ++ hs) ≡ xs ++ far_of hs
 far_far [] hs = refl
 far_far (x ∷ xs) hs = ap (λ t. x ∷ t) (far_far xs hs)
 
-far_near : (xs : List L.Entry) (hs : List Hop) → far_of (map Near xs ++ hs) ≡ far_of hs
+pub far_near : (xs : List L.Entry) (hs : List Hop) → far_of (map Near xs ++ hs) ≡ far_of hs
 far_near [] hs = refl
 far_near (x ∷ xs) hs = far_near xs hs
 

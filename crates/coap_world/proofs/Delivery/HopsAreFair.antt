@@ -36,7 +36,7 @@ sent_there from to bytes when g e gave sends =
     let c = gave.young in
     record { out = subst (λ p. Ever (λ q. q ≡ p) e.out) gave.packet sends.out; from = omega (arith, a, b); till = omega (arith, a, c) }
 
-by_server : (hs : List Hop) (bytes : List ℕ) (when : ℕ) (g : Given) → D.GaveOut server_end client_end bytes when g → SentIn hs g → Ever (OnFar (GaveOut client_end bytes when)) hs
+pub by_server : (hs : List Hop) (bytes : List ℕ) (when : ℕ) (g : Given) → D.GaveOut server_end client_end bytes when g → SentIn hs g → Ever (OnFar (GaveOut client_end bytes when)) hs
 by_server hs bytes when g gave (inl h) = absurd (apart (sym h.0 ∙ gave.by))
 by_server hs bytes when g gave (inr h) = Ever_map (OnFar (SendsAt g.at g.packet)) (OnFar (GaveOut client_end bytes when)) each hs h.1
   where
@@ -44,7 +44,7 @@ by_server hs bytes when g gave (inr h) = Ever_map (OnFar (SendsAt g.at g.packet)
     each (Near e) k = absurd k
     each (Far e) k = sent_there server_end client_end bytes when g e gave k
 
-by_client : (hs : List Hop) (bytes : List ℕ) (when : ℕ) (g : Given) → D.GaveOut client_end server_end bytes when g → SentIn hs g → Ever (OnNear (GaveOut server_end bytes when)) hs
+pub by_client : (hs : List Hop) (bytes : List ℕ) (when : ℕ) (g : Given) → D.GaveOut client_end server_end bytes when g → SentIn hs g → Ever (OnNear (GaveOut server_end bytes when)) hs
 by_client hs bytes when g gave (inr h) = absurd (apart (sym gave.by ∙ h.0))
 by_client hs bytes when g gave (inl h) = Ever_map (OnNear (SendsAt g.at g.packet)) (OnNear (GaveOut server_end bytes when)) each hs h.1
   where
@@ -53,12 +53,12 @@ by_client hs bytes when g gave (inl h) = Ever_map (OnNear (SendsAt g.at g.packet
     each (Far e) k = absurd k
 
 -- some element, with its finding
-found_in : {X : Type 0} (P : X → Type 0) (xs : List X) → Ever P xs → (x : X) × P x × Ever (λ y. y ≡ x) xs
+pub found_in : {X : Type 0} (P : X → Type 0) (xs : List X) → Ever P xs → (x : X) × P x × Ever (λ y. y ≡ x) xs
 found_in P [] h = absurd h
 found_in P (x ∷ xs) (inl h) = (x, h, inl refl)
 found_in P (x ∷ xs) (inr h) = let k = found_in P xs h in (k.0, k.1, inr k.2)
 
-sent_later : (front hs : List Hop) (g : Given) → SentIn hs g → SentIn (front ++ hs) g
+pub sent_later : (front hs : List Hop) (g : Given) → SentIn hs g → SentIn (front ++ hs) g
 sent_later front hs g (inl h) = inl (h.0, Ever_back (OnNear (SendsAt g.at g.packet)) front hs h.1)
 sent_later front hs g (inr h) = inr (h.0, Ever_back (OnFar (SendsAt g.at g.packet)) front hs h.1)
 

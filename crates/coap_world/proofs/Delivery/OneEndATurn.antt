@@ -22,7 +22,7 @@ pub record ServerTurn (t : ℕ) (entries : List Entry) : Type 0 where
   pub on : OnServer calls entries
   pub at : Every (server.IsAt t) calls
 
-each_one : {X : Type 0} (Is P : X → Type 0) → ((c : X) → Is c → P c) → (refused : Bool) (calls : List X) → IsOne Is refused calls → Every P calls
+pub each_one : {X : Type 0} (Is P : X → Type 0) → ((c : X) → Is c → P c) → (refused : Bool) (calls : List X) → IsOne Is refused calls → Every P calls
 each_one Is P f true calls h = subst (Every P) (sym h) tt
 each_one Is P f false calls h = subst (Every P) (sym h.2) (f h.0 h.1, tt)
 
@@ -30,7 +30,7 @@ each_true : {X : Type 0} (Is P : X → Type 0) → ((c : X) → Is c → P c) �
 each_true Is P f [] h = tt
 each_true Is P f (c ∷ calls) h = (f c h.0, each_true Is P f calls h.1)
 
-each_tick : {X : Type 0} (Is : Bool → X → Type 0) (P : X → Type 0) → ((b : Bool) (c : X) → Is b c → P c) → (refused : Bool) (calls : List X) → AreTicks Is refused calls → Every P calls
+pub each_tick : {X : Type 0} (Is : Bool → X → Type 0) (P : X → Type 0) → ((b : Bool) (c : X) → Is b c → P c) → (refused : Bool) (calls : List X) → AreTicks Is refused calls → Every P calls
 each_tick Is P f true calls h = each_true (Is true) P (f true) calls h
 each_tick Is P f false [] h = absurd h
 each_tick Is P f false (c ∷ calls) h = (f false c h.0, each_true (Is true) P (f true) calls h.1)
@@ -74,7 +74,7 @@ pub record Takes {X : Type 0} (out : Option Packet → X) (from : Endpoint) (t :
   pub at : g.at ≡ t
   pub taken : Ever (λ c. c ≡ out (Some g.packet)) cs
 
-as_taken : {X : Type 0} (out : Option Packet → X) (from : Endpoint) (t : ℕ) (g : Given) (o : Option Packet) → Ever (λ h. h ≡ g) (given_as t from o) → Takes out from t g (out o ∷ [])
+pub as_taken : {X : Type 0} (out : Option Packet → X) (from : Endpoint) (t : ℕ) (g : Given) (o : Option Packet) → Ever (λ h. h ≡ g) (given_as t from o) → Takes out from t g (out o ∷ [])
 as_taken out from t g None h = absurd h
 as_taken out from t g (Some p) (inl h) = record { by = sym (ap (λ (x : Given). x.from) h); at = sym (ap (λ (x : Given). x.at) h); taken = inl (ap (λ (x : Given). out (Some x.packet)) h) }
 as_taken out from t g (Some p) (inr h) = absurd h
@@ -94,7 +94,7 @@ server_one t g (S.Delays path ms answer) h = absurd h
 server_one t g (S.Feeds now from bytes word up came w below) h = absurd h
 server_one t g (S.Ticks now word below room d w id answer) h = absurd h
 
-front : {X : Type 0} (P : X → Type 0) (c : X) (cs : List X) → Ever P (c ∷ []) → Ever P (c ∷ cs)
+pub front : {X : Type 0} (P : X → Type 0) (c : X) (cs : List X) → Ever P (c ∷ []) → Ever P (c ∷ cs)
 front P c cs (inl h) = inl h
 front P c cs (inr h) = absurd h
 

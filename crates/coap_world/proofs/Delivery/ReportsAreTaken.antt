@@ -12,7 +12,7 @@ use Rattle.coap_world.specs.Agrees.{AllGiven}
 use Rattle.coap_world.specs.Record.{Turn, Makes, client_of, entries_of}
 use Rattle.coap_world.proofs.Delivery.OneEndATurn.{ClientTurn, ServerTurn, side, client_client, client_server}
 
-none_first : (rs : List C.Reported) → None ≡ slice_get rs 0 → drop 1 rs ≡ []
+pub none_first : {X : Type 0} (rs : List X) → None ≡ slice_get rs 0 → drop 1 rs ≡ []
 none_first [] h = refl
 none_first (r ∷ rs) h = absurd (cc h)
 

@@ -33,7 +33,7 @@ use Rattle.coap_world.proofs.Delivery.HopsAreEntries.{far_is}
 use Rattle.coap_world.proofs.Reports.Answered.{Answers}
 use Rattle.coap_world.proofs.Requests.AtMostOnce.{ServesFor, applies_serves}
 use Rattle.coap_world.proofs.Requests.CameFrom.{Found, find, up_of, verdict_of}
-use Rattle.coap_world.proofs.Requests.HandedUpOnce.{Any, up_once, once_counted}
+use Rattle.coap_world.proofs.Requests.HandedUpOnce.{Any, up_once, once_counted, of_one}
 use Rattle.coap_world.proofs.Reports.Codes.{applied_by, failed_is, reply_right}
 use Rattle.coap_world.proofs.Reports.OnceDone.{came_is}
 use Rattle.coap_world.proofs.Reports.PartsOfARecord.{Lawful, PartOf, IsHanded, part_back, whole}
@@ -161,7 +161,7 @@ module _ (config : Config) (all : List Entry) (number : ℕ) where
 
     once : (a : Asked) → a.from ≡ client_end → Always (λ past c. hands c ≡ Some a → Sometime (λ past c. hands c ≡ Some a) past → ⊥) (server_trace config all)
     once a from =
-        let few = once_counted a hops (up_once config.client_word config.server_word client_end server_end a from hops law.channel nons cons) in
+        let few = once_counted a hops (up_once config.client_word config.server_word client_end server_end a from hops law.channel nons (of_one a.token (near_of hops) cons)) in
         let same = ap (ups a) (far_is config all) in
         let as_often = counted_in config.limit config.server_szx a config.server_word (server_trace config all) (server_facts.counts config.limit config.server_szx config.server_word (server_trace config all) law.server) in
         handed_once config.limit config.server_szx a (server_trace config all) (omega (arith, few, same, as_often))

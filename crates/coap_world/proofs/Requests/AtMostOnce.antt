@@ -25,7 +25,7 @@ use Rattle.coap_world.specs.Hops.{hops_in, client_adds}
 use Rattle.coap_world.specs.Record.{Entry, OfClient, OfServer, client_of, server_trace}
 use Rattle.coap_world.proofs.Requests.CameFrom.{channel_back}
 use Rattle.coap_world.proofs.Delivery.HopsAreEntries.{near_is, far_is, client_next}
-use Rattle.coap_world.proofs.Requests.HandedUpOnce.{up_once, once_counted}
+use Rattle.coap_world.proofs.Requests.HandedUpOnce.{up_once, once_counted, of_one}
 
 -- a request of this call is served here
 pub record ServesFor (config : Config) (number : ℕ) (all past : List Entry) (e : Entry) : Type 0 where
@@ -114,7 +114,7 @@ module _ (config : Config) (number : ℕ) (all : List Entry) (one : OneSending (
       let counted = laws.4.0 x.asked in
       let cons_here : OneCon (near_of (hops_in config (e ∷ past))) = subst OneCon (sym (near_is config (e ∷ past))) (λ p q i j. cons p q (later.1 p i) (later.1 q j)) in
       let nons_here : NoNons (near_of (hops_in config (e ∷ past))) = subst NoNons (sym (near_is config (e ∷ past))) laws.1 in
-      let few = once_counted x.asked (hops_in config (e ∷ past)) (up_once config.client_word config.server_word client_end server_end x.asked a.from (hops_in config (e ∷ past)) laws.0 nons_here cons_here) in
+      let few = once_counted x.asked (hops_in config (e ∷ past)) (up_once config.client_word config.server_word client_end server_end x.asked a.from (hops_in config (e ∷ past)) laws.0 nons_here (of_one x.asked.token (near_of (hops_in config (e ∷ past))) cons_here)) in
       let same = ap (ups x.asked) (far_is config (e ∷ past)) in
       omega (arith, before, fewer, counted, few, same)
 

@@ -125,6 +125,18 @@ module _ (one other : ℕ) (near far : Endpoint) (V : Message → Type 0) (a : A
   find (Far y ∷ past) law nons (inl h) = (here past y law nons h).0
   find (Near y ∷ past) law nons (inl h) = absurd h
 
+  -- .. and where it arrives
+  abbrev pub FoundIn : List T.Entry → List Hop → Type 0
+  FoundIn adds hs = (f : Found near far V a (map Far adds ++ hs)) × Ever (OnFar (HandsUpAs near f.con)) (map Far adds)
+
+  pub find_at : (adds : List T.Entry) (hs : List Hop) → ChannelLaw one other near far (map Far adds ++ hs) → NoNons (near_of (map Far adds ++ hs)) → Ever (UpOf V a) adds → FoundIn adds hs
+  unfolding found_later
+  find_at [] hs law nons h = absurd h
+  find_at (y ∷ adds) hs law nons (inl h) = let k = here (map Far adds ++ hs) y law nons h in (k.0, inl k.1)
+  find_at (y ∷ adds) hs law nons (inr h) =
+      let k = find_at adds hs (earlier one other near far (map Far adds ++ hs) (Far y) law) (no_more (Far y) (map Far adds ++ hs) nons) h in
+      (found_later (Far y) (map Far adds ++ hs) k.0, inr k.1)
+
 -- each law holds of each past
 
 pub channel_back : (one other : ℕ) (near far : Endpoint) (later past : List Hop) → ChannelLaw one other near far (later ++ past) → ChannelLaw one other near far past

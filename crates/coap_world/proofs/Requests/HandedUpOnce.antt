@@ -2,9 +2,11 @@
 use Rattle.std.proofs.Common.{◌≡◌, ◌≤◌, inl, inr, ℕ, ◌+◌, Bool, true, false, Option, Some, None, List, [], ◌∷◌, refl, ap, sym, subst, ◌∙◌, cond, arith}
 use Rattle.coap_types.specs.Past.{Ever, Always}
 use Rattle.coap_types.specs.declared.endpoint.Endpoint.{Endpoint}
-use Rattle.coap_codec.specs.Message.{Message}
+use Rattle.coap_types.specs.Bytes.{AreBytes}
+use Rattle.coap_codec.specs.Message.{Message, Spells}
 use Rattle.coap_layer.specs.Channel.{Hop, Near, Far, near_of, far_of, OnFar, ChannelLaw, HandsUpAs}
 use Rattle.coap_layer.specs.Trace as T
+use Rattle.coap_layer.specs.Words.{Open, begun}
 use Rattle.coap_layer.proofs.Facts.Hops.{earlier}
 use Rattle.coap_layer.proofs.Facts.Laws.{handed_once}
 use Rattle.coap_exchange.specs.declared.answerer.Asked.{Asked}
@@ -81,12 +83,21 @@ once_counted a (Far e ∷ past) h = by (counts_by a e (asked_at e.call e.answer)
     by (counts u n) k = let z = none_counted a past (λ w. h.0 u w) in omega (arith, n, z)
     by (silent n) k = omega (arith, n, k)
 
+-- one CON has this token
+abbrev pub OneConBy : List ℕ → List T.Entry → Type 0
+OneConBy token t =
+    (a b : Open) → Ever (λ e. begun e ≡ Some a) t → Ever (λ e. begun e ≡ Some b) t → (x y : Message) → AreBytes a.bytes → AreBytes b.bytes → Spells a.bytes x → Spells b.bytes y → a.id ≡ x.id → b.id ≡ y.id
+    → x.token ≡ token → y.token ≡ token → a ≡ b
+
+pub of_one : (token : List ℕ) (t : List T.Entry) → OneCon t → OneConBy token t
+of_one token t cons a b i j x y ab bb sa sb m n s k = cons a b i j x y ab bb sa sb (s ∙ sym k)
+
 module _ (one other : ℕ) (near far : Endpoint) (a : Asked) (from : a.from ≡ near) where
-  one_more : (h : Hop) (past : List Hop) → OneCon (near_of (h ∷ past)) → OneCon (near_of past)
+  one_more : (h : Hop) (past : List Hop) → OneConBy a.token (near_of (h ∷ past)) → OneConBy a.token (near_of past)
   one_more (Near e) past f = λ x y k l. f x y (inr k) (inr l)
   one_more (Far e) past f = f
 
-  pub up_once : (hs : List Hop) → ChannelLaw one other near far hs → NoNons (near_of hs) → OneCon (near_of hs) → UpOnce a hs
+  pub up_once : (hs : List Hop) → ChannelLaw one other near far hs → NoNons (near_of hs) → OneConBy a.token (near_of hs) → UpOnce a hs
   up_once [] law nons cons = tt
   up_once (Near e ∷ past) law nons cons =
       (λ u k. u, up_once past (earlier one other near far past (Near e) law) (no_more one other near far Any a from (Near e) past nons) (one_more (Near e) past cons))
@@ -96,6 +107,6 @@ module _ (one other : ℕ) (near far : Endpoint) (a : Asked) (from : a.from ≡ 
       twice u k =
           let f = here one other near far Any a from past e law nons u in
           let g = find one other near far Any a from past (earlier one other near far past (Far e) law) nons k in
-          let token = sym (ap (λ (x : Asked). x.token) f.0.asked) ∙ ap (λ (x : Asked). x.token) g.asked in
-          let same : f.0.con ≡ g.con = cons f.0.con g.con f.0.begun_before g.begun_before f.0.message g.message f.0.are_bytes g.are_bytes f.0.spells g.spells token in
+          let same : f.0.con ≡ g.con =
+          cons f.0.con g.con f.0.begun_before g.begun_before f.0.message g.message f.0.are_bytes g.are_bytes f.0.spells g.spells f.0.id g.id (sym (ap (λ (x : Asked). x.token) f.0.asked)) (sym (ap (λ (x : Asked). x.token) g.asked)) in
           (handed_once one other near far (Far e ∷ past) law f.0.con f.0.begun_before).0 f.1 (subst (λ c. Ever (OnFar (HandsUpAs near c)) past) (sym same) g.arrived)

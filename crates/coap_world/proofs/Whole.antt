@@ -1,0 +1,4 @@
+pub mod Delivery
+pub mod Requests
+pub mod Reports
+pub mod Witness

@@ -1,0 +1,172 @@
+-- What comes from an end's address in a legal run was given out by that end, at most 100,000 ms before.
+use Rattle.std.proofs.Common.{◌≡◌, inl, inr, ◌≤◌, ◌<◌, ℕ, Bool, true, false, Option, Some, None, List, [], ◌∷◌, ◌++◌, map, length, ap, sym, subst, ◌∙◌, arith}
+use Rattle.coap_types.specs.Past.{Ever, Sometime, Always, all_of}
+use Rattle.coap_types.proofs.Facts.Traces.{Ever_map, Ever_append, Ever_of_Sometime}
+use Rattle.coap_types.specs.declared.endpoint.Endpoint.{Endpoint}
+use Rattle.coap_layer.specs.Trace.{Packet}
+use Rattle.coap_ends.specs.WholeClient.ClientTrace as C
+use Rattle.coap_ends.specs.WholeServer.ServerTrace as S
+use Rattle.coap_world.specs.Whole.Events.{client_end, server_end, What, Calls, Observes, Cancels, Forgets, Sets, Removes, TickClient, TickServer, Deliver, StrangerToClient, StrangerToServer}
+use Rattle.coap_world.specs.Whole.Record.{Entry, OfClient, OfServer, Given, Turn, given_as, given_by, given_in, IsNumber, OnClient, OnServer, IsOne, AreTicks, ClientTick, ServerTick, Makes}
+use Rattle.coap_world.proofs.Delivery.GivenOutBefore.{as_at, number_unique, of_map, none_in, one_call, tick_of, packet_is}
+use Rattle.coap_world.specs.Whole.Legal.{NotBefore, MayCome, AllLegal}
+use Rattle.coap_world.specs.Whole.Delivery.{GaveOut, FedToServer, FedToClient, AllFair}
+
+-- moments of what was given out
+
+by_at : (at : ℕ) (e : Entry) (g : Given) → Ever (λ h. h ≡ g) (given_by at e) → g.at ≡ at
+by_at at (OfClient (C.NextOut o)) g h = as_at at client_end o g h
+by_at at (OfServer (S.NextOut o)) g h = as_at at server_end o g h
+by_at at (OfClient (C.Calls now r answer)) g h = absurd h
+by_at at (OfClient (C.Observes now path answer)) g h = absurd h
+by_at at (OfClient (C.Cancels now number answer)) g h = absurd h
+by_at at (OfClient (C.Forgets number kept answer)) g h = absurd h
+by_at at (OfClient (C.Asked answer)) g h = absurd h
+by_at at (OfClient (C.Feeds now from bytes word up settled e sent token kept)) g h = absurd h
+by_at at (OfClient (C.Ticks now word below w sent z kept answer)) g h = absurd h
+by_at at (OfClient (C.NextReport r)) g h = absurd h
+by_at at (OfServer (S.Sets now path format body answer left)) g h = absurd h
+by_at at (OfServer (S.Removes now path answer left)) g h = absurd h
+by_at at (OfServer (S.Delays path ms answer)) g h = absurd h
+by_at at (OfServer (S.Feeds now from bytes word up came w below)) g h = absurd h
+by_at at (OfServer (S.Ticks now word below room d passed w id answer)) g h = absurd h
+by_at at (OfServer (S.Gets path answer)) g h = absurd h
+by_at at (OfServer (S.TellsApplied answer)) g h = absurd h
+
+in_at : (at : ℕ) (es : List Entry) (g : Given) → Ever (λ h. h ≡ g) (all_of (given_by at) es) → g.at ≡ at
+in_at at [] g h = absurd h
+in_at at (e ∷ es) g h = elim (Ever_append (λ x. x ≡ g) (given_by at e) (all_of (given_by at) es) h) [ inl p ↦ by_at at e g p | inr q ↦ in_at at es g q ]
+
+pub not_later : (past : List Turn) (at : ℕ) (g : Given) → AllLegal past → NotBefore past at → Ever (λ h. h ≡ g) (all_of given_in past) → g.at ≤ at
+not_later [] at g legal n h = absurd h
+not_later (t ∷ past) at g legal n h = elim (Ever_append (λ x. x ≡ g) (given_in t) (all_of given_in past) h) [
+  | inl p ↦ (let e = in_at t.event.at t.entries g p in omega (arith, e, n))
+  | inr q ↦ (let k = not_later past t.event.at g legal.1 legal.0.later q in omega (arith, k, n))
+]
+
+-- what a turn feeds is its call
+
+-- the calls of a turn, with what is taken after them
+abbrev outs_then : List Packet → List S.Call → List S.Call
+outs_then outs calls = map (λ p. S.NextOut (Some p)) outs ++ calls
+
+abbrev server_calls : List Packet → List S.Call → List S.Call
+server_calls outs calls = S.NextOut None ∷ outs_then outs calls
+
+abbrev outs_of : List Packet → List C.Call → List C.Call
+outs_of outs calls = map (λ p. C.NextOut (Some p)) outs ++ calls
+
+abbrev client_calls : List Packet → List C.Reported → List C.Call → List C.Call
+client_calls outs reports calls = C.NextReport None ∷ (map (λ r. C.NextReport (Some r)) reports ++ C.NextOut None ∷ outs_of outs calls)
+
+server_call : (from : Endpoint) (bytes : List ℕ) (calls : List S.Call) (entries : List Entry) → OnServer calls entries → Ever (FedToServer from bytes) entries → Ever (λ c. FedToServer from bytes (OfServer c)) calls
+server_call from bytes calls entries on h = first (of_map OfServer (FedToServer from bytes) (server_calls on.outs calls) (subst (Ever (FedToServer from bytes)) on.is h))
+  where
+    P : S.Call → Type 0
+    P c = FedToServer from bytes (OfServer c)
+
+    behind : Ever P (outs_then on.outs calls) → Ever P calls
+    behind k = elim (Ever_append P (map (λ p. S.NextOut (Some p)) on.outs) calls k) [
+      | inl r ↦ absurd (none_in (λ (p : Packet). P (S.NextOut (Some p))) on.outs (λ p w. cc (w.6)) (of_map (λ (p : Packet). S.NextOut (Some p)) P on.outs r))
+      | inr w ↦ w
+    ]
+
+    first : Ever P (server_calls on.outs calls) → Ever P calls
+    first (inl k) = absurd (cc (k.6))
+    first (inr k) = behind k
+
+client_call : (from : Endpoint) (bytes : List ℕ) (calls : List C.Call) (entries : List Entry) → OnClient calls entries → Ever (FedToClient from bytes) entries → Ever (λ c. FedToClient from bytes (OfClient c)) calls
+client_call from bytes calls entries on h = first (of_map OfClient (FedToClient from bytes) (client_calls on.outs on.reports calls) (subst (Ever (FedToClient from bytes)) on.is h))
+  where
+    P : C.Call → Type 0
+    P c = FedToClient from bytes (OfClient c)
+
+    behind : Ever P (outs_of on.outs calls) → Ever P calls
+    behind k = elim (Ever_append P (map (λ p. C.NextOut (Some p)) on.outs) calls k) [
+      | inl r ↦ absurd (none_in (λ (p : Packet). P (C.NextOut (Some p))) on.outs (λ p w. cc (w.8)) (of_map (λ (p : Packet). C.NextOut (Some p)) P on.outs r))
+      | inr w ↦ w
+    ]
+
+    last : Ever P (C.NextOut None ∷ outs_of on.outs calls) → Ever P calls
+    last (inl k) = absurd (cc (k.8))
+    last (inr k) = behind k
+
+    middle : Ever P (map (λ r. C.NextReport (Some r)) on.reports ++ C.NextOut None ∷ outs_of on.outs calls) → Ever P calls
+    middle k = elim (Ever_append P (map (λ r. C.NextReport (Some r)) on.reports) (C.NextOut None ∷ outs_of on.outs calls) k) [
+      | inl r ↦ absurd (none_in (λ (p : C.Reported). P (C.NextReport (Some p))) on.reports (λ p w. cc (w.8)) (of_map (λ (p : C.Reported). C.NextReport (Some p)) P on.reports r))
+      | inr w ↦ last w
+    ]
+
+    first : Ever P (client_calls on.outs on.reports calls) → Ever P calls
+    first (inl k) = absurd (cc (k.8))
+    first (inr k) = middle k
+
+never_there : (from : Endpoint) (bytes : List ℕ) (calls : List C.Call) (entries : List Entry) → OnClient calls entries → Ever (FedToServer from bytes) entries → ⊥
+never_there from bytes calls entries on h =
+    none_in (λ (c : C.Call). ⊥) (client_calls on.outs on.reports calls) (λ c k. k) (of_map OfClient (FedToServer from bytes) (client_calls on.outs on.reports calls) (subst (Ever (FedToServer from bytes)) on.is h))
+
+never_here : (from : Endpoint) (bytes : List ℕ) (calls : List S.Call) (entries : List Entry) → OnServer calls entries → Ever (FedToClient from bytes) entries → ⊥
+never_here from bytes calls entries on h =
+    none_in (λ (c : S.Call). ⊥) (server_calls on.outs calls) (λ c k. k) (of_map OfServer (FedToClient from bytes) (server_calls on.outs calls) (subst (Ever (FedToClient from bytes)) on.is h))
+
+-- the datagram of a number
+module _ (past : List Turn) (at : ℕ) (number : ℕ) (legal : AllLegal past) (later : NotBefore past at) (may : MayCome past at (Deliver number)) (g : Given) (is : IsNumber number g past) where
+  gave : (from to : Endpoint) (bytes : List ℕ) → g.from ≡ from → g.packet.to ≡ to → g.packet.bytes ≡ bytes → Ever (GaveOut from to bytes at) (all_of given_in past)
+  gave from to bytes f t b =
+      let here : Ever (λ h. h ≡ g) (all_of given_in past) = Ever_of_Sometime _ (λ h. h ≡ g) (λ before h k. inl k.0) (all_of given_in past) is in
+      let same : may.0 ≡ g = number_unique number may.0 g (all_of given_in past) may.1 is in
+      let y = may.3 in
+      let e : may.0.at ≡ g.at = ap (λ (x : Given). x.at) same in
+      let n = not_later past at g legal later here in
+      Ever_map (λ h. h ≡ g) (GaveOut from to bytes at) (λ h k. subst (GaveOut from to bytes at) (sym k) (record { packet = packet_is g.packet to bytes t b; by = f; early = n; young = omega (arith, y, e) })) (all_of given_in past) here
+
+module _ (past : List Turn) (at word : ℕ) (refused : Bool) (entries : List Entry) (legal : AllLegal past) (later : NotBefore past at) (bytes : List ℕ) where
+  to_server : (what : What) → Makes past at word what refused entries → MayCome past at what → Ever (FedToServer client_end bytes) entries → Ever (GaveOut client_end server_end bytes at) (all_of given_in past)
+  to_server (Calls r) m may h = absurd (never_there client_end bytes m.0 entries m.2 h)
+  to_server (Observes path) m may h = absurd (never_there client_end bytes m.0 entries m.2 h)
+  to_server (Cancels number) m may h = absurd (never_there client_end bytes m.0 entries m.2 h)
+  to_server (Forgets number) m may h = absurd (never_there client_end bytes m.0 entries m.2 h)
+  to_server TickClient m may h = absurd (never_there client_end bytes m.0 entries m.2 h)
+  to_server (StrangerToClient from b) m may h = absurd (never_there client_end bytes m.0 entries m.2 h)
+  to_server (Sets path format body) m may h = let k = one_call _ _ refused m.0 m.1 (server_call client_end bytes m.0 entries m.2 h) in absurd (cc (k.1.2, k.2.6))
+  to_server (Removes path) m may h = let k = one_call _ _ refused m.0 m.1 (server_call client_end bytes m.0 entries m.2 h) in absurd (cc (k.1.2, k.2.6))
+  to_server TickServer m may h = let k = tick_of (ServerTick at word) _ refused m.0 m.1 (server_call client_end bytes m.0 entries m.2 h) in absurd (cc (k.2.6, k.3.6))
+  to_server (StrangerToServer from b) m may h =
+      let k = one_call _ _ refused m.0 m.1 (server_call client_end bytes m.0 entries m.2 h) in
+      let same : from ≡ client_end = cc (k.1.4, k.2.6) in
+      absurd (may.0 same)
+  to_server (Deliver number) m may h = elim m.2 [
+    | inl d ↦ (let k = one_call _ _ refused d.1 d.2 (server_call client_end bytes d.1 entries d.3 h) in
+        gave past at number legal later may m.0 m.1 client_end server_end bytes (cc (k.1.4, k.2.6)) d.0 (cc (k.1.4, k.2.6)))
+    | inr d ↦ absurd (never_there client_end bytes d.1 entries d.3 h)
+  ]
+
+  to_client : (what : What) → Makes past at word what refused entries → MayCome past at what → Ever (FedToClient server_end bytes) entries → Ever (GaveOut server_end client_end bytes at) (all_of given_in past)
+  to_client (Calls r) m may h = let k = one_call _ _ refused m.0 m.1 (client_call server_end bytes m.0 entries m.2 h) in absurd (cc (k.1.1, k.2.8))
+  to_client (Observes path) m may h = let k = one_call _ _ refused m.0 m.1 (client_call server_end bytes m.0 entries m.2 h) in absurd (cc (k.1.1, k.2.8))
+  to_client (Cancels number) m may h = let k = one_call _ _ false m.0 m.1.0 (client_call server_end bytes m.0 entries m.2 h) in absurd (cc (k.1.1, k.2.8))
+  to_client (Forgets number) m may h = let k = one_call _ _ false m.0 m.1.0 (client_call server_end bytes m.0 entries m.2 h) in absurd (cc (k.1.2, k.2.8))
+  to_client TickClient m may h = let k = tick_of (ClientTick at word) _ refused m.0 m.1 (client_call server_end bytes m.0 entries m.2 h) in absurd (cc (k.2.5, k.3.8))
+  to_client (StrangerToClient from b) m may h =
+      let k = one_call _ _ refused m.0 m.1 (client_call server_end bytes m.0 entries m.2 h) in
+      let same : from ≡ server_end = cc (k.1.6, k.2.8) in
+      absurd (may.1 same)
+  to_client (Sets path format body) m may h = absurd (never_here server_end bytes m.0 entries m.2 h)
+  to_client (Removes path) m may h = absurd (never_here server_end bytes m.0 entries m.2 h)
+  to_client TickServer m may h = absurd (never_here server_end bytes m.0 entries m.2 h)
+  to_client (StrangerToServer from b) m may h = absurd (never_here server_end bytes m.0 entries m.2 h)
+  to_client (Deliver number) m may h = elim m.2 [
+    | inl d ↦ absurd (never_here server_end bytes d.1 entries d.3 h)
+    | inr d ↦ (let k = one_call _ _ refused d.1 d.2 (client_call server_end bytes d.1 entries d.3 h) in
+        gave past at number legal later may m.0 m.1 server_end client_end bytes (cc (k.1.6, k.2.8)) d.0 (cc (k.1.6, k.2.8)))
+  ]
+
+pub all_fair : (turns : List Turn) → Always (λ past t. Makes past t.event.at t.event.word t.event.what t.refused t.entries) turns → AllLegal turns → AllFair turns
+all_fair [] made legal = tt
+all_fair (t ∷ past) made legal = (
+  record {
+    server = λ bytes h. to_server past t.event.at t.event.word t.refused t.entries legal.1 legal.0.later bytes t.event.what made.0 legal.0.comes h;
+    client = λ bytes h. to_client past t.event.at t.event.word t.refused t.entries legal.1 legal.0.later bytes t.event.what made.0 legal.0.comes h;
+  },
+  all_fair past made.1 legal.1,
+)

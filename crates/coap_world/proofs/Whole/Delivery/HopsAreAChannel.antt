@@ -1,0 +1,35 @@
+-- The hops of a legal run stand in the law of two layers and the datagrams between them.
+use Rattle.std.proofs.Common.{List, sym, subst}
+use Rattle.coap_types.specs.Past.{Always}
+use Rattle.coap_layer.specs.Channel.{RepliesSo, ChannelLaw}
+use Rattle.coap_layer.specs.Rows.{LayerLaw}
+use Rattle.coap_ends.proofs.Facts.OfWholeClient as client_facts
+use Rattle.coap_ends.proofs.Facts.OfWholeServer as server_facts
+use Rattle.coap_world.specs.Whole.Events.{client_end, server_end, Config, Event}
+use Rattle.coap_world.specs.Whole.Hops.{hops_of}
+use Rattle.coap_world.specs.Whole.Legal.{AllLegal}
+use Rattle.coap_world.specs.Whole.Record.{Turn, RecordOf, entries_of, client_of, server_trace}
+use Rattle.coap_world.proofs.Whole.Delivery.GivenOutBefore.{all_fair}
+use Rattle.coap_world.proofs.Whole.Delivery.HopsAreEntries.{near_is, far_is}
+use Rattle.coap_world.proofs.Whole.Delivery.HopsAreFair.{Ran, ran}
+
+module _ (config : Config) (events : List Event) (turns : List Turn) (made : RecordOf config events turns) (legal : AllLegal turns) where
+  pub run : Ran config turns
+  run =
+      let below = made.client.exchanges in
+      let under = made.server.exchanges in
+      ran config turns made.made legal (all_fair turns made.made legal) (below.left, below.layer) (under.left, under.layer)
+
+  pub channel : ChannelLaw config.client_word config.server_word client_end server_end (hops_of config turns)
+  channel =
+      let near = near_is config (entries_of turns) in
+      let far = far_is config (entries_of turns) in
+      let client = client_of (entries_of turns) in
+      let server = server_trace config (entries_of turns) in
+      record {
+        near_law = subst (LayerLaw config.client_word) (sym near) (client_facts.layer server_end config.client_szx config.client_word client made.client);
+        far_law = subst (LayerLaw config.server_word) (sym far) (server_facts.layer config.limit config.server_szx config.server_word server made.server);
+        near_replies = subst (Always RepliesSo) (sym near) (client_facts.replies server_end config.client_szx config.client_word client made.client);
+        far_replies = subst (Always RepliesSo) (sym far) (server_facts.replies config.limit config.server_szx config.server_word server made.server);
+        fair = run.fair;
+      }

@@ -1,0 +1,108 @@
+-- The hops of a legal run are fair: what comes from an end's address was sent by that end's layer, at most 100,000 ms before.
+use Rattle.std.proofs.Common.{◌≡◌, ◌⊎◌, inl, inr, ◌≤◌, ℕ, true, List, [], ◌∷◌, ◌++◌, map, refl, ap, sym, subst, ◌∙◌, arith}
+use Rattle.coap_types.specs.Past.{Ever, Always, all_of}
+use Rattle.coap_types.proofs.Facts.Traces.{Ever_append, Ever_back, Ever_map}
+use Rattle.coap_types.specs.declared.endpoint.Endpoint.{Endpoint}
+use Rattle.coap_layer.specs.Channel.{Hop, Near, Far, OnNear, OnFar, GaveOut, IsFair}
+use Rattle.coap_layer.specs.Machine.State.{start}
+use Rattle.coap_layer.specs.Machine.Steps.{left_after, entries}
+use Rattle.coap_layer.specs.Trace as L
+use Rattle.coap_layer.specs.Words.{waiting}
+use Rattle.coap_ends.specs.WholeServer.ServerTrace as S
+use Rattle.coap_ends.specs.WholeServer.ServerLaw as server_law
+use Rattle.coap_exchange.specs.AnswererLaw as answerer
+use Rattle.coap_world.specs.Whole.Delivery as D
+use Rattle.coap_world.specs.Whole.Events.{client_end, server_end, Config}
+use Rattle.coap_world.specs.Whole.Hops.{client_adds, server_adds, hops_in, hops_of, SendsAt, SentIn}
+use Rattle.coap_world.specs.Whole.Legal.{NotBefore, AllLegal}
+use Rattle.coap_world.specs.Whole.Record.{Entry, OfClient, OfServer, client_of, server_trace, Given, Turn, given_in, entries_of, Makes}
+use Rattle.coap_world.proofs.Delivery.HopsAreFair.{by_server, by_client, found_in, sent_later}
+use Rattle.coap_world.proofs.Whole.Delivery.ClientInTime as client
+use Rattle.coap_world.proofs.Whole.Delivery.ClientTurns as client_turns
+use Rattle.coap_world.proofs.Whole.Delivery.HopsAreEntries.{begins_silent}
+use Rattle.coap_world.proofs.Whole.Delivery.ServerInTime as server
+use Rattle.coap_world.proofs.Whole.Delivery.ServerTurns as server_turns
+use Rattle.coap_world.proofs.Whole.Delivery.AfterATurn.{Still, Goes}
+use Rattle.coap_world.proofs.Whole.Delivery.OneEndATurn.{ClientTurn, ServerTurn, side}
+
+module _ (config : Config) where
+  -- the hops of later entries stand in front
+  sent_still : (g : Given) (later es : List Entry) → SentIn (hops_in config es) g → SentIn (hops_in config (later ++ es)) g
+  sent_still g [] es h = h
+  sent_still g (OfClient c ∷ later) es h = sent_later (map Near (client_adds config (client_of (later ++ es)) c)) (hops_in config (later ++ es)) g (sent_still g later es h)
+  sent_still g (OfServer c ∷ later) es h = sent_later (map Far (server_adds config (server_trace config (later ++ es)) c)) (hops_in config (later ++ es)) g (sent_still g later es h)
+
+  still_later : (t u : ℕ) (es : List Entry) → t ≤ u → Still config t es → Still config u es
+  still_later t u es h still =
+      record {
+        client = client.later_by config t u (client_of es) h still.client;
+        server = server.later_by config t u (server_trace config es) h still.server;
+        client_none = still.client_none;
+        server_none = still.server_none;
+      }
+
+  -- a server begins at moment 0
+  begins_by : (t : ℕ) (ds : List S.Delay) → (server_law.own_of config.limit config.server_szx (map (λ (d : S.Delay). S.Delays d.path d.ms true) ds)).clock ≤ t
+  begins_by t [] = omega arith
+  begins_by t (d ∷ ds) = begins_by t ds
+
+  still_first : (t : ℕ) → Still config t []
+  still_first t =
+      let none = begins_silent config config.delays in
+      record {
+        client = record { own = omega arith; layer = omega arith };
+        server = record {
+          own = begins_by t config.delays;
+          between = subst (λ l. (answerer.own_of l).clock ≤ t) (sym none) (omega arith);
+          layer = subst (λ l. (left_after (start config.server_word) (answerer.lower_of l)).clock ≤ t) (sym none) (omega arith);
+        };
+        client_none = refl;
+        server_none = ap (λ l. waiting (entries (start config.server_word) (answerer.lower_of l))) none;
+      }
+
+  pub record Ran (turns : List Turn) : Type 0 where
+    pub still : (t : ℕ) → NotBefore turns t → Still config t (entries_of turns)
+    pub sent : (g : Given) → Ever (λ h. h ≡ g) (all_of given_in turns) → SentIn (hops_of config turns) g
+    pub fair : Always (IsFair client_end server_end) (hops_of config turns)
+
+  ran_first : Ran []
+  ran_first = record { still = λ t n. still_first t; sent = λ g h. absurd h; fair = tt }
+
+  -- one turn more
+  ran_next : (turn : Turn) (past : List Turn) → Ran past → Goes config turn.event.at turn.entries (entries_of past) → Ran (turn ∷ past)
+  ran_next turn past ran goes =
+      record {
+        still = λ u n. still_later turn.event.at u (turn.entries ++ entries_of past) n goes.still;
+        sent = λ g h. elim (Ever_append (λ x. x ≡ g) (given_in turn) (all_of given_in past) h) [
+          | inl now ↦ goes.sent g now
+          | inr before ↦ sent_still g turn.entries (entries_of past) (ran.sent g before)
+        ];
+        fair = goes.fair;
+      }
+
+  turn_goes : (turn : Turn) (past : List Turn) → Ran past → D.IsFair past turn → NotBefore past turn.event.at → client_turns.IsGood config (client_of (turn.entries ++ entries_of past)) → server_turns.IsGood config (server_trace config (turn.entries ++ entries_of past))
+      → ClientTurn turn.event.at turn.entries ⊎ ServerTurn turn.event.at turn.entries → Goes config turn.event.at turn.entries (entries_of past)
+  turn_goes turn past ran fair later good_client good_server (inl t) =
+      client_turns.client_turn config turn.event.at turn.entries (entries_of past) t (ran.still turn.event.at later) good_client
+      (λ bytes h. let k = found_in _ (all_of given_in past) (fair.client bytes h) in by_server (hops_of config past) bytes turn.event.at k.0 k.1 (ran.sent k.0 k.2)) ran.fair
+  turn_goes turn past ran fair later good_client good_server (inr t) =
+      server_turns.server_turn config turn.event.at turn.entries (entries_of past) t (ran.still turn.event.at later) good_server
+      (λ bytes h. let k = found_in _ (all_of given_in past) (fair.server bytes h) in by_client (hops_of config past) bytes turn.event.at k.0 k.1 (ran.sent k.0 k.2)) ran.fair
+
+  client_down : (later es : List Entry) → client_turns.IsGood config (client_of (later ++ es)) → client_turns.IsGood config (client_of es)
+  client_down [] es good = good
+  client_down (OfClient c ∷ later) es good = client_down later es (client_turns.down config (client_of (later ++ es)) c good)
+  client_down (OfServer c ∷ later) es good = client_down later es good
+
+  server_down : (later es : List Entry) → server_turns.IsGood config (server_trace config (later ++ es)) → server_turns.IsGood config (server_trace config es)
+  server_down [] es good = good
+  server_down (OfClient c ∷ later) es good = server_down later es good
+  server_down (OfServer c ∷ later) es good = server_down later es (server_turns.down config (server_trace config (later ++ es)) c good)
+
+  pub ran : (turns : List Turn) → Always (λ past t. Makes past t.event.at t.event.word t.event.what t.refused t.entries) turns → AllLegal turns → D.AllFair turns
+      → client_turns.IsGood config (client_of (entries_of turns)) → server_turns.IsGood config (server_trace config (entries_of turns)) → Ran turns
+  ran [] made legal fair good_client good_server = ran_first
+  ran (turn ∷ past) made legal fair good_client good_server =
+      let before = ran past made.1 legal.1 fair.1 (client_down turn.entries (entries_of past) good_client) (server_down turn.entries (entries_of past) good_server) in
+      ran_next turn past before
+      (turn_goes turn past before fair.0 legal.0.later good_client good_server (side past turn.event.at turn.event.word turn.refused turn.entries turn.event.what made.0))

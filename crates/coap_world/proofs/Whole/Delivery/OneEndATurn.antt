@@ -1,0 +1,96 @@
+-- Each turn is one end's: its calls have the moment of the turn.
+use Rattle.std.proofs.Common.{◌≡◌, ◌⊎◌, inl, inr, ℕ, Bool, true, false, Option, Some, None, List, [], ◌∷◌, ◌++◌, map, refl, ap, sym, subst}
+use Rattle.coap_types.specs.Past.{Ever, Always, all_of}
+use Rattle.coap_types.proofs.Facts.Traces.{Ever_append}
+use Rattle.coap_types.specs.declared.endpoint.Endpoint.{Endpoint}
+use Rattle.coap_layer.specs.Trace.{Packet}
+use Rattle.coap_ends.specs.WholeClient.ClientTrace as C
+use Rattle.coap_ends.specs.WholeServer.ServerTrace as S
+use Rattle.coap_world.specs.Whole.Events.{client_end, server_end, What, Calls, Observes, Cancels, Forgets, Sets, Removes, TickClient, TickServer, Deliver, StrangerToClient, StrangerToServer}
+use Rattle.coap_world.specs.Whole.Record.{Entry, OfClient, OfServer, client_of, server_of, Given, Turn, given_as, given_by, OnClient, OnServer, IsOne, AreTicks, ClientTick, ServerTick, Makes}
+use Rattle.coap_world.proofs.Delivery.EntriesInTime.{Every}
+use Rattle.coap_world.proofs.Delivery.OneEndATurn.{each_one, each_tick, Takes, as_taken, front}
+use Rattle.coap_world.proofs.Whole.Delivery.ClientInTime as client
+use Rattle.coap_world.proofs.Whole.Delivery.ServerInTime as server
+
+pub record ClientTurn (t : ℕ) (entries : List Entry) : Type 0 where
+  pub calls : List C.Call
+  pub on : OnClient calls entries
+  pub at : Every (client.IsAt t) calls
+
+pub record ServerTurn (t : ℕ) (entries : List Entry) : Type 0 where
+  pub calls : List S.Call
+  pub on : OnServer calls entries
+  pub at : Every (server.IsAt t) calls
+
+module _ (past : List Turn) (t word : ℕ) (refused : Bool) (entries : List Entry) where
+  pub side : (what : What) → Makes past t word what refused entries → ClientTurn t entries ⊎ ServerTurn t entries
+  side (Calls r) m = inl (record { calls = m.0; on = m.2; at = each_one _ (client.IsAt t) (λ c h. subst (client.IsAt t) (sym h.1) refl) refused m.0 m.1 })
+  side (Observes path) m = inl (record { calls = m.0; on = m.2; at = each_one _ (client.IsAt t) (λ c h. subst (client.IsAt t) (sym h.1) refl) refused m.0 m.1 })
+  side (Cancels number) m = inl (record { calls = m.0; on = m.2; at = each_one _ (client.IsAt t) (λ c h. subst (client.IsAt t) (sym h.1) refl) false m.0 m.1.0 })
+  side (Forgets number) m = inl (record { calls = m.0; on = m.2; at = each_one _ (client.IsAt t) (λ c h. subst (client.IsAt t) (sym h.2) tt) false m.0 m.1.0 })
+  side TickClient m = inl (record { calls = m.0; on = m.2; at = each_tick (ClientTick t word) (client.IsAt t) (λ b c h. subst (client.IsAt t) (sym h.5) refl) refused m.0 m.1 })
+  side (StrangerToClient from bytes) m = inl (record { calls = m.0; on = m.2; at = each_one _ (client.IsAt t) (λ c h. subst (client.IsAt t) (sym h.6) refl) refused m.0 m.1 })
+  side (Sets path format body) m = inr (record { calls = m.0; on = m.2; at = each_one _ (server.IsAt t) (λ c h. subst (server.IsAt t) (sym h.2) refl) refused m.0 m.1 })
+  side (Removes path) m = inr (record { calls = m.0; on = m.2; at = each_one _ (server.IsAt t) (λ c h. subst (server.IsAt t) (sym h.2) refl) refused m.0 m.1 })
+  side TickServer m = inr (record { calls = m.0; on = m.2; at = each_tick (ServerTick t word) (server.IsAt t) (λ b c h. subst (server.IsAt t) (sym h.6) refl) refused m.0 m.1 })
+  side (StrangerToServer from bytes) m = inr (record { calls = m.0; on = m.2; at = each_one _ (server.IsAt t) (λ c h. subst (server.IsAt t) (sym h.4) refl) refused m.0 m.1 })
+  side (Deliver number) m = elim m.2 [
+    | inl d ↦ inr (record { calls = d.1; on = d.3; at = each_one _ (server.IsAt t) (λ c h. subst (server.IsAt t) (sym h.4) refl) refused d.1 d.2 })
+    | inr d ↦ inl (record { calls = d.1; on = d.3; at = each_one _ (client.IsAt t) (λ c h. subst (client.IsAt t) (sym h.6) refl) refused d.1 d.2 })
+  ]
+
+-- the calls of the ends, of a turn and of what was before
+
+pub client_client : (cs : List C.Call) (es : List Entry) → client_of (map OfClient cs ++ es) ≡ cs ++ client_of es
+client_client [] es = refl
+client_client (c ∷ cs) es = ap (λ t. c ∷ t) (client_client cs es)
+
+pub client_server : (cs : List S.Call) (es : List Entry) → client_of (map OfServer cs ++ es) ≡ client_of es
+client_server [] es = refl
+client_server (c ∷ cs) es = client_server cs es
+
+pub server_server : (cs : List S.Call) (es : List Entry) → server_of (map OfServer cs ++ es) ≡ cs ++ server_of es
+server_server [] es = refl
+server_server (c ∷ cs) es = ap (λ t. c ∷ t) (server_server cs es)
+
+pub server_client : (cs : List C.Call) (es : List Entry) → server_of (map OfClient cs ++ es) ≡ server_of es
+server_client [] es = refl
+server_client (c ∷ cs) es = server_client cs es
+
+-- what is given out is what a call takes
+
+client_one : (t : ℕ) (g : Given) (c : C.Call) → Ever (λ h. h ≡ g) (given_by t (OfClient c)) → Takes C.NextOut client_end t g (c ∷ [])
+client_one t g (C.NextOut o) h = as_taken C.NextOut client_end t g o h
+client_one t g (C.Calls now r answer) h = absurd h
+client_one t g (C.Observes now path answer) h = absurd h
+client_one t g (C.Cancels now number answer) h = absurd h
+client_one t g (C.Forgets number kept answer) h = absurd h
+client_one t g (C.Asked answer) h = absurd h
+client_one t g (C.Feeds now from bytes word up settled e sent token kept) h = absurd h
+client_one t g (C.Ticks now word below w sent z kept answer) h = absurd h
+client_one t g (C.NextReport r) h = absurd h
+
+server_one : (t : ℕ) (g : Given) (c : S.Call) → Ever (λ h. h ≡ g) (given_by t (OfServer c)) → Takes S.NextOut server_end t g (c ∷ [])
+server_one t g (S.NextOut o) h = as_taken S.NextOut server_end t g o h
+server_one t g (S.Sets now path format body answer left) h = absurd h
+server_one t g (S.Removes now path answer left) h = absurd h
+server_one t g (S.Delays path ms answer) h = absurd h
+server_one t g (S.Feeds now from bytes word up came w below) h = absurd h
+server_one t g (S.Ticks now word below room d passed w id answer) h = absurd h
+server_one t g (S.Gets path answer) h = absurd h
+server_one t g (S.TellsApplied answer) h = absurd h
+
+pub client_takes : (t : ℕ) (g : Given) (cs : List C.Call) → Ever (λ h. h ≡ g) (all_of (given_by t) (map OfClient cs)) → Takes C.NextOut client_end t g cs
+client_takes t g [] h = absurd h
+client_takes t g (c ∷ cs) h = elim (Ever_append (λ x. x ≡ g) (given_by t (OfClient c)) (all_of (given_by t) (map OfClient cs)) h) [
+  | inl p ↦ (let k = client_one t g c p in record { by = k.by; at = k.at; taken = front _ c cs k.taken })
+  | inr q ↦ (let k = client_takes t g cs q in record { by = k.by; at = k.at; taken = inr k.taken })
+]
+
+pub server_takes : (t : ℕ) (g : Given) (cs : List S.Call) → Ever (λ h. h ≡ g) (all_of (given_by t) (map OfServer cs)) → Takes S.NextOut server_end t g cs
+server_takes t g [] h = absurd h
+server_takes t g (c ∷ cs) h = elim (Ever_append (λ x. x ≡ g) (given_by t (OfServer c)) (all_of (given_by t) (map OfServer cs)) h) [
+  | inl p ↦ (let k = server_one t g c p in record { by = k.by; at = k.at; taken = front _ c cs k.taken })
+  | inr q ↦ (let k = server_takes t g cs q in record { by = k.by; at = k.at; taken = inr k.taken })
+]

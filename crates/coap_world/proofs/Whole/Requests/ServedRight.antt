@@ -1,0 +1,38 @@
+-- What is served is what a datagram asks, by the table of the methods.
+use Rattle.std.proofs.Common.{◌≡◌, ℕ, List, [], ◌∷◌, ap, sym, subst, ◌∙◌}
+use Rattle.coap_resource.specs.Content.{Content}
+use Rattle.coap_resource.specs.RequestOptions.{precondition_fails}
+use Rattle.coap_resource.specs.Serves as R
+use Rattle.coap_ends.specs.WholeServer.ServerLaw.{own_of}
+use Rattle.coap_ends.specs.WholeServer.ServerTrace as S
+use Rattle.coap_ends.proofs.Facts.OfWholeServer as server_facts
+use Rattle.coap_world.specs.Whole.Events.{Config}
+use Rattle.coap_world.specs.Whole.Record.{Entry, OfClient, OfServer, server_trace}
+use Rattle.coap_world.specs.Whole.Serves.{ServesRight, AllServed}
+use Rattle.coap_world.proofs.Whole.Requests.OfACall.{Lawful, lawful_back}
+use Rattle.coap_world.proofs.Whole.Requests.ServedLeaves.{leaves}
+use Rattle.coap_world.proofs.Whole.Requests.Traced.{brought_in}
+
+module _ (config : Config) where
+  served_here : (past : List Entry) (c : S.Call) → Lawful config (OfServer c ∷ past) → ServesRight config past (OfServer c)
+  served_here past c law =
+      let t : List S.Call = server_trace config past in
+      let s : S.Own = own_of config.limit config.server_szx t in
+      let right = (server_facts.right config.limit config.server_szx config.server_word (c ∷ t) law.server).0 in
+      record {
+        brought = λ x here. brought_in config x.asked x.question (OfServer c ∷ past) ((server_facts.handed config.limit config.server_szx config.server_word (c ∷ t) law.server).0 x here);
+        table = λ x here. (
+            let k = right.serves x here in
+            (k.0, subst (λ (o : Content). R.Serves o k.0 x.question x.reply x.left) (leaves s c x here).found k.1));
+        preconditions = λ x here applied.
+            ap (λ (o : Content). precondition_fails (o.holds x.question.path) x.question.options) (sym (leaves s c x here).found) ∙ (right.applied x here applied).preconditions;
+        methods = (server_facts.methods config.limit config.server_szx config.server_word (c ∷ t) law.server).0;
+      }
+
+  pub served_right : (all : List Entry) → Lawful config all → AllServed config all
+  served_right [] law = tt
+  served_right (OfClient c ∷ past) law = (
+    record { brought = λ x here. absurd here; table = λ x here. absurd here; preconditions = λ x here applied. absurd here; methods = tt },
+    served_right past (lawful_back config past (OfClient c) law),
+  )
+  served_right (OfServer c ∷ past) law = (served_here past c law, served_right past (lawful_back config past (OfServer c) law))

@@ -1,0 +1,3 @@
+-- Which events are legal.
+pub mod NoneRuns
+pub mod Legal

@@ -1,0 +1,22 @@
+use Rattle.coap_world.specs.Whole.Events.{client_end, server_end}
+use Rattle.coap_world.specs.Whole.Hops.{hops_of}
+use Rattle.coap_world.specs.Whole.Record.{entries_of}
+use Rattle.coap_world.proofs.Delivery.ChannelAcross.{channel_across}
+use Rattle.coap_world.proofs.Whole.Delivery.HopsAreEntries.{near_is, far_is}
+use Rattle.coap_world.proofs.Whole.Delivery.HopsAreAChannel as joined
+use Rattle.coap_world.proofs.whole_world.whole_hops_law.Goals as goal
+
+pub returns-clause-near : goal.returns-clause-near
+returns-clause-near c config turns = near_is config (entries_of turns)
+
+pub returns-clause-far : goal.returns-clause-far
+returns-clause-far c config turns = far_is config (entries_of turns)
+
+pub returns-clause-channel : goal.returns-clause-channel
+returns-clause-channel c config events turns made legal = joined.channel config events turns made legal.events
+
+pub returns-clause-back : goal.returns-clause-back
+returns-clause-back c config events turns made legal = channel_across config.client_word config.server_word client_end server_end (hops_of config turns) (joined.channel config events turns made legal.events)
+
+pub returns-clause-at_once : goal.returns-clause-at_once
+returns-clause-at_once c config events turns made legal = (joined.run config events turns made legal.events).sent

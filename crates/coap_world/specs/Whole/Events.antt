@@ -1,0 +1,37 @@
+-- One client, one server, strangers, and the datagrams between them: what happens (RFC 7252, sections 4 and 5; RFC 7641; RFC
+-- 7959).
+use Rattle.std.specs.Prelude.{ℕ, Option, List}
+use Rattle.coap_types.specs.declared.endpoint.Endpoint.{Endpoint}
+use Rattle.coap_ends.specs.WholeClient.ClientTrace.{Request}
+use Rattle.coap_ends.specs.WholeServer.ServerTrace.{Delay}
+pub use Rattle.coap_world.specs.Events.{localhost, client_end, server_end}
+
+-- with which words, and which sizes of blocks, the ends begin; how many changes a window takes; the delays of paths
+pub record Config : Type 0 where
+  pub client_word : ℕ
+  pub client_szx : ℕ
+  pub server_word : ℕ
+  pub server_szx : ℕ
+  pub limit : ℕ
+  pub delays : List Delay
+
+-- A call of the client, an observation, its cancel, and its end without a message; a local change of the server, and a
+-- removal; the ticks of an end; a datagram that was given out is delivered, by its number; a datagram of a stranger.
+pub data What : Type 0 where
+  Calls : (request : Request) → What
+  Observes : (path : List (List ℕ)) → What
+  Cancels : (number : ℕ) → What
+  Forgets : (number : ℕ) → What
+  Sets : (path : List (List ℕ)) (format : Option ℕ) (body : List ℕ) → What
+  Removes : (path : List (List ℕ)) → What
+  TickClient : What
+  TickServer : What
+  Deliver : (number : ℕ) → What
+  StrangerToClient : (from : Endpoint) (bytes : List ℕ) → What
+  StrangerToServer : (from : Endpoint) (bytes : List ℕ) → What
+
+-- at a moment in milliseconds, with a word
+pub record Event : Type 0 where
+  pub at : ℕ
+  pub word : ℕ
+  pub what : What

@@ -1,0 +1,55 @@
+-- What the message layers of the two ends do in a run, in one order: the newest first (RFC 7252, section 4).
+use Rattle.std.specs.Prelude.{◌≡◌, ℕ, List, [], ◌∷◌, ◌++◌, map}
+use Rattle.coap_types.specs.Past.{Ever, all_of}
+use Rattle.coap_layer.specs.Channel.{Hop, Near, Far}
+use Rattle.coap_layer.specs.Machine.State.{start}
+use Rattle.coap_layer.specs.Machine.Steps.{Asked, left_after, entries}
+use Rattle.coap_layer.specs.Trace as L
+use Rattle.coap_exchange.specs.AnswererLaw as answerer
+use Rattle.coap_ends.specs.Adds.{asked_by_server}
+use Rattle.coap_ends.specs.WholeClient.ClientAdds as adds
+use Rattle.coap_ends.specs.WholeClient.ClientTrace as C
+use Rattle.coap_ends.specs.WholeServer.ServerAsks as asks
+use Rattle.coap_ends.specs.WholeServer.ServerLaw as server
+use Rattle.coap_ends.specs.WholeServer.ServerTrace as S
+pub use Rattle.coap_world.specs.Hops.{SendsAt, SentIn, across}
+use Rattle.coap_world.specs.Record.{Given}
+use Rattle.coap_world.specs.Whole.Events.{server_end, Config}
+use Rattle.coap_world.specs.Whole.Record.{Entry, OfClient, OfServer, client_of, server_trace, Turn, given_in, entries_of}
+
+module _ (config : Config) where
+  -- what a call of the client asks of its layer, and the entries that it adds to it
+  abbrev pub client_asks : List C.Call → C.Call → List Asked
+  client_asks past c = adds.call_asks server_end config.client_szx config.client_word past c
+
+  abbrev pub client_asked : List C.Call → List Asked
+  client_asked past = adds.all_asked server_end config.client_szx config.client_word past
+
+  abbrev pub client_adds : List C.Call → C.Call → List L.Entry
+  client_adds past c = adds.call_adds server_end config.client_szx config.client_word past c
+
+  -- .. and of the server
+  abbrev pub server_asks : List S.Call → S.Call → List Asked
+  server_asks past c = asked_by_server (server.lower_of config.limit config.server_szx past) (asks.lower (server.own_of config.limit config.server_szx past) c)
+
+  abbrev pub server_asked : List S.Call → List Asked
+  server_asked past = answerer.lower_of (server.lower_of config.limit config.server_szx past)
+
+  abbrev pub server_adds : List S.Call → S.Call → List L.Entry
+  server_adds past c = entries (left_after (start config.server_word) (server_asked past)) (server_asks past c)
+
+  -- the client's layer is the near one, the server's the far one
+  abbrev pub hops_at : List Entry → Entry → List Hop
+  hops_at past (OfClient c) = map Near (client_adds (client_of past) c)
+  hops_at past (OfServer c) = map Far (server_adds (server_trace config past) c)
+
+  abbrev pub hops_in : List Entry → List Hop
+  hops_in [] = []
+  hops_in (e ∷ past) = hops_at past e ++ hops_in past
+
+  abbrev pub hops_of : List Turn → List Hop
+  hops_of turns = hops_in (entries_of turns)
+
+-- What an end gives out was sent by its layer at that very moment.
+abbrev pub TakenAtOnce : List Hop → List Turn → Type 0
+TakenAtOnce hops turns = (g : Given) → Ever (λ h. h ≡ g) (all_of given_in turns) → SentIn hops g

@@ -1,0 +1,80 @@
+-- Which events are legal, in the record of their run: no datagram comes more than 100,000 ms after it was given out, and
+-- what comes from an end's address was given out by that end.
+use Rattle.std.specs.Prelude.{◌≢◌, ◌≡◌, ◌⊎◌, ◌≤◌, ◌<◌, ℕ, ◌+◌, ◌^◌, IfSome, List, [], ◌∷◌, length, All}
+use Rattle.coap_types.specs.Bytes.{AreBytes}
+use Rattle.coap_types.specs.EntityTag.{AreTags}
+use Rattle.coap_types.specs.Past.{Always}
+use Rattle.coap_types.specs.Path.{IsPath}
+use Rattle.coap_ends.specs.WholeClient.ClientTrace.{Request}
+use Rattle.coap_ends.specs.declared.limits.TheConstants.{MAX_DELAYS as max_delays}
+use Rattle.coap_ends.specs.WholeServer.ServerTrace.{Delay}
+use Rattle.coap_resource.specs.declared.tally.TheConstants.{MAX_CHANGES_PER_WINDOW as max_changes}
+pub use Rattle.coap_world.specs.Legal.{max_delivery, IsEndpoint}
+use Rattle.coap_world.specs.Record.{Given}
+use Rattle.coap_world.specs.Whole.Events.{client_end, server_end, Config, What, Calls, Observes, Cancels, Forgets, Sets, Removes, Deliver, StrangerToClient, StrangerToServer}
+use Rattle.coap_world.specs.Whole.Record.{Turn, IsNumber}
+
+-- moments don't fall
+abbrev pub NotBefore : List Turn → ℕ → Type 0
+NotBefore [] at = Unit {0}
+NotBefore (turn ∷ past) at = turn.event.at ≤ at
+
+-- a datagram that was given out before, addressed to an end, and not too old; a stranger that has no end's address
+abbrev pub MayCome : List Turn → ℕ → What → Type 0
+MayCome past at (Deliver number) =
+    (g : Given) × IsNumber number g past × ((g.packet.to ≡ client_end) ⊎ (g.packet.to ≡ server_end)) × (at ≤ g.at + max_delivery)
+MayCome past at (StrangerToClient from bytes) = (from ≢ client_end) × (from ≢ server_end)
+MayCome past at (StrangerToServer from bytes) = (from ≢ client_end) × (from ≢ server_end)
+MayCome past at what = Unit {0}
+
+-- each number is in the range of its type
+
+pub record IsRequest (r : Request) : Type 0 where
+  pub path : IsPath r.path
+  pub format : IfSome r.format (λ f. f < 2 ^ 16)
+  pub body : AreBytes r.body
+  pub etags : AreTags r.etags
+  pub if_match : AreTags r.if_match
+  pub accept : IfSome r.accept (λ f. f < 2 ^ 16)
+
+abbrev pub InRange : What → Type 0
+InRange (Calls r) = IsRequest r
+InRange (Observes path) = IsPath path
+InRange (Cancels number) = number < 2 ^ 64
+InRange (Forgets number) = number < 2 ^ 64
+InRange (Sets path format body) = IsPath path × IfSome format (λ f. f < 2 ^ 16) × AreBytes body
+InRange (Removes path) = IsPath path
+InRange (StrangerToClient from bytes) = IsEndpoint from × AreBytes bytes
+InRange (StrangerToServer from bytes) = IsEndpoint from × AreBytes bytes
+InRange what = Unit {0}
+
+pub record IsLegal (past : List Turn) (turn : Turn) : Type 0 where
+  pub at : turn.event.at < 2 ^ 64
+  pub word : turn.event.word < 2 ^ 64
+  pub range : InRange turn.event.what
+  pub later : NotBefore past turn.event.at
+  pub comes : MayCome past turn.event.at turn.event.what
+
+abbrev pub AllLegal : List Turn → Type 0
+AllLegal turns = Always IsLegal turns
+
+-- the words and sizes with which the ends begin, how many changes a window takes, and at most 16 delays (profile)
+
+pub record IsDelay (d : Delay) : Type 0 where
+  pub path : IsPath d.path
+  pub ms : d.ms < 2 ^ 64
+
+pub record IsConfig (config : Config) : Type 0 where
+  pub client_word : config.client_word < 2 ^ 64
+  pub client_szx : config.client_szx ≤ 6
+  pub server_word : config.server_word < 2 ^ 64
+  pub server_szx : config.server_szx ≤ 6
+  pub some : 1 ≤ config.limit
+  pub limit : config.limit ≤ max_changes
+  pub delays : All IsDelay config.delays
+  pub few : length config.delays ≤ max_delays
+
+-- a configuration in range, and legal events
+pub record Legal (config : Config) (turns : List Turn) : Type 0 where
+  pub range : IsConfig config
+  pub events : AllLegal turns

@@ -1,0 +1,43 @@
+-- How the server serves what its message layer hands up (RFC 7252, sections 5.2, 5.8 and 5.10.8; RFC 7959, section 2.5).
+use Rattle.std.specs.Prelude.{◌≡◌, ◌⊎◌, ℕ, true, false, Some, List, ◌∷◌}
+use Rattle.coap_types.specs.Past.{Sometime, Always}
+use Rattle.coap_codec.specs.Message.{Message}
+use Rattle.coap_resource.specs.RequestOptions.{precondition_fails}
+use Rattle.coap_resource.specs.Serves.{Question}
+use Rattle.coap_resource.specs.Serves as R
+use Rattle.coap_exchange.specs.declared.answerer.Asked.{Asked}
+use Rattle.coap_ends.specs.WholeServer.Follows.ServerAnswers.{came_in, MakesWait}
+use Rattle.coap_ends.specs.WholeServer.Follows.ServerBrings.{Brings}
+use Rattle.coap_ends.specs.WholeServer.Follows.ServerServes.{Serving}
+use Rattle.coap_ends.specs.WholeServer.Follows.ServerTable.{ServedHere}
+use Rattle.coap_ends.specs.WholeServer.ServerChecks.{Asks, verdict_on}
+use Rattle.coap_ends.specs.WholeServer.ServerLaw.{own_of}
+use Rattle.coap_ends.specs.WholeServer.ServerServing.{is_applied}
+use Rattle.coap_world.specs.Whole.Events.{Config}
+use Rattle.coap_world.specs.Whole.Record.{Entry, OfClient, OfServer, server_trace}
+use Rattle.coap_world.specs.Whole.Words.{ServesAt, holds_at}
+
+module _ (config : Config) where
+  -- here the request is handed up, or the last block of its body, and this is what is asked of the store
+  abbrev pub BroughtAt : Asked → Question → List Entry → Entry → Type 0
+  BroughtAt a q past (OfClient c) = ⊥
+  BroughtAt a q past (OfServer c) = Brings config.limit config.server_szx config.server_word (server_trace config past) c a q
+
+  -- A request that is handed up and asks whole is served here, or waits.
+  abbrev pub MethodsAt : List Entry → Entry → Type 0
+  MethodsAt past (OfClient c) = Unit {0}
+  MethodsAt past (OfServer c) =
+      (p : Asked × Message) (q : Question) → came_in c ≡ Some p → verdict_on config.server_szx p.1 ≡ Asks q
+      → ServedHere config.limit config.server_szx (server_trace config past) c p.0 q ⊎ MakesWait config.limit config.server_szx (server_trace config past) c p.0
+
+  pub record ServesRight (past : List Entry) (e : Entry) : Type 0 where
+    -- What is served came in a datagram, here or before, and is what that asks, with the whole body of its blocks.
+    pub brought : (x : Serving) → ServesAt config x past e → Sometime (BroughtAt x.asked x.question) (e ∷ past)
+    -- Its reply, and what it changes, are those of the table of the methods, for what the store holds;
+    pub table : (x : Serving) → ServesAt config x past e → (at : ℕ) × R.Serves (own_of config.limit config.server_szx (server_trace config past)).store at x.question x.reply x.left
+    -- where it is applied, its preconditions hold of what its path holds.
+    pub preconditions : (x : Serving) → ServesAt config x past e → is_applied x.reply.code ≡ true → precondition_fails (holds_at config x.question.path past) x.question.options ≡ false
+    pub methods : MethodsAt past e
+
+  abbrev pub AllServed : List Entry → Type 0
+  AllServed all = Always ServesRight all

@@ -1,0 +1,111 @@
+ghost use Rattle.std.specs.Prelude.{◌≡◌, List};
+ghost use Rattle.coap_types.specs.declared.transmission.TheConstants.{MAX_LATENCY_MS as max_latency};
+ghost use Rattle.coap_layer.specs.Channel.{ChannelLaw, near_of, far_of};
+ghost use Rattle.coap_ends.specs.WholeClient.ClientLaw as clients;
+ghost use Rattle.coap_ends.specs.WholeServer.ServerLaw as servers;
+ghost use Rattle.coap_world.specs.Whole.Agrees.{AppliedAsAsked, AtMostOnce, EachBelongs};
+ghost use Rattle.coap_world.specs.Whole.Answers.{AllAnswered};
+ghost use Rattle.coap_world.specs.Whole.CameFrom.{CamesFrom};
+ghost use Rattle.coap_world.specs.Whole.Delivery.{AllFair};
+ghost use Rattle.coap_world.specs.Whole.Events.{client_end, server_end, Config, Event};
+ghost use Rattle.coap_world.specs.Whole.Given.{AllGiven};
+ghost use Rattle.coap_world.specs.Whole.Holds.{HoldsChanges, ChangesOwned};
+ghost use Rattle.coap_world.specs.Whole.Hops.{hops_of, across, TakenAtOnce};
+ghost use Rattle.coap_world.specs.Whole.Legal.{Legal};
+ghost use Rattle.coap_world.specs.Whole.LegalEvents.{NoneRuns, NotAfter, never_given, NoneFrom, CallsMay, ObservesMay, EndsMay, SetsMay, RemovesMay, TicksMay, StrangersMay, DeliveriesMay, NoneFalls, NoneOver, NoneLonger, NoneBeyond};
+ghost use Rattle.coap_world.specs.Whole.Local.{LocalRight};
+ghost use Rattle.coap_world.specs.Whole.Record.{Turn, RecordOf, entries_of, client_of, server_trace};
+ghost use Rattle.coap_world.specs.Whole.Serves.{AllServed};
+
+/// What comes from an end's address was given out by that end, for the one that it comes to, at most 100,000 ms before.
+pub fn whole_delivery_law()
+    ensures fair { (config : Config) (events : List Event) (turns : List Turn) → RecordOf config events turns
+        → Legal config turns → AllFair turns }
+{}
+
+/// What the message layers of the two ends do in a run, in one order (RFC 7252, section 4).
+pub fn whole_hops_law()
+    // The near hops are the entries of the client's layer, the far ones of the server's.
+    ensures near { (config : Config) (turns : List Turn) → near_of (hops_of config turns)
+        ≡ clients.layer_of server_end config.client_szx config.client_word (client_of (entries_of turns)) }
+    ensures far { (config : Config) (turns : List Turn) → far_of (hops_of config turns)
+        ≡ servers.layer_of config.limit config.server_szx config.server_word (server_trace config (entries_of turns)) }
+    // In a legal run they stand in the law of two layers and the datagrams between them.
+    ensures channel { (config : Config) (events : List Event) (turns : List Turn) → RecordOf config events turns
+        → Legal config turns → ChannelLaw config.client_word config.server_word client_end server_end (hops_of config turns) }
+    ensures back { (config : Config) (events : List Event) (turns : List Turn) → RecordOf config events turns
+        → Legal config turns → ChannelLaw config.server_word config.client_word server_end client_end (across (hops_of config turns)) }
+    // What an end gives out in a turn was sent by its layer in that turn, at its moment.
+    ensures at_once { (config : Config) (events : List Event) (turns : List Turn) → RecordOf config events turns
+        → Legal config turns → TakenAtOnce (hops_of config turns) turns }
+{}
+
+/// What the server's changes are, whatever the events are.
+pub fn whole_changes_law()
+    // Each path holds its last change, and the versions are 1, 2, 3 and so on (RFC 7252, section 5.10.6).
+    ensures holds { (config : Config) (events : List Event) (turns : List Turn) → RecordOf config events turns
+        → Legal config turns → HoldsChanges config (entries_of turns) }
+    // A local change does what it answers: it puts, or removes, by one change, or nothing changes.
+    ensures local { (config : Config) (events : List Event) (turns : List Turn) → RecordOf config events turns
+        → Legal config turns → LocalRight config (entries_of turns) }
+    // What a path holds changes by a local change of it, or by a request to it that is applied (RFC 7252, section 5.8).
+    ensures owned { (config : Config) (events : List Event) (turns : List Turn) → RecordOf config events turns
+        → Legal config turns → ChangesOwned config (entries_of turns) }
+{}
+
+/// Whose requests the server hands up in a legal run.
+pub fn whole_requests_law()
+    // What comes from the client's address is a request that the client sent (RFC 7252, sections 4.2 and 5.2).
+    ensures came { (config : Config) (events : List Event) (turns : List Turn) → RecordOf config events turns
+        → Legal config turns → CamesFrom config (entries_of turns) }
+    // What is served is what its datagram asks, by the table of the methods, and applied only where its preconditions hold;
+    // and each request that asks whole is served or waits (RFC 7252, sections 5.8 and 5.10.8).
+    ensures served { (config : Config) (events : List Event) (turns : List Turn) → RecordOf config events turns
+        → Legal config turns → AllServed config (entries_of turns) }
+    // What is applied for the client's address belongs to a call (RFC 7252, section 5.3.1).
+    ensures belongs { (config : Config) (events : List Event) (turns : List Turn) → RecordOf config events turns
+        → Legal config turns → EachBelongs config (entries_of turns) }
+    // What is applied for a call has its method, path and preconditions, and its format, and does to that path what the call
+    // asks, with the body that the store is asked with (RFC 7252, sections 5.8 and 5.10.8).
+    ensures asked { (config : Config) (events : List Event) (turns : List Turn) → RecordOf config events turns
+        → Legal config turns → AppliedAsAsked config (entries_of turns) }
+    // For each call at most one request is applied (RFC 7252, section 4.5; RFC 7959, section 2.5).
+    ensures once { (config : Config) (events : List Event) (turns : List Turn) → RecordOf config events turns
+        → Legal config turns → AtMostOnce config (entries_of turns) }
+{}
+
+/// Whose responses the client takes in a legal run, and what is taken of its reports.
+pub fn whole_answers_law()
+    // Each answer was made by the server before, for the client, under that token (RFC 7252, section 5.3.2; RFC 7641, section 3.2).
+    ensures answered { (config : Config) (events : List Event) (turns : List Turn) → RecordOf config events turns
+        → Legal config turns → AllAnswered config (entries_of turns) }
+    // Its reports are all taken, in order, each once, but for those of a forgotten observation.
+    ensures given { (config : Config) (events : List Event) (turns : List Turn) → RecordOf config events turns
+        → Legal config turns → AllGiven config (entries_of turns) }
+{}
+
+/// Which events are legal.
+pub fn whole_legal_law()
+    // No datagram comes later than 100,000 ms after it was given out (MAX_LATENCY, RFC 7252, section 4.8.2).
+    ensures late { NotAfter max_latency }
+    // Each kind of event may happen with numbers in range, at a moment that is not before the last: a call, an observation, its
+    // cancel and its end, a local change and a removal, ticks, a datagram of any stranger, and each datagram that was given
+    // out to an end.
+    ensures calls { CallsMay }
+    ensures observes { ObservesMay }
+    ensures ends { EndsMay }
+    ensures sets { SetsMay }
+    ensures removes { RemovesMay }
+    ensures ticks { TicksMay }
+    ensures strangers { StrangersMay }
+    ensures deliveries { DeliveriesMay max_latency }
+    // Moments don't fall; moments and words have 64 bits, a path has 16 segments at most, and a format has 16 bits.
+    ensures falls { NoneFalls }
+    ensures over { NoneOver }
+    ensures longer { NoneLonger }
+    ensures beyond { NoneBeyond }
+    // One that was never given out can't come, and a stranger has no end's address.
+    ensures given { NoneRuns never_given }
+    ensures of_client { NoneFrom client_end }
+    ensures of_server { NoneFrom server_end }
+{}
