@@ -9,13 +9,19 @@ ghost use Rattle.coap.specs.declared.orders.Wrong.TheVariants as wrongs;
 
 mod answer;
 mod bearing;
+mod calling;
 mod ends;
+mod get;
+mod pair;
 mod serve;
 mod show;
+mod side;
 
 use crate::orders::{Order, Wrong};
 use crate::words::order;
 use answer::answer;
+use get::get;
+use pair::pair;
 use serve::serve;
 use show::show;
 use std::alloc::AllocError;
@@ -30,7 +36,7 @@ use std::rt::Clock;
 pub enum Status {
     /// What was asked for is printed.
     Done = 0,
-    /// A refused datagram or body, or an order that can't be carried out yet.
+    /// A refused datagram or body, or a call that was refused or failed.
     Refused = 1,
     /// Wrong words or hex.
     Words = 2,
@@ -80,14 +86,6 @@ impl From<AllocError> for Stop {
     }
 }
 
-// Says that an order can't be carried out yet.
-fn not_yet<W: Write>(out: &mut W) -> Result<Status, Stop>
-    ensures { IfOk result IsCarriedOut }
-{
-    writeln!(out, "not yet")?;
-    Ok(Status::Refused)
-}
-
 // Carries an order out.
 fn perform<R: AllocGlobal + Net + Clock + RandomSource, W: Write>(
     rt: &R,
@@ -104,8 +102,9 @@ fn perform<R: AllocGlobal + Net + Clock + RandomSource, W: Write>(
             body,
             datagram,
         } => answer(alloc, path, body, datagram.as_slice(), out),
+        Order::Pair { path, body, word } => pair(rt, path, body, *word, out),
         Order::Serve { port, count, word } => serve(rt, *port, *count, *word, out),
-        Order::Pair { .. } | Order::Get { .. } => not_yet(out),
+        Order::Get { port, path, word } => get(rt, *port, path, *word, out),
     }
 }
 

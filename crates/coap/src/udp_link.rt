@@ -14,6 +14,11 @@ const RECEIVE_WAIT_MS: u64 = 10;
 
 const _: () = prove!(RECEIVE_WAIT_MS == 10);
 
+/// The port that stands for one that is free.
+pub const ANY_PORT: u16 = 0;
+
+const _: () = prove!(ANY_PORT == 0);
+
 /// A UDP socket on 127.0.0.1.
 #[derive(Drop)]
 pub struct UdpLink {
@@ -34,7 +39,7 @@ fn endpoint_of(address: SocketAddr) -> Option<Endpoint> {
 }
 
 impl UdpLink {
-    /// A socket at a port of 127.0.0.1; at port 0, at one that is free.
+    /// A socket at a port of 127.0.0.1; at `ANY_PORT`, at one that is free.
     pub fn bind<R: Net>(net: &R, port: u16) -> io::Result<UdpLink>
         ensures { IfOk result (λ link. link.faults ≡ 0) }
     {

@@ -2,14 +2,15 @@
 ghost use Rattle.std.specs.Prelude.{◌≡◌, ◌<◌, ℕ, [], ◌∷◌, Ok, Some, IfOk, IfErr, length};
 ghost use Rattle.coap_resource.specs.Content.{Content};
 ghost use Rattle.coap_resource.specs.Entries.{content_of};
+ghost use Rattle.coap_ends.specs.WholeClient.ClientStep.{Led as ClientLed};
 ghost use Rattle.coap_ends.specs.ServerObject.ServerShown.{state_of};
 ghost use Rattle.coap_ends.specs.WholeServer.ServerLed.{Led};
 ghost use Rattle.coap_ends.specs.WholeServer.ServerTrace.{Sets};
 
 use crate::commands::Stop;
-use coap_ends::Server;
+use coap_ends::{Client, Server};
 use coap_resource::{ListStore, MAX_CHANGES_PER_WINDOW, Store, StoreRefusal};
-use coap_types::{MAX_SZX, Moment, Path, Szx};
+use coap_types::{Endpoint, MAX_SZX, Moment, Path, Szx};
 use std::alloc::Global;
 use std::hash::BuildHasher;
 
@@ -28,8 +29,8 @@ fn largest_szx() -> Szx
     }
 }
 
-// A server that holds nothing.
-fn fresh_server<H: BuildHasher + Drop>(
+/// A server that holds nothing.
+pub fn fresh_server<H: BuildHasher + Drop>(
     alloc: Global,
     word: u64,
     hasher: H,
@@ -40,6 +41,18 @@ fn fresh_server<H: BuildHasher + Drop>(
         unreachable!()
     };
     Server::with_hasher(alloc, store, largest_szx(), word, hasher)
+}
+
+/// A client of the server at this endpoint, to which nothing has happened.
+pub fn fresh_client<H: BuildHasher + Drop>(
+    alloc: Global,
+    server: Endpoint,
+    word: u64,
+    hasher: H,
+) -> Client<Global, H>
+    ensures { ClientLed server MAX_SZX word [] result }
+{
+    Client::with_hasher(alloc, server, largest_szx(), word, hasher)
 }
 
 /// A server that holds this text at this path alone, as its first change; the refusal of the store

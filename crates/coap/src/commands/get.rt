@@ -1,0 +1,112 @@
+ghost use Rattle.std.specs.Prelude.{◌≡◌, IfOk};
+ghost use Rattle.coap.specs.Statuses.{IsCarriedOut};
+ghost use Rattle.coap.specs.Turning.{Turns};
+
+use crate::commands::bearing::bear;
+use crate::commands::calling::{Outcome, call, get_request, outcome_text};
+use crate::commands::ends::fresh_client;
+use crate::commands::{Status, Stop};
+use crate::driver::send_all;
+use crate::link::Link;
+use crate::tally::{Tally, fresh_tally};
+use crate::timekeeper::{ProgramTime, Timekeeper};
+use crate::turning::turn;
+use crate::udp_link::{ANY_PORT, UdpLink};
+use coap_ends::{Client, End, Report};
+use coap_types::{Endpoint, Moment, Path};
+use std::alloc::{Allocator, Global};
+use std::hash::{BuildHasher, RandomState};
+use std::io::Write;
+use std::net::Net;
+use std::random::RandomSource;
+use std::rt::Clock;
+
+/// One turn of a client.
+pub fn get_turn<A: Allocator + Copy, E: End<A>, L: Link>(
+    client: &mut E,
+    link: &mut L,
+    now: Moment,
+    tally: &mut Tally,
+)
+    ensures { Turns E.waiting E.gives L.sends L.receives E.feeds E.ticks
+        (E.state client.old) link.old now.0 tally.old (E.state client.new) link.new tally.new }
+{
+    turn(client, link, now, tally);
+}
+
+// Turns the client until it reports, and sends what is out then.
+fn reported<H: BuildHasher, L: Link, T: Timekeeper>(
+    client: &mut Client<Global, H>,
+    link: &mut L,
+    time: &mut T,
+    word: u64,
+) -> Result<Report, Stop> {
+    let mut tally = fresh_tally(word);
+    // More turns than a program lives.
+    for _ in 0..u64::MAX {
+        get_turn(client, link, time.now()?, &mut tally);
+        if let Some((_, report)) = client.next_report() {
+            send_all(client, link);
+            return Ok(report);
+        }
+        bear(link, &tally)?;
+    }
+    Err(Stop::Failed)
+}
+
+/// Gets what the server holds at the path, and prints its body; or why it can't. The word is the
+/// one that the client begins with.
+pub fn get_over<L: Link, T: Timekeeper, H: BuildHasher + Drop, W: Write>(
+    alloc: Global,
+    link: &mut L,
+    server: Endpoint,
+    time: &mut T,
+    hasher: H,
+    path: &Path,
+    word: u64,
+    out: &mut W,
+) -> Result<Status, Stop>
+    ensures { IfOk result IsCarriedOut }
+{
+    let mut client = fresh_client(alloc, server, word, hasher);
+    let outcome = match call(&mut client, time.now()?, get_request(path)?)? {
+        Some(refusal) => Outcome::Refused(refusal),
+        None => Outcome::Reported(reported(&mut client, link, time, word)?),
+    };
+    if let Outcome::Reported(Report::Body(fetched)) = &outcome {
+        out.write_all(fetched.body.as_slice())?;
+        return Ok(Status::Done);
+    }
+    let text = outcome_text(alloc, &outcome)?;
+    writeln!(out, "{text}")?;
+    Ok(Status::Refused)
+}
+
+/// Gets what the server at a port of 127.0.0.1 holds at the path.
+pub fn get<R: AllocGlobal + Net + Clock + RandomSource, W: Write>(
+    rt: &R,
+    port: u16,
+    path: &Path,
+    word: u64,
+    out: &mut W,
+) -> Result<Status, Stop>
+    ensures { IfOk result IsCarriedOut }
+{
+    let mut time = ProgramTime::begin(rt)?;
+    let mut link = UdpLink::bind(rt, ANY_PORT)?;
+    let server = Endpoint {
+        port,
+        ..link.address()
+    };
+    let hasher = RandomState::new(rt)?;
+    get_over(
+        rt.alloc(),
+        &mut link,
+        server,
+        &mut time,
+        hasher,
+        path,
+        word,
+        out,
+    )
+}

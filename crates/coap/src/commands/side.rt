@@ -1,0 +1,37 @@
+//! An end over a link.
+
+use crate::commands::Stop;
+use crate::commands::bearing::bear;
+use crate::driver::send_all;
+use crate::link::Link;
+use crate::tally::{Tally, fresh_tally};
+use crate::turning::turn;
+use coap_ends::End;
+use coap_types::Moment;
+use std::alloc::Global;
+
+/// An end, the link that it sends over, and what counts over its turns.
+#[derive(Drop)]
+pub struct Side<'a, E: Drop, L> {
+    pub end: E,
+    link: &'a mut L,
+    tally: Tally,
+}
+
+impl<'a, E: End<Global> + Drop, L: Link> Side<'a, E, L> {
+    /// An end that began with this word.
+    pub fn new(end: E, link: &'a mut L, word: u64) -> Side<'a, E, L> {
+        Side {
+            end,
+            link,
+            tally: fresh_tally(word),
+        }
+    }
+
+    /// One turn, after which what is out is sent at once, and the other end need not wait for it.
+    pub fn turn(&mut self, now: Moment) -> Result<(), Stop> {
+        turn(&mut self.end, self.link, now, &mut self.tally);
+        send_all(&mut self.end, self.link);
+        bear(self.link, &self.tally)
+    }
+}
