@@ -1,5 +1,1 @@
-pub mod ClientExactly
-pub mod ServerExactly
-pub mod OneHandling
-pub mod StoreExactly
 pub mod LawOfAPast

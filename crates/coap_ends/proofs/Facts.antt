@@ -1,6 +1,7 @@
-pub mod OfClient
-pub mod OfServer
 pub mod Sources
 pub mod Adds
-pub mod OfWholeServer
-pub mod OfWholeClient
+pub mod OfServer
+pub mod OfClient
+pub mod OfClientCalls
+pub mod OfServerCalls
+pub mod MovesOfClient

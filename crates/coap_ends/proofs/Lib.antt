@@ -3,11 +3,9 @@ pub mod Exact
 pub mod Progress
 pub mod Rest
 pub mod Sending
-pub mod Reporting
 pub mod Serving
 pub mod Replying
-pub mod Holding
-pub mod WholeServer
-pub mod WholeClient
+pub mod ServerSide
+pub mod ClientSide
 pub mod ServerCalls
 pub mod ClientCalls

@@ -1,13 +1,7 @@
 pub mod ClientGoing
-pub mod ServerGoing
 pub mod AnswererComing
 pub mod AnswererGoing
 pub mod AnswererTiming
 pub mod RequestsKept
-pub mod WaitingTokensAreShort
-pub mod StoreAnswers
 pub mod PathsAreCounted
-pub mod ServerStoreBounds
 pub mod ClientSpelled
-pub mod ServerSpelled
-pub mod ServerWhole

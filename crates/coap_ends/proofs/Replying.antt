@@ -2,5 +2,4 @@ pub mod ClientReplies
 pub mod ServerReplies
 pub mod ServerRepliesSo
 pub mod LayerSendsResponses
-pub mod ResponsesHaveRequests
 pub mod Sources

@@ -3,7 +3,3 @@ pub mod LastStep
 pub mod StepsDue
 pub mod ExchangeTurns
 pub mod FirstOut
-pub mod ClientEnding
-pub mod ServerEnding
-pub mod ClientResting
-pub mod ServerResting

@@ -1,8 +1,2 @@
 pub mod ConsAreRequests
-pub mod OneCon
 pub mod NoNons
-pub mod ClientSent
-pub mod SentOnce
-pub mod NumbersRise
-pub mod ClientQueued
-pub mod InOrder

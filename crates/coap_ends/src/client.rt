@@ -38,9 +38,9 @@ ghost use Rattle.coap_exchange.specs.declared.asker.Turn.{Turn};
 ghost use Rattle.coap_ends.specs.declared.refusals.CallRefusal.TheVariants as refusals;
 ghost use Rattle.coap_ends.specs.ClientObject.CallShown.{shown_request};
 ghost use Rattle.coap_ends.specs.ClientObject.CallAnswers.{refusal_in};
-ghost use Rattle.coap_ends.specs.WholeClient.ClientQueue.{call_answer, observe_answer};
-ghost use Rattle.coap_ends.specs.WholeClient.ClientStep.{Step, Led, fresh_state};
-ghost use Rattle.coap_ends.specs.WholeClient.ClientTrace.{Call, Calls, Observes, Cancels, Forgets, Feeds, Ticks, NextOut, NextReport, Asked};
+ghost use Rattle.coap_ends.specs.ClientSide.ClientQueue.{call_answer, observe_answer};
+ghost use Rattle.coap_ends.specs.ClientSide.ClientStep.{Step, Led, fresh_state};
+ghost use Rattle.coap_ends.specs.ClientSide.ClientTrace.{Call, Calls, Observes, Cancels, Forgets, Feeds, Ticks, NextOut, NextReport, Asked};
 ghost use Rattle.coap_ends.specs.ClientObject.ClientShown.{number_of, shown_asked, shown_reported};
 ghost use Rattle.coap_ends.specs.ClientTurns.ClientQuiet.{IsIdle, TellsNothing};
 ghost use Rattle.coap_ends.specs.ClientTurns.ClientWork.{work};
@@ -69,7 +69,7 @@ pub struct Client<A: Allocator + Copy, H: BuildHasher = BuildHasherDefault<FoldH
 }
 
 impl<A: Allocator + Copy, H: BuildHasher> Model for Client<A, H> {
-    ghost use Rattle.coap_ends.specs.WholeClient.ClientStep.{State};
+    ghost use Rattle.coap_ends.specs.ClientSide.ClientStep.{State};
     ghost use Rattle.coap_ends.specs.ClientObject.ClientHappens.{WasLed, left};
     ghost use Rattle.coap_ends.specs.ClientObject.ClientHeld.{own_of};
 

@@ -1,17 +1,22 @@
 ghost use Rattle.std.specs.Prelude.{ℕ, List};
 ghost use Rattle.coap_types.specs.declared.endpoint.Endpoint.{Endpoint};
-ghost use Rattle.coap_ends.specs.WholeClient.ClientLaw.{ClientLaw};
-ghost use Rattle.coap_ends.specs.WholeClient.ClientTrace.{Call};
-ghost use Rattle.coap_ends.specs.WholeClient.ClientBegins.{BeginAtOnce, ConsAreRequests};
-ghost use Rattle.coap_ends.specs.WholeClient.ClientBodies.{BodiesAreWhole};
-ghost use Rattle.coap_ends.specs.WholeClient.ClientBounds.{AreBounded, AskOnce};
-ghost use Rattle.coap_ends.specs.WholeClient.ClientContinued.{AreContinued};
-ghost use Rattle.coap_ends.specs.WholeClient.ClientNewer.{AreNewer};
-ghost use Rattle.coap_ends.specs.WholeClient.ClientOfCalls.{AreOfCalls, OthersAreGets};
-ghost use Rattle.coap_ends.specs.WholeClient.ClientOrder.{AreInOrder, HeardOnce, OneLast};
-ghost use Rattle.coap_ends.specs.WholeClient.ClientTakes.{AreHandedUp};
-ghost use Rattle.coap_ends.specs.WholeClient.ClientTokens.{OneConOrCancel, OneOfToken, OwnTokens, ShortTokens};
-ghost use Rattle.coap_ends.specs.WholeClient.ClientValid.{ValidOfTags};
+ghost use Rattle.coap_ends.specs.ClientSide.ClientLaw.{ClientLaw};
+ghost use Rattle.coap_ends.specs.ClientSide.ClientTrace.{Call};
+ghost use Rattle.coap_ends.specs.ClientSide.ClientApart.{BlocksApart};
+ghost use Rattle.coap_ends.specs.ClientSide.ClientBegins.{BeginAtOnce, ConsAreRequests};
+ghost use Rattle.coap_ends.specs.ClientSide.ClientBodies.{BodiesAreWhole};
+ghost use Rattle.coap_ends.specs.ClientSide.ClientBounds.{AreBounded, AskOnce};
+ghost use Rattle.coap_ends.specs.ClientSide.ClientCodes.{ReportsCodes};
+ghost use Rattle.coap_ends.specs.ClientSide.ClientContinued.{AreContinued};
+ghost use Rattle.coap_ends.specs.ClientSide.ClientEnds.{AllEnds};
+ghost use Rattle.coap_ends.specs.ClientSide.ClientNewer.{AreNewer};
+ghost use Rattle.coap_ends.specs.ClientSide.ClientOfCalls.{AreOfCalls, OthersAreGets};
+ghost use Rattle.coap_ends.specs.ClientSide.ClientOrder.{AreInOrder, HeardOnce, OneLast};
+ghost use Rattle.coap_ends.specs.ClientSide.ClientTaken.{AllTaken};
+ghost use Rattle.coap_ends.specs.ClientSide.ClientTakes.{AreHandedUp};
+ghost use Rattle.coap_ends.specs.ClientSide.ClientTokens.{OneConOrCancel, OneOfToken, OwnTokens, ShortTokens};
+ghost use Rattle.coap_ends.specs.ClientSide.ClientTypes.{AreOfTypes};
+ghost use Rattle.coap_ends.specs.ClientSide.ClientValid.{ValidOfTags};
 
 /// What follows further from the law of a client that transfers bodies block by block and observes.
 pub fn client_follows_law()
@@ -69,4 +74,20 @@ pub fn client_follows_law()
     // An observation is registered once, and cancelled once (RFC 7641, sections 2 and 3.6).
     ensures asks_once { (server : Endpoint) (szx word : ℕ) (t : List Call) → ClientLaw server szx word t
         → AskOnce szx t }
+    // A block of an upload is sent where each block of another upload was answered, or went out for the last time more than
+    // MAX_LATENCY before (RFC 7252, section 4.8.2; RFC 7959, section 2.5; profile).
+    ensures apart { (server : Endpoint) (szx word : ℕ) (t : List Call) → ClientLaw server szx word t
+        → BlocksApart server szx word t }
+    // Success and failure are reported of a call where its last request is answered so (RFC 7252, sections 5.8 and 5.9).
+    ensures codes { (server : Endpoint) (szx word : ℕ) (t : List Call) → ClientLaw server szx word t
+        → ReportsCodes szx t }
+    // Each report is of a number that was given; Timeout, Reset and NoResponse are reported where the exchange of a call, a
+    // registration or a cancel ends so, and NoIds where its request can't be sent (RFC 7252, sections 4.2, 4.4 and 5.2.2).
+    ensures ends { (server : Endpoint) (szx word : ℕ) (t : List Call) → ClientLaw server szx word t → AllEnds szx t }
+    // A notification comes in a CON or a NON, the answer to a request in an acknowledgement too (RFC 7252, section 5.2;
+    // RFC 7641, section 3.5).
+    ensures types { (server : Endpoint) (szx word : ℕ) (t : List Call) → ClientLaw server szx word t → AreOfTypes t }
+    // A call, an observation and a cancel are refused exactly where they have to be, and what waits starts in its order (the
+    // bounds are a profile).
+    ensures taken { (server : Endpoint) (szx word : ℕ) (t : List Call) → ClientLaw server szx word t → AllTaken szx t }
 {}

@@ -1,9 +1,9 @@
 ghost use Rattle.std.specs.Prelude.{ℕ, List};
 ghost use Rattle.coap_types.specs.declared.endpoint.Endpoint.{Endpoint};
-ghost use Rattle.coap_ends.specs.WholeClient.ClientLaw.{ClientLaw};
-ghost use Rattle.coap_ends.specs.WholeClient.ClientTrace.{Call};
-ghost use Rattle.coap_ends.specs.WholeClient.ClientGoesOn.{GoesOn};
-ghost use Rattle.coap_ends.specs.WholeClient.ClientRests.{ComesToRest, TicksEnd};
+ghost use Rattle.coap_ends.specs.ClientSide.ClientLaw.{ClientLaw};
+ghost use Rattle.coap_ends.specs.ClientSide.ClientTrace.{Call};
+ghost use Rattle.coap_ends.specs.ClientSide.ClientGoesOn.{GoesOn};
+ghost use Rattle.coap_ends.specs.ClientSide.ClientRests.{ComesToRest, TicksEnd};
 
 /// How a client goes on, and comes to rest.
 pub fn client_rests_law()

@@ -1,13 +1,13 @@
 ghost use Rattle.std.specs.Prelude.{ℕ, List};
 ghost use Rattle.coap_types.specs.declared.endpoint.Endpoint.{Endpoint};
-ghost use Rattle.coap_ends.specs.WholeClient.ClientLaw.{ClientLaw};
-ghost use Rattle.coap_ends.specs.WholeClient.ClientTrace.{Call};
-ghost use Rattle.coap_ends.specs.WholeClient.ClientEnded.{AreOver};
-ghost use Rattle.coap_ends.specs.WholeClient.ClientNoted.{AreNoted};
-ghost use Rattle.coap_ends.specs.WholeClient.ClientNotified.{AreTaken};
-ghost use Rattle.coap_ends.specs.WholeClient.ClientOfObservations.{AreOfObservations};
-ghost use Rattle.coap_ends.specs.WholeClient.ClientRising.{ValuesRise};
-ghost use Rattle.coap_ends.specs.WholeClient.ClientValues.{ValuesAreWhole};
+ghost use Rattle.coap_ends.specs.ClientSide.ClientLaw.{ClientLaw};
+ghost use Rattle.coap_ends.specs.ClientSide.ClientTrace.{Call};
+ghost use Rattle.coap_ends.specs.ClientSide.ClientEnded.{AreOver};
+ghost use Rattle.coap_ends.specs.ClientSide.ClientNoted.{AreNoted};
+ghost use Rattle.coap_ends.specs.ClientSide.ClientNotified.{AreTaken};
+ghost use Rattle.coap_ends.specs.ClientSide.ClientOfObservations.{AreOfObservations};
+ghost use Rattle.coap_ends.specs.ClientSide.ClientRising.{ValuesRise};
+ghost use Rattle.coap_ends.specs.ClientSide.ClientValues.{ValuesAreWhole};
 
 /// What follows from the law of a client for the values of its observations.
 pub fn client_values_law()

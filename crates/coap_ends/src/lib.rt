@@ -3,24 +3,22 @@
 
 mod client;
 mod client_follows;
+mod client_laws;
 mod client_rests;
 mod client_values;
 mod end;
-mod laws;
 mod limits;
 mod refusals;
 mod server;
-mod whole_client;
-mod whole_server;
+mod server_laws;
 
 pub use client::{CallId, Client, Fetched, Report};
 pub use client_follows::client_follows_law;
+pub use client_laws::{client_law, client_witness};
 pub use client_rests::client_rests_law;
 pub use client_values::client_values_law;
 pub use end::End;
-pub use laws::{client_law, server_law};
 pub use limits::{MAX_DELAYS, MAX_OBSERVATIONS, MAX_OPTIONS_LEN, MAX_WAITING_CALLS};
 pub use refusals::{CallRefusal, CancelRefusal};
 pub use server::{Applied, DelayRefusal, Server};
-pub use whole_client::{whole_client_law, whole_client_witness};
-pub use whole_server::{whole_server_law, whole_server_runs};
+pub use server_laws::{server_law, server_runs};

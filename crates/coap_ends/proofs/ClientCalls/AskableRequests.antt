@@ -1,5 +1,6 @@
 -- The requests of a client fit a message (RFC 7252, section 4.6).
-use Rattle.std.proofs.Common.{◌≡◌, ◌≤◌, ◌<◌, ◌⊎◌, inl, inr, ℕ, suc, ◌+◌, ◌-◌, Bool, true, false, cond, Option, Some, None, List, [], ◌∷◌, ◌++◌, length, map, sym, ap, ◌∙◌, subst, refl, arith}
+use Rattle.std.proofs.Common.{◌≡◌, ◌≤◌, ◌<◌, ◌⊎◌, inl, inr, ℕ, suc, ◌+◌, ◌-◌, Bool, true, false, cond, Option, Some}
+use Rattle.std.proofs.Common.{None, List, [], ◌∷◌, ◌++◌, length, map, sym, ap, ◌∙◌, subst, refl, arith}
 use Rattle.std.specs.Prelude.{◌^◌, ◌*◌, min, drop, ◌/◌, ◌%◌, ◌==◌, nat_lt, All, IfSome}
 use Rattle.std.proofs.lemmas.List.{length-append, length-take, append-nil, append_assoc}
 use Rattle.std.proofs.Math.Dec.{leb}
@@ -22,12 +23,15 @@ use Rattle.coap_codec.proofs.Facts.Spelling.{options_spelled}
 use Rattle.coap_codec.specs.Spelling.{more, option_bytes, options_bytes}
 use Rattle.coap_exchange.specs.Machine.AskerShown.{IsAskable}
 use Rattle.coap_exchange.proofs.Facts.Requests.{askable_when_short_exactly}
-use Rattle.coap_ends.specs.WholeClient.ClientTrace.{Request}
-use Rattle.coap_ends.specs.WholeClient.ClientOwn.{Transfer, Fetches, Uploads, Single, Observation, Calling}
-use Rattle.coap_ends.specs.WholeClient.ClientQueue.{block_number}
-use Rattle.coap_ends.specs.WholeClient.ClientRequests.{after_path, before_path, block_option, flag_option, get, message_of, options_of, path_options, payload_of}
-use Rattle.coap_ends.specs.ClientObject.CallShown.{FitsMethod, IsFew, IsGood, IsShortPath, block_of, is_long, shown_request}
-use Rattle.coap_ends.proofs.ClientCalls.GoodOptions.{AreShort, good_nil, good_run, good_with, good_weaken, longer_with, longest_with}
+use Rattle.coap_ends.specs.ClientSide.ClientTrace.{Request}
+use Rattle.coap_ends.specs.ClientSide.ClientOwn.{Transfer, Fetches, Uploads, Single, Observation, Calling}
+use Rattle.coap_ends.specs.ClientSide.ClientQueue.{block_number}
+use Rattle.coap_ends.specs.ClientSide.ClientRequests.{after_path, before_path, block_option, flag_option, get}
+use Rattle.coap_ends.specs.ClientSide.ClientRequests.{message_of, options_of, path_options, payload_of}
+use Rattle.coap_ends.specs.ClientObject.CallShown.{FitsMethod, IsFew, IsGood, IsShortPath, block_of, is_long}
+use Rattle.coap_ends.specs.ClientObject.CallShown.{shown_request}
+use Rattle.coap_ends.proofs.ClientCalls.GoodOptions.{AreShort, good_nil, good_run, good_with, good_weaken, longer_with}
+use Rattle.coap_ends.proofs.ClientCalls.GoodOptions.{longest_with}
 
 differ : (b : Bool) → b ≡ true → b ≡ false → ⊥
 differ true h k = cc k

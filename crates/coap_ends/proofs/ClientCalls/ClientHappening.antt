@@ -1,7 +1,7 @@
 -- What an effect makes of a client, by what was done for it.
-use Rattle.std.proofs.Common.{◌≡◌, ℕ, max, Bool, true, false, not, ◌&&◌, cond, Option, Some, None, List, [], ◌∷◌, ◌++◌, Result, Ok, Err, sym, ap, ◌∙◌, subst, refl}
+use Rattle.std.proofs.Common.{◌≡◌, ℕ, max, Bool, true, false, not, ◌&&◌, cond, Option, Some, None, List, [], ◌∷◌, ◌++◌}
+use Rattle.std.proofs.Common.{Result, Ok, Err, sym, ap, ◌∙◌, subst, refl}
 use Rattle.std.specs.Prelude.{OnErr, OnOk, is_err}
-use Rattle.std.specs.Option.{option_map}
 use Rattle.std.proofs.lemmas.List.{append-nil}
 use Rattle.coap_types.specs.declared.endpoint.Endpoint.{Endpoint}
 use Rattle.coap_layer.specs.Trace as L
@@ -11,27 +11,28 @@ use Rattle.coap_exchange.specs.declared.asker.AskRefusal.{AskRefusal}
 use Rattle.coap_exchange.specs.AskerTrace as E
 use Rattle.coap_exchange.specs.AskerLaw as X
 use Rattle.coap_exchange.specs.AskerLaw.{Exchanged}
-use Rattle.coap_ends.specs.WholeClient.ClientTrace.{Request, Report, NoIds, Reported, Requested, Feeds, Ended}
-use Rattle.coap_ends.specs.WholeClient.ClientOwn.{Transfer, Operation, Calling, Registering, Fetching, Cancelling, Dropped, Observation, Own, clocked, operation_number}
-use Rattle.coap_ends.specs.WholeClient.ClientRequests.{message_of}
+use Rattle.coap_ends.specs.ClientSide.ClientTrace.{Request, Report, Reported, Requested, Feeds, Ended}
+use Rattle.coap_ends.specs.ClientSide.ClientOwn.{Transfer, Operation, Calling, Registering, Fetching, Cancelling}
+use Rattle.coap_ends.specs.ClientSide.ClientOwn.{Dropped, Observation, Own, clocked}
 use Rattle.coap_codec.specs.Message.{Message}
-use Rattle.coap_ends.specs.WholeClient.ClientObserving.{begun, first_value, is_over, registered, releases}
-use Rattle.coap_ends.specs.WholeClient.ClientObservations.{observation_of}
-use Rattle.coap_ends.specs.WholeClient.ClientResponses.{is_notification, sequence_in}
-use Rattle.coap_ends.specs.WholeClient.ClientCalls as calls
-use Rattle.coap_ends.specs.WholeClient.ClientEffects.{Deed, Rests, Asks, Keeps, Releases, Effect, stays, runs, ends, of, is_upload, held_by, has_sent}
-use Rattle.coap_ends.specs.WholeClient.ClientEvents.{called, failed, happened}
-use Rattle.coap_ends.specs.WholeClient.ClientSteps.{asking, reporting}
-use Rattle.coap_ends.specs.WholeClient.ClientDeeds.{at, close, deeds}
-use Rattle.coap_ends.specs.WholeClient.ClientStep.{State, Step}
+use Rattle.coap_ends.specs.ClientSide.ClientObserving.{begun, first_value, is_over, registered, releases}
+use Rattle.coap_ends.specs.ClientSide.ClientObservations.{observation_of}
+use Rattle.coap_ends.specs.ClientSide.ClientResponses.{is_notification, sequence_in}
+use Rattle.coap_ends.specs.ClientSide.ClientCalls as calls
+use Rattle.coap_ends.specs.ClientSide.ClientEffects.{Deed, Rests, Asks, Keeps, Releases, Effect, stays, ends, of}
+use Rattle.coap_ends.specs.ClientSide.ClientEffects.{is_upload, held_by}
+use Rattle.coap_ends.specs.ClientSide.ClientEvents.{called, failed, happened}
+use Rattle.coap_ends.specs.ClientSide.ClientSteps.{asking, reporting}
+use Rattle.coap_ends.specs.ClientSide.ClientDeeds.{at, close, deeds}
+use Rattle.coap_ends.specs.ClientSide.ClientStep.{State, Step}
 use Rattle.coap_ends.specs.declared.client.heard.Heard as H
 use Rattle.coap_ends.specs.declared.client.heard.Heard.TheVariants as heard
 use Rattle.coap_ends.specs.declared.client.report.Report as R
 use Rattle.coap_ends.specs.ClientObject.CallShown.{CallState}
 use Rattle.coap_ends.specs.ClientObject.ClientShown.{shown_report}
 use Rattle.coap_ends.specs.ClientObject.ClientSteps.{Hears}
-use Rattle.coap_ends.specs.ClientObject.ClientSends.{Sends, token_in}
-use Rattle.coap_ends.specs.ClientObject.ClientHappens.{Comes, Happens, IsDone, Closes, failing, left}
+use Rattle.coap_ends.specs.ClientObject.ClientSends.{Sends}
+use Rattle.coap_ends.specs.ClientObject.ClientHappens.{Comes, Happens, IsDone, failing, left}
 
 -- an effect for which no request is sent
 
@@ -57,45 +58,6 @@ rests_done x d is = (false, λ s at word sent token. subst (λ e. Exchanged x (d
 pub rests_happens : (x : X.State) (e : Effect) (m word : ℕ) (own : Own) → e.deed ≡ Rests → own ≡ reporting e → Happens x e m word None (left own x)
 rests_happens x e m word own is own_is = deed_happens x x e m word own (subst AsksNothing (sym is) tt) (rests_done x e.deed is) own_is
 
--- a request that was sent, or that could not be
-
-pub sent_closes : (s : Own) (at : ℕ) (token : List ℕ) (x : X.State) (asked : Option Requested) (own : Own)
-    → ((op : Operation) → s.running ≡ Some op → asked ≡ option_map (λ (number : ℕ). record { number = number; token = token }) (operation_number op))
-    → own ≡ record s { sent = at } → Closes s at (Some token) x asked (left own x)
-sent_closes s at token x asked own h is op behind word runs_op sends = by sends.token sends.given_is sends.step
-  where
-    by : (r : Result (List ℕ) AskRefusal) → token_in r ≡ Some token → Exchanged behind (E.Ask at (message_of s.observations op) word sends.sent r ∷ []) x → Happens behind (runs op s) at word asked (left own x)
-    by (Ok t) e step = record {
-      sent = sends.sent;
-      token = Ok t;
-      kept = false;
-      between = x;
-      first = step;
-      last = refl;
-      own_is = is ∙ (ap (λ r. record s { sent = at; running = r }) runs_op ∙ ap (λ rs. record s { sent = at; running = Some op; reports = rs }) (sym (append-nil s.reports)));
-      asked_is = h op runs_op ∙ ap (λ (o : Option (List ℕ)). elim o [ None ↦ None | Some u ↦ option_map (λ (number : ℕ). record { number = number; token = u }) (operation_number op) ]) (sym e);
-    }
-    by (Err why) e step = absurd (cc e)
-
-pub unsent_closes : (s : Own) (at : ℕ) (old x : X.State) (own : Own) → own ≡ reporting (failing true NoIds s) → IsDone old (failing true NoIds s).deed x → Closes s at None old None (left own x)
-unsent_closes s at old x own is done op behind word runs_op sends = by sends.token sends.given_is sends.step
-  where
-    same : failing true NoIds s ≡ failed has_sent NoIds (record s { running = Some op }) (Some op)
-    same = ap (λ r. failed has_sent NoIds (record s { running = r }) r) runs_op
-
-    by : (r : Result (List ℕ) AskRefusal) → token_in r ≡ None → Exchanged behind (E.Ask at (message_of s.observations op) word sends.sent r ∷ []) old → Happens behind (runs op s) at word None (left own x)
-    by (Ok t) e step = absurd (cc e)
-    by (Err why) e step = record {
-      sent = sends.sent;
-      token = Err why;
-      kept = done.0;
-      between = old;
-      first = step;
-      last = subst (λ (c : Effect). Exchanged old (deeds c.deed c.own at word sends.sent (Err why) done.0) x) same (done.1 (failing true NoIds s).own at word sends.sent (Err why));
-      own_is = is ∙ ap reporting same;
-      asked_is = refl;
-    }
-
 -- a call that is over
 
 pub over_happens : (x : X.State) (number : ℕ) (r : Request) (t u : Transfer) (s own : Own) (next : calls.Next) (final : Bool) (report : Report) (m word : ℕ)
@@ -104,11 +66,6 @@ over_happens x number r t u s own next final report m word is same own_is =
     subst (λ n. Happens x (called number r t s n) m word None (left own x)) (sym is)
     (rests_happens x (ends (of number report) (held_by (not final) t s)) m word own refl
     (own_is ∙ ap (λ b. reporting (ends (of number report) (cond (not final && b) (record s { hold = Some s.sent }) s))) same))
-
--- .. and one that asks next
-pub asks_happens : (x : X.State) (number : ℕ) (r : Request) (t u : Transfer) (s : Own) (next : calls.Next) (m word : ℕ) (asked : Option Requested) (new : _)
-    → next ≡ calls.Asks u → Happens x (runs (Calling number r u) s) m word asked new → Happens x (called number r t s next) m word asked new
-asks_happens x number r t u s next m word asked new is h = subst (λ n. Happens x (called number r t s n) m word asked new) (sym is) h
 
 -- a datagram
 

@@ -3,9 +3,9 @@ use Rattle.std.proofs.Common.{◌≡◌, ◌≢◌, Result, Ok, Err, IfOk, OnErr
 use Rattle.coap_exchange.specs.AskerLaw as X
 use Rattle.coap_ends.specs.declared.refusals.CallRefusal.{CallRefusal}
 use Rattle.coap_ends.specs.declared.refusals.CallRefusal.TheVariants as refusals
-use Rattle.coap_ends.specs.WholeClient.ClientOwn.{Own}
-use Rattle.coap_ends.specs.WholeClient.ClientTrace.{Call}
-use Rattle.coap_ends.specs.WholeClient.ClientStep.{State, Step}
+use Rattle.coap_ends.specs.ClientSide.ClientOwn.{Own}
+use Rattle.coap_ends.specs.ClientSide.ClientTrace.{Call}
+use Rattle.coap_ends.specs.ClientSide.ClientStep.{State, Step}
 use Rattle.coap_ends.specs.ClientObject.ClientHappens.{WasLed, left}
 
 -- what was changed in nothing is as it was led to

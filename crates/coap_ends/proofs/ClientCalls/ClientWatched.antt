@@ -1,5 +1,6 @@
 -- No moment of an observation is behind the client's own (RFC 7641, section 3.4), and no number is in two places.
-use Rattle.std.proofs.Common.{◌≡◌, ◌≤◌, ℕ, ◌+◌, max, Bool, true, false, cond, not, ◌&&◌, Option, Some, None, List, [], ◌∷◌, ◌++◌, Result, Ok, Err, map, sym, ap, ◌∙◌, subst, refl, arith}
+use Rattle.std.proofs.Common.{◌≡◌, ◌≤◌, ℕ, ◌+◌, max, Bool, true, false, cond, not, ◌&&◌, Option, Some, None, List, []}
+use Rattle.std.proofs.Common.{◌∷◌, ◌++◌, Result, Ok, Err, map, sym, ap, ◌∙◌, subst, refl, arith}
 use Rattle.std.specs.Prelude.{filter, ◌==◌}
 use Rattle.coap_codec.specs.Message.{Message}
 use Rattle.coap_types.specs.declared.endpoint.Endpoint.{Endpoint}
@@ -14,22 +15,25 @@ use Rattle.coap_exchange.specs.declared.asker.Event.{Event}
 use Rattle.coap_exchange.specs.declared.asker.Event.TheVariants as event
 use Rattle.coap_exchange.specs.declared.asker.Turn.{Turn}
 use Rattle.coap_exchange.specs.declared.asker.Turn.TheVariants as turn
-use Rattle.coap_ends.specs.WholeClient.ClientTrace.{Request, Report, Ended, Call, Calls, Observes, Cancels, Forgets, Feeds, Ticks, NextOut, NextReport, Asked, NoIds}
-use Rattle.coap_ends.specs.WholeClient.ClientOwn.{Transfer, Operation, Calling, Registering, Fetching, Cancelling, Dropped, Notified, Observation, Own, start}
-use Rattle.coap_ends.specs.WholeClient.ClientObservations.{observation_with, over, to_fetch, with_rest}
-use Rattle.coap_ends.specs.WholeClient.ClientCalls as calls
-use Rattle.coap_ends.specs.WholeClient.ClientEffects.{Deed, Rests, Asks, Keeps, Releases, Effect, has_sent, is_upload}
-use Rattle.coap_ends.specs.WholeClient.ClientEvents.{answered, called, closed, failed, happened, idle, is_held, is_upload_op, passes, starts}
-use Rattle.coap_ends.specs.WholeClient.ClientFetching.{fetch_answered, fetch_by}
-use Rattle.coap_ends.specs.WholeClient.ClientObserving.{begun, is_over, noticed_by, passed, registered, renewed}
-use Rattle.coap_ends.specs.WholeClient.ClientReports.{lapse}
-use Rattle.coap_ends.specs.WholeClient.ClientResponses.{is_notification, sequence_in}
-use Rattle.coap_ends.specs.WholeClient.ClientDeeds.{at}
-use Rattle.coap_ends.specs.WholeClient.ClientLaw.{own_of}
-use Rattle.coap_ends.specs.WholeClient.ClientPlaces.{places}
-use Rattle.coap_ends.specs.WholeClient.ClientStep.{State, Step, Led}
-use Rattle.coap_ends.proofs.WholeClient.ClientLeading.{led_client, client_stands}
-use Rattle.coap_ends.proofs.WholeClient.ClientOnce.{known}
+use Rattle.coap_ends.specs.ClientSide.ClientTrace.{Request, Report, Ended, Call, Calls, Observes, Cancels, Forgets}
+use Rattle.coap_ends.specs.ClientSide.ClientTrace.{Feeds, Ticks, NextOut, NextReport, Asked, NoIds}
+use Rattle.coap_ends.specs.ClientSide.ClientOwn.{Transfer, Operation, Calling, Registering, Fetching, Cancelling}
+use Rattle.coap_ends.specs.ClientSide.ClientOwn.{Dropped, Notified, Observation, Own, start}
+use Rattle.coap_ends.specs.ClientSide.ClientObservations.{observation_with, over, to_fetch, with_rest}
+use Rattle.coap_ends.specs.ClientSide.ClientCalls as calls
+use Rattle.coap_ends.specs.ClientSide.ClientEffects.{Deed, Rests, Asks, Keeps, Releases, Effect, has_sent, is_upload}
+use Rattle.coap_ends.specs.ClientSide.ClientEvents.{answered, called, closed, failed, happened, idle, is_held}
+use Rattle.coap_ends.specs.ClientSide.ClientEvents.{is_upload_op, passes, starts}
+use Rattle.coap_ends.specs.ClientSide.ClientFetching.{fetch_answered, fetch_by}
+use Rattle.coap_ends.specs.ClientSide.ClientObserving.{begun, is_over, noticed_by, passed, registered, renewed}
+use Rattle.coap_ends.specs.ClientSide.ClientReports.{lapse}
+use Rattle.coap_ends.specs.ClientSide.ClientResponses.{is_notification, sequence_in}
+use Rattle.coap_ends.specs.ClientSide.ClientDeeds.{at}
+use Rattle.coap_ends.specs.ClientSide.ClientLaw.{own_of}
+use Rattle.coap_ends.specs.ClientSide.ClientPlaces.{places}
+use Rattle.coap_ends.specs.ClientSide.ClientStep.{State, Step, Led}
+use Rattle.coap_ends.proofs.ClientSide.ClientLeading.{led_client, client_stands}
+use Rattle.coap_ends.proofs.ClientSide.ClientOnce.{known}
 use Rattle.coap_ends.specs.ClientObject.ClientHappens.{Apart, AreFresh, WasLed, Watched, left}
 
 abbrev Fresh : ℕ → List Observation → Type 0

@@ -1,5 +1,6 @@
 -- What the answer to a fetch makes of a client, by what its part is to the fetch.
-use Rattle.std.proofs.Common.{◌≡◌, ◌≤◌, ℕ, ◌+◌, Bool, true, false, cond, Option, Some, None, List, [], ◌∷◌, ◌++◌, Result, Ok, Err, ap, sym, ◌∙◌, subst, refl, arith}
+use Rattle.std.proofs.Common.{◌≡◌, ◌≤◌, ℕ, ◌+◌, Bool, true, false, cond, Option, Some, None, List, [], ◌∷◌, ◌++◌}
+use Rattle.std.proofs.Common.{Result, Ok, Err, ap, sym, ◌∙◌, subst, refl, arith}
 use Rattle.std.specs.Prelude.{IfOk, is_some, ◌==◌}
 use Rattle.std.specs.Option.{option_map}
 use Rattle.std.proofs.lemmas.List.{append-nil}
@@ -11,15 +12,15 @@ use Rattle.coap_block.specs.declared.fetch_verdict.Verdict.TheVariants as verdic
 use Rattle.coap_block.specs.FetchStep.{FetchState}
 use Rattle.coap_exchange.specs.AskerTrace as E
 use Rattle.coap_exchange.specs.AskerLaw as X
-use Rattle.coap_ends.specs.WholeClient.ClientTrace.{Reported, Requested}
-use Rattle.coap_ends.specs.WholeClient.ClientOwn.{Fetching, Notified, Observation, Own}
-use Rattle.coap_ends.specs.WholeClient.ClientObservations.{observation_of, observed_path, rest_of, token_of, with_rest}
-use Rattle.coap_ends.specs.WholeClient.ClientRequests.{block2_option, get, message_of, path_options}
-use Rattle.coap_ends.specs.WholeClient.ClientPlaces.{in_observations}
-use Rattle.coap_ends.specs.WholeClient.ClientEffects.{Rests, runs, ends, of}
-use Rattle.coap_ends.specs.WholeClient.ClientFetching.{fetch_answered, fetch_by, fetch_over, rest, value}
-use Rattle.coap_ends.specs.WholeClient.ClientSteps.{reporting}
-use Rattle.coap_ends.specs.WholeClient.ClientStep.{State}
+use Rattle.coap_ends.specs.ClientSide.ClientTrace.{Reported, Requested}
+use Rattle.coap_ends.specs.ClientSide.ClientOwn.{Fetching, Notified, Observation, Own}
+use Rattle.coap_ends.specs.ClientSide.ClientObservations.{observation_of, observed_path, rest_of, token_of, with_rest}
+use Rattle.coap_ends.specs.ClientSide.ClientRequests.{block2_option, get, message_of, path_options}
+use Rattle.coap_ends.specs.ClientSide.ClientPlaces.{in_observations}
+use Rattle.coap_ends.specs.ClientSide.ClientEffects.{Rests, runs, ends, of}
+use Rattle.coap_ends.specs.ClientSide.ClientFetching.{fetch_answered, fetch_by, fetch_over, rest, value}
+use Rattle.coap_ends.specs.ClientSide.ClientSteps.{reporting}
+use Rattle.coap_ends.specs.ClientSide.ClientStep.{State}
 use Rattle.coap_ends.specs.ClientObject.ClientSends.{Sends}
 use Rattle.coap_block.specs.FetchState.{FetchValue}
 use Rattle.coap_ends.specs.declared.client.heard.Part as P

@@ -1,16 +1,18 @@
 -- The lists of a client's parts, as they are seen.
-use Rattle.std.proofs.Common.{◌≡◌, ◌≤◌, ℕ, ◌+◌, Bool, true, false, cond, not, Option, Some, None, List, [], ◌∷◌, ◌++◌, length, take, map, ap, sym, ◌∙◌, subst, refl, arith}
+use Rattle.std.proofs.Common.{◌≡◌, ◌≤◌, ℕ, ◌+◌, Bool, true, false, cond, not, Option, Some, None, List, [], ◌∷◌, ◌++◌}
+use Rattle.std.proofs.Common.{length, take, map, ap, sym, ◌∙◌, subst, refl, arith}
 use Rattle.std.specs.Prelude.{filter, is_some, ◌==◌}
 use Rattle.std.proofs.Math.Seq.{take-append_seam}
 use Rattle.std.specs.Cmp.{unsigned_Decides}
 use Rattle.std.specs.Option.{option_map}
 use Rattle.coap_block.specs.declared.fetch_progress.Asked.{Asked}
 use Rattle.coap_exchange.specs.AskerTrace as E
-use Rattle.coap_ends.specs.WholeClient.ClientOwn.{Operation, Fetching, Notified, Observation, Own}
-use Rattle.coap_ends.specs.WholeClient.ClientObservations.{dropped, is_cancel_of, observation_of, observed_path, over, with_rest}
-use Rattle.coap_ends.specs.WholeClient.ClientObserving.{releases}
-use Rattle.coap_ends.specs.WholeClient.ClientRequests.{block2_option, get, message_of, path_options}
-use Rattle.coap_ends.specs.WholeClient.ClientPlaces.{hit, in_observations}
+use Rattle.coap_ends.specs.ClientSide.ClientOwn.{Operation, Fetching, Notified, Observation, Own}
+use Rattle.coap_ends.specs.ClientSide.ClientObservations.{dropped, is_cancel_of, observation_of, observed_path, over}
+use Rattle.coap_ends.specs.ClientSide.ClientObservations.{with_rest}
+use Rattle.coap_ends.specs.ClientSide.ClientObserving.{releases}
+use Rattle.coap_ends.specs.ClientSide.ClientRequests.{block2_option, get, message_of, path_options}
+use Rattle.coap_ends.specs.ClientSide.ClientPlaces.{hit, in_observations}
 use Rattle.coap_ends.specs.ClientObject.Queued.{is_cancel}
 use Rattle.coap_ends.specs.declared.client.call_queue.Queued.{Queued}
 use Rattle.coap_ends.specs.declared.client.call_queue.Queued.TheVariants.{Starts, Cancels}
@@ -125,9 +127,6 @@ set_one number n r os h = let a = set_number number n r os in omega (arith, a, h
 
 pub resumed_apart : (s : Own) (number : ℕ) (r : Option Notified) → Apart s → Apart (running (Fetching number) (resting number r s))
 resumed_apart s number r apart n = let a = apart n in let b = set_number number n r s.observations in omega (arith, a, b)
-
-pub unrun_apart : (s : Own) → Apart s → Apart (record s { running = None })
-unrun_apart s apart n = let a = apart n in omega (arith, a)
 
 -- setting twice is setting once
 pub set_twice : (number : ℕ) (a b : Option Notified) (os : List Observation) → with_rest number a (with_rest number b os) ≡ with_rest number a os

@@ -1,23 +1,26 @@
 -- What a notification makes of a client, by what it is to its observation (RFC 7641, sections 3.2 to 3.4).
-use Rattle.std.proofs.Common.{◌≡◌, ◌≤◌, ℕ, ◌+◌, Bool, true, false, cond, not, Option, Some, None, List, [], ◌∷◌, Result, map, ap, sym, ◌∙◌, subst, refl, arith}
+use Rattle.std.proofs.Common.{◌≡◌, ◌≤◌, ℕ, ◌+◌, Bool, true, false, cond, not, Option, Some, None, List, [], ◌∷◌, Result}
+use Rattle.std.proofs.Common.{map, ap, sym, ◌∙◌, subst, refl, arith}
 use Rattle.std.specs.Prelude.{OnOk, ◌==◌}
 use Rattle.std.proofs.lemmas.List.{append-nil}
 use Rattle.coap_codec.specs.Message.{Message}
 use Rattle.coap_observe.specs.Newer.{Watched as Mark, arrived, is_newer}
 use Rattle.coap_exchange.specs.AskerLaw as X
 use Rattle.coap_exchange.specs.Tokens.{same_token}
-use Rattle.coap_ends.specs.WholeClient.ClientTrace.{Reported, Ended}
-use Rattle.coap_ends.specs.WholeClient.ClientOwn.{Operation, Notified, Observation, Own}
-use Rattle.coap_ends.specs.WholeClient.ClientObservations.{dropped, observation_with, with_rest}
-use Rattle.coap_ends.specs.WholeClient.ClientObserving.{first_rest, first_value, is_over, noticed, noticed_by, passed, renewed}
-use Rattle.coap_ends.specs.WholeClient.ClientPlaces.{hit, in_observations}
-use Rattle.coap_ends.specs.WholeClient.ClientResponses.{is_notification, sequence_in}
-use Rattle.coap_ends.specs.WholeClient.ClientEffects.{Rests, stays}
-use Rattle.coap_ends.specs.WholeClient.ClientSteps.{reporting}
-use Rattle.coap_ends.proofs.WholeClient.PlaceLemmas.{hit_self, number_self}
+use Rattle.coap_ends.specs.ClientSide.ClientTrace.{Reported, Ended}
+use Rattle.coap_ends.specs.ClientSide.ClientOwn.{Operation, Notified, Observation, Own}
+use Rattle.coap_ends.specs.ClientSide.ClientObservations.{dropped, observation_with, with_rest}
+use Rattle.coap_ends.specs.ClientSide.ClientObserving.{first_rest, first_value, is_over, noticed, noticed_by, passed}
+use Rattle.coap_ends.specs.ClientSide.ClientObserving.{renewed}
+use Rattle.coap_ends.specs.ClientSide.ClientPlaces.{hit, in_observations}
+use Rattle.coap_ends.specs.ClientSide.ClientResponses.{is_notification, sequence_in}
+use Rattle.coap_ends.specs.ClientSide.ClientEffects.{Rests, stays}
+use Rattle.coap_ends.specs.ClientSide.ClientSteps.{reporting}
+use Rattle.coap_ends.proofs.ClientSide.PlaceLemmas.{hit_self, number_self}
 use Rattle.coap_ends.specs.ClientObject.ClientHappens.{AreFresh, Happens, IsDone, left, renewing}
 use Rattle.coap_ends.specs.ClientObject.ClientHappens.{watching as watching_own}
-use Rattle.coap_ends.proofs.ClientCalls.ClientHappening.{a_notification, deed_happens, no_notification, on_ok, over_quiet, rests_happens}
+use Rattle.coap_ends.proofs.ClientCalls.ClientHappening.{a_notification, deed_happens, no_notification, on_ok}
+use Rattle.coap_ends.proofs.ClientCalls.ClientHappening.{over_quiet, rests_happens}
 
 abbrev setting : ℕ → (Observation → Observation) → List Observation → List Observation
 setting number f os = map (λ (p : Observation). cond (p.number == number) (f p) p) os

@@ -1,5 +1,6 @@
 -- What a tick does to a client, by what waits (RFC 7252, section 4.7).
-use Rattle.std.proofs.Common.{◌≡◌, ℕ, Bool, true, false, cond, not, ◌&&◌, Option, Some, None, List, [], ◌∷◌, map, drop, slice_get, refl, ap, sym, ◌∙◌, subst}
+use Rattle.std.proofs.Common.{◌≡◌, ℕ, Bool, true, false, cond, not, ◌&&◌, Option, Some, None, List, [], ◌∷◌, map, drop}
+use Rattle.std.proofs.Common.{slice_get, refl, ap, sym, ◌∙◌, subst}
 use Rattle.std.specs.Prelude.{is_some}
 use Rattle.std.specs.Option.{option_map}
 use Rattle.std.proofs.lemmas.List.{append-nil}
@@ -7,13 +8,14 @@ use Rattle.coap_exchange.specs.AskerLaw as X
 use Rattle.coap_ends.specs.declared.client.call_queue.Queued.{Queued}
 use Rattle.coap_ends.specs.declared.client.call_queue.Queued.TheVariants.{Starts, Cancels}
 use Rattle.coap_ends.specs.ClientObject.Queued.{first_cancel, first_operation}
-use Rattle.coap_ends.specs.WholeClient.ClientTrace.{Report}
-use Rattle.coap_ends.specs.WholeClient.ClientOwn.{Transfer, Observation, Operation, Calling, Registering, Fetching, Cancelling, Dropped, Own, clocked}
-use Rattle.coap_ends.specs.WholeClient.ClientObservations.{observation_of}
-use Rattle.coap_ends.specs.WholeClient.ClientEffects.{Effect, stays, runs}
-use Rattle.coap_ends.specs.WholeClient.ClientEvents.{failed, idle, is_held, is_upload_op, starts}
-use Rattle.coap_ends.specs.WholeClient.ClientObserving.{releases}
-use Rattle.coap_ends.specs.WholeClient.ClientSteps.{asking, asks}
+use Rattle.coap_ends.specs.ClientSide.ClientTrace.{Report}
+use Rattle.coap_ends.specs.ClientSide.ClientOwn.{Transfer, Observation, Operation, Calling, Registering, Fetching}
+use Rattle.coap_ends.specs.ClientSide.ClientOwn.{Cancelling, Dropped, Own, clocked}
+use Rattle.coap_ends.specs.ClientSide.ClientObservations.{observation_of}
+use Rattle.coap_ends.specs.ClientSide.ClientEffects.{Effect, stays, runs}
+use Rattle.coap_ends.specs.ClientSide.ClientEvents.{failed, idle, is_held, is_upload_op, starts}
+use Rattle.coap_ends.specs.ClientSide.ClientObserving.{releases}
+use Rattle.coap_ends.specs.ClientSide.ClientSteps.{asking, asks}
 use Rattle.coap_ends.specs.declared.client.operation.Waiting.{Waiting}
 use Rattle.coap_ends.specs.ClientObject.ClientHappens.{Comes, left}
 use Rattle.coap_ends.specs.ClientObject.ClientShown.{shown_queued, shown_waiting}

@@ -6,10 +6,10 @@ use Rattle.coap_layer.specs.Trace as L
 use Rattle.coap_exchange.specs.AskerTrace as E
 use Rattle.coap_exchange.specs.AskerLaw as X
 use Rattle.coap_exchange.proofs.Facts.ClientSide.{led_exchanged, led_start}
-use Rattle.coap_ends.specs.WholeClient.ClientTrace.{NextOut, NextReport, Reported}
-use Rattle.coap_ends.specs.WholeClient.ClientOwn.{Own}
-use Rattle.coap_ends.specs.WholeClient.ClientLaw.{lower_of}
-use Rattle.coap_ends.specs.WholeClient.ClientStep.{State, Step}
+use Rattle.coap_ends.specs.ClientSide.ClientTrace.{NextOut, NextReport, Reported}
+use Rattle.coap_ends.specs.ClientSide.ClientOwn.{Own}
+use Rattle.coap_ends.specs.ClientSide.ClientLaw.{lower_of}
+use Rattle.coap_ends.specs.ClientSide.ClientStep.{State, Step}
 use Rattle.coap_ends.specs.ClientObject.ClientHappens.{WasLed}
 use Rattle.coap_ends.proofs.Rest.FirstOut.{OnlyLive, behind, layer_empty, layer_none, layer_some, none_wait, only_live}
 

@@ -1,5 +1,6 @@
 -- A tick of a client, and how an observation is forgotten, by what was done for them (RFC 7252, section 4.7; RFC 7641, section 3.6).
-use Rattle.std.proofs.Common.{◌≡◌, ℕ, max, Bool, true, false, not, ◌||◌, cond, List, [], ◌∷◌, ◌++◌, Result, Ok, Err, filter, map, sym, ap, ◌∙◌, subst, refl}
+use Rattle.std.proofs.Common.{◌≡◌, ℕ, max, Bool, true, false, not, ◌||◌, cond, List, [], ◌∷◌, ◌++◌, Result, Ok, Err}
+use Rattle.std.proofs.Common.{filter, map, ap, ◌∙◌, subst, refl}
 use Rattle.std.specs.Prelude.{◌==◌, IfOk, OnOk}
 use Rattle.coap_layer.specs.Trace as L
 use Rattle.coap_exchange.specs.declared.asker.AskRefusal.{AskRefusal}
@@ -7,19 +8,16 @@ use Rattle.coap_exchange.specs.declared.asker.Turn.{Turn}
 use Rattle.coap_exchange.specs.AskerTrace as E
 use Rattle.coap_exchange.specs.AskerLaw as X
 use Rattle.coap_exchange.proofs.Facts.ClientSide.{exchanged_join}
-use Rattle.coap_ends.specs.WholeClient.ClientTrace.{Forgets, Ticks}
-use Rattle.coap_ends.specs.WholeClient.ClientOwn.{Own, clocked}
-use Rattle.coap_ends.specs.WholeClient.ClientObservations.{observation_of}
-use Rattle.coap_ends.specs.WholeClient.ClientObserving.{releases}
-use Rattle.coap_ends.specs.WholeClient.ClientEffects.{Effect}
-use Rattle.coap_ends.specs.WholeClient.ClientEvents.{passes}
-use Rattle.coap_ends.specs.WholeClient.ClientQueue.{may_forget}
-use Rattle.coap_ends.specs.WholeClient.ClientSteps.{asking, asks, is_idle, reporting}
-use Rattle.coap_ends.specs.WholeClient.ClientDeeds.{at, close, deeds, forgotten}
-use Rattle.coap_ends.specs.WholeClient.ClientStep.{State, Step}
+use Rattle.coap_ends.specs.ClientSide.ClientTrace.{Ticks}
+use Rattle.coap_ends.specs.ClientSide.ClientOwn.{Own, clocked}
+use Rattle.coap_ends.specs.ClientSide.ClientEffects.{Effect}
+use Rattle.coap_ends.specs.ClientSide.ClientEvents.{passes}
+use Rattle.coap_ends.specs.ClientSide.ClientSteps.{asking, asks, is_idle, reporting}
+use Rattle.coap_ends.specs.ClientSide.ClientDeeds.{at, close, deeds}
+use Rattle.coap_ends.specs.ClientSide.ClientStep.{State, Step}
 use Rattle.coap_ends.specs.declared.client.report.CallId.{CallId}
 use Rattle.coap_ends.specs.declared.client.report.Report as R
-use Rattle.coap_ends.specs.ClientObject.ClientHappens.{Comes, IsDone, left}
+use Rattle.coap_ends.specs.ClientObject.ClientHappens.{Comes, left}
 use Rattle.coap_ends.specs.ClientObject.ClientShown.{shown_reported}
 
 -- what a tick did, and whether that is anything
@@ -62,19 +60,6 @@ ticked_by s x mid new now m word below turn did is step comes does =
 pub ok_both : {X Y P : Type 0} {Q R : X → Type 0} (r : Result X Y) → ((x : X) → P → Q x → R x) → OnOk r P → IfOk r Q → IfOk r R
 ok_both (Ok x) f p q = f x p q
 ok_both (Err y) f p q = tt
-
--- forgotten
-
-pub forgets_it : (s own : Own) (x y : X.State) (number : ℕ) (did : Bool) → did ≡ true → did ≡ may_forget s number → IsDone x (releases (observation_of number s.observations)) y → own ≡ forgotten true number s
-    → (kept : Bool) × Step (left s x) (Forgets number kept did) (left own y)
-forgets_it s own x y number did is may done own_is =
-    subst (λ b. b ≡ may_forget s number → (kept : Bool) × Step (left s x) (Forgets number kept b) (left own y)) (sym is)
-    (λ right. (done.0, record { right = right; own_is = own_is; under = done.1 s 0 0 L.Nothing (Ok []) })) may
-
-pub forgets_none : (s : Own) (x : X.State) (number : ℕ) (did : Bool) → did ≡ false → did ≡ may_forget s number → (kept : Bool) × Step (left s x) (Forgets number kept did) (left s x)
-forgets_none s x number did is may =
-    subst (λ b. b ≡ may_forget s number → (kept : Bool) × Step (left s x) (Forgets number kept b) (left s x)) (sym is)
-    (λ right. (false, record { right = right; own_is = refl; under = refl })) may
 
 module _ {A : Type 0} where
   pub reports_left : (number : ℕ) (rs : List (CallId × R.Report A)) → map shown_reported (filter (λ r. not (r.0.0 == number)) rs) ≡ filter (λ r. not (r.number == number)) (map shown_reported rs)

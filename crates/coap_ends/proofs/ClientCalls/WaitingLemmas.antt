@@ -1,5 +1,6 @@
 -- What waits at a client, as its operations.
-use Rattle.std.proofs.Common.{◌≡◌, ℕ, Bool, true, false, cond, Some, List, [], ◌∷◌, ◌++◌, filter, length, map, refl, ap, ◌∙◌, arith, suc}
+use Rattle.std.proofs.Common.{◌≡◌, ℕ, Bool, true, false, cond, Some, List, [], ◌∷◌, ◌++◌, filter, length, map, refl, ap}
+use Rattle.std.proofs.Common.{◌∙◌, arith, suc}
 use Rattle.std.specs.Prelude.{◌==◌, ◌||◌, ◌+◌, is_some, IfOk, Result, Ok, Err}
 use Rattle.std.specs.List.{list_any}
 use Rattle.std.proofs.lemmas.List.Folds.{list_any-append}
@@ -8,9 +9,9 @@ use Rattle.std.proofs.lemmas.List.Elements.{filter-append}
 use Rattle.coap_ends.specs.declared.client.call_queue.Queued.{Queued}
 use Rattle.coap_ends.specs.declared.client.call_queue.Queued.TheVariants.{Starts, Cancels}
 use Rattle.coap_ends.specs.ClientObject.Queued.{is_cancel, operations_of}
-use Rattle.coap_ends.specs.WholeClient.ClientOwn.{Operation}
-use Rattle.coap_ends.specs.WholeClient.ClientObservations.{is_cancel_of, observation_of}
-use Rattle.coap_ends.specs.WholeClient.ClientQueue.{is_registration}
+use Rattle.coap_ends.specs.ClientSide.ClientOwn.{Operation}
+use Rattle.coap_ends.specs.ClientSide.ClientObservations.{is_cancel_of, observation_of}
+use Rattle.coap_ends.specs.ClientSide.ClientQueue.{is_registration}
 use Rattle.coap_ends.specs.declared.client.operation.Observation as B
 use Rattle.coap_ends.specs.declared.client.operation.Waiting.{Waiting}
 use Rattle.coap_ends.specs.declared.client.operation.Waiting.TheVariants as waiting

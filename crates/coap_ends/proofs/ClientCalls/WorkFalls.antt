@@ -1,5 +1,7 @@
 -- A tick of a client that does something leaves less to be done at its moment.
-use Rattle.std.proofs.Common.{◌≡◌, ◌≤◌, ◌<◌, inl, inr, ◌⊎◌, ℕ, ◌+◌, ◌*◌, max, Bool, true, false, not, ◌&&◌, cond, Option, Some, None, is_some, List, [], ◌∷◌, ◌++◌, length, filter, Result, Ok, Err, IfOk, refl, ap, sym, subst, ◌∙◌, arith}
+use Rattle.std.proofs.Common.{◌≡◌, ◌≤◌, ◌<◌, inl, inr, ◌⊎◌, ℕ, ◌+◌, ◌*◌, max, Bool, true, false, not, ◌&&◌, cond}
+use Rattle.std.proofs.Common.{Option, Some, None, is_some, List, [], ◌∷◌, ◌++◌, length, filter, Result, Ok, Err, IfOk}
+use Rattle.std.proofs.Common.{refl, ap, sym, subst, ◌∙◌, arith}
 use Rattle.std.specs.Prelude.{◌==◌}
 use Rattle.std.specs.Cmp.{unsigned_Decides}
 use Rattle.std.proofs.lemmas.List.Sums.{length-filter, count_by-le-length}
@@ -15,20 +17,22 @@ use Rattle.coap_exchange.specs.AskerRequests as Q
 use Rattle.coap_exchange.specs.AskerLaw as X
 use Rattle.coap_exchange.proofs.Facts.ClientSide.{exchanged_split}
 use Rattle.coap_ends.specs.StepsDue.{one_if, due_count}
-use Rattle.coap_ends.specs.WholeClient.ClientTrace.{Report, NoIds, Ticks}
-use Rattle.coap_ends.specs.WholeClient.ClientOwn.{Transfer, Operation, Calling, Registering, Fetching, Cancelling, Dropped, Observation, Own}
-use Rattle.coap_ends.specs.WholeClient.ClientObservations.{is_cancel_of, to_fetch, with_rest}
-use Rattle.coap_ends.specs.WholeClient.ClientEffects.{Deed, Rests, Asks, Keeps, Releases, Effect, stays, runs, is_upload, has_sent}
-use Rattle.coap_ends.specs.WholeClient.ClientEvents.{closed, failed, idle, is_held, is_upload_op, passes, starts}
-use Rattle.coap_ends.specs.WholeClient.ClientReports.{lapse}
-use Rattle.coap_ends.specs.WholeClient.ClientRequests.{message_of}
-use Rattle.coap_ends.specs.WholeClient.ClientDeeds.{at, close, deeds}
-use Rattle.coap_ends.specs.WholeClient.ClientSteps.{asks}
-use Rattle.coap_ends.specs.WholeClient.ClientStep.{State, Step}
+use Rattle.coap_ends.specs.ClientSide.ClientTrace.{Report, NoIds, Ticks}
+use Rattle.coap_ends.specs.ClientSide.ClientOwn.{Transfer, Operation, Calling, Registering, Fetching, Cancelling}
+use Rattle.coap_ends.specs.ClientSide.ClientOwn.{Dropped, Observation, Own}
+use Rattle.coap_ends.specs.ClientSide.ClientObservations.{is_cancel_of, to_fetch, with_rest}
+use Rattle.coap_ends.specs.ClientSide.ClientEffects.{Deed, Rests, Asks, Keeps, Releases, Effect, stays, runs, is_upload}
+use Rattle.coap_ends.specs.ClientSide.ClientEffects.{has_sent}
+use Rattle.coap_ends.specs.ClientSide.ClientEvents.{closed, failed, idle, is_held, is_upload_op, passes, starts}
+use Rattle.coap_ends.specs.ClientSide.ClientReports.{lapse}
+use Rattle.coap_ends.specs.ClientSide.ClientRequests.{message_of}
+use Rattle.coap_ends.specs.ClientSide.ClientDeeds.{at, close, deeds}
+use Rattle.coap_ends.specs.ClientSide.ClientSteps.{asks}
+use Rattle.coap_ends.specs.ClientSide.ClientStep.{State, Step}
 use Rattle.coap_ends.specs.ClientTurns.ClientWork.{awaits_fetch, is_fetched, to_begin, work}
 use Rattle.coap_ends.proofs.Rest.ExchangeTurns.{IsTaken, opened_least, turn_taken}
 use Rattle.coap_ends.proofs.Rest.StepsDue.{is_step, ticks_least, ticks_fewer}
-use Rattle.coap_ends.proofs.WholeClient.ClientHolding.{passes_steady, steadied}
+use Rattle.coap_ends.proofs.ClientSide.ClientHolding.{passes_steady, steadied}
 use Rattle.coap_ends.proofs.ClientCalls.ClientHappening.{AsksNothing}
 use Rattle.coap_ends.proofs.ClientCalls.PassingLemmas.{fails_silently}
 

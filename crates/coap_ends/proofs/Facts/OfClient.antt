@@ -1,122 +1,156 @@
--- What follows from the law of a client: the clauses of `client_law`, for proofs above; and what starts was taken.
-use Rattle.std.proofs.Common.{◌≡◌, ℕ, true, Some, List, ◌++◌, refl}
+-- What follows from the whole law of a client: the clauses of `client_law` and `client_follows_law`, for proofs above; and what
+-- its calls add to its message layer, and when.
+use Rattle.std.proofs.Common.{◌≡◌, ℕ, max, true, false, Some, None, List, [], ◌∷◌, ◌++◌, refl, Ok, Err}
 use Rattle.coap_types.specs.Past.{Always}
 use Rattle.coap_types.specs.declared.endpoint.Endpoint.{Endpoint}
 use Rattle.coap_layer.specs.Channel.{RepliesSo}
 use Rattle.coap_layer.specs.Rows.{LayerLaw}
-use Rattle.coap_layer.specs.Machine.State.{start}
-use Rattle.coap_exchange.specs.AskerLaw as asker
-use Rattle.coap_exchange.specs.declared.asker.Turn.{Turn}
-use Rattle.coap_exchange.proofs.Facts.ClientSide as E
-use Rattle.coap_ends.specs.ClientTrace.{Request, Operation, Call}
-use Rattle.coap_ends.specs.ClientRequests.{Role, Alone, message_of, message_by, is_last, has_own_token}
-use Rattle.coap_ends.specs.ClientSteps.{is_idle, starting}
-use Rattle.coap_ends.specs.ClientLaw.{ClientLaw, own_of, lower_of, layer_of}
-use Rattle.coap_ends.specs.Follows.ClientBegins.{ConsAreRequests, BeginAtOnce}
-use Rattle.coap_ends.specs.Follows.ClientFollows.{WasTaken, AreSent, ReportsAreAnswers, AreFromServer, ReportedOnce}
-use Rattle.coap_ends.specs.Follows.ClientGives.{GivesInOrder}
-use Rattle.coap_ends.specs.Follows.ClientGoesOn.{GoesOn}
-use Rattle.coap_ends.specs.Follows.ClientHears.{AreHeard}
-use Rattle.coap_ends.specs.Follows.ClientInOrder.{AreInOrder}
-use Rattle.coap_ends.specs.Follows.ClientNumbering.{OneCall}
-use Rattle.coap_ends.specs.Follows.ClientEnds.{AllEnds}
-use Rattle.coap_ends.specs.Follows.ClientQueue.{StartsInOrder, AllTaken}
-use Rattle.coap_ends.specs.Follows.ClientRests.{ComesToRest}
-use Rattle.coap_ends.specs.Follows.ClientSendings.{OneSending, NoNons, OneCon}
-use Rattle.coap_ends.proofs.Exact.LawOfAPast.{client_back}
-use Rattle.coap_ends.proofs.Progress.ClientGoing.{goes_on}
+use Rattle.coap_ends.specs.Follows.ClientSendings.{NoNons}
+use Rattle.coap_ends.specs.ClientSide.ClientAdds.{call_asks, all_asked, call_adds}
+use Rattle.coap_ends.specs.ClientSide.ClientAnswered.{NoneAfter, ReportedOnce}
+use Rattle.coap_ends.specs.ClientSide.ClientBegins.{BeginAtOnce, ConsAreRequests}
+use Rattle.coap_ends.specs.ClientSide.ClientBlocks.{SendsPieces}
+use Rattle.coap_ends.specs.ClientSide.ClientBodies.{BodiesAreWhole}
+use Rattle.coap_ends.specs.ClientSide.ClientContinued.{AreContinued}
+use Rattle.coap_ends.specs.ClientSide.ClientDeeds.{effect, at}
+use Rattle.coap_ends.specs.ClientSide.ClientGives.{GivesInOrder}
+use Rattle.coap_ends.specs.ClientSide.ClientHears.{AreFromServer}
+use Rattle.coap_ends.specs.ClientSide.ClientLaw.{ClientLaw, ClientRows, lower_of, layer_of}
+use Rattle.coap_ends.specs.ClientSide.ClientNumbers.{NumbersOnce}
+use Rattle.coap_ends.specs.ClientSide.ClientOfCalls.{AreOfCalls, OthersAreGets}
+use Rattle.coap_ends.specs.ClientSide.ClientOrder.{AreInOrder, OneLast}
+use Rattle.coap_ends.specs.ClientSide.ClientTakes.{AreHandedUp}
+use Rattle.coap_ends.specs.ClientSide.ClientTokens.{OneConOrCancel, OneOfToken}
+use Rattle.coap_ends.specs.ClientSide.ClientTrace.{Call, Calls, Observes, Cancels, Forgets, Feeds, Ticks, NextOut}
+use Rattle.coap_ends.specs.ClientSide.ClientTrace.{NextReport, Asked}
+use Rattle.coap_ends.specs.ClientSide.ClientOwn.{Own}
+use Rattle.coap_ends.specs.ClientSide.ClientSteps.{after}
+use Rattle.coap_ends.specs.ClientSide.ClientValid.{ValidOfTags}
 use Rattle.coap_ends.proofs.Replying.ClientReplies.{replies_so}
-use Rattle.coap_ends.proofs.Reporting.ClientAnswers.{are_answers, are_from_server}
-use Rattle.coap_ends.proofs.Reporting.ClientHears.{are_heard}
-use Rattle.coap_ends.proofs.Reporting.ReportedOnce.{reported_once}
-use Rattle.coap_ends.proofs.Reporting.ClientEnded.{all_ends}
-use Rattle.coap_ends.proofs.Sending.ClientQueued.{in_order as start_in_order, all_taken}
-use Rattle.coap_ends.proofs.Rest.ClientResting.{comes_to_rest}
-use Rattle.coap_ends.proofs.Sending.ClientSent.{once_of, are_sent, first_taken, waiting_taken}
-use Rattle.coap_ends.proofs.Sending.ConsAreRequests.{asked_for, exchange_of, request_of, begin_at_once}
-use Rattle.coap_ends.proofs.Sending.InOrder.{are_in_order}
 use Rattle.coap_ends.proofs.Sending.NoNons.{no_nons}
-use Rattle.coap_ends.proofs.Sending.NumbersRise.{one_call}
-use Rattle.coap_ends.proofs.Sending.OneCon.{one_con}
-use Rattle.coap_ends.proofs.Sending.SentOnce.{one_sending}
-pub use Rattle.coap_ends.proofs.Reporting.GivenInOrder.{waits}
+use Rattle.coap_ends.proofs.ClientSide.ClientBegun as begun
+use Rattle.coap_ends.proofs.ClientSide.ClientBodies.{bodies_are_whole}
+use Rattle.coap_ends.proofs.ClientSide.ClientContinued.{are_continued}
+use Rattle.coap_ends.proofs.ClientSide.ClientGives as gives
+use Rattle.coap_ends.proofs.ClientSide.ClientHandedUp.{are_handed_up}
+use Rattle.coap_ends.proofs.ClientSide.ClientHears.{are_from_server}
+use Rattle.coap_ends.proofs.ClientSide.ClientHolding.{happened_steady, passes_steady, steadied}
+use Rattle.coap_ends.proofs.ClientSide.ClientLeading.{client_layer, client_back}
+use Rattle.coap_ends.proofs.ClientSide.ClientNumbers.{numbers_once}
+use Rattle.coap_ends.proofs.ClientSide.ClientOfCalls.{are_of_calls, others_are_gets}
+use Rattle.coap_ends.proofs.ClientSide.ClientOnce as once_of
+use Rattle.coap_ends.proofs.ClientSide.ClientOneByOne as one_by_one
+use Rattle.coap_ends.proofs.ClientSide.ClientOneCon as cons
+use Rattle.coap_ends.proofs.ClientSide.ClientPieces as blocks
+use Rattle.coap_ends.proofs.ClientSide.ClientTokens as token
+use Rattle.coap_ends.proofs.ClientSide.ClientValid.{valid_of_tags}
 
--- whatever a request is of its call, so far
-pub each_last : (r : Role) → is_last r ≡ true
-each_last Alone = refl
+module _ (server : Endpoint) (szx word : ℕ) where
+  pub back : (calls t : List Call) → ClientLaw server szx word (calls ++ t) → ClientLaw server szx word t
+  back calls t law = client_back server szx word calls t law
 
-pub each_own : (r : Role) → has_own_token r ≡ true
-each_own Alone = refl
+  -- whatever the calls are
+  pub nons : (t : List Call) → NoNons (layer_of server szx word t)
+  nons t = no_nons server word (lower_of szx t)
 
-pub each_alone : (r : Request) (role : Role) → message_by r role ≡ message_of r
-each_alone r Alone = refl
+  -- what a call asks of the layer, and adds there, stands in front
+  pub asked_next : (past : List Call) (c : Call) → all_asked server szx word (c ∷ past) ≡ call_asks server szx word past c ++ all_asked server szx word past
+  asked_next past c = begun.adds_front server szx word past c
 
-pub starts_taken : (t : List Call) (turn : Turn) (op : Operation) → starting (own_of t) turn ≡ Some op → WasTaken op t
-starts_taken t turn op is = first_taken t op (is_idle turn) (own_of t).running (own_of t).waiting is (waiting_taken t)
+  pub layer_next : (past : List Call) (c : Call) → layer_of server szx word (c ∷ past) ≡ call_adds server szx word past c ++ layer_of server szx word past
+  layer_next past c = begun.layer_next server szx word past c
 
-pub back : (server : Endpoint) (szx word : ℕ) (calls t : List Call) → ClientLaw server szx word (calls ++ t) → ClientLaw server szx word t
-back server szx word calls t law = client_back server szx word calls t law
+  module _ (t : List Call) (law : ClientLaw server szx word t) where
+    pub layer : LayerLaw word (layer_of server szx word t)
+    layer = client_layer server szx word t law
+
+    pub replies : Always RepliesSo (layer_of server szx word t)
+    replies = replies_so server word (lower_of szx t) law.exchanges.rows law.exchanges.left law.exchanges.layer
+
+    pub begins : ConsAreRequests server szx word t
+    begins = begun.cons_are_requests server szx word t law
+
+    pub begins_now : BeginAtOnce server szx word t
+    begins_now = begun.begin_at_once server szx word t law
+
+    pub one_con : OneConOrCancel server szx word t
+    one_con = cons.one_con server szx word t law
+
+    pub tokens : OneOfToken szx t
+    tokens = token.one_of_token szx server word t law
+
+    pub order : AreInOrder szx t
+    order = one_by_one.are_in_order szx server word t law
+
+    pub one_last : OneLast szx t
+    one_last = one_by_one.one_last szx server word t law
+
+    pub handed_up : AreHandedUp server szx word t
+    handed_up = are_handed_up server szx word t law
+
+    pub from_server : AreFromServer server t
+    from_server = are_from_server server szx word t law
+
+    pub pieces : SendsPieces szx t
+    pieces = blocks.sends_pieces szx server word t law
+
+    pub continued : AreContinued szx t
+    continued = are_continued server szx word t law
+
+    pub numbers : NumbersOnce t
+    numbers = numbers_once server szx word t law.rows law.exchanges.rows
+
+    pub once : ReportedOnce server szx word t
+    once = once_of.reported_once server szx word t law
+
+    pub none_after : NoneAfter server szx word t
+    none_after = blocks.none_after szx server word t law
+
+    pub bodies : BodiesAreWhole szx t
+    bodies = bodies_are_whole server szx word t law
+
+    pub valid : ValidOfTags szx t
+    valid = valid_of_tags server szx word t law
 
 -- whatever the calls are
-pub nons : (server : Endpoint) (word : ℕ) (t : List Call) → NoNons (layer_of server word t)
-nons server word t = no_nons server word (lower_of t)
+pub of_calls : (szx : ℕ) (t : List Call) → AreOfCalls szx t
+of_calls szx t = are_of_calls szx t
 
-module _ (server : Endpoint) (szx word : ℕ) (t : List Call) (law : ClientLaw server szx word t) where
-  pub layer : LayerLaw word (layer_of server word t)
-  layer = E.layer_stands server word (lower_of t) law.exchanges
+pub others : (szx : ℕ) (t : List Call) → OthersAreGets szx t
+others szx t = others_are_gets szx t
 
-  pub goes : GoesOn server szx word t
-  goes = goes_on server szx word t law
+-- the reports that were made and not given wait
+pub waits : (szx : ℕ) (t : List Call) → ClientRows szx t → GivesInOrder szx t
+waits szx t rows = gives.waits szx t rows
 
-  pub rests : ComesToRest server szx word t
-  rests = comes_to_rest server szx word t law
+-- The moment of a call counts: the later of it and the latest so far.
 
-  pub begins : ConsAreRequests server word t
-  begins con h =
-      request_of server con t (exchange_of server word con (lower_of t) law.exchanges.rows
-      (asked_for con (start word) law.exchanges.left (asker.lower_of server word (lower_of t)) law.exchanges.layer h))
+abbrev pub moment_of : Own → Call → ℕ
+moment_of s (Calls now r answer) = max s.clock now
+moment_of s (Observes now path answer) = max s.clock now
+moment_of s (Cancels now number answer) = max s.clock now
+moment_of s (Forgets number kept answer) = s.clock
+moment_of s (Feeds now from bytes word up settled event sent token kept) = max s.clock now
+moment_of s (Ticks now word below t sent token kept answer) = max s.clock now
+moment_of s (NextOut answer) = s.clock
+moment_of s (NextReport answer) = s.clock
+moment_of s (Asked answer) = s.clock
 
-  pub begins_now : BeginAtOnce server word t
-  begins_now = begin_at_once server szx word t law
-
-  pub sent : AreSent t
-  sent = are_sent t (once_of word (lower_of t) (E.are_tokens server word (lower_of t) law.exchanges.rows))
-
-  pub one_con_each : OneCon (layer_of server word t)
-  one_con_each = one_con server word t law.exchanges (once_of word (lower_of t) (E.are_tokens server word (lower_of t) law.exchanges.rows)) layer
-
-  pub replies : Always RepliesSo (layer_of server word t)
-  replies = replies_so server word (lower_of t) law.exchanges.rows law.exchanges.left law.exchanges.layer
-
-  pub sending : OneSending t
-  sending = one_sending szx t law.rows sent
-
-  pub numbers : OneCall t
-  numbers = one_call szx t law.rows
-
-  pub answers : ReportsAreAnswers t
-  answers = are_answers t sent (E.are_exchanges server word (lower_of t) law.exchanges.rows)
-
-  pub from_server : AreFromServer server t
-  from_server = are_from_server server t (E.came_from server word (lower_of t) law.exchanges.rows law.exchanges.left law.exchanges.layer)
-
-  pub heard : AreHeard server word t
-  heard = are_heard server word t law.exchanges.rows law.exchanges.left law.exchanges.layer
-
-  pub once : ReportedOnce t
-  once = reported_once szx t law.rows
-
-  pub in_order : GivesInOrder t
-  in_order = waits szx t law.rows
-
-  pub starts : StartsInOrder t
-  starts = start_in_order t
-
-  pub takes : AllTaken szx t
-  takes = all_taken szx t law.rows
-
-  pub ends : AllEnds t
-  ends = all_ends server szx word t law
-
-  pub order : AreInOrder t
-  order = are_in_order szx t law.rows sent (E.are_exchanges server word (lower_of t) law.exchanges.rows)
+pub clock_is : (s : Own) (c : Call) → (after s c).clock ≡ moment_of s c
+clock_is s (Calls now r (Ok number)) = refl
+clock_is s (Calls now r (Err why)) = refl
+clock_is s (Observes now path (Ok number)) = refl
+clock_is s (Observes now path (Err why)) = refl
+clock_is s (Cancels now number None) = refl
+clock_is s (Cancels now number (Some why)) = refl
+clock_is s (Forgets number kept true) = refl
+clock_is s (Forgets number kept false) = refl
+clock_is s (Feeds now from bytes word up settled event sent token kept) =
+    let e = effect s (Feeds now from bytes word up settled event sent token kept) in
+    (steadied (at now s) (max s.clock now) e token e.deed refl (happened_steady (at now s) (max s.clock now) event)).clock
+clock_is s (Ticks now word below t sent token kept answer) =
+    let e = effect s (Ticks now word below t sent token kept answer) in
+    (steadied (at now s) (max s.clock now) e token e.deed refl (passes_steady (at now s) (max s.clock now) t)).clock
+clock_is s (NextOut answer) = refl
+clock_is s (NextReport answer) = refl
+clock_is s (Asked answer) = refl

@@ -1,5 +1,6 @@
 -- Time passes for the exchanges of a server (RFC 7252, sections 4.2 and 5.2.2).
-use Rattle.std.proofs.Common.{◌≡◌, ℕ, max, Bool, true, false, ◌&&◌, not, Option, Some, None, List, [], ◌∷◌, ◌++◌, refl, ap, sym, subst, ◌∙◌, arith}
+use Rattle.std.proofs.Common.{◌≡◌, ℕ, max, Bool, true, false, ◌&&◌, not, Option, Some, None, List, [], ◌∷◌, ◌++◌, refl}
+use Rattle.std.proofs.Common.{ap, sym, subst, ◌∙◌, arith}
 use Rattle.coap_layer.specs.Machine.State as S
 use Rattle.coap_layer.specs.Machine.State.{is_busy, is_free, sending, next_after, uses_after}
 use Rattle.coap_layer.specs.Machine.Steps.{Steps}

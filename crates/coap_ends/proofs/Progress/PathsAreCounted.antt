@@ -1,5 +1,6 @@
 -- A store counts its paths: where a path holds something, the count is not 0, and so each change can be made (RFC 7252, section 5.8).
-use Rattle.std.proofs.Common.{◌≡◌, ◌≢◌, inl, inr, ℕ, ◌+◌, ◌-◌, ◌≤◌, Bool, true, false, Option, Some, None, is_some, List, [], ◌∷◌, length, Result, refl, ap, sym, subst, ◌∙◌, cond, max, arith}
+use Rattle.std.proofs.Common.{◌≡◌, ◌≢◌, inl, inr, ℕ, ◌+◌, ◌-◌, ◌≤◌, Bool, true, false, Option, Some, None, is_some}
+use Rattle.std.proofs.Common.{List, [], ◌∷◌, length, refl, ap, sym, subst, ◌∙◌, cond, arith}
 use Rattle.coap_types.specs.Past.{Ever}
 use Rattle.coap_types.specs.Path.{same_path}
 use Rattle.coap_types.proofs.Facts.Paths.{same_path-decides}
@@ -9,15 +10,9 @@ use Rattle.coap_resource.specs.declared.refusal.StoreRefusal.{StoreRefusal}
 use Rattle.coap_resource.specs.Content.{Content, Held, Changes, later, append_refusal, put_refusal}
 use Rattle.coap_resource.specs.Rate.{rate_refusal, counted}
 use Rattle.coap_resource.specs.RequestOptions.{precondition_fails}
-use Rattle.coap_resource.specs.Serves.{Question, Reply, PutBy, JoinBy, PostBy, RemoveBy, DeleteBy, ServesMethod, ServesUnless}
+use Rattle.coap_resource.specs.Serves.{Question, Reply, PutBy, JoinBy, PostBy, RemoveBy, DeleteBy, ServesMethod}
+use Rattle.coap_resource.specs.Serves.{ServesUnless}
 use Rattle.coap_resource.specs.Serves as R
-use Rattle.coap_exchange.specs.declared.answerer.Due.TheVariants as due
-use Rattle.coap_ends.specs.ServerTrace.{Own, Silent, Refuses, Serves, Waits, Call, Sets, Removes, Delays, Feeds, Ticks, NextOut}
-use Rattle.coap_ends.specs.ServerSteps.{IsRight, SetsBy, RemovesBy, left_by, after}
-use Rattle.coap_ends.specs.ServerLaw.{own_of, ServerRows}
-use Rattle.coap_ends.specs.Follows.ServerFollows.{Serving, serving}
-use Rattle.coap_ends.proofs.Holding.ServerHolds.{serves_right}
-use Rattle.coap_ends.proofs.Progress.ServerStoreBounds.{left_is}
 
 -- so many paths, among them each that holds something
 pub record AreCounted (s : Content) : Type 0 where
@@ -162,44 +157,3 @@ unless_moves false old at q reply left h = method_moves q.method old at q reply 
 
 pub served_moves : (old : Content) (at : ℕ) (q : Question) (reply : Reply) (left : Content) → R.Serves old at q reply left → Moves old left
 served_moves old at q reply left h = unless_moves (precondition_fails (old.holds q.path) q.options) old at q reply left h
-
-sets_moves : (o : Option StoreRefusal) (old : Content) (at : ℕ) (path : List (List ℕ)) (format : Option ℕ) (body : List ℕ) (answer : Result ℕ StoreRefusal) (left : Content) → SetsBy o old at path format body answer left → Moves old left
-sets_moves (Some why) old at path format body answer left h = unchanged_moves old left at h.1
-sets_moves None old at path format body answer left h = moves at path _ h.1
-
-removes_moves : (o : Option Held) (why : Option StoreRefusal) (old : Content) (at : ℕ) (path : List (List ℕ)) (answer : Result Bool StoreRefusal) (left : Content) → RemovesBy o why old at path answer left → Moves old left
-removes_moves None why old at path answer left h = unchanged_moves old left at h.1
-removes_moves (Some was) (Some why) old at path answer left h = unchanged_moves old left at h.1
-removes_moves (Some was) None old at path answer left h = moves at path None h.1
-
--- a call, and all calls
-
-serving_moves : (szx : ℕ) (s : Own) (c : Call) → IsRight szx s c → (x : Serving) → serving s c ≡ Some x → Moves s.store (after s c).store
-serving_moves szx s c right x h =
-    let k = serves_right szx s c right x h in
-    subst (λ old. Moves old (after s c).store) k.1 (subst (Moves x.old) (sym (left_is s c x h)) (served_moves x.old k.0 x.question x.reply x.left k.2))
-
-kept : (old : Content) → Moves old old
-kept old = stays refl refl
-
-moves_by : (szx : ℕ) (s : Own) (c : Call) → IsRight szx s c → Moves s.store (after s c).store
-moves_by szx s (Sets now path format body answer left) right = sets_moves (put_refusal s.store (max s.clock now) path (length body)) s.store (max s.clock now) path format body answer left right
-moves_by szx s (Removes now path answer left) right = removes_moves (s.store.holds path) (rate_refusal s.store.tally (max s.clock now)) s.store (max s.clock now) path answer left right
-moves_by szx s (Delays path ms answer) right = kept s.store
-moves_by szx s (NextOut answer) right = kept s.store
-moves_by szx s (Feeds now from bytes word up (Some p) (Serves q reply response left) below) right = serving_moves szx s (Feeds now from bytes word up (Some p) (Serves q reply response left) below) right _ refl
-moves_by szx s (Ticks now word below room (due.Ready a) (Serves q reply response left) id answer) right = serving_moves szx s (Ticks now word below room (due.Ready a) (Serves q reply response left) id answer) right _ refl
-moves_by szx s (Feeds now from bytes word up None h below) right = subst (λ w. Moves s.store (left_by w s.store)) (sym right) (kept s.store)
-moves_by szx s (Feeds now from bytes word up (Some p) Silent below) right = kept s.store
-moves_by szx s (Feeds now from bytes word up (Some p) (Refuses r) below) right = kept s.store
-moves_by szx s (Feeds now from bytes word up (Some p) (Waits q delay) below) right = kept s.store
-moves_by szx s (Ticks now word below room due.Idle h id answer) right = subst (λ w. Moves s.store (left_by w s.store)) (sym right.0) (kept s.store)
-moves_by szx s (Ticks now word below room due.Copied h id answer) right = subst (λ w. Moves s.store (left_by w s.store)) (sym right.0) (kept s.store)
-moves_by szx s (Ticks now word below room due.Expired h id answer) right = subst (λ w. Moves s.store (left_by w s.store)) (sym right.0) (kept s.store)
-moves_by szx s (Ticks now word below room (due.Ready a) Silent id answer) right = kept s.store
-moves_by szx s (Ticks now word below room (due.Ready a) (Refuses r) id answer) right = kept s.store
-moves_by szx s (Ticks now word below room (due.Ready a) (Waits q delay) id answer) right = kept s.store
-
-pub store_counted : (limit szx : ℕ) (t : List Call) → ServerRows limit szx t → AreCounted (own_of limit szx t).store
-store_counted limit szx [] rows = record { paths = []; many = refl; each = λ path held h. absurd (cc h) }
-store_counted limit szx (c ∷ t) rows = counted_by (own_of limit szx t).store (own_of limit szx (c ∷ t)).store (moves_by szx (own_of limit szx t) c rows.0) (store_counted limit szx t rows.1)

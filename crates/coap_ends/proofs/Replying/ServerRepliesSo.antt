@@ -1,5 +1,5 @@
 -- Each reply of a server's message layer is given at once: for all its calls.
-use Rattle.std.proofs.Common.{◌≡◌, ℕ, max, Bool, true, Option, Some, None, List, [], ◌∷◌, ◌++◌, refl, ap, sym, subst, append_assoc}
+use Rattle.std.proofs.Common.{◌≡◌, ℕ, Bool, Option, Some, None, List, [], ◌∷◌, ◌++◌, refl, ap, sym, subst, append_assoc}
 use Rattle.coap_types.specs.declared.endpoint.Endpoint.{Endpoint}
 use Rattle.coap_codec.specs.Message.{Message}
 use Rattle.coap_layer.specs.Trace as T
@@ -7,8 +7,6 @@ use Rattle.coap_layer.specs.Machine.State as L
 use Rattle.coap_layer.specs.Machine.Steps as G
 use Rattle.coap_layer.specs.Machine.Steps.{Steps}
 use Rattle.coap_exchange.specs.declared.answerer.Asked.{Asked}
-use Rattle.coap_exchange.specs.declared.answerer.Due.{Due}
-use Rattle.coap_exchange.specs.declared.answerer.Due.TheVariants as due
 use Rattle.coap_exchange.specs.declared.separate.Deferred.{Deferred}
 use Rattle.coap_exchange.specs.AnswererTrace as E
 use Rattle.coap_exchange.specs.AnswererSteps as P
@@ -16,10 +14,7 @@ use Rattle.coap_exchange.specs.AnswererLaw as W
 use Rattle.coap_exchange.specs.AskerRequests.{asked}
 use Rattle.coap_exchange.specs.AskerArrivals.{id_in, replying}
 use Rattle.coap_layer.proofs.Facts.StepsOfLayer.{steps_split}
-use Rattle.coap_ends.specs.ServerTrace.{Handling, Silent, Refuses, Serves, Waits, Call, Sets, Removes, Delays, Feeds, Ticks, NextOut}
-use Rattle.coap_ends.specs.ServerSteps.{lower, answering, responding}
-use Rattle.coap_ends.specs.ServerLaw.{own_of, lower_of}
-use Rattle.coap_ends.proofs.Replying.ClientReplies.{NoReplies, So, over}
+use Rattle.coap_ends.proofs.Replying.ClientReplies.{NoReplies, So}
 use Rattle.coap_ends.proofs.Replying.ServerReplies.{Came, came_by, rejecting, piggybacked, acknowledged}
 
 pub asking_none : (at : ℕ) (o : Option Deferred) (room : Bool) (below : T.Answer) → NoReplies (P.asking_room at o room ++ asked at T.Ticks below ∷ [])
@@ -39,18 +34,7 @@ module _ (word : ℕ) where
   pub one_back : (c : E.Call) (calls : List E.Call) → Left (c ∷ calls) → Left calls
   one_back c calls left = let k = steps_split (L.start word) left.0 (P.lower (W.own_of calls) c) (W.lower_of calls) left.1 in (k.0, k.1)
 
-  pub steps_back : (xs calls : List E.Call) → Left (xs ++ calls) → Left calls
-  steps_back [] calls left = left
-  steps_back (x ∷ xs) calls left = steps_back xs calls (one_back x (xs ++ calls) left)
-
-  pub law_back : (xs calls : List E.Call) → W.AnswererLaw (xs ++ calls) → W.AnswererLaw calls
-  law_back [] calls law = law
-  law_back (x ∷ xs) calls law = law_back xs calls law.1
-
   module _ (calls : List E.Call) (so : Under calls) (now : ℕ) where
-    ticked : (below : T.Answer) (room : Bool) (d : Due) → Under (E.Ticks now below room d ∷ calls)
-    ticked below room d = over begin (P.lower (W.own_of calls) (E.Ticks now below room d)) (W.lower_of calls) (asking_none now (P.ready_if below (P.ready_at (W.own_of calls) now)) room below) so
-
     -- what an arrival's step is
     pub record Arrived (from : Endpoint) (bytes : List ℕ) (up : T.Answer) : Type 0 where
       pub mid : L.State
@@ -95,43 +79,3 @@ module _ (word : ℕ) where
         subst (λ l. So begin ((P.deferring d p.0 ++ pass ∷ []) ++ (l ++ W.lower_of calls))) (sym (plain from bytes up p.0 p.1 c))
         (subst (So begin) (sym (append_assoc (P.deferring d p.0) (pass ∷ []) (asked now (T.Receive from bytes) up ∷ W.lower_of calls)))
         (acknowledged begin from now bytes up (W.lower_of calls) a.mid a.new a.before a.step so p.0 p.1 c law.0.1 d))
-
-  module _ (calls : List E.Call) (so : Under calls) (at : ℕ) (from : Endpoint) (bytes : List ℕ) (up : T.Answer) where
-    fed : (came : Option (Asked × Message)) (h : Handling) (below : T.Answer) → W.AnswererLaw ((answering at came h below ++ E.Incoming at from bytes up came ∷ []) ++ calls)
-        → Left ((answering at came h below ++ E.Incoming at from bytes up came ∷ []) ++ calls) → Under ((answering at came h below ++ E.Incoming at from bytes up came ∷ []) ++ calls)
-    fed None h below law left = incoming calls so at from bytes up None left
-    fed (Some p) Silent below law left = incoming calls so at from bytes up (Some p) left
-    fed (Some p) (Refuses r) below law left = answered calls so at from bytes up p r below law (one_back (E.Answers p.0 r below) (E.Incoming at from bytes up (Some p) ∷ calls) left)
-    fed (Some p) (Serves q reply r w) below law left = answered calls so at from bytes up p r below law (one_back (E.Answers p.0 r below) (E.Incoming at from bytes up (Some p) ∷ calls) left)
-    fed (Some p) (Waits q delay) below law left = deferred calls so at from bytes up p delay true law (one_back (E.Defers at p.0 delay true) (E.Incoming at from bytes up (Some p) ∷ calls) left)
-
-  module _ (calls : List E.Call) (so : Under calls) (at w : ℕ) (below : T.Answer) (room : Bool) (id : ℕ) where
-    passed : (d : Due) (h : Handling) → Under ((responding at d h w id ++ E.Ticks at below room d ∷ []) ++ calls)
-    passed due.Idle h = ticked calls so at below room due.Idle
-    passed due.Copied h = ticked calls so at below room due.Copied
-    passed due.Expired h = ticked calls so at below room due.Expired
-    passed (due.Ready a) Silent = ticked calls so at below room (due.Ready a)
-    passed (due.Ready a) (Refuses r) = ticked calls so at below room (due.Ready a)
-    passed (due.Ready a) (Waits q delay) = ticked calls so at below room (due.Ready a)
-    passed (due.Ready a) (Serves q reply r left) =
-        over begin (P.lower (W.own_of (E.Ticks at below room (due.Ready a) ∷ calls)) (E.Responds at a r w id)) (W.lower_of (E.Ticks at below room (due.Ready a) ∷ calls)) (refl, tt)
-        (ticked calls so at below room (due.Ready a))
-
-  module _ (limit szx : ℕ) where
-    abbrev calls_of : List Call → List E.Call
-    calls_of t = lower_of limit szx t
-
-    pub replies_so : (t : List Call) → W.AnswererLaw (lower_of limit szx t) → (h : L.State) → Steps (L.start word) (W.lower_of (lower_of limit szx t)) h → So (L.start word) (W.lower_of (lower_of limit szx t))
-    replies_so [] law h steps = tt
-    replies_so (c ∷ t) law h steps =
-        let xs : List E.Call = lower (own_of limit szx t) c in
-        let back = steps_back xs (calls_of t) (h, steps) in
-        here c law (h, steps) (replies_so t (law_back xs (calls_of t) law) back.0 back.1)
-      where
-        here : (c : Call) → W.AnswererLaw (lower (own_of limit szx t) c ++ calls_of t) → Left (lower (own_of limit szx t) c ++ calls_of t) → Under (calls_of t) → Under (lower (own_of limit szx t) c ++ calls_of t)
-        here (Sets now path format body answer w) law left so = so
-        here (Removes now path answer w) law left so = so
-        here (Delays path ms answer) law left so = so
-        here (NextOut answer) law left so = over begin (P.lower (W.own_of (calls_of t)) (E.Take answer)) (W.lower_of (calls_of t)) (refl, tt) so
-        here (Feeds now from bytes w up came k below) law left so = fed (calls_of t) so (max (own_of limit szx t).clock now) from bytes up came k below law left
-        here (Ticks now w below room d k id answer) law left so = passed (calls_of t) so (max (own_of limit szx t).clock now) w below room id d k

@@ -1,6 +1,7 @@
 -- Where a datagram that a message layer sends comes from: it is a Reset, or an entry gives it as a reply, a NON or a CON
 -- (RFC 7252, sections 4.2 and 4.3).
-use Rattle.std.proofs.Common.{◌≡◌, ◌⊎◌, inl, inr, ℕ, ◌<◌, ◌==◌, Bool, true, false, ◌&&◌, Option, Some, None, List, [], ◌∷◌, refl, ap, sym, subst, ◌∙◌, cond, arith, drop}
+use Rattle.std.proofs.Common.{◌≡◌, ◌⊎◌, inl, inr, ℕ, ◌<◌, ◌==◌, Bool, true, false, ◌&&◌, Option, Some, None, List, []}
+use Rattle.std.proofs.Common.{◌∷◌, refl, ap, sym, subst, ◌∙◌, cond, arith, drop}
 use Rattle.coap_types.specs.Past.{Ever}
 use Rattle.coap_ends.specs.Follows.Sources.{GivesReply, GivesMessage, Source}
 use Rattle.coap_types.proofs.Facts.Traces.{Ever_by_law, Ever_of_Since}
@@ -18,8 +19,10 @@ use Rattle.coap_codec.specs.Message.{Message, Spells}
 use Rattle.coap_codec.specs.Spelling.{message_bytes}
 use Rattle.coap_types.proofs.Facts.Bytes.{AreBytes-drop, byte_at}
 use Rattle.coap_layer.specs.Arrivals.{Faulted, Whole, Shows, by_head}
-use Rattle.coap_layer.specs.Trace.{with_head, Packet, Call, Receive, Reply, Confirm, Plain, Settle, Ticks, Take, Room, AsksFree, Pass, Entry}
-use Rattle.coap_layer.specs.Words.{Awaited, awaits, awaits_in, awaited_of, Incoming, handed, handed_in, handed_by, from_there, reply_in, hands_up, Open, begun}
+use Rattle.coap_layer.specs.Trace.{with_head, Packet, Call, Receive, Reply, Confirm, Plain, Settle, Ticks, Take, Room}
+use Rattle.coap_layer.specs.Trace.{AsksFree, Pass, Entry}
+use Rattle.coap_layer.specs.Words.{Awaited, awaits, awaits_in, awaited_of, Incoming, handed, handed_in, handed_by}
+use Rattle.coap_layer.specs.Words.{from_there, reply_in, hands_up, Open, begun}
 use Rattle.coap_layer.specs.Rows.{Stands, LayerLaw, Row, IsSpelled, Confirms, SendsAs, RefusesIds}
 use Rattle.coap_layer.specs.Sends.{IsIn, packet_of, PlainOut, ResetOut, GoesOut}
 use Rattle.coap_layer.proofs.Facts.Laws.{handed_spelled}

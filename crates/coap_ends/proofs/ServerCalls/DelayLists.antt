@@ -1,11 +1,13 @@
 -- The delays of paths: one makes way for another of its path.
-use Rattle.std.proofs.Common.{◌≡◌, ℕ, zero, suc, ◌+◌, ◌<◌, ◌≤◌, Bool, true, false, not, List, [], ◌∷◌, ◌++◌, length, map, filter, remove, get_or, take, drop, Option, Some, None, IfSome, is_some, cond, refl, ap, sym, subst, ◌∙◌, arith, ◌↔◌, IsTrue}
+use Rattle.std.proofs.Common.{◌≡◌, ℕ, zero, suc, ◌+◌, ◌<◌, ◌≤◌, Bool, true, false, not, List, [], ◌∷◌, ◌++◌, length}
+use Rattle.std.proofs.Common.{map, filter, remove, get_or, take, drop, Option, Some, None, IfSome, is_some, cond, refl}
+use Rattle.std.proofs.Common.{ap, sym, subst, ◌∙◌, arith, ◌↔◌, IsTrue}
 use Rattle.std.proofs.lemmas.Bool.{ltb-true, ltb-false}
 use Rattle.std.specs.List.{slice_get}
 use Rattle.coap_types.specs.Path.{same_path}
 use Rattle.coap_types.proofs.Facts.Paths.{same_path-decides}
-use Rattle.coap_ends.specs.WholeServer.ServerTrace as T
-use Rattle.coap_ends.specs.WholeServer.ServerDeferring.{others, delay_of, delays_with, may_delay}
+use Rattle.coap_ends.specs.ServerSide.ServerTrace as T
+use Rattle.coap_ends.specs.ServerSide.ServerDeferring.{others, delay_of, delays_with, may_delay}
 use Rattle.coap_ends.specs.declared.server.parts.Delay.{Delay}
 use Rattle.coap_ends.specs.ServerTurns.DelaysShown.{delays_as, delays_of_others}
 

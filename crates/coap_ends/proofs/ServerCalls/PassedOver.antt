@@ -1,11 +1,12 @@
 -- Observers that are passed over, and the first that isn't (RFC 7641, section 4.5).
-use Rattle.std.proofs.Common.{◌≡◌, ◌≤◌, ◌<◌, ℕ, zero, suc, ◌+◌, Bool, true, false, Option, Some, None, List, [], ◌∷◌, ◌++◌, length, filter, cond, refl, ap, sym, subst, ◌∙◌, add-one, arith}
+use Rattle.std.proofs.Common.{◌≡◌, ◌≤◌, ◌<◌, ℕ, zero, suc, ◌+◌, Bool, true, false, Option, Some, None, List, [], ◌∷◌}
+use Rattle.std.proofs.Common.{◌++◌, length, filter, cond, refl, ap, sym, subst, ◌∙◌, add-one, arith}
 use Rattle.std.proofs.lemmas.Bool.{or_parts}
 use Rattle.std.specs.List.{list_any, slice_get}
 use Rattle.coap_observe.specs.Observers.{Observer}
 use Rattle.coap_exchange.specs.AnswererLaw as X
 use Rattle.coap_exchange.specs.AnswererTrace as E
-use Rattle.coap_ends.specs.WholeServer.ServerNotifying.{behind, marked, readies}
+use Rattle.coap_ends.specs.ServerSide.ServerNotifying.{behind, marked, readies}
 
 -- what is asked about so many, none of whom can be notified
 abbrev pub passing : ℕ → ℕ → List Observer → List E.Call

@@ -1,5 +1,6 @@
 -- What is done with a request, from the checks to its answer (RFC 7252, section 5.2; RFC 7959, section 2.5).
-use Rattle.std.proofs.Common.{◌≡◌, ℕ, Bool, true, false, Option, Some, None, List, [], ◌∷◌, ◌++◌, length, refl, ap, sym, subst, ◌∙◌}
+use Rattle.std.proofs.Common.{◌≡◌, ℕ, Bool, true, false, Option, Some, None, List, [], ◌∷◌, ◌++◌, length, refl, ap, sym}
+use Rattle.std.proofs.Common.{subst, ◌∙◌}
 use Rattle.coap_codec.specs.Message.{Message}
 use Rattle.coap_layer.specs.Trace as L
 use Rattle.coap_types.specs.BlockValue.{block_value}
@@ -23,17 +24,17 @@ use Rattle.coap_exchange.specs.AnswererLaw as X
 use Rattle.coap_exchange.specs.AnswererSteps.{may_defer}
 use Rattle.coap_exchange.specs.AnswererTrace as E
 use Rattle.coap_exchange.proofs.Facts.ServerSide.{exchanged_own}
-use Rattle.coap_ends.specs.WholeServer.ServerTrace as T
-use Rattle.coap_ends.specs.WholeServer.ServerTrace.{Own, Handling, Silent, Replies, Serves, Waits}
-use Rattle.coap_ends.specs.WholeServer.ServerAsks.{answering}
-use Rattle.coap_ends.specs.WholeServer.ServerChecks.{Verdict, Ignored, Asks, Uploads, asks, verdict_on}
-use Rattle.coap_ends.specs.WholeServer.ServerResponses.{bare}
-use Rattle.coap_ends.specs.WholeServer.ServerServing.{IsServed, response_to}
-use Rattle.coap_ends.specs.WholeServer.ServerUploads.{continue, key_of, ruling_of, uploads_after, continuing}
-use Rattle.coap_ends.specs.WholeServer.ServerDeferring.{WaitsBy, delay_for, deferral_by, waiting_with}
-use Rattle.coap_ends.specs.WholeServer.ServerHandling.{Handles, HandlesBlock}
-use Rattle.coap_ends.specs.WholeServer.ServerSteps.{handled, exchanges_after}
-use Rattle.coap_ends.specs.WholeServer.ServerLed.{State, exchanges_of}
+use Rattle.coap_ends.specs.ServerSide.ServerTrace as T
+use Rattle.coap_ends.specs.ServerSide.ServerTrace.{Own, Handling, Silent, Replies, Serves, Waits}
+use Rattle.coap_ends.specs.ServerSide.ServerAsks.{answering}
+use Rattle.coap_ends.specs.ServerSide.ServerChecks.{Verdict, Ignored, Asks, Uploads, asks, verdict_on}
+use Rattle.coap_ends.specs.ServerSide.ServerResponses.{bare}
+use Rattle.coap_ends.specs.ServerSide.ServerServing.{IsServed, response_to}
+use Rattle.coap_ends.specs.ServerSide.ServerUploads.{continue, key_of, ruling_of, uploads_after, continuing}
+use Rattle.coap_ends.specs.ServerSide.ServerDeferring.{WaitsBy, delay_for, deferral_by, waiting_with}
+use Rattle.coap_ends.specs.ServerSide.ServerHandling.{Handles, HandlesBlock}
+use Rattle.coap_ends.specs.ServerSide.ServerSteps.{handled, exchanges_after}
+use Rattle.coap_ends.specs.ServerSide.ServerLed.{State, exchanges_of}
 use Rattle.coap_ends.specs.ServerObject.ServerChecked.{asked_as}
 use Rattle.coap_ends.specs.ServerObject.ServerHandled.{ServesNow, IsHandled, IsAsked, IsWhole, IsUploaded}
 

@@ -1,6 +1,7 @@
 -- A request that is served: a GET applies and changes nothing, and a request of another method observes nothing (RFC 7252,
 -- section 5.8; RFC 7641, section 4.1).
-use Rattle.std.proofs.Common.{◌≡◌, ℕ, ◌&&◌, Bool, true, false, not, is_some, Option, Some, None, List, [], length, refl, ap, sym, subst, ◌∙◌, if◌then◌else◌}
+use Rattle.std.proofs.Common.{◌≡◌, ℕ, ◌&&◌, Bool, true, false, not, is_some, Option, Some, None, List, [], length, refl}
+use Rattle.std.proofs.Common.{ap, sym, subst, ◌∙◌, if◌then◌else◌}
 use Rattle.std.specs.Prelude.{nat_le, nat_lt}
 use Rattle.std.proofs.lemmas.Bool.{eq-eqb}
 use Rattle.coap_types.specs.CoapOption.{CoapOption}
@@ -9,15 +10,17 @@ use Rattle.coap_types.specs.declared.block.Block.{Block}
 use Rattle.coap_types.specs.declared.request.Method.TheVariants.{Get}
 use Rattle.coap_observe.specs.Observers.{Observer}
 use Rattle.coap_resource.specs.Content.{Content, Held}
-use Rattle.coap_resource.specs.RequestOptions.{accepts, block_of, etag_names, offset_by, precondition_fails, szx_by, tag_of}
-use Rattle.coap_resource.specs.Serves.{Question, Reply, Serves, ServesMethod, ServesUnless, got, got_at, bare, content_reply}
+use Rattle.coap_resource.specs.RequestOptions.{accepts, block_of, etag_names, offset_by, precondition_fails, szx_by}
+use Rattle.coap_resource.specs.RequestOptions.{tag_of}
+use Rattle.coap_resource.specs.Serves.{Question, Reply, Serves, ServesMethod, ServesUnless, got, got_at, bare}
+use Rattle.coap_resource.specs.Serves.{content_reply}
 use Rattle.coap_exchange.specs.declared.answerer.Asked.{Asked}
 use Rattle.coap_exchange.specs.AnswererTrace as E
-use Rattle.coap_ends.specs.WholeServer.ServerTrace.{Applied}
-use Rattle.coap_ends.specs.WholeServer.ServerObservers.{is_get, marked_if, observers_with, registers, sequence_if}
-use Rattle.coap_ends.specs.WholeServer.ServerResponses.{response_with}
-use Rattle.coap_ends.specs.WholeServer.ServerServing.{applied_by, is_applied}
-use Rattle.coap_ends.specs.WholeServer.ServerUploads.{last_block}
+use Rattle.coap_ends.specs.ServerSide.ServerTrace.{Applied}
+use Rattle.coap_ends.specs.ServerSide.ServerObservers.{is_get, marked_if, observers_with, registers, sequence_if}
+use Rattle.coap_ends.specs.ServerSide.ServerResponses.{response_with}
+use Rattle.coap_ends.specs.ServerSide.ServerServing.{applied_by, is_applied}
+use Rattle.coap_ends.specs.ServerSide.ServerUploads.{last_block}
 use Rattle.coap_ends.specs.ServerObject.ServerHandled.{ServesRequest}
 
 one_of : (a b c : Bool) (w x y z : Reply) → is_applied w.code ≡ false → is_applied x.code ≡ false → is_applied y.code ≡ false → is_applied z.code ≡ false

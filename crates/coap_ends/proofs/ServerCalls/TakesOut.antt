@@ -3,8 +3,8 @@ use Rattle.std.proofs.Common.{◌≡◌, Option, Some, None, IfSome, IfNone, [],
 use Rattle.coap_layer.specs.Machine.State as S
 use Rattle.coap_layer.specs.Trace as L
 use Rattle.coap_exchange.specs.AnswererLaw as X
-use Rattle.coap_ends.specs.WholeServer.ServerTrace.{Own, NextOut}
-use Rattle.coap_ends.specs.WholeServer.ServerLed.{State, exchanges_of, Step}
+use Rattle.coap_ends.specs.ServerSide.ServerTrace.{Own, NextOut}
+use Rattle.coap_ends.specs.ServerSide.ServerLed.{State, exchanges_of, Step}
 use Rattle.coap_ends.specs.ServerTurns.ServerWork.{WasLed}
 use Rattle.coap_ends.proofs.Rest.FirstOut.{layer_empty, layer_none, layer_some, only_live}
 

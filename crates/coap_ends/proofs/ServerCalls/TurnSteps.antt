@@ -1,6 +1,7 @@
 -- What is due is done behind what the exchanges do of it, and both are one call of the server (RFC 7252, section 5.2.2; RFC 7641,
 -- section 4.5).
-use Rattle.std.proofs.Common.{◌≡◌, ◌≢◌, ℕ, max, Bool, true, false, Option, Some, None, Result, Ok, Err, IfOk, List, [], ◌∷◌, ◌++◌, refl, ap, sym, subst, ◌∙◌}
+use Rattle.std.proofs.Common.{◌≡◌, ◌≢◌, ℕ, max, Bool, true, false, Option, Some, None, Result, Ok, Err, IfOk, List, []}
+use Rattle.std.proofs.Common.{◌∷◌, ◌++◌, refl, ap, sym, subst, ◌∙◌}
 use Rattle.coap_layer.specs.Trace as L
 use Rattle.coap_observe.specs.Observers.{Observer}
 use Rattle.coap_resource.specs.Content.{Content, Held}
@@ -11,42 +12,24 @@ use Rattle.coap_exchange.specs.declared.answerer.Asked.{Asked}
 use Rattle.coap_exchange.specs.declared.answerer.Due.{Due}
 use Rattle.coap_exchange.specs.declared.answerer.Due.TheVariants as due
 use Rattle.coap_exchange.specs.declared.answerer.Ended.{Ended}
-use Rattle.coap_exchange.specs.declared.separate.Deferred.{Deferred}
-use Rattle.coap_exchange.specs.declared.separate.Separate.{Separate}
 use Rattle.coap_exchange.specs.AnswererLaw as X
 use Rattle.coap_exchange.specs.AnswererSteps as P
 use Rattle.coap_exchange.specs.AnswererTrace as E
 use Rattle.coap_exchange.proofs.Facts.ServerSide.{exchanged_join, exchanged_own}
-use Rattle.coap_ends.specs.WholeServer.ServerTrace as T
-use Rattle.coap_ends.specs.WholeServer.ServerTrace.{Own, Handling, Silent, Serves, Notifies, Call, Ticks}
-use Rattle.coap_ends.specs.WholeServer.ServerAsks.{responding}
-use Rattle.coap_ends.specs.WholeServer.ServerObservers.{unless_ended}
-use Rattle.coap_ends.specs.WholeServer.ServerServing.{IsServed, response_to, observers_served, applied_by}
-use Rattle.coap_ends.specs.WholeServer.ServerDeferring.{AnswersWaiting, question_of, without_waiting}
-use Rattle.coap_ends.specs.WholeServer.ServerNotifying.{marked, behind, readies, NotifiesNext, notification, notified, told, asks_for}
-use Rattle.coap_ends.specs.WholeServer.ServerHandling.{ticking, heard, HandlesDue, is_done}
-use Rattle.coap_ends.specs.WholeServer.ServerSteps.{due_after, exchanges_after}
-use Rattle.coap_ends.specs.WholeServer.ServerLed.{State, exchanges_of, Step}
+use Rattle.coap_ends.specs.ServerSide.ServerTrace as T
+use Rattle.coap_ends.specs.ServerSide.ServerTrace.{Handling, Silent, Serves, Notifies, Ticks}
+use Rattle.coap_ends.specs.ServerSide.ServerAsks.{responding}
+use Rattle.coap_ends.specs.ServerSide.ServerObservers.{unless_ended}
+use Rattle.coap_ends.specs.ServerSide.ServerServing.{response_to, observers_served}
+use Rattle.coap_ends.specs.ServerSide.ServerDeferring.{AnswersWaiting, question_of, without_waiting}
+use Rattle.coap_ends.specs.ServerSide.ServerNotifying.{marked, behind, readies, NotifiesNext, notification, notified}
+use Rattle.coap_ends.specs.ServerSide.ServerNotifying.{told, asks_for}
+use Rattle.coap_ends.specs.ServerSide.ServerHandling.{ticking, heard, HandlesDue}
+use Rattle.coap_ends.specs.ServerSide.ServerSteps.{due_after, exchanges_after}
+use Rattle.coap_ends.specs.ServerSide.ServerLed.{State, exchanges_of, Step}
 use Rattle.coap_ends.specs.ServerObject.ServerHandled.{ServesRequest}
 use Rattle.coap_ends.specs.ServerTurns.ServerTurned.{IsTurned}
 use Rattle.coap_ends.proofs.ServerCalls.WaitingLists.{all_stay}
-
--- what was neither a failure nor a copy ended nothing
-
-none_if : (ready : Option Deferred) (room : Bool) (xs : List Separate) → P.failed_by L.Idle xs ≡ None
-none_if ready room xs = refl
-
-pub none_failed : (d : Due) (below : L.Answer) (ready : Option Deferred) (room : Bool) (xs : List Separate) → d ≡ P.due_of below ready room → d ≢ due.Expired → P.failed_by below xs ≡ None
-none_failed d (L.Expired to id) ready room xs is other = absurd (other is)
-none_failed d (L.Copied to id) ready room xs is other = refl
-none_failed d L.Idle ready room xs is other = refl
-none_failed d (L.Becomes u) ready room xs is other = refl
-none_failed d L.Nothing ready room xs is other = refl
-none_failed d (L.Is holds) ready room xs is other = refl
-none_failed d (L.Sent id) ready room xs is other = refl
-none_failed d L.Busied ready room xs is other = refl
-none_failed d L.NoIds ready room xs is other = refl
-none_failed d (L.Gives packet) ready room xs is other = refl
 
 -- the whole call
 
@@ -84,25 +67,9 @@ module _ (old mid new : State) (now at word : ℕ) (below : L.Answer) (room : Bo
       (kept ∙ ap (λ (os : List Observer). record old.own { clock = at; exchanges = mid.own.exchanges; observers = os }) (left ∙ ap (λ (e : Option Ended). unless_ended e old.own.observers) is))
       turned
 
--- who observes stays where nothing failed
-pub observers_stay : (old mid : X.State) (at : ℕ) (below : L.Answer) (room : Bool) (d : Due) (observers left : List Observer) (ended : Option Ended)
-    → X.Step old (E.Ticks at below room d) mid → d ≢ due.Expired → left ≡ unless_ended ended observers → ended ≡ mid.own.ended → left ≡ observers
-observers_stay old mid at below room d observers left ended step other is e =
-    let none : mid.own.ended ≡ None =
-    ap (λ (s : E.Own). s.ended) step.own_is ∙ none_failed d below (P.ready_at old.own at) room old.own.separate step.right other in
-    is ∙ ap (λ (z : Option Ended). unless_ended z observers) (e ∙ none)
-
 pub if_ok : {X Y : Type 0} {P Q : X → Type 0} (r : Result X Y) → ((x : X) → P x → Q x) → IfOk r P → IfOk r Q
 if_ok (Ok x) f p = f x p
 if_ok (Err e) f p = tt
-
--- nothing is left to be done of a copy and a failure
-
-pub turned_copied : (s : State) (word : ℕ) → IsTurned s due.Copied word true (record s { own = record s.own { applied = [] } })
-turned_copied s word = record { passed = 0; handling = Silent; id = 0; right = refl; answer_is = refl; asks = refl; left = refl }
-
-pub turned_expired : (s : State) (word : ℕ) → IsTurned s due.Expired word true (record s { own = record s.own { applied = [] } })
-turned_expired s word = record { passed = 0; handling = Silent; id = 0; right = refl; answer_is = refl; asks = refl; left = refl }
 
 -- a request that is ready
 

@@ -1,9 +1,10 @@
 -- The first deferred request that is ready, and those that stay (RFC 7252, section 5.2.2).
-use Rattle.std.proofs.Common.{◌≡◌, ◌≤◌, ◌<◌, ℕ, zero, suc, ◌+◌, Bool, true, false, Option, Some, None, List, [], ◌∷◌, ◌++◌, length, map, take, drop, remove, get_or, cond, refl, ap, sym, ◌∙◌, add-one, arith}
+use Rattle.std.proofs.Common.{◌≡◌, ◌≤◌, ◌<◌, ℕ, zero, suc, ◌+◌, Bool, true, false, Option, Some, None, List, [], ◌∷◌}
+use Rattle.std.proofs.Common.{◌++◌, length, map, take, drop, remove, get_or, cond, refl, ap, sym, ◌∙◌, add-one, arith}
 use Rattle.coap_exchange.specs.declared.answerer.Asked.{Asked}
 use Rattle.coap_resource.specs.Serves.{Question}
-use Rattle.coap_ends.specs.WholeServer.ServerTrace as T
-use Rattle.coap_ends.specs.WholeServer.ServerDeferring.{is_of, question_of, without_waiting}
+use Rattle.coap_ends.specs.ServerSide.ServerTrace as T
+use Rattle.coap_ends.specs.ServerSide.ServerDeferring.{is_of, question_of, without_waiting}
 
 module _ {W : Type 0} (f : W → T.Waiting) (at : ℕ) (a : Asked) where
   -- what is left to look at, and what stays of the rest
@@ -47,12 +48,6 @@ module _ {W : Type 0} (f : W → T.Waiting) (at : ℕ) (a : Asked) where
   -- what was read at a place
   pub same_is : (ws : List W) (i : ℕ) (x d : W) (found b : Bool) → i < length ws → x ≡ get_or ws i x → found ≡ is_of at a (f x) → found ≡ b → is_of at a (f (get_or ws i d)) ≡ b
   same_is ws i x d found b within is test e = ap (λ (w : W). is_of at a (f w)) (sym (is ∙ same_place ws i x d within)) ∙ (sym test ∙ e)
-
-  pub none_behind : (ws : List W) (i : ℕ) → length ws ≤ i → question_behind i ws ≡ None
-  none_behind [] zero past = refl
-  none_behind [] (suc i) past = refl
-  none_behind (w ∷ ws) zero past = absurd (omega (arith, past))
-  none_behind (w ∷ ws) (suc i) past = none_behind ws i (omega (arith, past))
 
   -- where none is ready, all stay
   pub all_stay : (ws : List T.Waiting) → question_of at a ws ≡ None → without_waiting at a ws ≡ ws

@@ -1,5 +1,6 @@
 -- A tick that does something leaves less to be done at its moment.
-use Rattle.std.proofs.Common.{◌≡◌, ◌<◌, ℕ, ◌+◌, ◌*◌, ◌≢◌, Bool, true, false, List, ◌∷◌, refl, ap, sym, subst, ◌∙◌, max, length, Result, Ok, Err, IfOk, OnOk, OnErr}
+use Rattle.std.proofs.Common.{◌≡◌, ◌<◌, ℕ, ◌+◌, ◌*◌, ◌≢◌, Bool, true, false, List, ◌∷◌, refl, ap, sym, subst, ◌∙◌, max}
+use Rattle.std.proofs.Common.{length, Result, Ok, Err, IfOk, OnOk, OnErr}
 use Rattle.coap_layer.specs.Trace as L
 use Rattle.coap_layer.specs.Machine.State as S
 use Rattle.coap_layer.specs.Machine.Steps.{left_after}
@@ -9,13 +10,13 @@ use Rattle.coap_resource.specs.declared.refusal.StoreRefusal.{StoreRefusal}
 use Rattle.coap_resource.specs.declared.refusal.StoreRefusal.TheVariants as store_refusals
 use Rattle.coap_exchange.specs.declared.answerer.Due.{Due}
 use Rattle.coap_exchange.specs.AnswererLaw as X
-use Rattle.coap_ends.specs.WholeServer.ServerTrace.{Own, Handling, Call, Ticks}
-use Rattle.coap_ends.specs.WholeServer.ServerNotifying.{marked}
-use Rattle.coap_ends.specs.WholeServer.ServerLaw.{own_of, lower_of}
-use Rattle.coap_ends.specs.WholeServer.ServerLed.{State, Led, Step}
+use Rattle.coap_ends.specs.ServerSide.ServerTrace.{Own, Handling, Call, Ticks}
+use Rattle.coap_ends.specs.ServerSide.ServerNotifying.{marked}
+use Rattle.coap_ends.specs.ServerSide.ServerLaw.{own_of, lower_of}
+use Rattle.coap_ends.specs.ServerSide.ServerLed.{State, Led, Step}
 use Rattle.coap_ends.specs.StepsDue.{due_count}
-use Rattle.coap_ends.proofs.WholeServer.Exact.ServerLeads.{led_further, led_lawful}
-use Rattle.coap_ends.proofs.WholeServer.Rest.ServerEnding.{size, less, size_is}
+use Rattle.coap_ends.proofs.ServerSide.Exact.ServerLeads.{led_further, led_lawful}
+use Rattle.coap_ends.proofs.ServerSide.Rest.ServerEnding.{size, less, size_is}
 use Rattle.coap_ends.specs.declared.server.delaying.DelayRefusal.{DelayRefusal}
 use Rattle.coap_ends.specs.declared.server.delaying.DelayRefusal.TheVariants as delay_refusals
 use Rattle.coap_ends.specs.ServerObject.ServerShown.{Kept, state_of}

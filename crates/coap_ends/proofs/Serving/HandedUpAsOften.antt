@@ -12,13 +12,9 @@ use Rattle.coap_exchange.specs.AnswererFollows.{hits, same_asked}
 use Rattle.coap_exchange.specs.AnswererLaw as W
 use Rattle.coap_exchange.specs.AskerArrivals.{id_in, replying}
 use Rattle.coap_exchange.specs.AskerRequests.{asked}
-use Rattle.coap_ends.specs.ServerTrace.{Call}
-use Rattle.coap_ends.specs.ServerSteps.{lower}
-use Rattle.coap_ends.specs.ServerLaw.{own_of, lower_of}
-use Rattle.coap_ends.specs.Follows.ServerCounts.{asked_at, ups, Counted}
+use Rattle.coap_ends.specs.Follows.ServerCounts.{asked_at, ups}
 use Rattle.coap_ends.proofs.Serving.ComesUp.{left_is}
-use Rattle.coap_ends.proofs.Serving.ServedOnce.{H, handed_is}
-use Rattle.coap_ends.proofs.Replying.ServerRepliesSo.{steps_back, law_back}
+use Rattle.coap_ends.proofs.Serving.ServedOnce.{H}
 
 abbrev pub asked_ups : Asked → List G.Asked → ℕ
 asked_ups a [] = 0
@@ -54,12 +50,3 @@ handed_at_most a (E.Responds now b r word id ∷ t) law = let k = handed_at_most
 handed_at_most a (E.Ready now to answer ∷ t) law = let k = handed_at_most a t law.1 in let e = ups_append a (P.lower (W.own_of t) (E.Ready now to answer)) (W.lower_of t) in omega (arith, k, e)
 handed_at_most a (E.Notifies now to token r word id ∷ t) law = let k = handed_at_most a t law.1 in let e = ups_append a (P.lower (W.own_of t) (E.Notifies now to token r word id)) (W.lower_of t) in omega (arith, k, e)
 handed_at_most a (E.Take answer ∷ t) law = let k = handed_at_most a t law.1 in let e = ups_append a (P.lower (W.own_of t) (E.Take answer)) (W.lower_of t) in omega (arith, k, e)
-
-pub counted : (limit szx word : ℕ) (t : List Call) → W.AnswererLaw (lower_of limit szx t) → (h : S.State) → Steps (S.start word) (W.lower_of (lower_of limit szx t)) h → Counted limit szx word t
-counted limit szx word [] law h steps = tt
-counted limit szx word (c ∷ t) law h steps =
-    let xs : List E.Call = lower (own_of limit szx t) c in
-    let back = steps_back word xs (lower_of limit szx t) (h, steps) in (
-      λ a. (let p = handed_is limit szx a (c ∷ t) in let q = handed_at_most a (lower_of limit szx (c ∷ t)) law in let r = at_entries a (S.start word) h (W.lower_of (lower_of limit szx (c ∷ t))) steps in omega (arith, p, q, r)),
-      counted limit szx word t (law_back word xs (lower_of limit szx t) law) back.0 back.1,
-    )

@@ -5,17 +5,18 @@ use Rattle.std.specs.Option.{option_map}
 use Rattle.coap_types.specs.CoapOption.{CoapOption}
 use Rattle.coap_types.specs.Path.{HoldsAtMost}
 use Rattle.coap_types.specs.Uint.{uint}
-use Rattle.coap_types.specs.declared.path.TheConstants.{MAX_SEGMENT_LEN as max_segment_len, MAX_SEGMENTS as max_segments}
+use Rattle.coap_types.specs.declared.path.TheConstants.{MAX_SEGMENT_LEN as max_segment_len}
+use Rattle.coap_types.specs.declared.path.TheConstants.{MAX_SEGMENTS as max_segments}
 use Rattle.coap_codec.specs.BoundedSpelling.{is_numbered}
 use Rattle.coap_codec.specs.Refused.{ascends, is_short}
 use Rattle.coap_types.specs.declared.request.Method.{Method}
 use Rattle.coap_types.specs.declared.request.Method.TheVariants.{Get, Post, Put, Delete}
 use Rattle.coap_types.specs.declared.request.Request as Q
 use Rattle.coap_types.specs.declared.option_number.TheConstants.{BLOCK2 as block2, BLOCK1 as block1}
-use Rattle.coap_ends.specs.WholeClient.ClientTrace.{Request}
-use Rattle.coap_ends.specs.WholeClient.ClientOwn.{Transfer, Fetches, Uploads, Single}
-use Rattle.coap_ends.specs.WholeClient.ClientQueue.{are_long, block_number}
-use Rattle.coap_ends.specs.WholeClient.ClientRequests.{options_of, path_options}
+use Rattle.coap_ends.specs.ClientSide.ClientTrace.{Request}
+use Rattle.coap_ends.specs.ClientSide.ClientOwn.{Transfer, Fetches, Uploads, Single}
+use Rattle.coap_ends.specs.ClientSide.ClientQueue.{are_long, block_number}
+use Rattle.coap_ends.specs.ClientSide.ClientRequests.{options_of, path_options}
 use Rattle.coap_ends.specs.declared.client.transfer.Transfer as T
 use Rattle.coap_ends.specs.declared.client.transfer.Transfer.TheVariants as transfer
 

@@ -1,5 +1,6 @@
 -- What an effect makes of a client, behind an input of its exchanges (RFC 7252, sections 4.7 and 5.2).
-use Rattle.std.specs.Prelude.{◌≡◌, ◌≤◌, ◌==◌, ℕ, Bool, true, false, Option, Some, None, List, [], ◌∷◌, map, if◌then◌else◌, Result}
+use Rattle.std.specs.Prelude.{◌≡◌, ◌≤◌, ◌==◌, ℕ, Bool, true, false, Option, Some, None, List, [], ◌∷◌, map}
+use Rattle.std.specs.Prelude.{if◌then◌else◌, Result}
 use Rattle.coap_types.specs.declared.endpoint.Endpoint.{Endpoint}
 use Rattle.coap_layer.specs.Trace as L
 use Rattle.coap_codec.specs.Message.{Message}
@@ -7,17 +8,17 @@ use Rattle.coap_observe.specs.Newer.{Watched as Mark}
 use Rattle.coap_exchange.specs.declared.asker.AskRefusal.{AskRefusal}
 use Rattle.coap_exchange.specs.AskerLaw as X
 use Rattle.coap_exchange.specs.AskerLaw.{Exchanged}
-use Rattle.coap_ends.specs.WholeClient.ClientTrace.{Call, Report, Requested}
-use Rattle.coap_ends.specs.WholeClient.ClientOwn.{Transfer, Operation, Notified, Observation, Own}
-use Rattle.coap_ends.specs.WholeClient.ClientObservations.{dropped, with_rest}
-use Rattle.coap_ends.specs.WholeClient.ClientObserving.{first_rest, first_value}
-use Rattle.coap_ends.specs.WholeClient.ClientRequests.{message_of}
-use Rattle.coap_ends.specs.WholeClient.ClientEffects.{Deed, Rests, Releases, Effect, runs, has_sent}
-use Rattle.coap_ends.specs.WholeClient.ClientEvents.{failed}
-use Rattle.coap_ends.specs.WholeClient.ClientPlaces.{places}
-use Rattle.coap_ends.specs.WholeClient.ClientSteps.{asking, reporting, requested}
-use Rattle.coap_ends.specs.WholeClient.ClientDeeds.{close, deeds}
-use Rattle.coap_ends.specs.WholeClient.ClientStep.{State, Led}
+use Rattle.coap_ends.specs.ClientSide.ClientTrace.{Call, Report, Requested}
+use Rattle.coap_ends.specs.ClientSide.ClientOwn.{Transfer, Operation, Notified, Observation, Own}
+use Rattle.coap_ends.specs.ClientSide.ClientObservations.{dropped, with_rest}
+use Rattle.coap_ends.specs.ClientSide.ClientObserving.{first_rest, first_value}
+use Rattle.coap_ends.specs.ClientSide.ClientRequests.{message_of}
+use Rattle.coap_ends.specs.ClientSide.ClientEffects.{Deed, Rests, Releases, Effect, runs, has_sent}
+use Rattle.coap_ends.specs.ClientSide.ClientEvents.{failed}
+use Rattle.coap_ends.specs.ClientSide.ClientPlaces.{places}
+use Rattle.coap_ends.specs.ClientSide.ClientSteps.{asking, reporting, requested}
+use Rattle.coap_ends.specs.ClientSide.ClientDeeds.{close, deeds}
+use Rattle.coap_ends.specs.ClientSide.ClientStep.{State, Led}
 use Rattle.coap_ends.specs.ClientObject.ClientSends.{Sends}
 
 -- What is asked for the effect, and then for what the sending makes of it (`sent`, `token` and `kept` are answered beneath), and

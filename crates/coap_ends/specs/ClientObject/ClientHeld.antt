@@ -1,9 +1,10 @@
 -- What the parts of a client's object add up to (RFC 7252, section 5.2).
 use Rattle.std.specs.Prelude.{map}
 use Rattle.std.specs.Option.{option_map}
-use Rattle.coap_ends.specs.WholeClient.ClientOwn.{Own}
+use Rattle.coap_ends.specs.ClientSide.ClientOwn.{Own}
 use Rattle.coap_ends.specs.declared.client.held.Held.{Held}
-use Rattle.coap_ends.specs.ClientObject.ClientShown.{shown_operation, shown_queued, shown_observation, shown_reported, shown_asked}
+use Rattle.coap_ends.specs.ClientObject.ClientShown.{shown_operation, shown_queued, shown_observation, shown_reported}
+use Rattle.coap_ends.specs.ClientObject.ClientShown.{shown_asked}
 
 module _ {A : Type 0} where
   abbrev pub own_of : Held A → Own

@@ -2,8 +2,11 @@
 use Rattle.std.specs.Prelude.{ℕ, List, Option, Some, None, Result, Ok, Err}
 use Rattle.std.specs.Option.{option_map}
 use Rattle.coap_ends.specs.declared.refusals.CallRefusal.{CallRefusal}
-use Rattle.coap_ends.specs.WholeClient.ClientTrace.{Report, Reported, Requested, Body, Valid, Done, Value, Ended, Cancelled, Failed, Timeout, Reset, NoResponse, Changed, BadBlock, NoTag, TooLarge, NoIds}
-use Rattle.coap_ends.specs.WholeClient.ClientOwn.{Operation, Calling, Registering, Fetching, Cancelling, Dropped, Notified, Observation}
+use Rattle.coap_ends.specs.ClientSide.ClientTrace.{Report, Reported, Requested, Body, Valid, Done, Value, Ended}
+use Rattle.coap_ends.specs.ClientSide.ClientTrace.{Cancelled, Failed, Timeout, Reset, NoResponse, Changed, BadBlock}
+use Rattle.coap_ends.specs.ClientSide.ClientTrace.{NoTag, TooLarge, NoIds}
+use Rattle.coap_ends.specs.ClientSide.ClientOwn.{Operation, Calling, Registering, Fetching, Cancelling, Dropped}
+use Rattle.coap_ends.specs.ClientSide.ClientOwn.{Notified, Observation}
 use Rattle.coap_ends.specs.declared.client.call_queue.Queued.{Queued}
 use Rattle.coap_ends.specs.declared.client.call_queue.Queued.TheVariants.{Starts, Cancels}
 use Rattle.coap_ends.specs.declared.client.operation.Operation as O

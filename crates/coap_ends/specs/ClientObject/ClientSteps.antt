@@ -10,11 +10,11 @@ use Rattle.coap_block.specs.FetchAnswer.{answer_of}
 use Rattle.coap_block.specs.FetchState.{FetchValue}
 use Rattle.coap_block.specs.FetchStep.{FetchState, after}
 use Rattle.coap_block.specs.UploadStep.{UploadState, UploadValue}
-use Rattle.coap_ends.specs.WholeClient.ClientTrace.{Reported}
-use Rattle.coap_ends.specs.WholeClient.ClientOwn.{Fetches, Uploads, Notified}
-use Rattle.coap_ends.specs.WholeClient.ClientCalls as calls
-use Rattle.coap_ends.specs.WholeClient.ClientEffects.{is_upload, of}
-use Rattle.coap_ends.specs.WholeClient.ClientResponses.{content, tag_in, part}
+use Rattle.coap_ends.specs.ClientSide.ClientTrace.{Reported}
+use Rattle.coap_ends.specs.ClientSide.ClientOwn.{Fetches, Uploads, Notified}
+use Rattle.coap_ends.specs.ClientSide.ClientCalls as calls
+use Rattle.coap_ends.specs.ClientSide.ClientEffects.{is_upload, of}
+use Rattle.coap_ends.specs.ClientSide.ClientResponses.{content, tag_in, part}
 use Rattle.coap_ends.specs.declared.client.heard.Heard as H
 use Rattle.coap_ends.specs.declared.client.heard.Heard.TheVariants as heard
 use Rattle.coap_ends.specs.declared.client.heard.Part as P

@@ -1,9 +1,9 @@
 -- What a tick starts (RFC 7252, section 4.7).
 use Rattle.std.specs.Prelude.{ℕ, Bool, false, not, ◌&&◌, List, [], ◌∷◌}
-use Rattle.coap_ends.specs.WholeClient.ClientOwn.{Operation, Own, clocked}
-use Rattle.coap_ends.specs.WholeClient.ClientEffects.{Effect, stays, runs}
-use Rattle.coap_ends.specs.WholeClient.ClientEvents.{idle, is_held, is_upload_op, starts}
-use Rattle.coap_ends.specs.WholeClient.ClientObservations.{to_fetch}
+use Rattle.coap_ends.specs.ClientSide.ClientOwn.{Operation, Own, clocked}
+use Rattle.coap_ends.specs.ClientSide.ClientEffects.{Effect, stays, runs}
+use Rattle.coap_ends.specs.ClientSide.ClientEvents.{idle, is_held, is_upload_op, starts}
+use Rattle.coap_ends.specs.ClientSide.ClientObservations.{to_fetch}
 
 -- the first of what waits runs
 abbrev pub first_runs : Own → List Operation → Effect

@@ -6,10 +6,10 @@ use Rattle.coap_layer.specs.Machine.Ups.{IsQuiet}
 use Rattle.coap_layer.specs.Trace.{Entry, Receive}
 use Rattle.coap_exchange.specs.declared.asker.Turn.TheVariants as turn
 use Rattle.coap_exchange.specs.AskerArrivals.{told, turn_of, verdict_on}
-use Rattle.coap_ends.specs.WholeClient.ClientDeeds.{at}
-use Rattle.coap_ends.specs.WholeClient.ClientEvents.{passes}
-use Rattle.coap_ends.specs.WholeClient.ClientSteps.{asks}
-use Rattle.coap_ends.specs.WholeClient.ClientStep.{State}
+use Rattle.coap_ends.specs.ClientSide.ClientDeeds.{at}
+use Rattle.coap_ends.specs.ClientSide.ClientEvents.{passes}
+use Rattle.coap_ends.specs.ClientSide.ClientSteps.{asks}
+use Rattle.coap_ends.specs.ClientSide.ClientStep.{State}
 
 -- what the message layer makes of the datagram
 abbrev pub received : State → ℕ → Endpoint → List ℕ → Entry

@@ -1,8 +1,8 @@
 -- How much is left to be done by a client at one moment (RFC 7252, sections 4.2, 4.7 and 5.2.2; RFC 7959, section 2.6).
 use Rattle.std.specs.Prelude.{ℕ, ◌+◌, ◌*◌, ◌==◌, ◌&&◌, max, not, Bool, false, Option, Some, is_some, length, filter}
 use Rattle.coap_ends.specs.StepsDue.{one_if, due_count}
-use Rattle.coap_ends.specs.WholeClient.ClientOwn.{Operation, Fetching, Observation, Own}
-use Rattle.coap_ends.specs.WholeClient.ClientStep.{State}
+use Rattle.coap_ends.specs.ClientSide.ClientOwn.{Operation, Fetching, Observation, Own}
+use Rattle.coap_ends.specs.ClientSide.ClientStep.{State}
 
 -- the rest of the observation's representation is being fetched, or it waits to be fetched
 

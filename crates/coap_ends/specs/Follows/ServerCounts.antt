@@ -1,13 +1,9 @@
 -- How often a server is handed a request: at most as often as its message layer hands it up (RFC 7252, section 5.2).
 use Rattle.std.specs.Prelude.{◌≤◌, ℕ, ◌+◌, Option, None, List, [], ◌∷◌}
-use Rattle.coap_types.specs.Past.{Always}
 use Rattle.coap_layer.specs.Trace as L
 use Rattle.coap_exchange.specs.declared.answerer.Asked.{Asked}
 use Rattle.coap_exchange.specs.AnswererFollows.{hits, same_asked}
 use Rattle.coap_exchange.specs.AnswererSteps.{asked_in, handed_up}
-use Rattle.coap_ends.specs.ServerTrace.{Call}
-use Rattle.coap_ends.specs.ServerLaw.{layer_of}
-use Rattle.coap_ends.specs.Follows.ServerFollows.{times_handed}
 
 -- the request that a call of the layer hands up
 abbrev pub asked_at : L.Call → L.Answer → Option Asked
@@ -18,7 +14,3 @@ asked_at _ answer = None
 abbrev pub ups : Asked → List L.Entry → ℕ
 ups a [] = 0
 ups a (e ∷ past) = hits (same_asked a) (asked_at e.call e.answer) + ups a past
-
--- At each call, what came of a request so far came up from the layer.
-abbrev pub Counted : ℕ → ℕ → ℕ → List Call → Type 0
-Counted limit szx word t = Always (λ past c. (a : Asked) → times_handed limit szx a (c ∷ past) ≤ ups a (layer_of limit szx word (c ∷ past))) t

@@ -2,7 +2,9 @@
 -- section 2.1).
 use Rattle.std.specs.Prelude.{ℕ, Option, List, ◌++◌}
 use Rattle.coap_types.specs.OptionValues.{option_with}
-use Rattle.coap_types.specs.declared.option_number.TheConstants.{ETAG as etag, OBSERVE as observe, CONTENT_FORMAT as content_format, BLOCK2 as block2, BLOCK1 as block1}
+use Rattle.coap_types.specs.declared.option_number.TheConstants.{ETAG as etag, OBSERVE as observe}
+use Rattle.coap_types.specs.declared.option_number.TheConstants.{CONTENT_FORMAT as content_format, BLOCK2 as block2}
+use Rattle.coap_types.specs.declared.option_number.TheConstants.{BLOCK1 as block1}
 use Rattle.coap_exchange.specs.AnswererTrace.{Response}
 
 -- ETag, Observe, Content-Format, Block2 and Block1, each where it has a value

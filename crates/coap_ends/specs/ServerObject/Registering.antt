@@ -5,8 +5,8 @@ use Rattle.coap_observe.specs.declared.observers.TheConstants.{MAX_OBSERVERS as 
 use Rattle.coap_resource.specs.RequestOptions.{block_of, szx_by}
 use Rattle.coap_resource.specs.Serves.{Question, Reply}
 use Rattle.coap_exchange.specs.declared.answerer.Asked.{Asked}
-use Rattle.coap_ends.specs.ClientReports.{content}
-use Rattle.coap_ends.specs.WholeServer.ServerObservers.{observes}
+use Rattle.coap_ends.specs.SuccessCodes.{content}
+use Rattle.coap_ends.specs.ServerSide.ServerObservers.{observes}
 
 abbrev pub may_register : Question → Reply → Bool
 may_register q reply = observes 0 q && ((reply.code == content) && (reply.offset == 0))

@@ -8,7 +8,7 @@ use Rattle.coap_types.specs.declared.role.Role.TheVariants as role
 use Rattle.coap_resource.specs.Serves.{Question}
 use Rattle.coap_ends.specs.declared.server.request_checks.Checked.{Checked}
 use Rattle.coap_ends.specs.declared.server.request_checks.Checked.TheVariants as checked
-use Rattle.coap_ends.specs.WholeServer.ServerChecks.{Verdict, Ignored, Refused, Asks, Uploads, asks}
+use Rattle.coap_ends.specs.ServerSide.ServerChecks.{Verdict, Ignored, Refused, Asks, Uploads, asks}
 
 abbrev pub asked_as : ℕ → Message → Method → List (List ℕ) → Question
 asked_as szx m method path = record { method = method; path = path; options = asks m; body = m.payload; szx = szx }

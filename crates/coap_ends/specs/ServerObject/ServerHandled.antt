@@ -12,14 +12,14 @@ use Rattle.coap_resource.specs.Serves as R
 use Rattle.coap_exchange.specs.declared.answerer.Asked.{Asked}
 use Rattle.coap_exchange.specs.AnswererLaw as X
 use Rattle.coap_exchange.specs.AnswererTrace as E
-use Rattle.coap_ends.specs.WholeServer.ServerTrace.{Applied, Own, Handling, Serves}
-use Rattle.coap_ends.specs.WholeServer.ServerAsks.{answering}
-use Rattle.coap_ends.specs.WholeServer.ServerUploads.{key_of, ruling_of}
-use Rattle.coap_ends.specs.WholeServer.ServerServing.{response_to, observers_served, applied_by}
-use Rattle.coap_ends.specs.WholeServer.ServerDeferring.{HandlesWhole, waiting_with}
-use Rattle.coap_ends.specs.WholeServer.ServerHandling.{HandlesBlock, HandlesCame}
-use Rattle.coap_ends.specs.WholeServer.ServerSteps.{came_after, handled}
-use Rattle.coap_ends.specs.WholeServer.ServerLed.{State, exchanges_of}
+use Rattle.coap_ends.specs.ServerSide.ServerTrace.{Applied, Own, Handling, Serves}
+use Rattle.coap_ends.specs.ServerSide.ServerAsks.{answering}
+use Rattle.coap_ends.specs.ServerSide.ServerUploads.{key_of, ruling_of}
+use Rattle.coap_ends.specs.ServerSide.ServerServing.{response_to, observers_served, applied_by}
+use Rattle.coap_ends.specs.ServerSide.ServerDeferring.{HandlesWhole, waiting_with}
+use Rattle.coap_ends.specs.ServerSide.ServerHandling.{HandlesBlock, HandlesCame}
+use Rattle.coap_ends.specs.ServerSide.ServerSteps.{came_after, handled}
+use Rattle.coap_ends.specs.ServerSide.ServerLed.{State, exchanges_of}
 
 -- A request is served: what the response carries, what was applied, and what is left of the store and the observers.
 pub record ServesRequest (store : Content) (observers : List Observer) (at : ℕ) (a : Asked) (q : Question) (response : E.Response) (applied : List Applied) (left : Content) (told : List Observer) : Type 0 where

@@ -10,8 +10,8 @@ use Rattle.coap_ends.specs.declared.server.parts.KeptOption.{KeptOption}
 use Rattle.coap_ends.specs.declared.server.parts.Waiting.{Waiting}
 use Rattle.coap_ends.specs.declared.server.parts.Applied.{Applied}
 use Rattle.coap_ends.specs.declared.server.parts.Parts.{Parts}
-use Rattle.coap_ends.specs.WholeServer.ServerTrace as T
-use Rattle.coap_ends.specs.WholeServer.ServerLed.{State}
+use Rattle.coap_ends.specs.ServerSide.ServerTrace as T
+use Rattle.coap_ends.specs.ServerSide.ServerLed.{State}
 
 abbrev pub delay_as : {A : Type 0} → Delay A → T.Delay
 delay_as d = record { path = d.path; ms = d.ms }

@@ -1,7 +1,7 @@
 -- The delays of paths, as contracts see them (a profile).
 use Rattle.std.specs.Prelude.{ℕ, List, map, filter, not}
 use Rattle.coap_types.specs.Path.{same_path}
-use Rattle.coap_ends.specs.WholeServer.ServerTrace as T
+use Rattle.coap_ends.specs.ServerSide.ServerTrace as T
 use Rattle.coap_ends.specs.declared.server.parts.Delay.{Delay}
 use Rattle.coap_ends.specs.ServerObject.ServerShown.{delay_as}
 

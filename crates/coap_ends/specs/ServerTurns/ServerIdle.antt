@@ -5,8 +5,8 @@ use Rattle.coap_layer.specs.Machine.State.{copies}
 use Rattle.coap_observe.specs.Observers.{Observer}
 use Rattle.coap_exchange.specs.AnswererLaw as X
 use Rattle.coap_exchange.specs.Machine.WhatIsDue.{takes_con, takes_response}
-use Rattle.coap_ends.specs.WholeServer.ServerNotifying.{marked}
-use Rattle.coap_ends.specs.WholeServer.ServerLed.{State, exchanges_of}
+use Rattle.coap_ends.specs.ServerSide.ServerNotifying.{marked}
+use Rattle.coap_ends.specs.ServerSide.ServerLed.{State, exchanges_of}
 
 -- one of those to which a notification is due can be notified
 abbrev pub takes_notice : X.State → ℕ → List Observer → Bool

@@ -2,11 +2,11 @@
 use Rattle.std.specs.Prelude.{◌≡◌, ℕ, Bool}
 use Rattle.coap_exchange.specs.declared.answerer.Due.{Due}
 use Rattle.coap_exchange.specs.AnswererLaw as X
-use Rattle.coap_ends.specs.WholeServer.ServerTrace.{Handling}
-use Rattle.coap_ends.specs.WholeServer.ServerAsks.{responding}
-use Rattle.coap_ends.specs.WholeServer.ServerHandling.{HandlesDue, is_done}
-use Rattle.coap_ends.specs.WholeServer.ServerSteps.{due_after}
-use Rattle.coap_ends.specs.WholeServer.ServerLed.{State, exchanges_of}
+use Rattle.coap_ends.specs.ServerSide.ServerTrace.{Handling}
+use Rattle.coap_ends.specs.ServerSide.ServerAsks.{responding}
+use Rattle.coap_ends.specs.ServerSide.ServerHandling.{HandlesDue, is_done}
+use Rattle.coap_ends.specs.ServerSide.ServerSteps.{due_after}
+use Rattle.coap_ends.specs.ServerSide.ServerLed.{State, exchanges_of}
 
 -- what becomes of what is due, what is asked of the exchanges, whether something was done, and what is left
 pub record IsTurned (s : State) (d : Due) (word : ℕ) (answer : Bool) (new : State) : Type 0 where

@@ -1,9 +1,9 @@
 -- How much is left to be done at one moment (RFC 7252, sections 4.2 and 5.2.2; RFC 7641, section 4.5).
 use Rattle.std.specs.Prelude.{ℕ, ◌+◌, ◌*◌, max, List, length}
 use Rattle.coap_ends.specs.StepsDue.{due_count}
-use Rattle.coap_ends.specs.WholeServer.ServerNotifying.{marked}
-use Rattle.coap_ends.specs.WholeServer.ServerTrace.{Call}
-use Rattle.coap_ends.specs.WholeServer.ServerLed.{State, Led}
+use Rattle.coap_ends.specs.ServerSide.ServerNotifying.{marked}
+use Rattle.coap_ends.specs.ServerSide.ServerTrace.{Call}
+use Rattle.coap_ends.specs.ServerSide.ServerLed.{State, Led}
 
 -- The CONs with a step that is due then; the observers that are marked; and the requests that wait, each for a change that
 -- can mark all 64 observers.

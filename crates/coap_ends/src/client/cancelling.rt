@@ -1,7 +1,7 @@
 //! How an observation is cancelled (RFC 7641, section 3.6).
 ghost use Rattle.coap_exchange.specs.AskerLaw as X;
-ghost use Rattle.coap_ends.specs.WholeClient.ClientStep.{Step};
-ghost use Rattle.coap_ends.specs.WholeClient.ClientTrace.{Cancels};
+ghost use Rattle.coap_ends.specs.ClientSide.ClientStep.{Step};
+ghost use Rattle.coap_ends.specs.ClientSide.ClientTrace.{Cancels};
 ghost use Rattle.coap_ends.specs.ClientObject.ClientHappens.{left};
 ghost use Rattle.coap_ends.specs.ClientObject.ClientHeld.{own_of};
 ghost use Rattle.coap_ends.specs.ClientObject.CallAnswers.{refusal_in};

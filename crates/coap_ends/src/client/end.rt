@@ -11,8 +11,8 @@ impl<A: Allocator + Copy, H: BuildHasher> End<A> for Client<A, H> {
     ghost use Rattle.coap_exchange.specs.declared.asker.AskRefusal.{AskRefusal};
     ghost use Rattle.coap_exchange.specs.declared.asker.Event.{Event};
     ghost use Rattle.coap_exchange.specs.declared.asker.Turn.{Turn};
-    ghost use Rattle.coap_ends.specs.WholeClient.ClientStep.{State as ClientState, Step};
-    ghost use Rattle.coap_ends.specs.WholeClient.ClientTrace.{Feeds, NextOut, Ticks};
+    ghost use Rattle.coap_ends.specs.ClientSide.ClientStep.{State as ClientState, Step};
+    ghost use Rattle.coap_ends.specs.ClientSide.ClientTrace.{Feeds, NextOut, Ticks};
     ghost use Rattle.coap_ends.specs.ClientTurns.ClientWork.{work as work_left};
 
     ghost State = { ClientState };

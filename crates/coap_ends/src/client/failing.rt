@@ -2,11 +2,11 @@
 ghost use Rattle.std.specs.Prelude.{◌≡◌, ◌<◌, Some, if◌then◌else◌};
 ghost use Rattle.std.specs.Option.{option_map};
 ghost use Rattle.std.specs.VecDeque.{deque_len, deque_capacity};
-ghost use Rattle.coap_ends.specs.WholeClient.ClientEffects.{ends, held_by, of};
-ghost use Rattle.coap_ends.specs.WholeClient.ClientObserving.{is_over, releases};
-ghost use Rattle.coap_ends.specs.WholeClient.ClientOwn.{Operation as Running, Dropped, operation_number};
-ghost use Rattle.coap_ends.specs.WholeClient.ClientObservations.{dropped, observation_of, over};
-ghost use Rattle.coap_ends.specs.WholeClient.ClientSteps.{reporting};
+ghost use Rattle.coap_ends.specs.ClientSide.ClientEffects.{ends, held_by, of};
+ghost use Rattle.coap_ends.specs.ClientSide.ClientObserving.{is_over, releases};
+ghost use Rattle.coap_ends.specs.ClientSide.ClientOwn.{Operation as Running, Dropped, operation_number};
+ghost use Rattle.coap_ends.specs.ClientSide.ClientObservations.{dropped, observation_of, over};
+ghost use Rattle.coap_ends.specs.ClientSide.ClientSteps.{reporting};
 ghost use Rattle.coap_ends.specs.ClientObject.ClientHappens.{failing, left, releasing, Apart, IsDone, Closes};
 ghost use Rattle.coap_ends.specs.ClientObject.ClientHeld.{own_of};
 ghost use Rattle.coap_ends.specs.ClientObject.ClientShown.{shown_asked, shown_operation, shown_report};

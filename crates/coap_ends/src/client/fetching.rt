@@ -1,8 +1,8 @@
 //! A Block2 transfer of a call, and of an observation (RFC 7959, sections 2.4 and 2.6).
 ghost use Rattle.std.specs.Prelude.{◌≡◌, ℕ, IfOk, OnErr, Some};
-ghost use Rattle.coap_ends.specs.WholeClient.ClientCalls.{got, fetched};
-ghost use Rattle.coap_ends.specs.WholeClient.ClientReports.{refused};
-ghost use Rattle.coap_ends.specs.WholeClient.ClientResponses.{format_in, part, tag_in};
+ghost use Rattle.coap_ends.specs.ClientSide.ClientCalls.{got, fetched};
+ghost use Rattle.coap_ends.specs.ClientSide.ClientReports.{refused};
+ghost use Rattle.coap_ends.specs.ClientSide.ClientResponses.{format_in, part, tag_in};
 ghost use Rattle.coap_ends.specs.ClientObject.CallShown.{shown_request};
 ghost use Rattle.coap_ends.specs.ClientObject.ClientShown.{shown_report};
 ghost use Rattle.coap_ends.specs.ClientObject.ClientSteps.{HearsFetch};

@@ -1,8 +1,8 @@
 //! How an observation is forgotten (RFC 7641, section 3.6).
 ghost use Rattle.std.specs.Prelude.{◌≡◌, ◌==◌, Bool, not, filter, map};
-ghost use Rattle.coap_ends.specs.WholeClient.ClientQueue.{may_forget};
-ghost use Rattle.coap_ends.specs.WholeClient.ClientStep.{Step};
-ghost use Rattle.coap_ends.specs.WholeClient.ClientTrace.{Forgets};
+ghost use Rattle.coap_ends.specs.ClientSide.ClientQueue.{may_forget};
+ghost use Rattle.coap_ends.specs.ClientSide.ClientStep.{Step};
+ghost use Rattle.coap_ends.specs.ClientSide.ClientTrace.{Forgets};
 ghost use Rattle.coap_ends.specs.ClientObject.ClientHappens.{left};
 ghost use Rattle.coap_ends.specs.ClientObject.ClientHeld.{own_of};
 ghost use Rattle.coap_ends.specs.ClientObject.ClientShown.{shown_reported};

@@ -1,10 +1,10 @@
 //! What a datagram makes of a client (RFC 7252, sections 4.2, 5.2 and 5.3.2).
 ghost use Rattle.std.specs.Prelude.{◌≡◌, ◌<◌, ℕ, true, None, Some, IfOk, IsOk, IsSome, OnOk, OnErr};
 ghost use Rattle.std.specs.VecDeque.{deque_len, deque_capacity};
-ghost use Rattle.coap_ends.specs.WholeClient.ClientCalls.{answer};
-ghost use Rattle.coap_ends.specs.WholeClient.ClientEffects.{runs};
-ghost use Rattle.coap_ends.specs.WholeClient.ClientEvents.{answered, called, failed, happened};
-ghost use Rattle.coap_ends.specs.WholeClient.ClientOwn.{Calling, Transfer, clocked};
+ghost use Rattle.coap_ends.specs.ClientSide.ClientCalls.{answer};
+ghost use Rattle.coap_ends.specs.ClientSide.ClientEffects.{runs};
+ghost use Rattle.coap_ends.specs.ClientSide.ClientEvents.{answered, called, failed, happened};
+ghost use Rattle.coap_ends.specs.ClientSide.ClientOwn.{Calling, Transfer, clocked};
 ghost use Rattle.coap_ends.specs.ClientObject.ClientHappens.{Apart, Comes, Happens, Watched, left, running};
 ghost use Rattle.coap_ends.specs.ClientObject.ClientHeld.{own_of};
 ghost use Rattle.coap_ends.specs.ClientObject.ClientShown.{shown_asked, shown_report};

@@ -1,5 +1,5 @@
 ghost use Rattle.std.specs.Prelude.{◌≡◌};
-ghost use Rattle.coap_ends.specs.WholeClient.ClientOwn.{start};
+ghost use Rattle.coap_ends.specs.ClientSide.ClientOwn.{start};
 ghost use Rattle.coap_ends.specs.ClientObject.ClientHeld.{own_of};
 
 use crate::client::call_queue::Queue;

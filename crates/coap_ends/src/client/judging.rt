@@ -1,7 +1,7 @@
 //! Whether a client takes a call, an observation or a cancel.
 ghost use Rattle.std.specs.Prelude.{◌≡◌, ◌≢◌, ◌<◌, ◌^◌, ◌-◌, false, length, Err, IfOk, OnOk};
 ghost use Rattle.coap_ends.specs.declared.refusals.CallRefusal.TheVariants as refusals;
-ghost use Rattle.coap_ends.specs.WholeClient.ClientQueue.{call_answer, observe_answer, taken_by};
+ghost use Rattle.coap_ends.specs.ClientSide.ClientQueue.{call_answer, observe_answer, taken_by};
 ghost use Rattle.coap_ends.specs.ClientObject.CallShown.{is_long, is_long_path, shown_request};
 ghost use Rattle.coap_ends.specs.ClientObject.ClientHeld.{own_of};
 

@@ -1,7 +1,7 @@
 //! The request that a client sent last.
 ghost use Rattle.coap_exchange.specs.AskerLaw as exchange;
-ghost use Rattle.coap_ends.specs.WholeClient.ClientStep.{Step};
-ghost use Rattle.coap_ends.specs.WholeClient.ClientTrace.{Asked};
+ghost use Rattle.coap_ends.specs.ClientSide.ClientStep.{Step};
+ghost use Rattle.coap_ends.specs.ClientSide.ClientTrace.{Asked};
 ghost use Rattle.coap_ends.specs.ClientObject.ClientHappens.{left};
 ghost use Rattle.coap_ends.specs.ClientObject.ClientHeld.{own_of};
 ghost use Rattle.coap_ends.specs.ClientObject.ClientShown.{shown_asked};

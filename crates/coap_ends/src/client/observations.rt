@@ -1,13 +1,13 @@
 //! The live observations of a client (RFC 7641, section 3.2).
 ghost use Rattle.std.specs.Prelude.{◌≡◌, ◌≤◌, ◌==◌, not, filter, length, map, if◌then◌else◌, IfSome, IfNone, Some, None};
 ghost use Rattle.std.specs.Option.{option_map};
-ghost use Rattle.coap_ends.specs.WholeClient.ClientObservations.{fetch_of, observation_of, observation_with, observed_path, rest_of, token_of, with_rest};
-ghost use Rattle.coap_ends.specs.WholeClient.ClientOwn.{Observation as Observed};
-ghost use Rattle.coap_ends.specs.WholeClient.ClientRequests.{block2_option};
+ghost use Rattle.coap_ends.specs.ClientSide.ClientObservations.{fetch_of, observation_of, observation_with, observed_path, rest_of, token_of, with_rest};
+ghost use Rattle.coap_ends.specs.ClientSide.ClientOwn.{Observation as Observed};
+ghost use Rattle.coap_ends.specs.ClientSide.ClientRequests.{block2_option};
 ghost use Rattle.coap_types.specs.OptionValues.{option_with};
 ghost use Rattle.coap_types.specs.Path.{segments_of};
 ghost use Rattle.coap_ends.specs.ClientObject.CallShown.{IsFew, IsShortPath};
-ghost use Rattle.coap_ends.specs.WholeClient.ClientPlaces.{in_observations};
+ghost use Rattle.coap_ends.specs.ClientSide.ClientPlaces.{in_observations};
 ghost use Rattle.coap_ends.specs.ClientObject.ClientShown.{shown_observation, shown_rest};
 
 use crate::client::operation::{Notified, Observation};

@@ -3,8 +3,8 @@
 ghost use Rattle.std.specs.Prelude.{◌≡◌, ◌≤◌, ◌+◌, nat_le, filter, length, map, option_to_list};
 ghost use Rattle.std.specs.List.{list_any};
 ghost use Rattle.std.specs.Option.{option_map};
-ghost use Rattle.coap_ends.specs.WholeClient.ClientObservations.{is_cancel_of, is_cancelled, is_live};
-ghost use Rattle.coap_ends.specs.WholeClient.ClientQueue.{is_registration, observed};
+ghost use Rattle.coap_ends.specs.ClientSide.ClientObservations.{is_cancel_of, is_cancelled, is_live};
+ghost use Rattle.coap_ends.specs.ClientSide.ClientQueue.{is_registration, observed};
 ghost use Rattle.coap_ends.specs.ClientObject.ClientHeld.{own_of};
 ghost use Rattle.coap_ends.specs.ClientObject.ClientShown.{shown_operation, shown_waiting};
 ghost use Rattle.coap_ends.specs.ClientObject.CallAnswers.{has_number};

@@ -1,8 +1,8 @@
 ghost use Rattle.std.specs.Prelude.{◌≡◌, ◌<◌};
 ghost use Rattle.std.specs.VecDeque.{deque_len, deque_capacity};
-ghost use Rattle.coap_ends.specs.WholeClient.ClientEffects.{Rests, of};
-ghost use Rattle.coap_ends.specs.WholeClient.ClientReports.{done};
-ghost use Rattle.coap_ends.specs.WholeClient.ClientSteps.{reporting};
+ghost use Rattle.coap_ends.specs.ClientSide.ClientEffects.{Rests, of};
+ghost use Rattle.coap_ends.specs.ClientSide.ClientReports.{done};
+ghost use Rattle.coap_ends.specs.ClientSide.ClientSteps.{reporting};
 ghost use Rattle.coap_ends.specs.ClientObject.ClientHeld.{own_of};
 ghost use Rattle.coap_ends.specs.ClientObject.ClientShown.{shown_report, reported};
 

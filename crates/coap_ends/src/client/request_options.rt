@@ -6,9 +6,9 @@ ghost use Rattle.coap_types.specs.OptionValues.{option_with};
 ghost use Rattle.coap_types.specs.Path.{segments_of};
 ghost use Rattle.coap_types.specs.Uint.{uint};
 ghost use Rattle.coap_codec.specs.Spelling.{options_bytes};
-ghost use Rattle.coap_ends.specs.WholeClient.ClientQueue.{block_number};
-ghost use Rattle.coap_ends.specs.WholeClient.ClientRequests.{after_path, before_path, options_of, path_options};
-ghost use Rattle.coap_ends.specs.WholeClient.ClientTrace.{Request as Asking};
+ghost use Rattle.coap_ends.specs.ClientSide.ClientQueue.{block_number};
+ghost use Rattle.coap_ends.specs.ClientSide.ClientRequests.{after_path, before_path, options_of, path_options};
+ghost use Rattle.coap_ends.specs.ClientSide.ClientTrace.{Request as Asking};
 ghost use Rattle.coap_ends.specs.ClientObject.CallShown.{IsGood, is_long, is_long_path, shown_request, told as told_value, told_number};
 
 use crate::MAX_OPTIONS_LEN;

@@ -3,7 +3,7 @@ ghost use Rattle.std.specs.Prelude.{◌≡◌, option_copied, if◌then◌else�
 ghost use Rattle.coap_block.specs.FetchState.{FetchValue};
 ghost use Rattle.coap_block.specs.FetchStep.{after};
 ghost use Rattle.coap_types.specs.OptionValues.{value_of};
-ghost use Rattle.coap_ends.specs.WholeClient.ClientResponses.{said, tag_in, format_in, is_notification, sequence_in, block_at, part};
+ghost use Rattle.coap_ends.specs.ClientSide.ClientResponses.{said, tag_in, format_in, is_notification, sequence_in, block_at, part};
 ghost use Rattle.coap_ends.specs.ClientObject.ClientSteps.{Takes, CanGoBack};
 
 use coap_block::{Fetch, FetchRefusal, Step};

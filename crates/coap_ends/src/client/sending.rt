@@ -2,10 +2,10 @@ ghost use Rattle.std.specs.Prelude.{◌≡◌, ◌++◌, ℕ, List, map, option_
 ghost use Rattle.std.specs.Option.{option_map};
 ghost use Rattle.coap_types.specs.OptionValues.{option_with};
 ghost use Rattle.coap_types.specs.Path.{segments_of};
-ghost use Rattle.coap_ends.specs.WholeClient.ClientOwn.{Observation as Observed, Registering, Fetching, Cancelling};
+ghost use Rattle.coap_ends.specs.ClientSide.ClientOwn.{Observation as Observed, Registering, Fetching, Cancelling};
 ghost use Rattle.coap_ends.specs.ClientObject.CallShown.{IsFew, IsShortPath};
 ghost use Rattle.coap_exchange.specs.Machine.AskerShown.{IsAskable};
-ghost use Rattle.coap_ends.specs.WholeClient.ClientRequests.{get, message_of, path_options};
+ghost use Rattle.coap_ends.specs.ClientSide.ClientRequests.{get, message_of, path_options};
 ghost use Rattle.coap_ends.specs.ClientObject.ClientSends.{Sends};
 ghost use Rattle.coap_ends.specs.ClientObject.ClientShown.{shown_observation};
 

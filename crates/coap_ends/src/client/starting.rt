@@ -4,11 +4,11 @@ ghost use Rattle.std.specs.Prelude.{◌≡◌, ◌<◌, ◌≤◌, ℕ, List, No
 ghost use Rattle.std.specs.Option.{option_map};
 ghost use Rattle.std.specs.VecDeque.{deque_len, deque_capacity};
 ghost use Rattle.coap_exchange.specs.AskerLaw as exchange;
-ghost use Rattle.coap_ends.specs.WholeClient.ClientEffects.{runs, stays};
-ghost use Rattle.coap_ends.specs.WholeClient.ClientEvents.{idle, is_held, is_upload_op, starts};
-ghost use Rattle.coap_ends.specs.WholeClient.ClientObservations.{to_fetch};
-ghost use Rattle.coap_ends.specs.WholeClient.ClientOwn.{Observation as Observed, Own, clocked};
-ghost use Rattle.coap_ends.specs.WholeClient.ClientRequests.{message_of};
+ghost use Rattle.coap_ends.specs.ClientSide.ClientEffects.{runs, stays};
+ghost use Rattle.coap_ends.specs.ClientSide.ClientEvents.{idle, is_held, is_upload_op, starts};
+ghost use Rattle.coap_ends.specs.ClientSide.ClientObservations.{to_fetch};
+ghost use Rattle.coap_ends.specs.ClientSide.ClientOwn.{Observation as Observed, Own, clocked};
+ghost use Rattle.coap_ends.specs.ClientSide.ClientRequests.{message_of};
 ghost use Rattle.coap_ends.specs.ClientObject.ClientHappens.{Apart, Comes, left, running};
 ghost use Rattle.coap_ends.specs.ClientObject.ClientHeld.{own_of};
 ghost use Rattle.coap_ends.specs.ClientObject.ClientSends.{Sends};

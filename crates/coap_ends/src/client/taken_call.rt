@@ -1,9 +1,9 @@
 ghost use Rattle.std.specs.Prelude.{◌≡◌, ℕ, Bool, false, [], List, Some, IsSome, IfOk, OnErr};
-ghost use Rattle.coap_ends.specs.WholeClient.ClientCalls.{answer};
-ghost use Rattle.coap_ends.specs.WholeClient.ClientEffects.{is_upload, has_sent};
-ghost use Rattle.coap_ends.specs.WholeClient.ClientOwn.{Observation, Calling};
-ghost use Rattle.coap_ends.specs.WholeClient.ClientQueue.{transfer_of};
-ghost use Rattle.coap_ends.specs.WholeClient.ClientRequests.{message_of};
+ghost use Rattle.coap_ends.specs.ClientSide.ClientCalls.{answer};
+ghost use Rattle.coap_ends.specs.ClientSide.ClientEffects.{is_upload, has_sent};
+ghost use Rattle.coap_ends.specs.ClientSide.ClientOwn.{Observation, Calling};
+ghost use Rattle.coap_ends.specs.ClientSide.ClientQueue.{transfer_of};
+ghost use Rattle.coap_ends.specs.ClientSide.ClientRequests.{message_of};
 ghost use Rattle.coap_ends.specs.ClientObject.CallShown.{is_long, shown_request};
 ghost use Rattle.coap_ends.specs.ClientObject.ClientSends.{Sends};
 ghost use Rattle.coap_ends.specs.ClientObject.ClientSteps.{Hears};

@@ -2,10 +2,10 @@
 ghost use Rattle.std.specs.Prelude.{◌≡◌, ◌≢◌, ◌<◌, ◌^◌, ◌-◌, false, is_ok, Err, Ok, IfOk, OnErr, OnOk, length};
 ghost use Rattle.coap_exchange.specs.AskerLaw as X;
 ghost use Rattle.coap_ends.specs.declared.refusals.CallRefusal.TheVariants as refusals;
-ghost use Rattle.coap_ends.specs.WholeClient.ClientDeeds.{at};
-ghost use Rattle.coap_ends.specs.WholeClient.ClientQueue.{call_answer, numbered, observe_answer};
-ghost use Rattle.coap_ends.specs.WholeClient.ClientStep.{Step};
-ghost use Rattle.coap_ends.specs.WholeClient.ClientTrace.{Calls, Observes};
+ghost use Rattle.coap_ends.specs.ClientSide.ClientDeeds.{at};
+ghost use Rattle.coap_ends.specs.ClientSide.ClientQueue.{call_answer, numbered, observe_answer};
+ghost use Rattle.coap_ends.specs.ClientSide.ClientStep.{Step};
+ghost use Rattle.coap_ends.specs.ClientSide.ClientTrace.{Calls, Observes};
 ghost use Rattle.coap_ends.specs.ClientObject.CallShown.{is_long, is_long_path, shown_request};
 ghost use Rattle.coap_ends.specs.ClientObject.ClientHappens.{left};
 ghost use Rattle.coap_ends.specs.ClientObject.ClientHeld.{own_of};

@@ -3,8 +3,8 @@ ghost use Rattle.std.specs.Prelude.{◌≡◌, ℕ, Bool, List, Result, IfOk, Is
 ghost use Rattle.coap_layer.specs.Trace as L;
 ghost use Rattle.coap_exchange.specs.declared.asker.AskRefusal.{AskRefusal};
 ghost use Rattle.coap_exchange.specs.declared.asker.Turn.{Turn as Due};
-ghost use Rattle.coap_ends.specs.WholeClient.ClientStep.{Step};
-ghost use Rattle.coap_ends.specs.WholeClient.ClientTrace.{Ticks};
+ghost use Rattle.coap_ends.specs.ClientSide.ClientStep.{Step};
+ghost use Rattle.coap_ends.specs.ClientSide.ClientTrace.{Ticks};
 ghost use Rattle.coap_ends.specs.ClientObject.ClientHappens.{Apart, left};
 ghost use Rattle.coap_ends.specs.ClientObject.ClientHeld.{own_of};
 ghost use Rattle.coap_ends.specs.ClientTurns.ClientQuiet.{IsIdle};

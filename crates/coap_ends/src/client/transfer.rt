@@ -1,7 +1,7 @@
 ghost use Rattle.std.specs.Prelude.{◌≡◌, ◌≤◌, length};
 ghost use Rattle.coap_types.specs.Piece.{part_of};
 ghost use Rattle.coap_types.specs.OptionValues.{option_with};
-ghost use Rattle.coap_ends.specs.WholeClient.ClientRequests.{block_option, block2_option, payload_of};
+ghost use Rattle.coap_ends.specs.ClientSide.ClientRequests.{block_option, block2_option, payload_of};
 ghost use Rattle.coap_ends.specs.ClientObject.CallShown.{IsFew, block_of, shown_transfer};
 
 use crate::client::uploading::is_longer;

@@ -1,9 +1,9 @@
 //! A Block1 transfer of a call (RFC 7959, section 2.5).
 ghost use Rattle.std.specs.Prelude.{◌≡◌};
-ghost use Rattle.coap_ends.specs.WholeClient.ClientCalls.{sent, continued};
-ghost use Rattle.coap_ends.specs.WholeClient.ClientResponses.{block_at};
+ghost use Rattle.coap_ends.specs.ClientSide.ClientCalls.{sent, continued};
+ghost use Rattle.coap_ends.specs.ClientSide.ClientResponses.{block_at};
 ghost use Rattle.coap_types.specs.declared.option_number.TheConstants.{BLOCK1 as block1};
-ghost use Rattle.coap_ends.specs.WholeClient.ClientRequests.{is_longer};
+ghost use Rattle.coap_ends.specs.ClientSide.ClientRequests.{is_longer};
 ghost use Rattle.coap_ends.specs.ClientObject.ClientSteps.{HearsUpload};
 
 use crate::client::heard::Heard;

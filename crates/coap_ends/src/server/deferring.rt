@@ -5,7 +5,7 @@ ghost use Rattle.coap_resource.specs.Serves.{question_of};
 ghost use Rattle.coap_exchange.specs.AnswererLaw.{Step};
 ghost use Rattle.coap_exchange.specs.AnswererTrace.{Defers};
 ghost use Rattle.coap_exchange.specs.Machine.AnswererShown.{MayAnswer};
-ghost use Rattle.coap_ends.specs.WholeServer.ServerDeferring.{delay_for, delay_of};
+ghost use Rattle.coap_ends.specs.ServerSide.ServerDeferring.{delay_for, delay_of};
 ghost use Rattle.coap_ends.specs.ServerObject.ServerHandled.{IsWhole, ServesNow};
 ghost use Rattle.coap_ends.specs.ServerObject.ServerShown.{delay_as, kept_of, option_as, seen, waiting_as};
 

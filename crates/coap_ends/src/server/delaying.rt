@@ -1,8 +1,8 @@
 //! The delays of paths (RFC 7252, section 5.2.2; that a path has one is a profile).
 ghost use Rattle.std.specs.Prelude.{◌≡◌, ◌≢◌, ◌≤◌, ◌<◌, ◌++◌, ◌∷◌, [], true, false, Err, is_ok, is_some, length, slice_get, IfSome, IfNone, IfOk, IsOk, OnErr, OnOk, vec_len, vec_capacity};
-ghost use Rattle.coap_ends.specs.WholeServer.ServerDeferring.{delay_of, delays_with, may_delay};
-ghost use Rattle.coap_ends.specs.WholeServer.ServerLed.{Step};
-ghost use Rattle.coap_ends.specs.WholeServer.ServerTrace.{Delays};
+ghost use Rattle.coap_ends.specs.ServerSide.ServerDeferring.{delay_of, delays_with, may_delay};
+ghost use Rattle.coap_ends.specs.ServerSide.ServerLed.{Step};
+ghost use Rattle.coap_ends.specs.ServerSide.ServerTrace.{Delays};
 ghost use Rattle.coap_ends.specs.ServerObject.ServerShown.{kept_of, seen};
 ghost use Rattle.coap_ends.specs.ServerTurns.DelaysShown.{delays_as, delays_of_others};
 ghost use Rattle.coap_ends.specs.declared.server.delaying.DelayRefusal.TheVariants.{Full, Memory};

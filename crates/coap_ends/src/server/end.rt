@@ -12,8 +12,8 @@ impl<S: Store<A>, A: Allocator + Copy, H: BuildHasher> End<A> for Server<S, A, H
     ghost use Rattle.coap_layer.specs.Trace.{Answer};
     ghost use Rattle.coap_exchange.specs.declared.answerer.Asked.{Asked};
     ghost use Rattle.coap_exchange.specs.declared.answerer.Due.{Due};
-    ghost use Rattle.coap_ends.specs.WholeServer.ServerLed.{State as ServerState, Step};
-    ghost use Rattle.coap_ends.specs.WholeServer.ServerTrace.{Feeds, Handling, NextOut, Ticks};
+    ghost use Rattle.coap_ends.specs.ServerSide.ServerLed.{State as ServerState, Step};
+    ghost use Rattle.coap_ends.specs.ServerSide.ServerTrace.{Feeds, Handling, NextOut, Ticks};
     ghost use Rattle.coap_ends.specs.ServerObject.ServerShown.{state_of};
     ghost use Rattle.coap_ends.specs.ServerTurns.ServerWork.{work as work_left};
 

@@ -9,7 +9,7 @@ ghost use Rattle.coap_types.specs.declared.role.Role.TheVariants as role;
 ghost use Rattle.coap_resource.specs.ResponseOptions.{Fits, block_number};
 ghost use Rattle.coap_resource.specs.Serves.{reply_of};
 ghost use Rattle.coap_exchange.specs.Machine.AnswererShown.{IsAnswerWith};
-ghost use Rattle.coap_ends.specs.WholeServer.ServerResponses.{response_with};
+ghost use Rattle.coap_ends.specs.ServerSide.ServerResponses.{response_with};
 ghost use Rattle.coap_ends.specs.ServerObject.FullResponses.{response_as};
 
 use crate::server::option_list::OptionList;

@@ -3,9 +3,9 @@ ghost use Rattle.std.specs.Prelude.{◌≡◌, ◌≢◌, Err, length};
 ghost use Rattle.coap_resource.specs.declared.refusal.StoreRefusal.TheVariants.{Memory};
 ghost use Rattle.coap_resource.specs.Content.{put_refusal};
 ghost use Rattle.coap_resource.specs.Rate.{rate_refusal};
-ghost use Rattle.coap_ends.specs.WholeServer.ServerLed.{Step};
-ghost use Rattle.coap_ends.specs.WholeServer.ServerLocal.{RemovesBy, SetsBy};
-ghost use Rattle.coap_ends.specs.WholeServer.ServerTrace.{Removes, Sets};
+ghost use Rattle.coap_ends.specs.ServerSide.ServerLed.{Step};
+ghost use Rattle.coap_ends.specs.ServerSide.ServerLocal.{RemovesBy, SetsBy};
+ghost use Rattle.coap_ends.specs.ServerSide.ServerTrace.{Removes, Sets};
 ghost use Rattle.coap_ends.specs.ServerObject.ServerShown.{kept_of, seen};
 
 use crate::server::moments::later;

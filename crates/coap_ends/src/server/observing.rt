@@ -3,7 +3,7 @@ ghost use Rattle.coap_types.specs.CoapOption.{options_of};
 ghost use Rattle.coap_types.specs.OptionValues.{uint_at};
 ghost use Rattle.coap_resource.specs.RequestOptions.{block_of, szx_by};
 ghost use Rattle.coap_resource.specs.Serves.{question_of, reply_of};
-ghost use Rattle.coap_ends.specs.WholeServer.ServerObservers.{observers_with, observes, registers, sequence, sequence_if};
+ghost use Rattle.coap_ends.specs.ServerSide.ServerObservers.{observers_with, observes, registers, sequence, sequence_if};
 ghost use Rattle.coap_ends.specs.ServerObject.Registering.{has_place, may_register, registered_by};
 
 use coap_exchange::Asked;

@@ -6,7 +6,7 @@ ghost use Rattle.coap_exchange.specs.declared.answerer.Due.TheVariants as dues;
 ghost use Rattle.coap_exchange.specs.AnswererLaw.{Step};
 ghost use Rattle.coap_exchange.specs.AnswererTrace.{Responds};
 ghost use Rattle.coap_exchange.specs.Machine.AnswererShown.{MayRespond};
-ghost use Rattle.coap_ends.specs.WholeServer.ServerDeferring.{is_of, question_of, without_waiting};
+ghost use Rattle.coap_ends.specs.ServerSide.ServerDeferring.{is_of, question_of, without_waiting};
 ghost use Rattle.coap_ends.specs.ServerObject.ServerHandled.{ServesRequest};
 ghost use Rattle.coap_ends.specs.ServerObject.ServerShown.{applied_list, kept_of, option_as, seen, waiting_as};
 ghost use Rattle.coap_ends.specs.ServerTurns.ServerTurned.{IsTurned};

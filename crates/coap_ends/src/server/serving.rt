@@ -4,9 +4,9 @@ ghost use Rattle.coap_types.specs.BlockValue.{block_value};
 ghost use Rattle.coap_types.specs.CoapOption.{options_of};
 ghost use Rattle.coap_observe.specs.Observers.{changed_at};
 ghost use Rattle.coap_resource.specs.Serves.{question_of};
-ghost use Rattle.coap_ends.specs.WholeServer.ServerObservers.{is_get};
-ghost use Rattle.coap_ends.specs.WholeServer.ServerServing.{is_applied};
-ghost use Rattle.coap_ends.specs.WholeServer.ServerUploads.{last_block};
+ghost use Rattle.coap_ends.specs.ServerSide.ServerObservers.{is_get};
+ghost use Rattle.coap_ends.specs.ServerSide.ServerServing.{is_applied};
+ghost use Rattle.coap_ends.specs.ServerSide.ServerUploads.{last_block};
 ghost use Rattle.coap_ends.specs.ServerObject.ServerHandled.{ServesRequest};
 ghost use Rattle.coap_ends.specs.ServerObject.ServerShown.{applied_list};
 

@@ -7,8 +7,8 @@ ghost use Rattle.coap_exchange.specs.declared.answerer.Asked.{Asked as AskedSpec
 ghost use Rattle.coap_exchange.specs.declared.answerer.Due.{Due as DueSpec};
 ghost use Rattle.coap_exchange.specs.declared.answerer.Due.TheVariants as dues;
 ghost use Rattle.coap_exchange.specs.Machine.AnswererShown.{MayRespond};
-ghost use Rattle.coap_ends.specs.WholeServer.ServerLed.{Step};
-ghost use Rattle.coap_ends.specs.WholeServer.ServerTrace.{Handling, Ticks};
+ghost use Rattle.coap_ends.specs.ServerSide.ServerLed.{Step};
+ghost use Rattle.coap_ends.specs.ServerSide.ServerTrace.{Handling, Ticks};
 ghost use Rattle.coap_ends.specs.ServerObject.ServerShown.{kept_of, seen};
 ghost use Rattle.coap_ends.specs.ServerTurns.ServerIdle.{IsIdle, moment, takes_notice};
 ghost use Rattle.coap_ends.specs.ServerTurns.ServerTurned.{IsTurned};

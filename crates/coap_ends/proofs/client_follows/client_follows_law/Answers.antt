@@ -1,17 +1,22 @@
-use Rattle.coap_ends.proofs.WholeClient.ClientAsksOnce.{ask_once}
-use Rattle.coap_ends.proofs.WholeClient.ClientBounds.{are_bounded}
-use Rattle.coap_ends.proofs.WholeClient.ClientContinued.{are_continued}
-use Rattle.coap_ends.proofs.WholeClient.ClientValid.{valid_of_tags}
-use Rattle.coap_ends.proofs.WholeClient.ClientMarks.{are_newer}
-use Rattle.coap_ends.proofs.WholeClient.ClientHandedUp.{are_handed_up}
-use Rattle.coap_ends.proofs.WholeClient.ClientBodies.{bodies_are_whole}
-use Rattle.coap_ends.proofs.WholeClient.ClientOfCalls.{are_of_calls, others_are_gets}
-use Rattle.coap_ends.proofs.WholeClient.ClientOneCon.{one_con}
-use Rattle.coap_ends.proofs.WholeClient.ClientTokens.{own_tokens, one_of_token, short_tokens}
-use Rattle.coap_ends.proofs.WholeClient.ClientHeardOnce.{heard_once}
-use Rattle.coap_ends.proofs.WholeClient.ClientOneByOne.{are_in_order, one_last}
-use Rattle.coap_ends.proofs.WholeClient.ClientBegun.{begin_at_once, cons_are_requests}
+use Rattle.coap_ends.proofs.ClientSide.ClientAsksOnce.{ask_once}
+use Rattle.coap_ends.proofs.ClientSide.ClientBounds.{are_bounded}
+use Rattle.coap_ends.proofs.ClientSide.ClientContinued.{are_continued}
+use Rattle.coap_ends.proofs.ClientSide.ClientValid.{valid_of_tags}
+use Rattle.coap_ends.proofs.ClientSide.ClientMarks.{are_newer}
+use Rattle.coap_ends.proofs.ClientSide.ClientHandedUp.{are_handed_up}
+use Rattle.coap_ends.proofs.ClientSide.ClientBodies.{bodies_are_whole}
+use Rattle.coap_ends.proofs.ClientSide.ClientOfCalls.{are_of_calls, others_are_gets}
+use Rattle.coap_ends.proofs.ClientSide.ClientOneCon.{one_con}
+use Rattle.coap_ends.proofs.ClientSide.ClientTokens.{own_tokens, one_of_token, short_tokens}
+use Rattle.coap_ends.proofs.ClientSide.ClientHeardOnce.{heard_once}
+use Rattle.coap_ends.proofs.ClientSide.ClientOneByOne.{are_in_order, one_last}
+use Rattle.coap_ends.proofs.ClientSide.ClientBegun.{begin_at_once, cons_are_requests}
 use Rattle.coap_ends.proofs.client_follows.client_follows_law.Goals as goal
+use Rattle.coap_ends.proofs.ClientSide.BlocksApart.{blocks_apart}
+use Rattle.coap_ends.proofs.ClientSide.ClientCodes.{reports_codes}
+use Rattle.coap_ends.proofs.ClientSide.ClientEnds.{all_ends}
+use Rattle.coap_ends.proofs.ClientSide.ClientTaken.{all_taken}
+use Rattle.coap_ends.proofs.ClientSide.ClientTypes.{are_of_types}
 
 pub returns-clause-begins_now : goal.returns-clause-begins_now
 returns-clause-begins_now c = begin_at_once
@@ -66,3 +71,18 @@ returns-clause-bounded c = are_bounded
 
 pub returns-clause-asks_once : goal.returns-clause-asks_once
 returns-clause-asks_once c = ask_once
+
+pub returns-clause-apart : goal.returns-clause-apart
+returns-clause-apart c = blocks_apart
+
+pub returns-clause-codes : goal.returns-clause-codes
+returns-clause-codes c = reports_codes
+
+pub returns-clause-types : goal.returns-clause-types
+returns-clause-types c = are_of_types
+
+pub returns-clause-ends : goal.returns-clause-ends
+returns-clause-ends c = all_ends
+
+pub returns-clause-taken : goal.returns-clause-taken
+returns-clause-taken c = all_taken

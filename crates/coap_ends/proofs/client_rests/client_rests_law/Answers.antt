@@ -1,6 +1,6 @@
-use Rattle.coap_ends.proofs.WholeClient.ClientGoes.{goes_on}
-use Rattle.coap_ends.proofs.WholeClient.ClientEnding.{ticks_end}
-use Rattle.coap_ends.proofs.WholeClient.ClientRest.{comes_to_rest}
+use Rattle.coap_ends.proofs.ClientSide.ClientGoes.{goes_on}
+use Rattle.coap_ends.proofs.ClientSide.ClientEnding.{ticks_end}
+use Rattle.coap_ends.proofs.ClientSide.ClientRest.{comes_to_rest}
 use Rattle.coap_ends.proofs.client_rests.client_rests_law.Goals as goal
 
 pub returns-clause-goes : goal.returns-clause-goes

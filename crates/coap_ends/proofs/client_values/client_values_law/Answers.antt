@@ -1,9 +1,9 @@
-use Rattle.coap_ends.proofs.WholeClient.ClientOfObservations.{are_of_observations}
-use Rattle.coap_ends.proofs.WholeClient.ClientNoted.{are_noted}
-use Rattle.coap_ends.proofs.WholeClient.ClientEnded.{are_over}
-use Rattle.coap_ends.proofs.WholeClient.ClientNotified.{are_taken}
-use Rattle.coap_ends.proofs.WholeClient.ClientRising.{values_rise}
-use Rattle.coap_ends.proofs.WholeClient.ClientValues.{values_are_whole}
+use Rattle.coap_ends.proofs.ClientSide.ClientOfObservations.{are_of_observations}
+use Rattle.coap_ends.proofs.ClientSide.ClientNoted.{are_noted}
+use Rattle.coap_ends.proofs.ClientSide.ClientEnded.{are_over}
+use Rattle.coap_ends.proofs.ClientSide.ClientNotified.{are_taken}
+use Rattle.coap_ends.proofs.ClientSide.ClientRising.{values_rise}
+use Rattle.coap_ends.proofs.ClientSide.ClientValues.{values_are_whole}
 use Rattle.coap_ends.proofs.client_values.client_values_law.Goals as goal
 
 pub returns-clause-notified : goal.returns-clause-notified

@@ -1,5 +1,5 @@
 use Rattle.std.proofs.Common.{ap}
-use Rattle.coap_ends.proofs.WholeClient.ClientLeading.{led_client}
+use Rattle.coap_ends.proofs.ClientSide.ClientLeading.{led_client}
 use Rattle.coap_ends.specs.ClientObject.ClientHappens.{left}
 use Rattle.coap_ends.specs.ClientObject.ClientHeld.{own_of}
 use Rattle.coap_ends.proofs.ClientCalls.ClientIsLed.{closes_call, same_led, seen_step}

@@ -1,5 +1,5 @@
 use Rattle.std.proofs.Common.{refl, sym, subst, ◌∙◌}
-use Rattle.coap_ends.proofs.WholeClient.ClientLeading.{led_client}
+use Rattle.coap_ends.proofs.ClientSide.ClientLeading.{led_client}
 use Rattle.coap_ends.specs.ClientObject.ClientHappens.{Watched, left}
 use Rattle.coap_ends.specs.ClientObject.ClientHeld.{own_of}
 use Rattle.coap_ends.proofs.ClientCalls.ClientHappening.{err_of, fed_by, ok_of, on_ok}

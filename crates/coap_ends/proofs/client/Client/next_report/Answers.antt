@@ -1,6 +1,6 @@
 use Rattle.std.proofs.Common.{rules}
 use Rattle.std.specs.Option.{option_map}
-use Rattle.coap_ends.specs.WholeClient.ClientTrace.{NextReport}
+use Rattle.coap_ends.specs.ClientSide.ClientTrace.{NextReport}
 use Rattle.coap_ends.specs.ClientObject.ClientHappens.{left}
 use Rattle.coap_ends.specs.ClientObject.ClientHeld.{own_of}
 use Rattle.coap_ends.specs.ClientObject.ClientShown.{shown_reported}

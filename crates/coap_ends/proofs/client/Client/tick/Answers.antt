@@ -1,4 +1,4 @@
-use Rattle.coap_ends.proofs.WholeClient.ClientLeading.{led_client}
+use Rattle.coap_ends.proofs.ClientSide.ClientLeading.{led_client}
 use Rattle.coap_ends.specs.ClientObject.ClientHappens.{left}
 use Rattle.coap_ends.specs.ClientObject.ClientHeld.{own_of}
 use Rattle.coap_ends.proofs.ClientCalls.ClientIsLed.{both_err, closes_if, if_ok, on_err, same_led, same_left, seen_step}

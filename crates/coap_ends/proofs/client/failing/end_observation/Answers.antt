@@ -1,6 +1,6 @@
 use Rattle.std.proofs.Common.{ap, ◌∙◌}
-use Rattle.coap_ends.specs.WholeClient.ClientEffects.{Rests, of}
-use Rattle.coap_ends.specs.WholeClient.ClientSteps.{reporting}
+use Rattle.coap_ends.specs.ClientSide.ClientEffects.{Rests, of}
+use Rattle.coap_ends.specs.ClientSide.ClientSteps.{reporting}
 use Rattle.coap_ends.specs.ClientObject.ClientShown.{shown_report}
 use Rattle.coap_ends.proofs.client.failing.end_observation.Goals as goal
 

@@ -1,5 +1,5 @@
 use Rattle.std.proofs.Common.{ap, rules, subst, ◌∙◌}
-use Rattle.coap_ends.specs.WholeClient.ClientObservations.{observation_of}
+use Rattle.coap_ends.specs.ClientSide.ClientObservations.{observation_of}
 use Rattle.coap_ends.specs.ClientObject.ClientHappens.{IsDone, releasing}
 use Rattle.coap_ends.specs.ClientObject.ClientHeld.{own_of}
 use Rattle.coap_ends.proofs.ClientCalls.HeldLemmas.{over_is, releasing_is, seen_cancels}

@@ -1,5 +1,5 @@
 use Rattle.std.proofs.Common.{refl}
-use Rattle.coap_ends.specs.WholeClient.ClientOwn.{Calling}
+use Rattle.coap_ends.specs.ClientSide.ClientOwn.{Calling}
 use Rattle.coap_ends.specs.ClientObject.ClientHeld.{own_of}
 use Rattle.coap_ends.proofs.client.happening.ask_next.Goals as goal
 

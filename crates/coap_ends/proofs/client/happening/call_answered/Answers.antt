@@ -1,5 +1,5 @@
 use Rattle.std.proofs.Common.{ap, ◌∙◌}
-use Rattle.coap_ends.specs.WholeClient.ClientCalls.{answer}
+use Rattle.coap_ends.specs.ClientSide.ClientCalls.{answer}
 use Rattle.coap_ends.specs.ClientObject.ClientHeld.{own_of}
 use Rattle.coap_ends.proofs.ClientCalls.ClientHappening.{asks_hears, on_err, over_happens, over_hears, same_call}
 use Rattle.coap_ends.proofs.client.happening.call_answered.Goals as goal

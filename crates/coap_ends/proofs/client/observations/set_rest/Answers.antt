@@ -1,7 +1,7 @@
 use Rattle.std.proofs.Common.{◌≤◌, ap, map, rules, subst, sym, ◌∙◌}
 use Rattle.std.specs.Option.{option_map}
-use Rattle.coap_ends.specs.WholeClient.ClientObservations.{with_rest}
-use Rattle.coap_ends.specs.WholeClient.ClientPlaces.{in_observations}
+use Rattle.coap_ends.specs.ClientSide.ClientObservations.{with_rest}
+use Rattle.coap_ends.specs.ClientSide.ClientPlaces.{in_observations}
 use Rattle.coap_ends.specs.ClientObject.ClientShown.{shown_observation, shown_rest}
 use Rattle.coap_ends.proofs.ClientCalls.HeldLemmas.{rejoin}
 use Rattle.coap_ends.proofs.client.observations.set_rest.Goals as goal

@@ -1,6 +1,6 @@
 use Rattle.std.proofs.Common.{ap, cond, map, rules, ◌∙◌}
 use Rattle.std.specs.Prelude.{◌==◌}
-use Rattle.coap_ends.specs.WholeClient.ClientOwn.{Observation}
+use Rattle.coap_ends.specs.ClientSide.ClientOwn.{Observation}
 use Rattle.coap_ends.specs.ClientObject.ClientShown.{shown_observation}
 use Rattle.coap_ends.proofs.ClientCalls.HeldLemmas.{rejoin}
 use Rattle.coap_ends.proofs.client.observations.set_watch.Goals as goal

@@ -1,6 +1,6 @@
 use Rattle.std.proofs.Common.{◌≤◌, None, ap, map, rules, subst, sym, ◌∙◌}
-use Rattle.coap_ends.specs.WholeClient.ClientObservations.{rest_of, with_rest}
-use Rattle.coap_ends.specs.WholeClient.ClientPlaces.{in_observations}
+use Rattle.coap_ends.specs.ClientSide.ClientObservations.{rest_of, with_rest}
+use Rattle.coap_ends.specs.ClientSide.ClientPlaces.{in_observations}
 use Rattle.coap_ends.specs.ClientObject.ClientShown.{shown_observation}
 use Rattle.coap_ends.proofs.ClientCalls.HeldLemmas.{rejoin}
 use Rattle.coap_ends.proofs.client.observations.take_rest.Goals as goal

@@ -2,7 +2,7 @@ use Rattle.std.proofs.Common.{◌≡◌, ◌+◌, filter, length, map, ap, sym, 
 use Rattle.std.specs.Prelude.{nat_le, option_to_list}
 use Rattle.std.specs.Option.{option_map}
 use Rattle.coap_ends.specs.declared.limits.TheConstants.{MAX_OBSERVATIONS}
-use Rattle.coap_ends.specs.WholeClient.ClientQueue.{is_registration}
+use Rattle.coap_ends.specs.ClientSide.ClientQueue.{is_registration}
 use Rattle.coap_ends.specs.ClientObject.Queued.{operations_of}
 use Rattle.coap_ends.specs.ClientObject.ClientShown.{shown_operation, shown_waiting}
 use Rattle.coap_ends.proofs.ClientCalls.WaitingLemmas.{observed_is}

@@ -1,7 +1,7 @@
 use Rattle.std.proofs.Common.{ap, map, sym, subst, refl, ◌∙◌}
 use Rattle.coap_types.specs.OptionValues.{option_with}
-use Rattle.coap_ends.specs.WholeClient.ClientOwn.{Fetching}
-use Rattle.coap_ends.specs.WholeClient.ClientObservations.{observed_path}
+use Rattle.coap_ends.specs.ClientSide.ClientOwn.{Fetching}
+use Rattle.coap_ends.specs.ClientSide.ClientObservations.{observed_path}
 use Rattle.coap_ends.specs.ClientObject.ClientHappens.{Apart}
 use Rattle.coap_ends.specs.ClientObject.ClientHeld.{own_of}
 use Rattle.coap_ends.specs.ClientObject.ClientShown.{shown_observation, shown_rest}

@@ -1,14 +1,16 @@
 use Rattle.std.proofs.Common.{◌≡◌, ◌≤◌, true, None, Some, ap, map, refl, subst, sym, ◌∙◌}
 use Rattle.std.specs.Prelude.{is_some}
 use Rattle.std.specs.Option.{option_map}
-use Rattle.coap_ends.specs.WholeClient.ClientObservations.{observation_of, with_rest}
-use Rattle.coap_ends.specs.WholeClient.ClientPlaces.{in_observations}
+use Rattle.coap_ends.specs.ClientSide.ClientObservations.{observation_of, with_rest}
+use Rattle.coap_ends.specs.ClientSide.ClientPlaces.{in_observations}
 use Rattle.coap_ends.specs.ClientObject.ClientHappens.{Apart}
 use Rattle.coap_ends.specs.ClientObject.ClientHeld.{own_of}
 use Rattle.coap_ends.specs.ClientObject.ClientShown.{shown_asked, shown_observation, shown_rest}
 use Rattle.coap_ends.proofs.ClientCalls.ClientHappening.{on_err}
 use Rattle.coap_ends.proofs.ClientCalls.HeldLemmas.{one_observation, rested_apart, set_one}
-use Rattle.coap_ends.proofs.ClientCalls.FetchingLemmas.{asks_back, asks_next, asks_rest, fetch_held, if_ok, rest_there, same_rest, unfetched, useless_fetch, useless_rest, useless_value, whole_fetch, whole_rest, whole_value}
+use Rattle.coap_ends.proofs.ClientCalls.FetchingLemmas.{asks_back, asks_next, asks_rest, fetch_held, if_ok, rest_there}
+use Rattle.coap_ends.proofs.ClientCalls.FetchingLemmas.{same_rest, unfetched, useless_fetch, useless_rest}
+use Rattle.coap_ends.proofs.ClientCalls.FetchingLemmas.{useless_value, whole_fetch, whole_rest, whole_value}
 use Rattle.coap_ends.proofs.client.observing.fetch_answered.Goals as goal
 
 pub returns-in_default-clause-happens : goal.returns-in_default-clause-happens

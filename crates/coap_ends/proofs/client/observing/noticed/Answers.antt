@@ -1,8 +1,8 @@
 use Rattle.std.proofs.Common.{ap, map, subst, ◌∙◌}
 use Rattle.std.specs.Option.{option_map}
-use Rattle.coap_ends.specs.WholeClient.ClientObserving.{is_over}
-use Rattle.coap_ends.specs.WholeClient.ClientSteps.{reporting}
-use Rattle.coap_ends.specs.WholeClient.ClientTrace.{Ended}
+use Rattle.coap_ends.specs.ClientSide.ClientObserving.{is_over}
+use Rattle.coap_ends.specs.ClientSide.ClientSteps.{reporting}
+use Rattle.coap_ends.specs.ClientSide.ClientTrace.{Ended}
 use Rattle.coap_ends.specs.ClientObject.ClientHappens.{IsDone}
 use Rattle.coap_ends.specs.ClientObject.ClientHeld.{own_of}
 use Rattle.coap_ends.specs.ClientObject.ClientShown.{shown_observation}

@@ -1,9 +1,9 @@
 use Rattle.std.proofs.Common.{None, ap, subst, ◌∙◌}
 use Rattle.coap_exchange.specs.AskerTrace as E
 use Rattle.coap_exchange.specs.AskerLaw as X
-use Rattle.coap_ends.specs.WholeClient.ClientEffects.{Rests, of}
-use Rattle.coap_ends.specs.WholeClient.ClientSteps.{reporting}
-use Rattle.coap_ends.specs.WholeClient.ClientTrace.{Ended}
+use Rattle.coap_ends.specs.ClientSide.ClientEffects.{Rests, of}
+use Rattle.coap_ends.specs.ClientSide.ClientSteps.{reporting}
+use Rattle.coap_ends.specs.ClientSide.ClientTrace.{Ended}
 use Rattle.coap_ends.specs.ClientObject.ClientHeld.{own_of}
 use Rattle.coap_ends.proofs.ClientCalls.ClientHappening.{begun_own, not_registered, registered_number, was_registered}
 use Rattle.coap_ends.proofs.client.observing.registered.Goals as goal

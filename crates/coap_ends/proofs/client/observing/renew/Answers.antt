@@ -1,6 +1,6 @@
 use Rattle.std.proofs.Common.{◌≤◌, subst, sym}
-use Rattle.coap_ends.specs.WholeClient.ClientOwn.{Own}
-use Rattle.coap_ends.specs.WholeClient.ClientPlaces.{in_observations}
+use Rattle.coap_ends.specs.ClientSide.ClientOwn.{Own}
+use Rattle.coap_ends.specs.ClientSide.ClientPlaces.{in_observations}
 use Rattle.coap_ends.specs.ClientObject.ClientHeld.{own_of}
 use Rattle.coap_ends.proofs.ClientCalls.NoticingLemmas.{renewed_own, watched_one}
 use Rattle.coap_ends.proofs.client.observing.renew.Goals as goal

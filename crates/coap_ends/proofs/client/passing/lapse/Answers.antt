@@ -1,6 +1,6 @@
 use Rattle.std.proofs.Common.{true, refl}
-use Rattle.coap_ends.specs.WholeClient.ClientOwn.{clocked}
-use Rattle.coap_ends.specs.WholeClient.ClientEvents.{failed}
+use Rattle.coap_ends.specs.ClientSide.ClientOwn.{clocked}
+use Rattle.coap_ends.specs.ClientSide.ClientEvents.{failed}
 use Rattle.std.specs.Prelude.{None}
 use Rattle.coap_ends.specs.ClientObject.ClientHeld.{own_of}
 use Rattle.coap_ends.specs.ClientObject.ClientShown.{shown_report}

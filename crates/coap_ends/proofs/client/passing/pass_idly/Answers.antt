@@ -1,14 +1,15 @@
 use Rattle.std.proofs.Common.{◌≡◌, true, false, map, ap, sym, subst, ◌∙◌}
 use Rattle.std.specs.Prelude.{IfOk, IsOk, OnOk}
-use Rattle.coap_ends.specs.WholeClient.ClientObservations.{to_fetch}
-use Rattle.coap_ends.specs.WholeClient.ClientOwn.{clocked}
-use Rattle.coap_ends.specs.WholeClient.ClientEffects.{Effect}
-use Rattle.coap_ends.specs.WholeClient.ClientSteps.{asks}
+use Rattle.coap_ends.specs.ClientSide.ClientObservations.{to_fetch}
+use Rattle.coap_ends.specs.ClientSide.ClientOwn.{clocked}
+use Rattle.coap_ends.specs.ClientSide.ClientEffects.{Effect}
+use Rattle.coap_ends.specs.ClientSide.ClientSteps.{asks}
 use Rattle.coap_ends.specs.ClientObject.ClientHappens.{Comes, left}
 use Rattle.coap_ends.specs.ClientObject.ClientHeld.{own_of}
 use Rattle.coap_ends.specs.ClientObject.ClientShown.{shown_observation, shown_operation}
 use Rattle.coap_ends.specs.ClientObject.Starts.{idle_now}
-use Rattle.coap_ends.proofs.ClientCalls.PassingLemmas.{idle_fetches, idle_starts, idle_stays, rest_comes, shown_none, shown_some}
+use Rattle.coap_ends.proofs.ClientCalls.PassingLemmas.{idle_fetches, idle_starts, idle_stays, rest_comes, shown_none}
+use Rattle.coap_ends.proofs.ClientCalls.PassingLemmas.{shown_some}
 use Rattle.coap_ends.proofs.client.passing.pass_idly.Goals as goal
 
 pub returns-then-is_some-clause-happens : goal.returns-then-is_some-clause-happens

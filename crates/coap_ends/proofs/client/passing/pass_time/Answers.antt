@@ -1,7 +1,7 @@
 use Rattle.std.proofs.Common.{map, ap, sym, subst, true}
-use Rattle.coap_ends.specs.WholeClient.ClientOwn.{Own, clocked}
-use Rattle.coap_ends.specs.WholeClient.ClientEffects.{Effect}
-use Rattle.coap_ends.specs.WholeClient.ClientEvents.{failed, passes}
+use Rattle.coap_ends.specs.ClientSide.ClientOwn.{Own, clocked}
+use Rattle.coap_ends.specs.ClientSide.ClientEffects.{Effect}
+use Rattle.coap_ends.specs.ClientSide.ClientEvents.{failed, passes}
 use Rattle.coap_ends.specs.ClientObject.ClientHappens.{Comes, left}
 use Rattle.coap_ends.specs.ClientObject.ClientHeld.{own_of}
 use Rattle.coap_ends.specs.ClientObject.ClientShown.{shown_report, shown_reported}

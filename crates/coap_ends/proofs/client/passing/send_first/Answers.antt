@@ -1,6 +1,6 @@
 use Rattle.std.proofs.Common.{map, sym, subst, ◌∙◌}
-use Rattle.coap_ends.specs.WholeClient.ClientOwn.{Cancelling}
-use Rattle.coap_ends.specs.WholeClient.ClientRequests.{message_of}
+use Rattle.coap_ends.specs.ClientSide.ClientOwn.{Cancelling}
+use Rattle.coap_ends.specs.ClientSide.ClientRequests.{message_of}
 use Rattle.coap_ends.specs.ClientObject.ClientSends.{Sends}
 use Rattle.coap_ends.specs.ClientObject.ClientShown.{shown_observation}
 use Rattle.coap_ends.proofs.ClientCalls.WaitingLemmas.{if_map}

@@ -1,7 +1,7 @@
 use Rattle.std.proofs.Common.{◌≡◌, true, false, map, ap, sym, subst, ◌∙◌}
-use Rattle.coap_ends.specs.WholeClient.ClientOwn.{Own, clocked}
-use Rattle.coap_ends.specs.WholeClient.ClientEffects.{Effect}
-use Rattle.coap_ends.specs.WholeClient.ClientSteps.{asks}
+use Rattle.coap_ends.specs.ClientSide.ClientOwn.{Own, clocked}
+use Rattle.coap_ends.specs.ClientSide.ClientEffects.{Effect}
+use Rattle.coap_ends.specs.ClientSide.ClientSteps.{asks}
 use Rattle.coap_ends.specs.ClientObject.ClientHappens.{Comes, left}
 use Rattle.coap_ends.specs.ClientObject.ClientHeld.{own_of}
 use Rattle.coap_ends.specs.ClientObject.ClientShown.{shown_reported}

@@ -1,7 +1,7 @@
 use Rattle.std.proofs.Common.{ap, sym, subst, ◌∙◌}
 use Rattle.std.specs.Option.{option_map}
-use Rattle.coap_ends.specs.WholeClient.ClientOwn.{clocked}
-use Rattle.coap_ends.specs.WholeClient.ClientEffects.{runs}
+use Rattle.coap_ends.specs.ClientSide.ClientOwn.{clocked}
+use Rattle.coap_ends.specs.ClientSide.ClientEffects.{runs}
 use Rattle.coap_ends.specs.ClientObject.ClientHappens.{Comes, left}
 use Rattle.coap_ends.specs.ClientObject.ClientHeld.{own_of}
 use Rattle.coap_ends.specs.ClientObject.ClientShown.{shown_operation}

@@ -1,6 +1,6 @@
 use Rattle.std.proofs.Common.{sym, subst}
 use Rattle.std.specs.Prelude.{IfOk}
-use Rattle.coap_ends.specs.WholeClient.ClientRequests.{message_of}
+use Rattle.coap_ends.specs.ClientSide.ClientRequests.{message_of}
 use Rattle.coap_ends.specs.ClientObject.ClientSends.{Sends}
 use Rattle.coap_ends.specs.ClientObject.ClientShown.{shown_waiting}
 use Rattle.coap_ends.proofs.ClientCalls.WaitingLemmas.{if_all, if_map}

@@ -1,6 +1,6 @@
 use Rattle.coap_ends.proofs.ServerCalls.FeedIsACall.{on_ok, seen_step}
 use Rattle.coap_ends.proofs.ServerCalls.WorkFalls.{closes, led_on, on_err, same_led}
-use Rattle.coap_ends.proofs.WholeServer.Exact.ServerLeads.{led_further}
+use Rattle.coap_ends.proofs.ServerSide.Exact.ServerLeads.{led_further}
 use Rattle.coap_ends.proofs.server.Server.feed.Goals as goal
 
 pub invariant_of-self : goal.invariant_of-self

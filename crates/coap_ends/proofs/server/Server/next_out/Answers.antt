@@ -1,6 +1,6 @@
 use Rattle.std.proofs.Common.{rules}
 use Rattle.coap_ends.specs.ServerObject.ServerShown.{state_of}
-use Rattle.coap_ends.specs.WholeServer.ServerTrace.{NextOut}
+use Rattle.coap_ends.specs.ServerSide.ServerTrace.{NextOut}
 use Rattle.coap_ends.proofs.ServerCalls.TakesOut.{if_none, if_some}
 use Rattle.coap_ends.proofs.ServerCalls.WorkFalls.{led_on, seen_led}
 use Rattle.coap_ends.proofs.server.Server.next_out.Goals as goal

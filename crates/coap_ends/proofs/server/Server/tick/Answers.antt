@@ -1,6 +1,6 @@
 use Rattle.coap_ends.proofs.ServerCalls.FeedIsACall.{seen_step}
 use Rattle.coap_ends.proofs.ServerCalls.WorkFalls.{closes_if, if_ok, led_on, on_err, same_led, seen_led, ticks_fall}
-use Rattle.coap_ends.proofs.WholeServer.Exact.ServerLeads.{led_further}
+use Rattle.coap_ends.proofs.ServerSide.Exact.ServerLeads.{led_further}
 use Rattle.coap_ends.proofs.server.Server.tick.Goals as goal
 
 pub invariant_of-self : goal.invariant_of-self

@@ -1,6 +1,6 @@
 use Rattle.std.proofs.Common.{rules, [], sym, subst}
-use Rattle.coap_ends.specs.WholeServer.ServerLed.{Led}
-use Rattle.coap_ends.proofs.WholeServer.Exact.ServerLeads.{led_empty}
+use Rattle.coap_ends.specs.ServerSide.ServerLed.{Led}
+use Rattle.coap_ends.proofs.ServerSide.Exact.ServerLeads.{led_empty}
 use Rattle.coap_ends.proofs.server.Server.with_hasher.Goals as goal
 
 pub returns-clause-start : goal.returns-clause-start

@@ -1,5 +1,5 @@
 use Rattle.std.proofs.Common.{◌≡◌, map, drop}
-use Rattle.coap_ends.specs.WholeServer.ServerDeferring.{delay_of}
+use Rattle.coap_ends.specs.ServerSide.ServerDeferring.{delay_of}
 use Rattle.coap_ends.specs.ServerObject.ServerShown.{delay_as}
 use Rattle.coap_ends.proofs.server.deferring.delay_of.Given as goal
 

@@ -1,8 +1,8 @@
 use Rattle.std.proofs.Common.{rules, refl, ap, sym, ◌∙◌}
 use Rattle.coap_types.specs.CoapOption.{options_of}
-use Rattle.coap_ends.specs.WholeServer.ServerChecks.{Ignored, Refused}
-use Rattle.coap_ends.specs.WholeServer.ServerHandling.{Handles}
-use Rattle.coap_ends.specs.WholeServer.ServerResponses.{bare}
+use Rattle.coap_ends.specs.ServerSide.ServerChecks.{Ignored, Refused}
+use Rattle.coap_ends.specs.ServerSide.ServerHandling.{Handles}
+use Rattle.coap_ends.specs.ServerSide.ServerResponses.{bare}
 use Rattle.coap_ends.specs.ServerObject.ServerChecked.{verdict_as}
 use Rattle.coap_ends.specs.ServerObject.ServerShown.{seen, state_of}
 use Rattle.coap_ends.proofs.ServerCalls.FeedIsACall.{on_ok}

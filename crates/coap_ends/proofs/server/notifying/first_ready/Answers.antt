@@ -3,8 +3,9 @@ use Rattle.std.proofs.lemmas.Option.{slice_get_within}
 use Rattle.coap_observe.specs.Notices.{told}
 use Rattle.coap_observe.specs.Observers.{Observer}
 use Rattle.coap_exchange.specs.Machine.WhatIsDue.{takes_con}
-use Rattle.coap_ends.specs.WholeServer.ServerNotifying.{marked}
-use Rattle.coap_ends.proofs.ServerCalls.PassedOver.{stops, goes_on, all_passed, all_behind, found_behind, marked_most, none_taken}
+use Rattle.coap_ends.specs.ServerSide.ServerNotifying.{marked}
+use Rattle.coap_ends.proofs.ServerCalls.PassedOver.{stops, goes_on, all_passed, all_behind, found_behind, marked_most}
+use Rattle.coap_ends.proofs.ServerCalls.PassedOver.{none_taken}
 use Rattle.coap_ends.proofs.server.notifying.first_ready.Goals as goal
 
 pub returns-then-branch-clause-found : goal.returns-then-branch-clause-found

@@ -2,7 +2,7 @@ use Rattle.std.proofs.Common.{◌≡◌, ◌≤◌, ◌-◌, length}
 use Rattle.coap_types.specs.declared.endpoint.Endpoint.{Endpoint}
 use Rattle.coap_exchange.specs.AnswererLaw.{Exchanged}
 use Rattle.coap_exchange.specs.Machine.WhatIsDue.{takes_con}
-use Rattle.coap_ends.specs.WholeServer.ServerNotifying.{marked}
+use Rattle.coap_ends.specs.ServerSide.ServerNotifying.{marked}
 use Rattle.coap_ends.proofs.ServerCalls.PassedOver.{passing}
 use Rattle.coap_ends.proofs.server.notifying.first_ready.Given as goal
 

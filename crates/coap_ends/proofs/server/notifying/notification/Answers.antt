@@ -1,9 +1,9 @@
 use Rattle.std.proofs.Common.{◌≡◌, true, None, refl, ap, ◌∙◌}
 use Rattle.coap_observe.specs.Notices.{told}
 use Rattle.coap_resource.specs.Serves.{reply_of}
-use Rattle.coap_ends.specs.WholeServer.ServerNotifying as next
-use Rattle.coap_ends.specs.WholeServer.ServerObservers.{sequence}
-use Rattle.coap_ends.specs.WholeServer.ServerResponses.{response_with}
+use Rattle.coap_ends.specs.ServerSide.ServerNotifying as next
+use Rattle.coap_ends.specs.ServerSide.ServerObservers.{sequence}
+use Rattle.coap_ends.specs.ServerSide.ServerResponses.{response_with}
 use Rattle.coap_ends.proofs.ServerCalls.TurnSteps.{got_plain}
 use Rattle.coap_ends.proofs.server.notifying.notification.Goals as goal
 

@@ -1,5 +1,5 @@
 use Rattle.std.proofs.Common.{◌≡◌, ◌-◌, ℕ, length}
-use Rattle.coap_ends.specs.WholeServer.ServerDeferring.{question_of, without_waiting}
+use Rattle.coap_ends.specs.ServerSide.ServerDeferring.{question_of, without_waiting}
 use Rattle.coap_ends.specs.ServerObject.ServerShown.{waiting_as}
 use Rattle.coap_ends.proofs.ServerCalls.WaitingLists.{question_behind, left_behind}
 use Rattle.coap_ends.proofs.server.responding.ready_place.Given as goal

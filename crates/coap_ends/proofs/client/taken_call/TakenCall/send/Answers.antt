@@ -2,7 +2,7 @@ use Rattle.std.proofs.Common.{◌≤◌, None, [], ◌++◌, ap, length, sym, su
 use Rattle.coap_types.specs.MethodCode.{method_code}
 use Rattle.coap_types.specs.OptionValues.{option_with}
 use Rattle.coap_exchange.specs.Machine.AskerShown.{IsAskable}
-use Rattle.coap_ends.specs.WholeClient.ClientRequests.{block_option, options_of}
+use Rattle.coap_ends.specs.ClientSide.ClientRequests.{block_option, options_of}
 use Rattle.coap_ends.specs.ClientObject.CallShown.{shown_request, shown_transfer}
 use Rattle.coap_ends.proofs.ClientCalls.AskableRequests.{call_askable, ranges_of}
 use Rattle.coap_ends.proofs.client.taken_call.TakenCall.send.Goals as goal

@@ -1,0 +1,8 @@
+-- What each call of a server does, for proofs above.
+pub use Rattle.coap_ends.proofs.ServerSide.Serving.ServedWasHandedUp.{same_asked_is}
+pub use Rattle.coap_ends.proofs.ServerSide.Serving.ServerBrought.{comes_here, szx_is}
+pub use Rattle.coap_ends.proofs.ServerSide.Telling.LayerCalls.{layer_next}
+pub use Rattle.coap_ends.proofs.ServerSide.Telling.SentNow.{held_small}
+pub use Rattle.coap_ends.proofs.ServerSide.Telling.ServerTold.{acks_arrive, all_tell_sent}
+pub use Rattle.coap_ends.proofs.ServerSide.Telling.UnderRegistrations.{all_serve_pairs, are_under}
+pub use Rattle.coap_ends.proofs.ServerSide.Exact.ServerLeads.{led_further, led_lawful}

@@ -1,6 +1,0 @@
-pub mod ClientAnswers
-pub mod ClientOpen
-pub mod ClientHears
-pub mod ReportedOnce
-pub mod GivenInOrder
-pub mod ClientEnded
