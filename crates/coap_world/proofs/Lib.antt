@@ -1,6 +1,8 @@
-pub mod Whole
 pub mod Delivery
 pub mod Requests
 pub mod Reports
-pub mod Progress
 pub mod Witness
+pub mod Progress
+pub mod Observations
+pub mod Uploads
+pub mod Recording

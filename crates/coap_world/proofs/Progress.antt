@@ -1,10 +1,15 @@
--- A record goes on with each legal event.
-pub mod ChangesInRange
+pub mod EachElement
 pub mod SpelledInBytes
 pub mod LayerSendsBytes
-pub mod ClientSendsBytes
 pub mod ExchangesSendBytes
+pub mod TransfersInBytes
+pub mod ClientKeepsBytes
+pub mod AskerSendsBytes
+pub mod ClientSendsBytes
+pub mod BlocksInRange
 pub mod StoreHoldsBytes
+pub mod ServerKeepsBytes
 pub mod ServerSendsBytes
+pub mod ArgumentsInRange
 pub mod GivenOutIsBytes
 pub mod EachEventHasATurn

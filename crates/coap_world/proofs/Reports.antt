@@ -1,9 +1,31 @@
--- From a report back to the server: whose response it is that is reported, and what the server did for it.
-pub mod PartsOfARecord
-pub mod HeardWasSent
+-- From a report back to the server: whose response it is that is reported.
 pub mod Answered
+pub mod ResponseRead
+pub mod PathRead
+pub mod RefusalsShowNothing
+pub mod FormatsSet
+pub mod FormatsHeld
+pub mod ServedValid
+pub mod Understood
+pub mod AskedBy
+pub mod ContentRead
+pub mod Shown
+pub mod PartsOfOne
+pub mod HeldThere
+pub mod BodiesHeld
+pub mod TagsOwn
+pub mod ValidShown
+pub mod ValidHeld
+pub mod OfObservations
+pub mod Noticed
+pub mod ValuesShown
+pub mod ValuesHeld
 pub mod Codes
-pub mod ReportsAreOfRequests
+pub mod Located
 pub mod OnceDone
+pub mod LastAnswered
+pub mod HandedOnce
+pub mod AppliedRequest
 pub mod NeverFailed
 pub mod Promised
+pub mod HeardWasSent

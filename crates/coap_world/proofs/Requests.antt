@@ -1,12 +1,18 @@
--- From the server back to the call: whose request it is that is served, and what is applied for it.
-pub mod CallsInRange
-pub mod CameFrom
-pub mod ReadBack
-pub mod ServedLeaves
-pub mod AppliedWhole
-pub mod HandedUpOnce
-pub mod AtMostOnce
 pub mod HoldsChanges
-pub mod ChangesOwned
 pub mod LocalChanges
+pub mod ChangesOwned
+pub mod ServedLeaves
+pub mod CameFrom
+pub mod CallsInRange
+pub mod AllRecognised
+pub mod ReadBack
+pub mod Traced
+pub mod LastRequests
+pub mod OfACall
+pub mod AtMostOnce
+pub mod Conditions
+pub mod Alone
+pub mod Belongs
 pub mod ServedRight
+pub mod Promised
+pub mod HandedUpOnce

@@ -1,13 +1,13 @@
 -- What the datagrams of a legal run are: each that comes from an end's address was given out by that end, for the one that
 -- it comes to, at most 100,000 ms before.
 use Rattle.std.specs.Prelude.{◌≡◌, ◌≤◌, ℕ, ◌+◌, List}
-use Rattle.coap_types.specs.Past.{Ever, Always, all_of}
 use Rattle.coap_types.specs.declared.endpoint.Endpoint.{Endpoint}
-use Rattle.coap_ends.specs.ClientTrace as C
-use Rattle.coap_ends.specs.ServerTrace as S
-use Rattle.coap_world.specs.Events.{client_end, server_end}
 use Rattle.coap_world.specs.Legal.{max_delivery}
-use Rattle.coap_world.specs.Record.{Entry, OfClient, OfServer, Given, Turn, given_in}
+use Rattle.coap_world.specs.Record.{Given, Entry, OfClient, OfServer, Turn, given_in}
+use Rattle.coap_types.specs.Past.{Ever, Always, all_of}
+use Rattle.coap_world.specs.Events.{client_end, server_end}
+use Rattle.coap_ends.specs.ClientSide.ClientTrace as C
+use Rattle.coap_ends.specs.ServerSide.ServerTrace as S
 
 pub record GaveOut (from to : Endpoint) (bytes : List ℕ) (when : ℕ) (g : Given) : Type 0 where
   pub packet : g.packet ≡ record { to = to; bytes = bytes }
@@ -21,7 +21,8 @@ FedToServer from bytes (OfClient c) = ⊥
 FedToServer from bytes (OfServer c) = (now : _) × (word : _) × (up : _) × (came : _) × (h : _) × (below : _) × (c ≡ S.Feeds now from bytes word up came h below)
 
 abbrev pub FedToClient : Endpoint → List ℕ → Entry → Type 0
-FedToClient from bytes (OfClient c) = (now : _) × (word : _) × (up : _) × (settled : _) × (event : _) × (c ≡ C.Feeds now from bytes word up settled event)
+FedToClient from bytes (OfClient c) =
+    (now : _) × (word : _) × (up : _) × (settled : _) × (event : _) × (sent : _) × (token : _) × (kept : _) × (c ≡ C.Feeds now from bytes word up settled event sent token kept)
 FedToClient from bytes (OfServer c) = ⊥
 
 pub record IsFair (past : List Turn) (turn : Turn) : Type 0 where

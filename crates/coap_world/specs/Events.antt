@@ -1,8 +1,9 @@
--- One client, one server, strangers, and the datagrams between them: what happens (RFC 7252, sections 4 and 5).
-use Rattle.std.specs.Prelude.{ℕ, Option, List, [], ◌∷◌}
+-- One client, one server, strangers, and the datagrams between them: what happens (RFC 7252, sections 4 and 5; RFC 7641; RFC
+-- 7959).
+use Rattle.std.specs.Prelude.{ℕ, List, [], ◌∷◌, Option}
 use Rattle.coap_types.specs.declared.endpoint.Endpoint.{Endpoint}
-use Rattle.coap_ends.specs.ClientTrace.{Request}
-use Rattle.coap_ends.specs.ServerTrace.{Delay}
+use Rattle.coap_ends.specs.ClientSide.ClientTrace.{Request}
+use Rattle.coap_ends.specs.ServerSide.ServerTrace.{Delay}
 
 -- the addresses of the ends
 abbrev pub localhost : List ℕ
@@ -23,10 +24,13 @@ pub record Config : Type 0 where
   pub limit : ℕ
   pub delays : List Delay
 
--- a call of the client; a local change of the server, and a removal; the ticks of an end; a datagram that was given out is
--- delivered, by its number; a datagram of a stranger
+-- A call of the client, an observation, its cancel, and its end without a message; a local change of the server, and a
+-- removal; the ticks of an end; a datagram that was given out is delivered, by its number; a datagram of a stranger.
 pub data What : Type 0 where
   Calls : (request : Request) → What
+  Observes : (path : List (List ℕ)) → What
+  Cancels : (number : ℕ) → What
+  Forgets : (number : ℕ) → What
   Sets : (path : List (List ℕ)) (format : Option ℕ) (body : List ℕ) → What
   Removes : (path : List (List ℕ)) → What
   TickClient : What

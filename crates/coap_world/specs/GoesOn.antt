@@ -3,16 +3,13 @@
 use Rattle.std.specs.Prelude.{◌≡◌, false, List, [], ◌∷◌}
 use Rattle.coap_types.specs.Past.{Always}
 use Rattle.coap_world.specs.Events.{Config, Event}
-use Rattle.coap_world.specs.Legal.{IsLegal, Legal}
+use Rattle.coap_world.specs.Legal.{Legal}
+use Rattle.coap_world.specs.LegalEvents.{MayHappen}
 use Rattle.coap_world.specs.Record.{Entry, Turn, RecordOf}
 
 -- a turn in which nothing is refused
 abbrev pub turn_of : Event → List Entry → Turn
 turn_of event entries = record { event = event; refused = false; entries = entries }
-
--- an event is legal, whatever it makes
-abbrev pub MayHappen : List Turn → Event → Type 0
-MayHappen past event = IsLegal past (turn_of event [])
 
 -- the record of one event more
 pub record Follows (config : Config) (events : List Event) (turns : List Turn) (event : Event) : Type 0 where
@@ -21,7 +18,8 @@ pub record Follows (config : Config) (events : List Event) (turns : List Turn) (
   pub legal : Legal config (turn_of event entries ∷ turns)
 
 abbrev pub GoesOn : Config → Type 0
-GoesOn config = (events : List Event) (turns : List Turn) (event : Event) → RecordOf config events turns → Legal config turns → MayHappen turns event → Follows config events turns event
+GoesOn config = (events : List Event) (turns : List Turn) (event : Event) → RecordOf config events turns → Legal config turns → MayHappen turns event
+    → Follows config events turns event
 
 -- a record in which nothing is refused
 pub record Ran (config : Config) (events : List Event) (turns : List Turn) : Type 0 where

@@ -3,43 +3,19 @@ use Rattle.std.specs.Prelude.{◌≡◌, ◌⊎◌, ℕ, List, [], ◌∷◌, �
 use Rattle.coap_types.specs.Past.{Ever, all_of}
 use Rattle.coap_layer.specs.Channel.{Hop, Near, Far, OnNear, OnFar}
 use Rattle.coap_layer.specs.Sends.{IsIn}
-use Rattle.coap_layer.specs.Machine.Steps.{Asked}
-use Rattle.coap_layer.specs.Trace as L
-use Rattle.coap_ends.specs.Adds as adds
-use Rattle.coap_ends.specs.ClientTrace as C
-use Rattle.coap_ends.specs.ServerTrace as S
 use Rattle.coap_world.specs.Events.{client_end, server_end, Config}
-use Rattle.coap_world.specs.Record.{Entry, OfClient, OfServer, client_of, server_trace, Given, Turn, given_in, entries_of}
-
-module _ (config : Config) where
-  -- what a call of the client asks of its layer, and the entries that it adds to it
-  abbrev pub client_asks : List C.Call → C.Call → List Asked
-  client_asks past c = adds.client_asks server_end config.client_word past c
-
-  abbrev pub client_asked : List C.Call → List Asked
-  client_asked past = adds.client_asked server_end config.client_word past
-
-  abbrev pub client_adds : List C.Call → C.Call → List L.Entry
-  client_adds past c = adds.client_adds server_end config.client_word past c
-
-  -- .. and of the server
-  abbrev pub server_asks : List S.Call → S.Call → List Asked
-  server_asks past c = adds.server_asks config.limit config.server_szx past c
-
-  abbrev pub server_asked : List S.Call → List Asked
-  server_asked past = adds.server_asked config.limit config.server_szx past
-
-  abbrev pub server_adds : List S.Call → S.Call → List L.Entry
-  server_adds past c = adds.server_adds config.limit config.server_szx config.server_word past c
-
-  -- the client's layer is the near one, the server's the far one
-  abbrev pub hops_in : List Entry → List Hop
-  hops_in [] = []
-  hops_in (OfClient c ∷ past) = map Near (client_adds (client_of past) c) ++ hops_in past
-  hops_in (OfServer c ∷ past) = map Far (server_adds (server_trace config past) c) ++ hops_in past
-
-  abbrev pub hops_of : List Turn → List Hop
-  hops_of turns = hops_in (entries_of turns)
+use Rattle.coap_world.specs.Record.{Given, Entry, OfClient, OfServer, client_of, server_trace, Turn, given_in}
+use Rattle.coap_world.specs.Record.{entries_of}
+use Rattle.coap_layer.specs.Machine.State.{start}
+use Rattle.coap_layer.specs.Machine.Steps.{Asked, left_after, entries}
+use Rattle.coap_ends.specs.Adds.{asked_by_server}
+use Rattle.coap_layer.specs.Trace as L
+use Rattle.coap_exchange.specs.AnswererLaw as answerer
+use Rattle.coap_ends.specs.ClientSide.ClientAdds as adds
+use Rattle.coap_ends.specs.ClientSide.ClientTrace as C
+use Rattle.coap_ends.specs.ServerSide.ServerAsks as asks
+use Rattle.coap_ends.specs.ServerSide.ServerLaw as server
+use Rattle.coap_ends.specs.ServerSide.ServerTrace as S
 
 -- the same hops, with the server's layer as the near one
 abbrev pub across : List Hop → List Hop
@@ -56,5 +32,39 @@ pub record SendsAt (t : ℕ) (p : L.Packet) (e : L.Entry) : Type 0 where
 abbrev pub SentIn : List Hop → Given → Type 0
 SentIn hops g = ((g.from ≡ client_end) × Ever (OnNear (SendsAt g.at g.packet)) hops) ⊎ ((g.from ≡ server_end) × Ever (OnFar (SendsAt g.at g.packet)) hops)
 
+module _ (config : Config) where
+  -- what a call of the client asks of its layer, and the entries that it adds to it
+  abbrev pub client_asks : List C.Call → C.Call → List Asked
+  client_asks past c = adds.call_asks server_end config.client_szx config.client_word past c
+
+  abbrev pub client_asked : List C.Call → List Asked
+  client_asked past = adds.all_asked server_end config.client_szx config.client_word past
+
+  abbrev pub client_adds : List C.Call → C.Call → List L.Entry
+  client_adds past c = adds.call_adds server_end config.client_szx config.client_word past c
+
+  -- .. and of the server
+  abbrev pub server_asks : List S.Call → S.Call → List Asked
+  server_asks past c = asked_by_server (server.lower_of config.limit config.server_szx past) (asks.lower (server.own_of config.limit config.server_szx past) c)
+
+  abbrev pub server_asked : List S.Call → List Asked
+  server_asked past = answerer.lower_of (server.lower_of config.limit config.server_szx past)
+
+  abbrev pub server_adds : List S.Call → S.Call → List L.Entry
+  server_adds past c = entries (left_after (start config.server_word) (server_asked past)) (server_asks past c)
+
+  -- the client's layer is the near one, the server's the far one
+  abbrev pub hops_at : List Entry → Entry → List Hop
+  hops_at past (OfClient c) = map Near (client_adds (client_of past) c)
+  hops_at past (OfServer c) = map Far (server_adds (server_trace config past) c)
+
+  abbrev pub hops_in : List Entry → List Hop
+  hops_in [] = []
+  hops_in (e ∷ past) = hops_at past e ++ hops_in past
+
+  abbrev pub hops_of : List Turn → List Hop
+  hops_of turns = hops_in (entries_of turns)
+
+-- What an end gives out was sent by its layer at that very moment.
 abbrev pub TakenAtOnce : List Hop → List Turn → Type 0
 TakenAtOnce hops turns = (g : Given) → Ever (λ h. h ≡ g) (all_of given_in turns) → SentIn hops g

@@ -1,21 +1,29 @@
 -- Which events are legal, in the record of their run: no datagram comes more than 100,000 ms after it was given out, and
 -- what comes from an end's address was given out by that end.
-use Rattle.std.specs.Prelude.{◌≡◌, ◌≢◌, ◌⊎◌, ◌≤◌, ◌<◌, ℕ, ◌+◌, ◌^◌, IfSome, List, [], ◌∷◌, length, All}
-use Rattle.coap_types.specs.Past.{Always}
-use Rattle.coap_types.specs.Path.{IsPath}
+use Rattle.std.specs.Prelude.{◌≡◌, ◌≢◌, ◌⊎◌, ◌≤◌, ◌<◌, ℕ, ◌+◌, ◌^◌, [], ◌∷◌, length, IfSome, List, All}
 use Rattle.coap_types.specs.declared.endpoint.Endpoint.{Endpoint}
 use Rattle.coap_types.specs.declared.transmission.TheConstants.{MAX_LATENCY_MS as max_latency}
 use Rattle.coap_types.specs.Bytes.{AreBytes}
-use Rattle.coap_ends.specs.ClientTrace.{Request}
+use Rattle.coap_types.specs.EntityTag.{AreTags}
+use Rattle.coap_types.specs.Past.{Always}
+use Rattle.coap_types.specs.Path.{IsPath}
+use Rattle.coap_ends.specs.ClientSide.ClientTrace.{Request}
 use Rattle.coap_ends.specs.declared.limits.TheConstants.{MAX_DELAYS as max_delays}
-use Rattle.coap_ends.specs.ServerTrace.{Delay}
+use Rattle.coap_ends.specs.ServerSide.ServerTrace.{Delay}
 use Rattle.coap_resource.specs.declared.tally.TheConstants.{MAX_CHANGES_PER_WINDOW as max_changes}
-use Rattle.coap_world.specs.Events.{client_end, server_end, Config, What, Calls, Sets, Removes, Deliver, StrangerToClient, StrangerToServer}
 use Rattle.coap_world.specs.Record.{Given, Turn, IsNumber}
+use Rattle.coap_world.specs.Events.{client_end, server_end, Config, What, Calls, Observes, Cancels, Forgets, Sets}
+use Rattle.coap_world.specs.Events.{Removes, Deliver, StrangerToClient, StrangerToServer}
 
 -- a datagram is delivered at most MAX_LATENCY after it was given out
 abbrev pub max_delivery : ℕ
 max_delivery = max_latency
+
+-- an address in range
+pub record IsEndpoint (e : Endpoint) : Type 0 where
+  pub four : length e.ip ≡ 4
+  pub bytes : AreBytes e.ip
+  pub port : e.port < 2 ^ 16
 
 -- moments don't fall
 abbrev pub NotBefore : List Turn → ℕ → Type 0
@@ -32,19 +40,19 @@ MayCome past at what = Unit {0}
 
 -- each number is in the range of its type
 
-pub record IsEndpoint (e : Endpoint) : Type 0 where
-  pub four : length e.ip ≡ 4
-  pub bytes : AreBytes e.ip
-  pub port : e.port < 2 ^ 16
-
 pub record IsRequest (r : Request) : Type 0 where
   pub path : IsPath r.path
-  pub accept : IfSome r.accept (λ f. f < 2 ^ 16)
   pub format : IfSome r.format (λ f. f < 2 ^ 16)
   pub body : AreBytes r.body
+  pub etags : AreTags r.etags
+  pub if_match : AreTags r.if_match
+  pub accept : IfSome r.accept (λ f. f < 2 ^ 16)
 
 abbrev pub InRange : What → Type 0
 InRange (Calls r) = IsRequest r
+InRange (Observes path) = IsPath path
+InRange (Cancels number) = number < 2 ^ 64
+InRange (Forgets number) = number < 2 ^ 64
 InRange (Sets path format body) = IsPath path × IfSome format (λ f. f < 2 ^ 16) × AreBytes body
 InRange (Removes path) = IsPath path
 InRange (StrangerToClient from bytes) = IsEndpoint from × AreBytes bytes

@@ -1,13 +1,21 @@
 -- Which events are legal, kind by kind and at each border, and of which no run is (RFC 7252, section 4.8.2: MAX_LATENCY).
-use Rattle.std.specs.Prelude.{◌≡◌, ◌≢◌, ◌⊎◌, ◌≤◌, ◌<◌, ℕ, ◌+◌, ◌^◌, Option, Some, IfSome, List, [], ◌∷◌, length, All}
+use Rattle.std.specs.Prelude.{◌≡◌, ◌≢◌, ◌⊎◌, ◌≤◌, ◌<◌, ℕ, ◌+◌, ◌^◌, false, Option, Some, IfSome, List, [], ◌∷◌, length}
+use Rattle.std.specs.Prelude.{All}
 use Rattle.coap_types.specs.declared.endpoint.Endpoint.{Endpoint}
-use Rattle.coap_world.specs.Events.{client_end, server_end, Config, What, Calls, Sets, Removes, TickClient, TickServer, Deliver, StrangerToServer, StrangerToClient, Event}
+use Rattle.coap_types.specs.EntityTag.{AreTags}
+use Rattle.coap_world.specs.Events.{client_end, server_end, Config, What, Calls, Observes, Cancels, Forgets, Sets}
+use Rattle.coap_world.specs.Events.{Removes, TickClient, TickServer, Deliver, StrangerToServer, StrangerToClient, Event}
 use Rattle.coap_types.specs.Bytes.{AreBytes}
-use Rattle.coap_ends.specs.ClientTrace.{Request}
-use Rattle.coap_world.specs.GoesOn.{MayHappen}
-use Rattle.coap_world.specs.Legal.{AllLegal}
-use Rattle.coap_world.specs.LegalRuns.{config, event, from_client, from_server, Runs, post, post_bytes, not_found_bytes}
+use Rattle.coap_ends.specs.ClientSide.ClientTrace.{Request}
+use Rattle.coap_world.specs.Legal.{IsLegal, AllLegal}
 use Rattle.coap_world.specs.Record.{Given, Turn, RecordOf, IsNumber}
+
+-- an event is legal, whatever it makes
+abbrev pub MayHappen : List Turn → Event → Type 0
+MayHappen past e = IsLegal past (record { event = e; refused = false; entries = [] })
+
+abbrev pub event : ℕ → What → Event
+event at what = record { at = at; word = 0; what = what }
 
 -- no run of these events is legal
 abbrev pub NoneRuns : List Event → Type 0
@@ -31,7 +39,14 @@ abbrev pub Is16 : Option ℕ → Type 0
 Is16 o = IfSome o (λ n. n < 2 ^ 16)
 
 abbrev pub CallsMay : Type 0
-CallsMay = (r : Request) → Segments r.path → Is16 r.accept → Is16 r.format → AreBytes r.body → May (Calls r)
+CallsMay = (r : Request) → Segments r.path → Is16 r.accept → Is16 r.format → AreBytes r.body → AreTags r.etags → AreTags r.if_match → May (Calls r)
+
+abbrev pub ObservesMay : Type 0
+ObservesMay = (path : List (List ℕ)) → Segments path → May (Observes path)
+
+-- of whatever number, also one that is not given yet
+abbrev pub EndsMay : Type 0
+EndsMay = (number : ℕ) → number < 2 ^ 64 → May (Cancels number) × May (Forgets number)
 
 abbrev pub SetsMay : Type 0
 SetsMay = (path : List (List ℕ)) (format : Option ℕ) (body : List ℕ) → Segments path → Is16 format → AreBytes body → May (Sets path format body)
@@ -69,14 +84,11 @@ NoneBeyond = (path : List (List ℕ)) (format : ℕ) (body : List ℕ) → 2 ^ 1
 
 -- a datagram that was given out at 0 comes
 
-abbrev pub comes_at : ℕ → List Event
-comes_at at = event at (Deliver 0) ∷ event 0 TickClient ∷ event 0 (Calls post) ∷ []
-
-abbrev pub MayComeTill : ℕ → Type 0
-MayComeTill last = (at : ℕ) → at ≤ last → Runs config (comes_at at) (from_server at client_end not_found_bytes ∷ from_client 0 post_bytes ∷ [])
+abbrev pub comes_at : ℕ → Request → List Event
+comes_at at r = event at (Deliver 0) ∷ event 0 TickClient ∷ event 0 (Calls r) ∷ []
 
 abbrev pub NotAfter : ℕ → Type 0
-NotAfter last = (at : ℕ) → last < at → NoneRuns (comes_at at)
+NotAfter last = (at : ℕ) (r : Request) → last < at → NoneRuns (comes_at at r)
 
 -- a datagram comes that was never given out
 

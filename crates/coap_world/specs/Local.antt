@@ -1,11 +1,12 @@
 -- What a local change of the server does, by its answer (RFC 7252, section 5.8: the resource's own state).
-use Rattle.std.specs.Prelude.{◌≡◌, ◌≢◌, ℕ, ◌+◌, max, Bool, true, false, Option, None, Some, List, ◌∷◌, length, Result, Ok, Err}
+use Rattle.std.specs.Prelude.{◌≡◌, ◌≢◌, ℕ, ◌+◌, max, Bool, true, false, Option, None, Some, List, ◌∷◌, length, Result}
+use Rattle.std.specs.Prelude.{Ok, Err}
 use Rattle.coap_types.specs.Past.{Always}
 use Rattle.coap_resource.specs.Content.{put_refusal}
 use Rattle.coap_resource.specs.Rate.{rate_refusal}
 use Rattle.coap_resource.specs.declared.refusal.StoreRefusal.{StoreRefusal}
-use Rattle.coap_ends.specs.ServerTrace as S
-use Rattle.coap_ends.specs.ServerLaw.{own_of}
+use Rattle.coap_ends.specs.ServerSide.ServerTrace as S
+use Rattle.coap_ends.specs.ServerSide.ServerLaw.{own_of}
 use Rattle.coap_world.specs.Events.{Config}
 use Rattle.coap_world.specs.Record.{Entry, OfServer, server_trace}
 use Rattle.coap_world.specs.Words.{holds_at, changes_in}

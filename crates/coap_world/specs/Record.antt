@@ -1,13 +1,35 @@
 -- The record of a run: what each event made of the two ends, the newest first.
 use Rattle.std.specs.Prelude.{◌≡◌, ◌⊎◌, ℕ, Bool, true, false, Option, Some, None, List, [], ◌∷◌, ◌++◌, map, length}
-use Rattle.coap_types.specs.Past.{Sometime, Always, all_of}
+use Rattle.coap_types.specs.Past.{Always, Sometime, all_of}
 use Rattle.coap_types.specs.declared.endpoint.Endpoint.{Endpoint}
 use Rattle.coap_layer.specs.Trace.{Packet}
-use Rattle.coap_ends.specs.ClientTrace as C
-use Rattle.coap_ends.specs.ClientLaw.{ClientLaw}
-use Rattle.coap_ends.specs.ServerTrace as S
-use Rattle.coap_ends.specs.ServerLaw.{ServerLaw}
-use Rattle.coap_world.specs.Events.{client_end, server_end, Config, What, Calls, Sets, Removes, TickClient, TickServer, Deliver, StrangerToClient, StrangerToServer, Event}
+use Rattle.coap_ends.specs.ClientSide.ClientLaw.{ClientLaw}
+use Rattle.coap_ends.specs.ServerSide.ServerLaw.{ServerLaw}
+use Rattle.coap_world.specs.Events.{client_end, server_end, Config, What, Calls, Observes, Cancels, Forgets, Sets}
+use Rattle.coap_world.specs.Events.{Removes, TickClient, TickServer, Deliver, StrangerToClient, StrangerToServer, Event}
+use Rattle.coap_ends.specs.ClientSide.ClientTrace as C
+use Rattle.coap_ends.specs.ServerSide.ServerTrace as S
+
+-- a datagram that an end gave out
+pub record Given : Type 0 where
+  pub at : ℕ
+  pub from : Endpoint
+  pub packet : Packet
+
+abbrev pub given_as : ℕ → Endpoint → Option Packet → List Given
+given_as at from None = []
+given_as at from (Some packet) = record { at = at; from = from; packet = packet } ∷ []
+
+-- an input is one call, and none where it met want of memory
+abbrev pub IsOne : {X : Type 0} → (X → Type 0) → Bool → List X → Type 0
+IsOne Is true calls = calls ≡ []
+IsOne Is false calls = (c : _) × Is c × (calls ≡ c ∷ [])
+
+-- ticks, up to the first that does nothing or meets want of memory
+abbrev pub AreTicks : {X : Type 0} → (Bool → X → Type 0) → Bool → List X → Type 0
+AreTicks IsTick true calls = Always (λ past c. IsTick true c) calls
+AreTicks IsTick false [] = ⊥
+AreTicks IsTick false (c ∷ earlier) = IsTick false c × Always (λ past b. IsTick true b) earlier
 
 -- a call of an end
 pub data Entry : Type 0 where
@@ -41,15 +63,7 @@ begun_with config = map (λ (d : S.Delay). S.Delays d.path d.ms true) config.del
 abbrev pub server_trace : Config → List Entry → List S.Call
 server_trace config all = server_of all ++ begun_with config
 
--- a datagram that an end gave out
-pub record Given : Type 0 where
-  pub at : ℕ
-  pub from : Endpoint
-  pub packet : Packet
-
-abbrev pub given_as : ℕ → Endpoint → Option Packet → List Given
-given_as at from None = []
-given_as at from (Some packet) = record { at = at; from = from; packet = packet } ∷ []
+-- the datagrams that an end gave out
 
 abbrev pub given_by : ℕ → Entry → List Given
 given_by at (OfClient (C.NextOut answer)) = given_as at client_end answer
@@ -74,25 +88,14 @@ pub record OnServer (calls : List S.Call) (entries : List Entry) : Type 0 where
   pub outs : List Packet
   pub is : entries ≡ map OfServer (S.NextOut None ∷ (map (λ p. S.NextOut (Some p)) outs ++ calls))
 
--- an input is one call, and none where it met want of memory
-abbrev pub IsOne : {X : Type 0} → (X → Type 0) → Bool → List X → Type 0
-IsOne Is true calls = calls ≡ []
-IsOne Is false calls = (c : _) × Is c × (calls ≡ c ∷ [])
-
--- ticks, up to the first that does nothing or meets want of memory
-abbrev pub AreTicks : {X : Type 0} → (Bool → X → Type 0) → Bool → List X → Type 0
-AreTicks IsTick true calls = Always (λ past c. IsTick true c) calls
-AreTicks IsTick false [] = ⊥
-AreTicks IsTick false (c ∷ earlier) = IsTick false c × Always (λ past b. IsTick true b) earlier
-
 abbrev pub ClientTick : ℕ → ℕ → Bool → C.Call → Type 0
-ClientTick at word answer c = (below : _) × (turn : _) × (sent : _) × (token : _) × (c ≡ C.Ticks at word below turn sent token answer)
+ClientTick at word answer c = (below : _) × (turn : _) × (sent : _) × (token : _) × (kept : _) × (c ≡ C.Ticks at word below turn sent token kept answer)
 
 abbrev pub ServerTick : ℕ → ℕ → Bool → S.Call → Type 0
-ServerTick at word answer c = (below : _) × (room : _) × (due : _) × (h : _) × (id : _) × (c ≡ S.Ticks at word below room due h id answer)
+ServerTick at word answer c = (below : _) × (room : _) × (due : _) × (passed : _) × (h : _) × (id : _) × (c ≡ S.Ticks at word below room due passed h id answer)
 
 abbrev pub FeedsClient : ℕ → ℕ → Endpoint → List ℕ → C.Call → Type 0
-FeedsClient at word from bytes c = (up : _) × (settled : _) × (event : _) × (c ≡ C.Feeds at from bytes word up settled event)
+FeedsClient at word from bytes c = (up : _) × (settled : _) × (event : _) × (sent : _) × (token : _) × (kept : _) × (c ≡ C.Feeds at from bytes word up settled event sent token kept)
 
 abbrev pub FeedsServer : ℕ → ℕ → Endpoint → List ℕ → S.Call → Type 0
 FeedsServer at word from bytes c = (up : _) × (came : _) × (h : _) × (below : _) × (c ≡ S.Feeds at from bytes word up came h below)
@@ -103,9 +106,14 @@ Delivers g at word refused entries =
     ((g.packet.to ≡ server_end) × (calls : List S.Call) × IsOne (FeedsServer at word g.from g.packet.bytes) refused calls × OnServer calls entries)
     ⊎ ((g.packet.to ≡ client_end) × (calls : List C.Call) × IsOne (FeedsClient at word g.from g.packet.bytes) refused calls × OnClient calls entries)
 
--- what an event makes of the ends
+-- What an event makes of the ends. A cancel and a forgetting take no memory: they are one call, always.
 abbrev pub Makes : List Turn → ℕ → ℕ → What → Bool → List Entry → Type 0
 Makes past at word (Calls r) refused entries = (calls : List C.Call) × IsOne (λ c. (answer : _) × (c ≡ C.Calls at r answer)) refused calls × OnClient calls entries
+Makes past at word (Observes path) refused entries = (calls : List C.Call) × IsOne (λ c. (answer : _) × (c ≡ C.Observes at path answer)) refused calls × OnClient calls entries
+Makes past at word (Cancels number) refused entries =
+    (calls : List C.Call) × (IsOne (λ c. (answer : _) × (c ≡ C.Cancels at number answer)) false calls × (refused ≡ false)) × OnClient calls entries
+Makes past at word (Forgets number) refused entries =
+    (calls : List C.Call) × (IsOne (λ c. (kept : _) × (answer : _) × (c ≡ C.Forgets number kept answer)) false calls × (refused ≡ false)) × OnClient calls entries
 Makes past at word (Sets path format body) refused entries =
     (calls : List S.Call) × IsOne (λ c. (answer : _) × (left : _) × (c ≡ S.Sets at path format body answer left)) refused calls × OnServer calls entries
 Makes past at word (Removes path) refused entries = (calls : List S.Call) × IsOne (λ c. (answer : _) × (left : _) × (c ≡ S.Removes at path answer left)) refused calls × OnServer calls entries

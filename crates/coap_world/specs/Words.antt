@@ -1,29 +1,33 @@
 -- What a record says: what is called, sent and reported, which request is served and applied, and what the server holds.
 use Rattle.std.specs.Prelude.{◌≡◌, ℕ, true, Option, Some, List}
 use Rattle.coap_resource.specs.Content.{Held}
-use Rattle.coap_ends.specs.ClientTrace.{Request, Reported}
-use Rattle.coap_ends.specs.ClientSteps.{reports}
-use Rattle.coap_ends.specs.ClientLaw as C
-use Rattle.coap_ends.specs.Follows.ClientFollows.{Sending, WasTaken, WasSent}
-use Rattle.coap_ends.specs.ServerLaw.{own_of}
-use Rattle.coap_ends.specs.Follows.ServerFollows.{Serving, serving, is_applied, held_at, changes}
+use Rattle.coap_ends.specs.ClientSide.ClientTrace.{Request, Reported}
+use Rattle.coap_ends.specs.ClientSide.ClientSteps.{reports}
+use Rattle.coap_ends.specs.ClientSide.ClientBegins.{WasSent}
+use Rattle.coap_ends.specs.ClientSide.ClientLaw as C
+use Rattle.coap_ends.specs.ClientSide.ClientOrder.{call_of}
+use Rattle.coap_ends.specs.ClientSide.ClientWords.{Sending, WasTaken}
+use Rattle.coap_ends.specs.ServerSide.ServerLaw.{own_of}
+use Rattle.coap_ends.specs.ServerSide.ServerServing.{is_applied}
+use Rattle.coap_ends.specs.ServerSide.Follows.ServerHolds.{held_at, changes}
+use Rattle.coap_ends.specs.ServerSide.Follows.ServerServes.{Serving, serving}
 use Rattle.coap_world.specs.Events.{client_end, Config}
 use Rattle.coap_world.specs.Record.{Entry, OfClient, OfServer, client_of, server_trace}
-
--- this is reported here
-abbrev pub ReportsAt : Reported → List Entry → Entry → Type 0
-ReportsAt r past (OfClient c) = reports (C.own_of (client_of past)) c ≡ Some r
-ReportsAt r past (OfServer c) = ⊥
 
 -- a call of this number and this request was taken
 abbrev pub WasCalled : ℕ → Request → List Entry → Type 0
 WasCalled number r past = WasTaken (record { number = number; request = r }) (client_of past)
 
--- the client sent a request of this call under this token
-abbrev pub SentFor : ℕ → List ℕ → List Entry → Type 0
-SentFor number token all = (x : Sending) × WasSent x (client_of all) × (x.operation.number ≡ number) × (x.token ≡ token)
-
 module _ (config : Config) where
+  -- this is reported here
+  abbrev pub ReportsAt : Reported → List Entry → Entry → Type 0
+  ReportsAt r past (OfClient c) = reports (C.own_of config.client_szx (client_of past)) c ≡ Some r
+  ReportsAt r past (OfServer c) = ⊥
+
+  -- the client sent a request of this call under this token
+  abbrev pub SentFor : ℕ → List ℕ → List Entry → Type 0
+  SentFor number token all = (x : Sending) × WasSent config.client_szx x (client_of all) × (call_of x.operation ≡ Some number) × (x.token ≡ token)
+
   -- the server serves this request here
   abbrev pub ServesAt : Serving → List Entry → Entry → Type 0
   ServesAt x past (OfClient c) = ⊥

@@ -1,26 +1,49 @@
 ghost use Rattle.std.specs.Prelude.{◌≡◌, List};
 ghost use Rattle.coap_types.specs.declared.transmission.TheConstants.{MAX_LATENCY_MS as max_latency};
 ghost use Rattle.coap_layer.specs.Channel.{ChannelLaw, near_of, far_of};
-ghost use Rattle.coap_ends.specs.ClientLaw as clients;
-ghost use Rattle.coap_ends.specs.ServerLaw as servers;
-ghost use Rattle.coap_world.specs.Agrees.{Agrees, AppliedWhole, AtMostOnce};
+ghost use Rattle.coap_ends.specs.ClientSide.ClientLaw as clients;
+ghost use Rattle.coap_ends.specs.ServerSide.ServerLaw as servers;
+ghost use Rattle.coap_world.specs.Applied.{AppliedWhole, AtMostOnce, EachBelongs};
+ghost use Rattle.coap_world.specs.Agrees.{Agrees};
+ghost use Rattle.coap_world.specs.Answers.{AllAnswered};
 ghost use Rattle.coap_world.specs.CameFrom.{CamesFrom};
 ghost use Rattle.coap_world.specs.Delivery.{AllFair};
+ghost use Rattle.coap_world.specs.Done.{NeverFailed, OnceDone};
 ghost use Rattle.coap_world.specs.Events.{client_end, server_end, Config, Event};
-ghost use Rattle.coap_world.specs.GoesOn.{GoesOn, MayRun, HasRecord};
+ghost use Rattle.coap_world.specs.Given.{AllGiven};
+ghost use Rattle.coap_world.specs.Held.{EachHeld, EachValid, EachValue};
 ghost use Rattle.coap_world.specs.Holds.{HoldsChanges, ChangesOwned};
 ghost use Rattle.coap_world.specs.Hops.{hops_of, across, TakenAtOnce};
-ghost use Rattle.coap_world.specs.Legal.{IsConfig, Legal};
-ghost use Rattle.coap_world.specs.LegalEvents.{NoneRuns, MayComeTill, NotAfter, never_given, NoneFrom, CallsMay, SetsMay, RemovesMay, TicksMay, StrangersMay, DeliveriesMay, NoneFalls, NoneOver, NoneLonger, NoneBeyond};
-ghost use Rattle.coap_world.specs.LegalRuns.{Pings, PingsClient, Gets, GetsLate, Posts, Fails, TimesOut, Interferes, Puts, Nons, Changes, Waits};
+ghost use Rattle.coap_world.specs.Legal.{Legal};
+ghost use Rattle.coap_world.specs.LegalEvents.{NoneRuns, NotAfter, never_given, NoneFrom, CallsMay, ObservesMay, EndsMay, SetsMay, RemovesMay, TicksMay, StrangersMay, DeliveriesMay, NoneFalls, NoneOver, NoneLonger, NoneBeyond};
+ghost use Rattle.coap_world.specs.LegalRuns.{MayComeTill};
 ghost use Rattle.coap_world.specs.Local.{LocalRight};
+ghost use Rattle.coap_world.specs.Noticed.{AllNoticed};
 ghost use Rattle.coap_world.specs.Record.{Turn, RecordOf, entries_of, client_of, server_trace};
+ghost use Rattle.coap_world.specs.Rising.{HeldAreNamed, ValuesRise};
 ghost use Rattle.coap_world.specs.Serves.{AllServed};
 
 /// What comes from an end's address was given out by that end, for the one that it comes to, at most 100,000 ms before.
 pub fn delivery_law()
     ensures fair { (config : Config) (events : List Event) (turns : List Turn) → RecordOf config events turns
         → Legal config turns → AllFair turns }
+{}
+
+/// What the message layers of the two ends do in a run, in one order (RFC 7252, section 4).
+pub fn hops_law()
+    // The near hops are the entries of the client's layer, the far ones of the server's.
+    ensures near { (config : Config) (turns : List Turn) → near_of (hops_of config turns)
+        ≡ clients.layer_of server_end config.client_szx config.client_word (client_of (entries_of turns)) }
+    ensures far { (config : Config) (turns : List Turn) → far_of (hops_of config turns)
+        ≡ servers.layer_of config.limit config.server_szx config.server_word (server_trace config (entries_of turns)) }
+    // In a legal run they stand in the law of two layers and the datagrams between them.
+    ensures channel { (config : Config) (events : List Event) (turns : List Turn) → RecordOf config events turns
+        → Legal config turns → ChannelLaw config.client_word config.server_word client_end server_end (hops_of config turns) }
+    ensures back { (config : Config) (events : List Event) (turns : List Turn) → RecordOf config events turns
+        → Legal config turns → ChannelLaw config.server_word config.client_word server_end client_end (across (hops_of config turns)) }
+    // What an end gives out in a turn was sent by its layer in that turn, at its moment.
+    ensures at_once { (config : Config) (events : List Event) (turns : List Turn) → RecordOf config events turns
+        → Legal config turns → TakenAtOnce (hops_of config turns) turns }
 {}
 
 /// What the server's changes are, whatever the events are.
@@ -36,67 +59,39 @@ pub fn changes_law()
         → Legal config turns → ChangesOwned config (entries_of turns) }
 {}
 
-/// What the message layers of the two ends do in a run, in one order (RFC 7252, section 4).
-pub fn hops_law()
-    // The near hops are the entries of the client's layer, the far ones of the server's.
-    ensures near { (config : Config) (turns : List Turn)
-        → near_of (hops_of config turns) ≡ clients.layer_of server_end config.client_word (client_of (entries_of turns)) }
-    ensures far { (config : Config) (turns : List Turn)
-        → far_of (hops_of config turns) ≡ servers.layer_of config.limit config.server_szx config.server_word (server_trace config (entries_of turns)) }
-    // In a legal run they stand in the law of two layers and the datagrams between them.
-    ensures channel { (config : Config) (events : List Event) (turns : List Turn) → RecordOf config events turns
-        → Legal config turns → ChannelLaw config.client_word config.server_word client_end server_end (hops_of config turns) }
-    ensures back { (config : Config) (events : List Event) (turns : List Turn) → RecordOf config events turns
-        → Legal config turns → ChannelLaw config.server_word config.client_word server_end client_end (across (hops_of config turns)) }
-    // What an end gives out in a turn was sent by its layer in that turn, at its moment.
-    ensures at_once { (config : Config) (events : List Event) (turns : List Turn) → RecordOf config events turns
-        → Legal config turns → TakenAtOnce (hops_of config turns) turns }
-{}
-
-/// Whose requests the server serves in a legal run.
+/// Whose requests the server hands up in a legal run.
 pub fn requests_law()
-    // What comes from the client's address is the request of a call, as it was sent (RFC 7252, sections 4.2 and 5.2).
+    // What comes from the client's address is a request that the client sent (RFC 7252, sections 4.2 and 5.2).
     ensures came { (config : Config) (events : List Event) (turns : List Turn) → RecordOf config events turns
         → Legal config turns → CamesFrom config (entries_of turns) }
-    // What is applied for a call has its method and path, its format and all of its body (RFC 7252, section 5.8).
-    ensures whole { (config : Config) (events : List Event) (turns : List Turn) → RecordOf config events turns
-        → Legal config turns → AppliedWhole config (entries_of turns) }
-    // Each request that is handed up is served, by the table of the methods, and applied only where its preconditions hold
-    // (RFC 7252, sections 5.8 and 5.10.8).
+    // What is served is what its datagram asks, by the table of the methods, and applied only where its preconditions hold;
+    // and each request that asks whole is served or waits (RFC 7252, sections 5.8 and 5.10.8).
     ensures served { (config : Config) (events : List Event) (turns : List Turn) → RecordOf config events turns
         → Legal config turns → AllServed config (entries_of turns) }
-    // For each call at most one request is applied (RFC 7252, section 4.5).
+    // What is applied for the client's address belongs to a call (RFC 7252, section 5.3.1).
+    ensures belongs { (config : Config) (events : List Event) (turns : List Turn) → RecordOf config events turns
+        → Legal config turns → EachBelongs config (entries_of turns) }
+    // What is applied for a call has its method, path and preconditions, and its format, and does to that path what the call
+    // asks, with all of its body, whether that came in one message or in blocks (RFC 7252, sections 5.8 and 5.10.8; RFC 7959,
+    // section 2.5).
+    ensures whole { (config : Config) (events : List Event) (turns : List Turn) → RecordOf config events turns
+        → Legal config turns → AppliedWhole config (entries_of turns) }
+    // For each call at most one request is applied (RFC 7252, section 4.5; RFC 7959, section 2.5).
     ensures once { (config : Config) (events : List Event) (turns : List Turn) → RecordOf config events turns
         → Legal config turns → AtMostOnce config (entries_of turns) }
 {}
 
-/// Legal runs: what this crate says of them, it says of something.
-pub fn witness_law()
-    // A stranger pings the server, which answers with a Reset (RFC 7252, section 4.3).
-    ensures pings { Pings }
-    // A client gets what the server holds (RFC 7252, section 5.2.1).
-    ensures gets { Gets }
-    // The same by a separate response (RFC 7252, section 5.2.2).
-    ensures separate { GetsLate }
-    // A POST comes twice, the first of its acknowledgements is lost, and it is applied once (RFC 7252, section 4.5).
-    ensures posts { Posts }
-    // A POST to a path that holds nothing has the response 4.04 (RFC 7252, section 5.9.2.5).
-    ensures fails { Fails }
-    // A POST is never acknowledged: it goes out five times, and Timeout is reported. That says nothing of the server: the last
-    // copy comes later, and is applied (RFC 7252, sections 4.2 and 4.8.2).
-    ensures times_out { TimesOut }
-    // A stranger's DELETE, under the token of a call, is applied, and not for that call (RFC 7252, section 5.8.4).
-    ensures interferes { Interferes }
-    // A stranger pings the client, which answers with a Reset (RFC 7252, section 4.3).
-    ensures pings_client { PingsClient }
-    // A PUT with a format makes what its path holds (RFC 7252, section 5.8.3).
-    ensures puts { Puts }
-    // A stranger's DELETE comes in a Non-confirmable message, and is answered in one (RFC 7252, section 5.2.3).
-    ensures nons { Nons }
-    // A local change meets want of memory and comes again at the same moment; then its path is removed.
-    ensures changes { Changes }
-    // Two calls, of which the second waits while the first has its exchange (RFC 7252, section 4.7).
-    ensures waits { Waits }
+/// Whose responses the client takes in a legal run, and what is taken of its reports.
+pub fn answers_law()
+    // Each answer was made by the server before, for the client, under that token (RFC 7252, section 5.3.2; RFC 7641, section 3.2).
+    ensures answered { (config : Config) (events : List Event) (turns : List Turn) → RecordOf config events turns
+        → Legal config turns → AllAnswered config (entries_of turns) }
+    // .. and so was each notification (RFC 7641, section 3.2).
+    ensures noticed { (config : Config) (events : List Event) (turns : List Turn) → RecordOf config events turns
+        → Legal config turns → AllNoticed config (entries_of turns) }
+    // Its reports are all taken, in order, each once, but for those of a forgotten observation.
+    ensures given { (config : Config) (events : List Event) (turns : List Turn) → RecordOf config events turns
+        → Legal config turns → AllGiven config (entries_of turns) }
 {}
 
 /// Which events are legal.
@@ -104,9 +99,12 @@ pub fn legal_law()
     // A datagram may come to 100,000 ms after it was given out, and no later (MAX_LATENCY, RFC 7252, section 4.8.2).
     ensures comes { MayComeTill max_latency }
     ensures late { NotAfter max_latency }
-    // Each kind of event may happen with numbers in range, at a moment that is not before the last: a call, a local change and
-    // a removal, ticks, a datagram of any stranger, and each datagram that was given out to an end.
+    // Each kind of event may happen with numbers in range, at a moment that is not before the last: a call, an observation, its
+    // cancel and its end, a local change and a removal, ticks, a datagram of any stranger, and each datagram that was given
+    // out to an end.
     ensures calls { CallsMay }
+    ensures observes { ObservesMay }
+    ensures ends { EndsMay }
     ensures sets { SetsMay }
     ensures removes { RemovesMay }
     ensures ticks { TicksMay }
@@ -123,21 +121,42 @@ pub fn legal_law()
     ensures of_server { NoneFrom server_end }
 {}
 
-/// What a client and a server come to together, however the datagrams between them are lost, repeated and delayed.
-pub fn agreement()
-    // Each body that is reported was held at its path between call and report; each request body is applied whole, at most
-    // once, exactly once where success is reported and never where another response is (RFC 7252, sections 4.2, 4.5, 5.3.2,
-    // 5.8 and 5.9).
-    ensures agrees { (config : Config) (events : List Event) (turns : List Turn) → RecordOf config events turns
-        → Legal config turns → Agrees config (entries_of turns) }
+/// What the client reports in a legal run.
+pub fn reports_law()
+    // A body was held by the server at that path, under the version of its ETag, between the call and the report (RFC 7252,
+    // sections 5.8.1 and 5.10.6; RFC 7959, section 2.4).
+    ensures held { (config : Config) (events : List Event) (turns : List Turn) → RecordOf config events turns
+        → Legal config turns → EachHeld config (entries_of turns) }
+    // .. so was what is valid still, by an ETag of the call (RFC 7252, sections 5.9.1.3 and 5.10.6.2) ..
+    ensures valid { (config : Config) (events : List Event) (turns : List Turn) → RecordOf config events turns
+        → Legal config turns → EachValid config (entries_of turns) }
+    // .. and a value of an observation, between the observation's start and the report (RFC 7641, sections 3.2 and 4.4; RFC 7959,
+    // section 2.6).
+    ensures value { (config : Config) (events : List Event) (turns : List Turn) → RecordOf config events turns
+        → Legal config turns → EachValue config (entries_of turns) }
+    // Where success is reported, a request of the call was applied between call and report (RFC 7252, section 5.8).
+    ensures done { (config : Config) (events : List Event) (turns : List Turn) → RecordOf config events turns
+        → Legal config turns → OnceDone config (entries_of turns) }
+    // Where Failed is reported, none is applied, before or after (RFC 7252, section 5.9).
+    ensures failed { (config : Config) (events : List Event) (turns : List Turn) → RecordOf config events turns
+        → Legal config turns → NeverFailed config (entries_of turns) }
 {}
 
-/// There are records: what the agreement says of legal runs, it says of each list of events that are legal one after the
-/// other.
-pub fn runs_law()
-    // A record goes on with each further event that is legal after it, and nothing is refused.
-    ensures goes { (config : Config) → GoesOn config }
-    // Events that may happen one after the other have a record in which nothing is refused.
-    ensures runs { (config : Config) → IsConfig config → (events : List Event) → MayRun config events
-        → HasRecord config events }
+/// What is promised of the values of an observation in a legal run.
+pub fn observations_law()
+    // Of two values of one observation the later one has the later version (RFC 7641, sections 1.3 and 3.4).
+    ensures rising { (config : Config) (events : List Event) (turns : List Turn) → RecordOf config events turns
+        → Legal config turns → ValuesRise config (entries_of turns) }
+    // The versions that are held have 64 bits, and each is named by its entity-tag (RFC 7252, section 5.10.6).
+    ensures named { (config : Config) (events : List Event) (turns : List Turn) → RecordOf config events turns
+        → Legal config turns → HeldAreNamed config (entries_of turns) }
+{}
+
+/// What a client and a server come to together, however the datagrams between them are lost, repeated and delayed.
+pub fn agreement()
+    // Each body, value and valid representation that is reported was held at its path between call and report; each request
+    // body is applied whole, at most once, exactly once where success is reported and never where a failure is (RFC
+    // 7252, sections 4.2, 4.5, 5.3.2, 5.8 and 5.9; RFC 7641; RFC 7959).
+    ensures agrees { (config : Config) (events : List Event) (turns : List Turn) → RecordOf config events turns
+        → Legal config turns → Agrees config (entries_of turns) }
 {}

@@ -1,13 +1,16 @@
-//! A client and a server of CoAP together, and the datagrams between them (RFC 7252).
+//! A client and a server of CoAP together, and the datagrams between them (RFC 7252): what holds of every run, and a run.
 #![tactic(auto)]
 
 mod laws;
-mod whole_world;
+mod running;
+mod runs;
 
 pub use laws::{
-    agreement, changes_law, delivery_law, hops_law, legal_law, requests_law, runs_law, witness_law,
+    agreement, answers_law, changes_law, delivery_law, hops_law, legal_law, observations_law,
+    reports_law, requests_law,
 };
-pub use whole_world::{
-    whole_answers_law, whole_changes_law, whole_delivery_law, whole_hops_law, whole_legal_law,
-    whole_requests_law,
+pub use running::{
+    CLIENT_END, Event, Given, Kind, Line, Record, RunRefusal, SERVER_END, Side, What, WorldConfig,
+    run, run_with,
 };
+pub use runs::{runs_law, witness_law};

@@ -1,58 +1,46 @@
 -- When the calls of the client, at one moment, have their entries in its layer.
-use Rattle.std.proofs.Common.{◌≡◌, ◌≤◌, ℕ, max, Bool, true, false, Option, Some, None, List, [], ◌∷◌, ◌++◌, Result, refl, ap, sym, subst, ◌∙◌, arith, append_assoc}
+use Rattle.std.proofs.Common.{◌≡◌, ◌≤◌, ℕ, Option, Some, None, List, [], ◌∷◌, ◌++◌, subst, ◌∙◌, arith, max, Bool, true}
+use Rattle.std.proofs.Common.{false, Result, refl, ap, sym, append_assoc}
 use Rattle.coap_types.specs.declared.endpoint.Endpoint.{Endpoint}
-use Rattle.coap_layer.specs.Trace as L
+use Rattle.coap_exchange.specs.AskerRequests.{asked, beneath, opening_of, request_token, content_of}
+use Rattle.coap_exchange.specs.AskerArrivals.{replying, settling, acts, verdict_on, settles, id_in, reply_by}
+use Rattle.coap_world.proofs.Delivery.EntriesInTime.{Every, Wish, every_join, Timely, Done, Ends, ends_over, done}
+use Rattle.coap_world.proofs.Delivery.EntriesInTime.{nothing_done, takes}
 use Rattle.coap_layer.specs.Machine.State.{State, start}
 use Rattle.coap_layer.specs.Machine.Steps.{left_after}
 use Rattle.coap_exchange.specs.declared.asker.AskRefusal.{AskRefusal}
 use Rattle.coap_exchange.specs.declared.asker.Exchange.{Exchange}
 use Rattle.coap_exchange.specs.declared.matching.Opening.{Opening}
 use Rattle.coap_exchange.specs.declared.matching.Opening.TheVariants.{Running, Spent, Sends}
-use Rattle.coap_exchange.specs.AskerTrace as A
-use Rattle.coap_exchange.specs.AskerRequests.{asked, beneath}
-use Rattle.coap_exchange.specs.AskerArrivals.{settling, replying, acts, verdict_on, settles, id_in, reply_by}
-use Rattle.coap_exchange.specs.AskerLaw as asker
-use Rattle.coap_ends.specs.ClientTrace.{Operation, Own, Call, Calls, Feeds, Ticks, NextOut, NextReport}
-use Rattle.coap_ends.specs.ClientSteps.{asking, starting}
-use Rattle.coap_ends.specs.ClientSteps as steps
-use Rattle.coap_ends.specs.ClientLaw.{own_of, lower_of}
+use Rattle.coap_ends.specs.ClientSide.ClientTrace.{Call, Calls, Observes, Cancels, Forgets, Feeds, Ticks, NextOut}
+use Rattle.coap_ends.specs.ClientSide.ClientTrace.{NextReport, Asked}
+use Rattle.coap_ends.specs.ClientSide.ClientOwn.{Own, Observation}
+use Rattle.coap_ends.specs.ClientSide.ClientEffects.{Deed, Rests, Asks, Keeps, Releases, Effect}
+use Rattle.coap_ends.specs.ClientSide.ClientObserving.{releases}
+use Rattle.coap_ends.specs.ClientSide.ClientObservations.{observation_of}
+use Rattle.coap_ends.specs.ClientSide.ClientDeeds.{deeds, done_for, close, effect}
+use Rattle.coap_ends.specs.ClientSide.ClientLaw.{own_of, lower_of}
+use Rattle.coap_ends.specs.Adds.{asked_by_client}
+use Rattle.coap_ends.proofs.Facts.Adds.{left_append}
+use Rattle.coap_ends.proofs.Facts.OfClient.{moment_of, clock_is}
 use Rattle.coap_world.specs.Delivery.{FedToClient}
 use Rattle.coap_world.specs.Events.{server_end, Config}
 use Rattle.coap_world.specs.Record.{OfClient}
-use Rattle.coap_ends.specs.Adds.{asked_by_client}
-use Rattle.coap_ends.proofs.Facts.Adds.{left_append}
 use Rattle.coap_world.specs.Hops.{client_asks, client_asked, client_adds}
 use Rattle.coap_world.proofs.Delivery.HopsAreEntries.{client_asked_next}
-use Rattle.coap_world.proofs.Delivery.EntriesInTime.{Every, every_join, Wish, Timely, Done, Ends, ends_over, done, nothing_done, takes}
-
--- the moment that it is handed
-abbrev pub IsAt : ℕ → Call → Type 0
-IsAt t (Calls now r answer) = now ≡ t
-IsAt t (Feeds now from bytes word up settled event) = now ≡ t
-IsAt t (Ticks now word below turn sent token answer) = now ≡ t
-IsAt t (NextOut answer) = Unit {0}
-IsAt t (NextReport answer) = Unit {0}
-
-abbrev pub Fed : Call → Endpoint → List ℕ → Type 0
-Fed c from bytes = FedToClient from bytes (OfClient c)
+use Rattle.coap_layer.specs.Trace as L
+use Rattle.coap_exchange.specs.AskerTrace as A
+use Rattle.coap_exchange.specs.AskerLaw as asker
+use Rattle.coap_exchange.specs.AskerSteps as asker_steps
+use Rattle.coap_ends.specs.ClientSide.ClientSteps as steps
 
 module _ (t : ℕ) (F : Endpoint → List ℕ → Type 0) where
-  settling_wish : (b : Bool) (server : Endpoint) (o : Option Exchange) (settled : Bool) → Every (Wish t F) (settling b server o settled)
-  settling_wish true server (Some x) settled = (record { now = omega arith; fed = λ from bytes is. absurd (cc is) }, tt)
-  settling_wish true server None settled = tt
-  settling_wish false server o settled = tt
-
   pub replying_wish : (from : Endpoint) (id : ℕ) (o : Option (List ℕ)) → Every (Wish t F) (replying from id o)
   replying_wish from id None = tt
   replying_wish from id (Some b) = (record { now = omega arith; fed = λ from bytes is. absurd (cc is) }, tt)
 
   pub timed_wish : (now : ℕ) (up : L.Answer) → now ≤ t → Wish t F (asked now L.Ticks up)
   timed_wish now up h = record { now = h; fed = λ from bytes is. absurd (cc is) }
-
-  beneath_wish : (now : ℕ) (o : Opening) (server : Endpoint) (content : L.Content) (word : ℕ) (sent : L.Answer) → now ≤ t → Wish t F (asked now (beneath o server content word) sent)
-  beneath_wish now Running server content word sent h = record { now = h; fed = λ from bytes is. absurd (cc is) }
-  beneath_wish now Spent server content word sent h = record { now = h; fed = λ from bytes is. absurd (cc is) }
-  beneath_wish now Sends server content word sent h = record { now = h; fed = λ from bytes is. absurd (cc is) }
 
   pub receive_wish : (now : ℕ) (from : Endpoint) (bytes : List ℕ) (up : L.Answer) → now ≤ t → F from bytes → Wish t F (asked now (L.Receive from bytes) up)
   receive_wish now from bytes up h fed =
@@ -61,63 +49,164 @@ module _ (t : ℕ) (F : Endpoint → List ℕ → Type 0) where
         fed = λ f b is. let same : from ≡ f = cc is in let alike : bytes ≡ b = cc is in subst (λ y. F y b) same (subst (F from) alike fed);
       }
 
-  -- an arrival at the exchanges
-  arrives : (s : A.Own) (now : ℕ) (from : Endpoint) (bytes : List ℕ) (up : L.Answer) (settled : Bool) → now ≤ t → t ≤ now → F from bytes
-      → Every (Wish t F) ((acts s from up settled (verdict_on s from up) ++ asked now (L.Receive from bytes) up ∷ []) ++ []) × Ends t F ((acts s from up settled (verdict_on s from up) ++ asked now (L.Receive from bytes) up ∷ []) ++ [])
-  arrives s now from bytes up settled h k fed =
+-- the moment that it is handed
+abbrev pub IsAt : ℕ → Call → Type 0
+IsAt t (Calls now r answer) = now ≡ t
+IsAt t (Observes now path answer) = now ≡ t
+IsAt t (Cancels now number answer) = now ≡ t
+IsAt t (Forgets number kept answer) = Unit {0}
+IsAt t (Feeds now from bytes word up settled event sent token kept) = now ≡ t
+IsAt t (Ticks now word below turn sent token kept answer) = now ≡ t
+IsAt t (NextOut answer) = Unit {0}
+IsAt t (NextReport answer) = Unit {0}
+IsAt t (Asked answer) = Unit {0}
+
+abbrev pub Fed : Call → Endpoint → List ℕ → Type 0
+Fed c from bytes = FedToClient from bytes (OfClient c)
+
+-- a forgetting asks nothing of the layer: a token is kept no more, or nothing is done
+forgets_nothing : (to : Endpoint) (word : ℕ) (past : List A.Call) (o : Option Observation) (s : Own) (now w : ℕ) (sent : L.Answer) (token : Result (List ℕ) AskRefusal) (kept : Bool)
+    → asked_by_client to word past (deeds (releases o) s now w sent token kept) ≡ []
+forgets_nothing to word past None s now w sent token kept = refl
+forgets_nothing to word past (Some o) s now w sent token kept = refl
+
+module _ (t : ℕ) (F : Endpoint → List ℕ → Type 0) where
+  -- what is asked of the exchanges
+  abbrev AsksAt : A.Call → Type 0
+  AsksAt (A.Ask now r word below answer) = now ≤ t
+  AsksAt (A.Receive now from bytes up settled answer) = (now ≤ t) × F from bytes
+  AsksAt (A.Ticks now below answer) = now ≤ t
+  AsksAt (A.Keep token answer) = Unit {0}
+  AsksAt (A.Release token answer) = Unit {0}
+  AsksAt (A.Take answer) = Unit {0}
+
+  settling_wish : (b : Bool) (server : Endpoint) (o : Option Exchange) (settled : Bool) → Every (Wish t F) (settling b server o settled)
+  settling_wish true server (Some x) settled = (record { now = omega arith; fed = λ from bytes is. absurd (cc is) }, tt)
+  settling_wish true server None settled = tt
+  settling_wish false server o settled = tt
+
+  beneath_wish : (now : ℕ) (o : Opening) (server : Endpoint) (content : L.Content) (word : ℕ) (sent : L.Answer) → now ≤ t → Wish t F (asked now (beneath o server content word) sent)
+  beneath_wish now Running server content word sent h = record { now = h; fed = λ from bytes is. absurd (cc is) }
+  beneath_wish now Spent server content word sent h = record { now = h; fed = λ from bytes is. absurd (cc is) }
+  beneath_wish now Sends server content word sent h = record { now = h; fed = λ from bytes is. absurd (cc is) }
+
+  lower_wish : (s : A.Own) (c : A.Call) → AsksAt c → Every (Wish t F) (asker_steps.lower s c)
+  lower_wish s (A.Ask now r word below answer) h = (beneath_wish now (opening_of s r) s.server (content_of (request_token s r) r) word below h, tt)
+  lower_wish s (A.Receive now from bytes up settled answer) h =
       let v = verdict_on s from up in
-      let is = append_assoc (acts s from up settled v) (asked now (L.Receive from bytes) up ∷ []) [] in (
-        subst (Every (Wish t F)) (sym is) (every_join (Wish t F) (acts s from up settled v) (asked now (L.Receive from bytes) up ∷ [])
-            (every_join (Wish t F) (settling (settles v) s.server s.running settled) (replying from (id_in up) (reply_by v (id_in up))) (settling_wish (settles v) s.server s.running settled) (replying_wish from (id_in up) (reply_by v (id_in up))))
-            (receive_wish now from bytes up h fed, tt)),
-        subst (Ends t F) (sym is) (ends_over t F (acts s from up settled v) (asked now (L.Receive from bytes) up ∷ []) (k, tt)),
+      every_join (Wish t F) (acts s from up settled v) (asked now (L.Receive from bytes) up ∷ [])
+      (every_join (Wish t F) (settling (settles v) s.server s.running settled) _ (settling_wish (settles v) s.server s.running settled) (replying_wish t F from (id_in up) (reply_by v (id_in up))))
+      (receive_wish t F now from bytes up h.0 h.1, tt)
+  lower_wish s (A.Ticks now below answer) h = (timed_wish t F now below h, tt)
+  lower_wish s (A.Keep token answer) h = tt
+  lower_wish s (A.Release token answer) h = tt
+  lower_wish s (A.Take answer) h = (record { now = omega arith; fed = λ from bytes is. absurd (cc is) }, tt)
+
+  wishes : (to : Endpoint) (word : ℕ) (past later : List A.Call) → Every AsksAt later → Every (Wish t F) (asked_by_client to word past later)
+  wishes to word past [] h = tt
+  wishes to word past (c ∷ later) h =
+      every_join (Wish t F) (asker_steps.lower (asker.own_of to word (later ++ past)) c) (asked_by_client to word past later) (lower_wish (asker.own_of to word (later ++ past)) c h.0) (wishes to word past later h.1)
+
+  -- the oldest is an arrival or a tick
+  abbrev Begins : A.Call → Type 0
+  Begins (A.Receive now from bytes up settled answer) = t ≤ now
+  Begins (A.Ticks now below answer) = t ≤ now
+  Begins _ = ⊥
+
+  first_ends : (s : A.Own) (c : A.Call) → Begins c → Ends t F (asker_steps.lower s c ++ [])
+  first_ends s (A.Receive now from bytes up settled answer) k =
+      let v = verdict_on s from up in
+      subst (Ends t F) (sym (append_assoc (acts s from up settled v) (asked now (L.Receive from bytes) up ∷ []) [])) (ends_over t F (acts s from up settled v) (asked now (L.Receive from bytes) up ∷ []) (k, tt))
+  first_ends s (A.Ticks now below answer) k = (k, tt)
+  first_ends s (A.Ask now r word below answer) k = absurd k
+  first_ends s (A.Keep token answer) k = absurd k
+  first_ends s (A.Release token answer) k = absurd k
+  first_ends s (A.Take answer) k = absurd k
+
+  ends : (to : Endpoint) (word : ℕ) (past later : List A.Call) (c : A.Call) → Begins c → Ends t F (asked_by_client to word past (later ++ c ∷ []))
+  ends to word past [] c k = first_ends (asker.own_of to word past) c k
+  ends to word past (d ∷ later) c k =
+      ends_over t F (asker_steps.lower (asker.own_of to word ((later ++ c ∷ []) ++ past)) d) (asked_by_client to word past (later ++ c ∷ [])) (ends to word past later c k)
+
+  deed_asks : (d : Deed) (s : Own) (now word : ℕ) (sent : L.Answer) (token : Result (List ℕ) AskRefusal) (kept : Bool) → now ≤ t → Every AsksAt (deeds d s now word sent token kept)
+  deed_asks Rests s now word sent token kept h = tt
+  deed_asks (Asks op) s now word sent token kept h = (h, tt)
+  deed_asks (Keeps key) s now word sent token kept h = (tt, tt)
+  deed_asks (Releases key) s now word sent token kept h = (tt, tt)
+
+  -- an input at the exchanges, and what is done for it
+  input_done : (to : Endpoint) (w : ℕ) (past : List A.Call) (e : Effect) (now word : ℕ) (sent : L.Answer) (token : Result (List ℕ) AskRefusal) (kept : Bool) (input : A.Call) → now ≤ t → AsksAt input → Begins input
+      → Every (Wish t F) (asked_by_client to w past (done_for e now word sent token kept input)) × Ends t F (asked_by_client to w past (done_for e now word sent token kept input))
+  input_done to w past e now word sent token kept input h a b =
+      let c = close now e token in
+      let later : List A.Call = deeds c.deed c.own now word sent token kept in
+      let first : List A.Call = deeds e.deed e.own now word sent token kept in (
+        wishes to w past (later ++ (first ++ input ∷ []))
+            (every_join AsksAt later (first ++ input ∷ []) (deed_asks c.deed c.own now word sent token kept h) (every_join AsksAt first (input ∷ []) (deed_asks e.deed e.own now word sent token kept h) (a, tt))),
+        subst (λ l. Ends t F (asked_by_client to w past l)) (append_assoc later first (input ∷ [])) (ends to w past (later ++ first) input b),
       )
 
-  -- time passes for the exchanges, and a request may begin
-  ticks : (to : Endpoint) (word : ℕ) (past : List A.Call) (now : ℕ) (below : L.Answer) (turn : _) (o : Option Operation) (w : ℕ) (sent : L.Answer) (token : Result (List ℕ) AskRefusal) → now ≤ t → t ≤ now
-      → Every (Wish t F) (asked_by_client to word past (asking now o w sent token ++ A.Ticks now below turn ∷ [])) × Ends t F (asked_by_client to word past (asking now o w sent token ++ A.Ticks now below turn ∷ []))
-  ticks to word past now below turn None w sent token h k = ((timed_wish now below h, tt), (k, tt))
-  ticks to word past now below turn (Some op) w sent token h k = ((beneath_wish now _ _ _ w sent h, (timed_wish now below h, tt)), (k, tt))
-
 module _ (config : Config) where
+  abbrev own : List Call → Own
+  own past = own_of config.client_szx past
+
+  abbrev exchanges : List Call → List A.Call
+  exchanges past = lower_of config.client_szx past
+
   abbrev before : List Call → State
   before past = left_after (start config.client_word) (client_asked config past)
 
   -- no clock of the client is past this moment
   pub record IsBy (t : ℕ) (past : List Call) : Type 0 where
-    pub own : (own_of past).clock ≤ t
+    pub own : (own past).clock ≤ t
     pub layer : (before past).clock ≤ t
+
+  forgets_done : (t : ℕ) (past : List Call) (number : ℕ) (kept answer : Bool) → IsBy t past → Done t (Fed (Forgets number kept answer)) (before past) (client_asks config past (Forgets number kept answer))
+  forgets_done t past number kept true by =
+      subst (Done t (Fed (Forgets number kept true)) (before past)) (sym (forgets_nothing server_end config.client_word (exchanges past) (observation_of number (own past).observations) (own past) 0 0 _ _ kept))
+      (nothing_done t (Fed (Forgets number kept true)) (before past) by.layer)
+  forgets_done t past number kept false by = nothing_done t (Fed (Forgets number kept false)) (before past) by.layer
 
   asks_done : (t : ℕ) (past : List Call) (c : Call) → IsBy t past → IsAt t c → Done t (Fed c) (before past) (client_asks config past c)
   asks_done t past (Calls now r answer) by at = nothing_done t (Fed (Calls now r answer)) (before past) by.layer
+  asks_done t past (Observes now path answer) by at = nothing_done t (Fed (Observes now path answer)) (before past) by.layer
+  asks_done t past (Cancels now number answer) by at = nothing_done t (Fed (Cancels now number answer)) (before past) by.layer
+  asks_done t past (Forgets number kept answer) by at = forgets_done t past number kept answer by
   asks_done t past (NextReport answer) by at = nothing_done t (Fed (NextReport answer)) (before past) by.layer
+  asks_done t past (Asked answer) by at = nothing_done t (Fed (Asked answer)) (before past) by.layer
   asks_done t past (NextOut answer) by at = takes t (Fed (NextOut answer)) (before past) (L.Gives answer) by.layer
-  asks_done t past (Feeds now from bytes word up settled event) by at =
+  asks_done t past (Feeds now from bytes word up settled event sent token kept) by at =
       let o = by.own in
-      let h : max (own_of past).clock now ≤ t = omega (arith, o, at) in
-      let k : t ≤ max (own_of past).clock now = omega (arith, at) in
-      let F = Fed (Feeds now from bytes word up settled event) in
-      let w = arrives t F (asker.own_of server_end config.client_word (lower_of past)) (max (own_of past).clock now) from bytes up settled h k (now, word, up, settled, event, refl) in
-      done t F (before past) _ by.layer w.0 w.1
-  asks_done t past (Ticks now word below turn sent token answer) by at =
+      let m : ℕ = max (own past).clock now in
+      let h : m ≤ t = omega (arith, o, at) in
+      let k : t ≤ m = omega (arith, at) in
+      let c : Call = Feeds now from bytes word up settled event sent token kept in
+      let w = input_done t (Fed c) server_end config.client_word (exchanges past) (effect (own past) c) m word sent token kept (A.Receive m from bytes up settled event) h (h, (now, word, up, settled, event, sent, token, kept, refl)) k in
+      done t (Fed c) (before past) _ by.layer w.0 w.1
+  asks_done t past (Ticks now word below turn sent token kept answer) by at =
       let o = by.own in
-      let h : max (own_of past).clock now ≤ t = omega (arith, o, at) in
-      let k : t ≤ max (own_of past).clock now = omega (arith, at) in
-      let F = Fed (Ticks now word below turn sent token answer) in
-      let w = ticks t F server_end config.client_word (lower_of past) (max (own_of past).clock now) below turn (starting (own_of past) turn) word sent token h k in
-      done t F (before past) _ by.layer w.0 w.1
+      let m : ℕ = max (own past).clock now in
+      let h : m ≤ t = omega (arith, o, at) in
+      let k : t ≤ m = omega (arith, at) in
+      let c : Call = Ticks now word below turn sent token kept answer in
+      let w = input_done t (Fed c) server_end config.client_word (exchanges past) (effect (own past) c) m word sent token kept (A.Ticks m below turn) h h k in
+      done t (Fed c) (before past) _ by.layer w.0 w.1
 
-  own_by : (t : ℕ) (s : Own) (c : Call) → s.clock ≤ t → IsAt t c → (steps.after s c).clock ≤ t
-  own_by t s (Calls now r answer) h at = omega (arith, h, at)
-  own_by t s (Feeds now from bytes word up settled event) h at = omega (arith, h, at)
-  own_by t s (Ticks now word below turn sent token answer) h at = omega (arith, h, at)
-  own_by t s (NextOut answer) h at = h
-  own_by t s (NextReport answer) h at = h
+  moment_by : (t : ℕ) (s : Own) (c : Call) → s.clock ≤ t → IsAt t c → moment_of s c ≤ t
+  moment_by t s (Calls now r answer) h at = omega (arith, h, at)
+  moment_by t s (Observes now path answer) h at = omega (arith, h, at)
+  moment_by t s (Cancels now number answer) h at = omega (arith, h, at)
+  moment_by t s (Forgets number kept answer) h at = h
+  moment_by t s (Feeds now from bytes word up settled event sent token kept) h at = omega (arith, h, at)
+  moment_by t s (Ticks now word below turn sent token kept answer) h at = omega (arith, h, at)
+  moment_by t s (NextOut answer) h at = h
+  moment_by t s (NextReport answer) h at = h
+  moment_by t s (Asked answer) h at = h
 
   pub next_by : (t : ℕ) (past : List Call) (c : Call) → IsBy t past → IsAt t c → IsBy t (c ∷ past)
   next_by t past c by at =
       record {
-        own = own_by t (own_of past) c by.own at;
+        own = subst (λ (n : ℕ). n ≤ t) (sym (clock_is (own past) c)) (moment_by t (own past) c by.own at);
         layer = subst (λ (s : State). s.clock ≤ t) (sym (ap (left_after (start config.client_word)) (client_asked_next config past c) ∙ left_append (start config.client_word) (client_asks config past c) (client_asked config past))) (asks_done t past c by at).till;
       }
 

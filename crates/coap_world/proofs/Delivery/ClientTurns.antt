@@ -1,5 +1,6 @@
 -- A turn of the client.
-use Rattle.std.proofs.Common.{◌≡◌, inl, inr, ℕ, Option, Some, None, List, [], ◌∷◌, ◌++◌, map, slice_get, refl, ap, sym, subst, ◌∙◌}
+use Rattle.std.proofs.Common.{◌≡◌, inl, inr, ℕ, Option, Some, None, List, [], ◌∷◌, ◌++◌, map, slice_get, refl, ap, sym}
+use Rattle.std.proofs.Common.{subst, ◌∙◌}
 use Rattle.std.proofs.lemmas.List.{append-nil}
 use Rattle.coap_types.specs.Past.{Ever, Always, all_of}
 use Rattle.coap_types.specs.declared.endpoint.Endpoint.{Endpoint}
@@ -12,17 +13,19 @@ use Rattle.coap_layer.specs.Trace.{Packet}
 use Rattle.coap_layer.specs.Words.{waiting}
 use Rattle.coap_layer.proofs.Facts.Calls.{steps_left, led_steps}
 use Rattle.coap_layer.proofs.Facts.StepsOfLayer.{steps_split}
-use Rattle.coap_ends.specs.ClientTrace.{Call, NextOut, NextReport, Reported}
+use Rattle.coap_ends.specs.ClientSide.ClientTrace.{Call, NextOut, NextReport, Reported}
 use Rattle.coap_world.specs.Delivery.{FedToClient}
 use Rattle.coap_world.specs.Events.{client_end, server_end, Config}
 use Rattle.coap_world.specs.Record.{Entry, OfClient, client_of, server_trace, begun_with, Given, given_by}
 use Rattle.coap_world.specs.Hops.{client_asks, client_asked, client_adds, hops_in, SendsAt, SentIn}
-use Rattle.coap_world.proofs.Delivery.TakenAtOnce.{InTime, in_time, Took, added, all_by, all_timely, nothing_waits, sent_at_once}
+use Rattle.coap_world.proofs.Delivery.TakenAtOnce.{InTime, in_time, Took, added, all_by, all_timely, nothing_waits}
+use Rattle.coap_world.proofs.Delivery.TakenAtOnce.{sent_at_once}
 use Rattle.coap_world.proofs.Delivery.ClientInTime.{IsAt, Fed, IsBy, next_by, adds_timely}
 use Rattle.coap_world.proofs.Delivery.HopsAreEntries.{client_layer, server_layer, client_next, client_asked_next}
 use Rattle.coap_world.proofs.Delivery.EntriesInTime.{Every, every_map, Timely}
 use Rattle.coap_world.proofs.Delivery.ServerInTime as server
-use Rattle.coap_world.proofs.Delivery.AfterATurn.{Still, Goes, map_over, on_near, near_fair}
+use Rattle.coap_world.proofs.Delivery.AfterATurn.{map_over, on_near, near_fair}
+use Rattle.coap_world.proofs.Delivery.AfterATurn.{Still, Goes}
 use Rattle.coap_world.proofs.Delivery.OneEndATurn.{ClientTurn, client_client, server_client, client_takes}
 
 -- the calls of a turn, with what is taken after them
@@ -55,10 +58,6 @@ module _ (config : Config) where
       let k = steps_split (start config.client_word) good.0 (client_asks config past c) (client_asked config past)
       (subst (λ a. Steps (start config.client_word) a good.0) (client_asked_next config past c) good.1) in
       (k.0, k.1)
-
-  pub down_all : (later past : List Call) → IsGood (later ++ past) → IsGood past
-  down_all [] past good = good
-  down_all (c ∷ later) past good = down_all later past (down (later ++ past) c good)
 
   law : (past : List Call) → IsGood past → LayerLaw config.client_word (client_layer config past)
   law past good =

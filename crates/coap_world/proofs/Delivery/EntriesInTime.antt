@@ -4,7 +4,8 @@ use Rattle.coap_types.specs.Past.{Always}
 use Rattle.coap_types.specs.declared.endpoint.Endpoint.{Endpoint}
 use Rattle.coap_layer.specs.Machine.State.{State, moment, made}
 use Rattle.coap_layer.specs.Machine.Steps.{Asked, left_after, entries}
-use Rattle.coap_layer.specs.Trace.{Call, Receive, Reply, Confirm, Plain, Settle, Ticks, Take, Room, AsksFree, Pass, Answer, Entry}
+use Rattle.coap_layer.specs.Trace.{Call, Receive, Reply, Confirm, Plain, Settle, Ticks, Take, Room, AsksFree, Pass}
+use Rattle.coap_layer.specs.Trace.{Answer, Entry}
 
 -- each of a list
 abbrev pub Every : {X : Type 0} → (X → Type 0) → List X → Type 0

@@ -1,49 +1,23 @@
 -- What comes from an end's address in a legal run was given out by that end, at most 100,000 ms before.
-use Rattle.std.proofs.Common.{◌≡◌, inl, inr, ◌≤◌, ◌<◌, ℕ, Bool, true, false, Option, Some, None, List, [], ◌∷◌, ◌++◌, map, length, ap, sym, subst, ◌∙◌, arith}
+use Rattle.std.proofs.Common.{◌≡◌, inl, inr, ◌≤◌, ◌<◌, ℕ, Bool, true, false, Option, Some, None, List, [], ◌∷◌, ◌++◌}
+use Rattle.std.proofs.Common.{map, length, ap, sym, subst, ◌∙◌, arith}
 use Rattle.coap_types.specs.Past.{Ever, Sometime, Always, all_of}
-use Rattle.coap_types.proofs.Facts.Traces.{Ever_map, Ever_append, Ever_of_Sometime}
 use Rattle.coap_types.specs.declared.endpoint.Endpoint.{Endpoint}
 use Rattle.coap_layer.specs.Trace.{Packet}
-use Rattle.coap_ends.specs.ClientTrace as C
-use Rattle.coap_ends.specs.ServerTrace as S
-use Rattle.coap_world.specs.Events.{client_end, server_end, What, Calls, Sets, Removes, TickClient, TickServer, Deliver, StrangerToClient, StrangerToServer}
-use Rattle.coap_world.specs.Record.{Entry, OfClient, OfServer, Given, Turn, given_as, given_by, given_in, IsNumber, OnClient, OnServer, IsOne, AreTicks, ClientTick, ServerTick, Makes}
+use Rattle.coap_world.specs.Record.{Given, given_as, IsOne, AreTicks, Entry, OfClient, OfServer, Turn, given_by}
+use Rattle.coap_world.specs.Record.{given_in, IsNumber, OnClient, OnServer, ClientTick, ServerTick, Makes}
+use Rattle.coap_types.proofs.Facts.Traces.{Ever_map, Ever_append, Ever_of_Sometime}
+use Rattle.coap_world.specs.Events.{client_end, server_end, What, Calls, Observes, Cancels, Forgets, Sets, Removes}
+use Rattle.coap_world.specs.Events.{TickClient, TickServer, Deliver, StrangerToClient, StrangerToServer}
 use Rattle.coap_world.specs.Legal.{NotBefore, MayCome, AllLegal}
 use Rattle.coap_world.specs.Delivery.{GaveOut, FedToServer, FedToClient, AllFair}
-
--- moments of what was given out
-
-AllAt : ℕ → List Given → Type 0
-AllAt at gs = (g : Given) → Ever (λ h. h ≡ g) gs → g.at ≡ at
+use Rattle.coap_ends.specs.ClientSide.ClientTrace as C
+use Rattle.coap_ends.specs.ServerSide.ServerTrace as S
 
 pub as_at : (at : ℕ) (from : Endpoint) (o : Option Packet) (g : Given) → Ever (λ h. h ≡ g) (given_as at from o) → g.at ≡ at
 as_at at from None g h = absurd h
 as_at at from (Some p) g (inl h) = sym (ap (λ (x : Given). x.at) h)
 as_at at from (Some p) g (inr h) = absurd h
-
-by_at : (at : ℕ) (e : Entry) (g : Given) → Ever (λ h. h ≡ g) (given_by at e) → g.at ≡ at
-by_at at (OfClient (C.NextOut o)) g h = as_at at client_end o g h
-by_at at (OfServer (S.NextOut o)) g h = as_at at server_end o g h
-by_at at (OfClient (C.Calls now r answer)) g h = absurd h
-by_at at (OfClient (C.Feeds now from bytes word up settled e)) g h = absurd h
-by_at at (OfClient (C.Ticks now word below w sent z answer)) g h = absurd h
-by_at at (OfClient (C.NextReport r)) g h = absurd h
-by_at at (OfServer (S.Sets now path format body answer left)) g h = absurd h
-by_at at (OfServer (S.Removes now path answer left)) g h = absurd h
-by_at at (OfServer (S.Delays path ms answer)) g h = absurd h
-by_at at (OfServer (S.Feeds now from bytes word up came w below)) g h = absurd h
-by_at at (OfServer (S.Ticks now word below room d w id answer)) g h = absurd h
-
-in_at : (at : ℕ) (es : List Entry) (g : Given) → Ever (λ h. h ≡ g) (all_of (given_by at) es) → g.at ≡ at
-in_at at [] g h = absurd h
-in_at at (e ∷ es) g h = elim (Ever_append (λ x. x ≡ g) (given_by at e) (all_of (given_by at) es) h) [ inl p ↦ by_at at e g p | inr q ↦ in_at at es g q ]
-
-pub not_later : (past : List Turn) (at : ℕ) (g : Given) → AllLegal past → NotBefore past at → Ever (λ h. h ≡ g) (all_of given_in past) → g.at ≤ at
-not_later [] at g legal n h = absurd h
-not_later (t ∷ past) at g legal n h = elim (Ever_append (λ x. x ≡ g) (given_in t) (all_of given_in past) h) [
-  | inl p ↦ (let e = in_at t.event.at t.entries g p in omega (arith, e, n))
-  | inr q ↦ (let k = not_later past t.event.at g legal.1 legal.0.later q in omega (arith, k, n))
-]
 
 -- a number is of one datagram
 
@@ -70,6 +44,58 @@ pub none_in : {A : Type 0} (P : A → Type 0) (xs : List A) → ((x : A) → P x
 none_in P (x ∷ xs) f (inl h) = f x h
 none_in P (x ∷ xs) f (inr h) = none_in P xs f h
 none_in P [] f h = h
+
+pub one_call : {X : Type 0} (Is P : X → Type 0) (refused : Bool) (calls : List X) → IsOne Is refused calls → Ever P calls → (c : X) × Is c × P c
+one_call Is P true calls one h = absurd (subst (Ever P) one h)
+one_call Is P false calls one h = elim (subst (Ever P) one.2 h) [ inl p ↦ (one.0, one.1, p) | inr q ↦ absurd q ]
+
+some_of : {X : Type 0} (T P : X → Type 0) (calls : List X) → Always (λ past c. T c) calls → Ever P calls → (c : X) × T c × P c
+some_of T P [] all h = absurd h
+some_of T P (c ∷ calls) all (inl h) = (c, all.0, h)
+some_of T P (c ∷ calls) all (inr h) = some_of T P calls all.1 h
+
+pub tick_of : {X : Type 0} (IsTick : Bool → X → Type 0) (P : X → Type 0) (refused : Bool) (calls : List X) → AreTicks IsTick refused calls → Ever P calls → (c : X) × (b : Bool) × IsTick b c × P c
+tick_of IsTick P true calls ticks h = let k = some_of (IsTick true) P calls ticks h in (k.0, true, k.1, k.2)
+tick_of IsTick P false [] ticks h = absurd ticks
+tick_of IsTick P false (c ∷ earlier) ticks (inl h) = (c, false, ticks.0, h)
+tick_of IsTick P false (c ∷ earlier) ticks (inr h) = let k = some_of (IsTick true) P earlier ticks.1 h in (k.0, true, k.1, k.2)
+
+pub packet_is : (p : Packet) (to : Endpoint) (bytes : List ℕ) → p.to ≡ to → p.bytes ≡ bytes → p ≡ record { to = to; bytes = bytes }
+packet_is p to bytes h k = ap {B = Packet} (λ t. record { to = t; bytes = p.bytes }) h ∙ ap {B = Packet} (λ b. record { to = to; bytes = b }) k
+
+-- moments of what was given out
+
+by_at : (at : ℕ) (e : Entry) (g : Given) → Ever (λ h. h ≡ g) (given_by at e) → g.at ≡ at
+by_at at (OfClient (C.NextOut o)) g h = as_at at client_end o g h
+by_at at (OfServer (S.NextOut o)) g h = as_at at server_end o g h
+by_at at (OfClient (C.Calls now r answer)) g h = absurd h
+by_at at (OfClient (C.Observes now path answer)) g h = absurd h
+by_at at (OfClient (C.Cancels now number answer)) g h = absurd h
+by_at at (OfClient (C.Forgets number kept answer)) g h = absurd h
+by_at at (OfClient (C.Asked answer)) g h = absurd h
+by_at at (OfClient (C.Feeds now from bytes word up settled e sent token kept)) g h = absurd h
+by_at at (OfClient (C.Ticks now word below w sent z kept answer)) g h = absurd h
+by_at at (OfClient (C.NextReport r)) g h = absurd h
+by_at at (OfServer (S.Sets now path format body answer left)) g h = absurd h
+by_at at (OfServer (S.Removes now path answer left)) g h = absurd h
+by_at at (OfServer (S.Delays path ms answer)) g h = absurd h
+by_at at (OfServer (S.Feeds now from bytes word up came w below)) g h = absurd h
+by_at at (OfServer (S.Ticks now word below room d passed w id answer)) g h = absurd h
+by_at at (OfServer (S.Gets path answer)) g h = absurd h
+by_at at (OfServer (S.TellsApplied answer)) g h = absurd h
+
+in_at : (at : ℕ) (es : List Entry) (g : Given) → Ever (λ h. h ≡ g) (all_of (given_by at) es) → g.at ≡ at
+in_at at [] g h = absurd h
+in_at at (e ∷ es) g h = elim (Ever_append (λ x. x ≡ g) (given_by at e) (all_of (given_by at) es) h) [ inl p ↦ by_at at e g p | inr q ↦ in_at at es g q ]
+
+pub not_later : (past : List Turn) (at : ℕ) (g : Given) → AllLegal past → NotBefore past at → Ever (λ h. h ≡ g) (all_of given_in past) → g.at ≤ at
+not_later [] at g legal n h = absurd h
+not_later (t ∷ past) at g legal n h = elim (Ever_append (λ x. x ≡ g) (given_in t) (all_of given_in past) h) [
+  | inl p ↦ (let e = in_at t.event.at t.entries g p in omega (arith, e, n))
+  | inr q ↦ (let k = not_later past t.event.at g legal.1 legal.0.later q in omega (arith, k, n))
+]
+
+-- what a turn feeds is its call
 
 -- the calls of a turn, with what is taken after them
 abbrev outs_then : List Packet → List S.Call → List S.Call
@@ -108,38 +134,23 @@ client_call from bytes calls entries on h = first (of_map OfClient (FedToClient 
 
     behind : Ever P (outs_of on.outs calls) → Ever P calls
     behind k = elim (Ever_append P (map (λ p. C.NextOut (Some p)) on.outs) calls k) [
-      | inl r ↦ absurd (none_in (λ (p : Packet). P (C.NextOut (Some p))) on.outs (λ p w. cc (w.5)) (of_map (λ (p : Packet). C.NextOut (Some p)) P on.outs r))
+      | inl r ↦ absurd (none_in (λ (p : Packet). P (C.NextOut (Some p))) on.outs (λ p w. cc (w.8)) (of_map (λ (p : Packet). C.NextOut (Some p)) P on.outs r))
       | inr w ↦ w
     ]
 
     last : Ever P (C.NextOut None ∷ outs_of on.outs calls) → Ever P calls
-    last (inl k) = absurd (cc (k.5))
+    last (inl k) = absurd (cc (k.8))
     last (inr k) = behind k
 
     middle : Ever P (map (λ r. C.NextReport (Some r)) on.reports ++ C.NextOut None ∷ outs_of on.outs calls) → Ever P calls
     middle k = elim (Ever_append P (map (λ r. C.NextReport (Some r)) on.reports) (C.NextOut None ∷ outs_of on.outs calls) k) [
-      | inl r ↦ absurd (none_in (λ (p : C.Reported). P (C.NextReport (Some p))) on.reports (λ p w. cc (w.5)) (of_map (λ (p : C.Reported). C.NextReport (Some p)) P on.reports r))
+      | inl r ↦ absurd (none_in (λ (p : C.Reported). P (C.NextReport (Some p))) on.reports (λ p w. cc (w.8)) (of_map (λ (p : C.Reported). C.NextReport (Some p)) P on.reports r))
       | inr w ↦ last w
     ]
 
     first : Ever P (client_calls on.outs on.reports calls) → Ever P calls
-    first (inl k) = absurd (cc (k.5))
+    first (inl k) = absurd (cc (k.8))
     first (inr k) = middle k
-
-pub one_call : {X : Type 0} (Is P : X → Type 0) (refused : Bool) (calls : List X) → IsOne Is refused calls → Ever P calls → (c : X) × Is c × P c
-one_call Is P true calls one h = absurd (subst (Ever P) one h)
-one_call Is P false calls one h = elim (subst (Ever P) one.2 h) [ inl p ↦ (one.0, one.1, p) | inr q ↦ absurd q ]
-
-some_of : {X : Type 0} (T P : X → Type 0) (calls : List X) → Always (λ past c. T c) calls → Ever P calls → (c : X) × T c × P c
-some_of T P [] all h = absurd h
-some_of T P (c ∷ calls) all (inl h) = (c, all.0, h)
-some_of T P (c ∷ calls) all (inr h) = some_of T P calls all.1 h
-
-pub tick_of : {X : Type 0} (IsTick : Bool → X → Type 0) (P : X → Type 0) (refused : Bool) (calls : List X) → AreTicks IsTick refused calls → Ever P calls → (c : X) × (b : Bool) × IsTick b c × P c
-tick_of IsTick P true calls ticks h = let k = some_of (IsTick true) P calls ticks h in (k.0, true, k.1, k.2)
-tick_of IsTick P false [] ticks h = absurd ticks
-tick_of IsTick P false (c ∷ earlier) ticks (inl h) = (c, false, ticks.0, h)
-tick_of IsTick P false (c ∷ earlier) ticks (inr h) = let k = some_of (IsTick true) P earlier ticks.1 h in (k.0, true, k.1, k.2)
 
 never_there : (from : Endpoint) (bytes : List ℕ) (calls : List C.Call) (entries : List Entry) → OnClient calls entries → Ever (FedToServer from bytes) entries → ⊥
 never_there from bytes calls entries on h =
@@ -148,9 +159,6 @@ never_there from bytes calls entries on h =
 never_here : (from : Endpoint) (bytes : List ℕ) (calls : List S.Call) (entries : List Entry) → OnServer calls entries → Ever (FedToClient from bytes) entries → ⊥
 never_here from bytes calls entries on h =
     none_in (λ (c : S.Call). ⊥) (server_calls on.outs calls) (λ c k. k) (of_map OfServer (FedToClient from bytes) (server_calls on.outs calls) (subst (Ever (FedToClient from bytes)) on.is h))
-
-pub packet_is : (p : Packet) (to : Endpoint) (bytes : List ℕ) → p.to ≡ to → p.bytes ≡ bytes → p ≡ record { to = to; bytes = bytes }
-packet_is p to bytes h k = ap {B = Packet} (λ t. record { to = t; bytes = p.bytes }) h ∙ ap {B = Packet} (λ b. record { to = to; bytes = b }) k
 
 -- the datagram of a number
 module _ (past : List Turn) (at : ℕ) (number : ℕ) (legal : AllLegal past) (later : NotBefore past at) (may : MayCome past at (Deliver number)) (g : Given) (is : IsNumber number g past) where
@@ -166,11 +174,14 @@ module _ (past : List Turn) (at : ℕ) (number : ℕ) (legal : AllLegal past) (l
 module _ (past : List Turn) (at word : ℕ) (refused : Bool) (entries : List Entry) (legal : AllLegal past) (later : NotBefore past at) (bytes : List ℕ) where
   to_server : (what : What) → Makes past at word what refused entries → MayCome past at what → Ever (FedToServer client_end bytes) entries → Ever (GaveOut client_end server_end bytes at) (all_of given_in past)
   to_server (Calls r) m may h = absurd (never_there client_end bytes m.0 entries m.2 h)
+  to_server (Observes path) m may h = absurd (never_there client_end bytes m.0 entries m.2 h)
+  to_server (Cancels number) m may h = absurd (never_there client_end bytes m.0 entries m.2 h)
+  to_server (Forgets number) m may h = absurd (never_there client_end bytes m.0 entries m.2 h)
   to_server TickClient m may h = absurd (never_there client_end bytes m.0 entries m.2 h)
   to_server (StrangerToClient from b) m may h = absurd (never_there client_end bytes m.0 entries m.2 h)
   to_server (Sets path format body) m may h = let k = one_call _ _ refused m.0 m.1 (server_call client_end bytes m.0 entries m.2 h) in absurd (cc (k.1.2, k.2.6))
   to_server (Removes path) m may h = let k = one_call _ _ refused m.0 m.1 (server_call client_end bytes m.0 entries m.2 h) in absurd (cc (k.1.2, k.2.6))
-  to_server TickServer m may h = let k = tick_of (ServerTick at word) _ refused m.0 m.1 (server_call client_end bytes m.0 entries m.2 h) in absurd (cc (k.2.5, k.3.6))
+  to_server TickServer m may h = let k = tick_of (ServerTick at word) _ refused m.0 m.1 (server_call client_end bytes m.0 entries m.2 h) in absurd (cc (k.2.6, k.3.6))
   to_server (StrangerToServer from b) m may h =
       let k = one_call _ _ refused m.0 m.1 (server_call client_end bytes m.0 entries m.2 h) in
       let same : from ≡ client_end = cc (k.1.4, k.2.6) in
@@ -182,11 +193,14 @@ module _ (past : List Turn) (at word : ℕ) (refused : Bool) (entries : List Ent
   ]
 
   to_client : (what : What) → Makes past at word what refused entries → MayCome past at what → Ever (FedToClient server_end bytes) entries → Ever (GaveOut server_end client_end bytes at) (all_of given_in past)
-  to_client (Calls r) m may h = let k = one_call _ _ refused m.0 m.1 (client_call server_end bytes m.0 entries m.2 h) in absurd (cc (k.1.1, k.2.5))
-  to_client TickClient m may h = let k = tick_of (ClientTick at word) _ refused m.0 m.1 (client_call server_end bytes m.0 entries m.2 h) in absurd (cc (k.2.4, k.3.5))
+  to_client (Calls r) m may h = let k = one_call _ _ refused m.0 m.1 (client_call server_end bytes m.0 entries m.2 h) in absurd (cc (k.1.1, k.2.8))
+  to_client (Observes path) m may h = let k = one_call _ _ refused m.0 m.1 (client_call server_end bytes m.0 entries m.2 h) in absurd (cc (k.1.1, k.2.8))
+  to_client (Cancels number) m may h = let k = one_call _ _ false m.0 m.1.0 (client_call server_end bytes m.0 entries m.2 h) in absurd (cc (k.1.1, k.2.8))
+  to_client (Forgets number) m may h = let k = one_call _ _ false m.0 m.1.0 (client_call server_end bytes m.0 entries m.2 h) in absurd (cc (k.1.2, k.2.8))
+  to_client TickClient m may h = let k = tick_of (ClientTick at word) _ refused m.0 m.1 (client_call server_end bytes m.0 entries m.2 h) in absurd (cc (k.2.5, k.3.8))
   to_client (StrangerToClient from b) m may h =
       let k = one_call _ _ refused m.0 m.1 (client_call server_end bytes m.0 entries m.2 h) in
-      let same : from ≡ server_end = cc (k.1.3, k.2.5) in
+      let same : from ≡ server_end = cc (k.1.6, k.2.8) in
       absurd (may.1 same)
   to_client (Sets path format body) m may h = absurd (never_here server_end bytes m.0 entries m.2 h)
   to_client (Removes path) m may h = absurd (never_here server_end bytes m.0 entries m.2 h)
@@ -195,7 +209,7 @@ module _ (past : List Turn) (at word : ℕ) (refused : Bool) (entries : List Ent
   to_client (Deliver number) m may h = elim m.2 [
     | inl d ↦ absurd (never_here server_end bytes d.1 entries d.3 h)
     | inr d ↦ (let k = one_call _ _ refused d.1 d.2 (client_call server_end bytes d.1 entries d.3 h) in
-        gave past at number legal later may m.0 m.1 server_end client_end bytes (cc (k.1.3, k.2.5)) d.0 (cc (k.1.3, k.2.5)))
+        gave past at number legal later may m.0 m.1 server_end client_end bytes (cc (k.1.6, k.2.8)) d.0 (cc (k.1.6, k.2.8)))
   ]
 
 pub all_fair : (turns : List Turn) → Always (λ past t. Makes past t.event.at t.event.word t.event.what t.refused t.entries) turns → AllLegal turns → AllFair turns

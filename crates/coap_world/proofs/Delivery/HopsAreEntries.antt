@@ -1,18 +1,21 @@
 -- The hops are the entries of the two layers.
-use Rattle.std.proofs.Common.{◌≡◌, true, List, [], ◌∷◌, ◌++◌, map, refl, ap, sym, ◌∙◌}
+use Rattle.std.proofs.Common.{◌≡◌, List, [], ◌∷◌, ◌++◌, map, refl, ap, ◌∙◌, true, sym}
 use Rattle.coap_layer.specs.Channel.{Hop, Near, Far, near_of, far_of}
 use Rattle.coap_layer.specs.Machine.State.{start}
 use Rattle.coap_layer.specs.Machine.Steps.{entries}
-use Rattle.coap_layer.specs.Trace as L
-use Rattle.coap_exchange.specs.AnswererLaw as answerer
-use Rattle.coap_ends.specs.ClientTrace as C
-use Rattle.coap_ends.specs.ClientLaw as client
-use Rattle.coap_ends.specs.ServerTrace as S
-use Rattle.coap_ends.specs.ServerLaw as server
 use Rattle.coap_world.specs.Events.{server_end, Config}
 use Rattle.coap_world.specs.Record.{Entry, OfClient, OfServer, client_of, server_trace}
-use Rattle.coap_ends.proofs.Facts.Adds as adds
-use Rattle.coap_world.specs.Hops.{client_asks, client_asked, client_adds, server_asks, server_asked, server_adds, hops_in}
+use Rattle.coap_ends.proofs.Facts.Adds.{answerer_append, entries_append}
+use Rattle.coap_world.specs.Hops.{client_asks, client_asked, client_adds, server_asks, server_asked, server_adds}
+use Rattle.coap_world.specs.Hops.{hops_in}
+use Rattle.coap_layer.specs.Trace as L
+use Rattle.coap_exchange.specs.AnswererLaw as answerer
+use Rattle.coap_ends.specs.ClientSide.ClientTrace as C
+use Rattle.coap_ends.specs.ClientSide.ClientLaw as client
+use Rattle.coap_ends.specs.ServerSide.ServerTrace as S
+use Rattle.coap_ends.specs.ServerSide.ServerLaw as server
+use Rattle.coap_ends.specs.ServerSide.ServerAsks as asks
+use Rattle.coap_ends.proofs.Facts.OfClient as client_facts
 
 -- hops
 
@@ -34,22 +37,22 @@ far_near (x ∷ xs) hs = far_near xs hs
 
 module _ (config : Config) where
   abbrev pub client_layer : List C.Call → List L.Entry
-  client_layer t = client.layer_of server_end config.client_word t
+  client_layer t = client.layer_of server_end config.client_szx config.client_word t
 
   abbrev pub server_layer : List S.Call → List L.Entry
   server_layer t = server.layer_of config.limit config.server_szx config.server_word t
 
   pub client_asked_next : (past : List C.Call) (c : C.Call) → client_asked config (c ∷ past) ≡ client_asks config past c ++ client_asked config past
-  client_asked_next past c = adds.client_asked_next server_end config.client_word past c
+  client_asked_next past c = client_facts.asked_next server_end config.client_szx config.client_word past c
 
   pub server_asked_next : (past : List S.Call) (c : S.Call) → server_asked config (c ∷ past) ≡ server_asks config past c ++ server_asked config past
-  server_asked_next past c = adds.server_asked_next config.limit config.server_szx config.server_word past c
+  server_asked_next past c = answerer_append (asks.lower (server.own_of config.limit config.server_szx past) c) (server.lower_of config.limit config.server_szx past)
 
   pub client_next : (past : List C.Call) (c : C.Call) → client_layer (c ∷ past) ≡ client_adds config past c ++ client_layer past
-  client_next past c = adds.client_next server_end config.client_word past c
+  client_next past c = client_facts.layer_next server_end config.client_szx config.client_word past c
 
   pub server_next : (past : List S.Call) (c : S.Call) → server_layer (c ∷ past) ≡ server_adds config past c ++ server_layer past
-  server_next past c = adds.server_next config.limit config.server_szx config.server_word past c
+  server_next past c = ap (entries (start config.server_word)) (server_asked_next past c) ∙ entries_append (start config.server_word) (server_asks config past c) (server_asked config past)
 
   -- a server begins with no call of its layer
   pub begins_silent : (ds : List S.Delay) → server.lower_of config.limit config.server_szx (map (λ (d : S.Delay). S.Delays d.path d.ms true) ds) ≡ []

@@ -1,28 +1,30 @@
 -- The hops of a legal run are fair: what comes from an end's address was sent by that end's layer, at most 100,000 ms before.
-use Rattle.std.proofs.Common.{◌≡◌, ◌⊎◌, inl, inr, ◌≤◌, ℕ, true, List, [], ◌∷◌, ◌++◌, map, refl, ap, sym, subst, ◌∙◌, arith}
+use Rattle.std.proofs.Common.{◌≡◌, ◌⊎◌, inl, inr, ◌≤◌, ℕ, List, [], ◌∷◌, ◌++◌, refl, ap, sym, subst, ◌∙◌, arith, true}
+use Rattle.std.proofs.Common.{map}
 use Rattle.coap_types.specs.Past.{Ever, Always, all_of}
-use Rattle.coap_types.proofs.Facts.Traces.{Ever_append, Ever_back, Ever_map}
+use Rattle.coap_types.proofs.Facts.Traces.{Ever_back, Ever_map, Ever_append}
 use Rattle.coap_types.specs.declared.endpoint.Endpoint.{Endpoint}
 use Rattle.coap_layer.specs.Channel.{Hop, Near, Far, OnNear, OnFar, GaveOut, IsFair}
+use Rattle.coap_world.specs.Events.{client_end, server_end, Config}
+use Rattle.coap_world.specs.Hops.{SendsAt, SentIn, client_adds, server_adds, hops_in, hops_of}
+use Rattle.coap_world.specs.Record.{Given, Entry, OfClient, OfServer, client_of, server_trace, Turn, given_in}
+use Rattle.coap_world.specs.Record.{entries_of, Makes}
 use Rattle.coap_layer.specs.Machine.State.{start}
 use Rattle.coap_layer.specs.Machine.Steps.{left_after, entries}
-use Rattle.coap_layer.specs.Trace as L
 use Rattle.coap_layer.specs.Words.{waiting}
-use Rattle.coap_ends.specs.ServerTrace as S
-use Rattle.coap_ends.specs.ServerLaw as server_law
-use Rattle.coap_exchange.specs.AnswererLaw as answerer
-use Rattle.coap_world.specs.Delivery as D
-use Rattle.coap_world.specs.Events.{client_end, server_end, Config}
-use Rattle.coap_world.specs.Hops.{client_adds, server_adds, hops_in, hops_of, SendsAt, SentIn}
 use Rattle.coap_world.specs.Legal.{NotBefore, AllLegal}
-use Rattle.coap_world.specs.Record.{Entry, OfClient, OfServer, client_of, server_trace, Given, Turn, given_in, entries_of, Makes}
-use Rattle.coap_world.proofs.Delivery.ClientInTime as client
-use Rattle.coap_world.proofs.Delivery.ClientTurns as client_turns
 use Rattle.coap_world.proofs.Delivery.HopsAreEntries.{begins_silent}
-use Rattle.coap_world.proofs.Delivery.ServerInTime as server
-use Rattle.coap_world.proofs.Delivery.ServerTurns as server_turns
 use Rattle.coap_world.proofs.Delivery.AfterATurn.{Still, Goes}
 use Rattle.coap_world.proofs.Delivery.OneEndATurn.{ClientTurn, ServerTurn, side}
+use Rattle.coap_layer.specs.Trace as L
+use Rattle.coap_world.specs.Delivery as D
+use Rattle.coap_ends.specs.ServerSide.ServerTrace as S
+use Rattle.coap_ends.specs.ServerSide.ServerLaw as server_law
+use Rattle.coap_exchange.specs.AnswererLaw as answerer
+use Rattle.coap_world.proofs.Delivery.ClientInTime as client
+use Rattle.coap_world.proofs.Delivery.ClientTurns as client_turns
+use Rattle.coap_world.proofs.Delivery.ServerInTime as server
+use Rattle.coap_world.proofs.Delivery.ServerTurns as server_turns
 
 -- what was sent there
 

@@ -1,26 +1,19 @@
 -- Each turn is one end's: its calls have the moment of the turn.
-use Rattle.std.proofs.Common.{◌≡◌, ◌⊎◌, inl, inr, ℕ, Bool, true, false, Option, Some, None, List, [], ◌∷◌, ◌++◌, map, refl, ap, sym, subst}
+use Rattle.std.proofs.Common.{◌≡◌, ◌⊎◌, inl, inr, ℕ, Bool, true, false, Option, Some, None, List, [], ◌∷◌, ◌++◌, ap}
+use Rattle.std.proofs.Common.{sym, subst, map, refl}
 use Rattle.coap_types.specs.Past.{Ever, Always, all_of}
-use Rattle.coap_types.proofs.Facts.Traces.{Ever_append}
 use Rattle.coap_types.specs.declared.endpoint.Endpoint.{Endpoint}
 use Rattle.coap_layer.specs.Trace.{Packet}
-use Rattle.coap_ends.specs.ClientTrace as C
-use Rattle.coap_ends.specs.ServerTrace as S
-use Rattle.coap_world.specs.Events.{client_end, server_end, What, Calls, Sets, Removes, TickClient, TickServer, Deliver, StrangerToClient, StrangerToServer}
-use Rattle.coap_world.specs.Record.{Entry, OfClient, OfServer, client_of, server_of, Given, Turn, given_as, given_by, OnClient, OnServer, IsOne, AreTicks, ClientTick, ServerTick, Makes}
+use Rattle.coap_world.specs.Record.{Given, given_as, IsOne, AreTicks, Entry, OfClient, OfServer, client_of, server_of}
+use Rattle.coap_world.specs.Record.{Turn, given_by, OnClient, OnServer, ClientTick, ServerTick, Makes}
 use Rattle.coap_world.proofs.Delivery.EntriesInTime.{Every}
+use Rattle.coap_types.proofs.Facts.Traces.{Ever_append}
+use Rattle.coap_world.specs.Events.{client_end, server_end, What, Calls, Observes, Cancels, Forgets, Sets, Removes}
+use Rattle.coap_world.specs.Events.{TickClient, TickServer, Deliver, StrangerToClient, StrangerToServer}
+use Rattle.coap_ends.specs.ClientSide.ClientTrace as C
+use Rattle.coap_ends.specs.ServerSide.ServerTrace as S
 use Rattle.coap_world.proofs.Delivery.ClientInTime as client
 use Rattle.coap_world.proofs.Delivery.ServerInTime as server
-
-pub record ClientTurn (t : ℕ) (entries : List Entry) : Type 0 where
-  pub calls : List C.Call
-  pub on : OnClient calls entries
-  pub at : Every (client.IsAt t) calls
-
-pub record ServerTurn (t : ℕ) (entries : List Entry) : Type 0 where
-  pub calls : List S.Call
-  pub on : OnServer calls entries
-  pub at : Every (server.IsAt t) calls
 
 pub each_one : {X : Type 0} (Is P : X → Type 0) → ((c : X) → Is c → P c) → (refused : Bool) (calls : List X) → IsOne Is refused calls → Every P calls
 each_one Is P f true calls h = subst (Every P) (sym h) tt
@@ -35,18 +28,47 @@ each_tick Is P f true calls h = each_true (Is true) P (f true) calls h
 each_tick Is P f false [] h = absurd h
 each_tick Is P f false (c ∷ calls) h = (f false c h.0, each_true (Is true) P (f true) calls h.1)
 
+-- what is given out is what a call takes
+
+pub record Takes {X : Type 0} (out : Option Packet → X) (from : Endpoint) (t : ℕ) (g : Given) (cs : List X) : Type 0 where
+  pub by : g.from ≡ from
+  pub at : g.at ≡ t
+  pub taken : Ever (λ c. c ≡ out (Some g.packet)) cs
+
+pub as_taken : {X : Type 0} (out : Option Packet → X) (from : Endpoint) (t : ℕ) (g : Given) (o : Option Packet) → Ever (λ h. h ≡ g) (given_as t from o) → Takes out from t g (out o ∷ [])
+as_taken out from t g None h = absurd h
+as_taken out from t g (Some p) (inl h) = record { by = sym (ap (λ (x : Given). x.from) h); at = sym (ap (λ (x : Given). x.at) h); taken = inl (ap (λ (x : Given). out (Some x.packet)) h) }
+as_taken out from t g (Some p) (inr h) = absurd h
+
+pub front : {X : Type 0} (P : X → Type 0) (c : X) (cs : List X) → Ever P (c ∷ []) → Ever P (c ∷ cs)
+front P c cs (inl h) = inl h
+front P c cs (inr h) = absurd h
+
+pub record ClientTurn (t : ℕ) (entries : List Entry) : Type 0 where
+  pub calls : List C.Call
+  pub on : OnClient calls entries
+  pub at : Every (client.IsAt t) calls
+
+pub record ServerTurn (t : ℕ) (entries : List Entry) : Type 0 where
+  pub calls : List S.Call
+  pub on : OnServer calls entries
+  pub at : Every (server.IsAt t) calls
+
 module _ (past : List Turn) (t word : ℕ) (refused : Bool) (entries : List Entry) where
   pub side : (what : What) → Makes past t word what refused entries → ClientTurn t entries ⊎ ServerTurn t entries
   side (Calls r) m = inl (record { calls = m.0; on = m.2; at = each_one _ (client.IsAt t) (λ c h. subst (client.IsAt t) (sym h.1) refl) refused m.0 m.1 })
-  side TickClient m = inl (record { calls = m.0; on = m.2; at = each_tick (ClientTick t word) (client.IsAt t) (λ b c h. subst (client.IsAt t) (sym h.4) refl) refused m.0 m.1 })
-  side (StrangerToClient from bytes) m = inl (record { calls = m.0; on = m.2; at = each_one _ (client.IsAt t) (λ c h. subst (client.IsAt t) (sym h.3) refl) refused m.0 m.1 })
+  side (Observes path) m = inl (record { calls = m.0; on = m.2; at = each_one _ (client.IsAt t) (λ c h. subst (client.IsAt t) (sym h.1) refl) refused m.0 m.1 })
+  side (Cancels number) m = inl (record { calls = m.0; on = m.2; at = each_one _ (client.IsAt t) (λ c h. subst (client.IsAt t) (sym h.1) refl) false m.0 m.1.0 })
+  side (Forgets number) m = inl (record { calls = m.0; on = m.2; at = each_one _ (client.IsAt t) (λ c h. subst (client.IsAt t) (sym h.2) tt) false m.0 m.1.0 })
+  side TickClient m = inl (record { calls = m.0; on = m.2; at = each_tick (ClientTick t word) (client.IsAt t) (λ b c h. subst (client.IsAt t) (sym h.5) refl) refused m.0 m.1 })
+  side (StrangerToClient from bytes) m = inl (record { calls = m.0; on = m.2; at = each_one _ (client.IsAt t) (λ c h. subst (client.IsAt t) (sym h.6) refl) refused m.0 m.1 })
   side (Sets path format body) m = inr (record { calls = m.0; on = m.2; at = each_one _ (server.IsAt t) (λ c h. subst (server.IsAt t) (sym h.2) refl) refused m.0 m.1 })
   side (Removes path) m = inr (record { calls = m.0; on = m.2; at = each_one _ (server.IsAt t) (λ c h. subst (server.IsAt t) (sym h.2) refl) refused m.0 m.1 })
-  side TickServer m = inr (record { calls = m.0; on = m.2; at = each_tick (ServerTick t word) (server.IsAt t) (λ b c h. subst (server.IsAt t) (sym h.5) refl) refused m.0 m.1 })
+  side TickServer m = inr (record { calls = m.0; on = m.2; at = each_tick (ServerTick t word) (server.IsAt t) (λ b c h. subst (server.IsAt t) (sym h.6) refl) refused m.0 m.1 })
   side (StrangerToServer from bytes) m = inr (record { calls = m.0; on = m.2; at = each_one _ (server.IsAt t) (λ c h. subst (server.IsAt t) (sym h.4) refl) refused m.0 m.1 })
   side (Deliver number) m = elim m.2 [
     | inl d ↦ inr (record { calls = d.1; on = d.3; at = each_one _ (server.IsAt t) (λ c h. subst (server.IsAt t) (sym h.4) refl) refused d.1 d.2 })
-    | inr d ↦ inl (record { calls = d.1; on = d.3; at = each_one _ (client.IsAt t) (λ c h. subst (client.IsAt t) (sym h.3) refl) refused d.1 d.2 })
+    | inr d ↦ inl (record { calls = d.1; on = d.3; at = each_one _ (client.IsAt t) (λ c h. subst (client.IsAt t) (sym h.6) refl) refused d.1 d.2 })
   ]
 
 -- the calls of the ends, of a turn and of what was before
@@ -69,21 +91,15 @@ server_client (c ∷ cs) es = server_client cs es
 
 -- what is given out is what a call takes
 
-pub record Takes {X : Type 0} (out : Option Packet → X) (from : Endpoint) (t : ℕ) (g : Given) (cs : List X) : Type 0 where
-  pub by : g.from ≡ from
-  pub at : g.at ≡ t
-  pub taken : Ever (λ c. c ≡ out (Some g.packet)) cs
-
-pub as_taken : {X : Type 0} (out : Option Packet → X) (from : Endpoint) (t : ℕ) (g : Given) (o : Option Packet) → Ever (λ h. h ≡ g) (given_as t from o) → Takes out from t g (out o ∷ [])
-as_taken out from t g None h = absurd h
-as_taken out from t g (Some p) (inl h) = record { by = sym (ap (λ (x : Given). x.from) h); at = sym (ap (λ (x : Given). x.at) h); taken = inl (ap (λ (x : Given). out (Some x.packet)) h) }
-as_taken out from t g (Some p) (inr h) = absurd h
-
 client_one : (t : ℕ) (g : Given) (c : C.Call) → Ever (λ h. h ≡ g) (given_by t (OfClient c)) → Takes C.NextOut client_end t g (c ∷ [])
 client_one t g (C.NextOut o) h = as_taken C.NextOut client_end t g o h
 client_one t g (C.Calls now r answer) h = absurd h
-client_one t g (C.Feeds now from bytes word up settled e) h = absurd h
-client_one t g (C.Ticks now word below w sent z answer) h = absurd h
+client_one t g (C.Observes now path answer) h = absurd h
+client_one t g (C.Cancels now number answer) h = absurd h
+client_one t g (C.Forgets number kept answer) h = absurd h
+client_one t g (C.Asked answer) h = absurd h
+client_one t g (C.Feeds now from bytes word up settled e sent token kept) h = absurd h
+client_one t g (C.Ticks now word below w sent z kept answer) h = absurd h
 client_one t g (C.NextReport r) h = absurd h
 
 server_one : (t : ℕ) (g : Given) (c : S.Call) → Ever (λ h. h ≡ g) (given_by t (OfServer c)) → Takes S.NextOut server_end t g (c ∷ [])
@@ -92,11 +108,9 @@ server_one t g (S.Sets now path format body answer left) h = absurd h
 server_one t g (S.Removes now path answer left) h = absurd h
 server_one t g (S.Delays path ms answer) h = absurd h
 server_one t g (S.Feeds now from bytes word up came w below) h = absurd h
-server_one t g (S.Ticks now word below room d w id answer) h = absurd h
-
-pub front : {X : Type 0} (P : X → Type 0) (c : X) (cs : List X) → Ever P (c ∷ []) → Ever P (c ∷ cs)
-front P c cs (inl h) = inl h
-front P c cs (inr h) = absurd h
+server_one t g (S.Ticks now word below room d passed w id answer) h = absurd h
+server_one t g (S.Gets path answer) h = absurd h
+server_one t g (S.TellsApplied answer) h = absurd h
 
 pub client_takes : (t : ℕ) (g : Given) (cs : List C.Call) → Ever (λ h. h ≡ g) (all_of (given_by t) (map OfClient cs)) → Takes C.NextOut client_end t g cs
 client_takes t g [] h = absurd h

@@ -1,27 +1,34 @@
 -- When the calls of the server, at one moment, have their entries in its layer.
-use Rattle.std.proofs.Common.{◌≡◌, ◌≤◌, ℕ, max, Bool, true, false, Option, Some, None, List, [], ◌∷◌, ◌++◌, refl, ap, sym, subst, ◌∙◌, arith, append_assoc}
+use Rattle.std.proofs.Common.{◌≡◌, ◌≤◌, ℕ, zero, suc, max, Bool, true, false, Option, Some, None, List, [], ◌∷◌, ◌++◌}
+use Rattle.std.proofs.Common.{refl, ap, sym, subst, ◌∙◌, arith}
 use Rattle.coap_types.specs.declared.endpoint.Endpoint.{Endpoint}
 use Rattle.coap_codec.specs.Message.{Message}
 use Rattle.coap_layer.specs.Trace as L
 use Rattle.coap_layer.specs.Machine.State.{State, start}
 use Rattle.coap_layer.specs.Machine.Steps.{left_after}
+use Rattle.coap_observe.specs.Observers.{Observer}
 use Rattle.coap_exchange.specs.declared.answerer.Asked as request
 use Rattle.coap_exchange.specs.declared.answerer.Due.{Due}
 use Rattle.coap_exchange.specs.declared.answerer.Due.TheVariants as due
 use Rattle.coap_exchange.specs.AnswererTrace as R
 use Rattle.coap_exchange.specs.AnswererLaw as answerer
-use Rattle.coap_ends.specs.ServerTrace.{Own, Handling, Silent, Refuses, Serves, Waits, Call, Sets, Removes, Delays, Feeds, Ticks, NextOut}
-use Rattle.coap_ends.specs.ServerSteps.{answering, responding}
-use Rattle.coap_ends.specs.ServerSteps as steps
-use Rattle.coap_ends.specs.ServerLaw.{own_of, lower_of}
+use Rattle.coap_ends.specs.ServerSide.ServerAsks.{answering, responding}
+use Rattle.coap_ends.specs.ServerSide.ServerAsks as asks_of
+use Rattle.coap_ends.specs.ServerSide.ServerDeferring.{deferral_by, deferral}
+use Rattle.coap_ends.specs.ServerSide.ServerHandling.{incoming, ticking, heard}
+use Rattle.coap_ends.specs.ServerSide.ServerLaw.{own_of, lower_of}
+use Rattle.coap_ends.specs.ServerSide.ServerNotifying.{marked, readies}
+use Rattle.coap_ends.specs.ServerSide.ServerSteps as steps
+use Rattle.coap_ends.specs.ServerSide.ServerTrace.{Own, Handling, Silent, Replies, Serves, Waits, Notifies, Call, Sets}
+use Rattle.coap_ends.specs.ServerSide.ServerTrace.{Removes, Delays, Feeds, Ticks, NextOut, Gets, TellsApplied}
+use Rattle.coap_ends.proofs.Facts.Adds.{left_append}
 use Rattle.coap_world.specs.Delivery.{FedToServer}
 use Rattle.coap_world.specs.Events.{Config}
-use Rattle.coap_world.specs.Record.{OfServer}
-use Rattle.coap_ends.proofs.Facts.Adds.{left_append}
 use Rattle.coap_world.specs.Hops.{server_asks, server_asked, server_adds}
-use Rattle.coap_world.proofs.Delivery.HopsAreEntries.{server_asked_next}
+use Rattle.coap_world.specs.Record.{OfServer}
 use Rattle.coap_world.proofs.Delivery.EntriesInTime.{Every, every_join, Timely, Done, done, nothing_done, takes}
 use Rattle.coap_world.proofs.Delivery.ResponsesInTime.{Asks, owns_by, wishes, ends}
+use Rattle.coap_world.proofs.Delivery.HopsAreEntries.{server_asked_next}
 
 -- the moment that it is handed
 abbrev pub IsAt : ℕ → Call → Type 0
@@ -29,41 +36,65 @@ IsAt t (Sets now path format body answer left) = now ≡ t
 IsAt t (Removes now path answer left) = now ≡ t
 IsAt t (Delays path ms answer) = Unit {0}
 IsAt t (Feeds now from bytes word up came h below) = now ≡ t
-IsAt t (Ticks now word below room d h id answer) = now ≡ t
+IsAt t (Ticks now word below room d passed h id answer) = now ≡ t
 IsAt t (NextOut answer) = Unit {0}
+IsAt t (Gets path answer) = Unit {0}
+IsAt t (TellsApplied answer) = Unit {0}
 
 abbrev pub Fed : Call → Endpoint → List ℕ → Type 0
 Fed c from bytes = FedToServer from bytes (OfServer c)
 
 module _ (t : ℕ) (F : Endpoint → List ℕ → Type 0) where
-  answering_asks : (at : ℕ) (came : Option (request.Asked × Message)) (h : Handling) (below : L.Answer) → at ≤ t → Every (Asks t F) (answering at came h below)
-  answering_asks at None h below k = tt
-  answering_asks at (Some p) Silent below k = tt
-  answering_asks at (Some p) (Refuses response) below k = (tt, tt)
-  answering_asks at (Some p) (Serves q reply response left) below k = (tt, tt)
-  answering_asks at (Some p) (Waits q delay) below k = (k, tt)
+  deferring_asks : (o : Option ℕ) (place : Bool) (at : ℕ) (a : request.Asked) → at ≤ t → Every (Asks t F) (deferral_by o place at a)
+  deferring_asks None place at a k = tt
+  deferring_asks (Some delay) place at a k = (k, tt)
 
-  responding_asks : (at : ℕ) (d : Due) (h : Handling) (word id : ℕ) → at ≤ t → Every (Asks t F) (responding at d h word id)
-  responding_asks at (due.Ready a) (Serves q reply response left) word id k = (k, tt)
-  responding_asks at (due.Ready a) Silent word id k = tt
-  responding_asks at (due.Ready a) (Refuses response) word id k = tt
-  responding_asks at (due.Ready a) (Waits q delay) word id k = tt
-  responding_asks at due.Idle h word id k = tt
-  responding_asks at due.Copied h word id k = tt
-  responding_asks at due.Expired h word id k = tt
+  deferral_asks : (s : Own) (a : request.Asked) (q : _) → s.clock ≤ t → Every (Asks t F) (deferral s a q)
+  deferral_asks s a q k = deferring_asks _ _ s.clock a k
+
+  answering_asks : (s : Own) (came : Option (request.Asked × Message)) (h : Handling) (below : L.Answer) → s.clock ≤ t → Every (Asks t F) (answering s came h below)
+  answering_asks s None h below k = tt
+  answering_asks s (Some p) Silent below k = tt
+  answering_asks s (Some p) (Replies response) below k = (tt, tt)
+  answering_asks s (Some p) (Serves q reply left) below k = (tt, deferral_asks s p.0 q k)
+  answering_asks s (Some p) (Waits q delay) below k = deferral_asks s p.0 q k
+  answering_asks s (Some p) (Notifies o reply) below k = tt
+
+  readies_asks : (at passed : ℕ) (os : List Observer) → at ≤ t → Every (Asks t F) (readies at passed os)
+  readies_asks at passed [] k = tt
+  readies_asks at zero (o ∷ os) k = (k, tt)
+  readies_asks at (suc passed) (o ∷ os) k = every_join (Asks t F) (readies at passed os) (R.Ready at o.to false ∷ []) (readies_asks at passed os k) (k, tt)
+
+  responding_asks : (s : Own) (d : Due) (passed : ℕ) (h : Handling) (word id : ℕ) → s.clock ≤ t → Every (Asks t F) (responding s d passed h word id)
+  responding_asks s (due.Ready a) passed (Serves q reply left) word id k = (k, tt)
+  responding_asks s (due.Ready a) passed Silent word id k = tt
+  responding_asks s (due.Ready a) passed (Replies response) word id k = tt
+  responding_asks s (due.Ready a) passed (Waits q delay) word id k = tt
+  responding_asks s (due.Ready a) passed (Notifies o reply) word id k = tt
+  responding_asks s due.Idle passed (Notifies o reply) word id k = (k, readies_asks s.clock passed (marked s.observers) k)
+  responding_asks s due.Idle passed (Serves q reply left) word id k = readies_asks s.clock passed (marked s.observers) k
+  responding_asks s due.Idle passed Silent word id k = readies_asks s.clock passed (marked s.observers) k
+  responding_asks s due.Idle passed (Replies response) word id k = readies_asks s.clock passed (marked s.observers) k
+  responding_asks s due.Idle passed (Waits q delay) word id k = readies_asks s.clock passed (marked s.observers) k
+  responding_asks s due.Copied passed h word id k = tt
+  responding_asks s due.Expired passed h word id k = tt
 
   -- what a call asks of the exchanges
-  lower_asks : (s : Own) (c : Call) → s.clock ≤ t → IsAt t c → ((from : Endpoint) (bytes : List ℕ) → Fed c from bytes → F from bytes) → Every (Asks t F) (steps.lower s c)
+  lower_asks : (s : Own) (c : Call) → s.clock ≤ t → IsAt t c → ((from : Endpoint) (bytes : List ℕ) → Fed c from bytes → F from bytes) → Every (Asks t F) (asks_of.lower s c)
   lower_asks s (Sets now path format body answer left) h at f = tt
   lower_asks s (Removes now path answer left) h at f = tt
   lower_asks s (Delays path ms answer) h at f = tt
   lower_asks s (Feeds now from bytes word up came w below) h at f =
       let k : max s.clock now ≤ t = omega (arith, h, at) in
-      every_join (Asks t F) (answering (max s.clock now) came w below) (R.Incoming (max s.clock now) from bytes up came ∷ []) (answering_asks (max s.clock now) came w below k) ((k, f from bytes (now, word, up, came, w, below, refl)), tt)
-  lower_asks s (Ticks now word below room d w id answer) h at f =
+      let z : Own = heard s now (incoming s now from bytes up came) in
+      every_join (Asks t F) (answering z came w below) (incoming s now from bytes up came ∷ []) (answering_asks z came w below k) ((k, f from bytes (now, word, up, came, w, below, refl)), tt)
+  lower_asks s (Ticks now word below room d passed w id answer) h at f =
       let k : max s.clock now ≤ t = omega (arith, h, at) in
-      every_join (Asks t F) (responding (max s.clock now) d w word id) (R.Ticks (max s.clock now) below room d ∷ []) (responding_asks (max s.clock now) d w word id k) (k, tt)
+      let z : Own = heard s now (ticking s now below room d) in
+      every_join (Asks t F) (responding z d passed w word id) (ticking s now below room d ∷ []) (responding_asks z d passed w word id k) (k, tt)
   lower_asks s (NextOut answer) h at f = (tt, tt)
+  lower_asks s (Gets path answer) h at f = tt
+  lower_asks s (TellsApplied answer) h at f = tt
 
 module _ (config : Config) where
   abbrev own : List Call → Own
@@ -81,38 +112,42 @@ module _ (config : Config) where
     pub between : (answerer.own_of (exchanges past)).clock ≤ t
     pub layer : (before past).clock ≤ t
 
-  asks : (t : ℕ) (past : List Call) (c : Call) → IsBy t past → IsAt t c → Every (Asks t (Fed c)) (steps.lower (own past) c)
+  asks : (t : ℕ) (past : List Call) (c : Call) → IsBy t past → IsAt t c → Every (Asks t (Fed c)) (asks_of.lower (own past) c)
   asks t past c by at = lower_asks t (Fed c) (own past) c by.own at (λ from bytes f. f)
 
   asks_done : (t : ℕ) (past : List Call) (c : Call) → IsBy t past → IsAt t c → Done t (Fed c) (before past) (server_asks config past c)
   asks_done t past (Sets now path format body answer left) by at = nothing_done t (Fed (Sets now path format body answer left)) (before past) by.layer
   asks_done t past (Removes now path answer left) by at = nothing_done t (Fed (Removes now path answer left)) (before past) by.layer
   asks_done t past (Delays path ms answer) by at = nothing_done t (Fed (Delays path ms answer)) (before past) by.layer
+  asks_done t past (Gets path answer) by at = nothing_done t (Fed (Gets path answer)) (before past) by.layer
+  asks_done t past (TellsApplied answer) by at = nothing_done t (Fed (TellsApplied answer)) (before past) by.layer
   asks_done t past (NextOut answer) by at = takes t (Fed (NextOut answer)) (before past) (L.Gives answer) by.layer
   asks_done t past (Feeds now from bytes word up came w below) by at =
       let F = Fed (Feeds now from bytes word up came w below) in
       let k : t ≤ max (own past).clock now = omega (arith, at) in
-      done t F (before past) _ by.layer (wishes t F (exchanges past) (steps.lower (own past) (Feeds now from bytes word up came w below)) by.between (asks t past (Feeds now from bytes word up came w below) by at))
-      (ends t F (exchanges past) (answering (max (own past).clock now) came w below) (R.Incoming (max (own past).clock now) from bytes up came) k)
-  asks_done t past (Ticks now word below room d w id answer) by at =
-      let F = Fed (Ticks now word below room d w id answer) in
+      done t F (before past) _ by.layer (wishes t F (exchanges past) (asks_of.lower (own past) (Feeds now from bytes word up came w below)) by.between (asks t past (Feeds now from bytes word up came w below) by at))
+      (ends t F (exchanges past) (answering (heard (own past) now (incoming (own past) now from bytes up came)) came w below) (incoming (own past) now from bytes up came) k)
+  asks_done t past (Ticks now word below room d passed w id answer) by at =
+      let F = Fed (Ticks now word below room d passed w id answer) in
       let k : t ≤ max (own past).clock now = omega (arith, at) in
-      done t F (before past) _ by.layer (wishes t F (exchanges past) (steps.lower (own past) (Ticks now word below room d w id answer)) by.between (asks t past (Ticks now word below room d w id answer) by at))
-      (ends t F (exchanges past) (responding (max (own past).clock now) d w word id) (R.Ticks (max (own past).clock now) below room d) k)
+      done t F (before past) _ by.layer (wishes t F (exchanges past) (asks_of.lower (own past) (Ticks now word below room d passed w id answer)) by.between (asks t past (Ticks now word below room d passed w id answer) by at))
+      (ends t F (exchanges past) (responding (heard (own past) now (ticking (own past) now below room d)) d passed w word id) (ticking (own past) now below room d) k)
 
   end_by : (t : ℕ) (s : Own) (c : Call) → s.clock ≤ t → IsAt t c → (steps.after s c).clock ≤ t
   end_by t s (Sets now path format body answer left) h at = omega (arith, h, at)
   end_by t s (Removes now path answer left) h at = omega (arith, h, at)
   end_by t s (Delays path ms answer) h at = h
   end_by t s (Feeds now from bytes word up came w below) h at = omega (arith, h, at)
-  end_by t s (Ticks now word below room d w id answer) h at = omega (arith, h, at)
+  end_by t s (Ticks now word below room d passed w id answer) h at = omega (arith, h, at)
   end_by t s (NextOut answer) h at = h
+  end_by t s (Gets path answer) h at = h
+  end_by t s (TellsApplied answer) h at = h
 
   pub next_by : (t : ℕ) (past : List Call) (c : Call) → IsBy t past → IsAt t c → IsBy t (c ∷ past)
   next_by t past c by at =
       record {
         own = end_by t (own past) c by.own at;
-        between = owns_by t (Fed c) (exchanges past) (steps.lower (own past) c) by.between (asks t past c by at);
+        between = owns_by t (Fed c) (exchanges past) (asks_of.lower (own past) c) by.between (asks t past c by at);
         layer = subst (λ (s : State). s.clock ≤ t) (sym (ap (left_after (start config.server_word)) (server_asked_next config past c) ∙ left_append (start config.server_word) (server_asks config past c) (server_asked config past))) (asks_done t past c by at).till;
       }
 

@@ -1,5 +1,6 @@
 -- A turn of the server.
-use Rattle.std.proofs.Common.{◌≡◌, inl, inr, ℕ, Option, Some, None, List, [], ◌∷◌, ◌++◌, map, slice_get, refl, ap, sym, subst, ◌∙◌, append_assoc}
+use Rattle.std.proofs.Common.{◌≡◌, inl, inr, ℕ, Option, Some, None, List, [], ◌∷◌, ◌++◌, map, slice_get, refl, ap, sym}
+use Rattle.std.proofs.Common.{subst, ◌∙◌, append_assoc}
 use Rattle.std.proofs.lemmas.List.{append-nil}
 use Rattle.coap_types.specs.Past.{Ever, Always, all_of}
 use Rattle.coap_types.specs.declared.endpoint.Endpoint.{Endpoint}
@@ -12,17 +13,19 @@ use Rattle.coap_layer.specs.Trace.{Packet}
 use Rattle.coap_layer.specs.Words.{waiting}
 use Rattle.coap_layer.proofs.Facts.Calls.{steps_left, led_steps}
 use Rattle.coap_layer.proofs.Facts.StepsOfLayer.{steps_split}
-use Rattle.coap_ends.specs.ServerTrace.{Call, NextOut}
+use Rattle.coap_ends.specs.ServerSide.ServerTrace.{Call, NextOut}
 use Rattle.coap_world.specs.Delivery.{FedToServer}
 use Rattle.coap_world.specs.Events.{client_end, server_end, Config}
 use Rattle.coap_world.specs.Record.{Entry, OfServer, server_of, server_trace, begun_with, Given, given_by}
 use Rattle.coap_world.specs.Hops.{server_asks, server_asked, server_adds, hops_in, SendsAt, SentIn}
-use Rattle.coap_world.proofs.Delivery.TakenAtOnce.{InTime, in_time, Took, added, all_by, all_timely, nothing_waits, sent_at_once}
+use Rattle.coap_world.proofs.Delivery.TakenAtOnce.{InTime, in_time, Took, added, all_by, all_timely, nothing_waits}
+use Rattle.coap_world.proofs.Delivery.TakenAtOnce.{sent_at_once}
 use Rattle.coap_world.proofs.Delivery.ServerInTime.{IsAt, Fed, IsBy, next_by, adds_timely}
 use Rattle.coap_world.proofs.Delivery.HopsAreEntries.{client_layer, server_layer, server_next, server_asked_next}
 use Rattle.coap_world.proofs.Delivery.EntriesInTime.{Every, every_map, Timely}
 use Rattle.coap_world.proofs.Delivery.ClientInTime as client
-use Rattle.coap_world.proofs.Delivery.AfterATurn.{Still, Goes, map_over, on_far, far_fair}
+use Rattle.coap_world.proofs.Delivery.AfterATurn.{map_over, on_far, far_fair}
+use Rattle.coap_world.proofs.Delivery.AfterATurn.{Still, Goes}
 use Rattle.coap_world.proofs.Delivery.OneEndATurn.{ServerTurn, server_server, client_server, server_takes}
 
 abbrev outs_after : List Packet → List Call → List Call
@@ -47,10 +50,6 @@ module _ (config : Config) where
       let k = steps_split (start config.server_word) good.0 (server_asks config past c) (server_asked config past)
       (subst (λ a. Steps (start config.server_word) a good.0) (server_asked_next config past c) good.1) in
       (k.0, k.1)
-
-  pub down_all : (later past : List Call) → IsGood (later ++ past) → IsGood past
-  down_all [] past good = good
-  down_all (c ∷ later) past good = down_all later past (down (later ++ past) c good)
 
   law : (past : List Call) → IsGood past → LayerLaw config.server_word (server_layer config past)
   law past good =

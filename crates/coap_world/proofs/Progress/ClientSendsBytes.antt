@@ -1,134 +1,247 @@
--- What a client sends is of bytes, where the paths and the bodies of its calls are (RFC 7252, sections 3 and 5.10).
-use Rattle.std.proofs.Common.{◌≡◌, inr, ℕ, ◌<◌, ◌^◌, ◌++◌, max, Bool, true, false, Option, Some, None, List, [], ◌∷◌, refl, ap, sym, subst, arith, suc, Result}
-use Rattle.std.specs.Prelude.{All, IfSome}
+-- What a client sends is of bytes, where the paths, the bodies and the tags of its calls are (RFC 7252, sections 3 and 5.10).
+use Rattle.std.proofs.Common.{◌≡◌, ◌≤◌, ℕ, ◌<◌, ◌^◌, max, Bool, true, false, cond, Option, Some, None, List, [], ◌∷◌}
+use Rattle.std.proofs.Common.{◌++◌, map, refl, ap, sym, subst, ◌∙◌}
+use Rattle.std.proofs.Common.{arith, suc, Result, Ok, Err}
+use Rattle.std.specs.Prelude.{◌==◌, All, IfSome}
 use Rattle.coap_types.specs.Past.{Ever}
-use Rattle.coap_types.proofs.Facts.Uints.{uint_spells}
+use Rattle.coap_types.specs.Bytes.{AreBytes}
+use Rattle.coap_types.specs.CoapOption.{option}
+use Rattle.coap_types.specs.OptionValues.{uint_option}
 use Rattle.coap_types.specs.declared.endpoint.Endpoint.{Endpoint}
+use Rattle.coap_types.specs.declared.option_number.TheConstants.{IF_MATCH as if_match, ETAG as etag}
+use Rattle.coap_types.specs.declared.option_number.TheConstants.{IF_NONE_MATCH as if_none_match, URI_PATH as uri_path}
 use Rattle.coap_types.specs.declared.request.Method.{Method}
 use Rattle.coap_types.specs.declared.request.Method.TheVariants.{Get, Post, Put, Delete}
-use Rattle.coap_types.specs.Bytes.{AreBytes}
+use Rattle.coap_codec.specs.Message.{Message}
+use Rattle.coap_layer.specs.Machine.State as layer
 use Rattle.coap_layer.specs.Sends.{IsIn}
 use Rattle.coap_layer.specs.Trace as L
 use Rattle.coap_exchange.specs.declared.asker.AskRefusal.{AskRefusal}
-use Rattle.coap_exchange.specs.declared.asker.Exchange.{Exchange}
-use Rattle.coap_exchange.specs.declared.matching.Opening.{Opening}
-use Rattle.coap_exchange.specs.declared.matching.Opening.TheVariants.{Running, Spent, Sends}
-use Rattle.coap_exchange.specs.declared.matching.Verdict.{Verdict}
-use Rattle.coap_exchange.specs.declared.matching.Verdict.TheVariants.{Ignore, Reject, Acknowledge, AnswerCon, Answer, NoticeCon, Notice, Await, EndByReset}
+use Rattle.coap_exchange.specs.declared.asker.Event.{Event}
 use Rattle.coap_exchange.specs.AskerTrace as E
-use Rattle.coap_exchange.specs.AskerRequests as Q
-use Rattle.coap_exchange.specs.AskerArrivals as R
-use Rattle.coap_exchange.specs.AskerSteps as P
 use Rattle.coap_exchange.specs.AskerLaw as W
-use Rattle.coap_exchange.specs.Tokens.{token_of}
 use Rattle.coap_exchange.proofs.Facts.ClientSide.{layer_stands}
-use Rattle.coap_ends.specs.ClientTrace.{Request, Operation, Call, Calls, Feeds, Ticks, NextOut, NextReport}
-use Rattle.coap_types.specs.Uint.{uint}
-use Rattle.coap_types.specs.OptionValues.{uint_option}
-use Rattle.coap_ends.specs.ClientRequests.{path_options, more_options, payload_by}
-use Rattle.coap_ends.specs.ClientSteps.{starting, asking}
-use Rattle.coap_ends.specs.ClientLaw.{ClientLaw, own_of, lower_of, layer_of}
-use Rattle.coap_ends.specs.Follows.ClientFollows.{WasTaken}
-use Rattle.coap_ends.proofs.Facts.OfClient.{starts_taken}
+use Rattle.coap_ends.specs.ClientSide.ClientTrace.{Request, NoIds, Call, Calls, Observes, Cancels, Forgets, Feeds}
+use Rattle.coap_ends.specs.ClientSide.ClientTrace.{Ticks, NextOut, NextReport, Asked}
+use Rattle.coap_ends.specs.ClientSide.ClientOwn.{Operation, Calling, Registering, Fetching, Cancelling, Dropped}
+use Rattle.coap_ends.specs.ClientSide.ClientOwn.{Notified, Observation, Own}
+use Rattle.coap_ends.specs.ClientSide.ClientObservations.{observation_of}
+use Rattle.coap_ends.specs.ClientSide.ClientRequests.{flag_option, path_options, before_path, after_path, options_of}
+use Rattle.coap_ends.specs.ClientSide.ClientRequests.{block_option, block2_option}
+use Rattle.coap_ends.specs.ClientSide.ClientRequests.{message_of}
+use Rattle.coap_ends.specs.ClientSide.ClientEffects.{Deed, Rests, Asks, Keeps, Releases, Effect, has_sent}
+use Rattle.coap_ends.specs.ClientSide.ClientEvents.{failed, happened, passes, closed}
+use Rattle.coap_ends.specs.ClientSide.ClientDeeds.{at, deeds}
+use Rattle.coap_ends.specs.ClientSide.ClientHears.{AreFromServer}
+use Rattle.coap_ends.specs.ClientSide.ClientSteps.{lower}
+use Rattle.coap_ends.specs.ClientSide.ClientLaw.{ClientLaw, own_of, lower_of, layer_of}
+use Rattle.coap_ends.proofs.Facts.OfClient as facts
+use Rattle.coap_ends.proofs.Facts.MovesOfClient.{Moved, left_by, releases_none, happened_moves, passes_moves, Hears}
+use Rattle.coap_ends.proofs.Facts.OfClientCalls.{asks_runs}
+use Rattle.coap_ends.proofs.Facts.OfClientCalls.{closing}
 use Rattle.coap_world.specs.Legal.{IsRequest}
-use Rattle.coap_world.proofs.Progress.SpelledInBytes.{ValuesAre, none_are, high_are, values_append}
-use Rattle.coap_world.proofs.Delivery.EntriesInTime.{Every, every_join}
-use Rattle.coap_world.proofs.Progress.LayerSendsBytes.{ContentAre, CallAre, EachAre, sent_are, ack_are, reset_are, ReplyAre, replying_are}
+use Rattle.coap_world.proofs.Progress.EachElement.{Each, each_join, each_front, each_back, last_of}
+use Rattle.coap_world.proofs.Progress.SpelledInBytes.{ValuesAre, none_are, values_append}
+use Rattle.coap_world.proofs.Progress.TransfersInBytes.{RestAre, block_are, payload_are, uint_are}
+use Rattle.coap_world.proofs.Progress.ClientKeepsBytes.{HeadAre, OpAre, WatchAre, OwnAre, over_are, moves_are}
+use Rattle.coap_world.proofs.Progress.ClientKeepsBytes.{closed_are, calling_are, observing_are}
+use Rattle.coap_world.proofs.Progress.LayerSendsBytes.{sent_are}
+use Rattle.coap_world.proofs.Progress.AskerSendsBytes.{RequestAre, InputAre, each_are, inputs_are}
+use Rattle.coap_world.proofs.Progress.ExchangesSendBytes.{steps_are, parts_are}
 
 -- the options of a request
 
-path_are : (path : List (List ℕ)) → All AreBytes path → ValuesAre (path_options path)
-path_are [] h = tt
-path_are (segment ∷ path) h = (h 0 [] (omega arith), path_are path (λ i d low. h (suc i) d (omega (arith, low))))
+values_of : (number : ℕ) (values : List (List ℕ)) → All AreBytes values → ValuesAre (map (option number) values)
+values_of number [] h = tt
+values_of number (v ∷ values) h = (h 0 v (omega arith), values_of number values (λ i d low. h (suc i) d (omega (arith, low))))
 
-uint_are : (n : ℕ) → n < 65536 → AreBytes (uint n)
-uint_are n low = (uint_spells n (omega (arith, low))).are_bytes
+number_are : (number : ℕ) (o : Option ℕ) → IfSome o (λ f. f < 2 ^ 16) → ValuesAre (uint_option number o)
+number_are number None h = tt
+number_are number (Some n) h = (uint_are n (omega (arith, h)), tt)
 
-uint_option_are : (number : ℕ) (o : Option ℕ) → IfSome o (λ f. f < 2 ^ 16) → ValuesAre (uint_option number o)
-uint_option_are number None h = tt
-uint_option_are number (Some n) h = (uint_are n h, tt)
+flag_are : (number : ℕ) (b : Bool) → ValuesAre (flag_option number b)
+flag_are number true = (none_are, tt)
+flag_are number false = tt
 
-more_are : (m : Method) (r : Request) → IsRequest r → ValuesAre (more_options m r)
-more_are Get r h = uint_option_are _ r.accept h.accept
-more_are Post r h = uint_option_are _ r.format h.format
-more_are Put r h = uint_option_are _ r.format h.format
-more_are Delete r h = tt
+conditions_are : (r : Request) → HeadAre r → ValuesAre (map (option if_match) r.if_match ++ flag_option if_none_match r.if_none_match)
+conditions_are r h = values_append (map (option if_match) r.if_match) (flag_option if_none_match r.if_none_match) (values_of if_match r.if_match h.if_match) (flag_are if_none_match r.if_none_match)
 
-payload_are : (m : Method) (body : List ℕ) → AreBytes body → AreBytes (payload_by m body)
-payload_are Get body h = none_are
-payload_are Post body h = h
-payload_are Put body h = h
-payload_are Delete body h = none_are
+before_are : (m : Method) (r : Request) → HeadAre r → ValuesAre (before_path m r)
+before_are Get r h = values_of etag r.etags h.etags
+before_are Post r h = conditions_are r h
+before_are Put r h = conditions_are r h
+before_are Delete r h = conditions_are r h
 
--- the calls of the exchanges
+after_are : (m : Method) (r : Request) → HeadAre r → ValuesAre (after_path m r)
+after_are Get r h = number_are _ r.accept h.accept
+after_are Post r h = number_are _ r.format h.format
+after_are Put r h = number_are _ r.format h.format
+after_are Delete r h = tt
 
-abbrev RequestAre : E.Call → Type 0
-RequestAre (E.Ask now r word below answer) = (r.token ≡ None) × ValuesAre r.options × AreBytes r.payload
-RequestAre c = Unit {0}
+options_are : (r : Request) → HeadAre r → ValuesAre (options_of r)
+options_are r h =
+    values_append (before_path r.method r) (path_options r.path ++ after_path r.method r) (before_are r.method r h)
+    (values_append (path_options r.path) (after_path r.method r) (values_of uri_path r.path h.path) (after_are r.method r h))
 
-token_are : (s : E.Own) (r : E.Request) → r.token ≡ None → AreBytes (Q.request_token s r)
-token_are s r new = subst AreBytes (sym (ap (λ o. Q.token_or o (token_of s.word s.given)) new)) (high_are 8 _)
+-- the message of an operation
 
-beneath_are : (o : Opening) (server : Endpoint) (content : L.Content) (word : ℕ) → ContentAre content → CallAre (Q.beneath o server content word)
-beneath_are Running server content word h = tt
-beneath_are Spent server content word h = tt
-beneath_are Sends server content word h = h
+pub record MessageAre (r : E.Request) : Type 0 where
+  pub token : IfSome r.token AreBytes
+  pub options : ValuesAre r.options
+  pub payload : AreBytes r.payload
 
-reply_are : (v : Verdict) (id : ℕ) → ReplyAre id (R.reply_by v id)
-reply_are Ignore id = tt
-reply_are Reject id = reset_are id
-reply_are Acknowledge id = ack_are id
-reply_are AnswerCon id = ack_are id
-reply_are Answer id = tt
-reply_are NoticeCon id = ack_are id
-reply_are Notice id = tt
-reply_are Await id = tt
-reply_are EndByReset id = tt
+found_are : (k : ℕ) (os : List Observation) → Each WatchAre os → IfSome (observation_of k os) WatchAre
+found_are k [] h = tt
+found_are k (o ∷ os) h = by (o.number == k) (found_are k os h.1)
+  where
+    by : (b : Bool) → IfSome (observation_of k os) WatchAre → IfSome (cond b (Some o) (observation_of k os)) WatchAre
+    by true f = h.0
+    by false f = f
 
-settling_are : (b : Bool) (server : Endpoint) (o : Option Exchange) (settled : Bool) → EachAre (R.settling b server o settled)
-settling_are true server (Some x) settled = (tt, tt)
-settling_are true server None settled = tt
-settling_are false server o settled = tt
+path_in : (o : Option Observation) → IfSome o WatchAre → ValuesAre (path_options (elim o [ None ↦ [] | Some x ↦ x.path ]))
+path_in None h = tt
+path_in (Some o) h = values_of uri_path o.path h.path
 
-lower_are : (s : E.Own) (c : E.Call) → RequestAre c → EachAre (P.lower s c)
-lower_are s (E.Ask now r w below answer) h =
-    (beneath_are (Q.opening_of s r) s.server (Q.content_of (Q.request_token s r) r) w (record { token = token_are s r h.0; values = h.1; payload = h.2 }), tt)
-lower_are s (E.Receive now from bytes up settled answer) h =
-    let v : Verdict = R.verdict_on s from up in
-    every_join _ (R.acts s from up settled v) (Q.asked now (L.Receive from bytes) up ∷ [])
-    (every_join _ (R.settling (R.settles v) s.server s.running settled) (R.replying from (R.id_in up) (R.reply_by v (R.id_in up)))
-    (settling_are (R.settles v) s.server s.running settled) (replying_are from (R.id_in up) (R.reply_by v (R.id_in up)) (reply_are v (R.id_in up)))) (tt, tt)
-lower_are s (E.Ticks now below answer) h = (tt, tt)
-lower_are s (E.Keep token answer) h = tt
-lower_are s (E.Release token answer) h = tt
-lower_are s (E.Take answer) h = (tt, tt)
+abbrev rest_in : Option Observation → Option Notified
+rest_in o = elim o [ None ↦ None | Some x ↦ x.rest ]
 
-each_are : (server : Endpoint) (word : ℕ) (t : List E.Call) → Every RequestAre t → EachAre (W.lower_of server word t)
-each_are server word [] h = tt
-each_are server word (c ∷ t) h = every_join _ (P.lower (W.own_of server word t) c) (W.lower_of server word t) (lower_are (W.own_of server word t) c h.0) (each_are server word t h.1)
+fetch_in : (o : Option Observation) → IfSome o WatchAre → ValuesAre (block2_option (elim (rest_in o) [ None ↦ None | Some n ↦ n.fetch.asked ]))
+fetch_in None h = tt
+fetch_in (Some o) h = by o.rest h.rest
+  where
+    by : (r : Option Notified) → RestAre r → ValuesAre (block2_option (elim r [ None ↦ None | Some n ↦ n.fetch.asked ]))
+    by None k = tt
+    by (Some n) k = k
 
--- the calls of the client
+token_in : (o : Option Observation) → IfSome o WatchAre → IfSome (Rattle.std.specs.Option.option_map (λ (z : Observation). z.token) o) AreBytes
+token_in None h = tt
+token_in (Some o) h = h.token
 
-asking_are : (at : ℕ) (o : Option Operation) (word : ℕ) (sent : L.Answer) (z : Result (List ℕ) AskRefusal) → ((op : Operation) → o ≡ Some op → IsRequest op.request) → Every RequestAre (asking at o word sent z)
-asking_are at None word sent z f = tt
-asking_are at (Some op) word sent z f =
-    let r = f op refl in
-    ((refl, values_append (path_options op.request.path) (more_options op.request.method op.request) (path_are op.request.path r.path.bytes) (more_are op.request.method op.request r), payload_are op.request.method op.request.body r.body), tt)
+message_are : (os : List Observation) (op : Operation) → Each WatchAre os → OpAre op → MessageAre (message_of os op)
+message_are os (Calling k r t) ws h = record { token = tt; options = values_append (options_of r) (block_option t) (options_are r h.0) (block_are t h.1); payload = payload_are t h.1 }
+message_are os (Registering k path) ws h = record { token = tt; options = (uint_are 0 (omega arith), values_of uri_path path h); payload = none_are }
+message_are os (Fetching k) ws h =
+    let f = found_are k os ws in
+    record { token = tt; options = values_append (path_options (elim (observation_of k os) [ None ↦ [] | Some x ↦ x.path ])) _ (path_in (observation_of k os) f) (fetch_in (observation_of k os) f); payload = none_are }
+message_are os (Cancelling k) ws h =
+    let f = found_are k os ws in
+    record { token = token_in (observation_of k os) f; options = (uint_are 1 (omega arith), path_in (observation_of k os) f); payload = none_are }
+message_are os Dropped ws h = record { token = tt; options = tt; payload = none_are }
 
-requests_are : (t : List Call) → ((op : Operation) → WasTaken op t → IsRequest op.request) → Every RequestAre (lower_of t)
-requests_are [] f = tt
-requests_are (Calls now r answer ∷ t) f = requests_are t (λ op w. f op (inr w))
-requests_are (Feeds now from bytes word up settled e ∷ t) f = (tt, requests_are t (λ op w. f op (inr w)))
-requests_are (Ticks now word below w sent z answer ∷ t) f =
-    let at : ℕ = max (own_of t).clock now in
-    let o : Option Operation = starting (own_of t) w in
-    every_join _ (asking at o word sent z ++ E.Ticks at below w ∷ []) (lower_of t)
-    (every_join _ (asking at o word sent z) (E.Ticks at below w ∷ [])
-    (asking_are at o word sent z (λ op is. f op (inr (starts_taken t w op is)))) (tt, tt)) (requests_are t (λ op w. f op (inr w)))
-requests_are (NextOut answer ∷ t) f = (tt, requests_are t (λ op w. f op (inr w)))
-requests_are (NextReport answer ∷ t) f = requests_are t (λ op w. f op (inr w))
+-- what is asked for a deed
 
-pub client_are : (server : Endpoint) (szx word : ℕ) (t : List Call) → ClientLaw server szx word t → ((op : Operation) → WasTaken op t → IsRequest op.request)
-    → (p : L.Packet) → Ever (λ e. IsIn p e.out) (layer_of server word t) → AreBytes p.bytes
-client_are server szx word t law f p h =
-    sent_are p word (W.lower_of server word (lower_of t)) (layer_stands server word (lower_of t) law.exchanges) (each_are server word (lower_of t) (requests_are t f)) h
+deeds_are : (d : Deed) (s : Own) (now word : ℕ) (sent : L.Answer) (token : Result (List ℕ) AskRefusal) (kept : Bool) → ((op : Operation) → d ≡ Asks op → MessageAre (message_of s.observations op)) → Each RequestAre (deeds d s now word sent token kept)
+deeds_are Rests s now word sent token kept f = tt
+deeds_are (Asks op) s now word sent token kept f = let m = f op refl in ((m.token, m.options, m.payload), tt)
+deeds_are (Keeps t) s now word sent token kept f = (tt, tt)
+deeds_are (Releases t) s now word sent token kept f = (tt, tt)
+
+failed_rests : (s : Own) (op other : Operation) → (failed has_sent NoIds s (Some op)).deed ≡ Asks other → ⊥
+failed_rests s (Calling k r t) other h = cc h
+failed_rests s (Registering k path) other h = cc h
+failed_rests s (Fetching k) other h = cc h
+failed_rests s (Cancelling k) other h = releases_none _ other h
+failed_rests s Dropped other h = cc h
+
+closed_rests : (now : ℕ) (e : Effect) (d : Deed) (token : Result (List ℕ) AskRefusal) (op : Operation) → e.deed ≡ d → (closed now e d token).deed ≡ Asks op → ⊥
+closed_rests now e (Asks o) (Ok key) op is h = cc h
+closed_rests now e (Asks o) (Err why) op is h = failed_rests e.own o op h
+closed_rests now e Rests token op is h = let k : Rests ≡ Asks op = sym is ∙ h in cc k
+closed_rests now e (Keeps t) token op is h = cc h
+closed_rests now e (Releases t) token op is h = cc h
+
+releases_are : (o : Option Observation) (s : Own) (kept : Bool) → Each RequestAre (deeds (Rattle.coap_ends.specs.ClientSide.ClientObserving.releases o) s 0 0 L.Nothing (Ok []) kept)
+releases_are None s kept = tt
+releases_are (Some o) s kept = (tt, tt)
+
+-- the calls of a client
+
+abbrev pub CallInRange : Call → Type 0
+CallInRange (Calls now r answer) = IsRequest r
+CallInRange (Observes now path answer) = All AreBytes path
+CallInRange c = Unit {0}
+
+abbrev Leaves : Own → List E.Call → Type 0
+Leaves new calls = OwnAre new × Each RequestAre calls
+
+record Ready (e : Effect) : Type 0 where
+  own : OwnAre e.own
+  asks : (op : Operation) → e.deed ≡ Asks op → MessageAre (message_of e.own.observations op)
+
+ready : (s : Own) (now : ℕ) (told : Option Event) (e : Effect) → OwnAre s → ((m : Message) → Hears told m → AreBytes m.token) → Moved s now told e → Ready e
+ready s now told e h tokens moved = subst Ready (sym moved.1) (record { own = left; asks = λ op is. message_are _ op left.observations (runs op is) })
+  where
+    left : OwnAre (left_by s now told moved.0).own
+    left = moves_are s now told h tokens moved.0
+
+    runs : (op : Operation) → (left_by s now told moved.0).deed ≡ Asks op → OpAre op
+    runs op is = let k : IfSome (Some op) OpAre = subst (λ o. IfSome o OpAre) (asks_runs s now told moved.0 op is) left.running in k
+
+module _ (now word : ℕ) (sent : L.Answer) (token : Result (List ℕ) AskRefusal) (kept : Bool) (e : Effect) (r : Ready e) where
+  abbrev c : Effect
+  c = closed now e e.deed token
+
+  done_are : (input : E.Call) → RequestAre input → Each RequestAre (deeds c.deed c.own now word sent token kept ++ (deeds e.deed e.own now word sent token kept ++ input ∷ []))
+  done_are input h =
+      each_join RequestAre (deeds c.deed c.own now word sent token kept) (deeds e.deed e.own now word sent token kept ++ input ∷ []) (deeds_are c.deed c.own now word sent token kept (λ op is. absurd (closed_rests now e e.deed token op refl is)))
+      (each_join RequestAre (deeds e.deed e.own now word sent token kept) (input ∷ []) (deeds_are e.deed e.own now word sent token kept r.asks) (h, tt))
+
+  left_are : OwnAre c.own
+  left_are = closed_are now e token r.own (closing now e token)
+
+at_are : (now : ℕ) (s : Own) → OwnAre s → OwnAre (at now s)
+at_are now s h = record { szx = h.szx; queue = h.queue; running = h.running; observations = h.observations }
+
+-- an answer has a token of bytes
+heard_are : (server : Endpoint) (t : List Call) (now : ℕ) (from : Endpoint) (bytes : List ℕ) (w : ℕ) (up : L.Answer) (settled : Bool) (event : Option Event) (sent : L.Answer) (token : Result (List ℕ) AskRefusal) (kept : Bool)
+    → AreFromServer server (Feeds now from bytes w up settled event sent token kept ∷ t) → AreBytes bytes → (m : Message) → Hears event m → AreBytes m.token
+heard_are server t now from bytes w up settled event sent token kept f are m is =
+    (parts_are bytes m are (f.0.came now from bytes w up settled event sent token kept m refl (ap Rattle.coap_exchange.specs.AskerFollows.message_told is)).1).0
+
+module _ (server : Endpoint) (szx : ℕ) (small : szx ≤ 6) where
+  call_are : (t : List Call) (c : Call) → AreFromServer server (c ∷ t) → CallInRange c → Each InputAre (lower (own_of szx t) c) → OwnAre (own_of szx t) → Leaves (own_of szx (c ∷ t)) (lower (own_of szx t) c)
+  call_are t (Calls now r answer) f range inputs h = (calling_are (own_of szx t) now r answer h (λ n is. range), tt)
+  call_are t (Observes now path answer) f range inputs h = (observing_are (own_of szx t) now path answer h (λ n is. range), tt)
+  call_are t (Cancels now k None) f range inputs h = (record { szx = h.szx; queue = each_join OpAre (own_of szx t).queue (Cancelling k ∷ []) h.queue (tt, tt); running = h.running; observations = h.observations }, tt)
+  call_are t (Cancels now k (Some why)) f range inputs h = (at_are now (own_of szx t) h, tt)
+  call_are t (Forgets k kept true) f range inputs h =
+      let o = over_are k (own_of szx t) h in
+      (record { szx = o.szx; queue = o.queue; running = o.running; observations = o.observations }, releases_are (observation_of k (own_of szx t).observations) (own_of szx t) kept)
+  call_are t (Forgets k kept false) f range inputs h = (h, tt)
+  call_are t (NextOut answer) f range inputs h = (h, (tt, tt))
+  call_are t (NextReport answer) f range inputs h = (record { szx = h.szx; queue = h.queue; running = h.running; observations = h.observations }, tt)
+  call_are t (Asked answer) f range inputs h = (h, tt)
+  call_are t (Feeds now from bytes w up settled event sent token kept) f range inputs h =
+      let s : Own = own_of szx t in
+      let m : ℕ = max s.clock now in
+      let e : Effect = happened (at now s) m event in
+      let c : Effect = closed m e e.deed token in
+      let input : E.Call = E.Receive m from bytes up settled event in
+      let last = each_back InputAre (deeds c.deed c.own m w sent token kept) (deeds e.deed e.own m w sent token kept ++ input ∷ []) inputs in
+      let are = last_of InputAre (deeds e.deed e.own m w sent token kept) input last in
+      let r = ready (at now s) m event e (at_are now s h) (heard_are server t now from bytes w up settled event sent token kept f are) (happened_moves (at now s) m event) in
+      let o = left_are m w sent token kept e r in
+      (record { szx = o.szx; queue = o.queue; running = o.running; observations = o.observations }, done_are m w sent token kept e r input tt)
+  call_are t (Ticks now w below turn sent token kept answer) f range inputs h =
+      let s : Own = own_of szx t in
+      let m : ℕ = max s.clock now in
+      let e : Effect = passes (at now s) m turn in
+      let r = ready (at now s) m None e (at_are now s h) (λ a is. absurd (cc is)) (passes_moves (at now s) m turn) in
+      let o = left_are m w sent token kept e r in
+      (record { szx = o.szx; queue = o.queue; running = o.running; observations = o.observations }, done_are m w sent token kept e r (E.Ticks m below turn) tt)
+
+  all_are : (t : List Call) → AreFromServer server t → Each CallInRange t → Each InputAre (lower_of szx t) → Leaves (own_of szx t) (lower_of szx t)
+  all_are [] f range inputs = (record { szx = small; queue = tt; running = tt; observations = tt }, tt)
+  all_are (c ∷ t) f range inputs =
+      let s : Own = own_of szx t in
+      let k = all_are t f.1 range.1 (each_back InputAre (lower s c) (lower_of szx t) inputs) in
+      let j = call_are t c f range.0 (each_front InputAre (lower s c) (lower_of szx t) inputs) k.0 in
+      (j.0, each_join RequestAre (lower s c) (lower_of szx t) j.1 k.1)
+
+pub client_are : (server : Endpoint) (szx word : ℕ) (t : List Call) → szx ≤ 6 → ClientLaw server szx word t → Each CallInRange t → (p : L.Packet) → Ever (λ e. IsIn p e.out) (layer_of server szx word t) → AreBytes p.bytes
+client_are server szx word t small law range p h =
+    let calls : List E.Call = lower_of szx t in
+    let under = law.exchanges in
+    let received = steps_are (layer.start word) under.left (W.lower_of server word calls) under.layer in
+    let k = all_are server szx small t (facts.from_server server szx word t law) range (inputs_are server word calls received) in
+    sent_are p word (W.lower_of server word calls) (layer_stands server word calls under) (each_are server word calls k.1) h

@@ -1,26 +1,32 @@
 -- Each legal event has a turn.
-use Rattle.std.proofs.Common.{◌≡◌, ◌≤◌, inl, inr, ℕ, Bool, true, false, not, Some, None, List, [], ◌∷◌, ◌++◌, map, length, length-append, refl, ap, sym, subst, ◌∙◌, append_assoc, cond, arith}
+use Rattle.std.proofs.Common.{◌≡◌, ◌≤◌, inl, inr, ℕ, Bool, true, false, not, Some, None, List, [], ◌∷◌, ◌++◌, map}
+use Rattle.std.proofs.Common.{length, length-append, refl, ap, sym}
+use Rattle.std.proofs.Common.{subst, ◌∙◌, append_assoc, cond, arith}
 use Rattle.coap_types.specs.Path.{same_path}
 use Rattle.coap_types.specs.declared.endpoint.Endpoint.{Endpoint}
 use Rattle.coap_types.specs.Bytes.{AreBytes}
 use Rattle.std.proofs.lemmas.Bool.{lt-ltb}
 use Rattle.coap_layer.specs.Machine.State as layer
-use Rattle.coap_ends.specs.ClientTrace as C
-use Rattle.coap_ends.specs.ClientLaw.{ClientLaw}
+use Rattle.coap_ends.specs.ClientSide.ClientTrace as C
+use Rattle.coap_ends.specs.ClientSide.ClientLaw.{ClientLaw}
 use Rattle.coap_ends.specs.Follows.Endings.{UpToIdle, all_taken}
-use Rattle.coap_ends.specs.ServerTrace as S
-use Rattle.coap_ends.specs.ServerLaw.{ServerLaw, own_of}
-use Rattle.coap_ends.specs.Follows.ServerShows.{FormatsInRange}
+use Rattle.coap_ends.specs.ServerSide.ServerTrace as S
+use Rattle.coap_ends.specs.ServerSide.ServerLaw.{ServerLaw, own_of}
 use Rattle.coap_ends.specs.declared.limits.TheConstants.{MAX_DELAYS as max_delays}
-use Rattle.coap_ends.specs.ServerSteps.{others}
-use Rattle.coap_ends.specs.Follows.ServerRests.{Stands}
-use Rattle.coap_ends.proofs.Facts.OfClient as client_facts
+use Rattle.coap_ends.specs.ServerSide.ServerDeferring.{others}
+use Rattle.coap_ends.specs.ClientSide.ClientGoesOn as client_goes_spec
+use Rattle.coap_ends.specs.ServerSide.Follows.ServerGoesOn as server_goes_spec
 use Rattle.coap_ends.proofs.Facts.OfServer as server_facts
-use Rattle.coap_world.specs.Events.{server_end, Config, What, Calls, Sets, Removes, TickClient, TickServer, Deliver, StrangerToClient, StrangerToServer, Event}
-use Rattle.coap_world.specs.GoesOn.{turn_of, MayHappen, Follows, GoesOn, MayRun, HasRecord}
+use Rattle.coap_ends.proofs.Facts.OfClientCalls as client_calls
+use Rattle.coap_world.specs.Events.{server_end, Config, What, Calls, Observes, Cancels, Forgets, Sets, Removes}
+use Rattle.coap_world.specs.Events.{TickClient, TickServer, Deliver}
+use Rattle.coap_world.specs.Events.{StrangerToClient, StrangerToServer, Event}
+use Rattle.coap_world.specs.GoesOn.{turn_of, Follows, GoesOn, MayRun, HasRecord}
 use Rattle.coap_world.specs.Legal.{IsConfig, AllLegal}
-use Rattle.coap_world.specs.Record.{Entry, OfClient, OfServer, Turn, entries_of, client_of, server_of, begun_with, server_trace, OnClient, OnServer, IsOne, AreTicks, FeedsClient, FeedsServer, Makes, ClientTick, ServerTick, RecordOf}
-use Rattle.coap_world.proofs.Progress.ChangesInRange.{formats_in}
+use Rattle.coap_world.specs.LegalEvents.{MayHappen}
+use Rattle.coap_world.specs.Record.{Entry, OfClient, OfServer, Turn, entries_of, client_of, server_of, begun_with}
+use Rattle.coap_world.specs.Record.{server_trace, OnClient, OnServer}
+use Rattle.coap_world.specs.Record.{IsOne, AreTicks, FeedsClient, FeedsServer, Makes, ClientTick, ServerTick, RecordOf}
 use Rattle.coap_world.proofs.Progress.GivenOutIsBytes.{given_are}
 use Rattle.coap_world.proofs.Delivery.OneEndATurn.{client_client, client_server, server_server, server_client}
 
@@ -42,8 +48,11 @@ module _ (config : Config) (events : List Event) (turns : List Turn) (run : Reco
   abbrev servers : List S.Call
   servers = server_trace config all
 
-  formats : FormatsInRange servers
-  formats = formats_in config turns run.made legal
+  client_goes_on : client_goes_spec.GoesOn server_end config.client_szx config.client_word clients
+  client_goes_on = client_calls.goes_on server_end config.client_szx config.client_word clients run.client
+
+  server_goes_on : server_goes_spec.GoesOn config.limit config.server_szx config.server_word servers
+  server_goes_on = server_facts.goes config.limit config.server_szx config.server_word servers run.server
 
   -- a turn that makes these entries
   follows : (what : What) → MayHappen turns (event what) → (entries : List Entry) → Makes turns at word what false entries
@@ -59,8 +68,8 @@ module _ (config : Config) (events : List Event) (turns : List Turn) (run : Reco
   of_client : (what : What) → MayHappen turns (event what) → (calls : List C.Call) → ClientLaw server_end config.client_szx config.client_word (calls ++ clients)
       → ((entries : List Entry) → OnClient calls entries → Makes turns at word what false entries) → Follows config events turns (event what)
   of_client what may calls law makes =
-      let outs = (client_facts.rests server_end config.client_szx config.client_word (calls ++ clients) law).outs in
-      let reports = (client_facts.rests server_end config.client_szx config.client_word (all_taken C.NextOut outs.0 ++ (calls ++ clients)) outs.1).reports in
+      let outs = (client_calls.comes_to_rest server_end config.client_szx config.client_word (calls ++ clients) law).outs in
+      let reports = (client_calls.comes_to_rest server_end config.client_szx config.client_word (all_taken C.NextOut outs.0 ++ (calls ++ clients)) outs.1).reports in
       let taken : List C.Call = C.NextOut None ∷ (map (λ p. C.NextOut (Some p)) outs.0 ++ calls) in
       let given : List C.Call = map (λ r. C.NextReport (Some r)) reports.0 in
       let list : List C.Call = C.NextReport None ∷ (given ++ taken) in
@@ -72,58 +81,70 @@ module _ (config : Config) (events : List Event) (turns : List Turn) (run : Reco
       (subst (λ xs. ServerLaw config.limit config.server_szx config.server_word (xs ++ begun_with config)) (sym (server_client list all)) run.server)
 
   -- a turn of the server: its calls, and all that it has out
-  of_server : (what : What) → MayHappen turns (event what) → (calls : List S.Call) → Stands config.limit config.server_szx config.server_word (calls ++ servers)
+  of_server : (what : What) → MayHappen turns (event what) → (calls : List S.Call) → ServerLaw config.limit config.server_szx config.server_word (calls ++ servers)
       → ((entries : List Entry) → OnServer calls entries → Makes turns at word what false entries) → Follows config events turns (event what)
   of_server what may calls law makes =
-      let outs = (server_facts.rests config.limit config.server_szx config.server_word (calls ++ servers) law.0 law.1).outs in
+      let outs = (server_facts.rests config.limit config.server_szx config.server_word (calls ++ servers) law).outs in
       let given : List S.Call = map (λ p. S.NextOut (Some p)) outs.0 in
       let list : List S.Call = S.NextOut None ∷ (given ++ calls) in
       let same : (list ++ server_of all) ++ begun_with config ≡ all_taken S.NextOut outs.0 ++ (calls ++ servers) =
       append_assoc list (server_of all) (begun_with config) ∙ ap (λ xs. S.NextOut None ∷ xs) (append_assoc given calls servers) in
       follows what may (map OfServer list) (makes (map OfServer list) (record { outs = outs.0; is = refl }))
       (subst (ClientLaw server_end config.client_szx config.client_word) (sym (client_server list all)) run.client)
-      (subst (ServerLaw config.limit config.server_szx config.server_word) (sym (ap (λ xs. xs ++ begun_with config) (server_server list all) ∙ same)) outs.1.0)
+      (subst (ServerLaw config.limit config.server_szx config.server_word) (sym (ap (λ xs. xs ++ begun_with config) (server_server list all) ∙ same)) outs.1)
 
   -- a datagram
   to_client : (what : What) → MayHappen turns (event what) → (from : Endpoint) (bytes : List ℕ) → AreBytes bytes
       → ((calls : List C.Call) (entries : List Entry) → IsOne (FeedsClient at word from bytes) false calls → OnClient calls entries → Makes turns at word what false entries) → Follows config events turns (event what)
   to_client what may from bytes are makes =
-      let k = (client_facts.goes server_end config.client_szx config.client_word clients run.client).feeds at from bytes word are in
-      let call : C.Call = C.Feeds at from bytes word k.0 k.1 k.2 in
-      of_client what may (call ∷ []) k.3 (λ entries on. makes (call ∷ []) entries (call, (k.0, k.1, k.2, refl), refl) on)
+      let k = client_goes_on.feeds at from bytes word are in
+      let call : C.Call = C.Feeds at from bytes word k.0 k.1 k.2 k.3 k.4 k.5 in
+      of_client what may (call ∷ []) k.6 (λ entries on. makes (call ∷ []) entries (call, (k.0, k.1, k.2, k.3, k.4, k.5, refl), refl) on)
 
   to_server : (what : What) → MayHappen turns (event what) → (from : Endpoint) (bytes : List ℕ) → AreBytes bytes
       → ((calls : List S.Call) (entries : List Entry) → IsOne (FeedsServer at word from bytes) false calls → OnServer calls entries → Makes turns at word what false entries) → Follows config events turns (event what)
   to_server what may from bytes are makes =
-      let k = (server_facts.goes config.limit config.server_szx config.server_word servers run.server formats).feeds at from bytes word are in
+      let k = server_goes_on.feeds at from bytes word are in
       let call : S.Call = S.Feeds at from bytes word k.0 k.1 k.2 k.3 in
-      of_server what may (call ∷ []) (k.4, (tt, formats)) (λ entries on. makes (call ∷ []) entries (call, (k.0, k.1, k.2, k.3, refl), refl) on)
+      of_server what may (call ∷ []) k.4 (λ entries on. makes (call ∷ []) entries (call, (k.0, k.1, k.2, k.3, refl), refl) on)
 
   by_what : (what : What) → MayHappen turns (event what) → Follows config events turns (event what)
   by_what (Calls r) may =
-      let k = (client_facts.goes server_end config.client_szx config.client_word clients run.client).calls at r in
+      let k = client_goes_on.calls at r in
       let call : C.Call = C.Calls at r k.0 in
       of_client (Calls r) may (call ∷ []) k.1 (λ entries on. (call ∷ [], (call, (k.0, refl), refl), on))
+  by_what (Observes path) may =
+      let k = client_goes_on.observes at path in
+      let call : C.Call = C.Observes at path k.0 in
+      of_client (Observes path) may (call ∷ []) k.1 (λ entries on. (call ∷ [], (call, (k.0, refl), refl), on))
+  by_what (Cancels number) may =
+      let k = client_goes_on.cancels at number in
+      let call : C.Call = C.Cancels at number k.0 in
+      of_client (Cancels number) may (call ∷ []) k.1 (λ entries on. (call ∷ [], ((call, (k.0, refl), refl), refl), on))
+  by_what (Forgets number) may =
+      let k = client_goes_on.forgets number in
+      let call : C.Call = C.Forgets number k.0 k.1 in
+      of_client (Forgets number) may (call ∷ []) k.2 (λ entries on. (call ∷ [], ((call, (k.0, k.1, refl), refl), refl), on))
   by_what (Sets path format body) may =
-      let k = (server_facts.goes config.limit config.server_szx config.server_word servers run.server formats).sets at path format body in
+      let k = server_goes_on.sets at path format body in
       let call : S.Call = S.Sets at path format body k.0 k.1 in
-      of_server (Sets path format body) may (call ∷ []) (k.2, (may.range.1, formats)) (λ entries on. (call ∷ [], (call, (k.0, k.1, refl), refl), on))
+      of_server (Sets path format body) may (call ∷ []) k.2 (λ entries on. (call ∷ [], (call, (k.0, k.1, refl), refl), on))
   by_what (Removes path) may =
-      let k = (server_facts.goes config.limit config.server_szx config.server_word servers run.server formats).removes at path in
+      let k = server_goes_on.removes at path in
       let call : S.Call = S.Removes at path k.0 k.1 in
-      of_server (Removes path) may (call ∷ []) (k.2, (tt, formats)) (λ entries on. (call ∷ [], (call, (k.0, k.1, refl), refl), on))
+      of_server (Removes path) may (call ∷ []) k.2 (λ entries on. (call ∷ [], (call, (k.0, k.1, refl), refl), on))
   by_what TickClient may =
-      let k = (client_facts.rests server_end config.client_szx config.client_word clients run.client).ticks at word in
+      let k = (client_calls.comes_to_rest server_end config.client_szx config.client_word clients run.client).ticks at word in
       of_client TickClient may k.0 k.2 (λ entries on. (k.0, are_ticks (ClientTick at word) k.0 k.1, on))
   by_what TickServer may =
-      let k = (server_facts.rests config.limit config.server_szx config.server_word servers run.server formats).ticks at word in
+      let k = (server_facts.rests config.limit config.server_szx config.server_word servers run.server).ticks at word in
       of_server TickServer may k.0 k.2 (λ entries on. (k.0, are_ticks (ServerTick at word) k.0 k.1, on))
   by_what (StrangerToClient from bytes) may = to_client (StrangerToClient from bytes) may from bytes may.range.1 (λ calls entries one on. (calls, one, on))
   by_what (StrangerToServer from bytes) may = to_server (StrangerToServer from bytes) may from bytes may.range.1 (λ calls entries one on. (calls, one, on))
   by_what (Deliver number) may =
       let g = may.comes.0 in
       let is = may.comes.1 in
-      let are = given_are config events turns run legal g number is in
+      let are = given_are config events turns run (record { range = range; events = legal }) g number is in
       elim may.comes.2 as (λ u. Follows config events turns (event (Deliver number))) [
         | inl to ↦ to_client (Deliver number) may g.from g.packet.bytes are (λ calls entries one on. (g, is, inr (to, calls, one, on)))
         | inr to ↦ to_server (Deliver number) may g.from g.packet.bytes are (λ calls entries one on. (g, is, inl (to, calls, one, on)))

@@ -23,7 +23,7 @@ use Rattle.coap_exchange.specs.AnswererSteps as P
 use Rattle.coap_exchange.specs.AnswererFollows.{CameIn, AreRequests}
 use Rattle.coap_exchange.specs.AnswererLaw as W
 use Rattle.coap_world.proofs.Progress.SpelledInBytes.{ValuesAre, none_are, message_are}
-use Rattle.coap_world.proofs.Delivery.EntriesInTime.{Every, every_join}
+use Rattle.coap_world.proofs.Progress.EachElement.{Each, each_join, each_front, each_back, last_of}
 use Rattle.coap_world.proofs.Progress.LayerSendsBytes.{CallAre, EachAre, ack_are, reset_are, ReplyAre, replying_are}
 
 -- responses
@@ -74,39 +74,25 @@ room_are now (Some d) room = (tt, tt)
 
 lower_are : (s : E.Own) (c : E.Call) → P.IsRight s c → RespondAre c → EachAre (P.lower s c)
 lower_are s (E.Incoming now from bytes up came) right h =
-    every_join (λ (a : Below). CallAre a.call) (R.replying from (R.id_in up) (P.reject_by up)) (asked now (L.Receive from bytes) up ∷ []) (replying_are from (R.id_in up) (P.reject_by up) (reject_are up)) (tt, tt)
+    each_join (λ (a : Below). CallAre a.call) (R.replying from (R.id_in up) (P.reject_by up)) (asked now (L.Receive from bytes) up ∷ []) (replying_are from (R.id_in up) (P.reject_by up) (reject_are up)) (tt, tt)
 lower_are s (E.Answers a r below) right h = (answering_are s a.kind a r right.1 h.0 h.1, tt)
 lower_are s (E.Defers now a delay answer) right h =
-    every_join (λ (b : Below). CallAre b.call) (P.deferring (P.may_defer s.deferred) a) (asked now L.Pass L.Nothing ∷ []) (deferring_are (P.may_defer s.deferred) a) (tt, tt)
+    each_join (λ (b : Below). CallAre b.call) (P.deferring (P.may_defer s.deferred) a) (asked now L.Pass L.Nothing ∷ []) (deferring_are (P.may_defer s.deferred) a) (tt, tt)
 lower_are s (E.Ticks now below room d) right h =
     let o : Option Deferred = P.ready_if below (P.ready_at s now) in
-    every_join (λ (b : Below). CallAre b.call) (P.asking_room now o room) (asked now L.Ticks below ∷ []) (room_are now o room) (tt, tt)
+    each_join (λ (b : Below). CallAre b.call) (P.asking_room now o room) (asked now L.Ticks below ∷ []) (room_are now o room) (tt, tt)
 lower_are s (E.Responds now a r word id) right h = (record { token = h.0; values = h.1.values; payload = h.1.payload }, tt)
 lower_are s (E.Ready now to answer) right h = (tt, tt)
 lower_are s (E.Notifies now to token r word id) right h = (record { token = h.0; values = h.1.values; payload = h.1.payload }, tt)
 lower_are s (E.Take answer) right h = (tt, tt)
 
-pub each_are : (t : List E.Call) → W.AnswererLaw t → Every RespondAre t → EachAre (W.lower_of t)
+pub each_are : (t : List E.Call) → W.AnswererLaw t → Each RespondAre t → EachAre (W.lower_of t)
 each_are [] law h = tt
-each_are (c ∷ t) law h = every_join (λ (b : Below). CallAre b.call) (P.lower (W.own_of t) c) (W.lower_of t) (lower_are (W.own_of t) c law.0 h.0) (each_are t law.1 h.1)
-
--- lists
-
-pub every_front : {X : Type 0} (P : X → Type 0) (xs ys : List X) → Every P (xs ++ ys) → Every P xs
-every_front P [] ys h = tt
-every_front P (x ∷ xs) ys h = (h.0, every_front P xs ys h.1)
-
-pub every_back : {X : Type 0} (P : X → Type 0) (xs ys : List X) → Every P (xs ++ ys) → Every P ys
-every_back P [] ys h = h
-every_back P (x ∷ xs) ys h = every_back P xs ys h.1
-
-pub last_of : {X : Type 0} (P : X → Type 0) (xs : List X) (x : X) → Every P (xs ++ x ∷ []) → P x
-last_of P [] x h = h.0
-last_of P (y ∷ xs) x h = last_of P xs x h.1
+each_are (c ∷ t) law h = each_join (λ (b : Below). CallAre b.call) (P.lower (W.own_of t) c) (W.lower_of t) (lower_are (W.own_of t) c law.0 h.0) (each_are t law.1 h.1)
 
 -- arrivals
 
-abbrev ReceivedAre : L.Call → Type 0
+abbrev pub ReceivedAre : L.Call → Type 0
 ReceivedAre (L.Receive from bytes) = AreBytes bytes
 ReceivedAre c = Unit {0}
 
@@ -122,7 +108,7 @@ may_are s (L.Room to) h = tt
 may_are s L.AsksFree h = tt
 may_are s L.Pass h = tt
 
-pub steps_are : (old new : S.State) (calls : List Below) → Steps old calls new → Every (λ (a : Below). ReceivedAre a.call) calls
+pub steps_are : (old new : S.State) (calls : List Below) → Steps old calls new → Each (λ (a : Below). ReceivedAre a.call) calls
 steps_are old new [] h = tt
 steps_are old new (a ∷ earlier) h = (may_are h.0 a.call h.2.may, steps_are old h.0 earlier h.1)
 
@@ -131,7 +117,7 @@ unmarked [] h = none_are
 unmarked (b ∷ bytes) h = AreBytes-tail 255 (b ∷ bytes) h
 
 -- the token and the payload of what arrives
-parts_are : (bytes : List ℕ) (m : Message) → AreBytes bytes → Spells bytes m → AreBytes m.token × AreBytes m.payload
+pub parts_are : (bytes : List ℕ) (m : Message) → AreBytes bytes → Spells bytes m → AreBytes m.token × AreBytes m.payload
 parts_are bytes m are s =
     let rest : List ℕ = s.option_bytes ++ marked m.payload in
     let behind : AreBytes (m.token ++ rest) = AreBytes-rest (header m) (m.token ++ rest) (subst AreBytes s.parts are) in
@@ -145,7 +131,7 @@ abbrev pub IncomingAre : E.Call → Type 0
 IncomingAre (E.Incoming now from bytes up came) = CameAre came
 IncomingAre c = Unit {0}
 
-incoming_are : (s : E.Own) (c : E.Call) → CameIn c → Every (λ (a : Below). ReceivedAre a.call) (P.lower s c) → IncomingAre c
+incoming_are : (s : E.Own) (c : E.Call) → CameIn c → Each (λ (a : Below). ReceivedAre a.call) (P.lower s c) → IncomingAre c
 incoming_are s (E.Incoming now from bytes up None) r h = tt
 incoming_are s (E.Incoming now from bytes up (Some p)) r h =
     let are = last_of (λ (a : Below). ReceivedAre a.call) (R.replying from (R.id_in up) (P.reject_by up)) (asked now (L.Receive from bytes) up) h in
@@ -160,9 +146,9 @@ incoming_are s (E.Ready now to answer) c h = tt
 incoming_are s (E.Notifies now to token r word id) c h = tt
 incoming_are s (E.Take answer) c h = tt
 
-pub all_incoming : (t : List E.Call) → AreRequests t → Every (λ (a : Below). ReceivedAre a.call) (W.lower_of t) → Every IncomingAre t
+pub all_incoming : (t : List E.Call) → AreRequests t → Each (λ (a : Below). ReceivedAre a.call) (W.lower_of t) → Each IncomingAre t
 all_incoming [] r h = tt
 all_incoming (c ∷ t) r h = (
-  incoming_are (W.own_of t) c r.0 (every_front (λ (a : Below). ReceivedAre a.call) (P.lower (W.own_of t) c) (W.lower_of t) h),
-  all_incoming t r.1 (every_back (λ (a : Below). ReceivedAre a.call) (P.lower (W.own_of t) c) (W.lower_of t) h),
+  incoming_are (W.own_of t) c r.0 (each_front (λ (a : Below). ReceivedAre a.call) (P.lower (W.own_of t) c) (W.lower_of t) h),
+  all_incoming t r.1 (each_back (λ (a : Below). ReceivedAre a.call) (P.lower (W.own_of t) c) (W.lower_of t) h),
 )

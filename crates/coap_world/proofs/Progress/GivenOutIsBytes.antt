@@ -9,16 +9,16 @@ use Rattle.coap_layer.specs.Trace as L
 use Rattle.coap_layer.proofs.Facts.Hops.{near_ever, far_ever}
 use Rattle.coap_world.specs.Events.{server_end, Config, Event}
 use Rattle.coap_world.specs.Hops.{hops_of, SendsAt}
-use Rattle.coap_world.specs.Legal.{AllLegal}
-use Rattle.coap_world.specs.Record.{Entry, Given, Turn, IsNumber, RecordOf, given_in, entries_of, client_of, server_trace}
-use Rattle.coap_world.proofs.Requests.CallsInRange.{in_range}
+use Rattle.coap_world.specs.Legal.{Legal}
+use Rattle.coap_world.specs.Record.{Entry, Given, Turn, IsNumber, RecordOf, given_in, entries_of, client_of}
+use Rattle.coap_world.specs.Record.{server_trace}
 use Rattle.coap_world.proofs.Progress.ClientSendsBytes.{client_are}
-use Rattle.coap_world.proofs.Progress.ChangesInRange.{bodies_in}
+use Rattle.coap_world.proofs.Progress.ArgumentsInRange.{calls_in, changes_in}
 use Rattle.coap_world.proofs.Delivery.HopsAreEntries.{near_is, far_is}
 use Rattle.coap_world.proofs.Delivery.HopsAreAChannel.{run}
 use Rattle.coap_world.proofs.Progress.ServerSendsBytes.{server_are}
 
-module _ (config : Config) (events : List Event) (turns : List Turn) (made : RecordOf config events turns) (legal : AllLegal turns) (g : Given) where
+module _ (config : Config) (events : List Event) (turns : List Turn) (made : RecordOf config events turns) (legal : Legal config turns) (g : Given) where
   abbrev all : List Entry
   all = entries_of turns
 
@@ -34,9 +34,9 @@ module _ (config : Config) (events : List Event) (turns : List Turn) (made : Rec
   pub given_are : (n : ℕ) → IsNumber n g turns → AreBytes g.packet.bytes
   given_are n is =
       let here : Ever (λ h. h ≡ g) (all_of given_in turns) = Ever_of_Sometime _ (λ h. h ≡ g) (λ before h k. inl k.0) (all_of given_in turns) is in
-      elim ((run config events turns made legal).sent g here) [
-        | inl k ↦ client_are server_end config.client_szx config.client_word (client_of all) made.client (λ op w. in_range op turns made.made legal w) g.packet
+      elim ((run config events turns made legal.events).sent g here) [
+        | inl k ↦ client_are server_end config.client_szx config.client_word (client_of all) legal.range.client_szx made.client (calls_in config turns made.made legal.events) g.packet
             (subst (Ever Sends) (near_is config all) (Ever_map (SendsAt g.at g.packet) Sends sends_it (near_of hops) (near_ever (SendsAt g.at g.packet) hops k.1)))
-        | inr k ↦ server_are config.limit config.server_szx config.server_word (server_trace config all) made.server (bodies_in config turns made.made legal) g.packet
+        | inr k ↦ server_are config.limit config.server_szx legal.range.server_szx config.server_word (server_trace config all) made.server (changes_in config turns made.made legal.events) g.packet
             (subst (Ever Sends) (far_is config all) (Ever_map (SendsAt g.at g.packet) Sends sends_it (far_of hops) (far_ever (SendsAt g.at g.packet) hops k.1)))
       ]

@@ -14,7 +14,7 @@ use Rattle.coap_exchange.specs.EmptyMessages.{ack_bytes, reset_bytes}
 use Rattle.coap_ends.specs.Follows.Sources.{Source}
 use Rattle.coap_ends.proofs.Facts.Sources.{called, sourced}
 use Rattle.coap_world.proofs.Progress.SpelledInBytes.{ValuesAre, none_are, cons_are, message_are, empty_are}
-use Rattle.coap_world.proofs.Delivery.EntriesInTime.{Every}
+use Rattle.coap_world.proofs.Progress.EachElement.{Each}
 
 pub record ContentAre (c : L.Content) : Type 0 where
   pub token : AreBytes c.token
@@ -29,7 +29,7 @@ CallAre (L.Plain to content) = ContentAre content
 CallAre _ = Unit {0}
 
 abbrev pub EachAre : List Asked → Type 0
-EachAre = Every (λ (a : Asked). CallAre a.call)
+EachAre = Each (λ (a : Asked). CallAre a.call)
 
 module _ (p : L.Packet) where
   source_are : (call : L.Call) → CallAre call → Source p call → AreBytes p.bytes

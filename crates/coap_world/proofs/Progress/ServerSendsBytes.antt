@@ -1,225 +1,283 @@
--- What a server sends is of bytes, where the bodies of its local changes are (RFC 7252, sections 3, 5.2 and 5.8).
-use Rattle.std.proofs.Common.{◌≡◌, ℕ, ◌-◌, max, nat_le, nat_lt, Bool, true, false, ◌||◌, Option, Some, None, List, [], ◌∷◌, length, refl, sym, subst, cond}
+-- What a server sends is of bytes, where the bodies of its local changes are (RFC 7252, sections 3, 5.2 and 5.8; RFC 7641,
+-- section 4.2; RFC 7959, section 2.9).
+use Rattle.std.proofs.Common.{◌≡◌, ◌≤◌, ◌<◌, ℕ, zero, suc, ◌+◌, ◌^◌, max, Bool, true, false, not, ◌&&◌, cond, Option}
+use Rattle.std.proofs.Common.{Some, None, List, [], ◌∷◌, length, refl}
+use Rattle.std.proofs.Common.{sym, subst}
+use Rattle.std.specs.Prelude.{◌==◌, nat_lt, nat_le, IfSome}
 use Rattle.coap_types.specs.Past.{Ever}
-use Rattle.coap_types.specs.Recognised.{lacks_critical}
-use Rattle.coap_types.specs.declared.direction.Direction.TheVariants as direction
-use Rattle.coap_types.specs.declared.message.Kind.{Kind}
-use Rattle.coap_types.specs.declared.message.Kind.TheVariants.{Con, Non, Ack, Rst}
-use Rattle.coap_types.specs.declared.request.Method.{Method}
 use Rattle.coap_types.specs.Bytes.{AreBytes}
+use Rattle.coap_types.specs.Piece.{max_body_len, offset_of}
+use Rattle.coap_types.specs.declared.block.Block.{Block}
 use Rattle.coap_codec.specs.Message.{Message}
-use Rattle.coap_layer.specs.Sends.{IsIn}
 use Rattle.coap_layer.specs.Machine.State as layer
+use Rattle.coap_layer.specs.Sends.{IsIn}
 use Rattle.coap_layer.specs.Trace as L
+use Rattle.coap_block.specs.AssemblyState.{AssemblyState, reached, without_key}
+use Rattle.coap_block.specs.AssemblyStep.{fills, goes_on, answered_szx, there_at}
+use Rattle.coap_block.specs.declared.assembly_judging.TheConstants.{MAX_PARTIALS as max_partials}
+use Rattle.coap_block.specs.declared.assembly_step.AssemblyRefusal.TheVariants.{BadRequest, EntityIncomplete}
+use Rattle.coap_block.specs.declared.assembly_step.AssemblyRefusal.TheVariants.{EntityTooLarge, Unavailable}
+use Rattle.coap_block.specs.declared.block_verdict.BlockVerdict.{BlockVerdict}
+use Rattle.coap_block.specs.declared.block_verdict.BlockVerdict.TheVariants.{Refuse, Join, Done}
+use Rattle.coap_observe.specs.Observers.{Observer}
 use Rattle.coap_resource.specs.Content.{Content, put_refusal}
 use Rattle.coap_resource.specs.Rate.{rate_refusal}
-use Rattle.coap_types.specs.OptionValues.{has, value_of}
-use Rattle.coap_resource.specs.Serves.{Question}
+use Rattle.coap_resource.specs.Serves.{Question, Reply}
 use Rattle.coap_exchange.specs.declared.answerer.Asked.{Asked}
 use Rattle.coap_exchange.specs.declared.answerer.Due.{Due}
 use Rattle.coap_exchange.specs.declared.answerer.Due.TheVariants as due
 use Rattle.coap_exchange.specs.AnswererTrace as E
-use Rattle.coap_exchange.specs.AnswererFollows.{same_asked}
 use Rattle.coap_exchange.specs.AnswererLaw as W
-use Rattle.coap_exchange.proofs.Facts.ServerSide.{came_in}
-use Rattle.coap_exchange.proofs.Facts.ServerSide.{layer_stands}
-use Rattle.std.proofs.lemmas.Bool.{and_parts}
-use Rattle.coap_types.specs.declared.option_number.TheConstants.{BLOCK1 as block1, BLOCK2 as block2, PROXY_URI as proxy_uri, PROXY_SCHEME as proxy_scheme}
-use Rattle.coap_ends.specs.ServerTrace.{Waiting, Own, Handling, Silent, Refuses, Serves, Waits, Call, Sets, Removes, Delays, Feeds, Ticks, NextOut}
-use Rattle.coap_types.specs.declared.path.TheConstants.{MAX_SEGMENTS as max_segments}
-use Rattle.coap_ends.specs.ServerChecks.{Verdict, Ignored, Refused, Asks, bad_by, bad_request, proxying_not_supported, asks, is_reserved, asked_by, question, verdict_on}
-use Rattle.coap_types.specs.RequestPath.{path_of}
-use Rattle.coap_types.specs.MethodCode.{method_of}
-use Rattle.coap_ends.specs.ServerSteps.{lower, answering, responding, is_of, question_of, without_waiting, waits_by, delay_of, left_by, waiting_with, waiting_after, IsServed, AsksBy, Handles, HandlesCame, HandlesDue, AnswersWaiting, IsRight, after}
-use Rattle.coap_ends.specs.ServerLaw.{ServerLaw, ServerRows, own_of, lower_of, layer_of}
-use Rattle.coap_ends.proofs.Facts.OfServer.{same_asked_is}
-use Rattle.coap_world.proofs.Progress.SpelledInBytes.{none_are, values_from_all}
-use Rattle.coap_world.proofs.Delivery.EntriesInTime.{Every, every_join}
-use Rattle.coap_world.proofs.Progress.ExchangesSendBytes.{ResponseAre, RespondAre, each_are, every_front, every_back, last_of, steps_are, CameAre, IncomingAre, all_incoming}
+use Rattle.coap_exchange.specs.AnswererSteps.{may_defer}
+use Rattle.coap_exchange.proofs.Facts.ServerSide.{came_in, layer_stands}
+use Rattle.coap_ends.specs.ServerSide.ServerTrace.{Waiting, Own, Handling, Silent, Replies, Serves, Waits, Notifies}
+use Rattle.coap_ends.specs.ServerSide.ServerTrace.{Call, Sets, Removes, Delays, Feeds}
+use Rattle.coap_ends.specs.ServerSide.ServerTrace.{Ticks, NextOut, Gets, TellsApplied}
+use Rattle.coap_ends.specs.ServerSide.ServerChecks.{Verdict, Ignored, Refused, Asks, Uploads, verdict_on}
+use Rattle.coap_ends.specs.ServerSide.ServerDeferring.{question_of, deferral_by, delay_for, WaitsBy, AnswersWaiting}
+use Rattle.coap_ends.specs.ServerSide.ServerDeferring.{HandlesWhole}
+use Rattle.coap_ends.specs.ServerSide.ServerUploads.{key_of, ruling_of, whole}
+use Rattle.coap_ends.specs.ServerSide.ServerServing.{IsServed, response_to}
+use Rattle.coap_ends.specs.ServerSide.ServerNotifying.{marked, behind, readies, asks_for, NotifiesNext}
+use Rattle.coap_ends.specs.ServerSide.ServerHandling.{incoming, ticking, heard, HandlesBlock, Handles, HandlesCame}
+use Rattle.coap_ends.specs.ServerSide.ServerHandling.{HandlesDue}
+use Rattle.coap_ends.specs.ServerSide.ServerAsks.{answering, responding, lower}
+use Rattle.coap_ends.specs.ServerSide.ServerObservers.{registers}
+use Rattle.coap_ends.specs.ServerSide.ServerSteps.{IsRight, after, uploads_came, waiting_came, waiting_due, ready_in}
+use Rattle.coap_ends.specs.ServerSide.ServerLaw.{ServerLaw, ServerRows, own_of, lower_of, layer_of}
+use Rattle.coap_world.proofs.Progress.BlocksInRange.{IsBlock, continued_small}
+use Rattle.coap_world.proofs.Progress.EachElement.{Each, each_join, each_front, each_back, each_filter, last_of}
+use Rattle.coap_world.proofs.Progress.ExchangesSendBytes.{ResponseAre, RespondAre, each_are, steps_are, CameAre}
+use Rattle.coap_world.proofs.Progress.ExchangesSendBytes.{IncomingAre, all_incoming}
 use Rattle.coap_world.proofs.Progress.LayerSendsBytes.{sent_are}
-use Rattle.coap_world.proofs.Progress.StoreHoldsBytes.{StoreAre, serves_are, sets_are, removes_are}
+use Rattle.coap_world.proofs.Progress.ServerKeepsBytes.{VerdictAre, verdict_are, PartialAre, joined_are, uploads_are}
+use Rattle.coap_world.proofs.Progress.ServerKeepsBytes.{WatcherAre, HandlingAre, response_are}
+use Rattle.coap_world.proofs.Progress.ServerKeepsBytes.{sequence_small, told_small, block_small, marked_are, ended_are}
+use Rattle.coap_world.proofs.Progress.ServerKeepsBytes.{observers_are, store_are, OneAre}
+use Rattle.coap_world.proofs.Progress.ServerKeepsBytes.{waited_are, waits_are, question_are}
+use Rattle.coap_world.proofs.Progress.SpelledInBytes.{none_are}
+use Rattle.coap_world.proofs.Progress.StoreHoldsBytes.{StoreAre, ReplyAre, QuestionAre, got_are, serves_are, sets_are}
+use Rattle.coap_world.proofs.Progress.StoreHoldsBytes.{removes_are}
+use Rattle.coap_world.proofs.Progress.TransfersInBytes.{uint_are}
 
--- what a request asks
+pub record OwnAre (s : Own) : Type 0 where
+  pub szx : s.szx ≤ 6
+  pub store : StoreAre s.store
+  pub uploads : Each PartialAre s.uploads.partials
+  pub observers : Each WatcherAre s.observers
+  pub waiting : Each OneAre s.waiting
 
-abbrev VerdictAre : Verdict → Type 0
-VerdictAre (Asks q) = AreBytes q.body
-VerdictAre v = Unit {0}
+-- a request is served
 
-bad_are : (kind : Kind) → VerdictAre (bad_by kind)
-bad_are Con = tt
-bad_are Non = tt
-bad_are Ack = tt
-bad_are Rst = tt
+served_are : (old : Content) (at : ℕ) (q : Question) (h : Handling) → StoreAre old → QuestionAre q → IsServed old at q h → HandlingAre h
+served_are old at q h b is k =
+    let x = serves_are old at q k.reply k.left b is k.serves in
+    subst HandlingAre (sym k.is) (is, x.0, x.1)
 
-asked_are : (szx : ℕ) (o : Option Method) (m : Message) → AreBytes m.payload → VerdictAre (asked_by szx o m)
-asked_are szx None m h = tt
-asked_are szx (Some method) m h = by (nat_lt max_segments (length (path_of (asks m)))) (is_reserved (value_of block2 (asks m)))
+waits_by_are : (o : Option ℕ) (place : Bool) (old : Content) (at : ℕ) (q : Question) (h : Handling) → StoreAre old → QuestionAre q → WaitsBy o place old at q h → HandlingAre h
+waits_by_are None place old at q h b is k = served_are old at q h b is k
+waits_by_are (Some delay) false old at q h b is k = served_are old at q h b is k
+waits_by_are (Some delay) true old at q h b is k = subst HandlingAre (sym k) is
+
+whole_are : (s : Own) (a : Asked) (q : Question) (h : Handling) → StoreAre s.store → QuestionAre q → HandlesWhole s a q h → HandlingAre h
+whole_are s a q h b is k = waits_by_are (delay_for a.kind q.path s.delays) (may_defer s.exchanges.deferred) s.store s.clock q h b is k
+
+-- a block of an upload
+
+size_asked : (uploads : AssemblyState) (at : ℕ) (a : Asked) (q : Question) (b : Block) (size : ℕ) → ruling_of uploads at a q b ≡ Join size → answered_szx uploads.szx b ≡ size
+size_asked uploads at a q b size h =
+    by (fills b.more b.szx (length q.body)) (goes_on (reached (key_of a q) (there_at uploads at)) b.num b.szx) (nat_lt max_body_len (offset_of b.num b.szx + length q.body))
+    (b.more && (b.num == 0) && nat_le max_partials (length (without_key (key_of a q) (there_at uploads at)))) b.more h
   where
-    by : (a b : Bool) → VerdictAre (cond a (Refused bad_request) (cond b (Refused bad_request) (Asks (question szx method m))))
-    by true b = tt
-    by false true = tt
-    by false false = h
+    by : (f g l u m : Bool) → cond (not f) (Refuse BadRequest) (cond (not g) (Refuse EntityIncomplete) (cond l (Refuse EntityTooLarge) (cond u (Refuse Unavailable) (cond m (Join (answered_szx uploads.szx b)) Done)))) ≡ Join size → answered_szx uploads.szx b ≡ size
+    by false g l u m h = absurd (cc h)
+    by true false l u m h = absurd (cc h)
+    by true true true u m h = absurd (cc h)
+    by true true false true m h = absurd (cc h)
+    by true true false false false h = absurd (cc h)
+    by true true false false true h = cc h
 
-verdict_are : (szx : ℕ) (m : Message) → AreBytes m.payload → VerdictAre (verdict_on szx m)
-verdict_are szx m h = by (lacks_critical direction.Request m.options || has block1 (asks m)) (has proxy_uri (asks m) || has proxy_scheme (asks m))
+block_are : (s : Own) (a : Asked) (q : Question) (b : Block) (v : BlockVerdict) (h : Handling) → OwnAre s → QuestionAre q → IsBlock b → ruling_of s.uploads s.clock a q b ≡ v → HandlesBlock v s a q b h → HandlingAre h
+block_are s a q b (Refuse why) h own is block e k = subst HandlingAre (sym k) (record { values = tt; payload = none_are })
+block_are s a q b (Join size) h own is block e k =
+    let small = subst (λ (x : ℕ). Rattle.coap_types.specs.BlockValue.block_value (record { num = b.num; more = true; szx = x }) < 2 ^ 32) (size_asked s.uploads s.clock a q b size e) (continued_small s.uploads.szx b block) in
+    subst HandlingAre (sym k) (record { values = (uint_are _ small, tt); payload = none_are })
+block_are s a q b Done h own is block e k =
+    whole_are s a (whole s.uploads s.clock a q b) h own.store (record { body = joined_are s.uploads s.clock (key_of a q) b q.body own.uploads is.body; szx = is.szx }) k
+
+handles_are : (s : Own) (a : Asked) (v : Verdict) (h : Handling) → OwnAre s → VerdictAre v → Handles s a v h → HandlingAre h
+handles_are s a Ignored h own is k = subst HandlingAre (sym k) tt
+handles_are s a (Refused code) h own is k = subst HandlingAre (sym k) (record { values = tt; payload = none_are })
+handles_are s a (Asks q) h own is k = whole_are s a q h own.store is k
+handles_are s a (Uploads q b) h own is k = block_are s a q b (ruling_of s.uploads s.clock a q b) h own is.0 is.1 refl k
+
+came_are : (s : Own) (came : Option (Asked × Message)) (h : Handling) → OwnAre s → CameAre came → HandlesCame s came h → HandlingAre h
+came_are s None h own c k = subst HandlingAre (sym k) tt
+came_are s (Some p) h own c k = handles_are s p.0 (verdict_on s.szx p.1) h own (verdict_are s.szx own.szx p.1 c.1) k
+
+-- what is asked of the exchanges for it
+
+response_to_are : (s : Own) (a : Asked) (q : Question) (reply : Reply) → ReplyAre reply → ResponseAre (response_to s.store s.observers a q reply)
+response_to_are s a q reply h = response_are reply _ _ h (told_small (registers a q reply s.observers) (s.store.holds q.path)) (block_small q)
+
+deferral_are : (o : Option ℕ) (place : Bool) (at : ℕ) (a : Asked) → Each RespondAre (deferral_by o place at a)
+deferral_are None place at a = tt
+deferral_are (Some delay) place at a = (tt, tt)
+
+answering_are : (s : Own) (came : Option (Asked × Message)) (h : Handling) (below : L.Answer) → CameAre came → HandlingAre h → Each RespondAre (answering s came h below)
+answering_are s None h below c k = tt
+answering_are s (Some p) Silent below c k = tt
+answering_are s (Some p) (Replies response) below c k = ((c.0, k), tt)
+answering_are s (Some p) (Serves q reply left) below c k = ((c.0, response_to_are s p.0 q reply k.1), deferral_are (delay_for p.0.kind q.path s.delays) (may_defer s.exchanges.deferred) s.clock p.0)
+answering_are s (Some p) (Waits q delay) below c k = deferral_are (delay_for p.0.kind q.path s.delays) (may_defer s.exchanges.deferred) s.clock p.0
+answering_are s (Some p) (Notifies o reply) below c k = tt
+
+-- time passes
+
+behind_are : (passed : ℕ) (os : List Observer) (o : Observer) → Each WatcherAre os → behind passed os ≡ Some o → WatcherAre o
+behind_are passed [] o h e = absurd (cc e)
+behind_are zero (x ∷ os) o h e = subst WatcherAre (let k : x ≡ o = cc e in k) h.0
+behind_are (suc passed) (x ∷ os) o h e = behind_are passed os o h.1 e
+
+readies_are : (at passed : ℕ) (os : List Observer) → Each RespondAre (readies at passed os)
+readies_are at passed [] = tt
+readies_are at zero (o ∷ os) = (tt, tt)
+readies_are at (suc passed) (o ∷ os) = each_join RespondAre (readies at passed os) (E.Ready at o.to false ∷ []) (readies_are at passed os) (tt, tt)
+
+next_are : (o : Option Observer) (store : Content) (h : Handling) → ((x : Observer) → o ≡ Some x → WatcherAre x) → StoreAre store → NotifiesNext o store h → HandlingAre h
+next_are None store h f b k = subst HandlingAre (sym k) tt
+next_are (Some o) store h f b k =
+    let w = f o refl in
+    subst HandlingAre (sym k) (w, got_are (store.holds o.path) (asks_for o) w.1 (λ held e. b.each o.path held e))
+
+waiting_are : (o : Option Question) (old : Content) (at : ℕ) (h : Handling) → StoreAre old → ((q : Question) → o ≡ Some q → QuestionAre q) → AnswersWaiting o old at h → HandlingAre h
+waiting_are None old at h b f k = subst HandlingAre (sym k) tt
+waiting_are (Some q) old at h b f k = served_are old at q h b (f q refl) k
+
+due_are : (s : Own) (d : Due) (passed : ℕ) (h : Handling) → OwnAre s → HandlesDue s d passed h → HandlingAre h
+due_are s due.Idle passed h own k = next_are (behind passed (marked s.observers)) s.store h (λ o e. behind_are passed (marked s.observers) o (each_filter WatcherAre _ s.observers own.observers) e) own.store k
+due_are s (due.Ready a) passed h own k = waiting_are (question_of s.clock a s.waiting) s.store s.clock h own.store (λ q e. (question_are s.clock a s.waiting q own.waiting e).1) k
+due_are s due.Copied passed h own k = subst HandlingAre (sym k) tt
+due_are s due.Expired passed h own k = subst HandlingAre (sym k) tt
+
+-- a request that is ready and is served has a token of bytes
+ready_are : (s : Own) (a : Asked) (q : Question) (reply : Reply) (left : Content) → OwnAre s → AnswersWaiting (question_of s.clock a s.waiting) s.store s.clock (Serves q reply left) → AreBytes a.token
+ready_are s a q reply left own k = by (question_of s.clock a s.waiting) refl k
   where
-    by : (a b : Bool) → VerdictAre (cond a (bad_by m.kind) (cond b (Refused proxying_not_supported) (asked_by szx (method_of m.code) m)))
-    by true b = bad_are m.kind
-    by false true = tt
-    by false false = asked_are szx (method_of m.code) m h
+    by : (o : Option Question) → question_of s.clock a s.waiting ≡ o → AnswersWaiting o s.store s.clock (Serves q reply left) → AreBytes a.token
+    by None e k = absurd (cc k)
+    by (Some p) e k = (question_are s.clock a s.waiting p own.waiting e).0
 
--- what becomes of it
-
-abbrev HandlingAre : Handling → Type 0
-HandlingAre Silent = Unit {0}
-HandlingAre (Refuses response) = ResponseAre response
-HandlingAre (Serves q reply response left) = ResponseAre response × StoreAre left
-HandlingAre (Waits q delay) = AreBytes q.body
-
-served_are : (old : Content) (at : ℕ) (q : Question) (h : Handling) → StoreAre old → AreBytes q.body → IsServed old at q h → HandlingAre h
-served_are old at q h b body k =
-    let x = serves_are old at q k.reply k.left b body k.serves in
-    subst HandlingAre (sym k.is) (record { values = values_from_all k.options k.bytes; payload = x.0 }, x.1)
-
-asks_are : (o : Option ℕ) (old : Content) (at : ℕ) (q : Question) (h : Handling) → StoreAre old → AreBytes q.body → AsksBy o old at q h → HandlingAre h
-asks_are None old at q h b body k = served_are old at q h b body k
-asks_are (Some delay) old at q h b body k = subst HandlingAre (sym k) body
-
-handles_are : (s : Own) (at : ℕ) (kind : Kind) (v : Verdict) (h : Handling) → StoreAre s.store → VerdictAre v → Handles s at kind v h → HandlingAre h
-handles_are s at kind Ignored h b is k = subst HandlingAre (sym k) tt
-handles_are s at kind (Refused code) h b is k = subst HandlingAre (sym k) (record { values = tt; payload = none_are })
-handles_are s at kind (Asks q) h b is k = asks_are (waits_by kind (delay_of q.path s.delays) (length s.waiting)) s.store at q h b is k
-
--- what waits
-
-abbrev OneAre : Waiting → Type 0
-OneAre w = AreBytes w.asked.token × AreBytes w.question.body
-
-without_are : (at : ℕ) (a : Asked) (ws : List Waiting) → Every OneAre ws → Every OneAre (without_waiting at a ws)
-without_are at a [] h = tt
-without_are at a (w ∷ ws) h = by (is_of at a w) (without_are at a ws h.1)
-  where
-    by : (b : Bool) → Every OneAre (without_waiting at a ws) → Every OneAre (cond b ws (w ∷ without_waiting at a ws))
-    by true k = h.1
-    by false k = (h.0, k)
-
-question_are : (at : ℕ) (a : Asked) (ws : List Waiting) (q : Question) → Every OneAre ws → question_of at a ws ≡ Some q → AreBytes a.token × AreBytes q.body
-question_are at a [] q h is = absurd (cc is)
-question_are at a (w ∷ ws) q h is = by (is_of at a w) refl is (question_are at a ws q h.1)
-  where
-    by : (b : Bool) → is_of at a w ≡ b → cond b (Some w.question) (question_of at a ws) ≡ Some q → (question_of at a ws ≡ Some q → AreBytes a.token × AreBytes q.body) → AreBytes a.token × AreBytes q.body
-    by true so k f = (
-      subst (λ (x : Asked). AreBytes x.token) (sym (same_asked_is a w.asked (and_parts (same_asked a w.asked) (nat_le w.delay (at - w.at)) so).0)) h.0.0,
-      subst (λ (x : Question). AreBytes x.body) (let e : w.question ≡ q = cc k in e) h.0.1,
-    )
-    by false so k f = f k
+responding_are : (s : Own) (d : Due) (passed : ℕ) (h : Handling) (word id : ℕ) → OwnAre s → HandlesDue s d passed h → HandlingAre h → Each RespondAre (responding s d passed h word id)
+responding_are s (due.Ready a) passed (Serves q reply left) word id own k is = ((ready_are s a q reply left own k, response_to_are s a q reply is.1), tt)
+responding_are s (due.Ready a) passed Silent word id own k is = tt
+responding_are s (due.Ready a) passed (Replies response) word id own k is = tt
+responding_are s (due.Ready a) passed (Waits q delay) word id own k is = tt
+responding_are s (due.Ready a) passed (Notifies o reply) word id own k is = tt
+responding_are s due.Idle passed (Notifies o reply) word id own k is = ((is.0.0, response_are reply _ None is.1 (sequence_small (s.store.holds o.path)) tt), readies_are s.clock passed (marked s.observers))
+responding_are s due.Idle passed Silent word id own k is = readies_are s.clock passed (marked s.observers)
+responding_are s due.Idle passed (Replies response) word id own k is = readies_are s.clock passed (marked s.observers)
+responding_are s due.Idle passed (Serves q reply left) word id own k is = readies_are s.clock passed (marked s.observers)
+responding_are s due.Idle passed (Waits q delay) word id own k is = readies_are s.clock passed (marked s.observers)
+responding_are s due.Copied passed h word id own k is = tt
+responding_are s due.Expired passed h word id own k is = tt
 
 -- a call
 
-pub record OwnAre (s : Own) : Type 0 where
-  pub store : StoreAre s.store
-  pub waiting : Every OneAre s.waiting
+-- the format and the body of a local change
+abbrev pub ChangeInRange : Call → Type 0
+ChangeInRange (Sets now path format body answer left) = IfSome format (λ f. f < 2 ^ 16) × AreBytes body
+ChangeInRange c = Unit {0}
 
--- the body of a local change
-abbrev pub BodyAre : Call → Type 0
-BodyAre (Sets now path format body answer left) = AreBytes body
-BodyAre c = Unit {0}
+heard_are : (s : Own) (now : ℕ) (c : E.Call) → OwnAre s → OwnAre (heard s now c)
+heard_are s now c h = record { szx = h.szx; store = h.store; uploads = h.uploads; observers = ended_are _ s.observers h.observers; waiting = h.waiting }
 
-abbrev Leaves : Own → Own → Call → Type 0
-Leaves s new c = OwnAre new × Every RespondAre (lower s c)
+uploads_left : (szx : ℕ) (small : szx ≤ 6) (at : ℕ) (came : Option (Asked × Message)) (s : AssemblyState) → CameAre came → Each PartialAre s.partials → Each PartialAre (uploads_came szx at came s).partials
+uploads_left szx small at None s c h = h
+uploads_left szx small at (Some p) s c h = uploads_are at p.0 (verdict_on szx p.1) s (verdict_are szx small p.1 c.1) h
 
-left_are : (h : Handling) (old : Content) → HandlingAre h → StoreAre old → StoreAre (left_by h old)
-left_are Silent old h b = b
-left_are (Refuses response) old h b = b
-left_are (Serves q reply response left) old h b = h.1
-left_are (Waits q delay) old h b = b
+waiting_left : (at : ℕ) (came : Option (Asked × Message)) (h : Handling) (ws : List Waiting) → CameAre came → HandlingAre h → Each OneAre ws → Each OneAre (waiting_came at came h ws)
+waiting_left at None h ws c is k = k
+waiting_left at (Some p) h ws c is k = waits_are at p.0 h ws c.0 is k
 
-module _ (szx : ℕ) (s : Own) (own : OwnAre s) where
-  fed : (at : ℕ) (came : Option (Asked × Message)) (h : Handling) → CameAre came → HandlesCame szx s at came h → HandlingAre h
-  fed at None h c k = subst HandlingAre (sym k) tt
-  fed at (Some p) h c k = handles_are s at p.0.kind (verdict_on szx p.1) h own.store (verdict_are szx p.1 c.1) k
+waiting_then : (at : ℕ) (d : Due) (ws : List Waiting) → Each OneAre ws → Each OneAre (waiting_due at (ready_in d) ws)
+waiting_then at (due.Ready a) ws k = waited_are at a ws k
+waiting_then at due.Idle ws k = k
+waiting_then at due.Copied ws k = k
+waiting_then at due.Expired ws k = k
 
-  answering_are : (at : ℕ) (came : Option (Asked × Message)) (h : Handling) (below : L.Answer) → CameAre came → HandlingAre h → Every RespondAre (answering at came h below)
-  answering_are at None h below c k = tt
-  answering_are at (Some p) Silent below c k = tt
-  answering_are at (Some p) (Refuses response) below c k = ((c.0, k), tt)
-  answering_are at (Some p) (Serves q reply response left) below c k = ((c.0, k.0), tt)
-  answering_are at (Some p) (Waits q delay) below c k = (tt, tt)
+token_in : (came : Option (Asked × Message)) → CameAre came → IfSome (Rattle.coap_exchange.specs.AnswererSteps.asked_in came) (λ x. AreBytes x.token)
+token_in None c = tt
+token_in (Some p) c = c.0
 
-  waiting_are : (at : ℕ) (came : Option (Asked × Message)) (h : Handling) → CameAre came → HandlingAre h → Every OneAre (waiting_with at came h s.waiting)
-  waiting_are at None h c k = own.waiting
-  waiting_are at (Some p) Silent c k = own.waiting
-  waiting_are at (Some p) (Refuses response) c k = own.waiting
-  waiting_are at (Some p) (Serves q reply response left) c k = own.waiting
-  waiting_are at (Some p) (Waits q delay) c k = every_join OneAre s.waiting (record { asked = p.0; at = at; delay = delay; question = q } ∷ []) own.waiting ((c.0, k), tt)
+-- the observers behind a tick
+observers_then : (s : Own) (d : Due) (passed : ℕ) (h : Handling) → OwnAre s → HandlesDue s d passed h → HandlingAre h → Each WatcherAre (Rattle.coap_ends.specs.ServerSide.ServerSteps.observers_after s.store (ready_in d) h s.observers)
+observers_then s (due.Ready a) passed (Serves q reply left) own k is = observers_are s.store (Some a) (Serves q reply left) s.observers (ready_are s a q reply left own k) is own.observers
+observers_then s (due.Ready a) passed (Notifies o reply) own k is = absurd (by (question_of s.clock a s.waiting) k)
+  where
+    by : (q : Option Question) → AnswersWaiting q s.store s.clock (Notifies o reply) → ⊥
+    by None k = cc k
+    by (Some q) k = (let e = k.is in cc e)
+observers_then s (due.Ready a) passed Silent own k is = own.observers
+observers_then s (due.Ready a) passed (Replies response) own k is = own.observers
+observers_then s (due.Ready a) passed (Waits q delay) own k is = own.observers
+observers_then s due.Idle passed h own k is = observers_are s.store None h s.observers tt is own.observers
+observers_then s due.Copied passed h own k is = observers_are s.store None h s.observers tt is own.observers
+observers_then s due.Expired passed h own k is = observers_are s.store None h s.observers tt is own.observers
 
-  -- a request that is ready has a token of bytes
-  abbrev DueAre : ℕ → Due → Handling → ℕ → ℕ → Type 0
-  DueAre at d h word id = HandlingAre h × Every RespondAre (responding at d h word id) × Every OneAre (waiting_after at d s.waiting)
+abbrev Leaves : Own → List E.Call → Type 0
+Leaves new calls = OwnAre new × Each RespondAre calls
 
-  ready_are : (at : ℕ) (a : Asked) (h : Handling) (word id : ℕ) (o : Option Question) → question_of at a s.waiting ≡ o → AnswersWaiting o s.store at h → DueAre at (due.Ready a) h word id
-  ready_are at a h word id None is k = subst (λ x. DueAre at (due.Ready a) x word id) (sym k) (tt, tt, without_are at a s.waiting own.waiting)
-  ready_are at a h word id (Some q) is k =
-      let f = question_are at a s.waiting q own.waiting is in
-      by h (served_are s.store at q h own.store f.1 k)
-    where
-      token : AreBytes a.token
-      token = (question_are at a s.waiting q own.waiting is).0
-
-      left : Every OneAre (without_waiting at a s.waiting)
-      left = without_are at a s.waiting own.waiting
-
-      by : (w : Handling) → HandlingAre w → DueAre at (due.Ready a) w word id
-      by Silent x = (x, tt, left)
-      by (Refuses response) x = (x, tt, left)
-      by (Serves p reply response new) x = (x, ((token, x.0), tt), left)
-      by (Waits p delay) x = (x, tt, left)
-
-  due_are : (at : ℕ) (d : Due) (h : Handling) (word id : ℕ) → HandlesDue s at d h → DueAre at d h word id
-  due_are at (due.Ready a) h word id k = ready_are at a h word id (question_of at a s.waiting) refl k
-  due_are at due.Idle h word id k = (subst HandlingAre (sym k) tt, tt, own.waiting)
-  due_are at due.Copied h word id k = (subst HandlingAre (sym k) tt, tt, own.waiting)
-  due_are at due.Expired h word id k = (subst HandlingAre (sym k) tt, tt, own.waiting)
-
-  call_are : (c : Call) → IsRight szx s c → BodyAre c → Every IncomingAre (lower s c) → Leaves s (after s c) c
-  call_are (Sets now path format body answer left) right fits h =
-      let at : ℕ = max s.clock now in
-      (record { store = sets_are (put_refusal s.store at path (length body)) s.store at path format body answer left fits right own.store; waiting = own.waiting }, tt)
-  call_are (Removes now path answer left) right fits h =
-      let at : ℕ = max s.clock now in
-      (record { store = removes_are (s.store.holds path) (rate_refusal s.store.tally at) s.store at path answer left right own.store; waiting = own.waiting }, tt)
-  call_are (Delays path ms answer) right fits h = (record { store = own.store; waiting = own.waiting }, tt)
-  call_are (NextOut answer) right fits h = (record { store = own.store; waiting = own.waiting }, (tt, tt))
-  call_are (Feeds now from bytes word up came k below) right fits h =
-      let at : ℕ = max s.clock now in
-      let last : E.Call = E.Incoming at from bytes up came in
-      let c : CameAre came = last_of IncomingAre (answering at came k below) last h in
-      let x = fed at came k c right in (
-        record { store = left_are k s.store x own.store; waiting = waiting_are at came k c x },
-        every_join RespondAre (answering at came k below) (last ∷ []) (answering_are at came k below c x) (tt, tt),
-      )
-  call_are (Ticks now word below room d k id answer) right fits h =
-      let at : ℕ = max s.clock now in
-      let x = due_are at d k word id right.0 in (
-        record { store = left_are k s.store x.0 own.store; waiting = x.2 },
-        every_join RespondAre (responding at d k word id) (E.Ticks at below room d ∷ []) x.1 (tt, tt),
-      )
+call_are : (s : Own) (c : Call) → OwnAre s → IsRight s c → ChangeInRange c → Each IncomingAre (lower s c) → Leaves (after s c) (lower s c)
+call_are s (Sets now path format body answer left) own right range h =
+    let at : ℕ = max s.clock now in
+    (record { szx = own.szx; store = sets_are (put_refusal s.store at path (length body)) s.store at path format body answer left range.1 range.0 right own.store; uploads = own.uploads; observers = marked_are path s.store left s.observers own.observers; waiting = own.waiting }, tt)
+call_are s (Removes now path answer left) own right range h =
+    let at : ℕ = max s.clock now in
+    (record { szx = own.szx; store = removes_are (s.store.holds path) (rate_refusal s.store.tally at) s.store at path answer left right own.store; uploads = own.uploads; observers = marked_are path s.store left s.observers own.observers; waiting = own.waiting }, tt)
+call_are s (Delays path ms answer) own right range h = (record { szx = own.szx; store = own.store; uploads = own.uploads; observers = own.observers; waiting = own.waiting }, tt)
+call_are s (NextOut answer) own right range h = (record { szx = own.szx; store = own.store; uploads = own.uploads; observers = own.observers; waiting = own.waiting }, (tt, tt))
+call_are s (Gets path answer) own right range h = (own, tt)
+call_are s (TellsApplied answer) own right range h = (own, tt)
+call_are s (Feeds now from bytes word up came k below) own right range h =
+    let first : E.Call = incoming s now from bytes up came in
+    let t : Own = heard s now first in
+    let o = heard_are s now first own in
+    let c : CameAre came = last_of IncomingAre (answering t came k below) first h in
+    let x = came_are t came k o c right in (
+      record {
+        szx = o.szx;
+        store = store_are k t.store x o.store;
+        uploads = uploads_left t.szx o.szx t.clock came t.uploads c o.uploads;
+        observers = observers_are t.store (Rattle.coap_exchange.specs.AnswererSteps.asked_in came) k t.observers (token_in came c) x o.observers;
+        waiting = waiting_left t.clock came k t.waiting c x o.waiting;
+      },
+      each_join RespondAre (answering t came k below) (first ∷ []) (answering_are t came k below c x) (tt, tt),
+    )
+call_are s (Ticks now word below room d passed k id answer) own right range h =
+    let first : E.Call = ticking s now below room d in
+    let t : Own = heard s now first in
+    let o = heard_are s now first own in
+    let x = due_are t d passed k o right.0 in (
+      record { szx = o.szx; store = store_are k t.store x o.store; uploads = o.uploads; observers = observers_then t d passed k o right.0 x; waiting = waiting_then t.clock d t.waiting o.waiting },
+      each_join RespondAre (responding t d passed k word id) (first ∷ []) (responding_are t d passed k word id o right.0 x) (tt, tt),
+    )
 
 -- all calls
 
-module _ (limit szx : ℕ) where
-  all_are : (t : List Call) → ServerRows limit szx t → Every BodyAre t → Every IncomingAre (lower_of limit szx t) → OwnAre (own_of limit szx t) × Every RespondAre (lower_of limit szx t)
-  all_are [] rows bodies h = (record { store = record { each = λ path held e. absurd (cc e) }; waiting = tt }, tt)
-  all_are (c ∷ t) rows bodies h =
+module _ (limit szx : ℕ) (small : szx ≤ 6) where
+  all_are : (t : List Call) → ServerRows limit szx t → Each ChangeInRange t → Each IncomingAre (lower_of limit szx t) → Leaves (own_of limit szx t) (lower_of limit szx t)
+  all_are [] rows range h = (record { szx = small; store = record { each = λ path held e. absurd (cc e) }; uploads = tt; observers = tt; waiting = tt }, tt)
+  all_are (c ∷ t) rows range h =
       let s : Own = own_of limit szx t in
-      let k = all_are t rows.1 bodies.1 (every_back IncomingAre (lower s c) (lower_of limit szx t) h) in
-      let j = call_are szx s k.0 c rows.0 bodies.0 (every_front IncomingAre (lower s c) (lower_of limit szx t) h) in
-      (j.0, every_join RespondAre (lower s c) (lower_of limit szx t) j.1 k.1)
+      let k = all_are t rows.1 range.1 (each_back IncomingAre (lower s c) (lower_of limit szx t) h) in
+      let j = call_are s c k.0 rows.0 range.0 (each_front IncomingAre (lower s c) (lower_of limit szx t) h) in
+      (j.0, each_join RespondAre (lower s c) (lower_of limit szx t) j.1 k.1)
 
-  pub server_are : (word : ℕ) (t : List Call) → ServerLaw limit szx word t → Every BodyAre t → (p : L.Packet) → Ever (λ e. IsIn p e.out) (layer_of limit szx word t) → AreBytes p.bytes
-  server_are word t law bodies p h =
+  pub server_are : (word : ℕ) (t : List Call) → ServerLaw limit szx word t → Each ChangeInRange t → (p : L.Packet) → Ever (λ e. IsIn p e.out) (layer_of limit szx word t) → AreBytes p.bytes
+  server_are word t law range p h =
       let calls : List E.Call = lower_of limit szx t in
       let under = law.exchanges in
       let came = all_incoming calls (came_in word calls under.rows under.left under.layer) (steps_are (layer.start word) under.left (W.lower_of calls) under.layer) in
-      let k = all_are t law.rows bodies came in
+      let k = all_are t law.rows range came in
       sent_are p word (W.lower_of calls) (layer_stands word calls under) (each_are calls under.rows k.1) h

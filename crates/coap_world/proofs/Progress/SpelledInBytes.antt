@@ -1,5 +1,7 @@
 -- A message whose token, values and payload are bytes is spelled in bytes (RFC 7252, section 3).
-use Rattle.std.proofs.Common.{◌≡◌, ◌<◌, ◌≤◌, ℕ, zero, suc, ◌-◌, ◌^◌, ◌/◌, nat_lt, Bool, true, false, List, [], ◌∷◌, ◌++◌, length, length-append, refl, ap, sym, subst, cond, mod-lt, arith}
+use Rattle.std.proofs.Common.{◌≡◌, ◌<◌, ◌≤◌, ℕ, zero, suc, ◌-◌, ◌^◌, ◌/◌, nat_lt, Bool, true, false, List, [], ◌∷◌}
+use Rattle.std.proofs.Common.{◌++◌, length, length-append, refl, ap}
+use Rattle.std.proofs.Common.{sym, subst, cond, mod-lt, arith}
 use Rattle.std.specs.Prelude.{All}
 use Rattle.std.specs.Int.{byte_at, bytes_high_first}
 use Rattle.coap_types.specs.CoapOption.{CoapOption}
@@ -22,10 +24,6 @@ cons_are b bs h k = AreBytes-cons b bs h k
 pub append_are : (xs ys : List ℕ) → AreBytes xs → AreBytes ys → AreBytes (xs ++ ys)
 append_are xs ys h k = AreBytes-append xs ys h k
 
--- the same, where it is said of each element
-pub from_all : (bs : List ℕ) → AreBytes bs → AreBytes bs
-from_all bs h = h
-
 -- a number in so many bytes
 byte_below : (k n : ℕ) → byte_at k n < 256
 byte_below zero n = omega arith
@@ -43,7 +41,7 @@ ValuesAre (o ∷ options) = AreBytes o.value × ValuesAre options
 
 pub values_from_all : (options : List CoapOption) → All (λ o. AreBytes o.value) options → ValuesAre options
 values_from_all [] h = tt
-values_from_all (o ∷ options) h = (from_all o.value (h 0 o (omega arith)), values_from_all options (λ i d low. h (suc i) d (omega (arith, low))))
+values_from_all (o ∷ options) h = (h 0 o (omega arith), values_from_all options (λ i d low. h (suc i) d (omega (arith, low))))
 
 pub values_append : (xs ys : List CoapOption) → ValuesAre xs → ValuesAre ys → ValuesAre (xs ++ ys)
 values_append [] ys h k = k

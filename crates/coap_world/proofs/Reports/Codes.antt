@@ -1,56 +1,54 @@
--- What the code of a response says: which is reported as success, which is that of a request that is applied.
-use Rattle.std.proofs.Common.{◌≡◌, ℕ, ◌==◌, nat_lt, Bool, true, false, ◌&&◌, ◌||◌, not, Option, Some, None, List, length, refl, ap, sym, subst, ◌∙◌, cond}
+-- What the code of a response says: which reply is that of a request that is applied, which refusal is none.
+use Rattle.std.proofs.Common.{◌≡◌, inl, inr, ℕ, max, ◌==◌, nat_lt, Bool, true, false, ◌&&◌, ◌||◌, not, Option, Some}
+use Rattle.std.proofs.Common.{None, List, length, refl, ap, sym, subst, ◌∙◌, cond}
 use Rattle.std.specs.Prelude.{nat_le, is_some}
-use Rattle.std.specs.Cmp.{unsigned_Decides}
 use Rattle.coap_types.specs.Recognised.{lacks_critical}
+use Rattle.coap_types.specs.declared.block.Block.{Block}
 use Rattle.coap_types.specs.declared.direction.Direction.TheVariants as direction
 use Rattle.coap_types.specs.declared.message.Kind.{Kind}
 use Rattle.coap_types.specs.declared.message.Kind.TheVariants.{Con, Non, Ack, Rst}
 use Rattle.coap_types.specs.declared.request.Method.{Method}
 use Rattle.coap_types.specs.declared.request.Method.TheVariants.{Get, Post, Put, Delete}
+use Rattle.coap_types.specs.MethodCode.{method_of}
+use Rattle.coap_types.specs.OptionValues.{has, uint_at}
+use Rattle.coap_types.specs.RequestPath.{path_of}
+use Rattle.coap_types.specs.declared.path.TheConstants.{MAX_SEGMENTS as max_segments}
+use Rattle.coap_types.specs.declared.option_number.TheConstants.{BLOCK1 as block1, BLOCK2 as block2}
+use Rattle.coap_types.specs.declared.option_number.TheConstants.{PROXY_URI as proxy_uri, PROXY_SCHEME as proxy_scheme}
 use Rattle.coap_codec.specs.Message.{Message}
+use Rattle.coap_block.specs.AssemblyAnswer.{refusal_code}
+use Rattle.coap_block.specs.AssemblyState.{AssemblyState}
+use Rattle.coap_block.specs.declared.assembly_step.AssemblyRefusal.{AssemblyRefusal}
+use Rattle.coap_block.specs.declared.assembly_step.AssemblyRefusal.TheVariants.{BadRequest, EntityIncomplete}
+use Rattle.coap_block.specs.declared.assembly_step.AssemblyRefusal.TheVariants.{EntityTooLarge, Unavailable}
+use Rattle.coap_block.specs.declared.block_verdict.BlockVerdict.{BlockVerdict}
+use Rattle.coap_block.specs.declared.block_verdict.BlockVerdict.TheVariants.{Refuse, Join, Done}
+use Rattle.coap_block.specs.UploadStep.{UploadState, more_follows}
 use Rattle.coap_resource.specs.Content.{Content, Held, append_refusal, put_refusal}
 use Rattle.coap_resource.specs.Rate.{rate_refusal}
-use Rattle.coap_types.specs.OptionValues.{has, value_of}
-use Rattle.coap_resource.specs.RequestOptions.{format_of, tag_of, precondition_fails, accepts, etag_names, block_of, offset_by, szx_by}
+use Rattle.coap_resource.specs.RequestOptions.{block_said, tag_of, precondition_fails, accepts, etag_names, block_of}
+use Rattle.coap_resource.specs.RequestOptions.{offset_by, szx_by}
 use Rattle.coap_resource.specs.Serves.{Question, Reply}
 use Rattle.coap_resource.specs.Serves as R
 use Rattle.coap_resource.specs.declared.refusal.StoreRefusal.{StoreRefusal}
 use Rattle.coap_resource.specs.declared.refusal.StoreRefusal.TheVariants as why
-use Rattle.coap_types.specs.declared.option_number.TheConstants.{ETAG as etag, BLOCK1 as block1, BLOCK2 as block2, PROXY_URI as proxy_uri, PROXY_SCHEME as proxy_scheme}
-use Rattle.coap_ends.specs.ClientReports.{report_of, is_success, created, deleted, changed, content, said}
-use Rattle.coap_types.specs.declared.limits.TheConstants.{MAX_BODY_LEN as max_body}
-use Rattle.coap_ends.specs.ClientTrace.{Body, Done, Failed, TooLarge}
-use Rattle.coap_types.specs.declared.path.TheConstants.{MAX_SEGMENTS as max_segments}
-use Rattle.coap_ends.specs.ServerChecks.{Verdict, Refused, Asks, verdict_on, bad_by, bad_request, proxying_not_supported, asked_by, question, asks, is_reserved}
-use Rattle.coap_types.specs.MethodCode.{method_of}
-use Rattle.coap_types.specs.RequestPath.{path_of}
-use Rattle.coap_ends.specs.Follows.ServerFollows.{is_applied}
-
--- what is reported
-
-two_done : (n code : ℕ) (a b c : Bool) → cond (a || b) (Done n) (Failed n) ≡ Done code → (a || (c || b)) ≡ true
-two_done n code true b c h = refl
-two_done n code false true true h = refl
-two_done n code false true false h = refl
-two_done n code false false c h = absurd (cc h)
-
-one_done : (n code : ℕ) (a b c : Bool) → cond b (Done n) (Failed n) ≡ Done code → (a || (b || c)) ≡ true
-one_done n code true b c h = refl
-one_done n code false true c h = refl
-one_done n code false false c h = absurd (cc h)
-
-not_done : (code n : ℕ) (a b : Bool) (tag : Option (List ℕ)) (format : Option ℕ) (body : List ℕ) → cond a (cond b TooLarge (Body tag format body)) (Failed n) ≡ Done code → ⊥
-not_done code n true true tag format body h = cc h
-not_done code n true false tag format body h = cc h
-not_done code n false b tag format body h = cc h
-
--- success: the request is applied
-pub done_is : (method : Method) (m : Message) (code : ℕ) → report_of method m ≡ Done code → is_applied m.code ≡ true
-done_is Get m code h = absurd (not_done code m.code (m.code == content) (has block2 (said m) || nat_lt max_body (length m.payload)) (value_of etag (said m)) (format_of (said m)) m.payload h)
-done_is Post m code h = two_done m.code code (m.code == created) (m.code == changed) (m.code == deleted) h
-done_is Put m code h = two_done m.code code (m.code == created) (m.code == changed) (m.code == deleted) h
-done_is Delete m code h = one_done m.code code (m.code == created) (m.code == deleted) (m.code == changed) h
+use Rattle.coap_exchange.specs.AnswererTrace as E
+use Rattle.coap_exchange.specs.declared.answerer.Asked.{Asked}
+use Rattle.coap_ends.specs.ClientSide.ClientOfCalls.{CarriesBody}
+use Rattle.coap_ends.specs.ClientSide.ClientOrder.{is_last}
+use Rattle.coap_ends.specs.ClientSide.ClientOwn.{Transfer, Fetches, Uploads, Single, Operation, Calling, Registering}
+use Rattle.coap_ends.specs.ClientSide.ClientOwn.{Fetching, Cancelling, Dropped}
+use Rattle.coap_ends.specs.ClientSide.ClientReports.{is_success}
+use Rattle.coap_ends.specs.ClientSide.ClientResponses.{created, deleted, changed}
+use Rattle.coap_ends.specs.ClientSide.ClientTrace as C
+use Rattle.coap_ends.specs.ServerSide.Follows.ServerGives.{refusal_by, refusal_of, refusal_in, NoticeOf}
+use Rattle.coap_ends.specs.ServerSide.ServerChecks as checks
+use Rattle.coap_ends.specs.ServerSide.ServerChecks.{Verdict, asks, is_reserved, verdict_on}
+use Rattle.coap_ends.specs.ServerSide.ServerServing.{is_applied}
+use Rattle.coap_ends.specs.ServerSide.ServerTrace as S
+use Rattle.coap_ends.specs.ServerSide.ServerUploads.{ruling_of}
+use Rattle.coap_ends.proofs.Facts.OfClientCalls.{apart}
+use Rattle.coap_ends.specs.ClientSide.ClientCodes.{Succeeds, Fails}
 
 -- the codes by which a request of a method is applied
 abbrev pub applied_by : Method → ℕ → Bool
@@ -59,46 +57,46 @@ applied_by Post code = is_success Post code
 applied_by Put code = is_success Put code
 applied_by Delete code = is_success Delete code
 
-not_failed : (n code : ℕ) (b : Bool) → cond b (Done n) (Failed n) ≡ Failed code → b ≡ false
-not_failed n code true h = absurd (cc h)
-not_failed n code false h = refl
+-- what is reported
 
-pub failed_is : (method : Method) (m : Message) (code : ℕ) → report_of method m ≡ Failed code → applied_by method m.code ≡ false
-failed_is Get m code h = refl
-failed_is Post m code h = not_failed m.code code (is_success Post m.code) h
-failed_is Put m code h = not_failed m.code code (is_success Put m.code) h
-failed_is Delete m code h = not_failed m.code code (is_success Delete m.code) h
+-- success is that of a request that is applied
+pub succeeds_applied : (op : Operation) (code : ℕ) → Succeeds op code → is_applied code ≡ true
+succeeds_applied (Calling k r Single) code h = ap is_applied h
+succeeds_applied (Calling k r (Uploads u)) code h = elim h.1 [ inl a ↦ ap is_applied a | inr b ↦ ap is_applied b ]
+succeeds_applied (Calling k r (Fetches f)) code h = absurd h
+succeeds_applied (Registering k path) code h = absurd h
+succeeds_applied (Fetching k) code h = absurd h
+succeeds_applied (Cancelling k) code h = absurd h
+succeeds_applied Dropped code h = absurd h
 
--- a body: the 2.05 to a GET
-pub record IsBody (method : Method) (m : Message) (tag : Option (List ℕ)) (format : Option ℕ) (body : List ℕ) : Type 0 where
-  pub code : m.code ≡ content
-  pub whole : has block2 (said m) ≡ false
-  pub tag_is : value_of etag (said m) ≡ tag
-  pub format_is : format_of (said m) ≡ format
-  pub body_is : m.payload ≡ body
+-- .. and failure of the last request of a call is not
+module _ (szx k : ℕ) (r : C.Request) (body : List ℕ) (code : ℕ) where
+  none_of_upload : (u : UploadState) (b : Bool) → not b ≡ true → Rattle.coap_ends.specs.ClientSide.ClientCodes.FailsBlock b u code → ((code == created) || (code == changed)) ≡ false
+  none_of_upload u true last h = absurd (cc last)
+  none_of_upload u false last h = ap (λ b. b || (code == changed)) (apart code created h.0) ∙ apart code changed h.1
 
-module _ (m : Message) (tag : Option (List ℕ)) (format : Option ℕ) (body : List ℕ) where
-  no_body : (n : ℕ) (b : Bool) → cond b (Done n) (Failed n) ≡ Body tag format body → ⊥
-  no_body n true h = cc h
-  no_body n false h = cc h
+  of_upload : (method : Method) (u : UploadState) → CarriesBody szx method body (Uploads u) → ((code == created) || (code == changed)) ≡ false → applied_by method code ≡ false
+  of_upload Get u carries h = refl
+  of_upload Post u carries h = h
+  of_upload Put u carries h = h
+  of_upload Delete u carries h = absurd carries
 
-  neither : (a b : Bool) → (a || b) ≡ false → a ≡ false
-  neither true b h = h
-  neither false b h = refl
+  of_single : (method : Method) → CarriesBody szx method body Single → (code == deleted) ≡ false → applied_by method code ≡ false
+  of_single Get carries h = refl
+  of_single Post carries h = absurd carries
+  of_single Put carries h = absurd carries
+  of_single Delete carries h = h
 
-  body_by : (b : Bool) → (has block2 (said m) || nat_lt max_body (length m.payload)) ≡ b → m.code ≡ content → cond b TooLarge (Body (value_of etag (said m)) (format_of (said m)) m.payload) ≡ Body tag format body → IsBody Get m tag format body
-  body_by true is code h = absurd (cc h)
-  body_by false is code h = record { code = code; whole = neither (has block2 (said m)) (nat_lt max_body (length m.payload)) is; tag_is = cc h; format_is = cc h; body_is = cc h }
+  of_fetch : (method : Method) (f : _) → CarriesBody szx method body (Fetches f) → applied_by method code ≡ false
+  of_fetch Get f carries = refl
+  of_fetch Post f carries = absurd carries
+  of_fetch Put f carries = absurd carries
+  of_fetch Delete f carries = absurd carries
 
-  got_by : (b : Bool) → (m.code == content) ≡ b → cond b (cond (has block2 (said m) || nat_lt max_body (length m.payload)) TooLarge (Body (value_of etag (said m)) (format_of (said m)) m.payload)) (Failed m.code) ≡ Body tag format body → IsBody Get m tag format body
-  got_by true is h = body_by (has block2 (said m) || nat_lt max_body (length m.payload)) refl ((unsigned_Decides m.code content).0 is) h
-  got_by false is h = absurd (cc h)
-
-  pub body_is : (method : Method) → report_of method m ≡ Body tag format body → IsBody method m tag format body
-  body_is Get h = got_by (m.code == content) refl h
-  body_is Post h = absurd (no_body m.code (is_success Post m.code) h)
-  body_is Put h = absurd (no_body m.code (is_success Put m.code) h)
-  body_is Delete h = absurd (no_body m.code (is_success Delete m.code) h)
+  pub fails_none : (method : Method) (tr : Transfer) → CarriesBody szx method body tr → is_last (Calling k r tr) ≡ true → Fails (Calling k r tr) code → applied_by method code ≡ false
+  fails_none method (Fetches f) carries last h = of_fetch method f carries
+  fails_none method (Uploads u) carries last h = of_upload method u carries (none_of_upload u (more_follows u) last h)
+  fails_none method Single carries last h = of_single method carries (apart code deleted h)
 
 -- what the store replies
 
@@ -176,48 +174,83 @@ module _ (old : Content) (at : ℕ) (q : Question) (reply : Reply) (left : Conte
 
 -- what a request is refused with
 
-abbrev pub succeeds : ℕ → Bool
-succeeds code = is_applied code || (code == content)
-
-code_of : (a code : ℕ) → Refused a ≡ Refused code → succeeds a ≡ false → succeeds code ≡ false
-code_of a code h k = let same : a ≡ code = cc h in subst (λ n. succeeds n ≡ false) same k
+code_of : (a code : ℕ) → checks.Refused a ≡ checks.Refused code → is_applied a ≡ false → is_applied code ≡ false
+code_of a code h k = let same : a ≡ code = cc h in subst (λ n. is_applied n ≡ false) same k
 
 module _ (szx : ℕ) (m : Message) (code : ℕ) where
-  bad_code : (k : Kind) → bad_by k ≡ Refused code → succeeds code ≡ false
+  bad_code : (k : Kind) → checks.bad_by k ≡ checks.Refused code → is_applied code ≡ false
   bad_code Con h = code_of 130 code h refl
   bad_code Non h = absurd (cc h)
   bad_code Ack h = absurd (cc h)
   bad_code Rst h = absurd (cc h)
 
-  check_code : (v : Verdict) (a b : Bool) → (v ≡ Refused code → ⊥) → cond a (Refused bad_request) (cond b (Refused bad_request) v) ≡ Refused code → succeeds code ≡ false
+  upload_code : (method : Method) (q : Question) (o : Option Block) → checks.uploading method q o ≡ checks.Refused code → is_applied code ≡ false
+  upload_code Get q None h = absurd (cc h)
+  upload_code Post q None h = absurd (cc h)
+  upload_code Put q None h = absurd (cc h)
+  upload_code Delete q None h = absurd (cc h)
+  upload_code Put q (Some b) h = absurd (cc h)
+  upload_code Post q (Some b) h = absurd (cc h)
+  upload_code Get q (Some b) h = code_of 128 code h refl
+  upload_code Delete q (Some b) h = code_of 128 code h refl
+
+  check_code : (v : Verdict) (a b : Bool) → (v ≡ checks.Refused code → is_applied code ≡ false)
+      → cond a (checks.Refused checks.bad_request) (cond b (checks.Refused checks.bad_request) v) ≡ checks.Refused code → is_applied code ≡ false
   check_code v true b n h = code_of 128 code h refl
   check_code v false true n h = code_of 128 code h refl
-  check_code v false false n h = absurd (n h)
+  check_code v false false n h = n h
 
-  asked_code : (o : Option Method) → asked_by szx o m ≡ Refused code → succeeds code ≡ false
+  asked_code : (o : Option Method) → checks.asked_by szx o m ≡ checks.Refused code → is_applied code ≡ false
   asked_code None h = code_of 133 code h refl
   asked_code (Some method) h =
-      check_code (Asks (question szx method m)) (nat_lt max_segments (length (path_of (asks m)))) (is_reserved (value_of block2 (asks m))) (λ k. cc k) h
+      check_code (checks.uploading method (checks.question szx method m) (block_said (uint_at block1 (asks m)))) (nat_lt max_segments (length (path_of (asks m))))
+      (is_reserved (uint_at block1 (asks m)) || is_reserved (uint_at block2 (asks m))) (upload_code method (checks.question szx method m) (block_said (uint_at block1 (asks m)))) h
 
-  proxy_code : (b : Bool) → cond b (Refused proxying_not_supported) (asked_by szx (method_of m.code) m) ≡ Refused code → succeeds code ≡ false
+  proxy_code : (b : Bool) → cond b (checks.Refused checks.proxying_not_supported) (checks.asked_by szx (method_of m.code) m) ≡ checks.Refused code → is_applied code ≡ false
   proxy_code true h = code_of 165 code h refl
   proxy_code false h = asked_code (method_of m.code) h
 
-  verdict_code : (b : Bool) → cond b (bad_by m.kind) (cond (has proxy_uri (asks m) || has proxy_scheme (asks m)) (Refused proxying_not_supported) (asked_by szx (method_of m.code) m)) ≡ Refused code
-      → succeeds code ≡ false
-  verdict_code true h = bad_code m.kind h
-  verdict_code false h = proxy_code (has proxy_uri (asks m) || has proxy_scheme (asks m)) h
+  checked_code : (b : Bool) → cond b (checks.bad_by m.kind) (cond (has proxy_uri (asks m) || has proxy_scheme (asks m)) (checks.Refused checks.proxying_not_supported) (checks.asked_by szx (method_of m.code) m)) ≡ checks.Refused code
+      → is_applied code ≡ false
+  checked_code true h = bad_code m.kind h
+  checked_code false h = proxy_code (has proxy_uri (asks m) || has proxy_scheme (asks m)) h
 
-  -- no refusal says success
-  pub refusal_code : verdict_on szx m ≡ Refused code → succeeds code ≡ false
-  refusal_code h = verdict_code (lacks_critical direction.Request m.options || has block1 (asks m)) h
+  verdict_code : verdict_on szx m ≡ checks.Refused code → is_applied code ≡ false
+  verdict_code h = checked_code (lacks_critical direction.Request m.options) h
 
-pub not_applied : (code : ℕ) → succeeds code ≡ false → is_applied code ≡ true → ⊥
-not_applied code k h = by (is_applied code) h k
-  where
-    by : (b : Bool) → b ≡ true → (b || (code == content)) ≡ false → ⊥
-    by true i j = cc j
-    by false i j = cc i
+block_code : (w : AssemblyRefusal) → is_applied (refusal_code w).0 ≡ false
+block_code BadRequest = refl
+block_code EntityIncomplete = refl
+block_code EntityTooLarge = refl
+block_code Unavailable = refl
 
-pub not_content : (code : ℕ) → succeeds code ≡ false → code ≡ content → ⊥
-not_content code k h = let e : succeeds content ≡ false = subst (λ n. succeeds n ≡ false) h k in cc e
+some_is : (a b : ℕ) → Some a ≡ Some b → a ≡ b
+some_is a b h = cc h
+
+ruled_code : (v : BlockVerdict) (code : ℕ) → refusal_by v ≡ Some code → is_applied code ≡ false
+ruled_code (Refuse w) code h = subst (λ n. is_applied n ≡ false) (some_is (refusal_code w).0 code h) (block_code w)
+ruled_code (Join size) code h = absurd (cc h)
+ruled_code Done code h = absurd (cc h)
+
+refused_code : (szx : ℕ) (m : Message) (uploads : AssemblyState) (at : ℕ) (a : Asked) (code : ℕ) (v : Verdict) → verdict_on szx m ≡ v → refusal_of uploads at a v ≡ Some code → is_applied code ≡ false
+refused_code szx m uploads at a code checks.Ignored is h = absurd (cc h)
+refused_code szx m uploads at a code (checks.Refused n) is h = verdict_code szx m code (is ∙ ap checks.Refused (some_is n code h))
+refused_code szx m uploads at a code (checks.Asks q) is h = absurd (cc h)
+refused_code szx m uploads at a code (checks.Uploads q b) is h = ruled_code (ruling_of uploads at a q b) code h
+
+-- no refusal says success
+pub refusal_none : (s : S.Own) (c : S.Call) (code : ℕ) → refusal_in s c ≡ Some code → is_applied code ≡ false
+refusal_none s (S.Feeds now from bytes word up (Some p) h below) code is = refused_code s.szx p.1 s.uploads (max s.clock now) p.0 code (verdict_on s.szx p.1) refl is
+refusal_none s (S.Feeds now from bytes word up None h below) code is = absurd (cc is)
+refusal_none s (S.Sets now path format body answer left) code is = absurd (cc is)
+refusal_none s (S.Removes now path answer left) code is = absurd (cc is)
+refusal_none s (S.Delays path ms answer) code is = absurd (cc is)
+refusal_none s (S.Gets path answer) code is = absurd (cc is)
+refusal_none s (S.TellsApplied answer) code is = absurd (cc is)
+refusal_none s (S.Ticks now word below room d passed h id answer) code is = absurd (cc is)
+refusal_none s (S.NextOut answer) code is = absurd (cc is)
+
+-- .. and no notification does
+pub notice_none : (szx : ℕ) (held : Option Held) (r : E.Response) → NoticeOf szx held r → is_applied r.code ≡ false
+notice_none szx None r h = ap (λ (x : E.Response). is_applied x.code) h
+notice_none szx (Some held) r h = ap (λ (x : E.Response). is_applied x.code) h

@@ -10,7 +10,8 @@ use Rattle.coap_types.specs.Bytes.{AreBytes}
 use Rattle.coap_codec.specs.Message.{Message, Spells}
 use Rattle.coap_layer.specs.Arrivals.{Arrival, Unreadable, Faulted, Whole, Shows}
 use Rattle.coap_layer.specs.Channel.{Hop, Near, Far, near_of, OnFar, GaveOut, ChannelLaw}
-use Rattle.coap_layer.specs.Rows.{Stands, Row, Sorts, HandedAs, Arrives, rejects, drops, takes_ack, takes_reset, takes_answer, replays, hands_over}
+use Rattle.coap_layer.specs.Rows.{Stands, Row, Sorts, HandedAs, Arrives, rejects, drops, takes_ack, takes_reset}
+use Rattle.coap_layer.specs.Rows.{takes_answer, replays, hands_over}
 use Rattle.coap_layer.specs.Sends.{IsIn}
 use Rattle.coap_layer.specs.Trace as T
 use Rattle.coap_layer.proofs.Facts.Hops.{earlier}

@@ -1,279 +1,319 @@
 -- Where another response than a success is reported, no request of the call is applied, before or after.
-use Rattle.std.proofs.Common.{◌≡◌, ◌⊎◌, ◌≤◌, inl, inr, ℕ, Bool, true, false, Option, Some, None, List, [], ◌∷◌, refl, ap, sym, subst, ◌∙◌, arith}
-use Rattle.coap_types.specs.Past.{Sometime, Always}
-use Rattle.coap_types.proofs.Facts.Traces.{Sometime_map, Sometime_of_Sometime, Ever_of_Sometime, by_suffix, forget}
-use Rattle.coap_codec.specs.Message.{Message, Spells}
-use Rattle.coap_codec.proofs.Facts.EveryDatagram.{one_message}
-use Rattle.coap_layer.specs.Channel.{Hop, near_of}
-use Rattle.coap_layer.specs.Words.{Open}
-use Rattle.coap_ends.specs.Follows.ClientFollows.{Sending, WasSent}
-use Rattle.coap_ends.specs.Follows.ClientSendings.{NoNons, OneCon, OneSending}
-use Rattle.coap_ends.specs.ClientTrace.{Failed}
-use Rattle.coap_ends.specs.ServerChecks.{Verdict, Refused, Asks, verdict_on}
-use Rattle.coap_ends.specs.Follows.ServerHands.{Comes}
-use Rattle.coap_ends.specs.Follows.ServerFollows.{Serving, hands, is_applied, times_handed}
-use Rattle.coap_ends.specs.Follows.ServerCounts.{ups, Counted}
-use Rattle.coap_ends.specs.ServerLaw.{layer_of}
-use Rattle.coap_exchange.specs.AnswererFollows.{hits, same_asked}
-use Rattle.coap_exchange.proofs.Facts.ServerSide.{self_hits}
-use Rattle.coap_ends.specs.ServerTrace as S
+use Rattle.std.proofs.Common.{◌≡◌, ◌⊎◌, ◌≤◌, inl, inr, ℕ, max, Bool, true, false, ◌&&◌, Some, None, List, [], ◌∷◌, map}
+use Rattle.std.proofs.Common.{refl, ap, sym, subst, ◌∙◌}
+use Rattle.coap_types.specs.MethodCode.{method_code, method_of}
+use Rattle.coap_types.specs.Past.{Sometime}
+use Rattle.coap_types.specs.declared.request.Method.{Method}
+use Rattle.coap_types.specs.declared.request.Method.TheVariants.{Get, Post, Put, Delete}
+use Rattle.coap_types.proofs.Facts.Traces.{Sometime_map}
+use Rattle.coap_block.specs.AssemblyState.{AssemblyState}
+use Rattle.coap_block.specs.declared.block_verdict.BlockVerdict.{BlockVerdict}
+use Rattle.coap_block.specs.declared.block_verdict.BlockVerdict.TheVariants as ruling
+use Rattle.coap_codec.specs.Message.{Message}
+use Rattle.coap_observe.specs.Observers.{Observer}
+use Rattle.coap_resource.specs.Serves.{Question}
+use Rattle.coap_exchange.specs.declared.answerer.Asked.{Asked}
+use Rattle.coap_ends.specs.ClientSide.ClientOrder.{call_of, is_last}
+use Rattle.coap_ends.specs.ClientSide.ClientTrace as C
+use Rattle.coap_ends.specs.ClientSide.ClientWords.{Taken, WasTaken, Sending}
+use Rattle.coap_ends.specs.ServerSide.Follows.ServerBrings.{Comes}
+use Rattle.coap_ends.specs.ServerSide.Follows.ServerGives.{refusal_by, refusal_of, refusal_in}
+use Rattle.coap_ends.specs.ServerSide.Follows.ServerObserves.{WasMade}
+use Rattle.coap_ends.specs.ServerSide.Follows.ServerServes.{Serving, serving, hands, times_handed}
+use Rattle.coap_ends.specs.ServerSide.Follows.ServerTakes.{Took, took, took_by, taken_by, takes_block}
+use Rattle.coap_ends.specs.ServerSide.ServerChecks.{Verdict, Ignored, Refused, Asks, Uploads, verdict_on}
+use Rattle.coap_ends.specs.ServerSide.ServerLaw.{own_of}
+use Rattle.coap_ends.specs.ServerSide.ServerObservers.{is_get}
+use Rattle.coap_ends.specs.ServerSide.ServerTrace as S
+use Rattle.coap_ends.specs.ServerSide.ServerUploads.{ruling_of}
 use Rattle.coap_ends.proofs.Facts.OfClient as client_facts
 use Rattle.coap_ends.proofs.Facts.OfServer as server_facts
-use Rattle.coap_ends.proofs.Facts.OfServer.{all_served}
-use Rattle.coap_exchange.specs.declared.answerer.Asked.{Asked}
-use Rattle.coap_exchange.specs.AnswererSteps.{asked_of}
-use Rattle.coap_resource.specs.Serves.{Question}
-use Rattle.coap_world.specs.Words.{AppliesFor, ReportsAt, ServesAt}
-use Rattle.coap_world.specs.Agrees.{NeverFailed}
-use Rattle.coap_world.specs.CameFrom.{CameFrom, CamesFrom, request_of}
+use Rattle.coap_ends.proofs.Facts.OfServerCalls.{szx_is, comes_here}
+use Rattle.coap_world.specs.Answers.{IsAnswer, replies, continues, refuses, notifies, AnswersAt}
+use Rattle.coap_world.specs.CameFrom.{request_of}
 use Rattle.coap_world.specs.Events.{client_end, server_end, Config}
-use Rattle.coap_world.specs.Hops.{hops_in}
+use Rattle.coap_world.specs.Legal.{IsRequest}
 use Rattle.coap_world.specs.Record.{Entry, OfClient, OfServer, client_of, server_trace}
-use Rattle.coap_world.proofs.Delivery.HopsAreEntries.{far_is}
-use Rattle.coap_world.proofs.Reports.Answered.{Answers}
-use Rattle.coap_world.proofs.Requests.AtMostOnce.{ServesFor, applies_serves}
-use Rattle.coap_world.proofs.Requests.CameFrom.{Found, find, up_of, verdict_of}
-use Rattle.coap_world.proofs.Requests.HandedUpOnce.{Any, up_once, once_counted, of_one}
-use Rattle.coap_world.proofs.Reports.Codes.{applied_by, failed_is, reply_right}
-use Rattle.coap_world.proofs.Reports.OnceDone.{came_is}
-use Rattle.coap_world.proofs.Reports.PartsOfARecord.{Lawful, PartOf, IsHanded, part_back, whole}
-use Rattle.coap_world.proofs.Requests.ReadBack.{is_asked}
-use Rattle.coap_world.proofs.Reports.ReportsAreOfRequests.{Reporting, each_reporting, one_is, sent_for}
-use Rattle.coap_world.proofs.Requests.AppliedWhole.{asked_by}
+use Rattle.coap_world.specs.Words.{ReportsAt}
+use Rattle.coap_world.proofs.Reports.Answered.{all_answered}
+use Rattle.coap_world.proofs.Requests.LastRequests.{Final, method_is}
+use Rattle.coap_world.proofs.Requests.OfACall.{Lawful, lawful_back, later_back}
+use Rattle.coap_world.proofs.Requests.ReadBack.{Changes}
+use Rattle.coap_ends.specs.ClientSide.ClientCodes.{Fails}
+use Rattle.coap_ends.proofs.Facts.OfClientCalls.{reports_codes}
+use Rattle.coap_world.specs.Done.{NeverFailed}
+use Rattle.coap_world.proofs.Reports.AppliedRequest.{Applied, applied_in, same_sending, same_asked, same_verdict}
+use Rattle.coap_world.proofs.Reports.AppliedRequest.{handed_few}
+use Rattle.coap_world.proofs.Reports.Codes.{applied_by, fails_none}
+use Rattle.coap_world.proofs.Reports.HandedOnce.{once_same, once_either, never, HandsIt, ServesIt, handed_once}
+use Rattle.coap_world.proofs.Reports.HandedOnce.{served_once}
+use Rattle.coap_world.proofs.Reports.LastAnswered.{FailsBy, same_last}
+use Rattle.coap_world.proofs.Reports.Located.{LaterAll, Origin, origin_of, brought_served, server_later}
 
--- what happens once only: two accounts of it are of one entry
-once_same : {E : Type 0} (P Q R : List E → E → Type 0) → (t : List E) → Always (λ past e. P past e → Sometime P past → ⊥) t → Sometime (λ past e. P past e × Q past e) t → Sometime (λ past e. P past e × R past e) t
-    → Sometime (λ past e. Q past e × R past e) t
-once_same P Q R [] law a b = a
-once_same P Q R (e ∷ past) law (inl a) (inl b) = inl (a.1, b.1)
-once_same P Q R (e ∷ past) law (inl a) (inr b) = absurd (law.0 a.0 (Sometime_map (λ past e. P past e × R past e) P (λ t x h. h.0) past b))
-once_same P Q R (e ∷ past) law (inr a) (inl b) = absurd (law.0 b.0 (Sometime_map (λ past e. P past e × Q past e) P (λ t x h. h.0) past a))
-once_same P Q R (e ∷ past) law (inr a) (inr b) = inr (once_same P Q R past law.1 a b)
+-- a block that is taken is not refused
 
-once_either : {E : Type 0} (P Q : List E → E → Type 0) → (t : List E) → Sometime (λ past e. P past e ⊎ Q past e) t → Sometime P t ⊎ Sometime Q t
-once_either P Q [] h = inl h
-once_either P Q (e ∷ past) (inl (inl h)) = inl (inl h)
-once_either P Q (e ∷ past) (inl (inr h)) = inr (inl h)
-once_either P Q (e ∷ past) (inr h) = elim (once_either P Q past h) [ inl p ↦ inl (inr p) | inr q ↦ inr (inr q) ]
+ruled : (v : BlockVerdict) (x y : Took) (code : ℕ) → took_by v x ≡ Some y → refusal_by v ≡ Some code → ⊥
+ruled (ruling.Refuse why) x y code h k = cc h
+ruled (ruling.Join size) x y code h k = cc k
+ruled ruling.Done x y code h k = cc k
 
--- what holds at each entry, where something happened
-at_each : {E : Type 0} (A P Q : List E → E → Type 0) → ((past : List E) (e : E) → A past e → P past e → Q past e) → (t : List E) → Always A t → Sometime P t → Sometime Q t
-at_each A P Q f [] law h = h
-at_each A P Q f (e ∷ past) law (inl h) = inl (f past e law.0 h)
-at_each A P Q f (e ∷ past) law (inr h) = inr (at_each A P Q f past law.1 h)
+judged : (uploads : AssemblyState) (at : ℕ) (a : Asked) (v : Verdict) (y : Took) (code : ℕ) → taken_by uploads at a v ≡ Some y → refusal_of uploads at a v ≡ Some code → ⊥
+judged uploads at a Ignored y code h k = cc h
+judged uploads at a (Refused n) y code h k = cc h
+judged uploads at a (Asks q) y code h k = cc h
+judged uploads at a (Uploads q b) y code h k = ruled (ruling_of uploads at a q b) (took a q b) y code h k
 
-never : {E : Type 0} (P : List E → E → Type 0) → ((past : List E) (e : E) → P past e → ⊥) → (t : List E) → Sometime P t → ⊥
-never P f [] h = h
-never P f (e ∷ past) (inl h) = f past e h
-never P f (e ∷ past) (inr h) = never P f past h
+not_both : (s : S.Own) (c : S.Call) (y : Took) (code : ℕ) → takes_block s c ≡ Some y → refusal_in s c ≡ Some code → ⊥
+not_both s (S.Feeds now from bytes word up (Some p) h below) y code t r = judged s.uploads (max s.clock now) p.0 (verdict_on s.szx p.1) y code t r
+not_both s (S.Feeds now from bytes word up None h below) y code t r = cc t
+not_both s (S.Sets now path format body answer left) y code t r = cc t
+not_both s (S.Removes now path answer left) y code t r = cc t
+not_both s (S.Delays path ms answer) y code t r = cc t
+not_both s (S.Gets path answer) y code t r = cc t
+not_both s (S.TellsApplied answer) y code t r = cc t
+not_both s (S.Ticks now word below room d passed h id answer) y code t r = cc t
+not_both s (S.NextOut answer) y code t r = cc t
 
--- in one call a request comes to one thing
-abbrev brought_in : S.Call → Option Message
-brought_in (S.Feeds now from bytes word up (Some p) h below) = Some p.1
-brought_in c = None
+get_is : (m : Method) (b : Bool) → (is_get m && b) ≡ true → m ≡ Get
+get_is Get b h = refl
+get_is Post b h = absurd (cc h)
+get_is Put b h = absurd (cc h)
+get_is Delete b h = absurd (cc h)
 
-one_brought : (m n : Message) → Some m ≡ Some n → m ≡ n
-one_brought m n h = cc h
+-- the request that is refused in a call, and what it comes to
+record RefusedIn (limit szx word : ℕ) (past : List S.Call) (c : S.Call) (a : Asked) : Type 0 where
+  verdict : Verdict
+  comes : Comes limit szx word past c a verdict
+  uploads : AssemblyState
+  at : ℕ
+  code : ℕ
+  refuses_so : refusal_of uploads at a verdict ≡ Some code
 
-one_outcome : (limit szx word : ℕ) (a : Asked) (v w : Verdict) (past : List S.Call) (c : S.Call) → Comes limit szx word a v past c × Comes limit szx word a w past c → v ≡ w
-one_outcome limit szx word a v w past c k =
-    let same : k.0.message ≡ k.1.message = one_brought k.0.message k.1.message (sym (ap brought_in k.0.brings.is) ∙ ap brought_in k.1.brings.is) in
-    sym k.0.verdict ∙ (ap (verdict_on szx) same ∙ k.1.verdict)
+refused_in : (limit szx word : ℕ) (past : List S.Call) (c : S.Call) (a : Asked) (code : ℕ) → Rattle.coap_ends.specs.ServerSide.ServerLaw.ServerLaw limit szx word (c ∷ past)
+    → hands c ≡ Some a → refusal_in (own_of limit szx past) c ≡ Some code → RefusedIn limit szx word past c a
+refused_in limit szx word past (S.Feeds now from bytes w up (Some p) h below) a code law is refuses_so =
+    let s : S.Own = own_of limit szx past in
+    let same : p.0 ≡ a = cc is in
+    record {
+      verdict = verdict_on szx p.1;
+      comes = subst (λ z. Comes limit szx word past (S.Feeds now from bytes w up (Some p) h below) z (verdict_on szx p.1)) same (comes_here limit szx word past now from bytes w up p h below law);
+      uploads = s.uploads;
+      at = max s.clock now;
+      code = code;
+      refuses_so = ap (λ z. refusal_of s.uploads (max s.clock now) z (verdict_on szx p.1)) (sym same) ∙ (ap (λ n. refusal_of s.uploads (max s.clock now) p.0 (verdict_on n p.1)) (sym (szx_is limit szx past)) ∙ refuses_so);
+    }
+refused_in limit szx word past (S.Feeds now from bytes w up None h below) a code law is refuses_so = absurd (cc is)
+refused_in limit szx word past (S.Sets now path format body answer left) a code law is refuses_so = absurd (cc is)
+refused_in limit szx word past (S.Removes now path answer left) a code law is refuses_so = absurd (cc is)
+refused_in limit szx word past (S.Delays path ms answer) a code law is refuses_so = absurd (cc is)
+refused_in limit szx word past (S.Gets path answer) a code law is refuses_so = absurd (cc is)
+refused_in limit szx word past (S.TellsApplied answer) a code law is refuses_so = absurd (cc is)
+refused_in limit szx word past (S.Ticks now w below room d passed h id answer) a code law is refuses_so = absurd (cc is)
+refused_in limit szx word past (S.NextOut answer) a code law is refuses_so = absurd (cc is)
 
--- .. and it comes but once
-hands_it : (limit szx word : ℕ) (a : Asked) (v : Verdict) (past : List S.Call) (c : S.Call) → Comes limit szx word a v past c → hands c ≡ Some a × Comes limit szx word a v past c
-hands_it limit szx word a v past c k = (ap hands k.brings.is, k)
+-- what is known wherever it happens
+known_so : {E : Type 0} (P : List E → E → Type 0) (X : Type 0) → (t : List E) → Sometime (λ past e. P past e × X) t → X
+known_so P X [] h = absurd h
+known_so P X (e ∷ past) (inl h) = h.1
+known_so P X (e ∷ past) (inr h) = known_so P X past h
 
-module _ (limit szx : ℕ) (a : Asked) where
-  at_least : (t : List S.Call) → Sometime (λ past c. hands c ≡ Some a) t → 1 ≤ times_handed limit szx a t
-  at_least [] h = absurd h
-  at_least (c ∷ t) (inl h) = let e : hits (same_asked a) (hands c) ≡ hits (same_asked a) (Some a) = ap (λ o. hits (same_asked a) o) h in let f = self_hits a in omega (arith, e, f)
-  at_least (c ∷ t) (inr h) = let k = at_least t h in omega (arith, k)
+-- only a block is both refused without the store and asked of it
+uploads_it : (uploads : AssemblyState) (at : ℕ) (a : Asked) (code : ℕ) (v : Verdict) → Final v → refusal_of uploads at a v ≡ Some code → (q : Question) × (b : _) × (v ≡ Uploads q b)
+uploads_it uploads at a code Ignored final h = absurd final
+uploads_it uploads at a code (Refused n) final h = absurd final
+uploads_it uploads at a code (Asks q) final h = absurd (cc h)
+uploads_it uploads at a code (Uploads q b) final h = (q, b, refl)
 
-  handed_once : (t : List S.Call) → times_handed limit szx a t ≤ 1 → Always (λ past c. hands c ≡ Some a → Sometime (λ past c. hands c ≡ Some a) past → ⊥) t
-  handed_once [] few = tt
-  handed_once (c ∷ t) few = (
-    λ h before.
-        let e : hits (same_asked a) (hands c) ≡ hits (same_asked a) (Some a) = ap (λ o. hits (same_asked a) o) h in
-        let f = self_hits a in
-        let k = at_least t before in
-        omega (arith, few, e, f, k),
-    handed_once t (omega (arith, few)),
-  )
+module _ (config : Config) (number : ℕ) (all : List Entry) (small : config.client_szx ≤ 6) (whole : Lawful config all) (in_range : (x : Taken) → WasTaken x (client_of all) → IsRequest x.request) where
+  abbrev Later : List Entry → Type 0
+  Later t = LaterAll config number all small whole in_range t
 
-  counted_in : (word : ℕ) (t : List S.Call) → Counted limit szx word t → times_handed limit szx a t ≤ ups a (layer_of limit szx word t)
-  counted_in word [] h = omega arith
-  counted_in word (c ∷ t) h = h.0 a
+  -- the report of a failure, the answer that it is of, and whose answer that is
+  record FailsSo (code : ℕ) (t : List Entry) : Type 0 where
+    message : Message
+    sending : Sending
+    of : call_of sending.operation ≡ Some number
+    token : sending.token ≡ message.token
+    code_is : message.code ≡ code
+    means : Fails sending.operation code
+    there : Sometime (FailsBy config.client_szx number code sending) (client_of t)
+    answered : Sometime (AnswersAt config message) t
 
-module _ (config : Config) (all : List Entry) (number : ℕ) where
-  -- the request with this outcome is served here
-  abbrev Outcome : Bool → List Entry → Entry → Type 0
-  Outcome applied past e = (x : Serving) × ServesAt config x past e × (is_applied x.reply.code ≡ applied)
+  fails_here : (code : ℕ) (w : List Entry) (c : C.Call) → Lawful config (OfClient c ∷ w) → ReportsAt config (record { number = number; report = C.Failed code }) w (OfClient c) → FailsSo code (OfClient c ∷ w)
+  fails_here code w c law made =
+      let t : List Entry = OfClient c ∷ w in
+      let r = (reports_codes server_end config.client_szx config.client_word (client_of t) law.client).0.failed number code made in
+      record {
+        message = r.message;
+        sending = r.heard.sending;
+        of = r.heard.of_call;
+        token = r.heard.token;
+        code_is = r.code_is;
+        means = r.means;
+        there = inl (made, r.last);
+        answered = inr ((all_answered config t law).0 r.message r.heard.heard);
+      }
 
-  abbrev Serves : Bool → List Entry → Entry → Type 0
-  Serves applied past e = ServesFor config number all past e × Outcome applied past e
+  client_later : (P : List C.Call → C.Call → Type 0) (e : Entry) (w : List Entry) → Sometime P (client_of w) → Sometime P (client_of (e ∷ w))
+  client_later P (OfClient c) w h = inr h
+  client_later P (OfServer c) w h = h
 
-  not_both : (past : List Entry) (e : Entry) → Outcome false past e × Outcome true past e → ⊥
-  not_both past (OfClient c) h = h.0.1
-  not_both past (OfServer c) h =
-      let a = h.0.1 in
-      let b = h.1.1 in
-      let same : h.0.0 ≡ h.1.0 = cc (a, b) in
-      let one = ap (λ (x : Serving). is_applied x.reply.code) same in
-      let no = h.0.2 in
-      let yes = h.1.2 in
-      cc (one, no, yes)
+  fails_in : (code : ℕ) (t : List Entry) → Lawful config t → Sometime (ReportsAt config (record { number = number; report = C.Failed code })) t → FailsSo code t
+  fails_in code [] law h = absurd h
+  fails_in code (OfServer c ∷ w) law (inl h) = absurd h
+  fails_in code (OfClient c ∷ w) law (inl h) = fails_here code w c law h
+  fails_in code (e ∷ w) law (inr h) =
+      let k = fails_in code w (lawful_back config w e law) h in
+      record {
+        message = k.message;
+        sending = k.sending;
+        of = k.of;
+        token = k.token;
+        code_is = k.code_is;
+        means = k.means;
+        there = client_later (FailsBy config.client_szx number code k.sending) e w k.there;
+        answered = inr k.answered;
+      }
 
-  -- a request of the call is handed up, with this outcome
-  record HasOutcome (v : Verdict) : Type 0 where
-    pub sending : Sending
-    pub sent : WasSent sending (client_of all)
-    pub number_is : sending.operation.number ≡ number
-    pub asked : Asked
-    pub from : asked.from ≡ client_end
-    pub token : sending.token ≡ asked.token
-    pub handed : IsHanded config asked v all
+  module _ (a : Applied config number all small whole in_range all) (m : Message) (token : a.request.asked.token ≡ m.token) where
+    abbrev it : Asked
+    it = a.request.asked
 
-  abbrev IsRefused : Type 0
-  IsRefused = (code : ℕ) × HasOutcome (Refused code)
+    abbrev last : Sending
+    last = a.known.sending
 
-  abbrev IsAsked : Type 0
-  IsAsked = (question : Question) × HasOutcome (Asks question)
+    own_token : it.token ≡ last.token
+    own_token = ap (λ (z : Asked). z.token) a.known.asked
 
-  -- The one request of the call is handed up once, so it has one outcome.
-  module _ (law : Lawful config all) (cons : OneCon (near_of (hops_in config all))) (nons : NoNons (near_of (hops_in config all))) where
-    abbrev hops : List Hop
-    hops = hops_in config all
+    -- what is handed up under that token is this request
+    is_it : (b : Asked) (v : Verdict) → Origin config number all small whole in_range b v → b.token ≡ m.token → b ≡ it
+    is_it b v o same = same_asked config number all small whole in_range last a.known.sent a.known.of_call b it v a.verdict o a.comes (same ∙ (sym token ∙ own_token)) own_token
 
-    found : (v : Verdict) (k : HasOutcome v) → Found client_end server_end Any k.asked hops
-    found v k =
-        let m = server_facts.message_in config.limit config.server_szx config.server_word k.asked v (server_trace config all) k.handed in
-        find config.client_word config.server_word client_end server_end Any k.asked k.from hops law.channel nons (up_of config Any all k.asked m.0 v tt m.1)
+    comes_so : (b : Asked) (v : Verdict) → Origin config number all small whole in_range b v → b.token ≡ m.token → v ≡ a.verdict
+    comes_so b v o same = same_verdict config number all small whole in_range last a.known.sent a.known.of_call b it v a.verdict o a.comes (same ∙ (sym token ∙ own_token)) own_token
 
-    same_asked_of : (v w : Verdict) (k : HasOutcome v) (l : HasOutcome w) → k.sending.token ≡ l.sending.token → k.asked ≡ l.asked
-    same_asked_of v w k l same =
-        let f = found v k in
-        let g = found w l in
-        let token : f.message.token ≡ g.message.token = sym (ap (λ (a : Asked). a.token) f.asked) ∙ (sym k.token ∙ (same ∙ (l.token ∙ ap (λ (a : Asked). a.token) g.asked))) in
-        let con = cons f.con g.con f.begun_before g.begun_before f.message g.message f.are_bytes g.are_bytes f.spells g.spells token in
-        let message = one_message f.con.bytes f.message g.message f.are_bytes f.spells (subst (λ (c : Open). Spells c.bytes g.message) (sym con) g.spells) in
-        f.asked ∙ (ap (asked_of client_end) message ∙ sym g.asked)
+    abbrev ServedSo : List S.Call → S.Call → Type 0
+    ServedSo past c = (x : Serving) × (serving (own_of config.limit config.server_szx past) c ≡ Some x) × (x.reply.code ≡ m.code)
 
-    once : (a : Asked) → a.from ≡ client_end → Always (λ past c. hands c ≡ Some a → Sometime (λ past c. hands c ≡ Some a) past → ⊥) (server_trace config all)
-    once a from =
-        let few = once_counted a hops (up_once config.client_word config.server_word client_end server_end a from hops law.channel nons (of_one a.token (near_of hops) cons)) in
-        let same = ap (ups a) (far_is config all) in
-        let as_often = counted_in config.limit config.server_szx a config.server_word (server_trace config all) (server_facts.counts config.limit config.server_szx config.server_word (server_trace config all) law.server) in
-        handed_once config.limit config.server_szx a (server_trace config all) (omega (arith, few, same, as_often))
+    abbrev RefusedSo : List S.Call → S.Call → Type 0
+    RefusedSo past c = (code : ℕ) × (refusal_in (own_of config.limit config.server_szx past) c ≡ Some code)
 
-    one_outcome_of : (v w : Verdict) (k : HasOutcome v) (l : HasOutcome w) → k.sending.token ≡ l.sending.token → v ≡ w
-    one_outcome_of v w k l same =
-        let a : Asked = k.asked in
-        let t : List S.Call = server_trace config all in
-        let C = Comes config.limit config.server_szx config.server_word a in
-        let H = λ (past : List S.Call) (c : S.Call). hands c ≡ Some a in
-        let there = Sometime_map (C v) (λ past c. H past c × C v past c) (hands_it config.limit config.server_szx config.server_word a v) t k.handed in
-        let here = Sometime_map (C w) (λ past c. H past c × C w past c) (hands_it config.limit config.server_szx config.server_word a w) t (subst (λ z. IsHanded config z w all) (sym (same_asked_of v w k l same)) l.handed) in
-        forget (v ≡ w) t
-        (Ever_of_Sometime (λ past c. C v past c × C w past c) (λ c. v ≡ w) (λ past c z. inl (one_outcome config.limit config.server_szx config.server_word a v w past c z)) t
-        (once_same H (C v) (C w) t (once a k.from) there here))
+    -- the request is served with the code, or its block is refused
+    abbrev Outcome : List S.Call → S.Call → Type 0
+    Outcome past c =
+        (ServesIt config.limit config.server_szx it past c × ServedSo past c)
+        ⊎ ((HandsIt config.limit config.server_szx it past c × RefusedSo past c) × ((q : Question) × (b : _) × (a.verdict ≡ Uploads q b)))
 
-    not_asked : OneSending (client_of all) → IsRefused → IsAsked → ⊥
-    not_asked one r a =
-        let same : r.1.sending ≡ a.1.sending = one.of_last r.1.sending a.1.sending r.1.sent a.1.sent (r.1.number_is ∙ sym a.1.number_is) (client_facts.each_last r.1.sending.role) (client_facts.each_last a.1.sending.role) in
-        let e : Refused r.0 ≡ Asks a.0 = one_outcome_of (Refused r.0) (Asks a.0) r.1 a.1 (ap (λ (s : Sending). s.token) same) in
-        cc e
-
-  module _ (law : Lawful config all) (one : OneSending (client_of all)) where
-    -- the request of a call that is reported as failed is served so that it changes nothing, or is refused
-    fails : (code : ℕ) (past : List Entry) (e : Entry) → Reporting config number (Failed code) all past e → Serves false past e ⊎ IsRefused
-    fails code past e r = by r.answers
+    -- a request of the call that changes something is no registration
+    none_made : (o : Observer) (w : List Entry) → Later w → Lawful config w → o.to ≡ client_end → o.token ≡ m.token → WasMade config.limit config.server_szx (server_trace config w) o → ⊥
+    none_made o [] later law to same h = none_begun (config.delays) h
       where
-        s : Sending
-        s = r.sending
+        none_begun : (ds : List S.Delay) → WasMade config.limit config.server_szx (map (λ (d : S.Delay). S.Delays d.path d.ms true) ds) o → ⊥
+        none_begun [] h = h
+        none_begun (d ∷ ds) (inl h) = let here = h.made.here in cc here
+        none_begun (d ∷ ds) (inr h) = none_begun ds h
+    none_made o (OfClient c ∷ w) later law to same h = none_made o w (later_back config number all small whole in_range (OfClient c) w later) (lawful_back config w (OfClient c) law) to same h
+    none_made o (OfServer c ∷ w) later law to same (inr h) = none_made o w (later_back config number all small whole in_range (OfServer c) w later) (lawful_back config w (OfServer c) law) to same h
+    none_made o (OfServer c ∷ w) later law to same (inl k) =
+        let h = k.made in
+        let x : Serving = h.request in
+        let b = brought_served config number all small whole in_range w c later law x h.here (h.from ∙ to) in
+        let sending : b.origin.sending ≡ last =
+        same_sending config number all small whole in_range last a.known.sent a.known.of_call x.asked b.verdict b.origin (h.token_is ∙ (same ∙ (sym token ∙ own_token)))
+        in
+        let code : (request_of b.origin.con.id b.origin.sending).code ≡ (method_code a.known.request.method).0 = ap (λ (z : Sending). z.request.code) sending ∙ ap (λ r. r.code) a.known.message in
+        let methods : Some x.question.method ≡ Some a.known.request.method = sym b.method ∙ (ap method_of code ∙ method_is a.known.request.method) in
+        let method : x.question.method ≡ a.known.request.method = cc methods in
+        let get : x.question.method ≡ Get = get_is x.question.method _ h.observe in
+        subst Changes (sym method ∙ get) a.known.change
 
-        earlier : PartOf config all past
-        earlier = part_back config all past e r.part
+    outcome_here : (w : List Entry) (c : S.Call) → Later (OfServer c ∷ w) → Lawful config (OfServer c ∷ w) → IsAnswer config m (server_trace config w) c → Outcome (server_trace config w) c
+    outcome_here w c later law (replies x is r) =
+        let b = brought_served config number all small whole in_range w c later law x is r.to_client in
+        inl ((x, is, is_it x.asked b.verdict b.origin r.token_is), (x, is, sym r.code))
+    outcome_here w c later law (continues x size is more asks r) =
+        let t : List Entry = OfServer c ∷ w in
+        let k = (server_facts.blocks config.limit config.server_szx config.server_word (server_trace config t) law.server).0 x is in
+        let v : Verdict = Uploads k.question k.block in
+        let o = origin_of config number all small whole in_range w (OfServer c) later x.asked v (law.came.0 x.asked v k.comes r.to_client) in
+        let final : Final v = subst Final (sym (comes_so x.asked v o r.token_is)) a.final in
+        let not_more : x.part.more ≡ false = ap (λ (z : Took). z.part.more) k.is ∙ final in
+        absurd (cc (more, not_more))
+    outcome_here w c later law (refuses b v code comes handed none is r) =
+        let t : List Entry = OfServer c ∷ w in
+        let k = refused_in config.limit config.server_szx config.server_word (server_trace config w) c b code law.server handed is in
+        let o = origin_of config number all small whole in_range w (OfServer c) later b k.verdict (law.came.0 b k.verdict k.comes r.to_client) in
+        let same = comes_so b k.verdict o r.token_is in
+        let u = uploads_it k.uploads k.at b k.code a.verdict a.final (ap (refusal_of k.uploads k.at b) (sym same) ∙ k.refuses_so) in
+        inr ((handed ∙ ap (λ z. Some z) (is_it b k.verdict o r.token_is), (code, is)), u)
+    outcome_here w c later law (notifies o reply here made shows so) =
+        absurd (none_made o w (later_back config number all small whole in_range (OfServer c) w later) (lawful_back config w (OfServer c) law) so.to_client so.token_is made)
 
-        right : (past : List Entry) (e : Entry) → Lawful config (e ∷ past) → (x : Serving) → ServesAt config x past e → is_applied x.reply.code ≡ applied_by x.question.method x.reply.code
-        right past (OfClient c) law x h = absurd h
-        right past (OfServer c) law x h =
-            let k = (all_served config.limit config.server_szx (server_trace config (OfServer c ∷ past)) law.server.rows).0.serves x h in reply_right x.old k.0 x.question x.reply x.left k.1
+    outcome_in : (t : List Entry) → Later t → Lawful config t → Sometime (AnswersAt config m) t → Sometime Outcome (server_trace config t)
+    outcome_in [] later law h = absurd h
+    outcome_in (OfClient c ∷ w) later law (inl h) = absurd h
+    outcome_in (OfServer c ∷ w) later law (inl h) = inl (outcome_here w c later law h)
+    outcome_in (e ∷ w) later law (inr h) = server_later config Outcome e w (outcome_in w (later_back config number all small whole in_range e w later) (lawful_back config w e law) h)
 
-        by : Answers config r.message past e → Serves false past e ⊎ IsRefused
-        by (inl k) =
-            let same = came_is config all one number (Failed code) past e r k in
-            let is : k.came.sending.operation.number ≡ number = ap (λ (x : Sending). x.operation.number) same ∙ r.number_is in
-            let token : k.came.sending.token ≡ k.request.asked.token = sym (ap (λ (a : Asked). a.token) k.came.asked) in
-            let asked = asked_by config.server_szx k.came.con.id k.came.sending k.request (is_asked config.server_szx (request_of k.came.con.id k.came.sending) k.request.question (verdict_of config _ _ _ _ k.came)) in
-            let method : k.request.question.method ≡ s.operation.request.method = asked.method ∙ ap (λ (x : Sending). x.operation.request.method) same in
-            let none : applied_by s.operation.request.method r.message.code ≡ false = failed_is s.operation.request.method r.message code (sym r.report_is) in
-            let so : applied_by k.request.question.method k.request.reply.code ≡ false = ap (λ m. applied_by m k.request.reply.code) method ∙ (ap (applied_by s.operation.request.method) (sym k.code) ∙ none) in
-            inl (
-              record { request = k.request; here = k.here; from = k.from; belongs = sent_for all k.came.sending number k.request.asked.token (earlier.sent k.came.sending k.came.sent) is token },
-              (k.request, k.here, right past e r.part.law k.request k.here ∙ so),
-            )
-        by (inr k) =
-            let sent = earlier.sent k.came.sending k.came.sent in
-            let same = one_is config all one s k.came.sending r.message.token r.sent sent r.token k.token in
-            inr (
-              r.message.code,
-              record {
-                sending = k.came.sending;
-                sent = sent;
-                number_is = ap (λ (x : Sending). x.operation.number) same ∙ r.number_is;
-                asked = k.asked;
-                from = k.from;
-                token = sym (ap (λ (a : Asked). a.token) k.came.asked);
-                handed = r.part.handed k.asked (Refused r.message.code) k.handed;
-              },
-            )
+    -- the failure is that of this request
+    module _ (code : ℕ) (code_is : m.code ≡ code) (means : Fails last.operation code) where
+      abbrev t : List S.Call
+      t = server_trace config all
 
-    -- what is applied for the call is asked
-    asked_here : (past : List Entry) (e : Entry) → PartOf config all (e ∷ past) × CamesFrom config (e ∷ past) → AppliesFor config number all past e → IsAsked
-    asked_here past (OfClient c) l a = absurd a.here
-    asked_here past (OfServer c) l a =
-        let e : Entry = OfServer c in
-        let t : List S.Call = server_trace config (e ∷ past) in
-        let up = (server_facts.handed config.limit config.server_szx config.server_word t l.0.law.server).0 a.request a.here in
-        let came : CameFrom config past e a.request.asked (Asks a.request.question) = l.1.0 a.request a.here a.from in
-        let sent = (part_back config all past e l.0).sent came.sending came.sent in
-        let token : came.sending.token ≡ a.request.asked.token = sym (ap (λ (k : Asked). k.token) came.asked) in
-        let same = one.of_token came.sending a.belongs.0 sent a.belongs.1 (token ∙ sym a.belongs.3) (client_facts.each_own came.sending.role) (client_facts.each_own a.belongs.0.role) in (
-          a.request.question,
-          record {
-            sending = came.sending;
-            sent = sent;
-            number_is = ap (λ (x : Sending). x.operation.number) same ∙ a.belongs.2;
-            asked = a.request.asked;
-            from = a.from;
-            token = token;
-            handed = l.0.handed a.request.asked (Asks a.request.question) up;
-          },
-        )
+      few : times_handed config.limit config.server_szx it t ≤ 1
+      few = handed_few config number all small whole in_range last a.known.sent a.known.of_call it a.from own_token
 
-    is_asked_for : CamesFrom config all → Sometime (AppliesFor config number all) all → IsAsked
-    is_asked_for came h =
-        forget IsAsked all (Ever_of_Sometime (λ past e. IsAsked) (λ e. IsAsked) (λ past e k. inl k) all
-        (by_suffix (λ t. PartOf config all t × CamesFrom config t) (AppliesFor config number all) (λ past e. IsAsked) (λ past e l. (part_back config all past e l.0, l.1.1)) asked_here all (whole config all law, came) h))
+      abbrev AppliedSo : List S.Call → S.Call → Type 0
+      AppliedSo past c = serving (own_of config.limit config.server_szx past) c ≡ Some a.request
 
-    failing : (code : ℕ) → Sometime (ReportsAt (record { number = number; report = Failed code })) all → Sometime (λ past e. Serves false past e ⊎ IsRefused) all
-    failing code h =
-        let R : List Entry → Entry → Type 0 = Reporting config number (Failed code) all in
-        Sometime_map R (λ past e. Serves false past e ⊎ IsRefused) (fails code) all
-        (Sometime_of_Sometime (λ past e. Sometime R past) R (λ past e k. inr k) all
-        (at_each (λ past e. ReportsAt (record { number = number; report = Failed code }) past e → Sometime R past) (ReportsAt (record { number = number; report = Failed code })) (λ past e. Sometime R past) (λ past e f k. f k) all
-        (each_reporting config number (Failed code) all refl all (whole config all law)) h))
+      failed_so : applied_by a.known.request.method code ≡ false
+      failed_so =
+          fails_none config.client_szx number (record a.known.request { body = [] }) a.known.request.body code a.known.request.method a.known.transfer a.known.carries (sym (ap is_last a.known.operation) ∙ a.known.last)
+          (subst (λ o. Fails o code) a.known.operation means)
 
-    neither : OneCon (near_of (hops_in config all)) → NoNons (near_of (hops_in config all)) → CamesFrom config all → Always (λ past e. ServesFor config number all past e → Sometime (ServesFor config number all) past → ⊥) all → Sometime (AppliesFor config number all) all
-        → Sometime (Serves false) all ⊎ Sometime (λ past e. IsRefused) all → ⊥
-    neither cons nons came most applied (inl h) =
-        never (λ past e. Outcome false past e × Outcome true past e) not_both all
-        (once_same (ServesFor config number all) (Outcome false) (Outcome true) all most h
-        (Sometime_map (AppliesFor config number all) (Serves true) (λ past e a. (applies_serves config number all past e a, (a.request, a.here, a.applied))) all applied))
-    neither cons nons came most applied (inr h) = not_asked law cons nons one (forget IsRefused all (Ever_of_Sometime (λ past e. IsRefused) (λ e. IsRefused) (λ past e k. inl k) all h)) (is_asked_for came applied)
+      served_both : (past : List S.Call) (c : S.Call) → ServedSo past c × AppliedSo past c → ⊥
+      served_both past c h =
+          let x : Serving = h.0.0 in
+          let same : x ≡ a.request = (let e : Some x ≡ Some a.request = sym h.0.1 ∙ h.1 in cc e) in
+          let reply : a.request.reply.code ≡ code = ap (λ (z : Serving). z.reply.code) (sym same) ∙ (h.0.2 ∙ code_is) in
+          let yes : applied_by a.known.request.method code ≡ true = ap (applied_by a.known.request.method) (sym reply) ∙ (ap (λ n. applied_by n a.request.reply.code) (sym a.known.method) ∙ a.right) in
+          cc (yes, failed_so)
 
-pub never_failed : (config : Config) (all : List Entry) → Lawful config all → OneSending (client_of all) → OneCon (near_of (hops_in config all)) → NoNons (near_of (hops_in config all)) → CamesFrom config all
-    → ((number : ℕ) → Always (λ past e. ServesFor config number all past e → Sometime (ServesFor config number all) past → ⊥) all) → NeverFailed config all
-never_failed config all law one cons nons came most number code failed applied =
-    neither config all number law one cons nons came (most number) applied (once_either (Serves config all number false) (λ past e. IsRefused config all number) all (failing config all number law one code failed))
+      none_served : Sometime (λ past c. ServesIt config.limit config.server_szx it past c × ServedSo past c) t → ⊥
+      none_served h =
+          let S1 = ServesIt config.limit config.server_szx it in
+          let once = served_once config.limit config.server_szx it t (server_facts.served config.limit config.server_szx config.server_word t whole.server) few in
+          let applied = Sometime_map AppliedSo (λ past c. S1 past c × AppliedSo past c) (λ past c k. ((a.request, k, refl), k)) t a.served in
+          never (λ past c. ServedSo past c × AppliedSo past c) served_both t (once_same S1 ServedSo AppliedSo t once h applied)
+
+      abbrev TakenSo : List S.Call → S.Call → Type 0
+      TakenSo past c = (y : Took) × (takes_block (own_of config.limit config.server_szx past) c ≡ Some y)
+
+      none_refused : Sometime (λ past c. HandsIt config.limit config.server_szx it past c × RefusedSo past c) t → (q : Question) (b : _) → a.verdict ≡ Uploads q b → ⊥
+      none_refused h q b is =
+          let once = handed_once config.limit config.server_szx it t few in
+          never (λ past c. RefusedSo past c × TakenSo past c) (λ past c k. not_both (own_of config.limit config.server_szx past) c k.1.0 k.0.0 k.1.1 k.0.1) t
+          (once_same (HandsIt config.limit config.server_szx it) RefusedSo TakenSo t once h (a.took q b is))
+
+      none_applied : Sometime Outcome t → ⊥
+      none_applied h =
+          let P = λ (past : List S.Call) (c : S.Call). ServesIt config.limit config.server_szx it past c × ServedSo past c in
+          let R = λ (past : List S.Call) (c : S.Call). HandsIt config.limit config.server_szx it past c × RefusedSo past c in
+          let U : Type 0 = (q : Question) × (b : _) × (a.verdict ≡ Uploads q b) in
+          elim (once_either P (λ past c. R past c × U) t h) [
+            | inl served ↦ none_served served
+            | inr refused ↦ (let u = known_so R U t refused in none_refused (Sometime_map (λ past c. R past c × U) R (λ past c k. k.0) t refused) u.0 u.1 u.2)
+          ]
+
+  fails_not : (code : ℕ) → FailsSo code all → Applied config number all small whole in_range all → ⊥
+  fails_not code f a =
+      let y : Sending = a.known.sending in
+      let same : y ≡ f.sending = same_last config.client_szx server_end config.client_word number code f.sending y f.of a.known.of_call a.known.last (client_of all)
+      (client_facts.order server_end config.client_szx config.client_word (client_of all) whole.client) (client_facts.none_after server_end config.client_szx config.client_word (client_of all) whole.client) f.there a.known.sent
+      in
+      let token : a.request.asked.token ≡ f.message.token = ap (λ (z : Asked). z.token) a.known.asked ∙ (ap (λ (z : Sending). z.token) same ∙ f.token) in
+      none_applied a f.message token code f.code_is (subst (λ (z : Sending). Fails z.operation code) (sym same) f.means) (outcome_in a f.message token all (λ x h. h, λ con h. h, λ x h. h) whole f.answered)
+
+pub never_failed : (config : Config) (all : List Entry) → config.client_szx ≤ 6 → Lawful config all → ((x : Taken) → WasTaken x (client_of all) → IsRequest x.request) → NeverFailed config all
+never_failed config all small law in_range number code failed applied =
+    fails_not config number all small law in_range code (fails_in config number all small law in_range code all law failed) (applied_in config number all small law in_range all (λ x h. h, λ con h. h, λ x h. h) law applied)

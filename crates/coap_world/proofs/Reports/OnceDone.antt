@@ -1,105 +1,79 @@
--- Where success is reported, a request of the call was applied since the call; a body that is reported was held since.
-use Rattle.std.proofs.Common.{◌≡◌, inl, inr, ℕ, true, false, Option, Some, List, [], ◌∷◌, refl, ap, sym, subst, ◌∙◌}
+-- Where success is reported, a request of the call was applied since the call.
+use Rattle.std.proofs.Common.{◌≡◌, ◌≤◌, inl, inr, ℕ, true, false, Some, List, [], ◌∷◌, refl, ap, sym, ◌∙◌}
 use Rattle.coap_types.specs.Past.{Sometime, Always}
-use Rattle.coap_types.proofs.Facts.Traces.{Sometime_map}
 use Rattle.coap_codec.specs.Message.{Message}
-use Rattle.coap_resource.specs.Content.{Held}
-use Rattle.coap_types.specs.OptionValues.{has}
 use Rattle.coap_exchange.specs.declared.answerer.Asked.{Asked}
-use Rattle.coap_ends.specs.Follows.ClientFollows.{Sending}
-use Rattle.coap_ends.specs.ClientReports.{content, said}
-use Rattle.coap_types.specs.declared.option_number.TheConstants.{BLOCK2 as block2}
-use Rattle.coap_ends.specs.Follows.ClientSendings.{OneSending}
-use Rattle.coap_ends.specs.ClientTrace.{Body, Done, Report}
-use Rattle.coap_ends.specs.Follows.ServerFollows.{is_applied}
-use Rattle.coap_ends.specs.Follows.ServerShows.{Shows}
-use Rattle.coap_ends.proofs.Facts.OfServer as server_facts
-use Rattle.coap_world.proofs.Requests.CameFrom.{verdict_of}
-use Rattle.coap_world.specs.Agrees.{AppliesSince, OnceDone, HeldSince, EachHeld}
-use Rattle.coap_world.specs.Words.{ReportsAt, last_at}
-use Rattle.coap_world.specs.CameFrom.{request_of}
-use Rattle.coap_world.specs.Events.{Config}
+use Rattle.coap_ends.specs.ClientSide.ClientOrder.{call_of}
+use Rattle.coap_ends.specs.ClientSide.ClientTrace as C
+use Rattle.coap_ends.specs.ClientSide.ClientWords.{Taken, WasTaken, Sending}
+use Rattle.coap_ends.specs.ServerSide.ServerLaw.{own_of}
+use Rattle.coap_ends.specs.ServerSide.ServerServing.{is_applied}
+use Rattle.coap_ends.specs.ServerSide.ServerTrace as S
+use Rattle.coap_ends.proofs.Facts.OfClient as client_facts
+use Rattle.coap_world.specs.Answers.{IsAnswer, replies, continues, refuses, notifies, AnswersAt}
+use Rattle.coap_world.specs.Events.{server_end, Config}
+use Rattle.coap_world.specs.Legal.{IsRequest}
 use Rattle.coap_world.specs.Record.{Entry, OfClient, OfServer, client_of, server_trace}
-use Rattle.coap_world.proofs.Reports.Answered.{Answers, IsReply}
-use Rattle.coap_world.proofs.Reports.Codes.{done_is, IsBody, body_is, refusal_code, not_applied, not_content}
-use Rattle.coap_world.proofs.Reports.PartsOfARecord.{Lawful, part_back, whole}
-use Rattle.coap_world.proofs.Requests.ReadBack.{is_asked}
-use Rattle.coap_world.proofs.Reports.ReportsAreOfRequests.{Reporting, each_reporting, was_called, one_is, sent_for}
-use Rattle.coap_world.proofs.Requests.AppliedWhole.{asked_by}
+use Rattle.coap_world.specs.Words.{ReportsAt}
+use Rattle.coap_world.proofs.Reports.Answered.{all_answered}
+use Rattle.coap_world.proofs.Requests.LastRequests.{of_call_at}
+use Rattle.coap_world.proofs.Requests.OfACall.{Lawful, lawful_back, later_back, one_sending}
+use Rattle.coap_ends.proofs.Facts.OfClientCalls.{reports_codes}
+use Rattle.coap_world.specs.Done.{AppliesSince, OnceDone}
+use Rattle.coap_world.proofs.Reports.Codes.{succeeds_applied, refusal_none, notice_none}
+use Rattle.coap_world.proofs.Reports.Located.{LaterAll, SentAll, brought_served}
 
--- at each entry of a trace, what follows from what holds there
-pub always_so : {E : Type 0} (P Q R : List E → E → Type 0) → ((past : List E) (e : E) → Q past e → R past e) → (t : List E) → Always (λ past e. P past e → Sometime Q past) t → Always (λ past e. P past e → Sometime R past) t
-always_so P Q R f [] h = tt
-always_so P Q R f (e ∷ past) h = (λ p. Sometime_map Q R f past (h.0 p), always_so P Q R f past h.1)
+module _ (config : Config) (number : ℕ) (all : List Entry) (small : config.client_szx ≤ 6) (whole : Lawful config all) (in_range : (x : Taken) → WasTaken x (client_of all) → IsRequest x.request) where
+  abbrev Later : List Entry → Type 0
+  Later t = LaterAll config number all small whole in_range t
 
-module _ (config : Config) (all : List Entry) (one : OneSending (client_of all)) where
-  -- the sending of what is served here is that of the call
-  pub came_is : (number : ℕ) (report : Report) (past : List Entry) (e : Entry) (r : Reporting config number report all past e) (k : IsReply config r.message past e) → k.came.sending ≡ r.sending
-  came_is number report past e r k =
-      one_is config all one r.sending k.came.sending r.message.token r.sent ((part_back config all past e r.part).sent k.came.sending k.came.sent) r.token k.token
+  -- the answer to a request of the call
+  module _ (m : Message) (s : Sending) (sent : SentAll config number all small whole in_range s) (of : call_of s.operation ≡ Some number) (token : s.token ≡ m.token) (success : is_applied m.code ≡ true) where
+    not_this : (code : ℕ) → m.code ≡ code → is_applied code ≡ false → ⊥
+    not_this code is none = let e : is_applied code ≡ true = ap is_applied (sym is) ∙ success in cc (e, none)
 
-  module _ (number code : ℕ) (past : List Entry) (e : Entry) (r : Reporting config number (Done code) all past e) where
-    done : is_applied r.message.code ≡ true
-    done = done_is r.sending.operation.request.method r.message code (sym r.report_is)
-
-    done_by : Answers config r.message past e → AppliesSince config number all past e
-    done_by (inl k) =
-        let earlier = part_back config all past e r.part in
-        let s : Sending = k.came.sending in
-        let is : s.operation.number ≡ number = ap (λ (x : Sending). x.operation.number) (came_is number (Done code) past e r k) ∙ r.number_is in
-        let token : s.token ≡ k.request.asked.token = sym (ap (λ (a : Asked). a.token) k.came.asked) in
+    applies_here : (w : List Entry) (c : S.Call) → Later (OfServer c ∷ w) → Lawful config (OfServer c ∷ w) → IsAnswer config m (server_trace config w) c → AppliesSince config number all w (OfServer c)
+    applies_here w c later law (replies x is r) =
+        let k = brought_served config number all small whole in_range w c later law x is r.to_client in
+        let y : Sending = k.origin.sending in
+        let y_token : y.token ≡ x.asked.token = sym (ap (λ (a : Asked). a.token) k.origin.asked) in
+        let same : y ≡ s = one_sending config number all small whole in_range y s k.origin.sent sent of (y_token ∙ (r.token_is ∙ sym token)) in
+        let of_it : call_of y.operation ≡ Some number = ap (λ (z : Sending). call_of z.operation) same ∙ of in
+        let g = of_call_at config.client_szx (client_of w) (client_facts.of_calls config.client_szx (client_of w)) y number k.before of_it in
         record {
           applies = record {
-            request = k.request;
-            here = k.here;
-            applied = subst (λ n. is_applied n ≡ true) k.code done;
-            from = k.from;
-            belongs = sent_for all s number k.request.asked.token (earlier.sent s k.came.sent) is token;
+            request = x;
+            here = is;
+            applied = ap is_applied (sym r.code) ∙ success;
+            from = r.to_client;
+            belongs = (s, sent, of, token ∙ sym r.token_is);
           };
-          request = s.operation.request;
-          called = was_called config past s number earlier.law k.came.sent is;
+          request = g.request;
+          called = g.taken;
         }
-    done_by (inr k) = absurd (not_applied r.message.code (refusal_code config.server_szx (request_of k.came.con.id k.came.sending) r.message.code (verdict_of config _ _ _ _ k.came)) done)
+    applies_here w c later law (continues x size is more asks r) = absurd (not_this 95 r.code refl)
+    applies_here w c later law (refuses a v code comes handed none is r) = absurd (not_this code r.code (refusal_none (own_of config.limit config.server_szx (server_trace config w)) c code is))
+    applies_here w c later law (notifies o reply here made shows so) = absurd (not_this _ so.code (notice_none o.szx ((own_of config.limit config.server_szx (server_trace config w)).store.holds o.path) _ shows))
 
-  -- what a reply shows was held at the path of the call
-  shown : (past : List Entry) (e : Entry) → Lawful config (e ∷ past) → (m : Message) (k : IsReply config m past e) → m.code ≡ content → has block2 (said m) ≡ false
-      → Shows config.limit config.server_szx k.request.question.path m (server_trace config (e ∷ past))
-  shown past (OfClient c) law m k code none = absurd k.here
-  shown past (OfServer c) law m k code none =
-      (server_facts.shows config.limit config.server_szx config.server_word (server_trace config (OfServer c ∷ past)) law.server law.formats).0 k.request m k.here (sym k.code ∙ code) k.says k.payload none
+    applies_in : (w : List Entry) → Later w → Lawful config w → Sometime (AnswersAt config m) w → Sometime (AppliesSince config number all) w
+    applies_in [] later law h = h
+    applies_in (OfClient c ∷ w) later law (inl h) = absurd h
+    applies_in (OfServer c ∷ w) later law (inl h) = inl (applies_here w c later law h)
+    applies_in (e ∷ w) later law (inr h) = inr (applies_in w (later_back config number all small whole in_range e w later) (lawful_back config w e law) h)
 
-  module _ (number : ℕ) (tag : Option (List ℕ)) (format : Option ℕ) (body : List ℕ) (past : List Entry) (e : Entry) (r : Reporting config number (Body tag format body) all past e) where
-    reported : IsBody r.sending.operation.request.method r.message tag format body
-    reported = body_is r.message tag format body r.sending.operation.request.method (sym r.report_is)
+  module _ (code : ℕ) where
+    done_here : (w : List Entry) (c : C.Call) → Later (OfClient c ∷ w) → Lawful config (OfClient c ∷ w) → ReportsAt config (record { number = number; report = C.Done code }) w (OfClient c) → Sometime (AppliesSince config number all) w
+    done_here w c later law made =
+        let t : List Entry = OfClient c ∷ w in
+        let r = (reports_codes server_end config.client_szx config.client_word (client_of t) law.client).0.done number code made in
+        let before = later_back config number all small whole in_range (OfClient c) w later in
+        applies_in r.message r.heard.sending (before.0 r.heard.sending r.heard.sent) r.heard.of_call r.heard.token (ap is_applied r.code_is ∙ succeeds_applied r.heard.sending.operation code r.means) w before (lawful_back config w (OfClient c) law)
+        ((all_answered config t law).0 r.message r.heard.heard)
 
-    held_by : Answers config r.message past e → HeldSince config number tag format body past e
-    held_by (inl k) =
-        let earlier = part_back config all past e r.part in
-        let s : Sending = k.came.sending in
-        let is : s.operation.number ≡ number = ap (λ (x : Sending). x.operation.number) (came_is number (Body tag format body) past e r k) ∙ r.number_is in
-        let b = shown past e r.part.law r.message k reported.code reported.whole in
-        let h : Held = b.held in
-        let same : h ≡ record { version = h.version; format = format; body = body }
-        = ap {B = Held} (λ f. record { version = h.version; format = f; body = h.body }) (sym b.format ∙ reported.format_is)
-        ∙ ap {B = Held} (λ y. record { version = h.version; format = format; body = y }) (sym b.body ∙ reported.body_is)
-        in
-        let asked = asked_by config.server_szx k.came.con.id s k.request (is_asked config.server_szx (request_of k.came.con.id s) k.request.question (verdict_of config _ _ _ _ k.came)) in
-        record {
-          request = s.operation.request;
-          called = was_called config past s number earlier.law k.came.sent is;
-          version = h.version;
-          tag_is = sym reported.tag_is ∙ b.tag;
-          held = subst (λ p. last_at config p (e ∷ past) ≡ Some (record { version = h.version; format = format; body = body })) asked.path
-              (b.is_held ∙ ap (λ x. Some x) same);
-        }
-    held_by (inr k) = absurd (not_content r.message.code (refusal_code config.server_szx (request_of k.came.con.id k.came.sending) r.message.code (verdict_of config _ _ _ _ k.came)) reported.code)
+    done_in : (t : List Entry) → Later t → Lawful config t → Always (λ past e. ReportsAt config (record { number = number; report = C.Done code }) past e → Sometime (AppliesSince config number all) past) t
+    done_in [] later law = tt
+    done_in (OfClient c ∷ w) later law = (λ made. done_here w c later law made, done_in w (later_back config number all small whole in_range (OfClient c) w later) (lawful_back config w (OfClient c) law))
+    done_in (OfServer c ∷ w) later law = (λ made. absurd made, done_in w (later_back config number all small whole in_range (OfServer c) w later) (lawful_back config w (OfServer c) law))
 
-pub once_done : (config : Config) (all : List Entry) → Lawful config all → OneSending (client_of all) → OnceDone config all
-once_done config all law one number code =
-    always_so (ReportsAt (record { number = number; report = Done code })) (Reporting config number (Done code) all) (AppliesSince config number all)
-    (λ past e r. done_by config all one number code past e r r.answers) all (each_reporting config number (Done code) all refl all (whole config all law))
-
-pub each_held : (config : Config) (all : List Entry) → Lawful config all → OneSending (client_of all) → EachHeld config all
-each_held config all law one number tag format body =
-    always_so (ReportsAt (record { number = number; report = Body tag format body })) (Reporting config number (Body tag format body) all) (HeldSince config number tag format body)
-    (λ past e r. held_by config all one number tag format body past e r r.answers) all (each_reporting config number (Body tag format body) all refl all (whole config all law))
+pub once_done : (config : Config) (all : List Entry) → config.client_szx ≤ 6 → Lawful config all → ((x : Taken) → WasTaken x (client_of all) → IsRequest x.request) → OnceDone config all
+once_done config all small law in_range number code = done_in config number all small law in_range code all (λ x h. h, λ con h. h, λ x h. h) law

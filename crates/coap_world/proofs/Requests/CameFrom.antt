@@ -1,36 +1,35 @@
--- A request from the client's address that is served is the request of a call.
-use Rattle.std.proofs.Common.{◌≡◌, ◌<◌, inl, inr, ℕ, true, Some, List, [], ◌∷◌, ◌++◌, map, refl, ap, sym, subst, ◌∙◌, arith}
-use Rattle.coap_types.specs.Past.{Ever, Sometime}
-use Rattle.coap_types.proofs.Facts.Traces.{Ever_map, Ever_of_Sometime, forget}
+-- A request from the client's address that is handed up is one that the client sent.
+use Rattle.std.proofs.Common.{◌≡◌, ◌<◌, inl, inr, ℕ, true, Some, List, [], ◌∷◌, ◌++◌, map, refl, ap, sym, subst, ◌∙◌}
+use Rattle.std.proofs.Common.{◌+◌, length, arith}
+use Rattle.std.proofs.lemmas.List.{length-append}
+use Rattle.coap_types.specs.Past.{Ever}
+use Rattle.coap_types.proofs.Facts.Traces.{Ever_map}
 use Rattle.coap_types.specs.declared.endpoint.Endpoint.{Endpoint}
 use Rattle.coap_types.specs.declared.message.Kind.TheVariants.{Con}
 use Rattle.coap_types.specs.Bytes.{AreBytes}
 use Rattle.coap_codec.specs.Message.{Message, Spells}
-use Rattle.coap_codec.proofs.Facts.EveryDatagram.{one_message}
-use Rattle.coap_layer.specs.Channel.{Hop, Near, Far, near_of, far_of, OnFar, ChannelLaw, HandedBy, HandsUpAs, PlainSent, BegunAs}
-use Rattle.coap_layer.specs.Trace as T
+use Rattle.coap_layer.specs.Channel.{Hop, Near, Far, near_of, far_of, OnFar, ChannelLaw, HandedBy, HandsUpAs, PlainSent}
+use Rattle.coap_layer.specs.Channel.{BegunAs}
 use Rattle.coap_layer.specs.Words.{Open, begun, handed, handed_in, Incoming}
-use Rattle.coap_layer.proofs.Facts.Laws.{handed_spelled}
-use Rattle.coap_layer.proofs.Facts.Hops.{earlier, to_far}
-use Rattle.coap_layer.proofs.Facts.Laws.{begun_as, nons_sent}
+use Rattle.coap_layer.proofs.Facts.Laws.{handed_spelled, begun_as, nons_sent}
+use Rattle.coap_layer.proofs.Facts.Hops.{earlier}
 use Rattle.coap_exchange.specs.declared.answerer.Asked.{Asked}
 use Rattle.coap_exchange.specs.AnswererSteps.{asked_of}
-use Rattle.coap_ends.specs.ClientTrace as C
-use Rattle.coap_ends.specs.Follows.ClientBegins.{IsRequestOf}
-use Rattle.coap_ends.specs.ClientLaw.{ClientLaw}
 use Rattle.coap_ends.specs.Follows.ClientSendings.{SendsNon, NoNons}
-use Rattle.coap_ends.specs.ServerTrace as S
-use Rattle.coap_ends.specs.ServerChecks.{Verdict, Asks, verdict_on}
-use Rattle.coap_ends.specs.Follows.ServerHands.{HandsUp, Comes, ComesAs, AreHandedUp}
-use Rattle.coap_ends.specs.ServerLaw.{ServerLaw}
-use Rattle.coap_ends.proofs.Facts.OfClient as client_facts
-use Rattle.coap_ends.proofs.Facts.OfServer as server_facts
-use Rattle.coap_world.specs.CameFrom as W
-use Rattle.coap_world.specs.CameFrom.{IsChannel, CameFrom, CamesFrom}
+use Rattle.coap_codec.proofs.Facts.EveryDatagram.{one_message}
+use Rattle.coap_ends.specs.ClientSide.ClientBegins.{IsRequestOf}
+use Rattle.coap_ends.specs.ClientSide.ClientLaw.{ClientLaw}
+use Rattle.coap_ends.specs.ClientSide.ClientWords.{Sending}
+use Rattle.coap_ends.specs.ServerSide.Follows.ServerBrings.{HandsUp, Comes}
+use Rattle.coap_ends.specs.ServerSide.ServerChecks.{Verdict, verdict_on}
+use Rattle.coap_world.specs.CameFrom.{request_of, IsChannel, CameFrom, CamesFrom}
 use Rattle.coap_world.specs.Events.{client_end, server_end, Config}
-use Rattle.coap_world.specs.Hops.{hops_in, client_adds, server_adds}
+use Rattle.coap_world.specs.Hops.{hops_at, hops_in, server_adds}
 use Rattle.coap_world.specs.Record.{Entry, OfClient, OfServer, client_of, server_trace}
-use Rattle.coap_world.proofs.Delivery.HopsAreEntries.{near_is, far_is}
+use Rattle.coap_world.proofs.Delivery.HopsAreEntries.{near_far, near_is, server_next}
+use Rattle.coap_layer.specs.Trace as T
+use Rattle.coap_ends.specs.ServerSide.ServerTrace as S
+use Rattle.coap_ends.proofs.Facts.OfClient as client_facts
 
 -- a request of this is handed up
 pub record UpOf (V : Message → Type 0) (a : Asked) (e : T.Entry) : Type 0 where
@@ -143,87 +142,69 @@ pub channel_back : (one other : ℕ) (near far : Endpoint) (later past : List Ho
 channel_back one other near far [] past law = law
 channel_back one other near far (h ∷ later) past law = channel_back one other near far later past (earlier one other near far (later ++ past) h law)
 
+-- equal lists in front of one list are equal
+pub same_front : {A : Type 0} (xs ys zs : List A) → xs ++ zs ≡ ys ++ zs → xs ≡ ys
+same_front [] [] zs h = refl
+same_front [] (y ∷ ys) zs h = let k = ap length h in let n = length-append ys zs in absurd (omega (arith, k, n))
+same_front (x ∷ xs) [] zs h = let k = ap length h in let n = length-append xs zs in absurd (omega (arith, k, n))
+same_front (x ∷ xs) (y ∷ ys) zs h =
+    let head : x ≡ y = cc h in
+    let tail : xs ++ zs ≡ ys ++ zs = cc h in
+    ap (λ z. z ∷ xs) head ∙ ap (λ l. y ∷ l) (same_front xs ys zs tail)
+
 -- a CON of a request has one message
-same_request : (con : Open) (m : Message) (to : Endpoint) (t : List C.Call) (r : IsRequestOf to con t) → AreBytes con.bytes → Spells con.bytes m → con.id ≡ m.id → m ≡ W.request_of con.id r.request
-same_request con m to t r are s id =
+pub same_request : (con : Open) (m : Message) (x : Sending) → IsRequestOf server_end con x → AreBytes con.bytes → Spells con.bytes m → con.id ≡ m.id → m ≡ request_of con.id x
+same_request con m x r are s id =
     let low = s.id in
     let small : con.id < 65536 = omega (arith, low, id) in
-    one_message con.bytes m (W.request_of con.id r.request) are s (subst (λ z. Spells z (W.request_of con.id r.request)) (sym r.bytes) (r.spelled Con con.id small))
-
--- what is said of a message is said of an equal one
-spells_so : (bytes : List ℕ) (m n : Message) → m ≡ n → Spells bytes m → Spells bytes n
-spells_so bytes m n is h = subst (Spells bytes) is h
-
-asked_so : (a : Asked) (m n : Message) → m ≡ n → a ≡ asked_of client_end m → a ≡ asked_of client_end n
-asked_so a m n is h = h ∙ ap (asked_of client_end) is
-
-comes_so : (limit szx word : ℕ) (a : Asked) (v : Verdict) (k m n : Message) (t : List S.Call) → m ≡ k → m ≡ n → Sometime (ComesAs limit szx word a k v) t → Sometime (ComesAs limit szx word a n v) t
-comes_so limit szx word a v k m n t same is h = subst (λ x. Sometime (ComesAs limit szx word a x v) t) (sym same ∙ is) h
-
--- what it came to
-pub verdict_of : (config : Config) (past : List Entry) (e : Entry) (a : Asked) (v : Verdict) → (k : CameFrom config past e a v) → verdict_on config.server_szx (W.request_of k.con.id k.sending) ≡ v
-verdict_of config past e a v k =
-    let m : Message = W.request_of k.con.id k.sending in
-    let t : List S.Call = server_trace config (e ∷ past) in
-    forget (verdict_on config.server_szx m ≡ v) t
-    (Ever_of_Sometime (ComesAs config.limit config.server_szx config.server_word a m v) (λ c. verdict_on config.server_szx m ≡ v)
-    (λ before c z. inl (subst (λ n. verdict_on config.server_szx n ≡ v) z.1 z.0.verdict)) t k.comes)
+    one_message con.bytes m (request_of con.id x) are s (subst (λ z. Spells z (request_of con.id x)) (sym r.bytes) (r.spelled _ con.id small))
 
 module _ (config : Config) where
   abbrev pub FromClient : List Entry → Type 0
   FromClient t = ClientLaw server_end config.client_szx config.client_word (client_of t)
 
-  abbrev OfLayer : List Entry → Type 0
-  OfLayer t = AreHandedUp config.limit config.server_szx config.server_word (server_trace config t)
+  -- what a call of the server hands up is in the entries that it adds
+  pub handed_there : (past : List S.Call) (c : S.Call) (a : Asked) (v : Verdict) → Comes config.limit config.server_szx config.server_word past c a v → Ever (HandsUp config.server_szx a v) (server_adds config past c)
+  handed_there past c a v k = subst (Ever (HandsUp config.server_szx a v)) (same_front k.news (server_adds config past c) _ (sym k.is ∙ server_next config past c)) k.here
 
-  -- what comes so is handed up by the server's layer
-  pub up_of : (V : Message → Type 0) (t : List Entry) (a : Asked) (m : Message) (v : Verdict) → V m → Sometime (ComesAs config.limit config.server_szx config.server_word a m v) (server_trace config t)
-      → Ever (OnFar (UpOf V a)) (hops_in config t)
-  up_of V t a m v is h =
-      let layer = subst (Ever (HandsUp a m)) (sym (far_is config t)) (server_facts.up_in_layer config.limit config.server_szx config.server_word a m v (server_trace config t) h) in
-      to_far (UpOf V a) (hops_in config t)
-      (Ever_map (HandsUp a m) (UpOf V a) (λ e u. record { message = m; bytes = u.bytes; call = u.call; answer = u.answer; asked_is = u.asked_is; verdict = is }) (far_of (hops_in config t)) layer)
+  abbrev pub Says : Verdict → Message → Type 0
+  Says v m = verdict_on config.server_szx m ≡ v
 
-  -- what is handed up of the client's address, with this verdict
   pub came_here : (past : List Entry) (c : S.Call) → IsChannel config (OfServer c ∷ past) → FromClient past → (a : Asked) (v : Verdict)
-      → Sometime (Comes config.limit config.server_szx config.server_word a v) (server_trace config (OfServer c ∷ past)) → a.from ≡ client_end → CameFrom config past (OfServer c) a v
+      → Comes config.limit config.server_szx config.server_word (server_trace config past) c a v → a.from ≡ client_end → CameFrom config past (OfServer c) a v
   came_here past c law own a v up from =
-      let e : Entry = OfServer c in
-      let k = server_facts.message_in config.limit config.server_szx config.server_word a v (server_trace config (e ∷ past)) up in
-      let V = λ (n : Message). n ≡ k.0 in
-      let hops = up_of V (e ∷ past) a k.0 v refl k.1 in
-      let none = subst NoNons (sym (near_is config (e ∷ past))) (client_facts.nons server_end config.client_word (client_of past)) in
-      let f = find config.client_word config.server_word client_end server_end V a from (hops_in config (e ∷ past)) law none hops in
-      let layer = subst (Ever (λ b. begun b ≡ Some f.con)) (near_is config (e ∷ past)) f.begun_before in
-      let r : IsRequestOf server_end f.con (client_of past) = client_facts.begins server_end config.client_szx config.client_word (client_of past) own f.con layer in
-      let request : Message = W.request_of f.con.id r.request in
-      let same = same_request f.con f.message server_end (client_of past) r f.are_bytes f.spells f.id in
+      let adds : List T.Entry = server_adds config (server_trace config past) c in
+      let ups = Ever_map (HandsUp config.server_szx a v) (UpOf (Says v) a) (λ e u. record { message = u.message; bytes = u.bytes; call = u.call; answer = u.answer; asked_is = u.asked_is; verdict = u.verdict }) adds
+      (handed_there (server_trace config past) c a v up)
+      in
+      let nons_past = client_facts.nons server_end config.client_szx config.client_word (client_of past) in
+      let none = subst NoNons (sym (near_far adds (hops_in config past) ∙ near_is config past)) nons_past in
+      let k = find_at config.client_word config.server_word client_end server_end (Says v) a from adds (hops_in config past) law none ups in
+      let f = k.0 in
+      let there = subst (Ever (λ b. begun b ≡ Some f.con)) (near_far adds (hops_in config past)) f.begun_before in
+      let r = client_facts.begins server_end config.client_szx config.client_word (client_of past) own f.con (subst (Ever (λ b. begun b ≡ Some f.con)) (near_is config past) there) in
+      let same = same_request f.con f.message r.0 r.2 f.are_bytes f.spells f.id in
       record {
-        sending = r.request;
-        sent = r.sent;
+        sending = r.0;
+        sent = r.1;
         con = f.con;
-        begun_before = subst (Ever (λ b. begun b ≡ Some f.con)) (sym (near_is config past)) layer;
-        to = f.to;
-        bytes = r.bytes;
+        begun_before = there;
+        is = r.2;
         are_bytes = f.are_bytes;
-        spells = spells_so f.con.bytes f.message request same f.spells;
-        arrived = f.arrived;
-        asked = asked_so a f.message request same f.asked;
-        comes = comes_so config.limit config.server_szx config.server_word a v k.0 f.message request (server_trace config (e ∷ past)) f.verdict same k.1;
+        spells = subst (Spells f.con.bytes) same f.spells;
+        arrives = k.1;
+        asked = f.asked ∙ ap (asked_of client_end) same;
+        verdict = subst (Says v) same f.verdict;
       }
 
-  all_came : (all : List Entry) → IsChannel config all → FromClient all → OfLayer all → CamesFrom config all
-  all_came [] law own up = tt
-  all_came (OfClient c ∷ past) law own up = (
-    λ x serves from. absurd serves,
-    all_came past (channel_back config.client_word config.server_word client_end server_end (map Near (client_adds config (client_of past) c)) (hops_in config past) law)
-        (client_facts.back server_end config.client_szx config.client_word (c ∷ []) (client_of past) own) up,
+  pub came_from : (all : List Entry) → IsChannel config all → FromClient all → CamesFrom config all
+  came_from [] law own = tt
+  came_from (OfClient c ∷ past) law own = (
+    λ a v comes from. absurd comes,
+    came_from past (channel_back config.client_word config.server_word client_end server_end (hops_at config past (OfClient c)) (hops_in config past) law)
+        (client_facts.back server_end config.client_szx config.client_word (c ∷ []) (client_of past) own),
   )
-  all_came (OfServer c ∷ past) law own up = (
-    λ x serves from. came_here past c law own x.asked (Asks x.question) (up.0 x serves) from,
-    all_came past (channel_back config.client_word config.server_word client_end server_end (map Far (server_adds config (server_trace config past) c)) (hops_in config past) law) own up.1,
+  came_from (OfServer c ∷ past) law own = (
+    λ a v comes from. came_here past c law own a v comes from,
+    came_from past (channel_back config.client_word config.server_word client_end server_end (hops_at config past (OfServer c)) (hops_in config past) law) own,
   )
-
-  pub came_from : (all : List Entry) → IsChannel config all → FromClient all → ServerLaw config.limit config.server_szx config.server_word (server_trace config all) → CamesFrom config all
-  came_from all law own far =
-      all_came all law own (server_facts.handed config.limit config.server_szx config.server_word (server_trace config all) far)

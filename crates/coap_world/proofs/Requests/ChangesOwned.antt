@@ -1,11 +1,15 @@
 -- What a path holds changes by a local change of it, or by the request to it that is applied there.
-use Rattle.std.proofs.Common.{◌≡◌, ◌⊎◌, inl, inr, Bool, true, false, Option, Some, None, List, [], ◌∷◌, ℕ, refl, ap, sym, subst, ◌∙◌, cond, ◌==◌}
+use Rattle.std.proofs.Common.{◌≡◌, ◌⊎◌, inl, inr, Bool, true, false, Option, Some, None, List, [], ◌∷◌, ℕ, refl, ap}
+use Rattle.std.proofs.Common.{sym, subst, ◌∙◌, cond, ◌==◌}
 use Rattle.coap_types.specs.Path.{same_path}
 use Rattle.coap_types.proofs.Facts.Paths.{same_path-decides}
 use Rattle.coap_resource.specs.Content.{Content}
-use Rattle.coap_ends.specs.ServerTrace.{Own, Call, Sets, Removes, Delays, Feeds, Ticks, NextOut}
-use Rattle.coap_ends.specs.ServerLaw.{own_of}
-use Rattle.coap_ends.specs.Follows.ServerFollows.{Serving, serving, Change, change, change_of, changed_by, held_then, ServesRight}
+use Rattle.coap_ends.specs.ServerSide.ServerTrace.{Own, Call, Sets, Removes, Delays, Feeds, Ticks, NextOut, Gets}
+use Rattle.coap_ends.specs.ServerSide.ServerTrace.{TellsApplied}
+use Rattle.coap_ends.specs.ServerSide.ServerLaw.{own_of}
+use Rattle.coap_ends.specs.ServerSide.Follows.ServerHolds.{Change, change, change_of, changed_by, held_then}
+use Rattle.coap_ends.specs.ServerSide.Follows.ServerHolds.{ServesRight}
+use Rattle.coap_ends.specs.ServerSide.Follows.ServerServes.{Serving, serving}
 use Rattle.coap_ends.proofs.Facts.OfServer.{all_served}
 use Rattle.coap_world.specs.Events.{Config}
 use Rattle.coap_world.specs.Holds.{ChangesLocally, AppliesTo, IsOwned, ChangesOwned}
@@ -40,7 +44,9 @@ module _ (config : Config) (past : List Entry) where
   owner (Removes now path answer left) right y h = inl (sym (path_of path own.store left y h))
   owner (Delays path ms answer) right y h = by_serving (Delays path ms answer) right _ refl y h h
   owner (Feeds now from bytes word up came w below) right y h = by_serving (Feeds now from bytes word up came w below) right _ refl y h h
-  owner (Ticks now word below room d w id answer) right y h = by_serving (Ticks now word below room d w id answer) right _ refl y h h
+  owner (Ticks now word below room d passed w id answer) right y h = by_serving (Ticks now word below room d passed w id answer) right _ refl y h h
+  owner (Gets path answer) right y h = by_serving (Gets path answer) right _ refl y h h
+  owner (TellsApplied answer) right y h = by_serving (TellsApplied answer) right _ refl y h h
   owner (NextOut answer) right y h = by_serving (NextOut answer) right _ refl y h h
 
   owned_by : (c : Call) → Right c → (path : List (List ℕ)) (o : Option Change) → change own c ≡ o → (held_then path o (last_at config path past) ≡ last_at config path past) ⊎ Owner path c

@@ -1,5 +1,6 @@
 -- A request of the client's address is handed up once at most, and so is applied once at most for each call.
-use Rattle.std.proofs.Common.{◌≡◌, ◌≤◌, inl, inr, ℕ, ◌+◌, Bool, true, false, Option, Some, None, List, [], ◌∷◌, refl, ap, sym, subst, ◌∙◌, cond, arith}
+use Rattle.std.proofs.Common.{◌≡◌, ◌≤◌, inl, inr, ℕ, ◌+◌, Bool, true, false, Option, Some, None, List, [], ◌∷◌, refl}
+use Rattle.std.proofs.Common.{ap, sym, subst, ◌∙◌, cond, arith}
 use Rattle.coap_types.specs.Past.{Ever, Always}
 use Rattle.coap_types.specs.declared.endpoint.Endpoint.{Endpoint}
 use Rattle.coap_types.specs.Bytes.{AreBytes}
@@ -12,7 +13,7 @@ use Rattle.coap_layer.proofs.Facts.Laws.{handed_once}
 use Rattle.coap_exchange.specs.declared.answerer.Asked.{Asked}
 use Rattle.coap_exchange.specs.AnswererFollows.{hits, same_asked}
 use Rattle.coap_exchange.specs.AnswererSteps.{asked_of, asked_in, handed_up}
-use Rattle.coap_ends.specs.Follows.ClientSendings.{NoNons, OneCon}
+use Rattle.coap_ends.specs.Follows.ClientSendings.{NoNons}
 use Rattle.coap_ends.specs.Follows.ServerCounts.{asked_at, ups}
 use Rattle.coap_ends.proofs.Facts.OfServer.{same_asked_is}
 use Rattle.coap_world.proofs.Requests.CameFrom.{UpOf, here, find, no_more}
@@ -88,9 +89,6 @@ abbrev pub OneConBy : List ℕ → List T.Entry → Type 0
 OneConBy token t =
     (a b : Open) → Ever (λ e. begun e ≡ Some a) t → Ever (λ e. begun e ≡ Some b) t → (x y : Message) → AreBytes a.bytes → AreBytes b.bytes → Spells a.bytes x → Spells b.bytes y → a.id ≡ x.id → b.id ≡ y.id
     → x.token ≡ token → y.token ≡ token → a ≡ b
-
-pub of_one : (token : List ℕ) (t : List T.Entry) → OneCon t → OneConBy token t
-of_one token t cons a b i j x y ab bb sa sb m n s k = cons a b i j x y ab bb sa sb (s ∙ sym k)
 
 module _ (one other : ℕ) (near far : Endpoint) (a : Asked) (from : a.from ≡ near) where
   one_more : (h : Hop) (past : List Hop) → OneConBy a.token (near_of (h ∷ past)) → OneConBy a.token (near_of past)

@@ -1,8 +1,8 @@
 -- What the server holds at each path is the last of its changes there.
 use Rattle.std.proofs.Common.{◌≡◌, ℕ, true, None, List, [], ◌∷◌, refl, map}
 use Rattle.coap_types.specs.Past.{Always}
-use Rattle.coap_ends.specs.ServerTrace as S
-use Rattle.coap_ends.specs.ServerLaw.{own_of, ServerRows}
+use Rattle.coap_ends.specs.ServerSide.ServerTrace as S
+use Rattle.coap_ends.specs.ServerSide.ServerLaw.{own_of, ServerRows}
 use Rattle.coap_ends.proofs.Facts.OfServer.{held_is, holds_changes}
 use Rattle.coap_world.specs.Events.{Config}
 use Rattle.coap_world.specs.Holds.{Holds, HoldsChanges}

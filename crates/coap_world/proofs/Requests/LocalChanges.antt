@@ -1,11 +1,12 @@
 -- A local change of the server does just what it answers.
-use Rattle.std.proofs.Common.{◌≡◌, ℕ, ◌+◌, max, Bool, Option, Some, None, List, [], ◌∷◌, length, refl, ap, sym, ◌∙◌, Result}
+use Rattle.std.proofs.Common.{◌≡◌, ℕ, ◌+◌, max, Bool, Option, Some, None, List, [], ◌∷◌, length, refl, ap, sym, ◌∙◌}
+use Rattle.std.proofs.Common.{Result}
 use Rattle.coap_resource.specs.Content.{Content, Held, Changes, put_refusal, later}
 use Rattle.coap_resource.specs.Rate.{rate_refusal}
 use Rattle.coap_resource.specs.declared.refusal.StoreRefusal.{StoreRefusal}
-use Rattle.coap_ends.specs.ServerTrace as S
-use Rattle.coap_ends.specs.ServerSteps.{SetsBy, RemovesBy}
-use Rattle.coap_ends.specs.ServerLaw.{own_of}
+use Rattle.coap_ends.specs.ServerSide.ServerTrace as S
+use Rattle.coap_ends.specs.ServerSide.ServerLocal.{SetsBy, RemovesBy}
+use Rattle.coap_ends.specs.ServerSide.ServerLaw.{own_of}
 use Rattle.coap_ends.proofs.Facts.OfServer.{version_is}
 use Rattle.coap_world.specs.Events.{Config}
 use Rattle.coap_world.specs.Local.{IsSame, SetsRight, RemovesRight, IsLocalRight, LocalRight}
@@ -89,7 +90,9 @@ right_here config past (OfServer (S.Removes now path answer left)) rows =
     removes_by config past (S.Removes now path answer left) left refl rows now path answer _ _ refl refl rows.0
 right_here config past (OfServer (S.Delays path ms answer)) rows = tt
 right_here config past (OfServer (S.Feeds now from bytes word up came w below)) rows = tt
-right_here config past (OfServer (S.Ticks now word below room d w id answer)) rows = tt
+right_here config past (OfServer (S.Ticks now word below room d passed w id answer)) rows = tt
+right_here config past (OfServer (S.Gets path answer)) rows = tt
+right_here config past (OfServer (S.TellsApplied answer)) rows = tt
 right_here config past (OfServer (S.NextOut answer)) rows = tt
 right_here config past (OfClient c) rows = tt
 

@@ -1,11 +1,13 @@
 -- Which events are legal, kind by kind.
 use Rattle.std.proofs.Common.{◌≡◌, ◌≤◌, ◌<◌, ℕ, ◌^◌, inl, inr, List, [], ◌∷◌, ap, arith}
 use Rattle.coap_types.specs.declared.endpoint.Endpoint.{Endpoint}
-use Rattle.coap_world.specs.Events.{Event, What, Calls, Sets, Removes, TickClient, TickServer, StrangerToServer, StrangerToClient}
-use Rattle.coap_world.specs.GoesOn.{MayHappen}
+use Rattle.coap_world.specs.Events.{Event, What, Calls, Observes, Cancels, Forgets, Sets, Removes, TickClient}
+use Rattle.coap_world.specs.Events.{TickServer, StrangerToServer, StrangerToClient}
 use Rattle.coap_types.specs.Path.{IsPath}
 use Rattle.coap_world.specs.Legal.{InRange, NotBefore, MayCome}
-use Rattle.coap_world.specs.LegalEvents.{May, at_with, Segments, CallsMay, SetsMay, RemovesMay, TicksMay, StrangersMay, DeliveriesMay, NoneFalls, NoneOver, NoneLonger, NoneBeyond}
+use Rattle.coap_world.specs.LegalEvents.{MayHappen, May, at_with, Segments, CallsMay, ObservesMay, EndsMay, SetsMay}
+use Rattle.coap_world.specs.LegalEvents.{RemovesMay, TicksMay, StrangersMay, DeliveriesMay, NoneFalls, NoneOver}
+use Rattle.coap_world.specs.LegalEvents.{NoneLonger, NoneBeyond}
 use Rattle.coap_world.specs.Record.{Turn}
 use Rattle.coap_world.proofs.Witness.NoneRuns.{events_of, newest}
 
@@ -21,7 +23,14 @@ path_in : (path : List (List ℕ)) → Segments path → IsPath path
 path_in path s = record { bounds = record { few = s.0; short = s.1 }; bytes = s.2 }
 
 pub calls_may : CallsMay
-calls_may r path accept format body = may (Calls r) (record { path = path_in r.path path; accept = accept; format = format; body = body }) (λ past at. tt)
+calls_may r path accept format body etags if_match =
+    may (Calls r) (record { path = path_in r.path path; format = format; body = body; etags = etags; if_match = if_match; accept = accept }) (λ past at. tt)
+
+pub observes_may : ObservesMay
+observes_may path segments = may (Observes path) (path_in path segments) (λ past at. tt)
+
+pub ends_may : EndsMay
+ends_may number small = (may (Cancels number) small (λ past at. tt), may (Forgets number) small (λ past at. tt))
 
 pub sets_may : SetsMay
 sets_may path format body segments small bytes = may (Sets path format body) (path_in path segments, small, bytes) (λ past at. tt)

@@ -46,7 +46,7 @@ numbered : (past : List Turn) (n : ℕ) (g : Given) → IsNumber n g past → Ev
 numbered past n g is = Ever_of_Sometime _ (λ h. h ≡ g) (λ before h k. inl k.0) (all_of given_in past) is
 
 pub not_after : NotAfter 100000
-not_after at late config turns made legal =
+not_after at r late config turns made legal =
     let n = newest turns _ _ made.events_are legal in
     let g = n.comes.0 in
     let early = not_later n.past 0 g n.legal (till n.past _ _ n.events_are) (numbered n.past 0 g n.comes.1) in

@@ -1,16 +1,21 @@
-use Rattle.coap_world.proofs.Requests.ServedRight.{served_right}
 use Rattle.coap_world.specs.Record.{entries_of}
-use Rattle.coap_world.proofs.Reports.Promised.{came, applied_whole, at_most_once}
+use Rattle.coap_world.proofs.Requests.CallsInRange.{in_range}
+use Rattle.coap_world.proofs.Uploads.AppliedWhole.{applied_whole}
+use Rattle.coap_world.proofs.Requests.Promised.{came, served, belongs, once, lawful}
 use Rattle.coap_world.proofs.laws.requests_law.Goals as goal
 
 pub returns-clause-came : goal.returns-clause-came
-returns-clause-came c config events turns run legal = came config events turns run legal.events
-
-pub returns-clause-whole : goal.returns-clause-whole
-returns-clause-whole c config events turns run legal = applied_whole config events turns run legal.events
+returns-clause-came c config events turns run legal = came config events turns run legal
 
 pub returns-clause-once : goal.returns-clause-once
-returns-clause-once c config events turns run legal = at_most_once config events turns run legal.events
+returns-clause-once c config events turns run legal = once config events turns run legal
+
+pub returns-clause-whole : goal.returns-clause-whole
+returns-clause-whole c config events turns run legal =
+    applied_whole config (entries_of turns) legal.range.client_szx (lawful config events turns run legal) (λ x h. in_range x turns run.made legal.events h)
+
+pub returns-clause-belongs : goal.returns-clause-belongs
+returns-clause-belongs c config events turns run legal = belongs config events turns run legal
 
 pub returns-clause-served : goal.returns-clause-served
-returns-clause-served c config events turns run legal = served_right config (entries_of turns) run.server
+returns-clause-served c config events turns run legal = served config events turns run legal

@@ -1,0 +1,189 @@
+-- What a client hears of an observation the server told before, in which call.
+use Rattle.std.proofs.Common.{◌≡◌, inl, inr, ℕ, true, Option, Some, None, List, [], ◌∷◌, ◌++◌, map, refl, ap, sym}
+use Rattle.std.proofs.Common.{subst, ◌∙◌, cond}
+use Rattle.coap_types.specs.Bytes.{AreBytes}
+use Rattle.coap_types.specs.Past.{Ever, Sometime, Always}
+use Rattle.coap_types.proofs.Facts.Traces.{by_law, Ever_map, Ever_of_Sometime}
+use Rattle.coap_types.specs.declared.message.Kind.TheVariants.{Con, Non, Ack}
+use Rattle.coap_codec.specs.Message.{Message, Spells}
+use Rattle.coap_layer.specs.Channel.{Hop, Near, Far, near_of, far_of, OnFar, ChannelLaw, HandedBy, HandsUpAs, PlainSent}
+use Rattle.coap_layer.specs.Channel.{OnFarThen, RepliesTo}
+use Rattle.coap_layer.specs.Sends.{PlainOut}
+use Rattle.coap_layer.specs.Trace as T
+use Rattle.coap_layer.specs.Words.{Open, begun, handed, handed_in, Incoming, is_kept}
+use Rattle.coap_layer.proofs.Arrivals.HandedAsSpelled.{acks_heard}
+use Rattle.coap_layer.proofs.Arrivals.ResponsesAreSpelled.{responses_spelled}
+use Rattle.coap_layer.proofs.Between.AcksAreReplies.{acks_replied}
+use Rattle.coap_layer.proofs.Facts.Hops.{earlier, far_ever}
+use Rattle.coap_layer.proofs.Facts.Laws.{begun_as, handed_spelled, nons_sent}
+use Rattle.coap_ends.specs.Follows.ClientHears.{Hears}
+use Rattle.coap_ends.specs.ClientSide.ClientResponses.{is_notification}
+use Rattle.coap_ends.specs.ClientSide.ClientTrace as C
+use Rattle.coap_ends.specs.ServerSide.ServerLaw.{layer_of}
+use Rattle.coap_ends.specs.ServerSide.ServerTrace as S
+use Rattle.coap_ends.specs.ServerSide.ServerAdds.{call_adds}
+use Rattle.coap_ends.specs.ServerSide.Follows.ServerTold.{TellsIn, ServesNon, TellsSent}
+use Rattle.coap_ends.proofs.Facts.OfServerCalls.{all_tell_sent}
+use Rattle.coap_world.specs.Events.{client_end, server_end, Config}
+use Rattle.coap_world.specs.Hops.{hops_in, across, client_adds}
+use Rattle.coap_world.specs.Record.{Entry, OfClient, client_of, server_trace}
+use Rattle.coap_world.proofs.Delivery.ChannelAcross.{near_across, channel_across}
+use Rattle.coap_world.proofs.Delivery.HopsAreEntries.{near_far, far_near}
+use Rattle.coap_world.proofs.Delivery.HopsAreEntries.{far_is}
+use Rattle.coap_world.proofs.Requests.OfACall.{Lawful}
+use Rattle.coap_world.proofs.Observations.Positions.{across_near, located}
+
+-- a CON is in the bytes of an entry of the near layer, and it is handed up here
+pub record ConHeard (m : Message) (adds : List T.Entry) (hs : List Hop) : Type 0 where
+  pub con : Open
+  pub begun_before : Ever (λ b. begun b ≡ Some con) (near_of hs)
+  pub to_is : con.to ≡ client_end
+  pub are : AreBytes con.bytes
+  pub spells : Spells con.bytes m
+  pub up : Ever (HandsUpAs server_end con) adds
+
+-- a NON was sent by the near layer, an acknowledgement given by the far one
+
+pub record NonHeard (m : Message) (hs : List Hop) : Type 0 where
+  pub bytes : List ℕ
+  pub are : AreBytes bytes
+  pub spells : Spells bytes m
+  pub sent : Ever (λ e. PlainOut e (record { to = client_end; bytes = bytes })) (near_of hs)
+
+pub record AckHeard (m : Message) (hs : List Hop) : Type 0 where
+  pub bytes : List ℕ
+  pub are : AreBytes bytes
+  pub spells : Spells bytes m
+  pub given : Ever (λ e. e.call ≡ T.Reply client_end m.id bytes) (far_of hs)
+
+module _ (one other : ℕ) (m : Message) where
+  module _ (past : List Hop) (x : T.Entry) (law : ChannelLaw one other server_end client_end (Far x ∷ past)) (h : Hears server_end m x) (kept : is_kept m.kind ≡ true) where
+    abbrev incoming : Incoming
+    incoming = record { from = server_end; message = m }
+
+    is_handed : handed x ≡ Some incoming
+    is_handed =
+        ap (λ c. handed_in c x.answer) h.call ∙ (ap (λ a. handed_in (T.Receive server_end h.bytes) a) h.answer
+        ∙ ap (λ b. elim (cond {A = Option Message} b (Some m) None) [ Some n ↦ Some (record { from = server_end; message = n }) | None ↦ None ]) kept)
+
+    handed_by : HandedBy x incoming
+    handed_by = (handed_spelled other (x ∷ far_of past) law.far_law).0 incoming is_handed
+
+  module _ (hs : List Hop) where
+    con_heard : (adds : List T.Entry) → ChannelLaw one other server_end client_end (map Far adds ++ hs) → Ever (Hears server_end m) adds → m.kind ≡ Con → ConHeard m adds hs
+    con_heard [] law h kind = absurd h
+    con_heard (x ∷ adds) law (inr h) kind =
+        let k = con_heard adds (earlier one other server_end client_end (map Far adds ++ hs) (Far x) law) h kind in
+        record { con = k.con; begun_before = k.begun_before; to_is = k.to_is; are = k.are; spells = k.spells; up = inr k.up }
+    con_heard (x ∷ adds) law (inl h) kind =
+        let past = map Far adds ++ hs in
+        let kept : is_kept m.kind ≡ true = ap is_kept kind in
+        let by = handed_by past x law h kept in
+        let b = begun_as one other server_end client_end past x by.bytes m law by.call by.spells kind in
+        record {
+          con = b.con;
+          begun_before = subst (Ever (λ e. begun e ≡ Some b.con)) (near_far adds hs) b.begun;
+          to_is = b.to_is;
+          are = subst AreBytes (sym b.bytes_are) by.are_bytes;
+          spells = subst (λ z. Spells z m) (sym b.bytes_are) by.spells;
+          up = inl (record { message = incoming past x law h kept; up = is_handed past x law h kept; from_is = refl; id_is = sym b.id_is; from = b.from; till = b.till });
+        }
+
+    non_heard : (adds : List T.Entry) → ChannelLaw one other server_end client_end (map Far adds ++ hs) → Ever (Hears server_end m) adds → m.kind ≡ Non → NonHeard m hs
+    non_heard [] law h kind = absurd h
+    non_heard (x ∷ adds) law (inr h) kind = non_heard adds (earlier one other server_end client_end (map Far adds ++ hs) (Far x) law) h kind
+    non_heard (x ∷ adds) law (inl h) kind =
+        let past = map Far adds ++ hs in
+        let kept : is_kept m.kind ≡ true = ap is_kept kind in
+        let by = handed_by past x law h kept in
+        let sent = (nons_sent one other server_end client_end (Far x ∷ past) law).0 x by.bytes m refl by.call by.spells kind in
+        record {
+          bytes = by.bytes;
+          are = by.are_bytes;
+          spells = by.spells;
+          sent = subst (Ever (λ e. PlainOut e (record { to = client_end; bytes = by.bytes }))) (near_far adds hs)
+              (Ever_map (PlainSent client_end by.bytes x.at) (λ e. PlainOut e (record { to = client_end; bytes = by.bytes })) (λ e p. p.goes) (near_of past) sent);
+        }
+
+    replies_there : (con : Open) (bytes : List ℕ) (past : List Hop) (h : Hop) → OnFarThen (RepliesTo client_end con bytes) past h → OnFar (λ b. b.call ≡ T.Reply client_end con.id bytes) h
+    replies_there con bytes past (Near e) k = absurd k
+    replies_there con bytes past (Far e) k = k.call
+
+    ack_heard : (adds : List T.Entry) → ChannelLaw one other client_end server_end (map Near adds ++ hs) → Ever (Hears server_end m) adds → m.kind ≡ Ack → AckHeard m hs
+    ack_heard [] law h kind = absurd h
+    ack_heard (x ∷ adds) law (inr h) kind = ack_heard adds (earlier one other client_end server_end (map Near adds ++ hs) (Near x) law) h kind
+    ack_heard (x ∷ adds) law (inl h) kind =
+        let past = map Near adds ++ hs in
+        let near = x ∷ near_of past in
+        let c = (responses_spelled one near law.near_law).0 m h.answer in
+        let a = (acks_heard one near law.near_law).0 server_end h.bytes m.id h.call (inr (m, h.answer, kind, refl)) in
+        let r = (acks_replied one other client_end server_end (Near x ∷ past) law).0 x a.0 refl a.1 a.3 in
+        let calls : T.Receive c.from c.bytes ≡ T.Receive a.0.to a.3.bytes = let p = c.call in let q = a.3.call in cc (p, q) in
+        let bytes : c.bytes ≡ a.3.bytes = cc calls in
+        let there = Ever_of_Sometime (OnFarThen (RepliesTo client_end a.0 a.3.bytes)) (OnFar (λ b. b.call ≡ T.Reply client_end a.0.id a.3.bytes)) (λ p e k. inl (replies_there a.0 a.3.bytes p e k)) past r in
+        let given = subst (Ever (λ b. b.call ≡ T.Reply client_end a.0.id a.3.bytes)) (far_near adds hs) (far_ever (λ b. b.call ≡ T.Reply client_end a.0.id a.3.bytes) past there) in
+        record {
+          bytes = c.bytes;
+          are = c.are_bytes;
+          spells = c.spells;
+          given = subst (λ z. Ever (λ b. b.call ≡ T.Reply client_end m.id z) (far_of hs)) (sym bytes) (subst (λ z. Ever (λ b. b.call ≡ T.Reply client_end z a.3.bytes) (far_of hs)) a.2 given);
+        }
+
+module _ (config : Config) where
+  abbrev pub trace : List Entry → List S.Call
+  trace t = server_trace config t
+
+  -- the server tells it in this CON
+  abbrev pub TellsCon : Open → Message → List S.Call → S.Call → Type 0
+  TellsCon con m past c = TellsIn config.limit config.server_szx (Some con.id) client_end m past c × Ever (λ b. begun b ≡ Some con) (call_adds config.limit config.server_szx config.server_word past c)
+
+  abbrev pub TellsAck : Message → List S.Call → S.Call → Type 0
+  TellsAck m past c = TellsIn config.limit config.server_szx None client_end m past c
+
+  module _ (past : List Entry) (c : C.Call) (law : Lawful config (OfClient c ∷ past)) (m : Message) (hears : Ever (Hears server_end m) (client_adds config (client_of past) c)) (note : is_notification m ≡ true) where
+    abbrev adds : List T.Entry
+    adds = client_adds config (client_of past) c
+
+    pub law_across : ChannelLaw config.server_word config.client_word server_end client_end (map Far adds ++ across (hops_in config past))
+    law_across =
+        subst (ChannelLaw config.server_word config.client_word server_end client_end) (across_near adds (hops_in config past))
+        (channel_across config.client_word config.server_word client_end server_end (hops_in config (OfClient c ∷ past)) law.channel)
+
+    near_there : near_of (across (hops_in config past)) ≡ layer_of config.limit config.server_szx config.server_word (trace past)
+    near_there = near_across (hops_in config past) ∙ far_is config past
+
+    abbrev Added : (T.Entry → Type 0) → List S.Call → S.Call → Type 0
+    Added P p b = Ever P (call_adds config.limit config.server_szx config.server_word p b)
+
+    told : Always (TellsSent config.limit config.server_szx config.server_word) (trace past)
+    told = all_tell_sent config.limit config.server_szx config.server_word (trace past) law.server
+
+    -- in a CON
+    pub con_told : m.kind ≡ Con → (con : Open) × Ever (HandsUpAs server_end con) adds × Sometime (TellsCon con m) (trace past) × Ever (λ b. begun b ≡ Some con) (near_of (across (hops_in config past))) × (con.to ≡ client_end)
+    con_told kind =
+        let k = con_heard config.server_word config.client_word m (across (hops_in config past)) adds law_across hears kind in
+        let P : T.Entry → Type 0 = λ b. begun b ≡ Some k.con in
+        let there = located config.limit config.server_szx config.server_word P (trace past) (subst (Ever P) near_there k.begun_before) in (
+          k.con,
+          k.up,
+          by_law (TellsSent config.limit config.server_szx config.server_word) (Added P) (TellsCon k.con m)
+              (λ p b l h. (subst (λ z. TellsIn config.limit config.server_szx (Some k.con.id) z m p b) k.to_is (l.0.begun_now k.con m h k.are k.spells note), h)) (trace past) told there,
+          k.begun_before,
+          k.to_is,
+        )
+
+    -- in an acknowledgement
+    pub ack_told : m.kind ≡ Ack → Sometime (TellsAck m) (trace past)
+    ack_told kind =
+        let k = ack_heard config.client_word config.server_word m (hops_in config past) adds law.channel hears kind in
+        let P : T.Entry → Type 0 = λ b. b.call ≡ T.Reply client_end m.id k.bytes in
+        let there = located config.limit config.server_szx config.server_word P (trace past) (subst (Ever P) (far_is config past) k.given) in
+        by_law (TellsSent config.limit config.server_szx config.server_word) (Added P) (TellsAck m) (λ p b l h. l.0.replied client_end k.bytes m h k.are k.spells note) (trace past) told there
+
+    -- in a NON
+    pub non_told : m.kind ≡ Non → Sometime (ServesNon config.limit config.server_szx client_end) (trace past)
+    non_told kind =
+        let k = non_heard config.server_word config.client_word m (across (hops_in config past)) adds law_across hears kind in
+        let P : T.Entry → Type 0 = λ b. PlainOut b (record { to = client_end; bytes = k.bytes }) in
+        let there = located config.limit config.server_szx config.server_word P (trace past) (subst (Ever P) near_there k.sent) in
+        by_law (TellsSent config.limit config.server_szx config.server_word) (Added P) (ServesNon config.limit config.server_szx client_end) (λ p b l h. l.0.plain client_end k.bytes m h k.are k.spells note) (trace past) told there

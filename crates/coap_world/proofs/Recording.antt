@@ -1,0 +1,10 @@
+pub mod Moving
+pub mod Acting
+pub mod Finishing
+pub mod Turning
+pub mod EachTurn
+pub mod Numbers
+pub mod Standing
+pub mod Runs
+pub mod Copying
+pub mod Beginning

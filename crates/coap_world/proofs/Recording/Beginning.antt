@@ -1,0 +1,59 @@
+-- The server of a run is given its delays.
+use Rattle.std.proofs.Common.{◌≡◌, ◌≤◌, ◌<◌, ℕ, ◌+◌, Bool, true, false, not, List, [], ◌∷◌, ◌++◌, map, length, drop, filter, nat_lt, get_or, refl, sym, ap, subst, ◌∙◌, arith}
+use Rattle.std.proofs.lemmas.List.{drop-map, drop_more, drop_all, length-append, length-drop, length-map}
+use Rattle.coap_types.specs.Path.{same_path}
+use Rattle.coap_layer.proofs.ListLemmas.{true_lt}
+use Rattle.coap_observe.proofs.ListLemmas.{length_filter}
+use Rattle.coap_ends.specs.ServerSide.ServerDeferring.{others, may_delay, delays_with}
+use Rattle.coap_ends.specs.ServerSide.ServerLaw.{own_of}
+use Rattle.coap_ends.specs.ServerSide.ServerTrace as S
+use Rattle.coap_ends.specs.declared.limits.TheConstants.{MAX_DELAYS as max_delays}
+use Rattle.coap_world.specs.declared.running.config.PathDelay.{PathDelay}
+use Rattle.coap_world.specs.Run.Configs.{delay_as, gives}
+
+not_both : (b : Bool) → false ≡ b → b ≡ true → ⊥
+not_both true f t = cc
+not_both false f t = cc
+
+module _ (limit szx : ℕ) where
+  -- no more paths have a delay than were given one
+  pub few_given : (ds : List S.Delay) → length (own_of limit szx (gives ds)).delays ≤ length ds
+  few_given [] = omega (arith)
+  few_given (d ∷ ds) =
+      let before = (own_of limit szx (gives ds)).delays in
+      let rest = few_given ds in
+      let left = length_filter (λ (x : S.Delay). not (same_path x.path d.path)) before in
+      let long = length-append (others d.path before) (record { path = d.path; ms = d.ms } ∷ []) in
+      omega (arith, rest, left, long)
+
+  -- so one more may be given
+  pub none_full : (ds : List S.Delay) (path : List (List ℕ)) → length ds < max_delays → false ≡ may_delay path (own_of limit szx (gives ds)).delays → ⊥
+  none_full ds path few full =
+      let before = (own_of limit szx (gives ds)).delays in
+      let left = length_filter (λ (x : S.Delay). not (same_path x.path path)) before in
+      let rest = few_given ds in
+      let room : length (others path before) < max_delays = omega (arith, rest, left, few) in
+      not_both (may_delay path before) full (true_lt (length (others path before)) max_delays room)
+
+-- the next delay, from the last to the first
+pub next_given :
+    {A : Type 0} (items : List (PathDelay A)) (delays : List S.Delay) (n left : ℕ) (d : PathDelay A) → map delay_as items ≡ delays → left ≡ n + 1 → n < length items → d ≡ get_or items n d
+    → S.Delays d.path d.ms true ∷ gives (drop left delays) ≡ gives (drop n delays)
+next_given items delays n left d are is within there =
+    let mapped : delay_as d ∷ drop (n + 1) (map delay_as items) ≡ drop n (map delay_as items) =
+    ap (λ ds. delay_as d ∷ ds) (drop-map delay_as (n + 1) items)
+    ∙ ap (λ x. delay_as x ∷ map delay_as (drop (n + 1) items)) there
+    ∙ sym (drop-map delay_as n items ∙ ap (map delay_as) (drop_more items n d within)) in
+    ap (λ m. S.Delays d.path d.ms true ∷ gives (drop m delays)) is
+    ∙ ap (λ ds. S.Delays d.path d.ms true ∷ gives (drop (n + 1) ds)) (sym are)
+    ∙ ap gives mapped
+    ∙ ap (λ ds. gives (drop n ds)) are
+
+pub none_yet :
+    {A : Type 0} (items : List (PathDelay A)) (delays : List S.Delay) (n : ℕ) → map delay_as items ≡ delays → n ≡ length items → (n ≤ length delays) × ([] ≡ gives (drop n delays))
+none_yet items delays n are is =
+    let long : length delays ≡ length items = ap length (sym are) ∙ length-map items delay_as in
+    (omega (arith, long, is), sym (ap gives (drop_all n delays (omega (arith, long, is)))))
+
+pub few_left : (ds : List S.Delay) (left : ℕ) → 0 < left → left ≤ length ds → length ds ≤ max_delays → length (drop left ds) < max_delays
+few_left ds left some within few = let long = length-drop left ds in omega (arith, long, some, within, few)

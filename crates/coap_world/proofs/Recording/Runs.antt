@@ -1,0 +1,43 @@
+-- A run of all its events.
+use Rattle.std.proofs.Common.{◌≡◌, ◌≤◌, ◌<◌, ℕ, ◌+◌, Option, Some, Result, Err, List, [], ◌∷◌, ◌++◌, map, reverse, take, length, slice_get, get_or, refl, sym, ap, subst, ◌∙◌, arith}
+use Rattle.std.specs.Option.{option_map}
+use Rattle.std.proofs.lemmas.List.{reverse-append, map-append, take-map, take_all}
+use Rattle.std.proofs.lemmas.Grind.{take_at_read}
+use Rattle.std.proofs.lemmas.Option.{slice_get-map, slice_get_read}
+use Rattle.coap_world.specs.Events.{Config, Event}
+use Rattle.coap_world.specs.Legal.{Legal}
+use Rattle.coap_world.specs.Record.{Turn, RecordOf, entries_of}
+use Rattle.coap_world.specs.declared.running.RunRefusal.{RunRefusal}
+use Rattle.coap_world.specs.declared.running.RunRefusal.TheVariants.{NotLegal}
+use Rattle.coap_world.specs.Run.Log.{Log, log_of}
+use Rattle.coap_world.specs.LegalEvents.{MayHappen}
+use Rattle.coap_world.specs.Run.Runs.{IsRunOf, IsFirstWrong}
+use Rattle.coap_world.proofs.Reports.Promised.{agrees}
+
+module _ {X : Type 0} (f : X → Event) (xs : List X) (n : ℕ) where
+  pub one_more : (x : X) → n < length xs → x ≡ get_or xs n x → f x ∷ reverse (map f (take n xs)) ≡ reverse (map f (take (n + 1) xs))
+  one_more x h is =
+      let t : take (n + 1) xs ≡ take n xs ++ x ∷ [] = (take_at_read xs n x h).1 ∙ ap (λ y. take n xs ++ y ∷ []) (sym is) in
+      sym (ap (λ l. reverse (map f l)) t ∙ ap reverse (map-append f (take n xs) (x ∷ [])) ∙ reverse-append (map f (take n xs)) (f x ∷ []))
+
+  pub is_run : (config : Config) (turns : List Turn) (log : Log) → length xs ≤ n → RecordOf config (reverse (map f (take n xs))) turns → Legal config turns → log ≡ log_of turns → IsRunOf config (map f xs) log
+  is_run config turns log h made legal shows =
+      let here = subst (λ l. RecordOf config (reverse (map f l)) turns) (take_all n xs h) made in
+      record { turns = turns; made = here; legal = legal; shows = shows; keeps = agrees config (reverse (map f xs)) turns here legal }
+
+  pub first_wrong :
+      (config : Config) (turns : List Turn) (x : X) → n < length xs → x ≡ get_or xs n x → RecordOf config (reverse (map f (take n xs))) turns → Legal config turns → (MayHappen turns (f x) → ⊥)
+      → IsFirstWrong config (map f xs) n
+  first_wrong config turns x h is made legal wrong =
+      record {
+        event = f x;
+        there = slice_get-map f xs n ∙ ap (option_map f) (slice_get_read xs (length xs) n x refl h is);
+        turns = turns;
+        made = subst (λ l. RecordOf config (reverse l) turns) (sym (take-map f n xs)) made;
+        legal = legal;
+        wrong = wrong;
+      }
+
+-- the number that is answered
+pub same_number : {X : Type 0} (a b : ℕ) (r : Result X RunRefusal) → r ≡ Err (NotLegal a) → r ≡ Err (NotLegal b) → a ≡ b
+same_number a b r p q = cc

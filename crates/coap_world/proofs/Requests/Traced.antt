@@ -1,0 +1,86 @@
+-- Where the request was handed up that is served, and which one of the client it is.
+use Rattle.std.proofs.Common.{◌≡◌, inl, inr, ℕ, true, Some, List, [], ◌∷◌, ◌++◌, map, refl, ap, sym, subst, ◌∙◌}
+use Rattle.coap_types.specs.Past.{Ever, Sometime, Always}
+use Rattle.coap_layer.specs.Channel.{Hop, Near, Far, near_of}
+use Rattle.coap_layer.specs.Trace as T
+use Rattle.coap_layer.specs.Words.{Open, begun}
+use Rattle.coap_resource.specs.Serves.{Question}
+use Rattle.coap_exchange.specs.declared.answerer.Asked.{Asked}
+use Rattle.coap_ends.specs.ClientSide.ClientBegins.{WasSent}
+use Rattle.coap_ends.specs.ClientSide.ClientWords.{Sending}
+use Rattle.coap_ends.specs.ServerSide.Follows.ServerBrings.{AsksBy, Brings, HandsUp}
+use Rattle.coap_ends.specs.ServerSide.ServerChecks.{Verdict}
+use Rattle.coap_ends.specs.ServerSide.ServerTrace as S
+use Rattle.coap_world.specs.CameFrom.{CameFrom, CamesFrom}
+use Rattle.coap_world.specs.Events.{client_end, Config}
+use Rattle.coap_world.specs.Hops.{hops_at, hops_in}
+use Rattle.coap_world.specs.Serves.{BroughtAt}
+use Rattle.coap_world.specs.Record.{Entry, OfClient, OfServer, client_of, server_trace}
+use Rattle.coap_world.proofs.Delivery.HopsAreEntries.{server_layer}
+use Rattle.coap_world.proofs.Requests.CameFrom.{same_front}
+
+-- what was begun is so for good
+pub near_later : (P : T.Entry → Type 0) (front hs : List Hop) → Ever P (near_of hs) → Ever P (near_of (front ++ hs))
+near_later P [] hs h = h
+near_later P (Near e ∷ front) hs h = inr (near_later P front hs h)
+near_later P (Far e ∷ front) hs h = near_later P front hs h
+
+module _ (config : Config) where
+  -- .. and what was sent
+  pub sent_later : (x : Sending) (past : List Entry) (e : Entry) → WasSent config.client_szx x (client_of past) → WasSent config.client_szx x (client_of (e ∷ past))
+  sent_later x past (OfClient c) h = inr h
+  sent_later x past (OfServer c) h = h
+
+  abbrev delays : List S.Delay → List S.Call
+  delays ds = map (λ (d : S.Delay). S.Delays d.path d.ms true) ds
+
+  none_brought : (a : Asked) (q : Question) (ds : List S.Delay) → Sometime (λ old b. Brings config.limit config.server_szx config.server_word old b a q) (delays ds) → ⊥
+  none_brought a q [] h = h
+  none_brought a q (d ∷ ds) (inr h) = none_brought a q ds h
+  none_brought a q (d ∷ ds) (inl k) =
+      let none : [] ≡ k.comes.news = same_front [] k.comes.news (server_layer config (delays ds)) k.comes.is in
+      subst (Ever (HandsUp config.server_szx a k.verdict)) (sym none) k.comes.here
+
+  pub brought_in : (a : Asked) (q : Question) (w : List Entry) → Sometime (λ old b. Brings config.limit config.server_szx config.server_word old b a q) (server_trace config w) → Sometime (BroughtAt config a q) w
+  brought_in a q [] h = absurd (none_brought a q config.delays h)
+  brought_in a q (OfClient c ∷ past) h = inr (brought_in a q past h)
+  brought_in a q (OfServer c ∷ past) (inl h) = inl h
+  brought_in a q (OfServer c ∷ past) (inr h) = inr (brought_in a q past h)
+
+  -- which of the client's requests it is, by these entries
+  pub record Traced (a : Asked) (q : Question) (w : List Entry) : Type 0 where
+    pub past : List Entry
+    pub call : S.Call
+    pub verdict : Verdict
+    pub asks : AsksBy config.limit config.server_szx (server_trace config past) call a q verdict
+    pub came : CameFrom config past (OfServer call) a verdict
+    pub sent : WasSent config.client_szx came.sending (client_of w)
+    pub begun_before : Ever (λ b. begun b ≡ Some came.con) (near_of (hops_in config w))
+
+  later : (a : Asked) (q : Question) (e : Entry) (w : List Entry) → Traced a q w → Traced a q (e ∷ w)
+  later a q e w k =
+      record {
+        past = k.past;
+        call = k.call;
+        verdict = k.verdict;
+        asks = k.asks;
+        came = k.came;
+        sent = sent_later k.came.sending w e k.sent;
+        begun_before = near_later (λ b. begun b ≡ Some k.came.con) (hops_at config w e) (hops_in config w) k.begun_before;
+      }
+
+  pub traced : (a : Asked) (q : Question) (w : List Entry) → CamesFrom config w → a.from ≡ client_end → Sometime (BroughtAt config a q) w → Traced a q w
+  traced a q [] came from h = absurd h
+  traced a q (OfClient c ∷ w) came from (inl h) = absurd h
+  traced a q (OfServer c ∷ w) came from (inl h) =
+      let k = came.0 a h.verdict h.comes from in
+      record {
+        past = w;
+        call = c;
+        verdict = h.verdict;
+        asks = h.asks;
+        came = k;
+        sent = k.sent;
+        begun_before = near_later (λ b. begun b ≡ Some k.con) (hops_at config w (OfServer c)) (hops_in config w) k.begun_before;
+      }
+  traced a q (e ∷ w) came from (inr h) = later a q e w (traced a q w came.1 from h)

@@ -1,0 +1,10 @@
+pub mod BlockRead
+pub mod Parts
+pub mod HopLists
+pub mod HeardUp
+pub mod Orders
+pub mod Pieces
+pub mod NoneContinue
+pub mod Between
+pub mod WholeBody
+pub mod AppliedWhole

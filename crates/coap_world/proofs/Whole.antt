@@ -1,4 +1,0 @@
-pub mod Delivery
-pub mod Requests
-pub mod Reports
-pub mod Witness

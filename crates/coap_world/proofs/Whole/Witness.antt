@@ -1,3 +1,0 @@
--- Which events are legal.
-pub mod NoneRuns
-pub mod Legal

@@ -1,0 +1,53 @@
+-- Bytes, paths and configurations that are in range.
+use Rattle.std.proofs.Common.{◌≡◌, ◌≤◌, ◌<◌, ℕ, suc, zero, Bool, true, List, [], ◌∷◌, length, arith, refl}
+use Rattle.std.proofs.lemmas.Bool.{and_parts, ltb-true}
+use Rattle.std.proofs.lemmas.List.Elements.{All-nil, All-cons}
+use Rattle.std.specs.Prelude.{All, nat_lt, codes}
+use Rattle.std.specs.List.{list_all}
+use Rattle.coap_types.specs.Bytes.{AreBytes}
+use Rattle.coap_types.specs.EntityTag.{AreTags}
+use Rattle.coap_types.specs.Path.{IsPath}
+use Rattle.coap_ends.specs.ServerSide.ServerTrace.{Delay}
+use Rattle.coap_world.specs.Legal.{IsDelay, IsConfig}
+use Rattle.coap_world.specs.LegalRuns.{with_delays, config, t}
+
+abbrev pub is_byte : ℕ → Bool
+is_byte b = nat_lt b 256
+
+pub bytes_are : (bytes : List ℕ) → list_all is_byte bytes ≡ true → AreBytes bytes
+bytes_are [] e = All-nil (λ b. b < 256)
+bytes_are (b ∷ bytes) e =
+    let k = and_parts (is_byte b) (list_all is_byte bytes) e in
+    All-cons (λ x. x < 256) b bytes (ltb-true b 256 k.0) (bytes_are bytes k.1)
+
+pub of_one : {X : Type 0} (P : X → Type 0) (x : X) → P x → All P (x ∷ [])
+of_one P x h zero d small = h
+of_one P x h (suc k) d small = absurd (omega (arith, small))
+
+-- a path of one segment
+pub path_of_one : (segment : List ℕ) → length segment ≤ 255 → AreBytes segment → IsPath (segment ∷ [])
+path_of_one segment short bytes = record {
+  bounds = record { few = omega arith; short = of_one (λ s. length s ≤ 255) segment short };
+  bytes = of_one AreBytes segment bytes;
+}
+
+pub t_is : IsPath t
+t_is = path_of_one (codes "t") (omega arith) (bytes_are (codes "t") refl)
+
+pub no_tags : AreTags []
+no_tags = record { few = omega arith; each = All-nil _ }
+
+pub configured : (delays : List Delay) → All IsDelay delays → length delays ≤ 16 → IsConfig (with_delays delays)
+configured delays each few = record {
+  client_word = omega arith;
+  client_szx = omega arith;
+  server_word = omega arith;
+  server_szx = omega arith;
+  some = omega arith;
+  limit = (let most : 4194303 ≤ 4194303 = omega arith in most);
+  delays = each;
+  few = few;
+}
+
+pub config_range : IsConfig config
+config_range = configured [] (All-nil IsDelay) (omega arith)

@@ -1,0 +1,158 @@
+-- The client of a legal run: it observes, and takes two values (RFC 7641, sections 3.1 and 3.2).
+use Rattle.std.proofs.Common.{ℕ, true, false, Some, None, List, [], ◌∷◌, ◌++◌, Ok, refl, arith}
+use Rattle.std.specs.Prelude.{codes, replicate}
+use Rattle.coap_types.specs.declared.message.Kind.TheVariants.{Con, Ack}
+use Rattle.coap_codec.specs.Message.{Message}
+use Rattle.coap_codec.specs.Spelling.{option_bytes, options_bytes}
+use Rattle.coap_codec.specs.Reading.{extended, value_at, nibbles_at, option_at, walk_of, walk, payload_at, frame_fault}
+use Rattle.coap_codec.specs.Reading.{body_at}
+use Rattle.coap_codec.specs.Decoded.{decoded}
+use Rattle.coap_layer.proofs.Facts.Sendable.{sendable_when_short}
+use Rattle.coap_layer.specs.Machine.State.{State, start}
+use Rattle.coap_layer.specs.Machine.Steps.{Asked, Steps, left_after}
+use Rattle.coap_layer.specs.Trace as L
+use Rattle.coap_exchange.specs.declared.asker.Event.TheVariants as event
+use Rattle.coap_exchange.specs.AskerLaw as asker
+use Rattle.coap_types.specs.declared.message.Kind.{Kind}
+use Rattle.coap_ends.specs.ClientSide.ClientTrace as C
+use Rattle.coap_ends.specs.ClientSide.ClientLaw.{ClientLaw, ClientRows, lower_of}
+use Rattle.coap_world.specs.Events.{server_end}
+use Rattle.coap_world.proofs.Witness.InWords.{bytes_are}
+use Rattle.coap_world.specs.LegalRuns.{token, tag, plain, t, reported, empty_ack}
+use Rattle.coap_world.specs.ObservationRuns.{observe_bytes, first_bytes, second_bytes}
+use Rattle.coap_world.proofs.Witness.TurnsMade.{client_turn, to_server, asks, rests}
+
+-- the answer and the notification
+abbrev pub content : Kind → ℕ → List ℕ → Message
+content kind version body = record {
+  kind = kind;
+  code = 69;
+  id = 0;
+  token = token;
+  options = record { number = 4; value = tag version } ∷ record { number = 6; value = version ∷ [] } ∷ record { number = 12; value = [] } ∷ [];
+  payload = body;
+}
+
+abbrev pub value : ℕ → List ℕ → C.Reported
+value version body = reported (C.Value version (Some (tag version)) (Some plain) body)
+
+-- the calls of each turn, the newest first
+
+abbrev pub observing : List C.Call
+observing = C.Observes 0 t (Ok 0) ∷ []
+
+abbrev pub ticked : List C.Call
+ticked = rests 0 ∷ asks 0 0 token ∷ []
+
+abbrev pub registered : List C.Call
+registered = C.Feeds 2 server_end first_bytes 0 (L.Becomes (L.Response (content Ack 1 (codes "a")))) true (Some (event.Answer (content Ack 1 (codes "a")))) L.Nothing (Ok []) true ∷ []
+
+abbrev pub notified : List C.Call
+notified = C.Feeds 4 server_end second_bytes 0 (L.Becomes (L.Response (content Con 2 (codes "b")))) false (Some (event.Notice (content Con 2 (codes "b")))) L.Nothing (Ok []) false ∷ []
+
+abbrev pub calls_before : List C.Call
+calls_before = client_turn (value 1 (codes "a") ∷ []) [] registered ++ (client_turn [] (to_server observe_bytes ∷ []) ticked ++ client_turn [] [] observing)
+
+abbrev pub calls : List C.Call
+calls = client_turn (value 2 (codes "b") ∷ []) (to_server empty_ack ∷ []) notified ++ calls_before
+
+rows : ClientRows 6 calls
+unfolding option_bytes options_bytes
+rows = (refl, (refl, (tt, (tt, (tt, (refl, (refl, (tt, (tt, (refl, (tt, (tt, (refl, (refl, (refl, (tt, (refl, tt)))))))))))))))))
+
+asked : asker.AskerLaw server_end 0 (lower_of 6 calls)
+asked = (tt, (tt, (refl, (tt, (refl, (refl, (tt, (tt, (refl, (refl, (refl, (tt, tt))))))))))))
+
+abbrev run : List Asked
+run = asker.lower_of server_end 0 (lower_of 6 calls)
+
+steps : Steps (start 0) run (left_after (start 0) run)
+unfolding decoded frame_fault body_at walk walk_of option_at nibbles_at value_at extended payload_at option_bytes options_bytes
+steps = (
+  _,
+  (
+    _,
+    (
+      _,
+      (
+        _,
+        (
+          _,
+          (
+            _,
+            (
+              _,
+              (
+                _,
+                (
+                  _,
+                  (
+                    _,
+                    (
+                      _,
+                      (_, (_, refl, record { may = tt; right = refl; new_is = refl }), record { may = tt; right = refl; new_is = refl }),
+                      record { may = (sendable_when_short _ (record { some = omega arith; code = omega arith; id = omega arith; token = omega arith; order = refl; numbers = refl; short = refl }) (omega arith)).spelled; right = refl; new_is = refl },
+                    ),
+                    record { may = tt; right = refl; new_is = refl },
+                  ),
+                  record { may = tt; right = refl; new_is = refl },
+                ),
+                record { may = tt; right = refl; new_is = refl },
+              ),
+              record { may = bytes_are first_bytes refl; right = refl; new_is = refl },
+            ),
+            record { may = tt; right = refl; new_is = refl },
+          ),
+          record { may = tt; right = refl; new_is = refl },
+        ),
+        record { may = bytes_are second_bytes refl; right = refl; new_is = refl },
+      ),
+      record { may = refl; right = refl; new_is = refl },
+    ),
+    record { may = tt; right = refl; new_is = refl },
+  ),
+  record { may = tt; right = refl; new_is = refl },
+)
+
+pub lawful : ClientLaw server_end 6 0 calls
+lawful = record { rows = rows; exchanges = record { rows = asked; left = left_after (start 0) run; layer = steps } }
+
+-- .. until it is registered
+
+abbrev run_before : List Asked
+run_before = asker.lower_of server_end 0 (lower_of 6 (calls_before))
+
+abbrev pub left_before : State
+left_before = record (start 0) { clock = 2; upcoming = 1; last_used = Some 0 ∷ replicate 15 None }
+
+pub steps_before : Steps (start 0) run_before left_before
+unfolding decoded frame_fault body_at walk walk_of option_at nibbles_at value_at extended payload_at option_bytes options_bytes
+steps_before = (
+  _,
+  (
+    _,
+    (
+      _,
+      (
+        _,
+        (
+          _,
+          (
+            _,
+            (
+              _,
+              (_, (_, refl, record { may = tt; right = refl; new_is = refl }), record { may = tt; right = refl; new_is = refl }),
+              record { may = (sendable_when_short _ (record { some = omega arith; code = omega arith; id = omega arith; token = omega arith; order = refl; numbers = refl; short = refl }) (omega arith)).spelled; right = refl; new_is = refl },
+            ),
+            record { may = tt; right = refl; new_is = refl },
+          ),
+          record { may = tt; right = refl; new_is = refl },
+        ),
+        record { may = tt; right = refl; new_is = refl },
+      ),
+      record { may = bytes_are first_bytes refl; right = refl; new_is = refl },
+    ),
+    record { may = tt; right = refl; new_is = refl },
+  ),
+  record { may = tt; right = refl; new_is = refl },
+)

@@ -1,0 +1,192 @@
+-- The server of a legal run: it registers the client, and tells it of a change (RFC 7641, sections 4.1 and 4.2).
+use Rattle.std.proofs.Common.{ℕ, true, false, Some, None, List, [], ◌∷◌, ◌++◌, Ok, refl, arith}
+use Rattle.std.specs.Prelude.{codes}
+use Rattle.coap_types.specs.declared.message.Kind.TheVariants.{Con}
+use Rattle.coap_types.specs.declared.request.Method.TheVariants.{Get}
+use Rattle.coap_codec.specs.Message.{Message}
+use Rattle.coap_codec.specs.Spelling.{option_bytes, options_bytes}
+use Rattle.coap_codec.specs.Reading.{extended, value_at, nibbles_at, option_at, walk_of, walk, payload_at, frame_fault}
+use Rattle.coap_codec.specs.Reading.{body_at}
+use Rattle.coap_codec.specs.Decoded.{decoded}
+use Rattle.coap_layer.proofs.Facts.Sendable.{sendable_when_short}
+use Rattle.coap_layer.specs.Rows.{IsSpelled}
+use Rattle.coap_layer.specs.Machine.State.{start}
+use Rattle.coap_layer.specs.Machine.Steps.{Asked, Steps, left_after}
+use Rattle.coap_layer.specs.Trace as L
+use Rattle.coap_resource.specs.Serves.{Question}
+use Rattle.coap_exchange.specs.AnswererLaw as answerer
+use Rattle.coap_exchange.specs.AnswererSteps.{asked_of, content_of}
+use Rattle.coap_ends.specs.ServerSide.ServerTrace as S
+use Rattle.coap_ends.specs.ServerSide.ServerServing.{response_to}
+use Rattle.coap_ends.specs.ServerSide.ServerLaw.{ServerLaw, ServerRows, lower_of}
+use Rattle.coap_world.specs.Events.{client_end}
+use Rattle.coap_world.proofs.Witness.InWords.{bytes_are}
+use Rattle.coap_observe.specs.Observers.{Observer}
+use Rattle.coap_exchange.specs.declared.answerer.Asked.{Asked as Request}
+use Rattle.coap_exchange.specs.declared.answerer.Due.TheVariants as due
+use Rattle.coap_exchange.specs.AnswererSteps.{content_with}
+use Rattle.coap_ends.specs.ServerSide.ServerNotifying.{notification}
+use Rattle.coap_world.specs.LegalRuns.{token, plain, t, empty_ack}
+use Rattle.coap_world.specs.ObservationRuns.{observe_bytes, first_bytes, second_bytes}
+use Rattle.coap_world.proofs.Witness.Watches.Server.{a, b, content, first_change, second}
+use Rattle.coap_world.proofs.Witness.TurnsMade.{server_turn, to_client}
+
+-- the request, and whom it registers
+
+abbrev pub request : Message
+request = record { kind = Con; code = 1; id = 0; token = token; options = record { number = 6; value = [] } ∷ record { number = 11; value = codes "t" } ∷ []; payload = [] }
+
+abbrev pub asked : Request
+asked = asked_of client_end request
+
+abbrev pub question : Question
+question = record { method = Get; path = t; options = request.options; body = []; szx = 6 }
+
+abbrev pub observer : Observer
+observer = record { to = client_end; token = token; path = t; szx = 6; marked = true }
+
+-- the calls of each turn, the newest first
+
+abbrev pub first_set : List S.Call
+first_set = S.Sets 0 t (Some plain) (codes "a") (Ok 1) a ∷ []
+
+abbrev pub fed : List S.Call
+fed = S.Feeds 1 client_end observe_bytes 0 (L.Becomes (L.Request request true)) (Some (asked, request)) (S.Serves question (content 1 (codes "a")) a) L.Nothing ∷ []
+
+abbrev pub second_set : List S.Call
+second_set = S.Sets 3 t (Some plain) (codes "b") (Ok 2) b ∷ []
+
+abbrev pub ticked : List S.Call
+ticked =
+    S.Ticks 3 0 L.Idle false due.Idle 0 S.Silent 0 false ∷
+    S.Ticks 3 0 L.Idle false due.Idle 0 (S.Notifies observer (content 2 (codes "b"))) 0 true ∷
+    []
+
+abbrev pub acknowledged : ℕ → List S.Call
+acknowledged at = S.Feeds at client_end empty_ack 0 (L.Becomes (L.Acked 0)) None S.Silent L.Nothing ∷ []
+
+abbrev pub calls_before : List S.Call
+calls_before =
+    server_turn (to_client second_bytes ∷ []) ticked ++ (server_turn [] second_set ++ (server_turn (to_client first_bytes ∷ []) fed ++ server_turn [] first_set))
+
+abbrev pub calls : List S.Call
+calls = server_turn [] (acknowledged 5) ++ calls_before
+
+pub answer_sendable : IsSpelled (content_of asked (response_to a [] asked question (content 1 (codes "a"))))
+unfolding option_bytes options_bytes
+answer_sendable = (sendable_when_short _ (record { some = omega arith; code = omega arith; id = omega arith; token = omega arith; order = refl; numbers = refl; short = refl }) (omega arith)).spelled
+
+pub notice_sendable : IsSpelled (content_with token (notification b observer (content 2 (codes "b"))))
+unfolding option_bytes options_bytes
+notice_sendable = (sendable_when_short _ (record { some = omega arith; code = omega arith; id = omega arith; token = omega arith; order = refl; numbers = refl; short = refl }) (omega arith)).spelled
+
+rows : ServerRows 4194303 6 calls
+unfolding option_bytes options_bytes
+rows = (
+  tt,
+  (
+    refl,
+    (
+      tt,
+      (
+        tt,
+        (
+          (refl, refl),
+          (
+            (refl, refl),
+            (
+              tt,
+              (
+                (refl, second),
+                (tt, (tt, (record { reply = content 1 (codes "a"); left = a; serves = (refl, refl); is = refl }, (tt, ((refl, first_change), tt))))),
+              ),
+            ),
+          ),
+        ),
+      ),
+    ),
+  ),
+)
+
+answered : answerer.AnswererLaw (lower_of 4194303 6 calls)
+answered = (
+  tt,
+  (
+    refl,
+    (
+      tt,
+      (
+        tt,
+        (
+          refl,
+          (
+            record { code = refl; spelled = notice_sendable },
+            (tt, (refl, (tt, (tt, (tt, ((refl, record { code = refl; spelled = answer_sendable }, refl), (refl, (tt, tt)))))))),
+          ),
+        ),
+      ),
+    ),
+  ),
+)
+
+abbrev run : List Asked
+run = answerer.lower_of (lower_of 4194303 6 calls)
+
+steps : Steps (start 0) run (left_after (start 0) run)
+unfolding decoded frame_fault body_at walk walk_of option_at nibbles_at value_at extended payload_at option_bytes options_bytes
+steps = (
+  _,
+  (
+    _,
+    (
+      _,
+      (
+        _,
+        (
+          _,
+          (
+            _,
+            (
+              _,
+              (
+                _,
+                (
+                  _,
+                  (
+                    _,
+                    (
+                      _,
+                      (
+                        _,
+                        (
+                          _,
+                          (_, refl, record { may = tt; right = refl; new_is = refl }),
+                          record { may = bytes_are observe_bytes refl; right = refl; new_is = refl },
+                        ),
+                        record { may = refl; right = refl; new_is = refl },
+                      ),
+                      record { may = tt; right = refl; new_is = refl },
+                    ),
+                    record { may = tt; right = refl; new_is = refl },
+                  ),
+                  record { may = tt; right = refl; new_is = refl },
+                ),
+                record { may = tt; right = refl; new_is = refl },
+              ),
+              record { may = tt; right = refl; new_is = refl },
+            ),
+            record { may = notice_sendable; right = refl; new_is = refl },
+          ),
+          record { may = tt; right = refl; new_is = refl },
+        ),
+        record { may = tt; right = refl; new_is = refl },
+      ),
+      record { may = tt; right = refl; new_is = refl },
+    ),
+    record { may = bytes_are empty_ack refl; right = refl; new_is = refl },
+  ),
+  record { may = tt; right = refl; new_is = refl },
+)
+
+pub lawful : ServerLaw 4194303 6 0 calls
+lawful = record { rows = rows; exchanges = record { rows = answered; left = left_after (start 0) run; layer = steps } }

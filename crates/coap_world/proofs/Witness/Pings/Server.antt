@@ -1,0 +1,43 @@
+-- The server of a legal run: a stranger pings it (RFC 7252, section 4.3).
+use Rattle.std.proofs.Common.{None, List, [], ◌∷◌, refl}
+use Rattle.coap_codec.specs.Spelling.{option_bytes, options_bytes}
+use Rattle.coap_codec.specs.Reading.{extended, value_at, nibbles_at, option_at, walk_of, walk, payload_at, frame_fault}
+use Rattle.coap_codec.specs.Reading.{body_at}
+use Rattle.coap_codec.specs.Decoded.{decoded}
+use Rattle.coap_layer.specs.Machine.State.{start}
+use Rattle.coap_layer.specs.Machine.Steps.{Asked, Steps, left_after}
+use Rattle.coap_layer.specs.Trace as L
+use Rattle.coap_exchange.specs.AnswererLaw as answerer
+use Rattle.coap_ends.specs.ServerSide.ServerTrace as S
+use Rattle.coap_ends.specs.ServerSide.ServerLaw.{ServerLaw, ServerRows, lower_of}
+use Rattle.coap_world.proofs.Witness.InWords.{bytes_are}
+use Rattle.coap_world.specs.LegalRuns.{stranger, ping, pong}
+use Rattle.coap_world.proofs.Witness.TurnsMade.{server_turn}
+use Rattle.coap_world.proofs.Witness.Watches.Server.{to_stranger}
+
+abbrev pub fed : List S.Call
+fed = S.Feeds 0 stranger ping 0 (L.Becomes L.Rejected) None S.Silent L.Nothing ∷ []
+
+abbrev pub calls : List S.Call
+calls = server_turn (to_stranger pong ∷ []) fed
+
+rows : ServerRows 4194303 6 calls
+unfolding option_bytes options_bytes
+rows = (tt, (tt, (refl, tt)))
+
+answered : answerer.AnswererLaw (lower_of 4194303 6 calls)
+answered = (tt, (tt, (refl, tt)))
+
+abbrev run : List Asked
+run = answerer.lower_of (lower_of 4194303 6 calls)
+
+steps : Steps (start 0) run (left_after (start 0) run)
+unfolding decoded frame_fault body_at walk walk_of option_at nibbles_at value_at extended payload_at option_bytes options_bytes
+steps = (
+  _,
+  (_, (_, refl, record { may = bytes_are ping refl; right = refl; new_is = refl }), record { may = tt; right = refl; new_is = refl }),
+  record { may = tt; right = refl; new_is = refl },
+)
+
+pub lawful : ServerLaw 4194303 6 0 calls
+lawful = record { rows = rows; exchanges = record { rows = answered; left = left_after (start 0) run; layer = steps } }

@@ -1,0 +1,82 @@
+-- The server of a legal run: it refuses a PUT whose precondition fails (RFC 7252, sections 5.8.3 and 5.10.8.1).
+use Rattle.std.proofs.Common.{true, Some, List, [], ◌∷◌, ◌++◌, refl, arith}
+use Rattle.std.specs.Prelude.{codes}
+use Rattle.coap_types.specs.declared.message.Kind.TheVariants.{Con}
+use Rattle.coap_types.specs.declared.request.Method.TheVariants.{Put}
+use Rattle.coap_codec.specs.Message.{Message}
+use Rattle.coap_codec.specs.Spelling.{option_bytes, options_bytes}
+use Rattle.coap_codec.specs.Reading.{extended, value_at, nibbles_at, option_at, walk_of, walk, payload_at, frame_fault}
+use Rattle.coap_codec.specs.Reading.{body_at}
+use Rattle.coap_codec.specs.Decoded.{decoded}
+use Rattle.coap_layer.proofs.Facts.Sendable.{sendable_when_short}
+use Rattle.coap_layer.specs.Rows.{IsSpelled}
+use Rattle.coap_layer.specs.Machine.State.{start}
+use Rattle.coap_layer.specs.Machine.Steps.{Asked, Steps, left_after}
+use Rattle.coap_layer.specs.Trace as L
+use Rattle.coap_resource.specs.Serves.{Question, Reply, bare}
+use Rattle.coap_exchange.specs.AnswererLaw as answerer
+use Rattle.coap_exchange.specs.AnswererSteps.{asked_of, content_of}
+use Rattle.coap_ends.specs.ServerSide.ServerTrace as S
+use Rattle.coap_ends.specs.ServerSide.ServerServing.{response_to}
+use Rattle.coap_ends.specs.ServerSide.ServerLaw.{ServerLaw, ServerRows, lower_of}
+use Rattle.coap_world.specs.Events.{client_end}
+use Rattle.coap_world.proofs.Witness.InWords.{bytes_are}
+use Rattle.coap_world.specs.LegalRuns.{token, tag, json, t, precondition_failed, put_bytes, refused_bytes}
+use Rattle.coap_world.proofs.Witness.Gets.Server.{stored, sets, stores}
+use Rattle.coap_world.proofs.Witness.TurnsMade.{server_turn, to_client}
+
+-- the request
+abbrev pub request : Message
+request = record {
+  kind = Con;
+  code = 3;
+  id = 0;
+  token = token;
+  options = record { number = 1; value = tag 2 } ∷ record { number = 11; value = codes "t" } ∷ record { number = 12; value = json ∷ [] } ∷ [];
+  payload = codes "a";
+}
+
+abbrev pub question : Question
+question = record { method = Put; path = t; options = request.options; body = codes "a"; szx = 6 }
+
+abbrev pub reply : Reply
+reply = bare precondition_failed 0
+
+abbrev pub serves : List S.Call
+serves = S.Feeds 5 client_end put_bytes 0 (L.Becomes (L.Request request true)) (Some (asked_of client_end request, request)) (S.Serves question reply stored) L.Nothing ∷ []
+
+abbrev pub calls : List S.Call
+calls = server_turn (to_client refused_bytes ∷ []) serves ++ server_turn [] (sets ∷ [])
+
+sendable : IsSpelled (content_of (asked_of client_end request) (response_to stored [] (asked_of client_end request) question reply))
+unfolding option_bytes options_bytes
+sendable = (sendable_when_short _ (record { some = omega arith; code = omega arith; id = omega arith; token = omega arith; order = refl; numbers = refl; short = refl }) (omega arith)).spelled
+
+rows : ServerRows 4194303 6 calls
+unfolding option_bytes options_bytes
+rows = (tt, (tt, (record { reply = reply; left = stored; serves = (refl, refl); is = refl }, (tt, ((refl, stores), tt)))))
+
+answered : answerer.AnswererLaw (lower_of 4194303 6 calls)
+answered = (tt, (tt, ((refl, record { code = refl; spelled = sendable }, refl), (refl, (tt, tt)))))
+
+abbrev run : List Asked
+run = answerer.lower_of (lower_of 4194303 6 calls)
+
+steps : Steps (start 0) run (left_after (start 0) run)
+unfolding decoded frame_fault body_at walk walk_of option_at nibbles_at value_at extended payload_at option_bytes options_bytes
+steps = (
+  _,
+  (
+    _,
+    (
+      _,
+      (_, (_, refl, record { may = tt; right = refl; new_is = refl }), record { may = bytes_are put_bytes refl; right = refl; new_is = refl }),
+      record { may = refl; right = refl; new_is = refl },
+    ),
+    record { may = tt; right = refl; new_is = refl },
+  ),
+  record { may = tt; right = refl; new_is = refl },
+)
+
+pub lawful : ServerLaw 4194303 6 0 calls
+lawful = record { rows = rows; exchanges = record { rows = answered; left = left_after (start 0) run; layer = steps } }

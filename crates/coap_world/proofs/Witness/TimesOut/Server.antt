@@ -1,0 +1,84 @@
+-- The server of a legal run: a POST comes 100,000 ms after it was sent (RFC 7252, section 4.8.2).
+use Rattle.std.proofs.Common.{true, Some, List, [], ◌∷◌, ◌++◌, refl, arith}
+use Rattle.std.specs.Prelude.{codes}
+use Rattle.coap_types.specs.declared.message.Kind.TheVariants.{Con}
+use Rattle.coap_types.specs.declared.request.Method.TheVariants.{Post}
+use Rattle.coap_codec.specs.Message.{Message}
+use Rattle.coap_codec.specs.Spelling.{option_bytes, options_bytes}
+use Rattle.coap_codec.specs.Reading.{extended, value_at, nibbles_at, option_at, walk_of, walk, payload_at, frame_fault}
+use Rattle.coap_codec.specs.Reading.{body_at}
+use Rattle.coap_codec.specs.Decoded.{decoded}
+use Rattle.coap_layer.proofs.Facts.Sendable.{sendable_when_short}
+use Rattle.coap_layer.specs.Rows.{IsSpelled}
+use Rattle.coap_layer.specs.Machine.State.{start}
+use Rattle.coap_layer.specs.Machine.Steps.{Asked, Steps, left_after}
+use Rattle.coap_layer.specs.Trace as L
+use Rattle.coap_resource.specs.Content.{Content, Changes}
+use Rattle.coap_resource.specs.Rate.{counted}
+use Rattle.coap_resource.specs.Serves.{Question, bare}
+use Rattle.coap_exchange.specs.AnswererLaw as answerer
+use Rattle.coap_exchange.specs.AnswererSteps.{asked_of, content_of}
+use Rattle.coap_ends.specs.ServerSide.ServerTrace as S
+use Rattle.coap_ends.specs.ServerSide.ServerServing.{response_to}
+use Rattle.coap_ends.specs.ServerSide.ServerLaw.{ServerLaw, ServerRows, lower_of}
+use Rattle.coap_world.specs.Events.{client_end}
+use Rattle.coap_world.proofs.Witness.InWords.{bytes_are}
+use Rattle.coap_world.specs.LegalRuns.{token, log, call_bytes, changed_bytes}
+use Rattle.coap_world.proofs.Witness.OneHeld as store
+use Rattle.coap_world.proofs.Witness.Repeats.Server.{a, held, set, first_change}
+use Rattle.coap_world.proofs.Witness.TurnsMade.{server_turn, to_client}
+
+abbrev pub late : Content
+late = store.one log (held 2 (codes "xa")) (counted a.tally 130000)
+
+changes : Changes a 130000 log (Some (held 2 (codes "xa"))) late
+changes = store.further 130000 log (held 1 (codes "x")) (held 2 (codes "xa")) a.tally
+
+-- the request
+
+abbrev pub request : Message
+request = record { kind = Con; code = 2; id = 0; token = token; options = record { number = 11; value = codes "log" } ∷ []; payload = codes "a" }
+
+abbrev pub question : Question
+question = record { method = Post; path = log; options = request.options; body = codes "a"; szx = 6 }
+
+-- the calls of each turn, the newest first
+
+abbrev pub serves : List S.Call
+serves = S.Feeds 130000 client_end call_bytes 0 (L.Becomes (L.Request request true)) (Some (asked_of client_end request, request)) (S.Serves question (bare 68 0) late) L.Nothing ∷ []
+
+abbrev pub calls : List S.Call
+calls = server_turn (to_client changed_bytes ∷ []) serves ++ server_turn [] set
+
+sendable : IsSpelled (content_of (asked_of client_end request) (response_to a [] (asked_of client_end request) question (bare 68 0)))
+unfolding option_bytes options_bytes
+sendable = (sendable_when_short _ (record { some = omega arith; code = omega arith; id = omega arith; token = omega arith; order = refl; numbers = refl; short = refl }) (omega arith)).spelled
+
+rows : ServerRows 4194303 6 calls
+unfolding option_bytes options_bytes
+rows = (tt, (tt, (record { reply = bare 68 0; left = late; serves = (refl, changes); is = refl }, (tt, ((refl, first_change), tt)))))
+
+answered : answerer.AnswererLaw (lower_of 4194303 6 calls)
+answered = (tt, (tt, ((refl, record { code = refl; spelled = sendable }, refl), (refl, (tt, tt)))))
+
+abbrev run : List Asked
+run = answerer.lower_of (lower_of 4194303 6 calls)
+
+steps : Steps (start 0) run (left_after (start 0) run)
+unfolding decoded frame_fault body_at walk walk_of option_at nibbles_at value_at extended payload_at option_bytes options_bytes
+steps = (
+  _,
+  (
+    _,
+    (
+      _,
+      (_, (_, refl, record { may = tt; right = refl; new_is = refl }), record { may = bytes_are call_bytes refl; right = refl; new_is = refl }),
+      record { may = refl; right = refl; new_is = refl },
+    ),
+    record { may = tt; right = refl; new_is = refl },
+  ),
+  record { may = tt; right = refl; new_is = refl },
+)
+
+pub lawful : ServerLaw 4194303 6 0 calls
+lawful = record { rows = rows; exchanges = record { rows = answered; left = left_after (start 0) run; layer = steps } }

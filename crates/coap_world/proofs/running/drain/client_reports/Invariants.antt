@@ -1,0 +1,12 @@
+use Rattle.std.proofs.Common.{List, Some, map, length}
+use Rattle.coap_ends.specs.ClientSide.ClientTrace.{NextReport}
+use Rattle.coap_world.specs.Record.{OfClient}
+use Rattle.coap_world.specs.Run.Acts.{Acts}
+use Rattle.coap_world.specs.Run.Ends.{ClientLed}
+use Rattle.coap_world.proofs.running.drain.client_reports.Given as goal
+
+abbrev pub decreases-reports : goal.decreases-reports
+decreases-reports g l = length l.client.own.reports
+
+abbrev pub invariant-reports : goal.invariant-reports
+invariant-reports g l = (taken : List _) × Acts ClientLed OfClient l.fn.at (map (λ r. NextReport (Some r)) taken) l.initial.client l.initial.log l.client l.log

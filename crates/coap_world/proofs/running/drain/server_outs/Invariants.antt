@@ -1,0 +1,12 @@
+use Rattle.std.proofs.Common.{List, Some, map, length}
+use Rattle.coap_ends.specs.ServerSide.ServerTrace.{NextOut}
+use Rattle.coap_world.specs.Record.{OfServer}
+use Rattle.coap_world.specs.Run.Acts.{Acts}
+use Rattle.coap_world.specs.Run.Ends.{ServerLed}
+use Rattle.coap_world.proofs.running.drain.server_outs.Given as goal
+
+abbrev pub decreases-outs : goal.decreases-outs
+decreases-outs g l = length l.server.exchanges.layer.queue
+
+abbrev pub invariant-outs : goal.invariant-outs
+invariant-outs g l = (taken : List _) × Acts (ServerLed g.S.Store.content) OfServer l.fn.at (map (λ p. NextOut (Some p)) taken) l.initial.server l.initial.log l.server l.log

@@ -1,0 +1,17 @@
+use Rattle.std.proofs.Common.{◌-◌, ◌≤◌, List, [], map, reverse, take, length}
+use Rattle.coap_world.specs.Record.{Turn}
+use Rattle.coap_world.specs.Run.Ends.{ClientLed, ServerLed}
+use Rattle.coap_world.specs.Run.Happening.{event_of}
+use Rattle.coap_world.specs.Run.Turning.{Stands}
+use Rattle.coap_world.proofs.running.run_with.Given as goal
+
+abbrev pub decreases-events : goal.decreases-events
+decreases-events g l = length l.events - l.number
+
+abbrev pub invariant-events : goal.invariant-events
+invariant-events g l =
+    record {
+      within : l.number ≤ length l.events;
+      stands :
+          (turns : List Turn) × Stands ClientLed (ServerLed g.S.Store.content) l.fn.config (reverse (map event_of (take l.number l.events))) turns l.client l.server l.log l.last;
+    }

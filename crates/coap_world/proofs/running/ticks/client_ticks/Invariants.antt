@@ -1,0 +1,13 @@
+use Rattle.std.proofs.Common.{List, true}
+use Rattle.coap_types.specs.Past.{Always}
+use Rattle.coap_ends.specs.ClientTurns.ClientWork.{work}
+use Rattle.coap_world.specs.Record.{ClientTick}
+use Rattle.coap_world.specs.Run.Acts.{Moves}
+use Rattle.coap_world.specs.Run.Ends.{ClientLed}
+use Rattle.coap_world.proofs.running.ticks.client_ticks.Given as goal
+
+abbrev pub decreases-ticks : goal.decreases-ticks
+decreases-ticks g l = work l.client l.at
+
+abbrev pub invariant-ticks : goal.invariant-ticks
+invariant-ticks g l = (calls : List _) × Always (λ past c. ClientTick l.at l.word true c) calls × Moves ClientLed l.initial.client calls l.client

@@ -1,0 +1,18 @@
+use Rattle.coap_world.specs.Record.{ServerTick}
+use Rattle.coap_world.specs.Run.Ends.{ServerLed}
+use Rattle.coap_world.proofs.Recording.Acting.{tick_more, tick_last, tick_refused}
+use Rattle.coap_world.proofs.Recording.Moving.{server_ticked}
+use Rattle.coap_world.proofs.running.ticks.server_ticks.Goals as goal
+
+pub ticks-preserved : goal.ticks-preserved
+ticks-preserved g c =
+    tick_more (ServerLed g.S.Store.content) (ServerTick c.args.at c.args.word) _ _ _ _ c.in-Ok-true.field-0-test c.ticks.invariant
+    (server_ticked g.S.Store.content _ _ _ _ _ c.in-Ok-true.ensures.step)
+
+pub returns-in-Ok-false : goal.returns-in-Ok-false
+returns-in-Ok-false g c =
+    tick_last (ServerLed g.S.Store.content) (ServerTick c.args.at c.args.word) _ _ _ _ c.in-Ok-false.field-0-test c.ticks.invariant
+    (server_ticked g.S.Store.content _ _ _ _ _ c.in-Ok-false.ensures.step)
+
+pub returns-in-Err : goal.returns-in-Err
+returns-in-Err g c = tick_refused (ServerLed g.S.Store.content) (ServerTick c.args.at c.args.word) _ _ _ c.in-Err.ensures.err c.ticks.invariant

@@ -1,0 +1,10 @@
+-- The run of a list of events, and what it tells.
+pub mod Ends
+pub mod Configs
+pub mod Acts
+pub mod Inputs
+pub mod Log
+pub mod Lines
+pub mod Happening
+pub mod Turning
+pub mod Runs

@@ -1,0 +1,86 @@
+//! A run: a list of events goes in, and what both ends do comes out.
+mod begin;
+mod config;
+mod copies;
+mod deliver;
+mod drain;
+mod event;
+mod inputs;
+mod ranges;
+mod record;
+mod step;
+mod stop;
+mod ticks;
+mod turn;
+
+ghost use Rattle.std.specs.Prelude.{◌≡◌, ℕ, Err, IfOk, map};
+ghost use Rattle.coap_world.specs.Run.Happening.{event_of};
+ghost use Rattle.coap_world.specs.Run.Runs.{IsRunOf, IsFirstWrong};
+
+use crate::running::begin::{client_of, server_of};
+use crate::running::step::step;
+use crate::running::stop::Stop;
+use coap_ends::Server;
+use coap_resource::{ListStore, Store};
+pub use config::WorldConfig;
+pub use drain::{CLIENT_END, SERVER_END};
+pub use event::{Event, Side, What};
+pub use record::{Given, Kind, Line, Record};
+use std::alloc::Allocator;
+
+/// Why there is no record of a run.
+#[derive(Clone, Copy, Debug, PartialEq, Eq)]
+pub enum RunRefusal {
+    /// 1: the event of this number, from 0, is not legal.
+    NotLegal(usize),
+    /// 2: an allocation was refused to a list of the run itself, or to a copy that it hands in.
+    Memory,
+}
+
+/// Runs the events over a client and a server, which holds what it holds in such a store.
+pub fn run_with<S: Store<A>, A: Allocator + Copy>(
+    events: &[Event<A>],
+    config: &WorldConfig<A>,
+) -> Result<Record<A>, RunRefusal>
+    // It is what the record of these events shows, each of which is legal.
+    ensures record { IfOk result (λ shown. IsRunOf config.now (map event_of events.now) shown) }
+    // The event is the first that is not legal, in the record of those before it.
+    ensures wrong { (number : ℕ) → result ≡ Err (RunRefusal.NotLegal number)
+        → IsFirstWrong config.now (map event_of events.now) number }
+{
+    let mut client = client_of(config);
+    let mut server: Server<S, A> = match server_of(config) {
+        Ok(server) => server,
+        Err(_) => return Err(RunRefusal::Memory),
+    };
+    let mut log = Record::new(config.alloc);
+    let mut last = 0;
+    let mut number = 0;
+    'events: while number < events.len() {
+        match step(
+            &mut client,
+            &mut server,
+            &mut log,
+            &mut last,
+            &events[number],
+        ) {
+            Ok(()) => {}
+            Err(Stop::NotLegal) => return Err(RunRefusal::NotLegal(number)),
+            Err(Stop::Memory) => return Err(RunRefusal::Memory),
+        }
+        number += 1;
+    }
+    Ok(log)
+}
+
+/// Runs the events over a client and a server, which holds what it holds in the default store.
+pub fn run<A: Allocator + Copy>(
+    events: &[Event<A>],
+    config: &WorldConfig<A>,
+) -> Result<Record<A>, RunRefusal>
+    ensures record { IfOk result (λ shown. IsRunOf config.now (map event_of events.now) shown) }
+    ensures wrong { (number : ℕ) → result ≡ Err (RunRefusal.NotLegal number)
+        → IsFirstWrong config.now (map event_of events.now) number }
+{
+    run_with::<ListStore<A>, A>(events, config)
+}

@@ -1,0 +1,76 @@
+//! With what a run begins.
+ghost use Rattle.std.specs.Prelude.{◌≡◌, ◌≤◌, ◌↔◌, [], IfSome, IsSome};
+
+use coap_ends::MAX_DELAYS;
+use coap_resource::MAX_CHANGES_PER_WINDOW;
+use coap_types::{Path, Szx};
+use std::alloc::{Allocator, Global};
+use std::marker::Model;
+
+/// A path whose requests wait, and for how many milliseconds.
+#[derive(Drop)]
+pub(crate) struct PathDelay<A: Allocator + Copy> {
+    pub(crate) path: Path<A>,
+    pub(crate) ms: u64,
+}
+
+/// With what a run begins: the words and the block sizes of both ends, how many changes a window
+/// takes, and which paths are answered later.
+#[derive(Drop)]
+pub struct WorldConfig<A: Allocator + Copy = Global> {
+    pub(crate) alloc: A,
+    pub(crate) client_word: u64,
+    pub(crate) client_szx: Szx,
+    pub(crate) server_word: u64,
+    pub(crate) server_szx: Szx,
+    pub(crate) changes: u32,
+    pub(crate) delays: Vec<PathDelay<A>, A>,
+}
+
+impl<A: Allocator + Copy> Model for WorldConfig<A> {
+    ghost use Rattle.coap_world.specs.Events.{Config};
+    ghost use Rattle.coap_world.specs.Legal.{IsConfig};
+
+    ghost Value = { Config };
+
+    ghost use Rattle.coap_world.specs.Run.Configs.{config_of};
+
+    ghost view = { λ c. config_of c.client_word c.client_szx c.server_word c.server_szx c.changes c.delays.items };
+
+    ghost invariant = { λ c. IsConfig (config_of c.client_word c.client_szx c.server_word c.server_szx c.changes c.delays.items) };
+}
+
+impl<A: Allocator + Copy> WorldConfig<A> {
+    /// With no delays; None where a store does not take so many changes in a window.
+    pub fn new(
+        alloc: A,
+        client_word: u64,
+        server_word: u64,
+        client_szx: Szx,
+        server_szx: Szx,
+        changes: u32,
+    ) -> Option<WorldConfig<A>>
+        ensures config { IfSome result (λ c. c ≡ record {
+          client_word = client_word;
+          client_szx = client_szx;
+          server_word = server_word;
+          server_szx = server_szx;
+          limit = changes;
+          delays = [];
+        }) }
+        ensures when { IsSome result ↔ ((1 ≤ changes) × (changes ≤ MAX_CHANGES_PER_WINDOW)) }
+    {
+        if changes < 1 || changes > MAX_CHANGES_PER_WINDOW {
+            return None;
+        }
+        Some(WorldConfig {
+            alloc,
+            client_word,
+            client_szx,
+            server_word,
+            server_szx,
+            changes,
+            delays: Vec::new(alloc),
+        })
+    }
+}

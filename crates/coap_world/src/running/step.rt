@@ -1,0 +1,44 @@
+//! One event of a run.
+ghost use Rattle.std.specs.Prelude.{◌≡◌, Err, List, OnOk, ◌∷◌};
+ghost use Rattle.coap_world.specs.Events.{Config, Event};
+ghost use Rattle.coap_world.specs.Record.{Turn};
+ghost use Rattle.coap_world.specs.Run.Ends.{ClientLed, ServerLed};
+ghost use Rattle.coap_world.specs.Run.Happening.{event_of};
+ghost use Rattle.coap_world.specs.LegalEvents.{MayHappen};
+ghost use Rattle.coap_world.specs.Run.Turning.{Stands};
+
+use crate::running::event;
+use crate::running::ranges::show_ranges;
+use crate::running::record::Record;
+use crate::running::stop::Stop;
+use crate::running::turn::turn;
+use coap_ends::{Client, Server};
+use coap_resource::Store;
+use std::alloc::Allocator;
+
+/// One event of a run, where it is legal.
+pub(crate) fn step<S: Store<A>, A: Allocator + Copy>(
+    client: &mut Client<A>,
+    server: &mut Server<S, A>,
+    log: &mut Record<A>,
+    last: &mut u64,
+    event: &event::Event<A>,
+) -> Result<(), Stop>
+    ensures ok { OnOk result ((config : Config) (events : List Event) (turns : List Turn)
+        → Stands ClientLed (ServerLed S.content) config events turns client.old server.old log.old last.old
+        → (turn : Turn) × Stands ClientLed (ServerLed S.content) config (event_of event.now ∷ events) (turn ∷ turns)
+        client.new server.new log.new last.new) }
+    ensures wrong { result ≡ Err Stop.NotLegal → (config : Config) (events : List Event) (turns : List Turn)
+        → Stands ClientLed (ServerLed S.content) config events turns client.old server.old log.old last.old
+        → MayHappen turns (event_of event.now) → ⊥ }
+{
+    let at = event.at;
+    let word = event.word;
+    if at < *last {
+        return Err(Stop::NotLegal);
+    }
+    show_ranges(&event.what);
+    turn(client, server, log, at, word, &event.what)?;
+    *last = at;
+    Ok(())
+}
