@@ -9,6 +9,7 @@ pub mod link;
 pub mod memory_link;
 pub mod orders;
 pub mod path_text;
+mod put_away;
 pub mod tally;
 mod text;
 pub mod timekeeper;

@@ -1,10 +1,11 @@
 ghost use Rattle.std.specs.Prelude.{◌≡◌, IfOk};
 ghost use Rattle.coap.specs.Statuses.{IsCarriedOut};
 
-use crate::commands::ends::server_with;
+use crate::commands::ends::{fresh_server, hold};
 use crate::commands::{Status, Stop};
+use crate::put_away::put_away;
 use coap_ends::Server;
-use coap_resource::ListStore;
+use coap_resource::{ListStore, StoreRefusal};
 use coap_types::{Endpoint, Moment, Path};
 use std::alloc::Global;
 use std::hash::{BuildHasherDefault, FoldHasher};
@@ -34,18 +35,50 @@ pub fn answer<W: Write>(
     ensures { IfOk result IsCarriedOut }
 {
     let hasher = BuildHasherDefault::<FoldHasher>::new();
-    match server_with(alloc, WORD, hasher, path, body.as_bytes())? {
-        Ok(mut server) => {
-            server.feed(ARRIVAL, PEER, datagram, WORD)?;
-            print_sent(alloc, &mut server, out)?;
-            Ok(Status::Done)
-        }
-        Err(refusal) => {
-            let number = refusal.number();
-            writeln!(out, "refused {number}")?;
-            Ok(Status::Refused)
-        }
+    let mut server = fresh_server(alloc, WORD, hasher);
+    let ended = held_reply(alloc, &mut server, path, body, datagram, out);
+    put_away(server);
+    ended
+}
+
+// Has the server hold the resource, and prints what it replies.
+fn held_reply<W: Write>(
+    alloc: Global,
+    server: &mut Server<ListStore, Global>,
+    path: &Path,
+    body: &str,
+    datagram: &[u8],
+    out: &mut W,
+) -> Result<Status, Stop>
+    ensures { IfOk result IsCarriedOut }
+{
+    match hold(server, path, body.as_bytes())? {
+        None => reply(alloc, server, datagram, out),
+        Some(refusal) => tell_refusal(refusal, out),
     }
+}
+
+// Hands the server the datagram, and prints what it sends.
+fn reply<W: Write>(
+    alloc: Global,
+    server: &mut Server<ListStore, Global>,
+    datagram: &[u8],
+    out: &mut W,
+) -> Result<Status, Stop>
+    ensures { IfOk result IsCarriedOut }
+{
+    server.feed(ARRIVAL, PEER, datagram, WORD)?;
+    print_sent(alloc, server, out)?;
+    Ok(Status::Done)
+}
+
+// Prints why the server does not hold the resource.
+fn tell_refusal<W: Write>(refusal: StoreRefusal, out: &mut W) -> Result<Status, Stop>
+    ensures { IfOk result IsCarriedOut }
+{
+    let number = refusal.number();
+    writeln!(out, "refused {number}")?;
+    Ok(Status::Refused)
 }
 
 // Prints each datagram that is to be sent in hex, or that there is none.

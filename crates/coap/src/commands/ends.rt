@@ -1,11 +1,11 @@
 //! The ends that the programs run.
-ghost use Rattle.std.specs.Prelude.{◌≡◌, ◌<◌, ℕ, [], ◌∷◌, Ok, Some, IfOk, IfErr, length};
+ghost use Rattle.std.specs.Prelude.{◌≡◌, ◌<◌, ℕ, [], ◌∷◌, Ok, Some, IfOk, IfNone, IfErr, length};
 ghost use Rattle.coap_resource.specs.Content.{Content};
 ghost use Rattle.coap_resource.specs.Entries.{content_of};
-ghost use Rattle.coap_ends.specs.WholeClient.ClientStep.{Led as ClientLed};
+ghost use Rattle.coap_ends.specs.ClientSide.ClientStep.{Led as ClientLed};
 ghost use Rattle.coap_ends.specs.ServerObject.ServerShown.{state_of};
-ghost use Rattle.coap_ends.specs.WholeServer.ServerLed.{Led};
-ghost use Rattle.coap_ends.specs.WholeServer.ServerTrace.{Sets};
+ghost use Rattle.coap_ends.specs.ServerSide.ServerLed.{Led};
+ghost use Rattle.coap_ends.specs.ServerSide.ServerTrace.{Sets};
 
 use crate::commands::Stop;
 use coap_ends::{Client, Server};
@@ -55,24 +55,22 @@ pub fn fresh_client<H: BuildHasher + Drop>(
     Client::with_hasher(alloc, server, largest_szx(), word, hasher)
 }
 
-/// A server that holds this text at this path alone, as its first change; the refusal of the store
-/// where it doesn't.
-pub fn server_with<H: BuildHasher + Drop>(
-    alloc: Global,
-    word: u64,
-    hasher: H,
+/// Has a server that holds nothing hold this text at this path; the refusal of its store where it
+/// doesn't.
+pub fn hold<H: BuildHasher + Drop>(
+    server: &mut Server<ListStore, Global, H>,
     path: &Path,
     body: &[u8],
-) -> Result<Result<Server<ListStore, Global, H>, StoreRefusal>, Stop>
+) -> Result<Option<StoreRefusal>, Stop>
     // The one call that made it so.
-    ensures holds { IfOk result (λ made. IfOk made (λ server. (version : ℕ) × (store : Content)
+    ensures holds { (word : ℕ) → Led MAX_CHANGES_PER_WINDOW MAX_SZX word [] (state_of content_of server.old)
+        → IfOk result (λ refusal. IfNone refusal ((version : ℕ) × (store : Content)
         × Led MAX_CHANGES_PER_WINDOW MAX_SZX word (Sets 0 path.now (Some TEXT_PLAIN) body.now (Ok version) store ∷ [])
-        (state_of content_of server))) }
+        (state_of content_of server.new))) }
 {
-    let mut server = fresh_server(alloc, word, hasher);
     match server.set(Moment(0), path, Some(TEXT_PLAIN), body) {
-        Ok(_) => Ok(Ok(server)),
+        Ok(_) => Ok(None),
         Err(StoreRefusal::Memory) => Err(Stop::Memory),
-        Err(refusal) => Ok(Err(refusal)),
+        Err(refusal) => Ok(Some(refusal)),
     }
 }

@@ -8,6 +8,7 @@ use crate::commands::ends::fresh_client;
 use crate::commands::{Status, Stop};
 use crate::driver::send_all;
 use crate::link::Link;
+use crate::put_away::put_away;
 use crate::tally::{Tally, fresh_tally};
 use crate::timekeeper::{ProgramTime, Timekeeper};
 use crate::turning::turn;
@@ -54,6 +55,49 @@ fn reported<H: BuildHasher, L: Link, T: Timekeeper>(
     Err(Stop::Failed)
 }
 
+// What becomes of a GET of the path.
+fn ask<H: BuildHasher, L: Link, T: Timekeeper>(
+    client: &mut Client<Global, H>,
+    link: &mut L,
+    time: &mut T,
+    path: &Path,
+    word: u64,
+) -> Result<Outcome, Stop> {
+    match call(client, time.now()?, get_request(path)?)? {
+        Some(refusal) => Ok(Outcome::Refused(refusal)),
+        None => Ok(Outcome::Reported(reported(client, link, time, word)?)),
+    }
+}
+
+// Prints the body that was got, or why there is none.
+fn tell<W: Write>(alloc: Global, outcome: &Outcome, out: &mut W) -> Result<Status, Stop>
+    ensures { IfOk result IsCarriedOut }
+{
+    if let Outcome::Reported(Report::Body(fetched)) = outcome {
+        out.write_all(fetched.body.as_slice())?;
+        return Ok(Status::Done);
+    }
+    let text = outcome_text(alloc, outcome)?;
+    writeln!(out, "{text}")?;
+    Ok(Status::Refused)
+}
+
+// Gets what is at the path by a fresh client, and prints its body, or why there is none.
+fn got<H: BuildHasher, L: Link, T: Timekeeper, W: Write>(
+    alloc: Global,
+    client: &mut Client<Global, H>,
+    link: &mut L,
+    time: &mut T,
+    path: &Path,
+    word: u64,
+    out: &mut W,
+) -> Result<Status, Stop>
+    ensures { IfOk result IsCarriedOut }
+{
+    let outcome = ask(client, link, time, path, word)?;
+    tell(alloc, &outcome, out)
+}
+
 /// Gets what the server holds at the path, and prints its body; or why it can't. The word is the
 /// one that the client begins with.
 pub fn get_over<L: Link, T: Timekeeper, H: BuildHasher + Drop, W: Write>(
@@ -69,17 +113,9 @@ pub fn get_over<L: Link, T: Timekeeper, H: BuildHasher + Drop, W: Write>(
     ensures { IfOk result IsCarriedOut }
 {
     let mut client = fresh_client(alloc, server, word, hasher);
-    let outcome = match call(&mut client, time.now()?, get_request(path)?)? {
-        Some(refusal) => Outcome::Refused(refusal),
-        None => Outcome::Reported(reported(&mut client, link, time, word)?),
-    };
-    if let Outcome::Reported(Report::Body(fetched)) = &outcome {
-        out.write_all(fetched.body.as_slice())?;
-        return Ok(Status::Done);
-    }
-    let text = outcome_text(alloc, &outcome)?;
-    writeln!(out, "{text}")?;
-    Ok(Status::Refused)
+    let ended = got(alloc, &mut client, link, time, path, word, out);
+    put_away(client);
+    ended
 }
 
 /// Gets what the server at a port of 127.0.0.1 holds at the path.

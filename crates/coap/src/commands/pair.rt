@@ -6,6 +6,7 @@ use crate::commands::ends::{fresh_client, fresh_server};
 use crate::commands::side::Side;
 use crate::commands::{Status, Stop};
 use crate::link::Link;
+use crate::put_away::put_away;
 use crate::timekeeper::{ProgramTime, Timekeeper};
 use crate::udp_link::{ANY_PORT, UdpLink};
 use coap_ends::{Client, Report, Server};
@@ -26,15 +27,23 @@ struct BothEnds<'a, H: BuildHasher + Drop, C: Link, K: BuildHasher + Drop, S: Li
 }
 
 impl<'a, H: BuildHasher + Drop, C: Link, K: BuildHasher + Drop, S: Link> BothEnds<'a, H, C, K, S> {
+    // Turns the client, and then the server, where the client has no report.
+    fn turn<T: Timekeeper>(&mut self, time: &mut T) -> Result<Option<Report>, Stop> {
+        self.client.turn(time.now()?)?;
+        if let Some((_, report)) = self.client.end.next_report() {
+            return Ok(Some(report));
+        }
+        self.server.turn(time.now()?)?;
+        Ok(None)
+    }
+
     // Turns both ends until the client reports.
     fn reported<T: Timekeeper>(&mut self, time: &mut T) -> Result<Report, Stop> {
         // More turns than a program lives.
         for _ in 0..u64::MAX {
-            self.client.turn(time.now()?)?;
-            if let Some((_, report)) = self.client.end.next_report() {
+            if let Some(report) = self.turn(time)? {
                 return Ok(report);
             }
-            self.server.turn(time.now()?)?;
         }
         Err(Stop::Failed)
     }
@@ -44,6 +53,53 @@ impl<'a, H: BuildHasher + Drop, C: Link, K: BuildHasher + Drop, S: Link> BothEnd
         match call(&mut self.client.end, time.now()?, request)? {
             Some(refusal) => Ok(Outcome::Refused(refusal)),
             None => Ok(Outcome::Reported(self.reported(time)?)),
+        }
+    }
+
+    // Puts the body at the path, and tells what became of it.
+    fn put<T: Timekeeper, W: Write>(
+        &mut self,
+        alloc: Global,
+        path: &Path,
+        body: &[u8],
+        time: &mut T,
+        out: &mut W,
+    ) -> Result<bool, Stop> {
+        let outcome = self.ask(put_request(alloc, path, body)?, time)?;
+        tell_put(alloc, &outcome, out)
+    }
+
+    // Gets what is at the path, and tells what became of it, and whether it is this body.
+    fn get<T: Timekeeper, W: Write>(
+        &mut self,
+        alloc: Global,
+        path: &Path,
+        body: &[u8],
+        time: &mut T,
+        out: &mut W,
+    ) -> Result<bool, Stop> {
+        let outcome = self.ask(get_request(path)?, time)?;
+        tell_get(alloc, &outcome, body, out)
+    }
+
+    // Both, the second where the first succeeded.
+    fn put_and_get<T: Timekeeper, W: Write>(
+        &mut self,
+        alloc: Global,
+        path: &Path,
+        body: &[u8],
+        time: &mut T,
+        out: &mut W,
+    ) -> Result<Status, Stop>
+        ensures { IfOk result IsCarriedOut }
+    {
+        if !self.put(alloc, path, body, time, out)? {
+            return Ok(Status::Refused);
+        }
+        if self.get(alloc, path, body, time, out)? {
+            Ok(Status::Done)
+        } else {
+            Ok(Status::Refused)
         }
     }
 }
@@ -107,16 +163,9 @@ pub fn pair_over<
         client: Side::new(client, client_link, word),
         server: Side::new(server, server_link, word),
     };
-    let put = ends.ask(put_request(alloc, path, body)?, time)?;
-    if !tell_put(alloc, &put, out)? {
-        return Ok(Status::Refused);
-    }
-    let got = ends.ask(get_request(path)?, time)?;
-    if tell_get(alloc, &got, body, out)? {
-        Ok(Status::Done)
-    } else {
-        Ok(Status::Refused)
-    }
+    let ended = ends.put_and_get(alloc, path, body, time, out);
+    put_away(ends);
+    ended
 }
 
 /// Puts a body at a path and gets it back, over two sockets of 127.0.0.1.

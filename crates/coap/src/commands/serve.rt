@@ -3,19 +3,21 @@ ghost use Rattle.coap.specs.Statuses.{IsCarriedOut};
 ghost use Rattle.coap.specs.Turning.{Turns};
 
 use crate::commands::bearing::bear;
-use crate::commands::ends::server_with;
+use crate::commands::ends::{fresh_server, hold};
 use crate::commands::{Status, Stop};
 use crate::driver::send_all;
 use crate::link::Link;
 use crate::path_text::path_of_text;
+use crate::put_away::put_away;
 use crate::tally::{Tally, fresh_tally};
 use crate::timekeeper::{ProgramTime, Timekeeper};
 use crate::turning::turn;
 use crate::udp_link::UdpLink;
-use coap_ends::End;
+use coap_ends::{End, Server};
+use coap_resource::ListStore;
 use coap_types::Moment;
-use std::alloc::Allocator;
-use std::hash::RandomState;
+use std::alloc::{Allocator, Global};
+use std::hash::{BuildHasher, RandomState};
 use std::io::Write;
 use std::net::Net;
 use std::random::RandomSource;
@@ -65,6 +67,36 @@ const PATH: &str = "temperature";
 
 const BODY: &str = "22.3 C";
 
+// Has the server hold the resource.
+fn hold_resource<H: BuildHasher + Drop>(
+    alloc: Global,
+    server: &mut Server<ListStore, Global, H>,
+) -> Result<(), Stop> {
+    let Ok(path) = path_of_text(alloc, PATH) else {
+        return Err(Stop::Memory);
+    };
+    match hold(server, &path, BODY.as_bytes())? {
+        None => Ok(()),
+        Some(_) => Err(Stop::Memory),
+    }
+}
+
+// Serves the resource by a server that holds nothing.
+fn serve_resource<H: BuildHasher + Drop, L: Link, T: Timekeeper, W: Write>(
+    alloc: Global,
+    server: &mut Server<ListStore, Global, H>,
+    link: &mut L,
+    time: &mut T,
+    count: u64,
+    word: u64,
+    out: &mut W,
+) -> Result<Status, Stop>
+    ensures { IfOk result IsCarriedOut }
+{
+    hold_resource(alloc, server)?;
+    serve_over(server, link, time, count, word, out)
+}
+
 /// Serves the resource at a port of 127.0.0.1 until so many datagrams came.
 pub fn serve<R: AllocGlobal + Net + Clock + RandomSource, W: Write>(
     rt: &R,
@@ -75,14 +107,18 @@ pub fn serve<R: AllocGlobal + Net + Clock + RandomSource, W: Write>(
 ) -> Result<Status, Stop>
     ensures { IfOk result IsCarriedOut }
 {
-    let alloc = rt.alloc();
     let mut time = ProgramTime::begin(rt)?;
     let mut link = UdpLink::bind(rt, port)?;
-    let Ok(path) = path_of_text(alloc, PATH) else {
-        return Err(Stop::Memory);
-    };
-    match server_with(alloc, word, RandomState::new(rt)?, &path, BODY.as_bytes())? {
-        Ok(mut server) => serve_over(&mut server, &mut link, &mut time, count, word, out),
-        Err(_) => Err(Stop::Memory),
-    }
+    let mut server = fresh_server(rt.alloc(), word, RandomState::new(rt)?);
+    let ended = serve_resource(
+        rt.alloc(),
+        &mut server,
+        &mut link,
+        &mut time,
+        count,
+        word,
+        out,
+    );
+    put_away(server);
+    ended
 }

@@ -26,16 +26,28 @@ fn show_message<W: Write>(alloc: Global, message: &View<'_>, out: &mut W) -> Res
     let id = message.id().0;
     let token = hex_or_dash(alloc, message.token())?;
     writeln!(out, "{kind} {code} {id:04x} {token}")?;
+    show_options(alloc, message, out)?;
+    show_payload(alloc, message, out)?;
+    Ok(Status::Done)
+}
+
+// A line for each option.
+fn show_options<W: Write>(alloc: Global, message: &View<'_>, out: &mut W) -> Result<(), Stop> {
     for option in message.options() {
         let number = option.number;
         let value = hex_or_dash(alloc, option.value)?;
         writeln!(out, "{number} {value}")?;
     }
+    Ok(())
+}
+
+// A line for the payload, where there is one.
+fn show_payload<W: Write>(alloc: Global, message: &View<'_>, out: &mut W) -> Result<(), Stop> {
     if !message.payload().is_empty() {
         let payload = hex::encode(alloc, message.payload())?;
         writeln!(out, "payload {payload}")?;
     }
-    Ok(Status::Done)
+    Ok(())
 }
 
 // The number of the reason, its name and its place.
