@@ -1,1 +1,9 @@
-mod tests;
+//! Scripts for a client, each its own: what happens to it, and what has to come of it. The bytes
+//! are those of the standard's tables, worked out by hand.
+mod answers;
+mod codes;
+mod downloads;
+mod fetches;
+mod observations;
+mod refusals;
+mod uploads;

@@ -4,11 +4,8 @@
 #[cfg(test)]
 mod client;
 #[cfg(test)]
-mod scripts;
+mod pair;
+#[cfg(test)]
+mod script;
 #[cfg(test)]
 mod server;
-
-#[cfg(test)]
-pub(crate) use coap_ends::{
-    CallId, CallRefusal, CancelRefusal, Client, DelayRefusal, Fetched, Report, Server,
-};

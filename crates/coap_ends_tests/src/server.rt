@@ -1,1 +1,9 @@
-mod tests;
+//! Scripts for a server, each its own: what happens to it, and what has to come of it. The bytes
+//! are those of the standard's tables, worked out by hand.
+mod deferring;
+mod ending;
+mod identifiers;
+mod observing;
+mod replies;
+mod storing;
+mod uploading;

@@ -1,57 +1,8 @@
-//! Requests and reports in words.
-use super::Wanted;
-use crate::scripts::{bytes_of, path_of, text_of};
-use crate::{Fetched, Report};
-use bytes::Bytes;
-use coap_types::{Code, Method, Path, Request, Tag, Tags};
-use std::alloc::{AllocGlobal, Global};
-use std::process::Abort;
+//! Reports in words.
+use coap_ends::{Fetched, Report};
+use coap_types::{Code, Tag};
+use std::alloc::Global;
 use std::test::Fail;
-
-/// The request.
-pub(super) fn request_of<R: Abort + AllocGlobal>(
-    rt: &R,
-    wanted: &Wanted<'_>,
-) -> Result<Request, Fail> {
-    let alloc = rt.alloc();
-    let body = text_of(alloc, wanted.body)?;
-    Ok(Request {
-        method: wanted.method,
-        path: path_of(alloc, wanted.path)?,
-        format: wanted.format,
-        body: Bytes::copy_from_slice(alloc, body.as_bytes())?,
-        etags: tags_of(rt, wanted.etags)?,
-        if_match: tags_of(rt, wanted.if_match)?,
-        if_none_match: wanted.if_none_match,
-        accept: wanted.accept,
-    })
-}
-
-/// A GET of `t`.
-pub(super) fn get_t(alloc: Global) -> Result<Request, Fail> {
-    let mut path = Path::new(alloc);
-    path.push(b"t")?;
-    Ok(Request {
-        method: Method::Get,
-        path,
-        format: None,
-        body: Bytes::new(),
-        etags: Tags::new(),
-        if_match: Tags::new(),
-        if_none_match: false,
-        accept: None,
-    })
-}
-
-fn tags_of<R: Abort + AllocGlobal>(rt: &R, texts: &[&str]) -> Result<Tags, Fail> {
-    let mut tags = Tags::new();
-    for text in texts {
-        let bytes = bytes_of(rt.alloc(), text)?;
-        let tag = Tag::new(bytes.as_slice()).expect(rt, "1 to 8 bytes");
-        assert!(rt; tags.push(tag).is_ok(), "over 4 tags");
-    }
-    Ok(tags)
-}
 
 /// What is said of a report beside its body.
 pub(super) fn head_of(alloc: Global, report: &Report<Global>) -> Result<String, Fail> {

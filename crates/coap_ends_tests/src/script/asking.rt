@@ -1,0 +1,108 @@
+//! The steps of the client's own side, and what it shows.
+use super::ends::Ends;
+use super::reports::{body_of, head_of};
+use super::words::{cut, first, method_of, path_of, push_tag, text_of};
+use bytes::Bytes;
+use coap_ends::{CallId, CallRefusal};
+use coap_types::{Moment, Request, Tags};
+use std::test::Fail;
+
+impl Ends<'_> {
+    pub(super) fn call(&mut self, words: &str, text: &str, answer: &str) -> Result<(), Fail> {
+        let (at, words) = first(words);
+        let at = Moment(at.parse()?);
+        let request = self.request_of(words, text)?;
+        let taken = self.client.call(at, request);
+        self.is_taken(taken, answer)
+    }
+
+    pub(super) fn observe(&mut self, words: &str, answer: &str) -> Result<(), Fail> {
+        let (at, path) = first(words);
+        let path = path_of(self.alloc, path)?;
+        let taken = self.client.observe(Moment(at.parse()?), path);
+        self.is_taken(taken, answer)
+    }
+
+    // It is taken under the next number, or refused so.
+    fn is_taken(&mut self, taken: Result<CallId, CallRefusal>, answer: &str) -> Result<(), Fail> {
+        match taken {
+            Ok(id) if id == CallId(self.taken) => {
+                self.taken = self.taken.saturating_add(1);
+                self.is_same("", answer)
+            }
+            Ok(_) => Err(self.wrong("it has another number")),
+            Err(why) => self.is_same(format!(in self.alloc; "{why:?}")?.as_str(), answer),
+        }
+    }
+
+    fn request_of(&self, words: &str, text: &str) -> Result<Request, Fail> {
+        let (method, words) = first(words);
+        let (path, options) = first(words);
+        let body = text_of(self.alloc, text)?;
+        let mut request = Request {
+            method: method_of(method)?,
+            path: path_of(self.alloc, path)?,
+            format: None,
+            body: Bytes::copy_from_slice(self.alloc, body.as_bytes())?,
+            etags: Tags::new(),
+            if_match: Tags::new(),
+            if_none_match: false,
+            accept: None,
+        };
+        for option in options.split(' ') {
+            self.put_option(&mut request, option)?;
+        }
+        Ok(request)
+    }
+
+    fn put_option(&self, request: &mut Request, option: &str) -> Result<(), Fail> {
+        let (name, value) = cut(option, "=");
+        match name {
+            "" => {}
+            "format" => request.format = Some(value.parse()?),
+            "accept" => request.accept = Some(value.parse()?),
+            "if-none-match" => request.if_none_match = true,
+            "etag" => push_tag(self.alloc, &mut request.etags, value)?,
+            "if-match" => push_tag(self.alloc, &mut request.if_match, value)?,
+            _ => return Err(self.wrong("no option")),
+        }
+        Ok(())
+    }
+
+    pub(super) fn cancel(&mut self, words: &str, answer: &str) -> Result<(), Fail> {
+        let (at, number) = first(words);
+        let id = CallId(number.parse()?);
+        match self.client.cancel(Moment(at.parse()?), id) {
+            Ok(()) => self.is_same("", answer),
+            Err(why) => self.is_same(format!(in self.alloc; "{why:?}")?.as_str(), answer),
+        }
+    }
+
+    pub(super) fn forget(&mut self, number: &str, answer: &str) -> Result<(), Fail> {
+        let there = self.client.forget(CallId(number.parse()?));
+        self.is_same(if there { "" } else { "nothing" }, answer)
+    }
+
+    pub(super) fn told(&mut self, words: &str, text: &str) -> Result<(), Fail> {
+        let Some((CallId(id), report)) = self.client.next_report() else {
+            return self.is_same("nothing", words);
+        };
+        let head = head_of(self.alloc, &report)?;
+        let came = format!(in self.alloc; "{id} {head}")?;
+        self.is_same(came.as_str(), words)?;
+        let body = text_of(self.alloc, text)?;
+        if body_of(&report) != body.as_bytes() {
+            return Err(self.wrong("another body is reported"));
+        }
+        Ok(())
+    }
+
+    pub(super) fn asked(&self, words: &str) -> Result<(), Fail> {
+        let Some((CallId(id), token)) = self.client.asked() else {
+            return self.is_same("nothing", words);
+        };
+        let token = hex::encode(self.alloc, token.as_slice())?;
+        let came = format!(in self.alloc; "{id} {token}")?;
+        self.is_same(came.as_str(), words)
+    }
+}

@@ -1,0 +1,248 @@
+//! Both ends, and the steps that are of either.
+use super::delivery::Sent;
+use super::words::{CLIENT, SERVER, bytes_of, cut, endpoint, first, hex_of, is_of_client, port_of};
+use super::{End, counted};
+use coap_ends::{Client, Server};
+use coap_layer::Datagram;
+use coap_resource::{ListStore, MAX_CHANGES_PER_WINDOW, Store};
+use coap_types::{MAX_SZX, Moment, Szx};
+use std::alloc::Global;
+use std::test::Fail;
+
+/// Both ends of a script and its name, and the line that it is at.
+#[derive(Drop)]
+pub(super) struct Ends<'a> {
+    pub(super) alloc: Global,
+    pub(super) client: Client<Global>,
+    pub(super) server: Server<ListStore, Global>,
+    /// How many calls and observations the client took.
+    pub(super) taken: u64,
+    // What each tick and each datagram of an end is handed.
+    client_word: u64,
+    server_word: u64,
+    pub(super) end: End,
+    pub(super) last: Sent,
+    pub(super) kept: Sent,
+    script: &'a str,
+    line: &'a str,
+}
+
+impl<'a> Ends<'a> {
+    /// Both ends, with the word 0, blocks of 1,024 bytes and all the changes that a window can take.
+    pub(super) fn new(alloc: Global, end: End, script: &'a str) -> Result<Self, Fail> {
+        let szx = block_size(MAX_SZX)?;
+        Ok(Ends {
+            alloc,
+            client: Client::new(alloc, endpoint(SERVER), szx, 0),
+            server: server(alloc, MAX_CHANGES_PER_WINDOW, szx, 0)?,
+            taken: 0,
+            client_word: 0,
+            server_word: 0,
+            end,
+            last: Sent::nothing(alloc),
+            kept: Sent::nothing(alloc),
+            script,
+            line: "",
+        })
+    }
+
+    /// Carries out a step, or a step for each count.
+    pub(super) fn run_step(&mut self, line: &'a str, step: &str) -> Result<(), Fail> {
+        self.line = line;
+        let Some(times) = step.strip_prefix("times ") else {
+            return self.carry_out(step);
+        };
+        let (counts, steps) = cut(times, ": ");
+        let (from, to) = cut(counts, "..");
+        let from: u64 = from.parse()?;
+        let to: u64 = to.parse()?;
+        for count in from..to {
+            self.run_counted(steps, count)?;
+        }
+        Ok(())
+    }
+
+    fn run_counted(&mut self, steps: &str, count: u64) -> Result<(), Fail> {
+        for step in steps.split("; ") {
+            let step = counted(self.alloc, step, count)?;
+            self.carry_out(step.as_str())?;
+        }
+        Ok(())
+    }
+
+    fn carry_out(&mut self, step: &str) -> Result<(), Fail> {
+        let step = self.without_end(step);
+        let (step, answer) = cut(step, " -> ");
+        let (step, text) = cut(step, " = ");
+        let (verb, words) = first(step);
+        match verb {
+            "feed" => self.feed_words(words),
+            "tick" => self.tick(words, "done"),
+            "idle" => self.tick(words, "idle"),
+            "out" => self.out(words),
+            "new" => self.begin(words),
+            "arrives" => self.arrives(words),
+            "late" => self.late(words),
+            "keep" => self.keep(),
+            "call" => self.call(words, text, answer),
+            "observe" => self.observe(words, answer),
+            "cancel" => self.cancel(words, answer),
+            "forget" => self.forget(words, answer),
+            "told" => self.told(words, text),
+            "asked" => self.asked(words),
+            "notified" => self.notified(words),
+            "not-found" => self.not_found(words),
+            _ => self.serve(verb, words, text, answer),
+        }
+    }
+
+    // The step behind the end that it names.
+    fn without_end<'b>(&mut self, step: &'b str) -> &'b str {
+        if let Some(step) = step.strip_prefix("client ") {
+            self.end = End::Client;
+            return step;
+        }
+        if let Some(step) = step.strip_prefix("server ") {
+            self.end = End::Server;
+            return step;
+        }
+        step
+    }
+
+    /// What came of the step is what had to.
+    pub(super) fn is_same(&self, came: &str, wanted: &str) -> Result<(), Fail> {
+        if came == wanted {
+            return Ok(());
+        }
+        Err(self.wrong(came))
+    }
+
+    /// The step went wrong in this way.
+    pub(super) fn wrong(&self, came: &str) -> Fail {
+        Fail::new(format_args!("in {}, at `{}`: {came}", self.script, self.line))
+    }
+
+    /// Nothing is left to go out.
+    pub(super) fn is_quiet(&mut self) -> Result<(), Fail> {
+        if self.client.next_out().is_none() && self.server.next_out().is_none() {
+            return Ok(());
+        }
+        Err(self.wrong("more goes out before it"))
+    }
+
+    /// Nothing is left to go out or to be reported.
+    pub(super) fn is_over(&mut self) -> Result<(), Fail> {
+        self.line = "its end";
+        self.is_quiet()?;
+        self.told("nothing", "")
+    }
+
+    fn begin(&mut self, words: &str) -> Result<(), Fail> {
+        let mut szx = MAX_SZX;
+        let mut word = 0;
+        let mut changes = MAX_CHANGES_PER_WINDOW;
+        for setting in words.split(' ') {
+            match cut(setting, "=") {
+                ("szx", value) => szx = value.parse()?,
+                ("word", value) => word = value.parse()?,
+                ("changes", value) => changes = value.parse()?,
+                _ => return Err(self.wrong("no setting")),
+            }
+        }
+        self.begin_with(block_size(szx)?, word, changes)
+    }
+
+    fn begin_with(&mut self, szx: Szx, word: u64, changes: u32) -> Result<(), Fail> {
+        match self.end {
+            End::Client => {
+                self.client_word = word;
+                self.client = Client::new(self.alloc, endpoint(SERVER), szx, word);
+            }
+            End::Server => {
+                self.server_word = word;
+                self.server = server(self.alloc, changes, szx, word)?;
+            }
+        }
+        Ok(())
+    }
+
+    fn feed_words(&mut self, words: &str) -> Result<(), Fail> {
+        let (at, words) = first(words);
+        let (port, hex) = first(words);
+        let bytes = bytes_of(self.alloc, hex)?;
+        self.feed(at.parse()?, port_of(port)?, bytes.as_slice())
+    }
+
+    pub(super) fn feed(&mut self, at: u64, port: u16, bytes: &[u8]) -> Result<(), Fail> {
+        self.is_quiet()?;
+        if is_of_client(port) {
+            self.client
+                .feed(Moment(at), endpoint(port), bytes, self.client_word)?;
+        } else {
+            self.server
+                .feed(Moment(at), endpoint(port), bytes, self.server_word)?;
+        }
+        Ok(())
+    }
+
+    pub(super) fn tick(&mut self, words: &str, wanted: &str) -> Result<(), Fail> {
+        self.is_quiet()?;
+        let at = Moment(words.parse()?);
+        let did = match self.end {
+            End::Client => self.client.tick(at, self.client_word)?,
+            End::Server => self.server.tick(at, self.server_word)?,
+        };
+        self.is_same(if did { "done" } else { "idle" }, wanted)
+    }
+
+    fn out(&mut self, words: &str) -> Result<(), Fail> {
+        let (port, hex) = first(words);
+        let port = port_of(port)?;
+        let datagram = if is_of_client(port) {
+            self.client.next_out()
+        } else {
+            self.server.next_out()
+        };
+        match datagram {
+            Some(datagram) => self.is_datagram(&datagram, port, hex),
+            None => self.is_same("nothing", hex),
+        }
+    }
+
+    // It is kept as what was given out last.
+    fn is_datagram(
+        &mut self,
+        datagram: &Datagram<Global>,
+        port: u16,
+        hex: &str,
+    ) -> Result<(), Fail> {
+        let came = hex::encode(self.alloc, datagram.bytes())?;
+        let wanted = hex_of(self.alloc, hex)?;
+        self.is_same(came.as_str(), wanted.as_str())?;
+        self.sent(datagram)?;
+        if datagram.to() == endpoint(port) {
+            return Ok(());
+        }
+        Err(self.wrong("it goes to another"))
+    }
+}
+
+fn block_size(szx: u8) -> Result<Szx, Fail> {
+    match Szx::new(szx) {
+        Some(szx) => Ok(szx),
+        None => Err(Fail::new("a size exponent is 0 to 6")),
+    }
+}
+
+// A server that holds nothing, where a window takes so many changes.
+fn server(
+    alloc: Global,
+    changes: u32,
+    szx: Szx,
+    word: u64,
+) -> Result<Server<ListStore, Global>, Fail> {
+    match ListStore::new(alloc, changes) {
+        Some(store) => Ok(Server::new(alloc, store, szx, word)),
+        None => Err(Fail::new("a window takes 1 change at least")),
+    }
+}

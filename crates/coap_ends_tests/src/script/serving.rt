@@ -1,0 +1,98 @@
+//! The steps of the server's own side, and what it shows.
+use super::ends::Ends;
+use super::words::{bytes_of, endpoint, first, format_of, method_of, path_of, port_of, text_of};
+use coap_types::Moment;
+use std::test::Fail;
+
+impl Ends<'_> {
+    pub(super) fn serve(
+        &mut self,
+        verb: &str,
+        words: &str,
+        text: &str,
+        answer: &str,
+    ) -> Result<(), Fail> {
+        match verb {
+            "set" => self.set(words, text, answer),
+            "remove" => self.remove(words, answer),
+            "delay" => self.delay(words, answer),
+            "holds" => self.holds(words, text),
+            "applied" => self.applied(words),
+            _ => Err(self.wrong("no step")),
+        }
+    }
+
+    fn set(&mut self, words: &str, text: &str, answer: &str) -> Result<(), Fail> {
+        self.is_quiet()?;
+        let (at, words) = first(words);
+        let (path, format) = first(words);
+        let path = path_of(self.alloc, path)?;
+        let body = text_of(self.alloc, text)?;
+        let at = Moment(at.parse()?);
+        match self
+            .server
+            .set(at, &path, format_of(format)?, body.as_bytes())
+        {
+            Ok(_version) => self.is_same("", answer),
+            Err(why) => self.is_same(format!(in self.alloc; "{why:?}")?.as_str(), answer),
+        }
+    }
+
+    fn remove(&mut self, words: &str, answer: &str) -> Result<(), Fail> {
+        self.is_quiet()?;
+        let (at, path) = first(words);
+        let path = path_of(self.alloc, path)?;
+        match self.server.remove(Moment(at.parse()?), &path) {
+            Ok(true) => self.is_same("", answer),
+            Ok(false) => self.is_same("nothing", answer),
+            Err(why) => self.is_same(format!(in self.alloc; "{why:?}")?.as_str(), answer),
+        }
+    }
+
+    fn delay(&mut self, words: &str, answer: &str) -> Result<(), Fail> {
+        let (path, ms) = first(words);
+        let path = path_of(self.alloc, path)?;
+        match self.server.set_delay(&path, ms.parse()?) {
+            Ok(()) => self.is_same("", answer),
+            Err(why) => self.is_same(format!(in self.alloc; "{why:?}")?.as_str(), answer),
+        }
+    }
+
+    fn holds(&self, words: &str, text: &str) -> Result<(), Fail> {
+        let (path, words) = first(words);
+        let path = path_of(self.alloc, path)?;
+        let Some(held) = self.server.get(&path) else {
+            return self.is_same("nothing", words);
+        };
+        let (version, format) = first(words);
+        let version: u64 = version.parse()?;
+        let body = text_of(self.alloc, text)?;
+        if held.version != version || held.format != format_of(format)? {
+            return Err(self.wrong("it holds another version or format"));
+        }
+        if held.body.as_slice() != body.as_bytes() {
+            return Err(self.wrong("it holds another body"));
+        }
+        Ok(())
+    }
+
+    fn applied(&self, words: &str) -> Result<(), Fail> {
+        let Some(applied) = self.server.applied() else {
+            return self.is_same("nothing", words);
+        };
+        let (port, words) = first(words);
+        let (method, words) = first(words);
+        let (path, words) = first(words);
+        let (token, version) = first(words);
+        let version: u64 = version.parse()?;
+        if applied.from != endpoint(port_of(port)?)
+            || applied.method != method_of(method)?
+            || applied.path != path_of(self.alloc, path)?
+            || applied.token.as_slice() != bytes_of(self.alloc, token)?.as_slice()
+            || applied.version != version
+        {
+            return Err(self.wrong("another request was applied"));
+        }
+        Ok(())
+    }
+}
