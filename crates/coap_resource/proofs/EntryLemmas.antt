@@ -8,7 +8,7 @@ use Rattle.coap_types.specs.Path.{same_path}
 use Rattle.coap_types.specs.declared.limits.TheConstants.{MAX_BODY_LEN as max_body_len}
 use Rattle.coap_resource.specs.Content.{Held, Changes}
 use Rattle.coap_resource.specs.Rate.{counted}
-use Rattle.coap_resource.specs.Entries.{entry_of, held_entries, find, without_path, Unique, AreShort, Listed}
+use Rattle.coap_resource.specs.Entries.{entry_of, held_entries, find, without_path, Unique, AreShort, Enters, Listed}
 use Rattle.coap_resource.specs.Entries.{content_of}
 use Rattle.coap_types.proofs.Facts.Paths.{same_path-decides}
 
@@ -36,7 +36,7 @@ other_by : (b : Bool) (p q : List (List ℕ)) → (b ≡ true → p ≡ q) → q
 other_by true p q d h = absurd (h (sym (d refl)))
 other_by false p q d h = refl
 
-is_other : (p q : List (List ℕ)) → q ≢ p → same_path p q ≡ false
+pub is_other : (p q : List (List ℕ)) → q ≢ p → same_path p q ≡ false
 is_other p q h = other_by (same_path p q) p q (is_same p q) h
 
 there_step : (b : Bool) (e : List (List ℕ) × Held) (w : List (List (List ℕ) × Held)) (p : List (List ℕ)) → same_path e.0 p ≡ b → find w p ≡ None
@@ -188,3 +188,21 @@ short_find (e ∷ es) p short = short_found (same_path e.0 p) e.1 (find es p) sh
 -- a body that is joined to another
 pub short_joined : (body front more : List ℕ) → body ≡ front ++ more → length front + length more ≤ max_body_len → length body ≤ max_body_len
 short_joined body front more is few = rw is (omega (arith, length-append front more))
+
+-- what enters is a change
+pub change_enters : (old new : Listed) (now : ℕ) (p : List (List ℕ)) (held : Option Held) → Enters old.entries p held new.entries
+    → new.tally ≡ counted old.tally now → Changes (content_of old) now p held (content_of new)
+change_enters old new now p held enters tally = record { there = enters.there; others = enters.others; paths = enters.paths; tally = tally }
+
+-- .. also where a body was joined
+pub change_joined : (old new : Listed) (now : ℕ) (p : List (List ℕ)) (version : ℕ) (was held : Held) (body more : List ℕ)
+    → Enters old.entries p (Some (record { version = version; format = was.format; body = body })) new.entries → body ≡ was.body ++ more
+    → was ≡ held → new.tally ≡ counted old.tally now
+    → Changes (content_of old) now p (Some (record { version = version; format = held.format; body = held.body ++ more })) (content_of new)
+change_joined old new now p version was held body more enters joined same tally =
+    rw (← same, ← joined) (change_enters old new now p (Some (record { version = version; format = was.format; body = body })) enters tally)
+
+-- what was found there is what the store holds there
+pub found_there : (es : List (List (List ℕ) × Held)) (old : Listed) (t : Tally) (p : List (List ℕ)) (h k : Held)
+    → Some h ≡ find es p → record { entries = es; tally = t } ≡ old → find old.entries p ≡ Some k → h ≡ k
+found_there es old t p h k found is there = some_same h k (cc)

@@ -1,4 +1,5 @@
 pub mod EntryLemmas
+pub mod MapLemmas
 pub mod QuietLemmas
 pub mod RateLemmas
 pub mod ServedContent

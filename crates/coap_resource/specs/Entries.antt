@@ -1,8 +1,9 @@
 -- A list of entries as a map from paths, with at most one entry for a path.
-use Rattle.std.specs.Prelude.{◌≡◌, ◌≤◌, ℕ, not, List, [], ◌∷◌, length, map, Option, Some, None, if◌then◌else◌}
+use Rattle.std.specs.Prelude.{◌≡◌, ◌≢◌, ◌≤◌, ℕ, ◌+◌, not, List, [], ◌∷◌, length, map, Option, Some, None, IfSome, is_some, if◌then◌else◌}
 use Rattle.std.specs.List.{filter}
 use Rattle.coap_types.specs.Path.{same_path}
 use Rattle.coap_resource.specs.declared.entry.Entry.{Entry}
+use Rattle.coap_resource.specs.declared.representation.Representation.{Representation}
 use Rattle.coap_types.specs.declared.limits.TheConstants.{MAX_BODY_LEN as max_body_len}
 use Rattle.coap_resource.specs.declared.tally.Tally.{Tally}
 use Rattle.coap_resource.specs.Content.{Held, Content}
@@ -13,6 +14,10 @@ entry_of e = (e.path, held_of e.held)
 
 abbrev pub held_entries : {A : Type 0} → List (Entry A) → List (List (List ℕ) × Held)
 held_entries {A} es = map (λ (e : Entry A). entry_of e) es
+
+-- .. and those of a map from paths
+abbrev pub mapped_entries : {A : Type 0} → List (List (List ℕ) × Representation A) → List (List (List ℕ) × Held)
+mapped_entries {A} es = map (λ (e : List (List ℕ) × Representation A). (e.0, held_of e.1)) es
 
 -- what the entries hold at a path
 abbrev pub find : List (List (List ℕ) × Held) → List (List ℕ) → Option Held
@@ -40,3 +45,10 @@ pub record Listed : Type 0 where
 
 abbrev pub content_of : Listed → Content
 content_of s = record { holds = find s.entries; paths = length s.entries; tally = s.tally }
+
+-- The entries hold that at the path from now on, or nothing, and at the others what they held.
+pub record Enters (old : List (List (List ℕ) × Held)) (path : List (List ℕ)) (held : Option Held) (new : List (List (List ℕ) × Held)) : Type 0 where
+  pub there : find new path ≡ held
+  pub others : (other : List (List ℕ)) → other ≢ path → find new other ≡ find old other
+  pub paths : length new + (if is_some (find old path) then 1 else 0) ≡ length old + (if is_some held then 1 else 0)
+  pub short : AreShort old → IfSome held (λ h. length h.body ≤ max_body_len) → AreShort new

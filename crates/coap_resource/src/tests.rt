@@ -1,10 +1,11 @@
 use crate::{
-    Asking, ListStore, MAX_PATHS, Response, Store, StoreRefusal, rate_law, serve, served_law,
-    value_of,
+    Asking, ListStore, MAX_PATHS, MapStore, Response, Store, StoreRefusal, rate_law, serve,
+    served_law, value_of,
 };
 use StoreRefusal::{RateExceeded, TooLarge, TooManyPaths};
 use coap_types::{Code, Direction, Method, Moment, Opt, Path, Szx, recognised};
 use std::alloc::{AllocError, Global};
+use std::process::Abort;
 
 /// A path of one segment.
 pub(crate) fn path_of(alloc: Global, segment: &[u8]) -> Result<Path, AllocError> {
@@ -16,8 +17,8 @@ pub(crate) fn path_of(alloc: Global, segment: &[u8]) -> Result<Path, AllocError>
 }
 
 /// What a store answers to a request of these options.
-pub(crate) fn ask(
-    store: &mut ListStore,
+pub(crate) fn ask<S: Store<Global>>(
+    store: &mut S,
     method: Method,
     path: &Path,
     options: &[Opt<'_>],
@@ -34,24 +35,37 @@ pub(crate) fn ask(
     serve(store, Moment(0), &asking)
 }
 
-// The code that a store answers which holds `hi` at `t` as its first change.
-fn code_of(
+// The codes that the two stores answer, each of which holds `hi` at `t` as its first change.
+fn codes_of(
     alloc: Global,
     method: Method,
     segment: &[u8],
     option: Opt<'_>,
-) -> Result<Code, AllocError> {
-    code_by(alloc, method, segment, &[option])
+) -> Result<[Code; 2], AllocError> {
+    codes_by(alloc, method, segment, &[option])
 }
 
 // The same for a request of several options.
-fn code_by(
+fn codes_by(
+    alloc: Global,
+    method: Method,
+    segment: &[u8],
+    options: &[Opt<'_>],
+) -> Result<[Code; 2], AllocError> {
+    Ok([
+        code_by::<ListStore>(alloc, method, segment, options)?,
+        code_by::<MapStore>(alloc, method, segment, options)?,
+    ])
+}
+
+// The same of one store.
+fn code_by<S: Store<Global>>(
     alloc: Global,
     method: Method,
     segment: &[u8],
     options: &[Opt<'_>],
 ) -> Result<Code, AllocError> {
-    let Some(mut store) = ListStore::new(alloc, 4_194_303) else {
+    let Some(mut store) = S::new(alloc, 4_194_303) else {
         return Err(AllocError);
     };
     let there = path_of(alloc, b"t")?;
@@ -80,8 +94,8 @@ fn methods_are_served_by_their_table(rt: HostRuntime) -> Result<(), AllocError> 
     for (method, there, elsewhere) in cases {
         let (number, value) = NO_OPTION;
         let option = Opt { number, value };
-        assert_eq!(rt; code_of(rt.alloc(), method, b"t", option)?, there);
-        assert_eq!(rt; code_of(rt.alloc(), method, b"z", option)?, elsewhere);
+        assert_eq!(rt; codes_of(rt.alloc(), method, b"t", option)?, [there; 2]);
+        assert_eq!(rt; codes_of(rt.alloc(), method, b"z", option)?, [elsewhere; 2]);
     }
     Ok(())
 }
@@ -108,7 +122,7 @@ fn options_of_a_get_are_obeyed(rt: HostRuntime) -> Result<(), AllocError> {
     ];
     for (number, value, code) in cases {
         let option = Opt { number, value };
-        assert_eq!(rt; code_of(rt.alloc(), Method::Get, b"t", option)?, code);
+        assert_eq!(rt; codes_of(rt.alloc(), Method::Get, b"t", option)?, [code; 2]);
     }
     Ok(())
 }
@@ -135,8 +149,14 @@ fn preconditions_come_before_the_method(rt: HostRuntime) -> Result<(), AllocErro
     ];
     for (number, value, there, elsewhere) in cases {
         let option = Opt { number, value };
-        assert_eq!(rt; code_of(rt.alloc(), Method::Put, b"t", option)?, there);
-        assert_eq!(rt; code_of(rt.alloc(), Method::Put, b"z", option)?, elsewhere);
+        assert_eq!(rt;
+            codes_of(rt.alloc(), Method::Put, b"t", option)?,
+            [there; 2]
+        );
+        assert_eq!(rt;
+            codes_of(rt.alloc(), Method::Put, b"z", option)?,
+            [elsewhere; 2]
+        );
     }
     Ok(())
 }
@@ -149,9 +169,9 @@ fn codes_of_two(
     method: Method,
     first: Opt<'_>,
     second: Opt<'_>,
-) -> Result<(Code, Code), AllocError> {
-    let one = code_by(alloc, method, b"t", &[first, second])?;
-    let other = code_by(alloc, method, b"t", &[second, first])?;
+) -> Result<([Code; 2], [Code; 2]), AllocError> {
+    let one = codes_by(alloc, method, b"t", &[first, second])?;
+    let other = codes_by(alloc, method, b"t", &[second, first])?;
     Ok((one, other))
 }
 
@@ -195,16 +215,19 @@ fn several_options_count_in_any_order(rt: HostRuntime) -> Result<(), AllocError>
             value: second.1,
         };
         let codes = codes_of_two(rt.alloc(), method, first, second)?;
-        assert_eq!(rt; codes, (code, code));
+        assert_eq!(rt; codes, ([code; 2], [code; 2]));
     }
     Ok(())
 }
 
-// What a store that holds `hi` at `t` answers to a request of which these options are recognised.
-fn code_of_recognised(alloc: Global, options: &[Opt<'_>]) -> Result<(Code, bool), AllocError> {
+// What the stores that hold `hi` at `t` answer to a request of which these options are recognised.
+fn codes_of_recognised(
+    alloc: Global,
+    options: &[Opt<'_>],
+) -> Result<([Code; 2], bool), AllocError> {
     let (kept, bad) = recognised(alloc, Direction::Request, options.iter().copied())?;
-    let code = code_by(alloc, Method::Get, b"t", &kept)?;
-    Ok((code, bad))
+    let codes = codes_by(alloc, Method::Get, b"t", &kept)?;
+    Ok((codes, bad))
 }
 
 #[test]
@@ -231,7 +254,10 @@ fn only_recognised_options_count(rt: HostRuntime) -> Result<(), AllocError> {
                 value: second.1,
             },
         ];
-        assert_eq!(rt; code_of_recognised(rt.alloc(), &options)?, (code, bad));
+        assert_eq!(rt;
+            codes_of_recognised(rt.alloc(), &options)?,
+            ([code; 2], bad)
+        );
     }
     Ok(())
 }
@@ -256,17 +282,17 @@ fn the_first_option_of_a_number_is_found(rt: HostRuntime) {
     assert_eq!(rt; value_of(&options, 12), None);
 }
 
-#[test]
-fn changes_are_numbered_joined_and_taken_away(rt: HostRuntime) -> Result<(), AllocError> {
+// A store's changes, one by one.
+fn check_changes<R: Abort + AllocGlobal, S: Store<Global>>(rt: &R) -> Result<(), AllocError> {
     let path = path_of(rt.alloc(), b"log")?;
-    let mut store: ListStore = Store::new(rt.alloc(), 4_194_303).expect(&rt, "in range");
+    let mut store = S::new(rt.alloc(), 4_194_303).expect(rt, "in range");
     assert_eq!(rt; store.version(), 0);
     assert_eq!(rt; store.append(Moment(0), &path, b"a"), Ok(None));
     assert_eq!(rt; store.delete(Moment(0), &path), Ok(None));
     assert_eq!(rt; store.put(Moment(0), &path, None, b"x"), Ok(1));
     assert_eq!(rt; store.append(Moment(0), &path, b"a"), Ok(Some(2)));
     assert_eq!(rt; store.append(Moment(0), &path, b"a"), Ok(Some(3)));
-    let held = store.get(&path).expect(&rt, "it is there");
+    let held = store.get(&path).expect(rt, "it is there");
     assert_eq!(rt; held.body.as_slice(), b"xaa".as_slice());
     assert_eq!(rt; (held.version, held.format), (3, None));
     assert_eq!(rt; store.delete(Moment(0), &path), Ok(Some(4)));
@@ -276,10 +302,16 @@ fn changes_are_numbered_joined_and_taken_away(rt: HostRuntime) -> Result<(), All
 }
 
 #[test]
-fn a_window_of_256_s_takes_so_many_changes(rt: HostRuntime) -> Result<(), AllocError> {
+fn changes_are_numbered_joined_and_taken_away(rt: HostRuntime) -> Result<(), AllocError> {
+    check_changes::<HostRuntime, ListStore>(&rt)?;
+    check_changes::<HostRuntime, MapStore>(&rt)
+}
+
+// A store that takes two changes in a window.
+fn check_rate<R: Abort + AllocGlobal, S: Store<Global>>(rt: &R) -> Result<(), AllocError> {
     let path = path_of(rt.alloc(), b"t")?;
     let large = Vec::from_elem(rt.alloc(), 0u8, 65_537)?;
-    let mut store: ListStore = Store::new(rt.alloc(), 2).expect(&rt, "in range");
+    let mut store = S::new(rt.alloc(), 2).expect(rt, "in range");
     assert_eq!(rt; store.put(Moment(0), &path, None, b"a"), Ok(1));
     assert_eq!(rt; store.put(Moment(255_999), &path, None, b"b"), Ok(2));
     assert_eq!(rt;
@@ -300,17 +332,23 @@ fn a_window_of_256_s_takes_so_many_changes(rt: HostRuntime) -> Result<(), AllocE
     );
     let refused: [u32; 2] = [0, 4_194_304];
     for changes in refused {
-        let none: Option<ListStore> = Store::new(rt.alloc(), changes);
+        let none = S::new(rt.alloc(), changes);
         assert!(rt; none.is_none());
     }
-    rate_law();
-    served_law();
     Ok(())
 }
 
 #[test]
-fn bodies_and_paths_are_bounded(rt: HostRuntime) -> Result<(), AllocError> {
-    let mut store: ListStore = Store::new(rt.alloc(), 4_194_303).expect(&rt, "in range");
+fn a_window_of_256_s_takes_so_many_changes(rt: HostRuntime) -> Result<(), AllocError> {
+    rate_law();
+    served_law();
+    check_rate::<HostRuntime, ListStore>(&rt)?;
+    check_rate::<HostRuntime, MapStore>(&rt)
+}
+
+// A store at its bounds.
+fn check_bounds<R: Abort + AllocGlobal, S: Store<Global>>(rt: &R) -> Result<(), AllocError> {
+    let mut store = S::new(rt.alloc(), 4_194_303).expect(rt, "in range");
     let full = Vec::from_elem(rt.alloc(), 7u8, 65_536)?;
     for number in 0..MAX_PATHS {
         let segment = [(number / 256) as u8, (number % 256) as u8];
@@ -327,4 +365,10 @@ fn bodies_and_paths_are_bounded(rt: HostRuntime) -> Result<(), AllocError> {
     assert_eq!(rt; store.append(Moment(0), &first, b"a"), Err(TooLarge));
     assert_eq!(rt; store.append(Moment(0), &first, b""), Ok(Some(258)));
     Ok(())
+}
+
+#[test]
+fn bodies_and_paths_are_bounded(rt: HostRuntime) -> Result<(), AllocError> {
+    check_bounds::<HostRuntime, ListStore>(&rt)?;
+    check_bounds::<HostRuntime, MapStore>(&rt)
 }
