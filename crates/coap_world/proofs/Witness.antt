@@ -4,10 +4,14 @@ pub mod Legal
 pub mod InWords
 pub mod OneHeld
 pub mod TurnsMade
+pub mod Exchanges
 pub mod Gets
 pub mod ComesTill
 pub mod Watches
 pub mod Refuses
+pub mod Queues
+pub mod Matches
+pub mod Validates
 pub mod Defers
 pub mod Observed
 pub mod Crosses

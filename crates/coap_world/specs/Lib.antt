@@ -18,6 +18,7 @@ pub mod Done
 pub mod Agrees
 pub mod GoesOn
 pub mod LegalRuns
+pub mod CallRuns
 pub mod Rising
 pub mod ObservationRuns
 pub mod BlockRuns

@@ -5,6 +5,7 @@ ghost use Rattle.coap_world.specs.Legal.{IsConfig, Legal};
 ghost use Rattle.coap_world.specs.Record.{Turn, RecordOf, entries_of, client_of};
 ghost use Rattle.coap_world.specs.GoesOn.{GoesOn, MayRun, HasRecord};
 ghost use Rattle.coap_world.specs.LegalRuns.{Gets, GetsAgain, Refuses, Defers, Repeats, TimesOut, Interferes, Pings};
+ghost use Rattle.coap_world.specs.CallRuns.{Queues, Matches, Validates};
 ghost use Rattle.coap_world.specs.ObservationRuns.{Watches, Observed, Crosses, Reorders};
 ghost use Rattle.coap_world.specs.BlockRuns.{Uploads, Changes};
 
@@ -32,6 +33,12 @@ pub fn witness_law()
     ensures watches { Watches }
     // A PUT whose If-Match fails is refused with 4.12, and changes nothing (RFC 7252, section 5.10.8.1).
     ensures refuses { Refuses }
+    // A GET waits behind a PUT, and gets what that made (RFC 7252, sections 4.7, 5.8.1 and 5.8.3).
+    ensures queues { Queues }
+    // A PUT whose If-Match holds succeeds, and then a DELETE (RFC 7252, sections 5.8.4 and 5.10.8.1).
+    ensures matches { Matches }
+    // What a client has is valid still, and then its POST succeeds (RFC 7252, sections 5.8.2 and 5.9.1.3).
+    ensures validates { Validates }
     // A client gets what the server holds by a separate response (RFC 7252, section 5.2.2).
     ensures defers { Defers }
     // A client observes, and takes two values (RFC 7641, section 1.3).

@@ -1,6 +1,9 @@
 use Rattle.coap_world.proofs.Witness.Gets.{gotten, gotten_again}
 use Rattle.coap_world.proofs.Witness.Watches.{watched}
 use Rattle.coap_world.proofs.Witness.Refuses.{refused}
+use Rattle.coap_world.proofs.Witness.Queues.{queued}
+use Rattle.coap_world.proofs.Witness.Matches.{matched}
+use Rattle.coap_world.proofs.Witness.Validates.{validated}
 use Rattle.coap_world.proofs.Witness.Defers.{deferred}
 use Rattle.coap_world.proofs.Witness.Observed.{observed}
 use Rattle.coap_world.proofs.Witness.Crosses.{crossed}
@@ -24,6 +27,15 @@ returns-clause-watches c = watched
 
 pub returns-clause-refuses : goal.returns-clause-refuses
 returns-clause-refuses c = refused
+
+pub returns-clause-queues : goal.returns-clause-queues
+returns-clause-queues c = queued
+
+pub returns-clause-matches : goal.returns-clause-matches
+returns-clause-matches c = matched
+
+pub returns-clause-validates : goal.returns-clause-validates
+returns-clause-validates c = validated
 
 pub returns-clause-defers : goal.returns-clause-defers
 returns-clause-defers c = deferred

@@ -1,0 +1,170 @@
+-- The client of a legal run: its PUT and its DELETE succeed (RFC 7252, sections 5.8.3 and 5.8.4).
+use Rattle.std.proofs.Common.{Some, None, List, [], ◌∷◌, ◌++◌, Ok, refl, arith}
+use Rattle.std.specs.Prelude.{replicate}
+use Rattle.coap_codec.specs.Message.{Message}
+use Rattle.coap_codec.specs.Spelling.{option_bytes, options_bytes}
+use Rattle.coap_codec.specs.Reading.{extended, value_at, nibbles_at, option_at, walk_of, walk, payload_at, frame_fault}
+use Rattle.coap_codec.specs.Reading.{body_at}
+use Rattle.coap_codec.specs.Decoded.{decoded}
+use Rattle.coap_layer.proofs.Facts.Sendable.{sendable_when_short}
+use Rattle.coap_layer.specs.Machine.State.{State, start}
+use Rattle.coap_layer.specs.Machine.Steps.{Asked, Steps}
+use Rattle.coap_exchange.specs.AskerLaw as asker
+use Rattle.coap_ends.specs.ClientSide.ClientTrace as C
+use Rattle.coap_ends.specs.ClientSide.ClientLaw.{ClientLaw, ClientRows, lower_of}
+use Rattle.coap_world.specs.Events.{server_end}
+use Rattle.coap_world.specs.LegalRuns.{reported, delete, changed_bytes}
+use Rattle.coap_world.specs.CallRuns.{replace, reported_next, changed, deleted, replace_bytes, next_delete, gone_bytes}
+use Rattle.coap_world.proofs.Witness.Exchanges.{response, sends, ends}
+use Rattle.coap_world.proofs.Witness.InWords.{bytes_are}
+use Rattle.coap_world.proofs.Witness.TurnsMade.{client_turn, to_server}
+
+-- the responses
+
+abbrev pub first_answer : Message
+first_answer = response changed 0 [] []
+
+abbrev pub last_answer : Message
+last_answer = response deleted 1 [] []
+
+abbrev pub first_report : C.Reported
+first_report = reported (C.Done changed)
+
+abbrev pub last_report : C.Reported
+last_report = reported_next (C.Done deleted)
+
+-- the calls of each turn, the newest first
+
+abbrev pub called : List C.Call
+called = C.Calls 0 replace (Ok 0) ∷ []
+
+abbrev pub called_next : List C.Call
+called_next = C.Calls 3 delete (Ok 1) ∷ []
+
+abbrev pub hears_first : List C.Call
+hears_first = ends 2 changed_bytes first_answer
+
+abbrev pub hears_last : List C.Call
+hears_last = ends 5 gone_bytes last_answer
+
+abbrev calls_first : List C.Call
+calls_first =
+    client_turn (first_report ∷ []) [] hears_first ++
+    (client_turn [] (to_server replace_bytes ∷ []) (sends 0 0) ++ client_turn [] [] called)
+
+abbrev pub calls : List C.Call
+calls =
+    client_turn (last_report ∷ []) [] hears_last ++
+    (client_turn [] (to_server next_delete ∷ []) (sends 3 1) ++ (client_turn [] [] called_next ++ calls_first))
+
+rows : ClientRows 6 calls
+unfolding option_bytes options_bytes
+rows = (
+  refl,
+  (
+    refl,
+    (
+      tt,
+      (
+        tt,
+        (
+          refl,
+          (
+            tt,
+            (
+              tt,
+              (
+                refl,
+                (refl, (refl, (tt, (refl, (refl, (refl, (tt, (tt, (refl, (tt, (tt, (refl, (refl, (refl, (tt, (refl, tt)))))))))))))))),
+              ),
+            ),
+          ),
+        ),
+      ),
+    ),
+  ),
+)
+
+asked : asker.AskerLaw server_end 0 (lower_of 6 calls)
+asked = (tt, (refl, (tt, (tt, (refl, (refl, (refl, (tt, (tt, (refl, (tt, (tt, (refl, (refl, (refl, (tt, tt))))))))))))))))
+
+-- the steps of its message layer
+
+abbrev run_first : List Asked
+run_first = asker.lower_of server_end 0 (lower_of 6 calls_first)
+
+abbrev pub left_first : State
+left_first = record (start 0) { clock = 2; upcoming = 1; last_used = Some 0 ∷ replicate 15 None }
+
+pub steps_first : Steps (start 0) run_first left_first
+unfolding decoded frame_fault body_at walk walk_of option_at nibbles_at value_at extended payload_at option_bytes options_bytes
+steps_first = (
+  _,
+  (
+    _,
+    (
+      _,
+      (
+        _,
+        (
+          _,
+          (
+            _,
+            (
+              _,
+              (_, (_, refl, record { may = tt; right = refl; new_is = refl }), record { may = tt; right = refl; new_is = refl }),
+              record { may = (sendable_when_short _ (record { some = omega arith; code = omega arith; id = omega arith; token = omega arith; order = refl; numbers = refl; short = refl }) (omega arith)).spelled; right = refl; new_is = refl },
+            ),
+            record { may = tt; right = refl; new_is = refl },
+          ),
+          record { may = tt; right = refl; new_is = refl },
+        ),
+        record { may = tt; right = refl; new_is = refl },
+      ),
+      record { may = bytes_are changed_bytes refl; right = refl; new_is = refl },
+    ),
+    record { may = tt; right = refl; new_is = refl },
+  ),
+  record { may = tt; right = refl; new_is = refl },
+)
+
+abbrev run_last : List Asked
+run_last = asker.lower_of server_end 0 (lower_of 6 calls)
+
+abbrev pub left_last : State
+left_last = record left_first { clock = 5; upcoming = 2; last_used = Some 3 ∷ replicate 15 None }
+
+pub steps_last : Steps (start 0) run_last left_last
+unfolding decoded frame_fault body_at walk walk_of option_at nibbles_at value_at extended payload_at option_bytes options_bytes
+steps_last = (
+  _,
+  (
+    _,
+    (
+      _,
+      (
+        _,
+        (
+          _,
+          (
+            _,
+            (
+              _,
+              (_, (_, steps_first, record { may = tt; right = refl; new_is = refl }), record { may = tt; right = refl; new_is = refl }),
+              record { may = (sendable_when_short _ (record { some = omega arith; code = omega arith; id = omega arith; token = omega arith; order = refl; numbers = refl; short = refl }) (omega arith)).spelled; right = refl; new_is = refl },
+            ),
+            record { may = tt; right = refl; new_is = refl },
+          ),
+          record { may = tt; right = refl; new_is = refl },
+        ),
+        record { may = tt; right = refl; new_is = refl },
+      ),
+      record { may = bytes_are gone_bytes refl; right = refl; new_is = refl },
+    ),
+    record { may = tt; right = refl; new_is = refl },
+  ),
+  record { may = tt; right = refl; new_is = refl },
+)
+
+pub lawful : ClientLaw server_end 6 0 calls
+lawful = record { rows = rows; exchanges = record { rows = asked; left = left_last; layer = steps_last } }
