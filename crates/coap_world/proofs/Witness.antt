@@ -21,4 +21,5 @@ pub mod Uploads
 pub mod Repeats
 pub mod TimesOut
 pub mod Interferes
+pub mod Exhausts
 pub mod Pings

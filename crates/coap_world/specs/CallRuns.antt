@@ -1,13 +1,18 @@
--- Legal runs in which calls succeed, one behind the other, with the datagrams that the ends give out in them (RFC 7252,
--- section 5.8). Each is the newest event, or datagram, first.
-use Rattle.std.specs.Prelude.{◌≡◌, ℕ, Some, None, List, [], ◌∷◌, ◌++◌, codes}
+-- Legal runs in which calls succeed, one behind the other, and the server's changes meet their limit, with the datagrams that
+-- the ends give out in them (RFC 7252, section 5.8; RFC 7641, section 4.4). Each is the newest event, or datagram, first.
+use Rattle.std.specs.Prelude.{◌≡◌, ℕ, Bool, true, Some, None, List, [], ◌∷◌, ◌++◌, codes, Result, Ok, Err}
+use Rattle.coap_types.specs.Past.{Ever}
 use Rattle.coap_types.specs.declared.request.Method.TheVariants.{Post}
+use Rattle.coap_resource.specs.declared.refusal.StoreRefusal.{StoreRefusal}
+use Rattle.coap_resource.specs.declared.refusal.StoreRefusal.TheVariants.{RateExceeded}
 use Rattle.coap_ends.specs.ClientSide.ClientTrace.{Request, Report, Reported, Body, Valid, Done}
-use Rattle.coap_world.specs.Events.{client_end, Calls, TickClient, Deliver, Event}
+use Rattle.coap_ends.specs.ServerSide.ServerTrace as S
+use Rattle.coap_world.specs.Events.{client_end, Config, Calls, Sets, Removes, TickClient}
+use Rattle.coap_world.specs.Events.{Deliver, StrangerToServer, Event}
 use Rattle.coap_world.specs.LegalEvents.{event}
-use Rattle.coap_world.specs.Record.{entries_of}
+use Rattle.coap_world.specs.Record.{Entry, OfServer, entries_of}
 use Rattle.coap_world.specs.LegalRuns.{config, from_client, from_server, Runs, reported, Reports, Holds, tag, plain}
-use Rattle.coap_world.specs.LegalRuns.{json, t, hi, get, put, delete, changed_bytes}
+use Rattle.coap_world.specs.LegalRuns.{json, t, hi, get, put, delete, log, changed_bytes, stranger, puts}
 use Rattle.coap_world.specs.BlockRuns.{key, created, first_get}
 use Rattle.coap_world.specs.Words.{holds_at}
 
@@ -135,3 +140,39 @@ pub record Validates : Type 0 where
       from_client 0 validate_bytes ∷ [])
   pub reports : Reports run (reported (Valid (Some (tag 1))) ∷ reported_next (Done changed) ∷ [])
   pub holds : Holds run t 2 (Some plain) (codes "hia")
+
+-- A server takes four changes in a window of 256 s: `t` is set, a stranger deletes it by a NON and is answered by one, `log`
+-- is set and removed. So `t` is not set again (RFC 7252, sections 4.3 and 5.8.4; RFC 7641, section 4.4).
+
+abbrev pub four : Config
+four = record config { limit = 4 }
+
+-- with the token 1 and the Message ID 0a01; 2.02, with a Message ID of the server's own
+abbrev pub drop_bytes : List ℕ
+drop_bytes = 0x51 ∷ 4 ∷ 0x0a ∷ 1 ∷ 1 ∷ 0xb1 ∷ codes "t"
+
+abbrev pub dropped_bytes : List ℕ
+dropped_bytes = 0x51 ∷ 0x42 ∷ 0 ∷ 0 ∷ 1 ∷ []
+
+abbrev pub exhausts : List Event
+exhausts =
+    event 4 (puts (codes "b")) ∷
+    event 3 (Removes log) ∷
+    event 2 (Sets log (Some plain) (codes "x")) ∷
+    event 1 (StrangerToServer stranger drop_bytes) ∷
+    event 0 (puts (codes "a")) ∷
+    []
+
+-- what a local change is answered
+
+abbrev pub SetAnswers : Result ℕ StoreRefusal → ℕ → List (List ℕ) → Entry → Type 0
+SetAnswers answer at path e = (format : _) × (body : _) × (left : _) × (e ≡ OfServer (S.Sets at path format body answer left))
+
+abbrev pub RemoveAnswers : Result Bool StoreRefusal → ℕ → List (List ℕ) → Entry → Type 0
+RemoveAnswers answer at path e = (left : _) × (e ≡ OfServer (S.Removes at path answer left))
+
+pub record Exhausts : Type 0 where
+  pub run : Runs four exhausts (from_server 1 stranger dropped_bytes ∷ [])
+  pub removed : Ever (RemoveAnswers (Ok true) 3 log) (entries_of run.turns)
+  pub refused : Ever (SetAnswers (Err RateExceeded) 4 t) (entries_of run.turns)
+  pub none : (path : List (List ℕ)) → holds_at four path (entries_of run.turns) ≡ None

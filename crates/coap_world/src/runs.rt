@@ -5,7 +5,7 @@ ghost use Rattle.coap_world.specs.Legal.{IsConfig, Legal};
 ghost use Rattle.coap_world.specs.Record.{Turn, RecordOf, entries_of, client_of};
 ghost use Rattle.coap_world.specs.GoesOn.{GoesOn, MayRun, HasRecord};
 ghost use Rattle.coap_world.specs.LegalRuns.{Gets, GetsAgain, Refuses, Defers, Repeats, TimesOut, Interferes, Pings};
-ghost use Rattle.coap_world.specs.CallRuns.{Queues, Matches, Validates};
+ghost use Rattle.coap_world.specs.CallRuns.{Queues, Matches, Validates, Exhausts};
 ghost use Rattle.coap_world.specs.ObservationRuns.{Watches, Observed, Crosses, Reorders};
 ghost use Rattle.coap_world.specs.BlockRuns.{Uploads, Changes};
 
@@ -57,6 +57,8 @@ pub fn witness_law()
     ensures times_out { TimesOut }
     // A stranger's DELETE, under the token of a call, is applied, and not for that call (RFC 7252, section 5.8.4).
     ensures interferes { Interferes }
+    // A stranger's NON and local changes are all that a window takes: the next change is refused (RFC 7641, section 4.4).
+    ensures exhausts { Exhausts }
     // A stranger pings each end, which answers with a Reset (RFC 7252, section 4.3).
     ensures pings { Pings }
 {}

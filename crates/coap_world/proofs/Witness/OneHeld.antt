@@ -49,3 +49,12 @@ removed now path held tally = record {
   paths = ap (λ (o : Option Held). 0 + (if is_some o then 1 else 0)) (there path held tally);
   tally = refl;
 }
+
+-- .. and what it is given then
+pub anew : (now : ℕ) (path : List (List ℕ)) (held : Held) (tally : Tally) → Changes (empty tally) now path (Some held) (one path held (counted tally now))
+anew now path held tally = record {
+  there = there path held (counted tally now);
+  others = λ other apart. elsewhere path other held (counted tally now) apart;
+  paths = refl;
+  tally = refl;
+}

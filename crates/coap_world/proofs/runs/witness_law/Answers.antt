@@ -13,6 +13,7 @@ use Rattle.coap_world.proofs.Witness.Uploads.{uploaded}
 use Rattle.coap_world.proofs.Witness.Repeats.{repeated}
 use Rattle.coap_world.proofs.Witness.TimesOut.{timed_out}
 use Rattle.coap_world.proofs.Witness.Interferes.{interfered}
+use Rattle.coap_world.proofs.Witness.Exhausts.{exhausted}
 use Rattle.coap_world.proofs.Witness.Pings.{pinged}
 use Rattle.coap_world.proofs.runs.witness_law.Goals as goal
 
@@ -63,6 +64,9 @@ returns-clause-times_out c = timed_out
 
 pub returns-clause-interferes : goal.returns-clause-interferes
 returns-clause-interferes c = interfered
+
+pub returns-clause-exhausts : goal.returns-clause-exhausts
+returns-clause-exhausts c = exhausted
 
 pub returns-clause-pings : goal.returns-clause-pings
 returns-clause-pings c = pinged
