@@ -15,6 +15,7 @@ pub mod Validates
 pub mod Defers
 pub mod Observed
 pub mod Crosses
+pub mod Rejects
 pub mod Reorders
 pub mod Changes
 pub mod Uploads

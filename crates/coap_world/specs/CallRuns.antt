@@ -1,19 +1,21 @@
--- Legal runs in which calls succeed, one behind the other, and the server's changes meet their limit, with the datagrams that
--- the ends give out in them (RFC 7252, section 5.8; RFC 7641, section 4.4). Each is the newest event, or datagram, first.
+-- Legal runs in which calls succeed, one behind the other, an observation is forgotten, and the server's own changes meet
+-- their limit, with the datagrams that the ends give out in them (RFC 7252, section 5.8; RFC 7641, section 3.6). Each is the
+-- newest event, or datagram, first.
 use Rattle.std.specs.Prelude.{◌≡◌, ℕ, Bool, true, Some, None, List, [], ◌∷◌, ◌++◌, codes, Result, Ok, Err}
 use Rattle.coap_types.specs.Past.{Ever}
 use Rattle.coap_types.specs.declared.request.Method.TheVariants.{Post}
 use Rattle.coap_resource.specs.declared.refusal.StoreRefusal.{StoreRefusal}
 use Rattle.coap_resource.specs.declared.refusal.StoreRefusal.TheVariants.{RateExceeded}
-use Rattle.coap_ends.specs.ClientSide.ClientTrace.{Request, Report, Reported, Body, Valid, Done}
+use Rattle.coap_ends.specs.ClientSide.ClientTrace.{Request, Report, Reported, Body, Valid, Done, Value}
 use Rattle.coap_ends.specs.ServerSide.ServerTrace as S
-use Rattle.coap_world.specs.Events.{client_end, Config, Calls, Sets, Removes, TickClient}
+use Rattle.coap_world.specs.Events.{client_end, Config, Calls, Observes, Forgets, Sets, Removes, TickClient, TickServer}
 use Rattle.coap_world.specs.Events.{Deliver, StrangerToServer, Event}
 use Rattle.coap_world.specs.LegalEvents.{event}
 use Rattle.coap_world.specs.Record.{Entry, OfServer, entries_of}
 use Rattle.coap_world.specs.LegalRuns.{config, from_client, from_server, Runs, reported, Reports, Holds, tag, plain}
 use Rattle.coap_world.specs.LegalRuns.{json, t, hi, get, put, delete, log, changed_bytes, stranger, puts}
 use Rattle.coap_world.specs.BlockRuns.{key, created, first_get}
+use Rattle.coap_world.specs.ObservationRuns.{observe_bytes, first_bytes, second_bytes}
 use Rattle.coap_world.specs.Words.{holds_at}
 
 -- a report of the second call
@@ -176,3 +178,32 @@ pub record Exhausts : Type 0 where
   pub removed : Ever (RemoveAnswers (Ok true) 3 log) (entries_of run.turns)
   pub refused : Ever (SetAnswers (Err RateExceeded) 4 t) (entries_of run.turns)
   pub none : (path : List (List ℕ)) → holds_at four path (entries_of run.turns) ≡ None
+
+-- A client forgets an observation: it rejects the next notification by a Reset, which ends the registration, so that no
+-- further one goes out (RFC 7641, section 3.6).
+
+abbrev pub rejects : List Event
+rejects =
+    event 6 TickServer ∷
+    event 6 (puts (codes "c")) ∷
+    event 5 (Deliver 3) ∷
+    event 4 (Deliver 2) ∷
+    event 3 TickServer ∷
+    event 3 (puts (codes "b")) ∷
+    event 3 (Forgets 0) ∷
+    event 2 (Deliver 1) ∷
+    event 1 (Deliver 0) ∷
+    event 0 TickClient ∷
+    event 0 (Observes t) ∷
+    event 0 (puts (codes "a")) ∷
+    []
+
+abbrev pub reset_bytes : List ℕ
+reset_bytes = 0x70 ∷ 0 ∷ 0 ∷ 0 ∷ []
+
+pub record Rejects : Type 0 where
+  pub run : Runs config rejects
+      (from_client 4 reset_bytes ∷ from_server 3 client_end second_bytes ∷ from_server 1 client_end first_bytes ∷
+      from_client 0 observe_bytes ∷ [])
+  pub reports : Reports run (reported (Value 1 (Some (tag 1)) (Some plain) (codes "a")) ∷ [])
+  pub holds : Holds run t 3 (Some plain) (codes "c")

@@ -5,7 +5,7 @@ ghost use Rattle.coap_world.specs.Legal.{IsConfig, Legal};
 ghost use Rattle.coap_world.specs.Record.{Turn, RecordOf, entries_of, client_of};
 ghost use Rattle.coap_world.specs.GoesOn.{GoesOn, MayRun, HasRecord};
 ghost use Rattle.coap_world.specs.LegalRuns.{Gets, GetsAgain, Refuses, Defers, Repeats, TimesOut, Interferes, Pings};
-ghost use Rattle.coap_world.specs.CallRuns.{Queues, Matches, Validates, Exhausts};
+ghost use Rattle.coap_world.specs.CallRuns.{Queues, Matches, Validates, Exhausts, Rejects};
 ghost use Rattle.coap_world.specs.ObservationRuns.{Watches, Observed, Crosses, Reorders};
 ghost use Rattle.coap_world.specs.BlockRuns.{Uploads, Changes};
 
@@ -45,6 +45,8 @@ pub fn witness_law()
     ensures observed { Observed }
     // A cancel crosses a notification, which gives no value (RFC 7641, section 3.6).
     ensures crosses { Crosses }
+    // A client forgets an observation, and rejects the next notification, which ends the registration (RFC 7641, section 3.6).
+    ensures rejects { Rejects }
     // A notification is lost, and its copy comes before the answer to the registration (RFC 7641, sections 3.4 and 4.5).
     ensures reorders { Reorders }
     // A PUT sends its body in two blocks, and is applied whole (RFC 7959, section 2.5).

@@ -7,6 +7,7 @@ use Rattle.coap_world.proofs.Witness.Validates.{validated}
 use Rattle.coap_world.proofs.Witness.Defers.{deferred}
 use Rattle.coap_world.proofs.Witness.Observed.{observed}
 use Rattle.coap_world.proofs.Witness.Crosses.{crossed}
+use Rattle.coap_world.proofs.Witness.Rejects.{rejected}
 use Rattle.coap_world.proofs.Witness.Reorders.{reordered}
 use Rattle.coap_world.proofs.Witness.Changes.{changed}
 use Rattle.coap_world.proofs.Witness.Uploads.{uploaded}
@@ -46,6 +47,9 @@ returns-clause-observed c = observed
 
 pub returns-clause-crosses : goal.returns-clause-crosses
 returns-clause-crosses c = crossed
+
+pub returns-clause-rejects : goal.returns-clause-rejects
+returns-clause-rejects c = rejected
 
 pub returns-clause-reorders : goal.returns-clause-reorders
 returns-clause-reorders c = reordered
