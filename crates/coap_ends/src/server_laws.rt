@@ -22,7 +22,7 @@ ghost use Rattle.coap_ends.specs.ServerSide.Follows.ServerObserves.{AreObservers
 ghost use Rattle.coap_ends.specs.ServerSide.Follows.ServerOuts.{GivesInOrder};
 ghost use Rattle.coap_ends.specs.ServerSide.Follows.ServerShows.{NoticesShow, ShowsHeld};
 ghost use Rattle.coap_ends.specs.ServerSide.Follows.ServerTokens.{ShortTokens};
-ghost use Rattle.coap_ends.specs.ServerSide.Follows.ServerTable.{AllMethods, VerdictsAsk};
+ghost use Rattle.coap_ends.specs.ServerSide.Follows.ServerTable.{AllMethods, AllUploads, VerdictsAsk};
 ghost use Rattle.coap_ends.specs.ServerSide.Follows.ServerTells.{Follows};
 ghost use Rattle.coap_ends.specs.ServerSide.Follows.ServerTold.{AcksArrive, AllServePairs, AllTellSent, AreUnder};
 ghost use Rattle.coap_ends.specs.ServerSide.Follows.ServerGoesOn.{GoesOn};
@@ -68,8 +68,10 @@ pub fn server_law()
     // It has no fault, and each method without one is asked (RFC 7252, sections 5.4.1, 5.7.2 and 5.8; RFC 7959, section
     // 2.2) ..
     ensures asks { VerdictsAsk }
-    // .. and served then, or it waits (RFC 7252, section 5.2.2).
+    // .. and served then, or where its path has a delay it waits (RFC 7252, section 5.2.2) ..
     ensures methods { (limit szx word : ℕ) (t : List Call) → ServerLaw limit szx word t → AllMethods limit szx t }
+    // .. as is what the last block of an upload makes whole (RFC 7959, section 2.5).
+    ensures uploads { (limit szx word : ℕ) (t : List Call) → ServerLaw limit szx word t → AllUploads limit szx t }
     // What waits is what the exchanges defer, and a request that they say is ready is served then (RFC 7252, section
     // 5.2.2).
     ensures waits { (limit szx word : ℕ) (t : List Call) → ServerLaw limit szx word t → WaitsAsDeferred limit szx t }

@@ -1,16 +1,13 @@
 -- How the server serves what its message layer hands up (RFC 7252, sections 5.2, 5.8 and 5.10.8; RFC 7959, section 2.5).
-use Rattle.std.specs.Prelude.{◌≡◌, ◌⊎◌, ℕ, true, false, Some, List, ◌∷◌}
+use Rattle.std.specs.Prelude.{◌≡◌, ℕ, true, false, List, ◌∷◌}
 use Rattle.coap_types.specs.Past.{Sometime, Always}
-use Rattle.coap_codec.specs.Message.{Message}
 use Rattle.coap_resource.specs.RequestOptions.{precondition_fails}
 use Rattle.coap_resource.specs.Serves.{Question}
 use Rattle.coap_resource.specs.Serves as R
 use Rattle.coap_exchange.specs.declared.answerer.Asked.{Asked}
-use Rattle.coap_ends.specs.ServerSide.Follows.ServerAnswers.{came_in, MakesWait}
 use Rattle.coap_ends.specs.ServerSide.Follows.ServerBrings.{Brings}
 use Rattle.coap_ends.specs.ServerSide.Follows.ServerServes.{Serving}
-use Rattle.coap_ends.specs.ServerSide.Follows.ServerTable.{ServedHere}
-use Rattle.coap_ends.specs.ServerSide.ServerChecks.{Asks, verdict_on}
+use Rattle.coap_ends.specs.ServerSide.Follows.ServerTable.{MethodsHere}
 use Rattle.coap_ends.specs.ServerSide.ServerLaw.{own_of}
 use Rattle.coap_ends.specs.ServerSide.ServerServing.{is_applied}
 use Rattle.coap_world.specs.Events.{Config}
@@ -26,9 +23,7 @@ module _ (config : Config) where
   -- A request that is handed up and asks whole is served here, or waits.
   abbrev pub MethodsAt : List Entry → Entry → Type 0
   MethodsAt past (OfClient c) = Unit {0}
-  MethodsAt past (OfServer c) =
-      (p : Asked × Message) (q : Question) → came_in c ≡ Some p → verdict_on config.server_szx p.1 ≡ Asks q
-      → ServedHere config.limit config.server_szx (server_trace config past) c p.0 q ⊎ MakesWait config.limit config.server_szx (server_trace config past) c p.0
+  MethodsAt past (OfServer c) = MethodsHere config.limit config.server_szx (server_trace config past) c
 
   pub record ServesRight (past : List Entry) (e : Entry) : Type 0 where
     -- What is served came in a datagram, here or before, and is what that asks, with the whole body of its blocks.

@@ -16,7 +16,7 @@ use Rattle.coap_ends.specs.ServerSide.Follows.ServerHolds.{AllServed}
 use Rattle.coap_ends.specs.ServerSide.Follows.ServerReads.{VerdictsRead}
 use Rattle.coap_ends.specs.ServerSide.Follows.ServerRests.{ComesToRest}
 use Rattle.coap_ends.specs.ServerSide.Follows.ServerServes.{ServedOnce}
-use Rattle.coap_ends.specs.ServerSide.Follows.ServerTable.{AllMethods, VerdictsAsk}
+use Rattle.coap_ends.specs.ServerSide.Follows.ServerTable.{AllMethods, AllUploads, VerdictsAsk}
 use Rattle.coap_ends.specs.ServerSide.Follows.ServerTags.{AreStamped, OneTag}
 use Rattle.coap_ends.specs.ServerSide.Follows.ServerTells.{Follows}
 use Rattle.coap_ends.specs.ServerSide.Follows.ServerWaits.{ReadyAreServed}
@@ -32,7 +32,7 @@ use Rattle.coap_ends.proofs.ServerSide.Replying.RepliesAtOnce.{replies_at_once}
 use Rattle.coap_ends.proofs.ServerSide.Replying.ResponsesHaveRequests.{sent_responses}
 use Rattle.coap_ends.proofs.ServerSide.Rest.ServerResting.{comes_to_rest}
 use Rattle.coap_ends.proofs.ServerSide.Serving.HandedUpAsOften.{counted}
-use Rattle.coap_ends.proofs.ServerSide.Serving.MethodsServed.{all_methods, verdicts_ask}
+use Rattle.coap_ends.proofs.ServerSide.Serving.MethodsServed.{all_methods, all_uploads, verdicts_ask}
 use Rattle.coap_ends.proofs.ServerSide.Serving.ServedOnce.{served_once}
 use Rattle.coap_ends.proofs.ServerSide.Serving.ServedWasHandedUp.{handed_up, blocks_come}
 use Rattle.coap_ends.proofs.ServerSide.Serving.ServerBrought.{servers_back}
@@ -105,3 +105,6 @@ module _ (limit szx word : ℕ) where
 
     pub methods : AllMethods limit szx t
     methods = all_methods limit szx t law.rows
+
+    pub uploads : AllUploads limit szx t
+    uploads = all_uploads limit szx t law.rows

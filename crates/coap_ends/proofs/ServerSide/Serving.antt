@@ -5,4 +5,5 @@ pub mod ServedWasHandedUp
 pub mod ServedOnce
 pub mod ServerWaiting
 pub mod HandedUpAsOften
+pub mod WaitsByDelay
 pub mod MethodsServed

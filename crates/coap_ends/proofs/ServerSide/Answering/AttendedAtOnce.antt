@@ -33,8 +33,11 @@ use Rattle.coap_ends.specs.ServerSide.ServerUploads.{ruling_of, whole}
 use Rattle.coap_ends.specs.ServerSide.ServerDeferring.{WaitsBy, delay_for}
 use Rattle.coap_ends.specs.ServerSide.ServerHandling.{incoming, heard, HandlesBlock, Handles}
 use Rattle.coap_ends.specs.ServerSide.ServerLaw.{ServerLaw, own_of}
-use Rattle.coap_ends.specs.ServerSide.Follows.ServerAnswers.{came_in, IsIgnored, AnswersIt, MakesWait, AllAttended}
-use Rattle.coap_ends.proofs.ServerSide.Serving.ServerBrought.{server_back}
+use Rattle.coap_ends.specs.ServerSide.Follows.ServerAnswers.{came_in, IsIgnored, AnswersIt, WaitsToAsk, AllAttended}
+use Rattle.coap_ends.specs.ServerSide.Follows.ServerBrings.{AsksBy}
+use Rattle.coap_ends.proofs.ServerSide.Serving.ServedWasHandedUp.{asks_by}
+use Rattle.coap_ends.proofs.ServerSide.Serving.ServerBrought.{server_back, szx_is}
+use Rattle.coap_ends.proofs.ServerSide.Serving.WaitsByDelay.{waits_so}
 use Rattle.coap_ends.proofs.ServerSide.Observing.ServerOutcomes.{never_notifies}
 
 -- what is ignored
@@ -98,7 +101,7 @@ one_came x y h = cc h
 
 module _ (limit szx word : ℕ) where
   abbrev Attended : List Call → Call → Asked × Message → Type 0
-  Attended t c p = AnswersIt limit szx t c p.0 ⊎ (MakesWait limit szx t c p.0 ⊎ IsIgnored p.1)
+  Attended t c p = AnswersIt limit szx t c p.0 ⊎ (WaitsToAsk limit szx t c p ⊎ IsIgnored p.1)
 
   fed : (t : List Call) (now : ℕ) (from : Endpoint) (bytes : List ℕ) (w : ℕ) (up : L.Answer) (p : Asked × Message) (h : Handling) (below : L.Answer)
       → ServerLaw limit szx word (Feeds now from bytes w up (Some p) h below ∷ t) → Attended t (Feeds now from bytes w up (Some p) h below) p
@@ -108,7 +111,16 @@ module _ (limit szx word : ℕ) where
   fed t now from bytes w up p (Replies r) below law = inl (inl refl)
   fed t now from bytes w up p (Serves q reply left) below law = inl (inl refl)
   fed t now from bytes w up p (Waits q d) below law =
-      inr (inl (record { waiting = record { asked = p.0; at = max (own_of limit szx t).clock now; delay = d; question = q }; asked = refl; behind = refl }))
+      let s : Own = heard (own_of limit szx t) now (incoming (own_of limit szx t) now from bytes up (Some p)) in
+      let v : Verdict = verdict_on s.szx p.1 in
+      let k = waits_so s p.0 (Waits q d) v law.rows.0 in
+      let asks = asks_by limit szx word t now from bytes w up p (Waits q d) below v q refl law.rows.0 refl in
+      let waits : WaitsToAsk limit szx t (Feeds now from bytes w up (Some p) (Waits q d) below) p = record {
+        question = q;
+        asks = subst (λ n. AsksBy limit szx t (Feeds now from bytes w up (Some p) (Waits q d) below) p.0 q (verdict_on n p.1)) (szx_is limit szx t) asks;
+        waits = record { delay = d; has_to = record { kind = k.0; has_delay = k.1; place = k.2 }; behind = refl };
+      } in
+      inr (inl waits)
   fed t now from bytes w up p (Notifies o reply) below law =
       absurd (never_notifies (heard (own_of limit szx t) now (incoming (own_of limit szx t) now from bytes up (Some p))) p o reply law.rows.0)
 

@@ -140,7 +140,7 @@ module _ (limit szx word : ℕ) where
     abbrev here : Own
     here = heard (own t) now (incoming (own t) now from bytes up (Some p))
 
-    completes : (q : Question) (b : Block) → verdict_on (own t).szx p.1 ≡ Uploads q b → ruling_of (own t).uploads moment p.0 q b ≡ Done → Completes limit szx t call p.0 q b (whole (own t).uploads moment p.0 q b)
+    pub completes : (q : Question) (b : Block) → verdict_on (own t).szx p.1 ≡ Uploads q b → ruling_of (own t).uploads moment p.0 q b ≡ Done → Completes limit szx t call p.0 q b (whole (own t).uploads moment p.0 q b)
     completes q b is done =
         let u : AssemblyState = (own t).uploads in
         let hist : history limit szx (call ∷ t) ≡ Arrived (history limit szx t) moment (key_of p.0 q) b q.body = ap (λ v. arrived (history limit szx t) moment p.0 v) is in
@@ -161,7 +161,7 @@ module _ (limit szx word : ℕ) where
         let same : asked ≡ it = whole_asks (delay_for p.0.kind q.path here.delays) (may_defer here.exchanges.deferred) here.store here.clock it h asked right e in
         subst (Completes limit szx t call p.0 q b) (sym same) (completes q b is rule)
 
-    asks_by : (v : Verdict) (q : Question) → verdict_on (own t).szx p.1 ≡ v → Handles here p.0 v h → question_in h ≡ Some q → AsksBy limit szx t call p.0 q v
+    pub asks_by : (v : Verdict) (q : Question) → verdict_on (own t).szx p.1 ≡ v → Handles here p.0 v h → question_in h ≡ Some q → AsksBy limit szx t call p.0 q v
     asks_by Ignored q is right e = nothing_asked _ h q (ap question_in right) e
     asks_by (Refused code) q is right e = nothing_asked _ h q (ap question_in right) e
     asks_by (Asks asked) q is right e = whole_asks (delay_for p.0.kind asked.path here.delays) (may_defer here.exchanges.deferred) here.store here.clock asked h q right e

@@ -30,7 +30,7 @@ use Rattle.coap_ends.proofs.ServerSide.Rest.ServerResting.{comes_to_rest}
 use Rattle.coap_ends.proofs.ServerSide.Replying.GivenInOrder.{gives_in_order}
 use Rattle.coap_ends.proofs.ServerSide.Holding.ServerShown.{shows_held, notices_show}
 use Rattle.coap_ends.proofs.ServerSide.Progress.TokensShort.{short_tokens}
-use Rattle.coap_ends.proofs.ServerSide.Serving.MethodsServed.{all_methods, verdicts_ask}
+use Rattle.coap_ends.proofs.ServerSide.Serving.MethodsServed.{all_methods, all_uploads, verdicts_ask}
 use Rattle.coap_ends.proofs.ServerSide.Telling.ServerTold.{all_tell_sent, acks_arrive}
 use Rattle.coap_ends.proofs.ServerSide.Telling.UnderRegistrations.{all_serve_pairs, are_under}
 
@@ -144,6 +144,9 @@ returns-clause-asks c = verdicts_ask
 
 pub returns-clause-methods : goal.returns-clause-methods
 returns-clause-methods c limit szx word t law = all_methods limit szx t law.rows
+
+pub returns-clause-uploads : goal.returns-clause-uploads
+returns-clause-uploads c limit szx word t law = all_uploads limit szx t law.rows
 
 pub returns-clause-latest : goal.returns-clause-latest
 returns-clause-latest c = are_latest

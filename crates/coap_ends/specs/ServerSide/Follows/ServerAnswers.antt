@@ -12,13 +12,17 @@ use Rattle.coap_layer.specs.Trace as L
 use Rattle.coap_layer.specs.Rows.{Busy, Withholds}
 use Rattle.coap_layer.specs.Words.{clock}
 use Rattle.coap_block.specs.Whole.{Each}
+use Rattle.coap_resource.specs.Serves.{Question}
 use Rattle.coap_exchange.specs.declared.answerer.Asked.{Asked}
 use Rattle.coap_exchange.specs.declared.answerer.Due.{Due}
 use Rattle.coap_exchange.specs.AnswererFollows.{responds}
-use Rattle.coap_exchange.specs.AnswererSteps.{asked_of}
+use Rattle.coap_exchange.specs.AnswererSteps.{asked_of, may_defer}
 use Rattle.coap_ends.specs.ServerSide.ServerTrace.{Waiting, Handling, Call, Feeds, Ticks}
 use Rattle.coap_ends.specs.ServerSide.ServerAsks.{lower}
+use Rattle.coap_ends.specs.ServerSide.ServerChecks.{verdict_on}
+use Rattle.coap_ends.specs.ServerSide.ServerDeferring.{delay_of}
 use Rattle.coap_ends.specs.ServerSide.ServerLaw.{own_of, layer_of}
+use Rattle.coap_ends.specs.ServerSide.Follows.ServerBrings.{AsksBy}
 
 -- the request that a call hands up, and its message
 abbrev pub came_in : Call → Option (Asked × Message)
@@ -35,16 +39,30 @@ module _ (limit szx : ℕ) where
   abbrev pub AnswersIt : List Call → Call → Asked → Type 0
   AnswersIt past c a = Ever (λ b. responds b ≡ Some a) (lower (own_of limit szx past) c)
 
-  -- it waits, behind all that waits
-  pub record MakesWait (past : List Call) (c : Call) (a : Asked) : Type 0 where
-    pub waiting : Waiting
-    pub asked : waiting.asked ≡ a
-    pub behind : (own_of limit szx (c ∷ past)).waiting ≡ (own_of limit szx past).waiting ++ waiting ∷ []
+  -- What asks this has to wait: it is a CON, its path has a delay, and there is a place (section 5.2.2; profile).
+  pub record HasToWait (past : List Call) (a : Asked) (q : Question) (delay : ℕ) : Type 0 where
+    pub kind : a.kind ≡ Con
+    pub has_delay : delay_of q.path (own_of limit szx past).delays ≡ Some delay
+    pub place : may_defer (own_of limit szx past).exchanges.deferred ≡ true
+
+  -- it waits from then on, by that delay and behind all that waits, to ask this
+  pub record MakesWait (past : List Call) (c : Call) (a : Asked) (q : Question) : Type 0 where
+    pub delay : ℕ
+    pub has_to : HasToWait past a q delay
+    pub behind :
+        (own_of limit szx (c ∷ past)).waiting
+        ≡ (own_of limit szx past).waiting ++ record { asked = a; at = (own_of limit szx (c ∷ past)).clock; delay = delay; question = q } ∷ []
+
+  -- .. what came, with the whole body of its blocks
+  pub record WaitsToAsk (past : List Call) (c : Call) (p : Asked × Message) : Type 0 where
+    pub question : Question
+    pub asks : AsksBy limit szx past c p.0 question (verdict_on szx p.1)
+    pub waits : MakesWait past c p.0 question
 
   -- Each request that is handed up is answered in that call, or waits, or is ignored.
   abbrev pub AllAttended : List Call → Type 0
   AllAttended t =
-      Always (λ past c. (p : Asked × Message) → came_in c ≡ Some p → AnswersIt past c p.0 ⊎ (MakesWait past c p.0 ⊎ IsIgnored p.1)) t
+      Always (λ past c. (p : Asked × Message) → came_in c ≡ Some p → AnswersIt past c p.0 ⊎ (WaitsToAsk past c p ⊎ IsIgnored p.1)) t
 
   module _ (word : ℕ) where
     -- no Message ID is free for what is sent now

@@ -20,8 +20,10 @@ use Rattle.coap_exchange.specs.declared.answerer.Asked.{Asked}
 use Rattle.coap_ends.specs.ServerSide.ServerTrace.{Call}
 use Rattle.coap_ends.specs.ServerSide.ServerChecks.{Verdict, Asks, Uploads, asks, is_reserved, question, verdict_on}
 use Rattle.coap_ends.specs.ServerSide.ServerLaw.{own_of}
-use Rattle.coap_ends.specs.ServerSide.Follows.ServerAnswers.{came_in, MakesWait}
+use Rattle.coap_ends.specs.ServerSide.Follows.ServerAnswers.{came_in, HasToWait, MakesWait}
+use Rattle.coap_ends.specs.ServerSide.Follows.ServerBrings.{Completes}
 use Rattle.coap_ends.specs.ServerSide.Follows.ServerServes.{Serving, serving}
+use Rattle.coap_ends.specs.ServerSide.Follows.ServerTakes.{took, takes_block}
 
 -- A request with no fault: each critical option is recognised, it is for no proxy, it has at most 16 segments (profile) and
 -- no reserved size of blocks.
@@ -51,7 +53,22 @@ module _ (limit szx : ℕ) where
   abbrev pub ServedHere : List Call → Call → Asked → Question → Type 0
   ServedHere past c a q = (x : Serving) × (serving (own_of limit szx past) c ≡ Some x) × (x.asked ≡ a) × (x.question ≡ q)
 
+  -- It is served in that call, unless it has to wait: then it waits.
+  abbrev pub IsAttended : List Call → Call → Asked → Question → Type 0
+  IsAttended past c a q = (ServedHere past c a q × ((delay : ℕ) → HasToWait limit szx past a q delay → ⊥)) ⊎ MakesWait limit szx past c a q
+
   -- What asks whole is served in that call, or waits.
+  abbrev pub MethodsHere : List Call → Call → Type 0
+  MethodsHere past c = (p : Asked × Message) (q : Question) → came_in c ≡ Some p → verdict_on szx p.1 ≡ Asks q → IsAttended past c p.0 q
+
   abbrev pub AllMethods : List Call → Type 0
-  AllMethods t =
-      Always (λ past c. (p : Asked × Message) (q : Question) → came_in c ≡ Some p → verdict_on szx p.1 ≡ Asks q → ServedHere past c p.0 q ⊎ MakesWait limit szx past c p.0) t
+  AllMethods t = Always MethodsHere t
+
+  -- The last block of an upload, where it is taken, makes the body whole; what asks with that is served in that call, or waits.
+  abbrev pub UploadsHere : List Call → Call → Type 0
+  UploadsHere past c =
+      (p : Asked × Message) (q : Question) (b : Block) → came_in c ≡ Some p → verdict_on szx p.1 ≡ Uploads q b → takes_block (own_of limit szx past) c ≡ Some (took p.0 q b) → b.more ≡ false
+      → (whole : Question) × Completes limit szx past c p.0 q b whole × IsAttended past c p.0 whole
+
+  abbrev pub AllUploads : List Call → Type 0
+  AllUploads t = Always UploadsHere t
