@@ -186,4 +186,4 @@ module _ (config : Config) where
         let k = non_heard config.server_word config.client_word m (across (hops_in config past)) adds law_across hears kind in
         let P : T.Entry → Type 0 = λ b. PlainOut b (record { to = client_end; bytes = k.bytes }) in
         let there = located config.limit config.server_szx config.server_word P (trace past) (subst (Ever P) near_there k.sent) in
-        by_law (TellsSent config.limit config.server_szx config.server_word) (Added P) (ServesNon config.limit config.server_szx client_end) (λ p b l h. l.0.plain client_end k.bytes m h k.are k.spells note) (trace past) told there
+        by_law (TellsSent config.limit config.server_szx config.server_word) (Added P) (ServesNon config.limit config.server_szx client_end) (λ p b l h. (l.0.plain client_end k.bytes m h k.are k.spells note).1) (trace past) told there

@@ -1,5 +1,5 @@
 -- What is asked has no fault, and each method without one is asked, and served or waits; so the last block of an upload.
-use Rattle.std.proofs.Common.{◌≡◌, ◌⊎◌, inl, inr, ◌≤◌, ◌<◌, ℕ, max, nat_lt, ◌||◌, Bool, true, false, Option, Some, None}
+use Rattle.std.proofs.Common.{◌≡◌, inl, inr, ◌≤◌, ◌<◌, ℕ, nat_lt, ◌||◌, Bool, true, false, Option, Some, None}
 use Rattle.std.proofs.Common.{List, [], ◌∷◌, length, refl, ap, sym, subst, ◌∙◌, cond, arith}
 use Rattle.std.proofs.lemmas.Bool.{ltb-true, lt-ltb}
 use Rattle.coap_types.specs.MethodCode.{method_of}
@@ -36,7 +36,7 @@ use Rattle.coap_ends.specs.ServerSide.ServerServing.{IsServed}
 use Rattle.coap_ends.specs.ServerSide.ServerDeferring.{WaitsBy, HandlesWhole, delay_for}
 use Rattle.coap_ends.specs.ServerSide.ServerHandling.{incoming, heard, HandlesBlock, Handles}
 use Rattle.coap_ends.specs.ServerSide.ServerLaw.{ServerRows, own_of}
-use Rattle.coap_ends.specs.ServerSide.Follows.ServerAnswers.{came_in, HasToWait}
+use Rattle.coap_ends.specs.ServerSide.Follows.ServerAnswers.{HasToWait}
 use Rattle.coap_ends.specs.ServerSide.Follows.ServerBrings.{Completes}
 use Rattle.coap_ends.specs.ServerSide.Follows.ServerServes.{serving_of}
 use Rattle.coap_ends.specs.ServerSide.Follows.ServerTable.{HasNoFault, NoFaultIn, VerdictsAsk, IsAttended, MethodsHere}

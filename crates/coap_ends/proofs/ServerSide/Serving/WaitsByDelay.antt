@@ -8,7 +8,7 @@ use Rattle.coap_block.specs.declared.block_verdict.BlockVerdict.TheVariants.{Ref
 use Rattle.coap_resource.specs.Serves.{Question}
 use Rattle.coap_exchange.specs.declared.answerer.Asked.{Asked}
 use Rattle.coap_exchange.specs.AnswererSteps.{may_defer}
-use Rattle.coap_ends.specs.ServerSide.ServerTrace.{Delay, Own, Handling, Silent, Replies, Serves, Waits}
+use Rattle.coap_ends.specs.ServerSide.ServerTrace.{Delay, Own, Handling, Silent, Serves, Waits}
 use Rattle.coap_ends.specs.ServerSide.ServerChecks.{Verdict, Ignored, Refused, Asks, Uploads}
 use Rattle.coap_ends.specs.ServerSide.ServerUploads.{ruling_of, whole}
 use Rattle.coap_ends.specs.ServerSide.ServerDeferring.{WaitsBy, HandlesWhole, delay_for, delay_of}

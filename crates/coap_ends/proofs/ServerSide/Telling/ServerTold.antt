@@ -217,29 +217,36 @@ module _ (limit szx word : ℕ) (past : List Call) (c : Call) (law : ServerLaw l
       pass = λ a h. (let k = h.2 in absurd (cc k));
     }
 
-    non_by : (a : Asked) (r : E.Response) → Plainly (L.Plain a.from (P.content_of a r)) L.Nothing → (a.kind ≡ Con → ⊥) → (Notes r → Says limit szx past c None a.from a.token r × Serving_of limit szx past c a) → ServesNon limit szx to past c
+    abbrev TellsPlainly : Type 0
+    TellsPlainly = TellsIn limit szx None to m past c × ServesNon limit szx to past c
+
+    serves_non : (a : Asked) → Serving_of limit szx past c a → a.from ≡ to → (a.kind ≡ Con → ⊥) → ServesNon limit szx to past c
+    serves_non a y place none = record { request = y.0; here = y.1; from = ap (λ (z : Asked). z.from) y.2 ∙ place; kind = λ e. none (sym (ap (λ (z : Asked). z.kind) y.2) ∙ e) }
+
+    non_by : (a : Asked) (r : E.Response) → Plainly (L.Plain a.from (P.content_of a r)) L.Nothing → (a.kind ≡ Con → ⊥) → (Notes r → Says limit szx past c None a.from a.token r × Serving_of limit szx past c a) → TellsPlainly
     non_by a r k none f =
         let call = k.2 in
         let place : a.from ≡ to = cc call in
         let same_x : P.content_of a r ≡ k.0 = cc call in
-        let y = (f (notes Non k.1 a.token r bytes m are spells (subst (λ z. Spells bytes (with_head Non k.1 z)) (sym same_x) k.3) note)).1 in
-        record { request = y.0; here = y.1; from = ap (λ (z : Asked). z.from) y.2 ∙ place; kind = λ e. none (sym (ap (λ (z : Asked). z.kind) y.2) ∙ e) }
+        let there = subst (λ z. Spells bytes (with_head Non k.1 z)) (sym same_x) k.3 in
+        let said = f (notes Non k.1 a.token r bytes m are spells there note) in
+        (tells_so Non k.1 a.token r bytes m are spells there limit szx past c None to (subst (λ z. Says limit szx past c None z a.token r) place said.0), serves_non a said.1 place none)
 
     non_says : (s : E.Own) (kind : Kind) (a : Asked) (r : E.Response) (below : L.Answer) → a.kind ≡ kind → Plainly (P.answering s kind a r) below → (Notes r → Says limit szx past c None a.from a.token r × Serving_of limit szx past c a)
-        → ServesNon limit szx to past c
+        → TellsPlainly
     non_says s Con a r below is k f = let z = k.2 in absurd (cc z)
     non_says s Non a r below is k f = non_by a r k (λ e. (let z : Non ≡ Con = sym is ∙ e in absurd (cc z))) f
     non_says s Ack a r below is k f = non_by a r k (λ e. (let z : Ack ≡ Con = sym is ∙ e in absurd (cc z))) f
     non_says s Rst a r below is k f = non_by a r k (λ e. (let z : Rst ≡ Con = sym is ∙ e in absurd (cc z))) f
 
-    plain_so : (g : Given Plainly (lower (own_of limit szx past) c)) → Origin Plainly (W.own_of g.before) g.call → ServesNon limit szx to past c
+    plain_so : (g : Given Plainly (lower (own_of limit szx past) c)) → Origin Plainly (W.own_of g.before) g.call → TellsPlainly
     plain_so g (empties there id (inl k)) = let z = k.2 in absurd (cc z)
     plain_so g (empties there id (inr k)) = let z = k.2 in absurd (cc z)
     plain_so g (answers a r below is k) = non_says (W.own_of g.before) a.kind a r below refl k (means Plainly g (E.Answers a r below) is).0
     plain_so g (responds now a r w id is k) = let z = k.2 in absurd (cc z)
     plain_so g (notifies now there token r w id is k) = let z = k.2 in absurd (cc z)
 
-    plain_tells : Ever (λ (b : L.Entry). PlainOut b (record { to = to; bytes = bytes })) adds → ServesNon limit szx to past c
+    plain_tells : Ever (λ (b : L.Entry). PlainOut b (record { to = to; bytes = bytes })) adds → TellsPlainly
     plain_tells h =
         let g = given_here limit szx word Plainly plainly_so past c law
         (Ever_map (λ (b : L.Entry). PlainOut b (record { to = to; bytes = bytes })) (λ (e : L.Entry). Plainly e.call e.answer) (λ e k. (k.content, k.id, k.call, k.spells)) adds h) in

@@ -30,7 +30,7 @@ pub record TakesAck (to : Endpoint) (id : ℕ) (e : L.Entry) : Type 0 where
   pub answer : e.answer ≡ L.Becomes (L.Acked id)
 
 module _ (limit szx : ℕ) where
-  -- the call tells what the message says: in a CON with this Message ID, or else in an acknowledgement
+  -- the call tells what the message says: in a CON with this Message ID, or else in an acknowledgement or a NON
   pub record TellsIn (con : Option ℕ) (to : Endpoint) (m : Message) (past : List Call) (c : Call) : Type 0 where
     pub told : Telling
     pub here : telling (own_of limit szx past) c ≡ Some told
@@ -52,7 +52,7 @@ module _ (limit szx : ℕ) where
         → TellsIn None to m past c
     -- It is in a NON where the request was no CON.
     pub plain : (to : Endpoint) (bytes : List ℕ) (m : Message) → Ever (λ b. PlainOut b (record { to = to; bytes = bytes })) (call_adds limit szx word past c) → AreBytes bytes → Spells bytes m
-        → is_notification m ≡ true → ServesNon to past c
+        → is_notification m ≡ true → TellsIn None to m past c × ServesNon to past c
     -- One CON begins in a call at most.
     pub one : (a b : Open) → Ever (λ e. begun e ≡ Some a) (call_adds limit szx word past c) → Ever (λ e. begun e ≡ Some b) (call_adds limit szx word past c) → a ≡ b
 
