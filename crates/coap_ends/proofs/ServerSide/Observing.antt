@@ -6,4 +6,5 @@ pub mod ConsAreAcknowledged
 pub mod VersionsRise
 pub mod ToldInOrder
 pub mod EndsObservation
+pub mod ObservationEnds
 pub mod LatestRegistration

@@ -1,14 +1,16 @@
--- Who observes, and when an observation ends (RFC 7641, sections 3.6, 4.1 and 4.5).
-use Rattle.std.specs.Prelude.{◌≡◌, ℕ, true, Option, Some, None, List, ◌∷◌}
+-- Who observes, and when an observation ends (RFC 7641, sections 3.6, 4.1, 4.2 and 4.5).
+use Rattle.std.specs.Prelude.{◌≡◌, ◌≢◌, ℕ, true, Option, Some, None, List, ◌∷◌}
 use Rattle.coap_types.specs.Past.{Sometime, Always}
 use Rattle.coap_types.specs.declared.endpoint.Endpoint.{Endpoint}
+use Rattle.coap_types.specs.declared.message.TheConstants.Code as codes
 use Rattle.coap_block.specs.Whole.{Each}
 use Rattle.coap_observe.specs.Observers.{Observer, AreRegistrations, registration}
 use Rattle.coap_resource.specs.RequestOptions.{block_of, szx_by}
+use Rattle.coap_resource.specs.Serves.{Reply}
 use Rattle.coap_exchange.specs.declared.answerer.Ended.{Ended}
 use Rattle.coap_exchange.specs.AnswererSteps.{reset_by, failed_by}
 use Rattle.coap_ends.specs.SuccessCodes.{content}
-use Rattle.coap_ends.specs.ServerSide.ServerTrace.{Own, Call, Feeds, Ticks}
+use Rattle.coap_ends.specs.ServerSide.ServerTrace.{Own, Notifies, Call, Feeds, Ticks}
 use Rattle.coap_ends.specs.ServerSide.ServerObservers.{observes}
 use Rattle.coap_ends.specs.ServerSide.ServerLaw.{own_of}
 use Rattle.coap_ends.specs.ServerSide.Follows.ServerServes.{Serving, serving}
@@ -19,6 +21,18 @@ abbrev pub ends_in : Own → Call → Option Ended
 ends_in s (Feeds now from bytes word up came h below) = reset_by from up s.exchanges.separate
 ends_in s (Ticks now word below room d passed h id answer) = failed_by below s.exchanges.separate
 ends_in s _ = None
+
+-- the notification that a call sends: to which observer, and what that is told
+pub record Notice : Type 0 where
+  pub observer : Observer
+  pub reply : Reply
+
+abbrev pub notice : Call → Option Notice
+notice (Ticks now word below room d passed (Notifies o reply) id answer) = Some (record { observer = o; reply = reply })
+notice _ = None
+
+abbrev pub not_found : ℕ
+not_found = codes.NOT_FOUND.0
 
 module _ (limit szx : ℕ) where
   -- a GET with Observe 0 of this endpoint and token was served with a 2.05, and this call made the registration
@@ -49,3 +63,16 @@ module _ (limit szx : ℕ) where
   abbrev pub EndsObservation : List Call → Type 0
   EndsObservation t =
       Always (λ past c. (x : Ended) → ends_in (own_of limit szx past) c ≡ Some x → x.observe ≡ true → registration x.to x.token (own_of limit szx (c ∷ past)).observers ≡ None) t
+
+  -- A GET with Observe 1 that is served ends the observation of its endpoint and token, whatever it is answered (section 3.6).
+  abbrev pub EndsOnRequest : List Call → Type 0
+  EndsOnRequest t =
+      Always (λ past c. (x : Serving) → serving (own_of limit szx past) c ≡ Some x → observes 1 x.question ≡ true → registration x.asked.from x.asked.token (own_of limit szx (c ∷ past)).observers ≡ None) t
+
+  -- An observer is told a 4.04 where its path holds nothing, and what is no 2.05 is the last that it is told (section 4.2).
+  pub record EndsWith (past : List Call) (c : Call) (x : Notice) : Type 0 where
+    pub gone : (own_of limit szx past).store.holds x.observer.path ≡ None → x.reply.code ≡ not_found
+    pub last : x.reply.code ≢ content → registration x.observer.to x.observer.token (own_of limit szx (c ∷ past)).observers ≡ None
+
+  abbrev pub EndsOnNotice : List Call → Type 0
+  EndsOnNotice t = Always (λ past c. (x : Notice) → notice c ≡ Some x → EndsWith past c x) t
