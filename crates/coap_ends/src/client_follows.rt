@@ -47,7 +47,7 @@ pub fn client_follows_law()
     ensures heard_once { (server : Endpoint) (szx word : ℕ) (t : List Call) → ClientLaw server szx word t
         → HeardOnce szx t }
     // A body is whole by the parts that its call took since it asked for the first block, under one ETag where there are
-    // several (RFC 7959, section 2.4).
+    // several; without Block2 it answers that request (RFC 7959, section 2.4).
     ensures bodies { (server : Endpoint) (szx word : ℕ) (t : List Call) → ClientLaw server szx word t
         → BodiesAreWhole szx t }
     // What is heard its message layer handed up in that very call, as it came from the server (RFC 7252, section 5.3.2).

@@ -45,11 +45,12 @@ use Rattle.coap_ends.specs.ClientSide.ClientQueue.{transfer_of, calling}
 use Rattle.coap_ends.specs.ClientSide.ClientSteps.{reports}
 use Rattle.coap_ends.specs.ClientSide.ClientLaw.{ClientLaw, ClientRows, own_of}
 use Rattle.coap_ends.specs.ClientSide.ClientAnswers.{Answers, AnswersLast}
-use Rattle.coap_ends.specs.ClientSide.ClientWords.{Sending, sends, hears, runs_call}
+use Rattle.coap_ends.specs.ClientSide.ClientWords.{Sending, sends, hears, last_sent, runs_call}
 use Rattle.coap_ends.proofs.ClientSide.PlaceLemmas.{same_number, number_self}
 use Rattle.coap_ends.proofs.ClientSide.ClientSends.{AllOf, all_uncancelled, heard_in, failed_runs, happened_runs}
 use Rattle.coap_ends.proofs.ClientSide.ClientSends.{passes_runs}
-use Rattle.coap_ends.proofs.ClientSide.ClientPieces.{answers_last}
+use Rattle.coap_ends.proofs.ClientSide.ClientOnce.{beneath}
+use Rattle.coap_ends.proofs.ClientSide.ClientPieces.{Tracked, IfTracked, all_sends, answers_last}
 use Rattle.coap_ends.proofs.ClientSide.ClientLeading.{client_back}
 use Rattle.coap_ends.specs.ClientSide.ClientBegins.{WasSent}
 use Rattle.coap_ends.specs.ClientSide.ClientBodies.{ComesAs, ComesLast, is_first, is_first_of, HeardFor, TakesPart}
@@ -109,6 +110,14 @@ part_done parts f m g h = by (value_of block2 (said m)) refl h
     by : (o : Option (List ℕ)) → value_of block2 (said m) ≡ o → Rattle.coap_ends.specs.ClientSide.ClientResponses.part_by f (tag_in m) (length m.payload) o ≡ verdict.Done → DoneBy parts f m
     by None is h = record { block = None; last = (is, none_before parts f (length m.payload) (tag_in m) g h); done = h }
     by (Some v) is h = with_block (block_in v) (ap (λ o. elim o [ None ↦ None | Some x ↦ block_in x ]) is) h
+
+-- where nothing was gathered, the first block was asked for
+alone_first : (k : ℕ) (r : Request) (f : FetchState) (parts : List Part) → Gathered parts f → parts ≡ [] → is_first_of k (Calling k r (Fetches f)) ≡ true
+alone_first k r f parts g none = by f.asked g.awaits
+  where
+    by : (o : Option fetch.Asked) → Awaits o f.tag parts → elim o [ None ↦ k == k | Some asked ↦ false ] ≡ true
+    by None a = number_self k
+    by (Some asked) a = absurd (a.1 none)
 
 pub gathered_none : (size restarts : ℕ) → Gathered [] (F.start size restarts)
 gathered_none size restarts = record { bytes = refl; chained = tt; full = tt; awaits = refl }
@@ -446,8 +455,19 @@ module _ (szx : ℕ) where
   gives_of t (NextReport answer) k report body made = absurd (cc made)
   gives_of t (Asked answer) k report body made = absurd (cc made)
 
-  whole_here : (t : List Call) (c : Call) → AnswersLast szx (c ∷ t) → (k : ℕ) (tag : Option (List ℕ)) (format : Option ℕ) (body : List ℕ) → reports (own_of szx t) c ≡ of k (Body tag format body) → IsFetched szx k tag format body t c
-  whole_here t c answers k tag format body made =
+  -- the request that runs was sent last, as it is
+  runs_as : (server : Endpoint) (word : ℕ) (t : List Call) → ClientLaw server szx word t → (k : ℕ) (r : Request) (f : FetchState) (x : Sending) → (own_of szx t).running ≡ Some (Calling k r (Fetches f)) → last_sent szx t ≡ Some x
+      → x.operation ≡ Calling k r (Fetches f)
+  runs_as server word t law k r f x runs last = elim h.same [ inl d ↦ absurd (cc d) | inr same ↦ ap (λ (y : Sending). y.operation) one ∙ same ]
+    where
+      h : Tracked szx t (Calling k r (Fetches f)) (beneath server szx word t).running
+      h = subst (λ o. IfTracked szx t o (beneath server szx word t).running) runs (all_sends szx server word t law.rows law.exchanges.rows).tracked
+
+      one : x ≡ h.sending
+      one = let e : Some x ≡ Some h.sending = sym last ∙ h.last in cc e
+
+  whole_here : (server : Endpoint) (word : ℕ) (t : List Call) (c : Call) → ClientLaw server szx word t → AnswersLast szx (c ∷ t) → (k : ℕ) (tag : Option (List ℕ)) (format : Option ℕ) (body : List ℕ) → reports (own_of szx t) c ≡ of k (Body tag format body) → IsFetched szx k tag format body t c
+  whole_here server word t c law answers k tag format body made =
       let g = gives_of t c k (Body tag format body) refl made in
       let p = parts_of t answers.1 k g.request g.fetch g.runs in
       let a = answers.0 g.message g.heard_it in
@@ -455,23 +475,27 @@ module _ (szx : ℕ) where
       let format_is : format ≡ format_in g.message = cc (g.is) in
       let body_is : body ≡ g.fetch.gathered ++ g.message.payload = cc (g.is) in
       let d = part_done p.parts g.fetch g.message p.gathered g.done_so in
+      let op = runs_as server word t law k g.request g.fetch a.sending g.runs a.last in
       record {
         message = g.message;
-        heard = heard_for t c g.message k g.request (Fetches g.fetch) a g.runs g.heard_it;
+        heard = record { heard = g.heard_it; sending = a.sending; sent = last_was_sent szx t a.sending a.last; of_call = ap call_of op; token = a.token };
         code = g.code;
         parts = p.parts;
         took = p.took;
         block = d.block;
         last = d.last;
+        asked = a.last;
+        alone = λ none. ap (is_first_of k) op ∙ alone_first k g.request g.fetch p.parts p.gathered none;
         whole = subst (Whole (payloads_of p.parts d.block (tag_in g.message) g.message.payload)) (sym body_is)
             (whole_by_parts p.parts g.fetch d.block (tag_in g.message) g.message.payload p.gathered d.done);
         tag_is = tag_is;
         format_is = format_is;
       }
 
-  bodies : (t : List Call) → AnswersLast szx t → BodiesAreWhole szx t
-  bodies [] answers = tt
-  bodies (c ∷ t) answers = (whole_here t c answers, bodies t answers.1)
+  bodies : (server : Endpoint) (word : ℕ) (t : List Call) → ClientLaw server szx word t → AnswersLast szx t → BodiesAreWhole szx t
+  bodies server word [] law answers = tt
+  bodies server word (c ∷ t) law answers =
+      let before = client_back server szx word (c ∷ []) t law in (whole_here server word t c before answers, bodies server word t before answers.1)
 
 pub bodies_are_whole : (server : Endpoint) (szx word : ℕ) (t : List Call) → ClientLaw server szx word t → BodiesAreWhole szx t
-bodies_are_whole server szx word t law = bodies szx t (answers_last szx server word t law)
+bodies_are_whole server szx word t law = bodies szx server word t law (answers_last szx server word t law)

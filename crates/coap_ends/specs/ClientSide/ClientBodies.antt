@@ -14,7 +14,7 @@ use Rattle.coap_ends.specs.ClientSide.ClientResponses.{content, said, tag_in, fo
 use Rattle.coap_ends.specs.ClientSide.ClientEffects.{of}
 use Rattle.coap_ends.specs.ClientSide.ClientSteps.{reports}
 use Rattle.coap_ends.specs.ClientSide.ClientLaw.{own_of}
-use Rattle.coap_ends.specs.ClientSide.ClientWords.{Sending, sends, hears}
+use Rattle.coap_ends.specs.ClientSide.ClientWords.{Sending, sends, hears, last_sent}
 use Rattle.coap_ends.specs.ClientSide.ClientBegins.{WasSent}
 use Rattle.coap_ends.specs.ClientSide.ClientOrder.{call_of}
 
@@ -67,6 +67,10 @@ module _ (szx : ℕ) where
     pub took : Each (λ p. TookPart number p past) parts
     pub block : Option Block
     pub last : ComesLast parts message block
+    -- The last one answers the request that was sent last; where no part is before it, so where it comes without Block2, that is
+    -- the request for the first block.
+    pub asked : last_sent szx past ≡ Some heard.sending
+    pub alone : parts ≡ [] → is_first number (Some heard.sending) ≡ true
     pub whole : Whole (payloads_of parts block (tag_in message) message.payload) body
     pub tag_is : tag ≡ tag_in message
     pub format_is : format ≡ format_in message
