@@ -39,6 +39,7 @@ pub mod ClientOfCalls
 pub mod ObservationOrigins
 pub mod LiveOrGone
 pub mod ClientNotified
+pub mod FetchesSince
 pub mod ClientValues
 pub mod ClientRising
 pub mod ClientEnded

@@ -20,8 +20,8 @@ pub fn client_values_law()
     // What comes as a notification its message layer handed up in that very call, as it came from the server.
     ensures noted { (server : Endpoint) (szx word : ℕ) (t : List Call) → ClientLaw server szx word t
         → AreNoted server szx word t }
-    // A value is whole by the newest notification and what was fetched for that, under one ETag where there are several parts
-    // (RFC 7959, section 2.6).
+    // A value is whole by the newest notification and what was fetched for that, by requests that were sent since then, under
+    // one ETag where there are several parts (RFC 7959, section 2.6).
     ensures values { (server : Endpoint) (szx word : ℕ) (t : List Call) → ClientLaw server szx word t
         → ValuesAreWhole szx t }
     // Of two values the notification of the later one came later (RFC 7641, section 3.4).

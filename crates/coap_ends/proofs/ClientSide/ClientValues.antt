@@ -53,6 +53,7 @@ use Rattle.coap_ends.specs.ClientSide.ClientRising.{value_reported, ShowsValue}
 use Rattle.coap_ends.specs.ClientSide.ClientValues.{HeardToFetch, TakesRest, TookRest, IsObserved, ValuesAreWhole}
 use Rattle.coap_ends.proofs.ClientSide.ClientBodies.{gathered_none, each_append, each_map}
 use Rattle.coap_ends.proofs.ClientSide.ClientMarks.{answer_none}
+use Rattle.coap_ends.proofs.ClientSide.FetchesSince.{fetch_since}
 use Rattle.coap_ends.proofs.ClientSide.ObservationOrigins.{In, Same, Source, SourceOf, kept, rests, goes_on, comes}
 use Rattle.coap_ends.proofs.ClientSide.ObservationOrigins.{source, rest_asks, failed_value, last_value}
 use Rattle.coap_ends.proofs.ClientSide.ClientNotified.{newly_as, newest_kept, newest_now, most, are_taken}
@@ -251,6 +252,7 @@ module _ (szx : ℕ) where
     heard = heard;
     sending = a.sending;
     sent = last_was_sent szx t a.sending a.last;
+    since = fetch_since szx t k a.sending runs a.last;
     fetches = fetch_in a.sending.operation k (a.observation k (ap (runs_fetch k) runs ∙ number_self k));
     token = a.token;
   }

@@ -11,18 +11,24 @@ use Rattle.coap_ends.specs.ClientSide.ClientResponses.{content, tag_in, format_i
 use Rattle.coap_ends.specs.ClientSide.ClientEffects.{of}
 use Rattle.coap_ends.specs.ClientSide.ClientSteps.{reports}
 use Rattle.coap_ends.specs.ClientSide.ClientLaw.{own_of}
-use Rattle.coap_ends.specs.ClientSide.ClientWords.{Sending, hears}
+use Rattle.coap_ends.specs.ClientSide.ClientWords.{Sending, sends, hears}
 use Rattle.coap_ends.specs.ClientSide.ClientBegins.{WasSent}
 use Rattle.coap_ends.specs.ClientSide.ClientBodies.{ComesAs, ComesLast}
 use Rattle.coap_ends.specs.ClientSide.ClientNewer.{Newly, notifies}
 use Rattle.coap_ends.specs.ClientSide.ClientNotified.{is_newly_of, newest}
 
 module _ (szx : ℕ) where
-  -- the message is heard as the answer to a fetch for the observation, under its token
+  -- the request was sent since the newest notification of the observation came
+  abbrev pub SentSince : ℕ → Sending → List Call → Type 0
+  SentSince number x [] = ⊥
+  SentSince number x (c ∷ past) = (is_newly_of number (notifies (own_of szx past) c) ≡ false) × ((sends (own_of szx past) c ≡ Some x) ⊎ SentSince number x past)
+
+  -- the message is heard as the answer to a fetch for the observation that was sent since then, under its token
   pub record HeardToFetch (number : ℕ) (m : Message) (past : List Call) (c : Call) : Type 0 where
     pub heard : hears c ≡ Some m
     pub sending : Sending
     pub sent : WasSent szx sending past
+    pub since : SentSince number sending past
     pub fetches : sending.operation ≡ Fetching number
     pub token : sending.token ≡ m.token
 
