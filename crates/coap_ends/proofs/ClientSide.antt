@@ -18,6 +18,7 @@ pub mod HoldScenes
 pub mod ClientHears
 pub mod ClientNumbers
 pub mod ClientGives
+pub mod ClientGivesAll
 pub mod ExchangeBegins
 pub mod ClientAsked
 pub mod ClientBegun

@@ -89,7 +89,7 @@ pub fn answers_law()
     // .. and so was each notification (RFC 7641, section 3.2).
     ensures noticed { (config : Config) (events : List Event) (turns : List Turn) → RecordOf config events turns
         → Legal config turns → AllNoticed config (entries_of turns) }
-    // Its reports are all taken, in order, each once, but for those of a forgotten observation.
+    // Its reports are all taken, in order, each once.
     ensures given { (config : Config) (events : List Event) (turns : List Turn) → RecordOf config events turns
         → Legal config turns → AllGiven config (entries_of turns) }
 {}

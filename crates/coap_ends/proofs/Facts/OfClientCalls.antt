@@ -8,6 +8,7 @@ pub use Rattle.coap_ends.proofs.ClientSide.ClientCodes.{reports_codes}
 pub use Rattle.coap_ends.proofs.ClientSide.ClientEnded.{are_over}
 pub use Rattle.coap_ends.proofs.ClientSide.ClientEnds.{all_ends}
 pub use Rattle.coap_ends.proofs.ClientSide.ClientExactly.{stripped}
+pub use Rattle.coap_ends.proofs.ClientSide.ClientGivesAll.{NoneDropped, all_wait}
 pub use Rattle.coap_ends.proofs.ClientSide.ClientGoes.{goes_on}
 pub use Rattle.coap_ends.proofs.ClientSide.ClientNoted.{are_noted}
 pub use Rattle.coap_ends.proofs.ClientSide.ClientNotified.{are_taken}
