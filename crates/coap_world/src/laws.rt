@@ -51,7 +51,8 @@ pub fn changes_law()
     // Each path holds its last change, and the versions are 1, 2, 3 and so on (RFC 7252, section 5.10.6).
     ensures holds { (config : Config) (events : List Event) (turns : List Turn) → RecordOf config events turns
         → Legal config turns → HoldsChanges config (entries_of turns) }
-    // A local change does what it answers: it puts, or removes, by one change, or nothing changes.
+    // A local change does what it answers: it puts, or removes, by one change, where the store has no reason to refuse, or nothing
+    // changes.
     ensures local { (config : Config) (events : List Event) (turns : List Turn) → RecordOf config events turns
         → Legal config turns → LocalRight config (entries_of turns) }
     // What a path holds changes by a local change of it, or by a request to it that is applied (RFC 7252, section 5.8).

@@ -54,7 +54,7 @@ module _ (config : Config) (past : List Entry) where
               let r = h.0 in
               let same : version ≡ own.store.tally.version + 1 = cc (r, k) in
               let counts : version ≡ changes_in config past + 1 = same ∙ ap (λ n. n + 1) (sym (counted past rows.1)) in
-              (counts, next (max own.clock now) path _ h.1 ∙ sym counts, there (max own.clock now) path _ h.1 ∙ ap (λ n. Some (record { version = n; format = format; body = body })) (sym same)));
+              (counts, next (max own.clock now) path _ h.1 ∙ sym counts, there (max own.clock now) path _ h.1 ∙ ap (λ n. Some (record { version = n; format = format; body = body })) (sym same), is));
           refused = λ why k. absurd (let r = h.0 in cc (r, k));
         }
 
@@ -78,7 +78,7 @@ module _ (config : Config) (past : List Entry) where
         }
     removes_by now path answer (Some held) None is why h =
         record {
-          made = λ k. ((λ none. cc (is, none)), next (max own.clock now) path _ h.1, there (max own.clock now) path _ h.1);
+          made = λ k. ((λ none. cc (is, none)), next (max own.clock now) path _ h.1, there (max own.clock now) path _ h.1, why);
           none = λ k. absurd (let r = h.0 in cc (r, k));
           refused = λ other k. absurd (let r = h.0 in cc (r, k));
         }
