@@ -1,6 +1,7 @@
 -- What the server holds at each path after each entry, and whose each change is (RFC 7252, section 5.8).
 use Rattle.std.specs.Prelude.{◌≡◌, ◌⊎◌, ℕ, ◌+◌, true, None, Some, List, [], ◌∷◌}
 use Rattle.coap_types.specs.Past.{Always}
+use Rattle.coap_resource.specs.Content.{Held}
 use Rattle.coap_ends.specs.ServerSide.ServerTrace as S
 use Rattle.coap_ends.specs.ServerSide.ServerLaw.{own_of}
 use Rattle.coap_ends.specs.ServerSide.ServerServing.{is_applied}
@@ -23,10 +24,12 @@ module _ (config : Config) where
   Changes x past (OfServer c) = change (own_of config.limit config.server_szx (server_trace config past)) c ≡ Some x
 
   -- The server begins with nothing. After each entry each path holds the last of its changes, and the versions of the changes
-  -- are 1, 2, 3 and so on.
+  -- are 1, 2, 3 and so on. What a change says, its path holds after it: a representation under its version, or nothing.
   pub record Holds (past : List Entry) (e : Entry) : Type 0 where
     pub last : (path : List (List ℕ)) → holds_at config path (e ∷ past) ≡ last_at config path (e ∷ past)
     pub version : (x : Change) → Changes x past e → x.version ≡ changes_in config past + 1
+    pub made : (x : Change) → Changes x past e → holds_at config x.path (e ∷ past) ≡ x.held
+    pub under : (x : Change) (held : Held) → Changes x past e → x.held ≡ Some held → held.version ≡ x.version
 
   pub record HoldsChanges (all : List Entry) : Type 0 where
     pub first : (path : List (List ℕ)) → holds_at config path [] ≡ None
@@ -43,5 +46,7 @@ module _ (config : Config) where
   abbrev pub IsOwned : List (List ℕ) → List Entry → Entry → Type 0
   IsOwned path past e = (holds_at config path (e ∷ past) ≡ holds_at config path past) ⊎ (ChangesLocally path e ⊎ AppliesTo path past e)
 
-  abbrev pub ChangesOwned : List Entry → Type 0
-  ChangesOwned all = (path : List (List ℕ)) → Always (IsOwned path) all
+  -- Each change is a local one, or that of the request that is applied there; and nothing else changes what a path holds.
+  pub record ChangesOwned (all : List Entry) : Type 0 where
+    pub whose : Always (λ past e. (x : Change) → Changes x past e → ChangesLocally x.path e ⊎ AppliesTo x.path past e) all
+    pub stays : (path : List (List ℕ)) → Always (IsOwned path) all

@@ -48,14 +48,14 @@ pub fn hops_law()
 
 /// What the server's changes are, whatever the events are.
 pub fn changes_law()
-    // Each path holds its last change, and the versions are 1, 2, 3 and so on (RFC 7252, section 5.10.6).
+    // Each path holds its last change, which says what it holds, and the versions are 1, 2, 3 and so on (RFC 7252, section 5.10.6).
     ensures holds { (config : Config) (events : List Event) (turns : List Turn) → RecordOf config events turns
         → Legal config turns → HoldsChanges config (entries_of turns) }
     // A local change does what it answers: it puts, or removes, by one change, where the store has no reason to refuse, or nothing
     // changes.
     ensures local { (config : Config) (events : List Event) (turns : List Turn) → RecordOf config events turns
         → Legal config turns → LocalRight config (entries_of turns) }
-    // What a path holds changes by a local change of it, or by a request to it that is applied (RFC 7252, section 5.8).
+    // Each change is a local one, or that of the request to its path that is applied there (RFC 7252, section 5.8).
     ensures owned { (config : Config) (events : List Event) (turns : List Turn) → RecordOf config events turns
         → Legal config turns → ChangesOwned config (entries_of turns) }
 {}

@@ -1,6 +1,7 @@
 -- What a path holds changes by a local change of it, or by the request to it that is applied there.
 use Rattle.std.proofs.Common.{◌≡◌, ◌⊎◌, inl, inr, Bool, true, false, Option, Some, None, List, [], ◌∷◌, ℕ, refl, ap}
 use Rattle.std.proofs.Common.{sym, subst, ◌∙◌, cond, ◌==◌}
+use Rattle.coap_types.specs.Past.{Always}
 use Rattle.coap_types.specs.Path.{same_path}
 use Rattle.coap_types.proofs.Facts.Paths.{same_path-decides}
 use Rattle.coap_resource.specs.Content.{Content}
@@ -12,7 +13,7 @@ use Rattle.coap_ends.specs.ServerSide.Follows.ServerHolds.{ServesRight}
 use Rattle.coap_ends.specs.ServerSide.Follows.ServerServes.{Serving, serving}
 use Rattle.coap_ends.proofs.Facts.OfServer.{all_served}
 use Rattle.coap_world.specs.Events.{Config}
-use Rattle.coap_world.specs.Holds.{ChangesLocally, AppliesTo, IsOwned, ChangesOwned}
+use Rattle.coap_world.specs.Holds.{ChangesLocally, AppliesTo, Changes, IsOwned, ChangesOwned}
 use Rattle.coap_world.specs.Record.{Entry, OfClient, OfServer, server_trace}
 use Rattle.coap_world.specs.Words.{last_at}
 use Rattle.coap_world.proofs.Requests.HoldsChanges.{Rows, rows_back, last_is}
@@ -66,6 +67,17 @@ owned_here config past (OfServer c) rows path =
       | inr whose ↦ inr whose
     ]
 
+stays : (config : Config) (all : List Entry) → Rows config all → (path : List (List ℕ)) → Always (IsOwned config path) all
+stays config [] rows path = tt
+stays config (e ∷ past) rows path = (owned_here config past e rows path, stays config past (rows_back config e past rows) path)
+
+whose_here : (config : Config) (past : List Entry) (e : Entry) → Rows config (e ∷ past) → (x : Change) → Changes config x past e → ChangesLocally x.path e ⊎ AppliesTo config x.path past e
+whose_here config past (OfClient c) rows x h = absurd h
+whose_here config past (OfServer c) rows x h = owner config past c (all_served config.limit config.server_szx (server_trace config (OfServer c ∷ past)) rows).0 x h
+
+whose : (config : Config) (all : List Entry) → Rows config all → Always (λ past e. (x : Change) → Changes config x past e → ChangesLocally x.path e ⊎ AppliesTo config x.path past e) all
+whose config [] rows = tt
+whose config (e ∷ past) rows = (whose_here config past e rows, whose config past (rows_back config e past rows))
+
 pub owned : (config : Config) (all : List Entry) → Rows config all → ChangesOwned config all
-owned config [] rows path = tt
-owned config (e ∷ past) rows path = (owned_here config past e rows path, owned config past (rows_back config e past rows) path)
+owned config all rows = record { whose = whose config all rows; stays = stays config all rows }

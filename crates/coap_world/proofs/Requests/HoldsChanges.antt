@@ -1,9 +1,12 @@
 -- What the server holds at each path is the last of its changes there.
-use Rattle.std.proofs.Common.{◌≡◌, ℕ, true, None, List, [], ◌∷◌, refl, map}
+use Rattle.std.proofs.Common.{◌≡◌, ℕ, true, None, Some, List, [], ◌∷◌, refl, ap, ◌∙◌, cond, map}
 use Rattle.coap_types.specs.Past.{Always}
+use Rattle.coap_types.proofs.Facts.Paths.{same_path-decides}
 use Rattle.coap_ends.specs.ServerSide.ServerTrace as S
-use Rattle.coap_ends.specs.ServerSide.ServerLaw.{own_of, ServerRows}
-use Rattle.coap_ends.proofs.Facts.OfServer.{held_is, holds_changes}
+use Rattle.coap_ends.specs.ServerSide.ServerLaw.{own_of, ServerRows, ServerLaw}
+use Rattle.coap_ends.specs.ServerSide.Follows.ServerHolds.{Change, change, held_then}
+use Rattle.coap_ends.specs.ServerSide.Follows.ServerTags.{AreStamped}
+use Rattle.coap_ends.proofs.Facts.OfServer.{held_is, holds_changes, stamped}
 use Rattle.coap_world.specs.Events.{Config}
 use Rattle.coap_world.specs.Holds.{Holds, HoldsChanges}
 use Rattle.coap_world.specs.Record.{Entry, OfClient, OfServer, server_trace}
@@ -26,14 +29,35 @@ module _ (config : Config) where
   pub last_is : (t : List Entry) → Rows t → (path : List (List ℕ)) → holds_at config path t ≡ last_at config path t
   last_is t rows path = held_is config.limit config.server_szx (server_trace config t) rows path
 
-  holds_here : (e : Entry) (past : List Entry) → Rows (e ∷ past) → Holds config past e
-  holds_here (OfClient c) past rows = record { last = last_is past rows; version = λ x h. absurd h }
-  holds_here (OfServer c) past rows =
-      record { last = last_is (OfServer c ∷ past) rows; version = (holds_changes config.limit config.server_szx (server_trace config (OfServer c ∷ past)) rows).0.version }
+  abbrev Stamped : List Entry → Type 0
+  Stamped t = AreStamped config.limit config.server_szx (server_trace config t)
 
-  each_holds : (t : List Entry) → Rows t → Always (Holds config) t
-  each_holds [] rows = tt
-  each_holds (e ∷ past) rows = (holds_here e past rows, each_holds past (rows_back e past rows))
+  stamped_back : (e : Entry) (past : List Entry) → Stamped (e ∷ past) → Stamped past
+  stamped_back (OfClient c) past h = h
+  stamped_back (OfServer c) past h = h.1
 
-  pub changes_held : (all : List Entry) → Rows all → HoldsChanges config all
-  changes_held all rows = record { first = begun_empty config.limit config.server_szx config.delays; each = each_holds all rows }
+  -- a change says what its path holds
+  made_here : (past : List Entry) (c : S.Call) (x : Change) → change (own_of config.limit config.server_szx (server_trace config past)) c ≡ Some x → last_at config x.path (OfServer c ∷ past) ≡ x.held
+  made_here past c x is =
+      ap (λ o. held_then x.path o (last_at config x.path past)) is ∙ ap (λ b. cond b x.held (last_at config x.path past)) ((same_path-decides x.path x.path).1 refl)
+
+  holds_here : (e : Entry) (past : List Entry) → Rows (e ∷ past) → Stamped (e ∷ past) → Holds config past e
+  holds_here (OfClient c) past rows h = record { last = last_is past rows; version = λ x is. absurd is; made = λ x is. absurd is; under = λ x held is there. absurd is }
+  holds_here (OfServer c) past rows h =
+      record {
+        last = last_is (OfServer c ∷ past) rows;
+        version = (holds_changes config.limit config.server_szx (server_trace config (OfServer c ∷ past)) rows).0.version;
+        made = λ x is. last_is (OfServer c ∷ past) rows x.path ∙ made_here past c x is;
+        under = h.0.held;
+      }
+
+  each_holds : (t : List Entry) → Rows t → Stamped t → Always (Holds config) t
+  each_holds [] rows h = tt
+  each_holds (e ∷ past) rows h = (holds_here e past rows h, each_holds past (rows_back e past rows) (stamped_back e past h))
+
+  pub changes_held : (all : List Entry) → ServerLaw config.limit config.server_szx config.server_word (server_trace config all) → HoldsChanges config all
+  changes_held all law =
+      record {
+        first = begun_empty config.limit config.server_szx config.delays;
+        each = each_holds all law.rows (stamped config.limit config.server_szx config.server_word (server_trace config all) law);
+      }

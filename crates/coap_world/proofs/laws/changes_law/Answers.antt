@@ -6,7 +6,7 @@ use Rattle.coap_world.proofs.laws.changes_law.Goals as goal
 
 pub returns : goal.returns
 returns c = record {
-  holds = λ config events turns record_of legal. changes_held config (entries_of turns) record_of.server.rows;
+  holds = λ config events turns record_of legal. changes_held config (entries_of turns) record_of.server;
   local = λ config events turns record_of legal. local_right config (entries_of turns) record_of.server.rows;
   owned = λ config events turns record_of legal. O.owned config (entries_of turns) record_of.server.rows;
 }
