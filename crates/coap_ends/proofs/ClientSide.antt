@@ -52,6 +52,7 @@ pub mod ClientEnding
 pub mod ClientRest
 pub mod TransferSteps
 pub mod ClientBounds
+pub mod ClientBeyond
 pub mod ClientAsksOnce
 pub mod AnswerCodes
 pub mod ClientCodes

@@ -5,6 +5,7 @@ pub mod PathRead
 pub mod RefusalsShowNothing
 pub mod FormatsSet
 pub mod FormatsHeld
+pub mod BodiesShort
 pub mod ServedValid
 pub mod Understood
 pub mod AskedBy
@@ -13,6 +14,7 @@ pub mod Shown
 pub mod PartsOfOne
 pub mod HeldThere
 pub mod BodiesHeld
+pub mod NoneBeyond
 pub mod TagsOwn
 pub mod ValidShown
 pub mod ValidHeld

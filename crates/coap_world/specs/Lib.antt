@@ -16,6 +16,7 @@ pub mod Held
 pub mod Noticed
 pub mod Done
 pub mod Agrees
+pub mod Bounds
 pub mod GoesOn
 pub mod LegalRuns
 pub mod CallRuns

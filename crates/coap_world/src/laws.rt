@@ -6,6 +6,7 @@ ghost use Rattle.coap_ends.specs.ServerSide.ServerLaw as servers;
 ghost use Rattle.coap_world.specs.Applied.{AppliedWhole, AtMostOnce, EachBelongs};
 ghost use Rattle.coap_world.specs.Agrees.{Agrees};
 ghost use Rattle.coap_world.specs.Answers.{AllAnswered};
+ghost use Rattle.coap_world.specs.Bounds.{AreBounded, AreShort};
 ghost use Rattle.coap_world.specs.CameFrom.{CamesFrom};
 ghost use Rattle.coap_world.specs.Delivery.{AllFair};
 ghost use Rattle.coap_world.specs.Done.{NeverFailed, OnceDone};
@@ -58,6 +59,9 @@ pub fn changes_law()
     // Each change is a local one, or that of the request to its path that is applied there (RFC 7252, section 5.8).
     ensures owned { (config : Config) (events : List Event) (turns : List Turn) → RecordOf config events turns
         → Legal config turns → ChangesOwned config (entries_of turns) }
+    // No path holds a body that is longer than 65,536 bytes (profile).
+    ensures short { (config : Config) (events : List Event) (turns : List Turn) → RecordOf config events turns
+        → Legal config turns → AreShort config (entries_of turns) }
 {}
 
 /// Whose requests the server hands up in a legal run.
@@ -160,4 +164,8 @@ pub fn agreement()
     // 7252, sections 4.2, 4.5, 5.3.2, 5.8 and 5.9; RFC 7641; RFC 7959).
     ensures agrees { (config : Config) (events : List Event) (turns : List Turn) → RecordOf config events turns
         → Legal config turns → Agrees config (entries_of turns) }
+    // A GET makes at most 16,384 exchanges, in 4 passes over the 4,096 blocks of the longest body, an upload at most 4,096, and each
+    // other call one (RFC 7959, sections 2.4 and 2.5; profile).
+    ensures bounded { (config : Config) (events : List Event) (turns : List Turn) → RecordOf config events turns
+        → Legal config turns → AreBounded config (entries_of turns) }
 {}

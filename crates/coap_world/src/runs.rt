@@ -1,8 +1,6 @@
 ghost use Rattle.std.specs.Prelude.{List};
-ghost use Rattle.coap_ends.specs.ClientSide.ClientBounds.{AreBounded};
 ghost use Rattle.coap_world.specs.Events.{Config, Event};
-ghost use Rattle.coap_world.specs.Legal.{IsConfig, Legal};
-ghost use Rattle.coap_world.specs.Record.{Turn, RecordOf, entries_of, client_of};
+ghost use Rattle.coap_world.specs.Legal.{IsConfig};
 ghost use Rattle.coap_world.specs.GoesOn.{GoesOn, MayRun, HasRecord};
 ghost use Rattle.coap_world.specs.LegalRuns.{Gets, GetsAgain, Refuses, Defers, Repeats, TimesOut, Interferes, Pings};
 ghost use Rattle.coap_world.specs.CallRuns.{Queues, Matches, Validates, Exhausts, Rejects};
@@ -17,10 +15,6 @@ pub fn runs_law()
     // Events that may happen one after the other have a record in which nothing is refused.
     ensures runs { (config : Config) → IsConfig config → (events : List Event) → MayRun config events
         → HasRecord config events }
-    // In a record a GET asks for at most all blocks of a body, anew at most MAX_RESTARTS times, and for one behind them; an upload
-    // sends at most all blocks; any other call asks once (RFC 7959, sections 2.4 and 2.5).
-    ensures bounded { (config : Config) (events : List Event) (turns : List Turn) → RecordOf config events turns
-        → Legal config turns → AreBounded config.client_szx (client_of (entries_of turns)) }
 {}
 
 /// Legal runs: what this crate says of the whole world, it says of something.

@@ -60,13 +60,13 @@ use Rattle.coap_ends.proofs.ClientSide.TransferSteps.{fetch_bound, UploadWithin,
 
 -- how far the transfer of a call is, by so many requests
 
-abbrev IsUploading : Method → Type 0
+abbrev pub IsUploading : Method → Type 0
 IsUploading Get = ⊥
 IsUploading Post = Unit {0}
 IsUploading Put = Unit {0}
 IsUploading Delete = ⊥
 
-abbrev Within : ℕ → Request → Transfer → ℕ → Type 0
+abbrev pub Within : ℕ → Request → Transfer → ℕ → Type 0
 Within szx q (Fetches f) n = (q.method ≡ Get) × FetchWithin f n
 Within szx q (Uploads u) n = IsUploading q.method × UploadWithin szx q.body u n
 Within szx q Single n = n ≤ 1
@@ -202,7 +202,7 @@ szx_same szx (c ∷ t) = by c ∙ szx_same szx t
 
 -- what waits was taken, and is at its start
 
-abbrev taken : ℕ → Request → Taken
+abbrev pub taken : ℕ → Request → Taken
 taken k q = record { number = k; request = q }
 
 abbrev Waits : ℕ → List Call → Operation → Type 0
@@ -232,7 +232,7 @@ call_turns (Fetching n) k is = absurd (cc is)
 call_turns (Cancelling n) k is = absurd (cc is)
 call_turns Dropped k is = absurd (cc is)
 
-the_call : (op : Operation) (k : ℕ) → call_of op ≡ Some k → (r : Request) × (tr : Transfer) × (op ≡ Calling k r tr)
+pub the_call : (op : Operation) (k : ℕ) → call_of op ≡ Some k → (r : Request) × (tr : Transfer) × (op ≡ Calling k r tr)
 the_call (Calling n r t) k is = let e : n ≡ k = cc is in (r, t, ap (λ i. Calling i r t) e)
 the_call (Registering n path) k is = absurd (cc is)
 the_call (Fetching n) k is = absurd (cc is)
@@ -241,7 +241,7 @@ the_call Dropped k is = absurd (cc is)
 
 -- counting
 
-at_most_one : (k : ℕ) (o : Option Sending) → one_sent k o ≤ 1
+pub at_most_one : (k : ℕ) (o : Option Sending) → one_sent k o ≤ 1
 at_most_one k None = omega arith
 at_most_one k (Some x) = by (call_of x.operation)
   where
@@ -254,7 +254,7 @@ at_most_one k (Some x) = by (call_of x.operation)
         go false = omega arith
 
 -- a request is of this call, or of no use for it
-sent_or_not : (k : ℕ) (o : Option Sending) → (one_sent k o ≡ 0) ⊎ ((x : Sending) × (o ≡ Some x) × (call_of x.operation ≡ Some k))
+pub sent_or_not : (k : ℕ) (o : Option Sending) → (one_sent k o ≡ 0) ⊎ ((x : Sending) × (o ≡ Some x) × (call_of x.operation ≡ Some k))
 sent_or_not k None = inl refl
 sent_or_not k (Some x) = by (call_of x.operation) refl
   where
@@ -306,13 +306,13 @@ module _ (szx : ℕ) where
   all_wait (c ∷ t) rows = waits_step t c rows.0 (all_to (Waits szx t) (Waits szx (c ∷ t)) (waits_later szx t c) (own_of szx t).queue (all_wait t rows.1))
 
   -- the call that runs sent so many
-  record Runs (t : List Call) (k : ℕ) (tr : Transfer) : Type 0 where
-    request : Request
-    taken_it : WasTaken (taken k request) t
-    small : length request.body ≤ 65536
-    within : Within szx request tr (requests szx k t)
+  pub record Runs (t : List Call) (k : ℕ) (tr : Transfer) : Type 0 where
+    pub request : Request
+    pub taken_it : WasTaken (taken k request) t
+    pub small : length request.body ≤ 65536
+    pub within : Within szx request tr (requests szx k t)
 
-  started : (t : List Call) → ClientRows szx t → (k : ℕ) (r : Request) (tr : Transfer) (queue : List Operation) → (own_of szx t).queue ≡ Calling k r tr ∷ queue → requests szx k t ≡ 0
+  pub started : (t : List Call) → ClientRows szx t → (k : ℕ) (r : Request) (tr : Transfer) (queue : List Operation) → (own_of szx t).queue ≡ Calling k r tr ∷ queue → requests szx k t ≡ 0
   started t rows k r tr queue is =
       let h : Turns szx t = turns szx t rows in
       let w : Rises h.low (Calling k r tr ∷ queue) (own_of szx t).taken = subst (λ ops. Rises h.low ops (own_of szx t).taken) is h.waits in
@@ -341,7 +341,7 @@ module _ (szx : ℕ) where
         within = subst (λ z. Within szx g.0 z (requests szx k (c ∷ t))) (sym g.3) (begins_within szx g.0 g.0.method (requests szx k (c ∷ t)) refl (omega (arith, none, one)));
       }
 
-  runs_within : (t : List Call) → ClientRows szx t → (k : ℕ) (r : Request) (tr : Transfer) → (own_of szx t).running ≡ Some (Calling k r tr) → Runs t k tr
+  pub runs_within : (t : List Call) → ClientRows szx t → (k : ℕ) (r : Request) (tr : Transfer) → (own_of szx t).running ≡ Some (Calling k r tr) → Runs t k tr
   runs_within [] rows k r tr is = absurd (cc is)
   runs_within (c ∷ t) rows k r tr is = runs_here t c rows.1 k r tr (origin szx t c k r tr is) (λ old runs. runs_within t rows.1 k r old runs)
 

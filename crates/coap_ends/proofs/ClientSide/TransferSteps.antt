@@ -27,7 +27,7 @@ use Rattle.coap_ends.proofs.ClientSide.ClientBodies.{part_asks}
 use Rattle.coap_ends.proofs.ClientSide.PlaceLemmas.{same_number}
 use Rattle.coap_ends.proofs.ClientSide.UploadSteps.{continues_is}
 
-size_least : (szx : ℕ) → 16 ≤ size_of szx
+pub size_least : (szx : ℕ) → 16 ≤ size_of szx
 size_least szx = pow_mono {i = 4} {j = szx + 4} (omega arith)
 
 pub lt_not : (a b : ℕ) → nat_lt a b ≡ false → b ≤ a
@@ -46,12 +46,13 @@ zero_at num size h = ap (λ n. n * size) h ∙ none size
     none s = omega arith
 
 -- a part that lets the next block be asked for
-record AsksMore (f : FetchState) (b : Block) (len num size : ℕ) : Type 0 where
-  fits_it : fits f.asked b.num b.szx ≡ true
-  full : len ≡ size_of b.szx
-  small : offset_of b.num b.szx + len ≤ max_body
-  num_is : next_num f b ≡ num
-  size_is : next_szx f b ≡ size
+pub record AsksMore (f : FetchState) (b : Block) (len num size : ℕ) : Type 0 where
+  pub fits_it : fits f.asked b.num b.szx ≡ true
+  pub more : b.more ≡ true
+  pub full : len ≡ size_of b.szx
+  pub small : offset_of b.num b.szx + len ≤ max_body
+  pub num_is : next_num f b ≡ num
+  pub size_is : next_szx f b ≡ size
 
 -- .. and one that has another ETag
 record AsksAnew (f : FetchState) (b : Block) (len : ℕ) : Type 0 where
@@ -84,7 +85,7 @@ module _ (f : FetchState) (b : Block) (tag : Option (List ℕ)) (len : ℕ) wher
   full_by true is h = same_number len (size_of b.szx) h
   full_by false is h = absurd (cc is)
 
-  asks_more : (num size : ℕ) → F.verdict f (Some b) tag len ≡ verdict.Ask num size → AsksMore f b len num size
+  pub asks_more : (num size : ℕ) → F.verdict f (Some b) tag len ≡ verdict.Ask num size → AsksMore f b len num size
   asks_more num size h = by (fits f.asked b.num b.szx && is_sized b.more b.num b.szx len) refl (nat_lt max_body (offset_of b.num b.szx + len)) refl (lacks_tag b tag) (differs f tag) b.more refl h
     where
       by : (s : Bool) → (fits f.asked b.num b.szx && is_sized b.more b.num b.szx len) ≡ s → (l : Bool) → nat_lt max_body (offset_of b.num b.szx + len) ≡ l → (n d m : Bool) → b.more ≡ m
@@ -96,7 +97,7 @@ module _ (f : FetchState) (b : Block) (tag : Option (List ℕ)) (len : ℕ) wher
       by true a false c false false false e h = absurd (cc h)
       by true a false c false false true e h =
           let k = and_parts (fits f.asked b.num b.szx) (is_sized b.more b.num b.szx len) a in
-          record { fits_it = k.0; full = full_by b.more e k.1; small = lt_not max_body (offset_of b.num b.szx + len) c; num_is = cc h; size_is = cc h }
+          record { fits_it = k.0; more = e; full = full_by b.more e k.1; small = lt_not max_body (offset_of b.num b.szx + len) c; num_is = cc h; size_is = cc h }
 
   asks_anew : F.verdict f (Some b) tag len ≡ verdict.Again → AsksAnew f b len
   asks_anew h = by (fits f.asked b.num b.szx && is_sized b.more b.num b.szx len) refl (nat_lt max_body (offset_of b.num b.szx + len)) refl (lacks_tag b tag) (differs f tag) refl b.more h
@@ -147,7 +148,7 @@ pub record FetchWithin (f : FetchState) (n : ℕ) : Type 0 where
 pub fetch_begins : (szx n : ℕ) → n ≤ 1 → FetchWithin (F.start szx 0) n
 fetch_begins szx n h = record { few = omega (arith, h); restarts = omega arith; small = omega arith; begins = refl }
 
-at_gathered : (o : Option Asked) (n num szx : ℕ) → BeginsAt o n → fits o num szx ≡ true → offset_of num szx ≡ n
+pub at_gathered : (o : Option Asked) (n num szx : ℕ) → BeginsAt o n → fits o num szx ≡ true → offset_of num szx ≡ n
 at_gathered None n num szx at h = zero_at num (size_of szx) (same_number num 0 h) ∙ sym at
 at_gathered (Some a) n num szx at h =
     let k = and_parts (num == a.num) (szx == a.szx) h in

@@ -2,6 +2,7 @@
 pub use Rattle.coap_ends.proofs.ClientSide.AnswerCodes.{apart}
 pub use Rattle.coap_ends.proofs.ClientSide.BlocksApart.{blocks_apart}
 pub use Rattle.coap_ends.proofs.ClientSide.ClientAsksOnce.{ask_once}
+pub use Rattle.coap_ends.proofs.ClientSide.ClientBeyond.{GoesBeyond, HearsBeyond, within_or_beyond}
 pub use Rattle.coap_ends.proofs.ClientSide.ClientBodies.{part_asks}
 pub use Rattle.coap_ends.proofs.ClientSide.ClientBounds.{are_bounded}
 pub use Rattle.coap_ends.proofs.ClientSide.ClientCodes.{reports_codes}

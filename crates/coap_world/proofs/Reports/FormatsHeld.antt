@@ -40,7 +40,7 @@ fits_16 (Some n) = by (nat_lt n 65536) refl
     by false is = tt
 
 -- what a change leaves there
-change_held : (path : List (List ℕ)) (old left : Content) (x : Change) → change_of path old left ≡ Some x → left.holds path ≡ x.held
+pub change_held : (path : List (List ℕ)) (old left : Content) (x : Change) → change_of path old left ≡ Some x → left.holds path ≡ x.held
 change_held path old left x h = by (left.tally.version == old.tally.version) h
   where
     by : (b : Bool) → cond b None (Some (record { path = path; version = left.tally.version; held = left.holds path })) ≡ Some x → left.holds path ≡ x.held

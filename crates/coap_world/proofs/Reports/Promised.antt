@@ -16,11 +16,13 @@ use Rattle.coap_ends.proofs.Facts.OfClientCalls.{reports_codes}
 use Rattle.coap_ends.proofs.Facts.OfClientCalls.{all_ends}
 use Rattle.coap_ends.proofs.Facts.OfClientCalls.{all_taken}
 use Rattle.coap_world.specs.Agrees.{Agrees}
+use Rattle.coap_world.specs.Bounds.{AreBounded}
 use Rattle.coap_world.proofs.Uploads.AppliedWhole.{applied_whole}
 use Rattle.coap_world.proofs.Observations.HeldAreNamed.{all_named}
 use Rattle.coap_world.proofs.Observations.Rising.{all_rise}
 use Rattle.coap_world.proofs.Reports.Noticed.{all_noticed}
 use Rattle.coap_world.proofs.Reports.BodiesHeld.{each_held}
+use Rattle.coap_world.proofs.Reports.NoneBeyond.{bounded}
 use Rattle.coap_world.proofs.Reports.FormatsSet.{formats_in}
 use Rattle.coap_world.proofs.Reports.ValidHeld.{each_valid}
 use Rattle.coap_world.proofs.Reports.ValuesHeld.{each_value}
@@ -64,3 +66,6 @@ agrees config events turns run legal =
       none_after = client_facts.none_after server_end config.client_szx config.client_word c run.client;
       all_given = all_given config turns run.made run.client.rows;
     }
+
+pub exchanges_bounded : (config : Config) (events : List Event) (turns : List Turn) → RecordOf config events turns → Legal config turns → AreBounded config (entries_of turns)
+exchanges_bounded config events turns run legal = bounded config legal.range.server_szx (entries_of turns) (lawful config events turns run legal) (formats_in turns run.made legal.events)

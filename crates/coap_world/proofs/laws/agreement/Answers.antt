@@ -1,5 +1,5 @@
-use Rattle.coap_world.proofs.Reports.Promised.{agrees}
+use Rattle.coap_world.proofs.Reports.Promised.{agrees, exchanges_bounded}
 use Rattle.coap_world.proofs.laws.agreement.Goals as goal
 
 pub returns : goal.returns
-returns c = record { agrees = agrees }
+returns c = record { agrees = agrees; bounded = exchanges_bounded }

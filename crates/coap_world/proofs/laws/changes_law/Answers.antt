@@ -1,4 +1,5 @@
 use Rattle.coap_world.specs.Record.{entries_of}
+use Rattle.coap_world.proofs.Reports.BodiesShort.{bodies_short}
 use Rattle.coap_world.proofs.Requests.ChangesOwned as O
 use Rattle.coap_world.proofs.Requests.HoldsChanges.{changes_held}
 use Rattle.coap_world.proofs.Requests.LocalChanges.{local_right}
@@ -8,5 +9,6 @@ pub returns : goal.returns
 returns c = record {
   holds = λ config events turns record_of legal. changes_held config (entries_of turns) record_of.server;
   local = λ config events turns record_of legal. local_right config (entries_of turns) record_of.server.rows;
+  short = λ config events turns record_of legal. bodies_short config (entries_of turns) record_of.server.rows;
   owned = λ config events turns record_of legal. O.owned config (entries_of turns) record_of.server.rows;
 }
