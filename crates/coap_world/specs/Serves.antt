@@ -7,7 +7,7 @@ use Rattle.coap_resource.specs.Serves as R
 use Rattle.coap_exchange.specs.declared.answerer.Asked.{Asked}
 use Rattle.coap_ends.specs.ServerSide.Follows.ServerBrings.{Brings}
 use Rattle.coap_ends.specs.ServerSide.Follows.ServerServes.{Serving}
-use Rattle.coap_ends.specs.ServerSide.Follows.ServerTable.{MethodsHere}
+use Rattle.coap_ends.specs.ServerSide.Follows.ServerTable.{MethodsHere, UploadsHere}
 use Rattle.coap_ends.specs.ServerSide.ServerLaw.{own_of}
 use Rattle.coap_ends.specs.ServerSide.ServerServing.{is_applied}
 use Rattle.coap_world.specs.Events.{Config}
@@ -20,10 +20,15 @@ module _ (config : Config) where
   BroughtAt a q past (OfClient c) = ⊥
   BroughtAt a q past (OfServer c) = Brings config.limit config.server_szx config.server_word (server_trace config past) c a q
 
-  -- A request that is handed up and asks whole is served here, or waits.
+  -- A request that is handed up and asks whole is served here, unless it has to wait: then it waits.
   abbrev pub MethodsAt : List Entry → Entry → Type 0
   MethodsAt past (OfClient c) = Unit {0}
   MethodsAt past (OfServer c) = MethodsHere config.limit config.server_szx (server_trace config past) c
+
+  -- So is one whose last block is taken here: it asks with the whole body of its blocks.
+  abbrev pub UploadsAt : List Entry → Entry → Type 0
+  UploadsAt past (OfClient c) = Unit {0}
+  UploadsAt past (OfServer c) = UploadsHere config.limit config.server_szx (server_trace config past) c
 
   pub record ServesRight (past : List Entry) (e : Entry) : Type 0 where
     -- What is served came in a datagram, here or before, and is what that asks, with the whole body of its blocks.
@@ -33,6 +38,7 @@ module _ (config : Config) where
     -- where it is applied, its preconditions hold of what its path holds.
     pub preconditions : (x : Serving) → ServesAt config x past e → is_applied x.reply.code ≡ true → precondition_fails (holds_at config x.question.path past) x.question.options ≡ false
     pub methods : MethodsAt past e
+    pub uploads : UploadsAt past e
 
   abbrev pub AllServed : List Entry → Type 0
   AllServed all = Always ServesRight all

@@ -70,7 +70,8 @@ pub fn requests_law()
     ensures came { (config : Config) (events : List Event) (turns : List Turn) → RecordOf config events turns
         → Legal config turns → CamesFrom config (entries_of turns) }
     // What is served is what its datagram asks, by the table of the methods, and applied only where its preconditions hold;
-    // and each request that asks whole is served or waits (RFC 7252, sections 5.8 and 5.10.8).
+    // and each request that asks whole, or whose last block makes a body whole, is served or waits (RFC 7252, sections 5.2.2, 5.8
+    // and 5.10.8; RFC 7959, section 2.5).
     ensures served { (config : Config) (events : List Event) (turns : List Turn) → RecordOf config events turns
         → Legal config turns → AllServed config (entries_of turns) }
     // What is applied for the client's address belongs to a call (RFC 7252, section 5.3.1).

@@ -27,12 +27,13 @@ module _ (config : Config) where
         preconditions = λ x here applied.
             ap (λ (o : Content). precondition_fails (o.holds x.question.path) x.question.options) (sym (leaves s c x here).found) ∙ (right.applied x here applied).preconditions;
         methods = (server_facts.methods config.limit config.server_szx config.server_word (c ∷ t) law.server).0;
+        uploads = (server_facts.uploads config.limit config.server_szx config.server_word (c ∷ t) law.server).0;
       }
 
   pub served_right : (all : List Entry) → Lawful config all → AllServed config all
   served_right [] law = tt
   served_right (OfClient c ∷ past) law = (
-    record { brought = λ x here. absurd here; table = λ x here. absurd here; preconditions = λ x here applied. absurd here; methods = tt },
+    record { brought = λ x here. absurd here; table = λ x here. absurd here; preconditions = λ x here applied. absurd here; methods = tt; uploads = tt },
     served_right past (lawful_back config past (OfClient c) law),
   )
   served_right (OfServer c ∷ past) law = (served_here past c law, served_right past (lawful_back config past (OfServer c) law))
