@@ -10,11 +10,15 @@ use Rattle.coap_ends.specs.ServerSide.Follows.ServerServes.{Serving}
 use Rattle.coap_ends.specs.ServerSide.Follows.ServerTable.{MethodsHere, UploadsHere}
 use Rattle.coap_ends.specs.ServerSide.ServerLaw.{own_of}
 use Rattle.coap_ends.specs.ServerSide.ServerServing.{is_applied}
+use Rattle.coap_ends.specs.ServerSide.ServerTrace.{Own}
 use Rattle.coap_world.specs.Events.{Config}
 use Rattle.coap_world.specs.Record.{Entry, OfClient, OfServer, server_trace}
 use Rattle.coap_world.specs.Words.{ServesAt, holds_at}
 
 module _ (config : Config) where
+  abbrev own : List Entry → Own
+  own past = own_of config.limit config.server_szx (server_trace config past)
+
   -- here the request is handed up, or the last block of its body, and this is what is asked of the store
   abbrev pub BroughtAt : Asked → Question → List Entry → Entry → Type 0
   BroughtAt a q past (OfClient c) = ⊥
@@ -33,8 +37,8 @@ module _ (config : Config) where
   pub record ServesRight (past : List Entry) (e : Entry) : Type 0 where
     -- What is served came in a datagram, here or before, and is what that asks, with the whole body of its blocks.
     pub brought : (x : Serving) → ServesAt config x past e → Sometime (BroughtAt x.asked x.question) (e ∷ past)
-    -- Its reply, and what it changes, are those of the table of the methods, for what the store holds;
-    pub table : (x : Serving) → ServesAt config x past e → (at : ℕ) × R.Serves (own_of config.limit config.server_szx (server_trace config past)).store at x.question x.reply x.left
+    -- Its reply, and what the store holds then, are those of the table of the methods, for what it held, at that moment;
+    pub table : (x : Serving) → ServesAt config x past e → R.Serves (own past).store (own (e ∷ past)).clock x.question x.reply (own (e ∷ past)).store
     -- where it is applied, its preconditions hold of what its path holds.
     pub preconditions : (x : Serving) → ServesAt config x past e → is_applied x.reply.code ≡ true → precondition_fails (holds_at config x.question.path past) x.question.options ≡ false
     pub methods : MethodsAt past e

@@ -3,6 +3,7 @@ pub mod ServerBrought
 pub mod BlocksTaken
 pub mod ServedWasHandedUp
 pub mod ServedOnce
+pub mod ServedNow
 pub mod ServerWaiting
 pub mod HandedUpAsOften
 pub mod WaitsByDelay

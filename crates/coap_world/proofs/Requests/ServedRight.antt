@@ -1,11 +1,11 @@
 -- What is served is what a datagram asks, by the table of the methods.
-use Rattle.std.proofs.Common.{◌≡◌, ℕ, List, [], ◌∷◌, ap, sym, subst, ◌∙◌}
+use Rattle.std.proofs.Common.{List, [], ◌∷◌, ap, sym, ◌∙◌}
 use Rattle.coap_resource.specs.Content.{Content}
 use Rattle.coap_resource.specs.RequestOptions.{precondition_fails}
-use Rattle.coap_resource.specs.Serves as R
 use Rattle.coap_ends.specs.ServerSide.ServerLaw.{own_of}
 use Rattle.coap_ends.specs.ServerSide.ServerTrace as S
 use Rattle.coap_ends.proofs.Facts.OfServer as server_facts
+use Rattle.coap_ends.proofs.Facts.OfServerCalls.{served_now}
 use Rattle.coap_world.specs.Events.{Config}
 use Rattle.coap_world.specs.Record.{Entry, OfClient, OfServer, server_trace}
 use Rattle.coap_world.specs.Serves.{ServesRight, AllServed}
@@ -21,9 +21,7 @@ module _ (config : Config) where
       let right = (server_facts.right config.limit config.server_szx config.server_word (c ∷ t) law.server).0 in
       record {
         brought = λ x here. brought_in config x.asked x.question (OfServer c ∷ past) ((server_facts.handed config.limit config.server_szx config.server_word (c ∷ t) law.server).0 x here);
-        table = λ x here. (
-            let k = right.serves x here in
-            (k.0, subst (λ (o : Content). R.Serves o k.0 x.question x.reply x.left) (leaves s c x here).found k.1));
+        table = λ x here. served_now s c law.server.rows.0 x here;
         preconditions = λ x here applied.
             ap (λ (o : Content). precondition_fails (o.holds x.question.path) x.question.options) (sym (leaves s c x here).found) ∙ (right.applied x here applied).preconditions;
         methods = (server_facts.methods config.limit config.server_szx config.server_word (c ∷ t) law.server).0;
