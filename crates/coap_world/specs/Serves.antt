@@ -1,5 +1,5 @@
 -- How the server serves what its message layer hands up (RFC 7252, sections 5.2, 5.8 and 5.10.8; RFC 7959, section 2.5).
-use Rattle.std.specs.Prelude.{◌≡◌, ℕ, true, false, List, ◌∷◌}
+use Rattle.std.specs.Prelude.{◌≡◌, true, false, List, ◌∷◌}
 use Rattle.coap_types.specs.Past.{Sometime, Always}
 use Rattle.coap_resource.specs.RequestOptions.{precondition_fails}
 use Rattle.coap_resource.specs.Serves.{Question}
