@@ -21,6 +21,9 @@ pub mod Changes
 pub mod Uploads
 pub mod Repeats
 pub mod TimesOut
+pub mod LateTurns
+pub mod HoldsBack
+pub mod CompletesLate
 pub mod Interferes
 pub mod Exhausts
 pub mod Pings

@@ -23,4 +23,5 @@ pub mod CallRuns
 pub mod Rising
 pub mod ObservationRuns
 pub mod BlockRuns
+pub mod LateRuns
 pub mod Run

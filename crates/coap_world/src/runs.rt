@@ -6,6 +6,7 @@ ghost use Rattle.coap_world.specs.LegalRuns.{Gets, GetsAgain, Refuses, Defers, R
 ghost use Rattle.coap_world.specs.CallRuns.{Queues, Matches, Validates, Exhausts, Rejects};
 ghost use Rattle.coap_world.specs.ObservationRuns.{Watches, Observed, Crosses, Reorders};
 ghost use Rattle.coap_world.specs.BlockRuns.{Uploads, Changes};
+ghost use Rattle.coap_world.specs.LateRuns.{HoldsBack, CompletesLate};
 
 /// There are records: what the laws say of legal runs, they say of each list of events that are legal one after the
 /// other.
@@ -51,6 +52,10 @@ pub fn witness_law()
     ensures repeats { Repeats }
     // A POST is applied after its Timeout was reported (RFC 7252, sections 4.2 and 4.8.2).
     ensures times_out { TimesOut }
+    // An upload waits until no block of a failed one can come, and is applied alone (RFC 7252, section 4.8.2; RFC 7959, section 2.5).
+    ensures holds_back { HoldsBack }
+    // A late block completes an upload after its Timeout, behind a PUT in one message (RFC 7252, section 4.8.2; RFC 7959, section 2.5).
+    ensures completes_late { CompletesLate }
     // A stranger's DELETE, under the token of a call, is applied, and not for that call (RFC 7252, section 5.8.4).
     ensures interferes { Interferes }
     // A stranger's NON and local changes are all that a window takes: the next change is refused (RFC 7641, section 4.4).

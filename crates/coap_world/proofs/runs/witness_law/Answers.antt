@@ -13,6 +13,8 @@ use Rattle.coap_world.proofs.Witness.Changes.{changed}
 use Rattle.coap_world.proofs.Witness.Uploads.{uploaded}
 use Rattle.coap_world.proofs.Witness.Repeats.{repeated}
 use Rattle.coap_world.proofs.Witness.TimesOut.{timed_out}
+use Rattle.coap_world.proofs.Witness.HoldsBack.{held_back}
+use Rattle.coap_world.proofs.Witness.CompletesLate.{completed_late}
 use Rattle.coap_world.proofs.Witness.Interferes.{interfered}
 use Rattle.coap_world.proofs.Witness.Exhausts.{exhausted}
 use Rattle.coap_world.proofs.Witness.Pings.{pinged}
@@ -65,6 +67,12 @@ returns-clause-repeats c = repeated
 
 pub returns-clause-times_out : goal.returns-clause-times_out
 returns-clause-times_out c = timed_out
+
+pub returns-clause-holds_back : goal.returns-clause-holds_back
+returns-clause-holds_back c = held_back
+
+pub returns-clause-completes_late : goal.returns-clause-completes_late
+returns-clause-completes_late c = completed_late
 
 pub returns-clause-interferes : goal.returns-clause-interferes
 returns-clause-interferes c = interfered

@@ -1,0 +1,172 @@
+-- The turns of uploads of which a block comes late: their calls, the newest first, that their events make them, and what goes out in
+-- them (RFC 7252, section 4.2; RFC 7959, section 2.5).
+use Rattle.std.proofs.Common.{◌≡◌, ◌≤◌, ◌<◌, inl, inr, ℕ, true, false, Some, None, List, [], ◌∷◌, map, length, Ok, refl}
+use Rattle.std.proofs.Common.{arith}
+use Rattle.std.specs.Prelude.{codes}
+use Rattle.coap_types.specs.Bytes.{AreBytes}
+use Rattle.coap_types.specs.CoapOption.{CoapOption}
+use Rattle.coap_types.specs.declared.message.Kind.TheVariants.{Con}
+use Rattle.coap_codec.specs.Message.{Message}
+use Rattle.coap_codec.specs.Spelling.{option_bytes, options_bytes}
+use Rattle.coap_layer.proofs.Facts.Sendable.{sendable_when_short}
+use Rattle.coap_layer.specs.Machine.State.{State, Arrived, May, Step, answer_of, moment, forgotten, after, made}
+use Rattle.coap_layer.specs.Rows.{IsSpelled}
+use Rattle.coap_layer.specs.Trace as L
+use Rattle.coap_exchange.specs.AnswererSteps.{asked_of}
+use Rattle.coap_exchange.specs.declared.asker.Event.TheVariants as event
+use Rattle.coap_exchange.specs.declared.asker.Turn.TheVariants as turn
+use Rattle.coap_ends.specs.ClientSide.ClientTrace as C
+use Rattle.coap_ends.specs.ServerSide.ServerTrace as S
+use Rattle.coap_world.specs.Events.{client_end, server_end}
+use Rattle.coap_world.specs.Legal.{IsConfig, IsRequest}
+use Rattle.coap_world.specs.Record.{Given, OfClient, OfServer, FeedsClient, FeedsServer, Delivers}
+use Rattle.coap_world.specs.BlockRuns.{key, by_16, answer_bytes, block_bytes}
+use Rattle.coap_world.specs.LateRuns.{uploading, continue}
+use Rattle.coap_world.proofs.Witness.InWords.{config_range, t_is, no_tags}
+use Rattle.coap_world.proofs.Witness.TurnsMade.{client_turn, server_turn, to_server, to_client, asks, rests, on_client}
+use Rattle.coap_world.proofs.Witness.TurnsMade.{on_server}
+use Rattle.coap_world.proofs.Witness.Uploads.Client.{answer}
+
+-- of the client: a call is taken; a tick sends its first request
+
+abbrev pub called : ℕ → ℕ → List ℕ → List C.Call
+called at number body = C.Calls at (uploading body) (Ok number) ∷ []
+
+abbrev pub begins : ℕ → ℕ → List C.Call
+begins at id = rests at ∷ asks at id (key id) ∷ []
+
+-- a 2.31 comes, and the next block is sent; the last response comes
+
+abbrev pub goes_on : ℕ → ℕ → ℕ → ℕ → C.Call
+goes_on at id value next =
+    C.Feeds at server_end (answer_bytes continue id value) 0 (L.Becomes (L.Response (answer continue id value))) true
+    (Some (event.Answer (answer continue id value))) (L.Sent next) (Ok (key next)) false
+
+abbrev pub ends : ℕ → List ℕ → Message → C.Call
+ends at bytes m = C.Feeds at server_end bytes 0 (L.Becomes (L.Response m)) true (Some (event.Answer m)) L.Nothing (Ok []) false
+
+-- the second block is copied, and fails; the response to it comes too late
+
+abbrev pub copies : ℕ → List C.Call
+copies at = rests at ∷ C.Ticks at 0 (L.Copied server_end 1) turn.Copied L.Nothing (Ok []) false true ∷ []
+
+abbrev pub copied : List ℕ → ℕ → List C.Call
+copied bytes at = client_turn [] (to_server bytes ∷ []) (copies at)
+
+abbrev pub expires : List C.Call
+expires = rests 62000 ∷ C.Ticks 62000 0 (L.Expired server_end 1) (turn.End event.Timeout) L.Nothing (Ok []) false true ∷ []
+
+abbrev pub drops : List ℕ → C.Call
+drops bytes = C.Feeds 130000 server_end bytes 0 (L.Becomes L.Dropped) false None L.Nothing (Ok []) false
+
+-- of the server: a block is taken, and the next one is asked for
+
+abbrev pub block : ℕ → ℕ → List ℕ → Message
+block id value payload = record {
+  kind = Con;
+  code = 3;
+  id = id;
+  token = key id;
+  options = record { number = 11; value = codes "t" } ∷ record { number = 27; value = value ∷ [] } ∷ [];
+  payload = payload;
+}
+
+abbrev pub takes : ℕ → ℕ → ℕ → List ℕ → S.Call
+takes at id value payload =
+    S.Feeds at client_end (block_bytes id value payload) 0 (L.Becomes (L.Request (block id value payload) true))
+    (Some (asked_of client_end (block id value payload), block id value payload))
+    (S.Replies (record { code = continue; options = record { number = 27; value = value ∷ [] } ∷ []; payload = [] })) L.Nothing
+
+abbrev pub answers : List ℕ → S.Call → List S.Call
+answers bytes c = server_turn (to_client bytes ∷ []) (c ∷ [])
+
+-- a message that is remembered, with its reply
+abbrev pub answered : ℕ → ℕ → List ℕ → Arrived
+answered at id reply = record { from = client_end; id = id; at = at; con = true; reply = Some reply }
+
+-- what a delivery makes
+
+pub to_the_client : (at : ℕ) (g : Given) (reports : List C.Reported) (outs : List L.Packet) (c : C.Call) → g.packet.to ≡ client_end
+    → FeedsClient at 0 g.from g.packet.bytes c → Delivers g at 0 false (map OfClient (client_turn reports outs (c ∷ [])))
+to_the_client at g reports outs c to feeds = inr (to, c ∷ [], (c, feeds, refl), on_client reports outs (c ∷ []))
+
+pub to_the_server : (at : ℕ) (g : Given) (reply : List ℕ) (c : S.Call) → g.packet.to ≡ server_end
+    → FeedsServer at 0 g.from g.packet.bytes c → Delivers g at 0 false (map OfServer (answers reply c))
+to_the_server at g reply c to feeds = inl (to, c ∷ [], (c, feeds, refl), on_server (to_client reply ∷ []) (c ∷ []))
+
+-- a step of a message layer, which its state and the call determine
+pub step : {old : State} {now : ℕ} {call : L.Call} → May old call
+    → Step old now call (answer_of old (moment old now call) call) (forgotten (after old (made old now call)))
+step may = record { may = may; right = refl; new_is = refl }
+
+-- what goes out is spelled: a block and a body of at most 16 bytes, and a response with and without Block1
+
+pub block_spelled : (id value : ℕ) (payload : List ℕ) → length payload ≤ 16
+    → IsSpelled (record { code = 3; token = key id; options = (block id value payload).options; payload = payload })
+unfolding option_bytes options_bytes
+block_spelled id value payload few = (sendable_when_short _ (record {
+  some = omega arith;
+  code = omega arith;
+  id = omega arith;
+  token = omega arith;
+  order = refl;
+  numbers = refl;
+  short = refl;
+}) (omega (arith, few))).spelled
+
+pub body_spelled : (id : ℕ) (payload : List ℕ) → length payload ≤ 16
+    → IsSpelled (record { code = 3; token = key id; options = record { number = 11; value = codes "t" } ∷ []; payload = payload })
+unfolding option_bytes options_bytes
+body_spelled id payload few = (sendable_when_short _ (record {
+  some = omega arith;
+  code = omega arith;
+  id = omega arith;
+  token = omega arith;
+  order = refl;
+  numbers = refl;
+  short = refl;
+}) (omega (arith, few))).spelled
+
+abbrev says : ℕ → ℕ → List CoapOption → L.Content
+says code id options = record { code = code; token = key id; options = options; payload = [] }
+
+pub response_spelled : (code id value : ℕ) → 0 < code → code < 256 → IsSpelled (says code id (record { number = 27; value = value ∷ [] } ∷ []))
+unfolding option_bytes options_bytes
+response_spelled code id value some small = (sendable_when_short _ (record {
+  some = omega (arith, some);
+  code = omega (arith, small);
+  id = omega arith;
+  token = omega arith;
+  order = refl;
+  numbers = refl;
+  short = refl;
+}) (omega arith)).spelled
+
+pub bare_spelled : (code id : ℕ) → 0 < code → code < 256 → IsSpelled (says code id [])
+unfolding option_bytes options_bytes
+bare_spelled code id some small = (sendable_when_short _ (record {
+  some = omega (arith, some);
+  code = omega (arith, small);
+  id = omega arith;
+  token = omega arith;
+  order = refl;
+  numbers = refl;
+  short = refl;
+}) (omega arith)).spelled
+
+-- words and sizes, and a request, are in range
+
+pub by_16_range : IsConfig by_16
+by_16_range = record {
+  client_word = omega arith;
+  client_szx = omega arith;
+  server_word = omega arith;
+  server_szx = omega arith;
+  some = omega arith;
+  limit = config_range.limit;
+  delays = config_range.delays;
+  few = omega arith;
+}
+
+pub range : (body : List ℕ) → AreBytes body → IsRequest (uploading body)
+range body bytes = record { path = t_is; format = tt; body = bytes; etags = no_tags; if_match = no_tags; accept = tt }
