@@ -10,13 +10,16 @@ use Rattle.coap_world.specs.Record.{Given, entries_of}
 use Rattle.coap_world.specs.BlockRuns.{key, by_16, block_bytes, answer_bytes, created}
 use Rattle.coap_world.specs.Words.{AppliesFor, changes_in, holds_at}
 
--- a request of this call is applied in it, and how often its server changes anything
+-- a request of this call is applied in it; its server makes so many changes in all; before one of its calls `t` held this body
 module _ {config : Config} {events : List Event} {given : List Given} (run : Runs config events given) where
   abbrev pub Applied : ℕ → Type 0
   Applied number = Sometime (AppliesFor config number (entries_of run.turns)) (entries_of run.turns)
 
   abbrev pub ChangesOnly : ℕ → Type 0
   ChangesOnly times = changes_in config (entries_of run.turns) ≡ times
+
+  abbrev pub Held : ℕ → List ℕ → Type 0
+  Held version body = Sometime (λ past e. holds_at config t past ≡ Some (record { version = version; format = None; body = body })) (entries_of run.turns)
 
 -- a PUT of this body at `t`
 abbrev pub uploading : List ℕ → Request
@@ -154,5 +157,5 @@ pub record CompletesLate : Type 0 where
   pub applied_second : Applied run 1
   pub applied_first : Applied run 0
   pub twice : ChangesOnly run 2
-  pub before : Sometime (λ past e. holds_at by_16 t past ≡ Some (record { version = 1; format = None; body = short_body })) (entries_of run.turns)
+  pub before : Held run 1 short_body
   pub holds : Holds run t 2 None failed_body
