@@ -8,3 +8,4 @@ pub mod Standing
 pub mod Runs
 pub mod Copying
 pub mod Beginning
+pub mod Delaying

@@ -2,6 +2,7 @@
 mod begin;
 mod config;
 mod copies;
+mod delaying;
 mod deliver;
 mod drain;
 mod event;

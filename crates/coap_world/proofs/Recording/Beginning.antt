@@ -8,7 +8,7 @@ use Rattle.coap_ends.specs.ServerSide.ServerDeferring.{others, may_delay, delays
 use Rattle.coap_ends.specs.ServerSide.ServerLaw.{own_of}
 use Rattle.coap_ends.specs.ServerSide.ServerTrace as S
 use Rattle.coap_ends.specs.declared.limits.TheConstants.{MAX_DELAYS as max_delays}
-use Rattle.coap_world.specs.declared.running.config.PathDelay.{PathDelay}
+use Rattle.coap_world.specs.declared.running.delaying.PathDelay.{PathDelay}
 use Rattle.coap_world.specs.Run.Configs.{delay_as, gives}
 
 not_both : (b : Bool) → false ≡ b → b ≡ true → ⊥

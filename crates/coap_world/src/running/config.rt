@@ -1,18 +1,15 @@
 //! With what a run begins.
-ghost use Rattle.std.specs.Prelude.{◌≡◌, ◌≤◌, ◌↔◌, [], IfSome, IsSome};
+ghost use Rattle.std.specs.Prelude.{◌≡◌, ◌≢◌, ◌≤◌, ◌↔◌, [], true, false, Err, is_some, IfSome, IsSome, OnErr, OnOk};
+ghost use Rattle.coap_ends.specs.ServerSide.ServerDeferring.{delay_of, delays_with, may_delay};
+ghost use Rattle.coap_ends.specs.declared.server.delaying.DelayRefusal.TheVariants as delay_refusals;
+ghost use Rattle.coap_world.specs.Run.Configs.{with_delays};
 
-use coap_ends::MAX_DELAYS;
+use crate::running::delaying::{PathDelay, give_delay};
+use coap_ends::DelayRefusal;
 use coap_resource::MAX_CHANGES_PER_WINDOW;
 use coap_types::{Path, Szx};
 use std::alloc::{Allocator, Global};
 use std::marker::Model;
-
-/// A path whose requests wait, and for how many milliseconds.
-#[derive(Drop)]
-pub(crate) struct PathDelay<A: Allocator + Copy> {
-    pub(crate) path: Path<A>,
-    pub(crate) ms: u64,
-}
 
 /// With what a run begins: the words and the block sizes of both ends, how many changes a window
 /// takes, and which paths are answered later.
@@ -72,5 +69,22 @@ impl<A: Allocator + Copy> WorldConfig<A> {
             changes,
             delays: Vec::new(alloc),
         })
+    }
+
+    /// Has each Confirmable request of the path wait for so many milliseconds, as
+    /// `coap_ends::Server::set_delay` does. It takes no memory where `MAX_DELAYS` other paths have a
+    /// delay, or the path has one.
+    pub fn delay(&mut self, path: &Path<A>, ms: u64) -> Result<(), DelayRefusal>
+        ensures ok { OnOk result (self.new ≡ with_delays self.old (delays_with path.now ms true self.old.delays)) }
+        ensures err { OnErr result (self.new ≡ self.old) }
+        ensures full { (result ≡ Err delay_refusals.Full) ↔ (may_delay path.now self.old.delays ≡ false) }
+        ensures again { is_some (delay_of path.now self.old.delays) ≡ true → result ≢ Err delay_refusals.Memory }
+    {
+        let _path = path.segments();
+        match give_delay(&mut self.delays, path, ms) {
+            Ok(true) => Ok(()),
+            Ok(false) => Err(DelayRefusal::Full),
+            Err(_) => Err(DelayRefusal::Memory),
+        }
     }
 }
