@@ -1,5 +1,7 @@
-pub mod Moving
 pub mod Acting
+pub mod Asking
+pub mod Applying
+pub mod Serving
 pub mod Finishing
 pub mod Turning
 pub mod EachTurn
@@ -9,3 +11,4 @@ pub mod Runs
 pub mod Copying
 pub mod Beginning
 pub mod Delaying
+pub mod Naming

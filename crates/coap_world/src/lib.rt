@@ -10,7 +10,7 @@ pub use laws::{
     reports_law, requests_law,
 };
 pub use running::{
-    CLIENT_END, Event, Given, Kind, Line, Record, RunRefusal, SERVER_END, Side, What, WorldConfig,
-    run, run_with,
+    AppliedRequest, CLIENT_END, Change, Event, Given, Kind, Line, Record, RunRefusal, SERVER_END,
+    Side, What, WorldConfig, run, run_with,
 };
 pub use runs::{runs_law, witness_law};

@@ -5,28 +5,36 @@ mod copies;
 mod delaying;
 mod deliver;
 mod drain;
+mod ends;
 mod event;
 mod inputs;
+mod put_away;
 mod ranges;
 mod record;
+mod senders;
 mod step;
 mod stop;
 mod ticks;
 mod turn;
 
-ghost use Rattle.std.specs.Prelude.{◌≡◌, ℕ, Err, IfOk, map};
+ghost use Rattle.std.specs.Prelude.{◌≡◌, ℕ, [], Err, IfOk, List, OnOk, map, reverse};
+ghost use Rattle.coap_world.specs.Events.{Config};
+ghost use Rattle.coap_world.specs.Record.{Turn};
+ghost use Rattle.coap_world.specs.Run.Ends.{ClientLed, ServerLed};
 ghost use Rattle.coap_world.specs.Run.Happening.{event_of};
 ghost use Rattle.coap_world.specs.Run.Runs.{IsRunOf, IsFirstWrong};
+ghost use Rattle.coap_world.specs.Run.Turning.{Stands};
 
 use crate::running::begin::{client_of, server_of};
+use crate::running::ends::{ClientEnd, ServerEnd};
+use crate::running::put_away::put_away;
 use crate::running::step::step;
 use crate::running::stop::Stop;
-use coap_ends::Server;
 use coap_resource::{ListStore, Store};
 pub use config::WorldConfig;
 pub use drain::{CLIENT_END, SERVER_END};
 pub use event::{Event, Side, What};
-pub use record::{Given, Kind, Line, Record};
+pub use record::{AppliedRequest, Change, Given, Kind, Line, Record};
 use std::alloc::Allocator;
 
 /// Why there is no record of a run.
@@ -36,6 +44,33 @@ pub enum RunRefusal {
     NotLegal(usize),
     /// 2: an allocation was refused to a list of the run itself, or to a copy that it hands in.
     Memory,
+}
+
+// Runs the events over two ends, and notes what they do.
+fn run_over<S: Store<A>, A: Allocator + Copy>(
+    events: &[Event<A>],
+    client: &mut ClientEnd<A>,
+    server: &mut ServerEnd<S, A>,
+    log: &mut Record<A>,
+) -> Result<(), RunRefusal>
+    ensures record { OnOk result ((config : Config)
+        → Stands ClientLed (ServerLed S.content) config [] [] client.old server.old log.old 0 → (turns : List Turn) × (last : ℕ)
+        × Stands ClientLed (ServerLed S.content) config (reverse (map event_of events.now)) turns client.new server.new log.new last) }
+    ensures wrong { (number : ℕ) → result ≡ Err (RunRefusal.NotLegal number) → (config : Config)
+        → Stands ClientLed (ServerLed S.content) config [] [] client.old server.old log.old 0
+        → IsFirstWrong config (map event_of events.now) number }
+{
+    let mut last = 0;
+    let mut number = 0;
+    'events: while number < events.len() {
+        match step(client, server, log, &mut last, &events[number]) {
+            Ok(()) => {}
+            Err(Stop::NotLegal) => return Err(RunRefusal::NotLegal(number)),
+            Err(Stop::Memory) => return Err(RunRefusal::Memory),
+        }
+        number += 1;
+    }
+    Ok(())
 }
 
 /// Runs the events over a client and a server, which holds what it holds in such a store.
@@ -49,29 +84,22 @@ pub fn run_with<S: Store<A>, A: Allocator + Copy>(
     ensures wrong { (number : ℕ) → result ≡ Err (RunRefusal.NotLegal number)
         → IsFirstWrong config.now (map event_of events.now) number }
 {
-    let mut client = client_of(config);
-    let mut server: Server<S, A> = match server_of(config) {
+    let mut server: ServerEnd<S, A> = match server_of(config) {
         Ok(server) => server,
         Err(_) => return Err(RunRefusal::Memory),
     };
+    let mut client = client_of(config);
     let mut log = Record::new(config.alloc);
-    let mut last = 0;
-    let mut number = 0;
-    'events: while number < events.len() {
-        match step(
-            &mut client,
-            &mut server,
-            &mut log,
-            &mut last,
-            &events[number],
-        ) {
-            Ok(()) => {}
-            Err(Stop::NotLegal) => return Err(RunRefusal::NotLegal(number)),
-            Err(Stop::Memory) => return Err(RunRefusal::Memory),
+    let done = run_over(events, &mut client, &mut server, &mut log);
+    put_away(client);
+    put_away(server);
+    match done {
+        Ok(()) => Ok(log),
+        Err(why) => {
+            put_away(log);
+            Err(why)
         }
-        number += 1;
     }
-    Ok(log)
 }
 
 /// Runs the events over a client and a server, which holds what it holds in the default store.

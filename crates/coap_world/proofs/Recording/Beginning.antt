@@ -6,10 +6,12 @@ use Rattle.coap_layer.proofs.ListLemmas.{true_lt}
 use Rattle.coap_observe.proofs.ListLemmas.{length_filter}
 use Rattle.coap_ends.specs.ServerSide.ServerDeferring.{others, may_delay, delays_with}
 use Rattle.coap_ends.specs.ServerSide.ServerLaw.{own_of}
+use Rattle.coap_ends.specs.ServerSide.Follows.ServerHolds.{changes}
 use Rattle.coap_ends.specs.ServerSide.ServerTrace as S
 use Rattle.coap_ends.specs.declared.limits.TheConstants.{MAX_DELAYS as max_delays}
 use Rattle.coap_world.specs.declared.running.delaying.PathDelay.{PathDelay}
 use Rattle.coap_world.specs.Run.Configs.{delay_as, gives}
+use Rattle.coap_world.proofs.Recording.Applying.{zero_plus}
 
 not_both : (b : Bool) → false ≡ b → b ≡ true → ⊥
 not_both true f t = cc
@@ -57,3 +59,8 @@ none_yet items delays n are is =
 
 pub few_left : (ds : List S.Delay) (left : ℕ) → 0 < left → left ≤ length ds → length ds ≤ max_delays → length (drop left ds) < max_delays
 few_left ds left some within few = let long = length-drop left ds in omega (arith, long, some, within, few)
+
+-- a delay changes nothing
+pub none_changed : (limit szx : ℕ) (ds : List S.Delay) → changes limit szx (gives ds) ≡ 0
+none_changed limit szx [] = refl
+none_changed limit szx (d ∷ ds) = sym (zero_plus (changes limit szx (gives ds))) ∙ none_changed limit szx ds

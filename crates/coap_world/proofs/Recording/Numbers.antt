@@ -3,15 +3,18 @@ use Rattle.std.proofs.Common.{◌≡◌, ◌⊎◌, inl, inr, ◌<◌, ◌≤◌
 use Rattle.std.proofs.lemmas.List.{length-reverse, reverse-append}
 use Rattle.coap_types.specs.Past.{Sometime, all_of}
 use Rattle.coap_types.specs.declared.endpoint.Endpoint.{Endpoint}
-use Rattle.coap_ends.specs.ClientSide.ClientTrace as C
-use Rattle.coap_ends.specs.ServerSide.ServerTrace as S
-use Rattle.coap_world.specs.Events.{client_end, server_end, Config, Event, Deliver}
+use Rattle.coap_resource.specs.Content.{Content}
+use Rattle.coap_world.specs.Events.{client_end, server_end, Event, Deliver}
 use Rattle.coap_world.specs.Legal.{MayCome, max_delivery}
 use Rattle.coap_world.specs.Record.{OfClient, OfServer, Given, given_in, Turn, IsNumber, FeedsClient, FeedsServer}
-use Rattle.coap_world.specs.Run.Log.{Log, log_of}
-use Rattle.coap_world.specs.Run.Acts.{Taken}
+use Rattle.coap_world.specs.Run.Log.{Log, Begins, given_of, line_put, server_lines}
+use Rattle.coap_world.specs.Run.Acts.{Fed, Taken}
+use Rattle.coap_world.specs.Run.Ends.{ClientLed, ServerLed}
+use Rattle.coap_world.specs.Run.Senders.{sender_in}
 use Rattle.coap_world.specs.Run.Turning.{ClientEnds, ServerEnds, Turned}
-use Rattle.coap_world.proofs.Recording.Turning.{client_turned, server_turned, of_client, of_server}
+use Rattle.coap_world.specs.declared.running.ends.ClientEnd.{ClientEnd}
+use Rattle.coap_world.specs.declared.running.ends.ServerEnd.{ServerEnd}
+use Rattle.coap_world.proofs.Recording.Turning.{client_turned, fed_acts, of_a_client, of_a_server, server_turned}
 
 module _ {X : Type 0} where
   placed : (xs : List X) (x g : X) (n : ℕ) → slice_get (xs ++ x ∷ []) n ≡ Some g → (slice_get xs n ≡ Some g) ⊎ ((x ≡ g) × (length xs ≡ n))
@@ -47,13 +50,13 @@ module _ {X : Type 0} where
       subst (λ r. slice_get r n ≡ Some g) (sym (reverse-append (x ∷ []) xs)) (kept (reverse xs) x g n (place_once xs n g r))
 
 -- what stands in the log at that place
-pub number_is : (past : List Turn) (log : Log) (n : ℕ) (g : Given) → log ≡ log_of past → Some g ≡ slice_get log.given n → IsNumber n g past
-number_is past log n g is h = once_place (all_of given_in past) n g (sym (h ∙ ap (λ (l : Log). slice_get l.given n) is))
+pub number_is : (past : List Turn) (log : Log) (n : ℕ) (g : Given) → log.given ≡ given_of past → Some g ≡ slice_get log.given n → IsNumber n g past
+number_is past log n g is h = once_place (all_of given_in past) n g (sym (h ∙ ap (λ l. slice_get l n) is))
 
-pub number_there : (past : List Turn) (log : Log) (n : ℕ) (g : Given) → log ≡ log_of past → IsNumber n g past → slice_get log.given n ≡ Some g
-number_there past log n g is h = ap (λ (l : Log). slice_get l.given n) is ∙ place_once (all_of given_in past) n g h
+pub number_there : (past : List Turn) (log : Log) (n : ℕ) (g : Given) → log.given ≡ given_of past → IsNumber n g past → slice_get log.given n ≡ Some g
+number_there past log n g is h = ap (λ l. slice_get l n) is ∙ place_once (all_of given_in past) n g h
 
-module _ (past : List Turn) (log : Log) (at n : ℕ) (is : log ≡ log_of past) where
+module _ (past : List Turn) (log : Log) (at n : ℕ) (is : log.given ≡ given_of past) where
   pub none_comes : (slice_get log.given n ≡ None) → MayCome past at (Deliver n) → ⊥
   none_comes none may = let there : slice_get log.given n ≡ Some may.0 = number_there past log n may.0 is may.1 in cc
 
@@ -69,28 +72,33 @@ module _ (past : List Turn) (log : Log) (at n : ℕ) (is : log ≡ log_of past) 
         let e : may.0.packet.to ≡ g.packet.to = ap (λ (x : Given). x.packet.to) (same may) in
         elim may.2 [ inl a ↦ c (sym e ∙ a) | inr b ↦ s (sym e ∙ b) ]
 
-module _ {E F : Type 0} (cled : Config → List C.Call → E → Type 0) (sled : Config → List S.Call → F → Type 0) (past : List Turn) (at word n : ℕ) (g : Given) (from : Endpoint) (bytes : List ℕ) (log left : Log) (refused : Bool)
-    (is : log ≡ log_of past) (there : Some g ≡ slice_get log.given n) (age : at ≤ g.at + max_delivery) (of : from ≡ g.from) (are : bytes ≡ g.packet.bytes) where
+abbrev pub delivery : ℕ → ℕ → ℕ → Event
+delivery at word n = record { at = at; word = word; what = Deliver n }
+
+module _ {A K : Type 0} (content : K → Content) (past : List Turn) (at word n : ℕ) (g : Given) (from : Endpoint) (bytes : List ℕ) (log begun left : Log) (refused : Bool)
+    (is : log.given ≡ given_of past) (there : Some g ≡ slice_get log.given n) (age : at ≤ g.at + max_delivery) (of : from ≡ g.from) (are : bytes ≡ g.packet.bytes) (begins : begun ≡ line_put (Begins at) log) where
   pub to_server :
-      (a : E) (s t u : F) → g.packet.to ≡ server_end → Taken sled OfServer at (FeedsServer at word from bytes) refused [] s t → ServerEnds sled at refused [] t log u left
-      → Turned cled sled past (record { at = at; word = word; what = Deliver n }) a s log a u left
-  to_server a s t u to fed ends =
+      (a : ClientEnd A) (s t u : ServerEnd K A) (told : Log) → g.packet.to ≡ server_end
+      → Taken (ServerLed content) OfServer (server_lines (sender_in a.senders)) at (FeedsServer at word from bytes) refused s begun t told
+      → ServerEnds (ServerLed content) (server_lines (sender_in a.senders)) at refused t told u left → Turned ClientLed (ServerLed content) past (delivery at word n) a s log a u left
+  to_server a s t u told to fed ends =
       let number : IsNumber n g past = number_is past log n g is there in
-      let right : Taken sled OfServer at (FeedsServer at word g.from g.packet.bytes) refused [] s t =
-      subst (λ b. Taken sled OfServer at (FeedsServer at word g.from b) refused [] s t) are (subst (λ f. Taken sled OfServer at (FeedsServer at word f bytes) refused [] s t) of fed) in
-      of_server cled sled past (record { at = at; word = word; what = Deliver n }) log left a s u
-      (server_turned sled past (record { at = at; word = word; what = Deliver n }) refused [] right.calls s t u log left (g, number, inr to, age)
+      let right : Taken (ServerLed content) OfServer (server_lines (sender_in a.senders)) at (FeedsServer at word g.from g.packet.bytes) refused s begun t told =
+      subst (λ b. Taken (ServerLed content) OfServer (server_lines (sender_in a.senders)) at (FeedsServer at word g.from b) refused s begun t told) are
+      (subst (λ f. Taken (ServerLed content) OfServer (server_lines (sender_in a.senders)) at (FeedsServer at word f bytes) refused s begun t told) of fed) in
+      of_a_server content past (delivery at word n) log left a s u
+      (server_turned content (sender_in a.senders) past (delivery at word n) refused right.calls s t u log begun told left (g, number, inr to, age)
       (λ entries on. (g, number, inl (to, right.calls, right.are, on)))
-      right.says right.moves ends)
+      begins right.acts ends)
 
   pub to_client :
-      (a b c : E) (s : F) → g.packet.to ≡ client_end → Taken cled OfClient at (FeedsClient at word from bytes) refused [] a b → ClientEnds cled at refused [] b log c left
-      → Turned cled sled past (record { at = at; word = word; what = Deliver n }) a s log c s left
+      (a b c : ClientEnd A) (s : ServerEnd K A) → g.packet.to ≡ client_end → Fed ClientLed (FeedsClient at word from bytes) refused a b → ClientEnds ClientLed at refused b begun c left
+      → Turned ClientLed (ServerLed content) past (delivery at word n) a s log c s left
   to_client a b c s to fed ends =
       let number : IsNumber n g past = number_is past log n g is there in
-      let right : Taken cled OfClient at (FeedsClient at word g.from g.packet.bytes) refused [] a b =
-      subst (λ x. Taken cled OfClient at (FeedsClient at word g.from x) refused [] a b) are (subst (λ f. Taken cled OfClient at (FeedsClient at word f bytes) refused [] a b) of fed) in
-      of_client cled sled past (record { at = at; word = word; what = Deliver n }) log left a c s
-      (client_turned cled past (record { at = at; word = word; what = Deliver n }) refused [] right.calls a b c log left (g, number, inl to, age)
+      let right : Fed ClientLed (FeedsClient at word g.from g.packet.bytes) refused a b =
+      subst (λ x. Fed ClientLed (FeedsClient at word g.from x) refused a b) are (subst (λ f. Fed ClientLed (FeedsClient at word f bytes) refused a b) of fed) in
+      of_a_client content past (delivery at word n) log left a c s
+      (client_turned past (delivery at word n) refused right.calls a b c log begun begun left (g, number, inl to, age)
       (λ entries on. (g, number, inr (to, right.calls, right.are, on)))
-      right.says right.moves ends)
+      begins (fed_acts at word ClientLed g.from g.packet.bytes refused a b begun right) ends)

@@ -12,18 +12,15 @@ use Rattle.coap_world.specs.declared.running.RunRefusal.TheVariants.{NotLegal}
 use Rattle.coap_world.specs.Run.Log.{Log, log_of}
 use Rattle.coap_world.specs.LegalEvents.{MayHappen}
 use Rattle.coap_world.specs.Run.Runs.{IsRunOf, IsFirstWrong}
+use Rattle.coap_world.proofs.Recording.Naming.{each_named}
 use Rattle.coap_world.proofs.Reports.Promised.{agrees}
+use Rattle.coap_world.proofs.Requests.Promised.{lawful}
 
 module _ {X : Type 0} (f : X → Event) (xs : List X) (n : ℕ) where
   pub one_more : (x : X) → n < length xs → x ≡ get_or xs n x → f x ∷ reverse (map f (take n xs)) ≡ reverse (map f (take (n + 1) xs))
   one_more x h is =
       let t : take (n + 1) xs ≡ take n xs ++ x ∷ [] = (take_at_read xs n x h).1 ∙ ap (λ y. take n xs ++ y ∷ []) (sym is) in
       sym (ap (λ l. reverse (map f l)) t ∙ ap reverse (map-append f (take n xs) (x ∷ [])) ∙ reverse-append (map f (take n xs)) (f x ∷ []))
-
-  pub is_run : (config : Config) (turns : List Turn) (log : Log) → length xs ≤ n → RecordOf config (reverse (map f (take n xs))) turns → Legal config turns → log ≡ log_of turns → IsRunOf config (map f xs) log
-  is_run config turns log h made legal shows =
-      let here = subst (λ l. RecordOf config (reverse (map f l)) turns) (take_all n xs h) made in
-      record { turns = turns; made = here; legal = legal; shows = shows; keeps = agrees config (reverse (map f xs)) turns here legal }
 
   pub first_wrong :
       (config : Config) (turns : List Turn) (x : X) → n < length xs → x ≡ get_or xs n x → RecordOf config (reverse (map f (take n xs))) turns → Legal config turns → (MayHappen turns (f x) → ⊥)
@@ -38,6 +35,23 @@ module _ {X : Type 0} (f : X → Event) (xs : List X) (n : ℕ) where
         wrong = wrong;
       }
 
+pub is_run :
+    {X : Type 0} (f : X → Event) (xs : List X) (config : Config) (turns : List Turn) (log : Log) → RecordOf config (reverse (map f xs)) turns → Legal config turns → log ≡ log_of config turns
+    → IsRunOf config (map f xs) log
+is_run f xs config turns log made legal shows =
+    record {
+      turns = turns;
+      made = made;
+      legal = legal;
+      shows = shows;
+      named = each_named config (entries_of turns) (lawful config (reverse (map f xs)) turns made legal);
+      keeps = agrees config (reverse (map f xs)) turns made legal;
+    }
+
 -- the number that is answered
 pub same_number : {X : Type 0} (a b : ℕ) (r : Result X RunRefusal) → r ≡ Err (NotLegal a) → r ≡ Err (NotLegal b) → a ≡ b
 same_number a b r p q = cc
+
+-- the events that were run are all
+pub to_the_end : {X : Type 0} (f : X → Event) (xs : List X) (n : ℕ) (P : List Event → Type 0) → length xs ≤ n → P (reverse (map f (take n xs))) → P (reverse (map f xs))
+to_the_end f xs n P h p = subst (λ l. P (reverse (map f l))) (take_all n xs h) p

@@ -4,8 +4,7 @@ use Rattle.std.proofs.lemmas.List.{reverse-append, map-append}
 use Rattle.coap_types.specs.Past.{Always, all_of}
 use Rattle.coap_ends.specs.ClientSide.ClientTrace as C
 use Rattle.coap_ends.specs.ServerSide.ServerTrace as S
-use Rattle.coap_ends.specs.ServerObject.ServerShown.{Kept, state_of}
-use Rattle.coap_ends.specs.ClientSide.ClientStep as client
+use Rattle.coap_ends.specs.ServerObject.ServerShown.{state_of}
 use Rattle.coap_ends.proofs.Facts.OfClientCalls.{client_stands}
 use Rattle.coap_ends.proofs.Facts.OfServerCalls.{led_lawful}
 use Rattle.coap_resource.specs.Content.{Content}
@@ -14,15 +13,19 @@ use Rattle.coap_world.specs.Legal.{IsConfig, Legal, IsLegal, InRange, MayCome, N
 use Rattle.coap_world.specs.Record.{Entry, Turn, RecordOf, Makes, given_by, given_in, entries_of, client_of, server_trace, begun_with}
 use Rattle.coap_world.specs.LegalEvents.{MayHappen}
 use Rattle.coap_world.specs.Run.Ends.{ClientLed, ServerLed}
-use Rattle.coap_world.specs.Run.Log.{Log, Line, Begins, lines_by, lines_in, refused_line, log_of}
-use Rattle.coap_world.specs.Run.Turning.{noted_turn, Turned, IsLast, Stands}
+use Rattle.coap_world.specs.Run.Log.{Log, given_of, lines_in, lines_of, log_of}
+use Rattle.coap_world.specs.declared.running.ends.ClientEnd.{ClientEnd}
+use Rattle.coap_world.specs.declared.running.ends.ServerEnd.{ServerEnd}
+use Rattle.coap_world.specs.Run.Turning.{Turned, IsLast, Stands}
 
-log_grows : (t : Turn) (turns : List Turn) (log left : Log) → log ≡ log_of turns → left ≡ noted_turn t.event.at t.refused t.entries log → left ≡ log_of (t ∷ turns)
-log_grows t turns log left is notes =
-    notes
-    ∙ ap (noted_turn t.event.at t.refused t.entries) is
-    ∙ ap (λ g. record { given = g; lines = reverse (all_of lines_in turns) ++ reverse (lines_in t) }) (sym (reverse-append (given_in t) (all_of given_in turns)))
-    ∙ ap (λ g. record { given = reverse (all_of given_in (t ∷ turns)); lines = g }) (sym (reverse-append (lines_in t) (all_of lines_in turns)))
+log_grows : (config : Config) (t : Turn) (turns : List Turn) (log left : Log) → log ≡ log_of config turns → left.given ≡ log.given ++ reverse (all_of (given_by t.event.at) t.entries)
+    → left.lines ≡ log.lines ++ lines_in config (entries_of turns) t.event.at t.refused t.entries → left ≡ log_of config (t ∷ turns)
+log_grows config t turns log left is given lines =
+    let first : left.given ≡ given_of (t ∷ turns) =
+    given ∙ ap (λ (l : Log). l.given ++ reverse (given_in t)) is ∙ sym (reverse-append (given_in t) (all_of given_in turns)) in
+    let second : left.lines ≡ lines_of config (t ∷ turns) =
+    lines ∙ ap (λ (l : Log). l.lines ++ lines_in config (entries_of turns) t.event.at t.refused t.entries) is in
+    ap (λ g. record { given = g; lines = left.lines }) first ∙ ap (λ g. record { given = given_of (t ∷ turns); lines = g }) second
 
 later : (turns : List Turn) (last at : ℕ) → IsLast turns last → last ≤ at → NotBefore turns at
 later [] last at is h = tt
@@ -33,7 +36,7 @@ too_early [] last at is h n = omega (arith, is, h)
 too_early (t ∷ turns) last at is h n = omega (arith, is, h, n)
 
 module _ {E F : Type 0} (cled : Config → List C.Call → E → Type 0) (sled : Config → List S.Call → F → Type 0) where
-  pub starts : (config : Config) (a : E) (s : F) (log : Log) → log ≡ log_of [] → IsConfig config → cled config [] a → sled config (begun_with config) s → Stands cled sled config [] [] a s log 0
+  pub starts : (config : Config) (a : E) (s : F) (log : Log) → log ≡ record { given = []; lines = [] } → IsConfig config → cled config [] a → sled config (begun_with config) s → Stands cled sled config [] [] a s log 0
   starts config a s log is range c h = record { events_are = refl; made = tt; legal = record { range = range; events = tt }; client_led = c; server_led = h; log_is = is; last_is = refl }
 
   pub goes_on :
@@ -52,26 +55,26 @@ module _ {E F : Type 0} (cled : Config → List C.Call → E → Type 0) (sled :
           };
           client_led = t.client_moves config (entries_of turns) st.client_led;
           server_led = t.server_moves config (entries_of turns) st.server_led;
-          log_is = log_grows turn turns log left st.log_is t.notes;
+          log_is = log_grows config turn turns log left st.log_is t.given (t.lines config (entries_of turns) st.client_led st.server_led);
           last_is = refl;
         },
       )
 
 -- of the ends of a run
 
-module _ {K : Type 0} (content : K → Content) (config : Config) where
+module _ {A K : Type 0} (content : K → Content) (config : Config) where
   pub begins :
-      (a : client.State) (s : Kept K) (log : Log) → log ≡ log_of [] → IsConfig config → ClientLed config [] a → ServerLed content config (begun_with config) s
+      (a : ClientEnd A) (s : ServerEnd K A) (log : Log) → log ≡ record { given = []; lines = [] } → IsConfig config → ClientLed config [] a → ServerLed content config (begun_with config) s
       → Stands ClientLed (ServerLed content) config [] [] a s log 0
   begins a s log is range c h = starts ClientLed (ServerLed content) config a s log is range c h
 
   pub recorded :
-      (events : List Event) (turns : List Turn) (a : client.State) (s : Kept K) (log : Log) (last : ℕ) → Stands ClientLed (ServerLed content) config events turns a s log last
+      (events : List Event) (turns : List Turn) (a : ClientEnd A) (s : ServerEnd K A) (log : Log) (last : ℕ) → Stands ClientLed (ServerLed content) config events turns a s log last
       → RecordOf config events turns
   recorded events turns a s log last st =
       record {
         events_are = st.events_are;
         made = st.made;
-        client = client_stands server_end config.client_szx config.client_word _ a st.client_led;
-        server = led_lawful config.limit config.server_szx config.server_word _ (state_of content s) st.server_led;
+        client = client_stands server_end config.client_szx config.client_word _ a.client st.client_led.led;
+        server = led_lawful config.limit config.server_szx config.server_word _ (state_of content s.server) st.server_led.led;
       }

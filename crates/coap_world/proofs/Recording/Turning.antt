@@ -1,115 +1,169 @@
 -- A turn of one end.
-use Rattle.std.proofs.Common.{◌≡◌, ◌⊎◌, inl, inr, ℕ, Bool, true, false, Option, Some, None, List, [], ◌∷◌, ◌++◌, map, reverse, refl, sym, ap, subst, ◌∙◌, append_assoc}
-use Rattle.std.proofs.lemmas.List.{reverse-append, map-append, append-nil}
+use Rattle.std.proofs.Common.{◌≡◌, ℕ, Bool, true, false, Option, Some, None, List, [], ◌∷◌, ◌++◌, map, reverse, refl, sym, ap, subst, ◌∙◌, append_assoc, if◌then◌else◌}
+use Rattle.std.proofs.lemmas.List.{map-append, append-nil}
 use Rattle.coap_types.specs.Past.{Always, all_of}
+use Rattle.coap_types.specs.SameEndpoint.{same_endpoint}
 use Rattle.coap_types.specs.declared.endpoint.Endpoint.{Endpoint}
+use Rattle.coap_resource.specs.Content.{Content}
 use Rattle.coap_ends.specs.ClientSide.ClientTrace as C
+use Rattle.coap_ends.specs.ServerSide.ServerLaw.{own_of}
+use Rattle.coap_ends.specs.ServerSide.ServerServing.{is_applied}
 use Rattle.coap_ends.specs.ServerSide.ServerTrace as S
+use Rattle.coap_ends.specs.ServerSide.Follows.ServerHolds.{change}
+use Rattle.coap_ends.specs.ServerSide.Follows.ServerServes.{Serving, serving}
 use Rattle.coap_ends.specs.Follows.Endings.{all_taken}
-use Rattle.coap_world.specs.Events.{Config, Event}
+use Rattle.coap_world.specs.Events.{client_end, Config, Event}
 use Rattle.coap_world.specs.Legal.{MayCome}
-use Rattle.coap_world.specs.Record.{Entry, OfClient, OfServer, Turn, given_by, server_of, client_of, server_trace, begun_with, OnClient, OnServer, IsOne, AreTicks, Makes, ClientTick, ServerTick}
+use Rattle.coap_world.specs.Record.{Entry, OfClient, OfServer, Turn, given_by, server_of, client_of, server_trace, begun_with, OnClient, OnServer, IsOne, AreTicks, Makes, ClientTick, FeedsClient}
 use Rattle.coap_world.proofs.Delivery.OneEndATurn.{client_client, client_server, server_client, server_server}
-use Rattle.coap_world.specs.Run.Log.{Log, Line, Begins, lines_by, refused_line}
-use Rattle.coap_world.specs.Run.Acts.{Moves, Says}
-use Rattle.coap_world.specs.Run.Turning.{noted_turn, ended, ClientEnds, ServerEnds, Turned, ClientTurned, ServerTurned}
-use Rattle.coap_world.proofs.Recording.Acting.{all_of_append}
+use Rattle.coap_world.specs.Run.Acts.{Moves, Acts, Fed, Passed}
+use Rattle.coap_world.specs.Run.Ends.{ClientLed, ServerLed}
+use Rattle.coap_world.specs.Run.Log.{Log, Line, Applies, Begins, Changes, answer_lines, applied_as, applied_lines, call_for, call_if, client_lines, line_if, line_put, lines_by, lines_in, lines_put, lines_upon, refused_line, server_lines}
+use Rattle.coap_world.specs.Run.Senders.{sender_in, sender_of}
+use Rattle.coap_world.specs.Run.Turning.{Ends, ClientEnds, ServerEnds, Turned, EndTurned, ClientTurned, ServerTurned, of_client}
+use Rattle.coap_world.specs.declared.running.ends.ClientEnd.{ClientEnd}
+use Rattle.coap_world.specs.declared.running.ends.ServerEnd.{ServerEnd}
+use Rattle.coap_world.proofs.Recording.Acting.{acts_join, quiet_acts, told_join}
 
--- of these calls the log tells nothing
-
-abbrev pub IsQuiet : ℕ → List Entry → Type 0
-IsQuiet at entries = Says at [] entries
-
-still : {E F : Type 0} (f : E → List F) (xs ys : List E) → all_of f ys ≡ [] → all_of f xs ≡ all_of f (xs ++ ys)
-still f xs ys h = sym (all_of_append f xs ys ∙ ap (λ r. all_of f xs ++ r) h ∙ append-nil (all_of f xs))
-
-pub says_noted : (at : ℕ) (refused : Bool) (xs ys : List Entry) (said : List Line) (log : Log) → Says at said ys → ended at refused xs said log ≡ noted_turn at refused (xs ++ ys) log
-says_noted at refused xs ys said log q =
-    ap (λ g. record { given = log.given ++ reverse g; lines = log.lines ++ reverse (refused_line refused ++ ((all_of lines_by xs ++ said) ++ Begins at ∷ [])) }) (still (given_by at) xs ys q.given)
-    ∙ ap (λ g. record { given = log.given ++ reverse (all_of (given_by at) (xs ++ ys)); lines = log.lines ++ reverse (refused_line refused ++ (g ++ Begins at ∷ [])) })
-    (sym (all_of_append lines_by xs ys ∙ ap (λ r. all_of lines_by xs ++ r) q.lines))
-
-module _ {X : Type 0} (of : X → Entry) (at : ℕ) where
-  more : (c : X) (cs : List X) → IsQuiet at (of c ∷ []) → IsQuiet at (map of cs) → IsQuiet at (of c ∷ map of cs)
-  more c cs p q =
-      record {
-        given = all_of_append (given_by at) (of c ∷ []) (map of cs) ∙ ap (λ x. x ++ all_of (given_by at) (map of cs)) p.given ∙ q.given;
-        lines = all_of_append lines_by (of c ∷ []) (map of cs) ∙ ap (λ x. x ++ all_of lines_by (map of cs)) p.lines ∙ q.lines;
-      }
-
-  each : (Is : X → Type 0) → ((c : X) → Is c → IsQuiet at (of c ∷ [])) → (calls : List X) → Always (λ past c. Is c) calls → IsQuiet at (map of calls)
-  each Is f [] h = record { given = refl; lines = refl }
-  each Is f (c ∷ cs) h = more c cs (f c h.0) (each Is f cs h.1)
-
-  pub quiet_ticks : (Is : Bool → X → Type 0) → ((b : Bool) (c : X) → Is b c → IsQuiet at (of c ∷ [])) → (refused : Bool) (calls : List X) → AreTicks Is refused calls → IsQuiet at (map of calls)
-  quiet_ticks Is f true calls h = each (Is true) (f true) calls h
-  quiet_ticks Is f false [] h = absurd h
-  quiet_ticks Is f false (c ∷ cs) h = more c cs (f false c h.0) (each (Is true) (f true) cs h.1)
-
+-- its ticks tell nothing of themselves
 module _ (at word : ℕ) where
-  pub client_tick : (b : Bool) (c : C.Call) → ClientTick at word b c → IsQuiet at (OfClient c ∷ [])
-  client_tick b c h = subst (λ x. IsQuiet at (OfClient x ∷ [])) (sym h.5) (record { given = refl; lines = refl })
+  no_lines : (calls : List C.Call) (config : Config) (t : List C.Call) → Always (λ past c. (answer : Bool) × ClientTick at word answer c) calls → lines_upon (of_client config) t calls ≡ []
+  no_lines [] config t h = refl
+  no_lines (c ∷ calls) config t h = ap (λ l. l ++ client_lines c) (no_lines calls config t h.1) ∙ ap client_lines h.0.1.5
 
-  pub server_tick : (b : Bool) (c : S.Call) → ServerTick at word b c → IsQuiet at (OfServer c ∷ [])
-  server_tick b c h = subst (λ x. IsQuiet at (OfServer x ∷ [])) (sym h.6) (record { given = refl; lines = refl })
+  none_given : (calls : List C.Call) → Always (λ past c. (answer : Bool) × ClientTick at word answer c) calls → all_of (given_by at) (map OfClient calls) ≡ []
+  none_given [] h = refl
+  none_given (c ∷ calls) h = ap (λ l. l ++ all_of (given_by at) (map OfClient calls)) (ap (λ x. given_by at (OfClient x)) h.0.1.5) ∙ none_given calls h.1
 
-module _ {E : Type 0} (led : Config → List C.Call → E → Type 0) (past : List Turn) (event : Event) (refused : Bool) (said : List Line) where
+  each_tick : (answer : Bool) (calls : List C.Call) → Always (λ past c. ClientTick at word answer c) calls → Always (λ past c. (answer : Bool) × ClientTick at word answer c) calls
+  each_tick answer [] h = tt
+  each_tick answer (c ∷ calls) h = ((answer, h.0), each_tick answer calls h.1)
+
+  are_ticks : (refused : Bool) (calls : List C.Call) → AreTicks (ClientTick at word) refused calls → Always (λ past c. (answer : Bool) × ClientTick at word answer c) calls
+  are_ticks true calls h = each_tick true calls h
+  are_ticks false [] h = absurd h
+  are_ticks false (c ∷ calls) h = ((false, h.0), each_tick true calls h.1)
+
+  pub passed_acts : {E : Type 0} (led : Config → List C.Call → E → Type 0) (refused : Bool) (a b : E) (l : Log) (p : Passed led (ClientTick at word) refused a b) → Acts led OfClient of_client at p.calls a l b l
+  passed_acts led refused a b l p =
+      let ticks = are_ticks refused p.calls p.are in
+      quiet_acts led OfClient of_client at p.calls a b l p.moves (none_given p.calls ticks) (λ config t. no_lines p.calls config t ticks)
+
+  -- .. nor does a datagram
+  pub fed_acts :
+      {E : Type 0} (led : Config → List C.Call → E → Type 0) (from : Endpoint) (bytes : List ℕ) (refused : Bool) (a b : E) (l : Log) (p : Fed led (FeedsClient at word from bytes) refused a b)
+      → Acts led OfClient of_client at p.calls a l b l
+  fed_acts led from bytes refused a b l p =
+      let still = by refused p.calls p.are in
+      quiet_acts led OfClient of_client at p.calls a b l p.moves still.0 still.1
+    where
+      none : (c : C.Call) (calls : List C.Call) → FeedsClient at word from bytes c → calls ≡ c ∷ [] → (all_of (given_by at) (map OfClient calls) ≡ []) × ((config : Config) (t : List C.Call) → lines_upon (of_client config) t calls ≡ [])
+      none c calls k is = (
+        ap (λ cs. all_of (given_by at) (map OfClient cs)) is ∙ ap (λ x. all_of (given_by at) (OfClient x ∷ [])) k.6,
+        λ config t. ap (λ cs. lines_upon (of_client config) t cs) is ∙ ap client_lines k.6,
+      )
+
+      by : (refused : Bool) (calls : List C.Call) → IsOne (FeedsClient at word from bytes) refused calls → (all_of (given_by at) (map OfClient calls) ≡ []) × ((config : Config) (t : List C.Call) → lines_upon (of_client config) t calls ≡ [])
+      by true calls h = (ap (λ cs. all_of (given_by at) (map OfClient cs)) h, λ config t. ap (λ cs. lines_upon (of_client config) t cs) h)
+      by false calls h = none h.0 calls h.1 h.2
+
+-- an event begins, these calls are made for it, and those that end its turn
+module _ {X E : Type 0} (led : Config → List X → E → Type 0) (of : X → Entry) (lines : Config → List X → X → List Line) (past : List Turn) (event : Event) (refused : Bool) where
+  pub end_turned :
+      (calls front : List X) (a b c : E) (log begun told left : Log) → MayCome past event.at event.what → Makes past event.at event.word event.what refused (map of (front ++ calls))
+      → begun ≡ line_put (Begins event.at) log → Acts led of lines event.at calls a begun b told → Ends led of lines event.at refused front b told c left → EndTurned led of lines past event a log c left
+  end_turned calls front a b c log begun told left comes makes begins acts ends =
+      let all = acts_join led of lines event.at front calls a b c begun told ends.between acts ends.acts in
+      record {
+        refused = refused;
+        calls = front ++ calls;
+        comes = comes;
+        makes = makes;
+        moves = all.moves;
+        given = ap (λ (l : Log). l.given) ends.ends ∙ all.given ∙ ap (λ (l : Log). l.given ++ reverse (all_of (given_by event.at) (map of (front ++ calls)))) begins;
+        lines = λ config t h.
+            ap (λ (l : Log). l.lines) ends.ends
+            ∙ ap (λ l. l ++ refused_line refused) (all.lines config t h ∙ ap (λ (l : Log). l.lines ++ lines_upon (lines config) t (front ++ calls)) begins)
+            ∙ append_assoc (log.lines ++ Begins event.at ∷ []) (lines_upon (lines config) t (front ++ calls)) (refused_line refused)
+            ∙ append_assoc log.lines (Begins event.at ∷ []) (lines_upon (lines config) t (front ++ calls) ++ refused_line refused);
+      }
+
+module _ {A : Type 0} (past : List Turn) (event : Event) (refused : Bool) where
   pub client_turned :
-      (calls : List C.Call) (a b c : E) (log left : Log) → MayCome past event.at event.what
+      (calls : List C.Call) (a b c : ClientEnd A) (log begun told left : Log) → MayCome past event.at event.what
       → ((entries : List Entry) → OnClient calls entries → Makes past event.at event.word event.what refused entries)
-      → Says event.at said (map OfClient calls) → Moves led a calls b → ClientEnds led event.at refused said b log c left → ClientTurned led past event a log c left
-  client_turned calls a b c log left comes makes says moves ends =
+      → begun ≡ line_put (Begins event.at) log → Acts ClientLed OfClient of_client event.at calls a begun b told → ClientEnds ClientLed event.at refused b told c left → ClientTurned past event a log c left
+  client_turned calls a b c log begun told left comes makes begins acts ends =
       let front : List C.Call = all_taken C.NextReport ends.reports ++ all_taken C.NextOut ends.outs in
-      let all : List C.Call = front ++ calls in
-      record {
-        refused = refused;
-        calls = all;
-        comes = comes;
-        makes = makes (map OfClient all) (record { outs = ends.outs; reports = ends.reports; is = ap (map OfClient) (append_assoc (all_taken C.NextReport ends.reports) (all_taken C.NextOut ends.outs) calls) });
-        moves = λ config t h. subst (λ x. led config x c) (sym (append_assoc front calls t)) (ends.moves config (calls ++ t) (moves config t h));
-        notes = ends.notes ∙ says_noted event.at refused (map OfClient front) (map OfClient calls) said log says ∙ ap (λ es. noted_turn event.at refused es log) (sym (map-append OfClient front calls));
-      }
+      end_turned ClientLed OfClient of_client past event refused calls front a b c log begun told left comes
+      (makes (map OfClient (front ++ calls)) (record { outs = ends.outs; reports = ends.reports; is = ap (map OfClient) (append_assoc (all_taken C.NextReport ends.reports) (all_taken C.NextOut ends.outs) calls) }))
+      begins acts ends.ends
 
-module _ {E : Type 0} (led : Config → List S.Call → E → Type 0) (past : List Turn) (event : Event) (refused : Bool) (said : List Line) where
+module _ {K A : Type 0} (content : K → Content) (sender : List ℕ → Option ℕ) (past : List Turn) (event : Event) (refused : Bool) where
   pub server_turned :
-      (calls : List S.Call) (a b c : E) (log left : Log) → MayCome past event.at event.what
+      (calls : List S.Call) (a b c : ServerEnd K A) (log begun told left : Log) → MayCome past event.at event.what
       → ((entries : List Entry) → OnServer calls entries → Makes past event.at event.word event.what refused entries)
-      → Says event.at said (map OfServer calls) → Moves led a calls b → ServerEnds led event.at refused said b log c left → ServerTurned led past event a log c left
-  server_turned calls a b c log left comes makes says moves ends =
+      → begun ≡ line_put (Begins event.at) log → Acts (ServerLed content) OfServer (server_lines sender) event.at calls a begun b told
+      → ServerEnds (ServerLed content) (server_lines sender) event.at refused b told c left → ServerTurned content sender past event a log c left
+  server_turned calls a b c log begun told left comes makes begins acts ends =
       let front : List S.Call = all_taken S.NextOut ends.outs in
-      let all : List S.Call = front ++ calls in
-      record {
-        refused = refused;
-        calls = all;
-        comes = comes;
-        makes = makes (map OfServer all) (record { outs = ends.outs; is = refl });
-        moves = λ config t h. subst (λ x. led config x c) (sym (append_assoc front calls t)) (ends.moves config (calls ++ t) (moves config t h));
-        notes = ends.notes ∙ says_noted event.at refused (map OfServer front) (map OfServer calls) said log says ∙ ap (λ es. noted_turn event.at refused es log) (sym (map-append OfServer front calls));
-      }
+      end_turned (ServerLed content) OfServer (server_lines sender) past event refused calls front a b c log begun told left comes
+      (makes (map OfServer (front ++ calls)) (record { outs = ends.outs; is = refl }))
+      begins acts ends.ends
 
-module _ {E F : Type 0} (cled : Config → List C.Call → E → Type 0) (sled : Config → List S.Call → F → Type 0) (past : List Turn) (event : Event) (log left : Log) where
-  pub of_client : (a b : E) (s : F) → ClientTurned cled past event a log b left → Turned cled sled past event a s log b s left
-  of_client a b s t =
+-- the lines of one end's calls, as those of the record
+
+client_upon : (config : Config) (all : List Entry) (calls : List C.Call) (t : List C.Call) → lines_upon (of_client config) t calls ≡ lines_upon (lines_by config) all (map OfClient calls)
+client_upon config all [] t = refl
+client_upon config all (c ∷ calls) t = ap (λ l. l ++ client_lines c) (client_upon config all calls t)
+
+same_applied : (s r : List ℕ → Option ℕ) → ((token : List ℕ) → s token ≡ r token) → (o : Option Serving) → applied_lines s o ≡ applied_lines r o
+same_applied s r same None = refl
+same_applied s r same (Some x) =
+    ap (λ n. if is_applied x.reply.code then Applies (call_if (same_endpoint x.asked.from client_end) n) (applied_as x) ∷ [] else []) (same x.asked.token)
+
+module _ (config : Config) (all : List Entry) (sender : List ℕ → Option ℕ) (same : (token : List ℕ) → sender token ≡ sender_of config.client_szx token (client_of all)) where
+  server_upon : (calls : List S.Call) → lines_upon (server_lines sender config) (server_trace config all) calls ≡ lines_upon (lines_by config) all (map OfServer calls)
+  server_upon [] = refl
+  server_upon (c ∷ calls) =
+      let before : List S.Call = calls ++ server_trace config all in
+      let s : S.Own = own_of config.limit config.server_szx before in
+      let there : server_trace config (map OfServer calls ++ all) ≡ before =
+      ap (λ x. x ++ begun_with config) (server_server calls all) ∙ append_assoc calls (server_of all) (begun_with config) in
+      ap (λ l. l ++ server_lines sender config before c) (server_upon calls)
+      ∙ ap (λ l. lines_upon (lines_by config) all (map OfServer calls) ++ l)
+      (ap (λ l. answer_lines c ++ (l ++ line_if Changes (change s c)))
+      (same_applied sender (λ token. sender_of config.client_szx token (client_of (map OfServer calls ++ all))) (λ token. same token ∙ ap (sender_of config.client_szx token) (sym (client_server calls all))) (serving s c))
+      ∙ ap (λ t. server_lines (λ token. sender_of config.client_szx token (client_of (map OfServer calls ++ all))) config t c) (sym there))
+
+module _ {A K : Type 0} (content : K → Content) (past : List Turn) (event : Event) (log left : Log) where
+  pub of_a_client : (a b : ClientEnd A) (s : ServerEnd K A) → ClientTurned past event a log b left → Turned ClientLed (ServerLed content) past event a s log b s left
+  of_a_client a b s t =
       record {
         refused = t.refused;
         entries = map OfClient t.calls;
         comes = t.comes;
         makes = t.makes;
-        client_moves = λ config es h. subst (λ x. cled config x b) (sym (client_client t.calls es)) (t.moves config (client_of es) h);
-        server_moves = λ config es h. subst (λ x. sled config (x ++ begun_with config) s) (sym (server_client t.calls es)) h;
-        notes = t.notes;
+        client_moves = λ config es h. subst (λ x. ClientLed config x b) (sym (client_client t.calls es)) (t.moves config (client_of es) h);
+        server_moves = λ config es h. subst (λ x. ServerLed content config (x ++ begun_with config) s) (sym (server_client t.calls es)) h;
+        given = t.given;
+        lines = λ config es c h.
+            t.lines config (client_of es) c ∙ ap (λ l. log.lines ++ (Begins event.at ∷ (l ++ refused_line t.refused))) (client_upon config es t.calls (client_of es));
       }
 
-  pub of_server : (a : E) (s u : F) → ServerTurned sled past event s log u left → Turned cled sled past event a s log a u left
-  of_server a s u t =
+  pub of_a_server : (a : ClientEnd A) (s u : ServerEnd K A) → ServerTurned content (sender_in a.senders) past event s log u left → Turned ClientLed (ServerLed content) past event a s log a u left
+  of_a_server a s u t =
       record {
         refused = t.refused;
         entries = map OfServer t.calls;
         comes = t.comes;
         makes = t.makes;
-        client_moves = λ config es h. subst (λ x. cled config x a) (sym (client_server t.calls es)) h;
+        client_moves = λ config es h. subst (λ x. ClientLed config x a) (sym (client_server t.calls es)) h;
         server_moves = λ config es h.
-            subst (λ x. sled config x u) (sym (ap (λ x. x ++ begun_with config) (server_server t.calls es) ∙ append_assoc t.calls (server_of es) (begun_with config)))
+            subst (λ x. ServerLed content config x u) (sym (ap (λ x. x ++ begun_with config) (server_server t.calls es) ∙ append_assoc t.calls (server_of es) (begun_with config)))
             (t.moves config (server_trace config es) h);
-        notes = t.notes;
+        given = t.given;
+        lines = λ config es c h.
+            t.lines config (server_trace config es) h
+            ∙ ap (λ l. log.lines ++ (Begins event.at ∷ (l ++ refused_line t.refused))) (server_upon config es (sender_in a.senders) c.senders t.calls);
       }

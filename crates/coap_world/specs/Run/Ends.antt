@@ -1,16 +1,23 @@
 -- Which calls can leave an end of a run as it is (RFC 7252, section 5).
-use Rattle.std.specs.Prelude.{ℕ, List}
+use Rattle.std.specs.Prelude.{◌≡◌, ℕ, List}
 use Rattle.coap_resource.specs.Content.{Content}
 use Rattle.coap_ends.specs.ServerObject.ServerShown.{Kept, state_of}
 use Rattle.coap_ends.specs.ClientSide.ClientStep as client
 use Rattle.coap_ends.specs.ClientSide.ClientTrace as C
+use Rattle.coap_ends.specs.ServerSide.Follows.ServerHolds.{changes}
 use Rattle.coap_ends.specs.ServerSide.ServerLed as server
 use Rattle.coap_ends.specs.ServerSide.ServerTrace as S
 use Rattle.coap_world.specs.Events.{server_end, Config}
+use Rattle.coap_world.specs.Run.Senders.{sender_in, sender_of}
+use Rattle.coap_world.specs.declared.running.ends.ClientEnd.{ClientEnd}
+use Rattle.coap_world.specs.declared.running.ends.ServerEnd.{ServerEnd}
 
-abbrev pub ClientLed : Config → List C.Call → client.State → Type 0
-ClientLed config t s = client.Led server_end config.client_szx config.client_word t s
+-- the client, and what was sent under each token
+pub record ClientLed {A : Type 0} (config : Config) (t : List C.Call) (e : ClientEnd A) : Type 0 where
+  pub led : client.Led server_end config.client_szx config.client_word t e.client
+  pub senders : (token : List ℕ) → sender_in e.senders token ≡ sender_of config.client_szx token t
 
--- a server over a store, by what that holds
-abbrev pub ServerLed : {K : Type 0} → (K → Content) → Config → List S.Call → Kept K → Type 0
-ServerLed content config t s = server.Led config.limit config.server_szx config.server_word t (state_of content s)
+-- a server over a store, by what that holds, and how many changes there were
+pub record ServerLed {K A : Type 0} (content : K → Content) (config : Config) (t : List S.Call) (e : ServerEnd K A) : Type 0 where
+  pub led : server.Led config.limit config.server_szx config.server_word t (state_of content e.server)
+  pub version : e.version ≡ changes config.limit config.server_szx t

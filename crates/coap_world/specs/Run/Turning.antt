@@ -1,5 +1,5 @@
 -- What an event makes of the two ends and of the log.
-use Rattle.std.specs.Prelude.{◌≡◌, ℕ, Bool, List, [], ◌∷◌, ◌++◌, map, reverse}
+use Rattle.std.specs.Prelude.{◌≡◌, ℕ, Bool, Option, List, [], ◌∷◌, ◌++◌, map, reverse}
 use Rattle.coap_types.specs.Past.{Always, all_of}
 use Rattle.coap_layer.specs.Trace.{Packet}
 use Rattle.coap_ends.specs.ClientSide.ClientTrace as C
@@ -8,35 +8,33 @@ use Rattle.coap_ends.specs.Follows.Endings.{all_taken}
 use Rattle.coap_world.specs.Events.{Config, Event}
 use Rattle.coap_world.specs.Legal.{Legal, MayCome}
 use Rattle.coap_world.specs.Record.{Entry, OfClient, OfServer, Turn, given_by, Makes, entries_of, client_of, server_trace}
-use Rattle.coap_world.specs.Run.Acts.{Moves}
-use Rattle.coap_world.specs.Run.Log.{Log, Line, Begins, lines_by, refused_line, log_of}
+use Rattle.coap_resource.specs.Content.{Content}
+use Rattle.coap_world.specs.Run.Acts.{Moves, Acts}
+use Rattle.coap_world.specs.Run.Ends.{ClientLed, ServerLed}
+use Rattle.coap_world.specs.declared.running.ends.ClientEnd.{ClientEnd}
+use Rattle.coap_world.specs.declared.running.ends.ServerEnd.{ServerEnd}
+use Rattle.coap_world.specs.Run.Log.{Log, Line, Begins, client_lines, server_lines, lines_in, lines_put, lines_upon, refused_line, log_of}
 
--- a turn of which these datagrams and these lines are told, the last first
-abbrev pub told : ℕ → Bool → List Entry → List Line → Log → Log
-told at refused entries lines log =
-    record {
-      given = log.given ++ reverse (all_of (given_by at) entries);
-      lines = log.lines ++ reverse (refused_line refused ++ (lines ++ Begins at ∷ []));
-    }
+-- the lines of a client's call, whatever came before it
+abbrev pub of_client : Config → List C.Call → C.Call → List Line
+of_client config past c = client_lines c
 
-abbrev pub noted_turn : ℕ → Bool → List Entry → Log → Log
-noted_turn at refused entries log = told at refused entries (all_of lines_by entries) log
+module _ {X S : Type 0} (led : Config → List X → S → Type 0) (of : X → Entry) (lines : Config → List X → X → List Line) (at : ℕ) where
+  -- After the calls of its event an end makes these; then the log tells whether it met want of memory.
+  pub record Ends (refused : Bool) (calls : List X) (old : S) (log : Log) (new : S) (left : Log) : Type 0 where
+    pub between : Log
+    pub acts : Acts led of lines at calls old log new between
+    pub ends : left ≡ lines_put (refused_line refused) between
 
--- .. whose last calls these are, after those that told these lines
-abbrev pub ended : ℕ → Bool → List Entry → List Line → Log → Log
-ended at refused entries said log = told at refused entries (all_of lines_by entries ++ said) log
-
--- after the calls of its event, which told these lines, an end gives all that it has
-pub record ClientEnds {E : Type 0} (led : Config → List C.Call → E → Type 0) (at : ℕ) (refused : Bool) (said : List Line) (old : E) (log : Log) (new : E) (left : Log) : Type 0 where
+-- .. it gives all that it has
+pub record ClientEnds {E : Type 0} (led : Config → List C.Call → E → Type 0) (at : ℕ) (refused : Bool) (old : E) (log : Log) (new : E) (left : Log) : Type 0 where
   pub outs : List Packet
   pub reports : List C.Reported
-  pub moves : Moves led old (all_taken C.NextReport reports ++ all_taken C.NextOut outs) new
-  pub notes : left ≡ ended at refused (map OfClient (all_taken C.NextReport reports ++ all_taken C.NextOut outs)) said log
+  pub ends : Ends led OfClient of_client at refused (all_taken C.NextReport reports ++ all_taken C.NextOut outs) old log new left
 
-pub record ServerEnds {E : Type 0} (led : Config → List S.Call → E → Type 0) (at : ℕ) (refused : Bool) (said : List Line) (old : E) (log : Log) (new : E) (left : Log) : Type 0 where
+pub record ServerEnds {E : Type 0} (led : Config → List S.Call → E → Type 0) (lines : Config → List S.Call → S.Call → List Line) (at : ℕ) (refused : Bool) (old : E) (log : Log) (new : E) (left : Log) : Type 0 where
   pub outs : List Packet
-  pub moves : Moves led old (all_taken S.NextOut outs) new
-  pub notes : left ≡ ended at refused (map OfServer (all_taken S.NextOut outs)) said log
+  pub ends : Ends led OfServer lines at refused (all_taken S.NextOut outs) old log new left
 
 -- a turn of the two ends, in a run whose turns so far are these
 pub record Turned {E F : Type 0} (cled : Config → List C.Call → E → Type 0) (sled : Config → List S.Call → F → Type 0) (past : List Turn) (event : Event)
@@ -47,24 +45,26 @@ pub record Turned {E F : Type 0} (cled : Config → List C.Call → E → Type 0
   pub makes : Makes past event.at event.word event.what refused entries
   pub client_moves : (config : Config) (all : List Entry) → cled config (client_of all) client → cled config (client_of (entries ++ all)) client'
   pub server_moves : (config : Config) (all : List Entry) → sled config (server_trace config all) server → sled config (server_trace config (entries ++ all)) server'
-  pub notes : log' ≡ noted_turn event.at refused entries log
+  pub given : log'.given ≡ log.given ++ reverse (all_of (given_by event.at) entries)
+  pub lines : (config : Config) (all : List Entry) → cled config (client_of all) client → sled config (server_trace config all) server
+      → log'.lines ≡ log.lines ++ lines_in config all event.at refused entries
 
--- .. of one end
-pub record ClientTurned {E : Type 0} (led : Config → List C.Call → E → Type 0) (past : List Turn) (event : Event) (old : E) (log : Log) (new : E) (left : Log) : Type 0 where
+-- .. of one end, whose calls tell these lines
+pub record EndTurned {X E : Type 0} (led : Config → List X → E → Type 0) (of : X → Entry) (tells : Config → List X → X → List Line) (past : List Turn) (event : Event)
+    (old : E) (log : Log) (new : E) (left : Log) : Type 0 where
   pub refused : Bool
-  pub calls : List C.Call
+  pub calls : List X
   pub comes : MayCome past event.at event.what
-  pub makes : Makes past event.at event.word event.what refused (map OfClient calls)
+  pub makes : Makes past event.at event.word event.what refused (map of calls)
   pub moves : Moves led old calls new
-  pub notes : left ≡ noted_turn event.at refused (map OfClient calls) log
+  pub given : left.given ≡ log.given ++ reverse (all_of (given_by event.at) (map of calls))
+  pub lines : (config : Config) (t : List X) → led config t old → left.lines ≡ log.lines ++ (Begins event.at ∷ (lines_upon (tells config) t calls ++ refused_line refused))
 
-pub record ServerTurned {E : Type 0} (led : Config → List S.Call → E → Type 0) (past : List Turn) (event : Event) (old : E) (log : Log) (new : E) (left : Log) : Type 0 where
-  pub refused : Bool
-  pub calls : List S.Call
-  pub comes : MayCome past event.at event.what
-  pub makes : Makes past event.at event.word event.what refused (map OfServer calls)
-  pub moves : Moves led old calls new
-  pub notes : left ≡ noted_turn event.at refused (map OfServer calls) log
+abbrev pub ClientTurned : {A : Type 0} → List Turn → Event → ClientEnd A → Log → ClientEnd A → Log → Type 0
+ClientTurned past event old log new left = EndTurned ClientLed OfClient of_client past event old log new left
+
+abbrev pub ServerTurned : {K A : Type 0} → (K → Content) → (List ℕ → Option ℕ) → List Turn → Event → ServerEnd K A → Log → ServerEnd K A → Log → Type 0
+ServerTurned content sender past event old log new left = EndTurned (ServerLed content) OfServer (server_lines sender) past event old log new left
 
 -- the last moment
 abbrev pub IsLast : List Turn → ℕ → Type 0
@@ -79,5 +79,5 @@ pub record Stands {E F : Type 0} (cled : Config → List C.Call → E → Type 0
   pub legal : Legal config turns
   pub client_led : cled config (client_of (entries_of turns)) client
   pub server_led : sled config (server_trace config (entries_of turns)) server
-  pub log_is : log ≡ log_of turns
+  pub log_is : log ≡ log_of config turns
   pub last_is : IsLast turns last

@@ -1,29 +1,38 @@
 //! The two ends with which a run begins.
-ghost use Rattle.std.specs.Prelude.{◌≡◌, [], IfOk};
+ghost use Rattle.std.specs.Prelude.{◌≡◌, [], IfOk, OnOk};
+ghost use Rattle.coap_ends.specs.ServerObject.ServerShown.{state_of};
+ghost use Rattle.coap_ends.specs.ServerSide.ServerLed.{Led};
 ghost use Rattle.coap_world.specs.Record.{begun_with};
 ghost use Rattle.coap_world.specs.Run.Ends.{ClientLed, ServerLed};
 
 use crate::running::config::WorldConfig;
 use crate::running::drain::SERVER_END;
+use crate::running::ends::{ClientEnd, ServerEnd};
+use crate::running::put_away::put_away;
+use crate::running::senders::Senders;
 use coap_ends::{Client, DelayRefusal, Server};
 use coap_resource::Store;
 use std::alloc::{AllocError, Allocator};
 
 /// The client.
-pub(crate) fn client_of<A: Allocator + Copy>(config: &WorldConfig<A>) -> Client<A>
+pub(crate) fn client_of<A: Allocator + Copy>(config: &WorldConfig<A>) -> ClientEnd<A>
     ensures { ClientLed config.now [] result }
 {
-    Client::new(
+    let client = Client::new(
         config.alloc,
         SERVER_END,
         config.client_szx,
         config.client_word,
-    )
+    );
+    ClientEnd {
+        client,
+        senders: Senders::new(config.alloc),
+    }
 }
 
 // The server, without the delays.
 fn fresh_server<S: Store<A>, A: Allocator + Copy>(config: &WorldConfig<A>) -> Server<S, A>
-    ensures { ServerLed S.content config.now [] result }
+    ensures { Led config.now.limit config.now.server_szx config.now.server_word [] (state_of S.content result) }
 {
     let Some(store) = S::new(config.alloc, config.changes) else {
         unreachable!()
@@ -31,13 +40,14 @@ fn fresh_server<S: Store<A>, A: Allocator + Copy>(config: &WorldConfig<A>) -> Se
     Server::new(config.alloc, store, config.server_szx, config.server_word)
 }
 
-/// The server, which is given the delays.
-pub(crate) fn server_of<S: Store<A>, A: Allocator + Copy>(
+// Gives a server the delays, from the last to the first.
+fn give_delays<S: Store<A>, A: Allocator + Copy>(
+    server: &mut Server<S, A>,
     config: &WorldConfig<A>,
-) -> Result<Server<S, A>, AllocError>
-    ensures { IfOk result (λ server. ServerLed S.content config.now (begun_with config.now) server) }
+) -> Result<(), AllocError>
+    requires { Led config.now.limit config.now.server_szx config.now.server_word [] (state_of S.content server.old) }
+    ensures { OnOk result (Led config.now.limit config.now.server_szx config.now.server_word (begun_with config.now) (state_of S.content server.new)) }
 {
-    let mut server = fresh_server(config);
     let mut left = config.delays.len();
     'delays: while left > 0 {
         left -= 1;
@@ -48,5 +58,21 @@ pub(crate) fn server_of<S: Store<A>, A: Allocator + Copy>(
             Err(DelayRefusal::Memory) => return Err(AllocError),
         }
     }
-    Ok(server)
+    Ok(())
+}
+
+/// The server, which is given the delays.
+pub(crate) fn server_of<S: Store<A>, A: Allocator + Copy>(
+    config: &WorldConfig<A>,
+) -> Result<ServerEnd<S, A>, AllocError>
+    ensures { IfOk result (λ server. ServerLed S.content config.now (begun_with config.now) server) }
+{
+    let mut server = fresh_server(config);
+    match give_delays(&mut server, config) {
+        Ok(()) => Ok(ServerEnd { server, version: 0 }),
+        Err(why) => {
+            put_away(server);
+            Err(why)
+        }
+    }
 }

@@ -1,6 +1,8 @@
 //! Copies of what a run hands in.
-ghost use Rattle.std.specs.Prelude.{◌≡◌, ◌≤◌, length, IfOk};
+ghost use Rattle.std.specs.Prelude.{◌≡◌, ◌≤◌, length, IfOk, option_copied};
+ghost use Rattle.coap_resource.specs.Shown.{shown};
 
+use coap_resource::Representation;
 use coap_types::{MAX_TAGS, Request, Tag, Tags};
 use std::alloc::{AllocError, Allocator};
 
@@ -32,4 +34,20 @@ pub(crate) fn copied<A: Allocator + Copy>(request: &Request<A>) -> Result<Reques
         if_none_match: request.if_none_match,
         accept: request.accept,
     })
+}
+
+/// The same representation again, if there is one.
+pub(crate) fn copied_holding<A: Allocator + Copy>(
+    held: Option<&Representation<A>>,
+) -> Result<Option<Representation<A>>, AllocError>
+    ensures { IfOk result (λ copy. shown copy ≡ shown (option_copied held.entry)) }
+{
+    let Some(held) = held else {
+        return Ok(None);
+    };
+    Ok(Some(Representation {
+        version: held.version,
+        format: held.format,
+        body: held.body.clone()?,
+    }))
 }

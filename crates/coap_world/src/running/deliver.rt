@@ -4,14 +4,14 @@ ghost use Rattle.coap_world.specs.Events.{Deliver};
 ghost use Rattle.coap_world.specs.Legal.{MayCome};
 ghost use Rattle.coap_world.specs.Record.{Turn};
 ghost use Rattle.coap_world.specs.Run.Ends.{ClientLed, ServerLed};
-ghost use Rattle.coap_world.specs.Run.Log.{log_of};
+ghost use Rattle.coap_world.specs.Run.Log.{given_of};
 ghost use Rattle.coap_world.specs.Run.Turning.{Turned};
 
 use crate::running::drain::{CLIENT_END, SERVER_END, finish_client, finish_server};
-use crate::running::inputs::{feed_client, feed_server};
-use crate::running::record::Record;
+use crate::running::ends::{ClientEnd, ServerEnd};
+use crate::running::inputs::{feed_client, feed_server, tell_fed};
+use crate::running::record::{Kind, Record};
 use crate::running::stop::Stop;
-use coap_ends::{Client, Server};
 use coap_resource::Store;
 use coap_types::Endpoint;
 use coap_types::transmission::MAX_LATENCY_MS;
@@ -28,17 +28,17 @@ pub(crate) fn is_end(address: Endpoint, end: Endpoint) -> bool
 /// The datagram of this number comes to the end that it is addressed to, if it was given out at
 /// most `MAX_LATENCY_MS` before.
 pub(crate) fn deliver<S: Store<A>, A: Allocator + Copy>(
-    client: &mut Client<A>,
-    server: &mut Server<S, A>,
+    client: &mut ClientEnd<A>,
+    server: &mut ServerEnd<S, A>,
     log: &mut Record<A>,
     at: u64,
     word: u64,
     number: usize,
 ) -> Result<(), Stop>
-    ensures ok { OnOk result ((past : List Turn) → log.old ≡ log_of past
+    ensures ok { OnOk result ((past : List Turn) → log.old.given ≡ given_of past
         → Turned ClientLed (ServerLed S.content) past (record { at = at; word = word; what = Deliver number })
         client.old server.old log.old client.new server.new log.new) }
-    ensures wrong { result ≡ Err Stop.NotLegal → (past : List Turn) → log.old ≡ log_of past
+    ensures wrong { result ≡ Err Stop.NotLegal → (past : List Turn) → log.old.given ≡ given_of past
         → MayCome past at (Deliver number) → ⊥ }
 {
     let Some(given) = log.get(number) else {
@@ -50,12 +50,15 @@ pub(crate) fn deliver<S: Store<A>, A: Allocator + Copy>(
     let from = given.from();
     if is_end(given.to(), SERVER_END) {
         let refused = feed_server(server, at, word, from, given.bytes());
-        finish_server(server, at, None, refused, log)?;
+        log.note(Kind::Begins(at))?;
+        tell_fed(server, &client.senders, refused, log)?;
+        finish_server(server, at, refused, log)?;
         return Ok(());
     }
     if is_end(given.to(), CLIENT_END) {
-        let refused = feed_client(client, at, word, from, given.bytes());
-        finish_client(client, at, None, refused, log)?;
+        let refused = feed_client(client, at, word, from, given.bytes())?;
+        log.note(Kind::Begins(at))?;
+        finish_client(client, at, refused, log)?;
         return Ok(());
     }
     Err(Stop::NotLegal)

@@ -1,14 +1,15 @@
 //! What an end gives after the call of an event.
-ghost use Rattle.std.specs.Prelude.{OnOk, option_to_list};
+ghost use Rattle.std.specs.Prelude.{ℕ, List, OnOk, Option};
 ghost use Rattle.coap_ends.specs.ClientSide.ClientTrace as asked;
 ghost use Rattle.coap_ends.specs.ServerSide.ServerTrace as served;
 ghost use Rattle.coap_world.specs.Record.{OfClient, OfServer};
 ghost use Rattle.coap_world.specs.Run.Acts.{TakesAll};
 ghost use Rattle.coap_world.specs.Run.Ends.{ClientLed, ServerLed};
-ghost use Rattle.coap_world.specs.Run.Turning.{ClientEnds, ServerEnds};
+ghost use Rattle.coap_world.specs.Run.Log.{server_lines};
+ghost use Rattle.coap_world.specs.Run.Turning.{ClientEnds, ServerEnds, of_client};
 
-use crate::running::record::{Line, Record};
-use coap_ends::{Client, Server};
+use crate::running::ends::{ClientEnd, ServerEnd};
+use crate::running::record::Record;
 use coap_resource::Store;
 use coap_types::Endpoint;
 use std::alloc::{AllocError, Allocator};
@@ -27,13 +28,13 @@ pub const SERVER_END: Endpoint = Endpoint {
 
 // Takes all that the client has out.
 fn client_outs<A: Allocator + Copy>(
-    client: &mut Client<A>,
+    end: &mut ClientEnd<A>,
     at: u64,
     log: &mut Record<A>,
 ) -> Result<(), AllocError>
-    ensures { OnOk result (TakesAll ClientLed OfClient asked.NextOut at client.old log.old client.new log.new) }
+    ensures { OnOk result (TakesAll ClientLed OfClient of_client at asked.NextOut end.old log.old end.new log.new) }
 {
-    'outs: while let Some(datagram) = client.next_out() {
+    'outs: while let Some(datagram) = end.client.next_out() {
         log.give(at, CLIENT_END, datagram)?;
     }
     Ok(())
@@ -41,13 +42,13 @@ fn client_outs<A: Allocator + Copy>(
 
 // Takes all its reports.
 fn client_reports<A: Allocator + Copy>(
-    client: &mut Client<A>,
+    end: &mut ClientEnd<A>,
     at: u64,
     log: &mut Record<A>,
 ) -> Result<(), AllocError>
-    ensures { OnOk result (TakesAll ClientLed OfClient asked.NextReport at client.old log.old client.new log.new) }
+    ensures { OnOk result (TakesAll ClientLed OfClient of_client at asked.NextReport end.old log.old end.new log.new) }
 {
-    'reports: while let Some(told) = client.next_report() {
+    'reports: while let Some(told) = end.client.next_report() {
         log.report(told)?;
     }
     Ok(())
@@ -55,50 +56,43 @@ fn client_reports<A: Allocator + Copy>(
 
 // Takes all that the server has out.
 fn server_outs<S: Store<A>, A: Allocator + Copy>(
-    server: &mut Server<S, A>,
+    end: &mut ServerEnd<S, A>,
     at: u64,
     log: &mut Record<A>,
 ) -> Result<(), AllocError>
-    ensures { OnOk result (TakesAll (ServerLed S.content) OfServer served.NextOut at server.old log.old server.new log.new) }
+    ensures { OnOk result ((sender : List ℕ → Option ℕ) → TakesAll (ServerLed S.content) OfServer (server_lines sender) at served.NextOut end.old log.old end.new log.new) }
 {
-    'outs: while let Some(datagram) = server.next_out() {
+    'outs: while let Some(datagram) = end.server.next_out() {
         log.give(at, SERVER_END, datagram)?;
     }
     Ok(())
 }
 
-/// Ends the turn of the client: notes what its call said, takes all that it has out, and its
-/// reports.
+/// Ends the turn of the client: takes all that it has out, and its reports.
 #[tactic(auto, using(crate::proofs::Recording::Finishing::client_ends))]
 pub(crate) fn finish_client<A: Allocator + Copy>(
-    client: &mut Client<A>,
+    end: &mut ClientEnd<A>,
     at: u64,
-    said: Option<Line<A>>,
     refused: bool,
     log: &mut Record<A>,
 ) -> Result<(), AllocError>
-    ensures { OnOk result (ClientEnds ClientLed at refused (option_to_list said) client.old log.old client.new log.new) }
+    ensures { OnOk result (ClientEnds ClientLed at refused end.old log.old end.new log.new) }
 {
-    log.begin(at)?;
-    log.say(said)?;
-    client_outs(client, at, log)?;
-    client_reports(client, at, log)?;
+    client_outs(end, at, log)?;
+    client_reports(end, at, log)?;
     log.end(refused)
 }
 
 /// Ends the turn of the server.
-#[tactic(auto, using(crate::proofs::Recording::Finishing::server_ends))]
 pub(crate) fn finish_server<S: Store<A>, A: Allocator + Copy>(
-    server: &mut Server<S, A>,
+    end: &mut ServerEnd<S, A>,
     at: u64,
-    said: Option<Line<A>>,
     refused: bool,
     log: &mut Record<A>,
 ) -> Result<(), AllocError>
-    ensures { OnOk result (ServerEnds (ServerLed S.content) at refused (option_to_list said) server.old log.old server.new log.new) }
+    ensures { OnOk result ((sender : List ℕ → Option ℕ) → ServerEnds (ServerLed S.content) (server_lines sender) at refused end.old log.old end.new log.new) }
 {
-    log.begin(at)?;
-    log.say(said)?;
-    server_outs(server, at, log)?;
-    log.end(refused)
+    server_outs(end, at, log)?;
+    log.end(refused)?;
+    Ok(())
 }

@@ -1,47 +1,76 @@
 //! The call that an event is.
-ghost use Rattle.std.specs.Prelude.{◌≡◌, ◌≢◌, [], true, false, Err, is_none, option_to_list};
+ghost use Rattle.std.specs.Prelude.{◌≡◌, ◌≢◌, ℕ, List, Option, true, false, Err, IfOk, OnOk};
+ghost use Rattle.coap_types.specs.declared.endpoint.Endpoint.{Endpoint};
 ghost use Rattle.coap_ends.specs.ClientObject.CallShown.{shown_request};
 ghost use Rattle.coap_world.specs.Record.{FeedsClient, FeedsServer, OfClient, OfServer};
-ghost use Rattle.coap_world.specs.Run.Acts.{Taken};
+ghost use Rattle.coap_world.specs.Run.Acts.{Fed, Taken};
 ghost use Rattle.coap_world.specs.Run.Ends.{ClientLed, ServerLed};
 ghost use Rattle.coap_world.specs.Run.Inputs.{IsCall, IsObservation, IsCancel, IsForgetting, IsSet, IsRemoval};
+ghost use Rattle.coap_world.specs.Run.Log.{server_lines};
+ghost use Rattle.coap_world.specs.Run.Senders.{sender_in};
+ghost use Rattle.coap_world.specs.Run.Telling.{IsFed};
+ghost use Rattle.coap_world.specs.Run.Turning.{of_client};
+ghost use Rattle.coap_world.specs.declared.running.ends.ServerEnd.{ServerEnd};
 
-use crate::running::record::{Kind, Line};
-use coap_ends::{CallId, CallRefusal, Client, Server};
+use crate::running::ends;
+use crate::running::ends::ClientEnd;
+use crate::running::record::{Kind, Record};
+use crate::running::senders::Senders;
+use coap_ends::{CallId, CallRefusal};
 use coap_resource::{Store, StoreRefusal};
 use coap_types::{Endpoint, Moment, Path, Request};
-use std::alloc::Allocator;
+use std::alloc::{AllocError, Allocator};
 
 /// A datagram comes to the client; whether it met want of memory.
 pub(crate) fn feed_client<A: Allocator + Copy>(
-    client: &mut Client<A>,
+    end: &mut ClientEnd<A>,
+    at: u64,
+    word: u64,
+    from: Endpoint,
+    bytes: &[u8],
+) -> Result<bool, AllocError>
+    ensures { IfOk result (λ refused. Fed ClientLed (FeedsClient at word from bytes.now) refused end.old end.new) }
+{
+    match end.client.feed(Moment(at), from, bytes, word) {
+        Ok(()) => {}
+        Err(_) => return Ok(true),
+    }
+    end.note_asked()?;
+    Ok(false)
+}
+
+/// A datagram comes to the server; whether it met want of memory.
+pub(crate) fn feed_server<S: Store<A>, A: Allocator + Copy>(
+    end: &mut ends::ServerEnd<S, A>,
     at: u64,
     word: u64,
     from: Endpoint,
     bytes: &[u8],
 ) -> bool
-    ensures { Taken ClientLed OfClient at (FeedsClient at word from bytes.now) result [] client.old client.new }
+    ensures { IsFed S.content (FeedsServer at word from bytes.now) result end.old end.new }
 {
-    match client.feed(Moment(at), from, bytes, word) {
+    match end.server.feed(Moment(at), from, bytes, word) {
         Ok(()) => false,
         Err(_) => true,
     }
 }
 
-/// A datagram comes to the server.
-pub(crate) fn feed_server<S: Store<A>, A: Allocator + Copy>(
-    server: &mut Server<S, A>,
-    at: u64,
-    word: u64,
-    from: Endpoint,
-    bytes: &[u8],
-) -> bool
-    ensures { Taken (ServerLed S.content) OfServer at (FeedsServer at word from bytes.now) result [] server.old server.new }
+/// Tells the request that this datagram applied, if it applied one.
+pub(crate) fn tell_fed<S: Store<A>, A: Allocator + Copy>(
+    end: &mut ends::ServerEnd<S, A>,
+    senders: &Senders<A>,
+    refused: bool,
+    log: &mut Record<A>,
+) -> Result<(), AllocError>
+    ensures { OnOk result ((before : ServerEnd S A) (at word : ℕ) (from : Endpoint) (bytes : List ℕ)
+        → IsFed S.content (FeedsServer at word from bytes) refused before end.old
+        → Taken (ServerLed S.content) OfServer (server_lines (sender_in senders.now)) at (FeedsServer at word from bytes) refused before log.old end.new log.new) }
 {
-    match server.feed(Moment(at), from, bytes, word) {
-        Ok(()) => false,
-        Err(_) => true,
+    if refused {
+        return Ok(());
     }
+    end.tell(senders, log)?;
+    Ok(())
 }
 
 // Whether a call met want of memory.
@@ -60,97 +89,111 @@ fn store_lacks_memory(answer: Result<u64, StoreRefusal>) -> bool
     answer == Err(StoreRefusal::Memory)
 }
 
-/// A call; None where it met want of memory.
+/// A call; whether it met want of memory.
 pub(crate) fn call_client<A: Allocator + Copy>(
-    client: &mut Client<A>,
+    end: &mut ClientEnd<A>,
+    log: &mut Record<A>,
     at: u64,
     request: Request<A>,
-) -> Option<Line<A>>
-    ensures { Taken ClientLed OfClient at (IsCall at (shown_request request)) (is_none result) (option_to_list result) client.old client.new }
+) -> Result<bool, AllocError>
+    ensures { IfOk result (λ refused. Taken ClientLed OfClient of_client at (IsCall at (shown_request request)) refused end.old log.old end.new log.new) }
 {
-    let answer = client.call(Moment(at), request);
+    let answer = end.client.call(Moment(at), request);
     if lacks_memory(answer) {
-        return None;
+        return Ok(true);
     }
-    Some(Line {
-        kind: Kind::Takes(answer),
-    })
+    log.note(Kind::Takes(answer))?;
+    Ok(false)
 }
 
-/// An observation.
+/// An observation; whether it met want of memory.
 pub(crate) fn observe_client<A: Allocator + Copy>(
-    client: &mut Client<A>,
+    end: &mut ClientEnd<A>,
+    log: &mut Record<A>,
     at: u64,
     path: Path<A>,
-) -> Option<Line<A>>
-    ensures { Taken ClientLed OfClient at (IsObservation at path) (is_none result) (option_to_list result) client.old client.new }
+) -> Result<bool, AllocError>
+    ensures { IfOk result (λ refused. Taken ClientLed OfClient of_client at (IsObservation at path) refused end.old log.old end.new log.new) }
 {
-    let answer = client.observe(Moment(at), path);
+    let answer = end.client.observe(Moment(at), path);
     if lacks_memory(answer) {
-        return None;
+        return Ok(true);
     }
-    Some(Line {
-        kind: Kind::Takes(answer),
-    })
+    log.note(Kind::Takes(answer))?;
+    Ok(false)
 }
 
 /// A cancel, which takes no memory.
 pub(crate) fn cancel_client<A: Allocator + Copy>(
-    client: &mut Client<A>,
+    end: &mut ClientEnd<A>,
+    log: &mut Record<A>,
     at: u64,
     id: CallId,
-) -> Option<Line<A>>
-    ensures { Taken ClientLed OfClient at (IsCancel at id.0) false (option_to_list result) client.old client.new }
+) -> Result<(), AllocError>
+    ensures { OnOk result (Taken ClientLed OfClient of_client at (IsCancel at id.0) false end.old log.old end.new log.new) }
 {
-    let answer = client.cancel(Moment(at), id);
-    Some(Line {
-        kind: Kind::Cancels(answer),
-    })
+    let answer = end.client.cancel(Moment(at), id);
+    log.note(Kind::Cancels(answer))?;
+    Ok(())
 }
 
 /// A forgetting, which takes no memory.
 pub(crate) fn forget_client<A: Allocator + Copy>(
-    client: &mut Client<A>,
+    end: &mut ClientEnd<A>,
+    log: &mut Record<A>,
     at: u64,
     id: CallId,
-) -> Option<Line<A>>
-    ensures { Taken ClientLed OfClient at (IsForgetting id.0) false (option_to_list result) client.old client.new }
+) -> Result<(), AllocError>
+    ensures { OnOk result (Taken ClientLed OfClient of_client at (IsForgetting id.0) false end.old log.old end.new log.new) }
 {
-    let answer = client.forget(id);
-    Some(Line {
-        kind: Kind::Forgets(answer),
-    })
+    let answer = end.client.forget(id);
+    log.note(Kind::Forgets(answer))?;
+    Ok(())
 }
 
-/// A local change.
+/// A local change; whether it met want of memory.
 pub(crate) fn set_server<S: Store<A>, A: Allocator + Copy>(
-    server: &mut Server<S, A>,
+    end: &mut ends::ServerEnd<S, A>,
+    log: &mut Record<A>,
     at: u64,
     path: &Path<A>,
     format: Option<u16>,
     body: &[u8],
-) -> Option<Line<A>>
-    ensures { Taken (ServerLed S.content) OfServer at (IsSet at path.now format body.now) (is_none result) (option_to_list result) server.old server.new }
+) -> Result<bool, AllocError>
+    ensures { IfOk result (λ refused. (sender : List ℕ → Option ℕ) → Taken (ServerLed S.content) OfServer (server_lines sender) at (IsSet at path.now format body.now) refused end.old log.old end.new log.new) }
 {
-    let answer = server.set(Moment(at), path, format, body);
+    let answer = end.server.set(Moment(at), path, format, body);
     if store_lacks_memory(answer) {
-        return None;
+        return Ok(true);
     }
-    Some(Line {
-        kind: Kind::Puts(answer),
-    })
+    log.note(Kind::Puts(answer))?;
+    let version = match answer {
+        Ok(version) => version,
+        Err(_) => return Ok(false),
+    };
+    end.version = version;
+    log.change(path, version, end.server.get(path))?;
+    Ok(false)
 }
 
 /// A removal, which takes no memory.
 pub(crate) fn remove_server<S: Store<A>, A: Allocator + Copy>(
-    server: &mut Server<S, A>,
+    end: &mut ends::ServerEnd<S, A>,
+    log: &mut Record<A>,
     at: u64,
     path: &Path<A>,
-) -> Option<Line<A>>
-    ensures { Taken (ServerLed S.content) OfServer at (IsRemoval at path.now) false (option_to_list result) server.old server.new }
+) -> Result<(), AllocError>
+    ensures { OnOk result ((sender : List ℕ → Option ℕ) → Taken (ServerLed S.content) OfServer (server_lines sender) at (IsRemoval at path.now) false end.old log.old end.new log.new) }
 {
-    let answer = server.remove(Moment(at), path);
-    Some(Line {
-        kind: Kind::Removes(answer),
-    })
+    let answer = end.server.remove(Moment(at), path);
+    log.note(Kind::Removes(answer))?;
+    match answer {
+        Ok(true) => {}
+        Ok(false) => return Ok(()),
+        Err(_) => return Ok(()),
+    }
+    let version = end.version.saturating_add(1);
+    end.version = version;
+    log.change(path, version, end.server.get(path))?;
+    Ok(())
 }

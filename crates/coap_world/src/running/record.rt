@@ -1,12 +1,19 @@
 //! What a run tells.
-ghost use Rattle.std.specs.Prelude.{◌≡◌, [], ◌∷◌, ◌++◌, OnOk, map, option_copied, option_to_list, slice_get};
+ghost use Rattle.std.specs.Prelude.{◌≡◌, [], OnOk, option_copied, slice_get};
+ghost use Rattle.std.specs.Option.{option_map};
 ghost use Rattle.coap_ends.specs.ClientObject.ClientShown.{shown_reported};
-ghost use Rattle.coap_world.specs.Run.Log.{Begins, Reports, given_put, line_put, refused_line};
+ghost use Rattle.coap_ends.specs.declared.client.report.CallId.{CallId};
+ghost use Rattle.coap_ends.specs.ServerObject.ServerShown.{applied_as};
+ghost use Rattle.coap_resource.specs.Shown.{shown};
+ghost use Rattle.coap_world.specs.Run.Lines.{line_of};
+ghost use Rattle.coap_world.specs.Run.Log.{Applies, Reports, given_put, line_put, lines_put, refused_line};
+ghost use Rattle.coap_world.specs.Run.Telling.{change_told};
 
-use coap_ends::{CallId, CallRefusal, CancelRefusal, Report};
+use crate::running::copies::copied_holding;
+use coap_ends::{Applied, CallId, CallRefusal, CancelRefusal, Report};
 use coap_layer::Datagram;
-use coap_resource::StoreRefusal;
-use coap_types::Endpoint;
+use coap_resource::{Representation, StoreRefusal};
+use coap_types::{Endpoint, Method, Path, Token};
 use std::alloc::{AllocError, Allocator, Global};
 use std::marker::Model;
 
@@ -56,6 +63,34 @@ impl<A: Allocator + Copy> Given<A> {
     }
 }
 
+/// A request that the server applied: a PUT, POST or DELETE that was answered 2.01, 2.02 or 2.04.
+#[derive(Drop)]
+pub struct AppliedRequest<A: Allocator + Copy = Global> {
+    /// The call that it belongs to; None where it came from another address than the client's.
+    pub call: Option<CallId>,
+    /// Where it came from.
+    pub from: Endpoint,
+    /// Its token.
+    pub token: Token,
+    /// Of which resource.
+    pub path: Path<A>,
+    /// What it asked for.
+    pub method: Method,
+    /// The version that it made, 0 where it changed nothing.
+    pub version: u64,
+}
+
+/// A change of what the server holds: a local one, or that of a request that was applied.
+#[derive(Drop)]
+pub struct Change<A: Allocator + Copy = Global> {
+    /// Of which resource.
+    pub path: Path<A>,
+    /// The number of the change, from 1.
+    pub version: u64,
+    /// What the path holds since; None where that is gone.
+    pub held: Option<Representation<A>>,
+}
+
 /// What a line of a record tells.
 #[derive(Drop)]
 pub enum Kind<A: Allocator + Copy = Global> {
@@ -71,6 +106,10 @@ pub enum Kind<A: Allocator + Copy = Global> {
     Puts(Result<u64, StoreRefusal>),
     /// The answer to a removal.
     Removes(Result<bool, StoreRefusal>),
+    /// A request is applied.
+    Applies(AppliedRequest<A>),
+    /// A path is changed: locally, or by the request that is applied just before.
+    Changes(Change<A>),
     /// The next datagram is given out.
     Out,
     /// A report is taken, that of the call or the observation of this number.
@@ -97,6 +136,10 @@ impl<A: Allocator + Copy> Model for Line<A> {
 
 /// What a run tells: the datagrams that were given out, in order, and the lines of its events, in
 /// order. A datagram has the number of those that were given out before it.
+///
+/// The lines of an event: that it begins; what its call answers; of each call of the server in turn, the
+/// request that it applied and its change; the datagrams that its end then gives out; the reports;
+/// and whether its input met want of memory.
 #[derive(Drop)]
 pub struct Record<A: Allocator + Copy = Global> {
     given: Vec<Given<A>, A>,
@@ -143,23 +186,11 @@ impl<A: Allocator + Copy> Record<A> {
         self.given.get(number)
     }
 
-    /// Notes that an event begins.
-    pub(crate) fn begin(&mut self, at: u64) -> Result<(), AllocError>
-        ensures { OnOk result (self.new ≡ line_put (Begins at) self.old) }
+    /// Adds a line.
+    pub(crate) fn note(&mut self, kind: Kind<A>) -> Result<(), AllocError>
+        ensures { OnOk result (self.new ≡ line_put (line_of kind) self.old) }
     {
-        self.lines.push(Line {
-            kind: Kind::Begins(at),
-        })?;
-        Ok(())
-    }
-
-    /// Notes what its call answers.
-    pub(crate) fn say(&mut self, line: Option<Line<A>>) -> Result<(), AllocError>
-        ensures { OnOk result (self.new ≡ record { given = self.old.given; lines = self.old.lines ++ option_to_list line }) }
-    {
-        if let Some(line) = line {
-            self.lines.push(line)?;
-        }
+        self.lines.push(Line { kind })?;
         Ok(())
     }
 
@@ -168,21 +199,56 @@ impl<A: Allocator + Copy> Record<A> {
         ensures { OnOk result (self.new ≡ line_put (Reports (shown_reported told)) self.old) }
     {
         let (id, report) = told;
-        self.lines.push(Line {
-            kind: Kind::Reports(id, report),
-        })?;
+        self.note(Kind::Reports(id, report))?;
         Ok(())
     }
 
     /// Notes want of memory.
     pub(crate) fn end(&mut self, refused: bool) -> Result<(), AllocError>
-        ensures { OnOk result (self.new ≡ record { given = self.old.given; lines = self.old.lines ++ refused_line refused }) }
+        ensures { OnOk result (self.new ≡ lines_put (refused_line refused) self.old) }
     {
         if refused {
-            self.lines.push(Line {
-                kind: Kind::Refused,
-            })?;
+            self.note(Kind::Refused)?;
         }
+        Ok(())
+    }
+
+    /// Notes a request that was applied, for this call.
+    pub(crate) fn apply(
+        &mut self,
+        call: Option<CallId>,
+        applied: &Applied<A>,
+    ) -> Result<(), AllocError>
+        ensures { OnOk result (self.new ≡ line_put (Applies (option_map (λ (id : CallId). id.0) call) (applied_as applied.now)) self.old) }
+    {
+        let path = applied.path.clone()?;
+        self.note(Kind::Applies(AppliedRequest {
+            call,
+            from: applied.from,
+            token: applied.token.copy(),
+            path,
+            method: applied.method,
+            version: applied.version,
+        }))?;
+        Ok(())
+    }
+
+    /// Notes a change.
+    pub(crate) fn change(
+        &mut self,
+        path: &Path<A>,
+        version: u64,
+        held: Option<&Representation<A>>,
+    ) -> Result<(), AllocError>
+        ensures { OnOk result (self.new ≡ lines_put (change_told path.now version (shown (option_copied held.entry))) self.old) }
+    {
+        let path = path.clone()?;
+        let held = copied_holding(held)?;
+        self.note(Kind::Changes(Change {
+            path,
+            version,
+            held,
+        }))?;
         Ok(())
     }
 
@@ -196,7 +262,7 @@ impl<A: Allocator + Copy> Record<A> {
         ensures { OnOk result (self.new ≡ given_put (record { at = at; from = from; packet = datagram }) self.old) }
     {
         self.given.push(Given { at, from, datagram })?;
-        self.lines.push(Line { kind: Kind::Out })?;
+        self.note(Kind::Out)?;
         Ok(())
     }
 }

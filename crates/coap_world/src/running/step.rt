@@ -7,19 +7,19 @@ ghost use Rattle.coap_world.specs.Run.Happening.{event_of};
 ghost use Rattle.coap_world.specs.LegalEvents.{MayHappen};
 ghost use Rattle.coap_world.specs.Run.Turning.{Stands};
 
+use crate::running::ends::{ClientEnd, ServerEnd};
 use crate::running::event;
 use crate::running::ranges::show_ranges;
 use crate::running::record::Record;
 use crate::running::stop::Stop;
 use crate::running::turn::turn;
-use coap_ends::{Client, Server};
 use coap_resource::Store;
 use std::alloc::Allocator;
 
 /// One event of a run, where it is legal.
 pub(crate) fn step<S: Store<A>, A: Allocator + Copy>(
-    client: &mut Client<A>,
-    server: &mut Server<S, A>,
+    client: &mut ClientEnd<A>,
+    server: &mut ServerEnd<S, A>,
     log: &mut Record<A>,
     last: &mut u64,
     event: &event::Event<A>,

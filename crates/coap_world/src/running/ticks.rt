@@ -1,40 +1,59 @@
 //! The ticks of an event.
-ghost use Rattle.coap_world.specs.Record.{ClientTick, ServerTick};
-ghost use Rattle.coap_world.specs.Run.Acts.{Ticked};
+ghost use Rattle.std.specs.Prelude.{IfOk};
+ghost use Rattle.coap_world.specs.Record.{ClientTick, OfServer, ServerTick};
+ghost use Rattle.coap_world.specs.Run.Acts.{Passed, Ticked};
 ghost use Rattle.coap_world.specs.Run.Ends.{ClientLed, ServerLed};
+ghost use Rattle.coap_world.specs.Run.Log.{server_lines};
+ghost use Rattle.coap_world.specs.Run.Senders.{sender_in};
 
-use coap_ends::{Client, Server};
+use crate::running::ends::{ClientEnd, ServerEnd};
+use crate::running::record::Record;
+use crate::running::senders::Senders;
 use coap_resource::Store;
 use coap_types::Moment;
-use std::alloc::Allocator;
+use std::alloc::{AllocError, Allocator};
 
 /// The ticks of a moment, up to the first that does nothing or meets want of memory; whether one
 /// met that.
-pub(crate) fn client_ticks<A: Allocator + Copy>(client: &mut Client<A>, at: u64, word: u64) -> bool
-    ensures { Ticked ClientLed (ClientTick at word) result client.old client.new }
+pub(crate) fn client_ticks<A: Allocator + Copy>(
+    end: &mut ClientEnd<A>,
+    at: u64,
+    word: u64,
+) -> Result<bool, AllocError>
+    ensures { IfOk result (λ refused. Passed ClientLed (ClientTick at word) refused end.old end.new) }
 {
     'ticks: loop {
-        match client.tick(Moment(at), word) {
-            Ok(true) => {}
-            Ok(false) => return false,
-            Err(_) => return true,
+        match end.client.tick(Moment(at), word) {
+            Ok(did) => {
+                end.note_asked()?;
+                if !did {
+                    return Ok(false);
+                }
+            }
+            Err(_) => return Ok(true),
         }
     }
 }
 
-/// The ticks of the server.
+/// The ticks of the server, of which each tells the request that it applied.
 pub(crate) fn server_ticks<S: Store<A>, A: Allocator + Copy>(
-    server: &mut Server<S, A>,
+    end: &mut ServerEnd<S, A>,
+    senders: &Senders<A>,
+    log: &mut Record<A>,
     at: u64,
     word: u64,
-) -> bool
-    ensures { Ticked (ServerLed S.content) (ServerTick at word) result server.old server.new }
+) -> Result<bool, AllocError>
+    ensures { IfOk result (λ refused. Ticked (ServerLed S.content) OfServer (server_lines (sender_in senders.now)) at (ServerTick at word) refused end.old log.old end.new log.new) }
 {
     'ticks: loop {
-        match server.tick(Moment(at), word) {
-            Ok(true) => {}
-            Ok(false) => return false,
-            Err(_) => return true,
+        match end.server.tick(Moment(at), word) {
+            Ok(did) => {
+                end.tell(senders, log)?;
+                if !did {
+                    return Ok(false);
+                }
+            }
+            Err(_) => return Ok(true),
         }
     }
 }

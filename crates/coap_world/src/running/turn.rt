@@ -1,115 +1,121 @@
 //! The turn of each event.
-ghost use Rattle.std.specs.Prelude.{◌≡◌, ◌<◌, ◌^◌, Err, List, OnOk};
+ghost use Rattle.std.specs.Prelude.{◌≡◌, ◌<◌, ◌^◌, ℕ, Err, List, OnOk, Option};
 ghost use Rattle.coap_ends.specs.ClientObject.CallShown.{shown_request};
 ghost use Rattle.coap_world.specs.Events.{Calls, Observes, Cancels, Forgets, Sets, Removes, TickClient, TickServer, StrangerToClient, StrangerToServer};
 ghost use Rattle.coap_world.specs.Legal.{MayCome};
 ghost use Rattle.coap_world.specs.Record.{Turn};
 ghost use Rattle.coap_world.specs.Run.Ends.{ClientLed, ServerLed};
 ghost use Rattle.coap_world.specs.Run.Happening.{what_of};
-ghost use Rattle.coap_world.specs.Run.Log.{log_of};
+ghost use Rattle.coap_world.specs.Run.Log.{given_of};
+ghost use Rattle.coap_world.specs.Run.Senders.{sender_in};
 ghost use Rattle.coap_world.specs.Run.Turning.{Turned, ClientTurned, ServerTurned};
 
 use crate::running::copies::copied;
 use crate::running::deliver::{deliver, is_end};
 use crate::running::drain::{CLIENT_END, SERVER_END, finish_client, finish_server};
+use crate::running::ends::{ClientEnd, ServerEnd};
 use crate::running::event::{Side, What};
 use crate::running::inputs::{
     call_client, cancel_client, feed_client, feed_server, forget_client, observe_client,
-    remove_server, set_server,
+    remove_server, set_server, tell_fed,
 };
-use crate::running::record::Record;
+use crate::running::record::{Kind, Record};
+use crate::running::senders::Senders;
 use crate::running::stop::Stop;
 use crate::running::ticks::{client_ticks, server_ticks};
-use coap_ends::{CallId, Client, Server};
+use coap_ends::CallId;
 use coap_resource::Store;
 use coap_types::{Endpoint, Path, Request};
 use std::alloc::{AllocError, Allocator};
 
 fn on_call<A: Allocator + Copy>(
-    client: &mut Client<A>,
+    client: &mut ClientEnd<A>,
     log: &mut Record<A>,
     at: u64,
     word: u64,
     request: &Request<A>,
 ) -> Result<(), AllocError>
     ensures { OnOk result ((past : List Turn)
-        → ClientTurned ClientLed past (record { at = at; word = word; what = Calls (shown_request request.now) })
+        → ClientTurned past (record { at = at; word = word; what = Calls (shown_request request.now) })
         client.old log.old client.new log.new) }
 {
     let request = copied(request)?;
-    let said = call_client(client, at, request);
-    let refused = said.is_none();
-    finish_client(client, at, said, refused, log)?;
+    log.note(Kind::Begins(at))?;
+    let refused = call_client(client, log, at, request)?;
+    finish_client(client, at, refused, log)?;
     Ok(())
 }
 
 fn on_observe<A: Allocator + Copy>(
-    client: &mut Client<A>,
+    client: &mut ClientEnd<A>,
     log: &mut Record<A>,
     at: u64,
     word: u64,
     path: &Path<A>,
 ) -> Result<(), AllocError>
     ensures { OnOk result ((past : List Turn)
-        → ClientTurned ClientLed past (record { at = at; word = word; what = Observes path.now })
+        → ClientTurned past (record { at = at; word = word; what = Observes path.now })
         client.old log.old client.new log.new) }
 {
     let path = path.clone()?;
-    let said = observe_client(client, at, path);
-    let refused = said.is_none();
-    finish_client(client, at, said, refused, log)?;
+    log.note(Kind::Begins(at))?;
+    let refused = observe_client(client, log, at, path)?;
+    finish_client(client, at, refused, log)?;
     Ok(())
 }
 
 fn on_cancel<A: Allocator + Copy>(
-    client: &mut Client<A>,
+    client: &mut ClientEnd<A>,
     log: &mut Record<A>,
     at: u64,
     word: u64,
     id: CallId,
 ) -> Result<(), AllocError>
     ensures { OnOk result ((past : List Turn)
-        → ClientTurned ClientLed past (record { at = at; word = word; what = Cancels id.0 })
+        → ClientTurned past (record { at = at; word = word; what = Cancels id.0 })
         client.old log.old client.new log.new) }
 {
-    let said = cancel_client(client, at, id);
-    finish_client(client, at, said, false, log)?;
+    log.note(Kind::Begins(at))?;
+    cancel_client(client, log, at, id)?;
+    finish_client(client, at, false, log)?;
     Ok(())
 }
 
 fn on_forget<A: Allocator + Copy>(
-    client: &mut Client<A>,
+    client: &mut ClientEnd<A>,
     log: &mut Record<A>,
     at: u64,
     word: u64,
     id: CallId,
 ) -> Result<(), AllocError>
     ensures { OnOk result ((past : List Turn)
-        → ClientTurned ClientLed past (record { at = at; word = word; what = Forgets id.0 })
+        → ClientTurned past (record { at = at; word = word; what = Forgets id.0 })
         client.old log.old client.new log.new) }
 {
-    let said = forget_client(client, at, id);
-    finish_client(client, at, said, false, log)?;
+    log.note(Kind::Begins(at))?;
+    forget_client(client, log, at, id)?;
+    finish_client(client, at, false, log)?;
     Ok(())
 }
 
 fn on_client_tick<A: Allocator + Copy>(
-    client: &mut Client<A>,
+    client: &mut ClientEnd<A>,
     log: &mut Record<A>,
     at: u64,
     word: u64,
 ) -> Result<(), AllocError>
     ensures { OnOk result ((past : List Turn)
-        → ClientTurned ClientLed past (record { at = at; word = word; what = TickClient })
+        → ClientTurned past (record { at = at; word = word; what = TickClient })
         client.old log.old client.new log.new) }
 {
-    let refused = client_ticks(client, at, word);
-    finish_client(client, at, None, refused, log)?;
+    log.note(Kind::Begins(at))?;
+    let refused = client_ticks(client, at, word)?;
+    finish_client(client, at, refused, log)?;
     Ok(())
 }
 
 fn on_client_stranger<A: Allocator + Copy>(
-    client: &mut Client<A>,
+    client: &mut ClientEnd<A>,
     log: &mut Record<A>,
     at: u64,
     word: u64,
@@ -117,16 +123,17 @@ fn on_client_stranger<A: Allocator + Copy>(
     bytes: &[u8],
 ) -> Result<(), AllocError>
     ensures { OnOk result ((past : List Turn) → MayCome past at (StrangerToClient from bytes.now)
-        → ClientTurned ClientLed past (record { at = at; word = word; what = StrangerToClient from bytes.now })
+        → ClientTurned past (record { at = at; word = word; what = StrangerToClient from bytes.now })
         client.old log.old client.new log.new) }
 {
-    let refused = feed_client(client, at, word, from, bytes);
-    finish_client(client, at, None, refused, log)?;
+    log.note(Kind::Begins(at))?;
+    let refused = feed_client(client, at, word, from, bytes)?;
+    finish_client(client, at, refused, log)?;
     Ok(())
 }
 
 fn on_set<S: Store<A>, A: Allocator + Copy>(
-    server: &mut Server<S, A>,
+    server: &mut ServerEnd<S, A>,
     log: &mut Record<A>,
     at: u64,
     word: u64,
@@ -134,49 +141,53 @@ fn on_set<S: Store<A>, A: Allocator + Copy>(
     format: Option<u16>,
     body: &[u8],
 ) -> Result<(), AllocError>
-    ensures { OnOk result ((past : List Turn)
-        → ServerTurned (ServerLed S.content) past (record { at = at; word = word; what = Sets path.now format body.now })
+    ensures { OnOk result ((sender : List ℕ → Option ℕ) (past : List Turn)
+        → ServerTurned S.content sender past (record { at = at; word = word; what = Sets path.now format body.now })
         server.old log.old server.new log.new) }
 {
-    let said = set_server(server, at, path, format, body);
-    let refused = said.is_none();
-    finish_server(server, at, said, refused, log)?;
+    log.note(Kind::Begins(at))?;
+    let refused = set_server(server, log, at, path, format, body)?;
+    finish_server(server, at, refused, log)?;
     Ok(())
 }
 
 fn on_remove<S: Store<A>, A: Allocator + Copy>(
-    server: &mut Server<S, A>,
+    server: &mut ServerEnd<S, A>,
     log: &mut Record<A>,
     at: u64,
     word: u64,
     path: &Path<A>,
 ) -> Result<(), AllocError>
-    ensures { OnOk result ((past : List Turn)
-        → ServerTurned (ServerLed S.content) past (record { at = at; word = word; what = Removes path.now })
+    ensures { OnOk result ((sender : List ℕ → Option ℕ) (past : List Turn)
+        → ServerTurned S.content sender past (record { at = at; word = word; what = Removes path.now })
         server.old log.old server.new log.new) }
 {
-    let said = remove_server(server, at, path);
-    finish_server(server, at, said, false, log)?;
+    log.note(Kind::Begins(at))?;
+    remove_server(server, log, at, path)?;
+    finish_server(server, at, false, log)?;
     Ok(())
 }
 
 fn on_server_tick<S: Store<A>, A: Allocator + Copy>(
-    server: &mut Server<S, A>,
+    server: &mut ServerEnd<S, A>,
+    senders: &Senders<A>,
     log: &mut Record<A>,
     at: u64,
     word: u64,
 ) -> Result<(), AllocError>
     ensures { OnOk result ((past : List Turn)
-        → ServerTurned (ServerLed S.content) past (record { at = at; word = word; what = TickServer })
+        → ServerTurned S.content (sender_in senders.now) past (record { at = at; word = word; what = TickServer })
         server.old log.old server.new log.new) }
 {
-    let refused = server_ticks(server, at, word);
-    finish_server(server, at, None, refused, log)?;
+    log.note(Kind::Begins(at))?;
+    let refused = server_ticks(server, senders, log, at, word)?;
+    finish_server(server, at, refused, log)?;
     Ok(())
 }
 
 fn on_server_stranger<S: Store<A>, A: Allocator + Copy>(
-    server: &mut Server<S, A>,
+    server: &mut ServerEnd<S, A>,
+    senders: &Senders<A>,
     log: &mut Record<A>,
     at: u64,
     word: u64,
@@ -184,28 +195,30 @@ fn on_server_stranger<S: Store<A>, A: Allocator + Copy>(
     bytes: &[u8],
 ) -> Result<(), AllocError>
     ensures { OnOk result ((past : List Turn) → MayCome past at (StrangerToServer from bytes.now)
-        → ServerTurned (ServerLed S.content) past (record { at = at; word = word; what = StrangerToServer from bytes.now })
+        → ServerTurned S.content (sender_in senders.now) past (record { at = at; word = word; what = StrangerToServer from bytes.now })
         server.old log.old server.new log.new) }
 {
     let refused = feed_server(server, at, word, from, bytes);
-    finish_server(server, at, None, refused, log)?;
+    log.note(Kind::Begins(at))?;
+    tell_fed(server, senders, refused, log)?;
+    finish_server(server, at, refused, log)?;
     Ok(())
 }
 
 /// What an event makes of the two ends.
 pub(crate) fn turn<S: Store<A>, A: Allocator + Copy>(
-    client: &mut Client<A>,
-    server: &mut Server<S, A>,
+    client: &mut ClientEnd<A>,
+    server: &mut ServerEnd<S, A>,
     log: &mut Record<A>,
     at: u64,
     word: u64,
     what: &What<A>,
 ) -> Result<(), Stop>
-    ensures ok { OnOk result ((past : List Turn) → log.old ≡ log_of past
+    ensures ok { OnOk result ((past : List Turn) → log.old.given ≡ given_of past
         → Turned ClientLed (ServerLed S.content) past (record { at = at; word = word; what = what_of what.now })
         client.old server.old log.old client.new server.new log.new) }
     ensures small { (at < 2 ^ 64) × (word < 2 ^ 64) }
-    ensures wrong { result ≡ Err Stop.NotLegal → (past : List Turn) → log.old ≡ log_of past
+    ensures wrong { result ≡ Err Stop.NotLegal → (past : List Turn) → log.old.given ≡ given_of past
         → MayCome past at (what_of what.now) → ⊥ }
 {
     match what {
@@ -225,7 +238,7 @@ pub(crate) fn turn<S: Store<A>, A: Allocator + Copy>(
         What::Remove(path) => on_remove(server, log, at, word, path)?,
         What::Tick(side) => match side {
             Side::Client => on_client_tick(client, log, at, word)?,
-            Side::Server => on_server_tick(server, log, at, word)?,
+            Side::Server => on_server_tick(server, &client.senders, log, at, word)?,
         },
         What::Deliver(number) => deliver(client, server, log, at, word, *number)?,
         What::Stranger(side, from, bytes) => {
@@ -240,7 +253,15 @@ pub(crate) fn turn<S: Store<A>, A: Allocator + Copy>(
                     on_client_stranger(client, log, at, word, *from, bytes.as_slice())?
                 }
                 Side::Server => {
-                    on_server_stranger(server, log, at, word, *from, bytes.as_slice())?
+                    on_server_stranger(
+                        server,
+                        &client.senders,
+                        log,
+                        at,
+                        word,
+                        *from,
+                        bytes.as_slice(),
+                    )?
                 }
             }
         }

@@ -3,10 +3,11 @@ use Rattle.coap_ends.specs.ClientSide.ClientTrace.{NextOut}
 use Rattle.coap_world.specs.Record.{OfClient}
 use Rattle.coap_world.specs.Run.Acts.{Acts}
 use Rattle.coap_world.specs.Run.Ends.{ClientLed}
+use Rattle.coap_world.specs.Run.Turning.{of_client}
 use Rattle.coap_world.proofs.running.drain.client_outs.Given as goal
 
 abbrev pub decreases-outs : goal.decreases-outs
-decreases-outs g l = length l.client.layer.layer.queue
+decreases-outs g l = length l.end.client.layer.layer.queue
 
 abbrev pub invariant-outs : goal.invariant-outs
-invariant-outs g l = (taken : List _) × Acts ClientLed OfClient l.fn.at (map (λ p. NextOut (Some p)) taken) l.initial.client l.initial.log l.client l.log
+invariant-outs g l = (taken : List _) × Acts ClientLed OfClient of_client l.fn.at (map (λ p. NextOut (Some p)) taken) l.initial.end l.initial.log l.end l.log

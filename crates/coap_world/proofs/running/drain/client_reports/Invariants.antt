@@ -3,10 +3,11 @@ use Rattle.coap_ends.specs.ClientSide.ClientTrace.{NextReport}
 use Rattle.coap_world.specs.Record.{OfClient}
 use Rattle.coap_world.specs.Run.Acts.{Acts}
 use Rattle.coap_world.specs.Run.Ends.{ClientLed}
+use Rattle.coap_world.specs.Run.Turning.{of_client}
 use Rattle.coap_world.proofs.running.drain.client_reports.Given as goal
 
 abbrev pub decreases-reports : goal.decreases-reports
-decreases-reports g l = length l.client.own.reports
+decreases-reports g l = length l.end.client.own.reports
 
 abbrev pub invariant-reports : goal.invariant-reports
-invariant-reports g l = (taken : List _) × Acts ClientLed OfClient l.fn.at (map (λ r. NextReport (Some r)) taken) l.initial.client l.initial.log l.client l.log
+invariant-reports g l = (taken : List _) × Acts ClientLed OfClient of_client l.fn.at (map (λ r. NextReport (Some r)) taken) l.initial.end l.initial.log l.end l.log

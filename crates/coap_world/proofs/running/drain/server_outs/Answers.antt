@@ -1,11 +1,20 @@
+use Rattle.std.proofs.Common.{refl, subst}
+use Rattle.coap_ends.specs.ServerObject.ServerShown.{state_of}
+use Rattle.coap_ends.specs.ServerSide.ServerLed.{Step}
 use Rattle.coap_ends.specs.ServerSide.ServerTrace.{NextOut}
 use Rattle.coap_world.specs.Record.{OfServer}
 use Rattle.coap_world.specs.Run.Ends.{ServerLed}
+use Rattle.coap_world.specs.Run.Log.{server_lines}
 use Rattle.coap_world.proofs.Recording.Acting.{out_more}
-use Rattle.coap_world.proofs.Recording.Moving.{server_moves}
+use Rattle.coap_world.proofs.Recording.Serving.{server_out, server_outs_end}
 use Rattle.coap_world.proofs.running.drain.server_outs.Goals as goal
 
 pub outs-preserved : goal.outs-preserved
-outs-preserved g c =
-    out_more (ServerLed g.S.Store.content) OfServer c.args.at NextOut c.in-Some.datagram _ _ _ _ _ _ c.outs.invariant
-    (server_moves g.S.Store.content _ _ _ c.in-Some.ensures.step) c.in_ok-give.ensures
+outs-preserved g c = λ sender.
+    out_more (ServerLed g.S.Store.content) OfServer (server_lines sender) c.args.at NextOut c.in-Some.datagram _ _ _ _ _ _ (c.outs.invariant sender)
+    (server_out g.S.Store.content sender c.args.at c.in-Some.datagram c.outs.end _ _ _ c.in-Some.ensures.step refl c.in_ok-give.ensures)
+
+pub returns : goal.returns
+returns g c = λ sender.
+    server_outs_end g.S.Store.content sender c.args.at c.args.end.now c.outs.end _ c.args.log.now c.outs.log (c.outs.invariant sender)
+    (subst (λ o. Step (state_of g.S.Store.content c.outs.end.server) (NextOut o) (state_of g.S.Store.content c.next_out.new.self)) c.in_default.is c.next_out.ensures.step) refl

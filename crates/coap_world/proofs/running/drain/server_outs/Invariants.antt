@@ -1,12 +1,14 @@
-use Rattle.std.proofs.Common.{List, Some, map, length}
+use Rattle.std.proofs.Common.{ℕ, List, Option, Some, map, length}
 use Rattle.coap_ends.specs.ServerSide.ServerTrace.{NextOut}
 use Rattle.coap_world.specs.Record.{OfServer}
 use Rattle.coap_world.specs.Run.Acts.{Acts}
 use Rattle.coap_world.specs.Run.Ends.{ServerLed}
+use Rattle.coap_world.specs.Run.Log.{server_lines}
 use Rattle.coap_world.proofs.running.drain.server_outs.Given as goal
 
 abbrev pub decreases-outs : goal.decreases-outs
-decreases-outs g l = length l.server.exchanges.layer.queue
+decreases-outs g l = length l.end.server.exchanges.layer.queue
 
 abbrev pub invariant-outs : goal.invariant-outs
-invariant-outs g l = (taken : List _) × Acts (ServerLed g.S.Store.content) OfServer l.fn.at (map (λ p. NextOut (Some p)) taken) l.initial.server l.initial.log l.server l.log
+invariant-outs g l =
+    (sender : List ℕ → Option ℕ) → (taken : List _) × Acts (ServerLed g.S.Store.content) OfServer (server_lines sender) l.fn.at (map (λ p. NextOut (Some p)) taken) l.initial.end l.initial.log l.end l.log

@@ -1,5 +1,6 @@
-use Rattle.coap_world.proofs.Recording.Moving.{client_cancelled}
+use Rattle.std.proofs.Common.{refl}
+use Rattle.coap_world.proofs.Recording.Asking.{client_cancelled}
 use Rattle.coap_world.proofs.running.inputs.cancel_client.Goals as goal
 
 pub returns : goal.returns
-returns g c = client_cancelled c.args.at _ _ _ _ c.cancel-answer.ensures.step
+returns g c = client_cancelled c.args.at c.args.id.0 _ _ _ _ _ c.cancel-answer.ensures.step refl c.in_ok-note.ensures

@@ -1,5 +1,9 @@
-use Rattle.coap_world.proofs.Recording.Moving.{client_observed}
+use Rattle.std.proofs.Common.{refl}
+use Rattle.coap_world.specs.Record.{OfClient}
+use Rattle.coap_world.specs.Run.Ends.{ClientLed}
+use Rattle.coap_world.specs.Run.Turning.{of_client}
+use Rattle.coap_world.proofs.Recording.Asking.{client_observed}
 use Rattle.coap_world.proofs.running.inputs.observe_client.Goals as goal
 
 pub returns : goal.returns
-returns g c = client_observed c.args.at _ _ _ _ (c.observe-answer.ensures.step (c.lacks_memory.ensures.no c.if-lacks_memory.false))
+returns g c = client_observed c.args.at _ _ _ _ _ _ (c.observe-answer.ensures.step (c.lacks_memory.ensures.no c.if-lacks_memory.false)) refl c.in_ok-note.ensures

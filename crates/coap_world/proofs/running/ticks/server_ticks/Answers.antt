@@ -1,18 +1,20 @@
-use Rattle.coap_world.specs.Record.{ServerTick}
+use Rattle.std.proofs.Common.{refl, rules}
+use Rattle.coap_world.specs.Record.{OfServer, ServerTick}
 use Rattle.coap_world.specs.Run.Ends.{ServerLed}
-use Rattle.coap_world.proofs.Recording.Acting.{tick_more, tick_last, tick_refused}
-use Rattle.coap_world.proofs.Recording.Moving.{server_ticked}
+use Rattle.coap_world.specs.Run.Log.{server_lines}
+use Rattle.coap_world.specs.Run.Senders.{sender_in}
+use Rattle.coap_world.proofs.Recording.Acting.{told_more, told_last}
+use Rattle.coap_world.proofs.Recording.Serving.{server_ticked}
 use Rattle.coap_world.proofs.running.ticks.server_ticks.Goals as goal
 
 pub ticks-preserved : goal.ticks-preserved
 ticks-preserved g c =
-    tick_more (ServerLed g.S.Store.content) (ServerTick c.args.at c.args.word) _ _ _ _ c.in-Ok-true.field-0-test c.ticks.invariant
-    (server_ticked g.S.Store.content _ _ _ _ _ c.in-Ok-true.ensures.step)
+    told_more (ServerLed g.S.Store.content) OfServer (server_lines (sender_in c.args.senders.now)) c.args.at (ServerTick c.args.at c.args.word) _ _ _ _ _ _ c.in-Ok.did (search (rules, c.if-not-did.false)) c.ticks.invariant
+    (server_ticked g.S.Store.content (sender_in c.args.senders.now) c.args.at c.args.word c.in-Ok.did c.ticks.end (record { server = c.tick.new.self; version = c.ticks.end.version }) c.tell.new.self c.ticks.log _
+    c.in-Ok.ensures.step refl c.in_ok-tell-in-Ok.ensures.same c.in_ok-tell-in-Ok.ensures.told c.in_ok-tell-in-Ok.ensures.version)
 
-pub returns-in-Ok-false : goal.returns-in-Ok-false
-returns-in-Ok-false g c =
-    tick_last (ServerLed g.S.Store.content) (ServerTick c.args.at c.args.word) _ _ _ _ c.in-Ok-false.field-0-test c.ticks.invariant
-    (server_ticked g.S.Store.content _ _ _ _ _ c.in-Ok-false.ensures.step)
-
-pub returns-in-Err : goal.returns-in-Err
-returns-in-Err g c = tick_refused (ServerLed g.S.Store.content) (ServerTick c.args.at c.args.word) _ _ _ c.in-Err.ensures.err c.ticks.invariant
+pub returns-then-not-did : goal.returns-then-not-did
+returns-then-not-did g c =
+    told_last (ServerLed g.S.Store.content) OfServer (server_lines (sender_in c.args.senders.now)) c.args.at (ServerTick c.args.at c.args.word) _ _ _ _ _ _ c.in-Ok.did (search (rules, c.if-not-did.true)) c.ticks.invariant
+    (server_ticked g.S.Store.content (sender_in c.args.senders.now) c.args.at c.args.word c.in-Ok.did c.ticks.end (record { server = c.tick.new.self; version = c.ticks.end.version }) c.tell.new.self c.ticks.log _
+    c.in-Ok.ensures.step refl c.in_ok-tell-in-Ok.ensures.same c.in_ok-tell-in-Ok.ensures.told c.in_ok-tell-in-Ok.ensures.version)

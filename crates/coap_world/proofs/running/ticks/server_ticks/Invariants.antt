@@ -1,14 +1,14 @@
-use Rattle.std.proofs.Common.{List, true}
-use Rattle.coap_types.specs.Past.{Always}
 use Rattle.coap_ends.specs.ServerObject.ServerShown.{state_of}
 use Rattle.coap_ends.specs.ServerTurns.ServerWork.{work}
-use Rattle.coap_world.specs.Record.{ServerTick}
-use Rattle.coap_world.specs.Run.Acts.{Moves}
+use Rattle.coap_world.specs.Record.{OfServer, ServerTick}
 use Rattle.coap_world.specs.Run.Ends.{ServerLed}
+use Rattle.coap_world.specs.Run.Log.{server_lines}
+use Rattle.coap_world.specs.Run.Senders.{sender_in}
+use Rattle.coap_world.proofs.Recording.Acting.{TicksSo}
 use Rattle.coap_world.proofs.running.ticks.server_ticks.Given as goal
 
 abbrev pub decreases-ticks : goal.decreases-ticks
-decreases-ticks g l = work (state_of g.S.Store.content l.server) l.at
+decreases-ticks g l = work (state_of g.S.Store.content l.end.server) l.at
 
 abbrev pub invariant-ticks : goal.invariant-ticks
-invariant-ticks g l = (calls : List _) × Always (λ past c. ServerTick l.at l.word true c) calls × Moves (ServerLed g.S.Store.content) l.initial.server calls l.server
+invariant-ticks g l = TicksSo (ServerLed g.S.Store.content) OfServer (server_lines (sender_in l.fn.senders)) l.at (ServerTick l.at l.word) l.initial.end l.initial.log l.end l.log

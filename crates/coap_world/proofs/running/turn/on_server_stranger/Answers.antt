@@ -1,6 +1,8 @@
-use Rattle.coap_world.specs.Run.Ends.{ServerLed}
+use Rattle.coap_world.specs.Run.Senders.{sender_in}
 use Rattle.coap_world.proofs.Recording.EachTurn.{server_met}
 use Rattle.coap_world.proofs.running.turn.on_server_stranger.Goals as goal
 
 pub returns : goal.returns
-returns g c = server_met (ServerLed g.S.Store.content) c.args.at c.args.word _ _ _ _ _ c.feed_server-refused.result _ _ c.feed_server-refused.ensures c.in_ok-finish_server.ensures
+returns g c =
+    server_met g.S.Store.content (sender_in c.args.senders.now) c.args.at c.args.word _ _ _ _ _ _ _ c.in_ok-note.ensures _ _ _
+    (c.in_ok-tell_fed.ensures _ c.args.at c.args.word c.args.from c.args.bytes.now c.feed_server-refused.ensures) (c.in_ok-finish_server.ensures (sender_in c.args.senders.now))

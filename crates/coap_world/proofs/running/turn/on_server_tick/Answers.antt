@@ -1,6 +1,7 @@
-use Rattle.coap_world.specs.Run.Ends.{ServerLed}
+use Rattle.coap_world.specs.Run.Senders.{sender_in}
 use Rattle.coap_world.proofs.Recording.EachTurn.{server_ticked}
 use Rattle.coap_world.proofs.running.turn.on_server_tick.Goals as goal
 
 pub returns : goal.returns
-returns g c = server_ticked (ServerLed g.S.Store.content) c.args.at c.args.word _ _ _ _ _ c.server_ticks-refused.result c.server_ticks-refused.ensures c.in_ok-finish_server.ensures
+returns g c =
+    server_ticked g.S.Store.content (sender_in c.args.senders.now) c.args.at c.args.word _ _ _ _ _ _ _ c.in_ok-note.ensures _ c.in_ok-refused.ensures (c.in_ok-finish_server.ensures (sender_in c.args.senders.now))

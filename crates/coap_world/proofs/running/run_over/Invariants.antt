@@ -1,9 +1,10 @@
 use Rattle.std.proofs.Common.{◌-◌, ◌≤◌, List, [], map, reverse, take, length}
+use Rattle.coap_world.specs.Events.{Config}
 use Rattle.coap_world.specs.Record.{Turn}
 use Rattle.coap_world.specs.Run.Ends.{ClientLed, ServerLed}
 use Rattle.coap_world.specs.Run.Happening.{event_of}
 use Rattle.coap_world.specs.Run.Turning.{Stands}
-use Rattle.coap_world.proofs.running.run_with.Given as goal
+use Rattle.coap_world.proofs.running.run_over.Given as goal
 
 abbrev pub decreases-events : goal.decreases-events
 decreases-events g l = length l.events - l.number
@@ -13,5 +14,6 @@ invariant-events g l =
     record {
       within : l.number ≤ length l.events;
       stands :
-          (turns : List Turn) × Stands ClientLed (ServerLed g.S.Store.content) l.fn.config (reverse (map event_of (take l.number l.events))) turns l.client l.server l.log l.last;
+          (config : Config) → Stands ClientLed (ServerLed g.S.Store.content) config [] [] l.initial.client l.initial.server l.initial.log 0
+          → (turns : List Turn) × Stands ClientLed (ServerLed g.S.Store.content) config (reverse (map event_of (take l.number l.events))) turns l.client l.server l.log l.last;
     }

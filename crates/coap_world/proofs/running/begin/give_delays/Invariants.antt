@@ -1,0 +1,15 @@
+use Rattle.std.proofs.Common.{◌≤◌, length, drop}
+use Rattle.coap_ends.specs.ServerObject.ServerShown.{state_of}
+use Rattle.coap_ends.specs.ServerSide.ServerLed.{Led}
+use Rattle.coap_world.specs.Run.Configs.{gives}
+use Rattle.coap_world.proofs.running.begin.give_delays.Given as goal
+
+abbrev pub decreases-delays : goal.decreases-delays
+decreases-delays g l = l.left
+
+abbrev pub invariant-delays : goal.invariant-delays
+invariant-delays g l =
+    record {
+      within : l.left ≤ length l.fn.config.delays;
+      led : Led l.fn.config.limit l.fn.config.server_szx l.fn.config.server_word (gives (drop l.left l.fn.config.delays)) (state_of g.S.Store.content l.server);
+    }

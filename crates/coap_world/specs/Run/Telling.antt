@@ -1,0 +1,31 @@
+-- How the lines of a call of the server are read from it: from what it says that it applied last, and from what its paths hold.
+use Rattle.std.specs.Prelude.{◌≡◌, ℕ, ◌==◌, Bool, true, false, Option, List, [], ◌∷◌, if◌then◌else◌}
+use Rattle.coap_resource.specs.Content.{Content, Held}
+use Rattle.coap_ends.specs.ServerObject.ServerShown.{state_of}
+use Rattle.coap_ends.specs.ServerSide.ServerLed.{Step}
+use Rattle.coap_ends.specs.ServerSide.ServerTrace.{Applied, Call}
+use Rattle.coap_world.specs.declared.running.ends.ServerEnd.{ServerEnd}
+use Rattle.coap_world.specs.Run.Log.{Line, Applies, Changes, call_for}
+
+abbrev pub change_told : List (List ℕ) → ℕ → Option Held → List Line
+change_told path version held = Changes (record { path = path; version = version; held = held }) ∷ []
+
+-- a version of 0 says that nothing was changed
+abbrev pub version_after : ℕ → ℕ → ℕ
+version_after version before = if version == 0 then before else version
+
+abbrev pub made_told : List (List ℕ) → ℕ → Option Held → List Line
+made_told path version held = if version == 0 then [] else change_told path version held
+
+abbrev pub applied_told : (List ℕ → Option ℕ) → List Applied → (List (List ℕ) → Option Held) → List Line
+applied_told sender [] holds = []
+applied_told sender (a ∷ rest) holds = Applies (call_for sender a) a ∷ made_told a.path a.version (holds a.path)
+
+abbrev pub version_told : List Applied → ℕ → ℕ
+version_told [] before = before
+version_told (a ∷ rest) before = version_after a.version before
+
+-- a datagram or a tick, of which nothing is told yet: one call, and none where it met want of memory
+abbrev pub IsFed : {K A : Type 0} → (K → Content) → (Call → Type 0) → Bool → ServerEnd K A → ServerEnd K A → Type 0
+IsFed content Is true old new = new ≡ old
+IsFed content Is false old new = (c : Call) × Is c × Step (state_of content old.server) c (state_of content new.server) × (new.version ≡ old.version)
