@@ -39,12 +39,12 @@ is_free_coap = refl
 -- the names of the subcommands, but for `help`
 abbrev pub IsOurs : Text → Type 0
 IsOurs name =
-    (name ≡ codes "show") ⊎ ((name ≡ codes "answer") ⊎ ((name ≡ codes "pair") ⊎ ((name ≡ codes "serve") ⊎ (name ≡ codes "get"))))
+    (name ≡ codes "show") ⊎ ((name ≡ codes "answer") ⊎ ((name ≡ codes "pair") ⊎ ((name ≡ codes "serve") ⊎ ((name ≡ codes "get") ⊎ (name ≡ codes "sim")))))
 
 abbrev is_ours : Text → Bool
 is_ours name =
     bytes_eq name (codes "show")
-    || (bytes_eq name (codes "answer") || (bytes_eq name (codes "pair") || (bytes_eq name (codes "serve") || bytes_eq name (codes "get"))))
+    || (bytes_eq name (codes "answer") || (bytes_eq name (codes "pair") || (bytes_eq name (codes "serve") || (bytes_eq name (codes "get") || bytes_eq name (codes "sim")))))
 
 -- the name is this one, or the other test holds
 first_or : (P : Type 0) (name known : Text) (rest : Bool) → (rest ≡ true → P) → (bytes_eq name known || rest) ≡ true → (name ≡ known) ⊎ P
@@ -59,7 +59,8 @@ one_of_ours name is =
     first_or _ name (codes "show") _
     (first_or _ name (codes "answer") _
     (first_or _ name (codes "pair") _
-    (first_or _ name (codes "serve") _ (λ h. (bytes_eq-Decides name (codes "get")).0 h)))) is
+    (first_or _ name (codes "serve") _
+    (first_or _ name (codes "get") _ (λ h. (bytes_eq-Decides name (codes "sim")).0 h))))) is
 
 -- words that clap takes enter one of them
 enters_ours : (words : List Text) → fault_of coap_app words ≡ [] → (name : Text) × (rows : List Row) × (subcommand_of coap_app words ≡ Some (name, rows)) × (is_ours name ≡ true)
@@ -106,6 +107,10 @@ get_port words rows e = required_word coap_app words (codes "get") (codes "PORT"
 pub get_path : (words : List Text) (rows : List Row) → Enters words (codes "get") rows → IsGiven (codes "PATH") rows
 unfolding clap_on_literals
 get_path words rows e = required_word coap_app words (codes "get") (codes "PATH") rows refl e.taken e.entered
+
+pub sim_file : (words : List Text) (rows : List Row) → Enters words (codes "sim") rows → IsGiven (codes "FILE") rows
+unfolding clap_on_literals
+sim_file words rows e = required_word coap_app words (codes "sim") (codes "FILE") rows refl e.taken e.entered
 
 -- ---- a parse that succeeds
 

@@ -6,7 +6,7 @@ use Rattle.clap.specs.Words.{Row, Text, IsAmong, fault_of, first_of}
 use Rattle.coap_types.specs.Path.{HoldsAtMost}
 use Rattle.hex.specs.Hex.{decode_of}
 use Rattle.coap.specs.CommandLine.{coap_app}
-use Rattle.coap.specs.Statuses.{Ends, IsAnswered, IsCarriedOut, IsTold, status_number, status_of}
+use Rattle.coap.specs.Statuses.{CarriesOut, Ends, IsAnswered, IsCarriedOut, IsTold, RunsScript, status_number, status_of}
 use Rattle.coap.specs.Numbers.{IsNumber, argument_of, most_of}
 use Rattle.coap.specs.Words.{AsksFor, AsksForIn, Enters, HasBadHex, HasBytes, HasNoBytes, HasNoNumber, HasNoPath, HasNumber, HasPath, HasWord, IsPathFine, IsRefusedBy, IsValue, IsWrong, NamesNoNumber, NamesNoPath, TakesNumber, TakesPath}
 use Rattle.coap.specs.declared.commands.Status.{Status}
@@ -14,7 +14,7 @@ use Rattle.coap.specs.declared.commands.Status.TheVariants as status
 use Rattle.coap.specs.declared.commands.Stop.{Stop}
 use Rattle.coap.specs.declared.commands.Stop.TheVariants as stop
 use Rattle.coap.specs.declared.orders.Order.{Order}
-use Rattle.coap.specs.declared.orders.Order.TheVariants.{Show, Answer, Pair, Serve, Get}
+use Rattle.coap.specs.declared.orders.Order.TheVariants.{Show, Answer, Pair, Serve, Get, Sim}
 use Rattle.coap.specs.declared.orders.NumberRefusal.{NumberRefusal}
 use Rattle.coap.specs.declared.orders.NumberRefusal.TheVariants.{Port, Count, Word}
 use Rattle.coap.specs.declared.orders.Wrong.{Wrong}
@@ -86,6 +86,7 @@ has_path name v (Answer path body datagram) takes h = (path, h.1, h.2)
 has_path name v (Pair path body word) takes h = (path, h.1, h.2)
 has_path name v (Serve port count word) takes h = absurd (takes_none (codes "serve") name refl refl refl h.0 takes)
 has_path name v (Get port path word) takes h = (path, h.2, h.3)
+has_path name v (Sim file) takes h = absurd (takes_none (codes "sim") name refl refl refl h.0 takes)
 
 asked_path : (words : List Text) (order : Order) (why : PathRefusal) → AsksFor words order → NamesNoPath words why → ⊥
 asked_path words order why (name, v, e, asks) (other, u, f, takes, none) =
@@ -114,6 +115,7 @@ has_number name v (Serve port count word) Word takes h = of_word v word h.3
 has_number name v (Get port path word) Port takes h = inr (port, h.1)
 has_number name v (Get port path word) Count e h = absurd (differ (codes "get") (codes "serve") name refl h.0 e)
 has_number name v (Get port path word) Word takes h = of_word v word h.4
+has_number name v (Sim file) why takes h = absurd (counts_none (codes "sim") name why refl refl refl h.0 takes)
 
 number_or_not : (v : List Row) (why : NumberRefusal) → MayHave why v → HasNoNumber why v → ⊥
 number_or_not v why (inl none) q =
@@ -136,6 +138,7 @@ has_bytes name v (Answer path body datagram) h fine = (datagram.items, h.4)
 has_bytes name v (Pair path body word) h fine = absurd (hexless (codes "pair") name v refl refl h.0 fine)
 has_bytes name v (Serve port count word) h fine = absurd (hexless (codes "serve") name v refl refl h.0 fine)
 has_bytes name v (Get port path word) h fine = absurd (hexless (codes "get") name v refl refl h.0 fine)
+has_bytes name v (Sim file) h fine = absurd (hexless (codes "sim") name v refl refl h.0 fine)
 
 asked_hex : (words : List Text) (order : Order) → AsksFor words order → HasBadHex words → ⊥
 asked_hex words order (name, v, e, asks) (other, u, f, fine, none) =
@@ -229,10 +232,20 @@ of_words words ended (Number why) is told h = (Number why, is, λ e. cc e)
 of_words words ended Hex is told h = (Hex, is, λ e. cc e)
 of_words words ended Memory is told h = absurd (let n : 4 ≡ 2 = sym (ap number told) ∙ h in omega (arith, n))
 
--- 2 says that something is wrong
-pub wrong_words : (words : List Text) (ended : Result Status Stop) → Ends words ended → number ended ≡ 2 → (wrong : Wrong) × IsWrong words wrong × (wrong ≢ Memory)
-wrong_words words ended (inl e) h = absurd (carried_out ended e.2 h)
-wrong_words words ended (inr e) h = of_words words ended e.0 e.1 e.2 h
+-- an order that is carried out comes to 2 only where it runs a script
+script_only : (order : Order) (ended : Result Status Stop) → IfOk ended (CarriesOut order) → number ended ≡ 2 → RunsScript order
+script_only (Show datagram) ended c h = absurd (carried_out ended c h)
+script_only (Answer path body datagram) ended c h = absurd (carried_out ended c h)
+script_only (Pair path body word) ended c h = absurd (carried_out ended c h)
+script_only (Serve port count word) ended c h = absurd (carried_out ended c h)
+script_only (Get port path word) ended c h = absurd (carried_out ended c h)
+script_only (Sim file) ended c h = tt
+
+-- 2 says that something is wrong in the words, or that they run a script
+pub wrong_words : (words : List Text) (ended : Result Status Stop) → Ends words ended → number ended ≡ 2
+    → ((wrong : Wrong) × IsWrong words wrong × (wrong ≢ Memory)) ⊎ ((order : Order) × AsksFor words order × RunsScript order)
+wrong_words words ended (inl e) h = inr (e.0, e.1, script_only e.0 ended e.2 h)
+wrong_words words ended (inr e) h = inl (of_words words ended e.0 e.1 e.2 h)
 
 told_more : (ended : Result Status Stop) (wrong : Wrong) → IsTold wrong ended → number ended ≤ 1 → ⊥
 told_more ended (Words error) told h = absurd (let n : number ended ≡ 2 = ap number told in omega (arith, n, h))

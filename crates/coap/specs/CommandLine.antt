@@ -1,5 +1,5 @@
 -- The command line of the program, as a value: `coap show HEX`, `coap answer PATH BODY HEX`, `coap pair PATH BODY`,
--- `coap serve PORT COUNT` and `coap get PORT PATH`, where the last three take `--word N`.
+-- `coap serve PORT COUNT` and `coap get PORT PATH`, where these three take `--word N`, and `coap sim FILE`.
 use Rattle.std.specs.Prelude.{Some, true, codes}
 use Rattle.clap.specs.Words.{App, Rule, Text, new_app, new_rule, with_rule, with_subcommand}
 use Rattle.clap.specs.declared.builder.ArgAction.TheVariants.{Set}
@@ -27,6 +27,9 @@ serve_app = with_rule (with_rule (with_rule (new_app (codes "serve")) (required_
 abbrev pub get_app : App
 get_app = with_rule (with_rule (with_rule (new_app (codes "get")) (required_word (codes "PORT"))) (required_word (codes "PATH"))) word_option
 
+abbrev pub sim_app : App
+sim_app = with_rule (new_app (codes "sim")) (required_word (codes "FILE"))
+
 -- the program, without its subcommands
 abbrev pub base_app : App
 base_app = record (new_app (codes "coap")) { top = record (new_app (codes "coap")).top { subcommand_required = true } }
@@ -37,4 +40,4 @@ datagram_app = with_subcommand (with_subcommand base_app show_app.top) answer_ap
 
 -- the program, whose words name one of its subcommands
 abbrev pub coap_app : App
-coap_app = with_subcommand (with_subcommand (with_subcommand datagram_app pair_app.top) serve_app.top) get_app.top
+coap_app = with_subcommand (with_subcommand (with_subcommand (with_subcommand datagram_app pair_app.top) serve_app.top) get_app.top) sim_app.top

@@ -7,6 +7,7 @@ use Rattle.coap.specs.declared.commands.Status.TheVariants as status
 use Rattle.coap.specs.declared.commands.Stop.{Stop}
 use Rattle.coap.specs.declared.commands.Stop.TheVariants as stop
 use Rattle.coap.specs.declared.orders.Order.{Order}
+use Rattle.coap.specs.declared.orders.Order.TheVariants.{Sim}
 use Rattle.coap.specs.declared.orders.Wrong.{Wrong}
 use Rattle.coap.specs.declared.orders.Wrong.TheVariants.{Words, Path, Number, Hex, Memory}
 
@@ -23,9 +24,23 @@ status_of (Ok s) = s
 status_of (Err stop.Failed) = status.Failed
 status_of (Err stop.Memory) = status.Memory
 
--- what an order comes to that is carried out to its end
+-- what an order comes to that is carried out to its end, where it runs no script
 abbrev pub IsCarriedOut : Status → Type 0
 IsCarriedOut s = (s ≡ status.Done) ⊎ (s ≡ status.Refused)
+
+-- what a script comes to that is in a file which can be read: it may be one that can't be read as a script
+abbrev pub IsOfScript : Status → Type 0
+IsOfScript s = (s ≡ status.Done) ⊎ ((s ≡ status.Refused) ⊎ (s ≡ status.Words))
+
+-- the order runs a script
+abbrev pub RunsScript : Order → Type 0
+RunsScript (Sim file) = ⊤
+RunsScript _ = ⊥
+
+-- what this order comes to, carried out to its end
+abbrev pub CarriesOut : Order → Status → Type 0
+CarriesOut (Sim file) s = IsOfScript s
+CarriesOut _ s = IsCarriedOut s
 
 -- what telling of a wrong comes to: bad hex is told on standard output, which may fail
 abbrev pub IsTold : Wrong → Result Status Stop → Type 0
@@ -46,5 +61,5 @@ IsAnswered Memory n = ⊤
 
 -- a run: the words ask for an order, or something is wrong with them, and it ends so
 abbrev pub Ends : List Text → Result Status Stop → Type 0
-Ends words ended = ((order : Order) × AsksFor words order × IfOk ended IsCarriedOut)
+Ends words ended = ((order : Order) × AsksFor words order × IfOk ended (CarriesOut order))
     ⊎ ((wrong : Wrong) × IsWrong words wrong × IsTold wrong ended)

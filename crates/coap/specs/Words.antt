@@ -10,7 +10,7 @@ use Rattle.coap.specs.CommandLine.{coap_app}
 use Rattle.coap.specs.Numbers.{IsInRange, IsOutOfRange, argument_of}
 use Rattle.coap.specs.PathText.{IsNoPath, IsPathText, IsTrueOf}
 use Rattle.coap.specs.declared.orders.Order.{Order}
-use Rattle.coap.specs.declared.orders.Order.TheVariants.{Show, Answer, Pair, Serve, Get}
+use Rattle.coap.specs.declared.orders.Order.TheVariants.{Show, Answer, Pair, Serve, Get, Sim}
 use Rattle.coap.specs.declared.orders.NumberRefusal.{NumberRefusal}
 use Rattle.coap.specs.declared.orders.NumberRefusal.TheVariants.{Port, Count, Word}
 use Rattle.coap.specs.declared.orders.TheConstants.{DEFAULT_WORD as default_word}
@@ -69,6 +69,7 @@ AsksForIn subcommand values (Serve port count word) =
     (subcommand ≡ codes "serve") × HasNumber Port values port × HasNumber Count values count × HasWord values word
 AsksForIn subcommand values (Get port path word) =
     (subcommand ≡ codes "get") × HasNumber Port values port × HasPath values path × HoldsAtMost max_segments max_segment_len path × HasWord values word
+AsksForIn subcommand values (Sim file) = (subcommand ≡ codes "sim") × IsValue (codes "FILE") values file.now
 
 -- the words say this order
 abbrev pub AsksFor : List Text → Order → Type 0

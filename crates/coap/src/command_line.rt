@@ -2,7 +2,7 @@
 ghost use Rattle.std.specs.Prelude.{◌≡◌, IfOk, false};
 ghost use Rattle.clap.specs.Words.{app_of, rule_of, with_rule, with_subcommand};
 ghost use Rattle.clap.specs.declared.builder.command.Command.TheViews.{out-Command};
-ghost use Rattle.coap.specs.CommandLine.{answer_app, coap_app, datagram_app, get_app, pair_app, required_word, serve_app, show_app, word_option};
+ghost use Rattle.coap.specs.CommandLine.{answer_app, coap_app, datagram_app, get_app, pair_app, required_word, serve_app, show_app, sim_app, word_option};
 
 use crate::put_away::put_away;
 use clap::{Arg, ArgAction, Command};
@@ -133,6 +133,19 @@ fn get_command<'a>(alloc: Global) -> Result<Command<'a>, AllocError>
     with_argument(command, word_argument(alloc))
 }
 
+fn sim_command<'a>(alloc: Global) -> Result<Command<'a>, AllocError>
+    ensures app { IfOk result (λ c. app_of c ≡ sim_app) }
+    ensures own { IfOk result (λ c. (out-Command c).has_globals ≡ false) }
+{
+    let command = Command::new(alloc, "sim").about(
+        "Runs a script over a client and a server, and prints what comes of it",
+    );
+    with_argument(
+        command,
+        positional(alloc, "FILE", "the file of the script, as examples/get.sim"),
+    )
+}
+
 fn with_show<'a>(alloc: Global, program: Command<'a>) -> Result<Command<'a>, AllocError>
     ensures { IfOk result (λ c. app_of c ≡ with_subcommand (app_of program.entry) show_app.top) }
 {
@@ -193,6 +206,18 @@ fn with_get<'a>(alloc: Global, program: Command<'a>) -> Result<Command<'a>, Allo
     }
 }
 
+fn with_sim<'a>(alloc: Global, program: Command<'a>) -> Result<Command<'a>, AllocError>
+    ensures { IfOk result (λ c. app_of c ≡ with_subcommand (app_of program.entry) sim_app.top) }
+{
+    match sim_command(alloc) {
+        Ok(command) => program.subcommand(command),
+        Err(error) => {
+            put_away(program);
+            Err(error)
+        }
+    }
+}
+
 // The subcommands that need no socket.
 fn datagram_commands<'a>(alloc: Global) -> Result<Command<'a>, AllocError>
     ensures { IfOk result (λ c. app_of c ≡ datagram_app) }
@@ -206,5 +231,6 @@ pub fn coap_command<'a>(alloc: Global) -> Result<Command<'a>, AllocError>
     ensures { IfOk result (λ c. app_of c ≡ coap_app) }
 {
     let program = datagram_commands(alloc)?;
-    with_get(alloc, with_serve(alloc, with_pair(alloc, program)?)?)
+    let program = with_get(alloc, with_serve(alloc, with_pair(alloc, program)?)?)?;
+    with_sim(alloc, program)
 }

@@ -1,6 +1,6 @@
 //! One run of the program, over the writers that it is handed.
 ghost use Rattle.std.specs.Prelude.{◌≡◌, ◌≢◌, ◌≤◌, ◌⊎◌, IfOk, map, string_bytes};
-ghost use Rattle.coap.specs.Statuses.{Ends, IsAnswered, IsCarriedOut, IsTold, status_number, status_of};
+ghost use Rattle.coap.specs.Statuses.{CarriesOut, Ends, IsAnswered, IsTold, RunsScript, status_number, status_of};
 ghost use Rattle.coap.specs.Words.{AsksFor, IsWrong};
 ghost use Rattle.coap.specs.declared.commands.Stop.TheVariants.{Failed, Memory};
 ghost use Rattle.coap.specs.declared.orders.Order.{Order};
@@ -16,6 +16,8 @@ mod pair;
 mod serve;
 mod show;
 mod side;
+mod sim;
+mod telling;
 
 use crate::orders::{Order, Wrong};
 use crate::words::order;
@@ -24,12 +26,13 @@ use get::get;
 use pair::pair;
 use serve::serve;
 use show::show;
+use sim::sim;
 use std::alloc::AllocError;
 use std::io;
 use std::io::{ErrorKind, Write};
 use std::net::Net;
 use std::random::RandomSource;
-use std::rt::Clock;
+use std::rt::{Clock, Files};
 
 /// How a run ends: the exit status of the program.
 #[derive(Clone, Copy, Debug, PartialEq, Eq)]
@@ -87,12 +90,12 @@ impl From<AllocError> for Stop {
 }
 
 // Carries an order out.
-fn perform<R: AllocGlobal + Net + Clock + RandomSource, W: Write>(
+fn perform<R: AllocGlobal + Files + Net + Clock + RandomSource, W: Write>(
     rt: &R,
     order: &Order<'_>,
     out: &mut W,
 ) -> Result<Status, Stop>
-    ensures { IfOk result IsCarriedOut }
+    ensures { IfOk result (CarriesOut order.now) }
 {
     let alloc = rt.alloc();
     match order {
@@ -105,6 +108,7 @@ fn perform<R: AllocGlobal + Net + Clock + RandomSource, W: Write>(
         Order::Pair { path, body, word } => pair(rt, path, body, *word, out),
         Order::Serve { port, count, word } => serve(rt, *port, *count, *word, out),
         Order::Get { port, path, word } => get(rt, *port, path, *word, out),
+        Order::Sim { file } => sim(rt, file, out),
     }
 }
 
@@ -126,7 +130,7 @@ fn refuse<O: Write, E: Write>(wrong: Wrong, out: &mut O, err: &mut E) -> Result<
 }
 
 // Runs the words.
-fn run<R: AllocGlobal + Net + Clock + RandomSource, O: Write, E: Write>(
+fn run<R: AllocGlobal + Files + Net + Clock + RandomSource, O: Write, E: Write>(
     rt: &R,
     words: &[String],
     out: &mut O,
@@ -159,7 +163,7 @@ fn close<E: Write>(ended: Result<Status, Stop>, err: &mut E) -> Status
 
 /// Runs the words of one run, the program's own name first, and answers the exit status. What a
 /// subcommand prints goes to `out`; help, usage, `failed` and `no memory` go to `err`.
-pub fn command<R: AllocGlobal + Net + Clock + RandomSource, O: Write, E: Write>(
+pub fn command<R: AllocGlobal + Files + Net + Clock + RandomSource, O: Write, E: Write>(
     rt: &R,
     words: &[String],
     out: &mut O,
@@ -168,9 +172,9 @@ pub fn command<R: AllocGlobal + Net + Clock + RandomSource, O: Write, E: Write>(
     ensures most { result ≤ 4 }
     // What is wrong in the words is answered with 2, unless that can't be told ..
     ensures wrong { (wrong : Wrong) → IsWrong (map string_bytes words.now) wrong → IsAnswered wrong result }
-    // .. and nothing else is.
-    ensures words { result ≡ 2 → (wrong : Wrong) × IsWrong (map string_bytes words.now) wrong
-        × (wrong ≢ wrongs.Memory) }
+    // .. and nothing else is, but for a script that can't be read.
+    ensures words { result ≡ 2 → ((wrong : Wrong) × IsWrong (map string_bytes words.now) wrong
+        × (wrong ≢ wrongs.Memory)) ⊎ ((order : Order) × AsksFor (map string_bytes words.now) order × RunsScript order) }
     // An order is carried out only where the words ask for it.
     ensures done { result ≤ 1 → (order : Order) × AsksFor (map string_bytes words.now) order }
 {
@@ -196,5 +200,7 @@ pub fn without_words<E: Write>(error: &io::Error, err: &mut E) -> u8
 mod answer_tests;
 #[cfg(test)]
 mod body_tests;
+#[cfg(test)]
+mod sim_tests;
 #[cfg(test)]
 mod tests;

@@ -10,6 +10,7 @@ pub mod memory_link;
 pub mod orders;
 pub mod path_text;
 mod put_away;
+pub mod script;
 pub mod tally;
 mod text;
 pub mod timekeeper;

@@ -52,6 +52,11 @@ pub enum Order<'a> {
         /// The word that the client begins with.
         word: u64,
     },
+    /// Run a script.
+    Sim {
+        /// The file that it is in.
+        file: &'a str,
+    },
 }
 
 /// The word that an end begins with where none is given.

@@ -2,10 +2,13 @@
 
 use coap_ends::{Fetched, Report};
 use coap_types::Tag;
-use std::alloc::{AllocError, Global};
+use std::alloc::{AllocError, Allocator};
 
 /// Bytes in lower case hex, or `-` where there are none.
-pub(crate) fn hex_or_dash(alloc: Global, bytes: &[u8]) -> Result<String, AllocError> {
+pub(crate) fn hex_or_dash<A: Allocator + Copy>(
+    alloc: A,
+    bytes: &[u8],
+) -> Result<String<A>, AllocError> {
     if bytes.is_empty() {
         return String::from_str(alloc, "-");
     }
@@ -13,7 +16,7 @@ pub(crate) fn hex_or_dash(alloc: Global, bytes: &[u8]) -> Result<String, AllocEr
 }
 
 // An entity-tag in hex, or `-` where there is none.
-fn tag_text(alloc: Global, tag: Option<&Tag>) -> Result<String, AllocError> {
+fn tag_text<A: Allocator + Copy>(alloc: A, tag: Option<&Tag>) -> Result<String<A>, AllocError> {
     match tag {
         Some(tag) => hex_or_dash(alloc, tag.as_slice()),
         None => hex_or_dash(alloc, &[]),
@@ -21,7 +24,10 @@ fn tag_text(alloc: Global, tag: Option<&Tag>) -> Result<String, AllocError> {
 }
 
 // A Content-Format, or `-` where there is none.
-fn format_text(alloc: Global, format: Option<u16>) -> Result<String, AllocError> {
+fn format_text<A: Allocator + Copy>(
+    alloc: A,
+    format: Option<u16>,
+) -> Result<String<A>, AllocError> {
     match format {
         Some(number) => format!(in alloc; "{number}"),
         None => String::from_str(alloc, "-"),
@@ -29,7 +35,10 @@ fn format_text(alloc: Global, format: Option<u16>) -> Result<String, AllocError>
 }
 
 // The entity-tag, the format and the body of a representation.
-fn fetched_text(alloc: Global, fetched: &Fetched) -> Result<String, AllocError> {
+fn fetched_text<A: Allocator + Copy>(
+    alloc: A,
+    fetched: &Fetched<A>,
+) -> Result<String<A>, AllocError> {
     let tag = tag_text(alloc, fetched.tag.as_ref())?;
     let format = format_text(alloc, fetched.format)?;
     let body = hex_or_dash(alloc, fetched.body.as_slice())?;
@@ -37,7 +46,10 @@ fn fetched_text(alloc: Global, fetched: &Fetched) -> Result<String, AllocError> 
 }
 
 /// A report: its name, and what it tells.
-pub(crate) fn report_text(alloc: Global, report: &Report) -> Result<String, AllocError> {
+pub(crate) fn report_text<A: Allocator + Copy>(
+    alloc: A,
+    report: &Report<A>,
+) -> Result<String<A>, AllocError> {
     match report {
         Report::Body(fetched) => {
             let fetched = fetched_text(alloc, fetched)?;

@@ -34,6 +34,7 @@ pub fn order<'a>(alloc: Global, words: &'a [String]) -> Result<Order<'a>, Wrong>
         "pair" => pair_order(alloc, given),
         "serve" => serve_order(given),
         "get" => get_order(alloc, given),
+        "sim" => Ok(sim_order(given)),
         _ => unreachable!(),
     }
 }
@@ -116,6 +117,16 @@ fn get_order<'a>(alloc: Global, given: &ArgMatches<'a>) -> Result<Order<'a>, Wro
         return Err(Wrong::Number(NumberRefusal::Word));
     };
     Ok(Order::Get { port, path, word })
+}
+
+// `coap sim FILE`
+fn sim_order<'a>(given: &ArgMatches<'a>) -> Order<'a>
+    requires { IsGiven (codes "FILE") (rows_of (found_of given.now)) }
+    ensures { AsksForIn (codes "sim") (rows_of (found_of given.now)) result }
+{
+    Order::Sim {
+        file: value(given, "FILE"),
+    }
 }
 
 // A number of 64 bits.

@@ -3,13 +3,13 @@ use std::alloc::AllocError;
 use std::net::Net;
 use std::process::Abort;
 use std::random::RandomSource;
-use std::rt::Clock;
+use std::rt::{Clock, Files};
 use std::test::Fail;
 
 /// A datagram to a server that holds `hi` at `t`, and what is printed.
 type Reply<'a> = (&'a str, &'a str);
 
-fn check_replies<R: Abort + AllocGlobal + Net + Clock + RandomSource>(
+fn check_replies<R: Abort + AllocGlobal + Files + Net + Clock + RandomSource>(
     rt: &R,
     replies: &[Reply<'_>],
 ) -> Result<(), AllocError> {

@@ -3,11 +3,11 @@ use std::alloc::AllocError;
 use std::net::Net;
 use std::process::Abort;
 use std::random::RandomSource;
-use std::rt::Clock;
+use std::rt::{Clock, Files};
 use std::test::Fail;
 
 // The answer of a server that holds so many letters `a` at `t`: a head, and so many of them.
-fn check_body<R: Abort + AllocGlobal + Net + Clock + RandomSource>(
+fn check_body<R: Abort + AllocGlobal + Files + Net + Clock + RandomSource>(
     rt: &R,
     len: usize,
     datagram: &str,
@@ -88,7 +88,7 @@ fn bodies_go_in_blocks(rt: HostRuntime) -> Result<(), Fail> {
 }
 
 // The answer of a server that is to hold 65,537 bytes.
-fn check_too_large<R: Abort + AllocGlobal + Net + Clock + RandomSource>(
+fn check_too_large<R: Abort + AllocGlobal + Files + Net + Clock + RandomSource>(
     rt: &R,
     datagram: &str,
     status: u8,

@@ -90,8 +90,8 @@ pub fn call<H: BuildHasher>(
     }
 }
 
-// The number of a refusal.
-fn refusal_number(refusal: CallRefusal) -> u8 {
+/// The number of a refusal.
+pub fn refusal_number(refusal: CallRefusal) -> u8 {
     match refusal {
         CallRefusal::QueueFull => 1,
         CallRefusal::BodyTooLarge => 2,

@@ -19,8 +19,8 @@ const TEXT_PLAIN: u16 = 0;
 
 const _: () = prove!(TEXT_PLAIN == 0);
 
-// The size of the blocks of both ends: the largest (RFC 7959, section 2.2).
-fn largest_szx() -> Szx
+/// The size of the blocks of both ends: the largest (RFC 7959, section 2.2).
+pub fn largest_szx() -> Szx
     ensures { result ≡ MAX_SZX }
 {
     match Szx::new(MAX_SZX) {

@@ -6,10 +6,10 @@ use std::io::{ErrorKind, Write};
 use std::net::Net;
 use std::process::Abort;
 use std::random::RandomSource;
-use std::rt::Clock;
+use std::rt::{Clock, Files};
 use std::test::Fail;
 
-fn words_of(alloc: Global, words: &[&str]) -> Result<Vec<String>, AllocError> {
+pub(super) fn words_of(alloc: Global, words: &[&str]) -> Result<Vec<String>, AllocError> {
     let mut list = Vec::new(alloc);
     list.push(String::from_str(alloc, "coap")?)?;
     for word in words {
@@ -31,7 +31,7 @@ pub(super) fn repeated(alloc: Global, part: &str, count: usize) -> Result<String
 pub(super) type Row<'a> = (&'a [&'a str], u8, &'a str);
 
 /// One run prints this, and nothing else.
-pub(super) fn check_row<R: Abort + AllocGlobal + Net + Clock + RandomSource>(
+pub(super) fn check_row<R: Abort + AllocGlobal + Files + Net + Clock + RandomSource>(
     rt: &R,
     words: &[&str],
     status: u8,
@@ -89,7 +89,7 @@ fn shown_datagrams(rt: HostRuntime) -> Result<(), Fail> {
 }
 
 // The words are wrong: only standard error says so.
-fn check_wrong<R: Abort + AllocGlobal + Net + Clock + RandomSource>(
+fn check_wrong<R: Abort + AllocGlobal + Files + Net + Clock + RandomSource>(
     rt: &R,
     words: &[&str],
 ) -> Result<(), AllocError> {

@@ -1,5 +1,5 @@
-use Rattle.std.proofs.Common.{refl, inl, inr}
-use Rattle.coap.proofs.CoapWords.{enters_met, ours, said_by, wrong_by, show_hex, answer_hex, answer_path, answer_body, pair_body, pair_path, serve_count, serve_port, get_path, get_port}
+use Rattle.std.proofs.Common.{refl, inl, inr, codes}
+use Rattle.coap.proofs.CoapWords.{enters_met, ours, said_by, wrong_by, show_hex, answer_hex, answer_path, answer_body, pair_body, pair_path, serve_count, serve_port, get_path, get_port, sim_file}
 use Rattle.coap.proofs.words.order.Goals as goal
 
 pub show_order-requires : goal.show_order-requires
@@ -52,6 +52,16 @@ returns-in-get c =
     let enters = enters_met _ c.in_ok-coap_command.ensures _ _ c.in_ok-matches.ensures.matches c.in_ok-matches.ensures.kinds _ _ _ c.in-get.is c.in-Some.ensures.name c.in-Some.ensures.rows in
     record { ok = said_by _ _ _ c.get_order.result enters c.get_order.ensures; wrong = wrong_by _ _ _ c.get_order.result enters c.get_order.ensures }
 
+pub sim_order-requires : goal.sim_order-requires
+sim_order-requires c =
+    let enters = enters_met _ c.in_ok-coap_command.ensures _ _ c.in_ok-matches.ensures.matches c.in_ok-matches.ensures.kinds _ _ _ c.in-sim.is c.in-Some.ensures.name c.in-Some.ensures.rows in
+    sim_file _ _ enters
+
+pub returns-in-sim : goal.returns-in-sim
+returns-in-sim c =
+    let enters = enters_met _ c.in_ok-coap_command.ensures _ _ c.in_ok-matches.ensures.matches c.in_ok-matches.ensures.kinds _ _ _ c.in-sim.is c.in-Some.ensures.name c.in-Some.ensures.rows in
+    record { ok = (codes "sim", _, enters, c.sim_order.ensures); wrong = tt }
+
 pub unreachable-requires-in_default-subcommand : goal.unreachable-requires-in_default-subcommand
 unreachable-requires-in_default-subcommand c =
     let enters = enters_met _ c.in_ok-coap_command.ensures _ _ c.in_ok-matches.ensures.matches c.in_ok-matches.ensures.kinds _ _ _ refl c.in-Some.ensures.name c.in-Some.ensures.rows in
@@ -60,5 +70,6 @@ unreachable-requires-in_default-subcommand c =
       | inr (inl is) ↦ c.in_default-subcommand.not-answer is
       | inr (inr (inl is)) ↦ c.in_default-subcommand.not-pair is
       | inr (inr (inr (inl is))) ↦ c.in_default-subcommand.not-serve is
-      | inr (inr (inr (inr is))) ↦ c.in_default-subcommand.not-get is
+      | inr (inr (inr (inr (inl is)))) ↦ c.in_default-subcommand.not-get is
+      | inr (inr (inr (inr (inr is)))) ↦ c.in_default-subcommand.not-sim is
     ]
