@@ -19,6 +19,7 @@ pub fn tell<A: Allocator + Copy, W: Write>(
     let turns = record.lines().split(|line| is_begin(line));
     for (event, lines) in events.iter().zip(turns.skip(1)) {
         number = tell_outs(alloc, event.at, lines, record, number, out)?;
+        tell_applied(event.at, lines, out)?;
         tell_reports(alloc, event.at, lines, out)?;
         tell_refusals(event.at, lines, out)?;
     }
@@ -66,6 +67,23 @@ fn tell_out<A: Allocator + Copy, W: Write>(
     };
     let bytes = hex_or_dash(alloc, given.bytes())?;
     writeln!(out, "{at} out {number} {end} {bytes}")?;
+    Ok(())
+}
+
+// The applied requests that belong to calls.
+fn tell_applied<A: Allocator + Copy, W: Write>(
+    at: u64,
+    lines: &[Line<A>],
+    out: &mut W,
+) -> Result<(), Stop> {
+    for line in lines {
+        if let Kind::Applies(request) = &line.kind {
+            if let Some(call) = request.call {
+                let number = call.0;
+                writeln!(out, "{at} applied {number}")?;
+            }
+        }
+    }
     Ok(())
 }
 

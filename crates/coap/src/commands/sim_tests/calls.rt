@@ -18,6 +18,7 @@ pub(super) const SCRIPTS: &str = "
 > 0 out 0 client 4802_0000_0000000000000000_b36c6f67_ff61
 0 deliver 0
 > 0 out 1 server 6844_0000_0000000000000000
+> 0 applied 0
 5 deliver 0
 > 5 out 2 server 6844_0000_0000000000000000
 6 deliver 1
@@ -30,6 +31,7 @@ pub(super) const SCRIPTS: &str = "
 > 0 out 0 client 4803_0000_0000000000000000_b174_ff61
 0 deliver 0
 > 0 out 1 server 6841_0000_0000000000000000
+> 0 applied 0
 0 deliver 1
 > 0 report 0 done 2.01
 1 call put t b c
@@ -37,6 +39,7 @@ pub(super) const SCRIPTS: &str = "
 > 1 out 2 client 4803_0001_0000000000000001_b174_ff622063
 1 deliver 2
 > 1 out 3 server 6844_0001_0000000000000001
+> 1 applied 1
 1 deliver 3
 > 1 report 1 done 2.04
 # What the client puts has no format.
@@ -52,6 +55,7 @@ pub(super) const SCRIPTS: &str = "
 > 3 out 6 client 4804_0003_0000000000000003_b174
 3 deliver 6
 > 3 out 7 server 6842_0003_0000000000000003
+> 3 applied 3
 3 deliver 7
 > 3 report 3 done 2.02
 4 call post t a
@@ -67,6 +71,7 @@ pub(super) const SCRIPTS: &str = "
 > 5 out 10 client 4804_0005_0000000000000005_b174
 5 deliver 10
 > 5 out 11 server 6842_0005_0000000000000005
+> 5 applied 5
 5 deliver 11
 > 5 report 5 done 2.02
 
@@ -86,6 +91,7 @@ pub(super) const SCRIPTS: &str = "
 > 1 out 2 client 4803_0001_0000000000000001_b161_00_0162
 1 deliver 2
 > 1 out 3 server 6841_0001_0000000000000001
+> 1 applied 1
 1 deliver 3
 > 1 report 1 done 2.01
 2 set a//b  two  spaces

@@ -18,6 +18,7 @@ pub(super) const SCRIPTS: &str = "
 > 0 out 0 client 4802_0000_0000000000000000_b36c6f67_ff61
 0 deliver 0
 > 0 out 1 server 6844_0000_0000000000000000
+> 0 applied 0
 5 deliver 0
 > 5 out 2 server 6844_0000_0000000000000000
 6 deliver 1
@@ -52,6 +53,7 @@ pub(super) const SCRIPTS: &str = "
 62002 tick client
 130002 deliver 6
 > 130002 out 7 server 6841_0001_0000000000000001_d10e16
+> 130002 applied 0
 130002 tick client
 130003 tick client
 > 130003 out 8 client 4803_0002_0000000000000002_b174_d1030e_ff{62*1024}
@@ -61,6 +63,7 @@ pub(super) const SCRIPTS: &str = "
 > 130005 out 10 client 4803_0003_0000000000000003_b174_d10316_ff42
 130006 deliver 10
 > 130006 out 11 server 6844_0003_0000000000000003_d10e16
+> 130006 applied 1
 130007 deliver 11
 > 130007 report 1 done 2.04
 

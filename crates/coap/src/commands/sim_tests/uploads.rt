@@ -15,6 +15,7 @@ pub(super) const SCRIPTS: &str = "
 > 4 out 4 client 4803_0002_0000000000000002_b174_d10326_ff61
 5 deliver 4
 > 5 out 5 server 6841_0002_0000000000000002_d10e26
+> 5 applied 0
 6 deliver 5
 > 6 report 0 done 2.01
 
@@ -65,6 +66,7 @@ pub(super) const SCRIPTS: &str = "
 > 130001 out 12 client 4803_0004_0000000000000004_b174_d10326_ff{62*52}
 130001 deliver 12
 > 130001 out 13 server 6841_0004_0000000000000004_d10e26
+> 130001 applied 1
 130001 deliver 13
 > 130001 report 1 done 2.01
 
@@ -91,11 +93,13 @@ pub(super) const SCRIPTS: &str = "
 > 62000 out 7 client 4803_0002_0000000000000002_b174_ff{62*10}
 62000 deliver 7
 > 62000 out 8 server 6841_0002_0000000000000002
+> 62000 applied 1
 62000 deliver 8
 > 62000 report 1 done 2.01
 # The stale copy makes the first body whole, which is applied then.
 130000 deliver 6
 > 130000 out 9 server 6844_0001_0000000000000001_d10e16
+> 130000 applied 0
 130000 deliver 9
 130000 call get t
 130000 tick client
