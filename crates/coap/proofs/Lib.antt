@@ -3,5 +3,4 @@ pub mod Entered
 pub mod FilledRows
 pub mod GivenWords
 pub mod PathTexts
-pub mod SendChain
 pub mod Statuses

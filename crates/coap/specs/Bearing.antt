@@ -3,7 +3,7 @@ use Rattle.std.specs.Prelude.{ℕ, nat_le, if◌then◌else◌, Result, Ok, Err}
 use Rattle.coap.specs.declared.commands.Stop.{Stop}
 use Rattle.coap.specs.declared.commands.Stop.TheVariants as stop
 use Rattle.coap.specs.declared.commands.bearing.TheConstants.{MAX_FAILURES as max_failures}
-use Rattle.coap.specs.declared.tally.Tally.{Tally}
+use Rattle.coap_links.specs.declared.tally.Tally.{Tally}
 
 -- so many feeds and ticks that were refused memory end it; then, so many calls of the link that failed
 abbrev pub borne : ℕ → Tally → Result (Unit {0}) Stop

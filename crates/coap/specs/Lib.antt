@@ -1,12 +1,7 @@
 pub mod Bearing
-pub mod Carried
 pub mod CommandLine
-pub mod Faults
-pub mod MemoryCarries
 pub mod Numbers
 pub mod PathText
-pub mod Pumping
 pub mod Statuses
-pub mod Turning
 pub mod Words
 pub mod Wrongs

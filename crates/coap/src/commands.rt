@@ -20,6 +20,7 @@ mod sim;
 mod telling;
 
 use crate::orders::{Order, Wrong};
+use crate::put_away::put_away;
 use crate::words::order;
 use answer::answer;
 use get::get;
@@ -139,7 +140,11 @@ fn run<R: AllocGlobal + Files + Net + Clock + RandomSource, O: Write, E: Write>(
     ensures { Ends (map string_bytes words.now) result }
 {
     match order(rt.alloc(), words) {
-        Ok(order) => perform(rt, &order, out),
+        Ok(order) => {
+            let ended = perform(rt, &order, out);
+            put_away(order);
+            ended
+        }
         Err(wrong) => refuse(wrong, out, err),
     }
 }

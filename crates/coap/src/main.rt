@@ -1,23 +1,17 @@
 //! The program `coap`: a client and a server of CoAP (RFC 7252) on the command line.
 #![tactic(auto)]
 
-pub mod carried;
 pub mod command_line;
 pub mod commands;
-pub mod driver;
-pub mod link;
-pub mod memory_link;
 pub mod orders;
 pub mod path_text;
 mod put_away;
 pub mod script;
-pub mod tally;
 mod text;
 pub mod timekeeper;
-pub mod turning;
-pub mod udp_link;
 pub mod words;
 
+pub use coap_links::{Link, MemoryLink, Pumped, UdpLink, get_turn, pump, serve_turn};
 use commands::{command, without_words};
 use std::process::ExitCode;
 use std::rt::Env;
@@ -37,10 +31,3 @@ fn main(rt: HostRuntime) -> ExitCode {
     };
     ExitCode::from(status)
 }
-
-#[cfg(test)]
-mod link_tests;
-#[cfg(test)]
-mod test_end;
-#[cfg(test)]
-mod turning_tests;

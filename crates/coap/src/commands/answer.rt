@@ -4,7 +4,7 @@ ghost use Rattle.coap.specs.Statuses.{IsCarriedOut};
 use crate::commands::ends::{fresh_server, hold};
 use crate::commands::{Status, Stop};
 use crate::put_away::put_away;
-use coap_ends::Server;
+use coap_ends::{End, Server};
 use coap_resource::{ListStore, StoreRefusal};
 use coap_types::{Endpoint, Moment, Path};
 use std::alloc::Global;
@@ -82,9 +82,9 @@ fn tell_refusal<W: Write>(refusal: StoreRefusal, out: &mut W) -> Result<Status, 
 }
 
 // Prints each datagram that is to be sent in hex, or that there is none.
-fn print_sent<W: Write>(
+fn print_sent<E: End<Global>, W: Write>(
     alloc: Global,
-    server: &mut Server<ListStore, Global>,
+    server: &mut E,
     out: &mut W,
 ) -> Result<(), Stop> {
     let mut is_silent = true;

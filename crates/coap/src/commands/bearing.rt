@@ -3,8 +3,7 @@ ghost use Rattle.std.specs.Prelude.{◌≡◌};
 ghost use Rattle.coap.specs.Bearing.{borne};
 
 use crate::commands::Stop;
-use crate::link::Link;
-use crate::tally::Tally;
+use coap_links::{Link, Tally};
 
 /// The failed call of a link, and the input that was refused memory, that end the program.
 pub const MAX_FAILURES: u64 = 100;

@@ -1,39 +1,21 @@
 ghost use Rattle.std.specs.Prelude.{◌≡◌, IfOk};
 ghost use Rattle.coap.specs.Statuses.{IsCarriedOut};
-ghost use Rattle.coap.specs.Turning.{Turns};
 
 use crate::commands::bearing::bear;
 use crate::commands::calling::{Outcome, call, get_request, outcome_text};
 use crate::commands::ends::fresh_client;
 use crate::commands::{Status, Stop};
-use crate::driver::send_all;
-use crate::link::Link;
 use crate::put_away::put_away;
-use crate::tally::{Tally, fresh_tally};
 use crate::timekeeper::{ProgramTime, Timekeeper};
-use crate::turning::turn;
-use crate::udp_link::{ANY_PORT, UdpLink};
-use coap_ends::{Client, End, Report};
-use coap_types::{Endpoint, Moment, Path};
-use std::alloc::{Allocator, Global};
+use coap_ends::{Client, Report};
+use coap_links::{ANY_PORT, Link, UdpLink, fresh_tally, get_turn, send_all};
+use coap_types::{Endpoint, Path};
+use std::alloc::Global;
 use std::hash::{BuildHasher, RandomState};
 use std::io::Write;
 use std::net::Net;
 use std::random::RandomSource;
 use std::rt::Clock;
-
-/// One turn of a client.
-pub fn get_turn<A: Allocator + Copy, E: End<A>, L: Link>(
-    client: &mut E,
-    link: &mut L,
-    now: Moment,
-    tally: &mut Tally,
-)
-    ensures { Turns E.waiting E.gives L.sends L.receives E.feeds E.ticks
-        (E.state client.old) link.old now.0 tally.old (E.state client.new) link.new tally.new }
-{
-    turn(client, link, now, tally);
-}
 
 // Turns the client until it reports, and sends what is out then.
 fn reported<H: BuildHasher, L: Link, T: Timekeeper>(

@@ -5,12 +5,10 @@ use crate::commands::calling::{Outcome, call, get_request, outcome_text, put_req
 use crate::commands::ends::{fresh_client, fresh_server};
 use crate::commands::side::Side;
 use crate::commands::{Status, Stop};
-use crate::link::Link;
 use crate::put_away::put_away;
 use crate::timekeeper::{ProgramTime, Timekeeper};
-use crate::udp_link::{ANY_PORT, UdpLink};
-use coap_ends::{Client, Report, Server};
-use coap_resource::ListStore;
+use coap_ends::{Client, End, Report};
+use coap_links::{ANY_PORT, Link, UdpLink};
 use coap_types::{Code, Path, Request};
 use std::alloc::Global;
 use std::hash::{BuildHasher, RandomState};
@@ -21,12 +19,12 @@ use std::rt::Clock;
 
 // A client and its server, each over a link of its own.
 #[derive(Drop)]
-struct BothEnds<'a, H: BuildHasher + Drop, C: Link, K: BuildHasher + Drop, S: Link> {
+struct BothEnds<'a, H: BuildHasher, C: Link, E: End<Global>, S: Link> {
     client: Side<'a, Client<Global, H>, C>,
-    server: Side<'a, Server<ListStore, Global, K>, S>,
+    server: Side<'a, E, S>,
 }
 
-impl<'a, H: BuildHasher + Drop, C: Link, K: BuildHasher + Drop, S: Link> BothEnds<'a, H, C, K, S> {
+impl<'a, H: BuildHasher, C: Link, E: End<Global>, S: Link> BothEnds<'a, H, C, E, S> {
     // Turns the client, and then the server, where the client has no report.
     fn turn<T: Timekeeper>(&mut self, time: &mut T) -> Result<Option<Report>, Stop> {
         self.client.turn(time.now()?)?;
@@ -50,7 +48,7 @@ impl<'a, H: BuildHasher + Drop, C: Link, K: BuildHasher + Drop, S: Link> BothEnd
 
     // What becomes of a request of the client.
     fn ask<T: Timekeeper>(&mut self, request: Request, time: &mut T) -> Result<Outcome, Stop> {
-        match call(&mut self.client.end, time.now()?, request)? {
+        match call(self.client.end, time.now()?, request)? {
             Some(refusal) => Ok(Outcome::Refused(refusal)),
             None => Ok(Outcome::Reported(self.reported(time)?)),
         }
@@ -157,14 +155,15 @@ pub fn pair_over<
     ensures { IfOk result IsCarriedOut }
 {
     let (client_hasher, server_hasher) = hashers;
-    let client = fresh_client(alloc, server_link.address(), word, client_hasher);
-    let server = fresh_server(alloc, word, server_hasher);
+    let mut client = fresh_client(alloc, server_link.address(), word, client_hasher);
+    let mut server = fresh_server(alloc, word, server_hasher);
     let mut ends = BothEnds {
-        client: Side::new(client, client_link, word),
-        server: Side::new(server, server_link, word),
+        client: Side::new(&mut client, client_link, word),
+        server: Side::new(&mut server, server_link, word),
     };
     let ended = ends.put_and_get(alloc, path, body, time, out);
-    put_away(ends);
+    put_away(client);
+    put_away(server);
     ended
 }
 

@@ -1,40 +1,21 @@
 ghost use Rattle.std.specs.Prelude.{◌≡◌, IfOk};
 ghost use Rattle.coap.specs.Statuses.{IsCarriedOut};
-ghost use Rattle.coap.specs.Turning.{Turns};
 
 use crate::commands::bearing::bear;
 use crate::commands::ends::{fresh_server, hold};
 use crate::commands::{Status, Stop};
-use crate::driver::send_all;
-use crate::link::Link;
 use crate::path_text::path_of_text;
 use crate::put_away::put_away;
-use crate::tally::{Tally, fresh_tally};
 use crate::timekeeper::{ProgramTime, Timekeeper};
-use crate::turning::turn;
-use crate::udp_link::UdpLink;
 use coap_ends::{End, Server};
+use coap_links::{Link, UdpLink, fresh_tally, send_all, serve_turn};
 use coap_resource::ListStore;
-use coap_types::Moment;
 use std::alloc::{Allocator, Global};
 use std::hash::{BuildHasher, RandomState};
 use std::io::Write;
 use std::net::Net;
 use std::random::RandomSource;
 use std::rt::Clock;
-
-/// One turn of a server.
-pub fn serve_turn<A: Allocator + Copy, E: End<A>, L: Link>(
-    server: &mut E,
-    link: &mut L,
-    now: Moment,
-    tally: &mut Tally,
-)
-    ensures { Turns E.waiting E.gives L.sends L.receives E.feeds E.ticks
-        (E.state server.old) link.old now.0 tally.old (E.state server.new) link.new tally.new }
-{
-    turn(server, link, now, tally);
-}
 
 /// Serves until so many datagrams were fed, sends what is out then, and prints the number. The
 /// word is the one that the server began with.
@@ -81,8 +62,8 @@ fn hold_resource<H: BuildHasher + Drop>(
     }
 }
 
-// Serves the resource by a server that holds nothing.
-fn serve_resource<H: BuildHasher + Drop, L: Link, T: Timekeeper, W: Write>(
+/// Serves the resource by a server that holds nothing.
+pub(crate) fn serve_resource<H: BuildHasher + Drop, L: Link, T: Timekeeper, W: Write>(
     alloc: Global,
     server: &mut Server<ListStore, Global, H>,
     link: &mut L,

@@ -2,25 +2,22 @@
 
 use crate::commands::Stop;
 use crate::commands::bearing::bear;
-use crate::driver::send_all;
-use crate::link::Link;
-use crate::tally::{Tally, fresh_tally};
-use crate::turning::turn;
 use coap_ends::End;
+use coap_links::{Link, Tally, fresh_tally, send_all, turn};
 use coap_types::Moment;
 use std::alloc::Global;
 
 /// An end, the link that it sends over, and what counts over its turns.
 #[derive(Drop)]
-pub struct Side<'a, E: Drop, L> {
-    pub end: E,
+pub struct Side<'a, E, L> {
+    pub end: &'a mut E,
     link: &'a mut L,
     tally: Tally,
 }
 
-impl<'a, E: End<Global> + Drop, L: Link> Side<'a, E, L> {
+impl<'a, E: End<Global>, L: Link> Side<'a, E, L> {
     /// An end that began with this word.
-    pub fn new(end: E, link: &'a mut L, word: u64) -> Side<'a, E, L> {
+    pub fn new(end: &'a mut E, link: &'a mut L, word: u64) -> Side<'a, E, L> {
         Side {
             end,
             link,
@@ -30,8 +27,8 @@ impl<'a, E: End<Global> + Drop, L: Link> Side<'a, E, L> {
 
     /// One turn, after which what is out is sent at once, and the other end need not wait for it.
     pub fn turn(&mut self, now: Moment) -> Result<(), Stop> {
-        turn(&mut self.end, self.link, now, &mut self.tally);
-        send_all(&mut self.end, self.link);
+        turn(self.end, self.link, now, &mut self.tally);
+        send_all(self.end, self.link);
         bear(self.link, &self.tally)
     }
 }

@@ -1,6 +1,6 @@
 //! A link over a socket of UDP.
 ghost use Rattle.std.specs.Prelude.{ℕ, List, Option, ◌≡◌, ◌≤◌, IfOk, IfSome, length};
-ghost use Rattle.coap.specs.Faults.{MayRaise, raised};
+ghost use Rattle.coap_links.specs.Faults.{MayRaise, raised};
 
 use crate::link::{Link, MAX_DATAGRAM_LEN, raise};
 use coap_types::Endpoint;

@@ -3,11 +3,11 @@ use Rattle.std.specs.Prelude.{ℕ, Bool, true, false, List, ◌≡◌, ◌⊎◌
 use Rattle.std.specs.declared.alloc.AllocError.{AllocError}
 use Rattle.coap_types.specs.declared.endpoint.Endpoint.{Endpoint}
 use Rattle.coap_layer.specs.Trace as layer
-use Rattle.coap.specs.Carried.{Packet}
-use Rattle.coap.specs.Faults.{raised}
-use Rattle.coap.specs.Pumping.{Pumps}
-use Rattle.coap.specs.declared.driver.Pumped.{Pumped}
-use Rattle.coap.specs.declared.tally.Tally.{Tally}
+use Rattle.coap_links.specs.Carried.{Packet}
+use Rattle.coap_links.specs.Faults.{raised}
+use Rattle.coap_links.specs.Pumping.{Pumps}
+use Rattle.coap_links.specs.declared.driver.Pumped.{Pumped}
+use Rattle.coap_links.specs.declared.tally.Tally.{Tally}
 
 -- the word of the next call: after each feed and each tick it is one more, wrapping
 abbrev pub next_word : Tally → ℕ
@@ -44,7 +44,7 @@ abbrev pub TicksOut : {E : Type 0} → (E → ℕ → ℕ → Bool → E → Typ
 TicksOut ticks e now t f u = (g : _) × (v : Tally) × Steps ticks e now t g v × Rests ticks g now v f u
 
 -- the turn
-abbrev pub Turns : {E L : Type 0} → (E → List layer.Packet) → (E → layer.Packet → E → Type 0) → (L → Endpoint → List ℕ → L → Type 0)
+unfoldable pub Turns : {E L : Type 0} → (E → List layer.Packet) → (E → layer.Packet → E → Type 0) → (L → Endpoint → List ℕ → L → Type 0)
     → (L → Option Packet → L → Type 0) → (E → ℕ → Endpoint → List ℕ → ℕ → E → Type 0) → (E → ℕ → ℕ → Bool → E → Type 0)
     → E → L → ℕ → Tally → E → L → Tally → Type 0
 Turns waiting gives sends receives feeds ticks e l now t f m u =

@@ -2,8 +2,8 @@
 use Rattle.std.specs.Prelude.{ℕ, List, [], ◌∷◌, ◌≡◌, Option, Some, None, IsSome, is_some, Result, Ok, Err}
 use Rattle.coap_types.specs.declared.endpoint.Endpoint.{Endpoint}
 use Rattle.coap_layer.specs.Trace as layer
-use Rattle.coap.specs.Carried.{Packet}
-use Rattle.coap.specs.declared.driver.Pumped.{Pumped}
+use Rattle.coap_links.specs.Carried.{Packet}
+use Rattle.coap_links.specs.declared.driver.Pumped.{Pumped}
 
 -- Each of these datagrams, in this order, is taken from the end and then handed to the link. Nothing else happens to either.
 abbrev pub SendsAll : {E L : Type 0} → (E → layer.Packet → E → Type 0) → (L → Endpoint → List ℕ → L → Type 0)

@@ -1,9 +1,9 @@
 //! A link in memory.
 ghost use Rattle.std.specs.Prelude.{ℕ, List, [], ◌∷◌, ◌++◌, Option, ◌≡◌, ◌≤◌, map, OnOk, OnErr, IfSome, IfNone, length, ◌-◌, ◌==◌};
 ghost use Rattle.coap_types.specs.declared.endpoint.Endpoint.{Endpoint as EndpointSpec};
-ghost use Rattle.coap.specs.Carried.{Packet, received};
-ghost use Rattle.coap.specs.Faults.{raised};
-ghost use Rattle.coap.specs.MemoryCarries.{Memory, ReceivesFromMemory, SendsToMemory, behind, failed, falls_due, found_in};
+ghost use Rattle.coap_links.specs.Carried.{Packet, received};
+ghost use Rattle.coap_links.specs.Faults.{raised};
+ghost use Rattle.coap_links.specs.MemoryCarries.{Memory, ReceivesFromMemory, SendsToMemory, behind, failed, falls_due, found_in};
 
 use crate::carried::{Carried, keep};
 use crate::link::{Link, MAX_DATAGRAM_LEN, raise};
@@ -26,7 +26,7 @@ pub struct MemoryLink<A: Allocator + Copy = Global> {
 }
 
 impl<A: Allocator + Copy> Model for MemoryLink<A> {
-    ghost use Rattle.coap.specs.MemoryCarries.{Memory};
+    ghost use Rattle.coap_links.specs.MemoryCarries.{Memory};
 
     ghost Value = { Memory };
 

@@ -1,8 +1,8 @@
 use Rattle.std.proofs.Common.{rules, ap, sym, ◌∙◌, ◌+◌, [], ◌∷◌, ◌++◌}
 use Rattle.std.proofs.lemmas.List.{append_assoc}
 use Rattle.coap_layer.specs.Trace.{Packet}
-use Rattle.coap.proofs.SendChain.{SendsAll-snoc, few_along, length-snoc}
-use Rattle.coap.proofs.driver.send_all.Goals as goal
+use Rattle.coap_links.proofs.SendChain.{SendsAll-snoc, few_along, length-snoc}
+use Rattle.coap_links.proofs.driver.send_all.Goals as goal
 
 pub loop-datagram-preserved : goal.loop-datagram-preserved
 loop-datagram-preserved g c =

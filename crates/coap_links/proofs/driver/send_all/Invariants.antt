@@ -1,7 +1,7 @@
 use Rattle.std.proofs.Common.{List, ◌++◌, ◌≡◌, ◌<◌, ◌^◌, length}
 use Rattle.coap_layer.specs.Trace.{Packet}
-use Rattle.coap.specs.Pumping.{SendsAll}
-use Rattle.coap.proofs.driver.send_all.Given as goal
+use Rattle.coap_links.specs.Pumping.{SendsAll}
+use Rattle.coap_links.proofs.driver.send_all.Given as goal
 
 abbrev pub invariant-loop-datagram : goal.invariant-loop-datagram
 invariant-loop-datagram g l =

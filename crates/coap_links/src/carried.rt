@@ -14,7 +14,7 @@ pub struct Carried<A: Allocator + Copy = Global> {
 }
 
 impl<A: Allocator + Copy> Model for Carried<A> {
-    ghost use Rattle.coap.specs.Carried.{Packet};
+    ghost use Rattle.coap_links.specs.Carried.{Packet};
 
     ghost Value = { Packet };
 

@@ -3,7 +3,7 @@ use Rattle.std.proofs.Common.{ℕ, List, [], ◌∷◌, ◌++◌, ◌≡◌, ref
 use Rattle.std.proofs.lemmas.List.{length-append}
 use Rattle.coap_types.specs.declared.endpoint.Endpoint.{Endpoint}
 use Rattle.coap_layer.specs.Trace.{Packet}
-use Rattle.coap.specs.Pumping.{SendsAll}
+use Rattle.coap_links.specs.Pumping.{SendsAll}
 
 pub SendsAll-snoc : {E L : Type 0} (gives : E → Packet → E → Type 0) (sends : L → Endpoint → List ℕ → L → Type 0)
     (e : E) (l : L) (ps : List Packet) (f : E) (m : L) (p : Packet) (g : E) (n : L)

@@ -26,8 +26,17 @@ pub struct TestEnd {
 /// The Reset with this Message ID, to this endpoint.
 fn reset_to(alloc: Global, to: Endpoint, id: u8) -> Result<Option<Datagram<Global>>, AllocError> {
     let mut layer = Layer::new(alloc, 0);
-    let _ping = layer.receive(Moment(0), to, &[0x40, 0, 0, id])?;
-    Ok(layer.next_out())
+    let pinged = ping(&mut layer, to, id);
+    let reset = layer.next_out();
+    drop(layer);
+    pinged?;
+    Ok(reset)
+}
+
+// Hands a layer a ping (RFC 7252, section 4.3).
+fn ping(layer: &mut Layer<Global>, from: Endpoint, id: u8) -> Result<(), AllocError> {
+    let _rejected = layer.receive(Moment(0), from, &[0x40, 0, 0, id])?;
+    Ok(())
 }
 
 impl TestEnd {

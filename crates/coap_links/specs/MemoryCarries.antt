@@ -1,9 +1,9 @@
 -- A link in memory: what it is handed it keeps, and what it is to give it gives, one after the other; a call that was told to fail fails.
 use Rattle.std.specs.Prelude.{ℕ, Bool, true, false, List, [], ◌∷◌, ◌++◌, ◌≡◌, ◌==◌, ◌-◌, length, nat_lt, if◌then◌else◌, Option, Some, None}
 use Rattle.coap_types.specs.declared.endpoint.Endpoint.{Endpoint}
-use Rattle.coap.specs.Carried.{Packet}
-use Rattle.coap.specs.Faults.{raised}
-use Rattle.coap.specs.declared.link.TheConstants.{MAX_DATAGRAM_LEN as max_datagram_len}
+use Rattle.coap_links.specs.Carried.{Packet}
+use Rattle.coap_links.specs.Faults.{raised}
+use Rattle.coap_links.specs.declared.link.TheConstants.{MAX_DATAGRAM_LEN as max_datagram_len}
 
 -- what it was handed and what it is to give, each the oldest first; which send and which receive from now is to fail, from 1, or 0 for
 -- none; and how many calls failed

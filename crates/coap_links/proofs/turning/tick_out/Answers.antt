@@ -1,7 +1,7 @@
 use Rattle.std.proofs.Common.{refl, sym, subst}
-use Rattle.coap.specs.Turning.{Steps, none, further}
-use Rattle.coap.specs.declared.tally.Tally.{Tally}
-use Rattle.coap.proofs.turning.tick_out.Goals as goal
+use Rattle.coap_links.specs.Turning.{Steps, none, further}
+use Rattle.coap_links.specs.declared.tally.Tally.{Tally}
+use Rattle.coap_links.proofs.turning.tick_out.Goals as goal
 
 pub loop-now-init : goal.loop-now-init
 loop-now-init g c = (none, refl)

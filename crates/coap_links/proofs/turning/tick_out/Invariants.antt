@@ -1,6 +1,6 @@
 use Rattle.std.proofs.Common.{◌≡◌}
-use Rattle.coap.specs.Turning.{Steps}
-use Rattle.coap.proofs.turning.tick_out.Given as goal
+use Rattle.coap_links.specs.Turning.{Steps}
+use Rattle.coap_links.proofs.turning.tick_out.Given as goal
 
 abbrev pub invariant-loop-now : goal.invariant-loop-now
 invariant-loop-now g l =

@@ -1,6 +1,6 @@
 //! The turns of an end over a link.
 ghost use Rattle.std.specs.Prelude.{ℕ, Bool, true, false, ◌≡◌, ◌<◌, ◌⊎◌};
-ghost use Rattle.coap.specs.Turning.{Rests, TicksOut, Turns, next_word, worded};
+ghost use Rattle.coap_links.specs.Turning.{Rests, TicksOut, Turns, next_word, worded};
 
 use crate::driver::pump;
 use crate::link::Link;
@@ -28,13 +28,14 @@ fn step<A: Allocator + Copy, E: End<A>>(end: &mut E, now: Moment, tally: &mut Ta
     }
 }
 
-/// Ticks the end until nothing is due at the moment, or a tick is refused memory.
-pub fn tick_out<A: Allocator + Copy, E: End<A>>(end: &mut E, now: Moment, tally: &mut Tally)
+// Ticks the end until nothing is due at the moment, or a tick is refused memory.
+fn tick_out<A: Allocator + Copy, E: End<A>>(end: &mut E, now: Moment, tally: &mut Tally)
     ensures { TicksOut E.ticks (E.state end.old) now.0 tally.old (E.state end.new) tally.new }
 {
     while step(end, now, tally) {}
 }
 
+#[tactic(auto, unfolding(crate::specs::Turning::Turns))]
 /// One turn: pumps the end once, and then ticks it until nothing is due.
 pub fn turn<A: Allocator + Copy, E: End<A>, L: Link>(
     end: &mut E,
@@ -54,4 +55,30 @@ pub fn turn<A: Allocator + Copy, E: End<A>, L: Link>(
         Err(_) => count_refused(tally),
     }
     tick_out(end, now, tally);
+}
+
+/// One turn of a client.
+pub fn get_turn<A: Allocator + Copy, E: End<A>, L: Link>(
+    client: &mut E,
+    link: &mut L,
+    now: Moment,
+    tally: &mut Tally,
+)
+    ensures { Turns E.waiting E.gives L.sends L.receives E.feeds E.ticks
+        (E.state client.old) link.old now.0 tally.old (E.state client.new) link.new tally.new }
+{
+    turn(client, link, now, tally);
+}
+
+/// One turn of a server.
+pub fn serve_turn<A: Allocator + Copy, E: End<A>, L: Link>(
+    server: &mut E,
+    link: &mut L,
+    now: Moment,
+    tally: &mut Tally,
+)
+    ensures { Turns E.waiting E.gives L.sends L.receives E.feeds E.ticks
+        (E.state server.old) link.old now.0 tally.old (E.state server.new) link.new tally.new }
+{
+    turn(server, link, now, tally);
 }

@@ -28,37 +28,48 @@ fn tell_pumped(
     Ok(())
 }
 
-// An end with two datagrams out, and a link with one that is to come.
-fn ready(alloc: Global) -> Result<(TestEnd, MemoryLink), AllocError> {
-    let mut end = TestEnd::new(alloc);
+// Puts two datagrams out of the end, and gives the link one that is to come.
+fn make_ready(end: &mut TestEnd, link: &mut MemoryLink) -> Result<(), AllocError> {
     end.put_out(FAR, b'1')?;
     end.put_out(FAR, b'2')?;
-    let mut link = MemoryLink::new(alloc, NEAR);
-    give(&mut link, b"x")?;
-    Ok((end, link))
+    give(link, b"x")
 }
 
 // Three turns, and what was handed over.
+fn tell_pumps(
+    end: &mut TestEnd,
+    link: &mut MemoryLink,
+    told: &mut Vec<u8>,
+) -> Result<(), AllocError> {
+    make_ready(end, link)?;
+    for _ in 0..3 {
+        tell_pumped(end, link, told)?;
+    }
+    for _ in 0..3 {
+        let _was_there = tell_handed(link, told)?;
+    }
+    Ok(())
+}
+
+// Three turns of a fresh end, over a link whose calls of these numbers fail.
 fn three_pumps(
     alloc: Global,
     send: u64,
     receive: u64,
     refuses: bool,
-) -> Result<Vec<u8>, AllocError> {
-    let (mut end, mut link) = ready(alloc)?;
+    told: &mut Vec<u8>,
+) -> Result<(), AllocError> {
+    let mut end = TestEnd::new(alloc);
+    let mut link = MemoryLink::new(alloc, NEAR);
     link.fail_send(send);
     link.fail_receive(receive);
     if refuses {
         end.refuse_feeds();
     }
-    let mut told = Vec::new(alloc);
-    for _ in 0..3 {
-        tell_pumped(&mut end, &mut link, &mut told)?;
-    }
-    for _ in 0..3 {
-        let _was_there = tell_handed(&mut link, &mut told)?;
-    }
-    Ok(told)
+    let ended = tell_pumps(&mut end, &mut link, told);
+    drop(end);
+    drop(link);
+    ended
 }
 
 #[test]
@@ -75,12 +86,12 @@ fn a_turn_sends_all_and_feeds_one(rt: HostRuntime) -> Result<(), Fail> {
         // What is refused memory is lost; what was out has been sent.
         (0, 0, true, b"m00-00-p\0\01 p\0\02 "),
     ];
-    for (send, receive, refuses, told) in cases {
-        assert_eq!(rt;
-            three_pumps(rt.alloc(), send, receive, refuses)?.as_slice(),
-            told,
-            "at {send} {receive}"
-        );
+    for (send, receive, refuses, wanted) in cases {
+        let mut told = Vec::new(rt.alloc());
+        let ended = three_pumps(rt.alloc(), send, receive, refuses, &mut told);
+        assert_eq!(rt; told.as_slice(), wanted, "at {send} {receive}");
+        drop(told);
+        ended?;
     }
     Ok(())
 }
@@ -89,8 +100,7 @@ fn a_turn_sends_all_and_feeds_one(rt: HostRuntime) -> Result<(), Fail> {
 fn turn_once(
     end: &mut TestEnd,
     link: &mut MemoryLink,
-    now: u64,
-    work: u64,
+    (now, work): (u64, u64),
     tally: &mut Tally,
 ) -> Result<(), AllocError> {
     give(link, b"x")?;
@@ -99,34 +109,43 @@ fn turn_once(
     Ok(())
 }
 
+// What three turns fed and counted: of the third the feed is refused memory.
+fn three_turns(
+    end: &mut TestEnd,
+    link: &mut MemoryLink,
+) -> Result<[(Option<Fed>, Tally); 3], AllocError> {
+    let mut tally = fresh_tally(u64::MAX);
+    turn_once(end, link, (7, 2), &mut tally)?;
+    let first = (end.fed(), tally);
+    turn_once(end, link, (8, 0), &mut tally)?;
+    let second = (end.fed(), tally);
+    end.refuse_feeds();
+    turn_once(end, link, (9, 1), &mut tally)?;
+    Ok([first, second, (end.fed(), tally)])
+}
+
+// A feed of `x`.
+fn fed_at(now: u64, word: u64) -> Option<Fed> {
+    let first = b'x';
+    Some(Fed { now, word, first })
+}
+
+// Of these words, and so many feeds and refusals.
+fn counted(word: u64, fed: u64, refused: u64) -> Tally {
+    Tally { word, fed, refused }
+}
+
 #[test]
 fn words_count_feeds_and_ticks(rt: HostRuntime) -> Result<(), Fail> {
     let mut end = TestEnd::new(rt.alloc());
     let mut link = MemoryLink::new(rt.alloc(), NEAR);
-    let mut tally = fresh_tally(u64::MAX);
+    let told = three_turns(&mut end, &mut link);
+    drop(end);
+    drop(link);
     // One feed, two ticks that do something and one that does nothing.
-    turn_once(&mut end, &mut link, 7, 2, &mut tally)?;
-    assert_eq!(rt;
-        end.fed(),
-        Some(Fed {
-            now: 7,
-            word: 0,
-            first: b'x'
-        })
-    );
-    assert_eq!(rt; (tally.word, tally.fed, tally.refused), (3, 1, 0));
-    turn_once(&mut end, &mut link, 8, 0, &mut tally)?;
-    assert_eq!(rt;
-        end.fed(),
-        Some(Fed {
-            now: 8,
-            word: 4,
-            first: b'x'
-        })
-    );
-    assert_eq!(rt; (tally.word, tally.fed, tally.refused), (5, 2, 0));
-    end.refuse_feeds();
-    turn_once(&mut end, &mut link, 9, 1, &mut tally)?;
-    assert_eq!(rt; (tally.word, tally.fed, tally.refused), (8, 2, 1));
+    let first = (fed_at(7, 0), counted(3, 1, 0));
+    let second = (fed_at(8, 4), counted(5, 2, 0));
+    let third = (fed_at(8, 4), counted(8, 2, 1));
+    assert_eq!(rt; told?, [first, second, third]);
     Ok(())
 }

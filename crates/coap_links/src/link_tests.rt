@@ -32,6 +32,10 @@ fn receive<L: Link>(link: &mut L, from: Endpoint, told: &mut Vec<u8>) -> Result<
     Ok(())
 }
 
+fn faults<L: Link>(link: &L) -> u64 {
+    link.faults()
+}
+
 // The number of faults, a digit.
 fn count_faults<L: Link>(link: &L, told: &mut Vec<u8>) -> Result<(), AllocError> {
     told.push(b'0' + link.faults().min(9) as u8)?;
@@ -60,19 +64,24 @@ pub(super) fn tell_handed(link: &mut MemoryLink, told: &mut Vec<u8>) -> Result<b
 
 // ---- a link in memory
 
-// What was handed over of three sends, of which the n-th was told to fail, and the faults.
-fn three_sends(alloc: Global, n: u64) -> Result<Vec<u8>, AllocError> {
+// Sends three datagrams, and tells what was handed over of them and the faults.
+fn tell_sends(link: &mut MemoryLink, told: &mut Vec<u8>) -> Result<(), AllocError> {
+    for bytes in [b"a".as_slice(), b"", b"bc"] {
+        send(link, FAR, bytes);
+    }
+    for _ in 0..4 {
+        let _was_there = tell_handed(link, told)?;
+    }
+    count_faults(link, told)
+}
+
+// What was handed over of three sends, of which the n-th was told to fail.
+fn three_sends(alloc: Global, n: u64, told: &mut Vec<u8>) -> Result<(), AllocError> {
     let mut link = MemoryLink::new(alloc, NEAR);
     link.fail_send(n);
-    for bytes in [b"a".as_slice(), b"", b"bc"] {
-        send(&mut link, FAR, bytes);
-    }
-    let mut told = Vec::new(alloc);
-    for _ in 0..4 {
-        let _was_there = tell_handed(&mut link, &mut told)?;
-    }
-    count_faults(&link, &mut told)?;
-    Ok(told)
+    let ended = tell_sends(&mut link, told);
+    drop(link);
+    ended
 }
 
 #[test]
@@ -85,29 +94,34 @@ fn the_nth_send_fails_once(rt: HostRuntime) -> Result<(), Fail> {
         (4, "a  bc 0"),
         (u64::MAX, "a  bc 0"),
     ];
-    for (n, told) in cases {
-        assert_eq!(rt;
-            three_sends(rt.alloc(), n)?.as_slice(),
-            told.as_bytes(),
-            "at {n}"
-        );
+    for (n, wanted) in cases {
+        let mut told = Vec::new(rt.alloc());
+        let ended = three_sends(rt.alloc(), n, &mut told);
+        assert_eq!(rt; told.as_slice(), wanted.as_bytes(), "at {n}");
+        drop(told);
+        ended?;
     }
     Ok(())
 }
 
-// What four receives gave of three datagrams, where the n-th was told to fail, and the faults.
-fn four_receives(alloc: Global, n: u64) -> Result<Vec<u8>, AllocError> {
+// Gives three datagrams, and tells what four receives give and the faults.
+fn tell_receives(link: &mut MemoryLink, told: &mut Vec<u8>) -> Result<(), AllocError> {
+    for bytes in [b"a", b"b", b"c"] {
+        give(link, bytes.as_slice())?;
+    }
+    for _ in 0..4 {
+        receive(link, FAR, told)?;
+    }
+    count_faults(link, told)
+}
+
+// What four receives gave of three datagrams, where the n-th was told to fail.
+fn four_receives(alloc: Global, n: u64, told: &mut Vec<u8>) -> Result<(), AllocError> {
     let mut link = MemoryLink::new(alloc, NEAR);
     link.fail_receive(n);
-    for bytes in [b"a", b"b", b"c"] {
-        give(&mut link, bytes.as_slice())?;
-    }
-    let mut told = Vec::new(alloc);
-    for _ in 0..4 {
-        receive(&mut link, FAR, &mut told)?;
-    }
-    count_faults(&link, &mut told)?;
-    Ok(told)
+    let ended = tell_receives(&mut link, told);
+    drop(link);
+    ended
 }
 
 #[test]
@@ -120,55 +134,57 @@ fn the_nth_receive_fails_once_and_loses_nothing(rt: HostRuntime) -> Result<(), F
         (4, "abc-1"),
         (5, "abc-0"),
     ];
-    for (n, told) in cases {
-        assert_eq!(rt;
-            four_receives(rt.alloc(), n)?.as_slice(),
-            told.as_bytes(),
-            "at {n}"
-        );
+    for (n, wanted) in cases {
+        let mut told = Vec::new(rt.alloc());
+        let ended = four_receives(rt.alloc(), n, &mut told);
+        assert_eq!(rt; told.as_slice(), wanted.as_bytes(), "at {n}");
+        drop(told);
+        ended?;
     }
     Ok(())
 }
 
-// What became of datagrams of these lengths: how long each came.
-fn lengths<L: Link, M: Link>(
-    near: &mut L,
-    far: &mut M,
-    lens: &[usize],
-    alloc: Global,
-) -> Result<Vec<usize>, AllocError> {
-    let mut told = Vec::new(alloc);
+/// More bytes than a link carries.
+static BYTES: [u8; 4_000] = [7; 4_000];
+
+// So many bytes.
+fn bytes_of(len: usize) -> &'static [u8] {
+    BYTES.get(..len).unwrap_or(&[])
+}
+
+// How long a datagram is that comes from there.
+fn received_len<L: Link>(link: &mut L, from: Endpoint) -> Option<usize> {
+    let mut buf = [0; MAX_DATAGRAM_LEN];
+    match link.receive(&mut buf) {
+        Some((peer, len)) if peer == from => Some(len),
+        _ => None,
+    }
+}
+
+// How long a datagram of this length comes from one link to the other.
+fn carried_len<L: Link, M: Link>(near: &mut L, far: &mut M, len: usize) -> Option<usize> {
     let (to, from) = (far.address(), near.address());
-    for len in lens {
-        send(near, to, &vec![in alloc; 7u8; *len]?);
-        let mut came = Vec::new(alloc);
-        receive(far, from, &mut came)?;
-        told.push(came.len())?;
-    }
-    Ok(told)
+    send(near, to, bytes_of(len));
+    received_len(far, from)
 }
 
-// How long each datagram of these lengths comes out of a link in memory.
-fn lengths_in_memory(alloc: Global, lens: &[usize]) -> Result<Vec<usize>, AllocError> {
-    let mut link = MemoryLink::new(alloc, NEAR);
-    let mut told = Vec::new(alloc);
-    for len in lens {
-        give(&mut link, &vec![in alloc; 7u8; *len]?)?;
-        let mut came = Vec::new(alloc);
-        receive(&mut link, FAR, &mut came)?;
-        told.push(came.len())?;
-    }
-    Ok(told)
-}
-
-/// 1 is the length of `-`.
-const LENGTHS: [(usize, usize); 5] = [(3, 3), (0, 0), (2_048, 2_048), (2_049, 1), (4_000, 1)];
+/// How long datagrams of these lengths come.
+const LENGTHS: [(usize, Option<usize>); 5] = [
+    (3, Some(3)),
+    (0, Some(0)),
+    (2_048, Some(2_048)),
+    (2_049, None),
+    (4_000, None),
+];
 
 #[test]
 fn what_is_too_long_is_dropped(rt: HostRuntime) -> Result<(), Fail> {
+    let mut link = MemoryLink::new(rt.alloc(), NEAR);
     for (len, came) in LENGTHS {
-        let told = lengths_in_memory(rt.alloc(), &[len, 5])?;
-        assert_eq!(rt; told.as_slice(), [came, 5].as_slice(), "at {len}");
+        give(&mut link, bytes_of(len))?;
+        give(&mut link, bytes_of(5))?;
+        assert_eq!(rt; received_len(&mut link, FAR), came, "at {len}");
+        assert_eq!(rt; received_len(&mut link, FAR), Some(5), "at {len}");
     }
     Ok(())
 }
@@ -180,13 +196,10 @@ fn datagrams_go_over_two_sockets(rt: HostRuntime) -> Result<(), Fail> {
     let mut near = UdpLink::bind(&rt, 0)?;
     let mut far = UdpLink::bind(&rt, 0)?;
     for (len, came) in LENGTHS {
-        let told = lengths(&mut near, &mut far, &[len, 5], rt.alloc())?;
-        assert_eq!(rt; told.as_slice(), [came, 5].as_slice(), "at {len}");
+        assert_eq!(rt; carried_len(&mut near, &mut far, len), came, "at {len}");
+        assert_eq!(rt; carried_len(&mut near, &mut far, 5), Some(5), "at {len}");
     }
-    let mut told = Vec::new(rt.alloc());
-    count_faults(&near, &mut told)?;
-    count_faults(&far, &mut told)?;
-    assert_eq!(rt; told.as_slice(), b"00".as_slice());
+    assert_eq!(rt; (faults(&near), faults(&far)), (0, 0));
     Ok(())
 }
 
@@ -197,14 +210,12 @@ fn a_send_that_the_system_refuses_is_a_fault(rt: HostRuntime) -> Result<(), Fail
         ip: [127, 0, 0, 1],
         port: 0,
     };
-    let mut told = Vec::new(rt.alloc());
     send(&mut link, port_zero, b"abc");
-    count_faults(&link, &mut told)?;
+    assert_eq!(rt; faults(&link), 1);
     // More than a datagram of UDP can carry.
     let own = link.address();
-    send(&mut link, own, &vec![in rt.alloc(); 0u8; 70_000]?);
-    count_faults(&link, &mut told)?;
-    assert_eq!(rt; told.as_slice(), b"12".as_slice());
+    send(&mut link, own, &[0; 70_000]);
+    assert_eq!(rt; faults(&link), 2);
     Ok(())
 }
 
@@ -213,13 +224,11 @@ fn a_port_where_nobody_listens_is_no_fault(rt: HostRuntime) -> Result<(), Fail> 
     // The port of a socket that is closed again: the system answers with an ICMP refusal.
     let closed = UdpLink::bind(&rt, 0)?.address();
     let mut link = UdpLink::bind(&rt, 0)?;
-    let mut told = Vec::new(rt.alloc());
     for _ in 0..3 {
         send(&mut link, closed, b"abc");
-        receive(&mut link, closed, &mut told)?;
+        assert_eq!(rt; received_len(&mut link, closed), None);
     }
-    count_faults(&link, &mut told)?;
-    assert_eq!(rt; told.as_slice(), b"---0".as_slice());
+    assert_eq!(rt; faults(&link), 0);
     Ok(())
 }
 

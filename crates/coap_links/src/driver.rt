@@ -1,7 +1,7 @@
 //! One turn of an end over a link.
 ghost use Rattle.std.specs.Prelude.{ℕ, List, [], ◌≡◌, ◌-◌, IfOk, length};
 ghost use Rattle.coap_layer.specs.Trace.{Packet};
-ghost use Rattle.coap.specs.Pumping.{Pumps, SendsAll};
+ghost use Rattle.coap_links.specs.Pumping.{Pumps, SendsAll};
 
 use crate::link::{Link, MAX_DATAGRAM_LEN};
 use coap_ends::End;

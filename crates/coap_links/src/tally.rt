@@ -1,6 +1,6 @@
 //! What counts over the turns of an end.
 ghost use Rattle.std.specs.Prelude.{◌≡◌};
-ghost use Rattle.coap.specs.Turning.{fed, next_word, refused, worded};
+ghost use Rattle.coap_links.specs.Turning.{fed, next_word, refused, worded};
 
 use crate::link::raise;
 

@@ -1,8 +1,8 @@
 //! What carries datagrams.
 ghost use Rattle.std.specs.Prelude.{ℕ, List, Option, ◌≡◌, ◌≤◌, IfSome, length};
 ghost use Rattle.coap_types.specs.declared.endpoint.Endpoint.{Endpoint as EndpointSpec};
-ghost use Rattle.coap.specs.Faults.{MayRaise, raised};
-ghost use Rattle.coap.specs.Carried.{Packet, received};
+ghost use Rattle.coap_links.specs.Faults.{MayRaise, raised};
+ghost use Rattle.coap_links.specs.Carried.{Packet, received};
 
 use coap_types::Endpoint;
 
