@@ -1,0 +1,136 @@
+//! Times the proved ends and plain ones on the same exchanges, and prints a table.
+
+mod block;
+mod client;
+mod codec;
+mod message;
+mod plain;
+mod proved;
+mod server;
+mod work;
+
+use std::hint::black_box;
+use work::Timed;
+
+/// How many timings the least is taken of.
+const TIMINGS: usize = 301;
+
+/// How many requests are timed.
+const REQUESTS: u32 = 64;
+
+/// So far apart, in milliseconds, requests come of which each forgets one, once 3,984 are remembered.
+const DENSE: u64 = 62;
+/// The same, once two are remembered.
+const SPARSE: u64 = 130_000;
+
+/// How many bytes a body has that goes in blocks, and how many exchanges it takes.
+const BODY_LEN: usize = 65_536;
+const BLOCKS: u32 = 64;
+
+/// What the ends are asked for.
+#[derive(Clone, Copy)]
+enum Work {
+    /// So many requests before those that are timed, so many milliseconds apart.
+    Gets(u32, u64),
+    /// The PUT of a body in blocks.
+    Put,
+    /// Its GET.
+    Get,
+}
+
+fn body() -> Vec<u8> {
+    (0..BODY_LEN).map(|i| (i * 7) as u8).collect()
+}
+
+impl Work {
+    fn of_proved(self) -> Timed {
+        match self {
+            Work::Gets(before, step) => proved::gets(before, REQUESTS, step),
+            Work::Put => proved::bodies(&body())[0],
+            Work::Get => proved::bodies(&body())[1],
+        }
+    }
+
+    fn of_plain(self) -> Timed {
+        match self {
+            Work::Gets(before, step) => plain::gets(before, REQUESTS, step),
+            Work::Put => plain::bodies(&body())[0],
+            Work::Get => plain::bodies(&body())[1],
+        }
+    }
+
+    fn exchanges(self) -> u32 {
+        match self {
+            Work::Gets(..) => REQUESTS,
+            Work::Put | Work::Get => BLOCKS,
+        }
+    }
+}
+
+/// One row of the table.
+struct Row {
+    name: &'static str,
+    work: Work,
+    /// The least nanoseconds: of the proved ends, and of the plain ones.
+    least: [u64; 2],
+}
+
+impl Row {
+    fn new(name: &'static str, work: Work) -> Row {
+        let least = [u64::MAX; 2];
+        Row { name, work, least }
+    }
+
+    fn time(&mut self) {
+        let proved = black_box(self.work).of_proved();
+        let plain = black_box(self.work).of_plain();
+        assert_eq!(proved.sum, plain.sum);
+        let [least_proved, least_plain] = &mut self.least;
+        *least_proved = proved.nanoseconds.min(*least_proved);
+        *least_plain = plain.nanoseconds.min(*least_plain);
+    }
+
+    fn print(&self) {
+        let name = self.name;
+        let exchanges = f64::from(self.work.exchanges());
+        let [proved, plain] = self.least.map(|least| least as f64 / exchanges);
+        let ratio = proved / plain;
+        println!("| {name} | {proved:.0} | {plain:.0} | {ratio:.2} |");
+    }
+}
+
+fn rows() -> Vec<Row> {
+    vec![
+        Row::new("GET, 0 to 64 remembered", Work::Gets(0, 0)),
+        Row::new("GET, 4,000 to 4,064 remembered", Work::Gets(4_000, 0)),
+        Row::new("PUT of 65,536 bytes, a block", Work::Put),
+        Row::new("GET of 65,536 bytes, a block", Work::Get),
+        Row::new("GET, 2 remembered, one forgotten", Work::Gets(10, SPARSE)),
+        Row::new(
+            "GET, 3,984 remembered, one forgotten",
+            Work::Gets(4_100, DENSE),
+        ),
+    ]
+}
+
+fn main() {
+    let mut rows = rows();
+    for _ in 0..TIMINGS {
+        rows.iter_mut().for_each(Row::time);
+    }
+    println!("| nanoseconds an exchange | proved | plain Rust | ratio |");
+    println!("|---|---:|---:|---:|");
+    rows.iter().for_each(Row::print);
+}
+
+#[test]
+fn both_answer_alike() {
+    for Row { work, .. } in rows() {
+        assert_eq!(work.of_proved().sum, work.of_plain().sum);
+    }
+    // 4,096 replies of 21 bytes: the table is full then.
+    let full = proved::gets(4_200, 0, 0).sum;
+    assert_eq!(full, 4_096 * 21);
+    assert_eq!(full, plain::gets(4_200, 0, 0).sum);
+    assert_eq!(proved::bodies(&body())[0].sum, 128);
+}

@@ -1,0 +1,73 @@
+//! The plain ends, asked as the static library asks the proved ones.
+
+use crate::client::{Client, Report};
+use crate::message::Endpoint;
+use crate::server::Server;
+use crate::work::{Timed, get_datagram};
+use std::time::Instant;
+
+const CLIENT: Endpoint = ([127, 0, 0, 1], 40_001);
+const PATH: [&[u8]; 1] = [b"temperature"];
+const BODY: &[u8] = b"22.3 C";
+
+fn get(server: &mut Server, number: u32, now: u64) -> u64 {
+    server.feed(now, CLIENT, &get_datagram(number));
+    server.next_out().map_or(0, |(_, bytes)| bytes.len() as u64)
+}
+
+/// The same as `proved::gets`.
+pub fn gets(before: u32, timed: u32, step: u64) -> Timed {
+    let mut server = Server::default();
+    server.set(&PATH, BODY);
+    let mut now = 0;
+    let mut sum = 0;
+    for number in 0..before {
+        now += step;
+        sum += get(&mut server, number, now);
+    }
+    let begin = Instant::now();
+    for number in before..before + timed {
+        now += step;
+        sum += get(&mut server, number, now);
+    }
+    let nanoseconds = begin.elapsed().as_nanos() as u64;
+    Timed { sum, nanoseconds }
+}
+
+/// Hands what each end has out to the other, until the client reports: how many exchanges it took.
+fn exchange(client: &mut Client, server: &mut Server) -> (u64, Option<Report>) {
+    let mut exchanges = 0;
+    while let Some(bytes) = client.next_out() {
+        exchanges += 1;
+        server.feed(0, CLIENT, &bytes);
+        while let Some((_, reply)) = server.next_out() {
+            client.feed(0, &reply);
+        }
+    }
+    (exchanges, client.next_report())
+}
+
+/// The same as `proved::bodies`.
+pub fn bodies(body: &[u8]) -> [Timed; 2] {
+    let mut server = Server::default();
+    let mut client = Client::default();
+    let begin = Instant::now();
+    client.put(0, &PATH, body);
+    let (puts, put) = exchange(&mut client, &mut server);
+    let between = Instant::now();
+    client.get(0, &PATH);
+    let (gets, got) = exchange(&mut client, &mut server);
+    let end = Instant::now();
+    assert_eq!(put, Some(Report::Done(65)));
+    assert_eq!(got, Some(Report::Body(body.to_vec())));
+    [
+        Timed {
+            sum: puts + gets,
+            nanoseconds: (between - begin).as_nanos() as u64,
+        },
+        Timed {
+            sum: puts + gets,
+            nanoseconds: (end - between).as_nanos() as u64,
+        },
+    ]
+}

@@ -1,0 +1,34 @@
+//! The proved ends, as the static library exports them.
+
+use crate::work::Timed;
+
+/// The library's functions, as `library.rt.in` declares them: a slice is a pointer and a length.
+mod library {
+    unsafe extern "C" {
+        pub safe fn coap_bench_gets(
+            before: u32,
+            timed: u32,
+            step: u64,
+            nanoseconds: &mut u64,
+        ) -> u64;
+
+        /// The length must be that of the memory at the pointer.
+        pub fn coap_bench_bodies(body: *const u8, len: usize, put: &mut u64, get: &mut u64) -> u64;
+    }
+}
+
+/// Hands a server `before` GET requests that differ, `step` ms from each other, and then `timed`
+/// more, which are timed: how many bytes go out in all.
+pub fn gets(before: u32, timed: u32, step: u64) -> Timed {
+    let mut nanoseconds = 0;
+    let sum = library::coap_bench_gets(before, timed, step, &mut nanoseconds);
+    Timed { sum, nanoseconds }
+}
+
+/// Has a client put a body to a server and get it back: how many exchanges each takes.
+pub fn bodies(body: &[u8]) -> [Timed; 2] {
+    let [mut put, mut get] = [0; 2];
+    // SAFETY: the pointer and the length are those of one slice.
+    let sum = unsafe { library::coap_bench_bodies(body.as_ptr(), body.len(), &mut put, &mut get) };
+    [put, get].map(|nanoseconds| Timed { sum, nanoseconds })
+}
