@@ -18,7 +18,7 @@ ghost use Rattle.coap_ends.specs.ServerSide.Follows.ServerServes.{ServedOnce};
 ghost use Rattle.coap_ends.specs.ServerSide.Follows.ServerReads.{VerdictsRead};
 ghost use Rattle.coap_ends.specs.ServerSide.Follows.ServerGives.{NoneContinues, SendsResponses};
 ghost use Rattle.coap_ends.specs.ServerSide.Follows.ServerRests.{ComesToRest, TicksEnd};
-ghost use Rattle.coap_ends.specs.ServerSide.Follows.ServerObserves.{AreObservers, EndsObservation, EndsOnNotice, EndsOnRequest};
+ghost use Rattle.coap_ends.specs.ServerSide.Follows.ServerObserves.{AreObservers, EndsObservation, EndsOnNotice, EndsOnRequest, EndsSo};
 ghost use Rattle.coap_ends.specs.ServerSide.Follows.ServerOuts.{GivesInOrder};
 ghost use Rattle.coap_ends.specs.ServerSide.Follows.ServerShows.{NoticesShow, ShowsHeld};
 ghost use Rattle.coap_ends.specs.ServerSide.Follows.ServerTokens.{ShortTokens};
@@ -142,8 +142,10 @@ pub fn server_law()
     ensures ends { (limit szx word : ℕ) (t : List Call) → ServerLaw limit szx word t → EndsObservation limit szx t }
     // .. and so do a GET with Observe 1, whatever its answer (RFC 7641, section 3.6) ..
     ensures deregisters { (limit szx : ℕ) (t : List Call) → EndsOnRequest limit szx t }
-    // .. and a notification that is no 2.05: a 4.04, where its path holds nothing (RFC 7641, section 4.2).
+    // .. and a notification that is no 2.05: a 4.04, where its path holds nothing (RFC 7641, section 4.2) ..
     ensures gone { (limit szx word : ℕ) (t : List Call) → ServerLaw limit szx word t → EndsOnNotice limit szx t }
+    // .. and nothing else.
+    ensures stays { (limit szx word : ℕ) (t : List Call) → ServerLaw limit szx word t → EndsSo limit szx t }
 {}
 
 /// Histories that stand in that law, with their bytes.

@@ -1,15 +1,13 @@
 -- The fetch that runs for an observation was sent since the newest notification of that.
 use Rattle.std.proofs.Common.{◌≡◌, ◌⊎◌, inl, inr, ℕ, max, Bool, true, false, cond, Option, Some, None, List, ◌∷◌, []}
-use Rattle.std.proofs.Common.{refl, ap, sym, ◌∙◌, Result, Ok, Err}
+use Rattle.std.proofs.Common.{refl, ap, sym, ◌∙◌, Ok, Err}
 use Rattle.std.specs.Prelude.{◌==◌}
-use Rattle.coap_codec.specs.Message.{Message}
-use Rattle.coap_exchange.specs.declared.asker.AskRefusal.{AskRefusal}
 use Rattle.coap_exchange.specs.declared.asker.Event.{Event}
 use Rattle.coap_observe.specs.Newer.{is_newer}
 use Rattle.coap_ends.specs.ClientSide.ClientTrace.{Report, NoIds, Call, Calls, Observes, Cancels, Forgets, Feeds}
 use Rattle.coap_ends.specs.ClientSide.ClientTrace.{Ticks, NextOut, NextReport, Asked}
 use Rattle.coap_ends.specs.ClientSide.ClientOwn.{Transfer, Operation, Calling, Registering, Fetching, Cancelling}
-use Rattle.coap_ends.specs.ClientSide.ClientOwn.{Dropped, Observation, Own}
+use Rattle.coap_ends.specs.ClientSide.ClientOwn.{Dropped, Own}
 use Rattle.coap_ends.specs.ClientSide.ClientObservations.{dropped}
 use Rattle.coap_ends.specs.ClientSide.ClientResponses.{sequence_in}
 use Rattle.coap_ends.specs.ClientSide.ClientReports.{lapse}
@@ -17,7 +15,7 @@ use Rattle.coap_ends.specs.ClientSide.ClientEffects.{Asks, Effect, has_sent}
 use Rattle.coap_ends.specs.ClientSide.ClientEvents.{failed, closed}
 use Rattle.coap_ends.specs.ClientSide.ClientDeeds.{at}
 use Rattle.coap_ends.specs.ClientSide.ClientLaw.{own_of}
-use Rattle.coap_ends.specs.ClientSide.ClientNewer.{Newly, newly, renews, taken_by, notifies}
+use Rattle.coap_ends.specs.ClientSide.ClientNewer.{newly, renews, taken_by, notifies}
 use Rattle.coap_ends.specs.ClientSide.ClientNotified.{is_newly_of}
 use Rattle.coap_ends.specs.ClientSide.ClientValues.{SentSince}
 use Rattle.coap_ends.specs.ClientSide.ClientWords.{Sending, sends, last_sent}

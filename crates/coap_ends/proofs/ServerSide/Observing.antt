@@ -7,4 +7,5 @@ pub mod VersionsRise
 pub mod ToldInOrder
 pub mod EndsObservation
 pub mod ObservationEnds
+pub mod ObservationStays
 pub mod LatestRegistration

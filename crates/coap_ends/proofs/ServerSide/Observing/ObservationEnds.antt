@@ -116,7 +116,7 @@ module _ (limit szx : ℕ) where
   ends_on_request [] = tt
   ends_on_request (c ∷ t) = (ends_here t c, ends_on_request t)
 
-  told_here : (t : List Call) (now w : ℕ) (below : L.Answer) (room : Bool) (d : Due) (passed : ℕ) (o : Observer) (reply : Reply) (id : ℕ) (answer : Bool) → ServerRows limit szx (Ticks now w below room d passed (Notifies o reply) id answer ∷ t)
+  pub told_here : (t : List Call) (now w : ℕ) (below : L.Answer) (room : Bool) (d : Due) (passed : ℕ) (o : Observer) (reply : Reply) (id : ℕ) (answer : Bool) → ServerRows limit szx (Ticks now w below room d passed (Notifies o reply) id answer ∷ t)
       → EndsWith limit szx t (Ticks now w below room d passed (Notifies o reply) id answer) (record { observer = o; reply = reply })
   told_here t now w below room due.Idle passed o reply id answer rows =
       let s : Own = heard (own t) now (ticking (own t) now below room due.Idle) in

@@ -6,6 +6,7 @@ use Rattle.coap_ends.proofs.ServerSide.Serving.ServerReads.{verdicts_read}
 use Rattle.coap_ends.proofs.ServerSide.Serving.ServerWaiting.{ready_are_served, waits_as_deferred}
 use Rattle.coap_ends.proofs.ServerSide.Observing.EndsObservation.{ends_observation, none_continues}
 use Rattle.coap_ends.proofs.ServerSide.Observing.ObservationEnds.{ends_on_request, ends_on_notice}
+use Rattle.coap_ends.proofs.ServerSide.Observing.ObservationStays.{ends_so}
 use Rattle.coap_ends.proofs.ServerSide.Observing.ToldInOrder.{follows}
 use Rattle.coap_ends.proofs.ServerSide.Replying.ResponsesHaveRequests.{sends_responses}
 use Rattle.coap_ends.proofs.ServerSide.Serving.ServedWasHandedUp.{handed_up, blocks_come}
@@ -79,6 +80,9 @@ returns-clause-deregisters c limit szx t = ends_on_request limit szx t
 
 pub returns-clause-gone : goal.returns-clause-gone
 returns-clause-gone c limit szx word t law = ends_on_notice limit szx t law.rows
+
+pub returns-clause-stays : goal.returns-clause-stays
+returns-clause-stays c limit szx word t law = ends_so limit szx t law.rows
 
 pub returns-clause-reads : goal.returns-clause-reads
 returns-clause-reads c = verdicts_read

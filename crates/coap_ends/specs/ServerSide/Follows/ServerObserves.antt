@@ -76,3 +76,15 @@ module _ (limit szx : ℕ) where
 
   abbrev pub EndsOnNotice : List Call → Type 0
   EndsOnNotice t = Always (λ past c. (x : Notice) → notice c ≡ Some x → EndsWith past c x) t
+
+  -- The observation of this endpoint and token ends in this call: by what is told to have ended, a GET with Observe 1, or a notification.
+  pub data Ends (to : Endpoint) (token : List ℕ) (past : List Call) (c : Call) : Type 0 where
+    is_told : (x : Ended) → ends_in (own_of limit szx past) c ≡ Some x → x.observe ≡ true → x.to ≡ to → x.token ≡ token → Ends to token past c
+    cancels : (x : Serving) → serving (own_of limit szx past) c ≡ Some x → observes 1 x.question ≡ true → x.asked.from ≡ to → x.asked.token ≡ token → Ends to token past c
+    is_gone : (x : Notice) → notice c ≡ Some x → x.reply.code ≢ content → x.observer.to ≡ to → x.observer.token ≡ token → Ends to token past c
+
+  -- Nothing else ends it.
+  abbrev pub EndsSo : List Call → Type 0
+  EndsSo t =
+      Always (λ past c.
+      (to : Endpoint) (token : List ℕ) (o : Observer) → registration to token (own_of limit szx past).observers ≡ Some o → registration to token (own_of limit szx (c ∷ past)).observers ≡ None → Ends to token past c) t
