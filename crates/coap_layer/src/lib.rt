@@ -32,6 +32,3 @@ pub use laws::{channel_law, layer_law, sendable_law, sending_law, witness_law};
 pub use layer::Layer;
 pub use message_id::{IdSource, ids_law};
 pub use up::{SendRefusal, Tick, Up};
-
-#[cfg(test)]
-mod tests;

@@ -13,8 +13,6 @@ mod laws;
 mod notice;
 mod observers;
 mod sequence;
-#[cfg(test)]
-mod tests;
 mod watch;
 
 pub use laws::{newer_laws, observer_laws};

@@ -1,5 +1,5 @@
 use Rattle.std.proofs.Common.{◌≡◌, length, ap, arith, refl}
-use Rattle.coap_layer.proofs.tests.sendings.plain_content.Goals as goal
+use Rattle.coap_tests.proofs.layer.sendings.plain_content.Goals as goal
 
 pub plain-requires : goal.plain-requires
 plain-requires g c =

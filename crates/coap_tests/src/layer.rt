@@ -6,7 +6,7 @@ mod message_ids;
 mod sendings;
 mod undo;
 
-use crate::{Content, Datagram, Layer, SendRefusal, sendable_law};
+use coap_layer::{Content, Datagram, Layer, SendRefusal, sendable_law};
 use coap_types::{Code, Endpoint, Id, Moment, Token};
 use std::alloc::{AllocGlobal, Global};
 use std::hash::BuildHasher;

@@ -1,4 +1,4 @@
-use crate::{
+use coap_observe::{
     HALF_RANGE, MAX_OBSERVERS, Notice, Observers, REORDERING_MS, SEQUENCE_BITS, Watch,
     sequence_number,
 };
@@ -67,7 +67,7 @@ fn a_watch_keeps_the_last_newer_number_and_its_moment(rt: HostRuntime) {
     assert!(rt; copy.arrive(Moment(300_000), 11));
     assert!(rt; !watch.is_newer(Moment(257_001), 10));
     assert!(rt; watch.arrive(Moment(257_002), 10));
-    crate::newer_laws();
+    coap_observe::newer_laws();
 }
 
 #[test]
@@ -140,7 +140,7 @@ fn who_is_due_comes_in_order_of_registration(rt: HostRuntime) -> Result<(), Allo
     assert!(rt; !observers.sent(endpoint(2), &token(11)));
     assert!(rt; observers.sent(endpoint(1), &token(11)));
     assert!(rt; observers.due(endpoint(1)).is_none());
-    crate::observer_laws();
+    coap_observe::observer_laws();
     Ok(())
 }
 

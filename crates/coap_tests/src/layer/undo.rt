@@ -1,5 +1,5 @@
 use super::{THERE, confirm_get, is_sent};
-use crate::{Layer, Tick, Up};
+use coap_layer::{Layer, Tick, Up};
 use coap_types::{Id, Moment};
 use std::alloc::{AllocError, AllocGlobal, Global};
 use std::hash::RandomState;

@@ -1,5 +1,5 @@
 use super::{THERE, at_port, is_sent};
-use crate::{Layer, Up};
+use coap_layer::{Layer, Up};
 use coap_types::Moment;
 use std::alloc::{AllocError, AllocGlobal, Global};
 use std::cell::Cell;

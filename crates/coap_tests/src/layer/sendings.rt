@@ -1,5 +1,5 @@
 use super::{THERE, at_port, confirm_get, is_sent};
-use crate::{Content, Layer, SendRefusal, Tick, Up, sendable_law};
+use coap_layer::{Content, Layer, SendRefusal, Tick, Up, sendable_law};
 use coap_types::{Code, Id, Moment, Token};
 use std::alloc::{AllocError, AllocGlobal, Global};
 use std::process::Abort;

@@ -1,4 +1,4 @@
-use crate::IdSource;
+use coap_layer::IdSource;
 use coap_types::{Id, Moment};
 
 #[test]

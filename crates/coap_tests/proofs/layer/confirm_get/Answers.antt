@@ -1,5 +1,5 @@
 use Rattle.std.proofs.Common.{◌≡◌, length, ap, arith, refl}
-use Rattle.coap_layer.proofs.tests.confirm_get.Goals as goal
+use Rattle.coap_tests.proofs.layer.confirm_get.Goals as goal
 
 pub confirm-requires : goal.confirm-requires
 confirm-requires g c =

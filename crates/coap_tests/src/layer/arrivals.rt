@@ -3,7 +3,7 @@ ghost use Rattle.coap_types.specs.declared.limits.TheConstants.{MAX_MESSAGE_LEN 
 
 use super::sendings::plain_content;
 use super::{THERE, confirm_get, is_sent};
-use crate::{Layer, Up};
+use coap_layer::{Layer, Up};
 use coap_types::{Code, Id, Moment};
 use std::alloc::{AllocError, AllocGlobal, Global};
 use std::process::Abort;

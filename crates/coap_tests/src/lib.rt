@@ -1,0 +1,7 @@
+//! Tests of libraries, by their public calls.
+#![tactic(auto)]
+
+#[cfg(test)]
+mod layer;
+#[cfg(test)]
+mod observe;
