@@ -5,3 +5,5 @@
 mod layer;
 #[cfg(test)]
 mod observe;
+#[cfg(test)]
+mod types;

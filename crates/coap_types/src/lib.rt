@@ -6,8 +6,6 @@
 #![tactic(auto)]
 
 mod block;
-#[cfg(test)]
-mod block_tests;
 mod bodies;
 mod direction;
 mod endpoint;
@@ -18,15 +16,11 @@ mod option_rule;
 mod options;
 mod path;
 mod recognised_options;
-#[cfg(test)]
-mod recognised_tests;
 mod recognition;
 mod request;
 mod role;
 mod szx;
 mod tag;
-#[cfg(test)]
-mod tests;
 mod token;
 pub mod transmission;
 mod uint;

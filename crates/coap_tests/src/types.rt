@@ -1,10 +1,13 @@
-use crate::{
+mod block_values;
+mod recognising;
+
+use Occurrence::{Never, Once, Repeatable};
+use bytes::Bytes;
+use coap_types::{
     Code, Endpoint, Id, Kind, Method, Moment, Occurrence, Opt, Path, PathRefusal, Request, Role,
     Rule, Szx, Tag, Tags, Token, appended, option_number, path_law, rule, uint_bytes, uint_laws,
     uint_of,
 };
-use Occurrence::{Never, Once, Repeatable};
-use bytes::Bytes;
 use std::alloc::AllocError;
 use std::hash::{DefaultHasher, Hash, Hasher};
 

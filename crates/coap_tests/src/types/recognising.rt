@@ -1,5 +1,5 @@
-use crate::{Direction, Opt, carries, lacks_critical, recognised, recognised_value};
 use Direction::{Request, Response};
+use coap_types::{Direction, Opt, carries, lacks_critical, recognised, recognised_value};
 use std::alloc::AllocError;
 
 const ZEROS: &[u8] = &[0; 256];

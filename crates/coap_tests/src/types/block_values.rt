@@ -1,4 +1,4 @@
-use crate::{Block, MAX_NUM, Szx, block_law};
+use coap_types::{Block, MAX_NUM, Szx, block_law};
 
 #[test]
 fn a_block_option_is_read(rt: HostRuntime) {
