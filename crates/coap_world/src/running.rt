@@ -30,7 +30,7 @@ use crate::running::ends::{ClientEnd, ServerEnd};
 use crate::running::put_away::put_away;
 use crate::running::step::step;
 use crate::running::stop::Stop;
-use coap_resource::{ListStore, Store};
+use coap_resource::{MapStore, Store};
 pub use config::WorldConfig;
 pub use drain::{CLIENT_END, SERVER_END};
 pub use event::{Event, Side, What};
@@ -111,5 +111,5 @@ pub fn run<A: Allocator + Copy>(
     ensures wrong { (number : ℕ) → result ≡ Err (RunRefusal.NotLegal number)
         → IsFirstWrong config.now (map event_of events.now) number }
 {
-    run_with::<ListStore<A>, A>(events, config)
+    run_with::<MapStore<A>, A>(events, config)
 }

@@ -5,7 +5,7 @@ use crate::commands::ends::{fresh_server, hold};
 use crate::commands::{Status, Stop};
 use crate::put_away::put_away;
 use coap_ends::{End, Server};
-use coap_resource::{ListStore, StoreRefusal};
+use coap_resource::{MapStore, StoreRefusal};
 use coap_types::{Endpoint, Moment, Path};
 use std::alloc::Global;
 use std::hash::{BuildHasherDefault, FoldHasher};
@@ -44,7 +44,7 @@ pub fn answer<W: Write>(
 // Has the server hold the resource, and prints what it replies.
 fn held_reply<W: Write>(
     alloc: Global,
-    server: &mut Server<ListStore, Global>,
+    server: &mut Server<MapStore, Global>,
     path: &Path,
     body: &str,
     datagram: &[u8],
@@ -61,7 +61,7 @@ fn held_reply<W: Write>(
 // Hands the server the datagram, and prints what it sends.
 fn reply<W: Write>(
     alloc: Global,
-    server: &mut Server<ListStore, Global>,
+    server: &mut Server<MapStore, Global>,
     datagram: &[u8],
     out: &mut W,
 ) -> Result<Status, Stop>

@@ -9,7 +9,7 @@ ghost use Rattle.coap_ends.specs.ServerSide.ServerTrace.{Sets};
 
 use crate::commands::Stop;
 use coap_ends::{Client, Server};
-use coap_resource::{ListStore, MAX_CHANGES_PER_WINDOW, Store, StoreRefusal};
+use coap_resource::{MAX_CHANGES_PER_WINDOW, MapStore, Store, StoreRefusal};
 use coap_types::{Endpoint, MAX_SZX, Moment, Path, Szx};
 use std::alloc::Global;
 use std::hash::BuildHasher;
@@ -34,10 +34,10 @@ pub fn fresh_server<H: BuildHasher + Drop>(
     alloc: Global,
     word: u64,
     hasher: H,
-) -> Server<ListStore, Global, H>
+) -> Server<MapStore, Global, H>
     ensures { Led MAX_CHANGES_PER_WINDOW MAX_SZX word [] (state_of content_of result) }
 {
-    let Some(store) = ListStore::new(alloc, MAX_CHANGES_PER_WINDOW) else {
+    let Some(store) = MapStore::new(alloc, MAX_CHANGES_PER_WINDOW) else {
         unreachable!()
     };
     Server::with_hasher(alloc, store, largest_szx(), word, hasher)
@@ -58,7 +58,7 @@ pub fn fresh_client<H: BuildHasher + Drop>(
 /// Has a server that holds nothing hold this text at this path; the refusal of its store where it
 /// doesn't.
 pub fn hold<H: BuildHasher + Drop>(
-    server: &mut Server<ListStore, Global, H>,
+    server: &mut Server<MapStore, Global, H>,
     path: &Path,
     body: &[u8],
 ) -> Result<Option<StoreRefusal>, Stop>

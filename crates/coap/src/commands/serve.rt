@@ -9,7 +9,7 @@ use crate::put_away::put_away;
 use crate::timekeeper::{ProgramTime, Timekeeper};
 use coap_ends::{End, Server};
 use coap_links::{Link, UdpLink, fresh_tally, send_all, serve_turn};
-use coap_resource::ListStore;
+use coap_resource::MapStore;
 use std::alloc::{Allocator, Global};
 use std::hash::{BuildHasher, RandomState};
 use std::io::Write;
@@ -51,7 +51,7 @@ const BODY: &str = "22.3 C";
 // Has the server hold the resource.
 fn hold_resource<H: BuildHasher + Drop>(
     alloc: Global,
-    server: &mut Server<ListStore, Global, H>,
+    server: &mut Server<MapStore, Global, H>,
 ) -> Result<(), Stop> {
     let Ok(path) = path_of_text(alloc, PATH) else {
         return Err(Stop::Memory);
@@ -65,7 +65,7 @@ fn hold_resource<H: BuildHasher + Drop>(
 /// Serves the resource by a server that holds nothing.
 pub(crate) fn serve_resource<H: BuildHasher + Drop, L: Link, T: Timekeeper, W: Write>(
     alloc: Global,
-    server: &mut Server<ListStore, Global, H>,
+    server: &mut Server<MapStore, Global, H>,
     link: &mut L,
     time: &mut T,
     count: u64,
