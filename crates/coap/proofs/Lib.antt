@@ -1,6 +1,1 @@
-pub mod CoapWords
-pub mod Entered
-pub mod FilledRows
-pub mod GivenWords
-pub mod PathTexts
 pub mod Statuses

@@ -5,20 +5,20 @@ use Rattle.std.proofs.lemmas.Slice.Eq.{bytes_eq-Decides}
 use Rattle.clap.specs.Words.{Row, Text, IsAmong, fault_of, first_of}
 use Rattle.coap_types.specs.Path.{HoldsAtMost}
 use Rattle.hex.specs.Hex.{decode_of}
-use Rattle.coap.specs.CommandLine.{coap_app}
+use Rattle.coap_words.specs.CommandLine.{coap_app}
 use Rattle.coap.specs.Statuses.{CarriesOut, Ends, IsAnswered, IsCarriedOut, IsTold, RunsScript, status_number, status_of}
-use Rattle.coap.specs.Numbers.{IsNumber, argument_of, most_of}
-use Rattle.coap.specs.Words.{AsksFor, AsksForIn, Enters, HasBadHex, HasBytes, HasNoBytes, HasNoNumber, HasNoPath, HasNumber, HasPath, HasWord, IsPathFine, IsRefusedBy, IsValue, IsWrong, NamesNoNumber, NamesNoPath, TakesNumber, TakesPath}
+use Rattle.coap_words.specs.Numbers.{IsNumber, argument_of, most_of}
+use Rattle.coap_words.specs.Words.{AsksFor, AsksForIn, Enters, HasBadHex, HasBytes, HasNoBytes, HasNoNumber, HasNoPath, HasNumber, HasPath, HasWord, IsPathFine, IsRefusedBy, IsValue, IsWrong, NamesNoNumber, NamesNoPath, TakesNumber, TakesPath}
 use Rattle.coap.specs.declared.commands.Status.{Status}
 use Rattle.coap.specs.declared.commands.Status.TheVariants as status
 use Rattle.coap.specs.declared.commands.Stop.{Stop}
 use Rattle.coap.specs.declared.commands.Stop.TheVariants as stop
-use Rattle.coap.specs.declared.orders.Order.{Order}
-use Rattle.coap.specs.declared.orders.Order.TheVariants.{Show, Answer, Pair, Serve, Get, Sim}
-use Rattle.coap.specs.declared.orders.NumberRefusal.{NumberRefusal}
-use Rattle.coap.specs.declared.orders.NumberRefusal.TheVariants.{Port, Count, Word}
-use Rattle.coap.specs.declared.orders.Wrong.{Wrong}
-use Rattle.coap.specs.declared.orders.Wrong.TheVariants.{Words, Path, Number, Hex, Memory}
+use Rattle.coap_words.specs.declared.orders.Order.{Order}
+use Rattle.coap_words.specs.declared.orders.Order.TheVariants.{Show, Answer, Pair, Serve, Get, Sim}
+use Rattle.coap_words.specs.declared.orders.NumberRefusal.{NumberRefusal}
+use Rattle.coap_words.specs.declared.orders.NumberRefusal.TheVariants.{Port, Count, Word}
+use Rattle.coap_words.specs.declared.orders.Wrong.{Wrong}
+use Rattle.coap_words.specs.declared.orders.Wrong.TheVariants.{Words, Path, Number, Hex, Memory}
 use Rattle.coap_types.specs.declared.path.PathRefusal.{PathRefusal}
 use Rattle.coap_types.specs.declared.path.TheConstants.{MAX_SEGMENT_LEN as max_segment_len, MAX_SEGMENTS as max_segments}
 
@@ -47,7 +47,7 @@ bytes_or_not v bytes p q = q.2 bytes (subst (λ (t : Text). decode_of t ≡ Ok b
 path_or_not : (v : List Row) (path : List (List ℕ)) (why : PathRefusal) → HasPath v path → HoldsAtMost max_segments max_segment_len path → HasNoPath v why → ⊥
 path_or_not v path why p holds q =
     let same = value_one (codes "PATH") v p.0 q.0 p.1 q.1 in
-    q.2 path (subst (λ (t : Text). Rattle.coap.specs.PathText.IsPathText t path) same p.2) holds
+    q.2 path (subst (λ (t : Text). Rattle.coap_words.specs.PathText.IsPathText t path) same p.2) holds
 
 -- ---- words that ask for an order
 

@@ -1,15 +1,15 @@
 -- How a run of the program ends: its exit status, and which status answers what is wrong in the words.
 use Rattle.std.specs.Prelude.{◌≡◌, ◌⊎◌, ⊤, ℕ, List, Result, Ok, Err, IfOk}
 use Rattle.clap.specs.Words.{Text}
-use Rattle.coap.specs.Words.{AsksFor, IsWrong}
+use Rattle.coap_words.specs.Words.{AsksFor, IsWrong}
 use Rattle.coap.specs.declared.commands.Status.{Status}
 use Rattle.coap.specs.declared.commands.Status.TheVariants as status
 use Rattle.coap.specs.declared.commands.Stop.{Stop}
 use Rattle.coap.specs.declared.commands.Stop.TheVariants as stop
-use Rattle.coap.specs.declared.orders.Order.{Order}
-use Rattle.coap.specs.declared.orders.Order.TheVariants.{Sim}
-use Rattle.coap.specs.declared.orders.Wrong.{Wrong}
-use Rattle.coap.specs.declared.orders.Wrong.TheVariants.{Words, Path, Number, Hex, Memory}
+use Rattle.coap_words.specs.declared.orders.Order.{Order}
+use Rattle.coap_words.specs.declared.orders.Order.TheVariants.{Sim}
+use Rattle.coap_words.specs.declared.orders.Wrong.{Wrong}
+use Rattle.coap_words.specs.declared.orders.Wrong.TheVariants.{Words, Path, Number, Hex, Memory}
 
 abbrev pub status_number : Status → ℕ
 status_number status.Done = 0

@@ -1,11 +1,11 @@
 //! One run of the program, over the writers that it is handed.
 ghost use Rattle.std.specs.Prelude.{◌≡◌, ◌≢◌, ◌≤◌, ◌⊎◌, IfOk, map, string_bytes};
 ghost use Rattle.coap.specs.Statuses.{CarriesOut, Ends, IsAnswered, IsTold, RunsScript, status_number, status_of};
-ghost use Rattle.coap.specs.Words.{AsksFor, IsWrong};
+ghost use Rattle.coap_words.specs.Words.{AsksFor, IsWrong};
 ghost use Rattle.coap.specs.declared.commands.Stop.TheVariants.{Failed, Memory};
-ghost use Rattle.coap.specs.declared.orders.Order.{Order};
-ghost use Rattle.coap.specs.declared.orders.Wrong.{Wrong};
-ghost use Rattle.coap.specs.declared.orders.Wrong.TheVariants as wrongs;
+ghost use Rattle.coap_words.specs.declared.orders.Order.{Order};
+ghost use Rattle.coap_words.specs.declared.orders.Wrong.{Wrong};
+ghost use Rattle.coap_words.specs.declared.orders.Wrong.TheVariants as wrongs;
 
 mod answer;
 mod bearing;
@@ -19,10 +19,9 @@ mod side;
 mod sim;
 mod telling;
 
-use crate::orders::{Order, Wrong};
 use crate::put_away::put_away;
-use crate::words::order;
 use answer::answer;
+use coap_words::{Order, Wrong, order};
 use get::get;
 use pair::pair;
 use serve::serve;

@@ -1,17 +1,14 @@
 //! The program `coap`: a client and a server of CoAP (RFC 7252) on the command line.
 #![tactic(auto)]
 
-pub mod command_line;
 pub mod commands;
-pub mod orders;
-pub mod path_text;
 mod put_away;
 pub mod script;
 mod text;
 pub mod timekeeper;
-pub mod words;
 
 pub use coap_links::{Link, MemoryLink, Pumped, UdpLink, get_turn, pump, serve_turn};
+pub use coap_words::{NumberRefusal, Order, Wrong, order, path_of_text};
 use commands::{command, without_words};
 use std::process::ExitCode;
 use std::rt::Env;

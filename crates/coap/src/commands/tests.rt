@@ -1,5 +1,5 @@
 use super::{Stop, command, refuse, without_words};
-use crate::orders::Wrong;
+use coap_words::Wrong;
 use std::alloc::{AllocError, Global};
 use std::io;
 use std::io::{ErrorKind, Write};

@@ -1,6 +1,6 @@
 //! What the words of the program can ask for, and what can be wrong with them.
 ghost use Rattle.std.specs.Prelude.{◌≡◌};
-ghost use Rattle.coap.specs.Wrongs.{wrong_number};
+ghost use Rattle.coap_words.specs.Wrongs.{wrong_number};
 
 use clap::error::ErrorKind;
 use coap_types::{Path, PathRefusal};
@@ -113,7 +113,7 @@ impl Wrong {
 }
 
 impl From<AllocError> for Wrong {
-    ghost use Rattle.coap.specs.declared.orders.Wrong.{Wrong};
+    ghost use Rattle.coap_words.specs.declared.orders.Wrong.{Wrong};
 
     ghost from_gives = { λ _ wrong. wrong ≡ Wrong.Memory };
 
@@ -123,7 +123,7 @@ impl From<AllocError> for Wrong {
 }
 
 impl From<clap::Error> for Wrong {
-    ghost use Rattle.coap.specs.Wrongs.{IsWrongOfClap};
+    ghost use Rattle.coap_words.specs.Wrongs.{IsWrongOfClap};
 
     ghost from_gives = { IsWrongOfClap };
 
@@ -137,7 +137,7 @@ impl From<clap::Error> for Wrong {
 }
 
 impl From<PathRefusal> for Wrong {
-    ghost use Rattle.coap.specs.Wrongs.{wrong_path};
+    ghost use Rattle.coap_words.specs.Wrongs.{wrong_path};
 
     ghost from_gives = { λ refusal wrong. wrong ≡ wrong_path refusal };
 
@@ -150,7 +150,7 @@ impl From<PathRefusal> for Wrong {
 }
 
 impl From<FromHexError> for Wrong {
-    ghost use Rattle.coap.specs.Wrongs.{wrong_hex};
+    ghost use Rattle.coap_words.specs.Wrongs.{wrong_hex};
 
     ghost from_gives = { λ error wrong. wrong ≡ wrong_hex error };
 

@@ -2,7 +2,7 @@ use Rattle.std.proofs.Common.{◌≡◌, ◌∙◌, sym, ap, option_map}
 use Rattle.clap.specs.Words.{found_of, rows_of, first_of}
 use Rattle.clap.proofs.CallerLemmas.{some_of_text}
 use Rattle.clap.proofs.WalkLemmas.{first_value-rows}
-use Rattle.coap.proofs.words.value.Goals as goal
+use Rattle.coap_words.proofs.words.value.Goals as goal
 
 pub unwrap-requires : goal.unwrap-requires
 unwrap-requires c =

@@ -12,8 +12,8 @@ use Rattle.clap.specs.Faults.{entered_fault, fault_of, other_fault, step_fault, 
 use Rattle.clap.specs.Lexer.{long_of, short_of}
 use Rattle.clap.specs.Simple.{App, Shape, argument_words, built, entered, label_of, names_of, rows_at, subcommand_of}
 use Rattle.clap.specs.declared.error.kind.ErrorKind.TheVariants as kind
-use Rattle.coap.proofs.FilledRows.{find_passes, no_fault}
-use Rattle.coap.proofs.GivenWords.{level_checks}
+use Rattle.coap_words.proofs.FilledRows.{find_passes, no_fault}
+use Rattle.coap_words.proofs.GivenWords.{level_checks}
 
 abbrev is_help : Text → Bool
 is_help name = bytes_eq name (codes "help")

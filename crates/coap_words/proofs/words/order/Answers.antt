@@ -1,6 +1,6 @@
 use Rattle.std.proofs.Common.{refl, inl, inr, codes}
-use Rattle.coap.proofs.CoapWords.{enters_met, ours, said_by, wrong_by, show_hex, answer_hex, answer_path, answer_body, pair_body, pair_path, serve_count, serve_port, get_path, get_port, sim_file}
-use Rattle.coap.proofs.words.order.Goals as goal
+use Rattle.coap_words.proofs.CoapWords.{enters_met, ours, said_by, wrong_by, show_hex, answer_hex, answer_path, answer_body, pair_body, pair_path, serve_count, serve_port, get_path, get_port, sim_file}
+use Rattle.coap_words.proofs.words.order.Goals as goal
 
 pub show_order-requires : goal.show_order-requires
 show_order-requires c =

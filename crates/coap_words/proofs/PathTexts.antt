@@ -9,7 +9,7 @@ use Rattle.std.proofs.lemmas.List.Elements.{All-cons, All-head, All-tail, All-ni
 use Rattle.std.proofs.lemmas.List.Splits.{join_with_byte-slice_split, slice_split_at, slice_split_none}
 use Rattle.coap_types.specs.declared.path.PathRefusal.{PathRefusal}
 use Rattle.coap_types.specs.declared.path.PathRefusal.TheVariants.{SegmentTooLong, TooManySegments, Memory}
-use Rattle.coap.specs.PathText.{IsNoPath, IsPathText, IsTrueOf, Joins, without_leading_slash}
+use Rattle.coap_words.specs.PathText.{IsNoPath, IsPathText, IsTrueOf, Joins, without_leading_slash}
 
 abbrev pub is_slash : ℕ → Bool
 is_slash b = eqb b 47

@@ -3,7 +3,7 @@ use Rattle.std.specs.Borrow.{Bor}
 use Rattle.std.specs.Option.{MatchOption}
 use Rattle.clap.specs.Words.{found_of}
 use Rattle.clap.proofs.WalkLemmas.{first_value-rows}
-use Rattle.coap.proofs.words.optional.Goals as goal
+use Rattle.coap_words.proofs.words.optional.Goals as goal
 
 told : (r : Option (Bor (List ℕ))) (f : Option (List ℕ)) → option_map (λ s. s.now) r ≡ f → MatchOption r (f ≡ None) (λ t. f ≡ Some t.now)
 told None f e = sym e

@@ -14,7 +14,7 @@ use Rattle.clap.specs.Faults.{check_fault, defaults_fault, entered_fault, fault_
 use Rattle.clap.specs.Lexer.{long_of}
 use Rattle.clap.specs.Simple.{App, Shape, argument_words, built, entered, label_of, names_of, rows_at, subcommand_of}
 use Rattle.clap.specs.declared.parser.matches.ValueSource.TheVariants.{DefaultValue}
-use Rattle.coap.proofs.FilledRows.{Filled, feeds, filled_flag_word, filled_positional, filled_settled, filled_with, find_passes, has_some, has_value, no_fault}
+use Rattle.coap_words.proofs.FilledRows.{Filled, feeds, filled_flag_word, filled_positional, filled_settled, filled_with, find_passes, has_some, has_value, no_fault}
 
 -- the subcommand of this name requires the argument of this id, and its arguments leave values
 abbrev pub asks : Text → Text → Shape → Bool

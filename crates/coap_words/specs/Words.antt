@@ -6,16 +6,16 @@ use Rattle.coap_types.specs.Path.{HoldsAtMost}
 use Rattle.coap_types.specs.declared.path.PathRefusal.{PathRefusal}
 use Rattle.coap_types.specs.declared.path.TheConstants.{MAX_SEGMENT_LEN as max_segment_len, MAX_SEGMENTS as max_segments}
 use Rattle.hex.specs.Hex.{decode_of}
-use Rattle.coap.specs.CommandLine.{coap_app}
-use Rattle.coap.specs.Numbers.{IsInRange, IsOutOfRange, argument_of}
-use Rattle.coap.specs.PathText.{IsNoPath, IsPathText, IsTrueOf}
-use Rattle.coap.specs.declared.orders.Order.{Order}
-use Rattle.coap.specs.declared.orders.Order.TheVariants.{Show, Answer, Pair, Serve, Get, Sim}
-use Rattle.coap.specs.declared.orders.NumberRefusal.{NumberRefusal}
-use Rattle.coap.specs.declared.orders.NumberRefusal.TheVariants.{Port, Count, Word}
-use Rattle.coap.specs.declared.orders.TheConstants.{DEFAULT_WORD as default_word}
-use Rattle.coap.specs.declared.orders.Wrong.{Wrong}
-use Rattle.coap.specs.declared.orders.Wrong.TheVariants.{Words, Path, Number, Hex, Memory}
+use Rattle.coap_words.specs.CommandLine.{coap_app}
+use Rattle.coap_words.specs.Numbers.{IsInRange, IsOutOfRange, argument_of}
+use Rattle.coap_words.specs.PathText.{IsNoPath, IsPathText, IsTrueOf}
+use Rattle.coap_words.specs.declared.orders.Order.{Order}
+use Rattle.coap_words.specs.declared.orders.Order.TheVariants.{Show, Answer, Pair, Serve, Get, Sim}
+use Rattle.coap_words.specs.declared.orders.NumberRefusal.{NumberRefusal}
+use Rattle.coap_words.specs.declared.orders.NumberRefusal.TheVariants.{Port, Count, Word}
+use Rattle.coap_words.specs.declared.orders.TheConstants.{DEFAULT_WORD as default_word}
+use Rattle.coap_words.specs.declared.orders.Wrong.{Wrong}
+use Rattle.coap_words.specs.declared.orders.Wrong.TheVariants.{Words, Path, Number, Hex, Memory}
 
 -- clap takes the words, which enter this subcommand, and these are the values of its arguments
 pub record Enters (words : List Text) (subcommand : Text) (values : List Row) : Type 0 where

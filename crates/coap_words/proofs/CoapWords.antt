@@ -6,13 +6,13 @@ use Rattle.std.proofs.lemmas.Slice.Eq.{bytes_eq-Decides}
 use Rattle.clap.proofs.OnLiterals.{clap_on_literals}
 use Rattle.clap.specs.Words.{App, HasMatchesOf, Row, Text, fault_of, is_simple, is_simple_and_free, subcommand_name_of, subcommand_of, subcommand_rows_of}
 use Rattle.clap.specs.declared.parser.matches.ArgMatches.{ArgMatches}
-use Rattle.coap.specs.CommandLine.{coap_app}
-use Rattle.coap.specs.Words.{Enters, IsGiven, IsWrong, IsWrongIn, AsksFor, AsksForIn}
-use Rattle.coap.specs.declared.orders.Order.{Order}
-use Rattle.coap.specs.declared.orders.Wrong.{Wrong}
-use Rattle.coap.specs.declared.orders.Wrong.TheVariants.{Words, Path, Number, Hex, Memory}
-use Rattle.coap.proofs.Entered.{enters}
-use Rattle.coap.proofs.GivenWords.{required_word}
+use Rattle.coap_words.specs.CommandLine.{coap_app}
+use Rattle.coap_words.specs.Words.{Enters, IsGiven, IsWrong, IsWrongIn, AsksFor, AsksForIn}
+use Rattle.coap_words.specs.declared.orders.Order.{Order}
+use Rattle.coap_words.specs.declared.orders.Wrong.{Wrong}
+use Rattle.coap_words.specs.declared.orders.Wrong.TheVariants.{Words, Path, Number, Hex, Memory}
+use Rattle.coap_words.proofs.Entered.{enters}
+use Rattle.coap_words.proofs.GivenWords.{required_word}
 
 -- ---- a name and its rows, where each is known by itself
 

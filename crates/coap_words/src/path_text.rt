@@ -1,7 +1,7 @@
 //! The text of a path.
 ghost use Rattle.std.specs.Prelude.{◌≡◌, ◌⊎◌, ℕ, List, IfOk, IfErr};
 ghost use Rattle.coap_types.specs.Path.{HoldsAtMost};
-ghost use Rattle.coap.specs.PathText.{IsNoPath, IsPathText, IsTrueOf};
+ghost use Rattle.coap_words.specs.PathText.{IsNoPath, IsPathText, IsTrueOf};
 
 use coap_types::{MAX_SEGMENT_LEN, MAX_SEGMENTS, Path, PathRefusal};
 use std::alloc::Global;

@@ -1,0 +1,5 @@
+pub mod CoapWords
+pub mod Entered
+pub mod FilledRows
+pub mod GivenWords
+pub mod PathTexts

@@ -1,0 +1,14 @@
+//! The words of the program `coap`: what they ask for, as `clap` reads them, and what is wrong in
+//! them.
+#![tactic(auto)]
+
+mod command_line;
+mod orders;
+mod path_text;
+mod put_away;
+mod words;
+
+pub use command_line::coap_command;
+pub use orders::{DEFAULT_WORD, NumberRefusal, Order, Wrong};
+pub use path_text::path_of_text;
+pub use words::order;
