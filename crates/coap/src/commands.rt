@@ -205,6 +205,12 @@ mod answer_tests;
 #[cfg(test)]
 mod body_tests;
 #[cfg(test)]
+mod joined_link;
+#[cfg(test)]
+mod pair_tests;
+#[cfg(test)]
+mod program_tests;
+#[cfg(test)]
 mod sim_tests;
 #[cfg(test)]
 mod tests;
