@@ -3,12 +3,12 @@ use super::ends::{fresh_client, fresh_server, hold};
 use super::joined_link::{Failing, JoinedLink, Road, Way};
 use super::pair::pair_over;
 use super::{Stop, close};
-use crate::path_text::path_of_text;
 use crate::timekeeper::Timekeeper;
 use coap_ends::{Client, Report, Server};
 use coap_links::{Link, fresh_tally, get_turn, serve_turn};
-use coap_resource::ListStore;
+use coap_resource::MapStore;
 use coap_types::{Endpoint, Moment, Path};
+use coap_words::path_of_text;
 use std::alloc::{AllocError, Global};
 use std::cell::RefCell;
 use std::collections::VecDeque;
@@ -162,7 +162,7 @@ fn links_that_go_on_failing(rt: HostRuntime) -> Result<(), Fail> {
 // Has the server hold `hi` at the path and the client get it, turn by turn: what the client reports.
 fn get_in_turns<C: Link, S: Link>(
     (client, client_link): (&mut Client<Global>, &mut C),
-    (server, server_link): (&mut Server<ListStore, Global>, &mut S),
+    (server, server_link): (&mut Server<MapStore, Global>, &mut S),
     path: &Path,
 ) -> Result<Option<Report>, Stop> {
     let _refusal = hold(server, path, b"hi")?;
