@@ -12,7 +12,7 @@ use std::hash::{BuildHasherDefault, FoldHasher};
 use std::net::Net;
 use std::process::Abort;
 use std::random::RandomSource;
-use std::rt::Clock as HasClock;
+use std::rt::{Clock as HasClock, Files};
 use std::test::Fail;
 
 const NEAR: Endpoint = Endpoint {
@@ -26,7 +26,7 @@ const FAR: Endpoint = Endpoint {
 };
 
 // A body of so many bytes is put and got back over two sockets.
-fn check_pair<R: Abort + AllocGlobal + Net + HasClock + RandomSource>(
+fn check_pair<R: Abort + AllocGlobal + Files + Net + HasClock + RandomSource>(
     rt: &R,
     path: &str,
     len: usize,
@@ -72,7 +72,7 @@ fn calls_that_a_client_does_not_take(rt: HostRuntime) -> Result<(), Fail> {
 }
 
 // One run ends so at a port that is taken.
-fn check_taken<R: Abort + AllocGlobal + Net + HasClock + RandomSource>(
+fn check_taken<R: Abort + AllocGlobal + Files + Net + HasClock + RandomSource>(
     rt: &R,
     port: u16,
 ) -> Result<(), AllocError> {
