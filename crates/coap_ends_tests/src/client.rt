@@ -3,7 +3,7 @@
 mod answers;
 mod codes;
 mod downloads;
-mod fetches;
+pub(crate) mod fetches;
 mod observations;
 mod refusals;
 mod uploads;

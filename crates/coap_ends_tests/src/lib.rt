@@ -6,6 +6,8 @@ mod client;
 #[cfg(test)]
 mod pair;
 #[cfg(test)]
+mod refused_growths;
+#[cfg(test)]
 mod script;
 #[cfg(test)]
 mod server;

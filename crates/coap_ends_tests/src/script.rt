@@ -43,7 +43,7 @@ mod serving;
 mod words;
 
 use ends::Ends;
-use std::alloc::Global;
+use std::alloc::{Allocator, Global};
 use std::test::Fail;
 use words::cut;
 
@@ -55,38 +55,64 @@ pub(crate) enum End {
 }
 
 /// Carries out each of the scripts, over ends of its own; steps that name no end are of this one.
+/// Memory is ample, and no step wants any.
 pub(crate) fn run(alloc: Global, end: End, scripts: &str) -> Result<(), Fail> {
     for script in scripts.split("\n== ").skip(1) {
-        run_script(alloc, end, script)?;
-    }
-    Ok(())
-}
-
-// Once for each of its rows, or once if it has none.
-fn run_script(alloc: Global, end: End, script: &str) -> Result<(), Fail> {
-    let mut has_rows = false;
-    for line in script.lines() {
-        if let Some(row) = line.strip_prefix("| ") {
-            has_rows = true;
-            run_row(alloc, end, script, row)?;
+        if run_script(alloc, alloc, end, script)? != 0 {
+            return Err(Fail::new("a step wants memory"));
         }
     }
-    if !has_rows {
-        run_row(alloc, end, script, "")?;
-    }
     Ok(())
 }
 
-fn run_row(alloc: Global, end: End, script: &str, row: &str) -> Result<(), Fail> {
+/// The script of this name.
+pub(crate) fn find<'a>(scripts: &'a str, name: &str) -> Result<&'a str, Fail> {
+    for script in scripts.split("\n== ").skip(1) {
+        if cut(script, "\n").0 == name {
+            return Ok(script);
+        }
+    }
+    Err(Fail::new("there is no such script"))
+}
+
+/// Carries out a script, once for each of its rows, or once if it has none, over ends that take their
+/// memory there. A step that wants memory is carried out once more: how many did.
+pub(crate) fn run_script<A: Allocator + Copy>(
+    alloc: Global,
+    memory: A,
+    end: End,
+    script: &str,
+) -> Result<u64, Fail> {
+    let mut wants = None;
+    for line in script.lines() {
+        if let Some(row) = line.strip_prefix("| ") {
+            let more = run_row(alloc, memory, end, script, row)?;
+            wants = Some(more.saturating_add(wants.unwrap_or(0)));
+        }
+    }
+    match wants {
+        Some(wants) => Ok(wants),
+        None => run_row(alloc, memory, end, script, ""),
+    }
+}
+
+fn run_row<A: Allocator + Copy>(
+    alloc: Global,
+    memory: A,
+    end: End,
+    script: &str,
+    row: &str,
+) -> Result<u64, Fail> {
     let (name, steps) = cut(script, "\n");
-    let mut ends = Ends::new(alloc, end, name)?;
+    let mut ends = Ends::new(alloc, memory, end, name)?;
     for line in steps.lines() {
         if is_step(line) {
             let step = filled(alloc, line, row)?;
             ends.run_step(line, step.as_str())?;
         }
     }
-    ends.is_over()
+    ends.is_over()?;
+    Ok(ends.wants)
 }
 
 fn is_step(line: &str) -> bool {

@@ -4,6 +4,6 @@ mod deferring;
 mod ending;
 mod identifiers;
 mod observing;
-mod replies;
-mod storing;
+pub(crate) mod replies;
+pub(crate) mod storing;
 mod uploading;

@@ -3,7 +3,7 @@
 use crate::script::{End, run};
 use std::test::Fail;
 
-const SCRIPTS: &str = "
+pub(crate) const SCRIPTS: &str = "
 == the_rest_of_a_value_is_fetched
 observe 0 /t
 tick 0

@@ -2,7 +2,7 @@
 use crate::script::{End, run};
 use std::test::Fail;
 
-const SCRIPTS: &str = "
+pub(crate) const SCRIPTS: &str = "
 == an_upload_in_the_blocks_of_the_server
 client new szx=3
 server new szx=1

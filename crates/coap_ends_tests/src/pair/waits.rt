@@ -3,7 +3,7 @@
 use crate::script::{End, run};
 use std::test::Fail;
 
-const SCRIPTS: &str = "
+pub(crate) const SCRIPTS: &str = "
 == a_separate_response
 set 0 /t 0 = hi
 delay /t 1000

@@ -5,20 +5,25 @@ use super::words::{cut, first, method_of, path_of, push_tag, text_of};
 use bytes::Bytes;
 use coap_ends::{CallId, CallRefusal};
 use coap_types::{Moment, Request, Tags};
+use std::alloc::Allocator;
 use std::test::Fail;
 
-impl Ends<'_> {
+impl<A: Allocator + Copy> Ends<'_, A> {
     pub(super) fn call(&mut self, words: &str, text: &str, answer: &str) -> Result<(), Fail> {
         let (at, words) = first(words);
         let at = Moment(at.parse()?);
-        let request = self.request_of(words, text)?;
+        let Some(request) = self.request_of(words, text)? else {
+            return self.wants_memory();
+        };
         let taken = self.client.call(at, request);
         self.is_taken(taken, answer)
     }
 
     pub(super) fn observe(&mut self, words: &str, answer: &str) -> Result<(), Fail> {
         let (at, path) = first(words);
-        let path = path_of(self.alloc, path)?;
+        let Some(path) = path_of(self.alloc, self.memory, path)? else {
+            return self.wants_memory();
+        };
         let taken = self.client.observe(Moment(at.parse()?), path);
         self.is_taken(taken, answer)
     }
@@ -31,19 +36,27 @@ impl Ends<'_> {
                 self.is_same("", answer)
             }
             Ok(_) => Err(self.wrong("it has another number")),
+            Err(CallRefusal::Memory) => self.wants_memory(),
             Err(why) => self.is_same(format!(in self.alloc; "{why:?}")?.as_str(), answer),
         }
     }
 
-    fn request_of(&self, words: &str, text: &str) -> Result<Request, Fail> {
+    // None where the memory of the ends is wanting.
+    fn request_of(&self, words: &str, text: &str) -> Result<Option<Request<A>>, Fail> {
         let (method, words) = first(words);
         let (path, options) = first(words);
-        let body = text_of(self.alloc, text)?;
+        let text = text_of(self.alloc, text)?;
+        let Some(path) = path_of(self.alloc, self.memory, path)? else {
+            return Ok(None);
+        };
+        let Ok(body) = Bytes::copy_from_slice(self.memory, text.as_bytes()) else {
+            return Ok(None);
+        };
         let mut request = Request {
             method: method_of(method)?,
-            path: path_of(self.alloc, path)?,
+            path,
             format: None,
-            body: Bytes::copy_from_slice(self.alloc, body.as_bytes())?,
+            body,
             etags: Tags::new(),
             if_match: Tags::new(),
             if_none_match: false,
@@ -52,10 +65,10 @@ impl Ends<'_> {
         for option in options.split(' ') {
             self.put_option(&mut request, option)?;
         }
-        Ok(request)
+        Ok(Some(request))
     }
 
-    fn put_option(&self, request: &mut Request, option: &str) -> Result<(), Fail> {
+    fn put_option(&self, request: &mut Request<A>, option: &str) -> Result<(), Fail> {
         let (name, value) = cut(option, "=");
         match name {
             "" => {}

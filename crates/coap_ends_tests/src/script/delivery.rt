@@ -2,7 +2,7 @@
 use super::ends::Ends;
 use super::words::{CLIENT, SERVER};
 use coap_layer::Datagram;
-use std::alloc::Global;
+use std::alloc::{Allocator, Global};
 use std::test::Fail;
 
 /// The bytes of a datagram, and the port that it came from.
@@ -22,9 +22,9 @@ impl Sent {
     }
 }
 
-impl Ends<'_> {
+impl<A: Allocator + Copy> Ends<'_, A> {
     /// The datagram is what was given out last.
-    pub(super) fn sent(&mut self, datagram: &Datagram<Global>) -> Result<(), Fail> {
+    pub(super) fn sent(&mut self, datagram: &Datagram<A>) -> Result<(), Fail> {
         let is_to_server = datagram.to().port == SERVER;
         self.last = Sent {
             bytes: datagram.bytes().to_vec(self.alloc)?,

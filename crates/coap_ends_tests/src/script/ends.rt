@@ -6,15 +6,19 @@ use coap_ends::{Client, Server};
 use coap_layer::Datagram;
 use coap_resource::{ListStore, MAX_CHANGES_PER_WINDOW, Store};
 use coap_types::{MAX_SZX, Moment, Szx};
-use std::alloc::Global;
+use std::alloc::{AllocError, Allocator, Global};
 use std::test::Fail;
 
 /// Both ends of a script and its name, and the line that it is at.
 #[derive(Drop)]
-pub(super) struct Ends<'a> {
+pub(super) struct Ends<'a, A: Allocator + Copy> {
     pub(super) alloc: Global,
-    pub(super) client: Client<Global>,
-    pub(super) server: Server<ListStore, Global>,
+    /// Where the ends take their memory.
+    pub(super) memory: A,
+    /// How often a step wanted memory.
+    pub(super) wants: u64,
+    pub(super) client: Client<A>,
+    pub(super) server: Server<ListStore<A>, A>,
     /// How many calls and observations the client took.
     pub(super) taken: u64,
     // What each tick and each datagram of an end is handed.
@@ -27,14 +31,16 @@ pub(super) struct Ends<'a> {
     line: &'a str,
 }
 
-impl<'a> Ends<'a> {
+impl<'a, A: Allocator + Copy> Ends<'a, A> {
     /// Both ends, with the word 0, blocks of 1,024 bytes and all the changes that a window can take.
-    pub(super) fn new(alloc: Global, end: End, script: &'a str) -> Result<Self, Fail> {
+    pub(super) fn new(alloc: Global, memory: A, end: End, script: &'a str) -> Result<Self, Fail> {
         let szx = block_size(MAX_SZX)?;
         Ok(Ends {
             alloc,
-            client: Client::new(alloc, endpoint(SERVER), szx, 0),
-            server: server(alloc, MAX_CHANGES_PER_WINDOW, szx, 0)?,
+            memory,
+            wants: 0,
+            client: Client::new(memory, endpoint(SERVER), szx, 0),
+            server: server(memory, MAX_CHANGES_PER_WINDOW, szx, 0)?,
             taken: 0,
             client_word: 0,
             server_word: 0,
@@ -50,7 +56,7 @@ impl<'a> Ends<'a> {
     pub(super) fn run_step(&mut self, line: &'a str, step: &str) -> Result<(), Fail> {
         self.line = line;
         let Some(times) = step.strip_prefix("times ") else {
-            return self.carry_out(step);
+            return self.carry_through(step);
         };
         let (counts, steps) = cut(times, ": ");
         let (from, to) = cut(counts, "..");
@@ -65,8 +71,24 @@ impl<'a> Ends<'a> {
     fn run_counted(&mut self, steps: &str, count: u64) -> Result<(), Fail> {
         for step in steps.split("; ") {
             let step = counted(self.alloc, step, count)?;
-            self.carry_out(step.as_str())?;
+            self.carry_through(step.as_str())?;
         }
+        Ok(())
+    }
+
+    // Carries out a step, and once more where it wanted memory.
+    fn carry_through(&mut self, step: &str) -> Result<(), Fail> {
+        let before = self.wants;
+        self.carry_out(step)?;
+        if self.wants == before {
+            return Ok(());
+        }
+        self.carry_out(step)
+    }
+
+    /// The step wants memory: it is counted, and nothing more comes of the step.
+    pub(super) fn wants_memory(&mut self) -> Result<(), Fail> {
+        self.wants = self.wants.saturating_add(1);
         Ok(())
     }
 
@@ -156,11 +178,11 @@ impl<'a> Ends<'a> {
         match self.end {
             End::Client => {
                 self.client_word = word;
-                self.client = Client::new(self.alloc, endpoint(SERVER), szx, word);
+                self.client = Client::new(self.memory, endpoint(SERVER), szx, word);
             }
             End::Server => {
                 self.server_word = word;
-                self.server = server(self.alloc, changes, szx, word)?;
+                self.server = server(self.memory, changes, szx, word)?;
             }
         }
         Ok(())
@@ -175,24 +197,29 @@ impl<'a> Ends<'a> {
 
     pub(super) fn feed(&mut self, at: u64, port: u16, bytes: &[u8]) -> Result<(), Fail> {
         self.is_quiet()?;
-        if is_of_client(port) {
-            self.client
-                .feed(Moment(at), endpoint(port), bytes, self.client_word)?;
+        let from = endpoint(port);
+        let taken = if is_of_client(port) {
+            self.client.feed(Moment(at), from, bytes, self.client_word)
         } else {
-            self.server
-                .feed(Moment(at), endpoint(port), bytes, self.server_word)?;
+            self.server.feed(Moment(at), from, bytes, self.server_word)
+        };
+        match taken {
+            Ok(()) => Ok(()),
+            Err(AllocError) => self.wants_memory(),
         }
-        Ok(())
     }
 
     pub(super) fn tick(&mut self, words: &str, wanted: &str) -> Result<(), Fail> {
         self.is_quiet()?;
         let at = Moment(words.parse()?);
         let did = match self.end {
-            End::Client => self.client.tick(at, self.client_word)?,
-            End::Server => self.server.tick(at, self.server_word)?,
+            End::Client => self.client.tick(at, self.client_word),
+            End::Server => self.server.tick(at, self.server_word),
         };
-        self.is_same(if did { "done" } else { "idle" }, wanted)
+        match did {
+            Ok(did) => self.is_same(if did { "done" } else { "idle" }, wanted),
+            Err(AllocError) => self.wants_memory(),
+        }
     }
 
     fn out(&mut self, words: &str) -> Result<(), Fail> {
@@ -210,12 +237,7 @@ impl<'a> Ends<'a> {
     }
 
     // It is kept as what was given out last.
-    fn is_datagram(
-        &mut self,
-        datagram: &Datagram<Global>,
-        port: u16,
-        hex: &str,
-    ) -> Result<(), Fail> {
+    fn is_datagram(&mut self, datagram: &Datagram<A>, port: u16, hex: &str) -> Result<(), Fail> {
         let came = hex::encode(self.alloc, datagram.bytes())?;
         let wanted = hex_of(self.alloc, hex)?;
         self.is_same(came.as_str(), wanted.as_str())?;
@@ -235,14 +257,14 @@ fn block_size(szx: u8) -> Result<Szx, Fail> {
 }
 
 // A server that holds nothing, where a window takes so many changes.
-fn server(
-    alloc: Global,
+fn server<A: Allocator + Copy>(
+    memory: A,
     changes: u32,
     szx: Szx,
     word: u64,
-) -> Result<Server<ListStore, Global>, Fail> {
-    match ListStore::new(alloc, changes) {
-        Some(store) => Ok(Server::new(alloc, store, szx, word)),
+) -> Result<Server<ListStore<A>, A>, Fail> {
+    match ListStore::new(memory, changes) {
+        Some(store) => Ok(Server::new(memory, store, szx, word)),
         None => Err(Fail::new("a window takes 1 change at least")),
     }
 }

@@ -1,11 +1,11 @@
 //! Reports in words.
 use coap_ends::{Fetched, Report};
 use coap_types::{Code, Tag};
-use std::alloc::Global;
+use std::alloc::{Allocator, Global};
 use std::test::Fail;
 
 /// What is said of a report beside its body.
-pub(super) fn head_of(alloc: Global, report: &Report<Global>) -> Result<String, Fail> {
+pub(super) fn head_of<A: Allocator>(alloc: Global, report: &Report<A>) -> Result<String, Fail> {
     Ok(match report {
         Report::Body(fetched) => {
             let held = held_of(alloc, fetched)?;
@@ -26,7 +26,7 @@ pub(super) fn head_of(alloc: Global, report: &Report<Global>) -> Result<String, 
     })
 }
 
-fn word_of(report: &Report<Global>) -> &'static str {
+fn word_of<A: Allocator>(report: &Report<A>) -> &'static str {
     match report {
         Report::Cancelled => "cancelled",
         Report::Timeout => "timeout",
@@ -54,7 +54,7 @@ fn tag_text(alloc: Global, tag: &Option<Tag>) -> Result<String, Fail> {
     }
 }
 
-fn held_of(alloc: Global, fetched: &Fetched<Global>) -> Result<String, Fail> {
+fn held_of<A: Allocator>(alloc: Global, fetched: &Fetched<A>) -> Result<String, Fail> {
     let tag = tag_text(alloc, &fetched.tag)?;
     match fetched.format {
         Some(format) => Ok(format!(in alloc; "{tag} {format}")?),
@@ -63,7 +63,7 @@ fn held_of(alloc: Global, fetched: &Fetched<Global>) -> Result<String, Fail> {
 }
 
 /// The body of a report.
-pub(super) fn body_of(report: &Report<Global>) -> &[u8] {
+pub(super) fn body_of<A: Allocator>(report: &Report<A>) -> &[u8] {
     match report {
         Report::Body(fetched) => fetched.body.as_slice(),
         Report::Value(_, fetched) => fetched.body.as_slice(),

@@ -4,13 +4,16 @@ use super::ends::Ends;
 use super::words::{CLIENT, SERVER, path_of};
 use coap_ends::Report;
 use coap_types::{Code, Moment};
+use std::alloc::Allocator;
 use std::test::Fail;
 
-impl Ends<'_> {
+impl<A: Allocator + Copy> Ends<'_, A> {
     /// `t` is changed so often, and each time the notification is acknowledged.
     pub(super) fn notified(&mut self, count: &str) -> Result<(), Fail> {
         let count: u32 = count.parse()?;
-        let path = path_of(self.alloc, "/t")?;
+        let Some(path) = path_of(self.alloc, self.memory, "/t")? else {
+            return self.wants_memory();
+        };
         for _ in 0..count {
             let _version = self.server.set(Moment(0), &path, Some(0), b"x")?;
             self.tick("0", "done")?;

@@ -1,10 +1,13 @@
 //! The steps of the server's own side, and what it shows.
 use super::ends::Ends;
 use super::words::{bytes_of, endpoint, first, format_of, method_of, path_of, port_of, text_of};
+use coap_ends::DelayRefusal;
+use coap_resource::StoreRefusal;
 use coap_types::Moment;
+use std::alloc::Allocator;
 use std::test::Fail;
 
-impl Ends<'_> {
+impl<A: Allocator + Copy> Ends<'_, A> {
     pub(super) fn serve(
         &mut self,
         verb: &str,
@@ -26,7 +29,9 @@ impl Ends<'_> {
         self.is_quiet()?;
         let (at, words) = first(words);
         let (path, format) = first(words);
-        let path = path_of(self.alloc, path)?;
+        let Some(path) = path_of(self.alloc, self.memory, path)? else {
+            return self.wants_memory();
+        };
         let body = text_of(self.alloc, text)?;
         let at = Moment(at.parse()?);
         match self
@@ -34,6 +39,7 @@ impl Ends<'_> {
             .set(at, &path, format_of(format)?, body.as_bytes())
         {
             Ok(_version) => self.is_same("", answer),
+            Err(StoreRefusal::Memory) => self.wants_memory(),
             Err(why) => self.is_same(format!(in self.alloc; "{why:?}")?.as_str(), answer),
         }
     }
@@ -41,26 +47,34 @@ impl Ends<'_> {
     fn remove(&mut self, words: &str, answer: &str) -> Result<(), Fail> {
         self.is_quiet()?;
         let (at, path) = first(words);
-        let path = path_of(self.alloc, path)?;
+        let Some(path) = path_of(self.alloc, self.memory, path)? else {
+            return self.wants_memory();
+        };
         match self.server.remove(Moment(at.parse()?), &path) {
             Ok(true) => self.is_same("", answer),
             Ok(false) => self.is_same("nothing", answer),
+            Err(StoreRefusal::Memory) => self.wants_memory(),
             Err(why) => self.is_same(format!(in self.alloc; "{why:?}")?.as_str(), answer),
         }
     }
 
     fn delay(&mut self, words: &str, answer: &str) -> Result<(), Fail> {
         let (path, ms) = first(words);
-        let path = path_of(self.alloc, path)?;
+        let Some(path) = path_of(self.alloc, self.memory, path)? else {
+            return self.wants_memory();
+        };
         match self.server.set_delay(&path, ms.parse()?) {
             Ok(()) => self.is_same("", answer),
+            Err(DelayRefusal::Memory) => self.wants_memory(),
             Err(why) => self.is_same(format!(in self.alloc; "{why:?}")?.as_str(), answer),
         }
     }
 
-    fn holds(&self, words: &str, text: &str) -> Result<(), Fail> {
+    fn holds(&mut self, words: &str, text: &str) -> Result<(), Fail> {
         let (path, words) = first(words);
-        let path = path_of(self.alloc, path)?;
+        let Some(path) = path_of(self.alloc, self.memory, path)? else {
+            return self.wants_memory();
+        };
         let Some(held) = self.server.get(&path) else {
             return self.is_same("nothing", words);
         };
@@ -76,7 +90,7 @@ impl Ends<'_> {
         Ok(())
     }
 
-    fn applied(&self, words: &str) -> Result<(), Fail> {
+    fn applied(&mut self, words: &str) -> Result<(), Fail> {
         let Some(applied) = self.server.applied() else {
             return self.is_same("nothing", words);
         };
@@ -85,9 +99,12 @@ impl Ends<'_> {
         let (path, words) = first(words);
         let (token, version) = first(words);
         let version: u64 = version.parse()?;
+        let Some(path) = path_of(self.alloc, self.memory, path)? else {
+            return self.wants_memory();
+        };
         if applied.from != endpoint(port_of(port)?)
             || applied.method != method_of(method)?
-            || applied.path != path_of(self.alloc, path)?
+            || applied.path != path
             || applied.token.as_slice() != bytes_of(self.alloc, token)?.as_slice()
             || applied.version != version
         {

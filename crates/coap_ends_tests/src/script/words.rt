@@ -1,6 +1,6 @@
 //! What the words of a step mean.
-use coap_types::{Endpoint, Method, Path, Tag, Tags};
-use std::alloc::Global;
+use coap_types::{Endpoint, Method, Path, PathRefusal, Tag, Tags};
+use std::alloc::{Allocator, Global};
 use std::test::Fail;
 
 /// The ports of the server and of a third party; any other is that of a client.
@@ -106,24 +106,32 @@ pub(super) fn bytes_of(alloc: Global, text: &str) -> Result<Vec<u8>, Fail> {
 }
 
 /// The path whose segments have a `/` before each; `/` alone is that of no segment. A segment that
-/// begins with `%` is in hex.
-pub(super) fn path_of(alloc: Global, text: &str) -> Result<Path, Fail> {
-    let mut path = Path::new(alloc);
+/// begins with `%` is in hex. None where this memory is wanting.
+pub(super) fn path_of<A: Allocator + Copy>(
+    alloc: Global,
+    memory: A,
+    text: &str,
+) -> Result<Option<Path<A>>, Fail> {
+    let mut path = Path::new(memory);
     if text == "/" {
-        return Ok(path);
+        return Ok(Some(path));
     }
     for word in text.split('/').skip(1) {
-        push_segment(alloc, &mut path, word)?;
+        let segment = segment_of(alloc, word)?;
+        match path.push(segment.as_slice()) {
+            Ok(()) => {}
+            Err(PathRefusal::Memory) => return Ok(None),
+            Err(why) => return Err(Fail::from(why)),
+        }
     }
-    Ok(path)
+    Ok(Some(path))
 }
 
-fn push_segment(alloc: Global, path: &mut Path, word: &str) -> Result<(), Fail> {
+fn segment_of(alloc: Global, word: &str) -> Result<Vec<u8>, Fail> {
     match word.strip_prefix('%') {
-        Some(hex) => path.push(bytes_of(alloc, hex)?.as_slice())?,
-        None => path.push(text_of(alloc, word)?.as_bytes())?,
+        Some(hex) => bytes_of(alloc, hex),
+        None => Ok(text_of(alloc, word)?.into_bytes()),
     }
-    Ok(())
 }
 
 /// Adds an entity-tag, in hex.

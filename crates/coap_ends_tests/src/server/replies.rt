@@ -2,7 +2,7 @@
 use crate::script::{End, run};
 use std::test::Fail;
 
-const SCRIPTS: &str = "
+pub(crate) const SCRIPTS: &str = "
 == a_resource_is_read
 set 0 /temperature 0 = 22.3 C
 feed 0 C $1

@@ -2,7 +2,7 @@
 use crate::script::{End, run};
 use std::test::Fail;
 
-const SCRIPTS: &str = "
+pub(crate) const SCRIPTS: &str = "
 == a_repeated_post_is_applied_once
 set 0 /log 0 = x
 feed 0 C 41020a0101b36c6f67ff61
