@@ -24,6 +24,7 @@ pub mod TimesOut
 pub mod LateTurns
 pub mod HoldsBack
 pub mod CompletesLate
+pub mod RefusesUpload
 pub mod Interferes
 pub mod Exhausts
 pub mod Pings

@@ -24,4 +24,5 @@ pub mod Rising
 pub mod ObservationRuns
 pub mod BlockRuns
 pub mod LateRuns
+pub mod RefusedRuns
 pub mod Run

@@ -7,6 +7,7 @@ ghost use Rattle.coap_world.specs.CallRuns.{Queues, Matches, Validates, Exhausts
 ghost use Rattle.coap_world.specs.ObservationRuns.{Watches, Observed, Crosses, Reorders};
 ghost use Rattle.coap_world.specs.BlockRuns.{Uploads, Changes};
 ghost use Rattle.coap_world.specs.LateRuns.{HoldsBack, CompletesLate};
+ghost use Rattle.coap_world.specs.RefusedRuns.{RefusesUpload};
 
 /// There are records: what the laws say of legal runs, they say of each list of events that are legal one after the
 /// other.
@@ -46,6 +47,8 @@ pub fn witness_law()
     ensures reorders { Reorders }
     // A PUT sends its body in two blocks, and is applied whole (RFC 7959, section 2.5).
     ensures uploads { Uploads }
+    // A PUT in two blocks whose If-Match fails is refused with 4.12, and changes nothing (RFC 7252, section 5.10.8.1).
+    ensures refuses_upload { RefusesUpload }
     // A GET of a body that changes between its blocks is begun anew (RFC 7959, section 2.4).
     ensures changes { Changes }
     // A POST that comes four times in EXCHANGE_LIFETIME is applied once, and 1 ms later anew (RFC 7252, section 4.5).

@@ -11,6 +11,7 @@ use Rattle.coap_world.proofs.Witness.Rejects.{rejected}
 use Rattle.coap_world.proofs.Witness.Reorders.{reordered}
 use Rattle.coap_world.proofs.Witness.Changes.{changed}
 use Rattle.coap_world.proofs.Witness.Uploads.{uploaded}
+use Rattle.coap_world.proofs.Witness.RefusesUpload.{upload_refused}
 use Rattle.coap_world.proofs.Witness.Repeats.{repeated}
 use Rattle.coap_world.proofs.Witness.TimesOut.{timed_out}
 use Rattle.coap_world.proofs.Witness.HoldsBack.{held_back}
@@ -61,6 +62,9 @@ returns-clause-changes c = changed
 
 pub returns-clause-uploads : goal.returns-clause-uploads
 returns-clause-uploads c = uploaded
+
+pub returns-clause-refuses_upload : goal.returns-clause-refuses_upload
+returns-clause-refuses_upload c = upload_refused
 
 pub returns-clause-repeats : goal.returns-clause-repeats
 returns-clause-repeats c = repeated
