@@ -104,7 +104,8 @@ impl<A: Allocator + Copy, H: BuildHasher> Client<A, H> {
         }
     }
 
-    /// Takes a datagram that arrived. After an `Err` the client is as before.
+    /// Takes a datagram that arrived at this moment, in milliseconds (RFC 7252, sections 4.2 and 5.3.2).
+    /// The word picks the initial timeout of what is sent. After an `Err` the client is as before.
     pub fn feed(
         &mut self,
         now: Moment,
@@ -136,6 +137,19 @@ impl<A: Allocator + Copy, H: BuildHasher> Client<A, H> {
     /// number of a refusal is answered, and `Memory` only where none other holds (the bounds are a
     /// profile). After `Memory` the client is as before; after another refusal its moment has counted
     /// alone.
+    ///
+    /// ```
+    /// let id = client.call(now, request)?;
+    /// while client.tick(now, word)? {}
+    /// while let Some(datagram) = client.next_out() {
+    ///     send(datagram.to(), datagram.bytes());
+    /// }
+    /// // .. and what arrives is fed, until
+    /// if let Some((of, Report::Body(fetched))) = client.next_report() {
+    ///     // of == id
+    ///     print(fetched.body.as_slice());
+    /// }
+    /// ```
     pub fn call(&mut self, now: Moment, request: Request<A>) -> Result<CallId, CallRefusal>
         ensures step { result ≢ Err refusals.Memory
             → Step self.old (Calls now.0 (shown_request request) (number_of result)) self.new }
@@ -184,9 +198,11 @@ impl<A: Allocator + Copy, H: BuildHasher> Client<A, H> {
         forgetting::forget(&mut self.asker, &mut self.held, id)
     }
 
-    /// Does the first that is due: an exchange that failed, a retransmission, the end of a wait, the
-    /// start of a fetch or of what waits; whether something was (RFC 7252, sections 4.2, 4.7 and
-    /// 5.2.2). After an `Err` the client is as before.
+    /// Does the first that is due at this moment, in milliseconds: an exchange that failed, a
+    /// retransmission, the end of a wait, the start of a fetch or of what waits; whether something was
+    /// (RFC 7252, sections 4.2, 4.7 and 5.2.2). The word picks the initial timeout of what is sent.
+    /// Call it until it answers false: it does at most as often as much is due. After an `Err` the
+    /// client is as before.
     pub fn tick(&mut self, now: Moment, word: u64) -> Result<bool, AllocError>
         ensures step { IfOk result (λ did. (below : L.Answer) × (due : Turn) × (sent : L.Answer) × (token : Result (List ℕ) AskRefusal)
             × (kept : Bool) × Step self.old (Ticks now.0 word below due sent token kept did) self.new) }

@@ -115,8 +115,17 @@ impl<S: Store<A>, A: Allocator + Copy, H: BuildHasher> Server<S, A, H> {
         }
     }
 
-    /// Takes a datagram that arrived: a request is answered, deferred or passed over, what a Reset
-    /// ends is no longer observed (RFC 7252, section 5.2; RFC 7641, section 4.5).
+    /// Takes a datagram that arrived at this moment, in milliseconds: a request is answered, deferred
+    /// or passed over, what a Reset ends is no longer observed (RFC 7252, section 5.2; RFC 7641,
+    /// section 4.5). After an `Err` the server is as before, and the datagram counts as lost.
+    ///
+    /// ```
+    /// server.set(now, &path, Some(TEXT_PLAIN), b"22.3 C")?;
+    /// server.feed(now, from, datagram, word)?;
+    /// while let Some(reply) = server.next_out() {
+    ///     send(reply.to(), reply.bytes());
+    /// }
+    /// ```
     pub fn feed(
         &mut self,
         now: Moment,
@@ -138,9 +147,11 @@ impl<S: Store<A>, A: Allocator + Copy, H: BuildHasher> Server<S, A, H> {
         feed_parts(&mut self.parts, now, from, bytes)
     }
 
-    /// Does the first that is due: the failure of a response, which ends an observation, a
-    /// retransmission, the response to a deferred request, a notification; whether something was (RFC
-    /// 7252, sections 4.2 and 5.2.2; RFC 7641, section 4.5). After an `Err` the server is as before.
+    /// Does the first that is due at this moment, in milliseconds: the failure of a response, which
+    /// ends an observation, a retransmission, the response to a deferred request, a notification;
+    /// whether something was (RFC 7252, sections 4.2 and 5.2.2; RFC 7641, section 4.5). The word picks
+    /// the initial timeout of what is sent. Call it until it answers false. After an `Err` the server
+    /// is as before.
     pub fn tick(&mut self, now: Moment, word: u64) -> Result<bool, AllocError>
         ensures step { IfOk result (λ did. (done : below.Answer) × (room : Bool) × (due : Due) × (passed : ℕ)
             × (h : Handling) × (id : ℕ)
@@ -162,8 +173,9 @@ impl<S: Store<A>, A: Allocator + Copy, H: BuildHasher> Server<S, A, H> {
         tick_parts(&mut self.parts, now, word)
     }
 
-    /// Puts a body in place of what the path holds, and marks its observers; answers the version.
-    /// After `Memory` nothing changed; after another refusal its moment has counted alone.
+    /// Puts a body of at most `MAX_BODY_LEN` bytes, of that Content-Format (RFC 7252, section 12.3), in
+    /// place of what the path holds, and marks its observers; answers the version. After `Memory`
+    /// nothing changed; after another refusal its moment has counted alone.
     pub fn set(
         &mut self,
         now: Moment,

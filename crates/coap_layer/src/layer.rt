@@ -114,7 +114,19 @@ impl<A: Allocator + Copy, S: BuildHasher> Layer<A, S> {
 
     /// Takes a datagram that arrived, and says what becomes of it (RFC 7252, sections 4.2, 4.3 and
     /// 4.5). To what is handed up, `reply` or `plain` may be called, which is not refused memory
-    /// then.
+    /// then. After an `Err` the layer is as before.
+    ///
+    /// A server that answers each request with the same acknowledgement, 2.03 with no payload:
+    ///
+    /// ```
+    /// if let Up::Request { message, remembered: true } = layer.receive(now, from, datagram)? {
+    ///     let [high, low] = message.id().0.to_be_bytes();
+    ///     layer.reply(from, message.id(), &[0x60, 0x43, high, low]);
+    /// }
+    /// while let Some(datagram) = layer.next_out() {
+    ///     send(datagram.to(), datagram.bytes());
+    /// }
+    /// ```
     pub fn receive<'d>(
         &mut self,
         now: Moment,
@@ -182,7 +194,12 @@ impl<A: Allocator + Copy, S: BuildHasher> Layer<A, S> {
     }
 
     /// Sends a Confirmable message, and answers its Message ID (RFC 7252, section 4.2). The word
-    /// picks the initial timeout: `ACK_TIMEOUT_MS` and `word` mod `TIMEOUT_VALUES`.
+    /// picks the initial timeout in milliseconds: `ACK_TIMEOUT_MS` and `word` mod `TIMEOUT_VALUES`.
+    ///
+    /// It is refused with `Outstanding` where a Confirmable message to that endpoint is outstanding
+    /// (NSTART is 1: section 4.7), else with `NoIds` where no Message ID is free (section 4.4), else
+    /// with `Memory` where an allocation was refused. After `Memory` the layer is as before, after
+    /// another refusal its moment has counted alone.
     pub fn confirm(
         &mut self,
         now: Moment,
@@ -220,6 +237,10 @@ impl<A: Allocator + Copy, S: BuildHasher> Layer<A, S> {
     }
 
     /// Sends a Non-confirmable message, and answers its Message ID (RFC 7252, section 4.3).
+    ///
+    /// It is refused with `NoIds` where no Message ID is free (section 4.4), else with `Memory` where
+    /// an allocation was refused; never with `Outstanding`. After `Memory` the layer is as before,
+    /// after `NoIds` its moment has counted alone.
     pub fn plain(
         &mut self,
         now: Moment,
@@ -351,7 +372,7 @@ impl<A: Allocator + Copy, S: BuildHasher> Layer<A, S> {
     }
 
     /// Does one step that is due: a retransmission, or the failure of one (RFC 7252, section 4.2).
-    /// Where nothing is due, it takes no memory.
+    /// Where nothing is due, it takes no memory. After an `Err` the layer is as before.
     pub fn tick(&mut self, now: Moment) -> Result<Tick, AllocError>
         ensures step { IfOk result (λ tick. (answer : Answer) × IsTick tick answer
             × Moves self.old now.0 Ticks answer self.new) }
