@@ -1,15 +1,7 @@
 //! The program `coap`: a client and a server of CoAP (RFC 7252) on the command line.
 #![tactic(auto)]
 
-pub mod commands;
-mod put_away;
-pub mod script;
-mod text;
-pub mod timekeeper;
-
-pub use coap_links::{Link, MemoryLink, Pumped, UdpLink, get_turn, pump, serve_turn};
-pub use coap_words::{NumberRefusal, Order, Wrong, order, path_of_text};
-use commands::{command, without_words};
+use coap_commands::{command, without_words};
 use std::process::ExitCode;
 use std::rt::Env;
 use std::{env, io};

@@ -1,5 +1,0 @@
-use Rattle.std.proofs.Common.{length}
-use Rattle.coap.proofs.commands.answer.print_sent.Given as goal
-
-abbrev pub decreases-loop-datagram : goal.decreases-loop-datagram
-decreases-loop-datagram g l = length (g.E.End.waiting (g.E.End.state l.server))

@@ -1,0 +1,65 @@
+-- How a run of the program ends: its exit status, and which status answers what is wrong in the words.
+use Rattle.std.specs.Prelude.{◌≡◌, ◌⊎◌, ⊤, ℕ, List, Result, Ok, Err, IfOk}
+use Rattle.clap.specs.Words.{Text}
+use Rattle.coap_words.specs.Words.{AsksFor, IsWrong}
+use Rattle.coap_commands.specs.declared.status.Status.{Status}
+use Rattle.coap_commands.specs.declared.status.Status.TheVariants as status
+use Rattle.coap_commands.specs.declared.status.Stop.{Stop}
+use Rattle.coap_commands.specs.declared.status.Stop.TheVariants as stop
+use Rattle.coap_words.specs.declared.orders.Order.{Order}
+use Rattle.coap_words.specs.declared.orders.Order.TheVariants.{Sim}
+use Rattle.coap_words.specs.declared.orders.Wrong.{Wrong}
+use Rattle.coap_words.specs.declared.orders.Wrong.TheVariants.{Words, Path, Number, Hex, Memory}
+
+abbrev pub status_number : Status → ℕ
+status_number status.Done = 0
+status_number status.Refused = 1
+status_number status.Words = 2
+status_number status.Failed = 3
+status_number status.Memory = 4
+
+-- the status of a run that came to its end, or stopped
+abbrev pub status_of : Result Status Stop → Status
+status_of (Ok s) = s
+status_of (Err stop.Failed) = status.Failed
+status_of (Err stop.Memory) = status.Memory
+
+-- what an order comes to that is carried out to its end, where it runs no script
+abbrev pub IsCarriedOut : Status → Type 0
+IsCarriedOut s = (s ≡ status.Done) ⊎ (s ≡ status.Refused)
+
+-- what a script comes to that is in a file which can be read: it may be one that can't be read as a script
+abbrev pub IsOfScript : Status → Type 0
+IsOfScript s = (s ≡ status.Done) ⊎ ((s ≡ status.Refused) ⊎ (s ≡ status.Words))
+
+-- the order runs a script
+abbrev pub RunsScript : Order → Type 0
+RunsScript (Sim file) = ⊤
+RunsScript _ = ⊥
+
+-- what this order comes to, carried out to its end
+abbrev pub CarriesOut : Order → Status → Type 0
+CarriesOut (Sim file) s = IsOfScript s
+CarriesOut _ s = IsCarriedOut s
+
+-- what telling of a wrong comes to: bad hex is told on standard output, which may fail
+abbrev pub IsTold : Wrong → Result Status Stop → Type 0
+IsTold (Words error) ended = ended ≡ Ok status.Words
+IsTold (Path refusal) ended = ended ≡ Ok status.Words
+IsTold (Number refusal) ended = ended ≡ Ok status.Words
+IsTold Hex ended = (ended ≡ Ok status.Words) ⊎ (ended ≡ Err stop.Failed)
+IsTold Memory ended = ended ≡ Err stop.Memory
+
+-- What is wrong in the words is answered so: 2, or 4 where memory is refused; where bad hex can't be printed, 3. Want of memory says
+-- nothing of the words.
+abbrev pub IsAnswered : Wrong → ℕ → Type 0
+IsAnswered (Words error) n = (n ≡ 2) ⊎ (n ≡ 4)
+IsAnswered (Path refusal) n = (n ≡ 2) ⊎ (n ≡ 4)
+IsAnswered (Number refusal) n = (n ≡ 2) ⊎ (n ≡ 4)
+IsAnswered Hex n = (n ≡ 2) ⊎ ((n ≡ 3) ⊎ (n ≡ 4))
+IsAnswered Memory n = ⊤
+
+-- a run: the words ask for an order, or something is wrong with them, and it ends so
+abbrev pub Ends : List Text → Result Status Stop → Type 0
+Ends words ended = ((order : Order) × AsksFor words order × IfOk ended (CarriesOut order))
+    ⊎ ((wrong : Wrong) × IsWrong words wrong × IsTold wrong ended)

@@ -1,0 +1,100 @@
+ghost use Rattle.std.specs.Prelude.{◌≡◌, IfOk};
+ghost use Rattle.coap_commands.specs.Statuses.{IsCarriedOut};
+
+use crate::ends::{fresh_server, hold};
+use crate::put_away::put_away;
+use crate::status::{Status, Stop};
+use coap_ends::{End, Server};
+use coap_resource::{MapStore, StoreRefusal};
+use coap_types::{Endpoint, Moment, Path};
+use std::alloc::Global;
+use std::hash::{BuildHasherDefault, FoldHasher};
+use std::io::Write;
+
+/// The word that the server begins with, and that it is handed with the datagram.
+const WORD: u64 = 0;
+/// When the datagram comes.
+const ARRIVAL: Moment = Moment(0);
+
+const _: () = prove!(WORD == 0 && ARRIVAL.0 == 0);
+
+/// Where the datagram comes from.
+const PEER: Endpoint = Endpoint {
+    ip: [127, 0, 0, 1],
+    port: 40_001,
+};
+
+/// Prints what a server with this one resource sends at once when it is handed the datagram.
+pub fn answer<W: Write>(
+    alloc: Global,
+    path: &Path,
+    body: &str,
+    datagram: &[u8],
+    out: &mut W,
+) -> Result<Status, Stop>
+    ensures { IfOk result IsCarriedOut }
+{
+    let hasher = BuildHasherDefault::<FoldHasher>::new();
+    let mut server = fresh_server(alloc, WORD, hasher);
+    let ended = held_reply(alloc, &mut server, path, body, datagram, out);
+    put_away(server);
+    ended
+}
+
+// Has the server hold the resource, and prints what it replies.
+fn held_reply<W: Write>(
+    alloc: Global,
+    server: &mut Server<MapStore, Global>,
+    path: &Path,
+    body: &str,
+    datagram: &[u8],
+    out: &mut W,
+) -> Result<Status, Stop>
+    ensures { IfOk result IsCarriedOut }
+{
+    match hold(server, path, body.as_bytes())? {
+        None => reply(alloc, server, datagram, out),
+        Some(refusal) => tell_refusal(refusal, out),
+    }
+}
+
+// Hands the server the datagram, and prints what it sends.
+fn reply<W: Write>(
+    alloc: Global,
+    server: &mut Server<MapStore, Global>,
+    datagram: &[u8],
+    out: &mut W,
+) -> Result<Status, Stop>
+    ensures { IfOk result IsCarriedOut }
+{
+    server.feed(ARRIVAL, PEER, datagram, WORD)?;
+    print_sent(alloc, server, out)?;
+    Ok(Status::Done)
+}
+
+// Prints why the server does not hold the resource.
+fn tell_refusal<W: Write>(refusal: StoreRefusal, out: &mut W) -> Result<Status, Stop>
+    ensures { IfOk result IsCarriedOut }
+{
+    let number = refusal.number();
+    writeln!(out, "refused {number}")?;
+    Ok(Status::Refused)
+}
+
+// Prints each datagram that is to be sent in hex, or that there is none.
+fn print_sent<E: End<Global>, W: Write>(
+    alloc: Global,
+    server: &mut E,
+    out: &mut W,
+) -> Result<(), Stop> {
+    let mut is_silent = true;
+    while let Some(datagram) = server.next_out() {
+        let bytes = hex::encode(alloc, datagram.bytes())?;
+        writeln!(out, "{bytes}")?;
+        is_silent = false;
+    }
+    if is_silent {
+        writeln!(out, "silence")?;
+    }
+    Ok(())
+}

@@ -1,0 +1,114 @@
+//! A request of a client: how it is made, and what becomes of it.
+ghost use Rattle.std.specs.Prelude.{◌≡◌, false, [], None, IfOk};
+ghost use Rattle.coap_types.specs.declared.request.Method.TheVariants.{Get, Put};
+
+use crate::status::Stop;
+use crate::text::report_text;
+use bytes::Bytes;
+use coap_ends::{CallRefusal, Client, Report};
+use coap_types::{Method, Moment, Path, Request, Tags};
+use std::alloc::{AllocError, Global};
+use std::hash::BuildHasher;
+
+/// What became of a request.
+#[derive(Drop)]
+pub enum Outcome {
+    /// The client did not take it.
+    Refused(CallRefusal),
+    /// The client reported this.
+    Reported(Report),
+}
+
+// A request without a condition.
+fn request(method: Method, path: Path, body: Bytes) -> Request
+    ensures { result ≡ record {
+      method = method;
+      path = path;
+      format = None;
+      body = body;
+      etags = [];
+      if_match = [];
+      if_none_match = false;
+      accept = None;
+    } }
+{
+    Request {
+        method,
+        path,
+        format: None,
+        body,
+        etags: Tags::new(),
+        if_match: Tags::new(),
+        if_none_match: false,
+        accept: None,
+    }
+}
+
+/// A PUT of a body at a path (RFC 7252, section 5.8.3).
+pub fn put_request(alloc: Global, path: &Path, body: &[u8]) -> Result<Request, AllocError>
+    ensures { IfOk result (λ made. made ≡ record {
+      method = Put;
+      path = path.now;
+      format = None;
+      body = body.now;
+      etags = [];
+      if_match = [];
+      if_none_match = false;
+      accept = None;
+    }) }
+{
+    let body = Bytes::copy_from_slice(alloc, body)?;
+    Ok(request(Method::Put, path.clone()?, body))
+}
+
+/// A GET of what is at a path (RFC 7252, section 5.8.1).
+pub fn get_request(path: &Path) -> Result<Request, AllocError>
+    ensures { IfOk result (λ made. made ≡ record {
+      method = Get;
+      path = path.now;
+      format = None;
+      body = [];
+      etags = [];
+      if_match = [];
+      if_none_match = false;
+      accept = None;
+    }) }
+{
+    Ok(request(Method::Get, path.clone()?, Bytes::new()))
+}
+
+/// Hands a request to a client; the refusal where it does not take it.
+pub fn call<H: BuildHasher>(
+    client: &mut Client<Global, H>,
+    now: Moment,
+    request: Request,
+) -> Result<Option<CallRefusal>, Stop> {
+    match client.call(now, request) {
+        Ok(_) => Ok(None),
+        Err(CallRefusal::Memory) => Err(Stop::Memory),
+        Err(refusal) => Ok(Some(refusal)),
+    }
+}
+
+/// The number of a refusal.
+pub fn refusal_number(refusal: CallRefusal) -> u8 {
+    match refusal {
+        CallRefusal::QueueFull => 1,
+        CallRefusal::BodyTooLarge => 2,
+        CallRefusal::BadPath => 3,
+        CallRefusal::Memory => 4,
+        CallRefusal::WatchesFull => 5,
+        CallRefusal::CallsSpent => 6,
+    }
+}
+
+/// What became of a request, in print.
+pub fn outcome_text(alloc: Global, outcome: &Outcome) -> Result<String, AllocError> {
+    match outcome {
+        Outcome::Refused(refusal) => {
+            let number = refusal_number(*refusal);
+            format!(in alloc; "refused {number}")
+        }
+        Outcome::Reported(report) => report_text(alloc, report),
+    }
+}

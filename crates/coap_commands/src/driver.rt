@@ -1,0 +1,133 @@
+//! One run of the program, over the writers that it is handed.
+ghost use Rattle.std.specs.Prelude.{◌≡◌, ◌≢◌, ◌≤◌, ◌⊎◌, IfOk, map, string_bytes};
+ghost use Rattle.coap_commands.specs.Statuses.{CarriesOut, Ends, IsAnswered, IsTold, RunsScript, status_number, status_of};
+ghost use Rattle.coap_words.specs.Words.{AsksFor, IsWrong};
+ghost use Rattle.coap_words.specs.declared.orders.Order.{Order};
+ghost use Rattle.coap_words.specs.declared.orders.Wrong.{Wrong};
+ghost use Rattle.coap_words.specs.declared.orders.Wrong.TheVariants as wrongs;
+
+use crate::answer::answer;
+use crate::get::get;
+use crate::pair::pair;
+use crate::put_away::put_away;
+use crate::serve::serve;
+use crate::show::show;
+use crate::sim::sim;
+use crate::status::{Status, Stop};
+use coap_words::{Order, Wrong, order};
+use std::io;
+use std::io::{ErrorKind, Write};
+use std::net::Net;
+use std::random::RandomSource;
+use std::rt::{Clock, Files};
+
+// Carries an order out.
+fn perform<R: AllocGlobal + Files + Net + Clock + RandomSource, W: Write>(
+    rt: &R,
+    order: &Order<'_>,
+    out: &mut W,
+) -> Result<Status, Stop>
+    ensures { IfOk result (CarriesOut order.now) }
+{
+    let alloc = rt.alloc();
+    match order {
+        Order::Show { datagram } => show(alloc, datagram.as_slice(), out),
+        Order::Answer {
+            path,
+            body,
+            datagram,
+        } => answer(alloc, path, body, datagram.as_slice(), out),
+        Order::Pair { path, body, word } => pair(rt, path, body, *word, out),
+        Order::Serve { port, count, word } => serve(rt, *port, *count, *word, out),
+        Order::Get { port, path, word } => get(rt, *port, path, *word, out),
+        Order::Sim { file } => sim(rt, file, out),
+    }
+}
+
+/// Says why the words give no order.
+pub fn refuse<O: Write, E: Write>(wrong: Wrong, out: &mut O, err: &mut E) -> Result<Status, Stop>
+    ensures { IsTold wrong result }
+{
+    match wrong {
+        Wrong::Memory => Err(Stop::Memory),
+        Wrong::Hex => {
+            writeln!(out, "{wrong}")?;
+            Ok(Status::Words)
+        }
+        Wrong::Words(_) | Wrong::Path(_) | Wrong::Number(_) => {
+            let _ = writeln!(err, "{wrong}");
+            Ok(Status::Words)
+        }
+    }
+}
+
+// Runs the words.
+fn run<R: AllocGlobal + Files + Net + Clock + RandomSource, O: Write, E: Write>(
+    rt: &R,
+    words: &[String],
+    out: &mut O,
+    err: &mut E,
+) -> Result<Status, Stop>
+    ensures { Ends (map string_bytes words.now) result }
+{
+    match order(rt.alloc(), words) {
+        Ok(order) => {
+            let ended = perform(rt, &order, out);
+            put_away(order);
+            ended
+        }
+        Err(wrong) => refuse(wrong, out, err),
+    }
+}
+
+/// Says why a run stopped, where it did.
+pub fn close<E: Write>(ended: Result<Status, Stop>, err: &mut E) -> Status
+    ensures { result ≡ status_of ended }
+{
+    match ended {
+        Ok(status) => status,
+        Err(Stop::Failed) => {
+            let _ = writeln!(err, "failed");
+            Status::Failed
+        }
+        Err(Stop::Memory) => {
+            let _ = writeln!(err, "no memory");
+            Status::Memory
+        }
+    }
+}
+
+/// Runs the words of one run, the program's own name first, and answers the exit status. What a
+/// subcommand prints goes to `out`; help, usage, `failed` and `no memory` go to `err`.
+pub fn command<R: AllocGlobal + Files + Net + Clock + RandomSource, O: Write, E: Write>(
+    rt: &R,
+    words: &[String],
+    out: &mut O,
+    err: &mut E,
+) -> u8
+    ensures most { result ≤ 4 }
+    // What is wrong in the words is answered with 2, unless that can't be told ..
+    ensures wrong { (wrong : Wrong) → IsWrong (map string_bytes words.now) wrong → IsAnswered wrong result }
+    // .. and nothing else is, but for a script that can't be read.
+    ensures words { result ≡ 2 → ((wrong : Wrong) × IsWrong (map string_bytes words.now) wrong
+        × (wrong ≢ wrongs.Memory)) ⊎ ((order : Order) × AsksFor (map string_bytes words.now) order × RunsScript order) }
+    // An order is carried out only where the words ask for it.
+    ensures done { result ≤ 1 → (order : Order) × AsksFor (map string_bytes words.now) order }
+{
+    let ended = run(rt, words, out, err);
+    close(ended, err).number()
+}
+
+/// Says why the words of the command line can't be read, and answers the exit status.
+pub fn without_words<E: Write>(error: &io::Error, err: &mut E) -> u8
+    ensures { (result ≡ 2) ⊎ (result ≡ 4) }
+{
+    let status = if error.kind() == ErrorKind::OutOfMemory {
+        let _ = writeln!(err, "no memory");
+        Status::Memory
+    } else {
+        let _ = writeln!(err, "an argument is no UTF-8 text");
+        Status::Words
+    };
+    status.number()
+}

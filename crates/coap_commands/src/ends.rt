@@ -1,0 +1,76 @@
+//! The ends that the programs run.
+ghost use Rattle.std.specs.Prelude.{◌≡◌, ◌<◌, ℕ, [], ◌∷◌, Ok, Some, IfOk, IfNone, IfErr, length};
+ghost use Rattle.coap_resource.specs.Content.{Content};
+ghost use Rattle.coap_resource.specs.Entries.{content_of};
+ghost use Rattle.coap_ends.specs.ClientSide.ClientStep.{Led as ClientLed};
+ghost use Rattle.coap_ends.specs.ServerObject.ServerShown.{state_of};
+ghost use Rattle.coap_ends.specs.ServerSide.ServerLed.{Led};
+ghost use Rattle.coap_ends.specs.ServerSide.ServerTrace.{Sets};
+
+use crate::status::Stop;
+use coap_ends::{Client, Server};
+use coap_resource::{MAX_CHANGES_PER_WINDOW, MapStore, Store, StoreRefusal};
+use coap_types::{Endpoint, MAX_SZX, Moment, Path, Szx};
+use std::alloc::Global;
+use std::hash::BuildHasher;
+
+/// Content-Format 0: text/plain (RFC 7252, section 12.3).
+const TEXT_PLAIN: u16 = 0;
+
+const _: () = prove!(TEXT_PLAIN == 0);
+
+/// The size of the blocks of both ends: the largest (RFC 7959, section 2.2).
+pub fn largest_szx() -> Szx
+    ensures { result ≡ MAX_SZX }
+{
+    match Szx::new(MAX_SZX) {
+        Some(szx) => szx,
+        None => unreachable!(),
+    }
+}
+
+/// A server that holds nothing.
+pub fn fresh_server<H: BuildHasher + Drop>(
+    alloc: Global,
+    word: u64,
+    hasher: H,
+) -> Server<MapStore, Global, H>
+    ensures { Led MAX_CHANGES_PER_WINDOW MAX_SZX word [] (state_of content_of result) }
+{
+    let Some(store) = MapStore::new(alloc, MAX_CHANGES_PER_WINDOW) else {
+        unreachable!()
+    };
+    Server::with_hasher(alloc, store, largest_szx(), word, hasher)
+}
+
+/// A client of the server at this endpoint, to which nothing has happened.
+pub fn fresh_client<H: BuildHasher + Drop>(
+    alloc: Global,
+    server: Endpoint,
+    word: u64,
+    hasher: H,
+) -> Client<Global, H>
+    ensures { ClientLed server MAX_SZX word [] result }
+{
+    Client::with_hasher(alloc, server, largest_szx(), word, hasher)
+}
+
+/// Has a server that holds nothing hold this text at this path; the refusal of its store where it
+/// doesn't.
+pub fn hold<H: BuildHasher + Drop>(
+    server: &mut Server<MapStore, Global, H>,
+    path: &Path,
+    body: &[u8],
+) -> Result<Option<StoreRefusal>, Stop>
+    // The one call that made it so.
+    ensures holds { (word : ℕ) → Led MAX_CHANGES_PER_WINDOW MAX_SZX word [] (state_of content_of server.old)
+        → IfOk result (λ refusal. IfNone refusal ((version : ℕ) × (store : Content)
+        × Led MAX_CHANGES_PER_WINDOW MAX_SZX word (Sets 0 path.now (Some TEXT_PLAIN) body.now (Ok version) store ∷ [])
+        (state_of content_of server.new))) }
+{
+    match server.set(Moment(0), path, Some(TEXT_PLAIN), body) {
+        Ok(_) => Ok(None),
+        Err(StoreRefusal::Memory) => Err(Stop::Memory),
+        Err(refusal) => Ok(Some(refusal)),
+    }
+}

@@ -1,0 +1,35 @@
+//! What the program `coap` does: its subcommands, each over the links, the clock, the files and the
+//! writer that it is handed.
+//!
+//! [`command`] runs the words of one run and answers the exit status. [`pair_over`], [`serve_over`],
+//! [`get_over`] and [`sim_to`] are the subcommands without their sockets and files.
+#![tactic(auto)]
+
+mod answer;
+mod bearing;
+mod calling;
+mod driver;
+mod ends;
+mod get;
+mod pair;
+mod put_away;
+mod script;
+mod serve;
+mod show;
+mod side;
+mod sim;
+mod status;
+mod telling;
+mod text;
+mod timekeeper;
+
+pub use calling::{Outcome, call, get_request, put_request};
+pub use driver::{close, command, refuse, without_words};
+pub use ends::{fresh_client, fresh_server, hold, largest_szx};
+pub use get::get_over;
+pub use pair::pair_over;
+pub use script::{ScriptRefusal, events_of};
+pub use serve::{serve_over, serve_resource};
+pub use sim::sim_to;
+pub use status::{Status, Stop};
+pub use timekeeper::{ProgramTime, Timekeeper};

@@ -1,0 +1,62 @@
+ghost use Rattle.std.specs.Prelude.{IfOk};
+ghost use Rattle.coap_commands.specs.Statuses.{IsCarriedOut};
+
+use crate::status::{Status, Stop};
+use crate::text::hex_or_dash;
+use coap_codec::{Fault, View, decode};
+use std::alloc::Global;
+use std::io::Write;
+
+/// Prints what the datagram spells: a message, or the first fault.
+pub fn show<W: Write>(alloc: Global, datagram: &[u8], out: &mut W) -> Result<Status, Stop>
+    ensures { IfOk result IsCarriedOut }
+{
+    match decode(datagram) {
+        Ok(message) => show_message(alloc, &message, out),
+        Err(fault) => show_fault(&fault, out),
+    }
+}
+
+// Kind, code, Message ID and token, then a line for each option, then the payload.
+fn show_message<W: Write>(alloc: Global, message: &View<'_>, out: &mut W) -> Result<Status, Stop>
+    ensures { IfOk result IsCarriedOut }
+{
+    let kind = message.kind();
+    let code = message.code();
+    let id = message.id().0;
+    let token = hex_or_dash(alloc, message.token())?;
+    writeln!(out, "{kind} {code} {id:04x} {token}")?;
+    show_options(alloc, message, out)?;
+    show_payload(alloc, message, out)?;
+    Ok(Status::Done)
+}
+
+// A line for each option.
+fn show_options<W: Write>(alloc: Global, message: &View<'_>, out: &mut W) -> Result<(), Stop> {
+    for option in message.options() {
+        let number = option.number;
+        let value = hex_or_dash(alloc, option.value)?;
+        writeln!(out, "{number} {value}")?;
+    }
+    Ok(())
+}
+
+// A line for the payload, where there is one.
+fn show_payload<W: Write>(alloc: Global, message: &View<'_>, out: &mut W) -> Result<(), Stop> {
+    if !message.payload().is_empty() {
+        let payload = hex::encode(alloc, message.payload())?;
+        writeln!(out, "payload {payload}")?;
+    }
+    Ok(())
+}
+
+// The number of the reason, its name and its place.
+fn show_fault<W: Write>(fault: &Fault, out: &mut W) -> Result<Status, Stop>
+    ensures { IfOk result IsCarriedOut }
+{
+    let number = fault.reason.number();
+    let reason = fault.reason;
+    let at = fault.at;
+    writeln!(out, "fault {number} {reason} at {at}")?;
+    Ok(Status::Refused)
+}

@@ -1,0 +1,17 @@
+//! Tests of what the program does, by the public calls of `coap_commands`.
+#![tactic(auto)]
+
+#[cfg(test)]
+mod answer;
+#[cfg(test)]
+mod bodies;
+#[cfg(test)]
+mod joined_link;
+#[cfg(test)]
+mod pair;
+#[cfg(test)]
+mod programs;
+#[cfg(test)]
+mod rows;
+#[cfg(test)]
+mod sim;
