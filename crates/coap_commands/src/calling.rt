@@ -90,23 +90,11 @@ pub fn call<H: BuildHasher>(
     }
 }
 
-/// The number of a refusal.
-pub fn refusal_number(refusal: CallRefusal) -> u8 {
-    match refusal {
-        CallRefusal::QueueFull => 1,
-        CallRefusal::BodyTooLarge => 2,
-        CallRefusal::BadPath => 3,
-        CallRefusal::Memory => 4,
-        CallRefusal::WatchesFull => 5,
-        CallRefusal::CallsSpent => 6,
-    }
-}
-
 /// What became of a request, in print.
 pub fn outcome_text(alloc: Global, outcome: &Outcome) -> Result<String, AllocError> {
     match outcome {
         Outcome::Refused(refusal) => {
-            let number = refusal_number(*refusal);
+            let number = refusal.number();
             format!(in alloc; "refused {number}")
         }
         Outcome::Reported(report) => report_text(alloc, report),

@@ -1,8 +1,6 @@
 //! What came of a run, in print.
-use crate::calling::refusal_number;
 use crate::status::Stop;
 use crate::text::{hex_or_dash, report_text};
-use coap_ends::CancelRefusal;
 use coap_world::{CLIENT_END, Event, Given, Kind, Line, Record};
 use std::alloc::Allocator;
 use std::io::Write;
@@ -124,9 +122,8 @@ fn tell_refusals<A: Allocator + Copy, W: Write>(
 // The number of the refusal that a line tells, where it tells one.
 fn refused<A: Allocator + Copy>(kind: &Kind<A>) -> Option<u8> {
     match kind {
-        Kind::Takes(Err(refusal)) => Some(refusal_number(*refusal)),
-        Kind::Cancels(Err(CancelRefusal::Unknown)) => Some(1),
-        Kind::Cancels(Err(CancelRefusal::QueueFull)) => Some(2),
+        Kind::Takes(Err(refusal)) => Some(refusal.number()),
+        Kind::Cancels(Err(refusal)) => Some(refusal.number()),
         Kind::Puts(Err(refusal)) => Some(refusal.number()),
         Kind::Removes(Err(refusal)) => Some(refusal.number()),
         _ => None,

@@ -8,3 +8,4 @@ pub mod ServerTurns
 pub mod ClientTurns
 pub mod StepsDue
 pub mod ClientObject
+pub mod RefusalNumbers

@@ -1,3 +1,6 @@
+ghost use Rattle.std.specs.Prelude.{◌≡◌};
+ghost use Rattle.coap_ends.specs.RefusalNumbers.{call_refusal_number, cancel_refusal_number};
+
 /// Why a call or an observation is not taken. Where several hold, the lowest number is answered, and
 /// `Memory` only where none other holds.
 #[derive(Clone, Copy, Debug, PartialEq, Eq)]
@@ -16,6 +19,22 @@ pub enum CallRefusal {
     CallsSpent,
 }
 
+impl CallRefusal {
+    /// The number of the refusal, 1 to 6, in the order of the variants.
+    pub fn number(self) -> u8
+        ensures { result ≡ call_refusal_number self }
+    {
+        match self {
+            CallRefusal::QueueFull => 1,
+            CallRefusal::BodyTooLarge => 2,
+            CallRefusal::BadPath => 3,
+            CallRefusal::Memory => 4,
+            CallRefusal::WatchesFull => 5,
+            CallRefusal::CallsSpent => 6,
+        }
+    }
+}
+
 /// Why an observation is not cancelled. Where both hold, the lower number is answered.
 #[derive(Clone, Copy, Debug, PartialEq, Eq)]
 pub enum CancelRefusal {
@@ -23,4 +42,16 @@ pub enum CancelRefusal {
     Unknown,
     /// 2: `MAX_WAITING_CALLS` operations wait.
     QueueFull,
+}
+
+impl CancelRefusal {
+    /// The number of the refusal, 1 or 2, in the order of the variants.
+    pub fn number(self) -> u8
+        ensures { result ≡ cancel_refusal_number self }
+    {
+        match self {
+            CancelRefusal::Unknown => 1,
+            CancelRefusal::QueueFull => 2,
+        }
+    }
 }
