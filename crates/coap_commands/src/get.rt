@@ -64,22 +64,6 @@ fn tell<W: Write>(alloc: Global, outcome: &Outcome, out: &mut W) -> Result<Statu
     Ok(Status::Refused)
 }
 
-// Gets what is at the path by a fresh client, and prints its body, or why there is none.
-fn got<H: BuildHasher, L: Link, T: Timekeeper, W: Write>(
-    alloc: Global,
-    client: &mut Client<Global, H>,
-    link: &mut L,
-    time: &mut T,
-    path: &Path,
-    word: u64,
-    out: &mut W,
-) -> Result<Status, Stop>
-    ensures { IfOk result IsCarriedOut }
-{
-    let outcome = ask(client, link, time, path, word)?;
-    tell(alloc, &outcome, out)
-}
-
 /// Gets what the server holds at the path, and prints its body; or why it can't. The word is the
 /// one that the client begins with.
 pub fn get_over<L: Link, T: Timekeeper, H: BuildHasher + Drop, W: Write>(
@@ -95,7 +79,10 @@ pub fn get_over<L: Link, T: Timekeeper, H: BuildHasher + Drop, W: Write>(
     ensures { IfOk result IsCarriedOut }
 {
     let mut client = fresh_client(alloc, server, word, hasher);
-    let ended = got(alloc, &mut client, link, time, path, word, out);
+    let ended = match ask(&mut client, link, time, path, word) {
+        Ok(outcome) => tell(alloc, &outcome, out),
+        Err(stop) => Err(stop),
+    };
     put_away(client);
     ended
 }

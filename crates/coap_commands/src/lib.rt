@@ -29,7 +29,7 @@ pub use ends::{fresh_client, fresh_server, hold, largest_szx};
 pub use get::get_over;
 pub use pair::pair_over;
 pub use script::{ScriptRefusal, events_of};
-pub use serve::{serve_over, serve_resource};
+pub use serve::{hold_resource, serve_over};
 pub use sim::sim_to;
 pub use status::{Status, Stop};
 pub use timekeeper::{ProgramTime, Timekeeper};

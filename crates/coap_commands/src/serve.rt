@@ -48,8 +48,8 @@ const PATH: &str = "temperature";
 
 const BODY: &str = "22.3 C";
 
-// Has the server hold the resource.
-fn hold_resource<H: BuildHasher + Drop>(
+/// Has the server hold the resource: the text of a temperature.
+pub fn hold_resource<H: BuildHasher + Drop>(
     alloc: Global,
     server: &mut Server<MapStore, Global, H>,
 ) -> Result<(), Stop> {
@@ -60,22 +60,6 @@ fn hold_resource<H: BuildHasher + Drop>(
         None => Ok(()),
         Some(_) => Err(Stop::Memory),
     }
-}
-
-/// Serves the resource by a server that holds nothing.
-pub fn serve_resource<H: BuildHasher + Drop, L: Link, T: Timekeeper, W: Write>(
-    alloc: Global,
-    server: &mut Server<MapStore, Global, H>,
-    link: &mut L,
-    time: &mut T,
-    count: u64,
-    word: u64,
-    out: &mut W,
-) -> Result<Status, Stop>
-    ensures { IfOk result IsCarriedOut }
-{
-    hold_resource(alloc, server)?;
-    serve_over(server, link, time, count, word, out)
 }
 
 /// Serves the resource at a port of 127.0.0.1 until so many datagrams came.
@@ -91,15 +75,10 @@ pub fn serve<R: AllocGlobal + Net + Clock + RandomSource, W: Write>(
     let mut time = ProgramTime::begin(rt)?;
     let mut link = UdpLink::bind(rt, port)?;
     let mut server = fresh_server(rt.alloc(), word, RandomState::new(rt)?);
-    let ended = serve_resource(
-        rt.alloc(),
-        &mut server,
-        &mut link,
-        &mut time,
-        count,
-        word,
-        out,
-    );
+    let ended = match hold_resource(rt.alloc(), &mut server) {
+        Ok(()) => serve_over(&mut server, &mut link, &mut time, count, word, out),
+        Err(stop) => Err(stop),
+    };
     put_away(server);
     ended
 }

@@ -1,6 +1,6 @@
 use crate::pair::Clock;
 use crate::rows::{check_row, repeated, words_of};
-use coap_commands::{close, command, fresh_server, get_over, serve_resource};
+use coap_commands::{Stop, close, command, fresh_server, get_over, hold_resource, serve_over};
 use coap_links::{ANY_PORT, Link, MemoryLink, UdpLink};
 use coap_types::{Endpoint, Path};
 use coap_words::path_of_text;
@@ -145,7 +145,10 @@ fn serve_in_memory(alloc: Global, count: u64, told: &mut Vec<u8>) -> Result<(), 
     link.give(NEAR, &[0x40, 0, 0, 1])?;
     let mut server = fresh_server(alloc, 0, BuildHasherDefault::<FoldHasher>::new());
     let mut time = Clock { now: 0 };
-    let ended = serve_resource(alloc, &mut server, &mut link, &mut time, count, 0, told);
+    if hold_resource(alloc, &mut server).is_err() {
+        return Err(AllocError);
+    }
+    let ended = serve_over(&mut server, &mut link, &mut time, count, 0, told);
     drop(server);
     let status = close(ended, told).number();
     told.push(b'0'.saturating_add(status))?;
