@@ -58,7 +58,14 @@ spelled bytes m fits read = message_reads bytes (bytes_are bytes fits) m read
 
 -- a Confirmable request, GET /temperature, and its piggybacked response (Appendix A)
 pub request : Spells (64 ∷ 1 ∷ 125 ∷ 52 ∷ 187 ∷ codes "temperature")
-    (record { kind = Con; code = 1; id = 32052; token = []; options = record { number = 11; value = codes "temperature" } ∷ []; payload = [] })
+    (record {
+      kind = Con;
+      code = 1;
+      id = 32052;
+      token = [];
+      options = record { number = 11; value = codes "temperature" } ∷ [];
+      payload = [];
+    })
 unfolding decoded frame_fault body_at walk walk_of option_at nibbles_at value_at extended payload_at
 request = spelled _ _ refl refl
 
@@ -69,7 +76,14 @@ response = spelled _ _ refl refl
 
 -- the same with a token
 pub request_of_a_token : Spells (65 ∷ 1 ∷ 125 ∷ 53 ∷ 32 ∷ 187 ∷ codes "temperature")
-    (record { kind = Con; code = 1; id = 32053; token = 32 ∷ []; options = record { number = 11; value = codes "temperature" } ∷ []; payload = [] })
+    (record {
+      kind = Con;
+      code = 1;
+      id = 32053;
+      token = 32 ∷ [];
+      options = record { number = 11; value = codes "temperature" } ∷ [];
+      payload = [];
+    })
 unfolding decoded frame_fault body_at walk walk_of option_at nibbles_at value_at extended payload_at
 request_of_a_token = spelled _ _ refl refl
 
@@ -91,13 +105,21 @@ reset = spelled _ _ refl refl
 
 -- an option of the greatest number, with an empty value (section 3.1)
 pub greatest_option : Spells (80 ∷ 1 ∷ 0 ∷ 1 ∷ 224 ∷ 254 ∷ 242 ∷ [])
-    (record { kind = Non; code = 1; id = 1; token = []; options = record { number = 65535; value = [] } ∷ []; payload = [] })
+    (record {
+      kind = Non;
+      code = 1;
+      id = 1;
+      token = [];
+      options = record { number = 65535; value = [] } ∷ [];
+      payload = [];
+    })
 unfolding decoded frame_fault body_at walk walk_of option_at nibbles_at value_at extended payload_at
 greatest_option = spelled _ _ refl refl
 
 -- ---- faults
 
-at_fault : (bytes : List ℕ) (reason : Reason) (at : ℕ) → list_all is_byte bytes ≡ true → decoded bytes ≡ Err (reason, at) → Faulty bytes reason at
+at_fault : (bytes : List ℕ) (reason : Reason) (at : ℕ) → list_all is_byte bytes ≡ true
+    → decoded bytes ≡ Err (reason, at) → Faulty bytes reason at
 at_fault bytes reason at fits read = message_faults bytes (bytes_are bytes fits) reason at read
 
 -- fewer than four bytes

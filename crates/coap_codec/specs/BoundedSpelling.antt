@@ -36,8 +36,9 @@ pub record IsBare (m : Message) : Type 0 where
   pub options : m.options ≡ []
   pub payload : m.payload ≡ []
 
--- A message that can be spelled has a spelling, of the header, the token, the options, the payload marker and the payload at
--- most.
+-- A message that can be spelled has a spelling, of the header, the token, the options, the payload marker and the
+-- payload at most.
 abbrev pub BoundedSpelling : Type 0
 BoundedSpelling = (m : Message) → CanBeSpelled m
-    → (bytes : List ℕ) × Spells bytes m × (length bytes ≤ 4 + (length m.token + (most_bytes m.options + (1 + length m.payload))))
+    → (bytes : List ℕ) × Spells bytes m × (length bytes ≤ 4 +
+    (length m.token + (most_bytes m.options + (1 + length m.payload))))

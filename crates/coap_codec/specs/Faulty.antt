@@ -52,7 +52,8 @@ pub record Leaves (bytes : List ℕ) (number : ℕ) (rest : List ℕ) : Type 0 w
   pub run : Options 0 front options
   pub parts : bytes ≡ front ++ rest
   pub last : number ≡ last_number 0 options
-  pub longest : (others : List CoapOption) (run left : List ℕ) → Options 0 run others → bytes ≡ run ++ left → length run ≤ length front
+  pub longest : (others : List CoapOption) (run left : List ℕ) → Options 0 run others → bytes ≡ run ++ left
+      → length run ≤ length front
 
 -- how many bytes extend a nibble
 abbrev pub needs : ℕ → ℕ
@@ -73,7 +74,8 @@ BadRest base (first ∷ bytes) DeltaReserved = (first / 16 ≡ 15) × (first ≢
 BadRest base (first ∷ bytes) LengthReserved = (first % 16 ≡ 15) × (first / 16 ≢ 15)
 BadRest base (first ∷ bytes) OptionCut = (first / 16 ≢ 15) × (first % 16 ≢ 15) ×
     ((length bytes < needs (first / 16) + needs (first % 16))
-    ⊎ ((delta : ℕ) × (len : ℕ) × (rest : List ℕ) × HeadsOption first bytes delta len rest × (base + delta < 2 ^ 16) × (length rest < len)))
+    ⊎ ((delta : ℕ) × (len : ℕ) × (rest : List ℕ) × HeadsOption first bytes delta len rest × (base + delta < 2 ^ 16)
+    × (length rest < len)))
 BadRest base (first ∷ bytes) NumberTooLarge = (first / 16 ≢ 15) × (first % 16 ≢ 15) ×
     ((delta : ℕ) × (len : ℕ) × (rest : List ℕ) × HeadsOption first bytes delta len rest × (2 ^ 16 ≤ base + delta))
 BadRest base (first ∷ bytes) NoPayload = (first ≡ 255) × (bytes ≡ [])
@@ -102,10 +104,13 @@ abbrev pub Faulty : List ℕ → Reason → ℕ → Type 0
 Faulty bytes Short at = (length bytes < 4) × (at ≡ length bytes)
 Faulty bytes Version at = (4 ≤ length bytes) × (version bytes ≢ 1) × (at ≡ 0)
 Faulty bytes TokenLength at = (4 ≤ length bytes) × (version bytes ≡ 1) × (8 < token_length bytes) × (at ≡ 0)
-Faulty bytes EmptyNotBare at = IsHeader bytes × (code bytes ≡ empty_code.0) × ((token_length bytes ≢ 0) ⊎ (4 < length bytes)) × (at ≡ 4)
-Faulty bytes TokenCut at = IsHeader bytes × (code bytes ≢ empty_code.0) × (length bytes < 4 + token_length bytes) × (at ≡ length bytes)
+Faulty bytes EmptyNotBare at = IsHeader bytes × (code bytes ≡ empty_code.0)
+    × ((token_length bytes ≢ 0) ⊎ (4 < length bytes)) × (at ≡ 4)
+Faulty bytes TokenCut at = IsHeader bytes × (code bytes ≢ empty_code.0) × (length bytes < 4 + token_length bytes)
+    × (at ≡ length bytes)
 Faulty bytes reason at = IsFramed bytes ×
-    ((number : ℕ) × (rest : List ℕ) × Leaves (drop (4 + token_length bytes) bytes) number rest × BadRest number rest reason
+    ((number : ℕ) × (rest : List ℕ) × Leaves (drop (4 + token_length bytes) bytes) number rest
+    × BadRest number rest reason
     × (at ≡ place reason (length bytes - length rest) (length bytes)))
 
 -- The type and the Message ID of a faulty datagram, by which it can be rejected (section 4.2): there are none where

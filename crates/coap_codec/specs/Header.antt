@@ -10,7 +10,8 @@ version bytes = slice_index bytes 0 / 64
 
 -- the type, in the next two bits
 abbrev pub kind_of : ℕ → Kind
-kind_of first = if first / 16 % 4 == 0 then Con else if first / 16 % 4 == 1 then Non else if first / 16 % 4 == 2 then Ack else Rst
+kind_of first = if first / 16 % 4 == 0 then Con else if first / 16 % 4 == 1 then Non else if first / 16 % 4 == 2 then
+    Ack else Rst
 
 -- the token length, in the lower four bits
 abbrev pub token_length : List ℕ → ℕ

@@ -10,11 +10,13 @@ use Rattle.coap_codec.specs.declared.fault.Reason.{Reason}
 
 -- All bytes spell a message or are faulty.
 abbrev pub EachIsRead : Type 0
-EachIsRead = (bytes : List ℕ) → AreBytes bytes → ((m : Message) × Spells bytes m) ⊎ ((reason : Reason) × (at : ℕ) × Faulty bytes reason at)
+EachIsRead = (bytes : List ℕ) → AreBytes bytes
+    → ((m : Message) × Spells bytes m) ⊎ ((reason : Reason) × (at : ℕ) × Faulty bytes reason at)
 
 -- No bytes spell a message and are faulty.
 abbrev pub NotBoth : Type 0
-NotBoth = (bytes : List ℕ) (m : Message) (reason : Reason) (at : ℕ) → AreBytes bytes → Spells bytes m → Faulty bytes reason at → ⊥
+NotBoth = (bytes : List ℕ) (m : Message) (reason : Reason) (at : ℕ) → AreBytes bytes → Spells bytes m
+    → Faulty bytes reason at → ⊥
 
 -- Bytes spell at most one message.
 abbrev pub OneMessage : Type 0
@@ -22,7 +24,8 @@ OneMessage = (bytes : List ℕ) (m n : Message) → AreBytes bytes → Spells by
 
 -- Bytes are faulty for at most one reason, at one place.
 abbrev pub OneFault : Type 0
-OneFault = (bytes : List ℕ) (r s : Reason) (a b : ℕ) → AreBytes bytes → Faulty bytes r a → Faulty bytes s b → (r ≡ s) × (a ≡ b)
+OneFault = (bytes : List ℕ) (r s : Reason) (a b : ℕ) → AreBytes bytes → Faulty bytes r a → Faulty bytes s b
+    → (r ≡ s) × (a ≡ b)
 
 -- What `decoded` gives as their message is what they spell.
 abbrev pub MessageIsDecoded : Type 0
@@ -30,7 +33,8 @@ MessageIsDecoded = (bytes : List ℕ) (m : Message) → AreBytes bytes → (deco
 
 -- What it gives as their fault is their fault.
 abbrev pub FaultIsDecoded : Type 0
-FaultIsDecoded = (bytes : List ℕ) (reason : Reason) (at : ℕ) → AreBytes bytes → (decoded bytes ≡ Err (reason, at)) ↔ Faulty bytes reason at
+FaultIsDecoded = (bytes : List ℕ) (reason : Reason) (at : ℕ) → AreBytes bytes
+    → (decoded bytes ≡ Err (reason, at)) ↔ Faulty bytes reason at
 
 -- A message has at most one spelling.
 abbrev pub OneSpelling : Type 0

@@ -21,4 +21,5 @@ pub record IsOption (base : ℕ) (option : CoapOption) (bytes : List ℕ) : Type
 abbrev pub Options : ℕ → List ℕ → List CoapOption → Type 0
 Options base bytes [] = bytes ≡ []
 Options base bytes (option ∷ options) =
-    (first : List ℕ) × (rest : List ℕ) × (bytes ≡ first ++ rest) × IsOption base option first × Options option.number rest options
+    (first : List ℕ) × (rest : List ℕ) × (bytes ≡ first ++ rest) × IsOption base option first
+    × Options option.number rest options

@@ -35,7 +35,8 @@ two_more (high ∷ low ∷ rest) = Ok (269 + (high * 256 + low), rest)
 
 -- the number that a nibble below 15 says, and the bytes behind what it needs more
 unfoldable pub extended : ℕ → List ℕ → Result (ℕ × List ℕ) Reason
-extended nibble bytes = if nat_lt nibble 13 then Ok (nibble, bytes) else if nibble == 13 then one_more bytes else two_more bytes
+extended nibble bytes = if nat_lt nibble 13 then Ok (nibble, bytes) else if nibble == 13 then one_more bytes else
+    two_more bytes
 
 -- the option of this delta and length, whose value is in front of the bytes
 unfoldable pub value_at : ℕ → ℕ → List ℕ → Result (CoapOption × List ℕ) Reason
@@ -74,7 +75,8 @@ ends_at base bytes reason = record { options = []; number = base; rest = bytes; 
 -- in at most n steps
 unfoldable pub walk_of : ℕ → ℕ → List ℕ → Walk
 walk_of zero base bytes = ends_at base bytes OptionCut
-walk_of (suc n) base bytes = elim (option_at base bytes) [ Ok x ↦ with_first x.0 (walk_of n x.0.number x.1) | Err reason ↦ ends_at base bytes reason ]
+walk_of (suc n) base bytes = elim (option_at base bytes)
+    [ Ok x ↦ with_first x.0 (walk_of n x.0.number x.1) | Err reason ↦ ends_at base bytes reason ]
 
 -- behind an option of number base
 unfoldable pub walk : ℕ → List ℕ → Walk
@@ -114,7 +116,8 @@ viewed kind code id token bytes payload = record {
 -- the message of sound bytes with this payload
 abbrev pub message_of : List ℕ → List ℕ → Message
 message_of bytes payload =
-    viewed (kind_of (slice_index bytes 0)) (code bytes) (id_of bytes) (take (token_length bytes) (drop 4 bytes)) (behind_token bytes) payload
+    viewed (kind_of (slice_index bytes 0)) (code bytes) (id_of bytes) (take (token_length bytes) (drop 4 bytes))
+    (behind_token bytes) payload
 
 unfoldable pub body_at : List ℕ → Result Message (Reason × ℕ)
 body_at bytes =

@@ -38,7 +38,8 @@ is_short option = nat_le (length option.value) 65804
 abbrev pub Refused : Refusal → Message → ℕ → Type 0
 Refused EmptyNotBare m room = IsEmptyNotBare m
 Refused OptionOrder m room = (IsEmptyNotBare m → ⊥) × (ascends 0 m.options ≡ false)
-Refused OptionTooLong m room = (IsEmptyNotBare m → ⊥) × (ascends 0 m.options ≡ true) × (list_all is_short m.options ≡ false)
+Refused OptionTooLong m room = (IsEmptyNotBare m → ⊥) × (ascends 0 m.options ≡ true)
+    × (list_all is_short m.options ≡ false)
 Refused NoRoom m room = (bytes : List ℕ) × Spells bytes m × (room < length bytes)
 
 -- No spelling of the message fits the room.

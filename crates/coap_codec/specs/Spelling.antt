@@ -15,7 +15,8 @@ more n = if nat_lt n 13 then [] else if nat_lt n 269 then (n - 13) ∷ [] else b
 -- an option behind one of number base
 unfoldable pub option_bytes : ℕ → CoapOption → List ℕ
 option_bytes base option =
-    (nibble (option.number - base) * 16 + nibble (length option.value)) ∷ (more (option.number - base) ++ (more (length option.value) ++ option.value))
+    (nibble (option.number - base) * 16 + nibble (length option.value)) ∷
+    (more (option.number - base) ++ (more (length option.value) ++ option.value))
 
 -- options, the first behind one of number base
 unfoldable pub options_bytes : ℕ → List CoapOption → List ℕ

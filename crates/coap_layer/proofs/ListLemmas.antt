@@ -74,7 +74,8 @@ module _ {A : Type 0} (p q : A → Bool) (implied : (x : A) → q x ≡ true →
 module _ {A : Type 0} (p : A → Bool) where
   pub any_append : (xs ys : List A) → list_any p (xs ++ ys) ≡ (list_any p xs || list_any p ys)
   any_append [] ys = refl
-  any_append (x ∷ xs) ys = any_append_step (p x) (list_any p xs) (list_any p ys) (list_any p (xs ++ ys)) (any_append xs ys)
+  any_append (x ∷ xs) ys = any_append_step (p x) (list_any p xs) (list_any p ys) (list_any p (xs ++ ys))
+      (any_append xs ys)
     where
       any_append_step : (b c d f : Bool) → f ≡ (c || d) → (b || f) ≡ ((b || c) || d)
       any_append_step true c d f h = refl
@@ -84,7 +85,9 @@ module _ {A : Type 0} (p : A → Bool) where
   filter_more [] ys = refl
   filter_more (x ∷ xs) ys = go (p x) (filter_more xs ys)
     where
-      go : (b : Bool) → filter p (xs ++ ys) ≡ filter p xs ++ filter p ys → cond b (x ∷ filter p (xs ++ ys)) (filter p (xs ++ ys)) ≡ cond b (x ∷ filter p xs) (filter p xs) ++ filter p ys
+      go : (b : Bool) → filter p (xs ++ ys) ≡ filter p xs ++ filter p ys
+          → cond b (x ∷ filter p (xs ++ ys)) (filter p (xs ++ ys)) ≡ cond b (x ∷ filter p xs) (filter p xs)
+          ++ filter p ys
       go true h = ap (λ zs. x ∷ zs) h
       go false h = h
 
@@ -98,7 +101,8 @@ module _ {A : Type 0} (p : A → Bool) where
     filter_changed [] = refl
     filter_changed (x ∷ xs) = go (p x) (p (f x)) refl (same x) (filter_changed xs)
       where
-        go : (b c : Bool) → p x ≡ b → c ≡ p x → filter p (map f xs) ≡ map f (filter p xs) → cond c (f x ∷ filter p (map f xs)) (filter p (map f xs)) ≡ map f (cond b (x ∷ filter p xs) (filter p xs))
+        go : (b c : Bool) → p x ≡ b → c ≡ p x → filter p (map f xs) ≡ map f (filter p xs)
+            → cond c (f x ∷ filter p (map f xs)) (filter p (map f xs)) ≡ map f (cond b (x ∷ filter p xs) (filter p xs))
         go true true h k e = ap (λ zs. f x ∷ zs) e
         go false false h k e = e
         go true false h k e = absurd (cc (h, k))
@@ -135,7 +139,8 @@ pub map_same : {A : Type 0} (f : A → A) → ((x : A) → f x ≡ x) → (xs : 
 map_same f same [] = refl
 map_same f same (x ∷ xs) = let h = same x in let k = map_same f same xs in cc (h, k)
 
-pub filter_map_same : {A B : Type 0} (f g : A → Option B) → ((x : A) → f x ≡ g x) → (xs : List A) → filter_map f xs ≡ filter_map g xs
+pub filter_map_same : {A B : Type 0} (f g : A → Option B) → ((x : A) → f x ≡ g x) → (xs : List A)
+    → filter_map f xs ≡ filter_map g xs
 filter_map_same f g same [] = refl
 filter_map_same f g same (x ∷ xs) = let h = same x in let k = filter_map_same f g same xs in cc (h, k)
 

@@ -21,8 +21,8 @@ use crate::mark::{Awaiting, Mark};
 use crate::outstanding::{due_copy, put_back};
 use crate::retransmission::{end_all, find_step, is_busy, is_outstanding, is_step, ticked};
 use crate::room::{Brings, Room, filled, grow, make_room, take_room};
-use crate::sending::{refusal, send_con, send_non};
-use crate::taking::{Moments, take_in, take_tick};
+use crate::sending::{FirstSending, refusal, send_con, send_non};
+use crate::taking::{Arrived, Moments, take_in, take_tick};
 use crate::{Content, Datagram, IdSource, SendRefusal, Tick, Up};
 use coap_types::{Endpoint, Id, Moment};
 use std::alloc::{AllocError, Allocator};
@@ -162,8 +162,7 @@ impl<A: Allocator + Copy, S: BuildHasher> Layer<A, S> {
             moments,
             self.awaits,
             &self.ids,
-            from,
-            arriving,
+            Arrived { from, arriving },
             sent,
             &mut self.lists,
         );
@@ -230,7 +229,8 @@ impl<A: Allocator + Copy, S: BuildHasher> Layer<A, S> {
         };
         // Nothing fails from here on.
         let id = self.ids.give(at);
-        send_con(room, at, to, id, word, content, &mut self.lists);
+        let begun = FirstSending { at, word };
+        send_con(room, begun, to, id, content, &mut self.lists);
         self.clock = at;
         self.awaits = None;
         Ok(id)

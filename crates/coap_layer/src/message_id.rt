@@ -52,9 +52,11 @@ fn is_held(last_use: Option<Moment>, now: Moment) -> bool
 
 // Whether the number that comes next may be given.
 fn may_give(upcoming: u16, last_used: &[Option<Moment>; GROUPS], now: Moment) -> bool
-    ensures yes { (word : ℕ) (past : List Issued) → upcoming ≡ upcoming_number word past → AreUses past (uses_of last_used.now)
+    ensures yes { (word : ℕ) (past : List Issued) → upcoming ≡ upcoming_number word past
+        → AreUses past (uses_of last_used.now)
         → IsTrue result → MayGive word past now.0 }
-    ensures no { (word : ℕ) (past : List Issued) → upcoming ≡ upcoming_number word past → AreUses past (uses_of last_used.now)
+    ensures no { (word : ℕ) (past : List Issued) → upcoming ≡ upcoming_number word past
+        → AreUses past (uses_of last_used.now)
         → result ≡ false → Withholds word past now.0 }
     ensures test { result ≡ is_free now.0 upcoming (uses_of last_used.now) }
 {

@@ -53,13 +53,20 @@ fn keep<A: Allocator + Copy, S: BuildHasher>(lists: &mut Lists<A, S>, sending: S
     let _ = lists.sendings.push(sending);
 }
 
+/// When a Confirmable message is sent first, and the word that picks its initial timeout (RFC 7252,
+/// section 4.2).
+#[derive(Clone, Copy)]
+pub(crate) struct FirstSending {
+    pub(crate) at: Moment,
+    pub(crate) word: u64,
+}
+
 /// Sends a Confirmable message, for which there is room (RFC 7252, section 4.2).
 pub(crate) fn send_con<A: Allocator + Copy, S: BuildHasher>(
     room: Room<A>,
-    at: Moment,
+    begun: FirstSending,
     to: Endpoint,
     id: Id,
-    word: u64,
     content: &Content<'_>,
     lists: &mut Lists<A, S>,
 )
@@ -70,9 +77,9 @@ pub(crate) fn send_con<A: Allocator + Copy, S: BuildHasher>(
           to = to;
           id = id.0;
           bytes = message_bytes (with_head Con id.0 content.now);
-          timeout = ack_timeout + word % timeout_values;
-          first = at.0;
-          last = at.0;
+          timeout = ack_timeout + begun.word % timeout_values;
+          first = begun.at.0;
+          last = begun.at.0;
         } ∷ [] }
     ensures before { open_before lists.new.sendings.items ≡ open_before lists.old.sendings.items }
     ensures waiting { lists.new.waiting.items ≡ lists.old.waiting.items
@@ -88,9 +95,9 @@ pub(crate) fn send_con<A: Allocator + Copy, S: BuildHasher>(
         to,
         id,
         bytes,
-        timeout: initial_timeout(word),
-        first: at,
-        last: Some(at),
+        timeout: initial_timeout(begun.word),
+        first: begun.at,
+        last: Some(begun.at),
         before: None,
     };
     keep(lists, sending);

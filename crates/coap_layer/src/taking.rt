@@ -29,40 +29,52 @@ pub(crate) struct Moments {
     pub(crate) at: Moment,
 }
 
+/// What arrived, and from where.
+#[derive(Clone, Copy)]
+pub(crate) struct Arrived {
+    pub(crate) from: Endpoint,
+    pub(crate) arriving: Arriving,
+}
+
 /// Takes in what arrived, where there is room for all that it brings.
 pub(crate) fn take_in<A: Allocator + Copy, S: BuildHasher>(
     moments: Moments,
     awaits: Option<Awaiting>,
     ids: &IdSource,
-    from: Endpoint,
-    arriving: Arriving,
+    arrived: Arrived,
     sent: Option<Datagram<A>>,
     lists: &mut Lists<A, S>,
 ) -> Mark
     requires moment { moments.last.0 ≤ moments.at.0 }
     requires up_to { IsUpTo moments.last.0 (arrivals_in lists.old.entries) }
-    requires entry { keeps arriving.verdict arriving.kind ≡ true → 2 ≤ lists.old.entries.spare }
-    requires unknown { hands arriving.verdict arriving.kind ≡ true
-        → is_remembered moments.at.0 from arriving.id.0 (arrivals_in lists.old.entries) ≡ false }
+    requires entry { keeps arrived.arriving.verdict arrived.arriving.kind ≡ true → 2 ≤ lists.old.entries.spare }
+    requires unknown { hands arrived.arriving.verdict arrived.arriving.kind ≡ true
+        → is_remembered moments.at.0 arrived.from arrived.arriving.id.0 (arrivals_in lists.old.entries) ≡ false }
     requires place { is_some sent ≡ true → deque_len lists.old.waiting + 1 < deque_capacity lists.old.waiting }
     ensures arrived { filter (is_live moments.at.0) (arrivals_in lists.new.entries)
         ≡ filter (is_live moments.at.0) (filter (is_live moments.last.0) (arrivals_in lists.old.entries)
-        ++ newly_by moments.at.0 from arriving) }
-    ensures open { open_now lists.new.sendings.items ≡ open_by from arriving (open_now lists.old.sendings.items) }
+        ++ newly_by moments.at.0 arrived.from arrived.arriving) }
+    ensures open { open_now lists.new.sendings.items
+        ≡ open_by arrived.from arrived.arriving (open_now lists.old.sendings.items) }
     ensures waiting { lists.new.waiting.items ≡ lists.old.waiting.items ++ option_to_list sent }
     ensures before { before_of (Some result) lists.new.entries.settled lists.new.sendings.items lists.new.waiting.items
         ≡ Some (forgotten (state_of_parts moments.last.0 (awaited awaits) ids.now (arrivals_in lists.old.entries)
         (open_now lists.old.sendings.items) lists.old.waiting.items)) }
     ensures within { IsWithin (Some result) lists.new.entries.settled (length lists.new.waiting.items) }
-    ensures kept { IsKept moments.at.0 (awaits_by from arriving) true lists.new.entries }
+    ensures kept { IsKept moments.at.0 (awaits_by arrived.from arrived.arriving) true lists.new.entries }
     ensures sendings_len { vec_len lists.new.sendings ≤ vec_len lists.old.sendings }
     ensures sendings_capacity { vec_capacity lists.new.sendings ≡ vec_capacity lists.old.sendings }
     ensures waiting_room { deque_len lists.old.waiting < deque_capacity lists.old.waiting
         → deque_len lists.new.waiting < deque_capacity lists.new.waiting }
 {
     let mark = begin(moments.last, awaits, ids, lists);
-    end_by(from, arriving, &mut lists.sendings);
-    keep_by(moments.at, from, arriving, &mut lists.entries);
+    end_by(arrived.from, arrived.arriving, &mut lists.sendings);
+    keep_by(
+        moments.at,
+        arrived.from,
+        arrived.arriving,
+        &mut lists.entries,
+    );
     push_some(&mut lists.waiting, sent);
     mark
 }
@@ -85,7 +97,8 @@ pub(crate) fn take_tick<A: Allocator + Copy, S: BuildHasher>(
         (left_by (record { at = moments.at.0; call = Ticks; answer = answer_for result.1; out = out }))
         (open_now lists.old.sendings.items) }
     ensures waiting { lists.new.waiting.items ≡ lists.old.waiting.items ++ option_to_list sent }
-    ensures before { before_of (Some result.0) lists.new.entries.settled lists.new.sendings.items lists.new.waiting.items
+    ensures before { before_of (Some result.0) lists.new.entries.settled lists.new.sendings.items
+        lists.new.waiting.items
         ≡ Some (forgotten (state_of_parts moments.last.0 (awaited awaits) ids.now (arrivals_in lists.old.entries)
         (open_now lists.old.sendings.items) lists.old.waiting.items)) }
     ensures within { IsWithin (Some result.0) lists.new.entries.settled (length lists.new.waiting.items) }

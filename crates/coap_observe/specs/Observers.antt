@@ -31,7 +31,8 @@ removed to token os = filter (λ o. not (is_of to token o)) os
 
 -- the new registration is the last one, in place of an earlier one, and nothing is due to it
 abbrev pub registered : Endpoint → List ℕ → List (List ℕ) → ℕ → List Observer → List Observer
-registered to token path szx os = removed to token os ++ (record { to = to; token = token; path = path; szx = szx; marked = false }) ∷ []
+registered to token path szx os = removed to token os
+    ++ (record { to = to; token = token; path = path; szx = szx; marked = false }) ∷ []
 
 -- a notification is due where one was, or the resource of this path is observed
 abbrev pub marked_by : List (List ℕ) → Observer → Observer

@@ -10,12 +10,14 @@ use Rattle.coap_observe.specs.declared.observers.TheConstants.{MAX_OBSERVERS as 
 
 -- a registration is known by its endpoint and its token
 abbrev pub IsKnownByPair : Type 0
-IsKnownByPair = (to : Endpoint) (token : List ℕ) (o : Observer) → IsTrue (is_of to token o) ↔ ((o.to ≡ to) × (o.token ≡ token))
+IsKnownByPair = (to : Endpoint) (token : List ℕ) (o : Observer)
+    → IsTrue (is_of to token o) ↔ ((o.to ≡ to) × (o.token ≡ token))
 
 -- a new registration is there, and nothing is due to it
 abbrev pub RegisterPuts : Type 0
 RegisterPuts = (to : Endpoint) (token : List ℕ) (path : List (List ℕ)) (szx : ℕ) (os : List Observer)
-    → registration to token (registered to token path szx os) ≡ Some (record { to = to; token = token; path = path; szx = szx; marked = false })
+    → registration to token (registered to token path szx os)
+    ≡ Some (record { to = to; token = token; path = path; szx = szx; marked = false })
 
 -- a removed registration is gone
 abbrev pub RemoveTakes : Type 0
@@ -29,20 +31,24 @@ ChangeMarks = (path : List (List ℕ)) (to : Endpoint) (token : List ℕ) (os : 
 -- nothing is due any more where the notification was sent
 abbrev pub SendUnmarks : Type 0
 SendUnmarks = (to : Endpoint) (token : List ℕ) (os : List Observer)
-    → registration to token (sent_to to token os) ≡ option_map (λ (o : Observer). record o { marked = false }) (registration to token os)
+    → registration to token (sent_to to token os)
+    ≡ option_map (λ (o : Observer). record o { marked = false }) (registration to token os)
 
 -- another endpoint, or another token
 abbrev pub IsOther : Endpoint → List ℕ → Endpoint → List ℕ → Type 0
 IsOther to token by bytes = ¬ ((to ≡ by) × (token ≡ bytes))
 
 -- the registrations of others stay as they were
-pub record OthersStay (to : Endpoint) (token : List ℕ) (by : Endpoint) (bytes : List ℕ) (os : List Observer) : Type 0 where
-  pub registered_stay : (path : List (List ℕ)) (szx : ℕ) → registration to token (registered by bytes path szx os) ≡ registration to token os
+pub record OthersStay (to : Endpoint) (token : List ℕ) (by : Endpoint) (bytes : List ℕ)
+    (os : List Observer) : Type 0 where
+  pub registered_stay : (path : List (List ℕ)) (szx : ℕ)
+      → registration to token (registered by bytes path szx os) ≡ registration to token os
   pub removed_stay : registration to token (removed by bytes os) ≡ registration to token os
   pub sent_stay : registration to token (sent_to by bytes os) ≡ registration to token os
 
 abbrev pub EachStays : Type 0
-EachStays = (to : Endpoint) (token : List ℕ) (by : Endpoint) (bytes : List ℕ) (os : List Observer) → IsOther to token by bytes → OthersStay to token by bytes os
+EachStays = (to : Endpoint) (token : List ℕ) (by : Endpoint) (bytes : List ℕ) (os : List Observer)
+    → IsOther to token by bytes → OthersStay to token by bytes os
 
 -- what is always so of the registrations stays so
 pub record StayRegistrations (os : List Observer) : Type 0 where
@@ -62,8 +68,10 @@ SendLowers = (to : Endpoint) (token : List ℕ) (os : List Observer) → AreRegi
 
 -- where none was due, nothing is changed by a sending
 abbrev pub SendKeeps : Type 0
-SendKeeps = (to : Endpoint) (token : List ℕ) (os : List Observer) → list_any (is_due_of to token) os ≡ false → sent_to to token os ≡ os
+SendKeeps = (to : Endpoint) (token : List ℕ) (os : List Observer) → list_any (is_due_of to token) os ≡ false
+    → sent_to to token os ≡ os
 
 -- no more are due when one is removed
 abbrev pub RemoveNeverRaises : Type 0
-RemoveNeverRaises = (to : Endpoint) (token : List ℕ) (os : List Observer) → length (marked_in (removed to token os)) ≤ length (marked_in os)
+RemoveNeverRaises = (to : Endpoint) (token : List ℕ) (os : List Observer)
+    → length (marked_in (removed to token os)) ≤ length (marked_in os)

@@ -12,19 +12,23 @@ use Rattle.coap_resource.specs.Entries.{entry_of, held_entries, find, without_pa
 use Rattle.coap_resource.specs.Entries.{content_of}
 use Rattle.coap_types.proofs.Facts.Paths.{same_path-decides}
 
-pub entries_append : {A : Type 0} (xs ys : List (Entry A)) → held_entries (xs ++ ys) ≡ held_entries xs ++ held_entries ys
+pub entries_append : {A : Type 0} (xs ys : List (Entry A))
+    → held_entries (xs ++ ys) ≡ held_entries xs ++ held_entries ys
 entries_append [] ys = refl
 entries_append (x ∷ xs) ys = ap (λ (r : List (List (List ℕ) × Held)). entry_of x ∷ r) (entries_append xs ys)
 
-entries_cond : {A : Type 0} (b : Bool) (x : Entry A) (xs : List (Entry A)) → held_entries (if b then x ∷ xs else xs) ≡ (if b then entry_of x ∷ held_entries xs else held_entries xs)
+entries_cond : {A : Type 0} (b : Bool) (x : Entry A) (xs : List (Entry A))
+    → held_entries (if b then x ∷ xs else xs) ≡ (if b then entry_of x ∷ held_entries xs else held_entries xs)
 entries_cond true x xs = refl
 entries_cond false x xs = refl
 
-pub entries_without : {A : Type 0} (es : List (Entry A)) (p : List (List ℕ)) → held_entries (filter (λ (e : Entry A). not (same_path e.path p)) es) ≡ without_path (held_entries es) p
+pub entries_without : {A : Type 0} (es : List (Entry A)) (p : List (List ℕ))
+    → held_entries (filter (λ (e : Entry A). not (same_path e.path p)) es) ≡ without_path (held_entries es) p
 entries_without [] p = refl
 entries_without {A} (e ∷ es) p =
     entries_cond (not (same_path e.path p)) e (filter (λ (e : Entry A). not (same_path e.path p)) es)
-    ∙ ap (λ (r : List (List (List ℕ) × Held)). if not (same_path e.path p) then entry_of e ∷ r else r) (entries_without es p)
+    ∙ ap (λ (r : List (List (List ℕ) × Held)). if not (same_path e.path p) then entry_of e ∷ r else r)
+    (entries_without es p)
 
 is_same : (p q : List (List ℕ)) → same_path p q ≡ true → p ≡ q
 is_same p q h = (same_path-decides p q).0 h
@@ -39,7 +43,8 @@ other_by false p q d h = refl
 pub is_other : (p q : List (List ℕ)) → q ≢ p → same_path p q ≡ false
 is_other p q h = other_by (same_path p q) p q (is_same p q) h
 
-there_step : (b : Bool) (e : List (List ℕ) × Held) (w : List (List (List ℕ) × Held)) (p : List (List ℕ)) → same_path e.0 p ≡ b → find w p ≡ None
+there_step : (b : Bool) (e : List (List ℕ) × Held) (w : List (List (List ℕ) × Held)) (p : List (List ℕ))
+    → same_path e.0 p ≡ b → find w p ≡ None
     → find (if not b then e ∷ w else w) p ≡ None
 there_step true e w p is ih = ih
 there_step false e w p is ih = rw is ih
@@ -48,7 +53,8 @@ pub find_without : (es : List (List (List ℕ) × Held)) (p : List (List ℕ)) �
 find_without [] p = refl
 find_without (e ∷ es) p = there_step (same_path e.0 p) e (without_path es p) p refl (find_without es p)
 
-other_step : (b : Bool) (e : List (List ℕ) × Held) (es w : List (List (List ℕ) × Held)) (p q : List (List ℕ)) → same_path e.0 p ≡ b → q ≢ p
+other_step : (b : Bool) (e : List (List ℕ) × Held) (es w : List (List (List ℕ) × Held)) (p q : List (List ℕ))
+    → same_path e.0 p ≡ b → q ≢ p
     → find w q ≡ find es q → find (if not b then e ∷ w else w) q ≡ find (e ∷ es) q
 other_step false e es w p q is ne ih = ap (λ (r : Option Held). if same_path e.0 q then Some e.1 else r) ih
 other_step true e es w p q is ne ih =
@@ -56,30 +62,38 @@ other_step true e es w p q is ne ih =
     let no : same_path e.0 q ≡ false = is_other e.0 q (λ h. ne (h ∙ same)) in
     rw no ih
 
-pub find_without_other : (es : List (List (List ℕ) × Held)) (p q : List (List ℕ)) → q ≢ p → find (without_path es p) q ≡ find es q
+pub find_without_other : (es : List (List (List ℕ) × Held)) (p q : List (List ℕ)) → q ≢ p
+    → find (without_path es p) q ≡ find es q
 find_without_other [] p q ne = refl
-find_without_other (e ∷ es) p q ne = other_step (same_path e.0 p) e es (without_path es p) p q refl ne (find_without_other es p q ne)
+find_without_other (e ∷ es) p q ne = other_step (same_path e.0 p) e es (without_path es p) p q refl ne
+    (find_without_other es p q ne)
 
 cond_none : (b : Bool) (x : Held) (o : Option Held) → (if b then Some x else o) ≡ None → (b ≡ false) × (o ≡ None)
 cond_none true x o h = absurd cc
 cond_none false x o h = (refl, h)
 
-pub find_behind : (es : List (List (List ℕ) × Held)) (p : List (List ℕ)) (h : Held) → find es p ≡ None → find (es ++ (p, h) ∷ []) p ≡ Some h
+pub find_behind : (es : List (List (List ℕ) × Held)) (p : List (List ℕ)) (h : Held) → find es p ≡ None
+    → find (es ++ (p, h) ∷ []) p ≡ Some h
 find_behind [] p h none = rw same_self refl
 find_behind (e ∷ es) p h none =
     let n = cond_none (same_path e.0 p) e.1 (find es p) none in
     rw n.0 (find_behind es p h n.1)
 
-pub find_behind_other : (es : List (List (List ℕ) × Held)) (p q : List (List ℕ)) (h : Held) → q ≢ p → find (es ++ (p, h) ∷ []) q ≡ find es q
+pub find_behind_other : (es : List (List (List ℕ) × Held)) (p q : List (List ℕ)) (h : Held) → q ≢ p
+    → find (es ++ (p, h) ∷ []) q ≡ find es q
 find_behind_other [] p q h ne = let no = is_other p q ne in rw no refl
-find_behind_other (e ∷ es) p q h ne = ap (λ (r : Option Held). if same_path e.0 q then Some e.1 else r) (find_behind_other es p q h ne)
+find_behind_other (e ∷ es) p q h ne = ap (λ (r : Option Held). if same_path e.0 q then Some e.1 else r)
+    (find_behind_other es p q h ne)
 
 differ : (p q : List (List ℕ)) → same_path p q ≡ false → p ≢ q
-differ p q h e = let t = same_self q in let u : same_path q q ≡ false = subst (λ (r : List (List ℕ)). same_path r q ≡ false) e h in absurd cc
+differ p q h e = let t = same_self q in let u : same_path q q
+    ≡ false = subst (λ (r : List (List ℕ)). same_path r q ≡ false) e h in absurd cc
 
-length_step : (b : Bool) (e : List (List ℕ) × Held) (es w : List (List (List ℕ) × Held)) (p : List (List ℕ)) → same_path e.0 p ≡ b → find es e.0 ≡ None
+length_step : (b : Bool) (e : List (List ℕ) × Held) (es w : List (List (List ℕ) × Held)) (p : List (List ℕ))
+    → same_path e.0 p ≡ b → find es e.0 ≡ None
     → length w + (if is_some (find es p) then 1 else 0) ≡ length es
-    → length (if not b then e ∷ w else w) + (if is_some (if b then Some e.1 else find es p) then 1 else 0) ≡ length (e ∷ es)
+    → length (if not b then e ∷ w else w) + (if is_some (if b then Some e.1 else find es p) then 1 else 0)
+    ≡ length (e ∷ es)
 length_step true e es w p is none ih =
     let same = is_same e.0 p is in
     let gone : find es p ≡ None = subst (λ (q : List (List ℕ)). find es q ≡ None) same none in
@@ -89,9 +103,11 @@ length_step false e es w p is none ih = omega (arith, ih)
 pub length_without : (es : List (List (List ℕ) × Held)) (p : List (List ℕ)) → Unique es
     → length (without_path es p) + (if is_some (find es p) then 1 else 0) ≡ length es
 length_without [] p u = refl
-length_without (e ∷ es) p u = length_step (same_path e.0 p) e es (without_path es p) p refl u.0 (length_without es p u.1)
+length_without (e ∷ es) p u = length_step (same_path e.0 p) e es (without_path es p) p refl u.0
+    (length_without es p u.1)
 
-unique_step : (b : Bool) (e : List (List ℕ) × Held) (es : List (List (List ℕ) × Held)) (p : List (List ℕ)) → same_path e.0 p ≡ b → find es e.0 ≡ None
+unique_step : (b : Bool) (e : List (List ℕ) × Held) (es : List (List (List ℕ) × Held)) (p : List (List ℕ))
+    → same_path e.0 p ≡ b → find es e.0 ≡ None
     → Unique (without_path es p) → Unique (if not b then e ∷ without_path es p else without_path es p)
 unique_step true e es p is none ih = ih
 unique_step false e es p is none ih = (find_without_other es p e.0 (differ e.0 p is) ∙ none, ih)
@@ -100,7 +116,8 @@ pub unique_without : (es : List (List (List ℕ) × Held)) (p : List (List ℕ))
 unique_without [] p u = tt
 unique_without (e ∷ es) p u = unique_step (same_path e.0 p) e es p refl u.0 (unique_without es p u.1)
 
-unique_behind : (es : List (List (List ℕ) × Held)) (p : List (List ℕ)) (h : Held) → find es p ≡ None → Unique es → Unique (es ++ (p, h) ∷ [])
+unique_behind : (es : List (List (List ℕ) × Held)) (p : List (List ℕ)) (h : Held) → find es p ≡ None → Unique es
+    → Unique (es ++ (p, h) ∷ [])
 unique_behind [] p h none u = (refl, tt)
 unique_behind (e ∷ es) p h none u =
     let n = cond_none (same_path e.0 p) e.1 (find es p) none in
@@ -110,20 +127,23 @@ unique_behind (e ∷ es) p h none u =
 abbrev pub replaced : List (List (List ℕ) × Held) → List (List ℕ) → Held → List (List (List ℕ) × Held)
 replaced es p h = without_path es p ++ (p, h) ∷ []
 
-pub unique_put : (es : List (List (List ℕ) × Held)) (p : List (List ℕ)) (h : Held) → Unique es → Unique (replaced es p h)
+pub unique_put : (es : List (List (List ℕ) × Held)) (p : List (List ℕ)) (h : Held) → Unique es
+    → Unique (replaced es p h)
 unique_put es p h u = unique_behind (without_path es p) p h (find_without es p) (unique_without es p u)
 
 pub there_put : (es : List (List (List ℕ) × Held)) (p : List (List ℕ)) (h : Held) → find (replaced es p h) p ≡ Some h
 there_put es p h = find_behind (without_path es p) p h (find_without es p)
 
-pub others_put : (es : List (List (List ℕ) × Held)) (p q : List (List ℕ)) (h : Held) → q ≢ p → find (replaced es p h) q ≡ find es q
+pub others_put : (es : List (List (List ℕ) × Held)) (p q : List (List ℕ)) (h : Held) → q ≢ p
+    → find (replaced es p h) q ≡ find es q
 others_put es p q h ne = find_behind_other (without_path es p) p q h ne ∙ find_without_other es p q ne
 
 pub length_put : (es : List (List (List ℕ) × Held)) (p : List (List ℕ)) (h : Held) → Unique es
     → length (replaced es p h) + (if is_some (find es p) then 1 else 0) ≡ length es + 1
 length_put es p h u = omega (arith, length_without es p u, length-append (without_path es p) ((p, h) ∷ []))
 
-pub change_put : (old new : Listed) (now : ℕ) (p : List (List ℕ)) (h : Held) → Unique old.entries → new.entries ≡ replaced old.entries p h
+pub change_put : (old new : Listed) (now : ℕ) (p : List (List ℕ)) (h : Held) → Unique old.entries
+    → new.entries ≡ replaced old.entries p h
     → new.tally ≡ counted old.tally now → Changes (content_of old) now p (Some h) (content_of new)
 change_put old new now p h u es tally = record {
   there = rw es (there_put old.entries p h);
@@ -133,7 +153,8 @@ change_put old new now p h u es tally = record {
 }
 
 -- the path's entry taken out is a change to nothing
-pub change_out : (old new : Listed) (now : ℕ) (p : List (List ℕ)) → Unique old.entries → new.entries ≡ without_path old.entries p
+pub change_out : (old new : Listed) (now : ℕ) (p : List (List ℕ)) → Unique old.entries
+    → new.entries ≡ without_path old.entries p
     → new.tally ≡ counted old.tally now → Changes (content_of old) now p None (content_of new)
 change_out old new now p u es tally = record {
   there = rw es (find_without old.entries p);
@@ -147,60 +168,78 @@ some_same h k e = cc
 
 -- what was found at a path is what the store holds there
 pub found_is : {A : Type 0} (es fs : List (Entry A)) (old : Listed) (t : Tally) (p : List (List ℕ)) (h k : Held)
-    → Some h ≡ find (held_entries fs) p → fs ≡ es → record { entries = held_entries es; tally = t } ≡ old → find old.entries p ≡ Some k → h ≡ k
+    → Some h ≡ find (held_entries fs) p → fs ≡ es → record { entries = held_entries es; tally = t } ≡ old
+    → find old.entries p ≡ Some k → h ≡ k
 found_is es fs old t p h k found same view is =
     some_same h k (found ∙ ap (λ xs. find (held_entries xs) p) same ∙ ap (λ (s : Listed). find s.entries p) view ∙ is)
 
 -- a longer body in place of what the path holds
-pub change_append : (old new : Listed) (now : ℕ) (p : List (List ℕ)) (version : ℕ) (was held : Held) (body more : List ℕ) → Unique old.entries
-    → new.entries ≡ replaced old.entries p (record { version = version; format = was.format; body = body }) → body ≡ was.body ++ more
+pub change_append : (old new : Listed) (now : ℕ) (p : List (List ℕ)) (version : ℕ) (was held : Held)
+    (body more : List ℕ) → Unique old.entries
+    → new.entries ≡ replaced old.entries p (record { version = version; format = was.format; body = body })
+    → body ≡ was.body ++ more
     → was ≡ held → new.tally ≡ counted old.tally now
-    → Changes (content_of old) now p (Some (record { version = version; format = held.format; body = held.body ++ more })) (content_of new)
+    → Changes (content_of old) now p (Some (record
+    { version = version; format = held.format; body = held.body ++ more })) (content_of new)
 change_append old new now p version was held body more u es joined same tally =
-    rw (← same, ← joined) (change_put old new now p (record { version = version; format = was.format; body = body }) u es tally)
+    rw (← same, ← joined) (change_put old new now p
+    (record { version = version; format = was.format; body = body }) u es tally)
 
-short_step : (b : Bool) (e : List (List ℕ) × Held) (es : List (List (List ℕ) × Held)) → length e.1.body ≤ max_body_len → AreShort es → AreShort (if b then e ∷ es else es)
+short_step : (b : Bool) (e : List (List ℕ) × Held) (es : List (List (List ℕ) × Held)) → length e.1.body ≤ max_body_len
+    → AreShort es → AreShort (if b then e ∷ es else es)
 short_step true e es first rest = (first, rest)
 short_step false e es first rest = rest
 
 -- the entries that stay are short
 pub short_without : (es : List (List (List ℕ) × Held)) (p : List (List ℕ)) → AreShort es → AreShort (without_path es p)
 short_without [] p short = tt
-short_without (e ∷ es) p short = short_step (not (same_path e.0 p)) e (without_path es p) short.0 (short_without es p short.1)
+short_without (e ∷ es) p short = short_step (not (same_path e.0 p)) e (without_path es p) short.0
+    (short_without es p short.1)
 
-short_behind : (es : List (List (List ℕ) × Held)) (p : List (List ℕ)) (h : Held) → AreShort es → length h.body ≤ max_body_len → AreShort (es ++ (p, h) ∷ [])
+short_behind : (es : List (List (List ℕ) × Held)) (p : List (List ℕ)) (h : Held) → AreShort es
+    → length h.body ≤ max_body_len → AreShort (es ++ (p, h) ∷ [])
 short_behind [] p h short last = (last, tt)
 short_behind (e ∷ es) p h short last = (short.0, short_behind es p h short.1 last)
 
-pub short_put : (es : List (List (List ℕ) × Held)) (p : List (List ℕ)) (h : Held) → AreShort es → length h.body ≤ max_body_len → AreShort (replaced es p h)
+pub short_put : (es : List (List (List ℕ) × Held)) (p : List (List ℕ)) (h : Held) → AreShort es
+    → length h.body ≤ max_body_len → AreShort (replaced es p h)
 short_put es p h short last = short_behind (without_path es p) p h (short_without es p short) last
 
-short_found : (b : Bool) (h : Held) (found : Option Held) → length h.body ≤ max_body_len → IfSome found (λ k. length k.body ≤ max_body_len)
+short_found : (b : Bool) (h : Held) (found : Option Held) → length h.body ≤ max_body_len
+    → IfSome found (λ k. length k.body ≤ max_body_len)
     → IfSome (if b then Some h else found) (λ k. length k.body ≤ max_body_len)
 short_found true h found first rest = first
 short_found false h found first rest = rest
 
 -- what is found is short
-pub short_find : (es : List (List (List ℕ) × Held)) (p : List (List ℕ)) → AreShort es → IfSome (find es p) (λ held. length held.body ≤ max_body_len)
+pub short_find : (es : List (List (List ℕ) × Held)) (p : List (List ℕ)) → AreShort es
+    → IfSome (find es p) (λ held. length held.body ≤ max_body_len)
 short_find [] p short = tt
 short_find (e ∷ es) p short = short_found (same_path e.0 p) e.1 (find es p) short.0 (short_find es p short.1)
 
 -- a body that is joined to another
-pub short_joined : (body front more : List ℕ) → body ≡ front ++ more → length front + length more ≤ max_body_len → length body ≤ max_body_len
+pub short_joined : (body front more : List ℕ) → body ≡ front ++ more → length front + length more ≤ max_body_len
+    → length body ≤ max_body_len
 short_joined body front more is few = rw is (omega (arith, length-append front more))
 
 -- what enters is a change
-pub change_enters : (old new : Listed) (now : ℕ) (p : List (List ℕ)) (held : Option Held) → Enters old.entries p held new.entries
+pub change_enters : (old new : Listed) (now : ℕ) (p : List (List ℕ)) (held : Option Held)
+    → Enters old.entries p held new.entries
     → new.tally ≡ counted old.tally now → Changes (content_of old) now p held (content_of new)
-change_enters old new now p held enters tally = record { there = enters.there; others = enters.others; paths = enters.paths; tally = tally }
+change_enters old new now p held enters tally =
+    record { there = enters.there; others = enters.others; paths = enters.paths; tally = tally }
 
 -- .. also where a body was joined
-pub change_joined : (old new : Listed) (now : ℕ) (p : List (List ℕ)) (version : ℕ) (was held : Held) (body more : List ℕ)
-    → Enters old.entries p (Some (record { version = version; format = was.format; body = body })) new.entries → body ≡ was.body ++ more
+pub change_joined : (old new : Listed) (now : ℕ) (p : List (List ℕ)) (version : ℕ) (was held : Held)
+    (body more : List ℕ)
+    → Enters old.entries p (Some (record { version = version; format = was.format; body = body })) new.entries
+    → body ≡ was.body ++ more
     → was ≡ held → new.tally ≡ counted old.tally now
-    → Changes (content_of old) now p (Some (record { version = version; format = held.format; body = held.body ++ more })) (content_of new)
+    → Changes (content_of old) now p (Some (record
+    { version = version; format = held.format; body = held.body ++ more })) (content_of new)
 change_joined old new now p version was held body more enters joined same tally =
-    rw (← same, ← joined) (change_enters old new now p (Some (record { version = version; format = was.format; body = body })) enters tally)
+    rw (← same, ← joined) (change_enters old new now p
+    (Some (record { version = version; format = was.format; body = body })) enters tally)
 
 -- what was found there is what the store holds there
 pub found_there : (es : List (List (List ℕ) × Held)) (old : Listed) (t : Tally) (p : List (List ℕ)) (h k : Held)

@@ -1,5 +1,6 @@
 -- A map from paths as the list of its entries, in the order of the paths.
-use Rattle.std.proofs.Common.{◌≡◌, ◌≤◌, ℕ, Bool, true, false, ◌+◌, ◌∙◌, List, [], ◌∷◌, length, refl, ap, sym, arith, Option, Some, None, IfSome, is_some, if◌then◌else◌}
+use Rattle.std.proofs.Common.{◌≡◌, ◌≤◌, ℕ, Bool, true, false, ◌+◌, ◌∙◌, List, [], ◌∷◌, length, refl, ap, sym, arith}
+use Rattle.std.proofs.Common.{Option, Some, None, IfSome, is_some, if◌then◌else◌}
 use Rattle.std.proofs.lemmas.List.{length-map}
 use Rattle.std.specs.BTreeMap.{BTreeMap, UpdatesBy, btree_map_len, get, get_by, insert_entry, is_at}
 use Rattle.std.specs.Map.{lookup, remove_entry}
@@ -30,7 +31,8 @@ turned p q = true_by (same_path p q) (same_path q p)
     (λ h. (same_path-decides q p).1 (sym ((same_path-decides p q).0 h)))
     (λ h. (same_path-decides p q).1 (sym ((same_path-decides q p).0 h)))
 
-found_step : {A : Type 0} (b : Bool) (r : Representation A) (rest : Option (Representation A)) (f : Option Held) → f ≡ shown rest
+found_step : {A : Type 0} (b : Bool) (r : Representation A) (rest : Option (Representation A)) (f : Option Held)
+    → f ≡ shown rest
     → (if b then Some (held_of r) else f) ≡ shown (if b then Some r else rest)
 found_step true r rest f ih = refl
 found_step false r rest f ih = ih
@@ -41,7 +43,8 @@ pub found : {A : Type 0} (es : List (List (List ℕ) × Representation A)) (p : 
 found [] p = refl
 found {A} (e ∷ es) p =
     let same : same_path e.0 p ≡ is_at (path_order p) e.0 = turned e.0 p ∙ sym (at_same p e.0) in
-    rw same (found_step (is_at (path_order p) e.0) e.1 (lookup (is_at (path_order p)) es) (find (mapped_entries es) p) (found es p))
+    rw same (found_step (is_at (path_order p) e.0) e.1 (lookup (is_at (path_order p)) es) (find (mapped_entries es) p)
+    (found es p))
 
 pub mapped_length : {A : Type 0} (es : List (List (List ℕ) × Representation A)) → length (mapped_entries es) ≡ length es
 mapped_length {A} es = length-map es (λ (e : List (List ℕ) × Representation A). (e.0, held_of e.1))
@@ -51,22 +54,27 @@ some_shown None = refl
 some_shown (Some r) = refl
 
 -- the entries stay short where a body is put in ..
-short_placed : {A : Type 0} (o : Ordering) (e : List (List ℕ) × Representation A) (es rest : List (List (List ℕ) × Representation A)) (p : List (List ℕ)) (r : Representation A)
+short_placed : {A : Type 0} (o : Ordering) (e : List (List ℕ) × Representation A)
+    (es rest : List (List (List ℕ) × Representation A)) (p : List (List ℕ)) (r : Representation A)
     → length r.body ≤ max_body_len → AreShort (mapped_entries (e ∷ es)) → AreShort (mapped_entries rest)
     → AreShort (mapped_entries (match_ordering o ((p, r) ∷ e ∷ es) ((e.0, r) ∷ es) (e ∷ rest)))
 short_placed Less e es rest p r fits all ih = (fits, all)
 short_placed Equal e es rest p r fits all ih = (fits, all.1)
 short_placed Greater e es rest p r fits all ih = (all.0, ih)
 
-pub short_insert : {A : Type 0} (es : List (List (List ℕ) × Representation A)) (p : List (List ℕ)) (r : Representation A)
-    → length r.body ≤ max_body_len → AreShort (mapped_entries es) → AreShort (mapped_entries (insert_entry path_order es p r))
+pub short_insert : {A : Type 0} (es : List (List (List ℕ) × Representation A)) (p : List (List ℕ))
+    (r : Representation A)
+    → length r.body ≤ max_body_len → AreShort (mapped_entries es)
+    → AreShort (mapped_entries (insert_entry path_order es p r))
 short_insert [] p r fits all = (fits, tt)
 short_insert (e ∷ es) p r fits all =
     short_placed (path_order p e.0) e es (insert_entry path_order es p r) p r fits all (short_insert es p r fits all.1)
 
 -- .. and where one is taken out
-short_left : {A : Type 0} (b : Bool) (e : List (List ℕ) × Representation A) (es rest : List (List (List ℕ) × Representation A))
-    → AreShort (mapped_entries (e ∷ es)) → AreShort (mapped_entries rest) → AreShort (mapped_entries (if b then es else e ∷ rest))
+short_left : {A : Type 0} (b : Bool) (e : List (List ℕ) × Representation A)
+    (es rest : List (List (List ℕ) × Representation A))
+    → AreShort (mapped_entries (e ∷ es)) → AreShort (mapped_entries rest)
+    → AreShort (mapped_entries (if b then es else e ∷ rest))
 short_left true e es rest all ih = all.1
 short_left false e es rest all ih = (all.0, ih)
 
@@ -76,15 +84,19 @@ short_remove test [] all = tt
 short_remove test (e ∷ es) all = short_left (test e.0) e es (remove_entry test es) all (short_remove test es all.1)
 
 -- a map that is updated at a path enters that there
-pub enters : {A : Type 0} (old new : BTreeMap (List (List ℕ)) (Representation A)) (p : List (List ℕ)) (w : Option (Representation A))
+pub enters : {A : Type 0} (old new : BTreeMap (List (List ℕ)) (Representation A)) (p : List (List ℕ))
+    (w : Option (Representation A))
     → UpdatesBy path_order (path_order p) old new w
-    → length new.entries + (if is_some (get_by (path_order p) old) then 1 else 0) ≡ length old.entries + (if is_some w then 1 else 0)
-    → (AreShort (mapped_entries old.entries) → IfSome (shown w) (λ h. length h.body ≤ max_body_len) → AreShort (mapped_entries new.entries))
+    → length new.entries + (if is_some (get_by (path_order p) old) then 1 else 0)
+    ≡ length old.entries + (if is_some w then 1 else 0)
+    → (AreShort (mapped_entries old.entries) → IfSome (shown w) (λ h. length h.body ≤ max_body_len)
+    → AreShort (mapped_entries new.entries))
     → Enters (mapped_entries old.entries) p (shown w) (mapped_entries new.entries)
 enters {A} old new p w up count short = record {
   there = found new.entries p ∙ ap (λ (r : Option (Representation A)). shown r) up.1;
   others = λ q ne.
-      found new.entries q ∙ ap (λ (r : Option (Representation A)). shown r) (up.2 q (at_same p q ∙ is_other p q ne)) ∙ sym (found old.entries q);
+      found new.entries q ∙ ap (λ (r : Option (Representation A)). shown r) (up.2 q (at_same p q ∙ is_other p q ne))
+      ∙ sym (found old.entries q);
   paths =
       let had : is_some (find (mapped_entries old.entries) p) ≡ is_some (get_by (path_order p) old) =
       ap is_some (found old.entries p) ∙ some_shown (get_by (path_order p) old) in
@@ -92,18 +104,22 @@ enters {A} old new p w up count short = record {
   short = short;
 }
 
-one_more : {X : Type 0} (was : Option X) (old new : ℕ) → new ≡ old + (if is_some was then 0 else 1) → new + (if is_some was then 1 else 0) ≡ old + 1
+one_more : {X : Type 0} (was : Option X) (old new : ℕ) → new ≡ old + (if is_some was then 0 else 1)
+    → new + (if is_some was then 1 else 0) ≡ old + 1
 one_more None old new len = omega (arith, len)
 one_more (Some r) old new len = omega (arith, len)
 
 -- what is put in is one more, or in another's place ..
-pub count_in : {A : Type 0} (old new : BTreeMap (List (List ℕ)) (Representation A)) (p : List (List ℕ)) (r : Representation A) (was : Option (Representation A))
+pub count_in : {A : Type 0} (old new : BTreeMap (List (List ℕ)) (Representation A)) (p : List (List ℕ))
+    (r : Representation A) (was : Option (Representation A))
     → was ≡ get path_order old p → btree_map_len new ≡ btree_map_len old + (if is_some was then 0 else 1)
-    → length new.entries + (if is_some (get_by (path_order p) old) then 1 else 0) ≡ length old.entries + (if is_some (Some r) then 1 else 0)
+    → length new.entries + (if is_some (get_by (path_order p) old) then 1 else 0)
+    ≡ length old.entries + (if is_some (Some r) then 1 else 0)
 count_in old new p r was is len = rw (← is) (one_more was (length old.entries) (length new.entries) len)
 
 -- .. and what is taken out is one less, if there is any
-pub count_out : {A : Type 0} (old new : BTreeMap (List (List ℕ)) (Representation A)) (p : List (List ℕ)) (was : Option (Representation A))
+pub count_out : {A : Type 0} (old new : BTreeMap (List (List ℕ)) (Representation A)) (p : List (List ℕ))
+    (was : Option (Representation A))
     → was ≡ get_by (path_order p) old → btree_map_len new + (if is_some was then 1 else 0) ≡ btree_map_len old
     → length new.entries + (if is_some (get_by (path_order p) old) then 1 else 0) ≡ length old.entries + 0
 count_out old new p was is len = rw (← is) (omega (arith, len))

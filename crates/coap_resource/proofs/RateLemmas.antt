@@ -1,4 +1,5 @@
--- What a tally has counted are the changes among the calls, and any 256 s hold at most twice the changes that a window takes.
+-- What a tally has counted are the changes among the calls, and any 256 s hold at most twice the changes that a window
+-- takes.
 use Rattle.std.proofs.Common.{◌≡◌, ◌≢◌, ◌≤◌, ◌<◌, ℕ, Bool, true, false, ◌&&◌, ◌+◌, ◌==◌, ◌∙◌, max, ◌↔◌, List, [], ◌∷◌}
 use Rattle.std.proofs.Common.{refl, sym, ap, arith, Some, None, if◌then◌else◌, leb}
 use Rattle.std.proofs.lemmas.Grind.{common_steps}
@@ -49,7 +50,8 @@ room t at none = grind (arith, common_steps)
 start : (limit : ℕ) → Counts limit [] (nothing limit).tally
 start limit = record { clock = refl; limited = refl; now = refl; each = λ w. omega arith; ahead = λ w h. refl }
 
-waits : (limit : ℕ) (past : List (ℕ × Bool)) (t : Tally) (at : ℕ) → Counts limit past t → Counts limit ((at, false) ∷ past) (waited t at)
+waits : (limit : ℕ) (past : List (ℕ × Bool)) (t : Tally) (at : ℕ) → Counts limit past t
+    → Counts limit ((at, false) ∷ past) (waited t at)
 waits limit past t at counts = record {
   clock = ap (λ c. max c at) counts.clock;
   limited = counts.limited;
@@ -79,9 +81,11 @@ adds limit past t at room counts =
       limited = limited;
       now = rw (self_same (window m)) (omega (arith, was));
       each = λ w. one_more (window m == w) (changes_in w past) limit
-          (λ e. let same = same_by (window m) w e in let here = ap (λ v. changes_in v past) same in omega (arith, was, here, room, limited))
+          (λ e. let same = same_by (window m) w e in let here =
+          ap (λ v. changes_in v past) same in omega (arith, was, here, room, limited))
           (counts.each w);
-      ahead = λ w h. no_more (window m == w) (changes_in w past) (apart (window m) w h) (counts.ahead w (omega (arith, h)));
+      ahead = λ w h. no_more (window m == w) (changes_in w past) (apart (window m) w h)
+          (counts.ahead w (omega (arith, h)));
     }
 
 goes : (limit : ℕ) (past : List (ℕ × Bool)) (changed : Bool) (old new : Content) (at : ℕ) → Counts limit past old.tally
@@ -95,7 +99,8 @@ leads : (limit : ℕ) (calls : List (ℕ × Bool)) (s : Content) → Leads limit
 leads limit [] s led = let tally = ap (λ (s : Content). s.tally) led in rw tally (start limit)
 leads limit (call ∷ past) s led = goes limit past call.1 led.0 s call.0 (leads limit past led.0 led.1.0) led.1.1
 
-covered : (a b c : Bool) → (a ≡ true → b ≡ false → c ≡ true) → (if a then 1 else 0) ≤ (if b then 1 else 0) + (if c then 1 else 0)
+covered : (a b c : Bool) → (a ≡ true → b ≡ false → c ≡ true)
+    → (if a then 1 else 0) ≤ (if b then 1 else 0) + (if c then 1 else 0)
 covered true true c h = omega arith
 covered true false c h = rw (h refl refl) (omega arith)
 covered false b c h = omega arith
@@ -132,7 +137,8 @@ rate limit calls s led from =
 pub count : CountLaw
 count limit calls s led now = used_is limit calls s.tally now (leads limit calls s led)
 
-full_by : (b c : Bool) → (if b then Some RateExceeded else if c then Some VersionsSpent else None) ≡ Some RateExceeded → b ≡ true
+full_by : (b c : Bool) → (if b then Some RateExceeded else if c then Some VersionsSpent else None) ≡ Some RateExceeded
+    → b ≡ true
 full_by true c h = refl
 full_by false true h = absurd cc
 full_by false false h = absurd cc

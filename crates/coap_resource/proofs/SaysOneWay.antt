@@ -18,7 +18,8 @@ spelled : (number : Option ℕ) → IsSmall number → IsUint number (option_map
 spelled None small = tt
 spelled (Some n) small = uint_spells n small
 
-one_way : (number : Option ℕ) (bytes : Option (List ℕ)) → IsSmall number → IsUint number bytes → bytes ≡ option_map uint number
+one_way : (number : Option ℕ) (bytes : Option (List ℕ)) → IsSmall number → IsUint number bytes
+    → bytes ≡ option_map uint number
 one_way None None small is = refl
 one_way (Some n) (Some b) small is = ap (λ (x : List ℕ). Some x) (one_spelling b (uint n) n is (uint_spells n small))
 one_way None (Some b) small is = absurd is
@@ -32,11 +33,13 @@ small_format : (format : Option ℕ) → IfSome format (λ f. f < 2 ^ 16) → Is
 small_format None small = tt
 small_format (Some f) small = omega (arith, small)
 
-small_value : (num szx : ℕ) (more : Bool) → num ≤ max_num → szx ≤ max_szx → block_value (record { num = num; more = more; szx = szx }) < 2 ^ 32
+small_value : (num szx : ℕ) (more : Bool) → num ≤ max_num → szx ≤ max_szx
+    → block_value (record { num = num; more = more; szx = szx }) < 2 ^ 32
 small_value num szx true few least = omega (arith, few, least)
 small_value num szx false few least = omega (arith, few, least)
 
-small_block : (block : Option (ℕ × Bool × ℕ)) → IfSome block (λ b. (b.0 ≤ max_num) × (b.2 ≤ max_szx)) → IsSmall (block_number block)
+small_block : (block : Option (ℕ × Bool × ℕ)) → IfSome block (λ b. (b.0 ≤ max_num) × (b.2 ≤ max_szx))
+    → IsSmall (block_number block)
 small_block None fits = tt
 small_block (Some b) fits = small_value b.0 b.2 b.1 fits.0 fits.1
 
@@ -45,14 +48,22 @@ says_one_way reply options fits =
     let format = small_format reply.format fits.format in
     let block = small_block reply.block2 fits.block2 in
     let listed : option_with numbers.ETAG reply.tag
-    ++ (option_with numbers.CONTENT_FORMAT (option_map uint reply.format) ++ option_with numbers.BLOCK2 (option_map uint (block_number reply.block2)))
+    ++ (option_with numbers.CONTENT_FORMAT (option_map uint reply.format)
+    ++ option_with numbers.BLOCK2 (option_map uint (block_number reply.block2)))
     ≡ response_options reply =
-    ap (λ os. option_with numbers.ETAG reply.tag ++ (os ++ option_with numbers.BLOCK2 (option_map uint (block_number reply.block2)))) (as_option numbers.CONTENT_FORMAT reply.format)
-    ∙ ap (λ os. option_with numbers.ETAG reply.tag ++ (uint_option numbers.CONTENT_FORMAT reply.format ++ os)) (as_option numbers.BLOCK2 (block_number reply.block2)) in (
+    ap (λ os. option_with numbers.ETAG reply.tag
+    ++ (os ++ option_with numbers.BLOCK2 (option_map uint (block_number reply.block2))))
+    (as_option numbers.CONTENT_FORMAT reply.format)
+    ∙ ap (λ os. option_with numbers.ETAG reply.tag ++ (uint_option numbers.CONTENT_FORMAT reply.format ++ os))
+    (as_option numbers.BLOCK2 (block_number reply.block2)) in (
       λ says.
           says.list
-          ∙ (ap (λ b. option_with numbers.ETAG reply.tag ++ (option_with numbers.CONTENT_FORMAT b ++ option_with numbers.BLOCK2 says.block2)) (one_way reply.format says.format format says.format_is)
-          ∙ (ap (λ b. option_with numbers.ETAG reply.tag ++ (option_with numbers.CONTENT_FORMAT (option_map uint reply.format) ++ option_with numbers.BLOCK2 b)) (one_way (block_number reply.block2) says.block2 block says.block2_is)
+          ∙ (ap (λ b. option_with numbers.ETAG reply.tag
+          ++ (option_with numbers.CONTENT_FORMAT b ++ option_with numbers.BLOCK2 says.block2))
+          (one_way reply.format says.format format says.format_is)
+          ∙ (ap (λ b. option_with numbers.ETAG reply.tag
+          ++ (option_with numbers.CONTENT_FORMAT (option_map uint reply.format) ++ option_with numbers.BLOCK2 b))
+          (one_way (block_number reply.block2) says.block2 block says.block2_is)
           ∙ listed)),
       λ is. record {
         format = option_map uint reply.format;

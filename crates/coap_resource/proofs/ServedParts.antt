@@ -15,7 +15,8 @@ use Rattle.coap_resource.specs.Serves.{Reply, content_reply}
 use Rattle.coap_resource.proofs.ServedContent.{content_law}
 
 size_some : (szx : ℕ) → 0 < 2 ^ (szx + 4)
-size_some szx = let powers : 2 ^ 0 ≤ 2 ^ (szx + 4) = pow-le-pow_right {n = 2} (omega arith) (let e : 0 ≤ szx + 4 = omega arith in e) in omega (arith, powers)
+size_some szx = let powers : 2 ^ 0 ≤ 2 ^ (szx + 4) =
+    pow-le-pow_right {n = 2} (omega arith) (let e : 0 ≤ szx + 4 = omega arith in e) in omega (arith, powers)
 
 -- a block of the response begins where one that is asked for begins: its size divides the other
 asked_is : (num asked szx : ℕ) → szx ≤ asked → num * 2 ^ (asked + 4) ≡ (num * 2 ^ (asked - szx)) * 2 ^ (szx + 4)
@@ -24,10 +25,12 @@ asked_is num asked szx least =
     let powers = ap (λ e. 2 ^ e) exponent ∙ pow-add 2 (asked - szx) (szx + 4) in
     ap (λ n. num * n) powers ∙ grind arith
 
-begins : (body : List ℕ) (offset num size : ℕ) → offset ≡ num * size → 0 < size → (nat_lt 0 offset && nat_le (length body) offset) ≡ false → (offset < length body) ⊎ ((num ≡ 0) × (body ≡ []))
+begins : (body : List ℕ) (offset num size : ℕ) → offset ≡ num * size → 0 < size
+    → (nat_lt 0 offset && nat_le (length body) offset) ≡ false → (offset < length body) ⊎ ((num ≡ 0) × (body ≡ []))
 begins body offset num size is some within = by (nat_lt 0 offset) (nat_le (length body) offset) refl refl within
   where
-    by : (a b : Bool) → nat_lt 0 offset ≡ a → nat_le (length body) offset ≡ b → (a && b) ≡ false → (offset < length body) ⊎ ((num ≡ 0) × (body ≡ []))
+    by : (a b : Bool) → nat_lt 0 offset ≡ a → nat_le (length body) offset ≡ b → (a && b) ≡ false
+        → (offset < length body) ⊎ ((num ≡ 0) × (body ≡ []))
     by true true p q h = absurd (cc h)
     by a false p q h = inl (grind (arith, nat_tests))
     by false true p q h =
@@ -43,21 +46,27 @@ ends : (len end : ℕ) → (nat_lt end len ≡ false) ↔ (len ≤ end)
 ends len end = (λ h. grind (arith, nat_tests), λ h. grind (arith, nat_tests))
 
 -- a part of a body from this place on
-piece_at : (body : List ℕ) (offset num szx : ℕ) → offset ≡ num * 2 ^ (szx + 4) → (nat_lt 0 offset && nat_le (length body) offset) ≡ false
+piece_at : (body : List ℕ) (offset num szx : ℕ) → offset ≡ num * 2 ^ (szx + 4)
+    → (nat_lt 0 offset && nat_le (length body) offset) ≡ false
     → Piece body num (nat_lt (offset + 2 ^ (szx + 4)) (length body)) szx (take (2 ^ (szx + 4)) (drop offset body))
 piece_at body offset num szx is within = record {
   bytes = ap (λ at. take (2 ^ (szx + 4)) (drop at body)) is;
-  begins = subst (λ at. (at < length body) ⊎ ((num ≡ 0) × (body ≡ []))) is (begins body offset num (2 ^ (szx + 4)) is (size_some szx) within);
-  reaches_end = subst (λ at. (nat_lt (offset + 2 ^ (szx + 4)) (length body) ≡ false) ↔ (length body ≤ at + 2 ^ (szx + 4))) is (ends (length body) (offset + 2 ^ (szx + 4)));
+  begins = subst (λ at. (at < length body) ⊎ ((num ≡ 0) × (body ≡ []))) is
+      (begins body offset num (2 ^ (szx + 4)) is (size_some szx) within);
+  reaches_end = subst (λ at. (nat_lt (offset + 2 ^ (szx + 4)) (length body) ≡ false)
+      ↔ (length body ≤ at + 2 ^ (szx + 4))) is (ends (length body) (offset + 2 ^ (szx + 4)));
 }
 
 num_is : (offset num size : ℕ) → 0 < size → offset ≡ num * size → offset / size ≡ num
 num_is offset num size some is = ap (λ n. n / size) is ∙ mul-div_cancel num some
 
-sent : (body : List ℕ) (offset num szx : ℕ) → offset ≡ num * 2 ^ (szx + 4) → (nat_lt 0 offset && nat_le (length body) offset) ≡ false
-    → Piece body (offset / 2 ^ (szx + 4)) (nat_lt (offset + 2 ^ (szx + 4)) (length body)) szx (take (2 ^ (szx + 4)) (drop offset body))
+sent : (body : List ℕ) (offset num szx : ℕ) → offset ≡ num * 2 ^ (szx + 4)
+    → (nat_lt 0 offset && nat_le (length body) offset) ≡ false
+    → Piece body (offset / 2 ^ (szx + 4)) (nat_lt (offset + 2 ^ (szx + 4)) (length body)) szx
+    (take (2 ^ (szx + 4)) (drop offset body))
 sent body offset num szx is within =
-    subst (λ n. Piece body n (nat_lt (offset + 2 ^ (szx + 4)) (length body)) szx (take (2 ^ (szx + 4)) (drop offset body)))
+    subst (λ n. Piece body n (nat_lt (offset + 2 ^ (szx + 4)) (length body)) szx
+    (take (2 ^ (szx + 4)) (drop offset body)))
     (sym (num_is offset num (2 ^ (szx + 4)) (size_some szx) is)) (piece_at body offset num szx is within)
 
 not_longer : (a b : ℕ) → nat_lt a b ≡ false → b ≤ a
@@ -65,18 +74,26 @@ not_longer a b is = grind (arith, nat_tests)
 
 -- without Block2 in the request
 first : (held : Held) (szx : ℕ) (longer : Bool) → nat_lt (2 ^ (szx + 4)) (length held.body) ≡ longer
-    → IsPart (if longer then Some (0 / 2 ^ (szx + 4), nat_lt (0 + 2 ^ (szx + 4)) (length held.body), szx) else None) held.body (take (2 ^ (szx + 4)) held.body)
+    → IsPart (if longer then Some (0 / 2 ^ (szx + 4), nat_lt (0 + 2 ^ (szx + 4)) (length held.body), szx) else None)
+    held.body (take (2 ^ (szx + 4)) held.body)
 first held szx true is = sent held.body 0 0 szx (let none : 0 ≡ 0 * 2 ^ (szx + 4) = omega arith in none) refl
 first held szx false is = take_all (2 ^ (szx + 4)) held.body (not_longer (2 ^ (szx + 4)) (length held.body) is)
 
-part : (held : Held) (block : Option Block) (szx : ℕ) → (nat_lt 0 (offset_by block) && nat_le (length held.body) (offset_by block)) ≡ false
-    → IsPart (content_reply held (is_some block) (offset_by block) (szx_by block szx)).block2 held.body (content_reply held (is_some block) (offset_by block) (szx_by block szx)).part
+part : (held : Held) (block : Option Block) (szx : ℕ)
+    → (nat_lt 0 (offset_by block) && nat_le (length held.body) (offset_by block)) ≡ false
+    → IsPart (content_reply held (is_some block) (offset_by block) (szx_by block szx)).block2 held.body
+    (content_reply held (is_some block) (offset_by block) (szx_by block szx)).part
 part held None szx within = first held szx (nat_lt (2 ^ (szx + 4)) (length held.body)) refl
 part held (Some b) szx within =
     let least = min-le_left b.szx szx in
-    sent held.body (b.num * 2 ^ (b.szx + 4)) (b.num * 2 ^ (b.szx - min b.szx szx)) (min b.szx szx) (asked_is b.num b.szx (min b.szx szx) least) within
+    sent held.body (b.num * 2 ^ (b.szx + 4)) (b.num * 2 ^ (b.szx - min b.szx szx)) (min b.szx szx)
+    (asked_is b.num b.szx (min b.szx szx) least) within
 
 pub part_law : PartLaw
 part_law old new at q reply h k =
-    let is = content_law old new at q reply h k in
-    (is.held, is.is_held, subst (λ (r : Reply). IsPart r.block2 is.held.body r.part) (sym is.is) (part is.held (block_of q.options) q.szx is.within))
+    let is = content_law old new at q reply h k in (
+      is.held,
+      is.is_held,
+      subst (λ (r : Reply). IsPart r.block2 is.held.body r.part) (sym is.is)
+          (part is.held (block_of q.options) q.szx is.within),
+    )

@@ -46,7 +46,8 @@ put_refusal s now path len =
 
 -- why so many bytes can't be joined to what a path holds, in the order of the tests
 abbrev pub append_refusal : Content → ℕ → Held → ℕ → Option StoreRefusal
-append_refusal s now held len = if nat_lt max_body_len (length held.body + len) then Some TooLarge else rate_refusal s.tally now
+append_refusal s now held len = if nat_lt max_body_len (length held.body + len) then Some TooLarge else
+    rate_refusal s.tally now
 
 -- one change: this path holds that from now on, and the others what they held
 pub record Changes (old : Content) (now : ℕ) (path : List (List ℕ)) (held : Option Held) (new : Content) : Type 0 where

@@ -1,5 +1,6 @@
 -- A list of entries as a map from paths, with at most one entry for a path.
-use Rattle.std.specs.Prelude.{◌≡◌, ◌≢◌, ◌≤◌, ℕ, ◌+◌, not, List, [], ◌∷◌, length, map, Option, Some, None, IfSome, is_some, if◌then◌else◌}
+use Rattle.std.specs.Prelude.{◌≡◌, ◌≢◌, ◌≤◌, ℕ, ◌+◌, not, List, [], ◌∷◌, length, map, Option, Some, None, IfSome}
+use Rattle.std.specs.Prelude.{is_some, if◌then◌else◌}
 use Rattle.std.specs.List.{filter}
 use Rattle.coap_types.specs.Path.{same_path}
 use Rattle.coap_resource.specs.declared.entry.Entry.{Entry}
@@ -47,7 +48,8 @@ abbrev pub content_of : Listed → Content
 content_of s = record { holds = find s.entries; paths = length s.entries; tally = s.tally }
 
 -- The entries hold that at the path from now on, or nothing, and at the others what they held.
-pub record Enters (old : List (List (List ℕ) × Held)) (path : List (List ℕ)) (held : Option Held) (new : List (List (List ℕ) × Held)) : Type 0 where
+pub record Enters (old : List (List (List ℕ) × Held)) (path : List (List ℕ)) (held : Option Held)
+    (new : List (List (List ℕ) × Held)) : Type 0 where
   pub there : find new path ≡ held
   pub others : (other : List (List ℕ)) → other ≢ path → find new other ≡ find old other
   pub paths : length new + (if is_some (find old path) then 1 else 0) ≡ length old + (if is_some held then 1 else 0)

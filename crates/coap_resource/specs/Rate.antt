@@ -1,4 +1,5 @@
--- How often a store changes: moments fall into windows (of 256 s), and a window takes so many changes (RFC 7641, section 4.4).
+-- How often a store changes: moments fall into windows (of 256 s), and a window takes so many changes (RFC 7641,
+-- section 4.4).
 use Rattle.std.specs.Prelude.{ℕ, ◌+◌, ◌-◌, ◌^◌, ◌/◌, ◌==◌, max, nat_le, Option, Some, None, if◌then◌else◌}
 use Rattle.coap_resource.specs.declared.refusal.StoreRefusal.{StoreRefusal}
 use Rattle.coap_resource.specs.declared.refusal.StoreRefusal.TheVariants.{RateExceeded, VersionsSpent}

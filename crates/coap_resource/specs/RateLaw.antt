@@ -8,7 +8,8 @@ use Rattle.coap_resource.specs.Rate.{rate_refusal, used, window}
 
 -- what a call makes of a store: a change, where the window has room for it; else only the moment counts
 abbrev pub Goes : Bool → Content → ℕ → Content → Type 0
-Goes true old now new = (rate_refusal old.tally now ≡ None) × ((path : List (List ℕ)) × (held : Option Held) × Changes old now path held new)
+Goes true old now new = (rate_refusal old.tally now ≡ None)
+    × ((path : List (List ℕ)) × (held : Option Held) × Changes old now path held new)
 Goes false old now new = new ≡ later old now
 
 -- calls, newest first, each with its moment and whether it changed something, that lead from a new store to this one
@@ -25,7 +26,8 @@ last (call ∷ past) = max (last past) call.0
 abbrev pub changes_between : ℕ → ℕ → List (ℕ × Bool) → ℕ
 changes_between from to [] = 0
 changes_between from to (call ∷ past) =
-    (if call.1 && (nat_le from (last (call ∷ past)) && nat_le (last (call ∷ past)) to) then 1 else 0) + changes_between from to past
+    (if call.1 && (nat_le from (last (call ∷ past)) && nat_le (last (call ∷ past)) to) then 1 else 0) + changes_between
+    from to past
 
 -- any 256 s hold at most twice the changes that a window takes
 abbrev pub RateLaw : Type 0
@@ -42,7 +44,8 @@ abbrev pub CountLaw : Type 0
 CountLaw = (limit : ℕ) (calls : List (ℕ × Bool)) (s : Content) → Leads limit calls s → (now : ℕ)
     → used s.tally now ≡ changes_in (window (max (last calls) now)) calls
 
--- a change is refused for its rate exactly where the window of its moment has all its changes among the calls, and so never early
+-- a change is refused for its rate exactly where the window of its moment has all its changes among the calls, and so
+-- never early
 abbrev pub ExceededLaw : Type 0
 ExceededLaw = (limit : ℕ) (calls : List (ℕ × Bool)) (s : Content) → Leads limit calls s → (now : ℕ)
     → (rate_refusal s.tally now ≡ Some RateExceeded) ↔ (changes_in (window (max (last calls) now)) calls ≡ limit)

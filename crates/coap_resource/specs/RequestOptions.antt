@@ -39,7 +39,8 @@ if_match_names version (o ∷ os) = (o.number == numbers.IF_MATCH && matches ver
 -- holds something
 abbrev pub precondition_fails : Option Held → List CoapOption → Bool
 precondition_fails None os = has numbers.IF_MATCH os
-precondition_fails (Some held) os = (has numbers.IF_MATCH os && not (if_match_names held.version os)) || has numbers.IF_NONE_MATCH os
+precondition_fails (Some held) os = (has numbers.IF_MATCH os && not (if_match_names held.version os))
+    || has numbers.IF_NONE_MATCH os
 
 -- a number of 16 bits
 abbrev pub within_16 : Option ℕ → Option ℕ

@@ -1,4 +1,5 @@
--- The options that say a response, and how large a response is (RFC 7252, sections 3.2, 4.6, 5.10.3 and 5.10.6; RFC 7959, section 2.2).
+-- The options that say a response, and how large a response is (RFC 7252, sections 3.2, 4.6, 5.10.3 and 5.10.6; RFC
+-- 7959, section 2.2).
 use Rattle.std.specs.Prelude.{◌≡◌, ◌↔◌, ℕ, ◌^◌, ◌<◌, ◌≤◌, ◌++◌, Bool, List, length, Option, Some, None, IfSome}
 use Rattle.coap_types.specs.CoapOption.{CoapOption}
 use Rattle.coap_types.specs.BlockValue.{block_value}
@@ -31,7 +32,8 @@ pub record Says (reply : Reply) (options : List CoapOption) : Type 0 where
   pub block2 : Option (List ℕ)
   pub format_is : IsUint reply.format format
   pub block2_is : IsUint (block_number reply.block2) block2
-  pub list : options ≡ option_with numbers.ETAG reply.tag ++ (option_with numbers.CONTENT_FORMAT format ++ option_with numbers.BLOCK2 block2)
+  pub list : options ≡ option_with numbers.ETAG reply.tag
+      ++ (option_with numbers.CONTENT_FORMAT format ++ option_with numbers.BLOCK2 block2)
 
 -- .. the same as a function
 abbrev pub response_options : Reply → List CoapOption
@@ -51,4 +53,5 @@ pub record Fits (reply : Reply) : Type 0 where
 
 -- Such a response says its options in one way.
 abbrev pub SaysOneWay : Type 0
-SaysOneWay = (reply : Reply) (options : List CoapOption) → Fits reply → Says reply options ↔ (options ≡ response_options reply)
+SaysOneWay = (reply : Reply) (options : List CoapOption) → Fits reply
+    → Says reply options ↔ (options ≡ response_options reply)

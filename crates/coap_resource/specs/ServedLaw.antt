@@ -1,4 +1,5 @@
--- Where a 2.05 comes from and what its payload is, and which codes say a change (RFC 7252, section 5.9.1; RFC 7959, section 2.4).
+-- Where a 2.05 comes from and what its payload is, and which codes say a change (RFC 7252, section 5.9.1; RFC 7959,
+-- section 2.4).
 use Rattle.std.specs.Prelude.{◌≡◌, ◌⊎◌, ℕ, Bool, false, ◌&&◌, ◌||◌, ◌==◌, nat_lt, nat_le, List, length, Option, Some}
 use Rattle.std.specs.Prelude.{None, is_some}
 use Rattle.coap_types.specs.declared.message.TheConstants.Code as codes
@@ -13,13 +14,16 @@ pub record IsContent (old : Content) (q : Question) (reply : Reply) (new : Conte
   pub method : q.method ≡ Get
   pub held : Held
   pub is_held : old.holds q.path ≡ Some held
-  pub within : (nat_lt 0 (offset_by (block_of q.options)) && nat_le (length held.body) (offset_by (block_of q.options))) ≡ false
-  pub is : reply ≡ content_reply held (is_some (block_of q.options)) (offset_by (block_of q.options)) (szx_by (block_of q.options) q.szx)
+  pub within : (nat_lt 0 (offset_by (block_of q.options)) && nat_le (length held.body) (offset_by (block_of q.options)))
+      ≡ false
+  pub is : reply ≡ content_reply held (is_some (block_of q.options)) (offset_by (block_of q.options))
+      (szx_by (block_of q.options) q.szx)
   pub same : new ≡ old
 
 -- each 2.05 comes from such a GET
 abbrev pub ContentLaw : Type 0
-ContentLaw = (old new : Content) (now : ℕ) (q : Question) (reply : Reply) → Serves old now q reply new → reply.code ≡ codes.CONTENT.0
+ContentLaw = (old new : Content) (now : ℕ) (q : Question) (reply : Reply) → Serves old now q reply new
+    → reply.code ≡ codes.CONTENT.0
     → IsContent old q reply new
 
 -- without Block2 the payload is the whole body, else the piece of it that Block2 says
@@ -29,7 +33,8 @@ IsPart (Some block) body part = Piece body block.0 block.1 block.2 part
 
 -- the payload of a 2.05 is a part of what the path holds
 abbrev pub PartLaw : Type 0
-PartLaw = (old new : Content) (now : ℕ) (q : Question) (reply : Reply) → Serves old now q reply new → reply.code ≡ codes.CONTENT.0
+PartLaw = (old new : Content) (now : ℕ) (q : Question) (reply : Reply) → Serves old now q reply new
+    → reply.code ≡ codes.CONTENT.0
     → (held : Held) × (old.holds q.path ≡ Some held) × IsPart reply.block2 held.body reply.part
 
 -- 2.01, 2.02 and 2.04
@@ -38,5 +43,6 @@ is_change code = (code == codes.CREATED.0) || ((code == codes.DELETED.0) || (cod
 
 -- under any other code nothing changes but the moment
 abbrev pub SameLaw : Type 0
-SameLaw = (old new : Content) (now : ℕ) (q : Question) (reply : Reply) → Serves old now q reply new → is_change reply.code ≡ false
+SameLaw = (old new : Content) (now : ℕ) (q : Question) (reply : Reply) → Serves old now q reply new
+    → is_change reply.code ≡ false
     → (new ≡ old) ⊎ (new ≡ later old now)

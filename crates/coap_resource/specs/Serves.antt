@@ -25,7 +25,13 @@ pub record Question : Type 0 where
   pub szx : ℕ
 
 abbrev pub question_of : {A : Type 0} → Asking A → Question
-question_of a = record { method = a.method; path = a.path.now; options = options_of a.options.now; body = a.body.now; szx = a.szx }
+question_of a = record {
+  method = a.method;
+  path = a.path.now;
+  options = options_of a.options.now;
+  body = a.body.now;
+  szx = a.szx;
+}
 
 -- a response: its options, its payload, and the offset that a GET asked for
 pub record Reply : Type 0 where
@@ -37,7 +43,14 @@ pub record Reply : Type 0 where
   pub offset : ℕ
 
 abbrev pub reply_of : {A : Type 0} → Response A → Reply
-reply_of r = record { code = r.code.0; tag = r.tag; format = r.format; block2 = r.block2; part = r.part; offset = r.offset }
+reply_of r = record {
+  code = r.code.0;
+  tag = r.tag;
+  format = r.format;
+  block2 = r.block2;
+  part = r.part;
+  offset = r.offset;
+}
 
 -- a code with no option and no payload
 abbrev pub bare : ℕ → ℕ → Reply
@@ -47,7 +60,8 @@ bare code offset = record { code = code; tag = None; format = None; block2 = Non
 -- response, and M says whether the body goes on.
 abbrev pub block2_of : Bool → ℕ → ℕ → ℕ → Option (ℕ × Bool × ℕ)
 block2_of by_block offset szx len =
-    if by_block || nat_lt (size_of szx) len then Some (offset / size_of szx, nat_lt (offset + size_of szx) len, szx) else None
+    if by_block || nat_lt (size_of szx) len then
+    Some (offset / size_of szx, nat_lt (offset + size_of szx) len, szx) else None
 
 -- 2.05: the part of the body from the offset on, at most a block of it
 abbrev pub content_reply : Held → Bool → ℕ → ℕ → Reply
@@ -64,8 +78,10 @@ content_reply held by_block offset szx = record {
 abbrev pub got_at : Held → List CoapOption → ℕ → Option Block → Reply
 got_at held options szx block =
     if not (accepts held.format options) then bare codes.NOT_ACCEPTABLE.0 (offset_by block)
-    else if etag_names held.version options then record (bare codes.VALID.0 (offset_by block)) { tag = Some (tag_of held.version) }
-    else if nat_lt 0 (offset_by block) && nat_le (length held.body) (offset_by block) then bare codes.BAD_REQUEST.0 (offset_by block)
+    else if etag_names held.version options then
+    record (bare codes.VALID.0 (offset_by block)) { tag = Some (tag_of held.version) }
+    else if nat_lt 0 (offset_by block) && nat_le (length held.body) (offset_by block) then
+    bare codes.BAD_REQUEST.0 (offset_by block)
     else content_reply held (is_some block) (offset_by block) (szx_by block szx)
 
 abbrev pub got : Option Held → Question → Reply
@@ -82,14 +98,22 @@ abbrev pub PutBy : Option StoreRefusal → Content → ℕ → Question → Repl
 PutBy (Some why) old now q reply new = (reply ≡ bare (refusal_code why) 0) × (new ≡ later old now)
 PutBy None old now q reply new =
     (reply ≡ bare (if is_some (old.holds q.path) then codes.CHANGED.0 else codes.CREATED.0) 0)
-    × Changes old now q.path (Some (record { version = old.tally.version + 1; format = format_of q.options; body = q.body })) new
+    × Changes old now q.path (Some (record {
+      version = old.tally.version + 1;
+      format = format_of q.options;
+      body = q.body;
+    })) new
 
 -- a POST to what a path holds: the body is joined to its end, and the format stays
 abbrev pub JoinBy : Option StoreRefusal → Held → Content → ℕ → Question → Reply → Content → Type 0
 JoinBy (Some why) held old now q reply new = (reply ≡ bare (refusal_code why) 0) × (new ≡ later old now)
 JoinBy None held old now q reply new =
     (reply ≡ bare codes.CHANGED.0 0)
-    × Changes old now q.path (Some (record { version = old.tally.version + 1; format = held.format; body = held.body ++ q.body })) new
+    × Changes old now q.path (Some (record {
+      version = old.tally.version + 1;
+      format = held.format;
+      body = held.body ++ q.body;
+    })) new
 
 abbrev pub PostBy : Option Held → Content → ℕ → Question → Reply → Content → Type 0
 PostBy None old now q reply new = (reply ≡ bare codes.NOT_FOUND.0 0) × (new ≡ later old now)
@@ -117,7 +141,8 @@ asked_offset Get options = offset_by (block_of options)
 asked_offset method options = 0
 
 abbrev pub ServesUnless : Bool → Content → ℕ → Question → Reply → Content → Type 0
-ServesUnless true old now q reply new = (reply ≡ bare codes.PRECONDITION_FAILED.0 (asked_offset q.method q.options)) × (new ≡ old)
+ServesUnless true old now q reply new = (reply ≡ bare codes.PRECONDITION_FAILED.0 (asked_offset q.method q.options))
+    × (new ≡ old)
 ServesUnless false old now q reply new = ServesMethod q.method old now q reply new
 
 -- the preconditions first, 4.12 where they fail, and then the method

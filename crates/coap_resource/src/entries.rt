@@ -52,7 +52,8 @@ pub(crate) fn put_in<A: Allocator + Copy>(
     path: &Path<A>,
     held: Representation<A>,
 ) -> Result<(), AllocError>
-    ensures ok { OnOk result (held_entries entries.new.items ≡ without_path (held_entries entries.old.items) path.now ++ (path.now, held_of held) ∷ []) }
+    ensures ok { OnOk result (held_entries entries.new.items ≡ without_path (held_entries entries.old.items) path.now
+        ++ (path.now, held_of held) ∷ []) }
     ensures err { OnErr result (entries.new.items ≡ entries.old.items) }
 {
     let copy = path.clone()?;

@@ -30,7 +30,8 @@ pub(crate) fn put_in<A: Allocator + Copy>(
     path: &Path<A>,
     held: Representation<A>,
 ) -> Result<(), AllocError>
-    ensures ok { OnOk result (Enters (mapped_entries map.old.entries) path.now (Some (held_of held)) (mapped_entries map.new.entries)) }
+    ensures ok { OnOk result (Enters (mapped_entries map.old.entries) path.now (Some (held_of held))
+        (mapped_entries map.new.entries)) }
     ensures err { OnErr result (map.new.entries ≡ map.old.entries) }
 {
     let key = path.clone()?;

@@ -227,7 +227,8 @@ pub fn serve<A: Allocator + Copy, S: Store<A>>(
     ensures err { OnErr result (store.new ≡ store.old) }
     // A GET leaves the store as it is, and so does a 4.12. What else changes nothing lets the moment count.
     ensures get { asking.now.method ≡ Method.Get → store.new ≡ store.old }
-    ensures failed { precondition_fails ((S.content store.old).holds asking.now.path.now) (options_of asking.now.options.now)
+    ensures failed { precondition_fails ((S.content store.old).holds asking.now.path.now)
+        (options_of asking.now.options.now)
         ≡ true → store.new ≡ store.old }
     // What is quiet takes no memory.
     ensures quiet { IsQuiet (S.content store.old) now.0 (question_of asking.now) → IsOk result }

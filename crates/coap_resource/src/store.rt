@@ -52,14 +52,16 @@ pub trait Store<A: Allocator + Copy>: Drop {
         format: Option<u16>,
         body: &[u8],
     ) -> Result<u64, StoreRefusal>
-        ensures refused { (why : StoreRefusal) → put_refusal (content self.old) now.0 path.now (length body.now) ≡ Some why
+        ensures refused { (why : StoreRefusal) → put_refusal (content self.old) now.0 path.now (length body.now)
+            ≡ Some why
             → (result ≡ Err why) × (content self.new ≡ later (content self.old) now.0) }
         ensures taken { put_refusal (content self.old) now.0 path.now (length body.now) ≡ None
             → IfErr result (λ why. why ≡ Memory) }
         ensures room { IfOk result (λ version. rate_refusal (content self.old).tally now.0 ≡ None) }
         ensures version { IfOk result (λ version. version ≡ (content self.old).tally.version + 1) }
         ensures change { IfOk result (λ version.
-            Changes (content self.old) now.0 path.now (Some (record { version = version; format = format; body = body.now })) (content self.new)) }
+            Changes (content self.old) now.0 path.now
+            (Some (record { version = version; format = format; body = body.now })) (content self.new)) }
         ensures memory { result ≡ Err Memory → self.new ≡ self.old };
 
     /// Joins a body to the end of what the path holds, and answers the version; None where the path
@@ -85,7 +87,8 @@ pub trait Store<A: Allocator + Copy>: Drop {
         ensures change { IfOk result (λ done. IfSome done (λ version.
             (held : Held) → (content self.old).holds path.now ≡ Some held
             → Changes (content self.old) now.0 path.now
-            (Some (record { version = version; format = held.format; body = held.body ++ body.now })) (content self.new))) }
+            (Some (record { version = version; format = held.format; body = held.body ++ body.now }))
+            (content self.new))) }
         ensures memory { result ≡ Err Memory → self.new ≡ self.old };
 
     /// Takes away what the path holds, and answers the version; None where the path holds nothing.

@@ -28,7 +28,8 @@ num_field n = n / 16
 -- the block that a number says: NUM has 20 bits, and SZX 7 is reserved
 abbrev pub block_by : ℕ → Option Block
 block_by n =
-    if nat_le (num_field n) max_num && nat_le (szx_field n) max_szx then Some (record { num = num_field n; more = more_field n; szx = szx_field n })
+    if nat_le (num_field n) max_num && nat_le (szx_field n) max_szx then
+    Some (record { num = num_field n; more = more_field n; szx = szx_field n })
     else None
 
 -- the block that an option's value says: at most three bytes

@@ -1,4 +1,5 @@
--- The options that are recognised, by their numbers (RFC 7252, section 5.10, table 4; RFC 7641, section 2; RFC 7959, sections 2.1 and 4).
+-- The options that are recognised, by their numbers (RFC 7252, section 5.10, table 4; RFC 7641, section 2; RFC 7959,
+-- sections 2.1 and 4).
 use Rattle.std.specs.Prelude.{ℕ, Option, Some, None, List, [], ◌∷◌, ◌==◌, if◌then◌else◌}
 use Rattle.coap_types.specs.declared.option_number.TheConstants.{IF_MATCH as if_match, URI_HOST as uri_host}
 use Rattle.coap_types.specs.declared.option_number.TheConstants.{ETAG as etag, IF_NONE_MATCH as if_none_match}

@@ -22,5 +22,6 @@ pub path_partial_order : IsPartialOrder same_path (λ p q. Some (path_order p q)
 path_partial_order = partial_order_from_agreeing_total path_order path_order_total (λ p q. refl) path_order_ties
 
 -- equal paths are hashed alike
-pub path_hash_respects_eq : (p q : List (List ℕ)) → same_path p q ≡ true → fed.slice (fed.slice fed.u8) p ≡ fed.slice (fed.slice fed.u8) q
+pub path_hash_respects_eq : (p q : List (List ℕ)) → same_path p q ≡ true
+    → fed.slice (fed.slice fed.u8) p ≡ fed.slice (fed.slice fed.u8) q
 path_hash_respects_eq p q same = ap (fed.slice (fed.slice fed.u8)) ((pointwise_decides bytes_decides p q).0 same)

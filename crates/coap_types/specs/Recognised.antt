@@ -53,7 +53,8 @@ recognised direction options = map (λ p. p.1) (filter (λ p. is_recognised dire
 
 -- whether a critical option is not recognised
 abbrev pub lacks_critical : Direction → List CoapOption → Bool
-lacks_critical direction options = list_any (λ p. is_critical p.1 && not (is_recognised direction p.0 p.1)) (placed [] options)
+lacks_critical direction options = list_any (λ p. is_critical p.1 && not (is_recognised direction p.0 p.1))
+    (placed [] options)
 
 -- the value of the first option of this number that is recognised
 abbrev pub recognised_value : Direction → ℕ → List CoapOption → Option (List ℕ)

@@ -32,8 +32,10 @@ path_refusal segments = refusal_after 0 segments
 abbrev pub PathsOfRecognised : Type 0
 PathsOfRecognised =
     (options : List CoapOption)
-    → path_refusal (path_of (recognised Request options)) ≡ (if nat_lt max_segments (length (path_of (recognised Request options))) then Some TooManySegments else None)
+    → path_refusal (path_of (recognised Request options))
+    ≡ (if nat_lt max_segments (length (path_of (recognised Request options))) then Some TooManySegments else None)
 
 -- segments make a path exactly where they keep within its bounds
 abbrev pub MakesPathWithin : Type 0
-MakesPathWithin = (segments : List (List ℕ)) → (path_refusal segments ≡ None) ↔ HoldsAtMost max_segments max_segment_len segments
+MakesPathWithin = (segments : List (List ℕ)) → (path_refusal segments ≡ None)
+    ↔ HoldsAtMost max_segments max_segment_len segments

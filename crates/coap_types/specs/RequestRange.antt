@@ -1,4 +1,5 @@
--- What its type says of a request: its numbers are in range and its fields within their bounds (RFC 7252, section 5.10).
+-- What its type says of a request: its numbers are in range and its fields within their bounds (RFC 7252, section
+-- 5.10).
 use Rattle.std.specs.Prelude.{◌<◌, ◌^◌, IfSome}
 use Rattle.coap_types.specs.declared.request.Request as declared
 use Rattle.coap_types.specs.Bytes.{AreBytes}

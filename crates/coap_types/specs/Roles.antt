@@ -3,8 +3,8 @@ use Rattle.std.specs.Prelude.{ℕ, ◌/◌, ◌==◌, ◌&&◌, nat_le, if◌the
 use Rattle.coap_types.specs.declared.role.Role.{Role}
 use Rattle.coap_types.specs.declared.role.Role.TheVariants.{Empty, Request, Response, Reserved}
 
--- 0.00 is Empty, the other codes of class 0 are requests, the classes 2 to 5 responses, and 1, 6 and 7 are reserved. The
--- class is the upper three bits.
+-- 0.00 is Empty, the other codes of class 0 are requests, the classes 2 to 5 responses, and 1, 6 and 7 are reserved.
+-- The class is the upper three bits.
 abbrev pub role_of : ℕ → Role
 role_of code =
     if code == 0 then Empty

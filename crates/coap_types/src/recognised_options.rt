@@ -40,7 +40,8 @@ fn see(seen: &mut [bool; NUMBERS], number: u16)
 
 // Whether an option is recognised, where one of its number stood before it or not.
 fn is_recognised(direction: Direction, option: Opt<'_>, again: bool) -> bool
-    ensures { (before : List CoapOption) → (option.entry.number < NUMBERS → again ≡ has_number option.entry.number before)
+    ensures { (before : List CoapOption) → (option.entry.number < NUMBERS
+        → again ≡ has_number option.entry.number before)
         → result ≡ is_recognised direction before (option_of option.entry) }
 {
     let Some(rule) = rule(option.number) else {

@@ -27,7 +27,8 @@ impl Model for UintBytes {
 
     ghost view = { λ u. u.bytes.items };
 
-    ghost invariant = { λ u. (length u.bytes.items ≤ MAX_UINT_LEN) × LeadsWithNoZero u.bytes.items × AreBytes u.bytes.items };
+    ghost invariant = { λ u. (length u.bytes.items ≤ MAX_UINT_LEN) × LeadsWithNoZero u.bytes.items
+        × AreBytes u.bytes.items };
 }
 
 impl UintBytes {

@@ -13,23 +13,28 @@ use Rattle.coap_codec.specs.Laws.{EachIsRead, NotBoth, OneMessage, OneFault, Mes
 use Rattle.coap_codec.proofs.Datagrams.ReadAsSpelled.{message_reads, message_faults, message_body}
 use Rattle.coap_codec.proofs.Datagrams.ReadAgain.{spelled_again, faulty_again}
 
-pub reads_found : (bytes : List ℕ) (r : Result Message Fault) → AreBytes bytes → Reads bytes r → IfOk r (λ m. Spells bytes m)
+pub reads_found : (bytes : List ℕ) (r : Result Message Fault) → AreBytes bytes → Reads bytes r
+    → IfOk r (λ m. Spells bytes m)
 reads_found bytes (Ok m) fits h = message_reads bytes fits m h
 reads_found bytes (Err f) fits h = tt
 
-pub reads_only : (bytes : List ℕ) (r : Result Message Fault) → AreBytes bytes → Reads bytes r → (m : Message) → Spells bytes m → r ≡ Ok m
+pub reads_only : (bytes : List ℕ) (r : Result Message Fault) → AreBytes bytes → Reads bytes r → (m : Message)
+    → Spells bytes m → r ≡ Ok m
 reads_only bytes (Ok n) fits h m s = let again = spelled_again bytes m fits s in cc
 reads_only bytes (Err f) fits h m s = absurd (let again = spelled_again bytes m fits s in let h' = h.0 in cc)
 
-pub reads_none : (bytes : List ℕ) (r : Result Message Fault) → AreBytes bytes → Reads bytes r → OnErr r ((m : Message) → Spells bytes m → ⊥)
+pub reads_none : (bytes : List ℕ) (r : Result Message Fault) → AreBytes bytes → Reads bytes r
+    → OnErr r ((m : Message) → Spells bytes m → ⊥)
 reads_none bytes (Ok n) fits h = tt
 reads_none bytes (Err f) fits h = λ m s. let again = spelled_again bytes m fits s in let h' = h.0 in cc
 
-pub reads_fault : (bytes : List ℕ) (r : Result Message Fault) → AreBytes bytes → Reads bytes r → IfErr r (λ f. Faulty bytes f.reason f.at)
+pub reads_fault : (bytes : List ℕ) (r : Result Message Fault) → AreBytes bytes → Reads bytes r
+    → IfErr r (λ f. Faulty bytes f.reason f.at)
 reads_fault bytes (Ok m) fits h = tt
 reads_fault bytes (Err f) fits h = message_faults bytes fits f.reason f.at h.0
 
-pub reads_body : (bytes : List ℕ) (r : Result Message Fault) → frame_fault bytes ≡ None → ReadsBody bytes r → Reads bytes r
+pub reads_body : (bytes : List ℕ) (r : Result Message Fault) → frame_fault bytes ≡ None → ReadsBody bytes r
+    → Reads bytes r
 reads_body bytes (Ok m) e h = message_body bytes e ∙ h
 reads_body bytes (Err f) e h = (message_body bytes e ∙ h.0, h.1)
 
@@ -56,7 +61,8 @@ one_message bytes m n fits s t =
 
 pub one_fault : OneFault
 one_fault bytes r s a b fits f g =
-    let both : Path (Result Message (Reason × ℕ)) (Err (r, a)) (Err (s, b)) = sym (faulty_again bytes r a fits f) ∙ faulty_again bytes s b fits g in
+    let both : Path (Result Message (Reason × ℕ)) (Err (r, a)) (Err (s, b)) = sym (faulty_again bytes r a fits f)
+    ∙ faulty_again bytes s b fits g in
     let is : Path (Reason × ℕ) (r, a) (s, b) = cc in
     (ap (λ (x : Reason × ℕ). x.0) is, ap (λ (x : Reason × ℕ). x.1) is)
 

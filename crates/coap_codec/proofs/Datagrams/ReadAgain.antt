@@ -37,18 +37,32 @@ kind_small Non = omega arith
 kind_small Ack = omega arith
 kind_small Rst = omega arith
 
-same_message : (a b : Message) → a.kind ≡ b.kind → a.code ≡ b.code → a.id ≡ b.id → a.token ≡ b.token → a.options ≡ b.options → a.payload ≡ b.payload → a ≡ b
+same_message : (a b : Message) → a.kind ≡ b.kind → a.code ≡ b.code → a.id ≡ b.id → a.token ≡ b.token
+    → a.options ≡ b.options → a.payload ≡ b.payload → a ≡ b
 same_message a b k c i t o p =
-    let whole : Path Message (record { kind = a.kind; code = a.code; id = a.id; token = a.token; options = a.options; payload = a.payload }) b = rw (k, c, i, t, o, p) refl in
+    let whole : Path Message (record {
+      kind = a.kind;
+      code = a.code;
+      id = a.id;
+      token = a.token;
+      options = a.options;
+      payload = a.payload;
+    }) b = rw (k, c, i, t, o, p) refl in
     whole
 
 -- what `body` makes of the parts of sound bytes
-pub viewed_body : (bytes : List ℕ) (n : ℕ) (token options payload : List ℕ) (kind : Kind) (id : ℕ) → n ≡ token_length bytes → token ≡ take n (drop 4 bytes) → options ≡ drop n (drop 4 bytes)
-    → kind ≡ kind_of (get_or bytes 0 0) → id ≡ id_of bytes → payload_at (walk 0 options).reason (walk 0 options).rest ≡ Ok payload → body_at bytes ≡ Ok (viewed kind (code bytes) id token options payload)
+pub viewed_body : (bytes : List ℕ) (n : ℕ) (token options payload : List ℕ) (kind : Kind) (id : ℕ)
+    → n ≡ token_length bytes → token ≡ take n (drop 4 bytes) → options ≡ drop n (drop 4 bytes)
+    → kind ≡ kind_of (get_or bytes 0 0) → id ≡ id_of bytes
+    → payload_at (walk 0 options).reason (walk 0 options).rest ≡ Ok payload
+    → body_at bytes ≡ Ok (viewed kind (code bytes) id token options payload)
 viewed_body bytes n token options payload kind id len front back k i read =
     let behind : options ≡ behind_token bytes = back ∙ drop-drop n 4 bytes ∙ ap (λ (j : ℕ). drop (4 + j) bytes) len in
-    let at : payload_at (walk 0 (behind_token bytes)).reason (walk 0 (behind_token bytes)).rest ≡ Ok payload = rw (← behind) read in
-    let same = same_message (message_of bytes payload) (viewed kind (code bytes) id token options payload) (sym k) refl (sym i) (sym (front ∙ ap (λ (j : ℕ). take j (drop 4 bytes)) len)) (ap (λ (b : List ℕ). (walk 0 b).options) (sym behind)) refl in
+    let at : payload_at (walk 0 (behind_token bytes)).reason (walk 0 (behind_token bytes)).rest
+    ≡ Ok payload = rw (← behind) read in
+    let same = same_message (message_of bytes payload) (viewed kind (code bytes) id token options payload) (sym k) refl
+    (sym i) (sym (front ∙ ap (λ (j : ℕ). take j (drop 4 bytes)) len))
+    (ap (λ (b : List ℕ). (walk 0 b).options) (sym behind)) refl in
     body_ok bytes payload at ∙ ap (λ m. Ok m) same
 
 module _ (m : Message) (front : List ℕ) (few : length m.token ≤ 8) where
@@ -99,17 +113,22 @@ module _ (m : Message) (front : List ℕ) (few : length m.token ≤ 8) where
   text_body fits run small =
       let end = marked_ends (last_number 0 m.options) m.payload in
       let w = walk_again m.options 0 front (marked m.payload) end.0 fits run end.1 in
-      let found : walk 0 (behind_token text) ≡ record { options = m.options; number = last_number 0 m.options; rest = marked m.payload; reason = end.0 } = ap (walk 0) text_behind ∙ w in
-      let payload : payload_at (walk 0 (behind_token text)).reason (walk 0 (behind_token text)).rest ≡ Ok m.payload = rw found (payload_again end.0 m.payload) in
+      let found : walk 0 (behind_token text) ≡ record
+      { options = m.options; number = last_number 0 m.options; rest = marked m.payload; reason = end.0 } =
+      ap (walk 0) text_behind ∙ w in
+      let payload : payload_at (walk 0 (behind_token text)).reason (walk 0 (behind_token text)).rest
+      ≡ Ok m.payload = rw found (payload_again end.0 m.payload) in
       let options : (walk 0 (behind_token text)).options ≡ m.options = ap (λ w. w.options) found in
-      body_ok text m.payload payload ∙ ap (λ x. Ok x) (same_message (message_of text m.payload) m first_parts.2 text_code (text_id small) text_token options refl)
+      body_ok text m.payload payload ∙ ap (λ x. Ok x)
+      (same_message (message_of text m.payload) m first_parts.2 text_code (text_id small) text_token options refl)
 
 -- the message that bytes spell is read
 pub spelled_again : (bytes : List ℕ) (m : Message) → AreBytes bytes → Spells bytes m → decoded bytes ≡ Ok m
 unfolding text
 spelled_again bytes m fits s =
     let t = text m s.option_bytes s.token in
-    let fits' : AreBytes (s.option_bytes ++ marked m.payload) = AreBytes-rest (header m ++ m.token) (s.option_bytes ++ marked m.payload) (subst AreBytes s.parts fits) in
+    let fits' : AreBytes (s.option_bytes ++ marked m.payload) =
+    AreBytes-rest (header m ++ m.token) (s.option_bytes ++ marked m.payload) (subst AreBytes s.parts fits) in
     let bare : m.code ≡ 0 → length t ≡ 4 = λ z. sym (ap length s.parts) ∙ s.empty z in
     let framed = text_framed m s.option_bytes s.token bare in
     subst (λ (b : List ℕ). decoded b ≡ Ok m) (sym s.parts)
@@ -128,7 +147,8 @@ one_run bytes a b fits p q =
     sym x ∙ y
 
 -- the longest run is the walk's
-leaves_walk : (bytes : List ℕ) (number : ℕ) (rest : List ℕ) → AreBytes bytes → Leaves bytes number rest → ((walk 0 bytes).number ≡ number) × ((walk 0 bytes).rest ≡ rest)
+leaves_walk : (bytes : List ℕ) (number : ℕ) (rest : List ℕ) → AreBytes bytes → Leaves bytes number rest
+    → ((walk 0 bytes).number ≡ number) × ((walk 0 bytes).rest ≡ rest)
 leaves_walk bytes number rest fits l =
     let w = walk 0 bytes in
     let h = walked 0 bytes fits in
@@ -137,27 +157,33 @@ leaves_walk bytes number rest fits l =
     let most = walk_longest l.options 0 bytes l.front rest fits l.run l.parts in
     let least = l.longest w.options h.front w.rest h.run h.parts in
     let n : length h.front ≡ length l.front = omega arith in
-    let front : h.front ≡ l.front = sym (take_at h.front w.rest (length l.front) n) ∙ ap (take (length l.front)) (sym h.parts ∙ l.parts) ∙ take_at l.front rest (length l.front) refl in
-    let back : w.rest ≡ rest = sym (drop_at h.front w.rest (length l.front) n) ∙ ap (drop (length l.front)) (sym h.parts ∙ l.parts) ∙ drop_at l.front rest (length l.front) refl in
+    let front : h.front ≡ l.front = sym (take_at h.front w.rest (length l.front) n)
+    ∙ ap (take (length l.front)) (sym h.parts ∙ l.parts) ∙ take_at l.front rest (length l.front) refl in
+    let back : w.rest ≡ rest = sym (drop_at h.front w.rest (length l.front) n)
+    ∙ ap (drop (length l.front)) (sym h.parts ∙ l.parts) ∙ drop_at l.front rest (length l.front) refl in
     let run : Options 0 l.front w.options = subst (λ (f : List ℕ). Options 0 f w.options) front h.run in
     let front-fits : AreBytes l.front = AreBytes-front l.front rest (subst AreBytes l.parts fits) in
     let options = one_run l.front w.options l.options front-fits run l.run in
     (h.last ∙ ap (last_number 0) options ∙ sym l.last, back)
 
-rest_again : (bytes : List ℕ) (reason : Reason) (at number : ℕ) (rest : List ℕ) → AreBytes bytes → IsFramed bytes → Leaves (behind_token bytes) number rest → BadRest number rest reason
+rest_again : (bytes : List ℕ) (reason : Reason) (at number : ℕ) (rest : List ℕ) → AreBytes bytes → IsFramed bytes
+    → Leaves (behind_token bytes) number rest → BadRest number rest reason
     → at ≡ place reason (length bytes - length rest) (length bytes) → decoded bytes ≡ Err (reason, at)
 rest_again bytes reason at number rest fits f l bad is =
     let fits' = AreBytes-drop (4 + token_length bytes) bytes fits in
     let w = walk 0 (behind_token bytes) in
     let h = walked 0 (behind_token bytes) fits' in
     let same = leaves_walk (behind_token bytes) number rest fits' l in
-    let bad' : BadRest w.number w.rest reason = subst (λ (r : List ℕ). BadRest w.number r reason) (sym same.1) (subst (λ (n : ℕ). BadRest n rest reason) (sym same.0) bad) in
+    let bad' : BadRest w.number w.rest reason = subst (λ (r : List ℕ). BadRest w.number r reason) (sym same.1)
+    (subst (λ (n : ℕ). BadRest n rest reason) (sym same.0) bad) in
     let e = body_err bytes reason (payload_bad_again w.number w.reason w.rest reason h.fits h.ends bad') in
-    let placed : place reason (length bytes - length w.rest) (length bytes) ≡ at = ap (λ (r : List ℕ). place reason (length bytes - length r) (length bytes)) same.1 ∙ sym is in
+    let placed : place reason (length bytes - length w.rest) (length bytes)
+    ≡ at = ap (λ (r : List ℕ). place reason (length bytes - length r) (length bytes)) same.1 ∙ sym is in
     message_body bytes (framed_none bytes f) ∙ e ∙ ap (λ (a : ℕ). Err (reason, a)) placed
 
 -- reading finds that bytes are faulty
-pub faulty_again : (bytes : List ℕ) (reason : Reason) (at : ℕ) → AreBytes bytes → Faulty bytes reason at → decoded bytes ≡ Err (reason, at)
+pub faulty_again : (bytes : List ℕ) (reason : Reason) (at : ℕ) → AreBytes bytes → Faulty bytes reason at
+    → decoded bytes ≡ Err (reason, at)
 faulty_again bytes Short at fits h = message_fault bytes (Short, at) (short_again bytes at h)
 faulty_again bytes Version at fits h = message_fault bytes (Version, at) (version_again bytes at h)
 faulty_again bytes TokenLength at fits h = message_fault bytes (TokenLength, at) (token_length_again bytes at h)

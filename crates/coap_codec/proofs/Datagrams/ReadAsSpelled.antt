@@ -34,7 +34,8 @@ module _ (bytes : List ℕ) (fits : AreBytes bytes) where
       let w = walk 0 (behind_token bytes) in
       elim (cases_result (payload_at w.reason w.rest)) [
         | inl h ↦
-            let same : Path (Result Message (Reason × ℕ)) (Ok (message_of bytes h.0)) (Ok m) = sym (body_ok bytes h.0 h.1) ∙ e in
+            let same : Path (Result Message (Reason × ℕ)) (Ok (message_of bytes h.0)) (Ok m) =
+            sym (body_ok bytes h.0 h.1) ∙ e in
             let is : message_of bytes h.0 ≡ m = cc in
             subst (Spells bytes) is (sound_spells bytes h.0 fits f (payload_reads w.reason w.rest h.0 h.1))
         | inr h ↦ let e' = body_err bytes h.0 h.1 in absurd cc
@@ -48,17 +49,21 @@ module _ (bytes : List ℕ) (fits : AreBytes bytes) where
         | inl h ↦ let e' = body_ok bytes h.0 h.1 in absurd cc
         | inr h ↦
             let p = place h.0 (length bytes - length w.rest) (length bytes) in
-            let both : Path (Result Message (Reason × ℕ)) (Err (h.0, p)) (Err (reason, at)) = sym (body_err bytes h.0 h.1) ∙ e in
+            let both : Path (Result Message (Reason × ℕ)) (Err (h.0, p)) (Err (reason, at)) =
+            sym (body_err bytes h.0 h.1) ∙ e in
             let is : Path (Reason × ℕ) (h.0, p) (reason, at) = cc in
-            let bad = payload_bad w.number w.reason w.rest h.0 (walked 0 (behind_token bytes) fits').fits (walked 0 (behind_token bytes) fits').ends h.1 in
-            subst (λ (x : Reason × ℕ). Faulty bytes x.0 x.1) is (bad_rest_faulty bytes h.0 w.number w.rest f (walk_leaves (behind_token bytes) fits') bad)
+            let bad = payload_bad w.number w.reason w.rest h.0 (walked 0 (behind_token bytes) fits').fits
+            (walked 0 (behind_token bytes) fits').ends h.1 in
+            subst (λ (x : Reason × ℕ). Faulty bytes x.0 x.1) is
+            (bad_rest_faulty bytes h.0 w.number w.rest f (walk_leaves (behind_token bytes) fits') bad)
       ]
 
   -- a message that is read is spelled so
   pub message_reads : (m : Message) → decoded bytes ≡ Ok m → Spells bytes m
   message_reads m e =
       elim (cases_option (frame_fault bytes)) [
-        | inl h ↦ absurd (let e' : Path (Result Message (Reason × ℕ)) (Err h.0) (Ok m) = sym (message_fault bytes h.0 h.1) ∙ e in cc)
+        | inl h ↦ absurd (let e' : Path (Result Message (Reason × ℕ)) (Err h.0) (Ok m) =
+            sym (message_fault bytes h.0 h.1) ∙ e in cc)
         | inr h ↦ body_reads m (frame_none bytes h) (sym (message_body bytes h) ∙ e)
       ]
 
@@ -67,7 +72,8 @@ module _ (bytes : List ℕ) (fits : AreBytes bytes) where
   message_faults reason at e =
       elim (cases_option (frame_fault bytes)) [
         | inl h ↦
-            let e' : Path (Result Message (Reason × ℕ)) (Err h.0) (Err (reason, at)) = sym (message_fault bytes h.0 h.1) ∙ e in
+            let e' : Path (Result Message (Reason × ℕ)) (Err h.0) (Err (reason, at)) = sym (message_fault bytes h.0 h.1)
+            ∙ e in
             let is : h.0 ≡ (reason, at) = cc in
             frame_some bytes reason at (h.1 ∙ ap (λ (x : Reason × ℕ). Some x) is)
         | inr h ↦ body_faults reason at (frame_none bytes h) (sym (message_body bytes h) ∙ e)

@@ -22,7 +22,8 @@ kind_number_is (suc (suc zero)) p = refl
 kind_number_is (suc (suc (suc zero))) p = refl
 kind_number_is (suc (suc (suc (suc k)))) p = absurd (omega arith)
 
-header_reads : (bytes payload : List ℕ) → AreBytes bytes → IsFramed bytes → header (message_of bytes payload) ≡ take 4 bytes
+header_reads : (bytes payload : List ℕ) → AreBytes bytes → IsFramed bytes
+    → header (message_of bytes payload) ≡ take 4 bytes
 header_reads [] payload fits f = absurd (let h = f.header.long in omega arith)
 header_reads (a ∷ []) payload fits f = absurd (let h = f.header.long in omega arith)
 header_reads (a ∷ b ∷ []) payload fits f = absurd (let h = f.header.long in omega arith)
@@ -30,27 +31,36 @@ header_reads (a ∷ b ∷ c ∷ []) payload fits f = absurd (let h = f.header.lo
 header_reads (a ∷ b ∷ c ∷ d ∷ rest) payload fits f =
     let token : length (take (a % 16) rest) ≡ a % 16 = omega (arith, length-take (a % 16) rest, f.token) in
     let kind = kind_number_is (a / 16 % 4) (omega arith) in
-    let first : 64 + (kind_number (kind_of a) * 16 + length (take (a % 16) rest)) ≡ a = omega (arith, token, kind, f.header.version) in
+    let first : 64 + (kind_number (kind_of a) * 16 + length (take (a % 16) rest))
+    ≡ a = omega (arith, token, kind, f.header.version) in
     let third = byte_at (a ∷ b ∷ c ∷ d ∷ rest) fits 2 in
     let fourth = byte_at (a ∷ b ∷ c ∷ d ∷ rest) fits 3 in
     let high : (c * 256 + (d * 1 + 0)) / 256 % 256 ≡ c = omega (arith, third, fourth) in
     let low : (c * 256 + (d * 1 + 0)) % 256 ≡ d = omega (arith, third, fourth) in
     rw (first, high, low) refl
 
-pub body_ok : (bytes payload : List ℕ) → payload_at (walk 0 (behind_token bytes)).reason (walk 0 (behind_token bytes)).rest ≡ Ok payload → body_at bytes ≡ Ok (message_of bytes payload)
+pub body_ok : (bytes payload : List ℕ) → payload_at (walk 0 (behind_token bytes)).reason
+    (walk 0 (behind_token bytes)).rest ≡ Ok payload → body_at bytes ≡ Ok (message_of bytes payload)
 unfolding body_at
 body_ok bytes payload e = rw (e, body_at) refl
 
-pub body_err : (bytes : List ℕ) (reason : Reason) → payload_at (walk 0 (behind_token bytes)).reason (walk 0 (behind_token bytes)).rest ≡ Err reason
-    → body_at bytes ≡ Err (reason, place reason (length bytes - length (walk 0 (behind_token bytes)).rest) (length bytes))
+pub body_err : (bytes : List ℕ) (reason : Reason)
+    → payload_at (walk 0 (behind_token bytes)).reason (walk 0 (behind_token bytes)).rest ≡ Err reason
+    → body_at bytes ≡ Err (
+      reason,
+      place reason (length bytes - length (walk 0 (behind_token bytes)).rest)
+          (length bytes),
+    )
 unfolding body_at
 body_err bytes reason e = rw (e, body_at) refl
 
 id_small : (bytes : List ℕ) → AreBytes bytes → id_of bytes < 2 ^ 16
-id_small bytes fits = let are = AreBytes-drop 2 bytes fits in let high = byte_at (drop 2 bytes) are 0 in let low = byte_at (drop 2 bytes) are 1 in omega (arith, high, low)
+id_small bytes fits = let are = AreBytes-drop 2 bytes fits in let high = byte_at (drop 2 bytes) are 0 in let low =
+    byte_at (drop 2 bytes) are 1 in omega (arith, high, low)
 
 -- sound bytes whose rest is a payload spell a message
-pub sound_spells : (bytes payload : List ℕ) → AreBytes bytes → IsFramed bytes → (walk 0 (behind_token bytes)).rest ≡ marked payload → Spells bytes (message_of bytes payload)
+pub sound_spells : (bytes payload : List ℕ) → AreBytes bytes → IsFramed bytes
+    → (walk 0 (behind_token bytes)).rest ≡ marked payload → Spells bytes (message_of bytes payload)
 sound_spells bytes payload fits f e =
     let n = token_length bytes in
     let w = walk 0 (behind_token bytes) in
@@ -59,20 +69,24 @@ sound_spells bytes payload fits f e =
     let fits' : AreBytes (behind_token bytes) = AreBytes-drop (4 + n) bytes fits in
     let h = walked 0 (behind_token bytes) fits' in
     let tail : behind_token bytes ≡ h.front ++ marked payload = h.parts ∙ ap (λ (r : List ℕ). h.front ++ r) e in
-    let body : drop 4 bytes ≡ token ++ (h.front ++ marked payload) = sym (take-append-drop n (drop 4 bytes)) ∙ ap (λ (r : List ℕ). token ++ r) (cut ∙ tail) in
-    let whole : bytes ≡ take 4 bytes ++ (token ++ (h.front ++ marked payload)) = sym (take-append-drop 4 bytes) ∙ ap (λ (r : List ℕ). take 4 bytes ++ r) body in
+    let body : drop 4 bytes ≡ token ++ (h.front ++ marked payload) = sym (take-append-drop n (drop 4 bytes))
+    ∙ ap (λ (r : List ℕ). token ++ r) (cut ∙ tail) in
+    let whole : bytes ≡ take 4 bytes ++ (token ++ (h.front ++ marked payload)) = sym (take-append-drop 4 bytes)
+    ∙ ap (λ (r : List ℕ). take 4 bytes ++ r) body in
     record {
       code = byte_at bytes fits 1;
       id = id_small bytes fits;
       token = omega (arith, length-take n (drop 4 bytes), f.header.token);
       option_bytes = h.front;
       options = h.run;
-      parts = whole ∙ ap (λ (t : List ℕ). t ++ (token ++ (h.front ++ marked payload))) (sym (header_reads bytes payload fits f));
+      parts = whole ∙ ap (λ (t : List ℕ). t ++ (token ++ (h.front ++ marked payload)))
+          (sym (header_reads bytes payload fits f));
       empty = λ z. (f.bare z).1;
     }
 
 -- sound bytes whose rest is bad are faulty
-pub bad_rest_faulty : (bytes : List ℕ) (reason : Reason) (number : ℕ) (rest : List ℕ) → IsFramed bytes → Leaves (behind_token bytes) number rest → BadRest number rest reason
+pub bad_rest_faulty : (bytes : List ℕ) (reason : Reason) (number : ℕ) (rest : List ℕ) → IsFramed bytes
+    → Leaves (behind_token bytes) number rest → BadRest number rest reason
     → Faulty bytes reason (place reason (length bytes - length rest) (length bytes))
 bad_rest_faulty bytes reason number [] f l h = absurd h
 bad_rest_faulty bytes Short number (b ∷ rest) f l h = absurd h

@@ -25,11 +25,13 @@ one_fault = own.one_fault
 pub decoded_spells : (bytes : List ℕ) → AreBytes bytes → (m : Message) → decoded bytes ≡ Ok m → Spells bytes m
 decoded_spells = read.message_reads
 
-pub decoded_faulty : (bytes : List ℕ) → AreBytes bytes → (reason : Reason) (at : ℕ) → decoded bytes ≡ Err (reason, at) → Faulty bytes reason at
+pub decoded_faulty : (bytes : List ℕ) → AreBytes bytes → (reason : Reason) (at : ℕ) → decoded bytes ≡ Err (reason, at)
+    → Faulty bytes reason at
 decoded_faulty = read.message_faults
 
 pub spelled_decoded : (bytes : List ℕ) (m : Message) → AreBytes bytes → Spells bytes m → decoded bytes ≡ Ok m
 spelled_decoded = again.spelled_again
 
-pub faulty_decoded : (bytes : List ℕ) (reason : Reason) (at : ℕ) → AreBytes bytes → Faulty bytes reason at → decoded bytes ≡ Err (reason, at)
+pub faulty_decoded : (bytes : List ℕ) (reason : Reason) (at : ℕ) → AreBytes bytes → Faulty bytes reason at
+    → decoded bytes ≡ Err (reason, at)
 faulty_decoded = again.faulty_again

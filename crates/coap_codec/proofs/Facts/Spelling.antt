@@ -18,10 +18,12 @@ use Rattle.coap_codec.proofs.Spellings.InBytes as in_bytes
 
 -- options
 
-pub options_spelled : (os : List CoapOption) (base : ℕ) → ascends base os ≡ true → list_all is_numbered os ≡ true → list_all is_short os ≡ true → Options base (options_bytes base os) os
+pub options_spelled : (os : List CoapOption) (base : ℕ) → ascends base os ≡ true → list_all is_numbered os ≡ true
+    → list_all is_short os ≡ true → Options base (options_bytes base os) os
 options_spelled = spell.options_spelled
 
-pub options_only : (os : List CoapOption) (base : ℕ) (bytes : List ℕ) → Options base bytes os → bytes ≡ options_bytes base os
+pub options_only : (os : List CoapOption) (base : ℕ) (bytes : List ℕ) → Options base bytes os
+    → bytes ≡ options_bytes base os
 options_only = law.options_only
 
 -- messages

@@ -21,7 +21,8 @@ pub cases_result : {A E : Type 0} (r : Result A E) → ((x : A) × (r ≡ Ok x))
 cases_result (Ok x) = inl (x, refl)
 cases_result (Err d) = inr (d, refl)
 
-pub bind_ok : {A B E : Type 0} (r : Result A E) (f : A → Result B E) (y : B) → (r >>= f) ≡ Ok y → (x : A) × (r ≡ Ok x) × (f x ≡ Ok y)
+pub bind_ok : {A B E : Type 0} (r : Result A E) (f : A → Result B E) (y : B) → (r >>= f) ≡ Ok y
+    → (x : A) × (r ≡ Ok x) × (f x ≡ Ok y)
 bind_ok (Ok x) f y e = (x, refl, e)
 bind_ok (Err d) f y e = absurd cc
 
@@ -38,23 +39,38 @@ pub record Said (n nibble : ℕ) (bytes rest : List ℕ) : Type 0 where
   pub says : Ext n nibble more
   pub parts : bytes ≡ more ++ rest
 
-said_at : (nibble : ℕ) (bytes : List ℕ) (m : ℕ) (left : List ℕ) (n : ℕ) (rest : List ℕ) → done {A = ℕ × List ℕ} (m, left) ≡ done (n, rest) → Said m nibble bytes left → Said n nibble bytes rest
-said_at nibble bytes m left n rest e s = subst (λ (p : ℕ × List ℕ). Said p.0 nibble bytes p.1) (ok_is (m, left) (n, rest) e) s
+said_at : (nibble : ℕ) (bytes : List ℕ) (m : ℕ) (left : List ℕ) (n : ℕ) (rest : List ℕ)
+    → done {A = ℕ × List ℕ} (m, left) ≡ done (n, rest) → Said m nibble bytes left → Said n nibble bytes rest
+said_at nibble bytes m left n rest e s = subst (λ (p : ℕ × List ℕ). Said p.0 nibble bytes p.1)
+    (ok_is (m, left) (n, rest) e) s
 
-one_reads : (nibble : ℕ) (bytes : List ℕ) (n : ℕ) (rest : List ℕ) → AreBytes bytes → nibble ≡ 13 → one_more bytes ≡ Ok (n, rest) → Said n nibble bytes rest
+one_reads : (nibble : ℕ) (bytes : List ℕ) (n : ℕ) (rest : List ℕ) → AreBytes bytes → nibble ≡ 13
+    → one_more bytes ≡ Ok (n, rest) → Said n nibble bytes rest
 one_reads nibble [] n rest fits is e = absurd cc
-one_reads nibble (b ∷ bytes) n rest fits is e = said_at nibble (b ∷ bytes) (13 + b) bytes n rest e (record { more = b ∷ []; says = (byte_at (b ∷ bytes) fits 0, refl, is); parts = refl })
+one_reads nibble (b ∷ bytes) n rest fits is e =
+    said_at nibble (b ∷ bytes) (13 + b) bytes n rest e
+    (record { more = b ∷ []; says = (byte_at (b ∷ bytes) fits 0, refl, is); parts = refl })
 
-two_reads : (nibble : ℕ) (bytes : List ℕ) (n : ℕ) (rest : List ℕ) → AreBytes bytes → nibble ≡ 14 → two_more bytes ≡ Ok (n, rest) → Said n nibble bytes rest
+two_reads : (nibble : ℕ) (bytes : List ℕ) (n : ℕ) (rest : List ℕ) → AreBytes bytes → nibble ≡ 14
+    → two_more bytes ≡ Ok (n, rest) → Said n nibble bytes rest
 two_reads nibble [] n rest fits is e = absurd cc
 two_reads nibble (a ∷ []) n rest fits is e = absurd cc
-two_reads nibble (a ∷ b ∷ bytes) n rest fits is e = said_at nibble (a ∷ b ∷ bytes) (269 + (a * 256 + b)) bytes n rest e (record { more = a ∷ b ∷ []; says = (byte_at (a ∷ b ∷ bytes) fits 0, byte_at (a ∷ b ∷ bytes) fits 1, refl, is); parts = refl })
+two_reads nibble (a ∷ b ∷ bytes) n rest fits is e =
+    said_at nibble (a ∷ b ∷ bytes) (269 + (a * 256 + b)) bytes n rest e
+    (record {
+      more = a ∷ b ∷ [];
+      says = (byte_at (a ∷ b ∷ bytes) fits 0, byte_at (a ∷ b ∷ bytes) fits 1, refl, is);
+      parts = refl;
+    })
 
-pub extended_reads : (nibble : ℕ) (bytes : List ℕ) (n : ℕ) (rest : List ℕ) → AreBytes bytes → nibble < 15 → extended nibble bytes ≡ Ok (n, rest) → Said n nibble bytes rest
+pub extended_reads : (nibble : ℕ) (bytes : List ℕ) (n : ℕ) (rest : List ℕ) → AreBytes bytes → nibble < 15
+    → extended nibble bytes ≡ Ok (n, rest) → Said n nibble bytes rest
 unfolding extended
 extended_reads nibble bytes n rest fits lt e =
-    elim (chosen (ltb nibble 13) (done {A = ℕ × List ℕ} (nibble, bytes)) (cond (eqb nibble 13) (one_more bytes) (two_more bytes)) (Ok (n, rest)) e) [
-      | inl p ↦ said_at nibble bytes nibble bytes n rest p.1 (record { more = []; says = (ltb-true nibble 13 p.0, refl); parts = refl })
+    elim (chosen (ltb nibble 13) (done {A = ℕ × List ℕ} (nibble, bytes))
+    (cond (eqb nibble 13) (one_more bytes) (two_more bytes)) (Ok (n, rest)) e) [
+      | inl p ↦ said_at nibble bytes nibble bytes n rest p.1
+          (record { more = []; says = (ltb-true nibble 13 p.0, refl); parts = refl })
       | inr p ↦ elim (chosen (eqb nibble 13) (one_more bytes) (two_more bytes) (Ok (n, rest)) p.1) [
         | inl q ↦ one_reads nibble bytes n rest fits (eqb-true nibble 13 q.0) q.1
         | inr q ↦
@@ -64,7 +80,8 @@ extended_reads nibble bytes n rest fits lt e =
       ]
     ]
 
-pub extended_again : (n nibble : ℕ) (more rest : List ℕ) → Ext n nibble more → extended nibble (more ++ rest) ≡ Ok (n, rest)
+pub extended_again : (n nibble : ℕ) (more rest : List ℕ) → Ext n nibble more
+    → extended nibble (more ++ rest) ≡ Ok (n, rest)
 unfolding extended
 extended_again n nibble [] rest p = rw (p.1, lt-ltb n 13 p.0) refl
 extended_again n nibble (b ∷ []) rest p = rw (p.2, p.1) refl
@@ -85,11 +102,13 @@ pub record ValueRead (n k : ℕ) (bytes : List ℕ) (option : CoapOption) (rest 
   pub len : length option.value ≡ k
   pub parts : bytes ≡ option.value ++ rest
 
-pub value_reads : (number len : ℕ) (bytes : List ℕ) (option : CoapOption) (rest : List ℕ) → value_at number len bytes ≡ Ok (option, rest) → ValueRead number len bytes option rest
+pub value_reads : (number len : ℕ) (bytes : List ℕ) (option : CoapOption) (rest : List ℕ)
+    → value_at number len bytes ≡ Ok (option, rest) → ValueRead number len bytes option rest
 unfolding value_at
 value_reads number len bytes option rest e =
     let whole : CoapOption × List ℕ = (record { number = number; value = take len bytes }, drop len bytes) in
-    elim (chosen (ltb 65535 number) (Err NumberTooLarge) (cond (ltb (length bytes) len) (Err OptionCut) (Ok whole)) (Ok (option, rest)) e) [
+    elim (chosen (ltb 65535 number) (Err NumberTooLarge) (cond (ltb (length bytes) len) (Err OptionCut) (Ok whole))
+    (Ok (option, rest)) e) [
       | inl p ↦ absurd cc
       | inr p ↦ elim (chosen (ltb (length bytes) len) (Err OptionCut) (Ok whole) (Ok (option, rest)) p.1) [
         | inl q ↦ absurd cc
@@ -97,14 +116,25 @@ value_reads number len bytes option rest e =
             let small : number ≤ 65535 = ltb-false 65535 number p.0 in
             let long : len ≤ length bytes = ltb-false (length bytes) len q.0 in
             subst (λ (x : CoapOption × List ℕ). ValueRead number len bytes x.0 x.1) (ok_is whole (option, rest) q.1)
-            (record { number = refl; small = omega arith; len = omega (arith, length-take len bytes); parts = sym (take-append-drop len bytes) })
+            (record {
+              number = refl;
+              small = omega arith;
+              len = omega (arith, length-take len bytes);
+              parts = sym (take-append-drop len bytes);
+            })
       ]
     ]
 
-pub value_again : (option : CoapOption) (len : ℕ) (rest : List ℕ) → option.number < 2 ^ 16 → length option.value ≡ len → value_at option.number len (option.value ++ rest) ≡ Ok (option, rest)
+pub value_again : (option : CoapOption) (len : ℕ) (rest : List ℕ) → option.number < 2 ^ 16 → length option.value ≡ len
+    → value_at option.number len (option.value ++ rest) ≡ Ok (option, rest)
 unfolding value_at
 value_again option len rest small is =
-    rw (le-ltb 65535 option.number (omega arith), le-ltb (length (option.value ++ rest)) len (omega (arith, length-append option.value rest)), take_at option.value rest len is, drop_at option.value rest len is) refl
+    rw (
+      le-ltb 65535 option.number (omega arith),
+      le-ltb (length (option.value ++ rest)) len (omega (arith, length-append option.value rest)),
+      take_at option.value rest len is,
+      drop_at option.value rest len is,
+    ) refl
 
 -- what stands behind the first byte of an option
 pub record Behind (base delta len : ℕ) (bytes : List ℕ) (option : CoapOption) (rest : List ℕ) : Type 0 where
@@ -116,10 +146,13 @@ pub record Behind (base delta len : ℕ) (bytes : List ℕ) (option : CoapOption
   pub value : Ext (length option.value) len more_len
   pub parts : bytes ≡ more_delta ++ (more_len ++ (option.value ++ rest))
 
-pub nibbles_reads : (base delta len : ℕ) (bytes : List ℕ) (option : CoapOption) (rest : List ℕ) → AreBytes bytes → delta < 15 → len < 15 → nibbles_at base delta len bytes ≡ Ok (option, rest) → Behind base delta len bytes option rest
+pub nibbles_reads : (base delta len : ℕ) (bytes : List ℕ) (option : CoapOption) (rest : List ℕ) → AreBytes bytes
+    → delta < 15 → len < 15 → nibbles_at base delta len bytes ≡ Ok (option, rest)
+    → Behind base delta len bytes option rest
 unfolding nibbles_at
 nibbles_reads base delta len bytes option rest fits small_delta small_len e =
-    let b = bind_ok (extended delta bytes) (λ d. extended len d.1 >>= λ l. value_at (base + d.0) l.0 l.1) (option, rest) e in
+    let b = bind_ok (extended delta bytes) (λ d. extended len d.1 >>= λ l. value_at (base + d.0) l.0 l.1)
+    (option, rest) e in
     let d = b.0 in
     let said = extended_reads delta bytes d.0 d.1 fits small_delta b.1 in
     let fits' : AreBytes d.1 = AreBytes-rest said.more d.1 (subst AreBytes said.parts fits) in
@@ -140,7 +173,8 @@ nibbles_reads base delta len bytes option rest fits small_delta small_len e =
       parts = rest_parts;
     }
 
-pub nibbles_again : (base delta len : ℕ) (bytes : List ℕ) (option : CoapOption) (rest : List ℕ) → Behind base delta len bytes option rest → nibbles_at base delta len bytes ≡ Ok (option, rest)
+pub nibbles_again : (base delta len : ℕ) (bytes : List ℕ) (option : CoapOption) (rest : List ℕ)
+    → Behind base delta len bytes option rest → nibbles_at base delta len bytes ≡ Ok (option, rest)
 unfolding nibbles_at
 nibbles_again base delta len bytes option rest h =
     let sum : base + (option.number - base) ≡ option.number = omega (arith, h.rises) in
@@ -157,12 +191,14 @@ pub record Taken (base : ℕ) (bytes : List ℕ) (option : CoapOption) (rest : L
   pub is_option : IsOption base option first
   pub parts : bytes ≡ first ++ rest
 
-pub option_reads : (base : ℕ) (bytes : List ℕ) (option : CoapOption) (rest : List ℕ) → AreBytes bytes → option_at base bytes ≡ Ok (option, rest) → Taken base bytes option rest
+pub option_reads : (base : ℕ) (bytes : List ℕ) (option : CoapOption) (rest : List ℕ) → AreBytes bytes
+    → option_at base bytes ≡ Ok (option, rest) → Taken base bytes option rest
 unfolding option_at
 option_reads base [] option rest fits e = absurd cc
 option_reads base (first ∷ bytes) option rest fits e =
     let read = nibbles_at base (first / 16) (first % 16) bytes in
-    elim (chosen (eqb (first / 16) 15) (Err DeltaReserved) (cond (eqb (first % 16) 15) (Err LengthReserved) read) (Ok (option, rest)) e) [
+    elim (chosen (eqb (first / 16) 15) (Err DeltaReserved) (cond (eqb (first % 16) 15) (Err LengthReserved) read)
+    (Ok (option, rest)) e) [
       | inl p ↦ absurd cc
       | inr p ↦ elim (chosen (eqb (first % 16) 15) (Err LengthReserved) read (Ok (option, rest)) p.1) [
         | inl q ↦ absurd cc
@@ -170,7 +206,8 @@ option_reads base (first ∷ bytes) option rest fits e =
             let byte : first < 256 = byte_at (first ∷ bytes) fits 0 in
             let delta : first / 16 ≢ 15 = eqb-false (first / 16) 15 p.0 in
             let len : first % 16 ≢ 15 = eqb-false (first % 16) 15 q.0 in
-            let h = nibbles_reads base (first / 16) (first % 16) bytes option rest (AreBytes-tail first bytes fits) (omega arith) (omega arith) q.1 in
+            let h = nibbles_reads base (first / 16) (first % 16) bytes option rest (AreBytes-tail first bytes fits)
+            (omega arith) (omega arith) q.1 in
             let text = h.more_delta ++ (h.more_len ++ option.value) in
             let whole : first ≡ first / 16 * 16 + first % 16 = omega arith in
             let regrouped : h.more_delta ++ (h.more_len ++ (option.value ++ rest)) ≡ text ++ rest = simp append_assoc in
@@ -192,7 +229,8 @@ option_reads base (first ∷ bytes) option rest fits e =
       ]
     ]
 
-pub option_again : (base : ℕ) (option : CoapOption) (first rest : List ℕ) → IsOption base option first → option_at base (first ++ rest) ≡ Ok (option, rest)
+pub option_again : (base : ℕ) (option : CoapOption) (first rest : List ℕ) → IsOption base option first
+    → option_at base (first ++ rest) ≡ Ok (option, rest)
 unfolding option_at
 option_again base option first rest h =
     let small_delta = Ext-small (option.number - base) h.delta h.more_delta h.number in
@@ -200,37 +238,53 @@ option_again base option first rest h =
     let byte = h.delta * 16 + h.len in
     let delta-is : byte / 16 ≡ h.delta = omega arith in
     let len-is : byte % 16 ≡ h.len = omega arith in
-    let regrouped : (h.more_delta ++ (h.more_len ++ option.value)) ++ rest ≡ h.more_delta ++ (h.more_len ++ (option.value ++ rest)) = simp append_assoc in
+    let regrouped : (h.more_delta ++ (h.more_len ++ option.value)) ++ rest ≡ h.more_delta
+    ++ (h.more_len ++ (option.value ++ rest)) = simp append_assoc in
     rw (h.parts, regrouped, delta-is, len-is, ne_eqb h.delta 15 (λ e. omega arith), ne_eqb h.len 15 (λ e. omega arith))
     (nibbles_again base h.delta h.len (h.more_delta ++ (h.more_len ++ (option.value ++ rest))) option rest
-    (record { rises = h.rises; fits = h.fits; more_delta = h.more_delta; more_len = h.more_len; number = h.number; value = h.value; parts = refl }))
+    (record {
+      rises = h.rises;
+      fits = h.fits;
+      more_delta = h.more_delta;
+      more_len = h.more_len;
+      number = h.number;
+      value = h.value;
+      parts = refl;
+    }))
 
 -- ---- what is left is shorter
 
 one_shorter : (bytes : List ℕ) (n : ℕ) (rest : List ℕ) → one_more bytes ≡ Ok (n, rest) → length rest ≤ length bytes
 one_shorter [] n rest e = absurd cc
-one_shorter (b ∷ bytes) n rest e = subst (λ (p : ℕ × List ℕ). length p.1 ≤ suc (length bytes)) (ok_is (13 + b, bytes) (n, rest) e) (omega arith)
+one_shorter (b ∷ bytes) n rest e = subst (λ (p : ℕ × List ℕ). length p.1 ≤ suc (length bytes))
+    (ok_is (13 + b, bytes) (n, rest) e) (omega arith)
 
 two_shorter : (bytes : List ℕ) (n : ℕ) (rest : List ℕ) → two_more bytes ≡ Ok (n, rest) → length rest ≤ length bytes
 two_shorter [] n rest e = absurd cc
 two_shorter (a ∷ []) n rest e = absurd cc
-two_shorter (a ∷ b ∷ bytes) n rest e = subst (λ (p : ℕ × List ℕ). length p.1 ≤ suc (suc (length bytes))) (ok_is (269 + (a * 256 + b), bytes) (n, rest) e) (omega arith)
+two_shorter (a ∷ b ∷ bytes) n rest e = subst (λ (p : ℕ × List ℕ). length p.1 ≤ suc (suc (length bytes)))
+    (ok_is (269 + (a * 256 + b), bytes) (n, rest) e) (omega arith)
 
-extended_shorter : (nibble : ℕ) (bytes : List ℕ) (n : ℕ) (rest : List ℕ) → extended nibble bytes ≡ Ok (n, rest) → length rest ≤ length bytes
+extended_shorter : (nibble : ℕ) (bytes : List ℕ) (n : ℕ) (rest : List ℕ) → extended nibble bytes ≡ Ok (n, rest)
+    → length rest ≤ length bytes
 unfolding extended
 extended_shorter nibble bytes n rest e =
-    elim (chosen (ltb nibble 13) (done {A = ℕ × List ℕ} (nibble, bytes)) (cond (eqb nibble 13) (one_more bytes) (two_more bytes)) (Ok (n, rest)) e) [
-      | inl p ↦ subst (λ (p : ℕ × List ℕ). length p.1 ≤ length bytes) (ok_is (nibble, bytes) (n, rest) p.1) (omega arith)
+    elim (chosen (ltb nibble 13) (done {A = ℕ × List ℕ} (nibble, bytes))
+    (cond (eqb nibble 13) (one_more bytes) (two_more bytes)) (Ok (n, rest)) e) [
+      | inl p ↦ subst (λ (p : ℕ × List ℕ). length p.1 ≤ length bytes) (ok_is (nibble, bytes) (n, rest) p.1)
+          (omega arith)
       | inr p ↦ elim (chosen (eqb nibble 13) (one_more bytes) (two_more bytes) (Ok (n, rest)) p.1) [
         | inl q ↦ one_shorter bytes n rest q.1
         | inr q ↦ two_shorter bytes n rest q.1
       ]
     ]
 
-nibbles_shorter : (base delta len : ℕ) (bytes : List ℕ) (option : CoapOption) (rest : List ℕ) → nibbles_at base delta len bytes ≡ Ok (option, rest) → length rest ≤ length bytes
+nibbles_shorter : (base delta len : ℕ) (bytes : List ℕ) (option : CoapOption) (rest : List ℕ)
+    → nibbles_at base delta len bytes ≡ Ok (option, rest) → length rest ≤ length bytes
 unfolding nibbles_at
 nibbles_shorter base delta len bytes option rest e =
-    let b = bind_ok (extended delta bytes) (λ d. extended len d.1 >>= λ l. value_at (base + d.0) l.0 l.1) (option, rest) e in
+    let b = bind_ok (extended delta bytes) (λ d. extended len d.1 >>= λ l. value_at (base + d.0) l.0 l.1)
+    (option, rest) e in
     let d = b.0 in
     let first = extended_shorter delta bytes d.0 d.1 b.1 in
     let b' = bind_ok (extended len d.1) (λ l. value_at (base + d.0) l.0 l.1) (option, rest) b.2 in
@@ -240,12 +294,14 @@ nibbles_shorter base delta len bytes option rest e =
     let third : length l.1 ≡ length option.value + length rest = ap length v.parts ∙ length-append option.value rest in
     omega arith
 
-pub option_shorter : (base : ℕ) (bytes : List ℕ) (option : CoapOption) (rest : List ℕ) → option_at base bytes ≡ Ok (option, rest) → length rest < length bytes
+pub option_shorter : (base : ℕ) (bytes : List ℕ) (option : CoapOption) (rest : List ℕ)
+    → option_at base bytes ≡ Ok (option, rest) → length rest < length bytes
 unfolding option_at
 option_shorter base [] option rest e = absurd cc
 option_shorter base (first ∷ bytes) option rest e =
     let read = nibbles_at base (first / 16) (first % 16) bytes in
-    elim (chosen (eqb (first / 16) 15) (Err DeltaReserved) (cond (eqb (first % 16) 15) (Err LengthReserved) read) (Ok (option, rest)) e) [
+    elim (chosen (eqb (first / 16) 15) (Err DeltaReserved) (cond (eqb (first % 16) 15) (Err LengthReserved) read)
+    (Ok (option, rest)) e) [
       | inl p ↦ absurd cc
       | inr p ↦ elim (chosen (eqb (first % 16) 15) (Err LengthReserved) read (Ok (option, rest)) p.1) [
         | inl q ↦ absurd cc

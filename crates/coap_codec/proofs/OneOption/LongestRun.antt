@@ -12,11 +12,14 @@ use Rattle.coap_types.specs.Bytes.{AreBytes}
 use Rattle.coap_types.proofs.Facts.Bytes.{AreBytes-rest}
 use Rattle.coap_codec.proofs.OneOption.IsRead.{cases_result, option_reads, option_again, option_shorter}
 
-one_step : (n base : ℕ) (bytes : List ℕ) (option : CoapOption) (rest : List ℕ) → option_at base bytes ≡ Ok (option, rest) → walk_of (suc n) base bytes ≡ with_first option (walk_of n option.number rest)
+one_step : (n base : ℕ) (bytes : List ℕ) (option : CoapOption) (rest : List ℕ)
+    → option_at base bytes ≡ Ok (option, rest) → walk_of (suc n) base bytes
+    ≡ with_first option (walk_of n option.number rest)
 unfolding walk_of
 one_step n base bytes option rest e = rw (e, walk_of) refl
 
-no_step : (n base : ℕ) (bytes : List ℕ) (reason : Reason) → option_at base bytes ≡ Err reason → walk_of (suc n) base bytes ≡ ends_at base bytes reason
+no_step : (n base : ℕ) (bytes : List ℕ) (reason : Reason) → option_at base bytes ≡ Err reason
+    → walk_of (suc n) base bytes ≡ ends_at base bytes reason
 unfolding walk_of
 no_step n base bytes reason e = rw (e, walk_of) refl
 
@@ -29,11 +32,13 @@ same_step n m base bytes p q ih =
           let option = h.0.0 in
           let rest = h.0.1 in
           let s = option_shorter base bytes option rest h.1 in
-          one_step n base bytes option rest h.1 ∙ ap (with_first option) (ih option.number rest (omega arith) (omega arith)) ∙ sym (one_step m base bytes option rest h.1)
+          one_step n base bytes option rest h.1 ∙ ap (with_first option)
+          (ih option.number rest (omega arith) (omega arith)) ∙ sym (one_step m base bytes option rest h.1)
       | inr h ↦ no_step n base bytes h.0 h.1 ∙ sym (no_step m base bytes h.0 h.1)
     ]
 
-walk_same : (n m base : ℕ) (bytes : List ℕ) → length bytes ≤ n → length bytes ≤ m → walk_of n base bytes ≡ walk_of m base bytes
+walk_same : (n m base : ℕ) (bytes : List ℕ) → length bytes ≤ n → length bytes ≤ m
+    → walk_of n base bytes ≡ walk_of m base bytes
 unfolding walk_of option_at
 walk_same zero zero base bytes p q = refl
 walk_same zero (suc m) base [] p q = refl
@@ -44,17 +49,20 @@ walk_same (suc n) (suc m) base [] p q = refl
 walk_same (suc n) (suc m) base (b ∷ bytes) p q = same_step n m base (b ∷ bytes) p q (walk_same n m)
 
 module _ (base : ℕ) (bytes : List ℕ) where
-  pub walk_step : (option : CoapOption) (rest : List ℕ) → option_at base bytes ≡ Ok (option, rest) → walk base bytes ≡ with_first option (walk option.number rest)
+  pub walk_step : (option : CoapOption) (rest : List ℕ) → option_at base bytes ≡ Ok (option, rest)
+      → walk base bytes ≡ with_first option (walk option.number rest)
   unfolding walk
   walk_step option rest e =
       let s = option_shorter base bytes option rest e in
-      walk_same (length bytes) (suc (length bytes)) base bytes (omega arith) (omega arith) ∙ one_step (length bytes) base bytes option rest e
+      walk_same (length bytes) (suc (length bytes)) base bytes (omega arith) (omega arith)
+      ∙ one_step (length bytes) base bytes option rest e
       ∙ ap (with_first option) (walk_same (length bytes) (length rest) option.number rest (omega arith) (omega arith))
 
   pub walk_stop : (reason : Reason) → option_at base bytes ≡ Err reason → walk base bytes ≡ ends_at base bytes reason
   unfolding walk
   walk_stop reason e =
-      walk_same (length bytes) (suc (length bytes)) base bytes (omega arith) (omega arith) ∙ no_step (length bytes) base bytes reason e
+      walk_same (length bytes) (suc (length bytes)) base bytes (omega arith) (omega arith)
+      ∙ no_step (length bytes) base bytes reason e
 
 -- what a walk finds is a run of options, and no option begins where it ends
 pub record Walked (base : ℕ) (bytes : List ℕ) (w : Walk) : Type 0 where
@@ -66,7 +74,8 @@ pub record Walked (base : ℕ) (bytes : List ℕ) (w : Walk) : Type 0 where
   pub fits : AreBytes w.rest
 
 walked_case : (n base : ℕ) (bytes : List ℕ) → AreBytes bytes → length bytes ≤ suc n
-    → ((base : ℕ) (bytes : List ℕ) → AreBytes bytes → length bytes ≤ n → Walked base bytes (walk base bytes)) → Walked base bytes (walk base bytes)
+    → ((base : ℕ) (bytes : List ℕ) → AreBytes bytes → length bytes ≤ n → Walked base bytes (walk base bytes))
+    → Walked base bytes (walk base bytes)
 walked_case n base bytes fits p ih =
     elim (cases_result (option_at base bytes)) [
       | inl h ↦
@@ -75,7 +84,8 @@ walked_case n base bytes fits p ih =
           let s = option_shorter base bytes option rest h.1 in
           let t = option_reads base bytes option rest fits h.1 in
           let w = ih option.number rest (AreBytes-rest t.first rest (subst AreBytes t.parts fits)) (omega arith) in
-          let regrouped : t.first ++ (w.front ++ (walk option.number rest).rest) ≡ (t.first ++ w.front) ++ (walk option.number rest).rest = sym (append_assoc t.first w.front (walk option.number rest).rest) in
+          let regrouped : t.first ++ (w.front ++ (walk option.number rest).rest) ≡ (t.first ++ w.front)
+          ++ (walk option.number rest).rest = sym (append_assoc t.first w.front (walk option.number rest).rest) in
           subst (Walked base bytes) (sym (walk_step base bytes option rest h.1)) (record {
             front = t.first ++ w.front;
             run = (t.first, w.front, refl, t.is_option, w.run);
@@ -85,12 +95,14 @@ walked_case n base bytes fits p ih =
             fits = w.fits;
           })
       | inr h ↦
-          subst (Walked base bytes) (sym (walk_stop base bytes h.0 h.1)) (record { front = []; run = refl; parts = refl; last = refl; ends = h.1; fits = fits })
+          subst (Walked base bytes) (sym (walk_stop base bytes h.0 h.1))
+          (record { front = []; run = refl; parts = refl; last = refl; ends = h.1; fits = fits })
     ]
 
 walked_within : (n base : ℕ) (bytes : List ℕ) → AreBytes bytes → length bytes ≤ n → Walked base bytes (walk base bytes)
 unfolding option_at
-walked_within zero base [] fits p = subst (Walked base []) (sym (walk_stop base [] OptionCut refl)) (record { front = []; run = refl; parts = refl; last = refl; ends = refl; fits = fits })
+walked_within zero base [] fits p = subst (Walked base []) (sym (walk_stop base [] OptionCut refl))
+    (record { front = []; run = refl; parts = refl; last = refl; ends = refl; fits = fits })
 walked_within zero base (b ∷ bytes) fits p = absurd (omega arith)
 walked_within (suc n) base bytes fits p = walked_case n base bytes fits p (walked_within n)
 
@@ -98,9 +110,15 @@ pub walked : (base : ℕ) (bytes : List ℕ) → AreBytes bytes → Walked base 
 walked base bytes fits = walked_within (length bytes) base bytes fits (omega arith)
 
 -- a run is walked over
-pub walk_again : (options : List CoapOption) (base : ℕ) (front rest : List ℕ) (reason : Reason) → AreBytes (front ++ rest) → Options base front options
+pub walk_again : (options : List CoapOption) (base : ℕ) (front rest : List ℕ) (reason : Reason)
+    → AreBytes (front ++ rest) → Options base front options
     → option_at (last_number base options) rest ≡ Err reason
-    → walk base (front ++ rest) ≡ record { options = options; number = last_number base options; rest = rest; reason = reason }
+    → walk base (front ++ rest) ≡ record {
+      options = options;
+      number = last_number base options;
+      rest = rest;
+      reason = reason;
+    }
 walk_again [] base front rest reason fits run e = rw run (walk_stop base rest reason e)
 walk_again (option ∷ options) base front rest reason fits run e =
     let first = run.0 in
@@ -109,24 +127,29 @@ walk_again (option ∷ options) base front rest reason fits run e =
     let again = option_again base option first (more ++ rest) run.3 in
     let fits' : AreBytes (first ++ (more ++ rest)) = subst AreBytes parts fits in
     rw parts (walk_step base (first ++ (more ++ rest)) option (more ++ rest) again
-    ∙ ap (with_first option) (walk_again options option.number more rest reason (AreBytes-rest first (more ++ rest) fits') run.4 e))
+    ∙ ap (with_first option) (walk_again options option.number more rest reason
+    (AreBytes-rest first (more ++ rest) fits') run.4 e))
 
 -- no run is longer than the walk
-pub walk_longest : (options : List CoapOption) (base : ℕ) (bytes run left : List ℕ) → AreBytes bytes → Options base run options → bytes ≡ run ++ left → length (walk base bytes).rest ≤ length left
+pub walk_longest : (options : List CoapOption) (base : ℕ) (bytes run left : List ℕ) → AreBytes bytes
+    → Options base run options → bytes ≡ run ++ left → length (walk base bytes).rest ≤ length left
 walk_longest [] base bytes run left fits is e =
     let w = walked base bytes fits in
-    let whole : length bytes ≡ length w.front + length (walk base bytes).rest = ap length w.parts ∙ length-append w.front (walk base bytes).rest in
+    let whole : length bytes ≡ length w.front + length (walk base bytes).rest = ap length w.parts
+    ∙ length-append w.front (walk base bytes).rest in
     let same : bytes ≡ left = e ∙ ap (λ (r : List ℕ). r ++ left) is in
     let len = ap length same in
     omega arith
 walk_longest (option ∷ options) base bytes run left fits is e =
     let first = is.0 in
     let more = is.1 in
-    let parts : bytes ≡ first ++ (more ++ left) = e ∙ ap (λ (r : List ℕ). r ++ left) is.2 ∙ append_assoc first more left in
+    let parts : bytes ≡ first ++ (more ++ left) = e ∙ ap (λ (r : List ℕ). r ++ left) is.2
+    ∙ append_assoc first more left in
     let fits' : AreBytes (first ++ (more ++ left)) = subst AreBytes parts fits in
     let again = option_again base option first (more ++ left) is.3 in
     let step = walk_step base (first ++ (more ++ left)) option (more ++ left) again in
-    rw (parts, step) (walk_longest options option.number (more ++ left) more left (AreBytes-rest first (more ++ left) fits') is.4 refl)
+    rw (parts, step) (walk_longest options option.number (more ++ left) more left
+    (AreBytes-rest first (more ++ left) fits') is.4 refl)
 
 -- each option takes a step
 count_within : (n base : ℕ) (bytes : List ℕ) → length (walk_of n base bytes).options ≤ n
@@ -134,7 +157,8 @@ unfolding walk_of
 count_within zero base bytes = omega arith
 count_within (suc n) base bytes =
     elim (cases_result (option_at base bytes)) [
-      | inl h ↦ let e = ap (λ w. length w.options) (one_step n base bytes h.0.0 h.0.1 h.1) in let r = count_within n h.0.0.number h.0.1 in omega arith
+      | inl h ↦ let e = ap (λ w. length w.options) (one_step n base bytes h.0.0 h.0.1 h.1) in let r =
+          count_within n h.0.0.number h.0.1 in omega arith
       | inr h ↦ let e = ap (λ w. length w.options) (no_step n base bytes h.0 h.1) in omega arith
     ]
 

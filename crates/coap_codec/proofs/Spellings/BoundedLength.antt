@@ -28,12 +28,21 @@ length-option base o =
 options_bounded : (os : List CoapOption) (base : ℕ) → length (options_bytes base os) ≤ most_bytes os
 unfolding options_bytes
 options_bounded [] base = omega arith
-options_bounded (o ∷ os) base = omega (arith, length-append (option_bytes base o) (options_bytes o.number os), length-option base o, options_bounded os o.number)
+options_bounded (o ∷ os) base = omega (
+  arith,
+  length-append (option_bytes base o) (options_bytes o.number os),
+  length-option base o,
+  options_bounded os o.number,
+)
 
 length-marked : (payload : List ℕ) → length (marked payload) ≤ 1 + length payload
 length-marked [] = omega arith
 length-marked (b ∷ bytes) = omega arith
 
 pub bounded_spelling : BoundedSpelling
-bounded_spelling m can =
-    (message_bytes m, spelled_by m can, let last = length-marked m.payload in let most = options_bounded m.options 0 in simp length-append (omega (arith, last, most)))
+bounded_spelling m can = (
+  message_bytes m,
+  spelled_by m can,
+  let last = length-marked m.payload in let most =
+      options_bounded m.options 0 in simp length-append (omega (arith, last, most)),
+)

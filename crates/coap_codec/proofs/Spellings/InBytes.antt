@@ -55,11 +55,13 @@ option_are base o bytes is value =
 abbrev HasBytes : CoapOption → Type 0
 HasBytes option = AreBytes option.value
 
-options_are : (options : List CoapOption) (base : ℕ) (bytes : List ℕ) → Options base bytes options → All HasBytes options → AreBytes bytes
+options_are : (options : List CoapOption) (base : ℕ) (bytes : List ℕ) → Options base bytes options
+    → All HasBytes options → AreBytes bytes
 options_are [] base bytes is values = subst AreBytes (sym is) AreBytes-nil
 options_are (o ∷ options) base bytes is values =
     subst AreBytes (sym is.2)
-    (AreBytes-append is.0 is.1 (option_are base o is.0 is.3 (values 0 o (omega arith))) (options_are options o.number is.1 is.4 (λ i d low. values (suc i) d (omega (arith, low)))))
+    (AreBytes-append is.0 is.1 (option_are base o is.0 is.3 (values 0 o (omega arith)))
+    (options_are options o.number is.1 is.4 (λ i d low. values (suc i) d (omega (arith, low)))))
 
 marked_are : (payload : List ℕ) → AreBytes payload → AreBytes (marked payload)
 marked_are [] h = AreBytes-nil
@@ -67,22 +69,28 @@ marked_are (b ∷ bytes) h = AreBytes-cons 255 (b ∷ bytes) (omega arith) h
 
 pub spelled_in_bytes : SpelledInBytes
 spelled_in_bytes bytes m s are =
-    let back : AreBytes (s.option_bytes ++ marked m.payload) = AreBytes-append s.option_bytes (marked m.payload) (options_are m.options 0 s.option_bytes s.options are.values) (marked_are m.payload are.payload) in
+    let back : AreBytes (s.option_bytes ++ marked m.payload) =
+    AreBytes-append s.option_bytes (marked m.payload) (options_are m.options 0 s.option_bytes s.options are.values)
+    (marked_are m.payload are.payload) in
     subst AreBytes (sym s.parts)
-    (AreBytes-append (header m) (m.token ++ (s.option_bytes ++ marked m.payload)) (header_are m s.code s.token) (AreBytes-append m.token (s.option_bytes ++ marked m.payload) are.token back))
+    (AreBytes-append (header m) (m.token ++ (s.option_bytes ++ marked m.payload)) (header_are m s.code s.token)
+    (AreBytes-append m.token (s.option_bytes ++ marked m.payload) are.token back))
 
 -- of bytes
 
 value_are : (base : ℕ) (o : CoapOption) (bytes : List ℕ) → IsOption base o bytes → AreBytes bytes → AreBytes o.value
 value_are base o bytes is are =
-    let behind = AreBytes-tail (is.delta * 16 + is.len) (is.more_delta ++ (is.more_len ++ o.value)) (subst AreBytes is.parts are) in
+    let behind = AreBytes-tail (is.delta * 16 + is.len) (is.more_delta ++ (is.more_len ++ o.value))
+    (subst AreBytes is.parts are) in
     AreBytes-rest is.more_len o.value (AreBytes-rest is.more_delta (is.more_len ++ o.value) behind)
 
-values_are : (options : List CoapOption) (base : ℕ) (bytes : List ℕ) → Options base bytes options → AreBytes bytes → All HasBytes options
+values_are : (options : List CoapOption) (base : ℕ) (bytes : List ℕ) → Options base bytes options → AreBytes bytes
+    → All HasBytes options
 values_are [] base bytes is are = All-nil HasBytes
 values_are (o ∷ options) base bytes is are =
     let parts = subst AreBytes is.2 are in
-    All-cons HasBytes o options (value_are base o is.0 is.3 (AreBytes-front is.0 is.1 parts)) (values_are options o.number is.1 is.4 (AreBytes-rest is.0 is.1 parts))
+    All-cons HasBytes o options (value_are base o is.0 is.3 (AreBytes-front is.0 is.1 parts))
+    (values_are options o.number is.1 is.4 (AreBytes-rest is.0 is.1 parts))
 
 unmarked : (payload : List ℕ) → AreBytes (marked payload) → AreBytes payload
 unmarked [] h = AreBytes-nil

@@ -14,7 +14,8 @@ use Rattle.coap_codec.proofs.Spellings.RefusedHasNone.{Ext-most, Options-ascends
 use Rattle.coap_codec.proofs.Spellings.RefusedHasNone.{marked-long}
 use Rattle.coap_codec.proofs.Spellings.WhatIsWritten.{option_is, spelled_by}
 
-pub options_only : (os : List CoapOption) (base : ℕ) (bytes : List ℕ) → Options base bytes os → bytes ≡ options_bytes base os
+pub options_only : (os : List CoapOption) (base : ℕ) (bytes : List ℕ) → Options base bytes os
+    → bytes ≡ options_bytes base os
 unfolding options_bytes
 options_only [] base bytes is = is
 options_only (o ∷ os) base bytes is =
@@ -24,13 +25,16 @@ options_only (o ∷ os) base bytes is =
     let same : is.0 ++ is.1 ≡ option_bytes base o ++ options_bytes o.number os = rw (first, rest) refl in
     is.2 ∙ same
 
-Options-numbered : (os : List CoapOption) (base : ℕ) (bytes : List ℕ) → Options base bytes os → list_all is_numbered os ≡ true
+Options-numbered : (os : List CoapOption) (base : ℕ) (bytes : List ℕ) → Options base bytes os
+    → list_all is_numbered os ≡ true
 Options-numbered [] base bytes is = refl
-Options-numbered (o ∷ os) base bytes is = rw (lt-ltb o.number (2 ^ 16) is.3.fits) (Options-numbered os o.number is.1 is.4)
+Options-numbered (o ∷ os) base bytes is = rw (lt-ltb o.number (2 ^ 16) is.3.fits)
+    (Options-numbered os o.number is.1 is.4)
 
 pub spelled_by_no_others : SpelledByNoOthers
 spelled_by_no_others bytes m s =
-    s.parts ∙ ap (λ (f : List ℕ). header m ++ (m.token ++ (f ++ marked m.payload))) (options_only m.options 0 s.option_bytes s.options)
+    s.parts ∙ ap (λ (f : List ℕ). header m ++ (m.token ++ (f ++ marked m.payload)))
+    (options_only m.options 0 s.option_bytes s.options)
 
 spelled_bare : (m : Message) → IsBare m → Spells (message_bytes m) m
 unfolding options_bytes

@@ -24,14 +24,17 @@ Ext-once n i j (a ∷ b ∷ []) (c ∷ d ∷ []) p q =
 Ext-once n i j (a ∷ b ∷ []) (c ∷ d ∷ e ∷ y) p q = absurd q
 Ext-once n i j (a ∷ b ∷ c ∷ x) y p q = absurd p
 
-pub IsOption-once : (base : ℕ) (option : CoapOption) (x y : List ℕ) → IsOption base option x → IsOption base option y → x ≡ y
+pub IsOption-once : (base : ℕ) (option : CoapOption) (x y : List ℕ) → IsOption base option x → IsOption base option y
+    → x ≡ y
 IsOption-once base option x y p q =
     let d = Ext-once (option.number - base) p.delta q.delta p.more_delta q.more_delta p.number q.number in
     let l = Ext-once (length option.value) p.len q.len p.more_len q.more_len p.value q.value in
-    let same : (p.delta * 16 + p.len) ∷ (p.more_delta ++ (p.more_len ++ option.value)) ≡ (q.delta * 16 + q.len) ∷ (q.more_delta ++ (q.more_len ++ option.value)) = rw (d.0, d.1, l.0, l.1) refl in
+    let same : (p.delta * 16 + p.len) ∷ (p.more_delta ++ (p.more_len ++ option.value))
+    ≡ (q.delta * 16 + q.len) ∷ (q.more_delta ++ (q.more_len ++ option.value)) = rw (d.0, d.1, l.0, l.1) refl in
     p.parts ∙ same ∙ sym q.parts
 
-Options-once : (options : List CoapOption) (base : ℕ) (x y : List ℕ) → Options base x options → Options base y options → x ≡ y
+Options-once : (options : List CoapOption) (base : ℕ) (x y : List ℕ) → Options base x options → Options base y options
+    → x ≡ y
 Options-once [] base x y p q = p ∙ sym q
 Options-once (option ∷ options) base x y p q =
     let first = IsOption-once base option p.0 q.0 p.3 q.3 in

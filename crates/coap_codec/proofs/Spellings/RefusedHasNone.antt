@@ -18,18 +18,22 @@ Ext-most n nibble (b ∷ []) p = omega arith
 Ext-most n nibble (a ∷ b ∷ []) p = omega arith
 Ext-most n nibble (a ∷ b ∷ c ∷ more) p = absurd p
 
-pub Options-ascends : (options : List CoapOption) (base : ℕ) (bytes : List ℕ) → Options base bytes options → ascends base options ≡ true
+pub Options-ascends : (options : List CoapOption) (base : ℕ) (bytes : List ℕ) → Options base bytes options
+    → ascends base options ≡ true
 Options-ascends [] base bytes o = refl
-Options-ascends (option ∷ options) base bytes o = rw (le-leb base option.number o.3.rises) (Options-ascends options option.number o.1 o.4)
+Options-ascends (option ∷ options) base bytes o =
+    rw (le-leb base option.number o.3.rises) (Options-ascends options option.number o.1 o.4)
 
-pub Options-short : (options : List CoapOption) (base : ℕ) (bytes : List ℕ) → Options base bytes options → list_all is_short options ≡ true
+pub Options-short : (options : List CoapOption) (base : ℕ) (bytes : List ℕ) → Options base bytes options
+    → list_all is_short options ≡ true
 Options-short [] base bytes o = refl
 Options-short (option ∷ options) base bytes o =
     let short = Ext-most (length option.value) o.3.len o.3.more_len o.3.value in
     rw (le-leb (length option.value) 65804 short) (Options-short options option.number o.1 o.4)
 
 -- an option takes at least a byte
-pub Options-long : (options : List CoapOption) (base : ℕ) (bytes : List ℕ) → Options base bytes options → length options ≤ length bytes
+pub Options-long : (options : List CoapOption) (base : ℕ) (bytes : List ℕ) → Options base bytes options
+    → length options ≤ length bytes
 Options-long [] base bytes o = omega arith
 Options-long (option ∷ options) base bytes o =
     let rest = Options-long options option.number o.1 o.4 in
@@ -41,13 +45,21 @@ pub marked-long : (payload : List ℕ) → length payload ≤ length (marked pay
 marked-long [] = omega arith
 marked-long (b ∷ bytes) = omega arith
 
-pub refused_unspelled : (r : Refusal) (m : Message) (room : ℕ) → Refused r m room → (bytes : List ℕ) → Spells bytes m → length bytes ≤ room → ⊥
+pub refused_unspelled : (r : Refusal) (m : Message) (room : ℕ) → Refused r m room → (bytes : List ℕ) → Spells bytes m
+    → length bytes ≤ room → ⊥
 refused_unspelled EmptyNotBare m room h bytes s fits =
     let four = s.empty h.0 in
     let options = Options-long m.options 0 s.option_bytes s.options in
     let payload = marked-long m.payload in
     let whole = ap length s.parts in
-    omega (arith, length-append m.token (s.option_bytes ++ marked m.payload), length-append s.option_bytes (marked m.payload))
-refused_unspelled OptionOrder m room h bytes s fits = let order = Options-ascends m.options 0 s.option_bytes s.options in let no = h.1 in absurd cc
-refused_unspelled OptionTooLong m room h bytes s fits = let short = Options-short m.options 0 s.option_bytes s.options in let no = h.2 in absurd cc
-refused_unspelled NoRoom m room h bytes s fits = let same = ap length (one_spelling m bytes h.0 s h.1) in omega (arith, h.2)
+    omega (
+      arith,
+      length-append m.token (s.option_bytes ++ marked m.payload),
+      length-append s.option_bytes (marked m.payload),
+    )
+refused_unspelled OptionOrder m room h bytes s fits = let order =
+    Options-ascends m.options 0 s.option_bytes s.options in let no = h.1 in absurd cc
+refused_unspelled OptionTooLong m room h bytes s fits = let short =
+    Options-short m.options 0 s.option_bytes s.options in let no = h.2 in absurd cc
+refused_unspelled NoRoom m room h bytes s fits = let same =
+    ap length (one_spelling m bytes h.0 s h.1) in omega (arith, h.2)

@@ -25,7 +25,8 @@ Ext-of n most =
       ]
     ]
 
-pub option_is : (base : ℕ) (option : CoapOption) → base ≤ option.number → option.number < 2 ^ 16 → length option.value ≤ 65804 → IsOption base option (option_bytes base option)
+pub option_is : (base : ℕ) (option : CoapOption) → base ≤ option.number → option.number < 2 ^ 16
+    → length option.value ≤ 65804 → IsOption base option (option_bytes base option)
 unfolding option_bytes
 option_is base option rises fits short = record {
   rises = rises;
@@ -40,14 +41,16 @@ option_is base option rises fits short = record {
 }
 
 -- options that ascend, have numbers and are short, have this spelling
-pub options_spelled : (os : List CoapOption) (base : ℕ) → ascends base os ≡ true → list_all is_numbered os ≡ true → list_all is_short os ≡ true → Options base (options_bytes base os) os
+pub options_spelled : (os : List CoapOption) (base : ℕ) → ascends base os ≡ true → list_all is_numbered os ≡ true
+    → list_all is_short os ≡ true → Options base (options_bytes base os) os
 unfolding options_bytes
 options_spelled [] base order numbers short = refl
 options_spelled (o ∷ os) base order numbers short =
     let p = and_parts (nat_le base o.number) (ascends o.number os) order in
     let n = and_parts (is_numbered o) (list_all is_numbered os) numbers in
     let q = and_parts (is_short o) (list_all is_short os) short in
-    let first = option_is base o (leb-true base o.number p.0) (ltb-true o.number (2 ^ 16) n.0) (leb-true (length o.value) 65804 q.0) in
+    let first = option_is base o (leb-true base o.number p.0) (ltb-true o.number (2 ^ 16) n.0)
+    (leb-true (length o.value) 65804 q.0) in
     (option_bytes base o, options_bytes o.number os, refl, first, options_spelled os o.number p.1 n.1 q.1)
 
 pub spelled_by : (m : Message) → CanBeSpelled m → Spells (message_bytes m) m
@@ -61,15 +64,23 @@ spelled_by m can = record {
   empty = λ none. absurd (let some = can.some in omega arith);
 }
 
-pub options_are : (options : List Opt) (base : ℕ) → ascends base (options_of options) ≡ true → list_all is_short (options_of options) ≡ true
-    → ((k : ℕ) (d : Opt) → k < length options → (get_or options k d).number < 2 ^ 16) → Options base (options_bytes base (options_of options)) (options_of options)
+pub options_are : (options : List Opt) (base : ℕ) → ascends base (options_of options) ≡ true
+    → list_all is_short (options_of options) ≡ true
+    → ((k : ℕ) (d : Opt) → k < length options → (get_or options k d).number < 2 ^ 16)
+    → Options base (options_bytes base (options_of options)) (options_of options)
 unfolding options_bytes
 options_are [] base order short numbers = refl
 options_are (option ∷ options) base order short numbers =
     let p = and_parts (nat_le base option.number) (ascends option.number (options_of options)) order in
     let q = and_parts (is_short (option_of option)) (list_all is_short (options_of options)) short in
-    let first = option_is base (option_of option) (leb-true base option.number p.0) (numbers 0 option (omega arith)) (leb-true (length option.value.now) 65804 q.0) in
-    (option_bytes base (option_of option), options_bytes option.number (options_of options), refl, first, options_are options option.number p.1 q.1 (λ k d h. numbers (suc k) d (omega arith)))
+    let first = option_is base (option_of option) (leb-true base option.number p.0) (numbers 0 option (omega arith))
+    (leb-true (length option.value.now) 65804 q.0) in (
+      option_bytes base (option_of option),
+      options_bytes option.number (options_of options),
+      refl,
+      first,
+      options_are options option.number p.1 q.1 (λ k d h. numbers (suc k) d (omega arith)),
+    )
 
 bare_length : (m : Message) → (IsEmptyNotBare m → ⊥) → m.code ≡ 0 → length (message_bytes m) ≡ 4
 unfolding options_bytes
@@ -83,7 +94,8 @@ bare_length m h z =
           rw (t, o, b) refl
     ]
 
-pub message_is : (m : Message) (options : List Opt) → m.options ≡ options_of options → m.code < 2 ^ 8 → m.id < 2 ^ 16 → length m.token ≤ 8 → (IsEmptyNotBare m → ⊥)
+pub message_is : (m : Message) (options : List Opt) → m.options ≡ options_of options → m.code < 2 ^ 8 → m.id < 2 ^ 16
+    → length m.token ≤ 8 → (IsEmptyNotBare m → ⊥)
     → ascends 0 (options_of options) ≡ true → list_all is_short (options_of options) ≡ true
     → ((k : ℕ) (d : Opt) → k < length options → (get_or options k d).number < 2 ^ 16) → Spells (message_bytes m) m
 message_is m options is code id token bare order short numbers = record {
@@ -105,8 +117,13 @@ back_of old bytes new n e p =
     let same : 0 + length bytes ≡ n = omega arith in
     ap (drop n) p ∙ drop_at bytes (drop (0 + length bytes) old) n (sym e) ∙ ap (λ (k : ℕ). drop k old) same
 
-pub message_length : (m : Message) → length (message_bytes m) ≡ 4 + (length m.token + (length (options_bytes 0 m.options) + length (marked m.payload)))
-message_length m = omega (arith, length-append m.token (options_bytes 0 m.options ++ marked m.payload), length-append (options_bytes 0 m.options) (marked m.payload))
+pub message_length : (m : Message) → length (message_bytes m)
+    ≡ 4 + (length m.token + (length (options_bytes 0 m.options) + length (marked m.payload)))
+message_length m = omega (
+  arith,
+  length-append m.token (options_bytes 0 m.options ++ marked m.payload),
+  length-append (options_bytes 0 m.options) (marked m.payload),
+)
 
 pub marked_more : (payload : List ℕ) → (length payload ≡ 0 → ⊥) → marked payload ≡ 255 ∷ payload
 marked_more [] h = absurd (h refl)

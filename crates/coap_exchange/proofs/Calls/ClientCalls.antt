@@ -64,15 +64,18 @@ request_replies Non id h = absurd (cc h)
 request_replies Ack id h = absurd (cc h)
 request_replies Rst id h = absurd (cc h)
 
-either_quiet : (b : Bool) (v : Verdict) (id : ℕ) → reply_by v id ≡ None → is_some (reply_by (if b then v else Ignore) id) ≡ true → ⊥
+either_quiet : (b : Bool) (v : Verdict) (id : ℕ) → reply_by v id ≡ None
+    → is_some (reply_by (if b then v else Ignore) id) ≡ true → ⊥
 either_quiet true v id e h = let k : is_some (reply_by v id) ≡ false = ap is_some e in cc (h, k)
 either_quiet false v id e h = cc h
 
-pub replied : (s : Own) (from : Endpoint) (up : T.Answer) → is_some (reply_by (verdict_on s from up) (id_in up)) ≡ true → (m : Message) × (handed_by up ≡ Some m) × (m.id ≡ id_in up)
+pub replied : (s : Own) (from : Endpoint) (up : T.Answer) → is_some (reply_by (verdict_on s from up) (id_in up)) ≡ true
+    → (m : Message) × (handed_by up ≡ Some m) × (m.id ≡ id_in up)
 unfolding Replies
 replied s from (T.Becomes (T.Response m)) h =
     let k = known_of s from m in
-    let kept : is_kept m.kind ≡ true = judged_replies m.kind k.from_server k.of_exchange k.same_id k.kept k.bad_option k.cancelled m.id h in
+    let kept : is_kept m.kind ≡ true = judged_replies m.kind k.from_server k.of_exchange k.same_id k.kept k.bad_option
+    k.cancelled m.id h in
     (m, rw kept refl, refl)
 replied s from (T.Becomes (T.Request m k)) h = (m, refl, refl)
 replied s from (T.Becomes (T.Acked id)) h = absurd (either_quiet (is_of_request s from id) Await 0 refl h)
@@ -99,38 +102,54 @@ module _ (l : L.State) (server : Endpoint) (word : ℕ) (held : Held) where
   abbrev left : Option Exchange → Held
   left running = record { given = held.given; running = running; kept = held.kept }
 
-  own_same : (a b : ℕ) (x y : Option Exchange) → a ≡ b → x ≡ y → own_with a server word (left x) ≡ own_with b server word (left y)
+  own_same : (a b : ℕ) (x y : Option Exchange) → a ≡ b → x ≡ y
+      → own_with a server word (left x) ≡ own_with b server word (left y)
   own_same a b x y e f = ap (λ c. own_with c server word (left x)) e ∙ ap (λ r. own_with b server word (left r)) f
 
-  pub received : (mid h : L.State) (now : ℕ) (from : Endpoint) (bytes : List ℕ) (up : T.Answer) (settled : Bool) (v : Verdict) (id at : ℕ) (running : Option Exchange) (event : Option Event)
+  pub received : (mid h : L.State) (now : ℕ) (from : Endpoint) (bytes : List ℕ) (up : T.Answer) (settled : Bool)
+      (v : Verdict) (id at : ℕ) (running : Option Exchange) (event : Option Event)
       → L.Step l now (T.Receive from bytes) up mid → v ≡ verdict_on s from up → id ≡ id_in up → at ≡ mid.clock
-      → Steps mid (settling (settles v) server held.running settled ++ replying from id (reply_by v id)) h → running ≡ running_after at v held.running → event ≡ told v up
-      → Step (state_of l server word held) (Receive now from bytes up settled event) (state_of h server word (left running))
+      → Steps mid (settling (settles v) server held.running settled ++ replying from id (reply_by v id)) h
+      → running ≡ running_after at v held.running → event ≡ told v up
+      → Step (state_of l server word held) (Receive now from bytes up settled event)
+      (state_of h server word (left running))
   received mid h now from bytes up settled v id at running event arrival v_is id_is at_is steps running_is event_is =
       let w = verdict_on s from up in
       let all : Steps mid (acts s from up settled w) h =
-      subst (λ n. Steps mid (settling (settles w) server held.running settled ++ replying from n (reply_by w n)) h) id_is
-      (subst (λ x. Steps mid (settling (settles x) server held.running settled ++ replying from id (reply_by x id)) h) v_is steps) in
-      let parts = steps_split mid h (settling (settles w) server held.running settled) (replying from (id_in up) (reply_by w (id_in up))) all in
+      subst (λ n. Steps mid (settling (settles w) server held.running settled ++ replying from n (reply_by w n)) h)
+      id_is
+      (subst (λ x. Steps mid (settling (settles x) server held.running settled ++ replying from id (reply_by x id)) h)
+      v_is steps) in
+      let parts = steps_split mid h (settling (settles w) server held.running settled)
+      (replying from (id_in up) (reply_by w (id_in up))) all in
       let first : mid.clock ≡ max l.clock now = step_clock l mid now (T.Receive from bytes) up arrival in
       let clock : h.clock ≡ max l.clock now =
-      (settling_opens (settles w) server held.running settled parts.0 h parts.2).0 ∙ ((replying_opens from (id_in up) (reply_by w (id_in up)) mid parts.0 parts.1).0 ∙ first) in
+      (settling_opens (settles w) server held.running settled parts.0 h parts.2).0
+      ∙ ((replying_opens from (id_in up) (reply_by w (id_in up)) mid parts.0 parts.1).0 ∙ first) in
       record {
         right = event_is ∙ ap (λ x. told x up) v_is;
         own_is = own_same h.clock (max l.clock now) running (running_after (max l.clock now) w held.running) clock
-            (running_is ∙ (ap (λ n. running_after n v held.running) (at_is ∙ first) ∙ ap (λ x. running_after (max l.clock now) x held.running) v_is));
-        under = steps_join l mid h (acts s from up settled w) (asked now (T.Receive from bytes) up ∷ []) (l, refl, arrival) all;
+            (running_is ∙ (ap (λ n. running_after n v held.running) (at_is ∙ first)
+            ∙ ap (λ x. running_after (max l.clock now) x held.running) v_is));
+        under = steps_join l mid h (acts s from up settled w) (asked now (T.Receive from bytes) up ∷ [])
+            (l, refl, arrival) all;
       }
 
-  pub received_old : (old : State) → state_of l server word held ≡ old → (mid h : L.State) (now : ℕ) (from : Endpoint) (bytes : List ℕ) (up : T.Answer) (settled : Bool) (v : Verdict) (id at : ℕ) (running : Option Exchange) (event : Option Event)
+  pub received_old : (old : State) → state_of l server word held ≡ old
+      → (mid h : L.State) (now : ℕ) (from : Endpoint) (bytes : List ℕ) (up : T.Answer) (settled : Bool) (v : Verdict)
+      (id at : ℕ) (running : Option Exchange) (event : Option Event)
       → L.Step l now (T.Receive from bytes) up mid → v ≡ verdict_on s from up → id ≡ id_in up → at ≡ mid.clock
-      → Steps mid (settling (settles v) server held.running settled ++ replying from id (reply_by v id)) h → running ≡ running_after at v held.running → event ≡ told v up
+      → Steps mid (settling (settles v) server held.running settled ++ replying from id (reply_by v id)) h
+      → running ≡ running_after at v held.running → event ≡ told v up
       → Step old (Receive now from bytes up settled event) (state_of h server word (left running))
   received_old old is mid h now from bytes up settled v id at running event a b c d e f g =
-      subst (λ o. Step o (Receive now from bytes up settled event) (state_of h server word (left running))) is (received mid h now from bytes up settled v id at running event a b c d e f g)
+      subst (λ o. Step o (Receive now from bytes up settled event) (state_of h server word (left running))) is
+      (received mid h now from bytes up settled v id at running event a b c d e f g)
 
   -- a tick
-  pub ticked : (h : L.State) (now : ℕ) (below : T.Answer) (at : ℕ) (running : Option Exchange) (turn : Turn) → L.Step l now T.Ticks below h → at ≡ h.clock → turn ≡ turn_of s at below → running ≡ running_unless turn held.running
+  pub ticked : (h : L.State) (now : ℕ) (below : T.Answer) (at : ℕ) (running : Option Exchange) (turn : Turn)
+      → L.Step l now T.Ticks below h → at ≡ h.clock → turn ≡ turn_of s at below
+      → running ≡ running_unless turn held.running
       → Step (state_of l server word held) (Ticks now below turn) (state_of h server word (left running))
   ticked h now below at running turn step at_is turn_is running_is =
       let clock : h.clock ≡ max l.clock now = step_clock l h now T.Ticks below step in
@@ -140,6 +159,11 @@ module _ (l : L.State) (server : Endpoint) (word : ℕ) (held : Held) where
         under = (l, refl, step);
       }
 
-  pub ticked_old : (old : State) → state_of l server word held ≡ old → (h : L.State) (now : ℕ) (below : T.Answer) (at : ℕ) (running : Option Exchange) (turn : Turn) → L.Step l now T.Ticks below h → at ≡ h.clock
-      → turn ≡ turn_of s at below → running ≡ running_unless turn held.running → Step old (Ticks now below turn) (state_of h server word (left running))
-  ticked_old old is h now below at running turn a b c d = subst (λ o. Step o (Ticks now below turn) (state_of h server word (left running))) is (ticked h now below at running turn a b c d)
+  pub ticked_old : (old : State) → state_of l server word held ≡ old
+      → (h : L.State) (now : ℕ) (below : T.Answer) (at : ℕ) (running : Option Exchange) (turn : Turn)
+      → L.Step l now T.Ticks below h → at ≡ h.clock
+      → turn ≡ turn_of s at below → running ≡ running_unless turn held.running
+      → Step old (Ticks now below turn) (state_of h server word (left running))
+  ticked_old old is h now below at running turn a b c d =
+      subst (λ o. Step o (Ticks now below turn) (state_of h server word (left running))) is
+      (ticked h now below at running turn a b c d)

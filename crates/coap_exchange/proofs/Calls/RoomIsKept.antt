@@ -26,7 +26,8 @@ use Rattle.coap_layer.proofs.Facts.CallsOfLayer.{entry_of, step_clock, step_open
 lt_later : (last now later : ℕ) → now ≤ later → nat_lt (last + 400000) now ≡ true → nat_lt (last + 400000) later ≡ true
 lt_later last now later le h = grind (arith, nat_tests)
 
-rested_later : (now later : ℕ) (used : Option (Option ℕ)) → now ≤ later → is_rested now used ≡ true → is_rested later used ≡ true
+rested_later : (now later : ℕ) (used : Option (Option ℕ)) → now ≤ later → is_rested now used ≡ true
+    → is_rested later used ≡ true
 rested_later now later (Some (Some last)) le h = lt_later last now later le h
 rested_later now later (Some None) le h = refl
 rested_later now later None le h = refl
@@ -35,13 +36,16 @@ either : (a b c : Bool) → (b ≡ true → c ≡ true) → (a || b) ≡ true �
 either true b c f h = refl
 either false b c f h = f h
 
-pub free_later : (now later n : ℕ) (uses : List (Option ℕ)) → now ≤ later → is_free now n uses ≡ true → is_free later n uses ≡ true
+pub free_later : (now later n : ℕ) (uses : List (Option ℕ)) → now ≤ later → is_free now n uses ≡ true
+    → is_free later n uses ≡ true
 free_later now later n uses le h =
-    either (not (n % 4096 == 0)) (is_rested now (slice_get uses (n / 4096))) (is_rested later (slice_get uses (n / 4096))) (rested_later now later (slice_get uses (n / 4096)) le) h
+    either (not (n % 4096 == 0)) (is_rested now (slice_get uses (n / 4096)))
+    (is_rested later (slice_get uses (n / 4096))) (rested_later now later (slice_get uses (n / 4096)) le) h
 
 -- where no CON to an endpoint is outstanding, none is after some have ended or were sent again
 
-idle_by : (at : ℕ) (to : Endpoint) (c : Open) (b ends copies : Bool) (rest : List Open) → same_endpoint c.to to ≡ b → b ≡ false → is_busy to rest ≡ false
+idle_by : (at : ℕ) (to : Endpoint) (c : Open) (b ends copies : Bool) (rest : List Open) → same_endpoint c.to to ≡ b
+    → b ≡ false → is_busy to rest ≡ false
     → is_busy to (cons_option (cond ends None (cond copies (Some (record c { last = at })) (Some c))) rest) ≡ false
 idle_by at to c b true copies rest e h k = k
 idle_by at to c b false true rest e h k = cc (e, h, k)
@@ -51,11 +55,13 @@ neither : (x y : Bool) → (x || y) ≡ false → (x ≡ false) × (y ≡ false)
 neither true y h = absurd (cc h)
 neither false y h = (refl, h)
 
-idle_left : (e : Entry) (to : Endpoint) (cs : List Open) → is_busy to cs ≡ false → is_busy to (filter_map (left_by e) cs) ≡ false
+idle_left : (e : Entry) (to : Endpoint) (cs : List Open) → is_busy to cs ≡ false
+    → is_busy to (filter_map (left_by e) cs) ≡ false
 idle_left e to [] h = refl
 idle_left e to (c ∷ cs) h =
     let k = neither (same_endpoint c.to to) (is_busy to cs) h in
-    idle_by e.at to c (same_endpoint c.to to) (ends_in e.call e.answer c.to c.id) (copies_in e.call e.answer c.to c.id) (filter_map (left_by e) cs) refl k.0 (idle_left e to cs k.1)
+    idle_by e.at to c (same_endpoint c.to to) (ends_in e.call e.answer c.to c.id) (copies_in e.call e.answer c.to c.id)
+    (filter_map (left_by e) cs) refl k.0 (idle_left e to cs k.1)
 
 -- a CON can be sent there
 pub record MayConfirm (l : L.State) (at : ℕ) (to : Endpoint) : Type 0 where
@@ -75,31 +81,40 @@ module _ (old new : L.State) (now : ℕ) (call : T.Call) (answer : T.Answer) (st
         let at : ℕ = moment old now call in
         let e = entry_of at call answer (out_of old at call) in
         ap (is_busy to) (step_opens old new now call answer step)
-        ∙ (ap (λ o. is_busy to (filter_map (left_by e) old.open_cons ++ option_to_list o)) (still.begun at) ∙ (ap (is_busy to) (append-nil (filter_map (left_by e) old.open_cons)) ∙ idle_left e to old.open_cons h))
+        ∙ (ap (λ o. is_busy to (filter_map (left_by e) old.open_cons ++ option_to_list o)) (still.begun at)
+        ∙ (ap (is_busy to) (append-nil (filter_map (left_by e) old.open_cons)) ∙ idle_left e to old.open_cons h))
 
     upcoming : new.upcoming ≡ old.upcoming
     upcoming =
         let at : ℕ = moment old now call in
         ap (λ (s : L.State). s.upcoming) step.new_is
-        ∙ (ap (λ a. next_after (issued_by at a) old.upcoming) (sym step.right) ∙ ap (λ gs. next_after gs old.upcoming) (still.given at))
+        ∙ (ap (λ a. next_after (issued_by at a) old.upcoming) (sym step.right)
+        ∙ ap (λ gs. next_after gs old.upcoming) (still.given at))
 
     uses : new.last_used ≡ old.last_used
     uses =
         let at : ℕ = moment old now call in
         ap (λ (s : L.State). s.last_used) step.new_is
-        ∙ (ap (λ a. uses_after (issued_by at a) old.last_used) (sym step.right) ∙ ap (λ gs. uses_after gs old.last_used) (still.given at))
+        ∙ (ap (λ a. uses_after (issued_by at a) old.last_used) (sym step.right)
+        ∙ ap (λ gs. uses_after gs old.last_used) (still.given at))
 
     pub still_confirms : (m : ℕ) (to : Endpoint) → MayConfirm old m to → MayConfirm new m to
     still_confirms m to may =
-        let clock : old.clock ≤ new.clock = let k = step_clock old new now call answer step in let l = still.later in omega (arith, k, l) in
-        let then_free : is_free (max new.clock m) old.upcoming old.last_used ≡ true = free_later (max old.clock m) (max new.clock m) old.upcoming old.last_used (omega (arith, clock)) may.free in
+        let clock : old.clock ≤ new.clock = let k = step_clock old new now call answer step in let l =
+        still.later in omega (arith, k, l) in
+        let then_free : is_free (max new.clock m) old.upcoming old.last_used
+        ≡ true = free_later (max old.clock m) (max new.clock m) old.upcoming old.last_used
+        (omega (arith, clock)) may.free in
         record {
           idle = idle to may.idle;
-          free = ap (λ n. is_free (max new.clock m) n new.last_used) upcoming ∙ (ap (λ xs. is_free (max new.clock m) old.upcoming xs) uses ∙ then_free);
+          free = ap (λ n. is_free (max new.clock m) n new.last_used) upcoming
+              ∙ (ap (λ xs. is_free (max new.clock m) old.upcoming xs) uses ∙ then_free);
         }
 
 -- of the server's side
-pub may_still : (one two : Shown) (old new : L.State) (m : ℕ) (to : Endpoint) → one.state.layer ≡ old → two.state.layer ≡ new → (one.room ≡ true → two.room ≡ true) → (MayConfirm old m to → MayConfirm new m to) → MayNotify one m to → MayNotify two m to
+pub may_still : (one two : Shown) (old new : L.State) (m : ℕ) (to : Endpoint) → one.state.layer ≡ old
+    → two.state.layer ≡ new → (one.room ≡ true → two.room ≡ true) → (MayConfirm old m to → MayConfirm new m to)
+    → MayNotify one m to → MayNotify two m to
 may_still one two old new m to one_is two_is room on may =
     let then = on (subst (λ l. MayConfirm l m to) one_is (record { idle = may.idle; free = may.free })) in
     record {
@@ -108,8 +123,10 @@ may_still one two old new m to one_is two_is room on may =
       free = ap (λ (s : L.State). is_free (max s.clock m) s.upcoming s.last_used) two_is ∙ then.free;
     }
 
-pub still_may : (old new : L.State) (now : ℕ) (call : T.Call) (answer : T.Answer) (step : L.Step old now call answer new) → IsStill old new now call answer step
-    → (one two : Shown) (m : ℕ) (to : Endpoint) → one.state.layer ≡ old → two.state.layer ≡ new → (one.room ≡ true → two.room ≡ true) → MayNotify one m to → MayNotify two m to
+pub still_may : (old new : L.State) (now : ℕ) (call : T.Call) (answer : T.Answer)
+    (step : L.Step old now call answer new) → IsStill old new now call answer step
+    → (one two : Shown) (m : ℕ) (to : Endpoint) → one.state.layer ≡ old → two.state.layer ≡ new
+    → (one.room ≡ true → two.room ≡ true) → MayNotify one m to → MayNotify two m to
 still_may old new now call answer step still one two m to one_is two_is room may =
     may_still one two old new m to one_is two_is room (still_confirms old new now call answer step still m to) may
 
@@ -119,29 +136,41 @@ tick_gives tick.Idle done at h = ap (issued_by at) h
 tick_gives (tick.Copied id) done at h = ap (issued_by at) h.1
 tick_gives (tick.Expired to id) done at h = ap (issued_by at) h
 
-tick_confirms : (l from mid : L.State) (now : ℕ) (t : Tick) (done : T.Answer) → from ≡ l → IsTick t done → L.Step from now T.Ticks done mid → (m : ℕ) (to : Endpoint) → MayConfirm l m to → MayConfirm mid m to
+tick_confirms : (l from mid : L.State) (now : ℕ) (t : Tick) (done : T.Answer) → from ≡ l → IsTick t done
+    → L.Step from now T.Ticks done mid → (m : ℕ) (to : Endpoint) → MayConfirm l m to → MayConfirm mid m to
 tick_confirms l from mid now t done e told step m to may =
-    still_confirms from mid now T.Ticks done step (record { begun = λ at. refl; given = λ at. tick_gives t done at told; later = omega arith }) m to (subst (λ s. MayConfirm s m to) (sym e) may)
+    still_confirms from mid now T.Ticks done step
+    (record { begun = λ at. refl; given = λ at. tick_gives t done at told; later = omega arith }) m to
+    (subst (λ s. MayConfirm s m to) (sym e) may)
 
-pub ticked_confirms : (l from mid h : L.State) (now : ℕ) (t : Tick) (done : T.Answer) (d : Option Deferred) (room : Bool) → from ≡ l → IsTick t done → L.Step from now T.Ticks done mid → Steps mid (asking_room now d room) h
+pub ticked_confirms : (l from mid h : L.State) (now : ℕ) (t : Tick) (done : T.Answer) (d : Option Deferred)
+    (room : Bool) → from ≡ l → IsTick t done → L.Step from now T.Ticks done mid → Steps mid (asking_room now d room) h
     → (m : ℕ) (to : Endpoint) → MayConfirm l m to → MayConfirm h m to
-ticked_confirms l from mid h now t done None room e told step asks m to may = subst (λ s. MayConfirm s m to) (sym asks) (tick_confirms l from mid now t done e told step m to may)
+ticked_confirms l from mid h now t done None room e told step asks m to may =
+    subst (λ s. MayConfirm s m to) (sym asks) (tick_confirms l from mid now t done e told step m to may)
 ticked_confirms l from mid h now t done (Some d) room e told step asks m to may =
-    still_confirms asks.0 h now (T.Room d.asked.from) (T.Is room) asks.2 (record { begun = λ at. refl; given = λ at. refl; later = omega arith }) m to
+    still_confirms asks.0 h now (T.Room d.asked.from) (T.Is room) asks.2
+    (record { begun = λ at. refl; given = λ at. refl; later = omega arith }) m to
     (subst (λ s. MayConfirm s m to) (sym asks.1) (tick_confirms l from mid now t done e told step m to may))
 
 -- what is rejected goes out
-queued : (old new : L.State) (now : ℕ) (from : Endpoint) (bytes : List ℕ) (up : T.Answer) → L.Step old now (T.Receive from bytes) up new → length old.queue ≤ length new.queue
+queued : (old new : L.State) (now : ℕ) (from : Endpoint) (bytes : List ℕ) (up : T.Answer)
+    → L.Step old now (T.Receive from bytes) up new → length old.queue ≤ length new.queue
 queued old new now from bytes up step =
-    let q : new.queue ≡ old.queue ++ out_of old (moment old now (T.Receive from bytes)) (T.Receive from bytes) = ap (λ (s : L.State). s.queue) step.new_is in
-    let n = ap length q ∙ length-append old.queue (out_of old (moment old now (T.Receive from bytes)) (T.Receive from bytes)) in
+    let q : new.queue ≡ old.queue ++ out_of old (moment old now (T.Receive from bytes)) (T.Receive from bytes) =
+    ap (λ (s : L.State). s.queue) step.new_is in
+    let n = ap length q ∙ length-append old.queue
+    (out_of old (moment old now (T.Receive from bytes)) (T.Receive from bytes)) in
     omega (arith, n)
 
-pub none_rejected : (old mid h : L.State) (now : ℕ) (from : Endpoint) (bytes : List ℕ) (up : T.Answer) (id : ℕ) (o : Option (List ℕ)) → L.Step old now (T.Receive from bytes) up mid → Steps mid (replying from id o) h → h.queue ≡ old.queue → o ≡ None
+pub none_rejected : (old mid h : L.State) (now : ℕ) (from : Endpoint) (bytes : List ℕ) (up : T.Answer) (id : ℕ)
+    (o : Option (List ℕ)) → L.Step old now (T.Receive from bytes) up mid → Steps mid (replying from id o) h
+    → h.queue ≡ old.queue → o ≡ None
 none_rejected old mid h now from bytes up id None step asks same = refl
 none_rejected old mid h now from bytes up id (Some b) step asks same =
     let before = queued old mid now from bytes up step in
-    let then : h.queue ≡ asks.0.queue ++ record { to = from; bytes = b } ∷ [] = ap (λ (s : L.State). s.queue) asks.2.new_is in
+    let then : h.queue ≡ asks.0.queue ++ record { to = from; bytes = b } ∷ [] =
+    ap (λ (s : L.State). s.queue) asks.2.new_is in
     let n = ap length then ∙ length-append asks.0.queue (record { to = from; bytes = b } ∷ []) in
     let m = ap (λ (s : L.State). length s.queue) asks.1 in
     let k = ap length same in

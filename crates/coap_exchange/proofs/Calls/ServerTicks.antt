@@ -42,44 +42,63 @@ not_true : (b : Bool) → not b ≡ true → b ≡ false
 not_true true h = absurd (cc h)
 not_true false h = refl
 
-pub room_idle : (l h : L.State) (now : ℕ) (to : Endpoint) (b : Bool) → L.Step l now (T.Room to) (T.Is b) h → b ≡ true → is_busy to h.open_cons ≡ false
+pub room_idle : (l h : L.State) (now : ℕ) (to : Endpoint) (b : Bool) → L.Step l now (T.Room to) (T.Is b) h → b ≡ true
+    → is_busy to h.open_cons ≡ false
 room_idle l h now to b step may_be =
     let may : b ≡ (not (is_busy to l.open_cons) && is_free (max l.clock now) l.upcoming l.last_used) = cc step.right in
-    let idle : is_busy to l.open_cons ≡ false = not_true (is_busy to l.open_cons) (and_parts (not (is_busy to l.open_cons)) (is_free (max l.clock now) l.upcoming l.last_used) (sym may ∙ may_be)).0 in
+    let idle : is_busy to l.open_cons ≡ false = not_true (is_busy to l.open_cons)
+    (and_parts (not (is_busy to l.open_cons)) (is_free (max l.clock now) l.upcoming l.last_used)
+    (sym may ∙ may_be)).0 in
     let same : h.open_cons ≡ l.open_cons =
-    step_opens l h now (T.Room to) (T.Is b) step ∙ left_same_nil (entry_of (max l.clock now) (T.Room to) (T.Is b) (out_of l (max l.clock now) (T.Room to))) (λ c. refl) l.open_cons in
+    step_opens l h now (T.Room to) (T.Is b) step
+    ∙ left_same_nil (entry_of (max l.clock now) (T.Room to) (T.Is b) (out_of l (max l.clock now) (T.Room to)))
+    (λ c. refl) l.open_cons in
     ap (is_busy to) same ∙ idle
 
-pub room_free : (l h : L.State) (now : ℕ) (to : Endpoint) (b : Bool) → L.Step l now (T.Room to) (T.Is b) h → b ≡ true → is_free (max h.clock now) h.upcoming h.last_used ≡ true
+pub room_free : (l h : L.State) (now : ℕ) (to : Endpoint) (b : Bool) → L.Step l now (T.Room to) (T.Is b) h → b ≡ true
+    → is_free (max h.clock now) h.upcoming h.last_used ≡ true
 room_free l h now to b step may_be =
     let may : b ≡ (not (is_busy to l.open_cons) && is_free (max l.clock now) l.upcoming l.last_used) = cc step.right in
-    let free : is_free (max l.clock now) l.upcoming l.last_used ≡ true = (and_parts (not (is_busy to l.open_cons)) (is_free (max l.clock now) l.upcoming l.last_used) (sym may ∙ may_be)).1 in
-    let clock : max h.clock now ≡ max l.clock now = ap (λ c. max c now) (step_clock l h now (T.Room to) (T.Is b) step) ∙ clock_then l.clock now in
+    let free : is_free (max l.clock now) l.upcoming l.last_used
+    ≡ true = (and_parts (not (is_busy to l.open_cons)) (is_free (max l.clock now) l.upcoming l.last_used)
+    (sym may ∙ may_be)).1 in
+    let clock : max h.clock now ≡ max l.clock now = ap (λ c. max c now) (step_clock l h now (T.Room to) (T.Is b) step)
+    ∙ clock_then l.clock now in
     let upcoming : h.upcoming ≡ l.upcoming = ap (λ (s : L.State). s.upcoming) step.new_is in
     let uses : h.last_used ≡ l.last_used = ap (λ (s : L.State). s.last_used) step.new_is in
     cc (clock, upcoming, uses, free)
 
 -- an idle tick leaves open whether a CON can be sent
 
-pub idle_room : (old mid : L.State) (now : ℕ) (to : Endpoint) → L.Step old now T.Ticks T.Idle mid → answer_of mid (max mid.clock now) (T.Room to) ≡ answer_of old (max old.clock now) (T.Room to)
+pub idle_room : (old mid : L.State) (now : ℕ) (to : Endpoint) → L.Step old now T.Ticks T.Idle mid
+    → answer_of mid (max mid.clock now) (T.Room to) ≡ answer_of old (max old.clock now) (T.Room to)
 idle_room old mid now to step =
     let at : ℕ = max old.clock now in
-    let clock : max mid.clock now ≡ at = ap (λ c. max c now) (step_clock old mid now T.Ticks T.Idle step) ∙ clock_then old.clock now in
-    let opens : mid.open_cons ≡ old.open_cons = step_opens old mid now T.Ticks T.Idle step ∙ left_same_nil (entry_of at T.Ticks T.Idle (out_of old at T.Ticks)) (λ c. refl) old.open_cons in
-    let upcoming : mid.upcoming ≡ old.upcoming = ap (λ (s : L.State). s.upcoming) step.new_is ∙ ap (λ a. next_after (issued_by at a) old.upcoming) (sym step.right) in
-    let uses : mid.last_used ≡ old.last_used = ap (λ (s : L.State). s.last_used) step.new_is ∙ ap (λ a. uses_after (issued_by at a) old.last_used) (sym step.right) in
+    let clock : max mid.clock now ≡ at = ap (λ c. max c now) (step_clock old mid now T.Ticks T.Idle step)
+    ∙ clock_then old.clock now in
+    let opens : mid.open_cons ≡ old.open_cons = step_opens old mid now T.Ticks T.Idle step
+    ∙ left_same_nil (entry_of at T.Ticks T.Idle (out_of old at T.Ticks)) (λ c. refl) old.open_cons in
+    let upcoming : mid.upcoming ≡ old.upcoming = ap (λ (s : L.State). s.upcoming) step.new_is
+    ∙ ap (λ a. next_after (issued_by at a) old.upcoming) (sym step.right) in
+    let uses : mid.last_used ≡ old.last_used = ap (λ (s : L.State). s.last_used) step.new_is
+    ∙ ap (λ a. uses_after (issued_by at a) old.last_used) (sym step.right) in
     cc (clock, opens, upcoming, uses)
 
 -- .. and so to which question no memory is refused
-module _ (one two : shown.Shown) (now : ℕ) (tick_is : Tick) (done : T.Answer) (told : IsTick tick_is done) (step : L.Step one.state now T.Ticks done two.state) where
+module _ (one two : shown.Shown) (now : ℕ) (tick_is : Tick) (done : T.Answer) (told : IsTick tick_is done)
+    (step : L.Step one.state now T.Ticks done two.state) where
   idly : tick_is ≡ tick.Idle → L.Step one.state now T.Ticks T.Idle two.state
-  idly e = let idle : done ≡ T.Idle = subst (λ t. IsTick t done) e told in subst (λ d. L.Step one.state now T.Ticks d two.state) idle step
+  idly e = let idle : done ≡ T.Idle = subst (λ t. IsTick t done) e told in subst
+      (λ d. L.Step one.state now T.Ticks d two.state) idle step
 
-  freely : (to : Endpoint) → tick_is ≡ tick.Idle → (one.has_room ≡ true → two.has_room ≡ true) → AsksFreely one now to → AsksFreely two now to
+  freely : (to : Endpoint) → tick_is ≡ tick.Idle → (one.has_room ≡ true → two.has_room ≡ true) → AsksFreely one now to
+      → AsksFreely two now to
   freely to e kept (inl has) = inl (kept has)
   freely to e kept (inr cannot) = inr (idle_room one.state two.state now to (idly e) ∙ cannot)
 
-  pub asks_freely : (ready : Option Asked) → (ready ≡ None) ⊎ (tick_is ≡ tick.Idle) → (one.has_room ≡ true → two.has_room ≡ true) → IfSome ready (λ a. AsksFreely one now a.from) → IfSome ready (λ a. AsksFreely two now a.from)
+  pub asks_freely : (ready : Option Asked) → (ready ≡ None) ⊎ (tick_is ≡ tick.Idle)
+      → (one.has_room ≡ true → two.has_room ≡ true) → IfSome ready (λ a. AsksFreely one now a.from)
+      → IfSome ready (λ a. AsksFreely two now a.from)
   asks_freely None which kept free = tt
   asks_freely (Some a) (inl e) kept free = absurd (cc e)
   asks_freely (Some a) (inr e) kept free = freely a.from e kept free
@@ -111,29 +130,40 @@ not_idle T.Busied d h = refl
 not_idle T.NoIds d h = refl
 not_idle (T.Gives packet) d h = refl
 
-module _ (l from mid : L.State) (now : ℕ) (t : Tick) (done : T.Answer) (same : from ≡ l) (told : IsTick t done) (step : L.Step from now T.Ticks done mid) where
+module _ (l from mid : L.State) (now : ℕ) (t : Tick) (done : T.Answer) (same : from ≡ l) (told : IsTick t done)
+    (step : L.Step from now T.Ticks done mid) where
   done_is : done ≡ answer_of l (max l.clock now) T.Ticks
   done_is = step.right ∙ ap (λ s. answer_of s (max s.clock now) T.Ticks) same
 
-  pub waits_its_turn : (due : Bool) (was ready : Option Asked) → (due ≡ false → answer_of l (max l.clock now) T.Ticks ≡ T.Idle) → ready ≡ cond due None was → (ready ≡ None) ⊎ (t ≡ tick.Idle)
+  pub waits_its_turn : (due : Bool) (was ready : Option Asked)
+      → (due ≡ false → answer_of l (max l.clock now) T.Ticks ≡ T.Idle) → ready ≡ cond due None was
+      → (ready ≡ None) ⊎ (t ≡ tick.Idle)
   waits_its_turn true was ready idle is = inl is
   waits_its_turn false was ready idle is = inr (idle_tick t done told (done_is ∙ idle refl))
 
-  pub readied : (due : Bool) (was ready : Option Asked) (d : Option Deferred) → (due ≡ false → answer_of l (max l.clock now) T.Ticks ≡ T.Idle) → (due ≡ true → answer_of l (max l.clock now) T.Ticks ≢ T.Idle) → ready ≡ cond due None was
-      → was ≡ option_map (λ (x : Deferred). x.asked) d → ready ≡ option_map (λ (x : Deferred). x.asked) (ready_if done d)
-  readied true was ready d idle busy is found = is ∙ ap (option_map (λ (x : Deferred). x.asked)) (sym (not_idle done d (λ e. busy refl (sym done_is ∙ e))))
-  readied false was ready d idle busy is found = is ∙ (found ∙ ap (λ a. option_map (λ (x : Deferred). x.asked) (ready_if a d)) (sym (done_is ∙ idle refl)))
+  pub readied : (due : Bool) (was ready : Option Asked) (d : Option Deferred)
+      → (due ≡ false → answer_of l (max l.clock now) T.Ticks ≡ T.Idle)
+      → (due ≡ true → answer_of l (max l.clock now) T.Ticks ≢ T.Idle) → ready ≡ cond due None was
+      → was ≡ option_map (λ (x : Deferred). x.asked) d
+      → ready ≡ option_map (λ (x : Deferred). x.asked) (ready_if done d)
+  readied true was ready d idle busy is found = is
+      ∙ ap (option_map (λ (x : Deferred). x.asked)) (sym (not_idle done d (λ e. busy refl (sym done_is ∙ e))))
+  readied false was ready d idle busy is found = is
+      ∙ (found ∙ ap (λ a. option_map (λ (x : Deferred). x.asked) (ready_if a d)) (sym (done_is ∙ idle refl)))
 
 -- a failure ends a separate response
 
-pub failed_off : (t : Tick) (to : Endpoint) (id : Id) (answer : T.Answer) (xs new : List (Listed Separate)) → t ≡ tick.Expired to id → IsTick t answer → new ≡ map (over to id.0) xs → listed new ≡ separate_unless answer (listed xs)
+pub failed_off : (t : Tick) (to : Endpoint) (id : Id) (answer : T.Answer) (xs new : List (Listed Separate))
+    → t ≡ tick.Expired to id → IsTick t answer → new ≡ map (over to id.0) xs
+    → listed new ≡ separate_unless answer (listed xs)
 failed_off t to id answer xs new e h is =
     let told : answer ≡ T.Expired to id.0 = subst (λ x. IsTick x answer) e h in
     ap listed is ∙ (over_is to id.0 xs ∙ ap (λ a. separate_unless a (listed xs)) (sym told))
 
 -- a tick
 
-pub asking_clock : (now : ℕ) (d : Option Deferred) (room : Bool) (mid h : L.State) (n : ℕ) → mid.clock ≡ max n now → Steps mid (asking_room now d room) h → h.clock ≡ max n now
+pub asking_clock : (now : ℕ) (d : Option Deferred) (room : Bool) (mid h : L.State) (n : ℕ) → mid.clock ≡ max n now
+    → Steps mid (asking_room now d room) h → h.clock ≡ max n now
 asking_clock now None room mid h n e k = ap (λ (s : L.State). s.clock) k ∙ e
 asking_clock now (Some d) room mid h n e k =
     step_clock k.0 h now (T.Room d.asked.from) (T.Is room) k.2
@@ -144,12 +174,14 @@ asking_clock now (Some d) room mid h n e k =
 abbrev pub Readies : T.Answer → Option Deferred → Bool → Asked → Type 0
 Readies done d room a = (room ≡ true) × (option_map (λ (d : Deferred). d.asked) d ≡ Some a) × (done ≡ T.Idle)
 
-if_ready : (d : Option Deferred) (room : Bool) (a : Asked) → due_if d room ≡ due.Ready a → (room ≡ true) × (option_map (λ (d : Deferred). d.asked) d ≡ Some a)
+if_ready : (d : Option Deferred) (room : Bool) (a : Asked) → due_if d room ≡ due.Ready a
+    → (room ≡ true) × (option_map (λ (d : Deferred). d.asked) d ≡ Some a)
 if_ready None room a h = absurd (cc h)
 if_ready (Some d) false a h = absurd (cc h)
 if_ready (Some d) true a h = let same : d.asked ≡ a = cc h in (refl, ap (λ x. Some x) same)
 
-pub due_ready : (done : T.Answer) (d : Option Deferred) (room : Bool) (a : Asked) → due_of done d room ≡ due.Ready a → Readies done d room a
+pub due_ready : (done : T.Answer) (d : Option Deferred) (room : Bool) (a : Asked) → due_of done d room ≡ due.Ready a
+    → Readies done d room a
 due_ready T.Idle d room a h = let k = if_ready d room a h in (k.0, k.1, refl)
 due_ready (T.Copied to id) d room a h = absurd (cc h)
 due_ready (T.Expired to id) d room a h = absurd (cc h)
@@ -161,47 +193,69 @@ due_ready T.Busied d room a h = absurd (cc h)
 due_ready T.NoIds d room a h = absurd (cc h)
 due_ready (T.Gives packet) d room a h = absurd (cc h)
 
-module _ (l : L.State) (pending : Option Asked) (deferred : List Deferred) (separate : List Separate) (ended : Option Ended) where
+module _ (l : L.State) (pending : Option Asked) (deferred : List Deferred) (separate : List Separate)
+    (ended : Option Ended) where
   abbrev s : Own
   s = own_with l.clock pending deferred separate ended
 
-  own_same : (a b : ℕ) (xs ys : List Separate) (x y : Option Ended) → a ≡ b → xs ≡ ys → x ≡ y → own_with a None deferred xs x ≡ own_with b None deferred ys y
-  own_same a b xs ys x y e f k = ap (λ c. own_with c None deferred xs x) e ∙ (ap (λ zs. own_with b None deferred zs x) f ∙ ap (λ z. own_with b None deferred ys z) k)
+  own_same : (a b : ℕ) (xs ys : List Separate) (x y : Option Ended) → a ≡ b → xs ≡ ys → x ≡ y
+      → own_with a None deferred xs x ≡ own_with b None deferred ys y
+  own_same a b xs ys x y e f k = ap (λ c. own_with c None deferred xs x) e
+      ∙ (ap (λ zs. own_with b None deferred zs x) f ∙ ap (λ z. own_with b None deferred ys z) k)
 
-  with_none : (old : State) → state_of l pending deferred separate ended ≡ old → (mid h : L.State) (now : ℕ) (done : T.Answer) (room : Bool) (turn : Due) (xs : List Separate) (end : Option Ended) → L.Step l now T.Ticks done mid
-      → Steps mid (asking_room now (ready_if done (ready_at s now)) room) h → turn ≡ due_of done (ready_at s now) room → xs ≡ separate_unless done separate → end ≡ failed_by done separate
+  with_none : (old : State) → state_of l pending deferred separate ended ≡ old
+      → (mid h : L.State) (now : ℕ) (done : T.Answer) (room : Bool) (turn : Due) (xs : List Separate)
+      (end : Option Ended) → L.Step l now T.Ticks done mid
+      → Steps mid (asking_room now (ready_if done (ready_at s now)) room) h → turn ≡ due_of done (ready_at s now) room
+      → xs ≡ separate_unless done separate → end ≡ failed_by done separate
       → Step old (Ticks now done room turn) (state_of h None deferred xs end)
   with_none old is mid h now done room turn xs end step asks turn_is xs_is end_is =
-      let clock : h.clock ≡ max l.clock now = asking_clock now (ready_if done (ready_at s now)) room mid h l.clock (step_clock l mid now T.Ticks done step) asks in
+      let clock : h.clock ≡ max l.clock now = asking_clock now (ready_if done (ready_at s now)) room mid h l.clock
+      (step_clock l mid now T.Ticks done step) asks in
       subst (λ o. Step o (Ticks now done room turn) (state_of h None deferred xs end)) is (record {
         right = turn_is;
-        own_is = own_same h.clock (max l.clock now) xs (separate_unless done separate) end (failed_by done separate) clock xs_is end_is;
-        under = steps_join l mid h (asking_room now (ready_if done (ready_at s now)) room) (asked now T.Ticks done ∷ []) (l, refl, step) asks;
+        own_is = own_same h.clock (max l.clock now) xs (separate_unless done separate) end
+            (failed_by done separate) clock xs_is end_is;
+        under = steps_join l mid h (asking_room now (ready_if done (ready_at s now)) room) (asked now T.Ticks done ∷ [])
+            (l, refl, step) asks;
       })
 
-  pub ticked : (old : State) → state_of l pending deferred separate ended ≡ old → (from mid h : L.State) (now : ℕ) (done : T.Answer) (room : Bool) (turn : Due) (unasked : Option Asked) (xs : List Separate) (end : Option Ended) → from ≡ l → L.Step from now T.Ticks done mid
-      → Steps mid (asking_room now (ready_if done (ready_at s now)) room) h → turn ≡ due_of done (ready_at s now) room → unasked ≡ None → xs ≡ separate_unless done separate → end ≡ failed_by done separate
+  pub ticked : (old : State) → state_of l pending deferred separate ended ≡ old
+      → (from mid h : L.State) (now : ℕ) (done : T.Answer) (room : Bool) (turn : Due) (unasked : Option Asked)
+      (xs : List Separate) (end : Option Ended) → from ≡ l → L.Step from now T.Ticks done mid
+      → Steps mid (asking_room now (ready_if done (ready_at s now)) room) h → turn ≡ due_of done (ready_at s now) room
+      → unasked ≡ None → xs ≡ separate_unless done separate → end ≡ failed_by done separate
       → Step old (Ticks now done room turn) (state_of h unasked deferred xs end)
   ticked old is from mid h now done room turn unasked xs end same first asks turn_is none_is xs_is end_is =
       let step : L.Step l now T.Ticks done mid = subst (λ x. L.Step x now T.Ticks done mid) same first in
-      subst (λ x. Step old (Ticks now done room turn) (state_of h x deferred xs end)) (sym none_is) (with_none old is mid h now done room turn xs end step asks turn_is xs_is end_is)
+      subst (λ x. Step old (Ticks now done room turn) (state_of h x deferred xs end)) (sym none_is)
+      (with_none old is mid h now done room turn xs end step asks turn_is xs_is end_is)
 
   -- what is ready may be responded to
-  pub may_respond : (h : L.State) (now : ℕ) (done : T.Answer) (room : Bool) (turn : Due) (unasked : Option Asked) (xs : List Separate) (end : Option Ended) (shown : Shown) (a : Asked) → shown.state ≡ state_of h unasked deferred xs end → (room ≡ true → shown.room ≡ true)
+  pub may_respond : (h : L.State) (now : ℕ) (done : T.Answer) (room : Bool) (turn : Due) (unasked : Option Asked)
+      (xs : List Separate) (end : Option Ended) (shown : Shown) (a : Asked)
+      → shown.state ≡ state_of h unasked deferred xs end → (room ≡ true → shown.room ≡ true)
       → h.clock ≡ max l.clock now → turn ≡ due_of done (ready_at s now) room → xs ≡ separate_unless done separate
-      → (room ≡ true → (x : Asked) → option_map (λ (d : Deferred). d.asked) (ready_if done (ready_at s now)) ≡ Some x → is_busy x.from h.open_cons ≡ false)
-      → (room ≡ true → is_free (max h.clock now) h.upcoming h.last_used ≡ true) → turn ≡ due.Ready a → MayRespond shown now a
+      → (room ≡ true → (x : Asked) → option_map (λ (d : Deferred). d.asked) (ready_if done (ready_at s now)) ≡ Some x
+      → is_busy x.from h.open_cons ≡ false)
+      → (room ≡ true → is_free (max h.clock now) h.upcoming h.last_used ≡ true) → turn ≡ due.Ready a
+      → MayRespond shown now a
   may_respond h now done room turn unasked xs end shown a state_is room_is clock turn_is xs_is idle free h_is =
       let k = due_ready done (ready_at s now) room a (sym turn_is ∙ h_is) in
       let at : max h.clock now ≡ max l.clock now = ap (λ c. max c now) clock ∙ clock_then l.clock now in
       let same : xs ≡ separate = xs_is ∙ ap (λ d. separate_unless d separate) k.2 in
-      let ready : ready_at (own_with h.clock unasked deferred xs end) now ≡ ready_at s now = ap (λ n. first_ready n xs deferred) at ∙ ap (λ ys. first_ready (max l.clock now) ys deferred) same in
-      let asks : option_map (λ (d : Deferred). d.asked) (ready_if done (ready_at s now)) ≡ Some a = ap (λ x. option_map (λ (d : Deferred). d.asked) (ready_if x (ready_at s now))) k.2 ∙ k.1 in
+      let ready : ready_at (own_with h.clock unasked deferred xs end) now
+      ≡ ready_at s now = ap (λ n. first_ready n xs deferred) at
+      ∙ ap (λ ys. first_ready (max l.clock now) ys deferred) same in
+      let asks : option_map (λ (d : Deferred). d.asked) (ready_if done (ready_at s now))
+      ≡ Some a = ap (λ x. option_map (λ (d : Deferred). d.asked) (ready_if x (ready_at s now))) k.2 ∙ k.1 in
       record {
-        ready = ap (λ (x : State). option_map (λ (d : Deferred). d.asked) (ready_at x.own now)) state_is ∙ (ap (option_map (λ (d : Deferred). d.asked)) ready ∙ k.1);
+        ready = ap (λ (x : State). option_map (λ (d : Deferred). d.asked) (ready_at x.own now)) state_is
+            ∙ (ap (option_map (λ (d : Deferred). d.asked)) ready ∙ k.1);
         con = record {
           room = room_is k.0;
           idle = ap (λ (x : State). is_busy a.from x.layer.open_cons) state_is ∙ idle k.0 a asks;
-          free = ap (λ (x : State). is_free (max x.layer.clock now) x.layer.upcoming x.layer.last_used) state_is ∙ free k.0;
+          free = ap (λ (x : State). is_free (max x.layer.clock now) x.layer.upcoming x.layer.last_used) state_is
+              ∙ free k.0;
         };
       }

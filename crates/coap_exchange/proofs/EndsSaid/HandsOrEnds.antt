@@ -11,7 +11,8 @@ use Rattle.coap_exchange.specs.AnswererLaw.{own_of, AnswererLaw}
 use Rattle.coap_exchange.specs.AnswererFollows.{hands, end_told}
 use Rattle.coap_exchange.specs.AnswererTells.{HandsOrEnds}
 
-pub none_ended : (from : Endpoint) (up : T.Answer) (p : Asked × Message) (xs : List Separate) → Some p ≡ handed_up from up → reset_by from up xs ≡ None
+pub none_ended : (from : Endpoint) (up : T.Answer) (p : Asked × Message) (xs : List Separate)
+    → Some p ≡ handed_up from up → reset_by from up xs ≡ None
 none_ended from (T.Becomes (T.Reset id)) p xs e = absurd (cc e)
 none_ended from (T.Becomes (T.Request m k)) p xs e = refl
 none_ended from (T.Becomes (T.Response m)) p xs e = refl
@@ -29,8 +30,11 @@ none_ended from (T.Copied to id) p xs e = refl
 none_ended from (T.Expired to id) p xs e = refl
 none_ended from (T.Gives packet) p xs e = refl
 
-by : (past : List Call) (now : ℕ) (from : Endpoint) (bytes : List ℕ) (up : T.Answer) (answer : Option (Asked × Message)) → answer ≡ handed_up from up
-    → IfSome (hands (Incoming now from bytes up answer)) (λ asked. (end_told past (Incoming now from bytes up answer) ≡ None) × ((own_of (Incoming now from bytes up answer ∷ past)).ended ≡ None))
+by : (past : List Call) (now : ℕ) (from : Endpoint) (bytes : List ℕ) (up : T.Answer) (answer : Option (Asked × Message))
+    → answer ≡ handed_up from up
+    → IfSome (hands (Incoming now from bytes up answer))
+    (λ asked. (end_told past (Incoming now from bytes up answer) ≡ None)
+    × ((own_of (Incoming now from bytes up answer ∷ past)).ended ≡ None))
 by past now from bytes up None h = tt
 by past now from bytes up (Some p) h = let none = none_ended from up p (own_of past).separate h in (none, none)
 

@@ -30,12 +30,14 @@ abbrev separate_hits : Ended → List Separate → ℕ
 separate_hits x [] = 0
 separate_hits x (y ∷ ys) = hits (same_ended x) (Some (ended_as y)) + separate_hits x ys
 
-hits_with : (x : Ended) (ys : List Separate) (y : Separate) → separate_hits x (ys ++ y ∷ []) ≡ separate_hits x ys + hits (same_ended x) (Some (ended_as y))
+hits_with : (x : Ended) (ys : List Separate) (y : Separate)
+    → separate_hits x (ys ++ y ∷ []) ≡ separate_hits x ys + hits (same_ended x) (Some (ended_as y))
 hits_with x [] y = omega arith
 hits_with x (z ∷ ys) y = let h = hits_with x ys y in omega (arith, h)
 
 module _ (x : Ended) (to : Endpoint) (id : ℕ) where
-  less_by : (y : Separate) (ys zs : List Separate) (b : Bool) → separate_hits x zs ≤ separate_hits x ys → separate_hits x (cond b (y ∷ zs) zs) ≤ separate_hits x (y ∷ ys)
+  less_by : (y : Separate) (ys zs : List Separate) (b : Bool) → separate_hits x zs ≤ separate_hits x ys
+      → separate_hits x (cond b (y ∷ zs) zs) ≤ separate_hits x (y ∷ ys)
   less_by y ys zs true h = omega (arith, h)
   less_by y ys zs false h = omega (arith, h)
 
@@ -43,12 +45,16 @@ module _ (x : Ended) (to : Endpoint) (id : ℕ) where
   less [] = omega arith
   less (y ∷ ys) = less_by y ys (without_separate to id ys) (not (goes_to to id y)) (less ys)
 
-  found_by : (y : Separate) (ys : List Separate) (b : Bool) → hits (same_ended x) (option_map ended_as (found to id ys)) + separate_hits x (without_separate to id ys) ≤ separate_hits x ys
-      → hits (same_ended x) (option_map ended_as (cond b (Some y) (found to id ys))) + separate_hits x (cond (not b) (y ∷ without_separate to id ys) (without_separate to id ys)) ≤ separate_hits x (y ∷ ys)
+  found_by : (y : Separate) (ys : List Separate) (b : Bool)
+      → hits (same_ended x) (option_map ended_as (found to id ys)) + separate_hits x
+      (without_separate to id ys) ≤ separate_hits x ys
+      → hits (same_ended x) (option_map ended_as (cond b (Some y) (found to id ys))) + separate_hits x
+      (cond (not b) (y ∷ without_separate to id ys) (without_separate to id ys)) ≤ separate_hits x (y ∷ ys)
   found_by y ys true h = let l = less ys in omega (arith, l)
   found_by y ys false h = omega (arith, h)
 
-  found_less : (ys : List Separate) → hits (same_ended x) (option_map ended_as (found to id ys)) + separate_hits x (without_separate to id ys) ≤ separate_hits x ys
+  found_less : (ys : List Separate) → hits (same_ended x) (option_map ended_as (found to id ys)) + separate_hits x
+      (without_separate to id ys) ≤ separate_hits x ys
   found_less [] = omega arith
   found_less (y ∷ ys) = found_by y ys (goes_to to id y) (found_less ys)
 
@@ -89,35 +95,52 @@ module _ (x : Ended) (ys : List Separate) where
 
 -- what was said and what is outstanding was sent
 abbrev Sent : List Call → Type 0
-Sent t = (x : Ended) → times (same_ended x) end_told t + separate_hits x (own_of t).separate ≤ times (same_ended x) (λ old b. sends b) t
+Sent t = (x : Ended) → times (same_ended x) end_told t + separate_hits x (own_of t).separate ≤ times (same_ended x)
+    (λ old b. sends b) t
 
 module _ (t : List Call) (sent : Sent t) where
   quiet : (c : Call) → end_told t c ≡ None → ToldOnce t c
   quiet c none = record { once = λ x h. absurd (cc (h, none)) }
 
-  says_one : (c : Call) (left : List Separate) → ((x : Ended) → hits (same_ended x) (end_told t c) + separate_hits x left ≤ separate_hits x (own_of t).separate) → ToldOnce t c
+  says_one : (c : Call) (left : List Separate)
+      → ((x : Ended) → hits (same_ended x) (end_told t c) + separate_hits x left ≤ separate_hits x (own_of t).separate)
+      → ToldOnce t c
   says_one c left f = record {
     once = λ x h.
         let k = sent x in
         let one = self_hits x in
-        let fewer = subst (λ o. hits (same_ended x) o + separate_hits x left ≤ separate_hits x (own_of t).separate) h (f x) in
+        let fewer = subst (λ o. hits (same_ended x) o + separate_hits x left ≤ separate_hits x (own_of t).separate) h
+        (f x) in
         omega (arith, k, one, fewer);
   }
 
   on : (c : Call) → ToldOnce t c × Sent (c ∷ t)
   on (Incoming now from bytes up answer) =
-      let f : (x : Ended) → hits (same_ended x) (reset_by from up (own_of t).separate) + separate_hits x (separate_after from up (own_of t).separate) ≤ separate_hits x (own_of t).separate =
-      λ x. arrival_fewer x (own_of t).separate from up in
-      (says_one (Incoming now from bytes up answer) (separate_after from up (own_of t).separate) f, λ x. let k = sent x in let l = f x in omega (arith, k, l))
+      let f : (x : Ended) → hits (same_ended x) (reset_by from up (own_of t).separate) + separate_hits x
+      (separate_after from up (own_of t).separate) ≤ separate_hits x (own_of t).separate =
+      λ x. arrival_fewer x (own_of t).separate from up in (
+        says_one (Incoming now from bytes up answer) (separate_after from up (own_of t).separate) f,
+        λ x. let k = sent x in let l = f x in omega (arith, k, l),
+      )
   on (Ticks now below room answer) =
-      let f : (x : Ended) → hits (same_ended x) (failed_by below (own_of t).separate) + separate_hits x (separate_unless below (own_of t).separate) ≤ separate_hits x (own_of t).separate =
-      λ x. tick_fewer x (own_of t).separate below in
-      (says_one (Ticks now below room answer) (separate_unless below (own_of t).separate) f, λ x. let k = sent x in let l = f x in omega (arith, k, l))
+      let f : (x : Ended) → hits (same_ended x) (failed_by below (own_of t).separate) + separate_hits x
+      (separate_unless below (own_of t).separate) ≤ separate_hits x (own_of t).separate =
+      λ x. tick_fewer x (own_of t).separate below in (
+        says_one (Ticks now below room answer) (separate_unless below (own_of t).separate) f,
+        λ x. let k = sent x in let l = f x in omega (arith, k, l),
+      )
   on (Answers a r below) = (quiet _ refl, λ x. let k = sent x in omega (arith, k))
   on (Defers now a delay answer) = (quiet _ refl, λ x. let k = sent x in omega (arith, k))
-  on (Responds now a r word id) = (quiet _ refl, λ x. let k = sent x in let l = hits_with x (own_of t).separate (separate_of a.from id a.token r) in omega (arith, k, l))
+  on (Responds now a r word id) = (
+    quiet _ refl,
+    λ x. let k = sent x in let l = hits_with x (own_of t).separate (separate_of a.from id a.token r) in omega
+        (arith, k, l),
+  )
   on (Ready now to answer) = (quiet _ refl, λ x. let k = sent x in omega (arith, k))
-  on (Notifies now to token r word id) = (quiet _ refl, λ x. let k = sent x in let l = hits_with x (own_of t).separate (separate_of to id token r) in omega (arith, k, l))
+  on (Notifies now to token r word id) = (
+    quiet _ refl,
+    λ x. let k = sent x in let l = hits_with x (own_of t).separate (separate_of to id token r) in omega (arith, k, l),
+  )
   on (Take answer) = (quiet _ refl, λ x. let k = sent x in omega (arith, k))
 
 said : (t : List Call) → EndsOnce t × Sent t

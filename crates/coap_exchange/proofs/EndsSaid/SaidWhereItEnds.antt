@@ -82,7 +82,8 @@ module _ (s : L.State) (at : ℕ) (from : Endpoint) (id : ℕ) where
   reset_open Unreadable h = absurd (cc h)
   reset_open (Faulted kind n) h = absurd (fault_other (is_con kind) h)
   reset_open (Whole m) h =
-      let only : (m.id ≡ id) × (is_outstanding from m.id s.open_cons ≡ true) = subst (IfReset m.id (is_outstanding from m.id s.open_cons)) h (up_resets m.kind (role_of m.code) m _ _ _ _) in
+      let only : (m.id ≡ id) × (is_outstanding from m.id s.open_cons ≡ true) =
+      subst (IfReset m.id (is_outstanding from m.id s.open_cons)) h (up_resets m.kind (role_of m.code) m _ _ _ _) in
       subst (λ n. is_outstanding from n s.open_cons ≡ true) only.0 only.1
 
 -- .. or given up
@@ -96,8 +97,10 @@ module _ (at : ℕ) (to : Endpoint) (id : ℕ) where
       let q : (c.id == id) ≡ true = (unsigned_Decides c.id id).1 same in
       cc (p, q)
 
-  failed_by : (c : Open) (cs : List Open) (f k : Bool) → (tick_of at cs ≡ T.Expired to id → is_outstanding to id cs ≡ true)
-      → cond f (T.Expired c.to c.id) (cond k (T.Copied c.to c.id) (tick_of at cs)) ≡ T.Expired to id → (is_to to id c || is_outstanding to id cs) ≡ true
+  failed_by : (c : Open) (cs : List Open) (f k : Bool)
+      → (tick_of at cs ≡ T.Expired to id → is_outstanding to id cs ≡ true)
+      → cond f (T.Expired c.to c.id) (cond k (T.Copied c.to c.id) (tick_of at cs)) ≡ T.Expired to id
+      → (is_to to id c || is_outstanding to id cs) ≡ true
   failed_by c cs true k ih h = ap (λ b. b || is_outstanding to id cs) (is_itself c h)
   failed_by c cs false true ih h = absurd (cc h)
   failed_by c cs false false ih h = or_right (is_to to id c) (is_outstanding to id cs) (ih h)
@@ -127,7 +130,8 @@ still_last c none t [] h = tt
 still_last c none t (x ∷ xs) h = (inr ((λ e. cc (e, none)), h.0), still_last c none t xs h.1)
 
 module _ (t : List Call) where
-  last_by : (x : Separate) (xs : List Separate) (b : Bool) → AllLast t (x ∷ xs) → AllLast t xs → AllLast t (cond b (x ∷ xs) xs)
+  last_by : (x : Separate) (xs : List Separate) (b : Bool) → AllLast t (x ∷ xs) → AllLast t xs
+      → AllLast t (cond b (x ∷ xs) xs)
   last_by x xs true h k = h
   last_by x xs false h k = k
 
@@ -137,12 +141,14 @@ module _ (t : List Call) where
       let k = last_without to id xs h.1 in
       last_by x (without_separate to id xs) (not (goes_to to id x)) (h.0, k) k
 
-  last_with : (xs : List Separate) (x : Separate) → AllLast t xs → Last t (con_of x) (ended_as x) → AllLast t (xs ++ x ∷ [])
+  last_with : (xs : List Separate) (x : Separate) → AllLast t xs → Last t (con_of x) (ended_as x)
+      → AllLast t (xs ++ x ∷ [])
   last_with [] x h k = (k, tt)
   last_with (y ∷ xs) x h k = (h.0, last_with xs x h.1 k)
 
 -- where none is outstanding to the endpoint, one may begin
-begun_last : (c : Call) (to : Endpoint) → begins c ≡ Some to → (t : List Call) (xs : List Separate) → is_waited_for to xs ≡ false → AllLast t xs → AllLast (c ∷ t) xs
+begun_last : (c : Call) (to : Endpoint) → begins c ≡ Some to → (t : List Call) (xs : List Separate)
+    → is_waited_for to xs ≡ false → AllLast t xs → AllLast (c ∷ t) xs
 begun_last c to is t [] idle h = tt
 begun_last c to is t (x ∷ xs) idle h =
     let k = neither (same_endpoint x.to to) (is_waited_for to xs) idle in
@@ -153,7 +159,8 @@ begun_last c to is t (x ∷ xs) idle h =
     neither false q e = (refl, e)
 
     other : (a b : Endpoint) → same_endpoint a b ≡ false → b ≡ a → ⊥
-    other a b differ e = let s = same_endpoint_self a in let k : same_endpoint a b ≡ true = subst (λ z. same_endpoint a z ≡ true) (sym e) s in cc (k, differ)
+    other a b differ e = let s = same_endpoint_self a in let k : same_endpoint a b
+        ≡ true = subst (λ z. same_endpoint a z ≡ true) (sym e) s in cc (k, differ)
 
 -- the one that is found
 record Found (t : List Call) (con : Sending) (x : Option Separate) : Type 0 where
@@ -161,7 +168,8 @@ record Found (t : List Call) (con : Sending) (x : Option Separate) : Type 0 wher
   is : option_map ended_as x ≡ Some one
   last : Last t con one
 
-same_con : (a b : Endpoint) (m n : ℕ) → a ≡ b → m ≡ n → ◌≡◌ {A = Sending} (record { to = a; id = m }) (record { to = b; id = n })
+same_con : (a b : Endpoint) (m n : ℕ) → a ≡ b → m ≡ n
+    → ◌≡◌ {A = Sending} (record { to = a; id = m }) (record { to = b; id = n })
 same_con a b m n p q = cc (p, q)
 
 module _ (to : Endpoint) (id : ℕ) (t : List Call) where
@@ -173,9 +181,14 @@ module _ (to : Endpoint) (id : ℕ) (t : List Call) where
       let k = and_parts (same_endpoint x.to to) (x.id.0 == id) h in
       same_con x.to to x.id.0 id (same_endpoint_is x.to to k.0) (eqb-true x.id.0 id k.1)
 
-  find_by : (x : Separate) (xs : List Separate) (b : Bool) → goes_to to id x ≡ b → AllLast t (x ∷ xs) → (list_any (goes_to to id) xs ≡ true → Found t con (found to id xs)) → (b || list_any (goes_to to id) xs) ≡ true
+  find_by : (x : Separate) (xs : List Separate) (b : Bool) → goes_to to id x ≡ b → AllLast t (x ∷ xs)
+      → (list_any (goes_to to id) xs ≡ true → Found t con (found to id xs)) → (b || list_any (goes_to to id) xs) ≡ true
       → Found t con (cond b (Some x) (found to id xs))
-  find_by x xs true is h ih some = record { one = ended_as x; is = refl; last = subst (λ c. Last t c (ended_as x)) (con_is x is) h.0 }
+  find_by x xs true is h ih some = record {
+    one = ended_as x;
+    is = refl;
+    last = subst (λ c. Last t c (ended_as x)) (con_is x is) h.0;
+  }
   find_by x xs false is h ih some = ih some
 
   find : (xs : List Separate) → AllLast t xs → list_any (goes_to to id) xs ≡ true → Found t con (found to id xs)
@@ -188,13 +201,15 @@ abbrev TellsNow : List Call → Call → Type 0
 TellsNow t c = TellsIf t c (fails c)
 
 -- an arrival, and a tick, where what they say has failed is outstanding
-arrives : (t : List Call) (now : ℕ) (from : Endpoint) (bytes : List ℕ) (answer : _) (up : T.Answer) → AllLast t (own_of t).separate
+arrives : (t : List Call) (now : ℕ) (from : Endpoint) (bytes : List ℕ) (answer : _) (up : T.Answer)
+    → AllLast t (own_of t).separate
     → ((id : ℕ) → up ≡ T.Becomes (T.Reset id) → list_any (goes_to from id) (own_of t).separate ≡ true)
     → TellsNow t (Incoming now from bytes up answer) × AllLast t (separate_after from up (own_of t).separate)
 arrives t now from bytes answer (T.Becomes (T.Reset id)) last some =
     let f = find from id t (own_of t).separate last (some id refl) in
     (record { ended = f.one; said = f.is; last = f.last }, last_without t from id (own_of t).separate last)
-arrives t now from bytes answer (T.Becomes (T.Acked id)) last some = (refl, last_without t from id (own_of t).separate last)
+arrives t now from bytes answer (T.Becomes (T.Acked id)) last some =
+    (refl, last_without t from id (own_of t).separate last)
 arrives t now from bytes answer (T.Becomes (T.Response m)) last some = (refl, last)
 arrives t now from bytes answer (T.Becomes (T.Request m k)) last some = (refl, last)
 arrives t now from bytes answer (T.Becomes T.Dropped) last some = (refl, last)
@@ -238,38 +253,54 @@ module _ (word : ℕ) (t : List Call) (rows : AnswererLaw t) (last : AllLast t (
   abbrev On : Call → Type 0
   On c = TellsNow t c × AllLast (c ∷ t) (own_of (c ∷ t)).separate
 
-  begun_on : (c : Call) (x : Separate) → begins c ≡ Some x.to → SentIn (con_of x) (ended_as x) c → is_waited_for x.to xs ≡ false → AllLast (c ∷ t) (xs ++ x ∷ [])
+  begun_on : (c : Call) (x : Separate) → begins c ≡ Some x.to → SentIn (con_of x) (ended_as x) c
+      → is_waited_for x.to xs ≡ false → AllLast (c ∷ t) (xs ++ x ∷ [])
   begun_on c x is sent idle = last_with (c ∷ t) xs x (begun_last c x.to is t xs idle last) (inl sent)
 
   on : (c : Call) (h : L.State) → Steps (L.start word) (lower_of (c ∷ t)) h → On c
   on (Incoming now from bytes up answer) h steps =
       let s : Own = own_of t in
       let parts = steps_split (L.start word) h (lower s (Incoming now from bytes up answer)) (lower_of t) steps in
-      let more = steps_split parts.0 h (replying from (id_in up) (reject_by up)) (asked now (T.Receive from bytes) up ∷ []) parts.2 in
-      let under : Steps (L.start word) (lower_of t) more.1.0 = subst (Steps (L.start word) (lower_of t)) (sym more.1.1) parts.1 in
+      let more = steps_split parts.0 h (replying from (id_in up) (reject_by up))
+      (asked now (T.Receive from bytes) up ∷ []) parts.2 in
+      let under : Steps (L.start word) (lower_of t) more.1.0 =
+      subst (Steps (L.start word) (lower_of t)) (sym more.1.1) parts.1 in
       let k = arrives t now from bytes answer up last (λ id e. waits_for word t more.1.0 under from id
-      ∙ reset_open more.1.0 (max more.1.0.clock now) from id (arrival_at bytes) (became (answer_to more.1.0 (max more.1.0.clock now) from (arrival_at bytes)) (T.Reset id) (sym more.1.2.right ∙ e))) in
+      ∙ reset_open more.1.0 (max more.1.0.clock now) from id (arrival_at bytes)
+      (became (answer_to more.1.0 (max more.1.0.clock now) from (arrival_at bytes)) (T.Reset id)
+      (sym more.1.2.right ∙ e))) in
       (k.0, still_last (Incoming now from bytes up answer) refl t (separate_after from up xs) k.1)
   on (Ticks now below room answer) h steps =
       let s : Own = own_of t in
       let parts = steps_split (L.start word) h (lower s (Ticks now below room answer)) (lower_of t) steps in
-      let more = steps_split parts.0 h (asking_room now (ready_if below (ready_at s now)) room) (asked now T.Ticks below ∷ []) parts.2 in
-      let under : Steps (L.start word) (lower_of t) more.1.0 = subst (Steps (L.start word) (lower_of t)) (sym more.1.1) parts.1 in
+      let more = steps_split parts.0 h (asking_room now (ready_if below (ready_at s now)) room)
+      (asked now T.Ticks below ∷ []) parts.2 in
+      let under : Steps (L.start word) (lower_of t) more.1.0 =
+      subst (Steps (L.start word) (lower_of t)) (sym more.1.1) parts.1 in
       let k = passes t now room answer below last (λ to id e. waits_for word t more.1.0 under to id
       ∙ failed_open (max more.1.0.clock now) to id more.1.0.open_cons (sym more.1.2.right ∙ e)) in
       (k.0, still_last (Ticks now below room answer) refl t (separate_unless below xs) k.1)
   on (Responds now a r w id) h steps =
-      let idle = waits word t (record { rows = rows; left = steps.0; layer = steps.1 }) a.from ∙ sent_alone (is_busy a.from steps.0.open_cons) _ _ id steps.2.right in
-      (refl, begun_on (Responds now a r w id) (separate_of a.from id a.token r) refl (record { there = refl; sent = refl }) idle)
+      let idle = waits word t (record { rows = rows; left = steps.0; layer = steps.1 }) a.from
+      ∙ sent_alone (is_busy a.from steps.0.open_cons) _ _ id steps.2.right in (
+        refl,
+        begun_on (Responds now a r w id) (separate_of a.from id a.token r) refl
+            (record { there = refl; sent = refl }) idle,
+      )
   on (Notifies now to token r w id) h steps =
-      let idle = waits word t (record { rows = rows; left = steps.0; layer = steps.1 }) to ∙ sent_alone (is_busy to steps.0.open_cons) _ _ id steps.2.right in
-      (refl, begun_on (Notifies now to token r w id) (separate_of to id token r) refl (record { there = refl; sent = refl }) idle)
+      let idle = waits word t (record { rows = rows; left = steps.0; layer = steps.1 }) to
+      ∙ sent_alone (is_busy to steps.0.open_cons) _ _ id steps.2.right in (
+        refl,
+        begun_on (Notifies now to token r w id) (separate_of to id token r) refl
+            (record { there = refl; sent = refl }) idle,
+      )
   on (Answers a r below) h steps = (refl, still_last (Answers a r below) refl t xs last)
   on (Defers now a delay answer) h steps = (refl, still_last (Defers now a delay answer) refl t xs last)
   on (Ready now to answer) h steps = (refl, still_last (Ready now to answer) refl t xs last)
   on (Take answer) h steps = (refl, still_last (Take answer) refl t xs last)
 
-told_so : (word : ℕ) (t : List Call) → AnswererLaw t → (h : L.State) → Steps (L.start word) (lower_of t) h → EndsTold t × AllLast t (own_of t).separate
+told_so : (word : ℕ) (t : List Call) → AnswererLaw t → (h : L.State) → Steps (L.start word) (lower_of t) h
+    → EndsTold t × AllLast t (own_of t).separate
 told_so word [] rows h steps = (tt, tt)
 told_so word (c ∷ t) rows h steps =
     let parts = steps_split (L.start word) h (lower (own_of t) c) (lower_of t) steps in

@@ -16,10 +16,14 @@ use Rattle.coap_exchange.specs.AskerLaw.{own_of, lower_of, ExchangeLaw}
 use Rattle.coap_exchange.specs.AskerExact.{IsExact}
 use Rattle.coap_layer.proofs.Facts.StepsOfLayer.{one_answer, one_left, steps_split}
 
-settled_alike : (v : Bool) (server : Endpoint) (running : Option Exchange) (settled ended : Bool) (old same new other : L.State) → old ≡ same → Steps old (settling v server running settled) new → Steps same (settling v server running ended) other
+settled_alike : (v : Bool) (server : Endpoint) (running : Option Exchange) (settled ended : Bool)
+    (old same new other : L.State) → old ≡ same → Steps old (settling v server running settled) new
+    → Steps same (settling v server running ended) other
     → settling v server running settled ≡ settling v server running ended
 settled_alike true server (Some x) settled ended old same new other e h k =
-    ap (λ a. asked 0 (T.Settle server x.id.0) a ∷ []) (one_answer h.0 k.0 new other 0 (T.Settle server x.id.0) (T.Is settled) (T.Is ended) (h.1 ∙ (e ∙ sym k.1)) h.2 k.2)
+    ap (λ a. asked 0 (T.Settle server x.id.0) a ∷ [])
+    (one_answer h.0 k.0 new other 0 (T.Settle server x.id.0) (T.Is settled) (T.Is ended)
+    (h.1 ∙ (e ∙ sym k.1)) h.2 k.2)
 settled_alike true server None settled ended old same new other e h k = refl
 settled_alike false server running settled ended old same new other e h k = refl
 
@@ -31,21 +35,35 @@ module _ (server : Endpoint) (word : ℕ) (past : List Call) where
   below_past = lower_of server word past
 
   -- one call of the layer beneath
-  single : (now : ℕ) (call : T.Call) (a b : T.Answer) (h k : L.State) → Steps (L.start word) (asked now call a ∷ below_past) h → Steps (L.start word) (asked now call b ∷ below_past) k → a ≡ b
-  single now call a b h k p q = one_answer p.0 q.0 h k now call a b (one_left (L.start word) below_past p.0 q.0 p.1 q.1) p.2 q.2
+  single : (now : ℕ) (call : T.Call) (a b : T.Answer) (h k : L.State)
+      → Steps (L.start word) (asked now call a ∷ below_past) h → Steps (L.start word) (asked now call b ∷ below_past) k
+      → a ≡ b
+  single now call a b h k p q = one_answer p.0 q.0 h k now call a b
+      (one_left (L.start word) below_past p.0 q.0 p.1 q.1) p.2 q.2
 
   module _ (now : ℕ) (from : Endpoint) (bytes : List ℕ) (settled ended : Bool) where
-    received : (up other : T.Answer) (h k : L.State) → Steps (L.start word) ((acts s from up settled (verdict_on s from up) ++ asked now (T.Receive from bytes) up ∷ []) ++ below_past) h
-        → Steps (L.start word) ((acts s from other ended (verdict_on s from other) ++ asked now (T.Receive from bytes) other ∷ []) ++ below_past) k → up ≡ other
+    received : (up other : T.Answer) (h k : L.State)
+        → Steps (L.start word) ((acts s from up settled (verdict_on s from up)
+        ++ asked now (T.Receive from bytes) up ∷ []) ++ below_past) h
+        → Steps (L.start word) ((acts s from other ended (verdict_on s from other)
+        ++ asked now (T.Receive from bytes) other ∷ []) ++ below_past) k → up ≡ other
     received up other h k p q =
-        let a = steps_split (L.start word) h (acts s from up settled (verdict_on s from up) ++ asked now (T.Receive from bytes) up ∷ []) below_past p in
-        let b = steps_split (L.start word) k (acts s from other ended (verdict_on s from other) ++ asked now (T.Receive from bytes) other ∷ []) below_past q in
-        let c = steps_split a.0 h (acts s from up settled (verdict_on s from up)) (asked now (T.Receive from bytes) up ∷ []) a.2 in
-        let d = steps_split b.0 k (acts s from other ended (verdict_on s from other)) (asked now (T.Receive from bytes) other ∷ []) b.2 in
-        one_answer c.1.0 d.1.0 c.0 d.0 now (T.Receive from bytes) up other (c.1.1 ∙ (one_left (L.start word) below_past a.0 b.0 a.1 b.1 ∙ sym d.1.1)) c.1.2 d.1.2
+        let a = steps_split (L.start word) h (acts s from up settled (verdict_on s from up)
+        ++ asked now (T.Receive from bytes) up ∷ []) below_past p in
+        let b = steps_split (L.start word) k (acts s from other ended (verdict_on s from other)
+        ++ asked now (T.Receive from bytes) other ∷ []) below_past q in
+        let c = steps_split a.0 h (acts s from up settled (verdict_on s from up))
+        (asked now (T.Receive from bytes) up ∷ []) a.2 in
+        let d = steps_split b.0 k (acts s from other ended (verdict_on s from other))
+        (asked now (T.Receive from bytes) other ∷ []) b.2 in
+        one_answer c.1.0 d.1.0 c.0 d.0 now (T.Receive from bytes) up other
+        (c.1.1 ∙ (one_left (L.start word) below_past a.0 b.0 a.1 b.1 ∙ sym d.1.1)) c.1.2 d.1.2
 
-    lowered : (up : T.Answer) (h k : L.State) → Steps (L.start word) ((acts s from up settled (verdict_on s from up) ++ asked now (T.Receive from bytes) up ∷ []) ++ below_past) h
-        → Steps (L.start word) ((acts s from up ended (verdict_on s from up) ++ asked now (T.Receive from bytes) up ∷ []) ++ below_past) k → acts s from up settled (verdict_on s from up) ≡ acts s from up ended (verdict_on s from up)
+    lowered : (up : T.Answer) (h k : L.State) → Steps (L.start word)
+        ((acts s from up settled (verdict_on s from up) ++ asked now (T.Receive from bytes) up ∷ []) ++ below_past) h
+        → Steps (L.start word) ((acts s from up ended (verdict_on s from up)
+        ++ asked now (T.Receive from bytes) up ∷ []) ++ below_past) k
+        → acts s from up settled (verdict_on s from up) ≡ acts s from up ended (verdict_on s from up)
     lowered up h k p q =
         let v = verdict_on s from up in
         let first : List Asked = asked now (T.Receive from bytes) up ∷ [] in
@@ -57,26 +75,41 @@ module _ (server : Endpoint) (word : ℕ) (past : List Call) where
         let e = steps_split c.0 h (settling (settles v) s.server s.running settled) replies c.2 in
         let f = steps_split d.0 k (settling (settles v) s.server s.running ended) replies d.2 in
         let start_same : a.0 ≡ b.0 = one_left (L.start word) below_past a.0 b.0 a.1 b.1 in
-        let first_same : c.0 ≡ d.0 = one_left a.0 first c.0 d.0 c.1 (subst (λ x. Steps x first d.0) (sym start_same) d.1) in
-        let reply_same : e.0 ≡ f.0 = one_left c.0 replies e.0 f.0 e.1 (subst (λ x. Steps x replies f.0) (sym first_same) f.1) in
-        ap (λ x. x ++ replies) (settled_alike (settles v) s.server s.running settled ended e.0 f.0 h k reply_same e.2 f.2)
+        let first_same : c.0 ≡ d.0 = one_left a.0 first c.0 d.0 c.1
+        (subst (λ x. Steps x first d.0) (sym start_same) d.1) in
+        let reply_same : e.0 ≡ f.0 = one_left c.0 replies e.0 f.0 e.1
+        (subst (λ x. Steps x replies f.0) (sym first_same) f.1) in
+        ap (λ x. x ++ replies) (settled_alike (settles v) s.server s.running settled ended e.0 f.0 h k reply_same e.2
+        f.2)
 
-    by_same : (up other : T.Answer) → up ≡ other → (answer another : Option Event) → ExchangeLaw server word (Receive now from bytes up settled answer ∷ past) → ExchangeLaw server word (Receive now from bytes other ended another ∷ past)
+    by_same : (up other : T.Answer) → up ≡ other → (answer another : Option Event)
+        → ExchangeLaw server word (Receive now from bytes up settled answer ∷ past)
+        → ExchangeLaw server word (Receive now from bytes other ended another ∷ past)
         → lower s (Receive now from bytes up settled answer) ≡ lower s (Receive now from bytes other ended another)
     by_same up other e answer another p q =
-        subst (λ o. lower s (Receive now from bytes up settled answer) ≡ lower s (Receive now from bytes o ended another)) e
-        (ap (λ x. x ++ asked now (T.Receive from bytes) up ∷ []) (lowered up p.left q.left p.layer (subst (λ o. Steps (L.start word) ((acts s from o ended (verdict_on s from o) ++ asked now (T.Receive from bytes) o ∷ []) ++ below_past) q.left) (sym e) q.layer)))
+        subst (λ o. lower s (Receive now from bytes up settled answer)
+        ≡ lower s (Receive now from bytes o ended another)) e
+        (ap (λ x. x ++ asked now (T.Receive from bytes) up ∷ [])
+        (lowered up p.left q.left p.layer (subst (λ o. Steps (L.start word)
+        ((acts s from o ended (verdict_on s from o) ++ asked now (T.Receive from bytes) o ∷ []) ++ below_past)
+        q.left) (sym e) q.layer)))
 
   pub exact : IsExact server word past
   exact = record {
     ask = λ now w r below other answer another p q.
-        let e = single now _ below other p.left q.left p.layer q.layer in (e, p.rows.0 ∙ (ap (λ a. ask_answer (opening_of s r) a (request_token s r)) e ∙ sym q.rows.0));
+        let e = single now _ below other p.left q.left p.layer q.layer
+        in (e, p.rows.0 ∙ (ap (λ a. ask_answer (opening_of s r) a (request_token s r)) e ∙ sym q.rows.0));
     receive = λ now from bytes up other settled ended answer another p q.
-        let e = received now from bytes settled ended up other p.left q.left p.layer q.layer in
-        (e, p.rows.0 ∙ (ap (λ a. told (verdict_on s from a) a) e ∙ sym q.rows.0), by_same now from bytes settled ended up other e answer another p q);
+        let e = received now from bytes settled ended up other p.left q.left p.layer q.layer in (
+          e,
+          p.rows.0 ∙ (ap (λ a. told (verdict_on s from a) a) e ∙ sym q.rows.0),
+          by_same now from bytes settled ended up other e answer another p q,
+        );
     ticks = λ now below other answer another p q.
-        let e = single now T.Ticks below other p.left q.left p.layer q.layer in (e, p.rows.0 ∙ (ap (λ a. turn_of s (max s.clock now) a) e ∙ sym q.rows.0));
+        let e = single now T.Ticks below other p.left q.left p.layer q.layer
+        in (e, p.rows.0 ∙ (ap (λ a. turn_of s (max s.clock now) a) e ∙ sym q.rows.0));
     keep = λ token answer another p q. p.rows.0 ∙ sym q.rows.0;
     release = λ token answer another p q. p.rows.0 ∙ sym q.rows.0;
-    take = λ answer another p q. let e = single 0 T.Take (T.Gives answer) (T.Gives another) p.left q.left p.layer q.layer in cc e;
+    take = λ answer another p q. let e = single 0 T.Take (T.Gives answer)
+        (T.Gives another) p.left q.left p.layer q.layer in cc e;
   }

@@ -16,19 +16,25 @@ length_with : (kept : List (List ℕ)) (token : List ℕ) → length (kept ++ to
 length_with [] token = refl
 length_with (k ∷ kept) token = let h = length_with kept token in omega (arith, h)
 
-few_with : (token : List ℕ) (kept : List (List ℕ)) (b r : Bool) → nat_lt (length kept) max_kept ≡ r → length kept ≤ max_kept → length (cond b kept (cond r (kept ++ token ∷ []) kept)) ≤ max_kept
+few_with : (token : List ℕ) (kept : List (List ℕ)) (b r : Bool) → nat_lt (length kept) max_kept ≡ r
+    → length kept ≤ max_kept → length (cond b kept (cond r (kept ++ token ∷ []) kept)) ≤ max_kept
 few_with token kept true r h few = few
-few_with token kept false true h few = let l = length_with kept token in let lt = ltb-true (length kept) max_kept h in omega (arith, l, lt)
+few_with token kept false true h few = let l = length_with kept token in let lt =
+    ltb-true (length kept) max_kept h in omega (arith, l, lt)
 few_with token kept false false h few = few
 
-few_without : (token : List ℕ) (kept : List (List ℕ)) → length kept ≤ max_kept → length (kept_without token kept) ≤ max_kept
-few_without token kept few = let both = length-filter_both (λ other. not (same_token token other)) (λ other. not (not (same_token token other))) (λ other. refl) kept in omega (arith, both, few)
+few_without : (token : List ℕ) (kept : List (List ℕ)) → length kept ≤ max_kept
+    → length (kept_without token kept) ≤ max_kept
+few_without token kept few = let both = length-filter_both (λ other. not (same_token token other))
+    (λ other. not (not (same_token token other))) (λ other. refl) kept in omega (arith, both, few)
 
 few_next : (s : Own) (c : Call) → length s.kept ≤ max_kept → length (after s c).kept ≤ max_kept
-few_next s (Ask now r word below answer) few = subst (λ kept. length kept ≤ max_kept) (sym (opened_kept s r (sent_as (opening_of s r) below))) few
+few_next s (Ask now r word below answer) few =
+    subst (λ kept. length kept ≤ max_kept) (sym (opened_kept s r (sent_as (opening_of s r) below))) few
 few_next s (Receive now from bytes up settled answer) few = few
 few_next s (Ticks now below answer) few = few
-few_next s (Keep token answer) few = few_with token s.kept (is_kept token s.kept) (nat_lt (length s.kept) max_kept) refl few
+few_next s (Keep token answer) few = few_with token s.kept (is_kept token s.kept)
+    (nat_lt (length s.kept) max_kept) refl few
 few_next s (Release token answer) few = few_without token s.kept few
 few_next s (Take answer) few = few
 

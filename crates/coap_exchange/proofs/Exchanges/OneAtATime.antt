@@ -113,7 +113,8 @@ module _ (t : List Call) (kept : List (List ℕ)) (known : Keeps t kept) where
     holds = λ token h. elim h [ inl z ↦ absurd (cc (z, k)) | inr old ↦ known.holds token old.1 ];
   }
 
-  keep_on : (token : List ℕ) (answer b : Bool) → answer ≡ b → answer ≡ may_keep token kept → Keeps (Keep token answer ∷ t) (kept_with token kept)
+  keep_on : (token : List ℕ) (answer b : Bool) → answer ≡ b → answer ≡ may_keep token kept
+      → Keeps (Keep token answer ∷ t) (kept_with token kept)
   keep_on token answer true is right =
       let may : may_keep token kept ≡ true = sym right ∙ is in
       let k : keeps (Keep token answer) ≡ Some token = ap (λ a. keeps (Keep token a)) is in
@@ -124,39 +125,59 @@ module _ (t : List Call) (kept : List (List ℕ)) (known : Keeps t kept) where
         ];
         holds = λ other h. with_is token other kept ∙ elim h [
           | inl z ↦ (let same : token ≡ other = some_is token other (sym k ∙ z) in
-              or_right (is_kept other kept) _ (ap (λ m. m && same_token other token) may ∙ subst (λ x. same_token x token ≡ true) same (same_token_self token)))
+              or_right (is_kept other kept) _ (ap (λ m. m && same_token other token) may
+              ∙ subst (λ x. same_token x token ≡ true) same (same_token_self token)))
           | inr old ↦ or_left _ _ (known.holds other old.1)
         ];
       }
   keep_on token answer false is right =
       let may : may_keep token kept ≡ false = sym right ∙ is in
       let k : keeps (Keep token answer) ≡ None = ap (λ a. keeps (Keep token a)) is in
-      let same : (other : List ℕ) → is_kept other (kept_with token kept) ≡ (is_kept other kept || (false && same_token other token)) = λ other. with_is token other kept ∙ ap (λ m. is_kept other kept || (m && same_token other token)) may in
+      let same : (other : List ℕ) → is_kept other (kept_with token kept)
+      ≡ (is_kept other kept || (false && same_token other token)) = λ other. with_is token other kept
+      ∙ ap (λ m. is_kept other kept || (m && same_token other token)) may in
       record {
-        held = λ other h. elim (or_split _ _ (sym (same other) ∙ h)) [ inl old ↦ inr ((λ z. absurd (cc z)), known.held other old) | inr new ↦ absurd (cc new) ];
-        holds = λ other h. same other ∙ elim h [ inl z ↦ absurd (cc (z, k)) | inr old ↦ or_left _ _ (known.holds other old.1) ];
+        held = λ other h. elim (or_split _ _ (sym (same other) ∙ h))
+            [ inl old ↦ inr ((λ z. absurd (cc z)), known.held other old) | inr new ↦ absurd (cc new) ];
+        holds = λ other h. same other ∙ elim h [
+          | inl z ↦ absurd (cc (z, k))
+          | inr old ↦ or_left _ _
+              (known.holds other old.1)
+        ];
       }
 
-  release_on : (token : List ℕ) (answer b : Bool) → answer ≡ b → answer ≡ is_kept token kept → Keeps (Release token answer ∷ t) (kept_without token kept)
+  release_on : (token : List ℕ) (answer b : Bool) → answer ≡ b → answer ≡ is_kept token kept
+      → Keeps (Release token answer ∷ t) (kept_without token kept)
   release_on token answer true is right =
       let r : releases (Release token answer) ≡ Some token = ap (λ a. releases (Release token a)) is in
       record {
-        held = λ other h. let p = and_parts (not (same_token token other)) (is_kept other kept) (sym (without_is token other kept) ∙ h) in
-            inr ((λ z. let same : token ≡ other = some_is token other (sym r ∙ z) in not_is _ p.0 (subst (λ x. same_token token x ≡ true) same (same_token_self token))), known.held other p.1);
+        held = λ other h. let p = and_parts (not (same_token token other)) (is_kept other kept)
+            (sym (without_is token other kept) ∙ h) in
+            inr (
+              (λ z. let same : token ≡ other = some_is token other (sym r ∙ z) in not_is _ p.0
+                  (subst (λ x. same_token token x ≡ true) same (same_token_self token))),
+              known.held other p.1,
+            );
         holds = λ other h. elim h [
           | inl z ↦ absurd (cc z)
-          | inr old ↦ without_is token other kept ∙ (ap (λ b. b && is_kept other kept) (not_of (same_token token other) (λ z. old.0 (r ∙ ap (λ x. Some x) (same_token_is token other z)))) ∙ known.holds other old.1)
+          | inr old ↦ without_is token other kept ∙ (ap (λ b. b && is_kept other kept)
+              (not_of (same_token token other) (λ z. old.0 (r ∙ ap (λ x. Some x) (same_token_is token other z))))
+              ∙ known.holds other old.1)
         ];
       }
   release_on token answer false is right =
       let r : releases (Release token answer) ≡ None = ap (λ a. releases (Release token a)) is in
       let not_kept : is_kept token kept ≡ false = sym right ∙ is in
       record {
-        held = λ other h. let p = and_parts (not (same_token token other)) (is_kept other kept) (sym (without_is token other kept) ∙ h) in inr ((λ z. absurd (cc (z, r))), known.held other p.1);
+        held = λ other h. let p = and_parts (not (same_token token other)) (is_kept other kept)
+            (sym (without_is token other kept) ∙ h) in inr ((λ z. absurd (cc (z, r))), known.held other p.1);
         holds = λ other h. elim h [
           | inl z ↦ absurd (cc z)
           | inr old ↦ without_is token other kept
-              ∙ (ap (λ b. b && is_kept other kept) (not_of (same_token token other) (λ z. let e = known.holds other old.1 in cc (not_kept, subst (λ x. is_kept x kept ≡ true) (sym (same_token_is token other z)) e))) ∙ known.holds other old.1)
+              ∙ (ap (λ b. b && is_kept other kept) (not_of (same_token token other)
+              (λ z. let e = known.holds other old.1 in cc
+              (not_kept, subst (λ x. is_kept x kept ≡ true) (sym (same_token_is token other z)) e)))
+              ∙ known.holds other old.1)
         ];
       }
 
@@ -165,7 +186,8 @@ opened_kept s r None = refl
 opened_kept s r (Some id) = refl
 
 keeps_next : (s : Own) (t : List Call) (c : Call) → IsRight s c → Keeps t s.kept → Keeps (c ∷ t) (after s c).kept
-keeps_next s t (Ask now r word below answer) right k = subst (Keeps _) (sym (opened_kept s r (sent_as (opening_of s r) below))) (keeps_still t s.kept k _ refl refl)
+keeps_next s t (Ask now r word below answer) right k =
+    subst (Keeps _) (sym (opened_kept s r (sent_as (opening_of s r) below))) (keeps_still t s.kept k _ refl refl)
 keeps_next s t (Receive now from bytes up settled answer) right k = keeps_still t s.kept k _ refl refl
 keeps_next s t (Ticks now below answer) right k = keeps_still t s.kept k _ refl refl
 keeps_next s t (Keep token answer) right k = keep_on t s.kept k token answer answer refl right
@@ -173,15 +195,18 @@ keeps_next s t (Release token answer) right k = release_on t s.kept k token answ
 keeps_next s t (Take answer) right k = keeps_still t s.kept k _ refl refl
 
 -- a notification has a kept token
-module _ (s : Own) (t : List Call) (k : Keeps t s.kept) (now : ℕ) (from : Endpoint) (bytes : List ℕ) (up : L.Answer) (settled : Bool) (answer : Option Event) (m : Message) where
+module _ (s : Own) (t : List Call) (k : Keeps t s.kept) (now : ℕ) (from : Endpoint) (bytes : List ℕ) (up : L.Answer)
+    (settled : Bool) (answer : Option Event) (m : Message) where
   abbrev told_of : Option Event → Option Message
   told_of a = noticed (Receive now from bytes up settled a)
 
   not_noticed : (a : Option Event) → answer ≡ a → told_of a ≡ None → told_of answer ≡ Some m → Kept m.token t
   not_noticed a is none h = let e : told_of answer ≡ None = ap told_of is ∙ none in absurd (cc (e, h))
 
-  as_noticed : (n : Message) → answer ≡ Some (event.Notice n) → is_kept n.token s.kept ≡ true → told_of answer ≡ Some m → Kept m.token t
-  as_noticed n is kept h = let e : Some n ≡ Some m = sym (ap told_of is) ∙ h in let same : n ≡ m = cc e in subst (λ (x : Message). Kept x.token t) same (k.held n.token kept)
+  as_noticed : (n : Message) → answer ≡ Some (event.Notice n) → is_kept n.token s.kept ≡ true → told_of answer ≡ Some m
+      → Kept m.token t
+  as_noticed n is kept h = let e : Some n ≡ Some m = sym (ap told_of is)
+      ∙ h in let same : n ≡ m = cc e in subst (λ (x : Message). Kept x.token t) same (k.held n.token kept)
 
   notice_by : (v : Verdict) → Fits s from up v → answer ≡ told v up → told_of answer ≡ Some m → Kept m.token t
   notice_by Ignore f right h = not_noticed None right refl h
@@ -194,9 +219,11 @@ module _ (s : Own) (t : List Call) (k : Keeps t s.kept) (now : ℕ) (from : Endp
   notice_by NoticeCon f right h = as_noticed f.message (right ∙ ap (told NoticeCon) f.is) f.kept h
   notice_by Notice f right h = as_noticed f.message (right ∙ ap (told Notice) f.is) f.kept h
 
-notice_of : (s : Own) (t : List Call) (c : Call) → IsRight s c → Keeps t s.kept → (m : Message) → noticed c ≡ Some m → Kept m.token t
+notice_of : (s : Own) (t : List Call) (c : Call) → IsRight s c → Keeps t s.kept → (m : Message) → noticed c ≡ Some m
+    → Kept m.token t
 notice_of s t (Ask now r word below answer) right k m h = absurd (cc h)
-notice_of s t (Receive now from bytes up settled answer) right k m h = notice_by s t k now from bytes up settled answer m (verdict_on s from up) (verdict_fits s from up) right h
+notice_of s t (Receive now from bytes up settled answer) right k m h =
+    notice_by s t k now from bytes up settled answer m (verdict_on s from up) (verdict_fits s from up) right h
 notice_of s t (Ticks now below answer) right k m h = absurd (cc h)
 notice_of s t (Keep token answer) right k m h = absurd (cc h)
 notice_of s t (Release token answer) right k m h = absurd (cc h)
@@ -207,7 +234,8 @@ pub record Known (t : List Call) (s : Own) : Type 0 where
   pub runs : Runs t s.running
   pub keeps_them : Keeps t s.kept
 
-pub known : (server : Endpoint) (word : ℕ) (t : List Call) → AskerLaw server word t → AreExchanges t × Known t (own_of server word t)
+pub known : (server : Endpoint) (word : ℕ) (t : List Call) → AskerLaw server word t
+    → AreExchanges t × Known t (own_of server word t)
 known server word [] law = (
   tt,
   record {
@@ -220,7 +248,12 @@ known server word (c ∷ t) law =
     let s : Own = own_of server word t in
     let here = runs_on t c s.running (after s c).running earlier.1.runs (moves s c law.0) in (
       (
-        record { alone = here.0.alone; of_open = here.0.of_open; answer = here.0.answer; notice = notice_of s t c law.0 earlier.1.keeps_them },
+        record {
+          alone = here.0.alone;
+          of_open = here.0.of_open;
+          answer = here.0.answer;
+          notice = notice_of s t c law.0 earlier.1.keeps_them;
+        },
         earlier.0,
       ),
       record { runs = here.1; keeps_them = keeps_next s t c law.0 earlier.1.keeps_them },

@@ -27,7 +27,8 @@ use Rattle.coap_exchange.proofs.Ending.LoneRequest.{Lone}
 use Rattle.coap_exchange.proofs.Facts.Moves.{token_in, not_running}
 
 -- the layer beneath is not busy where nothing is outstanding
-not_busied : (cs : List OpenCon) (server : Endpoint) (free : Bool) (id : ℕ) → cs ≡ [] → is_busied (cond (is_busy server cs) T.Busied (sending free id)) ≡ false
+not_busied : (cs : List OpenCon) (server : Endpoint) (free : Bool) (id : ℕ) → cs ≡ []
+    → is_busied (cond (is_busy server cs) T.Busied (sending free id)) ≡ false
 not_busied cs server true id none = ap (λ ds. is_busied (cond (is_busy server ds) T.Busied (sending true id))) none
 not_busied cs server false id none = ap (λ ds. is_busied (cond (is_busy server ds) T.Busied (sending false id))) none
 
@@ -41,7 +42,8 @@ spent_is_other : (yes : Bool) → cond yes refusal.TokensSpent refusal.NoIds ≡
 spent_is_other true h = cc h
 spent_is_other false h = cc h
 
-unsent_is_other : (below : T.Answer) (token : List ℕ) (o : Option ℕ) → is_busied below ≡ false → sent_answer o (send_refusal below) token ≡ Err refusal.Running → ⊥
+unsent_is_other : (below : T.Answer) (token : List ℕ) (o : Option ℕ) → is_busied below ≡ false
+    → sent_answer o (send_refusal below) token ≡ Err refusal.Running → ⊥
 unsent_is_other below token (Some id) quiet h = cc h
 unsent_is_other below token None quiet h =
     let why : send_refusal below ≡ refusal.Running = cc h in
@@ -49,7 +51,8 @@ unsent_is_other below token None quiet h =
     cc (why, no_ids)
 
 module _ (s : Own) (r : Request) (below : T.Answer) where
-  running_by : (o : Opening) → opening_of s r ≡ o → (o ≡ Sends → is_busied below ≡ false) → ask_answer o below (request_token s r) ≡ Err refusal.Running → is_some s.running ≡ true
+  running_by : (o : Opening) → opening_of s r ≡ o → (o ≡ Sends → is_busied below ≡ false)
+      → ask_answer o below (request_token s r) ≡ Err refusal.Running → is_some s.running ≡ true
   running_by Running is quiet h = opens_running (is_some s.running) (is_spent s.given) (is_some r.token) is
   running_by Spent is quiet h = absurd (spent_is_other (is_yes below) (cc h))
   running_by Sends is quiet h = absurd (unsent_is_other below (request_token s r) (sent_by below) (quiet refl) h)
@@ -66,7 +69,9 @@ token_running None token h = absurd (cc h)
 token_running (Some x) token h = refl
 
 module _ (server : Endpoint) (word : ℕ) where
-  module _ (t : List Call) (now w : ℕ) (r : Request) (below : T.Answer) (answer : Result (List ℕ) AskRefusal) (law : AskerLaw server word (Ask now r w below answer ∷ t)) (h : L.State) (steps : Steps (L.start word) (lower_of server word (Ask now r w below answer ∷ t)) h) where
+  module _ (t : List Call) (now w : ℕ) (r : Request) (below : T.Answer) (answer : Result (List ℕ) AskRefusal)
+      (law : AskerLaw server word (Ask now r w below answer ∷ t)) (h : L.State)
+      (steps : Steps (L.start word) (lower_of server word (Ask now r w below answer ∷ t)) h) where
     abbrev s : Own
     s = own_of server word t
 
@@ -74,9 +79,13 @@ module _ (server : Endpoint) (word : ℕ) where
     quiet_if_sends opens =
         let mid : L.State = steps.0 in
         let old = fits server word t law.1 mid steps.1 in
-        let none : mid.open_cons ≡ [] = subst (λ running. Lone s.server running (last_begun server word t) mid.open_cons) (not_running s r opens) old.lone in
-        let step : L.Step mid now (T.Confirm s.server (content_of (request_token s r) r) w) below h = subst (λ o. L.Step mid now (beneath o s.server (content_of (request_token s r) r) w) below h) opens steps.2 in
-        ap is_busied step.right ∙ not_busied mid.open_cons s.server (is_free (max mid.clock now) mid.upcoming mid.last_used) mid.upcoming none
+        let none : mid.open_cons ≡ [] = subst (λ running. Lone s.server running
+        (last_begun server word t) mid.open_cons) (not_running s r opens) old.lone in
+        let step : L.Step mid now (T.Confirm s.server (content_of (request_token s r) r) w) below h =
+        subst (λ o. L.Step mid now (beneath o s.server (content_of (request_token s r) r) w) below h) opens steps.2
+        in
+        ap is_busied step.right ∙ not_busied mid.open_cons s.server
+        (is_free (max mid.clock now) mid.upcoming mid.last_used) mid.upcoming none
 
     runs_if_told : answer ≡ Err refusal.Running → (token : List ℕ) × Open token t
     runs_if_told is =
@@ -85,17 +94,21 @@ module _ (server : Endpoint) (word : ℕ) where
         (token.0, (known server word t law.1).1.runs.opens token.0 token.1)
 
     told_if_runs : (token : List ℕ) → Open token t → answer ≡ Err refusal.Running
-    told_if_runs token open_now = law.0 ∙ refused_where s r below (token_running s.running token ((known server word t law.1).1.runs.runs_it token open_now))
+    told_if_runs token open_now = law.0 ∙ refused_where s r below
+        (token_running s.running token ((known server word t law.1).1.runs.runs_it token open_now))
 
-  pub refused : (t : List Call) → AskerLaw server word t → (h : L.State) → Steps (L.start word) (lower_of server word t) h → AreRefused t
+  pub refused : (t : List Call) → AskerLaw server word t → (h : L.State)
+      → Steps (L.start word) (lower_of server word t) h → AreRefused t
   refused [] law h steps = tt
   refused (c ∷ t) law h steps =
       let parts = steps_split (L.start word) h (lower (own_of server word t) c) (lower_of server word t) steps in (
         record {
           runs = λ now w r below is.
-              runs_if_told t now w r below (Err refusal.Running) (subst (λ d. AskerLaw server word (d ∷ t)) is law) h (subst (λ d. Steps (L.start word) (lower_of server word (d ∷ t)) h) is steps) refl;
+              runs_if_told t now w r below (Err refusal.Running) (subst (λ d. AskerLaw server word (d ∷ t)) is law) h
+              (subst (λ d. Steps (L.start word) (lower_of server word (d ∷ t)) h) is steps) refl;
           told = λ now w r below answer token is open_now.
-              told_if_runs t now w r below answer (subst (λ d. AskerLaw server word (d ∷ t)) is law) h (subst (λ d. Steps (L.start word) (lower_of server word (d ∷ t)) h) is steps) token open_now;
+              told_if_runs t now w r below answer (subst (λ d. AskerLaw server word (d ∷ t)) is law) h
+              (subst (λ d. Steps (L.start word) (lower_of server word (d ∷ t)) h) is steps) token open_now;
         },
         refused t law.1 parts.0 parts.1,
       )

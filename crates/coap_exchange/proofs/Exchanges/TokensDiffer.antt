@@ -9,7 +9,8 @@ number_below x = omega arith
 
 numbers_same : (x y : ℕ) → big_bytes 8 (x % 2 ^ 64) ≡ big_bytes 8 (y % 2 ^ 64) → x % 2 ^ 64 ≡ y % 2 ^ 64
 numbers_same x y e =
-    sym (big_number-reads_back 8 (x % 2 ^ 64) [] (number_below x)) ∙ (ap (λ z. big_from 0 8 (z ++ [])) e ∙ big_number-reads_back 8 (y % 2 ^ 64) [] (number_below y))
+    sym (big_number-reads_back 8 (x % 2 ^ 64) [] (number_below x))
+    ∙ (ap (λ z. big_from 0 8 (z ++ [])) e ∙ big_number-reads_back 8 (y % 2 ^ 64) [] (number_below y))
 
 -- two counts of fewer than 2^64 tokens give two tokens
 pub tokens_apart : (word k g : ℕ) → k < g → g < 2 ^ 64 → token_of word k ≡ token_of word g → ⊥

@@ -71,11 +71,13 @@ rests_known Rst true true i p false false = tt
 rests : (kind : Kind) (k : Known) → Rests k (judged kind k)
 rests kind k = rests_known kind k.from_server k.of_exchange k.same_id k.kept k.bad_option k.cancelled
 
-with_token : (running : Option Exchange) (token : List ℕ) → has_token running token ≡ true → (x : Exchange) × (running ≡ Some x) × (token ≡ x.token)
+with_token : (running : Option Exchange) (token : List ℕ) → has_token running token ≡ true
+    → (x : Exchange) × (running ≡ Some x) × (token ≡ x.token)
 with_token None token h = absurd (cc h)
 with_token (Some x) token h = (x, refl, same_token_is token x.token h)
 
-with_id : (running : Option Exchange) (id : ℕ) → has_id running id ≡ true → (x : Exchange) × (running ≡ Some x) × (id ≡ x.id.0)
+with_id : (running : Option Exchange) (id : ℕ) → has_id running id ≡ true
+    → (x : Exchange) × (running ≡ Some x) × (id ≡ x.id.0)
 with_id None id h = absurd (cc h)
 with_id (Some x) id h = (x, refl, (unsigned_Decides id x.id.0).0 h)
 
@@ -90,10 +92,13 @@ of_request s from id h =
     let w = with_id s.running id b.1 in
     record { there = b.0; exchange = w.0; runs = w.1; id_is = w.2 }
 
-answers_by : (s : Own) (from : Endpoint) (m : Message) → (known_of s from m).from_server ≡ true → (known_of s from m).of_exchange ≡ true → Answers s from (L.Becomes (L.Response m))
-answers_by s from m f o = let w = with_token s.running m.token o in record { message = m; is = refl; there = f; exchange = w.0; runs = w.1; token = w.2 }
+answers_by : (s : Own) (from : Endpoint) (m : Message) → (known_of s from m).from_server ≡ true
+    → (known_of s from m).of_exchange ≡ true → Answers s from (L.Becomes (L.Response m))
+answers_by s from m f o = let w = with_token s.running m.token o in record
+    { message = m; is = refl; there = f; exchange = w.0; runs = w.1; token = w.2 }
 
-response_fits : (s : Own) (from : Endpoint) (m : Message) (v : Verdict) → Rests (known_of s from m) v → Fits s from (L.Becomes (L.Response m)) v
+response_fits : (s : Own) (from : Endpoint) (m : Message) (v : Verdict) → Rests (known_of s from m) v
+    → Fits s from (L.Becomes (L.Response m)) v
 response_fits s from m AnswerCon r = answers_by s from m r.0 r.1
 response_fits s from m Answer r = answers_by s from m r.0 r.1
 response_fits s from m NoticeCon r = record { message = m; is = refl; there = r.0; kept = r.1 }
@@ -110,11 +115,13 @@ request_fits s from up Non = tt
 request_fits s from up Ack = tt
 request_fits s from up Rst = tt
 
-acked_fits : (s : Own) (from : Endpoint) (id : ℕ) (b : Bool) → is_of_request s from id ≡ b → Fits s from (L.Becomes (L.Acked id)) (cond b Await Ignore)
+acked_fits : (s : Own) (from : Endpoint) (id : ℕ) (b : Bool) → is_of_request s from id ≡ b
+    → Fits s from (L.Becomes (L.Acked id)) (cond b Await Ignore)
 acked_fits s from id true h = (id, refl, of_request s from id h)
 acked_fits s from id false h = tt
 
-reset_fits : (s : Own) (from : Endpoint) (id : ℕ) (b : Bool) → is_of_request s from id ≡ b → Fits s from (L.Becomes (L.Reset id)) (cond b EndByReset Ignore)
+reset_fits : (s : Own) (from : Endpoint) (id : ℕ) (b : Bool) → is_of_request s from id ≡ b
+    → Fits s from (L.Becomes (L.Reset id)) (cond b EndByReset Ignore)
 reset_fits s from id true h = (id, refl, of_request s from id h)
 reset_fits s from id false h = tt
 
@@ -136,15 +143,18 @@ verdict_fits s from (L.Copied to id) = tt
 verdict_fits s from (L.Expired to id) = tt
 verdict_fits s from (L.Gives packet) = tt
 
-expired_fits : (s : Own) (at : ℕ) (to : Endpoint) (id : ℕ) (b : Bool) → is_of_request s to id ≡ b → TurnFits s at (L.Expired to id) (cond b (turn.End event.Timeout) turn.Idle)
+expired_fits : (s : Own) (at : ℕ) (to : Endpoint) (id : ℕ) (b : Bool) → is_of_request s to id ≡ b
+    → TurnFits s at (L.Expired to id) (cond b (turn.End event.Timeout) turn.Idle)
 expired_fits s at to id true h = (to, id, refl, of_request s to id h)
 expired_fits s at to id false h = tt
 
-runs_if_waited : (running : Option Exchange) (at : ℕ) → has_waited at (acked_in running) ≡ true → (x : Exchange) × (running ≡ Some x) × (has_waited at x.acked ≡ true)
+runs_if_waited : (running : Option Exchange) (at : ℕ) → has_waited at (acked_in running) ≡ true
+    → (x : Exchange) × (running ≡ Some x) × (has_waited at x.acked ≡ true)
 runs_if_waited None at h = absurd (cc h)
 runs_if_waited (Some x) at h = (x, refl, h)
 
-waited_fits : (s : Own) (at : ℕ) (b : Bool) → has_waited at (acked_in s.running) ≡ b → TurnFits s at L.Idle (cond b (turn.End event.NoResponse) turn.Idle)
+waited_fits : (s : Own) (at : ℕ) (b : Bool) → has_waited at (acked_in s.running) ≡ b
+    → TurnFits s at L.Idle (cond b (turn.End event.NoResponse) turn.Idle)
 waited_fits s at true h = runs_if_waited s.running at h
 waited_fits s at false h = tt
 

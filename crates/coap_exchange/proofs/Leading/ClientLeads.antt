@@ -14,28 +14,39 @@ use Rattle.coap_exchange.specs.AskerSteps.{lower, IsRight, after}
 use Rattle.coap_exchange.specs.AskerLaw.{lower_of, below_of, fresh_state, ExchangeLaw, State, Step, Exchanged, Led}
 use Rattle.coap_layer.proofs.Facts.StepsOfLayer.{steps_join}
 
-pub led_call : (server : Endpoint) (word : ℕ) (t : List Call) (c : Call) (old new : State) → Led server word t old → Step old c new → Led server word (c ∷ t) new
-led_call server word t c old new led step = above_call IsRight after lower Steps (start server word) (L.start word) steps_join t c old new led step
+pub led_call : (server : Endpoint) (word : ℕ) (t : List Call) (c : Call) (old new : State) → Led server word t old
+    → Step old c new → Led server word (c ∷ t) new
+led_call server word t c old new led step = above_call IsRight after lower Steps (start server word)
+    (L.start word) steps_join t c old new led step
 
-pub led_exchanged : (server : Endpoint) (word : ℕ) (t calls : List Call) (old new : State) → Led server word t old → Exchanged old calls new → Led server word (calls ++ t) new
-led_exchanged server word t calls old new led h = above_chain IsRight after lower Steps (start server word) (L.start word) steps_join t calls old new led h
+pub led_exchanged : (server : Endpoint) (word : ℕ) (t calls : List Call) (old new : State) → Led server word t old
+    → Exchanged old calls new → Led server word (calls ++ t) new
+led_exchanged server word t calls old new led h =
+    above_chain IsRight after lower Steps (start server word) (L.start word) steps_join t calls old new led h
 
-pub exchanged_join : (old mid new : State) (later earlier : List Call) → Exchanged old earlier mid → Exchanged mid later new → Exchanged old (later ++ earlier) new
+pub exchanged_join : (old mid new : State) (later earlier : List Call) → Exchanged old earlier mid
+    → Exchanged mid later new → Exchanged old (later ++ earlier) new
 exchanged_join = chain_join IsRight after lower Steps
 
-pub exchanged_split : (old new : State) (later earlier : List Call) → Exchanged old (later ++ earlier) new → (mid : State) × Exchanged old earlier mid × Exchanged mid later new
+pub exchanged_split : (old new : State) (later earlier : List Call) → Exchanged old (later ++ earlier) new
+    → (mid : State) × Exchanged old earlier mid × Exchanged mid later new
 exchanged_split = chain_split IsRight after lower Steps
 
 -- what is kept behind these calls
-pub exchanged_own : (old new : State) (calls : List Call) → Exchanged old calls new → new.own ≡ sum_of old.own after calls
+pub exchanged_own : (old new : State) (calls : List Call) → Exchanged old calls new
+    → new.own ≡ sum_of old.own after calls
 exchanged_own = chain_own IsRight after lower Steps
 
-pub led_law : (server : Endpoint) (word : ℕ) (t : List Call) (s : State) → Led server word t s → ExchangeLaw server word t
+pub led_law : (server : Endpoint) (word : ℕ) (t : List Call) (s : State) → Led server word t s
+    → ExchangeLaw server word t
 led_law server word t s led = record { rows = led.rows; left = s.layer; layer = led.layer }
 
 pub led_start : (server : Endpoint) (word : ℕ) → Led server word [] (fresh_state server word)
 led_start server word = record { rows = tt; own_is = refl; layer = refl }
 
-pub layer_stands : (server : Endpoint) (word : ℕ) (t : List Call) → ExchangeLaw server word t → LayerLaw word (below_of server word t)
+pub layer_stands : (server : Endpoint) (word : ℕ) (t : List Call) → ExchangeLaw server word t
+    → LayerLaw word (below_of server word t)
 layer_stands server word t law =
-    subst (LayerLaw word) (append-nil (below_of server word t)) (led_steps word [] (L.start word) law.left (lower_of server word t) (record { law = tt; kept = refl }) law.layer).law
+    subst (LayerLaw word) (append-nil (below_of server word t))
+    (led_steps word [] (L.start word) law.left (lower_of server word t)
+    (record { law = tt; kept = refl }) law.layer).law

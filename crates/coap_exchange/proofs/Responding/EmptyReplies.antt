@@ -23,19 +23,32 @@ abbrev packets : Endpoint → Option (List ℕ) → List T.Packet
 packets from None = []
 packets from (Some bytes) = record { to = from; bytes = bytes } ∷ []
 
-replies_by : (from : Endpoint) (bytes : List ℕ) (now id : ℕ) (up : T.Answer) (o : Option (List ℕ)) → replies_in (replying from id o ++ asked now (T.Receive from bytes) up ∷ []) ≡ packets from o
+replies_by : (from : Endpoint) (bytes : List ℕ) (now id : ℕ) (up : T.Answer) (o : Option (List ℕ))
+    → replies_in (replying from id o ++ asked now (T.Receive from bytes) up ∷ []) ≡ packets from o
 replies_by from bytes now id up None = refl
 replies_by from bytes now id up (Some b) = refl
 
-rejected : (from : Endpoint) (m : Message) → ((m.kind ≡ Con) ⊎ (m.kind ≡ Non) → packets from (reject_by (T.Becomes (T.Response m))) ≡ record { to = from; bytes = reset_bytes m.id } ∷ []) × (m.kind ≡ Ack → packets from (reject_by (T.Becomes (T.Response m))) ≡ [])
+rejected : (from : Endpoint) (m : Message) → ((m.kind ≡ Con) ⊎ (m.kind ≡ Non)
+    → packets from (reject_by (T.Becomes (T.Response m))) ≡ record { to = from; bytes = reset_bytes m.id } ∷ [])
+    × (m.kind ≡ Ack → packets from (reject_by (T.Becomes (T.Response m))) ≡ [])
 rejected from m = (
-  λ kind. elim kind [ inl e ↦ ap (λ k. packets from (cond (is_kept k) (Some (reset_bytes m.id)) None)) e | inr e ↦ ap (λ k. packets from (cond (is_kept k) (Some (reset_bytes m.id)) None)) e ],
+  λ kind. elim kind [
+    | inl e ↦ ap (λ k. packets from (cond (is_kept k) (Some (reset_bytes m.id)) None)) e
+    | inr e ↦ ap
+        (λ k. packets from (cond (is_kept k) (Some (reset_bytes m.id)) None)) e
+  ],
   λ e. ap (λ k. packets from (cond (is_kept k) (Some (reset_bytes m.id)) None)) e,
 )
 
-rejects : (from : Endpoint) (bytes : List ℕ) (now : ℕ) (up : T.Answer) → RejectsIn from up (replies_in (replying from (id_in up) (reject_by up) ++ asked now (T.Receive from bytes) up ∷ []))
+rejects : (from : Endpoint) (bytes : List ℕ) (now : ℕ) (up : T.Answer)
+    → RejectsIn from up (replies_in (replying from (id_in up) (reject_by up)
+    ++ asked now (T.Receive from bytes) up ∷ []))
 rejects from bytes now (T.Becomes (T.Response m)) =
-    let is = replies_by from bytes now m.id (T.Becomes (T.Response m)) (reject_by (T.Becomes (T.Response m))) in (λ kind. is ∙ (rejected from m).0 kind, λ e. is ∙ (rejected from m).1 e)
+    let is = replies_by from bytes now m.id (T.Becomes (T.Response m))
+    (reject_by (T.Becomes (T.Response m))) in (
+      λ kind. is ∙ (rejected from m).0 kind,
+      λ e. is ∙ (rejected from m).1 e,
+    )
 rejects from bytes now (T.Becomes (T.Request m kept)) = refl
 rejects from bytes now (T.Becomes (T.Acked id)) = refl
 rejects from bytes now (T.Becomes (T.Reset id)) = refl
@@ -52,24 +65,28 @@ rejects from bytes now (T.Copied to id) = refl
 rejects from bytes now (T.Expired to id) = refl
 rejects from bytes now (T.Gives packet) = refl
 
-none_asked : (now : ℕ) (below : T.Answer) (d : Option Deferred) (room : Bool) → replies_in (asking_room now d room ++ asked now T.Ticks below ∷ []) ≡ []
+none_asked : (now : ℕ) (below : T.Answer) (d : Option Deferred) (room : Bool)
+    → replies_in (asking_room now d room ++ asked now T.Ticks below ∷ []) ≡ []
 none_asked now below None room = refl
 none_asked now below (Some d) room = refl
 
-defers : (now : ℕ) (a : Asked) (b answer : Bool) → answer ≡ b → replies_in (deferring b a ++ asked now T.Pass T.Nothing ∷ []) ≡ cond answer (acknowledging a.from a.id.0) []
+defers : (now : ℕ) (a : Asked) (b answer : Bool) → answer ≡ b
+    → replies_in (deferring b a ++ asked now T.Pass T.Nothing ∷ []) ≡ cond answer (acknowledging a.from a.id.0) []
 defers now a true true e = refl
 defers now a false false e = refl
 defers now a true false e = absurd (cc e)
 defers now a false true e = absurd (cc e)
 
 -- a NON isn't replied to
-no_reply : (s : Own) (kind : Kind) (a : Asked) (r : Response) (below : T.Answer) → (kind ≡ Con → ⊥) → replies_in (asked s.clock (answering s kind a r) below ∷ []) ≡ []
+no_reply : (s : Own) (kind : Kind) (a : Asked) (r : Response) (below : T.Answer) → (kind ≡ Con → ⊥)
+    → replies_in (asked s.clock (answering s kind a r) below ∷ []) ≡ []
 no_reply s Con a r below other = absurd (other refl)
 no_reply s Non a r below other = refl
 no_reply s Ack a r below other = refl
 no_reply s Rst a r below other = refl
 
-answers : (s : Own) (a : Asked) (r : Response) (below : T.Answer) → AnswersIn a r (replies_in (asked s.clock (answering s a.kind a r) below ∷ []))
+answers : (s : Own) (a : Asked) (r : Response) (below : T.Answer)
+    → AnswersIn a r (replies_in (asked s.clock (answering s a.kind a r) below ∷ []))
 answers s a r below = (
   λ con. ap (λ k. replies_in (asked s.clock (answering s k a r) below ∷ [])) con,
   λ other. no_reply s a.kind a r below other,

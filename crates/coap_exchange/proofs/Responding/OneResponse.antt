@@ -21,7 +21,9 @@ use Rattle.coap_exchange.specs.AnswererFollows.{Responses, AreResponses}
 use Rattle.coap_exchange.proofs.Facts.SameToken.{same_token_self}
 
 pub same_asked_self : (a : Asked) → same_asked a a ≡ true
-same_asked_self a = all _ _ _ _ (same_endpoint_self a.from) ((unsigned_Decides (kind_number a.kind) (kind_number a.kind)).1 refl) ((unsigned_Decides a.id.0 a.id.0).1 refl) (same_token_self a.token)
+same_asked_self a = all _ _ _ _ (same_endpoint_self a.from)
+    ((unsigned_Decides (kind_number a.kind) (kind_number a.kind)).1 refl) ((unsigned_Decides a.id.0 a.id.0).1 refl)
+    (same_token_self a.token)
   where
     all : (p q r s : Bool) → p ≡ true → q ≡ true → r ≡ true → s ≡ true → (p && (q && (r && s))) ≡ true
     all p q r s hp hq hr hs = cc (hp, hq, hr, hs)
@@ -34,19 +36,24 @@ abbrev pub deferred_hits : Asked → List Deferred → ℕ
 deferred_hits a [] = 0
 deferred_hits a (d ∷ ds) = hits (same_asked a) (Some d.asked) + deferred_hits a ds
 
-hits_append : (a : Asked) (ds : List Deferred) (d : Deferred) → deferred_hits a (ds ++ d ∷ []) ≡ deferred_hits a ds + hits (same_asked a) (Some d.asked)
+hits_append : (a : Asked) (ds : List Deferred) (d : Deferred)
+    → deferred_hits a (ds ++ d ∷ []) ≡ deferred_hits a ds + hits (same_asked a) (Some d.asked)
 hits_append a [] d = omega arith
 hits_append a (e ∷ ds) d = let h = hits_append a ds d in omega (arith, h)
 
 module _ (a b : Asked) (at : ℕ) (xs : List Separate) where
-  taken_by : (d : Deferred) (ds : List Deferred) → (option_map (λ (e : Deferred). e.asked) (first_ready at xs ds) ≡ Some b → deferred_hits a ds ≡ hits (same_asked a) (Some b) + deferred_hits a (without_ready at xs ds))
+  taken_by : (d : Deferred) (ds : List Deferred)
+      → (option_map (λ (e : Deferred). e.asked) (first_ready at xs ds) ≡ Some b
+      → deferred_hits a ds ≡ hits (same_asked a) (Some b) + deferred_hits a (without_ready at xs ds))
       → (w : Bool) → option_map (λ (e : Deferred). e.asked) (cond w (Some d) (first_ready at xs ds)) ≡ Some b
-      → deferred_hits a (d ∷ ds) ≡ hits (same_asked a) (Some b) + deferred_hits a (cond w ds (d ∷ without_ready at xs ds))
+      → deferred_hits a (d ∷ ds) ≡ hits (same_asked a) (Some b) + deferred_hits a
+      (cond w ds (d ∷ without_ready at xs ds))
   taken_by d ds ih true h = ap (λ o. hits (same_asked a) o + deferred_hits a ds) h
   taken_by d ds ih false h = let k = ih h in omega (arith, k)
 
   -- the one that is ready is taken out
-  pub taken_out : (ds : List Deferred) → option_map (λ (e : Deferred). e.asked) (first_ready at xs ds) ≡ Some b → deferred_hits a ds ≡ hits (same_asked a) (Some b) + deferred_hits a (without_ready at xs ds)
+  pub taken_out : (ds : List Deferred) → option_map (λ (e : Deferred). e.asked) (first_ready at xs ds) ≡ Some b
+      → deferred_hits a ds ≡ hits (same_asked a) (Some b) + deferred_hits a (without_ready at xs ds)
   taken_out [] h = absurd (cc h)
   taken_out (d ∷ ds) h = taken_by d ds (taken_out ds) (is_ready at xs d) h
 
@@ -62,12 +69,14 @@ all_later : (c : Call) (t : List Call) (ds : List Deferred) → AllHanded t ds �
 all_later c t [] h = tt
 all_later c t (d ∷ ds) h = (inr h.0, all_later c t ds h.1)
 
-all_with : (t : List Call) (ds : List Deferred) (d : Deferred) → AllHanded t ds → Handed t d.asked → AllHanded t (ds ++ d ∷ [])
+all_with : (t : List Call) (ds : List Deferred) (d : Deferred) → AllHanded t ds → Handed t d.asked
+    → AllHanded t (ds ++ d ∷ [])
 all_with t [] d h k = (k, tt)
 all_with t (e ∷ ds) d h k = (h.0, all_with t ds d h.1 k)
 
 module _ (t : List Call) (at : ℕ) (xs : List Separate) where
-  all_by : (d : Deferred) (ds : List Deferred) (w : Bool) → AllHanded t (d ∷ ds) → AllHanded t (without_ready at xs ds) → AllHanded t (cond w ds (d ∷ without_ready at xs ds))
+  all_by : (d : Deferred) (ds : List Deferred) (w : Bool) → AllHanded t (d ∷ ds) → AllHanded t (without_ready at xs ds)
+      → AllHanded t (cond w ds (d ∷ without_ready at xs ds))
   all_by d ds true h k = h.1
   all_by d ds false h k = (h.0, k)
 
@@ -75,12 +84,14 @@ module _ (t : List Call) (at : ℕ) (xs : List Separate) where
   all_without [] h = tt
   all_without (d ∷ ds) h = all_by d ds (is_ready at xs d) h (all_without ds h.1)
 
-  ready_by : (a : Asked) (d : Deferred) (ds : List Deferred) (w : Bool) → AllHanded t (d ∷ ds) → (option_map (λ (e : Deferred). e.asked) (first_ready at xs ds) ≡ Some a → Handed t a)
+  ready_by : (a : Asked) (d : Deferred) (ds : List Deferred) (w : Bool) → AllHanded t (d ∷ ds)
+      → (option_map (λ (e : Deferred). e.asked) (first_ready at xs ds) ≡ Some a → Handed t a)
       → option_map (λ (e : Deferred). e.asked) (cond w (Some d) (first_ready at xs ds)) ≡ Some a → Handed t a
   ready_by a d ds true h ih e = let same : d.asked ≡ a = cc e in subst (λ x. Ever (λ b. hands b ≡ Some x) t) same h.0
   ready_by a d ds false h ih e = ih e
 
-  ready_handed : (a : Asked) (ds : List Deferred) → AllHanded t ds → option_map (λ (e : Deferred). e.asked) (first_ready at xs ds) ≡ Some a → Handed t a
+  ready_handed : (a : Asked) (ds : List Deferred) → AllHanded t ds
+      → option_map (λ (e : Deferred). e.asked) (first_ready at xs ds) ≡ Some a → Handed t a
   ready_handed a [] h e = absurd (cc e)
   ready_handed a (d ∷ ds) h e = ready_by a d ds (is_ready at xs d) h (ready_handed a ds h.1) e
 
@@ -89,7 +100,8 @@ length_with : (ds : List Deferred) (d : Deferred) → length (ds ++ d ∷ []) �
 length_with [] d = refl
 length_with (e ∷ ds) d = let h = length_with ds d in omega (arith, h)
 
-length_by : (w : Bool) (d : Deferred) (ds es : List Deferred) → length es ≤ length ds → length (cond w ds (d ∷ es)) ≤ length (d ∷ ds)
+length_by : (w : Bool) (d : Deferred) (ds es : List Deferred) → length es ≤ length ds
+    → length (cond w ds (d ∷ es)) ≤ length (d ∷ ds)
 length_by true d ds es h = omega arith
 length_by false d ds es h = omega (arith, h)
 
@@ -99,19 +111,23 @@ length_without at xs (d ∷ ds) = length_by (is_ready at xs d) d ds (without_rea
 
 -- what the words find
 pub record Counted (t : List Call) (s : Own) : Type 0 where
-  pub count : (a : Asked) → times_answered a t + (hits (same_asked a) s.pending + deferred_hits a s.deferred) ≤ times_handed a t
+  pub count : (a : Asked) → times_answered a t +
+      (hits (same_asked a) s.pending + deferred_hits a s.deferred) ≤ times_handed a t
   pub pending : (a : Asked) → s.pending ≡ Some a → Ever (λ b. hands b ≡ Some a) t
   pub deferred : AllHanded t s.deferred
   pub few : length s.deferred ≤ max_deferred
 
 module _ (t : List Call) (s : Own) (known : Counted t s) where
-  first_of : (a b : Asked) (rest : ℕ) → a ≡ b → times_answered b t + (hits (same_asked b) (Some b) + rest) ≤ times_handed b t → times_answered a t < times_handed a t
-  first_of a b rest e h = let k = self_hits b in subst (λ x. times_answered x t < times_handed x t) (sym e) (omega (arith, h, k))
+  first_of : (a b : Asked) (rest : ℕ) → a ≡ b → times_answered b t +
+      (hits (same_asked b) (Some b) + rest) ≤ times_handed b t → times_answered a t < times_handed a t
+  first_of a b rest e h = let k = self_hits b in subst (λ x. times_answered x t < times_handed x t) (sym e)
+      (omega (arith, h, k))
 
   quiet : (c : Call) → responds c ≡ None → Responses t c
   quiet c none = record { handed = λ a h. absurd (cc (h, none)); first = λ a h. absurd (cc (h, none)) }
 
-  incoming_on : (now : ℕ) (from : Endpoint) (bytes : List ℕ) (up : _) (answer : _) → Counted (Incoming now from bytes up answer ∷ t) (after s (Incoming now from bytes up answer))
+  incoming_on : (now : ℕ) (from : Endpoint) (bytes : List ℕ) (up : _) (answer : _)
+      → Counted (Incoming now from bytes up answer ∷ t) (after s (Incoming now from bytes up answer))
   incoming_on now from bytes up answer = record {
     count = λ a. let k = known.count a in omega (arith, k);
     pending = λ a h. inl h;
@@ -119,10 +135,13 @@ module _ (t : List Call) (s : Own) (known : Counted t s) where
     few = known.few;
   }
 
-  answers_on : (b : Asked) (r : _) (below : _) → s.pending ≡ Some b → Responses t (Answers b r below) × Counted (Answers b r below ∷ t) (after s (Answers b r below))
+  answers_on : (b : Asked) (r : _) (below : _) → s.pending ≡ Some b
+      → Responses t (Answers b r below) × Counted (Answers b r below ∷ t) (after s (Answers b r below))
   answers_on b r below is =
-      let here : (a : Asked) → times_answered a t + (hits (same_asked a) (Some b) + deferred_hits a s.deferred) ≤ times_handed a t =
-      λ a. subst (λ o. times_answered a t + (hits (same_asked a) o + deferred_hits a s.deferred) ≤ times_handed a t) is (known.count a) in (
+      let here : (a : Asked) → times_answered a t +
+      (hits (same_asked a) (Some b) + deferred_hits a s.deferred) ≤ times_handed a t =
+      λ a. subst (λ o. times_answered a t + (hits (same_asked a) o + deferred_hits a s.deferred) ≤ times_handed a t) is
+      (known.count a) in (
         record {
           handed = λ a h. known.pending a (is ∙ h);
           first = λ a h. let same : b ≡ a = cc h in first_of a b (deferred_hits b s.deferred) (sym same) (here b);
@@ -135,17 +154,21 @@ module _ (t : List Call) (s : Own) (known : Counted t s) where
         },
       )
 
-  defers_on : (now : ℕ) (b : Asked) (delay : ℕ) (answer : Bool) → s.pending ≡ Some b → answer ≡ may_defer s.deferred → Counted (Defers now b delay answer ∷ t) (after s (Defers now b delay answer))
+  defers_on : (now : ℕ) (b : Asked) (delay : ℕ) (answer : Bool) → s.pending ≡ Some b → answer ≡ may_defer s.deferred
+      → Counted (Defers now b delay answer ∷ t) (after s (Defers now b delay answer))
   defers_on now b delay true is right =
       let d : Deferred = record { asked = b; at = record { 0 = max s.clock now }; delay = delay } in
       record {
         count = λ a.
-            let k = subst (λ o. times_answered a t + (hits (same_asked a) o + deferred_hits a s.deferred) ≤ times_handed a t) is (known.count a) in
+            let k = subst (λ o. times_answered a t + (hits (same_asked a) o + deferred_hits a s.deferred) ≤ times_handed
+            a t) is (known.count a) in
             let l = hits_append a s.deferred d in
             omega (arith, k, l);
         pending = λ a h. absurd (cc h);
-        deferred = all_later (Defers now b delay true) t (s.deferred ++ d ∷ []) (all_with t s.deferred d known.deferred (known.pending b is));
-        few = let l = length_with s.deferred d in let lt = ltb-true (length s.deferred) max_deferred (sym right) in omega (arith, l, lt);
+        deferred = all_later (Defers now b delay true) t (s.deferred ++ d ∷ [])
+            (all_with t s.deferred d known.deferred (known.pending b is));
+        few = let l = length_with s.deferred d in let lt =
+            ltb-true (length s.deferred) max_deferred (sym right) in omega (arith, l, lt);
       }
   defers_on now b delay false is right = record {
     count = λ a. let k = known.count a in omega (arith, k);
@@ -154,7 +177,8 @@ module _ (t : List Call) (s : Own) (known : Counted t s) where
     few = known.few;
   }
 
-  ticks_on : (now : ℕ) (below : _) (room : Bool) (answer : _) → Counted (Ticks now below room answer ∷ t) (after s (Ticks now below room answer))
+  ticks_on : (now : ℕ) (below : _) (room : Bool) (answer : _)
+      → Counted (Ticks now below room answer ∷ t) (after s (Ticks now below room answer))
   ticks_on now below room answer = record {
     count = λ a. let k = known.count a in omega (arith, k);
     pending = λ a h. absurd (cc h);
@@ -162,26 +186,34 @@ module _ (t : List Call) (s : Own) (known : Counted t s) where
     few = known.few;
   }
 
-  responds_on : (now : ℕ) (b : Asked) (r : _) (word id : ℕ) → option_map (λ (d : Deferred). d.asked) (first_ready (max s.clock now) s.separate s.deferred) ≡ Some b
-      → Responses t (Responds now b r word id) × Counted (Responds now b r word id ∷ t) (after s (Responds now b r word id))
+  responds_on : (now : ℕ) (b : Asked) (r : _) (word id : ℕ)
+      → option_map (λ (d : Deferred). d.asked) (first_ready (max s.clock now) s.separate s.deferred) ≡ Some b
+      → Responses t (Responds now b r word id) × Counted (Responds now b r word id ∷ t)
+      (after s (Responds now b r word id))
   responds_on now b r word id is =
       let at : ℕ = max s.clock now in
       let left : List Deferred = without_ready at s.separate s.deferred in
-      let here : (a : Asked) → times_answered a t + (hits (same_asked a) s.pending + (hits (same_asked a) (Some b) + deferred_hits a left)) ≤ times_handed a t =
-      λ a. subst (λ n. times_answered a t + (hits (same_asked a) s.pending + n) ≤ times_handed a t) (taken_out a b at s.separate s.deferred is) (known.count a) in (
+      let here : (a : Asked) → times_answered a t +
+      (hits (same_asked a) s.pending + (hits (same_asked a) (Some b) + deferred_hits a left)) ≤ times_handed a t =
+      λ a. subst (λ n. times_answered a t + (hits (same_asked a) s.pending + n) ≤ times_handed a t)
+      (taken_out a b at s.separate s.deferred is) (known.count a) in (
         record {
-          handed = λ a h. let same : b ≡ a = cc h in subst (Handed t) same (ready_handed t at s.separate b s.deferred known.deferred is);
-          first = λ a h. let same : b ≡ a = cc h in first_of a b (hits (same_asked b) s.pending + deferred_hits b left) (sym same) (let k = here b in omega (arith, k));
+          handed = λ a h. let same : b ≡ a = cc h in subst (Handed t) same
+              (ready_handed t at s.separate b s.deferred known.deferred is);
+          first = λ a h. let same : b ≡ a = cc h in first_of a b (hits (same_asked b) s.pending + deferred_hits b left)
+              (sym same) (let k = here b in omega (arith, k));
         },
         record {
           count = λ a. let k = here a in omega (arith, k);
           pending = λ a h. absurd (cc h);
-          deferred = all_later (Responds now b r word id) t left (all_without t at s.separate s.deferred known.deferred);
+          deferred = all_later (Responds now b r word id) t left
+              (all_without t at s.separate s.deferred known.deferred);
           few = let l = length_without at s.separate s.deferred in let f = known.few in omega (arith, l, f);
         },
       )
 
-  ready_on : (now : ℕ) (to : Endpoint) (answer : Bool) → Counted (Ready now to answer ∷ t) (after s (Ready now to answer))
+  ready_on : (now : ℕ) (to : Endpoint) (answer : Bool)
+      → Counted (Ready now to answer ∷ t) (after s (Ready now to answer))
   ready_on now to answer = record {
     count = λ a. let k = known.count a in omega (arith, k);
     pending = λ a h. inr (known.pending a h);
@@ -189,7 +221,8 @@ module _ (t : List Call) (s : Own) (known : Counted t s) where
     few = known.few;
   }
 
-  notifies_on : (now : ℕ) (to : Endpoint) (token : List ℕ) (r : _) (word id : ℕ) → Counted (Notifies now to token r word id ∷ t) (after s (Notifies now to token r word id))
+  notifies_on : (now : ℕ) (to : Endpoint) (token : List ℕ) (r : _) (word id : ℕ)
+      → Counted (Notifies now to token r word id ∷ t) (after s (Notifies now to token r word id))
   notifies_on now to token r word id = record {
     count = λ a. let k = known.count a in omega (arith, k);
     pending = λ a h. absurd (cc h);
@@ -216,5 +249,14 @@ module _ (t : List Call) (s : Own) (known : Counted t s) where
   on (Take answer) right = (quiet _ refl, take_on answer)
 
 pub counted : (t : List Call) → AnswererLaw t → AreResponses t × Counted t (own_of t)
-counted [] law = (tt, record { count = λ a. omega arith; pending = λ a h. absurd (cc h); deferred = tt; few = omega arith })
-counted (c ∷ t) law = let earlier = counted t law.1 in let here = on t (own_of t) earlier.1 c law.0 in ((here.0, earlier.0), here.1)
+counted [] law = (
+  tt,
+  record {
+    count = λ a. omega arith;
+    pending = λ a h. absurd (cc h);
+    deferred = tt;
+    few = omega arith;
+  },
+)
+counted (c ∷ t) law = let earlier = counted t law.1 in let here =
+    on t (own_of t) earlier.1 c law.0 in ((here.0, earlier.0), here.1)

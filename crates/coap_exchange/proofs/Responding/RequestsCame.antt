@@ -18,7 +18,8 @@ use Rattle.coap_layer.proofs.Facts.HandedUp.{message_in, spelled}
 abbrev IsOf : Endpoint → Asked → Message → T.Answer → Type 0
 IsOf from a m up = (a ≡ asked_of from m) × (message_in up ≡ Some m)
 
-pair_of : (from : Endpoint) (up : T.Answer) (a : Asked) (m : Message) → Some (a, m) ≡ handed_up from up → IsOf from a m up
+pair_of : (from : Endpoint) (up : T.Answer) (a : Asked) (m : Message) → Some (a, m) ≡ handed_up from up
+    → IsOf from a m up
 pair_of from (T.Becomes (T.Request n true)) a m h =
     let p : ◌≡◌ {A = Asked × Message} (a, m) (asked_of from n, n) = cc h in
     let same : m ≡ n = ap (λ (q : Asked × Message). q.1) p in
@@ -40,21 +41,26 @@ pair_of from (T.Copied to id) a m h = absurd (cc h)
 pair_of from (T.Expired to id) a m h = absurd (cc h)
 pair_of from (T.Gives packet) a m h = absurd (cc h)
 
-came : (word : ℕ) (t : List Call) (now : ℕ) (from : Endpoint) (bytes : List ℕ) (up : T.Answer) (a : Asked) (m : Message) → AnswererLaw (Incoming now from bytes up (Some (a, m)) ∷ t)
-    → (h : L.State) → Steps (L.start word) (lower_of (Incoming now from bytes up (Some (a, m)) ∷ t)) h → (a ≡ asked_of from m) × Spells bytes m
+came : (word : ℕ) (t : List Call) (now : ℕ) (from : Endpoint) (bytes : List ℕ) (up : T.Answer) (a : Asked) (m : Message)
+    → AnswererLaw (Incoming now from bytes up (Some (a, m)) ∷ t)
+    → (h : L.State) → Steps (L.start word) (lower_of (Incoming now from bytes up (Some (a, m)) ∷ t)) h
+    → (a ≡ asked_of from m) × Spells bytes m
 came word t now from bytes up a m law h steps =
     let s : Own = own_of t in
     let parts = steps_split (L.start word) h (lower s (Incoming now from bytes up (Some (a, m)))) (lower_of t) steps in
-    let first = steps_split parts.0 h (replying from (id_in up) (reject_by up)) (asked now (T.Receive from bytes) up ∷ []) parts.2 in
+    let first = steps_split parts.0 h (replying from (id_in up) (reject_by up))
+    (asked now (T.Receive from bytes) up ∷ []) parts.2 in
     let p = pair_of from up a m law.0 in
     (p.0, spelled first.1.0 first.0 now from bytes up m first.1.2 p.1)
 
-pub came_in : (word : ℕ) (t : List Call) → AnswererLaw t → (h : L.State) → Steps (L.start word) (lower_of t) h → AreRequests t
+pub came_in : (word : ℕ) (t : List Call) → AnswererLaw t → (h : L.State) → Steps (L.start word) (lower_of t) h
+    → AreRequests t
 came_in word [] law h steps = tt
 came_in word (c ∷ t) law h steps =
     let parts = steps_split (L.start word) h (lower (own_of t) c) (lower_of t) steps in (
       record {
-        came = λ now from bytes up a m is. came word t now from bytes up a m (subst (λ d. AnswererLaw (d ∷ t)) is law) h (subst (λ d. Steps (L.start word) (lower_of (d ∷ t)) h) is steps);
+        came = λ now from bytes up a m is. came word t now from bytes up a m (subst (λ d. AnswererLaw (d ∷ t)) is law) h
+            (subst (λ d. Steps (L.start word) (lower_of (d ∷ t)) h) is steps);
       },
       came_in word t law.1 parts.0 parts.1,
     )

@@ -19,13 +19,26 @@ shorter t n a b = omega (arith, a, b)
 pub askable_when_short : IsAskableWhenShort
 askable_when_short r s token few =
     let p = s.parts in
-    sendable_when_short (content_of token r) (record { some = p.some; code = p.code; id = omega arith; token = few; order = p.order; numbers = p.numbers; short = p.short })
+    sendable_when_short (content_of token r) (record {
+      some = p.some;
+      code = p.code;
+      id = omega arith;
+      token = few;
+      order = p.order;
+      numbers = p.numbers;
+      short = p.short;
+    })
     (shorter (length token) (most_bytes r.options + (1 + length r.payload)) few s.fits)
 
 -- by the very length of the options
 
-message_length : (m : Message) → length (message_bytes m) ≡ 4 + (length m.token + (length (options_bytes 0 m.options) + length (marked m.payload)))
-message_length m = omega (arith, length-append m.token (options_bytes 0 m.options ++ marked m.payload), length-append (options_bytes 0 m.options) (marked m.payload))
+message_length : (m : Message) → length (message_bytes m)
+    ≡ 4 + (length m.token + (length (options_bytes 0 m.options) + length (marked m.payload)))
+message_length m = omega (
+  arith,
+  length-append m.token (options_bytes 0 m.options ++ marked m.payload),
+  length-append (options_bytes 0 m.options) (marked m.payload),
+)
 
 marked_most : (payload : List ℕ) → length (marked payload) ≤ 1 + length payload
 marked_most [] = omega arith
@@ -35,7 +48,15 @@ pub askable_when_short_exactly : IsAskableWhenShortExactly
 askable_when_short_exactly r s token few =
     let p = s.parts in
     let can : (kind : Kind) (id : ℕ) → id < 65536 → CanBeSpelled (with_head kind id (content_of token r)) =
-    λ kind id small. record { some = p.some; code = p.code; id = omega (arith, small); token = few; order = p.order; numbers = p.numbers; short = p.short } in
+    λ kind id small. record {
+      some = p.some;
+      code = p.code;
+      id = omega (arith, small);
+      token = few;
+      order = p.order;
+      numbers = p.numbers;
+      short = p.short;
+    } in
     record {
       code = λ e. let some = p.some in absurd (omega (arith, e));
       spelled = λ kind id small. spelled_by (with_head kind id (content_of token r)) (can kind id small);
@@ -51,7 +72,16 @@ pub notification_when_short : IsNotificationWhenShort
 notification_when_short token r few s =
     record {
       code = s.role;
-      sendable = sendable_when_short (answer.content_with token r) (record { some = s.some; code = s.code; id = omega arith; token = few; order = s.order; numbers = s.numbers; short = s.short })
+      sendable = sendable_when_short (answer.content_with token r)
+          (record {
+            some = s.some;
+            code = s.code;
+            id = omega arith;
+            token = few;
+            order = s.order;
+            numbers = s.numbers;
+            short = s.short;
+          })
           (shorter (length token) (most_bytes r.options + (1 + length r.payload)) few s.fits);
     }
 

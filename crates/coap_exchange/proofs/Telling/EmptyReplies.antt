@@ -30,8 +30,10 @@ abbrev packets : Endpoint → Option (List ℕ) → List T.Packet
 packets from None = []
 packets from (Some bytes) = record { to = from; bytes = bytes } ∷ []
 
-replies_by : (from server : Endpoint) (bytes : List ℕ) (now id : ℕ) (up : T.Answer) (settled v : Bool) (running : Option Exchange) (o : Option (List ℕ))
-    → replies_in ((settling v server running settled ++ replying from id o) ++ asked now (T.Receive from bytes) up ∷ []) ≡ packets from o
+replies_by : (from server : Endpoint) (bytes : List ℕ) (now id : ℕ) (up : T.Answer) (settled v : Bool)
+    (running : Option Exchange) (o : Option (List ℕ))
+    → replies_in ((settling v server running settled ++ replying from id o) ++ asked now (T.Receive from bytes) up ∷ [])
+    ≡ packets from o
 replies_by from server bytes now id up settled true (Some x) None = refl
 replies_by from server bytes now id up settled true (Some x) (Some b) = refl
 replies_by from server bytes now id up settled true None None = refl
@@ -51,7 +53,8 @@ module _ (id : ℕ) where
   abbrev out : Kind → Known → Option (List ℕ)
   out kind k = reply_by (judged kind k) id
 
-  told_con : (f o i p b c : Bool) (m : Message) → Tells Con (known f o i p b c) m → out Con (known f o i p b c) ≡ Some (ack_bytes id)
+  told_con : (f o i p b c : Bool) (m : Message) → Tells Con (known f o i p b c) m
+      → out Con (known f o i p b c) ≡ Some (ack_bytes id)
   told_con true false i true false false m h = refl
   told_con true true i p false false m h = refl
   told_con f o i p b c m h = absurd (cc h)
@@ -89,7 +92,8 @@ module _ (id : ℕ) where
   strange_non true false i false b c h = refl
   strange_non true o i p b c h = absurd (cc h)
 
-  critical_con : (f o i p b c : Bool) → (f && (o || p)) ≡ true → b ≡ true → out Con (known f o i p b c) ≡ Some (reset_bytes id)
+  critical_con : (f o i p b c : Bool) → (f && (o || p)) ≡ true → b ≡ true
+      → out Con (known f o i p b c) ≡ Some (reset_bytes id)
   critical_con true false i true true c h k = refl
   critical_con true true i p true c h k = refl
   critical_con f o i p b c h k = absurd (cc (h, k))
@@ -99,7 +103,8 @@ module _ (id : ℕ) where
   critical_non true true i p true c h k = refl
   critical_non f o i p b c h k = absurd (cc (h, k))
 
-  late_con : (f o i p b c : Bool) → (f && (o || p)) ≡ true → b ≡ false → c ≡ true → out Con (known f o i p b c) ≡ Some (ack_bytes id)
+  late_con : (f o i p b c : Bool) → (f && (o || p)) ≡ true → b ≡ false → c ≡ true
+      → out Con (known f o i p b c) ≡ Some (ack_bytes id)
   late_con true false i true false true h k l = refl
   late_con true true i p false true h k l = refl
   late_con f o i p b c h k l = absurd (cc (h, k, l))
@@ -118,7 +123,8 @@ module _ (s : Own) (from : Endpoint) (m : Message) where
   abbrev replied : List T.Packet
   replied = packets from (reply_by (judged m.kind k) m.id)
 
-  as_kind : (kind : Kind) (o : Option (List ℕ)) → m.kind ≡ kind → reply_by (judged kind k) m.id ≡ o → replied ≡ packets from o
+  as_kind : (kind : Kind) (o : Option (List ℕ)) → m.kind ≡ kind → reply_by (judged kind k) m.id ≡ o
+      → replied ≡ packets from o
   as_kind kind o is e = ap (λ x. packets from (reply_by (judged x k) m.id)) is ∙ ap (packets from) e
 
   by_kind : (kind : Kind) → m.kind ≡ kind → kind ≢ Con → Tells kind k m → reply_by (judged kind k) m.id ≡ None
@@ -127,23 +133,37 @@ module _ (s : Own) (from : Endpoint) (m : Message) where
   by_kind Ack is other h = ack_none m.id k.from_server k.of_exchange k.same_id k.kept k.bad_option k.cancelled
   by_kind Rst is other h = rst_none m.id k.from_server k.of_exchange k.same_id k.kept k.bad_option k.cancelled
 
-  tells_as : (kind : Kind) (answer : Option Event) → m.kind ≡ kind → answer ≡ told (verdict_on s from (T.Becomes (T.Response m))) (T.Becomes (T.Response m)) → message_told answer ≡ Some m → Tells kind k m
+  tells_as : (kind : Kind) (answer : Option Event) → m.kind ≡ kind
+      → answer ≡ told (verdict_on s from (T.Becomes (T.Response m))) (T.Becomes (T.Response m))
+      → message_told answer ≡ Some m → Tells kind k m
   tells_as kind answer is right h = subst (λ x. Tells x k m) is (sym (ap message_told right) ∙ h)
 
-  response_replied : (answer : Option Event) → answer ≡ told (verdict_on s from (T.Becomes (T.Response m))) (T.Becomes (T.Response m)) → RepliesTo s from m answer replied
+  response_replied : (answer : Option Event) → answer
+      ≡ told (verdict_on s from (T.Becomes (T.Response m))) (T.Becomes (T.Response m))
+      → RepliesTo s from m answer replied
   response_replied answer right =
       record {
-        told_con = λ h kind. as_kind Con (Some (ack_bytes m.id)) kind (told_con m.id k.from_server k.of_exchange k.same_id k.kept k.bad_option k.cancelled m (tells_as Con answer kind right h));
-        told_other = λ h other. as_kind m.kind None refl (by_kind m.kind refl other (tells_as m.kind answer refl right h));
+        told_con = λ h kind. as_kind Con (Some (ack_bytes m.id)) kind
+            (told_con m.id k.from_server k.of_exchange k.same_id k.kept k.bad_option k.cancelled m
+            (tells_as Con answer kind right h));
+        told_other = λ h other. as_kind m.kind None refl
+            (by_kind m.kind refl other (tells_as m.kind answer refl right h));
         strange = λ kind h. elim kind [
-          | inl con ↦ as_kind Con (Some (reset_bytes m.id)) con (strange_con m.id k.from_server k.of_exchange k.same_id k.kept k.bad_option k.cancelled h)
-          | inr non ↦ as_kind Non (Some (reset_bytes m.id)) non (strange_non m.id k.from_server k.of_exchange k.same_id k.kept k.bad_option k.cancelled h)
+          | inl con ↦ as_kind Con (Some (reset_bytes m.id)) con
+              (strange_con m.id k.from_server k.of_exchange k.same_id k.kept k.bad_option k.cancelled h)
+          | inr non ↦ as_kind Non (Some (reset_bytes m.id)) non
+              (strange_non m.id k.from_server k.of_exchange k.same_id k.kept k.bad_option k.cancelled h)
         ];
-        critical_con = λ con h c. as_kind Con (Some (reset_bytes m.id)) con (critical_con m.id k.from_server k.of_exchange k.same_id k.kept k.bad_option k.cancelled h c);
-        critical_non = λ non h c. as_kind Non None non (critical_non m.id k.from_server k.of_exchange k.same_id k.kept k.bad_option k.cancelled h c);
-        late_con = λ con h c l. as_kind Con (Some (ack_bytes m.id)) con (late_con m.id k.from_server k.of_exchange k.same_id k.kept k.bad_option k.cancelled h c l);
-        late_non = λ non h c l. as_kind Non None non (late_non m.id k.from_server k.of_exchange k.same_id k.kept k.bad_option k.cancelled h c l);
-        ack = λ ack. as_kind Ack None ack (ack_none m.id k.from_server k.of_exchange k.same_id k.kept k.bad_option k.cancelled);
+        critical_con = λ con h c. as_kind Con (Some (reset_bytes m.id)) con
+            (critical_con m.id k.from_server k.of_exchange k.same_id k.kept k.bad_option k.cancelled h c);
+        critical_non = λ non h c. as_kind Non None non
+            (critical_non m.id k.from_server k.of_exchange k.same_id k.kept k.bad_option k.cancelled h c);
+        late_con = λ con h c l. as_kind Con (Some (ack_bytes m.id)) con
+            (late_con m.id k.from_server k.of_exchange k.same_id k.kept k.bad_option k.cancelled h c l);
+        late_non = λ non h c l. as_kind Non None non
+            (late_non m.id k.from_server k.of_exchange k.same_id k.kept k.bad_option k.cancelled h c l);
+        ack = λ ack. as_kind Ack None ack (ack_none m.id k.from_server k.of_exchange k.same_id k.kept k.bad_option
+            k.cancelled);
       }
 
 -- all else that arrives
@@ -162,10 +182,14 @@ none_reset : (b : Bool) (id : ℕ) → reply_by (cond b EndByReset Ignore) id �
 none_reset true id = refl
 none_reset false id = refl
 
-replied_by : (s : Own) (from : Endpoint) (up : T.Answer) (answer : Option Event) → answer ≡ told (verdict_on s from up) up → RepliesBy s from up answer (packets from (reply_by (verdict_on s from up) (id_in up)))
+replied_by : (s : Own) (from : Endpoint) (up : T.Answer) (answer : Option Event)
+    → answer ≡ told (verdict_on s from up) up → RepliesBy s from up answer
+    (packets from (reply_by (verdict_on s from up) (id_in up)))
 replied_by s from (T.Becomes (T.Response m)) answer right = response_replied s from m answer right
-replied_by s from (T.Becomes (T.Request m kept)) answer right =
-    (λ con. ap (λ kind. packets from (reply_by (request_judged kind) m.id)) con, λ other. ap (packets from) (request_other m.kind m.id other))
+replied_by s from (T.Becomes (T.Request m kept)) answer right = (
+  λ con. ap (λ kind. packets from (reply_by (request_judged kind) m.id)) con,
+  λ other. ap (packets from) (request_other m.kind m.id other),
+)
 replied_by s from (T.Becomes (T.Acked id)) answer right = ap (packets from) (none_acked (is_of_request s from id) 0)
 replied_by s from (T.Becomes (T.Reset id)) answer right = ap (packets from) (none_reset (is_of_request s from id) 0)
 replied_by s from (T.Becomes T.Dropped) answer right = refl
@@ -181,7 +205,8 @@ replied_by s from (T.Copied to id) answer right = refl
 replied_by s from (T.Expired to id) answer right = refl
 replied_by s from (T.Gives packet) answer right = refl
 
-none_asked : (o : Opening) (server : Endpoint) (content : T.Content) (now w : ℕ) (below : T.Answer) → replies_in (asked now (beneath o server content w) below ∷ []) ≡ []
+none_asked : (o : Opening) (server : Endpoint) (content : T.Content) (now w : ℕ) (below : T.Answer)
+    → replies_in (asked now (beneath o server content w) below ∷ []) ≡ []
 none_asked Running server content now w below = refl
 none_asked Spent server content now w below = refl
 none_asked Sends server content now w below = refl
@@ -191,9 +216,11 @@ module _ (server : Endpoint) (word : ℕ) where
   rightly t (Receive now from bytes up settled answer) right =
       let s : Own = own_of server word t in
       let v : Verdict = verdict_on s from up in
-      subst (RepliesBy s from up answer) (sym (replies_by from s.server bytes now (id_in up) up settled (settles v) s.running (reply_by v (id_in up)))) (replied_by s from up answer right)
+      subst (RepliesBy s from up answer) (sym (replies_by from s.server bytes now (id_in up) up settled
+      (settles v) s.running (reply_by v (id_in up)))) (replied_by s from up answer right)
   rightly t (Ask now r w below answer) right =
-      let s : Own = own_of server word t in none_asked (opening_of s r) s.server (content_of (request_token s r) r) now w below
+      let s : Own = own_of server word t in none_asked (opening_of s r) s.server
+      (content_of (request_token s r) r) now w below
   rightly t (Ticks now below answer) right = refl
   rightly t (Keep token answer) right = refl
   rightly t (Release token answer) right = refl

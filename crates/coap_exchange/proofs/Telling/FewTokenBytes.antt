@@ -32,6 +32,10 @@ each : (o : Option Message) (P Q : Message → Type 0) → IfSome o P → ((m : 
 each None P Q h f = tt
 each (Some m) P Q h f = f m h
 
-pub told_few : (s : Own) (old new : L.State) (now : ℕ) (from : Endpoint) (bytes : List ℕ) (up : T.Answer) → L.Step old now (T.Receive from bytes) up new → IfSome (message_told (told (verdict_on s from up) up)) (λ m. length m.token ≤ 8)
+pub told_few : (s : Own) (old new : L.State) (now : ℕ) (from : Endpoint) (bytes : List ℕ) (up : T.Answer)
+    → L.Step old now (T.Receive from bytes) up new
+    → IfSome (message_told (told (verdict_on s from up) up)) (λ m. length m.token ≤ 8)
 told_few s old new now from bytes up step =
-    each (message_told (told (verdict_on s from up) up)) (λ m. message_in up ≡ Some m) (λ m. length m.token ≤ 8) (told_in s from up (verdict_on s from up) (verdict_fits s from up)) (λ m h. (spelled old new now from bytes up m step h).token)
+    each (message_told (told (verdict_on s from up) up)) (λ m. message_in up ≡ Some m) (λ m. length m.token ≤ 8)
+    (told_in s from up (verdict_on s from up) (verdict_fits s from up))
+    (λ m h. (spelled old new now from bytes up m step h).token)

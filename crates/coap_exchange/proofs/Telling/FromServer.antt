@@ -38,7 +38,8 @@ server_is server word [] = refl
 server_is server word (c ∷ t) = after_server (own_of server word t) c ∙ server_is server word t
 
 -- the response that is told was handed up, and came from there
-module _ (s : Own) (now : ℕ) (from : Endpoint) (bytes : List ℕ) (up : T.Answer) (settled : Bool) (answer : Option Event) (m : Message) where
+module _ (s : Own) (now : ℕ) (from : Endpoint) (bytes : List ℕ) (up : T.Answer) (settled : Bool) (answer : Option Event)
+    (m : Message) where
   abbrev told_in : Option Event → Option Message
   told_in a = carried (Receive now from bytes up settled a)
 
@@ -48,9 +49,11 @@ module _ (s : Own) (now : ℕ) (from : Endpoint) (bytes : List ℕ) (up : T.Answ
   none_told : (a : Option Event) → answer ≡ a → told_in a ≡ None → told_in answer ≡ Some m → Comes
   none_told a is none h = let e : told_in answer ≡ None = ap told_in is ∙ none in absurd (cc (e, h))
 
-  one_told : (a : Option Event) (n : Message) → answer ≡ a → told_in a ≡ Some n → same_endpoint from s.server ≡ true → up ≡ T.Becomes (T.Response n) → told_in answer ≡ Some m → Comes
+  one_told : (a : Option Event) (n : Message) → answer ≡ a → told_in a ≡ Some n → same_endpoint from s.server ≡ true
+      → up ≡ T.Becomes (T.Response n) → told_in answer ≡ Some m → Comes
   one_told a n is one there up_is h =
-      let e : Some n ≡ Some m = sym (ap told_in is ∙ one) ∙ h in let same : n ≡ m = cc e in (there, ap message_in up_is ∙ ap (λ x. Some x) same)
+      let e : Some n ≡ Some m = sym (ap told_in is ∙ one)
+      ∙ h in let same : n ≡ m = cc e in (there, ap message_in up_is ∙ ap (λ x. Some x) same)
 
   comes : (v : Verdict) → Fits s from up v → answer ≡ told v up → told_in answer ≡ Some m → Comes
   comes Ignore f right h = none_told None right refl h
@@ -58,29 +61,43 @@ module _ (s : Own) (now : ℕ) (from : Endpoint) (bytes : List ℕ) (up : T.Answ
   comes Acknowledge f right h = none_told None right refl h
   comes Await f right h = none_told None right refl h
   comes EndByReset f right h = none_told (Some event.Reset) right refl h
-  comes AnswerCon f right h = one_told (Some (event.Answer f.message)) f.message (right ∙ ap (told AnswerCon) f.is) refl f.there f.is h
-  comes Answer f right h = one_told (Some (event.Answer f.message)) f.message (right ∙ ap (told Answer) f.is) refl f.there f.is h
-  comes NoticeCon f right h = one_told (Some (event.Notice f.message)) f.message (right ∙ ap (told NoticeCon) f.is) refl f.there f.is h
-  comes Notice f right h = one_told (Some (event.Notice f.message)) f.message (right ∙ ap (told Notice) f.is) refl f.there f.is h
+  comes AnswerCon f right h = one_told (Some (event.Answer f.message)) f.message
+      (right ∙ ap (told AnswerCon) f.is) refl f.there f.is h
+  comes Answer f right h = one_told (Some (event.Answer f.message)) f.message
+      (right ∙ ap (told Answer) f.is) refl f.there f.is h
+  comes NoticeCon f right h = one_told (Some (event.Notice f.message)) f.message
+      (right ∙ ap (told NoticeCon) f.is) refl f.there f.is h
+  comes Notice f right h = one_told (Some (event.Notice f.message)) f.message
+      (right ∙ ap (told Notice) f.is) refl f.there f.is h
 
 module _ (server : Endpoint) (word : ℕ) where
-  came : (t : List Call) (now : ℕ) (from : Endpoint) (bytes : List ℕ) (up : T.Answer) (settled : Bool) (answer : Option Event) (m : Message) → AskerLaw server word (Receive now from bytes up settled answer ∷ t)
-      → (h : L.State) → Steps (L.start word) (lower_of server word (Receive now from bytes up settled answer ∷ t)) h → carried (Receive now from bytes up settled answer) ≡ Some m
+  came : (t : List Call) (now : ℕ) (from : Endpoint) (bytes : List ℕ) (up : T.Answer) (settled : Bool)
+      (answer : Option Event) (m : Message) → AskerLaw server word (Receive now from bytes up settled answer ∷ t)
+      → (h : L.State) → Steps (L.start word) (lower_of server word (Receive now from bytes up settled answer ∷ t)) h
+      → carried (Receive now from bytes up settled answer) ≡ Some m
       → (same_endpoint from server ≡ true) × Spells bytes m
   came t now from bytes up settled answer m law h steps told_is =
       let s : Own = own_of server word t in
-      let parts = steps_split (L.start word) h (lower s (Receive now from bytes up settled answer)) (lower_of server word t) steps in
-      let first = steps_split parts.0 h (acts s from up settled (verdict_on s from up)) (asked now (T.Receive from bytes) up ∷ []) parts.2 in
-      let k = comes s now from bytes up settled answer m (verdict_on s from up) (verdict_fits s from up) law.0 told_is in
-      (subst (λ e. same_endpoint from e ≡ true) (server_is server word t) k.0, spelled first.1.0 first.0 now from bytes up m first.1.2 k.1)
+      let parts = steps_split (L.start word) h (lower s (Receive now from bytes up settled answer))
+      (lower_of server word t) steps in
+      let first = steps_split parts.0 h (acts s from up settled (verdict_on s from up))
+      (asked now (T.Receive from bytes) up ∷ []) parts.2 in
+      let k = comes s now from bytes up settled answer m (verdict_on s from up)
+      (verdict_fits s from up) law.0 told_is in (
+        subst (λ e. same_endpoint from e ≡ true) (server_is server word t) k.0,
+        spelled first.1.0 first.0 now from bytes up m first.1.2 k.1,
+      )
 
-  pub came_from : (t : List Call) → AskerLaw server word t → (h : L.State) → Steps (L.start word) (lower_of server word t) h → AreFromServer server t
+  pub came_from : (t : List Call) → AskerLaw server word t → (h : L.State)
+      → Steps (L.start word) (lower_of server word t) h → AreFromServer server t
   came_from [] law h steps = tt
   came_from (c ∷ t) law h steps =
       let parts = steps_split (L.start word) h (lower (own_of server word t) c) (lower_of server word t) steps in (
         record {
           came = λ now from bytes up settled answer m is told_is.
-              came t now from bytes up settled answer m (subst (λ d. AskerLaw server word (d ∷ t)) is law) h (subst (λ d. Steps (L.start word) (lower_of server word (d ∷ t)) h) is steps) (sym (ap carried is) ∙ told_is);
+              came t now from bytes up settled answer m (subst (λ d. AskerLaw server word (d ∷ t)) is law) h
+              (subst (λ d. Steps (L.start word) (lower_of server word (d ∷ t)) h) is steps)
+              (sym (ap carried is) ∙ told_is);
         },
         came_from t law.1 parts.0 parts.1,
       )

@@ -74,7 +74,8 @@ tells_known Non true true i p false true = tt
 tells_known Non true true i p false false = separate Non true true i p (λ e. cc e)
 tells_known Ack true true false p b c = tt
 tells_known Ack true true true p true c = tt
-tells_known Ack true true true p false c = record { understood = refl; matches = λ e. (refl, refl); current = λ other. absurd (other refl) }
+tells_known Ack true true true p false c = record
+    { understood = refl; matches = λ e. (refl, refl); current = λ other. absurd (other refl) }
 tells_known Rst true true i p true c = tt
 tells_known Rst true true i p false true = tt
 tells_known Rst true true i p false false = tt
@@ -83,30 +84,41 @@ tells : (kind : Kind) (k : Known) → Tells kind k (judged kind k)
 tells kind k = tells_known kind k.from_server k.of_exchange k.same_id k.kept k.bad_option k.cancelled
 
 -- the call that tells it
-module _ (s : Own) (now : ℕ) (from : Endpoint) (bytes : List ℕ) (up : T.Answer) (settled : Bool) (answer : Option Event) (m : Message) where
+module _ (s : Own) (now : ℕ) (from : Endpoint) (bytes : List ℕ) (up : T.Answer) (settled : Bool) (answer : Option Event)
+    (m : Message) where
   abbrev told_in : Option Event → Option Message
   told_in a = carried (Receive now from bytes up settled a)
 
-  none_told : (a : Option Event) → answer ≡ a → told_in a ≡ None → told_in answer ≡ Some m → Told m.kind (known_of s from m)
+  none_told : (a : Option Event) → answer ≡ a → told_in a ≡ None → told_in answer ≡ Some m
+      → Told m.kind (known_of s from m)
   none_told a is none h = let e : told_in answer ≡ None = ap told_in is ∙ none in absurd (cc (e, h))
 
-  one_told : (a : Option Event) (n : Message) → answer ≡ a → told_in a ≡ Some n → Told n.kind (known_of s from n) → told_in answer ≡ Some m → Told m.kind (known_of s from m)
+  one_told : (a : Option Event) (n : Message) → answer ≡ a → told_in a ≡ Some n → Told n.kind (known_of s from n)
+      → told_in answer ≡ Some m → Told m.kind (known_of s from m)
   one_told a n is one has h =
-      let e : Some n ≡ Some m = sym (ap told_in is ∙ one) ∙ h in let same : n ≡ m = cc e in subst (λ (x : Message). Told x.kind (known_of s from x)) same has
+      let e : Some n ≡ Some m = sym (ap told_in is ∙ one)
+      ∙ h in let same : n ≡ m = cc e in subst (λ (x : Message). Told x.kind (known_of s from x)) same has
 
-  told_of : (v : Verdict) → verdict_on s from up ≡ v → (n : Message) → up ≡ T.Becomes (T.Response n) → Tells n.kind (known_of s from n) v
-  told_of v is n up_is = subst (Tells n.kind (known_of s from n)) (ap (verdict_on s from) (sym up_is) ∙ is) (tells n.kind (known_of s from n))
+  told_of : (v : Verdict) → verdict_on s from up ≡ v → (n : Message) → up ≡ T.Becomes (T.Response n)
+      → Tells n.kind (known_of s from n) v
+  told_of v is n up_is = subst (Tells n.kind (known_of s from n)) (ap (verdict_on s from) (sym up_is) ∙ is)
+      (tells n.kind (known_of s from n))
 
-  told_by : (v : Verdict) → verdict_on s from up ≡ v → Fits s from up v → answer ≡ told v up → told_in answer ≡ Some m → Told m.kind (known_of s from m)
+  told_by : (v : Verdict) → verdict_on s from up ≡ v → Fits s from up v → answer ≡ told v up → told_in answer ≡ Some m
+      → Told m.kind (known_of s from m)
   told_by Ignore is f right h = none_told None right refl h
   told_by Reject is f right h = none_told None right refl h
   told_by Acknowledge is f right h = none_told None right refl h
   told_by Await is f right h = none_told None right refl h
   told_by EndByReset is f right h = none_told (Some event.Reset) right refl h
-  told_by AnswerCon is f right h = one_told (Some (event.Answer f.message)) f.message (right ∙ ap (told AnswerCon) f.is) refl (told_of AnswerCon is f.message f.is) h
-  told_by Answer is f right h = one_told (Some (event.Answer f.message)) f.message (right ∙ ap (told Answer) f.is) refl (told_of Answer is f.message f.is) h
-  told_by NoticeCon is f right h = one_told (Some (event.Notice f.message)) f.message (right ∙ ap (told NoticeCon) f.is) refl (told_of NoticeCon is f.message f.is) h
-  told_by Notice is f right h = one_told (Some (event.Notice f.message)) f.message (right ∙ ap (told Notice) f.is) refl (told_of Notice is f.message f.is) h
+  told_by AnswerCon is f right h = one_told (Some (event.Answer f.message)) f.message
+      (right ∙ ap (told AnswerCon) f.is) refl (told_of AnswerCon is f.message f.is) h
+  told_by Answer is f right h = one_told (Some (event.Answer f.message)) f.message (right ∙ ap (told Answer) f.is) refl
+      (told_of Answer is f.message f.is) h
+  told_by NoticeCon is f right h = one_told (Some (event.Notice f.message)) f.message
+      (right ∙ ap (told NoticeCon) f.is) refl (told_of NoticeCon is f.message f.is) h
+  told_by Notice is f right h = one_told (Some (event.Notice f.message)) f.message (right ∙ ap (told Notice) f.is) refl
+      (told_of Notice is f.message f.is) h
 
 -- .. and where: from an endpoint
 record IsTold (s : Own) (m : Message) : Type 0 where
@@ -115,14 +127,20 @@ record IsTold (s : Own) (m : Message) : Type 0 where
 
 is_told : (s : Own) (c : Call) (m : Message) → IsRight s c → carried c ≡ Some m → IsTold s m
 is_told s (Receive now from bytes up settled answer) m right h =
-    record { from = from; has = told_by s now from bytes up settled answer m (verdict_on s from up) refl (verdict_fits s from up) right h }
+    record {
+      from = from;
+      has = told_by s now from bytes up settled answer m (verdict_on s from up) refl
+          (verdict_fits s from up) right h;
+    }
 is_told s (Ask now r word below answer) m right h = absurd (cc h)
 is_told s (Ticks now below answer) m right h = absurd (cc h)
 is_told s (Keep token answer) m right h = absurd (cc h)
 is_told s (Release token answer) m right h = absurd (cc h)
 is_told s (Take answer) m right h = absurd (cc h)
 
-answered_in : (now : ℕ) (from : Endpoint) (bytes : List ℕ) (up : T.Answer) (settled : Bool) (a : Option Event) (m : Message) → answered (Receive now from bytes up settled a) ≡ Some m → carried (Receive now from bytes up settled a) ≡ Some m
+answered_in : (now : ℕ) (from : Endpoint) (bytes : List ℕ) (up : T.Answer) (settled : Bool) (a : Option Event)
+    (m : Message) → answered (Receive now from bytes up settled a) ≡ Some m
+    → carried (Receive now from bytes up settled a) ≡ Some m
 answered_in now from bytes up settled (Some (event.Answer n)) m h = h
 answered_in now from bytes up settled (Some (event.Notice n)) m h = absurd (cc h)
 answered_in now from bytes up settled (Some event.Timeout) m h = absurd (cc h)
@@ -145,13 +163,20 @@ record OfExchange (running : Option Exchange) (token : List ℕ) (id : ℕ) : Ty
   pub token_is : token ≡ exchange.token
   pub id_is : id ≡ exchange.id.0
 
-of_exchange : (running : Option Exchange) (token : List ℕ) (id : ℕ) → has_token running token ≡ true → has_id running id ≡ true → OfExchange running token id
+of_exchange : (running : Option Exchange) (token : List ℕ) (id : ℕ) → has_token running token ≡ true
+    → has_id running id ≡ true → OfExchange running token id
 of_exchange None token id t i = absurd (cc t)
-of_exchange (Some x) token id t i = record { exchange = x; runs = refl; token_is = same_token_is token x.token t; id_is = (unsigned_Decides id x.id.0).0 i }
+of_exchange (Some x) token id t i = record {
+  exchange = x;
+  runs = refl;
+  token_is = same_token_is token x.token t;
+  id_is = (unsigned_Decides id x.id.0).0 i;
+}
 
 has_it : (running : Option Exchange) (token : List ℕ) → token_in running ≡ Some token → has_token running token ≡ true
 has_it None token h = absurd (cc h)
-has_it (Some x) token h = let same : x.token ≡ token = cc h in subst (λ k. has_token (Some x) k ≡ true) same (same_token_self x.token)
+has_it (Some x) token h = let same : x.token ≡ token =
+    cc h in subst (λ k. has_token (Some x) k ≡ true) same (same_token_self x.token)
 
 last_false : (a b c : Bool) → a ≡ true → b ≡ true → (a && (b && c)) ≡ false → c ≡ false
 last_false true true c p q h = h
@@ -172,13 +197,22 @@ module _ (server : Endpoint) (word : ℕ) where
         let of = of_exchange s.running m.token m.id matches.0 matches.1 in
         record { exchange = of.exchange; runs = of.runs; token = of.token_is; id = of.id_is }
 
-    cancelled : (x : Exchange) → answered c ≡ Some m → s.running ≡ Some x → x.cancel ≡ true → m.kind ≢ Ack → carries Response observe m.options ≡ false
+    cancelled : (x : Exchange) → answered c ≡ Some m → s.running ≡ Some x → x.cancel ≡ true → m.kind ≢ Ack
+        → carries Response observe m.options ≡ false
     cancelled x h runs cancel other =
         let current = (is_told s c m law.0 (answered_carried c m h)).has.current other in
         let of_open = (held.known server word (c ∷ t) law).0.0.answer m h in
         let has = has_it s.running m.token ((held.known server word t law.1).1.runs.runs_it m.token of_open) in
-        last_false (has_token s.running m.token) (is_cancel s.running) (carries Response observe m.options) has (ap is_cancel runs ∙ cancel) current
+        last_false (has_token s.running m.token) (is_cancel s.running) (carries Response observe m.options) has
+        (ap is_cancel runs ∙ cancel) current
 
   pub matched : (t : List Call) → AskerLaw server word t → AreMatched server word t
   matched [] law = tt
-  matched (c ∷ t) law = (record { understood = understood c t law; piggybacked = piggybacked c t law; cancelled = cancelled c t law }, matched t law.1)
+  matched (c ∷ t) law = (
+    record {
+      understood = understood c t law;
+      piggybacked = piggybacked c t law;
+      cancelled = cancelled c t law;
+    },
+    matched t law.1,
+  )

@@ -20,7 +20,15 @@ runs = (
         _,
         refl,
         record {
-          may = (sendable_when_short _ (record { some = omega arith; code = omega arith; id = omega arith; token = omega arith; order = refl; numbers = refl; short = refl }) (omega arith)).spelled;
+          may = (sendable_when_short _ (record {
+            some = omega arith;
+            code = omega arith;
+            id = omega arith;
+            token = omega arith;
+            order = refl;
+            numbers = refl;
+            short = refl;
+          }) (omega arith)).spelled;
           right = refl;
           new_is = refl;
         },

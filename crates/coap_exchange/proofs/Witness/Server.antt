@@ -26,13 +26,54 @@ bytes_when_small (b ∷ bs) small zero = small.0
 bytes_when_small (b ∷ bs) small (suc n) = bytes_when_small bs small.1 n
 
 get_bytes : AreBytes get
-get_bytes = are_bytes get (bytes_when_small get (omega arith, (omega arith, (omega arith, (omega arith, (omega arith, (omega arith, (omega arith, (omega arith, (omega arith, (omega arith, (omega arith, (omega arith, (omega arith, (omega arith, tt)))))))))))))))
+get_bytes = are_bytes get (bytes_when_small get (
+  omega arith,
+  (
+    omega arith,
+    (
+      omega arith,
+      (
+        omega arith,
+        (
+          omega arith,
+          (
+            omega arith,
+            (
+              omega arith,
+              (
+                omega arith,
+                (omega arith, (omega arith, (omega arith, (omega arith, (omega arith, (omega arith, tt)))))),
+              ),
+            ),
+          ),
+        ),
+      ),
+    ),
+  ),
+))
 
 content_spelled : IsSpelled (content_of asked content)
-content_spelled = (sendable_when_short _ (record { some = omega arith; code = omega arith; id = omega arith; token = omega arith; order = refl; numbers = refl; short = refl }) (omega arith)).spelled
+content_spelled = (sendable_when_short _ (record {
+  some = omega arith;
+  code = omega arith;
+  id = omega arith;
+  token = omega arith;
+  order = refl;
+  numbers = refl;
+  short = refl;
+}) (omega arith)).spelled
 
 notification_spelled : IsSpelled (content_with token notification)
-notification_spelled = (sendable_when_short _ (record { some = omega arith; code = omega arith; id = omega arith; token = omega arith; order = refl; numbers = refl; short = refl }) (omega arith)).spelled
+notification_spelled = (sendable_when_short _
+    (record {
+      some = omega arith;
+      code = omega arith;
+      id = omega arith;
+      token = omega arith;
+      order = refl;
+      numbers = refl;
+      short = refl;
+    }) (omega arith)).spelled
 
 runs : Steps (L.start 0) below (left_after (L.start 0) below)
 unfolding decoded frame_fault body_at walk walk_of option_at nibbles_at value_at extended payload_at
@@ -71,4 +112,17 @@ runs = (
 )
 
 pub witness : ResponseLaw 0 run
-witness = record { rows = (record { code = refl; spelled = notification_spelled }, (tt, ((refl, record { code = refl; spelled = content_spelled }), (refl, (refl, ((refl, refl, refl), (refl, tt))))))); left = left_after (L.start 0) below; layer = runs }
+witness = record {
+  rows = (
+    record { code = refl; spelled = notification_spelled },
+    (
+      tt,
+      (
+        (refl, record { code = refl; spelled = content_spelled }),
+        (refl, (refl, ((refl, refl, refl), (refl, tt)))),
+      ),
+    ),
+  );
+  left = left_after (L.start 0) below;
+  layer = runs;
+}

@@ -1,4 +1,5 @@
--- What the verdicts of the client's table rest on: the exchange that runs, the kept tokens, and where a message comes from.
+-- What the verdicts of the client's table rest on: the exchange that runs, the kept tokens, and where a message comes
+-- from.
 use Rattle.std.specs.Prelude.{◌≡◌, ℕ, true, Some}
 use Rattle.coap_types.specs.declared.endpoint.Endpoint.{Endpoint}
 use Rattle.coap_types.specs.SameEndpoint.{same_endpoint}
@@ -52,7 +53,8 @@ Fits s from up Acknowledge = Unit {0}
 abbrev pub TurnFits : Own → ℕ → L.Answer → Turn → Type 0
 TurnFits s at below turn.Idle = Unit {0}
 TurnFits s at below turn.Copied = (to : Endpoint) × (id : ℕ) × (below ≡ L.Copied to id)
-TurnFits s at below (turn.End event.Timeout) = (to : Endpoint) × (id : ℕ) × (below ≡ L.Expired to id) × OfRequest s to id
+TurnFits s at below (turn.End event.Timeout) = (to : Endpoint) × (id : ℕ) × (below ≡ L.Expired to id)
+    × OfRequest s to id
 TurnFits s at below (turn.End event.NoResponse) = (x : Exchange) × (s.running ≡ Some x) × (has_waited at x.acked ≡ true)
 TurnFits s at below (turn.End event.Reset) = ⊥
 TurnFits s at below (turn.End (event.Answer m)) = ⊥

@@ -7,7 +7,8 @@ use Rattle.coap_exchange.specs.AnswererLaw.{State}
 
 -- a CON to there: none is outstanding, and a Message ID is free (RFC 7252, sections 4.4 and 4.7)
 abbrev pub takes_con : State → ℕ → Endpoint → Bool
-takes_con s now to = not (is_busy to s.layer.open_cons) && is_free (max s.own.clock now) s.layer.upcoming s.layer.last_used
+takes_con s now to = not (is_busy to s.layer.open_cons)
+    && is_free (max s.own.clock now) s.layer.upcoming s.layer.last_used
 
 -- the response to a deferred request: one is ready, and a Message ID is free (section 5.2.2)
 abbrev pub takes_response : State → ℕ → Bool

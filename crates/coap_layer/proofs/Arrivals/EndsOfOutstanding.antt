@@ -21,11 +21,14 @@ none_ended answer a id is none some = let k : ended_by answer ≡ None = ap ende
 this_ended : (answer a : Answer) (n id : ℕ) → answer ≡ a → ended_by a ≡ Some n → ended_by answer ≡ Some id → n ≡ id
 this_ended answer a n id is one some = let k : ended_by answer ≡ Some n = ap ended_by is ∙ one in cc (k, some)
 
-sorted_ends : (word : ℕ) (past : List Entry) (e : Entry) (m : Incoming) (id : ℕ) → Sorts word past e m → ended_by e.answer ≡ Some id → Outstanding past m.from id
+sorted_ends : (word : ℕ) (past : List Entry) (e : Entry) (m : Incoming) (id : ℕ) → Sorts word past e m
+    → ended_by e.answer ≡ Some id → Outstanding past m.from id
 sorted_ends word past e m id (rejects r) h = absurd (none_ended e.answer _ id r.answer refl h)
 sorted_ends word past e m id (drops r) h = absurd (none_ended e.answer _ id r.answer refl h)
-sorted_ends word past e m id (takes_ack r) h = subst (Outstanding past m.from) (this_ended e.answer _ m.message.id id r.answer refl h) r.matches
-sorted_ends word past e m id (takes_reset r) h = subst (Outstanding past m.from) (this_ended e.answer _ m.message.id id r.answer refl h) r.matches
+sorted_ends word past e m id (takes_ack r) h =
+    subst (Outstanding past m.from) (this_ended e.answer _ m.message.id id r.answer refl h) r.matches
+sorted_ends word past e m id (takes_reset r) h =
+    subst (Outstanding past m.from) (this_ended e.answer _ m.message.id id r.answer refl h) r.matches
 sorted_ends word past e m id (takes_answer r) h = absurd (none_ended e.answer _ id r.answer refl h)
 sorted_ends word past e m id (replays r) h = absurd (none_ended e.answer _ id r.answer refl h)
 sorted_ends word past e m id (hands_over r) h = absurd (go r.answer)
@@ -35,7 +38,8 @@ sorted_ends word past e m id (hands_over r) h = absurd (go r.answer)
     go (inr (inl a)) = none_ended e.answer _ id a.3 refl h
     go (inr (inr a)) = none_ended e.answer _ id a.1 refl h
 
-arrived_ends : (word : ℕ) (past : List Entry) (e : Entry) (from : Endpoint) (what : Arrival) (id : ℕ) → Arrives word past e from what → ended_by e.answer ≡ Some id → Outstanding past from id
+arrived_ends : (word : ℕ) (past : List Entry) (e : Entry) (from : Endpoint) (what : Arrival) (id : ℕ)
+    → Arrives word past e from what → ended_by e.answer ≡ Some id → Outstanding past from id
 arrived_ends word past e from Unreadable id r h = absurd (none_ended e.answer _ id r.0 refl h)
 arrived_ends word past e from (Faulted Con n) id r h = absurd (none_ended e.answer _ id r.0 refl h)
 arrived_ends word past e from (Faulted Non n) id r h = absurd (none_ended e.answer _ id r.0 refl h)
@@ -43,7 +47,9 @@ arrived_ends word past e from (Faulted Ack n) id r h = absurd (none_ended e.answ
 arrived_ends word past e from (Faulted Rst n) id r h = absurd (none_ended e.answer _ id r.0 refl h)
 arrived_ends word past e from (Whole m) id r h = sorted_ends word past e (record { from = from; message = m }) id r h
 
-ends_here : (word : ℕ) (past : List Entry) (e : Entry) → Stands word past e → (from : Endpoint) (bytes : List ℕ) (id : ℕ) → e.call ≡ Receive from bytes → (e.answer ≡ Becomes (Acked id)) ⊎ (e.answer ≡ Becomes (Reset id)) → Outstanding past from id
+ends_here : (word : ℕ) (past : List Entry) (e : Entry) → Stands word past e
+    → (from : Endpoint) (bytes : List ℕ) (id : ℕ) → e.call ≡ Receive from bytes
+    → (e.answer ≡ Becomes (Acked id)) ⊎ (e.answer ≡ Becomes (Reset id)) → Outstanding past from id
 ends_here word past e here from bytes id call h =
     let row : Row word past e (Receive from bytes) = subst (Row word past e) call here.row in
     arrived_ends word past e from row.1.0 id row.1.2 (⊎_elim (λ a. ap ended_by a) (λ a. ap ended_by a) h)

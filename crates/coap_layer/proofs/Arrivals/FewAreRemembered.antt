@@ -22,12 +22,22 @@ later_fewer [] now later le = omega arith
 later_fewer (e ∷ past) now later le = go (taken e) (later_fewer past now later le)
   where
     young : nat_le later (e.at + exchange_lifetime) ≡ true → nat_le now (e.at + exchange_lifetime) ≡ true
-    young h = let k = leb-true later (e.at + exchange_lifetime) h in le-leb now (e.at + exchange_lifetime) (omega (arith, k, le))
+    young h = let k = leb-true later (e.at + exchange_lifetime) h in le-leb now (e.at + exchange_lifetime)
+        (omega (arith, k, le))
 
     go : (o : Option Incoming) → remembered later past ≤ remembered now past
-        → elim o [ Some m ↦ (if nat_le later (e.at + exchange_lifetime) then 1 + remembered later past else remembered later past) | None ↦ remembered later past ]
-        ≤ elim o [ Some m ↦ (if nat_le now (e.at + exchange_lifetime) then 1 + remembered now past else remembered now past) | None ↦ remembered now past ]
-    go (Some m) fewer = counted (nat_le later (e.at + exchange_lifetime)) (nat_le now (e.at + exchange_lifetime)) _ _ young fewer
+        → elim o [
+          | Some m ↦ (if nat_le later (e.at + exchange_lifetime) then 1 + remembered later past else
+              remembered later past)
+          | None ↦ remembered later past
+        ]
+        ≤ elim o [
+          | Some m ↦ (if nat_le now (e.at + exchange_lifetime) then 1 + remembered now past else
+              remembered now past)
+          | None ↦ remembered now past
+        ]
+    go (Some m) fewer = counted (nat_le later (e.at + exchange_lifetime))
+        (nat_le now (e.at + exchange_lifetime)) _ _ young fewer
     go None fewer = fewer
 
 one_more : (b : Bool) (n : ℕ) → n + 1 ≤ max_remembered → cond b (1 + n) n ≤ max_remembered
@@ -41,7 +51,12 @@ few word (e ∷ past) law now le = go (taken e) refl (few word past law.1 now be
     before : clock past ≤ now
     before = let a : clock past ≤ e.at = law.0.time in let b : e.at ≤ now = le in omega (arith, a, b)
 
-    go : (o : Option Incoming) → taken e ≡ o → remembered now past ≤ max_remembered → elim o [ Some m ↦ (if nat_le now (e.at + exchange_lifetime) then 1 + remembered now past else remembered now past) | None ↦ remembered now past ] ≤ max_remembered
+    go : (o : Option Incoming) → taken e ≡ o → remembered now past ≤ max_remembered
+        → elim o [
+          | Some m ↦ (if nat_le now (e.at + exchange_lifetime) then 1 + remembered now past else
+              remembered now past)
+          | None ↦ remembered now past
+        ] ≤ max_remembered
     go None is fewer = fewer
     go (Some m) is fewer =
         let room = up_room word past e m law.0 (taken_handed e m is) in

@@ -17,29 +17,37 @@ use Rattle.coap_layer.specs.Channel.{IsLatest, HandedBy, HandedAsSpelled, TakesA
 use Rattle.coap_layer.proofs.ListLemmas.{and_left, and_right, same_nat}
 use Rattle.coap_layer.proofs.Copies.WhatIsOpen.{some_in}
 
-no_up : (from : Endpoint) (answer a : Answer) (m : Incoming) (X : Type 0) → answer ≡ a → handed_by a ≡ None → from_there from (handed_by answer) ≡ Some m → X
-no_up from answer a m X is none up = let e : from_there from (handed_by answer) ≡ None = ap (from_there from) (ap handed_by is ∙ none) in absurd (cc (e, up))
+no_up : (from : Endpoint) (answer a : Answer) (m : Incoming) (X : Type 0) → answer ≡ a → handed_by a ≡ None
+    → from_there from (handed_by answer) ≡ Some m → X
+no_up from answer a m X is none up = let e : from_there from (handed_by answer)
+    ≡ None = ap (from_there from) (ap handed_by is ∙ none) in absurd (cc (e, up))
 
 -- a response in a CON or a NON is handed up, and remembered
 response_held : (x : Message) → (x.kind ≡ Con) ⊎ (x.kind ≡ Non) → handed_by (Becomes (Response x)) ≡ Some x
 response_held x (inl k) = rw k refl
 response_held x (inr k) = rw k refl
 
-module _ (word : ℕ) (past : List Entry) (e : Entry) (from : Endpoint) (bytes : List ℕ) (m : Incoming) (call : e.call ≡ Receive from bytes) (are : AreBytes bytes) where
+module _ (word : ℕ) (past : List Entry) (e : Entry) (from : Endpoint) (bytes : List ℕ) (m : Incoming)
+    (call : e.call ≡ Receive from bytes) (are : AreBytes bytes) where
   -- this message is handed up
-  up_is : (n : Message) → Spells bytes n → (n.kind ≡ Con) ⊎ (n.kind ≡ Non) → handed_by e.answer ≡ Some n → (n.kind ≡ Con → kept_by e.answer ≡ Some n) → from_there from (handed_by e.answer) ≡ Some m → HandedBy e m
+  up_is : (n : Message) → Spells bytes n → (n.kind ≡ Con) ⊎ (n.kind ≡ Non) → handed_by e.answer ≡ Some n
+      → (n.kind ≡ Con → kept_by e.answer ≡ Some n) → from_there from (handed_by e.answer) ≡ Some m → HandedBy e m
   up_is n spells kind is kept up =
-      let same : record { from = from; message = n } ≡ m = (let k : from_there from (handed_by e.answer) ≡ Some (record { from = from; message = n }) = ap (from_there from) is in cc (k, up)) in
+      let same : record { from = from; message = n }
+      ≡ m = (let k : from_there from (handed_by e.answer)
+      ≡ Some (record { from = from; message = n }) = ap (from_there from) is in cc (k, up)) in
       subst (HandedBy e) same (record {
         bytes = bytes;
         call = call;
         are_bytes = are;
         spells = spells;
         kind = kind;
-        kept = λ con. subst (λ (c : Call). taken (record e { call = c }) ≡ Some (record { from = from; message = n })) (sym call) (ap (from_there from) (kept con));
+        kept = λ con. subst (λ (c : Call). taken (record e { call = c }) ≡ Some (record { from = from; message = n }))
+            (sym call) (ap (from_there from) (kept con));
       })
 
-  sorted_by : (n : Message) → Spells bytes n → Sorts word past e (record { from = from; message = n }) → from_there from (handed_by e.answer) ≡ Some m → HandedBy e m
+  sorted_by : (n : Message) → Spells bytes n → Sorts word past e (record { from = from; message = n })
+      → from_there from (handed_by e.answer) ≡ Some m → HandedBy e m
   sorted_by n s (rejects r) h = no_up from e.answer _ m _ r.answer refl h
   sorted_by n s (drops r) h = no_up from e.answer _ m _ r.answer refl h
   sorted_by n s (takes_ack r) h = no_up from e.answer _ m _ r.answer refl h
@@ -54,9 +62,11 @@ module _ (word : ℕ) (past : List Entry) (e : Entry) (from : Endpoint) (bytes :
       go : HandedAs word past e (record { from = from; message = n }) → HandedBy e m
       go (inl a) = up_is n s r.kind (ap handed_by a.2) (λ k. ap kept_by a.2) h
       go (inr (inl a)) = up_is n s r.kind (ap handed_by a.3) (λ k. let l = a.1 in absurd (cc (k, l))) h
-      go (inr (inr a)) = up_is n s r.kind (ap handed_by a.1 ∙ response_held n r.kind) (λ k. ap kept_by a.1 ∙ response_held n r.kind) h
+      go (inr (inr a)) = up_is n s r.kind (ap handed_by a.1 ∙ response_held n r.kind)
+          (λ k. ap kept_by a.1 ∙ response_held n r.kind) h
 
-  arrived_by : (what : Arrival) → Shows bytes what → Arrives word past e from what → from_there from (handed_by e.answer) ≡ Some m → HandedBy e m
+  arrived_by : (what : Arrival) → Shows bytes what → Arrives word past e from what
+      → from_there from (handed_by e.answer) ≡ Some m → HandedBy e m
   arrived_by Unreadable s r h = no_up from e.answer _ m _ r.0 refl h
   arrived_by (Faulted Con id) s r h = no_up from e.answer _ m _ r.0 refl h
   arrived_by (Faulted Non id) s r h = no_up from e.answer _ m _ r.0 refl h
@@ -64,8 +74,10 @@ module _ (word : ℕ) (past : List Entry) (e : Entry) (from : Endpoint) (bytes :
   arrived_by (Faulted Rst id) s r h = no_up from e.answer _ m _ r.0 refl h
   arrived_by (Whole n) s r h = sorted_by n s r h
 
-handed_row : (word : ℕ) (past : List Entry) (e : Entry) (m : Incoming) (call : Call) → e.call ≡ call → Row word past e call → handed_in call e.answer ≡ Some m → HandedBy e m
-handed_row word past e m (Receive from bytes) is row h = arrived_by word past e from bytes m is row.0 row.1.0 row.1.1 row.1.2 h
+handed_row : (word : ℕ) (past : List Entry) (e : Entry) (m : Incoming) (call : Call) → e.call ≡ call
+    → Row word past e call → handed_in call e.answer ≡ Some m → HandedBy e m
+handed_row word past e m (Receive from bytes) is row h =
+    arrived_by word past e from bytes m is row.0 row.1.0 row.1.1 row.1.2 h
 handed_row word past e m (Reply to id bytes) is row h = absurd (cc h)
 handed_row word past e m (Confirm to content wish) is row h = absurd (cc h)
 handed_row word past e m (Plain to content) is row h = absurd (cc h)
@@ -76,7 +88,8 @@ handed_row word past e m (Room to) is row h = absurd (cc h)
 handed_row word past e m AsksFree is row h = absurd (cc h)
 handed_row word past e m Pass is row h = absurd (cc h)
 
-pub handed_so : (word : ℕ) (past : List Entry) (e : Entry) (m : Incoming) → Stands word past e → handed e ≡ Some m → HandedBy e m
+pub handed_so : (word : ℕ) (past : List Entry) (e : Entry) (m : Incoming) → Stands word past e → handed e ≡ Some m
+    → HandedBy e m
 handed_so word past e m law h = handed_row word past e m e.call refl law.row h
 
 -- the acknowledgement that is taken
@@ -96,12 +109,20 @@ module _ (word : ℕ) (past : List Entry) (e : Entry) (bytes : List ℕ) (id : �
   not_heard : (a : Answer) → e.answer ≡ a → acked_by a ≡ None → acked_by e.answer ≡ Some id → Heard bytes id
   not_heard a is none h = let k : acked_by e.answer ≡ None = ap acked_by is ∙ none in absurd (cc (k, h))
 
-  heard_in : (m : Incoming) → Spells bytes m.message → ((n : Message) → e.answer ≡ Becomes (Response n) → n.kind ≡ Ack) → acked_by e.answer ≡ Some id → Sorts word past e m → Heard bytes id
+  heard_in : (m : Incoming) → Spells bytes m.message → ((n : Message) → e.answer ≡ Becomes (Response n) → n.kind ≡ Ack)
+      → acked_by e.answer ≡ Some id → Sorts word past e m → Heard bytes id
   heard_in m s only h (rejects r) = not_heard _ r.answer refl h
   heard_in m s only h (drops r) = not_heard _ r.answer refl h
-  heard_in m s only h (takes_ack r) = record { are = are; message = m.message; spells = s; kind = r.kind; id_is = let k = ap acked_by r.answer in cc (k, h) }
+  heard_in m s only h (takes_ack r) = record {
+    are = are;
+    message = m.message;
+    spells = s;
+    kind = r.kind;
+    id_is = let k = ap acked_by r.answer in cc (k, h);
+  }
   heard_in m s only h (takes_reset r) = not_heard _ r.answer refl h
-  heard_in m s only h (takes_answer r) = record { are = are; message = m.message; spells = s; kind = r.kind; id_is = let k = ap acked_by r.answer in cc (k, h) }
+  heard_in m s only h (takes_answer r) = record
+      { are = are; message = m.message; spells = s; kind = r.kind; id_is = let k = ap acked_by r.answer in cc (k, h) }
   heard_in m s only h (replays r) = not_heard _ r.answer refl h
   heard_in m s only h (hands_over r) = go r.answer
     where
@@ -114,7 +135,9 @@ module _ (word : ℕ) (past : List Entry) (e : Entry) (bytes : List ℕ) (id : �
       go (inr (inl a)) = not_heard _ a.3 refl h
       go (inr (inr a)) = absurd (not_ack r.kind (only m.message a.1))
 
-  heard_as : (from : Endpoint) (what : Arrival) → Shows bytes what → ((n : Message) → e.answer ≡ Becomes (Response n) → n.kind ≡ Ack) → acked_by e.answer ≡ Some id → Arrives word past e from what → Heard bytes id
+  heard_as : (from : Endpoint) (what : Arrival) → Shows bytes what
+      → ((n : Message) → e.answer ≡ Becomes (Response n) → n.kind ≡ Ack) → acked_by e.answer ≡ Some id
+      → Arrives word past e from what → Heard bytes id
   heard_as from Unreadable s only h r = not_heard _ r.0 refl h
   heard_as from (Faulted Con n) s only h r = not_heard _ r.0 refl h
   heard_as from (Faulted Non n) s only h r = not_heard _ r.0 refl h
@@ -123,17 +146,21 @@ module _ (word : ℕ) (past : List Entry) (e : Entry) (bytes : List ℕ) (id : �
   heard_as from (Whole m) s only h r = heard_in (record { from = from; message = m }) s only h r
 
 -- what both say of the answer
-ack_only : (answer : Answer) (id : ℕ) → TakesAckOf id answer → (n : Message) → answer ≡ Becomes (Response n) → n.kind ≡ Ack
+ack_only : (answer : Answer) (id : ℕ) → TakesAckOf id answer → (n : Message) → answer ≡ Becomes (Response n)
+    → n.kind ≡ Ack
 ack_only answer id (inl a) n k = absurd (cc (a, k))
-ack_only answer id (inr a) n k = let l = a.1 in let same : a.0 ≡ n = cc (l, k) in ap (λ (x : Message). x.kind) (sym same) ∙ a.2
+ack_only answer id (inr a) n k = let l = a.1 in let same : a.0
+    ≡ n = cc (l, k) in ap (λ (x : Message). x.kind) (sym same) ∙ a.2
 
 ack_told : (answer : Answer) (id : ℕ) → TakesAckOf id answer → acked_by answer ≡ Some id
 ack_told answer id (inl a) = ap acked_by a
 ack_told answer id (inr a) = ap acked_by a.1 ∙ ap Some a.3
 
-pub heard : (word : ℕ) (past : List Entry) (e : Entry) (from : Endpoint) (bytes : List ℕ) (id : ℕ) → Stands word past e → e.call ≡ Receive from bytes
+pub heard : (word : ℕ) (past : List Entry) (e : Entry) (from : Endpoint) (bytes : List ℕ) (id : ℕ) → Stands word past e
+    → e.call ≡ Receive from bytes
     → TakesAckOf id e.answer → Heard bytes id
-heard word past e from bytes id here call h = heard_as word past e bytes id row.0 from row.1.0 row.1.1 (ack_only e.answer id h) (ack_told e.answer id h) row.1.2
+heard word past e from bytes id here call h =
+    heard_as word past e bytes id row.0 from row.1.0 row.1.1 (ack_only e.answer id h) (ack_told e.answer id h) row.1.2
   where
     row : Row word past e (Receive from bytes)
     row = subst (Row word past e) call here.row
@@ -143,24 +170,37 @@ handed_spelled word [] law = tt
 handed_spelled word (e ∷ past) law = ((λ m h. handed_so word past e m law.0 h), handed_spelled word past law.1)
 
 -- the CON of which an acknowledgement is taken
-outstanding_of : (past : List Entry) (e : Entry) (from : Endpoint) (bytes : List ℕ) (id : ℕ) → e.call ≡ Receive from bytes → TakesAckOf id e.answer → Outstanding past from id
+outstanding_of : (past : List Entry) (e : Entry) (from : Endpoint) (bytes : List ℕ) (id : ℕ)
+    → e.call ≡ Receive from bytes → TakesAckOf id e.answer → Outstanding past from id
     → (con : Open) × (con.to ≡ from) × (con.id ≡ id) × HearsAck con past e
 outstanding_of past e from bytes id call h o =
     let q = some_in (λ c. is_to from id c ≡ true) (outstanding past) o in
     let place : q.0.to ≡ from = same_endpoint_is q.0.to from (and_left _ _ q.2) in
-    let number : q.0.id ≡ id = same_nat q.0.id id (and_right (same_endpoint q.0.to from) _ q.2) in
-    (q.0, place, number, record { is_outstanding = q.1; bytes = bytes; call = call ∙ ap (λ (f : Endpoint). Receive f bytes) (sym place); answer = subst (λ (i : ℕ). TakesAckOf i e.answer) (sym number) h })
+    let number : q.0.id ≡ id = same_nat q.0.id id (and_right (same_endpoint q.0.to from) _ q.2) in (
+      q.0,
+      place,
+      number,
+      record {
+        is_outstanding = q.1;
+        bytes = bytes;
+        call = call ∙ ap (λ (f : Endpoint). Receive f bytes) (sym place);
+        answer = subst (λ (i : ℕ). TakesAckOf i e.answer) (sym number) h;
+      },
+    )
 
 module _ (word : ℕ) (past : List Entry) (e : Entry) (id : ℕ) where
   not_this : (X : Type 0) (a : Answer) → e.answer ≡ a → acked_by a ≡ None → acked_by e.answer ≡ Some id → X
   not_this X a is none h = let k : acked_by e.answer ≡ None = ap acked_by is ∙ none in absurd (cc (k, h))
 
-  sorted_ack : (m : Incoming) → ((n : Message) → e.answer ≡ Becomes (Response n) → n.kind ≡ Ack) → acked_by e.answer ≡ Some id → Sorts word past e m → Outstanding past m.from id
+  sorted_ack : (m : Incoming) → ((n : Message) → e.answer ≡ Becomes (Response n) → n.kind ≡ Ack)
+      → acked_by e.answer ≡ Some id → Sorts word past e m → Outstanding past m.from id
   sorted_ack m only h (rejects r) = not_this _ _ r.answer refl h
   sorted_ack m only h (drops r) = not_this _ _ r.answer refl h
-  sorted_ack m only h (takes_ack r) = subst (Outstanding past m.from) (let k = ap acked_by r.answer in cc (k, h)) r.matches
+  sorted_ack m only h (takes_ack r) = subst (Outstanding past m.from)
+      (let k = ap acked_by r.answer in cc (k, h)) r.matches
   sorted_ack m only h (takes_reset r) = not_this _ _ r.answer refl h
-  sorted_ack m only h (takes_answer r) = subst (Outstanding past m.from) (let k = ap acked_by r.answer in cc (k, h)) r.matches
+  sorted_ack m only h (takes_answer r) = subst (Outstanding past m.from)
+      (let k = ap acked_by r.answer in cc (k, h)) r.matches
   sorted_ack m only h (replays r) = not_this _ _ r.answer refl h
   sorted_ack m only h (hands_over r) = go r.answer
     where
@@ -173,7 +213,8 @@ module _ (word : ℕ) (past : List Entry) (e : Entry) (id : ℕ) where
       go (inr (inl a)) = not_this _ _ a.3 refl h
       go (inr (inr a)) = absurd (not_ack r.kind (only m.message a.1))
 
-  arrived_ack : (from : Endpoint) (what : Arrival) → ((n : Message) → e.answer ≡ Becomes (Response n) → n.kind ≡ Ack) → acked_by e.answer ≡ Some id → Arrives word past e from what → Outstanding past from id
+  arrived_ack : (from : Endpoint) (what : Arrival) → ((n : Message) → e.answer ≡ Becomes (Response n) → n.kind ≡ Ack)
+      → acked_by e.answer ≡ Some id → Arrives word past e from what → Outstanding past from id
   arrived_ack from Unreadable only h r = not_this _ _ r.0 refl h
   arrived_ack from (Faulted Con n) only h r = not_this _ _ r.0 refl h
   arrived_ack from (Faulted Non n) only h r = not_this _ _ r.0 refl h
@@ -181,22 +222,28 @@ module _ (word : ℕ) (past : List Entry) (e : Entry) (id : ℕ) where
   arrived_ack from (Faulted Rst n) only h r = not_this _ _ r.0 refl h
   arrived_ack from (Whole m) only h r = sorted_ack (record { from = from; message = m }) only h r
 
-heard_of : (word : ℕ) (past : List Entry) (e : Entry) (from : Endpoint) (bytes : List ℕ) (id : ℕ) → Stands word past e → e.call ≡ Receive from bytes → TakesAckOf id e.answer
+heard_of : (word : ℕ) (past : List Entry) (e : Entry) (from : Endpoint) (bytes : List ℕ) (id : ℕ) → Stands word past e
+    → e.call ≡ Receive from bytes → TakesAckOf id e.answer
     → (con : Open) × (con.to ≡ from) × (con.id ≡ id) × HearsAck con past e
 heard_of word past e from bytes id here call h =
     let row : Row word past e (Receive from bytes) = subst (Row word past e) call here.row in
-    outstanding_of past e from bytes id call h (arrived_ack word past e id from row.1.0 (ack_only e.answer id h) (ack_told e.answer id h) row.1.2)
+    outstanding_of past e from bytes id call h (arrived_ack word past e id from row.1.0 (ack_only e.answer id h)
+    (ack_told e.answer id h) row.1.2)
 
 pub acks_heard : (word : ℕ) (t : List Entry) → LayerLaw word t → AcksHeard t
 acks_heard word [] law = tt
-acks_heard word (e ∷ past) law = ((λ from bytes id call h. heard_of word past e from bytes id law.0 call h), acks_heard word past law.1)
+acks_heard word (e ∷ past) law = (
+  (λ from bytes id call h. heard_of word past e from bytes id law.0 call h),
+  acks_heard word past law.1,
+)
 
 -- what a reply may be given to is the message that was handed up last
 pub record IsOf (m : Incoming) (a : Awaited) : Type 0 where
   pub from_is : m.from ≡ a.from
   pub id_is : m.message.id ≡ a.id
 
-latest_here : (call : Call) (answer : Answer) (old : Option Awaited) (m : Incoming) (a : Awaited) → handed_in call answer ≡ Some m → awaits_in call answer old ≡ Some a → IsOf m a
+latest_here : (call : Call) (answer : Answer) (old : Option Awaited) (m : Incoming) (a : Awaited)
+    → handed_in call answer ≡ Some m → awaits_in call answer old ≡ Some a → IsOf m a
 latest_here (Receive from bytes) answer old m a h k = go (from_there from (handed_by answer)) refl
   where
     go : (o : Option Incoming) → from_there from (handed_by answer) ≡ o → IsOf m a
@@ -218,7 +265,8 @@ latest_here (Room to) answer old m a h k = absurd (cc h)
 latest_here AsksFree answer old m a h k = absurd (cc h)
 latest_here Pass answer old m a h k = absurd (cc h)
 
-latest_before : (call : Call) (answer : Answer) (old : Option Awaited) (a : Awaited) → handed_in call answer ≡ None → awaits_in call answer old ≡ Some a → old ≡ Some a
+latest_before : (call : Call) (answer : Answer) (old : Option Awaited) (a : Awaited) → handed_in call answer ≡ None
+    → awaits_in call answer old ≡ Some a → old ≡ Some a
 latest_before (Receive from bytes) answer old a h k = absurd (cc (h, k))
 latest_before (Reply to id bytes) answer old a h k = absurd (cc k)
 latest_before (Confirm to content wish) answer old a h k = absurd (cc k)

@@ -14,13 +14,15 @@ use Rattle.coap_layer.specs.Rows.{takes_answer, replays, hands_over}
 use Rattle.coap_layer.specs.declared.dedup.TheConstants.{MAX_REMEMBERED as max_remembered}
 
 -- an answer that hands nothing up
-nothing_up : (from : Endpoint) (answer a : Answer) (m : Incoming) → answer ≡ a → handed_by a ≡ None → from_there from (handed_by answer) ≡ Some m → ⊥
+nothing_up : (from : Endpoint) (answer a : Answer) (m : Incoming) → answer ≡ a → handed_by a ≡ None
+    → from_there from (handed_by answer) ≡ Some m → ⊥
 nothing_up from answer a m is no_one up =
     let e : from_there from (handed_by answer) ≡ None = ap (from_there from) (ap handed_by is ∙ no_one) in
     cc (e, up)
 
 -- an answer that hands up this message
-this_up : (from : Endpoint) (answer : Answer) (n : Message) (m : Incoming) → handed_by answer ≡ Some n → from_there from (handed_by answer) ≡ Some m → record { from = from; message = n } ≡ m
+this_up : (from : Endpoint) (answer : Answer) (n : Message) (m : Incoming) → handed_by answer ≡ Some n
+    → from_there from (handed_by answer) ≡ Some m → record { from = from; message = n } ≡ m
 this_up from answer n m is up =
     let e : from_there from (handed_by answer) ≡ Some (record { from = from; message = n }) = ap (from_there from) is in
     cc (e, up)
@@ -36,7 +38,8 @@ response_up Rst n h (inr c) = absurd (cc c)
 acknowledged_up : (n : Message) → n.kind ≡ Ack → handed_by (Becomes (Response n)) ≡ None
 acknowledged_up n h = rw h refl
 
-handed_up : (word : ℕ) (past : List Entry) (e : Entry) (m : Incoming) → (m.message.kind ≡ Con) ⊎ (m.message.kind ≡ Non) → HandedAs word past e m → handed_by e.answer ≡ Some m.message
+handed_up : (word : ℕ) (past : List Entry) (e : Entry) (m : Incoming) → (m.message.kind ≡ Con) ⊎ (m.message.kind ≡ Non)
+    → HandedAs word past e m → handed_by e.answer ≡ Some m.message
 handed_up word past e m k (inl a) = ap handed_by a.2
 handed_up word past e m k (inr (inl a)) = ap handed_by a.3
 handed_up word past e m k (inr (inr a)) = ap handed_by a.1 ∙ response_up m.message.kind m.message refl k
@@ -45,17 +48,23 @@ handed_up word past e m k (inr (inr a)) = ap handed_by a.1 ∙ response_up m.mes
 abbrev IsNew : List Entry → Entry → Incoming → Type 0
 IsNew past e m = (Remembered past e.at m.from m.message.id → ⊥) × (remembered e.at past < max_remembered)
 
-sorted_new : (word : ℕ) (past : List Entry) (e : Entry) (n m : Incoming) → Sorts word past e n → from_there n.from (handed_by e.answer) ≡ Some m → IsNew past e m
+sorted_new : (word : ℕ) (past : List Entry) (e : Entry) (n m : Incoming) → Sorts word past e n
+    → from_there n.from (handed_by e.answer) ≡ Some m → IsNew past e m
 sorted_new word past e n m (rejects r) h = absurd (nothing_up n.from e.answer _ m r.answer refl h)
 sorted_new word past e n m (drops r) h = absurd (nothing_up n.from e.answer _ m r.answer refl h)
 sorted_new word past e n m (takes_ack r) h = absurd (nothing_up n.from e.answer _ m r.answer refl h)
 sorted_new word past e n m (takes_reset r) h = absurd (nothing_up n.from e.answer _ m r.answer refl h)
-sorted_new word past e n m (takes_answer r) h = absurd (nothing_up n.from e.answer _ m r.answer (acknowledged_up n.message r.kind) h)
+sorted_new word past e n m (takes_answer r) h =
+    absurd (nothing_up n.from e.answer _ m r.answer (acknowledged_up n.message r.kind) h)
 sorted_new word past e n m (replays r) h = absurd (nothing_up n.from e.answer _ m r.answer refl h)
-sorted_new word past e n m (hands_over r) h =
-    (subst (λ (x : Incoming). Remembered past e.at x.from x.message.id → ⊥) (this_up n.from e.answer n.message m (handed_up word past e n r.kind r.answer) h) r.new, r.room)
+sorted_new word past e n m (hands_over r) h = (
+  subst (λ (x : Incoming). Remembered past e.at x.from x.message.id → ⊥)
+      (this_up n.from e.answer n.message m (handed_up word past e n r.kind r.answer) h) r.new,
+  r.room,
+)
 
-arrived_new : (word : ℕ) (past : List Entry) (e : Entry) (from : Endpoint) (what : Arrival) (m : Incoming) → Arrives word past e from what → from_there from (handed_by e.answer) ≡ Some m → IsNew past e m
+arrived_new : (word : ℕ) (past : List Entry) (e : Entry) (from : Endpoint) (what : Arrival) (m : Incoming)
+    → Arrives word past e from what → from_there from (handed_by e.answer) ≡ Some m → IsNew past e m
 arrived_new word past e from Unreadable m r h = absurd (nothing_up from e.answer _ m r.0 refl h)
 arrived_new word past e from (Faulted Con id) m r h = absurd (nothing_up from e.answer _ m r.0 refl h)
 arrived_new word past e from (Faulted Non id) m r h = absurd (nothing_up from e.answer _ m r.0 refl h)
@@ -63,7 +72,8 @@ arrived_new word past e from (Faulted Ack id) m r h = absurd (nothing_up from e.
 arrived_new word past e from (Faulted Rst id) m r h = absurd (nothing_up from e.answer _ m r.0 refl h)
 arrived_new word past e from (Whole n) m r h = sorted_new word past e (record { from = from; message = n }) m r h
 
-handed_new : (word : ℕ) (past : List Entry) (e : Entry) (call : Call) (m : Incoming) → Row word past e call → handed_in call e.answer ≡ Some m → IsNew past e m
+handed_new : (word : ℕ) (past : List Entry) (e : Entry) (call : Call) (m : Incoming) → Row word past e call
+    → handed_in call e.answer ≡ Some m → IsNew past e m
 handed_new word past e (Receive from bytes) m row h = arrived_new word past e from row.1.0 m row.1.2 h
 handed_new word past e (Reply to id bytes) m row h = absurd (cc h)
 handed_new word past e (Confirm to content wish) m row h = absurd (cc h)
@@ -75,10 +85,12 @@ handed_new word past e (Room to) m row h = absurd (cc h)
 handed_new word past e AsksFree m row h = absurd (cc h)
 handed_new word past e Pass m row h = absurd (cc h)
 
-pub up_new : (word : ℕ) (past : List Entry) (e : Entry) (m : Incoming) → Stands word past e → handed e ≡ Some m → Remembered past e.at m.from m.message.id → ⊥
+pub up_new : (word : ℕ) (past : List Entry) (e : Entry) (m : Incoming) → Stands word past e → handed e ≡ Some m
+    → Remembered past e.at m.from m.message.id → ⊥
 up_new word past e m law h = (handed_new word past e e.call m law.row h).0
 
-pub up_room : (word : ℕ) (past : List Entry) (e : Entry) (m : Incoming) → Stands word past e → handed e ≡ Some m → remembered e.at past < max_remembered
+pub up_room : (word : ℕ) (past : List Entry) (e : Entry) (m : Incoming) → Stands word past e → handed e ≡ Some m
+    → remembered e.at past < max_remembered
 up_room word past e m law h = (handed_new word past e e.call m law.row h).1
 
 -- what is remembered is handed up
@@ -101,10 +113,12 @@ kept_handed (Answer.Copied to id) n h = absurd (cc h)
 kept_handed (Answer.Expired to id) n h = absurd (cc h)
 kept_handed (Answer.Gives p) n h = absurd (cc h)
 
-taken_handed_in : (call : Call) (answer : Answer) (m : Incoming) → taken_in call answer ≡ Some m → handed_in call answer ≡ Some m
+taken_handed_in : (call : Call) (answer : Answer) (m : Incoming) → taken_in call answer ≡ Some m
+    → handed_in call answer ≡ Some m
 taken_handed_in (Receive from bytes) answer m h = go (kept_by answer) refl h
   where
-    go : (o : Option Message) → kept_by answer ≡ o → from_there from o ≡ Some m → from_there from (handed_by answer) ≡ Some m
+    go : (o : Option Message) → kept_by answer ≡ o → from_there from o ≡ Some m
+        → from_there from (handed_by answer) ≡ Some m
     go (Some n) is k = ap (from_there from) (kept_handed answer n is) ∙ k
     go None is k = absurd (cc k)
 taken_handed_in (Reply to id bytes) answer m h = absurd (cc h)
@@ -121,5 +135,6 @@ pub taken_handed : (e : Entry) (m : Incoming) → taken e ≡ Some m → handed 
 taken_handed e m h = taken_handed_in e.call e.answer m h
 
 -- no message is remembered that is remembered
-pub new_only : (word : ℕ) (past : List Entry) (e : Entry) (m : Incoming) → Stands word past e → taken e ≡ Some m → Remembered past e.at m.from m.message.id → ⊥
+pub new_only : (word : ℕ) (past : List Entry) (e : Entry) (m : Incoming) → Stands word past e → taken e ≡ Some m
+    → Remembered past e.at m.from m.message.id → ⊥
 new_only word past e m law h = up_new word past e m law (taken_handed e m h)

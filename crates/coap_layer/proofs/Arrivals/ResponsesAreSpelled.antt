@@ -36,7 +36,8 @@ module _ (word : ℕ) (past : List Entry) (e : Entry) (m : Message) (h : told_in
       go (inr (inl a)) = not_told _ _ a.3 refl
       go (inr (inr a)) = is_told n.message a.1
 
-  arrived : (from : Endpoint) (bytes : List ℕ) (what : Arrival) → Shows bytes what → Arrives word past e from what → Spells bytes m
+  arrived : (from : Endpoint) (bytes : List ℕ) (what : Arrival) → Shows bytes what → Arrives word past e from what
+      → Spells bytes m
   arrived from bytes Unreadable s r = not_told _ _ r.0 refl
   arrived from bytes (Faulted Con id) s r = not_told _ _ r.0 refl
   arrived from bytes (Faulted Non id) s r = not_told _ _ r.0 refl
@@ -45,9 +46,11 @@ module _ (word : ℕ) (past : List Entry) (e : Entry) (m : Message) (h : told_in
   arrived from bytes (Whole n) s r = subst (Spells bytes) (sorted (record { from = from; message = n }) r) s
 
   carried : (call : Call) → e.call ≡ call → Row word past e call → Carried e m
-  carried (Receive from bytes) is row = record { from = from; bytes = bytes; call = is; are_bytes = row.0; spells = arrived from bytes row.1.0 row.1.1 row.1.2 }
+  carried (Receive from bytes) is row = record
+      { from = from; bytes = bytes; call = is; are_bytes = row.0; spells = arrived from bytes row.1.0 row.1.1 row.1.2 }
   carried (Reply to id bytes) is row = not_told _ _ row.1 refl
-  carried (Confirm to content wish) is row = ⊎_elim (λ r. not_told _ _ r.answer refl) (λ r. ⊎_elim (λ q. not_told _ _ q.answer refl) (λ q. not_told _ _ q.answer refl) r.1) row.1
+  carried (Confirm to content wish) is row = ⊎_elim (λ r. not_told _ _ r.answer refl)
+      (λ r. ⊎_elim (λ q. not_told _ _ q.answer refl) (λ q. not_told _ _ q.answer refl) r.1) row.1
   carried (Plain to content) is row = ⊎_elim (λ r. not_told _ _ r.answer refl) (λ r. not_told _ _ r.answer refl) row.1
   carried (Settle to id) is row = ⊎_elim (λ k. not_told _ _ k.1 refl) (λ k. not_told _ _ k.1 refl) row.0.0
   carried Ticks is (copies r) = not_told _ _ r.answer refl
@@ -60,4 +63,7 @@ module _ (word : ℕ) (past : List Entry) (e : Entry) (m : Message) (h : told_in
 
 pub responses_spelled : (word : ℕ) (t : List Entry) → LayerLaw word t → ResponsesSpelled t
 responses_spelled word [] law = tt
-responses_spelled word (e ∷ past) law = ((λ m h. carried word past e m (ap told_in h) e.call refl law.0.row), responses_spelled word past law.1)
+responses_spelled word (e ∷ past) law = (
+  (λ m h. carried word past e m (ap told_in h) e.call refl law.0.row),
+  responses_spelled word past law.1,
+)

@@ -29,17 +29,26 @@ use Rattle.coap_layer.proofs.Out.EachGoesOut.{goes_out}
 use Rattle.coap_layer.proofs.Between.TakenOnce.{alone, takes_it}
 
 -- no entry is later than the clock
-by_clock : (word : ℕ) (P : Entry → Type 0) (t : List Entry) (now : ℕ) → LayerLaw word t → clock t ≤ now → Ever P t → Ever (λ e. P e × (e.at ≤ now)) t
+by_clock : (word : ℕ) (P : Entry → Type 0) (t : List Entry) (now : ℕ) → LayerLaw word t → clock t ≤ now → Ever P t
+    → Ever (λ e. P e × (e.at ≤ now)) t
 by_clock word P [] now law le h = h
 by_clock word P (e ∷ past) now law le (inl h) = inl (h, le)
-by_clock word P (e ∷ past) now law le (inr h) = inr (by_clock word P past now law.1 (let l = law.0.time in omega (arith, l, le)) h)
+by_clock word P (e ∷ past) now law le (inr h) =
+    inr (by_clock word P past now law.1 (let l = law.0.time in omega (arith, l, le)) h)
 
 -- a stored reply was given at most 247 s before
-since_young : (word now : ℕ) (from : Endpoint) (id : ℕ) (B : Entry → Type 0) (t : List Entry) → LayerLaw word t → Since B (λ b. hands_up from id b ≡ false) t → Remembered t now from id → Ever (λ b. B b × (now ≤ b.at + exchange_lifetime)) t
+since_young : (word now : ℕ) (from : Endpoint) (id : ℕ) (B : Entry → Type 0) (t : List Entry) → LayerLaw word t
+    → Since B (λ b. hands_up from id b ≡ false) t → Remembered t now from id
+    → Ever (λ b. B b × (now ≤ b.at + exchange_lifetime)) t
 since_young word now from id B [] law h k = absurd h
 since_young word now from id B (e ∷ past) law (inl b) (inl k) = inl (b, k.young)
 since_young word now from id B (e ∷ past) law (inl b) (inr k) =
-    inl (b, forget _ past (Ever_map _ (λ y. now ≤ e.at + exchange_lifetime) (λ y z. let a = z.0.young in let l = z.1 in omega (arith, a, l)) past (by_clock word _ past e.at law.1 law.0.time k)))
+    inl (
+      b,
+      forget _ past (Ever_map _ (λ y. now ≤ e.at + exchange_lifetime)
+          (λ y z. let a = z.0.young in let l = z.1 in omega (arith, a, l)) past
+          (by_clock word _ past e.at law.1 law.0.time k)),
+    )
 since_young word now from id B (e ∷ past) law (inr h) (inl k) = let a = h.0 in let b = k.up in absurd (cc (a, b))
 since_young word now from id B (e ∷ past) law (inr h) (inr k) = inr (since_young word now from id B past law.1 h.1 k)
 
@@ -49,13 +58,18 @@ record Part (one other : ℕ) (near far : Endpoint) (whole r : List Hop) : Type 
   pub later : List Hop
   pub is : whole ≡ later ++ r
 
-module _ (one other : ℕ) (near far : Endpoint) (whole : List Hop) (x : Entry) (con : Open) (all_law : ChannelLaw one other near far (Near x ∷ whole)) (to_is : con.to ≡ far)
+module _ (one other : ℕ) (near far : Endpoint) (whole : List Hop) (x : Entry) (con : Open)
+    (all_law : ChannelLaw one other near far (Near x ∷ whole)) (to_is : con.to ≡ far)
     (open_is : IsIn con (outstanding (near_of whole))) where
   abbrev P : List Hop → Type 0
   P r = Part one other near far whole r
 
   down : (past : List Hop) (h : Hop) → P (h ∷ past) → P past
-  down past h p = record { law = earlier one other near far past h p.law; later = p.later ++ h ∷ []; is = p.is ∙ sym (append_assoc p.later (h ∷ []) past) }
+  down past h p = record {
+    law = earlier one other near far past h p.law;
+    later = p.later ++ h ∷ [];
+    is = p.is ∙ sym (append_assoc p.later (h ∷ []) past);
+  }
 
   near_law : LayerLaw one (near_of whole)
   near_law = all_law.near_law.1
@@ -67,35 +81,47 @@ module _ (one other : ℕ) (near far : Endpoint) (whole : List Hop) (x : Entry) 
   lift r p Q h = near_later Q whole p.later r p.is h
 
   late : con.first ≤ x.at
-  late = let k = begun_by one (near_of whole) (as_begun con) near_law begun in let t = all_law.near_law.0.time in omega (arith, k, t)
+  late = let k = begun_by one (near_of whole) (as_begun con) near_law begun in let t =
+      all_law.near_law.0.time in omega (arith, k, t)
 
   -- a CON under the same Message ID that reached the other layer at most 100 s before is this one
-  this_con : (q : List Hop) (bytes : List ℕ) (id when : ℕ) → P q → BegunAs far bytes id when (near_of q) → id ≡ con.id → when ≤ x.at → x.at ≤ when + max_latency → (con.first ≤ when) × (when ≤ con.first + last_arrival)
+  this_con : (q : List Hop) (bytes : List ℕ) (id when : ℕ) → P q → BegunAs far bytes id when (near_of q) → id ≡ con.id
+      → when ≤ x.at → x.at ≤ when + max_latency → (con.first ≤ when) × (when ≤ con.first + last_arrival)
   this_con q bytes id when p b is before after =
       let there = lift q p (IsBegun b.con) b.begun in
-      let first : b.con.first ≤ con.first = alone one (near_of whole) con b.con near_law open_is there (to_is ∙ sym b.to_is) in
+      let first : b.con.first ≤ con.first = alone one (near_of whole) con b.con near_law open_is there
+      (to_is ∙ sym b.to_is) in
       let f = b.from in
       let t = b.till in
-      let same : b.con ≡ as_begun con = one_con one (near_of whole) b.con (as_begun con) near_law there begun (b.id_is ∙ is) (omega (arith, first)) (omega (arith, late, t, after)) in
+      let same : b.con ≡ as_begun con = one_con one (near_of whole) b.con (as_begun con) near_law there begun
+      (b.id_is ∙ is) (omega (arith, first)) (omega (arith, late, t, after)) in
       let i : b.con.first ≡ con.first = ap (λ (y : Open). y.first) same in
       (omega (arith, i, f), omega (arith, i, t))
 
   as_con : (e : Entry) → Takes near (as_begun con) e → Takes near con e
   as_con e t = record { call = t.call; up = t.up; from = t.from; till = t.till }
 
-  module _ (m : Message) (ack : m.kind ≡ Ack) (id_is : m.id ≡ con.id) (bytes : List ℕ) (are : AreBytes bytes) (spells : Spells bytes m) where
+  module _ (m : Message) (ack : m.kind ≡ Ack) (id_is : m.id ≡ con.id) (bytes : List ℕ) (are : AreBytes bytes)
+      (spells : Spells bytes m) where
     abbrev R : List Hop → Hop → Type 0
     R = OnFarThen (RepliesTo near con bytes)
 
     -- what was handed up last is this CON
-    last_is : (at : ℕ) (up : Incoming) → up.from ≡ near → up.message.id ≡ con.id → con.first ≤ at + (id_reuse_after - last_arrival) → at ≤ con.first + id_reuse_after → (q : List Hop) → P q → IsLatest (far_of q) at up
+    last_is : (at : ℕ) (up : Incoming) → up.from ≡ near → up.message.id ≡ con.id
+        → con.first ≤ at + (id_reuse_after - last_arrival) → at ≤ con.first + id_reuse_after → (q : List Hop) → P q
+        → IsLatest (far_of q) at up
         → Since (λ y. Takes near con y × (y.at ≡ at)) (λ y. handed y ≡ None) (far_of q)
     last_is at up place id before after [] p h = absurd h
     last_is at up place id before after (Near e ∷ q) p h = last_is at up place id before after q (down q (Near e) p) h
     last_is at up place id before after (Far y ∷ q) p (inl z) =
         let k = z.1 in
-        inl (as_con y (takes_it one other near far whole q y (as_begun con) near_law p.law (lift q (down q (Far y) p)) begun up z.0 place id (omega (arith, k, after)) (omega (arith, k, before))), z.1)
-    last_is at up place id before after (Far y ∷ q) p (inr z) = inr (z.0, last_is at up place id before after q (down q (Far y) p) z.1)
+        inl (
+          as_con y (takes_it one other near far whole q y (as_begun con) near_law p.law
+              (lift q (down q (Far y) p)) begun up z.0 place id (omega (arith, k, after)) (omega (arith, k, before))),
+          z.1,
+        )
+    last_is at up place id before after (Far y ∷ q) p (inr z) =
+        inr (z.0, last_is at up place id before after q (down q (Far y) p) z.1)
 
     -- a reply that is given under the CON's Message ID, less than 400 s from its first sending
     record Replied (q : List Hop) (k : Entry) (id : ℕ) : Type 0 where
@@ -106,7 +132,9 @@ module _ (one other : ℕ) (near far : Endpoint) (whole : List Hop) (x : Entry) 
       pub of : IsOf at_once.to_what (record { from = near; id = id })
       pub con_there : at_once.to_what.message.kind ≡ Con
 
-    replied : (q : List Hop) (k : Entry) (id : ℕ) → k.call ≡ Reply near id bytes → awaits (far_of q) ≡ Some (record { from = near; id = id }) → (a : RepliesAtOnce (far_of q) k.at id bytes) → Replied q k id
+    replied : (q : List Hop) (k : Entry) (id : ℕ) → k.call ≡ Reply near id bytes
+        → awaits (far_of q) ≡ Some (record { from = near; id = id }) → (a : RepliesAtOnce (far_of q) k.at id bytes)
+        → Replied q k id
     replied q k id call awaited a =
         let same : a.reply ≡ m = one_message bytes a.reply m are a.spells spells in
         record {
@@ -115,18 +143,22 @@ module _ (one other : ℕ) (near far : Endpoint) (whole : List Hop) (x : Entry) 
           at_once = a;
           id_there = sym a.id_is ∙ (ap (λ (z : Message). z.id) same ∙ id_is);
           of = latest_is (far_of q) k.at a.to_what _ awaited a.latest;
-          con_there = ⊎_elim (λ c. let kind = ap (λ (z : Message). z.kind) same in absurd (cc (c, kind, ack))) (λ c. c.1) a.kind;
+          con_there = ⊎_elim (λ c. let kind = ap (λ (z : Message). z.kind) same in absurd (cc (c, kind, ack)))
+              (λ c. c.1) a.kind;
         }
 
-    replies_to : (q : List Hop) (k : Entry) (id : ℕ) → P (Far k ∷ q) → Replied q k id → con.first ≤ k.at + (id_reuse_after - last_arrival) → k.at ≤ con.first + id_reuse_after → R q (Far k)
+    replies_to : (q : List Hop) (k : Entry) (id : ℕ) → P (Far k ∷ q) → Replied q k id
+        → con.first ≤ k.at + (id_reuse_after - last_arrival) → k.at ≤ con.first + id_reuse_after → R q (Far k)
     replies_to q k id p r before after =
         record {
           call = r.call ∙ ap (λ (i : ℕ). Reply near i bytes) r.id_there;
-          to_it = last_is k.at r.at_once.to_what r.of.from_is (r.of.id_is ∙ r.id_there) before after q (down q (Far k) p) r.at_once.latest;
+          to_it = last_is k.at r.at_once.to_what r.of.from_is (r.of.id_is ∙ r.id_there) before after q
+              (down q (Far k) p) r.at_once.latest;
         }
 
     -- when it is given, for the first time
-    window : (q : List Hop) (k : Entry) (id : ℕ) → P (Far k ∷ q) → k.at ≤ x.at → x.at ≤ k.at + max_latency → Replied q k id → (con.first ≤ k.at) × (k.at ≤ con.first + last_arrival)
+    window : (q : List Hop) (k : Entry) (id : ℕ) → P (Far k ∷ q) → k.at ≤ x.at → x.at ≤ k.at + max_latency
+        → Replied q k id → (con.first ≤ k.at) × (k.at ≤ con.first + last_arrival)
     window q k id p before after r =
         forget W q (Ever_of_Sometime _ (λ h. W) (λ t h z. inl z) q
         (by_suffix P (λ t h. OnFar Up h) (λ t h. W) down at_place q (down q (Far k) p)
@@ -148,12 +180,14 @@ module _ (one other : ℕ) (near far : Endpoint) (whole : List Hop) (x : Entry) 
             let call = u.call ∙ ap (λ (f : Endpoint). Receive f u.bytes) r.of.from_is in
             let b = begun_as one other near far t y u.bytes up.message w.law call u.spells r.con_there in
             let at = z.1 in
-            let c = this_con t u.bytes up.message.id y.at (down t (Far y) w) b (r.of.id_is ∙ r.id_there) (omega (arith, at, before)) (omega (arith, at, after)) in
+            let c = this_con t u.bytes up.message.id y.at (down t (Far y) w) b (r.of.id_is ∙ r.id_there)
+            (omega (arith, at, before)) (omega (arith, at, after)) in
             let f = c.0 in
             let l = c.1 in
             (omega (arith, at, f), omega (arith, at, l))
 
-    given : (q : List Hop) (k : Entry) → P (Far k ∷ q) → k.at ≤ x.at → x.at ≤ k.at + max_latency → (r : ReplyOut (far_of q) k (record { to = near; bytes = bytes })) → R q (Far k)
+    given : (q : List Hop) (k : Entry) → P (Far k ∷ q) → k.at ≤ x.at → x.at ≤ k.at + max_latency
+        → (r : ReplyOut (far_of q) k (record { to = near; bytes = bytes })) → R q (Far k)
     given q k p before after r =
         let is : Replied q k r.id = replied q k r.id r.call r.awaited (p.law.far_replies.0 near r.id bytes r.call) in
         let w = window q k r.id p before after is in
@@ -162,16 +196,19 @@ module _ (one other : ℕ) (near far : Endpoint) (whole : List Hop) (x : Entry) 
         replies_to q k r.id p is (omega (arith, f)) (omega (arith, l))
 
     -- a stored reply
-    stored_again : (q : List Hop) (k : Entry) → P (Far k ∷ q) → k.at ≤ x.at → x.at ≤ k.at + max_latency → (r : StoredOut (far_of q) k (record { to = near; bytes = bytes })) → r.message.id ≡ m.id → Sometime R q
+    stored_again : (q : List Hop) (k : Entry) → P (Far k ∷ q) → k.at ≤ x.at → x.at ≤ k.at + max_latency
+        → (r : StoredOut (far_of q) k (record { to = near; bytes = bytes })) → r.message.id ≡ m.id → Sometime R q
     stored_again q k p before after r is =
         by_suffix P (λ t h. OnFar Gives h) R down at_place q (down q (Far k) p)
-        (Sometime_of_Ever _ q (to_far _ q (by_clock other _ (far_of q) k.at p.law.far_law.1 p.law.far_law.0.time (since_young other k.at near r.message.id _ (far_of q) p.law.far_law.1 r.given r.old))))
+        (Sometime_of_Ever _ q (to_far _ q (by_clock other _ (far_of q) k.at p.law.far_law.1 p.law.far_law.0.time
+        (since_young other k.at near r.message.id _ (far_of q) p.law.far_law.1 r.given r.old))))
       where
         Gives : Entry → Type 0
         Gives b = ((reply_in near r.message.id b.call ≡ Some bytes) × (k.at ≤ b.at + exchange_lifetime)) × (b.at ≤ k.at)
 
         here : (con.first ≤ k.at) × (k.at ≤ con.first + last_arrival)
-        here = this_con q r.bytes r.message.id k.at (down q (Far k) p) (begun_as one other near far q k r.bytes r.message p.law r.call r.spells r.kind) (is ∙ id_is) before after
+        here = this_con q r.bytes r.message.id k.at (down q (Far k) p)
+            (begun_as one other near far q k r.bytes r.message p.law r.call r.spells r.kind) (is ∙ id_is) before after
 
         at_place : (t : List Hop) (h : Hop) → P (h ∷ t) → OnFar Gives h → R t h
         at_place t (Near b) w z = absurd z
@@ -182,11 +219,13 @@ module _ (one other : ℕ) (near far : Endpoint) (whole : List Hop) (x : Entry) 
             let at = z.1 in
             let f = here.0 in
             let l = here.1 in
-            replies_to t b r.message.id w (replied t b r.message.id call row.0 (w.law.far_replies.0 near r.message.id bytes call)) (omega (arith, young, f)) (omega (arith, at, l))
+            replies_to t b r.message.id w (replied t b r.message.id call row.0
+            (w.law.far_replies.0 near r.message.id bytes call)) (omega (arith, young, f)) (omega (arith, at, l))
 
     gave : (q : List Hop) (h : Hop) → P (h ∷ q) → OnFar (GaveOut near bytes x.at) h → Sometime R (h ∷ q)
     gave q (Near k) p g = absurd g
-    gave q (Far k) p g = go (comes other (far_of q) k packet m p.law.far_law p.law.far_replies are spells (goes_out other (far_of q) k packet p.law.far_law g.out))
+    gave q (Far k) p g = go (comes other (far_of q) k packet m p.law.far_law p.law.far_replies are spells
+        (goes_out other (far_of q) k packet p.law.far_law g.out))
       where
         packet : Packet
         packet = record { to = near; bytes = bytes }
@@ -200,24 +239,35 @@ module _ (one other : ℕ) (near far : Endpoint) (whole : List Hop) (x : Entry) 
 
   ack_replied : (h : HearsAck con (near_of whole) x) → Sometime (OnFarThen (RepliesTo near con h.bytes)) whole
   ack_replied h =
-      let r : Heard h.bytes con.id = heard one (near_of whole) x con.to h.bytes con.id all_law.near_law.0 h.call h.answer in
-      Sometime_of_Sometime (λ q k. Sometime (OnFarThen (RepliesTo near con h.bytes)) (k ∷ q)) (OnFarThen (RepliesTo near con h.bytes)) (λ q k z. z) whole
-      (by_suffix P (λ q k. OnFar (GaveOut near h.bytes x.at) k) (λ q k. Sometime (OnFarThen (RepliesTo near con h.bytes)) (k ∷ q)) down (gave r.message r.kind r.id_is h.bytes r.are r.spells) whole
+      let r : Heard h.bytes con.id = heard one (near_of whole) x con.to h.bytes con.id all_law.near_law.0 h.call
+      h.answer in
+      Sometime_of_Sometime (λ q k. Sometime (OnFarThen (RepliesTo near con h.bytes)) (k ∷ q))
+      (OnFarThen (RepliesTo near con h.bytes)) (λ q k z. z) whole
+      (by_suffix P (λ q k. OnFar (GaveOut near h.bytes x.at) k)
+      (λ q k. Sometime (OnFarThen (RepliesTo near con h.bytes)) (k ∷ q)) down
+      (gave r.message r.kind r.id_is h.bytes r.are r.spells) whole
       (record { law = earlier one other near far whole (Near x) all_law; later = []; is = refl })
       (Sometime_of_Ever _ whole (all_law.fair.0 h.bytes (h.call ∙ ap (λ (f : Endpoint). Receive f h.bytes) to_is))))
 
-pub acks_replied : (one other : ℕ) (near far : Endpoint) (all : List Hop) → ChannelLaw one other near far all → AcksReplied near far all
+pub acks_replied : (one other : ℕ) (near far : Endpoint) (all : List Hop) → ChannelLaw one other near far all
+    → AcksReplied near far all
 acks_replied one other near far all law =
-    each_hop one other near far _ (λ past h l x con is to_is k. ack_replied one other near far past x con (subst (λ (y : Hop). ChannelLaw one other near far (y ∷ past)) is l) to_is k.is_outstanding k) all law
+    each_hop one other near far _ (λ past h l x con is to_is k. ack_replied one other near far past x con
+    (subst (λ (y : Hop). ChannelLaw one other near far (y ∷ past)) is l) to_is k.is_outstanding k) all law
 
 -- what a reply was given to was taken
-replied_taken : (near : Endpoint) (con : Open) (bytes : List ℕ) (past : List Hop) (h : Hop) → OnFarThen (RepliesTo near con bytes) past h → Ever (OnFar (Takes near con)) (h ∷ past)
+replied_taken : (near : Endpoint) (con : Open) (bytes : List ℕ) (past : List Hop) (h : Hop)
+    → OnFarThen (RepliesTo near con bytes) past h → Ever (OnFar (Takes near con)) (h ∷ past)
 replied_taken near con bytes past (Near k) r = absurd r
-replied_taken near con bytes past (Far k) r = inr (to_far _ past (Ever_map _ _ (λ y z. z.0) (far_of past) (Ever_of_Since _ _ (far_of past) r.to_it)))
+replied_taken near con bytes past (Far k) r =
+    inr (to_far _ past (Ever_map _ _ (λ y z. z.0) (far_of past) (Ever_of_Since _ _ (far_of past) r.to_it)))
 
-pub acks_taken : (one other : ℕ) (near far : Endpoint) (all : List Hop) → ChannelLaw one other near far all → AcksTaken near far all
+pub acks_taken : (one other : ℕ) (near far : Endpoint) (all : List Hop) → ChannelLaw one other near far all
+    → AcksTaken near far all
 acks_taken one other near far all law =
     each_hop one other near far _
     (λ past h l x con is to_is k.
-    Ever_of_Sometime (OnFarThen (RepliesTo near con k.bytes)) (OnFar (Takes near con)) (replied_taken near con k.bytes) past
-    (ack_replied one other near far past x con (subst (λ (y : Hop). ChannelLaw one other near far (y ∷ past)) is l) to_is k.is_outstanding k)) all law
+    Ever_of_Sometime (OnFarThen (RepliesTo near con k.bytes)) (OnFar (Takes near con))
+    (replied_taken near con k.bytes) past
+    (ack_replied one other near far past x con (subst (λ (y : Hop). ChannelLaw one other near far (y ∷ past)) is l)
+    to_is k.is_outstanding k)) all law

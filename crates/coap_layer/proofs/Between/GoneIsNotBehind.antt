@@ -26,14 +26,17 @@ use Rattle.coap_types.specs.declared.transmission.TheConstants.{MAX_LATENCY_MS a
 
 -- of two things that happened, each seen with its past, one was first, or they are one
 first_of : {E : Type 0} (A B : List E → E → Type 0) (t : List E) → Sometime A t → Sometime B t
-    → Sometime (λ p e. A p e × B p e) t ⊎ (Sometime (λ p e. B p e × Sometime A p) t ⊎ Sometime (λ p e. A p e × Sometime B p) t)
+    → Sometime (λ p e. A p e × B p e) t ⊎ (Sometime (λ p e. B p e × Sometime A p) t
+    ⊎ Sometime (λ p e. A p e × Sometime B p) t)
 first_of A B [] a b = absurd a
 first_of A B (e ∷ t) (inl a) (inl b) = inl (inl (a, b))
 first_of A B (e ∷ t) (inl a) (inr b) = inr (inr (inl (a, b)))
 first_of A B (e ∷ t) (inr a) (inl b) = inr (inl (inl (b, a)))
-first_of A B (e ∷ t) (inr a) (inr b) = ⊎_elim (λ x. inl (inr x)) (λ y. ⊎_elim (λ x. inr (inl (inr x))) (λ x. inr (inr (inr x))) y) (first_of A B t a b)
+first_of A B (e ∷ t) (inr a) (inr b) = ⊎_elim (λ x. inl (inr x))
+    (λ y. ⊎_elim (λ x. inr (inl (inr x))) (λ x. inr (inr (inr x))) y) (first_of A B t a b)
 
-nowhere : {E : Type 0} (L : List E → Type 0) (P : List E → E → Type 0) → ((p : List E) (e : E) → L (e ∷ p) → L p) → ((p : List E) (e : E) → L (e ∷ p) → P p e → ⊥) → (t : List E) → L t → Sometime P t → ⊥
+nowhere : {E : Type 0} (L : List E → Type 0) (P : List E → E → Type 0) → ((p : List E) (e : E) → L (e ∷ p) → L p)
+    → ((p : List E) (e : E) → L (e ∷ p) → P p e → ⊥) → (t : List E) → L t → Sometime P t → ⊥
 nowhere L P down f [] law h = h
 nowhere L P down f (e ∷ p) law (inl h) = f p e law h
 nowhere L P down f (e ∷ p) law (inr h) = nowhere L P down f p (down p e law) h
@@ -46,9 +49,12 @@ first_begun : (old new : Open) (t : List Entry) → Sometime (Order old new) t �
 first_begun old new t h = Ever_of_Sometime (Order old new) (IsBegun old) (λ p e z. inr z.1) t h
 
 -- where another CON to its place was begun since, it isn't outstanding
-not_open : (word : ℕ) (old new : Open) (t : List Entry) → old.to ≡ new.to → LayerLaw word t → Sometime (Order old new) t → IsOpen t old → ⊥
+not_open : (word : ℕ) (old new : Open) (t : List Entry) → old.to ≡ new.to → LayerLaw word t → Sometime (Order old new) t
+    → IsOpen t old → ⊥
 not_open word old new [] to law h o = h
-not_open word old new (e ∷ past) to law h o = ⊎_elim (before h (λ k i. not_open word old new past to law.1 k i)) now (Ever_append (λ y. as_begun y ≡ old) (filter_map (left_by e) (outstanding past)) (option_to_list (begun e)) o)
+not_open word old new (e ∷ past) to law h o =
+    ⊎_elim (before h (λ k i. not_open word old new past to law.1 k i)) now
+    (Ever_append (λ y. as_begun y ≡ old) (filter_map (left_by e) (outstanding past)) (option_to_list (begun e)) o)
   where
     known : Sometime (Order old new) (e ∷ past) → Ever (IsBegun old) past
     known (inl k) = k.1
@@ -64,40 +70,49 @@ not_open word old new (e ∷ past) to law h o = ⊎_elim (before h (λ k i. not_
         is (Some y) s (inr z) = absurd z
         is None s z = absurd z
 
-    still : (cs : List Open) → Ever (λ y. as_begun y ≡ old) (filter_map (left_by e) cs) → Ever (λ y. as_begun y ≡ old) cs
+    still : (cs : List Open) → Ever (λ y. as_begun y ≡ old) (filter_map (left_by e) cs)
+        → Ever (λ y. as_begun y ≡ old) cs
     still [] k = absurd k
     still (c ∷ cs) k = go (left_by e c) refl k (λ z. still cs z)
       where
-        go : (l : _) → left_by e c ≡ l → Ever (λ y. as_begun y ≡ old) (cons_option l (filter_map (left_by e) cs)) → (Ever (λ y. as_begun y ≡ old) (filter_map (left_by e) cs) → Ever (λ y. as_begun y ≡ old) cs)
+        go : (l : _) → left_by e c ≡ l → Ever (λ y. as_begun y ≡ old) (cons_option l (filter_map (left_by e) cs))
+            → (Ever (λ y. as_begun y ≡ old) (filter_map (left_by e) cs) → Ever (λ y. as_begun y ≡ old) cs)
             → Ever (λ y. as_begun y ≡ old) (c ∷ cs)
         go None is z r = inr (r z)
         go (Some d) is (inl z) r = inl (left_same e c d is ∙ z)
         go (Some d) is (inr z) r = inr (r z)
 
-    before : Sometime (Order old new) (e ∷ past) → (Sometime (Order old new) past → IsOpen past old → ⊥) → Ever (λ y. as_begun y ≡ old) (filter_map (left_by e) (outstanding past)) → ⊥
+    before : Sometime (Order old new) (e ∷ past) → (Sometime (Order old new) past → IsOpen past old → ⊥)
+        → Ever (λ y. as_begun y ≡ old) (filter_map (left_by e) (outstanding past)) → ⊥
     before (inl k) f z =
         (one_outstanding word (e ∷ past) law).0 new k.0
-        (Ever_map _ _ (λ (y : Open) w. place_same y.to new.to (ap (λ (c : Open). c.to) w ∙ to)) (outstanding past) (still (outstanding past) z))
+        (Ever_map _ _ (λ (y : Open) w. place_same y.to new.to (ap (λ (c : Open). c.to) w ∙ to)) (outstanding past)
+        (still (outstanding past) z))
     before (inr k) f z = f k (still (outstanding past) z)
 
 -- so it isn't sent any more, and not by that entry
-not_sent : (word : ℕ) (old new : Open) (past : List Entry) (e : Entry) → old.to ≡ new.to → LayerLaw word (e ∷ past) → Sometime (Order old new) past → SendsIt old past e → ⊥
+not_sent : (word : ℕ) (old new : Open) (past : List Entry) (e : Entry) → old.to ≡ new.to → LayerLaw word (e ∷ past)
+    → Sometime (Order old new) past → SendsIt old past e → ⊥
 not_sent word old new past e to law h (inl b) = begun_once word past e old law b (first_begun old new past h)
 not_sent word old new past e to law h (inr o) = not_open word old new past to law.1 h o.0
 
-not_both : (word : ℕ) (old new : Open) (past : List Entry) (e : Entry) → LayerLaw word (e ∷ past) → Order old new past e → SendsIt old past e → ⊥
+not_both : (word : ℕ) (old new : Open) (past : List Entry) (e : Entry) → LayerLaw word (e ∷ past) → Order old new past e
+    → SendsIt old past e → ⊥
 not_both word old new past e law k (inl b) = begun_once word past e old law b k.1
-not_both word old new past e law k (inr o) = let c = copied_by e.call e.answer old.to old.id o.1 in let s = (begins_of e new k.0).answer_is in cc (c, s)
+not_both word old new past e law k (inr o) = let c = copied_by e.call e.answer old.to old.id o.1 in let s =
+    (begins_of e new k.0).answer_is in cc (c, s)
 
 -- a sending of it, at most 100,000 ms before
 abbrev SentBy : Open → ℕ → List Entry → Entry → Type 0
 SentBy con when p e = SendsIt con p e × (when ≤ e.at + max_latency)
 
 -- no entry is later than the clock
-late_by : (word : ℕ) (P : Entry → Type 0) (at : ℕ) → ((e : Entry) → P e → at ≤ e.at) → (t : List Entry) (now : ℕ) → LayerLaw word t → clock t ≤ now → Ever P t → at ≤ now
+late_by : (word : ℕ) (P : Entry → Type 0) (at : ℕ) → ((e : Entry) → P e → at ≤ e.at) → (t : List Entry) (now : ℕ)
+    → LayerLaw word t → clock t ≤ now → Ever P t → at ≤ now
 late_by word P at f [] now law le h = absurd h
 late_by word P at f (e ∷ past) now law le (inl h) = let k = f e h in omega (arith, k, le)
-late_by word P at f (e ∷ past) now law le (inr h) = late_by word P at f past now law.1 (let l = law.0.time in omega (arith, l, le)) h
+late_by word P at f (e ∷ past) now law le (inr h) =
+    late_by word P at f past now law.1 (let l = law.0.time in omega (arith, l, le)) h
 
 module _ (one other : ℕ) (near far : Endpoint) (old new : Open) where
   -- the part of the near trace, in the whole of it
@@ -107,12 +122,19 @@ module _ (one other : ℕ) (near far : Endpoint) (old new : Open) where
     pub begun_there : (c : Open) → Ever (IsBegun c) t → Ever (IsBegun c) whole
 
   part_back : (whole past : List Entry) (e : Entry) → Part whole (e ∷ past) → Part whole past
-  part_back whole past e p = record { law = p.law.1; replies = p.replies.1; begun_there = λ c k. p.begun_there c (inr k) }
+  part_back whole past e p = record {
+    law = p.law.1;
+    replies = p.replies.1;
+    begun_there = λ c k. p.begun_there c (inr k);
+  }
 
   -- what arrives as this CON is a sending of it, at most 100,000 ms before
-  sent_by : (past : List Hop) (x : Entry) → ChannelLaw one other near far (Far x ∷ past) → Ever (IsBegun old) (near_of past) → Takes near old x → Sometime (SentBy old x.at) (near_of past)
+  sent_by : (past : List Hop) (x : Entry) → ChannelLaw one other near far (Far x ∷ past)
+      → Ever (IsBegun old) (near_of past) → Takes near old x → Sometime (SentBy old x.at) (near_of past)
   sent_by past x law begun_old t =
-      by_suffix (Part whole) (SentSo far old.bytes x.at) (SentBy old x.at) (part_back whole) here whole (record { law = law.near_law; replies = law.near_replies; begun_there = λ c k. k }) (sent_so one other near far past x old.bytes law t.call)
+      by_suffix (Part whole) (SentSo far old.bytes x.at) (SentBy old x.at) (part_back whole) here whole
+      (record { law = law.near_law; replies = law.near_replies; begun_there = λ c k. k })
+      (sent_so one other near far past x old.bytes law t.call)
     where
       whole : List Entry
       whole = near_of past
@@ -135,7 +157,9 @@ module _ (one other : ℕ) (near far : Endpoint) (old new : Open) where
           go : Comes p e packet spelled.0 → SentBy old x.at p e
           go (a_con k c) =
               let there = w.begun_there c.con c.begun in
-              let same : c.con ≡ old = one_con one whole c.con old law.near_law there begun_old (c.id_is ∙ spelled.3) (omega (arith, c.from, c.till, s.from, s.till, t.from, t.till)) (omega (arith, c.from, c.till, s.from, s.till, t.from, t.till)) in
+              let same : c.con ≡ old = one_con one whole c.con old law.near_law there begun_old (c.id_is ∙ spelled.3)
+              (omega (arith, c.from, c.till, s.from, s.till, t.from, t.till))
+              (omega (arith, c.from, c.till, s.from, s.till, t.from, t.till)) in
               (subst (λ (y : Open). SendsIt y p e) same c.sends, s.till)
           go (a_non k r c) = absurd (cc (k, con))
           go (a_reply (inl k) r a is) = absurd (cc (k, con))
@@ -148,15 +172,18 @@ module _ (one other : ℕ) (near far : Endpoint) (old new : Open) where
   abbrev Late : List Entry → Entry → Type 0
   Late p e = Order old new p e × Always (λ t b. SendsIt old t b → b.at + max_latency < e.at) p
 
-  taken_or_late : (past : List Hop) → Sometime (OnNearAfter (Follows near old new)) past → Ever (OnFar (Takes near old)) past ⊎ Sometime Late (near_of past)
+  taken_or_late : (past : List Hop) → Sometime (OnNearAfter (Follows near old new)) past
+      → Ever (OnFar (Takes near old)) past ⊎ Sometime Late (near_of past)
   taken_or_late [] h = absurd h
-  taken_or_late (Near e ∷ past) (inl h) = ⊎_elim (λ k. inl (inr k)) (λ k. inr (inl ((h.begins, h.begun_before), k))) h.gone
+  taken_or_late (Near e ∷ past) (inl h) = ⊎_elim (λ k. inl (inr k))
+      (λ k. inr (inl ((h.begins, h.begun_before), k))) h.gone
   taken_or_late (Near e ∷ past) (inr h) = ⊎_elim (λ k. inl (inr k)) (λ k. inr (inr k)) (taken_or_late past h)
   taken_or_late (Far e ∷ past) (inl h) = absurd h
   taken_or_late (Far e ∷ past) (inr h) = ⊎_elim (λ k. inl (inr k)) (λ k. inr k) (taken_or_late past h)
 
   same_place_is : (past : List Hop) → Sometime (OnNearAfter (Follows near old new)) past → old.to ≡ new.to
-  same_place_is past h = forget (old.to ≡ new.to) past (Ever_of_Sometime (OnNearAfter (Follows near old new)) (λ x. old.to ≡ new.to) to_here past h)
+  same_place_is past h = forget (old.to ≡ new.to) past
+      (Ever_of_Sometime (OnNearAfter (Follows near old new)) (λ x. old.to ≡ new.to) to_here past h)
     where
       to_here : (p : List Hop) (x : Hop) → OnNearAfter (Follows near old new) p x → Ever (λ y. old.to ≡ new.to) (x ∷ p)
       to_here p (Near e) k = inl k.to_is
@@ -169,29 +196,37 @@ module _ (one other : ℕ) (near far : Endpoint) (old new : Open) where
   old_begun (Far e ∷ past) (inl h) = absurd h
   old_begun (Far e ∷ past) (inr h) = old_begun past h
 
-  never_sent : (past : List Entry) (when : ℕ) → old.to ≡ new.to → new.first ≤ when → LayerLaw one past → Sometime (SentBy old when) past → Sometime Late past → ⊥
-  never_sent past when to since law sent late = ⊎_elim both (λ k. ⊎_elim sent_before sent_after k) (first_of (SentBy old when) Late past sent late)
+  never_sent : (past : List Entry) (when : ℕ) → old.to ≡ new.to → new.first ≤ when → LayerLaw one past
+      → Sometime (SentBy old when) past → Sometime Late past → ⊥
+  never_sent past when to since law sent late =
+      ⊎_elim both (λ k. ⊎_elim sent_before sent_after k) (first_of (SentBy old when) Late past sent late)
     where
       down : (p : List Entry) (e : Entry) → LayerLaw one (e ∷ p) → LayerLaw one p
       down p e l = l.1
 
       both : Sometime (λ p e. SentBy old when p e × Late p e) past → ⊥
-      both = nowhere (LayerLaw one) (λ p e. SentBy old when p e × Late p e) down (λ p e l k. not_both one old new p e l k.1.0 k.0.0) past law
+      both = nowhere (LayerLaw one) (λ p e. SentBy old when p e × Late p e) down
+          (λ p e l k. not_both one old new p e l k.1.0 k.0.0) past law
 
       sent_after : Sometime (λ p e. SentBy old when p e × Sometime Late p) past → ⊥
       sent_after = nowhere (LayerLaw one) (λ p e. SentBy old when p e × Sometime Late p) down
-          (λ p e l k. not_sent one old new p e to l (Sometime_map Late (Order old new) (λ q b z. z.0) p k.1) k.0.0) past law
+          (λ p e l k. not_sent one old new p e to l (Sometime_map Late (Order old new) (λ q b z. z.0) p k.1) k.0.0) past
+          law
 
-      too_old : (e : Entry) (p : List Entry) → e.at ≤ when → Always (λ t b. SendsIt old t b → b.at + max_latency < e.at) p → Sometime (SentBy old when) p → ⊥
+      too_old : (e : Entry) (p : List Entry) → e.at ≤ when
+          → Always (λ t b. SendsIt old t b → b.at + max_latency < e.at) p → Sometime (SentBy old when) p → ⊥
       too_old e [] le all k = k
       too_old e (b ∷ p) le all (inl k) = let a = all.0 k.0 in let c = k.1 in omega (arith, a, c, le)
       too_old e (b ∷ p) le all (inr k) = too_old e p le all.1 k
 
       sent_before : Sometime (λ p e. Late p e × Sometime (SentBy old when) p) past → ⊥
       sent_before = nowhere (LayerLaw one) (λ p e. Late p e × Sometime (SentBy old when) p) down
-          (λ p e l k. let f = (begins_of e new k.0.0.0).first_is in too_old e p (omega (arith, f, since)) k.0.1 k.1) past law
+          (λ p e l k. let f = (begins_of e new k.0.0.0).first_is in too_old e p (omega (arith, f, since)) k.0.1 k.1)
+          past law
 
-  apart_here : (past : List Hop) (h : Hop) → ChannelLaw one other near far (h ∷ past) → Sometime (OnNearAfter (Follows near old new)) past → Ever (OnFar (HandsUpAs near new)) past → OnFar (HandsUpAs near old) h → ⊥
+  apart_here : (past : List Hop) (h : Hop) → ChannelLaw one other near far (h ∷ past)
+      → Sometime (OnNearAfter (Follows near old new)) past → Ever (OnFar (HandsUpAs near new)) past
+      → OnFar (HandsUpAs near old) h → ⊥
   apart_here past (Near e) law follows up here = here
   apart_here past (Far x) law follows up here = ⊎_elim taken late (taken_or_late past follows)
     where
@@ -205,10 +240,14 @@ module _ (one other : ℕ) (near far : Endpoint) (old new : Open) where
       taken k = (taken_once one other near far (Far x ∷ past) law old).0 here k
 
       since : new.first ≤ x.at
-      since = late_by other (HandsUpAs near new) new.first (λ e k. k.from) (far_of past) x.at law.far_law.1 law.far_law.0.time (far_ever (HandsUpAs near new) past up)
+      since = late_by other (HandsUpAs near new) new.first (λ e k. k.from)
+          (far_of past) x.at law.far_law.1 law.far_law.0.time (far_ever (HandsUpAs near new) past up)
 
       late : Sometime Late (near_of past) → ⊥
-      late k = never_sent (near_of past) x.at (same_place_is past follows) since law.near_law (sent_by past x law there takes) k
+      late k = never_sent (near_of past) x.at (same_place_is past follows) since law.near_law
+          (sent_by past x law there takes) k
 
-pub cons_apart : (one other : ℕ) (near far : Endpoint) (all : List Hop) → ChannelLaw one other near far all → ConsApart near all
-cons_apart one other near far all law old new = each_hop one other near far _ (λ past h l. apart_here one other near far old new past h l) all law
+pub cons_apart : (one other : ℕ) (near far : Endpoint) (all : List Hop) → ChannelLaw one other near far all
+    → ConsApart near all
+cons_apart one other near far all law old new =
+    each_hop one other near far _ (λ past h l. apart_here one other near far old new past h l) all law

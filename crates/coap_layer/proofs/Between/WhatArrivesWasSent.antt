@@ -18,24 +18,40 @@ use Rattle.coap_layer.proofs.Numbers.OneEntryForAnId.{SendsPlain}
 
 module _ (one other : ℕ) (near far : Endpoint) where
   -- what arrives was sent by a row
-  pub sent_so : (past : List Hop) (x : Entry) (bytes : List ℕ) → ChannelLaw one other near far (Far x ∷ past) → x.call ≡ Receive near bytes → Sometime (SentSo far bytes x.at) (near_of past)
+  pub sent_so : (past : List Hop) (x : Entry) (bytes : List ℕ) → ChannelLaw one other near far (Far x ∷ past)
+      → x.call ≡ Receive near bytes → Sometime (SentSo far bytes x.at) (near_of past)
   sent_so past x bytes law call =
-      by_law (Stands one) (λ t b. GaveOut far bytes x.at b) (SentSo far bytes x.at) (λ t b l g. record { goes = goes_out one t b _ l g.out; from = g.from; till = g.till }) (near_of past) law.near_law
+      by_law (Stands one) (λ t b. GaveOut far bytes x.at b) (SentSo far bytes x.at)
+      (λ t b l g. record { goes = goes_out one t b _ l g.out; from = g.from; till = g.till })
+      (near_of past) law.near_law
       (Sometime_of_Ever _ (near_of past) (near_ever _ past (law.fair.0 bytes call)))
 
   pub arrives_as_sent : (all : List Hop) → ChannelLaw one other near far all → ArrivesAsSent near far all
-  arrives_as_sent all law = each_hop one other near far _ (λ past h l x bytes is call. sent_so past x bytes (subst (λ (y : Hop). ChannelLaw one other near far (y ∷ past)) is l) call) all law
+  arrives_as_sent all law = each_hop one other near far _
+      (λ past h l x bytes is call. sent_so past x bytes
+      (subst (λ (y : Hop). ChannelLaw one other near far (y ∷ past)) is l) call) all law
 
 -- whence a message comes, by its type
 pub data Came (to : Endpoint) (bytes : List ℕ) (m : Message) (when : ℕ) (t : List Entry) : Type 0 where
   con_came : m.kind ≡ Con → BegunAs to bytes m.id when t → Came to bytes m when t
-  non_came : m.kind ≡ Non → (at : ℕ) → Ever (SendsPlain m.id at) t → at ≤ when → when ≤ at + max_latency → Came to bytes m when t
+  non_came : m.kind ≡ Non → (at : ℕ) → Ever (SendsPlain m.id at) t → at ≤ when → when ≤ at + max_latency
+      → Came to bytes m when t
   reply_came : (m.kind ≡ Ack) ⊎ (m.kind ≡ Rst) → Came to bytes m when t
 
-begun_later : (to : Endpoint) (bytes : List ℕ) (id when : ℕ) (e : Entry) (t : List Entry) → BegunAs to bytes id when t → BegunAs to bytes id when (e ∷ t)
-begun_later to bytes id when e t b = record { con = b.con; begun = inr b.begun; to_is = b.to_is; bytes_are = b.bytes_are; id_is = b.id_is; from = b.from; till = b.till }
+begun_later : (to : Endpoint) (bytes : List ℕ) (id when : ℕ) (e : Entry) (t : List Entry) → BegunAs to bytes id when t
+    → BegunAs to bytes id when (e ∷ t)
+begun_later to bytes id when e t b = record {
+  con = b.con;
+  begun = inr b.begun;
+  to_is = b.to_is;
+  bytes_are = b.bytes_are;
+  id_is = b.id_is;
+  from = b.from;
+  till = b.till;
+}
 
-came_later : (to : Endpoint) (bytes : List ℕ) (m : Message) (when : ℕ) (e : Entry) (t : List Entry) → Came to bytes m when t → Came to bytes m when (e ∷ t)
+came_later : (to : Endpoint) (bytes : List ℕ) (m : Message) (when : ℕ) (e : Entry) (t : List Entry)
+    → Came to bytes m when t → Came to bytes m when (e ∷ t)
 came_later to bytes m when e t (con_came k b) = con_came k (begun_later to bytes m.id when e t b)
 came_later to bytes m when e t (non_came k at p from till) = non_came k at (inr p) from till
 came_later to bytes m when e t (reply_came k) = reply_came k
@@ -44,7 +60,8 @@ record Lawful (word : ℕ) (t : List Entry) : Type 0 where
   pub law : LayerLaw word t
   pub replies : Always RepliesSo t
 
-came_here : (word : ℕ) (t : List Entry) (b : Entry) (to : Endpoint) (bytes : List ℕ) (m : Message) (when : ℕ) → Lawful word (b ∷ t) → AreBytes bytes → Spells bytes m → SentSo to bytes when t b → Came to bytes m when (b ∷ t)
+came_here : (word : ℕ) (t : List Entry) (b : Entry) (to : Endpoint) (bytes : List ℕ) (m : Message) (when : ℕ)
+    → Lawful word (b ∷ t) → AreBytes bytes → Spells bytes m → SentSo to bytes when t b → Came to bytes m when (b ∷ t)
 came_here word t b to bytes m when l are spells s = go (comes word t b p m l.law l.replies are spells s.goes)
   where
     p : Packet
@@ -67,17 +84,25 @@ came_here word t b to bytes m when l are spells s = go (comes word t b p m l.law
     go (a_reset k) = reply_came (inr k)
 
 module _ (one other : ℕ) (near far : Endpoint) where
-  pub came : (past : List Hop) (x : Entry) (bytes : List ℕ) (m : Message) → ChannelLaw one other near far (Far x ∷ past) → x.call ≡ Receive near bytes → AreBytes bytes → Spells bytes m → Came far bytes m x.at (near_of past)
+  pub came : (past : List Hop) (x : Entry) (bytes : List ℕ) (m : Message) → ChannelLaw one other near far (Far x ∷ past)
+      → x.call ≡ Receive near bytes → AreBytes bytes → Spells bytes m → Came far bytes m x.at (near_of past)
   came past x bytes m law call are spells =
-      found (λ t b. Came far bytes m x.at (b ∷ t)) (Came far bytes m x.at) (λ b t z. came_later far bytes m x.at b t z) (λ t b z. z) (near_of past)
-      (by_suffix (Lawful one) (SentSo far bytes x.at) (λ t b. Came far bytes m x.at (b ∷ t)) (λ t b l. record { law = l.law.1; replies = l.replies.1 }) (λ t b l s. came_here one t b far bytes m x.at l are spells s) (near_of past)
+      found (λ t b. Came far bytes m x.at (b ∷ t)) (Came far bytes m x.at) (λ b t z. came_later far bytes m x.at b t z)
+      (λ t b z. z) (near_of past)
+      (by_suffix (Lawful one) (SentSo far bytes x.at) (λ t b. Came far bytes m x.at (b ∷ t))
+      (λ t b l. record { law = l.law.1; replies = l.replies.1 })
+      (λ t b l s. came_here one t b far bytes m x.at l are spells s) (near_of past)
       (record { law = law.near_law; replies = law.near_replies }) (sent_so one other near far past x bytes law call))
 
-  pub are_bytes : (word : ℕ) (past : List Entry) (x : Entry) (from : Endpoint) (bytes : List ℕ) → Stands word past x → x.call ≡ Receive from bytes → AreBytes bytes
+  pub are_bytes : (word : ℕ) (past : List Entry) (x : Entry) (from : Endpoint) (bytes : List ℕ) → Stands word past x
+      → x.call ≡ Receive from bytes → AreBytes bytes
   are_bytes word past x from bytes here call = (subst (Row word past x) call here.row).0
 
-  pub begun_as : (past : List Hop) (x : Entry) (bytes : List ℕ) (m : Message) → ChannelLaw one other near far (Far x ∷ past) → x.call ≡ Receive near bytes → Spells bytes m → m.kind ≡ Con → BegunAs far bytes m.id x.at (near_of past)
-  begun_as past x bytes m law call spells con = go (came past x bytes m law call (are_bytes other (far_of past) x near bytes law.far_law.0 call) spells)
+  pub begun_as : (past : List Hop) (x : Entry) (bytes : List ℕ) (m : Message)
+      → ChannelLaw one other near far (Far x ∷ past) → x.call ≡ Receive near bytes → Spells bytes m → m.kind ≡ Con
+      → BegunAs far bytes m.id x.at (near_of past)
+  begun_as past x bytes m law call spells con =
+      go (came past x bytes m law call (are_bytes other (far_of past) x near bytes law.far_law.0 call) spells)
     where
       go : Came far bytes m x.at (near_of past) → BegunAs far bytes m.id x.at (near_of past)
       go (con_came k b) = b
@@ -86,9 +111,13 @@ module _ (one other : ℕ) (near far : Endpoint) where
       go (reply_came (inr k)) = absurd (cc (k, con))
 
   pub cons_begun : (all : List Hop) → ChannelLaw one other near far all → ConsBegun near far all
-  cons_begun all law = each_hop one other near far _ (λ past h l x bytes m is call spells con. begun_as past x bytes m (subst (λ (y : Hop). ChannelLaw one other near far (y ∷ past)) is l) call spells con) all law
+  cons_begun all law = each_hop one other near far _
+      (λ past h l x bytes m is call spells con. begun_as past x bytes m
+      (subst (λ (y : Hop). ChannelLaw one other near far (y ∷ past)) is l) call spells con) all law
 
-plain_here : (word : ℕ) (t : List Entry) (b : Entry) (to : Endpoint) (bytes : List ℕ) (m : Message) (when : ℕ) → Lawful word (b ∷ t) → AreBytes bytes → Spells bytes m → m.kind ≡ Non → SentSo to bytes when t b → PlainSent to bytes when b
+plain_here : (word : ℕ) (t : List Entry) (b : Entry) (to : Endpoint) (bytes : List ℕ) (m : Message) (when : ℕ)
+    → Lawful word (b ∷ t) → AreBytes bytes → Spells bytes m → m.kind ≡ Non → SentSo to bytes when t b
+    → PlainSent to bytes when b
 plain_here word t b to bytes m when l are spells non s = go (comes word t b p m l.law l.replies are spells s.goes)
   where
     p : Packet
@@ -104,12 +133,19 @@ plain_here word t b to bytes m when l are spells non s = go (comes word t b p m 
     go (a_reset k) = absurd (cc (k, non))
 
 module _ (one other : ℕ) (near far : Endpoint) where
-  plain_sent : (past : List Hop) (x : Entry) (bytes : List ℕ) (m : Message) → ChannelLaw one other near far (Far x ∷ past) → x.call ≡ Receive near bytes → Spells bytes m → m.kind ≡ Non → Ever (PlainSent far bytes x.at) (near_of past)
+  plain_sent : (past : List Hop) (x : Entry) (bytes : List ℕ) (m : Message)
+      → ChannelLaw one other near far (Far x ∷ past) → x.call ≡ Receive near bytes → Spells bytes m → m.kind ≡ Non
+      → Ever (PlainSent far bytes x.at) (near_of past)
   plain_sent past x bytes m law call spells non =
       Ever_of_Sometime (λ t b. PlainSent far bytes x.at b) (PlainSent far bytes x.at) (λ t b z. inl z) (near_of past)
-      (by_suffix (Lawful one) (SentSo far bytes x.at) (λ t b. PlainSent far bytes x.at b) (λ t b l. record { law = l.law.1; replies = l.replies.1 })
-      (λ t b l s. plain_here one t b far bytes m x.at l (are_bytes one other near far other (far_of past) x near bytes law.far_law.0 call) spells non s) (near_of past)
+      (by_suffix (Lawful one) (SentSo far bytes x.at) (λ t b. PlainSent far bytes x.at b)
+      (λ t b l. record { law = l.law.1; replies = l.replies.1 })
+      (λ t b l s. plain_here one t b far bytes m x.at l
+      (are_bytes one other near far other (far_of past) x near bytes law.far_law.0 call) spells non s)
+      (near_of past)
       (record { law = law.near_law; replies = law.near_replies }) (sent_so one other near far past x bytes law call))
 
   pub nons_sent : (all : List Hop) → ChannelLaw one other near far all → NonsSent near far all
-  nons_sent all law = each_hop one other near far _ (λ past h l x bytes m is call spells non. plain_sent past x bytes m (subst (λ (y : Hop). ChannelLaw one other near far (y ∷ past)) is l) call spells non) all law
+  nons_sent all law = each_hop one other near far _
+      (λ past h l x bytes m is call spells non. plain_sent past x bytes m
+      (subst (λ (y : Hop). ChannelLaw one other near far (y ∷ past)) is l) call spells non) all law

@@ -19,8 +19,11 @@ module _ {A B : Type 0} (f : A → B) where
   listed_map (Some x) = refl
 
 -- a reply changes the message that it is given to
-reply_for : (to from : Endpoint) (id n : ℕ) (bytes : List ℕ) (b : Bool) → (same_endpoint to from && (id == n)) ≡ b → reply_in from n (Reply to id bytes) ≡ (if b then Some bytes else None)
+reply_for : (to from : Endpoint) (id n : ℕ) (bytes : List ℕ) (b : Bool) → (same_endpoint to from && (id == n)) ≡ b
+    → reply_in from n (Reply to id bytes) ≡ (if b then Some bytes else None)
 reply_for to from id n bytes b e = ap (λ (c : Bool). if c then Some bytes else None) e
 
-pub stores_not : (to : Endpoint) (id : ℕ) (bytes : List ℕ) (a : Arrived) → (same_endpoint to a.from && (id == a.id)) ≡ false → storing to id bytes a ≡ a
-stores_not to id bytes a h = let r : reply_in a.from a.id (Reply to id bytes) ≡ None = reply_for to a.from id a.id bytes false h in rw (stores, r) refl
+pub stores_not : (to : Endpoint) (id : ℕ) (bytes : List ℕ) (a : Arrived)
+    → (same_endpoint to a.from && (id == a.id)) ≡ false → storing to id bytes a ≡ a
+stores_not to id bytes a h = let r : reply_in a.from a.id (Reply to id bytes)
+    ≡ None = reply_for to a.from id a.id bytes false h in rw (stores, r) refl

@@ -27,12 +27,15 @@ use Rattle.coap_layer.proofs.Facts.Arrivals.{faulty_shows, one_arrival}
 
 -- what was read is what the datagram shows
 pub read_shows : (bytes : List ℕ) (r : Result Message Fault) → AreBytes bytes → IfOk r (λ m. Spells bytes m)
-    → IfErr r (λ f. Faulty bytes f.reason f.at) → IfErr r (λ f. f.head ≡ head_of f.reason bytes) → shown_by r ≡ arrival_at bytes
+    → IfErr r (λ f. Faulty bytes f.reason f.at) → IfErr r (λ f. f.head ≡ head_of f.reason bytes)
+    → shown_by r ≡ arrival_at bytes
 read_shows bytes (Ok m) are found faulty head = one_arrival bytes (Whole m) are found
-read_shows bytes (Err f) are found faulty head = one_arrival bytes (by_head f.head) are (faulty_shows bytes f.reason f.at faulty f.head (sym head))
+read_shows bytes (Err f) are found faulty head =
+    one_arrival bytes (by_head f.head) are (faulty_shows bytes f.reason f.at faulty f.head (sym head))
 
 -- a duplicate is not handed up
-again_down : (kind : Kind) (role : Role) (m : Message) (o f i : Bool) → m.kind ≡ kind → handed_by (Becomes (up_of kind role m o true f i)) ≡ None
+again_down : (kind : Kind) (role : Role) (m : Message) (o f i : Bool) → m.kind ≡ kind
+    → handed_by (Becomes (up_of kind role m o true f i)) ≡ None
 again_down Con role.Empty m o f i h = refl
 again_down Con role.Reserved m o f i h = refl
 again_down Con role.Request m o f i h = refl
@@ -63,7 +66,8 @@ handed_so verdict.Replay m = refl
 handed_so (verdict.HandUpRequest k) m = refl
 handed_so verdict.HandUpResponse m = refl
 
-new_so : (v : Verdict) (m : Message) (r : Bool) → (r ≡ true → handed_by (Becomes (answer_by v m)) ≡ None) → hands v m.kind ≡ true → r ≡ false
+new_so : (v : Verdict) (m : Message) (r : Bool) → (r ≡ true → handed_by (Becomes (answer_by v m)) ≡ None)
+    → hands v m.kind ≡ true → r ≡ false
 new_so v m false down h = refl
 new_so v m true down h = let e = handed_so v m in let d = down refl in absurd (cc (e, d, h))
 
@@ -77,17 +81,20 @@ kept_so (verdict.HandUpRequest k) m = refl
 kept_so verdict.HandUpResponse m = refl
 
 newly_so : (at : ℕ) (from : Endpoint) (m : Message) (b : Bool)
-    → newly at (from_there from (cond b (Some m) None)) ≡ cond b (record { from = from; id = m.id; at = at; con = is_con m.kind; reply = None } ∷ []) []
+    → newly at (from_there from (cond b (Some m) None))
+    ≡ cond b (record { from = from; id = m.id; at = at; con = is_con m.kind; reply = None } ∷ []) []
 newly_so at from m true = refl
 newly_so at from m false = refl
 
-awaits_so : (bytes : List ℕ) (old : Option Awaited) (from : Endpoint) (m : Message) (answer : Answer) (b : Bool) → handed_by answer ≡ cond b (Some m) None
+awaits_so : (bytes : List ℕ) (old : Option Awaited) (from : Endpoint) (m : Message) (answer : Answer) (b : Bool)
+    → handed_by answer ≡ cond b (Some m) None
     → awaits_in (Receive from bytes) answer old ≡ cond b (Some (record { from = from; id = m.id })) None
 awaits_so bytes old from m answer true h = rw h refl
 awaits_so bytes old from m answer false h = rw h refl
 
 module _ (s : State) (at : ℕ) (from : Endpoint) (m : Message) where
-  sent_so : (v : Verdict) → replay s at (record { from = from; message = m }) (answer_by v m) ≡ sends v m.kind m.id at from s.arrived
+  sent_so : (v : Verdict) → replay s at (record { from = from; message = m }) (answer_by v m)
+      ≡ sends v m.kind m.id at from s.arrived
   sent_so verdict.Reject = refl
   sent_so verdict.Drop = refl
   sent_so verdict.TakeAck = refl
@@ -110,35 +117,94 @@ module _ (s : State) (at : ℕ) (from : Endpoint) (m : Message) where
       → IsArriving s at from (Whole m) (record { kind = m.kind; id = record { 0 = m.id }; verdict = v })
   message_arrives v e =
       let down : is_remembered at from m.id s.arrived ≡ true → handed_by (Becomes (answer_by v m)) ≡ None =
-      λ r. ap (λ d. handed_by (Becomes d)) (e ∙ ap (λ b. up_of m.kind (role_of m.code) m (is_outstanding from m.id s.open_cons) b (is_full at s.arrived) (is_free at s.upcoming s.last_used)) r)
+      λ r. ap (λ d. handed_by (Becomes d)) (e ∙ ap
+      (λ b. up_of m.kind (role_of m.code) m (is_outstanding from m.id s.open_cons) b (is_full at s.arrived)
+      (is_free at s.upcoming s.last_used)) r)
       ∙ again_down m.kind (role_of m.code) m _ _ _ refl in
       record {
         out = ap (replay s at (record { from = from; message = m })) (sym e) ∙ sent_so v;
-        taken = λ bytes. ap (λ d. newly at (from_there from (kept_by (Becomes d)))) (sym e) ∙ (ap (λ o. newly at (from_there from o)) (kept_so v m) ∙ newly_so at from m (keeps v m.kind));
-        awaits = λ bytes old. awaits_so bytes old from m (Becomes (sorted_by s at (record { from = from; message = m }))) (hands v m.kind) (ap (λ d. handed_by (Becomes d)) (sym e) ∙ handed_so v m);
-        ended = λ bytes to id. ap (λ d. ends_in (Receive from bytes) (Becomes d) to id) (sym e) ∙ ended_so v bytes to id;
+        taken = λ bytes. ap (λ d. newly at (from_there from (kept_by (Becomes d)))) (sym e)
+            ∙ (ap (λ o. newly at (from_there from o)) (kept_so v m) ∙ newly_so at from m (keeps v m.kind));
+        awaits = λ bytes old. awaits_so bytes old from m
+            (Becomes (sorted_by s at (record { from = from; message = m }))) (hands v m.kind)
+            (ap (λ d. handed_by (Becomes d)) (sym e) ∙ handed_so v m);
+        ended = λ bytes to id. ap (λ d. ends_in (Receive from bytes) (Becomes d) to id) (sym e)
+            ∙ ended_so v bytes to id;
         new = new_so v m _ down;
       }
 
-  pub judged : (kind : Kind) (id : Id) (v : Verdict) (o r f i : Bool) → kind ≡ m.kind → id.0 ≡ m.id → answer_by v m ≡ up_of kind (role_of m.code) m o r f i
-      → o ≡ is_outstanding from m.id s.open_cons → r ≡ is_remembered at from m.id s.arrived → f ≡ is_full at s.arrived → i ≡ is_free at s.upcoming s.last_used
-      → IsArriving s at from (Whole m) (record { kind = kind; id = id; verdict = v }) × (answer_by v m ≡ sorted_by s at (record { from = from; message = m }))
+  pub judged : (kind : Kind) (id : Id) (v : Verdict) (o r f i : Bool) → kind ≡ m.kind → id.0 ≡ m.id
+      → answer_by v m ≡ up_of kind (role_of m.code) m o r f i
+      → o ≡ is_outstanding from m.id s.open_cons → r ≡ is_remembered at from m.id s.arrived → f ≡ is_full at s.arrived
+      → i ≡ is_free at s.upcoming s.last_used
+      → IsArriving s at from (Whole m) (record { kind = kind; id = id; verdict = v })
+      × (answer_by v m ≡ sorted_by s at (record { from = from; message = m }))
   judged kind id v o r f i k n e ho hr hf hi =
       let sorted : answer_by v m ≡ sorted_by s at (record { from = from; message = m }) = cc (k, e, ho, hr, hf, hi) in
-      let there : IsArriving s at from (Whole m) (record { kind = m.kind; id = record { 0 = m.id }; verdict = v }) = message_arrives v sorted in
+      let there : IsArriving s at from (Whole m) (record { kind = m.kind; id = record { 0 = m.id }; verdict = v }) =
+      message_arrives v sorted in
       (rw (k, n) there, sorted)
 
-pub fault_arrives : (s : State) (at : ℕ) (from : Endpoint) (f : Fault) → IsArriving s at from (by_head f.head) (of_head f.head) × (told_by (of_head f.head).verdict (Err f) ≡ answer_to s at from (by_head f.head))
+pub fault_arrives : (s : State) (at : ℕ) (from : Endpoint) (f : Fault)
+    → IsArriving s at from (by_head f.head) (of_head f.head)
+    × (told_by (of_head f.head).verdict (Err f) ≡ answer_to s at from (by_head f.head))
 fault_arrives s at from f = go f.head
   where
-    go : (head : Option (Kind × Id)) → IsArriving s at from (by_head head) (of_head head) × (told_by (of_head head).verdict (Err f) ≡ answer_to s at from (by_head head))
-    go None = (record { out = refl; taken = λ bytes. refl; awaits = λ bytes old. refl; ended = λ bytes to id. refl; new = λ h. absurd (cc h) }, refl)
-    go (Some (Con, id)) = (record { out = refl; taken = λ bytes. refl; awaits = λ bytes old. refl; ended = λ bytes to id. refl; new = λ h. absurd (cc h) }, refl)
-    go (Some (Non, id)) = (record { out = refl; taken = λ bytes. refl; awaits = λ bytes old. refl; ended = λ bytes to id. refl; new = λ h. absurd (cc h) }, refl)
-    go (Some (Ack, id)) = (record { out = refl; taken = λ bytes. refl; awaits = λ bytes old. refl; ended = λ bytes to id. refl; new = λ h. absurd (cc h) }, refl)
-    go (Some (Rst, id)) = (record { out = refl; taken = λ bytes. refl; awaits = λ bytes old. refl; ended = λ bytes to id. refl; new = λ h. absurd (cc h) }, refl)
+    go : (head : Option (Kind × Id)) → IsArriving s at from (by_head head) (of_head head)
+        × (told_by (of_head head).verdict (Err f) ≡ answer_to s at from (by_head head))
+    go None = (
+      record {
+        out = refl;
+        taken = λ bytes. refl;
+        awaits = λ bytes old. refl;
+        ended = λ bytes to id. refl;
+        new = λ h. absurd (cc h);
+      },
+      refl,
+    )
+    go (Some (Con, id)) = (
+      record {
+        out = refl;
+        taken = λ bytes. refl;
+        awaits = λ bytes old. refl;
+        ended = λ bytes to id. refl;
+        new = λ h. absurd (cc h);
+      },
+      refl,
+    )
+    go (Some (Non, id)) = (
+      record {
+        out = refl;
+        taken = λ bytes. refl;
+        awaits = λ bytes old. refl;
+        ended = λ bytes to id. refl;
+        new = λ h. absurd (cc h);
+      },
+      refl,
+    )
+    go (Some (Ack, id)) = (
+      record {
+        out = refl;
+        taken = λ bytes. refl;
+        awaits = λ bytes old. refl;
+        ended = λ bytes to id. refl;
+        new = λ h. absurd (cc h);
+      },
+      refl,
+    )
+    go (Some (Rst, id)) = (
+      record {
+        out = refl;
+        taken = λ bytes. refl;
+        awaits = λ bytes old. refl;
+        ended = λ bytes to id. refl;
+        new = λ h. absurd (cc h);
+      },
+      refl,
+    )
 
-pub fault_judged : (s : State) (at : ℕ) (from : Endpoint) (read : Result Message Fault) (f : Fault) (a : Arriving) → read ≡ Err f → a ≡ of_head f.head
+pub fault_judged : (s : State) (at : ℕ) (from : Endpoint) (read : Result Message Fault) (f : Fault) (a : Arriving)
+    → read ≡ Err f → a ≡ of_head f.head
     → IsArriving s at from (shown_by read) a × (told_by a.verdict read ≡ answer_to s at from (shown_by read))
 fault_judged s at from read f a is e = rw (is, e) (fault_arrives s at from f)
 

@@ -27,22 +27,29 @@ module _ (now later : ℕ) (le : now ≤ later) (from : Endpoint) (id : ℕ) whe
 
   still_none : (es : List Arrived) → is_remembered now from id es ≡ false → is_remembered later from id es ≡ false
   still_none [] h = h
-  still_none (a ∷ es) h = neither (is_of now from id a) (is_of later from id a) (is_remembered now from id es) (is_remembered later from id es) (of_before a) (still_none es) h
+  still_none (a ∷ es) h = neither (is_of now from id a) (is_of later from id a) (is_remembered now from id es)
+      (is_remembered later from id es) (of_before a) (still_none es) h
 
-pub unknown_later : (now later : ℕ) (w : Option Awaited) (replies : Bool) (es : List Arrived) → now ≤ later → IsUnknown now w replies es → IsUnknown later w replies es
+pub unknown_later : (now later : ℕ) (w : Option Awaited) (replies : Bool) (es : List Arrived) → now ≤ later
+    → IsUnknown now w replies es → IsUnknown later w replies es
 unknown_later now later None replies es le h = tt
 unknown_later now later (Some w) false es le h = tt
 unknown_later now later (Some w) true es le h = still_none now later le w.from w.id es h
 
-pub kept_later : (now later : ℕ) (w : Option Awaited) (replies : Bool) (m : Memory) → now ≤ later → IsKept now w replies m → IsKept later w replies m
-kept_later now later w replies m le h = (upto_later now later (arrivals_in m) le h.0, unknown_later now later w replies m.settled le h.1)
+pub kept_later : (now later : ℕ) (w : Option Awaited) (replies : Bool) (m : Memory) → now ≤ later
+    → IsKept now w replies m → IsKept later w replies m
+kept_later now later w replies m le h = (
+  upto_later now later (arrivals_in m) le h.0,
+  unknown_later now later w replies m.settled le h.1,
+)
 
 -- .. and where no reply may be given
 pub unknown_not : (now : ℕ) (w : Option Awaited) (es : List Arrived) → IsUnknown now w false es
 unknown_not now None es = tt
 unknown_not now (Some w) es = tt
 
-pub unknown_there : (now : ℕ) (w : Option Awaited) (x : Awaited) (replies : Bool) (es : List Arrived) → w ≡ Some x → replies ≡ true → IsUnknown now w replies es → is_remembered now x.from x.id es ≡ false
+pub unknown_there : (now : ℕ) (w : Option Awaited) (x : Awaited) (replies : Bool) (es : List Arrived) → w ≡ Some x
+    → replies ≡ true → IsUnknown now w replies es → is_remembered now x.from x.id es ≡ false
 unknown_there now None x replies es e f h = absurd (cc e)
 unknown_there now (Some w) x false es e f h = absurd (cc f)
 unknown_there now (Some w) x true es e f h =
@@ -50,23 +57,28 @@ unknown_there now (Some w) x true es e f h =
     ap (λ (y : Awaited). is_remembered now y.from y.id es) (sym same) ∙ h
 
 -- what `undo` would leave asks only for what the last input found
-pub before_same : {Z : Type 0} (m : Option Mark) (es fs : List Arrived) (cs ds : List (Sending Z)) (q r d : List Packet) → IsWithin m es (length q)
+pub before_same : {Z : Type 0} (m : Option Mark) (es fs : List Arrived) (cs ds : List (Sending Z)) (q r d : List Packet)
+    → IsWithin m es (length q)
     → fs ≡ es → open_before ds ≡ open_before cs → r ≡ q ++ d → before_of m fs ds r ≡ before_of m es cs q
 before_same None es fs cs ds q r d w a b e = refl
 before_same (Some m) es fs cs ds q r d w a b e =
     let queue : take m.queued r ≡ take m.queued q = ap (take m.queued) e ∙ take-append-le m.queued q d w.0 in
     cc (a, b, queue)
 
-pub before_ended : {Z : Type 0} (m : Option Mark) (es : List Arrived) (cs ds : List (Sending Z)) (q : List Packet) → open_before ds ≡ open_before cs → before_of m es ds q ≡ before_of m es cs q
+pub before_ended : {Z : Type 0} (m : Option Mark) (es : List Arrived) (cs ds : List (Sending Z)) (q : List Packet)
+    → open_before ds ≡ open_before cs → before_of m es ds q ≡ before_of m es cs q
 before_ended None es cs ds q e = refl
 before_ended (Some m) es cs ds q e = cc e
 
 -- a list of what waits that is as long as before, or longer
-pub within_more : (m : Option Mark) (es fs : List Arrived) (queued waiting : ℕ) → IsWithin m es queued → fs ≡ es → queued ≤ waiting → IsWithin m fs waiting
+pub within_more : (m : Option Mark) (es fs : List Arrived) (queued waiting : ℕ) → IsWithin m es queued → fs ≡ es
+    → queued ≤ waiting → IsWithin m fs waiting
 within_more None es fs queued waiting w a b = tt
-within_more (Some m) es fs queued waiting w a b = let old = w.0 in (omega (arith, old, b), subst (IsUpTo m.clock.0) (sym a) w.1)
+within_more (Some m) es fs queued waiting w a b = let old =
+    w.0 in (omega (arith, old, b), subst (IsUpTo m.clock.0) (sym a) w.1)
 
-pub within_pushed : {Y : Type 0} (m : Option Mark) (es fs : List Arrived) (q r d : List Y) → IsWithin m es (length q) → fs ≡ es → r ≡ q ++ d → IsWithin m fs (length r)
+pub within_pushed : {Y : Type 0} (m : Option Mark) (es fs : List Arrived) (q r d : List Y) → IsWithin m es (length q)
+    → fs ≡ es → r ≡ q ++ d → IsWithin m fs (length r)
 within_pushed m es fs q r d w a b =
     let f : length r ≡ length q + length d = ap length b ∙ length_append q d in
     within_more m es fs _ _ w a (omega (arith, f))

@@ -13,7 +13,8 @@ use Rattle.coap_layer.proofs.Calls.Entries.{listed_map, map_more, stores_not}
 use Rattle.coap_layer.proofs.ListLemmas.{and_left, and_right, both, filter_more, not_true, same_nat}
 
 module _ (now : ℕ) (to : Endpoint) (id : ℕ) (bytes : List ℕ) where
-  other : (a : Arrived) → is_live now a ≡ true → is_of now to id a ≡ false → (same_endpoint to a.from && (id == a.id)) ≡ false
+  other : (a : Arrived) → is_live now a ≡ true → is_of now to id a ≡ false
+      → (same_endpoint to a.from && (id == a.id)) ≡ false
   other a live down = not_true _ (λ h.
       let place = and_left _ _ h in
       let number = and_right _ _ h in
@@ -27,16 +28,22 @@ module _ (now : ℕ) (to : Endpoint) (id : ℕ) (bytes : List ℕ) where
   abbrev store : Arrived → Arrived
   store = storing to id bytes
 
-  kept_one : (a : Arrived) (es : List Arrived) (b : Bool) → is_live now a ≡ b → is_of now to id a ≡ false → filter (is_live now) (map store es) ≡ filter (is_live now) es
-      → cond (is_live now (store a)) (store a ∷ filter (is_live now) (map store es)) (filter (is_live now) (map store es)) ≡ cond (is_live now a) (a ∷ filter (is_live now) es) (filter (is_live now) es)
+  kept_one : (a : Arrived) (es : List Arrived) (b : Bool) → is_live now a ≡ b → is_of now to id a ≡ false
+      → filter (is_live now) (map store es) ≡ filter (is_live now) es
+      → cond (is_live now (store a)) (store a ∷ filter (is_live now) (map store es))
+      (filter (is_live now) (map store es)) ≡ cond (is_live now a) (a ∷ filter (is_live now) es)
+      (filter (is_live now) es)
   kept_one a es true live down e = let same : store a ≡ a = stores_not to id bytes a (other a live down) in cc (same, e)
-  kept_one a es false dead down e = let same : is_live now (store a) ≡ is_live now a = same_live (record { at = 0; call = Reply to id bytes; answer = Nothing; out = [] }) a now in rw (same, dead) e
+  kept_one a es false dead down e = let same : is_live now (store a)
+      ≡ is_live now a = same_live (record { at = 0; call = Reply to id bytes; answer = Nothing; out = [] }) a now in rw
+      (same, dead) e
 
   split : (b c : Bool) → (b || c) ≡ false → (b ≡ false) × (c ≡ false)
   split false c h = (refl, h)
   split true c h = absurd (cc h)
 
-  none_stored : (es : List Arrived) → is_remembered now to id es ≡ false → filter (is_live now) (map store es) ≡ filter (is_live now) es
+  none_stored : (es : List Arrived) → is_remembered now to id es ≡ false
+      → filter (is_live now) (map store es) ≡ filter (is_live now) es
   none_stored [] h = refl
   none_stored (a ∷ es) h =
       let none = split (is_of now to id a) (is_remembered now to id es) h in
@@ -44,7 +51,8 @@ module _ (now : ℕ) (to : Endpoint) (id : ℕ) (bytes : List ℕ) where
 
   -- so what is stored in the newest is stored everywhere
   pub stored_newest : (es : List Arrived) (o : Option Arrived) → is_remembered now to id es ≡ false
-      → filter (is_live now) (es ++ option_to_list (option_map store o)) ≡ filter (is_live now) (map store (es ++ option_to_list o))
+      → filter (is_live now) (es ++ option_to_list (option_map store o))
+      ≡ filter (is_live now) (map store (es ++ option_to_list o))
   stored_newest es o fresh =
       let new : List Arrived = map store (option_to_list o) in
       ap (λ xs. filter (is_live now) (es ++ xs)) (listed_map store o)
@@ -53,9 +61,11 @@ module _ (now : ℕ) (to : Endpoint) (id : ℕ) (bytes : List ℕ) where
       ∙ (sym (filter_more (is_live now) (map store es) new)
       ∙ ap (filter (is_live now)) (sym (map_more store es (option_to_list o))))))
 
-  pub upto_stored : (o : Option Arrived) → IsUpTo now (option_to_list o) → IsUpTo now (option_to_list (option_map store o))
+  pub upto_stored : (o : Option Arrived) → IsUpTo now (option_to_list o)
+      → IsUpTo now (option_to_list (option_map store o))
   upto_stored None h = tt
   upto_stored (Some a) h =
-      let same : (store a).at ≡ a.at = same_at (record { at = 0; call = Reply to id bytes; answer = Nothing; out = [] }) a in
+      let same : (store a).at ≡ a.at = same_at (record { at = 0; call = Reply to id bytes; answer = Nothing; out = [] })
+      a in
       let old = h.0 in
       (omega (arith, same, old), tt)

@@ -22,8 +22,10 @@ use Rattle.coap_layer.proofs.ListLemmas.{filter_implied, length_append}
 use Rattle.coap_layer.proofs.Calls.Remembered.{unknown_filtered, upto_filtered, upto_later, upto_more}
 
 module _ (clock : ℕ) (es fs : List Arrived) (settled : fs ≡ filter (is_live clock) es) where
-  pub before_grown : {Z : Type 0} (mark : Mark) (awaits : Option Awaiting) (ids : IdState) (old : List Open) (ds : List (Sending Z)) (q r d : List Packet)
-      → open_before ds ≡ old → r ≡ q ++ d → mark.clock.0 ≡ clock → mark.awaits ≡ awaits → mark.ids ≡ ids → mark.queued ≡ length q
+  pub before_grown : {Z : Type 0} (mark : Mark) (awaits : Option Awaiting) (ids : IdState) (old : List Open)
+      (ds : List (Sending Z)) (q r d : List Packet)
+      → open_before ds ≡ old → r ≡ q ++ d → mark.clock.0 ≡ clock → mark.awaits ≡ awaits → mark.ids ≡ ids
+      → mark.queued ≡ length q
       → before_of (Some mark) fs ds r ≡ Some (forgotten (state_of_parts clock (awaited awaits) ids es old q))
   before_grown mark awaits ids old ds q r d opened sent c w i k =
       let queue : take mark.queued r ≡ q = rw (k, sent) (take-append_seam q d) in
@@ -32,37 +34,55 @@ module _ (clock : ℕ) (es fs : List Arrived) (settled : fs ≡ filter (is_live 
       let awaiting : awaited mark.awaits ≡ awaited awaits = ap awaited w in
       cc (c, here, opened, queue, awaiting, i)
 
-  pub within_grown : (mark : Mark) (q r d : List Packet) → r ≡ q ++ d → mark.queued ≡ length q → mark.clock.0 ≡ clock → IsUpTo clock es → IsWithin (Some mark) fs (length r)
+  pub within_grown : (mark : Mark) (q r d : List Packet) → r ≡ q ++ d → mark.queued ≡ length q → mark.clock.0 ≡ clock
+      → IsUpTo clock es → IsWithin (Some mark) fs (length r)
   within_grown mark q r d sent k c upto =
-      let f : length r ≡ length q + length d = ap length sent ∙ length_append q d in
-      (omega (arith, f, k), subst (λ n. IsUpTo n fs) (sym c) (subst (IsUpTo clock) (sym settled) (upto_filtered clock clock es upto)))
+      let f : length r ≡ length q + length d = ap length sent ∙ length_append q d in (
+        omega (arith, f, k),
+        subst (λ n. IsUpTo n fs) (sym c)
+            (subst (IsUpTo clock) (sym settled) (upto_filtered clock clock es upto)),
+      )
 
   -- what is settled then arrived before
   pub settled_upto : (at : ℕ) → clock ≤ at → IsUpTo clock es → IsUpTo at fs
-  settled_upto at le upto = subst (IsUpTo at) (sym settled) (upto_later clock at _ le (upto_filtered clock clock es upto))
+  settled_upto at le upto = subst (IsUpTo at) (sym settled)
+      (upto_later clock at _ le (upto_filtered clock clock es upto))
 
-  pub settled_unknown : (at : ℕ) (from : Endpoint) (id : ℕ) → is_remembered at from id es ≡ false → is_remembered at from id fs ≡ false
+  pub settled_unknown : (at : ℕ) (from : Endpoint) (id : ℕ) → is_remembered at from id es ≡ false
+      → is_remembered at from id fs ≡ false
   settled_unknown at from id h = ap (is_remembered at from id) settled ∙ unknown_filtered at clock from id es h
 
 -- what is new arrived now
 pub newly_upto : (at : ℕ) (from : Endpoint) (a : Arriving) → IsUpTo at (newly_by at from a)
 newly_upto at from a = go (keeps a.verdict a.kind)
   where
-    go : (b : Bool) → IsUpTo at (cond b (record { from = from; id = a.id.0; at = at; con = is_con a.kind; reply = None } ∷ []) [])
+    go : (b : Bool) → IsUpTo at (cond b (record { from = from; id = a.id.0; at = at; con = is_con a.kind; reply = None }
+        ∷ []) [])
     go true = (omega arith, tt)
     go false = tt
 
-pub kept_grown : (at : ℕ) (from : Endpoint) (id : ℕ) (b : Bool) (m : Memory) (new : List Arrived) → IsUpTo at m.settled → IsUpTo at new → option_to_list m.newest ≡ new
-    → (b ≡ true → is_remembered at from id m.settled ≡ false) → IsKept at (cond b (Some (record { from = from; id = id })) None) true m
-kept_grown at from id true m new old upto is unknown = (upto_more at m.settled _ old (subst (IsUpTo at) (sym is) upto), unknown refl)
-kept_grown at from id false m new old upto is unknown = (upto_more at m.settled _ old (subst (IsUpTo at) (sym is) upto), tt)
+pub kept_grown : (at : ℕ) (from : Endpoint) (id : ℕ) (b : Bool) (m : Memory) (new : List Arrived) → IsUpTo at m.settled
+    → IsUpTo at new → option_to_list m.newest ≡ new
+    → (b ≡ true → is_remembered at from id m.settled ≡ false)
+    → IsKept at (cond b (Some (record { from = from; id = id })) None) true m
+kept_grown at from id true m new old upto is unknown =
+    (upto_more at m.settled _ old (subst (IsUpTo at) (sym is) upto), unknown refl)
+kept_grown at from id false m new old upto is unknown =
+    (upto_more at m.settled _ old (subst (IsUpTo at) (sym is) upto), tt)
 
-pub kept_none : (at : ℕ) (replies : Bool) (m : Memory) → IsUpTo at m.settled → m.newest ≡ None → IsKept at None replies m
-kept_none at replies m old none = (upto_more at m.settled _ old (subst (λ o. IsUpTo at (option_to_list o)) (sym none) tt), tt)
+pub kept_none : (at : ℕ) (replies : Bool) (m : Memory) → IsUpTo at m.settled → m.newest ≡ None
+    → IsKept at None replies m
+kept_none at replies m old none = (
+  upto_more at m.settled _ old
+      (subst (λ o. IsUpTo at (option_to_list o)) (sym none) tt),
+  tt,
+)
 
 -- room stays room
-pub room_kept : {Z X Y : Type 0} (r : Option (Room Z)) (old new : Lists Z X Y) → HasRoom r old → vec_len new.sendings ≤ vec_len old.sendings → vec_capacity new.sendings ≡ vec_capacity old.sendings
-    → (deque_len old.waiting < deque_capacity old.waiting → deque_len new.waiting < deque_capacity new.waiting) → HasRoom r new
+pub room_kept : {Z X Y : Type 0} (r : Option (Room Z)) (old new : Lists Z X Y) → HasRoom r old
+    → vec_len new.sendings ≤ vec_len old.sendings → vec_capacity new.sendings ≡ vec_capacity old.sendings
+    → (deque_len old.waiting < deque_capacity old.waiting → deque_len new.waiting < deque_capacity new.waiting)
+    → HasRoom r new
 room_kept None old new room len capacity waiting = tt
 room_kept (Some r) old new room len capacity waiting = (room.0, omega (arith, room.1, len, capacity), waiting room.2)
 

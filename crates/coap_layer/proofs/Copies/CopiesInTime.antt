@@ -41,11 +41,13 @@ pub option_in : {A : Type 0} (x : A) (o : Option A) → o ≡ Some x → In x (o
 option_in x (Some y) h = inl (cc h)
 option_in x None h = absurd (cc h)
 
-pub in_filter_map : {A B : Type 0} (f : A → Option B) (y : B) (xs : List A) → In y (filter_map f xs) → (x : A) × In x xs × (f x ≡ Some y)
+pub in_filter_map : {A B : Type 0} (f : A → Option B) (y : B) (xs : List A) → In y (filter_map f xs)
+    → (x : A) × In x xs × (f x ≡ Some y)
 in_filter_map f y [] h = absurd h
 in_filter_map {A = A} {B = B} f y (x ∷ xs) h = go (f x) refl h (in_filter_map f y xs)
   where
-    go : (o : Option B) → f x ≡ o → In y (cons_option o (filter_map f xs)) → (In y (filter_map f xs) → (z : A) × In z xs × (f z ≡ Some y)) → (z : A) × In z (x ∷ xs) × (f z ≡ Some y)
+    go : (o : Option B) → f x ≡ o → In y (cons_option o (filter_map f xs))
+        → (In y (filter_map f xs) → (z : A) × In z xs × (f z ≡ Some y)) → (z : A) × In z (x ∷ xs) × (f z ≡ Some y)
     go (Some w) e (inl k) r = (x, inl refl, e ∙ ap Some k)
     go (Some w) e (inr k) r = let q = r k in (q.0, inr q.1, q.2)
     go None e k r = let q = r k in (q.0, inr q.1, q.2)
@@ -55,16 +57,26 @@ abbrev pub as_begun : Open → Open
 as_begun c = record c { last = c.first }
 
 -- the CON that is begun
-begun_as : (at : ℕ) (to : Endpoint) (content : Content) (wish : ℕ) (o : Option ℕ) (c : Open) → open_of at to content wish o ≡ Some c
+begun_as : (at : ℕ) (to : Endpoint) (content : Content) (wish : ℕ) (o : Option ℕ) (c : Open)
+    → open_of at to content wish o ≡ Some c
     → (c.first ≡ at) × (c.last ≡ at) × (c.to ≡ to) × ((id : ℕ) × (o ≡ Some id))
 begun_as at to content wish (Some id) c h =
-    let new : Open = record { to = to; id = id; bytes = message_bytes (with_head Con id content); timeout = ack_timeout + wish % timeout_values; first = at; last = at } in
+    let new : Open = record {
+      to = to;
+      id = id;
+      bytes = message_bytes (with_head Con id content);
+      timeout = ack_timeout + wish % timeout_values;
+      first = at;
+      last = at;
+    } in
     let e : new ≡ c = cc h in
     (sym (ap (λ (x : Open). x.first) e), sym (ap (λ (x : Open). x.last) e), sym (ap (λ (x : Open). x.to) e), (id, refl))
 begun_as at to content wish None c h = absurd (cc h)
 
-pub begun_fresh : (at : ℕ) (call : Call) (answer : Answer) (c : Open) → begun_in at call answer ≡ Some c → (c.first ≡ at) × (c.last ≡ at)
-begun_fresh at (Confirm to content wish) answer c h = let r = begun_as at to content wish (sent_by answer) c h in (r.0, r.1)
+pub begun_fresh : (at : ℕ) (call : Call) (answer : Answer) (c : Open) → begun_in at call answer ≡ Some c
+    → (c.first ≡ at) × (c.last ≡ at)
+begun_fresh at (Confirm to content wish) answer c h = let r =
+    begun_as at to content wish (sent_by answer) c h in (r.0, r.1)
 begun_fresh at (Receive from bytes) answer c h = absurd (cc h)
 begun_fresh at (Reply to id bytes) answer c h = absurd (cc h)
 begun_fresh at (Plain to content) answer c h = absurd (cc h)
@@ -78,7 +90,8 @@ begun_fresh at Pass answer c h = absurd (cc h)
 pub left_same : (e : Entry) (c d : Open) → left_by e c ≡ Some d → as_begun c ≡ as_begun d
 left_same e c d h = go (ends_in e.call e.answer c.to c.id) (copies_in e.call e.answer c.to c.id) h
   where
-    go : (x y : Bool) → cond x None (cond y (Some (record c { last = e.at })) (Some c)) ≡ Some d → as_begun c ≡ as_begun d
+    go : (x y : Bool) → cond x None (cond y (Some (record c { last = e.at })) (Some c)) ≡ Some d
+        → as_begun c ≡ as_begun d
     go true y k = absurd (cc k)
     go false true k = let g : record c { last = e.at } ≡ d = cc k in ap as_begun g
     go false false k = let g : c ≡ d = cc k in ap as_begun g
@@ -86,7 +99,8 @@ left_same e c d h = go (ends_in e.call e.answer c.to c.id) (copies_in e.call e.a
 -- what is outstanding was begun, with the same bytes
 pub was_begun : (t : List Entry) (c : Open) → In c (outstanding t) → Ever (λ b. begun b ≡ Some (as_begun c)) t
 was_begun [] c h = absurd h
-was_begun (e ∷ past) c h = ⊎_elim (old (was_begun past)) new (Ever_append (λ y. y ≡ c) (filter_map (left_by e) (outstanding past)) (option_to_list (begun e)) h)
+was_begun (e ∷ past) c h = ⊎_elim (old (was_begun past)) new
+    (Ever_append (λ y. y ≡ c) (filter_map (left_by e) (outstanding past)) (option_to_list (begun e)) h)
   where
     new : In c (option_to_list (begun e)) → Ever (λ b. begun b ≡ Some (as_begun c)) (e ∷ past)
     new k =
@@ -94,11 +108,13 @@ was_begun (e ∷ past) c h = ⊎_elim (old (was_begun past)) new (Ever_append (�
         let f = begun_fresh e.at e.call e.answer c is in
         inl (is ∙ ap (λ (n : ℕ). Some (record c { last = n })) (f.1 ∙ sym f.0))
 
-    old : ((d : Open) → In d (outstanding past) → Ever (λ b. begun b ≡ Some (as_begun d)) past) → In c (filter_map (left_by e) (outstanding past)) → Ever (λ b. begun b ≡ Some (as_begun c)) (e ∷ past)
+    old : ((d : Open) → In d (outstanding past) → Ever (λ b. begun b ≡ Some (as_begun d)) past)
+        → In c (filter_map (left_by e) (outstanding past)) → Ever (λ b. begun b ≡ Some (as_begun c)) (e ∷ past)
     old f k = let q = in_filter_map (left_by e) c (outstanding past) k in
         inr (subst (λ (d : Open). Ever (λ b. begun b ≡ Some d) past) (left_same e q.0 c q.2) (f q.0 q.1))
 
-pub begun_by : (word : ℕ) (t : List Entry) (c : Open) → LayerLaw word t → Ever (λ b. begun b ≡ Some c) t → c.first ≤ clock t
+pub begun_by : (word : ℕ) (t : List Entry) (c : Open) → LayerLaw word t → Ever (λ b. begun b ≡ Some c) t
+    → c.first ≤ clock t
 begun_by word [] c law h = absurd h
 begun_by word (e ∷ past) c law (inl h) = let f = begun_fresh e.at e.call e.answer c h in omega (arith, f.0)
 begun_by word (e ∷ past) c law (inr h) = let k = begun_by word past c law.1 h in omega (arith, k, law.0.time)
@@ -108,10 +124,12 @@ in_first P c [] h = h
 in_first P c (x ∷ cs) (inl h) = inl h.0
 in_first P c (x ∷ cs) (inr h) = inr (in_first P c cs h.1)
 
-not_copied : (e : Entry) (a : Answer) (to : Endpoint) (id : ℕ) → e.answer ≡ a → (a ≡ Copied to id → ⊥) → e.answer ≡ Copied to id → ⊥
+not_copied : (e : Entry) (a : Answer) (to : Endpoint) (id : ℕ) → e.answer ≡ a → (a ≡ Copied to id → ⊥)
+    → e.answer ≡ Copied to id → ⊥
 not_copied e a to id is other h = other (sym is ∙ h)
 
-copies_sorted : (word : ℕ) (past : List Entry) (e : Entry) (m : Incoming) (to : Endpoint) (id : ℕ) → Sorts word past e m → e.answer ≡ Copied to id → ⊥
+copies_sorted : (word : ℕ) (past : List Entry) (e : Entry) (m : Incoming) (to : Endpoint) (id : ℕ) → Sorts word past e m
+    → e.answer ≡ Copied to id → ⊥
 copies_sorted word past e m to id (rejects r) h = not_copied e _ to id r.answer (λ z. cc z) h
 copies_sorted word past e m to id (drops r) h = not_copied e _ to id r.answer (λ z. cc z) h
 copies_sorted word past e m to id (takes_ack r) h = not_copied e _ to id r.answer (λ z. cc z) h
@@ -125,7 +143,8 @@ copies_sorted word past e m to id (hands_over r) h = go r.answer
     go (inr (inl a)) = not_copied e _ to id a.3 (λ z. cc z) h
     go (inr (inr a)) = not_copied e _ to id a.1 (λ z. cc z) h
 
-copies_arrived : (word : ℕ) (past : List Entry) (e : Entry) (from : Endpoint) (what : Arrival) (to : Endpoint) (id : ℕ) → Arrives word past e from what → e.answer ≡ Copied to id → ⊥
+copies_arrived : (word : ℕ) (past : List Entry) (e : Entry) (from : Endpoint) (what : Arrival) (to : Endpoint) (id : ℕ)
+    → Arrives word past e from what → e.answer ≡ Copied to id → ⊥
 copies_arrived word past e from Unreadable to id r h = not_copied e _ to id r.0 (λ z. cc z) h
 copies_arrived word past e from (Faulted Con n) to id r h = not_copied e _ to id r.0 (λ z. cc z) h
 copies_arrived word past e from (Faulted Non n) to id r h = not_copied e _ to id r.0 (λ z. cc z) h
@@ -133,33 +152,48 @@ copies_arrived word past e from (Faulted Ack n) to id r h = not_copied e _ to id
 copies_arrived word past e from (Faulted Rst n) to id r h = not_copied e _ to id r.0 (λ z. cc z) h
 copies_arrived word past e from (Whole m) to id r h = copies_sorted word past e _ to id r h
 
-copies_sent : (kind : Kind) (word : ℕ) (past : List Entry) (e : Entry) (place : Endpoint) (content : Content) (to : Endpoint) (id : ℕ) → RefusesIds word past e ⊎ SendsAs kind word past e place content → e.answer ≡ Copied to id → ⊥
+copies_sent : (kind : Kind) (word : ℕ) (past : List Entry) (e : Entry) (place : Endpoint) (content : Content)
+    (to : Endpoint) (id : ℕ) → RefusesIds word past e ⊎ SendsAs kind word past e place content → e.answer ≡ Copied to id
+    → ⊥
 copies_sent kind word past e place content to id (inl r) h = not_copied e _ to id r.answer (λ z. cc z) h
 copies_sent kind word past e place content to id (inr r) h = not_copied e _ to id r.answer (λ z. cc z) h
 
-pub copies_row : (word : ℕ) (past : List Entry) (e : Entry) (call : Call) (to : Endpoint) (id : ℕ) → Row word past e call → e.answer ≡ Copied to id → Copies past e
-copies_row word past e (Receive from bytes) to id row h = absurd (copies_arrived word past e from row.1.0 to id row.1.2 h)
+pub copies_row : (word : ℕ) (past : List Entry) (e : Entry) (call : Call) (to : Endpoint) (id : ℕ)
+    → Row word past e call → e.answer ≡ Copied to id → Copies past e
+copies_row word past e (Receive from bytes) to id row h =
+    absurd (copies_arrived word past e from row.1.0 to id row.1.2 h)
 copies_row word past e (Reply place n bytes) to id row h = absurd (not_copied e _ to id row.1 (λ z. cc z) h)
-copies_row word past e (Confirm place content wish) to id row h = absurd (⊎_elim (λ r. not_copied e _ to id r.answer (λ z. cc z) h) (λ r. copies_sent Con word past e place content to id r.1 h) row.1)
-copies_row word past e (Plain place content) to id row h = absurd (copies_sent Non word past e place content to id row.1 h)
-copies_row word past e (Settle place n) to id row h = absurd (⊎_elim (λ k. not_copied e _ to id k.1 (λ z. cc z) h) (λ k. not_copied e _ to id k.1 (λ z. cc z) h) row.0.0)
+copies_row word past e (Confirm place content wish) to id row h =
+    absurd (⊎_elim (λ r. not_copied e _ to id r.answer (λ z. cc z) h)
+    (λ r. copies_sent Con word past e place content to id r.1 h) row.1)
+copies_row word past e (Plain place content) to id row h =
+    absurd (copies_sent Non word past e place content to id row.1 h)
+copies_row word past e (Settle place n) to id row h =
+    absurd (⊎_elim (λ k. not_copied e _ to id k.1 (λ z. cc z) h) (λ k. not_copied e _ to id k.1 (λ z. cc z) h) row.0.0)
 copies_row word past e Ticks to id (copies r) h = r
 copies_row word past e Ticks to id (expires r) h = absurd (not_copied e _ to id r.answer (λ z. cc z) h)
 copies_row word past e Ticks to id (rests r) h = absurd (not_copied e _ to id r.answer (λ z. cc z) h)
 copies_row word past e Take to id row h = absurd (not_copied e _ to id row.0 (λ z. cc z) h)
-copies_row word past e (Room place) to id row h = absurd (⊎_elim (λ k. not_copied e _ to id k.2 (λ z. cc z) h) (λ k. not_copied e _ to id k.1 (λ z. cc z) h) row.0)
-copies_row word past e AsksFree to id row h = absurd (⊎_elim (λ k. not_copied e _ to id k.1 (λ z. cc z) h) (λ k. not_copied e _ to id k.1 (λ z. cc z) h) row.0)
+copies_row word past e (Room place) to id row h =
+    absurd (⊎_elim (λ k. not_copied e _ to id k.2 (λ z. cc z) h) (λ k. not_copied e _ to id k.1 (λ z. cc z) h) row.0)
+copies_row word past e AsksFree to id row h =
+    absurd (⊎_elim (λ k. not_copied e _ to id k.1 (λ z. cc z) h) (λ k. not_copied e _ to id k.1 (λ z. cc z) h) row.0)
 copies_row word past e Pass to id row h = absurd (not_copied e _ to id row.0 (λ z. cc z) h)
 
-early : (now : ℕ) (con : Open) (cs : List Open) → IsFirst (HasStep now) con cs → (Fails now con → ⊥) → now ≤ con.first + last_retransmission
+early : (now : ℕ) (con : Open) (cs : List Open) → IsFirst (HasStep now) con cs → (Fails now con → ⊥)
+    → now ≤ con.first + last_retransmission
 early now con [] k a = absurd k
-early now con (c ∷ cs) (inl k) a = ⊎_elim (λ f. absurd (a (subst (Fails now) k.0 f))) (λ (d : CopyDue now c). subst (λ (x : Open). now ≤ x.first + last_retransmission) k.0 (let w = d.early in omega (arith, w))) k.1
+early now con (c ∷ cs) (inl k) a = ⊎_elim (λ f. absurd (a (subst (Fails now) k.0 f)))
+    (λ (d : CopyDue now c). subst (λ (x : Open). now ≤ x.first + last_retransmission) k.0
+    (let w = d.early in omega (arith, w))) k.1
 early now con (c ∷ cs) (inr k) a = early now con cs k.1 a
 
-copy_of : (word : ℕ) (past : List Entry) (e : Entry) (to : Endpoint) (id : ℕ) → LayerLaw word past → Stands word past e → e.answer ≡ Copied to id → CopyOf past e to id
+copy_of : (word : ℕ) (past : List Entry) (e : Entry) (to : Endpoint) (id : ℕ) → LayerLaw word past → Stands word past e
+    → e.answer ≡ Copied to id → CopyOf past e to id
 copy_of word past e to id law here h =
     let r : Copies past e = copies_row word past e e.call to id here.row h in
-    let there : Ever (λ b. begun b ≡ Some (as_begun r.con)) past = was_begun past r.con (in_first (HasStep e.at) r.con (outstanding past) r.first) in
+    let there : Ever (λ b. begun b ≡ Some (as_begun r.con)) past =
+    was_begun past r.con (in_first (HasStep e.at) r.con (outstanding past) r.first) in
     let same : Copied r.con.to r.con.id ≡ Copied to id = sym r.answer ∙ h in
     record {
       con = as_begun r.con;
@@ -173,16 +207,21 @@ copy_of word past e to id law here h =
 
 pub copies_in_time : (word : ℕ) (t : List Entry) → LayerLaw word t → CopiesInTime t
 copies_in_time word [] law = tt
-copies_in_time word (e ∷ past) law = ((λ to id h. copy_of word past e to id law.1 law.0 h), copies_in_time word past law.1)
+copies_in_time word (e ∷ past) law = (
+  (λ to id h. copy_of word past e to id law.1 law.0 h),
+  copies_in_time word past law.1,
+)
 
 pub ids_apart : (word : ℕ) (t : List Entry) → LayerLaw word t → IdsApart t
 ids_apart word t law = apart word (numbers t) (numbers_law word t law)
 
 -- a CON is begun only where none to there is outstanding
-free_row : (word : ℕ) (past : List Entry) (e : Entry) (call : Call) (c : Open) → Row word past e call → begun_in e.at call e.answer ≡ Some c → Busy past c.to → ⊥
+free_row : (word : ℕ) (past : List Entry) (e : Entry) (call : Call) (c : Open) → Row word past e call
+    → begun_in e.at call e.answer ≡ Some c → Busy past c.to → ⊥
 free_row word past e (Confirm to content wish) c row h busy =
     let b = begun_as e.at to content wish (sent_by e.answer) c h in
-    ⊎_elim (λ r. let none : sent_by e.answer ≡ None = ap sent_by r.answer in let some = b.3.1 in cc (none, some)) (λ r. r.0 (subst (Busy past) b.2 busy)) row.1
+    ⊎_elim (λ r. let none : sent_by e.answer ≡ None = ap sent_by r.answer in let some = b.3.1 in cc (none, some))
+    (λ r. r.0 (subst (Busy past) b.2 busy)) row.1
 free_row word past e (Receive from bytes) c row h busy = absurd (cc h)
 free_row word past e (Reply to id bytes) c row h busy = absurd (cc h)
 free_row word past e (Plain to content) c row h busy = absurd (cc h)
@@ -195,4 +234,7 @@ free_row word past e Pass c row h busy = absurd (cc h)
 
 pub one_outstanding : (word : ℕ) (t : List Entry) → LayerLaw word t → OneOutstanding t
 one_outstanding word [] law = tt
-one_outstanding word (e ∷ past) law = ((λ c h busy. free_row word past e e.call c law.0.row h busy), one_outstanding word past law.1)
+one_outstanding word (e ∷ past) law = (
+  (λ c h busy. free_row word past e e.call c law.0.row h busy),
+  one_outstanding word past law.1,
+)

@@ -55,10 +55,14 @@ at_most_in (k ∷ ks) t x = let a = one_at_most (t * k) x in let b = at_most_in 
 pub at_most_all : (t x : ℕ) → passed t x ≤ max_retransmit
 at_most_all = at_most_in (factors max_retransmit)
 
-due_in : (ks : List ℕ) (t x y : ℕ) → x ≤ y → Ever (λ (k : ℕ). (x < t * k) × (t * k ≤ y)) ks → passed_in ks t x + 1 ≤ passed_in ks t y
+due_in : (ks : List ℕ) (t x y : ℕ) → x ≤ y → Ever (λ (k : ℕ). (x < t * k) × (t * k ≤ y)) ks
+    → passed_in ks t x + 1 ≤ passed_in ks t y
 due_in [] t x y le h = absurd h
-due_in (k ∷ ks) t x y le (inl h) = let a = one_passed (t * k) x y h.0 h.1 in let b = more_in ks t x y le in omega (arith, a, b)
-due_in (k ∷ ks) t x y le (inr h) = let a = one_more (t * k) x y le in let b = due_in ks t x y le h in omega (arith, a, b)
+due_in (k ∷ ks) t x y le (inl h) = let a = one_passed (t * k) x y h.0 h.1 in let b =
+    more_in ks t x y le in omega (arith, a, b)
+due_in (k ∷ ks) t x y le (inr h) = let a = one_more (t * k) x y le in let b =
+    due_in ks t x y le h in omega (arith, a, b)
 
-pub due_passed : (t x y : ℕ) → x ≤ y → Ever (λ (k : ℕ). (x < t * k) × (t * k ≤ y)) (factors max_retransmit) → passed t x + 1 ≤ passed t y
+pub due_passed : (t x y : ℕ) → x ≤ y → Ever (λ (k : ℕ). (x < t * k) × (t * k ≤ y)) (factors max_retransmit)
+    → passed t x + 1 ≤ passed t y
 due_passed = due_in (factors max_retransmit)

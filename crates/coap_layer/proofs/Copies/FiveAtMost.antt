@@ -24,19 +24,24 @@ was_sent c t h = Ever_of_Sometime (λ past e. SendsIt c past e) (IsBegun c) go t
   where
     go : (past : List Entry) (e : Entry) → SendsIt c past e → Ever (IsBegun c) (e ∷ past)
     go past e (inl b) = inl b
-    go past e (inr k) = let q = some_in (λ x. as_begun x ≡ c) (outstanding past) k.0 in inr (subst (λ (d : Open). Ever (IsBegun d) past) q.2 (was_begun past q.0 q.1))
+    go past e (inr k) = let q = some_in (λ x. as_begun x ≡ c) (outstanding past) k.0 in inr
+        (subst (λ (d : Open). Ever (IsBegun d) past) q.2 (was_begun past q.0 q.1))
 
 least_begun : (c : Open) (n : ℕ) (t : List Entry) → AtLeast (suc n) (SendsIt c) t → Ever (IsBegun c) t
 least_begun c n t h = was_sent c t (Sometime_map _ _ (λ past e k. k.0) t h)
 
 -- a CON that is begun now was not sent before
-none_before : (word : ℕ) (past : List Entry) (e : Entry) (c : Open) (n : ℕ) → LayerLaw word (e ∷ past) → begun e ≡ Some c → AtLeast n (SendsIt c) past → n ≤ 0
+none_before : (word : ℕ) (past : List Entry) (e : Entry) (c : Open) (n : ℕ) → LayerLaw word (e ∷ past)
+    → begun e ≡ Some c → AtLeast n (SendsIt c) past → n ≤ 0
 none_before word past e c zero law b h = omega arith
 none_before word past e c (suc n) law b h = absurd (begun_once word past e c law b (least_begun c n past h))
 
 -- each sending but the first passes a due moment
-copy_step : (word : ℕ) (past : List Entry) (e : Entry) (c x : Open) → LayerLaw word (e ∷ past) → IsIn x (outstanding past) → as_begun x ≡ c → e.answer ≡ Copied c.to c.id → count x + 1 ≤ passed x.timeout (e.at - x.first)
-copy_step word past e c x law there is answer = due (subst (HasStep e.at) same (first_has (HasStep e.at) r.con (outstanding past) r.first))
+copy_step : (word : ℕ) (past : List Entry) (e : Entry) (c x : Open) → LayerLaw word (e ∷ past)
+    → IsIn x (outstanding past) → as_begun x ≡ c → e.answer ≡ Copied c.to c.id
+    → count x + 1 ≤ passed x.timeout (e.at - x.first)
+copy_step word past e c x law there is answer =
+    due (subst (HasStep e.at) same (first_has (HasStep e.at) r.con (outstanding past) r.first))
   where
     r : Copies past e
     r = copies_row word past e e.call c.to c.id law.0.row answer
@@ -45,7 +50,8 @@ copy_step word past e c x law there is answer = due (subst (HasStep e.at) same (
     con_to = let k = r.answer in cc (k, answer)
 
     same : r.con ≡ x
-    same = one_open word past law.1 r.con x (in_first (HasStep e.at) r.con (outstanding past) r.first) there (con_to ∙ sym (ap (λ (y : Open). y.to) is))
+    same = one_open word past law.1 r.con x (in_first (HasStep e.at) r.con (outstanding past) r.first) there
+        (con_to ∙ sym (ap (λ (y : Open). y.to) is))
 
     later : x.last ≤ e.at
     later = let k = last_by word past x law.1 there in omega (arith, k, law.0.time)
@@ -54,7 +60,8 @@ copy_step word past e c x law there is answer = due (subst (HasStep e.at) same (
     due (inl f) = absurd (r.alive (subst (Fails e.at) (sym same) f))
     due (inr d) = due_passed x.timeout (x.last - x.first) (e.at - x.first) (omega (arith, later)) d.due
 
-copies_this : (call : Call) (answer : Answer) (c x : Open) → as_begun x ≡ c → copies_in call answer c.to c.id ≡ copies_in call answer x.to x.id
+copies_this : (call : Call) (answer : Answer) (c x : Open) → as_begun x ≡ c
+    → copies_in call answer c.to c.id ≡ copies_in call answer x.to x.id
 copies_this call answer c x is = ap (λ (y : Open). copies_in call answer y.to y.id) (sym is)
 
 -- what an outstanding CON's sendings have come to
@@ -71,9 +78,11 @@ suc_first : (n a : ℕ) → n ≤ 0 → suc n ≤ a + 1
 suc_first n a h = omega (arith, h)
 
 -- an entry's sending, and the entries before it
-module _ (word : ℕ) (past : List Entry) (e : Entry) (c : Open) (law : LayerLaw word (e ∷ past)) (counted : Counted past c) where
+module _ (word : ℕ) (past : List Entry) (e : Entry) (c : Open) (law : LayerLaw word (e ∷ past))
+    (counted : Counted past c) where
   -- of a CON that goes on
-  went_on : (x y : Open) (n : ℕ) → IsIn x (outstanding past) → as_begun x ≡ c → Left e x y → AtLeast n (SendsIt c) (e ∷ past) → n ≤ count y + 1
+  went_on : (x y : Open) (n : ℕ) → IsIn x (outstanding past) → as_begun x ≡ c → Left e x y
+      → AtLeast n (SendsIt c) (e ∷ past) → n ≤ count y + 1
   went_on x y zero there is left h = omega arith
   went_on x y (suc n) there is left h = go h
     where
@@ -87,14 +96,19 @@ module _ (word : ℕ) (past : List Entry) (e : Entry) (c : Open) (law : LayerLaw
       before = let k = last_by word past x law.1 there in omega (arith, k, law.0.time)
 
       grows : ((y.last ≡ x.last) × (copies_in e.call e.answer x.to x.id ≡ false)) ⊎ (y.last ≡ e.at) → count x ≤ count y
-      grows (inl k) = subst (λ z. count x ≤ z) (sym count_is) (passed_more x.timeout (x.last - x.first) (y.last - x.first) (let l = k.0 in omega (arith, l)))
-      grows (inr k) = subst (λ z. count x ≤ z) (sym count_is) (passed_more x.timeout (x.last - x.first) (y.last - x.first) (omega (arith, k, before)))
+      grows (inl k) = subst (λ z. count x ≤ z) (sym count_is)
+          (passed_more x.timeout (x.last - x.first) (y.last - x.first) (let l = k.0 in omega (arith, l)))
+      grows (inr k) = subst (λ z. count x ≤ z) (sym count_is)
+          (passed_more x.timeout (x.last - x.first) (y.last - x.first) (omega (arith, k, before)))
 
-      steps : copies_in e.call e.answer c.to c.id ≡ true → ((y.last ≡ x.last) × (copies_in e.call e.answer x.to x.id ≡ false)) ⊎ (y.last ≡ e.at) → count x + 1 ≤ count y
+      steps : copies_in e.call e.answer c.to c.id ≡ true
+          → ((y.last ≡ x.last) × (copies_in e.call e.answer x.to x.id ≡ false)) ⊎ (y.last ≡ e.at)
+          → count x + 1 ≤ count y
       steps k (inl l) = let a = copies_this e.call e.answer c x is in let b = l.1 in absurd (cc (a, b, k))
       steps k (inr l) =
           subst (λ z. count x + 1 ≤ z) (sym count_is)
-          (subst (λ z. count x + 1 ≤ passed x.timeout (z - x.first)) (sym l) (copy_step word past e c x law there is (copied_by e.call e.answer c.to c.id k)))
+          (subst (λ z. count x + 1 ≤ passed x.timeout (z - x.first)) (sym l)
+          (copy_step word past e c x law there is (copied_by e.call e.answer c.to c.id k)))
 
       go : AtLeast (suc n) (SendsIt c) (e ∷ past) → suc n ≤ count y + 1
       go (inl (inl b, k)) = suc_first n (count y) (none_before word past e c n law b k)
@@ -109,7 +123,8 @@ module _ (word : ℕ) (past : List Entry) (e : Entry) (c : Open) (law : LayerLaw
 counted_in : (word : ℕ) (t : List Entry) (c : Open) → LayerLaw word t → Counted t c
 counted_in word [] c law x n there is h = absurd there
 counted_in word (e ∷ past) c law x n there is h =
-    ⊎_elim (old (counted_in word past c law.1)) (new (counted_in word past c law.1)) (Ever_append (λ y. y ≡ x) (filter_map (left_by e) (outstanding past)) (option_to_list (begun e)) there)
+    ⊎_elim (old (counted_in word past c law.1)) (new (counted_in word past c law.1))
+    (Ever_append (λ y. y ≡ x) (filter_map (left_by e) (outstanding past)) (option_to_list (begun e)) there)
   where
     old : Counted past c → IsIn x (filter_map (left_by e) (outstanding past)) → n ≤ count x + 1
     old f k =
@@ -120,9 +135,11 @@ counted_in word (e ∷ past) c law x n there is h =
     new f k =
         let b = in_option x (begun e) k in
         let at = begins_of e x b in
-        begun_here word past e c law f x n (b ∙ ap Some (ap (λ (m : ℕ). record x { last = m }) (at.last_is ∙ sym at.first_is) ∙ is)) h
+        begun_here word past e c law f x n (b ∙ ap Some
+        (ap (λ (m : ℕ). record x { last = m }) (at.last_is ∙ sym at.first_is) ∙ is)) h
 
-five_by : (word : ℕ) (t : List Entry) (c : Open) (n : ℕ) → LayerLaw word t → AtLeast n (SendsIt c) t → n ≤ 1 + max_retransmit
+five_by : (word : ℕ) (t : List Entry) (c : Open) (n : ℕ) → LayerLaw word t → AtLeast n (SendsIt c) t
+    → n ≤ 1 + max_retransmit
 five_by word t c zero law h = omega arith
 five_by word [] c (suc n) law h = absurd h
 five_by word (e ∷ past) c (suc n) law (inr h) = five_by word past c (suc n) law.1 h

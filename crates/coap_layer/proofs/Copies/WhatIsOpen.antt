@@ -31,14 +31,16 @@ first_has P c (x ∷ cs) (inr h) = first_has P c cs h.1
 first_has P c [] h = absurd h
 
 pub place_same : (a b : Endpoint) → a ≡ b → same_endpoint a b ≡ true
-place_same a b h = both _ _ ((bytes_decides a.ip b.ip).1 (ap (λ (x : Endpoint). x.ip) h)) (let p : a.port ≡ b.port = ap (λ (x : Endpoint). x.port) h in grind (arith, nat_tests, p))
+place_same a b h = both _ _ ((bytes_decides a.ip b.ip).1 (ap (λ (x : Endpoint). x.ip) h))
+    (let p : a.port ≡ b.port = ap (λ (x : Endpoint). x.port) h in grind (arith, nat_tests, p))
 
 -- at most one CON to a place is outstanding
 left_to : (e : Entry) (c d : Open) → left_by e c ≡ Some d → d.to ≡ c.to
 left_to e c d h = sym (ap (λ (x : Open). x.to) (left_same e c d h))
 
 pub busy_with : (past : List Entry) (a b : Open) → IsIn a (outstanding past) → a.to ≡ b.to → Busy past b.to
-busy_with past a b h to = Ever_map _ _ (λ x k. place_same x.to b.to (ap (λ (y : Open). y.to) k ∙ to)) (outstanding past) h
+busy_with past a b h to = Ever_map _ _ (λ x k. place_same x.to b.to (ap (λ (y : Open). y.to) k ∙ to))
+    (outstanding past) h
 
 pub one_open : (word : ℕ) (t : List Entry) → LayerLaw word t → OneOpen t
 one_open word [] law a b h k to = absurd h
@@ -71,7 +73,8 @@ one_open word (e ∷ past) law a b h k to = ⊎_elim
     mixed : (c d : Open) → Old c → New d → c.to ≡ d.to → ⊥
     mixed c d p q is =
         let x = in_filter_map (left_by e) c (outstanding past) p in
-        (one_outstanding word (e ∷ past) law).0 d (in_option d (begun e) q) (busy_with past x.0 d x.1 (sym (left_to e x.0 c x.2) ∙ is))
+        (one_outstanding word (e ∷ past) law).0 d (in_option d (begun e) q)
+        (busy_with past x.0 d x.1 (sym (left_to e x.0 c x.2) ∙ is))
 
 -- what is left of it
 pub record Left (e : Entry) (c d : Open) : Type 0 where
@@ -84,24 +87,39 @@ pub record Left (e : Entry) (c d : Open) : Type 0 where
 pub left_of : (e : Entry) (c d : Open) → left_by e c ≡ Some d → Left e c d
 left_of e c d h = go (ends_in e.call e.answer c.to c.id) (copies_in e.call e.answer c.to c.id) refl h
   where
-    go : (x y : Bool) → copies_in e.call e.answer c.to c.id ≡ y → cond x None (cond y (Some (record c { last = e.at })) (Some c)) ≡ Some d → Left e c d
+    go : (x y : Bool) → copies_in e.call e.answer c.to c.id ≡ y
+        → cond x None (cond y (Some (record c { last = e.at })) (Some c)) ≡ Some d → Left e c d
     go true y n k = absurd (cc k)
     go false true n k =
         let g : record c { last = e.at } ≡ d = cc k in
-        subst (Left e c) g (record { to_is = refl; id_is = refl; timeout_is = refl; first_is = refl; last_is = inr refl })
+        subst (Left e c) g (record {
+          to_is = refl;
+          id_is = refl;
+          timeout_is = refl;
+          first_is = refl;
+          last_is = inr refl;
+        })
     go false false n k =
         let g : c ≡ d = cc k in
-        subst (Left e c) g (record { to_is = refl; id_is = refl; timeout_is = refl; first_is = refl; last_is = inl (refl, n) })
+        subst (Left e c) g (record {
+          to_is = refl;
+          id_is = refl;
+          timeout_is = refl;
+          first_is = refl;
+          last_is = inl (refl, n);
+        })
 
 -- no CON went out later than the clock
 pub last_by : (word : ℕ) (t : List Entry) (c : Open) → LayerLaw word t → IsIn c (outstanding t) → c.last ≤ clock t
 last_by word [] c law h = absurd h
-last_by word (e ∷ past) c law h = ⊎_elim (old (λ d. last_by word past d law.1)) new (Ever_append (λ y. y ≡ c) (filter_map (left_by e) (outstanding past)) (option_to_list (begun e)) h)
+last_by word (e ∷ past) c law h = ⊎_elim (old (λ d. last_by word past d law.1)) new
+    (Ever_append (λ y. y ≡ c) (filter_map (left_by e) (outstanding past)) (option_to_list (begun e)) h)
   where
     new : IsIn c (option_to_list (begun e)) → c.last ≤ e.at
     new k = let b = begins_of e c (in_option c (begun e) k) in omega (arith, b.last_is)
 
-    old : ((d : Open) → IsIn d (outstanding past) → d.last ≤ clock past) → IsIn c (filter_map (left_by e) (outstanding past)) → c.last ≤ e.at
+    old : ((d : Open) → IsIn d (outstanding past) → d.last ≤ clock past)
+        → IsIn c (filter_map (left_by e) (outstanding past)) → c.last ≤ e.at
     old f k =
         let q = in_filter_map (left_by e) c (outstanding past) k in
         let before = f q.0 q.1 in
@@ -110,7 +128,8 @@ last_by word (e ∷ past) c law h = ⊎_elim (old (λ d. last_by word past d law
 -- the answer by which a CON goes out again
 ticks_copy : (answer : Answer) (to : Endpoint) (id : ℕ) → copies_in Ticks answer to id ≡ true → answer ≡ Copied to id
 ticks_copy (Copied place n) to id h =
-    ap (λ (x : Endpoint). Copied x n) (sym (same_endpoint_is to place (and_left _ _ h))) ∙ ap (Copied to) (sym (same_nat id n (and_right (same_endpoint to place) _ h)))
+    ap (λ (x : Endpoint). Copied x n) (sym (same_endpoint_is to place (and_left _ _ h)))
+    ∙ ap (Copied to) (sym (same_nat id n (and_right (same_endpoint to place) _ h)))
 ticks_copy (Becomes what) to id h = absurd (cc h)
 ticks_copy Nothing to id h = absurd (cc h)
 ticks_copy (Is b) to id h = absurd (cc h)
@@ -121,7 +140,8 @@ ticks_copy Idle to id h = absurd (cc h)
 ticks_copy (Expired place n) to id h = absurd (cc h)
 ticks_copy (Gives p) to id h = absurd (cc h)
 
-pub copied_by : (call : Call) (answer : Answer) (to : Endpoint) (id : ℕ) → copies_in call answer to id ≡ true → answer ≡ Copied to id
+pub copied_by : (call : Call) (answer : Answer) (to : Endpoint) (id : ℕ) → copies_in call answer to id ≡ true
+    → answer ≡ Copied to id
 copied_by Ticks answer to id h = ticks_copy answer to id h
 copied_by (Receive from bytes) answer to id h = absurd (cc h)
 copied_by (Reply place n bytes) answer to id h = absurd (cc h)

@@ -8,10 +8,13 @@ use Rattle.coap_layer.proofs.Machine.Forgetting.{led_step}
 
 pub steps_left : (old : State) (calls : List Asked) (new : State) → Steps old calls new → new ≡ left_after old calls
 steps_left old [] new h = h
-steps_left old (a ∷ earlier) new h = h.2.new_is ∙ ap (λ s. forgotten (after s (made s a.now a.call))) (steps_left old earlier h.0 h.1)
+steps_left old (a ∷ earlier) new h = h.2.new_is
+    ∙ ap (λ s. forgotten (after s (made s a.now a.call))) (steps_left old earlier h.0 h.1)
 
-pub led_steps : (word : ℕ) (t : List Entry) (old new : State) (calls : List Asked) → LayerLed word t old → Steps old calls new → LayerLed word (entries old calls ++ t) new
+pub led_steps : (word : ℕ) (t : List Entry) (old new : State) (calls : List Asked) → LayerLed word t old
+    → Steps old calls new → LayerLed word (entries old calls ++ t) new
 led_steps word t old new [] led h = subst (LayerLed word t) (sym h) led
 led_steps word t old new (a ∷ earlier) led h =
     subst (λ s. LayerLed word (made s a.now a.call ∷ (entries old earlier ++ t)) new) (steps_left old earlier h.0 h.1)
-    (led_step word (entries old earlier ++ t) h.0 new a.now a.call a.answer (led_steps word t old h.0 earlier led h.1) h.2)
+    (led_step word (entries old earlier ++ t) h.0 new a.now a.call a.answer
+    (led_steps word t old h.0 earlier led h.1) h.2)

@@ -13,20 +13,25 @@ abbrev pub entry_of : ℕ → Call → Answer → List Packet → Entry
 entry_of at call answer out = record { at = at; call = call; answer = answer; out = out }
 
 abbrev pub opens_then : ℕ → Call → Answer → List Packet → List Open → List Open
-opens_then at call answer out cs = filter_map (left_by (entry_of at call answer out)) cs ++ option_to_list (begun_in at call answer)
+opens_then at call answer out cs = filter_map (left_by (entry_of at call answer out)) cs
+    ++ option_to_list (begun_in at call answer)
 
-pub step_clock : (old new : L.State) (now : ℕ) (call : Call) (answer : Answer) → L.Step old now call answer new → new.clock ≡ moment old now call
+pub step_clock : (old new : L.State) (now : ℕ) (call : Call) (answer : Answer) → L.Step old now call answer new
+    → new.clock ≡ moment old now call
 step_clock old new now call answer step = ap (λ (s : L.State). s.clock) step.new_is
 
 pub step_opens : (old new : L.State) (now : ℕ) (call : Call) (answer : Answer) → L.Step old now call answer new
     → new.open_cons ≡ opens_then (moment old now call) call answer (out_of old (moment old now call) call) old.open_cons
 step_opens old new now call answer step =
     ap (λ (s : L.State). s.open_cons) step.new_is
-    ∙ ap (λ a. opens_then (moment old now call) call a (out_of old (moment old now call) call) old.open_cons) (sym step.right)
+    ∙ ap (λ a. opens_then (moment old now call) call a (out_of old (moment old now call) call) old.open_cons)
+    (sym step.right)
 
 pub left_same : (e : Entry) → ((c : Open) → left_by e c ≡ Some c) → (cs : List Open) → filter_map (left_by e) cs ≡ cs
 left_same e f [] = refl
-left_same e f (c ∷ cs) = ap (λ o. cons_option o (filter_map (left_by e) cs)) (f c) ∙ ap (λ ds. c ∷ ds) (left_same e f cs)
+left_same e f (c ∷ cs) = ap (λ o. cons_option o (filter_map (left_by e) cs)) (f c)
+    ∙ ap (λ ds. c ∷ ds) (left_same e f cs)
 
-pub left_same_nil : (e : Entry) → ((c : Open) → left_by e c ≡ Some c) → (cs : List Open) → filter_map (left_by e) cs ++ [] ≡ cs
+pub left_same_nil : (e : Entry) → ((c : Open) → left_by e c ≡ Some c) → (cs : List Open)
+    → filter_map (left_by e) cs ++ [] ≡ cs
 left_same_nil e f cs = append-nil _ ∙ left_same e f cs

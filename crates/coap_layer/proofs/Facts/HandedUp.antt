@@ -30,7 +30,8 @@ abbrev Only : Message → Option Message → Type 0
 Only n None = Unit {0}
 Only n (Some m) = (n ≡ m)
 
-again_only : (n : Message) (a : T.Disposition) → Only n (handed_in a) → (r f : Bool) → Only n (handed_in (again_or r f a))
+again_only : (n : Message) (a : T.Disposition) → Only n (handed_in a) → (r f : Bool)
+    → Only n (handed_in (again_or r f a))
 again_only n a h true f = tt
 again_only n a h false true = tt
 again_only n a h false false = h
@@ -60,13 +61,16 @@ fault_none : (b : Bool) → handed_in (cond b T.Rejected T.Dropped) ≡ None
 fault_none true = refl
 fault_none false = refl
 
-spelled_by : (s : L.State) (at : ℕ) (from : Endpoint) (bytes : List ℕ) (m : Message) (what : Arrival) → Shows bytes what → handed_in (answer_to s at from what) ≡ Some m → Spells bytes m
+spelled_by : (s : L.State) (at : ℕ) (from : Endpoint) (bytes : List ℕ) (m : Message) (what : Arrival) → Shows bytes what
+    → handed_in (answer_to s at from what) ≡ Some m → Spells bytes m
 spelled_by s at from bytes m Unreadable shows h = absurd (cc h)
 spelled_by s at from bytes m (Faulted kind id) shows h = let k = fault_none (is_con kind) in absurd (cc (h, k))
 spelled_by s at from bytes m (Whole n) shows h =
     let same : n ≡ m = subst (Only n) h (up_only n.kind (role_of n.code) n _ _ _ _) in subst (Spells bytes) same shows
 
 -- what was handed up is spelled
-pub spelled : (old new : L.State) (now : ℕ) (from : Endpoint) (bytes : List ℕ) (up : T.Answer) (m : Message) → L.Step old now (T.Receive from bytes) up new → message_in up ≡ Some m → Spells bytes m
+pub spelled : (old new : L.State) (now : ℕ) (from : Endpoint) (bytes : List ℕ) (up : T.Answer) (m : Message)
+    → L.Step old now (T.Receive from bytes) up new → message_in up ≡ Some m → Spells bytes m
 spelled old new now from bytes up m step h =
-    spelled_by old (L.moment old now (T.Receive from bytes)) from bytes m (arrival_at bytes) (shows_at bytes step.may) (sym (ap message_in step.right) ∙ h)
+    spelled_by old (L.moment old now (T.Receive from bytes)) from bytes m (arrival_at bytes) (shows_at bytes step.may)
+    (sym (ap message_in step.right) ∙ h)

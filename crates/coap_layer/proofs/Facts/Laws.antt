@@ -40,7 +40,8 @@ begins_of = numbered.begins_of
 pub cons_spelled : (word : ℕ) (t : List Entry) → LayerLaw word t → ConsSpelled t
 cons_spelled = outs.cons_spelled
 
-pub spelled_begun : (word : ℕ) (t : List Entry) (c : Open) → LayerLaw word t → Ever (λ b. begun b ≡ Some c) t → SpellsCon c
+pub spelled_begun : (word : ℕ) (t : List Entry) (c : Open) → LayerLaw word t → Ever (λ b. begun b ≡ Some c) t
+    → SpellsCon c
 spelled_begun = comes.spelled_begun
 
 pub each_goes_out : (word : ℕ) (t : List Entry) → LayerLaw word t → EachGoesOut t
@@ -55,7 +56,8 @@ pub handed_spelled : (word : ℕ) (t : List Entry) → LayerLaw word t → Hande
 handed_spelled = handed.handed_spelled
 
 module _ (one other : ℕ) (near far : Endpoint) where
-  pub begun_as : (past : List Hop) (x : Entry) (bytes : List ℕ) (m : Message) → ChannelLaw one other near far (Far x ∷ past) → x.call ≡ Receive near bytes → Spells bytes m → m.kind ≡ Con
+  pub begun_as : (past : List Hop) (x : Entry) (bytes : List ℕ) (m : Message)
+      → ChannelLaw one other near far (Far x ∷ past) → x.call ≡ Receive near bytes → Spells bytes m → m.kind ≡ Con
       → BegunAs far bytes m.id x.at (near_of past)
   begun_as = hops.begun_as one other near far
 

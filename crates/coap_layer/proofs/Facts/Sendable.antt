@@ -10,8 +10,17 @@ use Rattle.coap_layer.specs.Sendable.{IsSendableWhenShort}
 use Rattle.coap_layer.specs.Trace.{Content, with_head}
 use Rattle.coap_types.specs.declared.message.TheConstants.{MESSAGE_IDS as message_ids}
 
-can_be : (c : Content) (kind : Kind) (id : ℕ) → id < message_ids → CanBeSpelled (with_head Con 0 c) → CanBeSpelled (with_head kind id c)
-can_be c kind id small can = record { some = can.some; code = can.code; id = small; token = can.token; order = can.order; numbers = can.numbers; short = can.short }
+can_be : (c : Content) (kind : Kind) (id : ℕ) → id < message_ids → CanBeSpelled (with_head Con 0 c)
+    → CanBeSpelled (with_head kind id c)
+can_be c kind id small can = record {
+  some = can.some;
+  code = can.code;
+  id = small;
+  token = can.token;
+  order = can.order;
+  numbers = can.numbers;
+  short = can.short;
+}
 
 pub sendable_when_short : IsSendableWhenShort
 sendable_when_short c can fits = record {
@@ -21,7 +30,8 @@ sendable_when_short c can fits = record {
       let m : Message = with_head kind id c in
       let here = spelled_by m (can_be c kind id small can) in
       let there = bounded_spelling m (can_be c kind id small can) in
-      let same : length (message_bytes m) ≡ length there.0 = ap length (one_spelling m (message_bytes m) there.0 here there.1) in
+      let same : length (message_bytes m) ≡ length there.0 =
+      ap length (one_spelling m (message_bytes m) there.0 here there.1) in
       let most = there.2 in
       omega (arith, same, most);
 }

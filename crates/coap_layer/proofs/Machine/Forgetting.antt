@@ -24,21 +24,25 @@ use Rattle.coap_layer.proofs.Machine.WhatIsRemembered.{same_live}
 use Rattle.coap_layer.proofs.Machine.RowsAreSteps.{IsMoment, row_of}
 
 pub live_before : (now later : ℕ) (a : Arrived) → now ≤ later → is_live later a ≡ true → is_live now a ≡ true
-live_before now later a le h = true_le now (a.at + exchange_lifetime) (let k = le_true later (a.at + exchange_lifetime) h in omega (arith, k, le))
+live_before now later a le h = true_le now (a.at + exchange_lifetime)
+    (let k = le_true later (a.at + exchange_lifetime) h in omega (arith, k, le))
 
 pub of_live : (now : ℕ) (from : Endpoint) (id : ℕ) (a : Arrived) → is_of now from id a ≡ true → is_live now a ≡ true
 of_live now from id a h = and_left (is_live now a) _ h
 
-reply_step : (now : ℕ) (from : Endpoint) (id : ℕ) (a : Arrived) (es : List Arrived) (r : Option (List ℕ)) (b c : Bool) → (c ≡ true → b ≡ true) → is_of now from id a ≡ c
+reply_step : (now : ℕ) (from : Endpoint) (id : ℕ) (a : Arrived) (es : List Arrived) (r : Option (List ℕ)) (b c : Bool)
+    → (c ≡ true → b ≡ true) → is_of now from id a ≡ c
     → reply_of now from id es ≡ r → reply_of now from id (cond b (a ∷ es) es) ≡ cond c a.reply r
 reply_step now from id a es r true c i h e = cc
 reply_step now from id a es r false true i h e = absurd (cc (i refl))
 reply_step now from id a es r false false i h e = e
 
-reply_live : (now later : ℕ) (from : Endpoint) (id : ℕ) (es : List Arrived) → now ≤ later → reply_of later from id (filter (is_live now) es) ≡ reply_of later from id es
+reply_live : (now later : ℕ) (from : Endpoint) (id : ℕ) (es : List Arrived) → now ≤ later
+    → reply_of later from id (filter (is_live now) es) ≡ reply_of later from id es
 reply_live now later from id [] le = refl
 reply_live now later from id (a ∷ es) le =
-    reply_step later from id a (filter (is_live now) es) (reply_of later from id es) (is_live now a) (is_of later from id a)
+    reply_step later from id a (filter (is_live now) es) (reply_of later from id es) (is_live now a)
+    (is_of later from id a)
     (λ h. live_before now later a le (of_live later from id a h)) refl (reply_live now later from id es le)
 
 module _ (h : State) (at : ℕ) (le : h.clock ≤ at) where
@@ -47,12 +51,18 @@ module _ (h : State) (at : ℕ) (le : h.clock ≤ at) where
 
   same_sorted : (m : Incoming) → sorted_by (forgotten h) at m ≡ sorted_by h at m
   same_sorted m =
-      let known : is_remembered at m.from m.message.id (filter (is_live h.clock) h.arrived) ≡ is_remembered at m.from m.message.id h.arrived
-      = any_implied (is_live h.clock) (is_of at m.from m.message.id) (λ a k. live_before h.clock at a le (of_live at m.from m.message.id a k)) h.arrived in
-      let full : is_full at (filter (is_live h.clock) h.arrived) ≡ is_full at h.arrived = ap (λ es. nat_le max_remembered (length es)) live_then in
+      let known : is_remembered at m.from m.message.id (filter (is_live h.clock) h.arrived)
+      ≡ is_remembered at m.from m.message.id h.arrived
+      = any_implied (is_live h.clock) (is_of at m.from m.message.id)
+      (λ a k. live_before h.clock at a le (of_live at m.from m.message.id a k)) h.arrived in
+      let full : is_full at (filter (is_live h.clock) h.arrived)
+      ≡ is_full at h.arrived = ap (λ es. nat_le max_remembered (length es)) live_then in
       let free : Bool = is_free at h.upcoming h.last_used in
-      ap (λ r. up_of m.message.kind (role_of m.message.code) m.message (is_outstanding m.from m.message.id h.open_cons) r (is_full at (filter (is_live h.clock) h.arrived)) free) known
-      ∙ ap (λ f. up_of m.message.kind (role_of m.message.code) m.message (is_outstanding m.from m.message.id h.open_cons) (is_remembered at m.from m.message.id h.arrived) f free) full
+      ap (λ r. up_of m.message.kind (role_of m.message.code) m.message
+      (is_outstanding m.from m.message.id h.open_cons) r (is_full at (filter (is_live h.clock) h.arrived)) free)
+      known
+      ∙ ap (λ f. up_of m.message.kind (role_of m.message.code) m.message
+      (is_outstanding m.from m.message.id h.open_cons) (is_remembered at m.from m.message.id h.arrived) f free) full
 
   same_answer_to : (from : Endpoint) (what : Arrival) → answer_to (forgotten h) at from what ≡ answer_to h at from what
   same_answer_to from Unreadable = refl
@@ -72,7 +82,8 @@ module _ (h : State) (at : ℕ) (le : h.clock ≤ at) where
   same_answer Pass = refl
 
   same_replay : (m : Incoming) (u : Disposition) → replay (forgotten h) at m u ≡ replay h at m u
-  same_replay m Replayed = ap (λ r. cond (is_con m.message.kind) (to_packets m.from r) []) (reply_live h.clock at m.from m.message.id h.arrived le)
+  same_replay m Replayed = ap (λ r. cond (is_con m.message.kind) (to_packets m.from r) [])
+      (reply_live h.clock at m.from m.message.id h.arrived le)
   same_replay m Dropped = refl
   same_replay m Rejected = refl
   same_replay m (Request x b) = refl
@@ -84,7 +95,8 @@ module _ (h : State) (at : ℕ) (le : h.clock ≤ at) where
   same_out_to from Unreadable = refl
   same_out_to from (Faulted kind id) = refl
   same_out_to from (Whole m) =
-      same_replay (record { from = from; message = m }) (sorted_by (forgotten h) at (record { from = from; message = m }))
+      same_replay (record { from = from; message = m })
+      (sorted_by (forgotten h) at (record { from = from; message = m }))
       ∙ ap (replay h at (record { from = from; message = m })) (same_sorted (record { from = from; message = m }))
 
   pub same_out : (call : Call) → out_of (forgotten h) at call ≡ out_of h at call
@@ -104,13 +116,23 @@ pub same_after : (h : State) (e : Entry) → h.clock ≤ e.at → forgotten (aft
 same_after h e le =
     let new : List Arrived = newly e.at (taken e) in
     let old : List Arrived = filter (is_live h.clock) h.arrived in
-    let arrived : filter (is_live e.at) (map (stores e) old ++ new) ≡ filter (is_live e.at) (map (stores e) h.arrived ++ new)
+    let arrived : filter (is_live e.at) (map (stores e) old ++ new)
+    ≡ filter (is_live e.at) (map (stores e) h.arrived ++ new)
     = filter_more (is_live e.at) (map (stores e) old) new
     ∙ (ap (λ es. es ++ filter (is_live e.at) new)
     (filter_changed (is_live e.at) (stores e) (λ a. same_live e a e.at) old
-    ∙ (ap (map (stores e)) (live_then h e.at le) ∙ sym (filter_changed (is_live e.at) (stores e) (λ a. same_live e a e.at) h.arrived)))
+    ∙ (ap (map (stores e)) (live_then h e.at le)
+    ∙ sym (filter_changed (is_live e.at) (stores e) (λ a. same_live e a e.at) h.arrived)))
     ∙ sym (filter_more (is_live e.at) (map (stores e) h.arrived) new)) in
-    ap (λ (es : List Arrived). record { clock = e.at; awaits = awaits_in e.call e.answer h.awaits; upcoming = next_after (issued e) h.upcoming; last_used = uses_after (issued e) h.last_used; arrived = es; open_cons = filter_map (left_by e) h.open_cons ++ option_to_list (begun e); queue = drop (takes_in e.call) h.queue ++ e.out }) arrived
+    ap (λ (es : List Arrived). record {
+      clock = e.at;
+      awaits = awaits_in e.call e.answer h.awaits;
+      upcoming = next_after (issued e) h.upcoming;
+      last_used = uses_after (issued e) h.last_used;
+      arrived = es;
+      open_cons = filter_map (left_by e) h.open_cons ++ option_to_list (begun e);
+      queue = drop (takes_in e.call) h.queue ++ e.out;
+    }) arrived
 
 after_clock : (h : State) (now : ℕ) (call : Call) → h.clock ≤ moment (forgotten h) now call
 after_clock h now (Receive from bytes) = omega arith
@@ -124,7 +146,8 @@ after_clock h now (Room to) = omega arith
 after_clock h now AsksFree = omega arith
 after_clock h now Pass = omega arith
 
-is_moment : (word : ℕ) (t : List Entry) (now : ℕ) (call : Call) → IsMoment word t (moment (forgotten (history word t)) now call) call
+is_moment : (word : ℕ) (t : List Entry) (now : ℕ) (call : Call)
+    → IsMoment word t (moment (forgotten (history word t)) now call) call
 is_moment word t now (Receive from bytes) = tt
 is_moment word t now (Reply to id bytes) = refl
 is_moment word t now (Confirm to content wish) = tt
@@ -148,22 +171,31 @@ may_then h (Room to) k = tt
 may_then h AsksFree k = tt
 may_then h Pass k = tt
 
-pub stands : (word : ℕ) (t : List Entry) (now : ℕ) (call : Call) → LayerLaw word t → May (history word t) call → Stands word t (made (forgotten (history word t)) now call)
+pub stands : (word : ℕ) (t : List Entry) (now : ℕ) (call : Call) → LayerLaw word t → May (history word t) call
+    → Stands word t (made (forgotten (history word t)) now call)
 stands word t now call law may =
     let e : Entry = made (forgotten (history word t)) now call in
     let le : (history word t).clock ≤ e.at = after_clock (history word t) now call in
     let time : clock t ≤ e.at = le in
     record {
       time = time;
-      row = row_of word t e call law time (is_moment word t now call) may (same_answer (history word t) e.at le call) (same_out (history word t) e.at le call);
+      row = row_of word t e call law time (is_moment word t now call) may (same_answer (history word t) e.at le call)
+          (same_out (history word t) e.at le call);
     }
 
 -- one call more
-pub led_step : (word : ℕ) (t : List Entry) (old new : State) (now : ℕ) (call : Call) (answer : Answer) → LayerLed word t old → Step old now call answer new → LayerLed word (made old now call ∷ t) new
+pub led_step : (word : ℕ) (t : List Entry) (old new : State) (now : ℕ) (call : Call) (answer : Answer)
+    → LayerLed word t old → Step old now call answer new → LayerLed word (made old now call ∷ t) new
 led_step word t old new now call answer led step =
     subst (λ s. LayerLed word (made s now call ∷ t) new) (sym led.kept) (record {
-      law = (stands word t now call led.law (may_then (history word t) call (subst (λ s. May s call) led.kept step.may)), led.law);
-      kept = step.new_is ∙ (ap (λ s. forgotten (after s (made s now call))) led.kept ∙ same_after (history word t) (made (forgotten (history word t)) now call) (after_clock (history word t) now call));
+      law = (
+        stands word t now call led.law (may_then (history word t) call
+            (subst (λ s. May s call) led.kept step.may)),
+        led.law,
+      );
+      kept = step.new_is ∙ (ap (λ s. forgotten (after s (made s now call))) led.kept
+          ∙ same_after (history word t) (made (forgotten (history word t)) now call)
+          (after_clock (history word t) now call));
     })
 
 pub same_made : (h : State) (now : ℕ) (call : Call) → made (forgotten h) now call ≡ made h now call
@@ -171,8 +203,10 @@ same_made h now call =
     let at : ℕ = moment (forgotten h) now call in
     let le : h.clock ≤ at = after_clock h now call in
     let there : moment (forgotten h) now call ≡ moment h now call = same_moment call in
-    ap (λ (x : Answer). record { at = at; call = call; answer = x; out = out_of (forgotten h) at call }) (same_answer h at le call)
-    ∙ (ap (λ (x : List Packet). record { at = at; call = call; answer = answer_of h at call; out = x }) (same_out h at le call)
+    ap (λ (x : Answer). record { at = at; call = call; answer = x; out = out_of (forgotten h) at call })
+    (same_answer h at le call)
+    ∙ (ap (λ (x : List Packet). record { at = at; call = call; answer = answer_of h at call; out = x })
+    (same_out h at le call)
     ∙ ap (λ (x : ℕ). record { at = x; call = call; answer = answer_of h x call; out = out_of h x call }) there)
   where
     same_moment : (c : Call) → moment (forgotten h) now c ≡ moment h now c
@@ -188,7 +222,9 @@ same_made h now call =
     same_moment Pass = refl
 
 -- the fields of an object are a state too, with what is forgotten still there
-pub step_by : (h s : State) (now : ℕ) (call : Call) (answer : Answer) (new : State) → forgotten h ≡ s → May (forgotten h) call → answer ≡ (made h now call).answer → new ≡ forgotten (after h (made h now call)) → Step s now call answer new
+pub step_by : (h s : State) (now : ℕ) (call : Call) (answer : Answer) (new : State) → forgotten h ≡ s
+    → May (forgotten h) call → answer ≡ (made h now call).answer → new ≡ forgotten (after h (made h now call))
+    → Step s now call answer new
 step_by h s now call answer new is may right e =
     subst (λ x. Step x now call answer new) is (record {
       may = may;

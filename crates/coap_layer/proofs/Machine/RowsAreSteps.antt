@@ -55,27 +55,36 @@ module _ (word : ℕ) (t : List Entry) where
   h = history word t
 
   outstanding_is : (to : Endpoint) (id : ℕ) → Decides (is_outstanding to id h.open_cons) (Outstanding t to id)
-  outstanding_is to id = decided _ _ (any_ever (is_to to id) (λ c. is_to to id c ≡ true) (λ c k. k) (outstanding t)) (ever_any (is_to to id) (λ c. is_to to id c ≡ true) (λ c k. k) (outstanding t))
+  outstanding_is to id = decided _ _ (any_ever (is_to to id) (λ c. is_to to id c ≡ true) (λ c k. k) (outstanding t))
+      (ever_any (is_to to id) (λ c. is_to to id c ≡ true) (λ c k. k) (outstanding t))
 
   busy_is : (to : Endpoint) → Decides (is_busy to h.open_cons) (Busy t to)
-  busy_is to = decided _ _ (any_ever (λ (c : Open). same_endpoint c.to to) (λ (c : Open). same_endpoint c.to to ≡ true) (λ c k. k) (outstanding t)) (ever_any (λ (c : Open). same_endpoint c.to to) (λ (c : Open). same_endpoint c.to to ≡ true) (λ c k. k) (outstanding t))
+  busy_is to = decided _ _ (any_ever (λ (c : Open). same_endpoint c.to to) (λ (c : Open). same_endpoint c.to to ≡ true)
+      (λ c k. k) (outstanding t)) (ever_any (λ (c : Open). same_endpoint c.to to)
+      (λ (c : Open). same_endpoint c.to to ≡ true) (λ c k. k) (outstanding t))
 
-  known_is : (now : ℕ) (from : Endpoint) (id : ℕ) → Decides (is_remembered now from id h.arrived) (Remembered t now from id)
+  known_is : (now : ℕ) (from : Endpoint) (id : ℕ)
+      → Decides (is_remembered now from id h.arrived) (Remembered t now from id)
   known_is now from id = decided _ _ (remembered_of now from id t) (of_remembered now from id t)
 
   full_is : (now : ℕ) → Decides (is_full now h.arrived) (group_size ≤ remembered now t)
-  full_is now = subst (λ n. Decides (nat_le group_size n) (group_size ≤ remembered now t)) (sym (count_is now t)) (decided (nat_le group_size (remembered now t)) _ (le_true group_size (remembered now t)) (true_le group_size (remembered now t)))
+  full_is now = subst (λ n. Decides (nat_le group_size n) (group_size ≤ remembered now t)) (sym (count_is now t))
+      (decided (nat_le group_size (remembered now t)) _ (le_true group_size (remembered now t))
+      (true_le group_size (remembered now t)))
 
   stored_shape : (c w : Bool) (to : Endpoint) (r : Option (List ℕ))
-      → cond c (to_packets to (cond w r None)) [] ≡ cond (c && w) (elim r [ Some bytes ↦ record { to = to; bytes = bytes } ∷ [] | None ↦ [] ]) []
+      → cond c (to_packets to (cond w r None)) []
+      ≡ cond (c && w) (elim r [ Some bytes ↦ record { to = to; bytes = bytes } ∷ [] | None ↦ [] ]) []
   stored_shape true true to (Some b) = refl
   stored_shape true true to None = refl
   stored_shape true false to r = refl
   stored_shape false w to r = refl
 
-  stored_is : (now : ℕ) (m : Incoming) → LayerLaw word t → clock t ≤ now → Remembered t now m.from m.message.id → replay h now m Replayed ≡ stored t m
+  stored_is : (now : ℕ) (m : Incoming) → LayerLaw word t → clock t ≤ now → Remembered t now m.from m.message.id
+      → replay h now m Replayed ≡ stored t m
   stored_is now m law le old =
-      ap (λ r. cond (is_con m.message.kind) (to_packets m.from r) []) (found_is now m.from m.message.id word t law le (of_remembered now m.from m.message.id t old)).1
+      ap (λ r. cond (is_con m.message.kind) (to_packets m.from r) [])
+      (found_is now m.from m.message.id word t law le (of_remembered now m.from m.message.id t old)).1
       ∙ stored_shape (is_con m.message.kind) (was_con m.from m.message.id t) m.from (replied m.from m.message.id t)
 
   -- whether a Message ID is free
@@ -86,7 +95,8 @@ module _ (word : ℕ) (t : List Entry) where
   J now = Withholds word t now
 
   free_here : LayerLaw word t → (now : ℕ) → Chooses (is_free now h.upcoming h.last_used) (I now) (J now)
-  free_here law now = subst (λ n. Chooses (is_free now n (uses t)) (I now) (J now)) (sym (next_is word t)) (free_is word (numbers t) (uses t) now (uses_are word t law))
+  free_here law now = subst (λ n. Chooses (is_free now n (uses t)) (I now) (J now)) (sym (next_is word t))
+      (free_is word (numbers t) (uses t) now (uses_are word t law))
 
   is_true_by : (now : ℕ) (b : Bool) → Chooses b (I now) (J now) → I now → b ≡ true
   is_true_by now true c k = refl
@@ -114,7 +124,9 @@ module _ (word : ℕ) (t : List Entry) where
     F = group_size ≤ remembered e.at t
 
     abbrev Out : Type 0
-    Out = (e.answer ≡ Becomes Rejected → e.out ≡ replay h e.at m Rejected) × (e.answer ≡ Becomes Replayed → e.out ≡ stored t m) × (e.answer ≢ Becomes Rejected → e.answer ≢ Becomes Replayed → e.out ≡ [])
+    Out = (e.answer ≡ Becomes Rejected → e.out ≡ replay h e.at m Rejected)
+        × (e.answer ≡ Becomes Replayed → e.out ≡ stored t m)
+        × (e.answer ≢ Becomes Rejected → e.answer ≢ Becomes Replayed → e.out ≡ [])
 
     handed_rejected : HandedAs word t e m → e.answer ≢ Becomes Rejected
     handed_rejected (inl a) z = let k = a.2 in cc (k, z)
@@ -126,41 +138,135 @@ module _ (word : ℕ) (t : List Entry) where
     handed_replayed (inr (inl a)) z = let k = a.3 in cc (k, z)
     handed_replayed (inr (inr a)) z = let k = a.1 in cc (k, z)
 
-    new_of : (k : (k_is ≡ Con) ⊎ (k_is ≡ Non)) (c : (c_is ≡ role.Request) ⊎ (c_is ≡ role.Response)) (a : Disposition) → (e.answer ≡ Becomes a → HandedAs word t e m)
+    new_of : (k : (k_is ≡ Con) ⊎ (k_is ≡ Non)) (c : (c_is ≡ role.Request) ⊎ (c_is ≡ role.Response)) (a : Disposition)
+        → (e.answer ≡ Becomes a → HandedAs word t e m)
         → (r f : Bool) → Decides r R → Decides f F → e.answer ≡ Becomes (again_or r f a) → Out → Sorts word t e m
     new_of k c a w true f hr hf is out = replays (record { kind = k; class = c; old = hr; answer = is; out = out.1 is })
-    new_of k c a w false true hr hf is out = drops (record { why = ignores_new (record { kind = k; class = c; new = hr; full = hf }); answer = is; out = out.2 (λ z. cc (is, z)) (λ z. cc (is, z)) })
-    new_of k c a w false false hr hf is out = hands_over (record { kind = k; new = hr; room = omega (arith, hf); answer = w is; out = out.2 (handed_rejected (w is)) (handed_replayed (w is)) })
+    new_of k c a w false true hr hf is out = drops
+        (record {
+          why = ignores_new (record { kind = k; class = c; new = hr; full = hf });
+          answer = is;
+          out = out.2 (λ z. cc (is, z)) (λ z. cc (is, z));
+        })
+    new_of k c a w false false hr hf is out = hands_over
+        (record {
+          kind = k;
+          new = hr;
+          room = omega (arith, hf);
+          answer = w is;
+          out = out.2 (handed_rejected (w is)) (handed_replayed (w is));
+        })
 
-    non_request : (i : Bool) → k_is ≡ Non → c_is ≡ role.Request → Chooses i (I e.at) (J e.at) → e.answer ≡ Becomes (Request m.message i) → HandedAs word t e m
+    non_request : (i : Bool) → k_is ≡ Non → c_is ≡ role.Request → Chooses i (I e.at) (J e.at)
+        → e.answer ≡ Becomes (Request m.message i) → HandedAs word t e m
     non_request true hk hc hi is = inl (hc, inr hi, is)
     non_request false hk hc hi is = inr (inl (hc, hk, hi, is))
 
     -- from the table to the rows
-    arrives : (k : Kind) (c : Role) (o r f i : Bool) → k_is ≡ k → c_is ≡ c → Decides o O → Decides r R → Decides f F → Chooses i (I e.at) (J e.at) → e.answer ≡ Becomes (up_of k c m.message o r f i) → Out → Sorts word t e m
-    arrives Con role.Empty o r f i hk hc ho hr hf hi is out = rejects (record { kind = hk; class = inl hc; answer = is; out = out.0 is })
-    arrives Con role.Reserved o r f i hk hc ho hr hf hi is out = rejects (record { kind = hk; class = inr hc; answer = is; out = out.0 is })
-    arrives Con role.Request o r f i hk hc ho hr hf hi is out = new_of (inl hk) (inl hc) (Request m.message true) (λ w. inl (hc, inl hk, w)) r f hr hf is out
-    arrives Con role.Response o r f i hk hc ho hr hf hi is out = new_of (inl hk) (inr hc) (Response m.message) (λ w. inr (inr (hc, w))) r f hr hf is out
-    arrives Non role.Request o r f i hk hc ho hr hf hi is out = new_of (inr hk) (inl hc) (Request m.message i) (non_request i hk hc hi) r f hr hf is out
-    arrives Non role.Response o r f i hk hc ho hr hf hi is out = new_of (inr hk) (inr hc) (Response m.message) (λ w. inr (inr (hc, w))) r f hr hf is out
-    arrives Non role.Empty o r f i hk hc ho hr hf hi is out = drops (record { why = ignores_non (record { kind = hk; class = inl hc }); answer = is; out = out.2 (λ z. cc (is, z)) (λ z. cc (is, z)) })
-    arrives Non role.Reserved o r f i hk hc ho hr hf hi is out = drops (record { why = ignores_non (record { kind = hk; class = inr hc }); answer = is; out = out.2 (λ z. cc (is, z)) (λ z. cc (is, z)) })
-    arrives Ack role.Empty true r f i hk hc ho hr hf hi is out = takes_ack (record { kind = hk; class = hc; matches = ho; answer = is; out = out.2 (λ z. cc (is, z)) (λ z. cc (is, z)) })
-    arrives Ack role.Response true r f i hk hc ho hr hf hi is out = takes_answer (record { kind = hk; class = hc; matches = ho; answer = is; out = out.2 (λ z. cc (is, z)) (λ z. cc (is, z)) })
-    arrives Rst role.Empty true r f i hk hc ho hr hf hi is out = takes_reset (record { kind = hk; class = hc; matches = ho; answer = is; out = out.2 (λ z. cc (is, z)) (λ z. cc (is, z)) })
-    arrives Ack role.Empty false r f i hk hc ho hr hf hi is out = drops (record { why = ignores_unmatched (record { kind = inl (hk, inl hc); alone = ho }); answer = is; out = out.2 (λ z. cc (is, z)) (λ z. cc (is, z)) })
-    arrives Ack role.Response false r f i hk hc ho hr hf hi is out = drops (record { why = ignores_unmatched (record { kind = inl (hk, inr hc); alone = ho }); answer = is; out = out.2 (λ z. cc (is, z)) (λ z. cc (is, z)) })
-    arrives Rst role.Empty false r f i hk hc ho hr hf hi is out = drops (record { why = ignores_unmatched (record { kind = inr (hk, hc); alone = ho }); answer = is; out = out.2 (λ z. cc (is, z)) (λ z. cc (is, z)) })
-    arrives Ack role.Request o r f i hk hc ho hr hf hi is out = drops (record { why = ignores_ack (record { kind = hk; class = inl hc }); answer = is; out = out.2 (λ z. cc (is, z)) (λ z. cc (is, z)) })
-    arrives Ack role.Reserved o r f i hk hc ho hr hf hi is out = drops (record { why = ignores_ack (record { kind = hk; class = inr hc }); answer = is; out = out.2 (λ z. cc (is, z)) (λ z. cc (is, z)) })
-    arrives Rst role.Request o r f i hk hc ho hr hf hi is out = drops (record { why = ignores_reset (record { kind = hk; class = λ z. cc (hc, z) }); answer = is; out = out.2 (λ z. cc (is, z)) (λ z. cc (is, z)) })
-    arrives Rst role.Response o r f i hk hc ho hr hf hi is out = drops (record { why = ignores_reset (record { kind = hk; class = λ z. cc (hc, z) }); answer = is; out = out.2 (λ z. cc (is, z)) (λ z. cc (is, z)) })
-    arrives Rst role.Reserved o r f i hk hc ho hr hf hi is out = drops (record { why = ignores_reset (record { kind = hk; class = λ z. cc (hc, z) }); answer = is; out = out.2 (λ z. cc (is, z)) (λ z. cc (is, z)) })
+    arrives : (k : Kind) (c : Role) (o r f i : Bool) → k_is ≡ k → c_is ≡ c → Decides o O → Decides r R → Decides f F
+        → Chooses i (I e.at) (J e.at) → e.answer ≡ Becomes (up_of k c m.message o r f i) → Out → Sorts word t e m
+    arrives Con role.Empty o r f i hk hc ho hr hf hi is out =
+        rejects (record { kind = hk; class = inl hc; answer = is; out = out.0 is })
+    arrives Con role.Reserved o r f i hk hc ho hr hf hi is out =
+        rejects (record { kind = hk; class = inr hc; answer = is; out = out.0 is })
+    arrives Con role.Request o r f i hk hc ho hr hf hi is out =
+        new_of (inl hk) (inl hc) (Request m.message true) (λ w. inl (hc, inl hk, w)) r f hr hf is out
+    arrives Con role.Response o r f i hk hc ho hr hf hi is out =
+        new_of (inl hk) (inr hc) (Response m.message) (λ w. inr (inr (hc, w))) r f hr hf is out
+    arrives Non role.Request o r f i hk hc ho hr hf hi is out =
+        new_of (inr hk) (inl hc) (Request m.message i) (non_request i hk hc hi) r f hr hf is out
+    arrives Non role.Response o r f i hk hc ho hr hf hi is out =
+        new_of (inr hk) (inr hc) (Response m.message) (λ w. inr (inr (hc, w))) r f hr hf is out
+    arrives Non role.Empty o r f i hk hc ho hr hf hi is out =
+        drops (record {
+          why = ignores_non (record { kind = hk; class = inl hc });
+          answer = is;
+          out = out.2 (λ z. cc (is, z)) (λ z. cc (is, z));
+        })
+    arrives Non role.Reserved o r f i hk hc ho hr hf hi is out =
+        drops (record {
+          why = ignores_non (record { kind = hk; class = inr hc });
+          answer = is;
+          out = out.2 (λ z. cc (is, z)) (λ z. cc (is, z));
+        })
+    arrives Ack role.Empty true r f i hk hc ho hr hf hi is out =
+        takes_ack (record {
+          kind = hk;
+          class = hc;
+          matches = ho;
+          answer = is;
+          out = out.2 (λ z. cc (is, z)) (λ z. cc (is, z));
+        })
+    arrives Ack role.Response true r f i hk hc ho hr hf hi is out =
+        takes_answer (record {
+          kind = hk;
+          class = hc;
+          matches = ho;
+          answer = is;
+          out = out.2 (λ z. cc (is, z)) (λ z. cc (is, z));
+        })
+    arrives Rst role.Empty true r f i hk hc ho hr hf hi is out =
+        takes_reset (record {
+          kind = hk;
+          class = hc;
+          matches = ho;
+          answer = is;
+          out = out.2 (λ z. cc (is, z)) (λ z. cc (is, z));
+        })
+    arrives Ack role.Empty false r f i hk hc ho hr hf hi is out =
+        drops (record {
+          why = ignores_unmatched (record { kind = inl (hk, inl hc); alone = ho });
+          answer = is;
+          out = out.2 (λ z. cc (is, z)) (λ z. cc (is, z));
+        })
+    arrives Ack role.Response false r f i hk hc ho hr hf hi is out =
+        drops (record {
+          why = ignores_unmatched (record { kind = inl (hk, inr hc); alone = ho });
+          answer = is;
+          out = out.2 (λ z. cc (is, z)) (λ z. cc (is, z));
+        })
+    arrives Rst role.Empty false r f i hk hc ho hr hf hi is out =
+        drops (record {
+          why = ignores_unmatched (record { kind = inr (hk, hc); alone = ho });
+          answer = is;
+          out = out.2 (λ z. cc (is, z)) (λ z. cc (is, z));
+        })
+    arrives Ack role.Request o r f i hk hc ho hr hf hi is out =
+        drops (record {
+          why = ignores_ack (record { kind = hk; class = inl hc });
+          answer = is;
+          out = out.2 (λ z. cc (is, z)) (λ z. cc (is, z));
+        })
+    arrives Ack role.Reserved o r f i hk hc ho hr hf hi is out =
+        drops (record {
+          why = ignores_ack (record { kind = hk; class = inr hc });
+          answer = is;
+          out = out.2 (λ z. cc (is, z)) (λ z. cc (is, z));
+        })
+    arrives Rst role.Request o r f i hk hc ho hr hf hi is out =
+        drops (record {
+          why = ignores_reset (record { kind = hk; class = λ z. cc (hc, z) });
+          answer = is;
+          out = out.2 (λ z. cc (is, z)) (λ z. cc (is, z));
+        })
+    arrives Rst role.Response o r f i hk hc ho hr hf hi is out =
+        drops (record {
+          why = ignores_reset (record { kind = hk; class = λ z. cc (hc, z) });
+          answer = is;
+          out = out.2 (λ z. cc (is, z)) (λ z. cc (is, z));
+        })
+    arrives Rst role.Reserved o r f i hk hc ho hr hf hi is out =
+        drops (record {
+          why = ignores_reset (record { kind = hk; class = λ z. cc (hc, z) });
+          answer = is;
+          out = out.2 (λ z. cc (is, z)) (λ z. cc (is, z));
+        })
 
     -- and back
-    sorted : (k : Kind) (c : Role) (o r f i : Bool) → k_is ≡ k → c_is ≡ c → up_of k c m.message o r f i ≡ up_of k_is c_is m.message o r f i
-    sorted k c o r f i hk hc = ap (λ x. up_of x c m.message o r f i) (sym hk) ∙ ap (λ x. up_of k_is x m.message o r f i) (sym hc)
+    sorted : (k : Kind) (c : Role) (o r f i : Bool) → k_is ≡ k → c_is ≡ c
+        → up_of k c m.message o r f i ≡ up_of k_is c_is m.message o r f i
+    sorted k c o r f i hk hc = ap (λ x. up_of x c m.message o r f i) (sym hk)
+        ∙ ap (λ x. up_of k_is x m.message o r f i) (sym hc)
 
     -- what is answered to a new message
     abbrev fresh : (k_is ≡ Con) ⊎ (k_is ≡ Non) → (c_is ≡ role.Request) ⊎ (c_is ≡ role.Response) → Bool → Disposition
@@ -176,7 +282,8 @@ module _ (word : ℕ) (t : List Entry) where
     again_is (inr hk) (inl hc) o r f i = sym (sorted Non role.Request o r f i hk hc)
     again_is (inr hk) (inr hc) o r f i = sym (sorted Non role.Response o r f i hk hc)
 
-    drop_is : (o r f i : Bool) → Decides o O → Decides r R → Decides f F → Drops t e m → Dropped ≡ up_of k_is c_is m.message o r f i
+    drop_is : (o r f i : Bool) → Decides o O → Decides r R → Decides f F → Drops t e m
+        → Dropped ≡ up_of k_is c_is m.message o r f i
     drop_is o r f i ho hr hf d = go d.why
       where
         ack_class : (c : Role) → Dropped ≡ up_of Ack c m.message false r f i
@@ -198,36 +305,54 @@ module _ (word : ℕ) (t : List Entry) where
         odd role.Reserved h n = refl
 
         go : Ignores t e m → Dropped ≡ up_of k_is c_is m.message o r f i
-        go (ignores_non w) = ⊎_elim (λ c. sorted Non role.Empty o r f i w.kind c) (λ c. sorted Non role.Reserved o r f i w.kind c) w.class
+        go (ignores_non w) = ⊎_elim (λ c. sorted Non role.Empty o r f i w.kind c)
+            (λ c. sorted Non role.Reserved o r f i w.kind c) w.class
         go (ignores_reset w) = odd c_is refl w.class ∙ sorted Rst c_is o r f i w.kind refl
-        go (ignores_ack w) = ⊎_elim (λ c. sorted Ack role.Request o r f i w.kind c) (λ c. sorted Ack role.Reserved o r f i w.kind c) w.class
+        go (ignores_ack w) = ⊎_elim (λ c. sorted Ack role.Request o r f i w.kind c)
+            (λ c. sorted Ack role.Reserved o r f i w.kind c) w.class
         go (ignores_unmatched w) =
             let none = ap (λ x. up_of k_is c_is m.message x r f i) (sym (is_false o O ho w.alone)) in
-            ⊎_elim (λ k. ack_class c_is ∙ (sorted Ack c_is false r f i k.0 refl ∙ none)) (λ k. rst_class c_is ∙ (sorted Rst c_is false r f i k.0 refl ∙ none)) w.kind
+            ⊎_elim (λ k. ack_class c_is ∙ (sorted Ack c_is false r f i k.0 refl ∙ none))
+            (λ k. rst_class c_is ∙ (sorted Rst c_is false r f i k.0 refl ∙ none)) w.kind
         go (ignores_new w) =
             ap (λ x. again_or x true (fresh w.kind w.class i)) (sym (is_false r R hr w.new))
-            ∙ (ap (λ x. again_or r x (fresh w.kind w.class i)) (sym (is_true f F hf w.full)) ∙ sym (again_is w.kind w.class o r f i))
+            ∙ (ap (λ x. again_or r x (fresh w.kind w.class i)) (sym (is_true f F hf w.full))
+            ∙ sym (again_is w.kind w.class o r f i))
 
     abbrev class_of : HandedAs word t e m → (c_is ≡ role.Request) ⊎ (c_is ≡ role.Response)
     class_of (inl w) = inl w.0
     class_of (inr (inl w)) = inl w.0
     class_of (inr (inr w)) = inr w.0
 
-    given_is : (k : (k_is ≡ Con) ⊎ (k_is ≡ Non)) (i : Bool) → Chooses i (I e.at) (J e.at) → (w : HandedAs word t e m) → e.answer ≡ Becomes (fresh k (class_of w) i)
+    given_is : (k : (k_is ≡ Con) ⊎ (k_is ≡ Non)) (i : Bool) → Chooses i (I e.at) (J e.at) → (w : HandedAs word t e m)
+        → e.answer ≡ Becomes (fresh k (class_of w) i)
     given_is (inl hk) i hi (inl w) = w.2
-    given_is (inr hk) i hi (inl w) = w.2 ∙ ap (λ b. Becomes (Request m.message b)) (sym (is_true_by e.at i hi (⊎_elim (λ z. absurd (cc (hk, z))) (λ k. k) w.1)))
+    given_is (inr hk) i hi (inl w) = w.2 ∙ ap (λ b. Becomes (Request m.message b))
+        (sym (is_true_by e.at i hi (⊎_elim (λ z. absurd (cc (hk, z))) (λ k. k) w.1)))
     given_is (inl hk) i hi (inr (inl w)) = let z = w.1 in absurd (cc (hk, z))
-    given_is (inr hk) i hi (inr (inl w)) = w.3 ∙ ap (λ b. Becomes (Request m.message b)) (sym (is_false_by e.at i hi w.2))
+    given_is (inr hk) i hi (inr (inl w)) = w.3 ∙ ap (λ b. Becomes (Request m.message b))
+        (sym (is_false_by e.at i hi w.2))
     given_is (inl hk) i hi (inr (inr w)) = w.1
     given_is (inr hk) i hi (inr (inr w)) = w.1
 
-    answer_is : (o r f i : Bool) → Decides o O → Decides r R → Decides f F → Chooses i (I e.at) (J e.at) → Sorts word t e m → e.answer ≡ Becomes (up_of k_is c_is m.message o r f i)
-    answer_is o r f i ho hr hf hi (rejects w) = w.answer ∙ ap Becomes (⊎_elim (λ c. sorted Con role.Empty o r f i w.kind c) (λ c. sorted Con role.Reserved o r f i w.kind c) w.class)
+    answer_is : (o r f i : Bool) → Decides o O → Decides r R → Decides f F → Chooses i (I e.at) (J e.at)
+        → Sorts word t e m → e.answer ≡ Becomes (up_of k_is c_is m.message o r f i)
+    answer_is o r f i ho hr hf hi (rejects w) = w.answer
+        ∙ ap Becomes (⊎_elim (λ c. sorted Con role.Empty o r f i w.kind c)
+        (λ c. sorted Con role.Reserved o r f i w.kind c) w.class)
     answer_is o r f i ho hr hf hi (drops w) = w.answer ∙ ap Becomes (drop_is o r f i ho hr hf w)
-    answer_is o r f i ho hr hf hi (takes_ack w) = w.answer ∙ ap Becomes (sorted Ack role.Empty true r f i w.kind w.class ∙ ap (λ x. up_of k_is c_is m.message x r f i) (sym (is_true o O ho w.matches)))
-    answer_is o r f i ho hr hf hi (takes_reset w) = w.answer ∙ ap Becomes (sorted Rst role.Empty true r f i w.kind w.class ∙ ap (λ x. up_of k_is c_is m.message x r f i) (sym (is_true o O ho w.matches)))
-    answer_is o r f i ho hr hf hi (takes_answer w) = w.answer ∙ ap Becomes (sorted Ack role.Response true r f i w.kind w.class ∙ ap (λ x. up_of k_is c_is m.message x r f i) (sym (is_true o O ho w.matches)))
-    answer_is o r f i ho hr hf hi (replays w) = w.answer ∙ ap Becomes (ap (λ x. again_or x f (fresh w.kind w.class i)) (sym (is_true r R hr w.old)) ∙ sym (again_is w.kind w.class o r f i))
+    answer_is o r f i ho hr hf hi (takes_ack w) = w.answer
+        ∙ ap Becomes (sorted Ack role.Empty true r f i w.kind w.class
+        ∙ ap (λ x. up_of k_is c_is m.message x r f i) (sym (is_true o O ho w.matches)))
+    answer_is o r f i ho hr hf hi (takes_reset w) = w.answer
+        ∙ ap Becomes (sorted Rst role.Empty true r f i w.kind w.class
+        ∙ ap (λ x. up_of k_is c_is m.message x r f i) (sym (is_true o O ho w.matches)))
+    answer_is o r f i ho hr hf hi (takes_answer w) = w.answer
+        ∙ ap Becomes (sorted Ack role.Response true r f i w.kind w.class
+        ∙ ap (λ x. up_of k_is c_is m.message x r f i) (sym (is_true o O ho w.matches)))
+    answer_is o r f i ho hr hf hi (replays w) = w.answer
+        ∙ ap Becomes (ap (λ x. again_or x f (fresh w.kind w.class i)) (sym (is_true r R hr w.old))
+        ∙ sym (again_is w.kind w.class o r f i))
     answer_is o r f i ho hr hf hi (hands_over w) =
         let full : f ≡ false = is_false f F hf (λ k. omega (arith, k, w.room)) in
         let c = class_of w.answer in
@@ -254,9 +379,12 @@ module _ (word : ℕ) (t : List Entry) where
     out_is law le (hands_over w) = w.out ∙ handed_out w.answer
 
     -- both ways
-    received : LayerLaw word t → clock t ≤ e.at → Sorts word t e m → (e.answer ≡ Becomes (sorted_by h e.at m)) × (e.out ≡ replay h e.at m (sorted_by h e.at m))
+    received : LayerLaw word t → clock t ≤ e.at → Sorts word t e m
+        → (e.answer ≡ Becomes (sorted_by h e.at m)) × (e.out ≡ replay h e.at m (sorted_by h e.at m))
     received law le w =
-        let a : e.answer ≡ Becomes (sorted_by h e.at m) = answer_is _ _ _ _ (outstanding_is m.from m.message.id) (known_is e.at m.from m.message.id) (full_is e.at) (free_here law e.at) w in
+        let a : e.answer ≡ Becomes (sorted_by h e.at m) =
+        answer_is _ _ _ _ (outstanding_is m.from m.message.id) (known_is e.at m.from m.message.id) (full_is e.at)
+        (free_here law e.at) w in
         (a, out_is law le w ∙ ap told a)
 
     same_what : {x y : Disposition} → Becomes x ≡ Becomes y → x ≡ y
@@ -297,16 +425,21 @@ module _ (word : ℕ) (t : List Entry) where
     replayed_old Rst role.Response o false f i h = absurd (cc h)
     replayed_old Rst role.Reserved o false f i h = absurd (cc h)
 
-    receives : LayerLaw word t → clock t ≤ e.at → e.answer ≡ Becomes (sorted_by h e.at m) → e.out ≡ replay h e.at m (sorted_by h e.at m) → Sorts word t e m
+    receives : LayerLaw word t → clock t ≤ e.at → e.answer ≡ Becomes (sorted_by h e.at m)
+        → e.out ≡ replay h e.at m (sorted_by h e.at m) → Sorts word t e m
     receives law le a o =
-        arrives k_is c_is _ _ _ _ refl refl (outstanding_is m.from m.message.id) (known_is e.at m.from m.message.id) (full_is e.at) (free_here law e.at) a (
+        arrives k_is c_is _ _ _ _ refl refl (outstanding_is m.from m.message.id) (known_is e.at m.from m.message.id)
+        (full_is e.at) (free_here law e.at) a (
           (λ z. o ∙ ap told (sym a ∙ z)),
-          (λ z. o ∙ (ap told (sym a ∙ z) ∙ stored_is e.at m law le (remembered_of e.at m.from m.message.id t (replayed_old k_is c_is _ _ _ _ (same_what (sym a ∙ z)))))),
+          (λ z. o ∙ (ap told (sym a ∙ z) ∙ stored_is e.at m law le
+              (remembered_of e.at m.from m.message.id t (replayed_old k_is c_is _ _ _ _ (same_what (sym a ∙ z)))))),
           (λ n k. o ∙ quiet _ (λ z. n (a ∙ z)) (λ z. k (a ∙ z))),
         )
 
   -- a datagram
-  arrived : (e : Entry) (from : Endpoint) (what : Arrival) → LayerLaw word t → clock t ≤ e.at → Arrives word t e from what → (e.answer ≡ Becomes (answer_to h e.at from what)) × (e.out ≡ out_to h e.at from what)
+  arrived : (e : Entry) (from : Endpoint) (what : Arrival) → LayerLaw word t → clock t ≤ e.at
+      → Arrives word t e from what → (e.answer ≡ Becomes (answer_to h e.at from what))
+      × (e.out ≡ out_to h e.at from what)
   arrived e from Unreadable law le w = w
   arrived e from (Faulted Con id) law le w = w
   arrived e from (Faulted Non id) law le w = w
@@ -314,7 +447,8 @@ module _ (word : ℕ) (t : List Entry) where
   arrived e from (Faulted Rst id) law le w = w
   arrived e from (Whole m) law le w = received e (record { from = from; message = m }) law le w
 
-  arrives_so : (e : Entry) (from : Endpoint) (what : Arrival) → LayerLaw word t → clock t ≤ e.at → e.answer ≡ Becomes (answer_to h e.at from what) → e.out ≡ out_to h e.at from what → Arrives word t e from what
+  arrives_so : (e : Entry) (from : Endpoint) (what : Arrival) → LayerLaw word t → clock t ≤ e.at
+      → e.answer ≡ Becomes (answer_to h e.at from what) → e.out ≡ out_to h e.at from what → Arrives word t e from what
   arrives_so e from Unreadable law le a o = (a, o)
   arrives_so e from (Faulted Con id) law le a o = (a, o)
   arrives_so e from (Faulted Non id) law le a o = (a, o)
@@ -322,17 +456,21 @@ module _ (word : ℕ) (t : List Entry) where
   arrives_so e from (Faulted Rst id) law le a o = (a, o)
   arrives_so e from (Whole m) law le a o = receives e (record { from = from; message = m }) law le a o
 
-  shown : (e : Entry) (from : Endpoint) (bytes : List ℕ) (what : Arrival) → LayerLaw word t → clock t ≤ e.at → AreBytes bytes → Shows bytes what → Arrives word t e from what
-      → (e.answer ≡ Becomes (answer_to h e.at from (arrival_at bytes))) × (e.out ≡ out_to h e.at from (arrival_at bytes))
+  shown : (e : Entry) (from : Endpoint) (bytes : List ℕ) (what : Arrival) → LayerLaw word t → clock t ≤ e.at
+      → AreBytes bytes → Shows bytes what → Arrives word t e from what
+      → (e.answer ≡ Becomes (answer_to h e.at from (arrival_at bytes)))
+      × (e.out ≡ out_to h e.at from (arrival_at bytes))
   shown e from bytes what law le are shows w =
       arrived e from (arrival_at bytes) law le (subst (Arrives word t e from) (one_arrival bytes what are shows) w)
 
   -- every call
-  settled : (b : Bool) (P : Type 0) (answer : Answer) → Decides b P → ((P × (answer ≡ Is true)) ⊎ ((P → ⊥) × (answer ≡ Is false))) → answer ≡ Is b
+  settled : (b : Bool) (P : Type 0) (answer : Answer) → Decides b P
+      → ((P × (answer ≡ Is true)) ⊎ ((P → ⊥) × (answer ≡ Is false))) → answer ≡ Is b
   settled b P answer d (inl w) = w.1 ∙ ap Is (sym (is_true b P d w.0))
   settled b P answer d (inr w) = w.1 ∙ ap Is (sym (is_false b P d w.0))
 
-  settles_so : (b : Bool) (P : Type 0) (answer : Answer) → Decides b P → answer ≡ Is b → (P × (answer ≡ Is true)) ⊎ ((P → ⊥) × (answer ≡ Is false))
+  settles_so : (b : Bool) (P : Type 0) (answer : Answer) → Decides b P → answer ≡ Is b
+      → (P × (answer ≡ Is true)) ⊎ ((P → ⊥) × (answer ≡ Is false))
   settles_so true P answer d h = inl (d, h)
   settles_so false P answer d h = inr (d, h)
 
@@ -348,38 +486,50 @@ module _ (word : ℕ) (t : List Entry) where
 
   -- sendings, by whether a Message ID is free
   abbrev SentBy : Kind → Entry → Endpoint → Content → Bool → Type 0
-  SentBy kind e to content b = (e.answer ≡ sending b (next_id word t)) × (e.out ≡ sent_out b kind (next_id word t) to content)
+  SentBy kind e to content b = (e.answer ≡ sending b (next_id word t))
+      × (e.out ≡ sent_out b kind (next_id word t) to content)
 
-  sends_by : (kind : Kind) (e : Entry) (to : Endpoint) (content : Content) (b : Bool) → Chooses b (I e.at) (J e.at) → RefusesIds word t e ⊎ SendsAs kind word t e to content → SentBy kind e to content b
+  sends_by : (kind : Kind) (e : Entry) (to : Endpoint) (content : Content) (b : Bool) → Chooses b (I e.at) (J e.at)
+      → RefusesIds word t e ⊎ SendsAs kind word t e to content → SentBy kind e to content b
   sends_by kind e to content true d (inl r) = absurd (one_of word (numbers t) e.at d r.held)
   sends_by kind e to content false d (inl r) = (r.answer, r.out)
   sends_by kind e to content true d (inr r) =
-      let is : r.id ≡ next_id word t = r.gives.next ∙ sym (next_is word t) in
-      (r.answer ∙ ap Sent is, r.out ∙ ap (λ (n : ℕ). record { to = to; bytes = message_bytes (with_head kind n content) } ∷ []) is)
+      let is : r.id ≡ next_id word t = r.gives.next ∙ sym (next_is word t) in (
+        r.answer ∙ ap Sent is,
+        r.out ∙ ap (λ (n : ℕ). record
+            { to = to; bytes = message_bytes (with_head kind n content) } ∷ []) is,
+      )
   sends_by kind e to content false d (inr r) = absurd (one_of word (numbers t) e.at (gives_may e r.id r.gives) d)
     where
       gives_may : (e : Entry) (id : ℕ) → ids.Gives word (numbers t) e.at id → I e.at
       gives_may e id g = g.may
 
-  sends_so : (kind : Kind) (e : Entry) (to : Endpoint) (content : Content) (b : Bool) → Chooses b (I e.at) (J e.at) → e.answer ≡ sending b (next_id word t) → e.out ≡ sent_out b kind (next_id word t) to content
+  sends_so : (kind : Kind) (e : Entry) (to : Endpoint) (content : Content) (b : Bool) → Chooses b (I e.at) (J e.at)
+      → e.answer ≡ sending b (next_id word t) → e.out ≡ sent_out b kind (next_id word t) to content
       → RefusesIds word t e ⊎ SendsAs kind word t e to content
-  sends_so kind e to content true d a o = inr (record { id = next_id word t; gives = record { next = next_is word t; may = d }; answer = a; out = o })
+  sends_so kind e to content true d a o = inr (record
+      { id = next_id word t; gives = record { next = next_is word t; may = d }; answer = a; out = o })
   sends_so kind e to content false d a o = inl (record { held = d; answer = a; out = o })
 
-  confirmed : (e : Entry) (to : Endpoint) (content : Content) (busy free : Bool) → Decides busy (Busy t to) → Chooses free (I e.at) (J e.at) → Confirms word t e to content
-      → (e.answer ≡ cond busy Busied (sending free (next_id word t))) × (e.out ≡ cond busy [] (sent_out free Con (next_id word t) to content))
+  confirmed : (e : Entry) (to : Endpoint) (content : Content) (busy free : Bool) → Decides busy (Busy t to)
+      → Chooses free (I e.at) (J e.at) → Confirms word t e to content
+      → (e.answer ≡ cond busy Busied (sending free (next_id word t)))
+      × (e.out ≡ cond busy [] (sent_out free Con (next_id word t) to content))
   confirmed e to content true free d c (inl r) = (r.answer, r.out)
   confirmed e to content false free d c (inl r) = absurd (d r.busy)
   confirmed e to content true free d c (inr r) = absurd (r.0 d)
   confirmed e to content false free d c (inr r) = sends_by Con e to content free c r.1
 
-  confirms_so : (e : Entry) (to : Endpoint) (content : Content) (busy free : Bool) → Decides busy (Busy t to) → Chooses free (I e.at) (J e.at)
-      → e.answer ≡ cond busy Busied (sending free (next_id word t)) → e.out ≡ cond busy [] (sent_out free Con (next_id word t) to content) → Confirms word t e to content
+  confirms_so : (e : Entry) (to : Endpoint) (content : Content) (busy free : Bool) → Decides busy (Busy t to)
+      → Chooses free (I e.at) (J e.at)
+      → e.answer ≡ cond busy Busied (sending free (next_id word t))
+      → e.out ≡ cond busy [] (sent_out free Con (next_id word t) to content) → Confirms word t e to content
   confirms_so e to content true free d c a o = inl (record { busy = d; answer = a; out = o })
   confirms_so e to content false free d c a o = inr (d, sends_so Con e to content free c a o)
 
   roomed : (e : Entry) (to : Endpoint) (busy free : Bool) → Decides busy (Busy t to) → Chooses free (I e.at) (J e.at)
-      → (((Busy t to → ⊥) × I e.at × (e.answer ≡ Is true)) ⊎ ((Busy t to ⊎ J e.at) × (e.answer ≡ Is false))) → e.answer ≡ Is (not busy && free)
+      → (((Busy t to → ⊥) × I e.at × (e.answer ≡ Is true)) ⊎ ((Busy t to ⊎ J e.at) × (e.answer ≡ Is false)))
+      → e.answer ≡ Is (not busy && free)
   roomed e to true free d c (inl r) = absurd (r.0 d)
   roomed e to false true d c (inl r) = r.2
   roomed e to false false d c (inl r) = absurd (one_of word (numbers t) e.at r.1 c)
@@ -387,28 +537,33 @@ module _ (word : ℕ) (t : List Entry) where
   roomed e to false true d c (inr r) = absurd (⊎_elim d (λ j. one_of word (numbers t) e.at c j) r.0)
   roomed e to false false d c (inr r) = r.1
 
-  rooms_so : (e : Entry) (to : Endpoint) (busy free : Bool) → Decides busy (Busy t to) → Chooses free (I e.at) (J e.at) → e.answer ≡ Is (not busy && free)
+  rooms_so : (e : Entry) (to : Endpoint) (busy free : Bool) → Decides busy (Busy t to) → Chooses free (I e.at) (J e.at)
+      → e.answer ≡ Is (not busy && free)
       → ((Busy t to → ⊥) × I e.at × (e.answer ≡ Is true)) ⊎ ((Busy t to ⊎ J e.at) × (e.answer ≡ Is false))
   rooms_so e to true free d c a = inr (inl d, a)
   rooms_so e to false true d c a = inl (d, c, a)
   rooms_so e to false false d c a = inr (inr c, a)
 
-  freed : (e : Entry) (free : Bool) → Chooses free (I e.at) (J e.at) → ((I e.at × (e.answer ≡ Is true)) ⊎ (J e.at × (e.answer ≡ Is false))) → e.answer ≡ Is free
+  freed : (e : Entry) (free : Bool) → Chooses free (I e.at) (J e.at)
+      → ((I e.at × (e.answer ≡ Is true)) ⊎ (J e.at × (e.answer ≡ Is false))) → e.answer ≡ Is free
   freed e free c (inl r) = r.1 ∙ ap Is (sym (is_true_by e.at free c r.0))
   freed e free c (inr r) = r.1 ∙ ap Is (sym (is_false_by e.at free c r.0))
 
-  frees_so : (e : Entry) (free : Bool) → Chooses free (I e.at) (J e.at) → e.answer ≡ Is free → (I e.at × (e.answer ≡ Is true)) ⊎ (J e.at × (e.answer ≡ Is false))
+  frees_so : (e : Entry) (free : Bool) → Chooses free (I e.at) (J e.at) → e.answer ≡ Is free
+      → (I e.at × (e.answer ≡ Is true)) ⊎ (J e.at × (e.answer ≡ Is false))
   frees_so e true c a = inl (c, a)
   frees_so e false c a = inr (c, a)
 
   -- the rows give what the state gives
-  pub right_of : (e : Entry) (call : Call) → LayerLaw word t → clock t ≤ e.at → Row word t e call → (e.answer ≡ answer_of h e.at call) × (e.out ≡ out_of h e.at call)
+  pub right_of : (e : Entry) (call : Call) → LayerLaw word t → clock t ≤ e.at → Row word t e call
+      → (e.answer ≡ answer_of h e.at call) × (e.out ≡ out_of h e.at call)
   right_of e (Receive from bytes) law le row = shown e from bytes row.1.0 law le row.0 row.1.1 row.1.2
   right_of e (Reply to id bytes) law le row = (row.1, row.2)
   right_of e (Confirm to content wish) law le row = confirmed e to content _ _ (busy_is to) (free_here law e.at) row.1
   right_of e (Plain to content) law le row = sends_by Non e to content _ (free_here law e.at) row.1
   right_of e (Settle to id) law le row = (settled _ _ e.answer (outstanding_is to id) row.0.0, row.0.1)
-  right_of e Ticks law le row = one_tick e.at e.answer _ e.out _ (outstanding t) (ticked e row) (tick_is e.at (outstanding t))
+  right_of e Ticks law le row = one_tick e.at e.answer _ e.out _ (outstanding t) (ticked e row)
+      (tick_is e.at (outstanding t))
   right_of e Take law le row = (row.0, row.1)
   right_of e (Room to) law le row = (roomed e to _ _ (busy_is to) (free_here law e.at) row.0, row.1)
   right_of e AsksFree law le row = (freed e _ (free_here law e.at) row.0, row.1)
@@ -422,23 +577,29 @@ module _ (word : ℕ) (t : List Entry) where
   IsMoment at _ = Unit {0}
 
   -- and back
-  pub row_of : (e : Entry) (call : Call) → LayerLaw word t → clock t ≤ e.at → IsMoment e.at call → May h call → e.answer ≡ answer_of h e.at call → e.out ≡ out_of h e.at call → Row word t e call
-  row_of e (Receive from bytes) law le at may a o = (may, (arrival_at bytes, shows_at bytes may, arrives_so e from (arrival_at bytes) law le a o))
+  pub row_of : (e : Entry) (call : Call) → LayerLaw word t → clock t ≤ e.at → IsMoment e.at call → May h call
+      → e.answer ≡ answer_of h e.at call → e.out ≡ out_of h e.at call → Row word t e call
+  row_of e (Receive from bytes) law le at may a o =
+      (may, (arrival_at bytes, shows_at bytes may, arrives_so e from (arrival_at bytes) law le a o))
   row_of e (Reply to id bytes) law le at may a o = (may, a, o, at)
-  row_of e (Confirm to content wish) law le at may a o = (may, confirms_so e to content _ _ (busy_is to) (free_here law e.at) a o)
+  row_of e (Confirm to content wish) law le at may a o =
+      (may, confirms_so e to content _ _ (busy_is to) (free_here law e.at) a o)
   row_of e (Plain to content) law le at may a o = (may, sends_so Non e to content _ (free_here law e.at) a o)
   row_of e (Settle to id) law le at may a o = ((settles_so _ _ e.answer (outstanding_is to id) a, o), at)
-  row_of e Ticks law le at may a o = turned e (subst (λ x. TickIs e.at x e.out (outstanding t)) (sym a) (subst (λ x. TickIs e.at (tick_of e.at h.open_cons) x (outstanding t)) (sym o) (tick_is e.at (outstanding t))))
+  row_of e Ticks law le at may a o = turned e (subst (λ x. TickIs e.at x e.out (outstanding t)) (sym a)
+      (subst (λ x. TickIs e.at (tick_of e.at h.open_cons) x (outstanding t)) (sym o) (tick_is e.at (outstanding t))))
   row_of e Take law le at may a o = (a, o, at)
   row_of e (Room to) law le at may a o = (rooms_so e to _ _ (busy_is to) (free_here law e.at) a, o)
   row_of e AsksFree law le at may a o = (frees_so e _ (free_here law e.at) a, o)
   row_of e Pass law le at may a o = (a, o)
 
 -- one answer and one sending for each call
-pub exact : (word : ℕ) (past : List Entry) (e f : Entry) → LayerLaw word past → Stands word past e → Stands word past f → e.call ≡ f.call → e.at ≡ f.at → (e.answer ≡ f.answer) × (e.out ≡ f.out)
+pub exact : (word : ℕ) (past : List Entry) (e f : Entry) → LayerLaw word past → Stands word past e → Stands word past f
+    → e.call ≡ f.call → e.at ≡ f.at → (e.answer ≡ f.answer) × (e.out ≡ f.out)
 exact word past e f law one two call at =
     let a = right_of word past e e.call law one.time one.row in
     let b = right_of word past f f.call law two.time two.row in (
-      a.0 ∙ (ap (λ x. answer_of (history word past) x e.call) at ∙ (ap (answer_of (history word past) f.at) call ∙ sym b.0)),
+      a.0 ∙ (ap (λ x. answer_of (history word past) x e.call) at
+          ∙ (ap (answer_of (history word past) f.at) call ∙ sym b.0)),
       a.1 ∙ (ap (λ x. out_of (history word past) x e.call) at ∙ (ap (out_of (history word past) f.at) call ∙ sym b.1)),
     )

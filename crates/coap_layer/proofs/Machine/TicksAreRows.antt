@@ -18,18 +18,22 @@ module _ (now : ℕ) where
 
   pub copy_due : (c : Open) → is_copy_due now c ≡ true → CopyDue now c
   copy_due c h = record {
-    due = any_ever (is_due now c) (Due c) (λ k d. (lt_true _ _ (and_left _ _ d), le_true _ _ (and_right _ _ d))) (factors max_retransmit) (and_right _ _ h);
+    due = any_ever (is_due now c) (Due c) (λ k d. (lt_true _ _ (and_left _ _ d), le_true _ _ (and_right _ _ d)))
+        (factors max_retransmit) (and_right _ _ h);
     early = le_true _ _ (and_left _ _ h);
   }
 
   pub due_copy : (c : Open) → CopyDue now c → is_copy_due now c ≡ true
-  due_copy c h = both _ _ (true_le _ _ h.early) (ever_any (is_due now c) (Due c) (λ k d. both _ _ (true_lt _ _ d.0) (true_le _ _ d.1)) (factors max_retransmit) h.due)
+  due_copy c h = both _ _ (true_le _ _ h.early)
+      (ever_any (is_due now c) (Due c) (λ k d. both _ _ (true_lt _ _ d.0) (true_le _ _ d.1))
+      (factors max_retransmit) h.due)
 
   -- what a tick does, where the list has a first step and where it has none
   abbrev pub TickIs : Answer → List Packet → List Open → Type 0
   TickIs answer out cs =
       ((con : Open) × IsFirst (HasStep now) con cs × Fails now con × (answer ≡ Expired con.to con.id) × (out ≡ []))
-      ⊎ ((con : Open) × IsFirst (HasStep now) con cs × (Fails now con → ⊥) × (answer ≡ Copied con.to con.id) × (out ≡ record { to = con.to; bytes = con.bytes } ∷ []))
+      ⊎ ((con : Open) × IsFirst (HasStep now) con cs × (Fails now con → ⊥) × (answer ≡ Copied con.to con.id)
+      × (out ≡ record { to = con.to; bytes = con.bytes } ∷ []))
       ⊎ ((Ever (HasStep now) cs → ⊥) × (answer ≡ Idle) × (out ≡ []))
 
   not_failed : (c : Open) → is_failed now c ≡ false → Fails now c → ⊥
@@ -44,7 +48,8 @@ module _ (now : ℕ) where
   tick_is (c ∷ cs) = go (is_failed now c) (is_copy_due now c) refl refl (tick_is cs)
     where
       go : (f d : Bool) → is_failed now c ≡ f → is_copy_due now c ≡ d → TickIs (tick_of now cs) (copies now cs) cs
-          → TickIs (cond f (Expired c.to c.id) (cond d (Copied c.to c.id) (tick_of now cs))) (cond f [] (cond d (record { to = c.to; bytes = c.bytes } ∷ []) (copies now cs))) (c ∷ cs)
+          → TickIs (cond f (Expired c.to c.id) (cond d (Copied c.to c.id) (tick_of now cs)))
+          (cond f [] (cond d (record { to = c.to; bytes = c.bytes } ∷ []) (copies now cs))) (c ∷ cs)
       go true d hf hd r = inl (c, inl (refl, inl (le_true _ _ hf)), le_true _ _ hf, refl, refl)
       go false true hf hd r = inr (inl (c, inl (refl, inr (copy_due c hd)), not_failed c hf, refl, refl))
       go false false hf hd (inl r) = inl (r.0, inr (no_step c hf hd, r.1), r.2, r.3, r.4)
@@ -65,14 +70,23 @@ module _ (now : ℕ) where
   first_ever P a (c ∷ cs) (inr h) = inr (first_ever P a cs h.1)
 
   -- so an answer that the words allow is the table's
-  pub one_tick : (answer other : Answer) (out sent : List Packet) (cs : List Open) → TickIs answer out cs → TickIs other sent cs → (answer ≡ other) × (out ≡ sent)
-  one_tick answer other out sent cs (inl r) (inl s) = let e = first_one (HasStep now) r.0 s.0 cs r.1 s.1 in (r.3 ∙ (ap (λ (c : Open). Expired c.to c.id) e ∙ sym s.3), r.4 ∙ sym s.4)
-  one_tick answer other out sent cs (inl r) (inr (inl s)) = let e = first_one (HasStep now) r.0 s.0 cs r.1 s.1 in absurd (s.2 (subst (Fails now) e r.2))
+  pub one_tick : (answer other : Answer) (out sent : List Packet) (cs : List Open) → TickIs answer out cs
+      → TickIs other sent cs → (answer ≡ other) × (out ≡ sent)
+  one_tick answer other out sent cs (inl r) (inl s) = let e =
+      first_one (HasStep now) r.0 s.0 cs r.1 s.1 in (
+        r.3 ∙ (ap (λ (c : Open). Expired c.to c.id) e ∙ sym s.3),
+        r.4 ∙ sym s.4,
+      )
+  one_tick answer other out sent cs (inl r) (inr (inl s)) = let e =
+      first_one (HasStep now) r.0 s.0 cs r.1 s.1 in absurd (s.2 (subst (Fails now) e r.2))
   one_tick answer other out sent cs (inl r) (inr (inr s)) = absurd (s.0 (first_ever (HasStep now) r.0 cs r.1))
-  one_tick answer other out sent cs (inr (inl r)) (inl s) = let e = first_one (HasStep now) s.0 r.0 cs s.1 r.1 in absurd (r.2 (subst (Fails now) e s.2))
+  one_tick answer other out sent cs (inr (inl r)) (inl s) = let e =
+      first_one (HasStep now) s.0 r.0 cs s.1 r.1 in absurd (r.2 (subst (Fails now) e s.2))
   one_tick answer other out sent cs (inr (inl r)) (inr (inl s)) =
-      let e = first_one (HasStep now) r.0 s.0 cs r.1 s.1 in
-      (r.3 ∙ (ap (λ (c : Open). Copied c.to c.id) e ∙ sym s.3), r.4 ∙ (ap (λ (c : Open). record { to = c.to; bytes = c.bytes } ∷ []) e ∙ sym s.4))
+      let e = first_one (HasStep now) r.0 s.0 cs r.1 s.1 in (
+        r.3 ∙ (ap (λ (c : Open). Copied c.to c.id) e ∙ sym s.3),
+        r.4 ∙ (ap (λ (c : Open). record { to = c.to; bytes = c.bytes } ∷ []) e ∙ sym s.4),
+      )
   one_tick answer other out sent cs (inr (inl r)) (inr (inr s)) = absurd (s.0 (first_ever (HasStep now) r.0 cs r.1))
   one_tick answer other out sent cs (inr (inr r)) (inl s) = absurd (r.0 (first_ever (HasStep now) s.0 cs s.1))
   one_tick answer other out sent cs (inr (inr r)) (inr (inl s)) = absurd (r.0 (first_ever (HasStep now) s.0 cs s.1))

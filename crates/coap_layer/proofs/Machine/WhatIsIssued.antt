@@ -23,7 +23,8 @@ use Rattle.coap_layer.proofs.Numbers.EqualIdsAreApart.{small, not_both}
 
 -- each entry gives no number, or the one that is next
 abbrev GivesOne : ℕ → List Entry → Entry → Type 0
-GivesOne word past e = (issued_by e.at e.answer ≡ []) ⊎ ((id : ℕ) × Gives word (numbers past) e.at id × (e.answer ≡ Sent id))
+GivesOne word past e = (issued_by e.at e.answer ≡ [])
+    ⊎ ((id : ℕ) × Gives word (numbers past) e.at id × (e.answer ≡ Sent id))
 
 none_by : (at : ℕ) (answer a : Answer) → answer ≡ a → issued_by at a ≡ [] → issued_by at answer ≡ []
 none_by at answer a is no_number = ap (issued_by at) is ∙ no_number
@@ -51,7 +52,8 @@ module _ (word : ℕ) (past : List Entry) (e : Entry) where
   arrived_gives from (Faulted Rst id) r = none_by e.at e.answer _ r.0 refl
   arrived_gives from (Whole m) r = sorted_gives _ r
 
-  plain_gives : (kind : Kind) (to : Endpoint) (content : Content) → RefusesIds word past e ⊎ SendsAs kind word past e to content → GivesOne word past e
+  plain_gives : (kind : Kind) (to : Endpoint) (content : Content)
+      → RefusesIds word past e ⊎ SendsAs kind word past e to content → GivesOne word past e
   plain_gives kind to content (inl r) = inl (none_by e.at e.answer _ r.answer refl)
   plain_gives kind to content (inr r) = inr (r.id, r.gives, r.answer)
 
@@ -63,33 +65,43 @@ module _ (word : ℕ) (past : List Entry) (e : Entry) where
   gives_one : (call : Call) → Row word past e call → GivesOne word past e
   gives_one (Receive from bytes) row = inl (arrived_gives from row.1.0 row.1.2)
   gives_one (Reply to id bytes) row = inl (none_by e.at e.answer _ row.1 refl)
-  gives_one (Confirm to content wish) row = ⊎_elim (λ r. inl (none_by e.at e.answer _ r.answer refl)) (λ r. plain_gives Con to content r.1) row.1
+  gives_one (Confirm to content wish) row = ⊎_elim (λ r. inl (none_by e.at e.answer _ r.answer refl))
+      (λ r. plain_gives Con to content r.1) row.1
   gives_one (Plain to content) row = plain_gives Non to content row.1
-  gives_one (Settle to id) row = inl (⊎_elim (λ r. none_by e.at e.answer _ r.1 refl) (λ r. none_by e.at e.answer _ r.1 refl) row.0.0)
+  gives_one (Settle to id) row = inl (⊎_elim (λ r. none_by e.at e.answer _ r.1 refl)
+      (λ r. none_by e.at e.answer _ r.1 refl) row.0.0)
   gives_one Ticks row = inl (turn_gives row)
   gives_one Take row = inl (none_by e.at e.answer _ row.0 refl)
-  gives_one (Room to) row = inl (⊎_elim (λ r. none_by e.at e.answer _ r.2 refl) (λ r. none_by e.at e.answer _ r.1 refl) row.0)
-  gives_one AsksFree row = inl (⊎_elim (λ r. none_by e.at e.answer _ r.1 refl) (λ r. none_by e.at e.answer _ r.1 refl) row.0)
+  gives_one (Room to) row = inl (⊎_elim (λ r. none_by e.at e.answer _ r.2 refl)
+      (λ r. none_by e.at e.answer _ r.1 refl) row.0)
+  gives_one AsksFree row = inl (⊎_elim (λ r. none_by e.at e.answer _ r.1 refl)
+      (λ r. none_by e.at e.answer _ r.1 refl) row.0)
   gives_one Pass row = inl (none_by e.at e.answer _ row.0 refl)
 
-  latest_step : GivesOne word past e → latest (numbers past) ≤ e.at → latest (issued_by e.at e.answer ++ numbers past) ≤ e.at
+  latest_step : GivesOne word past e → latest (numbers past) ≤ e.at
+      → latest (issued_by e.at e.answer ++ numbers past) ≤ e.at
   latest_step (inl r) le = subst (λ gs. latest (gs ++ numbers past) ≤ e.at) (sym r) le
   latest_step (inr r) le = subst (λ a. latest (issued_by e.at a ++ numbers past) ≤ e.at) (sym r.2) (omega arith)
 
-  law_step : GivesOne word past e → latest (numbers past) ≤ e.at → NumbersLaw word (numbers past) → NumbersLaw word (issued_by e.at e.answer ++ numbers past)
+  law_step : GivesOne word past e → latest (numbers past) ≤ e.at → NumbersLaw word (numbers past)
+      → NumbersLaw word (issued_by e.at e.answer ++ numbers past)
   law_step (inl r) le law = subst (λ gs. NumbersLaw word (gs ++ numbers past)) (sym r) law
-  law_step (inr r) le law = subst (λ a. NumbersLaw word (issued_by e.at a ++ numbers past)) (sym r.2) (record { time = le; right = r.1 }, law)
+  law_step (inr r) le law = subst (λ a. NumbersLaw word (issued_by e.at a ++ numbers past)) (sym r.2)
+      (record { time = le; right = r.1 }, law)
 
 latest_by : (word : ℕ) (t : List Entry) → LayerLaw word t → latest (numbers t) ≤ clock t
 latest_by word [] law = omega arith
 latest_by word (e ∷ past) law =
-    latest_step word past e (gives_one word past e e.call law.0.row) (let le = latest_by word past law.1 in let le' = law.0.time in omega (arith, le, le'))
+    latest_step word past e (gives_one word past e e.call law.0.row)
+    (let le = latest_by word past law.1 in let le' = law.0.time in omega (arith, le, le'))
 
 -- the numbers of a layer stand in the law of numbers
 pub numbers_law : (word : ℕ) (t : List Entry) → LayerLaw word t → NumbersLaw word (numbers t)
 numbers_law word [] law = tt
 numbers_law word (e ∷ past) law =
-    law_step word past e (gives_one word past e e.call law.0.row) (let le = latest_by word past law.1 in let le' = law.0.time in omega (arith, le, le')) (numbers_law word past law.1)
+    law_step word past e (gives_one word past e e.call law.0.row)
+    (let le = latest_by word past law.1 in let le' = law.0.time in omega (arith, le, le'))
+    (numbers_law word past law.1)
 
 -- what is kept of them
 
@@ -101,7 +113,8 @@ pub next_is : (word : ℕ) (t : List Entry) → next_id word t ≡ upcoming word
 next_is word [] = refl
 next_is word (e ∷ past) = ap (next_after (issued e)) (next_is word past) ∙ sym (next_in word (issued e) (numbers past))
 
-uses_in : (word : ℕ) (gs past : List Issued) (us : List (Option ℕ)) → NumbersLaw word (gs ++ past) → AreUses past us → AreUses (gs ++ past) (uses_after gs us)
+uses_in : (word : ℕ) (gs past : List Issued) (us : List (Option ℕ)) → NumbersLaw word (gs ++ past) → AreUses past us
+    → AreUses (gs ++ past) (uses_after gs us)
 uses_in word [] past us law h = h
 uses_in word (g ∷ gs) past us law h =
     uses_more (gs ++ past) (uses_after gs us) g
@@ -118,7 +131,8 @@ none_used (suc n) (suc group) le = none_used n group (omega (arith, le))
 
 pub uses_are : (word : ℕ) (t : List Entry) → LayerLaw word t → AreUses (numbers t) (uses t)
 uses_are word [] law = λ group le. none_used 16 group le
-uses_are word (e ∷ past) law = uses_in word (issued e) (numbers past) (uses past) (numbers_law word (e ∷ past) law) (uses_are word past law.1)
+uses_are word (e ∷ past) law = uses_in word (issued e) (numbers past) (uses past) (numbers_law word (e ∷ past) law)
+    (uses_are word past law.1)
 
 -- the test, and what it decides
 abbrev pub Chooses : Bool → Type 0 → Type 0 → Type 0
@@ -129,7 +143,8 @@ rested_is : (now : ℕ) (o : Option ℕ) → Chooses (is_rested now (Some o)) (I
 rested_is now None = tt
 rested_is now (Some last) = go (nat_lt (last + id_reuse_after) now) refl
   where
-    go : (b : Bool) → nat_lt (last + id_reuse_after) now ≡ b → Chooses b (last + id_reuse_after < now) (now ≤ last + id_reuse_after)
+    go : (b : Bool) → nat_lt (last + id_reuse_after) now ≡ b
+        → Chooses b (last + id_reuse_after < now) (now ≤ last + id_reuse_after)
     go true h = grind (arith, nat_tests, h)
     go false h = grind (arith, nat_tests, h)
 
@@ -143,15 +158,18 @@ free_is word past us now h = go (upcoming word past % group_size == 0) refl
     there : slice_get us (n / group_size) ≡ Some (last_use past (n / group_size))
     there = h (n / group_size) (let l = small word past in omega (arith, l))
 
-    rest : (b : Bool) → n % group_size ≡ 0 → Chooses b (IsRested (last_use past (n / group_size)) now) (IsHeld (last_use past (n / group_size)) now)
+    rest : (b : Bool) → n % group_size ≡ 0 → Chooses b (IsRested (last_use past (n / group_size)) now)
+        (IsHeld (last_use past (n / group_size)) now)
         → Chooses b (MayGive word past now) (Withholds word past now)
     rest true spent r = λ z. r
     rest false spent r = record { spent = spent; held = r }
 
-    go : (b : Bool) → (n % group_size == 0) ≡ b → Chooses (not b || is_rested now (slice_get us (n / group_size))) (MayGive word past now) (Withholds word past now)
+    go : (b : Bool) → (n % group_size == 0) ≡ b → Chooses (not b || is_rested now (slice_get us (n / group_size)))
+        (MayGive word past now) (Withholds word past now)
     go true k =
         rest _ (grind (arith, nat_tests, k))
-        (subst (λ o. Chooses (is_rested now o) (IsRested (last_use past (n / group_size)) now) (IsHeld (last_use past (n / group_size)) now)) (sym there) (rested_is now (last_use past (n / group_size))))
+        (subst (λ o. Chooses (is_rested now o) (IsRested (last_use past (n / group_size)) now)
+        (IsHeld (last_use past (n / group_size)) now)) (sym there) (rested_is now (last_use past (n / group_size))))
     go false k = λ z. absurd (grind (arith, nat_tests, k, z))
 
 -- a number may be given, or none may

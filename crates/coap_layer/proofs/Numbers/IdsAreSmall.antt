@@ -10,9 +10,12 @@ use Rattle.coap_layer.proofs.Numbers.EqualIdsAreApart.{small}
 use Rattle.coap_layer.proofs.Machine.WhatIsIssued.{numbers_law}
 use Rattle.coap_layer.proofs.Numbers.OneEntryForAnId.{sent_number}
 
-small_here : (word : ℕ) (past : List Entry) (e : Entry) (id : ℕ) → LayerLaw word (e ∷ past) → e.answer ≡ Sent id → id < message_ids
+small_here : (word : ℕ) (past : List Entry) (e : Entry) (id : ℕ) → LayerLaw word (e ∷ past) → e.answer ≡ Sent id
+    → id < message_ids
 small_here word past e id law h =
-    let numbered : NumbersLaw word (record { at = e.at; id = id } ∷ numbers past) = subst (λ (gs : List Issued). NumbersLaw word (gs ++ numbers past)) (sent_number e id h) (numbers_law word (e ∷ past) law) in
+    let numbered : NumbersLaw word (record { at = e.at; id = id } ∷ numbers past) =
+    subst (λ (gs : List Issued). NumbersLaw word (gs ++ numbers past)) (sent_number e id h)
+    (numbers_law word (e ∷ past) law) in
     let next = numbered.0.right.next in
     let bound = small word (numbers past) in
     omega (arith, next, bound)

@@ -30,14 +30,32 @@ sent_is (Copied to n) id h = absurd (cc h)
 sent_is (Expired to n) id h = absurd (cc h)
 sent_is (Gives p) id h = absurd (cc h)
 
-begins_as : (at : ℕ) (to : Endpoint) (content : Content) (word : ℕ) (answer : Answer) (o : Option ℕ) (c : Open) → sent_by answer ≡ o → open_of at to content word o ≡ Some c → Begins at (Confirm to content word) answer c
+begins_as : (at : ℕ) (to : Endpoint) (content : Content) (word : ℕ) (answer : Answer) (o : Option ℕ) (c : Open)
+    → sent_by answer ≡ o → open_of at to content word o ≡ Some c → Begins at (Confirm to content word) answer c
 begins_as at to content word answer None c s h = absurd (cc h)
 begins_as at to content word answer (Some id) c s h =
-    let new : Open = record { to = to; id = id; bytes = message_bytes (with_head Con id content); timeout = ack_timeout + word % timeout_values; first = at; last = at } in
+    let new : Open = record {
+      to = to;
+      id = id;
+      bytes = message_bytes (with_head Con id content);
+      timeout = ack_timeout + word % timeout_values;
+      first = at;
+      last = at;
+    } in
     let e : new ≡ c = cc h in
-    subst (Begins at (Confirm to content word) answer) e (record { content = content; word = word; call_is = refl; answer_is = sent_is answer id s; first_is = refl; last_is = refl; bytes_are = refl })
+    subst (Begins at (Confirm to content word) answer) e
+    (record {
+      content = content;
+      word = word;
+      call_is = refl;
+      answer_is = sent_is answer id s;
+      first_is = refl;
+      last_is = refl;
+      bytes_are = refl;
+    })
 
-begins_in : (at : ℕ) (call : Call) (answer : Answer) (c : Open) → begun_in at call answer ≡ Some c → Begins at call answer c
+begins_in : (at : ℕ) (call : Call) (answer : Answer) (c : Open) → begun_in at call answer ≡ Some c
+    → Begins at call answer c
 begins_in at (Confirm to content word) answer c h = begins_as at to content word answer (sent_by answer) c refl h
 begins_in at (Receive from bytes) answer c h = absurd (cc h)
 begins_in at (Reply to id bytes) answer c h = absurd (cc h)
@@ -63,7 +81,8 @@ abbrev pub number_of : Open → Issued
 number_of c = record { at = c.first; id = c.id }
 
 pub begun_number : (e : Entry) (c : Open) → begun e ≡ Some c → Numbers (number_of c) e
-begun_number e c h = let b = begins_of e c h in sent_number e c.id b.answer_is ∙ ap (λ (n : ℕ). record { at = n; id = c.id } ∷ []) (sym b.first_is)
+begun_number e c h = let b = begins_of e c h in sent_number e c.id b.answer_is
+    ∙ ap (λ (n : ℕ). record { at = n; id = c.id } ∷ []) (sym b.first_is)
 
 abbrev Near : Issued → Issued → Type 0
 Near g h = (h.id ≡ g.id) × (g.at ≤ h.at + id_reuse_after)
@@ -71,32 +90,40 @@ Near g h = (h.id ≡ g.id) × (g.at ≤ h.at + id_reuse_after)
 fresh_in : (gs past : List Issued) (g : Issued) → gs ≡ g ∷ [] → AreApart (gs ++ past) → Ever (Near g) past → ⊥
 fresh_in gs past g is apart k = (subst (λ (xs : List Issued). AreApart (xs ++ past)) is apart).0 k
 
-fresh : (word : ℕ) (past : List Entry) (e : Entry) (g : Issued) → LayerLaw word (e ∷ past) → Numbers g e → Ever (Near g) (numbers past) → ⊥
+fresh : (word : ℕ) (past : List Entry) (e : Entry) (g : Issued) → LayerLaw word (e ∷ past) → Numbers g e
+    → Ever (Near g) (numbers past) → ⊥
 fresh word past e g law is k = fresh_in (issued e) (numbers past) g is (ids_apart word (e ∷ past) law) k
 
-given_there : (g h : Issued) → h.id ≡ g.id → g.at ≤ h.at + id_reuse_after → (P : Entry → Type 0) → ((e : Entry) → P e → Numbers h e) → (t : List Entry) → Ever P t → Ever (Near g) (numbers t)
+given_there : (g h : Issued) → h.id ≡ g.id → g.at ≤ h.at + id_reuse_after → (P : Entry → Type 0)
+    → ((e : Entry) → P e → Numbers h e) → (t : List Entry) → Ever P t → Ever (Near g) (numbers t)
 given_there g h id le P f t k = Ever_out issued (Near g) t (Ever_map P (λ e. Ever (Near g) (issued e)) here t k)
   where
     here : (e : Entry) → P e → Ever (Near g) (issued e)
     here e p = subst (Ever (Near g)) (sym (f e p)) (inl (id, le))
 
 -- equal numbers that are no more than 400 s apart are given by one entry
-module _ (P Q : Entry → Type 0) (g h : Issued) (f : (e : Entry) → P e → Numbers g e) (k : (e : Entry) → Q e → Numbers h e) (id : g.id ≡ h.id) (before : g.at ≤ h.at + id_reuse_after) (after : h.at ≤ g.at + id_reuse_after) where
+module _ (P Q : Entry → Type 0) (g h : Issued) (f : (e : Entry) → P e → Numbers g e)
+    (k : (e : Entry) → Q e → Numbers h e) (id : g.id ≡ h.id) (before : g.at ≤ h.at + id_reuse_after)
+    (after : h.at ≤ g.at + id_reuse_after) where
   pub one_entry : (word : ℕ) (t : List Entry) → LayerLaw word t → Ever P t → Ever Q t → Ever (λ e. P e × Q e) t
   one_entry word [] law a b = a
   one_entry word (e ∷ past) law (inl a) (inl b) = inl (a, b)
-  one_entry word (e ∷ past) law (inl a) (inr b) = absurd (fresh word past e g law (f e a) (given_there g h (sym id) before Q k past b))
-  one_entry word (e ∷ past) law (inr a) (inl b) = absurd (fresh word past e h law (k e b) (given_there h g id after P f past a))
+  one_entry word (e ∷ past) law (inl a) (inr b) =
+      absurd (fresh word past e g law (f e a) (given_there g h (sym id) before Q k past b))
+  one_entry word (e ∷ past) law (inr a) (inl b) =
+      absurd (fresh word past e h law (k e b) (given_there h g id after P f past a))
   one_entry word (e ∷ past) law (inr a) (inr b) = inr (one_entry word past law.1 a b)
 
 abbrev pub IsBegun : Open → Entry → Type 0
 IsBegun c e = begun e ≡ Some c
 
 -- two CONs under one Message ID, begun no more than 400 s apart, are one
-pub one_con : (word : ℕ) (t : List Entry) (c d : Open) → LayerLaw word t → Ever (IsBegun c) t → Ever (IsBegun d) t → c.id ≡ d.id → c.first ≤ d.first + id_reuse_after → d.first ≤ c.first + id_reuse_after → c ≡ d
+pub one_con : (word : ℕ) (t : List Entry) (c d : Open) → LayerLaw word t → Ever (IsBegun c) t → Ever (IsBegun d) t
+    → c.id ≡ d.id → c.first ≤ d.first + id_reuse_after → d.first ≤ c.first + id_reuse_after → c ≡ d
 one_con word t c d law a b id before after =
     forget (c ≡ d) t (Ever_map _ _ (λ e k. let p = k.0 in let q = k.1 in cc (p, q)) t
-    (one_entry (IsBegun c) (IsBegun d) (number_of c) (number_of d) (λ e. begun_number e c) (λ e. begun_number e d) id before after word t law a b))
+    (one_entry (IsBegun c) (IsBegun d) (number_of c) (number_of d) (λ e. begun_number e c)
+    (λ e. begun_number e d) id before after word t law a b))
 
 -- a NON has no CON's Message ID within 400 s
 pub record SendsPlain (id at : ℕ) (e : Entry) : Type 0 where
@@ -106,10 +133,12 @@ pub record SendsPlain (id at : ℕ) (e : Entry) : Type 0 where
   pub answer : e.answer ≡ Sent id
   pub at_is : e.at ≡ at
 
-pub no_plain : (word : ℕ) (t : List Entry) (c : Open) (at : ℕ) → LayerLaw word t → Ever (IsBegun c) t → Ever (SendsPlain c.id at) t → c.first ≤ at + id_reuse_after → at ≤ c.first + id_reuse_after → ⊥
+pub no_plain : (word : ℕ) (t : List Entry) (c : Open) (at : ℕ) → LayerLaw word t → Ever (IsBegun c) t
+    → Ever (SendsPlain c.id at) t → c.first ≤ at + id_reuse_after → at ≤ c.first + id_reuse_after → ⊥
 no_plain word t c at law a b before after =
     forget ⊥ t (Ever_map _ _ both t
-    (one_entry (IsBegun c) (SendsPlain c.id at) (number_of c) (record { at = at; id = c.id }) (λ e. begun_number e c) numbered refl before after word t law a b))
+    (one_entry (IsBegun c) (SendsPlain c.id at) (number_of c) (record { at = at; id = c.id })
+    (λ e. begun_number e c) numbered refl before after word t law a b))
   where
     numbered : (e : Entry) → SendsPlain c.id at e → Numbers (record { at = at; id = c.id }) e
     numbered e p = sent_number e c.id p.answer ∙ ap (λ (n : ℕ). record { at = n; id = c.id } ∷ []) p.at_is
@@ -118,5 +147,7 @@ no_plain word t c at law a b before after =
     both e k = let b = begins_of e c k.0 in let p = k.1.call in let q = b.call_is in cc (p, q)
 
 -- a CON is begun once
-pub begun_once : (word : ℕ) (past : List Entry) (e : Entry) (c : Open) → LayerLaw word (e ∷ past) → begun e ≡ Some c → Ever (IsBegun c) past → ⊥
-begun_once word past e c law h k = fresh word past e (number_of c) law (begun_number e c h) (given_there (number_of c) (number_of c) refl (omega arith) (IsBegun c) (λ x. begun_number x c) past k)
+pub begun_once : (word : ℕ) (past : List Entry) (e : Entry) (c : Open) → LayerLaw word (e ∷ past) → begun e ≡ Some c
+    → Ever (IsBegun c) past → ⊥
+begun_once word past e c law h k = fresh word past e (number_of c) law (begun_number e c h)
+    (given_there (number_of c) (number_of c) refl (omega arith) (IsBegun c) (λ x. begun_number x c) past k)

@@ -47,11 +47,19 @@ con_row word past e c here h = go row.1
     go (inr (f, inl r)) = let k = b.answer_is in let l = r.answer in absurd (cc (k, l))
     go (inr (f, inr r)) =
         let id_is : r.id ≡ c.id = let k = b.answer_is in let l = r.answer in cc (k, l) in
-        let bytes_is : message_bytes (with_head Con r.id b.content) ≡ c.bytes = ap (λ (n : ℕ). message_bytes (with_head Con n b.content)) id_is ∙ sym b.bytes_are in
-        let bound : c.id < message_ids = let k = r.gives.next in let l = small word (numbers past) in omega (arith, id_is, k, l) in
+        let bytes_is : message_bytes (with_head Con r.id b.content)
+        ≡ c.bytes = ap (λ (n : ℕ). message_bytes (with_head Con n b.content)) id_is ∙ sym b.bytes_are in
+        let bound : c.id < message_ids = let k = r.gives.next in let l =
+        small word (numbers past) in omega (arith, id_is, k, l) in
         record {
           out = r.out ∙ ap (λ (x : List ℕ). record { to = c.to; bytes = x } ∷ []) bytes_is;
-          spells = (with_head Con c.id b.content, subst (λ (x : List ℕ). Spells x (with_head Con c.id b.content)) (sym b.bytes_are) (row.0 Con c.id bound), refl, refl);
+          spells = (
+            with_head Con c.id b.content,
+            subst (λ (x : List ℕ). Spells x (with_head Con c.id b.content))
+                (sym b.bytes_are) (row.0 Con c.id bound),
+            refl,
+            refl,
+          );
         }
 
 pub cons_spelled : (word : ℕ) (t : List Entry) → LayerLaw word t → ConsSpelled t
@@ -59,16 +67,24 @@ cons_spelled word [] law = tt
 cons_spelled word (e ∷ past) law = ((λ c h. (con_row word past e c law.0 h).spells), cons_spelled word past law.1)
 
 -- each sending of a CON is alike
-first_alike : (word : ℕ) (past : List Entry) (e : Entry) (c : Open) → Stands word past e → begun e ≡ Some c → GoesAlike c e
+first_alike : (word : ℕ) (past : List Entry) (e : Entry) (c : Open) → Stands word past e → begun e ≡ Some c
+    → GoesAlike c e
 first_alike word past e c here h =
     let b = begins_of e c h in
-    record { from = omega (arith, b.first_is); till = omega (arith, b.first_is); out = (con_row word past e c here h).out }
+    record {
+      from = omega (arith, b.first_is);
+      till = omega (arith, b.first_is);
+      out = (con_row word past e c here h).out;
+    }
 
-copy_alike : (word : ℕ) (past : List Entry) (e : Entry) (x : Open) → LayerLaw word (e ∷ past) → IsIn x (outstanding past) → e.answer ≡ Copied x.to x.id → GoesAlike (as_begun x) e
+copy_alike : (word : ℕ) (past : List Entry) (e : Entry) (x : Open) → LayerLaw word (e ∷ past)
+    → IsIn x (outstanding past) → e.answer ≡ Copied x.to x.id → GoesAlike (as_begun x) e
 copy_alike word past e x law there answer =
     record {
       from = let k = begun_by word past (as_begun x) law.1 (was_begun past x there) in omega (arith, k, law.0.time);
-      till = ⊎_elim (λ f. absurd (r.alive (subst (Fails e.at) (sym same) f))) (λ (d : CopyDue e.at x). let w = d.early in omega (arith, w)) (subst (HasStep e.at) same (first_has (HasStep e.at) r.con (outstanding past) r.first));
+      till = ⊎_elim (λ f. absurd (r.alive (subst (Fails e.at) (sym same) f)))
+          (λ (d : CopyDue e.at x). let w = d.early in omega (arith, w))
+          (subst (HasStep e.at) same (first_has (HasStep e.at) r.con (outstanding past) r.first));
       out = r.out ∙ ap (λ (y : Open). packet_of y ∷ []) same;
     }
   where
@@ -81,14 +97,17 @@ copy_alike word past e x law there answer =
     same : r.con ≡ x
     same = one_open word past law.1 r.con x (in_first (HasStep e.at) r.con (outstanding past) r.first) there to_is
 
-alike : (word : ℕ) (past : List Entry) (e : Entry) (c : Open) → LayerLaw word (e ∷ past) → SendsIt c past e → GoesAlike c e
+alike : (word : ℕ) (past : List Entry) (e : Entry) (c : Open) → LayerLaw word (e ∷ past) → SendsIt c past e
+    → GoesAlike c e
 alike word past e c law (inl b) = first_alike word past e c law.0 b
 alike word past e c law (inr s) =
     let q = some_in (λ x. as_begun x ≡ c) (outstanding past) s.0 in
-    let answer : e.answer ≡ Copied q.0.to q.0.id = copied_by e.call e.answer c.to c.id s.1 ∙ ap (λ (y : Open). Copied y.to y.id) (sym q.2) in
+    let answer : e.answer ≡ Copied q.0.to q.0.id = copied_by e.call e.answer c.to c.id s.1
+    ∙ ap (λ (y : Open). Copied y.to y.id) (sym q.2) in
     subst (λ (y : Open). GoesAlike y e) q.2 (copy_alike word past e q.0 law q.1 answer)
 
-alike_in : (word : ℕ) (c : Open) (t : List Entry) → LayerLaw word t → Always (λ past e. SendsIt c past e → GoesAlike c e) t
+alike_in : (word : ℕ) (c : Open) (t : List Entry) → LayerLaw word t
+    → Always (λ past e. SendsIt c past e → GoesAlike c e) t
 alike_in word c [] law = tt
 alike_in word c (e ∷ past) law = ((λ s. alike word past e c law s), alike_in word c past law.1)
 
@@ -109,32 +128,48 @@ con_only Ack h = absurd (cc h)
 con_only Rst h = absurd (cc h)
 
 -- the stored reply was given since the message was handed up
-replied_since : (from : Endpoint) (id : ℕ) (t : List Entry) (bytes : List ℕ) → replied from id t ≡ Some bytes → Since (λ b. reply_in from id b.call ≡ Some bytes) (λ b. hands_up from id b ≡ false) t
+replied_since : (from : Endpoint) (id : ℕ) (t : List Entry) (bytes : List ℕ) → replied from id t ≡ Some bytes
+    → Since (λ b. reply_in from id b.call ≡ Some bytes) (λ b. hands_up from id b ≡ false) t
 replied_since from id [] bytes h = absurd (cc h)
-replied_since from id (e ∷ past) bytes h = go (hands_up from id e) (reply_in from id e.call) refl refl h (replied_since from id past bytes)
+replied_since from id (e ∷ past) bytes h = go (hands_up from id e) (reply_in from id e.call) refl refl h
+    (replied_since from id past bytes)
   where
-    go : (u : Bool) (o : Option (List ℕ)) → hands_up from id e ≡ u → reply_in from id e.call ≡ o → cond u None (elim o [ Some b ↦ Some b | None ↦ replied from id past ]) ≡ Some bytes
-        → (replied from id past ≡ Some bytes → Since (λ b. reply_in from id b.call ≡ Some bytes) (λ b. hands_up from id b ≡ false) past)
+    go : (u : Bool) (o : Option (List ℕ)) → hands_up from id e ≡ u → reply_in from id e.call ≡ o
+        → cond u None (elim o [ Some b ↦ Some b | None ↦ replied from id past ]) ≡ Some bytes
+        → (replied from id past ≡ Some bytes → Since (λ b. reply_in from id b.call ≡ Some bytes)
+        (λ b. hands_up from id b ≡ false) past)
         → Since (λ b. reply_in from id b.call ≡ Some bytes) (λ b. hands_up from id b ≡ false) (e ∷ past)
     go true o a b k f = absurd (cc k)
     go false (Some x) a b k f = inl (b ∙ k)
     go false None a b k f = inr (a, f k)
 
-module _ (word : ℕ) (past : List Entry) (e : Entry) (p : Packet) (law : LayerLaw word (e ∷ past)) (sends : IsIn p e.out) where
-  sorted_out : (from : Endpoint) (bytes : List ℕ) (m : Incoming) → m.from ≡ from → e.call ≡ Receive from bytes → Spells bytes m.message → Sorts word past e m → GoesOut past e p
+module _ (word : ℕ) (past : List Entry) (e : Entry) (p : Packet) (law : LayerLaw word (e ∷ past))
+    (sends : IsIn p e.out) where
+  sorted_out : (from : Endpoint) (bytes : List ℕ) (m : Incoming) → m.from ≡ from → e.call ≡ Receive from bytes
+      → Spells bytes m.message → Sorts word past e m → GoesOut past e p
   sorted_out from bytes m place call spells (rejects r) =
       subst (GoesOut past e) (one_out p _ e.out r.out sends)
-      (reset (record { bytes = bytes; id = m.message.id; call = call ∙ ap (λ (f : Endpoint). Receive f bytes) (sym place); shows = inr (m.message, spells, r.kind, refl); answer = r.answer; is = refl }))
+      (reset (record {
+        bytes = bytes;
+        id = m.message.id;
+        call = call ∙ ap (λ (f : Endpoint). Receive f bytes) (sym place);
+        shows = inr (m.message, spells, r.kind, refl);
+        answer = r.answer;
+        is = refl;
+      }))
   sorted_out from bytes m place call spells (drops r) = none_out _ p e.out r.out sends
   sorted_out from bytes m place call spells (takes_ack r) = none_out _ p e.out r.out sends
   sorted_out from bytes m place call spells (takes_reset r) = none_out _ p e.out r.out sends
   sorted_out from bytes m place call spells (takes_answer r) = none_out _ p e.out r.out sends
   sorted_out from bytes m place call spells (hands_over r) = none_out _ p e.out r.out sends
   sorted_out from bytes m place call spells (replays r) =
-      go (is_con m.message.kind) (was_con m.from m.message.id past) (replied m.from m.message.id past) refl refl refl r.out
+      go (is_con m.message.kind) (was_con m.from m.message.id past)
+      (replied m.from m.message.id past) refl refl refl r.out
     where
-      go : (a b : Bool) (o : Option (List ℕ)) → is_con m.message.kind ≡ a → was_con m.from m.message.id past ≡ b → replied m.from m.message.id past ≡ o
-          → e.out ≡ cond (a && b) (elim o [ Some x ↦ record { to = m.from; bytes = x } ∷ [] | None ↦ [] ]) [] → GoesOut past e p
+      go : (a b : Bool) (o : Option (List ℕ)) → is_con m.message.kind ≡ a → was_con m.from m.message.id past ≡ b
+          → replied m.from m.message.id past ≡ o
+          → e.out ≡ cond (a && b) (elim o [ Some x ↦ record { to = m.from; bytes = x } ∷ [] | None ↦ [] ]) []
+          → GoesOut past e p
       go false b o h k l out = none_out _ p e.out out sends
       go true false o h k l out = none_out _ p e.out out sends
       go true true None h k l out = none_out _ p e.out out sends
@@ -152,41 +187,64 @@ module _ (word : ℕ) (past : List Entry) (e : Entry) (p : Packet) (law : LayerL
             given = replied_since m.from m.message.id past x l;
           }))
 
-  fault_out : (from : Endpoint) (bytes : List ℕ) (id : ℕ) → e.call ≡ Receive from bytes → Shows bytes (Faulted Con id) → Arrives word past e from (Faulted Con id) → GoesOut past e p
+  fault_out : (from : Endpoint) (bytes : List ℕ) (id : ℕ) → e.call ≡ Receive from bytes → Shows bytes (Faulted Con id)
+      → Arrives word past e from (Faulted Con id) → GoesOut past e p
   fault_out from bytes id call shows r =
-      subst (GoesOut past e) (one_out p _ e.out r.1 sends) (reset (record { bytes = bytes; id = id; call = call; shows = inl shows; answer = r.0; is = refl }))
+      subst (GoesOut past e) (one_out p _ e.out r.1 sends)
+      (reset (record { bytes = bytes; id = id; call = call; shows = inl shows; answer = r.0; is = refl }))
 
-  arrived_out : (from : Endpoint) (bytes : List ℕ) (what : Arrival) → e.call ≡ Receive from bytes → Shows bytes what → Arrives word past e from what → GoesOut past e p
+  arrived_out : (from : Endpoint) (bytes : List ℕ) (what : Arrival) → e.call ≡ Receive from bytes → Shows bytes what
+      → Arrives word past e from what → GoesOut past e p
   arrived_out from bytes Unreadable call shows r = none_out _ p e.out r.1 sends
   arrived_out from bytes (Faulted Con id) call shows r = fault_out from bytes id call shows r
   arrived_out from bytes (Faulted Non id) call shows r = none_out _ p e.out r.1 sends
   arrived_out from bytes (Faulted Ack id) call shows r = none_out _ p e.out r.1 sends
   arrived_out from bytes (Faulted Rst id) call shows r = none_out _ p e.out r.1 sends
-  arrived_out from bytes (Whole m) call shows r = sorted_out from bytes (record { from = from; message = m }) refl call shows r
+  arrived_out from bytes (Whole m) call shows r =
+      sorted_out from bytes (record { from = from; message = m }) refl call shows r
 
-  confirmed_out : (to : Endpoint) (content : Content) (wish : ℕ) → e.call ≡ Confirm to content wish → Confirms word past e to content → GoesOut past e p
+  confirmed_out : (to : Endpoint) (content : Content) (wish : ℕ) → e.call ≡ Confirm to content wish
+      → Confirms word past e to content → GoesOut past e p
   confirmed_out to content wish call (inl r) = none_out _ p e.out r.out sends
   confirmed_out to content wish call (inr (f, inl r)) = none_out _ p e.out r.out sends
   confirmed_out to content wish call (inr (f, inr r)) =
       subst (GoesOut past e) (one_out p _ e.out r.out sends)
       (first (record {
-        con = record { to = to; id = r.id; bytes = message_bytes (with_head Con r.id content); timeout = ack_timeout + wish % timeout_values; first = e.at; last = e.at };
-        begins = ap (λ (x : Call). begun_in e.at x e.answer) call ∙ ap (λ (x : Answer). open_of e.at to content wish (sent_by x)) r.answer;
+        con = record {
+          to = to;
+          id = r.id;
+          bytes = message_bytes (with_head Con r.id content);
+          timeout = ack_timeout + wish % timeout_values;
+          first = e.at;
+          last = e.at;
+        };
+        begins = ap (λ (x : Call). begun_in e.at x e.answer) call
+            ∙ ap (λ (x : Answer). open_of e.at to content wish (sent_by x)) r.answer;
         is = refl;
       }))
 
-  plain_out : (to : Endpoint) (content : Content) → e.call ≡ Plain to content → IsSpelled content → RefusesIds word past e ⊎ SendsAs Non word past e to content → GoesOut past e p
+  plain_out : (to : Endpoint) (content : Content) → e.call ≡ Plain to content → IsSpelled content
+      → RefusesIds word past e ⊎ SendsAs Non word past e to content → GoesOut past e p
   plain_out to content call spelled (inl r) = none_out _ p e.out r.out sends
   plain_out to content call spelled (inr r) =
       subst (GoesOut past e) (one_out p _ e.out r.out sends)
-      (plain (record { content = content; id = r.id; call = call; answer = r.answer; spells = spelled Non r.id (let k = r.gives.next in let l = small word (numbers past) in omega (arith, k, l)) }))
+      (plain (record {
+        content = content;
+        id = r.id;
+        call = call;
+        answer = r.answer;
+        spells = spelled Non r.id (let k = r.gives.next in let l = small word (numbers past) in omega (arith, k, l));
+      }))
 
   copied_out : e.call ≡ Ticks → Copies past e → GoesOut past e p
   copied_out call r =
       let there : IsIn r.con (outstanding past) = in_first (HasStep e.at) r.con (outstanding past) r.first in
-      let again : copies_in e.call e.answer r.con.to r.con.id ≡ true = ap (λ (x : Call). copies_in x e.answer r.con.to r.con.id) call
-      ∙ (ap (λ (x : Answer). copies_in Ticks x r.con.to r.con.id) r.answer ∙ both _ _ (place_same r.con.to r.con.to refl) (grind (arith, nat_tests))) in
-      let sends_it : SendsIt (as_begun r.con) past e = inr (Ever_map _ _ (λ (x : Open) k. ap as_begun k) (outstanding past) there, again) in
+      let again : copies_in e.call e.answer r.con.to r.con.id
+      ≡ true = ap (λ (x : Call). copies_in x e.answer r.con.to r.con.id) call
+      ∙ (ap (λ (x : Answer). copies_in Ticks x r.con.to r.con.id) r.answer
+      ∙ both _ _ (place_same r.con.to r.con.to refl) (grind (arith, nat_tests))) in
+      let sends_it : SendsIt (as_begun r.con) past e =
+      inr (Ever_map _ _ (λ (x : Open) k. ap as_begun k) (outstanding past) there, again) in
       let a : GoesAlike (as_begun r.con) e = alike word past e (as_begun r.con) law sends_it in
       subst (GoesOut past e) (one_out p _ e.out a.out sends)
       (copy (record {
@@ -201,7 +259,8 @@ module _ (word : ℕ) (past : List Entry) (e : Entry) (p : Packet) (law : LayerL
 
   row_out : (call : Call) → e.call ≡ call → Row word past e call → GoesOut past e p
   row_out (Receive from bytes) is row = arrived_out from bytes row.1.0 is row.1.1 row.1.2
-  row_out (Reply to id bytes) is row = subst (GoesOut past e) (one_out p _ e.out row.2 sends) (reply (record { id = id; awaited = row.0; call = is }))
+  row_out (Reply to id bytes) is row = subst (GoesOut past e) (one_out p _ e.out row.2 sends)
+      (reply (record { id = id; awaited = row.0; call = is }))
   row_out (Confirm to content wish) is row = confirmed_out to content wish is row.1
   row_out (Plain to content) is row = plain_out to content is row.0 row.1
   row_out (Settle to id) is row = none_out _ p e.out row.0.1 sends
@@ -213,7 +272,8 @@ module _ (word : ℕ) (past : List Entry) (e : Entry) (p : Packet) (law : LayerL
   row_out AsksFree is row = none_out _ p e.out row.1 sends
   row_out Pass is row = none_out _ p e.out row.1 sends
 
-pub goes_out : (word : ℕ) (past : List Entry) (e : Entry) (p : Packet) → LayerLaw word (e ∷ past) → IsIn p e.out → GoesOut past e p
+pub goes_out : (word : ℕ) (past : List Entry) (e : Entry) (p : Packet) → LayerLaw word (e ∷ past) → IsIn p e.out
+    → GoesOut past e p
 goes_out word past e p law sends = row_out word past e p law sends e.call refl law.0.row
 
 pub each_goes_out : (word : ℕ) (t : List Entry) → LayerLaw word t → EachGoesOut t

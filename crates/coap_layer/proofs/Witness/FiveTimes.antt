@@ -9,7 +9,14 @@ use Rattle.coap_layer.specs.Examples.{FiveTimes}
 use Rattle.coap_layer.proofs.Witness.LawfulRun.{run, witness}
 
 abbrev con : Open
-con = record { to = record { ip = 127 ∷ 0 ∷ 0 ∷ 1 ∷ []; port = 5683 }; id = 0; bytes = 0x40 ∷ 1 ∷ 0 ∷ 0 ∷ []; timeout = 3000; first = 0; last = 0 }
+con = record {
+  to = record { ip = 127 ∷ 0 ∷ 0 ∷ 1 ∷ []; port = 5683 };
+  id = 0;
+  bytes = 0x40 ∷ 1 ∷ 0 ∷ 0 ∷ [];
+  timeout = 3000;
+  first = 0;
+  last = 0;
+}
 
 abbrev earlier : List Asked
 earlier = drop 1 run
@@ -21,7 +28,13 @@ five_times = record {
   last = made (left_after (start 0) earlier) 93000 Ticks;
   law = witness;
   con = con;
-  five = inr (inl (inr (inl refl, refl), inl (inr (inl refl, refl), inl (inr (inl refl, refl), inl (inr (inl refl, refl), inr (inl (inl refl, tt)))))));
+  five = inr (inl (
+    inr (inl refl, refl),
+    inl (
+      inr (inl refl, refl),
+      inl (inr (inl refl, refl), inl (inr (inl refl, refl), inr (inl (inl refl, tt)))),
+    ),
+  ));
   fails = refl;
   then_is = refl;
 }

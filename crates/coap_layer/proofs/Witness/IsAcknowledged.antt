@@ -54,11 +54,20 @@ get_spelled kind id small = record {
 }
 
 ack_spelled : Spells ack ack_message
-ack_spelled = record { code = omega arith; id = omega arith; token = omega arith; option_bytes = []; options = refl; parts = refl; empty = λ z. refl }
+ack_spelled = record {
+  code = omega arith;
+  id = omega arith;
+  token = omega arith;
+  option_bytes = [];
+  options = refl;
+  parts = refl;
+  empty = λ z. refl;
+}
 
 four_bytes : (a b c d : ℕ) → a < 256 → b < 256 → c < 256 → d < 256 → AreBytes (a ∷ b ∷ c ∷ d ∷ [])
 four_bytes a b c d h i j k =
-    AreBytes-cons a (b ∷ c ∷ d ∷ []) h (AreBytes-cons b (c ∷ d ∷ []) i (AreBytes-cons c (d ∷ []) j (AreBytes-cons d [] k AreBytes-nil)))
+    AreBytes-cons a (b ∷ c ∷ d ∷ []) h (AreBytes-cons b (c ∷ d ∷ []) i
+    (AreBytes-cons c (d ∷ []) j (AreBytes-cons d [] k AreBytes-nil)))
 
 -- the calls of each, the newest first
 abbrev near_begins : Asked
@@ -84,14 +93,26 @@ unfolding decoded frame_fault body_at walk walk_of option_at nibbles_at value_at
 near_steps = (
   _,
   (_, refl, record { may = get_spelled; right = refl; new_is = refl }),
-  record { may = four_bytes 0x60 0 0 0 (omega arith) (omega arith) (omega arith) (omega arith); right = refl; new_is = refl },
+  record {
+    may = four_bytes 0x60 0 0 0 (omega arith) (omega arith) (omega arith) (omega arith);
+    right = refl;
+    new_is = refl;
+  },
 )
 
 far_steps : Steps (start 0) far_run (left_after (start 0) far_run)
 unfolding decoded frame_fault body_at walk walk_of option_at nibbles_at value_at extended payload_at
 far_steps = (
   _,
-  (_, refl, record { may = four_bytes 0x40 1 0 0 (omega arith) (omega arith) (omega arith) (omega arith); right = refl; new_is = refl }),
+  (
+    _,
+    refl,
+    record {
+      may = four_bytes 0x40 1 0 0 (omega arith) (omega arith) (omega arith) (omega arith);
+      right = refl;
+      new_is = refl;
+    },
+  ),
   record { may = refl; right = refl; new_is = refl },
 )
 
@@ -102,10 +123,12 @@ abbrev far_trace : List Entry
 far_trace = entries (start 0) far_run ++ []
 
 near_lawful : LayerLaw 0 near_trace
-near_lawful = (led_steps 0 [] (start 0) (left_after (start 0) near_run) near_run (record { law = tt; kept = refl }) near_steps).law
+near_lawful = (led_steps 0 [] (start 0) (left_after (start 0) near_run) near_run
+    (record { law = tt; kept = refl }) near_steps).law
 
 far_lawful : LayerLaw 0 far_trace
-far_lawful = (led_steps 0 [] (start 0) (left_after (start 0) far_run) far_run (record { law = tt; kept = refl }) far_steps).law
+far_lawful = (led_steps 0 [] (start 0) (left_after (start 0) far_run) far_run
+    (record { law = tt; kept = refl }) far_steps).law
 
 -- in the order of time
 abbrev hops : List Hop
@@ -145,14 +168,22 @@ channel = record {
   far_law = far_lawful;
   near_replies = ((λ to id bytes h. absurd (cc h)), ((λ to id bytes h. absurd (cc h)), tt));
   far_replies = (
-    (λ to id bytes h. let i : 0 ≡ id = cc h in let b : ack ≡ bytes = cc h in subst (λ (n : ℕ). RepliesAtOnce (made (start 0) 10 far_takes.call ∷ []) 10 n bytes) i (subst (λ (x : List ℕ). RepliesAtOnce (made (start 0) 10 far_takes.call ∷ []) 10 0 x) b reply_once)),
+    (λ to id bytes h. let i : 0 ≡ id = cc h in let b : ack
+        ≡ bytes = cc h in subst (λ (n : ℕ). RepliesAtOnce (made (start 0) 10 far_takes.call ∷ []) 10 n bytes) i
+        (subst (λ (x : List ℕ). RepliesAtOnce (made (start 0) 10 far_takes.call ∷ []) 10 0 x) b reply_once)),
     ((λ to id bytes h. absurd (cc h)), tt),
   );
   fair = (
-    (λ bytes h. inl (subst (λ (x : List ℕ). GaveOut client x 20 (made (left_after (start 0) (far_takes ∷ [])) 10 far_replies.call)) (same_bytes ack bytes server server h) ack_out)),
+    (λ bytes h. inl (subst (λ (x : List ℕ). GaveOut client x 20
+        (made (left_after (start 0) (far_takes ∷ [])) 10 far_replies.call))
+        (same_bytes ack bytes server server h) ack_out)),
     (
       (λ bytes h. absurd (cc h)),
-      ((λ bytes h. inl (subst (λ (x : List ℕ). GaveOut server x 10 (made (start 0) 0 near_begins.call)) (same_bytes request bytes client client h) request_out)), ((λ bytes h. absurd (cc h)), tt)),
+      (
+        (λ bytes h. inl (subst (λ (x : List ℕ). GaveOut server x 10 (made (start 0) 0 near_begins.call))
+            (same_bytes request bytes client client h) request_out)),
+        ((λ bytes h. absurd (cc h)), tt),
+      ),
     ),
   );
 }
@@ -161,7 +192,8 @@ channel = record {
 abbrev con : Open
 con = record { to = server; id = 0; bytes = request; timeout = 3000; first = 0; last = 0 }
 
-hears : HearsAck con (made (start 0) 0 near_begins.call ∷ []) (made (left_after (start 0) (near_begins ∷ [])) 20 near_hears.call)
+hears : HearsAck con (made (start 0) 0 near_begins.call ∷ [])
+    (made (left_after (start 0) (near_begins ∷ [])) 20 near_hears.call)
 unfolding decoded frame_fault body_at walk walk_of option_at nibbles_at value_at extended payload_at options_bytes
 hears = record { is_outstanding = inl refl; bytes = ack; call = refl; answer = inl refl }
 
@@ -170,4 +202,12 @@ unfolding decoded frame_fault body_at walk walk_of option_at nibbles_at value_at
 takes = record { call = refl; up = refl; from = omega arith; till = omega arith }
 
 pub acknowledged : IsAcknowledged
-acknowledged = record { near = client; far = server; hops = hops; apart = λ h. (let e : 40000 ≡ 5683 = ap (λ (x : Endpoint). x.port) h in absurd (omega (arith, e))); law = channel; con = con; heard = inl (_, refl, hears, inr (inl takes)) }
+acknowledged = record {
+  near = client;
+  far = server;
+  hops = hops;
+  apart = λ h. (let e : 40000 ≡ 5683 = ap (λ (x : Endpoint). x.port) h in absurd (omega (arith, e)));
+  law = channel;
+  con = con;
+  heard = inl (_, refl, hears, inr (inl takes));
+}

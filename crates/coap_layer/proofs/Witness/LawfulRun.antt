@@ -1,5 +1,5 @@
--- A trace that stands in the law: a CON with an initial timeout of 3,000 ms, sent at 0, sent again at 3,000, 9,000, 21,000
--- and 45,000, failed at 93,000 (RFC 7252, section 4.2).
+-- A trace that stands in the law: a CON with an initial timeout of 3,000 ms, sent at 0, sent again at 3,000, 9,000,
+-- 21,000 and 45,000, failed at 93,000 (RFC 7252, section 4.2).
 use Rattle.std.proofs.Common.{◌≡◌, ℕ, List, [], ◌∷◌, ◌++◌, refl, arith}
 use Rattle.coap_types.specs.declared.endpoint.Endpoint.{Endpoint}
 use Rattle.coap_codec.specs.Spelling.{options_bytes}
@@ -44,7 +44,8 @@ run =
     record { now = 0; call = Confirm server get 1000; answer = Sent 0 } ∷
     []
 
-step : (s : State) (a : Asked) → (a.call ≡ Ticks) → a.answer ≡ (made s a.now a.call).answer → Step s a.now a.call a.answer (forgotten (after s (made s a.now a.call)))
+step : (s : State) (a : Asked) → (a.call ≡ Ticks) → a.answer ≡ (made s a.now a.call).answer
+    → Step s a.now a.call a.answer (forgotten (after s (made s a.now a.call)))
 step s a ticks is = record { may = rw ticks tt; right = is; new_is = refl }
 
 runs : Steps (start 0) run (left_after (start 0) run)

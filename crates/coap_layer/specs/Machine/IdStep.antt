@@ -20,5 +20,6 @@ pub record Draws (old : IdState) (now : ℕ) (answer : Option Id) (new : IdState
   pub answer_is : number_in answer ≡ (if may_now old now then Some old.upcoming else None)
   pub clock : new.clock ≡ max old.clock now
   pub upcoming : new.upcoming ≡ (if may_now old now then (old.upcoming + 1) % message_ids else old.upcoming)
-  pub last_used : new.last_used ≡ (if may_now old now then slice_set old.last_used (old.upcoming / group_size) (Some (max old.clock now))
+  pub last_used : new.last_used ≡ (if may_now old now then
+      slice_set old.last_used (old.upcoming / group_size) (Some (max old.clock now))
       else old.last_used)

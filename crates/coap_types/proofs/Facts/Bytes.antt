@@ -28,13 +28,16 @@ AreBytes-rest (b ∷ front) rest h = AreBytes-rest front rest (AreBytes-tail b (
 pub AreBytes-front : (front rest : List ℕ) → AreBytes (front ++ rest) → AreBytes front
 AreBytes-front [] rest h = AreBytes-nil
 AreBytes-front (b ∷ front) rest h =
-    AreBytes-cons b front (All-get_or is_byte (b ∷ (front ++ rest)) 0 0 (omega arith) h) (AreBytes-front front rest (AreBytes-tail b (front ++ rest) h))
+    AreBytes-cons b front (All-get_or is_byte (b ∷ (front ++ rest)) 0 0 (omega arith) h)
+    (AreBytes-front front rest (AreBytes-tail b (front ++ rest) h))
 
 pub AreBytes-drop : (n : ℕ) (bytes : List ℕ) → AreBytes bytes → AreBytes (drop n bytes)
-AreBytes-drop n bytes h = AreBytes-rest (take n bytes) (drop n bytes) (subst AreBytes (sym (take-append-drop n bytes)) h)
+AreBytes-drop n bytes h = AreBytes-rest (take n bytes) (drop n bytes)
+    (subst AreBytes (sym (take-append-drop n bytes)) h)
 
 pub AreBytes-take : (n : ℕ) (bytes : List ℕ) → AreBytes bytes → AreBytes (take n bytes)
-AreBytes-take n bytes h = AreBytes-front (take n bytes) (drop n bytes) (subst AreBytes (sym (take-append-drop n bytes)) h)
+AreBytes-take n bytes h = AreBytes-front (take n bytes) (drop n bytes)
+    (subst AreBytes (sym (take-append-drop n bytes)) h)
 
 -- the byte at a place, 0 past the end
 pub byte_at : (bytes : List ℕ) → AreBytes bytes → (i : ℕ) → slice_index bytes i < 256

@@ -8,29 +8,34 @@ module _ {E : Type 0} where
   Ever_map P Q f (e ∷ past) (inl h) = inl (f e h)
   Ever_map P Q f (e ∷ past) (inr h) = inr (Ever_map P Q f past h)
 
-  pub Sometime_map : (P Q : List E → E → Type 0) → ((past : List E) (e : E) → P past e → Q past e) → (t : List E) → Sometime P t → Sometime Q t
+  pub Sometime_map : (P Q : List E → E → Type 0) → ((past : List E) (e : E) → P past e → Q past e) → (t : List E)
+      → Sometime P t → Sometime Q t
   Sometime_map P Q f [] h = h
   Sometime_map P Q f (e ∷ past) (inl h) = inl (f past e h)
   Sometime_map P Q f (e ∷ past) (inr h) = inr (Sometime_map P Q f past h)
 
   -- a law of the trace, applied where something happened
-  pub by_law : (A P Q : List E → E → Type 0) → ((past : List E) (e : E) → Always A (e ∷ past) → P past e → Q past e) → (t : List E) → Always A t → Sometime P t → Sometime Q t
+  pub by_law : (A P Q : List E → E → Type 0) → ((past : List E) (e : E) → Always A (e ∷ past) → P past e → Q past e)
+      → (t : List E) → Always A t → Sometime P t → Sometime Q t
   by_law A P Q f [] law h = h
   by_law A P Q f (e ∷ past) law (inl h) = inl (f past e law h)
   by_law A P Q f (e ∷ past) law (inr h) = inr (by_law A P Q f past law.1 h)
 
-  pub Ever_by_law : (A : List E → E → Type 0) (P Q : E → Type 0) → ((past : List E) (e : E) → Always A (e ∷ past) → P e → Q e) → (t : List E) → Always A t → Ever P t → Ever Q t
+  pub Ever_by_law : (A : List E → E → Type 0) (P Q : E → Type 0)
+      → ((past : List E) (e : E) → Always A (e ∷ past) → P e → Q e) → (t : List E) → Always A t → Ever P t → Ever Q t
   Ever_by_law A P Q f [] law h = h
   Ever_by_law A P Q f (e ∷ past) law (inl h) = inl (f past e law h)
   Ever_by_law A P Q f (e ∷ past) law (inr h) = inr (Ever_by_law A P Q f past law.1 h)
 
   -- what happened in the past of something that happened, happened
-  pub Ever_of_Sometime : (P : List E → E → Type 0) (Q : E → Type 0) → ((past : List E) (e : E) → P past e → Ever Q (e ∷ past)) → (t : List E) → Sometime P t → Ever Q t
+  pub Ever_of_Sometime : (P : List E → E → Type 0) (Q : E → Type 0)
+      → ((past : List E) (e : E) → P past e → Ever Q (e ∷ past)) → (t : List E) → Sometime P t → Ever Q t
   Ever_of_Sometime P Q f (e ∷ past) (inl h) = f past e h
   Ever_of_Sometime P Q f (e ∷ past) (inr h) = inr (Ever_of_Sometime P Q f past h)
   Ever_of_Sometime P Q f [] h = h
 
-  pub Sometime_of_Sometime : (P Q : List E → E → Type 0) → ((past : List E) (e : E) → P past e → Sometime Q (e ∷ past)) → (t : List E) → Sometime P t → Sometime Q t
+  pub Sometime_of_Sometime : (P Q : List E → E → Type 0) → ((past : List E) (e : E) → P past e → Sometime Q (e ∷ past))
+      → (t : List E) → Sometime P t → Sometime Q t
   Sometime_of_Sometime P Q f (e ∷ past) (inl h) = f past e h
   Sometime_of_Sometime P Q f (e ∷ past) (inr h) = inr (Sometime_of_Sometime P Q f past h)
   Sometime_of_Sometime P Q f [] h = h
@@ -46,13 +51,16 @@ module _ {E : Type 0} where
   Ever_of_Since B K (e ∷ past) (inr h) = inr (Ever_of_Since B K past h.1)
 
   -- the same for a law that is not said entry by entry
-  pub by_suffix : (L : List E → Type 0) (P Q : List E → E → Type 0) → ((past : List E) (e : E) → L (e ∷ past) → L past) → ((past : List E) (e : E) → L (e ∷ past) → P past e → Q past e) → (t : List E) → L t → Sometime P t → Sometime Q t
+  pub by_suffix : (L : List E → Type 0) (P Q : List E → E → Type 0) → ((past : List E) (e : E) → L (e ∷ past) → L past)
+      → ((past : List E) (e : E) → L (e ∷ past) → P past e → Q past e) → (t : List E) → L t → Sometime P t
+      → Sometime Q t
   by_suffix L P Q down f [] law h = h
   by_suffix L P Q down f (e ∷ past) law (inl h) = inl (f past e law h)
   by_suffix L P Q down f (e ∷ past) law (inr h) = inr (by_suffix L P Q down f past (down past e law) h)
 
   -- a finding that stays true as the trace grows
-  pub found : (P : List E → E → Type 0) (Z : List E → Type 0) → ((e : E) (t : List E) → Z t → Z (e ∷ t)) → ((past : List E) (e : E) → P past e → Z (e ∷ past)) → (t : List E) → Sometime P t → Z t
+  pub found : (P : List E → E → Type 0) (Z : List E → Type 0) → ((e : E) (t : List E) → Z t → Z (e ∷ t))
+      → ((past : List E) (e : E) → P past e → Z (e ∷ past)) → (t : List E) → Sometime P t → Z t
   found P Z grows f (e ∷ past) (inl h) = f past e h
   found P Z grows f (e ∷ past) (inr h) = grows e past (found P Z grows f past h)
   found P Z grows f [] h = absurd h
@@ -80,12 +88,14 @@ module _ {E : Type 0} where
   Always_back A (e ∷ s) t h = Always_back A s t h.1
 
   -- from a law of each front of time, what holds at each entry
-  pub each : (L : List E → Type 0) (C : List E → E → Type 0) → ((past : List E) (e : E) → L (e ∷ past) → L past) → ((past : List E) (e : E) → L (e ∷ past) → C past e) → (t : List E) → L t → Always C t
+  pub each : (L : List E → Type 0) (C : List E → E → Type 0) → ((past : List E) (e : E) → L (e ∷ past) → L past)
+      → ((past : List E) (e : E) → L (e ∷ past) → C past e) → (t : List E) → L t → Always C t
   each L C down f [] h = tt
   each L C down f (e ∷ past) h = (f past e h, each L C down f past (down past e h))
 
   -- what can happen once only: two accounts of it are of one entry
-  pub same_place : (P Q R : E → Type 0) → (t : List E) → Always (λ past e. P e → Ever P past → ⊥) t → Ever (λ e. P e × Q e) t → Ever (λ e. P e × R e) t → Ever (λ e. P e × Q e × R e) t
+  pub same_place : (P Q R : E → Type 0) → (t : List E) → Always (λ past e. P e → Ever P past → ⊥) t
+      → Ever (λ e. P e × Q e) t → Ever (λ e. P e × R e) t → Ever (λ e. P e × Q e × R e) t
   same_place P Q R [] law a b = a
   same_place P Q R (e ∷ past) law (inl a) (inl b) = inl (a.0, a.1, b.1)
   same_place P Q R (e ∷ past) law (inl a) (inr b) = absurd (law.0 a.0 (Ever_map _ P (λ x h. h.0) past b))
@@ -99,7 +109,8 @@ module _ {E : Type 0} where
   which_first A B (e ∷ t) (inl a) (inl b) = inl (inl (a, b))
   which_first A B (e ∷ t) (inl a) (inr b) = inr (inr (inl (a, b)))
   which_first A B (e ∷ t) (inr a) (inl b) = inr (inl (inl (b, a)))
-  which_first A B (e ∷ t) (inr a) (inr b) = ⊎_elim (λ x. inl (inr x)) (λ y. ⊎_elim (λ x. inr (inl (inr x))) (λ x. inr (inr (inr x))) y) (which_first A B t a b)
+  which_first A B (e ∷ t) (inr a) (inr b) = ⊎_elim (λ x. inl (inr x))
+      (λ y. ⊎_elim (λ x. inr (inl (inr x))) (λ x. inr (inr (inr x))) y) (which_first A B t a b)
 
 -- a fact of some entry that names it no more
 pub forget : {E : Type 0} (X : Type 0) → (t : List E) → Ever (λ e. X) t → X

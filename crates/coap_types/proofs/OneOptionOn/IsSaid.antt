@@ -16,21 +16,28 @@ pub record Lacks (direction : Direction) (options : List CoapOption) (bad : Bool
   pub rest : bad ≡ lacks_critical direction options
   pub numbers : Remembers seen options
 
-pub record Valued (direction : Direction) (number : ℕ) (options : List CoapOption) (found : Option (List ℕ)) (seen : List Bool) : Type 0 where
+pub record Valued (direction : Direction) (number : ℕ) (options : List CoapOption) (found : Option (List ℕ))
+    (seen : List Bool) : Type 0 where
   pub value : found ≡ recognised_value direction number options
   pub numbers : Remembers seen options
 
-pub none_lacks : (direction : Direction) (seen : List Bool) → list_any (λ b. b) seen ≡ false → Lacks direction [] false seen
+pub none_lacks : (direction : Direction) (seen : List Bool) → list_any (λ b. b) seen ≡ false
+    → Lacks direction [] false seen
 none_lacks direction seen none = record { rest = refl; numbers = λ n low. unseen seen n none }
 
-pub none_valued : (direction : Direction) (number : ℕ) (seen : List Bool) → list_any (λ b. b) seen ≡ false → Valued direction number [] None seen
+pub none_valued : (direction : Direction) (number : ℕ) (seen : List Bool) → list_any (λ b. b) seen ≡ false
+    → Valued direction number [] None seen
 none_valued direction number seen none = record { value = refl; numbers = λ n low. unseen seen n none }
 
-pub lacks_more : (direction : Direction) (os : List CoapOption) (o : CoapOption) (bad more known : Bool) (seen after : List Bool)
-    → Lacks direction os bad seen → Remembers after (os ++ o ∷ []) → known ≡ is_recognised direction os o → more ≡ (bad || ((o.number % 2 == 1) && not known)) → Lacks direction (os ++ o ∷ []) more after
+pub lacks_more : (direction : Direction) (os : List CoapOption) (o : CoapOption) (bad more known : Bool)
+    (seen after : List Bool)
+    → Lacks direction os bad seen → Remembers after (os ++ o ∷ []) → known ≡ is_recognised direction os o
+    → more ≡ (bad || ((o.number % 2 == 1) && not known)) → Lacks direction (os ++ o ∷ []) more after
 lacks_more direction os o bad more known seen after so numbers is more_is = record {
   rest = more_is
-      ∙ (ap (λ k. bad || ((o.number % 2 == 1) && not k)) is ∙ (ap (λ b. b || (is_critical o && not (is_recognised direction os o))) so.rest ∙ sym (bad_more direction os o)));
+      ∙ (ap (λ k. bad || ((o.number % 2 == 1) && not k)) is
+      ∙ (ap (λ b. b || (is_critical o && not (is_recognised direction os o))) so.rest
+      ∙ sym (bad_more direction os o)));
   numbers = numbers;
 }
 
@@ -38,7 +45,8 @@ lacks_more direction os o bad more known seen after so numbers is more_is = reco
 abbrev pub or_else : Option (List ℕ) → Bool → List ℕ → Option (List ℕ)
 or_else found wanted value = if is_some found || not wanted then found else Some value
 
-last_value : (same known : Bool) (value : List ℕ) (o : CoapOption) (number : ℕ) → (o.number == number) ≡ same → value ≡ o.value
+last_value : (same known : Bool) (value : List ℕ) (o : CoapOption) (number : ℕ) → (o.number == number) ≡ same
+    → value ≡ o.value
     → value_of number (if known then o ∷ [] else []) ≡ or_else None (same && known) value
 last_value true true value o number is v = rw (is, v) refl
 last_value true false value o number is v = refl
@@ -46,17 +54,20 @@ last_value false true value o number is v = rw is refl
 last_value false false value o number is v = refl
 
 value_more : (number : ℕ) (os : List CoapOption) (known : Bool) (o : CoapOption)
-    → value_of number (os ++ (if known then o ∷ [] else [])) ≡ or_else (value_of number os) ((o.number == number) && known) o.value
+    → value_of number (os ++ (if known then o ∷ [] else []))
+    ≡ or_else (value_of number os) ((o.number == number) && known) o.value
 value_more number [] known o = last_value (o.number == number) known o.value o number refl refl
 value_more number (x ∷ xs) known o = by (x.number == number) (value_more number xs known o)
   where
-    by : (b : Bool) → value_of number (xs ++ (if known then o ∷ [] else [])) ≡ or_else (value_of number xs) ((o.number == number) && known) o.value
+    by : (b : Bool) → value_of number (xs ++ (if known then o ∷ [] else []))
+        ≡ or_else (value_of number xs) ((o.number == number) && known) o.value
         → (if b then Some x.value else value_of number (xs ++ (if known then o ∷ [] else [])))
         ≡ or_else (if b then Some x.value else value_of number xs) ((o.number == number) && known) o.value
     by true h = refl
     by false h = h
 
-pub valued_more : (direction : Direction) (number : ℕ) (os : List CoapOption) (o : CoapOption) (found more : Option (List ℕ)) (known : Bool) (seen after : List Bool)
+pub valued_more : (direction : Direction) (number : ℕ) (os : List CoapOption) (o : CoapOption)
+    (found more : Option (List ℕ)) (known : Bool) (seen after : List Bool)
     → Valued direction number os found seen → Remembers after (os ++ o ∷ []) → known ≡ is_recognised direction os o
     → more ≡ or_else found ((o.number == number) && known) o.value → Valued direction number (os ++ o ∷ []) more after
 valued_more direction number os o found more known seen after so numbers is more_is = record {

@@ -15,7 +15,8 @@ use Rattle.coap_types.specs.Path.{IsPath, segments_of, same_path, path_order}
 
 -- two lists of vectors are equal where their bytes are
 pub same_segments : {Z : Type 0} (xs ys : List (Vec ℕ Z))
-    → pointwise (λ (x y : Vec ℕ Z). pointwise nat_eq x.items y.items) xs ys ≡ same_path (segments_of xs) (segments_of ys)
+    → pointwise (λ (x y : Vec ℕ Z). pointwise nat_eq x.items y.items) xs ys
+    ≡ same_path (segments_of xs) (segments_of ys)
 same_segments [] [] = refl
 same_segments [] (y ∷ ys) = refl
 same_segments (x ∷ xs) [] = refl
@@ -28,15 +29,18 @@ segments_append (x ∷ xs) ys = ap (λ (r : List (List ℕ)). x.items ∷ r) (se
 
 -- two lists of vectors are ordered as their bytes are
 pub same_order : {Z : Type 0} (xs ys : List (Vec ℕ Z))
-    → slice_cmp (λ (x y : Vec ℕ Z). slice_cmp nat_cmp x.items y.items) xs ys ≡ path_order (segments_of xs) (segments_of ys)
+    → slice_cmp (λ (x y : Vec ℕ Z). slice_cmp nat_cmp x.items y.items) xs ys
+    ≡ path_order (segments_of xs) (segments_of ys)
 same_order [] [] = refl
 same_order [] (y ∷ ys) = refl
 same_order (x ∷ xs) [] = refl
-same_order (x ∷ xs) (y ∷ ys) = ap (λ (o : Ordering). ordering_then (slice_cmp nat_cmp x.items y.items) o) (same_order xs ys)
+same_order (x ∷ xs) (y ∷ ys) = ap (λ (o : Ordering). ordering_then (slice_cmp nat_cmp x.items y.items) o)
+    (same_order xs ys)
 
 -- clones of vectors hold the same bytes
 pub same_clones : {Z : Type 0} (xs ys : List (Vec ℕ Z))
-    → AllZip (λ (v w : Vec ℕ Z). AllZip (λ (a b : ℕ). b ≡ a) v.items w.items × (vec_len w ≡ vec_len v)) xs ys → segments_of ys ≡ segments_of xs
+    → AllZip (λ (v w : Vec ℕ Z). AllZip (λ (a b : ℕ). b ≡ a) v.items w.items × (vec_len w ≡ vec_len v)) xs ys
+    → segments_of ys ≡ segments_of xs
 same_clones [] [] same = refl
 same_clones [] (y ∷ ys) same = absurd same
 same_clones (x ∷ xs) [] same = absurd same
@@ -56,7 +60,8 @@ abbrev is_short : List ℕ → Type 0
 is_short segment = length segment ≤ 255
 
 -- a path with a segment more, or as it was
-more_path : {Z : Type 0} (vs : List (Vec ℕ Z)) (v : Vec ℕ Z) → IsPath (segments_of vs) → length vs < 16 → length v.items ≤ 255 → AreBytes v.items
+more_path : {Z : Type 0} (vs : List (Vec ℕ Z)) (v : Vec ℕ Z) → IsPath (segments_of vs) → length vs < 16
+    → length v.items ≤ 255 → AreBytes v.items
     → IsPath (segments_of (vs ++ v ∷ []))
 more_path {Z} vs v p room short bytes =
     let one : List (List ℕ) = v.items ∷ [] in
@@ -65,13 +70,15 @@ more_path {Z} vs v p room short bytes =
     record {
       bounds = record {
         few = few;
-        short = All-append is_short (segments_of vs) one p.bounds.short (All-cons is_short v.items [] short (All-nil is_short));
+        short = All-append is_short (segments_of vs) one p.bounds.short
+            (All-cons is_short v.items [] short (All-nil is_short));
       };
       bytes = All-append AreBytes (segments_of vs) one p.bytes (All-cons AreBytes v.items [] bytes (All-nil AreBytes));
     } in
     subst IsPath (sym (segments_append vs (v ∷ []))) path
 
-pub pushed_path : {Z : Type 0} (b : Bool) (vs after : List (Vec ℕ Z)) (v : Vec ℕ Z) → after ≡ (if b then vs ++ v ∷ [] else vs)
+pub pushed_path : {Z : Type 0} (b : Bool) (vs after : List (Vec ℕ Z)) (v : Vec ℕ Z)
+    → after ≡ (if b then vs ++ v ∷ [] else vs)
     → IsPath (segments_of vs) → length vs < 16 → length v.items ≤ 255 → AreBytes v.items → IsPath (segments_of after)
 pushed_path true vs after v is p room short bytes = rw is (more_path vs v p room short bytes)
 pushed_path false vs after v is p room short bytes = rw is p

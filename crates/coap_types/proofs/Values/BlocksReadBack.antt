@@ -29,7 +29,8 @@ reads_back b few small =
     let num : block_value b / 16 ≡ b.num = num_of b.more b.num b.szx small in
     let szx : block_value b % 8 ≡ b.szx = szx_of b.more b.num b.szx small in
     let more : (block_value b / 8 % 2 == 1) ≡ b.more = more_of b.more b.num b.szx small in
-    cond-true _ _ _ (and_from _ _ (le-leb (block_value b / 16) max_num (omega (arith, num, few))) (le-leb (block_value b % 8) max_szx (omega (arith, szx, small))))
+    cond-true _ _ _ (and_from _ _ (le-leb (block_value b / 16) max_num (omega (arith, num, few)))
+    (le-leb (block_value b % 8) max_szx (omega (arith, szx, small))))
     ∙ (λ i. Some (record { num = num i; more = more i; szx = szx i }))
 
 -- the number that at most three bytes spell
@@ -45,25 +46,41 @@ value_back false n is = let even : n / 8 % 2 ≡ 0 = grind (arith, nat_tests) in
 
 -- the function and the relation say the same
 pub block_says : (bytes : List ℕ) → AreBytes bytes → BlockSays bytes (block_in bytes)
-block_says bytes are_bytes = by (nat_le (length bytes) max_block_len) (nat_le (number_of bytes / 16) max_num) (nat_le (number_of bytes % 8) max_szx) refl refl refl
+block_says bytes are_bytes = by (nat_le (length bytes) max_block_len) (nat_le (number_of bytes / 16) max_num)
+    (nat_le (number_of bytes % 8) max_szx) refl refl refl
   where
-    by : (a b c : Bool) → nat_le (length bytes) max_block_len ≡ a → nat_le (number_of bytes / 16) max_num ≡ b → nat_le (number_of bytes % 8) max_szx ≡ c
-        → BlockSays bytes (if a then (if b && c then Some (record { num = number_of bytes / 16; more = number_of bytes / 8 % 2 == 1; szx = number_of bytes % 8 }) else None) else None)
+    by : (a b c : Bool) → nat_le (length bytes) max_block_len ≡ a → nat_le (number_of bytes / 16) max_num ≡ b
+        → nat_le (number_of bytes % 8) max_szx ≡ c
+        → BlockSays bytes (if a then (if b && c then
+        Some (record { num = number_of bytes / 16; more = number_of bytes / 8 % 2 == 1; szx = number_of bytes % 8 })
+        else None) else None)
     by true true true is_a is_b is_c = record {
       value = value_back (number_of bytes / 8 % 2 == 1) (number_of bytes) refl;
       num = leb-true _ _ is_b;
       szx = leb-true _ _ is_c;
       when = (λ some. (leb-true _ _ is_a, leb-true _ _ is_c), λ both. search rules);
     }
-    by true true false is_a is_b is_c = record { value = tt; num = tt; szx = tt; when = (λ some. absurd (cc some), λ both. absurd (grind (arith, nat_tests))) }
+    by true true false is_a is_b is_c = record {
+      value = tt;
+      num = tt;
+      szx = tt;
+      when = (λ some. absurd (cc some), λ both. absurd (grind (arith, nat_tests)));
+    }
     by true false c is_a is_b is_c =
         let few : number_of bytes / 16 ≤ max_num = few_num bytes are_bytes (leb-true _ _ is_a) in
         absurd (grind (arith, nat_tests))
-    by false b c is_a is_b is_c = record { value = tt; num = tt; szx = tt; when = (λ some. absurd (cc some), λ both. absurd (grind (arith, nat_tests))) }
+    by false b c is_a is_b is_c = record {
+      value = tt;
+      num = tt;
+      szx = tt;
+      when = (λ some. absurd (cc some), λ both. absurd (grind (arith, nat_tests)));
+    }
 
 -- the block of a value, by the number that it spells
-pub block_read : (bytes : List ℕ) (number : ℕ) → length bytes ≤ 3 → Some number ≡ uint_value bytes → block_by number ≡ block_in bytes
+pub block_read : (bytes : List ℕ) (number : ℕ) → length bytes ≤ 3 → Some number ≡ uint_value bytes
+    → block_by number ≡ block_in bytes
 block_read bytes number short read =
-    let back : uint_value bytes ≡ Some (number_of bytes) = cond-true _ _ _ (le-leb (length bytes) 4 (omega (arith, short))) in
+    let back : uint_value bytes ≡ Some (number_of bytes) =
+    cond-true _ _ _ (le-leb (length bytes) 4 (omega (arith, short))) in
     let is : number ≡ number_of bytes = cc (read, back) in
     ap block_by is ∙ sym (cond-true _ _ _ (le-leb (length bytes) 3 short))

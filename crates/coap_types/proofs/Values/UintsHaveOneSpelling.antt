@@ -17,7 +17,9 @@ rest_bytes b bs bytes = All-tail (λ (x : ℕ). x < 256) b bs bytes
 -- so many bytes spell a number below this power
 pub number_below : (bs : List ℕ) → AreBytes bs → number_of bs < 256 ^ length bs
 number_below [] bytes = omega arith
-number_below (b ∷ bs) bytes = simp unary_clauses (mul-add-lt b (256 ^ length bs) (number_of bs) 256 (bytes 0 0 (omega arith)) (number_below bs (rest_bytes b bs bytes)))
+number_below (b ∷ bs) bytes = simp unary_clauses
+    (mul-add-lt b (256 ^ length bs) (number_of bs) 256 (bytes 0 0 (omega arith))
+    (number_below bs (rest_bytes b bs bytes)))
 
 -- where no zero byte leads, no fewer bytes spell the number
 pub fewest : (xs ys : List ℕ) → LeadsWithNoZero xs → AreBytes ys → number_of ys ≡ number_of xs → length xs ≤ length ys
@@ -27,13 +29,15 @@ fewest (b ∷ bs) ys lead bytes same =
       | inl longer ↦ omega arith
       | inr shorter ↦
           let powers : 256 ^ length ys ≤ 256 ^ length bs = pow-le-pow_right {n = 256} (omega arith) shorter in
-          let head : 1 * 256 ^ length bs ≤ b * 256 ^ length bs = mul-le 1 (256 ^ length bs) b (256 ^ length bs) (omega arith) (omega arith) in
+          let head : 1 * 256 ^ length bs ≤ b * 256 ^ length bs =
+          mul-le 1 (256 ^ length bs) b (256 ^ length bs) (omega arith) (omega arith) in
           let below : number_of ys < 256 ^ length ys = number_below ys bytes in
           omega arith
     ]
 
 -- as many bytes that spell the same number are the same
-pub same_bytes : (xs ys : List ℕ) → length xs ≡ length ys → AreBytes xs → AreBytes ys → number_of xs ≡ number_of ys → xs ≡ ys
+pub same_bytes : (xs ys : List ℕ) → length xs ≡ length ys → AreBytes xs → AreBytes ys → number_of xs ≡ number_of ys
+    → xs ≡ ys
 same_bytes [] [] long xs_bytes ys_bytes same = refl
 same_bytes [] (y ∷ ys) long xs_bytes ys_bytes same = absurd (omega arith)
 same_bytes (x ∷ xs) [] long xs_bytes ys_bytes same = absurd (omega arith)
@@ -41,7 +45,8 @@ same_bytes (x ∷ xs) (y ∷ ys) long xs_bytes ys_bytes same =
     let tails : length xs ≡ length ys = omega arith in
     let power : 256 ^ length xs ≡ 256 ^ length ys = ap (λ (n : ℕ). 256 ^ n) tails in
     let below : number_of xs < 256 ^ length ys = rw (← power) (number_below xs (rest_bytes x xs xs_bytes)) in
-    let even : x * 256 ^ length ys + number_of xs ≡ y * 256 ^ length ys + number_of ys = ap (λ (p : ℕ). x * p + number_of xs) (sym power) ∙ same in
+    let even : x * 256 ^ length ys + number_of xs
+    ≡ y * 256 ^ length ys + number_of ys = ap (λ (p : ℕ). x * p + number_of xs) (sym power) ∙ same in
     let heads : x ≡ y =
     sym (div-mul-add x (256 ^ length ys) (number_of xs) below) ∙ ap (λ (n : ℕ). n / 256 ^ length ys) even
     ∙ div-mul-add y (256 ^ length ys) (number_of ys) (number_below ys (rest_bytes y ys ys_bytes)) in
@@ -66,7 +71,8 @@ few_bytes (b ∷ bs) number most s below =
       | inr longer ↦
           let powers : 256 ^ most ≤ 256 ^ length bs = pow-le-pow_right {n = 256} (omega arith) longer in
           let lead : 0 < b = s.no_zero in
-          let head : 1 * 256 ^ length bs ≤ b * 256 ^ length bs = mul-le 1 (256 ^ length bs) b (256 ^ length bs) (omega arith) (omega arith) in
+          let head : 1 * 256 ^ length bs ≤ b * 256 ^ length bs =
+          mul-le 1 (256 ^ length bs) b (256 ^ length bs) (omega arith) (omega arith) in
           let spelt : b * 256 ^ length bs + number_of bs ≡ number = s.spelt in
           absurd (omega (arith, powers, head, spelt, below))
     ]
@@ -104,7 +110,8 @@ three_bytes n least below = record {
   no_zero = omega arith;
 }
 
-four_bytes : (n : ℕ) → 16777216 ≤ n → n < 2 ^ 32 → IsSpelling (n / 16777216 ∷ n / 65536 % 256 ∷ n / 256 % 256 ∷ n % 256 ∷ []) n
+four_bytes : (n : ℕ) → 16777216 ≤ n → n < 2 ^ 32
+    → IsSpelling (n / 16777216 ∷ n / 65536 % 256 ∷ n / 256 % 256 ∷ n % 256 ∷ []) n
 four_bytes n least below = record {
   are_bytes =
       All-cons is_byte (n / 16777216) (n / 65536 % 256 ∷ n / 256 % 256 ∷ n % 256 ∷ []) (omega arith)
@@ -119,8 +126,13 @@ uint_spells n small = by (n == 0) (nat_lt n 256) (nat_lt n 65536) (nat_lt n 1677
   where
     by : (z a b c : Bool) → (n == 0) ≡ z → nat_lt n 256 ≡ a → nat_lt n 65536 ≡ b → nat_lt n 16777216 ≡ c
         → IsSpelling (if z then [] else if a then n ∷ [] else if b then n / 256 ∷ n % 256 ∷ []
-        else if c then n / 65536 ∷ n / 256 % 256 ∷ n % 256 ∷ [] else n / 16777216 ∷ n / 65536 % 256 ∷ n / 256 % 256 ∷ n % 256 ∷ []) n
-    by true a b c is_z is_a is_b is_c = record { are_bytes = All-nil is_byte; spelt = grind (arith, nat_tests); no_zero = tt }
+        else if c then n / 65536 ∷ n / 256 % 256 ∷ n % 256 ∷ [] else
+        n / 16777216 ∷ n / 65536 % 256 ∷ n / 256 % 256 ∷ n % 256 ∷ []) n
+    by true a b c is_z is_a is_b is_c = record {
+      are_bytes = All-nil is_byte;
+      spelt = grind (arith, nat_tests);
+      no_zero = tt;
+    }
     by false true b c is_z is_a is_b is_c = one_byte n (grind (arith, nat_tests)) (grind (arith, nat_tests))
     by false false true c is_z is_a is_b is_c = two_bytes n (grind (arith, nat_tests)) (grind (arith, nat_tests))
     by false false false true is_z is_a is_b is_c = three_bytes n (grind (arith, nat_tests)) (grind (arith, nat_tests))
@@ -132,7 +144,8 @@ uint_few n = by (n == 0) (nat_lt n 256) (nat_lt n 65536) (nat_lt n 16777216)
   where
     by : (z a b c : Bool)
         → length (if z then [] else if a then n ∷ [] else if b then n / 256 ∷ n % 256 ∷ []
-        else if c then n / 65536 ∷ n / 256 % 256 ∷ n % 256 ∷ [] else n / 16777216 ∷ n / 65536 % 256 ∷ n / 256 % 256 ∷ n % 256 ∷ []) ≤ 4
+        else if c then n / 65536 ∷ n / 256 % 256 ∷ n % 256 ∷ [] else
+        n / 16777216 ∷ n / 65536 % 256 ∷ n / 256 % 256 ∷ n % 256 ∷ []) ≤ 4
     by true a b c = omega arith
     by false true b c = omega arith
     by false false true c = omega arith

@@ -15,8 +15,10 @@ returns-then-not-has_room-clause-refused c =
     let bare = iff_false c.is_empty_not_bare.ensures c.if-is_empty_not_bare.false in
     let order = sym c.ascends.ensures.exact ∙ c.if-not-ascends.false in
     let short = sym c.are_short.ensures ∙ c.if-not-are_short.false in
-    let spelled = message_is m c.args.options.now refl code id c.as_slice.ensures.few bare order short (c.ascends.ensures.numbers c.if-not-ascends.false) in
-    let above = leb-false (spelled_length c.as_slice.result.now (options_of c.args.options.now) c.args.payload.now) c.args.room (sym c.has_room.ensures ∙ c.if-not-has_room.true) in
+    let spelled = message_is m c.args.options.now refl code id c.as_slice.ensures.few bare order short
+    (c.ascends.ensures.numbers c.if-not-ascends.false) in
+    let above = leb-false (spelled_length c.as_slice.result.now (options_of c.args.options.now) c.args.payload.now)
+    c.args.room (sym c.has_room.ensures ∙ c.if-not-has_room.true) in
     let token = ap length c.as_slice.ensures.bytes in
     let all = message_length m in
     (message_bytes m, spelled, omega arith)
@@ -29,12 +31,14 @@ returns-clause-none c =
     let bare = iff_false c.is_empty_not_bare.ensures c.if-is_empty_not_bare.false in
     let order = sym c.ascends.ensures.exact ∙ c.if-not-ascends.false in
     let short = sym c.are_short.ensures ∙ c.if-not-are_short.false in
-    let room = leb-true (spelled_length c.as_slice.result.now (options_of c.args.options.now) c.args.payload.now) c.args.room (sym c.has_room.ensures ∙ c.if-not-has_room.false) in
+    let room = leb-true (spelled_length c.as_slice.result.now (options_of c.args.options.now) c.args.payload.now)
+    c.args.room (sym c.has_room.ensures ∙ c.if-not-has_room.false) in
     let token = ap length c.as_slice.ensures.bytes in
     let all = message_length m in
     record {
       order = order;
       short = short;
       fits = omega arith;
-      spelled = message_is m c.args.options.now refl code id c.as_slice.ensures.few bare order short (c.ascends.ensures.numbers c.if-not-ascends.false);
+      spelled = message_is m c.args.options.now refl code id c.as_slice.ensures.few bare order short
+          (c.ascends.ensures.numbers c.if-not-ascends.false);
     }

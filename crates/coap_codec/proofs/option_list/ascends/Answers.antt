@@ -14,7 +14,9 @@ loop-option-preserved c =
     let rises : c.loop-option.base ≤ (get_or xs i first).number = omega arith in
     let step = order_more c.loop-option.base i xs first c.loop-option-test.true rises in
     let below : ℕ → Type 0 = λ k. (d : Opt) → (get_or xs k d).number < 2 ^ 16 in
-    let here : below i = λ d. (let same : (get_or xs i d).number ≡ (get_or xs i first).number = ap (λ (o : Opt). o.number) (get_or_default xs i d first c.loop-option-test.true) in omega arith) in
+    let here : below i = λ d. (let same : (get_or xs i d).number
+    ≡ (get_or xs i first).number = ap (λ (o : Opt). o.number)
+    (get_or_default xs i d first c.loop-option-test.true) in omega arith) in
     let more = below_more below i (λ k h d. c.loop-option.invariant.numbers k d h) here in
     record {
       rest = rw is (sym step ∙ c.loop-option.invariant.rest);

@@ -34,7 +34,8 @@ loop-option-preserved c =
     let text = option_bytes c.loop-option.base (option_of x) in
     let back = options_bytes x.number (options_of (drop (i + 1) xs)) in
     let step = bytes_step c.loop-option.base i xs d c.loop-option-test.true in
-    let all : options_bytes 0 (options_of xs) ≡ (done ++ text) ++ back = v.done.1 ∙ ap (λ (t : List ℕ). done ++ t) step ∙ sym (append_assoc done text back) in
+    let all : options_bytes 0 (options_of xs) ≡ (done ++ text) ++ back = v.done.1 ∙ ap (λ (t : List ℕ). done ++ t) step
+    ∙ sym (append_assoc done text back) in
     let n = ap length all in
     let halves = length-append (done ++ text) back in
     let quarters = length-append done text in
@@ -43,20 +44,29 @@ loop-option-preserved c =
     record {
       order = (order_step c.loop-option.base i xs d c.loop-option-test.true v.order).1;
       short = (short_step c.loop-option.base i xs d c.loop-option-test.true v.short).1;
-      same = Puts-length c.loop-option.out c.loop-option.at text c.put_option-at.new.out long c.put_option-at.ensures.written ∙ v.same;
-      done = (done ++ text, all, omega arith, Puts-then c.args.out.now c.args.start done c.loop-option.out c.loop-option.at text c.put_option-at.new.out v.done.2 start v.done.3 c.put_option-at.ensures.written);
+      same = Puts-length c.loop-option.out c.loop-option.at text c.put_option-at.new.out long
+          c.put_option-at.ensures.written ∙ v.same;
+      done = (
+        done ++ text,
+        all,
+        omega arith,
+        Puts-then c.args.out.now c.args.start done c.loop-option.out
+            c.loop-option.at text c.put_option-at.new.out v.done.2 start v.done.3 c.put_option-at.ensures.written,
+      );
     }
 
 pub returns-clause-written : goal.returns-clause-written
 returns-clause-written c =
     let i = c.loop-option.invariant in
     let none = bytes_end c.loop-option.base c.loop-option.option-index c.args.options.now c.loop-option-test.false in
-    let all : options_bytes 0 (options_of c.args.options.now) ≡ i.done.0 = i.done.1 ∙ ap (λ (t : List ℕ). i.done.0 ++ t) none ∙ append-nil i.done.0 in
+    let all : options_bytes 0 (options_of c.args.options.now) ≡ i.done.0 = i.done.1
+    ∙ ap (λ (t : List ℕ). i.done.0 ++ t) none ∙ append-nil i.done.0 in
     subst (λ (t : List ℕ). Puts c.args.out.now c.args.start t c.loop-option.out) (sym all) i.done.3
 
 pub returns-clause-end : goal.returns-clause-end
 returns-clause-end c =
     let i = c.loop-option.invariant in
     let none = bytes_end c.loop-option.base c.loop-option.option-index c.args.options.now c.loop-option-test.false in
-    let all : options_bytes 0 (options_of c.args.options.now) ≡ i.done.0 = i.done.1 ∙ ap (λ (t : List ℕ). i.done.0 ++ t) none ∙ append-nil i.done.0 in
+    let all : options_bytes 0 (options_of c.args.options.now) ≡ i.done.0 = i.done.1
+    ∙ ap (λ (t : List ℕ). i.done.0 ++ t) none ∙ append-nil i.done.0 in
     i.done.2 ∙ ap (λ (t : List ℕ). c.args.start + length t) (sym all)

@@ -11,6 +11,7 @@ invariant-loop-option l = record {
   order : ascends l.base (options_of (drop l.option-index l.options)) ≡ true;
   short : list_all is_short (options_of (drop l.option-index l.options)) ≡ true;
   same : length l.out ≡ length l.fn.out;
-  done : (done : List ℕ) × (options_bytes 0 (options_of l.options) ≡ done ++ options_bytes l.base (options_of (drop l.option-index l.options)))
+  done : (done : List ℕ) × (options_bytes 0 (options_of l.options) ≡ done
+      ++ options_bytes l.base (options_of (drop l.option-index l.options)))
       × (l.at ≡ l.start + length done) × Puts l.fn.out l.start done l.out;
 }

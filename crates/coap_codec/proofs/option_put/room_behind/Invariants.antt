@@ -9,5 +9,6 @@ abbrev pub invariant-loop-option : goal.invariant-loop-option
 invariant-loop-option l = record {
   order : ascends l.base (options_of (drop l.option-index l.options)) ≡ true;
   short : list_all is_short (options_of (drop l.option-index l.options)) ≡ true;
-  total : l.left + length (options_bytes 0 (options_of l.options)) ≡ l.room + length (options_bytes l.base (options_of (drop l.option-index l.options)));
+  total : l.left + length (options_bytes 0 (options_of l.options))
+      ≡ l.room + length (options_bytes l.base (options_of (drop l.option-index l.options)));
 }

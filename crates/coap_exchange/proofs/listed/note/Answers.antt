@@ -4,4 +4,5 @@ use Rattle.coap_exchange.proofs.listed.note.Goals as goal
 
 pub loop-k-preserved : goal.loop-k-preserved
 loop-k-preserved g c =
-    rw (← c.k-item.is) (map_over_more noted c.args.list.now c.loop-k.list c.loop-k.k-index c.k-item.result c.loop-k-test.true c.loop-k.invariant c.k-item.is)
+    rw (← c.k-item.is) (map_over_more noted c.args.list.now c.loop-k.list c.loop-k.k-index c.k-item.result
+    c.loop-k-test.true c.loop-k.invariant c.k-item.is)

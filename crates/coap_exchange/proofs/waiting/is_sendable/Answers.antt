@@ -9,4 +9,5 @@ returns-clause-idle g c may a is =
     let both : Some c.in-Some.asked ≡ Some a = sym c.in-Some.is ∙ is in
     let same : c.in-Some.asked ≡ a = cc both in
     subst (λ (x : Asked). is_busy x.from c.room.new.self.state.open_cons ≡ false) same
-    (room_idle c.args.layer.now.state c.room.new.self.state c.args.now.0 c.in-Some.asked.from c.in-Ok.may c.in-Ok.ensures.step may)
+    (room_idle c.args.layer.now.state c.room.new.self.state c.args.now.0 c.in-Some.asked.from c.in-Ok.may
+    c.in-Ok.ensures.step may)

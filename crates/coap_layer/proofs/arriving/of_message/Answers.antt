@@ -15,7 +15,9 @@ returns g c s arrived opened free =
     judged s c.args.at.0 from c.args.message.now c.kind-kind.result c.id-id.result c.classify.result
     c.is_outstanding.result c.is_remembered.result c.is_full.result c.args.free
     c.kind-kind.ensures id (cc (c.classify.ensures c.args.message.now, c.of.ensures, code))
-    (rw (← id) (c.is_outstanding.ensures ∙ (ap (λ cs. list_any (λ x. is_some x.last && (same_endpoint x.to from && (x.id.0 == n))) cs) c.deref.ensures.value ∙ (outstanding_is from n c.args.lists.now.sendings.items ∙ ap (is_outstanding from n) (sym opened)))))
+    (rw (← id) (c.is_outstanding.ensures ∙ (ap (λ cs. list_any
+    (λ x. is_some x.last && (same_endpoint x.to from && (x.id.0 == n))) cs) c.deref.ensures.value
+    ∙ (outstanding_is from n c.args.lists.now.sendings.items ∙ ap (is_outstanding from n) (sym opened)))))
     (rw (← id) (c.is_remembered.ensures ∙ ap (is_remembered c.args.at.0 from n) (sym arrived)))
     (c.is_full.ensures ∙ ap (is_full c.args.at.0) (sym arrived))
     (sym free)

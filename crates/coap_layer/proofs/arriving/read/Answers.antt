@@ -5,4 +5,5 @@ use Rattle.coap_layer.proofs.arriving.read.Goals as goal
 
 pub returns-clause-shows : goal.returns-clause-shows
 returns-clause-shows c =
-    read_shows c.args.bytes.now c.decode.result (are_bytes c.args.bytes.now (λ i. omega (arith, c.type_inv.bytes i))) c.decode.ensures.found c.decode.ensures.fault c.decode.ensures.head
+    read_shows c.args.bytes.now c.decode.result (are_bytes c.args.bytes.now (λ i. omega (arith, c.type_inv.bytes i)))
+    c.decode.ensures.found c.decode.ensures.fault c.decode.ensures.head

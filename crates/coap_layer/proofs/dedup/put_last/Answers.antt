@@ -5,4 +5,5 @@ use Rattle.coap_layer.proofs.Calls.Remembered.{on_ok}
 use Rattle.coap_layer.proofs.dedup.put_last.Goals as goal
 
 pub returns-clause-entries : goal.returns-clause-entries
-returns-clause-entries g c = on_ok c.insert.result (c.insert.ensures.succeeds c.requires.spare) c.insert.ensures.entries ∙ insert_entry-new same_key c.args.entries.now c.args.key c.args.kept c.requires.unknown
+returns-clause-entries g c = on_ok c.insert.result (c.insert.ensures.succeeds c.requires.spare) c.insert.ensures.entries
+    ∙ insert_entry-new same_key c.args.entries.now c.args.key c.args.kept c.requires.unknown

@@ -4,4 +4,5 @@ use Rattle.coap_layer.proofs.outstanding.note.Goals as goal
 
 pub loop-c-preserved : goal.loop-c-preserved
 loop-c-preserved g c =
-    rw (← c.c-item.is) (map_over_more settled c.args.sendings.now c.loop-c.sendings c.loop-c.c-index c.c-item.result c.loop-c-test.true c.loop-c.invariant c.c-item.is)
+    rw (← c.c-item.is) (map_over_more settled c.args.sendings.now c.loop-c.sendings c.loop-c.c-index c.c-item.result
+    c.loop-c-test.true c.loop-c.invariant c.c-item.is)

@@ -4,7 +4,8 @@ use Rattle.coap_resource.proofs.serving.content.Goals as goal
 
 pub returns-clause-fits : goal.returns-clause-fits
 returns-clause-fits g c =
-    let part : length c.in_ok-part.part ≡ _ = ap length c.in_ok-part.ensures.part ∙ length-take c.size-size.result (drop c.args.wanted.offset c.args.held.now.body) in
+    let part : length c.in_ok-part.part ≡ _ = ap length c.in_ok-part.ensures.part
+    ∙ length-take c.size-size.result (drop c.args.wanted.offset c.args.held.now.body) in
     record {
       role = refl;
       code = lit< tt;

@@ -8,7 +8,8 @@ use Rattle.coap_types.proofs.recognised_options.recognised.Goals.{else-is_recogn
 use Rattle.coap_types.proofs.recognised_options.recognised.Goals.{else-is_recognised+else-option-eq1}
 
 pub loop-option-init : goal.loop-option-init
-loop-option-init g c = let none = c.new-list.ensures.items in (search rules, (search rules, rw none (none_yet _ _ refl)))
+loop-option-init g c = let none = c.new-list.ensures.items
+    in (search rules, (search rules, rw none (none_yet _ _ refl)))
 
 pub loop-option-preserved : goal.loop-option-preserved
 loop-option-preserved g c =

@@ -10,4 +10,5 @@ returns-clause-few c =
     omega arith
 
 pub returns-clause-order : goal.returns-clause-order
-returns-clause-order c = let s = c.self.invariant.1 in rw (← c.self.view_is) (Options-ascends _ 0 s.option_bytes s.options)
+returns-clause-order c = let s = c.self.invariant.1 in rw (← c.self.view_is)
+    (Options-ascends _ 0 s.option_bytes s.options)

@@ -11,7 +11,8 @@ pub returns-clause-may : goal.returns-clause-may
 returns-clause-may g c may =
     let l = c.if-would_confirm.self-inside.layer.state in
     let h = c.room.new.self.state in
-    let room : c.if-self.self ≡ true = elim c.if-self.branch [ then-self w ↦ search rules | else-self w ↦ search rules ] in
+    let room : c.if-self.self ≡ true = elim c.if-self.branch
+    [ then-self w ↦ search rules | else-self w ↦ search rules ] in
     record {
       room = room;
       idle = room_idle l h c.args.now.0 c.args.to c.in_ok-may.may c.in_ok-may.ensures.step may;
@@ -24,7 +25,12 @@ returns-clause-kept g c at there may =
     let from : c.args.self.now.state.layer ≡ l = search (rules, c.self.view_is) in
     let later : l.clock ≤ max l.clock c.args.now.0 = omega (arith) in
     let was : c.args.self.now.room ≡ c.if-would_confirm.self-inside.room = search (rules, c.self.view_is) in
-    let room : c.args.self.now.room ≡ true → c.if-self.self ≡ true = λ h. elim c.if-self.branch [ then-self w ↦ search rules | else-self w ↦ absurd (cc (h, was, w.if-self.false)) ] in
+    let room : c.args.self.now.room ≡ true → c.if-self.self
+    ≡ true = λ h. elim c.if-self.branch [
+      | then-self w ↦ search rules
+      | else-self w ↦ absurd
+          (cc (h, was, w.if-self.false))
+    ] in
     still_may l c.room.new.self.state c.args.now.0 (T.Room c.args.to) (T.Is c.in_ok-may.may) c.in_ok-may.ensures.step
     (record { begun = λ at. refl; given = λ at. refl; later = later }) c.args.self.now _ at there from refl room may
 

@@ -20,8 +20,11 @@ use Rattle.coap_exchange.proofs.answerer.Answerer.tick.Goals as goal
 pub is_sendable-room-requires : goal.is_sendable-room-requires
 is_sendable-room-requires g c =
     let step = c.in_ok-tick.ensures.step in
-    asks_freely c.make_room.new.layer c.tick.new.self c.args.now.0 c.in_ok-tick.tick step.0 step.1 step.2 c.unless_due-ready.result
-    (waits_its_turn c.self.inside.layer.state c.make_room.new.layer.state c.tick.new.self.state c.args.now.0 c.in_ok-tick.tick step.0 c.in_ok-make_room.ensures.state step.1 step.2 c.would_tick-due.result c.ready.result c.unless_due-ready.result c.would_tick-due.ensures.idle c.unless_due-ready.ensures)
+    asks_freely c.make_room.new.layer c.tick.new.self c.args.now.0 c.in_ok-tick.tick step.0 step.1 step.2
+    c.unless_due-ready.result
+    (waits_its_turn c.self.inside.layer.state c.make_room.new.layer.state c.tick.new.self.state c.args.now.0
+    c.in_ok-tick.tick step.0 c.in_ok-make_room.ensures.state step.1 step.2 c.would_tick-due.result c.ready.result
+    c.unless_due-ready.result c.would_tick-due.ensures.idle c.unless_due-ready.ensures)
     c.in_ok-tick.ensures.kept c.in_ok-make_room.ensures.room
 
 pub invariant_of-self-2 : goal.invariant_of-self-2
@@ -30,9 +33,13 @@ invariant_of-self-2 g c = (
   λ may.
       let step = c.in_ok-tick.ensures.step in
       let sends = c.is_sendable-room.ensures in
-      let which = waits_its_turn c.self.inside.layer.state c.make_room.new.layer.state c.tick.new.self.state c.args.now.0 c.in_ok-tick.tick step.0 c.in_ok-make_room.ensures.state step.1 step.2 c.would_tick-due.result c.ready.result c.unless_due-ready.result c.would_tick-due.ensures.idle c.unless_due-ready.ensures in
-      let place : c.is_sendable-room.result ≡ true → vec_len c.make_room.new.separate < vec_capacity c.make_room.new.separate =
-      λ now. placed c.make_room.new.layer c.tick.new.self c.args.now.0 c.in_ok-tick.tick step.0 step.1 step.2 (vec_len c.make_room.new.separate < vec_capacity c.make_room.new.separate) c.unless_due-ready.result
+      let which = waits_its_turn c.self.inside.layer.state c.make_room.new.layer.state c.tick.new.self.state
+      c.args.now.0 c.in_ok-tick.tick step.0 c.in_ok-make_room.ensures.state step.1 step.2 c.would_tick-due.result
+      c.ready.result c.unless_due-ready.result c.would_tick-due.ensures.idle c.unless_due-ready.ensures in
+      let place : c.is_sendable-room.result ≡ true
+      → vec_len c.make_room.new.separate < vec_capacity c.make_room.new.separate =
+      λ now. placed c.make_room.new.layer c.tick.new.self c.args.now.0 c.in_ok-tick.tick step.0 step.1 step.2
+      (vec_len c.make_room.new.separate < vec_capacity c.make_room.new.separate) c.unless_due-ready.result
       which (sends.some now) c.in_ok-make_room.ensures.place (sends.may now) in
       search rules,
 )
@@ -43,16 +50,25 @@ returns-clause-step g c =
     let step = c.in_ok-tick.ensures.step in
     let now = c.args.now.0 in
     let d = ready_at (own_with i.layer.state.clock i.pending i.deferred (listed i.separate.items) i.ended) now in
-    let found : c.ready.result ≡ option_map (λ (x : Deferred). x.asked) d = search (rules, c.ready.ensures.first, c.max.ensures, c.clock.ensures, c.deref.ensures.value) in
-    let ready = readied i.layer.state c.make_room.new.layer.state c.tick.new.self.state now c.in_ok-tick.tick step.0 c.in_ok-make_room.ensures.state step.1 step.2 c.would_tick-due.result c.ready.result c.unless_due-ready.result d c.would_tick-due.ensures.idle c.would_tick-due.ensures.due c.unless_due-ready.ensures found in
+    let found : c.ready.result ≡ option_map (λ (x : Deferred). x.asked) d =
+    search (rules, c.ready.ensures.first, c.max.ensures, c.clock.ensures, c.deref.ensures.value) in
+    let ready = readied i.layer.state c.make_room.new.layer.state c.tick.new.self.state now c.in_ok-tick.tick step.0
+    c.in_ok-make_room.ensures.state step.1 step.2 c.would_tick-due.result c.ready.result c.unless_due-ready.result d
+    c.would_tick-due.ensures.idle c.would_tick-due.ensures.due c.unless_due-ready.ensures found in
     let list = c.settle_down.ensures.now ∙ ap listed c.in_ok-make_room.ensures.items in (
       step.0,
       c.is_sendable-room.result,
-      ticked i.layer.state i.pending i.deferred (listed i.separate.items) i.ended c.args.self.now.state (ap (λ s. s.state) c.self.view_is) c.make_room.new.layer.state c.tick.new.self.state c.is_sendable-room.new.layer.state now step.0
-          c.is_sendable-room.result c.due_of.result c.take-self-inside.new.self (listed c.unless_failed.new.separate.items) c.failed_by-self-inside.result c.in_ok-make_room.ensures.state step.2
-          (c.is_sendable-room.ensures.steps (ready_if step.0 d) ready) (c.due_of.ensures.due step.0 d step.1 ready) (search rules)
+      ticked i.layer.state i.pending i.deferred (listed i.separate.items) i.ended c.args.self.now.state
+          (ap (λ s. s.state) c.self.view_is) c.make_room.new.layer.state c.tick.new.self.state
+          c.is_sendable-room.new.layer.state now step.0
+          c.is_sendable-room.result c.due_of.result c.take-self-inside.new.self
+          (listed c.unless_failed.new.separate.items) c.failed_by-self-inside.result c.in_ok-make_room.ensures.state
+          step.2
+          (c.is_sendable-room.ensures.steps (ready_if step.0 d) ready) (c.due_of.ensures.due step.0 d step.1 ready)
+          (search rules)
           (c.unless_failed.ensures.now step.0 step.1 ∙ ap (separate_unless step.0) list)
-          (c.failed_by-self-inside.ensures step.0 step.1 ∙ ap (failed_by step.0) (ap listed c.deref-2.ensures.value ∙ list)),
+          (c.failed_by-self-inside.ensures step.0 step.1
+          ∙ ap (failed_by step.0) (ap listed c.deref-2.ensures.value ∙ list)),
     )
 
 pub returns-clause-led : goal.returns-clause-led
@@ -64,14 +80,24 @@ returns-clause-ready g c a h =
     let step = c.in_ok-tick.ensures.step in
     let now = c.args.now.0 in
     let d = ready_at (own_with i.layer.state.clock i.pending i.deferred (listed i.separate.items) i.ended) now in
-    let found : c.ready.result ≡ option_map (λ (x : Deferred). x.asked) d = search (rules, c.ready.ensures.first, c.max.ensures, c.clock.ensures, c.deref.ensures.value) in
-    let ready = readied i.layer.state c.make_room.new.layer.state c.tick.new.self.state now c.in_ok-tick.tick step.0 c.in_ok-make_room.ensures.state step.1 step.2 c.would_tick-due.result c.ready.result c.unless_due-ready.result d c.would_tick-due.ensures.idle c.would_tick-due.ensures.due c.unless_due-ready.ensures found in
+    let found : c.ready.result ≡ option_map (λ (x : Deferred). x.asked) d =
+    search (rules, c.ready.ensures.first, c.max.ensures, c.clock.ensures, c.deref.ensures.value) in
+    let ready = readied i.layer.state c.make_room.new.layer.state c.tick.new.self.state now c.in_ok-tick.tick step.0
+    c.in_ok-make_room.ensures.state step.1 step.2 c.would_tick-due.result c.ready.result c.unless_due-ready.result d
+    c.would_tick-due.ensures.idle c.would_tick-due.ensures.due c.unless_due-ready.ensures found in
     let list = c.settle_down.ensures.now ∙ ap listed c.in_ok-make_room.ensures.items in
-    let first : L.Step i.layer.state now T.Ticks step.0 c.tick.new.self.state = subst (λ x. L.Step x now T.Ticks step.0 c.tick.new.self.state) c.in_ok-make_room.ensures.state step.2 in
-    let clock = asking_clock now (ready_if step.0 d) c.is_sendable-room.result c.tick.new.self.state c.is_sendable-room.new.layer.state i.layer.state.clock (step_clock i.layer.state c.tick.new.self.state now T.Ticks step.0 first)
+    let first : L.Step i.layer.state now T.Ticks step.0 c.tick.new.self.state =
+    subst (λ x. L.Step x now T.Ticks step.0 c.tick.new.self.state) c.in_ok-make_room.ensures.state step.2 in
+    let clock = asking_clock now (ready_if step.0 d) c.is_sendable-room.result c.tick.new.self.state
+    c.is_sendable-room.new.layer.state i.layer.state.clock
+    (step_clock i.layer.state c.tick.new.self.state now T.Ticks step.0 first)
     (c.is_sendable-room.ensures.steps (ready_if step.0 d) ready) in
-    may_respond i.layer.state i.pending i.deferred (listed i.separate.items) i.ended c.is_sendable-room.new.layer.state now step.0 c.is_sendable-room.result c.due_of.result c.take-self-inside.new.self
-    (listed c.unless_failed.new.separate.items) c.failed_by-self-inside.result _ a refl (λ sends. search rules) clock (c.due_of.ensures.due step.0 d step.1 ready) (c.unless_failed.ensures.now step.0 step.1 ∙ ap (separate_unless step.0) list)
+    may_respond i.layer.state i.pending i.deferred
+    (listed i.separate.items) i.ended c.is_sendable-room.new.layer.state now step.0 c.is_sendable-room.result
+    c.due_of.result c.take-self-inside.new.self
+    (listed c.unless_failed.new.separate.items) c.failed_by-self-inside.result _ a refl (λ sends. search rules) clock
+    (c.due_of.ensures.due step.0 d step.1 ready)
+    (c.unless_failed.ensures.now step.0 step.1 ∙ ap (separate_unless step.0) list)
     (λ may x is. c.is_sendable-room.ensures.idle may x (ready ∙ is)) c.is_sendable-room.ensures.free h
 
 pub returns-clause-kept : goal.returns-clause-kept
@@ -80,10 +106,16 @@ returns-clause-kept g c at there may =
     let step = c.in_ok-tick.ensures.step in
     let now = c.args.now.0 in
     let d = ready_at (own_with i.layer.state.clock i.pending i.deferred (listed i.separate.items) i.ended) now in
-    let found : c.ready.result ≡ option_map (λ (x : Deferred). x.asked) d = search (rules, c.ready.ensures.first, c.max.ensures, c.clock.ensures, c.deref.ensures.value) in
-    let ready = readied i.layer.state c.make_room.new.layer.state c.tick.new.self.state now c.in_ok-tick.tick step.0 c.in_ok-make_room.ensures.state step.1 step.2 c.would_tick-due.result c.ready.result c.unless_due-ready.result d c.would_tick-due.ensures.idle c.would_tick-due.ensures.due c.unless_due-ready.ensures found in
-    may_still c.args.self.now _ i.layer.state c.is_sendable-room.new.layer.state at there (sym (ap (λ s. s.state.layer) c.self.view_is)) refl (λ h. search rules)
-    (ticked_confirms i.layer.state c.make_room.new.layer.state c.tick.new.self.state c.is_sendable-room.new.layer.state now c.in_ok-tick.tick step.0 (ready_if step.0 d) c.is_sendable-room.result c.in_ok-make_room.ensures.state step.1 step.2
+    let found : c.ready.result ≡ option_map (λ (x : Deferred). x.asked) d =
+    search (rules, c.ready.ensures.first, c.max.ensures, c.clock.ensures, c.deref.ensures.value) in
+    let ready = readied i.layer.state c.make_room.new.layer.state c.tick.new.self.state now c.in_ok-tick.tick step.0
+    c.in_ok-make_room.ensures.state step.1 step.2 c.would_tick-due.result c.ready.result c.unless_due-ready.result d
+    c.would_tick-due.ensures.idle c.would_tick-due.ensures.due c.unless_due-ready.ensures found in
+    may_still c.args.self.now _ i.layer.state c.is_sendable-room.new.layer.state at there
+    (sym (ap (λ s. s.state.layer) c.self.view_is)) refl (λ h. search rules)
+    (ticked_confirms i.layer.state c.make_room.new.layer.state c.tick.new.self.state c.is_sendable-room.new.layer.state
+    now c.in_ok-tick.tick step.0 (ready_if step.0 d) c.is_sendable-room.result c.in_ok-make_room.ensures.state
+    step.1 step.2
     (c.is_sendable-room.ensures.steps (ready_if step.0 d) ready) at there) may
 
 pub returns-clause-only : goal.returns-clause-only
@@ -92,10 +124,14 @@ returns-clause-only g c a h =
     let step = c.in_ok-tick.ensures.step in
     let now = c.args.now.0 in
     let d = ready_at (own_with i.layer.state.clock i.pending i.deferred (listed i.separate.items) i.ended) now in
-    let found : c.ready.result ≡ option_map (λ (x : Deferred). x.asked) d = search (rules, c.ready.ensures.first, c.max.ensures, c.clock.ensures, c.deref.ensures.value) in
-    let ready = readied i.layer.state c.make_room.new.layer.state c.tick.new.self.state now c.in_ok-tick.tick step.0 c.in_ok-make_room.ensures.state step.1 step.2 c.would_tick-due.result c.ready.result c.unless_due-ready.result d c.would_tick-due.ensures.idle c.would_tick-due.ensures.due c.unless_due-ready.ensures found in
+    let found : c.ready.result ≡ option_map (λ (x : Deferred). x.asked) d =
+    search (rules, c.ready.ensures.first, c.max.ensures, c.clock.ensures, c.deref.ensures.value) in
+    let ready = readied i.layer.state c.make_room.new.layer.state c.tick.new.self.state now c.in_ok-tick.tick step.0
+    c.in_ok-make_room.ensures.state step.1 step.2 c.would_tick-due.result c.ready.result c.unless_due-ready.result d
+    c.would_tick-due.ensures.idle c.would_tick-due.ensures.due c.unless_due-ready.ensures found in
     sym (ap (λ s. takes_response s.state now) c.self.view_is)
-    ∙ ticked_ready i.layer.state c.make_room.new.layer.state c.tick.new.self.state c.is_sendable-room.new.layer.state now c.in_ok-tick.tick step.0 d c.is_sendable-room.result c.in_ok-make_room.ensures.state step.1 step.2 a
+    ∙ ticked_ready i.layer.state c.make_room.new.layer.state c.tick.new.self.state c.is_sendable-room.new.layer.state
+    now c.in_ok-tick.tick step.0 d c.is_sendable-room.result c.in_ok-make_room.ensures.state step.1 step.2 a
     (c.is_sendable-room.ensures.steps (ready_if step.0 d) ready) (sym (c.due_of.ensures.due step.0 d step.1 ready) ∙ h)
 
 pub returns-clause-same : goal.returns-clause-same
@@ -104,10 +140,15 @@ returns-clause-same g c h there =
     let step = c.in_ok-tick.ensures.step in
     let now = c.args.now.0 in
     let d = ready_at (own_with i.layer.state.clock i.pending i.deferred (listed i.separate.items) i.ended) now in
-    let found : c.ready.result ≡ option_map (λ (x : Deferred). x.asked) d = search (rules, c.ready.ensures.first, c.max.ensures, c.clock.ensures, c.deref.ensures.value) in
-    let ready = readied i.layer.state c.make_room.new.layer.state c.tick.new.self.state now c.in_ok-tick.tick step.0 c.in_ok-make_room.ensures.state step.1 step.2 c.would_tick-due.result c.ready.result c.unless_due-ready.result d c.would_tick-due.ensures.idle c.would_tick-due.ensures.due c.unless_due-ready.ensures found in
-    ticked_same i.layer.state c.make_room.new.layer.state c.tick.new.self.state c.is_sendable-room.new.layer.state now c.in_ok-tick.tick step.0 d c.is_sendable-room.result c.in_ok-make_room.ensures.state step.1 step.2
-    (c.is_sendable-room.ensures.steps (ready_if step.0 d) ready) (sym (c.due_of.ensures.due step.0 d step.1 ready) ∙ h) there
+    let found : c.ready.result ≡ option_map (λ (x : Deferred). x.asked) d =
+    search (rules, c.ready.ensures.first, c.max.ensures, c.clock.ensures, c.deref.ensures.value) in
+    let ready = readied i.layer.state c.make_room.new.layer.state c.tick.new.self.state now c.in_ok-tick.tick step.0
+    c.in_ok-make_room.ensures.state step.1 step.2 c.would_tick-due.result c.ready.result c.unless_due-ready.result d
+    c.would_tick-due.ensures.idle c.would_tick-due.ensures.due c.unless_due-ready.ensures found in
+    ticked_same i.layer.state c.make_room.new.layer.state c.tick.new.self.state c.is_sendable-room.new.layer.state now
+    c.in_ok-tick.tick step.0 d c.is_sendable-room.result c.in_ok-make_room.ensures.state step.1 step.2
+    (c.is_sendable-room.ensures.steps (ready_if step.0 d) ready)
+    (sym (c.due_of.ensures.due step.0 d step.1 ready) ∙ h) there
     ∙ ap (λ s. takes_con s.state now there) c.self.view_is
 
 pub returns-clause-fails : goal.returns-clause-fails
@@ -116,9 +157,14 @@ returns-clause-fails g c none due =
     let step = c.in_ok-tick.ensures.step in
     let now = c.args.now.0 in
     let d = ready_at (own_with i.layer.state.clock i.pending i.deferred (listed i.separate.items) i.ended) now in
-    let found : c.ready.result ≡ option_map (λ (x : Deferred). x.asked) d = search (rules, c.ready.ensures.first, c.max.ensures, c.clock.ensures, c.deref.ensures.value) in
-    let ready = readied i.layer.state c.make_room.new.layer.state c.tick.new.self.state now c.in_ok-tick.tick step.0 c.in_ok-make_room.ensures.state step.1 step.2 c.would_tick-due.result c.ready.result c.unless_due-ready.result d c.would_tick-due.ensures.idle c.would_tick-due.ensures.due c.unless_due-ready.ensures found in
+    let found : c.ready.result ≡ option_map (λ (x : Deferred). x.asked) d =
+    search (rules, c.ready.ensures.first, c.max.ensures, c.clock.ensures, c.deref.ensures.value) in
+    let ready = readied i.layer.state c.make_room.new.layer.state c.tick.new.self.state now c.in_ok-tick.tick step.0
+    c.in_ok-make_room.ensures.state step.1 step.2 c.would_tick-due.result c.ready.result c.unless_due-ready.result d
+    c.would_tick-due.ensures.idle c.would_tick-due.ensures.due c.unless_due-ready.ensures found in
     ap Ok (c.due_of.ensures.due step.0 d step.1 ready
-    ∙ expires i.layer.state c.make_room.new.layer.state c.tick.new.self.state now step.0 d c.is_sendable-room.result c.in_ok-make_room.ensures.state step.2
+    ∙ expires i.layer.state c.make_room.new.layer.state c.tick.new.self.state now step.0 d c.is_sendable-room.result
+    c.in_ok-make_room.ensures.state step.2
     (ap (λ (s : Shown). copies (max s.state.own.clock now) s.state.layer.open_cons) c.self.view_is ∙ none)
-    (λ e. due (sym (ap (λ (s : Shown). answer_of s.state.layer (max s.state.own.clock now) T.Ticks) c.self.view_is) ∙ e)))
+    (λ e. due (sym (ap (λ (s : Shown). answer_of s.state.layer (max s.state.own.clock now) T.Ticks) c.self.view_is)
+    ∙ e)))

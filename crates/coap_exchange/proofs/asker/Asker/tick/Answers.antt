@@ -8,9 +8,13 @@ returns-clause-step g c =
     let l = c.self.inside.layer.state in
     let step = c.in_ok-tick.ensures.step in (
       step.0,
-      ticked_old l c.self.inside.server c.self.inside.word c.self.inside.held c.args.self.now.state (ap (λ s. s.state) c.self.view_is) c.tick.new.self.state c.args.now.0 step.0 c.clock.result.0 c.unless_ended-self-inside.result
-          c.turn_of-turn.result step.2 c.clock.ensures (c.turn_of-turn.ensures l.clock c.self.inside.word step.0 step.1) (search rules),
+      ticked_old l c.self.inside.server c.self.inside.word c.self.inside.held c.args.self.now.state
+          (ap (λ s. s.state) c.self.view_is) c.tick.new.self.state c.args.now.0 step.0 c.clock.result.0
+          c.unless_ended-self-inside.result
+          c.turn_of-turn.result step.2 c.clock.ensures (c.turn_of-turn.ensures l.clock c.self.inside.word step.0 step.1)
+          (search rules),
     )
 
 pub returns-clause-led : goal.returns-clause-led
-returns-clause-led g c = let s = returns-clause-step g c in (s.0, λ server word t led. led_call server word t _ _ _ led s.1)
+returns-clause-led g c = let s = returns-clause-step g c
+    in (s.0, λ server word t led. led_call server word t _ _ _ led s.1)

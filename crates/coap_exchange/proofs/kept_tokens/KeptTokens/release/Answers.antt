@@ -5,5 +5,6 @@ use Rattle.coap_exchange.proofs.kept_tokens.KeptTokens.release.Goals as goal
 
 pub returns-clause-left : goal.returns-clause-left
 returns-clause-left c =
-    filter-from_retain _ (λ other. not (same_token c.args.token.now other)) _ (λ x b f' y k. search rules) _ _ c.retain.ensures.filtered
+    filter-from_retain _ (λ other. not (same_token c.args.token.now other)) _
+    (λ x b f' y k. search rules) _ _ c.retain.ensures.filtered
     ∙ ap (kept_without c.args.token.now) c.self.view_is

@@ -4,4 +4,7 @@ use Rattle.coap_exchange.proofs.tests.hashers.asks.Goals as goal
 pub ask-requires : goal.ask-requires
 ask-requires g c token few =
     c.askable_law.ensures.counted (record { code = 1; token = None; options = []; payload = [] })
-    (record { parts = record { some = omega arith; code = omega arith; order = refl; numbers = refl; short = refl }; fits = omega arith }) token few
+    (record {
+      parts = record { some = omega arith; code = omega arith; order = refl; numbers = refl; short = refl };
+      fits = omega arith;
+    }) token few

@@ -6,5 +6,14 @@ respond-requires-clause-may g c = c.in_ok-due.ensures.ready c.in-Ready.asked c.i
 
 pub respond-requires-clause-response : goal.respond-requires-clause-response
 respond-requires-clause-response g c =
-    c.answerable_law.ensures c.in-Ready.asked (record { code = 69; options = []; payload = 104 ∷ 105 ∷ [] }) c.as_slice-few.ensures.few
-    (record { role = refl; some = omega arith; code = omega arith; order = refl; numbers = refl; short = refl; fits = omega arith })
+    c.answerable_law.ensures c.in-Ready.asked (record { code = 69; options = []; payload = 104 ∷ 105 ∷ [] })
+    c.as_slice-few.ensures.few
+    (record {
+      role = refl;
+      some = omega arith;
+      code = omega arith;
+      order = refl;
+      numbers = refl;
+      short = refl;
+      fits = omega arith;
+    })

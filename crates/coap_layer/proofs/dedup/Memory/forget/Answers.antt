@@ -13,7 +13,8 @@ returns-then-forgotten-gt0-clause-settled g c =
     let es = c.self.inside.settled.entries in
     let n = c.forgotten-forgotten.result in
     let left : c.drop-drain.new.self.0.entries ≡ drop n es = c.drop-drain.ensures.kept ∙ c.drain.ensures.kept in
-    ap arrivals_as left ∙ (sym (drop-map arrived_as n es) ∙ (ap (λ m. drop n m.settled) c.self.view_is ∙ sym c.forgotten-forgotten.ensures.live))
+    ap arrivals_as left ∙ (sym (drop-map arrived_as n es)
+    ∙ (ap (λ m. drop n m.settled) c.self.view_is ∙ sym c.forgotten-forgotten.ensures.live))
 
 pub invariant_of-self : goal.invariant_of-self
 invariant_of-self g c =
@@ -21,8 +22,13 @@ invariant_of-self g c =
     let n = c.forgotten-forgotten.result in
     let left : c.drop-drain.new.self.0.entries ≡ drop n es = c.drop-drain.ensures.kept ∙ c.drain.ensures.kept in
     let live : arrivals_as c.drop-drain.new.self.0.entries ≡ filter (is_live c.args.now.0) (arrivals_as es) =
-    ap arrivals_as left ∙ (sym (drop-map arrived_as n es) ∙ (ap (λ m. drop n m.settled) c.self.view_is ∙ (sym c.forgotten-forgotten.ensures.live ∙ ap (λ m. filter (is_live c.args.now.0) m.settled) (sym c.self.view_is)))) in (
+    ap arrivals_as left ∙ (sym (drop-map arrived_as n es)
+    ∙ (ap (λ m. drop n m.settled) c.self.view_is
+    ∙ (sym c.forgotten-forgotten.ensures.live ∙ ap (λ m. filter (is_live c.args.now.0) m.settled)
+    (sym c.self.view_is)))) in (
       c.drop-drain.ensures.unique,
-      subst (IsNonDecreasingBy (λ e. e.1.at.0)) (sym left) (IsNonDecreasingBy-drop (λ e. e.1.at.0) n es c.self.invariant.1),
-      apart_filtered c.args.now.0 (option_map arrived_as c.self.inside.newest) _ _ _ _ c.self.invariant.2 live (search rules),
+      subst (IsNonDecreasingBy (λ e. e.1.at.0)) (sym left)
+          (IsNonDecreasingBy-drop (λ e. e.1.at.0) n es c.self.invariant.1),
+      apart_filtered c.args.now.0 (option_map arrived_as c.self.inside.newest) _ _ _ _ c.self.invariant.2 live
+          (search rules),
     )

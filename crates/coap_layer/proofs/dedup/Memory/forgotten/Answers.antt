@@ -16,5 +16,7 @@ returns-clause-live g c =
     (IsPartitionedBy-ltb (λ e. e.1.at.0 + exchange_lifetime) es c.args.now.0 (later_sorted es c.self.invariant.1)) in
     ap (λ m. filter (is_live c.args.now.0) m.settled) (sym c.self.view_is)
     ∙ (live_arrivals c.args.now.0 es
-    ∙ (ap arrivals_as (front_split (λ e. nat_lt (e.1.at.0 + exchange_lifetime) c.args.now.0) es c.partition_point.result point.0 point.1 (search rules))
-    ∙ (sym (drop-map arrived_as c.partition_point.result es) ∙ ap (λ m. drop c.partition_point.result m.settled) c.self.view_is)))
+    ∙ (ap arrivals_as (front_split (λ e. nat_lt (e.1.at.0 + exchange_lifetime) c.args.now.0) es c.partition_point.result
+    point.0 point.1 (search rules))
+    ∙ (sym (drop-map arrived_as c.partition_point.result es)
+    ∙ ap (λ m. drop c.partition_point.result m.settled) c.self.view_is)))

@@ -22,34 +22,62 @@ pub returns-in-Some-clause-step : goal.returns-in-Some-clause-step
 returns-in-Some-clause-step g c _ =
     let h : State = held c.self.inside.clock.0 c.self.inside.awaits c.self.inside.ids c.self.inside.lists in
     let busy : c.is_busy-busy.result ≡ is_busy c.args.to h.open_cons
-    = c.is_busy-busy.ensures ∙ (ap (λ cs. list_any (λ x. is_some x.last && same_endpoint x.to c.args.to) cs) c.deref.ensures.value ∙ busy_is c.args.to c.self.inside.lists.sendings.items) in
-    con_refused h c.args.self.now.state c.args.now.0 c.later-at.result.0 c.args.to c.args.content.now (ap (λ s. s.state) c.self.view_is) c.requires.spelled (search rules)
-    c.args.word c.is_busy-busy.result c.would_give.result c.in-Some.refusal busy c.would_give.ensures (sym c.refusal.ensures ∙ c.in-Some.is)
+    = c.is_busy-busy.ensures ∙ (ap (λ cs. list_any (λ x. is_some x.last && same_endpoint x.to c.args.to) cs)
+    c.deref.ensures.value ∙ busy_is c.args.to c.self.inside.lists.sendings.items) in
+    con_refused h c.args.self.now.state c.args.now.0 c.later-at.result.0 c.args.to c.args.content.now
+    (ap (λ s. s.state) c.self.view_is) c.requires.spelled (search rules)
+    c.args.word c.is_busy-busy.result c.would_give.result c.in-Some.refusal busy c.would_give.ensures
+    (sym c.refusal.ensures ∙ c.in-Some.is)
 
 pub returns-in-Some-clause-led : goal.returns-in-Some-clause-led
 returns-in-Some-clause-led g c sent first t led = led_step first t _ _ _ _ _ led (returns-in-Some-clause-step g c sent)
 
 pub returns-in_default-take_room-clause-room : goal.returns-in_default-take_room-clause-room
-returns-in_default-take_room-clause-room g c has same = absurd (cc (c.in_default-take_room.ensures.had (ap (λ s. s.has_room) c.self.view_is ∙ has)))
+returns-in_default-take_room-clause-room g c has same =
+    absurd (cc (c.in_default-take_room.ensures.had (ap (λ s. s.has_room) c.self.view_is ∙ has)))
 
 pub invariant_of-self-2 : goal.invariant_of-self-2
 invariant_of-self-2 g c =
-    let out : List Packet = record { to = c.args.to; bytes = message_bytes (with_head Con c.give-id.result.0 c.args.content.now) } ∷ [] in (
-      within_pushed c.self.inside.mark c.self.inside.lists.entries.settled c.send_con.new.lists.entries.settled c.self.inside.lists.waiting.items c.send_con.new.lists.waiting.items out c.self.invariant.0
-          (ap (λ m. m.settled) (c.send_con.ensures.entries ∙ c.take_room.ensures.entries)) (c.send_con.ensures.waiting ∙ ap (λ (q : List Packet). q ++ out) c.take_room.ensures.waiting),
+    let out : List Packet = record {
+      to = c.args.to;
+      bytes = message_bytes (with_head Con c.give-id.result.0 c.args.content.now);
+    } ∷ [] in (
+      within_pushed c.self.inside.mark c.self.inside.lists.entries.settled c.send_con.new.lists.entries.settled
+          c.self.inside.lists.waiting.items c.send_con.new.lists.waiting.items out c.self.invariant.0
+          (ap (λ m. m.settled) (c.send_con.ensures.entries ∙ c.take_room.ensures.entries))
+          (c.send_con.ensures.waiting ∙ ap (λ (q : List Packet). q ++ out) c.take_room.ensures.waiting),
       search rules,
-      (subst (λ m. IsUpTo c.later-at.result.0 (arrivals_in m)) (sym (c.send_con.ensures.entries ∙ c.take_room.ensures.entries)) (upto_later _ _ _ (search rules) c.self.invariant.2.0), tt),
+      (
+        subst (λ m. IsUpTo c.later-at.result.0 (arrivals_in m))
+            (sym (c.send_con.ensures.entries ∙ c.take_room.ensures.entries))
+            (upto_later _ _ _ (search rules) c.self.invariant.2.0),
+        tt,
+      ),
     )
 
 pub returns-clause-step : goal.returns-clause-step
 returns-clause-step g c _ =
     let h : State = held c.self.inside.clock.0 c.self.inside.awaits c.self.inside.ids c.self.inside.lists in
     let busy : c.is_busy-busy.result ≡ is_busy c.args.to h.open_cons
-    = c.is_busy-busy.ensures ∙ (ap (λ cs. list_any (λ x. is_some x.last && same_endpoint x.to c.args.to) cs) c.deref.ensures.value ∙ busy_is c.args.to c.self.inside.lists.sendings.items) in
-    let out : List Packet = record { to = c.args.to; bytes = message_bytes (with_head Con c.give-id.result.0 c.args.content.now) } ∷ [] in
-    let begun : List Open = record { to = c.args.to; id = c.give-id.result.0; bytes = message_bytes (with_head Con c.give-id.result.0 c.args.content.now); timeout = ack_timeout + c.args.word % timeout_values; first = c.later-at.result.0; last = c.later-at.result.0 } ∷ [] in
-    con_left h c.args.self.now.state c.args.now.0 c.later-at.result.0 c.args.to c.args.content.now (ap (λ s. s.state) c.self.view_is) c.requires.spelled (search rules)
-    c.args.word c.is_busy-busy.result c.would_give.result c.give-id.result _ _ _ _ _ busy c.would_give.ensures (sym c.refusal.ensures ∙ c.in_default.is) c.give-id.ensures.id
+    = c.is_busy-busy.ensures ∙ (ap (λ cs. list_any (λ x. is_some x.last && same_endpoint x.to c.args.to) cs)
+    c.deref.ensures.value ∙ busy_is c.args.to c.self.inside.lists.sendings.items) in
+    let out : List Packet = record {
+      to = c.args.to;
+      bytes = message_bytes (with_head Con c.give-id.result.0 c.args.content.now);
+    } ∷ [] in
+    let begun : List Open = record {
+      to = c.args.to;
+      id = c.give-id.result.0;
+      bytes = message_bytes (with_head Con c.give-id.result.0 c.args.content.now);
+      timeout = ack_timeout + c.args.word % timeout_values;
+      first = c.later-at.result.0;
+      last = c.later-at.result.0;
+    }
+    ∷ [] in
+    con_left h c.args.self.now.state c.args.now.0 c.later-at.result.0 c.args.to c.args.content.now
+    (ap (λ s. s.state) c.self.view_is) c.requires.spelled (search rules)
+    c.args.word c.is_busy-busy.result c.would_give.result c.give-id.result _ _ _ _ _ busy c.would_give.ensures
+    (sym c.refusal.ensures ∙ c.in_default.is) c.give-id.ensures.id
     (ap (λ s. s.upcoming) c.give-id.ensures.new) (ap (λ s. s.last_used) c.give-id.ensures.new)
     (ap arrivals_in (c.send_con.ensures.entries ∙ c.take_room.ensures.entries))
     (c.send_con.ensures.open ∙ ap (λ cs. open_now cs ++ begun) c.take_room.ensures.sendings)
@@ -60,9 +88,15 @@ returns-clause-led g c sent first t led = led_step first t _ _ _ _ _ led (return
 
 pub returns-clause-before : goal.returns-clause-before
 returns-clause-before g c =
-    let out : List Packet = record { to = c.args.to; bytes = message_bytes (with_head Con c.give-id.result.0 c.args.content.now) } ∷ [] in
-    before_same c.self.inside.mark c.self.inside.lists.entries.settled c.send_con.new.lists.entries.settled c.self.inside.lists.sendings.items c.send_con.new.lists.sendings.items c.self.inside.lists.waiting.items c.send_con.new.lists.waiting.items out
-    c.self.invariant.0 (ap (λ m. m.settled) (c.send_con.ensures.entries ∙ c.take_room.ensures.entries)) (c.send_con.ensures.before ∙ ap open_before c.take_room.ensures.sendings)
+    let out : List Packet = record {
+      to = c.args.to;
+      bytes = message_bytes (with_head Con c.give-id.result.0 c.args.content.now);
+    } ∷ [] in
+    before_same c.self.inside.mark c.self.inside.lists.entries.settled c.send_con.new.lists.entries.settled
+    c.self.inside.lists.sendings.items c.send_con.new.lists.sendings.items c.self.inside.lists.waiting.items
+    c.send_con.new.lists.waiting.items out
+    c.self.invariant.0 (ap (λ m. m.settled) (c.send_con.ensures.entries ∙ c.take_room.ensures.entries))
+    (c.send_con.ensures.before ∙ ap open_before c.take_room.ensures.sendings)
     (c.send_con.ensures.waiting ∙ ap (λ (q : List Packet). q ++ out) c.take_room.ensures.waiting)
     ∙ ap (λ s. s.before) c.self.view_is
 
@@ -70,5 +104,8 @@ pub returns-in_default-take_room-clause-quiet : goal.returns-in_default-take_roo
 returns-in_default-take_room-clause-quiet g c quiet _ =
     let h : State = held c.self.inside.clock.0 c.self.inside.awaits c.self.inside.ids c.self.inside.lists in
     let busy : c.is_busy-busy.result ≡ is_busy c.args.to h.open_cons
-    = c.is_busy-busy.ensures ∙ (ap (λ cs. list_any (λ x. is_some x.last && same_endpoint x.to c.args.to) cs) c.deref.ensures.value ∙ busy_is c.args.to c.self.inside.lists.sendings.items) in
-    not_refused h c.args.self.now.state c.args.to c.args.now.0 c.later-at.result.0 c.is_busy-busy.result c.would_give.result (ap (λ s. s.state) c.self.view_is) (search rules) busy c.would_give.ensures (sym c.refusal.ensures ∙ c.in_default.is) quiet
+    = c.is_busy-busy.ensures ∙ (ap (λ cs. list_any (λ x. is_some x.last && same_endpoint x.to c.args.to) cs)
+    c.deref.ensures.value ∙ busy_is c.args.to c.self.inside.lists.sendings.items) in
+    not_refused h c.args.self.now.state c.args.to c.args.now.0 c.later-at.result.0 c.is_busy-busy.result
+    c.would_give.result (ap (λ s. s.state) c.self.view_is) (search rules) busy c.would_give.ensures
+    (sym c.refusal.ensures ∙ c.in_default.is) quiet

@@ -15,9 +15,12 @@ invariant_of-self g c =
 pub returns-clause-step : goal.returns-clause-step
 returns-clause-step g c =
     let h : State = held c.self.inside.clock.0 c.self.inside.awaits c.self.inside.ids c.self.inside.lists in
-    step_of h c.args.self.now.state _ 0 h.clock Take (Gives c.pop_front.result) [] (ap (λ s. s.state) c.self.view_is) tt refl
-    (ap Gives (first_is c.pop_front.result c.self.inside.lists.waiting.items c.pop_front.new.self.items c.pop_front.ensures.items (λ more. c.pop_front.ensures.variant.1 (search rules)))) refl
-    (ap (λ q. forgotten (moved h h.clock h.awaits h.arrived h.open_cons q)) c.pop_front.ensures.rest ∙ ap forgotten (sym (taken_so h c.pop_front.result)))
+    step_of h c.args.self.now.state _ 0 h.clock Take (Gives c.pop_front.result) []
+    (ap (λ s. s.state) c.self.view_is) tt refl
+    (ap Gives (first_is c.pop_front.result c.self.inside.lists.waiting.items c.pop_front.new.self.items
+    c.pop_front.ensures.items (λ more. c.pop_front.ensures.variant.1 (search rules)))) refl
+    (ap (λ q. forgotten (moved h h.clock h.awaits h.arrived h.open_cons q)) c.pop_front.ensures.rest
+    ∙ ap forgotten (sym (taken_so h c.pop_front.result)))
 
 pub returns-clause-led : goal.returns-clause-led
 returns-clause-led g c word t led = led_step word t _ _ _ _ _ led (returns-clause-step g c)

@@ -18,7 +18,8 @@ pub take_in-mark-requires-clause-place : goal.take_in-mark-requires-clause-place
 take_in-mark-requires-clause-place g c some = c.in_ok-grow.ensures.place (c.is_some.ensures ∙ some)
 
 pub take_in-mark-requires-clause-up_to : goal.take_in-mark-requires-clause-up_to
-take_in-mark-requires-clause-up_to g c = subst (IsUpTo c.self.inside.clock.0) (sym (same_arrivals c.in_ok-grow.ensures.settled c.in_ok-grow.ensures.newest)) c.self.invariant.2.0
+take_in-mark-requires-clause-up_to g c = subst (IsUpTo c.self.inside.clock.0)
+    (sym (same_arrivals c.in_ok-grow.ensures.settled c.in_ok-grow.ensures.newest)) c.self.invariant.2.0
 
 pub take_in-mark-requires-clause-unknown : goal.take_in-mark-requires-clause-unknown
 take_in-mark-requires-clause-unknown g c up =
@@ -26,8 +27,10 @@ take_in-mark-requires-clause-unknown g c up =
     let at : ℕ = c.later.result.0 in
     let a = c.judge-arriving.result in
     let judged = c.judge-arriving.ensures h refl refl (sym c.would_give-free.ensures) in
-    let arrives : IsArriving h at c.args.from (arrival_at c.args.bytes.now) a = subst (λ x. IsArriving h at c.args.from x a) c.read-datagram.ensures.shows judged.0 in
-    ap (is_remembered at c.args.from a.id.0) (same_arrivals c.in_ok-grow.ensures.settled c.in_ok-grow.ensures.newest) ∙ arrives.new up
+    let arrives : IsArriving h at c.args.from (arrival_at c.args.bytes.now) a =
+    subst (λ x. IsArriving h at c.args.from x a) c.read-datagram.ensures.shows judged.0 in
+    ap (is_remembered at c.args.from a.id.0) (same_arrivals c.in_ok-grow.ensures.settled c.in_ok-grow.ensures.newest)
+    ∙ arrives.new up
 
 pub returns-clause-step : goal.returns-clause-step
 returns-clause-step g c =
@@ -37,11 +40,14 @@ returns-clause-step g c =
     let shows = c.read-datagram.ensures.shows in
     let judged = c.judge-arriving.ensures h refl refl (sym c.would_give-free.ensures) in
     received h c.args.now.0 c.args.from c.args.bytes.now a at (search rules) c.args.self.now.state _
-    (arrivals_in c.take_in-mark.new.lists.entries) (open_now c.take_in-mark.new.lists.sendings.items) (option_to_list c.in_ok-sent.sent) c.take_in-mark.new.lists.waiting.items _
+    (arrivals_in c.take_in-mark.new.lists.entries) (open_now c.take_in-mark.new.lists.sendings.items)
+    (option_to_list c.in_ok-sent.sent) c.take_in-mark.new.lists.waiting.items _
     (ap (λ s. s.state) c.self.view_is) c.read-datagram.ensures.bytes
     (subst (λ x. IsArriving h at c.args.from x a) shows judged.0)
     (ap Becomes (c.told.ensures ∙ (judged.1 ∙ ap (answer_to h at c.args.from) shows)))
-    (c.take_in-mark.ensures.arrived ∙ ap (λ es. filter (is_live at) (filter (is_live c.self.inside.clock.0) es ++ newly_by at c.args.from a)) (same_arrivals c.in_ok-grow.ensures.settled c.in_ok-grow.ensures.newest))
+    (c.take_in-mark.ensures.arrived ∙ ap (λ es. filter (is_live at)
+    (filter (is_live c.self.inside.clock.0) es ++ newly_by at c.args.from a))
+    (same_arrivals c.in_ok-grow.ensures.settled c.in_ok-grow.ensures.newest))
     (c.take_in-mark.ensures.open ∙ ap (λ cs. open_by c.args.from a (open_now cs)) c.in_ok-grow.ensures.sendings)
     c.in_ok-sent.ensures.sent
     (c.take_in-mark.ensures.waiting ∙ ap (λ q. q ++ option_to_list c.in_ok-sent.sent) c.in_ok-grow.ensures.waiting)
@@ -56,8 +62,10 @@ returns-in_err-sent-clause-quiet g c quiet =
     let at : ℕ = c.later.result.0 in
     let a = c.judge-arriving.result in
     let judged = c.judge-arriving.ensures h refl refl (sym c.would_give-free.ensures) in
-    let arrives : IsArriving h at c.args.from (arrival_at c.args.bytes.now) a = subst (λ x. IsArriving h at c.args.from x a) c.read-datagram.ensures.shows judged.0 in
-    let none = quiet_so h c.args.now.0 c.args.from c.args.bytes.now a at c.args.self.now.state (search rules) (ap (λ s. s.state) c.self.view_is) arrives quiet in
+    let arrives : IsArriving h at c.args.from (arrival_at c.args.bytes.now) a =
+    subst (λ x. IsArriving h at c.args.from x a) c.read-datagram.ensures.shows judged.0 in
+    let none = quiet_so h c.args.now.0 c.args.from c.args.bytes.now a at c.args.self.now.state (search rules)
+    (ap (λ s. s.state) c.self.view_is) arrives quiet in
     absurd (cc (c.in_err-sent.ensures.silent none.2))
 
 pub returns-in_err-grow-clause-quiet : goal.returns-in_err-grow-clause-quiet
@@ -66,17 +74,23 @@ returns-in_err-grow-clause-quiet g c quiet =
     let at : ℕ = c.later.result.0 in
     let a = c.judge-arriving.result in
     let judged = c.judge-arriving.ensures h refl refl (sym c.would_give-free.ensures) in
-    let arrives : IsArriving h at c.args.from (arrival_at c.args.bytes.now) a = subst (λ x. IsArriving h at c.args.from x a) c.read-datagram.ensures.shows judged.0 in
-    let none = quiet_so h c.args.now.0 c.args.from c.args.bytes.now a at c.args.self.now.state (search rules) (ap (λ s. s.state) c.self.view_is) arrives quiet in
-    let unsent : c.is_some.result ≡ false = c.is_some.ensures ∙ none_of c.in_ok-sent.sent (c.in_ok-sent.ensures.sent ∙ none.2) in
+    let arrives : IsArriving h at c.args.from (arrival_at c.args.bytes.now) a =
+    subst (λ x. IsArriving h at c.args.from x a) c.read-datagram.ensures.shows judged.0 in
+    let none = quiet_so h c.args.now.0 c.args.from c.args.bytes.now a at c.args.self.now.state (search rules)
+    (ap (λ s. s.state) c.self.view_is) arrives quiet in
+    let unsent : c.is_some.result ≡ false = c.is_some.ensures
+    ∙ none_of c.in_ok-sent.sent (c.in_ok-sent.ensures.sent ∙ none.2) in
     absurd (cc (c.in_err-grow.ensures.idle (c.keeps.ensures ∙ none.1) (c.hands.ensures ∙ none.0) unsent))
 
 pub invariant_of-self-2 : goal.invariant_of-self-2
 invariant_of-self-2 g c =
     let at : ℕ = c.later.result.0 in (
       c.take_in-mark.ensures.within,
-      room_kept c.grow.new.room c.grow.new.lists c.take_in-mark.new.lists c.in_ok-grow.ensures.room c.take_in-mark.ensures.sendings_len c.take_in-mark.ensures.sendings_capacity c.take_in-mark.ensures.waiting_room,
-      subst (λ w. IsKept at w true c.take_in-mark.new.lists.entries) (sym c.awaiting-self-inside.ensures) c.take_in-mark.ensures.kept,
+      room_kept c.grow.new.room c.grow.new.lists c.take_in-mark.new.lists c.in_ok-grow.ensures.room
+          c.take_in-mark.ensures.sendings_len c.take_in-mark.ensures.sendings_capacity
+          c.take_in-mark.ensures.waiting_room,
+      subst (λ w. IsKept at w true c.take_in-mark.new.lists.entries)
+          (sym c.awaiting-self-inside.ensures) c.take_in-mark.ensures.kept,
     )
 
 pub returns-clause-may_reply : goal.returns-clause-may_reply
@@ -86,8 +100,10 @@ returns-clause-may_reply g c m up =
     let a = c.judge-arriving.result in
     let shows = c.read-datagram.ensures.shows in
     let judged = c.judge-arriving.ensures h refl refl (sym c.would_give-free.ensures) in
-    let arrives : IsArriving h at c.args.from (arrival_at c.args.bytes.now) a = subst (λ x. IsArriving h at c.args.from x a) shows judged.0 in
-    let there = awaited_so h c.args.now.0 c.args.from c.args.bytes.now a at None _ m arrives (ap Becomes (c.told.ensures ∙ (judged.1 ∙ ap (answer_to h at c.args.from) shows))) up in
+    let arrives : IsArriving h at c.args.from (arrival_at c.args.bytes.now) a =
+    subst (λ x. IsArriving h at c.args.from x a) shows judged.0 in
+    let there = awaited_so h c.args.now.0 c.args.from c.args.bytes.now a at None _ m arrives
+    (ap Becomes (c.told.ensures ∙ (judged.1 ∙ ap (answer_to h at c.args.from) shows))) up in
     record {
       awaited = c.awaiting-self-inside.ensures ∙ there.0;
       room = c.in_ok-grow.ensures.there (c.hands.ensures ∙ there.1);

@@ -14,12 +14,16 @@ use Rattle.coap_layer.proofs.layer.Layer.reply.Goals as goal
 pub invariant_of-self : goal.invariant_of-self
 invariant_of-self g c =
     let old = c.self.inside.lists.entries in (
-      within_more c.self.inside.mark old.settled c.store_reply.new.self.settled _ _ c.self.invariant.0 c.store_reply.ensures.settled (search rules),
+      within_more c.self.inside.mark old.settled c.store_reply.new.self.settled _ _ c.self.invariant.0
+          c.store_reply.ensures.settled (search rules),
       search rules,
       (
-        subst (IsUpTo c.self.inside.clock.0) (sym (same_arrivals c.store_reply.ensures.settled c.store_reply.ensures.newest))
-            (upto_more c.self.inside.clock.0 old.settled _ (upto_front c.self.inside.clock.0 old.settled _ c.self.invariant.2.0)
-            (upto_stored c.self.inside.clock.0 c.args.to c.args.id.0 c.filled-stored.result.items old.newest (upto_back c.self.inside.clock.0 old.settled _ c.self.invariant.2.0))),
+        subst (IsUpTo c.self.inside.clock.0) (sym (same_arrivals c.store_reply.ensures.settled
+            c.store_reply.ensures.newest))
+            (upto_more c.self.inside.clock.0 old.settled _
+            (upto_front c.self.inside.clock.0 old.settled _ c.self.invariant.2.0)
+            (upto_stored c.self.inside.clock.0 c.args.to c.args.id.0 c.filled-stored.result.items old.newest
+            (upto_back c.self.inside.clock.0 old.settled _ c.self.invariant.2.0))),
         tt,
       ),
     )
@@ -31,20 +35,28 @@ returns-in-Some-clause-step g c =
     let id = c.args.id.0 in
     let bytes = c.args.bytes.now in
     let unknown = unknown_there c.self.inside.clock.0 (awaited c.self.inside.awaits) _ c.self.inside.replies old.settled
-    (ap (λ s. s.state.awaits) c.self.view_is ∙ c.requires.may.awaited) (ap (λ s. s.replies) c.self.view_is ∙ c.requires.may.replies) c.self.invariant.2.1 in
-    let stored : arrivals_in c.store_reply.new.self ≡ old.settled ++ option_to_list (option_map (storing c.args.to id bytes) old.newest) =
+    (ap (λ s. s.state.awaits) c.self.view_is ∙ c.requires.may.awaited)
+    (ap (λ s. s.replies) c.self.view_is ∙ c.requires.may.replies) c.self.invariant.2.1 in
+    let stored : arrivals_in c.store_reply.new.self ≡ old.settled
+    ++ option_to_list (option_map (storing c.args.to id bytes) old.newest) =
     same_arrivals c.store_reply.ensures.settled
     (c.store_reply.ensures.newest ∙ ap (λ b. option_map (storing c.args.to id b) old.newest) c.filled-stored.ensures) in
-    step_of h c.args.self.now.state _ 0 h.clock (Reply c.args.to id bytes) Nothing (record { to = c.args.to; bytes = bytes } ∷ []) (ap (λ s. s.state) c.self.view_is) (ap (λ s. s.state.awaits) c.self.view_is ∙ c.requires.may.awaited) refl refl refl
+    step_of h c.args.self.now.state _ 0 h.clock (Reply c.args.to id bytes) Nothing
+    (record { to = c.args.to; bytes = bytes } ∷ []) (ap (λ s. s.state) c.self.view_is)
+    (ap (λ s. s.state.awaits) c.self.view_is ∙ c.requires.may.awaited) refl refl refl
     (replied_left h c.args.to id bytes (arrivals_in c.store_reply.new.self) c.push_within.new.waiting.items
-    (ap (filter (is_live c.self.inside.clock.0)) stored ∙ stored_newest c.self.inside.clock.0 c.args.to id bytes old.settled old.newest unknown)
-    (c.push_within.ensures.items ∙ ap (λ b. h.queue ++ record { to = c.args.to; bytes = b } ∷ []) c.filled-sent.ensures))
+    (ap (filter (is_live c.self.inside.clock.0)) stored
+    ∙ stored_newest c.self.inside.clock.0 c.args.to id bytes old.settled old.newest unknown)
+    (c.push_within.ensures.items ∙ ap (λ b. h.queue ++ record { to = c.args.to; bytes = b } ∷ [])
+    c.filled-sent.ensures))
 
 pub returns-in-Some-clause-led : goal.returns-in-Some-clause-led
 returns-in-Some-clause-led g c word t led = led_step word t _ _ _ _ _ led (returns-in-Some-clause-step g c)
 
 pub returns-in-Some-clause-before : goal.returns-in-Some-clause-before
 returns-in-Some-clause-before g c =
-    before_same c.self.inside.mark c.self.inside.lists.entries.settled c.store_reply.new.self.settled c.self.inside.lists.sendings.items c.self.inside.lists.sendings.items c.self.inside.lists.waiting.items c.push_within.new.waiting.items _
+    before_same c.self.inside.mark c.self.inside.lists.entries.settled c.store_reply.new.self.settled
+    c.self.inside.lists.sendings.items c.self.inside.lists.sendings.items c.self.inside.lists.waiting.items
+    c.push_within.new.waiting.items _
     c.self.invariant.0 c.store_reply.ensures.settled refl c.push_within.ensures.items
     ∙ ap (λ s. s.before) c.self.view_is

@@ -17,12 +17,22 @@ pub returns-clause-step : goal.returns-clause-step
 returns-clause-step g c =
     let h : State = held c.self.inside.clock.0 c.self.inside.awaits c.self.inside.ids c.self.inside.lists in
     let at : ℕ = c.later-at.result.0 in
-    let told = so_told h c.args.self.now.state c.args.to c.args.now.0 at c.would_confirm-may.result (ap (λ s. s.state) c.self.view_is) (search rules) c.would_confirm-may.ensures in
-    let entries : arrivals_in c.grow.new.lists.entries ≡ arrivals_in c.self.inside.lists.entries = same_arrivals c.in_ok-grow.ensures.settled c.in_ok-grow.ensures.newest in
+    let told = so_told h c.args.self.now.state c.args.to c.args.now.0 at c.would_confirm-may.result
+    (ap (λ s. s.state) c.self.view_is) (search rules) c.would_confirm-may.ensures in
+    let entries : arrivals_in c.grow.new.lists.entries
+    ≡ arrivals_in c.self.inside.lists.entries =
+    same_arrivals c.in_ok-grow.ensures.settled c.in_ok-grow.ensures.newest in
     let sendings = ap open_now c.in_ok-grow.ensures.sendings in
     let waiting = c.in_ok-grow.ensures.waiting in
-    step_of h c.args.self.now.state _ c.args.now.0 at (Room c.args.to) (Is c.would_confirm-may.result) [] (ap (λ s. s.state) c.self.view_is) tt (search rules) told refl
-    (cc (entries, sendings, waiting, still h at (Room c.args.to) (Is c.would_confirm-may.result) h.awaits (λ a. refl) (λ x. refl) refl refl refl refl refl))
+    step_of h c.args.self.now.state _ c.args.now.0 at (Room c.args.to) (Is c.would_confirm-may.result) []
+    (ap (λ s. s.state) c.self.view_is) tt (search rules) told refl
+    (cc (
+      entries,
+      sendings,
+      waiting,
+      still h at (Room c.args.to) (Is c.would_confirm-may.result) h.awaits (λ a. refl)
+          (λ x. refl) refl refl refl refl refl,
+    ))
 
 pub returns-clause-led : goal.returns-clause-led
 returns-clause-led g c _ word t led = led_step word t _ _ _ _ _ led (returns-clause-step g c)
@@ -35,13 +45,17 @@ returns-in_err-grow-clause-quiet g c quiet =
 pub invariant_of-self-2 : goal.invariant_of-self-2
 invariant_of-self-2 g c =
     let i = c.self.invariant in
-    let entries : arrivals_in c.grow.new.lists.entries ≡ arrivals_in c.self.inside.lists.entries = same_arrivals c.in_ok-grow.ensures.settled c.in_ok-grow.ensures.newest in (
-      within_pushed c.self.inside.mark c.self.inside.lists.entries.settled c.grow.new.lists.entries.settled c.self.inside.lists.waiting.items c.grow.new.lists.waiting.items [] i.0 c.in_ok-grow.ensures.settled
+    let entries : arrivals_in c.grow.new.lists.entries
+    ≡ arrivals_in c.self.inside.lists.entries =
+    same_arrivals c.in_ok-grow.ensures.settled c.in_ok-grow.ensures.newest in (
+      within_pushed c.self.inside.mark c.self.inside.lists.entries.settled c.grow.new.lists.entries.settled
+          c.self.inside.lists.waiting.items c.grow.new.lists.waiting.items [] i.0 c.in_ok-grow.ensures.settled
           (c.in_ok-grow.ensures.waiting ∙ sym (append-nil c.self.inside.lists.waiting.items)),
       c.in_ok-grow.ensures.room,
       (
         subst (IsUpTo c.later-at.result.0) (sym entries) (upto_later _ _ _ (search rules) i.2.0),
-        subst (IsUnknown c.later-at.result.0 (awaited c.self.inside.awaits) c.self.inside.replies) (sym c.in_ok-grow.ensures.settled) (unknown_later _ _ _ _ _ (search rules) i.2.1),
+        subst (IsUnknown c.later-at.result.0 (awaited c.self.inside.awaits) c.self.inside.replies)
+            (sym c.in_ok-grow.ensures.settled) (unknown_later _ _ _ _ _ (search rules) i.2.1),
       ),
     )
 

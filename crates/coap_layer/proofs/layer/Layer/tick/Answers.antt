@@ -25,11 +25,16 @@ returns-clause-step g c =
     let sendings = c.in_ok-grow.ensures.sendings in (
       answer_for due,
       c.ticked.ensures,
-      step_of h c.args.self.now.state _ c.args.now.0 at Ticks (answer_for due) out (ap (λ s. s.state) c.self.view_is) tt (search rules)
+      step_of h c.args.self.now.state _ c.args.now.0 at Ticks (answer_for due) out (ap (λ s. s.state) c.self.view_is) tt
+          (search rules)
           (c.take_tick-mark.ensures.due ∙ ap (λ cs. tick_of at (open_now cs)) sendings) (sym c.in_ok-sent.ensures.copy)
-          (ticked_left h at due out (arrivals_in c.take_tick-mark.new.lists.entries) (open_now c.take_tick-mark.new.lists.sendings.items) c.take_tick-mark.new.lists.waiting.items (search rules)
-          (c.take_tick-mark.ensures.arrived ∙ ap (filter (is_live c.self.inside.clock.0)) (same_arrivals c.in_ok-grow.ensures.settled c.in_ok-grow.ensures.newest))
-          (c.take_tick-mark.ensures.open out ∙ ap (λ cs. filter_map (left_by (record { at = at; call = Ticks; answer = answer_for due; out = out })) (open_now cs)) sendings)
+          (ticked_left h at due out (arrivals_in c.take_tick-mark.new.lists.entries)
+          (open_now c.take_tick-mark.new.lists.sendings.items) c.take_tick-mark.new.lists.waiting.items
+          (search rules)
+          (c.take_tick-mark.ensures.arrived ∙ ap (filter (is_live c.self.inside.clock.0))
+          (same_arrivals c.in_ok-grow.ensures.settled c.in_ok-grow.ensures.newest))
+          (c.take_tick-mark.ensures.open out ∙ ap (λ cs. filter_map
+          (left_by (record { at = at; call = Ticks; answer = answer_for due; out = out })) (open_now cs)) sendings)
           (c.take_tick-mark.ensures.waiting ∙ ap (λ q. q ++ out) c.in_ok-grow.ensures.waiting)),
     )
 
@@ -37,7 +42,8 @@ pub returns-clause-led : goal.returns-clause-led
 returns-clause-led g c _ word t led = led_step word t _ _ _ _ _ led ((returns-clause-step g c).2)
 
 pub take_tick-mark-requires-clause-up_to : goal.take_tick-mark-requires-clause-up_to
-take_tick-mark-requires-clause-up_to g c = subst (IsUpTo c.self.inside.clock.0) (sym (same_arrivals c.in_ok-grow.ensures.settled c.in_ok-grow.ensures.newest)) c.self.invariant.2.0
+take_tick-mark-requires-clause-up_to g c = subst (IsUpTo c.self.inside.clock.0)
+    (sym (same_arrivals c.in_ok-grow.ensures.settled c.in_ok-grow.ensures.newest)) c.self.invariant.2.0
 
 pub take_tick-mark-requires-clause-place : goal.take_tick-mark-requires-clause-place
 take_tick-mark-requires-clause-place g c some = c.in_ok-grow.ensures.place (c.is_some.ensures ∙ some)
@@ -49,16 +55,19 @@ pub returns-in_err-grow-clause-quiet : goal.returns-in_err-grow-clause-quiet
 returns-in_err-grow-clause-quiet g c idle =
     let cs = open_now c.self.inside.lists.sendings.items in
     let here : copies (max c.self.inside.clock.0 c.args.now.0) cs ≡ [] =
-    subst (λ (x : State). copies (max x.clock c.args.now.0) x.open_cons ≡ []) (sym (ap (λ s. s.state) c.self.view_is)) idle in
+    subst (λ (x : State). copies (max x.clock c.args.now.0) x.open_cons ≡ [])
+    (sym (ap (λ s. s.state) c.self.view_is)) idle in
     let moment : c.later.result.0 ≡ max c.self.inside.clock.0 c.args.now.0 = search rules in
-    let unsent : c.is_some.result ≡ false = c.is_some.ensures ∙ none_of c.in_ok-sent.sent (c.in_ok-sent.ensures.copy ∙ (ap (λ t. copies t cs) moment ∙ here)) in
+    let unsent : c.is_some.result ≡ false = c.is_some.ensures
+    ∙ none_of c.in_ok-sent.sent (c.in_ok-sent.ensures.copy ∙ (ap (λ t. copies t cs) moment ∙ here)) in
     absurd (cc (c.in_err-grow.ensures.idle refl refl unsent))
 
 pub returns-in_err-sent-clause-quiet : goal.returns-in_err-sent-clause-quiet
 returns-in_err-sent-clause-quiet g c idle =
     let cs = open_now c.self.inside.lists.sendings.items in
     let here : copies (max c.self.inside.clock.0 c.args.now.0) cs ≡ [] =
-    subst (λ (x : State). copies (max x.clock c.args.now.0) x.open_cons ≡ []) (sym (ap (λ s. s.state) c.self.view_is)) idle in
+    subst (λ (x : State). copies (max x.clock c.args.now.0) x.open_cons ≡ [])
+    (sym (ap (λ s. s.state) c.self.view_is)) idle in
     let moment : c.later.result.0 ≡ max c.self.inside.clock.0 c.args.now.0 = search rules in
     absurd (cc (c.in_err-sent.ensures.idle (ap (λ t. copies t cs) moment ∙ here)))
 
@@ -66,12 +75,15 @@ pub invariant_of-self : goal.invariant_of-self
 invariant_of-self g c =
     let i = c.self.invariant in
     let old = c.self.inside.lists in (
-      within_pushed c.self.inside.mark old.entries.settled c.grow.new.lists.entries.settled old.waiting.items c.grow.new.lists.waiting.items [] i.0 c.in_err-grow.ensures.settled
+      within_pushed c.self.inside.mark old.entries.settled c.grow.new.lists.entries.settled old.waiting.items
+          c.grow.new.lists.waiting.items [] i.0 c.in_err-grow.ensures.settled
           (c.in_err-grow.ensures.waiting ∙ sym (append-nil old.waiting.items)),
       c.in_err-grow.ensures.room,
       (
-        subst (IsUpTo c.self.inside.clock.0) (sym (same_arrivals c.in_err-grow.ensures.settled c.in_err-grow.ensures.newest)) i.2.0,
-        subst (IsUnknown c.self.inside.clock.0 (awaited c.self.inside.awaits) c.self.inside.replies) (sym c.in_err-grow.ensures.settled) i.2.1,
+        subst (IsUpTo c.self.inside.clock.0) (sym (same_arrivals c.in_err-grow.ensures.settled
+            c.in_err-grow.ensures.newest)) i.2.0,
+        subst (IsUnknown c.self.inside.clock.0 (awaited c.self.inside.awaits) c.self.inside.replies)
+            (sym c.in_err-grow.ensures.settled) i.2.1,
       ),
     )
 
@@ -87,6 +99,8 @@ returns-in_err-grow-clause-err g c =
 pub invariant_of-self-2 : goal.invariant_of-self-2
 invariant_of-self-2 g c = (
   c.take_tick-mark.ensures.within,
-  room_kept c.grow.new.room c.grow.new.lists c.take_tick-mark.new.lists c.in_ok-grow.ensures.room c.take_tick-mark.ensures.sendings_len c.take_tick-mark.ensures.sendings_capacity c.take_tick-mark.ensures.waiting_room,
+  room_kept c.grow.new.room c.grow.new.lists c.take_tick-mark.new.lists c.in_ok-grow.ensures.room
+      c.take_tick-mark.ensures.sendings_len c.take_tick-mark.ensures.sendings_capacity
+      c.take_tick-mark.ensures.waiting_room,
   c.take_tick-mark.ensures.kept,
 )

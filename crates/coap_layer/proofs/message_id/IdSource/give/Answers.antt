@@ -7,6 +7,7 @@ use Rattle.coap_layer.proofs.message_id.IdSource.give.Goals as goal
 pub returns-clause-new : goal.returns-clause-new
 returns-clause-new c =
     let i = c.self.inside in
-    let set : uses_of (slice_set i.last_used (i.upcoming / group_size) (Some c.args.at)) ≡ slice_set (uses_of i.last_used) (i.upcoming / group_size) (Some c.args.at.0) =
+    let set : uses_of (slice_set i.last_used (i.upcoming / group_size) (Some c.args.at))
+    ≡ slice_set (uses_of i.last_used) (i.upcoming / group_size) (Some c.args.at.0) =
     map-set use_of i.last_used (i.upcoming / group_size) (Some c.args.at) in
     search (rules, set, c.self.view_is)

@@ -9,7 +9,8 @@ use Rattle.coap_types.proofs.block.Block.read.Goals as goal
 pub returns-clause-block : goal.returns-clause-block
 returns-clause-block c =
     let short : length c.args.bytes.now ≤ 3 = omega arith in
-    let read : Some c.in_ok-uint_of.field-0 ≡ uint_value c.args.bytes.now = sym c.in_ok-uint_of.was ∙ c.uint_of.ensures in
+    let read : Some c.in_ok-uint_of.field-0 ≡ uint_value c.args.bytes.now = sym c.in_ok-uint_of.was
+    ∙ c.uint_of.ensures in
     c.of.ensures.block ∙ block_read c.args.bytes.now c.in_ok-uint_of.field-0 short read
 
 pub returns-clause-when : goal.returns-clause-when

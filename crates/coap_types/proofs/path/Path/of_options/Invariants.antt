@@ -7,4 +7,5 @@ use Rattle.coap_types.proofs.path.Path.of_options.Given as goal
 abbrev pub invariant-loop-option : goal.invariant-loop-option
 invariant-loop-option g l =
     (l.path ++ path_of (options_of (drop l.option-index l.options)) ≡ path_of (options_of l.options))
-    × (refusal_after (length l.path) (path_of (options_of (drop l.option-index l.options))) ≡ path_refusal (path_of (options_of l.options)))
+    × (refusal_after (length l.path) (path_of (options_of (drop l.option-index l.options)))
+    ≡ path_refusal (path_of (options_of l.options)))
