@@ -32,7 +32,6 @@ use Rattle.coap_layer.specs.Trace as L
 use Rattle.coap_exchange.specs.AskerTrace as A
 use Rattle.coap_exchange.specs.AskerLaw as asker
 use Rattle.coap_exchange.specs.AskerSteps as asker_steps
-use Rattle.coap_ends.specs.ClientSide.ClientSteps as steps
 
 module _ (t : ℕ) (F : Endpoint → List ℕ → Type 0) where
   pub replying_wish : (from : Endpoint) (id : ℕ) (o : Option (List ℕ)) → Every (Wish t F) (replying from id o)

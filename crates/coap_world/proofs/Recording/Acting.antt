@@ -1,10 +1,10 @@
 -- Calls of an end, one behind the other.
-use Rattle.std.proofs.Common.{◌≡◌, ℕ, Bool, true, false, Option, Some, None, List, [], ◌∷◌, ◌++◌, map, reverse, refl, sym, ap, subst, ◌∙◌, append_assoc}
+use Rattle.std.proofs.Common.{◌≡◌, ℕ, Bool, true, false, Option, Some, List, [], ◌∷◌, ◌++◌, map, reverse, refl, sym, ap, subst, ◌∙◌, append_assoc}
 use Rattle.std.proofs.lemmas.List.{reverse-append, map-append, append-nil}
 use Rattle.coap_types.specs.Past.{Always, all_of}
 use Rattle.coap_world.specs.Events.{Config}
-use Rattle.coap_world.specs.Record.{Entry, IsOne, AreTicks, given_by}
-use Rattle.coap_world.specs.Run.Log.{Log, Line, line_put, lines_put, lines_upon}
+use Rattle.coap_world.specs.Record.{Entry, given_by}
+use Rattle.coap_world.specs.Run.Log.{Log, Line, lines_put, lines_upon}
 use Rattle.coap_world.specs.Run.Acts.{Moves, Acts, Fed, Passed, Ticked, Taken}
 
 pub all_of_append : {E F : Type 0} (f : E → List F) (s t : List E) → all_of f (s ++ t) ≡ all_of f s ++ all_of f t

@@ -1,5 +1,5 @@
 -- One call of the server, and what leads to it then: what it applied and changed is told.
-use Rattle.std.proofs.Common.{◌≡◌, ℕ, ◌+◌, ◌==◌, Bool, true, false, Option, Some, None, List, [], ◌∷◌, ◌++◌, refl, sym, ap, subst, ◌∙◌, arith, if◌then◌else◌}
+use Rattle.std.proofs.Common.{◌≡◌, ℕ, ◌+◌, ◌==◌, Bool, true, false, Option, Some, None, List, [], ◌∷◌, ◌++◌, refl, sym, ap, ◌∙◌, arith, if◌then◌else◌}
 use Rattle.std.proofs.lemmas.Bool.Decides.{Decides-eqb}
 use Rattle.coap_resource.specs.Content.{Content, Held}
 use Rattle.coap_exchange.specs.declared.answerer.Due.TheVariants as due
@@ -10,7 +10,7 @@ use Rattle.coap_ends.specs.ServerSide.ServerTrace as S
 use Rattle.coap_ends.specs.ServerSide.Follows.ServerHolds.{Change, change, changed_by, counted, changes}
 use Rattle.coap_ends.specs.ServerSide.Follows.ServerServes.{Serving, serving}
 use Rattle.coap_ends.proofs.Facts.OfServer.{all_served, holds_changes}
-use Rattle.coap_world.specs.Run.Log.{Line, Applies, Changes, applied_as, applied_lines, call_for, line_if}
+use Rattle.coap_world.specs.Run.Log.{Applies, Changes, applied_as, applied_lines, call_for, line_if}
 use Rattle.coap_world.specs.Run.Telling.{applied_told, made_told, version_after, version_told}
 
 -- what a server says that it applied

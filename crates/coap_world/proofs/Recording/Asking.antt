@@ -21,7 +21,7 @@ use Rattle.coap_ends.specs.ClientSide.ClientSteps.{after, requested}
 use Rattle.coap_ends.specs.ClientSide.ClientTrace as C
 use Rattle.coap_ends.specs.ClientSide.ClientWords.{sent_by, sends}
 use Rattle.coap_ends.proofs.Facts.OfClientCalls.{led_client}
-use Rattle.coap_world.specs.Events.{client_end, server_end, Config}
+use Rattle.coap_world.specs.Events.{client_end, server_end}
 use Rattle.coap_world.specs.Record.{OfClient, ClientTick, FeedsClient, given_by}
 use Rattle.coap_world.specs.Run.Acts.{Moves, Acts, Fed, Taken, TakesAll}
 use Rattle.coap_world.specs.Run.Ends.{ClientLed}

@@ -1,10 +1,10 @@
 -- The server of a run is given its delays.
-use Rattle.std.proofs.Common.{◌≡◌, ◌≤◌, ◌<◌, ℕ, ◌+◌, Bool, true, false, not, List, [], ◌∷◌, ◌++◌, map, length, drop, filter, nat_lt, get_or, refl, sym, ap, subst, ◌∙◌, arith}
+use Rattle.std.proofs.Common.{◌≡◌, ◌≤◌, ◌<◌, ℕ, ◌+◌, Bool, true, false, not, List, [], ◌∷◌, map, length, drop, get_or, refl, sym, ap, ◌∙◌, arith}
 use Rattle.std.proofs.lemmas.List.{drop-map, drop_more, drop_all, length-append, length-drop, length-map}
 use Rattle.coap_types.specs.Path.{same_path}
 use Rattle.coap_layer.proofs.ListLemmas.{true_lt}
 use Rattle.coap_observe.proofs.ListLemmas.{length_filter}
-use Rattle.coap_ends.specs.ServerSide.ServerDeferring.{others, may_delay, delays_with}
+use Rattle.coap_ends.specs.ServerSide.ServerDeferring.{others, may_delay}
 use Rattle.coap_ends.specs.ServerSide.ServerLaw.{own_of}
 use Rattle.coap_ends.specs.ServerSide.Follows.ServerHolds.{changes}
 use Rattle.coap_ends.specs.ServerSide.ServerTrace as S

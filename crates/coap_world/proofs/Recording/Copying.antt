@@ -1,5 +1,5 @@
 -- A list of tags, one after the other.
-use Rattle.std.proofs.Common.{◌≡◌, ◌≤◌, ◌<◌, ℕ, ◌+◌, Result, Ok, Err, List, [], ◌∷◌, ◌++◌, take, length, get_or, OnOk, OnErr, sym, ap, subst, ◌∙◌, arith}
+use Rattle.std.proofs.Common.{◌≡◌, ◌<◌, ℕ, ◌+◌, Result, Ok, Err, List, [], ◌∷◌, ◌++◌, take, length, get_or, OnOk, OnErr, sym, ap, ◌∙◌, arith}
 use Rattle.std.proofs.lemmas.Grind.{take_at_read}
 
 -- where there is room, it is added

@@ -1,5 +1,5 @@
 -- The end of a turn.
-use Rattle.std.proofs.Common.{◌≡◌, ℕ, Bool, Option, List}
+use Rattle.std.proofs.Common.{◌≡◌, ℕ, Bool, List}
 use Rattle.coap_ends.specs.ClientSide.ClientTrace as C
 use Rattle.coap_ends.specs.ServerSide.ServerTrace as S
 use Rattle.coap_ends.specs.Follows.Endings.{all_taken}

@@ -1,12 +1,12 @@
 -- The number of a datagram is its place in the log.
-use Rattle.std.proofs.Common.{◌≡◌, ◌⊎◌, inl, inr, ◌<◌, ◌≤◌, ℕ, zero, suc, ◌+◌, Bool, Option, Some, None, List, [], ◌∷◌, ◌++◌, map, reverse, length, slice_get, refl, sym, ap, subst, ◌∙◌, arith}
+use Rattle.std.proofs.Common.{◌≡◌, ◌⊎◌, inl, inr, ◌<◌, ◌≤◌, ℕ, zero, suc, ◌+◌, Bool, Some, None, List, [], ◌∷◌, ◌++◌, reverse, length, slice_get, refl, sym, ap, subst, ◌∙◌, arith}
 use Rattle.std.proofs.lemmas.List.{length-reverse, reverse-append}
 use Rattle.coap_types.specs.Past.{Sometime, all_of}
 use Rattle.coap_types.specs.declared.endpoint.Endpoint.{Endpoint}
 use Rattle.coap_resource.specs.Content.{Content}
 use Rattle.coap_world.specs.Events.{client_end, server_end, Event, Deliver}
 use Rattle.coap_world.specs.Legal.{MayCome, max_delivery}
-use Rattle.coap_world.specs.Record.{OfClient, OfServer, Given, given_in, Turn, IsNumber, FeedsClient, FeedsServer}
+use Rattle.coap_world.specs.Record.{OfServer, Given, given_in, Turn, IsNumber, FeedsClient, FeedsServer}
 use Rattle.coap_world.specs.Run.Log.{Log, Begins, given_of, line_put, server_lines}
 use Rattle.coap_world.specs.Run.Acts.{Fed, Taken}
 use Rattle.coap_world.specs.Run.Ends.{ClientLed, ServerLed}

@@ -1,5 +1,5 @@
 -- A run of all its events.
-use Rattle.std.proofs.Common.{◌≡◌, ◌≤◌, ◌<◌, ℕ, ◌+◌, Option, Some, Result, Err, List, [], ◌∷◌, ◌++◌, map, reverse, take, length, slice_get, get_or, refl, sym, ap, subst, ◌∙◌, arith}
+use Rattle.std.proofs.Common.{◌≡◌, ◌≤◌, ◌<◌, ℕ, ◌+◌, Result, Err, List, [], ◌∷◌, ◌++◌, map, reverse, take, length, get_or, refl, sym, ap, subst, ◌∙◌}
 use Rattle.std.specs.Option.{option_map}
 use Rattle.std.proofs.lemmas.List.{reverse-append, map-append, take-map, take_all}
 use Rattle.std.proofs.lemmas.Grind.{take_at_read}

@@ -1,16 +1,15 @@
 -- One call of the server, and what the log tells of it.
-use Rattle.std.proofs.Common.{◌≡◌, ◌<◌, ℕ, ◌+◌, ◌^◌, ◌==◌, max, Bool, true, false, Option, Some, None, List, [], ◌∷◌, ◌++◌, map, reverse, length, refl, sym, ap, subst, ◌∙◌, append_assoc, arith, if◌then◌else◌, Result, Ok, Err}
+use Rattle.std.proofs.Common.{◌≡◌, ◌<◌, ℕ, ◌+◌, ◌^◌, max, Bool, true, false, Option, Some, None, List, [], ◌∷◌, ◌++◌, map, reverse, length, refl, sym, ap, subst, ◌∙◌, append_assoc, arith, if◌then◌else◌, Result, Ok, Err}
 use Rattle.std.proofs.lemmas.List.{append-nil}
 use Rattle.std.proofs.lemmas.Bool.Decides.{Decides-eqb}
 use Rattle.coap_types.specs.Past.{all_of}
 use Rattle.coap_types.specs.declared.endpoint.Endpoint.{Endpoint}
 use Rattle.coap_layer.specs.Trace.{Packet}
-use Rattle.coap_resource.specs.Content.{Content, Held, later, put_refusal}
-use Rattle.coap_resource.specs.Content as content
+use Rattle.coap_resource.specs.Content.{Content, Held, put_refusal}
 use Rattle.coap_resource.specs.Rate.{rate_refusal}
 use Rattle.coap_resource.specs.declared.refusal.StoreRefusal.{StoreRefusal}
 use Rattle.coap_ends.specs.ServerObject.ServerShown.{state_of}
-use Rattle.coap_ends.specs.ServerSide.ServerLaw.{own_of, ServerRows}
+use Rattle.coap_ends.specs.ServerSide.ServerLaw.{own_of}
 use Rattle.coap_ends.specs.ServerSide.ServerLed as server
 use Rattle.coap_ends.specs.ServerSide.ServerLocal.{SetsBy, RemovesBy}
 use Rattle.coap_ends.specs.ServerSide.ServerSteps.{after}

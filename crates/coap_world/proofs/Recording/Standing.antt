@@ -1,7 +1,7 @@
 -- A run goes on with a turn.
-use Rattle.std.proofs.Common.{◌≡◌, ◌≤◌, ◌<◌, ℕ, ◌+◌, ◌^◌, Bool, Option, Some, None, List, [], ◌∷◌, ◌++◌, map, reverse, take, length, slice_get, refl, sym, ap, subst, ◌∙◌, arith}
-use Rattle.std.proofs.lemmas.List.{reverse-append, map-append}
-use Rattle.coap_types.specs.Past.{Always, all_of}
+use Rattle.std.proofs.Common.{◌≡◌, ◌≤◌, ◌<◌, ℕ, ◌^◌, List, [], ◌∷◌, ◌++◌, reverse, refl, sym, ap, ◌∙◌, arith}
+use Rattle.std.proofs.lemmas.List.{reverse-append}
+use Rattle.coap_types.specs.Past.{all_of}
 use Rattle.coap_ends.specs.ClientSide.ClientTrace as C
 use Rattle.coap_ends.specs.ServerSide.ServerTrace as S
 use Rattle.coap_ends.specs.ServerObject.ServerShown.{state_of}
@@ -9,9 +9,8 @@ use Rattle.coap_ends.proofs.Facts.OfClientCalls.{client_stands}
 use Rattle.coap_ends.proofs.Facts.OfServerCalls.{led_lawful}
 use Rattle.coap_resource.specs.Content.{Content}
 use Rattle.coap_world.specs.Events.{Config, Event, server_end}
-use Rattle.coap_world.specs.Legal.{IsConfig, Legal, IsLegal, InRange, MayCome, NotBefore}
-use Rattle.coap_world.specs.Record.{Entry, Turn, RecordOf, Makes, given_by, given_in, entries_of, client_of, server_trace, begun_with}
-use Rattle.coap_world.specs.LegalEvents.{MayHappen}
+use Rattle.coap_world.specs.Legal.{IsConfig, InRange, NotBefore}
+use Rattle.coap_world.specs.Record.{Turn, RecordOf, given_by, given_in, entries_of, begun_with}
 use Rattle.coap_world.specs.Run.Ends.{ClientLed, ServerLed}
 use Rattle.coap_world.specs.Run.Log.{Log, given_of, lines_in, lines_of, log_of}
 use Rattle.coap_world.specs.declared.running.ends.ClientEnd.{ClientEnd}

@@ -1,6 +1,5 @@
 -- A turn of one end.
 use Rattle.std.proofs.Common.{◌≡◌, ℕ, Bool, true, false, Option, Some, None, List, [], ◌∷◌, ◌++◌, map, reverse, refl, sym, ap, subst, ◌∙◌, append_assoc, if◌then◌else◌}
-use Rattle.std.proofs.lemmas.List.{map-append, append-nil}
 use Rattle.coap_types.specs.Past.{Always, all_of}
 use Rattle.coap_types.specs.SameEndpoint.{same_endpoint}
 use Rattle.coap_types.specs.declared.endpoint.Endpoint.{Endpoint}
@@ -16,14 +15,14 @@ use Rattle.coap_world.specs.Events.{client_end, Config, Event}
 use Rattle.coap_world.specs.Legal.{MayCome}
 use Rattle.coap_world.specs.Record.{Entry, OfClient, OfServer, Turn, given_by, server_of, client_of, server_trace, begun_with, OnClient, OnServer, IsOne, AreTicks, Makes, ClientTick, FeedsClient}
 use Rattle.coap_world.proofs.Delivery.OneEndATurn.{client_client, client_server, server_client, server_server}
-use Rattle.coap_world.specs.Run.Acts.{Moves, Acts, Fed, Passed}
+use Rattle.coap_world.specs.Run.Acts.{Acts, Fed, Passed}
 use Rattle.coap_world.specs.Run.Ends.{ClientLed, ServerLed}
-use Rattle.coap_world.specs.Run.Log.{Log, Line, Applies, Begins, Changes, answer_lines, applied_as, applied_lines, call_for, call_if, client_lines, line_if, line_put, lines_by, lines_in, lines_put, lines_upon, refused_line, server_lines}
+use Rattle.coap_world.specs.Run.Log.{Log, Line, Applies, Begins, Changes, answer_lines, applied_as, applied_lines, call_if, client_lines, line_if, line_put, lines_by, lines_upon, refused_line, server_lines}
 use Rattle.coap_world.specs.Run.Senders.{sender_in, sender_of}
 use Rattle.coap_world.specs.Run.Turning.{Ends, ClientEnds, ServerEnds, Turned, EndTurned, ClientTurned, ServerTurned, of_client}
 use Rattle.coap_world.specs.declared.running.ends.ClientEnd.{ClientEnd}
 use Rattle.coap_world.specs.declared.running.ends.ServerEnd.{ServerEnd}
-use Rattle.coap_world.proofs.Recording.Acting.{acts_join, quiet_acts, told_join}
+use Rattle.coap_world.proofs.Recording.Acting.{acts_join, quiet_acts}
 
 -- its ticks tell nothing of themselves
 module _ (at word : ℕ) where

@@ -1,13 +1,12 @@
 -- What a client takes as an answer the server made before, for it, under that token.
-use Rattle.std.proofs.Common.{◌≡◌, ◌⊎◌, inl, inr, ℕ, true, Some, List, [], ◌∷◌, map, refl, ap, sym, subst, ◌∙◌}
-use Rattle.coap_types.specs.Past.{Ever, Sometime, Always}
-use Rattle.coap_types.proofs.Facts.Traces.{by_suffix, Ever_front}
+use Rattle.std.proofs.Common.{◌≡◌, inl, inr, ℕ, true, Some, List, [], ◌∷◌, map, refl, ap, sym, subst, ◌∙◌}
+use Rattle.coap_types.specs.Past.{Ever, Sometime}
+use Rattle.coap_types.proofs.Facts.Traces.{Ever_front}
 use Rattle.coap_types.specs.Roles.{role_of}
 use Rattle.coap_types.specs.declared.endpoint.Endpoint.{Endpoint}
 use Rattle.coap_types.specs.declared.role.Role.TheVariants as role
 use Rattle.coap_codec.specs.Message.{Message}
 use Rattle.coap_codec.proofs.Facts.EveryDatagram.{one_message}
-use Rattle.coap_layer.specs.Channel.{near_of}
 use Rattle.coap_layer.specs.Trace as T
 use Rattle.coap_layer.specs.Trace.{with_head}
 use Rattle.coap_layer.proofs.Facts.Hops.{far_ever}
@@ -22,7 +21,7 @@ use Rattle.coap_ends.specs.ServerSide.Follows.ServerObserves.{WasMade}
 use Rattle.coap_ends.specs.ServerSide.ServerTrace as S
 use Rattle.coap_ends.proofs.Facts.OfClient as client_facts
 use Rattle.coap_ends.proofs.Facts.OfServer as server_facts
-use Rattle.coap_world.specs.Answers.{IsResponse, IsAnswer, replies, continues, refuses, notifies, AnswersAt, HearsAt}
+use Rattle.coap_world.specs.Answers.{IsResponse, replies, continues, refuses, notifies, AnswersAt}
 use Rattle.coap_world.specs.Answers.{AllAnswered}
 use Rattle.coap_world.specs.Events.{client_end, server_end, Config}
 use Rattle.coap_world.specs.Hops.{hops_in, client_adds}

@@ -1,12 +1,12 @@
 -- A request that came whole, in no blocks, has all of the body of its call.
-use Rattle.std.proofs.Common.{◌≡◌, ◌⊎◌, ◌≤◌, ◌<◌, inl, inr, ℕ, zero, suc, ◌+◌, ◌*◌, nat_lt, Bool, true, false, Option}
+use Rattle.std.proofs.Common.{◌≡◌, ◌⊎◌, ◌≤◌, ◌<◌, inl, inr, ℕ, zero, suc, ◌*◌, nat_lt, Bool, true, false}
 use Rattle.std.proofs.Common.{Some, None, List, [], ◌∷◌, length, take, drop, refl, ap, sym, subst, ◌∙◌, cond, arith}
 use Rattle.std.proofs.lemmas.Bool.Decides.{nat_tests}
 use Rattle.coap_types.specs.BlockValue.{block_value}
 use Rattle.coap_types.specs.CoapOption.{option}
 use Rattle.coap_types.specs.OptionValues.{uint_at, uint_in, value_of}
-use Rattle.coap_types.specs.Past.{Sometime, Always}
-use Rattle.coap_types.specs.Piece.{size_of, offset_of, part_of, Begins}
+use Rattle.coap_types.specs.Past.{Sometime}
+use Rattle.coap_types.specs.Piece.{size_of, part_of, Begins}
 use Rattle.coap_types.specs.Uint.{uint}
 use Rattle.coap_types.specs.declared.option_number.TheConstants.{BLOCK1 as block1}
 use Rattle.coap_types.specs.declared.request.Method.{Method}
@@ -25,13 +25,13 @@ use Rattle.coap_ends.specs.ClientSide.ClientTrace as C
 use Rattle.coap_ends.specs.ClientSide.ClientWords.{Taken, WasTaken, Sending}
 use Rattle.coap_ends.specs.ServerSide.Follows.ServerReads.{ReadsOf}
 use Rattle.coap_ends.specs.ServerSide.Follows.ServerServes.{Serving}
-use Rattle.coap_ends.specs.ServerSide.ServerChecks.{Verdict, Asks, asks, verdict_on}
+use Rattle.coap_ends.specs.ServerSide.ServerChecks.{Verdict, Asks}
 use Rattle.coap_ends.proofs.Facts.OfClient as client_facts
 use Rattle.coap_ends.proofs.Facts.OfServer as server_facts
 use Rattle.coap_world.specs.CameFrom.{request_of, ComesAt, CameFrom, CamesFrom}
 use Rattle.coap_world.specs.Events.{client_end, server_end, Config}
 use Rattle.coap_world.specs.Legal.{IsRequest}
-use Rattle.coap_world.specs.Record.{Entry, OfClient, OfServer, client_of}
+use Rattle.coap_world.specs.Record.{Entry, client_of}
 use Rattle.coap_world.proofs.Requests.LastRequests.{no_fetch, sends_body, small_value}
 use Rattle.coap_world.proofs.Requests.OfACall.{Lawful, Later, Known, one_sending}
 use Rattle.coap_world.proofs.Requests.ReadBack.{block_back}

@@ -1,55 +1,37 @@
 -- At most one applied request belongs to a call.
-use Rattle.std.proofs.Common.{◌≡◌, ◌≤◌, ◌<◌, ◌⊎◌, inl, inr, ℕ, true, Option, Some, None, List, [], ◌∷◌, ◌++◌, refl, ap}
+use Rattle.std.proofs.Common.{◌≡◌, ◌≤◌, ◌⊎◌, inl, inr, ℕ, Some, List, [], ◌∷◌, refl, ap}
 use Rattle.std.proofs.Common.{sym, subst, ◌∙◌, arith}
-use Rattle.std.specs.Prelude.{IfSome}
-use Rattle.coap_types.specs.MethodCode.{method_of}
 use Rattle.coap_types.specs.Bytes.{AreBytes}
 use Rattle.coap_types.specs.Past.{Ever, Sometime, Always}
-use Rattle.coap_types.specs.declared.request.Method.{Method}
-use Rattle.coap_types.specs.declared.request.Method.TheVariants.{Get, Post, Put, Delete}
 use Rattle.coap_codec.specs.Message.{Message, Spells}
 use Rattle.coap_layer.specs.Channel.{near_of}
 use Rattle.coap_layer.specs.Words.{Open, begun}
-use Rattle.coap_resource.specs.Content.{Content}
-use Rattle.coap_resource.specs.Serves.{Question}
 use Rattle.coap_exchange.specs.declared.answerer.Asked.{Asked}
 use Rattle.coap_exchange.specs.AnswererFollows.{hits, same_asked}
 use Rattle.coap_exchange.specs.AnswererSteps.{asked_of}
 use Rattle.coap_exchange.proofs.Facts.ServerSide.{self_hits}
-use Rattle.coap_ends.specs.Follows.ClientSendings.{NoNons, OneCon}
+use Rattle.coap_ends.specs.Follows.ClientSendings.{NoNons}
 use Rattle.coap_ends.specs.Follows.ServerCounts.{ups}
-use Rattle.coap_ends.specs.ClientSide.ClientBegins.{WasSent, IsRequestOf}
-use Rattle.coap_ends.specs.ClientSide.ClientLaw.{ClientLaw}
-use Rattle.coap_ends.specs.ClientSide.ClientOrder.{call_of, is_last}
-use Rattle.coap_ends.specs.ClientSide.ClientOwn.{Operation, Calling, Registering, Fetching, Cancelling, Dropped}
-use Rattle.coap_ends.specs.ClientSide.ClientTokens.{Deregisters, Ends}
+use Rattle.coap_ends.specs.ClientSide.ClientOrder.{call_of}
+use Rattle.coap_ends.specs.ClientSide.ClientTokens.{Ends}
 use Rattle.coap_ends.specs.ClientSide.ClientWords.{Taken, WasTaken, Sending}
-use Rattle.coap_ends.specs.ServerSide.Follows.ServerBrings.{AsksBy}
-use Rattle.coap_ends.specs.ServerSide.Follows.ServerCounts.{Counted}
-use Rattle.coap_ends.specs.ServerSide.Follows.ServerHolds.{Does}
-use Rattle.coap_ends.specs.ServerSide.Follows.ServerReads.{ReadsOf}
 use Rattle.coap_ends.specs.ServerSide.Follows.ServerServes.{Serving, serving, asked_of as served_as, times_served}
-use Rattle.coap_ends.specs.ServerSide.Follows.ServerServes.{ServedOnce}
-use Rattle.coap_ends.specs.ServerSide.ServerChecks.{Verdict, Ignored, Refused, Asks, Uploads, verdict_on}
-use Rattle.coap_ends.specs.ServerSide.ServerLaw.{ServerLaw, own_of}
-use Rattle.coap_ends.specs.ServerSide.ServerServing.{is_applied}
+use Rattle.coap_ends.specs.ServerSide.ServerLaw.{own_of}
 use Rattle.coap_ends.specs.ServerSide.ServerTrace as S
 use Rattle.coap_ends.proofs.Facts.OfClient as client_facts
 use Rattle.coap_ends.proofs.Facts.OfServer as server_facts
 use Rattle.coap_world.specs.Applied.{AtMostOnce}
-use Rattle.coap_world.specs.CameFrom.{request_of, IsChannel, CameFrom, CamesFrom}
+use Rattle.coap_world.specs.CameFrom.{request_of}
 use Rattle.coap_world.specs.Events.{client_end, server_end, Config}
-use Rattle.coap_world.specs.Hops.{hops_at, hops_in}
+use Rattle.coap_world.specs.Hops.{hops_in}
 use Rattle.coap_world.specs.Legal.{IsRequest}
 use Rattle.coap_world.specs.Record.{Entry, OfClient, OfServer, client_of, server_trace}
-use Rattle.coap_world.specs.Words.{ServesAt, SentFor, AppliesFor, WasCalled}
-use Rattle.coap_world.proofs.Requests.CameFrom.{channel_back}
+use Rattle.coap_world.specs.Words.{AppliesFor}
 use Rattle.coap_world.proofs.Requests.HandedUpOnce.{OneConBy, up_once, once_counted}
 use Rattle.coap_world.proofs.Delivery.HopsAreEntries.{near_is, far_is}
 use Rattle.coap_world.proofs.Requests.CameFrom.{same_request}
-use Rattle.coap_world.proofs.Requests.OfACall.{no_call, Lawful, lawful_back, Begun, Sent, Later, later_back, Known}
+use Rattle.coap_world.proofs.Requests.OfACall.{no_call, Lawful, lawful_back, Sent, Later, later_back, Known}
 use Rattle.coap_world.proofs.Requests.OfACall.{one_sending, known}
-use Rattle.coap_world.proofs.Requests.Traced.{near_later, sent_later, Traced, traced, brought_in}
 
 module _ (config : Config) (number : ℕ) (all : List Entry) (small : config.client_szx ≤ 6) (whole : Lawful config all) (in_range : (x : Taken) → WasTaken x (client_of all) → IsRequest x.request) where
   abbrev Knows : List Entry → Serving → Type 0

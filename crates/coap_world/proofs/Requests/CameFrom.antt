@@ -1,6 +1,6 @@
 -- A request from the client's address that is handed up is one that the client sent.
 use Rattle.std.proofs.Common.{◌≡◌, ◌<◌, inl, inr, ℕ, true, Some, List, [], ◌∷◌, ◌++◌, map, refl, ap, sym, subst, ◌∙◌}
-use Rattle.std.proofs.Common.{◌+◌, length, arith}
+use Rattle.std.proofs.Common.{length, arith}
 use Rattle.std.proofs.lemmas.List.{length-append}
 use Rattle.coap_types.specs.Past.{Ever}
 use Rattle.coap_types.proofs.Facts.Traces.{Ever_map}

@@ -1,16 +1,15 @@
 -- The request of a call that is applied is the last of that call.
-use Rattle.std.proofs.Common.{◌≡◌, ◌≤◌, ◌<◌, inl, inr, ℕ, ◌+◌, ◌*◌, ◌^◌, nat_lt, Bool, true, false, not, Option, Some}
-use Rattle.std.proofs.Common.{None, List, [], ◌∷◌, ◌++◌, length, refl, ap, sym, subst, ◌∙◌, cond, arith}
+use Rattle.std.proofs.Common.{◌≡◌, ◌≤◌, ◌<◌, inl, inr, ℕ, ◌+◌, ◌^◌, nat_lt, Bool, true, false, not, Some}
+use Rattle.std.proofs.Common.{None, List, [], ◌∷◌, length, refl, ap, sym, subst, ◌∙◌, cond, arith}
 use Rattle.std.specs.Prelude.{IfSome}
 use Rattle.std.proofs.lemmas.Bool.Decides.{nat_tests}
 use Rattle.coap_types.specs.BlockValue.{block_by, block_value, more_bit}
 use Rattle.coap_types.specs.CoapOption.{option}
 use Rattle.coap_types.specs.MethodCode.{method_code, method_of}
 use Rattle.coap_types.specs.OptionValues.{uint_at, uint_in, value_of}
-use Rattle.coap_types.specs.Past.{Sometime, Always}
 use Rattle.coap_types.specs.Piece.{size_of, offset_of}
 use Rattle.coap_types.specs.Recognised.{lacks_critical, recognised}
-use Rattle.coap_types.specs.Uint.{uint, uint_value}
+use Rattle.coap_types.specs.Uint.{uint}
 use Rattle.coap_types.specs.declared.block.Block.{Block}
 use Rattle.coap_types.specs.declared.direction.Direction.TheVariants.{Request}
 use Rattle.coap_types.specs.declared.option_number.TheConstants.{BLOCK1 as block1}

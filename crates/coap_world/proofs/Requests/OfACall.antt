@@ -1,10 +1,9 @@
 -- Which request of a call it is that is applied for it, and what the store is asked with it.
-use Rattle.std.proofs.Common.{◌≡◌, ◌≤◌, ◌<◌, ◌⊎◌, inl, inr, ℕ, true, Option, Some, None, List, [], ◌∷◌, ◌++◌, refl, ap}
-use Rattle.std.proofs.Common.{sym, subst, ◌∙◌, arith}
-use Rattle.std.specs.Prelude.{IfSome}
+use Rattle.std.proofs.Common.{◌≡◌, ◌≤◌, ◌⊎◌, inl, inr, ℕ, true, Some, None, List, [], ◌∷◌, ap}
+use Rattle.std.proofs.Common.{sym, subst, ◌∙◌}
 use Rattle.coap_types.specs.MethodCode.{method_of}
 use Rattle.coap_types.specs.Bytes.{AreBytes}
-use Rattle.coap_types.specs.Past.{Ever, Sometime, Always}
+use Rattle.coap_types.specs.Past.{Ever}
 use Rattle.coap_types.specs.RequestPath.{path_of}
 use Rattle.coap_types.specs.declared.request.Method.{Method}
 use Rattle.coap_types.specs.declared.request.Method.TheVariants.{Get, Post, Put, Delete}
@@ -14,47 +13,36 @@ use Rattle.coap_layer.specs.Words.{Open, begun}
 use Rattle.coap_resource.specs.Content.{Content}
 use Rattle.coap_resource.specs.Serves.{Question}
 use Rattle.coap_exchange.specs.declared.answerer.Asked.{Asked}
-use Rattle.coap_exchange.specs.AnswererFollows.{hits, same_asked}
 use Rattle.coap_exchange.specs.AnswererSteps.{asked_of}
-use Rattle.coap_exchange.proofs.Facts.ServerSide.{self_hits}
-use Rattle.coap_ends.specs.Follows.ClientSendings.{NoNons, OneCon}
-use Rattle.coap_ends.specs.Follows.ServerCounts.{ups}
-use Rattle.coap_ends.specs.ClientSide.ClientBegins.{WasSent, IsRequestOf}
+use Rattle.coap_ends.specs.ClientSide.ClientBegins.{WasSent}
 use Rattle.coap_ends.specs.ClientSide.ClientLaw.{ClientLaw}
 use Rattle.coap_ends.specs.ClientSide.ClientOrder.{call_of, is_last}
 use Rattle.coap_ends.specs.ClientSide.ClientOfCalls.{CarriesBody}
 use Rattle.coap_ends.specs.ClientSide.ClientOwn.{Transfer, Calling}
 use Rattle.coap_ends.specs.ClientSide.ClientRequests.{message_of}
 use Rattle.coap_ends.specs.ClientSide.ClientTrace as C
-use Rattle.coap_ends.specs.ClientSide.ClientTokens.{Deregisters, Ends}
+use Rattle.coap_ends.specs.ClientSide.ClientTokens.{Deregisters}
 use Rattle.coap_ends.specs.ClientSide.ClientWords.{Taken, WasTaken, Sending}
 use Rattle.coap_ends.specs.ServerSide.Follows.ServerBrings.{AsksBy}
-use Rattle.coap_ends.specs.ServerSide.Follows.ServerCounts.{Counted}
 use Rattle.coap_ends.specs.ServerSide.Follows.ServerHolds.{Does}
 use Rattle.coap_ends.specs.ServerSide.Follows.ServerReads.{ReadsOf}
-use Rattle.coap_ends.specs.ServerSide.Follows.ServerServes.{Serving, serving, asked_of as served_as, times_served}
-use Rattle.coap_ends.specs.ServerSide.Follows.ServerServes.{ServedOnce}
-use Rattle.coap_ends.specs.ServerSide.ServerChecks.{Verdict, Ignored, Refused, Asks, Uploads, asks, verdict_on}
-use Rattle.coap_ends.specs.ServerSide.ServerLaw.{ServerLaw, own_of}
-use Rattle.coap_ends.specs.ServerSide.ServerServing.{is_applied}
+use Rattle.coap_ends.specs.ServerSide.Follows.ServerServes.{Serving}
+use Rattle.coap_ends.specs.ServerSide.ServerChecks.{Verdict, Ignored, Refused, Asks, Uploads, asks}
+use Rattle.coap_ends.specs.ServerSide.ServerLaw.{ServerLaw}
 use Rattle.coap_ends.specs.ServerSide.ServerTrace as S
 use Rattle.coap_ends.proofs.Facts.OfClient as client_facts
 use Rattle.coap_ends.proofs.Facts.OfServer as server_facts
-use Rattle.coap_world.specs.Applied.{AtMostOnce}
-use Rattle.coap_world.specs.CameFrom.{request_of, IsChannel, CameFrom, CamesFrom}
+use Rattle.coap_world.specs.CameFrom.{request_of, IsChannel, CamesFrom}
 use Rattle.coap_world.specs.Events.{client_end, server_end, Config}
 use Rattle.coap_world.specs.Hops.{hops_at, hops_in}
 use Rattle.coap_world.specs.Legal.{IsRequest}
 use Rattle.coap_world.specs.Record.{Entry, OfClient, OfServer, client_of, server_trace}
-use Rattle.coap_world.specs.Words.{ServesAt, SentFor, AppliesFor, WasCalled}
+use Rattle.coap_world.specs.Words.{AppliesFor}
 use Rattle.coap_world.proofs.Requests.CameFrom.{channel_back}
-use Rattle.coap_world.proofs.Requests.HandedUpOnce.{OneConBy, up_once, once_counted}
-use Rattle.coap_world.proofs.Delivery.HopsAreEntries.{near_is, far_is}
-use Rattle.coap_world.proofs.Requests.CameFrom.{same_request}
 use Rattle.coap_world.proofs.Requests.LastRequests.{Final, of_call_at, method_is, code_is, good, reads, options_read}
 use Rattle.coap_world.proofs.Requests.LastRequests.{is_the_last}
 use Rattle.coap_world.proofs.Requests.ReadBack.{Changes, in_order, path_back}
-use Rattle.coap_world.proofs.Requests.Traced.{near_later, sent_later, Traced, traced, brought_in}
+use Rattle.coap_world.proofs.Requests.Traced.{near_later, sent_later, traced, brought_in}
 
 -- what is applied changes something
 pub changes_by : (m : Method) (q : Question) (old left : Content) → Does m q old left → Changes m

@@ -1,16 +1,15 @@
 -- What a server reads from a request of a call is what the call asks.
-use Rattle.std.proofs.Common.{◌≡◌, ◌<◌, ℕ, ◌==◌, nat_lt, Bool, true, false, ◌&&◌, ◌||◌, not, Option, Some, None, List}
-use Rattle.std.proofs.Common.{[], ◌∷◌, ◌++◌, length, map, refl, ap, sym, subst, ◌∙◌, cond, arith, append_assoc}
-use Rattle.std.specs.Prelude.{IfSome, is_some}
+use Rattle.std.proofs.Common.{◌≡◌, ◌<◌, ℕ, ◌==◌, Bool, true, false, Option, Some, None, List}
+use Rattle.std.proofs.Common.{[], ◌∷◌, ◌++◌, map, refl, ap, sym, subst, ◌∙◌, cond, arith, append_assoc}
+use Rattle.std.specs.Prelude.{IfSome}
 use Rattle.std.specs.List.{filter}
 use Rattle.std.proofs.lemmas.Bool.{lt-ltb}
-use Rattle.std.proofs.lemmas.List.{append-nil}
 use Rattle.coap_types.specs.CoapOption.{CoapOption, option}
-use Rattle.coap_types.specs.OptionValues.{has, value_of, uint_at, uint_in, uint_option}
+use Rattle.coap_types.specs.OptionValues.{value_of, uint_in, uint_option}
 use Rattle.coap_types.specs.RequestPath.{path_of}
 use Rattle.coap_types.specs.BlockValue.{block_value}
 use Rattle.coap_types.specs.Recognised.{lacks_critical, recognised}
-use Rattle.coap_types.specs.Uint.{uint, uint_value}
+use Rattle.coap_types.specs.Uint.{uint}
 use Rattle.coap_types.specs.declared.direction.Direction.TheVariants.{Request}
 use Rattle.coap_types.specs.declared.option_number.TheConstants.{IF_MATCH as if_match, IF_NONE_MATCH as if_none_match}
 use Rattle.coap_types.specs.declared.option_number.TheConstants.{URI_PATH as uri_path, CONTENT_FORMAT as content_format}

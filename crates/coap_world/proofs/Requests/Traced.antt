@@ -1,9 +1,9 @@
 -- Where the request was handed up that is served, and which one of the client it is.
-use Rattle.std.proofs.Common.{◌≡◌, inl, inr, ℕ, true, Some, List, [], ◌∷◌, ◌++◌, map, refl, ap, sym, subst, ◌∙◌}
-use Rattle.coap_types.specs.Past.{Ever, Sometime, Always}
+use Rattle.std.proofs.Common.{◌≡◌, inl, inr, true, Some, List, [], ◌∷◌, ◌++◌, map, sym, subst}
+use Rattle.coap_types.specs.Past.{Ever, Sometime}
 use Rattle.coap_layer.specs.Channel.{Hop, Near, Far, near_of}
 use Rattle.coap_layer.specs.Trace as T
-use Rattle.coap_layer.specs.Words.{Open, begun}
+use Rattle.coap_layer.specs.Words.{begun}
 use Rattle.coap_resource.specs.Serves.{Question}
 use Rattle.coap_exchange.specs.declared.answerer.Asked.{Asked}
 use Rattle.coap_ends.specs.ClientSide.ClientBegins.{WasSent}

@@ -1,5 +1,5 @@
 -- What calls of an end add to its trace, and to the log.
-use Rattle.std.specs.Prelude.{◌≡◌, ℕ, Bool, Option, List, [], ◌∷◌, ◌++◌, map, reverse}
+use Rattle.std.specs.Prelude.{◌≡◌, ℕ, Bool, Option, List, ◌++◌, map, reverse}
 use Rattle.coap_types.specs.Past.{all_of}
 use Rattle.coap_ends.specs.Follows.Endings.{all_taken}
 use Rattle.coap_world.specs.Events.{Config}

@@ -1,7 +1,7 @@
 -- Which calls can leave an end of a run as it is (RFC 7252, section 5).
 use Rattle.std.specs.Prelude.{◌≡◌, ℕ, List}
 use Rattle.coap_resource.specs.Content.{Content}
-use Rattle.coap_ends.specs.ServerObject.ServerShown.{Kept, state_of}
+use Rattle.coap_ends.specs.ServerObject.ServerShown.{state_of}
 use Rattle.coap_ends.specs.ClientSide.ClientStep as client
 use Rattle.coap_ends.specs.ClientSide.ClientTrace as C
 use Rattle.coap_ends.specs.ServerSide.Follows.ServerHolds.{changes}

@@ -1,4 +1,4 @@
-use Rattle.std.proofs.Common.{◌≡◌, ◌≤◌, ◌+◌, ◌∷◌, [], Err, List, map, reverse, take, length, refl, ap, subst, ◌∙◌, arith}
+use Rattle.std.proofs.Common.{◌∷◌, [], Err, map, refl, ap, subst, ◌∙◌, arith}
 use Rattle.coap_world.specs.Run.Ends.{ClientLed, ServerLed}
 use Rattle.coap_world.specs.Run.Happening.{event_of}
 use Rattle.coap_world.specs.Run.Runs.{IsFirstWrong}

@@ -1,7 +1,4 @@
 use Rattle.std.proofs.Common.{refl}
-use Rattle.coap_world.specs.Record.{OfClient}
-use Rattle.coap_world.specs.Run.Ends.{ClientLed}
-use Rattle.coap_world.specs.Run.Turning.{of_client}
 use Rattle.coap_world.proofs.Recording.Asking.{client_called}
 use Rattle.coap_world.proofs.running.inputs.call_client.Goals as goal
 

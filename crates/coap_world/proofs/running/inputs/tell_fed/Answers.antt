@@ -1,4 +1,3 @@
-use Rattle.std.proofs.Common.{refl}
 use Rattle.coap_world.specs.Run.Senders.{sender_in}
 use Rattle.coap_world.proofs.Recording.Serving.{told_if, untold_if}
 use Rattle.coap_world.proofs.running.inputs.tell_fed.Goals as goal
