@@ -1,5 +1,5 @@
 -- The codes of success (RFC 7252, section 5.9.1).
-use Rattle.std.specs.Prelude.{ℕ, ◌==◌, ◌||◌, if◌then◌else◌}
+use Rattle.std.specs.Prelude.{ℕ}
 use Rattle.coap_types.specs.declared.message.TheConstants.Code as codes
 
 -- the codes of success (section 5.9.1)

@@ -1,5 +1,5 @@
 -- What the answer to the request of the operation that runs makes of a client.
-use Rattle.std.proofs.Common.{◌≡◌, ℕ, ◌&&◌, Some, None, ap, sym, ◌∙◌, subst, refl}
+use Rattle.std.proofs.Common.{◌≡◌, ℕ, Some, None, ap, sym, ◌∙◌, subst, refl}
 use Rattle.std.proofs.lemmas.List.{append-nil}
 use Rattle.coap_codec.specs.Message.{Message}
 use Rattle.coap_exchange.specs.AskerLaw as X
@@ -9,7 +9,7 @@ use Rattle.coap_ends.specs.ClientSide.ClientEffects.{ends, stays}
 use Rattle.coap_ends.specs.ClientSide.ClientEvents.{answered}
 use Rattle.coap_ends.specs.ClientSide.ClientObserving.{is_over}
 use Rattle.coap_ends.specs.ClientSide.ClientSteps.{reporting}
-use Rattle.coap_ends.specs.ClientObject.ClientHappens.{Happens, IsDone, left, running}
+use Rattle.coap_ends.specs.ClientObject.ClientHappens.{Happens, IsDone, left}
 use Rattle.coap_ends.proofs.ClientCalls.ClientHappening.{deed_happens, over_quiet, rests_happens}
 
 module _ (x : X.State) (s : Own) (at word : ℕ) (m : Message) where

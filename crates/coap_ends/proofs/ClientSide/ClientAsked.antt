@@ -2,21 +2,20 @@
 use Rattle.std.proofs.Common.{◌≡◌, inl, inr, ℕ, max, Bool, true, false, Option, Some, None, List, [], ◌∷◌, ◌++◌, refl}
 use Rattle.std.proofs.Common.{ap, sym, subst, ◌∙◌, Result, Ok, Err}
 use Rattle.coap_types.specs.Past.{Ever}
-use Rattle.coap_types.proofs.Facts.Traces.{Ever_append, Ever_back, Ever_front}
-use Rattle.coap_types.specs.declared.endpoint.Endpoint.{Endpoint}
+use Rattle.coap_types.proofs.Facts.Traces.{Ever_append}
 use Rattle.coap_layer.specs.Trace as L
 use Rattle.coap_exchange.specs.declared.asker.AskRefusal.{AskRefusal}
 use Rattle.coap_exchange.specs.AskerTrace as E
-use Rattle.coap_ends.specs.ClientSide.ClientTrace.{Report, NoIds, Call, Calls, Observes, Cancels, Forgets, Feeds, Ticks}
+use Rattle.coap_ends.specs.ClientSide.ClientTrace.{Call, Calls, Observes, Cancels, Forgets, Feeds, Ticks}
 use Rattle.coap_ends.specs.ClientSide.ClientTrace.{NextOut, NextReport, Asked}
-use Rattle.coap_ends.specs.ClientSide.ClientOwn.{Operation, Calling, Registering, Fetching, Cancelling, Dropped}
+use Rattle.coap_ends.specs.ClientSide.ClientOwn.{Operation}
 use Rattle.coap_ends.specs.ClientSide.ClientOwn.{Observation, Own}
 use Rattle.coap_ends.specs.ClientSide.ClientObservations.{observation_of}
 use Rattle.coap_ends.specs.ClientSide.ClientRequests.{message_of}
-use Rattle.coap_ends.specs.ClientSide.ClientEffects.{Deed, Rests, Asks, Keeps, Releases, Effect, has_sent}
+use Rattle.coap_ends.specs.ClientSide.ClientEffects.{Deed, Rests, Asks, Keeps, Releases, Effect}
 use Rattle.coap_ends.specs.ClientSide.ClientObserving.{releases}
-use Rattle.coap_ends.specs.ClientSide.ClientEvents.{failed, happened, passes, closed}
-use Rattle.coap_ends.specs.ClientSide.ClientDeeds.{at, deeds, forgets}
+use Rattle.coap_ends.specs.ClientSide.ClientEvents.{happened, passes, closed}
+use Rattle.coap_ends.specs.ClientSide.ClientDeeds.{at, deeds}
 use Rattle.coap_ends.specs.ClientSide.ClientSteps.{lower}
 use Rattle.coap_ends.specs.ClientSide.ClientWords.{Sending, sends, sent_by}
 

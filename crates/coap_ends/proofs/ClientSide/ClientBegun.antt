@@ -1,7 +1,7 @@
 -- Each CON that a client's message layer begins is the request of one of its calls, and begins as that is sent.
-use Rattle.std.proofs.Common.{◌≡◌, inl, inr, ℕ, Option, Some, List, [], ◌∷◌, ◌++◌, ap, sym, subst, ◌∙◌, Ok}
+use Rattle.std.proofs.Common.{◌≡◌, inl, inr, ℕ, Some, List, [], ◌∷◌, ◌++◌, ap, sym, subst, ◌∙◌}
 use Rattle.coap_types.specs.Past.{Ever}
-use Rattle.coap_types.proofs.Facts.Traces.{Ever_append, Ever_map}
+use Rattle.coap_types.proofs.Facts.Traces.{Ever_append}
 use Rattle.coap_types.specs.declared.endpoint.Endpoint.{Endpoint}
 use Rattle.coap_types.specs.declared.message.Kind.TheVariants.{Con}
 use Rattle.coap_codec.specs.Spelling.{message_bytes}
@@ -20,7 +20,7 @@ use Rattle.coap_ends.proofs.Facts.Adds.{asker_append, entries_append}
 use Rattle.coap_ends.proofs.Sending.ConsAreRequests.{Begins, asked_for}
 use Rattle.coap_ends.proofs.ClientSide.ClientLeading.{client_back}
 use Rattle.coap_ends.specs.ClientSide.ClientAdds.{call_asks, all_asked, call_adds}
-use Rattle.coap_ends.specs.ClientSide.ClientBegins.{WasSent, IsRequestOf, SendsNow, BeginAtOnce, ConsAreRequests}
+use Rattle.coap_ends.specs.ClientSide.ClientBegins.{SendsNow, BeginAtOnce, ConsAreRequests}
 use Rattle.coap_ends.proofs.ClientSide.ExchangeBegins.{left_is, in_exchange}
 use Rattle.coap_ends.proofs.ClientSide.ClientAsked.{AsksFor, sent_if_asked}
 

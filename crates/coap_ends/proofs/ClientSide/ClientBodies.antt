@@ -1,8 +1,7 @@
 -- A body that is reported is whole by the parts that the call took since it asked for the first block.
-use Rattle.std.proofs.Common.{◌≡◌, ◌⊎◌, inl, inr, ℕ, ◌+◌, max, Bool, true, false, cond, not, ◌&&◌, ◌||◌, Option, Some}
+use Rattle.std.proofs.Common.{◌≡◌, ◌⊎◌, inl, inr, ℕ, ◌+◌, max, Bool, true, false, cond, ◌&&◌, Option, Some}
 use Rattle.std.proofs.Common.{None, List, ◌∷◌, ◌++◌, [], refl, ap, sym, subst, ◌∙◌, Result, Ok, Err, length}
 use Rattle.std.specs.Prelude.{◌==◌, is_some}
-use Rattle.coap_types.specs.Past.{Always}
 use Rattle.coap_types.specs.BlockValue.{block_in}
 use Rattle.coap_types.specs.OptionValues.{value_of}
 use Rattle.coap_types.specs.declared.block.Block.{Block}
@@ -26,24 +25,23 @@ use Rattle.coap_exchange.specs.declared.asker.AskRefusal.{AskRefusal}
 use Rattle.coap_exchange.specs.declared.asker.Event.{Event}
 use Rattle.coap_exchange.specs.declared.asker.Event.TheVariants as event_of
 use Rattle.coap_ends.specs.ClientSide.ClientTrace.{Request, Report, Body, Valid, Failed, Done, BadBlock, NoIds}
-use Rattle.coap_ends.specs.ClientSide.ClientTrace.{Reported, Requested, Call, Calls, Observes, Cancels, Forgets, Feeds}
+use Rattle.coap_ends.specs.ClientSide.ClientTrace.{Reported, Call, Calls, Observes, Cancels, Forgets, Feeds}
 use Rattle.coap_ends.specs.ClientSide.ClientTrace.{Ticks, NextOut, NextReport, Asked}
 use Rattle.coap_ends.specs.ClientSide.ClientOwn.{Transfer, Fetches, Uploads, Single, Operation, Calling, Registering}
 use Rattle.coap_ends.specs.ClientSide.ClientOwn.{Fetching, Cancelling, Dropped, Own}
-use Rattle.coap_ends.specs.ClientSide.ClientObservations.{is_cancel_of}
 use Rattle.coap_ends.specs.ClientSide.ClientRequests.{is_longer}
 use Rattle.coap_ends.specs.ClientSide.ClientResponses.{content, valid, continue, said, tag_in, format_in, block_at}
 use Rattle.coap_ends.specs.ClientSide.ClientResponses.{part}
 use Rattle.coap_ends.specs.ClientSide.ClientReports.{lapse, refused, done, is_success}
 use Rattle.coap_ends.specs.ClientSide.ClientCalls.{answer, has_tags}
 use Rattle.coap_ends.specs.ClientSide.ClientCalls as calls
-use Rattle.coap_ends.specs.ClientSide.ClientEffects.{Asks, Effect, has_sent, of}
+use Rattle.coap_ends.specs.ClientSide.ClientEffects.{Effect, has_sent, of}
 use Rattle.coap_ends.specs.ClientSide.ClientFetching.{value}
 use Rattle.coap_ends.specs.ClientSide.ClientEvents.{failed, closed, happened, passes}
 use Rattle.coap_ends.specs.ClientSide.ClientDeeds.{at}
 use Rattle.coap_ends.specs.ClientSide.ClientQueue.{transfer_of, calling}
 use Rattle.coap_ends.specs.ClientSide.ClientSteps.{reports}
-use Rattle.coap_ends.specs.ClientSide.ClientLaw.{ClientLaw, ClientRows, own_of}
+use Rattle.coap_ends.specs.ClientSide.ClientLaw.{ClientLaw, own_of}
 use Rattle.coap_ends.specs.ClientSide.ClientAnswers.{Answers, AnswersLast}
 use Rattle.coap_ends.specs.ClientSide.ClientWords.{Sending, sends, hears, last_sent, runs_call}
 use Rattle.coap_ends.proofs.ClientSide.PlaceLemmas.{same_number, number_self}
@@ -52,13 +50,12 @@ use Rattle.coap_ends.proofs.ClientSide.ClientSends.{passes_runs}
 use Rattle.coap_ends.proofs.ClientSide.ClientOnce.{beneath}
 use Rattle.coap_ends.proofs.ClientSide.ClientPieces.{Tracked, IfTracked, all_sends, answers_last}
 use Rattle.coap_ends.proofs.ClientSide.ClientLeading.{client_back}
-use Rattle.coap_ends.specs.ClientSide.ClientBegins.{WasSent}
-use Rattle.coap_ends.specs.ClientSide.ClientBodies.{ComesAs, ComesLast, is_first, is_first_of, HeardFor, TakesPart}
+use Rattle.coap_ends.specs.ClientSide.ClientBodies.{ComesLast, is_first, is_first_of, HeardFor}
 use Rattle.coap_ends.specs.ClientSide.ClientBodies.{TookPart, IsFetched, BodiesAreWhole}
 use Rattle.coap_ends.specs.ClientSide.ClientOrder.{call_of}
 use Rattle.coap_ends.proofs.ClientSide.ClientMoves as mv
 use Rattle.coap_ends.proofs.ClientSide.ClientMoves.{Move, left_by}
-use Rattle.coap_ends.proofs.ClientSide.ClientTurns.{Closing, closing, Turned, quiet, goes_out, is_refused, left_with}
+use Rattle.coap_ends.proofs.ClientSide.ClientTurns.{Closing, closing, Turned, quiet, goes_out, is_refused}
 use Rattle.coap_ends.proofs.ClientSide.ClientTurns.{fed_turned, ticked_turned}
 use Rattle.coap_ends.proofs.ClientSide.ClientOrigins.{Origin, kept, begins, follows, origin}
 use Rattle.coap_ends.proofs.ClientSide.ClientTokens.{last_was_sent}

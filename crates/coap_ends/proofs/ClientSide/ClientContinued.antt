@@ -1,21 +1,20 @@
 -- A further block is sent where the first one was answered with 2.31.
-use Rattle.std.proofs.Common.{◌≡◌, ◌<◌, ◌⊎◌, inl, inr, ℕ, ◌+◌, ◌*◌, Some, None, List, ◌∷◌, [], refl, ap, sym, subst}
-use Rattle.std.proofs.Common.{◌∙◌, arith, length}
+use Rattle.std.proofs.Common.{◌≡◌, ◌<◌, ◌⊎◌, inl, inr, ℕ, ◌*◌, Some, List, ◌∷◌, [], refl, subst}
+use Rattle.std.proofs.Common.{arith}
 use Rattle.std.specs.Prelude.{zero, suc}
 use Rattle.std.proofs.Math.Nat.{suc-mul}
-use Rattle.coap_types.specs.Past.{Ever, Always}
 use Rattle.coap_types.specs.declared.endpoint.Endpoint.{Endpoint}
-use Rattle.coap_types.specs.Piece.{size_of, offset_of}
+use Rattle.coap_types.specs.Piece.{size_of}
 use Rattle.coap_block.specs.Sent.{Sent}
 use Rattle.coap_block.specs.UploadStep.{UploadState}
 use Rattle.coap_block.proofs.Facts.Sizes.{size_some}
 use Rattle.coap_ends.specs.ClientSide.ClientTrace.{Call}
-use Rattle.coap_ends.specs.ClientSide.ClientBlocks.{Carried, carried, blocks, SendsPiece, SendsPieces}
-use Rattle.coap_ends.specs.ClientSide.ClientLaw.{ClientLaw, own_of}
-use Rattle.coap_ends.specs.ClientSide.ClientWords.{Sending, sends}
+use Rattle.coap_ends.specs.ClientSide.ClientBlocks.{Carried, carried, SendsPiece, SendsPieces}
+use Rattle.coap_ends.specs.ClientSide.ClientLaw.{ClientLaw}
+use Rattle.coap_ends.specs.ClientSide.ClientWords.{Sending}
 use Rattle.coap_ends.proofs.ClientSide.ClientPieces.{sends_pieces}
 use Rattle.coap_ends.specs.ClientSide.ClientBegins.{WasSent}
-use Rattle.coap_ends.specs.ClientSide.ClientContinued.{HearsContinue, FirstContinued, AreContinued}
+use Rattle.coap_ends.specs.ClientSide.ClientContinued.{FirstContinued, AreContinued}
 use Rattle.coap_ends.proofs.ClientSide.ClientTokens.{last_was_sent}
 
 -- what begins at the start of a body is its first block

@@ -1,26 +1,20 @@
 -- Behind its last report, its forget or the sending of its cancel no value of an observation is reported.
-use Rattle.std.proofs.Common.{◌≡◌, ◌≤◌, ◌⊎◌, inl, inr, ℕ, ◌+◌, max, Bool, true, false, cond, not, Option, Some, None}
-use Rattle.std.proofs.Common.{List, ◌∷◌, ◌++◌, [], refl, ap, sym, subst, ◌∙◌, drop, Result, Ok, Err, arith}
+use Rattle.std.proofs.Common.{◌≡◌, ◌≤◌, inl, inr, ℕ, max, Bool, true, false, cond, not, Option, Some, None}
+use Rattle.std.proofs.Common.{List, ◌∷◌, ◌++◌, [], refl, ap, sym, subst, ◌∙◌, drop, Ok, Err, arith}
 use Rattle.std.specs.Prelude.{◌==◌, filter, slice_get, option_to_list}
-use Rattle.coap_types.specs.Past.{Ever, Always}
 use Rattle.coap_types.specs.declared.endpoint.Endpoint.{Endpoint}
-use Rattle.coap_codec.specs.Message.{Message}
-use Rattle.coap_layer.specs.Trace as L
-use Rattle.coap_exchange.specs.declared.asker.AskRefusal.{AskRefusal}
-use Rattle.coap_exchange.specs.declared.asker.Event.{Event}
 use Rattle.coap_exchange.specs.declared.asker.Event.TheVariants as event_of
 use Rattle.coap_exchange.specs.AskerTrace as E
-use Rattle.coap_exchange.specs.AskerSteps as P
 use Rattle.coap_ends.specs.ClientSide.ClientTrace.{Value, Reported, Call, Calls, Observes, Cancels, Forgets, Feeds}
 use Rattle.coap_ends.specs.ClientSide.ClientTrace.{Ticks, NextOut, NextReport, Asked}
-use Rattle.coap_ends.specs.ClientSide.ClientOwn.{Registering, Fetching, Cancelling, Observation, Own}
+use Rattle.coap_ends.specs.ClientSide.ClientOwn.{Registering, Fetching, Cancelling, Own}
 use Rattle.coap_ends.specs.ClientSide.ClientObservations.{observation_with}
 use Rattle.coap_ends.specs.ClientSide.ClientEffects.{Effect}
-use Rattle.coap_ends.specs.ClientSide.ClientEvents.{happened, passes, closed}
+use Rattle.coap_ends.specs.ClientSide.ClientEvents.{happened, passes}
 use Rattle.coap_ends.specs.ClientSide.ClientDeeds.{at, close, deeds}
 use Rattle.coap_ends.specs.ClientSide.ClientSteps.{lower, reports}
 use Rattle.coap_ends.specs.ClientSide.ClientLaw.{ClientLaw, own_of, lower_of}
-use Rattle.coap_ends.specs.ClientSide.ClientPlaces.{hit, in_observations, places, gone, forgotten_by}
+use Rattle.coap_ends.specs.ClientSide.ClientPlaces.{hit, places, gone, forgotten_by}
 use Rattle.coap_ends.specs.ClientSide.ClientGives.{forgotten}
 use Rattle.coap_ends.specs.ClientSide.ClientAnswered.{HasReport}
 use Rattle.coap_ends.specs.ClientSide.ClientNewer.{Newly, notifies}
@@ -32,7 +26,7 @@ use Rattle.coap_ends.proofs.ClientSide.ClientHolding.{steadied, happened_steady,
 use Rattle.coap_ends.proofs.ClientSide.ClientLeading.{client_back}
 use Rattle.coap_ends.specs.ClientSide.ClientNotified.{is_newly_of}
 use Rattle.coap_ends.specs.ClientSide.ClientRising.{ShowsValue}
-use Rattle.coap_ends.specs.ClientSide.ClientEnded.{WasForgotten, WasCancelled, IsOver, AreOver}
+use Rattle.coap_ends.specs.ClientSide.ClientEnded.{WasForgotten, WasCancelled, AreOver}
 use Rattle.coap_ends.proofs.ClientSide.ClientTokens.{cancel_runs}
 use Rattle.coap_ends.proofs.ClientSide.PlaceEvents.{apart_of}
 use Rattle.coap_ends.proofs.ClientSide.ClientNotified.{registers_as, renews_as}

@@ -1,19 +1,16 @@
 -- A request of a call is answered once.
-use Rattle.std.proofs.Common.{◌≡◌, ◌⊎◌, inl, inr, ℕ, max, Bool, true, false, Option, Some, None, List, ◌∷◌, ◌++◌, []}
-use Rattle.std.proofs.Common.{refl, ap, sym, subst, ◌∙◌, Result, Ok, Err}
-use Rattle.coap_types.specs.Past.{Ever, Always, Since}
-use Rattle.coap_types.proofs.Facts.Traces.{Ever_append, Ever_back, Ever_map}
+use Rattle.std.proofs.Common.{◌≡◌, ◌⊎◌, inl, inr, ℕ, max, true, false, Some, None, List, ◌∷◌, ◌++◌, []}
+use Rattle.std.proofs.Common.{refl, ap, sym, subst, ◌∙◌, Ok, Err}
+use Rattle.coap_types.specs.Past.{Ever, Since}
+use Rattle.coap_types.proofs.Facts.Traces.{Ever_back, Ever_map}
 use Rattle.coap_types.specs.declared.endpoint.Endpoint.{Endpoint}
-use Rattle.coap_layer.specs.Trace as L
-use Rattle.coap_exchange.specs.declared.asker.AskRefusal.{AskRefusal}
-use Rattle.coap_exchange.specs.declared.asker.Event.{Event}
 use Rattle.coap_exchange.specs.declared.asker.Event.TheVariants as event_of
 use Rattle.coap_exchange.specs.AskerTrace as E
 use Rattle.coap_exchange.specs.AskerFollows as F
 use Rattle.coap_exchange.proofs.Facts.ClientSide.{are_exchanges}
 use Rattle.coap_ends.specs.ClientSide.ClientTrace.{Call, Calls, Observes, Cancels, Forgets, Feeds, Ticks, NextOut}
 use Rattle.coap_ends.specs.ClientSide.ClientTrace.{NextReport, Asked}
-use Rattle.coap_ends.specs.ClientSide.ClientOwn.{Operation, Calling, Registering, Cancelling, Own}
+use Rattle.coap_ends.specs.ClientSide.ClientOwn.{Registering, Own}
 use Rattle.coap_ends.specs.ClientSide.ClientAnswers.{AnswersLast}
 use Rattle.coap_ends.specs.ClientSide.ClientEffects.{Effect}
 use Rattle.coap_ends.specs.ClientSide.ClientEvents.{happened}
@@ -25,7 +22,7 @@ use Rattle.coap_ends.proofs.ClientSide.ClientPieces.{answers_last}
 use Rattle.coap_ends.proofs.ClientSide.ClientLeading.{client_back}
 use Rattle.coap_ends.specs.ClientSide.ClientBegins.{WasSent}
 use Rattle.coap_ends.specs.ClientSide.ClientOrder.{call_of, HearsBy, HeardOnce}
-use Rattle.coap_ends.specs.ClientSide.ClientTokens.{Deregisters, OwnTokens}
+use Rattle.coap_ends.specs.ClientSide.ClientTokens.{OwnTokens}
 use Rattle.coap_ends.proofs.ClientSide.ClientAsked.{AsksFor, sent_if_asked}
 use Rattle.coap_ends.proofs.ClientSide.ClientTokens.{last_was_sent, own_tokens, one_of_token}
 

@@ -2,7 +2,6 @@
 use Rattle.std.proofs.Common.{◌≡◌, ◌≤◌, inl, inr, ℕ, ◌+◌, max, Bool, true, false, cond, not, ◌&&◌, Option, Some, None}
 use Rattle.std.proofs.Common.{List, ◌∷◌, ◌++◌, [], refl, ap, sym, subst, ◌∙◌, Result, Ok, Err, arith}
 use Rattle.std.specs.Prelude.{◌==◌, nat_lt, nat_le, length, filter}
-use Rattle.coap_types.specs.declared.endpoint.Endpoint.{Endpoint}
 use Rattle.coap_types.specs.declared.limits.TheConstants.{MAX_BODY_LEN as max_body}
 use Rattle.coap_types.specs.declared.option_number.TheConstants.{BLOCK2 as block2}
 use Rattle.coap_exchange.specs.declared.asker.AskRefusal.{AskRefusal}

@@ -1,5 +1,5 @@
 -- The mark of each live observation is that of the newest notification that was taken of it.
-use Rattle.std.proofs.Common.{◌≡◌, ◌≤◌, ℕ, ◌+◌, max, Bool, true, false, cond, not, ◌&&◌, Option, Some, None, List, ◌∷◌}
+use Rattle.std.proofs.Common.{◌≡◌, ◌≤◌, ℕ, max, Bool, true, false, cond, not, ◌&&◌, Option, Some, None, List, ◌∷◌}
 use Rattle.std.proofs.Common.{◌++◌, [], map, refl, ap, sym, subst, ◌∙◌, Result, Ok, Err, arith}
 use Rattle.std.specs.Prelude.{◌==◌, filter}
 use Rattle.coap_types.specs.declared.endpoint.Endpoint.{Endpoint}

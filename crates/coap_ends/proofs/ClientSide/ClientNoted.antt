@@ -1,5 +1,5 @@
 -- What a client takes as a notification its message layer hands up in that very call.
-use Rattle.std.proofs.Common.{◌≡◌, inl, inr, ℕ, max, true, Option, Some, None, List, [], ◌∷◌, ◌++◌, ap, sym, subst, ◌∙◌}
+use Rattle.std.proofs.Common.{◌≡◌, inl, inr, ℕ, max, true, Some, None, List, [], ◌∷◌, ◌++◌, ap, sym, subst, ◌∙◌}
 use Rattle.std.proofs.Common.{Ok, Err}
 use Rattle.coap_types.specs.Past.{Ever}
 use Rattle.coap_types.proofs.Facts.Traces.{Ever_front, Ever_back, Ever_map}

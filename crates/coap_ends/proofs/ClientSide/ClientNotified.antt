@@ -1,22 +1,18 @@
 -- A notification that is taken of an observation is the answer to its registration, the first of all, or newer than the one before.
 use Rattle.std.proofs.Common.{◌≡◌, ◌≤◌, ◌⊎◌, inl, inr, ℕ, zero, suc, ◌+◌, max, Bool, true, false, cond, not, Option}
-use Rattle.std.proofs.Common.{Some, None, List, ◌∷◌, ◌++◌, [], map, refl, ap, sym, subst, ◌∙◌, Result, Ok, Err, arith}
+use Rattle.std.proofs.Common.{Some, None, List, ◌∷◌, ◌++◌, [], map, refl, ap, sym, subst, ◌∙◌, arith}
 use Rattle.std.specs.Prelude.{◌==◌, nat_lt}
-use Rattle.coap_types.specs.Past.{Ever, Always}
 use Rattle.coap_types.specs.declared.endpoint.Endpoint.{Endpoint}
 use Rattle.coap_codec.specs.Message.{Message}
-use Rattle.coap_layer.specs.Trace as L
-use Rattle.coap_exchange.specs.declared.asker.AskRefusal.{AskRefusal}
-use Rattle.coap_exchange.specs.declared.asker.Event.{Event}
 use Rattle.coap_exchange.specs.declared.asker.Event.TheVariants as event_of
 use Rattle.coap_exchange.specs.Tokens.{same_token}
-use Rattle.coap_observe.specs.Newer.{Mark, IsNewer, is_newer, arrived}
+use Rattle.coap_observe.specs.Newer.{IsNewer, is_newer, arrived}
 use Rattle.coap_observe.proofs.Facts.Newer.{newer_is_decided}
 use Rattle.coap_ends.specs.ClientSide.ClientTrace.{Ended, Call, Calls, Observes, Cancels, Forgets, Feeds, Ticks}
 use Rattle.coap_ends.specs.ClientSide.ClientTrace.{NextOut, NextReport, Asked}
 use Rattle.coap_ends.specs.ClientSide.ClientOwn.{Operation, Calling, Registering, Fetching, Cancelling, Dropped}
 use Rattle.coap_ends.specs.ClientSide.ClientOwn.{Observation, Own}
-use Rattle.coap_ends.specs.ClientSide.ClientObservations.{observation_with, dropped}
+use Rattle.coap_ends.specs.ClientSide.ClientObservations.{observation_with}
 use Rattle.coap_ends.specs.ClientSide.ClientResponses.{is_notification, sequence_in}
 use Rattle.coap_ends.specs.ClientSide.ClientEffects.{Keeps, Effect, stays, ends, of}
 use Rattle.coap_ends.specs.ClientSide.ClientObserving.{begun, first_value, first_rest, is_over, renewed, passed}
@@ -25,8 +21,8 @@ use Rattle.coap_ends.specs.ClientSide.ClientEvents.{answered, happened, closed}
 use Rattle.coap_ends.specs.ClientSide.ClientDeeds.{at}
 use Rattle.coap_ends.specs.ClientSide.ClientSteps.{lower, reports}
 use Rattle.coap_ends.specs.ClientSide.ClientLaw.{ClientLaw, own_of, lower_of}
-use Rattle.coap_ends.specs.ClientSide.ClientPlaces.{hit, in_running, in_queue, in_observations, places, final_of}
-use Rattle.coap_ends.specs.ClientSide.ClientPlaces.{forgotten_by, gone}
+use Rattle.coap_ends.specs.ClientSide.ClientPlaces.{in_running, in_observations, places}
+use Rattle.coap_ends.specs.ClientSide.ClientPlaces.{gone}
 use Rattle.coap_ends.specs.ClientSide.ClientWords.{Sending, hears}
 use Rattle.coap_ends.specs.ClientSide.ClientAnswers.{Answers}
 use Rattle.coap_ends.specs.ClientSide.ClientNewer.{Newly, newly, registers, renews, notifies}
@@ -36,8 +32,8 @@ use Rattle.coap_ends.proofs.ClientSide.ClientOnce.{law_back, beneath, known, sou
 use Rattle.coap_ends.proofs.ClientSide.ClientPieces.{Tracked, IfTracked, all_sends, answers_last}
 use Rattle.coap_ends.proofs.ClientSide.ClientLeading.{client_back}
 use Rattle.coap_ends.proofs.ClientSide.ClientTokens.{AllLive, Registered, live, last_was_sent}
-use Rattle.coap_ends.specs.ClientSide.ClientNotified.{notes, is_newly_of, newest_if, newest, WasRegistered, IsFirst}
-use Rattle.coap_ends.specs.ClientSide.ClientNotified.{IsLater, IsTaken, AreTaken}
+use Rattle.coap_ends.specs.ClientSide.ClientNotified.{is_newly_of, newest_if, newest, WasRegistered}
+use Rattle.coap_ends.specs.ClientSide.ClientNotified.{IsTaken, AreTaken}
 use Rattle.coap_ends.proofs.ClientSide.ObservationOrigins.{In, Same, Source, kept, rests, goes_on, comes, source}
 use Rattle.coap_ends.proofs.ClientSide.LiveOrGone.{stays_live}
 

@@ -1,10 +1,8 @@
 -- What is sent for a call is what that call asks for, as it was taken.
-use Rattle.std.proofs.Common.{◌≡◌, inl, inr, ℕ, max, Bool, true, false, cond, not, ◌&&◌, ◌≤◌, arith, Option, Some, None}
-use Rattle.std.proofs.Common.{List, ◌∷◌, ◌++◌, [], refl, ap, sym, subst, ◌∙◌, Result, Ok, Err}
+use Rattle.std.proofs.Common.{◌≡◌, inl, inr, ℕ, max, Bool, true, false, cond, not, ◌&&◌, arith, Option, Some, None}
+use Rattle.std.proofs.Common.{List, ◌∷◌, ◌++◌, [], refl, ap, sym, subst, ◌∙◌, Ok, Err}
 use Rattle.std.specs.Prelude.{◌==◌}
-use Rattle.coap_types.specs.Past.{Ever}
 use Rattle.coap_types.specs.declared.block.Block.{Block}
-use Rattle.coap_types.specs.declared.endpoint.Endpoint.{Endpoint}
 use Rattle.coap_types.specs.declared.option_number.TheConstants.{BLOCK1 as block1}
 use Rattle.coap_types.specs.MethodCode.{method_code}
 use Rattle.coap_types.specs.declared.request.Method.{Method}
@@ -14,7 +12,6 @@ use Rattle.coap_block.specs.declared.fetch_verdict.Verdict.{Verdict}
 use Rattle.coap_block.specs.declared.fetch_verdict.Verdict.TheVariants as verdict
 use Rattle.coap_block.specs.FetchStep.{FetchState}
 use Rattle.coap_block.specs.UploadStep.{UploadState, more_follows, moved, continues, Continues}
-use Rattle.coap_exchange.specs.declared.asker.AskRefusal.{AskRefusal}
 use Rattle.coap_exchange.specs.declared.asker.Event.{Event}
 use Rattle.coap_ends.specs.ClientSide.ClientTrace.{Request, NoIds, BadBlock, Failed, Valid, Call, Calls, Observes}
 use Rattle.coap_ends.specs.ClientSide.ClientTrace.{Cancels, Forgets, Feeds, Ticks, NextOut, NextReport, Asked}

@@ -1,10 +1,10 @@
 -- What is sent for an observation asks for the path that is observed.
-use Rattle.std.proofs.Common.{◌≡◌, ◌≢◌, ◌≤◌, ◌⊎◌, inl, inr, ℕ, ◌+◌, max, Bool, true, false, cond, not, Option, Some}
-use Rattle.std.proofs.Common.{None, is_some, List, ◌∷◌, ◌++◌, [], map, refl, ap, sym, subst, ◌∙◌, Result, Ok, Err}
+use Rattle.std.proofs.Common.{◌≡◌, ◌≤◌, inl, inr, ℕ, max, Bool, true, false, cond, Option, Some}
+use Rattle.std.proofs.Common.{None, is_some, List, ◌∷◌, ◌++◌, [], map, refl, ap, sym, subst, ◌∙◌, Ok, Err}
 use Rattle.std.proofs.Common.{arith}
 use Rattle.std.specs.Prelude.{◌==◌}
 use Rattle.std.specs.Option.{option_map}
-use Rattle.coap_types.specs.Past.{Ever, Always}
+use Rattle.coap_types.specs.Past.{Ever}
 use Rattle.coap_types.specs.declared.endpoint.Endpoint.{Endpoint}
 use Rattle.coap_types.specs.CoapOption.{option}
 use Rattle.coap_types.specs.Uint.{uint}
@@ -13,7 +13,6 @@ use Rattle.coap_block.specs.declared.fetch_progress.Asked.{Asked as Block}
 use Rattle.coap_block.specs.declared.fetch_verdict.Verdict.TheVariants as verdict
 use Rattle.coap_block.specs.Gathered.{Awaits}
 use Rattle.coap_block.specs.Whole.{Part}
-use Rattle.coap_exchange.specs.declared.asker.AskRefusal.{AskRefusal}
 use Rattle.coap_exchange.specs.declared.asker.Event.{Event}
 use Rattle.coap_exchange.specs.AskerTrace as E
 use Rattle.coap_exchange.specs.AskerFollows as F
@@ -26,14 +25,12 @@ use Rattle.coap_ends.specs.ClientSide.ClientObservations.{observation_of, observ
 use Rattle.coap_ends.specs.ClientSide.ClientObservations.{to_fetch, with_rest}
 use Rattle.coap_ends.specs.ClientSide.ClientRequests.{path_options, block2_option, get, message_of}
 use Rattle.coap_ends.specs.ClientSide.ClientEffects.{Asks, Effect}
-use Rattle.coap_ends.specs.ClientSide.ClientFetching.{rest as rest_left}
 use Rattle.coap_ends.specs.ClientSide.ClientEvents.{failed, happened, passes}
 use Rattle.coap_ends.specs.ClientSide.ClientReports.{lapse}
 use Rattle.coap_ends.specs.ClientSide.ClientDeeds.{at}
 use Rattle.coap_ends.specs.ClientSide.ClientQueue.{calling}
-use Rattle.coap_ends.specs.ClientSide.ClientSteps.{lower}
 use Rattle.coap_ends.specs.ClientSide.ClientLaw.{ClientLaw, own_of, lower_of}
-use Rattle.coap_ends.specs.ClientSide.ClientPlaces.{hit, in_observations, places}
+use Rattle.coap_ends.specs.ClientSide.ClientPlaces.{hit, in_observations}
 use Rattle.coap_ends.specs.ClientSide.ClientWords.{Sending, sends}
 use Rattle.coap_ends.specs.ClientSide.ClientBegins.{WasSent}
 use Rattle.coap_ends.proofs.ClientSide.PlaceLemmas.{same_number, number_self}
@@ -48,8 +45,7 @@ use Rattle.coap_ends.proofs.ClientSide.ClientMoves as mv
 use Rattle.coap_ends.proofs.ClientSide.ClientMoves.{Move, left_by, releases_none}
 use Rattle.coap_ends.proofs.ClientSide.ClientTurns.{Closing, closing, Turned, quiet, goes_out, is_refused, sending_of}
 use Rattle.coap_ends.proofs.ClientSide.ClientTurns.{fed_turned, ticked_turned}
-use Rattle.coap_ends.specs.ClientSide.ClientNotified.{WasRegistered}
-use Rattle.coap_ends.specs.ClientSide.ClientOfObservations.{Observed, WasObserved, observation_for, AsksFor}
+use Rattle.coap_ends.specs.ClientSide.ClientOfObservations.{WasObserved, observation_for, AsksFor}
 use Rattle.coap_ends.specs.ClientSide.ClientOfObservations.{IsOfObservation, AreOfObservations}
 use Rattle.coap_ends.proofs.ClientSide.ClientValid.{all_to, all_more}
 use Rattle.coap_ends.proofs.ClientSide.ObservationOrigins.{In, in_count}

@@ -1,17 +1,15 @@
 -- The requests of a call go out one by one, each where those before it were answered.
-use Rattle.std.proofs.Common.{◌≡◌, ◌≤◌, inl, inr, ℕ, ◌+◌, max, Bool, true, false, cond, not, ◌&&◌, Option, Some, None}
-use Rattle.std.proofs.Common.{List, ◌∷◌, [], refl, ap, sym, subst, ◌∙◌, Result, Ok, Err, arith}
-use Rattle.std.specs.Prelude.{◌==◌, nat_lt}
-use Rattle.coap_types.specs.Past.{Ever, Always}
+use Rattle.std.proofs.Common.{◌≡◌, ◌≤◌, inl, inr, ℕ, max, Bool, true, false, cond, not, ◌&&◌, Option, Some, None}
+use Rattle.std.proofs.Common.{List, ◌∷◌, [], refl, ap, sym, subst, ◌∙◌, Result, arith}
+use Rattle.std.specs.Prelude.{◌==◌}
+use Rattle.coap_types.specs.Past.{Ever}
 use Rattle.coap_types.specs.declared.endpoint.Endpoint.{Endpoint}
 use Rattle.coap_types.specs.declared.block.Block.{Block}
-use Rattle.coap_types.specs.declared.request.Method.{Method}
 use Rattle.coap_types.specs.declared.option_number.TheConstants.{BLOCK1 as block1}
 use Rattle.coap_codec.specs.Message.{Message}
 use Rattle.coap_block.specs.UploadStep.{UploadState, more_follows, moved, continues}
 use Rattle.coap_exchange.specs.declared.asker.AskRefusal.{AskRefusal}
 use Rattle.coap_exchange.specs.declared.asker.Event.{Event}
-use Rattle.coap_exchange.specs.AskerLaw as X
 use Rattle.coap_ends.specs.ClientSide.ClientTrace.{Request, Requested, BadBlock, Call, Calls, Observes, Cancels}
 use Rattle.coap_ends.specs.ClientSide.ClientTrace.{Forgets, Feeds, Ticks, NextOut, NextReport, Asked}
 use Rattle.coap_ends.specs.ClientSide.ClientOwn.{Transfer, Fetches, Uploads, Single, Operation, Calling, Registering}
@@ -24,15 +22,15 @@ use Rattle.coap_ends.specs.ClientSide.ClientCalls as calls
 use Rattle.coap_ends.specs.ClientSide.ClientEffects.{Asks, Effect}
 use Rattle.coap_ends.specs.ClientSide.ClientEvents.{failed, closed}
 use Rattle.coap_ends.specs.ClientSide.ClientDeeds.{at}
-use Rattle.coap_ends.specs.ClientSide.ClientSteps.{lower, reports}
-use Rattle.coap_ends.specs.ClientSide.ClientLaw.{ClientLaw, ClientRows, own_of, lower_of}
+use Rattle.coap_ends.specs.ClientSide.ClientSteps.{reports}
+use Rattle.coap_ends.specs.ClientSide.ClientLaw.{ClientLaw, own_of}
 use Rattle.coap_ends.specs.ClientSide.ClientAnswered.{of_call}
 use Rattle.coap_ends.specs.ClientSide.ClientAnswers.{Answers, AnswersLast}
 use Rattle.coap_ends.specs.ClientSide.ClientPlaces.{hit, in_op, in_running, places, gone}
 use Rattle.coap_ends.specs.ClientSide.ClientWords.{Sending, sends, sent_by, hears, last_sent}
 use Rattle.coap_ends.proofs.ClientSide.PlaceLemmas.{hit_self}
 use Rattle.coap_ends.proofs.ClientSide.UploadSteps.{continues_is}
-use Rattle.coap_ends.proofs.ClientSide.ClientOnce.{law_back, Known, known, both_one}
+use Rattle.coap_ends.proofs.ClientSide.ClientOnce.{known, both_one}
 use Rattle.coap_ends.proofs.ClientSide.ClientPieces.{answers_last}
 use Rattle.coap_ends.proofs.ClientSide.ClientLeading.{client_back}
 use Rattle.coap_ends.specs.ClientSide.ClientBegins.{WasSent}

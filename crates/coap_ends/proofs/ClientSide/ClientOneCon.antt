@@ -38,14 +38,13 @@ use Rattle.coap_ends.specs.ClientSide.ClientEvents.{failed, happened, passes, cl
 use Rattle.coap_ends.specs.ClientSide.ClientDeeds.{at, deeds}
 use Rattle.coap_ends.specs.ClientSide.ClientSteps.{lower}
 use Rattle.coap_ends.specs.ClientSide.ClientLaw.{ClientLaw, own_of, lower_of, layer_of}
-use Rattle.coap_ends.specs.ClientSide.ClientWords.{Sending, sends}
+use Rattle.coap_ends.specs.ClientSide.ClientWords.{Sending}
 use Rattle.coap_ends.proofs.Sending.ConsAreRequests.{Asks as BeginsCon, asks_at, asked_for}
 use Rattle.coap_ends.proofs.ClientSide.ClientLeading.{client_back, client_layer}
 use Rattle.coap_ends.specs.ClientSide.ClientAdds.{call_asks, call_adds}
-use Rattle.coap_ends.specs.ClientSide.ClientBegins.{WasSent, IsRequestOf, SendsNow}
-use Rattle.coap_ends.specs.ClientSide.ClientTokens.{Deregisters, OwnTokens, Ends, OneConOrCancel}
+use Rattle.coap_ends.specs.ClientSide.ClientBegins.{IsRequestOf}
+use Rattle.coap_ends.specs.ClientSide.ClientTokens.{Ends, OneConOrCancel}
 use Rattle.coap_ends.proofs.ClientSide.ClientBegun.{layer_next, steps_here, begins_now, cons_are_requests}
-use Rattle.coap_ends.proofs.ClientSide.ClientMoves.{releases_none}
 use Rattle.coap_ends.proofs.ClientSide.ClientTokens.{own_tokens}
 
 -- a call of the layer that begins a CON, and a request that is asked

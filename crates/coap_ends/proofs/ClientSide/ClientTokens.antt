@@ -1,22 +1,21 @@
 -- The tokens of a client's requests: each is new, but that of a cancel, which is that of its observation.
-use Rattle.std.proofs.Common.{◌≡◌, ◌≤◌, ◌⊎◌, inl, inr, ℕ, ◌+◌, max, Bool, true, false, cond, not, ◌&&◌, Option, Some}
+use Rattle.std.proofs.Common.{◌≡◌, ◌≤◌, ◌⊎◌, inl, inr, ℕ, max, Bool, true, false, cond, not, ◌&&◌, Option, Some}
 use Rattle.std.proofs.Common.{None, List, ◌∷◌, ◌++◌, [], map, refl, ap, sym, subst, ◌∙◌, Result, Ok, Err, arith, length}
 use Rattle.std.specs.Prelude.{◌==◌, filter}
 use Rattle.coap_types.specs.Past.{Ever, Always}
-use Rattle.coap_types.proofs.Facts.Traces.{Ever_back, Ever_front, Ever_map, Ever_append, Always_back}
+use Rattle.coap_types.proofs.Facts.Traces.{Ever_back, Ever_front, Ever_map}
 use Rattle.coap_types.specs.declared.endpoint.Endpoint.{Endpoint}
 use Rattle.coap_exchange.specs.declared.asker.AskRefusal.{AskRefusal}
 use Rattle.coap_exchange.specs.declared.asker.Event.{Event}
 use Rattle.coap_exchange.specs.AskerTrace as E
 use Rattle.coap_exchange.specs.AskerFollows as F
-use Rattle.coap_exchange.specs.AskerLaw as X
 use Rattle.coap_exchange.specs.Tokens.{token_of as given_token}
 use Rattle.coap_exchange.proofs.Facts.ClientSide.{are_tokens}
-use Rattle.coap_ends.specs.ClientSide.ClientTrace.{Report, NoIds, Requested, Call, Calls, Observes, Cancels, Forgets}
+use Rattle.coap_ends.specs.ClientSide.ClientTrace.{Report, NoIds, Call, Calls, Observes, Cancels, Forgets}
 use Rattle.coap_ends.specs.ClientSide.ClientTrace.{Feeds, Ticks, NextOut, NextReport, Asked}
 use Rattle.coap_ends.specs.ClientSide.ClientOwn.{Transfer, Operation, Calling, Registering, Fetching, Cancelling}
-use Rattle.coap_ends.specs.ClientSide.ClientOwn.{Dropped, Notified, Observation, Own}
-use Rattle.coap_ends.specs.ClientSide.ClientObservations.{observation_of, token_of, with_rest, over}
+use Rattle.coap_ends.specs.ClientSide.ClientOwn.{Dropped, Observation, Own}
+use Rattle.coap_ends.specs.ClientSide.ClientObservations.{observation_of, token_of}
 use Rattle.coap_ends.specs.ClientSide.ClientRequests.{message_of}
 use Rattle.coap_ends.specs.ClientSide.ClientReports.{lapse}
 use Rattle.coap_ends.specs.ClientSide.ClientEffects.{Asks, Effect, has_sent, ends, of, is_upload}
@@ -28,13 +27,12 @@ use Rattle.coap_observe.specs.Newer.{arrived}
 use Rattle.coap_block.specs.declared.fetch_verdict.Verdict.TheVariants as verdict
 use Rattle.coap_ends.specs.ClientSide.ClientDeeds.{at}
 use Rattle.coap_ends.specs.ClientSide.ClientSteps.{lower}
-use Rattle.coap_ends.specs.ClientSide.ClientLaw.{ClientLaw, ClientRows, own_of, lower_of}
-use Rattle.coap_ends.specs.ClientSide.ClientAnswers.{Answers, AnswersLast}
-use Rattle.coap_ends.specs.ClientSide.ClientPlaces.{in_running, in_observations, places, gone}
-use Rattle.coap_ends.specs.ClientSide.ClientAnswered.{of_call}
-use Rattle.coap_ends.specs.ClientSide.ClientWords.{Sending, sends, sent_by, hears, last_sent}
+use Rattle.coap_ends.specs.ClientSide.ClientLaw.{ClientLaw, own_of, lower_of}
+use Rattle.coap_ends.specs.ClientSide.ClientAnswers.{Answers}
+use Rattle.coap_ends.specs.ClientSide.ClientPlaces.{in_observations, places, gone}
+use Rattle.coap_ends.specs.ClientSide.ClientWords.{Sending, sends, hears, last_sent}
 use Rattle.coap_ends.proofs.ClientSide.ClientSends.{heard_in}
-use Rattle.coap_ends.proofs.ClientSide.PlaceLemmas.{same_number, number_if, token_if}
+use Rattle.coap_ends.proofs.ClientSide.PlaceLemmas.{same_number}
 use Rattle.coap_ends.proofs.ClientSide.PlaceEffects.{IfRuns}
 use Rattle.coap_ends.proofs.ClientSide.ClientOnce.{law_back, beneath, known, both_one}
 use Rattle.coap_ends.proofs.ClientSide.ClientPieces.{Tracked, IfTracked, all_sends, answers_last}
@@ -44,9 +42,9 @@ use Rattle.coap_ends.specs.ClientSide.ClientTokens.{Deregisters, OwnTokens, OneO
 use Rattle.coap_ends.proofs.ClientSide.ClientAsked.{AsksFor, sent_if_asked, asked_if_sent}
 use Rattle.coap_ends.proofs.ClientSide.ClientMoves as mv
 use Rattle.coap_ends.proofs.ClientSide.ClientMoves.{Move, left_by, releases_none, Hears}
-use Rattle.coap_ends.proofs.ClientSide.ClientTurns.{Closing, Turned, quiet, goes_out, is_refused, sending_of, left_with}
+use Rattle.coap_ends.proofs.ClientSide.ClientTurns.{Closing, Turned, quiet, goes_out, is_refused, sending_of}
 use Rattle.coap_ends.proofs.ClientSide.ClientTurns.{fed_turned, ticked_turned}
-use Rattle.coap_ends.proofs.ClientSide.ClientFates.{IsLone, Fate, runs_on, goes_on, ends_it, fate}
+use Rattle.coap_ends.proofs.ClientSide.ClientFates.{Fate, runs_on, goes_on, ends_it, fate}
 use Rattle.coap_ends.proofs.ClientSide.ClientOneByOne.{sent_now}
 
 -- of the live observations, by number, path and token

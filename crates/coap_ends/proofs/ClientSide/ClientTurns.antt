@@ -1,15 +1,14 @@
 -- What a call of a client makes of it: a datagram or time moves it, and then the request that is asked for is sent or refused.
-use Rattle.std.proofs.Common.{◌≡◌, ℕ, max, Bool, Option, Some, None, List, ◌∷◌, [], refl, ap, sym, subst, ◌∙◌, Result}
+use Rattle.std.proofs.Common.{◌≡◌, ℕ, max, Bool, Option, Some, None, List, ◌∷◌, refl, ap, sym, ◌∙◌, Result}
 use Rattle.std.proofs.Common.{Ok, Err}
-use Rattle.coap_codec.specs.Message.{Message}
 use Rattle.coap_exchange.specs.declared.asker.AskRefusal.{AskRefusal}
 use Rattle.coap_exchange.specs.declared.asker.Event.{Event}
 use Rattle.coap_exchange.specs.declared.asker.Event.TheVariants as event_of
 use Rattle.coap_exchange.specs.declared.asker.Turn.{Turn}
 use Rattle.coap_layer.specs.Trace as L
 use Rattle.coap_types.specs.declared.endpoint.Endpoint.{Endpoint}
-use Rattle.coap_ends.specs.ClientSide.ClientTrace.{NoIds, Reported, Requested, Call, Calls, Observes, Cancels, Forgets}
-use Rattle.coap_ends.specs.ClientSide.ClientTrace.{Feeds, Ticks, NextOut, NextReport, Asked}
+use Rattle.coap_ends.specs.ClientSide.ClientTrace.{NoIds, Requested, Call}
+use Rattle.coap_ends.specs.ClientSide.ClientTrace.{Feeds, Ticks}
 use Rattle.coap_ends.specs.ClientSide.ClientOwn.{Operation, Own}
 use Rattle.coap_ends.specs.ClientSide.ClientRequests.{message_of}
 use Rattle.coap_ends.specs.ClientSide.ClientEffects.{Deed, Rests, Asks, Keeps, Releases, Effect, has_sent}
@@ -19,7 +18,7 @@ use Rattle.coap_ends.specs.ClientSide.ClientSteps.{reports, reporting, requested
 use Rattle.coap_ends.specs.ClientSide.ClientLaw.{own_of}
 use Rattle.coap_ends.specs.ClientSide.ClientWords.{Sending, sends, sent_by, hears}
 use Rattle.coap_ends.proofs.ClientSide.ClientSends.{heard_in}
-use Rattle.coap_ends.specs.ClientSide.ClientNewer.{Newly, taken_by, notifies}
+use Rattle.coap_ends.specs.ClientSide.ClientNewer.{taken_by, notifies}
 use Rattle.coap_ends.proofs.ClientSide.ClientMoves.{Move, left_by, happened_moves, passes_moves}
 
 abbrev pub sending_of : Effect → Operation → List ℕ → Sending

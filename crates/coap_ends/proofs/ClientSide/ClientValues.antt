@@ -1,8 +1,7 @@
 -- A value is whole by its notification and what was fetched for that.
-use Rattle.std.proofs.Common.{◌≡◌, ◌⊎◌, inl, inr, ℕ, max, Bool, true, false, cond, not, ◌&&◌, Option, Some, None, List}
-use Rattle.std.proofs.Common.{◌∷◌, ◌++◌, [], refl, ap, sym, subst, ◌∙◌, Result, Ok, Err}
+use Rattle.std.proofs.Common.{◌≡◌, ◌⊎◌, inl, inr, ℕ, max, Bool, true, false, cond, ◌&&◌, Option, Some, None, List}
+use Rattle.std.proofs.Common.{◌∷◌, ◌++◌, [], refl, ap, sym, subst, ◌∙◌, Result}
 use Rattle.std.specs.Prelude.{◌==◌, is_some}
-use Rattle.coap_types.specs.Past.{Always}
 use Rattle.coap_types.specs.declared.endpoint.Endpoint.{Endpoint}
 use Rattle.coap_types.specs.declared.option_number.TheConstants.{OBSERVE as observe}
 use Rattle.coap_types.specs.OptionValues.{value_of}
@@ -27,7 +26,7 @@ use Rattle.coap_ends.specs.ClientSide.ClientResponses.{content, said, is_notific
 use Rattle.coap_ends.specs.ClientSide.ClientResponses.{part}
 use Rattle.coap_ends.specs.ClientSide.ClientReports.{lapse}
 use Rattle.coap_ends.specs.ClientSide.ClientEffects.{Effect, of, has_sent}
-use Rattle.coap_ends.specs.ClientSide.ClientFetching.{value, rest as rest_left}
+use Rattle.coap_ends.specs.ClientSide.ClientFetching.{value}
 use Rattle.coap_ends.specs.ClientSide.ClientObserving.{first_rest}
 use Rattle.coap_ends.specs.ClientSide.ClientEvents.{failed, closed}
 use Rattle.coap_ends.specs.ClientSide.ClientDeeds.{at}
@@ -35,7 +34,7 @@ use Rattle.coap_ends.specs.ClientSide.ClientSteps.{reports}
 use Rattle.coap_ends.specs.ClientSide.ClientLaw.{ClientLaw, own_of}
 use Rattle.coap_ends.specs.ClientSide.ClientAnswers.{Answers}
 use Rattle.coap_ends.specs.ClientSide.ClientBodies.{ComesAs}
-use Rattle.coap_ends.specs.ClientSide.ClientWords.{Sending, hears, runs_fetch}
+use Rattle.coap_ends.specs.ClientSide.ClientWords.{hears, runs_fetch}
 use Rattle.coap_ends.specs.ClientSide.ClientNewer.{Newly, newly, registers, renews, taken_by, notifies}
 use Rattle.coap_ends.proofs.ClientSide.PlaceLemmas.{same_number, number_self}
 use Rattle.coap_ends.proofs.ClientSide.PlaceEvents.{lapse_last, answer_last, LastOnly}
@@ -50,11 +49,11 @@ use Rattle.coap_ends.proofs.ClientSide.ClientTurns.{Closing, Turned, quiet, goes
 use Rattle.coap_ends.proofs.ClientSide.ClientTurns.{ticked_turned}
 use Rattle.coap_ends.specs.ClientSide.ClientNotified.{is_newly_of, newest}
 use Rattle.coap_ends.specs.ClientSide.ClientRising.{value_reported, ShowsValue}
-use Rattle.coap_ends.specs.ClientSide.ClientValues.{HeardToFetch, TakesRest, TookRest, IsObserved, ValuesAreWhole}
+use Rattle.coap_ends.specs.ClientSide.ClientValues.{HeardToFetch, TookRest, IsObserved, ValuesAreWhole}
 use Rattle.coap_ends.proofs.ClientSide.ClientBodies.{gathered_none, each_append, each_map}
 use Rattle.coap_ends.proofs.ClientSide.ClientMarks.{answer_none}
 use Rattle.coap_ends.proofs.ClientSide.FetchesSince.{fetch_since}
-use Rattle.coap_ends.proofs.ClientSide.ObservationOrigins.{In, Same, Source, SourceOf, kept, rests, goes_on, comes}
+use Rattle.coap_ends.proofs.ClientSide.ObservationOrigins.{In, SourceOf, kept, rests, goes_on, comes}
 use Rattle.coap_ends.proofs.ClientSide.ObservationOrigins.{source, rest_asks, failed_value, last_value}
 use Rattle.coap_ends.proofs.ClientSide.ClientNotified.{newly_as, newest_kept, newest_now, most, are_taken}
 

@@ -1,5 +1,5 @@
 -- Which call of the exchanges begins a CON.
-use Rattle.std.proofs.Common.{◌≡◌, inl, inr, ℕ, Bool, true, false, Option, Some, None, List, [], ◌∷◌, ◌++◌, refl, ap}
+use Rattle.std.proofs.Common.{◌≡◌, inl, inr, ℕ, Bool, true, false, Option, Some, None, List, [], ◌∷◌, ◌++◌, ap}
 use Rattle.std.proofs.Common.{sym, subst, ◌∙◌, Result, Ok}
 use Rattle.coap_types.specs.Past.{Ever}
 use Rattle.coap_types.proofs.Facts.Traces.{Ever_append}

@@ -1,6 +1,6 @@
 -- A live observation stays there, unless it is reported for the last time or forgotten.
 use Rattle.std.proofs.Common.{◌≡◌, ◌≤◌, ◌⊎◌, inl, inr, ℕ, ◌+◌, max, Bool, true, false, cond, not, ◌&&◌, Option, Some}
-use Rattle.std.proofs.Common.{None, List, ◌∷◌, ◌++◌, [], map, refl, ap, sym, subst, ◌∙◌, Result, Ok, Err, arith}
+use Rattle.std.proofs.Common.{None, List, ◌∷◌, [], map, refl, ap, Result, Ok, Err, arith}
 use Rattle.std.specs.Prelude.{◌==◌}
 use Rattle.coap_block.specs.declared.fetch_verdict.Verdict.TheVariants as verdict
 use Rattle.coap_exchange.specs.declared.asker.AskRefusal.{AskRefusal}
@@ -21,7 +21,7 @@ use Rattle.coap_ends.specs.ClientSide.ClientDeeds.{at}
 use Rattle.coap_ends.specs.ClientSide.ClientSteps.{reports}
 use Rattle.coap_ends.specs.ClientSide.ClientLaw.{own_of}
 use Rattle.coap_ends.specs.ClientSide.ClientPlaces.{hit, in_observations, final_of, forgotten_by}
-use Rattle.coap_ends.proofs.ClientSide.PlaceLemmas.{same_number, hit_self, in_map, in_observations_append, number_if}
+use Rattle.coap_ends.proofs.ClientSide.PlaceLemmas.{in_map, in_observations_append, number_if}
 use Rattle.coap_ends.proofs.ClientSide.PlaceLemmas.{without, in_without_other}
 use Rattle.coap_ends.proofs.ClientSide.PlaceEvents.{lapse_last}
 use Rattle.coap_ends.proofs.ClientSide.PlaceEffects.{final_hit}

@@ -1,6 +1,6 @@
 -- Where each live observation comes from: it was there before, or a notification of it came.
-use Rattle.std.proofs.Common.{◌≡◌, ◌≤◌, ◌⊎◌, inl, inr, ℕ, ◌+◌, max, Bool, true, false, cond, not, ◌&&◌, Option, Some}
-use Rattle.std.proofs.Common.{None, List, ◌∷◌, ◌++◌, [], map, refl, ap, sym, subst, ◌∙◌, Result, Ok, Err, arith}
+use Rattle.std.proofs.Common.{◌≡◌, ◌≤◌, ◌⊎◌, inl, inr, ℕ, max, Bool, true, false, cond, not, ◌&&◌, Option, Some}
+use Rattle.std.proofs.Common.{None, List, ◌∷◌, [], map, refl, ap, sym, subst, ◌∙◌, Result, Ok, Err, arith}
 use Rattle.std.specs.Prelude.{◌==◌, filter}
 use Rattle.coap_types.specs.Past.{Ever}
 use Rattle.coap_types.proofs.Facts.Traces.{Ever_append}
@@ -12,12 +12,12 @@ use Rattle.coap_block.specs.FetchStep as F
 use Rattle.coap_exchange.specs.declared.asker.AskRefusal.{AskRefusal}
 use Rattle.coap_exchange.specs.declared.asker.Event.{Event}
 use Rattle.coap_observe.specs.Newer.{is_newer, arrived}
-use Rattle.coap_ends.specs.ClientSide.ClientTrace.{is_value, Report, Ended, NoIds, Reported, Call, Calls, Observes}
+use Rattle.coap_ends.specs.ClientSide.ClientTrace.{is_value, Report, NoIds, Reported, Call, Calls, Observes}
 use Rattle.coap_ends.specs.ClientSide.ClientTrace.{Cancels, Forgets, Feeds, Ticks, NextOut, NextReport, Asked}
 use Rattle.coap_ends.specs.ClientSide.ClientOwn.{Transfer, Operation, Calling, Registering, Fetching, Cancelling}
 use Rattle.coap_ends.specs.ClientSide.ClientOwn.{Dropped, Notified, Observation, Own}
 use Rattle.coap_ends.specs.ClientSide.ClientObservations.{rest_of}
-use Rattle.coap_ends.specs.ClientSide.ClientResponses.{content, is_notification, sequence_in, tag_in, part}
+use Rattle.coap_ends.specs.ClientSide.ClientResponses.{content, sequence_in, tag_in, part}
 use Rattle.coap_ends.specs.ClientSide.ClientReports.{lapse}
 use Rattle.coap_ends.specs.ClientSide.ClientEffects.{Effect, of, ends, is_upload, has_sent}
 use Rattle.coap_ends.specs.ClientSide.ClientFetching.{value, rest as rest_left}

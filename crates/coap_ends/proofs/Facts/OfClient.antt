@@ -1,6 +1,6 @@
 -- What follows from the whole law of a client: the clauses of `client_law` and `client_follows_law`, for proofs above; and what
 -- its calls add to its message layer, and when.
-use Rattle.std.proofs.Common.{◌≡◌, ℕ, max, true, false, Some, None, List, [], ◌∷◌, ◌++◌, refl, Ok, Err}
+use Rattle.std.proofs.Common.{◌≡◌, ℕ, max, true, false, Some, None, List, ◌∷◌, ◌++◌, refl, Ok, Err}
 use Rattle.coap_types.specs.Past.{Always}
 use Rattle.coap_types.specs.declared.endpoint.Endpoint.{Endpoint}
 use Rattle.coap_layer.specs.Channel.{RepliesSo}

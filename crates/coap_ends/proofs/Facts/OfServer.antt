@@ -1,6 +1,6 @@
 -- What follows from the whole law of a server: the clauses of `server_law`, for proofs above, and some that rest on its
 -- rows alone.
-use Rattle.std.proofs.Common.{◌≡◌, ℕ, List, ◌++◌}
+use Rattle.std.proofs.Common.{ℕ, List, ◌++◌}
 use Rattle.coap_types.specs.Past.{Always}
 use Rattle.coap_layer.specs.Channel.{RepliesSo}
 use Rattle.coap_layer.specs.Rows.{LayerLaw}

@@ -1,5 +1,5 @@
 -- What the message layer of a server sends beside Empty messages carries a response that its exchanges were given.
-use Rattle.std.proofs.Common.{◌≡◌, ◌⊎◌, inl, inr, ℕ, ◌<◌, List, [], ◌∷◌, ◌++◌, ◌∙◌}
+use Rattle.std.proofs.Common.{inl, inr, List, [], ◌∷◌}
 use Rattle.coap_types.specs.Past.{Ever}
 use Rattle.coap_layer.specs.Machine.State as S
 use Rattle.coap_layer.specs.Machine.Steps as G

@@ -1,5 +1,5 @@
 -- Each CON that a client's message layer begins is the request of one of its calls, and begins as that is sent.
-use Rattle.std.proofs.Common.{◌≡◌, inl, inr, ℕ, ◌+◌, ◌%◌, Option, Some, None, List, [], ◌∷◌, ◌++◌, refl, ap, sym, subst}
+use Rattle.std.proofs.Common.{◌≡◌, inl, inr, ℕ, ◌+◌, ◌%◌, Option, Some, None, List, [], ◌∷◌, refl, ap, sym, subst}
 use Rattle.std.proofs.Common.{◌∙◌, Ok}
 use Rattle.coap_types.specs.Past.{Ever}
 use Rattle.coap_types.specs.declared.endpoint.Endpoint.{Endpoint}

@@ -1,7 +1,7 @@
 -- The delays of paths: one makes way for another of its path.
 use Rattle.std.proofs.Common.{◌≡◌, ℕ, zero, suc, ◌+◌, ◌<◌, ◌≤◌, Bool, true, false, not, List, [], ◌∷◌, ◌++◌, length}
-use Rattle.std.proofs.Common.{map, filter, remove, get_or, take, drop, Option, Some, None, IfSome, is_some, cond, refl}
-use Rattle.std.proofs.Common.{ap, sym, subst, ◌∙◌, arith, ◌↔◌, IsTrue}
+use Rattle.std.proofs.Common.{remove, get_or, Some, IfSome, is_some, cond, refl}
+use Rattle.std.proofs.Common.{ap, sym, ◌∙◌, arith}
 use Rattle.std.proofs.lemmas.Bool.{ltb-true, ltb-false}
 use Rattle.std.specs.List.{slice_get}
 use Rattle.coap_types.specs.Path.{same_path}

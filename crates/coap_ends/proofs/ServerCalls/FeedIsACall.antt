@@ -1,5 +1,5 @@
 -- A datagram that is taken, and what is done with the request in it, is one call of the server.
-use Rattle.std.proofs.Common.{◌≡◌, ℕ, max, Option, Some, None, Result, Ok, Err, OnOk, List, [], ◌∷◌, ◌++◌, refl, ap}
+use Rattle.std.proofs.Common.{◌≡◌, ℕ, max, Option, Some, None, Result, Ok, Err, OnOk, List, [], ◌∷◌, refl, ap}
 use Rattle.std.proofs.Common.{sym, subst, ◌∙◌}
 use Rattle.coap_types.specs.declared.endpoint.Endpoint.{Endpoint}
 use Rattle.coap_codec.specs.Message.{Message}

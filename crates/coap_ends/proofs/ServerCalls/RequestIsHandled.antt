@@ -1,5 +1,5 @@
 -- What is done with a request, from the checks to its answer (RFC 7252, section 5.2; RFC 7959, section 2.5).
-use Rattle.std.proofs.Common.{◌≡◌, ℕ, Bool, true, false, Option, Some, None, List, [], ◌∷◌, ◌++◌, length, refl, ap, sym}
+use Rattle.std.proofs.Common.{◌≡◌, ℕ, Bool, true, false, Option, Some, None, List, [], ◌∷◌, ◌++◌, refl, ap, sym}
 use Rattle.std.proofs.Common.{subst, ◌∙◌}
 use Rattle.coap_codec.specs.Message.{Message}
 use Rattle.coap_layer.specs.Trace as L
@@ -17,19 +17,18 @@ use Rattle.coap_block.specs.declared.block_verdict.BlockVerdict.{BlockVerdict}
 use Rattle.coap_block.specs.declared.block_verdict.BlockVerdict.TheVariants.{Refuse, Join, Done}
 use Rattle.coap_block.specs.AssemblyAnswer.{refusal_code, took, TakesBlock}
 use Rattle.coap_block.specs.AssemblyState.{AssemblyState}
-use Rattle.coap_block.specs.AssemblyStep.{after_block, verdict_at, with_block}
+use Rattle.coap_block.specs.AssemblyStep.{after_block, with_block}
 use Rattle.coap_resource.specs.Serves.{Question}
 use Rattle.coap_exchange.specs.declared.answerer.Asked.{Asked}
 use Rattle.coap_exchange.specs.AnswererLaw as X
 use Rattle.coap_exchange.specs.AnswererSteps.{may_defer}
 use Rattle.coap_exchange.specs.AnswererTrace as E
 use Rattle.coap_exchange.proofs.Facts.ServerSide.{exchanged_own}
-use Rattle.coap_ends.specs.ServerSide.ServerTrace as T
 use Rattle.coap_ends.specs.ServerSide.ServerTrace.{Own, Handling, Silent, Replies, Serves, Waits}
 use Rattle.coap_ends.specs.ServerSide.ServerAsks.{answering}
 use Rattle.coap_ends.specs.ServerSide.ServerChecks.{Verdict, Ignored, Asks, Uploads, asks, verdict_on}
 use Rattle.coap_ends.specs.ServerSide.ServerResponses.{bare}
-use Rattle.coap_ends.specs.ServerSide.ServerServing.{IsServed, response_to}
+use Rattle.coap_ends.specs.ServerSide.ServerServing.{IsServed}
 use Rattle.coap_ends.specs.ServerSide.ServerUploads.{continue, key_of, ruling_of, uploads_after, continuing}
 use Rattle.coap_ends.specs.ServerSide.ServerDeferring.{WaitsBy, delay_for, deferral_by, waiting_with}
 use Rattle.coap_ends.specs.ServerSide.ServerHandling.{Handles, HandlesBlock}

@@ -4,7 +4,7 @@ use Rattle.coap_layer.specs.Machine.State as S
 use Rattle.coap_layer.specs.Trace as L
 use Rattle.coap_exchange.specs.AnswererLaw as X
 use Rattle.coap_ends.specs.ServerSide.ServerTrace.{Own, NextOut}
-use Rattle.coap_ends.specs.ServerSide.ServerLed.{State, exchanges_of, Step}
+use Rattle.coap_ends.specs.ServerSide.ServerLed.{State, Step}
 use Rattle.coap_ends.specs.ServerTurns.ServerWork.{WasLed}
 use Rattle.coap_ends.proofs.Rest.FirstOut.{layer_empty, layer_none, layer_some, only_live}
 

@@ -1,7 +1,7 @@
 -- What is due is done behind what the exchanges do of it, and both are one call of the server (RFC 7252, section 5.2.2; RFC 7641,
 -- section 4.5).
-use Rattle.std.proofs.Common.{◌≡◌, ◌≢◌, ℕ, max, Bool, true, false, Option, Some, None, Result, Ok, Err, IfOk, List, []}
-use Rattle.std.proofs.Common.{◌∷◌, ◌++◌, refl, ap, sym, subst, ◌∙◌}
+use Rattle.std.proofs.Common.{◌≡◌, ℕ, max, Bool, true, false, Option, Some, None, Result, Ok, Err, IfOk, List, []}
+use Rattle.std.proofs.Common.{◌∷◌, refl, ap, sym, subst, ◌∙◌}
 use Rattle.coap_layer.specs.Trace as L
 use Rattle.coap_observe.specs.Observers.{Observer}
 use Rattle.coap_resource.specs.Content.{Content, Held}
@@ -13,7 +13,6 @@ use Rattle.coap_exchange.specs.declared.answerer.Due.{Due}
 use Rattle.coap_exchange.specs.declared.answerer.Due.TheVariants as due
 use Rattle.coap_exchange.specs.declared.answerer.Ended.{Ended}
 use Rattle.coap_exchange.specs.AnswererLaw as X
-use Rattle.coap_exchange.specs.AnswererSteps as P
 use Rattle.coap_exchange.specs.AnswererTrace as E
 use Rattle.coap_exchange.proofs.Facts.ServerSide.{exchanged_join, exchanged_own}
 use Rattle.coap_ends.specs.ServerSide.ServerTrace as T

@@ -3,7 +3,6 @@ use Rattle.std.proofs.Common.{◌≡◌, ◌<◌, ℕ, ◌+◌, ◌*◌, ◌≢�
 use Rattle.std.proofs.Common.{length, Result, Ok, Err, IfOk, OnOk, OnErr}
 use Rattle.coap_layer.specs.Trace as L
 use Rattle.coap_layer.specs.Machine.State as S
-use Rattle.coap_layer.specs.Machine.Steps.{left_after}
 use Rattle.coap_layer.proofs.Facts.Calls.{steps_left}
 use Rattle.coap_resource.specs.Content.{Content}
 use Rattle.coap_resource.specs.declared.refusal.StoreRefusal.{StoreRefusal}

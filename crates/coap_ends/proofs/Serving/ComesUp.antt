@@ -1,5 +1,5 @@
 -- What a server serves, or refuses, its message layer handed up in a call, and there it came to this.
-use Rattle.std.proofs.Common.{◌≡◌, inl, inr, ℕ, List, [], ◌∷◌, ◌++◌, ap, subst, ◌∙◌}
+use Rattle.std.proofs.Common.{◌≡◌, inl, inr, List, [], ◌∷◌, ap, subst, ◌∙◌}
 use Rattle.coap_types.specs.Past.{Ever}
 use Rattle.coap_layer.specs.Trace as L
 use Rattle.coap_layer.specs.Machine.State as S

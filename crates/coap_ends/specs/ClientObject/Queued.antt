@@ -1,5 +1,5 @@
 -- What waits at a client, in order: operations, and cancels of observations.
-use Rattle.std.specs.Prelude.{ℕ, ◌==◌, Bool, true, false, Option, Some, None, List, [], ◌∷◌}
+use Rattle.std.specs.Prelude.{ℕ, ◌==◌, Bool, false, Option, Some, None, List, [], ◌∷◌}
 use Rattle.coap_ends.specs.declared.client.call_queue.Key.{Key}
 use Rattle.coap_ends.specs.declared.client.call_queue.Key.TheVariants as key
 use Rattle.coap_ends.specs.declared.client.call_queue.Queued.{Queued}

@@ -5,7 +5,6 @@ use Rattle.coap_types.specs.Past.{Always}
 use Rattle.coap_types.specs.declared.block.Block.{Block}
 use Rattle.coap_types.specs.declared.option_number.TheConstants.{BLOCK2 as block2}
 use Rattle.coap_codec.specs.Message.{Message}
-use Rattle.coap_block.specs.FetchStep.{FetchState}
 use Rattle.coap_block.specs.Gathered.{part, payloads_of}
 use Rattle.coap_block.specs.Whole.{Part, Each, Whole}
 use Rattle.coap_ends.specs.ClientSide.ClientTrace.{Body, Call}

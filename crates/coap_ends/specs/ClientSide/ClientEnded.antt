@@ -1,5 +1,5 @@
 -- When an observation is over for a client (RFC 7641, section 3.6).
-use Rattle.std.specs.Prelude.{◌≡◌, ◌⊎◌, ℕ, Option, Some, List}
+use Rattle.std.specs.Prelude.{◌≡◌, ℕ, Some, List}
 use Rattle.coap_types.specs.Past.{Ever, Always}
 use Rattle.coap_types.specs.declared.endpoint.Endpoint.{Endpoint}
 use Rattle.coap_ends.specs.ClientSide.ClientTrace.{Reported, Call, NextReport}

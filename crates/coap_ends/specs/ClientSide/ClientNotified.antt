@@ -1,6 +1,6 @@
 -- Which notifications of an observation a client takes: the answer to its registration first, and then each newer one (RFC 7641,
 -- sections 3.2 to 3.4).
-use Rattle.std.specs.Prelude.{◌≡◌, ◌⊎◌, ℕ, ◌==◌, Bool, true, false, Option, Some, None, List, [], ◌∷◌, if◌then◌else◌}
+use Rattle.std.specs.Prelude.{◌≡◌, ◌⊎◌, ℕ, ◌==◌, Bool, true, false, Option, Some, None, List, [], ◌∷◌}
 use Rattle.coap_types.specs.Past.{Always}
 use Rattle.coap_codec.specs.Message.{Message}
 use Rattle.coap_exchange.specs.declared.asker.Event.TheVariants as event

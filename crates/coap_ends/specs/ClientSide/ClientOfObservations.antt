@@ -1,5 +1,5 @@
 -- What is sent for an observation asks for the path that is observed (RFC 7641, sections 2 and 3.6; RFC 7959, section 2.6).
-use Rattle.std.specs.Prelude.{◌≡◌, ℕ, Option, Some, None, List, [], ◌∷◌, ◌++◌, Ok}
+use Rattle.std.specs.Prelude.{◌≡◌, ℕ, Option, Some, None, List, ◌∷◌, ◌++◌, Ok}
 use Rattle.coap_types.specs.Past.{Ever, Always}
 use Rattle.coap_types.specs.CoapOption.{option}
 use Rattle.coap_types.specs.Uint.{uint}
@@ -10,7 +10,6 @@ use Rattle.coap_ends.specs.ClientSide.ClientOwn.{Operation, Calling, Registering
 use Rattle.coap_ends.specs.ClientSide.ClientRequests.{path_options, block2_option, get}
 use Rattle.coap_ends.specs.ClientSide.ClientLaw.{own_of}
 use Rattle.coap_ends.specs.ClientSide.ClientWords.{Sending, sends}
-use Rattle.coap_ends.specs.ClientSide.ClientBegins.{WasSent}
 use Rattle.coap_ends.specs.ClientSide.ClientNotified.{WasRegistered}
 
 -- an observation that is taken

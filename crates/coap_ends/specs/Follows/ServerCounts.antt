@@ -1,5 +1,5 @@
 -- How often a server is handed a request: at most as often as its message layer hands it up (RFC 7252, section 5.2).
-use Rattle.std.specs.Prelude.{◌≤◌, ℕ, ◌+◌, Option, None, List, [], ◌∷◌}
+use Rattle.std.specs.Prelude.{ℕ, ◌+◌, Option, None, List, [], ◌∷◌}
 use Rattle.coap_layer.specs.Trace as L
 use Rattle.coap_exchange.specs.declared.answerer.Asked.{Asked}
 use Rattle.coap_exchange.specs.AnswererFollows.{hits, same_asked}

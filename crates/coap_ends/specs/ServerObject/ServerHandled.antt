@@ -1,5 +1,5 @@
 -- What is done with a request, from the moment when it was handed up (RFC 7252, section 5.2).
-use Rattle.std.specs.Prelude.{◌≡◌, ℕ, Option, Some, List}
+use Rattle.std.specs.Prelude.{◌≡◌, ℕ, Some, List}
 use Rattle.coap_codec.specs.Message.{Message}
 use Rattle.coap_layer.specs.Trace as L
 use Rattle.coap_types.specs.declared.block.Block.{Block}

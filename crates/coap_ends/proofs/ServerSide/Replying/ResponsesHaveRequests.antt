@@ -53,7 +53,6 @@ use Rattle.coap_ends.specs.ServerSide.ServerUploads.{key_of, ruling_of, whole, c
 use Rattle.coap_ends.specs.ServerSide.ServerObservers.{sequence}
 use Rattle.coap_ends.specs.ServerSide.ServerDeferring.{WaitsBy, deferral, deferral_by, delay_for}
 use Rattle.coap_ends.specs.ServerSide.ServerNotifying.{NotifiesNext, marked, behind, readies, told, asks_for}
-use Rattle.coap_ends.specs.ServerSide.ServerNotifying.{notification}
 use Rattle.coap_ends.specs.ServerSide.ServerHandling.{incoming, ticking, heard, HandlesBlock, Handles}
 use Rattle.coap_ends.specs.ServerSide.ServerAsks.{lower}
 use Rattle.coap_ends.specs.ServerSide.ServerLaw.{ServerLaw, own_of, lower_of}

@@ -1,6 +1,5 @@
-use Rattle.std.proofs.Common.{rules, ◌≡◌, refl, ap, Some}
+use Rattle.std.proofs.Common.{refl, Some}
 use Rattle.coap_ends.proofs.ServerCalls.FeedIsACall.{fed_by, on_ok}
-use Rattle.coap_ends.specs.ServerObject.ServerShown.{seen}
 use Rattle.coap_ends.proofs.server.feed_parts.Goals as goal
 
 pub returns-else-is_err-clause-step : goal.returns-else-is_err-clause-step

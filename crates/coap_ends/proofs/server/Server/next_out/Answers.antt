@@ -1,5 +1,4 @@
 use Rattle.std.proofs.Common.{rules}
-use Rattle.coap_ends.specs.ServerObject.ServerShown.{state_of}
 use Rattle.coap_ends.specs.ServerSide.ServerTrace.{NextOut}
 use Rattle.coap_ends.proofs.ServerCalls.TakesOut.{if_none, if_some}
 use Rattle.coap_ends.proofs.ServerCalls.WorkFalls.{led_on, seen_led}

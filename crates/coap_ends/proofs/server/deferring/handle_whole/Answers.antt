@@ -1,4 +1,4 @@
-use Rattle.std.proofs.Common.{rules, subst, refl}
+use Rattle.std.proofs.Common.{rules}
 use Rattle.coap_resource.specs.Serves.{question_of}
 use Rattle.coap_ends.specs.ServerObject.ServerShown.{seen}
 use Rattle.coap_ends.proofs.ServerCalls.FeedIsACall.{on_ok}

@@ -1,4 +1,4 @@
-use Rattle.std.proofs.Common.{rules, ◌≡◌, ◌≤◌, ◌<◌, true, false, length, refl, ap, sym, ◌∙◌, arith}
+use Rattle.std.proofs.Common.{◌≡◌, length, refl, ap, sym, arith}
 use Rattle.coap_ends.specs.ServerTurns.DelaysShown.{delays_of_others}
 use Rattle.coap_ends.proofs.ServerCalls.DelayLists.{none_free, one_free, some_of}
 use Rattle.coap_ends.proofs.server.delaying.give_delay.Goals as goal

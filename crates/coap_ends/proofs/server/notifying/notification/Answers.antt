@@ -1,4 +1,4 @@
-use Rattle.std.proofs.Common.{◌≡◌, true, None, refl, ap, ◌∙◌}
+use Rattle.std.proofs.Common.{true, None, refl, ap, ◌∙◌}
 use Rattle.coap_observe.specs.Notices.{told}
 use Rattle.coap_resource.specs.Serves.{reply_of}
 use Rattle.coap_ends.specs.ServerSide.ServerNotifying as next

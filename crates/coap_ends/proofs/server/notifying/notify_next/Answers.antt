@@ -1,4 +1,4 @@
-use Rattle.std.proofs.Common.{◌≡◌, true, refl, ap, sym, ◌∙◌}
+use Rattle.std.proofs.Common.{true, refl, ap, sym, ◌∙◌}
 use Rattle.coap_observe.specs.Notices.{told, told_due}
 use Rattle.coap_ends.proofs.ServerCalls.TurnSteps.{none_notified, one_told}
 use Rattle.coap_ends.proofs.server.notifying.notify_next.Goals as goal

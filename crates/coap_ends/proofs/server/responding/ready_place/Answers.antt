@@ -1,4 +1,4 @@
-use Rattle.std.proofs.Common.{rules, ◌≡◌, ◌<◌, ℕ, true, false, length, sym, ◌∙◌, arith}
+use Rattle.std.proofs.Common.{true, false, sym, ◌∙◌, arith}
 use Rattle.coap_ends.specs.ServerObject.ServerShown.{waiting_as}
 use Rattle.coap_ends.proofs.ServerCalls.WaitingLists.{question_found, left_found, question_passes, left_passes, same_is}
 use Rattle.coap_ends.proofs.server.responding.ready_place.Goals as goal

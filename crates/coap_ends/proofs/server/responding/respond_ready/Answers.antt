@@ -1,4 +1,4 @@
-use Rattle.std.proofs.Common.{◌≡◌, Some, map, refl, ap, sym, ◌∙◌}
+use Rattle.std.proofs.Common.{Some, map, refl, ap, sym, ◌∙◌}
 use Rattle.coap_ends.specs.ServerObject.ServerShown.{waiting_as, applied_list}
 use Rattle.coap_ends.proofs.ServerCalls.TurnSteps.{none_waits, responded}
 use Rattle.coap_ends.proofs.server.responding.respond_ready.Goals as goal

@@ -1,4 +1,4 @@
-use Rattle.std.proofs.Common.{rules, ap}
+use Rattle.std.proofs.Common.{ap}
 use Rattle.coap_resource.specs.Serves.{reply_of}
 use Rattle.coap_ends.proofs.ServerCalls.RequestIsServed.{get_served}
 use Rattle.coap_ends.proofs.server.serving.serve_get.Goals as goal

@@ -1,4 +1,4 @@
-use Rattle.std.proofs.Common.{rules, refl, ap}
+use Rattle.std.proofs.Common.{rules, ap}
 use Rattle.coap_types.specs.CoapOption.{options_of}
 use Rattle.coap_resource.specs.Serves.{Question}
 use Rattle.coap_ends.specs.ServerObject.ServerShown.{seen, state_of}

@@ -1,4 +1,3 @@
-use Rattle.std.proofs.Common.{rules, arith, ◌≤◌, length, IfSome}
 use Rattle.coap_ends.proofs.ServerCalls.ShortResponses.{short_response, at_most, above_none}
 use Rattle.coap_ends.proofs.server.full_response.FullResponse.of.Goals as goal
 

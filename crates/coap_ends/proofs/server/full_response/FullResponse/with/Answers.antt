@@ -1,5 +1,4 @@
-use Rattle.std.proofs.Common.{rules, ap, sym, ◌∙◌}
-use Rattle.coap_exchange.specs.AnswererTrace.{Response}
+use Rattle.std.proofs.Common.{rules}
 use Rattle.coap_ends.proofs.ServerCalls.ShortResponses.{sendable_as}
 use Rattle.coap_ends.proofs.server.full_response.FullResponse.with.Goals as goal
 
