@@ -12,8 +12,10 @@ use Rattle.coap_exchange.specs.AnswererSteps as answerer_steps
 -- what further calls of the exchanges ask of the layer, behind what came before them
 abbrev pub asked_by_client : Endpoint → ℕ → List A.Call → List A.Call → List Asked
 asked_by_client to word past [] = []
-asked_by_client to word past (c ∷ later) = asker_steps.lower (asker.own_of to word (later ++ past)) c ++ asked_by_client to word past later
+asked_by_client to word past (c ∷ later) = asker_steps.lower (asker.own_of to word (later ++ past)) c
+    ++ asked_by_client to word past later
 
 abbrev pub asked_by_server : List R.Call → List R.Call → List Asked
 asked_by_server past [] = []
-asked_by_server past (c ∷ later) = answerer_steps.lower (answerer.own_of (later ++ past)) c ++ asked_by_server past later
+asked_by_server past (c ∷ later) = answerer_steps.lower (answerer.own_of (later ++ past)) c
+    ++ asked_by_server past later

@@ -1,5 +1,6 @@
 //! An end: what a client and a server have in common.
-ghost use Rattle.std.specs.Prelude.{◌≡◌, ◌<◌, ◌^◌, ℕ, Bool, true, List, [], ◌∷◌, Ok, IfOk, OnOk, OnErr, IfSome, IfNone, length};
+ghost use Rattle.std.specs.Prelude.{◌≡◌, ◌<◌, ◌^◌, ℕ, Bool, true, List, [], ◌∷◌, Ok, IfOk, OnOk, OnErr, IfSome};
+ghost use Rattle.std.specs.Prelude.{IfNone, length};
 ghost use Rattle.coap_types.specs.declared.endpoint.Endpoint.{Endpoint as EndpointSpec};
 ghost use Rattle.coap_layer.specs.Trace.{Packet};
 

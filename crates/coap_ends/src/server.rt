@@ -17,7 +17,8 @@ mod serving;
 mod turning;
 mod uploading;
 
-ghost use Rattle.std.specs.Prelude.{◌≡◌, ◌≢◌, ◌<◌, ◌^◌, ℕ, max, Bool, true, false, Option, List, [], ◌∷◌, Ok, Err, is_ok, is_some, length, IfNone, IfOk, IfSome, IsOk, OnErr, OnOk, option_copied};
+ghost use Rattle.std.specs.Prelude.{◌≡◌, ◌≢◌, ◌<◌, ◌^◌, ℕ, max, Bool, true, false, Option, List, [], ◌∷◌, Ok, Err};
+ghost use Rattle.std.specs.Prelude.{is_ok, is_some, length, IfNone, IfOk, IfSome, IsOk, OnErr, OnOk, option_copied};
 ghost use Rattle.coap_codec.specs.Message.{Message};
 ghost use Rattle.coap_layer.specs.Machine.State.{answer_of, copies, made};
 ghost use Rattle.coap_layer.specs.Machine.Ups.{IsQuiet};
@@ -30,7 +31,8 @@ ghost use Rattle.coap_exchange.specs.declared.answerer.Due.{Due};
 ghost use Rattle.coap_ends.specs.ServerSide.ServerDeferring.{delay_of, may_delay};
 ghost use Rattle.coap_ends.specs.declared.server.delaying.DelayRefusal.TheVariants as delay_refusals;
 ghost use Rattle.coap_ends.specs.ServerSide.ServerLed.{Led, Step, fresh_state};
-ghost use Rattle.coap_ends.specs.ServerSide.ServerTrace.{Call, Delays, Feeds, Gets, Handling, NextOut, Removes, Sets, TellsApplied, Ticks};
+ghost use Rattle.coap_ends.specs.ServerSide.ServerTrace.{Call, Delays, Feeds, Gets, Handling, NextOut, Removes, Sets};
+ghost use Rattle.coap_ends.specs.ServerSide.ServerTrace.{TellsApplied, Ticks};
 ghost use Rattle.coap_ends.specs.ServerObject.ServerShown.{applied_list, kept_of, seen, state_of};
 ghost use Rattle.coap_ends.specs.ServerTurns.ServerIdle.{IsIdle, moment};
 ghost use Rattle.coap_ends.specs.ServerTurns.ServerWork.{work};
@@ -135,14 +137,16 @@ impl<S: Store<A>, A: Allocator + Copy, H: BuildHasher> Server<S, A, H> {
     ) -> Result<(), AllocError>
         ensures step { OnOk result ((up : below.Answer) × (came : Option (AskedSpec × Message)) × (h : Handling)
             × (sent : below.Answer)
-            × Step (state_of S.content self.old) (Feeds now.0 from bytes.now word up came h sent) (state_of S.content self.new)) }
+            × Step (state_of S.content self.old) (Feeds now.0 from bytes.now word up came h sent)
+            (state_of S.content self.new)) }
         ensures led { (limit szx begin : ℕ) (t : List Call) → Led limit szx begin t (state_of S.content self.old)
             → OnOk result ((up : below.Answer) × (came : Option (AskedSpec × Message)) × (h : Handling)
             × (sent : below.Answer)
             × Led limit szx begin (Feeds now.0 from bytes.now word up came h sent ∷ t) (state_of S.content self.new)) }
         ensures err { OnErr result (self.new ≡ self.old) }
         // Where the message layer sends nothing and hands nothing up, it takes no memory.
-        ensures quiet { IsQuiet (made self.old.exchanges.layer (max self.old.clock now.0) (below.Receive from bytes.now)) → IsOk result }
+        ensures quiet { IsQuiet (made self.old.exchanges.layer (max self.old.clock now.0)
+            (below.Receive from bytes.now)) → IsOk result }
     {
         feed_parts(&mut self.parts, now, from, bytes)
     }
@@ -155,7 +159,8 @@ impl<S: Store<A>, A: Allocator + Copy, H: BuildHasher> Server<S, A, H> {
     pub fn tick(&mut self, now: Moment, word: u64) -> Result<bool, AllocError>
         ensures step { IfOk result (λ did. (done : below.Answer) × (room : Bool) × (due : Due) × (passed : ℕ)
             × (h : Handling) × (id : ℕ)
-            × Step (state_of S.content self.old) (Ticks now.0 word done room due passed h id did) (state_of S.content self.new)) }
+            × Step (state_of S.content self.old) (Ticks now.0 word done room due passed h id did)
+            (state_of S.content self.new)) }
         ensures led { (limit szx begin : ℕ) (t : List Call) → Led limit szx begin t (state_of S.content self.old)
             → IfOk result (λ did. (done : below.Answer) × (room : Bool) × (due : Due) × (passed : ℕ) × (h : Handling)
             × (id : ℕ)
@@ -184,10 +189,12 @@ impl<S: Store<A>, A: Allocator + Copy, H: BuildHasher> Server<S, A, H> {
         body: &[u8],
     ) -> Result<u64, StoreRefusal>
         ensures step { result ≢ Err store_refusals.Memory → Step (state_of S.content self.old)
-            (Sets now.0 path.now format body.now result (state_of S.content self.new).own.store) (state_of S.content self.new) }
+            (Sets now.0 path.now format body.now result (state_of S.content self.new).own.store)
+            (state_of S.content self.new) }
         ensures led { (limit szx begin : ℕ) (t : List Call) → Led limit szx begin t (state_of S.content self.old)
             → result ≢ Err store_refusals.Memory
-            → Led limit szx begin (Sets now.0 path.now format body.now result (state_of S.content self.new).own.store ∷ t) (state_of S.content self.new) }
+            → Led limit szx begin (Sets now.0 path.now format body.now result
+            (state_of S.content self.new).own.store ∷ t) (state_of S.content self.new) }
         ensures memory { result ≡ Err store_refusals.Memory → self.new ≡ self.old }
     {
         set_parts(&mut self.parts, now, path, format, body)
@@ -199,7 +206,8 @@ impl<S: Store<A>, A: Allocator + Copy, H: BuildHasher> Server<S, A, H> {
         ensures step { Step (state_of S.content self.old)
             (Removes now.0 path.now result (state_of S.content self.new).own.store) (state_of S.content self.new) }
         ensures led { (limit szx begin : ℕ) (t : List Call) → Led limit szx begin t (state_of S.content self.old)
-            → Led limit szx begin (Removes now.0 path.now result (state_of S.content self.new).own.store ∷ t) (state_of S.content self.new) }
+            → Led limit szx begin (Removes now.0 path.now result (state_of S.content self.new).own.store ∷ t)
+            (state_of S.content self.new) }
     {
         remove_parts(&mut self.parts, now, path)
     }
@@ -224,7 +232,8 @@ impl<S: Store<A>, A: Allocator + Copy, H: BuildHasher> Server<S, A, H> {
 
     /// What the path holds: its version, its format and its body. It takes no memory.
     pub fn get(&self, path: &Path<A>) -> Option<&Representation<A>>
-        ensures step { Step (state_of S.content self.now) (Gets path.now (shown (option_copied result))) (state_of S.content self.now) }
+        ensures step { Step (state_of S.content self.now) (Gets path.now (shown (option_copied result)))
+            (state_of S.content self.now) }
         ensures led { (limit szx begin : ℕ) (t : List Call) → Led limit szx begin t (state_of S.content self.now)
             → Led limit szx begin (Gets path.now (shown (option_copied result)) ∷ t) (state_of S.content self.now) }
     {
@@ -234,9 +243,11 @@ impl<S: Store<A>, A: Allocator + Copy, H: BuildHasher> Server<S, A, H> {
     /// What the last `feed` or `tick` applied: the PUT, POST or DELETE that it answered 2.01, 2.02 or
     /// 2.04, if any. It takes no memory.
     pub fn applied(&self) -> Option<&Applied<A>>
-        ensures step { Step (state_of S.content self.now) (TellsApplied (applied_list (option_copied result))) (state_of S.content self.now) }
+        ensures step { Step (state_of S.content self.now) (TellsApplied (applied_list (option_copied result)))
+            (state_of S.content self.now) }
         ensures led { (limit szx begin : ℕ) (t : List Call) → Led limit szx begin t (state_of S.content self.now)
-            → Led limit szx begin (TellsApplied (applied_list (option_copied result)) ∷ t) (state_of S.content self.now) }
+            → Led limit szx begin (TellsApplied (applied_list (option_copied result)) ∷ t)
+            (state_of S.content self.now) }
     {
         self.parts.applied.as_ref()
     }
@@ -268,7 +279,8 @@ fn feed_parts<S: Store<A>, A: Allocator + Copy, H: BuildHasher>(
         × (h : Handling) × (sent : below.Answer)
         × Step (seen S.content parts.old) (Feeds now.0 from bytes.now word up came h sent) (seen S.content parts.new)) }
     ensures err { OnErr result (kept_of parts.new ≡ kept_of parts.old) }
-    ensures quiet { IsQuiet (made parts.old.exchanges.state.layer (max parts.old.clock.0 now.0) (below.Receive from bytes.now)) → IsOk result }
+    ensures quiet { IsQuiet (made parts.old.exchanges.state.layer (max parts.old.clock.0 now.0)
+        (below.Receive from bytes.now)) → IsOk result }
 {
     let was = parts.clock;
     let at = later(was, now);

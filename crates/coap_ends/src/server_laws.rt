@@ -18,7 +18,8 @@ ghost use Rattle.coap_ends.specs.ServerSide.Follows.ServerServes.{ServedOnce};
 ghost use Rattle.coap_ends.specs.ServerSide.Follows.ServerReads.{VerdictsRead};
 ghost use Rattle.coap_ends.specs.ServerSide.Follows.ServerGives.{NoneContinues, SendsResponses};
 ghost use Rattle.coap_ends.specs.ServerSide.Follows.ServerRests.{ComesToRest, TicksEnd};
-ghost use Rattle.coap_ends.specs.ServerSide.Follows.ServerObserves.{AreObservers, EndsObservation, EndsOnNotice, EndsOnRequest, EndsSo};
+ghost use Rattle.coap_ends.specs.ServerSide.Follows.ServerObserves.{AreObservers, EndsObservation, EndsOnNotice};
+ghost use Rattle.coap_ends.specs.ServerSide.Follows.ServerObserves.{EndsOnRequest, EndsSo};
 ghost use Rattle.coap_ends.specs.ServerSide.Follows.ServerOuts.{GivesInOrder};
 ghost use Rattle.coap_ends.specs.ServerSide.Follows.ServerShows.{NoticesShow, ShowsHeld};
 ghost use Rattle.coap_ends.specs.ServerSide.Follows.ServerTokens.{ShortTokens};
@@ -110,8 +111,8 @@ pub fn server_law()
     // What is told under one registration has rising versions, and each CON was acknowledged before the next began
     // (RFC 7641, sections 4.4 and 4.5).
     ensures follows { (limit szx word : ℕ) (t : List Call) → ServerLaw limit szx word t → Follows limit szx t }
-    // A notification that its message layer is given in a call that very call tells, with the version that it shows; and
-    // a call begins one CON at most (RFC 7252, sections 4.2 and 4.7; RFC 7641, section 4.2).
+    // A notification that its message layer is given in a call that very call tells, with the version that it shows;
+    // and a call begins one CON at most (RFC 7252, sections 4.2 and 4.7; RFC 7641, section 4.2).
     ensures told { (limit szx word : ℕ) (t : List Call) → ServerLaw limit szx word t → AllTellSent limit szx word t }
     // A registration is made by a request of its endpoint and token that is served (RFC 7641, section 4.1) ..
     ensures pairs { (limit szx word : ℕ) (t : List Call) → ServerLaw limit szx word t → AllServePairs limit szx t }

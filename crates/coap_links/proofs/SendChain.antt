@@ -7,7 +7,8 @@ use Rattle.coap_links.specs.Pumping.{SendsAll}
 
 pub SendsAll-snoc : {E L : Type 0} (gives : E → Packet → E → Type 0) (sends : L → Endpoint → List ℕ → L → Type 0)
     (e : E) (l : L) (ps : List Packet) (f : E) (m : L) (p : Packet) (g : E) (n : L)
-    → SendsAll gives sends e l ps f m → gives f p g → sends m p.to p.bytes n → SendsAll gives sends e l (ps ++ p ∷ []) g n
+    → SendsAll gives sends e l ps f m → gives f p g → sends m p.to p.bytes n
+    → SendsAll gives sends e l (ps ++ p ∷ []) g n
 SendsAll-snoc gives sends e l [] f m p g n h a b =
     let a1 : gives e p g = subst (λ x. gives x p g) h.0 a in
     let b1 : sends l p.to p.bytes n = subst (λ x. sends x p.to p.bytes n) h.1 b in

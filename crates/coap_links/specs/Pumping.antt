@@ -5,7 +5,8 @@ use Rattle.coap_layer.specs.Trace as layer
 use Rattle.coap_links.specs.Carried.{Packet}
 use Rattle.coap_links.specs.declared.driver.Pumped.{Pumped}
 
--- Each of these datagrams, in this order, is taken from the end and then handed to the link. Nothing else happens to either.
+-- Each of these datagrams, in this order, is taken from the end and then handed to the link. Nothing else happens to
+-- either.
 abbrev pub SendsAll : {E L : Type 0} → (E → layer.Packet → E → Type 0) → (L → Endpoint → List ℕ → L → Type 0)
     → E → L → List layer.Packet → E → L → Type 0
 SendsAll gives sends e l [] f m = (f ≡ e) × (m ≡ l)
@@ -18,14 +19,17 @@ IsFed feeds e now None word f = f ≡ e
 IsFed feeds e now (Some p) word f = feeds e now p.0 p.1 word f
 
 -- A feed is refused memory only where a datagram came, which is then lost.
-abbrev pub IsFedOrLost : {E X : Type 0} → (E → ℕ → Endpoint → List ℕ → ℕ → E → Type 0) → E → ℕ → Option Packet → ℕ → E → Result Pumped X → Type 0
+abbrev pub IsFedOrLost : {E X : Type 0} → (E → ℕ → Endpoint → List ℕ → ℕ → E → Type 0) → E → ℕ → Option Packet → ℕ → E
+    → Result Pumped X → Type 0
 IsFedOrLost feeds e now came word f (Ok p) = IsFed feeds e now came word f × (p.fed ≡ is_some came)
 IsFedOrLost feeds e now came word f (Err x) = IsSome came × (f ≡ e)
 
 -- The turn: all that is out is sent, so that nothing is out; then one receive; what it gave is fed.
-abbrev pub Pumps : {E L X : Type 0} → (E → List layer.Packet) → (E → layer.Packet → E → Type 0) → (L → Endpoint → List ℕ → L → Type 0)
+abbrev pub Pumps : {E L X : Type 0} → (E → List layer.Packet) → (E → layer.Packet → E → Type 0)
+    → (L → Endpoint → List ℕ → L → Type 0)
     → (L → Option Packet → L → Type 0) → (E → ℕ → Endpoint → List ℕ → ℕ → E → Type 0)
     → E → L → ℕ → ℕ → Result Pumped X → E → L → Type 0
 Pumps waiting gives sends receives feeds e l now word result f m =
     (e1 : _) × (l1 : _) × (came : Option Packet)
-    × SendsAll gives sends e l (waiting e) e1 l1 × (waiting e1 ≡ []) × receives l1 came m × IsFedOrLost feeds e1 now came word f result
+    × SendsAll gives sends e l (waiting e) e1 l1 × (waiting e1 ≡ []) × receives l1 came m
+    × IsFedOrLost feeds e1 now came word f result

@@ -1,9 +1,11 @@
 //! A link in memory.
-ghost use Rattle.std.specs.Prelude.{ℕ, List, [], ◌∷◌, ◌++◌, Option, ◌≡◌, ◌≤◌, map, OnOk, OnErr, IfSome, IfNone, length, ◌-◌, ◌==◌};
+ghost use Rattle.std.specs.Prelude.{ℕ, List, [], ◌∷◌, ◌++◌, Option, ◌≡◌, ◌≤◌, map, OnOk, OnErr, IfSome, IfNone};
+ghost use Rattle.std.specs.Prelude.{length, ◌-◌, ◌==◌};
 ghost use Rattle.coap_types.specs.declared.endpoint.Endpoint.{Endpoint as EndpointSpec};
 ghost use Rattle.coap_links.specs.Carried.{Packet, received};
 ghost use Rattle.coap_links.specs.Faults.{raised};
-ghost use Rattle.coap_links.specs.MemoryCarries.{Memory, ReceivesFromMemory, SendsToMemory, behind, failed, falls_due, found_in};
+ghost use Rattle.coap_links.specs.MemoryCarries.{Memory, ReceivesFromMemory, SendsToMemory, behind, failed};
+ghost use Rattle.coap_links.specs.MemoryCarries.{falls_due, found_in};
 
 use crate::carried::{Carried, keep};
 use crate::link::{Link, MAX_DATAGRAM_LEN, raise};

@@ -1,5 +1,7 @@
 -- A text says one path, which is its parts between slashes.
-use Rattle.std.proofs.Common.{◌≡◌, ◌≢◌, ◌∙◌, ◌⊎◌, ap, sym, refl, subst, ℕ, Bool, true, false, cond, ◌<◌, ◌≤◌, List, [], ◌∷◌, length, get_or, Option, Some, None, arith, inl, inr, eqb, true≢false, Result, Ok, Err}
+use Rattle.std.proofs.Common.{◌≡◌, ◌≢◌, ◌∙◌, ◌⊎◌, ap, sym, refl, subst, ℕ, Bool, true, false, cond, ◌<◌, ◌≤◌, List}
+use Rattle.std.proofs.Common.{[], ◌∷◌, length, get_or, Option, Some, None, arith, inl, inr, eqb, true≢false, Result}
+use Rattle.std.proofs.Common.{Ok, Err}
 use Rattle.std.specs.List.{All, Any, join_with_byte, slice_split}
 use Rattle.std.specs.Option.{MatchOption, unwrap_or}
 use Rattle.std.specs.Result.{IfErr, IsErrAnd}
@@ -21,7 +23,8 @@ abbrev Bare : List ℕ → Type 0
 Bare s = All (λ x. x ≢ 47) s
 
 -- what is left once a leading `/` is taken off
-pub rest_is : (text : Bor (List ℕ)) (r : Option (Bor (List ℕ))) → MatchOption r ((rest : List ℕ) → text.now ≢ 47 ∷ rest) (λ x. text.now ≡ 47 ∷ x.now)
+pub rest_is : (text : Bor (List ℕ)) (r : Option (Bor (List ℕ)))
+    → MatchOption r ((rest : List ℕ) → text.now ≢ 47 ∷ rest) (λ x. text.now ≡ 47 ∷ x.now)
     → (unwrap_or r text).now ≡ without_leading_slash text.now
 rest_is text None h = go text.now h
   where
@@ -42,7 +45,8 @@ slash_is b e = grind (arith, nat_tests)
 no_slash : (b : ℕ) → b ≢ 47 → eqb b 47 ≡ false
 no_slash b e = grind (arith, nat_tests)
 
-bare_part : (b : ℕ) (t : Bool) (ps : List (List ℕ)) → eqb b 47 ≡ t → All Bare ps → All Bare (cond t ([] ∷ ps) (Rattle.std.specs.List.onto_first b ps))
+bare_part : (b : ℕ) (t : Bool) (ps : List (List ℕ)) → eqb b 47 ≡ t → All Bare ps
+    → All Bare (cond t ([] ∷ ps) (Rattle.std.specs.List.onto_first b ps))
 bare_part b true ps e h = All-cons Bare [] ps (All-nil (λ x. x ≢ 47)) h
 bare_part b false [] e h =
     let first : b ≢ 47 = λ is. true≢false (sym (ap is_slash is) ∙ e) in
@@ -95,10 +99,12 @@ module _ (text rest : List ℕ) (is : rest ≡ without_leading_slash text) (some
   said : (segments : List (List ℕ)) → IsPathText text segments → segments ≡ parts rest
   said segments says = joined_once rest segments some (subst (λ r. Joins r segments) (sym is) says)
 
-  too_long : (i : ℕ) (x : List ℕ) → i < length (parts rest) → x ≡ get_or (parts rest) i x → 255 < length x → IsNoPath text × IsTrueOf SegmentTooLong text
+  too_long : (i : ℕ) (x : List ℕ) → i < length (parts rest) → x ≡ get_or (parts rest) i x → 255 < length x
+      → IsNoPath text × IsTrueOf SegmentTooLong text
   too_long i x lt at long = (
     λ segments says holds.
-        let short : length (get_or (parts rest) i x) ≤ 255 = subst (All (λ s. length s ≤ 255)) (said segments says) holds.short i x lt in
+        let short : length (get_or (parts rest) i x) ≤ 255 =
+        subst (All (λ s. length s ≤ 255)) (said segments says) holds.short i x lt in
         let len : length x ≡ length (get_or (parts rest) i x) = ap length at in
         omega arith,
     (parts rest, says_parts, (i, x, lt, sym at, long)),
@@ -113,7 +119,8 @@ module _ (text rest : List ℕ) (is : rest ≡ without_leading_slash text) (some
   )
 
   -- each refusal of a part says why
-  pub refused_part : (e : PathRefusal) (i : ℕ) (x : List ℕ) → i < length (parts rest) → x ≡ get_or (parts rest) i x → (e ≡ SegmentTooLong → 255 < length x)
+  pub refused_part : (e : PathRefusal) (i : ℕ) (x : List ℕ) → i < length (parts rest) → x ≡ get_or (parts rest) i x
+      → (e ≡ SegmentTooLong → 255 < length x)
       → (e ≡ TooManySegments → 16 ≤ i) → (e ≡ Memory) ⊎ (IsNoPath text × IsTrueOf e text)
   refused_part SegmentTooLong i x lt at long many = inr (too_long i x lt at (long refl))
   refused_part TooManySegments i x lt at long many = inr (too_many i lt (many refl))

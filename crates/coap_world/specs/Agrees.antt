@@ -24,16 +24,16 @@ use Rattle.coap_world.specs.Done.{OnceDone, NeverFailed}
 
 module _ (config : Config) where
   pub record Agrees (all : List Entry) : Type 0 where
-    -- each body, value and valid representation that is reported was held at its path between call and report; the values of an
-    -- observation have rising versions
+    -- each body, value and valid representation that is reported was held at its path between call and report; the
+    -- values of an observation have rising versions
     pub each_held : EachHeld config all
     pub each_valid : EachValid config all
     pub each_value : EachValue config all
     pub values_rise : ValuesRise config all
     -- .. and a version has one entity-tag
     pub held_are_named : HeldAreNamed config all
-    -- each applied request belongs to a call, and is applied whole, as that asks; at most one, one where success is reported, and none where
-    -- a failure is
+    -- each applied request belongs to a call, and is applied whole, as that asks; at most one, one where success is
+    -- reported, and none where a failure is
     pub each_belongs : EachBelongs config all
     pub applied_whole : AppliedWhole config all
     pub at_most_once : AtMostOnce config all
@@ -54,15 +54,16 @@ module _ (config : Config) where
     -- each answer and each notification that the client takes was made by the server before
     pub answered : AllAnswered config all
     pub noticed : AllNoticed config all
-    -- a call and an observation are refused exactly where they have to be, and what waits starts in its order; the requests of a
-    -- call follow each other
+    -- a call and an observation are refused exactly where they have to be, and what waits starts in its order; the
+    -- requests of a call follow each other
     pub calls_taken : AllTaken config.client_szx (client_of all)
     pub in_order : AreInOrder config.client_szx (client_of all)
-    -- each report is of a call or an observation; a response is reported by its code; a Reset, a failure and want of a response are
-    -- reported, each where the exchange of a call, a registration or a cancel ends so
+    -- each report is of a call or an observation; a response is reported by its code; a Reset, a failure and want of a
+    -- response are reported, each where the exchange of a call, a registration or a cancel ends so
     pub codes_reported : ReportsCodes config.client_szx (client_of all)
     pub ends_reported : AllEnds config.client_szx (client_of all)
-    -- a number is given once, and has at most one last report, behind which nothing is sent for it; all reports are taken
+    -- a number is given once, and has at most one last report, behind which nothing is sent for it; all reports are
+    -- taken
     pub one_number : NumbersOnce (client_of all)
     pub one_report : ReportedOnce server_end config.client_szx config.client_word (client_of all)
     pub none_after : NoneAfter server_end config.client_szx config.client_word (client_of all)

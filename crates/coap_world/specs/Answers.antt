@@ -1,5 +1,5 @@
--- Which answer it is that the client takes: one that the server made before, for it, under that token (RFC 7252, section 5.3.2;
--- RFC 7641, section 3.2; RFC 7959, section 2.9).
+-- Which answer it is that the client takes: one that the server made before, for it, under that token (RFC 7252,
+-- section 5.3.2; RFC 7641, section 3.2; RFC 7959, section 2.9).
 use Rattle.std.specs.Prelude.{◌≡◌, ℕ, true, None, Some, List}
 use Rattle.coap_types.specs.Past.{Sometime, Always}
 use Rattle.coap_types.specs.declared.endpoint.Endpoint.{Endpoint}
@@ -36,18 +36,22 @@ module _ (config : Config) (m : Message) (past : List S.Call) (c : S.Call) where
   abbrev own : S.Own
   own = own_of config.limit config.server_szx past
 
-  -- the reply of the store to a request that is served here; 2.31 to a block that is taken here; the refusal of a request that is
-  -- handed up here; the notification to an observer that is sent here, of what its path holds here
+  -- the reply of the store to a request that is served here; 2.31 to a block that is taken here; the refusal of a
+  -- request that is handed up here; the notification to an observer that is sent here, of what its path holds here
   pub data IsAnswer : Type 0 where
-    replies : (x : Serving) → serving own c ≡ Some x → IsResponse m x.asked.from x.asked.token (response_with x.reply x.sequence (last_block x.question)) → IsAnswer
+    replies : (x : Serving) → serving own c ≡ Some x
+        → IsResponse m x.asked.from x.asked.token (response_with x.reply x.sequence (last_block x.question)) → IsAnswer
     continues :
         (x : Took) (size : ℕ) → takes_block own c ≡ Some x → x.part.more ≡ true → size_in own c ≡ Some size
-        → IsResponse m x.asked.from x.asked.token (continuing size (record { num = x.part.num; more = true; szx = x.part.szx })) → IsAnswer
+        → IsResponse m x.asked.from x.asked.token (continuing size
+        (record { num = x.part.num; more = true; szx = x.part.szx })) → IsAnswer
     refuses :
-        (a : Asked) (v : Verdict) (code : ℕ) → Comes config.limit config.server_szx config.server_word past c a v → hands c ≡ Some a → serving own c ≡ None → refusal_in own c ≡ Some code
+        (a : Asked) (v : Verdict) (code : ℕ) → Comes config.limit config.server_szx config.server_word past c a v
+        → hands c ≡ Some a → serving own c ≡ None → refusal_in own c ≡ Some code
         → IsResponse m a.from a.token (bare code) → IsAnswer
     notifies :
-        (o : Observer) (reply : Reply) → notice_in c ≡ Some (o, reply) → WasMade config.limit config.server_szx past o → NoticeOf o.szx (own.store.holds o.path) (notification own.store o reply)
+        (o : Observer) (reply : Reply) → notice_in c ≡ Some (o, reply) → WasMade config.limit config.server_szx past o
+        → NoticeOf o.szx (own.store.holds o.path) (notification own.store o reply)
         → IsResponse m o.to o.token (notification own.store o reply) → IsAnswer
 
 module _ (config : Config) where

@@ -1,5 +1,5 @@
--- Legal runs with bodies of several blocks, with the datagrams that the ends give out in them (RFC 7959). Each is the newest event,
--- or datagram, first.
+-- Legal runs with bodies of several blocks, with the datagrams that the ends give out in them (RFC 7959). Each is the
+-- newest event, or datagram, first.
 use Rattle.std.specs.Prelude.{ℕ, Some, None, List, [], ◌∷◌, ◌++◌, codes}
 use Rattle.coap_ends.specs.ClientSide.ClientTrace.{Request, Body, Done}
 use Rattle.coap_world.specs.Events.{client_end, Config, Calls, TickClient, Deliver}
@@ -17,8 +17,8 @@ old_body = codes "0123456789abcdefg"
 abbrev pub key : ℕ → List ℕ
 key n = 0 ∷ 0 ∷ 0 ∷ 0 ∷ 0 ∷ 0 ∷ 0 ∷ n ∷ []
 
--- A client with blocks of 16 bytes puts 17 bytes at `t`: 2.31 to the first block, 2.01 to the last, and the path holds all of them
--- (RFC 7959, section 2.5).
+-- A client with blocks of 16 bytes puts 17 bytes at `t`: 2.31 to the first block, 2.01 to the last, and the path holds
+-- all of them (RFC 7959, section 2.5).
 
 abbrev pub by_16 : Config
 by_16 = record config { client_szx = 0 }
@@ -27,7 +27,8 @@ abbrev pub upload : Request
 upload = record put { format = None; body = old_body; if_match = [] }
 
 abbrev pub uploads : List Event
-uploads = event 4 (Deliver 3) ∷ event 3 (Deliver 2) ∷ event 2 (Deliver 1) ∷ event 1 (Deliver 0) ∷ event 0 TickClient ∷ event 0 (Calls upload) ∷ []
+uploads = event 4 (Deliver 3) ∷ event 3 (Deliver 2) ∷ event 2 (Deliver 1) ∷ event 1
+    (Deliver 0) ∷ event 0 TickClient ∷ event 0 (Calls upload) ∷ []
 
 -- Uri-Path and Block1, which is 0/1/16 as 8, and 1/0/16 as 16; the same Block1 in the responses
 abbrev pub block_bytes : ℕ → ℕ → List ℕ → List ℕ
@@ -42,13 +43,14 @@ created = 65
 
 pub record Uploads : Type 0 where
   pub run : Runs by_16 uploads
-      (from_server 3 client_end (answer_bytes 0x41 1 16) ∷ from_client 2 (block_bytes 1 16 (codes "g")) ∷ from_server 1 client_end (answer_bytes 0x5f 0 8) ∷
+      (from_server 3 client_end (answer_bytes 0x41 1 16) ∷ from_client 2
+      (block_bytes 1 16 (codes "g")) ∷ from_server 1 client_end (answer_bytes 0x5f 0 8) ∷
       from_client 0 (block_bytes 0 8 (codes "0123456789abcdef")) ∷ [])
   pub reports : Reports run (reported (Done created) ∷ [])
   pub holds : Holds run t 1 None old_body
 
--- A GET of a body that changes between its blocks of 16 bytes: the second has another ETag, so the first is asked for again, and
--- the new body is reported (RFC 7959, section 2.4).
+-- A GET of a body that changes between its blocks of 16 bytes: the second has another ETag, so the first is asked for
+-- again, and the new body is reported (RFC 7959, section 2.4).
 
 abbrev pub small : Config
 small = record config { server_szx = 0 }
@@ -81,11 +83,14 @@ second_get n = 0x48 ∷ 1 ∷ 0 ∷ n ∷ key n ++ 0xb1 ∷ codes "t" ++ 0xc1 �
 
 -- ETag, Content-Format and Block2, which is 0/1/16 as 8, and 1/0/16 as 16
 abbrev pub part_bytes : ℕ → ℕ → ℕ → List ℕ → List ℕ
-part_bytes n version block payload = 0x68 ∷ 0x45 ∷ 0 ∷ n ∷ key n ++ 0x48 ∷ tag version ++ 0x80 ∷ 0xb1 ∷ block ∷ 0xff ∷ payload
+part_bytes n version block payload = 0x68 ∷ 0x45 ∷ 0 ∷ n ∷ key n ++ 0x48 ∷ tag version
+    ++ 0x80 ∷ 0xb1 ∷ block ∷ 0xff ∷ payload
 
 pub record Changes : Type 0 where
   pub run : Runs small changes
-      (from_server 8 client_end (part_bytes 3 2 16 (codes "Q")) ∷ from_client 7 (second_get 3) ∷ from_server 6 client_end (part_bytes 2 2 8 (codes "ABCDEFGHIJKLMNOP")) ∷
-      from_client 5 (first_get 2) ∷ from_server 4 client_end (part_bytes 1 2 16 (codes "Q")) ∷ from_client 3 (second_get 1) ∷
+      (from_server 8 client_end (part_bytes 3 2 16 (codes "Q")) ∷ from_client 7
+      (second_get 3) ∷ from_server 6 client_end (part_bytes 2 2 8 (codes "ABCDEFGHIJKLMNOP")) ∷
+      from_client 5 (first_get 2) ∷ from_server 4 client_end (part_bytes 1 2 16 (codes "Q")) ∷ from_client 3
+      (second_get 1) ∷
       from_server 1 client_end (part_bytes 0 1 8 (codes "0123456789abcdef")) ∷ from_client 0 (first_get 0) ∷ [])
   pub reports : Reports run (reported (Body (Some (tag 2)) (Some plain) new_body) ∷ [])

@@ -1,5 +1,5 @@
--- How many exchanges a call makes at most in a legal run, and how long a body is that is held (RFC 7959, sections 2.4 and 2.5; the
--- bounds are a profile).
+-- How many exchanges a call makes at most in a legal run, and how long a body is that is held (RFC 7959, sections 2.4
+-- and 2.5; the bounds are a profile).
 use Rattle.std.specs.Prelude.{◌≡◌, ◌≤◌, ℕ, ◌+◌, ◌*◌, Some, List, ◌∷◌, length}
 use Rattle.coap_types.specs.Past.{Always}
 use Rattle.coap_types.specs.declared.limits.TheConstants.{MAX_BODY_LEN as max_body}
@@ -14,8 +14,8 @@ use Rattle.coap_world.specs.Events.{Config}
 use Rattle.coap_world.specs.Record.{Entry, client_of}
 use Rattle.coap_world.specs.Words.{last_at}
 
--- A GET asks for all blocks of the longest body at most, and anew at most MAX_RESTARTS times: 4 passes of 4,096 blocks. A body that
--- is longer than a block of the client's size is sent in at most 4,096 blocks. Each other call asks once.
+-- A GET asks for all blocks of the longest body at most, and anew at most MAX_RESTARTS times: 4 passes of 4,096 blocks.
+-- A body that is longer than a block of the client's size is sent in at most 4,096 blocks. Each other call asks once.
 abbrev pub most_exchanges : ℕ → Request → Method → ℕ
 most_exchanges szx r Get = (max_restarts + 1) * max_blocks
 most_exchanges szx r Post = most_requests szx r Post
@@ -26,8 +26,10 @@ module _ (config : Config) where
   -- No call makes more exchanges: so many requests are sent for it, each with a token of its own.
   abbrev pub AreBounded : List Entry → Type 0
   AreBounded all =
-      (x : Taken) → WasTaken x (client_of all) → requests config.client_szx x.number (client_of all) ≤ most_exchanges config.client_szx x.request x.request.method
+      (x : Taken) → WasTaken x (client_of all) → requests config.client_szx x.number
+      (client_of all) ≤ most_exchanges config.client_szx x.request x.request.method
 
   -- No path holds a body that is longer than MAX_BODY_LEN.
   abbrev pub AreShort : List Entry → Type 0
-  AreShort all = Always (λ past e. (path : List (List ℕ)) (held : Held) → last_at config path (e ∷ past) ≡ Some held → length held.body ≤ max_body) all
+  AreShort all = Always (λ past e. (path : List (List ℕ)) (held : Held) → last_at config path (e ∷ past) ≡ Some held
+      → length held.body ≤ max_body) all

@@ -1,6 +1,6 @@
--- Legal runs in which calls succeed, one behind the other, an observation is forgotten, and the server's own changes meet
--- their limit, with the datagrams that the ends give out in them (RFC 7252, section 5.8; RFC 7641, section 3.6). Each is the
--- newest event, or datagram, first.
+-- Legal runs in which calls succeed, one behind the other, an observation is forgotten, and the server's own changes
+-- meet their limit, with the datagrams that the ends give out in them (RFC 7252, section 5.8; RFC 7641, section 3.6).
+-- Each is the newest event, or datagram, first.
 use Rattle.std.specs.Prelude.{◌≡◌, ℕ, Bool, true, Some, None, List, [], ◌∷◌, ◌++◌, codes, Result, Ok, Err}
 use Rattle.coap_types.specs.Past.{Ever}
 use Rattle.coap_types.specs.declared.request.Method.TheVariants.{Post}
@@ -30,8 +30,8 @@ changed = 68
 abbrev pub deleted : ℕ
 deleted = 66
 
--- A PUT and a GET of one path are called at one moment: the GET waits until the PUT is answered, by a 2.01, and gets what that
--- put (RFC 7252, sections 4.7, 5.8.1 and 5.8.3).
+-- A PUT and a GET of one path are called at one moment: the GET waits until the PUT is answered, by a 2.01, and gets
+-- what that put (RFC 7252, sections 4.7, 5.8.1 and 5.8.3).
 
 abbrev pub new : Request
 new = record put { body = codes "hi"; if_match = [] }
@@ -60,13 +60,15 @@ new_content_bytes = 0x68 ∷ 0x45 ∷ 0 ∷ 1 ∷ key 1 ++ 0x48 ∷ tag 1 ++ 0x8
 
 pub record Queues : Type 0 where
   pub run : Runs config queues
-      (from_server 3 client_end new_content_bytes ∷ from_client 2 (first_get 1) ∷ from_server 1 client_end created_bytes ∷
+      (from_server 3 client_end new_content_bytes ∷ from_client 2
+      (first_get 1) ∷ from_server 1 client_end created_bytes ∷
       from_client 0 new_bytes ∷ [])
-  pub reports : Reports run (reported (Done created) ∷ reported_next (Body (Some (tag 1)) (Some json) (codes "hi")) ∷ [])
+  pub reports : Reports run (reported (Done created) ∷ reported_next (Body (Some (tag 1)) (Some json) (codes "hi")) ∷
+      [])
   pub holds : Holds run t 1 (Some json) (codes "hi")
 
--- A PUT that asks for version 1, which is held: 2.04. Then a DELETE: 2.02, and nothing is held (RFC 7252, sections 5.8.3,
--- 5.8.4 and 5.10.8.1).
+-- A PUT that asks for version 1, which is held: 2.04. Then a DELETE: 2.02, and nothing is held (RFC 7252, sections
+-- 5.8.3, 5.8.4 and 5.10.8.1).
 
 abbrev pub replace : Request
 replace = record put { if_match = tag 1 ∷ [] }
@@ -143,8 +145,8 @@ pub record Validates : Type 0 where
   pub reports : Reports run (reported (Valid (Some (tag 1))) ∷ reported_next (Done changed) ∷ [])
   pub holds : Holds run t 2 (Some plain) (codes "hia")
 
--- A server takes four changes in a window of 256 s: `t` is set, a stranger deletes it by a NON and is answered by one, `log`
--- is set and removed. So `t` is not set again (RFC 7252, sections 4.3 and 5.8.4; RFC 7641, section 4.4).
+-- A server takes four changes in a window of 256 s: `t` is set, a stranger deletes it by a NON and is answered by one,
+-- `log` is set and removed. So `t` is not set again (RFC 7252, sections 4.3 and 5.8.4; RFC 7641, section 4.4).
 
 abbrev pub four : Config
 four = record config { limit = 4 }
@@ -168,7 +170,8 @@ exhausts =
 -- what a local change is answered
 
 abbrev pub SetAnswers : Result ℕ StoreRefusal → ℕ → List (List ℕ) → Entry → Type 0
-SetAnswers answer at path e = (format : _) × (body : _) × (left : _) × (e ≡ OfServer (S.Sets at path format body answer left))
+SetAnswers answer at path e = (format : _) × (body : _) × (left : _)
+    × (e ≡ OfServer (S.Sets at path format body answer left))
 
 abbrev pub RemoveAnswers : Result Bool StoreRefusal → ℕ → List (List ℕ) → Entry → Type 0
 RemoveAnswers answer at path e = (left : _) × (e ≡ OfServer (S.Removes at path answer left))

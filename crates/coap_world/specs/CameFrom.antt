@@ -30,9 +30,11 @@ module _ (config : Config) where
   -- here the server's message layer hands up this request, and it comes to this
   abbrev pub ComesAt : Asked → Verdict → List Entry → Entry → Type 0
   ComesAt a v past (OfClient c) = ⊥
-  ComesAt a v past (OfServer c) = Comes config.limit config.server_szx config.server_word (server_trace config past) c a v
+  ComesAt a v past (OfServer c) = Comes config.limit config.server_szx config.server_word
+      (server_trace config past) c a v
 
-  -- It is a request that the client sent before, as a CON; it arrives here, at most 147,000 ms after that was sent first.
+  -- It is a request that the client sent before, as a CON; it arrives here, at most 147,000 ms after that was sent
+  -- first.
   pub record CameFrom (past : List Entry) (e : Entry) (a : Asked) (v : Verdict) : Type 0 where
     pub sending : Sending
     pub sent : WasSent config.client_szx sending (client_of past)
@@ -47,4 +49,5 @@ module _ (config : Config) where
 
   -- Each request from the client's address that is handed up is one that the client sent.
   abbrev pub CamesFrom : List Entry → Type 0
-  CamesFrom all = Always (λ past e. (a : Asked) (v : Verdict) → ComesAt a v past e → a.from ≡ client_end → CameFrom past e a v) all
+  CamesFrom all = Always (λ past e. (a : Asked) (v : Verdict) → ComesAt a v past e → a.from ≡ client_end
+      → CameFrom past e a v) all

@@ -1,5 +1,5 @@
--- What the datagrams of a legal run are: each that comes from an end's address was given out by that end, for the one that
--- it comes to, at most 100,000 ms before.
+-- What the datagrams of a legal run are: each that comes from an end's address was given out by that end, for the one
+-- that it comes to, at most 100,000 ms before.
 use Rattle.std.specs.Prelude.{◌≡◌, ◌≤◌, ℕ, ◌+◌, List}
 use Rattle.coap_types.specs.declared.endpoint.Endpoint.{Endpoint}
 use Rattle.coap_world.specs.Legal.{max_delivery}
@@ -18,16 +18,20 @@ pub record GaveOut (from to : Endpoint) (bytes : List ℕ) (when : ℕ) (g : Giv
 -- the server, and the client, is fed these bytes from there
 abbrev pub FedToServer : Endpoint → List ℕ → Entry → Type 0
 FedToServer from bytes (OfClient c) = ⊥
-FedToServer from bytes (OfServer c) = (now : _) × (word : _) × (up : _) × (came : _) × (h : _) × (below : _) × (c ≡ S.Feeds now from bytes word up came h below)
+FedToServer from bytes (OfServer c) = (now : _) × (word : _) × (up : _) × (came : _) × (h : _) × (below : _)
+    × (c ≡ S.Feeds now from bytes word up came h below)
 
 abbrev pub FedToClient : Endpoint → List ℕ → Entry → Type 0
 FedToClient from bytes (OfClient c) =
-    (now : _) × (word : _) × (up : _) × (settled : _) × (event : _) × (sent : _) × (token : _) × (kept : _) × (c ≡ C.Feeds now from bytes word up settled event sent token kept)
+    (now : _) × (word : _) × (up : _) × (settled : _) × (event : _) × (sent : _) × (token : _) × (kept : _)
+    × (c ≡ C.Feeds now from bytes word up settled event sent token kept)
 FedToClient from bytes (OfServer c) = ⊥
 
 pub record IsFair (past : List Turn) (turn : Turn) : Type 0 where
-  pub server : (bytes : List ℕ) → Ever (FedToServer client_end bytes) turn.entries → Ever (GaveOut client_end server_end bytes turn.event.at) (all_of given_in past)
-  pub client : (bytes : List ℕ) → Ever (FedToClient server_end bytes) turn.entries → Ever (GaveOut server_end client_end bytes turn.event.at) (all_of given_in past)
+  pub server : (bytes : List ℕ) → Ever (FedToServer client_end bytes) turn.entries
+      → Ever (GaveOut client_end server_end bytes turn.event.at) (all_of given_in past)
+  pub client : (bytes : List ℕ) → Ever (FedToClient server_end bytes) turn.entries
+      → Ever (GaveOut server_end client_end bytes turn.event.at) (all_of given_in past)
 
 abbrev pub AllFair : List Turn → Type 0
 AllFair turns = Always IsFair turns

@@ -1,4 +1,5 @@
--- What is applied of a call that is reported as success, and of one that is reported as a failure (RFC 7252, sections 5.8 and 5.9).
+-- What is applied of a call that is reported as success, and of one that is reported as a failure (RFC 7252, sections
+-- 5.8 and 5.9).
 use Rattle.std.specs.Prelude.{ℕ, List}
 use Rattle.coap_types.specs.Past.{Sometime, Always}
 use Rattle.coap_ends.specs.ClientSide.ClientTrace.{Request, Done, Failed}
@@ -15,8 +16,11 @@ module _ (config : Config) where
 
   -- Where success is reported, one was applied after the call and not after the report.
   abbrev pub OnceDone : List Entry → Type 0
-  OnceDone all = (number code : ℕ) → Always (λ past e. ReportsAt config (record { number = number; report = Done code }) past e → Sometime (AppliesSince number all) past) all
+  OnceDone all = (number code : ℕ) → Always (λ past e. ReportsAt config
+      (record { number = number; report = Done code }) past e → Sometime (AppliesSince number all) past) all
 
   -- Where a failure is reported, none is applied, before or after.
   abbrev pub NeverFailed : List Entry → Type 0
-  NeverFailed all = (number code : ℕ) → Sometime (ReportsAt config (record { number = number; report = Failed code })) all → Sometime (AppliesFor config number all) all → ⊥
+  NeverFailed all = (number code : ℕ) → Sometime
+      (ReportsAt config (record { number = number; report = Failed code })) all
+      → Sometime (AppliesFor config number all) all → ⊥

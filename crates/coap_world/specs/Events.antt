@@ -1,5 +1,5 @@
--- One client, one server, strangers, and the datagrams between them: what happens (RFC 7252, sections 4 and 5; RFC 7641; RFC
--- 7959).
+-- One client, one server, strangers, and the datagrams between them: what happens (RFC 7252, sections 4 and 5; RFC
+-- 7641; RFC 7959).
 use Rattle.std.specs.Prelude.{ℕ, List, [], ◌∷◌, Option}
 use Rattle.coap_types.specs.declared.endpoint.Endpoint.{Endpoint}
 use Rattle.coap_ends.specs.ClientSide.ClientTrace.{Request}

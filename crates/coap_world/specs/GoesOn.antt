@@ -1,5 +1,5 @@
--- A record goes on with each legal event: no event is left without a turn, and so there are records of each list of events
--- that are legal one after the other.
+-- A record goes on with each legal event: no event is left without a turn, and so there are records of each list of
+-- events that are legal one after the other.
 use Rattle.std.specs.Prelude.{◌≡◌, false, List, [], ◌∷◌}
 use Rattle.coap_types.specs.Past.{Always}
 use Rattle.coap_world.specs.Events.{Config, Event}
@@ -18,7 +18,8 @@ pub record Follows (config : Config) (events : List Event) (turns : List Turn) (
   pub legal : Legal config (turn_of event entries ∷ turns)
 
 abbrev pub GoesOn : Config → Type 0
-GoesOn config = (events : List Event) (turns : List Turn) (event : Event) → RecordOf config events turns → Legal config turns → MayHappen turns event
+GoesOn config = (events : List Event) (turns : List Turn) (event : Event) → RecordOf config events turns
+    → Legal config turns → MayHappen turns event
     → Follows config events turns event
 
 -- a record in which nothing is refused
@@ -30,7 +31,8 @@ pub record Ran (config : Config) (events : List Event) (turns : List Turn) : Typ
 -- events that may happen one after the other
 abbrev pub MayRun : Config → List Event → Type 0
 MayRun config [] = Unit {0}
-MayRun config (event ∷ events) = ((turns : List Turn) → Ran config events turns → MayHappen turns event) × MayRun config events
+MayRun config (event ∷ events) = ((turns : List Turn) → Ran config events turns → MayHappen turns event)
+    × MayRun config events
 
 abbrev pub HasRecord : Config → List Event → Type 0
 HasRecord config events = (turns : List Turn) × Ran config events turns

@@ -1,5 +1,5 @@
--- What a client reports of a representation, the server held at that path, after the call and not after the report (RFC 7252,
--- sections 5.8.1, 5.9.1.3 and 5.10.6; RFC 7641, section 3.2; RFC 7959, section 2.4).
+-- What a client reports of a representation, the server held at that path, after the call and not after the report (RFC
+-- 7252, sections 5.8.1, 5.9.1.3 and 5.10.6; RFC 7641, section 3.2; RFC 7959, section 2.4).
 use Rattle.std.specs.Prelude.{◌≡◌, ℕ, Option, Some, List, ◌∷◌}
 use Rattle.coap_types.specs.Past.{Ever, Sometime, Always}
 use Rattle.coap_observe.specs.Versions.{sequence_number}
@@ -21,9 +21,10 @@ module _ (config : Config) where
     pub tag_is : tag ≡ Some (tag_of held.version)
     pub there : last_at config path all ≡ Some held
 
-  -- A body that is reported was held by the server at the path of the call, under the version that its ETag names, after
-  -- the call and not after the report.
-  pub record HeldSince (number : ℕ) (tag : Option (List ℕ)) (format : Option ℕ) (body : List ℕ) (past : List Entry) (e : Entry) : Type 0 where
+  -- A body that is reported was held by the server at the path of the call, under the version that its ETag names,
+  -- after the call and not after the report.
+  pub record HeldSince (number : ℕ) (tag : Option (List ℕ)) (format : Option ℕ) (body : List ℕ) (past : List Entry)
+      (e : Entry) : Type 0 where
     pub request : Request
     pub called : WasCalled number request past
     pub version : ℕ
@@ -31,10 +32,11 @@ module _ (config : Config) where
 
   abbrev pub EachHeld : List Entry → Type 0
   EachHeld all = (number : ℕ) (tag : Option (List ℕ)) (format : Option ℕ) (body : List ℕ)
-      → Always (λ past e. ReportsAt config (record { number = number; report = Body tag format body }) past e → Sometime (HeldSince number tag format body) past) all
+      → Always (λ past e. ReportsAt config (record { number = number; report = Body tag format body }) past e
+      → Sometime (HeldSince number tag format body) past) all
 
-  -- Where a representation is reported to be valid, the path held then the version that the ETag names, and the ETag is one of the
-  -- call's own.
+  -- Where a representation is reported to be valid, the path held then the version that the ETag names, and the ETag is
+  -- one of the call's own.
   pub record ValidSince (number : ℕ) (tag : Option (List ℕ)) (past : List Entry) (e : Entry) : Type 0 where
     pub request : Request
     pub called : WasCalled number request past
@@ -43,11 +45,14 @@ module _ (config : Config) where
     pub holds : HoldsAs request.path tag held (e ∷ past)
 
   abbrev pub EachValid : List Entry → Type 0
-  EachValid all = (number : ℕ) (tag : Option (List ℕ)) → Always (λ past e. ReportsAt config (record { number = number; report = Valid tag }) past e → Sometime (ValidSince number tag) past) all
+  EachValid all = (number : ℕ) (tag : Option (List ℕ))
+      → Always (λ past e. ReportsAt config (record { number = number; report = Valid tag }) past e
+      → Sometime (ValidSince number tag) past) all
 
-  -- A value of an observation was held at the path of the observation, under the version of its sequence number and its ETag, after
-  -- the observation was taken and not after the report.
-  pub record ValueSince (number sequence : ℕ) (tag : Option (List ℕ)) (format : Option ℕ) (body : List ℕ) (past : List Entry) (e : Entry) : Type 0 where
+  -- A value of an observation was held at the path of the observation, under the version of its sequence number and its
+  -- ETag, after the observation was taken and not after the report.
+  pub record ValueSince (number sequence : ℕ) (tag : Option (List ℕ)) (format : Option ℕ) (body : List ℕ)
+      (past : List Entry) (e : Entry) : Type 0 where
     pub path : List (List ℕ)
     pub observed : WasObserved number path past
     pub version : ℕ
@@ -56,4 +61,5 @@ module _ (config : Config) where
 
   abbrev pub EachValue : List Entry → Type 0
   EachValue all = (number sequence : ℕ) (tag : Option (List ℕ)) (format : Option ℕ) (body : List ℕ)
-      → Always (λ past e. ReportsAt config (record { number = number; report = Value sequence tag format body }) past e → Sometime (ValueSince number sequence tag format body) past) all
+      → Always (λ past e. ReportsAt config (record { number = number; report = Value sequence tag format body }) past e
+      → Sometime (ValueSince number sequence tag format body) past) all

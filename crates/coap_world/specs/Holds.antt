@@ -23,8 +23,9 @@ module _ (config : Config) where
   Changes x past (OfClient c) = ⊥
   Changes x past (OfServer c) = change (own_of config.limit config.server_szx (server_trace config past)) c ≡ Some x
 
-  -- The server begins with nothing. After each entry each path holds the last of its changes, and the versions of the changes
-  -- are 1, 2, 3 and so on. What a change says, its path holds after it: a representation under its version, or nothing.
+  -- The server begins with nothing. After each entry each path holds the last of its changes, and the versions of the
+  -- changes are 1, 2, 3 and so on. What a change says, its path holds after it: a representation under its version, or
+  -- nothing.
   pub record Holds (past : List Entry) (e : Entry) : Type 0 where
     pub last : (path : List (List ℕ)) → holds_at config path (e ∷ past) ≡ last_at config path (e ∷ past)
     pub version : (x : Change) → Changes x past e → x.version ≡ changes_in config past + 1
@@ -44,9 +45,12 @@ module _ (config : Config) where
 
   -- What a path holds stays, but for a local change of it, or the request to it that is applied here.
   abbrev pub IsOwned : List (List ℕ) → List Entry → Entry → Type 0
-  IsOwned path past e = (holds_at config path (e ∷ past) ≡ holds_at config path past) ⊎ (ChangesLocally path e ⊎ AppliesTo path past e)
+  IsOwned path past e = (holds_at config path (e ∷ past) ≡ holds_at config path past)
+      ⊎ (ChangesLocally path e ⊎ AppliesTo path past e)
 
-  -- Each change is a local one, or that of the request that is applied there; and nothing else changes what a path holds.
+  -- Each change is a local one, or that of the request that is applied there; and nothing else changes what a path
+  -- holds.
   pub record ChangesOwned (all : List Entry) : Type 0 where
-    pub whose : Always (λ past e. (x : Change) → Changes x past e → ChangesLocally x.path e ⊎ AppliesTo x.path past e) all
+    pub whose : Always (λ past e. (x : Change) → Changes x past e
+        → ChangesLocally x.path e ⊎ AppliesTo x.path past e) all
     pub stays : (path : List (List ℕ)) → Always (IsOwned path) all

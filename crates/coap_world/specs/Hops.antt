@@ -30,7 +30,8 @@ pub record SendsAt (t : ℕ) (p : L.Packet) (e : L.Entry) : Type 0 where
 
 -- What an end gives out was sent by its layer at that very moment.
 abbrev pub SentIn : List Hop → Given → Type 0
-SentIn hops g = ((g.from ≡ client_end) × Ever (OnNear (SendsAt g.at g.packet)) hops) ⊎ ((g.from ≡ server_end) × Ever (OnFar (SendsAt g.at g.packet)) hops)
+SentIn hops g = ((g.from ≡ client_end) × Ever (OnNear (SendsAt g.at g.packet)) hops)
+    ⊎ ((g.from ≡ server_end) × Ever (OnFar (SendsAt g.at g.packet)) hops)
 
 module _ (config : Config) where
   -- what a call of the client asks of its layer, and the entries that it adds to it
@@ -45,7 +46,8 @@ module _ (config : Config) where
 
   -- .. and of the server
   abbrev pub server_asks : List S.Call → S.Call → List Asked
-  server_asks past c = asked_by_server (server.lower_of config.limit config.server_szx past) (asks.lower (server.own_of config.limit config.server_szx past) c)
+  server_asks past c = asked_by_server (server.lower_of config.limit config.server_szx past)
+      (asks.lower (server.own_of config.limit config.server_szx past) c)
 
   abbrev pub server_asked : List S.Call → List Asked
   server_asked past = answerer.lower_of (server.lower_of config.limit config.server_szx past)

@@ -1,5 +1,5 @@
--- Legal runs in which a block of an upload comes after its Timeout, with the datagrams that the ends give out in them (RFC 7252,
--- section 4.8.2; RFC 7959, section 2.5). Each is the newest event, or datagram, first.
+-- Legal runs in which a block of an upload comes after its Timeout, with the datagrams that the ends give out in them
+-- (RFC 7252, section 4.8.2; RFC 7959, section 2.5). Each is the newest event, or datagram, first.
 use Rattle.std.specs.Prelude.{◌≡◌, ℕ, Some, None, List, [], ◌∷◌, ◌++◌, codes}
 use Rattle.coap_types.specs.Past.{Sometime}
 use Rattle.coap_ends.specs.ClientSide.ClientTrace.{Request, Timeout, Done, Reported}
@@ -10,7 +10,8 @@ use Rattle.coap_world.specs.Record.{Given, entries_of}
 use Rattle.coap_world.specs.BlockRuns.{key, by_16, block_bytes, answer_bytes, created}
 use Rattle.coap_world.specs.Words.{AppliesFor, changes_in, holds_at}
 
--- a request of this call is applied in it; its server makes so many changes in all; before one of its calls `t` held this body
+-- a request of this call is applied in it; its server makes so many changes in all; before one of its calls `t` held
+-- this body
 module _ {config : Config} {events : List Event} {given : List Given} (run : Runs config events given) where
   abbrev pub Applied : ℕ → Type 0
   Applied number = Sometime (AppliesFor config number (entries_of run.turns)) (entries_of run.turns)
@@ -19,7 +20,8 @@ module _ {config : Config} {events : List Event} {given : List Given} (run : Run
   ChangesOnly times = changes_in config (entries_of run.turns) ≡ times
 
   abbrev pub Held : ℕ → List ℕ → Type 0
-  Held version body = Sometime (λ past e. holds_at config t past ≡ Some (record { version = version; format = None; body = body })) (entries_of run.turns)
+  Held version body = Sometime (λ past e. holds_at config t past
+      ≡ Some (record { version = version; format = None; body = body })) (entries_of run.turns)
 
 -- a PUT of this body at `t`
 abbrev pub uploading : List ℕ → Request
@@ -35,12 +37,14 @@ continue = 95
 
 -- a datagram that goes out at 0 and is copied four times
 abbrev pub five_times : List ℕ → List Given
-five_times bytes = from_client 30000 bytes ∷ from_client 14000 bytes ∷ from_client 6000 bytes ∷ from_client 2000 bytes ∷ from_client 0 bytes ∷ []
+five_times bytes = from_client 30000 bytes ∷ from_client 14000 bytes ∷ from_client 6000 bytes ∷ from_client 2000 bytes ∷
+    from_client 0 bytes ∷ []
 
--- The second block of an upload is never acknowledged: it goes out five times, at last at 30,000, and Timeout is reported. The upload
--- that is called then is held back to 130,000, while that last copy may still come (MAX_LATENCY: RFC 7252, section 4.8.2). It comes at
--- 130,000, and is taken: before the first block of the held one, which begins its body anew (RFC 7959, section 2.5). So no block of the
--- one gets into the body of the other. The held one alone is applied, whole.
+-- The second block of an upload is never acknowledged: it goes out five times, at last at 30,000, and Timeout is
+-- reported. The upload that is called then is held back to 130,000, while that last copy may still come (MAX_LATENCY:
+-- RFC 7252, section 4.8.2). It comes at
+-- 130,000, and is taken: before the first block of the held one, which begins its body anew (RFC 7959, section 2.5). So
+-- no block of the one gets into the body of the other. The held one alone is applied, whole.
 
 abbrev pub lost_body : List ℕ
 lost_body = codes "abcdefghijklmnopqrstuvwxyzabcdefg"
@@ -101,9 +105,9 @@ pub record HoldsBack : Type 0 where
   pub once : ChangesOnly run 1
   pub holds : Holds run t 1 None held_body
 
--- A PUT in one message is not held back: it is sent, and done, while the last copy of the second block of a failed upload is on its
--- way. That block completes the failed upload, at 130,000: it is applied, whole, long after its Timeout, and the response to it gives no
--- report (RFC 7252, section 4.8.2; RFC 7959, section 2.5).
+-- A PUT in one message is not held back: it is sent, and done, while the last copy of the second block of a failed
+-- upload is on its way. That block completes the failed upload, at 130,000: it is applied, whole, long after its
+-- Timeout, and the response to it gives no report (RFC 7252, section 4.8.2; RFC 7959, section 2.5).
 
 abbrev pub failed_body : List ℕ
 failed_body = codes "abcdefghijklmnopq"

@@ -1,5 +1,5 @@
--- Which events are legal, in the record of their run: no datagram comes more than 100,000 ms after it was given out, and
--- what comes from an end's address was given out by that end.
+-- Which events are legal, in the record of their run: no datagram comes more than 100,000 ms after it was given out,
+-- and what comes from an end's address was given out by that end.
 use Rattle.std.specs.Prelude.{◌≡◌, ◌≢◌, ◌⊎◌, ◌≤◌, ◌<◌, ℕ, ◌+◌, ◌^◌, [], ◌∷◌, length, IfSome, List, All}
 use Rattle.coap_types.specs.declared.endpoint.Endpoint.{Endpoint}
 use Rattle.coap_types.specs.declared.transmission.TheConstants.{MAX_LATENCY_MS as max_latency}
@@ -33,7 +33,8 @@ NotBefore (turn ∷ past) at = turn.event.at ≤ at
 -- a datagram that was given out before, addressed to an end, and not too old; a stranger that has no end's address
 abbrev pub MayCome : List Turn → ℕ → What → Type 0
 MayCome past at (Deliver number) =
-    (g : Given) × IsNumber number g past × ((g.packet.to ≡ client_end) ⊎ (g.packet.to ≡ server_end)) × (at ≤ g.at + max_delivery)
+    (g : Given) × IsNumber number g past × ((g.packet.to ≡ client_end) ⊎ (g.packet.to ≡ server_end))
+    × (at ≤ g.at + max_delivery)
 MayCome past at (StrangerToClient from bytes) = (from ≢ client_end) × (from ≢ server_end)
 MayCome past at (StrangerToServer from bytes) = (from ≢ client_end) × (from ≢ server_end)
 MayCome past at what = Unit {0}

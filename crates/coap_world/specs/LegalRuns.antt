@@ -1,5 +1,5 @@
--- Legal runs of a few events, with the datagrams that the ends give out in them (RFC 7252, sections 4 and 5; RFC 7641; RFC 7959):
--- the laws of the whole world are laws of something. Each is the newest event, or datagram, first.
+-- Legal runs of a few events, with the datagrams that the ends give out in them (RFC 7252, sections 4 and 5; RFC 7641;
+-- RFC 7959): the laws of the whole world are laws of something. Each is the newest event, or datagram, first.
 use Rattle.std.specs.Prelude.{◌≡◌, ◌≤◌, ℕ, true, false, Option, Some, None, List, [], ◌∷◌, ◌++◌, codes}
 use Rattle.coap_types.specs.Past.{Sometime, all_of}
 use Rattle.coap_types.specs.declared.endpoint.Endpoint.{Endpoint}
@@ -17,7 +17,14 @@ use Rattle.coap_world.specs.Words.{AppliesFor, holds_at}
 
 -- words 0, blocks of 1,024 bytes, 4,194,303 changes a window
 abbrev pub with_delays : List Delay → Config
-with_delays delays = record { client_word = 0; client_szx = 6; server_word = 0; server_szx = 6; limit = 4194303; delays = delays }
+with_delays delays = record {
+  client_word = 0;
+  client_szx = 6;
+  server_word = 0;
+  server_szx = 6;
+  limit = 4194303;
+  delays = delays;
+}
 
 abbrev pub config : Config
 config = with_delays []
@@ -45,7 +52,8 @@ module _ {config : Config} {events : List Event} {given : List Given} (run : Run
   Reports reports = C.given (client_of (entries_of run.turns)) ≡ reports
 
   abbrev pub Holds : List (List ℕ) → ℕ → Option ℕ → List ℕ → Type 0
-  Holds path version format body = holds_at config path (entries_of run.turns) ≡ Some (record { version = version; format = format; body = body })
+  Holds path version format body = holds_at config path (entries_of run.turns)
+      ≡ Some (record { version = version; format = format; body = body })
 
 -- 8 bytes, all 0: the first token of a client of word 0
 abbrev pub token : List ℕ
@@ -72,7 +80,16 @@ hi = Sets t (Some plain) (codes "hi")
 -- The server holds `hi` at `t`; a client gets it (RFC 7252, section 5.2.1).
 
 abbrev pub get : Request
-get = record { method = Get; path = t; format = None; body = []; etags = []; if_match = []; if_none_match = false; accept = None }
+get = record {
+  method = Get;
+  path = t;
+  format = None;
+  body = [];
+  etags = [];
+  if_match = [];
+  if_none_match = false;
+  accept = None;
+}
 
 abbrev pub gets : List Event
 gets = event 9 (Deliver 1) ∷ event 5 (Deliver 0) ∷ event 0 TickClient ∷ event 0 (Calls get) ∷ event 0 hi ∷ []
@@ -91,7 +108,8 @@ pub record Gets : Type 0 where
 -- The same where the server meets want of memory: the turn is refused, the datagram comes again, and is answered.
 
 abbrev pub gets_again : List Event
-gets_again = event 9 (Deliver 1) ∷ event 5 (Deliver 0) ∷ event 5 (Deliver 0) ∷ event 0 TickClient ∷ event 0 (Calls get) ∷ event 0 hi ∷ []
+gets_again = event 9 (Deliver 1) ∷ event 5 (Deliver 0) ∷ event 5 (Deliver 0) ∷ event 0 TickClient ∷ event 0
+    (Calls get) ∷ event 0 hi ∷ []
 
 pub record GetsAgain : Type 0 where
   pub run : Runs config gets_again (from_server 5 client_end content_bytes ∷ from_client 0 get_bytes ∷ [])
@@ -104,7 +122,8 @@ abbrev pub not_found_bytes : List ℕ
 not_found_bytes = 0x68 ∷ 0x84 ∷ 0 ∷ 0 ∷ token
 
 abbrev pub MayComeTill : ℕ → Type 0
-MayComeTill last = (at : ℕ) → at ≤ last → Runs config (comes_at at get) (from_server at client_end not_found_bytes ∷ from_client 0 get_bytes ∷ [])
+MayComeTill last = (at : ℕ) → at ≤ last → Runs config (comes_at at get)
+    (from_server at client_end not_found_bytes ∷ from_client 0 get_bytes ∷ [])
 
 -- a stranger, and a change of what `t` holds
 
@@ -117,7 +136,16 @@ puts body = Sets t (Some plain) body
 -- A PUT that asks for version 2, where version 1 is held: 4.12, and nothing changes (RFC 7252, section 5.10.8.1).
 
 abbrev pub put : Request
-put = record { method = Put; path = t; format = Some json; body = codes "a"; etags = []; if_match = tag 2 ∷ []; if_none_match = false; accept = None }
+put = record {
+  method = Put;
+  path = t;
+  format = Some json;
+  body = codes "a";
+  etags = [];
+  if_match = tag 2 ∷ [];
+  if_none_match = false;
+  accept = None;
+}
 
 abbrev pub refusals : List Event
 refusals = event 9 (Deliver 1) ∷ event 5 (Deliver 0) ∷ event 0 TickClient ∷ event 0 (Calls put) ∷ event 0 hi ∷ []
@@ -138,8 +166,8 @@ pub record Refuses : Type 0 where
   pub reports : Reports run (reported (Failed precondition_failed) ∷ [])
   pub holds : Holds run t 1 (Some plain) (codes "hi")
 
--- The server answers requests to `t` 1,000 ms later: an Empty acknowledgement, a CON of its own with the response, and the Empty
--- acknowledgement of that (RFC 7252, section 5.2.2).
+-- The server answers requests to `t` 1,000 ms later: an Empty acknowledgement, a CON of its own with the response, and
+-- the Empty acknowledgement of that (RFC 7252, section 5.2.2).
 
 abbrev pub slow : Config
 slow = with_delays (record { path = t; ms = 1000 } ∷ [])
@@ -163,11 +191,12 @@ abbrev pub separate_bytes : List ℕ
 separate_bytes = 0x48 ∷ 0x45 ∷ 0 ∷ 0 ∷ token ++ 0x48 ∷ tag 1 ++ 0x80 ∷ 0xff ∷ codes "hi"
 
 pub record Defers : Type 0 where
-  pub run : Runs slow defers (from_client 1000 empty_ack ∷ from_server 1000 client_end separate_bytes ∷ from_server 0 client_end empty_ack ∷ from_client 0 get_bytes ∷ [])
+  pub run : Runs slow defers (from_client 1000 empty_ack ∷ from_server 1000 client_end separate_bytes ∷ from_server 0
+      client_end empty_ack ∷ from_client 0 get_bytes ∷ [])
   pub reports : Reports run (reported (Body (Some (tag 1)) (Some plain) (codes "hi")) ∷ [])
 
--- A POST comes four times from one endpoint in EXCHANGE_LIFETIME, is answered alike and applied once; 1 ms later it is new (RFC
--- 7252, section 4.5).
+-- A POST comes four times from one endpoint in EXCHANGE_LIFETIME, is answered alike and applied once; 1 ms later it is
+-- new (RFC 7252, section 4.5).
 
 abbrev pub log : List (List ℕ)
 log = codes "log" ∷ []
@@ -191,11 +220,12 @@ posted at = from_server at stranger posted_bytes
 pub record Repeats : Type 0 where
   pub run : Runs config repeats (posted 247000 ∷ posted 147000 ∷ posted 60000 ∷ posted 0 ∷ [])
   pub holds : Holds run log 2 (Some plain) (codes "xa")
-  pub later : Runs config (posts 247001 ∷ repeats) (posted 247001 ∷ posted 247000 ∷ posted 147000 ∷ posted 60000 ∷ posted 0 ∷ [])
+  pub later : Runs config (posts 247001 ∷ repeats)
+      (posted 247001 ∷ posted 247000 ∷ posted 147000 ∷ posted 60000 ∷ posted 0 ∷ [])
   pub holds_later : Holds later log 3 (Some plain) (codes "xaa")
 
--- A POST is never acknowledged: it goes out five times, and Timeout is reported. That says nothing of the server: the last copy
--- comes later, and is applied (RFC 7252, sections 4.2 and 4.8.2).
+-- A POST is never acknowledged: it goes out five times, and Timeout is reported. That says nothing of the server: the
+-- last copy comes later, and is applied (RFC 7252, sections 4.2 and 4.8.2).
 
 abbrev pub post : Request
 post = record get { method = Post; path = log; body = codes "a" }
@@ -221,7 +251,8 @@ changed_bytes = 0x68 ∷ 0x44 ∷ 0 ∷ 0 ∷ token
 
 pub record TimesOut : Type 0 where
   pub run : Runs config times_out
-      (from_server 130000 client_end changed_bytes ∷ from_client 30000 call_bytes ∷ from_client 14000 call_bytes ∷ from_client 6000 call_bytes ∷
+      (from_server 130000 client_end changed_bytes ∷ from_client 30000 call_bytes ∷ from_client 14000 call_bytes ∷
+      from_client 6000 call_bytes ∷
       from_client 2000 call_bytes ∷ from_client 0 call_bytes ∷ [])
   pub reports : Reports run (reported Timeout ∷ [])
   pub holds : Holds run log 2 (Some plain) (codes "xa")
@@ -229,7 +260,16 @@ pub record TimesOut : Type 0 where
 -- A stranger's DELETE, under the token of a call, is applied, and not for that call (RFC 7252, section 5.8.4).
 
 abbrev pub delete : Request
-delete = record { method = Delete; path = t; format = None; body = []; etags = []; if_match = []; if_none_match = false; accept = None }
+delete = record {
+  method = Delete;
+  path = t;
+  format = None;
+  body = [];
+  etags = [];
+  if_match = [];
+  if_none_match = false;
+  accept = None;
+}
 
 abbrev pub delete_bytes : ℕ → List ℕ
 delete_bytes id = 0x48 ∷ 4 ∷ 0 ∷ id ∷ token ++ 0xb1 ∷ codes "t"
@@ -238,7 +278,8 @@ abbrev pub deleted_bytes : List ℕ
 deleted_bytes = 0x68 ∷ 0x42 ∷ 0 ∷ 1 ∷ token
 
 abbrev pub interferes : List Event
-interferes = event 0 (StrangerToServer stranger (delete_bytes 1)) ∷ event 0 TickClient ∷ event 0 (Calls delete) ∷ event 0 hi ∷ []
+interferes = event 0 (StrangerToServer stranger (delete_bytes 1)) ∷ event 0 TickClient ∷ event 0
+    (Calls delete) ∷ event 0 hi ∷ []
 
 pub record Interferes : Type 0 where
   pub run : Runs config interferes (from_server 0 stranger deleted_bytes ∷ from_client 0 (delete_bytes 0) ∷ [])
@@ -257,4 +298,5 @@ abbrev pub pings : List Event
 pings = event 1 (StrangerToClient stranger ping) ∷ event 0 (StrangerToServer stranger ping) ∷ []
 
 abbrev pub Pings : Type 0
-Pings = Runs config pings (record { at = 1; from = client_end; packet = record { to = stranger; bytes = pong } } ∷ from_server 0 stranger pong ∷ [])
+Pings = Runs config pings (record { at = 1; from = client_end; packet = record { to = stranger; bytes = pong } } ∷
+    from_server 0 stranger pong ∷ [])

@@ -82,46 +82,65 @@ pub record OnClient (calls : List C.Call) (entries : List Entry) : Type 0 where
   pub outs : List Packet
   pub reports : List C.Reported
   pub is : entries
-      ≡ map OfClient (C.NextReport None ∷ (map (λ r. C.NextReport (Some r)) reports ++ C.NextOut None ∷ (map (λ p. C.NextOut (Some p)) outs ++ calls)))
+      ≡ map OfClient (C.NextReport None ∷ (map (λ r. C.NextReport (Some r)) reports
+      ++ C.NextOut None ∷ (map (λ p. C.NextOut (Some p)) outs ++ calls)))
 
 pub record OnServer (calls : List S.Call) (entries : List Entry) : Type 0 where
   pub outs : List Packet
   pub is : entries ≡ map OfServer (S.NextOut None ∷ (map (λ p. S.NextOut (Some p)) outs ++ calls))
 
 abbrev pub ClientTick : ℕ → ℕ → Bool → C.Call → Type 0
-ClientTick at word answer c = (below : _) × (turn : _) × (sent : _) × (token : _) × (kept : _) × (c ≡ C.Ticks at word below turn sent token kept answer)
+ClientTick at word answer c = (below : _) × (turn : _) × (sent : _) × (token : _) × (kept : _)
+    × (c ≡ C.Ticks at word below turn sent token kept answer)
 
 abbrev pub ServerTick : ℕ → ℕ → Bool → S.Call → Type 0
-ServerTick at word answer c = (below : _) × (room : _) × (due : _) × (passed : _) × (h : _) × (id : _) × (c ≡ S.Ticks at word below room due passed h id answer)
+ServerTick at word answer c = (below : _) × (room : _) × (due : _) × (passed : _) × (h : _) × (id : _)
+    × (c ≡ S.Ticks at word below room due passed h id answer)
 
 abbrev pub FeedsClient : ℕ → ℕ → Endpoint → List ℕ → C.Call → Type 0
-FeedsClient at word from bytes c = (up : _) × (settled : _) × (event : _) × (sent : _) × (token : _) × (kept : _) × (c ≡ C.Feeds at from bytes word up settled event sent token kept)
+FeedsClient at word from bytes c = (up : _) × (settled : _) × (event : _) × (sent : _) × (token : _) × (kept : _)
+    × (c ≡ C.Feeds at from bytes word up settled event sent token kept)
 
 abbrev pub FeedsServer : ℕ → ℕ → Endpoint → List ℕ → S.Call → Type 0
-FeedsServer at word from bytes c = (up : _) × (came : _) × (h : _) × (below : _) × (c ≡ S.Feeds at from bytes word up came h below)
+FeedsServer at word from bytes c = (up : _) × (came : _) × (h : _) × (below : _)
+    × (c ≡ S.Feeds at from bytes word up came h below)
 
 -- datagram n comes from the address of the end that gave it out to the end that it is addressed to
 abbrev pub Delivers : Given → ℕ → ℕ → Bool → List Entry → Type 0
 Delivers g at word refused entries =
-    ((g.packet.to ≡ server_end) × (calls : List S.Call) × IsOne (FeedsServer at word g.from g.packet.bytes) refused calls × OnServer calls entries)
-    ⊎ ((g.packet.to ≡ client_end) × (calls : List C.Call) × IsOne (FeedsClient at word g.from g.packet.bytes) refused calls × OnClient calls entries)
+    ((g.packet.to ≡ server_end) × (calls : List S.Call)
+    × IsOne (FeedsServer at word g.from g.packet.bytes) refused calls × OnServer calls entries)
+    ⊎ ((g.packet.to ≡ client_end) × (calls : List C.Call)
+    × IsOne (FeedsClient at word g.from g.packet.bytes) refused calls × OnClient calls entries)
 
 -- What an event makes of the ends. A cancel and a forgetting take no memory: they are one call, always.
 abbrev pub Makes : List Turn → ℕ → ℕ → What → Bool → List Entry → Type 0
-Makes past at word (Calls r) refused entries = (calls : List C.Call) × IsOne (λ c. (answer : _) × (c ≡ C.Calls at r answer)) refused calls × OnClient calls entries
-Makes past at word (Observes path) refused entries = (calls : List C.Call) × IsOne (λ c. (answer : _) × (c ≡ C.Observes at path answer)) refused calls × OnClient calls entries
+Makes past at word (Calls r) refused entries = (calls : List C.Call)
+    × IsOne (λ c. (answer : _) × (c ≡ C.Calls at r answer)) refused calls × OnClient calls entries
+Makes past at word (Observes path) refused entries = (calls : List C.Call)
+    × IsOne (λ c. (answer : _) × (c ≡ C.Observes at path answer)) refused calls × OnClient calls entries
 Makes past at word (Cancels number) refused entries =
-    (calls : List C.Call) × (IsOne (λ c. (answer : _) × (c ≡ C.Cancels at number answer)) false calls × (refused ≡ false)) × OnClient calls entries
+    (calls : List C.Call) × (IsOne (λ c. (answer : _) × (c ≡ C.Cancels at number answer)) false calls
+    × (refused ≡ false)) × OnClient calls entries
 Makes past at word (Forgets number) refused entries =
-    (calls : List C.Call) × (IsOne (λ c. (kept : _) × (answer : _) × (c ≡ C.Forgets number kept answer)) false calls × (refused ≡ false)) × OnClient calls entries
+    (calls : List C.Call) × (IsOne (λ c. (kept : _) × (answer : _) × (c ≡ C.Forgets number kept answer)) false calls
+    × (refused ≡ false)) × OnClient calls entries
 Makes past at word (Sets path format body) refused entries =
-    (calls : List S.Call) × IsOne (λ c. (answer : _) × (left : _) × (c ≡ S.Sets at path format body answer left)) refused calls × OnServer calls entries
-Makes past at word (Removes path) refused entries = (calls : List S.Call) × IsOne (λ c. (answer : _) × (left : _) × (c ≡ S.Removes at path answer left)) refused calls × OnServer calls entries
-Makes past at word TickClient refused entries = (calls : List C.Call) × AreTicks (ClientTick at word) refused calls × OnClient calls entries
-Makes past at word TickServer refused entries = (calls : List S.Call) × AreTicks (ServerTick at word) refused calls × OnServer calls entries
-Makes past at word (Deliver number) refused entries = (g : Given) × IsNumber number g past × Delivers g at word refused entries
-Makes past at word (StrangerToClient from bytes) refused entries = (calls : List C.Call) × IsOne (FeedsClient at word from bytes) refused calls × OnClient calls entries
-Makes past at word (StrangerToServer from bytes) refused entries = (calls : List S.Call) × IsOne (FeedsServer at word from bytes) refused calls × OnServer calls entries
+    (calls : List S.Call) × IsOne (λ c. (answer : _) × (left : _)
+    × (c ≡ S.Sets at path format body answer left)) refused calls × OnServer calls entries
+Makes past at word (Removes path) refused entries = (calls : List S.Call)
+    × IsOne (λ c. (answer : _) × (left : _) × (c ≡ S.Removes at path answer left)) refused calls
+    × OnServer calls entries
+Makes past at word TickClient refused entries = (calls : List C.Call) × AreTicks (ClientTick at word) refused calls
+    × OnClient calls entries
+Makes past at word TickServer refused entries = (calls : List S.Call) × AreTicks (ServerTick at word) refused calls
+    × OnServer calls entries
+Makes past at word (Deliver number) refused entries = (g : Given) × IsNumber number g past
+    × Delivers g at word refused entries
+Makes past at word (StrangerToClient from bytes) refused entries = (calls : List C.Call)
+    × IsOne (FeedsClient at word from bytes) refused calls × OnClient calls entries
+Makes past at word (StrangerToServer from bytes) refused entries = (calls : List S.Call)
+    × IsOne (FeedsServer at word from bytes) refused calls × OnServer calls entries
 
 -- The record of these events, the newest first: each turn is what its event makes, and each end stands in its law.
 pub record RecordOf (config : Config) (events : List Event) (turns : List Turn) : Type 0 where

@@ -1,5 +1,5 @@
--- A legal run in which an upload in blocks is refused by its precondition, with the datagrams that the ends give out in it
--- (RFC 7252, section 5.10.8.1; RFC 7959, section 2.5). Each is the newest event, or datagram, first.
+-- A legal run in which an upload in blocks is refused by its precondition, with the datagrams that the ends give out in
+-- it (RFC 7252, section 5.10.8.1; RFC 7959, section 2.5). Each is the newest event, or datagram, first.
 use Rattle.std.specs.Prelude.{ℕ, Some, None, List, [], ◌∷◌, ◌++◌, codes}
 use Rattle.coap_ends.specs.ClientSide.ClientTrace.{Request, Failed}
 use Rattle.coap_world.specs.Events.{client_end, Calls, TickClient, Deliver, Event}
@@ -9,8 +9,8 @@ use Rattle.coap_world.specs.LegalRuns.{precondition_failed}
 use Rattle.coap_world.specs.BlockRuns.{key, by_16, new_body, answer_bytes}
 use Rattle.coap_world.specs.LateRuns.{Applied, ChangesOnly, continue}
 
--- The server holds version 1 at `t`. A client with blocks of 16 bytes puts 17 bytes there, with an If-Match of version 2: 2.31 to
--- the first block, and 4.12 to the last. The upload is not applied, and what is held stays as it is.
+-- The server holds version 1 at `t`. A client with blocks of 16 bytes puts 17 bytes there, with an If-Match of version
+-- 2: 2.31 to the first block, and 4.12 to the last. The upload is not applied, and what is held stays as it is.
 
 abbrev pub guarded : Request
 guarded = record put { format = None; body = new_body; if_match = tag 2 ∷ [] }

@@ -33,8 +33,10 @@ module _ (config : Config) where
 
   -- Of two values of one observation the later one has the later version.
   abbrev pub ValuesRise : List Entry → Type 0
-  ValuesRise all = Always (λ past e. (number : ℕ) (first second : Option (List ℕ)) → ShowsValue number second past e → Sometime (ShowsValue number first) past → AreRising first second) all
+  ValuesRise all = Always (λ past e. (number : ℕ) (first second : Option (List ℕ)) → ShowsValue number second past e
+      → Sometime (ShowsValue number first) past → AreRising first second) all
 
   -- What a path holds, at any position, its entity-tag names.
   abbrev pub HeldAreNamed : List Entry → Type 0
-  HeldAreNamed all = Always (λ past e. (path : List (List ℕ)) (held : Held) → last_at config path (e ∷ past) ≡ Some held → Names held.version (Some (tag_of held.version))) all
+  HeldAreNamed all = Always (λ past e. (path : List (List ℕ)) (held : Held) → last_at config path (e ∷ past) ≡ Some held
+      → Names held.version (Some (tag_of held.version))) all

@@ -1,4 +1,5 @@
--- How the server serves what its message layer hands up (RFC 7252, sections 5.2, 5.8 and 5.10.8; RFC 7959, section 2.5).
+-- How the server serves what its message layer hands up (RFC 7252, sections 5.2, 5.8 and 5.10.8; RFC 7959, section
+-- 2.5).
 use Rattle.std.specs.Prelude.{◌≡◌, true, false, List, ◌∷◌}
 use Rattle.coap_types.specs.Past.{Sometime, Always}
 use Rattle.coap_resource.specs.RequestOptions.{precondition_fails}
@@ -22,7 +23,8 @@ module _ (config : Config) where
   -- here the request is handed up, or the last block of its body, and this is what is asked of the store
   abbrev pub BroughtAt : Asked → Question → List Entry → Entry → Type 0
   BroughtAt a q past (OfClient c) = ⊥
-  BroughtAt a q past (OfServer c) = Brings config.limit config.server_szx config.server_word (server_trace config past) c a q
+  BroughtAt a q past (OfServer c) = Brings config.limit config.server_szx config.server_word
+      (server_trace config past) c a q
 
   -- A request that is handed up and asks whole is served here, unless it has to wait: then it waits.
   abbrev pub MethodsAt : List Entry → Entry → Type 0
@@ -37,10 +39,13 @@ module _ (config : Config) where
   pub record ServesRight (past : List Entry) (e : Entry) : Type 0 where
     -- What is served came in a datagram, here or before, and is what that asks, with the whole body of its blocks.
     pub brought : (x : Serving) → ServesAt config x past e → Sometime (BroughtAt x.asked x.question) (e ∷ past)
-    -- Its reply, and what the store holds then, are those of the table of the methods, for what it held, at that moment;
-    pub table : (x : Serving) → ServesAt config x past e → R.Serves (own past).store (own (e ∷ past)).clock x.question x.reply (own (e ∷ past)).store
+    -- Its reply, and what the store holds then, are those of the table of the methods, for what it held, at that
+    -- moment;
+    pub table : (x : Serving) → ServesAt config x past e
+        → R.Serves (own past).store (own (e ∷ past)).clock x.question x.reply (own (e ∷ past)).store
     -- where it is applied, its preconditions hold of what its path holds.
-    pub preconditions : (x : Serving) → ServesAt config x past e → is_applied x.reply.code ≡ true → precondition_fails (holds_at config x.question.path past) x.question.options ≡ false
+    pub preconditions : (x : Serving) → ServesAt config x past e → is_applied x.reply.code ≡ true
+        → precondition_fails (holds_at config x.question.path past) x.question.options ≡ false
     pub methods : MethodsAt past e
     pub uploads : UploadsAt past e
 

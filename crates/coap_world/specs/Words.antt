@@ -1,4 +1,5 @@
--- What a record says: what is called, sent and reported, which request is served and applied, and what the server holds.
+-- What a record says: what is called, sent and reported, which request is served and applied, and what the server
+-- holds.
 use Rattle.std.specs.Prelude.{◌≡◌, ℕ, true, Option, Some, List}
 use Rattle.coap_resource.specs.Content.{Held}
 use Rattle.coap_ends.specs.ClientSide.ClientTrace.{Request, Reported}
@@ -26,14 +27,16 @@ module _ (config : Config) where
 
   -- the client sent a request of this call under this token
   abbrev pub SentFor : ℕ → List ℕ → List Entry → Type 0
-  SentFor number token all = (x : Sending) × WasSent config.client_szx x (client_of all) × (call_of x.operation ≡ Some number) × (x.token ≡ token)
+  SentFor number token all = (x : Sending) × WasSent config.client_szx x (client_of all)
+      × (call_of x.operation ≡ Some number) × (x.token ≡ token)
 
   -- the server serves this request here
   abbrev pub ServesAt : Serving → List Entry → Entry → Type 0
   ServesAt x past (OfClient c) = ⊥
   ServesAt x past (OfServer c) = serving (own_of config.limit config.server_szx (server_trace config past)) c ≡ Some x
 
-  -- A request from the client's address, which is applied here, belongs to the call for which the client sent its token.
+  -- A request from the client's address, which is applied here, belongs to the call for which the client sent its
+  -- token.
   pub record AppliesFor (number : ℕ) (all : List Entry) (past : List Entry) (e : Entry) : Type 0 where
     pub request : Serving
     pub here : ServesAt request past e

@@ -16,7 +16,9 @@ ghost use Rattle.coap_world.specs.Held.{EachHeld, EachValid, EachValue};
 ghost use Rattle.coap_world.specs.Holds.{HoldsChanges, ChangesOwned};
 ghost use Rattle.coap_world.specs.Hops.{hops_of, across, TakenAtOnce};
 ghost use Rattle.coap_world.specs.Legal.{Legal};
-ghost use Rattle.coap_world.specs.LegalEvents.{NoneRuns, NotAfter, never_given, NoneFrom, CallsMay, ObservesMay, EndsMay, SetsMay, RemovesMay, TicksMay, StrangersMay, DeliveriesMay, NoneFalls, NoneOver, NoneLonger, NoneBeyond};
+ghost use Rattle.coap_world.specs.LegalEvents.{NoneRuns, NotAfter, never_given, NoneFrom, CallsMay, ObservesMay};
+ghost use Rattle.coap_world.specs.LegalEvents.{EndsMay, SetsMay, RemovesMay, TicksMay, StrangersMay, DeliveriesMay};
+ghost use Rattle.coap_world.specs.LegalEvents.{NoneFalls, NoneOver, NoneLonger, NoneBeyond};
 ghost use Rattle.coap_world.specs.LegalRuns.{MayComeTill};
 ghost use Rattle.coap_world.specs.Local.{LocalRight};
 ghost use Rattle.coap_world.specs.Noticed.{AllNoticed};
@@ -39,9 +41,11 @@ pub fn hops_law()
         ≡ servers.layer_of config.limit config.server_szx config.server_word (server_trace config (entries_of turns)) }
     // In a legal run they stand in the law of two layers and the datagrams between them.
     ensures channel { (config : Config) (events : List Event) (turns : List Turn) → RecordOf config events turns
-        → Legal config turns → ChannelLaw config.client_word config.server_word client_end server_end (hops_of config turns) }
+        → Legal config turns → ChannelLaw config.client_word config.server_word client_end server_end
+        (hops_of config turns) }
     ensures back { (config : Config) (events : List Event) (turns : List Turn) → RecordOf config events turns
-        → Legal config turns → ChannelLaw config.server_word config.client_word server_end client_end (across (hops_of config turns)) }
+        → Legal config turns → ChannelLaw config.server_word config.client_word server_end client_end
+        (across (hops_of config turns)) }
     // What an end gives out in a turn was sent by its layer in that turn, at its moment.
     ensures at_once { (config : Config) (events : List Event) (turns : List Turn) → RecordOf config events turns
         → Legal config turns → TakenAtOnce (hops_of config turns) turns }
@@ -49,11 +53,12 @@ pub fn hops_law()
 
 /// What the server's changes are, whatever the events are.
 pub fn changes_law()
-    // Each path holds its last change, which says what it holds, and the versions are 1, 2, 3 and so on (RFC 7252, section 5.10.6).
+    // Each path holds its last change, which says what it holds, and the versions are 1, 2, 3 and so on (RFC 7252,
+    // section 5.10.6).
     ensures holds { (config : Config) (events : List Event) (turns : List Turn) → RecordOf config events turns
         → Legal config turns → HoldsChanges config (entries_of turns) }
-    // A local change does what it answers: it puts, or removes, by one change, where the store has no reason to refuse, or nothing
-    // changes.
+    // A local change does what it answers: it puts, or removes, by one change, where the store has no reason to refuse,
+    // or nothing changes.
     ensures local { (config : Config) (events : List Event) (turns : List Turn) → RecordOf config events turns
         → Legal config turns → LocalRight config (entries_of turns) }
     // Each change is a local one, or that of the request to its path that is applied there (RFC 7252, section 5.8).
@@ -69,17 +74,17 @@ pub fn requests_law()
     // What comes from the client's address is a request that the client sent (RFC 7252, sections 4.2 and 5.2).
     ensures came { (config : Config) (events : List Event) (turns : List Turn) → RecordOf config events turns
         → Legal config turns → CamesFrom config (entries_of turns) }
-    // What is served is what its datagram asks, by the table of the methods, and applied only where its preconditions hold;
-    // and each request that asks whole, or whose last block makes a body whole, is served or waits (RFC 7252, sections 5.2.2, 5.8
-    // and 5.10.8; RFC 7959, section 2.5).
+    // What is served is what its datagram asks, by the table of the methods, and applied only where its preconditions
+    // hold; and each request that asks whole, or whose last block makes a body whole, is served or waits (RFC 7252,
+    // sections 5.2.2, 5.8 and 5.10.8; RFC 7959, section 2.5).
     ensures served { (config : Config) (events : List Event) (turns : List Turn) → RecordOf config events turns
         → Legal config turns → AllServed config (entries_of turns) }
     // What is applied for the client's address belongs to a call (RFC 7252, section 5.3.1).
     ensures belongs { (config : Config) (events : List Event) (turns : List Turn) → RecordOf config events turns
         → Legal config turns → EachBelongs config (entries_of turns) }
-    // What is applied for a call has its method, path and preconditions, and its format, and does to that path what the call
-    // asks, with all of its body, whether that came in one message or in blocks (RFC 7252, sections 5.8 and 5.10.8; RFC 7959,
-    // section 2.5).
+    // What is applied for a call has its method, path and preconditions, and its format, and does to that path what the
+    // call asks, with all of its body, whether that came in one message or in blocks (RFC 7252, sections 5.8 and
+    // 5.10.8; RFC 7959, section 2.5).
     ensures whole { (config : Config) (events : List Event) (turns : List Turn) → RecordOf config events turns
         → Legal config turns → AppliedWhole config (entries_of turns) }
     // For each call at most one request is applied (RFC 7252, section 4.5; RFC 7959, section 2.5).
@@ -89,7 +94,8 @@ pub fn requests_law()
 
 /// Whose responses the client takes in a legal run, and what is taken of its reports.
 pub fn answers_law()
-    // Each answer was made by the server before, for the client, under that token (RFC 7252, section 5.3.2; RFC 7641, section 3.2).
+    // Each answer was made by the server before, for the client, under that token (RFC 7252, section 5.3.2; RFC 7641,
+    // section 3.2).
     ensures answered { (config : Config) (events : List Event) (turns : List Turn) → RecordOf config events turns
         → Legal config turns → AllAnswered config (entries_of turns) }
     // .. and so was each notification (RFC 7641, section 3.2).
@@ -105,9 +111,9 @@ pub fn legal_law()
     // A datagram may come to 100,000 ms after it was given out, and no later (MAX_LATENCY, RFC 7252, section 4.8.2).
     ensures comes { MayComeTill max_latency }
     ensures late { NotAfter max_latency }
-    // Each kind of event may happen with numbers in range, at a moment that is not before the last: a call, an observation, its
-    // cancel and its end, a local change and a removal, ticks, a datagram of any stranger, and each datagram that was given
-    // out to an end.
+    // Each kind of event may happen with numbers in range, at a moment that is not before the last: a call, an
+    // observation, its cancel and its end, a local change and a removal, ticks, a datagram of any stranger, and each
+    // datagram that was given out to an end.
     ensures calls { CallsMay }
     ensures observes { ObservesMay }
     ensures ends { EndsMay }
@@ -129,15 +135,15 @@ pub fn legal_law()
 
 /// What the client reports in a legal run.
 pub fn reports_law()
-    // A body was held by the server at that path, under the version of its ETag, between the call and the report (RFC 7252,
-    // sections 5.8.1 and 5.10.6; RFC 7959, section 2.4).
+    // A body was held by the server at that path, under the version of its ETag, between the call and the report (RFC
+    // 7252, sections 5.8.1 and 5.10.6; RFC 7959, section 2.4).
     ensures held { (config : Config) (events : List Event) (turns : List Turn) → RecordOf config events turns
         → Legal config turns → EachHeld config (entries_of turns) }
     // .. so was what is valid still, by an ETag of the call (RFC 7252, sections 5.9.1.3 and 5.10.6.2) ..
     ensures valid { (config : Config) (events : List Event) (turns : List Turn) → RecordOf config events turns
         → Legal config turns → EachValid config (entries_of turns) }
-    // .. and a value of an observation, between the observation's start and the report (RFC 7641, sections 3.2 and 4.4; RFC 7959,
-    // section 2.6).
+    // .. and a value of an observation, between the observation's start and the report (RFC 7641, sections 3.2 and 4.4;
+    // RFC 7959, section 2.6).
     ensures value { (config : Config) (events : List Event) (turns : List Turn) → RecordOf config events turns
         → Legal config turns → EachValue config (entries_of turns) }
     // Where success is reported, a request of the call was applied between call and report (RFC 7252, section 5.8).
@@ -160,13 +166,13 @@ pub fn observations_law()
 
 /// What a client and a server come to together, however the datagrams between them are lost, repeated and delayed.
 pub fn agreement()
-    // Each body, value and valid representation that is reported was held at its path between call and report; each request
-    // body is applied whole, at most once, exactly once where success is reported and never where a failure is (RFC
-    // 7252, sections 4.2, 4.5, 5.3.2, 5.8 and 5.9; RFC 7641; RFC 7959).
+    // Each body, value and valid representation that is reported was held at its path between call and report; each
+    // request body is applied whole, at most once, exactly once where success is reported and never where a failure is
+    // (RFC 7252, sections 4.2, 4.5, 5.3.2, 5.8 and 5.9; RFC 7641; RFC 7959).
     ensures agrees { (config : Config) (events : List Event) (turns : List Turn) → RecordOf config events turns
         → Legal config turns → Agrees config (entries_of turns) }
-    // A GET makes at most 16,384 exchanges, in 4 passes over the 4,096 blocks of the longest body, an upload at most 4,096, and each
-    // other call one (RFC 7959, sections 2.4 and 2.5; profile).
+    // A GET makes at most 16,384 exchanges, in 4 passes over the 4,096 blocks of the longest body, an upload at most
+    // 4,096, and each other call one (RFC 7959, sections 2.4 and 2.5; profile).
     ensures bounded { (config : Config) (events : List Event) (turns : List Turn) → RecordOf config events turns
         → Legal config turns → AreBounded config (entries_of turns) }
 {}

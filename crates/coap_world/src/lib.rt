@@ -1,4 +1,5 @@
-//! A client and a server of CoAP together, and the datagrams between them (RFC 7252): what holds of every run, and a run.
+//! A client and a server of CoAP together, and the datagrams between them (RFC 7252): what holds of every run, and a
+//! run.
 #![tactic(auto)]
 
 mod laws;

@@ -41,9 +41,11 @@ pub fn witness_law()
     ensures observed { Observed }
     // A cancel crosses a notification, which gives no value (RFC 7641, section 3.6).
     ensures crosses { Crosses }
-    // A client forgets an observation, and rejects the next notification, which ends the registration (RFC 7641, section 3.6).
+    // A client forgets an observation, and rejects the next notification, which ends the registration (RFC 7641,
+    // section 3.6).
     ensures rejects { Rejects }
-    // A notification is lost, and its copy comes before the answer to the registration (RFC 7641, sections 3.4 and 4.5).
+    // A notification is lost, and its copy comes before the answer to the registration (RFC 7641, sections 3.4 and
+    // 4.5).
     ensures reorders { Reorders }
     // A PUT sends its body in two blocks, and is applied whole (RFC 7959, section 2.5).
     ensures uploads { Uploads }
@@ -55,13 +57,16 @@ pub fn witness_law()
     ensures repeats { Repeats }
     // A POST is applied after its Timeout was reported (RFC 7252, sections 4.2 and 4.8.2).
     ensures times_out { TimesOut }
-    // An upload waits until no block of a failed one can come, and is applied alone (RFC 7252, section 4.8.2; RFC 7959, section 2.5).
+    // An upload waits until no block of a failed one can come, and is applied alone (RFC 7252, section 4.8.2; RFC 7959,
+    // section 2.5).
     ensures holds_back { HoldsBack }
-    // A late block completes an upload after its Timeout, behind a PUT in one message (RFC 7252, section 4.8.2; RFC 7959, section 2.5).
+    // A late block completes an upload after its Timeout, behind a PUT in one message (RFC 7252, section 4.8.2; RFC
+    // 7959, section 2.5).
     ensures completes_late { CompletesLate }
     // A stranger's DELETE, under the token of a call, is applied, and not for that call (RFC 7252, section 5.8.4).
     ensures interferes { Interferes }
-    // A stranger's NON and local changes are all that a window takes: the next change is refused (RFC 7641, section 4.4).
+    // A stranger's NON and local changes are all that a window takes: the next change is refused (RFC 7641, section
+    // 4.4).
     ensures exhausts { Exhausts }
     // A stranger pings each end, which answers with a Reset (RFC 7252, section 4.3).
     ensures pings { Pings }

@@ -17,10 +17,12 @@ module _ {E : Type 0} where
   every_in P (x ∷ xs) e h (inr i) = every_in P xs e h.1 i
   every_in P [] e h i = absurd i
 
-  pub always_front : (P : List E → E → Type 0) (xs rest : List E) → ((p : List E) (e : E) → IsIn e xs → P p e) → Always P rest → Always P (xs ++ rest)
+  pub always_front : (P : List E → E → Type 0) (xs rest : List E) → ((p : List E) (e : E) → IsIn e xs → P p e)
+      → Always P rest → Always P (xs ++ rest)
   always_front P [] rest f h = h
   always_front P (x ∷ xs) rest f h = (f (xs ++ rest) x (inl refl), always_front P xs rest (λ p e i. f p e (inr i)) h)
 
-  pub always_map : (P Q : List E → E → Type 0) → ((p : List E) (e : E) → P p e → Q p e) → (t : List E) → Always P t → Always Q t
+  pub always_map : (P Q : List E → E → Type 0) → ((p : List E) (e : E) → P p e → Q p e) → (t : List E) → Always P t
+      → Always Q t
   always_map P Q f [] h = tt
   always_map P Q f (e ∷ t) h = (f t e h.0, always_map P Q f t h.1)

@@ -24,10 +24,13 @@ use Rattle.coap_ends.specs.ClientSide.ClientBounds.{registers, cancels, BothDo, 
 use Rattle.coap_ends.proofs.ClientSide.ClientTokens.{one_cancel}
 
 -- a registration is asked for where it is the first that waits
-first_waits : (s : Own) (now : ℕ) (told : Option Event) (mo : Move s now told) (n : ℕ) (path : List (List ℕ)) → (left_by s now told mo).deed ≡ Asks (Registering n path) → (queue : List Operation) × (s.queue ≡ Registering n path ∷ queue)
+first_waits : (s : Own) (now : ℕ) (told : Option Event) (mo : Move s now told) (n : ℕ) (path : List (List ℕ))
+    → (left_by s now told mo).deed ≡ Asks (Registering n path)
+    → (queue : List Operation) × (s.queue ≡ Registering n path ∷ queue)
 first_waits s now told (mv.rests un) n path h = absurd (cc h)
 first_waits s now told (mv.copies quiet_so) n path h = absurd (cc h)
-first_waits s now told (mv.starts_next op queue none rest first quiet_so) n path h = let e : op ≡ Registering n path = cc h in (queue, first ∙ ap (λ o. o ∷ queue) e)
+first_waits s now told (mv.starts_next op queue none rest first quiet_so) n path h = let e : op
+    ≡ Registering n path = cc h in (queue, first ∙ ap (λ o. o ∷ queue) e)
 first_waits s now told (mv.fetches k none rest quiet_so) n path h = absurd (cc h)
 first_waits s now told (mv.goes_on k r tr next a hears runs asks) n path h = absurd (cc h)
 first_waits s now told (mv.is_done k r tr final rep a hears runs ends_so) n path h = absurd (cc h)
@@ -68,7 +71,8 @@ the_cancel Dropped n is = absurd (cc is)
 
 module _ (szx : ℕ) where
   abbrev Waits : List Call → Sending → Type 0
-  Waits t y = (n : ℕ) (path : List (List ℕ)) → y.operation ≡ Registering n path → (queue : List Operation) × ((own_of szx t).queue ≡ Registering n path ∷ queue)
+  Waits t y = (n : ℕ) (path : List (List ℕ)) → y.operation ≡ Registering n path
+      → (queue : List Operation) × ((own_of szx t).queue ≡ Registering n path ∷ queue)
 
   waits_by : (t : List Call) (c : Call) (y : Sending) (k : Turned szx t c) → sends (own_of szx t) c ≡ Some y → Waits t y
   waits_by t c y k h n path op_is = by k.closes
@@ -76,17 +80,22 @@ module _ (szx : ℕ) where
       e : Effect
       e = left_by (at k.now (own_of szx t)) (max (own_of szx t).clock k.now) k.told k.move
 
-      by : Closing (max (own_of szx t).clock k.now) e k.token → (queue : List Operation) × ((own_of szx t).queue ≡ Registering n path ∷ queue)
+      by : Closing (max (own_of szx t).clock k.now) e k.token
+          → (queue : List Operation) × ((own_of szx t).queue ≡ Registering n path ∷ queue)
       by (quiet q none own_same report_same) = let z : Some y ≡ None = sym h ∙ (k.sends_is ∙ none) in absurd (cc z)
       by (is_refused op why asks given none all) = let z : Some y ≡ None = sym h ∙ (k.sends_is ∙ none) in absurd (cc z)
       by (goes_out op key asks given sends_it own_same report_same) =
-          let same : sending_of e op key ≡ y = (let z : Some (sending_of e op key) ≡ Some y = sym sends_it ∙ (sym k.sends_is ∙ h) in cc z) in
+          let same : sending_of e op key ≡ y = (let z : Some (sending_of e op key) ≡ Some y = sym sends_it
+          ∙ (sym k.sends_is ∙ h) in cc z) in
           let is : op ≡ Registering n path = ap (λ (z : Sending). z.operation) same ∙ op_is in
-          first_waits (at k.now (own_of szx t)) (max (own_of szx t).clock k.now) k.told k.move n path (asks ∙ ap Asks is)
+          first_waits (at k.now (own_of szx t)) (max (own_of szx t).clock k.now) k.told k.move n path
+          (asks ∙ ap Asks is)
 
   waits : (t : List Call) (c : Call) (y : Sending) → sends (own_of szx t) c ≡ Some y → Waits t y
-  waits t (Feeds now from bytes w up settled event sent token was) y h = waits_by t _ y (fed_turned szx t now from bytes w up settled event sent token was) h
-  waits t (Ticks now w below turn sent token was answer) y h = waits_by t _ y (ticked_turned szx t now w below turn sent token was answer) h
+  waits t (Feeds now from bytes w up settled event sent token was) y h =
+      waits_by t _ y (fed_turned szx t now from bytes w up settled event sent token was) h
+  waits t (Ticks now w below turn sent token was answer) y h =
+      waits_by t _ y (ticked_turned szx t now w below turn sent token was answer) h
   waits t (Calls now r answer) y h = absurd (cc h)
   waits t (Observes now path answer) y h = absurd (cc h)
   waits t (Cancels now n answer) y h = absurd (cc h)
@@ -96,13 +105,15 @@ module _ (szx : ℕ) where
   waits t (Asked answer) y h = absurd (cc h)
 
   -- what waits was not sent
-  registered_once : (t : List Call) (c : Call) → ClientRows szx t → (x y : Sending) → sends (own_of szx t) c ≡ Some y → WasSent szx x t → BothDo registers x y → ⊥
+  registered_once : (t : List Call) (c : Call) → ClientRows szx t → (x y : Sending) → sends (own_of szx t) c ≡ Some y
+      → WasSent szx x t → BothDo registers x y → ⊥
   registered_once t c rows x y is was h =
       let a = the_registration x.operation h.0 h.1 in
       let b = the_registration y.operation h.0 h.2 in
       let q = waits t c y is h.0 b.0 b.1 in
       let z : Turns szx t = turns szx t rows in
-      let w : Rises z.low (Registering h.0 b.0 ∷ q.0) (own_of szx t).taken = subst (λ ops. Rises z.low ops (own_of szx t).taken) q.1 z.waits in
+      let w : Rises z.low (Registering h.0 b.0 ∷ q.0) (own_of szx t).taken =
+      subst (λ ops. Rises z.low ops (own_of szx t).taken) q.1 z.waits in
       let low = w.0 in
       let less = z.sent x h.0 was (ap turn_of a.1) in
       omega (arith, low, less)
@@ -111,6 +122,8 @@ pub ask_once : (server : Endpoint) (szx word : ℕ) (t : List Call) → ClientLa
 ask_once server szx word [] law = tt
 ask_once server szx word (c ∷ t) law = (here, ask_once server szx word t (client_back server szx word (c ∷ []) t law))
   where
-    here : (x y : Sending) → sends (own_of szx t) c ≡ Some y → WasSent szx x t → (BothDo registers x y ⊎ BothDo cancels x y) → ⊥
+    here : (x y : Sending) → sends (own_of szx t) c ≡ Some y → WasSent szx x t
+        → (BothDo registers x y ⊎ BothDo cancels x y) → ⊥
     here x y is was (inl h) = registered_once szx t c law.rows.1 x y is was h
-    here x y is was (inr h) = one_cancel szx server word t c law y x h.0 is (the_cancel y.operation h.0 h.2) was (the_cancel x.operation h.0 h.1)
+    here x y is was (inr h) = one_cancel szx server word t c law y x h.0 is (the_cancel y.operation h.0 h.2) was
+        (the_cancel x.operation h.0 h.1)

@@ -1,4 +1,5 @@
--- More requests than all passes over the longest body have blocks are sent only where a body is heard to go on behind that.
+-- More requests than all passes over the longest body have blocks are sent only where a body is heard to go on behind
+-- that.
 use Rattle.std.proofs.Common.{◌≡◌, ◌≤◌, ◌⊎◌, inl, inr, ℕ, ◌+◌, ◌*◌, Bool, true, false, cond, nat_lt}
 use Rattle.std.proofs.Common.{Some, List, [], ◌∷◌, length, refl, ap, subst, ◌∙◌, arith}
 use Rattle.std.proofs.lemmas.Bool.{ltb-true}
@@ -30,7 +31,8 @@ use Rattle.coap_ends.proofs.ClientSide.ClientBounds.{Within, sent_or_not, the_ca
 use Rattle.coap_ends.proofs.ClientSide.ClientOneByOne.{sent_now}
 use Rattle.coap_ends.proofs.ClientSide.ClientOrigins.{Origin, kept, begins, follows, origin}
 use Rattle.coap_ends.proofs.ClientSide.ClientPieces.{answers_last}
-use Rattle.coap_ends.proofs.ClientSide.TransferSteps.{FetchWithin, asks_more, at_gathered, size_least, upload_bound, lt_not}
+use Rattle.coap_ends.proofs.ClientSide.TransferSteps.{FetchWithin, asks_more, at_gathered, size_least, upload_bound}
+use Rattle.coap_ends.proofs.ClientSide.TransferSteps.{lt_not}
 
 -- all passes
 abbrev pub all_passes : ℕ
@@ -51,7 +53,8 @@ module _ (szx : ℕ) where
     pub code : message.code ≡ content
     pub part : GoesBeyond message
 
-last_asks : (f : FetchState) (m : Message) (n num size : ℕ) → part f m ≡ verdict.Ask num size → FetchWithin f n → n ≡ 16384 → GoesBeyond m
+last_asks : (f : FetchState) (m : Message) (n num size : ℕ) → part f m ≡ verdict.Ask num size → FetchWithin f n
+    → n ≡ 16384 → GoesBeyond m
 last_asks f m n num size h w is =
     let k = part_asks f m num size h in
     let b : Block = k.0 in
@@ -69,37 +72,57 @@ few_blocks false n h = omega (arith, h)
 
 module _ (szx : ℕ) (p q r : Request) (m : Message) (n : ℕ) (full : n ≡ 16384) where
   -- a GET that goes on
-  goes_on : (old : Transfer) (f : FetchState) → FetchNext old m f → Within szx p old n → Within szx q (Fetches f) (1 + n) → (m.code ≡ content) × GoesBeyond m
+  goes_on : (old : Transfer) (f : FetchState) → FetchNext old m f → Within szx p old n
+      → Within szx q (Fetches f) (1 + n) → (m.code ≡ content) × GoesBeyond m
   goes_on old f next w v = elim next.next [
     | inl again ↦ (
-        let k : FetchWithin (F.after next.before (tag_in m) m.payload verdict.Again) (1 + n) = subst (λ z. FetchWithin z (1 + n)) again v.1 in
+        let k : FetchWithin (F.after next.before (tag_in m) m.payload verdict.Again) (1 + n) =
+        subst (λ z. FetchWithin z (1 + n)) again v.1 in
         let few : 16 * (1 + n) ≤ 65536 * (next.before.restarts + 1) + 0 + 16 = k.few in
         let restarts : next.before.restarts + 1 ≤ 3 = k.restarts in
         absurd (omega (arith, full, few, restarts)))
-    | inr more ↦ (next.code, last_asks next.before m n more.0 more.1 more.2 (subst (λ z. Within szx p z n) next.old_is w).1 full)
+    | inr more ↦ (
+      next.code,
+      last_asks next.before m n more.0 more.1 more.2
+          (subst (λ z. Within szx p z n) next.old_is w).1 full,
+    )
   ]
 
   -- no other call sends so many
-  follows_on : (old tr : Transfer) → answer r old m ≡ calls.Asks tr → Within szx p old n → length q.body ≤ 65536 → Within szx q tr (1 + n) → (m.code ≡ content) × GoesBeyond m
+  follows_on : (old tr : Transfer) → answer r old m ≡ calls.Asks tr → Within szx p old n → length q.body ≤ 65536
+      → Within szx q tr (1 + n) → (m.code ≡ content) × GoesBeyond m
   follows_on old (Fetches f) asks w small v = goes_on old f (fetch_next r old m f asks) w v
   follows_on old (Uploads u) asks w small v =
-      let few = few_blocks (nat_lt (size_of szx) (length q.body)) (1 + n) (upload_bound szx q.body u (1 + n) small v.1) in absurd (omega (arith, full, few))
+      let few = few_blocks (nat_lt (size_of szx) (length q.body)) (1 + n)
+      (upload_bound szx q.body u (1 + n) small v.1) in absurd (omega (arith, full, few))
   follows_on old Single asks w small v = absurd (omega (arith, full, v))
 
 module _ (szx : ℕ) where
-  module _ (t : List Call) (c : Call) (k : ℕ) (rows : ClientRows szx (c ∷ t)) (answers : (m : Message) → hears c ≡ Some m → Answers szx t c m) (full : requests szx k t ≡ 16384) where
-    by_origin : (x : Sending) → sends (own_of szx t) c ≡ Some x → (r : Request) (tr : Transfer) → x.operation ≡ Calling k r tr → (own_of szx (c ∷ t)).running ≡ Some (Calling k r tr) → Origin szx t c k r tr → HearsBeyond szx k t c
+  module _ (t : List Call) (c : Call) (k : ℕ) (rows : ClientRows szx (c ∷ t))
+      (answers : (m : Message) → hears c ≡ Some m → Answers szx t c m) (full : requests szx k t ≡ 16384) where
+    by_origin : (x : Sending) → sends (own_of szx t) c ≡ Some x → (r : Request) (tr : Transfer)
+        → x.operation ≡ Calling k r tr → (own_of szx (c ∷ t)).running ≡ Some (Calling k r tr) → Origin szx t c k r tr
+        → HearsBeyond szx k t c
     by_origin x is r tr op runs (kept before none) = absurd (cc (is, none))
-    by_origin x is r tr op runs (begins queue waits) = let none = started szx t rows.1 k r tr queue waits in absurd (omega (arith, none, full))
+    by_origin x is r tr op runs (begins queue waits) = let none =
+        started szx t rows.1 k r tr queue waits in absurd (omega (arith, none, full))
     by_origin x is r tr op runs (follows old m y before heard asks sends_it op_is) =
         let g = runs_within szx t rows.1 k r old before in
         let v = runs_within szx (c ∷ t) rows k r tr runs in
-        let one : one_sent k (sends (own_of szx t) c) ≡ 1 = ap (one_sent k) is ∙ (ap (λ o. one_of k (call_of o)) op ∙ ap (λ b. cond b 1 0) (number_self k)) in
+        let one : one_sent k (sends (own_of szx t) c) ≡ 1 = ap (one_sent k) is
+        ∙ (ap (λ o. one_of k (call_of o)) op ∙ ap (λ b. cond b 1 0) (number_self k)) in
         let more : requests szx k (c ∷ t) ≡ 1 + requests szx k t = omega (arith, one) in
-        let z = follows_on szx g.request v.request r m (requests szx k t) full old tr asks g.within v.small (subst (Within szx v.request tr) more v.within) in
-        record { message = m; heard = heard_for szx t c m k r old (answers m heard) before heard; code = z.0; part = z.1 }
+        let z = follows_on szx g.request v.request r m (requests szx k t) full old tr asks g.within v.small
+        (subst (Within szx v.request tr) more v.within) in
+        record {
+          message = m;
+          heard = heard_for szx t c m k r old (answers m heard) before heard;
+          code = z.0;
+          part = z.1;
+        }
 
-    hears_beyond : (x : Sending) → sends (own_of szx t) c ≡ Some x → call_of x.operation ≡ Some k → HearsBeyond szx k t c
+    hears_beyond : (x : Sending) → sends (own_of szx t) c ≡ Some x → call_of x.operation ≡ Some k
+        → HearsBeyond szx k t c
     hears_beyond x is of =
         let op = the_call x.operation k of in
         let runs = (sent_now szx t c x is).runs ∙ ap (λ o. Some o) op.2 in
@@ -108,17 +131,21 @@ module _ (szx : ℕ) where
   abbrev pub IsWithin : ℕ → List Call → Type 0
   IsWithin k t = (requests szx k t ≤ all_passes) ⊎ Sometime (HearsBeyond szx k) t
 
-  step : (t : List Call) (c : Call) (k : ℕ) → ClientRows szx (c ∷ t) → ((m : Message) → hears c ≡ Some m → Answers szx t c m) → IsWithin k t → IsWithin k (c ∷ t)
+  step : (t : List Call) (c : Call) (k : ℕ) → ClientRows szx (c ∷ t)
+      → ((m : Message) → hears c ≡ Some m → Answers szx t c m) → IsWithin k t → IsWithin k (c ∷ t)
   step t c k rows answers (inr h) = inr (inr h)
   step t c k rows answers (inl few) = by (sent_or_not k (sends (own_of szx t) c))
     where
-      by_count : (x : Sending) → sends (own_of szx t) c ≡ Some x → call_of x.operation ≡ Some k → (b : Bool) → nat_lt (requests szx k t) 16384 ≡ b → IsWithin k (c ∷ t)
-      by_count x is of true less = let one = at_most_one k (sends (own_of szx t) c) in let l = ltb-true (requests szx k t) 16384 less in inl (omega (arith, one, l))
+      by_count : (x : Sending) → sends (own_of szx t) c ≡ Some x → call_of x.operation ≡ Some k → (b : Bool)
+          → nat_lt (requests szx k t) 16384 ≡ b → IsWithin k (c ∷ t)
+      by_count x is of true less = let one = at_most_one k (sends (own_of szx t) c) in let l =
+          ltb-true (requests szx k t) 16384 less in inl (omega (arith, one, l))
       by_count x is of false not_less =
           let l = lt_not (requests szx k t) 16384 not_less in
           inr (inl (hears_beyond t c k rows answers (omega (arith, few, l)) x is of))
 
-      by : (one_sent k (sends (own_of szx t) c) ≡ 0) ⊎ ((x : Sending) × (sends (own_of szx t) c ≡ Some x) × (call_of x.operation ≡ Some k)) → IsWithin k (c ∷ t)
+      by : (one_sent k (sends (own_of szx t) c) ≡ 0)
+          ⊎ ((x : Sending) × (sends (own_of szx t) c ≡ Some x) × (call_of x.operation ≡ Some k)) → IsWithin k (c ∷ t)
       by (inl none) = inl (omega (arith, few, none))
       by (inr h) = by_count h.0 h.1 h.2 (nat_lt (requests szx k t) 16384) refl
 
@@ -126,5 +153,6 @@ module _ (szx : ℕ) where
   all_within [] rows answers k = inl (omega arith)
   all_within (c ∷ t) rows answers k = step t c k rows answers.0 (all_within t rows.1 answers.1 k)
 
-pub within_or_beyond : (server : Endpoint) (szx word : ℕ) (t : List Call) → ClientLaw server szx word t → (number : ℕ) → IsWithin szx number t
+pub within_or_beyond : (server : Endpoint) (szx word : ℕ) (t : List Call) → ClientLaw server szx word t → (number : ℕ)
+    → IsWithin szx number t
 within_or_beyond server szx word t law number = all_within szx t law.rows (answers_last szx server word t law) number

@@ -62,25 +62,39 @@ use Rattle.coap_ends.proofs.ClientSide.ClientTokens.{last_was_sent}
 
 -- what a part means
 
-none_asks : (f : FetchState) (tag : Option (List ℕ)) (len num size : ℕ) → F.verdict f None tag len ≡ verdict.Ask num size → ⊥
-none_asks f tag len num size h = by (Rattle.std.specs.Prelude.is_some f.asked) (Rattle.std.specs.Prelude.nat_lt Rattle.coap_types.specs.Piece.max_body_len len) h
+none_asks : (f : FetchState) (tag : Option (List ℕ)) (len num size : ℕ)
+    → F.verdict f None tag len ≡ verdict.Ask num size → ⊥
+none_asks f tag len num size h = by (Rattle.std.specs.Prelude.is_some f.asked)
+    (Rattle.std.specs.Prelude.nat_lt Rattle.coap_types.specs.Piece.max_body_len len) h
   where
-    by : (a b : Bool) → cond a (verdict.Refuse refusal.BadBlock) (cond b (verdict.Refuse refusal.TooLarge) verdict.Done) ≡ verdict.Ask num size → ⊥
+    by : (a b : Bool) → cond a (verdict.Refuse refusal.BadBlock) (cond b (verdict.Refuse refusal.TooLarge) verdict.Done)
+        ≡ verdict.Ask num size → ⊥
     by true b h = cc h
     by false true h = cc h
     by false false h = cc h
 
-pub part_asks : (f : FetchState) (m : Message) (num size : ℕ) → part f m ≡ verdict.Ask num size → (b : Block) × (block_at block2 m ≡ Some b) × (F.verdict f (Some b) (tag_in m) (length m.payload) ≡ verdict.Ask num size)
+pub part_asks : (f : FetchState) (m : Message) (num size : ℕ) → part f m ≡ verdict.Ask num size
+    → (b : Block) × (block_at block2 m ≡ Some b)
+    × (F.verdict f (Some b) (tag_in m) (length m.payload) ≡ verdict.Ask num size)
 part_asks f m num size h = by (value_of block2 (said m)) refl h
   where
-    with_block : (o : Option Block) → elim o [ None ↦ verdict.Refuse refusal.BadBlock | Some b ↦ F.verdict f (Some b) (tag_in m) (length m.payload) ] ≡ verdict.Ask num size → (b : Block) × (o ≡ Some b) × (F.verdict f (Some b) (tag_in m) (length m.payload) ≡ verdict.Ask num size)
+    with_block : (o : Option Block) → elim o [
+      | None ↦ verdict.Refuse refusal.BadBlock
+      | Some b ↦ F.verdict f (Some b)
+          (tag_in m) (length m.payload)
+    ] ≡ verdict.Ask num size
+        → (b : Block) × (o ≡ Some b) × (F.verdict f (Some b) (tag_in m) (length m.payload) ≡ verdict.Ask num size)
     with_block None h = absurd (cc h)
     with_block (Some b) h = (b, refl, h)
 
-    by : (o : Option (List ℕ)) → value_of block2 (said m) ≡ o → Rattle.coap_ends.specs.ClientSide.ClientResponses.part_by f (tag_in m) (length m.payload) o ≡ verdict.Ask num size
-        → (b : Block) × (block_at block2 m ≡ Some b) × (F.verdict f (Some b) (tag_in m) (length m.payload) ≡ verdict.Ask num size)
+    by : (o : Option (List ℕ)) → value_of block2 (said m) ≡ o
+        → Rattle.coap_ends.specs.ClientSide.ClientResponses.part_by f (tag_in m) (length m.payload) o
+        ≡ verdict.Ask num size
+        → (b : Block) × (block_at block2 m ≡ Some b)
+        × (F.verdict f (Some b) (tag_in m) (length m.payload) ≡ verdict.Ask num size)
     by None is h = absurd (none_asks f (tag_in m) (length m.payload) num size h)
-    by (Some v) is h = let k = with_block (block_in v) h in (k.0, ap (λ o. elim o [ None ↦ None | Some x ↦ block_in x ]) is ∙ k.1, k.2)
+    by (Some v) is h = let k = with_block (block_in v) h
+        in (k.0, ap (λ o. elim o [ None ↦ None | Some x ↦ block_in x ]) is ∙ k.1, k.2)
 
 -- what comes last, as the transfer took it
 pub record DoneBy (parts : List Part) (f : FetchState) (m : Message) : Type 0 where
@@ -89,27 +103,39 @@ pub record DoneBy (parts : List Part) (f : FetchState) (m : Message) : Type 0 wh
   pub done : F.verdict f block (tag_in m) (length m.payload) ≡ verdict.Done
 
 -- without a block nothing was gathered before
-none_before : (parts : List Part) (f : FetchState) (len : ℕ) (tag : Option (List ℕ)) → Gathered parts f → F.verdict f None tag len ≡ verdict.Done → parts ≡ []
+none_before : (parts : List Part) (f : FetchState) (len : ℕ) (tag : Option (List ℕ)) → Gathered parts f
+    → F.verdict f None tag len ≡ verdict.Done → parts ≡ []
 none_before parts f len tag g h = by f.asked g.awaits h
   where
     by : (o : Option fetch.Asked) → Awaits o f.tag parts
-        → cond (is_some o) (verdict.Refuse refusal.BadBlock) (cond (Rattle.std.specs.Prelude.nat_lt Rattle.coap_types.specs.Piece.max_body_len len) (verdict.Refuse refusal.TooLarge) verdict.Done) ≡ verdict.Done → parts ≡ []
+        → cond (is_some o) (verdict.Refuse refusal.BadBlock)
+        (cond (Rattle.std.specs.Prelude.nat_lt Rattle.coap_types.specs.Piece.max_body_len len)
+        (verdict.Refuse refusal.TooLarge) verdict.Done) ≡ verdict.Done → parts ≡ []
     by None a h = a
     by (Some asked) a h = absurd (cc h)
 
-pub part_done : (parts : List Part) (f : FetchState) (m : Message) → Gathered parts f → part f m ≡ verdict.Done → DoneBy parts f m
+pub part_done : (parts : List Part) (f : FetchState) (m : Message) → Gathered parts f → part f m ≡ verdict.Done
+    → DoneBy parts f m
 part_done parts f m g h = by (value_of block2 (said m)) refl h
   where
-    with_block : (o : Option Block) → block_at block2 m ≡ o → elim o [ None ↦ verdict.Refuse refusal.BadBlock | Some b ↦ F.verdict f (Some b) (tag_in m) (length m.payload) ] ≡ verdict.Done → DoneBy parts f m
+    with_block : (o : Option Block) → block_at block2 m ≡ o
+        → elim o [
+          | None ↦ verdict.Refuse refusal.BadBlock
+          | Some b ↦ F.verdict f (Some b) (tag_in m)
+              (length m.payload)
+        ] ≡ verdict.Done → DoneBy parts f m
     with_block None is h = absurd (cc h)
     with_block (Some b) is h = record { block = Some b; last = is; done = h }
 
-    by : (o : Option (List ℕ)) → value_of block2 (said m) ≡ o → Rattle.coap_ends.specs.ClientSide.ClientResponses.part_by f (tag_in m) (length m.payload) o ≡ verdict.Done → DoneBy parts f m
+    by : (o : Option (List ℕ)) → value_of block2 (said m) ≡ o
+        → Rattle.coap_ends.specs.ClientSide.ClientResponses.part_by f (tag_in m) (length m.payload) o ≡ verdict.Done
+        → DoneBy parts f m
     by None is h = record { block = None; last = (is, none_before parts f (length m.payload) (tag_in m) g h); done = h }
     by (Some v) is h = with_block (block_in v) (ap (λ o. elim o [ None ↦ None | Some x ↦ block_in x ]) is) h
 
 -- where nothing was gathered, the first block was asked for
-alone_first : (k : ℕ) (r : Request) (f : FetchState) (parts : List Part) → Gathered parts f → parts ≡ [] → is_first_of k (Calling k r (Fetches f)) ≡ true
+alone_first : (k : ℕ) (r : Request) (f : FetchState) (parts : List Part) → Gathered parts f → parts ≡ []
+    → is_first_of k (Calling k r (Fetches f)) ≡ true
 alone_first k r f parts g none = by f.asked g.awaits
   where
     by : (o : Option fetch.Asked) → Awaits o f.tag parts → elim o [ None ↦ k == k | Some asked ↦ false ] ≡ true
@@ -125,7 +151,9 @@ pub record FetchNext (old : Transfer) (m : Message) (f : FetchState) : Type 0 wh
   pub before : FetchState
   pub old_is : old ≡ Fetches before
   pub code : m.code ≡ content
-  pub next : (f ≡ F.after before (tag_in m) m.payload verdict.Again) ⊎ ((num : ℕ) × (size : ℕ) × (part before m ≡ verdict.Ask num size) × (f ≡ F.after before (tag_in m) m.payload (verdict.Ask num size)))
+  pub next : (f ≡ F.after before (tag_in m) m.payload verdict.Again)
+      ⊎ ((num : ℕ) × (size : ℕ) × (part before m ≡ verdict.Ask num size)
+      × (f ≡ F.after before (tag_in m) m.payload (verdict.Ask num size)))
 
 abbrev fetch_of : Transfer → Option FetchState
 fetch_of (Fetches f) = Some f
@@ -149,24 +177,33 @@ continued_none u (Some b) = by (continues u b)
 upload_none : (method : Method) (u : UploadState) (m : Message) → next_of (calls.sent method u m) ≡ None
 upload_none method u m = by ((m.code == continue) && is_longer u) (more_follows u && calls.is_below_errors m.code)
   where
-    by : (b p : Bool) → next_of (cond b (calls.continued u (block_at block1 m)) (cond p (calls.Ends true BadBlock) (calls.Ends true (done method m.code)))) ≡ None
+    by : (b p : Bool) → next_of (cond b (calls.continued u (block_at block1 m))
+        (cond p (calls.Ends true BadBlock) (calls.Ends true (done method m.code)))) ≡ None
     by true p = continued_none u (block_at block1 m)
     by false true = refl
     by false false = refl
 
-pub fetch_next : (r : Request) (old : Transfer) (m : Message) (f : FetchState) → answer r old m ≡ calls.Asks (Fetches f) → FetchNext old m f
+pub fetch_next : (r : Request) (old : Transfer) (m : Message) (f : FetchState) → answer r old m ≡ calls.Asks (Fetches f)
+    → FetchNext old m f
 fetch_next r Single m f h = absurd (cc h)
-fetch_next r (Uploads u) m f h = let k : None ≡ Some f = sym (upload_none r.method u m) ∙ asks_fetch (calls.sent r.method u m) f h in absurd (cc k)
+fetch_next r (Uploads u) m f h = let k : None ≡ Some f = sym (upload_none r.method u m)
+    ∙ asks_fetch (calls.sent r.method u m) f h in absurd (cc k)
 fetch_next r (Fetches b) m f h = by (m.code == content) refl ((m.code == valid) && has_tags r.etags) h
   where
-    by_verdict : m.code ≡ content → (v : Verdict) → part b m ≡ v → calls.fetched b m v ≡ calls.Asks (Fetches f) → FetchNext (Fetches b) m f
+    by_verdict : m.code ≡ content → (v : Verdict) → part b m ≡ v → calls.fetched b m v ≡ calls.Asks (Fetches f)
+        → FetchNext (Fetches b) m f
     by_verdict code (verdict.Refuse why) is h = absurd (cc h)
     by_verdict code verdict.Done is h = absurd (cc h)
-    by_verdict code verdict.Again is h = let e : F.after b (tag_in m) m.payload verdict.Again ≡ f = (let k = ap next_of h in cc k) in record { before = b; old_is = refl; code = code; next = inl (sym e) }
+    by_verdict code verdict.Again is h = let e : F.after b (tag_in m) m.payload verdict.Again
+        ≡ f = (let k = ap next_of h in cc k) in record { before = b; old_is = refl; code = code; next = inl (sym e) }
     by_verdict code (verdict.Ask num size) is h =
-        let e : F.after b (tag_in m) m.payload (verdict.Ask num size) ≡ f = (let k = ap next_of h in cc k) in record { before = b; old_is = refl; code = code; next = inr (num, size, is, sym e) }
+        let e : F.after b (tag_in m) m.payload (verdict.Ask num size)
+        ≡ f = (let k = ap next_of h in cc k) in record
+        { before = b; old_is = refl; code = code; next = inr (num, size, is, sym e) }
 
-    by : (c : Bool) → (m.code == content) ≡ c → (d : Bool) → cond c (calls.fetched b m (part b m)) (cond d (calls.Ends true (Valid (tag_in m))) (calls.Ends true (Failed m.code))) ≡ calls.Asks (Fetches f) → FetchNext (Fetches b) m f
+    by : (c : Bool) → (m.code == content) ≡ c → (d : Bool)
+        → cond c (calls.fetched b m (part b m)) (cond d (calls.Ends true (Valid (tag_in m)))
+        (calls.Ends true (Failed m.code))) ≡ calls.Asks (Fetches f) → FetchNext (Fetches b) m f
     by true is d h = by_verdict (same_number m.code content is) (part b m) refl h
     by false is true h = absurd (cc h)
     by false is false h = absurd (cc h)
@@ -201,13 +238,15 @@ lapse_none event_of.Timeout = refl
 lapse_none event_of.Reset = refl
 lapse_none event_of.NoResponse = refl
 
-value_none : (k sequence : ℕ) (f : FetchState) (m : Message) (v : Verdict) → body_reported (value k sequence f m v) ≡ false
+value_none : (k sequence : ℕ) (f : FetchState) (m : Message) (v : Verdict)
+    → body_reported (value k sequence f m v) ≡ false
 value_none k sequence f m (verdict.Refuse why) = refl
 value_none k sequence f m verdict.Done = refl
 value_none k sequence f m verdict.Again = refl
 value_none k sequence f m (verdict.Ask num size) = refl
 
-failed_none : (u : Transfer → Bool) (report : Report) (s : Own) (running : Option Operation) → is_body report ≡ false → body_reported (failed u report s running).report ≡ false
+failed_none : (u : Transfer → Bool) (report : Report) (s : Own) (running : Option Operation) → is_body report ≡ false
+    → body_reported (failed u report s running).report ≡ false
 failed_none u report s None h = refl
 failed_none u report s (Some (Calling k r t)) h = h
 failed_none u report s (Some (Registering k path)) h = h
@@ -245,37 +284,51 @@ continued_body : (u : UploadState) (o : Option Block) → has_body (report_next 
 continued_body u None = refl
 continued_body u (Some b) = by (continues u b)
   where
-    by : (c : Bool) → has_body (report_next (cond c (calls.Asks (Uploads (moved u b))) (calls.Ends false BadBlock))) ≡ false
+    by : (c : Bool) → has_body (report_next (cond c (calls.Asks (Uploads (moved u b))) (calls.Ends false BadBlock)))
+        ≡ false
     by true = refl
     by false = refl
 
 upload_body : (method : Method) (u : UploadState) (m : Message) → has_body (report_next (calls.sent method u m)) ≡ false
 upload_body method u m = by ((m.code == continue) && is_longer u) (more_follows u && calls.is_below_errors m.code)
   where
-    by : (b p : Bool) → has_body (report_next (cond b (calls.continued u (block_at block1 m)) (cond p (calls.Ends true BadBlock) (calls.Ends true (done method m.code))))) ≡ false
+    by : (b p : Bool) → has_body (report_next (cond b (calls.continued u (block_at block1 m))
+        (cond p (calls.Ends true BadBlock) (calls.Ends true (done method m.code))))) ≡ false
     by true p = continued_body u (block_at block1 m)
     by false true = refl
     by false false = done_none method m.code
 
-done_as : (r : Request) (tr : Transfer) (m : Message) (final : Bool) (report : Report) → answer r tr m ≡ calls.Ends final report → is_body report ≡ true → DoneAs tr m report
-done_as r Single m final report h body = let a : is_body (done r.method m.code) ≡ true = (let e : Some (done r.method m.code) ≡ Some report = ap report_next h in ap has_body e ∙ body) in let b = done_none r.method m.code in absurd (cc (a, b))
-done_as r (Uploads u) m final report h body = let a : has_body (report_next (calls.sent r.method u m)) ≡ true = ap (λ n. has_body (report_next n)) h ∙ body in let b = upload_body r.method u m in absurd (cc (a, b))
+done_as : (r : Request) (tr : Transfer) (m : Message) (final : Bool) (report : Report)
+    → answer r tr m ≡ calls.Ends final report → is_body report ≡ true → DoneAs tr m report
+done_as r Single m final report h body = let a : is_body (done r.method m.code)
+    ≡ true = (let e : Some (done r.method m.code) ≡ Some report = ap report_next h in ap has_body e ∙ body) in let b =
+    done_none r.method m.code in absurd (cc (a, b))
+done_as r (Uploads u) m final report h body = let a : has_body (report_next (calls.sent r.method u m))
+    ≡ true = ap (λ n. has_body (report_next n)) h ∙ body in let b = upload_body r.method u m in absurd (cc (a, b))
 done_as r (Fetches f) m final report h body = by (m.code == content) refl ((m.code == valid) && has_tags r.etags) h
   where
-    by_verdict : m.code ≡ content → (v : Verdict) → part f m ≡ v → calls.fetched f m v ≡ calls.Ends final report → DoneAs (Fetches f) m report
-    by_verdict code (verdict.Refuse why) is h = let a : is_body (refused why) ≡ true = ap (λ n. has_body (report_next n)) h ∙ body in let b = refused_none why in absurd (cc (a, b))
+    by_verdict : m.code ≡ content → (v : Verdict) → part f m ≡ v → calls.fetched f m v ≡ calls.Ends final report
+        → DoneAs (Fetches f) m report
+    by_verdict code (verdict.Refuse why) is h = let a : is_body (refused why)
+        ≡ true = ap (λ n. has_body (report_next n)) h ∙ body in let b = refused_none why in absurd (cc (a, b))
     by_verdict code verdict.Again is h = absurd (cc h)
     by_verdict code (verdict.Ask num size) is h = absurd (cc h)
-    by_verdict code verdict.Done is h = let e : Some (Body (tag_in m) (format_in m) (f.gathered ++ m.payload)) ≡ Some report = ap report_next h in record { fetch = f; transfer = refl; code = code; done_so = is; is = sym (cc e) }
+    by_verdict code verdict.Done is h = let e : Some (Body (tag_in m) (format_in m) (f.gathered ++ m.payload))
+        ≡ Some report = ap report_next h in record
+        { fetch = f; transfer = refl; code = code; done_so = is; is = sym (cc e) }
 
-    by : (c : Bool) → (m.code == content) ≡ c → (d : Bool) → cond c (calls.fetched f m (part f m)) (cond d (calls.Ends true (Valid (tag_in m))) (calls.Ends true (Failed m.code))) ≡ calls.Ends final report → DoneAs (Fetches f) m report
+    by : (c : Bool) → (m.code == content) ≡ c → (d : Bool)
+        → cond c (calls.fetched f m (part f m)) (cond d (calls.Ends true (Valid (tag_in m)))
+        (calls.Ends true (Failed m.code))) ≡ calls.Ends final report → DoneAs (Fetches f) m report
     by true is d h = by_verdict (same_number m.code content is) (part f m) refl h
     by false is true h = let a : false ≡ true = ap (λ n. has_body (report_next n)) h ∙ body in absurd (cc a)
     by false is false h = let a : false ≡ true = ap (λ n. has_body (report_next n)) h ∙ body in absurd (cc a)
 
 -- each other move gives none
-move_body : (s : Own) (now : ℕ) (told : Option Event) (mo : Move s now told) → (body_reported (left_by s now told mo).report ≡ false)
-    ⊎ ((k : ℕ) × (report : Report) × ((left_by s now told mo).report ≡ of k report) × (is_body report ≡ true → GivesBody s (heard_in told) k report))
+move_body : (s : Own) (now : ℕ) (told : Option Event) (mo : Move s now told)
+    → (body_reported (left_by s now told mo).report ≡ false)
+    ⊎ ((k : ℕ) × (report : Report) × ((left_by s now told mo).report ≡ of k report)
+    × (is_body report ≡ true → GivesBody s (heard_in told) k report))
 move_body s now told (mv.rests un) = inl refl
 move_body s now told (mv.copies q) = inl refl
 move_body s now told (mv.starts_next op queue none rest first q) = inl refl
@@ -297,7 +350,8 @@ move_body s now told (mv.is_done k r tr final rep a hears_it runs ends_so) =
         is = d.is;
       }),
     )
-move_body s now told (mv.registers k path a hears_it runs note) = inl (value_none k _ (F.start s.szx 0) a (part (F.start s.szx 0) a))
+move_body s now told (mv.registers k path a hears_it runs note) =
+    inl (value_none k _ (F.start s.szx 0) a (part (F.start s.szx 0) a))
 move_body s now told (mv.refuses k path a hears_it runs note) = inl refl
 move_body s now told (mv.fetches_on k n a num size hears_it runs rest code asks) = inl refl
 move_body s now told (mv.fetched k n a hears_it runs rest code done) = inl refl
@@ -307,7 +361,8 @@ move_body s now told (mv.cancels k a hears_it runs) = inl refl
 move_body s now told (mv.is_dropped a hears_it runs) = inl refl
 move_body s now told (mv.fails e un) = inl (failed_none (λ t. true) (lapse e) s s.running (lapse_none e))
 move_body s now told (mv.is_ended o a notes found note) = inl refl
-move_body s now told (mv.renews o a notes found note newer) = inl (value_none o.number _ (F.start s.szx 0) a (part (F.start s.szx 0) a))
+move_body s now told (mv.renews o a notes found note newer) =
+    inl (value_none o.number _ (F.start s.szx 0) a (part (F.start s.szx 0) a))
 move_body s now told (mv.passes_by o a notes found note newer) = inl refl
 
 pub each_append : (P : Part → Type 0) (xs : List Part) (y : Part) → Each P xs → P y → Each P (xs ++ y ∷ [])
@@ -323,25 +378,31 @@ abbrev IsNew : Operation → Type 0
 IsNew (Calling k r (Fetches f)) = (size : ℕ) × (f ≡ F.start size 0)
 IsNew op = Unit {0}
 
-new_call : (size k : ℕ) (r : Request) (method : Method) → IsNew (Calling k (record r { body = [] }) (transfer_of size r method))
+new_call : (size k : ℕ) (r : Request) (method : Method)
+    → IsNew (Calling k (record r { body = [] }) (transfer_of size r method))
 new_call size k r Get = (size, refl)
 new_call size k r Post = tt
 new_call size k r Put = tt
 new_call size k r Delete = tt
 
-all_more : (P : Operation → Type 0) (ops : List Operation) (op : Operation) → AllOf P ops → P op → AllOf P (ops ++ op ∷ [])
+all_more : (P : Operation → Type 0) (ops : List Operation) (op : Operation) → AllOf P ops → P op
+    → AllOf P (ops ++ op ∷ [])
 all_more P [] op h k = (k, tt)
 all_more P (x ∷ ops) op h k = (h.0, all_more P ops op h.1 k)
 
-pub waits_closed : (P : Operation → Type 0) (now : ℕ) (e : Effect) (token : Result (List ℕ) AskRefusal) → AllOf P e.own.queue → Closing now e token → AllOf P (closed now e e.deed token).own.queue
+pub waits_closed : (P : Operation → Type 0) (now : ℕ) (e : Effect) (token : Result (List ℕ) AskRefusal)
+    → AllOf P e.own.queue → Closing now e token → AllOf P (closed now e e.deed token).own.queue
 waits_closed P now e token h (quiet q none own_same report_same) = subst (λ (o : Own). AllOf P o.queue) (sym own_same) h
-waits_closed P now e token h (goes_out op key asks given sends_it own_same report_same) = subst (λ (o : Own). AllOf P o.queue) (sym own_same) h
-waits_closed P now e token h (is_refused op why asks given none all) = subst (λ (x : Effect). AllOf P x.own.queue) (sym all) ((failed_runs e.own has_sent NoIds (Some op)).waits P h)
+waits_closed P now e token h (goes_out op key asks given sends_it own_same report_same) =
+    subst (λ (o : Own). AllOf P o.queue) (sym own_same) h
+waits_closed P now e token h (is_refused op why asks given none all) =
+    subst (λ (x : Effect). AllOf P x.own.queue) (sym all) ((failed_runs e.own has_sent NoIds (Some op)).waits P h)
 
 module _ (szx : ℕ) where
   all_new : (t : List Call) → AllOf IsNew (own_of szx t).queue
   all_new [] = tt
-  all_new (Calls now r (Ok n) ∷ t) = all_more IsNew (own_of szx t).queue (calling (own_of szx t).szx n r) (all_new t) (new_call (own_of szx t).szx n r r.method)
+  all_new (Calls now r (Ok n) ∷ t) = all_more IsNew (own_of szx t).queue (calling (own_of szx t).szx n r) (all_new t)
+      (new_call (own_of szx t).szx n r r.method)
   all_new (Calls now r (Err why) ∷ t) = all_new t
   all_new (Observes now path (Ok n) ∷ t) = all_more IsNew (own_of szx t).queue (Registering n path) (all_new t) tt
   all_new (Observes now path (Err why) ∷ t) = all_new t
@@ -376,7 +437,8 @@ module _ (szx : ℕ) where
   call_in (Cancelling n) k h = absurd (cc h)
   call_in Dropped k h = absurd (cc h)
 
-  pub heard_for : (t : List Call) (c : Call) (m : Message) (k : ℕ) (r : Request) (tr : Transfer) → Answers szx t c m → (own_of szx t).running ≡ Some (Calling k r tr) → hears c ≡ Some m → HeardFor szx k m t c
+  pub heard_for : (t : List Call) (c : Call) (m : Message) (k : ℕ) (r : Request) (tr : Transfer) → Answers szx t c m
+      → (own_of szx t).running ≡ Some (Calling k r tr) → hears c ≡ Some m → HeardFor szx k m t c
   heard_for t c m k r tr a runs heard = record {
     heard = heard;
     sending = a.sending;
@@ -385,10 +447,18 @@ module _ (szx : ℕ) where
     token = a.token;
   }
 
-  parts_here : (t : List Call) (c : Call) (k : ℕ) (r : Request) (f : FetchState) → ((m : Message) → hears c ≡ Some m → Answers szx t c m) → Origin szx t c k r (Fetches f) → ((q : Request) (g : FetchState) → (own_of szx t).running ≡ Some (Calling k q (Fetches g)) → Parts t k g) → Parts (c ∷ t) k f
+  parts_here : (t : List Call) (c : Call) (k : ℕ) (r : Request) (f : FetchState)
+      → ((m : Message) → hears c ≡ Some m → Answers szx t c m) → Origin szx t c k r (Fetches f)
+      → ((q : Request) (g : FetchState) → (own_of szx t).running ≡ Some (Calling k q (Fetches g)) → Parts t k g)
+      → Parts (c ∷ t) k f
   parts_here t c k r f answers (kept runs none) ih =
       let p = ih r f runs in
-      record { parts = p.parts; gathered = p.gathered; took = each_map (λ q. TookPart szx k q t) (λ q. TookPart szx k q (c ∷ t)) (λ q h. (ap (is_first k) none, inr h)) p.parts p.took }
+      record {
+        parts = p.parts;
+        gathered = p.gathered;
+        took = each_map (λ q. TookPart szx k q t) (λ q. TookPart szx k q (c ∷ t))
+            (λ q h. (ap (is_first k) none, inr h)) p.parts p.took;
+      }
   parts_here t c k r f answers (begins queue is) ih =
       let h : AllOf IsNew (Calling k r (Fetches f) ∷ queue) = subst (AllOf IsNew) is (all_new t) in
       let g = h.0 in
@@ -397,28 +467,47 @@ module _ (szx : ℕ) where
     where
       by : FetchNext old m f → Parts (c ∷ t) k f
       by n = elim n.next [
-        | inl again ↦ record { parts = []; gathered = subst (Gathered []) (sym again) (gathered_none n.before.szx (n.before.restarts + 1)); took = tt }
+        | inl again ↦ record {
+          parts = [];
+          gathered =
+              subst (Gathered []) (sym again) (gathered_none n.before.szx (n.before.restarts + 1));
+          took = tt;
+        }
         | inr more ↦ (
             let p = ih r n.before (runs ∙ ap (λ z. Some (Calling k r z)) n.old_is) in
             let b = part_asks n.before m more.0 more.1 more.2 in
             let next : f ≡ F.after n.before (tag_in m) m.payload (verdict.Ask more.0 more.1) = more.3 in
-            let quiet_first : is_first k (sends (own_of szx t) c) ≡ false = ap (is_first k) sends_it ∙ (ap (is_first_of k) op_is ∙ ap (λ g. is_first_of k (Calling k r (Fetches g))) next) in
+            let quiet_first : is_first k (sends (own_of szx t) c) ≡ false = ap (is_first k) sends_it
+            ∙ (ap (is_first_of k) op_is ∙ ap (λ g. is_first_of k (Calling k r (Fetches g))) next) in
             let new : Part = part_of_block b.0 (tag_in m) m.payload in
             record {
               parts = p.parts ++ new ∷ [];
-              gathered = subst (Gathered (p.parts ++ new ∷ [])) (sym next) (gathered_by_part p.parts n.before b.0 (tag_in m) m.payload more.0 more.1 p.gathered b.2);
-              took = each_append (λ q. TookPart szx k q (c ∷ t)) p.parts new (each_map (λ q. TookPart szx k q t) (λ q. TookPart szx k q (c ∷ t)) (λ q h. (quiet_first, inr h)) p.parts p.took)
-                  (quiet_first, inl (record { message = m; heard = heard_for t c m k r old (answers m heard) runs heard; part = record { code = n.code; block = b.0; says = b.1; is = refl } }));
+              gathered = subst (Gathered (p.parts ++ new ∷ [])) (sym next)
+                  (gathered_by_part p.parts n.before b.0 (tag_in m) m.payload more.0 more.1 p.gathered b.2);
+              took = each_append (λ q. TookPart szx k q (c ∷ t)) p.parts new
+                  (each_map (λ q. TookPart szx k q t) (λ q. TookPart szx k q (c ∷ t))
+                  (λ q h. (quiet_first, inr h)) p.parts p.took) (
+                    quiet_first,
+                    inl (record {
+                      message = m;
+                      heard = heard_for t c m k r old (answers m heard) runs heard;
+                      part = record { code = n.code; block = b.0; says = b.1; is = refl };
+                    }),
+                  );
             })
       ]
 
-  pub parts_of : (t : List Call) → AnswersLast szx t → (k : ℕ) (r : Request) (f : FetchState) → (own_of szx t).running ≡ Some (Calling k r (Fetches f)) → Parts t k f
+  pub parts_of : (t : List Call) → AnswersLast szx t → (k : ℕ) (r : Request) (f : FetchState)
+      → (own_of szx t).running ≡ Some (Calling k r (Fetches f)) → Parts t k f
   parts_of [] answers k r f is = absurd (cc is)
-  parts_of (c ∷ t) answers k r f is = parts_here t c k r f answers.0 (origin szx t c k r (Fetches f) is) (λ q g runs. parts_of t answers.1 k q g runs)
+  parts_of (c ∷ t) answers k r f is = parts_here t c k r f answers.0 (origin szx t c k r (Fetches f) is)
+      (λ q g runs. parts_of t answers.1 k q g runs)
 
   -- at a call
-  body_from : (t : List Call) (c : Call) → Turned szx t c → (k : ℕ) (report : Report) → is_body report ≡ true → reports (own_of szx t) c ≡ of k report → GivesBody (own_of szx t) (hears c) k report
-  body_from t c z k report body made = by z.closes (move_body (at z.now (own_of szx t)) (max (own_of szx t).clock z.now) z.told z.move)
+  body_from : (t : List Call) (c : Call) → Turned szx t c → (k : ℕ) (report : Report) → is_body report ≡ true
+      → reports (own_of szx t) c ≡ of k report → GivesBody (own_of szx t) (hears c) k report
+  body_from t c z k report body made = by z.closes
+      (move_body (at z.now (own_of szx t)) (max (own_of szx t).clock z.now) z.told z.move)
     where
       s : Own
       s = at z.now (own_of szx t)
@@ -427,23 +516,46 @@ module _ (szx : ℕ) where
       e = left_by (at z.now (own_of szx t)) (max (own_of szx t).clock z.now) z.told z.move
 
       shows : (o : Option Reported) → reports (own_of szx t) c ≡ o → body_reported o ≡ false → ⊥
-      shows o is none = let a : body_reported (of k report) ≡ false = ap body_reported (sym made ∙ is) ∙ none in cc (a, body)
+      shows o is none = let a : body_reported (of k report) ≡ false = ap body_reported (sym made ∙ is)
+          ∙ none in cc (a, body)
 
-      by : Closing (max (own_of szx t).clock z.now) e z.token → (body_reported e.report ≡ false) ⊎ ((j : ℕ) × (rep : Report) × (e.report ≡ of j rep) × (is_body rep ≡ true → GivesBody (at z.now (own_of szx t)) (heard_in z.told) j rep)) → GivesBody (own_of szx t) (hears c) k report
-      by (goes_out op key asks given sends_it own_same report_same) m = absurd (shows None (z.reports_is ∙ report_same) refl)
-      by (is_refused op why asks given none all) m = absurd (shows (failed has_sent NoIds e.own (Some op)).report (z.reports_is ∙ ap (λ (x : Effect). x.report) all) (failed_none has_sent NoIds e.own (Some op) refl))
+      by : Closing (max (own_of szx t).clock z.now) e z.token
+          → (body_reported e.report ≡ false) ⊎ ((j : ℕ) × (rep : Report) × (e.report ≡ of j rep)
+          × (is_body rep ≡ true → GivesBody (at z.now (own_of szx t)) (heard_in z.told) j rep))
+          → GivesBody (own_of szx t) (hears c) k report
+      by (goes_out op key asks given sends_it own_same report_same) m =
+          absurd (shows None (z.reports_is ∙ report_same) refl)
+      by (is_refused op why asks given none all) m =
+          absurd (shows (failed has_sent NoIds e.own (Some op)).report
+          (z.reports_is ∙ ap (λ (x : Effect). x.report) all) (failed_none has_sent NoIds e.own (Some op) refl))
       by (quiet q none own_same report_same) (inl m) = absurd (shows e.report (z.reports_is ∙ report_same) m)
       by (quiet q none own_same report_same) (inr m) =
           let same : of m.0 m.1 ≡ of k report = sym m.2 ∙ (sym report_same ∙ (sym z.reports_is ∙ made)) in
-          let record_same : ◌≡◌ {A = Reported} (record { number = m.0; report = m.1 }) (record { number = k; report = report }) = cc same in
+          let record_same : ◌≡◌ {A = Reported} (record { number = m.0; report = m.1 })
+          (record { number = k; report = report }) = cc same in
           let n : m.0 ≡ k = ap (λ (x : Reported). x.number) record_same in
           let rep : m.1 ≡ report = ap (λ (x : Reported). x.report) record_same in
-          let g = subst (GivesBody (own_of szx t) (hears c) m.0) rep (let g0 = m.3 (ap is_body rep ∙ body) in record { request = g0.request; fetch = g0.fetch; message = g0.message; runs = g0.runs; heard_it = z.hears_is ∙ g0.heard_it; code = g0.code; done_so = g0.done_so; is = g0.is }) in
+          let g = subst (GivesBody (own_of szx t) (hears c) m.0) rep
+          (let g0 = m.3 (ap is_body rep ∙ body) in record {
+            request = g0.request;
+            fetch = g0.fetch;
+            message = g0.message;
+            runs = g0.runs;
+            heard_it = z.hears_is ∙ g0.heard_it;
+            code = g0.code;
+            done_so = g0.done_so;
+            is = g0.is;
+          }) in
           subst (λ j. GivesBody (own_of szx t) (hears c) j report) n g
 
-  gives_of : (t : List Call) (c : Call) (k : ℕ) (report : Report) → is_body report ≡ true → reports (own_of szx t) c ≡ of k report → GivesBody (own_of szx t) (hears c) k report
-  gives_of t (Feeds now from bytes w up settled event sent token was) k report body made = body_from t (Feeds now from bytes w up settled event sent token was) (fed_turned szx t now from bytes w up settled event sent token was) k report body made
-  gives_of t (Ticks now w below turn sent token was answer) k report body made = body_from t (Ticks now w below turn sent token was answer) (ticked_turned szx t now w below turn sent token was answer) k report body made
+  gives_of : (t : List Call) (c : Call) (k : ℕ) (report : Report) → is_body report ≡ true
+      → reports (own_of szx t) c ≡ of k report → GivesBody (own_of szx t) (hears c) k report
+  gives_of t (Feeds now from bytes w up settled event sent token was) k report body made =
+      body_from t (Feeds now from bytes w up settled event sent token was)
+      (fed_turned szx t now from bytes w up settled event sent token was) k report body made
+  gives_of t (Ticks now w below turn sent token was answer) k report body made =
+      body_from t (Ticks now w below turn sent token was answer)
+      (ticked_turned szx t now w below turn sent token was answer) k report body made
   gives_of t (Calls now r answer) k report body made = absurd (cc made)
   gives_of t (Observes now path answer) k report body made = absurd (cc made)
   gives_of t (Cancels now n answer) k report body made = absurd (cc made)
@@ -453,17 +565,23 @@ module _ (szx : ℕ) where
   gives_of t (Asked answer) k report body made = absurd (cc made)
 
   -- the request that runs was sent last, as it is
-  runs_as : (server : Endpoint) (word : ℕ) (t : List Call) → ClientLaw server szx word t → (k : ℕ) (r : Request) (f : FetchState) (x : Sending) → (own_of szx t).running ≡ Some (Calling k r (Fetches f)) → last_sent szx t ≡ Some x
+  runs_as : (server : Endpoint) (word : ℕ) (t : List Call) → ClientLaw server szx word t
+      → (k : ℕ) (r : Request) (f : FetchState) (x : Sending) → (own_of szx t).running ≡ Some (Calling k r (Fetches f))
+      → last_sent szx t ≡ Some x
       → x.operation ≡ Calling k r (Fetches f)
-  runs_as server word t law k r f x runs last = elim h.same [ inl d ↦ absurd (cc d) | inr same ↦ ap (λ (y : Sending). y.operation) one ∙ same ]
+  runs_as server word t law k r f x runs last =
+      elim h.same [ inl d ↦ absurd (cc d) | inr same ↦ ap (λ (y : Sending). y.operation) one ∙ same ]
     where
       h : Tracked szx t (Calling k r (Fetches f)) (beneath server szx word t).running
-      h = subst (λ o. IfTracked szx t o (beneath server szx word t).running) runs (all_sends szx server word t law.rows law.exchanges.rows).tracked
+      h = subst (λ o. IfTracked szx t o (beneath server szx word t).running) runs
+          (all_sends szx server word t law.rows law.exchanges.rows).tracked
 
       one : x ≡ h.sending
       one = let e : Some x ≡ Some h.sending = sym last ∙ h.last in cc e
 
-  whole_here : (server : Endpoint) (word : ℕ) (t : List Call) (c : Call) → ClientLaw server szx word t → AnswersLast szx (c ∷ t) → (k : ℕ) (tag : Option (List ℕ)) (format : Option ℕ) (body : List ℕ) → reports (own_of szx t) c ≡ of k (Body tag format body) → IsFetched szx k tag format body t c
+  whole_here : (server : Endpoint) (word : ℕ) (t : List Call) (c : Call) → ClientLaw server szx word t
+      → AnswersLast szx (c ∷ t) → (k : ℕ) (tag : Option (List ℕ)) (format : Option ℕ) (body : List ℕ)
+      → reports (own_of szx t) c ≡ of k (Body tag format body) → IsFetched szx k tag format body t c
   whole_here server word t c law answers k tag format body made =
       let g = gives_of t c k (Body tag format body) refl made in
       let p = parts_of t answers.1 k g.request g.fetch g.runs in
@@ -475,7 +593,13 @@ module _ (szx : ℕ) where
       let op = runs_as server word t law k g.request g.fetch a.sending g.runs a.last in
       record {
         message = g.message;
-        heard = record { heard = g.heard_it; sending = a.sending; sent = last_was_sent szx t a.sending a.last; of_call = ap call_of op; token = a.token };
+        heard = record {
+          heard = g.heard_it;
+          sending = a.sending;
+          sent = last_was_sent szx t a.sending a.last;
+          of_call = ap call_of op;
+          token = a.token;
+        };
         code = g.code;
         parts = p.parts;
         took = p.took;
@@ -489,10 +613,13 @@ module _ (szx : ℕ) where
         format_is = format_is;
       }
 
-  bodies : (server : Endpoint) (word : ℕ) (t : List Call) → ClientLaw server szx word t → AnswersLast szx t → BodiesAreWhole szx t
+  bodies : (server : Endpoint) (word : ℕ) (t : List Call) → ClientLaw server szx word t → AnswersLast szx t
+      → BodiesAreWhole szx t
   bodies server word [] law answers = tt
   bodies server word (c ∷ t) law answers =
-      let before = client_back server szx word (c ∷ []) t law in (whole_here server word t c before answers, bodies server word t before answers.1)
+      let before = client_back server szx word (c ∷ []) t law
+      in (whole_here server word t c before answers, bodies server word t before answers.1)
 
-pub bodies_are_whole : (server : Endpoint) (szx word : ℕ) (t : List Call) → ClientLaw server szx word t → BodiesAreWhole szx t
+pub bodies_are_whole : (server : Endpoint) (szx word : ℕ) (t : List Call) → ClientLaw server szx word t
+    → BodiesAreWhole szx t
 bodies_are_whole server szx word t law = bodies szx server word t law (answers_last szx server word t law)

@@ -71,41 +71,54 @@ Within szx q (Fetches f) n = (q.method ≡ Get) × FetchWithin f n
 Within szx q (Uploads u) n = IsUploading q.method × UploadWithin szx q.body u n
 Within szx q Single n = n ≤ 1
 
-begins_within : (szx : ℕ) (q : Request) (m : Method) (n : ℕ) → q.method ≡ m → n ≤ 1 → Within szx q (transfer_of szx q m) n
+begins_within : (szx : ℕ) (q : Request) (m : Method) (n : ℕ) → q.method ≡ m → n ≤ 1
+    → Within szx q (transfer_of szx q m) n
 begins_within szx q Get n is one = (is, fetch_begins szx n one)
 begins_within szx q Post n is one = (subst IsUploading (sym is) tt, inl (refl, one))
 begins_within szx q Put n is one = (subst IsUploading (sym is) tt, inl (refl, one))
 begins_within szx q Delete n is one = one
 
 module _ (szx : ℕ) (q r : Request) (m : Message) (next : Transfer) (n : ℕ) where
-  fetch_within : (f : FetchState) → answer r (Fetches f) m ≡ calls.Asks next → Within szx q (Fetches f) n → Within szx q next (1 + n)
+  fetch_within : (f : FetchState) → answer r (Fetches f) m ≡ calls.Asks next → Within szx q (Fetches f) n
+      → Within szx q next (1 + n)
   fetch_within f h w = by (m.code == content) ((m.code == valid) && has_tags r.etags) h
     where
       by_verdict : (v : Verdict) → part f m ≡ v → calls.fetched f m v ≡ calls.Asks next → Within szx q next (1 + n)
       by_verdict (verdict.Refuse why) is h = absurd (cc h)
       by_verdict verdict.Done is h = absurd (cc h)
-      by_verdict verdict.Again is h = let e : Fetches (F.after f (tag_in m) m.payload verdict.Again) ≡ next = cc h in subst (λ t. Within szx q t (1 + n)) e (w.0, fetch_anew f m n is w.1)
+      by_verdict verdict.Again is h = let e : Fetches (F.after f (tag_in m) m.payload verdict.Again)
+          ≡ next = cc h in subst (λ t. Within szx q t (1 + n)) e (w.0, fetch_anew f m n is w.1)
       by_verdict (verdict.Ask num size) is h =
-          let e : Fetches (F.after f (tag_in m) m.payload (verdict.Ask num size)) ≡ next = cc h in subst (λ t. Within szx q t (1 + n)) e (w.0, fetch_more f m n num size is w.1)
+          let e : Fetches (F.after f (tag_in m) m.payload (verdict.Ask num size))
+          ≡ next = cc h in subst (λ t. Within szx q t (1 + n)) e (w.0, fetch_more f m n num size is w.1)
 
-      by : (c d : Bool) → cond c (calls.fetched f m (part f m)) (cond d (calls.Ends true (Valid (tag_in m))) (calls.Ends true (Failed m.code))) ≡ calls.Asks next → Within szx q next (1 + n)
+      by : (c d : Bool) → cond c (calls.fetched f m (part f m))
+          (cond d (calls.Ends true (Valid (tag_in m))) (calls.Ends true (Failed m.code))) ≡ calls.Asks next
+          → Within szx q next (1 + n)
       by true d h = by_verdict (part f m) refl h
       by false true h = absurd (cc h)
       by false false h = absurd (cc h)
 
-  upload_within : (u : UploadState) → answer r (Uploads u) m ≡ calls.Asks next → Within szx q (Uploads u) n → Within szx q next (1 + n)
+  upload_within : (u : UploadState) → answer r (Uploads u) m ≡ calls.Asks next → Within szx q (Uploads u) n
+      → Within szx q next (1 + n)
   upload_within u h w = by ((m.code == continue) && is_longer u) refl (more_follows u && calls.is_below_errors m.code) h
     where
-      step : is_longer u ≡ true → (b : Block) (c : Bool) → continues u b ≡ c → cond c (calls.Asks (Uploads (moved u b))) (calls.Ends false BadBlock) ≡ calls.Asks next → Within szx q next (1 + n)
-      step long b true may h = let e : Uploads (moved u b) ≡ next = cc h in subst (λ t. Within szx q t (1 + n)) e (w.0, upload_more szx q.body u b n may long w.1)
+      step : is_longer u ≡ true → (b : Block) (c : Bool) → continues u b ≡ c
+          → cond c (calls.Asks (Uploads (moved u b))) (calls.Ends false BadBlock) ≡ calls.Asks next
+          → Within szx q next (1 + n)
+      step long b true may h = let e : Uploads (moved u b)
+          ≡ next = cc h in subst (λ t. Within szx q t (1 + n)) e (w.0, upload_more szx q.body u b n may long w.1)
       step long b false may h = absurd (cc h)
 
-      by_block : is_longer u ≡ true → (o : Option Block) → calls.continued u o ≡ calls.Asks next → Within szx q next (1 + n)
+      by_block : is_longer u ≡ true → (o : Option Block) → calls.continued u o ≡ calls.Asks next
+          → Within szx q next (1 + n)
       by_block long None h = absurd (cc h)
       by_block long (Some b) h = step long b (continues u b) refl h
 
       by : (b : Bool) → ((m.code == continue) && is_longer u) ≡ b → (p : Bool)
-          → cond b (calls.continued u (block_at block1 m)) (cond p (calls.Ends true BadBlock) (calls.Ends true (done r.method m.code))) ≡ calls.Asks next → Within szx q next (1 + n)
+          → cond b (calls.continued u (block_at block1 m))
+          (cond p (calls.Ends true BadBlock) (calls.Ends true (done r.method m.code))) ≡ calls.Asks next
+          → Within szx q next (1 + n)
       by true is p h = by_block (and_parts (m.code == continue) (is_longer u) is).1 (block_at block1 m) h
       by false is true h = absurd (cc h)
       by false is false h = absurd (cc h)
@@ -115,7 +128,8 @@ module _ (szx : ℕ) (q r : Request) (m : Message) (next : Transfer) (n : ℕ) w
   next_within (Uploads u) h w = upload_within u h w
   next_within Single h w = absurd (cc h)
 
-within_bound : (szx : ℕ) (q : Request) (tr : Transfer) (n : ℕ) → length q.body ≤ 65536 → Within szx q tr n → n ≤ most_requests szx q q.method
+within_bound : (szx : ℕ) (q : Request) (tr : Transfer) (n : ℕ) → length q.body ≤ 65536 → Within szx q tr n
+    → n ≤ most_requests szx q q.method
 within_bound szx q (Fetches f) n small w = subst (λ m. n ≤ most_requests szx q m) (sym w.0) (fetch_bound f n w.1)
 within_bound szx q (Uploads u) n small w = by q.method w.0
   where
@@ -138,11 +152,13 @@ within_bound szx q Single n small w = by q.method
 
 -- the client's block size stays
 
-szx_held : (s : Own) (c : Bool) (report : Option Reported) → (ends report (cond c (record s { hold = Some s.sent }) s)).own.szx ≡ s.szx
+szx_held : (s : Own) (c : Bool) (report : Option Reported)
+    → (ends report (cond c (record s { hold = Some s.sent }) s)).own.szx ≡ s.szx
 szx_held s true report = refl
 szx_held s false report = refl
 
-szx_failed : (u : Transfer → Bool) (report : Report) (s : Own) (running : Option Operation) → (failed u report s running).own.szx ≡ s.szx
+szx_failed : (u : Transfer → Bool) (report : Report) (s : Own) (running : Option Operation)
+    → (failed u report s running).own.szx ≡ s.szx
 szx_failed u report s None = refl
 szx_failed u report s (Some (Calling k r t)) = szx_held s (u t && is_upload t) (of k report)
 szx_failed u report s (Some (Registering k path)) = refl
@@ -156,7 +172,8 @@ szx_moves s now told (mv.copies q) = refl
 szx_moves s now told (mv.starts_next op queue none rest first q) = refl
 szx_moves s now told (mv.fetches k none rest q) = refl
 szx_moves s now told (mv.goes_on k r tr next a hears runs asks) = refl
-szx_moves s now told (mv.is_done k r tr final rep a hears runs ends_so) = szx_held s (not final && is_upload tr) (of k rep)
+szx_moves s now told (mv.is_done k r tr final rep a hears runs ends_so) =
+    szx_held s (not final && is_upload tr) (of k rep)
 szx_moves s now told (mv.registers k path a hears runs note) = refl
 szx_moves s now told (mv.refuses k path a hears runs note) = refl
 szx_moves s now told (mv.fetches_on k n a num size hears runs rest code asks) = refl
@@ -170,16 +187,19 @@ szx_moves s now told (mv.is_ended o a notes found note) = refl
 szx_moves s now told (mv.renews o a notes found note newer) = refl
 szx_moves s now told (mv.passes_by o a notes found note newer) = refl
 
-szx_closed : (now : ℕ) (e : Effect) (token : Result (List ℕ) AskRefusal) → Closing now e token → (closed now e e.deed token).own.szx ≡ e.own.szx
+szx_closed : (now : ℕ) (e : Effect) (token : Result (List ℕ) AskRefusal) → Closing now e token
+    → (closed now e e.deed token).own.szx ≡ e.own.szx
 szx_closed now e token (quiet q none own_same report_same) = ap (λ (o : Own). o.szx) own_same
 szx_closed now e token (goes_out op key asks given sends_it own_same report_same) = ap (λ (o : Own). o.szx) own_same
-szx_closed now e token (is_refused op why asks given none all) = ap (λ (c : Effect). c.own.szx) all ∙ szx_failed has_sent NoIds e.own (Some op)
+szx_closed now e token (is_refused op why asks given none all) = ap (λ (c : Effect). c.own.szx) all
+    ∙ szx_failed has_sent NoIds e.own (Some op)
 
 szx_turned : (szx : ℕ) (t : List Call) (c : Call) → Turned szx t c → (own_of szx (c ∷ t)).szx ≡ (own_of szx t).szx
 szx_turned szx t c k =
     let m : ℕ = max (own_of szx t).clock k.now in
     let s : Own = at k.now (own_of szx t) in
-    ap (λ (o : Own). o.szx) k.own_is ∙ (szx_closed m (left_by s m k.told k.move) k.token k.closes ∙ szx_moves s m k.told k.move)
+    ap (λ (o : Own). o.szx) k.own_is ∙ (szx_closed m (left_by s m k.told k.move) k.token k.closes
+    ∙ szx_moves s m k.told k.move)
 
 szx_same : (szx : ℕ) (t : List Call) → (own_of szx t).szx ≡ szx
 szx_same szx [] = refl
@@ -194,8 +214,10 @@ szx_same szx (c ∷ t) = by c ∙ szx_same szx t
     by (Cancels now k (Some why)) = refl
     by (Forgets k was true) = refl
     by (Forgets k was false) = refl
-    by (Feeds now from bytes w up settled event sent token was) = szx_turned szx t _ (fed_turned szx t now from bytes w up settled event sent token was)
-    by (Ticks now w below turn sent token was answer) = szx_turned szx t _ (ticked_turned szx t now w below turn sent token was answer)
+    by (Feeds now from bytes w up settled event sent token was) =
+        szx_turned szx t _ (fed_turned szx t now from bytes w up settled event sent token was)
+    by (Ticks now w below turn sent token was answer) =
+        szx_turned szx t _ (ticked_turned szx t now w below turn sent token was answer)
     by (NextOut answer) = refl
     by (NextReport answer) = refl
     by (Asked answer) = refl
@@ -206,7 +228,8 @@ abbrev pub taken : ℕ → Request → Taken
 taken k q = record { number = k; request = q }
 
 abbrev Waits : ℕ → List Call → Operation → Type 0
-Waits szx t (Calling k r tr) = (q : Request) × WasTaken (taken k q) t × (length q.body ≤ 65536) × (tr ≡ transfer_of szx q q.method)
+Waits szx t (Calling k r tr) = (q : Request) × WasTaken (taken k q) t × (length q.body ≤ 65536)
+    × (tr ≡ transfer_of szx q q.method)
 Waits szx t op = Unit {0}
 
 waits_later : (szx : ℕ) (t : List Call) (c : Call) (op : Operation) → Waits szx t op → Waits szx (c ∷ t) op
@@ -218,9 +241,12 @@ waits_later szx t c Dropped h = tt
 
 -- a call that is taken has a body that can be joined
 body_small : (s : Own) (r : Request) (n : ℕ) → Ok n ≡ call_answer s r → length r.body ≤ 65536
-body_small s r n is = by (is_full s) (nat_lt max_body (length r.body)) (are_long (block_number r.method) (options_of r)) refl is
+body_small s r n is = by (is_full s) (nat_lt max_body (length r.body))
+    (are_long (block_number r.method) (options_of r)) refl is
   where
-    by : (a b c : Bool) → nat_lt max_body (length r.body) ≡ b → Ok n ≡ cond a (Err QueueFull) (cond b (Err BodyTooLarge) (cond c (Err BadPath) (taken_by s))) → length r.body ≤ 65536
+    by : (a b c : Bool) → nat_lt max_body (length r.body) ≡ b
+        → Ok n ≡ cond a (Err QueueFull) (cond b (Err BodyTooLarge) (cond c (Err BadPath) (taken_by s)))
+        → length r.body ≤ 65536
     by true b c small e = absurd (cc e)
     by false true c small e = absurd (cc e)
     by false false c small e = lt_not max_body (length r.body) small
@@ -254,20 +280,25 @@ at_most_one k (Some x) = by (call_of x.operation)
         go false = omega arith
 
 -- a request is of this call, or of no use for it
-pub sent_or_not : (k : ℕ) (o : Option Sending) → (one_sent k o ≡ 0) ⊎ ((x : Sending) × (o ≡ Some x) × (call_of x.operation ≡ Some k))
+pub sent_or_not : (k : ℕ) (o : Option Sending)
+    → (one_sent k o ≡ 0) ⊎ ((x : Sending) × (o ≡ Some x) × (call_of x.operation ≡ Some k))
 sent_or_not k None = inl refl
 sent_or_not k (Some x) = by (call_of x.operation) refl
   where
-    by : (o : Option ℕ) → call_of x.operation ≡ o → (one_of k o ≡ 0) ⊎ ((y : Sending) × (◌≡◌ {A = Option Sending} (Some x) (Some y)) × (call_of y.operation ≡ Some k))
+    by : (o : Option ℕ) → call_of x.operation ≡ o
+        → (one_of k o ≡ 0) ⊎ ((y : Sending) × (◌≡◌ {A = Option Sending} (Some x) (Some y))
+        × (call_of y.operation ≡ Some k))
     by None is = inl refl
     by (Some n) is = go (n == k) refl
       where
-        go : (b : Bool) → (n == k) ≡ b → (◌≡◌ {A = ℕ} (cond b 1 0) 0) ⊎ ((y : Sending) × (◌≡◌ {A = Option Sending} (Some x) (Some y)) × (call_of y.operation ≡ Some k))
+        go : (b : Bool) → (n == k) ≡ b → (◌≡◌ {A = ℕ} (cond b 1 0) 0)
+            ⊎ ((y : Sending) × (◌≡◌ {A = Option Sending} (Some x) (Some y)) × (call_of y.operation ≡ Some k))
         go true e = inr (x, refl, is ∙ ap (λ i. Some i) (same_number n k e))
         go false e = inl refl
 
 module _ (szx : ℕ) where
-  none_sent : (k : ℕ) (t : List Call) → ((x : Sending) → WasSent szx x t → call_of x.operation ≡ Some k → ⊥) → requests szx k t ≡ 0
+  none_sent : (k : ℕ) (t : List Call) → ((x : Sending) → WasSent szx x t → call_of x.operation ≡ Some k → ⊥)
+      → requests szx k t ≡ 0
   none_sent k [] f = refl
   none_sent k (c ∷ t) f =
       elim (sent_or_not k (sends (own_of szx t) c)) [
@@ -275,15 +306,20 @@ module _ (szx : ℕ) where
         | inr h ↦ absurd (f h.0 (inl h.1) h.2)
       ]
 
-  waits_step : (t : List Call) (c : Call) → IsRight (own_of szx t) c → AllOf (Waits szx (c ∷ t)) (own_of szx t).queue → AllOf (Waits szx (c ∷ t)) (own_of szx (c ∷ t)).queue
+  waits_step : (t : List Call) (c : Call) → IsRight (own_of szx t) c → AllOf (Waits szx (c ∷ t)) (own_of szx t).queue
+      → AllOf (Waits szx (c ∷ t)) (own_of szx (c ∷ t)).queue
   waits_step t (Calls now r (Ok n)) right h =
-      all_more (Waits szx (Calls now r (Ok n) ∷ t)) (own_of szx t).queue (calling (own_of szx t).szx n r) h (r, inl refl, body_small (own_of szx t) r n right, ap (λ i. transfer_of i r r.method) (szx_same szx t))
+      all_more (Waits szx (Calls now r (Ok n) ∷ t)) (own_of szx t).queue (calling (own_of szx t).szx n r) h
+      (r, inl refl, body_small (own_of szx t) r n right, ap (λ i. transfer_of i r r.method) (szx_same szx t))
   waits_step t (Calls now r (Err why)) right h = h
-  waits_step t (Observes now path (Ok n)) right h = all_more (Waits szx (Observes now path (Ok n) ∷ t)) (own_of szx t).queue (Registering n path) h tt
+  waits_step t (Observes now path (Ok n)) right h =
+      all_more (Waits szx (Observes now path (Ok n) ∷ t)) (own_of szx t).queue (Registering n path) h tt
   waits_step t (Observes now path (Err why)) right h = h
-  waits_step t (Cancels now k None) right h = all_more (Waits szx (Cancels now k None ∷ t)) (own_of szx t).queue (Cancelling k) h tt
+  waits_step t (Cancels now k None) right h = all_more (Waits szx (Cancels now k None ∷ t)) (own_of szx t).queue
+      (Cancelling k) h tt
   waits_step t (Cancels now k (Some why)) right h = h
-  waits_step t (Forgets k was true) right h = all_uncancelled k (Waits szx (Forgets k was true ∷ t)) (own_of szx t).queue h
+  waits_step t (Forgets k was true) right h = all_uncancelled k (Waits szx (Forgets k was true ∷ t))
+      (own_of szx t).queue h
   waits_step t (Forgets k was false) right h = h
   waits_step t (NextOut answer) right h = h
   waits_step t (NextReport answer) right h = h
@@ -303,7 +339,8 @@ module _ (szx : ℕ) where
 
   all_wait : (t : List Call) → ClientRows szx t → AllOf (Waits szx t) (own_of szx t).queue
   all_wait [] rows = tt
-  all_wait (c ∷ t) rows = waits_step t c rows.0 (all_to (Waits szx t) (Waits szx (c ∷ t)) (waits_later szx t c) (own_of szx t).queue (all_wait t rows.1))
+  all_wait (c ∷ t) rows = waits_step t c rows.0
+      (all_to (Waits szx t) (Waits szx (c ∷ t)) (waits_later szx t c) (own_of szx t).queue (all_wait t rows.1))
 
   -- the call that runs sent so many
   pub record Runs (t : List Call) (k : ℕ) (tr : Transfer) : Type 0 where
@@ -312,23 +349,40 @@ module _ (szx : ℕ) where
     pub small : length request.body ≤ 65536
     pub within : Within szx request tr (requests szx k t)
 
-  pub started : (t : List Call) → ClientRows szx t → (k : ℕ) (r : Request) (tr : Transfer) (queue : List Operation) → (own_of szx t).queue ≡ Calling k r tr ∷ queue → requests szx k t ≡ 0
+  pub started : (t : List Call) → ClientRows szx t → (k : ℕ) (r : Request) (tr : Transfer) (queue : List Operation)
+      → (own_of szx t).queue ≡ Calling k r tr ∷ queue → requests szx k t ≡ 0
   started t rows k r tr queue is =
       let h : Turns szx t = turns szx t rows in
-      let w : Rises h.low (Calling k r tr ∷ queue) (own_of szx t).taken = subst (λ ops. Rises h.low ops (own_of szx t).taken) is h.waits in
+      let w : Rises h.low (Calling k r tr ∷ queue) (own_of szx t).taken =
+      subst (λ ops. Rises h.low ops (own_of szx t).taken) is h.waits in
       let low = w.0 in
-      none_sent k t (λ x was of_it. (let less = h.sent x k was (call_turns x.operation k of_it) in absurd (omega (arith, less, low))))
+      none_sent k t (λ x was of_it. (let less = h.sent x k was (call_turns x.operation k of_it) in absurd
+      (omega (arith, less, low))))
 
-  runs_here : (t : List Call) (c : Call) → ClientRows szx t → (k : ℕ) (r : Request) (tr : Transfer) → Origin szx t c k r tr → ((old : Transfer) → (own_of szx t).running ≡ Some (Calling k r old) → Runs t k old) → Runs (c ∷ t) k tr
+  runs_here : (t : List Call) (c : Call) → ClientRows szx t → (k : ℕ) (r : Request) (tr : Transfer)
+      → Origin szx t c k r tr → ((old : Transfer) → (own_of szx t).running ≡ Some (Calling k r old) → Runs t k old)
+      → Runs (c ∷ t) k tr
   runs_here t c rows k r tr (kept runs none) ih =
       let h = ih tr runs in
       let same : requests szx k (c ∷ t) ≡ requests szx k t = (let e = ap (one_sent k) none in omega (arith, e)) in
-      record { request = h.request; taken_it = inr h.taken_it; small = h.small; within = subst (Within szx h.request tr) (sym same) h.within }
+      record {
+        request = h.request;
+        taken_it = inr h.taken_it;
+        small = h.small;
+        within = subst (Within szx h.request tr) (sym same) h.within;
+      }
   runs_here t c rows k r tr (follows old m x runs heard asks sends_it op_is) ih =
       let h = ih old runs in
-      let one : one_sent k (sends (own_of szx t) c) ≡ 1 = ap (one_sent k) sends_it ∙ (ap (λ op. one_of k (call_of op)) op_is ∙ ap (λ b. cond b 1 0) (number_self k)) in
+      let one : one_sent k (sends (own_of szx t) c) ≡ 1 = ap (one_sent k) sends_it
+      ∙ (ap (λ op. one_of k (call_of op)) op_is ∙ ap (λ b. cond b 1 0) (number_self k)) in
       let more : requests szx k (c ∷ t) ≡ 1 + requests szx k t = omega (arith, one) in
-      record { request = h.request; taken_it = inr h.taken_it; small = h.small; within = subst (Within szx h.request tr) (sym more) (next_within szx h.request r m tr (requests szx k t) old asks h.within) }
+      record {
+        request = h.request;
+        taken_it = inr h.taken_it;
+        small = h.small;
+        within = subst (Within szx h.request tr) (sym more)
+            (next_within szx h.request r m tr (requests szx k t) old asks h.within);
+      }
   runs_here t c rows k r tr (begins queue is) ih =
       let all : AllOf (Waits szx t) (Calling k r tr ∷ queue) = subst (AllOf (Waits szx t)) is (all_wait t rows) in
       let g = all.0 in
@@ -338,22 +392,28 @@ module _ (szx : ℕ) where
         request = g.0;
         taken_it = inr g.1;
         small = g.2;
-        within = subst (λ z. Within szx g.0 z (requests szx k (c ∷ t))) (sym g.3) (begins_within szx g.0 g.0.method (requests szx k (c ∷ t)) refl (omega (arith, none, one)));
+        within = subst (λ z. Within szx g.0 z (requests szx k (c ∷ t))) (sym g.3)
+            (begins_within szx g.0 g.0.method (requests szx k (c ∷ t)) refl (omega (arith, none, one)));
       }
 
-  pub runs_within : (t : List Call) → ClientRows szx t → (k : ℕ) (r : Request) (tr : Transfer) → (own_of szx t).running ≡ Some (Calling k r tr) → Runs t k tr
+  pub runs_within : (t : List Call) → ClientRows szx t → (k : ℕ) (r : Request) (tr : Transfer)
+      → (own_of szx t).running ≡ Some (Calling k r tr) → Runs t k tr
   runs_within [] rows k r tr is = absurd (cc is)
-  runs_within (c ∷ t) rows k r tr is = runs_here t c rows.1 k r tr (origin szx t c k r tr is) (λ old runs. runs_within t rows.1 k r old runs)
+  runs_within (c ∷ t) rows k r tr is = runs_here t c rows.1 k r tr (origin szx t c k r tr is)
+      (λ old runs. runs_within t rows.1 k r old runs)
 
   -- so each call sent none, or so many
   abbrev Bounded : ℕ → List Call → Type 0
-  Bounded k t = (requests szx k t ≡ 0) ⊎ ((q : Request) × WasTaken (taken k q) t × (requests szx k t ≤ most_requests szx q q.method))
+  Bounded k t = (requests szx k t ≡ 0) ⊎ ((q : Request) × WasTaken (taken k q) t
+      × (requests szx k t ≤ most_requests szx q q.method))
 
   bounded : (t : List Call) → ClientRows szx t → (k : ℕ) → Bounded k t
   bounded [] rows k = inl refl
   bounded (c ∷ t) rows k = by (sent_or_not k (sends (own_of szx t) c)) (bounded t rows.1 k)
     where
-      by : (one_sent k (sends (own_of szx t) c) ≡ 0) ⊎ ((x : Sending) × (sends (own_of szx t) c ≡ Some x) × (call_of x.operation ≡ Some k)) → Bounded k t → Bounded k (c ∷ t)
+      by : (one_sent k (sends (own_of szx t) c) ≡ 0)
+          ⊎ ((x : Sending) × (sends (own_of szx t) c ≡ Some x) × (call_of x.operation ≡ Some k)) → Bounded k t
+          → Bounded k (c ∷ t)
       by (inl none) (inl zero) = inl (omega (arith, none, zero))
       by (inl none) (inr h) = inr (h.0, inr h.1, (let least = h.2 in omega (arith, none, least)))
       by (inr h) ih =
@@ -364,7 +424,8 @@ module _ (szx : ℕ) where
 -- a number is given to one request
 
 gives_number : (k : ℕ) (q : Request) (c : Call) → takes c ≡ Some (taken k q) → number_given c ≡ Some k
-gives_number k q (Calls now r (Ok n)) is = let e : ◌≡◌ {A = Taken} (taken n r) (taken k q) = cc is in ap (λ (x : Taken). Some x.number) e
+gives_number k q (Calls now r (Ok n)) is = let e : ◌≡◌ {A = Taken} (taken n r) (taken k q) =
+    cc is in ap (λ (x : Taken). Some x.number) e
 gives_number k q (Calls now r (Err why)) is = absurd (cc is)
 gives_number k q (Observes now path answer) is = absurd (cc is)
 gives_number k q (Cancels now n answer) is = absurd (cc is)
@@ -376,12 +437,15 @@ gives_number k q (NextReport answer) is = absurd (cc is)
 gives_number k q (Asked answer) is = absurd (cc is)
 
 given_before : (k : ℕ) (q : Request) (t : List Call) → WasTaken (taken k q) t → Ever (λ b. number_given b ≡ Some k) t
-given_before k q t h = Ever_map (λ b. takes b ≡ Some (taken k q)) (λ b. number_given b ≡ Some k) (λ b is. gives_number k q b is) t h
+given_before k q t h = Ever_map (λ b. takes b ≡ Some (taken k q)) (λ b. number_given b ≡ Some k)
+    (λ b is. gives_number k q b is) t h
 
-one_request : (k : ℕ) (a b : Request) (t : List Call) → NumbersOnce t → WasTaken (taken k a) t → WasTaken (taken k b) t → a ≡ b
+one_request : (k : ℕ) (a b : Request) (t : List Call) → NumbersOnce t → WasTaken (taken k a) t → WasTaken (taken k b) t
+    → a ≡ b
 one_request k a b [] once h i = absurd h
 one_request k a b (c ∷ t) once (inl h) (inl i) =
-    let e : ◌≡◌ {A = Option Taken} (Some (taken k a)) (Some (taken k b)) = sym h ∙ i in let z : taken k a ≡ taken k b = cc e in ap (λ (x : Taken). x.request) z
+    let e : ◌≡◌ {A = Option Taken} (Some (taken k a)) (Some (taken k b)) = sym h
+    ∙ i in let z : taken k a ≡ taken k b = cc e in ap (λ (x : Taken). x.request) z
 one_request k a b (c ∷ t) once (inl h) (inr i) = absurd (once.0 k (gives_number k a c h) (given_before k b t i))
 one_request k a b (c ∷ t) once (inr h) (inl i) = absurd (once.0 k (gives_number k b c i) (given_before k a t h))
 one_request k a b (c ∷ t) once (inr h) (inr i) = one_request k a b t once.1 h i
@@ -392,5 +456,6 @@ are_bounded server szx word t law x was = by (bounded szx t law.rows x.number)
     by : Bounded szx x.number t → requests szx x.number t ≤ most_requests szx x.request x.request.method
     by (inl none) = omega (arith, none)
     by (inr h) =
-        let same : h.0 ≡ x.request = one_request x.number h.0 x.request t (numbers_once server szx word t law.rows law.exchanges.rows) h.1 was in
+        let same : h.0 ≡ x.request = one_request x.number h.0 x.request t
+        (numbers_once server szx word t law.rows law.exchanges.rows) h.1 was in
         subst (λ (q : Request). requests szx x.number t ≤ most_requests szx q q.method) same h.2

@@ -55,13 +55,15 @@ lapse_none event_of.Timeout = refl
 lapse_none event_of.Reset = refl
 lapse_none event_of.NoResponse = refl
 
-value_none : (k sequence : ℕ) (f : FetchState) (m : Message) (v : Verdict) → code_reported (value k sequence f m v) ≡ false
+value_none : (k sequence : ℕ) (f : FetchState) (m : Message) (v : Verdict)
+    → code_reported (value k sequence f m v) ≡ false
 value_none k sequence f m (verdict.Refuse why) = refl
 value_none k sequence f m verdict.Done = refl
 value_none k sequence f m verdict.Again = refl
 value_none k sequence f m (verdict.Ask num size) = refl
 
-failed_none : (u : Transfer → Bool) (report : Report) (s : Own) (running : Option Operation) → is_code report ≡ false → code_reported (failed u report s running).report ≡ false
+failed_none : (u : Transfer → Bool) (report : Report) (s : Own) (running : Option Operation) → is_code report ≡ false
+    → code_reported (failed u report s running).report ≡ false
 failed_none u report s None h = refl
 failed_none u report s (Some (Calling k r t)) h = h
 failed_none u report s (Some (Registering k path)) h = h
@@ -79,16 +81,32 @@ pub record GivesCode (s : Own) (heard : Option Message) (k : ℕ) (report : Repo
   pub final : Bool
   pub ends_so : answer request transfer message ≡ calls.Ends final report
 
-move_code : (s : Own) (now : ℕ) (told : Option Event) (mo : Move s now told) → (code_reported (left_by s now told mo).report ≡ false)
-    ⊎ ((k : ℕ) × (report : Report) × ((left_by s now told mo).report ≡ of k report) × GivesCode s (heard_in told) k report)
+move_code : (s : Own) (now : ℕ) (told : Option Event) (mo : Move s now told)
+    → (code_reported (left_by s now told mo).report ≡ false)
+    ⊎ ((k : ℕ) × (report : Report) × ((left_by s now told mo).report ≡ of k report)
+    × GivesCode s (heard_in told) k report)
 move_code s now told (mv.rests un) = inl refl
 move_code s now told (mv.copies q) = inl refl
 move_code s now told (mv.starts_next op queue none rest first q) = inl refl
 move_code s now told (mv.fetches k none rest q) = inl refl
 move_code s now told (mv.goes_on k r tr next a hears_it runs asks) = inl refl
 move_code s now told (mv.is_done k r tr final rep a hears_it runs ends_so) =
-    inr (k, rep, refl, record { request = r; transfer = tr; message = a; runs = runs; heard_it = ap heard_in hears_it; final = final; ends_so = ends_so })
-move_code s now told (mv.registers k path a hears_it runs note) = inl (value_none k _ (F.start s.szx 0) a (part (F.start s.szx 0) a))
+    inr (
+      k,
+      rep,
+      refl,
+      record {
+        request = r;
+        transfer = tr;
+        message = a;
+        runs = runs;
+        heard_it = ap heard_in hears_it;
+        final = final;
+        ends_so = ends_so;
+      },
+    )
+move_code s now told (mv.registers k path a hears_it runs note) =
+    inl (value_none k _ (F.start s.szx 0) a (part (F.start s.szx 0) a))
 move_code s now told (mv.refuses k path a hears_it runs note) = inl refl
 move_code s now told (mv.fetches_on k n a num size hears_it runs rest code asks) = inl refl
 move_code s now told (mv.fetched k n a hears_it runs rest code done) = inl refl
@@ -98,37 +116,61 @@ move_code s now told (mv.cancels k a hears_it runs) = inl refl
 move_code s now told (mv.is_dropped a hears_it runs) = inl refl
 move_code s now told (mv.fails e un) = inl (failed_none (λ t. true) (lapse e) s s.running (lapse_none e))
 move_code s now told (mv.is_ended o a notes found note) = inl refl
-move_code s now told (mv.renews o a notes found note newer) = inl (value_none o.number _ (F.start s.szx 0) a (part (F.start s.szx 0) a))
+move_code s now told (mv.renews o a notes found note newer) =
+    inl (value_none o.number _ (F.start s.szx 0) a (part (F.start s.szx 0) a))
 move_code s now told (mv.passes_by o a notes found note newer) = inl refl
 
 module _ (szx : ℕ) where
-  code_from : (t : List Call) (c : Call) → Turned szx t c → (k : ℕ) (report : Report) → is_code report ≡ true → reports (own_of szx t) c ≡ of k report → GivesCode (own_of szx t) (hears c) k report
-  code_from t c z k report is_it made = by z.closes (move_code (at z.now (own_of szx t)) (max (own_of szx t).clock z.now) z.told z.move)
+  code_from : (t : List Call) (c : Call) → Turned szx t c → (k : ℕ) (report : Report) → is_code report ≡ true
+      → reports (own_of szx t) c ≡ of k report → GivesCode (own_of szx t) (hears c) k report
+  code_from t c z k report is_it made = by z.closes
+      (move_code (at z.now (own_of szx t)) (max (own_of szx t).clock z.now) z.told z.move)
     where
       e : Effect
       e = left_by (at z.now (own_of szx t)) (max (own_of szx t).clock z.now) z.told z.move
 
       shows : (o : Option Reported) → reports (own_of szx t) c ≡ o → code_reported o ≡ false → ⊥
-      shows o is none = let a : code_reported (of k report) ≡ false = ap code_reported (sym made ∙ is) ∙ none in cc (a, is_it)
+      shows o is none = let a : code_reported (of k report) ≡ false = ap code_reported (sym made ∙ is)
+          ∙ none in cc (a, is_it)
 
-      by : Closing (max (own_of szx t).clock z.now) e z.token → (code_reported e.report ≡ false) ⊎ ((j : ℕ) × (rep : Report) × (e.report ≡ of j rep) × GivesCode (at z.now (own_of szx t)) (heard_in z.told) j rep) → GivesCode (own_of szx t) (hears c) k report
-      by (goes_out op key asks given sends_it own_same report_same) m = absurd (shows None (z.reports_is ∙ report_same) refl)
-      by (is_refused op why asks given none all) m = absurd (shows (failed has_sent NoIds e.own (Some op)).report (z.reports_is ∙ ap (λ (x : Effect). x.report) all) (failed_none has_sent NoIds e.own (Some op) refl))
+      by : Closing (max (own_of szx t).clock z.now) e z.token
+          → (code_reported e.report ≡ false) ⊎ ((j : ℕ) × (rep : Report) × (e.report ≡ of j rep)
+          × GivesCode (at z.now (own_of szx t)) (heard_in z.told) j rep) → GivesCode (own_of szx t) (hears c) k report
+      by (goes_out op key asks given sends_it own_same report_same) m =
+          absurd (shows None (z.reports_is ∙ report_same) refl)
+      by (is_refused op why asks given none all) m =
+          absurd (shows (failed has_sent NoIds e.own (Some op)).report
+          (z.reports_is ∙ ap (λ (x : Effect). x.report) all) (failed_none has_sent NoIds e.own (Some op) refl))
       by (quiet q none own_same report_same) (inl m) = absurd (shows e.report (z.reports_is ∙ report_same) m)
       by (quiet q none own_same report_same) (inr m) =
           let same : of m.0 m.1 ≡ of k report = sym m.2 ∙ (sym report_same ∙ (sym z.reports_is ∙ made)) in
-          let record_same : ◌≡◌ {A = Reported} (record { number = m.0; report = m.1 }) (record { number = k; report = report }) = cc same in
+          let record_same : ◌≡◌ {A = Reported} (record { number = m.0; report = m.1 })
+          (record { number = k; report = report }) = cc same in
           let n : m.0 ≡ k = ap (λ (x : Reported). x.number) record_same in
           let rep : m.1 ≡ report = ap (λ (x : Reported). x.report) record_same in
           let g0 = m.3 in
           let g : GivesCode (own_of szx t) (hears c) m.0 m.1
-          = record { request = g0.request; transfer = g0.transfer; message = g0.message; runs = g0.runs; heard_it = z.hears_is ∙ g0.heard_it; final = g0.final; ends_so = g0.ends_so }
+          = record {
+            request = g0.request;
+            transfer = g0.transfer;
+            message = g0.message;
+            runs = g0.runs;
+            heard_it = z.hears_is ∙ g0.heard_it;
+            final = g0.final;
+            ends_so = g0.ends_so;
+          }
           in
-          subst (λ j. GivesCode (own_of szx t) (hears c) j report) n (subst (GivesCode (own_of szx t) (hears c) m.0) rep g)
+          subst (λ j. GivesCode (own_of szx t) (hears c) j report) n
+          (subst (GivesCode (own_of szx t) (hears c) m.0) rep g)
 
-  gives_of : (t : List Call) (c : Call) (k : ℕ) (report : Report) → is_code report ≡ true → reports (own_of szx t) c ≡ of k report → GivesCode (own_of szx t) (hears c) k report
-  gives_of t (Feeds now from bytes w up settled event sent token was) k report is_it made = code_from t (Feeds now from bytes w up settled event sent token was) (fed_turned szx t now from bytes w up settled event sent token was) k report is_it made
-  gives_of t (Ticks now w below turn sent token was answer) k report is_it made = code_from t (Ticks now w below turn sent token was answer) (ticked_turned szx t now w below turn sent token was answer) k report is_it made
+  gives_of : (t : List Call) (c : Call) (k : ℕ) (report : Report) → is_code report ≡ true
+      → reports (own_of szx t) c ≡ of k report → GivesCode (own_of szx t) (hears c) k report
+  gives_of t (Feeds now from bytes w up settled event sent token was) k report is_it made =
+      code_from t (Feeds now from bytes w up settled event sent token was)
+      (fed_turned szx t now from bytes w up settled event sent token was) k report is_it made
+  gives_of t (Ticks now w below turn sent token was answer) k report is_it made =
+      code_from t (Ticks now w below turn sent token was answer)
+      (ticked_turned szx t now w below turn sent token was answer) k report is_it made
   gives_of t (Calls now r answer) k report is_it made = absurd (cc made)
   gives_of t (Observes now path answer) k report is_it made = absurd (cc made)
   gives_of t (Cancels now n answer) k report is_it made = absurd (cc made)
@@ -139,19 +181,28 @@ module _ (szx : ℕ) where
 
   -- the answer to the call that runs is reported
 
-  reports_answer : (s : Own) (c : Call) (k : ℕ) (r : Request) (tr : Transfer) (m : Message) (final : Bool) (report : Report) → s.running ≡ Some (Calling k r tr) → hears c ≡ Some m → answer r tr m ≡ calls.Ends final report → reports s c ≡ of k report
-  reports_answer s (Feeds now from bytes w up settled (Some (event_of.Answer a)) sent token was) k r tr m final report runs heard ends_so =
+  reports_answer : (s : Own) (c : Call) (k : ℕ) (r : Request) (tr : Transfer) (m : Message) (final : Bool)
+      (report : Report) → s.running ≡ Some (Calling k r tr) → hears c ≡ Some m → answer r tr m ≡ calls.Ends final report
+      → reports s c ≡ of k report
+  reports_answer s (Feeds now from bytes w up settled (Some (event_of.Answer a)) sent token was) k r tr m final report
+      runs heard ends_so =
       let same : a ≡ m = cc heard in
       let x : Own = at now s in
       let ended : answer r tr a ≡ calls.Ends final report = ap (answer r tr) same ∙ ends_so in
       ap (λ op. (close (max s.clock now) (answered x (max s.clock now) a op) token).report) runs
       ∙ ap (λ n. (close (max s.clock now) (called k r tr x n) token).report) ended
-  reports_answer s (Feeds now from bytes w up settled (Some (event_of.Notice a)) sent token was) k r tr m final report runs heard ends_so = absurd (cc heard)
-  reports_answer s (Feeds now from bytes w up settled (Some event_of.Timeout) sent token was) k r tr m final report runs heard ends_so = absurd (cc heard)
-  reports_answer s (Feeds now from bytes w up settled (Some event_of.Reset) sent token was) k r tr m final report runs heard ends_so = absurd (cc heard)
-  reports_answer s (Feeds now from bytes w up settled (Some event_of.NoResponse) sent token was) k r tr m final report runs heard ends_so = absurd (cc heard)
-  reports_answer s (Feeds now from bytes w up settled None sent token was) k r tr m final report runs heard ends_so = absurd (cc heard)
-  reports_answer s (Ticks now w below turn sent token was did) k r tr m final report runs heard ends_so = absurd (cc heard)
+  reports_answer s (Feeds now from bytes w up settled (Some (event_of.Notice a)) sent token was) k r tr m final report
+      runs heard ends_so = absurd (cc heard)
+  reports_answer s (Feeds now from bytes w up settled (Some event_of.Timeout) sent token was) k r tr m final report runs
+      heard ends_so = absurd (cc heard)
+  reports_answer s (Feeds now from bytes w up settled (Some event_of.Reset) sent token was) k r tr m final report runs
+      heard ends_so = absurd (cc heard)
+  reports_answer s (Feeds now from bytes w up settled (Some event_of.NoResponse) sent token was) k r tr m final report
+      runs heard ends_so = absurd (cc heard)
+  reports_answer s (Feeds now from bytes w up settled None sent token was) k r tr m final report runs heard ends_so =
+      absurd (cc heard)
+  reports_answer s (Ticks now w below turn sent token was did) k r tr m final report runs heard ends_so =
+      absurd (cc heard)
   reports_answer s (Calls now q did) k r tr m final report runs heard ends_so = absurd (cc heard)
   reports_answer s (Observes now path did) k r tr m final report runs heard ends_so = absurd (cc heard)
   reports_answer s (Cancels now n did) k r tr m final report runs heard ends_so = absurd (cc heard)
@@ -162,7 +213,8 @@ module _ (szx : ℕ) where
 
   -- what runs is the request that was sent last, as its call asks
 
-  of_call_in : (t : List Call) → AreOfCalls szx t → (x : Sending) (k : ℕ) → WasSent szx x t → call_of x.operation ≡ Some k → (past : List Call) × IsOfCall szx k x past
+  of_call_in : (t : List Call) → AreOfCalls szx t → (x : Sending) (k : ℕ) → WasSent szx x t
+      → call_of x.operation ≡ Some k → (past : List Call) × IsOfCall szx k x past
   of_call_in [] law x k h of = absurd h
   of_call_in (c ∷ t) law x k (inl h) of = (t, law.0 x k h of)
   of_call_in (c ∷ t) law x k (inr h) of = of_call_in t law.1 x k h of
@@ -175,16 +227,19 @@ module _ (szx : ℕ) where
     carries : CarriesBody szx r.method body tr
 
   module _ (server : Endpoint) (word : ℕ) where
-    runs_as : (t : List Call) → ClientLaw server szx word t → (k : ℕ) (r : Request) (tr : Transfer) → (own_of szx t).running ≡ Some (Calling k r tr) → Runs t k r tr
+    runs_as : (t : List Call) → ClientLaw server szx word t → (k : ℕ) (r : Request) (tr : Transfer)
+        → (own_of szx t).running ≡ Some (Calling k r tr) → Runs t k r tr
     runs_as t law k r tr is = by x.same
       where
         x : Tracked szx t (Calling k r tr) (beneath server szx word t).running
-        x = subst (λ o. IfTracked szx t o (beneath server szx word t).running) is (all_sends szx server word t law.rows law.exchanges.rows).tracked
+        x = subst (λ o. IfTracked szx t o (beneath server szx word t).running) is
+            (all_sends szx server word t law.rows law.exchanges.rows).tracked
 
         by : (Calling k r tr ≡ Dropped) ⊎ (x.sending.operation ≡ Calling k r tr) → Runs t k r tr
         by (inl d) = absurd (cc d)
         by (inr same) =
-            let g = (of_call_in t (are_of_calls szx t) x.sending k (last_was_sent szx t x.sending x.last) (ap call_of same)).1 in
+            let g = (of_call_in t (are_of_calls szx t) x.sending k (last_was_sent szx t x.sending x.last)
+            (ap call_of same)).1 in
             let op : Calling k r tr ≡ Calling k (record g.request { body = [] }) g.transfer = sym same ∙ g.operation in
             let request_is : r ≡ record g.request { body = [] } = cc op in
             let transfer_is : tr ≡ g.transfer = cc op in
@@ -194,19 +249,31 @@ module _ (szx : ℕ) where
               last = x.last;
               operation = same;
               body = g.request.body;
-              carries = subst (λ z. CarriesBody szx r.method g.request.body z) (sym transfer_is) (subst (λ z. CarriesBody szx z g.request.body g.transfer) (sym method_is) g.carries);
+              carries = subst (λ z. CarriesBody szx r.method g.request.body z) (sym transfer_is)
+                  (subst (λ z. CarriesBody szx z g.request.body g.transfer) (sym method_is) g.carries);
             }
 
-    module _ (t : List Call) (c : Call) (law : ClientLaw server szx word t) (answers : (m : Message) → hears c ≡ Some m → Answers szx t c m) (k : ℕ) where
-      of_code : (Means : Operation → ℕ → Type 0) (report : Report) (code : ℕ) (g : GivesCode (own_of szx t) (hears c) k report) → Means (Calling k g.request g.transfer) g.message.code → g.message.code ≡ code → IsOfCode szx Means k code t c
+    module _ (t : List Call) (c : Call) (law : ClientLaw server szx word t)
+        (answers : (m : Message) → hears c ≡ Some m → Answers szx t c m) (k : ℕ) where
+      of_code : (Means : Operation → ℕ → Type 0) (report : Report) (code : ℕ)
+          (g : GivesCode (own_of szx t) (hears c) k report) → Means (Calling k g.request g.transfer) g.message.code
+          → g.message.code ≡ code → IsOfCode szx Means k code t c
       of_code Means report code g means same =
           let a = answers g.message g.heard_it in
           let runs = runs_as t law k g.request g.transfer g.runs in
-          let sending : a.sending ≡ runs.sending = (let z : Some a.sending ≡ Some runs.sending = sym a.last ∙ runs.last in cc z) in
-          let op : a.sending.operation ≡ Calling k g.request g.transfer = ap (λ (x : Sending). x.operation) sending ∙ runs.operation in
+          let sending : a.sending ≡ runs.sending = (let z : Some a.sending ≡ Some runs.sending = sym a.last
+          ∙ runs.last in cc z) in
+          let op : a.sending.operation ≡ Calling k g.request g.transfer = ap (λ (x : Sending). x.operation) sending
+          ∙ runs.operation in
           record {
             message = g.message;
-            heard = record { heard = g.heard_it; sending = a.sending; sent = last_was_sent szx t a.sending a.last; of_call = ap call_of op; token = a.token };
+            heard = record {
+              heard = g.heard_it;
+              sending = a.sending;
+              sent = last_was_sent szx t a.sending a.last;
+              of_call = ap call_of op;
+              token = a.token;
+            };
             last = a.last;
             code_is = same;
             means = subst (Means a.sending.operation) same (subst (λ o. Means o g.message.code) (sym op) means);
@@ -226,15 +293,19 @@ module _ (szx : ℕ) where
           let d = failed_of szx k g.request runs.body g.message g.transfer runs.carries g.final code g.ends_so in
           of_code Fails (Failed code) code g d.0 d.1
 
-      each_done_so : (r : Request) (tr : Transfer) (m : Message) → (own_of szx t).running ≡ Some (Calling k r tr) → hears c ≡ Some m → Succeeds (Calling k r tr) m.code → reports (own_of szx t) c ≡ of k (Done m.code)
+      each_done_so : (r : Request) (tr : Transfer) (m : Message) → (own_of szx t).running ≡ Some (Calling k r tr)
+          → hears c ≡ Some m → Succeeds (Calling k r tr) m.code → reports (own_of szx t) c ≡ of k (Done m.code)
       each_done_so r tr m is heard so =
           let runs = runs_as t law k r tr is in
-          reports_answer (own_of szx t) c k r tr m true (Done m.code) is heard (each_done_of szx k r runs.body m tr runs.carries so)
+          reports_answer (own_of szx t) c k r tr m true (Done m.code) is heard
+          (each_done_of szx k r runs.body m tr runs.carries so)
 
-      each_failed_so : (r : Request) (tr : Transfer) (m : Message) → (own_of szx t).running ≡ Some (Calling k r tr) → hears c ≡ Some m → Fails (Calling k r tr) m.code → reports (own_of szx t) c ≡ of k (Failed m.code)
+      each_failed_so : (r : Request) (tr : Transfer) (m : Message) → (own_of szx t).running ≡ Some (Calling k r tr)
+          → hears c ≡ Some m → Fails (Calling k r tr) m.code → reports (own_of szx t) c ≡ of k (Failed m.code)
       each_failed_so r tr m is heard so =
           let runs = runs_as t law k r tr is in
-          reports_answer (own_of szx t) c k r tr m true (Failed m.code) is heard (each_failed_of szx k r runs.body m tr runs.carries so)
+          reports_answer (own_of szx t) c k r tr m true (Failed m.code) is heard
+          (each_failed_of szx k r runs.body m tr runs.carries so)
 
     all_codes : (t : List Call) → ClientLaw server szx word t → AnswersLast szx t → ReportsCodes szx t
     all_codes [] law answers = tt
@@ -249,5 +320,6 @@ module _ (szx : ℕ) where
           all_codes t before answers.1,
         )
 
-pub reports_codes : (server : Endpoint) (szx word : ℕ) (t : List Call) → ClientLaw server szx word t → ReportsCodes szx t
+pub reports_codes : (server : Endpoint) (szx word : ℕ) (t : List Call) → ClientLaw server szx word t
+    → ReportsCodes szx t
 reports_codes server szx word t law = all_codes szx server word t law (answers_last szx server word t law)

@@ -38,7 +38,8 @@ abbrev NoneOf : ℕ → List Reported → Type 0
 NoneOf k [] = Unit {0}
 NoneOf k (r ∷ rs) = (r.number ≡ k → ⊥) × NoneOf k rs
 
-none_more : (k : ℕ) (rs : List Reported) (o : Option Reported) → NoneOf k rs → ((r : Reported) → o ≡ Some r → r.number ≡ k → ⊥) → NoneOf k (rs ++ option_to_list o)
+none_more : (k : ℕ) (rs : List Reported) (o : Option Reported) → NoneOf k rs
+    → ((r : Reported) → o ≡ Some r → r.number ≡ k → ⊥) → NoneOf k (rs ++ option_to_list o)
 none_more k [] None h f = tt
 none_more k [] (Some r) h f = (f r refl, tt)
 none_more k (r ∷ rs) o h f = (h.0, none_more k rs o h.1 f)
@@ -47,11 +48,14 @@ none_behind : (k : ℕ) (rs : List Reported) → NoneOf k rs → NoneOf k (drop 
 none_behind k [] h = tt
 none_behind k (r ∷ rs) h = h.1
 
-none_filtered : (j k : ℕ) (rs : List Reported) → NoneOf k rs → NoneOf k (filter (λ (r : Reported). not (r.number == j)) rs)
+none_filtered : (j k : ℕ) (rs : List Reported) → NoneOf k rs
+    → NoneOf k (filter (λ (r : Reported). not (r.number == j)) rs)
 none_filtered j k [] h = tt
 none_filtered j k (r ∷ rs) h = by (r.number == j) (none_filtered j k rs h.1)
   where
-    by : (b : Bool) → NoneOf k (filter (λ (x : Reported). not (x.number == j)) rs) → NoneOf k (cond (not b) (r ∷ filter (λ (x : Reported). not (x.number == j)) rs) (filter (λ (x : Reported). not (x.number == j)) rs))
+    by : (b : Bool) → NoneOf k (filter (λ (x : Reported). not (x.number == j)) rs)
+        → NoneOf k (cond (not b) (r ∷ filter (λ (x : Reported). not (x.number == j)) rs)
+        (filter (λ (x : Reported). not (x.number == j)) rs))
     by true ih = ih
     by false ih = (h.0, ih)
 
@@ -59,7 +63,9 @@ none_left : (k : ℕ) (rs : List Reported) → NoneOf k (filter (λ (r : Reporte
 none_left k [] = tt
 none_left k (r ∷ rs) = by (r.number == k) refl (none_left k rs)
   where
-    by : (b : Bool) → (r.number == k) ≡ b → NoneOf k (filter (λ (x : Reported). not (x.number == k)) rs) → NoneOf k (cond (not b) (r ∷ filter (λ (x : Reported). not (x.number == k)) rs) (filter (λ (x : Reported). not (x.number == k)) rs))
+    by : (b : Bool) → (r.number == k) ≡ b → NoneOf k (filter (λ (x : Reported). not (x.number == k)) rs)
+        → NoneOf k (cond (not b) (r ∷ filter (λ (x : Reported). not (x.number == k)) rs)
+        (filter (λ (x : Reported). not (x.number == k)) rs))
     by true e ih = ih
     by false e ih = (λ n. (let a : (r.number == k) ≡ true = ap (λ i. i == k) n ∙ number_self k in cc (e, a)), ih)
 
@@ -88,24 +94,31 @@ module _ (szx : ℕ) where
 
   module _ (server : Endpoint) (word : ℕ) where
     under : (t : List Call) (c : Call) → ClientLaw server szx word (c ∷ t) → Known server szx word t
-    under t c law = known server szx word t law.rows.1 (law_back server word (lower (own_of szx t) c) (lower_of szx t) law.exchanges.rows)
+    under t c law = known server szx word t law.rows.1
+        (law_back server word (lower (own_of szx t) c) (lower_of szx t) law.exchanges.rows)
 
     -- nothing is reported of what is gone
-    none_of_gone : (t : List Call) (c : Call) → ClientLaw server szx word (c ∷ t) → (r : Reported) → 1 ≤ gone szx r.number t → reports (own_of szx t) c ≡ Some r → ⊥
+    none_of_gone : (t : List Call) (c : Call) → ClientLaw server szx word (c ∷ t) → (r : Reported)
+        → 1 ≤ gone szx r.number t → reports (own_of szx t) c ≡ Some r → ⊥
     none_of_gone t c law r over is =
         let k = under t c law in
-        both_one (places r.number (own_of szx t)) (gone szx r.number t) _ (k.one r.number) (from_place server szx word t c k law.exchanges.rows r is) over
+        both_one (places r.number (own_of szx t)) (gone szx r.number t) _ (k.one r.number)
+        (from_place server szx word t c k law.exchanges.rows r is) over
 
-    none_forgotten : (t : List Call) (c : Call) → ClientLaw server szx word (c ∷ t) → (r : Reported) → WasForgotten r.number t → reports (own_of szx t) c ≡ Some r → ⊥
+    none_forgotten : (t : List Call) (c : Call) → ClientLaw server szx word (c ∷ t) → (r : Reported)
+        → WasForgotten r.number t → reports (own_of szx t) c ≡ Some r → ⊥
     none_forgotten t c law r h is = none_of_gone t c law r (forgotten_gone r.number t h) is
 
     -- nothing of it waits to be given
-    none_waits : (t : List Call) → ClientLaw server szx word t → (k : ℕ) → WasForgotten k t → NoneOf k (own_of szx t).reports
+    none_waits : (t : List Call) → ClientLaw server szx word t → (k : ℕ) → WasForgotten k t
+        → NoneOf k (own_of szx t).reports
     none_waits [] law k h = absurd h
     none_waits (c ∷ t) law k (inl h) = by c h
       where
         by : (b : Call) → forgotten b ≡ Some k → NoneOf k (own_of szx (b ∷ t)).reports
-        by (Forgets n was true) h = let e : n ≡ k = cc h in subst (λ i. NoneOf k (own_of szx (Forgets i was true ∷ t)).reports) (sym e) (none_left k (own_of szx t).reports)
+        by (Forgets n was true) h = let e : n ≡ k =
+            cc h in subst (λ i. NoneOf k (own_of szx (Forgets i was true ∷ t)).reports) (sym e)
+            (none_left k (own_of szx t).reports)
         by (Forgets n was false) h = absurd (cc h)
         by (Calls now r answer) h = absurd (cc h)
         by (Observes now path answer) h = absurd (cc h)
@@ -115,9 +128,11 @@ module _ (szx : ℕ) where
         by (NextOut answer) h = absurd (cc h)
         by (NextReport answer) h = absurd (cc h)
         by (Asked answer) h = absurd (cc h)
-    none_waits (c ∷ t) law k (inr h) = by c (λ r is n. none_forgotten t c law r (subst (λ i. WasForgotten i t) (sym n) h) is) (none_waits t (client_back server szx word (c ∷ []) t law) k h)
+    none_waits (c ∷ t) law k (inr h) = by c (λ r is n. none_forgotten t c law r
+        (subst (λ i. WasForgotten i t) (sym n) h) is) (none_waits t (client_back server szx word (c ∷ []) t law) k h)
       where
-        by : (b : Call) → ((r : Reported) → reports (own_of szx t) b ≡ Some r → r.number ≡ k → ⊥) → NoneOf k (own_of szx t).reports → NoneOf k (own_of szx (b ∷ t)).reports
+        by : (b : Call) → ((r : Reported) → reports (own_of szx t) b ≡ Some r → r.number ≡ k → ⊥)
+            → NoneOf k (own_of szx t).reports → NoneOf k (own_of szx (b ∷ t)).reports
         by (Calls now r (Ok n)) f ih = ih
         by (Calls now r (Err why)) f ih = ih
         by (Observes now path (Ok n)) f ih = ih
@@ -142,15 +157,19 @@ module _ (szx : ℕ) where
             let z = steadied (at now s) m e token e.deed refl (passes_steady (at now s) m turn) in
             none_more k (close m e token).own.reports (close m e token).report (subst (NoneOf k) (sym z.reports) ih) f
 
-    none_given : (t : List Call) (c : Call) → ClientLaw server szx word (c ∷ t) → (r : Reported) → WasForgotten r.number t → c ≡ NextReport (Some r) → ⊥
+    none_given : (t : List Call) (c : Call) → ClientLaw server szx word (c ∷ t) → (r : Reported)
+        → WasForgotten r.number t → c ≡ NextReport (Some r) → ⊥
     none_given t c law r h is =
         let right = subst (λ b. ClientLaw server szx word (b ∷ t)) is law in
-        none_first r.number (own_of szx t).reports r (none_waits t (client_back server szx word (c ∷ []) t law) r.number h) right.rows.0 refl
+        none_first r.number (own_of szx t).reports r
+        (none_waits t (client_back server szx word (c ∷ []) t law) r.number h) right.rows.0 refl
 
     -- no notification of an observation is taken while its cancel runs: it would have the token of that
-    none_noted : (t : List Call) (c : Call) → ClientLaw server szx word (c ∷ t) → (k : ℕ) (n : Newly) → (own_of szx t).running ≡ Some (Cancelling k) → notifies (own_of szx t) c ≡ Some n → n.number ≡ k → ⊥
+    none_noted : (t : List Call) (c : Call) → ClientLaw server szx word (c ∷ t) → (k : ℕ) (n : Newly)
+        → (own_of szx t).running ≡ Some (Cancelling k) → notifies (own_of szx t) c ≡ Some n → n.number ≡ k → ⊥
     none_noted t (Feeds now from bytes w up settled (Some (event_of.Answer m)) sent token was) law k n runs is number =
-        let r = registers_as (own_of szx t).running (max (own_of szx t).clock now) m n is in let a : Some (Registering r.number r.path) ≡ Some (Cancelling k) = sym r.runs ∙ runs in cc a
+        let r = registers_as (own_of szx t).running (max (own_of szx t).clock now) m n is in let a : Some
+        (Registering r.number r.path) ≡ Some (Cancelling k) = sym r.runs ∙ runs in cc a
     none_noted t (Feeds now from bytes w up settled (Some (event_of.Notice m)) sent token was) law k n runs is number =
         let c : Call = Feeds now from bytes w up settled (Some (event_of.Notice m)) sent token was in
         let s : Own = own_of szx t in
@@ -159,17 +178,22 @@ module _ (szx : ℕ) where
         let input : E.Call = E.Receive z from bytes up settled (Some (event_of.Notice m)) in
         let later : List E.Call = deeds (close z e token).deed (close z e token).own z w sent token was in
         let first : List E.Call = deeds e.deed e.own z w sent token was in
-        let right = done_right (beneath server szx word t) later first input (law_front server word (later ++ (first ++ input ∷ [])) (lower_of szx t) law.exchanges.rows) in
+        let right = done_right (beneath server szx word t) later first input
+        (law_front server word (later ++ (first ++ input ∷ [])) (lower_of szx t) law.exchanges.rows) in
         let apart = (came (beneath server szx word t) from z up (Some (event_of.Notice m)) right.0).0 in
         let known_so = under t c law in
         let r = renews_as (observation_with m.token s.observations) z m n is in
         let same : k ≡ r.observation.number = sym number ∙ ap (λ (x : Newly). x.number) r.is in
-        let a : (k == r.observation.number) ≡ false = apart_of s (beneath server szx word t).running (sound_of server szx word t known_so) known_so.linked z m apart r.observation r.found k runs in
+        let a : (k == r.observation.number) ≡ false =
+        apart_of s (beneath server szx word t).running
+        (sound_of server szx word t known_so) known_so.linked z m apart r.observation r.found k runs in
         let b : (k == r.observation.number) ≡ true = ap (λ i. k == i) (sym same) ∙ number_self k in
         cc (a, b)
     none_noted t (Feeds now from bytes w up settled (Some event_of.Reset) sent token was) law k n runs is number = cc is
-    none_noted t (Feeds now from bytes w up settled (Some event_of.Timeout) sent token was) law k n runs is number = cc is
-    none_noted t (Feeds now from bytes w up settled (Some event_of.NoResponse) sent token was) law k n runs is number = cc is
+    none_noted t (Feeds now from bytes w up settled (Some event_of.Timeout) sent token was) law k n runs is number =
+        cc is
+    none_noted t (Feeds now from bytes w up settled (Some event_of.NoResponse) sent token was) law k n runs is number =
+        cc is
     none_noted t (Feeds now from bytes w up settled None sent token was) law k n runs is number = cc is
     none_noted t (Ticks now w below turn sent token was answer) law k n runs is number = cc is
     none_noted t (Calls now r answer) law k n runs is number = cc is
@@ -184,19 +208,31 @@ module _ (szx : ℕ) where
     came_one k None h = absurd (cc h)
     came_one k (Some n) h = (n, refl, same_number n.number k h)
 
-    none_cancelled : (t : List Call) (c : Call) → ClientLaw server szx word (c ∷ t) → (k : ℕ) → WasCancelled szx k t → ShowsValue szx k t c → ⊥
+    none_cancelled : (t : List Call) (c : Call) → ClientLaw server szx word (c ∷ t) → (k : ℕ) → WasCancelled szx k t
+        → ShowsValue szx k t c → ⊥
     none_cancelled t c law k h shows = elim (cancel_runs szx server word t h.sending k h.sent h.cancels) [
       | inl runs ↦ elim (shows_first szx server word t c law k shows) [
         | inl e ↦ (let n = came_one k (notifies (own_of szx t) c) e in none_noted t c law k n.0 runs n.1 n.2)
         | inr z ↦ (let a : Some (Fetching k) ≡ Some (Cancelling k) = sym z.2 ∙ runs in cc a)
       ]
-      | inr over ↦ (let v = value_in (reports (own_of szx t) c) k shows in none_of_gone t c law (record { number = k; report = Value v.0 v.1 v.2 v.3 }) over v.4)
+      | inr over ↦ (let v = value_in (reports (own_of szx t) c) k shows in none_of_gone t c law
+          (record { number = k; report = Value v.0 v.1 v.2 v.3 }) over v.4)
     ]
 
-    none_ended : (t : List Call) (c : Call) → ClientLaw server szx word (c ∷ t) → (k : ℕ) → HasReport server szx word k t → ShowsValue szx k t c → ⊥
-    none_ended t c law k h shows = let v = value_in (reports (own_of szx t) c) k shows in (reported_once server szx word (c ∷ t) law).0 (record { number = k; report = Value v.0 v.1 v.2 v.3 }) v.4 h
+    none_ended : (t : List Call) (c : Call) → ClientLaw server szx word (c ∷ t) → (k : ℕ)
+        → HasReport server szx word k t → ShowsValue szx k t c → ⊥
+    none_ended t c law k h shows = let v = value_in
+        (reports (own_of szx t) c) k shows in (reported_once server szx word (c ∷ t) law).0
+        (record { number = k; report = Value v.0 v.1 v.2 v.3 }) v.4 h
 
     pub are_over : (t : List Call) → ClientLaw server szx word t → AreOver szx server word t
     are_over [] law = tt
-    are_over (c ∷ t) law =
-        (record { ended = none_ended t c law; cancelled = none_cancelled t c law; forgotten = none_forgotten t c law; none_given = none_given t c law }, are_over t (client_back server szx word (c ∷ []) t law))
+    are_over (c ∷ t) law = (
+      record {
+        ended = none_ended t c law;
+        cancelled = none_cancelled t c law;
+        forgotten = none_forgotten t c law;
+        none_given = none_given t c law;
+      },
+      are_over t (client_back server szx word (c ∷ []) t law),
+    )

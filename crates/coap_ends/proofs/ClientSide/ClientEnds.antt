@@ -1,4 +1,5 @@
--- Each report is of a number that was given; an exchange that ends without a response is reported so, and nothing else is.
+-- Each report is of a number that was given; an exchange that ends without a response is reported so, and nothing else
+-- is.
 use Rattle.std.proofs.Common.{◌≡◌, ◌⊎◌, ◌≤◌, inl, inr, ℕ, ◌+◌, max, Bool, true, false, cond, Option, Some, None, List}
 use Rattle.std.proofs.Common.{[], ◌∷◌, ◌++◌, refl, ap, sym, subst}
 use Rattle.std.proofs.Common.{◌∙◌, Result, Ok, Err, arith, append_assoc}
@@ -87,19 +88,25 @@ module _ (server : Endpoint) (szx word : ℕ) where
   abbrev Given : ℕ → List Call → Type 0
   Given n t = Ever (λ b. number_given b ≡ Some n) t
 
-  next_given : (t : List Call) (c : Call) (k n : ℕ) → number_given c ≡ Some k → k ≡ (own_of szx t).taken → (nat_lt n (own_of szx t).taken ≡ true → Given n t) → nat_lt n ((own_of szx t).taken + 1) ≡ true → Given n (c ∷ t)
-  next_given t c k n gives is ih h = elim (split n (own_of szx t).taken h) [ inl low ↦ inr (ih low) | inr same ↦ inl (gives ∙ ap (λ i. Some i) (is ∙ sym same)) ]
+  next_given : (t : List Call) (c : Call) (k n : ℕ) → number_given c ≡ Some k → k ≡ (own_of szx t).taken
+      → (nat_lt n (own_of szx t).taken ≡ true → Given n t) → nat_lt n ((own_of szx t).taken + 1) ≡ true
+      → Given n (c ∷ t)
+  next_given t c k n gives is ih h = elim (split n (own_of szx t).taken h)
+      [ inl low ↦ inr (ih low) | inr same ↦ inl (gives ∙ ap (λ i. Some i) (is ∙ sym same)) ]
 
-  given : (t : List Call) → ClientRows szx t → Laws (lower_of szx t) → (n : ℕ) → nat_lt n (own_of szx t).taken ≡ true → Given n t
+  given : (t : List Call) → ClientRows szx t → Laws (lower_of szx t) → (n : ℕ) → nat_lt n (own_of szx t).taken ≡ true
+      → Given n t
   given [] rows law n h = let a = ltb-true n 0 h in absurd (omega (arith, a))
   given (Calls now r (Ok k) ∷ t) rows law n h =
       let s : Own = own_of szx t in
-      let is = given_is (is_full s) (nat_lt max_body (length r.body)) (are_long (block_number r.method) (options_of r)) (s.taken == max_numbers) QueueFull BodyTooLarge BadPath CallsSpent k s.taken rows.0 in
+      let is = given_is (is_full s) (nat_lt max_body (length r.body)) (are_long (block_number r.method) (options_of r))
+      (s.taken == max_numbers) QueueFull BodyTooLarge BadPath CallsSpent k s.taken rows.0 in
       next_given t (Calls now r (Ok k)) k n refl is (λ low. given t rows.1 law n low) h
   given (Calls now r (Err why) ∷ t) rows law n h = inr (given t rows.1 law n h)
   given (Observes now path (Ok k) ∷ t) rows law n h =
       let s : Own = own_of szx t in
-      let is = given_is (is_full s) (are_long block2 (path_options path)) (nat_le max_observations (observed s)) (s.taken == max_numbers) QueueFull BadPath WatchesFull CallsSpent k s.taken rows.0 in
+      let is = given_is (is_full s) (are_long block2 (path_options path)) (nat_le max_observations (observed s))
+      (s.taken == max_numbers) QueueFull BadPath WatchesFull CallsSpent k s.taken rows.0 in
       next_given t (Observes now path (Ok k)) k n refl is (λ low. given t rows.1 law n low) h
   given (Observes now path (Err why) ∷ t) rows law n h = inr (given t rows.1 law n h)
   given (Cancels now k None ∷ t) rows law n h = inr (given t rows.1 law n h)
@@ -113,18 +120,23 @@ module _ (server : Endpoint) (szx word : ℕ) where
       let c : Call = Feeds now from bytes w up settled event sent token was in
       let under = below_of t c law in
       let k = known server szx word t rows.1 under in
-      inr (given t rows.1 under n (ap (nat_lt n) (sym (fed server szx word t now from bytes w up settled event sent token was k law).taken_is) ∙ h))
+      inr (given t rows.1 under n (ap (nat_lt n) (sym
+      (fed server szx word t now from bytes w up settled event sent token was k law).taken_is) ∙ h))
   given (Ticks now w below turn sent token was answer ∷ t) rows law n h =
       let c : Call = Ticks now w below turn sent token was answer in
       let under = below_of t c law in
       let k = known server szx word t rows.1 under in
-      inr (given t rows.1 under n (ap (nat_lt n) (sym (ticked server szx word t now w below turn sent token was answer k law).taken_is) ∙ h))
+      inr (given t rows.1 under n (ap (nat_lt n) (sym
+      (ticked server szx word t now w below turn sent token was answer k law).taken_is) ∙ h))
 
-  numbered_so : (t : List Call) (c : Call) → ClientLaw server szx word (c ∷ t) → (x : Reported) → reports (own_of szx t) c ≡ Some x → Given x.number t
+  numbered_so : (t : List Call) (c : Call) → ClientLaw server szx word (c ∷ t) → (x : Reported)
+      → reports (own_of szx t) c ≡ Some x → Given x.number t
   numbered_so t c law x made =
       let under = below_of t c law.exchanges.rows in
       let k = known server szx word t law.rows.1 under in
-      given t law.rows.1 under x.number (in_place (places x.number (own_of szx t)) (gone szx x.number t) (nat_lt x.number (own_of szx t).taken) (k.one x.number) (from_place server szx word t c k law.exchanges.rows x made))
+      given t law.rows.1 under x.number (in_place (places x.number (own_of szx t)) (gone szx x.number t)
+      (nat_lt x.number (own_of szx t).taken) (k.one x.number)
+      (from_place server szx word t c k law.exchanges.rows x made))
 
   -- the exchange that runs is that of the request that was sent last
   record LastIs (t : List Call) : Type 0 where
@@ -132,20 +144,29 @@ module _ (server : Endpoint) (szx word : ℕ) where
     last : last_sent szx t ≡ Some sending
     same : reported_in (own_of szx t).running ≡ reported_of sending.operation
 
-  last_is : (t : List Call) → ClientRows szx t → Laws (lower_of szx t) → (x : Exchange) → (beneath server szx word t).running ≡ Some x → LastIs t
-  last_is t rows law x runs = by (own_of szx t).running refl (known server szx word t rows law).linked (all_sends szx server word t rows law).tracked
+  last_is : (t : List Call) → ClientRows szx t → Laws (lower_of szx t) → (x : Exchange)
+      → (beneath server szx word t).running ≡ Some x → LastIs t
+  last_is t rows law x runs = by (own_of szx t).running refl (known server szx word t rows law).linked
+      (all_sends szx server word t rows law).tracked
     where
-      by : (o : Option Operation) → (own_of szx t).running ≡ o → Linked o (own_of szx t).observations (beneath server szx word t).running → IfTracked szx t o (beneath server szx word t).running → LastIs t
+      by : (o : Option Operation) → (own_of szx t).running ≡ o
+          → Linked o (own_of szx t).observations (beneath server szx word t).running
+          → IfTracked szx t o (beneath server szx word t).running → LastIs t
       by None is link tr = let none : None ≡ Some x = sym link ∙ runs in absurd (cc none)
       by (Some op) is link tr = elim tr.same [
-        | inr same ↦ record { sending = tr.sending; last = tr.last; same = ap reported_in is ∙ ap reported_of (sym same) }
+        | inr same ↦ record {
+          sending = tr.sending;
+          last = tr.last;
+          same = ap reported_in is ∙ ap reported_of (sym same);
+        }
         | inl gone_op ↦ (
             let d = if_dropped szx server word t rows law (is ∙ ap (λ z. Some z) gone_op) in
             record { sending = d.0; last = d.1; same = ap reported_in is ∙ (ap reported_of gone_op ∙ sym d.2) })
       ]
 
   -- what is handed in to the exchanges, and asked of them then
-  module _ (t : List Call) (now w : ℕ) (sent : L.Answer) (token : Result (List ℕ) AskRefusal) (kept : Bool) (e : Effect) (input : E.Call) where
+  module _ (t : List Call) (now w : ℕ) (sent : L.Answer) (token : Result (List ℕ) AskRefusal) (kept : Bool) (e : Effect)
+      (input : E.Call) where
     abbrev m : ℕ
     m = max (own_of szx t).clock now
 
@@ -158,11 +179,14 @@ module _ (server : Endpoint) (szx word : ℕ) where
     abbrev x1 : E.Own
     x1 = P.after (beneath server szx word t) input
 
-    right : Laws calls → P.IsRight (beneath server szx word t) input × AreRight x1 (later ++ deeds e.deed e.own m w sent token kept)
-    right law = done_right (beneath server szx word t) later (deeds e.deed e.own m w sent token kept) input (law_front server word (later ++ (deeds e.deed e.own m w sent token kept ++ input ∷ [])) (lower_of szx t) law)
+    right : Laws calls → P.IsRight (beneath server szx word t) input
+        × AreRight x1 (later ++ deeds e.deed e.own m w sent token kept)
+    right law = done_right (beneath server szx word t) later (deeds e.deed e.own m w sent token kept) input
+        (law_front server word (later ++ (deeds e.deed e.own m w sent token kept ++ input ∷ [])) (lower_of szx t) law)
 
     -- a request that is asked for and not sent
-    module _ (law : Laws calls) (told : AreRefused calls) (op : Operation) (why : AskRefusal) (asks : e.deed ≡ Asks op) (given_so : token ≡ Err why) (leaves : Leaves e.deed e x1.running) where
+    module _ (law : Laws calls) (told : AreRefused calls) (op : Operation) (why : AskRefusal) (asks : e.deed ≡ Asks op)
+        (given_so : token ≡ Err why) (leaves : Leaves e.deed e x1.running) where
       abbrev ask : E.Call
       ask = E.Ask m (message_of e.own.observations op) w sent token
 
@@ -173,7 +197,8 @@ module _ (server : Endpoint) (szx word : ℕ) where
       behind =
           subst (λ d. Always TellsRunning ((deeds d e.own m w sent token kept ++ input ∷ []) ++ lower_of szx t)) asks
           (Always_back TellsRunning later ((deeds e.deed e.own m w sent token kept ++ input ∷ []) ++ lower_of szx t)
-          (subst (Always TellsRunning) (append_assoc later (deeds e.deed e.own m w sent token kept ++ input ∷ []) (lower_of szx t)) told))
+          (subst (Always TellsRunning) (append_assoc later (deeds e.deed e.own m w sent token kept ++ input ∷ [])
+          (lower_of szx t)) told))
 
       rows_behind : Laws (ask ∷ input ∷ lower_of szx t)
       rows_behind =
@@ -183,20 +208,24 @@ module _ (server : Endpoint) (szx word : ℕ) where
 
       not_running : why ≡ refusal.Running → ⊥
       not_running is =
-          let o = behind.0.runs m w (message_of e.own.observations op) sent (ap (λ z. E.Ask m (message_of e.own.observations op) w sent z) (given_so ∙ ap (λ y. Err y) is)) in
+          let o = behind.0.runs m w (message_of e.own.observations op) sent
+          (ap (λ z. E.Ask m (message_of e.own.observations op) w sent z) (given_so ∙ ap (λ y. Err y) is)) in
           let k = (one_at_a_time.known server word (input ∷ lower_of szx t) rows_behind.1).1.runs.runs_it o.0 o.1 in
           let none : None ≡ Some o.0 = ap token_in (sym none_runs) ∙ k in
           cc none
 
       wanting : IsWant why
-      wanting = elim (want_or_runs (opening_of x1 (message_of e.own.observations op)) sent (request_token x1 (message_of e.own.observations op)) why (sym rows_behind.0 ∙ given_so)) [
-        | inr want ↦ want
-        | inl runs ↦ absurd (not_running runs)
-      ]
+      wanting = elim (want_or_runs (opening_of x1 (message_of e.own.observations op)) sent
+          (request_token x1 (message_of e.own.observations op)) why (sym rows_behind.0 ∙ given_so)) [
+            | inr want ↦ want
+            | inl runs ↦ absurd (not_running runs)
+          ]
 
   -- a datagram
-  module _ (t : List Call) (now : ℕ) (from : Endpoint) (bytes : List ℕ) (w : ℕ) (up : L.Answer) (settled : Bool) (event : Option Event) (sent : L.Answer) (token : Result (List ℕ) AskRefusal) (kept : Bool)
-      (rows : ClientRows szx t) (law : Laws (lower_of szx (Feeds now from bytes w up settled event sent token kept ∷ t))) where
+  module _ (t : List Call) (now : ℕ) (from : Endpoint) (bytes : List ℕ) (w : ℕ) (up : L.Answer) (settled : Bool)
+      (event : Option Event) (sent : L.Answer) (token : Result (List ℕ) AskRefusal) (kept : Bool)
+      (rows : ClientRows szx t) (law : Laws (lower_of szx
+      (Feeds now from bytes w up settled event sent token kept ∷ t))) where
     abbrev s : Own
     s = at now (own_of szx t)
 
@@ -221,7 +250,8 @@ module _ (server : Endpoint) (szx word : ℕ) where
     fed_want : AreRefused (lower_of szx (feed ∷ t)) → (u : Unsent) → unsent (own_of szx t) feed ≡ Some u → IsWant u.why
     fed_want told u is =
         let k = unsent_asks fed_effect token u is in
-        let g = goes_fed server szx word t now from bytes w up settled event sent token kept (known server szx word t rows under) law in
+        let g = goes_fed server szx word t now from bytes w up settled event sent token kept
+        (known server szx word t rows under) law in
         wanting t now w sent token kept fed_effect input law told u.operation u.why k.0 k.1 g.leaves
 
     abbrev Tells : Reported → Type 0
@@ -231,26 +261,37 @@ module _ (server : Endpoint) (szx word : ℕ) where
     fed_tells x made lapse_so = by event refl came_so
       where
         quiet_so : (o : Option Event) → event ≡ o → lapse_in (happened s moment o).report ≡ false → Tells x
-        quiet_so o is none = inr (refuses_so moment fed_effect token (closing moment fed_effect token) (ap (λ z. lapse_in (happened s moment z).report) is ∙ none) x made lapse_so)
+        quiet_so o is none = inr (refuses_so moment fed_effect token (closing moment fed_effect token)
+            (ap (λ z. lapse_in (happened s moment z).report) is ∙ none) x made lapse_so)
 
-        by : (o : Option Event) → event ≡ o → Came (beneath server szx word t).running (P.after (beneath server szx word t) input).running o → Tells x
+        by : (o : Option Event) → event ≡ o → Came (beneath server szx word t).running
+            (P.after (beneath server szx word t) input).running o → Tells x
         by None is h = quiet_so None is refl
         by (Some (event_of.Answer a)) is h = quiet_so (Some (event_of.Answer a)) is (answered_none s moment a s.running)
         by (Some (event_of.Notice a)) is h = quiet_so (Some (event_of.Notice a)) is (noticed_none s moment a)
         by (Some event_of.Timeout) is h = absurd h
         by (Some event_of.NoResponse) is h = absurd h
         by (Some event_of.Reset) is h =
-            let e : (close moment (happened s moment (Some event_of.Reset)) token).report ≡ Some x = ap (λ z. (close moment (happened s moment z) token).report) (sym is) ∙ made in
-            let k = reported_is Reset (reported_in s.running) x (sym (failed_closed moment Reset s s.running token) ∙ e) in
-            inl (ap is_end k.0, ap (λ z. ends_as (Feeds now from bytes w up settled z sent token kept)) is ∙ ap (λ z. Some z) (sym k.0))
+            let e : (close moment (happened s moment (Some event_of.Reset)) token).report
+            ≡ Some x = ap (λ z. (close moment (happened s moment z) token).report) (sym is) ∙ made in
+            let k = reported_is Reset (reported_in s.running) x
+            (sym (failed_closed moment Reset s s.running token) ∙ e) in
+            inl (
+              ap is_end k.0,
+              ap (λ z. ends_as (Feeds now from bytes w up settled z sent token kept)) is
+                  ∙ ap (λ z. Some z) (sym k.0),
+            )
 
     abbrev Ended : Report → Type 0
-    Ended r = (x : Sending) × (last_sent szx t ≡ Some x) × (reports (own_of szx t) feed ≡ report_to r (reported_of x.operation))
+    Ended r = (x : Sending) × (last_sent szx t ≡ Some x)
+        × (reports (own_of szx t) feed ≡ report_to r (reported_of x.operation))
 
     fed_ends : (r : Report) → ends_as feed ≡ Some r → Ended r
     fed_ends r ends_so = by event refl came_so (ends_so)
       where
-        by : (o : Option Event) → event ≡ o → Came (beneath server szx word t).running (P.after (beneath server szx word t) input).running o → ends_as (Feeds now from bytes w up settled o sent token kept) ≡ Some r → Ended r
+        by : (o : Option Event) → event ≡ o → Came (beneath server szx word t).running
+            (P.after (beneath server szx word t) input).running o
+            → ends_as (Feeds now from bytes w up settled o sent token kept) ≡ Some r → Ended r
         by None is h end_is = absurd (cc end_is)
         by (Some (event_of.Answer a)) is h end_is = absurd (cc end_is)
         by (Some (event_of.Notice a)) is h end_is = absurd (cc end_is)
@@ -261,11 +302,14 @@ module _ (server : Endpoint) (szx word : ℕ) where
             let k = last_is t rows under h.0 h.1 in (
               k.sending,
               k.last,
-              ap (λ z. (close moment (happened s moment z) token).report) is ∙ (failed_closed moment Reset s s.running token ∙ (ap (report_to Reset) k.same ∙ ap (λ z. report_to z (reported_of k.sending.operation)) same)),
+              ap (λ z. (close moment (happened s moment z) token).report) is
+                  ∙ (failed_closed moment Reset s s.running token
+                  ∙ (ap (report_to Reset) k.same ∙ ap (λ z. report_to z (reported_of k.sending.operation)) same)),
             )
 
   -- time passes
-  module _ (t : List Call) (now w : ℕ) (below : L.Answer) (turn : Turn) (sent : L.Answer) (token : Result (List ℕ) AskRefusal) (kept answer : Bool)
+  module _ (t : List Call) (now w : ℕ) (below : L.Answer) (turn : Turn) (sent : L.Answer)
+      (token : Result (List ℕ) AskRefusal) (kept answer : Bool)
       (rows : ClientRows szx t) (law : Laws (lower_of szx (Ticks now w below turn sent token kept answer ∷ t))) where
     abbrev ts : Own
     ts = at now (own_of szx t)
@@ -297,36 +341,46 @@ module _ (server : Endpoint) (szx word : ℕ) where
     abbrev TickTells : Reported → Type 0
     TickTells x = ((is_end x.report ≡ true) × (ends_as tick ≡ Some x.report)) ⊎ Refuses tick_effect token x
 
-    end_said : (e : Event) → ByTime e → turn ≡ turn_is.End e → (is_end (lapse e) ≡ true) × (ends_as tick ≡ Some (lapse e))
+    end_said : (e : Event) → ByTime e → turn ≡ turn_is.End e
+        → (is_end (lapse e) ≡ true) × (ends_as tick ≡ Some (lapse e))
     end_said e (inl timeout) is = (
       ap (λ z. is_end (lapse z)) timeout,
-      ap (λ z. ends_as (Ticks now w below z sent token kept answer)) is ∙ (ap (λ z. ends_as (Ticks now w below (turn_is.End z) sent token kept answer)) timeout ∙ ap (λ z. Some (lapse z)) (sym timeout)),
+      ap (λ z. ends_as (Ticks now w below z sent token kept answer)) is
+          ∙ (ap (λ z. ends_as (Ticks now w below (turn_is.End z) sent token kept answer)) timeout
+          ∙ ap (λ z. Some (lapse z)) (sym timeout)),
     )
     end_said e (inr none) is = (
       ap (λ z. is_end (lapse z)) none,
-      ap (λ z. ends_as (Ticks now w below z sent token kept answer)) is ∙ (ap (λ z. ends_as (Ticks now w below (turn_is.End z) sent token kept answer)) none ∙ ap (λ z. Some (lapse z)) (sym none)),
+      ap (λ z. ends_as (Ticks now w below z sent token kept answer)) is
+          ∙ (ap (λ z. ends_as (Ticks now w below (turn_is.End z) sent token kept answer)) none
+          ∙ ap (λ z. Some (lapse z)) (sym none)),
     )
 
     ended_here : (e : Event) → turn ≡ turn_is.End e → EndedBy (beneath server szx word t) e
-    ended_here e is = ended_by (beneath server szx word t) (max (beneath server szx word t).clock tick_moment) below e (sym is ∙ tick_right)
+    ended_here e is = ended_by (beneath server szx word t) (max (beneath server szx word t).clock tick_moment) below e
+        (sym is ∙ tick_right)
 
     tick_tells : (x : Reported) → reports (own_of szx t) tick ≡ Some x → is_lapse x.report ≡ true → TickTells x
     tick_tells x made lapse_so = by turn refl
       where
         quiet_so : (v : Turn) → turn ≡ v → lapse_in (passes ts tick_moment v).report ≡ false → TickTells x
-        quiet_so v is none = inr (refuses_so tick_moment tick_effect token (closing tick_moment tick_effect token) (ap (λ z. lapse_in (passes ts tick_moment z).report) is ∙ none) x made lapse_so)
+        quiet_so v is none = inr (refuses_so tick_moment tick_effect token (closing tick_moment tick_effect token)
+            (ap (λ z. lapse_in (passes ts tick_moment z).report) is ∙ none) x made lapse_so)
 
         by : (v : Turn) → turn ≡ v → TickTells x
         by turn_is.Idle is = quiet_so turn_is.Idle is (idle_none ts tick_moment ts.running (to_fetch ts.observations))
         by turn_is.Copied is = quiet_so turn_is.Copied is refl
         by (turn_is.End e) is =
-            let made_so : (close tick_moment (passes ts tick_moment (turn_is.End e)) token).report ≡ Some x = ap (λ z. (close tick_moment (passes ts tick_moment z) token).report) (sym is) ∙ made in
-            let k = reported_is (lapse e) (reported_in ts.running) x (sym (failed_closed tick_moment (lapse e) ts ts.running token) ∙ made_so) in
+            let made_so : (close tick_moment (passes ts tick_moment (turn_is.End e)) token).report
+            ≡ Some x = ap (λ z. (close tick_moment (passes ts tick_moment z) token).report) (sym is) ∙ made in
+            let k = reported_is (lapse e) (reported_in ts.running) x
+            (sym (failed_closed tick_moment (lapse e) ts ts.running token) ∙ made_so) in
             let said = end_said e (ended_here e is).by_time is in
             inl (ap is_end k.0 ∙ said.0, said.1 ∙ ap (λ z. Some z) (sym k.0))
 
     abbrev TickEnded : Report → Type 0
-    TickEnded r = (x : Sending) × (last_sent szx t ≡ Some x) × (reports (own_of szx t) tick ≡ report_to r (reported_of x.operation))
+    TickEnded r = (x : Sending) × (last_sent szx t ≡ Some x)
+        × (reports (own_of szx t) tick ≡ report_to r (reported_of x.operation))
 
     tick_ends : (r : Report) → ends_as tick ≡ Some r → TickEnded r
     tick_ends r ends_so = by turn refl ends_so
@@ -337,44 +391,61 @@ module _ (server : Endpoint) (szx word : ℕ) where
         by (turn_is.End e) is end_is =
             let z = ended_here e is in
             let said = end_said e z.by_time is in
-            let same : Some (lapse e) ≡ Some r = sym said.1 ∙ (ap (λ v. ends_as (Ticks now w below v sent token kept answer)) is ∙ end_is) in
+            let same : Some (lapse e) ≡ Some r = sym said.1
+            ∙ (ap (λ v. ends_as (Ticks now w below v sent token kept answer)) is ∙ end_is) in
             let report_is : lapse e ≡ r = cc same in
             let k = last_is t rows tick_under z.exchange z.runs in (
               k.sending,
               k.last,
               ap (λ v. (close tick_moment (passes ts tick_moment v) token).report) is
-                  ∙ (failed_closed tick_moment (lapse e) ts ts.running token ∙ (ap (report_to (lapse e)) k.same ∙ ap (λ v. report_to v (reported_of k.sending.operation)) report_is)),
+                  ∙ (failed_closed tick_moment (lapse e) ts ts.running token
+                  ∙ (ap (report_to (lapse e)) k.same ∙ ap
+                  (λ v. report_to v (reported_of k.sending.operation)) report_is)),
             )
 
   -- each call
   abbrev AllSo : List Call → Call → Type 0
   AllSo t c =
-      ((r : Report) → ends_as c ≡ Some r → (x : Sending) × (last_sent szx t ≡ Some x) × (reports (own_of szx t) c ≡ report_to r (reported_of x.operation)))
-      × ((x : Reported) → reports (own_of szx t) c ≡ Some x → is_lapse x.report ≡ true → ((is_end x.report ≡ true) × (ends_as c ≡ Some x.report)) ⊎ ((u : Unsent) × (unsent (own_of szx t) c ≡ Some u) × (x.report ≡ NoIds) × (reported_of u.operation ≡ Some x.number)))
-      × ((u : Unsent) → unsent (own_of szx t) c ≡ Some u → IsWant u.why × (reports (own_of szx t) c ≡ report_to NoIds (reported_of u.operation)))
+      ((r : Report) → ends_as c ≡ Some r → (x : Sending) × (last_sent szx t ≡ Some x)
+      × (reports (own_of szx t) c ≡ report_to r (reported_of x.operation)))
+      × ((x : Reported) → reports (own_of szx t) c ≡ Some x → is_lapse x.report ≡ true
+      → ((is_end x.report ≡ true) × (ends_as c ≡ Some x.report))
+      ⊎ ((u : Unsent) × (unsent (own_of szx t) c ≡ Some u) × (x.report ≡ NoIds)
+      × (reported_of u.operation ≡ Some x.number)))
+      × ((u : Unsent) → unsent (own_of szx t) c ≡ Some u
+      → IsWant u.why × (reports (own_of szx t) c ≡ report_to NoIds (reported_of u.operation)))
 
   all_so : (t : List Call) (c : Call) → ClientLaw server szx word (c ∷ t) → AllSo t c
   all_so t (Feeds now from bytes w up settled event sent token kept) law =
       let rows = law.rows.1 in
-      let told = are_refused server word (lower_of szx (Feeds now from bytes w up settled event sent token kept ∷ t)) law.exchanges in
+      let told = are_refused server word (lower_of szx (Feeds now from bytes w up settled event sent token kept ∷ t))
+      law.exchanges in
       let e : Effect = happened (at now (own_of szx t)) (max (own_of szx t).clock now) event in (
         λ r h. fed_ends t now from bytes w up settled event sent token kept rows law.exchanges.rows r h,
-        λ x made h. elim (fed_tells t now from bytes w up settled event sent token kept rows law.exchanges.rows x made h) [
-          | inl k ↦ inl k
-          | inr k ↦ inr (k.unsent, k.is, k.report, k.number)
-        ],
-        λ u h. (fed_want t now from bytes w up settled event sent token kept rows law.exchanges.rows told u h, unsent_report (max (own_of szx t).clock now) e token u h),
+        λ x made h. elim (fed_tells t now from bytes w up settled event sent token kept rows law.exchanges.rows x made
+            h) [
+              | inl k ↦ inl k
+              | inr k ↦ inr (k.unsent, k.is, k.report, k.number)
+            ],
+        λ u h. (
+          fed_want t now from bytes w up settled event sent token kept rows law.exchanges.rows told u h,
+          unsent_report (max (own_of szx t).clock now) e token u h,
+        ),
       )
   all_so t (Ticks now w below turn sent token kept answer) law =
       let rows = law.rows.1 in
-      let told = are_refused server word (lower_of szx (Ticks now w below turn sent token kept answer ∷ t)) law.exchanges in
+      let told = are_refused server word (lower_of szx (Ticks now w below turn sent token kept answer ∷ t))
+      law.exchanges in
       let e : Effect = passes (at now (own_of szx t)) (max (own_of szx t).clock now) turn in (
         λ r h. tick_ends t now w below turn sent token kept answer rows law.exchanges.rows r h,
         λ x made h. elim (tick_tells t now w below turn sent token kept answer rows law.exchanges.rows x made h) [
           | inl k ↦ inl k
           | inr k ↦ inr (k.unsent, k.is, k.report, k.number)
         ],
-        λ u h. (tick_want t now w below turn sent token kept answer rows law.exchanges.rows told u h, unsent_report (max (own_of szx t).clock now) e token u h),
+        λ u h. (
+          tick_want t now w below turn sent token kept answer rows law.exchanges.rows told u h,
+          unsent_report (max (own_of szx t).clock now) e token u h,
+        ),
       )
   all_so t (Calls now r answer) law = (λ r h. absurd (cc h), λ x made h. absurd (cc made), λ u h. absurd (cc h))
   all_so t (Observes now path answer) law = (λ r h. absurd (cc h), λ x made h. absurd (cc made), λ u h. absurd (cc h))
@@ -390,9 +461,11 @@ module _ (server : Endpoint) (szx word : ℕ) where
       record {
         numbered = numbered_so t c law;
         each = k.0;
-        only = λ x made h. elim (k.1 x made (end_lapse x.report h)) [ inl z ↦ z.1 | inr z ↦ absurd (cc (sym (ap is_end z.2) ∙ h)) ];
+        only = λ x made h. elim (k.1 x made (end_lapse x.report h))
+            [ inl z ↦ z.1 | inr z ↦ absurd (cc (sym (ap is_end z.2) ∙ h)) ];
         each_unsent = k.2;
-        no_ids = λ number made. elim (k.1 (record { number = number; report = NoIds }) made refl) [ inl z ↦ absurd (cc z.0) | inr z ↦ (z.0, z.1, z.3) ];
+        no_ids = λ number made. elim (k.1 (record { number = number; report = NoIds }) made refl)
+            [ inl z ↦ absurd (cc z.0) | inr z ↦ (z.0, z.1, z.3) ];
       }
 
   pub all_ends : (t : List Call) → ClientLaw server szx word t → AllEnds szx t

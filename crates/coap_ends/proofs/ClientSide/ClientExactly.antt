@@ -31,7 +31,8 @@ module _ (server : Endpoint) (word : ℕ) where
 
   one_back : (c : A.Call) (calls : List A.Call) → Law (c ∷ calls) → Law calls
   one_back c calls law =
-      let k = steps_split (S.start word) law.left (P.lower (E.own_of server word calls) c) (E.lower_of server word calls) law.layer in
+      let k = steps_split (S.start word) law.left (P.lower (E.own_of server word calls) c)
+      (E.lower_of server word calls) law.layer in
       record { rows = law.rows.1; left = k.0; layer = k.1 }
 
   back : (cs calls : List A.Call) → Law (cs ++ calls) → Law calls
@@ -49,12 +50,17 @@ module _ (server : Endpoint) (word : ℕ) where
       let k = same_behind cs xs ys s in
       record {
         own = ap (λ o. P.after o c) k.own;
-        beneath = ap (λ o. P.lower o c ++ E.lower_of server word (cs ++ xs)) k.own ∙ ap (λ l. P.lower (E.own_of server word (cs ++ ys)) c ++ l) k.beneath;
+        beneath = ap (λ o. P.lower o c ++ E.lower_of server word (cs ++ xs)) k.own
+            ∙ ap (λ l. P.lower (E.own_of server word (cs ++ ys)) c ++ l) k.beneath;
       }
 
-  rows_moved : (cs xs ys : List A.Call) → Same xs ys → E.AskerLaw server word xs → E.AskerLaw server word (cs ++ ys) → E.AskerLaw server word (cs ++ xs)
+  rows_moved : (cs xs ys : List A.Call) → Same xs ys → E.AskerLaw server word xs → E.AskerLaw server word (cs ++ ys)
+      → E.AskerLaw server word (cs ++ xs)
   rows_moved [] xs ys s rows k = rows
-  rows_moved (c ∷ cs) xs ys s rows k = (subst (λ o. P.IsRight o c) (sym (same_behind cs xs ys s).own) k.0, rows_moved cs xs ys s rows k.1)
+  rows_moved (c ∷ cs) xs ys s rows k = (
+    subst (λ o. P.IsRight o c) (sym (same_behind cs xs ys s).own) k.0,
+    rows_moved cs xs ys s rows k.1,
+  )
 
   moved : (cs xs ys : List A.Call) → Same xs ys → E.AskerLaw server word xs → Law (cs ++ ys) → Law (cs ++ xs)
   moved cs xs ys s rows law = record {
@@ -65,33 +71,41 @@ module _ (server : Endpoint) (word : ℕ) where
 
   -- what is asked for a deed, and what becomes of it
   module _ (now w : ℕ) (sent gone : L.Answer) (token key : Result (List ℕ) AskRefusal) (kept left : Bool) where
-    deeds_alike : (d : Deed) (s : Own) (calls : List A.Call) → Law (deeds d s now w sent token kept ++ calls) → Law (deeds d s now w gone key left ++ calls) → deeds d s now w sent token kept ≡ deeds d s now w gone key left
+    deeds_alike : (d : Deed) (s : Own) (calls : List A.Call) → Law (deeds d s now w sent token kept ++ calls)
+        → Law (deeds d s now w gone key left ++ calls) → deeds d s now w sent token kept ≡ deeds d s now w gone key left
     deeds_alike Rests s calls p q = refl
     deeds_alike (Asks op) s calls p q =
         let e = (exact server word calls).ask now w (message_of s.observations op) sent gone token key p q in
-        ap (λ x. A.Ask now (message_of s.observations op) w x token ∷ []) e.0 ∙ ap (λ x. A.Ask now (message_of s.observations op) w gone x ∷ []) e.1
+        ap (λ x. A.Ask now (message_of s.observations op) w x token ∷ []) e.0
+        ∙ ap (λ x. A.Ask now (message_of s.observations op) w gone x ∷ []) e.1
     deeds_alike (Keeps t) s calls p q = ap (λ x. A.Keep t x ∷ []) ((exact server word calls).keep t kept left p q)
-    deeds_alike (Releases t) s calls p q = ap (λ x. A.Release t x ∷ []) ((exact server word calls).release t kept left p q)
+    deeds_alike (Releases t) s calls p q = ap (λ x. A.Release t x ∷ [])
+        ((exact server word calls).release t kept left p q)
 
-    closed_alike : (d : Deed) (s : Own) (e : Effect) → deeds d s now w sent token kept ≡ deeds d s now w gone key left → closed now e d token ≡ closed now e d key
+    closed_alike : (d : Deed) (s : Own) (e : Effect) → deeds d s now w sent token kept ≡ deeds d s now w gone key left
+        → closed now e d token ≡ closed now e d key
     closed_alike Rests s e same = refl
     closed_alike (Asks op) s e same = let k : token ≡ key = cc same in ap (closed now e (Asks op)) k
     closed_alike (Keeps t) s e same = refl
     closed_alike (Releases t) s e same = refl
 
-    requested_alike : (d : Deed) (s : Own) → deeds d s now w sent token kept ≡ deeds d s now w gone key left → requested d token ≡ requested d key
+    requested_alike : (d : Deed) (s : Own) → deeds d s now w sent token kept ≡ deeds d s now w gone key left
+        → requested d token ≡ requested d key
     requested_alike Rests s same = refl
     requested_alike (Asks op) s same = let k : token ≡ key = cc same in ap (requested (Asks op)) k
     requested_alike (Keeps t) s same = refl
     requested_alike (Releases t) s same = refl
 
     -- the input alone
-    pub stripped : (e : Effect) (input : A.Call) (calls : List A.Call) → Law (done_for e now w sent token kept input ++ calls) → Law (input ∷ calls)
+    pub stripped : (e : Effect) (input : A.Call) (calls : List A.Call)
+        → Law (done_for e now w sent token kept input ++ calls) → Law (input ∷ calls)
     stripped e input calls p =
         let c = close now e token in
         let later = deeds c.deed c.own now w sent token kept in
         let first = deeds e.deed e.own now w sent token kept in
-        back first (input ∷ calls) (subst Law (append_assoc first (input ∷ []) calls) (back later ((first ++ input ∷ []) ++ calls) (subst Law (append_assoc later (first ++ input ∷ []) calls) p)))
+        back first (input ∷ calls) (subst Law (append_assoc first (input ∷ []) calls)
+        (back later ((first ++ input ∷ []) ++ calls)
+        (subst Law (append_assoc later (first ++ input ∷ []) calls) p)))
 
     -- for an effect, behind an input
     pub record DoneAlike (e : Effect) : Type 0 where
@@ -99,7 +113,9 @@ module _ (server : Endpoint) (word : ℕ) where
       pub sent_alike : requested e.deed token ≡ requested e.deed key
       pub asked : (input : A.Call) → done_for e now w sent token kept input ≡ done_for e now w gone key left input
 
-    done_alike : (e : Effect) (input : A.Call) (calls : List A.Call) → Law (done_for e now w sent token kept input ++ calls) → Law (done_for e now w gone key left input ++ calls) → DoneAlike e
+    done_alike : (e : Effect) (input : A.Call) (calls : List A.Call)
+        → Law (done_for e now w sent token kept input ++ calls) → Law (done_for e now w gone key left input ++ calls)
+        → DoneAlike e
     done_alike e input calls p q =
         let c = close now e token in
         let d = close now e key in
@@ -107,19 +123,26 @@ module _ (server : Endpoint) (word : ℕ) where
         let other = deeds e.deed e.own now w gone key left in
         let base = input ∷ calls in
         let joined : (a b : List A.Call) → Law ((a ++ (b ++ input ∷ [])) ++ calls) → Law (a ++ (b ++ base)) =
-        λ a b law. subst (λ l. Law (a ++ l)) (append_assoc b (input ∷ []) calls) (subst Law (append_assoc a (b ++ input ∷ []) calls) law) in
-        let p1 : Law (deeds c.deed c.own now w sent token kept ++ (first ++ base)) = joined (deeds c.deed c.own now w sent token kept) first p in
-        let q1 : Law (deeds d.deed d.own now w gone key left ++ (other ++ base)) = joined (deeds d.deed d.own now w gone key left) other q in
-        let one = deeds_alike e.deed e.own base (back (deeds c.deed c.own now w sent token kept) (first ++ base) p1) (back (deeds d.deed d.own now w gone key left) (other ++ base) q1) in
+        λ a b law. subst (λ l. Law (a ++ l)) (append_assoc b (input ∷ []) calls)
+        (subst Law (append_assoc a (b ++ input ∷ []) calls) law) in
+        let p1 : Law (deeds c.deed c.own now w sent token kept ++ (first ++ base)) =
+        joined (deeds c.deed c.own now w sent token kept) first p in
+        let q1 : Law (deeds d.deed d.own now w gone key left ++ (other ++ base)) =
+        joined (deeds d.deed d.own now w gone key left) other q in
+        let one = deeds_alike e.deed e.own base (back (deeds c.deed c.own now w sent token kept) (first ++ base) p1)
+        (back (deeds d.deed d.own now w gone key left) (other ++ base) q1) in
         let same : c ≡ d = closed_alike e.deed e.own e one in
         let q2 : Law (deeds c.deed c.own now w gone key left ++ (first ++ base)) =
-        subst (λ l. Law (deeds c.deed c.own now w gone key left ++ (l ++ base))) (sym one) (subst (λ (x : Effect). Law (deeds x.deed x.own now w gone key left ++ (other ++ base))) (sym same) q1) in
+        subst (λ l. Law (deeds c.deed c.own now w gone key left ++ (l ++ base))) (sym one)
+        (subst (λ (x : Effect). Law (deeds x.deed x.own now w gone key left ++ (other ++ base))) (sym same) q1) in
         let two = deeds_alike c.deed c.own (first ++ base) p1 q2 in
         record {
           left_alike = same;
           sent_alike = requested_alike e.deed e.own one;
           asked = λ i.
-              ap (λ l. l ++ (first ++ i ∷ [])) two ∙ (ap (λ (x : Effect). deeds x.deed x.own now w gone key left ++ (first ++ i ∷ [])) same ∙ ap (λ l. deeds d.deed d.own now w gone key left ++ (l ++ i ∷ [])) one);
+              ap (λ l. l ++ (first ++ i ∷ [])) two ∙ (ap
+              (λ (x : Effect). deeds x.deed x.own now w gone key left ++ (first ++ i ∷ [])) same
+              ∙ ap (λ l. deeds d.deed d.own now w gone key left ++ (l ++ i ∷ [])) one);
         }
 
 module _ (server : Endpoint) (szx word : ℕ) (past : List Call) where
@@ -135,31 +158,42 @@ module _ (server : Endpoint) (szx word : ℕ) (past : List Call) where
   abbrev Alike : Call → Call → Type 0
   Alike c d = LeaveAlike server szx word past c d
 
-  forgotten_alike : (number : ℕ) (kept left answer : Bool) → Stands (Forgets number kept answer) → Stands (Forgets number left answer) → Alike (Forgets number kept answer) (Forgets number left answer)
+  forgotten_alike : (number : ℕ) (kept left answer : Bool) → Stands (Forgets number kept answer)
+      → Stands (Forgets number left answer) → Alike (Forgets number kept answer) (Forgets number left answer)
   forgotten_alike number kept left answer p q =
-      let e = deeds_alike server word 0 0 L.Nothing L.Nothing (Ok []) (Ok []) kept left (forgets answer number own) own calls p.exchanges q.exchanges in
+      let e = deeds_alike server word 0 0 L.Nothing L.Nothing (Ok []) (Ok []) kept left
+      (forgets answer number own) own calls p.exchanges q.exchanges in
       record {
         own = refl;
         exchanges = ap (λ x. E.own_of server word (x ++ calls)) e;
         beneath = ap (λ x. E.lower_of server word (x ++ calls)) e;
       }
 
-  forgot : (number : ℕ) (kept left answer another : Bool) → Stands (Forgets number kept answer) → Stands (Forgets number left another) → (answer ≡ another) × Alike (Forgets number kept answer) (Forgets number left another)
+  forgot : (number : ℕ) (kept left answer another : Bool) → Stands (Forgets number kept answer)
+      → Stands (Forgets number left another) → (answer ≡ another)
+      × Alike (Forgets number kept answer) (Forgets number left another)
   forgot number kept left answer another p q =
-      let e : answer ≡ another = p.rows.0 ∙ sym q.rows.0 in
-      (e, subst (λ x. Alike (Forgets number kept answer) (Forgets number left x)) e (forgotten_alike number kept left answer p (subst (λ x. Stands (Forgets number left x)) (sym e) q)))
+      let e : answer ≡ another = p.rows.0 ∙ sym q.rows.0 in (
+        e,
+        subst (λ x. Alike (Forgets number kept answer) (Forgets number left x)) e
+            (forgotten_alike number kept left answer p (subst (λ x. Stands (Forgets number left x)) (sym e) q)),
+      )
 
   -- of one event
-  module _ (now : ℕ) (from : Endpoint) (bytes : List ℕ) (w : ℕ) (up other : L.Answer) (settled ended : Bool) (sent gone : L.Answer) (token key : Result (List ℕ) AskRefusal) (kept left : Bool) where
+  module _ (now : ℕ) (from : Endpoint) (bytes : List ℕ) (w : ℕ) (up other : L.Answer) (settled ended : Bool)
+      (sent gone : L.Answer) (token key : Result (List ℕ) AskRefusal) (kept left : Bool) where
     abbrev moment : ℕ
     moment = max own.clock now
 
     abbrev taken : L.Answer → Bool → Option Event → A.Call
     taken u b event = A.Receive moment from bytes u b event
 
-    fed_alike : (event : Option Event) → up ≡ other → Stands (Feeds now from bytes w up settled event sent token kept) → Stands (Feeds now from bytes w other ended event gone key left)
-        → P.lower (E.own_of server word calls) (taken up settled event) ≡ P.lower (E.own_of server word calls) (taken other ended event)
-        → Alike (Feeds now from bytes w up settled event sent token kept) (Feeds now from bytes w other ended event gone key left)
+    fed_alike : (event : Option Event) → up ≡ other → Stands (Feeds now from bytes w up settled event sent token kept)
+        → Stands (Feeds now from bytes w other ended event gone key left)
+        → P.lower (E.own_of server word calls) (taken up settled event)
+        ≡ P.lower (E.own_of server word calls) (taken other ended event)
+        → Alike (Feeds now from bytes w up settled event sent token kept)
+        (Feeds now from bytes w other ended event gone key left)
     fed_alike event same p q below =
         let e : Effect = happened (at now own) moment event in
         let c : Effect = close moment e token in
@@ -171,35 +205,62 @@ module _ (server : Endpoint) (szx word : ℕ) (past : List Call) where
           beneath = ap (λ l. l ++ E.lower_of server word calls) below;
         } in
         let split : (a b : List A.Call) (i : A.Call) → (a ++ (b ++ i ∷ [])) ++ calls ≡ (a ++ b) ++ (i ∷ calls) =
-        λ a b i. append_assoc a (b ++ i ∷ []) calls ∙ (ap (λ l. a ++ l) (append_assoc b (i ∷ []) calls) ∙ sym (append_assoc a b (i ∷ calls))) in
-        let before : List A.Call = deeds d.deed d.own moment w gone key left ++ deeds e.deed e.own moment w gone key left in
-        let q1 = moved server word before x y alike (back server word (deeds c.deed c.own moment w sent token kept ++ deeds e.deed e.own moment w sent token kept) x
-        (subst (ExchangeLaw server word) (split (deeds c.deed c.own moment w sent token kept) (deeds e.deed e.own moment w sent token kept) (taken up settled event)) p.exchanges)).rows
-        (subst (ExchangeLaw server word) (split (deeds d.deed d.own moment w gone key left) (deeds e.deed e.own moment w gone key left) (taken other ended event)) q.exchanges) in
-        let q2 = subst (ExchangeLaw server word) (sym (split (deeds d.deed d.own moment w gone key left) (deeds e.deed e.own moment w gone key left) (taken up settled event))) q1 in
-        let done = done_alike server word moment w sent gone token key kept left e (taken up settled event) calls p.exchanges q2 in
-        let last : (i : A.Call) → done_for e moment w gone key left i ++ calls ≡ before ++ (i ∷ calls) = λ i. split (deeds d.deed d.own moment w gone key left) (deeds e.deed e.own moment w gone key left) i in
+        λ a b i. append_assoc a (b ++ i ∷ []) calls
+        ∙ (ap (λ l. a ++ l) (append_assoc b (i ∷ []) calls) ∙ sym (append_assoc a b (i ∷ calls))) in
+        let before : List A.Call = deeds d.deed d.own moment w gone key left
+        ++ deeds e.deed e.own moment w gone key left in
+        let q1 = moved server word before x y alike
+        (back server word (deeds c.deed c.own moment w sent token kept
+        ++ deeds e.deed e.own moment w sent token kept) x
+        (subst (ExchangeLaw server word) (split (deeds c.deed c.own moment w sent token kept)
+        (deeds e.deed e.own moment w sent token kept) (taken up settled event)) p.exchanges)).rows
+        (subst (ExchangeLaw server word) (split (deeds d.deed d.own moment w gone key left)
+        (deeds e.deed e.own moment w gone key left) (taken other ended event)) q.exchanges) in
+        let q2 = subst (ExchangeLaw server word) (sym
+        (split (deeds d.deed d.own moment w gone key left) (deeds e.deed e.own moment w gone key left)
+        (taken up settled event))) q1 in
+        let done = done_alike server word moment w sent gone token key kept left e
+        (taken up settled event) calls p.exchanges q2 in
+        let last : (i : A.Call) → done_for e moment w gone key left i ++ calls ≡ before
+        ++ (i ∷ calls) = λ i. split (deeds d.deed d.own moment w gone key left)
+        (deeds e.deed e.own moment w gone key left) i in
         let k = same_behind server word before x y alike in
         record {
-          own = ap (λ x. asking (requested e.deed token) (reporting x)) done.left_alike ∙ ap (λ r. asking r (reporting (close moment e key))) done.sent_alike;
-          exchanges = ap (λ l. E.own_of server word (l ++ calls)) (done.asked (taken up settled event)) ∙ (ap (E.own_of server word) (last (taken up settled event)) ∙ (k.own ∙ sym (ap (E.own_of server word) (last (taken other ended event)))));
-          beneath = ap (λ l. E.lower_of server word (l ++ calls)) (done.asked (taken up settled event)) ∙ (ap (E.lower_of server word) (last (taken up settled event)) ∙ (k.beneath ∙ sym (ap (E.lower_of server word) (last (taken other ended event)))));
+          own = ap (λ x. asking (requested e.deed token) (reporting x)) done.left_alike
+              ∙ ap (λ r. asking r (reporting (close moment e key))) done.sent_alike;
+          exchanges = ap (λ l. E.own_of server word (l ++ calls)) (done.asked (taken up settled event))
+              ∙ (ap (E.own_of server word) (last (taken up settled event))
+              ∙ (k.own ∙ sym (ap (E.own_of server word) (last (taken other ended event)))));
+          beneath = ap (λ l. E.lower_of server word (l ++ calls)) (done.asked (taken up settled event))
+              ∙ (ap (E.lower_of server word) (last (taken up settled event))
+              ∙ (k.beneath ∙ sym (ap (E.lower_of server word) (last (taken other ended event)))));
         }
 
-  fed : (now : ℕ) (from : Endpoint) (bytes : List ℕ) (w : ℕ) (up other : L.Answer) (settled ended : Bool) (event another : Option Event) (sent gone : L.Answer) (token key : Result (List ℕ) AskRefusal) (kept left : Bool)
-      → Stands (Feeds now from bytes w up settled event sent token kept) → Stands (Feeds now from bytes w other ended another gone key left)
-      → (up ≡ other) × (event ≡ another) × Alike (Feeds now from bytes w up settled event sent token kept) (Feeds now from bytes w other ended another gone key left)
+  fed : (now : ℕ) (from : Endpoint) (bytes : List ℕ) (w : ℕ) (up other : L.Answer) (settled ended : Bool)
+      (event another : Option Event) (sent gone : L.Answer) (token key : Result (List ℕ) AskRefusal) (kept left : Bool)
+      → Stands (Feeds now from bytes w up settled event sent token kept)
+      → Stands (Feeds now from bytes w other ended another gone key left)
+      → (up ≡ other) × (event ≡ another) × Alike (Feeds now from bytes w up settled event sent token kept)
+      (Feeds now from bytes w other ended another gone key left)
   fed now from bytes w up other settled ended event another sent gone token key kept left p q =
       let moment : ℕ = max own.clock now in
-      let p1 = stripped server word moment w sent sent token token kept kept (happened (at now own) moment event) (A.Receive moment from bytes up settled event) calls p.exchanges in
-      let q1 = stripped server word moment w gone gone key key left left (happened (at now own) moment another) (A.Receive moment from bytes other ended another) calls q.exchanges in
+      let p1 = stripped server word moment w sent sent token token kept kept (happened (at now own) moment event)
+      (A.Receive moment from bytes up settled event) calls p.exchanges in
+      let q1 = stripped server word moment w gone gone key key left left (happened (at now own) moment another)
+      (A.Receive moment from bytes other ended another) calls q.exchanges in
       let e = (exact server word calls).receive moment from bytes up other settled ended event another p1 q1 in
-      let same : Stands (Feeds now from bytes w other ended event gone key left) = subst (λ x. Stands (Feeds now from bytes w other ended x gone key left)) (sym e.1) q in
-      let k = fed_alike now from bytes w up other settled ended sent gone token key kept left event e.0 p same e.2 in
-      (e.0, e.1, subst (λ x. Alike (Feeds now from bytes w up settled event sent token kept) (Feeds now from bytes w other ended x gone key left)) e.1 k)
+      let same : Stands (Feeds now from bytes w other ended event gone key left) =
+      subst (λ x. Stands (Feeds now from bytes w other ended x gone key left)) (sym e.1) q in
+      let k = fed_alike now from bytes w up other settled ended sent gone token key kept left event e.0 p same e.2 in (
+        e.0,
+        e.1,
+        subst (λ x. Alike (Feeds now from bytes w up settled event sent token kept)
+            (Feeds now from bytes w other ended x gone key left)) e.1 k,
+      )
 
   -- of one turn
-  ticked_alike : (now w : ℕ) (below : L.Answer) (turn : Turn) (sent gone : L.Answer) (token key : Result (List ℕ) AskRefusal) (kept left answer : Bool)
+  ticked_alike : (now w : ℕ) (below : L.Answer) (turn : Turn) (sent gone : L.Answer)
+      (token key : Result (List ℕ) AskRefusal) (kept left answer : Bool)
       → Stands (Ticks now w below turn sent token kept answer) → Stands (Ticks now w below turn gone key left answer)
       → Alike (Ticks now w below turn sent token kept answer) (Ticks now w below turn gone key left answer)
   ticked_alike now w below turn sent gone token key kept left answer p q =
@@ -208,30 +269,40 @@ module _ (server : Endpoint) (szx word : ℕ) (past : List Call) where
       let e : Effect = passes (at now own) moment turn in
       let done = done_alike server word moment w sent gone token key kept left e input calls p.exchanges q.exchanges in
       record {
-        own = ap (λ x. asking (requested e.deed token) (reporting x)) done.left_alike ∙ ap (λ r. asking r (reporting (close moment e key))) done.sent_alike;
+        own = ap (λ x. asking (requested e.deed token) (reporting x)) done.left_alike
+            ∙ ap (λ r. asking r (reporting (close moment e key))) done.sent_alike;
         exchanges = ap (λ l. E.own_of server word (l ++ calls)) (done.asked input);
         beneath = ap (λ l. E.lower_of server word (l ++ calls)) (done.asked input);
       }
 
-  ticked : (now w : ℕ) (below other : L.Answer) (turn turned : Turn) (sent gone : L.Answer) (token key : Result (List ℕ) AskRefusal) (kept left answer another : Bool)
+  ticked : (now w : ℕ) (below other : L.Answer) (turn turned : Turn) (sent gone : L.Answer)
+      (token key : Result (List ℕ) AskRefusal) (kept left answer another : Bool)
       → Stands (Ticks now w below turn sent token kept answer) → Stands (Ticks now w other turned gone key left another)
-      → (below ≡ other) × (turn ≡ turned) × (answer ≡ another) × Alike (Ticks now w below turn sent token kept answer) (Ticks now w other turned gone key left another)
+      → (below ≡ other) × (turn ≡ turned) × (answer ≡ another)
+      × Alike (Ticks now w below turn sent token kept answer) (Ticks now w other turned gone key left another)
   ticked now w below other turn turned sent gone token key kept left answer another p q =
       let moment : ℕ = max own.clock now in
-      let p1 = stripped server word moment w sent sent token token kept kept (passes (at now own) moment turn) (A.Ticks moment below turn) calls p.exchanges in
-      let q1 = stripped server word moment w gone gone key key left left (passes (at now own) moment turned) (A.Ticks moment other turned) calls q.exchanges in
+      let p1 = stripped server word moment w sent sent token token kept kept (passes (at now own) moment turn)
+      (A.Ticks moment below turn) calls p.exchanges in
+      let q1 = stripped server word moment w gone gone key key left left (passes (at now own) moment turned)
+      (A.Ticks moment other turned) calls q.exchanges in
       let e = (exact server word calls).ticks moment below other turn turned p1 q1 in
-      let f : answer ≡ another = p.rows.0 ∙ (ap (λ t. not (is_idle t) || asks (passes (at now own) moment t).deed) e.1 ∙ sym q.rows.0) in
+      let f : answer ≡ another = p.rows.0 ∙ (ap (λ t. not (is_idle t) || asks (passes (at now own) moment t).deed) e.1
+      ∙ sym q.rows.0) in
       let same : Stands (Ticks now w below turn gone key left another) =
-      subst (λ x. Stands (Ticks now w below x gone key left another)) (sym e.1) (subst (λ x. Stands (Ticks now w x turned gone key left another)) (sym e.0) q) in
+      subst (λ x. Stands (Ticks now w below x gone key left another)) (sym e.1)
+      (subst (λ x. Stands (Ticks now w x turned gone key left another)) (sym e.0) q) in
       let r : Alike (Ticks now w below turn sent token kept answer) (Ticks now w below turn gone key left another) =
       subst (λ x. Alike (Ticks now w below turn sent token kept answer) (Ticks now w below turn gone key left x)) f
-      (ticked_alike now w below turn sent gone token key kept left answer p (subst (λ x. Stands (Ticks now w below turn gone key left x)) (sym f) same)) in (
+      (ticked_alike now w below turn sent gone token key kept left answer p
+      (subst (λ x. Stands (Ticks now w below turn gone key left x)) (sym f) same)) in (
         e.0,
         e.1,
         f,
-        subst (λ x. Alike (Ticks now w below turn sent token kept answer) (Ticks now w other x gone key left another)) e.1
-            (subst (λ x. Alike (Ticks now w below turn sent token kept answer) (Ticks now w x turn gone key left another)) e.0 r),
+        subst (λ x. Alike (Ticks now w below turn sent token kept answer) (Ticks now w other x gone key left another))
+            e.1
+            (subst (λ x. Alike (Ticks now w below turn sent token kept answer)
+            (Ticks now w x turn gone key left another)) e.0 r),
       )
 
   pub is_exact : IsExact server szx word past

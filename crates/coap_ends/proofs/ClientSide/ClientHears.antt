@@ -21,21 +21,27 @@ use Rattle.coap_ends.proofs.ClientSide.ClientLeading.{client_back}
 
 module _ (server : Endpoint) (szx word : ℕ) where
   came_here :
-      (t : List Call) (now : ℕ) (from : Endpoint) (bytes : List ℕ) (w : ℕ) (up : L.Answer) (settled : Bool) (event : Option Event) (sent : L.Answer) (token : Result (List ℕ) AskRefusal) (kept : Bool) (m : Message)
-      → ClientLaw server szx word (Feeds now from bytes w up settled event sent token kept ∷ t) → message_told event ≡ Some m → (same_endpoint from server ≡ true) × Spells bytes m
+      (t : List Call) (now : ℕ) (from : Endpoint) (bytes : List ℕ) (w : ℕ) (up : L.Answer) (settled : Bool)
+      (event : Option Event) (sent : L.Answer) (token : Result (List ℕ) AskRefusal) (kept : Bool) (m : Message)
+      → ClientLaw server szx word (Feeds now from bytes w up settled event sent token kept ∷ t)
+      → message_told event ≡ Some m → (same_endpoint from server ≡ true) × Spells bytes m
   came_here t now from bytes w up settled event sent token kept m law told =
       let own : Own = own_of szx t in
       let moment : ℕ = max own.clock now in
       let input : E.Call = E.Receive moment from bytes up settled event in
-      let p : ExchangeLaw server word (input ∷ lower_of szx t) = stripped server word moment w sent sent token token kept kept (happened (at now own) moment event) input (lower_of szx t) law.exchanges in
-      (came_from server word (input ∷ lower_of szx t) p.rows p.left p.layer).0.came moment from bytes up settled event m refl told
+      let p : ExchangeLaw server word (input ∷ lower_of szx t) =
+      stripped server word moment w sent sent token token kept kept (happened (at now own) moment event) input
+      (lower_of szx t) law.exchanges in
+      (came_from server word (input ∷ lower_of szx t) p.rows p.left p.layer).0.came moment from bytes up settled event m
+      refl told
 
   pub are_from_server : (t : List Call) → ClientLaw server szx word t → AreFromServer server t
   are_from_server [] law = tt
   are_from_server (c ∷ t) law = (
     record {
       came = λ now from bytes w up settled event sent token kept m is told.
-          came_here t now from bytes w up settled event sent token kept m (subst (λ x. ClientLaw server szx word (x ∷ t)) is law) told;
+          came_here t now from bytes w up settled event sent token kept m
+          (subst (λ x. ClientLaw server szx word (x ∷ t)) is law) told;
     },
     are_from_server t (client_back server szx word (c ∷ []) t law),
   )

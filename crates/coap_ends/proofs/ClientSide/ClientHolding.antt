@@ -44,10 +44,12 @@ pub record Steady (s : Own) (at : ℕ) (e : Effect) : Type 0 where
   pub clock : e.own.clock ≡ s.clock
   pub reports : e.own.reports ≡ s.reports
 
-steady : (s : Own) (at : ℕ) (e : Effect) → e.own.hold ≡ s.hold → e.own.sent ≡ s.sent → e.own.clock ≡ s.clock → e.own.reports ≡ s.reports → Steady s at e
+steady : (s : Own) (at : ℕ) (e : Effect) → e.own.hold ≡ s.hold → e.own.sent ≡ s.sent → e.own.clock ≡ s.clock
+    → e.own.reports ≡ s.reports → Steady s at e
 steady s at e hold sent clock reports = record { hold = inl hold; sent = inl sent; clock = clock; reports = reports }
 
-held_steady : (s : Own) (at : ℕ) (c : Bool) (report : Option Reported) → Steady s at (ends report (cond c (record s { hold = Some s.sent }) s))
+held_steady : (s : Own) (at : ℕ) (c : Bool) (report : Option Reported)
+    → Steady s at (ends report (cond c (record s { hold = Some s.sent }) s))
 held_steady s at true report = record { hold = inr refl; sent = inl refl; clock = refl; reports = refl }
 held_steady s at false report = steady s at _ refl refl refl refl
 
@@ -72,12 +74,14 @@ fetch_steady s at k (Some n) m = by_steady s at k n m _
 answered_steady : (s : Own) (at : ℕ) (m : Message) (running : Option Operation) → Steady s at (answered s at m running)
 answered_steady s at m None = steady s at _ refl refl refl refl
 answered_steady s at m (Some (Calling k r t)) = called_steady s at k r t (answer r t m)
-answered_steady s at m (Some (Registering k path)) = if_steady s at (is_notification m) _ _ (steady s at _ refl refl refl refl) (steady s at _ refl refl refl refl)
+answered_steady s at m (Some (Registering k path)) =
+    if_steady s at (is_notification m) _ _ (steady s at _ refl refl refl refl) (steady s at _ refl refl refl refl)
 answered_steady s at m (Some (Fetching k)) = fetch_steady s at k (rest_of k s.observations) m
 answered_steady s at m (Some (Cancelling k)) = steady s at _ refl refl refl refl
 answered_steady s at m (Some Dropped) = steady s at _ refl refl refl refl
 
-failed_steady : (s : Own) (at : ℕ) (u : Transfer → Bool) (report : Report) (running : Option Operation) → Steady s at (failed u report s running)
+failed_steady : (s : Own) (at : ℕ) (u : Transfer → Bool) (report : Report) (running : Option Operation)
+    → Steady s at (failed u report s running)
 failed_steady s at u report None = steady s at _ refl refl refl refl
 failed_steady s at u report (Some (Calling k r t)) = held_steady s at (u t && is_upload t) (of k report)
 failed_steady s at u report (Some (Registering k path)) = steady s at _ refl refl refl refl
@@ -89,7 +93,8 @@ noticed_steady : (s : Own) (at : ℕ) (m : Message) (o : Option Observation) →
 noticed_steady s at m None = steady s at _ refl refl refl refl
 noticed_steady s at m (Some o) = by (not (is_notification m)) (is_newer o.watch.mark (sequence_in m) at)
   where
-    by : (b c : Bool) → Steady s at (cond b (is_over o.number (R.Ended m.code) s) (cond c (renewed o s at m) (stays (passed o s at m))))
+    by : (b c : Bool) → Steady s at (cond b (is_over o.number (R.Ended m.code) s)
+        (cond c (renewed o s at m) (stays (passed o s at m))))
     by true c = steady s at _ refl refl refl refl
     by false true = steady s at _ refl refl refl refl
     by false false = steady s at _ refl refl refl refl
@@ -110,14 +115,20 @@ starts_steady s at (op ∷ queue) = by (is_upload_op op && is_held s at)
     by true = steady s at _ refl refl refl refl
     by false = steady s at _ refl refl refl refl
 
-idle_steady : (s : Own) (at : ℕ) (running : Option Operation) (number : Option ℕ) → Steady s at (idle s at running number)
+idle_steady : (s : Own) (at : ℕ) (running : Option Operation) (number : Option ℕ)
+    → Steady s at (idle s at running number)
 idle_steady s at (Some op) number = steady s at _ refl refl refl refl
 idle_steady s at None (Some k) = steady s at _ refl refl refl refl
 idle_steady s at None None = starts_steady s at s.queue
 
 pub passes_steady : (s : Own) (at : ℕ) (t : Turn) → Steady s at (passes s at t)
 passes_steady s at turn.Idle = idle_steady s at s.running (to_fetch s.observations)
-passes_steady s at turn.Copied = record { hold = inl refl; sent = inr (refl, λ op h. cc h); clock = refl; reports = refl }
+passes_steady s at turn.Copied = record {
+  hold = inl refl;
+  sent = inr (refl, λ op h. cc h);
+  clock = refl;
+  reports = refl;
+}
 passes_steady s at (turn.End e) = failed_steady s at (λ t. true) (lapse e) s.running
 
 -- .. once the request is sent or refused
@@ -127,16 +138,29 @@ pub record Steadied (s : Own) (at : ℕ) (c : Effect) : Type 0 where
   pub clock : c.own.clock ≡ s.clock
   pub reports : c.own.reports ≡ s.reports
 
-pub steadied : (s : Own) (at : ℕ) (e : Effect) (token : Result (List ℕ) AskRefusal) (d : Deed) → e.deed ≡ d → Steady s at e → Steadied s at (closed at e d token)
-steadied s at e token Rests is h = record { hold = h.hold; sent = elim h.sent [ inl x ↦ inl x | inr x ↦ inr x.0 ]; clock = h.clock; reports = h.reports }
-steadied s at e token (Keeps t) is h = record { hold = h.hold; sent = elim h.sent [ inl x ↦ inl x | inr x ↦ inr x.0 ]; clock = h.clock; reports = h.reports }
-steadied s at e token (Releases t) is h = record { hold = h.hold; sent = elim h.sent [ inl x ↦ inl x | inr x ↦ inr x.0 ]; clock = h.clock; reports = h.reports }
-steadied s at e (Ok token) (Asks op) is h = record { hold = h.hold; sent = inr refl; clock = h.clock; reports = h.reports }
+pub steadied : (s : Own) (at : ℕ) (e : Effect) (token : Result (List ℕ) AskRefusal) (d : Deed) → e.deed ≡ d
+    → Steady s at e → Steadied s at (closed at e d token)
+steadied s at e token Rests is h = record {
+  hold = h.hold;
+  sent = elim h.sent [ inl x ↦ inl x | inr x ↦ inr x.0 ];
+  clock = h.clock;
+  reports = h.reports;
+}
+steadied s at e token (Keeps t) is h = record
+    { hold = h.hold; sent = elim h.sent [ inl x ↦ inl x | inr x ↦ inr x.0 ]; clock = h.clock; reports = h.reports }
+steadied s at e token (Releases t) is h = record
+    { hold = h.hold; sent = elim h.sent [ inl x ↦ inl x | inr x ↦ inr x.0 ]; clock = h.clock; reports = h.reports }
+steadied s at e (Ok token) (Asks op) is h = record
+    { hold = h.hold; sent = inr refl; clock = h.clock; reports = h.reports }
 steadied s at e (Err why) (Asks op) is h =
     let f = failed_steady e.own at has_sent R.NoIds (Some op) in
     let same : e.own.sent ≡ s.sent = elim h.sent [ inl x ↦ x | inr x ↦ absurd (x.1 op is) ] in
     record {
-      hold = elim f.hold [ inl x ↦ elim h.hold [ inl y ↦ inl (x ∙ y) | inr y ↦ inr (x ∙ y) ] | inr x ↦ inr (x ∙ ap (λ z. Some z) same) ];
+      hold = elim f.hold [
+        | inl x ↦ elim h.hold [ inl y ↦ inl (x ∙ y) | inr y ↦ inr (x ∙ y) ]
+        | inr x ↦ inr
+            (x ∙ ap (λ z. Some z) same)
+      ];
       sent = elim f.sent [ inl x ↦ inl (x ∙ same) | inr x ↦ inr x.0 ];
       clock = f.clock ∙ h.clock;
       reports = f.reports ∙ h.reports;
@@ -183,21 +207,30 @@ lapse_last event.Timeout = refl
 lapse_last event.Reset = refl
 lapse_last event.NoResponse = refl
 
-module _ (other : ℕ) (s : Own) (k : ℕ) (r : Request) (u : UploadState) (same : (k == other) ≡ true) (longer : is_longer u ≡ true) where
+module _ (other : ℕ) (s : Own) (k : ℕ) (r : Request) (u : UploadState) (same : (k == other) ≡ true)
+    (longer : is_longer u ≡ true) where
   number_is : k ≡ other
   number_is = same_number k other same
 
-  held_is : (report : Option Reported) → (ends report (cond (is_longer u) (record s { hold = Some s.sent }) s)).own.hold ≡ Some s.sent
+  held_is : (report : Option Reported) → (ends report (cond (is_longer u) (record s { hold = Some s.sent }) s)).own.hold
+      ≡ Some s.sent
   held_is report = ap (λ l. (ends report (cond l (record s { hold = Some s.sent }) s)).own.hold) longer
 
-  unheard_fate : (final : Bool) (report : Report) → is_value report ≡ false → IsOver final other s (ends (of k report) (held_by true (Uploads u) s))
-  unheard_fate final report last = record { report = report; made = ap (λ i. of i report) number_is; last = last; holds = λ h. held_is (of k report) }
+  unheard_fate : (final : Bool) (report : Report) → is_value report ≡ false
+      → IsOver final other s (ends (of k report) (held_by true (Uploads u) s))
+  unheard_fate final report last = record {
+    report = report;
+    made = ap (λ i. of i report) number_is;
+    last = last;
+    holds = λ h. held_is (of k report);
+  }
 
   continued_fate : (o : Option Block) → Fate false other s (called k r (Uploads u) s (calls.continued u o))
   continued_fate None = inl (unheard_fate false R.BadBlock refl)
   continued_fate (Some b) = by (continues u b) refl
     where
-      by : (c : Bool) → continues u b ≡ c → Fate false other s (called k r (Uploads u) s (cond c (calls.Asks (Uploads (moved u b))) (calls.Ends false R.BadBlock)))
+      by : (c : Bool) → continues u b ≡ c → Fate false other s
+          (called k r (Uploads u) s (cond c (calls.Asks (Uploads (moved u b))) (calls.Ends false R.BadBlock)))
       by true h = inr (inl (record {
         number = k;
         request = r;
@@ -210,16 +243,34 @@ module _ (other : ℕ) (s : Own) (k : ℕ) (r : Request) (u : UploadState) (same
       }))
       by false h = inl (unheard_fate false R.BadBlock refl)
 
-  final_fate : (p : Bool) (code : ℕ) → IsOver true other s (called k r (Uploads u) s (cond p (calls.Ends true R.BadBlock) (calls.Ends true (reports_of.done r.method code))))
-  final_fate true code = record { report = R.BadBlock; made = ap (λ i. of i R.BadBlock) number_is; last = refl; holds = λ h. absurd (cc h) }
-  final_fate false code = record { report = reports_of.done r.method code; made = ap (λ i. of i (reports_of.done r.method code)) number_is; last = done_last r.method code; holds = λ h. absurd (cc h) }
+  final_fate : (p : Bool) (code : ℕ) → IsOver true other s
+      (called k r (Uploads u) s (cond p (calls.Ends true R.BadBlock) (calls.Ends true (reports_of.done r.method code))))
+  final_fate true code = record {
+    report = R.BadBlock;
+    made = ap (λ i. of i R.BadBlock) number_is;
+    last = refl;
+    holds = λ h. absurd (cc h);
+  }
+  final_fate false code = record {
+    report = reports_of.done r.method code;
+    made = ap (λ i. of i (reports_of.done r.method code)) number_is;
+    last = done_last r.method code;
+    holds = λ h. absurd (cc h);
+  }
 
-  pub heard_fate : (m : Message) → Fate (not (m.code == continue)) other s (called k r (Uploads u) s (answer r (Uploads u) m))
+  pub heard_fate : (m : Message) → Fate (not (m.code == continue)) other s
+      (called k r (Uploads u) s (answer r (Uploads u) m))
   heard_fate m = by (m.code == continue)
     where
-      by : (b : Bool) → Fate (not b) other s (called k r (Uploads u) s (cond (b && is_longer u) (calls.continued u (block_at block1 m)) (cond (more_follows u && calls.is_below_errors m.code) (calls.Ends true R.BadBlock) (calls.Ends true (reports_of.done r.method m.code)))))
+      by : (b : Bool) → Fate (not b) other s (called k r (Uploads u) s
+          (cond (b && is_longer u) (calls.continued u (block_at block1 m))
+          (cond (more_follows u && calls.is_below_errors m.code) (calls.Ends true R.BadBlock)
+          (calls.Ends true (reports_of.done r.method m.code)))))
       by true =
-          subst (λ l. Fate false other s (called k r (Uploads u) s (cond l (calls.continued u (block_at block1 m)) (cond (more_follows u && calls.is_below_errors m.code) (calls.Ends true R.BadBlock) (calls.Ends true (reports_of.done r.method m.code))))))
+          subst (λ l. Fate false other s (called k r (Uploads u) s
+          (cond l (calls.continued u (block_at block1 m))
+          (cond (more_follows u && calls.is_below_errors m.code) (calls.Ends true R.BadBlock)
+          (calls.Ends true (reports_of.done r.method m.code))))))
           (sym longer) (continued_fate (block_at block1 m))
       by false = inl (final_fate (more_follows u && calls.is_below_errors m.code) m.code)
 
@@ -234,7 +285,9 @@ pub record IsUp (other : ℕ) (running : Option Operation) : Type 0 where
 
 pub up_of : (other : ℕ) (running : Option Operation) → is_upload_of other running ≡ true → IsUp other running
 up_of other None h = absurd (cc h)
-up_of other (Some (Calling k r (Uploads u))) h = let b = and_parts (k == other) (is_longer u) h in record { number = k; request = r; upload = u; runs_it = refl; same = b.0; longer = b.1 }
+up_of other (Some (Calling k r (Uploads u))) h = let b =
+    and_parts (k == other) (is_longer u) h in record
+    { number = k; request = r; upload = u; runs_it = refl; same = b.0; longer = b.1 }
 up_of other (Some (Calling k r (Fetches f))) h = absurd (cc h)
 up_of other (Some (Calling k r Single)) h = absurd (cc h)
 up_of other (Some (Registering k path)) h = absurd (cc h)
@@ -251,10 +304,12 @@ module _ (other : ℕ) (s : Own) (at : ℕ) (up : is_upload_of other s.running �
 
   failed_fate : (report : Report) → is_value report ≡ false → Fate false other s (failed (λ t. true) report s s.running)
   failed_fate report last =
-      subst (λ o. Fate false other s (failed (λ t. true) report s o)) (sym it.runs_it) (inl (unheard_fate other s it.number it.request it.upload it.same it.longer false report last))
+      subst (λ o. Fate false other s (failed (λ t. true) report s o)) (sym it.runs_it)
+      (inl (unheard_fate other s it.number it.request it.upload it.same it.longer false report last))
 
   answered_fate : (m : Message) → Fate (not (m.code == continue)) other s (answered s at m s.running)
-  answered_fate m = subst (λ o. Fate (not (m.code == continue)) other s (answered s at m o)) (sym it.runs_it) (heard_fate other s it.number it.request it.upload it.same it.longer m)
+  answered_fate m = subst (λ o. Fate (not (m.code == continue)) other s (answered s at m o)) (sym it.runs_it)
+      (heard_fate other s it.number it.request it.upload it.same it.longer m)
 
   dropped_same : (k : ℕ) → dropped k s.running ≡ s.running
   dropped_same k = ap (dropped k) it.runs_it ∙ sym it.runs_it
@@ -267,15 +322,18 @@ module _ (other : ℕ) (s : Own) (at : ℕ) (up : is_upload_of other s.running �
   noticed_fate m None = stays_on (stays s) (λ op h. cc h) refl
   noticed_fate m (Some o) = by (not (is_notification m)) (is_newer o.watch.mark (sequence_in m) at)
     where
-      by : (b c : Bool) → Fate false other s (cond b (is_over o.number (R.Ended m.code) s) (cond c (renewed o s at m) (stays (passed o s at m))))
-      by true c = stays_on (is_over o.number (R.Ended m.code) s) (releases_quiet (observation_of o.number s.observations)) (dropped_same o.number)
+      by : (b c : Bool) → Fate false other s (cond b (is_over o.number (R.Ended m.code) s)
+          (cond c (renewed o s at m) (stays (passed o s at m))))
+      by true c = stays_on (is_over o.number (R.Ended m.code) s)
+          (releases_quiet (observation_of o.number s.observations)) (dropped_same o.number)
       by false true = stays_on (renewed o s at m) (λ op h. cc h) (dropped_same o.number)
       by false false = stays_on (stays (passed o s at m)) (λ op h. cc h) refl
 
   idle_fate : (number : Option ℕ) → Fate false other s (idle s at s.running number)
   idle_fate number = subst (λ o. Fate false other s (idle s at o number)) (sym it.runs_it) (by number)
     where
-      by : (number : Option ℕ) → Fate false other s (idle s at (Some (Calling it.number it.request (Uploads it.upload))) number)
+      by : (number : Option ℕ) → Fate false other s
+          (idle s at (Some (Calling it.number it.request (Uploads it.upload))) number)
       by number = stays_on (stays s) (λ op h. cc h) refl
 
   pub passes_fate : (t : Turn) → Fate false other s (passes s at t)
@@ -299,10 +357,14 @@ module _ (other : ℕ) (s : Own) (at : ℕ) (up : is_upload_of other s.running �
   abbrev Closed : Bool → Effect → Type 0
   Closed final c = IsOver final other s c ⊎ (is_upload_of other c.own.running ≡ true)
 
-  pub closed_fate : (final : Bool) (e : Effect) (token : Result (List ℕ) AskRefusal) → Fate final other s e → ((op : Operation) → e.deed ≡ Asks op → e.report ≡ None) → (d : Deed) → e.deed ≡ d → Closed final (closed at e d token)
+  pub closed_fate : (final : Bool) (e : Effect) (token : Result (List ℕ) AskRefusal) → Fate final other s e
+      → ((op : Operation) → e.deed ≡ Asks op → e.report ≡ None) → (d : Deed) → e.deed ≡ d
+      → Closed final (closed at e d token)
   closed_fate final e token (inl o) none Rests is = inl o
-  closed_fate final e token (inl o) none (Keeps t) is = inl (record { report = o.report; made = o.made; last = o.last; holds = o.holds })
-  closed_fate final e token (inl o) none (Releases t) is = inl (record { report = o.report; made = o.made; last = o.last; holds = o.holds })
+  closed_fate final e token (inl o) none (Keeps t) is =
+      inl (record { report = o.report; made = o.made; last = o.last; holds = o.holds })
+  closed_fate final e token (inl o) none (Releases t) is =
+      inl (record { report = o.report; made = o.made; last = o.last; holds = o.holds })
   closed_fate final e token (inl o) none (Asks op) is = absurd (cc (none op is, o.made))
   closed_fate final e token (inr (inl g)) none Rests is = absurd (cc (is, g.asks))
   closed_fate final e token (inr (inl g)) none (Keeps t) is = absurd (cc (is, g.asks))
@@ -315,8 +377,10 @@ module _ (other : ℕ) (s : Own) (at : ℕ) (up : is_upload_of other s.running �
         report = R.NoIds;
         made = ap (λ i. of i R.NoIds) (same_number g.number other b.0);
         last = refl;
-        holds = λ h. ap (λ l. (ends (of g.number R.NoIds) (cond (l && is_longer g.upload) (record e.own { hold = Some e.own.sent }) e.own)).own.hold) g.later
-            ∙ (ap (λ l. (ends (of g.number R.NoIds) (cond l (record e.own { hold = Some e.own.sent }) e.own)).own.hold) b.1 ∙ ap (λ z. Some z) g.sent);
+        holds = λ h. ap (λ l. (ends (of g.number R.NoIds)
+            (cond (l && is_longer g.upload) (record e.own { hold = Some e.own.sent }) e.own)).own.hold) g.later
+            ∙ (ap (λ l. (ends (of g.number R.NoIds) (cond l (record e.own { hold = Some e.own.sent }) e.own)).own.hold)
+            b.1 ∙ ap (λ z. Some z) g.sent);
       }))
   closed_fate final e token (inr (inr q)) none Rests is = inr q.is
   closed_fate final e token (inr (inr q)) none (Keeps t) is = inr q.is

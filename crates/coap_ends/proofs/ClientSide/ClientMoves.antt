@@ -47,22 +47,32 @@ pub record Unheard (s : Own) (told : Option Event) : Type 0 where
 pub data Move (s : Own) (now : ℕ) (told : Option Event) : Type 0 where
   rests : Unheard s told → Move s now told
   copies : told ≡ None → Move s now told
-  starts_next : (op : Operation) (queue : List Operation) → s.running ≡ None → to_fetch s.observations ≡ None → s.queue ≡ op ∷ queue → told ≡ None → Move s now told
+  starts_next : (op : Operation) (queue : List Operation) → s.running ≡ None → to_fetch s.observations ≡ None
+      → s.queue ≡ op ∷ queue → told ≡ None → Move s now told
   fetches : (k : ℕ) → s.running ≡ None → to_fetch s.observations ≡ Some k → told ≡ None → Move s now told
-  goes_on : (k : ℕ) (r : Request) (t next : Transfer) (m : Message) → Hears told m → s.running ≡ Some (Calling k r t) → answer r t m ≡ calls.Asks next → Move s now told
-  is_done : (k : ℕ) (r : Request) (t : Transfer) (final : Bool) (report : Report) (m : Message) → Hears told m → s.running ≡ Some (Calling k r t) → answer r t m ≡ calls.Ends final report → Move s now told
-  registers : (k : ℕ) (path : List (List ℕ)) (m : Message) → Hears told m → s.running ≡ Some (Registering k path) → is_notification m ≡ true → Move s now told
-  refuses : (k : ℕ) (path : List (List ℕ)) (m : Message) → Hears told m → s.running ≡ Some (Registering k path) → is_notification m ≡ false → Move s now told
-  fetches_on : (k : ℕ) (n : Notified) (m : Message) (num szx : ℕ) → Hears told m → s.running ≡ Some (Fetching k) → rest_of k s.observations ≡ Some n → m.code ≡ content → part n.fetch m ≡ verdict.Ask num szx → Move s now told
-  fetched : (k : ℕ) (n : Notified) (m : Message) → Hears told m → s.running ≡ Some (Fetching k) → rest_of k s.observations ≡ Some n → m.code ≡ content → part n.fetch m ≡ verdict.Done → Move s now told
+  goes_on : (k : ℕ) (r : Request) (t next : Transfer) (m : Message) → Hears told m → s.running ≡ Some (Calling k r t)
+      → answer r t m ≡ calls.Asks next → Move s now told
+  is_done : (k : ℕ) (r : Request) (t : Transfer) (final : Bool) (report : Report) (m : Message) → Hears told m
+      → s.running ≡ Some (Calling k r t) → answer r t m ≡ calls.Ends final report → Move s now told
+  registers : (k : ℕ) (path : List (List ℕ)) (m : Message) → Hears told m → s.running ≡ Some (Registering k path)
+      → is_notification m ≡ true → Move s now told
+  refuses : (k : ℕ) (path : List (List ℕ)) (m : Message) → Hears told m → s.running ≡ Some (Registering k path)
+      → is_notification m ≡ false → Move s now told
+  fetches_on : (k : ℕ) (n : Notified) (m : Message) (num szx : ℕ) → Hears told m → s.running ≡ Some (Fetching k)
+      → rest_of k s.observations ≡ Some n → m.code ≡ content → part n.fetch m ≡ verdict.Ask num szx → Move s now told
+  fetched : (k : ℕ) (n : Notified) (m : Message) → Hears told m → s.running ≡ Some (Fetching k)
+      → rest_of k s.observations ≡ Some n → m.code ≡ content → part n.fetch m ≡ verdict.Done → Move s now told
   gives_up : (k : ℕ) (m : Message) → Hears told m → s.running ≡ Some (Fetching k) → Move s now told
   fetched_none : (k : ℕ) (m : Message) → Hears told m → s.running ≡ Some (Fetching k) → Move s now told
   cancels : (k : ℕ) (m : Message) → Hears told m → s.running ≡ Some (Cancelling k) → Move s now told
   is_dropped : (m : Message) → Hears told m → s.running ≡ Some Dropped → Move s now told
   fails : (e : Event) → Unheard s told → Move s now told
-  is_ended : (o : Observation) (m : Message) → Notes told m → observation_with m.token s.observations ≡ Some o → is_notification m ≡ false → Move s now told
-  renews : (o : Observation) (m : Message) → Notes told m → observation_with m.token s.observations ≡ Some o → is_notification m ≡ true → is_newer o.watch.mark (sequence_in m) now ≡ true → Move s now told
-  passes_by : (o : Observation) (m : Message) → Notes told m → observation_with m.token s.observations ≡ Some o → is_notification m ≡ true → is_newer o.watch.mark (sequence_in m) now ≡ false → Move s now told
+  is_ended : (o : Observation) (m : Message) → Notes told m → observation_with m.token s.observations ≡ Some o
+      → is_notification m ≡ false → Move s now told
+  renews : (o : Observation) (m : Message) → Notes told m → observation_with m.token s.observations ≡ Some o
+      → is_notification m ≡ true → is_newer o.watch.mark (sequence_in m) now ≡ true → Move s now told
+  passes_by : (o : Observation) (m : Message) → Notes told m → observation_with m.token s.observations ≡ Some o
+      → is_notification m ≡ true → is_newer o.watch.mark (sequence_in m) now ≡ false → Move s now told
 
 -- what each leaves
 abbrev pub left_by : (s : Own) (now : ℕ) (told : Option Event) → Move s now told → Effect
@@ -89,7 +99,8 @@ left_by s now told (is_ended o m notes found note) = is_over o.number (Ended m.c
 left_by s now told (renews o m notes found note newer) = renewed o s now m
 left_by s now told (passes_by o m notes found note newer) = stays (passed o s now m)
 
-untold : (s : Own) (told : Option Event) → ((m : Message) → Hears told m → ⊥) → ((m : Message) → Notes told m → ⊥) → Unheard s told
+untold : (s : Own) (told : Option Event) → ((m : Message) → Hears told m → ⊥) → ((m : Message) → Notes told m → ⊥)
+    → Unheard s told
 untold s told a n = record { answer = λ m h. absurd (a m h); notice = λ m h. absurd (n m h) }
 
 -- one of them is what it makes
@@ -100,29 +111,39 @@ module _ (s : Own) (now : ℕ) (m : Message) where
   abbrev told : Option Event
   told = Some (event_of.Answer m)
 
-  call_moves : (k : ℕ) (r : Request) (t : Transfer) → s.running ≡ Some (Calling k r t) → (n : Next) → answer r t m ≡ n → Moved s now told (called k r t s n)
+  call_moves : (k : ℕ) (r : Request) (t : Transfer) → s.running ≡ Some (Calling k r t) → (n : Next) → answer r t m ≡ n
+      → Moved s now told (called k r t s n)
   call_moves k r t is (calls.Asks next) h = (goes_on k r t next m refl is h, refl)
   call_moves k r t is (calls.Ends final report) h = (is_done k r t final report m refl is h, refl)
 
-  registration_moves : (k : ℕ) (path : List (List ℕ)) → s.running ≡ Some (Registering k path) → Moved s now told (registered k path s now m)
+  registration_moves : (k : ℕ) (path : List (List ℕ)) → s.running ≡ Some (Registering k path)
+      → Moved s now told (registered k path s now m)
   registration_moves k path is = by (is_notification m) refl
     where
       by : (b : Bool) → is_notification m ≡ b
-          → Moved s now told (cond b (record { own = record s { running = None; observations = s.observations ++ begun k path s.szx now m ∷ [] }; report = first_value k s.szx m; deed = Keeps m.token }) (ends (of k (Ended m.code)) s))
+          → Moved s now told (cond b (record {
+            own =
+                record s { running = None; observations = s.observations ++ begun k path s.szx now m ∷ [] };
+            report = first_value k s.szx m;
+            deed = Keeps m.token;
+          }) (ends (of k (Ended m.code)) s))
       by true h = (registers k path m refl is h, refl)
       by false h = (refuses k path m refl is h, refl)
 
-  part_moves : (k : ℕ) (n : Notified) → s.running ≡ Some (Fetching k) → rest_of k s.observations ≡ Some n → m.code ≡ content → (v : Verdict) → part n.fetch m ≡ v → Moved s now told (fetch_by k n s m v)
+  part_moves : (k : ℕ) (n : Notified) → s.running ≡ Some (Fetching k) → rest_of k s.observations ≡ Some n
+      → m.code ≡ content → (v : Verdict) → part n.fetch m ≡ v → Moved s now told (fetch_by k n s m v)
   part_moves k n is rest code (verdict.Ask num szx) h = (fetches_on k n m num szx refl is rest code h, refl)
   part_moves k n is rest code verdict.Done h = (fetched k n m refl is rest code h, refl)
   part_moves k n is rest code verdict.Again h = (gives_up k m refl is, refl)
   part_moves k n is rest code (verdict.Refuse why) h = (gives_up k m refl is, refl)
 
-  fetch_moves : (k : ℕ) → s.running ≡ Some (Fetching k) → (o : Option Notified) → rest_of k s.observations ≡ o → Moved s now told (fetch_answered k o s m)
+  fetch_moves : (k : ℕ) → s.running ≡ Some (Fetching k) → (o : Option Notified) → rest_of k s.observations ≡ o
+      → Moved s now told (fetch_answered k o s m)
   fetch_moves k is None rest = (fetched_none k m refl is, refl)
   fetch_moves k is (Some n) rest = by (m.code == content) refl
     where
-      by : (b : Bool) → (m.code == content) ≡ b → Moved s now told (fetch_by k n s m (cond b (part n.fetch m) (verdict.Refuse refusal.BadBlock)))
+      by : (b : Bool) → (m.code == content) ≡ b → Moved s now told
+          (fetch_by k n s m (cond b (part n.fetch m) (verdict.Refuse refusal.BadBlock)))
       by true h = part_moves k n is rest (same_number m.code content h) (part n.fetch m) refl
       by false h = (gives_up k m refl is, refl)
 
@@ -134,12 +155,23 @@ module _ (s : Own) (now : ℕ) (m : Message) where
   answer_moves (Some (Cancelling k)) is = (cancels k m refl is, refl)
   answer_moves (Some Dropped) is = (is_dropped m refl is, refl)
 
-  notice_moves : (o : Option Observation) → observation_with m.token s.observations ≡ o → Moved s now (Some (event_of.Notice m)) (noticed_by o s now m)
-  notice_moves None found = (rests (record { answer = λ a h. absurd (cc h); notice = λ a h. (let e : m ≡ a = (let z : ◌≡◌ {A = Option Event} (Some (event_of.Notice m)) (Some (event_of.Notice a)) = h in cc z) in ap (λ (x : Message). observation_with x.token s.observations) (sym e) ∙ found) }), refl)
+  notice_moves : (o : Option Observation) → observation_with m.token s.observations ≡ o
+      → Moved s now (Some (event_of.Notice m)) (noticed_by o s now m)
+  notice_moves None found = (
+    rests (record {
+      answer = λ a h. absurd (cc h);
+      notice = λ a h. (let e : m ≡ a = (let z : ◌≡◌ {A = Option Event} (Some (event_of.Notice m))
+          (Some (event_of.Notice a)) = h in cc z) in ap (λ (x : Message). observation_with x.token s.observations)
+          (sym e)
+          ∙ found);
+    }),
+    refl,
+  )
   notice_moves (Some o) found = by (is_notification m) refl (is_newer o.watch.mark (sequence_in m) now) refl
     where
       by : (b : Bool) → is_notification m ≡ b → (c : Bool) → is_newer o.watch.mark (sequence_in m) now ≡ c
-          → Moved s now (Some (event_of.Notice m)) (cond (not b) (is_over o.number (Ended m.code) s) (cond c (renewed o s now m) (stays (passed o s now m))))
+          → Moved s now (Some (event_of.Notice m)) (cond (not b) (is_over o.number (Ended m.code) s)
+          (cond c (renewed o s now m) (stays (passed o s now m))))
       by false h c k = (is_ended o m refl found h, refl)
       by true h true k = (renews o m refl found h k, refl)
       by true h false k = (passes_by o m refl found h k, refl)
@@ -148,12 +180,19 @@ pub happened_moves : (s : Own) (now : ℕ) (e : Option Event) → Moved s now e 
 happened_moves s now None = (rests (untold s None (λ m h. cc h) (λ m h. cc h)), refl)
 happened_moves s now (Some (event_of.Answer m)) = answer_moves s now m s.running refl
 happened_moves s now (Some (event_of.Notice m)) = notice_moves s now m (observation_with m.token s.observations) refl
-happened_moves s now (Some event_of.Reset) = (fails event_of.Reset (untold s (Some event_of.Reset) (λ m h. cc h) (λ m h. cc h)), refl)
-happened_moves s now (Some event_of.Timeout) = (fails event_of.Timeout (untold s (Some event_of.Timeout) (λ m h. cc h) (λ m h. cc h)), refl)
-happened_moves s now (Some event_of.NoResponse) = (fails event_of.NoResponse (untold s (Some event_of.NoResponse) (λ m h. cc h) (λ m h. cc h)), refl)
+happened_moves s now (Some event_of.Reset) = (
+  fails event_of.Reset
+      (untold s (Some event_of.Reset) (λ m h. cc h) (λ m h. cc h)),
+  refl,
+)
+happened_moves s now (Some event_of.Timeout) =
+    (fails event_of.Timeout (untold s (Some event_of.Timeout) (λ m h. cc h) (λ m h. cc h)), refl)
+happened_moves s now (Some event_of.NoResponse) =
+    (fails event_of.NoResponse (untold s (Some event_of.NoResponse) (λ m h. cc h) (λ m h. cc h)), refl)
 
 module _ (s : Own) (now : ℕ) where
-  queue_moves : s.running ≡ None → to_fetch s.observations ≡ None → (queue : List Operation) → s.queue ≡ queue → Moved s now None (starts s now queue)
+  queue_moves : s.running ≡ None → to_fetch s.observations ≡ None → (queue : List Operation) → s.queue ≡ queue
+      → Moved s now None (starts s now queue)
   queue_moves none rest [] is = (rests (untold s None (λ m h. cc h) (λ m h. cc h)), refl)
   queue_moves none rest (op ∷ queue) is = by (is_upload_op op && is_held s now)
     where
@@ -161,7 +200,8 @@ module _ (s : Own) (now : ℕ) where
       by true = (rests (untold s None (λ m h. cc h) (λ m h. cc h)), refl)
       by false = (starts_next op queue none rest is refl, refl)
 
-  idle_moves : (running : Option Operation) → s.running ≡ running → (k : Option ℕ) → to_fetch s.observations ≡ k → Moved s now None (idle s now running k)
+  idle_moves : (running : Option Operation) → s.running ≡ running → (k : Option ℕ) → to_fetch s.observations ≡ k
+      → Moved s now None (idle s now running k)
   idle_moves (Some op) is k rest = (rests (untold s None (λ m h. cc h) (λ m h. cc h)), refl)
   idle_moves None is (Some k) rest = (fetches k is rest refl, refl)
   idle_moves None is None rest = queue_moves is rest s.queue refl

@@ -42,7 +42,8 @@ use Rattle.coap_ends.proofs.ClientSide.UploadSteps.{continues_is}
 
 -- the size of blocks stays
 
-failed_size : (u : Transfer → Bool) (report : _) (s : Own) (running : Option Operation) → (failed u report s running).own.szx ≡ s.szx
+failed_size : (u : Transfer → Bool) (report : _) (s : Own) (running : Option Operation)
+    → (failed u report s running).own.szx ≡ s.szx
 failed_size u report s None = refl
 failed_size u report s (Some (Calling k r t)) = by (u t && is_upload t)
   where
@@ -93,7 +94,8 @@ turn_size szx t c z = ap (λ (o : Own). o.szx) z.own_is ∙ by z.closes
     by : Closing m e z.token → (closed m e e.deed z.token).own.szx ≡ (own_of szx t).szx
     by (quiet q none own_same report_same) = ap (λ (o : Own). o.szx) own_same ∙ moved_size
     by (goes_out op key asks given sends_it own_same report_same) = ap (λ (o : Own). o.szx) own_same ∙ moved_size
-    by (is_refused op why asks given none all) = ap (λ (x : Effect). x.own.szx) all ∙ (failed_size has_sent NoIds e.own (Some op) ∙ moved_size)
+    by (is_refused op why asks given none all) = ap (λ (x : Effect). x.own.szx) all
+        ∙ (failed_size has_sent NoIds e.own (Some op) ∙ moved_size)
 
 size_step : (szx : ℕ) (t : List Call) (c : Call) → (own_of szx (c ∷ t)).szx ≡ (own_of szx t).szx
 size_step szx t (Calls now r (Ok n)) = refl
@@ -107,8 +109,12 @@ size_step szx t (Forgets k was false) = refl
 size_step szx t (NextOut did) = refl
 size_step szx t (NextReport did) = refl
 size_step szx t (Asked did) = refl
-size_step szx t (Feeds now from bytes w up settled event sent token was) = turn_size szx t (Feeds now from bytes w up settled event sent token was) (fed_turned szx t now from bytes w up settled event sent token was)
-size_step szx t (Ticks now w below turn sent token was did) = turn_size szx t (Ticks now w below turn sent token was did) (ticked_turned szx t now w below turn sent token was did)
+size_step szx t (Feeds now from bytes w up settled event sent token was) =
+    turn_size szx t (Feeds now from bytes w up settled event sent token was)
+    (fed_turned szx t now from bytes w up settled event sent token was)
+size_step szx t (Ticks now w below turn sent token was did) =
+    turn_size szx t (Ticks now w below turn sent token was did)
+    (ticked_turned szx t now w below turn sent token was did)
 
 size_is : (szx : ℕ) (t : List Call) → (own_of szx t).szx ≡ szx
 size_is szx [] = refl
@@ -122,13 +128,15 @@ fresh_carries szx r Post = record { body_is = refl; num = omega arith; size = om
 fresh_carries szx r Put = record { body_is = refl; num = omega arith; size = omega arith }
 fresh_carries szx r Delete = tt
 
-fetches_on : (szx : ℕ) (m : Method) (body : List ℕ) (f g : FetchState) → CarriesBody szx m body (Fetches f) → CarriesBody szx m body (Fetches g)
+fetches_on : (szx : ℕ) (m : Method) (body : List ℕ) (f g : FetchState) → CarriesBody szx m body (Fetches f)
+    → CarriesBody szx m body (Fetches g)
 fetches_on szx Get body f g h = tt
 fetches_on szx Post body f g h = h
 fetches_on szx Put body f g h = h
 fetches_on szx Delete body f g h = h
 
-moved_on : (szx : ℕ) (body : List ℕ) (u : UploadState) (b : Block) → Continues u b → SendsBody szx body u → SendsBody szx body (moved u b)
+moved_on : (szx : ℕ) (body : List ℕ) (u : UploadState) (b : Block) → Continues u b → SendsBody szx body u
+    → SendsBody szx body (moved u b)
 moved_on szx body u b k h =
     let s = h.size in
     record {
@@ -137,7 +145,8 @@ moved_on szx body u b k h =
       size = elim k.3 [ inl same ↦ omega (arith, same, s) | inr less ↦ (let l = less.1 in omega (arith, l, s)) ];
     }
 
-uploads_on : (szx : ℕ) (m : Method) (body : List ℕ) (u : UploadState) (b : Block) → Continues u b → CarriesBody szx m body (Uploads u) → CarriesBody szx m body (Uploads (moved u b))
+uploads_on : (szx : ℕ) (m : Method) (body : List ℕ) (u : UploadState) (b : Block) → Continues u b
+    → CarriesBody szx m body (Uploads u) → CarriesBody szx m body (Uploads (moved u b))
 uploads_on szx Get body u b k h = h
 uploads_on szx Post body u b k h = moved_on szx body u b k h
 uploads_on szx Put body u b k h = moved_on szx body u b k h
@@ -150,31 +159,39 @@ module _ (szx : ℕ) (method : Method) (body : List ℕ) where
   asked_next : (t next : Transfer) → Carried t → calls.Asks t ≡ calls.Asks next → Carried next
   asked_next t next h is = let same : t ≡ next = cc is in subst Carried same h
 
-  fetched_next : (f : FetchState) (m : Message) (v : Verdict) (next : Transfer) → Carried (Fetches f) → calls.fetched f m v ≡ calls.Asks next → Carried next
+  fetched_next : (f : FetchState) (m : Message) (v : Verdict) (next : Transfer) → Carried (Fetches f)
+      → calls.fetched f m v ≡ calls.Asks next → Carried next
   fetched_next f m (verdict.Refuse why) next h is = absurd (cc is)
   fetched_next f m verdict.Done next h is = absurd (cc is)
   fetched_next f m verdict.Again next h is = asked_next _ next (fetches_on szx method body f _ h) is
   fetched_next f m (verdict.Ask num size) next h is = asked_next _ next (fetches_on szx method body f _ h) is
 
-  continued_next : (u : UploadState) (o : Option Block) (next : Transfer) → Carried (Uploads u) → calls.continued u o ≡ calls.Asks next → Carried next
+  continued_next : (u : UploadState) (o : Option Block) (next : Transfer) → Carried (Uploads u)
+      → calls.continued u o ≡ calls.Asks next → Carried next
   continued_next u None next h is = absurd (cc is)
   continued_next u (Some b) next h is = by (continues u b) refl is
     where
-      by : (c : Bool) → continues u b ≡ c → cond c (calls.Asks (Uploads (moved u b))) (calls.Ends false BadBlock) ≡ calls.Asks next → Carried next
+      by : (c : Bool) → continues u b ≡ c → cond c (calls.Asks (Uploads (moved u b))) (calls.Ends false BadBlock)
+          ≡ calls.Asks next → Carried next
       by true e k = asked_next _ next (uploads_on szx method body u b (continues_is u b e) h) k
       by false e k = absurd (cc k)
 
-  pub carries_on : (r : Request) (old next : Transfer) (m : Message) → Carried old → answer r old m ≡ calls.Asks next → Carried next
+  pub carries_on : (r : Request) (old next : Transfer) (m : Message) → Carried old → answer r old m ≡ calls.Asks next
+      → Carried next
   carries_on r Single next m h is = absurd (cc is)
   carries_on r (Fetches f) next m h is = by (m.code == content) ((m.code == valid) && has_tags r.etags) is
     where
-      by : (c d : Bool) → cond c (calls.fetched f m (part f m)) (cond d (calls.Ends true (Valid (tag_in m))) (calls.Ends true (Failed m.code))) ≡ calls.Asks next → Carried next
+      by : (c d : Bool) → cond c (calls.fetched f m (part f m))
+          (cond d (calls.Ends true (Valid (tag_in m))) (calls.Ends true (Failed m.code))) ≡ calls.Asks next
+          → Carried next
       by true d k = fetched_next f m (part f m) next h k
       by false true k = absurd (cc k)
       by false false k = absurd (cc k)
-  carries_on r (Uploads u) next m h is = by ((m.code == continue) && is_longer u) (more_follows u && calls.is_below_errors m.code) is
+  carries_on r (Uploads u) next m h is = by ((m.code == continue) && is_longer u)
+      (more_follows u && calls.is_below_errors m.code) is
     where
-      by : (c d : Bool) → cond c (calls.continued u (block_at block1 m)) (cond d (calls.Ends true BadBlock) (calls.Ends true (done r.method m.code))) ≡ calls.Asks next → Carried next
+      by : (c d : Bool) → cond c (calls.continued u (block_at block1 m))
+          (cond d (calls.Ends true BadBlock) (calls.Ends true (done r.method m.code))) ≡ calls.Asks next → Carried next
       by true d k = continued_next u (block_at block1 m) next h k
       by false true k = absurd (cc k)
       by false false k = absurd (cc k)
@@ -182,7 +199,8 @@ module _ (szx : ℕ) (method : Method) (body : List ℕ) where
 -- what waits and what runs is of a call that was taken
 
 abbrev IsTakenBy : ℕ → List Call → Operation → Type 0
-IsTakenBy szx t (Calling k r tr) = (q : Request) × WasTaken (record { number = k; request = q }) t × (r ≡ record q { body = [] }) × CarriesBody szx q.method q.body tr
+IsTakenBy szx t (Calling k r tr) = (q : Request) × WasTaken (record { number = k; request = q }) t
+    × (r ≡ record q { body = [] }) × CarriesBody szx q.method q.body tr
 IsTakenBy szx t op = Unit {0}
 
 taken_later : (szx : ℕ) (t : List Call) (c : Call) (op : Operation) → IsTakenBy szx t op → IsTakenBy szx (c ∷ t) op
@@ -192,11 +210,13 @@ taken_later szx t c (Fetching k) h = tt
 taken_later szx t c (Cancelling k) h = tt
 taken_later szx t c Dropped h = tt
 
-all_to : (P Q : Operation → Type 0) → ((op : Operation) → P op → Q op) → (ops : List Operation) → AllOf P ops → AllOf Q ops
+all_to : (P Q : Operation → Type 0) → ((op : Operation) → P op → Q op) → (ops : List Operation) → AllOf P ops
+    → AllOf Q ops
 all_to P Q f [] h = tt
 all_to P Q f (op ∷ ops) h = (f op h.0, all_to P Q f ops h.1)
 
-all_more : (P : Operation → Type 0) (ops : List Operation) (op : Operation) → AllOf P ops → P op → AllOf P (ops ++ op ∷ [])
+all_more : (P : Operation → Type 0) (ops : List Operation) (op : Operation) → AllOf P ops → P op
+    → AllOf P (ops ++ op ∷ [])
 all_more P [] op h k = (k, tt)
 all_more P (x ∷ ops) op h k = (h.0, all_more P ops op h.1 k)
 
@@ -212,7 +232,8 @@ sends_takes s (NextOut did) x y h k = cc k
 sends_takes s (NextReport did) x y h k = cc k
 sends_takes s (Asked did) x y h k = cc k
 
-before_it : (s : Own) (c : Call) (t : List Call) (x : Sending) (y : Taken) → sends s c ≡ Some x → WasTaken y (c ∷ t) → WasTaken y t
+before_it : (s : Own) (c : Call) (t : List Call) (x : Sending) (y : Taken) → sends s c ≡ Some x → WasTaken y (c ∷ t)
+    → WasTaken y t
 before_it s c t x y h (inl k) = absurd (sends_takes s c x y h k)
 before_it s c t x y h (inr k) = k
 
@@ -234,12 +255,17 @@ module _ (szx : ℕ) (t : List Call) (c : Call) (x : Sending) where
       by (quiet q none own_same report_same) = let k : Some x ≡ None = sym h ∙ (z.sends_is ∙ none) in absurd (cc k)
       by (is_refused op why asks given none all) = let k : Some x ≡ None = sym h ∙ (z.sends_is ∙ none) in absurd (cc k)
       by (goes_out op key asks given sends_it own_same report_same) =
-          let same : sending_of e op key ≡ x = (let k : Some (sending_of e op key) ≡ Some x = sym sends_it ∙ (sym z.sends_is ∙ h) in cc k) in
+          let same : sending_of e op key ≡ x = (let k : Some (sending_of e op key) ≡ Some x = sym sends_it
+          ∙ (sym z.sends_is ∙ h) in cc k) in
           (e.own.observations, subst (λ (y : Sending). y.request ≡ message_of e.own.observations y.operation) same refl)
 
 pub sent_as : (szx : ℕ) (t : List Call) (c : Call) (x : Sending) → sends (own_of szx t) c ≡ Some x → SentAs szx t c x
-sent_as szx t (Feeds now from bytes w up settled event sent token was) x h = sent_by_turn szx t (Feeds now from bytes w up settled event sent token was) x (fed_turned szx t now from bytes w up settled event sent token was) h
-sent_as szx t (Ticks now w below turn sent token was did) x h = sent_by_turn szx t (Ticks now w below turn sent token was did) x (ticked_turned szx t now w below turn sent token was did) h
+sent_as szx t (Feeds now from bytes w up settled event sent token was) x h =
+    sent_by_turn szx t (Feeds now from bytes w up settled event sent token was) x
+    (fed_turned szx t now from bytes w up settled event sent token was) h
+sent_as szx t (Ticks now w below turn sent token was did) x h =
+    sent_by_turn szx t (Ticks now w below turn sent token was did) x
+    (ticked_turned szx t now w below turn sent token was did) h
 sent_as szx t (Calls now r did) x h = absurd (cc h)
 sent_as szx t (Observes now path did) x h = absurd (cc h)
 sent_as szx t (Cancels now k did) x h = absurd (cc h)
@@ -252,13 +278,22 @@ module _ (szx : ℕ) where
   abbrev IsTaken : List Call → Operation → Type 0
   IsTaken t op = IsTakenBy szx t op
 
-  taken_step : (t : List Call) (c : Call) → AllOf (IsTaken (c ∷ t)) (own_of szx t).queue → AllOf (IsTaken (c ∷ t)) (own_of szx (c ∷ t)).queue
+  taken_step : (t : List Call) (c : Call) → AllOf (IsTaken (c ∷ t)) (own_of szx t).queue
+      → AllOf (IsTaken (c ∷ t)) (own_of szx (c ∷ t)).queue
   taken_step t (Calls now r (Ok n)) h =
-      all_more (IsTaken (Calls now r (Ok n) ∷ t)) (own_of szx t).queue (calling (own_of szx t).szx n r) h (r, inl refl, refl, subst (λ n. CarriesBody szx r.method r.body (transfer_of n r r.method)) (sym (size_is szx t)) (fresh_carries szx r r.method))
+      all_more (IsTaken (Calls now r (Ok n) ∷ t)) (own_of szx t).queue (calling (own_of szx t).szx n r) h (
+        r,
+        inl refl,
+        refl,
+        subst (λ n. CarriesBody szx r.method r.body (transfer_of n r r.method))
+            (sym (size_is szx t)) (fresh_carries szx r r.method),
+      )
   taken_step t (Calls now r (Err why)) h = h
-  taken_step t (Observes now path (Ok n)) h = all_more (IsTaken (Observes now path (Ok n) ∷ t)) (own_of szx t).queue (Registering n path) h tt
+  taken_step t (Observes now path (Ok n)) h = all_more (IsTaken (Observes now path (Ok n) ∷ t)) (own_of szx t).queue
+      (Registering n path) h tt
   taken_step t (Observes now path (Err why)) h = h
-  taken_step t (Cancels now k None) h = all_more (IsTaken (Cancels now k None ∷ t)) (own_of szx t).queue (Cancelling k) h tt
+  taken_step t (Cancels now k None) h = all_more (IsTaken (Cancels now k None ∷ t)) (own_of szx t).queue
+      (Cancelling k) h tt
   taken_step t (Cancels now k (Some why)) h = h
   taken_step t (Forgets k was true) h = all_uncancelled k (IsTaken (Forgets k was true ∷ t)) (own_of szx t).queue h
   taken_step t (Forgets k was false) h = h
@@ -280,18 +315,26 @@ module _ (szx : ℕ) where
 
   all_taken : (t : List Call) → AllOf (IsTaken t) (own_of szx t).queue
   all_taken [] = tt
-  all_taken (c ∷ t) = taken_step t c (all_to (IsTaken t) (IsTaken (c ∷ t)) (taken_later szx t c) (own_of szx t).queue (all_taken t))
+  all_taken (c ∷ t) = taken_step t c (all_to (IsTaken t) (IsTaken (c ∷ t)) (taken_later szx t c) (own_of szx t).queue
+      (all_taken t))
 
-  taken_here : (t : List Call) (c : Call) (k : ℕ) (r : Request) (tr : Transfer) → Origin szx t c k r tr → ((old : Transfer) → (own_of szx t).running ≡ Some (Calling k r old) → IsTaken t (Calling k r old)) → IsTaken (c ∷ t) (Calling k r tr)
+  taken_here : (t : List Call) (c : Call) (k : ℕ) (r : Request) (tr : Transfer) → Origin szx t c k r tr
+      → ((old : Transfer) → (own_of szx t).running ≡ Some (Calling k r old) → IsTaken t (Calling k r old))
+      → IsTaken (c ∷ t) (Calling k r tr)
   taken_here t c k r tr (kept runs none) ih = let h = ih tr runs in (h.0, inr h.1, h.2, h.3)
-  taken_here t c k r tr (follows old m x runs heard asks sends_it op_is) ih = let h = ih old runs in (h.0, inr h.1, h.2, carries_on szx h.0.method h.0.body r old tr m h.3 asks)
-  taken_here t c k r tr (begins queue is) ih = let h : AllOf (IsTaken t) (Calling k r tr ∷ queue) = subst (AllOf (IsTaken t)) is (all_taken t) in let g = h.0 in (g.0, inr g.1, g.2, g.3)
+  taken_here t c k r tr (follows old m x runs heard asks sends_it op_is) ih = let h =
+      ih old runs in (h.0, inr h.1, h.2, carries_on szx h.0.method h.0.body r old tr m h.3 asks)
+  taken_here t c k r tr (begins queue is) ih = let h : AllOf (IsTaken t) (Calling k r tr ∷ queue) =
+      subst (AllOf (IsTaken t)) is (all_taken t) in let g = h.0 in (g.0, inr g.1, g.2, g.3)
 
-  running_taken : (t : List Call) (k : ℕ) (r : Request) (tr : Transfer) → (own_of szx t).running ≡ Some (Calling k r tr) → IsTaken t (Calling k r tr)
+  running_taken : (t : List Call) (k : ℕ) (r : Request) (tr : Transfer) → (own_of szx t).running ≡ Some (Calling k r tr)
+      → IsTaken t (Calling k r tr)
   running_taken [] k r tr is = absurd (cc is)
-  running_taken (c ∷ t) k r tr is = taken_here t c k r tr (origin szx t c k r tr is) (λ old runs. running_taken t k r old runs)
+  running_taken (c ∷ t) k r tr is = taken_here t c k r tr (origin szx t c k r tr is)
+      (λ old runs. running_taken t k r old runs)
 
-  of_call : (t : List Call) (c : Call) (x : Sending) (number : ℕ) → sends (own_of szx t) c ≡ Some x → (op : Operation) → x.operation ≡ op → call_of op ≡ Some number → IsOfCall szx number x t
+  of_call : (t : List Call) (c : Call) (x : Sending) (number : ℕ) → sends (own_of szx t) c ≡ Some x → (op : Operation)
+      → x.operation ≡ op → call_of op ≡ Some number → IsOfCall szx number x t
   of_call t c x number h (Registering k path) is k_is = absurd (cc k_is)
   of_call t c x number h (Fetching k) is k_is = absurd (cc k_is)
   of_call t c x number h (Cancelling k) is k_is = absurd (cc k_is)
@@ -304,7 +347,8 @@ module _ (szx : ℕ) where
       let op_is : Calling k r tr ≡ asks = ap (λ n. Calling n r tr) same ∙ ap (λ q. Calling number q tr) g.2 in
       record {
         request = g.0;
-        taken = subst (λ n. WasTaken (record { number = n; request = g.0 }) t) same (before_it (own_of szx t) c t x (record { number = k; request = g.0 }) h g.1);
+        taken = subst (λ n. WasTaken (record { number = n; request = g.0 }) t) same
+            (before_it (own_of szx t) c t x (record { number = k; request = g.0 }) h g.1);
         transfer = tr;
         operation = is ∙ op_is;
         carries = g.3;
@@ -326,4 +370,8 @@ get_by os Dropped h = refl
 
 pub others_are_gets : (szx : ℕ) (t : List Call) → OthersAreGets szx t
 others_are_gets szx [] = tt
-others_are_gets szx (c ∷ t) = ((λ x h k. let z = sent_as szx t c x h in ap (λ r. r.code) z.1 ∙ get_by z.0 x.operation k), others_are_gets szx t)
+others_are_gets szx (c ∷ t) = (
+  (λ x h k. let z = sent_as szx t c x h in ap (λ r. r.code) z.1
+      ∙ get_by z.0 x.operation k),
+  others_are_gets szx t,
+)

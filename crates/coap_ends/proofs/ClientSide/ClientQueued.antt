@@ -54,14 +54,20 @@ fetch_queued k n s m (verdict.Ask num size) = same refl
 
 fetched_queued : (k : ℕ) (o : Option Notified) (s : Own) (m : Message) → Queued s.queue (fetch_answered k o s m)
 fetched_queued k None s m = same refl
-fetched_queued k (Some n) s m = fetch_queued k n s m (cond (m.code == content) (part n.fetch m) (verdict.Refuse refusal.BadBlock))
+fetched_queued k (Some n) s m = fetch_queued k n s m
+    (cond (m.code == content) (part n.fetch m) (verdict.Refuse refusal.BadBlock))
 
-answered_queued : (s : Own) (now : ℕ) (m : Message) (running : Option Operation) → Queued s.queue (answered s now m running)
+answered_queued : (s : Own) (now : ℕ) (m : Message) (running : Option Operation)
+    → Queued s.queue (answered s now m running)
 answered_queued s now m None = same refl
 answered_queued s now m (Some (Calling k r t)) = called_queued k r t s (answer r t m)
 answered_queued s now m (Some (Registering k path)) =
     queued_if s.queue (is_notification m)
-    (record { own = record s { running = None; observations = s.observations ++ begun k path s.szx now m ∷ [] }; report = first_value k s.szx m; deed = Keeps m.token })
+    (record {
+      own = record s { running = None; observations = s.observations ++ begun k path s.szx now m ∷ [] };
+      report = first_value k s.szx m;
+      deed = Keeps m.token;
+    })
     (ends (of k (Ended m.code)) s) (same refl) (same refl)
 answered_queued s now m (Some (Fetching k)) = fetched_queued k (rest_of k s.observations) s m
 answered_queued s now m (Some (Cancelling k)) = over k Cancelled refl refl refl
@@ -70,10 +76,14 @@ answered_queued s now m (Some Dropped) = same refl
 noticed_queued : (o : Option Observation) (s : Own) (now : ℕ) (m : Message) → Queued s.queue (noticed_by o s now m)
 noticed_queued None s now m = same refl
 noticed_queued (Some o) s now m =
-    queued_if s.queue (not (is_notification m)) (is_over o.number (Ended m.code) s) (cond (is_newer o.watch.mark (sequence_in m) now) (renewed o s now m) (stays (passed o s now m))) (over o.number (Ended m.code) refl refl refl)
-    (queued_if s.queue (is_newer o.watch.mark (sequence_in m) now) (renewed o s now m) (stays (passed o s now m)) (same refl) (same refl))
+    queued_if s.queue (not (is_notification m)) (is_over o.number (Ended m.code) s)
+    (cond (is_newer o.watch.mark (sequence_in m) now) (renewed o s now m) (stays (passed o s now m)))
+    (over o.number (Ended m.code) refl refl refl)
+    (queued_if s.queue (is_newer o.watch.mark (sequence_in m) now) (renewed o s now m) (stays (passed o s now m))
+    (same refl) (same refl))
 
-pub failed_queued : (u : Transfer → Bool) (report : Report) (s : Own) (running : Option Operation) → is_value report ≡ false → Queued s.queue (failed u report s running)
+pub failed_queued : (u : Transfer → Bool) (report : Report) (s : Own) (running : Option Operation)
+    → is_value report ≡ false → Queued s.queue (failed u report s running)
 failed_queued u report s None h = same refl
 failed_queued u report s (Some (Calling k r t)) h = same (held_queue (u t && is_upload t) s)
 failed_queued u report s (Some (Registering k path)) h = same refl
@@ -85,9 +95,12 @@ pub happened_queued : (s : Own) (now : ℕ) (e : Option Event) → Queued s.queu
 happened_queued s now None = same refl
 happened_queued s now (Some (event_of.Answer m)) = answered_queued s now m s.running
 happened_queued s now (Some (event_of.Notice m)) = noticed_queued (observation_with m.token s.observations) s now m
-happened_queued s now (Some event_of.Reset) = failed_queued (λ t. true) (lapse event_of.Reset) s s.running (lapse_last event_of.Reset)
-happened_queued s now (Some event_of.Timeout) = failed_queued (λ t. true) (lapse event_of.Timeout) s s.running (lapse_last event_of.Timeout)
-happened_queued s now (Some event_of.NoResponse) = failed_queued (λ t. true) (lapse event_of.NoResponse) s s.running (lapse_last event_of.NoResponse)
+happened_queued s now (Some event_of.Reset) =
+    failed_queued (λ t. true) (lapse event_of.Reset) s s.running (lapse_last event_of.Reset)
+happened_queued s now (Some event_of.Timeout) =
+    failed_queued (λ t. true) (lapse event_of.Timeout) s s.running (lapse_last event_of.Timeout)
+happened_queued s now (Some event_of.NoResponse) =
+    failed_queued (λ t. true) (lapse event_of.NoResponse) s s.running (lapse_last event_of.NoResponse)
 
 -- behind that, the sending of the next request
 
@@ -98,9 +111,15 @@ same_of : (q : List Operation) (e : Effect) → e.report ≡ None → Queued q e
 same_of q e none (same h) = h
 same_of q e none (over k r last made h) = let z : of k r ≡ None = sym made ∙ none in absurd (cc z)
 
-pub closed_queued : (now : ℕ) (q : List Operation) (e : Effect) (token : Result (List ℕ) AskRefusal) → Closing now e token → ((op : Operation) → e.deed ≡ Asks op → e.report ≡ None) → Queued q e → Queued q (closed now e e.deed token)
-closed_queued now q e token (quiet none nothing own_same report_same) asks (same h) = same (ap (λ (o : Own). o.queue) own_same ∙ h)
-closed_queued now q e token (quiet none nothing own_same report_same) asks (over k r last made h) = over k r last (report_same ∙ made) (ap (λ (o : Own). o.queue) own_same ∙ h)
-closed_queued now q e token (goes_out op key asked given sends_it own_same report_same) asks h = same (ap (λ (o : Own). o.queue) own_same ∙ same_of q e (asks op asked) h)
+pub closed_queued : (now : ℕ) (q : List Operation) (e : Effect) (token : Result (List ℕ) AskRefusal)
+    → Closing now e token → ((op : Operation) → e.deed ≡ Asks op → e.report ≡ None) → Queued q e
+    → Queued q (closed now e e.deed token)
+closed_queued now q e token (quiet none nothing own_same report_same) asks (same h) =
+    same (ap (λ (o : Own). o.queue) own_same ∙ h)
+closed_queued now q e token (quiet none nothing own_same report_same) asks (over k r last made h) =
+    over k r last (report_same ∙ made) (ap (λ (o : Own). o.queue) own_same ∙ h)
+closed_queued now q e token (goes_out op key asked given sends_it own_same report_same) asks h =
+    same (ap (λ (o : Own). o.queue) own_same ∙ same_of q e (asks op asked) h)
 closed_queued now q e token (is_refused op why asked given none all) asks h =
-    subst (Queued q) (sym all) (moved e.own.queue q (failed has_sent NoIds e.own (Some op)) (same_of q e (asks op asked) h) (failed_queued has_sent NoIds e.own (Some op) refl))
+    subst (Queued q) (sym all) (moved e.own.queue q (failed has_sent NoIds e.own (Some op))
+    (same_of q e (asks op asked) h) (failed_queued has_sent NoIds e.own (Some op) refl))

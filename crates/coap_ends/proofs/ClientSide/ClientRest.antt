@@ -20,7 +20,9 @@ module _ (server : Endpoint) (szx word : ℕ) where
       let k = (goes_on server szx word t law).ticks now w in
       by k.0 k.1 k.2 k.3 k.4 k.5 k.6
     where
-      by : (below : L.Answer) (d : Turn) (sent : L.Answer) (token : Result (List ℕ) AskRefusal) (kept answer : Bool) → Law (Ticks now w below d sent token kept answer ∷ t) → Next Law (size server szx word now) (IsTickWith now w) t
+      by : (below : L.Answer) (d : Turn) (sent : L.Answer) (token : Result (List ℕ) AskRefusal) (kept answer : Bool)
+          → Law (Ticks now w below d sent token kept answer ∷ t)
+          → Next Law (size server szx word now) (IsTickWith now w) t
       by below d sent token kept answer more = record {
         answer = answer;
         call = Ticks now w below d sent token kept answer;
@@ -29,7 +31,8 @@ module _ (server : Endpoint) (szx word : ℕ) where
         fewer = λ is. fewer answer is more;
       }
         where
-          fewer : (b : Bool) → b ≡ true → Law (Ticks now w below d sent token kept b ∷ t) → size server szx word now (Ticks now w below d sent token kept b ∷ t) < size server szx word now t
+          fewer : (b : Bool) → b ≡ true → Law (Ticks now w below d sent token kept b ∷ t)
+              → size server szx word now (Ticks now w below d sent token kept b ∷ t) < size server szx word now t
           fewer true is law = less server szx word now w t below sent token kept d law
           fewer false is law = absurd (cc is)
 
@@ -52,13 +55,16 @@ module _ (server : Endpoint) (szx word : ℕ) where
       by (Some r) more = record { answer = Some r; law = more; less = report_less server szx word t r more }
 
   ticks_rest : (now w : ℕ) (t : List Call) → Law t → Rests Law (size server szx word now) (IsTickWith now w) t
-  ticks_rest now w t law = rests Law (size server szx word now) (IsTickWith now w) (next_tick now w) (size server szx word now t) t law (omega arith)
+  ticks_rest now w t law = rests Law (size server szx word now) (IsTickWith now w) (next_tick now w)
+      (size server szx word now t) t law (omega arith)
 
   outs_end : (t : List Call) → Law t → Drains Law (out_count server szx word) NextOut t
-  outs_end t law = drains Law (out_count server szx word) NextOut next_out (out_count server szx word t) t law (omega arith)
+  outs_end t law = drains Law (out_count server szx word) NextOut next_out (out_count server szx word t) t law
+      (omega arith)
 
   reports_end : (t : List Call) → Law t → Drains Law (report_count server szx word) NextReport t
-  reports_end t law = drains Law (report_count server szx word) NextReport next_report (report_count server szx word t) t law (omega arith)
+  reports_end t law = drains Law (report_count server szx word) NextReport next_report
+      (report_count server szx word t) t law (omega arith)
 
   pub comes_to_rest : (t : List Call) → ClientLaw server szx word t → ComesToRest server szx word t
   comes_to_rest t law = record {

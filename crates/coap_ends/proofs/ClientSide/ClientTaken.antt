@@ -58,7 +58,12 @@ abbrev asks_op : Deed → Option Operation
 asks_op (Asks op) = Some op
 asks_op _ = None
 
-asked_is : (e : Effect) (d : Deed) (token : Result (List ℕ) AskRefusal) → elim (sent_by e d token) [ Some x ↦ Some x.operation | None ↦ option_map (λ (u : Unsent). u.operation) (unsent_by d token) ] ≡ asks_op d
+asked_is : (e : Effect) (d : Deed) (token : Result (List ℕ) AskRefusal)
+    → elim (sent_by e d token) [
+      | Some x ↦ Some x.operation
+      | None ↦ option_map (λ (u : Unsent). u.operation)
+          (unsent_by d token)
+    ] ≡ asks_op d
 asked_is e Rests token = refl
 asked_is e (Keeps t) token = refl
 asked_is e (Releases t) token = refl
@@ -69,7 +74,8 @@ released_none : (o : Option Observation) → asks_op (releases o) ≡ None
 released_none None = refl
 released_none (Some o) = refl
 
-failed_none : (u : Transfer → Bool) (report : Report) (s : Own) (running : Option Operation) → asks_op (failed u report s running).deed ≡ None
+failed_none : (u : Transfer → Bool) (report : Report) (s : Own) (running : Option Operation)
+    → asks_op (failed u report s running).deed ≡ None
 failed_none u report s None = refl
 failed_none u report s (Some (Calling k r t)) = refl
 failed_none u report s (Some (Registering k path)) = refl
@@ -82,7 +88,8 @@ record TickQueued (s : Own) (e : Effect) : Type 0 where
   waiting : List Operation
   queued : Queued waiting e
   is : waits waiting ≡ cond (is_turn (asks_op e.deed)) (drop 1 (waits s.queue)) (waits s.queue)
-  first : is_turn (asks_op e.deed) ≡ true → (op : Operation) × (asks_op e.deed ≡ Some op) × ((w : Waiting) × (waiting_of op ≡ Some w) × ((rest : List Waiting) × (waits s.queue ≡ w ∷ rest)))
+  first : is_turn (asks_op e.deed) ≡ true → (op : Operation) × (asks_op e.deed ≡ Some op)
+      × ((w : Waiting) × (waiting_of op ≡ Some w) × ((rest : List Waiting) × (waits s.queue ≡ w ∷ rest)))
 
 none_starts : (s : Own) (e : Effect) → asks_op e.deed ≡ None → Queued s.queue e → TickQueued s e
 none_starts s e none h = record {
@@ -92,7 +99,8 @@ none_starts s e none h = record {
   first = λ k. (let z : is_turn None ≡ true = ap is_turn (sym none) ∙ k in absurd (cc z));
 }
 
-one_starts : (s : Own) (op : Operation) (queue : List Operation) (w : Waiting) → s.queue ≡ op ∷ queue → waiting_of op ≡ Some w → TickQueued s (runs op (record s { queue = queue }))
+one_starts : (s : Own) (op : Operation) (queue : List Operation) (w : Waiting) → s.queue ≡ op ∷ queue
+    → waiting_of op ≡ Some w → TickQueued s (runs op (record s { queue = queue }))
 one_starts s op queue w is some =
     let front : waits s.queue ≡ w ∷ waits queue = ap waits is ∙ ap (λ o. option_to_list o ++ waits queue) some in
     record {
@@ -105,7 +113,8 @@ one_starts s op queue w is some =
 fetch_starts : (s : Own) (k : ℕ) → TickQueued s (runs (Fetching k) s)
 fetch_starts s k = record { waiting = s.queue; queued = same refl; is = refl; first = λ h. absurd (cc h) }
 
-queue_starts : (s : Own) (now : ℕ) (queue : List Operation) → s.queue ≡ queue → AllWait s.observations queue → TickQueued s (starts_queue s now queue)
+queue_starts : (s : Own) (now : ℕ) (queue : List Operation) → s.queue ≡ queue → AllWait s.observations queue
+    → TickQueued s (starts_queue s now queue)
 queue_starts s now [] is h = none_starts s (stays s) refl (same refl)
 queue_starts s now (op ∷ queue) is h = by (is_upload_op op && is_held s now)
   where
@@ -113,7 +122,8 @@ queue_starts s now (op ∷ queue) is h = by (is_upload_op op && is_held s now)
     by true = none_starts s (stays s) refl (same refl)
     by false = let w = waits_some s.observations op h.0 in one_starts s op queue w.0 is w.1
 
-idle_starts : (s : Own) (now : ℕ) (running : Option Operation) (fetch : Option ℕ) → AllWait s.observations s.queue → TickQueued s (idle s now running fetch)
+idle_starts : (s : Own) (now : ℕ) (running : Option Operation) (fetch : Option ℕ) → AllWait s.observations s.queue
+    → TickQueued s (idle s now running fetch)
 idle_starts s now (Some op) fetch h = none_starts s (stays s) refl (same refl)
 idle_starts s now None (Some k) h = fetch_starts s k
 idle_starts s now None None h = queue_starts s now s.queue refl h
@@ -121,7 +131,8 @@ idle_starts s now None None h = queue_starts s now s.queue refl h
 passes_starts : (s : Own) (now : ℕ) (t : Turn) → AllWait s.observations s.queue → TickQueued s (passes s now t)
 passes_starts s now turn_is.Idle h = idle_starts s now s.running (to_fetch s.observations) h
 passes_starts s now turn_is.Copied h = none_starts s (stays (record s { sent = now })) refl (same refl)
-passes_starts s now (turn_is.End e) h = none_starts s (failed (λ t. true) (lapse e) s s.running) (failed_none (λ t. true) (lapse e) s s.running) (failed_queued (λ t. true) (lapse e) s s.running (lapse_last e))
+passes_starts s now (turn_is.End e) h = none_starts s (failed (λ t. true) (lapse e) s s.running)
+    (failed_none (λ t. true) (lapse e) s s.running) (failed_queued (λ t. true) (lapse e) s s.running (lapse_last e))
 
 -- a number with its last report is over
 
@@ -131,7 +142,8 @@ last_final (Some x) n h = by (is_value x.report) h
   where
     by : (b : Bool) → cond b None (Some x.number) ≡ Some n → 1 ≤ cond b 0 (hit x.number n)
     by true h = absurd (cc h)
-    by false h = let same_number : x.number ≡ n = cc h in let a = ap (λ i. hit i n) same_number in let b = hit_self n in omega (arith, a, b)
+    by false h = let same_number : x.number ≡ n = cc h in let a = ap (λ i. hit i n) same_number in let b =
+        hit_self n in omega (arith, a, b)
 
 none_left : (a b c d : ℕ) (f : Bool) → (a + (b + c)) + d ≡ cond f 1 0 → 1 ≤ d → c ≡ 0
 none_left a b c d true h k = omega (arith, h, k)
@@ -145,21 +157,27 @@ module _ (server : Endpoint) (szx word : ℕ) where
   under t c law = law_back server word (lower (own_of szx t) c) (lower_of szx t) law
 
   -- behind a datagram or a tick
-  module _ (t : List Call) (c : Call) (k : Known server szx word (c ∷ t)) (x : Effect) (queue_is : (own_of szx (c ∷ t)).queue ≡ x.own.queue) (reports_is : reports (own_of szx t) c ≡ x.report) (over_is : over_in (own_of szx t) c ≡ last_of (reports (own_of szx t) c)) where
+  module _ (t : List Call) (c : Call) (k : Known server szx word (c ∷ t)) (x : Effect)
+      (queue_is : (own_of szx (c ∷ t)).queue ≡ x.own.queue) (reports_is : reports (own_of szx t) c ≡ x.report)
+      (over_is : over_in (own_of szx t) c ≡ last_of (reports (own_of szx t) c)) where
     gone_now : (n : ℕ) → over_in (own_of szx t) c ≡ Some n → 1 ≤ gone szx n (c ∷ t)
     gone_now n h = let a = last_final (reports (own_of szx t) c) n (sym over_is ∙ h) in omega (arith, a)
 
-    left_over : (q : List Operation) → (own_of szx (c ∷ t)).queue ≡ q → (o : Option ℕ) → over_in (own_of szx t) c ≡ o → waits (own_of szx (c ∷ t)).queue ≡ without o (waits q)
+    left_over : (q : List Operation) → (own_of szx (c ∷ t)).queue ≡ q → (o : Option ℕ) → over_in (own_of szx t) c ≡ o
+        → waits (own_of szx (c ∷ t)).queue ≡ without o (waits q)
     left_over q is None h = ap waits is
     left_over q is (Some n) h =
         let s : Own = own_of szx (c ∷ t) in
-        let none = none_left (in_running n s.running) (in_queue n s.queue) (in_observations n s.observations) (gone szx n (c ∷ t)) (nat_lt n s.taken) (k.one n) (gone_now n h) in
+        let none = none_left (in_running n s.running) (in_queue n s.queue) (in_observations n s.observations)
+        (gone szx n (c ∷ t)) (nat_lt n s.taken) (k.one n) (gone_now n h) in
         ap waits is ∙ sym (none_cancelled n s.observations q none (subst (AllWait s.observations) is k.waits))
 
-    turned_waits : (q : List Operation) → Queued q x → waits (own_of szx (c ∷ t)).queue ≡ without (over_in (own_of szx t) c) (waits q)
+    turned_waits : (q : List Operation) → Queued q x
+        → waits (own_of szx (c ∷ t)).queue ≡ without (over_in (own_of szx t) c) (waits q)
     turned_waits q (same h) = left_over q (queue_is ∙ h) (over_in (own_of szx t) c) refl
     turned_waits q (over n r last made h) =
-        let is : over_in (own_of szx t) c ≡ Some n = over_is ∙ (ap last_of (reports_is ∙ made) ∙ ap (λ b. cond b None (Some n)) last) in
+        let is : over_in (own_of szx t) c ≡ Some n = over_is
+        ∙ (ap last_of (reports_is ∙ made) ∙ ap (λ b. cond b None (Some n)) last) in
         ap waits (queue_is ∙ h) ∙ (waits_without n q ∙ ap (λ o. without o (waits q)) (sym is))
 
   -- what waits is what the trace says
@@ -169,8 +187,11 @@ module _ (server : Endpoint) (szx word : ℕ) where
   plain : (t : List Call) → Told t → waits (own_of szx t).queue ≡ waiting_in szx t ++ []
   plain t h = h ∙ sym (append-nil (waiting_in szx t))
 
-  more : (t : List Call) (op : Operation) (w : Waiting) → waiting_of op ≡ Some w → Told t → waits ((own_of szx t).queue ++ op ∷ []) ≡ waiting_in szx t ++ w ∷ []
-  more t op w is h = waits_append (own_of szx t).queue (op ∷ []) ∙ (ap (λ z. z ++ (option_to_list (waiting_of op) ++ [])) h ∙ ap (λ o. waiting_in szx t ++ (option_to_list o ++ [])) is)
+  more : (t : List Call) (op : Operation) (w : Waiting) → waiting_of op ≡ Some w → Told t
+      → waits ((own_of szx t).queue ++ op ∷ []) ≡ waiting_in szx t ++ w ∷ []
+  more t op w is h = waits_append (own_of szx t).queue (op ∷ [])
+      ∙ (ap (λ z. z ++ (option_to_list (waiting_of op) ++ [])) h
+      ∙ ap (λ o. waiting_in szx t ++ (option_to_list o ++ [])) is)
 
   pub told : (t : List Call) → ClientRows szx t → Laws t → Told t
   told [] rows law = refl
@@ -186,17 +207,21 @@ module _ (server : Endpoint) (szx word : ℕ) where
   told (Forgets n was false ∷ t) rows law = plain t (told t rows.1 law)
   told (Forgets n was true ∷ t) rows law =
       let h = told t rows.1 (under t (Forgets n was true) law) in
-      waits_without n (own_of szx t).queue ∙ (ap (without (Some n)) h ∙ sym (append-nil (without (Some n) (waiting_in szx t))))
+      waits_without n (own_of szx t).queue ∙ (ap (without (Some n)) h
+      ∙ sym (append-nil (without (Some n) (waiting_in szx t))))
   told (Feeds now from bytes w up settled event sent token was ∷ t) rows law =
       let c : Call = Feeds now from bytes w up settled event sent token was in
       let below = under t c law in
       let m : ℕ = max (own_of szx t).clock now in
       let e : Effect = happened (at now (own_of szx t)) m event in
-      let g = goes_fed server szx word t now from bytes w up settled event sent token was (known server szx word t rows.1 below) law in
-      let q = closed_queued m (own_of szx t).queue e token (closing m e token) (λ op h. (g.asks op h).0) (happened_queued (at now (own_of szx t)) m event) in
+      let g = goes_fed server szx word t now from bytes w up settled event sent token was
+      (known server szx word t rows.1 below) law in
+      let q = closed_queued m (own_of szx t).queue e token (closing m e token) (λ op h. (g.asks op h).0)
+      (happened_queued (at now (own_of szx t)) m event) in
       let h = told t rows.1 below in
       turned_waits t c (known server szx word (c ∷ t) rows law) (close m e token) refl refl refl (own_of szx t).queue q
-      ∙ (ap (without (over_in (own_of szx t) c)) h ∙ sym (append-nil (without (over_in (own_of szx t) c) (waiting_in szx t))))
+      ∙ (ap (without (over_in (own_of szx t) c)) h
+      ∙ sym (append-nil (without (over_in (own_of szx t) c) (waiting_in szx t))))
   told (Ticks now w low turn sent token was did ∷ t) rows law =
       let c : Call = Ticks now w low turn sent token was did in
       let below = under t c law in
@@ -209,10 +234,13 @@ module _ (server : Endpoint) (szx word : ℕ) where
       let q = closed_queued m z.waiting e token (closing m e token) (λ op h. (g.asks op h).0) z.queued in
       let h = told t rows.1 below in
       let so : waits z.waiting ≡ cond (starts (own_of szx t) c) (drop 1 (waiting_in szx t)) (waiting_in szx t)
-      = z.is ∙ (ap (λ o. cond (is_turn o) (drop 1 (waits (own_of szx t).queue)) (waits (own_of szx t).queue)) (sym (asked_is e e.deed token)) ∙ ap (λ ws. cond (starts (own_of szx t) c) (drop 1 ws) ws) h)
+      = z.is ∙ (ap (λ o. cond (is_turn o) (drop 1 (waits (own_of szx t).queue)) (waits (own_of szx t).queue))
+      (sym (asked_is e e.deed token)) ∙ ap (λ ws. cond (starts (own_of szx t) c) (drop 1 ws) ws) h)
       in
       turned_waits t c (known server szx word (c ∷ t) rows law) (close m e token) refl refl refl z.waiting q
-      ∙ (ap (without (over_in (own_of szx t) c)) so ∙ sym (append-nil (without (over_in (own_of szx t) c) (cond (starts (own_of szx t) c) (drop 1 (waiting_in szx t)) (waiting_in szx t)))))
+      ∙ (ap (without (over_in (own_of szx t) c)) so
+      ∙ sym (append-nil (without (over_in (own_of szx t) c)
+      (cond (starts (own_of szx t) c) (drop 1 (waiting_in szx t)) (waiting_in szx t)))))
 
   counted : (t : List Call) → ClientRows szx t → Laws t → (own_of szx t).taken ≡ numbers_in t
   counted [] rows law = refl
@@ -222,19 +250,22 @@ module _ (server : Endpoint) (szx word : ℕ) where
   counted (Observes now path (Err why) ∷ t) rows law = let h = counted t rows.1 law in omega (arith, h)
   counted (Cancels now n None ∷ t) rows law = let h = counted t rows.1 law in omega (arith, h)
   counted (Cancels now n (Some why) ∷ t) rows law = let h = counted t rows.1 law in omega (arith, h)
-  counted (Forgets n was true ∷ t) rows law = let h = counted t rows.1 (under t (Forgets n was true) law) in omega (arith, h)
+  counted (Forgets n was true ∷ t) rows law = let h =
+      counted t rows.1 (under t (Forgets n was true) law) in omega (arith, h)
   counted (Forgets n was false ∷ t) rows law = let h = counted t rows.1 law in omega (arith, h)
   counted (NextOut answer ∷ t) rows law = let h = counted t rows.1 law.1 in omega (arith, h)
   counted (NextReport answer ∷ t) rows law = let h = counted t rows.1 law in omega (arith, h)
   counted (Asked answer ∷ t) rows law = let h = counted t rows.1 law in omega (arith, h)
   counted (Feeds now from bytes w up settled event sent token was ∷ t) rows law =
       let below = under t (Feeds now from bytes w up settled event sent token was) law in
-      let a = (fed server szx word t now from bytes w up settled event sent token was (known server szx word t rows.1 below) law).taken_is in
+      let a = (fed server szx word t now from bytes w up settled event sent token was
+      (known server szx word t rows.1 below) law).taken_is in
       let h = counted t rows.1 below in
       omega (arith, a, h)
   counted (Ticks now w low turn sent token was did ∷ t) rows law =
       let below = under t (Ticks now w low turn sent token was did) law in
-      let a = (ticked server szx word t now w low turn sent token was did (known server szx word t rows.1 below) law).taken_is in
+      let a = (ticked server szx word t now w low turn sent token was did
+      (known server szx word t rows.1 below) law).taken_is in
       let h = counted t rows.1 below in
       omega (arith, a, h)
 
@@ -243,25 +274,39 @@ module _ (server : Endpoint) (szx word : ℕ) where
     own = own_of szx t
 
     full_is : is_full own ≡ nat_le max_waiting (length (waiting_in szx t))
-    full_is = ap (nat_le max_waiting) (sym (waits_length own.observations own.queue (known server szx word t rows law).waits) ∙ ap length (told t rows law))
+    full_is = ap (nat_le max_waiting) (sym (waits_length own.observations own.queue
+        (known server szx word t rows law).waits) ∙ ap length (told t rows law))
 
-    next_by : (n : ℕ) → own.taken ≡ n → cond (own.taken == max_numbers) (Err CallsSpent) (Ok own.taken) ≡ cond (n == max_numbers) (Err CallsSpent) (Ok n)
+    next_by : (n : ℕ) → own.taken ≡ n → cond (own.taken == max_numbers) (Err CallsSpent) (Ok own.taken)
+        ≡ cond (n == max_numbers) (Err CallsSpent) (Ok n)
     next_by n is = ap (λ i. cond (i == max_numbers) (Err CallsSpent) (Ok i)) is
 
     pub call_is : (r : Request) → call_answer own r ≡ taking_of szx t r
     call_is r =
-        ap (λ b. cond b (Err QueueFull) (cond (nat_lt max_body (length r.body)) (Err BodyTooLarge) (cond (are_long (block_number r.method) (options_of r)) (Err BadPath) (cond (own.taken == max_numbers) (Err CallsSpent) (Ok own.taken))))) full_is
-        ∙ ap (λ z. cond (nat_le max_waiting (length (waiting_in szx t))) (Err QueueFull) (cond (nat_lt max_body (length r.body)) (Err BodyTooLarge) (cond (are_long (block_number r.method) (options_of r)) (Err BadPath) z))) (next_by (numbers_in t) (counted t rows law))
+        ap (λ b. cond b (Err QueueFull) (cond (nat_lt max_body (length r.body)) (Err BodyTooLarge)
+        (cond (are_long (block_number r.method) (options_of r)) (Err BadPath)
+        (cond (own.taken == max_numbers) (Err CallsSpent) (Ok own.taken))))) full_is
+        ∙ ap (λ z. cond (nat_le max_waiting (length (waiting_in szx t))) (Err QueueFull)
+        (cond (nat_lt max_body (length r.body)) (Err BodyTooLarge)
+        (cond (are_long (block_number r.method) (options_of r)) (Err BadPath) z)))
+        (next_by (numbers_in t) (counted t rows law))
 
     pub observation_is : (path : List (List ℕ)) → observe_answer own path ≡ observing_of szx t path
     observation_is path =
-        ap (λ b. cond b (Err QueueFull) (cond (are_long block2 (path_options path)) (Err BadPath) (cond (nat_le max_observations (observed own)) (Err WatchesFull) (cond (own.taken == max_numbers) (Err CallsSpent) (Ok own.taken))))) full_is
-        ∙ ap (λ z. cond (nat_le max_waiting (length (waiting_in szx t))) (Err QueueFull) (cond (are_long block2 (path_options path)) (Err BadPath) (cond (nat_le max_observations (observed own)) (Err WatchesFull) z))) (next_by (numbers_in t) (counted t rows law))
+        ap (λ b. cond b (Err QueueFull) (cond (are_long block2 (path_options path)) (Err BadPath)
+        (cond (nat_le max_observations (observed own)) (Err WatchesFull)
+        (cond (own.taken == max_numbers) (Err CallsSpent) (Ok own.taken))))) full_is
+        ∙ ap (λ z. cond (nat_le max_waiting (length (waiting_in szx t))) (Err QueueFull)
+        (cond (are_long block2 (path_options path)) (Err BadPath)
+        (cond (nat_le max_observations (observed own)) (Err WatchesFull) z)))
+        (next_by (numbers_in t) (counted t rows law))
 
     pub cancel_is : (number : ℕ) → cancel_answer own number ≡ cancelling_of szx t number
-    cancel_is number = ap (λ b. cond (not (is_live number own) || is_cancelled number own) (Some cancel.Unknown) (cond b (Some cancel.QueueFull) None)) full_is
+    cancel_is number = ap (λ b. cond (not (is_live number own) || is_cancelled number own) (Some cancel.Unknown)
+        (cond b (Some cancel.QueueFull) None)) full_is
 
-  starts_first : (t : List Call) (c : Call) → ClientLaw server szx word (c ∷ t) → starts (own_of szx t) c ≡ true → StartsFirst szx t c
+  starts_first : (t : List Call) (c : Call) → ClientLaw server szx word (c ∷ t) → starts (own_of szx t) c ≡ true
+      → StartsFirst szx t c
   starts_first t (Ticks now w low turn sent token was did) law h =
       let c : Call = Ticks now w low turn sent token was did in
       let below = under t c law.exchanges.rows in
@@ -291,9 +336,15 @@ module _ (server : Endpoint) (szx word : ℕ) where
   takes_here t c law =
       let below = under t c law.exchanges.rows in
       record {
-        calls = λ now r answer is. (let row : answer ≡ call_answer (own_of szx t) r = subst (IsRight (own_of szx t)) is law.rows.0 in row ∙ call_is t law.rows.1 below r);
-        observes = λ now path answer is. (let row : answer ≡ observe_answer (own_of szx t) path = subst (IsRight (own_of szx t)) is law.rows.0 in row ∙ observation_is t law.rows.1 below path);
-        cancels = λ now number answer is. (let row : answer ≡ cancel_answer (own_of szx t) number = subst (IsRight (own_of szx t)) is law.rows.0 in row ∙ cancel_is t law.rows.1 below number);
+        calls = λ now r answer is. (let row : answer
+            ≡ call_answer (own_of szx t) r = subst (IsRight (own_of szx t)) is law.rows.0 in row
+            ∙ call_is t law.rows.1 below r);
+        observes = λ now path answer is. (let row : answer
+            ≡ observe_answer (own_of szx t) path = subst (IsRight (own_of szx t)) is law.rows.0 in row
+            ∙ observation_is t law.rows.1 below path);
+        cancels = λ now number answer is. (let row : answer
+            ≡ cancel_answer (own_of szx t) number = subst (IsRight (own_of szx t)) is law.rows.0 in row
+            ∙ cancel_is t law.rows.1 below number);
         in_order = starts_first t c law;
       }
 

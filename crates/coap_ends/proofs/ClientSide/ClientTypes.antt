@@ -57,16 +57,20 @@ notice_kind : (kind : Kind) (k : Known) (m n : Message) → Tells kind k m (even
 notice_kind Con k m n h = inl refl
 notice_kind Non k m n h = inr refl
 notice_kind Ack k m n h = absurd (no_notice k.from_server k.of_exchange k.same_id k.kept k.bad_option k.cancelled m n h)
-notice_kind Rst k m n h = absurd (no_reset k.from_server k.of_exchange k.same_id k.kept k.bad_option k.cancelled m (event.Notice n) h)
+notice_kind Rst k m n h = absurd (no_reset k.from_server k.of_exchange k.same_id k.kept k.bad_option k.cancelled m
+    (event.Notice n) h)
 
-answer_kind : (kind : Kind) (k : Known) (m n : Message) → Tells kind k m (event.Answer n) → (kind ≡ Con) ⊎ ((kind ≡ Non) ⊎ (kind ≡ Ack))
+answer_kind : (kind : Kind) (k : Known) (m n : Message) → Tells kind k m (event.Answer n)
+    → (kind ≡ Con) ⊎ ((kind ≡ Non) ⊎ (kind ≡ Ack))
 answer_kind Con k m n h = inl refl
 answer_kind Non k m n h = inr (inl refl)
 answer_kind Ack k m n h = inr (inr refl)
-answer_kind Rst k m n h = absurd (no_reset k.from_server k.of_exchange k.same_id k.kept k.bad_option k.cancelled m (event.Answer n) h)
+answer_kind Rst k m n h = absurd (no_reset k.from_server k.of_exchange k.same_id k.kept k.bad_option k.cancelled m
+    (event.Answer n) h)
 
 -- only a response is told so
-response_up : (s : E.Own) (from : Endpoint) (up : L.Answer) (e : Event) (v : Verdict) → Fits s from up v → told v up ≡ Some e → (e ≡ event.Reset) ⊎ ((m : Message) × (up ≡ L.Becomes (L.Response m)))
+response_up : (s : E.Own) (from : Endpoint) (up : L.Answer) (e : Event) (v : Verdict) → Fits s from up v
+    → told v up ≡ Some e → (e ≡ event.Reset) ⊎ ((m : Message) × (up ≡ L.Becomes (L.Response m)))
 response_up s from up e Ignore f h = absurd (cc h)
 response_up s from up e Reject f h = absurd (cc h)
 response_up s from up e Acknowledge f h = absurd (cc h)
@@ -117,7 +121,8 @@ module _ (s : E.Own) (from : Endpoint) (up : L.Answer) where
       by (inl e) = absurd (cc e)
       by (inr (m, is)) =
           let k = subst (Rises (event.Notice n)) is h in
-          subst Noted (same_notice (judged m.kind (known_of s from m)) m n k) (notice_kind m.kind (known_of s from m) m n k)
+          subst Noted (same_notice (judged m.kind (known_of s from m)) m n k)
+          (notice_kind m.kind (known_of s from m) m n k)
 
   heard_so : (n : Message) → Rises (event.Answer n) up → Heard n
   heard_so n h = by (response_up s from up (event.Answer n) (verdict_on s from up) (verdict_fits s from up) h)
@@ -126,21 +131,26 @@ module _ (s : E.Own) (from : Endpoint) (up : L.Answer) where
       by (inl e) = absurd (cc e)
       by (inr (m, is)) =
           let k = subst (Rises (event.Answer n)) is h in
-          subst Heard (same_answer (judged m.kind (known_of s from m)) m n k) (answer_kind m.kind (known_of s from m) m n k)
+          subst Heard (same_answer (judged m.kind (known_of s from m)) m n k)
+          (answer_kind m.kind (known_of s from m) m n k)
 
 -- the call's arrival stands last among what it asks of the exchanges
-last_row : (server : Endpoint) (word : ℕ) (later : List E.Call) (c : E.Call) (past : List E.Call) → W.AskerLaw server word ((later ++ c ∷ []) ++ past) → P.IsRight (W.own_of server word past) c
+last_row : (server : Endpoint) (word : ℕ) (later : List E.Call) (c : E.Call) (past : List E.Call)
+    → W.AskerLaw server word ((later ++ c ∷ []) ++ past) → P.IsRight (W.own_of server word past) c
 last_row server word [] c past law = law.0
 last_row server word (d ∷ later) c past law = last_row server word later c past law.1
 
-deeper : (server : Endpoint) (word : ℕ) (first later : List E.Call) (past : List E.Call) → W.AskerLaw server word ((first ++ later) ++ past) → W.AskerLaw server word (later ++ past)
+deeper : (server : Endpoint) (word : ℕ) (first later : List E.Call) (past : List E.Call)
+    → W.AskerLaw server word ((first ++ later) ++ past) → W.AskerLaw server word (later ++ past)
 deeper server word [] later past law = law
 deeper server word (d ∷ first) later past law = deeper server word first later past law.1
 
 module _ (server : Endpoint) (szx word : ℕ) (t : List Call) where
   -- what arrived had its row
-  told_here : (now : ℕ) (from : Endpoint) (bytes : List ℕ) (w : ℕ) (up : L.Answer) (settled : Bool) (e : Option Event) (sent : L.Answer) (token : _) (was : Bool)
-      → ClientLaw server szx word (Feeds now from bytes w up settled e sent token was ∷ t) → e ≡ told (verdict_on (W.own_of server word (lower_of szx t)) from up) up
+  told_here : (now : ℕ) (from : Endpoint) (bytes : List ℕ) (w : ℕ) (up : L.Answer) (settled : Bool) (e : Option Event)
+      (sent : L.Answer) (token : _) (was : Bool)
+      → ClientLaw server szx word (Feeds now from bytes w up settled e sent token was ∷ t)
+      → e ≡ told (verdict_on (W.own_of server word (lower_of szx t)) from up) up
   told_here now from bytes w up settled e sent token was law =
       let s : Own = own_of szx t in
       let z : ℕ = max s.clock now in
@@ -148,34 +158,45 @@ module _ (server : Endpoint) (szx word : ℕ) (t : List Call) where
       let k = close z f token in
       let arrival : E.Call = E.Receive z from bytes up settled e in
       last_row server word (deeds f.deed f.own z w sent token was) arrival (lower_of szx t)
-      (deeper server word (deeds k.deed k.own z w sent token was) (deeds f.deed f.own z w sent token was ++ arrival ∷ []) (lower_of szx t) law.exchanges.rows)
+      (deeper server word (deeds k.deed k.own z w sent token was)
+      (deeds f.deed f.own z w sent token was ++ arrival ∷ []) (lower_of szx t) law.exchanges.rows)
 
   of_type : (c : Call) → ClientLaw server szx word (c ∷ t) → IsOfType c
   of_type (Feeds now from bytes w up settled (Some (event.Notice a)) sent token was) law =
       record {
         noted = λ m h. (let same : a ≡ m = cc h in
-            subst Noted same (noted_so (W.own_of server word (lower_of szx t)) from up a (sym (told_here now from bytes w up settled (Some (event.Notice a)) sent token was law))));
+            subst Noted same (noted_so (W.own_of server word (lower_of szx t)) from up a
+            (sym (told_here now from bytes w up settled (Some (event.Notice a)) sent token was law))));
         heard = λ m h. absurd (cc h);
       }
   of_type (Feeds now from bytes w up settled (Some (event.Answer a)) sent token was) law =
       record {
         noted = λ m h. absurd (cc h);
         heard = λ m h. (let same : a ≡ m = cc h in
-            subst Heard same (heard_so (W.own_of server word (lower_of szx t)) from up a (sym (told_here now from bytes w up settled (Some (event.Answer a)) sent token was law))));
+            subst Heard same (heard_so (W.own_of server word (lower_of szx t)) from up a
+            (sym (told_here now from bytes w up settled (Some (event.Answer a)) sent token was law))));
       }
-  of_type (Feeds now from bytes w up settled (Some event.Reset) sent token was) law = record { noted = λ m h. absurd (cc h); heard = λ m h. absurd (cc h) }
-  of_type (Feeds now from bytes w up settled (Some event.Timeout) sent token was) law = record { noted = λ m h. absurd (cc h); heard = λ m h. absurd (cc h) }
-  of_type (Feeds now from bytes w up settled (Some event.NoResponse) sent token was) law = record { noted = λ m h. absurd (cc h); heard = λ m h. absurd (cc h) }
-  of_type (Feeds now from bytes w up settled None sent token was) law = record { noted = λ m h. absurd (cc h); heard = λ m h. absurd (cc h) }
+  of_type (Feeds now from bytes w up settled (Some event.Reset) sent token was) law =
+      record { noted = λ m h. absurd (cc h); heard = λ m h. absurd (cc h) }
+  of_type (Feeds now from bytes w up settled (Some event.Timeout) sent token was) law =
+      record { noted = λ m h. absurd (cc h); heard = λ m h. absurd (cc h) }
+  of_type (Feeds now from bytes w up settled (Some event.NoResponse) sent token was) law =
+      record { noted = λ m h. absurd (cc h); heard = λ m h. absurd (cc h) }
+  of_type (Feeds now from bytes w up settled None sent token was) law =
+      record { noted = λ m h. absurd (cc h); heard = λ m h. absurd (cc h) }
   of_type (Calls now r answer) law = record { noted = λ m h. absurd (cc h); heard = λ m h. absurd (cc h) }
   of_type (Observes now path answer) law = record { noted = λ m h. absurd (cc h); heard = λ m h. absurd (cc h) }
   of_type (Cancels now k answer) law = record { noted = λ m h. absurd (cc h); heard = λ m h. absurd (cc h) }
   of_type (Forgets k was answer) law = record { noted = λ m h. absurd (cc h); heard = λ m h. absurd (cc h) }
-  of_type (Ticks now w below turn sent token was answer) law = record { noted = λ m h. absurd (cc h); heard = λ m h. absurd (cc h) }
+  of_type (Ticks now w below turn sent token was answer) law =
+      record { noted = λ m h. absurd (cc h); heard = λ m h. absurd (cc h) }
   of_type (NextOut answer) law = record { noted = λ m h. absurd (cc h); heard = λ m h. absurd (cc h) }
   of_type (NextReport answer) law = record { noted = λ m h. absurd (cc h); heard = λ m h. absurd (cc h) }
   of_type (Asked answer) law = record { noted = λ m h. absurd (cc h); heard = λ m h. absurd (cc h) }
 
 pub are_of_types : (server : Endpoint) (szx word : ℕ) (t : List Call) → ClientLaw server szx word t → AreOfTypes t
 are_of_types server szx word [] law = tt
-are_of_types server szx word (c ∷ t) law = (of_type server szx word t c law, are_of_types server szx word t (client_back server szx word (c ∷ []) t law))
+are_of_types server szx word (c ∷ t) law = (
+  of_type server szx word t c law,
+  are_of_types server szx word t (client_back server szx word (c ∷ []) t law),
+)

@@ -33,7 +33,8 @@ asked_of : X.AskerLaw server 0 (lower_of 6 run)
 asked_of = (tt, (refl, (refl, (refl, (tt, (refl, (refl, (refl, tt))))))))
 
 steps_of : Steps (L.start 0) below (left_after (L.start 0) below)
-unfolding decoded frame_fault body_at walk walk_of option_at nibbles_at value_at extended payload_at option_bytes options_bytes
+unfolding decoded frame_fault body_at walk walk_of option_at nibbles_at value_at extended payload_at option_bytes
+    options_bytes
 steps_of = (
   _,
   (
@@ -52,7 +53,15 @@ steps_of = (
                 _,
                 (_, refl, record { may = tt; right = refl; new_is = refl }),
                 record {
-                  may = (sendable_when_short _ (record { some = omega arith; code = omega arith; id = omega arith; token = omega arith; order = refl; numbers = refl; short = refl }) (omega arith)).spelled;
+                  may = (sendable_when_short _ (record {
+                    some = omega arith;
+                    code = omega arith;
+                    id = omega arith;
+                    token = omega arith;
+                    order = refl;
+                    numbers = refl;
+                    short = refl;
+                  }) (omega arith)).spelled;
                   right = refl;
                   new_is = refl;
                 },
@@ -73,7 +82,11 @@ steps_of = (
 )
 
 pub witness : ClientLaw server 6 0 run
-witness = record { rows = rows_of; exchanges = record { rows = asked_of; left = left_after (L.start 0) below; layer = steps_of } }
+witness = record {
+  rows = rows_of;
+  exchanges =
+      record { rows = asked_of; left = left_after (L.start 0) below; layer = steps_of };
+}
 
 -- .. and that of an upload
 
@@ -88,7 +101,8 @@ upload_asked : X.AskerLaw server 0 (lower_of 3 upload)
 upload_asked = (tt, (refl, (refl, (tt, (refl, (refl, tt))))))
 
 upload_steps : Steps (L.start 0) below_upload (left_after (L.start 0) below_upload)
-unfolding decoded frame_fault body_at walk walk_of option_at nibbles_at value_at extended payload_at option_bytes options_bytes
+unfolding decoded frame_fault body_at walk walk_of option_at nibbles_at value_at extended payload_at option_bytes
+    options_bytes
 upload_steps = (
   _,
   (
@@ -103,7 +117,15 @@ upload_steps = (
             _,
             (_, refl, record { may = tt; right = refl; new_is = refl }),
             record {
-              may = (sendable_when_short _ (record { some = omega arith; code = omega arith; id = omega arith; token = omega arith; order = refl; numbers = refl; short = refl }) (omega arith)).spelled;
+              may = (sendable_when_short _ (record {
+                some = omega arith;
+                code = omega arith;
+                id = omega arith;
+                token = omega arith;
+                order = refl;
+                numbers = refl;
+                short = refl;
+              }) (omega arith)).spelled;
               right = refl;
               new_is = refl;
             },
@@ -115,7 +137,15 @@ upload_steps = (
       record { may = tt; right = refl; new_is = refl },
     ),
     record {
-      may = (sendable_when_short _ (record { some = omega arith; code = omega arith; id = omega arith; token = omega arith; order = refl; numbers = refl; short = refl }) (omega arith)).spelled;
+      may = (sendable_when_short _ (record {
+        some = omega arith;
+        code = omega arith;
+        id = omega arith;
+        token = omega arith;
+        order = refl;
+        numbers = refl;
+        short = refl;
+      }) (omega arith)).spelled;
       right = refl;
       new_is = refl;
     },
@@ -124,4 +154,8 @@ upload_steps = (
 )
 
 pub uploads : ClientLaw server 3 0 upload
-uploads = record { rows = upload_rows; exchanges = record { rows = upload_asked; left = left_after (L.start 0) below_upload; layer = upload_steps } }
+uploads = record {
+  rows = upload_rows;
+  exchanges =
+      record { rows = upload_asked; left = left_after (L.start 0) below_upload; layer = upload_steps };
+}

@@ -50,7 +50,8 @@ reported_in None = None
 reported_in (Some op) = reported_of op
 
 -- what fails is reported so, of what is reported so
-pub failed_report : (u : Transfer → Bool) (report : Report) (s : Own) (running : Option Operation) → (failed u report s running).report ≡ report_to report (reported_in running)
+pub failed_report : (u : Transfer → Bool) (report : Report) (s : Own) (running : Option Operation)
+    → (failed u report s running).report ≡ report_to report (reported_in running)
 failed_report u report s None = refl
 failed_report u report s (Some (Calling k r t)) = refl
 failed_report u report s (Some (Registering k path)) = refl
@@ -58,7 +59,8 @@ failed_report u report s (Some (Fetching k)) = refl
 failed_report u report s (Some (Cancelling k)) = refl
 failed_report u report s (Some Dropped) = refl
 
-pub reported_is : (report : Report) (o : Option ℕ) (x : Reported) → report_to report o ≡ Some x → (x.report ≡ report) × (o ≡ Some x.number)
+pub reported_is : (report : Report) (o : Option ℕ) (x : Reported) → report_to report o ≡ Some x
+    → (x.report ≡ report) × (o ≡ Some x.number)
 reported_is report None x h = absurd (cc h)
 reported_is report (Some n) x h =
     let same : ◌≡◌ {A = Reported} (record { number = n; report = report }) x = cc h in
@@ -95,18 +97,26 @@ fetched_none f m (verdict.Ask num size) = refl
 
 continued_none : (u : UploadState) (o : Option Block) → next_lapse (calls.continued u o) ≡ false
 continued_none u None = refl
-continued_none u (Some b) = next_if (continues u b) (calls.Asks (Uploads (moved u b))) (calls.Ends false BadBlock) refl refl
+continued_none u (Some b) = next_if (continues u b) (calls.Asks (Uploads (moved u b)))
+    (calls.Ends false BadBlock) refl refl
 
 answer_none : (r : Request) (t : Transfer) (m : Message) → next_lapse (answer r t m) ≡ false
 answer_none r (Fetches f) m =
-    next_if (m.code == content) (calls.fetched f m (part f m)) (cond ((m.code == valid) && has_tags r.etags) (calls.Ends true (Valid (tag_in m))) (calls.Ends true (Failed m.code))) (fetched_none f m (part f m))
-    (next_if ((m.code == valid) && has_tags r.etags) (calls.Ends true (Valid (tag_in m))) (calls.Ends true (Failed m.code)) refl refl)
+    next_if (m.code == content) (calls.fetched f m (part f m))
+    (cond ((m.code == valid) && has_tags r.etags) (calls.Ends true (Valid (tag_in m)))
+    (calls.Ends true (Failed m.code))) (fetched_none f m (part f m))
+    (next_if ((m.code == valid) && has_tags r.etags) (calls.Ends true (Valid (tag_in m)))
+    (calls.Ends true (Failed m.code)) refl refl)
 answer_none r (Uploads u) m =
-    next_if ((m.code == continue) && is_longer u) (calls.continued u (block_at block1 m)) (cond (more_follows u && calls.is_below_errors m.code) (calls.Ends true BadBlock) (calls.Ends true (done r.method m.code))) (continued_none u (block_at block1 m))
-    (next_if (more_follows u && calls.is_below_errors m.code) (calls.Ends true BadBlock) (calls.Ends true (done r.method m.code)) refl (done_none r.method m.code))
+    next_if ((m.code == continue) && is_longer u) (calls.continued u (block_at block1 m))
+    (cond (more_follows u && calls.is_below_errors m.code) (calls.Ends true BadBlock)
+    (calls.Ends true (done r.method m.code))) (continued_none u (block_at block1 m))
+    (next_if (more_follows u && calls.is_below_errors m.code) (calls.Ends true BadBlock)
+    (calls.Ends true (done r.method m.code)) refl (done_none r.method m.code))
 answer_none r Single m = done_none r.method m.code
 
-called_none : (k : ℕ) (r : Request) (t : Transfer) (s : Own) (n : calls.Next) → next_lapse n ≡ false → lapse_in (called k r t s n).report ≡ false
+called_none : (k : ℕ) (r : Request) (t : Transfer) (s : Own) (n : calls.Next) → next_lapse n ≡ false
+    → lapse_in (called k r t s n).report ≡ false
 called_none k r t s (calls.Asks next) h = refl
 called_none k r t s (calls.Ends final report) h = h
 
@@ -122,21 +132,30 @@ fetch_none k n s m verdict.Done = refl
 fetch_none k n s m verdict.Again = refl
 fetch_none k n s m (verdict.Ask num size) = refl
 
-fetched_by_none : (k : ℕ) (o : Option Notified) (s : Own) (m : Message) → lapse_in (fetch_answered k o s m).report ≡ false
+fetched_by_none : (k : ℕ) (o : Option Notified) (s : Own) (m : Message)
+    → lapse_in (fetch_answered k o s m).report ≡ false
 fetched_by_none k None s m = refl
-fetched_by_none k (Some n) s m = fetch_none k n s m (cond (m.code == content) (part n.fetch m) (verdict.Refuse refusal.BadBlock))
+fetched_by_none k (Some n) s m = fetch_none k n s m
+    (cond (m.code == content) (part n.fetch m) (verdict.Refuse refusal.BadBlock))
 
-effect_if : (b : Bool) (x y : Effect) → lapse_in x.report ≡ false → lapse_in y.report ≡ false → lapse_in (cond b x y).report ≡ false
+effect_if : (b : Bool) (x y : Effect) → lapse_in x.report ≡ false → lapse_in y.report ≡ false
+    → lapse_in (cond b x y).report ≡ false
 effect_if true x y h k = h
 effect_if false x y h k = k
 
-registered_none : (k : ℕ) (path : List (List ℕ)) (s : Own) (now : ℕ) (m : Message) → lapse_in (registered k path s now m).report ≡ false
+registered_none : (k : ℕ) (path : List (List ℕ)) (s : Own) (now : ℕ) (m : Message)
+    → lapse_in (registered k path s now m).report ≡ false
 registered_none k path s now m =
     effect_if (is_notification m)
-    (record { own = record s { running = None; observations = s.observations ++ begun k path s.szx now m ∷ [] }; report = first_value k s.szx m; deed = Keeps m.token })
+    (record {
+      own = record s { running = None; observations = s.observations ++ begun k path s.szx now m ∷ [] };
+      report = first_value k s.szx m;
+      deed = Keeps m.token;
+    })
     (ends (of k (Ended m.code)) s) (value_none k (sequence_in m) (F.start s.szx 0) m (part (F.start s.szx 0) m)) refl
 
-pub answered_none : (s : Own) (now : ℕ) (m : Message) (running : Option Operation) → lapse_in (answered s now m running).report ≡ false
+pub answered_none : (s : Own) (now : ℕ) (m : Message) (running : Option Operation)
+    → lapse_in (answered s now m running).report ≡ false
 answered_none s now m None = refl
 answered_none s now m (Some (Calling k r t)) = called_none k r t s (answer r t m) (answer_none r t m)
 answered_none s now m (Some (Registering k path)) = registered_none k path s now m
@@ -146,11 +165,14 @@ answered_none s now m (Some Dropped) = refl
 
 -- a notification
 
-noticed_by_none : (o : Option Observation) (s : Own) (now : ℕ) (m : Message) → lapse_in (noticed_by o s now m).report ≡ false
+noticed_by_none : (o : Option Observation) (s : Own) (now : ℕ) (m : Message)
+    → lapse_in (noticed_by o s now m).report ≡ false
 noticed_by_none None s now m = refl
 noticed_by_none (Some o) s now m =
-    effect_if (not (is_notification m)) (is_over o.number (Ended m.code) s) (cond (is_newer o.watch.mark (sequence_in m) now) (renewed o s now m) (stays (passed o s now m))) refl
-    (effect_if (is_newer o.watch.mark (sequence_in m) now) (renewed o s now m) (stays (passed o s now m)) (value_none o.number (sequence_in m) (F.start s.szx 0) m (part (F.start s.szx 0) m)) refl)
+    effect_if (not (is_notification m)) (is_over o.number (Ended m.code) s)
+    (cond (is_newer o.watch.mark (sequence_in m) now) (renewed o s now m) (stays (passed o s now m))) refl
+    (effect_if (is_newer o.watch.mark (sequence_in m) now) (renewed o s now m) (stays (passed o s now m))
+    (value_none o.number (sequence_in m) (F.start s.szx 0) m (part (F.start s.szx 0) m)) refl)
 
 pub noticed_none : (s : Own) (now : ℕ) (m : Message) → lapse_in (noticed s now m).report ≡ false
 noticed_none s now m = noticed_by_none (observation_with m.token s.observations) s now m
@@ -159,9 +181,11 @@ noticed_none s now m = noticed_by_none (observation_with m.token s.observations)
 
 starts_none : (s : Own) (now : ℕ) (queue : List Operation) → lapse_in (starts s now queue).report ≡ false
 starts_none s now [] = refl
-starts_none s now (op ∷ queue) = effect_if (is_upload_op op && is_held s now) (stays s) (runs op (record s { queue = queue })) refl refl
+starts_none s now (op ∷ queue) = effect_if (is_upload_op op && is_held s now) (stays s)
+    (runs op (record s { queue = queue })) refl refl
 
-pub idle_none : (s : Own) (now : ℕ) (running : Option Operation) (fetch : Option ℕ) → lapse_in (idle s now running fetch).report ≡ false
+pub idle_none : (s : Own) (now : ℕ) (running : Option Operation) (fetch : Option ℕ)
+    → lapse_in (idle s now running fetch).report ≡ false
 idle_none s now (Some op) fetch = refl
 idle_none s now None (Some k) = refl
 idle_none s now None None = starts_none s now s.queue
@@ -175,27 +199,41 @@ pub record Refuses (e : Effect) (token : Result (List ℕ) AskRefusal) (x : Repo
   pub report : x.report ≡ NoIds
   pub number : reported_of unsent.operation ≡ Some x.number
 
-pub refuses_so : (now : ℕ) (e : Effect) (token : Result (List ℕ) AskRefusal) → Closing now e token → lapse_in e.report ≡ false → (x : Reported) → (closed now e e.deed token).report ≡ Some x → is_lapse x.report ≡ true → Refuses e token x
+pub refuses_so : (now : ℕ) (e : Effect) (token : Result (List ℕ) AskRefusal) → Closing now e token
+    → lapse_in e.report ≡ false → (x : Reported) → (closed now e e.deed token).report ≡ Some x
+    → is_lapse x.report ≡ true → Refuses e token x
 refuses_so now e token (quiet q none own_same report_same) h x is lapse =
     let same : lapse_in e.report ≡ true = ap lapse_in (sym report_same ∙ is) ∙ lapse in
     let both : false ≡ true = sym h ∙ same in
     absurd (cc both)
-refuses_so now e token (goes_out op key asks given sends_it own_same report_same) h x is lapse = let none : None ≡ Some x = sym report_same ∙ is in absurd (cc none)
+refuses_so now e token (goes_out op key asks given sends_it own_same report_same) h x is lapse = let none : None
+    ≡ Some x = sym report_same ∙ is in absurd (cc none)
 refuses_so now e token (is_refused op why asks given none all) h x is lapse =
-    let k = reported_is NoIds (reported_of op) x (sym (failed_report has_sent NoIds e.own (Some op)) ∙ (sym (ap (λ (z : Effect). z.report) all) ∙ is)) in
-    record { unsent = record { operation = op; why = why }; is = ap (λ d. unsent_by d token) asks ∙ ap (unsent_by (Asks op)) given; report = k.0; number = k.1 }
+    let k = reported_is NoIds (reported_of op) x
+    (sym (failed_report has_sent NoIds e.own (Some op)) ∙ (sym (ap (λ (z : Effect). z.report) all) ∙ is)) in
+    record {
+      unsent = record { operation = op; why = why };
+      is = ap (λ d. unsent_by d token) asks ∙ ap (unsent_by (Asks op)) given;
+      report = k.0;
+      number = k.1;
+    }
 
-unsent_is : (d : Deed) (token : Result (List ℕ) AskRefusal) (u : Unsent) → unsent_by d token ≡ Some u → (d ≡ Asks u.operation) × (token ≡ Err u.why)
-unsent_is (Asks op) (Err why) u h = let same : ◌≡◌ {A = Unsent} (record { operation = op; why = why }) u = cc h in (ap (λ (z : Unsent). Asks z.operation) same, ap (λ (z : Unsent). Err z.why) same)
+unsent_is : (d : Deed) (token : Result (List ℕ) AskRefusal) (u : Unsent) → unsent_by d token ≡ Some u
+    → (d ≡ Asks u.operation) × (token ≡ Err u.why)
+unsent_is (Asks op) (Err why) u h = let same : ◌≡◌ {A = Unsent} (record { operation = op; why = why }) u =
+    cc h in (ap (λ (z : Unsent). Asks z.operation) same, ap (λ (z : Unsent). Err z.why) same)
 unsent_is (Asks op) (Ok key) u h = absurd (cc h)
 unsent_is Rests token u h = absurd (cc h)
 unsent_is (Keeps t) token u h = absurd (cc h)
 unsent_is (Releases t) token u h = absurd (cc h)
 
-pub unsent_asks : (e : Effect) (token : Result (List ℕ) AskRefusal) (u : Unsent) → unsent_by e.deed token ≡ Some u → (e.deed ≡ Asks u.operation) × (token ≡ Err u.why)
+pub unsent_asks : (e : Effect) (token : Result (List ℕ) AskRefusal) (u : Unsent) → unsent_by e.deed token ≡ Some u
+    → (e.deed ≡ Asks u.operation) × (token ≡ Err u.why)
 unsent_asks e token u h = unsent_is e.deed token u h
 
-pub unsent_report : (now : ℕ) (e : Effect) (token : Result (List ℕ) AskRefusal) (u : Unsent) → unsent_by e.deed token ≡ Some u → (closed now e e.deed token).report ≡ report_to NoIds (reported_of u.operation)
+pub unsent_report : (now : ℕ) (e : Effect) (token : Result (List ℕ) AskRefusal) (u : Unsent)
+    → unsent_by e.deed token ≡ Some u → (closed now e e.deed token).report ≡ report_to NoIds (reported_of u.operation)
 unsent_report now e token u h =
     let k = unsent_is e.deed token u h in
-    ap (λ d. (closed now e d token).report) k.0 ∙ (ap (λ z. (closed now e (Asks u.operation) z).report) k.1 ∙ failed_report has_sent NoIds e.own (Some u.operation))
+    ap (λ d. (closed now e d token).report) k.0 ∙ (ap (λ z. (closed now e (Asks u.operation) z).report) k.1
+    ∙ failed_report has_sent NoIds e.own (Some u.operation))

@@ -66,7 +66,8 @@ IsAside s (L.Becomes (L.Response m)) NoticeCon = has_token s.running m.token ≡
 IsAside s (L.Becomes (L.Response m)) Notice = has_token s.running m.token ≡ false
 IsAside s up v = Unit {0}
 
-response_aside : (s : Own) (from : Endpoint) (m : Message) (v : Verdict) → Aside (known_of s from m) v → IsAside s (L.Becomes (L.Response m)) v
+response_aside : (s : Own) (from : Endpoint) (m : Message) (v : Verdict) → Aside (known_of s from m) v
+    → IsAside s (L.Becomes (L.Response m)) v
 response_aside s from m NoticeCon h = h
 response_aside s from m Notice h = h
 response_aside s from m AnswerCon h = tt
@@ -79,7 +80,8 @@ response_aside s from m Acknowledge h = tt
 
 verdict_aside : (s : Own) (from : Endpoint) (up : L.Answer) → IsAside s up (verdict_on s from up)
 verdict_aside s from (L.Becomes (L.Response m)) =
-    let k = known_of s from m in response_aside s from m _ (aside_known m.kind k.from_server k.of_exchange k.same_id k.kept k.bad_option k.cancelled)
+    let k = known_of s from m in response_aside s from m _
+    (aside_known m.kind k.from_server k.of_exchange k.same_id k.kept k.bad_option k.cancelled)
 verdict_aside s from (L.Becomes (L.Request m remembered)) = tt
 verdict_aside s from (L.Becomes (L.Acked id)) = tt
 verdict_aside s from (L.Becomes (L.Reset id)) = tt
@@ -105,7 +107,8 @@ Came before now (Some event.Reset) = (x : Exchange) × (before ≡ Some x) × (n
 Came before now (Some event.Timeout) = ⊥
 Came before now (Some event.NoResponse) = ⊥
 
-acked_token : (running : Option Exchange) (at : ℕ) → token_in (option_map (λ (x : Exchange). record x { acked = Some (record { 0 = at }) }) running) ≡ token_in running
+acked_token : (running : Option Exchange) (at : ℕ)
+    → token_in (option_map (λ (x : Exchange). record x { acked = Some (record { 0 = at }) }) running) ≡ token_in running
 acked_token None at = refl
 acked_token (Some x) at = refl
 
@@ -124,5 +127,7 @@ module _ (s : Own) (from : Endpoint) (at : ℕ) where
   came_by NoticeCon up f a = subst (Tells NoticeCon) (sym f.is) (subst (λ u. IsAside s u NoticeCon) f.is a, refl)
   came_by Notice up f a = subst (Tells Notice) (sym f.is) (subst (λ u. IsAside s u Notice) f.is a, refl)
 
-  pub came : (up : L.Answer) (e : Option Event) → e ≡ told (verdict_on s from up) up → Came s.running (running_after at (verdict_on s from up) s.running) e
-  came up e right = subst (Came s.running (running_after at (verdict_on s from up) s.running)) (sym right) (came_by (verdict_on s from up) up (verdict_fits s from up) (verdict_aside s from up))
+  pub came : (up : L.Answer) (e : Option Event) → e ≡ told (verdict_on s from up) up
+      → Came s.running (running_after at (verdict_on s from up) s.running) e
+  came up e right = subst (Came s.running (running_after at (verdict_on s from up) s.running)) (sym right)
+      (came_by (verdict_on s from up) up (verdict_fits s from up) (verdict_aside s from up))

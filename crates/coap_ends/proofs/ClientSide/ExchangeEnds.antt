@@ -32,18 +32,21 @@ use Rattle.coap_ends.proofs.ClientSide.EffectReports.{is_lapse, reported_in}
 
 -- what fails is reported, whatever is asked then
 
-released : (now : ℕ) (e : Effect) (o : Option Observation) (token : Result (List ℕ) AskRefusal) → (closed now e (releases o) token).report ≡ e.report
+released : (now : ℕ) (e : Effect) (o : Option Observation) (token : Result (List ℕ) AskRefusal)
+    → (closed now e (releases o) token).report ≡ e.report
 released now e None token = refl
 released now e (Some o) token = refl
 
-pub failed_closed : (now : ℕ) (report : Report) (s : Own) (running : Option Operation) (token : Result (List ℕ) AskRefusal)
+pub failed_closed : (now : ℕ) (report : Report) (s : Own) (running : Option Operation)
+    (token : Result (List ℕ) AskRefusal)
     → (close now (failed (λ t. true) report s running) token).report ≡ report_to report (reported_in running)
 failed_closed now report s None token = refl
 failed_closed now report s (Some (Calling k r t)) token = refl
 failed_closed now report s (Some (Registering k path)) token = refl
 failed_closed now report s (Some (Fetching k)) token = refl
 failed_closed now report s (Some Dropped) token = refl
-failed_closed now report s (Some (Cancelling k)) token = released now (failed (λ t. true) report s (Some (Cancelling k))) (observation_of k s.observations) token
+failed_closed now report s (Some (Cancelling k)) token =
+    released now (failed (λ t. true) report s (Some (Cancelling k))) (observation_of k s.observations) token
 
 -- time ends an exchange by a Timeout or by NoResponse
 
@@ -55,7 +58,8 @@ pub record EndedBy (s : E.Own) (e : Event) : Type 0 where
   pub runs : s.running ≡ Some exchange
   pub by_time : ByTime e
 
-expired_by : (s : E.Own) (to : Endpoint) (id : ℕ) (e : Event) (o : Option Exchange) → s.running ≡ o → turn_is.End e ≡ turn_of (record s { running = o }) 0 (L.Expired to id) → EndedBy s e
+expired_by : (s : E.Own) (to : Endpoint) (id : ℕ) (e : Event) (o : Option Exchange) → s.running ≡ o
+    → turn_is.End e ≡ turn_of (record s { running = o }) 0 (L.Expired to id) → EndedBy s e
 expired_by s to id e None is h = absurd (by (same_endpoint to s.server) h)
   where
     by : (b : Bool) → turn_is.End e ≡ cond (b && false) (turn_is.End event_of.Timeout) turn_is.Idle → ⊥
@@ -67,7 +71,8 @@ expired_by s to id e (Some x) is h = by (is_of_request (record s { running = Som
     by true h = record { exchange = x; runs = is; by_time = inl (cc h) }
     by false h = absurd (cc h)
 
-waited_by : (s : E.Own) (now : ℕ) (e : Event) (o : Option Exchange) → s.running ≡ o → turn_is.End e ≡ cond (has_waited now (acked_in o)) (turn_is.End event_of.NoResponse) turn_is.Idle → EndedBy s e
+waited_by : (s : E.Own) (now : ℕ) (e : Event) (o : Option Exchange) → s.running ≡ o
+    → turn_is.End e ≡ cond (has_waited now (acked_in o)) (turn_is.End event_of.NoResponse) turn_is.Idle → EndedBy s e
 waited_by s now e None is h = absurd (cc h)
 waited_by s now e (Some x) is h = by (has_waited now (acked_in (Some x))) h
   where
@@ -106,19 +111,23 @@ end_lapse R.TooLarge h = h
 
 -- why a request can't be sent: one runs, or a Message ID or a token is wanting
 
-spent_is : (b : Bool) (why : AskRefusal) → ◌≡◌ {A = Result (List ℕ) AskRefusal} (Err (cond b refusal.TokensSpent refusal.NoIds)) (Err why) → IsWant why
+spent_is : (b : Bool) (why : AskRefusal) → ◌≡◌ {A = Result (List ℕ) AskRefusal}
+    (Err (cond b refusal.TokensSpent refusal.NoIds)) (Err why) → IsWant why
 spent_is true why h = let same : refusal.TokensSpent ≡ why = cc h in inr (sym same)
 spent_is false why h = let same : refusal.NoIds ≡ why = cc h in inl (sym same)
 
-send_is : (b : Bool) (why : AskRefusal) → ◌≡◌ {A = Result (List ℕ) AskRefusal} (Err (cond b refusal.Running refusal.NoIds)) (Err why) → (why ≡ refusal.Running) ⊎ IsWant why
+send_is : (b : Bool) (why : AskRefusal) → ◌≡◌ {A = Result (List ℕ) AskRefusal}
+    (Err (cond b refusal.Running refusal.NoIds)) (Err why) → (why ≡ refusal.Running) ⊎ IsWant why
 send_is true why h = let same : refusal.Running ≡ why = cc h in inl (sym same)
 send_is false why h = let same : refusal.NoIds ≡ why = cc h in inr (inl (sym same))
 
-sent_is : (o : Option ℕ) (below : L.Answer) (token : List ℕ) (why : AskRefusal) → sent_answer o (send_refusal below) token ≡ Err why → (why ≡ refusal.Running) ⊎ IsWant why
+sent_is : (o : Option ℕ) (below : L.Answer) (token : List ℕ) (why : AskRefusal)
+    → sent_answer o (send_refusal below) token ≡ Err why → (why ≡ refusal.Running) ⊎ IsWant why
 sent_is None below token why h = send_is (is_busied below) why h
 sent_is (Some id) below token why h = absurd (cc h)
 
-pub want_or_runs : (o : Opening) (below : L.Answer) (token : List ℕ) (why : AskRefusal) → ask_answer o below token ≡ Err why → (why ≡ refusal.Running) ⊎ IsWant why
+pub want_or_runs : (o : Opening) (below : L.Answer) (token : List ℕ) (why : AskRefusal)
+    → ask_answer o below token ≡ Err why → (why ≡ refusal.Running) ⊎ IsWant why
 want_or_runs Running below token why h = let same : refusal.Running ≡ why = cc h in inl (sym same)
 want_or_runs Spent below token why h = inr (spent_is (is_yes below) why h)
 want_or_runs Sends below token why h = sent_is (sent_by below) below token why h

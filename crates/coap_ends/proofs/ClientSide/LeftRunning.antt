@@ -26,7 +26,8 @@ failed_over s (Fetching k) = refl
 failed_over s (Cancelling k) = refl
 failed_over s Dropped = refl
 
-module _ (op : Operation) (lone : IsLone op) (s : Own) (is : s.running ≡ Some op) (m : ℕ) (e : Effect) (runs : Runs s e) where
+module _ (op : Operation) (lone : IsLone op) (s : Own) (is : s.running ≡ Some op) (m : ℕ) (e : Effect)
+    (runs : Runs s e) where
   quiet_on : ((o : Operation) → e.deed ≡ Asks o → ⊥) → OnOrOver op e.own
   quiet_on q = elim runs.running [
     | inl none ↦ inr none
@@ -39,13 +40,17 @@ module _ (op : Operation) (lone : IsLone op) (s : Own) (is : s.running ≡ Some 
     ]
   ]
 
-  closed_on : (token : Result (List ℕ) AskRefusal) → sent_by e e.deed token ≡ None → Closing m e token → OnOrOver op (closed m e e.deed token).own
+  closed_on : (token : Result (List ℕ) AskRefusal) → sent_by e e.deed token ≡ None → Closing m e token
+      → OnOrOver op (closed m e e.deed token).own
   closed_on token none (quiet q gone own_same report_same) = subst (OnOrOver op) (sym own_same) (quiet_on q)
-  closed_on token none (goes_out o key asks given sends_it own_same report_same) = let k : None ≡ Some _ = sym none ∙ sends_it in absurd (cc k)
-  closed_on token none (is_refused o why asks given gone all) = inr (ap (λ (z : Effect). z.own.running) all ∙ failed_over e.own o)
+  closed_on token none (goes_out o key asks given sends_it own_same report_same) = let k : None ≡ Some _ = sym none
+      ∙ sends_it in absurd (cc k)
+  closed_on token none (is_refused o why asks given gone all) =
+      inr (ap (λ (z : Effect). z.own.running) all ∙ failed_over e.own o)
 
 -- whatever the call is
-pub left_running : (szx : ℕ) (t : List Call) (c : Call) (op : Operation) → IsLone op → (own_of szx t).running ≡ Some op → sends (own_of szx t) c ≡ None → OnOrOver op (own_of szx (c ∷ t))
+pub left_running : (szx : ℕ) (t : List Call) (c : Call) (op : Operation) → IsLone op → (own_of szx t).running ≡ Some op
+    → sends (own_of szx t) c ≡ None → OnOrOver op (own_of szx (c ∷ t))
 left_running szx t (Calls now r (Ok n)) op lone is none = inl is
 left_running szx t (Calls now r (Err why)) op lone is none = inl is
 left_running szx t (Observes now path (Ok n)) op lone is none = inl is

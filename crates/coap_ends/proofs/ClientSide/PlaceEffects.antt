@@ -85,13 +85,15 @@ flip_other a b h = by (b == a) refl
     by true e = let k : (a == b) ≡ true = ap (λ x. a == x) (same_number b a e) ∙ number_self a in absurd (cc (h, k))
     by false e = refl
 
-pub wait_map : (f : Observation → Observation) → ((o : Observation) → (f o).number ≡ o.number) → (os : List Observation) (ops : List Operation) → AllWait os ops → AllWait (map f os) ops
+pub wait_map : (f : Observation → Observation) → ((o : Observation) → (f o).number ≡ o.number)
+    → (os : List Observation) (ops : List Operation) → AllWait os ops → AllWait (map f os) ops
 wait_map f same os [] h = tt
 wait_map f same os (Calling number r t ∷ ops) h = (tt, wait_map f same os ops h.1)
 wait_map f same os (Registering number path ∷ ops) h = (tt, wait_map f same os ops h.1)
 wait_map f same os (Fetching number ∷ ops) h = absurd h.0
 wait_map f same os (Dropped ∷ ops) h = absurd h.0
-wait_map f same os (Cancelling number ∷ ops) h = (let e = in_map number f same os in let k = h.0 in omega (arith, e, k), wait_map f same os ops h.1)
+wait_map f same os (Cancelling number ∷ ops) h =
+    (let e = in_map number f same os in let k = h.0 in omega (arith, e, k), wait_map f same os ops h.1)
 
 pub wait_append : (os more : List Observation) (ops : List Operation) → AllWait os ops → AllWait (os ++ more) ops
 wait_append os more [] h = tt
@@ -99,9 +101,11 @@ wait_append os more (Calling number r t ∷ ops) h = (tt, wait_append os more op
 wait_append os more (Registering number path ∷ ops) h = (tt, wait_append os more ops h.1)
 wait_append os more (Fetching number ∷ ops) h = absurd h.0
 wait_append os more (Dropped ∷ ops) h = absurd h.0
-wait_append os more (Cancelling number ∷ ops) h = (let e = in_observations_append number os more in let k = h.0 in omega (arith, e, k), wait_append os more ops h.1)
+wait_append os more (Cancelling number ∷ ops) h =
+    (let e = in_observations_append number os more in let k = h.0 in omega (arith, e, k), wait_append os more ops h.1)
 
-pub wait_without : (k : ℕ) (os : List Observation) (ops : List Operation) → AllWait os ops → AllWait (without k os) (filter (λ op. not (is_cancel_of k op)) ops)
+pub wait_without : (k : ℕ) (os : List Observation) (ops : List Operation) → AllWait os ops
+    → AllWait (without k os) (filter (λ op. not (is_cancel_of k op)) ops)
 wait_without k os [] h = tt
 wait_without k os (Calling number r t ∷ ops) h = (tt, wait_without k os ops h.1)
 wait_without k os (Registering number path ∷ ops) h = (tt, wait_without k os ops h.1)
@@ -110,11 +114,17 @@ wait_without k os (Dropped ∷ ops) h = absurd h.0
 wait_without k os (Cancelling number ∷ ops) h = by (wait_without k os ops h.1) (number == k) refl
   where
     by : AllWait (without k os) (filter (λ op. not (is_cancel_of k op)) ops) → (b : Bool) → (number == k) ≡ b
-        → AllWait (without k os) (cond (not b) (Cancelling number ∷ filter (λ op. not (is_cancel_of k op)) ops) (filter (λ op. not (is_cancel_of k op)) ops))
+        → AllWait (without k os) (cond (not b) (Cancelling number ∷ filter (λ op. not (is_cancel_of k op)) ops)
+        (filter (λ op. not (is_cancel_of k op)) ops))
     by ih true e = ih
-    by ih false e = (let z = in_without_other number k (flip_other number k e) os in let there = h.0 in omega (arith, z, there), ih)
+    by ih false e = (
+      let z = in_without_other number k (flip_other number k e) os in let there =
+          h.0 in omega (arith, z, there),
+      ih,
+    )
 
-pub runs_map : (f : Observation → Observation) → ((o : Observation) → (f o).number ≡ o.number) → (os : List Observation) (running : Option Operation) → IfRuns os running → IfRuns (map f os) running
+pub runs_map : (f : Observation → Observation) → ((o : Observation) → (f o).number ≡ o.number)
+    → (os : List Observation) (running : Option Operation) → IfRuns os running → IfRuns (map f os) running
 runs_map f same os None h = tt
 runs_map f same os (Some (Calling number r t)) h = tt
 runs_map f same os (Some (Registering number path)) h = tt
@@ -122,7 +132,8 @@ runs_map f same os (Some Dropped) h = tt
 runs_map f same os (Some (Fetching number)) h = let e = in_map number f same os in omega (arith, e, h)
 runs_map f same os (Some (Cancelling number)) h = let e = in_map number f same os in omega (arith, e, h)
 
-pub runs_dropped : (k : ℕ) (os : List Observation) (running : Option Operation) → IfRuns os running → IfRuns os (dropped k running)
+pub runs_dropped : (k : ℕ) (os : List Observation) (running : Option Operation) → IfRuns os running
+    → IfRuns os (dropped k running)
 runs_dropped k os None h = tt
 runs_dropped k os (Some (Calling number r t)) h = tt
 runs_dropped k os (Some (Registering number path)) h = tt
@@ -138,12 +149,14 @@ runs_dropped k os (Some (Fetching number)) h = by (number == k)
 abbrev pub NoCancel : ℕ → Option Operation → Type 0
 NoCancel k running = (j : ℕ) → running ≡ Some (Cancelling j) → (j == k) ≡ false
 
-pub runs_without : (k : ℕ) (os : List Observation) (running : Option Operation) → NoCancel k running → IfRuns os running → IfRuns (without k os) (dropped k running)
+pub runs_without : (k : ℕ) (os : List Observation) (running : Option Operation) → NoCancel k running → IfRuns os running
+    → IfRuns (without k os) (dropped k running)
 runs_without k os None apart h = tt
 runs_without k os (Some (Calling number r t)) apart h = tt
 runs_without k os (Some (Registering number path)) apart h = tt
 runs_without k os (Some Dropped) apart h = tt
-runs_without k os (Some (Cancelling number)) apart h = let e = in_without_other number k (flip_other number k (apart number refl)) os in omega (arith, e, h)
+runs_without k os (Some (Cancelling number)) apart h = let e =
+    in_without_other number k (flip_other number k (apart number refl)) os in omega (arith, e, h)
 runs_without k os (Some (Fetching number)) apart h = by (number == k) refl
   where
     by : (b : Bool) → (number == k) ≡ b → IfRuns (without k os) (cond b (Some Dropped) (Some (Fetching number)))
@@ -152,18 +165,24 @@ runs_without k os (Some (Fetching number)) apart h = by (number == k) refl
 
 -- the exchange
 
-token_map : (f : Observation → Observation) → ((o : Observation) → (f o).number ≡ o.number) → ((o : Observation) → (f o).token ≡ o.token) → (os : List Observation) (op : Operation) (token : List ℕ) → HasToken os op token → HasToken (map f os) op token
+token_map : (f : Observation → Observation) → ((o : Observation) → (f o).number ≡ o.number)
+    → ((o : Observation) → (f o).token ≡ o.token) → (os : List Observation) (op : Operation) (token : List ℕ)
+    → HasToken os op token → HasToken (map f os) op token
 token_map f number same os (Calling k r t) token h = tt
 token_map f number same os (Registering k path) token h = tt
 token_map f number same os (Fetching k) token h = tt
 token_map f number same os Dropped token h = tt
 token_map f number same os (Cancelling k) token h = token_of_map k f number same os ∙ h
 
-pub linked_map : (f : Observation → Observation) → ((o : Observation) → (f o).number ≡ o.number) → ((o : Observation) → (f o).token ≡ o.token) → (os : List Observation) (running : Option Operation) (x : Option Exchange) → Linked running os x → Linked running (map f os) x
+pub linked_map : (f : Observation → Observation) → ((o : Observation) → (f o).number ≡ o.number)
+    → ((o : Observation) → (f o).token ≡ o.token)
+    → (os : List Observation) (running : Option Operation) (x : Option Exchange) → Linked running os x
+    → Linked running (map f os) x
 linked_map f number same os None x h = h
 linked_map f number same os (Some op) x h = (h.0, h.1, token_map f number same os op h.0.token h.2)
 
-pub linked_dropped : (k : ℕ) (os : List Observation) (running : Option Operation) (x : Option Exchange) → Linked running os x → Linked (dropped k running) os x
+pub linked_dropped : (k : ℕ) (os : List Observation) (running : Option Operation) (x : Option Exchange)
+    → Linked running os x → Linked (dropped k running) os x
 linked_dropped k os None x h = h
 linked_dropped k os (Some (Calling number r t)) x h = h
 linked_dropped k os (Some (Registering number path)) x h = h
@@ -175,19 +194,22 @@ linked_dropped k os (Some (Fetching number)) x h = by (number == k)
     by true = h
     by false = h
 
-pub linked_without : (k : ℕ) (os : List Observation) (running : Option Operation) (x : Option Exchange) → NoCancel k running → Linked running os x → Linked (dropped k running) (without k os) x
+pub linked_without : (k : ℕ) (os : List Observation) (running : Option Operation) (x : Option Exchange)
+    → NoCancel k running → Linked running os x → Linked (dropped k running) (without k os) x
 linked_without k os None x apart h = h
 linked_without k os (Some (Calling number r t)) x apart h = h
 linked_without k os (Some (Registering number path)) x apart h = h
 linked_without k os (Some Dropped) x apart h = h
-linked_without k os (Some (Cancelling number)) x apart h = (h.0, h.1, token_of_without number k (flip_other number k (apart number refl)) os ∙ h.2)
+linked_without k os (Some (Cancelling number)) x apart h =
+    (h.0, h.1, token_of_without number k (flip_other number k (apart number refl)) os ∙ h.2)
 linked_without k os (Some (Fetching number)) x apart h = by (number == k)
   where
     by : (b : Bool) → Linked (cond b (Some Dropped) (Some (Fetching number))) (without k os) x
     by true = h
     by false = h
 
-pub linked_same : (os : List Observation) (running : Option Operation) (x y : Option Exchange) → token_in y ≡ token_in x → Linked running os x → Linked running os y
+pub linked_same : (os : List Observation) (running : Option Operation) (x y : Option Exchange) → token_in y ≡ token_in x
+    → Linked running os x → Linked running os y
 linked_same os None x None same h = refl
 linked_same os None x (Some e) same h = absurd (cc (same, ap token_in h))
 linked_same os (Some op) x None same h = absurd (cc (same, ap token_in h.1))
@@ -210,16 +232,19 @@ stays_goes s x sound l = record {
 }
 
 -- a value is no last report, and is of its number
-pub value_quiet : (n k sequence : ℕ) (f : FetchState) (m : Message) (v : Verdict) → final_of n (value k sequence f m v) ≡ 0
+pub value_quiet : (n k sequence : ℕ) (f : FetchState) (m : Message) (v : Verdict)
+    → final_of n (value k sequence f m v) ≡ 0
 value_quiet n k sequence f m verdict.Done = refl
 value_quiet n k sequence f m verdict.Again = refl
 value_quiet n k sequence f m (verdict.Refuse why) = refl
 value_quiet n k sequence f m (verdict.Ask num szx) = refl
 
-pub value_of_number : (k sequence : ℕ) (f : FetchState) (m : Message) (v : Verdict) (r : Reported) → value k sequence f m v ≡ Some r → r.number ≡ k
+pub value_of_number : (k sequence : ℕ) (f : FetchState) (m : Message) (v : Verdict) (r : Reported)
+    → value k sequence f m v ≡ Some r → r.number ≡ k
 value_of_number k sequence f m verdict.Done r h = number_in (value k sequence f m verdict.Done) refl r h
   where
-    number_in : (o : Option Reported) → o ≡ value k sequence f m verdict.Done → (r : Reported) → o ≡ Some r → r.number ≡ k
+    number_in : (o : Option Reported) → o ≡ value k sequence f m verdict.Done → (r : Reported) → o ≡ Some r
+        → r.number ≡ k
     number_in None e r h = absurd (cc e)
     number_in (Some y) e r h = (let a : y ≡ r = cc h in sym (ap (λ (z : Reported). z.number) a)) ∙ number_of_value y e
       where
@@ -234,20 +259,25 @@ value_of_number k sequence f m (verdict.Refuse why) r h = absurd (cc h)
 value_of_number k sequence f m (verdict.Ask num szx) r h = absurd (cc h)
 
 pub of_number : (k : ℕ) (report : Report) (r : Reported) → of k report ≡ Some r → r.number ≡ k
-of_number k report r h = let e : ◌≡◌ {A = Reported} (record { number = k; report = report }) r = cc h in sym (ap (λ (x : Reported). x.number) e)
+of_number k report r h = let e : ◌≡◌ {A = Reported} (record { number = k; report = report }) r =
+    cc h in sym (ap (λ (x : Reported). x.number) e)
 
 pub final_hit : (n k : ℕ) (report : Report) → is_value report ≡ false → final_of n (of k report) ≡ hit k n
 final_hit n k report h = ap (λ b. cond b 0 (hit k n)) h
 
 -- what runs is over, with a last report of its number, or with none
-module _ (s : Own) (x : Option Exchange) (sound : Sound s) (none : x ≡ None) (op : Operation) (is : s.running ≡ Some op) where
-  pub ends_goes : (k : ℕ) (report : Report) → ((n : ℕ) → in_op n op ≡ hit k n) → is_value report ≡ false → Goes s x (ends (of k report) s)
+module _ (s : Own) (x : Option Exchange) (sound : Sound s) (none : x ≡ None) (op : Operation)
+    (is : s.running ≡ Some op) where
+  pub ends_goes : (k : ℕ) (report : Report) → ((n : ℕ) → in_op n op ≡ hit k n) → is_value report ≡ false
+      → Goes s x (ends (of k report) s)
   ends_goes k report place last = record {
-    conserved = λ n. let a = final_hit n k report last in let b = place n in let c = ap (in_running n) is in omega (arith, a, b, c);
+    conserved = λ n. let a = final_hit n k report last in let b = place n in let c =
+        ap (in_running n) is in omega (arith, a, b, c);
     waits = sound.waits;
     runs_on = tt;
     taken_is = refl;
-    source = λ r h. let e = of_number k report r h in let b = place k in let c = ap (in_running k) is in let d = hit_self k in subst (λ n. 1 ≤ places n s) (sym e) (omega (arith, b, c, d));
+    source = λ r h. let e = of_number k report r h in let b = place k in let c = ap (in_running k) is in let d =
+        hit_self k in subst (λ n. 1 ≤ places n s) (sym e) (omega (arith, b, c, d));
     asks = λ o h. absurd (cc h);
     leaves = none;
   }
@@ -264,15 +294,25 @@ module _ (s : Own) (x : Option Exchange) (sound : Sound s) (none : x ≡ None) (
   }
 
 -- an upload may hold back others
-pub held_goes : (s : Own) (x : Option Exchange) (c : Bool) (v : Option ℕ) → Sound s → x ≡ None → (op : Operation) → s.running ≡ Some op → (k : ℕ) (report : Report) → ((n : ℕ) → in_op n op ≡ hit k n) → is_value report ≡ false
+pub held_goes : (s : Own) (x : Option Exchange) (c : Bool) (v : Option ℕ) → Sound s → x ≡ None → (op : Operation)
+    → s.running ≡ Some op → (k : ℕ) (report : Report) → ((n : ℕ) → in_op n op ≡ hit k n) → is_value report ≡ false
     → Goes s x (ends (of k report) (cond c (record s { hold = v }) s))
 held_goes s x true v sound none op is k report place last =
     let g = ends_goes s x sound none op is k report place last in
-    record { conserved = g.conserved; waits = g.waits; runs_on = g.runs_on; taken_is = g.taken_is; source = g.source; asks = g.asks; leaves = g.leaves }
+    record {
+      conserved = g.conserved;
+      waits = g.waits;
+      runs_on = g.runs_on;
+      taken_is = g.taken_is;
+      source = g.source;
+      asks = g.asks;
+      leaves = g.leaves;
+    }
 held_goes s x false v sound none op is k report place last = ends_goes s x sound none op is k report place last
 
 -- the next request of what runs
-pub again_goes : (s : Own) (x : Option Exchange) → Sound s → x ≡ None → (op next : Operation) → s.running ≡ Some op → ((n : ℕ) → in_op n next ≡ in_op n op) → RunsOn s.observations next → Goes s x (runs next s)
+pub again_goes : (s : Own) (x : Option Exchange) → Sound s → x ≡ None → (op next : Operation) → s.running ≡ Some op
+    → ((n : ℕ) → in_op n next ≡ in_op n op) → RunsOn s.observations next → Goes s x (runs next s)
 again_goes s x sound none op next is place live = record {
   conserved = λ n. let b = place n in let c = ap (in_running n) is in omega (arith, b, c);
   waits = sound.waits;
@@ -284,7 +324,8 @@ again_goes s x sound none op next is place live = record {
 }
 
 -- an observation is over
-releases_goes : (o : Option Observation) (e : Effect) (x : Option Exchange) → Linked e.own.running e.own.observations x → Leaves (releases o) e x
+releases_goes : (o : Option Observation) (e : Effect) (x : Option Exchange) → Linked e.own.running e.own.observations x
+    → Leaves (releases o) e x
 releases_goes None e x h = h
 releases_goes (Some o) e x h = h
 
@@ -292,7 +333,9 @@ releases_none : (o : Option Observation) (op : Operation) → releases o ≡ Ask
 releases_none None op h = cc h
 releases_none (Some o) op h = cc h
 
-pub over_goes : (s : Own) (x : Option Exchange) → Sound s → Linked s.running s.observations x → (k : ℕ) (report : Report) → 1 ≤ in_observations k s.observations → NoCancel k s.running → is_value report ≡ false → Goes s x (is_over k report s)
+pub over_goes : (s : Own) (x : Option Exchange) → Sound s → Linked s.running s.observations x
+    → (k : ℕ) (report : Report) → 1 ≤ in_observations k s.observations → NoCancel k s.running → is_value report ≡ false
+    → Goes s x (is_over k report s)
 over_goes s x sound l k report there apart last = record {
   conserved = λ n.
       let m = sound.at_most k in
@@ -307,15 +350,21 @@ over_goes s x sound l k report there apart last = record {
   taken_is = refl;
   source = λ r h. let e = of_number k report r h in subst (λ n. 1 ≤ places n s) (sym e) (omega (arith, there));
   asks = λ op h. absurd (releases_none (observation_of k s.observations) op h);
-  leaves = releases_goes (observation_of k s.observations) (is_over k report s) x (linked_without k s.observations s.running x apart l);
+  leaves = releases_goes (observation_of k s.observations) (is_over k report s) x
+      (linked_without k s.observations s.running x apart l);
 }
 
-pub cancel_goes : (s : Own) (x : Option Exchange) → Sound s → x ≡ None → (k : ℕ) → s.running ≡ Some (Cancelling k) → (report : Report) → is_value report ≡ false → Goes s x (cancel_over k report s)
+pub cancel_goes : (s : Own) (x : Option Exchange) → Sound s → x ≡ None → (k : ℕ) → s.running ≡ Some (Cancelling k)
+    → (report : Report) → is_value report ≡ false → Goes s x (cancel_over k report s)
 cancel_goes s x sound none k is report last =
     let t : Own = record s { running = None } in
     let live : 1 ≤ in_observations k s.observations = subst (IfRuns s.observations) is sound.runs_on in
     let same : (n : ℕ) → places n t ≡ places n s = λ n. (let c = ap (in_running n) is in omega (arith, c)) in
-    let g = over_goes t x (record { at_most = λ n. (let m = sound.at_most n in let e = same n in omega (arith, m, e)); waits = sound.waits; runs_on = tt }) none k report live (λ j h. absurd (cc h)) last in
+    let g = over_goes t x (record {
+      at_most = λ n. (let m = sound.at_most n in let e = same n in omega (arith, m, e));
+      waits = sound.waits;
+      runs_on = tt;
+    }) none k report live (λ j h. absurd (cc h)) last in
     record {
       conserved = λ n. g.conserved n ∙ same n;
       waits = g.waits;
@@ -330,20 +379,25 @@ cancel_goes s x sound none k is report last =
 abbrev rest_in : ℕ → Option Notified → Observation → Observation
 rest_in k r o = cond (o.number == k) (record o { rest = r }) o
 
-rest_number : (k : ℕ) (r : Option Notified) (o : Observation) → (cond (o.number == k) (record o { rest = r }) o).number ≡ o.number
+rest_number : (k : ℕ) (r : Option Notified) (o : Observation)
+    → (cond (o.number == k) (record o { rest = r }) o).number ≡ o.number
 rest_number k r o = number_if (o.number == k) o (record o { rest = r }) refl
 
-rested : (s : Own) (k : ℕ) (r : Option Notified) → Sound s → Sound (record s { observations = with_rest k r s.observations })
+rested : (s : Own) (k : ℕ) (r : Option Notified) → Sound s
+    → Sound (record s { observations = with_rest k r s.observations })
 rested s k r sound = record {
-  at_most = λ n. let m = sound.at_most n in let e = in_map n (rest_in k r) (rest_number k r) s.observations in omega (arith, m, e);
+  at_most = λ n. let m = sound.at_most n in let e =
+      in_map n (rest_in k r) (rest_number k r) s.observations in omega (arith, m, e);
   waits = wait_map (rest_in k r) (rest_number k r) s.observations s.queue sound.waits;
   runs_on = runs_map (rest_in k r) (rest_number k r) s.observations s.running sound.runs_on;
 }
 
 -- from there, as from here
-rested_goes : (s : Own) (x : Option Exchange) (k : ℕ) (r : Option Notified) (e : Effect) → Goes (record s { observations = with_rest k r s.observations }) x e → Goes s x e
+rested_goes : (s : Own) (x : Option Exchange) (k : ℕ) (r : Option Notified) (e : Effect)
+    → Goes (record s { observations = with_rest k r s.observations }) x e → Goes s x e
 rested_goes s x k r e g =
-    let same : (n : ℕ) → places n (record s { observations = with_rest k r s.observations }) ≡ places n s = λ n. (let z = in_map n (rest_in k r) (rest_number k r) s.observations in omega (arith, z)) in
+    let same : (n : ℕ) → places n (record s { observations = with_rest k r s.observations })
+    ≡ places n s = λ n. (let z = in_map n (rest_in k r) (rest_number k r) s.observations in omega (arith, z)) in
     record {
       conserved = λ n. g.conserved n ∙ same n;
       waits = g.waits;
@@ -354,29 +408,40 @@ rested_goes s x k r e g =
       leaves = g.leaves;
     }
 
-pub fetch_over_goes : (s : Own) (x : Option Exchange) → Sound s → x ≡ None → (k : ℕ) → s.running ≡ Some (Fetching k) → (report : Option Reported) → ((n : ℕ) → final_of n report ≡ 0) → ((r : Reported) → report ≡ Some r → r.number ≡ k)
+pub fetch_over_goes : (s : Own) (x : Option Exchange) → Sound s → x ≡ None → (k : ℕ) → s.running ≡ Some (Fetching k)
+    → (report : Option Reported) → ((n : ℕ) → final_of n report ≡ 0) → ((r : Reported) → report ≡ Some r → r.number ≡ k)
     → Goes s x (fetch_over k report s)
 fetch_over_goes s x sound none k is report quiet same =
     let t = rested s k None sound in
     record {
-      conserved = λ n. let a = quiet n in let c = ap (in_running n) is in let z = in_map n (rest_in k None) (rest_number k None) s.observations in omega (arith, a, c, z);
+      conserved = λ n. let a = quiet n in let c = ap (in_running n) is in let z =
+          in_map n (rest_in k None) (rest_number k None) s.observations in omega (arith, a, c, z);
       waits = t.waits;
       runs_on = tt;
       taken_is = refl;
-      source = λ r h. let live : 1 ≤ in_observations k s.observations = subst (IfRuns s.observations) is sound.runs_on in subst (λ n. 1 ≤ places n s) (sym (same r h)) (omega (arith, live));
+      source = λ r h. let live : 1 ≤ in_observations k s.observations =
+          subst (IfRuns s.observations) is sound.runs_on in subst (λ n. 1 ≤ places n s) (sym (same r h))
+          (omega (arith, live));
       asks = λ op h. absurd (cc h);
       leaves = none;
     }
 
-fetch_by_goes : (s : Own) (x : Option Exchange) → Sound s → x ≡ None → (k : ℕ) → s.running ≡ Some (Fetching k) → (n : Notified) (m : Message) (v : Verdict) → Goes s x (fetch_by k n s m v)
+fetch_by_goes : (s : Own) (x : Option Exchange) → Sound s → x ≡ None → (k : ℕ) → s.running ≡ Some (Fetching k)
+    → (n : Notified) (m : Message) (v : Verdict) → Goes s x (fetch_by k n s m v)
 fetch_by_goes s x sound none k is n m (verdict.Ask num szx) =
     let next = rest n.sequence n.fetch m (verdict.Ask num szx) in
     let t = rested s k next sound in
-    rested_goes s x k next _ (again_goes (record s { observations = with_rest k next s.observations }) x t none (Fetching k) (Fetching k) is (λ i. refl) (subst (IfRuns (with_rest k next s.observations)) is t.runs_on))
-fetch_by_goes s x sound none k is n m verdict.Done = fetch_over_goes s x sound none k is _ (λ i. value_quiet i k n.sequence n.fetch m verdict.Done) (value_of_number k n.sequence n.fetch m verdict.Done)
-fetch_by_goes s x sound none k is n m verdict.Again = fetch_over_goes s x sound none k is _ (λ i. refl) (λ r h. absurd (cc h))
-fetch_by_goes s x sound none k is n m (verdict.Refuse why) = fetch_over_goes s x sound none k is _ (λ i. refl) (λ r h. absurd (cc h))
+    rested_goes s x k next _ (again_goes (record s { observations = with_rest k next s.observations }) x t none
+    (Fetching k) (Fetching k) is (λ i. refl) (subst (IfRuns (with_rest k next s.observations)) is t.runs_on))
+fetch_by_goes s x sound none k is n m verdict.Done =
+    fetch_over_goes s x sound none k is _ (λ i. value_quiet i k n.sequence n.fetch m verdict.Done)
+    (value_of_number k n.sequence n.fetch m verdict.Done)
+fetch_by_goes s x sound none k is n m verdict.Again =
+    fetch_over_goes s x sound none k is _ (λ i. refl) (λ r h. absurd (cc h))
+fetch_by_goes s x sound none k is n m (verdict.Refuse why) =
+    fetch_over_goes s x sound none k is _ (λ i. refl) (λ r h. absurd (cc h))
 
-pub fetch_goes : (s : Own) (x : Option Exchange) → Sound s → x ≡ None → (k : ℕ) → s.running ≡ Some (Fetching k) → (o : Option Notified) (m : Message) → Goes s x (fetch_answered k o s m)
+pub fetch_goes : (s : Own) (x : Option Exchange) → Sound s → x ≡ None → (k : ℕ) → s.running ≡ Some (Fetching k)
+    → (o : Option Notified) (m : Message) → Goes s x (fetch_answered k o s m)
 fetch_goes s x sound none k is None m = ends_quietly s x sound none (Fetching k) is (λ n. refl)
 fetch_goes s x sound none k is (Some n) m = fetch_by_goes s x sound none k is n m _

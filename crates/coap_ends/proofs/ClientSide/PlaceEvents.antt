@@ -107,24 +107,35 @@ fetched_last f m (verdict.Ask num szx) = tt
 
 continued_last : (u : UploadState) (b : Option Block) → LastOnly (calls.continued u b)
 continued_last u None = refl
-continued_last u (Some b) = last_if (continues u b) (calls.Asks (Uploads (moved u b))) (calls.Ends false R.BadBlock) tt refl
+continued_last u (Some b) = last_if (continues u b) (calls.Asks (Uploads (moved u b)))
+    (calls.Ends false R.BadBlock) tt refl
 
 pub answer_last : (r : Request) (t : Transfer) (m : Message) → LastOnly (answer r t m)
 answer_last r (Fetches f) m =
-    last_if (m.code == content) (calls.fetched f m (part f m)) (cond ((m.code == T.valid) && calls.has_tags r.etags) (calls.Ends true (R.Valid (T.tag_in m))) (calls.Ends true (R.Failed m.code))) (fetched_last f m (part f m))
-    (last_if ((m.code == T.valid) && calls.has_tags r.etags) (calls.Ends true (R.Valid (T.tag_in m))) (calls.Ends true (R.Failed m.code)) refl refl)
+    last_if (m.code == content) (calls.fetched f m (part f m))
+    (cond ((m.code == T.valid) && calls.has_tags r.etags) (calls.Ends true (R.Valid (T.tag_in m)))
+    (calls.Ends true (R.Failed m.code))) (fetched_last f m (part f m))
+    (last_if ((m.code == T.valid) && calls.has_tags r.etags) (calls.Ends true (R.Valid (T.tag_in m)))
+    (calls.Ends true (R.Failed m.code)) refl refl)
 answer_last r (Uploads u) m =
-    last_if ((m.code == continue) && is_longer u) (calls.continued u (block_at block1 m)) (cond (more_follows u && calls.is_below_errors m.code) (calls.Ends true R.BadBlock) (calls.Ends true (reports_of.done r.method m.code))) (continued_last u (block_at block1 m))
-    (last_if (more_follows u && calls.is_below_errors m.code) (calls.Ends true R.BadBlock) (calls.Ends true (reports_of.done r.method m.code)) refl (done_last r.method m.code))
+    last_if ((m.code == continue) && is_longer u) (calls.continued u (block_at block1 m))
+    (cond (more_follows u && calls.is_below_errors m.code) (calls.Ends true R.BadBlock)
+    (calls.Ends true (reports_of.done r.method m.code))) (continued_last u (block_at block1 m))
+    (last_if (more_follows u && calls.is_below_errors m.code) (calls.Ends true R.BadBlock)
+    (calls.Ends true (reports_of.done r.method m.code)) refl (done_last r.method m.code))
 answer_last r Single m = done_last r.method m.code
 
 -- an answer
 
-called_goes : (s : Own) (x : Option Exchange) → Sound s → x ≡ None → (k : ℕ) (r : Request) (t : Transfer) → s.running ≡ Some (Calling k r t) → (next : Next) → LastOnly next → Goes s x (called k r t s next)
-called_goes s x sound none k r t is (calls.Asks next) last = again_goes s x sound none (Calling k r t) (Calling k r next) is (λ n. refl) tt
-called_goes s x sound none k r t is (calls.Ends final report) last = held_goes s x (not final && is_upload t) (Some s.sent) sound none (Calling k r t) is k report (λ n. refl) last
+called_goes : (s : Own) (x : Option Exchange) → Sound s → x ≡ None → (k : ℕ) (r : Request) (t : Transfer)
+    → s.running ≡ Some (Calling k r t) → (next : Next) → LastOnly next → Goes s x (called k r t s next)
+called_goes s x sound none k r t is (calls.Asks next) last =
+    again_goes s x sound none (Calling k r t) (Calling k r next) is (λ n. refl) tt
+called_goes s x sound none k r t is (calls.Ends final report) last =
+    held_goes s x (not final && is_upload t) (Some s.sent) sound none (Calling k r t) is k report (λ n. refl) last
 
-registered_goes : (s : Own) (x : Option Exchange) → Sound s → x ≡ None → (k : ℕ) (path : List (List ℕ)) → s.running ≡ Some (Registering k path) → (at : ℕ) (m : Message) → Goes s x (registered k path s at m)
+registered_goes : (s : Own) (x : Option Exchange) → Sound s → x ≡ None → (k : ℕ) (path : List (List ℕ))
+    → s.running ≡ Some (Registering k path) → (at : ℕ) (m : Message) → Goes s x (registered k path s at m)
 registered_goes s x sound none k path is at m = by (is_notification m)
   where
     by : (b : Bool)
@@ -155,25 +166,33 @@ registered_goes s x sound none k path is at m = by (is_notification m)
 linked_none : (s : Own) (x : Option Exchange) → s.running ≡ None → x ≡ None → Linked s.running s.observations x
 linked_none s x is none = subst (λ r. Linked r s.observations x) (sym is) none
 
-pub answered_goes : (s : Own) (x : Option Exchange) → Sound s → x ≡ None → (at : ℕ) (m : Message) (running : Option Operation) → s.running ≡ running → Goes s x (answered s at m running)
+pub answered_goes : (s : Own) (x : Option Exchange) → Sound s → x ≡ None
+    → (at : ℕ) (m : Message) (running : Option Operation) → s.running ≡ running → Goes s x (answered s at m running)
 answered_goes s x sound none at m None is = stays_goes s x sound (linked_none s x is none)
-answered_goes s x sound none at m (Some (Calling k r t)) is = called_goes s x sound none k r t is (answer r t m) (answer_last r t m)
+answered_goes s x sound none at m (Some (Calling k r t)) is =
+    called_goes s x sound none k r t is (answer r t m) (answer_last r t m)
 answered_goes s x sound none at m (Some (Registering k path)) is = registered_goes s x sound none k path is at m
 answered_goes s x sound none at m (Some (Fetching k)) is = fetch_goes s x sound none k is (rest_of k s.observations) m
 answered_goes s x sound none at m (Some (Cancelling k)) is = cancel_goes s x sound none k is Cancelled refl
 answered_goes s x sound none at m (Some Dropped) is = ends_quietly s x sound none Dropped is (λ n. refl)
 
 -- a failure
-pub failed_goes : (s : Own) (x : Option Exchange) → Sound s → x ≡ None → (u : Transfer → Bool) (report : Report) → is_value report ≡ false → (running : Option Operation) → s.running ≡ running → Goes s x (failed u report s running)
+pub failed_goes : (s : Own) (x : Option Exchange) → Sound s → x ≡ None → (u : Transfer → Bool) (report : Report)
+    → is_value report ≡ false → (running : Option Operation) → s.running ≡ running
+    → Goes s x (failed u report s running)
 failed_goes s x sound none u report last None is = stays_goes s x sound (linked_none s x is none)
-failed_goes s x sound none u report last (Some (Calling k r t)) is = held_goes s x (u t && is_upload t) (Some s.sent) sound none (Calling k r t) is k report (λ n. refl) last
-failed_goes s x sound none u report last (Some (Registering k path)) is = ends_goes s x sound none (Registering k path) is k report (λ n. refl) last
-failed_goes s x sound none u report last (Some (Fetching k)) is = fetch_over_goes s x sound none k is None (λ n. refl) (λ r h. absurd (cc h))
+failed_goes s x sound none u report last (Some (Calling k r t)) is =
+    held_goes s x (u t && is_upload t) (Some s.sent) sound none (Calling k r t) is k report (λ n. refl) last
+failed_goes s x sound none u report last (Some (Registering k path)) is =
+    ends_goes s x sound none (Registering k path) is k report (λ n. refl) last
+failed_goes s x sound none u report last (Some (Fetching k)) is =
+    fetch_over_goes s x sound none k is None (λ n. refl) (λ r h. absurd (cc h))
 failed_goes s x sound none u report last (Some (Cancelling k)) is = cancel_goes s x sound none k is report last
 failed_goes s x sound none u report last (Some Dropped) is = ends_quietly s x sound none Dropped is (λ n. refl)
 
 -- a notification
-module _ (s : Own) (x : Option Exchange) (sound : Sound s) (l : Linked s.running s.observations x) (at : ℕ) (m : Message) (aside : has_token x m.token ≡ false) where
+module _ (s : Own) (x : Option Exchange) (sound : Sound s) (l : Linked s.running s.observations x) (at : ℕ)
+    (m : Message) (aside : has_token x m.token ≡ false) where
   -- no cancel of its observation runs: that has its token
   pub apart_of : (o : Observation) → observation_with m.token s.observations ≡ Some o → NoCancel o.number s.running
   apart_of o found j is = by (j == o.number) refl
@@ -182,24 +201,32 @@ module _ (s : Own) (x : Option Exchange) (sound : Sound s) (l : Linked s.running
       by false e = refl
       by true e =
           let k : Linked (Some (Cancelling j)) s.observations x = subst (λ r. Linked r s.observations x) is l in
-          let most : in_observations o.number s.observations ≤ 1 = (let a = sound.at_most o.number in omega (arith, a)) in
+          let most : in_observations o.number s.observations ≤ 1 =
+          (let a = sound.at_most o.number in omega (arith, a)) in
           let there = number_of_found m.token s.observations o found most in
-          let mine : token_of o.number s.observations ≡ Some o.token = ap (option_map (λ (y : Observation). y.token)) there in
-          let its : token_of o.number s.observations ≡ Some k.0.token = subst (λ i. token_of i s.observations ≡ Some k.0.token) (same_number j o.number e) k.2 in
+          let mine : token_of o.number s.observations
+          ≡ Some o.token = ap (option_map (λ (y : Observation). y.token)) there in
+          let its : token_of o.number s.observations
+          ≡ Some k.0.token = subst (λ i. token_of i s.observations ≡ Some k.0.token)
+          (same_number j o.number e) k.2 in
           let same : k.0.token ≡ o.token = cc (mine, its) in
           let token : m.token ≡ k.0.token = (found_by_token m.token s.observations o found).0 ∙ sym same in
-          let has : has_token x m.token ≡ true = ap (λ y. has_token y m.token) k.1 ∙ (ap (λ t. same_token t k.0.token) token ∙ same_token_self k.0.token) in
+          let has : has_token x m.token ≡ true = ap (λ y. has_token y m.token) k.1
+          ∙ (ap (λ t. same_token t k.0.token) token ∙ same_token_self k.0.token) in
           absurd (cc (aside, has))
 
   module _ (o : Observation) (found : observation_with m.token s.observations ≡ Some o) where
     abbrev renewing : Observation → Observation
-    renewing p = cond (p.number == o.number) (record p { watch = arrived p.watch (sequence_in m) at true; rest = first_rest s.szx m }) p
+    renewing p = cond (p.number == o.number) (record p
+        { watch = arrived p.watch (sequence_in m) at true; rest = first_rest s.szx m }) p
 
     renewing_number : (p : Observation) → (renewing p).number ≡ p.number
-    renewing_number p = number_if (p.number == o.number) p (record p { watch = arrived p.watch (sequence_in m) at true; rest = first_rest s.szx m }) refl
+    renewing_number p = number_if (p.number == o.number) p
+        (record p { watch = arrived p.watch (sequence_in m) at true; rest = first_rest s.szx m }) refl
 
     renewing_token : (p : Observation) → (renewing p).token ≡ p.token
-    renewing_token p = token_if (p.number == o.number) p (record p { watch = arrived p.watch (sequence_in m) at true; rest = first_rest s.szx m }) refl
+    renewing_token p = token_if (p.number == o.number) p
+        (record p { watch = arrived p.watch (sequence_in m) at true; rest = first_rest s.szx m }) refl
 
     renewed_goes : Goes s x (renewed o s at m)
     renewed_goes = record {
@@ -209,24 +236,28 @@ module _ (s : Own) (x : Option Exchange) (sound : Sound s) (l : Linked s.running
           let c = in_dropped n o.number s.running in
           omega (arith, a, b, c);
       waits = wait_map renewing renewing_number s.observations s.queue sound.waits;
-      runs_on = runs_map renewing renewing_number s.observations (dropped o.number s.running) (runs_dropped o.number s.observations s.running sound.runs_on);
+      runs_on = runs_map renewing renewing_number s.observations (dropped o.number s.running)
+          (runs_dropped o.number s.observations s.running sound.runs_on);
       taken_is = refl;
       source = λ r h.
           let e = value_of_number o.number (sequence_in m) (F.start s.szx 0) m (part (F.start s.szx 0) m) r h in
           let there = (found_by_token m.token s.observations o found).1 in
           subst (λ n. 1 ≤ places n s) (sym e) (omega (arith, there));
       asks = λ op h. absurd (cc h);
-      leaves = linked_map renewing renewing_number renewing_token s.observations (dropped o.number s.running) x (linked_dropped o.number s.observations s.running x l);
+      leaves = linked_map renewing renewing_number renewing_token s.observations (dropped o.number s.running) x
+          (linked_dropped o.number s.observations s.running x l);
     }
 
     abbrev passing : Observation → Observation
     passing p = cond (p.number == o.number) (record p { watch = arrived p.watch (sequence_in m) at false }) p
 
     passing_number : (p : Observation) → (passing p).number ≡ p.number
-    passing_number p = number_if (p.number == o.number) p (record p { watch = arrived p.watch (sequence_in m) at false }) refl
+    passing_number p = number_if (p.number == o.number) p
+        (record p { watch = arrived p.watch (sequence_in m) at false }) refl
 
     passing_token : (p : Observation) → (passing p).token ≡ p.token
-    passing_token p = token_if (p.number == o.number) p (record p { watch = arrived p.watch (sequence_in m) at false }) refl
+    passing_token p = token_if (p.number == o.number) p
+        (record p { watch = arrived p.watch (sequence_in m) at false }) refl
 
     passed_goes : Goes s x (stays (passed o s at m))
     passed_goes = record {
@@ -242,8 +273,10 @@ module _ (s : Own) (x : Option Exchange) (sound : Sound s) (l : Linked s.running
     noticed_some : Goes s x (noticed_by (Some o) s at m)
     noticed_some = by (not (is_notification m)) (is_newer o.watch.mark (sequence_in m) at)
       where
-        by : (b c : Bool) → Goes s x (cond b (is_over o.number (Ended m.code) s) (cond c (renewed o s at m) (stays (passed o s at m))))
-        by true c = over_goes s x sound l o.number (Ended m.code) (found_by_token m.token s.observations o found).1 (apart_of o found) refl
+        by : (b c : Bool) → Goes s x (cond b (is_over o.number (Ended m.code) s)
+            (cond c (renewed o s at m) (stays (passed o s at m))))
+        by true c = over_goes s x sound l o.number (Ended m.code) (found_by_token m.token s.observations o found).1
+            (apart_of o found) refl
         by false true = renewed_goes
         by false false = passed_goes
 
@@ -252,12 +285,17 @@ module _ (s : Own) (x : Option Exchange) (sound : Sound s) (l : Linked s.running
   noticed_goes (Some o) found = noticed_some o found
 
 -- an event
-pub happened_goes : (s : Own) (before now : Option Exchange) → Sound s → Linked s.running s.observations before → (at : ℕ) (e : Option Event) → Came before now e → Goes s now (happened s at e)
-happened_goes s before now sound l at None came = stays_goes s now sound (linked_same s.observations s.running before now came l)
-happened_goes s before now sound l at (Some (event.Answer m)) came = answered_goes s now sound came.3 at m s.running refl
+pub happened_goes : (s : Own) (before now : Option Exchange) → Sound s → Linked s.running s.observations before
+    → (at : ℕ) (e : Option Event) → Came before now e → Goes s now (happened s at e)
+happened_goes s before now sound l at None came =
+    stays_goes s now sound (linked_same s.observations s.running before now came l)
+happened_goes s before now sound l at (Some (event.Answer m)) came =
+    answered_goes s now sound came.3 at m s.running refl
 happened_goes s before now sound l at (Some (event.Notice m)) came =
-    subst (λ x. Goes s x (noticed s at m)) (sym came.1) (noticed_goes s before sound l at m came.0 (observation_with m.token s.observations) refl)
-happened_goes s before now sound l at (Some event.Reset) came = failed_goes s now sound came.2 (λ t. true) _ refl s.running refl
+    subst (λ x. Goes s x (noticed s at m)) (sym came.1)
+    (noticed_goes s before sound l at m came.0 (observation_with m.token s.observations) refl)
+happened_goes s before now sound l at (Some event.Reset) came =
+    failed_goes s now sound came.2 (λ t. true) _ refl s.running refl
 happened_goes s before now sound l at (Some event.Timeout) came = absurd came
 happened_goes s before now sound l at (Some event.NoResponse) came = absurd came
 
@@ -267,7 +305,8 @@ to_fetch_there : (os : List Observation) (k : ℕ) → to_fetch os ≡ Some k �
 to_fetch_there [] k h = absurd (cc h)
 to_fetch_there (o ∷ os) k h = by (to_fetch_there os k) (is_some o.rest) h
   where
-    by : (to_fetch os ≡ Some k → 1 ≤ in_observations k os) → (b : Bool) → cond b (Some o.number) (to_fetch os) ≡ Some k → 1 ≤ hit o.number k + in_observations k os
+    by : (to_fetch os ≡ Some k → 1 ≤ in_observations k os) → (b : Bool) → cond b (Some o.number) (to_fetch os) ≡ Some k
+        → 1 ≤ hit o.number k + in_observations k os
     by f true e = let same : o.number ≡ k = cc e in let z = ap (λ n. hit n k) same ∙ hit_self k in omega (arith, z)
     by f false e = let ih = f e in omega (arith, ih)
 
@@ -312,19 +351,32 @@ module _ (s : Own) (x : Option Exchange) (sound : Sound s) (none : x ≡ None) (
   idle_goes None is = starts_goes s.queue refl
   idle_goes (Some k) is = fetch_starts k is
 
-turn_idle : (s : Own) (x : Option Exchange) → Sound s → Linked s.running s.observations x → (at : ℕ) (running : Option Operation) → s.running ≡ running → Goes s x (idle s at running (to_fetch s.observations))
-turn_idle s x sound l at None is = idle_goes s x sound (subst (λ r. Linked r s.observations x) is l) is at (to_fetch s.observations) refl
+turn_idle : (s : Own) (x : Option Exchange) → Sound s → Linked s.running s.observations x
+    → (at : ℕ) (running : Option Operation) → s.running ≡ running
+    → Goes s x (idle s at running (to_fetch s.observations))
+turn_idle s x sound l at None is = idle_goes s x sound (subst (λ r. Linked r s.observations x) is l) is at
+    (to_fetch s.observations) refl
 turn_idle s x sound l at (Some op) is = idle_stays (to_fetch s.observations)
   where
     idle_stays : (number : Option ℕ) → Goes s x (idle s at (Some op) number)
     idle_stays number = stays_goes s x sound l
 
-pub passes_goes : (s : Own) (before : Option Exchange) → Sound s → Linked s.running s.observations before → (at : ℕ) (t : Turn) → Goes s (running_unless t before) (passes s at t)
+pub passes_goes : (s : Own) (before : Option Exchange) → Sound s → Linked s.running s.observations before
+    → (at : ℕ) (t : Turn) → Goes s (running_unless t before) (passes s at t)
 passes_goes s before sound l at turn.Idle = turn_idle s before sound l at s.running refl
 passes_goes s before sound l at turn.Copied =
     let g = stays_goes s before sound l in
-    record { conserved = g.conserved; waits = g.waits; runs_on = g.runs_on; taken_is = g.taken_is; source = g.source; asks = g.asks; leaves = g.leaves }
-passes_goes s before sound l at (turn.End e) = failed_goes s None sound refl (λ t. true) (lapse e) (lapse_last e) s.running refl
+    record {
+      conserved = g.conserved;
+      waits = g.waits;
+      runs_on = g.runs_on;
+      taken_is = g.taken_is;
+      source = g.source;
+      asks = g.asks;
+      leaves = g.leaves;
+    }
+passes_goes s before sound l at (turn.End e) =
+    failed_goes s None sound refl (λ t. true) (lapse e) (lapse_last e) s.running refl
 
 -- the exchanges, call by call
 
@@ -344,9 +396,13 @@ pub are_right_back : (x : E.Own) (later first : List E.Call) → AreRight x (lat
 are_right_back x [] first h = h
 are_right_back x (c ∷ later) first h = are_right_back x later first h.1
 
-pub are_right_front : (x : E.Own) (later first : List E.Call) → AreRight x (later ++ first) → AreRight (ran x first) later
+pub are_right_front : (x : E.Own) (later first : List E.Call) → AreRight x (later ++ first)
+    → AreRight (ran x first) later
 are_right_front x [] first h = tt
-are_right_front x (c ∷ later) first h = (subst (λ y. P.IsRight y c) (ran_append x later first) h.0, are_right_front x later first h.1)
+are_right_front x (c ∷ later) first h = (
+  subst (λ y. P.IsRight y c) (ran_append x later first) h.0,
+  are_right_front x later first h.1,
+)
 
 -- what the sending makes of an effect
 pub record Closes (s : Own) (c : Effect) (x : Option Exchange) : Type 0 where
@@ -357,7 +413,8 @@ pub record Closes (s : Own) (c : Effect) (x : Option Exchange) : Type 0 where
   pub source : (r : Reported) → c.report ≡ Some r → 1 ≤ places r.number s
   pub linked : Linked c.own.running c.own.observations x
 
-not_asks : (u : Transfer → Bool) (report : Report) (s : Own) (running : Option Operation) (op : Operation) → (failed u report s running).deed ≡ Asks op → ⊥
+not_asks : (u : Transfer → Bool) (report : Report) (s : Own) (running : Option Operation) (op : Operation)
+    → (failed u report s running).deed ≡ Asks op → ⊥
 not_asks u report s None op h = cc h
 not_asks u report s (Some (Calling k r t)) op h = cc h
 not_asks u report s (Some (Registering k path)) op h = cc h
@@ -369,26 +426,38 @@ not_asks u report s (Some (Cancelling k)) op h = by (observation_of k s.observat
     by None h = cc h
     by (Some o) h = cc h
 
-pub linked_of : (d : Deed) (e : Effect) (x : Option Exchange) → ((op : Operation) → d ≡ Asks op → ⊥) → Leaves d e x → Linked e.own.running e.own.observations x
+pub linked_of : (d : Deed) (e : Effect) (x : Option Exchange) → ((op : Operation) → d ≡ Asks op → ⊥) → Leaves d e x
+    → Linked e.own.running e.own.observations x
 linked_of Rests e x f h = h
 linked_of (Keeps t) e x f h = h
 linked_of (Releases t) e x f h = h
 linked_of (Asks op) e x f h = absurd (f op refl)
 
 -- a deed that asks nothing leaves the exchange
-pub quiet_deeds : (at word : ℕ) (sent : L.Answer) (kept : Bool) (token : Result (List ℕ) AskRefusal) (d : Deed) (o : Own) (y : E.Own) → ((op : Operation) → d ≡ Asks op → ⊥) → (ran y (deeds d o at word sent token kept)).running ≡ y.running
+pub quiet_deeds : (at word : ℕ) (sent : L.Answer) (kept : Bool) (token : Result (List ℕ) AskRefusal) (d : Deed)
+    (o : Own) (y : E.Own) → ((op : Operation) → d ≡ Asks op → ⊥)
+    → (ran y (deeds d o at word sent token kept)).running ≡ y.running
 quiet_deeds at word sent kept token Rests o y f = refl
 quiet_deeds at word sent kept token (Keeps t) o y f = refl
 quiet_deeds at word sent kept token (Releases t) o y f = refl
 quiet_deeds at word sent kept token (Asks op) o y f = absurd (f op refl)
 
-module _ (s : Own) (e : Effect) (x : E.Own) (sound : Sound s) (g : Goes s x.running e) (at word : ℕ) (sent : L.Answer) (kept : Bool) where
+module _ (s : Own) (e : Effect) (x : E.Own) (sound : Sound s) (g : Goes s x.running e) (at word : ℕ) (sent : L.Answer)
+    (kept : Bool) where
   plainly : (y : Option Exchange) → Linked e.own.running e.own.observations y → Closes s e y
-  plainly y l = record { conserved = g.conserved; waits = g.waits; runs_on = g.runs_on; taken_is = g.taken_is; source = g.source; linked = l }
+  plainly y l = record {
+    conserved = g.conserved;
+    waits = g.waits;
+    runs_on = g.runs_on;
+    taken_is = g.taken_is;
+    source = g.source;
+    linked = l;
+  }
 
   effect_sound : (op : Operation) → e.deed ≡ Asks op → Sound e.own
   effect_sound op is = record {
-    at_most = λ n. let a = g.conserved n in let b = ap (final_of n) (g.asks op is).0 in let c = sound.at_most n in omega (arith, a, b, c);
+    at_most = λ n. let a = g.conserved n in let b = ap (final_of n) (g.asks op is).0 in let c =
+        sound.at_most n in omega (arith, a, b, c);
     waits = g.waits;
     runs_on = g.runs_on;
   }
@@ -397,19 +466,28 @@ module _ (s : Own) (e : Effect) (x : E.Own) (sound : Sound s) (g : Goes s x.runn
   same_places op is n = let a = g.conserved n in let b = ap (final_of n) (g.asks op is).0 in omega (arith, a, b)
 
   -- the token that is sent is that of the observation, where it is cancelled
-  has_its : (op : Operation) → RunsOn e.own.observations op → HasToken e.own.observations op (Q.request_token x (message_of e.own.observations op))
+  has_its : (op : Operation) → RunsOn e.own.observations op
+      → HasToken e.own.observations op (Q.request_token x (message_of e.own.observations op))
   has_its (Calling k r t) live = tt
   has_its (Registering k path) live = tt
   has_its (Fetching k) live = tt
   has_its Dropped live = tt
   has_its (Cancelling k) live =
-      let t = token_there k e.own.observations live in t.1 ∙ ap (λ y. Some y) (sym (ap (λ o. Q.token_or o (K.token_of x.word x.given)) t.1))
+      let t = token_there k e.own.observations live in t.1
+      ∙ ap (λ y. Some y) (sym (ap (λ o. Q.token_or o (K.token_of x.word x.given)) t.1))
 
-  asked_for : (op : Operation) → e.deed ≡ Asks op → (token : Result (List ℕ) AskRefusal) → token ≡ Q.ask_answer (Q.opening_of x (message_of e.own.observations op)) sent (Q.request_token x (message_of e.own.observations op))
-      → Closes s (closed at e (Asks op) token) (ran x (deeds (closed at e (Asks op) token).deed (closed at e (Asks op) token).own at word sent token kept ++ deeds (Asks op) e.own at word sent token kept)).running
+  asked_for : (op : Operation) → e.deed ≡ Asks op → (token : Result (List ℕ) AskRefusal)
+      → token ≡ Q.ask_answer (Q.opening_of x (message_of e.own.observations op)) sent
+      (Q.request_token x (message_of e.own.observations op))
+      → Closes s (closed at e (Asks op) token) (ran x
+      (deeds (closed at e (Asks op) token).deed (closed at e (Asks op) token).own at word sent token kept
+      ++ deeds (Asks op) e.own at word sent token kept)).running
   asked_for op is (Ok token) right = by (move.ask_row x (message_of e.own.observations op) sent (Ok token) right)
     where
-      by : move.AskRow x (message_of e.own.observations op) sent (Ok token) → Closes s (closed at e (Asks op) (Ok token)) (Q.opened x (message_of e.own.observations op) (Q.sent_as (Q.opening_of x (message_of e.own.observations op)) sent)).running
+      by : move.AskRow x (message_of e.own.observations op) sent (Ok token)
+          → Closes s (closed at e (Asks op) (Ok token))
+          (Q.opened x (message_of e.own.observations op)
+          (Q.sent_as (Q.opening_of x (message_of e.own.observations op)) sent)).running
       by (refused why no_answer gone) = absurd (cc no_answer)
       by (sent_it id answer_is some opens sent_id) =
           let a = g.asks op is in
@@ -419,49 +497,81 @@ module _ (s : Own) (e : Effect) (x : E.Own) (sound : Sound s) (g : Goes s x.runn
             runs_on = g.runs_on;
             taken_is = g.taken_is;
             source = λ y h. absurd (cc h);
-            linked = subst (λ y. Linked y e.own.observations (Q.opened x (message_of e.own.observations op) (Q.sent_as (Q.opening_of x (message_of e.own.observations op)) sent)).running) (sym a.1)
-                (_, ap (λ (y : E.Own). y.running) (move.opened_some x (message_of e.own.observations op) sent id some), has_its op (subst (IfRuns e.own.observations) a.1 g.runs_on));
+            linked = subst (λ y. Linked y e.own.observations
+                (Q.opened x (message_of e.own.observations op)
+                (Q.sent_as (Q.opening_of x (message_of e.own.observations op)) sent)).running) (sym a.1) (
+                  _,
+                  ap (λ (y : E.Own). y.running) (move.opened_some x (message_of e.own.observations op) sent id some),
+                  has_its op (subst (IfRuns e.own.observations) a.1 g.runs_on),
+                );
           }
   asked_for op is (Err why) right = by (move.ask_row x (message_of e.own.observations op) sent (Err why) right)
     where
-      by : move.AskRow x (message_of e.own.observations op) sent (Err why) → Closes s (failed has_sent NoIds e.own (Some op)) (ran x (deeds (failed has_sent NoIds e.own (Some op)).deed (failed has_sent NoIds e.own (Some op)).own at word sent (Err why) kept ++ deeds (Asks op) e.own at word sent (Err why) kept)).running
+      by : move.AskRow x (message_of e.own.observations op) sent (Err why)
+          → Closes s (failed has_sent NoIds e.own (Some op))
+          (ran x (deeds (failed has_sent NoIds e.own (Some op)).deed
+          (failed has_sent NoIds e.own (Some op)).own at word sent (Err why) kept
+          ++ deeds (Asks op) e.own at word sent (Err why) kept)).running
       by (sent_it id answer_is some opens sent_id) = absurd (cc answer_is)
       by (refused other answer_is gone) =
           let c : Effect = failed has_sent NoIds e.own (Some op) in
           let f = failed_goes e.own None (effect_sound op is) refl has_sent NoIds refl (Some op) (g.asks op is).1 in
           let none : x.running ≡ None = subst (λ d. Leaves d e x.running) is g.leaves in
           let x2 : E.Own = ran x (deeds (Asks op) e.own at word sent (Err why) kept) in
-          let still : x2.running ≡ None = ap (λ (o : E.Own). o.running) (move.opened_none x (message_of e.own.observations op) sent gone) ∙ none in
-          let quiet = quiet_deeds at word sent kept (Err why) c.deed c.own x2 (not_asks has_sent NoIds e.own (Some op)) in
-          let split = ap (λ (o : E.Own). o.running) (ran_append x (deeds c.deed c.own at word sent (Err why) kept) (deeds (Asks op) e.own at word sent (Err why) kept)) in
+          let still : x2.running ≡ None = ap (λ (o : E.Own). o.running)
+          (move.opened_none x (message_of e.own.observations op) sent gone) ∙ none in
+          let quiet = quiet_deeds at word sent kept (Err why) c.deed c.own x2
+          (not_asks has_sent NoIds e.own (Some op)) in
+          let split = ap (λ (o : E.Own). o.running) (ran_append x (deeds c.deed c.own at word sent (Err why) kept)
+          (deeds (Asks op) e.own at word sent (Err why) kept)) in
           record {
             conserved = λ n. f.conserved n ∙ same_places op is n;
             waits = f.waits;
             runs_on = f.runs_on;
             taken_is = f.taken_is ∙ g.taken_is;
             source = λ y h. let a = f.source y h in let b = same_places op is y.number in omega (arith, a, b);
-            linked = subst (Linked c.own.running c.own.observations) (sym (split ∙ (quiet ∙ still))) (linked_of c.deed c None (not_asks has_sent NoIds e.own (Some op)) f.leaves);
+            linked = subst (Linked c.own.running c.own.observations) (sym (split ∙ (quiet ∙ still)))
+                (linked_of c.deed c None (not_asks has_sent NoIds e.own (Some op)) f.leaves);
           }
 
   abbrev Closing : Result (List ℕ) AskRefusal → Deed → Type 0
   Closing token d =
-      AreRight x (deeds (closed at e d token).deed (closed at e d token).own at word sent token kept ++ deeds d e.own at word sent token kept)
-      → Closes s (closed at e d token) (ran x (deeds (closed at e d token).deed (closed at e d token).own at word sent token kept ++ deeds d e.own at word sent token kept)).running
+      AreRight x (deeds (closed at e d token).deed (closed at e d token).own at word sent token kept
+      ++ deeds d e.own at word sent token kept)
+      → Closes s (closed at e d token) (ran x (deeds (closed at e d token).deed
+      (closed at e d token).own at word sent token kept ++ deeds d e.own at word sent token kept)).running
 
   closing : (token : Result (List ℕ) AskRefusal) (d : Deed) → e.deed ≡ d → Closing token d
   closing token Rests is right =
       let rests : (op : Operation) → e.deed ≡ Asks op → ⊥ = λ op h. cc (h, is) in
       let split = ap (λ (o : E.Own). o.running) (ran_append x (deeds e.deed e.own at word sent token kept) []) in
       let quiet = quiet_deeds at word sent kept token e.deed e.own x rests in
-      plainly _ (subst (Linked e.own.running e.own.observations) (sym (split ∙ quiet)) (linked_of e.deed e x.running rests g.leaves))
+      plainly _ (subst (Linked e.own.running e.own.observations) (sym (split ∙ quiet))
+      (linked_of e.deed e x.running rests g.leaves))
   closing token (Keeps t) is right =
       let l = linked_of e.deed e x.running (λ op h. cc (h, is)) g.leaves in
-      record { conserved = g.conserved; waits = g.waits; runs_on = g.runs_on; taken_is = g.taken_is; source = g.source; linked = l }
+      record {
+        conserved = g.conserved;
+        waits = g.waits;
+        runs_on = g.runs_on;
+        taken_is = g.taken_is;
+        source = g.source;
+        linked = l;
+      }
   closing token (Releases t) is right =
       let l = linked_of e.deed e x.running (λ op h. cc (h, is)) g.leaves in
-      record { conserved = g.conserved; waits = g.waits; runs_on = g.runs_on; taken_is = g.taken_is; source = g.source; linked = l }
+      record {
+        conserved = g.conserved;
+        waits = g.waits;
+        runs_on = g.runs_on;
+        taken_is = g.taken_is;
+        source = g.source;
+        linked = l;
+      }
   closing token (Asks op) is right =
-      asked_for op is token (are_right_back x (deeds (closed at e (Asks op) token).deed (closed at e (Asks op) token).own at word sent token kept) (deeds (Asks op) e.own at word sent token kept) right).0
+      asked_for op is token (are_right_back x (deeds (closed at e (Asks op) token).deed
+      (closed at e (Asks op) token).own at word sent token kept)
+      (deeds (Asks op) e.own at word sent token kept) right).0
 
   pub closes : (token : Result (List ℕ) AskRefusal) → Closing token e.deed
   closes token = closing token e.deed refl

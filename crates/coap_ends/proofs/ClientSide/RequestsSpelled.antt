@@ -42,42 +42,56 @@ record Ordered (k : ℕ) (os : List CoapOption) : Type 0 where
 ordered_nil : (k : ℕ) → Ordered k []
 ordered_nil k = record { order = λ base h. refl; numbers = refl }
 
-ordered_cons : (k n : ℕ) (v : List ℕ) (os : List CoapOption) → n < 65536 → k ≤ n → Ordered n os → Ordered k (option n v ∷ os)
+ordered_cons : (k n : ℕ) (v : List ℕ) (os : List CoapOption) → n < 65536 → k ≤ n → Ordered n os
+    → Ordered k (option n v ∷ os)
 ordered_cons k n v os small up g = record {
-  order = λ base h. and_from (nat_le base n) (ascends n os) (le-leb base n (omega (arith, h, up))) (g.order n (omega arith));
+  order = λ base h. and_from (nat_le base n) (ascends n os) (le-leb base n (omega (arith, h, up)))
+      (g.order n (omega arith));
   numbers = and_from (nat_lt n 65536) (list_all is_numbered os) (le-leb (suc n) 65536 (omega (arith, small))) g.numbers;
 }
 
 ordered_weaken : (j k : ℕ) (os : List CoapOption) → j ≤ k → Ordered k os → Ordered j os
 ordered_weaken j k os h g = record { order = λ base b. g.order base (omega (arith, h, b)); numbers = g.numbers }
 
-ordered_run : (k n : ℕ) (vs : List (List ℕ)) (os : List CoapOption) → n < 65536 → k ≤ n → Ordered n os → Ordered k (map (option n) vs ++ os)
+ordered_run : (k n : ℕ) (vs : List (List ℕ)) (os : List CoapOption) → n < 65536 → k ≤ n → Ordered n os
+    → Ordered k (map (option n) vs ++ os)
 ordered_run k n [] os small up g = ordered_weaken k n os up g
-ordered_run k n (v ∷ vs) os small up g = ordered_cons k n v (map (option n) vs ++ os) small up (ordered_run n n vs os small (omega arith) g)
+ordered_run k n (v ∷ vs) os small up g = ordered_cons k n v (map (option n) vs ++ os) small up
+    (ordered_run n n vs os small (omega arith) g)
 
-ordered_uint : (k n : ℕ) (o : Option ℕ) (os : List CoapOption) → n < 65536 → k ≤ n → Ordered n os → Ordered k (uint_option n o ++ os)
+ordered_uint : (k n : ℕ) (o : Option ℕ) (os : List CoapOption) → n < 65536 → k ≤ n → Ordered n os
+    → Ordered k (uint_option n o ++ os)
 ordered_uint k n None os small up g = ordered_weaken k n os up g
 ordered_uint k n (Some v) os small up g = ordered_cons k n (uint v) os small up g
 
-ordered_flag : (k n : ℕ) (b : Bool) (os : List CoapOption) → n < 65536 → k ≤ n → Ordered n os → Ordered k (flag_option n b ++ os)
+ordered_flag : (k n : ℕ) (b : Bool) (os : List CoapOption) → n < 65536 → k ≤ n → Ordered n os
+    → Ordered k (flag_option n b ++ os)
 ordered_flag k n true os small up g = ordered_cons k n [] os small up g
 ordered_flag k n false os small up g = ordered_weaken k n os up g
 
 -- those of a call
 
-ordered_after : (method : Method) (r : Request) (os : List CoapOption) → Ordered 17 os → Ordered 11 (after_path method r ++ os)
+ordered_after : (method : Method) (r : Request) (os : List CoapOption) → Ordered 17 os
+    → Ordered 11 (after_path method r ++ os)
 ordered_after Get r os g = ordered_uint 11 17 r.accept os (omega arith) (omega arith) g
-ordered_after Post r os g = ordered_uint 11 12 r.format os (omega arith) (omega arith) (ordered_weaken 12 17 os (omega arith) g)
-ordered_after Put r os g = ordered_uint 11 12 r.format os (omega arith) (omega arith) (ordered_weaken 12 17 os (omega arith) g)
+ordered_after Post r os g = ordered_uint 11 12 r.format os (omega arith) (omega arith)
+    (ordered_weaken 12 17 os (omega arith) g)
+ordered_after Put r os g = ordered_uint 11 12 r.format os (omega arith) (omega arith)
+    (ordered_weaken 12 17 os (omega arith) g)
 ordered_after Delete r os g = ordered_weaken 11 17 os (omega arith) g
 
-ordered_conditions : (r : Request) (os : List CoapOption) → Ordered 5 os → Ordered 0 ((map (option if_match) r.if_match ++ flag_option if_none_match r.if_none_match) ++ os)
+ordered_conditions : (r : Request) (os : List CoapOption) → Ordered 5 os
+    → Ordered 0 ((map (option if_match) r.if_match ++ flag_option if_none_match r.if_none_match) ++ os)
 ordered_conditions r os g =
-    subst (Ordered 0) (sym (append_assoc (map (option if_match) r.if_match) (flag_option if_none_match r.if_none_match) os))
-    (ordered_run 0 1 r.if_match (flag_option if_none_match r.if_none_match ++ os) (omega arith) (omega arith) (ordered_flag 1 5 r.if_none_match os (omega arith) (omega arith) g))
+    subst (Ordered 0) (sym (append_assoc (map (option if_match) r.if_match)
+    (flag_option if_none_match r.if_none_match) os))
+    (ordered_run 0 1 r.if_match (flag_option if_none_match r.if_none_match ++ os) (omega arith) (omega arith)
+    (ordered_flag 1 5 r.if_none_match os (omega arith) (omega arith) g))
 
-ordered_before : (method : Method) (r : Request) (os : List CoapOption) → Ordered 5 os → Ordered 0 (before_path method r ++ os)
-ordered_before Get r os g = ordered_run 0 4 r.etags os (omega arith) (omega arith) (ordered_weaken 4 5 os (omega arith) g)
+ordered_before : (method : Method) (r : Request) (os : List CoapOption) → Ordered 5 os
+    → Ordered 0 (before_path method r ++ os)
+ordered_before Get r os g = ordered_run 0 4 r.etags os (omega arith) (omega arith)
+    (ordered_weaken 4 5 os (omega arith) g)
 ordered_before Post r os g = ordered_conditions r os g
 ordered_before Put r os g = ordered_conditions r os g
 ordered_before Delete r os g = ordered_conditions r os g
@@ -87,8 +101,11 @@ ordered_call r os g =
     let after = after_path r.method r in
     let path = path_options r.path in
     let before = before_path r.method r in
-    let behind : Ordered 5 (path ++ (after ++ os)) = ordered_run 5 11 r.path (after ++ os) (omega arith) (omega arith) (ordered_after r.method r os g) in
-    subst (Ordered 0) (sym (append_assoc before (path ++ after) os ∙ ap (λ l. before ++ l) (append_assoc path after os))) (ordered_before r.method r (path ++ (after ++ os)) behind)
+    let behind : Ordered 5 (path ++ (after ++ os)) =
+    ordered_run 5 11 r.path (after ++ os) (omega arith) (omega arith) (ordered_after r.method r os g) in
+    subst (Ordered 0) (sym (append_assoc before (path ++ after) os
+    ∙ ap (λ l. before ++ l) (append_assoc path after os)))
+    (ordered_before r.method r (path ++ (after ++ os)) behind)
 
 ordered_block2 : (k : ℕ) (o : Option Asked) → k ≤ 23 → Ordered k (block2_option o)
 ordered_block2 k None up = ordered_nil k
@@ -106,7 +123,8 @@ ordered_block (Fetches f) = ordered_block2 17 f.asked (omega arith)
 ordered_block (Uploads u) = ordered_block1 u
 ordered_block Single = ordered_nil 17
 
-ordered_path : (k : ℕ) (path : List (List ℕ)) (o : Option Asked) → k ≤ 11 → Ordered k (path_options path ++ block2_option o)
+ordered_path : (k : ℕ) (path : List (List ℕ)) (o : Option Asked) → k ≤ 11
+    → Ordered k (path_options path ++ block2_option o)
 ordered_path k path o up = ordered_run k 11 path (block2_option o) (omega arith) up (ordered_block2 11 o (omega arith))
 
 -- options whose bytes are few are short, and so are numbers
@@ -115,7 +133,8 @@ AreShort os = list_all is_short os ≡ true
 
 short_join : (os more_options : List CoapOption) → AreShort os → AreShort more_options → AreShort (os ++ more_options)
 short_join [] ms h k = k
-short_join (o ∷ os) ms h k = let both = and_parts (is_short o) (list_all is_short os) h in and_from (is_short o) (list_all is_short (os ++ ms)) both.0 (short_join os ms both.1 k)
+short_join (o ∷ os) ms h k = let both = and_parts (is_short o) (list_all is_short os) h in and_from (is_short o)
+    (list_all is_short (os ++ ms)) both.0 (short_join os ms both.1 k)
 
 number_short : (n v : ℕ) → AreShort (option n (uint v) ∷ [])
 number_short n v = and_from _ _ (le-leb (length (uint v)) 65804 (uint_short v)) refl
@@ -139,7 +158,8 @@ short_block Single = refl
 short_unless_long : (n : ℕ) (os : List CoapOption) → are_long n os ≡ false → AreShort os
 short_unless_long n os h = short_front os (option n (255 ∷ 255 ∷ 255 ∷ []) ∷ []) 0 (not_more _ h)
 
-spelled : (m : Method) (asked : Option (List ℕ)) (os : List CoapOption) (payload token : List ℕ) → Ordered 0 os → AreShort os → length token ≤ 8
+spelled : (m : Method) (asked : Option (List ℕ)) (os : List CoapOption) (payload token : List ℕ) → Ordered 0 os
+    → AreShort os → length token ≤ 8
     → IsSpelled (content_of token (record { code = (method_code m).0; token = asked; options = os; payload = payload }))
 spelled m asked os payload token ordered short few kind id small =
     let code = code_of m in
@@ -153,7 +173,8 @@ spelled m asked os payload token ordered short few kind id small =
       empty = λ none. (let some = code.1 in absurd (omega (arith, none, some)));
     }
 
--- The longest options of a call, and those of an observation's path, are few; what is made of an observation has its path.
+-- The longest options of a call, and those of an observation's path, are few; what is made of an observation has its
+-- path.
 
 abbrev pub IsShortPath : List (List ℕ) → Type 0
 IsShortPath path = are_long block2 (path_options path) ≡ false
@@ -175,24 +196,33 @@ path_of : (k : ℕ) (os : List Observation) → AreShortPaths os → AreShort (p
 path_of k [] h = short_nothing
 path_of k (o ∷ os) h = by (o.number == k) (path_of k os h.1)
   where
-    by : (b : Bool) → AreShort (path_options (observed_path k os)) → AreShort (path_options (elim (cond b (Some o) (observation_of k os)) [ None ↦ [] | Some p ↦ p.path ]))
+    by : (b : Bool) → AreShort (path_options (observed_path k os))
+        → AreShort (path_options (elim (cond b (Some o) (observation_of k os)) [ None ↦ [] | Some p ↦ p.path ]))
     by true ih = short_unless_long block2 (path_options o.path) h.0
     by false ih = ih
 
-pub request_spelled : (os : List Observation) (op : Operation) (token : List ℕ) → IsShortOp op → AreShortPaths os → length token ≤ 8 → IsSpelled (content_of token (message_of os op))
+pub request_spelled : (os : List Observation) (op : Operation) (token : List ℕ) → IsShortOp op → AreShortPaths os
+    → length token ≤ 8 → IsSpelled (content_of token (message_of os op))
 request_spelled os (Calling k r t) token short paths few =
-    spelled r.method None (options_of r ++ block_option t) (payload_of t) token (ordered_call r (block_option t) (ordered_block t))
-    (short_join (options_of r) (block_option t) (short_unless_long (block_number r.method) (options_of r) short) (short_block t)) few
+    spelled r.method None (options_of r ++ block_option t) (payload_of t) token
+    (ordered_call r (block_option t) (ordered_block t))
+    (short_join (options_of r) (block_option t) (short_unless_long (block_number r.method) (options_of r) short)
+    (short_block t)) few
 request_spelled os (Registering k path) token short paths few =
     spelled Get None (option observe (uint 0) ∷ path_options path) [] token
-    (ordered_cons 0 6 (uint 0) (path_options path) (omega arith) (omega arith) (subst (Ordered 6) (append-nil (path_options path)) (ordered_path 6 path None (omega arith))))
-    (short_join (option observe (uint 0) ∷ []) (path_options path) (number_short observe 0) (short_unless_long block2 (path_options path) short)) few
+    (ordered_cons 0 6 (uint 0) (path_options path) (omega arith) (omega arith)
+    (subst (Ordered 6) (append-nil (path_options path)) (ordered_path 6 path None (omega arith))))
+    (short_join (option observe (uint 0) ∷ []) (path_options path) (number_short observe 0)
+    (short_unless_long block2 (path_options path) short)) few
 request_spelled os (Fetching k) token short paths few =
-    spelled Get None (path_options (observed_path k os) ++ block2_option (fetch_of k os)) [] token (ordered_path 0 (observed_path k os) (fetch_of k os) (omega arith))
-    (short_join (path_options (observed_path k os)) (block2_option (fetch_of k os)) (path_of k os paths) (short_block2 (fetch_of k os))) few
+    spelled Get None (path_options (observed_path k os) ++ block2_option (fetch_of k os)) [] token
+    (ordered_path 0 (observed_path k os) (fetch_of k os) (omega arith))
+    (short_join (path_options (observed_path k os)) (block2_option (fetch_of k os)) (path_of k os paths)
+    (short_block2 (fetch_of k os))) few
 request_spelled os (Cancelling k) token short paths few =
     let path : List (List ℕ) = observed_path k os in
     spelled Get (token_of k os) (option observe (uint 1) ∷ path_options path) [] token
-    (ordered_cons 0 6 (uint 1) (path_options path) (omega arith) (omega arith) (subst (Ordered 6) (append-nil (path_options path)) (ordered_path 6 path None (omega arith))))
+    (ordered_cons 0 6 (uint 1) (path_options path) (omega arith) (omega arith)
+    (subst (Ordered 6) (append-nil (path_options path)) (ordered_path 6 path None (omega arith))))
     (short_join (option observe (uint 1) ∷ []) (path_options path) (number_short observe 1) (path_of k os paths)) few
 request_spelled os Dropped token short paths few = spelled Get None [] [] token (ordered_nil 0) refl few

@@ -34,7 +34,8 @@ lone_upload k Dropped h = absurd (cc h)
 pub open_begun : (t : List L.Entry) (con : Open) → IsOpen t con → Ever (λ b. begun b ≡ Some con) t
 open_begun t con o =
     let x = some_in (λ y. as_begun y ≡ con) (outstanding t) o in
-    Ever_map (λ b. begun b ≡ Some (as_begun x.0)) (λ b. begun b ≡ Some con) (λ b h. h ∙ ap (λ (c : Open). Some c) x.2) t (was_begun t x.0 x.1)
+    Ever_map (λ b. begun b ≡ Some (as_begun x.0)) (λ b. begun b ≡ Some con) (λ b h. h ∙ ap (λ (c : Open). Some c) x.2) t
+    (was_begun t x.0 x.1)
 
 module _ (server : Endpoint) (szx word : ℕ) where
   -- a datagram of this upload was sent, no earlier
@@ -56,24 +57,41 @@ module _ (server : Endpoint) (szx word : ℕ) where
 
     first : (e : L.Entry) → IsIn e adds → begun e ≡ Some con → SentIn con (c ∷ t) e
     first e i b =
-        let k = begins_now server szx word t c law con (Ever_map (λ y. y ≡ e) (λ y. begun y ≡ Some con) (λ y h. ap begun h ∙ b) adds i) in
-        record { sending = k.sending; sent = inl k.sends_it; is = k.is; when = λ n h. inl (inl (ap (sends_of n) k.sends_it ∙ h), till e i) }
+        let k = begins_now server szx word t c law con
+        (Ever_map (λ y. y ≡ e) (λ y. begun y ≡ Some con) (λ y h. ap begun h ∙ b) adds i) in
+        record {
+          sending = k.sending;
+          sent = inl k.sends_it;
+          is = k.is;
+          when = λ n h. inl (inl (ap (sends_of n) k.sends_it ∙ h), till e i);
+        }
 
     again : (e : L.Entry) → IsIn e adds → Copies server szx word con t c → SentIn con (c ∷ t) e
     again e i h =
-        let k = open_runs server szx word con t (client_back server szx word (c ∷ []) t law) (open_begun (layer_of server szx word t) con h.is_open) in
+        let k = open_runs server szx word con t (client_back server szx word (c ∷ []) t law)
+        (open_begun (layer_of server szx word t) con h.is_open) in
         record {
           sending = k.sending;
           sent = inr k.sent;
           is = k.is;
-          when = λ n u. inl (inr (h.copies, ap (is_upload_of n) (k.runs (lone_upload n k.sending.operation u) h.is_open) ∙ u), till e i);
+          when = λ n u. inl (
+            inr (
+              h.copies,
+              ap (is_upload_of n) (k.runs (lone_upload n k.sending.operation u) h.is_open)
+                  ∙ u,
+            ),
+            till e i,
+          );
         }
 
     later : (e : L.Entry) → SentIn con t e → SentIn con (c ∷ t) e
     later e h = record { sending = h.sending; sent = inr h.sent; is = h.is; when = λ n u. inr (h.when n u) }
 
-  pub sent_in : (con : Open) (t : List Call) → ClientLaw server szx word t → Always (λ p e. SendsIt con p e → SentIn con t e) (layer_of server szx word t)
+  pub sent_in : (con : Open) (t : List Call) → ClientLaw server szx word t
+      → Always (λ p e. SendsIt con p e → SentIn con t e) (layer_of server szx word t)
   sent_in con [] law = tt
   sent_in con (c ∷ t) law =
       each_sending server szx word con t (SentIn con (c ∷ t)) c law (first con t c law) (again con t c law)
-      (always_map (λ p e. SendsIt con p e → SentIn con t e) (λ p e. SendsIt con p e → SentIn con (c ∷ t) e) (λ p e f s. later con t c law e (f s)) (layer_of server szx word t) (sent_in con t (client_back server szx word (c ∷ []) t law)))
+      (always_map (λ p e. SendsIt con p e → SentIn con t e) (λ p e. SendsIt con p e → SentIn con (c ∷ t) e)
+      (λ p e f s. later con t c law e (f s)) (layer_of server szx word t)
+      (sent_in con t (client_back server szx word (c ∷ []) t law)))

@@ -30,31 +30,46 @@ begun_as e old k = is (begun e) refl k
     is None s z = absurd z
 
 -- what is left was there
-still : (e : Entry) (old : Open) (cs : List Open) → Ever (λ y. as_begun y ≡ old) (filter_map (left_by e) cs) → Ever (λ y. as_begun y ≡ old) cs
+still : (e : Entry) (old : Open) (cs : List Open) → Ever (λ y. as_begun y ≡ old) (filter_map (left_by e) cs)
+    → Ever (λ y. as_begun y ≡ old) cs
 still e old [] k = absurd k
 still e old (c ∷ cs) k = go (left_by e c) refl k (λ z. still e old cs z)
   where
     go : (l : _) → left_by e c ≡ l → Ever (λ y. as_begun y ≡ old) (cons_option l (filter_map (left_by e) cs))
-        → (Ever (λ y. as_begun y ≡ old) (filter_map (left_by e) cs) → Ever (λ y. as_begun y ≡ old) cs) → Ever (λ y. as_begun y ≡ old) (c ∷ cs)
+        → (Ever (λ y. as_begun y ≡ old) (filter_map (left_by e) cs) → Ever (λ y. as_begun y ≡ old) cs)
+        → Ever (λ y. as_begun y ≡ old) (c ∷ cs)
     go None is z r = inr (r z)
     go (Some d) is (inl z) r = inl (left_same e c d is ∙ z)
     go (Some d) is (inr z) r = inr (r z)
 
 -- behind one entry
-before : (word : ℕ) (e : Entry) (past : List Entry) (old : Open) → LayerLaw word (e ∷ past) → Ever (λ b. begun b ≡ Some old) past → IsOpen (e ∷ past) old → IsOpen past old
-before word e past old law there o = ⊎_elim (λ k. still e old (outstanding past) k) (λ k. absurd (begun_once word past e old law (begun_as e old k) there)) (Ever_append (λ y. as_begun y ≡ old) (filter_map (left_by e) (outstanding past)) (option_to_list (begun e)) o)
+before : (word : ℕ) (e : Entry) (past : List Entry) (old : Open) → LayerLaw word (e ∷ past)
+    → Ever (λ b. begun b ≡ Some old) past → IsOpen (e ∷ past) old → IsOpen past old
+before word e past old law there o = ⊎_elim (λ k. still e old (outstanding past) k)
+    (λ k. absurd (begun_once word past e old law (begun_as e old k) there))
+    (Ever_append (λ y. as_begun y ≡ old) (filter_map (left_by e) (outstanding past)) (option_to_list (begun e)) o)
 
 -- behind several
-pub open_before : (word : ℕ) (later past : List Entry) (old : Open) → LayerLaw word (later ++ past) → Ever (λ b. begun b ≡ Some old) past → IsOpen (later ++ past) old → IsOpen past old
+pub open_before : (word : ℕ) (later past : List Entry) (old : Open) → LayerLaw word (later ++ past)
+    → Ever (λ b. begun b ≡ Some old) past → IsOpen (later ++ past) old → IsOpen past old
 open_before word [] past old law there o = o
-open_before word (e ∷ later) past old law there o = open_before word later past old law.1 there (before word e (later ++ past) old law (Ever_back (λ b. begun b ≡ Some old) later past there) o)
+open_before word (e ∷ later) past old law there o =
+    open_before word later past old law.1 there (before word e (later ++ past) old law
+    (Ever_back (λ b. begun b ≡ Some old) later past there) o)
 
-alone : (word : ℕ) (e : Entry) (past : List Entry) (old : Open) → LayerLaw word (e ∷ past) → BeginsTo old.to e → IsOpen past old → ⊥
+alone : (word : ℕ) (e : Entry) (past : List Entry) (old : Open) → LayerLaw word (e ∷ past) → BeginsTo old.to e
+    → IsOpen past old → ⊥
 alone word e past old law b o =
     (one_outstanding word (e ∷ past) law).0 b.con b.is
-    (Ever_map _ _ (λ (y : Open) w. place_same y.to b.con.to (ap (λ (c : Open). c.to) w ∙ sym b.to_is)) (outstanding past) o)
+    (Ever_map _ _ (λ (y : Open) w. place_same y.to b.con.to (ap (λ (c : Open). c.to) w ∙ sym b.to_is))
+    (outstanding past) o)
 
-pub closed_by : (word : ℕ) (later past : List Entry) (old : Open) → LayerLaw word (later ++ past) → Ever (λ b. begun b ≡ Some old) past → Ever (BeginsTo old.to) later → IsOpen (later ++ past) old → ⊥
+pub closed_by : (word : ℕ) (later past : List Entry) (old : Open) → LayerLaw word (later ++ past)
+    → Ever (λ b. begun b ≡ Some old) past → Ever (BeginsTo old.to) later → IsOpen (later ++ past) old → ⊥
 closed_by word [] past old law there b o = b
-closed_by word (e ∷ later) past old law there (inl b) o = alone word e (later ++ past) old law b (before word e (later ++ past) old law (Ever_back (λ b. begun b ≡ Some old) later past there) o)
-closed_by word (e ∷ later) past old law there (inr b) o = closed_by word later past old law.1 there b (before word e (later ++ past) old law (Ever_back (λ b. begun b ≡ Some old) later past there) o)
+closed_by word (e ∷ later) past old law there (inl b) o =
+    alone word e (later ++ past) old law b (before word e (later ++ past) old law
+    (Ever_back (λ b. begun b ≡ Some old) later past there) o)
+closed_by word (e ∷ later) past old law there (inr b) o =
+    closed_by word later past old law.1 there b (before word e (later ++ past) old law
+    (Ever_back (λ b. begun b ≡ Some old) later past there) o)

@@ -65,7 +65,10 @@ record AsksAnew (f : FetchState) (b : Block) (len : ℕ) : Type 0 where
 module _ (f : FetchState) (b : Block) (tag : Option (List ℕ)) (len : ℕ) where
   abbrev chosen : (sized large none other more : Bool) → Verdict
   chosen sized large none other more =
-      cond (not sized) (verdict.Refuse refusal.BadBlock) (cond large (verdict.Refuse refusal.TooLarge) (cond none (verdict.Refuse refusal.NoTag) (cond other (F.changed f.restarts) (cond more (verdict.Ask (next_num f b) (next_szx f b)) verdict.Done))))
+      cond (not sized) (verdict.Refuse refusal.BadBlock)
+      (cond large (verdict.Refuse refusal.TooLarge)
+      (cond none (verdict.Refuse refusal.NoTag) (cond other (F.changed f.restarts)
+      (cond more (verdict.Ask (next_num f b) (next_szx f b)) verdict.Done))))
 
   changed_asks : (num size : ℕ) → F.changed f.restarts ≡ verdict.Ask num size → ⊥
   changed_asks num size h = by (nat_le max_restarts f.restarts) h
@@ -77,7 +80,8 @@ module _ (f : FetchState) (b : Block) (tag : Option (List ℕ)) (len : ℕ) wher
   changed_again : F.changed f.restarts ≡ verdict.Again → f.restarts < max_restarts
   changed_again h = by (nat_le max_restarts f.restarts) refl h
     where
-      by : (c : Bool) → nat_le max_restarts f.restarts ≡ c → cond c (verdict.Refuse refusal.Changed) verdict.Again ≡ verdict.Again → f.restarts < max_restarts
+      by : (c : Bool) → nat_le max_restarts f.restarts ≡ c
+          → cond c (verdict.Refuse refusal.Changed) verdict.Again ≡ verdict.Again → f.restarts < max_restarts
       by true is h = absurd (cc h)
       by false is h = le_not max_restarts f.restarts is
 
@@ -86,9 +90,11 @@ module _ (f : FetchState) (b : Block) (tag : Option (List ℕ)) (len : ℕ) wher
   full_by false is h = absurd (cc is)
 
   pub asks_more : (num size : ℕ) → F.verdict f (Some b) tag len ≡ verdict.Ask num size → AsksMore f b len num size
-  asks_more num size h = by (fits f.asked b.num b.szx && is_sized b.more b.num b.szx len) refl (nat_lt max_body (offset_of b.num b.szx + len)) refl (lacks_tag b tag) (differs f tag) b.more refl h
+  asks_more num size h = by (fits f.asked b.num b.szx && is_sized b.more b.num b.szx len) refl
+      (nat_lt max_body (offset_of b.num b.szx + len)) refl (lacks_tag b tag) (differs f tag) b.more refl h
     where
-      by : (s : Bool) → (fits f.asked b.num b.szx && is_sized b.more b.num b.szx len) ≡ s → (l : Bool) → nat_lt max_body (offset_of b.num b.szx + len) ≡ l → (n d m : Bool) → b.more ≡ m
+      by : (s : Bool) → (fits f.asked b.num b.szx && is_sized b.more b.num b.szx len) ≡ s → (l : Bool)
+          → nat_lt max_body (offset_of b.num b.szx + len) ≡ l → (n d m : Bool) → b.more ≡ m
           → chosen s l n d m ≡ verdict.Ask num size → AsksMore f b len num size
       by false a l c n d m e h = absurd (cc h)
       by true a true c n d m e h = absurd (cc h)
@@ -97,12 +103,21 @@ module _ (f : FetchState) (b : Block) (tag : Option (List ℕ)) (len : ℕ) wher
       by true a false c false false false e h = absurd (cc h)
       by true a false c false false true e h =
           let k = and_parts (fits f.asked b.num b.szx) (is_sized b.more b.num b.szx len) a in
-          record { fits_it = k.0; more = e; full = full_by b.more e k.1; small = lt_not max_body (offset_of b.num b.szx + len) c; num_is = cc h; size_is = cc h }
+          record {
+            fits_it = k.0;
+            more = e;
+            full = full_by b.more e k.1;
+            small = lt_not max_body (offset_of b.num b.szx + len) c;
+            num_is = cc h;
+            size_is = cc h;
+          }
 
   asks_anew : F.verdict f (Some b) tag len ≡ verdict.Again → AsksAnew f b len
-  asks_anew h = by (fits f.asked b.num b.szx && is_sized b.more b.num b.szx len) refl (nat_lt max_body (offset_of b.num b.szx + len)) refl (lacks_tag b tag) (differs f tag) refl b.more h
+  asks_anew h = by (fits f.asked b.num b.szx && is_sized b.more b.num b.szx len) refl
+      (nat_lt max_body (offset_of b.num b.szx + len)) refl (lacks_tag b tag) (differs f tag) refl b.more h
     where
-      by : (s : Bool) → (fits f.asked b.num b.szx && is_sized b.more b.num b.szx len) ≡ s → (l : Bool) → nat_lt max_body (offset_of b.num b.szx + len) ≡ l → (n d : Bool) → differs f tag ≡ d → (m : Bool)
+      by : (s : Bool) → (fits f.asked b.num b.szx && is_sized b.more b.num b.szx len) ≡ s → (l : Bool)
+          → nat_lt max_body (offset_of b.num b.szx + len) ≡ l → (n d : Bool) → differs f tag ≡ d → (m : Bool)
           → chosen s l n d m ≡ verdict.Again → AsksAnew f b len
       by false a l c n d g m h = absurd (cc h)
       by true a true c n d g m h = absurd (cc h)
@@ -112,24 +127,38 @@ module _ (f : FetchState) (b : Block) (tag : Option (List ℕ)) (len : ℕ) wher
       by true a false c false true g m h =
           let k = and_parts (fits f.asked b.num b.szx) (is_sized b.more b.num b.szx len) a in
           let d = and_parts (is_some f.asked) (not (same_tag tag f.tag)) g in
-          record { fits_it = k.0; sized = k.1; small = lt_not max_body (offset_of b.num b.szx + len) c; behind = d.0; again = changed_again h }
+          record {
+            fits_it = k.0;
+            sized = k.1;
+            small = lt_not max_body (offset_of b.num b.szx + len) c;
+            behind = d.0;
+            again = changed_again h;
+          }
 
 none_again : (f : FetchState) (tag : Option (List ℕ)) (len : ℕ) → F.verdict f None tag len ≡ verdict.Again → ⊥
 none_again f tag len h = by (is_some f.asked) (nat_lt max_body len) h
   where
-    by : (a b : Bool) → cond a (verdict.Refuse refusal.BadBlock) (cond b (verdict.Refuse refusal.TooLarge) verdict.Done) ≡ verdict.Again → ⊥
+    by : (a b : Bool) → cond a (verdict.Refuse refusal.BadBlock) (cond b (verdict.Refuse refusal.TooLarge) verdict.Done)
+        ≡ verdict.Again → ⊥
     by true b h = cc h
     by false true h = cc h
     by false false h = cc h
 
-part_again : (f : FetchState) (m : Message) → part f m ≡ verdict.Again → (b : Block) × (F.verdict f (Some b) (tag_in m) (length m.payload) ≡ verdict.Again)
+part_again : (f : FetchState) (m : Message) → part f m ≡ verdict.Again
+    → (b : Block) × (F.verdict f (Some b) (tag_in m) (length m.payload) ≡ verdict.Again)
 part_again f m h = by (value_of block2 (said m)) h
   where
-    with_block : (o : Option Block) → elim o [ None ↦ verdict.Refuse refusal.BadBlock | Some b ↦ F.verdict f (Some b) (tag_in m) (length m.payload) ] ≡ verdict.Again → (b : Block) × (F.verdict f (Some b) (tag_in m) (length m.payload) ≡ verdict.Again)
+    with_block : (o : Option Block) → elim o [
+      | None ↦ verdict.Refuse refusal.BadBlock
+      | Some b ↦ F.verdict f (Some b)
+          (tag_in m) (length m.payload)
+    ] ≡ verdict.Again
+        → (b : Block) × (F.verdict f (Some b) (tag_in m) (length m.payload) ≡ verdict.Again)
     with_block None h = absurd (cc h)
     with_block (Some b) h = (b, h)
 
-    by : (o : Option (List ℕ)) → part_by f (tag_in m) (length m.payload) o ≡ verdict.Again → (b : Block) × (F.verdict f (Some b) (tag_in m) (length m.payload) ≡ verdict.Again)
+    by : (o : Option (List ℕ)) → part_by f (tag_in m) (length m.payload) o ≡ verdict.Again
+        → (b : Block) × (F.verdict f (Some b) (tag_in m) (length m.payload) ≡ verdict.Again)
     by None h = absurd (none_again f (tag_in m) (length m.payload) h)
     by (Some v) h = with_block (block_in v) h
 
@@ -152,7 +181,8 @@ pub at_gathered : (o : Option Asked) (n num szx : ℕ) → BeginsAt o n → fits
 at_gathered None n num szx at h = zero_at num (size_of szx) (same_number num 0 h) ∙ sym at
 at_gathered (Some a) n num szx at h =
     let k = and_parts (num == a.num) (szx == a.szx) h in
-    ap (λ x. offset_of x szx) (same_number num a.num k.0) ∙ (ap (λ x. offset_of a.num x) (same_number szx a.szx k.1) ∙ at.0)
+    ap (λ x. offset_of x szx) (same_number num a.num k.0)
+    ∙ (ap (λ x. offset_of a.num x) (same_number szx a.szx k.1) ∙ at.0)
 
 far_enough : (o : Option Asked) (n : ℕ) → BeginsAt o n → is_some o ≡ true → 16 ≤ n
 far_enough None n at h = absurd (cc h)
@@ -160,14 +190,17 @@ far_enough (Some a) n at h = at.1
 
 -- a part behind others is not empty
 some_payload : (more : Bool) (num szx len : ℕ) → is_sized more num szx len ≡ true → 16 ≤ offset_of num szx → 1 ≤ len
-some_payload true num szx len h far = let e = same_number len (size_of szx) h in let k = size_least szx in omega (arith, e, k)
-some_payload false num szx len h far = by (nat_lt 0 len) refl (and_parts (nat_le len (size_of szx)) (nat_lt 0 len || (num == 0)) h).1
+some_payload true num szx len h far = let e = same_number len (size_of szx) h in let k =
+    size_least szx in omega (arith, e, k)
+some_payload false num szx len h far = by (nat_lt 0 len) refl
+    (and_parts (nat_le len (size_of szx)) (nat_lt 0 len || (num == 0)) h).1
   where
     by : (b : Bool) → nat_lt 0 len ≡ b → (b || (num == 0)) ≡ true → 1 ≤ len
     by true is k = let z = lt_is 0 len is in omega (arith, z)
     by false is k = let z = zero_at num (size_of szx) (same_number num 0 k) in absurd (omega (arith, z, far))
 
-pub fetch_more : (f : FetchState) (m : Message) (n num size : ℕ) → part f m ≡ verdict.Ask num size → FetchWithin f n → FetchWithin (F.after f (tag_in m) m.payload (verdict.Ask num size)) (1 + n)
+pub fetch_more : (f : FetchState) (m : Message) (n num size : ℕ) → part f m ≡ verdict.Ask num size → FetchWithin f n
+    → FetchWithin (F.after f (tag_in m) m.payload (verdict.Ask num size)) (1 + n)
 fetch_more f m n num size h w =
     let k = part_asks f m num size h in
     let b : Block = k.0 in
@@ -179,7 +212,8 @@ fetch_more f m n num size h w =
     let small = a.small in
     let few = w.few in
     let behind : offset_of num size ≡ offset_of b.num b.szx + size_of b.szx =
-    ap (λ x. offset_of x size) (sym a.num_is) ∙ (ap (λ x. offset_of (next_num f b) x) (sym a.size_is) ∙ aligned b.num b.szx f.szx) in
+    ap (λ x. offset_of x size) (sym a.num_is) ∙ (ap (λ x. offset_of (next_num f b) x) (sym a.size_is)
+    ∙ aligned b.num b.szx f.szx) in
     record {
       few = omega (arith, few, all, full, least);
       restarts = w.restarts;
@@ -187,7 +221,8 @@ fetch_more f m n num size h w =
       begins = (behind ∙ omega (arith, at, all, full), omega (arith, all, full, least));
     }
 
-pub fetch_anew : (f : FetchState) (m : Message) (n : ℕ) → part f m ≡ verdict.Again → FetchWithin f n → FetchWithin (F.after f (tag_in m) m.payload verdict.Again) (1 + n)
+pub fetch_anew : (f : FetchState) (m : Message) (n : ℕ) → part f m ≡ verdict.Again → FetchWithin f n
+    → FetchWithin (F.after f (tag_in m) m.payload verdict.Again) (1 + n)
 fetch_anew f m n h w =
     let k = part_again f m h in
     let b : Block = k.0 in
@@ -226,18 +261,22 @@ no_larger u szx (inr h) = let lt = h.1 in omega (arith, lt)
 more_by : (offset size next n : ℕ) → next ≡ offset + size → 16 ≤ size → 16 * n ≤ offset + 16 → 16 * (1 + n) ≤ next + 16
 more_by offset size next n e least few = omega (arith, e, least, few)
 
-pub upload_more : (szx : ℕ) (body : List ℕ) (u : UploadState) (b : Block) (n : ℕ) → continues u b ≡ true → nat_lt (size_of u.szx) (length u.body) ≡ true → UploadWithin szx body u n → UploadWithin szx body (moved u b) (1 + n)
+pub upload_more : (szx : ℕ) (body : List ℕ) (u : UploadState) (b : Block) (n : ℕ) → continues u b ≡ true
+    → nat_lt (size_of u.szx) (length u.body) ≡ true → UploadWithin szx body u n
+    → UploadWithin szx body (moved u b) (1 + n)
 upload_more szx body u b n h long (inl w) =
     let c = continues_is u b h in
     let at = aligned_to u.num u.szx b.szx (no_larger u b.szx c.3) in
     let body_is : u.body ≡ body = ap (λ (x : UploadState). x.body) w.0 in
     let szx_is : u.szx ≡ szx = ap (λ (x : UploadState). x.szx) w.0 in
-    let begins : 0 ≡ offset_of u.num u.szx = sym (zero_at u.num (size_of u.szx) (ap (λ (x : UploadState). x.num) w.0)) in
+    let begins : 0 ≡ offset_of u.num u.szx = sym
+    (zero_at u.num (size_of u.szx) (ap (λ (x : UploadState). x.num) w.0)) in
     let one = w.1 in
     let follows = lt_is (offset_of u.num u.szx + size_of u.szx) (length u.body) c.0 in
     let same = ap (λ (l : List ℕ). length l) body_is in
     inr (record {
-      longer = subst (λ (l : List ℕ). nat_lt (size_of szx) (length l) ≡ true) body_is (subst (λ x. nat_lt (size_of x) (length u.body) ≡ true) szx_is long);
+      longer = subst (λ (l : List ℕ). nat_lt (size_of szx) (length l) ≡ true) body_is
+          (subst (λ x. nat_lt (size_of x) (length u.body) ≡ true) szx_is long);
       body_is = body_is;
       few = more_by (offset_of u.num u.szx) (size_of u.szx) _ n at (size_least u.szx) (omega (arith, one));
       within = omega (arith, at, follows, same);
@@ -254,10 +293,12 @@ upload_more szx body u b n h long (inr w) =
       within = omega (arith, at, follows, same);
     })
 
-pub upload_bound : (szx : ℕ) (body : List ℕ) (u : UploadState) (n : ℕ) → length body ≤ 65536 → UploadWithin szx body u n → n ≤ cond (nat_lt (size_of szx) (length body)) 4096 1
+pub upload_bound : (szx : ℕ) (body : List ℕ) (u : UploadState) (n : ℕ) → length body ≤ 65536 → UploadWithin szx body u n
+    → n ≤ cond (nat_lt (size_of szx) (length body)) 4096 1
 upload_bound szx body u n small (inl w) = by (nat_lt (size_of szx) (length body))
   where
     by : (b : Bool) → n ≤ cond b 4096 1
     by true = let one = w.1 in omega (arith, one)
     by false = w.1
-upload_bound szx body u n small (inr w) = subst (λ b. n ≤ cond b 4096 1) (sym w.longer) (let few = w.few in let within = w.within in omega (arith, few, within, small))
+upload_bound szx body u n small (inr w) = subst (λ b. n ≤ cond b 4096 1) (sym w.longer)
+    (let few = w.few in let within = w.within in omega (arith, few, within, small))

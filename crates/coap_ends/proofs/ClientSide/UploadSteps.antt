@@ -29,7 +29,8 @@ at_most u szx (inl e) = omega (arith, e)
 at_most u szx (inr h) = let lt = h.1 in omega (arith, lt)
 
 -- the body stays longer than a block, and the next block is not the first
-pub longer_moved : (u : UploadState) (b : Block) → continues u b ≡ true → is_longer u ≡ true → is_longer (moved u b) ≡ true
+pub longer_moved : (u : UploadState) (b : Block) → continues u b ≡ true → is_longer u ≡ true
+    → is_longer (moved u b) ≡ true
 longer_moved u b h k =
     let le = at_most u b.szx (continues_is u b h).3 in
     let size : size_of b.szx ≤ size_of u.szx = pow_mono {i = b.szx + 4} {j = u.szx + 4} (omega (arith, le)) in

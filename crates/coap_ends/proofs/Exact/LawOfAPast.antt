@@ -9,5 +9,7 @@ use Rattle.coap_exchange.specs.AskerTrace as A_trace
 use Rattle.coap_exchange.proofs.Facts.Above.{law_back}
 use Rattle.coap_layer.proofs.Facts.StepsOfLayer.{steps_split}
 
-pub exchange_back : (to : Endpoint) (word : ℕ) (calls t : List A_trace.Call) → ExchangeLaw to word (calls ++ t) → ExchangeLaw to word t
-exchange_back to word calls t law = law_back A.IsRight A.after A.lower Steps (A_trace.start to word) (S.start word) steps_split calls t law
+pub exchange_back : (to : Endpoint) (word : ℕ) (calls t : List A_trace.Call) → ExchangeLaw to word (calls ++ t)
+    → ExchangeLaw to word t
+exchange_back to word calls t law = law_back A.IsRight A.after A.lower Steps (A_trace.start to word)
+    (S.start word) steps_split calls t law

@@ -1,5 +1,5 @@
--- What follows from the whole law of a client: the clauses of `client_law` and `client_follows_law`, for proofs above; and what
--- its calls add to its message layer, and when.
+-- What follows from the whole law of a client: the clauses of `client_law` and `client_follows_law`, for proofs above;
+-- and what its calls add to its message layer, and when.
 use Rattle.std.proofs.Common.{◌≡◌, ℕ, max, true, false, Some, None, List, ◌∷◌, ◌++◌, refl, Ok, Err}
 use Rattle.coap_types.specs.Past.{Always}
 use Rattle.coap_types.specs.declared.endpoint.Endpoint.{Endpoint}
@@ -54,10 +54,12 @@ module _ (server : Endpoint) (szx word : ℕ) where
   nons t = no_nons server word (lower_of szx t)
 
   -- what a call asks of the layer, and adds there, stands in front
-  pub asked_next : (past : List Call) (c : Call) → all_asked server szx word (c ∷ past) ≡ call_asks server szx word past c ++ all_asked server szx word past
+  pub asked_next : (past : List Call) (c : Call)
+      → all_asked server szx word (c ∷ past) ≡ call_asks server szx word past c ++ all_asked server szx word past
   asked_next past c = begun.adds_front server szx word past c
 
-  pub layer_next : (past : List Call) (c : Call) → layer_of server szx word (c ∷ past) ≡ call_adds server szx word past c ++ layer_of server szx word past
+  pub layer_next : (past : List Call) (c : Call)
+      → layer_of server szx word (c ∷ past) ≡ call_adds server szx word past c ++ layer_of server szx word past
   layer_next past c = begun.layer_next server szx word past c
 
   module _ (t : List Call) (law : ClientLaw server szx word t) where
@@ -147,7 +149,8 @@ clock_is s (Forgets number kept true) = refl
 clock_is s (Forgets number kept false) = refl
 clock_is s (Feeds now from bytes word up settled event sent token kept) =
     let e = effect s (Feeds now from bytes word up settled event sent token kept) in
-    (steadied (at now s) (max s.clock now) e token e.deed refl (happened_steady (at now s) (max s.clock now) event)).clock
+    (steadied (at now s) (max s.clock now) e token e.deed refl
+    (happened_steady (at now s) (max s.clock now) event)).clock
 clock_is s (Ticks now word below t sent token kept answer) =
     let e = effect s (Ticks now word below t sent token kept answer) in
     (steadied (at now s) (max s.clock now) e token e.deed refl (passes_steady (at now s) (max s.clock now) t)).clock

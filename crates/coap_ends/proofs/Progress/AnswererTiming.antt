@@ -52,17 +52,24 @@ module _ (word : ℕ) (calls : List E.Call) (law : ResponseLaw word calls) where
     unfolding left_by
     rooms None = record { room = false; new = ticked; steps = refl; can = λ d h may. absurd (cc h) }
     rooms (Some d) = record {
-      room = not (is_busy d.asked.from ticked.open_cons) && is_free (max ticked.clock at) ticked.upcoming ticked.last_used;
+      room = not (is_busy d.asked.from ticked.open_cons)
+          && is_free (max ticked.clock at) ticked.upcoming ticked.last_used;
       new = left_by ticked at (L.Room d.asked.from);
       steps = (ticked, refl, one_step ticked at (L.Room d.asked.from) tt);
-      can = λ x h may. (let same : d ≡ x = cc h in subst (λ (y : Deferred). TakesCon (left_by ticked at (L.Room d.asked.from)) at y.asked.from) same (so may));
+      can = λ x h may. (let same : d ≡ x = cc h in subst
+          (λ (y : Deferred). TakesCon (left_by ticked at (L.Room d.asked.from)) at y.asked.from) same (so may));
     }
       where
-        so : (not (is_busy d.asked.from ticked.open_cons) && is_free (max ticked.clock at) ticked.upcoming ticked.last_used) ≡ true → TakesCon (left_by ticked at (L.Room d.asked.from)) at d.asked.from
+        so : (not (is_busy d.asked.from ticked.open_cons)
+            && is_free (max ticked.clock at) ticked.upcoming ticked.last_used) ≡ true
+            → TakesCon (left_by ticked at (L.Room d.asked.from)) at d.asked.from
         so may =
-            let k = and_parts (not (is_busy d.asked.from ticked.open_cons)) (is_free (max ticked.clock at) ticked.upcoming ticked.last_used) may in
+            let k = and_parts (not (is_busy d.asked.from ticked.open_cons))
+            (is_free (max ticked.clock at) ticked.upcoming ticked.last_used) may in
             let moment : max (max ticked.clock at) at ≡ max ticked.clock at = omega arith in
-            let same : (left_by ticked at (L.Room d.asked.from)).open_cons ≡ ticked.open_cons = left_same_nil (S.made ticked at (L.Room d.asked.from)) (λ c. refl) ticked.open_cons in
+            let same : (left_by ticked at (L.Room d.asked.from)).open_cons
+            ≡ ticked.open_cons = left_same_nil (S.made ticked at (L.Room d.asked.from))
+            (λ c. refl) ticked.open_cons in
             record {
               alone = ap (is_busy d.asked.from) same ∙ not_true (is_busy d.asked.from ticked.open_cons) k.0;
               free = ap (λ n. is_free n ticked.upcoming ticked.last_used) moment ∙ k.1;
@@ -77,7 +84,8 @@ module _ (word : ℕ) (calls : List E.Call) (law : ResponseLaw word calls) where
     passes_time =
         let k = rooms (P.ready_if below (P.ready_at own at)) in
         let asks = P.asking_room at (P.ready_if below (P.ready_at own at)) k.room in
-        let inner = steps_join left ticked k.new asks (asked at L.Ticks below ∷ []) (left, refl, one_step left at L.Ticks tt) k.steps in (
+        let inner = steps_join left ticked k.new asks (asked at L.Ticks below ∷ [])
+        (left, refl, one_step left at L.Ticks tt) k.steps in (
           below,
           k.room,
           P.due_of below (P.ready_at own at) k.room,
@@ -85,18 +93,21 @@ module _ (word : ℕ) (calls : List E.Call) (law : ResponseLaw word calls) where
             law_of = record {
               rows = (refl, law.rows);
               left = k.new;
-              layer = steps_join (S.start word) left k.new (asks ++ asked at L.Ticks below ∷ []) (W.lower_of calls) law.layer inner;
+              layer = steps_join (S.start word) left k.new (asks ++ asked at L.Ticks below ∷ [])
+                  (W.lower_of calls) law.layer inner;
             };
             is_due = refl;
             can_respond = λ a is. by k.room k.can a is;
           },
         )
       where
-        by : (room : Bool) → {new : S.State} → ((d : Deferred) → P.ready_if below (P.ready_at own at) ≡ Some d → room ≡ true → TakesCon new at d.asked.from)
+        by : (room : Bool) → {new : S.State} → ((d : Deferred) → P.ready_if below (P.ready_at own at) ≡ Some d
+            → room ≡ true → TakesCon new at d.asked.from)
             → (a : Asked) → P.due_of below (P.ready_at own at) room ≡ due.Ready a → TakesCon new at a.from
         by room {new} can a is =
             let f = found_ready below (P.ready_at own at) room a (sym is) in
-            let found : P.ready_if below (P.ready_at own at) ≡ Some f.deferred = ap (λ u. P.ready_if u (P.ready_at own at)) f.idle ∙ f.first in
+            let found : P.ready_if below (P.ready_at own at)
+            ≡ Some f.deferred = ap (λ u. P.ready_if u (P.ready_at own at)) f.idle ∙ f.first in
             let told : P.due_if (Some f.deferred) room ≡ due.Ready a =
             sym (ap (λ u. P.due_of u (P.ready_at own at) room) f.idle ∙ ap (λ o. P.due_if o room) f.first) ∙ is in
             subst (λ (x : Asked). TakesCon new at x.from) f.asked (can f.deferred found (so room f.deferred told))

@@ -13,7 +13,8 @@ use Rattle.std.proofs.lemmas.Bool.{le-leb, and_from}
 use Rattle.coap_ends.specs.declared.limits.TheConstants.{MAX_OPTIONS_LEN as max_options}
 
 -- options whose bytes are few are short
-pub short_front : (os tail : List CoapOption) (base : ℕ) → length (options_bytes base (os ++ tail)) ≤ 115 → list_all is_short os ≡ true
+pub short_front : (os tail : List CoapOption) (base : ℕ) → length (options_bytes base (os ++ tail)) ≤ 115
+    → list_all is_short os ≡ true
 unfolding option_bytes options_bytes
 short_front [] tail base h = refl
 short_front (o ∷ os) tail base h =

@@ -1,4 +1,5 @@
--- A store counts its paths: where a path holds something, the count is not 0, and so each change can be made (RFC 7252, section 5.8).
+-- A store counts its paths: where a path holds something, the count is not 0, and so each change can be made (RFC 7252,
+-- section 5.8).
 use Rattle.std.proofs.Common.{◌≡◌, ◌≢◌, inl, inr, ℕ, ◌+◌, ◌-◌, ◌≤◌, Bool, true, false, Option, Some, None, is_some}
 use Rattle.std.proofs.Common.{List, [], ◌∷◌, length, refl, ap, sym, subst, ◌∙◌, cond, arith}
 use Rattle.coap_types.specs.Past.{Ever}
@@ -44,13 +45,15 @@ without path (p ∷ ps) (inr there) =
     let one = k.one in
     record { rest = p ∷ k.rest; one = omega (arith, one); others = by k.rest k.others }
   where
-    by : (rest : List (List (List ℕ))) → ((other : List (List ℕ)) → other ≢ path → Ever (λ q. q ≡ other) ps → Ever (λ q. q ≡ other) rest)
+    by : (rest : List (List (List ℕ))) → ((other : List (List ℕ)) → other ≢ path → Ever (λ q. q ≡ other) ps
+        → Ever (λ q. q ≡ other) rest)
         → (other : List (List ℕ)) → other ≢ path → Ever (λ q. q ≡ other) (p ∷ ps) → Ever (λ q. q ≡ other) (p ∷ rest)
     by rest f other differs (inl is) = inl is
     by rest f other differs (inr is) = inr (f other differs is)
 
 -- what one change leaves
-module _ (old left : Content) (at : ℕ) (path : List (List ℕ)) (now : Option Held) (c : Changes old at path now left) (k : AreCounted old) where
+module _ (old left : Content) (at : ℕ) (path : List (List ℕ)) (now : Option Held) (c : Changes old at path now left)
+    (k : AreCounted old) where
   each_by : (paths : List (List (List ℕ))) → ((held : Held) → now ≡ Some held → Ever (λ p. p ≡ path) paths)
       → ((other : List (List ℕ)) → other ≢ path → Ever (λ p. p ≡ other) k.paths → Ever (λ p. p ≡ other) paths)
       → (other : List (List ℕ)) (held : Held) → left.holds other ≡ Some held → Ever (λ p. p ≡ other) paths
@@ -61,28 +64,51 @@ module _ (old left : Content) (at : ℕ) (path : List (List ℕ)) (now : Option 
           let same = (same_path-decides path other).0 is in
           subst (λ o. Ever (λ p. p ≡ o) paths) same (here held (sym c.there ∙ ap left.holds same ∙ h))
       by false is =
-          let differs : other ≢ path = λ e. (let same : same_path path other ≡ true = (same_path-decides path other).1 (sym e) in cc (same, is)) in
+          let differs : other ≢ path = λ e. (let same : same_path path other
+          ≡ true = (same_path-decides path other).1 (sym e) in cc (same, is)) in
           there other differs (k.each other held (sym (c.others other differs) ∙ h))
 
-  change_counted : (was later : Option Held) → old.holds path ≡ was → now ≡ later → left.paths + cond (is_some was) 1 0 ≡ old.paths + cond (is_some later) 1 0 → AreCounted left
+  change_counted : (was later : Option Held) → old.holds path ≡ was → now ≡ later
+      → left.paths + cond (is_some was) 1 0 ≡ old.paths + cond (is_some later) 1 0 → AreCounted left
   change_counted None None was is sum =
       let many = k.many in
-      record { paths = k.paths; many = omega (arith, many, sum); each = each_by k.paths (λ held h. absurd (cc (h, is))) (λ other differs e. e) }
+      record {
+        paths = k.paths;
+        many = omega (arith, many, sum);
+        each = each_by k.paths (λ held h. absurd (cc (h, is))) (λ other differs e. e);
+      }
   change_counted None (Some new) was is sum =
       let many = k.many in
-      record { paths = path ∷ k.paths; many = omega (arith, many, sum); each = each_by (path ∷ k.paths) (λ held h. inl refl) (λ other differs e. inr e) }
+      record {
+        paths = path ∷ k.paths;
+        many = omega (arith, many, sum);
+        each = each_by (path ∷ k.paths) (λ held h. inl refl) (λ other differs e. inr e);
+      }
   change_counted (Some held) (Some new) was is sum =
       let many = k.many in
-      record { paths = k.paths; many = omega (arith, many, sum); each = each_by k.paths (λ x h. k.each path held was) (λ other differs e. e) }
+      record {
+        paths = k.paths;
+        many = omega (arith, many, sum);
+        each = each_by k.paths (λ x h. k.each path held was) (λ other differs e. e);
+      }
   change_counted (Some held) None was is sum =
       let many = k.many in
       let w = without path k.paths (k.each path held was) in
       let one = w.one in
-      record { paths = w.rest; many = omega (arith, many, sum, one); each = each_by w.rest (λ x h. absurd (cc (h, is))) w.others }
+      record {
+        paths = w.rest;
+        many = omega (arith, many, sum, one);
+        each = each_by w.rest (λ x h. absurd (cc (h, is))) w.others;
+      }
 
 pub counted_by : (old left : Content) → Moves old left → AreCounted old → AreCounted left
-counted_by old left (stays holds paths) k = record { paths = k.paths; many = k.many ∙ sym paths; each = λ path held h. k.each path held (sym (ap (λ f. f path) holds) ∙ h) }
-counted_by old left (moves at path now c) k = change_counted old left at path now c k (old.holds path) now refl refl c.paths
+counted_by old left (stays holds paths) k = record {
+  paths = k.paths;
+  many = k.many ∙ sym paths;
+  each = λ path held h. k.each path held (sym (ap (λ f. f path) holds) ∙ h);
+}
+counted_by old left (moves at path now c) k =
+    change_counted old left at path now c k (old.holds path) now refl refl c.paths
 
 -- a change can be made
 
@@ -97,7 +123,8 @@ least s k path = by (s.holds path) refl
     by None h = omega arith
     by (Some held) h = some k.paths k.many (k.each path held h)
 
-pub can_change : (old : Content) (at : ℕ) (path : List (List ℕ)) (now : Option Held) → AreCounted old → (left : Content) × Changes old at path now left
+pub can_change : (old : Content) (at : ℕ) (path : List (List ℕ)) (now : Option Held) → AreCounted old
+    → (left : Content) × Changes old at path now left
 can_change old at path now k =
     let few = least old k path in (
       record {
@@ -113,7 +140,8 @@ can_change old at path now k =
       },
     )
   where
-    at_other : (other : List (List ℕ)) → other ≢ path → (b : Bool) → same_path other path ≡ b → cond b now (old.holds other) ≡ old.holds other
+    at_other : (other : List (List ℕ)) → other ≢ path → (b : Bool) → same_path other path ≡ b
+        → cond b now (old.holds other) ≡ old.holds other
     at_other other differs true h = absurd (differs ((same_path-decides other path).0 h))
     at_other other differs false h = refl
 
@@ -125,35 +153,45 @@ same_moves old left h = stays (ap (λ (s : Content). s.holds) h) (ap (λ (s : Co
 pub unchanged_moves : (old left : Content) (at : ℕ) → left ≡ later old at → Moves old left
 unchanged_moves old left at h = stays (ap (λ (s : Content). s.holds) h) (ap (λ (s : Content). s.paths) h)
 
-put_moves : (o : Option StoreRefusal) (old : Content) (at : ℕ) (q : Question) (reply : Reply) (left : Content) → PutBy o old at q reply left → Moves old left
+put_moves : (o : Option StoreRefusal) (old : Content) (at : ℕ) (q : Question) (reply : Reply) (left : Content)
+    → PutBy o old at q reply left → Moves old left
 put_moves (Some why) old at q reply left h = unchanged_moves old left at h.1
 put_moves None old at q reply left h = moves at q.path _ h.1
 
-join_moves : (o : Option StoreRefusal) (was : Held) (old : Content) (at : ℕ) (q : Question) (reply : Reply) (left : Content) → JoinBy o was old at q reply left → Moves old left
+join_moves : (o : Option StoreRefusal) (was : Held) (old : Content) (at : ℕ) (q : Question) (reply : Reply)
+    (left : Content) → JoinBy o was old at q reply left → Moves old left
 join_moves (Some why) was old at q reply left h = unchanged_moves old left at h.1
 join_moves None was old at q reply left h = moves at q.path _ h.1
 
-post_moves : (o : Option Held) (old : Content) (at : ℕ) (q : Question) (reply : Reply) (left : Content) → PostBy o old at q reply left → Moves old left
+post_moves : (o : Option Held) (old : Content) (at : ℕ) (q : Question) (reply : Reply) (left : Content)
+    → PostBy o old at q reply left → Moves old left
 post_moves None old at q reply left h = unchanged_moves old left at h.1
-post_moves (Some was) old at q reply left h = join_moves (append_refusal old at was (length q.body)) was old at q reply left h
+post_moves (Some was) old at q reply left h =
+    join_moves (append_refusal old at was (length q.body)) was old at q reply left h
 
-remove_moves : (o : Option StoreRefusal) (old : Content) (at : ℕ) (q : Question) (reply : Reply) (left : Content) → RemoveBy o old at q reply left → Moves old left
+remove_moves : (o : Option StoreRefusal) (old : Content) (at : ℕ) (q : Question) (reply : Reply) (left : Content)
+    → RemoveBy o old at q reply left → Moves old left
 remove_moves (Some why) old at q reply left h = unchanged_moves old left at h.1
 remove_moves None old at q reply left h = moves at q.path None h.1
 
-delete_moves : (o : Option Held) (old : Content) (at : ℕ) (q : Question) (reply : Reply) (left : Content) → DeleteBy o old at q reply left → Moves old left
+delete_moves : (o : Option Held) (old : Content) (at : ℕ) (q : Question) (reply : Reply) (left : Content)
+    → DeleteBy o old at q reply left → Moves old left
 delete_moves None old at q reply left h = unchanged_moves old left at h.1
 delete_moves (Some was) old at q reply left h = remove_moves (rate_refusal old.tally at) old at q reply left h
 
-method_moves : (m : Method) (old : Content) (at : ℕ) (q : Question) (reply : Reply) (left : Content) → ServesMethod m old at q reply left → Moves old left
+method_moves : (m : Method) (old : Content) (at : ℕ) (q : Question) (reply : Reply) (left : Content)
+    → ServesMethod m old at q reply left → Moves old left
 method_moves Get old at q reply left h = same_moves old left h.1
 method_moves Post old at q reply left h = post_moves (old.holds q.path) old at q reply left h
 method_moves Put old at q reply left h = put_moves (put_refusal old at q.path (length q.body)) old at q reply left h
 method_moves Delete old at q reply left h = delete_moves (old.holds q.path) old at q reply left h
 
-unless_moves : (f : Bool) (old : Content) (at : ℕ) (q : Question) (reply : Reply) (left : Content) → ServesUnless f old at q reply left → Moves old left
+unless_moves : (f : Bool) (old : Content) (at : ℕ) (q : Question) (reply : Reply) (left : Content)
+    → ServesUnless f old at q reply left → Moves old left
 unless_moves true old at q reply left h = same_moves old left h.1
 unless_moves false old at q reply left h = method_moves q.method old at q reply left h
 
-pub served_moves : (old : Content) (at : ℕ) (q : Question) (reply : Reply) (left : Content) → R.Serves old at q reply left → Moves old left
-served_moves old at q reply left h = unless_moves (precondition_fails (old.holds q.path) q.options) old at q reply left h
+pub served_moves : (old : Content) (at : ℕ) (q : Question) (reply : Reply) (left : Content)
+    → R.Serves old at q reply left → Moves old left
+served_moves old at q reply left h = unless_moves
+    (precondition_fails (old.holds q.path) q.options) old at q reply left h

@@ -58,7 +58,8 @@ fault_kept : (free b : Bool) → Kept free (cond b L.Rejected L.Dropped)
 fault_kept free true = tt
 fault_kept free false = tt
 
-pub kept_to : (s : S.State) (at : ℕ) (from : Endpoint) (what : Arrival) → Kept (is_free at s.upcoming s.last_used) (S.answer_to s at from what)
+pub kept_to : (s : S.State) (at : ℕ) (from : Endpoint) (what : Arrival)
+    → Kept (is_free at s.upcoming s.last_used) (S.answer_to s at from what)
 kept_to s at from Unreadable = tt
 kept_to s at from (Faulted kind id) = fault_kept (is_free at s.upcoming s.last_used) (is_con kind)
 kept_to s at from (Whole m) = up_kept m.kind (role_of m.code) m _ _ _ (is_free at s.upcoming s.last_used) refl

@@ -1,5 +1,5 @@
--- Each reply of a client's message layer is given to the message that has just been handed up, as an Empty message with its
--- Message ID: a Reset, or the acknowledgement of a CON.
+-- Each reply of a client's message layer is given to the message that has just been handed up, as an Empty message with
+-- its Message ID: a Reset, or the acknowledgement of a CON.
 use Rattle.std.proofs.Common.{◌≡◌, ◌⊎◌, inl, inr, ℕ, ◌/◌, ◌%◌, ◌<◌, Bool, true, false, Option, Some, None, List, []}
 use Rattle.std.proofs.Common.{◌∷◌, ◌++◌, refl, ap, sym, subst, ◌∙◌, cond, arith, append_assoc, ◌&&◌, ◌||◌, not}
 use Rattle.coap_types.specs.Past.{Always}
@@ -39,10 +39,26 @@ high_byte : (id : ℕ) → id < 65536 → id / 256 ≡ id / 256 % 256
 high_byte id h = omega (arith, h)
 
 pub ack_spells : (id : ℕ) → id < 65536 → Spells (ack_bytes id) (empty_of Ack id)
-ack_spells id h = record { code = omega arith; id = omega (arith, h); token = omega arith; option_bytes = []; options = refl; parts = ap (λ b. 0x60 ∷ 0 ∷ b ∷ id % 256 ∷ []) (high_byte id h); empty = λ z. refl }
+ack_spells id h = record {
+  code = omega arith;
+  id = omega (arith, h);
+  token = omega arith;
+  option_bytes = [];
+  options = refl;
+  parts = ap (λ b. 0x60 ∷ 0 ∷ b ∷ id % 256 ∷ []) (high_byte id h);
+  empty = λ z. refl;
+}
 
 pub reset_spells : (id : ℕ) → id < 65536 → Spells (reset_bytes id) (empty_of Rst id)
-reset_spells id h = record { code = omega arith; id = omega (arith, h); token = omega arith; option_bytes = []; options = refl; parts = ap (λ b. 0x70 ∷ 0 ∷ b ∷ id % 256 ∷ []) (high_byte id h); empty = λ z. refl }
+reset_spells id h = record {
+  code = omega arith;
+  id = omega (arith, h);
+  token = omega arith;
+  option_bytes = [];
+  options = refl;
+  parts = ap (λ b. 0x70 ∷ 0 ∷ b ∷ id % 256 ∷ []) (high_byte id h);
+  empty = λ z. refl;
+}
 
 -- what a verdict replies to
 
@@ -68,7 +84,8 @@ by_con Await id b h = absurd (cc h)
 by_con EndByReset id b h = absurd (cc h)
 
 -- a NON is rejected or not replied to, an ACK not replied to
-six : (X : Verdict → Type 0) (a b c d e f : Bool) (u v w x y z : Verdict) → X u → X v → X w → X x → X y → X z → X Ignore → X (cond a u (cond b v (cond c w (cond d x (cond e y (cond f z Ignore))))))
+six : (X : Verdict → Type 0) (a b c d e f : Bool) (u v w x y z : Verdict) → X u → X v → X w → X x → X y → X z → X Ignore
+    → X (cond a u (cond b v (cond c w (cond d x (cond e y (cond f z Ignore))))))
 six X true b c d e f u v w x y z hu hv hw hx hy hz hi = hu
 six X false true c d e f u v w x y z hu hv hw hx hy hz hi = hv
 six X false false true d e f u v w x y z hu hv hw hx hy hz hi = hw
@@ -85,20 +102,28 @@ Quiet id v = R.reply_by v id ≡ None
 
 non_resets : (id : ℕ) (k : Known) → OnlyReset id (judged Non k)
 non_resets id k =
-    six (OnlyReset id) (not k.from_server || not (k.of_exchange || k.kept)) (false && not (k.of_exchange && k.same_id)) k.bad_option (not false && k.cancelled) k.of_exchange k.kept Reject Ignore Ignore Ignore Answer Notice
-    (λ b h. sym (some_same _ _ h)) (λ b h. absurd (cc h)) (λ b h. absurd (cc h)) (λ b h. absurd (cc h)) (λ b h. absurd (cc h)) (λ b h. absurd (cc h)) (λ b h. absurd (cc h))
+    six (OnlyReset id) (not k.from_server || not (k.of_exchange || k.kept))
+    (false && not (k.of_exchange && k.same_id)) k.bad_option
+    (not false && k.cancelled) k.of_exchange k.kept Reject Ignore Ignore Ignore Answer Notice
+    (λ b h. sym (some_same _ _ h)) (λ b h. absurd (cc h)) (λ b h. absurd (cc h)) (λ b h. absurd (cc h))
+    (λ b h. absurd (cc h)) (λ b h. absurd (cc h)) (λ b h. absurd (cc h))
 
 ack_quiet : (id : ℕ) (k : Known) → Quiet id (judged Ack k)
 ack_quiet id k =
-    six (Quiet id) (not k.from_server || not (k.of_exchange || k.kept)) (true && not (k.of_exchange && k.same_id)) k.bad_option (not true && k.cancelled) k.of_exchange k.kept Ignore Ignore Ignore Ignore Answer Ignore
+    six (Quiet id) (not k.from_server || not (k.of_exchange || k.kept))
+    (true && not (k.of_exchange && k.same_id)) k.bad_option
+    (not true && k.cancelled) k.of_exchange k.kept Ignore Ignore Ignore Ignore Answer Ignore
     refl refl refl refl refl refl refl
 
 rst_quiet : (id : ℕ) (k : Known) → Quiet id (judged Rst k)
 rst_quiet id k =
-    six (Quiet id) (not k.from_server || not (k.of_exchange || k.kept)) (false && not (k.of_exchange && k.same_id)) k.bad_option (not false && k.cancelled) k.of_exchange k.kept Ignore Ignore Ignore Ignore Ignore Ignore
+    six (Quiet id) (not k.from_server || not (k.of_exchange || k.kept))
+    (false && not (k.of_exchange && k.same_id)) k.bad_option
+    (not false && k.cancelled) k.of_exchange k.kept Ignore Ignore Ignore Ignore Ignore Ignore
     refl refl refl refl refl refl refl
 
-response_replies : (m : Message) (kind : Kind) (k : Known) (b : List ℕ) → m.kind ≡ kind → R.reply_by (judged kind k) m.id ≡ Some b → Replies (T.Becomes (T.Response m)) m.id b
+response_replies : (m : Message) (kind : Kind) (k : Known) (b : List ℕ) → m.kind ≡ kind
+    → R.reply_by (judged kind k) m.id ≡ Some b → Replies (T.Becomes (T.Response m)) m.id b
 response_replies m Con k b is h =
     record {
       message = m;
@@ -108,25 +133,42 @@ response_replies m Con k b is h =
       shape = elim (by_con (judged Con k) m.id b h) [ inl p ↦ inl p | inr q ↦ inr (q, is) ];
     }
 response_replies m Non k b is h =
-    record { message = m; up_is = ap (λ w. cond (is_kept w) (Some m) None) is; in_is = refl; id_is = refl; shape = inl (non_resets m.id k b h) }
+    record {
+      message = m;
+      up_is = ap (λ w. cond (is_kept w) (Some m) None) is;
+      in_is = refl;
+      id_is = refl;
+      shape = inl (non_resets m.id k b h);
+    }
 response_replies m Ack k b is h = absurd (cc (h, ack_quiet m.id k))
 response_replies m Rst k b is h = absurd (cc (h, rst_quiet m.id k))
 
-request_replies : (m : Message) (kept : Bool) (kind : Kind) (b : List ℕ) → R.reply_by (request_judged kind) m.id ≡ Some b → Replies (T.Becomes (T.Request m kept)) m.id b
-request_replies m kept Con b h = record { message = m; up_is = refl; in_is = refl; id_is = refl; shape = inl (sym (some_same _ _ h)) }
+request_replies : (m : Message) (kept : Bool) (kind : Kind) (b : List ℕ)
+    → R.reply_by (request_judged kind) m.id ≡ Some b → Replies (T.Becomes (T.Request m kept)) m.id b
+request_replies m kept Con b h = record {
+  message = m;
+  up_is = refl;
+  in_is = refl;
+  id_is = refl;
+  shape = inl (sym (some_same _ _ h));
+}
 request_replies m kept Non b h = absurd (cc h)
 request_replies m kept Ack b h = absurd (cc h)
 request_replies m kept Rst b h = absurd (cc h)
 
-none_if : (c : Bool) (v w : Verdict) (id : ℕ) (b : List ℕ) → Quiet id v → Quiet id w → R.reply_by (cond c v w) id ≡ Some b → ⊥
+none_if : (c : Bool) (v w : Verdict) (id : ℕ) (b : List ℕ) → Quiet id v → Quiet id w
+    → R.reply_by (cond c v w) id ≡ Some b → ⊥
 none_if true v w id b p q h = cc (p, h)
 none_if false v w id b p q h = cc (q, h)
 
-pub what_replies : (s : E.Own) (from : Endpoint) (up : T.Answer) (b : List ℕ) → R.reply_by (R.verdict_on s from up) (R.id_in up) ≡ Some b → Replies up (R.id_in up) b
+pub what_replies : (s : E.Own) (from : Endpoint) (up : T.Answer) (b : List ℕ)
+    → R.reply_by (R.verdict_on s from up) (R.id_in up) ≡ Some b → Replies up (R.id_in up) b
 what_replies s from (T.Becomes (T.Response m)) b h = response_replies m m.kind (R.known_of s from m) b refl h
 what_replies s from (T.Becomes (T.Request m kept)) b h = request_replies m kept m.kind b h
-what_replies s from (T.Becomes (T.Acked id)) b h = absurd (none_if (R.is_of_request s from id) Await Ignore 0 b refl refl h)
-what_replies s from (T.Becomes (T.Reset id)) b h = absurd (none_if (R.is_of_request s from id) EndByReset Ignore 0 b refl refl h)
+what_replies s from (T.Becomes (T.Acked id)) b h =
+    absurd (none_if (R.is_of_request s from id) Await Ignore 0 b refl refl h)
+what_replies s from (T.Becomes (T.Reset id)) b h =
+    absurd (none_if (R.is_of_request s from id) EndByReset Ignore 0 b refl refl h)
 what_replies s from up b h = absurd (cc h)
 
 -- calls that are no replies
@@ -147,8 +189,10 @@ module _ (begin : L.State) where
   over [] rest none so = so
   over (a ∷ xs) rest none so = ((λ to id bytes h. absurd (cc (none.0, h))), over xs rest none.1 so)
 
-  replied : (from : Endpoint) (id : ℕ) (b : List ℕ) (now : ℕ) (bytes : List ℕ) (up : T.Answer) (rest : List Asked) (mid new : L.State) → Steps begin rest mid → L.Step mid now (T.Receive from bytes) up new
-      → Replies up id b → So (Q.asked now (T.Receive from bytes) up ∷ rest) → So (Q.asked 0 (T.Reply from id b) T.Nothing ∷ Q.asked now (T.Receive from bytes) up ∷ rest)
+  replied : (from : Endpoint) (id : ℕ) (b : List ℕ) (now : ℕ) (bytes : List ℕ) (up : T.Answer) (rest : List Asked)
+      (mid new : L.State) → Steps begin rest mid → L.Step mid now (T.Receive from bytes) up new
+      → Replies up id b → So (Q.asked now (T.Receive from bytes) up ∷ rest)
+      → So (Q.asked 0 (T.Reply from id b) T.Nothing ∷ Q.asked now (T.Receive from bytes) up ∷ rest)
   replied from id b now bytes up rest mid new before step r so = (one, so)
     where
       s : L.State
@@ -157,8 +201,10 @@ module _ (begin : L.State) where
       there : mid ≡ left_after begin rest
       there = steps_left begin rest mid before
 
-      right : up ≡ L.answer_of (left_after begin rest) (L.moment (left_after begin rest) now (T.Receive from bytes)) (T.Receive from bytes)
-      right = subst (λ w. up ≡ L.answer_of w (L.moment w now (T.Receive from bytes)) (T.Receive from bytes)) there step.right
+      right : up ≡ L.answer_of (left_after begin rest) (L.moment (left_after begin rest) now (T.Receive from bytes))
+          (T.Receive from bytes)
+      right = subst (λ w. up ≡ L.answer_of w (L.moment w now (T.Receive from bytes)) (T.Receive from bytes)) there
+          step.right
 
       small : r.message.id < 65536
       small = let k = spelled mid new now from bytes up r.message step r.in_is in let i = k.id in omega (arith, i)
@@ -166,10 +212,12 @@ module _ (begin : L.State) where
       low : id < 65536
       low = omega (arith, small, r.id_is)
 
-      heard : handed (L.made (left_after begin rest) now (T.Receive from bytes)) ≡ Some (record { from = from; message = r.message })
+      heard : handed (L.made (left_after begin rest) now (T.Receive from bytes))
+          ≡ Some (record { from = from; message = r.message })
       heard = ap (λ a. from_there from (handed_by a)) (sym right) ∙ ap (from_there from) r.up_is
 
-      one : RepliesSo (entries begin (Q.asked now (T.Receive from bytes) up ∷ rest)) (L.made (left_after begin (Q.asked now (T.Receive from bytes) up ∷ rest)) 0 (T.Reply from id b))
+      one : RepliesSo (entries begin (Q.asked now (T.Receive from bytes) up ∷ rest))
+          (L.made (left_after begin (Q.asked now (T.Receive from bytes) up ∷ rest)) 0 (T.Reply from id b))
       one to n c h =
           let n_is : id ≡ n = cc h in
           let c_is : b ≡ c = cc h in
@@ -192,17 +240,22 @@ module _ (begin : L.State) where
             }
           ]
 
-  reply_if : (from : Endpoint) (id : ℕ) (o : Option (List ℕ)) (now : ℕ) (bytes : List ℕ) (up : T.Answer) (rest : List Asked) (mid new : L.State) → Steps begin rest mid → L.Step mid now (T.Receive from bytes) up new
-      → ((b : List ℕ) → o ≡ Some b → Replies up id b) → So (Q.asked now (T.Receive from bytes) up ∷ rest) → So (R.replying from id o ++ (Q.asked now (T.Receive from bytes) up ∷ rest))
+  reply_if : (from : Endpoint) (id : ℕ) (o : Option (List ℕ)) (now : ℕ) (bytes : List ℕ) (up : T.Answer)
+      (rest : List Asked) (mid new : L.State) → Steps begin rest mid → L.Step mid now (T.Receive from bytes) up new
+      → ((b : List ℕ) → o ≡ Some b → Replies up id b) → So (Q.asked now (T.Receive from bytes) up ∷ rest)
+      → So (R.replying from id o ++ (Q.asked now (T.Receive from bytes) up ∷ rest))
   reply_if from id None now bytes up rest mid new before step f so = so
-  reply_if from id (Some b) now bytes up rest mid new before step f so = replied from id b now bytes up rest mid new before step (f b refl) so
+  reply_if from id (Some b) now bytes up rest mid new before step f so =
+      replied from id b now bytes up rest mid new before step (f b refl) so
 
-settling_none : (b : Bool) (server : Endpoint) (o : Option Exchange) (settled : Bool) → NoReplies (R.settling b server o settled)
+settling_none : (b : Bool) (server : Endpoint) (o : Option Exchange) (settled : Bool)
+    → NoReplies (R.settling b server o settled)
 settling_none true server (Some x) settled = (refl, tt)
 settling_none true server None settled = tt
 settling_none false server o settled = tt
 
-beneath_none : (o : Opening) (server : Endpoint) (content : T.Content) (word : ℕ) → is_reply (Q.beneath o server content word) ≡ false
+beneath_none : (o : Opening) (server : Endpoint) (content : T.Content) (word : ℕ)
+    → is_reply (Q.beneath o server content word) ≡ false
 beneath_none Running server content word = refl
 beneath_none Spent server content word = refl
 beneath_none Sends server content word = refl
@@ -214,18 +267,24 @@ module _ (server : Endpoint) (word : ℕ) where
   abbrev below : List E.Call → List Asked
   below t = W.lower_of server word t
 
-  pub replies_so : (t : List E.Call) → W.AskerLaw server word t → (h : L.State) → Steps (L.start word) (below t) h → So (L.start word) (below t)
+  pub replies_so : (t : List E.Call) → W.AskerLaw server word t → (h : L.State) → Steps (L.start word) (below t) h
+      → So (L.start word) (below t)
   replies_so [] law h steps = tt
   replies_so (c ∷ t) law h steps =
       let parts = steps_split (L.start word) h (P.lower (own t) c) (below t) steps in
       go c h parts.0 parts.1 parts.2 (replies_so t law.1 parts.0 parts.1)
     where
-      go : (c : E.Call) (h mid : L.State) → Steps (L.start word) (below t) mid → Steps mid (P.lower (own t) c) h → So (L.start word) (below t) → So (L.start word) (P.lower (own t) c ++ below t)
-      go (E.Ask now r w b answer) h mid before steps so = over (L.start word) (P.lower (own t) (E.Ask now r w b answer)) (below t) (beneath_none (Q.opening_of (own t) r) (own t).server (Q.content_of (Q.request_token (own t) r) r) w, tt) so
-      go (E.Ticks now b answer) h mid before steps so = over (L.start word) (P.lower (own t) (E.Ticks now b answer)) (below t) (refl, tt) so
+      go : (c : E.Call) (h mid : L.State) → Steps (L.start word) (below t) mid → Steps mid (P.lower (own t) c) h
+          → So (L.start word) (below t) → So (L.start word) (P.lower (own t) c ++ below t)
+      go (E.Ask now r w b answer) h mid before steps so =
+          over (L.start word) (P.lower (own t) (E.Ask now r w b answer)) (below t)
+          (beneath_none (Q.opening_of (own t) r) (own t).server (Q.content_of (Q.request_token (own t) r) r) w, tt) so
+      go (E.Ticks now b answer) h mid before steps so =
+          over (L.start word) (P.lower (own t) (E.Ticks now b answer)) (below t) (refl, tt) so
       go (E.Keep token answer) h mid before steps so = so
       go (E.Release token answer) h mid before steps so = so
-      go (E.Take answer) h mid before steps so = over (L.start word) (P.lower (own t) (E.Take answer)) (below t) (refl, tt) so
+      go (E.Take answer) h mid before steps so = over (L.start word) (P.lower (own t) (E.Take answer)) (below t)
+          (refl, tt) so
       go (E.Receive now from bytes up settled answer) h mid before steps so =
           let s : E.Own = own t in
           let v : Verdict = R.verdict_on s from up in
@@ -233,9 +292,14 @@ module _ (server : Endpoint) (word : ℕ) where
           let settles : List Asked = R.settling (R.settles v) s.server s.running settled in
           let replies : List Asked = R.replying from (R.id_in up) (R.reply_by v (R.id_in up)) in
           let first = steps_split mid h (R.acts s from up settled v) (a ∷ []) steps in
-          let step : L.Step mid now (T.Receive from bytes) up first.0 = subst (λ w. L.Step w now (T.Receive from bytes) up first.0) first.1.1 first.1.2 in
+          let step : L.Step mid now (T.Receive from bytes) up first.0 =
+          subst (λ w. L.Step w now (T.Receive from bytes) up first.0) first.1.1 first.1.2 in
           let received : So (L.start word) (a ∷ below t) = over (L.start word) (a ∷ []) (below t) (refl, tt) so in
           let with_reply : So (L.start word) (replies ++ (a ∷ below t)) =
-          reply_if (L.start word) from (R.id_in up) (R.reply_by v (R.id_in up)) now bytes up (below t) mid first.0 before step (λ b is. what_replies s from up b is) received in
-          let all : So (L.start word) (settles ++ (replies ++ (a ∷ below t))) = over (L.start word) settles (replies ++ (a ∷ below t)) (settling_none (R.settles v) s.server s.running settled) with_reply in
-          subst (So (L.start word)) (sym (append_assoc (settles ++ replies) (a ∷ []) (below t) ∙ append_assoc settles replies (a ∷ below t))) all
+          reply_if (L.start word) from (R.id_in up) (R.reply_by v (R.id_in up)) now bytes up
+          (below t) mid first.0 before step (λ b is. what_replies s from up b is) received in
+          let all : So (L.start word) (settles ++ (replies ++ (a ∷ below t))) =
+          over (L.start word) settles (replies ++ (a ∷ below t))
+          (settling_none (R.settles v) s.server s.running settled) with_reply in
+          subst (So (L.start word)) (sym (append_assoc (settles ++ replies) (a ∷ []) (below t)
+          ∙ append_assoc settles replies (a ∷ below t))) all

@@ -36,7 +36,8 @@ pub record Fits (m : Message) (id : ℕ) (bytes : List ℕ) : Type 0 where
   pub id_is : reply.id ≡ id
   pub kind : (reply.kind ≡ Rst) ⊎ ((reply.kind ≡ Ack) × (m.kind ≡ Con))
 
-module _ (begin : L.State) (from : Endpoint) (now : ℕ) (bytes : List ℕ) (up : T.Answer) (rest : List G.Asked) (mid new : L.State) (before : Steps begin rest mid) (step : L.Step mid now (T.Receive from bytes) up new) where
+module _ (begin : L.State) (from : Endpoint) (now : ℕ) (bytes : List ℕ) (up : T.Answer) (rest : List G.Asked)
+    (mid new : L.State) (before : Steps begin rest mid) (step : L.Step mid now (T.Receive from bytes) up new) where
   abbrev received : List G.Asked
   received = asked now (T.Receive from bytes) up ∷ rest
 
@@ -46,8 +47,10 @@ module _ (begin : L.State) (from : Endpoint) (now : ℕ) (bytes : List ℕ) (up 
   there : mid ≡ left_after begin rest
   there = steps_left begin rest mid before
 
-  right : up ≡ L.answer_of (left_after begin rest) (L.moment (left_after begin rest) now (T.Receive from bytes)) (T.Receive from bytes)
-  right = subst (λ w. up ≡ L.answer_of w (L.moment w now (T.Receive from bytes)) (T.Receive from bytes)) there step.right
+  right : up ≡ L.answer_of (left_after begin rest) (L.moment (left_after begin rest) now (T.Receive from bytes))
+      (T.Receive from bytes)
+  right = subst (λ w. up ≡ L.answer_of w (L.moment w now (T.Receive from bytes)) (T.Receive from bytes)) there
+      step.right
 
   heard : (m : Message) → Hands up m → handed arrival ≡ Some (record { from = from; message = m })
   heard m h = ap (λ a. from_there from (handed_by a)) (sym right) ∙ ap (from_there from) h.up_is
@@ -56,7 +59,8 @@ module _ (begin : L.State) (from : Endpoint) (now : ℕ) (bytes : List ℕ) (up 
   small m h = let k = spelled mid new now from bytes up m step h.in_is in let i = k.id in omega (arith, i)
 
   -- at once
-  pub at_once : (m : Message) (id : ℕ) (b : List ℕ) → Hands up m → Fits m id b → RepliesSo (entries begin received) (L.made (left_after begin received) 0 (T.Reply from id b))
+  pub at_once : (m : Message) (id : ℕ) (b : List ℕ) → Hands up m → Fits m id b
+      → RepliesSo (entries begin received) (L.made (left_after begin received) 0 (T.Reply from id b))
   at_once m id b h f to n c k =
       let n_is : id ≡ n = cc k in
       let c_is : b ≡ c = cc k in
@@ -74,7 +78,8 @@ module _ (begin : L.State) (from : Endpoint) (now : ℕ) (bytes : List ℕ) (up 
 
   -- .. also where only the clock was moved, to the same moment
   pub at_once_then : (m : Message) (id : ℕ) (b : List ℕ) → Hands up m → Fits m id b
-      → RepliesSo (entries begin (asked now T.Pass T.Nothing ∷ received)) (L.made (left_after begin (asked now T.Pass T.Nothing ∷ received)) 0 (T.Reply from id b))
+      → RepliesSo (entries begin (asked now T.Pass T.Nothing ∷ received))
+      (L.made (left_after begin (asked now T.Pass T.Nothing ∷ received)) 0 (T.Reply from id b))
   at_once_then m id b h f to n c k =
       let n_is : id ≡ n = cc k in
       let c_is : b ≡ c = cc k in
@@ -92,23 +97,36 @@ pub record Came (from : Endpoint) (up : T.Answer) (a : Asked) (m : Message) : Ty
   pub up_is : up ≡ T.Becomes (T.Request m true)
   pub asked_is : a ≡ P.asked_of from m
 
-pub came_by : (from : Endpoint) (up : T.Answer) (a : Asked) (m : Message) → Some (a, m) ≡ P.handed_up from up → Came from up a m
+pub came_by : (from : Endpoint) (up : T.Answer) (a : Asked) (m : Message) → Some (a, m) ≡ P.handed_up from up
+    → Came from up a m
 came_by from (T.Becomes (T.Request n true)) a m h =
     let p : ◌≡◌ {A = Asked × Message} (a, m) (P.asked_of from n, n) = cc h in
     let same : m ≡ n = ap (λ (q : Asked × Message). q.1) p in
-    record { up_is = ap (λ k. T.Becomes (T.Request k true)) (sym same); asked_is = ap (λ (q : Asked × Message). q.0) p ∙ ap (P.asked_of from) (sym same) }
+    record {
+      up_is = ap (λ k. T.Becomes (T.Request k true)) (sym same);
+      asked_is = ap (λ (q : Asked × Message). q.0) p ∙ ap (P.asked_of from) (sym same);
+    }
 came_by from up a m h = absurd (cc h)
 
 -- a response that is rejected
-reject_hands : (up : T.Answer) (b : List ℕ) → P.reject_by up ≡ Some b → (m : Message) × Hands up m × (id_in up ≡ m.id) × (b ≡ reset_bytes m.id)
+reject_hands : (up : T.Answer) (b : List ℕ) → P.reject_by up ≡ Some b
+    → (m : Message) × Hands up m × (id_in up ≡ m.id) × (b ≡ reset_bytes m.id)
 reject_hands (T.Becomes (T.Response m)) b h = by (is_kept m.kind) refl h
   where
-    by : (k : Bool) → is_kept m.kind ≡ k → cond k (Some (reset_bytes m.id)) None ≡ Some b → (n : Message) × Hands (T.Becomes (T.Response m)) n × (m.id ≡ n.id) × (b ≡ reset_bytes n.id)
-    by true is e = (m, record { up_is = ap (λ w. cond w (Some m) None) is; in_is = refl }, refl, sym (let s : reset_bytes m.id ≡ b = cc e in s))
+    by : (k : Bool) → is_kept m.kind ≡ k → cond k (Some (reset_bytes m.id)) None ≡ Some b
+        → (n : Message) × Hands (T.Becomes (T.Response m)) n × (m.id ≡ n.id) × (b ≡ reset_bytes n.id)
+    by true is e = (
+      m,
+      record { up_is = ap (λ w. cond w (Some m) None) is; in_is = refl },
+      refl,
+      sym (let s : reset_bytes m.id ≡ b = cc e in s),
+    )
     by false is e = absurd (cc e)
 reject_hands up b h = absurd (cc h)
 
-module _ (begin : L.State) (from : Endpoint) (now : ℕ) (bytes : List ℕ) (up : T.Answer) (rest : List G.Asked) (mid new : L.State) (before : Steps begin rest mid) (step : L.Step mid now (T.Receive from bytes) up new) (so : So begin rest) where
+module _ (begin : L.State) (from : Endpoint) (now : ℕ) (bytes : List ℕ) (up : T.Answer) (rest : List G.Asked)
+    (mid new : L.State) (before : Steps begin rest mid) (step : L.Step mid now (T.Receive from bytes) up new)
+    (so : So begin rest) where
   abbrev first : List G.Asked
   first = asked now (T.Receive from bytes) up ∷ rest
 
@@ -120,11 +138,18 @@ module _ (begin : L.State) (from : Endpoint) (now : ℕ) (bytes : List ℕ) (up 
   rejecting (Some b) is =
       let k = reject_hands up b is in
       let low = small begin from now bytes up rest mid new before step k.0 k.1 in
-      let f : Fits k.0 (id_in up) b = record { reply = empty_of Rst k.0.id; spells = subst (λ w. Spells w (empty_of Rst k.0.id)) (sym k.3) (reset_spells k.0.id low); id_is = sym k.2; kind = inl refl } in
+      let f : Fits k.0 (id_in up) b = record {
+        reply = empty_of Rst k.0.id;
+        spells = subst (λ w. Spells w (empty_of Rst k.0.id)) (sym k.3) (reset_spells k.0.id low);
+        id_is = sym k.2;
+        kind = inl refl;
+      } in
       (at_once begin from now bytes up rest mid new before step k.0 (id_in up) b k.1 f, taken)
 
   -- a piggybacked response
-  pub piggybacked : (s : E.Own) (a : Asked) (m : Message) (r : E.Response) (below : T.Answer) → Came from up a m → P.IsResponse a r → (kind : Kind) → a.kind ≡ kind → So begin (asked s.clock (P.answering s kind a r) below ∷ first)
+  pub piggybacked : (s : E.Own) (a : Asked) (m : Message) (r : E.Response) (below : T.Answer) → Came from up a m
+      → P.IsResponse a r → (kind : Kind) → a.kind ≡ kind
+      → So begin (asked s.clock (P.answering s kind a r) below ∷ first)
   piggybacked s a m r below c is Non k = ((λ to id b h. absurd (cc h)), taken)
   piggybacked s a m r below c is Ack k = ((λ to id b h. absurd (cc h)), taken)
   piggybacked s a m r below c is Rst k = ((λ to id b h. absurd (cc h)), taken)
@@ -135,11 +160,20 @@ module _ (begin : L.State) (from : Endpoint) (now : ℕ) (bytes : List ℕ) (up 
       let from_is : a.from ≡ from = ap (λ (x : Asked). x.from) c.asked_is in
       let kind_is : m.kind ≡ Con = sym (ap (λ (x : Asked). x.kind) c.asked_is) ∙ k in
       let b : List ℕ = message_bytes (with_head Ack a.id.0 (P.content_of a r)) in
-      let f : Fits m a.id.0 b = record { reply = with_head Ack a.id.0 (P.content_of a r); spells = is.spelled Ack a.id.0 (omega (arith, low, id_is)); id_is = refl; kind = inr (refl, kind_is) } in
-      (subst (λ e. RepliesSo (entries begin first) (L.made (left_after begin first) 0 (T.Reply e a.id.0 b))) (sym from_is) (at_once begin from now bytes up rest mid new before step m a.id.0 b h f), taken)
+      let f : Fits m a.id.0 b = record {
+        reply = with_head Ack a.id.0 (P.content_of a r);
+        spells = is.spelled Ack a.id.0 (omega (arith, low, id_is));
+        id_is = refl;
+        kind = inr (refl, kind_is);
+      } in (
+        subst (λ e. RepliesSo (entries begin first) (L.made (left_after begin first) 0 (T.Reply e a.id.0 b)))
+            (sym from_is) (at_once begin from now bytes up rest mid new before step m a.id.0 b h f),
+        taken,
+      )
 
   -- an Empty acknowledgement
-  pub acknowledged : (a : Asked) (m : Message) → Came from up a m → a.kind ≡ Con → (d : Bool) → So begin (P.deferring d a ++ (asked now T.Pass T.Nothing ∷ first))
+  pub acknowledged : (a : Asked) (m : Message) → Came from up a m → a.kind ≡ Con → (d : Bool)
+      → So begin (P.deferring d a ++ (asked now T.Pass T.Nothing ∷ first))
   acknowledged a m c k false = ((λ to id b h. absurd (cc h)), taken)
   acknowledged a m c k true =
       let h : Hands up m = record { up_is = ap handed_by c.up_is; in_is = ap message_in c.up_is } in
@@ -147,8 +181,15 @@ module _ (begin : L.State) (from : Endpoint) (now : ℕ) (bytes : List ℕ) (up 
       let id_is : a.id.0 ≡ m.id = ap (λ (x : Asked). x.id.0) c.asked_is in
       let from_is : a.from ≡ from = ap (λ (x : Asked). x.from) c.asked_is in
       let kind_is : m.kind ≡ Con = sym (ap (λ (x : Asked). x.kind) c.asked_is) ∙ k in
-      let f : Fits m a.id.0 (ack_bytes a.id.0) = record { reply = empty_of Ack a.id.0; spells = ack_spells a.id.0 (omega (arith, low, id_is)); id_is = refl; kind = inr (refl, kind_is) } in (
-        subst (λ e. RepliesSo (entries begin (asked now T.Pass T.Nothing ∷ first)) (L.made (left_after begin (asked now T.Pass T.Nothing ∷ first)) 0 (T.Reply e a.id.0 (ack_bytes a.id.0)))) (sym from_is)
+      let f : Fits m a.id.0 (ack_bytes a.id.0) = record {
+        reply = empty_of Ack a.id.0;
+        spells = ack_spells a.id.0 (omega (arith, low, id_is));
+        id_is = refl;
+        kind = inr (refl, kind_is);
+      } in (
+        subst (λ e. RepliesSo (entries begin (asked now T.Pass T.Nothing ∷ first))
+            (L.made (left_after begin (asked now T.Pass T.Nothing ∷ first)) 0 (T.Reply e a.id.0 (ack_bytes a.id.0))))
+            (sym from_is)
             (at_once_then begin from now bytes up rest mid new before step m a.id.0 (ack_bytes a.id.0) h f),
         ((λ to id b e. absurd (cc e)), taken),
       )

@@ -1,4 +1,5 @@
--- What a tick of a client's exchanges takes, and that a request leaves as many steps due (RFC 7252, sections 4.2 and 5.2.2).
+-- What a tick of a client's exchanges takes, and that a request leaves as many steps due (RFC 7252, sections 4.2 and
+-- 5.2.2).
 use Rattle.std.proofs.Common.{◌≡◌, ◌⊎◌, inl, inr, ℕ, max, Bool, true, false, Option, Some, None, is_some, refl, ap}
 use Rattle.std.proofs.Common.{cond}
 use Rattle.coap_types.specs.declared.endpoint.Endpoint.{Endpoint}
@@ -23,11 +24,13 @@ IsTaken turn.Copied below o = is_step below ≡ true
 IsTaken (turn.End e) below o = (is_step below ≡ true) ⊎ (is_some o ≡ true)
 IsTaken turn.Idle below o = Unit {0}
 
-expired_taken : (to : Endpoint) (id : ℕ) (o : Option Exchange) (b : Bool) (e : Event) → IsTaken (cond b (turn.End e) turn.Idle) (L.Expired to id) o
+expired_taken : (to : Endpoint) (id : ℕ) (o : Option Exchange) (b : Bool) (e : Event)
+    → IsTaken (cond b (turn.End e) turn.Idle) (L.Expired to id) o
 expired_taken to id o true e = inl refl
 expired_taken to id o false e = tt
 
-waited_taken : (at : ℕ) (o : Option Exchange) (e : Event) → IsTaken (cond (R.has_waited at (R.acked_in o)) (turn.End e) turn.Idle) L.Idle o
+waited_taken : (at : ℕ) (o : Option Exchange) (e : Event)
+    → IsTaken (cond (R.has_waited at (R.acked_in o)) (turn.End e) turn.Idle) L.Idle o
 waited_taken at None e = tt
 waited_taken at (Some x) e = by (R.has_waited at (R.acked_in (Some x)))
   where
@@ -42,8 +45,18 @@ turn_taken s at L.Idle = waited_taken at s.running _
 turn_taken s at up = tt
 
 -- the layer, where a request is asked for
-pub opened_least : (s new : S.State) (at : ℕ) (o : Opening) (server : Endpoint) (content : L.Content) (w : ℕ) (a : L.Answer) → S.Step s at (Q.beneath o server content w) a new
+pub opened_least : (s new : S.State) (at : ℕ) (o : Opening) (server : Endpoint) (content : L.Content) (w : ℕ)
+    (a : L.Answer) → S.Step s at (Q.beneath o server content w) a new
     → (new.clock ≡ max s.clock at) × (due_count (max s.clock at) new.open_cons ≡ due_count (max s.clock at) s.open_cons)
-opened_least s new at Running server content w a step = (ap (λ (x : S.State). x.clock) step.new_is, ap (due_count (max s.clock at)) (same_opens s new at L.Pass a step (λ e c. refl) (λ n. refl)))
-opened_least s new at Spent server content w a step = (ap (λ (x : S.State). x.clock) step.new_is, ap (due_count (max s.clock at)) (same_opens s new at L.AsksFree a step (λ e c. refl) (λ n. refl)))
-opened_least s new at Sends server content w a step = (ap (λ (x : S.State). x.clock) step.new_is, confirm_least s new at server content w a step)
+opened_least s new at Running server content w a step = (
+  ap (λ (x : S.State). x.clock) step.new_is,
+  ap (due_count (max s.clock at))
+      (same_opens s new at L.Pass a step (λ e c. refl) (λ n. refl)),
+)
+opened_least s new at Spent server content w a step = (
+  ap (λ (x : S.State). x.clock) step.new_is,
+  ap (due_count (max s.clock at))
+      (same_opens s new at L.AsksFree a step (λ e c. refl) (λ n. refl)),
+)
+opened_least s new at Sends server content w a step =
+    (ap (λ (x : S.State). x.clock) step.new_is, confirm_least s new at server content w a step)

@@ -19,8 +19,10 @@ filter_again : {A : Type 0} (f : A → Bool) (xs : List A) → filter f xs ≡ f
 filter_again f [] = refl
 filter_again {A} f (x ∷ xs) = by (f x) refl (filter_again f xs)
   where
-    by : (b : Bool) → f x ≡ b → filter f xs ≡ filter f (filter f xs) → cond b (x ∷ filter f xs) (filter f xs) ≡ filter f (cond b (x ∷ filter f xs) (filter f xs))
-    by true e rest = ap (λ ys. x ∷ ys) rest ∙ sym (ap (λ b. cond b (x ∷ filter f (filter f xs)) (filter f (filter f xs))) e)
+    by : (b : Bool) → f x ≡ b → filter f xs ≡ filter f (filter f xs)
+        → cond b (x ∷ filter f xs) (filter f xs) ≡ filter f (cond b (x ∷ filter f xs) (filter f xs))
+    by true e rest = ap (λ ys. x ∷ ys) rest ∙ sym
+        (ap (λ b. cond b (x ∷ filter f (filter f xs)) (filter f (filter f xs))) e)
     by false e rest = rest
 
 pub only_live : (word : ℕ) (calls : List Asked) (s : S.State) → Steps (S.start word) calls s → OnlyLive s
@@ -41,7 +43,8 @@ none_wait (x ∷ q) h = absurd (cc h)
 
 module _ (old new : S.State) where
   pub layer_some : (p : L.Packet) → S.Step old 0 L.Take (L.Gives (Some p)) new → old.queue ≡ p ∷ new.queue
-  layer_some p step = behind old.queue p (cc step.right) ∙ ap (λ q. p ∷ q) (sym (append-nil (drop 1 old.queue)) ∙ sym (ap (λ (s : S.State). s.queue) step.new_is))
+  layer_some p step = behind old.queue p (cc step.right)
+      ∙ ap (λ q. p ∷ q) (sym (append-nil (drop 1 old.queue)) ∙ sym (ap (λ (s : S.State). s.queue) step.new_is))
 
   pub layer_empty : S.Step old 0 L.Take (L.Gives None) new → old.queue ≡ []
   layer_empty step = none_wait old.queue (cc step.right)
@@ -51,11 +54,18 @@ module _ (old new : S.State) where
       let e : L.Entry = made old 0 L.Take in
       let arrived : filter (is_live old.clock) (map (stores e) old.arrived ++ []) ≡ old.arrived =
       ap (λ es. filter (is_live old.clock) es) (append-nil _ ∙ all_stay old.arrived) ∙ sym live in
-      let opens : filter_map (left_by e) old.open_cons ++ [] ≡ old.open_cons = left_same_nil e (λ c. refl) old.open_cons in
-      let queue : drop 1 old.queue ++ [] ≡ old.queue = ap (λ (q : List L.Packet). drop 1 q ++ []) (layer_empty step) ∙ sym (layer_empty step) in
+      let opens : filter_map (left_by e) old.open_cons
+      ++ [] ≡ old.open_cons = left_same_nil e (λ c. refl) old.open_cons in
+      let queue : drop 1 old.queue ++ [] ≡ old.queue = ap (λ (q : List L.Packet). drop 1 q ++ []) (layer_empty step)
+      ∙ sym (layer_empty step) in
       step.new_is
-      ∙ (ap (λ es. record old { arrived = es; open_cons = filter_map (left_by e) old.open_cons ++ []; queue = drop 1 old.queue ++ [] }) arrived
-      ∙ (ap (λ cs. record old { open_cons = cs; queue = drop 1 old.queue ++ [] }) opens ∙ ap (λ q. record old { queue = q }) queue))
+      ∙ (ap (λ es. record old {
+        arrived = es;
+        open_cons = filter_map (left_by e) old.open_cons ++ [];
+        queue = drop 1 old.queue ++ [];
+      }) arrived
+      ∙ (ap (λ cs. record old { open_cons = cs; queue = drop 1 old.queue ++ [] }) opens
+      ∙ ap (λ q. record old { queue = q }) queue))
     where
       all_stay : (es : List Arrived) → map (stores (made old 0 L.Take)) es ≡ es
       all_stay [] = refl

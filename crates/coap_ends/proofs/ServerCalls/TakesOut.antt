@@ -9,7 +9,8 @@ use Rattle.coap_ends.specs.ServerTurns.ServerWork.{WasLed}
 use Rattle.coap_ends.proofs.Rest.FirstOut.{layer_empty, layer_none, layer_some, only_live}
 
 module _ (old new : State) where
-  layer_step : (answer : Option L.Packet) → Step old (NextOut answer) new → S.Step old.layer 0 L.Take (L.Gives answer) new.layer
+  layer_step : (answer : Option L.Packet) → Step old (NextOut answer) new
+      → S.Step old.layer 0 L.Take (L.Gives answer) new.layer
   layer_step answer step =
       let under = step.under in
       let taken = under.2.under in
@@ -22,17 +23,20 @@ module _ (old new : State) where
   pub takes_none : WasLed old → Step old (NextOut None) new → (old.layer.queue ≡ []) × (new ≡ old)
   takes_none (limit, szx, word, t, led) step =
       let one = layer_step None step in
-      let layer : new.layer ≡ old.layer = layer_none old.layer new.layer (only_live word _ old.layer led.exchanges.layer) one in
+      let layer : new.layer ≡ old.layer = layer_none old.layer new.layer
+      (only_live word _ old.layer led.exchanges.layer) one in
       let own : new.own ≡ old.own = step.own_is in (
         layer_empty old.layer new.layer one,
         ap (λ (o : Own). record new { own = o }) own ∙ ap (λ (l : S.State). record old { layer = l }) layer,
       )
 
 -- .. as contracts say it
-pub if_none : (r : Option L.Packet) (old new : State) → WasLed old → Step old (NextOut r) new → IfNone r ((old.layer.queue ≡ []) × (new ≡ old))
+pub if_none : (r : Option L.Packet) (old new : State) → WasLed old → Step old (NextOut r) new
+    → IfNone r ((old.layer.queue ≡ []) × (new ≡ old))
 if_none None old new led step = takes_none old new led step
 if_none (Some p) old new led step = tt
 
-pub if_some : (r : Option L.Packet) (old new : State) → Step old (NextOut r) new → IfSome r (λ p. old.layer.queue ≡ p ∷ new.layer.queue)
+pub if_some : (r : Option L.Packet) (old new : State) → Step old (NextOut r) new
+    → IfSome r (λ p. old.layer.queue ≡ p ∷ new.layer.queue)
 if_some None old new step = tt
 if_some (Some p) old new step = takes_first old new p step

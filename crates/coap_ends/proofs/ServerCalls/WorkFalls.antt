@@ -24,11 +24,15 @@ use Rattle.coap_ends.specs.ServerTurns.ServerWork.{work, WasLed}
 module _ (limit szx word : ℕ) where
   work_is : (now : ℕ) (t : List Call) (s : State) → Led limit szx word t s → work s now ≡ size limit szx word now t
   work_is now t s led =
-      ap (λ (o : Own). due_count (max s.layer.clock (max o.clock now)) s.layer.open_cons + (length (marked o.observers) + 65 * length o.waiting)) led.own_is
-      ∙ (ap (λ (l : S.State). due_count (max l.clock (max (own_of limit szx t).clock now)) l.open_cons + (length (marked (own_of limit szx t).observers) + 65 * length (own_of limit szx t).waiting))
-      (steps_left (S.start word) (X.lower_of (lower_of limit szx t)) s.layer led.exchanges.layer) ∙ sym (size_is limit szx word now t))
+      ap (λ (o : Own). due_count (max s.layer.clock (max o.clock now)) s.layer.open_cons +
+      (length (marked o.observers) + 65 * length o.waiting)) led.own_is
+      ∙ (ap (λ (l : S.State). due_count (max l.clock (max (own_of limit szx t).clock now)) l.open_cons +
+      (length (marked (own_of limit szx t).observers) + 65 * length (own_of limit szx t).waiting))
+      (steps_left (S.start word) (X.lower_of (lower_of limit szx t)) s.layer led.exchanges.layer)
+      ∙ sym (size_is limit szx word now t))
 
-module _ (old new : State) (now w : ℕ) (below : L.Answer) (room : Bool) (d : Due) (passed : ℕ) (h : Handling) (id : ℕ) where
+module _ (old new : State) (now w : ℕ) (below : L.Answer) (room : Bool) (d : Due) (passed : ℕ) (h : Handling)
+    (id : ℕ) where
   pub work_falls : WasLed old → Step old (Ticks now w below room d passed h id true) new → work new now < work old now
   work_falls (limit, szx, word, t, led) step =
       let c : Call = Ticks now w below room d passed h id true in
@@ -39,7 +43,8 @@ module _ (old new : State) (now w : ℕ) (below : L.Answer) (room : Bool) (d : D
 
 -- .. and what was led is led on by each call
 pub led_on : (c : Call) (old new : State) → WasLed old → Step old c new → WasLed new
-led_on c old new (limit, szx, word, t, led) step = (limit, szx, word, c ∷ t, led_further limit szx word t c old new led step)
+led_on c old new (limit, szx, word, t, led) step =
+    (limit, szx, word, c ∷ t, led_further limit szx word t c old new led step)
 
 pub if_ok : {X Y : Type 0} {P Q : X → Type 0} (r : Result X Y) → ((x : X) → P x → Q x) → IfOk r P → IfOk r Q
 if_ok (Ok x) f p = f x p
@@ -58,7 +63,8 @@ pub on_err : {X Y P Q : Type 0} (r : Result X Y) → (P → Q) → OnErr r P →
 on_err (Ok x) f p = tt
 on_err (Err e) f p = f p
 
-pub closes_set : {X W : Type 0} (r : Result X StoreRefusal) → (r ≢ Err store_refusals.Memory → W) → (r ≡ Err store_refusals.Memory → W) → W
+pub closes_set : {X W : Type 0} (r : Result X StoreRefusal) → (r ≢ Err store_refusals.Memory → W)
+    → (r ≡ Err store_refusals.Memory → W) → W
 closes_set (Ok x) other memory = other (λ e. cc e)
 closes_set (Err store_refusals.Memory) other memory = memory refl
 closes_set (Err store_refusals.TooLarge) other memory = other (λ e. cc e)
@@ -66,24 +72,29 @@ closes_set (Err store_refusals.TooManyPaths) other memory = other (λ e. cc e)
 closes_set (Err store_refusals.RateExceeded) other memory = other (λ e. cc e)
 closes_set (Err store_refusals.VersionsSpent) other memory = other (λ e. cc e)
 
-pub closes_delay : {X W : Type 0} (r : Result X DelayRefusal) → (r ≢ Err delay_refusals.Memory → W) → (r ≡ Err delay_refusals.Memory → W) → W
+pub closes_delay : {X W : Type 0} (r : Result X DelayRefusal) → (r ≢ Err delay_refusals.Memory → W)
+    → (r ≡ Err delay_refusals.Memory → W) → W
 closes_delay (Ok x) other memory = other (λ e. cc e)
 closes_delay (Err delay_refusals.Memory) other memory = memory refl
 closes_delay (Err delay_refusals.Full) other memory = other (λ e. cc e)
 
 -- what callers see is led as what is inside
-pub seen_led : {S : Type 0} (content : S → Content) (inside outside : Kept S) → inside ≡ outside → WasLed (state_of content inside) → WasLed (state_of content outside)
+pub seen_led : {S : Type 0} (content : S → Content) (inside outside : Kept S) → inside ≡ outside
+    → WasLed (state_of content inside) → WasLed (state_of content outside)
 seen_led content inside outside e led = subst (λ k. WasLed (state_of content k)) e led
 
 -- .. where nothing changed
-pub same_led : {S : Type 0} (content : S → Content) (old new : Kept S) → WasLed (state_of content old) → new ≡ old → WasLed (state_of content new)
+pub same_led : {S : Type 0} (content : S → Content) (old new : Kept S) → WasLed (state_of content old) → new ≡ old
+    → WasLed (state_of content new)
 same_led content old new led e = subst (λ k. WasLed (state_of content k)) (sym e) led
 
 abbrev Ticked : State → ℕ → ℕ → State → Bool → Type 0
 Ticked old now w new did =
-    (below : L.Answer) × (room : Bool) × (d : Due) × (passed : ℕ) × (h : Handling) × (id : ℕ) × Step old (Ticks now w below room d passed h id did) new
+    (below : L.Answer) × (room : Bool) × (d : Due) × (passed : ℕ) × (h : Handling) × (id : ℕ)
+    × Step old (Ticks now w below room d passed h id did) new
 
-pub ticks_fall : {Y : Type 0} (r : Result Bool Y) (old new : State) (now w : ℕ) → WasLed old → IfOk r (λ did. Ticked old now w new did) → r ≡ Ok true → work new now < work old now
+pub ticks_fall : {Y : Type 0} (r : Result Bool Y) (old new : State) (now w : ℕ) → WasLed old
+    → IfOk r (λ did. Ticked old now w new did) → r ≡ Ok true → work new now < work old now
 ticks_fall (Ok true) old new now w led s e = work_falls old new now w s.0 s.1 s.2 s.3 s.4 s.5 led s.6
 ticks_fall (Ok false) old new now w led s e = absurd (cc e)
 ticks_fall (Err x) old new now w led s e = absurd (cc e)

@@ -9,12 +9,16 @@ use Rattle.coap_layer.specs.Machine.Steps as G
 -- an entry for each call
 pub left_is : (old new : S.State) (calls : List G.Asked) → Steps old calls new → new ≡ left_after old calls
 left_is old new [] h = h
-left_is old new (a ∷ earlier) h = h.2.new_is ∙ ap (λ s. S.forgotten (S.after s (S.made s a.now a.call))) (left_is old h.0 earlier h.1)
+left_is old new (a ∷ earlier) h = h.2.new_is ∙ ap (λ s. S.forgotten (S.after s (S.made s a.now a.call)))
+    (left_is old h.0 earlier h.1)
 
-pub entry_of : (K : L.Call → L.Answer → Type 0) (old new : S.State) (calls : List G.Asked) → Steps old calls new → Ever (λ (b : G.Asked). K b.call b.answer) calls → Ever (λ (e : L.Entry). K e.call e.answer) (entries old calls)
+pub entry_of : (K : L.Call → L.Answer → Type 0) (old new : S.State) (calls : List G.Asked) → Steps old calls new
+    → Ever (λ (b : G.Asked). K b.call b.answer) calls → Ever (λ (e : L.Entry). K e.call e.answer) (entries old calls)
 entry_of K old new [] h e = e
 entry_of K old new (a ∷ earlier) h (inr e) = inr (entry_of K old h.0 earlier h.1 e)
 entry_of K old new (a ∷ earlier) h (inl e) =
     let s : S.State = left_after old earlier in
-    let right : a.answer ≡ S.answer_of s (S.moment s a.now a.call) a.call = subst (λ w. a.answer ≡ S.answer_of w (S.moment w a.now a.call) a.call) (left_is old h.0 earlier h.1) h.2.right in
+    let right : a.answer ≡ S.answer_of s (S.moment s a.now a.call) a.call =
+    subst (λ w. a.answer ≡ S.answer_of w (S.moment w a.now a.call) a.call)
+    (left_is old h.0 earlier h.1) h.2.right in
     inl (subst (K a.call) right e)

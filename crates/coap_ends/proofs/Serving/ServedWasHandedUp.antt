@@ -33,8 +33,10 @@ kind_is Rst Ack h = absurd (cc h)
 
 pub same_asked_is : (a b : Asked) → same_asked a b ≡ true → a ≡ b
 same_asked_is a b h =
-    let p = and_parts (same_endpoint a.from b.from) ((kind_number a.kind == kind_number b.kind) && ((a.id.0 == b.id.0) && same_token a.token b.token)) h in
-    let q = and_parts (kind_number a.kind == kind_number b.kind) ((a.id.0 == b.id.0) && same_token a.token b.token) p.1 in
+    let p = and_parts (same_endpoint a.from b.from)
+    ((kind_number a.kind == kind_number b.kind) && ((a.id.0 == b.id.0) && same_token a.token b.token)) h in
+    let q = and_parts (kind_number a.kind == kind_number b.kind)
+    ((a.id.0 == b.id.0) && same_token a.token b.token) p.1 in
     let r = and_parts (a.id.0 == b.id.0) (same_token a.token b.token) q.1 in
     let from = same_endpoint_is a.from b.from p.0 in
     let kind = kind_is a.kind b.kind q.0 in

@@ -14,8 +14,10 @@ pub record FoundReady (below : L.Answer) (o : Option Deferred) (a : Asked) : Typ
   pub first : o ≡ Some deferred
   pub asked : deferred.asked ≡ a
 
-pub found_ready : (below : L.Answer) (o : Option Deferred) (room : Bool) (a : Asked) → due.Ready a ≡ P.due_of below o room → FoundReady below o a
-found_ready L.Idle (Some d) true a h = record { idle = refl; deferred = d; first = refl; asked = (let e : a ≡ d.asked = cc h in sym e) }
+pub found_ready : (below : L.Answer) (o : Option Deferred) (room : Bool) (a : Asked)
+    → due.Ready a ≡ P.due_of below o room → FoundReady below o a
+found_ready L.Idle (Some d) true a h = record
+    { idle = refl; deferred = d; first = refl; asked = (let e : a ≡ d.asked = cc h in sym e) }
 found_ready L.Idle (Some d) false a h = absurd (cc h)
 found_ready L.Idle None room a h = absurd (cc h)
 found_ready up o room a h = absurd (cc h)

@@ -26,15 +26,17 @@ module _ (server : Endpoint) (szx word : ℕ) where
   HasReport number t = Sometime (λ past c. (x : Reported) × (x.number ≡ number) × IsFinal past c x) t
 
   abbrev pub ReportedOnce : List Call → Type 0
-  ReportedOnce trace = Always (λ past c. (x : Reported) → reports (own_of szx past) c ≡ Some x → HasReport x.number past → ⊥) trace
+  ReportedOnce trace = Always (λ past c. (x : Reported) → reports (own_of szx past) c ≡ Some x → HasReport x.number past
+      → ⊥) trace
 
-  -- The exchange that runs is not due: FAILURE_TIMEOUTS initial timeouts after its request without an acknowledgement, or
-  -- EXCHANGE_LIFETIME after that.
+  -- The exchange that runs is not due: FAILURE_TIMEOUTS initial timeouts after its request without an acknowledgement,
+  -- or EXCHANGE_LIFETIME after that.
   pub record IsNotDue (t : List Call) (at : ℕ) : Type 0 where
     pub exchange : Exchange
     pub running : (X.own_of server word (lower_of szx t)).running ≡ Some exchange
     pub not_due :
-        ((exchange.acked ≡ None) × ((begun : Begun) × (A.last_begun server word (lower_of szx t) ≡ Some begun) × (at - begun.at < begun.timeout * failure_timeouts)))
+        ((exchange.acked ≡ None) × ((begun : Begun) × (A.last_begun server word (lower_of szx t) ≡ Some begun)
+        × (at - begun.at < begun.timeout * failure_timeouts)))
         ⊎ ((acked : Moment) × (exchange.acked ≡ Some acked) × (at - acked.0 < exchange_lifetime))
 
   -- the first of what waits is an upload that is held back
@@ -50,7 +52,8 @@ module _ (server : Endpoint) (szx word : ℕ) where
   WaitsFor past c = IsNotDue (c ∷ past) (own_of szx (c ∷ past)).clock ⊎ IsHeld (own_of szx (c ∷ past))
 
   abbrev pub IsIdleTick : Call → Type 0
-  IsIdleTick c = (now w : ℕ) × (below : _) × (turn : _) × (sent : _) × (token : _) × (kept : _) × (c ≡ Ticks now w below turn sent token kept false)
+  IsIdleTick c = (now w : ℕ) × (below : _) × (turn : _) × (sent : _) × (token : _) × (kept : _)
+      × (c ≡ Ticks now w below turn sent token kept false)
 
   -- .. or nothing waits, and nothing runs
   pub record IsEmpty (s : Own) : Type 0 where
@@ -61,7 +64,8 @@ module _ (server : Endpoint) (szx word : ℕ) where
   AreResting trace = Always (λ past c. IsIdleTick c → WaitsFor past c ⊎ IsEmpty (own_of szx (c ∷ past))) trace
 
   abbrev pub AreAnswered : List Call → Type 0
-  AreAnswered trace = Always (λ past c. IsIdleTick c → (x : Taken) → WasTaken x past → (HasReport x.number past → ⊥) → WaitsFor past c) trace
+  AreAnswered trace = Always (λ past c. IsIdleTick c → (x : Taken) → WasTaken x past → (HasReport x.number past → ⊥)
+      → WaitsFor past c) trace
 
 -- the number of the call, or of the observation, that an operation is of
 abbrev pub of_call : Operation → Option ℕ
@@ -74,4 +78,5 @@ of_call Dropped = None
 module _ (server : Endpoint) (szx word : ℕ) where
   -- Nothing is sent for a number behind its last report.
   abbrev pub NoneAfter : List Call → Type 0
-  NoneAfter trace = Always (λ past c. (x : Sending) (number : ℕ) → sends (own_of szx past) c ≡ Some x → of_call x.operation ≡ Some number → HasReport server szx word number past → ⊥) trace
+  NoneAfter trace = Always (λ past c. (x : Sending) (number : ℕ) → sends (own_of szx past) c ≡ Some x
+      → of_call x.operation ≡ Some number → HasReport server szx word number past → ⊥) trace

@@ -13,7 +13,8 @@ module _ (szx : ℕ) where
     pub last : last_sent szx past ≡ Some sending
     pub token : sending.token ≡ m.token
     pub number : (k : ℕ) → runs_call k (own_of szx past).running ≡ true → runs_call k (Some sending.operation) ≡ true
-    pub observation : (k : ℕ) → runs_fetch k (own_of szx past).running ≡ true → runs_fetch k (Some sending.operation) ≡ true
+    pub observation : (k : ℕ) → runs_fetch k (own_of szx past).running ≡ true
+        → runs_fetch k (Some sending.operation) ≡ true
 
   abbrev pub AnswersLast : List Call → Type 0
   AnswersLast trace = Always (λ past c. (m : Message) → hears c ≡ Some m → Answers past c m) trace

@@ -1,5 +1,5 @@
--- Where a block of one upload is sent, each block of another was answered, or goes nowhere any more (RFC 7252, section 4.8.2; RFC 7959,
--- section 2.5; the upload hold: profile).
+-- Where a block of one upload is sent, each block of another was answered, or goes nowhere any more (RFC 7252, section
+-- 4.8.2; RFC 7959, section 2.5; the upload hold: profile).
 use Rattle.std.specs.Prelude.{◌≡◌, ◌≢◌, ◌⊎◌, ◌<◌, ℕ, ◌+◌, true, Some, List, ◌∷◌}
 use Rattle.coap_types.specs.Past.{Ever, Always}
 use Rattle.coap_types.specs.declared.endpoint.Endpoint.{Endpoint}
@@ -33,5 +33,6 @@ module _ (server : Endpoint) (szx word : ℕ) where
   -- Where a block is sent, each block of another call's upload was answered, or is quiet.
   abbrev pub BlocksApart : List Call → Type 0
   BlocksApart trace =
-      Always (λ past c. (x y : Sending) (i j : ℕ) → sends (own_of szx past) c ≡ Some y → WasSent szx x past → IsBlockOf x i → IsBlockOf y j → i ≢ j
+      Always (λ past c. (x y : Sending) (i j : ℕ) → sends (own_of szx past) c ≡ Some y → WasSent szx x past
+      → IsBlockOf x i → IsBlockOf y j → i ≢ j
       → Ever (HearsBy x.token) (c ∷ past) ⊎ IsQuiet past c x) trace

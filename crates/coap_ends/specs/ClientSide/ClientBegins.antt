@@ -1,5 +1,5 @@
--- Which Confirmable messages a client's message layer begins: the requests that its calls send, alone (RFC 7252, sections 4.2 and
--- 5.2).
+-- Which Confirmable messages a client's message layer begins: the requests that its calls send, alone (RFC 7252,
+-- sections 4.2 and 5.2).
 use Rattle.std.specs.Prelude.{◌≡◌, ℕ, Some, List}
 use Rattle.coap_types.specs.Past.{Ever, Sometime, Always}
 use Rattle.coap_types.specs.declared.endpoint.Endpoint.{Endpoint}
@@ -32,8 +32,10 @@ pub record SendsNow (server : Endpoint) (szx : ℕ) (con : Open) (past : List Ca
 
 -- A CON begins in the entries that the very call adds which sends its request.
 abbrev pub BeginAtOnce : Endpoint → (szx word : ℕ) → List Call → Type 0
-BeginAtOnce server szx word t = Always (λ past c. (con : Open) → Ever (λ b. begun b ≡ Some con) (call_adds server szx word past c) → SendsNow server szx con past c) t
+BeginAtOnce server szx word t = Always (λ past c. (con : Open)
+    → Ever (λ b. begun b ≡ Some con) (call_adds server szx word past c) → SendsNow server szx con past c) t
 
 -- Each CON is a request that was sent.
 abbrev pub ConsAreRequests : Endpoint → (szx word : ℕ) → List Call → Type 0
-ConsAreRequests server szx word t = (con : Open) → Ever (λ b. begun b ≡ Some con) (layer_of server szx word t) → (x : Sending) × WasSent szx x t × IsRequestOf server con x
+ConsAreRequests server szx word t = (con : Open) → Ever (λ b. begun b ≡ Some con) (layer_of server szx word t)
+    → (x : Sending) × WasSent szx x t × IsRequestOf server con x

@@ -52,7 +52,8 @@ module _ (szx : ℕ) where
     pub fits : Continues upload block
     pub next : x.upload ≡ moved upload block
 
-  -- What is sent is a piece of the call's body, behind the pieces that were sent: the first, or one that follows the answer.
+  -- What is sent is a piece of the call's body, behind the pieces that were sent: the first, or one that follows the
+  -- answer.
   pub record SendsPiece (past : List Call) (c : Call) (x : Sending) (y : Carried) : Type 0 where
     pub request : Request
     pub taken : WasTaken (record { number = y.number; request = request }) past
@@ -62,4 +63,5 @@ module _ (szx : ℕ) where
     pub follows : (blocks y.number past ≡ []) ⊎ FollowsContinue past c y
 
   abbrev pub SendsPieces : List Call → Type 0
-  SendsPieces trace = Always (λ past c. (x : Sending) (y : Carried) → sends (own_of szx past) c ≡ Some x → carried x.operation ≡ Some y → SendsPiece past c x y) trace
+  SendsPieces trace = Always (λ past c. (x : Sending) (y : Carried) → sends (own_of szx past) c ≡ Some x
+      → carried x.operation ≡ Some y → SendsPiece past c x y) trace

@@ -24,7 +24,8 @@ pub record ComesAs (p : Part) (m : Message) : Type 0 where
   pub says : block_at block2 m ≡ Some block
   pub is : p ≡ part block (tag_in m) m.payload
 
--- What comes last: without Block2 it is the representation, and there are no parts; else it is the part that Block2 says.
+-- What comes last: without Block2 it is the representation, and there are no parts; else it is the part that Block2
+-- says.
 abbrev pub ComesLast : List Part → Message → Option Block → Type 0
 ComesLast parts m None = (value_of block2 (said m) ≡ None) × (parts ≡ [])
 ComesLast parts m (Some b) = block_at block2 m ≡ Some b
@@ -55,10 +56,12 @@ module _ (szx : ℕ) where
   -- the part was taken since the call asked for the first block last
   abbrev pub TookPart : ℕ → Part → List Call → Type 0
   TookPart number p [] = ⊥
-  TookPart number p (c ∷ past) = (is_first number (sends (own_of szx past) c) ≡ false) × (TakesPart number p past c ⊎ TookPart number p past)
+  TookPart number p (c ∷ past) = (is_first number (sends (own_of szx past) c) ≡ false)
+      × (TakesPart number p past c ⊎ TookPart number p past)
 
   -- The body is whole by the parts since then and the last one, which gives its ETag and its format.
-  pub record IsFetched (number : ℕ) (tag : Option (List ℕ)) (format : Option ℕ) (body : List ℕ) (past : List Call) (c : Call) : Type 0 where
+  pub record IsFetched (number : ℕ) (tag : Option (List ℕ)) (format : Option ℕ) (body : List ℕ) (past : List Call)
+      (c : Call) : Type 0 where
     pub message : Message
     pub heard : HeardFor number message past c
     pub code : message.code ≡ content
@@ -66,8 +69,8 @@ module _ (szx : ℕ) where
     pub took : Each (λ p. TookPart number p past) parts
     pub block : Option Block
     pub last : ComesLast parts message block
-    -- The last one answers the request that was sent last; where no part is before it, so where it comes without Block2, that is
-    -- the request for the first block.
+    -- The last one answers the request that was sent last; where no part is before it, so where it comes without
+    -- Block2, that is the request for the first block.
     pub asked : last_sent szx past ≡ Some heard.sending
     pub alone : parts ≡ [] → is_first number (Some heard.sending) ≡ true
     pub whole : Whole (payloads_of parts block (tag_in message) message.payload) body
@@ -76,4 +79,6 @@ module _ (szx : ℕ) where
 
   abbrev pub BodiesAreWhole : List Call → Type 0
   BodiesAreWhole trace =
-      Always (λ past c. (number : ℕ) (tag : Option (List ℕ)) (format : Option ℕ) (body : List ℕ) → reports (own_of szx past) c ≡ of number (Body tag format body) → IsFetched number tag format body past c) trace
+      Always (λ past c. (number : ℕ) (tag : Option (List ℕ)) (format : Option ℕ) (body : List ℕ)
+      → reports (own_of szx past) c ≡ of number (Body tag format body)
+      → IsFetched number tag format body past c) trace

@@ -1,5 +1,5 @@
--- How many requests a call sends at most, and an observation (RFC 7641, sections 2 and 3.6; RFC 7959, sections 2.4 and 2.5; the
--- bounds are a profile).
+-- How many requests a call sends at most, and an observation (RFC 7641, sections 2 and 3.6; RFC 7959, sections 2.4 and
+-- 2.5; the bounds are a profile).
 use Rattle.std.specs.Prelude.{◌≡◌, ◌⊎◌, ◌≤◌, ℕ, ◌+◌, ◌*◌, ◌/◌, ◌==◌, nat_lt, Option, Some, None, List, [], ◌∷◌, length}
 use Rattle.std.specs.Prelude.{if◌then◌else◌}
 use Rattle.coap_types.specs.declared.limits.TheConstants.{MAX_BODY_LEN as max_body}
@@ -19,8 +19,8 @@ use Rattle.coap_ends.specs.ClientSide.ClientWords.{Taken, WasTaken, Sending, sen
 abbrev pub max_blocks : ℕ
 max_blocks = max_body / size_of 0
 
--- A GET asks for the blocks of a body, anew each time that the body changed, and at last for one behind them. A body that is
--- longer than a block of the client's size is sent block by block. Each other call asks once.
+-- A GET asks for the blocks of a body, anew each time that the body changed, and at last for one behind them. A body
+-- that is longer than a block of the client's size is sent block by block. Each other call asks once.
 abbrev pub most_requests : ℕ → Request → Method → ℕ
 most_requests szx r Get = (max_restarts + 1) * max_blocks + 1
 most_requests szx r Post = if nat_lt (size_of szx) (length r.body) then max_blocks else 1
@@ -61,4 +61,5 @@ BothDo does x y = (number : ℕ) × (does x.operation ≡ Some number) × (does 
 
 -- An observation is registered once, and cancelled once.
 abbrev pub AskOnce : ℕ → List Call → Type 0
-AskOnce szx t = Always (λ past c. (x y : Sending) → sends (own_of szx past) c ≡ Some y → WasSent szx x past → (BothDo registers x y ⊎ BothDo cancels x y) → ⊥) t
+AskOnce szx t = Always (λ past c. (x y : Sending) → sends (own_of szx past) c ≡ Some y → WasSent szx x past
+    → (BothDo registers x y ⊎ BothDo cancels x y) → ⊥) t

@@ -1,5 +1,5 @@
--- What a call makes of the answer to its request: its next block, or its last report (RFC 7252, section 5.8; RFC 7959, sections
--- 2.4 and 2.5).
+-- What a call makes of the answer to its request: its next block, or its last report (RFC 7252, section 5.8; RFC 7959,
+-- sections 2.4 and 2.5).
 use Rattle.std.specs.Prelude.{ℕ, ◌==◌, ◌&&◌, nat_lt, Bool, true, false, Option, Some, None, List, [], ◌∷◌, ◌++◌}
 use Rattle.std.specs.Prelude.{if◌then◌else◌}
 use Rattle.coap_types.specs.declared.message.TheConstants.Code as codes

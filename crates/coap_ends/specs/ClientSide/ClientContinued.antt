@@ -26,4 +26,5 @@ module _ (szx : ℕ) where
 
   abbrev pub AreContinued : List Call → Type 0
   AreContinued trace =
-      Always (λ past c. (x : Sending) (y : Carried) → sends (own_of szx past) c ≡ Some x → carried x.operation ≡ Some y → 0 < y.upload.num → FirstContinued y.number past (c ∷ past)) trace
+      Always (λ past c. (x : Sending) (y : Carried) → sends (own_of szx past) c ≡ Some x → carried x.operation ≡ Some y
+      → 0 < y.upload.num → FirstContinued y.number past (c ∷ past)) trace

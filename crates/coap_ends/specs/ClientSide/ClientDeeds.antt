@@ -17,7 +17,8 @@ at now s = record s { clock = max s.clock now }
 
 -- a forgotten observation is over, and no report of it is given any more
 abbrev pub forgotten : Bool → ℕ → Own → Own
-forgotten true number s = let t = over number s in record t { reports = filter (λ r. not (r.number == number)) t.reports }
+forgotten true number s = let t = over number s in record t
+    { reports = filter (λ r. not (r.number == number)) t.reports }
 forgotten false number s = s
 
 abbrev pub forgets : Bool → ℕ → Own → Deed
@@ -44,4 +45,5 @@ deeds (Releases t) s now word sent token kept = E.Release t kept ∷ []
 -- .. for an effect and then for what the sending makes of it, behind an input: the newest first
 abbrev pub done_for : Effect → ℕ → ℕ → L.Answer → Result (List ℕ) AskRefusal → Bool → E.Call → List E.Call
 done_for e now word sent token kept input =
-    let c = close now e token in deeds c.deed c.own now word sent token kept ++ (deeds e.deed e.own now word sent token kept ++ input ∷ [])
+    let c = close now e token in deeds c.deed c.own now word sent token kept
+    ++ (deeds e.deed e.own now word sent token kept ++ input ∷ [])

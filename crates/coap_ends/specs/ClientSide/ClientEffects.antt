@@ -1,5 +1,5 @@
--- What an input makes of a client: what it is left as, what it reports, and what it asks of its exchanges next (RFC 7252, section
--- 5.2).
+-- What an input makes of a client: what it is left as, what it reports, and what it asks of its exchanges next (RFC
+-- 7252, section 5.2).
 use Rattle.std.specs.Prelude.{ℕ, Bool, false, ◌&&◌, nat_lt, Option, Some, None, List, if◌then◌else◌}
 use Rattle.coap_ends.specs.ClientSide.ClientTrace.{Report, Reported}
 use Rattle.coap_ends.specs.ClientSide.ClientOwn.{Transfer, Uploads, Operation, Own}
@@ -31,8 +31,8 @@ ends report s = record { own = record s { running = None }; report = report; dee
 abbrev pub of : ℕ → Report → Option Reported
 of number report = Some (record { number = number; report = report })
 
--- The upload hold (profile): a Block1 transfer that sent a datagram and ended without a final response holds back the later ones,
--- for MAX_LATENCY from its last datagram on (RFC 7252, section 4.8.2).
+-- The upload hold (profile): a Block1 transfer that sent a datagram and ended without a final response holds back the
+-- later ones, for MAX_LATENCY from its last datagram on (RFC 7252, section 4.8.2).
 
 abbrev pub is_upload : Transfer → Bool
 is_upload (Uploads u) = is_longer u

@@ -24,8 +24,8 @@ module _ (szx : ℕ) where
     pub cancels : sending.operation ≡ Cancelling number
 
   module _ (server : Endpoint) (word : ℕ) where
-    -- No value of it is reported any more behind its last report, its forget or the sending of its cancel; behind its forget
-    -- nothing of it is reported or given.
+    -- No value of it is reported any more behind its last report, its forget or the sending of its cancel; behind its
+    -- forget nothing of it is reported or given.
     pub record IsOver (past : List Call) (c : Call) : Type 0 where
       pub ended : (number : ℕ) → HasReport server szx word number past → ShowsValue szx number past c → ⊥
       pub cancelled : (number : ℕ) → WasCancelled number past → ShowsValue szx number past c → ⊥

@@ -1,4 +1,5 @@
--- What the exchanges tell makes of a client: an answer, a notification, a failure (RFC 7252, sections 4.2, 5.2 and 5.3.2).
+-- What the exchanges tell makes of a client: an answer, a notification, a failure (RFC 7252, sections 4.2, 5.2 and
+-- 5.3.2).
 use Rattle.std.specs.Prelude.{ℕ, ◌+◌, not, ◌&&◌, nat_le, Bool, true, false, Option, Some, None, List, [], ◌∷◌}
 use Rattle.std.specs.Prelude.{if◌then◌else◌, Result, Ok, Err}
 use Rattle.coap_types.specs.declared.transmission.TheConstants.{MAX_LATENCY_MS as max_latency}
@@ -53,8 +54,8 @@ happened s at (Some (event.Answer m)) = answered s at m s.running
 happened s at (Some (event.Notice m)) = noticed s at m
 happened s at (Some e) = failed (λ t. true) (lapse e) s s.running
 
--- A tick: an expiry, a copy, the end of a wait; then, where nothing runs, a fetch for an observation starts, the one of the lowest
--- number, or else the first of the queue, unless it is an upload that is held back.
+-- A tick: an expiry, a copy, the end of a wait; then, where nothing runs, a fetch for an observation starts, the one of
+-- the lowest number, or else the first of the queue, unless it is an upload that is held back.
 
 abbrev pub is_held : Own → ℕ → Bool
 is_held s at = elim s.hold [ None ↦ false | Some last ↦ nat_le at (last + max_latency) ]
@@ -77,7 +78,8 @@ passes s at turn.Idle = idle s at s.running (to_fetch s.observations)
 passes s at turn.Copied = stays (record s { sent = at })
 passes s at (turn.End e) = failed (λ t. true) (lapse e) s s.running
 
--- The request that is asked for is sent, or no Message ID or token is free for it. An upload that has sent no block holds back none.
+-- The request that is asked for is sent, or no Message ID or token is free for it. An upload that has sent no block
+-- holds back none.
 abbrev pub closed : ℕ → Effect → deed.Deed → Result (List ℕ) AskRefusal → Effect
 closed at e (deed.Asks op) (Ok token) = stays (record e.own { sent = at })
 closed at e (deed.Asks op) (Err why) = failed has_sent NoIds e.own (Some op)

@@ -24,7 +24,8 @@ token = 0 ∷ 0 ∷ 0 ∷ 0 ∷ 0 ∷ 0 ∷ 0 ∷ 0 ∷ []
 abbrev pub path : List (List ℕ)
 path = codes "t" ∷ []
 
--- a GET with Observe 0 and the path; its answer, with sequence number 1; a notification, with 2; the acknowledgement of that
+-- a GET with Observe 0 and the path; its answer, with sequence number 1; a notification, with 2; the acknowledgement of
+-- that
 abbrev pub registration : List ℕ
 registration = 0x48 ∷ 0x01 ∷ 0 ∷ 0 ∷ token ++ 0x60 ∷ 0x51 ∷ 0x74 ∷ []
 
@@ -61,22 +62,34 @@ abbrev pub run : List Call
 run =
     NextReport (Some (value 2 (codes "b"))) ∷
     NextOut (Some (to_server acknowledgement)) ∷
-    Feeds 4 server second 0 (L.Becomes (L.Response (content Con 2 (codes "b")))) false (Some (event.Notice (content Con 2 (codes "b")))) L.Nothing (Ok []) false ∷
+    Feeds 4 server second 0 (L.Becomes (L.Response (content Con 2 (codes "b")))) false
+    (Some (event.Notice (content Con 2 (codes "b")))) L.Nothing (Ok []) false ∷
     NextReport (Some (value 1 (codes "a"))) ∷
-    Feeds 2 server first 0 (L.Becomes (L.Response (content Ack 1 (codes "a")))) true (Some (event.Answer (content Ack 1 (codes "a")))) L.Nothing (Ok []) true ∷
+    Feeds 2 server first 0 (L.Becomes (L.Response (content Ack 1 (codes "a")))) true
+    (Some (event.Answer (content Ack 1 (codes "a")))) L.Nothing (Ok []) true ∷
     NextOut (Some (to_server registration)) ∷
     Ticks 0 0 L.Idle turn.Idle L.Nothing (Ok []) false false ∷
     Ticks 0 0 L.Idle turn.Idle (L.Sent 0) (Ok token) false true ∷
     Observes 0 path (Ok 0) ∷
     []
 
--- .. and it puts a body of 200 bytes at `t` in blocks of 128, which the server makes 32 (RFC 7959, section 2.5, figure 8)
+-- .. and it puts a body of 200 bytes at `t` in blocks of 128, which the server makes 32 (RFC 7959, section 2.5, figure
+-- 8)
 
 abbrev pub body : List ℕ
 body = replicate 200 0x61
 
 abbrev pub put : Request
-put = record { method = Put; path = path; format = None; body = body; etags = []; if_match = []; if_none_match = false; accept = None }
+put = record {
+  method = Put;
+  path = path;
+  format = None;
+  body = body;
+  etags = [];
+  if_match = [];
+  if_none_match = false;
+  accept = None;
+}
 
 abbrev pub second_token : List ℕ
 second_token = 0 ∷ 0 ∷ 0 ∷ 0 ∷ 0 ∷ 0 ∷ 0 ∷ 1 ∷ []
@@ -90,7 +103,14 @@ abbrev pub continue : List ℕ
 continue = 0x68 ∷ 0x5f ∷ 0 ∷ 0 ∷ token ++ 0xd1 ∷ 0x0e ∷ 0x09 ∷ []
 
 abbrev pub continued : Message
-continued = record { kind = Ack; code = code.CONTINUE.0; id = 0; token = token; options = option block1 (9 ∷ []) ∷ []; payload = [] }
+continued = record {
+  kind = Ack;
+  code = code.CONTINUE.0;
+  id = 0;
+  token = token;
+  options = option block1 (9 ∷ []) ∷ [];
+  payload = [];
+}
 
 abbrev pub second_block : List ℕ
 second_block = 0x48 ∷ 0x03 ∷ 0 ∷ 1 ∷ second_token ++ 0xb1 ∷ 0x74 ∷ 0xd1 ∷ 0x03 ∷ 0x49 ∷ 0xff ∷ replicate 32 0x61
@@ -98,7 +118,8 @@ second_block = 0x48 ∷ 0x03 ∷ 0 ∷ 1 ∷ second_token ++ 0xb1 ∷ 0x74 ∷ 0
 abbrev pub upload : List Call
 upload =
     NextOut (Some (to_server second_block)) ∷
-    Feeds 0 server continue 0 (L.Becomes (L.Response continued)) true (Some (event.Answer continued)) (L.Sent 1) (Ok second_token) false ∷
+    Feeds 0 server continue 0 (L.Becomes (L.Response continued)) true (Some (event.Answer continued)) (L.Sent 1)
+    (Ok second_token) false ∷
     NextOut (Some (to_server first_block)) ∷
     Ticks 0 0 L.Idle turn.Idle (L.Sent 0) (Ok token) false true ∷
     Calls 0 put (Ok 0) ∷

@@ -1,5 +1,5 @@
--- Which reports a client gives: those that it made, in their order, each once, but for those of a forgotten observation (RFC 7252,
--- section 5.2).
+-- Which reports a client gives: those that it made, in their order, each once, but for those of a forgotten observation
+-- (RFC 7252, section 5.2).
 use Rattle.std.specs.Prelude.{◌≡◌, ℕ, Bool, true, Option, Some, None, List, [], ◌∷◌, ◌++◌, filter, option_to_list}
 use Rattle.coap_types.specs.Past.{Ever}
 use Rattle.coap_ends.specs.ClientSide.ClientTrace.{Reported, Call, Forgets, NextReport}
@@ -33,4 +33,5 @@ module _ (szx : ℕ) where
 
   -- What was given is a front of what was made, where none is of a forgotten number; the rest waits to be taken.
   abbrev pub GivesInOrder : List Call → Type 0
-  GivesInOrder t = (p : Reported → Bool) → NoneForgotten p t → filter p (made t) ≡ filter p (given t) ++ filter p (own_of szx t).reports
+  GivesInOrder t = (p : Reported → Bool) → NoneForgotten p t
+      → filter p (made t) ≡ filter p (given t) ++ filter p (own_of szx t).reports

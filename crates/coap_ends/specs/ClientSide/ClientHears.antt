@@ -13,8 +13,10 @@ use Rattle.coap_ends.specs.ClientSide.ClientTrace.{Call, Feeds}
 -- an answer and a notification came from the server, and are what the datagram spells
 pub record CameFrom (server : Endpoint) (c : Call) : Type 0 where
   pub came :
-      (now : ℕ) (from : Endpoint) (bytes : List ℕ) (word : ℕ) (up : L.Answer) (settled : Bool) (event : Option Event) (sent : L.Answer) (token : Result (List ℕ) AskRefusal) (kept : Bool) (m : Message)
-      → c ≡ Feeds now from bytes word up settled event sent token kept → message_told event ≡ Some m → (same_endpoint from server ≡ true) × Spells bytes m
+      (now : ℕ) (from : Endpoint) (bytes : List ℕ) (word : ℕ) (up : L.Answer) (settled : Bool) (event : Option Event)
+      (sent : L.Answer) (token : Result (List ℕ) AskRefusal) (kept : Bool) (m : Message)
+      → c ≡ Feeds now from bytes word up settled event sent token kept → message_told event ≡ Some m
+      → (same_endpoint from server ≡ true) × Spells bytes m
 
 abbrev pub AreFromServer : Endpoint → List Call → Type 0
 AreFromServer server trace = Always (λ past c. CameFrom server c) trace

@@ -1,5 +1,5 @@
--- The upload hold (profile): no Block1 transfer begins at most MAX_LATENCY after the last datagram of one that ended without a final
--- response (RFC 7252, section 4.8.2; RFC 7959, section 2.5).
+-- The upload hold (profile): no Block1 transfer begins at most MAX_LATENCY after the last datagram of one that ended
+-- without a final response (RFC 7252, section 4.8.2; RFC 7959, section 2.5).
 use Rattle.std.specs.Prelude.{◌≡◌, ◌≤◌, ◌⊎◌, ℕ, ◌+◌, ◌==◌, ◌&&◌, not, max, Bool, true, false, Option, Some, None, List}
 use Rattle.coap_types.specs.Past.{Sometime, Always}
 use Rattle.coap_types.specs.declared.transmission.TheConstants.{MAX_LATENCY_MS as max_latency}
@@ -43,7 +43,8 @@ module _ (szx : ℕ) where
   -- a datagram of the transfer is sent: a block, or a copy of one
   abbrev pub SendsOf : ℕ → List Call → Call → Type 0
   SendsOf number past c =
-      (sends_of number (sends (own_of szx past) c) ≡ true) ⊎ ((is_copy c ≡ true) × (is_upload_of number (own_of szx past).running ≡ true))
+      (sends_of number (sends (own_of szx past) c) ≡ true)
+      ⊎ ((is_copy c ≡ true) × (is_upload_of number (own_of szx past).running ≡ true))
 
   -- the call is reported, and not by a final response
   pub record EndsUnanswered (number : ℕ) (past : List Call) (c : Call) : Type 0 where
@@ -55,9 +56,12 @@ module _ (szx : ℕ) where
 
   pub record Holds (past : List Call) (c : Call) (number : ℕ) : Type 0 where
     pub held :
-        (other : ℕ) → Sometime (EndsUnanswered other) past → Sometime (λ earlier b. SendsOf other earlier b × (moment (own_of szx past) c ≤ moment (own_of szx earlier) b + max_latency)) past → ⊥
+        (other : ℕ) → Sometime (EndsUnanswered other) past
+        → Sometime (λ earlier b. SendsOf other earlier b
+        × (moment (own_of szx past) c ≤ moment (own_of szx earlier) b + max_latency)) past → ⊥
 
   -- where a first block is sent
   abbrev pub AllHold : List Call → Type 0
   AllHold trace =
-      Always (λ past c. (x : Sending) (y : Carried) → sends (own_of szx past) c ≡ Some x → carried x.operation ≡ Some y → is_longer y.upload ≡ true → y.upload.num ≡ 0 → Holds past c y.number) trace
+      Always (λ past c. (x : Sending) (y : Carried) → sends (own_of szx past) c ≡ Some x → carried x.operation ≡ Some y
+      → is_longer y.upload ≡ true → y.upload.num ≡ 0 → Holds past c y.number) trace

@@ -29,7 +29,8 @@ registers op at m = None
 -- a later one, under the token of the observation
 abbrev pub renews : Option Observation → ℕ → Message → Option Newly
 renews None at m = None
-renews (Some o) at m = if is_notification m then (if is_newer o.watch.mark (sequence_in m) at then newly o.number at m else None) else None
+renews (Some o) at m = if is_notification m then
+    (if is_newer o.watch.mark (sequence_in m) at then newly o.number at m else None) else None
 
 abbrev pub taken_by : Own → ℕ → Option Event → Option Newly
 taken_by s at (Some (event.Answer m)) = registers s.running at m
@@ -53,4 +54,5 @@ module _ (szx : ℕ) where
   -- Each that comes under the token of the observation is newer than the newest before.
   abbrev pub AreNewer : List Call → Type 0
   AreNewer trace =
-      Always (λ past c. (n : Newly) → hears c ≡ None → notifies (own_of szx past) c ≡ Some n → IsNewer (last_mark n.number past) n.mark.number n.mark.at) trace
+      Always (λ past c. (n : Newly) → hears c ≡ None → notifies (own_of szx past) c ≡ Some n
+      → IsNewer (last_mark n.number past) n.mark.number n.mark.at) trace

@@ -1,5 +1,5 @@
--- Which notifications of an observation a client takes: the answer to its registration first, and then each newer one (RFC 7641,
--- sections 3.2 to 3.4).
+-- Which notifications of an observation a client takes: the answer to its registration first, and then each newer one
+-- (RFC 7641, sections 3.2 to 3.4).
 use Rattle.std.specs.Prelude.{◌≡◌, ◌⊎◌, ℕ, ◌==◌, Bool, true, false, Option, Some, None, List, [], ◌∷◌}
 use Rattle.coap_types.specs.Past.{Always}
 use Rattle.coap_codec.specs.Message.{Message}
@@ -31,7 +31,8 @@ module _ (szx : ℕ) where
   -- the notification that was taken last of an observation
   abbrev pub newest : ℕ → List Call → Option Newly
   newest number [] = None
-  newest number (c ∷ past) = let n = notifies (own_of szx past) c in newest_if n (is_newly_of number n) (newest number past)
+  newest number (c ∷ past) = let n = notifies (own_of szx past) c in newest_if n (is_newly_of number n)
+      (newest number past)
 
   -- the observation's registration was sent, under this token
   pub record WasRegistered (number : ℕ) (token : List ℕ) (past : List Call) : Type 0 where

@@ -11,4 +11,5 @@ number_given c = None
 
 -- Each number is given once, to a call or to an observation.
 abbrev pub NumbersOnce : List Call → Type 0
-NumbersOnce trace = Always (λ past c. (number : ℕ) → number_given c ≡ Some number → Ever (λ b. number_given b ≡ Some number) past → ⊥) trace
+NumbersOnce trace = Always (λ past c. (number : ℕ) → number_given c ≡ Some number
+    → Ever (λ b. number_given b ≡ Some number) past → ⊥) trace

@@ -24,7 +24,11 @@ releases None = Rests
 releases (Some o) = Releases o.token
 
 abbrev pub is_over : ℕ → Report → Own → Effect
-is_over number report s = record { own = over number s; report = of number report; deed = releases (observation_of number s.observations) }
+is_over number report s = record {
+  own = over number s;
+  report = of number report;
+  deed = releases (observation_of number s.observations);
+}
 
 -- The answer to a registration counts as a notification, and where it is one the observation is live.
 
@@ -46,21 +50,26 @@ registered number path s at m =
       deed = Keeps m.token;
     } else ends (of number (Ended m.code)) s
 
--- A later notification: one that is no 2.05 with Observe ends the observation, whatever its number; a newer one replaces what is
--- fetched for an older one; of another one only the moment counts.
+-- A later notification: one that is no 2.05 with Observe ends the observation, whatever its number; a newer one
+-- replaces what is fetched for an older one; of another one only the moment counts.
 
 abbrev pub renewed : Observation → Own → ℕ → Message → Effect
 renewed o s at m = record {
   own = record s {
     running = dropped o.number s.running;
-    observations = map (λ (p : Observation). if p.number == o.number then record p { watch = arrived p.watch (sequence_in m) at true; rest = first_rest s.szx m } else p) s.observations;
+    observations = map (λ (p : Observation). if p.number == o.number then
+        record p { watch = arrived p.watch (sequence_in m) at true; rest = first_rest s.szx m } else p) s.observations;
   };
   report = first_value o.number s.szx m;
   deed = Rests;
 }
 
 abbrev pub passed : Observation → Own → ℕ → Message → Own
-passed o s at m = record s { observations = map (λ (p : Observation). if p.number == o.number then record p { watch = arrived p.watch (sequence_in m) at false } else p) s.observations }
+passed o s at m = record s {
+  observations = map
+      (λ (p : Observation). if p.number == o.number then
+      record p { watch = arrived p.watch (sequence_in m) at false } else p) s.observations;
+}
 
 abbrev pub noticed_by : Option Observation → Own → ℕ → Message → Effect
 noticed_by None s at m = stays s

@@ -44,8 +44,10 @@ pub record IsOfCall (szx number : ℕ) (x : Sending) (past : List Call) : Type 0
   pub message : x.request ≡ message_of [] (Calling number (record request { body = [] }) transfer)
 
 abbrev pub AreOfCalls : ℕ → List Call → Type 0
-AreOfCalls szx trace = Always (λ past c. (x : Sending) (number : ℕ) → sends (own_of szx past) c ≡ Some x → call_of x.operation ≡ Some number → IsOfCall szx number x past) trace
+AreOfCalls szx trace = Always (λ past c. (x : Sending) (number : ℕ) → sends (own_of szx past) c ≡ Some x
+    → call_of x.operation ≡ Some number → IsOfCall szx number x past) trace
 
 -- What is sent for no call asks for a representation: a GET.
 abbrev pub OthersAreGets : ℕ → List Call → Type 0
-OthersAreGets szx trace = Always (λ past c. (x : Sending) → sends (own_of szx past) c ≡ Some x → call_of x.operation ≡ None → x.request.code ≡ (method_code Get).0) trace
+OthersAreGets szx trace = Always (λ past c. (x : Sending) → sends (own_of szx past) c ≡ Some x
+    → call_of x.operation ≡ None → x.request.code ≡ (method_code Get).0) trace

@@ -1,4 +1,5 @@
--- What is sent for an observation asks for the path that is observed (RFC 7641, sections 2 and 3.6; RFC 7959, section 2.6).
+-- What is sent for an observation asks for the path that is observed (RFC 7641, sections 2 and 3.6; RFC 7959, section
+-- 2.6).
 use Rattle.std.specs.Prelude.{◌≡◌, ℕ, Option, Some, None, List, ◌∷◌, ◌++◌, Ok}
 use Rattle.coap_types.specs.Past.{Ever, Always}
 use Rattle.coap_types.specs.CoapOption.{option}
@@ -32,11 +33,15 @@ observation_for (Cancelling number) = Some number
 observation_for op = None
 
 module _ (szx : ℕ) where
-  -- A registration has Observe 0; a fetch asks for a block alone; a cancel has Observe 1, and the token of the registration.
+  -- A registration has Observe 0; a fetch asks for a block alone; a cancel has Observe 1, and the token of the
+  -- registration.
   abbrev pub AsksFor : Operation → List (List ℕ) → Sending → List Call → Type 0
-  AsksFor (Registering number p) path x past = (p ≡ path) × (x.request ≡ get None (option observe (uint 0) ∷ path_options path))
-  AsksFor (Fetching number) path x past = (block : Asked) × (x.request ≡ get None (path_options path ++ block2_option (Some block)))
-  AsksFor (Cancelling number) path x past = (x.request ≡ get (Some x.token) (option observe (uint 1) ∷ path_options path)) × WasRegistered szx number x.token past
+  AsksFor (Registering number p) path x past = (p ≡ path)
+      × (x.request ≡ get None (option observe (uint 0) ∷ path_options path))
+  AsksFor (Fetching number) path x past = (block : Asked)
+      × (x.request ≡ get None (path_options path ++ block2_option (Some block)))
+  AsksFor (Cancelling number) path x past = (x.request
+      ≡ get (Some x.token) (option observe (uint 1) ∷ path_options path)) × WasRegistered szx number x.token past
   AsksFor (Calling number r t) path x past = ⊥
   AsksFor Dropped path x past = ⊥
 
@@ -47,4 +52,5 @@ module _ (szx : ℕ) where
     pub asks : AsksFor x.operation path x past
 
   abbrev pub AreOfObservations : List Call → Type 0
-  AreOfObservations trace = Always (λ past c. (x : Sending) (number : ℕ) → sends (own_of szx past) c ≡ Some x → observation_for x.operation ≡ Some number → IsOfObservation number x past) trace
+  AreOfObservations trace = Always (λ past c. (x : Sending) (number : ℕ) → sends (own_of szx past) c ≡ Some x
+      → observation_for x.operation ≡ Some number → IsOfObservation number x past) trace

@@ -1,5 +1,5 @@
--- Where each number of a client is: it waits, runs or is live, or it was reported for the last time or forgotten (RFC 7252, section
--- 5.2; RFC 7641, section 3).
+-- Where each number of a client is: it waits, runs or is live, or it was reported for the last time or forgotten (RFC
+-- 7252, section 5.2; RFC 7641, section 3).
 use Rattle.std.specs.Prelude.{◌≡◌, ℕ, ◌+◌, ◌==◌, nat_lt, true, Option, Some, None, List, [], ◌∷◌, if◌then◌else◌}
 use Rattle.coap_ends.specs.ClientSide.ClientTrace.{is_value, Reported, Call, Forgets}
 use Rattle.coap_ends.specs.ClientSide.ClientOwn.{Operation, Calling, Registering, Fetching, Cancelling, Dropped}

@@ -30,7 +30,8 @@ max_numbers = 2 ^ 64 - 1
 
 -- the longest message of an operation carries a Block option of three bytes
 abbrev pub are_long : ℕ → List CoapOption → Bool
-are_long block options = nat_lt max_options (length (options_bytes 0 (options ++ option block (255 ∷ 255 ∷ 255 ∷ []) ∷ [])))
+are_long block options = nat_lt max_options (length
+    (options_bytes 0 (options ++ option block (255 ∷ 255 ∷ 255 ∷ []) ∷ [])))
 
 abbrev pub block_number : Method → ℕ
 block_number Get = block2

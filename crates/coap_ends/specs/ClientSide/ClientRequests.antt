@@ -1,5 +1,5 @@
--- The request that carries each operation, block by block (RFC 7252, sections 5.8 and 5.10; RFC 7641, section 2; RFC 7959,
--- sections 2.4 and 2.5).
+-- The request that carries each operation, block by block (RFC 7252, sections 5.8 and 5.10; RFC 7641, section 2; RFC
+-- 7959, sections 2.4 and 2.5).
 use Rattle.std.specs.Prelude.{ℕ, nat_lt, Bool, true, false, Option, Some, None, List, [], ◌∷◌, ◌++◌, length, map}
 use Rattle.std.specs.Prelude.{if◌then◌else◌}
 use Rattle.coap_types.specs.CoapOption.{CoapOption, option}
@@ -48,7 +48,8 @@ options_of r = before_path r.method r ++ (path_options r.path ++ after_path r.me
 
 abbrev pub block2_option : Option Asked → List CoapOption
 block2_option None = []
-block2_option (Some asked) = option block2 (uint (block_value (record { num = asked.num; more = false; szx = asked.szx }))) ∷ []
+block2_option (Some asked) = option block2 (uint
+    (block_value (record { num = asked.num; more = false; szx = asked.szx }))) ∷ []
 
 abbrev pub is_longer : UploadState → Bool
 is_longer u = nat_lt (size_of u.szx) (length u.body)
@@ -69,11 +70,18 @@ payload_of Single = []
 abbrev pub get : Option (List ℕ) → List CoapOption → E.Request
 get token options = record { code = (method_code Get).0; token = token; options = options; payload = [] }
 
--- A fetch for an observation asks for blocks alone; a registration has Observe 0, and a cancel Observe 1 and the token of the
--- observation (RFC 7641, sections 2 and 3.6). What is dropped asks nothing.
+-- A fetch for an observation asks for blocks alone; a registration has Observe 0, and a cancel Observe 1 and the token
+-- of the observation (RFC 7641, sections 2 and 3.6). What is dropped asks nothing.
 abbrev pub message_of : List Observation → Operation → E.Request
-message_of os (Calling number r t) = record { code = (method_code r.method).0; token = None; options = options_of r ++ block_option t; payload = payload_of t }
+message_of os (Calling number r t) = record {
+  code = (method_code r.method).0;
+  token = None;
+  options = options_of r ++ block_option t;
+  payload = payload_of t;
+}
 message_of os (Registering number path) = get None (option observe (uint 0) ∷ path_options path)
-message_of os (Fetching number) = get None (path_options (observed_path number os) ++ block2_option (fetch_of number os))
-message_of os (Cancelling number) = get (token_of number os) (option observe (uint 1) ∷ path_options (observed_path number os))
+message_of os (Fetching number) = get None (path_options (observed_path number os)
+    ++ block2_option (fetch_of number os))
+message_of os (Cancelling number) = get (token_of number os)
+    (option observe (uint 1) ∷ path_options (observed_path number os))
 message_of os Dropped = get None []

@@ -60,7 +60,8 @@ block_at number m = elim (value_of number (said m)) [ None ↦ None | Some value
 -- What a 2.05 means to a Block2 transfer; one whose Block2 says no block is a bad part.
 abbrev pub part_by : FetchState → Option (List ℕ) → ℕ → Option (List ℕ) → Verdict
 part_by f tag len None = verdict f None tag len
-part_by f tag len (Some value) = elim (block_in value) [ None ↦ Refuse refusal.BadBlock | Some b ↦ verdict f (Some b) tag len ]
+part_by f tag len (Some value) = elim (block_in value)
+    [ None ↦ Refuse refusal.BadBlock | Some b ↦ verdict f (Some b) tag len ]
 
 abbrev pub part : FetchState → Message → Verdict
 part f m = part_by f (tag_in m) (length m.payload) (value_of block2 (said m))

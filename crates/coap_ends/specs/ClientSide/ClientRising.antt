@@ -30,4 +30,5 @@ module _ (szx : ℕ) where
   -- Of two values the notification of the later one came after that of the earlier one.
   abbrev pub ValuesRise : List Call → Type 0
   ValuesRise trace =
-      Always (λ past c. (number : ℕ) (earlier later : Newly) → Shows number later past c → Sometime (Shows number earlier) past → Sometime (ComesAfter earlier later) (c ∷ past)) trace
+      Always (λ past c. (number : ℕ) (earlier later : Newly) → Shows number later past c
+      → Sometime (Shows number earlier) past → Sometime (ComesAfter earlier later) (c ∷ past)) trace

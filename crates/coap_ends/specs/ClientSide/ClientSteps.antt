@@ -24,9 +24,11 @@ lower s (Observes now path answer) = []
 lower s (Cancels now number answer) = []
 lower s (Forgets number kept answer) = deeds (forgets answer number s) s 0 0 L.Nothing (Ok []) kept
 lower s (Feeds now from bytes word up settled event sent token kept) =
-    done_for (effect s (Feeds now from bytes word up settled event sent token kept)) (max s.clock now) word sent token kept (E.Receive (max s.clock now) from bytes up settled event)
+    done_for (effect s (Feeds now from bytes word up settled event sent token kept))
+    (max s.clock now) word sent token kept (E.Receive (max s.clock now) from bytes up settled event)
 lower s (Ticks now word below t sent token kept answer) =
-    done_for (effect s (Ticks now word below t sent token kept answer)) (max s.clock now) word sent token kept (E.Ticks (max s.clock now) below t)
+    done_for (effect s (Ticks now word below t sent token kept answer)) (max s.clock now) word sent token kept
+    (E.Ticks (max s.clock now) below t)
 lower s (NextOut answer) = E.Take answer ∷ []
 lower s (NextReport answer) = []
 lower s (Asked answer) = []
@@ -46,7 +48,8 @@ IsRight s (Observes now path answer) = answer ≡ observe_answer s path
 IsRight s (Cancels now number answer) = answer ≡ cancel_answer s number
 IsRight s (Forgets number kept answer) = answer ≡ may_forget s number
 IsRight s (Feeds now from bytes word up settled event sent token kept) = Unit {0}
-IsRight s (Ticks now word below t sent token kept answer) = answer ≡ (not (is_idle t) || asks (effect s (Ticks now word below t sent token kept answer)).deed)
+IsRight s (Ticks now word below t sent token kept answer) = answer
+    ≡ (not (is_idle t) || asks (effect s (Ticks now word below t sent token kept answer)).deed)
 IsRight s (NextOut answer) = Unit {0}
 IsRight s (NextReport answer) = answer ≡ slice_get s.reports 0
 IsRight s (Asked answer) = answer ≡ s.asked
@@ -64,7 +67,8 @@ reporting e = let s = e.own in record s { reports = s.reports ++ option_to_list 
 
 -- the request that is sent by an input, if one is
 abbrev pub requested : Deed → Result (List ℕ) AskRefusal → Option Requested
-requested (Asks op) (Ok token) = option_map (λ (number : ℕ). record { number = number; token = token }) (operation_number op)
+requested (Asks op) (Ok token) = option_map (λ (number : ℕ). record { number = number; token = token })
+    (operation_number op)
 requested _ token = None
 
 abbrev pub asking : Option Requested → Own → Own

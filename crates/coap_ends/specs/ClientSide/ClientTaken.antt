@@ -1,5 +1,5 @@
--- Which calls, observations and cancels a client takes, and what waits for its turn, in words on its trace (RFC 7252, section 5.2; RFC 7641,
--- section 3; the bounds are a profile).
+-- Which calls, observations and cancels a client takes, and what waits for its turn, in words on its trace (RFC 7252,
+-- section 5.2; RFC 7641, section 3; the bounds are a profile).
 use Rattle.std.specs.Prelude.{◌≡◌, ℕ, ◌+◌, ◌==◌, nat_le, nat_lt, ◌||◌, not, Bool, true, false, Option, Some, None}
 use Rattle.std.specs.Prelude.{is_some, List, [], ◌∷◌, ◌++◌, drop, filter}
 use Rattle.std.specs.Prelude.{length, Result, Ok, Err, if◌then◌else◌}
@@ -48,7 +48,11 @@ added c = []
 
 -- the operation whose request is asked for, whether it is sent or can't be
 abbrev pub asked_for : Own → Call → Option Operation
-asked_for s c = elim (sends s c) [ Some x ↦ Some x.operation | None ↦ option_map (λ (u : Unsent). u.operation) (unsent s c) ]
+asked_for s c = elim (sends s c) [
+  | Some x ↦ Some x.operation
+  | None ↦ option_map (λ (u : Unsent). u.operation)
+      (unsent s c)
+]
 
 -- at a tick one that waits starts
 abbrev pub is_turn : Option Operation → Bool
@@ -56,7 +60,8 @@ is_turn None = false
 is_turn (Some op) = is_some (waiting_of op)
 
 abbrev pub starts : Own → Call → Bool
-starts s (Ticks now word below turn sent token kept answer) = is_turn (asked_for s (Ticks now word below turn sent token kept answer))
+starts s (Ticks now word below turn sent token kept answer) =
+    is_turn (asked_for s (Ticks now word below turn sent token kept answer))
 starts s c = false
 
 -- the number that has its last report, or is forgotten: its cancel waits no more
@@ -86,13 +91,14 @@ module _ (szx : ℕ) where
   -- what waits, in the order in which it was taken
   abbrev pub waiting_in : List Call → List Waiting
   waiting_in [] = []
-  waiting_in (c ∷ past) = without (over_in (own_of szx past) c) (if starts (own_of szx past) c then drop 1 (waiting_in past) else waiting_in past) ++ added c
+  waiting_in (c ∷ past) = without (over_in (own_of szx past) c)
+      (if starts (own_of szx past) c then drop 1 (waiting_in past) else waiting_in past) ++ added c
 
   abbrev pub next_number : List Call → Result ℕ CallRefusal
   next_number past = if numbers_in past == max_numbers then Err CallsSpent else Ok (numbers_in past)
 
-  -- A call is refused where so many wait, where its body is longer than any, where its options are too long for a message, and
-  -- where no number is left; else it has the next number. The first that holds decides.
+  -- A call is refused where so many wait, where its body is longer than any, where its options are too long for a
+  -- message, and where no number is left; else it has the next number. The first that holds decides.
   abbrev pub taking_of : List Call → Request → Result ℕ CallRefusal
   taking_of past r =
       if nat_le max_waiting (length (waiting_in past)) then Err QueueFull
@@ -125,9 +131,12 @@ module _ (szx : ℕ) where
     pub waits : waiting_in past ≡ first ∷ rest
 
   pub record TakesRight (past : List Call) (c : Call) : Type 0 where
-    pub calls : (now : ℕ) (r : Request) (answer : Result ℕ CallRefusal) → c ≡ Calls now r answer → answer ≡ taking_of past r
-    pub observes : (now : ℕ) (path : List (List ℕ)) (answer : Result ℕ CallRefusal) → c ≡ Observes now path answer → answer ≡ observing_of past path
-    pub cancels : (now number : ℕ) (answer : Option CancelRefusal) → c ≡ Cancels now number answer → answer ≡ cancelling_of past number
+    pub calls : (now : ℕ) (r : Request) (answer : Result ℕ CallRefusal) → c ≡ Calls now r answer
+        → answer ≡ taking_of past r
+    pub observes : (now : ℕ) (path : List (List ℕ)) (answer : Result ℕ CallRefusal) → c ≡ Observes now path answer
+        → answer ≡ observing_of past path
+    pub cancels : (now number : ℕ) (answer : Option CancelRefusal) → c ≡ Cancels now number answer
+        → answer ≡ cancelling_of past number
     pub in_order : starts (own_of szx past) c ≡ true → StartsFirst past c
 
   abbrev pub AllTaken : List Call → Type 0

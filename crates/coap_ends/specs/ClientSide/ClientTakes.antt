@@ -10,4 +10,5 @@ use Rattle.coap_ends.specs.ClientSide.ClientAdds.{call_adds}
 
 -- The response arrives from the server in the entries that this very call adds, and the message layer hands it up.
 abbrev pub AreHandedUp : Endpoint → (szx word : ℕ) → List Call → Type 0
-AreHandedUp server szx word t = Always (λ past c. (m : Message) → hears c ≡ Some m → Ever (Hears server m) (call_adds server szx word past c)) t
+AreHandedUp server szx word t = Always (λ past c. (m : Message) → hears c ≡ Some m
+    → Ever (Hears server m) (call_adds server szx word past c)) t

@@ -21,11 +21,13 @@ pub record Deregisters (x y : Sending) : Type 0 where
 
 -- What is sent has a token that no request had before, but for a cancel, which has that of its observation.
 abbrev pub OwnTokens : ℕ → List Call → Type 0
-OwnTokens szx t = Always (λ past c. (x y : Sending) → sends (own_of szx past) c ≡ Some x → WasSent szx y past → y.token ≡ x.token → Deregisters y x) t
+OwnTokens szx t = Always (λ past c. (x y : Sending) → sends (own_of szx past) c ≡ Some x → WasSent szx y past
+    → y.token ≡ x.token → Deregisters y x) t
 
 -- So a token is that of one request, or of an observation and its cancel.
 abbrev pub OneOfToken : ℕ → List Call → Type 0
-OneOfToken szx t = (x y : Sending) → WasSent szx x t → WasSent szx y t → x.token ≡ y.token → (x ≡ y) ⊎ (Deregisters x y ⊎ Deregisters y x)
+OneOfToken szx t = (x y : Sending) → WasSent szx x t → WasSent szx y t → x.token ≡ y.token
+    → (x ≡ y) ⊎ (Deregisters x y ⊎ Deregisters y x)
 
 -- It has at most 8 bytes.
 abbrev pub ShortTokens : ℕ → List Call → Type 0
@@ -44,5 +46,8 @@ pub record Ends (server : Endpoint) (szx : ℕ) (t : List Call) (a b : Open) : T
 -- Two CONs whose messages have one token are one, or an observation and its cancel.
 abbrev pub OneConOrCancel : Endpoint → (szx word : ℕ) → List Call → Type 0
 OneConOrCancel server szx word t =
-    (a b : Open) → Ever (λ e. begun e ≡ Some a) (layer_of server szx word t) → Ever (λ e. begun e ≡ Some b) (layer_of server szx word t) → (x y : Message) → AreBytes a.bytes → AreBytes b.bytes
-    → Spells a.bytes x → Spells b.bytes y → x.token ≡ y.token → (a ≡ b) ⊎ (Ends server szx t a b ⊎ Ends server szx t b a)
+    (a b : Open) → Ever (λ e. begun e ≡ Some a) (layer_of server szx word t)
+    → Ever (λ e. begun e ≡ Some b) (layer_of server szx word t) → (x y : Message) → AreBytes a.bytes
+    → AreBytes b.bytes
+    → Spells a.bytes x → Spells b.bytes y → x.token ≡ y.token
+    → (a ≡ b) ⊎ (Ends server szx t a b ⊎ Ends server szx t b a)

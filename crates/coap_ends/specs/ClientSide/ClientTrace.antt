@@ -9,8 +9,9 @@ use Rattle.coap_exchange.specs.declared.asker.Turn.{Turn}
 use Rattle.coap_ends.specs.declared.refusals.CallRefusal.{CallRefusal}
 use Rattle.coap_ends.specs.declared.refusals.CancelRefusal.{CancelRefusal}
 
--- a request: what is asked for, of which resource; the format of the body, and the body; the ETags of the representations
--- that the client has; those of which one has to be there, and whether none may be there; the format that is wanted
+-- a request: what is asked for, of which resource; the format of the body, and the body; the ETags of the
+-- representations that the client has; those of which one has to be there, and whether none may be there; the format
+-- that is wanted
 pub record Request : Type 0 where
   pub method : Method
   pub path : List (List ℕ)
@@ -22,8 +23,8 @@ pub record Request : Type 0 where
   pub accept : Option ℕ
 
 -- What is reported. Of a GET: its representation, or that one which the client has is valid. Of the others: success.
--- Of an observation: a representation and its sequence number; its end by the server; its end by a cancel. Then: another
--- response; no response, as the exchange ended; why the blocks are no body; no Message ID or no token was free.
+-- Of an observation: a representation and its sequence number; its end by the server; its end by a cancel. Then:
+-- another response; no response, as the exchange ended; why the blocks are no body; no Message ID or no token was free.
 pub data Report : Type 0 where
   Body : (tag : Option (List ℕ)) (format : Option ℕ) (body : List ℕ) → Report
   Valid : (tag : Option (List ℕ)) → Report
@@ -56,9 +57,9 @@ pub record Requested : Type 0 where
   pub number : ℕ
   pub token : List ℕ
 
--- Each call has its arguments, what the layers answered beneath it, and its answer. A request; an observation, its cancel,
--- and its end without a message; a datagram that arrives; time passes; a datagram is taken to be sent; a report is taken; which
--- request the last datagram or tick sent is asked for.
+-- Each call has its arguments, what the layers answered beneath it, and its answer. A request; an observation, its
+-- cancel, and its end without a message; a datagram that arrives; time passes; a datagram is taken to be sent; a report
+-- is taken; which request the last datagram or tick sent is asked for.
 -- Beneath: what became of a request that was sent (`sent`, `token`), and of a token that was kept or released (`kept`).
 pub data Call : Type 0 where
   Calls : (now : ℕ) (request : Request) (answer : Result ℕ CallRefusal) → Call

@@ -22,4 +22,5 @@ module _ (szx : ℕ) where
     pub tag_is : tag ≡ tag_in message
 
   abbrev pub ValidOfTags : List Call → Type 0
-  ValidOfTags trace = Always (λ past c. (number : ℕ) (tag : Option (List ℕ)) → reports (own_of szx past) c ≡ of number (Valid tag) → IsValidated number tag past c) trace
+  ValidOfTags trace = Always (λ past c. (number : ℕ) (tag : Option (List ℕ))
+      → reports (own_of szx past) c ≡ of number (Valid tag) → IsValidated number tag past c) trace

@@ -1,4 +1,5 @@
--- Which parts a value is made of that a client reports of an observation (RFC 7641, section 3.2; RFC 7959, section 2.6).
+-- Which parts a value is made of that a client reports of an observation (RFC 7641, section 3.2; RFC 7959, section
+-- 2.6).
 use Rattle.std.specs.Prelude.{◌≡◌, ◌⊎◌, ℕ, false, Option, Some, List, [], ◌∷◌}
 use Rattle.coap_types.specs.Past.{Always}
 use Rattle.coap_types.specs.declared.block.Block.{Block}
@@ -21,7 +22,8 @@ module _ (szx : ℕ) where
   -- the request was sent since the newest notification of the observation came
   abbrev pub SentSince : ℕ → Sending → List Call → Type 0
   SentSince number x [] = ⊥
-  SentSince number x (c ∷ past) = (is_newly_of number (notifies (own_of szx past) c) ≡ false) × ((sends (own_of szx past) c ≡ Some x) ⊎ SentSince number x past)
+  SentSince number x (c ∷ past) = (is_newly_of number (notifies (own_of szx past) c) ≡ false)
+      × ((sends (own_of szx past) c ≡ Some x) ⊎ SentSince number x past)
 
   -- the message is heard as the answer to a fetch for the observation that was sent since then, under its token
   pub record HeardToFetch (number : ℕ) (m : Message) (past : List Call) (c : Call) : Type 0 where
@@ -40,7 +42,8 @@ module _ (szx : ℕ) where
   -- the part was fetched since the newest notification of the observation came
   abbrev pub TookRest : ℕ → Part → List Call → Type 0
   TookRest number p [] = ⊥
-  TookRest number p (c ∷ past) = (is_newly_of number (notifies (own_of szx past) c) ≡ false) × (TakesRest number p past c ⊎ TookRest number p past)
+  TookRest number p (c ∷ past) = (is_newly_of number (notifies (own_of szx past) c) ≡ false)
+      × (TakesRest number p past c ⊎ TookRest number p past)
 
   -- The value is in one notification, which has just come ..
   pub record IsAlone (first : Newly) (parts : List Part) (last : Message) (past : List Call) (c : Call) : Type 0 where
@@ -49,7 +52,8 @@ module _ (szx : ℕ) where
     pub none : parts ≡ []
 
   -- .. or it begins with one, and what was fetched since then is the rest.
-  pub record IsFetchedFor (number : ℕ) (first : Newly) (parts : List Part) (last : Message) (past : List Call) (c : Call) : Type 0 where
+  pub record IsFetchedFor (number : ℕ) (first : Newly) (parts : List Part) (last : Message) (past : List Call)
+      (c : Call) : Type 0 where
     pub heard : HeardToFetch number last past c
     pub part : Part
     pub begins : ComesAs part first.message
@@ -57,9 +61,10 @@ module _ (szx : ℕ) where
     pub split : parts ≡ part ∷ rest
     pub took : Each (λ p. TookRest number p past) rest
 
-  -- It is whole by the newest notification, whose sequence number it has, and what was fetched for that; the last part gives its
-  -- ETag and its format.
-  pub record IsObserved (number sequence : ℕ) (tag : Option (List ℕ)) (format : Option ℕ) (body : List ℕ) (past : List Call) (c : Call) : Type 0 where
+  -- It is whole by the newest notification, whose sequence number it has, and what was fetched for that; the last part
+  -- gives its ETag and its format.
+  pub record IsObserved (number sequence : ℕ) (tag : Option (List ℕ)) (format : Option ℕ) (body : List ℕ)
+      (past : List Call) (c : Call) : Type 0 where
     pub first : Newly
     pub is_newest : newest szx number (c ∷ past) ≡ Some first
     pub sequence_is : sequence ≡ sequence_in first.message
@@ -75,4 +80,6 @@ module _ (szx : ℕ) where
 
   abbrev pub ValuesAreWhole : List Call → Type 0
   ValuesAreWhole trace =
-      Always (λ past c. (number sequence : ℕ) (tag : Option (List ℕ)) (format : Option ℕ) (body : List ℕ) → reports (own_of szx past) c ≡ of number (Value sequence tag format body) → IsObserved number sequence tag format body past c) trace
+      Always (λ past c. (number sequence : ℕ) (tag : Option (List ℕ)) (format : Option ℕ) (body : List ℕ)
+      → reports (own_of szx past) c ≡ of number (Value sequence tag format body)
+      → IsObserved number sequence tag format body past c) trace

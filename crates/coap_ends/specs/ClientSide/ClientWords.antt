@@ -24,19 +24,23 @@ takes c = None
 abbrev pub WasTaken : Taken → List Call → Type 0
 WasTaken x t = Ever (λ c. takes c ≡ Some x) t
 
--- a request that is sent for the first time: for which operation, as it is then, under which token, and as which message
+-- a request that is sent for the first time: for which operation, as it is then, under which token, and as which
+-- message
 pub record Sending : Type 0 where
   pub operation : Operation
   pub token : List ℕ
   pub request : E.Request
 
 abbrev pub sent_by : Effect → Deed → Result (List ℕ) AskRefusal → Option Sending
-sent_by e (Asks op) (Ok token) = Some (record { operation = op; token = token; request = message_of e.own.observations op })
+sent_by e (Asks op) (Ok token) = Some (record
+    { operation = op; token = token; request = message_of e.own.observations op })
 sent_by e _ token = None
 
 abbrev pub sends : Own → Call → Option Sending
-sends s (Feeds now from bytes word up settled event sent token kept) = let e = effect s (Feeds now from bytes word up settled event sent token kept) in sent_by e e.deed token
-sends s (Ticks now word below t sent token kept answer) = let e = effect s (Ticks now word below t sent token kept answer) in sent_by e e.deed token
+sends s (Feeds now from bytes word up settled event sent token kept) = let e =
+    effect s (Feeds now from bytes word up settled event sent token kept) in sent_by e e.deed token
+sends s (Ticks now word below t sent token kept answer) = let e =
+    effect s (Ticks now word below t sent token kept answer) in sent_by e e.deed token
 sends s c = None
 
 -- the response that a call takes as the answer to the request that runs

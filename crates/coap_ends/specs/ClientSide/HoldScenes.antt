@@ -10,7 +10,16 @@ use Rattle.coap_ends.specs.ClientSide.ClientEffects.{Asks, Rests}
 use Rattle.coap_ends.specs.ClientSide.ClientEvents.{passes}
 
 abbrev pub request : List ℕ → Request
-request body = record { method = Put; path = []; format = None; body = body; etags = []; if_match = []; if_none_match = false; accept = None }
+request body = record {
+  method = Put;
+  path = [];
+  format = None;
+  body = body;
+  etags = [];
+  if_match = [];
+  if_none_match = false;
+  accept = None;
+}
 
 abbrev pub holding : List Operation → Own
 holding ops = record (start 3) { queue = ops; hold = Some 45000 }

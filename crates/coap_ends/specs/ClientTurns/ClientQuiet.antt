@@ -1,4 +1,5 @@
--- Which datagrams and ticks take no memory: nothing is to be sent, kept or reported (RFC 7252, sections 4.2, 5.2 and 5.3.2).
+-- Which datagrams and ticks take no memory: nothing is to be sent, kept or reported (RFC 7252, sections 4.2, 5.2 and
+-- 5.3.2).
 use Rattle.std.specs.Prelude.{◌≡◌, ℕ, max, false, None, List, []}
 use Rattle.coap_types.specs.declared.endpoint.Endpoint.{Endpoint}
 use Rattle.coap_layer.specs.Machine.State.{copies, made, tick_of}
@@ -15,8 +16,8 @@ use Rattle.coap_ends.specs.ClientSide.ClientStep.{State}
 abbrev pub received : State → ℕ → Endpoint → List ℕ → Entry
 received s now from bytes = made s.layer.layer (max s.own.clock now) (Receive from bytes)
 
--- The message layer sends nothing and hands up no message to be remembered, and the client is told nothing: what came is no response
--- to its request, and no Reset of that.
+-- The message layer sends nothing and hands up no message to be remembered, and the client is told nothing: what came
+-- is no response to its request, and no Reset of that.
 pub record TellsNothing (s : State) (now : ℕ) (from : Endpoint) (bytes : List ℕ) : Type 0 where
   pub quiet : IsQuiet (received s now from bytes)
   pub silent : let up = (received s now from bytes).answer in told (verdict_on s.layer.own from up) up ≡ None
@@ -24,5 +25,6 @@ pub record TellsNothing (s : State) (now : ℕ) (from : Endpoint) (bytes : List 
 -- no retransmission is due, and no end of the exchange; and nothing is there to begin
 pub record IsIdle (s : State) (now : ℕ) : Type 0 where
   pub copies : copies (max s.layer.own.clock (max s.own.clock now)) s.layer.layer.open_cons ≡ []
-  pub due : turn_of s.layer.own (max s.layer.own.clock (max s.own.clock now)) (tick_of (max s.layer.layer.clock (max s.own.clock now)) s.layer.layer.open_cons) ≡ turn.Idle
+  pub due : turn_of s.layer.own (max s.layer.own.clock (max s.own.clock now))
+      (tick_of (max s.layer.layer.clock (max s.own.clock now)) s.layer.layer.open_cons) ≡ turn.Idle
   pub begins : asks (passes (at now s.own) (max s.own.clock now) turn.Idle).deed ≡ false

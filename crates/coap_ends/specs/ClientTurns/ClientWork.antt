@@ -17,8 +17,9 @@ awaits_fetch running o = is_some o.rest && not (is_fetched running o)
 abbrev pub to_begin : Own → ℕ
 to_begin s = length s.queue + length (filter (awaits_fetch s.running) s.observations)
 
--- The CONs with a step that is due then; the exchange that runs, which may end; and what has not begun, each of which may begin
--- and end.
+-- The CONs with a step that is due then; the exchange that runs, which may end; and what has not begun, each of which
+-- may begin and end.
 abbrev pub work : State → ℕ → ℕ
 work s now =
-    due_count (max s.layer.layer.clock (max s.own.clock now)) s.layer.layer.open_cons + (one_if (is_some s.layer.own.running) + 2 * to_begin s.own)
+    due_count (max s.layer.layer.clock (max s.own.clock now)) s.layer.layer.open_cons +
+    (one_if (is_some s.layer.own.running) + 2 * to_begin s.own)

@@ -18,5 +18,6 @@ NoNons t = Ever SendsNon t → ⊥
 -- One CON at most has a token: what it spells is not begun again (section 5.3.1).
 abbrev pub OneCon : List L.Entry → Type 0
 OneCon t =
-    (a b : Open) → Ever (λ e. begun e ≡ Some a) t → Ever (λ e. begun e ≡ Some b) t → (x y : Message) → AreBytes a.bytes → AreBytes b.bytes
+    (a b : Open) → Ever (λ e. begun e ≡ Some a) t → Ever (λ e. begun e ≡ Some b) t → (x y : Message) → AreBytes a.bytes
+    → AreBytes b.bytes
     → Spells a.bytes x → Spells b.bytes y → x.token ≡ y.token → a ≡ b

@@ -1,4 +1,5 @@
--- What a server sends beside Empty messages: responses to the requests that were handed up (RFC 7252, sections 4.2 and 5.2).
+-- What a server sends beside Empty messages: responses to the requests that were handed up (RFC 7252, sections 4.2 and
+-- 5.2).
 use Rattle.std.specs.Prelude.{◌≡◌}
 use Rattle.coap_codec.specs.Message.{Message, Spells}
 use Rattle.coap_layer.specs.Trace as L

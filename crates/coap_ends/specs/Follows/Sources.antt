@@ -1,4 +1,5 @@
--- Which call of a message layer gives it what a datagram carries: a reply, a NON or a CON (RFC 7252, sections 4.2 and 4.3).
+-- Which call of a message layer gives it what a datagram carries: a reply, a NON or a CON (RFC 7252, sections 4.2 and
+-- 4.3).
 use Rattle.std.specs.Prelude.{◌≡◌, ◌⊎◌, ℕ, ◌<◌, ◌^◌}
 use Rattle.coap_types.specs.declared.message.Kind.{Kind}
 use Rattle.coap_codec.specs.Message.{Spells}

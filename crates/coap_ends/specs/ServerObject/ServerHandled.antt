@@ -22,7 +22,8 @@ use Rattle.coap_ends.specs.ServerSide.ServerSteps.{came_after, handled}
 use Rattle.coap_ends.specs.ServerSide.ServerLed.{State, exchanges_of}
 
 -- A request is served: what the response carries, what was applied, and what is left of the store and the observers.
-pub record ServesRequest (store : Content) (observers : List Observer) (at : ℕ) (a : Asked) (q : Question) (response : E.Response) (applied : List Applied) (left : Content) (told : List Observer) : Type 0 where
+pub record ServesRequest (store : Content) (observers : List Observer) (at : ℕ) (a : Asked) (q : Question)
+    (response : E.Response) (applied : List Applied) (left : Content) (told : List Observer) : Type 0 where
   pub reply : Reply
   pub serves : R.Serves store at q reply left
   pub response_is : response ≡ response_to store observers a q reply
@@ -47,11 +48,13 @@ pub record IsHandled (s : State) (a : Asked) (m : Message) (new : State) : Type 
   pub left : new.own ≡ came_after s.own (Some (a, m)) handling (answering s.own (Some (a, m)) handling below)
 
 -- What is done with a request whose body is whole, and with one that uploads a block: whatever message it came in.
-pub record IsAsked (P : Handling → Type 0) (s : State) (a : Asked) (uploads : AssemblyState) (new : State) : Type 0 where
+pub record IsAsked (P : Handling → Type 0) (s : State) (a : Asked) (uploads : AssemblyState)
+    (new : State) : Type 0 where
   pub handling : Handling
   pub below : L.Answer
   pub right : P handling
-  pub asks : (m : Message) → X.Exchanged (exchanges_of s) (answering s.own (Some (a, m)) handling below) (exchanges_of new)
+  pub asks : (m : Message) → X.Exchanged (exchanges_of s) (answering s.own (Some (a, m)) handling below)
+      (exchanges_of new)
   pub left :
       new.own
       ≡ record (handled s.own (Some a) handling) {
@@ -65,4 +68,5 @@ IsWhole s a q new = IsAsked (HandlesWhole s.own a q) s a s.own.uploads new
 
 abbrev pub IsUploaded : State → Asked → Question → Block → State → Type 0
 IsUploaded s a q b new =
-    IsAsked (HandlesBlock (ruling_of s.own.uploads s.own.clock a q b) s.own a q b) s a (after_block s.own.uploads s.own.clock (key_of a q) b q.body) new
+    IsAsked (HandlesBlock (ruling_of s.own.uploads s.own.clock a q b) s.own a q b) s a
+    (after_block s.own.uploads s.own.clock (key_of a q) b q.body) new

@@ -24,7 +24,13 @@ waiting_as szx w = record {
   asked = w.asked;
   at = w.at;
   delay = w.delay;
-  question = record { method = w.method; path = w.path; options = map option_as w.options.items; body = w.body; szx = szx };
+  question = record {
+    method = w.method;
+    path = w.path;
+    options = map option_as w.options.items;
+    body = w.body;
+    szx = szx;
+  };
 }
 
 abbrev pub applied_as : {A : Type 0} → Applied A → T.Applied
@@ -34,8 +40,8 @@ abbrev pub applied_list : {A : Type 0} → Option (Applied A) → List T.Applied
 applied_list None = []
 applied_list (Some x) = applied_as x ∷ []
 
--- What callers see of a server: what it keeps, with its store as it is. (A value holds no function, as the content of a store
--- is one.)
+-- What callers see of a server: what it keeps, with its store as it is. (A value holds no function, as the content of a
+-- store is one.)
 pub record Kept (S : Type 0) : Type 0 where
   pub szx : ℕ
   pub clock : ℕ

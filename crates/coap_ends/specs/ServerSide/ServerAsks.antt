@@ -16,14 +16,17 @@ use Rattle.coap_ends.specs.ServerSide.ServerHandling.{incoming, ticking, heard}
 -- the response to a request that arrived, and its deferral, where the exchanges have no place for it too
 abbrev pub answering : Own → Option (Asked × Message) → Handling → L.Answer → List E.Call
 answering s (Some p) (Replies response) below = E.Answers p.0 response below ∷ []
-answering s (Some p) (Serves q reply left) below = E.Answers p.0 (response_to s.store s.observers p.0 q reply) below ∷ deferral s p.0 q
+answering s (Some p) (Serves q reply left) below =
+    E.Answers p.0 (response_to s.store s.observers p.0 q reply) below ∷ deferral s p.0 q
 answering s (Some p) (Waits q delay) below = deferral s p.0 q
 answering s _ h below = []
 
 -- the response to the request that is ready; the notification, and before it which observers can be notified
 abbrev pub responding : Own → Due → ℕ → Handling → ℕ → ℕ → List E.Call
-responding s (due.Ready a) passed (Serves q reply left) word id = E.Responds s.clock a (response_to s.store s.observers a q reply) word id ∷ []
-responding s due.Idle passed (Notifies o reply) word id = E.Notifies s.clock o.to o.token (notification s.store o reply) word id ∷ readies s.clock passed (marked s.observers)
+responding s (due.Ready a) passed (Serves q reply left) word id =
+    E.Responds s.clock a (response_to s.store s.observers a q reply) word id ∷ []
+responding s due.Idle passed (Notifies o reply) word id =
+    E.Notifies s.clock o.to o.token (notification s.store o reply) word id ∷ readies s.clock passed (marked s.observers)
 responding s due.Idle passed _ word id = readies s.clock passed (marked s.observers)
 responding s d passed h word id = []
 

@@ -1,5 +1,5 @@
--- What a server checks of a request before it looks at its own state, in this order (RFC 7252, sections 5.4.1, 5.7.2, 5.8 and
--- 5.10; RFC 7959, section 2.2; the order, and the bound of segments, are a profile).
+-- What a server checks of a request before it looks at its own state, in this order (RFC 7252, sections 5.4.1, 5.7.2,
+-- 5.8 and 5.10; RFC 7959, section 2.2; the order, and the bound of segments, are a profile).
 use Rattle.std.specs.Prelude.{ℕ, nat_lt, Bool, false, ◌||◌, not, is_some, Option, Some, None, List, length}
 use Rattle.std.specs.Prelude.{if◌then◌else◌}
 use Rattle.coap_types.specs.BlockValue.{block_by}
@@ -43,8 +43,8 @@ abbrev pub is_reserved : Option ℕ → Bool
 is_reserved None = false
 is_reserved (Some n) = not (is_some (block_by n))
 
--- What a request comes to: it is ignored; refused with a code; asked of the store; or it uploads a block, the question's
--- body, of what is asked then.
+-- What a request comes to: it is ignored; refused with a code; asked of the store; or it uploads a block, the
+-- question's body, of what is asked then.
 pub data Verdict : Type 0 where
   Ignored : Verdict
   Refused : (code : ℕ) → Verdict
@@ -57,7 +57,13 @@ bad_by Con = Refused bad_option
 bad_by _ = Ignored
 
 abbrev pub question : ℕ → Method → Message → Question
-question szx method m = record { method = method; path = path_of (asks m); options = asks m; body = m.payload; szx = szx }
+question szx method m = record {
+  method = method;
+  path = path_of (asks m);
+  options = asks m;
+  body = m.payload;
+  szx = szx;
+}
 
 -- Block1 is of a PUT and a POST
 abbrev pub uploading : Method → Question → Option Block → Verdict

@@ -1,4 +1,5 @@
--- Which requests are answered later, and what they ask then (RFC 7252, section 5.2.2; that a path has a delay is a profile).
+-- Which requests are answered later, and what they ask then (RFC 7252, section 5.2.2; that a path has a delay is a
+-- profile).
 use Rattle.std.specs.Prelude.{◌≡◌, ℕ, ◌-◌, nat_lt, nat_le, Bool, true, false, ◌&&◌, not, Option, Some, None, List, []}
 use Rattle.std.specs.Prelude.{◌∷◌, ◌++◌, length, filter, if◌then◌else◌}
 use Rattle.coap_types.specs.Path.{same_path}

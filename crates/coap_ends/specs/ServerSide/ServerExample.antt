@@ -1,5 +1,5 @@
--- A history of a server: an observer registers, the resource changes, the observer is notified and acknowledges (RFC 7641,
--- section 1.3).
+-- A history of a server: an observer registers, the resource changes, the observer is notified and acknowledges (RFC
+-- 7641, section 1.3).
 use Rattle.std.specs.Prelude.{ℕ, true, false, cond, Some, None, List, [], ◌∷◌, ◌++◌, codes, Ok}
 use Rattle.coap_types.specs.declared.endpoint.Endpoint.{Endpoint}
 use Rattle.coap_types.specs.declared.message.Kind.TheVariants.{Con}
@@ -34,17 +34,32 @@ abbrev pub held : ℕ → List ℕ → Held
 held version body = record { version = version; format = Some 0; body = body }
 
 abbrev pub a : Content
-a = record { holds = λ other. cond (same_path path other) (Some (held 1 (codes "a"))) None; paths = 1; tally = counted (unused limit) 0 }
+a = record {
+  holds = λ other. cond (same_path path other) (Some (held 1 (codes "a"))) None;
+  paths = 1;
+  tally = counted (unused limit) 0;
+}
 
 abbrev pub b : Content
-b = record { holds = λ other. cond (same_path path other) (Some (held 2 (codes "b"))) None; paths = 1; tally = counted a.tally 3 }
+b = record {
+  holds = λ other. cond (same_path path other) (Some (held 2 (codes "b"))) None;
+  paths = 1;
+  tally = counted a.tally 3;
+}
 
 -- a GET with Observe 0
 abbrev pub get : List ℕ
 get = 0x48 ∷ 1 ∷ 0 ∷ 0 ∷ token ++ 0x60 ∷ 0x51 ∷ codes "t"
 
 abbrev pub request : Message
-request = record { kind = Con; code = 1; id = 0; token = token; options = record { number = 6; value = [] } ∷ record { number = 11; value = codes "t" } ∷ []; payload = [] }
+request = record {
+  kind = Con;
+  code = 1;
+  id = 0;
+  token = token;
+  options = record { number = 6; value = [] } ∷ record { number = 11; value = codes "t" } ∷ [];
+  payload = [];
+}
 
 abbrev pub asked : Asked
 asked = asked_of client request
@@ -54,7 +69,14 @@ question = record { method = Get; path = path; options = request.options; body =
 
 -- 2.05 with the tag of the version, and the body
 abbrev pub content_of : ℕ → List ℕ → Reply
-content_of version body = record { code = 69; tag = Some (tag_of version); format = Some 0; block2 = None; part = body; offset = 0 }
+content_of version body = record {
+  code = 69;
+  tag = Some (tag_of version);
+  format = Some 0;
+  block2 = None;
+  part = body;
+  offset = 0;
+}
 
 -- the observer, to whom a notification is due
 abbrev pub observer : Observer
@@ -84,6 +106,7 @@ run =
     Sets 3 path (Some 0) (codes "b") (Ok 2) b ∷
     NextOut None ∷
     sends response ∷
-    Feeds 1 client get 0 (L.Becomes (L.Request request true)) (Some (asked, request)) (Serves question (content_of 1 (codes "a")) a) L.Nothing ∷
+    Feeds 1 client get 0 (L.Becomes (L.Request request true)) (Some (asked, request))
+    (Serves question (content_of 1 (codes "a")) a) L.Nothing ∷
     Sets 0 path (Some 0) (codes "a") (Ok 1) a ∷
     []

@@ -1,5 +1,5 @@
--- What becomes of a request that arrives, and what is done as time passes (RFC 7252, sections 4.8 and 5.2; RFC 7641, section
--- 4.5; RFC 7959, section 2.9; the order is a profile).
+-- What becomes of a request that arrives, and what is done as time passes (RFC 7252, sections 4.8 and 5.2; RFC 7641,
+-- section 4.5; RFC 7959, section 2.9; the order is a profile).
 use Rattle.std.specs.Prelude.{◌≡◌, ℕ, max, Bool, true, false, Option, Some, None, List}
 use Rattle.coap_types.specs.declared.endpoint.Endpoint.{Endpoint}
 use Rattle.coap_codec.specs.Message.{Message}
@@ -32,7 +32,11 @@ ticking s now below room d = E.Ticks (max s.clock now) below room d
 -- The moment counts, and where what carried Observe is told to have ended, by a Reset or because it was given up, the
 -- observer is removed.
 abbrev pub heard : Own → ℕ → E.Call → Own
-heard s now c = record s { clock = max s.clock now; exchanges = P.after s.exchanges c; observers = unless_ended (P.after s.exchanges c).ended s.observers }
+heard s now c = record s {
+  clock = max s.clock now;
+  exchanges = P.after s.exchanges c;
+  observers = unless_ended (P.after s.exchanges c).ended s.observers;
+}
 
 -- a request: by the checks, and then by the block that it uploads
 

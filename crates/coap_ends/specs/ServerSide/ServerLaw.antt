@@ -1,5 +1,5 @@
--- The law of a server, over whole traces of its calls, the newest first (RFC 7252, section 5; RFC 7641, section 4; RFC 7959,
--- section 2).
+-- The law of a server, over whole traces of its calls, the newest first (RFC 7252, section 5; RFC 7641, section 4; RFC
+-- 7959, section 2).
 use Rattle.std.specs.Prelude.{ℕ, List}
 use Rattle.coap_layer.specs.Trace.{Entry}
 use Rattle.coap_exchange.specs.Above.{sum_of, asked_by, Rows}

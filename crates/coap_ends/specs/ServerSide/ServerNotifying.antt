@@ -13,8 +13,8 @@ use Rattle.coap_ends.specs.ServerSide.ServerObservers.{sequence}
 abbrev pub marked : List Observer → List Observer
 marked os = filter (λ o. o.marked) os
 
--- The first of them to whose endpoint a CON can be sent, behind so many to whose it can't; and what is asked of the exchanges
--- about them, the newest first.
+-- The first of them to whose endpoint a CON can be sent, behind so many to whose it can't; and what is asked of the
+-- exchanges about them, the newest first.
 abbrev pub behind : ℕ → List Observer → Option Observer
 behind passed [] = None
 behind zero (o ∷ os) = Some o

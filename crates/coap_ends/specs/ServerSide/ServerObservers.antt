@@ -1,4 +1,5 @@
--- Which requests register and remove an observer, and what marks and ends it (RFC 7641, sections 3.6, 4.1, 4.2 and 4.5).
+-- Which requests register and remove an observer, and what marks and ends it (RFC 7641, sections 3.6, 4.1, 4.2 and
+-- 4.5).
 use Rattle.std.specs.Prelude.{ℕ, ◌==◌, nat_lt, Bool, true, false, ◌&&◌, Option, Some, None, List, length, if◌then◌else◌}
 use Rattle.std.specs.Option.{option_map}
 use Rattle.coap_types.specs.declared.request.Method.{Method}
@@ -30,7 +31,8 @@ observes n q = is_get q.method && is_number n (uint_at observe q.options)
 -- Observe 0 registers where the answer is a 2.05 with the start of the body, and a place is free.
 abbrev pub registers : Asked → Question → Reply → List Observer → Bool
 registers a q reply os =
-    observes 0 q && ((reply.code == content) && ((reply.offset == 0) && nat_lt (length (removed a.from a.token os)) max_observers))
+    observes 0 q && ((reply.code == content) && ((reply.offset == 0)
+    && nat_lt (length (removed a.from a.token os)) max_observers))
 
 -- Observe 1 removes, whatever the answer.
 abbrev pub observers_with : Asked → Question → Reply → List Observer → List Observer

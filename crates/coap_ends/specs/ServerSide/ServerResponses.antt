@@ -12,8 +12,8 @@ use Rattle.coap_exchange.specs.AnswererTrace as E
 abbrev pub bare : ℕ → E.Response
 bare code = record { code = code; options = []; payload = [] }
 
--- What the store answers, with Observe and Block1 where they are given: ETag, Observe, Content-Format, Block2 and Block1 in
--- the order of their numbers.
+-- What the store answers, with Observe and Block1 where they are given: ETag, Observe, Content-Format, Block2 and
+-- Block1 in the order of their numbers.
 abbrev pub response_with : Reply → Option ℕ → Option ℕ → E.Response
 response_with reply sequence block = record {
   code = reply.code;

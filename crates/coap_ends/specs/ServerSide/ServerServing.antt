@@ -20,7 +20,8 @@ pub record IsServed (old : Content) (at : ℕ) (q : Question) (h : Handling) : T
 
 -- The response has Observe where the request is registered, and Block1 where its body came in blocks.
 abbrev pub response_to : Content → List Observer → Asked → Question → Reply → E.Response
-response_to old os a q reply = response_with reply (sequence_if (registers a q reply os) (old.holds q.path)) (last_block q)
+response_to old os a q reply = response_with reply (sequence_if (registers a q reply os) (old.holds q.path))
+    (last_block q)
 
 abbrev pub observers_served : Content → Asked → Question → Reply → Content → List Observer → List Observer
 observers_served old a q reply left os = marked_if q.path old left (observers_with a q reply os)
@@ -34,5 +35,11 @@ version_made old left = if left.tally.version == old.tally.version then 0 else l
 
 abbrev pub applied_by : Content → Asked → Question → Reply → Content → List Applied
 applied_by old a q reply left =
-    if is_applied reply.code then record { from = a.from; token = a.token; path = q.path; method = q.method; version = version_made old left } ∷ []
+    if is_applied reply.code then record {
+      from = a.from;
+      token = a.token;
+      path = q.path;
+      method = q.method;
+      version = version_made old left;
+    } ∷ []
     else []

@@ -1,5 +1,5 @@
--- What each call of a server answers, and what it leaves (RFC 7252, sections 5.2 and 5.8; RFC 7641, section 4; RFC 7959,
--- section 2).
+-- What each call of a server answers, and what it leaves (RFC 7252, sections 5.2 and 5.8; RFC 7641, section 4; RFC
+-- 7959, section 2).
 use Rattle.std.specs.Prelude.{◌≡◌, ℕ, max, Option, Some, None, List, [], ◌∷◌, length}
 use Rattle.coap_codec.specs.Message.{Message}
 use Rattle.coap_block.specs.AssemblyState.{AssemblyState}
@@ -28,12 +28,16 @@ use Rattle.coap_ends.specs.ServerSide.ServerAsks.{answering, responding}
 -- each call has its row
 abbrev pub IsRight : Own → Call → Type 0
 IsRight s (Sets now path format body answer left) =
-    SetsBy (put_refusal s.store (max s.clock now) path (length body)) s.store (max s.clock now) path format body answer left
+    SetsBy (put_refusal s.store (max s.clock now) path (length body)) s.store
+    (max s.clock now) path format body answer left
 IsRight s (Removes now path answer left) =
-    RemovesBy (s.store.holds path) (rate_refusal s.store.tally (max s.clock now)) s.store (max s.clock now) path answer left
+    RemovesBy (s.store.holds path) (rate_refusal s.store.tally (max s.clock now)) s.store
+    (max s.clock now) path answer left
 IsRight s (Delays path ms answer) = answer ≡ may_delay path s.delays
-IsRight s (Feeds now from bytes word up came h below) = HandlesCame (heard s now (incoming s now from bytes up came)) came h
-IsRight s (Ticks now word below room d passed h id answer) = HandlesDue (heard s now (ticking s now below room d)) d passed h × (answer ≡ is_done d h)
+IsRight s (Feeds now from bytes word up came h below) =
+    HandlesCame (heard s now (incoming s now from bytes up came)) came h
+IsRight s (Ticks now word below room d passed h id answer) =
+    HandlesDue (heard s now (ticking s now below room d)) d passed h × (answer ≡ is_done d h)
 IsRight s (NextOut answer) = Unit {0}
 IsRight s (Gets path answer) = answer ≡ s.store.holds path
 IsRight s (TellsApplied answer) = answer ≡ s.applied
@@ -54,7 +58,11 @@ applied_after old (Some a) (Serves q reply left) = applied_by old a q reply left
 applied_after old a _ = []
 
 abbrev pub handled : Own → Option Asked → Handling → Own
-handled s a h = record s { store = store_after h s.store; observers = observers_after s.store a h s.observers; applied = applied_after s.store a h }
+handled s a h = record s {
+  store = store_after h s.store;
+  observers = observers_after s.store a h s.observers;
+  applied = applied_after s.store a h;
+}
 
 -- by the request that arrives, and by the one that is ready
 
@@ -88,7 +96,10 @@ came_after s came h asks =
 
 abbrev pub due_after : Own → Due → Handling → List E.Call → Own
 due_after s d h asks =
-    record (handled s (ready_in d) h) { exchanges = exchanges_after s.exchanges asks; waiting = waiting_due s.clock (ready_in d) s.waiting }
+    record (handled s (ready_in d) h) {
+      exchanges = exchanges_after s.exchanges asks;
+      waiting = waiting_due s.clock (ready_in d) s.waiting;
+    }
 
 abbrev pub after : Own → Call → Own
 after s (Sets now path format body answer left) =
@@ -97,9 +108,11 @@ after s (Removes now path answer left) =
     record s { clock = max s.clock now; store = left; observers = marked_if path s.store left s.observers }
 after s (Delays path ms answer) = record s { delays = delays_with path ms answer s.delays }
 after s (Feeds now from bytes word up came h below) =
-    came_after (heard s now (incoming s now from bytes up came)) came h (answering (heard s now (incoming s now from bytes up came)) came h below)
+    came_after (heard s now (incoming s now from bytes up came)) came h
+    (answering (heard s now (incoming s now from bytes up came)) came h below)
 after s (Ticks now word below room d passed h id answer) =
-    due_after (heard s now (ticking s now below room d)) d h (responding (heard s now (ticking s now below room d)) d passed h word id)
+    due_after (heard s now (ticking s now below room d)) d h
+    (responding (heard s now (ticking s now below room d)) d passed h word id)
 after s (NextOut answer) = record s { exchanges = exchanges_after s.exchanges (E.Take answer ∷ []) }
 after s (Gets path answer) = s
 after s (TellsApplied answer) = s

@@ -1,4 +1,5 @@
--- A history of a server: a body of 17 bytes comes in two blocks of 16 bytes, and makes a resource (RFC 7959, section 3.2).
+-- A history of a server: a body of 17 bytes comes in two blocks of 16 bytes, and makes a resource (RFC 7959, section
+-- 3.2).
 use Rattle.std.specs.Prelude.{ℕ, true, cond, Some, None, List, [], ◌∷◌, ◌++◌, codes}
 use Rattle.coap_types.specs.CoapOption.{CoapOption}
 use Rattle.coap_types.specs.declared.message.Kind.TheVariants.{Con}
@@ -25,14 +26,25 @@ abbrev pub held : Held
 held = record { version = 1; format = None; body = front ++ last }
 
 abbrev pub made : Content
-made = record { holds = λ other. cond (same_path path other) (Some held) None; paths = 1; tally = counted (unused limit) 1 }
+made = record {
+  holds = λ other. cond (same_path path other) (Some held) None;
+  paths = 1;
+  tally = counted (unused limit) 1;
+}
 
 -- a PUT with Uri-Path and Block1 of this value
 abbrev pub options : ℕ → List CoapOption
 options block = record { number = 11; value = codes "t" } ∷ record { number = 27; value = block ∷ [] } ∷ []
 
 abbrev pub request : ℕ → ℕ → List ℕ → Message
-request id block payload = record { kind = Con; code = 3; id = id; token = []; options = options block; payload = payload }
+request id block payload = record {
+  kind = Con;
+  code = 3;
+  id = id;
+  token = [];
+  options = options block;
+  payload = payload;
+}
 
 abbrev pub put : ℕ → ℕ → List ℕ → List ℕ
 put id block payload = 0x40 ∷ 3 ∷ 0 ∷ id ∷ 0xb1 ∷ codes "t" ++ 0xd1 ∷ 3 ∷ block ∷ 0xff ∷ payload
@@ -60,7 +72,9 @@ sends bytes = NextOut (Some (record { to = client; bytes = bytes }))
 abbrev pub run : List Call
 run =
     sends (reply 0x41 2 16) ∷
-    Feeds 1 client (put 2 16 last) 0 (L.Becomes (L.Request (request 2 16 last) true)) (Some (asked 2 16 last, request 2 16 last)) (Serves question (bare 65 0) made) L.Nothing ∷
+    Feeds 1 client (put 2 16 last) 0 (L.Becomes (L.Request (request 2 16 last) true))
+    (Some (asked 2 16 last, request 2 16 last)) (Serves question (bare 65 0) made) L.Nothing ∷
     sends (reply 0x5f 1 8) ∷
-    Feeds 0 client (put 1 8 front) 0 (L.Becomes (L.Request (request 1 8 front) true)) (Some (asked 1 8 front, request 1 8 front)) (Replies continues) L.Nothing ∷
+    Feeds 0 client (put 1 8 front) 0 (L.Becomes (L.Request (request 1 8 front) true))
+    (Some (asked 1 8 front, request 1 8 front)) (Replies continues) L.Nothing ∷
     []

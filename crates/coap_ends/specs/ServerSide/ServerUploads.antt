@@ -32,11 +32,17 @@ whole uploads at a q b = record q { body = with_block uploads at (key_of a q) b 
 
 -- 2.31 asks for the next block: with the number of this one, M 1, and the size from now on
 abbrev pub continuing : ℕ → Block → E.Response
-continuing szx b = record { code = continue; options = uint_option block1 (Some (block_value (record { num = b.num; more = true; szx = szx }))); payload = [] }
+continuing szx b = record {
+  code = continue;
+  options =
+      uint_option block1 (Some (block_value (record { num = b.num; more = true; szx = szx })));
+  payload = [];
+}
 
 -- The response to a request whose last block was taken says Block1 of that block, with M 0.
 abbrev pub last_block : Question → Option ℕ
-last_block q = option_map (λ (b : Block). block_value (record b { more = false })) (block_said (uint_at block1 q.options))
+last_block q = option_map (λ (b : Block). block_value (record b { more = false }))
+    (block_said (uint_at block1 q.options))
 
 -- what a request leaves of the partial bodies
 abbrev pub uploads_after : ℕ → Asked → Verdict → AssemblyState → AssemblyState

@@ -5,10 +5,11 @@ use Rattle.coap_ends.specs.ServerSide.ServerNotifying.{marked}
 use Rattle.coap_ends.specs.ServerSide.ServerTrace.{Call}
 use Rattle.coap_ends.specs.ServerSide.ServerLed.{State, Led}
 
--- The CONs with a step that is due then; the observers that are marked; and the requests that wait, each for a change that
--- can mark all 64 observers.
+-- The CONs with a step that is due then; the observers that are marked; and the requests that wait, each for a change
+-- that can mark all 64 observers.
 abbrev pub work : State → ℕ → ℕ
-work s now = due_count (max s.layer.clock (max s.own.clock now)) s.layer.open_cons + (length (marked s.own.observers) + 65 * length s.own.waiting)
+work s now = due_count (max s.layer.clock (max s.own.clock now)) s.layer.open_cons +
+    (length (marked s.own.observers) + 65 * length s.own.waiting)
 
 -- calls led to it, from a server to which nothing had happened
 abbrev pub WasLed : State → Type 0

@@ -49,7 +49,11 @@ pub(crate) fn reply<S: Store<A>, A: Allocator + Copy, H: BuildHasher>(
     requires role { role_of code.0 ≡ role.Response }
     requires num { IfSome block1 (λ b. b.num ≤ MAX_NUM) }
     ensures step { (sent : below.Answer) × Step parts.old.exchanges.state
-        (Answers asked.now (record { code = code.0; options = uint_option BLOCK1 (option_map block_value block1); payload = [] }) sent)
+        (Answers asked.now (record {
+          code = code.0;
+          options = uint_option BLOCK1 (option_map block_value block1);
+          payload = [];
+        }) sent)
         parts.new.exchanges.state }
     ensures before { parts.new.exchanges.before ≡ parts.old.exchanges.before }
     ensures kept { kept_of parts.new

@@ -101,7 +101,8 @@ fn defer<S: Store<A>, A: Allocator + Copy, H: BuildHasher>(
     ensures waits { result ≡ Ok true → kept_of parts.new ≡ record (kept_of parts.old) {
       exchanges = parts.new.exchanges.state;
       waiting = (kept_of parts.old).waiting
-          ++ record { asked = asked.now; at = parts.old.clock.0; delay = delay; question = question_of asking.now } ∷ [];
+          ++ record { asked = asked.now; at = parts.old.clock.0; delay = delay; question = question_of asking.now } ∷
+          [];
       applied = [];
     } }
     ensures stays { result ≡ Ok false → kept_of parts.new

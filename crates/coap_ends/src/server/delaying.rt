@@ -1,5 +1,6 @@
 //! The delays of paths (RFC 7252, section 5.2.2; that a path has one is a profile).
-ghost use Rattle.std.specs.Prelude.{◌≡◌, ◌≢◌, ◌≤◌, ◌<◌, ◌++◌, ◌∷◌, [], true, false, Err, is_ok, is_some, length, slice_get, IfSome, IfNone, IfOk, IsOk, OnErr, OnOk, vec_len, vec_capacity};
+ghost use Rattle.std.specs.Prelude.{◌≡◌, ◌≢◌, ◌≤◌, ◌<◌, ◌++◌, ◌∷◌, [], true, false, Err, is_ok, is_some, length};
+ghost use Rattle.std.specs.Prelude.{slice_get, IfSome, IfNone, IfOk, IsOk, OnErr, OnOk, vec_len, vec_capacity};
 ghost use Rattle.coap_ends.specs.ServerSide.ServerDeferring.{delay_of, delays_with, may_delay};
 ghost use Rattle.coap_ends.specs.ServerSide.ServerLed.{Step};
 ghost use Rattle.coap_ends.specs.ServerSide.ServerTrace.{Delays};

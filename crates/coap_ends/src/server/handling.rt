@@ -40,7 +40,8 @@ pub(crate) fn handle<S: Store<A>, A: Allocator + Copy, H: BuildHasher>(
 ) -> Result<(), AllocError>
     requires may { MayAnswer parts.old.exchanges asked.now }
     requires short { length asked.now.token ≤ max_token_len }
-    ensures handled { OnOk result (IsHandled (seen S.content parts.old) asked.now request.now (seen S.content parts.new)) }
+    ensures handled { OnOk result (IsHandled (seen S.content parts.old) asked.now request.now
+        (seen S.content parts.new)) }
     ensures before { parts.new.exchanges.before ≡ parts.old.exchanges.before }
     ensures err { OnErr result
         (record (kept_of parts.new) { exchanges = parts.old.exchanges.state } ≡ kept_of parts.old) }

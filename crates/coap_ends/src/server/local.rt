@@ -25,7 +25,8 @@ fn put<S: Store<A>, A: Allocator + Copy>(
     body: &[u8],
 ) -> Result<u64, StoreRefusal>
     ensures sets { result ≢ Err Memory
-        → SetsBy (put_refusal (S.content store.old) at.0 path.now (length body.now)) (S.content store.old) at.0 path.now format body.now result (S.content store.new) }
+        → SetsBy (put_refusal (S.content store.old) at.0 path.now (length body.now))
+        (S.content store.old) at.0 path.now format body.now result (S.content store.new) }
     ensures memory { result ≡ Err Memory → store.new ≡ store.old }
 {
     store.put(at, path, format, body)
@@ -37,7 +38,8 @@ fn delete<S: Store<A>, A: Allocator + Copy>(
     at: Moment,
     path: &Path<A>,
 ) -> Result<bool, StoreRefusal>
-    ensures removes { RemovesBy ((S.content store.old).holds path.now) (rate_refusal (S.content store.old).tally at.0) (S.content store.old) at.0 path.now result (S.content store.new) }
+    ensures removes { RemovesBy ((S.content store.old).holds path.now) (rate_refusal (S.content store.old).tally at.0)
+        (S.content store.old) at.0 path.now result (S.content store.new) }
 {
     match store.delete(at, path) {
         Ok(version) => Ok(version.is_some()),

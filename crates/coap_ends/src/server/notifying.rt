@@ -57,7 +57,8 @@ fn notification<S: Store<A>, A: Allocator + Copy>(
     notice: &Notice<'_, A>,
 ) -> Result<(FullResponse<A>, bool), AllocError>
     ensures response { IfOk result (λ r. r.0
-        ≡ next.notification (S.content store.old) (told notice.now true) (next.told (S.content store.old) (told notice.now true))) }
+        ≡ next.notification (S.content store.old) (told notice.now true)
+        (next.told (S.content store.old) (told notice.now true))) }
     ensures there { IfOk result (λ r. r.1 ≡ is_some ((S.content store.old).holds notice.now.path.now)) }
     ensures store { store.new ≡ store.old }
 {
@@ -119,7 +120,8 @@ pub(crate) fn notify_next<S: Store<A>, A: Allocator + Copy, H: BuildHasher>(
     parts: &mut Parts<S, A, H>,
     word: u64,
 ) -> Result<bool, AllocError>
-    ensures turned { IfOk result (λ did. IsTurned (seen S.content parts.old) dues.Idle word did (seen S.content parts.new)) }
+    ensures turned { IfOk result (λ did. IsTurned (seen S.content parts.old) dues.Idle word did
+        (seen S.content parts.new)) }
     ensures before { parts.new.exchanges.before ≡ parts.old.exchanges.before }
     ensures err { OnErr result
         (record (kept_of parts.new) { exchanges = parts.old.exchanges.state } ≡ kept_of parts.old) }

@@ -3,7 +3,8 @@ ghost use Rattle.coap_types.specs.CoapOption.{options_of};
 ghost use Rattle.coap_types.specs.OptionValues.{uint_at};
 ghost use Rattle.coap_resource.specs.RequestOptions.{block_of, szx_by};
 ghost use Rattle.coap_resource.specs.Serves.{question_of, reply_of};
-ghost use Rattle.coap_ends.specs.ServerSide.ServerObservers.{observers_with, observes, registers, sequence, sequence_if};
+ghost use Rattle.coap_ends.specs.ServerSide.ServerObservers.{observers_with, observes, registers, sequence};
+ghost use Rattle.coap_ends.specs.ServerSide.ServerObservers.{sequence_if};
 ghost use Rattle.coap_ends.specs.ServerObject.Registering.{has_place, may_register, registered_by};
 
 use coap_exchange::Asked;
@@ -82,7 +83,8 @@ pub(crate) fn observe<S: Store<A>, A: Allocator + Copy>(
     ensures observers { OnOk result (observers.new
         ≡ observers_with asked.now (question_of asking.now) (reply_of response.now) observers.old) }
     ensures number { IfOk result (λ number. number
-        ≡ sequence_if (registers asked.now (question_of asking.now) (reply_of response.now) observers.old) ((S.content store.now).holds asking.now.path.now)) }
+        ≡ sequence_if (registers asked.now (question_of asking.now) (reply_of response.now) observers.old)
+        ((S.content store.now).holds asking.now.path.now)) }
     ensures err { OnErr result (observers.new ≡ observers.old) }
 {
     if may_register(asking, response) {

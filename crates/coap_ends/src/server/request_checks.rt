@@ -7,7 +7,8 @@ ghost use Rattle.coap_types.specs.RequestPath.{path_of};
 ghost use Rattle.coap_types.specs.declared.direction.Direction.TheVariants as direction;
 ghost use Rattle.coap_codec.specs.Message.{Message};
 ghost use Rattle.coap_resource.specs.RequestOptions.{block_said};
-ghost use Rattle.coap_ends.specs.ServerSide.ServerChecks.{asked_by, asks, bad_by, is_reserved, question, uploading, verdict_on};
+ghost use Rattle.coap_ends.specs.ServerSide.ServerChecks.{asked_by, asks, bad_by, is_reserved, question, uploading};
+ghost use Rattle.coap_ends.specs.ServerSide.ServerChecks.{verdict_on};
 ghost use Rattle.coap_ends.specs.ServerObject.ServerChecked.{CanBeAnswered, verdict_as};
 
 use crate::server::observing::number_at;

@@ -1,5 +1,6 @@
 //! The response to a deferred request that is ready (RFC 7252, section 5.2.2).
-ghost use Rattle.std.specs.Prelude.{◌≡◌, ◌<◌, ◌≤◌, ℕ, true, Some, None, IfOk, IfSome, IfNone, OnErr, OnOk, length, map, remove, get_or};
+ghost use Rattle.std.specs.Prelude.{◌≡◌, ◌<◌, ◌≤◌, ℕ, true, Some, None, IfOk, IfSome, IfNone, OnErr, OnOk, length};
+ghost use Rattle.std.specs.Prelude.{map, remove, get_or};
 ghost use Rattle.coap_types.specs.declared.token.TheConstants.{MAX_TOKEN_LEN as max_token_len};
 ghost use Rattle.coap_types.specs.CoapOption.{options_of};
 ghost use Rattle.coap_exchange.specs.declared.answerer.Due.TheVariants as dues;
@@ -78,7 +79,8 @@ fn serve_waiting<S: Store<A>, A: Allocator + Copy>(
     waiting: &Waiting<A>,
 ) -> Result<Served<A>, AllocError>
     ensures served { IfOk result (λ served. ServesRequest (S.content store.old) observers.old at.0 asked.now
-        (waiting_as szx waiting.now).question served.response (applied_list served.applied) (S.content store.new) observers.new) }
+        (waiting_as szx waiting.now).question served.response (applied_list served.applied)
+        (S.content store.new) observers.new) }
     ensures store { OnErr result (store.new ≡ store.old) }
     ensures observers { OnErr result (observers.new ≡ observers.old) }
 {
@@ -119,7 +121,8 @@ pub(crate) fn respond_ready<S: Store<A>, A: Allocator + Copy, H: BuildHasher>(
 ) -> Result<(), AllocError>
     requires may { MayRespond parts.old.exchanges parts.old.clock.0 asked.now }
     requires short { length asked.now.token ≤ max_token_len }
-    ensures turned { OnOk result (IsTurned (seen S.content parts.old) (dues.Ready asked.now) word true (seen S.content parts.new)) }
+    ensures turned { OnOk result (IsTurned (seen S.content parts.old) (dues.Ready asked.now) word true
+        (seen S.content parts.new)) }
     ensures before { parts.new.exchanges.before ≡ parts.old.exchanges.before }
     ensures err { OnErr result
         (record (kept_of parts.new) { exchanges = parts.old.exchanges.state } ≡ kept_of parts.old) }

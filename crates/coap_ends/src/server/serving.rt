@@ -137,7 +137,13 @@ fn applied_by<A: Allocator>(
     version: u64,
 ) -> Option<Applied<A>>
     ensures { applied_list result ≡ (if is_applied code.0
-        then record { from = asked.now.from; token = asked.now.token; path = path; method = method; version = if version == before then 0 else version } ∷ []
+        then record {
+          from = asked.now.from;
+          token = asked.now.token;
+          path = path;
+          method = method;
+          version = if version == before then 0 else version;
+        } ∷ []
         else []) }
 {
     if !is_applied(code) {

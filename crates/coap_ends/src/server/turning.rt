@@ -36,7 +36,8 @@ fn turn<S: Store<A>, A: Allocator + Copy, H: BuildHasher>(
     ensures turned { IfOk result (λ did. IsTurned (seen S.content parts.old) due word did (seen S.content parts.new)) }
     ensures copied { due ≡ dues.Copied → IsOk result }
     ensures expired { due ≡ dues.Expired → IsOk result }
-    ensures idle { due ≡ dues.Idle → takes_notice parts.old.exchanges.state parts.old.clock.0 parts.old.observers ≡ false
+    ensures idle { due ≡ dues.Idle → takes_notice parts.old.exchanges.state parts.old.clock.0 parts.old.observers
+        ≡ false
         → IsOk result }
     ensures before { parts.new.exchanges.before ≡ parts.old.exchanges.before }
     ensures err { OnErr result

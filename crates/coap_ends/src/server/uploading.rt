@@ -43,7 +43,13 @@ pub(crate) fn handle_block<S: Store<A>, A: Allocator + Copy, H: BuildHasher>(
     requires short { length asked.now.token ≤ max_token_len }
     requires num { upload.block.num ≤ MAX_NUM }
     ensures handled { OnOk result (IsUploaded (seen S.content parts.old) asked.now
-        (record { method = upload.entry.method; path = upload.entry.path; options = options_of upload.entry.options.now; body = upload.entry.payload.now; szx = parts.old.szx })
+        (record {
+          method = upload.entry.method;
+          path = upload.entry.path;
+          options = options_of upload.entry.options.now;
+          body = upload.entry.payload.now;
+          szx = parts.old.szx;
+        })
         upload.entry.block (seen S.content parts.new)) }
     ensures before { parts.new.exchanges.before ≡ parts.old.exchanges.before }
     ensures err { OnErr result

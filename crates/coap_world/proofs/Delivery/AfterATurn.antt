@@ -17,7 +17,8 @@ use Rattle.coap_world.proofs.Delivery.ServerInTime as server
 
 -- hops of one end over what was before
 
-pub map_over : {A B : Type 0} (f : A → B) (xs ys : List A) (zs : List B) → map f (xs ++ ys) ++ zs ≡ map f xs ++ (map f ys ++ zs)
+pub map_over : {A B : Type 0} (f : A → B) (xs ys : List A) (zs : List B)
+    → map f (xs ++ ys) ++ zs ≡ map f xs ++ (map f ys ++ zs)
 map_over f [] ys zs = refl
 map_over f (x ∷ xs) ys zs = ap (λ l. f x ∷ l) (map_over f xs ys zs)
 
@@ -31,23 +32,28 @@ on_far P [] hs h = absurd h
 on_far P (x ∷ xs) hs (inl h) = inl h
 on_far P (x ∷ xs) hs (inr h) = inr (on_far P xs hs h)
 
-same_moment : (t : ℕ) (G : Endpoint → List ℕ → Type 0) (e : Entry) → Timely t G e → (from : Endpoint) (bytes : List ℕ) → e.call ≡ Receive from bytes → t ≡ e.at
+same_moment : (t : ℕ) (G : Endpoint → List ℕ → Type 0) (e : Entry) → Timely t G e → (from : Endpoint) (bytes : List ℕ)
+    → e.call ≡ Receive from bytes → t ≡ e.at
 same_moment t G e k from bytes is = let a = (k.fed from bytes is).1 in let b = k.till in omega (arith, a, b)
 
 module _ (t : ℕ) (G : Endpoint → List ℕ → Type 0) (hs : List Hop) (old : Always (IsFair client_end server_end) hs) where
-  pub near_fair : ((bytes : List ℕ) → G server_end bytes → Ever (OnFar (GaveOut client_end bytes t)) hs) → (xs : List Entry) → Every (Timely t G) xs → Always (IsFair client_end server_end) (map Near xs ++ hs)
+  pub near_fair : ((bytes : List ℕ) → G server_end bytes → Ever (OnFar (GaveOut client_end bytes t)) hs)
+      → (xs : List Entry) → Every (Timely t G) xs → Always (IsFair client_end server_end) (map Near xs ++ hs)
   near_fair f [] h = old
   near_fair f (x ∷ xs) h = (
     (λ bytes is. Ever_back (OnFar (GaveOut client_end bytes x.at)) (map Near xs) hs
-        (subst (λ (at : ℕ). Ever (OnFar (GaveOut client_end bytes at)) hs) (same_moment t G x h.0 server_end bytes is) (f bytes (h.0.fed server_end bytes is).0))),
+        (subst (λ (at : ℕ). Ever (OnFar (GaveOut client_end bytes at)) hs) (same_moment t G x h.0 server_end bytes is)
+        (f bytes (h.0.fed server_end bytes is).0))),
     near_fair f xs h.1,
   )
 
-  pub far_fair : ((bytes : List ℕ) → G client_end bytes → Ever (OnNear (GaveOut server_end bytes t)) hs) → (xs : List Entry) → Every (Timely t G) xs → Always (IsFair client_end server_end) (map Far xs ++ hs)
+  pub far_fair : ((bytes : List ℕ) → G client_end bytes → Ever (OnNear (GaveOut server_end bytes t)) hs)
+      → (xs : List Entry) → Every (Timely t G) xs → Always (IsFair client_end server_end) (map Far xs ++ hs)
   far_fair f [] h = old
   far_fair f (x ∷ xs) h = (
     (λ bytes is. Ever_back (OnNear (GaveOut server_end bytes x.at)) (map Far xs) hs
-        (subst (λ (at : ℕ). Ever (OnNear (GaveOut server_end bytes at)) hs) (same_moment t G x h.0 client_end bytes is) (f bytes (h.0.fed client_end bytes is).0))),
+        (subst (λ (at : ℕ). Ever (OnNear (GaveOut server_end bytes at)) hs) (same_moment t G x h.0 client_end bytes is)
+        (f bytes (h.0.fed client_end bytes is).0))),
     far_fair f xs h.1,
   )
 

@@ -34,10 +34,17 @@ far_there P (Near e ∷ hs) (inr h) = inr (far_there P hs h)
 
 fair_across : (near far : Endpoint) (hs : List Hop) → Always (IsFair near far) hs → Always (IsFair far near) (across hs)
 fair_across near far [] h = tt
-fair_across near far (Near e ∷ hs) h = ((λ bytes is. far_there (GaveOut near bytes e.at) hs (h.0 bytes is)), fair_across near far hs h.1)
-fair_across near far (Far e ∷ hs) h = ((λ bytes is. near_there (GaveOut far bytes e.at) hs (h.0 bytes is)), fair_across near far hs h.1)
+fair_across near far (Near e ∷ hs) h = (
+  (λ bytes is. far_there (GaveOut near bytes e.at) hs (h.0 bytes is)),
+  fair_across near far hs h.1,
+)
+fair_across near far (Far e ∷ hs) h = (
+  (λ bytes is. near_there (GaveOut far bytes e.at) hs (h.0 bytes is)),
+  fair_across near far hs h.1,
+)
 
-pub channel_across : (one other : ℕ) (near far : Endpoint) (hs : List Hop) → ChannelLaw one other near far hs → ChannelLaw other one far near (across hs)
+pub channel_across : (one other : ℕ) (near far : Endpoint) (hs : List Hop) → ChannelLaw one other near far hs
+    → ChannelLaw other one far near (across hs)
 channel_across one other near far hs law =
     record {
       near_law = subst (LayerLaw other) (sym (near_across hs)) law.far_law;

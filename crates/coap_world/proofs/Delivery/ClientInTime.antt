@@ -41,11 +41,13 @@ module _ (t : ℕ) (F : Endpoint → List ℕ → Type 0) where
   pub timed_wish : (now : ℕ) (up : L.Answer) → now ≤ t → Wish t F (asked now L.Ticks up)
   timed_wish now up h = record { now = h; fed = λ from bytes is. absurd (cc is) }
 
-  pub receive_wish : (now : ℕ) (from : Endpoint) (bytes : List ℕ) (up : L.Answer) → now ≤ t → F from bytes → Wish t F (asked now (L.Receive from bytes) up)
+  pub receive_wish : (now : ℕ) (from : Endpoint) (bytes : List ℕ) (up : L.Answer) → now ≤ t → F from bytes
+      → Wish t F (asked now (L.Receive from bytes) up)
   receive_wish now from bytes up h fed =
       record {
         now = h;
-        fed = λ f b is. let same : from ≡ f = cc is in let alike : bytes ≡ b = cc is in subst (λ y. F y b) same (subst (F from) alike fed);
+        fed = λ f b is. let same : from ≡ f = cc is in let alike : bytes
+            ≡ b = cc is in subst (λ y. F y b) same (subst (F from) alike fed);
       }
 
 -- the moment that it is handed
@@ -64,7 +66,8 @@ abbrev pub Fed : Call → Endpoint → List ℕ → Type 0
 Fed c from bytes = FedToClient from bytes (OfClient c)
 
 -- a forgetting asks nothing of the layer: a token is kept no more, or nothing is done
-forgets_nothing : (to : Endpoint) (word : ℕ) (past : List A.Call) (o : Option Observation) (s : Own) (now w : ℕ) (sent : L.Answer) (token : Result (List ℕ) AskRefusal) (kept : Bool)
+forgets_nothing : (to : Endpoint) (word : ℕ) (past : List A.Call) (o : Option Observation) (s : Own) (now w : ℕ)
+    (sent : L.Answer) (token : Result (List ℕ) AskRefusal) (kept : Bool)
     → asked_by_client to word past (deeds (releases o) s now w sent token kept) ≡ []
 forgets_nothing to word past None s now w sent token kept = refl
 forgets_nothing to word past (Some o) s now w sent token kept = refl
@@ -79,32 +82,40 @@ module _ (t : ℕ) (F : Endpoint → List ℕ → Type 0) where
   AsksAt (A.Release token answer) = Unit {0}
   AsksAt (A.Take answer) = Unit {0}
 
-  settling_wish : (b : Bool) (server : Endpoint) (o : Option Exchange) (settled : Bool) → Every (Wish t F) (settling b server o settled)
+  settling_wish : (b : Bool) (server : Endpoint) (o : Option Exchange) (settled : Bool)
+      → Every (Wish t F) (settling b server o settled)
   settling_wish true server (Some x) settled = (record { now = omega arith; fed = λ from bytes is. absurd (cc is) }, tt)
   settling_wish true server None settled = tt
   settling_wish false server o settled = tt
 
-  beneath_wish : (now : ℕ) (o : Opening) (server : Endpoint) (content : L.Content) (word : ℕ) (sent : L.Answer) → now ≤ t → Wish t F (asked now (beneath o server content word) sent)
+  beneath_wish : (now : ℕ) (o : Opening) (server : Endpoint) (content : L.Content) (word : ℕ) (sent : L.Answer)
+      → now ≤ t → Wish t F (asked now (beneath o server content word) sent)
   beneath_wish now Running server content word sent h = record { now = h; fed = λ from bytes is. absurd (cc is) }
   beneath_wish now Spent server content word sent h = record { now = h; fed = λ from bytes is. absurd (cc is) }
   beneath_wish now Sends server content word sent h = record { now = h; fed = λ from bytes is. absurd (cc is) }
 
   lower_wish : (s : A.Own) (c : A.Call) → AsksAt c → Every (Wish t F) (asker_steps.lower s c)
-  lower_wish s (A.Ask now r word below answer) h = (beneath_wish now (opening_of s r) s.server (content_of (request_token s r) r) word below h, tt)
+  lower_wish s (A.Ask now r word below answer) h =
+      (beneath_wish now (opening_of s r) s.server (content_of (request_token s r) r) word below h, tt)
   lower_wish s (A.Receive now from bytes up settled answer) h =
       let v = verdict_on s from up in
       every_join (Wish t F) (acts s from up settled v) (asked now (L.Receive from bytes) up ∷ [])
-      (every_join (Wish t F) (settling (settles v) s.server s.running settled) _ (settling_wish (settles v) s.server s.running settled) (replying_wish t F from (id_in up) (reply_by v (id_in up))))
+      (every_join (Wish t F) (settling (settles v) s.server s.running settled) _
+      (settling_wish (settles v) s.server s.running settled)
+      (replying_wish t F from (id_in up) (reply_by v (id_in up))))
       (receive_wish t F now from bytes up h.0 h.1, tt)
   lower_wish s (A.Ticks now below answer) h = (timed_wish t F now below h, tt)
   lower_wish s (A.Keep token answer) h = tt
   lower_wish s (A.Release token answer) h = tt
   lower_wish s (A.Take answer) h = (record { now = omega arith; fed = λ from bytes is. absurd (cc is) }, tt)
 
-  wishes : (to : Endpoint) (word : ℕ) (past later : List A.Call) → Every AsksAt later → Every (Wish t F) (asked_by_client to word past later)
+  wishes : (to : Endpoint) (word : ℕ) (past later : List A.Call) → Every AsksAt later
+      → Every (Wish t F) (asked_by_client to word past later)
   wishes to word past [] h = tt
   wishes to word past (c ∷ later) h =
-      every_join (Wish t F) (asker_steps.lower (asker.own_of to word (later ++ past)) c) (asked_by_client to word past later) (lower_wish (asker.own_of to word (later ++ past)) c h.0) (wishes to word past later h.1)
+      every_join (Wish t F) (asker_steps.lower (asker.own_of to word (later ++ past)) c)
+      (asked_by_client to word past later) (lower_wish (asker.own_of to word (later ++ past)) c h.0)
+      (wishes to word past later h.1)
 
   -- the oldest is an arrival or a tick
   abbrev Begins : A.Call → Type 0
@@ -115,34 +126,42 @@ module _ (t : ℕ) (F : Endpoint → List ℕ → Type 0) where
   first_ends : (s : A.Own) (c : A.Call) → Begins c → Ends t F (asker_steps.lower s c ++ [])
   first_ends s (A.Receive now from bytes up settled answer) k =
       let v = verdict_on s from up in
-      subst (Ends t F) (sym (append_assoc (acts s from up settled v) (asked now (L.Receive from bytes) up ∷ []) [])) (ends_over t F (acts s from up settled v) (asked now (L.Receive from bytes) up ∷ []) (k, tt))
+      subst (Ends t F) (sym (append_assoc (acts s from up settled v) (asked now (L.Receive from bytes) up ∷ []) []))
+      (ends_over t F (acts s from up settled v) (asked now (L.Receive from bytes) up ∷ []) (k, tt))
   first_ends s (A.Ticks now below answer) k = (k, tt)
   first_ends s (A.Ask now r word below answer) k = absurd k
   first_ends s (A.Keep token answer) k = absurd k
   first_ends s (A.Release token answer) k = absurd k
   first_ends s (A.Take answer) k = absurd k
 
-  ends : (to : Endpoint) (word : ℕ) (past later : List A.Call) (c : A.Call) → Begins c → Ends t F (asked_by_client to word past (later ++ c ∷ []))
+  ends : (to : Endpoint) (word : ℕ) (past later : List A.Call) (c : A.Call) → Begins c
+      → Ends t F (asked_by_client to word past (later ++ c ∷ []))
   ends to word past [] c k = first_ends (asker.own_of to word past) c k
   ends to word past (d ∷ later) c k =
-      ends_over t F (asker_steps.lower (asker.own_of to word ((later ++ c ∷ []) ++ past)) d) (asked_by_client to word past (later ++ c ∷ [])) (ends to word past later c k)
+      ends_over t F (asker_steps.lower (asker.own_of to word ((later ++ c ∷ []) ++ past)) d)
+      (asked_by_client to word past (later ++ c ∷ [])) (ends to word past later c k)
 
-  deed_asks : (d : Deed) (s : Own) (now word : ℕ) (sent : L.Answer) (token : Result (List ℕ) AskRefusal) (kept : Bool) → now ≤ t → Every AsksAt (deeds d s now word sent token kept)
+  deed_asks : (d : Deed) (s : Own) (now word : ℕ) (sent : L.Answer) (token : Result (List ℕ) AskRefusal) (kept : Bool)
+      → now ≤ t → Every AsksAt (deeds d s now word sent token kept)
   deed_asks Rests s now word sent token kept h = tt
   deed_asks (Asks op) s now word sent token kept h = (h, tt)
   deed_asks (Keeps key) s now word sent token kept h = (tt, tt)
   deed_asks (Releases key) s now word sent token kept h = (tt, tt)
 
   -- an input at the exchanges, and what is done for it
-  input_done : (to : Endpoint) (w : ℕ) (past : List A.Call) (e : Effect) (now word : ℕ) (sent : L.Answer) (token : Result (List ℕ) AskRefusal) (kept : Bool) (input : A.Call) → now ≤ t → AsksAt input → Begins input
-      → Every (Wish t F) (asked_by_client to w past (done_for e now word sent token kept input)) × Ends t F (asked_by_client to w past (done_for e now word sent token kept input))
+  input_done : (to : Endpoint) (w : ℕ) (past : List A.Call) (e : Effect) (now word : ℕ) (sent : L.Answer)
+      (token : Result (List ℕ) AskRefusal) (kept : Bool) (input : A.Call) → now ≤ t → AsksAt input → Begins input
+      → Every (Wish t F) (asked_by_client to w past (done_for e now word sent token kept input))
+      × Ends t F (asked_by_client to w past (done_for e now word sent token kept input))
   input_done to w past e now word sent token kept input h a b =
       let c = close now e token in
       let later : List A.Call = deeds c.deed c.own now word sent token kept in
       let first : List A.Call = deeds e.deed e.own now word sent token kept in (
         wishes to w past (later ++ (first ++ input ∷ []))
-            (every_join AsksAt later (first ++ input ∷ []) (deed_asks c.deed c.own now word sent token kept h) (every_join AsksAt first (input ∷ []) (deed_asks e.deed e.own now word sent token kept h) (a, tt))),
-        subst (λ l. Ends t F (asked_by_client to w past l)) (append_assoc later first (input ∷ [])) (ends to w past (later ++ first) input b),
+            (every_join AsksAt later (first ++ input ∷ []) (deed_asks c.deed c.own now word sent token kept h)
+            (every_join AsksAt first (input ∷ []) (deed_asks e.deed e.own now word sent token kept h) (a, tt))),
+        subst (λ l. Ends t F (asked_by_client to w past l)) (append_assoc later first (input ∷ []))
+            (ends to w past (later ++ first) input b),
       )
 
 module _ (config : Config) where
@@ -160,16 +179,22 @@ module _ (config : Config) where
     pub own : (own past).clock ≤ t
     pub layer : (before past).clock ≤ t
 
-  forgets_done : (t : ℕ) (past : List Call) (number : ℕ) (kept answer : Bool) → IsBy t past → Done t (Fed (Forgets number kept answer)) (before past) (client_asks config past (Forgets number kept answer))
+  forgets_done : (t : ℕ) (past : List Call) (number : ℕ) (kept answer : Bool) → IsBy t past
+      → Done t (Fed (Forgets number kept answer)) (before past) (client_asks config past (Forgets number kept answer))
   forgets_done t past number kept true by =
-      subst (Done t (Fed (Forgets number kept true)) (before past)) (sym (forgets_nothing server_end config.client_word (exchanges past) (observation_of number (own past).observations) (own past) 0 0 _ _ kept))
+      subst (Done t (Fed (Forgets number kept true)) (before past))
+      (sym (forgets_nothing server_end config.client_word (exchanges past)
+      (observation_of number (own past).observations) (own past) 0 0 _ _ kept))
       (nothing_done t (Fed (Forgets number kept true)) (before past) by.layer)
   forgets_done t past number kept false by = nothing_done t (Fed (Forgets number kept false)) (before past) by.layer
 
-  asks_done : (t : ℕ) (past : List Call) (c : Call) → IsBy t past → IsAt t c → Done t (Fed c) (before past) (client_asks config past c)
+  asks_done : (t : ℕ) (past : List Call) (c : Call) → IsBy t past → IsAt t c
+      → Done t (Fed c) (before past) (client_asks config past c)
   asks_done t past (Calls now r answer) by at = nothing_done t (Fed (Calls now r answer)) (before past) by.layer
-  asks_done t past (Observes now path answer) by at = nothing_done t (Fed (Observes now path answer)) (before past) by.layer
-  asks_done t past (Cancels now number answer) by at = nothing_done t (Fed (Cancels now number answer)) (before past) by.layer
+  asks_done t past (Observes now path answer) by at =
+      nothing_done t (Fed (Observes now path answer)) (before past) by.layer
+  asks_done t past (Cancels now number answer) by at =
+      nothing_done t (Fed (Cancels now number answer)) (before past) by.layer
   asks_done t past (Forgets number kept answer) by at = forgets_done t past number kept answer by
   asks_done t past (NextReport answer) by at = nothing_done t (Fed (NextReport answer)) (before past) by.layer
   asks_done t past (Asked answer) by at = nothing_done t (Fed (Asked answer)) (before past) by.layer
@@ -180,7 +205,9 @@ module _ (config : Config) where
       let h : m ≤ t = omega (arith, o, at) in
       let k : t ≤ m = omega (arith, at) in
       let c : Call = Feeds now from bytes word up settled event sent token kept in
-      let w = input_done t (Fed c) server_end config.client_word (exchanges past) (effect (own past) c) m word sent token kept (A.Receive m from bytes up settled event) h (h, (now, word, up, settled, event, sent, token, kept, refl)) k in
+      let w = input_done t (Fed c) server_end config.client_word (exchanges past)
+      (effect (own past) c) m word sent token kept (A.Receive m from bytes up settled event) h
+      (h, (now, word, up, settled, event, sent, token, kept, refl)) k in
       done t (Fed c) (before past) _ by.layer w.0 w.1
   asks_done t past (Ticks now word below turn sent token kept answer) by at =
       let o = by.own in
@@ -188,7 +215,8 @@ module _ (config : Config) where
       let h : m ≤ t = omega (arith, o, at) in
       let k : t ≤ m = omega (arith, at) in
       let c : Call = Ticks now word below turn sent token kept answer in
-      let w = input_done t (Fed c) server_end config.client_word (exchanges past) (effect (own past) c) m word sent token kept (A.Ticks m below turn) h h k in
+      let w = input_done t (Fed c) server_end config.client_word (exchanges past)
+      (effect (own past) c) m word sent token kept (A.Ticks m below turn) h h k in
       done t (Fed c) (before past) _ by.layer w.0 w.1
 
   moment_by : (t : ℕ) (s : Own) (c : Call) → s.clock ≤ t → IsAt t c → moment_of s c ≤ t
@@ -206,11 +234,16 @@ module _ (config : Config) where
   next_by t past c by at =
       record {
         own = subst (λ (n : ℕ). n ≤ t) (sym (clock_is (own past) c)) (moment_by t (own past) c by.own at);
-        layer = subst (λ (s : State). s.clock ≤ t) (sym (ap (left_after (start config.client_word)) (client_asked_next config past c) ∙ left_append (start config.client_word) (client_asks config past c) (client_asked config past))) (asks_done t past c by at).till;
+        layer = subst (λ (s : State). s.clock ≤ t)
+            (sym (ap (left_after (start config.client_word)) (client_asked_next config past c)
+            ∙ left_append (start config.client_word) (client_asks config past c) (client_asked config past)))
+            (asks_done t past c by at).till;
       }
 
   pub later_by : (t u : ℕ) (past : List Call) → t ≤ u → IsBy t past → IsBy u past
-  later_by t u past h by = let a = by.own in let b = by.layer in record { own = omega (arith, a, h); layer = omega (arith, b, h) }
+  later_by t u past h by = let a = by.own in let b =
+      by.layer in record { own = omega (arith, a, h); layer = omega (arith, b, h) }
 
-  pub adds_timely : (t : ℕ) (past : List Call) (c : Call) → IsBy t past → IsAt t c → Every (Timely t (Fed c)) (client_adds config past c)
+  pub adds_timely : (t : ℕ) (past : List Call) (c : Call) → IsBy t past → IsAt t c
+      → Every (Timely t (Fed c)) (client_adds config past c)
   adds_timely t past c by at = (asks_done t past c by at).timely

@@ -126,5 +126,12 @@ module _ (t : ℕ) (Fed : Endpoint → List ℕ → Type 0) where
   nothing_done old h = record { timely = tt; till = h }
 
   -- a datagram is taken to be sent
-  pub takes : (old : State) (answer : Answer) → old.clock ≤ t → Done old (record { now = 0; call = Take; answer = answer } ∷ [])
-  takes old answer h = record { timely = (record { till = h; from = inl refl; fed = λ from bytes is. absurd (cc is) }, tt); till = h }
+  pub takes : (old : State) (answer : Answer) → old.clock ≤ t
+      → Done old (record { now = 0; call = Take; answer = answer } ∷ [])
+  takes old answer h = record {
+    timely = (
+      record { till = h; from = inl refl; fed = λ from bytes is. absurd (cc is) },
+      tt,
+    );
+    till = h;
+  }

@@ -13,12 +13,14 @@ use Rattle.coap_world.proofs.Delivery.GivenOutBefore.{all_fair}
 use Rattle.coap_world.proofs.Delivery.HopsAreEntries.{near_is, far_is}
 use Rattle.coap_world.proofs.Delivery.HopsAreFair.{Ran, ran}
 
-module _ (config : Config) (events : List Event) (turns : List Turn) (made : RecordOf config events turns) (legal : AllLegal turns) where
+module _ (config : Config) (events : List Event) (turns : List Turn) (made : RecordOf config events turns)
+    (legal : AllLegal turns) where
   pub run : Ran config turns
   run =
       let below = made.client.exchanges in
       let under = made.server.exchanges in
-      ran config turns made.made legal (all_fair turns made.made legal) (below.left, below.layer) (under.left, under.layer)
+      ran config turns made.made legal (all_fair turns made.made legal) (below.left, below.layer)
+      (under.left, under.layer)
 
   pub channel : ChannelLaw config.client_word config.server_word client_end server_end (hops_of config turns)
   channel =
@@ -27,9 +29,13 @@ module _ (config : Config) (events : List Event) (turns : List Turn) (made : Rec
       let client = client_of (entries_of turns) in
       let server = server_trace config (entries_of turns) in
       record {
-        near_law = subst (LayerLaw config.client_word) (sym near) (client_facts.layer server_end config.client_szx config.client_word client made.client);
-        far_law = subst (LayerLaw config.server_word) (sym far) (server_facts.layer config.limit config.server_szx config.server_word server made.server);
-        near_replies = subst (Always RepliesSo) (sym near) (client_facts.replies server_end config.client_szx config.client_word client made.client);
-        far_replies = subst (Always RepliesSo) (sym far) (server_facts.replies config.limit config.server_szx config.server_word server made.server);
+        near_law = subst (LayerLaw config.client_word) (sym near)
+            (client_facts.layer server_end config.client_szx config.client_word client made.client);
+        far_law = subst (LayerLaw config.server_word) (sym far)
+            (server_facts.layer config.limit config.server_szx config.server_word server made.server);
+        near_replies = subst (Always RepliesSo) (sym near)
+            (client_facts.replies server_end config.client_szx config.client_word client made.client);
+        far_replies = subst (Always RepliesSo) (sym far)
+            (server_facts.replies config.limit config.server_szx config.server_word server made.server);
         fair = run.fair;
       }

@@ -42,29 +42,40 @@ module _ (config : Config) where
   abbrev pub server_layer : List S.Call → List L.Entry
   server_layer t = server.layer_of config.limit config.server_szx config.server_word t
 
-  pub client_asked_next : (past : List C.Call) (c : C.Call) → client_asked config (c ∷ past) ≡ client_asks config past c ++ client_asked config past
+  pub client_asked_next : (past : List C.Call) (c : C.Call)
+      → client_asked config (c ∷ past) ≡ client_asks config past c ++ client_asked config past
   client_asked_next past c = client_facts.asked_next server_end config.client_szx config.client_word past c
 
-  pub server_asked_next : (past : List S.Call) (c : S.Call) → server_asked config (c ∷ past) ≡ server_asks config past c ++ server_asked config past
-  server_asked_next past c = answerer_append (asks.lower (server.own_of config.limit config.server_szx past) c) (server.lower_of config.limit config.server_szx past)
+  pub server_asked_next : (past : List S.Call) (c : S.Call)
+      → server_asked config (c ∷ past) ≡ server_asks config past c ++ server_asked config past
+  server_asked_next past c = answerer_append (asks.lower (server.own_of config.limit config.server_szx past) c)
+      (server.lower_of config.limit config.server_szx past)
 
-  pub client_next : (past : List C.Call) (c : C.Call) → client_layer (c ∷ past) ≡ client_adds config past c ++ client_layer past
+  pub client_next : (past : List C.Call) (c : C.Call)
+      → client_layer (c ∷ past) ≡ client_adds config past c ++ client_layer past
   client_next past c = client_facts.layer_next server_end config.client_szx config.client_word past c
 
-  pub server_next : (past : List S.Call) (c : S.Call) → server_layer (c ∷ past) ≡ server_adds config past c ++ server_layer past
-  server_next past c = ap (entries (start config.server_word)) (server_asked_next past c) ∙ entries_append (start config.server_word) (server_asks config past c) (server_asked config past)
+  pub server_next : (past : List S.Call) (c : S.Call)
+      → server_layer (c ∷ past) ≡ server_adds config past c ++ server_layer past
+  server_next past c = ap (entries (start config.server_word)) (server_asked_next past c)
+      ∙ entries_append (start config.server_word) (server_asks config past c) (server_asked config past)
 
   -- a server begins with no call of its layer
-  pub begins_silent : (ds : List S.Delay) → server.lower_of config.limit config.server_szx (map (λ (d : S.Delay). S.Delays d.path d.ms true) ds) ≡ []
+  pub begins_silent : (ds : List S.Delay) → server.lower_of config.limit config.server_szx
+      (map (λ (d : S.Delay). S.Delays d.path d.ms true) ds) ≡ []
   begins_silent [] = refl
   begins_silent (d ∷ ds) = begins_silent ds
 
   pub near_is : (all : List Entry) → near_of (hops_in config all) ≡ client_layer (client_of all)
   near_is [] = refl
-  near_is (OfClient c ∷ past) = near_near (client_adds config (client_of past) c) (hops_in config past) ∙ ap (λ t. client_adds config (client_of past) c ++ t) (near_is past) ∙ sym (client_next (client_of past) c)
-  near_is (OfServer c ∷ past) = near_far (server_adds config (server_trace config past) c) (hops_in config past) ∙ near_is past
+  near_is (OfClient c ∷ past) = near_near (client_adds config (client_of past) c) (hops_in config past)
+      ∙ ap (λ t. client_adds config (client_of past) c ++ t) (near_is past) ∙ sym (client_next (client_of past) c)
+  near_is (OfServer c ∷ past) = near_far (server_adds config (server_trace config past) c) (hops_in config past)
+      ∙ near_is past
 
   pub far_is : (all : List Entry) → far_of (hops_in config all) ≡ server_layer (server_trace config all)
   far_is [] = sym (ap (λ t. entries (start config.server_word) (answerer.lower_of t)) (begins_silent config.delays))
-  far_is (OfServer c ∷ past) = far_far (server_adds config (server_trace config past) c) (hops_in config past) ∙ ap (λ t. server_adds config (server_trace config past) c ++ t) (far_is past) ∙ sym (server_next (server_trace config past) c)
+  far_is (OfServer c ∷ past) = far_far (server_adds config (server_trace config past) c) (hops_in config past)
+      ∙ ap (λ t. server_adds config (server_trace config past) c ++ t) (far_is past)
+      ∙ sym (server_next (server_trace config past) c)
   far_is (OfClient c ∷ past) = far_near (client_adds config (client_of past) c) (hops_in config past) ∙ far_is past

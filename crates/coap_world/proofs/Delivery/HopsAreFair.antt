@@ -1,4 +1,5 @@
--- The hops of a legal run are fair: what comes from an end's address was sent by that end's layer, at most 100,000 ms before.
+-- The hops of a legal run are fair: what comes from an end's address was sent by that end's layer, at most 100,000 ms
+-- before.
 use Rattle.std.proofs.Common.{◌≡◌, ◌⊎◌, inl, inr, ◌≤◌, ℕ, List, [], ◌∷◌, ◌++◌, refl, ap, sym, subst, ◌∙◌, arith, true}
 use Rattle.std.proofs.Common.{map}
 use Rattle.coap_types.specs.Past.{Ever, Always, all_of}
@@ -31,24 +32,33 @@ use Rattle.coap_world.proofs.Delivery.ServerTurns as server_turns
 apart : client_end ≡ server_end → ⊥
 apart h = let k : 40001 ≡ 5683 = ap (λ (e : Endpoint). e.port) h in absurd (omega (arith, k))
 
-sent_there : (from to : Endpoint) (bytes : List ℕ) (when : ℕ) (g : Given) (e : L.Entry) → D.GaveOut from to bytes when g → SendsAt g.at g.packet e → GaveOut to bytes when e
+sent_there : (from to : Endpoint) (bytes : List ℕ) (when : ℕ) (g : Given) (e : L.Entry) → D.GaveOut from to bytes when g
+    → SendsAt g.at g.packet e → GaveOut to bytes when e
 sent_there from to bytes when g e gave sends =
     let a = sends.at in
     let b = gave.early in
     let c = gave.young in
-    record { out = subst (λ p. Ever (λ q. q ≡ p) e.out) gave.packet sends.out; from = omega (arith, a, b); till = omega (arith, a, c) }
+    record {
+      out = subst (λ p. Ever (λ q. q ≡ p) e.out) gave.packet sends.out;
+      from = omega (arith, a, b);
+      till = omega (arith, a, c);
+    }
 
-pub by_server : (hs : List Hop) (bytes : List ℕ) (when : ℕ) (g : Given) → D.GaveOut server_end client_end bytes when g → SentIn hs g → Ever (OnFar (GaveOut client_end bytes when)) hs
+pub by_server : (hs : List Hop) (bytes : List ℕ) (when : ℕ) (g : Given) → D.GaveOut server_end client_end bytes when g
+    → SentIn hs g → Ever (OnFar (GaveOut client_end bytes when)) hs
 by_server hs bytes when g gave (inl h) = absurd (apart (sym h.0 ∙ gave.by))
-by_server hs bytes when g gave (inr h) = Ever_map (OnFar (SendsAt g.at g.packet)) (OnFar (GaveOut client_end bytes when)) each hs h.1
+by_server hs bytes when g gave (inr h) = Ever_map (OnFar (SendsAt g.at g.packet))
+    (OnFar (GaveOut client_end bytes when)) each hs h.1
   where
     each : (e : Hop) → OnFar (SendsAt g.at g.packet) e → OnFar (GaveOut client_end bytes when) e
     each (Near e) k = absurd k
     each (Far e) k = sent_there server_end client_end bytes when g e gave k
 
-pub by_client : (hs : List Hop) (bytes : List ℕ) (when : ℕ) (g : Given) → D.GaveOut client_end server_end bytes when g → SentIn hs g → Ever (OnNear (GaveOut server_end bytes when)) hs
+pub by_client : (hs : List Hop) (bytes : List ℕ) (when : ℕ) (g : Given) → D.GaveOut client_end server_end bytes when g
+    → SentIn hs g → Ever (OnNear (GaveOut server_end bytes when)) hs
 by_client hs bytes when g gave (inr h) = absurd (apart (sym gave.by ∙ h.0))
-by_client hs bytes when g gave (inl h) = Ever_map (OnNear (SendsAt g.at g.packet)) (OnNear (GaveOut server_end bytes when)) each hs h.1
+by_client hs bytes when g gave (inl h) = Ever_map (OnNear (SendsAt g.at g.packet))
+    (OnNear (GaveOut server_end bytes when)) each hs h.1
   where
     each : (e : Hop) → OnNear (SendsAt g.at g.packet) e → OnNear (GaveOut server_end bytes when) e
     each (Near e) k = sent_there client_end server_end bytes when g e gave k
@@ -66,10 +76,14 @@ sent_later front hs g (inr h) = inr (h.0, Ever_back (OnFar (SendsAt g.at g.packe
 
 module _ (config : Config) where
   -- the hops of later entries stand in front
-  sent_still : (g : Given) (later es : List Entry) → SentIn (hops_in config es) g → SentIn (hops_in config (later ++ es)) g
+  sent_still : (g : Given) (later es : List Entry) → SentIn (hops_in config es) g
+      → SentIn (hops_in config (later ++ es)) g
   sent_still g [] es h = h
-  sent_still g (OfClient c ∷ later) es h = sent_later (map Near (client_adds config (client_of (later ++ es)) c)) (hops_in config (later ++ es)) g (sent_still g later es h)
-  sent_still g (OfServer c ∷ later) es h = sent_later (map Far (server_adds config (server_trace config (later ++ es)) c)) (hops_in config (later ++ es)) g (sent_still g later es h)
+  sent_still g (OfClient c ∷ later) es h = sent_later (map Near (client_adds config (client_of (later ++ es)) c))
+      (hops_in config (later ++ es)) g (sent_still g later es h)
+  sent_still g (OfServer c ∷ later) es h = sent_later
+      (map Far (server_adds config (server_trace config (later ++ es)) c)) (hops_in config (later ++ es)) g
+      (sent_still g later es h)
 
   still_later : (t u : ℕ) (es : List Entry) → t ≤ u → Still config t es → Still config u es
   still_later t u es h still =
@@ -81,7 +95,8 @@ module _ (config : Config) where
       }
 
   -- a server begins at moment 0
-  begins_by : (t : ℕ) (ds : List S.Delay) → (server_law.own_of config.limit config.server_szx (map (λ (d : S.Delay). S.Delays d.path d.ms true) ds)).clock ≤ t
+  begins_by : (t : ℕ) (ds : List S.Delay) → (server_law.own_of config.limit config.server_szx
+      (map (λ (d : S.Delay). S.Delays d.path d.ms true) ds)).clock ≤ t
   begins_by t [] = omega arith
   begins_by t (d ∷ ds) = begins_by t ds
 
@@ -93,7 +108,8 @@ module _ (config : Config) where
         server = record {
           own = begins_by t config.delays;
           between = subst (λ l. (answerer.own_of l).clock ≤ t) (sym none) (omega arith);
-          layer = subst (λ l. (left_after (start config.server_word) (answerer.lower_of l)).clock ≤ t) (sym none) (omega arith);
+          layer = subst (λ l. (left_after (start config.server_word) (answerer.lower_of l)).clock ≤ t) (sym none)
+              (omega arith);
         };
         client_none = refl;
         server_none = ap (λ l. waiting (entries (start config.server_word) (answerer.lower_of l))) none;
@@ -108,7 +124,8 @@ module _ (config : Config) where
   ran_first = record { still = λ t n. still_first t; sent = λ g h. absurd h; fair = tt }
 
   -- one turn more
-  ran_next : (turn : Turn) (past : List Turn) → Ran past → Goes config turn.event.at turn.entries (entries_of past) → Ran (turn ∷ past)
+  ran_next : (turn : Turn) (past : List Turn) → Ran past → Goes config turn.event.at turn.entries (entries_of past)
+      → Ran (turn ∷ past)
   ran_next turn past ran goes =
       record {
         still = λ u n. still_later turn.event.at u (turn.entries ++ entries_of past) n goes.still;
@@ -119,29 +136,44 @@ module _ (config : Config) where
         fair = goes.fair;
       }
 
-  turn_goes : (turn : Turn) (past : List Turn) → Ran past → D.IsFair past turn → NotBefore past turn.event.at → client_turns.IsGood config (client_of (turn.entries ++ entries_of past)) → server_turns.IsGood config (server_trace config (turn.entries ++ entries_of past))
-      → ClientTurn turn.event.at turn.entries ⊎ ServerTurn turn.event.at turn.entries → Goes config turn.event.at turn.entries (entries_of past)
+  turn_goes : (turn : Turn) (past : List Turn) → Ran past → D.IsFair past turn → NotBefore past turn.event.at
+      → client_turns.IsGood config (client_of (turn.entries ++ entries_of past))
+      → server_turns.IsGood config (server_trace config (turn.entries ++ entries_of past))
+      → ClientTurn turn.event.at turn.entries ⊎ ServerTurn turn.event.at turn.entries
+      → Goes config turn.event.at turn.entries (entries_of past)
   turn_goes turn past ran fair later good_client good_server (inl t) =
-      client_turns.client_turn config turn.event.at turn.entries (entries_of past) t (ran.still turn.event.at later) good_client
-      (λ bytes h. let k = found_in _ (all_of given_in past) (fair.client bytes h) in by_server (hops_of config past) bytes turn.event.at k.0 k.1 (ran.sent k.0 k.2)) ran.fair
+      client_turns.client_turn config turn.event.at turn.entries (entries_of past) t
+      (ran.still turn.event.at later) good_client
+      (λ bytes h. let k = found_in _ (all_of given_in past) (fair.client bytes h) in by_server
+      (hops_of config past) bytes turn.event.at k.0 k.1 (ran.sent k.0 k.2)) ran.fair
   turn_goes turn past ran fair later good_client good_server (inr t) =
-      server_turns.server_turn config turn.event.at turn.entries (entries_of past) t (ran.still turn.event.at later) good_server
-      (λ bytes h. let k = found_in _ (all_of given_in past) (fair.server bytes h) in by_client (hops_of config past) bytes turn.event.at k.0 k.1 (ran.sent k.0 k.2)) ran.fair
+      server_turns.server_turn config turn.event.at turn.entries (entries_of past) t
+      (ran.still turn.event.at later) good_server
+      (λ bytes h. let k = found_in _ (all_of given_in past) (fair.server bytes h) in by_client
+      (hops_of config past) bytes turn.event.at k.0 k.1 (ran.sent k.0 k.2)) ran.fair
 
-  client_down : (later es : List Entry) → client_turns.IsGood config (client_of (later ++ es)) → client_turns.IsGood config (client_of es)
+  client_down : (later es : List Entry) → client_turns.IsGood config (client_of (later ++ es))
+      → client_turns.IsGood config (client_of es)
   client_down [] es good = good
-  client_down (OfClient c ∷ later) es good = client_down later es (client_turns.down config (client_of (later ++ es)) c good)
+  client_down (OfClient c ∷ later) es good = client_down later es
+      (client_turns.down config (client_of (later ++ es)) c good)
   client_down (OfServer c ∷ later) es good = client_down later es good
 
-  server_down : (later es : List Entry) → server_turns.IsGood config (server_trace config (later ++ es)) → server_turns.IsGood config (server_trace config es)
+  server_down : (later es : List Entry) → server_turns.IsGood config (server_trace config (later ++ es))
+      → server_turns.IsGood config (server_trace config es)
   server_down [] es good = good
   server_down (OfClient c ∷ later) es good = server_down later es good
-  server_down (OfServer c ∷ later) es good = server_down later es (server_turns.down config (server_trace config (later ++ es)) c good)
+  server_down (OfServer c ∷ later) es good = server_down later es
+      (server_turns.down config (server_trace config (later ++ es)) c good)
 
-  pub ran : (turns : List Turn) → Always (λ past t. Makes past t.event.at t.event.word t.event.what t.refused t.entries) turns → AllLegal turns → D.AllFair turns
-      → client_turns.IsGood config (client_of (entries_of turns)) → server_turns.IsGood config (server_trace config (entries_of turns)) → Ran turns
+  pub ran : (turns : List Turn) → Always (λ past t. Makes past t.event.at t.event.word t.event.what t.refused t.entries)
+      turns → AllLegal turns → D.AllFair turns
+      → client_turns.IsGood config (client_of (entries_of turns))
+      → server_turns.IsGood config (server_trace config (entries_of turns)) → Ran turns
   ran [] made legal fair good_client good_server = ran_first
   ran (turn ∷ past) made legal fair good_client good_server =
-      let before = ran past made.1 legal.1 fair.1 (client_down turn.entries (entries_of past) good_client) (server_down turn.entries (entries_of past) good_server) in
+      let before = ran past made.1 legal.1 fair.1 (client_down turn.entries (entries_of past) good_client)
+      (server_down turn.entries (entries_of past) good_server) in
       ran_next turn past before
-      (turn_goes turn past before fair.0 legal.0.later good_client good_server (side past turn.event.at turn.event.word turn.refused turn.entries turn.event.what made.0))
+      (turn_goes turn past before fair.0 legal.0.later good_client good_server
+      (side past turn.event.at turn.event.word turn.refused turn.entries turn.event.what made.0))

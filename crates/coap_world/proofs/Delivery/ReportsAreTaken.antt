@@ -1,5 +1,6 @@
 -- Each report is taken in its turn.
-use Rattle.std.proofs.Common.{◌≡◌, ◌⊎◌, ℕ, None, List, [], ◌∷◌, ◌++◌, refl, ◌∙◌, append_assoc, drop, inl, inr, Bool, false, Some, map, ap, sym}
+use Rattle.std.proofs.Common.{◌≡◌, ◌⊎◌, ℕ, None, List, [], ◌∷◌, ◌++◌, refl, ◌∙◌, append_assoc, drop, inl, inr, Bool}
+use Rattle.std.proofs.Common.{false, Some, map, ap, sym}
 use Rattle.std.proofs.Common.{subst}
 use Rattle.std.specs.Prelude.{slice_get}
 use Rattle.std.proofs.lemmas.List.{append-nil}
@@ -36,19 +37,40 @@ record ServerTakes (entries : List Entry) : Type 0 where
 
 module _ (past : List Turn) (t word : ℕ) (refused : Bool) (entries : List Entry) where
   side : (what : What) → Makes past t word what refused entries → ClientTakes entries ⊎ ServerTakes entries
-  side (Calls r) m = inl (record { calls = m.0; on = m.2; few = inl (each_one _ Keeps (λ c h. subst Keeps (sym h.1) refl) refused m.0 m.1) })
-  side (Observes path) m = inl (record { calls = m.0; on = m.2; few = inl (each_one _ Keeps (λ c h. subst Keeps (sym h.1) refl) refused m.0 m.1) })
-  side (Cancels number) m = inl (record { calls = m.0; on = m.2; few = inl (each_one _ Keeps (λ c h. subst Keeps (sym h.1) refl) false m.0 m.1.0) })
+  side (Calls r) m = inl (record {
+    calls = m.0;
+    on = m.2;
+    few = inl (each_one _ Keeps (λ c h. subst Keeps (sym h.1) refl) refused m.0 m.1);
+  })
+  side (Observes path) m = inl (record {
+    calls = m.0;
+    on = m.2;
+    few = inl (each_one _ Keeps (λ c h. subst Keeps (sym h.1) refl) refused m.0 m.1);
+  })
+  side (Cancels number) m = inl (record {
+    calls = m.0;
+    on = m.2;
+    few = inl (each_one _ Keeps (λ c h. subst Keeps (sym h.1) refl) false m.0 m.1.0);
+  })
   side (Forgets number) m = inl (record { calls = m.0; on = m.2; few = (let one = m.1.0 in inr (one.0, one.2)) })
-  side TickClient m = inl (record { calls = m.0; on = m.2; few = inl (each_tick (ClientTick t word) Keeps (λ b c h. subst Keeps (sym h.5) refl) refused m.0 m.1) })
-  side (StrangerToClient from bytes) m = inl (record { calls = m.0; on = m.2; few = inl (each_one _ Keeps (λ c h. subst Keeps (sym h.6) refl) refused m.0 m.1) })
+  side TickClient m = inl (record {
+    calls = m.0;
+    on = m.2;
+    few = inl (each_tick (ClientTick t word) Keeps (λ b c h. subst Keeps (sym h.5) refl) refused m.0 m.1);
+  })
+  side (StrangerToClient from bytes) m = inl (record
+      { calls = m.0; on = m.2; few = inl (each_one _ Keeps (λ c h. subst Keeps (sym h.6) refl) refused m.0 m.1) })
   side (Sets path format body) m = inr (record { calls = m.0; on = m.2 })
   side (Removes path) m = inr (record { calls = m.0; on = m.2 })
   side TickServer m = inr (record { calls = m.0; on = m.2 })
   side (StrangerToServer from bytes) m = inr (record { calls = m.0; on = m.2 })
   side (Deliver number) m = elim m.2 [
     | inl d ↦ inr (record { calls = d.1; on = d.3 })
-    | inr d ↦ inl (record { calls = d.1; on = d.3; few = inl (each_one _ Keeps (λ c h. subst Keeps (sym h.6) refl) refused d.1 d.2) })
+    | inr d ↦ inl (record {
+      calls = d.1;
+      on = d.3;
+      few = inl (each_one _ Keeps (λ c h. subst Keeps (sym h.6) refl) refused d.1 d.2);
+    })
   ]
 
 none_first : {X : Type 0} (rs : List X) → None ≡ slice_get rs 0 → drop 1 rs ≡ []
@@ -69,47 +91,62 @@ module _ (szx : ℕ) where
   keeps_on [] t h none = none
   keeps_on (c ∷ cs) t h none = ((λ number is. absurd (let k = h.0 in cc (k, is))), keeps_on cs t h.1 none)
 
-  outs_keep : (ps : List Packet) (t : List C.Call) → NoneDropped szx t → NoneDropped szx (map (λ p. C.NextOut (Some p)) ps ++ t)
+  outs_keep : (ps : List Packet) (t : List C.Call) → NoneDropped szx t
+      → NoneDropped szx (map (λ p. C.NextOut (Some p)) ps ++ t)
   outs_keep [] t none = none
   outs_keep (p ∷ ps) t none = ((λ number is. absurd (cc is)), outs_keep ps t none)
 
-  reports_keep : (rs : List C.Reported) (t : List C.Call) → NoneDropped szx t → NoneDropped szx (map (λ r. C.NextReport (Some r)) rs ++ t)
+  reports_keep : (rs : List C.Reported) (t : List C.Call) → NoneDropped szx t
+      → NoneDropped szx (map (λ r. C.NextReport (Some r)) rs ++ t)
   reports_keep [] t none = none
   reports_keep (r ∷ rs) t none = ((λ number is. absurd (cc is)), reports_keep rs t none)
 
   calls_keep : (calls t : List C.Call) → FewForget calls → AreTaken t → NoneDropped szx (calls ++ t)
   calls_keep calls t (inl keep) k = keeps_on calls t keep k.dropped
-  calls_keep calls t (inr one) k = subst (λ cs. NoneDropped szx (cs ++ t)) (sym one.1) ((λ number is. k.left), k.dropped)
+  calls_keep calls t (inr one) k = subst (λ cs. NoneDropped szx (cs ++ t)) (sym one.1)
+      ((λ number is. k.left), k.dropped)
 
   rows_behind : (cs t : List C.Call) → ClientRows szx (cs ++ t) → ClientRows szx t
   rows_behind [] t rows = rows
   rows_behind (c ∷ cs) t rows = rows_behind cs t rows.1
 
   module _ (t : Turn) (past : List Turn) (rows : ClientRows szx (client_of (t.entries ++ entries_of past))) where
-    by_client : ClientTakes t.entries → (ClientRows szx (client_of (entries_of past)) → AreTaken (client_of (entries_of past))) → AreTaken (client_of (t.entries ++ entries_of past))
+    by_client : ClientTakes t.entries → (ClientRows szx (client_of (entries_of past))
+        → AreTaken (client_of (entries_of past))) → AreTaken (client_of (t.entries ++ entries_of past))
     by_client k before =
         let old : List C.Call = client_of (entries_of past) in
         let outs : List C.Call = map (λ p. C.NextOut (Some p)) k.on.outs in
         let reports : List C.Call = map (λ r. C.NextReport (Some r)) k.on.reports in
         let more : List C.Call = reports ++ C.NextOut None ∷ (outs ++ k.calls) in
         let is : client_of (t.entries ++ entries_of past) ≡ C.NextReport None ∷ (more ++ old)
-        = ap (λ es. client_of (es ++ entries_of past)) k.on.is ∙ client_client (C.NextReport None ∷ more) (entries_of past)
+        = ap (λ es. client_of (es ++ entries_of past)) k.on.is
+        ∙ client_client (C.NextReport None ∷ more) (entries_of past)
         in
         let here = subst (ClientRows szx) is rows in
-        let calls = outs_keep k.on.outs (k.calls ++ old) (calls_keep k.calls old k.few (before (rows_behind more old here.1))) in
-        let all = reports_keep k.on.reports (C.NextOut None ∷ (outs ++ (k.calls ++ old))) ((λ number none. absurd (cc none)), calls) in
+        let calls = outs_keep k.on.outs (k.calls ++ old)
+        (calls_keep k.calls old k.few (before (rows_behind more old here.1))) in
+        let all = reports_keep k.on.reports (C.NextOut None ∷ (outs ++ (k.calls ++ old)))
+        ((λ number none. absurd (cc none)), calls) in
         let same : reports ++ C.NextOut None ∷ (outs ++ (k.calls ++ old)) ≡ more ++ old
-        = ap (λ l. reports ++ C.NextOut None ∷ l) (sym (append_assoc outs k.calls old)) ∙ sym (append_assoc reports (C.NextOut None ∷ (outs ++ k.calls)) old)
+        = ap (λ l. reports ++ C.NextOut None ∷ l) (sym (append_assoc outs k.calls old))
+        ∙ sym (append_assoc reports (C.NextOut None ∷ (outs ++ k.calls)) old)
         in
-        subst AreTaken (sym is) (record { left = none_first (own_of szx (more ++ old)).reports here.0; dropped = ((λ number none. absurd (cc none)), subst (NoneDropped szx) same all) })
+        subst AreTaken (sym is) (record {
+          left = none_first (own_of szx (more ++ old)).reports here.0;
+          dropped = ((λ number none. absurd (cc none)), subst (NoneDropped szx) same all);
+        })
 
-    by_server : ServerTakes t.entries → (ClientRows szx (client_of (entries_of past)) → AreTaken (client_of (entries_of past))) → AreTaken (client_of (t.entries ++ entries_of past))
+    by_server : ServerTakes t.entries → (ClientRows szx (client_of (entries_of past))
+        → AreTaken (client_of (entries_of past))) → AreTaken (client_of (t.entries ++ entries_of past))
     by_server k before =
         let calls : List S.Call = S.NextOut None ∷ (map (λ p. S.NextOut (Some p)) k.on.outs ++ k.calls) in
-        let is : client_of (t.entries ++ entries_of past) ≡ client_of (entries_of past) = ap (λ es. client_of (es ++ entries_of past)) k.on.is ∙ client_server calls (entries_of past) in
+        let is : client_of (t.entries ++ entries_of past)
+        ≡ client_of (entries_of past) = ap (λ es. client_of (es ++ entries_of past)) k.on.is
+        ∙ client_server calls (entries_of past) in
         subst AreTaken (sym is) (before (subst (ClientRows szx) is rows))
 
-  are_taken : (turns : List Turn) → Always (λ past t. Makes past t.event.at t.event.word t.event.what t.refused t.entries) turns → ClientRows szx (client_of (entries_of turns)) → AreTaken (client_of (entries_of turns))
+  are_taken : (turns : List Turn) → Always (λ past t. Makes past t.event.at t.event.word t.event.what t.refused
+      t.entries) turns → ClientRows szx (client_of (entries_of turns)) → AreTaken (client_of (entries_of turns))
   are_taken [] made rows = record { left = refl; dropped = tt }
   are_taken (t ∷ past) made rows =
       elim (side past t.event.at t.event.word t.refused t.entries t.event.what made.0) [
@@ -117,8 +154,14 @@ module _ (szx : ℕ) where
         | inr k ↦ by_server t past rows k (are_taken past made.1)
       ]
 
-pub all_given : (config : Config) (turns : List Turn) → Always (λ past t. Makes past t.event.at t.event.word t.event.what t.refused t.entries) turns → ClientRows config.client_szx (client_of (entries_of turns)) → AllGiven config (entries_of turns)
+pub all_given : (config : Config) (turns : List Turn)
+    → Always (λ past t. Makes past t.event.at t.event.word t.event.what t.refused t.entries) turns
+    → ClientRows config.client_szx (client_of (entries_of turns)) → AllGiven config (entries_of turns)
 all_given config turns made rows =
     let t : List C.Call = client_of (entries_of turns) in
     let k = are_taken config.client_szx turns made rows in
-    record { none_left = k.left; given_all = sym (all_wait config.client_szx t rows k.dropped ∙ (ap (λ rs. given t ++ rs) k.left ∙ append-nil (given t))) }
+    record {
+      none_left = k.left;
+      given_all = sym
+          (all_wait config.client_szx t rows k.dropped ∙ (ap (λ rs. given t ++ rs) k.left ∙ append-nil (given t)));
+    }

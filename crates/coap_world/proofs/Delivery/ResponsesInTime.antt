@@ -39,15 +39,18 @@ module _ (t : ℕ) (F : Endpoint → List ℕ → Type 0) where
   own_by s (R.Notifies now to token r word id) h k = omega (arith, h, k)
   own_by s (R.Take answer) h k = h
 
-  pub owns_by : (past later : List R.Call) → (answerer.own_of past).clock ≤ t → Every Asks later → (answerer.own_of (later ++ past)).clock ≤ t
+  pub owns_by : (past later : List R.Call) → (answerer.own_of past).clock ≤ t → Every Asks later
+      → (answerer.own_of (later ++ past)).clock ≤ t
   owns_by past [] h a = h
   owns_by past (c ∷ later) h a = own_by (answerer.own_of (later ++ past)) c (owns_by past later h a.1) a.0
 
   -- other calls of the layer than arrivals
-  other_wish : (now : ℕ) (call : L.Call) (up : L.Answer) → now ≤ t → ((from : Endpoint) (bytes : List ℕ) → call ≡ L.Receive from bytes → ⊥) → Wish t F (asked now call up)
+  other_wish : (now : ℕ) (call : L.Call) (up : L.Answer) → now ≤ t
+      → ((from : Endpoint) (bytes : List ℕ) → call ≡ L.Receive from bytes → ⊥) → Wish t F (asked now call up)
   other_wish now call up h f = record { now = h; fed = λ from bytes is. absurd (f from bytes is) }
 
-  answering_other : (s : R.Own) (kind : Kind) (a : request.Asked) (r : R.Response) (from : Endpoint) (bytes : List ℕ) → answerer_steps.answering s kind a r ≡ L.Receive from bytes → ⊥
+  answering_other : (s : R.Own) (kind : Kind) (a : request.Asked) (r : R.Response) (from : Endpoint) (bytes : List ℕ)
+      → answerer_steps.answering s kind a r ≡ L.Receive from bytes → ⊥
   answering_other s Con a r from bytes is = cc is
   answering_other s Non a r from bytes is = cc is
   answering_other s Ack a r from bytes is = cc is
@@ -63,21 +66,26 @@ module _ (t : ℕ) (F : Endpoint → List ℕ → Type 0) where
 
   lower_wish : (s : R.Own) (c : R.Call) → s.clock ≤ t → Asks c → Every (Wish t F) (answerer_steps.lower s c)
   lower_wish s (R.Incoming now from bytes up answer) h a =
-      every_join (Wish t F) (replying from (id_in up) (reject_by up)) (asked now (L.Receive from bytes) up ∷ []) (replying_wish t F from (id_in up) (reject_by up)) (receive_wish t F now from bytes up a.0 a.1, tt)
+      every_join (Wish t F) (replying from (id_in up) (reject_by up)) (asked now (L.Receive from bytes) up ∷ [])
+      (replying_wish t F from (id_in up) (reject_by up)) (receive_wish t F now from bytes up a.0 a.1, tt)
   lower_wish s (R.Answers a r below) h k = (other_wish s.clock _ below h (answering_other s a.kind a r), tt)
   lower_wish s (R.Defers now a delay answer) h k =
-      every_join (Wish t F) (deferring (may_defer s.deferred) a) (asked now L.Pass L.Nothing ∷ []) (deferring_wish (may_defer s.deferred) a) (other_wish now L.Pass L.Nothing k (λ from bytes is. cc is), tt)
+      every_join (Wish t F) (deferring (may_defer s.deferred) a) (asked now L.Pass L.Nothing ∷ [])
+      (deferring_wish (may_defer s.deferred) a) (other_wish now L.Pass L.Nothing k (λ from bytes is. cc is), tt)
   lower_wish s (R.Ticks now below room answer) h k =
-      every_join (Wish t F) (asking_room now (ready_if below (ready_at s now)) room) (asked now L.Ticks below ∷ []) (room_wish now (ready_if below (ready_at s now)) room k) (timed_wish t F now below k, tt)
+      every_join (Wish t F) (asking_room now (ready_if below (ready_at s now)) room) (asked now L.Ticks below ∷ [])
+      (room_wish now (ready_if below (ready_at s now)) room k) (timed_wish t F now below k, tt)
   lower_wish s (R.Responds now a r word id) h k = (other_wish now _ (L.Sent id) k (λ from bytes is. cc is), tt)
   lower_wish s (R.Ready now to answer) h k = (other_wish now _ (L.Is answer) k (λ from bytes is. cc is), tt)
   lower_wish s (R.Notifies now to token r word id) h k = (other_wish now _ (L.Sent id) k (λ from bytes is. cc is), tt)
   lower_wish s (R.Take answer) h k = (other_wish 0 L.Take (L.Gives answer) (omega arith) (λ from bytes is. cc is), tt)
 
-  pub wishes : (past later : List R.Call) → (answerer.own_of past).clock ≤ t → Every Asks later → Every (Wish t F) (asked_by_server past later)
+  pub wishes : (past later : List R.Call) → (answerer.own_of past).clock ≤ t → Every Asks later
+      → Every (Wish t F) (asked_by_server past later)
   wishes past [] h a = tt
   wishes past (c ∷ later) h a =
-      every_join (Wish t F) (answerer_steps.lower (answerer.own_of (later ++ past)) c) (asked_by_server past later) (lower_wish (answerer.own_of (later ++ past)) c (owns_by past later h a.1) a.0) (wishes past later h a.1)
+      every_join (Wish t F) (answerer_steps.lower (answerer.own_of (later ++ past)) c) (asked_by_server past later)
+      (lower_wish (answerer.own_of (later ++ past)) c (owns_by past later h a.1) a.0) (wishes past later h a.1)
 
   -- the oldest is an arrival or a tick
   abbrev pub Begins : R.Call → Type 0
@@ -87,9 +95,13 @@ module _ (t : ℕ) (F : Endpoint → List ℕ → Type 0) where
 
   first_ends : (s : R.Own) (c : R.Call) → Begins c → Ends t F (answerer_steps.lower s c ++ [])
   first_ends s (R.Incoming now from bytes up answer) k =
-      subst (Ends t F) (sym (append_assoc (replying from (id_in up) (reject_by up)) (asked now (L.Receive from bytes) up ∷ []) [])) (ends_over t F (replying from (id_in up) (reject_by up)) (asked now (L.Receive from bytes) up ∷ []) (k, tt))
+      subst (Ends t F) (sym (append_assoc (replying from (id_in up) (reject_by up))
+      (asked now (L.Receive from bytes) up ∷ []) []))
+      (ends_over t F (replying from (id_in up) (reject_by up)) (asked now (L.Receive from bytes) up ∷ []) (k, tt))
   first_ends s (R.Ticks now below room answer) k =
-      subst (Ends t F) (sym (append_assoc (asking_room now (ready_if below (ready_at s now)) room) (asked now L.Ticks below ∷ []) [])) (ends_over t F (asking_room now (ready_if below (ready_at s now)) room) (asked now L.Ticks below ∷ []) (k, tt))
+      subst (Ends t F) (sym (append_assoc (asking_room now (ready_if below (ready_at s now)) room)
+      (asked now L.Ticks below ∷ []) [])) (ends_over t F (asking_room now (ready_if below (ready_at s now)) room)
+      (asked now L.Ticks below ∷ []) (k, tt))
   first_ends s (R.Answers a r below) k = absurd k
   first_ends s (R.Defers now a delay answer) k = absurd k
   first_ends s (R.Responds now a r word id) k = absurd k
@@ -99,4 +111,5 @@ module _ (t : ℕ) (F : Endpoint → List ℕ → Type 0) where
 
   pub ends : (past later : List R.Call) (c : R.Call) → Begins c → Ends t F (asked_by_server past (later ++ c ∷ []))
   ends past [] c k = first_ends (answerer.own_of past) c k
-  ends past (d ∷ later) c k = ends_over t F (answerer_steps.lower (answerer.own_of ((later ++ c ∷ []) ++ past)) d) (asked_by_server past (later ++ c ∷ [])) (ends past later c k)
+  ends past (d ∷ later) c k = ends_over t F (answerer_steps.lower (answerer.own_of ((later ++ c ∷ []) ++ past)) d)
+      (asked_by_server past (later ++ c ∷ [])) (ends past later c k)

@@ -45,14 +45,16 @@ abbrev pub Fed : Call → Endpoint → List ℕ → Type 0
 Fed c from bytes = FedToServer from bytes (OfServer c)
 
 module _ (t : ℕ) (F : Endpoint → List ℕ → Type 0) where
-  deferring_asks : (o : Option ℕ) (place : Bool) (at : ℕ) (a : request.Asked) → at ≤ t → Every (Asks t F) (deferral_by o place at a)
+  deferring_asks : (o : Option ℕ) (place : Bool) (at : ℕ) (a : request.Asked) → at ≤ t
+      → Every (Asks t F) (deferral_by o place at a)
   deferring_asks None place at a k = tt
   deferring_asks (Some delay) place at a k = (k, tt)
 
   deferral_asks : (s : Own) (a : request.Asked) (q : _) → s.clock ≤ t → Every (Asks t F) (deferral s a q)
   deferral_asks s a q k = deferring_asks _ _ s.clock a k
 
-  answering_asks : (s : Own) (came : Option (request.Asked × Message)) (h : Handling) (below : L.Answer) → s.clock ≤ t → Every (Asks t F) (answering s came h below)
+  answering_asks : (s : Own) (came : Option (request.Asked × Message)) (h : Handling) (below : L.Answer) → s.clock ≤ t
+      → Every (Asks t F) (answering s came h below)
   answering_asks s None h below k = tt
   answering_asks s (Some p) Silent below k = tt
   answering_asks s (Some p) (Replies response) below k = (tt, tt)
@@ -63,15 +65,18 @@ module _ (t : ℕ) (F : Endpoint → List ℕ → Type 0) where
   readies_asks : (at passed : ℕ) (os : List Observer) → at ≤ t → Every (Asks t F) (readies at passed os)
   readies_asks at passed [] k = tt
   readies_asks at zero (o ∷ os) k = (k, tt)
-  readies_asks at (suc passed) (o ∷ os) k = every_join (Asks t F) (readies at passed os) (R.Ready at o.to false ∷ []) (readies_asks at passed os k) (k, tt)
+  readies_asks at (suc passed) (o ∷ os) k = every_join (Asks t F) (readies at passed os) (R.Ready at o.to false ∷ [])
+      (readies_asks at passed os k) (k, tt)
 
-  responding_asks : (s : Own) (d : Due) (passed : ℕ) (h : Handling) (word id : ℕ) → s.clock ≤ t → Every (Asks t F) (responding s d passed h word id)
+  responding_asks : (s : Own) (d : Due) (passed : ℕ) (h : Handling) (word id : ℕ) → s.clock ≤ t
+      → Every (Asks t F) (responding s d passed h word id)
   responding_asks s (due.Ready a) passed (Serves q reply left) word id k = (k, tt)
   responding_asks s (due.Ready a) passed Silent word id k = tt
   responding_asks s (due.Ready a) passed (Replies response) word id k = tt
   responding_asks s (due.Ready a) passed (Waits q delay) word id k = tt
   responding_asks s (due.Ready a) passed (Notifies o reply) word id k = tt
-  responding_asks s due.Idle passed (Notifies o reply) word id k = (k, readies_asks s.clock passed (marked s.observers) k)
+  responding_asks s due.Idle passed (Notifies o reply) word id k =
+      (k, readies_asks s.clock passed (marked s.observers) k)
   responding_asks s due.Idle passed (Serves q reply left) word id k = readies_asks s.clock passed (marked s.observers) k
   responding_asks s due.Idle passed Silent word id k = readies_asks s.clock passed (marked s.observers) k
   responding_asks s due.Idle passed (Replies response) word id k = readies_asks s.clock passed (marked s.observers) k
@@ -80,18 +85,21 @@ module _ (t : ℕ) (F : Endpoint → List ℕ → Type 0) where
   responding_asks s due.Expired passed h word id k = tt
 
   -- what a call asks of the exchanges
-  lower_asks : (s : Own) (c : Call) → s.clock ≤ t → IsAt t c → ((from : Endpoint) (bytes : List ℕ) → Fed c from bytes → F from bytes) → Every (Asks t F) (asks_of.lower s c)
+  lower_asks : (s : Own) (c : Call) → s.clock ≤ t → IsAt t c
+      → ((from : Endpoint) (bytes : List ℕ) → Fed c from bytes → F from bytes) → Every (Asks t F) (asks_of.lower s c)
   lower_asks s (Sets now path format body answer left) h at f = tt
   lower_asks s (Removes now path answer left) h at f = tt
   lower_asks s (Delays path ms answer) h at f = tt
   lower_asks s (Feeds now from bytes word up came w below) h at f =
       let k : max s.clock now ≤ t = omega (arith, h, at) in
       let z : Own = heard s now (incoming s now from bytes up came) in
-      every_join (Asks t F) (answering z came w below) (incoming s now from bytes up came ∷ []) (answering_asks z came w below k) ((k, f from bytes (now, word, up, came, w, below, refl)), tt)
+      every_join (Asks t F) (answering z came w below) (incoming s now from bytes up came ∷ [])
+      (answering_asks z came w below k) ((k, f from bytes (now, word, up, came, w, below, refl)), tt)
   lower_asks s (Ticks now word below room d passed w id answer) h at f =
       let k : max s.clock now ≤ t = omega (arith, h, at) in
       let z : Own = heard s now (ticking s now below room d) in
-      every_join (Asks t F) (responding z d passed w word id) (ticking s now below room d ∷ []) (responding_asks z d passed w word id k) (k, tt)
+      every_join (Asks t F) (responding z d passed w word id) (ticking s now below room d ∷ [])
+      (responding_asks z d passed w word id k) (k, tt)
   lower_asks s (NextOut answer) h at f = (tt, tt)
   lower_asks s (Gets path answer) h at f = tt
   lower_asks s (TellsApplied answer) h at f = tt
@@ -112,12 +120,16 @@ module _ (config : Config) where
     pub between : (answerer.own_of (exchanges past)).clock ≤ t
     pub layer : (before past).clock ≤ t
 
-  asks : (t : ℕ) (past : List Call) (c : Call) → IsBy t past → IsAt t c → Every (Asks t (Fed c)) (asks_of.lower (own past) c)
+  asks : (t : ℕ) (past : List Call) (c : Call) → IsBy t past → IsAt t c
+      → Every (Asks t (Fed c)) (asks_of.lower (own past) c)
   asks t past c by at = lower_asks t (Fed c) (own past) c by.own at (λ from bytes f. f)
 
-  asks_done : (t : ℕ) (past : List Call) (c : Call) → IsBy t past → IsAt t c → Done t (Fed c) (before past) (server_asks config past c)
-  asks_done t past (Sets now path format body answer left) by at = nothing_done t (Fed (Sets now path format body answer left)) (before past) by.layer
-  asks_done t past (Removes now path answer left) by at = nothing_done t (Fed (Removes now path answer left)) (before past) by.layer
+  asks_done : (t : ℕ) (past : List Call) (c : Call) → IsBy t past → IsAt t c
+      → Done t (Fed c) (before past) (server_asks config past c)
+  asks_done t past (Sets now path format body answer left) by at =
+      nothing_done t (Fed (Sets now path format body answer left)) (before past) by.layer
+  asks_done t past (Removes now path answer left) by at =
+      nothing_done t (Fed (Removes now path answer left)) (before past) by.layer
   asks_done t past (Delays path ms answer) by at = nothing_done t (Fed (Delays path ms answer)) (before past) by.layer
   asks_done t past (Gets path answer) by at = nothing_done t (Fed (Gets path answer)) (before past) by.layer
   asks_done t past (TellsApplied answer) by at = nothing_done t (Fed (TellsApplied answer)) (before past) by.layer
@@ -125,13 +137,19 @@ module _ (config : Config) where
   asks_done t past (Feeds now from bytes word up came w below) by at =
       let F = Fed (Feeds now from bytes word up came w below) in
       let k : t ≤ max (own past).clock now = omega (arith, at) in
-      done t F (before past) _ by.layer (wishes t F (exchanges past) (asks_of.lower (own past) (Feeds now from bytes word up came w below)) by.between (asks t past (Feeds now from bytes word up came w below) by at))
-      (ends t F (exchanges past) (answering (heard (own past) now (incoming (own past) now from bytes up came)) came w below) (incoming (own past) now from bytes up came) k)
+      done t F (before past) _ by.layer (wishes t F (exchanges past)
+      (asks_of.lower (own past) (Feeds now from bytes word up came w below)) by.between
+      (asks t past (Feeds now from bytes word up came w below) by at))
+      (ends t F (exchanges past) (answering (heard (own past) now (incoming (own past) now from bytes up came)) came w
+      below) (incoming (own past) now from bytes up came) k)
   asks_done t past (Ticks now word below room d passed w id answer) by at =
       let F = Fed (Ticks now word below room d passed w id answer) in
       let k : t ≤ max (own past).clock now = omega (arith, at) in
-      done t F (before past) _ by.layer (wishes t F (exchanges past) (asks_of.lower (own past) (Ticks now word below room d passed w id answer)) by.between (asks t past (Ticks now word below room d passed w id answer) by at))
-      (ends t F (exchanges past) (responding (heard (own past) now (ticking (own past) now below room d)) d passed w word id) (ticking (own past) now below room d) k)
+      done t F (before past) _ by.layer (wishes t F (exchanges past)
+      (asks_of.lower (own past) (Ticks now word below room d passed w id answer)) by.between
+      (asks t past (Ticks now word below room d passed w id answer) by at))
+      (ends t F (exchanges past) (responding (heard (own past) now (ticking (own past) now below room d)) d passed w
+      word id) (ticking (own past) now below room d) k)
 
   end_by : (t : ℕ) (s : Own) (c : Call) → s.clock ≤ t → IsAt t c → (steps.after s c).clock ≤ t
   end_by t s (Sets now path format body answer left) h at = omega (arith, h, at)
@@ -148,7 +166,10 @@ module _ (config : Config) where
       record {
         own = end_by t (own past) c by.own at;
         between = owns_by t (Fed c) (exchanges past) (asks_of.lower (own past) c) by.between (asks t past c by at);
-        layer = subst (λ (s : State). s.clock ≤ t) (sym (ap (left_after (start config.server_word)) (server_asked_next config past c) ∙ left_append (start config.server_word) (server_asks config past c) (server_asked config past))) (asks_done t past c by at).till;
+        layer = subst (λ (s : State). s.clock ≤ t)
+            (sym (ap (left_after (start config.server_word)) (server_asked_next config past c)
+            ∙ left_append (start config.server_word) (server_asks config past c) (server_asked config past)))
+            (asks_done t past c by at).till;
       }
 
   pub later_by : (t u : ℕ) (past : List Call) → t ≤ u → IsBy t past → IsBy u past
@@ -158,5 +179,6 @@ module _ (config : Config) where
       let c = by.between in
       record { own = omega (arith, a, h); between = omega (arith, c, h); layer = omega (arith, b, h) }
 
-  pub adds_timely : (t : ℕ) (past : List Call) (c : Call) → IsBy t past → IsAt t c → Every (Timely t (Fed c)) (server_adds config past c)
+  pub adds_timely : (t : ℕ) (past : List Call) (c : Call) → IsBy t past → IsAt t c
+      → Every (Timely t (Fed c)) (server_adds config past c)
   adds_timely t past c by at = (asks_done t past c by at).timely

@@ -28,10 +28,12 @@ use Rattle.coap_world.proofs.Observations.Following.{AckedBehind}
 use Rattle.coap_world.proofs.Observations.Positions.{across_append, across_far, AtServer, server_entries}
 
 -- moments don't fall
-before_now : (word : ℕ) (P : T.Entry → Type 0) (t : List T.Entry) (n : ℕ) → LayerLaw word t → clock t ≤ n → Ever P t → Ever (λ e. P e × (e.at ≤ n)) t
+before_now : (word : ℕ) (P : T.Entry → Type 0) (t : List T.Entry) (n : ℕ) → LayerLaw word t → clock t ≤ n → Ever P t
+    → Ever (λ e. P e × (e.at ≤ n)) t
 before_now word P [] n law low h = absurd h
 before_now word P (e ∷ past) n law low (inl h) = inl (h, low)
-before_now word P (e ∷ past) n law low (inr h) = inr (before_now word P past n law.1 (let k = law.0.time in omega (arith, k, low)) h)
+before_now word P (e ∷ past) n law low (inr h) =
+    inr (before_now word P past n law.1 (let k = law.0.time in omega (arith, k, low)) h)
 
 -- a CON with its Message ID, which was begun no earlier, is taken here
 pub record TakenBefore (con : Open) (e : T.Entry) : Type 0 where
@@ -40,30 +42,38 @@ pub record TakenBefore (con : Open) (e : T.Entry) : Type 0 where
   pub id_is : other.id ≡ con.id
   pub later : con.first ≤ other.first
 
-far_only : (P : T.Entry → Type 0) (xs : List T.Entry) (hs : List Hop) → Ever (OnFar P) (map Near xs ++ hs) → Ever (OnFar P) hs
+far_only : (P : T.Entry → Type 0) (xs : List T.Entry) (hs : List Hop) → Ever (OnFar P) (map Near xs ++ hs)
+    → Ever (OnFar P) hs
 far_only P [] hs h = h
 far_only P (x ∷ xs) hs (inl h) = absurd h
 far_only P (x ∷ xs) hs (inr h) = far_only P xs hs h
 
-module _ (one other : ℕ) (con : Open) (to : con.to ≡ client_end) (hs : List Hop) (begun_there : Ever (λ b. begun b ≡ Some con) (near_of hs)) where
+module _ (one other : ℕ) (con : Open) (to : con.to ≡ client_end) (hs : List Hop)
+    (begun_there : Ever (λ b. begun b ≡ Some con) (near_of hs)) where
   -- the far end has taken what is acknowledged
-  pub acked_taken : (adds : List T.Entry) → ChannelLaw one other server_end client_end (map Near adds ++ hs) → Ever (TakesAck client_end con.id) adds → Ever (OnFar (TakenBefore con)) hs
+  pub acked_taken : (adds : List T.Entry) → ChannelLaw one other server_end client_end (map Near adds ++ hs)
+      → Ever (TakesAck client_end con.id) adds → Ever (OnFar (TakenBefore con)) hs
   acked_taken [] law h = absurd h
-  acked_taken (x ∷ adds) law (inr h) = acked_taken adds (earlier one other server_end client_end (map Near adds ++ hs) (Near x) law) h
+  acked_taken (x ∷ adds) law (inr h) = acked_taken adds
+      (earlier one other server_end client_end (map Near adds ++ hs) (Near x) law) h
   acked_taken (x ∷ adds) law (inl h) =
       let past = map Near adds ++ hs in
       let a = (acks_heard one (x ∷ near_of past) law.near_law).0 client_end h.bytes con.id h.call (inl h.answer) in
-      let there = subst (Ever (λ b. begun b ≡ Some con)) (sym (near_near adds hs)) (Ever_back (λ b. begun b ≡ Some con) adds (near_of hs) begun_there) in
+      let there = subst (Ever (λ b. begun b ≡ Some con)) (sym (near_near adds hs))
+      (Ever_back (λ b. begun b ≡ Some con) adds (near_of hs) begun_there) in
       let low = alone one (near_of past) a.0 con law.near_law.1 a.3.is_outstanding there (a.1 ∙ sym to) in
       let taken = (acks_taken one other server_end client_end (Near x ∷ past) law).0 x a.0 refl a.1 a.3 in
-      far_only (TakenBefore con) adds hs (Ever_map (OnFar (Takes server_end a.0)) (OnFar (TakenBefore con)) (by a.0 a.2 low) past taken)
+      far_only (TakenBefore con) adds hs (Ever_map (OnFar (Takes server_end a.0)) (OnFar (TakenBefore con))
+      (by a.0 a.2 low) past taken)
     where
-      by : (o : Open) → o.id ≡ con.id → con.first ≤ o.first → (h : Hop) → OnFar (Takes server_end o) h → OnFar (TakenBefore con) h
+      by : (o : Open) → o.id ≡ con.id → con.first ≤ o.first → (h : Hop) → OnFar (Takes server_end o) h
+          → OnFar (TakenBefore con) h
       by o id low (Near e) k = absurd k
       by o id low (Far e) k = record { other = o; takes = k; id_is = id; later = low }
 
   -- that is this one
-  hands_it : (n : ℕ) → n ≤ con.first + last_arrival → (e : T.Entry) → TakenBefore con e × (e.at ≤ n) → HandsUpAs server_end con e
+  hands_it : (n : ℕ) → n ≤ con.first + last_arrival → (e : T.Entry) → TakenBefore con e × (e.at ≤ n)
+      → HandsUpAs server_end con e
   hands_it n till e k =
       let t = k.0.takes in
       let m = kept_by server_end k.0.other.id e t.up in
@@ -77,23 +87,30 @@ module _ (one other : ℕ) (con : Open) (to : con.to ≡ client_end) (hs : List 
       }
 
   -- it isn't handed up again
-  pub not_again : (adds : List T.Entry) → ChannelLaw one other server_end client_end (map Far adds ++ hs) → Ever (HandsUpAs server_end con) adds → Ever (OnFar (HandsUpAs server_end con)) hs → ⊥
+  pub not_again : (adds : List T.Entry) → ChannelLaw one other server_end client_end (map Far adds ++ hs)
+      → Ever (HandsUpAs server_end con) adds → Ever (OnFar (HandsUpAs server_end con)) hs → ⊥
   not_again [] law up h = up
-  not_again (x ∷ adds) law (inr up) h = not_again adds (earlier one other server_end client_end (map Far adds ++ hs) (Far x) law) up h
+  not_again (x ∷ adds) law (inr up) h = not_again adds
+      (earlier one other server_end client_end (map Far adds ++ hs) (Far x) law) up h
   not_again (x ∷ adds) law (inl up) h =
       let past = map Far adds ++ hs in
       let there = subst (Ever (λ b. begun b ≡ Some con)) (sym (near_far adds hs)) begun_there in
-      (handed_once one other server_end client_end (Far x ∷ past) law con there).0 up (Ever_back (OnFar (HandsUpAs server_end con)) (map Far adds) hs h)
+      (handed_once one other server_end client_end (Far x ∷ past) law con there).0 up
+      (Ever_back (OnFar (HandsUpAs server_end con)) (map Far adds) hs h)
 
-  pub not_after : (adds : List T.Entry) → ChannelLaw one other server_end client_end (map Far adds ++ hs) → Ever (HandsUpAs server_end con) adds → Ever (OnFar (TakenBefore con)) hs → ⊥
+  pub not_after : (adds : List T.Entry) → ChannelLaw one other server_end client_end (map Far adds ++ hs)
+      → Ever (HandsUpAs server_end con) adds → Ever (OnFar (TakenBefore con)) hs → ⊥
   not_after [] law up h = up
-  not_after (x ∷ adds) law (inr up) h = not_after adds (earlier one other server_end client_end (map Far adds ++ hs) (Far x) law) up h
+  not_after (x ∷ adds) law (inr up) h = not_after adds
+      (earlier one other server_end client_end (map Far adds ++ hs) (Far x) law) up h
   not_after (x ∷ adds) law (inl up) h =
       let past = map Far adds ++ hs in
       let there = subst (Ever (λ b. begun b ≡ Some con)) (sym (near_far adds hs)) begun_there in
       let taken = far_ever (TakenBefore con) past (Ever_back (OnFar (TakenBefore con)) (map Far adds) hs h) in
       let timed = before_now other (TakenBefore con) (far_of past) x.at law.far_law.1 law.far_law.0.time taken in
-      let before = to_far (HandsUpAs server_end con) past (Ever_map (λ e. TakenBefore con e × (e.at ≤ x.at)) (HandsUpAs server_end con) (hands_it x.at up.till) (far_of past) timed) in
+      let before = to_far (HandsUpAs server_end con) past
+      (Ever_map (λ e. TakenBefore con e × (e.at ≤ x.at)) (HandsUpAs server_end con) (hands_it x.at up.till)
+      (far_of past) timed) in
       (handed_once one other server_end client_end (Far x ∷ past) law con there).0 up before
 
 module _ (config : Config) (con : Open) (to : con.to ≡ client_end) where
@@ -103,21 +120,32 @@ module _ (config : Config) (con : Open) (to : con.to ≡ client_end) where
   none_first : (past : List S.Call) (d : S.Delay) → Acked past (S.Delays d.path d.ms true) → ⊥
   none_first past d k = let is = k.0.is in cc is
 
-  across_back : (e : Entry) (past : List Entry) (P : Hop → Type 0) → Ever P (across (hops_in config past)) → Ever P (across (hops_in config (e ∷ past)))
-  across_back e past P h = subst (Ever P) (sym (across_append (hops_at config past e) (hops_in config past))) (Ever_back P (across (hops_at config past e)) (across (hops_in config past)) h)
+  across_back : (e : Entry) (past : List Entry) (P : Hop → Type 0) → Ever P (across (hops_in config past))
+      → Ever P (across (hops_in config (e ∷ past)))
+  across_back e past P h = subst (Ever P) (sym (across_append (hops_at config past e) (hops_in config past)))
+      (Ever_back P (across (hops_at config past e)) (across (hops_in config past)) h)
 
-  taken_at : (t : List Entry) → Lawful config t → Sometime (AtServer config Acked) t → Ever (OnFar (TakenBefore con)) (across (hops_in config t))
+  taken_at : (t : List Entry) → Lawful config t → Sometime (AtServer config Acked) t
+      → Ever (OnFar (TakenBefore con)) (across (hops_in config t))
   taken_at [] law h = absurd h
   taken_at (OfClient c ∷ past) law (inl h) = absurd h
-  taken_at (e ∷ past) law (inr h) = across_back e past (OnFar (TakenBefore con)) (taken_at past (lawful_back config past e law) h)
+  taken_at (e ∷ past) law (inr h) = across_back e past (OnFar (TakenBefore con))
+      (taken_at past (lawful_back config past e law) h)
   taken_at (OfServer c ∷ past) law (inl h) =
       let adds = server_adds config (server_trace config past) c in
-      let channel = subst (ChannelLaw config.server_word config.client_word server_end client_end) (across_far adds (hops_in config past))
-      (channel_across config.client_word config.server_word client_end server_end (hops_in config (OfServer c ∷ past)) law.channel) in
-      let there = subst (Ever (λ b. begun b ≡ Some con)) (sym (near_across (hops_in config past) ∙ far_is config past)) h.1 in
-      let acks = (acks_arrive config.limit config.server_szx config.server_word (server_trace config (OfServer c ∷ past)) law.server).0 client_end con.id h.0 in
-      across_back (OfServer c) past (OnFar (TakenBefore con)) (acked_taken config.server_word config.client_word con to (across (hops_in config past)) there adds channel acks)
+      let channel = subst (ChannelLaw config.server_word config.client_word server_end client_end)
+      (across_far adds (hops_in config past))
+      (channel_across config.client_word config.server_word client_end server_end
+      (hops_in config (OfServer c ∷ past)) law.channel) in
+      let there = subst (Ever (λ b. begun b ≡ Some con))
+      (sym (near_across (hops_in config past) ∙ far_is config past)) h.1 in
+      let acks = (acks_arrive config.limit config.server_szx config.server_word
+      (server_trace config (OfServer c ∷ past)) law.server).0 client_end con.id h.0 in
+      across_back (OfServer c) past (OnFar (TakenBefore con))
+      (acked_taken config.server_word config.client_word con to
+      (across (hops_in config past)) there adds channel acks)
 
   -- what the server hears acknowledged the client has taken
-  pub taken_before : (t : List Entry) → Lawful config t → Sometime Acked (server_trace config t) → Ever (OnFar (TakenBefore con)) (across (hops_in config t))
+  pub taken_before : (t : List Entry) → Lawful config t → Sometime Acked (server_trace config t)
+      → Ever (OnFar (TakenBefore con)) (across (hops_in config t))
   taken_before t law h = taken_at t law (server_entries config Acked none_first t h)

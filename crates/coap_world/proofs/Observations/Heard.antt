@@ -57,24 +57,34 @@ pub record AckHeard (m : Message) (hs : List Hop) : Type 0 where
   pub given : Ever (λ e. e.call ≡ T.Reply client_end m.id bytes) (far_of hs)
 
 module _ (one other : ℕ) (m : Message) where
-  module _ (past : List Hop) (x : T.Entry) (law : ChannelLaw one other server_end client_end (Far x ∷ past)) (h : Hears server_end m x) (kept : is_kept m.kind ≡ true) where
+  module _ (past : List Hop) (x : T.Entry) (law : ChannelLaw one other server_end client_end (Far x ∷ past))
+      (h : Hears server_end m x) (kept : is_kept m.kind ≡ true) where
     abbrev incoming : Incoming
     incoming = record { from = server_end; message = m }
 
     is_handed : handed x ≡ Some incoming
     is_handed =
         ap (λ c. handed_in c x.answer) h.call ∙ (ap (λ a. handed_in (T.Receive server_end h.bytes) a) h.answer
-        ∙ ap (λ b. elim (cond {A = Option Message} b (Some m) None) [ Some n ↦ Some (record { from = server_end; message = n }) | None ↦ None ]) kept)
+        ∙ ap (λ b. elim (cond {A = Option Message} b (Some m) None)
+        [ Some n ↦ Some (record { from = server_end; message = n }) | None ↦ None ]) kept)
 
     handed_by : HandedBy x incoming
     handed_by = (handed_spelled other (x ∷ far_of past) law.far_law).0 incoming is_handed
 
   module _ (hs : List Hop) where
-    con_heard : (adds : List T.Entry) → ChannelLaw one other server_end client_end (map Far adds ++ hs) → Ever (Hears server_end m) adds → m.kind ≡ Con → ConHeard m adds hs
+    con_heard : (adds : List T.Entry) → ChannelLaw one other server_end client_end (map Far adds ++ hs)
+        → Ever (Hears server_end m) adds → m.kind ≡ Con → ConHeard m adds hs
     con_heard [] law h kind = absurd h
     con_heard (x ∷ adds) law (inr h) kind =
         let k = con_heard adds (earlier one other server_end client_end (map Far adds ++ hs) (Far x) law) h kind in
-        record { con = k.con; begun_before = k.begun_before; to_is = k.to_is; are = k.are; spells = k.spells; up = inr k.up }
+        record {
+          con = k.con;
+          begun_before = k.begun_before;
+          to_is = k.to_is;
+          are = k.are;
+          spells = k.spells;
+          up = inr k.up;
+        }
     con_heard (x ∷ adds) law (inl h) kind =
         let past = map Far adds ++ hs in
         let kept : is_kept m.kind ≡ true = ap is_kept kind in
@@ -86,47 +96,66 @@ module _ (one other : ℕ) (m : Message) where
           to_is = b.to_is;
           are = subst AreBytes (sym b.bytes_are) by.are_bytes;
           spells = subst (λ z. Spells z m) (sym b.bytes_are) by.spells;
-          up = inl (record { message = incoming past x law h kept; up = is_handed past x law h kept; from_is = refl; id_is = sym b.id_is; from = b.from; till = b.till });
+          up = inl (record {
+            message = incoming past x law h kept;
+            up = is_handed past x law h kept;
+            from_is = refl;
+            id_is = sym b.id_is;
+            from = b.from;
+            till = b.till;
+          });
         }
 
-    non_heard : (adds : List T.Entry) → ChannelLaw one other server_end client_end (map Far adds ++ hs) → Ever (Hears server_end m) adds → m.kind ≡ Non → NonHeard m hs
+    non_heard : (adds : List T.Entry) → ChannelLaw one other server_end client_end (map Far adds ++ hs)
+        → Ever (Hears server_end m) adds → m.kind ≡ Non → NonHeard m hs
     non_heard [] law h kind = absurd h
-    non_heard (x ∷ adds) law (inr h) kind = non_heard adds (earlier one other server_end client_end (map Far adds ++ hs) (Far x) law) h kind
+    non_heard (x ∷ adds) law (inr h) kind = non_heard adds
+        (earlier one other server_end client_end (map Far adds ++ hs) (Far x) law) h kind
     non_heard (x ∷ adds) law (inl h) kind =
         let past = map Far adds ++ hs in
         let kept : is_kept m.kind ≡ true = ap is_kept kind in
         let by = handed_by past x law h kept in
-        let sent = (nons_sent one other server_end client_end (Far x ∷ past) law).0 x by.bytes m refl by.call by.spells kind in
+        let sent = (nons_sent one other server_end client_end (Far x ∷ past) law).0 x by.bytes m refl by.call by.spells
+        kind in
         record {
           bytes = by.bytes;
           are = by.are_bytes;
           spells = by.spells;
           sent = subst (Ever (λ e. PlainOut e (record { to = client_end; bytes = by.bytes }))) (near_far adds hs)
-              (Ever_map (PlainSent client_end by.bytes x.at) (λ e. PlainOut e (record { to = client_end; bytes = by.bytes })) (λ e p. p.goes) (near_of past) sent);
+              (Ever_map (PlainSent client_end by.bytes x.at)
+              (λ e. PlainOut e (record { to = client_end; bytes = by.bytes })) (λ e p. p.goes) (near_of past) sent);
         }
 
-    replies_there : (con : Open) (bytes : List ℕ) (past : List Hop) (h : Hop) → OnFarThen (RepliesTo client_end con bytes) past h → OnFar (λ b. b.call ≡ T.Reply client_end con.id bytes) h
+    replies_there : (con : Open) (bytes : List ℕ) (past : List Hop) (h : Hop)
+        → OnFarThen (RepliesTo client_end con bytes) past h → OnFar (λ b. b.call ≡ T.Reply client_end con.id bytes) h
     replies_there con bytes past (Near e) k = absurd k
     replies_there con bytes past (Far e) k = k.call
 
-    ack_heard : (adds : List T.Entry) → ChannelLaw one other client_end server_end (map Near adds ++ hs) → Ever (Hears server_end m) adds → m.kind ≡ Ack → AckHeard m hs
+    ack_heard : (adds : List T.Entry) → ChannelLaw one other client_end server_end (map Near adds ++ hs)
+        → Ever (Hears server_end m) adds → m.kind ≡ Ack → AckHeard m hs
     ack_heard [] law h kind = absurd h
-    ack_heard (x ∷ adds) law (inr h) kind = ack_heard adds (earlier one other client_end server_end (map Near adds ++ hs) (Near x) law) h kind
+    ack_heard (x ∷ adds) law (inr h) kind = ack_heard adds
+        (earlier one other client_end server_end (map Near adds ++ hs) (Near x) law) h kind
     ack_heard (x ∷ adds) law (inl h) kind =
         let past = map Near adds ++ hs in
         let near = x ∷ near_of past in
         let c = (responses_spelled one near law.near_law).0 m h.answer in
         let a = (acks_heard one near law.near_law).0 server_end h.bytes m.id h.call (inr (m, h.answer, kind, refl)) in
         let r = (acks_replied one other client_end server_end (Near x ∷ past) law).0 x a.0 refl a.1 a.3 in
-        let calls : T.Receive c.from c.bytes ≡ T.Receive a.0.to a.3.bytes = let p = c.call in let q = a.3.call in cc (p, q) in
+        let calls : T.Receive c.from c.bytes ≡ T.Receive a.0.to a.3.bytes = let p = c.call in let q =
+        a.3.call in cc (p, q) in
         let bytes : c.bytes ≡ a.3.bytes = cc calls in
-        let there = Ever_of_Sometime (OnFarThen (RepliesTo client_end a.0 a.3.bytes)) (OnFar (λ b. b.call ≡ T.Reply client_end a.0.id a.3.bytes)) (λ p e k. inl (replies_there a.0 a.3.bytes p e k)) past r in
-        let given = subst (Ever (λ b. b.call ≡ T.Reply client_end a.0.id a.3.bytes)) (far_near adds hs) (far_ever (λ b. b.call ≡ T.Reply client_end a.0.id a.3.bytes) past there) in
+        let there = Ever_of_Sometime (OnFarThen (RepliesTo client_end a.0 a.3.bytes))
+        (OnFar (λ b. b.call ≡ T.Reply client_end a.0.id a.3.bytes))
+        (λ p e k. inl (replies_there a.0 a.3.bytes p e k)) past r in
+        let given = subst (Ever (λ b. b.call ≡ T.Reply client_end a.0.id a.3.bytes)) (far_near adds hs)
+        (far_ever (λ b. b.call ≡ T.Reply client_end a.0.id a.3.bytes) past there) in
         record {
           bytes = c.bytes;
           are = c.are_bytes;
           spells = c.spells;
-          given = subst (λ z. Ever (λ b. b.call ≡ T.Reply client_end m.id z) (far_of hs)) (sym bytes) (subst (λ z. Ever (λ b. b.call ≡ T.Reply client_end z a.3.bytes) (far_of hs)) a.2 given);
+          given = subst (λ z. Ever (λ b. b.call ≡ T.Reply client_end m.id z) (far_of hs)) (sym bytes)
+              (subst (λ z. Ever (λ b. b.call ≡ T.Reply client_end z a.3.bytes) (far_of hs)) a.2 given);
         }
 
 module _ (config : Config) where
@@ -135,21 +164,28 @@ module _ (config : Config) where
 
   -- the server tells it in this CON
   abbrev pub TellsCon : Open → Message → List S.Call → S.Call → Type 0
-  TellsCon con m past c = TellsIn config.limit config.server_szx (Some con.id) client_end m past c × Ever (λ b. begun b ≡ Some con) (call_adds config.limit config.server_szx config.server_word past c)
+  TellsCon con m past c = TellsIn config.limit config.server_szx (Some con.id) client_end m past c
+      × Ever (λ b. begun b ≡ Some con) (call_adds config.limit config.server_szx config.server_word past c)
 
   abbrev pub TellsAck : Message → List S.Call → S.Call → Type 0
   TellsAck m past c = TellsIn config.limit config.server_szx None client_end m past c
 
-  module _ (past : List Entry) (c : C.Call) (law : Lawful config (OfClient c ∷ past)) (m : Message) (hears : Ever (Hears server_end m) (client_adds config (client_of past) c)) (note : is_notification m ≡ true) where
+  module _ (past : List Entry) (c : C.Call) (law : Lawful config (OfClient c ∷ past)) (m : Message)
+      (hears : Ever (Hears server_end m) (client_adds config (client_of past) c))
+      (note : is_notification m ≡ true) where
     abbrev adds : List T.Entry
     adds = client_adds config (client_of past) c
 
-    pub law_across : ChannelLaw config.server_word config.client_word server_end client_end (map Far adds ++ across (hops_in config past))
+    pub law_across : ChannelLaw config.server_word config.client_word server_end client_end
+        (map Far adds ++ across (hops_in config past))
     law_across =
-        subst (ChannelLaw config.server_word config.client_word server_end client_end) (across_near adds (hops_in config past))
-        (channel_across config.client_word config.server_word client_end server_end (hops_in config (OfClient c ∷ past)) law.channel)
+        subst (ChannelLaw config.server_word config.client_word server_end client_end)
+        (across_near adds (hops_in config past))
+        (channel_across config.client_word config.server_word client_end server_end
+        (hops_in config (OfClient c ∷ past)) law.channel)
 
-    near_there : near_of (across (hops_in config past)) ≡ layer_of config.limit config.server_szx config.server_word (trace past)
+    near_there : near_of (across (hops_in config past))
+        ≡ layer_of config.limit config.server_szx config.server_word (trace past)
     near_there = near_across (hops_in config past) ∙ far_is config past
 
     abbrev Added : (T.Entry → Type 0) → List S.Call → S.Call → Type 0
@@ -159,15 +195,23 @@ module _ (config : Config) where
     told = all_tell_sent config.limit config.server_szx config.server_word (trace past) law.server
 
     -- in a CON
-    pub con_told : m.kind ≡ Con → (con : Open) × Ever (HandsUpAs server_end con) adds × Sometime (TellsCon con m) (trace past) × Ever (λ b. begun b ≡ Some con) (near_of (across (hops_in config past))) × (con.to ≡ client_end)
+    pub con_told : m.kind ≡ Con → (con : Open) × Ever (HandsUpAs server_end con) adds
+        × Sometime (TellsCon con m) (trace past) × Ever (λ b. begun b ≡ Some con)
+        (near_of (across (hops_in config past))) × (con.to ≡ client_end)
     con_told kind =
-        let k = con_heard config.server_word config.client_word m (across (hops_in config past)) adds law_across hears kind in
+        let k = con_heard config.server_word config.client_word m
+        (across (hops_in config past)) adds law_across hears kind in
         let P : T.Entry → Type 0 = λ b. begun b ≡ Some k.con in
-        let there = located config.limit config.server_szx config.server_word P (trace past) (subst (Ever P) near_there k.begun_before) in (
+        let there = located config.limit config.server_szx config.server_word P (trace past)
+        (subst (Ever P) near_there k.begun_before) in (
           k.con,
           k.up,
           by_law (TellsSent config.limit config.server_szx config.server_word) (Added P) (TellsCon k.con m)
-              (λ p b l h. (subst (λ z. TellsIn config.limit config.server_szx (Some k.con.id) z m p b) k.to_is (l.0.begun_now k.con m h k.are k.spells note), h)) (trace past) told there,
+              (λ p b l h. (
+                subst (λ z. TellsIn config.limit config.server_szx (Some k.con.id) z m p b) k.to_is
+                    (l.0.begun_now k.con m h k.are k.spells note),
+                h,
+              )) (trace past) told there,
           k.begun_before,
           k.to_is,
         )
@@ -177,13 +221,19 @@ module _ (config : Config) where
     ack_told kind =
         let k = ack_heard config.client_word config.server_word m (hops_in config past) adds law.channel hears kind in
         let P : T.Entry → Type 0 = λ b. b.call ≡ T.Reply client_end m.id k.bytes in
-        let there = located config.limit config.server_szx config.server_word P (trace past) (subst (Ever P) (far_is config past) k.given) in
-        by_law (TellsSent config.limit config.server_szx config.server_word) (Added P) (TellsAck m) (λ p b l h. l.0.replied client_end k.bytes m h k.are k.spells note) (trace past) told there
+        let there = located config.limit config.server_szx config.server_word P (trace past)
+        (subst (Ever P) (far_is config past) k.given) in
+        by_law (TellsSent config.limit config.server_szx config.server_word) (Added P) (TellsAck m)
+        (λ p b l h. l.0.replied client_end k.bytes m h k.are k.spells note) (trace past) told there
 
     -- in a NON
     pub non_told : m.kind ≡ Non → Sometime (ServesNon config.limit config.server_szx client_end) (trace past)
     non_told kind =
-        let k = non_heard config.server_word config.client_word m (across (hops_in config past)) adds law_across hears kind in
+        let k = non_heard config.server_word config.client_word m
+        (across (hops_in config past)) adds law_across hears kind in
         let P : T.Entry → Type 0 = λ b. PlainOut b (record { to = client_end; bytes = k.bytes }) in
-        let there = located config.limit config.server_szx config.server_word P (trace past) (subst (Ever P) near_there k.sent) in
-        by_law (TellsSent config.limit config.server_szx config.server_word) (Added P) (ServesNon config.limit config.server_szx client_end) (λ p b l h. (l.0.plain client_end k.bytes m h k.are k.spells note).1) (trace past) told there
+        let there = located config.limit config.server_szx config.server_word P (trace past)
+        (subst (Ever P) near_there k.sent) in
+        by_law (TellsSent config.limit config.server_szx config.server_word) (Added P)
+        (ServesNon config.limit config.server_szx client_end)
+        (λ p b l h. (l.0.plain client_end k.bytes m h k.are k.spells note).1) (trace past) told there

@@ -16,12 +16,14 @@ use Rattle.coap_world.specs.Record.{Entry, OfClient, OfServer, client_of, server
 module _ {E : Type 0} where
   -- at one entry both, or one of them behind the other
   pub order_of : (A B : List E → E → Type 0) (t : List E) → Sometime A t → Sometime B t
-      → Sometime (λ past e. A past e × B past e) t ⊎ (Sometime (λ past e. B past e × Sometime A past) t ⊎ Sometime (λ past e. A past e × Sometime B past) t)
+      → Sometime (λ past e. A past e × B past e) t
+      ⊎ (Sometime (λ past e. B past e × Sometime A past) t ⊎ Sometime (λ past e. A past e × Sometime B past) t)
   order_of A B [] a b = absurd a
   order_of A B (e ∷ t) (inl a) (inl b) = inl (inl (a, b))
   order_of A B (e ∷ t) (inl a) (inr b) = inr (inr (inl (a, b)))
   order_of A B (e ∷ t) (inr a) (inl b) = inr (inl (inl (b, a)))
-  order_of A B (e ∷ t) (inr a) (inr b) = ⊎_elim (λ x. inl (inr x)) (λ y. ⊎_elim (λ x. inr (inl (inr x))) (λ x. inr (inr (inr x))) y) (order_of A B t a b)
+  order_of A B (e ∷ t) (inr a) (inr b) = ⊎_elim (λ x. inl (inr x))
+      (λ y. ⊎_elim (λ x. inr (inl (inr x))) (λ x. inr (inr (inr x))) y) (order_of A B t a b)
 
 -- the hops, with the server's layer as the near one
 
@@ -39,10 +41,12 @@ across_far [] hs = refl
 across_far (x ∷ xs) hs = ap (λ t. Near x ∷ t) (across_far xs hs)
 
 -- in which call of a server its layer's entry was added
-pub located : (limit szx word : ℕ) (P : L.Entry → Type 0) (t : List S.Call) → Ever P (layer_of limit szx word t) → Sometime (λ past c. Ever P (call_adds limit szx word past c)) t
+pub located : (limit szx word : ℕ) (P : L.Entry → Type 0) (t : List S.Call) → Ever P (layer_of limit szx word t)
+    → Sometime (λ past c. Ever P (call_adds limit szx word past c)) t
 located limit szx word P [] h = absurd h
 located limit szx word P (c ∷ t) h =
-    elim (Ever_append P (call_adds limit szx word t c) (layer_of limit szx word t) (subst (Ever P) (layer_next limit szx word t c) h)) [
+    elim (Ever_append P (call_adds limit szx word t c) (layer_of limit szx word t)
+    (subst (Ever P) (layer_next limit szx word t c) h)) [
       | inl k ↦ inl k
       | inr k ↦ inr (located limit szx word P t k)
     ]
@@ -68,19 +72,22 @@ module _ (config : Config) where
   none_first P none (d ∷ ds) (inl h) = none (delays ds) d h
   none_first P none (d ∷ ds) (inr h) = none_first P none ds h
 
-  pub server_entries : (P : List S.Call → S.Call → Type 0) → NotAtFirst P → (all : List Entry) → Sometime P (server_trace config all) → Sometime (AtServer P) all
+  pub server_entries : (P : List S.Call → S.Call → Type 0) → NotAtFirst P → (all : List Entry)
+      → Sometime P (server_trace config all) → Sometime (AtServer P) all
   server_entries P none [] h = absurd (none_first P none config.delays h)
   server_entries P none (OfClient c ∷ past) h = inr (server_entries P none past h)
   server_entries P none (OfServer c ∷ past) (inl h) = inl h
   server_entries P none (OfServer c ∷ past) (inr h) = inr (server_entries P none past h)
 
-  pub client_entries : (P : List C.Call → C.Call → Type 0) → (all : List Entry) → Sometime P (client_of all) → Sometime (AtClient P) all
+  pub client_entries : (P : List C.Call → C.Call → Type 0) → (all : List Entry) → Sometime P (client_of all)
+      → Sometime (AtClient P) all
   client_entries P [] h = absurd h
   client_entries P (OfServer c ∷ past) h = inr (client_entries P past h)
   client_entries P (OfClient c ∷ past) (inl h) = inl h
   client_entries P (OfClient c ∷ past) (inr h) = inr (client_entries P past h)
 
   -- what held of the server's calls holds of more of them
-  pub server_more : (P : List S.Call → S.Call → Type 0) (e : Entry) (past : List Entry) → Sometime P (server_trace config past) → Sometime P (server_trace config (e ∷ past))
+  pub server_more : (P : List S.Call → S.Call → Type 0) (e : Entry) (past : List Entry)
+      → Sometime P (server_trace config past) → Sometime P (server_trace config (e ∷ past))
   server_more P (OfClient c) past h = h
   server_more P (OfServer c) past h = inr h

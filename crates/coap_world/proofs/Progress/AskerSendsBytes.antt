@@ -1,5 +1,5 @@
--- What the exchanges of a client ask to be sent is of bytes, where the requests that they are given are (RFC 7252, sections 3,
--- 5.2 and 5.3).
+-- What the exchanges of a client ask to be sent is of bytes, where the requests that they are given are (RFC 7252,
+-- sections 3, 5.2 and 5.3).
 use Rattle.std.proofs.Common.{ℕ, Bool, true, false, Option, Some, None, List, [], ◌∷◌}
 use Rattle.std.specs.Prelude.{IfSome}
 use Rattle.coap_types.specs.Bytes.{AreBytes}
@@ -32,7 +32,8 @@ token_are : (s : E.Own) (o : Option (List ℕ)) → IfSome o AreBytes → AreByt
 token_are s None h = high_are 8 _
 token_are s (Some token) h = h
 
-beneath_are : (o : Opening) (server : Endpoint) (content : L.Content) (word : ℕ) → ContentAre content → CallAre (Q.beneath o server content word)
+beneath_are : (o : Opening) (server : Endpoint) (content : L.Content) (word : ℕ) → ContentAre content
+    → CallAre (Q.beneath o server content word)
 beneath_are Running server content word h = tt
 beneath_are Spent server content word h = tt
 beneath_are Sends server content word h = h
@@ -48,19 +49,25 @@ reply_are Notice id = tt
 reply_are Await id = tt
 reply_are EndByReset id = tt
 
-settling_are : (b : Bool) (server : Endpoint) (o : Option Exchange) (settled : Bool) → EachAre (R.settling b server o settled)
+settling_are : (b : Bool) (server : Endpoint) (o : Option Exchange) (settled : Bool)
+    → EachAre (R.settling b server o settled)
 settling_are true server (Some x) settled = (tt, tt)
 settling_are true server None settled = tt
 settling_are false server o settled = tt
 
 lower_are : (s : E.Own) (c : E.Call) → RequestAre c → EachAre (P.lower s c)
-lower_are s (E.Ask now r w below answer) h =
-    (beneath_are (Q.opening_of s r) s.server (Q.content_of (Q.request_token s r) r) w (record { token = token_are s r.token h.0; values = h.1; payload = h.2 }), tt)
+lower_are s (E.Ask now r w below answer) h = (
+  beneath_are (Q.opening_of s r) s.server (Q.content_of (Q.request_token s r) r) w
+      (record { token = token_are s r.token h.0; values = h.1; payload = h.2 }),
+  tt,
+)
 lower_are s (E.Receive now from bytes up settled answer) h =
     let v : Verdict = R.verdict_on s from up in
     each_join _ (R.acts s from up settled v) (Q.asked now (L.Receive from bytes) up ∷ [])
-    (each_join _ (R.settling (R.settles v) s.server s.running settled) (R.replying from (R.id_in up) (R.reply_by v (R.id_in up)))
-    (settling_are (R.settles v) s.server s.running settled) (replying_are from (R.id_in up) (R.reply_by v (R.id_in up)) (reply_are v (R.id_in up)))) (tt, tt)
+    (each_join _ (R.settling (R.settles v) s.server s.running settled)
+    (R.replying from (R.id_in up) (R.reply_by v (R.id_in up)))
+    (settling_are (R.settles v) s.server s.running settled)
+    (replying_are from (R.id_in up) (R.reply_by v (R.id_in up)) (reply_are v (R.id_in up)))) (tt, tt)
 lower_are s (E.Ticks now below answer) h = (tt, tt)
 lower_are s (E.Keep token answer) h = tt
 lower_are s (E.Release token answer) h = tt
@@ -68,7 +75,8 @@ lower_are s (E.Take answer) h = (tt, tt)
 
 pub each_are : (server : Endpoint) (word : ℕ) (t : List E.Call) → Each RequestAre t → EachAre (W.lower_of server word t)
 each_are server word [] h = tt
-each_are server word (c ∷ t) h = each_join _ (P.lower (W.own_of server word t) c) (W.lower_of server word t) (lower_are (W.own_of server word t) c h.0) (each_are server word t h.1)
+each_are server word (c ∷ t) h = each_join _ (P.lower (W.own_of server word t) c) (W.lower_of server word t)
+    (lower_are (W.own_of server word t) c h.0) (each_are server word t h.1)
 
 -- what arrives is of bytes
 
@@ -80,16 +88,21 @@ abbrev Received : List Below → Type 0
 Received = Each (λ (a : Below). ReceivedAre a.call)
 
 input_are : (s : E.Own) (c : E.Call) → Received (P.lower s c) → InputAre c
-input_are s (E.Receive now from bytes up settled answer) h = last_of (λ (a : Below). ReceivedAre a.call) (R.acts s from up settled (R.verdict_on s from up)) (Q.asked now (L.Receive from bytes) up) h
+input_are s (E.Receive now from bytes up settled answer) h =
+    last_of (λ (a : Below). ReceivedAre a.call) (R.acts s from up settled (R.verdict_on s from up))
+    (Q.asked now (L.Receive from bytes) up) h
 input_are s (E.Ask now r w below answer) h = tt
 input_are s (E.Ticks now below answer) h = tt
 input_are s (E.Keep token answer) h = tt
 input_are s (E.Release token answer) h = tt
 input_are s (E.Take answer) h = tt
 
-pub inputs_are : (server : Endpoint) (word : ℕ) (t : List E.Call) → Received (W.lower_of server word t) → Each InputAre t
+pub inputs_are : (server : Endpoint) (word : ℕ) (t : List E.Call) → Received (W.lower_of server word t)
+    → Each InputAre t
 inputs_are server word [] h = tt
 inputs_are server word (c ∷ t) h = (
-  input_are (W.own_of server word t) c (each_front (λ (a : Below). ReceivedAre a.call) (P.lower (W.own_of server word t) c) (W.lower_of server word t) h),
-  inputs_are server word t (each_back (λ (a : Below). ReceivedAre a.call) (P.lower (W.own_of server word t) c) (W.lower_of server word t) h),
+  input_are (W.own_of server word t) c (each_front (λ (a : Below). ReceivedAre a.call)
+      (P.lower (W.own_of server word t) c) (W.lower_of server word t) h),
+  inputs_are server word t (each_back (λ (a : Below). ReceivedAre a.call) (P.lower (W.own_of server word t) c)
+      (W.lower_of server word t) h),
 )

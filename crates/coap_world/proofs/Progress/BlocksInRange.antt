@@ -1,4 +1,5 @@
--- The Block options that a server writes have numbers of 32 bits, where its size of blocks is one (RFC 7959, section 2.2).
+-- The Block options that a server writes have numbers of 32 bits, where its size of blocks is one (RFC 7959, section
+-- 2.2).
 use Rattle.std.proofs.Common.{◌≡◌, ◌≤◌, ◌<◌, ℕ, ◌+◌, ◌*◌, ◌/◌, ◌^◌, min, Bool, true, false, ◌&&◌, cond, nat_lt, nat_le}
 use Rattle.std.proofs.Common.{is_some, Option, Some, None, length}
 use Rattle.std.proofs.Common.{refl, subst, arith}
@@ -33,8 +34,10 @@ by_small n b h = by (nat_le (num_field n) max_num) refl (nat_le (szx_field n) ma
     found : Block
     found = record { num = num_field n; more = more_field n; szx = szx_field n }
 
-    by : (x : Bool) → nat_le (num_field n) max_num ≡ x → (y : Bool) → nat_le (szx_field n) max_szx ≡ y → cond (x && y) (Some found) None ≡ Some b → IsBlock b
-    by true e true g h = let same : found ≡ b = cc h in subst IsBlock same (record { num = le_is (num_field n) max_num e; szx = le_is (szx_field n) max_szx g })
+    by : (x : Bool) → nat_le (num_field n) max_num ≡ x → (y : Bool) → nat_le (szx_field n) max_szx ≡ y
+        → cond (x && y) (Some found) None ≡ Some b → IsBlock b
+    by true e true g h = let same : found ≡ b = cc h in subst IsBlock same
+        (record { num = le_is (num_field n) max_num e; szx = le_is (szx_field n) max_szx g })
     by true e false g h = absurd (cc h)
     by false e y g h = absurd (cc h)
 
@@ -52,14 +55,18 @@ value_small : (num more szx : ℕ) → num ≤ 67108864 → more ≤ 8 → szx �
 value_small num more szx h m k = omega (arith, h, m, k)
 
 pub written_small : (b : Block) → IsBlock b → block_value b < 2 ^ 32
-written_small b h = value_small b.num (more_bit b.more) b.szx (let k = h.num in omega (arith, k)) (bit_small b.more) h.szx
+written_small b h = value_small b.num (more_bit b.more) b.szx (let k = h.num in omega (arith, k))
+    (bit_small b.more) h.szx
 
-pub ended_small : (o : Option ℕ) → IfSome (option_map (λ (b : Block). block_value (record b { more = false })) (block_said o)) (λ n. n < 2 ^ 32)
+pub ended_small : (o : Option ℕ) → IfSome (option_map (λ (b : Block). block_value (record b { more = false }))
+    (block_said o)) (λ n. n < 2 ^ 32)
 ended_small o = by (block_said o) refl
   where
-    by : (s : Option Block) → block_said o ≡ s → IfSome (option_map (λ (b : Block). block_value (record b { more = false })) s) (λ n. n < 2 ^ 32)
+    by : (s : Option Block) → block_said o ≡ s → IfSome
+        (option_map (λ (b : Block). block_value (record b { more = false })) s) (λ n. n < 2 ^ 32)
     by None e = tt
-    by (Some b) e = let k = said_small o b e in written_small (record b { more = false }) (record { num = k.num; szx = k.szx })
+    by (Some b) e = let k = said_small o b e in written_small (record b { more = false })
+        (record { num = k.num; szx = k.szx })
 
 answered_small : (szx : ℕ) (b : Block) → IsBlock b → answered_szx szx b ≤ max_szx
 answered_small szx b h = by (b.num == 0)
@@ -68,8 +75,10 @@ answered_small szx b h = by (b.num == 0)
     by true = let k = h.szx in let m = min-le_left b.szx szx in omega (arith, k, m)
     by false = h.szx
 
-pub continued_small : (szx : ℕ) (b : Block) → IsBlock b → block_value (record { num = b.num; more = true; szx = answered_szx szx b }) < 2 ^ 32
-continued_small szx b h = written_small (record { num = b.num; more = true; szx = answered_szx szx b }) (record { num = h.num; szx = answered_small szx b h })
+pub continued_small : (szx : ℕ) (b : Block) → IsBlock b
+    → block_value (record { num = b.num; more = true; szx = answered_szx szx b }) < 2 ^ 32
+continued_small szx b h = written_small (record { num = b.num; more = true; szx = answered_szx szx b })
+    (record { num = h.num; szx = answered_small szx b h })
 
 -- the block of a representation
 
@@ -85,18 +94,25 @@ offset_most b h = let k = mul-le-mul h.num (size_most b.szx h.szx) in omega (ari
 number_most : (offset szx : ℕ) → offset ≤ 1073741824 → offset / size_of szx ≤ 67108864
 number_most offset szx h = div-le_of_le-mul (size_of szx) (let k = size_least szx in omega (arith, h, k))
 
-shown_small : (c : Bool) (offset szx : ℕ) (more : Bool) → offset ≤ 1073741824 → szx ≤ max_szx → IfSome (block_number (cond c (Some (offset / size_of szx, more, szx)) None)) (λ n. n < 2 ^ 32)
+shown_small : (c : Bool) (offset szx : ℕ) (more : Bool) → offset ≤ 1073741824 → szx ≤ max_szx
+    → IfSome (block_number (cond c (Some (offset / size_of szx, more, szx)) None)) (λ n. n < 2 ^ 32)
 shown_small false offset szx more h k = tt
-shown_small true offset szx more h k = value_small (offset / size_of szx) (more_bit more) szx (number_most offset szx h) (bit_small more) k
+shown_small true offset szx more h k = value_small (offset / size_of szx) (more_bit more) szx (number_most offset szx h)
+    (bit_small more) k
 
 pub content_small : (held : Held) (o : Option ℕ) (szx : ℕ) → szx ≤ max_szx
-    → IfSome (block_number (content_reply held (is_some (block_said o)) (offset_by (block_said o)) (szx_by (block_said o) szx)).block2) (λ n. n < 2 ^ 32)
+    → IfSome (block_number (content_reply held (is_some (block_said o)) (offset_by (block_said o))
+    (szx_by (block_said o) szx)).block2) (λ n. n < 2 ^ 32)
 content_small held o szx small = by (block_said o) refl
   where
-    by : (s : Option Block) → block_said o ≡ s → IfSome (block_number (content_reply held (is_some s) (offset_by s) (szx_by s szx)).block2) (λ n. n < 2 ^ 32)
-    by None e = shown_small (nat_lt (size_of szx) (length held.body)) 0 szx (nat_lt (0 + size_of szx) (length held.body)) (omega arith) small
+    by : (s : Option Block) → block_said o ≡ s → IfSome
+        (block_number (content_reply held (is_some s) (offset_by s) (szx_by s szx)).block2) (λ n. n < 2 ^ 32)
+    by None e = shown_small (nat_lt (size_of szx) (length held.body)) 0 szx
+        (nat_lt (0 + size_of szx) (length held.body)) (omega arith) small
     by (Some b) e =
         let k = said_small o b e in
         let m = min-le_left b.szx szx in
         let s = k.szx in
-        shown_small true (offset_of b.num b.szx) (min b.szx szx) (nat_lt (offset_of b.num b.szx + size_of (min b.szx szx)) (length held.body)) (offset_most b k) (omega (arith, s, m))
+        shown_small true (offset_of b.num b.szx) (min b.szx szx)
+        (nat_lt (offset_of b.num b.szx + size_of (min b.szx szx)) (length held.body)) (offset_most b k)
+        (omega (arith, s, m))

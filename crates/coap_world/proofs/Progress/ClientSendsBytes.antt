@@ -1,4 +1,5 @@
--- What a client sends is of bytes, where the paths, the bodies and the tags of its calls are (RFC 7252, sections 3 and 5.10).
+-- What a client sends is of bytes, where the paths, the bodies and the tags of its calls are (RFC 7252, sections 3 and
+-- 5.10).
 use Rattle.std.proofs.Common.{◌≡◌, ◌≤◌, ℕ, ◌<◌, ◌^◌, max, Bool, true, false, cond, Option, Some, None, List, [], ◌∷◌}
 use Rattle.std.proofs.Common.{◌++◌, map, refl, ap, sym, subst, ◌∙◌}
 use Rattle.std.proofs.Common.{arith, suc, Result, Ok, Err}
@@ -53,7 +54,10 @@ use Rattle.coap_world.proofs.Progress.ExchangesSendBytes.{steps_are, parts_are}
 
 values_of : (number : ℕ) (values : List (List ℕ)) → All AreBytes values → ValuesAre (map (option number) values)
 values_of number [] h = tt
-values_of number (v ∷ values) h = (h 0 v (omega arith), values_of number values (λ i d low. h (suc i) d (omega (arith, low))))
+values_of number (v ∷ values) h = (
+  h 0 v (omega arith),
+  values_of number values (λ i d low. h (suc i) d (omega (arith, low))),
+)
 
 number_are : (number : ℕ) (o : Option ℕ) → IfSome o (λ f. f < 2 ^ 16) → ValuesAre (uint_option number o)
 number_are number None h = tt
@@ -63,8 +67,10 @@ flag_are : (number : ℕ) (b : Bool) → ValuesAre (flag_option number b)
 flag_are number true = (none_are, tt)
 flag_are number false = tt
 
-conditions_are : (r : Request) → HeadAre r → ValuesAre (map (option if_match) r.if_match ++ flag_option if_none_match r.if_none_match)
-conditions_are r h = values_append (map (option if_match) r.if_match) (flag_option if_none_match r.if_none_match) (values_of if_match r.if_match h.if_match) (flag_are if_none_match r.if_none_match)
+conditions_are : (r : Request) → HeadAre r → ValuesAre
+    (map (option if_match) r.if_match ++ flag_option if_none_match r.if_none_match)
+conditions_are r h = values_append (map (option if_match) r.if_match) (flag_option if_none_match r.if_none_match)
+    (values_of if_match r.if_match h.if_match) (flag_are if_none_match r.if_none_match)
 
 before_are : (m : Method) (r : Request) → HeadAre r → ValuesAre (before_path m r)
 before_are Get r h = values_of etag r.etags h.etags
@@ -81,7 +87,8 @@ after_are Delete r h = tt
 options_are : (r : Request) → HeadAre r → ValuesAre (options_of r)
 options_are r h =
     values_append (before_path r.method r) (path_options r.path ++ after_path r.method r) (before_are r.method r h)
-    (values_append (path_options r.path) (after_path r.method r) (values_of uri_path r.path h.path) (after_are r.method r h))
+    (values_append (path_options r.path) (after_path r.method r) (values_of uri_path r.path h.path)
+    (after_are r.method r h))
 
 -- the message of an operation
 
@@ -98,14 +105,16 @@ found_are k (o ∷ os) h = by (o.number == k) (found_are k os h.1)
     by true f = h.0
     by false f = f
 
-path_in : (o : Option Observation) → IfSome o WatchAre → ValuesAre (path_options (elim o [ None ↦ [] | Some x ↦ x.path ]))
+path_in : (o : Option Observation) → IfSome o WatchAre
+    → ValuesAre (path_options (elim o [ None ↦ [] | Some x ↦ x.path ]))
 path_in None h = tt
 path_in (Some o) h = values_of uri_path o.path h.path
 
 abbrev rest_in : Option Observation → Option Notified
 rest_in o = elim o [ None ↦ None | Some x ↦ x.rest ]
 
-fetch_in : (o : Option Observation) → IfSome o WatchAre → ValuesAre (block2_option (elim (rest_in o) [ None ↦ None | Some n ↦ n.fetch.asked ]))
+fetch_in : (o : Option Observation) → IfSome o WatchAre
+    → ValuesAre (block2_option (elim (rest_in o) [ None ↦ None | Some n ↦ n.fetch.asked ]))
 fetch_in None h = tt
 fetch_in (Some o) h = by o.rest h.rest
   where
@@ -113,24 +122,43 @@ fetch_in (Some o) h = by o.rest h.rest
     by None k = tt
     by (Some n) k = k
 
-token_in : (o : Option Observation) → IfSome o WatchAre → IfSome (Rattle.std.specs.Option.option_map (λ (z : Observation). z.token) o) AreBytes
+token_in : (o : Option Observation) → IfSome o WatchAre
+    → IfSome (Rattle.std.specs.Option.option_map (λ (z : Observation). z.token) o) AreBytes
 token_in None h = tt
 token_in (Some o) h = h.token
 
 message_are : (os : List Observation) (op : Operation) → Each WatchAre os → OpAre op → MessageAre (message_of os op)
-message_are os (Calling k r t) ws h = record { token = tt; options = values_append (options_of r) (block_option t) (options_are r h.0) (block_are t h.1); payload = payload_are t h.1 }
-message_are os (Registering k path) ws h = record { token = tt; options = (uint_are 0 (omega arith), values_of uri_path path h); payload = none_are }
+message_are os (Calling k r t) ws h = record {
+  token = tt;
+  options = values_append (options_of r) (block_option t) (options_are r h.0) (block_are t h.1);
+  payload = payload_are t h.1;
+}
+message_are os (Registering k path) ws h = record
+    { token = tt; options = (uint_are 0 (omega arith), values_of uri_path path h); payload = none_are }
 message_are os (Fetching k) ws h =
     let f = found_are k os ws in
-    record { token = tt; options = values_append (path_options (elim (observation_of k os) [ None ↦ [] | Some x ↦ x.path ])) _ (path_in (observation_of k os) f) (fetch_in (observation_of k os) f); payload = none_are }
+    record {
+      token = tt;
+      options = values_append
+          (path_options (elim (observation_of k os) [ None ↦ [] | Some x ↦ x.path ])) _
+          (path_in (observation_of k os) f)
+          (fetch_in (observation_of k os) f);
+      payload = none_are;
+    }
 message_are os (Cancelling k) ws h =
     let f = found_are k os ws in
-    record { token = token_in (observation_of k os) f; options = (uint_are 1 (omega arith), path_in (observation_of k os) f); payload = none_are }
+    record {
+      token = token_in (observation_of k os) f;
+      options = (uint_are 1 (omega arith), path_in (observation_of k os) f);
+      payload = none_are;
+    }
 message_are os Dropped ws h = record { token = tt; options = tt; payload = none_are }
 
 -- what is asked for a deed
 
-deeds_are : (d : Deed) (s : Own) (now word : ℕ) (sent : L.Answer) (token : Result (List ℕ) AskRefusal) (kept : Bool) → ((op : Operation) → d ≡ Asks op → MessageAre (message_of s.observations op)) → Each RequestAre (deeds d s now word sent token kept)
+deeds_are : (d : Deed) (s : Own) (now word : ℕ) (sent : L.Answer) (token : Result (List ℕ) AskRefusal) (kept : Bool)
+    → ((op : Operation) → d ≡ Asks op → MessageAre (message_of s.observations op))
+    → Each RequestAre (deeds d s now word sent token kept)
 deeds_are Rests s now word sent token kept f = tt
 deeds_are (Asks op) s now word sent token kept f = let m = f op refl in ((m.token, m.options, m.payload), tt)
 deeds_are (Keeps t) s now word sent token kept f = (tt, tt)
@@ -143,14 +171,17 @@ failed_rests s (Fetching k) other h = cc h
 failed_rests s (Cancelling k) other h = releases_none _ other h
 failed_rests s Dropped other h = cc h
 
-closed_rests : (now : ℕ) (e : Effect) (d : Deed) (token : Result (List ℕ) AskRefusal) (op : Operation) → e.deed ≡ d → (closed now e d token).deed ≡ Asks op → ⊥
+closed_rests : (now : ℕ) (e : Effect) (d : Deed) (token : Result (List ℕ) AskRefusal) (op : Operation) → e.deed ≡ d
+    → (closed now e d token).deed ≡ Asks op → ⊥
 closed_rests now e (Asks o) (Ok key) op is h = cc h
 closed_rests now e (Asks o) (Err why) op is h = failed_rests e.own o op h
 closed_rests now e Rests token op is h = let k : Rests ≡ Asks op = sym is ∙ h in cc k
 closed_rests now e (Keeps t) token op is h = cc h
 closed_rests now e (Releases t) token op is h = cc h
 
-releases_are : (o : Option Observation) (s : Own) (kept : Bool) → Each RequestAre (deeds (Rattle.coap_ends.specs.ClientSide.ClientObserving.releases o) s 0 0 L.Nothing (Ok []) kept)
+releases_are : (o : Option Observation) (s : Own) (kept : Bool)
+    → Each RequestAre (deeds (Rattle.coap_ends.specs.ClientSide.ClientObserving.releases o) s 0 0 L.Nothing
+    (Ok []) kept)
 releases_are None s kept = tt
 releases_are (Some o) s kept = (tt, tt)
 
@@ -168,23 +199,33 @@ record Ready (e : Effect) : Type 0 where
   own : OwnAre e.own
   asks : (op : Operation) → e.deed ≡ Asks op → MessageAre (message_of e.own.observations op)
 
-ready : (s : Own) (now : ℕ) (told : Option Event) (e : Effect) → OwnAre s → ((m : Message) → Hears told m → AreBytes m.token) → Moved s now told e → Ready e
-ready s now told e h tokens moved = subst Ready (sym moved.1) (record { own = left; asks = λ op is. message_are _ op left.observations (runs op is) })
+ready : (s : Own) (now : ℕ) (told : Option Event) (e : Effect) → OwnAre s
+    → ((m : Message) → Hears told m → AreBytes m.token) → Moved s now told e → Ready e
+ready s now told e h tokens moved = subst Ready (sym moved.1)
+    (record { own = left; asks = λ op is. message_are _ op left.observations (runs op is) })
   where
     left : OwnAre (left_by s now told moved.0).own
     left = moves_are s now told h tokens moved.0
 
     runs : (op : Operation) → (left_by s now told moved.0).deed ≡ Asks op → OpAre op
-    runs op is = let k : IfSome (Some op) OpAre = subst (λ o. IfSome o OpAre) (asks_runs s now told moved.0 op is) left.running in k
+    runs op is = let k : IfSome (Some op) OpAre =
+        subst (λ o. IfSome o OpAre) (asks_runs s now told moved.0 op is) left.running in k
 
-module _ (now word : ℕ) (sent : L.Answer) (token : Result (List ℕ) AskRefusal) (kept : Bool) (e : Effect) (r : Ready e) where
+module _ (now word : ℕ) (sent : L.Answer) (token : Result (List ℕ) AskRefusal) (kept : Bool) (e : Effect)
+    (r : Ready e) where
   abbrev c : Effect
   c = closed now e e.deed token
 
-  done_are : (input : E.Call) → RequestAre input → Each RequestAre (deeds c.deed c.own now word sent token kept ++ (deeds e.deed e.own now word sent token kept ++ input ∷ []))
+  done_are : (input : E.Call) → RequestAre input
+      → Each RequestAre (deeds c.deed c.own now word sent token kept
+      ++ (deeds e.deed e.own now word sent token kept ++ input ∷ []))
   done_are input h =
-      each_join RequestAre (deeds c.deed c.own now word sent token kept) (deeds e.deed e.own now word sent token kept ++ input ∷ []) (deeds_are c.deed c.own now word sent token kept (λ op is. absurd (closed_rests now e e.deed token op refl is)))
-      (each_join RequestAre (deeds e.deed e.own now word sent token kept) (input ∷ []) (deeds_are e.deed e.own now word sent token kept r.asks) (h, tt))
+      each_join RequestAre (deeds c.deed c.own now word sent token kept)
+      (deeds e.deed e.own now word sent token kept ++ input ∷ [])
+      (deeds_are c.deed c.own now word sent token kept
+      (λ op is. absurd (closed_rests now e e.deed token op refl is)))
+      (each_join RequestAre (deeds e.deed e.own now word sent token kept) (input ∷ [])
+      (deeds_are e.deed e.own now word sent token kept r.asks) (h, tt))
 
   left_are : OwnAre c.own
   left_are = closed_are now e token r.own (closing now e token)
@@ -193,23 +234,40 @@ at_are : (now : ℕ) (s : Own) → OwnAre s → OwnAre (at now s)
 at_are now s h = record { szx = h.szx; queue = h.queue; running = h.running; observations = h.observations }
 
 -- an answer has a token of bytes
-heard_are : (server : Endpoint) (t : List Call) (now : ℕ) (from : Endpoint) (bytes : List ℕ) (w : ℕ) (up : L.Answer) (settled : Bool) (event : Option Event) (sent : L.Answer) (token : Result (List ℕ) AskRefusal) (kept : Bool)
-    → AreFromServer server (Feeds now from bytes w up settled event sent token kept ∷ t) → AreBytes bytes → (m : Message) → Hears event m → AreBytes m.token
+heard_are : (server : Endpoint) (t : List Call) (now : ℕ) (from : Endpoint) (bytes : List ℕ) (w : ℕ) (up : L.Answer)
+    (settled : Bool) (event : Option Event) (sent : L.Answer) (token : Result (List ℕ) AskRefusal) (kept : Bool)
+    → AreFromServer server (Feeds now from bytes w up settled event sent token kept ∷ t) → AreBytes bytes
+    → (m : Message) → Hears event m → AreBytes m.token
 heard_are server t now from bytes w up settled event sent token kept f are m is =
-    (parts_are bytes m are (f.0.came now from bytes w up settled event sent token kept m refl (ap Rattle.coap_exchange.specs.AskerFollows.message_told is)).1).0
+    (parts_are bytes m are (f.0.came now from bytes w up settled event sent token kept m refl
+    (ap Rattle.coap_exchange.specs.AskerFollows.message_told is)).1).0
 
 module _ (server : Endpoint) (szx : ℕ) (small : szx ≤ 6) where
-  call_are : (t : List Call) (c : Call) → AreFromServer server (c ∷ t) → CallInRange c → Each InputAre (lower (own_of szx t) c) → OwnAre (own_of szx t) → Leaves (own_of szx (c ∷ t)) (lower (own_of szx t) c)
+  call_are : (t : List Call) (c : Call) → AreFromServer server (c ∷ t) → CallInRange c
+      → Each InputAre (lower (own_of szx t) c) → OwnAre (own_of szx t)
+      → Leaves (own_of szx (c ∷ t)) (lower (own_of szx t) c)
   call_are t (Calls now r answer) f range inputs h = (calling_are (own_of szx t) now r answer h (λ n is. range), tt)
-  call_are t (Observes now path answer) f range inputs h = (observing_are (own_of szx t) now path answer h (λ n is. range), tt)
-  call_are t (Cancels now k None) f range inputs h = (record { szx = h.szx; queue = each_join OpAre (own_of szx t).queue (Cancelling k ∷ []) h.queue (tt, tt); running = h.running; observations = h.observations }, tt)
+  call_are t (Observes now path answer) f range inputs h =
+      (observing_are (own_of szx t) now path answer h (λ n is. range), tt)
+  call_are t (Cancels now k None) f range inputs h = (
+    record {
+      szx = h.szx;
+      queue = each_join OpAre (own_of szx t).queue (Cancelling k ∷ []) h.queue (tt, tt);
+      running = h.running;
+      observations = h.observations;
+    },
+    tt,
+  )
   call_are t (Cancels now k (Some why)) f range inputs h = (at_are now (own_of szx t) h, tt)
   call_are t (Forgets k kept true) f range inputs h =
-      let o = over_are k (own_of szx t) h in
-      (record { szx = o.szx; queue = o.queue; running = o.running; observations = o.observations }, releases_are (observation_of k (own_of szx t).observations) (own_of szx t) kept)
+      let o = over_are k (own_of szx t) h in (
+        record { szx = o.szx; queue = o.queue; running = o.running; observations = o.observations },
+        releases_are (observation_of k (own_of szx t).observations) (own_of szx t) kept,
+      )
   call_are t (Forgets k kept false) f range inputs h = (h, tt)
   call_are t (NextOut answer) f range inputs h = (h, (tt, tt))
-  call_are t (NextReport answer) f range inputs h = (record { szx = h.szx; queue = h.queue; running = h.running; observations = h.observations }, tt)
+  call_are t (NextReport answer) f range inputs h =
+      (record { szx = h.szx; queue = h.queue; running = h.running; observations = h.observations }, tt)
   call_are t (Asked answer) f range inputs h = (h, tt)
   call_are t (Feeds now from bytes w up settled event sent token kept) f range inputs h =
       let s : Own = own_of szx t in
@@ -217,20 +275,28 @@ module _ (server : Endpoint) (szx : ℕ) (small : szx ≤ 6) where
       let e : Effect = happened (at now s) m event in
       let c : Effect = closed m e e.deed token in
       let input : E.Call = E.Receive m from bytes up settled event in
-      let last = each_back InputAre (deeds c.deed c.own m w sent token kept) (deeds e.deed e.own m w sent token kept ++ input ∷ []) inputs in
+      let last = each_back InputAre (deeds c.deed c.own m w sent token kept)
+      (deeds e.deed e.own m w sent token kept ++ input ∷ []) inputs in
       let are = last_of InputAre (deeds e.deed e.own m w sent token kept) input last in
-      let r = ready (at now s) m event e (at_are now s h) (heard_are server t now from bytes w up settled event sent token kept f are) (happened_moves (at now s) m event) in
-      let o = left_are m w sent token kept e r in
-      (record { szx = o.szx; queue = o.queue; running = o.running; observations = o.observations }, done_are m w sent token kept e r input tt)
+      let r = ready (at now s) m event e (at_are now s h)
+      (heard_are server t now from bytes w up settled event sent token kept f are)
+      (happened_moves (at now s) m event) in
+      let o = left_are m w sent token kept e r in (
+        record { szx = o.szx; queue = o.queue; running = o.running; observations = o.observations },
+        done_are m w sent token kept e r input tt,
+      )
   call_are t (Ticks now w below turn sent token kept answer) f range inputs h =
       let s : Own = own_of szx t in
       let m : ℕ = max s.clock now in
       let e : Effect = passes (at now s) m turn in
       let r = ready (at now s) m None e (at_are now s h) (λ a is. absurd (cc is)) (passes_moves (at now s) m turn) in
-      let o = left_are m w sent token kept e r in
-      (record { szx = o.szx; queue = o.queue; running = o.running; observations = o.observations }, done_are m w sent token kept e r (E.Ticks m below turn) tt)
+      let o = left_are m w sent token kept e r in (
+        record { szx = o.szx; queue = o.queue; running = o.running; observations = o.observations },
+        done_are m w sent token kept e r (E.Ticks m below turn) tt,
+      )
 
-  all_are : (t : List Call) → AreFromServer server t → Each CallInRange t → Each InputAre (lower_of szx t) → Leaves (own_of szx t) (lower_of szx t)
+  all_are : (t : List Call) → AreFromServer server t → Each CallInRange t → Each InputAre (lower_of szx t)
+      → Leaves (own_of szx t) (lower_of szx t)
   all_are [] f range inputs = (record { szx = small; queue = tt; running = tt; observations = tt }, tt)
   all_are (c ∷ t) f range inputs =
       let s : Own = own_of szx t in
@@ -238,10 +304,13 @@ module _ (server : Endpoint) (szx : ℕ) (small : szx ≤ 6) where
       let j = call_are t c f range.0 (each_front InputAre (lower s c) (lower_of szx t) inputs) k.0 in
       (j.0, each_join RequestAre (lower s c) (lower_of szx t) j.1 k.1)
 
-pub client_are : (server : Endpoint) (szx word : ℕ) (t : List Call) → szx ≤ 6 → ClientLaw server szx word t → Each CallInRange t → (p : L.Packet) → Ever (λ e. IsIn p e.out) (layer_of server szx word t) → AreBytes p.bytes
+pub client_are : (server : Endpoint) (szx word : ℕ) (t : List Call) → szx ≤ 6 → ClientLaw server szx word t
+    → Each CallInRange t → (p : L.Packet) → Ever (λ e. IsIn p e.out) (layer_of server szx word t) → AreBytes p.bytes
 client_are server szx word t small law range p h =
     let calls : List E.Call = lower_of szx t in
     let under = law.exchanges in
     let received = steps_are (layer.start word) under.left (W.lower_of server word calls) under.layer in
-    let k = all_are server szx small t (facts.from_server server szx word t law) range (inputs_are server word calls received) in
-    sent_are p word (W.lower_of server word calls) (layer_stands server word calls under) (each_are server word calls k.1) h
+    let k = all_are server szx small t (facts.from_server server szx word t law) range
+    (inputs_are server word calls received) in
+    sent_are p word (W.lower_of server word calls) (layer_stands server word calls under)
+    (each_are server word calls k.1) h

@@ -31,6 +31,7 @@ each_filter P p (x ∷ xs) h = by (p x) (each_filter P p xs h.1)
     by true k = (h.0, k)
     by false k = k
 
-pub each_changed : {X : Type 0} (P : X → Type 0) (f : X → X) → ((x : X) → P x → P (f x)) → (xs : List X) → Each P xs → Each P (map f xs)
+pub each_changed : {X : Type 0} (P : X → Type 0) (f : X → X) → ((x : X) → P x → P (f x)) → (xs : List X) → Each P xs
+    → Each P (map f xs)
 each_changed P f keeps [] h = tt
 each_changed P f keeps (x ∷ xs) h = (keeps x h.0, each_changed P f keeps xs h.1)

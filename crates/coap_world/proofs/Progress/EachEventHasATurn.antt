@@ -31,11 +31,13 @@ use Rattle.coap_world.proofs.Progress.GivenOutIsBytes.{given_are}
 use Rattle.coap_world.proofs.Delivery.OneEndATurn.{client_client, client_server, server_server, server_client}
 
 -- ticks, in the words of a record
-are_ticks : {X : Type 0} (IsTick : Bool → X → Type 0) (calls : List X) → UpToIdle IsTick calls → AreTicks IsTick false calls
+are_ticks : {X : Type 0} (IsTick : Bool → X → Type 0) (calls : List X) → UpToIdle IsTick calls
+    → AreTicks IsTick false calls
 are_ticks IsTick [] h = h
 are_ticks IsTick (c ∷ calls) h = h
 
-module _ (config : Config) (events : List Event) (turns : List Turn) (run : RecordOf config events turns) (range : IsConfig config) (legal : AllLegal turns) (at word : ℕ) where
+module _ (config : Config) (events : List Event) (turns : List Turn) (run : RecordOf config events turns)
+    (range : IsConfig config) (legal : AllLegal turns) (at word : ℕ) where
   abbrev event : What → Event
   event what = record { at = at; word = word; what = what }
 
@@ -55,58 +57,89 @@ module _ (config : Config) (events : List Event) (turns : List Turn) (run : Reco
   server_goes_on = server_facts.goes config.limit config.server_szx config.server_word servers run.server
 
   -- a turn that makes these entries
-  follows : (what : What) → MayHappen turns (event what) → (entries : List Entry) → Makes turns at word what false entries
-      → ClientLaw server_end config.client_szx config.client_word (client_of (entries ++ all)) → ServerLaw config.limit config.server_szx config.server_word (server_trace config (entries ++ all))
+  follows : (what : What) → MayHappen turns (event what) → (entries : List Entry)
+      → Makes turns at word what false entries
+      → ClientLaw server_end config.client_szx config.client_word (client_of (entries ++ all))
+      → ServerLaw config.limit config.server_szx config.server_word (server_trace config (entries ++ all))
       → Follows config events turns (event what)
   follows what may entries makes on_client on_server = record {
     entries = entries;
-    made = record { events_are = ap (λ es. event what ∷ es) run.events_are; made = (makes, run.made); client = on_client; server = on_server };
-    legal = record { range = range; events = (record { at = may.at; word = may.word; range = may.range; later = may.later; comes = may.comes }, legal) };
+    made = record {
+      events_are = ap (λ es. event what ∷ es) run.events_are;
+      made = (makes, run.made);
+      client = on_client;
+      server = on_server;
+    };
+    legal = record {
+      range = range;
+      events = (
+        record
+            { at = may.at; word = may.word; range = may.range; later = may.later; comes = may.comes },
+        legal,
+      );
+    };
   }
 
   -- a turn of the client: its calls, all that it has out, and its reports
-  of_client : (what : What) → MayHappen turns (event what) → (calls : List C.Call) → ClientLaw server_end config.client_szx config.client_word (calls ++ clients)
-      → ((entries : List Entry) → OnClient calls entries → Makes turns at word what false entries) → Follows config events turns (event what)
+  of_client : (what : What) → MayHappen turns (event what) → (calls : List C.Call)
+      → ClientLaw server_end config.client_szx config.client_word (calls ++ clients)
+      → ((entries : List Entry) → OnClient calls entries → Makes turns at word what false entries)
+      → Follows config events turns (event what)
   of_client what may calls law makes =
-      let outs = (client_calls.comes_to_rest server_end config.client_szx config.client_word (calls ++ clients) law).outs in
-      let reports = (client_calls.comes_to_rest server_end config.client_szx config.client_word (all_taken C.NextOut outs.0 ++ (calls ++ clients)) outs.1).reports in
+      let outs = (client_calls.comes_to_rest server_end config.client_szx config.client_word
+      (calls ++ clients) law).outs in
+      let reports = (client_calls.comes_to_rest server_end config.client_szx config.client_word
+      (all_taken C.NextOut outs.0 ++ (calls ++ clients)) outs.1).reports in
       let taken : List C.Call = C.NextOut None ∷ (map (λ p. C.NextOut (Some p)) outs.0 ++ calls) in
       let given : List C.Call = map (λ r. C.NextReport (Some r)) reports.0 in
       let list : List C.Call = C.NextReport None ∷ (given ++ taken) in
-      let same : list ++ clients ≡ all_taken C.NextReport reports.0 ++ (all_taken C.NextOut outs.0 ++ (calls ++ clients)) =
+      let same : list ++ clients ≡ all_taken C.NextReport reports.0
+      ++ (all_taken C.NextOut outs.0 ++ (calls ++ clients)) =
       ap (λ xs. C.NextReport None ∷ xs)
-      (append_assoc given taken clients ∙ ap (λ xs. given ++ C.NextOut None ∷ xs) (append_assoc (map (λ p. C.NextOut (Some p)) outs.0) calls clients)) in
-      follows what may (map OfClient list) (makes (map OfClient list) (record { outs = outs.0; reports = reports.0; is = refl }))
-      (subst (ClientLaw server_end config.client_szx config.client_word) (sym (client_client list all ∙ same)) reports.1)
-      (subst (λ xs. ServerLaw config.limit config.server_szx config.server_word (xs ++ begun_with config)) (sym (server_client list all)) run.server)
+      (append_assoc given taken clients ∙ ap (λ xs. given ++ C.NextOut None ∷ xs)
+      (append_assoc (map (λ p. C.NextOut (Some p)) outs.0) calls clients)) in
+      follows what may (map OfClient list) (makes (map OfClient list)
+      (record { outs = outs.0; reports = reports.0; is = refl }))
+      (subst (ClientLaw server_end config.client_szx config.client_word)
+      (sym (client_client list all ∙ same)) reports.1)
+      (subst (λ xs. ServerLaw config.limit config.server_szx config.server_word (xs ++ begun_with config))
+      (sym (server_client list all)) run.server)
 
   -- a turn of the server: its calls, and all that it has out
-  of_server : (what : What) → MayHappen turns (event what) → (calls : List S.Call) → ServerLaw config.limit config.server_szx config.server_word (calls ++ servers)
-      → ((entries : List Entry) → OnServer calls entries → Makes turns at word what false entries) → Follows config events turns (event what)
+  of_server : (what : What) → MayHappen turns (event what) → (calls : List S.Call)
+      → ServerLaw config.limit config.server_szx config.server_word (calls ++ servers)
+      → ((entries : List Entry) → OnServer calls entries → Makes turns at word what false entries)
+      → Follows config events turns (event what)
   of_server what may calls law makes =
       let outs = (server_facts.rests config.limit config.server_szx config.server_word (calls ++ servers) law).outs in
       let given : List S.Call = map (λ p. S.NextOut (Some p)) outs.0 in
       let list : List S.Call = S.NextOut None ∷ (given ++ calls) in
       let same : (list ++ server_of all) ++ begun_with config ≡ all_taken S.NextOut outs.0 ++ (calls ++ servers) =
-      append_assoc list (server_of all) (begun_with config) ∙ ap (λ xs. S.NextOut None ∷ xs) (append_assoc given calls servers) in
+      append_assoc list (server_of all) (begun_with config)
+      ∙ ap (λ xs. S.NextOut None ∷ xs) (append_assoc given calls servers) in
       follows what may (map OfServer list) (makes (map OfServer list) (record { outs = outs.0; is = refl }))
       (subst (ClientLaw server_end config.client_szx config.client_word) (sym (client_server list all)) run.client)
-      (subst (ServerLaw config.limit config.server_szx config.server_word) (sym (ap (λ xs. xs ++ begun_with config) (server_server list all) ∙ same)) outs.1)
+      (subst (ServerLaw config.limit config.server_szx config.server_word)
+      (sym (ap (λ xs. xs ++ begun_with config) (server_server list all) ∙ same)) outs.1)
 
   -- a datagram
   to_client : (what : What) → MayHappen turns (event what) → (from : Endpoint) (bytes : List ℕ) → AreBytes bytes
-      → ((calls : List C.Call) (entries : List Entry) → IsOne (FeedsClient at word from bytes) false calls → OnClient calls entries → Makes turns at word what false entries) → Follows config events turns (event what)
+      → ((calls : List C.Call) (entries : List Entry) → IsOne (FeedsClient at word from bytes) false calls
+      → OnClient calls entries → Makes turns at word what false entries) → Follows config events turns (event what)
   to_client what may from bytes are makes =
       let k = client_goes_on.feeds at from bytes word are in
       let call : C.Call = C.Feeds at from bytes word k.0 k.1 k.2 k.3 k.4 k.5 in
-      of_client what may (call ∷ []) k.6 (λ entries on. makes (call ∷ []) entries (call, (k.0, k.1, k.2, k.3, k.4, k.5, refl), refl) on)
+      of_client what may (call ∷ []) k.6 (λ entries on. makes (call ∷ []) entries
+      (call, (k.0, k.1, k.2, k.3, k.4, k.5, refl), refl) on)
 
   to_server : (what : What) → MayHappen turns (event what) → (from : Endpoint) (bytes : List ℕ) → AreBytes bytes
-      → ((calls : List S.Call) (entries : List Entry) → IsOne (FeedsServer at word from bytes) false calls → OnServer calls entries → Makes turns at word what false entries) → Follows config events turns (event what)
+      → ((calls : List S.Call) (entries : List Entry) → IsOne (FeedsServer at word from bytes) false calls
+      → OnServer calls entries → Makes turns at word what false entries) → Follows config events turns (event what)
   to_server what may from bytes are makes =
       let k = server_goes_on.feeds at from bytes word are in
       let call : S.Call = S.Feeds at from bytes word k.0 k.1 k.2 k.3 in
-      of_server what may (call ∷ []) k.4 (λ entries on. makes (call ∷ []) entries (call, (k.0, k.1, k.2, k.3, refl), refl) on)
+      of_server what may (call ∷ []) k.4 (λ entries on. makes (call ∷ []) entries
+      (call, (k.0, k.1, k.2, k.3, refl), refl) on)
 
   by_what : (what : What) → MayHappen turns (event what) → Follows config events turns (event what)
   by_what (Calls r) may =
@@ -124,34 +157,42 @@ module _ (config : Config) (events : List Event) (turns : List Turn) (run : Reco
   by_what (Forgets number) may =
       let k = client_goes_on.forgets number in
       let call : C.Call = C.Forgets number k.0 k.1 in
-      of_client (Forgets number) may (call ∷ []) k.2 (λ entries on. (call ∷ [], ((call, (k.0, k.1, refl), refl), refl), on))
+      of_client (Forgets number) may (call ∷ []) k.2
+      (λ entries on. (call ∷ [], ((call, (k.0, k.1, refl), refl), refl), on))
   by_what (Sets path format body) may =
       let k = server_goes_on.sets at path format body in
       let call : S.Call = S.Sets at path format body k.0 k.1 in
-      of_server (Sets path format body) may (call ∷ []) k.2 (λ entries on. (call ∷ [], (call, (k.0, k.1, refl), refl), on))
+      of_server (Sets path format body) may (call ∷ []) k.2
+      (λ entries on. (call ∷ [], (call, (k.0, k.1, refl), refl), on))
   by_what (Removes path) may =
       let k = server_goes_on.removes at path in
       let call : S.Call = S.Removes at path k.0 k.1 in
       of_server (Removes path) may (call ∷ []) k.2 (λ entries on. (call ∷ [], (call, (k.0, k.1, refl), refl), on))
   by_what TickClient may =
-      let k = (client_calls.comes_to_rest server_end config.client_szx config.client_word clients run.client).ticks at word in
+      let k = (client_calls.comes_to_rest server_end config.client_szx config.client_word clients run.client).ticks at
+      word in
       of_client TickClient may k.0 k.2 (λ entries on. (k.0, are_ticks (ClientTick at word) k.0 k.1, on))
   by_what TickServer may =
       let k = (server_facts.rests config.limit config.server_szx config.server_word servers run.server).ticks at word in
       of_server TickServer may k.0 k.2 (λ entries on. (k.0, are_ticks (ServerTick at word) k.0 k.1, on))
-  by_what (StrangerToClient from bytes) may = to_client (StrangerToClient from bytes) may from bytes may.range.1 (λ calls entries one on. (calls, one, on))
-  by_what (StrangerToServer from bytes) may = to_server (StrangerToServer from bytes) may from bytes may.range.1 (λ calls entries one on. (calls, one, on))
+  by_what (StrangerToClient from bytes) may = to_client (StrangerToClient from bytes) may from bytes may.range.1
+      (λ calls entries one on. (calls, one, on))
+  by_what (StrangerToServer from bytes) may = to_server (StrangerToServer from bytes) may from bytes may.range.1
+      (λ calls entries one on. (calls, one, on))
   by_what (Deliver number) may =
       let g = may.comes.0 in
       let is = may.comes.1 in
       let are = given_are config events turns run (record { range = range; events = legal }) g number is in
       elim may.comes.2 as (λ u. Follows config events turns (event (Deliver number))) [
-        | inl to ↦ to_client (Deliver number) may g.from g.packet.bytes are (λ calls entries one on. (g, is, inr (to, calls, one, on)))
-        | inr to ↦ to_server (Deliver number) may g.from g.packet.bytes are (λ calls entries one on. (g, is, inl (to, calls, one, on)))
+        | inl to ↦ to_client (Deliver number) may g.from g.packet.bytes are
+            (λ calls entries one on. (g, is, inr (to, calls, one, on)))
+        | inr to ↦ to_server (Deliver number) may g.from g.packet.bytes are
+            (λ calls entries one on. (g, is, inl (to, calls, one, on)))
       ]
 
 pub goes_on : (config : Config) → GoesOn config
-goes_on config events turns event run legal may = by_what config events turns run legal.range legal.events event.at event.word event.what may
+goes_on config events turns event run legal may =
+    by_what config events turns run legal.range legal.events event.at event.word event.what may
 
 -- the beginning
 
@@ -159,7 +200,8 @@ few_others : (path : List (List ℕ)) (ds : List S.Delay) → length (others pat
 few_others path [] = omega arith
 few_others path (d ∷ ds) = by (not (same_path d.path path)) (few_others path ds)
   where
-    by : (b : Bool) → length (others path ds) ≤ length ds → length (cond b (d ∷ others path ds) (others path ds)) ≤ length (d ∷ ds)
+    by : (b : Bool) → length (others path ds) ≤ length ds
+        → length (cond b (d ∷ others path ds) (others path ds)) ≤ length (d ∷ ds)
     by true h = omega (arith, h)
     by false h = omega (arith, h)
 
@@ -176,25 +218,44 @@ module _ (config : Config) where
       let e = length-append (others d.path have) (record { path = d.path; ms = d.ms } ∷ []) in
       omega (arith, k, o, e)
 
-  begins_by : (ds : List S.Delay) → length ds ≤ max_delays → ServerLaw config.limit config.server_szx config.server_word (begun_by ds)
-  begins_by [] few = record { rows = tt; exchanges = record { rows = tt; left = layer.start config.server_word; layer = refl } }
+  begins_by : (ds : List S.Delay) → length ds ≤ max_delays
+      → ServerLaw config.limit config.server_szx config.server_word (begun_by ds)
+  begins_by [] few = record {
+    rows = tt;
+    exchanges =
+        record { rows = tt; left = layer.start config.server_word; layer = refl };
+  }
   begins_by (d ∷ ds) few =
       let have = (own_of config.limit config.server_szx (begun_by ds)).delays in
       let k = few_delays ds in
       let o = few_others d.path have in
       let law = begins_by ds (omega (arith, few)) in
-      record { rows = (sym (lt-ltb (length (others d.path have)) max_delays (omega (arith, few, k, o))), law.rows); exchanges = law.exchanges }
+      record {
+        rows = (sym (lt-ltb (length (others d.path have)) max_delays (omega (arith, few, k, o))), law.rows);
+        exchanges = law.exchanges;
+      }
 
   begins : IsConfig config → RecordOf config [] []
   begins range = record {
     events_are = refl;
     made = tt;
-    client = record { rows = tt; exchanges = record { rows = tt; left = layer.start config.client_word; layer = refl } };
+    client = record {
+      rows = tt;
+      exchanges = record
+          { rows = tt; left = layer.start config.client_word; layer = refl };
+    };
     server = begins_by config.delays range.few;
   }
 
   pub has_record : IsConfig config → (events : List Event) → MayRun config events → HasRecord config events
-  has_record range [] may = ([], record { made = begins range; legal = record { range = range; events = tt }; all_made = tt })
+  has_record range [] may = (
+    [],
+    record {
+      made = begins range;
+      legal = record { range = range; events = tt };
+      all_made = tt;
+    },
+  )
   has_record range (event ∷ events) may =
       let k = has_record range events may.1 in
       let f = goes_on config events k.0 event k.1.made k.1.legal (may.0 k.0 k.1) in

@@ -1,5 +1,5 @@
--- What the exchanges of a server ask to be sent is of bytes, where the responses that they are given are; and what arrives
--- is of bytes (RFC 7252, sections 3 and 5.2).
+-- What the exchanges of a server ask to be sent is of bytes, where the responses that they are given are; and what
+-- arrives is of bytes (RFC 7252, sections 3 and 5.2).
 use Rattle.std.proofs.Common.{ℕ, Bool, true, false, Option, Some, None, List, [], ◌∷◌, ◌++◌, refl, sym, subst, cond}
 use Rattle.coap_types.specs.declared.message.Kind.{Kind}
 use Rattle.coap_types.specs.declared.message.Kind.TheVariants.{Con, Non, Ack, Rst}
@@ -38,7 +38,8 @@ RespondAre (E.Responds now a r word id) = AreBytes a.token × ResponseAre r
 RespondAre (E.Notifies now to token r word id) = AreBytes token × ResponseAre r
 RespondAre c = Unit {0}
 
-answering_are : (s : E.Own) (kind : Kind) (a : Asked) (r : E.Response) → P.IsResponse a r → AreBytes a.token → ResponseAre r → CallAre (P.answering s kind a r)
+answering_are : (s : E.Own) (kind : Kind) (a : Asked) (r : E.Response) → P.IsResponse a r → AreBytes a.token
+    → ResponseAre r → CallAre (P.answering s kind a r)
 answering_are s Con a r is h k = λ low.
     let m : Message = with_head Ack a.id.0 (P.content_of a r) in
     let spells : Spells (message_bytes m) m = is.spelled Ack a.id.0 low in
@@ -74,21 +75,28 @@ room_are now (Some d) room = (tt, tt)
 
 lower_are : (s : E.Own) (c : E.Call) → P.IsRight s c → RespondAre c → EachAre (P.lower s c)
 lower_are s (E.Incoming now from bytes up came) right h =
-    each_join (λ (a : Below). CallAre a.call) (R.replying from (R.id_in up) (P.reject_by up)) (asked now (L.Receive from bytes) up ∷ []) (replying_are from (R.id_in up) (P.reject_by up) (reject_are up)) (tt, tt)
+    each_join (λ (a : Below). CallAre a.call) (R.replying from (R.id_in up) (P.reject_by up))
+    (asked now (L.Receive from bytes) up ∷ []) (replying_are from (R.id_in up) (P.reject_by up) (reject_are up))
+    (tt, tt)
 lower_are s (E.Answers a r below) right h = (answering_are s a.kind a r right.1 h.0 h.1, tt)
 lower_are s (E.Defers now a delay answer) right h =
-    each_join (λ (b : Below). CallAre b.call) (P.deferring (P.may_defer s.deferred) a) (asked now L.Pass L.Nothing ∷ []) (deferring_are (P.may_defer s.deferred) a) (tt, tt)
+    each_join (λ (b : Below). CallAre b.call) (P.deferring (P.may_defer s.deferred) a) (asked now L.Pass L.Nothing ∷ [])
+    (deferring_are (P.may_defer s.deferred) a) (tt, tt)
 lower_are s (E.Ticks now below room d) right h =
     let o : Option Deferred = P.ready_if below (P.ready_at s now) in
-    each_join (λ (b : Below). CallAre b.call) (P.asking_room now o room) (asked now L.Ticks below ∷ []) (room_are now o room) (tt, tt)
-lower_are s (E.Responds now a r word id) right h = (record { token = h.0; values = h.1.values; payload = h.1.payload }, tt)
+    each_join (λ (b : Below). CallAre b.call) (P.asking_room now o room) (asked now L.Ticks below ∷ [])
+    (room_are now o room) (tt, tt)
+lower_are s (E.Responds now a r word id) right h =
+    (record { token = h.0; values = h.1.values; payload = h.1.payload }, tt)
 lower_are s (E.Ready now to answer) right h = (tt, tt)
-lower_are s (E.Notifies now to token r word id) right h = (record { token = h.0; values = h.1.values; payload = h.1.payload }, tt)
+lower_are s (E.Notifies now to token r word id) right h =
+    (record { token = h.0; values = h.1.values; payload = h.1.payload }, tt)
 lower_are s (E.Take answer) right h = (tt, tt)
 
 pub each_are : (t : List E.Call) → W.AnswererLaw t → Each RespondAre t → EachAre (W.lower_of t)
 each_are [] law h = tt
-each_are (c ∷ t) law h = each_join (λ (b : Below). CallAre b.call) (P.lower (W.own_of t) c) (W.lower_of t) (lower_are (W.own_of t) c law.0 h.0) (each_are t law.1 h.1)
+each_are (c ∷ t) law h = each_join (λ (b : Below). CallAre b.call) (P.lower (W.own_of t) c) (W.lower_of t)
+    (lower_are (W.own_of t) c law.0 h.0) (each_are t law.1 h.1)
 
 -- arrivals
 
@@ -108,7 +116,8 @@ may_are s (L.Room to) h = tt
 may_are s L.AsksFree h = tt
 may_are s L.Pass h = tt
 
-pub steps_are : (old new : S.State) (calls : List Below) → Steps old calls new → Each (λ (a : Below). ReceivedAre a.call) calls
+pub steps_are : (old new : S.State) (calls : List Below) → Steps old calls new
+    → Each (λ (a : Below). ReceivedAre a.call) calls
 steps_are old new [] h = tt
 steps_are old new (a ∷ earlier) h = (may_are h.0 a.call h.2.may, steps_are old h.0 earlier h.1)
 
@@ -120,8 +129,12 @@ unmarked (b ∷ bytes) h = AreBytes-tail 255 (b ∷ bytes) h
 pub parts_are : (bytes : List ℕ) (m : Message) → AreBytes bytes → Spells bytes m → AreBytes m.token × AreBytes m.payload
 parts_are bytes m are s =
     let rest : List ℕ = s.option_bytes ++ marked m.payload in
-    let behind : AreBytes (m.token ++ rest) = AreBytes-rest (header m) (m.token ++ rest) (subst AreBytes s.parts are) in
-    (AreBytes-front m.token rest behind, unmarked m.payload (AreBytes-rest s.option_bytes (marked m.payload) (AreBytes-rest m.token rest behind)))
+    let behind : AreBytes (m.token ++ rest) = AreBytes-rest (header m) (m.token ++ rest)
+    (subst AreBytes s.parts are) in (
+      AreBytes-front m.token rest behind,
+      unmarked m.payload
+          (AreBytes-rest s.option_bytes (marked m.payload) (AreBytes-rest m.token rest behind)),
+    )
 
 abbrev pub CameAre : Option (Asked × Message) → Type 0
 CameAre None = Unit {0}
@@ -131,10 +144,12 @@ abbrev pub IncomingAre : E.Call → Type 0
 IncomingAre (E.Incoming now from bytes up came) = CameAre came
 IncomingAre c = Unit {0}
 
-incoming_are : (s : E.Own) (c : E.Call) → CameIn c → Each (λ (a : Below). ReceivedAre a.call) (P.lower s c) → IncomingAre c
+incoming_are : (s : E.Own) (c : E.Call) → CameIn c → Each (λ (a : Below). ReceivedAre a.call) (P.lower s c)
+    → IncomingAre c
 incoming_are s (E.Incoming now from bytes up None) r h = tt
 incoming_are s (E.Incoming now from bytes up (Some p)) r h =
-    let are = last_of (λ (a : Below). ReceivedAre a.call) (R.replying from (R.id_in up) (P.reject_by up)) (asked now (L.Receive from bytes) up) h in
+    let are = last_of (λ (a : Below). ReceivedAre a.call) (R.replying from (R.id_in up) (P.reject_by up))
+    (asked now (L.Receive from bytes) up) h in
     let k = r.came now from bytes up p.0 p.1 refl in
     let parts = parts_are bytes p.1 are k.1 in
     (subst (λ (a : Asked). AreBytes a.token) (sym k.0) parts.0, parts.1)
@@ -146,9 +161,11 @@ incoming_are s (E.Ready now to answer) c h = tt
 incoming_are s (E.Notifies now to token r word id) c h = tt
 incoming_are s (E.Take answer) c h = tt
 
-pub all_incoming : (t : List E.Call) → AreRequests t → Each (λ (a : Below). ReceivedAre a.call) (W.lower_of t) → Each IncomingAre t
+pub all_incoming : (t : List E.Call) → AreRequests t → Each (λ (a : Below). ReceivedAre a.call) (W.lower_of t)
+    → Each IncomingAre t
 all_incoming [] r h = tt
 all_incoming (c ∷ t) r h = (
-  incoming_are (W.own_of t) c r.0 (each_front (λ (a : Below). ReceivedAre a.call) (P.lower (W.own_of t) c) (W.lower_of t) h),
+  incoming_are (W.own_of t) c r.0 (each_front (λ (a : Below). ReceivedAre a.call) (P.lower (W.own_of t) c)
+      (W.lower_of t) h),
   all_incoming t r.1 (each_back (λ (a : Below). ReceivedAre a.call) (P.lower (W.own_of t) c) (W.lower_of t) h),
 )

@@ -36,14 +36,16 @@ module _ (p : L.Packet) where
   source_are call h (inl g) = let k : CallAre (L.Reply p.to g.id p.bytes) = subst CallAre g.call_is h in k g.small
   source_are call h (inr g) =
       let c : ContentAre g.content = elim g.call_is [ inl k ↦ subst CallAre k h | inr k ↦ subst CallAre k.1 h ] in
-      subst AreBytes (sym g.bytes) (message_are (with_head g.kind g.id g.content) g.spells.code g.spells.token (record { token = c.token; values = c.values; payload = c.payload }))
+      subst AreBytes (sym g.bytes) (message_are (with_head g.kind g.id g.content) g.spells.code g.spells.token
+      (record { token = c.token; values = c.values; payload = c.payload }))
 
   each_source : (calls : List Asked) → EachAre calls → Ever (λ (b : Asked). Source p b.call) calls → AreBytes p.bytes
   each_source [] are h = absurd h
   each_source (a ∷ calls) are (inl h) = source_are a.call are.0 h
   each_source (a ∷ calls) are (inr h) = each_source calls are.1 h
 
-  pub sent_are : (word : ℕ) (calls : List Asked) → LayerLaw word (entries (start word) calls) → EachAre calls → Ever (λ e. IsIn p e.out) (entries (start word) calls) → AreBytes p.bytes
+  pub sent_are : (word : ℕ) (calls : List Asked) → LayerLaw word (entries (start word) calls) → EachAre calls
+      → Ever (λ e. IsIn p e.out) (entries (start word) calls) → AreBytes p.bytes
   sent_are word calls law are h =
       elim (sourced word p (entries (start word) calls) law h) [
         | inl k ↦ empty_are p.bytes k.0 k.1 k.2
@@ -54,7 +56,10 @@ module _ (p : L.Packet) where
 
 four_are : (first id : ℕ) → first < 256 → id < 65536 → AreBytes (first ∷ 0 ∷ id / 256 ∷ id % 256 ∷ [])
 four_are first id small low =
-    cons_are first (0 ∷ id / 256 ∷ id % 256 ∷ []) small (cons_are 0 (id / 256 ∷ id % 256 ∷ []) (omega arith) (cons_are (id / 256) (id % 256 ∷ []) (omega (arith, low)) (cons_are (id % 256) [] (mod-lt id {m = 256} (omega arith)) none_are)))
+    cons_are first (0 ∷ id / 256 ∷ id % 256 ∷ []) small
+    (cons_are 0 (id / 256 ∷ id % 256 ∷ []) (omega arith)
+    (cons_are (id / 256) (id % 256 ∷ []) (omega (arith, low))
+    (cons_are (id % 256) [] (mod-lt id {m = 256} (omega arith)) none_are)))
 
 pub ack_are : (id : ℕ) → id < 65536 → AreBytes (ack_bytes id)
 ack_are id low = four_are 0x60 id (omega arith) low

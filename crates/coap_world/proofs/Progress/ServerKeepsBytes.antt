@@ -1,5 +1,5 @@
--- What a server keeps is of bytes, where the bodies of its local changes are, and what arrives (RFC 7252, sections 3, 5.2 and
--- 5.8; RFC 7641, section 4; RFC 7959, section 2.5).
+-- What a server keeps is of bytes, where the bodies of its local changes are, and what arrives (RFC 7252, sections 3,
+-- 5.2 and 5.8; RFC 7641, section 4; RFC 7959, section 2.5).
 use Rattle.std.proofs.Common.{◌≡◌, ◌≤◌, ◌<◌, ℕ, ◌-◌, ◌^◌, nat_le, nat_lt, mod-lt, Bool, true, false, ◌||◌, cond, Option}
 use Rattle.std.proofs.Common.{Some, None, List, [], ◌∷◌, ◌++◌}
 use Rattle.std.proofs.Common.{length, refl, sym, subst, arith}
@@ -84,17 +84,23 @@ uploading_are m q o h = by m (block_said o) refl
 module _ (szx : ℕ) (small : szx ≤ 6) where
   asked_are : (o : Option Method) (m : Message) → AreBytes m.payload → VerdictAre (asked_by szx o m)
   asked_are None m h = tt
-  asked_are (Some method) m h = by (nat_lt max_segments (length (path_of (asks m)))) (is_reserved (uint_at block1 (asks m)) || is_reserved (uint_at block2 (asks m)))
+  asked_are (Some method) m h = by (nat_lt max_segments (length (path_of (asks m))))
+      (is_reserved (uint_at block1 (asks m)) || is_reserved (uint_at block2 (asks m)))
     where
-      by : (a b : Bool) → VerdictAre (cond a (Refused bad_request) (cond b (Refused bad_request) (uploading method (question szx method m) (block_said (uint_at block1 (asks m))))))
+      by : (a b : Bool) → VerdictAre (cond a (Refused bad_request)
+          (cond b (Refused bad_request) (uploading method (question szx method m)
+          (block_said (uint_at block1 (asks m))))))
       by true b = tt
       by false true = tt
-      by false false = uploading_are method (question szx method m) (uint_at block1 (asks m)) (record { body = h; szx = small })
+      by false false = uploading_are method (question szx method m) (uint_at block1 (asks m))
+          (record { body = h; szx = small })
 
   pub verdict_are : (m : Message) → AreBytes m.payload → VerdictAre (verdict_on szx m)
-  verdict_are m h = by (lacks_critical direction.Request m.options) (has proxy_uri (asks m) || has proxy_scheme (asks m))
+  verdict_are m h = by (lacks_critical direction.Request m.options)
+      (has proxy_uri (asks m) || has proxy_scheme (asks m))
     where
-      by : (a b : Bool) → VerdictAre (cond a (bad_by m.kind) (cond b (Refused proxying_not_supported) (asked_by szx (method_of m.code) m)))
+      by : (a b : Bool) → VerdictAre (cond a (bad_by m.kind)
+          (cond b (Refused proxying_not_supported) (asked_by szx (method_of m.code) m)))
       by true b = bad_are m.kind
       by false true = tt
       by false false = asked_are (method_of m.code) m h
@@ -112,7 +118,8 @@ without_are key (p ∷ ps) h = by (same_key p.key key) (without_are key ps h.1)
     by true k = h.1
     by false k = (h.0, k)
 
-put_are : (new : PartialBody) (ps : List PartialBody) → PartialAre new → Each PartialAre ps → Each PartialAre (put new ps)
+put_are : (new : PartialBody) (ps : List PartialBody) → PartialAre new → Each PartialAre ps
+    → Each PartialAre (put new ps)
 put_are new [] n h = (n, tt)
 put_are new (p ∷ ps) n h = by (same_key p.key new.key) (put_are new ps n h.1)
   where
@@ -124,7 +131,8 @@ found_are : (key : Key) (ps : List PartialBody) → Each PartialAre ps → AreBy
 found_are key [] h = none_are
 found_are key (p ∷ ps) h = by (same_key p.key key) (found_are key ps h.1)
   where
-    by : (b : Bool) → AreBytes (bytes_of (partial_of key ps)) → AreBytes (bytes_of (cond b (Some p) (partial_of key ps)))
+    by : (b : Bool) → AreBytes (bytes_of (partial_of key ps))
+        → AreBytes (bytes_of (cond b (Some p) (partial_of key ps)))
     by true k = h.0
     by false k = k
 
@@ -138,10 +146,13 @@ before_are key num ps h = by (num == 0)
 there_are : (s : AssemblyState) (at : ℕ) → Each PartialAre s.partials → Each PartialAre (there_at s at)
 there_are s at h = each_filter PartialAre _ s.partials h
 
-pub joined_are : (s : AssemblyState) (at : ℕ) (key : Key) (b : Block) (payload : List ℕ) → Each PartialAre s.partials → AreBytes payload → AreBytes (with_block s at key b payload)
-joined_are s at key b payload h p = append_are (joined_before key b.num (there_at s at)) payload (before_are key b.num (there_at s at) (there_are s at h)) p
+pub joined_are : (s : AssemblyState) (at : ℕ) (key : Key) (b : Block) (payload : List ℕ) → Each PartialAre s.partials
+    → AreBytes payload → AreBytes (with_block s at key b payload)
+joined_are s at key b payload h p = append_are (joined_before key b.num (there_at s at)) payload
+    (before_are key b.num (there_at s at) (there_are s at h)) p
 
-partials_are : (v : BlockVerdict) (new : PartialBody) (ps : List PartialBody) → PartialAre new → Each PartialAre ps → Each PartialAre (partials_by v new ps)
+partials_are : (v : BlockVerdict) (new : PartialBody) (ps : List PartialBody) → PartialAre new → Each PartialAre ps
+    → Each PartialAre (partials_by v new ps)
 partials_are (Refuse BadRequest) new ps n h = h
 partials_are (Refuse EntityIncomplete) new ps n h = h
 partials_are (Refuse EntityTooLarge) new ps n h = without_are new.key ps h
@@ -149,11 +160,14 @@ partials_are (Refuse Unavailable) new ps n h = h
 partials_are (Join szx) new ps n h = put_are new ps n h
 partials_are Done new ps n h = without_are new.key ps h
 
-pub uploads_are : (at : ℕ) (a : Asked) (v : Verdict) (s : AssemblyState) → VerdictAre v → Each PartialAre s.partials → Each PartialAre (uploads_after at a v s).partials
+pub uploads_are : (at : ℕ) (a : Asked) (v : Verdict) (s : AssemblyState) → VerdictAre v → Each PartialAre s.partials
+    → Each PartialAre (uploads_after at a v s).partials
 uploads_are at a Ignored s k h = h
 uploads_are at a (Refused code) s k h = h
 uploads_are at a (Asks q) s k h = h
-uploads_are at a (Uploads q b) s k h = partials_are (verdict_at s at _ b (length q.body)) (body_with _ b.num q.body (moment_at s at) (there_at s at)) (there_at s at) (joined_are s at _ b q.body h k.0.body) (there_are s at h)
+uploads_are at a (Uploads q b) s k h = partials_are (verdict_at s at _ b (length q.body))
+    (body_with _ b.num q.body (moment_at s at) (there_at s at)) (there_at s at) (joined_are s at _ b q.body h k.0.body)
+    (there_are s at h)
 
 -- what becomes of a request, and of an observer
 
@@ -181,14 +195,23 @@ wider : (o : Option ℕ) → IfSome o (λ n. n < 2 ^ 16) → IfSome o (λ n. n <
 wider None h = tt
 wider (Some n) h = omega (arith, h)
 
-pub response_are : (reply : Reply) (told block : Option ℕ) → ReplyAre reply → IfSome told (λ n. n < 2 ^ 32) → IfSome block (λ n. n < 2 ^ 32) → ResponseAre (response_with reply told block)
+pub response_are : (reply : Reply) (told block : Option ℕ) → ReplyAre reply → IfSome told (λ n. n < 2 ^ 32)
+    → IfSome block (λ n. n < 2 ^ 32) → ResponseAre (response_with reply told block)
 response_are reply told block h t b =
     record {
       values =
-          values_append (option_with etag reply.tag) (uint_option observe told ++ (uint_option content_format reply.format ++ (uint_option block2 (block_number reply.block2) ++ uint_option block1 block))) (with_are etag reply.tag h.tag)
-          (values_append (uint_option observe told) (uint_option content_format reply.format ++ (uint_option block2 (block_number reply.block2) ++ uint_option block1 block)) (number_are observe told t)
-          (values_append (uint_option content_format reply.format) (uint_option block2 (block_number reply.block2) ++ uint_option block1 block) (number_are content_format reply.format (wider reply.format h.format))
-          (values_append (uint_option block2 (block_number reply.block2)) (uint_option block1 block) (number_are block2 (block_number reply.block2) h.block2) (number_are block1 block b))));
+          values_append (option_with etag reply.tag)
+          (uint_option observe told ++ (uint_option content_format reply.format
+          ++ (uint_option block2 (block_number reply.block2) ++ uint_option block1 block)))
+          (with_are etag reply.tag h.tag)
+          (values_append (uint_option observe told) (uint_option content_format reply.format
+          ++ (uint_option block2 (block_number reply.block2) ++ uint_option block1 block))
+          (number_are observe told t)
+          (values_append (uint_option content_format reply.format)
+          (uint_option block2 (block_number reply.block2) ++ uint_option block1 block)
+          (number_are content_format reply.format (wider reply.format h.format))
+          (values_append (uint_option block2 (block_number reply.block2)) (uint_option block1 block)
+          (number_are block2 (block_number reply.block2) h.block2) (number_are block1 block b))));
       payload = h.part;
     }
 
@@ -209,25 +232,31 @@ size_small : (o : Option Block) (szx : ℕ) → szx ≤ 6 → szx_by o szx ≤ 6
 size_small None szx h = h
 size_small (Some b) szx h = let k = min-le_right b.szx szx in omega (arith, h, k)
 
-removed_are : (to : _) (token : List ℕ) (os : List Observer) → Each WatcherAre os → Each WatcherAre (removed to token os)
+removed_are : (to : _) (token : List ℕ) (os : List Observer) → Each WatcherAre os
+    → Each WatcherAre (removed to token os)
 removed_are to token os h = each_filter WatcherAre _ os h
 
-with_observer_are : (a : Asked) (q : Question) (reply : Reply) (os : List Observer) → AreBytes a.token → QuestionAre q → Each WatcherAre os → Each WatcherAre (observers_with a q reply os)
+with_observer_are : (a : Asked) (q : Question) (reply : Reply) (os : List Observer) → AreBytes a.token → QuestionAre q
+    → Each WatcherAre os → Each WatcherAre (observers_with a q reply os)
 with_observer_are a q reply os t k h = by (registers a q reply os) (observes 1 q)
   where
-    by : (x y : Bool) → Each WatcherAre (cond x (registered a.from a.token q.path (szx_by (block_of q.options) q.szx) os) (cond y (removed a.from a.token os) os))
-    by true y = each_join WatcherAre (removed a.from a.token os) _ (removed_are a.from a.token os h) ((t, size_small (block_of q.options) q.szx k.szx), tt)
+    by : (x y : Bool) → Each WatcherAre (cond x (registered a.from a.token q.path
+        (szx_by (block_of q.options) q.szx) os) (cond y (removed a.from a.token os) os))
+    by true y = each_join WatcherAre (removed a.from a.token os) _ (removed_are a.from a.token os h)
+        ((t, size_small (block_of q.options) q.szx k.szx), tt)
     by false true = removed_are a.from a.token os h
     by false false = h
 
-pub marked_are : (path : List (List ℕ)) (old left : Content) (os : List Observer) → Each WatcherAre os → Each WatcherAre (marked_if path old left os)
+pub marked_are : (path : List (List ℕ)) (old left : Content) (os : List Observer) → Each WatcherAre os
+    → Each WatcherAre (marked_if path old left os)
 marked_are path old left os h = by (left.tally.version == old.tally.version)
   where
     by : (b : Bool) → Each WatcherAre (cond b os (changed_at path os))
     by true = h
     by false = each_changed WatcherAre (marked_by path) (λ o w. (w.0, w.1)) os h
 
-notified_are : (held : Option Held) (o : Observer) (os : List Observer) → Each WatcherAre os → Each WatcherAre (notified held o os)
+notified_are : (held : Option Held) (o : Observer) (os : List Observer) → Each WatcherAre os
+    → Each WatcherAre (notified held o os)
 notified_are None o os h = removed_are o.to o.token os h
 notified_are (Some held) o os h = each_changed WatcherAre (unmarked_by o.to o.token) (λ x w. (w.0, w.1)) os h
 
@@ -239,8 +268,11 @@ ended_are (Some x) os h = by x.observe
     by true = removed_are x.to x.token os h
     by false = h
 
-pub observers_are : (old : Content) (a : Option Asked) (h : Handling) (os : List Observer) → IfSome a (λ x. AreBytes x.token) → HandlingAre h → Each WatcherAre os → Each WatcherAre (observers_after old a h os)
-observers_are old (Some a) (Serves q reply left) os t h k = marked_are q.path old left (observers_with a q reply os) (with_observer_are a q reply os t h.0 k)
+pub observers_are : (old : Content) (a : Option Asked) (h : Handling) (os : List Observer)
+    → IfSome a (λ x. AreBytes x.token) → HandlingAre h → Each WatcherAre os
+    → Each WatcherAre (observers_after old a h os)
+observers_are old (Some a) (Serves q reply left) os t h k =
+    marked_are q.path old left (observers_with a q reply os) (with_observer_are a q reply os t h.0 k)
 observers_are old (Some a) (Notifies o reply) os t h k = notified_are (old.holds o.path) o os k
 observers_are old (Some a) Silent os t h k = k
 observers_are old (Some a) (Replies response) os t h k = k
@@ -271,20 +303,25 @@ waited_are at a (w ∷ ws) h = by (defer.is_of at a w) (waited_are at a ws h.1)
     by true k = h.1
     by false k = (h.0, k)
 
-pub waits_are : (at : ℕ) (a : Asked) (h : Handling) (ws : List Waiting) → AreBytes a.token → HandlingAre h → Each OneAre ws → Each OneAre (waiting_with at a h ws)
+pub waits_are : (at : ℕ) (a : Asked) (h : Handling) (ws : List Waiting) → AreBytes a.token → HandlingAre h
+    → Each OneAre ws → Each OneAre (waiting_with at a h ws)
 waits_are at a Silent ws t h k = k
 waits_are at a (Replies response) ws t h k = k
 waits_are at a (Serves q reply left) ws t h k = k
 waits_are at a (Notifies o reply) ws t h k = k
-waits_are at a (Waits q delay) ws t h k = each_join OneAre ws (record { asked = a; at = at; delay = delay; question = q } ∷ []) k ((t, h), tt)
+waits_are at a (Waits q delay) ws t h k = each_join OneAre ws
+    (record { asked = a; at = at; delay = delay; question = q } ∷ []) k ((t, h), tt)
 
-pub question_are : (at : ℕ) (a : Asked) (ws : List Waiting) (q : Question) → Each OneAre ws → question_of at a ws ≡ Some q → AreBytes a.token × QuestionAre q
+pub question_are : (at : ℕ) (a : Asked) (ws : List Waiting) (q : Question) → Each OneAre ws
+    → question_of at a ws ≡ Some q → AreBytes a.token × QuestionAre q
 question_are at a [] q h is = absurd (cc is)
 question_are at a (w ∷ ws) q h is = by (defer.is_of at a w) refl is (question_are at a ws q h.1)
   where
-    by : (b : Bool) → defer.is_of at a w ≡ b → cond b (Some w.question) (question_of at a ws) ≡ Some q → (question_of at a ws ≡ Some q → AreBytes a.token × QuestionAre q) → AreBytes a.token × QuestionAre q
+    by : (b : Bool) → defer.is_of at a w ≡ b → cond b (Some w.question) (question_of at a ws) ≡ Some q
+        → (question_of at a ws ≡ Some q → AreBytes a.token × QuestionAre q) → AreBytes a.token × QuestionAre q
     by true so k f = (
-      subst (λ (x : Asked). AreBytes x.token) (sym (same_asked_is a w.asked (and_parts (same_asked a w.asked) (nat_le w.delay (at - w.at)) so).0)) h.0.0,
+      subst (λ (x : Asked). AreBytes x.token) (sym
+          (same_asked_is a w.asked (and_parts (same_asked a w.asked) (nat_le w.delay (at - w.at)) so).0)) h.0.0,
       subst QuestionAre (let e : w.question ≡ q = cc k in e) h.0.1,
     )
     by false so k f = f k

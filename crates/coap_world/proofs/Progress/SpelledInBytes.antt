@@ -41,7 +41,10 @@ ValuesAre (o ∷ options) = AreBytes o.value × ValuesAre options
 
 pub values_from_all : (options : List CoapOption) → All (λ o. AreBytes o.value) options → ValuesAre options
 values_from_all [] h = tt
-values_from_all (o ∷ options) h = (h 0 o (omega arith), values_from_all options (λ i d low. h (suc i) d (omega (arith, low))))
+values_from_all (o ∷ options) h = (
+  h 0 o (omega arith),
+  values_from_all options (λ i d low. h (suc i) d (omega (arith, low))),
+)
 
 pub values_append : (xs ys : List CoapOption) → ValuesAre xs → ValuesAre ys → ValuesAre (xs ++ ys)
 values_append [] ys h k = k
@@ -66,13 +69,16 @@ more_are n = by (nat_lt n 13) (nat_lt n 269) refl
 option_are : (base : ℕ) (o : CoapOption) → AreBytes o.value → AreBytes (option_bytes base o)
 unfolding option_bytes
 option_are base o h =
-    cons_are _ _ (let a = nibble_below (o.number - base) in let b = nibble_below (length o.value) in omega (arith, a, b))
-    (append_are (more (o.number - base)) (more (length o.value) ++ o.value) (more_are (o.number - base)) (append_are (more (length o.value)) o.value (more_are (length o.value)) h))
+    cons_are _ _ (let a = nibble_below (o.number - base) in let b =
+    nibble_below (length o.value) in omega (arith, a, b))
+    (append_are (more (o.number - base)) (more (length o.value) ++ o.value) (more_are (o.number - base))
+    (append_are (more (length o.value)) o.value (more_are (length o.value)) h))
 
 pub options_are : (base : ℕ) (options : List CoapOption) → ValuesAre options → AreBytes (options_bytes base options)
 unfolding options_bytes
 options_are base [] h = none_are
-options_are base (o ∷ options) h = append_are (option_bytes base o) (options_bytes o.number options) (option_are base o h.0) (options_are o.number options h.1)
+options_are base (o ∷ options) h = append_are (option_bytes base o) (options_bytes o.number options)
+    (option_are base o h.0) (options_are o.number options h.1)
 
 -- a message
 
@@ -88,7 +94,8 @@ kind_below Rst = omega arith
 
 header_are : (m : Message) → m.code < 256 → length m.token ≤ 8 → AreBytes (header m)
 header_are m code few =
-    cons_are _ (m.code ∷ bytes_high_first 2 m.id) (let k = kind_below m.kind in omega (arith, k, few)) (cons_are m.code (bytes_high_first 2 m.id) code (high_are 2 m.id))
+    cons_are _ (m.code ∷ bytes_high_first 2 m.id) (let k = kind_below m.kind in omega (arith, k, few))
+    (cons_are m.code (bytes_high_first 2 m.id) code (high_are 2 m.id))
 
 -- what is said of its parts
 pub record HasBytes (m : Message) : Type 0 where
@@ -100,7 +107,8 @@ pub message_are : (m : Message) → m.code < 256 → length m.token ≤ 8 → Ha
 message_are m code few h =
     append_are (header m) (m.token ++ (options_bytes 0 m.options ++ marked m.payload)) (header_are m code few)
     (append_are m.token (options_bytes 0 m.options ++ marked m.payload) h.token
-    (append_are (options_bytes 0 m.options) (marked m.payload) (options_are 0 m.options h.values) (marked_are m.payload h.payload)))
+    (append_are (options_bytes 0 m.options) (marked m.payload) (options_are 0 m.options h.values)
+    (marked_are m.payload h.payload)))
 
 -- An Empty message is four bytes (section 4.1).
 
@@ -114,4 +122,5 @@ empty_are bytes m s none =
     let four = s.empty none in
     let parts = ap length s.parts in
     let both = length-append (header m) rest in
-    subst AreBytes (sym s.parts) (append_are (header m) rest (header_are m s.code s.token) (no_more rest (omega (arith, four, parts, both))))
+    subst AreBytes (sym s.parts) (append_are (header m) rest (header_are m s.code s.token)
+    (no_more rest (omega (arith, four, parts, both))))

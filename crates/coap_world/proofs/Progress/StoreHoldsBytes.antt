@@ -45,17 +45,24 @@ unchanged_are old left at h b = same_are old left (ap (λ (s : Content). s.holds
 kept_are : (old left : Content) → left ≡ old → StoreAre old → StoreAre left
 kept_are old left h b = same_are old left (ap (λ (s : Content). s.holds) h) b
 
-changed_are : (old left : Content) (at : ℕ) (path : List (List ℕ)) (now : Option Held) → Changes old at path now left → StoreAre old → ((held : Held) → now ≡ Some held → HeldAre held) → StoreAre left
+changed_are : (old left : Content) (at : ℕ) (path : List (List ℕ)) (now : Option Held) → Changes old at path now left
+    → StoreAre old → ((held : Held) → now ≡ Some held → HeldAre held) → StoreAre left
 changed_are old left at path now c b new = record { each = λ other held h. by other held h (same_path path other) refl }
   where
-    by : (other : List (List ℕ)) (held : Held) → left.holds other ≡ Some held → (s : Bool) → same_path path other ≡ s → HeldAre held
+    by : (other : List (List ℕ)) (held : Held) → left.holds other ≡ Some held → (s : Bool) → same_path path other ≡ s
+        → HeldAre held
     by other held h true is = new held (sym c.there ∙ ap left.holds ((same_path-decides path other).0 is) ∙ h)
-    by other held h false is = b.each other held (sym (c.others other (λ e. let same : same_path path other ≡ true = (same_path-decides path other).1 (sym e) in cc (same, is))) ∙ h)
+    by other held h false is = b.each other held
+        (sym (c.others other (λ e. let same : same_path path other
+        ≡ true = (same_path-decides path other).1 (sym e) in cc (same, is))) ∙ h)
 
-put_are : (old left : Content) (at : ℕ) (path : List (List ℕ)) (held : Held) → Changes old at path (Some held) left → HeldAre held → StoreAre old → StoreAre left
-put_are old left at path held c h b = changed_are old left at path (Some held) c b (λ other e. subst HeldAre (let same : held ≡ other = cc e in same) h)
+put_are : (old left : Content) (at : ℕ) (path : List (List ℕ)) (held : Held) → Changes old at path (Some held) left
+    → HeldAre held → StoreAre old → StoreAre left
+put_are old left at path held c h b = changed_are old left at path (Some held) c b
+    (λ other e. subst HeldAre (let same : held ≡ other = cc e in same) h)
 
-gone_are : (old left : Content) (at : ℕ) (path : List (List ℕ)) → Changes old at path None left → StoreAre old → StoreAre left
+gone_are : (old left : Content) (at : ℕ) (path : List (List ℕ)) → Changes old at path None left → StoreAre old
+    → StoreAre left
 gone_are old left at path c b = changed_are old left at path None c b (λ held e. absurd (cc e))
 
 -- what is replied
@@ -78,7 +85,8 @@ tag_are version = high_are 8 version
 take_are : (n : ℕ) (bytes : List ℕ) → AreBytes bytes → AreBytes (take n bytes)
 take_are n bytes h = AreBytes-front (take n bytes) (drop n bytes) (subst AreBytes (sym (take-append-drop n bytes)) h)
 
-by_tests : (a e b : Bool) (r1 r2 r3 r4 : Reply) → ReplyAre r1 → ReplyAre r2 → ReplyAre r3 → ReplyAre r4 → ReplyAre (cond a r1 (cond e r2 (cond b r3 r4)))
+by_tests : (a e b : Bool) (r1 r2 r3 r4 : Reply) → ReplyAre r1 → ReplyAre r2 → ReplyAre r3 → ReplyAre r4
+    → ReplyAre (cond a r1 (cond e r2 (cond b r3 r4)))
 by_tests true e b r1 r2 r3 r4 h1 h2 h3 h4 = h1
 by_tests false true b r1 r2 r3 r4 h1 h2 h3 h4 = h2
 by_tests false false true r1 r2 r3 r4 h1 h2 h3 h4 = h3
@@ -88,17 +96,21 @@ pub record QuestionAre (q : Question) : Type 0 where
   pub body : AreBytes q.body
   pub szx : q.szx ≤ 6
 
-pub got_are : (o : Option Held) (q : Question) → q.szx ≤ 6 → ((held : Held) → o ≡ Some held → HeldAre held) → ReplyAre (got o q)
+pub got_are : (o : Option Held) (q : Question) → q.szx ≤ 6 → ((held : Held) → o ≡ Some held → HeldAre held)
+    → ReplyAre (got o q)
 got_are None q small f = bare_reply _ _
 got_are (Some held) q small f =
     let block = block_of q.options in
     let is = f held refl in
     let reply : Reply = content_reply held (is_some block) (offset_by block) (szx_by block q.szx) in
-    by_tests (not (accepts held.format q.options)) (etag_names held.version q.options) (nat_lt 0 (offset_by block) && nat_le (length held.body) (offset_by block)) (bare 134 (offset_by block))
-    (record (bare 67 (offset_by block)) { tag = Some (tag_of held.version) }) (bare 128 (offset_by block)) reply (bare_reply _ _)
+    by_tests (not (accepts held.format q.options)) (etag_names held.version q.options)
+    (nat_lt 0 (offset_by block) && nat_le (length held.body) (offset_by block)) (bare 134 (offset_by block))
+    (record (bare 67 (offset_by block)) { tag = Some (tag_of held.version) }) (bare 128 (offset_by block)) reply
+    (bare_reply _ _)
     (record { part = none_are; tag = tag_are held.version; format = tt; block2 = tt }) (bare_reply _ _)
     (record {
-      part = take_are (2 ^ (szx_by block q.szx + 4)) (drop (offset_by block) held.body) (AreBytes-drop (offset_by block) held.body is.body);
+      part = take_are (2 ^ (szx_by block q.szx + 4)) (drop (offset_by block) held.body)
+          (AreBytes-drop (offset_by block) held.body is.body);
       tag = tag_are held.version;
       format = is.format;
       block2 = content_small held (uint_at block2 q.options) q.szx small;
@@ -123,14 +135,28 @@ format_small options = by (uint_at content_format options)
 abbrev Leaves : Reply → Content → Type 0
 Leaves reply left = ReplyAre reply × StoreAre left
 
-module _ (old : Content) (at : ℕ) (q : Question) (reply : Reply) (left : Content) (b : StoreAre old) (is : QuestionAre q) where
+module _ (old : Content) (at : ℕ) (q : Question) (reply : Reply) (left : Content) (b : StoreAre old)
+    (is : QuestionAre q) where
   by_put : (o : Option StoreRefusal) → PutBy o old at q reply left → Leaves reply left
   by_put (Some why) h = (bare_are reply _ 0 h.0, unchanged_are old left at h.1 b)
-  by_put None h = (bare_are reply _ 0 h.0, put_are old left at q.path (record { version = old.tally.version + 1; format = format_of q.options; body = q.body }) h.1 (record { body = is.body; format = format_small q.options }) b)
+  by_put None h = (
+    bare_are reply _ 0 h.0,
+    put_are old left at q.path
+        (record { version = old.tally.version + 1; format = format_of q.options; body = q.body }) h.1
+        (record { body = is.body; format = format_small q.options }) b,
+  )
 
   by_join : (o : Option StoreRefusal) (was : Held) → HeldAre was → JoinBy o was old at q reply left → Leaves reply left
   by_join (Some why) was w h = (bare_are reply _ 0 h.0, unchanged_are old left at h.1 b)
-  by_join None was w h = (bare_are reply _ 0 h.0, put_are old left at q.path (record { version = old.tally.version + 1; format = was.format; body = was.body ++ q.body }) h.1 (record { body = append_are was.body q.body w.body is.body; format = w.format }) b)
+  by_join None was w h = (
+    bare_are reply _ 0 h.0,
+    put_are old left at q.path (record {
+      version = old.tally.version + 1;
+      format = was.format;
+      body = was.body ++ q.body;
+    }) h.1 (record { body = append_are was.body q.body w.body is.body; format = w.format })
+        b,
+  )
 
   by_post : (o : Option Held) → old.holds q.path ≡ o → PostBy o old at q reply left → Leaves reply left
   by_post None e h = (bare_are reply _ 0 h.0, unchanged_are old left at h.1 b)
@@ -145,7 +171,10 @@ module _ (old : Content) (at : ℕ) (q : Question) (reply : Reply) (left : Conte
   by_delete (Some was) h = by_remove (rate_refusal old.tally at) h
 
   by_method : (m : Method) → ServesMethod m old at q reply left → Leaves reply left
-  by_method Get h = (subst ReplyAre (sym h.0) (got_are (old.holds q.path) q is.szx (λ held e. b.each q.path held e)), kept_are old left h.1 b)
+  by_method Get h = (
+    subst ReplyAre (sym h.0) (got_are (old.holds q.path) q is.szx (λ held e. b.each q.path held e)),
+    kept_are old left h.1 b,
+  )
   by_method Post h = by_post (old.holds q.path) refl h
   by_method Put h = by_put (put_refusal old at q.path (length q.body)) h
   by_method Delete h = by_delete (old.holds q.path) h
@@ -159,12 +188,17 @@ module _ (old : Content) (at : ℕ) (q : Question) (reply : Reply) (left : Conte
 
 -- a local change
 
-pub sets_are : (o : Option StoreRefusal) (old : Content) (at : ℕ) (path : List (List ℕ)) (format : Option ℕ) (body : List ℕ) (answer : Result ℕ StoreRefusal) (left : Content) → AreBytes body → IfSome format (λ f. f < 2 ^ 16)
+pub sets_are : (o : Option StoreRefusal) (old : Content) (at : ℕ) (path : List (List ℕ)) (format : Option ℕ)
+    (body : List ℕ) (answer : Result ℕ StoreRefusal) (left : Content) → AreBytes body → IfSome format (λ f. f < 2 ^ 16)
     → SetsBy o old at path format body answer left → StoreAre old → StoreAre left
 sets_are (Some why) old at path format body answer left k f h b = unchanged_are old left at h.1 b
-sets_are None old at path format body answer left k f h b = put_are old left at path (record { version = old.tally.version + 1; format = format; body = body }) h.1 (record { body = k; format = f }) b
+sets_are None old at path format body answer left k f h b =
+    put_are old left at path (record { version = old.tally.version + 1; format = format; body = body }) h.1
+    (record { body = k; format = f }) b
 
-pub removes_are : (o : Option Held) (why : Option StoreRefusal) (old : Content) (at : ℕ) (path : List (List ℕ)) (answer : Result Bool StoreRefusal) (left : Content) → RemovesBy o why old at path answer left → StoreAre old → StoreAre left
+pub removes_are : (o : Option Held) (why : Option StoreRefusal) (old : Content) (at : ℕ) (path : List (List ℕ))
+    (answer : Result Bool StoreRefusal) (left : Content) → RemovesBy o why old at path answer left → StoreAre old
+    → StoreAre left
 removes_are None why old at path answer left h b = unchanged_are old left at h.1 b
 removes_are (Some was) (Some why) old at path answer left h b = unchanged_are old left at h.1 b
 removes_are (Some was) None old at path answer left h b = gone_are old left at path h.1 b

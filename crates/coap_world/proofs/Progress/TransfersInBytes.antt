@@ -1,4 +1,5 @@
--- The Block options and the payloads of a client's transfers are of bytes, where the body is (RFC 7959, sections 2.2, 2.4 and 2.5).
+-- The Block options and the payloads of a client's transfers are of bytes, where the body is (RFC 7959, sections 2.2,
+-- 2.4 and 2.5).
 use Rattle.std.proofs.Common.{◌≡◌, ◌≤◌, ◌<◌, inl, inr, ℕ, ◌+◌, ◌*◌, ◌/◌, ◌^◌, min, Bool, true, false, not, ◌&&◌, nat_lt}
 use Rattle.std.proofs.Common.{nat_le, Option, Some, None, List, []}
 use Rattle.std.proofs.Common.{◌∷◌, length, refl, subst, cond, arith}
@@ -53,7 +54,10 @@ record AsksSmall (f : FetchState) (b : Block) (len num size : ℕ) : Type 0 wher
 module _ (f : FetchState) (b : Block) (tag : Option (List ℕ)) (len : ℕ) where
   abbrev chosen : (sized large none other more : Bool) → Verdict
   chosen sized large none other more =
-      cond (not sized) (verdict.Refuse refusal.BadBlock) (cond large (verdict.Refuse refusal.TooLarge) (cond none (verdict.Refuse refusal.NoTag) (cond other (F.changed f.restarts) (cond more (verdict.Ask (next_num f b) (next_szx f b)) verdict.Done))))
+      cond (not sized) (verdict.Refuse refusal.BadBlock)
+      (cond large (verdict.Refuse refusal.TooLarge)
+      (cond none (verdict.Refuse refusal.NoTag) (cond other (F.changed f.restarts)
+      (cond more (verdict.Ask (next_num f b) (next_szx f b)) verdict.Done))))
 
   changed_asks : (num size : ℕ) → F.changed f.restarts ≡ verdict.Ask num size → ⊥
   changed_asks num size h = by (nat_le max_restarts f.restarts) h
@@ -67,9 +71,11 @@ module _ (f : FetchState) (b : Block) (tag : Option (List ℕ)) (len : ℕ) wher
   full_by false is h = absurd (cc is)
 
   asks_small : (num size : ℕ) → F.verdict f (Some b) tag len ≡ verdict.Ask num size → AsksSmall f b len num size
-  asks_small num size h = by (fits f.asked b.num b.szx && is_sized b.more b.num b.szx len) refl (nat_lt max_body (offset_of b.num b.szx + len)) refl (lacks_tag b tag) (differs f tag) b.more refl h
+  asks_small num size h = by (fits f.asked b.num b.szx && is_sized b.more b.num b.szx len) refl
+      (nat_lt max_body (offset_of b.num b.szx + len)) refl (lacks_tag b tag) (differs f tag) b.more refl h
     where
-      by : (s : Bool) → (fits f.asked b.num b.szx && is_sized b.more b.num b.szx len) ≡ s → (l : Bool) → nat_lt max_body (offset_of b.num b.szx + len) ≡ l → (n d m : Bool) → b.more ≡ m
+      by : (s : Bool) → (fits f.asked b.num b.szx && is_sized b.more b.num b.szx len) ≡ s → (l : Bool)
+          → nat_lt max_body (offset_of b.num b.szx + len) ≡ l → (n d m : Bool) → b.more ≡ m
           → chosen s l n d m ≡ verdict.Ask num size → AsksSmall f b len num size
       by false a l c n d m e h = absurd (cc h)
       by true a true c n d m e h = absurd (cc h)
@@ -78,7 +84,12 @@ module _ (f : FetchState) (b : Block) (tag : Option (List ℕ)) (len : ℕ) wher
       by true a false c false false false e h = absurd (cc h)
       by true a false c false false true e h =
           let k = and_parts (fits f.asked b.num b.szx) (is_sized b.more b.num b.szx len) a in
-          record { full = full_by b.more e k.1; small = lt_not max_body (offset_of b.num b.szx + len) c; num_is = cc h; size_is = cc h }
+          record {
+            full = full_by b.more e k.1;
+            small = lt_not max_body (offset_of b.num b.szx + len) c;
+            num_is = cc h;
+            size_is = cc h;
+          }
 
 -- a block of a body has a small size
 size_small : (szx : ℕ) → size_of szx ≤ 65536 → szx ≤ 12
@@ -94,7 +105,8 @@ size_small szx h = by (nat_le szx 12) refl
 value_small : (num more szx : ℕ) → num ≤ 1048576 → more ≤ 8 → szx ≤ 12 → num * 16 + more + szx < 2 ^ 32
 value_small num more szx h m k = omega (arith, h, m, k)
 
-asked_small : (f : FetchState) (b : Block) (len num size : ℕ) → AsksSmall f b len num size → block_value (record { num = num; more = false; szx = size }) < 2 ^ 32
+asked_small : (f : FetchState) (b : Block) (len num size : ℕ) → AsksSmall f b len num size
+    → block_value (record { num = num; more = false; szx = size }) < 2 ^ 32
 asked_small f b len num size a =
     let full = a.full in
     let small = a.small in
@@ -120,7 +132,8 @@ TransferAre (Fetches f) = FetchAre f
 TransferAre (Uploads u) = UploadAre u
 TransferAre Single = Unit {0}
 
-after_ask : (f : FetchState) (m : Message) (num size : ℕ) → part f m ≡ verdict.Ask num size → FetchAre (F.after f (tag_in m) m.payload (verdict.Ask num size))
+after_ask : (f : FetchState) (m : Message) (num size : ℕ) → part f m ≡ verdict.Ask num size
+    → FetchAre (F.after f (tag_in m) m.payload (verdict.Ask num size))
 after_ask f m num size h =
     let k = part_asks f m num size h in
     let a = asks_small f k.0 (tag_in m) (length m.payload) num size k.2 in
@@ -139,7 +152,8 @@ fetched_are f m (verdict.Ask num size) is = after_ask f m num size is
 got_are : (r : Request) (f : FetchState) (m : Message) → NextAre (got r f m)
 got_are r f m = by (m.code == content) ((m.code == valid) && has_tags r.etags)
   where
-    by : (a b : Bool) → NextAre (cond a (fetched f m (part f m)) (cond b (Ends true (Valid (tag_in m))) (Ends true (Failed m.code))))
+    by : (a b : Bool) → NextAre (cond a (fetched f m (part f m))
+        (cond b (Ends true (Valid (tag_in m))) (Ends true (Failed m.code))))
     by true b = fetched_are f m (part f m) refl
     by false true = tt
     by false false = tt
@@ -159,12 +173,14 @@ continued_are u (Some b) h = by (continues u b) refl
 sent_are : (r : Request) (u : UploadState) (m : Message) → UploadAre u → NextAre (sent r.method u m)
 sent_are r u m h = by ((m.code == continue) && is_longer u) (more_follows u && is_below_errors m.code)
   where
-    by : (a b : Bool) → NextAre (cond a (continued u (block_at block1 m)) (cond b (Ends true BadBlock) (Ends true (done r.method m.code))))
+    by : (a b : Bool) → NextAre (cond a (continued u (block_at block1 m))
+        (cond b (Ends true BadBlock) (Ends true (done r.method m.code))))
     by true b = continued_are u (block_at block1 m) h
     by false true = tt
     by false false = tt
 
-pub answer_are : (r : Request) (t next : Transfer) (m : Message) → TransferAre t → answer r t m ≡ Asks next → TransferAre next
+pub answer_are : (r : Request) (t next : Transfer) (m : Message) → TransferAre t → answer r t m ≡ Asks next
+    → TransferAre next
 answer_are r t next m h is = subst NextAre is (by t h)
   where
     by : (t : Transfer) → TransferAre t → NextAre (answer r t m)
@@ -179,9 +195,14 @@ block_are (Fetches f) h = h
 block_are Single h = tt
 block_are (Uploads u) h = by (is_longer u) (more_follows u) refl
   where
-    by : (a b : Bool) → more_follows u ≡ b → ValuesAre (cond a (Rattle.coap_types.specs.CoapOption.option block1 (uint (block_value (block_to_send u))) ∷ []) [])
+    by : (a b : Bool) → more_follows u ≡ b → ValuesAre
+        (cond a (Rattle.coap_types.specs.CoapOption.option block1 (uint (block_value (block_to_send u))) ∷ []) [])
     by false b e = tt
-    by true b e = (uint_are _ (value_small u.num _ u.szx (let k = h.num in omega (arith, k)) (bit (more_follows u)) (let k = h.szx in omega (arith, k))), tt)
+    by true b e = (
+      uint_are _ (value_small u.num _ u.szx (let k = h.num in omega (arith, k)) (bit (more_follows u))
+          (let k = h.szx in omega (arith, k))),
+      tt,
+    )
       where
         bit : (b : Bool) → Rattle.coap_types.specs.BlockValue.more_bit b ≤ 8
         bit true = omega arith
@@ -198,7 +219,8 @@ abbrev pub RestAre : Option Notified → Type 0
 RestAre None = Unit {0}
 RestAre (Some n) = FetchAre n.fetch
 
-pub rest_are : (sequence : ℕ) (f : FetchState) (m : Message) (v : Verdict) → part f m ≡ v → RestAre (rest sequence f m v)
+pub rest_are : (sequence : ℕ) (f : FetchState) (m : Message) (v : Verdict) → part f m ≡ v
+    → RestAre (rest sequence f m v)
 rest_are sequence f m (verdict.Refuse why) is = tt
 rest_are sequence f m verdict.Again is = tt
 rest_are sequence f m verdict.Done is = tt

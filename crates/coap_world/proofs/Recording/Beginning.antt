@@ -1,5 +1,6 @@
 -- The server of a run is given its delays.
-use Rattle.std.proofs.Common.{◌≡◌, ◌≤◌, ◌<◌, ℕ, ◌+◌, Bool, true, false, not, List, [], ◌∷◌, map, length, drop, get_or, refl, sym, ap, ◌∙◌, arith}
+use Rattle.std.proofs.Common.{◌≡◌, ◌≤◌, ◌<◌, ℕ, ◌+◌, Bool, true, false, not, List, [], ◌∷◌, map, length, drop, get_or}
+use Rattle.std.proofs.Common.{refl, sym, ap, ◌∙◌, arith}
 use Rattle.std.proofs.lemmas.List.{drop-map, drop_more, drop_all, length-append, length-drop, length-map}
 use Rattle.coap_types.specs.Path.{same_path}
 use Rattle.coap_layer.proofs.ListLemmas.{true_lt}
@@ -29,7 +30,8 @@ module _ (limit szx : ℕ) where
       omega (arith, rest, left, long)
 
   -- so one more may be given
-  pub none_full : (ds : List S.Delay) (path : List (List ℕ)) → length ds < max_delays → false ≡ may_delay path (own_of limit szx (gives ds)).delays → ⊥
+  pub none_full : (ds : List S.Delay) (path : List (List ℕ)) → length ds < max_delays
+      → false ≡ may_delay path (own_of limit szx (gives ds)).delays → ⊥
   none_full ds path few full =
       let before = (own_of limit szx (gives ds)).delays in
       let left = length_filter (λ (x : S.Delay). not (same_path x.path path)) before in
@@ -39,7 +41,8 @@ module _ (limit szx : ℕ) where
 
 -- the next delay, from the last to the first
 pub next_given :
-    {A : Type 0} (items : List (PathDelay A)) (delays : List S.Delay) (n left : ℕ) (d : PathDelay A) → map delay_as items ≡ delays → left ≡ n + 1 → n < length items → d ≡ get_or items n d
+    {A : Type 0} (items : List (PathDelay A)) (delays : List S.Delay) (n left : ℕ) (d : PathDelay A)
+    → map delay_as items ≡ delays → left ≡ n + 1 → n < length items → d ≡ get_or items n d
     → S.Delays d.path d.ms true ∷ gives (drop left delays) ≡ gives (drop n delays)
 next_given items delays n left d are is within there =
     let mapped : delay_as d ∷ drop (n + 1) (map delay_as items) ≡ drop n (map delay_as items) =
@@ -52,12 +55,14 @@ next_given items delays n left d are is within there =
     ∙ ap (λ ds. gives (drop n ds)) are
 
 pub none_yet :
-    {A : Type 0} (items : List (PathDelay A)) (delays : List S.Delay) (n : ℕ) → map delay_as items ≡ delays → n ≡ length items → (n ≤ length delays) × ([] ≡ gives (drop n delays))
+    {A : Type 0} (items : List (PathDelay A)) (delays : List S.Delay) (n : ℕ) → map delay_as items ≡ delays
+    → n ≡ length items → (n ≤ length delays) × ([] ≡ gives (drop n delays))
 none_yet items delays n are is =
     let long : length delays ≡ length items = ap length (sym are) ∙ length-map items delay_as in
     (omega (arith, long, is), sym (ap gives (drop_all n delays (omega (arith, long, is)))))
 
-pub few_left : (ds : List S.Delay) (left : ℕ) → 0 < left → left ≤ length ds → length ds ≤ max_delays → length (drop left ds) < max_delays
+pub few_left : (ds : List S.Delay) (left : ℕ) → 0 < left → left ≤ length ds → length ds ≤ max_delays
+    → length (drop left ds) < max_delays
 few_left ds left some within few = let long = length-drop left ds in omega (arith, long, some, within, few)
 
 -- a delay changes nothing

@@ -23,7 +23,9 @@ module _ {A : Type 0} (path : List (List ℕ)) where
   others_as (d ∷ ds) = by (same_path d.path path) (others_as ds)
     where
       by : (b : Bool) → delays_as (delays_of_others path ds) ≡ others path (delays_as ds)
-          → delays_as (cond (not b) (d ∷ delays_of_others path ds) (delays_of_others path ds)) ≡ cond (not b) (record { path = d.path; ms = d.ms } ∷ others path (delays_as ds)) (others path (delays_as ds))
+          → delays_as (cond (not b) (d ∷ delays_of_others path ds) (delays_of_others path ds))
+          ≡ cond (not b) (record { path = d.path; ms = d.ms } ∷ others path (delays_as ds))
+          (others path (delays_as ds))
       by true e = e
       by false e = ap (λ (xs : List T.Delay). record { path = d.path; ms = d.ms } ∷ xs) e
 
@@ -32,16 +34,19 @@ module _ {A : Type 0} (path : List (List ℕ)) where
   as_append (d ∷ ds) es = ap (λ (xs : List T.Delay). record { path = d.path; ms = d.ms } ∷ xs) (as_append ds es)
 
   -- one of the path is none of the others
-  pub others_without : (ds : List (PathDelay A)) (i : ℕ) → i < length ds → IfSome (slice_get ds i) (λ d. d.path ≡ path) → delays_of_others path (remove ds i) ≡ delays_of_others path ds
+  pub others_without : (ds : List (PathDelay A)) (i : ℕ) → i < length ds → IfSome (slice_get ds i) (λ d. d.path ≡ path)
+      → delays_of_others path (remove ds i) ≡ delays_of_others path ds
   others_without [] i within h = absurd (omega (arith, within))
   others_without (x ∷ ds) zero within h =
       let is : same_path x.path path ≡ true = (same_path-decides x.path path).1 h in
       sym (ap (λ b. cond (not b) (x ∷ delays_of_others path ds) (delays_of_others path ds)) is)
   others_without (x ∷ ds) (suc i) within h =
-      ap (λ (xs : List (PathDelay A)). cond (not (same_path x.path path)) (x ∷ xs) xs) (others_without ds i (omega (arith, within)) h)
+      ap (λ (xs : List (PathDelay A)). cond (not (same_path x.path path)) (x ∷ xs) xs)
+      (others_without ds i (omega (arith, within)) h)
 
   -- one behind the others
-  pub with_last : (new old : List (PathDelay A)) (e : PathDelay A) (ms : ℕ) → new ≡ delays_of_others path old ++ e ∷ [] → e.path ≡ path → e.ms ≡ ms
+  pub with_last : (new old : List (PathDelay A)) (e : PathDelay A) (ms : ℕ) → new ≡ delays_of_others path old ++ e ∷ []
+      → e.path ≡ path → e.ms ≡ ms
       → delays_as new ≡ delays_with path ms true (delays_as old)
   with_last new old e ms is there late =
       ap delays_as is ∙ (as_append (delays_of_others path old) (e ∷ [])
@@ -49,24 +54,31 @@ module _ {A : Type 0} (path : List (List ℕ)) where
       ∙ (ap (λ (p : List (List ℕ)). others path (delays_as old) ++ record { path = p; ms = e.ms } ∷ []) there
       ∙ ap (λ (n : ℕ). others path (delays_as old) ++ record { path = path; ms = n } ∷ []) late)))
 
-  pub with_kept : (new kept old : List (PathDelay A)) (e : PathDelay A) (ms : ℕ) → new ≡ kept ++ e ∷ [] → kept ≡ delays_of_others path old → e.path ≡ path → e.ms ≡ ms
+  pub with_kept : (new kept old : List (PathDelay A)) (e : PathDelay A) (ms : ℕ) → new ≡ kept ++ e ∷ []
+      → kept ≡ delays_of_others path old → e.path ≡ path → e.ms ≡ ms
       → delays_as new ≡ delays_with path ms true (delays_as old)
-  with_kept new kept old e ms is others_is there late = with_last new old e ms (is ∙ ap (λ (xs : List (PathDelay A)). xs ++ e ∷ []) others_is) there late
+  with_kept new kept old e ms is others_is there late =
+      with_last new old e ms (is ∙ ap (λ (xs : List (PathDelay A)). xs ++ e ∷ []) others_is) there late
 
   -- the one at a place makes way for the one behind the others
-  pub replaced : (new kept left old : List (PathDelay A)) (i : ℕ) (e : PathDelay A) (ms : ℕ) → i < length old → IfSome (slice_get old i) (λ d. d.path ≡ path)
-      → left ≡ remove old i → kept ≡ delays_of_others path left → new ≡ kept ++ e ∷ [] → e.path ≡ path → e.ms ≡ ms → delays_as new ≡ delays_with path ms true (delays_as old)
+  pub replaced : (new kept left old : List (PathDelay A)) (i : ℕ) (e : PathDelay A) (ms : ℕ) → i < length old
+      → IfSome (slice_get old i) (λ d. d.path ≡ path)
+      → left ≡ remove old i → kept ≡ delays_of_others path left → new ≡ kept ++ e ∷ [] → e.path ≡ path → e.ms ≡ ms
+      → delays_as new ≡ delays_with path ms true (delays_as old)
   replaced new kept left old i e ms within at removed others_is is there late =
-      with_last new old e ms (is ∙ ap (λ (xs : List (PathDelay A)). xs ++ e ∷ []) (others_is ∙ (ap (delays_of_others path) removed ∙ others_without old i within at))) there late
+      with_last new old e ms (is ∙ ap (λ (xs : List (PathDelay A)). xs ++ e ∷ [])
+      (others_is ∙ (ap (delays_of_others path) removed ∙ others_without old i within at))) there late
 
   -- what is read at a place
-  pub path_at : (ds : List (PathDelay A)) (i : ℕ) (d e : PathDelay A) → i < length ds → d ≡ get_or ds i e → IfSome (slice_get ds i) (λ x. x.path ≡ path) → d.path ≡ path
+  pub path_at : (ds : List (PathDelay A)) (i : ℕ) (d e : PathDelay A) → i < length ds → d ≡ get_or ds i e
+      → IfSome (slice_get ds i) (λ x. x.path ≡ path) → d.path ≡ path
   path_at [] i d e within is h = absurd (omega (arith, within))
   path_at (x ∷ ds) zero d e within is h = ap (λ (z : PathDelay A). z.path) is ∙ h
   path_at (x ∷ ds) (suc i) d e within is h = path_at ds i d e (omega (arith, within)) is h
 
   -- where it has one, not all are of others
-  pub some_of : (ds : List (PathDelay A)) → is_some (delay_of path (delays_as ds)) ≡ true → length (delays_of_others path ds) < length ds
+  pub some_of : (ds : List (PathDelay A)) → is_some (delay_of path (delays_as ds)) ≡ true
+      → length (delays_of_others path ds) < length ds
   some_of [] h = absurd (cc h)
   some_of (d ∷ ds) h = by (same_path d.path path) h (some_of ds) (fewer ds)
     where
@@ -74,12 +86,15 @@ module _ {A : Type 0} (path : List (List ℕ)) where
       fewer [] = omega arith
       fewer (e ∷ es) = step (same_path e.path path) (fewer es)
         where
-          step : (b : Bool) → length (delays_of_others path es) < length es + 1 → length (cond (not b) (e ∷ delays_of_others path es) (delays_of_others path es)) < length (e ∷ es) + 1
+          step : (b : Bool) → length (delays_of_others path es) < length es + 1
+              → length (cond (not b) (e ∷ delays_of_others path es) (delays_of_others path es)) < length (e ∷ es) + 1
           step true k = omega (arith, k)
           step false k = omega (arith, k)
 
-      by : (b : Bool) → is_some (cond b (Some d.ms) (delay_of path (delays_as ds))) ≡ true → (is_some (delay_of path (delays_as ds)) ≡ true → length (delays_of_others path ds) < length ds)
-          → length (delays_of_others path ds) < length ds + 1 → length (cond (not b) (d ∷ delays_of_others path ds) (delays_of_others path ds)) < length (d ∷ ds)
+      by : (b : Bool) → is_some (cond b (Some d.ms) (delay_of path (delays_as ds))) ≡ true
+          → (is_some (delay_of path (delays_as ds)) ≡ true → length (delays_of_others path ds) < length ds)
+          → length (delays_of_others path ds) < length ds + 1
+          → length (cond (not b) (d ∷ delays_of_others path ds) (delays_of_others path ds)) < length (d ∷ ds)
       by true k f most = omega (arith, most)
       by false k f most = let less = f k in omega (arith, less)
 
@@ -92,25 +107,31 @@ module _ {A : Type 0} (path : List (List ℕ)) where
   others_count : (ds : List (PathDelay A)) → length (others path (delays_as ds)) ≡ length (delays_of_others path ds)
   others_count ds = sym (ap length (others_as ds)) ∙ count_as (delays_of_others path ds)
 
-  pub none_free : (ds : List (PathDelay A)) (n : ℕ) → n ≡ length (delays_of_others path ds) → 16 ≤ n → may_delay path (delays_as ds) ≡ false
+  pub none_free : (ds : List (PathDelay A)) (n : ℕ) → n ≡ length (delays_of_others path ds) → 16 ≤ n
+      → may_delay path (delays_as ds) ≡ false
   none_free ds n is full = by (may_delay path (delays_as ds)) refl
     where
       by : (b : Bool) → may_delay path (delays_as ds) ≡ b → b ≡ false
-      by true e = let few : length (others path (delays_as ds)) < 16 = ltb-true _ _ e in let c = others_count ds in absurd (omega (arith, few, c, is, full))
+      by true e = let few : length (others path (delays_as ds)) < 16 = ltb-true _ _ e in let c =
+          others_count ds in absurd (omega (arith, few, c, is, full))
       by false e = refl
 
-  pub one_free : (ds : List (PathDelay A)) (n : ℕ) → n ≡ length (delays_of_others path ds) → n < 16 → may_delay path (delays_as ds) ≡ true
+  pub one_free : (ds : List (PathDelay A)) (n : ℕ) → n ≡ length (delays_of_others path ds) → n < 16
+      → may_delay path (delays_as ds) ≡ true
   one_free ds n is free = by (may_delay path (delays_as ds)) refl
     where
       by : (b : Bool) → may_delay path (delays_as ds) ≡ b → b ≡ true
       by true e = refl
-      by false e = let many : 16 ≤ length (others path (delays_as ds)) = ltb-false _ _ e in let c = others_count ds in absurd (omega (arith, many, c, is, free))
+      by false e = let many : 16 ≤ length (others path (delays_as ds)) = ltb-false _ _ e in let c =
+          others_count ds in absurd (omega (arith, many, c, is, free))
 
 -- A delay in range leaves the configuration in range.
 pub still_config :
-    {A X : Type 0} (client_word client_szx server_word server_szx limit : ℕ) (old new : List (PathDelay A)) (path : List (List ℕ)) (ms : ℕ) (r : Result Bool X)
+    {A X : Type 0} (client_word client_szx server_word server_szx limit : ℕ) (old new : List (PathDelay A))
+    (path : List (List ℕ)) (ms : ℕ) (r : Result Bool X)
     → IsConfig (config_of client_word client_szx server_word server_szx limit old) → IsPath path → ms < 2 ^ 64
-    → IfOk r (λ given. (given ≡ may_delay path (delays_as old)) × (delays_as new ≡ delays_with path ms given (delays_as old))) → OnErr r (new ≡ old)
+    → IfOk r (λ given. (given ≡ may_delay path (delays_as old))
+    × (delays_as new ≡ delays_with path ms given (delays_as old))) → OnErr r (new ≡ old)
     → IsConfig (config_of client_word client_szx server_word server_szx limit new)
 still_config cw cs sw ss limit old new path ms (Ok true) is p small given err =
     let room : length (others path (delays_as old)) < max_delays = ltb-true _ _ (sym given.0) in
@@ -125,9 +146,13 @@ still_config cw cs sw ss limit old new path ms (Ok true) is p small given err =
       delays =
           subst (All IsDelay) (sym given.1)
           (All-push IsDelay (others path (delays_as old)) (record { path = path; ms = ms })
-          (All-filter (λ (d : T.Delay). not (same_path d.path path)) IsDelay (delays_as old) is.delays) (record { path = p; ms = small }));
+          (All-filter (λ (d : T.Delay). not (same_path d.path path)) IsDelay (delays_as old) is.delays)
+          (record { path = p; ms = small }));
       few = subst (λ (ds : List T.Delay). length ds ≤ max_delays) (sym given.1) (omega (arith, room, long));
     }
 still_config cw cs sw ss limit old new path ms (Ok false) is p small given err =
-    subst (λ (ds : List T.Delay). IsConfig (record { client_word = cw; client_szx = cs; server_word = sw; server_szx = ss; limit = limit; delays = ds })) (sym given.1) is
-still_config cw cs sw ss limit old new path ms (Err e) is p small given err = subst (λ ds. IsConfig (config_of cw cs sw ss limit ds)) (sym err) is
+    subst (λ (ds : List T.Delay). IsConfig (record
+    { client_word = cw; client_szx = cs; server_word = sw; server_szx = ss; limit = limit; delays = ds }))
+    (sym given.1) is
+still_config cw cs sw ss limit old new path ms (Err e) is p small given err =
+    subst (λ ds. IsConfig (config_of cw cs sw ss limit ds)) (sym err) is

@@ -1,5 +1,6 @@
 -- A record names the call to which a request belongs that is applied.
-use Rattle.std.proofs.Common.{◌≡◌, ◌⊎◌, ◌↔◌, inl, inr, ℕ, Bool, true, false, Option, Some, None, List, [], ◌∷◌, refl, ap, sym, subst, ◌∙◌}
+use Rattle.std.proofs.Common.{◌≡◌, ◌⊎◌, ◌↔◌, inl, inr, ℕ, Bool, true, false, Option, Some, None, List, [], ◌∷◌, refl}
+use Rattle.std.proofs.Common.{ap, sym, subst, ◌∙◌}
 use Rattle.std.specs.Cmp.Lexicographic.{bytes_decides}
 use Rattle.std.specs.Option.{option_map}
 use Rattle.coap_types.specs.Past.{Always}
@@ -10,7 +11,8 @@ use Rattle.coap_exchange.specs.declared.answerer.Asked.{Asked}
 use Rattle.coap_ends.specs.ClientSide.ClientBegins.{WasSent}
 use Rattle.coap_ends.specs.ClientSide.ClientLaw.{own_of}
 use Rattle.coap_ends.specs.ClientSide.ClientOrder.{call_of}
-use Rattle.coap_ends.specs.ClientSide.ClientOwn.{Operation, Calling, Registering, Fetching, Cancelling, Dropped, operation_number}
+use Rattle.coap_ends.specs.ClientSide.ClientOwn.{Operation, Calling, Registering, Fetching, Cancelling, Dropped}
+use Rattle.coap_ends.specs.ClientSide.ClientOwn.{operation_number}
 use Rattle.coap_ends.specs.ClientSide.ClientTokens.{Deregisters}
 use Rattle.coap_ends.specs.ClientSide.ClientTrace as C
 use Rattle.coap_ends.specs.ClientSide.ClientWords.{Sending, sends}
@@ -36,18 +38,24 @@ number_of_call (Fetching number) k is = cc is
 number_of_call (Cancelling number) k is = cc is
 number_of_call Dropped k is = cc is
 
-noted_other : (token mine : List ℕ) (o before : Option ℕ) → same_token mine token ≡ false → noted token (option_map (λ (n : ℕ). record { number = n; token = mine }) o) before ≡ before
+noted_other : (token mine : List ℕ) (o before : Option ℕ) → same_token mine token ≡ false
+    → noted token (option_map (λ (n : ℕ). record { number = n; token = mine }) o) before ≡ before
 noted_other token mine None before other = refl
 noted_other token mine (Some n) before other = ap (λ b. number_if b n before) other
 
-noted_here : (token mine : List ℕ) (o before : Option ℕ) (k : ℕ) → same_token mine token ≡ true → o ≡ Some k → noted token (option_map (λ (n : ℕ). record { number = n; token = mine }) o) before ≡ Some k
-noted_here token mine o before k same is = ap (λ o. noted token (option_map (λ (n : ℕ). record { number = n; token = mine }) o) before) is ∙ ap (λ b. number_if b k before) same
+noted_here : (token mine : List ℕ) (o before : Option ℕ) (k : ℕ) → same_token mine token ≡ true → o ≡ Some k
+    → noted token (option_map (λ (n : ℕ). record { number = n; token = mine }) o) before ≡ Some k
+noted_here token mine o before k same is = ap
+    (λ o. noted token (option_map (λ (n : ℕ). record { number = n; token = mine }) o) before) is
+    ∙ ap (λ b. number_if b k before) same
 
 module _ (config : Config) (all : List Entry) (whole : Lawful config all) where
   -- a token of a call is of one request alone
   one_of :
-      (x y : Sending) (k : ℕ) → WasSent config.client_szx x (client_of all) → WasSent config.client_szx y (client_of all) → call_of y.operation ≡ Some k → x.token ≡ y.token → x ≡ y
-  one_of x y k sent there of token = by (client_facts.tokens server_end config.client_szx config.client_word (client_of all) whole.client x y sent there token)
+      (x y : Sending) (k : ℕ) → WasSent config.client_szx x (client_of all)
+      → WasSent config.client_szx y (client_of all) → call_of y.operation ≡ Some k → x.token ≡ y.token → x ≡ y
+  one_of x y k sent there of token = by (client_facts.tokens server_end config.client_szx config.client_word
+      (client_of all) whole.client x y sent there token)
     where
       by : (x ≡ y) ⊎ (Deregisters x y ⊎ Deregisters y x) → x ≡ y
       by (inl same) = same
@@ -61,67 +69,93 @@ module _ (config : Config) (all : List Entry) (whole : Lawful config all) where
     abbrev szx : ℕ
     szx = config.client_szx
 
-    module _ (c : C.Call) (past : List C.Call) (after : After (c ∷ past)) (sent : WasSent szx s (c ∷ past)) (rest : WasSent szx s past → sender_of szx token past ≡ Some k) where
-      by_token : (y : Sending) (b : Bool) → sends (own_of szx past) c ≡ Some y → same_token y.token token ≡ b → noted token (sent_as (Some y)) (sender_of szx token past) ≡ Some k
+    module _ (c : C.Call) (past : List C.Call) (after : After (c ∷ past)) (sent : WasSent szx s (c ∷ past))
+        (rest : WasSent szx s past → sender_of szx token past ≡ Some k) where
+      by_token : (y : Sending) (b : Bool) → sends (own_of szx past) c ≡ Some y → same_token y.token token ≡ b
+          → noted token (sent_as (Some y)) (sender_of szx token past) ≡ Some k
       by_token y true is same =
           let y_token : y.token ≡ token = (bytes_decides y.token token).0 same in
           let one : y ≡ s = one_of y s k (after y (inl is)) (after s sent) of (y_token ∙ sym token_is) in
-          noted_here token y.token (operation_number y.operation) (sender_of szx token past) k same (ap (λ (z : Sending). operation_number z.operation) one ∙ number_of_call s.operation k of)
-      by_token y false is other = noted_other token y.token (operation_number y.operation) (sender_of szx token past) other ∙ before sent
+          noted_here token y.token (operation_number y.operation) (sender_of szx token past) k same
+          (ap (λ (z : Sending). operation_number z.operation) one ∙ number_of_call s.operation k of)
+      by_token y false is other = noted_other token y.token (operation_number y.operation)
+          (sender_of szx token past) other ∙ before sent
         where
           before : WasSent szx s (c ∷ past) → sender_of szx token past ≡ Some k
           before (inl now) =
               let both : Some y ≡ Some s = sym is ∙ now in
               let one : y ≡ s = cc both in
-              let same : same_token y.token token ≡ true = (bytes_decides y.token token).1 (ap (λ (z : Sending). z.token) one ∙ token_is) in
+              let same : same_token y.token token ≡ true =
+              (bytes_decides y.token token).1 (ap (λ (z : Sending). z.token) one ∙ token_is) in
               absurd (cc (same, other))
           before (inr h) = rest h
 
-      by_sending : (o : Option Sending) → sends (own_of szx past) c ≡ o → WasSent szx s (c ∷ past) → noted token (sent_as (sends (own_of szx past) c)) (sender_of szx token past) ≡ Some k
-      by_sending (Some y) is h = ap (λ o. noted token (sent_as o) (sender_of szx token past)) is ∙ by_token y (same_token y.token token) is refl
+      by_sending : (o : Option Sending) → sends (own_of szx past) c ≡ o → WasSent szx s (c ∷ past)
+          → noted token (sent_as (sends (own_of szx past) c)) (sender_of szx token past) ≡ Some k
+      by_sending (Some y) is h = ap (λ o. noted token (sent_as o) (sender_of szx token past)) is
+          ∙ by_token y (same_token y.token token) is refl
       by_sending None is (inl now) = cc (is, now)
       by_sending None is (inr h) = ap (λ o. noted token (sent_as o) (sender_of szx token past)) is ∙ rest h
 
     sender_is : (t : List C.Call) → After t → WasSent szx s t → sender_of szx token t ≡ Some k
     sender_is [] after sent = absurd sent
-    sender_is (c ∷ past) after sent = by_sending c past after sent (λ h. sender_is past (λ x g. after x (inr g)) h) (sends (own_of szx past) c) refl sent
+    sender_is (c ∷ past) after sent = by_sending c past after sent (λ h. sender_is past (λ x g. after x (inr g)) h)
+        (sends (own_of szx past) c) refl sent
 
   -- the call to which it belongs is the one that is named
-  module _ (past : List Entry) (c : S.Call) (after : After (client_of past)) (law : Lawful config (OfServer c ∷ past)) (x : Serving) (here : ServesAt config x past (OfServer c))
+  module _ (past : List Entry) (c : S.Call) (after : After (client_of past)) (law : Lawful config (OfServer c ∷ past))
+      (x : Serving) (here : ServesAt config x past (OfServer c))
       (belongs : x.asked.from ≡ client_end → (number : ℕ) × SentFor config number x.asked.token all) where
-    is_sent : (m : ℕ) → SentFor config m x.asked.token all → x.asked.from ≡ client_end → sender_of config.client_szx x.asked.token (client_of past) ≡ Some m
+    is_sent : (m : ℕ) → SentFor config m x.asked.token all → x.asked.from ≡ client_end
+        → sender_of config.client_szx x.asked.token (client_of past) ≡ Some m
     is_sent m z from =
         let w : List Entry = OfServer c ∷ past in
-        let brings = (server_facts.handed config.limit config.server_szx config.server_word (server_trace config w) law.server).0 x here in
+        let brings = (server_facts.handed config.limit config.server_szx config.server_word
+        (server_trace config w) law.server).0 x here in
         let k = traced config x.asked x.question w law.came from (brought_in config x.asked x.question w brings) in
         let s : Sending = k.came.sending in
         let token : s.token ≡ x.asked.token = sym (ap (λ (a : Asked). a.token) k.came.asked) in
         let one : s ≡ z.0 = one_of s z.0 m (after s k.sent) z.1 z.2 (token ∙ sym z.3) in
-        sender_is s m (ap (λ (y : Sending). call_of y.operation) one ∙ z.2) x.asked.token token (client_of past) after k.sent
+        sender_is s m (ap (λ (y : Sending). call_of y.operation) one ∙ z.2) x.asked.token token
+        (client_of past) after k.sent
 
     named_by :
         (b : Bool) → same_endpoint x.asked.from client_end ≡ b → (number : ℕ)
-        → (call_if b (sender_of config.client_szx x.asked.token (client_of past)) ≡ Some number) ↔ ((x.asked.from ≡ client_end) × SentFor config number x.asked.token all)
+        → (call_if b (sender_of config.client_szx x.asked.token (client_of past)) ≡ Some number)
+        ↔ ((x.asked.from ≡ client_end) × SentFor config number x.asked.token all)
     named_by true same number =
         let from : x.asked.from ≡ client_end = (same_endpoint-decides x.asked.from client_end).0 same in
         let m = belongs from in
         let there = is_sent m.0 m.1 from in (
-          λ says. (from, (let e : Some m.0 ≡ Some number = sym there ∙ says in let is : m.0 ≡ number = cc e in subst (λ n. SentFor config n x.asked.token all) is m.1)),
+          λ says. (
+            from,
+            (let e : Some m.0 ≡ Some number = sym there
+                ∙ says in let is : m.0 ≡ number = cc e in subst (λ n. SentFor config n x.asked.token all) is m.1),
+          ),
           λ h. is_sent number h.1 from,
         )
     named_by false other number = (
       λ says. cc says,
-      λ h. absurd (let same : same_endpoint x.asked.from client_end ≡ true = (same_endpoint-decides x.asked.from client_end).1 h.0 in cc (same, other)),
+      λ h. absurd (let same : same_endpoint x.asked.from client_end
+          ≡ true = (same_endpoint-decides x.asked.from client_end).1 h.0 in cc (same, other)),
     )
 
   named_in :
       (t : List Entry) → After (client_of t) → Lawful config t
-      → Always (λ past e. (x : Serving) → ServesAt config x past e → is_applied x.reply.code ≡ true → x.asked.from ≡ client_end → (number : ℕ) × SentFor config number x.asked.token all) t
-      → Always (λ past e. (x : Serving) → ServesAt config x past e → is_applied x.reply.code ≡ true → (number : ℕ) → (named config x past ≡ Some number) ↔ ((x.asked.from ≡ client_end) × SentFor config number x.asked.token all)) t
+      → Always (λ past e. (x : Serving) → ServesAt config x past e → is_applied x.reply.code ≡ true
+      → x.asked.from ≡ client_end → (number : ℕ) × SentFor config number x.asked.token all) t
+      → Always (λ past e. (x : Serving) → ServesAt config x past e → is_applied x.reply.code ≡ true → (number : ℕ)
+      → (named config x past ≡ Some number) ↔ ((x.asked.from ≡ client_end)
+      × SentFor config number x.asked.token all)) t
   named_in [] after law belongs = tt
-  named_in (OfClient c ∷ past) after law belongs = (λ x here applied. absurd here, named_in past (λ x h. after x (inr h)) (lawful_back config past (OfClient c) law) belongs.1)
+  named_in (OfClient c ∷ past) after law belongs = (
+    λ x here applied. absurd here,
+    named_in past (λ x h. after x (inr h))
+        (lawful_back config past (OfClient c) law) belongs.1,
+  )
   named_in (OfServer c ∷ past) after law belongs = (
-    λ x here applied. named_by past c after law x here (belongs.0 x here applied) (same_endpoint x.asked.from client_end) refl,
+    λ x here applied. named_by past c after law x here (belongs.0 x here applied)
+        (same_endpoint x.asked.from client_end) refl,
     named_in past after (lawful_back config past (OfServer c) law) belongs.1,
   )
 

@@ -1,5 +1,6 @@
 -- The number of a datagram is its place in the log.
-use Rattle.std.proofs.Common.{◌≡◌, ◌⊎◌, inl, inr, ◌<◌, ◌≤◌, ℕ, zero, suc, ◌+◌, Bool, Some, None, List, [], ◌∷◌, ◌++◌, reverse, length, slice_get, refl, sym, ap, subst, ◌∙◌, arith}
+use Rattle.std.proofs.Common.{◌≡◌, ◌⊎◌, inl, inr, ◌<◌, ◌≤◌, ℕ, zero, suc, ◌+◌, Bool, Some, None, List, [], ◌∷◌, ◌++◌}
+use Rattle.std.proofs.Common.{reverse, length, slice_get, refl, sym, ap, subst, ◌∙◌, arith}
 use Rattle.std.proofs.lemmas.List.{length-reverse, reverse-append}
 use Rattle.coap_types.specs.Past.{Sometime, all_of}
 use Rattle.coap_types.specs.declared.endpoint.Endpoint.{Endpoint}
@@ -17,7 +18,8 @@ use Rattle.coap_world.specs.declared.running.ends.ServerEnd.{ServerEnd}
 use Rattle.coap_world.proofs.Recording.Turning.{client_turned, fed_acts, of_a_client, of_a_server, server_turned}
 
 module _ {X : Type 0} where
-  placed : (xs : List X) (x g : X) (n : ℕ) → slice_get (xs ++ x ∷ []) n ≡ Some g → (slice_get xs n ≡ Some g) ⊎ ((x ≡ g) × (length xs ≡ n))
+  placed : (xs : List X) (x g : X) (n : ℕ) → slice_get (xs ++ x ∷ []) n ≡ Some g
+      → (slice_get xs n ≡ Some g) ⊎ ((x ≡ g) × (length xs ≡ n))
   placed [] x g zero h = inr (cc, refl)
   placed [] x g (suc n) h = cc
   placed (y ∷ xs) x g zero h = inl h
@@ -34,7 +36,8 @@ module _ {X : Type 0} where
   at_end (y ∷ xs) x zero h = absurd (omega (arith, h))
   at_end (y ∷ xs) x (suc n) h = at_end xs x n (omega (arith, h))
 
-  pub once_place : (xs : List X) (n : ℕ) (g : X) → slice_get (reverse xs) n ≡ Some g → Sometime (λ before h. (h ≡ g) × (length before ≡ n)) xs
+  pub once_place : (xs : List X) (n : ℕ) (g : X) → slice_get (reverse xs) n ≡ Some g
+      → Sometime (λ before h. (h ≡ g) × (length before ≡ n)) xs
   once_place [] n g h = cc
   once_place (x ∷ xs) n g h =
       elim (placed (reverse xs) x g n (subst (λ r. slice_get r n ≡ Some g) (reverse-append (x ∷ []) xs) h)) [
@@ -42,18 +45,23 @@ module _ {X : Type 0} where
         | inr b ↦ inl (b.0, sym (length-reverse xs) ∙ b.1)
       ]
 
-  pub place_once : (xs : List X) (n : ℕ) (g : X) → Sometime (λ before h. (h ≡ g) × (length before ≡ n)) xs → slice_get (reverse xs) n ≡ Some g
+  pub place_once : (xs : List X) (n : ℕ) (g : X) → Sometime (λ before h. (h ≡ g) × (length before ≡ n)) xs
+      → slice_get (reverse xs) n ≡ Some g
   place_once [] n g h = absurd h
   place_once (x ∷ xs) n g (inl p) =
-      subst (λ r. slice_get r n ≡ Some g) (sym (reverse-append (x ∷ []) xs)) (at_end (reverse xs) x n (length-reverse xs ∙ p.1) ∙ ap Some p.0)
+      subst (λ r. slice_get r n ≡ Some g) (sym (reverse-append (x ∷ []) xs))
+      (at_end (reverse xs) x n (length-reverse xs ∙ p.1) ∙ ap Some p.0)
   place_once (x ∷ xs) n g (inr r) =
-      subst (λ r. slice_get r n ≡ Some g) (sym (reverse-append (x ∷ []) xs)) (kept (reverse xs) x g n (place_once xs n g r))
+      subst (λ r. slice_get r n ≡ Some g) (sym (reverse-append (x ∷ []) xs))
+      (kept (reverse xs) x g n (place_once xs n g r))
 
 -- what stands in the log at that place
-pub number_is : (past : List Turn) (log : Log) (n : ℕ) (g : Given) → log.given ≡ given_of past → Some g ≡ slice_get log.given n → IsNumber n g past
+pub number_is : (past : List Turn) (log : Log) (n : ℕ) (g : Given) → log.given ≡ given_of past
+    → Some g ≡ slice_get log.given n → IsNumber n g past
 number_is past log n g is h = once_place (all_of given_in past) n g (sym (h ∙ ap (λ l. slice_get l n) is))
 
-pub number_there : (past : List Turn) (log : Log) (n : ℕ) (g : Given) → log.given ≡ given_of past → IsNumber n g past → slice_get log.given n ≡ Some g
+pub number_there : (past : List Turn) (log : Log) (n : ℕ) (g : Given) → log.given ≡ given_of past → IsNumber n g past
+    → slice_get log.given n ≡ Some g
 number_there past log n g is h = ap (λ l. slice_get l n) is ∙ place_once (all_of given_in past) n g h
 
 module _ (past : List Turn) (log : Log) (at n : ℕ) (is : log.given ≡ given_of past) where
@@ -65,7 +73,8 @@ module _ (past : List Turn) (log : Log) (at n : ℕ) (is : log.given ≡ given_o
     same may = let here : slice_get log.given n ≡ Some may.0 = number_there past log n may.0 is may.1 in cc
 
     pub late_comes : (g.at + max_delivery < at) → MayCome past at (Deliver n) → ⊥
-    late_comes late may = let e : may.0.at ≡ g.at = ap (λ (x : Given). x.at) (same may) in let age = may.3 in omega (arith, late, e, age)
+    late_comes late may = let e : may.0.at ≡ g.at = ap (λ (x : Given). x.at) (same may) in let age =
+        may.3 in omega (arith, late, e, age)
 
     pub astray_comes : (g.packet.to ≡ client_end → ⊥) → (g.packet.to ≡ server_end → ⊥) → MayCome past at (Deliver n) → ⊥
     astray_comes c s may =
@@ -75,29 +84,39 @@ module _ (past : List Turn) (log : Log) (at n : ℕ) (is : log.given ≡ given_o
 abbrev pub delivery : ℕ → ℕ → ℕ → Event
 delivery at word n = record { at = at; word = word; what = Deliver n }
 
-module _ {A K : Type 0} (content : K → Content) (past : List Turn) (at word n : ℕ) (g : Given) (from : Endpoint) (bytes : List ℕ) (log begun left : Log) (refused : Bool)
-    (is : log.given ≡ given_of past) (there : Some g ≡ slice_get log.given n) (age : at ≤ g.at + max_delivery) (of : from ≡ g.from) (are : bytes ≡ g.packet.bytes) (begins : begun ≡ line_put (Begins at) log) where
+module _ {A K : Type 0} (content : K → Content) (past : List Turn) (at word n : ℕ) (g : Given) (from : Endpoint)
+    (bytes : List ℕ) (log begun left : Log) (refused : Bool)
+    (is : log.given ≡ given_of past) (there : Some g ≡ slice_get log.given n) (age : at ≤ g.at + max_delivery)
+    (of : from ≡ g.from) (are : bytes ≡ g.packet.bytes) (begins : begun ≡ line_put (Begins at) log) where
   pub to_server :
       (a : ClientEnd A) (s t u : ServerEnd K A) (told : Log) → g.packet.to ≡ server_end
-      → Taken (ServerLed content) OfServer (server_lines (sender_in a.senders)) at (FeedsServer at word from bytes) refused s begun t told
-      → ServerEnds (ServerLed content) (server_lines (sender_in a.senders)) at refused t told u left → Turned ClientLed (ServerLed content) past (delivery at word n) a s log a u left
+      → Taken (ServerLed content) OfServer (server_lines (sender_in a.senders)) at
+      (FeedsServer at word from bytes) refused s begun t told
+      → ServerEnds (ServerLed content) (server_lines (sender_in a.senders)) at refused t told u left
+      → Turned ClientLed (ServerLed content) past (delivery at word n) a s log a u left
   to_server a s t u told to fed ends =
       let number : IsNumber n g past = number_is past log n g is there in
-      let right : Taken (ServerLed content) OfServer (server_lines (sender_in a.senders)) at (FeedsServer at word g.from g.packet.bytes) refused s begun t told =
-      subst (λ b. Taken (ServerLed content) OfServer (server_lines (sender_in a.senders)) at (FeedsServer at word g.from b) refused s begun t told) are
-      (subst (λ f. Taken (ServerLed content) OfServer (server_lines (sender_in a.senders)) at (FeedsServer at word f bytes) refused s begun t told) of fed) in
+      let right : Taken (ServerLed content) OfServer (server_lines (sender_in a.senders)) at
+      (FeedsServer at word g.from g.packet.bytes) refused s begun t told =
+      subst (λ b. Taken (ServerLed content) OfServer (server_lines (sender_in a.senders)) at
+      (FeedsServer at word g.from b) refused s begun t told) are
+      (subst (λ f. Taken (ServerLed content) OfServer (server_lines (sender_in a.senders)) at
+      (FeedsServer at word f bytes) refused s begun t told) of fed) in
       of_a_server content past (delivery at word n) log left a s u
-      (server_turned content (sender_in a.senders) past (delivery at word n) refused right.calls s t u log begun told left (g, number, inr to, age)
+      (server_turned content (sender_in a.senders) past
+      (delivery at word n) refused right.calls s t u log begun told left (g, number, inr to, age)
       (λ entries on. (g, number, inl (to, right.calls, right.are, on)))
       begins right.acts ends)
 
   pub to_client :
-      (a b c : ClientEnd A) (s : ServerEnd K A) → g.packet.to ≡ client_end → Fed ClientLed (FeedsClient at word from bytes) refused a b → ClientEnds ClientLed at refused b begun c left
+      (a b c : ClientEnd A) (s : ServerEnd K A) → g.packet.to ≡ client_end
+      → Fed ClientLed (FeedsClient at word from bytes) refused a b → ClientEnds ClientLed at refused b begun c left
       → Turned ClientLed (ServerLed content) past (delivery at word n) a s log c s left
   to_client a b c s to fed ends =
       let number : IsNumber n g past = number_is past log n g is there in
       let right : Fed ClientLed (FeedsClient at word g.from g.packet.bytes) refused a b =
-      subst (λ x. Fed ClientLed (FeedsClient at word g.from x) refused a b) are (subst (λ f. Fed ClientLed (FeedsClient at word f bytes) refused a b) of fed) in
+      subst (λ x. Fed ClientLed (FeedsClient at word g.from x) refused a b) are
+      (subst (λ f. Fed ClientLed (FeedsClient at word f bytes) refused a b) of fed) in
       of_a_client content past (delivery at word n) log left a c s
       (client_turned past (delivery at word n) refused right.calls a b c log begun begun left (g, number, inl to, age)
       (λ entries on. (g, number, inr (to, right.calls, right.are, on)))

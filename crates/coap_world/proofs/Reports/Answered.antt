@@ -34,7 +34,8 @@ module _ (config : Config) where
   -- the response that a datagram carries was made here
   abbrev CarriesAt : T.Packet → List Entry → Entry → Type 0
   CarriesAt p past (OfClient c) = ⊥
-  CarriesAt p past (OfServer c) = CarriesResponse config.limit config.server_szx config.server_word p (server_trace config past) c
+  CarriesAt p past (OfServer c) = CarriesResponse config.limit config.server_szx config.server_word p
+      (server_trace config past) c
 
   abbrev delays : List S.Delay → List S.Call
   delays ds = map (λ (d : S.Delay). S.Delays d.path d.ms true) ds
@@ -44,7 +45,8 @@ module _ (config : Config) where
   none_made o (d ∷ ds) (inr h) = none_made o ds h
   none_made o (d ∷ ds) (inl h) = let here = h.made.here in cc here
 
-  none_begun : (p : T.Packet) (ds : List S.Delay) → Sometime (λ past c. CarriesResponse config.limit config.server_szx config.server_word p past c) (delays ds) → ⊥
+  none_begun : (p : T.Packet) (ds : List S.Delay)
+      → Sometime (λ past c. CarriesResponse config.limit config.server_szx config.server_word p past c) (delays ds) → ⊥
   none_begun p [] h = h
   none_begun p (d ∷ ds) (inr h) = none_begun p ds h
   none_begun p (d ∷ ds) (inl (inl k)) = let here = k.here in cc here
@@ -52,7 +54,9 @@ module _ (config : Config) where
   none_begun p (d ∷ ds) (inl (inr (inr (inl k)))) = let here = k.handed in cc here
   none_begun p (d ∷ ds) (inl (inr (inr (inr k)))) = none_made k.observer ds k.made
 
-  in_entries : (p : T.Packet) (all : List Entry) → Sometime (λ past c. CarriesResponse config.limit config.server_szx config.server_word p past c) (server_trace config all) → Sometime (CarriesAt p) all
+  in_entries : (p : T.Packet) (all : List Entry)
+      → Sometime (λ past c. CarriesResponse config.limit config.server_szx config.server_word p past c)
+      (server_trace config all) → Sometime (CarriesAt p) all
   in_entries p [] h = absurd (none_begun p config.delays h)
   in_entries p (OfClient c ∷ past) h = inr (in_entries p past h)
   in_entries p (OfServer c ∷ past) (inl h) = inl h
@@ -60,9 +64,12 @@ module _ (config : Config) where
 
   module _ (m : Message) (p : T.Packet) (reads : Reads p.bytes m) (to : p.to ≡ client_end) where
     -- what the datagram carries is what it spells
-    response : (there : Endpoint) (token : List ℕ) (r : R.Response) → Carries p there token r → IsResponse m there token r
+    response : (there : Endpoint) (token : List ℕ) (r : R.Response) → Carries p there token r
+        → IsResponse m there token r
     response there token r k =
-        let is : m ≡ with_head k.kind k.id (content_with token r) = one_message p.bytes m (with_head k.kind k.id (content_with token r)) reads.are_bytes reads.spells k.spells in
+        let is : m ≡ with_head k.kind k.id (content_with token r) =
+        one_message p.bytes m (with_head k.kind k.id (content_with token r)) reads.are_bytes reads.spells k.spells
+        in
         record {
           to_client = sym k.there ∙ to;
           token_is = sym (ap (λ (x : Message). x.token) is);
@@ -73,10 +80,15 @@ module _ (config : Config) where
 
     answers_at : (past : List Entry) (e : Entry) → CarriesAt p past e → AnswersAt config m past e
     answers_at past (OfClient c) k = absurd k
-    answers_at past (OfServer c) (inl k) = replies k.request k.here (response k.request.asked.from k.request.asked.token _ k.carries)
-    answers_at past (OfServer c) (inr (inl k)) = continues k.block k.size k.taken k.more k.asks (response k.block.asked.from k.block.asked.token _ k.carries)
-    answers_at past (OfServer c) (inr (inr (inl k))) = refuses k.asked k.verdict k.code k.comes k.handed k.unserved k.refuses (response k.asked.from k.asked.token _ k.carries)
-    answers_at past (OfServer c) (inr (inr (inr k))) = notifies k.observer k.reply k.here k.made k.shows (response k.observer.to k.observer.token _ k.carries)
+    answers_at past (OfServer c) (inl k) = replies k.request k.here
+        (response k.request.asked.from k.request.asked.token _ k.carries)
+    answers_at past (OfServer c) (inr (inl k)) =
+        continues k.block k.size k.taken k.more k.asks (response k.block.asked.from k.block.asked.token _ k.carries)
+    answers_at past (OfServer c) (inr (inr (inl k))) =
+        refuses k.asked k.verdict k.code k.comes k.handed k.unserved k.refuses
+        (response k.asked.from k.asked.token _ k.carries)
+    answers_at past (OfServer c) (inr (inr (inr k))) =
+        notifies k.observer k.reply k.here k.made k.shows (response k.observer.to k.observer.token _ k.carries)
 
     answers_in : (w : List Entry) → Sometime (CarriesAt p) w → Sometime (AnswersAt config m) w
     answers_in [] h = h
@@ -90,24 +102,36 @@ module _ (config : Config) where
         cc (none, reads.role)
 
   -- what the message layer of the client hands up here
-  pub came_answered : (past : List Entry) (c : C.Call) → Lawful config (OfClient c ∷ past) → (m : Message) → Ever (Hears server_end m) (client_adds config (client_of past) c) → Sometime (AnswersAt config m) past
+  pub came_answered : (past : List Entry) (c : C.Call) → Lawful config (OfClient c ∷ past) → (m : Message)
+      → Ever (Hears server_end m) (client_adds config (client_of past) c) → Sometime (AnswersAt config m) past
   came_answered past c law m heard =
       let e : Entry = OfClient c in
-      let layer = subst (Ever (Hears server_end m)) (sym (client_next config (client_of past) c)) (Ever_front (Hears server_end m) (client_adds config (client_of past) c) (client_layer config (client_of past)) heard) in
+      let layer = subst (Ever (Hears server_end m)) (sym (client_next config (client_of past) c))
+      (Ever_front (Hears server_end m) (client_adds config (client_of past) c)
+      (client_layer config (client_of past)) heard) in
       let near = subst (Ever (Hears server_end m)) (sym (near_is config (e ∷ past))) layer in
-      let g = was_given config.client_word config.server_word client_end server_end m (hops_in config (e ∷ past)) law.channel near in
+      let g = was_given config.client_word config.server_word client_end server_end m
+      (hops_in config (e ∷ past)) law.channel near in
       let p : T.Packet = record { to = client_end; bytes = g.bytes } in
-      let far = subst (Ever (SendsTo client_end g.bytes)) (far_is config (e ∷ past)) (far_ever (SendsTo client_end g.bytes) (hops_in config (e ∷ past)) g.sent) in
-      elim (server_facts.gives config.limit config.server_szx config.server_word (server_trace config past) law.server p far) [
+      let far = subst (Ever (SendsTo client_end g.bytes)) (far_is config (e ∷ past))
+      (far_ever (SendsTo client_end g.bytes) (hops_in config (e ∷ past)) g.sent) in
+      elim (server_facts.gives config.limit config.server_szx config.server_word
+      (server_trace config past) law.server p far) [
         | inl none ↦ absurd (not_empty m p g.reads refl none)
         | inr made ↦ answers_in m p g.reads refl past (in_entries p past made)
       ]
 
   -- what is heard here
-  answered : (past : List Entry) (c : C.Call) → Lawful config (OfClient c ∷ past) → (m : Message) → hears c ≡ Some m → Sometime (AnswersAt config m) past
-  answered past c law m is = came_answered past c law m ((client_facts.handed_up server_end config.client_szx config.client_word (client_of (OfClient c ∷ past)) law.client).0 m is)
+  answered : (past : List Entry) (c : C.Call) → Lawful config (OfClient c ∷ past) → (m : Message) → hears c ≡ Some m
+      → Sometime (AnswersAt config m) past
+  answered past c law m is = came_answered past c law m
+      ((client_facts.handed_up server_end config.client_szx config.client_word
+      (client_of (OfClient c ∷ past)) law.client).0 m is)
 
   pub all_answered : (all : List Entry) → Lawful config all → AllAnswered config all
   all_answered [] law = tt
-  all_answered (OfClient c ∷ past) law = (λ m h. answered past c law m h, all_answered past (lawful_back config past (OfClient c) law))
+  all_answered (OfClient c ∷ past) law = (
+    λ m h. answered past c law m h,
+    all_answered past (lawful_back config past (OfClient c) law),
+  )
   all_answered (OfServer c ∷ past) law = (λ m h. absurd h, all_answered past (lawful_back config past (OfServer c) law))

@@ -30,11 +30,13 @@ use Rattle.coap_world.proofs.Requests.Traced.{sent_later, traced, brought_in}
 use Rattle.coap_world.proofs.Reports.PathRead.{path_read}
 
 -- what is asked of the store has the server's block size
-szx_asked : (limit szx : ℕ) (past : List S.Call) (c : S.Call) (a : Asked) (q : Question) (m : Message) (v : Verdict) → AsksBy limit szx past c a q v → ReadsOf szx m v → q.szx ≡ szx
+szx_asked : (limit szx : ℕ) (past : List S.Call) (c : S.Call) (a : Asked) (q : Question) (m : Message) (v : Verdict)
+    → AsksBy limit szx past c a q v → ReadsOf szx m v → q.szx ≡ szx
 szx_asked limit szx past c a q m Ignored h r = absurd h
 szx_asked limit szx past c a q m (Refused code) h r = absurd h
 szx_asked limit szx past c a q m (Asks p) h r = ap (λ (z : Question). z.szx) h ∙ ap (λ (z : Question). z.szx) r.0.is
-szx_asked limit szx past c a q m (Uploads p b) h r = ap (λ (z : Question). z.szx) h.question ∙ ap (λ (z : Question). z.szx) r.0.is
+szx_asked limit szx past c a q m (Uploads p b) h r = ap (λ (z : Question). z.szx) h.question
+    ∙ ap (λ (z : Question). z.szx) r.0.is
 
 good_of : (m : Message) (v : Verdict) → NoFaultIn m v → Final v → HasNoFault m
 good_of m Ignored h final = absurd final
@@ -59,25 +61,31 @@ module _ (config : Config) where
     pub path : x.question.path ≡ path_of sending.request.options
     pub size : x.question.szx ≡ config.server_szx
 
-  pub asked_by : (past : List Entry) (c : S.Call) → Lawful config (OfServer c ∷ past) → (x : Serving) → ServesAt config x past (OfServer c) → x.asked.from ≡ client_end → AskedBy x past
+  pub asked_by : (past : List Entry) (c : S.Call) → Lawful config (OfServer c ∷ past) → (x : Serving)
+      → ServesAt config x past (OfServer c) → x.asked.from ≡ client_end → AskedBy x past
   asked_by past c law x here from =
       let t : List S.Call = server_trace config past in
       let w : List Entry = OfServer c ∷ past in
-      let brings = (server_facts.handed config.limit config.server_szx config.server_word (c ∷ t) law.server).0 x here in
+      let brings = (server_facts.handed config.limit config.server_szx config.server_word (c ∷ t) law.server).0 x here
+      in
       let k = traced config x.asked x.question w law.came from (brought_in config x.asked x.question w brings) in
       let s : Sending = k.came.sending in
       let m : Message = request_of k.came.con.id s in
-      let final = final_of config.limit config.server_szx (server_trace config k.past) k.call x.asked x.question k.verdict k.asks in
+      let final = final_of config.limit config.server_szx
+      (server_trace config k.past) k.call x.asked x.question k.verdict k.asks in
       let read = subst (ReadsOf config.server_szx m) k.came.verdict (server_facts.reads config.server_szx m) in
-      let read_as = options_asked config.limit config.server_szx (server_trace config k.past) k.call x.asked x.question m k.verdict k.asks read in
-      let good = good_of m k.verdict (subst (NoFaultIn m) k.came.verdict (server_facts.questions.faultless config.server_szx m)) final in
+      let read_as = options_asked config.limit config.server_szx
+      (server_trace config k.past) k.call x.asked x.question m k.verdict k.asks read in
+      let good = good_of m k.verdict (subst (NoFaultIn m) k.came.verdict
+      (server_facts.questions.faultless config.server_szx m)) final in
       record {
         sending = s;
         sent = k.sent;
         token = sym (ap (λ (z : Asked). z.token) k.came.asked);
         options = read_as.0;
         path = read_as.1 ∙ path_read s.request.options good.critical;
-        size = szx_asked config.limit config.server_szx (server_trace config k.past) k.call x.asked x.question m k.verdict k.asks read;
+        size = szx_asked config.limit config.server_szx
+            (server_trace config k.past) k.call x.asked x.question m k.verdict k.asks read;
       }
 
   -- the client's request that registered an observer
@@ -89,17 +97,27 @@ module _ (config : Config) where
     pub size : (most : ℕ) → config.server_szx ≤ most → o.szx ≤ most
 
   later : (o : Observer) (w : List Entry) (e : Entry) → RegisteredBy o w → RegisteredBy o (e ∷ w)
-  later o w e k = record { sending = k.sending; sent = sent_later config k.sending w e k.sent; token = k.token; path = k.path; size = k.size }
+  later o w e k = record {
+    sending = k.sending;
+    sent = sent_later config k.sending w e k.sent;
+    token = k.token;
+    path = k.path;
+    size = k.size;
+  }
 
-  none_made : (o : Observer) (ds : List S.Delay) → WasMade config.limit config.server_szx (map (λ (d : S.Delay). S.Delays d.path d.ms true) ds) o → ⊥
+  none_made : (o : Observer) (ds : List S.Delay)
+      → WasMade config.limit config.server_szx (map (λ (d : S.Delay). S.Delays d.path d.ms true) ds) o → ⊥
   none_made o [] h = h
   none_made o (d ∷ ds) (inr h) = none_made o ds h
   none_made o (d ∷ ds) (inl h) = let here = h.made.here in cc here
 
-  pub registered_by : (o : Observer) (w : List Entry) → Lawful config w → o.to ≡ client_end → WasMade config.limit config.server_szx (server_trace config w) o → RegisteredBy o w
+  pub registered_by : (o : Observer) (w : List Entry) → Lawful config w → o.to ≡ client_end
+      → WasMade config.limit config.server_szx (server_trace config w) o → RegisteredBy o w
   registered_by o [] law to h = absurd (none_made o config.delays h)
-  registered_by o (OfClient c ∷ past) law to h = later o past (OfClient c) (registered_by o past (lawful_back config past (OfClient c) law) to h)
-  registered_by o (OfServer c ∷ past) law to (inr h) = later o past (OfServer c) (registered_by o past (lawful_back config past (OfServer c) law) to h)
+  registered_by o (OfClient c ∷ past) law to h =
+      later o past (OfClient c) (registered_by o past (lawful_back config past (OfClient c) law) to h)
+  registered_by o (OfServer c ∷ past) law to (inr h) =
+      later o past (OfServer c) (registered_by o past (lawful_back config past (OfServer c) law) to h)
   registered_by o (OfServer c ∷ past) law to (inl h) =
       let k = asked_by past c law h.made.request h.made.here (h.made.from ∙ to) in
       record {
@@ -107,5 +125,7 @@ module _ (config : Config) where
         sent = k.sent;
         token = k.token ∙ h.made.token_is;
         path = sym h.made.path_is ∙ k.path;
-        size = λ most small. subst (λ n. n ≤ most) (sym h.size_is) (szx_least (block_of h.made.request.question.options) h.made.request.question.szx most (subst (λ n. n ≤ most) (sym k.size) small));
+        size = λ most small. subst (λ n. n ≤ most) (sym h.size_is)
+            (szx_least (block_of h.made.request.question.options) h.made.request.question.szx most
+            (subst (λ n. n ≤ most) (sym k.size) small));
       }

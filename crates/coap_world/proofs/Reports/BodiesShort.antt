@@ -1,5 +1,6 @@
 -- What a path holds has at most 65,536 bytes.
-use Rattle.std.proofs.Common.{◌≡◌, ◌≤◌, ℕ, ◌+◌, max, nat_lt, nat_le, Bool, true, false, not, ◌&&◌, is_some, Option, Some}
+use Rattle.std.proofs.Common.{◌≡◌, ◌≤◌, ℕ, ◌+◌, max, nat_lt, nat_le, Bool, true, false, not, ◌&&◌, is_some, Option}
+use Rattle.std.proofs.Common.{Some}
 use Rattle.std.proofs.Common.{None, List, [], ◌∷◌, ◌++◌, length, refl, ap, sym, subst, cond, arith, Result, inl, inr}
 use Rattle.std.specs.Prelude.{IfSome}
 use Rattle.std.proofs.lemmas.List.{length-append}
@@ -35,22 +36,28 @@ IsShort o = IfSome o (λ (h : Held). length h.body ≤ 65536)
 -- what the tests of a change let through
 
 put_short : (old : Content) (at : ℕ) (path : List (List ℕ)) (len : ℕ) → put_refusal old at path len ≡ None → len ≤ 65536
-put_short old at path len none = by (nat_lt 65536 len) (not (is_some (old.holds path)) && nat_le 256 old.paths) refl none
+put_short old at path len none = by (nat_lt 65536 len)
+    (not (is_some (old.holds path)) && nat_le 256 old.paths) refl none
   where
-    by : (a b : Bool) → nat_lt 65536 len ≡ a → cond a (Some TooLarge) (cond b (Some TooManyPaths) (rate_refusal old.tally at)) ≡ None → len ≤ 65536
+    by : (a b : Bool) → nat_lt 65536 len ≡ a → cond a (Some TooLarge)
+        (cond b (Some TooManyPaths) (rate_refusal old.tally at)) ≡ None → len ≤ 65536
     by true b is h = absurd (cc h)
     by false b is h = lt_not 65536 len is
 
-append_short : (old : Content) (at : ℕ) (was : Held) (more : List ℕ) → append_refusal old at was (length more) ≡ None → length (was.body ++ more) ≤ 65536
+append_short : (old : Content) (at : ℕ) (was : Held) (more : List ℕ) → append_refusal old at was (length more) ≡ None
+    → length (was.body ++ more) ≤ 65536
 append_short old at was more none = by (nat_lt 65536 (length was.body + length more)) refl none
   where
-    by : (a : Bool) → nat_lt 65536 (length was.body + length more) ≡ a → cond a (Some TooLarge) (rate_refusal old.tally at) ≡ None → length (was.body ++ more) ≤ 65536
+    by : (a : Bool) → nat_lt 65536 (length was.body + length more) ≡ a
+        → cond a (Some TooLarge) (rate_refusal old.tally at) ≡ None → length (was.body ++ more) ≤ 65536
     by true is h = absurd (cc h)
-    by false is h = let k = lt_not 65536 (length was.body + length more) is in let all = length-append was.body more in omega (arith, k, all)
+    by false is h = let k = lt_not 65536 (length was.body + length more) is in let all =
+        length-append was.body more in omega (arith, k, all)
 
 -- what a request leaves there
 
-module _ (old : Content) (at : ℕ) (q : Question) (reply : Reply) (left : Content) (short : IsShort (old.holds q.path)) where
+module _ (old : Content) (at : ℕ) (q : Question) (reply : Reply) (left : Content)
+    (short : IsShort (old.holds q.path)) where
   abbrev Left : Type 0
   Left = IsShort (left.holds q.path)
 
@@ -60,11 +67,13 @@ module _ (old : Content) (at : ℕ) (q : Question) (reply : Reply) (left : Conte
   kept : left ≡ old → Left
   kept h = subst IsShort (sym (ap (λ (s : Content). s.holds q.path) h)) short
 
-  by_put : (o : Option StoreRefusal) → put_refusal old at q.path (length q.body) ≡ o → PutBy o old at q reply left → Left
+  by_put : (o : Option StoreRefusal) → put_refusal old at q.path (length q.body) ≡ o → PutBy o old at q reply left
+      → Left
   by_put (Some why) is h = unchanged h.1
   by_put None is h = subst IsShort (sym h.1.there) (put_short old at q.path (length q.body) is)
 
-  by_join : (was : Held) (o : Option StoreRefusal) → append_refusal old at was (length q.body) ≡ o → JoinBy o was old at q reply left → Left
+  by_join : (was : Held) (o : Option StoreRefusal) → append_refusal old at was (length q.body) ≡ o
+      → JoinBy o was old at q reply left → Left
   by_join was (Some why) is h = unchanged h.1
   by_join was None is h = subst IsShort (sym h.1.there) (append_short old at was q.body is)
 
@@ -107,35 +116,50 @@ module _ (limit szx : ℕ) where
     same_short : (left : Content) (at : ℕ) (path : List (List ℕ)) → left ≡ later store at → IsShort (left.holds path)
     same_short left at path h = subst IsShort (sym (ap (λ (s : Content). s.holds path) h)) (store_short path)
 
-    sets_short : (o : Option StoreRefusal) (at : ℕ) (path : List (List ℕ)) (format : Option ℕ) (body : List ℕ) (answer : Result ℕ StoreRefusal) (left : Content)
-        → put_refusal store at path (length body) ≡ o → SetsBy o store at path format body answer left → IsShort (left.holds path)
+    sets_short : (o : Option StoreRefusal) (at : ℕ) (path : List (List ℕ)) (format : Option ℕ) (body : List ℕ)
+        (answer : Result ℕ StoreRefusal) (left : Content)
+        → put_refusal store at path (length body) ≡ o → SetsBy o store at path format body answer left
+        → IsShort (left.holds path)
     sets_short (Some why) at path format body answer left is h = same_short left at path h.1
-    sets_short None at path format body answer left is h = subst IsShort (sym h.1.there) (put_short store at path (length body) is)
+    sets_short None at path format body answer left is h =
+        subst IsShort (sym h.1.there) (put_short store at path (length body) is)
 
-    removes_short : (o : Option Held) (why : Option StoreRefusal) (at : ℕ) (path : List (List ℕ)) (answer : Result Bool StoreRefusal) (left : Content)
+    removes_short : (o : Option Held) (why : Option StoreRefusal) (at : ℕ) (path : List (List ℕ))
+        (answer : Result Bool StoreRefusal) (left : Content)
         → RemovesBy o why store at path answer left → IsShort (left.holds path)
     removes_short None why at path answer left h = same_short left at path h.1
     removes_short (Some held) (Some why) at path answer left h = same_short left at path h.1
     removes_short (Some held) None at path answer left h = subst IsShort (sym h.1.there) tt
 
   module _ (t : List S.Call) (c : S.Call) (rows : ServerRows limit szx (c ∷ t)) (short : AllShort t) where
-    serving_short : (x : Change) (o : Option Serving) → serving (own_of limit szx t) c ≡ o → changed_by o ≡ Some x → IsShort x.held
+    serving_short : (x : Change) (o : Option Serving) → serving (own_of limit szx t) c ≡ o → changed_by o ≡ Some x
+        → IsShort x.held
     serving_short x None is h = absurd (cc h)
     serving_short x (Some y) is h =
         let k = (all_served limit szx (c ∷ t) rows).0.serves y is in
-        let old : IsShort (y.old.holds y.question.path) = subst (λ (s : Content). IsShort (s.holds y.question.path)) (sym (leaves (own_of limit szx t) c y is).found) (store_short t rows.1 short y.question.path) in
-        subst IsShort (change_held y.question.path y.old y.left x h) (serves_short y.old k.0 y.question y.reply y.left old k.1)
+        let old : IsShort (y.old.holds y.question.path) =
+        subst (λ (s : Content). IsShort (s.holds y.question.path)) (sym (leaves (own_of limit szx t) c y is).found)
+        (store_short t rows.1 short y.question.path) in
+        subst IsShort (change_held y.question.path y.old y.left x h)
+        (serves_short y.old k.0 y.question y.reply y.left old k.1)
 
-  change_short : (t : List S.Call) (c : S.Call) → ServerRows limit szx (c ∷ t) → AllShort t → (x : Change) → change (own_of limit szx t) c ≡ Some x → IsShort x.held
+  change_short : (t : List S.Call) (c : S.Call) → ServerRows limit szx (c ∷ t) → AllShort t → (x : Change)
+      → change (own_of limit szx t) c ≡ Some x → IsShort x.held
   change_short t (S.Sets now path format body answer left) rows short x h =
       let s = own_of limit szx t in
-      subst IsShort (change_held path s.store left x h) (sets_short t rows.1 short (put_refusal s.store (max s.clock now) path (length body)) (max s.clock now) path format body answer left refl rows.0)
+      subst IsShort (change_held path s.store left x h)
+      (sets_short t rows.1 short (put_refusal s.store (max s.clock now) path (length body))
+      (max s.clock now) path format body answer left refl rows.0)
   change_short t (S.Removes now path answer left) rows short x h =
       let s = own_of limit szx t in
-      subst IsShort (change_held path s.store left x h) (removes_short t rows.1 short (s.store.holds path) (rate_refusal s.store.tally (max s.clock now)) (max s.clock now) path answer left rows.0)
+      subst IsShort (change_held path s.store left x h)
+      (removes_short t rows.1 short (s.store.holds path) (rate_refusal s.store.tally (max s.clock now))
+      (max s.clock now) path answer left rows.0)
   change_short t (S.Delays path ms answer) rows short x h = absurd (cc h)
-  change_short t (S.Feeds now from bytes word up came w below) rows short x h = serving_short t (S.Feeds now from bytes word up came w below) rows short x _ refl h
-  change_short t (S.Ticks now word below room d passed w id answer) rows short x h = serving_short t (S.Ticks now word below room d passed w id answer) rows short x _ refl h
+  change_short t (S.Feeds now from bytes word up came w below) rows short x h =
+      serving_short t (S.Feeds now from bytes word up came w below) rows short x _ refl h
+  change_short t (S.Ticks now word below room d passed w id answer) rows short x h =
+      serving_short t (S.Ticks now word below room d passed w id answer) rows short x _ refl h
   change_short t (S.NextOut answer) rows short x h = absurd (cc h)
   change_short t (S.Gets path answer) rows short x h = absurd (cc h)
   change_short t (S.TellsApplied answer) rows short x h = absurd (cc h)
@@ -147,7 +171,8 @@ module _ (limit szx : ℕ) where
       then x true h = h
       then x false h = short path
 
-      by : (o : Option Change) → change (own_of limit szx t) c ≡ o → IsShort (held_then path o (held_at limit szx path t))
+      by : (o : Option Change) → change (own_of limit szx t) c ≡ o
+          → IsShort (held_then path o (held_at limit szx path t))
       by None is = short path
       by (Some x) is = then x (same_path x.path path) (change_short t c rows short x is)
 
@@ -155,11 +180,13 @@ module _ (limit szx : ℕ) where
   all_short [] rows = λ path. tt
   all_short (c ∷ t) rows = short_step t c rows (all_short t rows.1)
 
-  held_short : (path : List (List ℕ)) (held : Held) (t : List S.Call) → ServerRows limit szx t → held_at limit szx path t ≡ Some held → length held.body ≤ 65536
+  held_short : (path : List (List ℕ)) (held : Held) (t : List S.Call) → ServerRows limit szx t
+      → held_at limit szx path t ≡ Some held → length held.body ≤ 65536
   held_short path held t rows is = subst IsShort is (all_short t rows path)
 
   -- what was held too
-  pub was_short : (path : List (List ℕ)) (held : Held) (t : List S.Call) → ServerRows limit szx t → WasHeld limit szx path held t → length held.body ≤ 65536
+  pub was_short : (path : List (List ℕ)) (held : Held) (t : List S.Call) → ServerRows limit szx t
+      → WasHeld limit szx path held t → length held.body ≤ 65536
   was_short path held [] rows h = absurd h
   was_short path held (c ∷ t) rows (inl is) = held_short path held (c ∷ t) rows is
   was_short path held (c ∷ t) rows (inr h) = was_short path held t rows.1 h

@@ -71,17 +71,21 @@ succeeds_applied Dropped code h = absurd h
 
 -- .. and failure of the last request of a call is not
 module _ (szx k : ℕ) (r : C.Request) (body : List ℕ) (code : ℕ) where
-  none_of_upload : (u : UploadState) (b : Bool) → not b ≡ true → Rattle.coap_ends.specs.ClientSide.ClientCodes.FailsBlock b u code → ((code == created) || (code == changed)) ≡ false
+  none_of_upload : (u : UploadState) (b : Bool) → not b ≡ true
+      → Rattle.coap_ends.specs.ClientSide.ClientCodes.FailsBlock b u code
+      → ((code == created) || (code == changed)) ≡ false
   none_of_upload u true last h = absurd (cc last)
   none_of_upload u false last h = ap (λ b. b || (code == changed)) (apart code created h.0) ∙ apart code changed h.1
 
-  of_upload : (method : Method) (u : UploadState) → CarriesBody szx method body (Uploads u) → ((code == created) || (code == changed)) ≡ false → applied_by method code ≡ false
+  of_upload : (method : Method) (u : UploadState) → CarriesBody szx method body (Uploads u)
+      → ((code == created) || (code == changed)) ≡ false → applied_by method code ≡ false
   of_upload Get u carries h = refl
   of_upload Post u carries h = h
   of_upload Put u carries h = h
   of_upload Delete u carries h = absurd carries
 
-  of_single : (method : Method) → CarriesBody szx method body Single → (code == deleted) ≡ false → applied_by method code ≡ false
+  of_single : (method : Method) → CarriesBody szx method body Single → (code == deleted) ≡ false
+      → applied_by method code ≡ false
   of_single Get carries h = refl
   of_single Post carries h = absurd carries
   of_single Put carries h = absurd carries
@@ -93,7 +97,8 @@ module _ (szx k : ℕ) (r : C.Request) (body : List ℕ) (code : ℕ) where
   of_fetch Put f carries = absurd carries
   of_fetch Delete f carries = absurd carries
 
-  pub fails_none : (method : Method) (tr : Transfer) → CarriesBody szx method body tr → is_last (Calling k r tr) ≡ true → Fails (Calling k r tr) code → applied_by method code ≡ false
+  pub fails_none : (method : Method) (tr : Transfer) → CarriesBody szx method body tr → is_last (Calling k r tr) ≡ true
+      → Fails (Calling k r tr) code → applied_by method code ≡ false
   fails_none method (Fetches f) carries last h = of_fetch method f carries
   fails_none method (Uploads u) carries last h = of_upload method u carries (none_of_upload u (more_follows u) last h)
   fails_none method Single carries last h = of_single method carries (apart code deleted h)
@@ -103,18 +108,21 @@ module _ (szx k : ℕ) (r : C.Request) (body : List ℕ) (code : ℕ) where
 abbrev Right : Method → ℕ → Type 0
 Right method code = is_applied code ≡ applied_by method code
 
-refusal_right : (method : Method) (w : StoreRefusal) → Right method 141 → Right method 163 → Right method (R.refusal_code w)
+refusal_right : (method : Method) (w : StoreRefusal) → Right method 141 → Right method 163
+    → Right method (R.refusal_code w)
 refusal_right method why.TooLarge large other = large
 refusal_right method why.Memory large other = other
 refusal_right method why.TooManyPaths large other = other
 refusal_right method why.RateExceeded large other = other
 refusal_right method why.VersionsSpent large other = other
 
-bare_right : (method : Method) (code offset : ℕ) (r : Reply) → Right method code → r ≡ R.bare code offset → Right method r.code
+bare_right : (method : Method) (code offset : ℕ) (r : Reply) → Right method code → r ≡ R.bare code offset
+    → Right method r.code
 bare_right method code offset r k is = subst (Right method) (sym (ap (λ (x : Reply). x.code) is)) k
 
 got_right : (o t : ℕ) (a b c : Bool) (tag : Option (List ℕ)) (r : Reply) → is_applied r.code ≡ false
-    → is_applied (cond a (R.bare 134 o) (cond b (record (R.bare 67 o) { tag = tag }) (cond c (R.bare 128 o) r))).code ≡ false
+    → is_applied (cond a (R.bare 134 o) (cond b (record (R.bare 67 o) { tag = tag }) (cond c (R.bare 128 o) r))).code
+    ≡ false
 got_right o t true b c tag r k = refl
 got_right o t false true c tag r k = refl
 got_right o t false false true tag r k = refl
@@ -124,9 +132,12 @@ module _ (old : Content) (at : ℕ) (q : Question) (reply : Reply) (left : Conte
   get_right : (o : Option Held) → is_applied (R.got o q).code ≡ false
   get_right None = refl
   get_right (Some held) =
-      got_right (offset_by (block_of q.options)) 0 (not (accepts held.format q.options)) (etag_names held.version q.options)
-      (nat_lt 0 (offset_by (block_of q.options)) && nat_le (length held.body) (offset_by (block_of q.options))) (Some (tag_of held.version))
-      (R.content_reply held (is_some (block_of q.options)) (offset_by (block_of q.options)) (szx_by (block_of q.options) q.szx)) refl
+      got_right (offset_by (block_of q.options)) 0 (not (accepts held.format q.options))
+      (etag_names held.version q.options)
+      (nat_lt 0 (offset_by (block_of q.options)) && nat_le (length held.body) (offset_by (block_of q.options)))
+      (Some (tag_of held.version))
+      (R.content_reply held (is_some (block_of q.options)) (offset_by (block_of q.options))
+      (szx_by (block_of q.options) q.szx)) refl
 
   put_right : (o : Option StoreRefusal) → R.PutBy o old at q reply left → Right Put reply.code
   put_right (Some w) h = bare_right Put (R.refusal_code w) 0 reply (refusal_right Put w refl refl) h.0
@@ -184,7 +195,8 @@ module _ (szx : ℕ) (m : Message) (code : ℕ) where
   bad_code Ack h = absurd (cc h)
   bad_code Rst h = absurd (cc h)
 
-  upload_code : (method : Method) (q : Question) (o : Option Block) → checks.uploading method q o ≡ checks.Refused code → is_applied code ≡ false
+  upload_code : (method : Method) (q : Question) (o : Option Block) → checks.uploading method q o ≡ checks.Refused code
+      → is_applied code ≡ false
   upload_code Get q None h = absurd (cc h)
   upload_code Post q None h = absurd (cc h)
   upload_code Put q None h = absurd (cc h)
@@ -195,7 +207,8 @@ module _ (szx : ℕ) (m : Message) (code : ℕ) where
   upload_code Delete q (Some b) h = code_of 128 code h refl
 
   check_code : (v : Verdict) (a b : Bool) → (v ≡ checks.Refused code → is_applied code ≡ false)
-      → cond a (checks.Refused checks.bad_request) (cond b (checks.Refused checks.bad_request) v) ≡ checks.Refused code → is_applied code ≡ false
+      → cond a (checks.Refused checks.bad_request) (cond b (checks.Refused checks.bad_request) v) ≡ checks.Refused code
+      → is_applied code ≡ false
   check_code v true b n h = code_of 128 code h refl
   check_code v false true n h = code_of 128 code h refl
   check_code v false false n h = n h
@@ -203,14 +216,19 @@ module _ (szx : ℕ) (m : Message) (code : ℕ) where
   asked_code : (o : Option Method) → checks.asked_by szx o m ≡ checks.Refused code → is_applied code ≡ false
   asked_code None h = code_of 133 code h refl
   asked_code (Some method) h =
-      check_code (checks.uploading method (checks.question szx method m) (block_said (uint_at block1 (asks m)))) (nat_lt max_segments (length (path_of (asks m))))
-      (is_reserved (uint_at block1 (asks m)) || is_reserved (uint_at block2 (asks m))) (upload_code method (checks.question szx method m) (block_said (uint_at block1 (asks m)))) h
+      check_code (checks.uploading method (checks.question szx method m) (block_said (uint_at block1 (asks m))))
+      (nat_lt max_segments (length (path_of (asks m))))
+      (is_reserved (uint_at block1 (asks m)) || is_reserved (uint_at block2 (asks m)))
+      (upload_code method (checks.question szx method m) (block_said (uint_at block1 (asks m)))) h
 
-  proxy_code : (b : Bool) → cond b (checks.Refused checks.proxying_not_supported) (checks.asked_by szx (method_of m.code) m) ≡ checks.Refused code → is_applied code ≡ false
+  proxy_code : (b : Bool) → cond b (checks.Refused checks.proxying_not_supported)
+      (checks.asked_by szx (method_of m.code) m) ≡ checks.Refused code → is_applied code ≡ false
   proxy_code true h = code_of 165 code h refl
   proxy_code false h = asked_code (method_of m.code) h
 
-  checked_code : (b : Bool) → cond b (checks.bad_by m.kind) (cond (has proxy_uri (asks m) || has proxy_scheme (asks m)) (checks.Refused checks.proxying_not_supported) (checks.asked_by szx (method_of m.code) m)) ≡ checks.Refused code
+  checked_code : (b : Bool) → cond b (checks.bad_by m.kind)
+      (cond (has proxy_uri (asks m) || has proxy_scheme (asks m)) (checks.Refused checks.proxying_not_supported)
+      (checks.asked_by szx (method_of m.code) m)) ≡ checks.Refused code
       → is_applied code ≡ false
   checked_code true h = bad_code m.kind h
   checked_code false h = proxy_code (has proxy_uri (asks m) || has proxy_scheme (asks m)) h
@@ -232,15 +250,18 @@ ruled_code (Refuse w) code h = subst (λ n. is_applied n ≡ false) (some_is (re
 ruled_code (Join size) code h = absurd (cc h)
 ruled_code Done code h = absurd (cc h)
 
-refused_code : (szx : ℕ) (m : Message) (uploads : AssemblyState) (at : ℕ) (a : Asked) (code : ℕ) (v : Verdict) → verdict_on szx m ≡ v → refusal_of uploads at a v ≡ Some code → is_applied code ≡ false
+refused_code : (szx : ℕ) (m : Message) (uploads : AssemblyState) (at : ℕ) (a : Asked) (code : ℕ) (v : Verdict)
+    → verdict_on szx m ≡ v → refusal_of uploads at a v ≡ Some code → is_applied code ≡ false
 refused_code szx m uploads at a code checks.Ignored is h = absurd (cc h)
-refused_code szx m uploads at a code (checks.Refused n) is h = verdict_code szx m code (is ∙ ap checks.Refused (some_is n code h))
+refused_code szx m uploads at a code (checks.Refused n) is h =
+    verdict_code szx m code (is ∙ ap checks.Refused (some_is n code h))
 refused_code szx m uploads at a code (checks.Asks q) is h = absurd (cc h)
 refused_code szx m uploads at a code (checks.Uploads q b) is h = ruled_code (ruling_of uploads at a q b) code h
 
 -- no refusal says success
 pub refusal_none : (s : S.Own) (c : S.Call) (code : ℕ) → refusal_in s c ≡ Some code → is_applied code ≡ false
-refusal_none s (S.Feeds now from bytes word up (Some p) h below) code is = refused_code s.szx p.1 s.uploads (max s.clock now) p.0 code (verdict_on s.szx p.1) refl is
+refusal_none s (S.Feeds now from bytes word up (Some p) h below) code is =
+    refused_code s.szx p.1 s.uploads (max s.clock now) p.0 code (verdict_on s.szx p.1) refl is
 refusal_none s (S.Feeds now from bytes word up None h below) code is = absurd (cc is)
 refusal_none s (S.Sets now path format body answer left) code is = absurd (cc is)
 refusal_none s (S.Removes now path answer left) code is = absurd (cc is)

@@ -40,20 +40,25 @@ pub record IsShown (held : Held) (m : Message) : Type 0 where
   pub sequence : is_notification m ≡ true → sequence_in m ≡ sequence_number held.version
   pub part : IsPartOf held.body m
 
-part_by : (m : Message) (body part : List ℕ) (o : Option (ℕ × Bool × ℕ)) → IfSome o (λ b. b.2 ≤ 6) → value_of block2 (said m) ≡ option_map uint (block_number o) → m.payload ≡ part → IsPart o body part → IsPartOf body m
+part_by : (m : Message) (body part : List ℕ) (o : Option (ℕ × Bool × ℕ)) → IfSome o (λ b. b.2 ≤ 6)
+    → value_of block2 (said m) ≡ option_map uint (block_number o) → m.payload ≡ part → IsPart o body part
+    → IsPartOf body m
 part_by m body part None low is payload h =
     record {
       alone = λ none. payload ∙ h;
-      piece = λ b at. (let k : None ≡ Some b = sym (ap (λ v. elim v [ None ↦ None | Some value ↦ block_in value ]) is) ∙ at in absurd (cc k));
+      piece = λ b at. (let k : None ≡ Some b = sym (ap (λ v. elim v [ None ↦ None | Some value ↦ block_in value ]) is)
+          ∙ at in absurd (cc k));
     }
 part_by m body part (Some x) low is payload h =
     let b0 : Block = record { num = x.0; more = x.1; szx = x.2 } in
     record {
       alone = λ none. absurd (cc (none, is));
       piece = λ b at. (
-          let k : block_in (uint (block_value b0)) ≡ Some b = sym (ap (λ v. elim v [ None ↦ None | Some value ↦ block_in value ]) is) ∙ at in
+          let k : block_in (uint (block_value b0)) ≡ Some b =
+          sym (ap (λ v. elim v [ None ↦ None | Some value ↦ block_in value ]) is) ∙ at in
           let same : b0 ≡ b = same_block b0 b low k in
-          subst (λ (z : Block). Piece body z.num z.more z.szx m.payload) same (subst (λ p. Piece body x.0 x.1 x.2 p) (sym payload) h));
+          subst (λ (z : Block). Piece body z.num z.more z.szx m.payload) same
+          (subst (λ p. Piece body x.0 x.1 x.2 p) (sym payload) h));
     }
 
 low_sequence : (v : ℕ) → sequence_number v < 16777216
@@ -66,12 +71,15 @@ low_if false held = tt
 low_block : (by : Bool) (offset szx len : ℕ) → szx ≤ 6 → IfSome (block2_of by offset szx len) (λ b. b.2 ≤ 6)
 low_block by offset szx len small = go (by || nat_lt (size_of szx) len)
   where
-    go : (c : Bool) → IfSome {T = ℕ × Bool × ℕ} (cond c (Some (offset / size_of szx, nat_lt (offset + size_of szx) len, szx)) None) (λ b. b.2 ≤ 6)
+    go : (c : Bool) → IfSome {T = ℕ × Bool × ℕ} (cond c
+        (Some (offset / size_of szx, nat_lt (offset + size_of szx) len, szx)) None) (λ b. b.2 ≤ 6)
     go true = small
     go false = tt
 
 -- the sequence number, where there is one
-numbered : (m : Message) (b : Bool) (held : Held) → value_of observe (said m) ≡ option_map uint (sequence_if b (Some held)) → is_notification m ≡ true → sequence_in m ≡ sequence_number held.version
+numbered : (m : Message) (b : Bool) (held : Held)
+    → value_of observe (said m) ≡ option_map uint (sequence_if b (Some held)) → is_notification m ≡ true
+    → sequence_in m ≡ sequence_number held.version
 numbered m true held is h =
     let n : ℕ = sequence_number held.version in
     let low = low_sequence held.version in
@@ -85,31 +93,38 @@ numbered m false held is h = by (m.code == content) (ap (λ v. (m.code == conten
 -- a 2.05 of the store
 pub content_read :
     (m : Message) (held : Held) (by : Bool) (offset szx : ℕ) (b : Bool) (more : Option ℕ)
-    → m.options ≡ (response_with (content_reply held by offset szx) (sequence_if b (Some held)) more).options → m.payload ≡ (content_reply held by offset szx).part
-    → IsPart (content_reply held by offset szx).block2 held.body (content_reply held by offset szx).part → szx ≤ 6 → IfSome held.format (λ f. f < 65536) → lacks_critical Response m.options ≡ false → IsShown held m
+    → m.options ≡ (response_with (content_reply held by offset szx) (sequence_if b (Some held)) more).options
+    → m.payload ≡ (content_reply held by offset szx).part
+    → IsPart (content_reply held by offset szx).block2 held.body (content_reply held by offset szx).part → szx ≤ 6
+    → IfSome held.format (λ f. f < 65536) → lacks_critical Response m.options ≡ false → IsShown held m
 content_read m held by offset szx b more options payload part small format none =
     let block : Option ℕ = block_number (content_reply held by offset szx).block2 in
     let tag : List ℕ = tag_of held.version in
     let all : said m ≡ written (Some tag) (sequence_if b (Some held)) held.format block more =
-    ap (λ os. recognised Response os) options ∙ all_read tag (sequence_if b (Some held)) held.format block more refl (low_if b held) format (ap (lacks_critical Response) (sym options) ∙ none)
+    ap (λ os. recognised Response os) options ∙ all_read tag (sequence_if b (Some held)) held.format block more refl
+    (low_if b held) format (ap (lacks_critical Response) (sym options) ∙ none)
     in
     record {
       tag = ap (value_of etag) all;
       format = ap format_of all ∙ format_read tag (sequence_if b (Some held)) held.format block more format;
-      sequence = numbered m b held (ap (value_of observe) all ∙ sequence_read tag (sequence_if b (Some held)) held.format block more);
+      sequence = numbered m b held (ap (value_of observe) all
+          ∙ sequence_read tag (sequence_if b (Some held)) held.format block more);
       part =
-          part_by m held.body (content_reply held by offset szx).part (content_reply held by offset szx).block2 (low_block by offset szx (length held.body) small)
+          part_by m held.body (content_reply held by offset szx).part (content_reply held by offset szx).block2
+          (low_block by offset szx (length held.body) small)
           (ap (value_of block2) all ∙ block_read tag (sequence_if b (Some held)) held.format block more) payload part;
     }
 
 -- the tag of a 2.03
 pub valid_read :
     (m : Message) (held : Held) (offset : ℕ) (b : Bool) (more : Option ℕ)
-    → m.options ≡ (response_with (record (bare codes.VALID.0 offset) { tag = Some (tag_of held.version) }) (sequence_if b (Some held)) more).options → lacks_critical Response m.options ≡ false
+    → m.options ≡ (response_with (record (bare codes.VALID.0 offset) { tag = Some (tag_of held.version) })
+    (sequence_if b (Some held)) more).options → lacks_critical Response m.options ≡ false
     → tag_in m ≡ Some (tag_of held.version)
 valid_read m held offset b more options none =
     let tag : List ℕ = tag_of held.version in
     let all : said m ≡ written (Some tag) (sequence_if b (Some held)) None None more =
-    ap (recognised Response) options ∙ all_read tag (sequence_if b (Some held)) None None more refl (low_if b held) tt (ap (lacks_critical Response) (sym options) ∙ none)
+    ap (recognised Response) options ∙ all_read tag (sequence_if b (Some held)) None None more refl (low_if b held) tt
+    (ap (lacks_critical Response) (sym options) ∙ none)
     in
     ap (value_of etag) all

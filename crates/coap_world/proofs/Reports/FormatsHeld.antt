@@ -40,12 +40,16 @@ fits_16 (Some n) = by (nat_lt n 65536) refl
     by false is = tt
 
 -- what a change leaves there
-pub change_held : (path : List (List ℕ)) (old left : Content) (x : Change) → change_of path old left ≡ Some x → left.holds path ≡ x.held
+pub change_held : (path : List (List ℕ)) (old left : Content) (x : Change) → change_of path old left ≡ Some x
+    → left.holds path ≡ x.held
 change_held path old left x h = by (left.tally.version == old.tally.version) h
   where
-    by : (b : Bool) → cond b None (Some (record { path = path; version = left.tally.version; held = left.holds path })) ≡ Some x → left.holds path ≡ x.held
+    by : (b : Bool) → cond b None (Some (record { path = path; version = left.tally.version; held = left.holds path }))
+        ≡ Some x → left.holds path ≡ x.held
     by true k = absurd (cc k)
-    by false k = let same : ◌≡◌ {A = Change} (record { path = path; version = left.tally.version; held = left.holds path }) x = cc k in ap (λ (y : Change). y.held) same
+    by false k = let same : ◌≡◌ {A = Change} (record
+        { path = path; version = left.tally.version; held = left.holds path }) x =
+        cc k in ap (λ (y : Change). y.held) same
 
 module _ (limit szx : ℕ) where
   abbrev AllSmall : List S.Call → Type 0
@@ -61,12 +65,14 @@ module _ (limit szx : ℕ) where
     same_small : (left : Content) (at : ℕ) (path : List (List ℕ)) → left ≡ later store at → IsSmall (left.holds path)
     same_small left at path h = subst IsSmall (sym (ap (λ (s : Content). s.holds path) h)) (store_small path)
 
-    sets_small : (o : Option StoreRefusal) (at : ℕ) (path : List (List ℕ)) (format : Option ℕ) (body : List ℕ) (answer : Result ℕ StoreRefusal) (left : Content)
+    sets_small : (o : Option StoreRefusal) (at : ℕ) (path : List (List ℕ)) (format : Option ℕ) (body : List ℕ)
+        (answer : Result ℕ StoreRefusal) (left : Content)
         → IfSome format (λ f. f < 65536) → SetsBy o store at path format body answer left → IsSmall (left.holds path)
     sets_small (Some why) at path format body answer left f h = same_small left at path h.1
     sets_small None at path format body answer left f h = subst IsSmall (sym h.1.there) f
 
-    removes_small : (o : Option Held) (why : Option StoreRefusal) (at : ℕ) (path : List (List ℕ)) (answer : Result Bool StoreRefusal) (left : Content)
+    removes_small : (o : Option Held) (why : Option StoreRefusal) (at : ℕ) (path : List (List ℕ))
+        (answer : Result Bool StoreRefusal) (left : Content)
         → RemovesBy o why store at path answer left → IsSmall (left.holds path)
     removes_small None why at path answer left h = same_small left at path h.1
     removes_small (Some held) (Some why) at path answer left h = same_small left at path h.1
@@ -79,45 +85,60 @@ module _ (limit szx : ℕ) where
     does_small Delete q left h = subst IsSmall (sym h) tt
 
   module _ (t : List S.Call) (c : S.Call) (rows : ServerRows limit szx (c ∷ t)) (small : AllSmall t) where
-    serving_small : (x : Change) (o : Option Serving) → serving (own_of limit szx t) c ≡ o → change (own_of limit szx t) c ≡ Some x → changed_by o ≡ Some x → IsSmall x.held
+    serving_small : (x : Change) (o : Option Serving) → serving (own_of limit szx t) c ≡ o
+        → change (own_of limit szx t) c ≡ Some x → changed_by o ≡ Some x → IsSmall x.held
     serving_small x None is made h = absurd (cc h)
     serving_small x (Some y) is made h =
         let right = (all_served limit szx (c ∷ t) rows).0 in
         let does = (right.applied y is (right.changes_by y x is made)).does in
         let old = (leaves (own_of limit szx t) c y is).found in
-        subst IsSmall (change_held y.question.path y.old y.left x h) (does_small t rows.1 small y.question.method y.question y.left (subst (λ s. Does y.question.method y.question s y.left) old does))
+        subst IsSmall (change_held y.question.path y.old y.left x h)
+        (does_small t rows.1 small y.question.method y.question y.left
+        (subst (λ s. Does y.question.method y.question s y.left) old does))
 
-  change_small : (t : List S.Call) (c : S.Call) → ServerRows limit szx (c ∷ t) → FormatIn c → AllSmall t → (x : Change) → change (own_of limit szx t) c ≡ Some x → IsSmall x.held
+  change_small : (t : List S.Call) (c : S.Call) → ServerRows limit szx (c ∷ t) → FormatIn c → AllSmall t → (x : Change)
+      → change (own_of limit szx t) c ≡ Some x → IsSmall x.held
   change_small t (S.Sets now path format body answer left) rows f small x h =
       let s = own_of limit szx t in
-      subst IsSmall (change_held path s.store left x h) (sets_small t rows.1 small (put_refusal s.store (max s.clock now) path (length body)) (max s.clock now) path format body answer left f rows.0)
+      subst IsSmall (change_held path s.store left x h)
+      (sets_small t rows.1 small (put_refusal s.store (max s.clock now) path (length body))
+      (max s.clock now) path format body answer left f rows.0)
   change_small t (S.Removes now path answer left) rows f small x h =
       let s = own_of limit szx t in
-      subst IsSmall (change_held path s.store left x h) (removes_small t rows.1 small (s.store.holds path) (rate_refusal s.store.tally (max s.clock now)) (max s.clock now) path answer left rows.0)
+      subst IsSmall (change_held path s.store left x h)
+      (removes_small t rows.1 small (s.store.holds path) (rate_refusal s.store.tally (max s.clock now))
+      (max s.clock now) path answer left rows.0)
   change_small t (S.Delays path ms answer) rows f small x h = absurd (cc h)
-  change_small t (S.Feeds now from bytes word up came w below) rows f small x h = serving_small t (S.Feeds now from bytes word up came w below) rows small x _ refl h h
-  change_small t (S.Ticks now word below room d passed w id answer) rows f small x h = serving_small t (S.Ticks now word below room d passed w id answer) rows small x _ refl h h
+  change_small t (S.Feeds now from bytes word up came w below) rows f small x h =
+      serving_small t (S.Feeds now from bytes word up came w below) rows small x _ refl h h
+  change_small t (S.Ticks now word below room d passed w id answer) rows f small x h =
+      serving_small t (S.Ticks now word below room d passed w id answer) rows small x _ refl h h
   change_small t (S.NextOut answer) rows f small x h = absurd (cc h)
   change_small t (S.Gets path answer) rows f small x h = absurd (cc h)
   change_small t (S.TellsApplied answer) rows f small x h = absurd (cc h)
 
-  small_step : (t : List S.Call) (c : S.Call) → ServerRows limit szx (c ∷ t) → FormatIn c → AllSmall t → AllSmall (c ∷ t)
+  small_step : (t : List S.Call) (c : S.Call) → ServerRows limit szx (c ∷ t) → FormatIn c → AllSmall t
+      → AllSmall (c ∷ t)
   small_step t c rows f small path = by (change (own_of limit szx t) c) refl
     where
       then : (x : Change) (b : Bool) → IsSmall x.held → IsSmall (cond b x.held (held_at limit szx path t))
       then x true h = h
       then x false h = small path
 
-      by : (o : Option Change) → change (own_of limit szx t) c ≡ o → IsSmall (held_then path o (held_at limit szx path t))
+      by : (o : Option Change) → change (own_of limit szx t) c ≡ o
+          → IsSmall (held_then path o (held_at limit szx path t))
       by None is = small path
       by (Some x) is = then x (same_path x.path path) (change_small t c rows f small x is)
 
 module _ (config : Config) where
-  begun_small : (ds : List S.Delay) (path : List (List ℕ)) → IsSmall (held_at config.limit config.server_szx path (map (λ (d : S.Delay). S.Delays d.path d.ms true) ds))
+  begun_small : (ds : List S.Delay) (path : List (List ℕ))
+      → IsSmall (held_at config.limit config.server_szx path (map (λ (d : S.Delay). S.Delays d.path d.ms true) ds))
   begun_small [] path = tt
   begun_small (d ∷ ds) path = begun_small ds path
 
-  pub formats_held : (all : List Entry) → Rows config all → FormatsIn all → (path : List (List ℕ)) → IsSmall (last_at config path all)
+  pub formats_held : (all : List Entry) → Rows config all → FormatsIn all → (path : List (List ℕ))
+      → IsSmall (last_at config path all)
   formats_held [] rows f = begun_small config.delays
   formats_held (OfClient c ∷ past) rows f = formats_held past rows f
-  formats_held (OfServer c ∷ past) rows f = small_step config.limit config.server_szx (server_trace config past) c rows f.0 (formats_held past (rows_back config (OfServer c) past rows) f.1)
+  formats_held (OfServer c ∷ past) rows f = small_step config.limit config.server_szx
+      (server_trace config past) c rows f.0 (formats_held past (rows_back config (OfServer c) past rows) f.1)

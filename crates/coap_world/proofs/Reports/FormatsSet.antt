@@ -40,24 +40,30 @@ outs_in (p ∷ ps) cs h = (tt, outs_in ps cs h)
 
 on_client : (calls : List C.Call) (entries : List Entry) → OnClient calls entries → FormatsIn entries
 on_client calls entries on =
-    subst FormatsIn (sym on.is) (of_client (C.NextReport None ∷ (map (λ r. C.NextReport (Some r)) on.reports ++ C.NextOut None ∷ (map (λ p. C.NextOut (Some p)) on.outs ++ calls))))
+    subst FormatsIn (sym on.is) (of_client (C.NextReport None ∷
+    (map (λ r. C.NextReport (Some r)) on.reports
+    ++ C.NextOut None ∷ (map (λ p. C.NextOut (Some p)) on.outs ++ calls))))
 
 on_server : (calls : List S.Call) (entries : List Entry) → OnServer calls entries → AllIn calls → FormatsIn entries
-on_server calls entries on h = subst FormatsIn (sym on.is) (of_server (S.NextOut None ∷ (map (λ p. S.NextOut (Some p)) on.outs ++ calls)) (tt, outs_in on.outs calls h))
+on_server calls entries on h = subst FormatsIn (sym on.is)
+    (of_server (S.NextOut None ∷ (map (λ p. S.NextOut (Some p)) on.outs ++ calls)) (tt, outs_in on.outs calls h))
 
 -- the calls of an input, and of ticks
-one_in : (Is : S.Call → Type 0) (refused : Bool) (calls : List S.Call) → ((c : S.Call) → Is c → FormatIn c) → IsOne Is refused calls → AllIn calls
+one_in : (Is : S.Call → Type 0) (refused : Bool) (calls : List S.Call) → ((c : S.Call) → Is c → FormatIn c)
+    → IsOne Is refused calls → AllIn calls
 one_in Is true calls f one = subst AllIn (sym one) tt
 one_in Is false calls f one = subst AllIn (sym one.2) (f one.0 one.1, tt)
 
 tick_in : (at word : ℕ) (b : Bool) (c : S.Call) → ServerTick at word b c → FormatIn c
 tick_in at word b c h = subst FormatIn (sym h.6) tt
 
-each_tick : (at word : ℕ) (b : Bool) (calls : List S.Call) → Always (λ past c. ServerTick at word b c) calls → AllIn calls
+each_tick : (at word : ℕ) (b : Bool) (calls : List S.Call) → Always (λ past c. ServerTick at word b c) calls
+    → AllIn calls
 each_tick at word b [] h = tt
 each_tick at word b (c ∷ calls) h = (tick_in at word b c h.0, each_tick at word b calls h.1)
 
-ticks_in : (at word : ℕ) (refused : Bool) (calls : List S.Call) → AreTicks (ServerTick at word) refused calls → AllIn calls
+ticks_in : (at word : ℕ) (refused : Bool) (calls : List S.Call) → AreTicks (ServerTick at word) refused calls
+    → AllIn calls
 ticks_in at word true calls h = each_tick at word true calls h
 ticks_in at word false [] h = tt
 ticks_in at word false (c ∷ calls) h = (tick_in at word false c h.0, each_tick at word true calls h.1)
@@ -70,9 +76,12 @@ module _ (past : List Turn) (at word : ℕ) (refused : Bool) (entries : List Ent
   in_turn (Forgets number) m range = on_client m.0 entries m.2
   in_turn TickClient m range = on_client m.0 entries m.2
   in_turn (StrangerToClient from bytes) m range = on_client m.0 entries m.2
-  in_turn (Sets path format body) m range = on_server m.0 entries m.2 (one_in _ refused m.0 (λ c h. subst FormatIn (sym h.2) range.1) m.1)
-  in_turn (Removes path) m range = on_server m.0 entries m.2 (one_in _ refused m.0 (λ c h. subst FormatIn (sym h.2) tt) m.1)
-  in_turn (StrangerToServer from bytes) m range = on_server m.0 entries m.2 (one_in _ refused m.0 (λ c h. subst FormatIn (sym h.4) tt) m.1)
+  in_turn (Sets path format body) m range = on_server m.0 entries m.2
+      (one_in _ refused m.0 (λ c h. subst FormatIn (sym h.2) range.1) m.1)
+  in_turn (Removes path) m range = on_server m.0 entries m.2
+      (one_in _ refused m.0 (λ c h. subst FormatIn (sym h.2) tt) m.1)
+  in_turn (StrangerToServer from bytes) m range =
+      on_server m.0 entries m.2 (one_in _ refused m.0 (λ c h. subst FormatIn (sym h.4) tt) m.1)
   in_turn TickServer m range = on_server m.0 entries m.2 (ticks_in at word refused m.0 m.1)
   in_turn (Deliver number) m range = elim m.2 [
     | inl d ↦ on_server d.1 entries d.3 (one_in _ refused d.1 (λ c h. subst FormatIn (sym h.4) tt) d.2)
@@ -84,7 +93,10 @@ behind [] more h k = k
 behind (OfClient c ∷ t) more h k = behind t more h k
 behind (OfServer c ∷ t) more h k = (h.0, behind t more h.1 k)
 
-pub formats_in : (turns : List Turn) → Always (λ past t. Makes past t.event.at t.event.word t.event.what t.refused t.entries) turns → AllLegal turns → FormatsIn (entries_of turns)
+pub formats_in : (turns : List Turn) → Always
+    (λ past t. Makes past t.event.at t.event.word t.event.what t.refused t.entries) turns → AllLegal turns
+    → FormatsIn (entries_of turns)
 formats_in [] made legal = tt
 formats_in (t ∷ past) made legal =
-    behind t.entries (entries_of past) (in_turn past t.event.at t.event.word t.refused t.entries t.event.what made.0 legal.0.range) (formats_in past made.1 legal.1)
+    behind t.entries (entries_of past) (in_turn past t.event.at t.event.word t.refused t.entries t.event.what made.0
+    legal.0.range) (formats_in past made.1 legal.1)

@@ -13,21 +13,27 @@ use Rattle.coap_ends.specs.ServerSide.ServerLaw.{own_of, layer_of}
 use Rattle.coap_ends.specs.ServerSide.ServerTrace.{Call}
 
 -- what happens once only: two accounts of it are of one entry
-pub once_same : {E : Type 0} (P Q R : List E → E → Type 0) → (t : List E) → Always (λ past e. P past e → Sometime P past → ⊥) t → Sometime (λ past e. P past e × Q past e) t → Sometime (λ past e. P past e × R past e) t
+pub once_same : {E : Type 0} (P Q R : List E → E → Type 0) → (t : List E)
+    → Always (λ past e. P past e → Sometime P past → ⊥) t → Sometime (λ past e. P past e × Q past e) t
+    → Sometime (λ past e. P past e × R past e) t
     → Sometime (λ past e. Q past e × R past e) t
 once_same P Q R [] law a b = a
 once_same P Q R (e ∷ past) law (inl a) (inl b) = inl (a.1, b.1)
-once_same P Q R (e ∷ past) law (inl a) (inr b) = absurd (law.0 a.0 (Sometime_map (λ past e. P past e × R past e) P (λ t x h. h.0) past b))
-once_same P Q R (e ∷ past) law (inr a) (inl b) = absurd (law.0 b.0 (Sometime_map (λ past e. P past e × Q past e) P (λ t x h. h.0) past a))
+once_same P Q R (e ∷ past) law (inl a) (inr b) =
+    absurd (law.0 a.0 (Sometime_map (λ past e. P past e × R past e) P (λ t x h. h.0) past b))
+once_same P Q R (e ∷ past) law (inr a) (inl b) =
+    absurd (law.0 b.0 (Sometime_map (λ past e. P past e × Q past e) P (λ t x h. h.0) past a))
 once_same P Q R (e ∷ past) law (inr a) (inr b) = inr (once_same P Q R past law.1 a b)
 
-pub once_either : {E : Type 0} (P Q : List E → E → Type 0) → (t : List E) → Sometime (λ past e. P past e ⊎ Q past e) t → Sometime P t ⊎ Sometime Q t
+pub once_either : {E : Type 0} (P Q : List E → E → Type 0) → (t : List E) → Sometime (λ past e. P past e ⊎ Q past e) t
+    → Sometime P t ⊎ Sometime Q t
 once_either P Q [] h = inl h
 once_either P Q (e ∷ past) (inl (inl h)) = inl (inl h)
 once_either P Q (e ∷ past) (inl (inr h)) = inr (inl h)
 once_either P Q (e ∷ past) (inr h) = elim (once_either P Q past h) [ inl p ↦ inl (inr p) | inr q ↦ inr (inr q) ]
 
-pub never : {E : Type 0} (P : List E → E → Type 0) → ((past : List E) (e : E) → P past e → ⊥) → (t : List E) → Sometime P t → ⊥
+pub never : {E : Type 0} (P : List E → E → Type 0) → ((past : List E) (e : E) → P past e → ⊥) → (t : List E)
+    → Sometime P t → ⊥
 never P f [] h = h
 never P f (e ∷ past) (inl h) = f past e h
 never P f (e ∷ past) (inr h) = never P f past h
@@ -42,7 +48,8 @@ module _ (limit szx : ℕ) (a : Asked) where
   hit : (o : Option Asked) → o ≡ Some a → hits (same_asked a) o ≡ 1
   hit o h = ap (λ z. hits (same_asked a) z) h ∙ self_hits a
 
-  served_hit : (past : List Call) (c : Call) → ServesIt past c → hits (same_asked a) (asked_of (serving (own_of limit szx past) c)) ≡ 1
+  served_hit : (past : List Call) (c : Call) → ServesIt past c
+      → hits (same_asked a) (asked_of (serving (own_of limit szx past) c)) ≡ 1
   served_hit past c h = hit (asked_of (serving (own_of limit szx past) c)) (ap asked_of h.1 ∙ ap (λ z. Some z) h.2)
 
   times_up : (t : List Call) → Sometime HandsIt t → 1 ≤ times_handed limit szx a t
@@ -55,15 +62,22 @@ module _ (limit szx : ℕ) (a : Asked) where
   times_at_store (c ∷ t) (inl h) = let e = served_hit t c h in omega (arith, e)
   times_at_store (c ∷ t) (inr h) = let k = times_at_store t h in omega (arith, k)
 
-  pub counted_in : (word : ℕ) (t : List Call) → Counted limit szx word t → times_handed limit szx a t ≤ ups a (layer_of limit szx word t)
+  pub counted_in : (word : ℕ) (t : List Call) → Counted limit szx word t
+      → times_handed limit szx a t ≤ ups a (layer_of limit szx word t)
   counted_in word [] h = omega arith
   counted_in word (c ∷ t) h = h.0 a
 
-  pub handed_once : (t : List Call) → times_handed limit szx a t ≤ 1 → Always (λ past c. HandsIt past c → Sometime HandsIt past → ⊥) t
+  pub handed_once : (t : List Call) → times_handed limit szx a t ≤ 1
+      → Always (λ past c. HandsIt past c → Sometime HandsIt past → ⊥) t
   handed_once [] few = tt
-  handed_once (c ∷ t) few = (λ h before. (let e = hit (hands c) h in let k = times_up t before in omega (arith, few, e, k)), handed_once t (omega (arith, few)))
+  handed_once (c ∷ t) few = (
+    λ h before. (let e = hit (hands c) h in let k =
+        times_up t before in omega (arith, few, e, k)),
+    handed_once t (omega (arith, few)),
+  )
 
-  pub served_once : (t : List Call) → ServedOnce limit szx t → times_handed limit szx a t ≤ 1 → Always (λ past c. ServesIt past c → Sometime ServesIt past → ⊥) t
+  pub served_once : (t : List Call) → ServedOnce limit szx t → times_handed limit szx a t ≤ 1
+      → Always (λ past c. ServesIt past c → Sometime ServesIt past → ⊥) t
   served_once [] law few = tt
   served_once (c ∷ t) law few = (
     λ h before.

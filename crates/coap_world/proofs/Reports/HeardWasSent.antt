@@ -23,9 +23,15 @@ pub record Reads (bytes : List ℕ) (m : Message) : Type 0 where
   pub spells : Spells bytes m
   pub role : role_of m.code ≡ role.Response
 
-module _ (word : ℕ) (past : List T.Entry) (e : T.Entry) (from : Endpoint) (bytes : List ℕ) (m : Message) (are : AreBytes bytes) (up : e.answer ≡ T.Becomes (T.Response m)) where
-  reads_this : (n : Message) → Spells bytes n → role_of n.code ≡ role.Response → e.answer ≡ T.Becomes (T.Response n) → Reads bytes m
-  reads_this n s k is = let same : n ≡ m = cc (is, up) in record { are_bytes = are; spells = subst (Spells bytes) same s; role = subst (λ (x : Message). role_of x.code ≡ role.Response) same k }
+module _ (word : ℕ) (past : List T.Entry) (e : T.Entry) (from : Endpoint) (bytes : List ℕ) (m : Message)
+    (are : AreBytes bytes) (up : e.answer ≡ T.Becomes (T.Response m)) where
+  reads_this : (n : Message) → Spells bytes n → role_of n.code ≡ role.Response → e.answer ≡ T.Becomes (T.Response n)
+      → Reads bytes m
+  reads_this n s k is = let same : n ≡ m = cc (is, up) in record {
+    are_bytes = are;
+    spells = subst (Spells bytes) same s;
+    role = subst (λ (x : Message). role_of x.code ≡ role.Response) same k;
+  }
 
   sorted : (n : Message) → Spells bytes n → Sorts word past e (record { from = from; message = n }) → Reads bytes m
   sorted n s (rejects r) = absurd (cc (r.answer, up))
@@ -49,9 +55,11 @@ module _ (word : ℕ) (past : List T.Entry) (e : T.Entry) (from : Endpoint) (byt
   arrived (Faulted Rst id) s r = absurd (cc (r.0, up))
   arrived (Whole n) s r = sorted n s r
 
-reads : (word : ℕ) (past : List T.Entry) (e : T.Entry) (from : Endpoint) (bytes : List ℕ) (m : Message) → Stands word past e → e.call ≡ T.Receive from bytes → e.answer ≡ T.Becomes (T.Response m) → Reads bytes m
+reads : (word : ℕ) (past : List T.Entry) (e : T.Entry) (from : Endpoint) (bytes : List ℕ) (m : Message)
+    → Stands word past e → e.call ≡ T.Receive from bytes → e.answer ≡ T.Becomes (T.Response m) → Reads bytes m
 reads word past e from bytes m here call up =
-    let row : Row word past e (T.Receive from bytes) = subst (Row word past e) call here.row in arrived word past e from bytes m row.0 up row.1.0 row.1.1 row.1.2
+    let row : Row word past e (T.Receive from bytes) =
+    subst (Row word past e) call here.row in arrived word past e from bytes m row.0 up row.1.0 row.1.1 row.1.2
 
 -- the other layer sends these bytes there
 abbrev pub SendsTo : Endpoint → List ℕ → T.Entry → Type 0
@@ -62,7 +70,8 @@ pub record WasGiven (near : Endpoint) (m : Message) (hs : List Hop) : Type 0 whe
   pub reads : Reads bytes m
   pub sent : Ever (OnFar (SendsTo near bytes)) hs
 
-gave_out : (near : Endpoint) (bytes : List ℕ) (at : ℕ) (h : Hop) → OnFar (GaveOut near bytes at) h → OnFar (SendsTo near bytes) h
+gave_out : (near : Endpoint) (bytes : List ℕ) (at : ℕ) (h : Hop) → OnFar (GaveOut near bytes at) h
+    → OnFar (SendsTo near bytes) h
 gave_out near bytes at (Near e) k = absurd k
 gave_out near bytes at (Far e) k = k.out
 
@@ -70,13 +79,17 @@ given_later : (near : Endpoint) (m : Message) (h : Hop) (hs : List Hop) → WasG
 given_later near m h hs k = record { bytes = k.bytes; reads = k.reads; sent = inr k.sent }
 
 module _ (one other : ℕ) (near far : Endpoint) (m : Message) where
-  pub was_given : (hs : List Hop) → ChannelLaw one other near far hs → Ever (Hears far m) (near_of hs) → WasGiven near m hs
+  pub was_given : (hs : List Hop) → ChannelLaw one other near far hs → Ever (Hears far m) (near_of hs)
+      → WasGiven near m hs
   was_given [] law h = absurd h
-  was_given (Far e ∷ past) law h = given_later near m (Far e) past (was_given past (earlier one other near far past (Far e) law) h)
-  was_given (Near e ∷ past) law (inr h) = given_later near m (Near e) past (was_given past (earlier one other near far past (Near e) law) h)
+  was_given (Far e ∷ past) law h = given_later near m (Far e) past
+      (was_given past (earlier one other near far past (Far e) law) h)
+  was_given (Near e ∷ past) law (inr h) = given_later near m (Near e) past
+      (was_given past (earlier one other near far past (Near e) law) h)
   was_given (Near e ∷ past) law (inl h) =
       record {
         bytes = h.bytes;
         reads = reads one (near_of past) e far h.bytes m law.near_law.0 h.call h.answer;
-        sent = inr (Ever_map (OnFar (GaveOut near h.bytes e.at)) (OnFar (SendsTo near h.bytes)) (gave_out near h.bytes e.at) past (law.fair.0 h.bytes h.call));
+        sent = inr (Ever_map (OnFar (GaveOut near h.bytes e.at)) (OnFar (SendsTo near h.bytes))
+            (gave_out near h.bytes e.at) past (law.fair.0 h.bytes h.call));
       }

@@ -38,14 +38,17 @@ ruled_asked (Refuse why) x y h = absurd (cc h)
 ruled_asked (Join size) x y h = let e : x ≡ y = cc h in ap (λ (z : Took). z.asked) e
 ruled_asked Done x y h = let e : x ≡ y = cc h in ap (λ (z : Took). z.asked) e
 
-taken_asked : (uploads : AssemblyState) (at : ℕ) (a : Asked) (v : Verdict) (y : Took) → taken_by uploads at a v ≡ Some y → a ≡ y.asked
+taken_asked : (uploads : AssemblyState) (at : ℕ) (a : Asked) (v : Verdict) (y : Took) → taken_by uploads at a v ≡ Some y
+    → a ≡ y.asked
 taken_asked uploads at a Ignored y h = absurd (cc h)
 taken_asked uploads at a (Refused code) y h = absurd (cc h)
 taken_asked uploads at a (Asks q) y h = absurd (cc h)
 taken_asked uploads at a (Uploads q b) y h = ruled_asked (ruling_of uploads at a q b) (took a q b) y h
 
 pub takes_handed : (s : S.Own) (c : S.Call) (y : Took) → takes_block s c ≡ Some y → hands c ≡ Some y.asked
-takes_handed s (S.Feeds now from bytes word up (Some p) h below) y is = ap (λ a. Some a) (taken_asked s.uploads (heard s now (incoming s now from bytes up (Some p))).clock p.0 (verdict_on s.szx p.1) y is)
+takes_handed s (S.Feeds now from bytes word up (Some p) h below) y is =
+    ap (λ a. Some a) (taken_asked s.uploads (heard s now (incoming s now from bytes up (Some p))).clock p.0
+    (verdict_on s.szx p.1) y is)
 takes_handed s (S.Feeds now from bytes word up None h below) y is = absurd (cc is)
 takes_handed s (S.Sets now path format body answer left) y is = absurd (cc is)
 takes_handed s (S.Removes now path answer left) y is = absurd (cc is)
@@ -57,14 +60,17 @@ takes_handed s (S.NextOut answer) y is = absurd (cc is)
 
 -- here the request is handed up, and its block is taken
 abbrev pub TakesIn : Config → Asked → List S.Call → S.Call → Type 0
-TakesIn config a past c = (hands c ≡ Some a) × ((y : Took) × (takes_block (own_of config.limit config.server_szx past) c ≡ Some y))
+TakesIn config a past c = (hands c ≡ Some a) × ((y : Took)
+    × (takes_block (own_of config.limit config.server_szx past) c ≡ Some y))
 
 -- what happened at the server by an entry, happened by a later one
-pub server_later : (config : Config) (P : List S.Call → S.Call → Type 0) (e : Entry) (w : List Entry) → Sometime P (server_trace config w) → Sometime P (server_trace config (e ∷ w))
+pub server_later : (config : Config) (P : List S.Call → S.Call → Type 0) (e : Entry) (w : List Entry)
+    → Sometime P (server_trace config w) → Sometime P (server_trace config (e ∷ w))
 server_later config P (OfClient c) w h = h
 server_later config P (OfServer c) w h = inr h
 
-module _ (config : Config) (number : ℕ) (all : List Entry) (small : config.client_szx ≤ 6) (whole : Lawful config all) (in_range : (x : Taken) → WasTaken x (client_of all) → IsRequest x.request) where
+module _ (config : Config) (number : ℕ) (all : List Entry) (small : config.client_szx ≤ 6) (whole : Lawful config all)
+    (in_range : (x : Taken) → WasTaken x (client_of all) → IsRequest x.request) where
   abbrev pub LaterAll : List Entry → Type 0
   LaterAll t = Later config number all small whole in_range t
 
@@ -82,7 +88,8 @@ module _ (config : Config) (number : ℕ) (all : List Entry) (small : config.cli
     pub asked : a ≡ asked_of client_end (request_of con.id sending)
     pub verdict : verdict_on config.server_szx (request_of con.id sending) ≡ v
 
-  pub origin_of : (w : List Entry) (e : Entry) → LaterAll (e ∷ w) → (a : Asked) (v : Verdict) → CameFrom config w e a v → Origin a v
+  pub origin_of : (w : List Entry) (e : Entry) → LaterAll (e ∷ w) → (a : Asked) (v : Verdict) → CameFrom config w e a v
+      → Origin a v
   origin_of w e later a v k =
       let before = later_back config number all small whole in_range e w later in
       record {
@@ -105,12 +112,18 @@ module _ (config : Config) (number : ℕ) (all : List Entry) (small : config.cli
     pub method : method_of (request_of origin.con.id origin.sending).code ≡ Some q.method
     pub took : (p : Question) (b : _) → verdict ≡ Uploads p b → Sometime (TakesIn config a) (server_trace config t)
 
-  took_here : (w : List Entry) (c : S.Call) (a : Asked) (q : Question) (v : Verdict) → AsksBy config.limit config.server_szx (server_trace config w) c a q v → (p : Question) (b : _) → v ≡ Uploads p b → TakesIn config a (server_trace config w) c
+  took_here : (w : List Entry) (c : S.Call) (a : Asked) (q : Question) (v : Verdict)
+      → AsksBy config.limit config.server_szx (server_trace config w) c a q v → (p : Question) (b : _) → v ≡ Uploads p b
+      → TakesIn config a (server_trace config w) c
   took_here w c a q v h p b is =
-      let k = subst (AsksBy config.limit config.server_szx (server_trace config w) c a q) is h in
-      (takes_handed (own_of config.limit config.server_szx (server_trace config w)) c (took a p b) k.takes, (took a p b, k.takes))
+      let k = subst (AsksBy config.limit config.server_szx (server_trace config w) c a q) is h in (
+        takes_handed (own_of config.limit config.server_szx (server_trace config w)) c (took a p b) k.takes,
+        (took a p b, k.takes),
+      )
 
-  brought_here : (w : List Entry) (c : S.Call) (a : Asked) (q : Question) → LaterAll (OfServer c ∷ w) → CamesFrom config (OfServer c ∷ w) → a.from ≡ client_end → BroughtAt config a q w (OfServer c) → Brought a q (OfServer c ∷ w)
+  brought_here : (w : List Entry) (c : S.Call) (a : Asked) (q : Question) → LaterAll (OfServer c ∷ w)
+      → CamesFrom config (OfServer c ∷ w) → a.from ≡ client_end → BroughtAt config a q w (OfServer c)
+      → Brought a q (OfServer c ∷ w)
   brought_here w c a q later came from h =
       let k = came.0 a h.verdict h.comes from in
       let m : Message = request_of k.con.id k.sending in
@@ -133,7 +146,8 @@ module _ (config : Config) (number : ℕ) (all : List Entry) (small : config.cli
         took = λ p b is. inl (took_here w c a q h.verdict h.asks p b is);
       }
 
-  pub brought_by : (a : Asked) (q : Question) (t : List Entry) → LaterAll t → CamesFrom config t → a.from ≡ client_end → Sometime (BroughtAt config a q) t → Brought a q t
+  pub brought_by : (a : Asked) (q : Question) (t : List Entry) → LaterAll t → CamesFrom config t → a.from ≡ client_end
+      → Sometime (BroughtAt config a q) t → Brought a q t
   brought_by a q [] later came from h = absurd h
   brought_by a q (OfClient c ∷ w) later came from (inl h) = absurd h
   brought_by a q (OfServer c ∷ w) later came from (inl h) = brought_here w c a q later came from h
@@ -149,8 +163,11 @@ module _ (config : Config) (number : ℕ) (all : List Entry) (small : config.cli
       }
 
   -- of what is served here
-  pub brought_served : (w : List Entry) (c : S.Call) → LaterAll (OfServer c ∷ w) → Lawful config (OfServer c ∷ w) → (x : Serving) → ServesAt config x w (OfServer c) → x.asked.from ≡ client_end → Brought x.asked x.question (OfServer c ∷ w)
+  pub brought_served : (w : List Entry) (c : S.Call) → LaterAll (OfServer c ∷ w) → Lawful config (OfServer c ∷ w)
+      → (x : Serving) → ServesAt config x w (OfServer c) → x.asked.from ≡ client_end
+      → Brought x.asked x.question (OfServer c ∷ w)
   brought_served w c later law x here from =
       let t : List Entry = OfServer c ∷ w in
-      let brings = (server_facts.handed config.limit config.server_szx config.server_word (server_trace config t) law.server).0 x here in
+      let brings = (server_facts.handed config.limit config.server_szx config.server_word
+      (server_trace config t) law.server).0 x here in
       brought_by x.asked x.question t later law.came from (brought_in config x.asked x.question t brings)

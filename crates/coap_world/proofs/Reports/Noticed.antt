@@ -13,10 +13,15 @@ use Rattle.coap_world.proofs.Requests.OfACall.{Lawful, lawful_back}
 use Rattle.coap_world.specs.Noticed.{AllNoticed}
 
 module _ (config : Config) where
-  pub noticed : (past : List Entry) (c : C.Call) → Lawful config (OfClient c ∷ past) → (m : Message) → notes c ≡ Some m → Sometime (AnswersAt config m) past
-  noticed past c law m is = came_answered config past c law m ((are_noted server_end config.client_szx config.client_word (client_of (OfClient c ∷ past)) law.client).0 m is)
+  pub noticed : (past : List Entry) (c : C.Call) → Lawful config (OfClient c ∷ past) → (m : Message) → notes c ≡ Some m
+      → Sometime (AnswersAt config m) past
+  noticed past c law m is = came_answered config past c law m
+      ((are_noted server_end config.client_szx config.client_word (client_of (OfClient c ∷ past)) law.client).0 m is)
 
   pub all_noticed : (all : List Entry) → Lawful config all → AllNoticed config all
   all_noticed [] law = tt
-  all_noticed (OfClient c ∷ past) law = (λ m h. noticed past c law m h, all_noticed past (lawful_back config past (OfClient c) law))
+  all_noticed (OfClient c ∷ past) law = (
+    λ m h. noticed past c law m h,
+    all_noticed past (lawful_back config past (OfClient c) law),
+  )
   all_noticed (OfServer c ∷ past) law = (λ m h. absurd h, all_noticed past (lawful_back config past (OfServer c) law))

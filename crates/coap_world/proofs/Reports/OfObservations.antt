@@ -31,15 +31,24 @@ record IsOf (number : ℕ) (x : Sending) (t : List C.Call) : Type 0 where
   taken : of.WasObserved (record { number = number; path = path }) t
   asks : path_of x.request.options ≡ path
 
-of_at : (szx : ℕ) (t : List C.Call) → AreOfObservations szx t → (x : Sending) (number : ℕ) → WasSent szx x t → observation_for x.operation ≡ Some number → IsOf number x t
+of_at : (szx : ℕ) (t : List C.Call) → AreOfObservations szx t → (x : Sending) (number : ℕ) → WasSent szx x t
+    → observation_for x.operation ≡ Some number → IsOf number x t
 of_at szx [] law x number h is = absurd h
-of_at szx (c ∷ t) law x number (inl h) is = let k = law.0 x number h is in record { path = k.path; taken = inr k.taken; asks = asked_path szx k.path x t x.operation k.asks }
-of_at szx (c ∷ t) law x number (inr h) is = let k = of_at szx t law.1 x number h is in record { path = k.path; taken = inr k.taken; asks = k.asks }
+of_at szx (c ∷ t) law x number (inl h) is = let k =
+    law.0 x number h is in record {
+      path = k.path;
+      taken = inr k.taken;
+      asks = asked_path szx k.path x t x.operation k.asks;
+    }
+of_at szx (c ∷ t) law x number (inr h) is = let k =
+    of_at szx t law.1 x number h is in record { path = k.path; taken = inr k.taken; asks = k.asks }
 
-numbered_alike : (x y : Sending) (number : ℕ) → Deregisters x y → observation_for y.operation ≡ Some number → observation_for x.operation ≡ Some number
+numbered_alike : (x y : Sending) (number : ℕ) → Deregisters x y → observation_for y.operation ≡ Some number
+    → observation_for x.operation ≡ Some number
 numbered_alike x y number d is = ap observation_for d.registers ∙ (sym (ap observation_for d.cancels) ∙ is)
 
-numbered_behind : (x y : Sending) (number : ℕ) → Deregisters y x → observation_for y.operation ≡ Some number → observation_for x.operation ≡ Some number
+numbered_behind : (x y : Sending) (number : ℕ) → Deregisters y x → observation_for y.operation ≡ Some number
+    → observation_for x.operation ≡ Some number
 numbered_behind x y number d is = ap observation_for d.cancels ∙ (sym (ap observation_for d.registers) ∙ is)
 
 module _ (config : Config) where
@@ -48,15 +57,21 @@ module _ (config : Config) where
     pub observed : WasObserved number path w
     pub asks : path_of x.request.options ≡ path
 
-  pub of_observation : (number : ℕ) (x : Sending) (w : List Entry) → Lawful config w → WasSent config.client_szx x (client_of w) → observation_for x.operation ≡ Some number → OfObservation number x w
+  pub of_observation : (number : ℕ) (x : Sending) (w : List Entry) → Lawful config w
+      → WasSent config.client_szx x (client_of w) → observation_for x.operation ≡ Some number → OfObservation number x w
   of_observation number x w law sent is =
-      let k = of_at config.client_szx (client_of w) (are_of_observations config.client_szx server_end config.client_word (client_of w) law.client) x number sent is in
+      let k = of_at config.client_szx (client_of w)
+      (are_of_observations config.client_szx server_end config.client_word (client_of w) law.client) x number sent
+      is in
       record { path = k.path; observed = k.taken; asks = k.asks }
 
   -- one token of an observation, one path
-  pub one_of_observation : (all : List Entry) → Lawful config all → (x y : Sending) (number : ℕ) → WasSent config.client_szx x (client_of all) → WasSent config.client_szx y (client_of all)
+  pub one_of_observation : (all : List Entry) → Lawful config all → (x y : Sending) (number : ℕ)
+      → WasSent config.client_szx x (client_of all) → WasSent config.client_szx y (client_of all)
       → observation_for y.operation ≡ Some number → x.token ≡ y.token → observation_for x.operation ≡ Some number
-  one_of_observation all law x y number sent there is token = by (client_facts.tokens server_end config.client_szx config.client_word (client_of all) law.client x y sent there token)
+  one_of_observation all law x y number sent there is token =
+      by (client_facts.tokens server_end config.client_szx config.client_word
+      (client_of all) law.client x y sent there token)
     where
       by : (x ≡ y) ⊎ (Deregisters x y ⊎ Deregisters y x) → observation_for x.operation ≡ Some number
       by (inl same) = ap (λ (z : Sending). observation_for z.operation) same ∙ is

@@ -1,4 +1,5 @@
--- Parts that a server showed under one entity-tag are those of one representation, so the body that they are whole for is that.
+-- Parts that a server showed under one entity-tag are those of one representation, so the body that they are whole for
+-- is that.
 use Rattle.std.proofs.Common.{◌≡◌, ℕ, Option, Some, None, List, [], ◌∷◌, ◌++◌, ap, sym, subst, ◌∙◌}
 use Rattle.coap_types.specs.declared.block.Block.{Block}
 use Rattle.coap_codec.specs.Message.{Message}
@@ -21,7 +22,8 @@ each_join : (P : Part → Type 0) (xs : List Part) (y : Part) → Each P xs → 
 each_join P [] y h k = (k, tt)
 each_join P (x ∷ xs) y h k = (h.0, each_join P xs y h.1 k)
 
-each_both : (P Q R : Part → Type 0) → ((p : Part) → P p → Q p → R p) → (xs : List Part) → Each P xs → Each Q xs → Each R xs
+each_both : (P Q R : Part → Type 0) → ((p : Part) → P p → Q p → R p) → (xs : List Part) → Each P xs → Each Q xs
+    → Each R xs
 each_both P Q R f [] h k = tt
 each_both P Q R f (x ∷ xs) h k = (f x h.0 k.0, each_both P Q R f xs h.1 k.1)
 
@@ -47,7 +49,8 @@ module _ (limit szx : ℕ) (all : List S.Call) where
     pub piece : IsPieceOf held.body p
 
   -- a part, by the message that carries it
-  pub part_held : (p : Part) (m : Message) (path : List (List ℕ)) (held : Held) → ComesAs p m → server.WasHeld limit szx path held all → IsShown held m → IsPartHeld p
+  pub part_held : (p : Part) (m : Message) (path : List (List ℕ)) (held : Held) → ComesAs p m
+      → server.WasHeld limit szx path held all → IsShown held m → IsPartHeld p
   part_held p m path held comes was shown =
       record {
         path = path;
@@ -57,7 +60,8 @@ module _ (limit szx : ℕ) (all : List S.Call) where
         piece = subst (IsPieceOf held.body) (sym comes.is) (shown.part.piece comes.block comes.says);
       }
 
-  module _ (tags : server.OneTag limit szx all) (path : List (List ℕ)) (held : Held) (was : server.WasHeld limit szx path held all) where
+  module _ (tags : server.OneTag limit szx all) (path : List (List ℕ)) (held : Held)
+      (was : server.WasHeld limit szx path held all) where
     piece_of : (p : Part) → IsPartHeld p → p.tag ≡ Some (tag_of held.version) → IsPieceOf held.body p
     piece_of p k tag =
         let same : Some (tag_of k.held.version) ≡ Some (tag_of held.version) = sym k.tag ∙ tag in
@@ -65,22 +69,35 @@ module _ (limit szx : ℕ) (all : List S.Call) where
         subst (λ (h : Held). IsPieceOf h.body p) one k.piece
 
     -- .. and each part has its tag
-    pub tags_of : (parts : List Part) (m : Message) (block : Option Block) (body : List ℕ) → IsShown held m → ComesLast parts m block → Whole (payloads_of parts block (tag_in m) m.payload) body → Each (λ p. p.tag ≡ Some (tag_of held.version)) parts
+    pub tags_of : (parts : List Part) (m : Message) (block : Option Block) (body : List ℕ) → IsShown held m
+        → ComesLast parts m block → Whole (payloads_of parts block (tag_in m) m.payload) body
+        → Each (λ p. p.tag ≡ Some (tag_of held.version)) parts
     tags_of parts m None body shown last whole = subst (Each (λ p. p.tag ≡ Some (tag_of held.version))) (sym last.1) tt
     tags_of parts m (Some b) body shown last whole =
         let z : Part = part b (tag_in m) m.payload in
-        each_map (λ p. p.tag ≡ z.tag) (λ p. p.tag ≡ Some (tag_of held.version)) (λ p h. h ∙ shown.tag) parts (tags_alike parts z whole.1)
+        each_map (λ p. p.tag ≡ z.tag) (λ p. p.tag ≡ Some (tag_of held.version)) (λ p h. h ∙ shown.tag) parts
+        (tags_alike parts z whole.1)
 
     -- what was held under that tag is this
-    pub same_held : (other : List (List ℕ)) (k : Held) → server.WasHeld limit szx other k all → Some (tag_of k.version) ≡ Some (tag_of held.version) → k ≡ held
+    pub same_held : (other : List (List ℕ)) (k : Held) → server.WasHeld limit szx other k all
+        → Some (tag_of k.version) ≡ Some (tag_of held.version) → k ≡ held
     same_held other k there same = (tags other path k held there was (cc same)).0
 
     -- what is whole by such parts, and by a message that shows what is held, is the body of that
-    pub body_held : (parts : List Part) (m : Message) (block : Option Block) (body : List ℕ) → Each IsPartHeld parts → IsShown held m → ComesLast parts m block → Whole (payloads_of parts block (tag_in m) m.payload) body → body ≡ held.body
+    pub body_held : (parts : List Part) (m : Message) (block : Option Block) (body : List ℕ) → Each IsPartHeld parts
+        → IsShown held m → ComesLast parts m block → Whole (payloads_of parts block (tag_in m) m.payload) body
+        → body ≡ held.body
     body_held parts m None body each shown last whole = sym whole ∙ shown.part.alone last.0
     body_held parts m (Some b) body each shown last whole =
         let z : Part = part b (tag_in m) m.payload in
         let alike = tags_alike parts z whole.1 in
-        let pieces = each_both IsPartHeld (λ p. p.tag ≡ z.tag) (IsPieceOf held.body) (λ p k tag. piece_of p k (tag ∙ shown.tag)) parts each alike in
-        one_body (Blocks (parts ++ z ∷ [])) body held.body whole
-        (record { pieces = each_join (IsPieceOf held.body) parts z pieces (shown.part.piece b last); chained = whole.0.chained; ends = whole.0.ends }, whole.1)
+        let pieces = each_both IsPartHeld (λ p. p.tag ≡ z.tag) (IsPieceOf held.body)
+        (λ p k tag. piece_of p k (tag ∙ shown.tag)) parts each alike in
+        one_body (Blocks (parts ++ z ∷ [])) body held.body whole (
+          record {
+            pieces = each_join (IsPieceOf held.body) parts z pieces (shown.part.piece b last);
+            chained = whole.0.chained;
+            ends = whole.0.ends;
+          },
+          whole.1,
+        )

@@ -29,7 +29,8 @@ use Rattle.coap_world.proofs.Reports.ValuesHeld.{each_value}
 use Rattle.coap_world.proofs.Reports.NeverFailed.{never_failed}
 use Rattle.coap_world.proofs.Reports.OnceDone.{once_done}
 
-pub agrees : (config : Config) (events : List Event) (turns : List Turn) → RecordOf config events turns → Legal config turns → Agrees config (entries_of turns)
+pub agrees : (config : Config) (events : List Event) (turns : List Turn) → RecordOf config events turns
+    → Legal config turns → Agrees config (entries_of turns)
 agrees config events turns run legal =
     let all : List Entry = entries_of turns in
     let c = client_of all in
@@ -43,10 +44,12 @@ agrees config events turns run legal =
       values_rise = all_rise config all law;
       held_are_named = all_named config all law;
       each_belongs = belongs config events turns run legal;
-      applied_whole = applied_whole config all legal.range.client_szx law (λ x h. in_range x turns run.made legal.events h);
+      applied_whole = applied_whole config all legal.range.client_szx law
+          (λ x h. in_range x turns run.made legal.events h);
       at_most_once = once config events turns run legal;
       once_done = once_done config all legal.range.client_szx law (λ x h. in_range x turns run.made legal.events h);
-      never_failed = never_failed config all legal.range.client_szx law (λ x h. in_range x turns run.made legal.events h);
+      never_failed = never_failed config all legal.range.client_szx law
+          (λ x h. in_range x turns run.made legal.events h);
       holds_changes = changes_held config all run.server;
       changes_owned = O.owned config all run.server.rows;
       local_right = local_right config all run.server.rows;
@@ -67,5 +70,8 @@ agrees config events turns run legal =
       all_given = all_given config turns run.made run.client.rows;
     }
 
-pub exchanges_bounded : (config : Config) (events : List Event) (turns : List Turn) → RecordOf config events turns → Legal config turns → AreBounded config (entries_of turns)
-exchanges_bounded config events turns run legal = bounded config legal.range.server_szx (entries_of turns) (lawful config events turns run legal) (formats_in turns run.made legal.events)
+pub exchanges_bounded : (config : Config) (events : List Event) (turns : List Turn) → RecordOf config events turns
+    → Legal config turns → AreBounded config (entries_of turns)
+exchanges_bounded config events turns run legal =
+    bounded config legal.range.server_szx (entries_of turns) (lawful config events turns run legal)
+    (formats_in turns run.made legal.events)

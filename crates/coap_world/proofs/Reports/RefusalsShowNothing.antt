@@ -53,7 +53,8 @@ uploading_not Delete q (Some b) = refl
 
 asked_not : (szx : ℕ) (o : Option Method) (m : Message) → refuses_so (asked_by szx o m) ≡ false
 asked_not szx None m = refl
-asked_not szx (Some method) m = by (nat_lt max_segments (length (path_of (asks m)))) (is_reserved (uint_at block1 (asks m)) || is_reserved (uint_at block2 (asks m)))
+asked_not szx (Some method) m = by (nat_lt max_segments (length (path_of (asks m))))
+    (is_reserved (uint_at block1 (asks m)) || is_reserved (uint_at block2 (asks m)))
   where
     last : Verdict
     last = uploading method (question szx method m) (block_said (uint_at block1 (asks m)))
@@ -70,9 +71,11 @@ bad_not Ack = refl
 bad_not Rst = refl
 
 verdict_not : (szx : ℕ) (m : Message) → refuses_so (verdict_on szx m) ≡ false
-verdict_not szx m = by (lacks_critical direction.Request m.options) (has proxy_uri (asks m) || has proxy_scheme (asks m))
+verdict_not szx m = by (lacks_critical direction.Request m.options)
+    (has proxy_uri (asks m) || has proxy_scheme (asks m))
   where
-    by : (b c : Bool) → refuses_so (cond b (bad_by m.kind) (cond c (Refused proxying_not_supported) (asked_by szx (method_of m.code) m))) ≡ false
+    by : (b c : Bool) → refuses_so (cond b (bad_by m.kind)
+        (cond c (Refused proxying_not_supported) (asked_by szx (method_of m.code) m))) ≡ false
     by true c = bad_not m.kind
     by false true = refl
     by false false = asked_not szx (method_of m.code) m
@@ -85,14 +88,16 @@ block_not (Refuse Unavailable) = refl
 block_not (Join size) = refl
 block_not Done = refl
 
-refusal_not : (uploads : AssemblyState) (at : ℕ) (a : Asked) (v : Verdict) → refuses_so v ≡ false → shown_by (refusal_of uploads at a v) ≡ false
+refusal_not : (uploads : AssemblyState) (at : ℕ) (a : Asked) (v : Verdict) → refuses_so v ≡ false
+    → shown_by (refusal_of uploads at a v) ≡ false
 refusal_not uploads at a Ignored h = refl
 refusal_not uploads at a (Refused code) h = h
 refusal_not uploads at a (Asks q) h = refl
 refusal_not uploads at a (Uploads q b) h = block_not (ruling_of uploads at a q b)
 
 in_call : (s : Own) (c : Call) → shown_by (refusal_in s c) ≡ false
-in_call s (Feeds now from bytes word up (Some p) h below) = refusal_not s.uploads _ p.0 (verdict_on s.szx p.1) (verdict_not s.szx p.1)
+in_call s (Feeds now from bytes word up (Some p) h below) =
+    refusal_not s.uploads _ p.0 (verdict_on s.szx p.1) (verdict_not s.szx p.1)
 in_call s (Feeds now from bytes word up None h below) = refl
 in_call s (Ticks now word below room d passed h id answer) = refl
 in_call s (Sets now path format body answer left) = refl

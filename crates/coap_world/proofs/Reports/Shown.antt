@@ -1,4 +1,5 @@
--- What a 2.05 shows that a client takes, the server held at the path that the client asked for, when it made that answer.
+-- What a 2.05 shows that a client takes, the server held at the path that the client asked for, when it made that
+-- answer.
 use Rattle.std.proofs.Common.{◌≡◌, ◌<◌, ◌≤◌, inl, inr, ℕ, ◌==◌, Bool, true, false, ◌||◌, Option, Some, None, List, []}
 use Rattle.std.proofs.Common.{◌∷◌, is_some, refl, ap, sym, subst, ◌∙◌}
 use Rattle.std.specs.Prelude.{IfSome}
@@ -56,8 +57,10 @@ of_it : (s : Own) (x y : Serving) → Numbered s x → Some x ≡ Some y → Num
 of_it s x y n h = let same : x ≡ y = cc h in subst (Numbered s) same n
 
 pub numbered : (s : Own) (c : Call) (x : Serving) → serving s c ≡ Some x → Numbered s x
-numbered s (Feeds now from bytes word up (Some p) (Serves q reply left) below) x h = of_it s _ x (record { told_it = _; is = refl }) h
-numbered s (Ticks now word below room (due.Ready a) passed (Serves q reply left) id answer) x h = of_it s _ x (record { told_it = _; is = refl }) h
+numbered s (Feeds now from bytes word up (Some p) (Serves q reply left) below) x h =
+    of_it s _ x (record { told_it = _; is = refl }) h
+numbered s (Ticks now word below room (due.Ready a) passed (Serves q reply left) id answer) x h =
+    of_it s _ x (record { told_it = _; is = refl }) h
 numbered s (Feeds now from bytes word up None h below) x e = absurd (cc e)
 numbered s (Feeds now from bytes word up (Some p) Silent below) x e = absurd (cc e)
 numbered s (Feeds now from bytes word up (Some p) (Replies r) below) x e = absurd (cc e)
@@ -93,13 +96,17 @@ told_leaves s (Gets path answer) p e = absurd (cc e)
 told_leaves s (TellsApplied answer) p e = absurd (cc e)
 
 -- the part that a notification carries
-told_part : (store : Content) (o : Observer) (held : Held) → store.holds o.path ≡ Some held → IsPart (content_reply held false 0 o.szx).block2 held.body (content_reply held false 0 o.szx).part
+told_part : (store : Content) (o : Observer) (held : Held) → store.holds o.path ≡ Some held
+    → IsPart (content_reply held false 0 o.szx).block2 held.body (content_reply held false 0 o.szx).part
 told_part store o held is =
     let r : Reply = told store o in
     let same : r ≡ content_reply held false 0 o.szx = ap (λ x. got x (asks_for o)) is in
-    let p = part_law store store 0 (asks_for o) r (subst (λ x. ServesUnless (precondition_fails x []) store 0 (asks_for o) r store) (sym is) (refl, refl)) (ap (λ (z : Reply). z.code) same) in
+    let p = part_law store store 0 (asks_for o) r
+    (subst (λ x. ServesUnless (precondition_fails x []) store 0 (asks_for o) r store) (sym is) (refl, refl))
+    (ap (λ (z : Reply). z.code) same) in
     let held_same : p.0 ≡ held = (let e : Some p.0 ≡ Some held = sym p.1 ∙ is in cc e) in
-    subst (λ (z : Reply). IsPart z.block2 held.body z.part) same (subst (λ (h : Held). IsPart r.block2 h.body r.part) held_same p.2)
+    subst (λ (z : Reply). IsPart z.block2 held.body z.part) same
+    (subst (λ (h : Held). IsPart r.block2 h.body r.part) held_same p.2)
 
 module _ (config : Config) where
   -- the server made this answer here, to a request that the client sent before, and shows what its path holds
@@ -112,7 +119,9 @@ module _ (config : Config) where
     pub is_held : last_at config (path_of sending.request.options) (e ∷ past) ≡ Some held
     pub shown : IsShown held m
 
-  module _ (m : Message) (code : m.code ≡ content) (none : lacks_critical Response m.options ≡ false) (small : config.server_szx ≤ 6) (past : List Entry) (c : S.Call) (law : Lawful config (OfServer c ∷ past)) (formats : FormatsIn (OfServer c ∷ past)) where
+  module _ (m : Message) (code : m.code ≡ content) (none : lacks_critical Response m.options ≡ false)
+      (small : config.server_szx ≤ 6) (past : List Entry) (c : S.Call) (law : Lawful config (OfServer c ∷ past))
+      (formats : FormatsIn (OfServer c ∷ past)) where
     abbrev t : List S.Call
     t = server_trace config past
 
@@ -120,14 +129,19 @@ module _ (config : Config) where
     own = own_of config.limit config.server_szx t
 
     -- what is held here is small, and is the last change
-    last_here : (path : List (List ℕ)) (held : Held) → (after own c).store.holds path ≡ Some held → (last_at config path (OfServer c ∷ past) ≡ Some held) × IfSome held.format (λ f. f < 65536)
+    last_here : (path : List (List ℕ)) (held : Held) → (after own c).store.holds path ≡ Some held
+        → (last_at config path (OfServer c ∷ past) ≡ Some held) × IfSome held.format (λ f. f < 65536)
     last_here path held is =
-        let last : last_at config path (OfServer c ∷ past) ≡ Some held = sym (held_is config.limit config.server_szx (c ∷ t) law.server.rows path) ∙ is in
+        let last : last_at config path (OfServer c ∷ past)
+        ≡ Some held = sym (held_is config.limit config.server_szx (c ∷ t) law.server.rows path) ∙ is in
         (last, subst IsSmall last (formats_held config (OfServer c ∷ past) law.server.rows formats path))
 
-    by_reply : (x : Serving) → serving own c ≡ Some x → IsResponse m x.asked.from x.asked.token (response_with x.reply x.sequence (last_block x.question)) → ShownAt m past (OfServer c)
+    by_reply : (x : Serving) → serving own c ≡ Some x
+        → IsResponse m x.asked.from x.asked.token (response_with x.reply x.sequence (last_block x.question))
+        → ShownAt m past (OfServer c)
     by_reply x here r =
-        let right = (server_facts.right config.limit config.server_szx config.server_word (c ∷ t) law.server).0.serves x here in
+        let right = (server_facts.right config.limit config.server_szx config.server_word (c ∷ t) law.server).0.serves x
+        here in
         let replied : x.reply.code ≡ content = sym r.code ∙ code in
         let w = content_law x.old x.left right.0 x.question x.reply right.1 replied in
         let p = part_law x.old x.left right.0 x.question x.reply right.1 replied in
@@ -135,7 +149,8 @@ module _ (config : Config) where
         let n = numbered own c x here in
         let k = asked_by config past c law x here r.to_client in
         let block = block_of x.question.options in
-        let now : (after own c).store.holds x.question.path ≡ Some w.held = ap (λ (s : Content). s.holds x.question.path) (l.left ∙ w.same) ∙ w.is_held in
+        let now : (after own c).store.holds x.question.path
+        ≡ Some w.held = ap (λ (s : Content). s.holds x.question.path) (l.left ∙ w.same) ∙ w.is_held in
         let last = last_here x.question.path w.held now in
         let number : x.sequence ≡ sequence_if n.told_it (Some w.held) = n.is ∙ ap (sequence_if n.told_it) w.is_held in
         let same : p.0 ≡ w.held = (let e : Some p.0 ≡ Some w.held = sym p.1 ∙ w.is_held in cc e) in
@@ -147,19 +162,27 @@ module _ (config : Config) where
           held = w.held;
           is_held = subst (λ path. last_at config path (OfServer c ∷ past) ≡ Some w.held) k.path last.0;
           shown =
-              content_read m w.held (is_some block) (offset_by block) (szx_by block x.question.szx) n.told_it (last_block x.question)
+              content_read m w.held (is_some block) (offset_by block) (szx_by block x.question.szx) n.told_it
+              (last_block x.question)
               (r.options ∙ (ap (λ z. (response_with z x.sequence (last_block x.question)).options) w.is
-              ∙ ap (λ z. (response_with (content_reply w.held (is_some block) (offset_by block) (szx_by block x.question.szx)) z (last_block x.question)).options) number))
-              (r.payload ∙ ap (λ (z : Reply). z.part) w.is) (subst (λ (z : Reply). IsPart z.block2 w.held.body z.part) w.is (subst (λ (h : Held). IsPart x.reply.block2 h.body x.reply.part) same p.2))
+              ∙ ap (λ z. (response_with (content_reply w.held (is_some block) (offset_by block)
+              (szx_by block x.question.szx)) z (last_block x.question)).options) number))
+              (r.payload ∙ ap (λ (z : Reply). z.part) w.is)
+              (subst (λ (z : Reply). IsPart z.block2 w.held.body z.part) w.is
+              (subst (λ (h : Held). IsPart x.reply.block2 h.body x.reply.part) same p.2))
               (szx_least block x.question.szx 6 (subst (λ z. z ≤ 6) (sym k.size) small)) last.1 none;
         }
 
-    by_notice : (o : Observer) (reply : Reply) (held : Held) → own.store.holds o.path ≡ Some held → notice_in c ≡ Some (o, reply) → WasMade config.limit config.server_szx t o
-        → IsResponse m o.to o.token (notification own.store o reply) → notification own.store o reply ≡ response_with (content_reply held false 0 o.szx) (sequence_if true (Some held)) None
+    by_notice : (o : Observer) (reply : Reply) (held : Held) → own.store.holds o.path ≡ Some held
+        → notice_in c ≡ Some (o, reply) → WasMade config.limit config.server_szx t o
+        → IsResponse m o.to o.token (notification own.store o reply)
+        → notification own.store o reply ≡ response_with (content_reply held false 0 o.szx)
+        (sequence_if true (Some held)) None
         → AnswersAt config m past (OfServer c) → ShownAt m past (OfServer c)
     by_notice o reply held is here made r shows_it answers =
         let k = registered_by config o past (lawful_back config past (OfServer c) law) r.to_client made in
-        let now : (after own c).store.holds o.path ≡ Some held = ap (λ (s : Content). s.holds o.path) (told_leaves own c (o, reply) here) ∙ is in
+        let now : (after own c).store.holds o.path
+        ≡ Some held = ap (λ (s : Content). s.holds o.path) (told_leaves own c (o, reply) here) ∙ is in
         let last = last_here o.path held now in
         record {
           answers = answers;
@@ -169,7 +192,8 @@ module _ (config : Config) where
           held = held;
           is_held = subst (λ path. last_at config path (OfServer c ∷ past) ≡ Some held) k.path last.0;
           shown =
-              content_read m held false 0 o.szx true None (r.options ∙ ap (λ (z : E.Response). z.options) shows_it) (r.payload ∙ ap (λ (z : E.Response). z.payload) shows_it)
+              content_read m held false 0 o.szx true None (r.options ∙ ap (λ (z : E.Response). z.options) shows_it)
+              (r.payload ∙ ap (λ (z : E.Response). z.payload) shows_it)
               (told_part own.store o held is) (k.size 6 small) last.1 none;
         }
 
@@ -183,23 +207,32 @@ module _ (config : Config) where
         by true k = absurd (cc k)
         by false k = refl
 
-    by_held : (o : Observer) (reply : Reply) (h : Option Held) → own.store.holds o.path ≡ h → notice_in c ≡ Some (o, reply) → WasMade config.limit config.server_szx t o → NoticeOf o.szx h (notification own.store o reply)
-        → IsResponse m o.to o.token (notification own.store o reply) → AnswersAt config m past (OfServer c) → ShownAt m past (OfServer c)
-    by_held o reply None is here made notice r answers = absurd (no_code codes.NOT_FOUND.0 (r.code ∙ ap (λ (z : E.Response). z.code) notice) refl)
+    by_held : (o : Observer) (reply : Reply) (h : Option Held) → own.store.holds o.path ≡ h
+        → notice_in c ≡ Some (o, reply) → WasMade config.limit config.server_szx t o
+        → NoticeOf o.szx h (notification own.store o reply)
+        → IsResponse m o.to o.token (notification own.store o reply) → AnswersAt config m past (OfServer c)
+        → ShownAt m past (OfServer c)
+    by_held o reply None is here made notice r answers =
+        absurd (no_code codes.NOT_FOUND.0 (r.code ∙ ap (λ (z : E.Response). z.code) notice) refl)
     by_held o reply (Some held) is here made notice r answers = by_notice o reply held is here made r notice answers
 
     pub shown_here : IsAnswer config m t c → ShownAt m past (OfServer c)
     shown_here (replies x here r) = by_reply x here r
     shown_here (continues x size taken more asks r) = absurd (no_code codes.CONTINUE.0 r.code refl)
-    shown_here (refuses a v n comes handed unserved refusal r) = absurd (no_code n r.code (refused_not n (none_shows own c n refusal)))
-    shown_here (notifies o reply here made notice r) = by_held o reply (own.store.holds o.path) refl here made notice r (notifies o reply here made notice r)
+    shown_here (refuses a v n comes handed unserved refusal r) =
+        absurd (no_code n r.code (refused_not n (none_shows own c n refusal)))
+    shown_here (notifies o reply here made notice r) =
+        by_held o reply (own.store.holds o.path) refl here made notice r (notifies o reply here made notice r)
 
   pub formats_back : (past : List Entry) (e : Entry) → FormatsIn (e ∷ past) → FormatsIn past
   formats_back past (OfClient c) h = h
   formats_back past (OfServer c) h = h.1
 
-  pub shown_in : (m : Message) → m.code ≡ content → lacks_critical Response m.options ≡ false → config.server_szx ≤ 6 → (w : List Entry) → Lawful config w → FormatsIn w → Sometime (AnswersAt config m) w → Sometime (ShownAt m) w
+  pub shown_in : (m : Message) → m.code ≡ content → lacks_critical Response m.options ≡ false → config.server_szx ≤ 6
+      → (w : List Entry) → Lawful config w → FormatsIn w → Sometime (AnswersAt config m) w → Sometime (ShownAt m) w
   shown_in m code none small [] law formats h = h
   shown_in m code none small (OfClient c ∷ past) law formats (inl h) = absurd h
-  shown_in m code none small (OfServer c ∷ past) law formats (inl h) = inl (shown_here m code none small past c law formats h)
-  shown_in m code none small (e ∷ past) law formats (inr h) = inr (shown_in m code none small past (lawful_back config past e law) (formats_back past e formats) h)
+  shown_in m code none small (OfServer c ∷ past) law formats (inl h) =
+      inl (shown_here m code none small past c law formats h)
+  shown_in m code none small (e ∷ past) law formats (inr h) =
+      inr (shown_in m code none small past (lawful_back config past e law) (formats_back past e formats) h)

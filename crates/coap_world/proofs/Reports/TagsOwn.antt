@@ -42,9 +42,13 @@ names_kept : (v : ℕ) (before os : List CoapOption) → etag_names v (kept befo
 names_kept v before [] h = h
 names_kept v before (o ∷ os) h = by (is_recognised Request before o) h (names_kept v (before ++ o ∷ []) os)
   where
-    by : (r : Bool) → etag_names v (map (λ p. p.1) (cond r ((before, o) ∷ filter (λ p. is_recognised Request p.0 p.1) (placed (before ++ o ∷ []) os)) (filter (λ p. is_recognised Request p.0 p.1) (placed (before ++ o ∷ []) os)))) ≡ true
-        → (etag_names v (kept (before ++ o ∷ []) os) ≡ true → etag_names v os ≡ true) → ((o.number == etag && is_tag_of v o.value) || etag_names v os) ≡ true
-    by true k f = either (o.number == etag && is_tag_of v o.value) (etag_names v (kept (before ++ o ∷ []) os)) (etag_names v os) k f
+    by : (r : Bool) → etag_names v (map (λ p. p.1)
+        (cond r ((before, o) ∷ filter (λ p. is_recognised Request p.0 p.1) (placed (before ++ o ∷ []) os))
+        (filter (λ p. is_recognised Request p.0 p.1) (placed (before ++ o ∷ []) os)))) ≡ true
+        → (etag_names v (kept (before ++ o ∷ []) os) ≡ true → etag_names v os ≡ true)
+        → ((o.number == etag && is_tag_of v o.value) || etag_names v os) ≡ true
+    by true k f = either (o.number == etag && is_tag_of v o.value) (etag_names v (kept (before ++ o ∷ []) os))
+        (etag_names v os) k f
     by false k f = behind (o.number == etag && is_tag_of v o.value) (etag_names v os) (f k)
 
 pub names_read : (v : ℕ) (os : List CoapOption) → etag_names v (recognised Request os) ≡ true → etag_names v os ≡ true
@@ -58,7 +62,8 @@ none_join v (o ∷ a) b none = ap (λ n. (o.number == etag && is_tag_of v o.valu
 
 none_run : (v n : ℕ) (vs : List (List ℕ)) → (n == etag) ≡ false → etag_names v (map (option n) vs) ≡ false
 none_run v n [] other = refl
-none_run v n (x ∷ vs) other = ap (λ b. (b && is_tag_of v x) || etag_names v (map (option n) vs)) other ∙ none_run v n vs other
+none_run v n (x ∷ vs) other = ap (λ b. (b && is_tag_of v x) || etag_names v (map (option n) vs)) other
+    ∙ none_run v n vs other
 
 none_uint : (v n : ℕ) (o : Option ℕ) → (n == etag) ≡ false → etag_names v (uint_option n o) ≡ false
 none_uint v n None other = refl
@@ -87,13 +92,18 @@ none_flag : (v : ℕ) (b : Bool) → etag_names v (flag_option if_none_match b) 
 none_flag v true = refl
 none_flag v false = refl
 
-none_conditions : (v : ℕ) (r : C.Request) → etag_names v (map (option if_match) r.if_match ++ flag_option if_none_match r.if_none_match) ≡ false
-none_conditions v r = none_join v (map (option if_match) r.if_match) (flag_option if_none_match r.if_none_match) (none_flag v r.if_none_match) ∙ none_run v if_match r.if_match refl
+none_conditions : (v : ℕ) (r : C.Request) → etag_names v
+    (map (option if_match) r.if_match ++ flag_option if_none_match r.if_none_match) ≡ false
+none_conditions v r = none_join v (map (option if_match) r.if_match) (flag_option if_none_match r.if_none_match)
+    (none_flag v r.if_none_match) ∙ none_run v if_match r.if_match refl
 
-before_alone : (v : ℕ) (r : C.Request) (t : Transfer) → etag_names v (options_of r ++ block_option t) ≡ etag_names v (before_path r.method r)
+before_alone : (v : ℕ) (r : C.Request) (t : Transfer)
+    → etag_names v (options_of r ++ block_option t) ≡ etag_names v (before_path r.method r)
 before_alone v r t =
     none_join v (options_of r) (block_option t) (none_block v t)
-    ∙ none_join v (before_path r.method r) (path_options r.path ++ after_path r.method r) (none_join v (path_options r.path) (after_path r.method r) (none_after v r.method r) ∙ none_run v uri_path r.path refl)
+    ∙ none_join v (before_path r.method r) (path_options r.path ++ after_path r.method r)
+    (none_join v (path_options r.path) (after_path r.method r) (none_after v r.method r)
+    ∙ none_run v uri_path r.path refl)
 
 same_tag : (v : ℕ) (t : List ℕ) → is_tag_of v t ≡ true → t ≡ tag_of v
 same_tag v t h = (bytes_decides t (tag_of v)).0 h
@@ -102,15 +112,19 @@ one_of : (v : ℕ) (ts : List (List ℕ)) → etag_names v (map (option etag) ts
 one_of v [] h = cc h
 one_of v (t ∷ ts) h = by (is_tag_of v t) refl h (one_of v ts)
   where
-    by : (b : Bool) → is_tag_of v t ≡ b → (b || etag_names v (map (option etag) ts)) ≡ true → (etag_names v (map (option etag) ts) ≡ true → Ever (λ t. t ≡ tag_of v) ts) → (t ≡ tag_of v) ⊎ Ever (λ t. t ≡ tag_of v) ts
+    by : (b : Bool) → is_tag_of v t ≡ b → (b || etag_names v (map (option etag) ts)) ≡ true
+        → (etag_names v (map (option etag) ts) ≡ true → Ever (λ t. t ≡ tag_of v) ts)
+        → (t ≡ tag_of v) ⊎ Ever (λ t. t ≡ tag_of v) ts
     by true is h f = inl (same_tag v t is)
     by false is h f = inr (f h)
 
-of_method : (v : ℕ) (m : Method) (r : C.Request) → etag_names v (before_path m r) ≡ true → Ever (λ t. t ≡ tag_of v) r.etags
+of_method : (v : ℕ) (m : Method) (r : C.Request) → etag_names v (before_path m r) ≡ true
+    → Ever (λ t. t ≡ tag_of v) r.etags
 of_method v Get r h = one_of v r.etags h
 of_method v Post r h = absurd (let none = none_conditions v r in cc (h, none))
 of_method v Put r h = absurd (let none = none_conditions v r in cc (h, none))
 of_method v Delete r h = absurd (let none = none_conditions v r in cc (h, none))
 
-pub own_tag : (v : ℕ) (r : C.Request) (t : Transfer) → etag_names v (options_of r ++ block_option t) ≡ true → Ever (λ t. t ≡ tag_of v) r.etags
+pub own_tag : (v : ℕ) (r : C.Request) (t : Transfer) → etag_names v (options_of r ++ block_option t) ≡ true
+    → Ever (λ t. t ≡ tag_of v) r.etags
 own_tag v r t h = of_method v r.method r (sym (before_alone v r t) ∙ h)

@@ -24,21 +24,29 @@ use Rattle.coap_ends.proofs.Facts.OfClientCalls.{stripped}
 
 module _ (server : Endpoint) (szx word : ℕ) where
   understood_here :
-      (t : List Call) (now : ℕ) (from : Endpoint) (bytes : List ℕ) (w : ℕ) (up : L.Answer) (settled : Bool) (event : Option Event) (sent : L.Answer) (token : Result (List ℕ) AskRefusal) (kept : Bool) (m : Message)
-      → ClientLaw server szx word (Feeds now from bytes w up settled event sent token kept ∷ t) → message_told event ≡ Some m → lacks_critical Response m.options ≡ false
+      (t : List Call) (now : ℕ) (from : Endpoint) (bytes : List ℕ) (w : ℕ) (up : L.Answer) (settled : Bool)
+      (event : Option Event) (sent : L.Answer) (token : Result (List ℕ) AskRefusal) (kept : Bool) (m : Message)
+      → ClientLaw server szx word (Feeds now from bytes w up settled event sent token kept ∷ t)
+      → message_told event ≡ Some m → lacks_critical Response m.options ≡ false
   understood_here t now from bytes w up settled event sent token kept m law told =
       let own : Own = own_of szx t in
       let moment : ℕ = max own.clock now in
       let input : E.Call = E.Receive moment from bytes up settled event in
-      let p : ExchangeLaw server word (input ∷ lower_of szx t) = stripped server word moment w sent sent token token kept kept (happened (at now own) moment event) input (lower_of szx t) law.exchanges in
+      let p : ExchangeLaw server word (input ∷ lower_of szx t) =
+      stripped server word moment w sent sent token token kept kept (happened (at now own) moment event) input
+      (lower_of szx t) law.exchanges in
       (matched server word (input ∷ lower_of szx t) p.rows).0.understood m told
 
-  pub heard_understood : (t : List Call) (c : Call) → ClientLaw server szx word (c ∷ t) → (m : Message) → hears c ≡ Some m → lacks_critical Response m.options ≡ false
-  heard_understood t (Feeds now from bytes w up settled (Some (event_of.Answer a)) sent token kept) law m h = understood_here t now from bytes w up settled (Some (event_of.Answer a)) sent token kept m law h
-  heard_understood t (Feeds now from bytes w up settled (Some (event_of.Notice a)) sent token kept) law m h = absurd (cc h)
+  pub heard_understood : (t : List Call) (c : Call) → ClientLaw server szx word (c ∷ t) → (m : Message)
+      → hears c ≡ Some m → lacks_critical Response m.options ≡ false
+  heard_understood t (Feeds now from bytes w up settled (Some (event_of.Answer a)) sent token kept) law m h =
+      understood_here t now from bytes w up settled (Some (event_of.Answer a)) sent token kept m law h
+  heard_understood t (Feeds now from bytes w up settled (Some (event_of.Notice a)) sent token kept) law m h =
+      absurd (cc h)
   heard_understood t (Feeds now from bytes w up settled (Some event_of.Reset) sent token kept) law m h = absurd (cc h)
   heard_understood t (Feeds now from bytes w up settled (Some event_of.Timeout) sent token kept) law m h = absurd (cc h)
-  heard_understood t (Feeds now from bytes w up settled (Some event_of.NoResponse) sent token kept) law m h = absurd (cc h)
+  heard_understood t (Feeds now from bytes w up settled (Some event_of.NoResponse) sent token kept) law m h =
+      absurd (cc h)
   heard_understood t (Feeds now from bytes w up settled None sent token kept) law m h = absurd (cc h)
   heard_understood t (Calls now r answer) law m h = absurd (cc h)
   heard_understood t (Observes now path answer) law m h = absurd (cc h)
@@ -49,12 +57,16 @@ module _ (server : Endpoint) (szx word : ℕ) where
   heard_understood t (NextReport answer) law m h = absurd (cc h)
   heard_understood t (Asked answer) law m h = absurd (cc h)
 
-  pub noted_understood : (t : List Call) (c : Call) → ClientLaw server szx word (c ∷ t) → (m : Message) → notes c ≡ Some m → lacks_critical Response m.options ≡ false
-  noted_understood t (Feeds now from bytes w up settled (Some (event_of.Notice a)) sent token kept) law m h = understood_here t now from bytes w up settled (Some (event_of.Notice a)) sent token kept m law h
-  noted_understood t (Feeds now from bytes w up settled (Some (event_of.Answer a)) sent token kept) law m h = absurd (cc h)
+  pub noted_understood : (t : List Call) (c : Call) → ClientLaw server szx word (c ∷ t) → (m : Message)
+      → notes c ≡ Some m → lacks_critical Response m.options ≡ false
+  noted_understood t (Feeds now from bytes w up settled (Some (event_of.Notice a)) sent token kept) law m h =
+      understood_here t now from bytes w up settled (Some (event_of.Notice a)) sent token kept m law h
+  noted_understood t (Feeds now from bytes w up settled (Some (event_of.Answer a)) sent token kept) law m h =
+      absurd (cc h)
   noted_understood t (Feeds now from bytes w up settled (Some event_of.Reset) sent token kept) law m h = absurd (cc h)
   noted_understood t (Feeds now from bytes w up settled (Some event_of.Timeout) sent token kept) law m h = absurd (cc h)
-  noted_understood t (Feeds now from bytes w up settled (Some event_of.NoResponse) sent token kept) law m h = absurd (cc h)
+  noted_understood t (Feeds now from bytes w up settled (Some event_of.NoResponse) sent token kept) law m h =
+      absurd (cc h)
   noted_understood t (Feeds now from bytes w up settled None sent token kept) law m h = absurd (cc h)
   noted_understood t (Calls now r answer) law m h = absurd (cc h)
   noted_understood t (Observes now path answer) law m h = absurd (cc h)

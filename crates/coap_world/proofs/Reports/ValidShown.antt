@@ -1,5 +1,5 @@
--- The version that a 2.03 names, the server held at the path that the client asked for, when it made that answer; and one of the
--- request's ETags named it.
+-- The version that a 2.03 names, the server held at the path that the client asked for, when it made that answer; and
+-- one of the request's ETags named it.
 use Rattle.std.proofs.Common.{◌≡◌, inl, inr, ℕ, ◌==◌, Bool, true, false, ◌||◌, Option, Some, None, List, [], ◌∷◌, refl}
 use Rattle.std.proofs.Common.{ap, sym, subst, ◌∙◌}
 use Rattle.coap_types.specs.Past.{Sometime}
@@ -50,22 +50,29 @@ module _ (config : Config) where
     pub tag : tag_in m ≡ Some (tag_of held.version)
     pub named : etag_names held.version sending.request.options ≡ true
 
-  module _ (m : Message) (code : m.code ≡ valid) (none : lacks_critical Response m.options ≡ false) (past : List Entry) (c : S.Call) (law : Lawful config (OfServer c ∷ past)) where
+  module _ (m : Message) (code : m.code ≡ valid) (none : lacks_critical Response m.options ≡ false) (past : List Entry)
+      (c : S.Call) (law : Lawful config (OfServer c ∷ past)) where
     abbrev t : List S.Call
     t = server_trace config past
 
     abbrev own : S.Own
     own = own_of config.limit config.server_szx t
 
-    by_reply : (x : Serving) → serving own c ≡ Some x → IsResponse m x.asked.from x.asked.token (response_with x.reply x.sequence (last_block x.question)) → NamedAt m past (OfServer c)
+    by_reply : (x : Serving) → serving own c ≡ Some x
+        → IsResponse m x.asked.from x.asked.token (response_with x.reply x.sequence (last_block x.question))
+        → NamedAt m past (OfServer c)
     by_reply x here r =
-        let right = (server_facts.right config.limit config.server_szx config.server_word (c ∷ t) law.server).0.serves x here in
+        let right = (server_facts.right config.limit config.server_szx config.server_word (c ∷ t) law.server).0.serves x
+        here in
         let w = valid_law x.old x.left right.0 x.question x.reply right.1 (sym r.code ∙ code) in
         let l = leaves own c x here in
         let n = numbered own c x here in
         let k = asked_by config past c law x here r.to_client in
-        let now : (after own c).store.holds x.question.path ≡ Some w.held = ap (λ (s : Content). s.holds x.question.path) (l.left ∙ w.same) ∙ w.is_held in
-        let last : last_at config x.question.path (OfServer c ∷ past) ≡ Some w.held = sym (held_is config.limit config.server_szx (c ∷ t) law.server.rows x.question.path) ∙ now in
+        let now : (after own c).store.holds x.question.path
+        ≡ Some w.held = ap (λ (s : Content). s.holds x.question.path) (l.left ∙ w.same) ∙ w.is_held in
+        let last : last_at config x.question.path (OfServer c ∷ past)
+        ≡ Some w.held = sym (held_is config.limit config.server_szx (c ∷ t) law.server.rows x.question.path)
+        ∙ now in
         let number : x.sequence ≡ sequence_if n.told_it (Some w.held) = n.is ∙ ap (sequence_if n.told_it) w.is_held in
         record {
           sending = k.sending;
@@ -75,8 +82,10 @@ module _ (config : Config) where
           is_held = subst (λ path. last_at config path (OfServer c ∷ past) ≡ Some w.held) k.path last;
           tag = valid_read m w.held (offset_by (block_of x.question.options)) n.told_it (last_block x.question)
               (r.options ∙ (ap (λ z. (response_with z x.sequence (last_block x.question)).options) w.is
-              ∙ ap (λ z. (response_with (record (bare valid (offset_by (block_of x.question.options))) { tag = Some (tag_of w.held.version) }) z (last_block x.question)).options) number)) none;
-          named = names_read w.held.version k.sending.request.options (ap (etag_names w.held.version) (sym k.options) ∙ w.named);
+              ∙ ap (λ z. (response_with (record (bare valid (offset_by (block_of x.question.options)))
+              { tag = Some (tag_of w.held.version) }) z (last_block x.question)).options) number)) none;
+          named = names_read w.held.version k.sending.request.options
+              (ap (etag_names w.held.version) (sym k.options) ∙ w.named);
         }
 
     no_code : (n : ℕ) → m.code ≡ n → (n == valid) ≡ false → ⊥
@@ -89,17 +98,20 @@ module _ (config : Config) where
         by true k = absurd (cc k)
         by false k = k
 
-    told_not : (o : Observer) (reply : Reply) (h : Option Held) → NoticeOf o.szx h (notification own.store o reply) → IsResponse m o.to o.token (notification own.store o reply) → ⊥
+    told_not : (o : Observer) (reply : Reply) (h : Option Held) → NoticeOf o.szx h (notification own.store o reply)
+        → IsResponse m o.to o.token (notification own.store o reply) → ⊥
     told_not o reply None notice r = no_code codes.NOT_FOUND.0 (r.code ∙ ap (λ (z : E.Response). z.code) notice) refl
     told_not o reply (Some held) notice r = no_code content (r.code ∙ ap (λ (z : E.Response). z.code) notice) refl
 
     named_here : IsAnswer config m t c → NamedAt m past (OfServer c)
     named_here (replies x here r) = by_reply x here r
     named_here (continues x size taken more asks r) = absurd (no_code codes.CONTINUE.0 r.code refl)
-    named_here (refuses a v n comes handed unserved refusal r) = absurd (no_code n r.code (refused_not n (none_shows own c n refusal)))
+    named_here (refuses a v n comes handed unserved refusal r) =
+        absurd (no_code n r.code (refused_not n (none_shows own c n refusal)))
     named_here (notifies o reply here made notice r) = absurd (told_not o reply (own.store.holds o.path) notice r)
 
-  pub named_in : (m : Message) → m.code ≡ valid → lacks_critical Response m.options ≡ false → (w : List Entry) → Lawful config w → Sometime (AnswersAt config m) w → Sometime (NamedAt m) w
+  pub named_in : (m : Message) → m.code ≡ valid → lacks_critical Response m.options ≡ false → (w : List Entry)
+      → Lawful config w → Sometime (AnswersAt config m) w → Sometime (NamedAt m) w
   named_in m code none [] law h = h
   named_in m code none (OfClient c ∷ past) law (inl h) = absurd h
   named_in m code none (OfServer c ∷ past) law (inl h) = inl (named_here m code none past c law h)

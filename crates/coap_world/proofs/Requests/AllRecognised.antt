@@ -1,5 +1,5 @@
--- A server that ignores or refuses a request with an option that is critical and not recognised reads all options of the request of
--- a PUT, a POST or a DELETE.
+-- A server that ignores or refuses a request with an option that is critical and not recognised reads all options of
+-- the request of a PUT, a POST or a DELETE.
 use Rattle.std.proofs.Common.{◌≡◌, ◌<◌, ℕ, ◌%◌, ◌==◌, nat_le, Bool, true, false, ◌&&◌, ◌||◌, not, Option, Some, None}
 use Rattle.std.proofs.Common.{List, [], ◌∷◌, ◌++◌, length, map, refl, ap, cond, arith}
 use Rattle.std.specs.Prelude.{IfSome}
@@ -23,7 +23,8 @@ lacking before os = list_any (λ p. is_critical p.1 && not (is_recognised Reques
 -- each elective option is recognised
 abbrev pub KnownElective : List CoapOption → List CoapOption → Type 0
 KnownElective before [] = Unit {0}
-KnownElective before (o ∷ os) = (is_critical o ≡ false → is_recognised Request before o ≡ true) × KnownElective (before ++ o ∷ []) os
+KnownElective before (o ∷ os) = (is_critical o ≡ false → is_recognised Request before o ≡ true)
+    × KnownElective (before ++ o ∷ []) os
 
 rest_of : (c r k : Bool) → ((c && not r) || k) ≡ false → k ≡ false
 rest_of true true k h = h
@@ -38,24 +39,32 @@ known_here false r k h f = f refl
 all_kept : (before os : List CoapOption) → lacking before os ≡ false → KnownElective before os → kept before os ≡ os
 all_kept before [] none known = refl
 all_kept before (o ∷ os) none known =
-    by (is_recognised Request before o) (known_here (is_critical o) (is_recognised Request before o) (lacking (before ++ o ∷ []) os) none known.0)
-    (all_kept (before ++ o ∷ []) os (rest_of (is_critical o) (is_recognised Request before o) (lacking (before ++ o ∷ []) os) none) known.1)
+    by (is_recognised Request before o) (known_here (is_critical o) (is_recognised Request before o)
+    (lacking (before ++ o ∷ []) os) none known.0)
+    (all_kept (before ++ o ∷ []) os (rest_of (is_critical o) (is_recognised Request before o)
+    (lacking (before ++ o ∷ []) os) none) known.1)
   where
     by : (r : Bool) → r ≡ true → kept (before ++ o ∷ []) os ≡ os
-        → map (λ p. p.1) (cond r ((before, o) ∷ filter (λ p. is_recognised Request p.0 p.1) (placed (before ++ o ∷ []) os)) (filter (λ p. is_recognised Request p.0 p.1) (placed (before ++ o ∷ []) os))) ≡ o ∷ os
+        → map (λ p. p.1) (cond r ((before, o) ∷ filter (λ p. is_recognised Request p.0 p.1)
+        (placed (before ++ o ∷ []) os)) (filter (λ p. is_recognised Request p.0 p.1)
+        (placed (before ++ o ∷ []) os))) ≡ o ∷ os
     by true is ih = ap (λ l. o ∷ l) ih
     by false is ih = absurd (cc is)
 
-pub all_recognised : (os : List CoapOption) → lacks_critical Request os ≡ false → KnownElective [] os → recognised Request os ≡ os
+pub all_recognised : (os : List CoapOption) → lacks_critical Request os ≡ false → KnownElective [] os
+    → recognised Request os ≡ os
 all_recognised os none known = all_kept [] os none known
 
 -- options one behind the other
 
-has_more : (number : ℕ) (before : List CoapOption) (o : CoapOption) → has_number number before ≡ false → (o.number == number) ≡ false → has_number number (before ++ o ∷ []) ≡ false
+has_more : (number : ℕ) (before : List CoapOption) (o : CoapOption) → has_number number before ≡ false
+    → (o.number == number) ≡ false → has_number number (before ++ o ∷ []) ≡ false
 has_more number [] o h k = ap (λ b. b || false) k
 has_more number (x ∷ xs) o h k = by (x.number == number) h (λ z. has_more number xs o z k)
   where
-    by : (b : Bool) → (b || has_number number xs) ≡ false → (has_number number xs ≡ false → has_number number (xs ++ o ∷ []) ≡ false) → (b || has_number number (xs ++ o ∷ [])) ≡ false
+    by : (b : Bool) → (b || has_number number xs) ≡ false
+        → (has_number number xs ≡ false → has_number number (xs ++ o ∷ []) ≡ false)
+        → (b || has_number number (xs ++ o ∷ [])) ≡ false
     by true z f = absurd (cc z)
     by false z f = f z
 
@@ -63,14 +72,23 @@ has_more number (x ∷ xs) o h k = by (x.number == number) h (λ z. has_more num
 abbrev pub NoFormat : List CoapOption → Type 0
 NoFormat before = has_number content_format before ≡ false
 
-pub run_known : (n : ℕ) (vs : List (List ℕ)) (rest : List CoapOption) → (n % 2 == 1) ≡ true → (n == content_format) ≡ false → (before : List CoapOption) → NoFormat before
+pub run_known : (n : ℕ) (vs : List (List ℕ)) (rest : List CoapOption) → (n % 2 == 1) ≡ true
+    → (n == content_format) ≡ false → (before : List CoapOption) → NoFormat before
     → ((b : List CoapOption) → NoFormat b → KnownElective b rest) → KnownElective before (map (option n) vs ++ rest)
 run_known n [] rest odd other before none f = f before none
-run_known n (v ∷ vs) rest odd other before none f = ((λ even. cc (odd, even)), run_known n vs rest odd other (before ++ option n v ∷ []) (has_more content_format before (option n v) none other) f)
+run_known n (v ∷ vs) rest odd other before none f = (
+  (λ even. cc (odd, even)),
+  run_known n vs rest odd other (before ++ option n v ∷ [])
+      (has_more content_format before (option n v) none other) f,
+)
 
-pub one_known : (o : CoapOption) (rest : List CoapOption) → is_critical o ≡ true → (o.number == content_format) ≡ false → (before : List CoapOption) → NoFormat before
+pub one_known : (o : CoapOption) (rest : List CoapOption) → is_critical o ≡ true → (o.number == content_format) ≡ false
+    → (before : List CoapOption) → NoFormat before
     → ((b : List CoapOption) → NoFormat b → KnownElective b rest) → KnownElective before (o ∷ rest)
-one_known o rest odd other before none f = ((λ even. cc (odd, even)), f (before ++ o ∷ []) (has_more content_format before o none other))
+one_known o rest odd other before none f = (
+  (λ even. cc (odd, even)),
+  f (before ++ o ∷ []) (has_more content_format before o none other),
+)
 
 -- the format has at most two bytes
 
@@ -85,11 +103,15 @@ is_known value true l k m = absurd (cc k)
 is_known value false true k m = ap (λ b. b && true) (zero_least (length value))
 is_known value false false k m = absurd (cc m)
 
-pub format_known : (format : Option ℕ) (rest : List CoapOption) → IfSome format (λ f. f < 65536) → (before : List CoapOption) → NoFormat before
+pub format_known : (format : Option ℕ) (rest : List CoapOption) → IfSome format (λ f. f < 65536)
+    → (before : List CoapOption) → NoFormat before
     → ((b : List CoapOption) → KnownElective b rest) → KnownElective before (uint_option content_format format ++ rest)
 format_known None rest small before none f = f before
-format_known (Some n) rest small before none f =
-    ((λ even. is_known (uint n) (has_number content_format before) (nat_le (length (uint n)) 2) none (length_of n small)), f (before ++ option content_format (uint n) ∷ []))
+format_known (Some n) rest small before none f = (
+  (λ even. is_known (uint n) (has_number content_format before) (nat_le (length (uint n)) 2) none
+      (length_of n small)),
+  f (before ++ option content_format (uint n) ∷ []),
+)
 
 pub critical_known : (o : CoapOption) (before : List CoapOption) → is_critical o ≡ true → KnownElective before (o ∷ [])
 critical_known o before odd = ((λ even. cc (odd, even)), tt)

@@ -44,13 +44,18 @@ record CameSo (config : Config) (a : Asked) (v : Verdict) (w : List Entry) : Typ
   came : CameFrom config past entry a v
   sent : WasSent config.client_szx came.sending (client_of w)
 
-came_so : (config : Config) (a : Asked) (v : Verdict) (w : List Entry) → CamesFrom config w → a.from ≡ client_end → Sometime (ComesAt config a v) w → CameSo config a v w
+came_so : (config : Config) (a : Asked) (v : Verdict) (w : List Entry) → CamesFrom config w → a.from ≡ client_end
+    → Sometime (ComesAt config a v) w → CameSo config a v w
 came_so config a v [] came from h = absurd h
-came_so config a v (e ∷ w) came from (inl h) = let k = came.0 a v h from in record { past = w; entry = e; came = k; sent = sent_later config k.sending w e k.sent }
-came_so config a v (e ∷ w) came from (inr h) = let k = came_so config a v w came.1 from h in record { past = k.past; entry = k.entry; came = k.came; sent = sent_later config k.came.sending w e k.sent }
+came_so config a v (e ∷ w) came from (inl h) = let k =
+    came.0 a v h from in record { past = w; entry = e; came = k; sent = sent_later config k.sending w e k.sent }
+came_so config a v (e ∷ w) came from (inr h) = let k =
+    came_so config a v w came.1 from h in record
+    { past = k.past; entry = k.entry; came = k.came; sent = sent_later config k.came.sending w e k.sent }
 
 -- a block that is sent begins in its body
-begins_at : (szx : ℕ) (t : List C.Call) → SendsPieces szx t → (x : Sending) (number : ℕ) (u : UploadState) → WasSent szx x t → carried x.operation ≡ Some (record { number = number; upload = u }) → Begins u.body u.num u.szx
+begins_at : (szx : ℕ) (t : List C.Call) → SendsPieces szx t → (x : Sending) (number : ℕ) (u : UploadState)
+    → WasSent szx x t → carried x.operation ≡ Some (record { number = number; upload = u }) → Begins u.body u.num u.szx
 begins_at szx [] law x number u h of = absurd h
 begins_at szx (c ∷ t) law x number u (inl h) of = (law.0 x (record { number = number; upload = u }) h of).sent.begins
 begins_at szx (c ∷ t) law x number u (inr h) of = begins_at szx t law.1 x number u h of
@@ -79,7 +84,8 @@ none_dropped s body = ap (λ (n : ℕ). drop n body) (zero_times s)
 
 whole_part : (body : List ℕ) (num szx : ℕ) → num ≡ 0 → length body ≤ size_of szx → part_of body num szx ≡ body
 whole_part body num szx zero_num short =
-    ap (λ (n : ℕ). take (size_of szx) (drop (n * size_of szx) body)) zero_num ∙ (ap (take (size_of szx)) (none_dropped (size_of szx) body) ∙ all_taken (size_of szx) body short)
+    ap (λ (n : ℕ). take (size_of szx) (drop (n * size_of szx) body)) zero_num
+    ∙ (ap (take (size_of szx)) (none_dropped (size_of szx) body) ∙ all_taken (size_of szx) body short)
 
 fits : (s l : ℕ) → nat_lt s l ≡ false → l ≤ s
 fits s l h = grind (arith, nat_tests, h)
@@ -90,8 +96,10 @@ single_is szx Post body h = absurd h
 single_is szx Put body h = absurd h
 single_is szx Delete body h = refl
 
-module _ (config : Config) (number : ℕ) (all : List Entry) (small : config.client_szx ≤ 6) (whole : Lawful config all) (in_range : (x : Taken) → WasTaken x (client_of all) → IsRequest x.request) (w : List Entry)
-    (later : Later config number all small whole in_range w) (law : Lawful config w) (x : Serving) (from : x.asked.from ≡ client_end) (k : Known config number all small whole in_range w x)
+module _ (config : Config) (number : ℕ) (all : List Entry) (small : config.client_szx ≤ 6) (whole : Lawful config all)
+    (in_range : (x : Taken) → WasTaken x (client_of all) → IsRequest x.request) (w : List Entry)
+    (later : Later config number all small whole in_range w) (law : Lawful config w) (x : Serving)
+    (from : x.asked.from ≡ client_end) (k : Known config number all small whole in_range w x)
     (h : Sometime (ComesAt config x.asked (Asks x.question)) w) where
   abbrev came : CameSo config x.asked (Asks x.question) w
   came = came_so config x.asked (Asks x.question) w law.came from h
@@ -104,11 +112,13 @@ module _ (config : Config) (number : ℕ) (all : List Entry) (small : config.cli
 
   same : came.came.sending ≡ k.sending
   same =
-      one_sending config number all small whole in_range came.came.sending k.sending (later.0 came.came.sending came.sent) k.sent k.of_call
+      one_sending config number all small whole in_range came.came.sending k.sending
+      (later.0 came.came.sending came.sent) k.sent k.of_call
       (sym (ap (λ (z : Asked). z.token) came.came.asked) ∙ ap (λ (z : Asked). z.token) k.asked)
 
   body_is : x.question.body ≡ payload_of k.transfer
-  body_is = ap (λ (q : Question). q.body) read.0.is ∙ (ap (λ (s : Sending). s.request.payload) same ∙ ap (λ r. r.payload) k.message)
+  body_is = ap (λ (q : Question). q.body) read.0.is
+      ∙ (ap (λ (s : Sending). s.request.payload) same ∙ ap (λ r. r.payload) k.message)
 
   none_said : uint_in (value_of block1 (block_option k.transfer)) ≡ None
   none_said =
@@ -116,24 +126,33 @@ module _ (config : Config) (number : ℕ) (all : List Entry) (small : config.cli
       ∙ (ap (uint_at block1) (sym k.options) ∙ (ap (λ (q : Question). uint_at block1 q.options) read.0.is ∙ read.1))
 
   body_by : (t : Transfer) → k.transfer ≡ t → (k.request.method ≡ Delete) ⊎ (payload_of t ≡ k.request.body)
-  body_by Single e = inl (single_is config.client_szx k.request.method k.request.body (subst (CarriesBody config.client_szx k.request.method k.request.body) e k.carries))
-  body_by (Fetches f) e = absurd (no_fetch config.client_szx k.request.method k.request.body f k.change (subst (CarriesBody config.client_szx k.request.method k.request.body) e k.carries))
+  body_by Single e = inl (single_is config.client_szx k.request.method k.request.body
+      (subst (CarriesBody config.client_szx k.request.method k.request.body) e k.carries))
+  body_by (Fetches f) e = absurd (no_fetch config.client_szx k.request.method k.request.body f k.change
+      (subst (CarriesBody config.client_szx k.request.method k.request.body) e k.carries))
   body_by (Uploads u) e = inr (by (is_longer u) refl)
     where
       by : (b : Bool) → is_longer u ≡ b → part_of u.body u.num u.szx ≡ k.request.body
       by true long =
-          let s = sends_body config.client_szx k.request.method k.request.body u k.change (subst (CarriesBody config.client_szx k.request.method k.request.body) e k.carries) in
+          let s = sends_body config.client_szx k.request.method k.request.body u k.change
+          (subst (CarriesBody config.client_szx k.request.method k.request.body) e k.carries) in
           let z = s.size in
           let size : u.szx ≤ 6 = omega (arith, z, small) in
           let n : ℕ = block_value (block_to_send u) in
-          let said : uint_in (value_of block1 (block_option (Uploads u))) ≡ Some n = ap (λ b. uint_in (value_of block1 (cond b (option block1 (uint n) ∷ []) []))) long ∙ uint_read n (small_value u.num u.szx (more_follows u) s.num size) in
-          let none : uint_in (value_of block1 (block_option (Uploads u))) ≡ None = ap (λ t. uint_in (value_of block1 (block_option t))) (sym e) ∙ none_said in
+          let said : uint_in (value_of block1 (block_option (Uploads u)))
+          ≡ Some n = ap (λ b. uint_in (value_of block1 (cond b (option block1 (uint n) ∷ []) []))) long
+          ∙ uint_read n (small_value u.num u.szx (more_follows u) s.num size) in
+          let none : uint_in (value_of block1 (block_option (Uploads u)))
+          ≡ None = ap (λ t. uint_in (value_of block1 (block_option t))) (sym e) ∙ none_said in
           let both : Some n ≡ None = sym said ∙ none in
           absurd (cc both)
       by false short =
-          let s = sends_body config.client_szx k.request.method k.request.body u k.change (subst (CarriesBody config.client_szx k.request.method k.request.body) e k.carries) in
+          let s = sends_body config.client_szx k.request.method k.request.body u k.change
+          (subst (CarriesBody config.client_szx k.request.method k.request.body) e k.carries) in
           let few = fits (size_of u.szx) (length u.body) short in
-          let begins = begins_at config.client_szx (client_of all) (client_facts.pieces server_end config.client_szx config.client_word (client_of all) whole.client) k.sending number u k.sent
+          let begins = begins_at config.client_szx (client_of all)
+          (client_facts.pieces server_end config.client_szx config.client_word (client_of all) whole.client)
+          k.sending number u k.sent
           (ap carried k.operation ∙ ap (λ t. carried (Calling number (record k.request { body = [] }) t)) e)
           in
           whole_part u.body u.num u.szx (num_is u few begins) few ∙ s.body_is

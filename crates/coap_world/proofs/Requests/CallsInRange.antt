@@ -36,12 +36,15 @@ then_outs outs calls = map (λ p. C.NextOut (Some p)) outs ++ calls
 abbrev then_reports : List Packet → List C.Reported → List C.Call → List C.Call
 then_reports outs reports calls = map (λ r. C.NextReport (Some r)) reports ++ C.NextOut None ∷ then_outs outs calls
 
-in_calls : (op : Taken) (calls : List C.Call) (entries : List Entry) → OnClient calls entries → Ever (Takes op) entries → Ever (Takes_by op) calls
-in_calls op calls entries on h = first (of_map OfClient (Takes op) (C.NextReport None ∷ then_reports on.outs on.reports calls) (subst (Ever (Takes op)) on.is h))
+in_calls : (op : Taken) (calls : List C.Call) (entries : List Entry) → OnClient calls entries → Ever (Takes op) entries
+    → Ever (Takes_by op) calls
+in_calls op calls entries on h = first (of_map OfClient (Takes op)
+    (C.NextReport None ∷ then_reports on.outs on.reports calls) (subst (Ever (Takes op)) on.is h))
   where
     behind : Ever (Takes_by op) (then_outs on.outs calls) → Ever (Takes_by op) calls
     behind k = elim (Ever_append (Takes_by op) (map (λ p. C.NextOut (Some p)) on.outs) calls k) [
-      | inl r ↦ absurd (none_in (λ (p : Packet). Takes_by op (C.NextOut (Some p))) on.outs (λ p w. cc w) (of_map (λ (p : Packet). C.NextOut (Some p)) (Takes_by op) on.outs r))
+      | inl r ↦ absurd (none_in (λ (p : Packet). Takes_by op (C.NextOut (Some p))) on.outs (λ p w. cc w)
+          (of_map (λ (p : Packet). C.NextOut (Some p)) (Takes_by op) on.outs r))
       | inr w ↦ w
     ]
 
@@ -50,50 +53,66 @@ in_calls op calls entries on h = first (of_map OfClient (Takes op) (C.NextReport
     last (inr k) = behind k
 
     middle : Ever (Takes_by op) (then_reports on.outs on.reports calls) → Ever (Takes_by op) calls
-    middle k = elim (Ever_append (Takes_by op) (map (λ r. C.NextReport (Some r)) on.reports) (C.NextOut None ∷ then_outs on.outs calls) k) [
-      | inl r ↦ absurd (none_in (λ (p : C.Reported). Takes_by op (C.NextReport (Some p))) on.reports (λ p w. cc w) (of_map (λ (p : C.Reported). C.NextReport (Some p)) (Takes_by op) on.reports r))
-      | inr w ↦ last w
-    ]
+    middle k = elim (Ever_append (Takes_by op) (map (λ r. C.NextReport (Some r)) on.reports)
+        (C.NextOut None ∷ then_outs on.outs calls) k) [
+          | inl r ↦ absurd (none_in (λ (p : C.Reported). Takes_by op (C.NextReport (Some p))) on.reports (λ p w. cc w)
+              (of_map (λ (p : C.Reported). C.NextReport (Some p)) (Takes_by op) on.reports r))
+          | inr w ↦ last w
+        ]
 
     first : Ever (Takes_by op) (C.NextReport None ∷ then_reports on.outs on.reports calls) → Ever (Takes_by op) calls
     first (inl k) = absurd (cc k)
     first (inr k) = middle k
 
-never_there : (op : Taken) (calls : List S.Call) (entries : List Entry) → OnServer calls entries → Ever (Takes op) entries → ⊥
+never_there : (op : Taken) (calls : List S.Call) (entries : List Entry) → OnServer calls entries
+    → Ever (Takes op) entries → ⊥
 never_there op calls entries on h =
     none_in (λ (c : S.Call). ⊥) (S.NextOut None ∷ (map (λ p. S.NextOut (Some p)) on.outs ++ calls)) (λ c k. k)
-    (of_map OfServer (Takes op) (S.NextOut None ∷ (map (λ p. S.NextOut (Some p)) on.outs ++ calls)) (subst (Ever (Takes op)) on.is h))
+    (of_map OfServer (Takes op) (S.NextOut None ∷ (map (λ p. S.NextOut (Some p)) on.outs ++ calls))
+    (subst (Ever (Takes op)) on.is h))
 
-taken_request : (now : ℕ) (r : Request) (answer : Result ℕ CallRefusal) (op : Taken) → takes (C.Calls now r answer) ≡ Some op → r ≡ op.request
-taken_request now r (Ok n) op h = ap (λ (x : Taken). x.request) (let e : ◌≡◌ {A = Taken} (record { number = n; request = r }) op = cc h in e)
+taken_request : (now : ℕ) (r : Request) (answer : Result ℕ CallRefusal) (op : Taken)
+    → takes (C.Calls now r answer) ≡ Some op → r ≡ op.request
+taken_request now r (Ok n) op h = ap (λ (x : Taken). x.request)
+    (let e : ◌≡◌ {A = Taken} (record { number = n; request = r }) op = cc h in e)
 taken_request now r (Err why) op h = absurd (cc h)
 
 module _ (past : List Turn) (at word : ℕ) (refused : Bool) (entries : List Entry) (op : Taken) where
-  in_turn : (what : What) → Makes past at word what refused entries → InRange what → Ever (Takes op) entries → IsRequest op.request
+  in_turn : (what : What) → Makes past at word what refused entries → InRange what → Ever (Takes op) entries
+      → IsRequest op.request
   in_turn (Calls r) m range h =
       let k = one_call _ _ refused m.0 m.1 (in_calls op m.0 entries m.2 h) in
       subst IsRequest (taken_request at r k.1.0 op (subst (Takes_by op) k.1.1 k.2)) range
-  in_turn (Observes path) m range h = let k = one_call _ _ refused m.0 m.1 (in_calls op m.0 entries m.2 h) in absurd (cc (ap takes k.1.1, k.2))
-  in_turn (Cancels number) m range h = let k = one_call _ _ false m.0 m.1.0 (in_calls op m.0 entries m.2 h) in absurd (cc (ap takes k.1.1, k.2))
-  in_turn (Forgets number) m range h = let k = one_call _ _ false m.0 m.1.0 (in_calls op m.0 entries m.2 h) in absurd (cc (ap takes k.1.2, k.2))
-  in_turn TickClient m range h = let k = tick_of (ClientTick at word) _ refused m.0 m.1 (in_calls op m.0 entries m.2 h) in absurd (cc (ap takes k.2.5, k.3))
-  in_turn (StrangerToClient from b) m range h = let k = one_call _ _ refused m.0 m.1 (in_calls op m.0 entries m.2 h) in absurd (cc (ap takes k.1.6, k.2))
+  in_turn (Observes path) m range h = let k = one_call _ _ refused m.0 m.1 (in_calls op m.0 entries m.2 h) in absurd
+      (cc (ap takes k.1.1, k.2))
+  in_turn (Cancels number) m range h = let k =
+      one_call _ _ false m.0 m.1.0 (in_calls op m.0 entries m.2 h) in absurd (cc (ap takes k.1.1, k.2))
+  in_turn (Forgets number) m range h = let k =
+      one_call _ _ false m.0 m.1.0 (in_calls op m.0 entries m.2 h) in absurd (cc (ap takes k.1.2, k.2))
+  in_turn TickClient m range h = let k = tick_of (ClientTick at word) _ refused m.0 m.1
+      (in_calls op m.0 entries m.2 h) in absurd (cc (ap takes k.2.5, k.3))
+  in_turn (StrangerToClient from b) m range h = let k =
+      one_call _ _ refused m.0 m.1 (in_calls op m.0 entries m.2 h) in absurd (cc (ap takes k.1.6, k.2))
   in_turn (Deliver number) m range h = elim m.2 [
     | inl d ↦ absurd (never_there op d.1 entries d.3 h)
-    | inr d ↦ (let k = one_call _ _ refused d.1 d.2 (in_calls op d.1 entries d.3 h) in absurd (cc (ap takes k.1.6, k.2)))
+    | inr d ↦ (let k = one_call _ _ refused d.1 d.2 (in_calls op d.1 entries d.3 h) in absurd
+        (cc (ap takes k.1.6, k.2)))
   ]
   in_turn (Sets path format body) m range h = absurd (never_there op m.0 entries m.2 h)
   in_turn (Removes path) m range h = absurd (never_there op m.0 entries m.2 h)
   in_turn TickServer m range h = absurd (never_there op m.0 entries m.2 h)
   in_turn (StrangerToServer from b) m range h = absurd (never_there op m.0 entries m.2 h)
 
-taken_in : (op : Taken) (turns : List Turn) → Always (λ past t. Makes past t.event.at t.event.word t.event.what t.refused t.entries) turns → AllLegal turns → Ever (Takes op) (entries_of turns) → IsRequest op.request
+taken_in : (op : Taken) (turns : List Turn) → Always
+    (λ past t. Makes past t.event.at t.event.word t.event.what t.refused t.entries) turns → AllLegal turns
+    → Ever (Takes op) (entries_of turns) → IsRequest op.request
 taken_in op [] made legal h = absurd h
 taken_in op (t ∷ past) made legal h = elim (Ever_append (Takes op) t.entries (entries_of past) h) [
   | inl k ↦ in_turn past t.event.at t.event.word t.refused t.entries op t.event.what made.0 legal.0.range k
   | inr k ↦ taken_in op past made.1 legal.1 k
 ]
 
-pub in_range : (op : Taken) (turns : List Turn) → Always (λ past t. Makes past t.event.at t.event.word t.event.what t.refused t.entries) turns → AllLegal turns
+pub in_range : (op : Taken) (turns : List Turn)
+    → Always (λ past t. Makes past t.event.at t.event.word t.event.what t.refused t.entries) turns → AllLegal turns
     → WasTaken op (client_of (entries_of turns)) → IsRequest op.request
 in_range op turns made legal h = taken_in op turns made legal (in_entries op (entries_of turns) h)

@@ -55,7 +55,8 @@ pub record Found (near far : Endpoint) (V : Message → Type 0) (a : Asked) (hs 
   pub arrived : Ever (OnFar (HandsUpAs near con)) hs
 
 module _ (one other : ℕ) (near far : Endpoint) (V : Message → Type 0) (a : Asked) (from : a.from ≡ near) where
-  begun_more : (h : Hop) (past : List Hop) (con : Open) → Ever (λ b. begun b ≡ Some con) (near_of past) → Ever (λ b. begun b ≡ Some con) (near_of (h ∷ past))
+  begun_more : (h : Hop) (past : List Hop) (con : Open) → Ever (λ b. begun b ≡ Some con) (near_of past)
+      → Ever (λ b. begun b ≡ Some con) (near_of (h ∷ past))
   begun_more (Near e) past con k = inr k
   begun_more (Far e) past con k = k
 
@@ -79,12 +80,14 @@ module _ (one other : ℕ) (near far : Endpoint) (V : Message → Type 0) (a : A
   no_more (Near e) past f = λ k. f (inr k)
   no_more (Far e) past f = f
 
-  module _ (past : List Hop) (y : T.Entry) (law : ChannelLaw one other near far (Far y ∷ past)) (nons : NoNons (near_of past)) (up : UpOf V a y) where
+  module _ (past : List Hop) (y : T.Entry) (law : ChannelLaw one other near far (Far y ∷ past))
+      (nons : NoNons (near_of past)) (up : UpOf V a y) where
     abbrev incoming : Incoming
     incoming = record { from = near; message = up.message }
 
     is_handed : handed y ≡ Some incoming
-    is_handed = ap (λ c. handed_in c y.answer) (up.call ∙ ap (λ f. T.Receive f up.bytes) from) ∙ ap (λ b. handed_in (T.Receive near up.bytes) b) up.answer
+    is_handed = ap (λ c. handed_in c y.answer) (up.call ∙ ap (λ f. T.Receive f up.bytes) from)
+        ∙ ap (λ b. handed_in (T.Receive near up.bytes) b) up.answer
 
     by : HandedBy y incoming
     by = (handed_spelled other (y ∷ far_of past) law.far_law).0 incoming is_handed
@@ -94,7 +97,9 @@ module _ (one other : ℕ) (near far : Endpoint) (V : Message → Type 0) (a : A
 
     of_con : BegunAs far by.bytes up.message.id y.at (near_of past) → up.message.kind ≡ Con → FoundHere
     of_con b k =
-        let up_as : HandsUpAs near b.con y = record { message = incoming; up = is_handed; from_is = refl; id_is = sym b.id_is; from = b.from; till = b.till } in (
+        let up_as : HandsUpAs near b.con y = record
+        { message = incoming; up = is_handed; from_is = refl; id_is = sym b.id_is; from = b.from; till = b.till }
+        in (
           record {
             con = b.con;
             begun_before = b.begun;
@@ -114,13 +119,16 @@ module _ (one other : ℕ) (near far : Endpoint) (V : Message → Type 0) (a : A
     pub here : FoundHere
     here = elim by.kind [
       | inl k ↦ of_con (begun_as one other near far past y by.bytes up.message law by.call by.spells k) k
-      | inr k ↦ absurd (nons (Ever_map (PlainSent far by.bytes y.at) SendsNon (λ e p. (far, p.goes.content, p.goes.call)) (near_of past)
+      | inr k ↦ absurd (nons (Ever_map (PlainSent far by.bytes y.at) SendsNon
+          (λ e p. (far, p.goes.content, p.goes.call)) (near_of past)
           ((nons_sent one other near far (Far y ∷ past) law).0 y by.bytes up.message refl by.call by.spells k)))
     ]
 
-  pub find : (hs : List Hop) → ChannelLaw one other near far hs → NoNons (near_of hs) → Ever (OnFar (UpOf V a)) hs → Found near far V a hs
+  pub find : (hs : List Hop) → ChannelLaw one other near far hs → NoNons (near_of hs) → Ever (OnFar (UpOf V a)) hs
+      → Found near far V a hs
   find [] law nons h = absurd h
-  find (x ∷ past) law nons (inr h) = found_later x past (find past (earlier one other near far past x law) (no_more x past nons) h)
+  find (x ∷ past) law nons (inr h) = found_later x past
+      (find past (earlier one other near far past x law) (no_more x past nons) h)
   find (Far y ∷ past) law nons (inl h) = (here past y law nons h).0
   find (Near y ∷ past) law nons (inl h) = absurd h
 
@@ -128,19 +136,23 @@ module _ (one other : ℕ) (near far : Endpoint) (V : Message → Type 0) (a : A
   abbrev pub FoundIn : List T.Entry → List Hop → Type 0
   FoundIn adds hs = (f : Found near far V a (map Far adds ++ hs)) × Ever (OnFar (HandsUpAs near f.con)) (map Far adds)
 
-  pub find_at : (adds : List T.Entry) (hs : List Hop) → ChannelLaw one other near far (map Far adds ++ hs) → NoNons (near_of (map Far adds ++ hs)) → Ever (UpOf V a) adds → FoundIn adds hs
+  pub find_at : (adds : List T.Entry) (hs : List Hop) → ChannelLaw one other near far (map Far adds ++ hs)
+      → NoNons (near_of (map Far adds ++ hs)) → Ever (UpOf V a) adds → FoundIn adds hs
   unfolding found_later
   find_at [] hs law nons h = absurd h
   find_at (y ∷ adds) hs law nons (inl h) = let k = here (map Far adds ++ hs) y law nons h in (k.0, inl k.1)
   find_at (y ∷ adds) hs law nons (inr h) =
-      let k = find_at adds hs (earlier one other near far (map Far adds ++ hs) (Far y) law) (no_more (Far y) (map Far adds ++ hs) nons) h in
+      let k = find_at adds hs (earlier one other near far (map Far adds ++ hs) (Far y) law)
+      (no_more (Far y) (map Far adds ++ hs) nons) h in
       (found_later (Far y) (map Far adds ++ hs) k.0, inr k.1)
 
 -- each law holds of each past
 
-pub channel_back : (one other : ℕ) (near far : Endpoint) (later past : List Hop) → ChannelLaw one other near far (later ++ past) → ChannelLaw one other near far past
+pub channel_back : (one other : ℕ) (near far : Endpoint) (later past : List Hop)
+    → ChannelLaw one other near far (later ++ past) → ChannelLaw one other near far past
 channel_back one other near far [] past law = law
-channel_back one other near far (h ∷ later) past law = channel_back one other near far later past (earlier one other near far (later ++ past) h law)
+channel_back one other near far (h ∷ later) past law =
+    channel_back one other near far later past (earlier one other near far (later ++ past) h law)
 
 -- equal lists in front of one list are equal
 pub same_front : {A : Type 0} (xs ys zs : List A) → xs ++ zs ≡ ys ++ zs → xs ≡ ys
@@ -153,36 +165,53 @@ same_front (x ∷ xs) (y ∷ ys) zs h =
     ap (λ z. z ∷ xs) head ∙ ap (λ l. y ∷ l) (same_front xs ys zs tail)
 
 -- a CON of a request has one message
-pub same_request : (con : Open) (m : Message) (x : Sending) → IsRequestOf server_end con x → AreBytes con.bytes → Spells con.bytes m → con.id ≡ m.id → m ≡ request_of con.id x
+pub same_request : (con : Open) (m : Message) (x : Sending) → IsRequestOf server_end con x → AreBytes con.bytes
+    → Spells con.bytes m → con.id ≡ m.id → m ≡ request_of con.id x
 same_request con m x r are s id =
     let low = s.id in
     let small : con.id < 65536 = omega (arith, low, id) in
-    one_message con.bytes m (request_of con.id x) are s (subst (λ z. Spells z (request_of con.id x)) (sym r.bytes) (r.spelled _ con.id small))
+    one_message con.bytes m (request_of con.id x) are s
+    (subst (λ z. Spells z (request_of con.id x)) (sym r.bytes) (r.spelled _ con.id small))
 
 module _ (config : Config) where
   abbrev pub FromClient : List Entry → Type 0
   FromClient t = ClientLaw server_end config.client_szx config.client_word (client_of t)
 
   -- what a call of the server hands up is in the entries that it adds
-  pub handed_there : (past : List S.Call) (c : S.Call) (a : Asked) (v : Verdict) → Comes config.limit config.server_szx config.server_word past c a v → Ever (HandsUp config.server_szx a v) (server_adds config past c)
-  handed_there past c a v k = subst (Ever (HandsUp config.server_szx a v)) (same_front k.news (server_adds config past c) _ (sym k.is ∙ server_next config past c)) k.here
+  pub handed_there : (past : List S.Call) (c : S.Call) (a : Asked) (v : Verdict)
+      → Comes config.limit config.server_szx config.server_word past c a v
+      → Ever (HandsUp config.server_szx a v) (server_adds config past c)
+  handed_there past c a v k = subst (Ever (HandsUp config.server_szx a v))
+      (same_front k.news (server_adds config past c) _ (sym k.is ∙ server_next config past c)) k.here
 
   abbrev pub Says : Verdict → Message → Type 0
   Says v m = verdict_on config.server_szx m ≡ v
 
-  pub came_here : (past : List Entry) (c : S.Call) → IsChannel config (OfServer c ∷ past) → FromClient past → (a : Asked) (v : Verdict)
-      → Comes config.limit config.server_szx config.server_word (server_trace config past) c a v → a.from ≡ client_end → CameFrom config past (OfServer c) a v
+  pub came_here : (past : List Entry) (c : S.Call) → IsChannel config (OfServer c ∷ past) → FromClient past
+      → (a : Asked) (v : Verdict)
+      → Comes config.limit config.server_szx config.server_word (server_trace config past) c a v → a.from ≡ client_end
+      → CameFrom config past (OfServer c) a v
   came_here past c law own a v up from =
       let adds : List T.Entry = server_adds config (server_trace config past) c in
-      let ups = Ever_map (HandsUp config.server_szx a v) (UpOf (Says v) a) (λ e u. record { message = u.message; bytes = u.bytes; call = u.call; answer = u.answer; asked_is = u.asked_is; verdict = u.verdict }) adds
+      let ups = Ever_map (HandsUp config.server_szx a v) (UpOf (Says v) a)
+      (λ e u. record {
+        message = u.message;
+        bytes = u.bytes;
+        call = u.call;
+        answer = u.answer;
+        asked_is = u.asked_is;
+        verdict = u.verdict;
+      }) adds
       (handed_there (server_trace config past) c a v up)
       in
       let nons_past = client_facts.nons server_end config.client_szx config.client_word (client_of past) in
       let none = subst NoNons (sym (near_far adds (hops_in config past) ∙ near_is config past)) nons_past in
-      let k = find_at config.client_word config.server_word client_end server_end (Says v) a from adds (hops_in config past) law none ups in
+      let k = find_at config.client_word config.server_word client_end server_end (Says v) a from adds
+      (hops_in config past) law none ups in
       let f = k.0 in
       let there = subst (Ever (λ b. begun b ≡ Some f.con)) (near_far adds (hops_in config past)) f.begun_before in
-      let r = client_facts.begins server_end config.client_szx config.client_word (client_of past) own f.con (subst (Ever (λ b. begun b ≡ Some f.con)) (near_is config past) there) in
+      let r = client_facts.begins server_end config.client_szx config.client_word (client_of past) own f.con
+      (subst (Ever (λ b. begun b ≡ Some f.con)) (near_is config past) there) in
       let same = same_request f.con f.message r.0 r.2 f.are_bytes f.spells f.id in
       record {
         sending = r.0;
@@ -201,10 +230,12 @@ module _ (config : Config) where
   came_from [] law own = tt
   came_from (OfClient c ∷ past) law own = (
     λ a v comes from. absurd comes,
-    came_from past (channel_back config.client_word config.server_word client_end server_end (hops_at config past (OfClient c)) (hops_in config past) law)
+    came_from past (channel_back config.client_word config.server_word client_end server_end
+        (hops_at config past (OfClient c)) (hops_in config past) law)
         (client_facts.back server_end config.client_szx config.client_word (c ∷ []) (client_of past) own),
   )
   came_from (OfServer c ∷ past) law own = (
     λ a v comes from. came_here past c law own a v comes from,
-    came_from past (channel_back config.client_word config.server_word client_end server_end (hops_at config past (OfServer c)) (hops_in config past) law) own,
+    came_from past (channel_back config.client_word config.server_word client_end server_end
+        (hops_at config past (OfServer c)) (hops_in config past) law) own,
   )

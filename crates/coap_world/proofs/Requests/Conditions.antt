@@ -26,29 +26,38 @@ value_front : (k : ℕ) (xs rest : List CoapOption) → value_of k rest ≡ None
 value_front k [] rest none = none
 value_front k (x ∷ xs) rest none = ap (cond (x.number == k) (Some x.value)) (value_front k xs rest none)
 
-names_front : (version : ℕ) (xs rest : List CoapOption) → if_match_names version rest ≡ false → if_match_names version (xs ++ rest) ≡ if_match_names version xs
+names_front : (version : ℕ) (xs rest : List CoapOption) → if_match_names version rest ≡ false
+    → if_match_names version (xs ++ rest) ≡ if_match_names version xs
 names_front version [] rest none = none
-names_front version (x ∷ xs) rest none = ap (λ b. (x.number == if_match && matches version x.value) || b) (names_front version xs rest none)
+names_front version (x ∷ xs) rest none = ap (λ b. (x.number == if_match && matches version x.value) || b)
+    (names_front version xs rest none)
 
 -- a run of options of another number
 
-value_run : (k n : ℕ) (vs : List (List ℕ)) (rest : List CoapOption) → (n == k) ≡ false → value_of k rest ≡ None → value_of k (map (option n) vs ++ rest) ≡ None
+value_run : (k n : ℕ) (vs : List (List ℕ)) (rest : List CoapOption) → (n == k) ≡ false → value_of k rest ≡ None
+    → value_of k (map (option n) vs ++ rest) ≡ None
 value_run k n [] rest other none = none
-value_run k n (v ∷ vs) rest other none = ap (λ b. cond b (Some v) (value_of k (map (option n) vs ++ rest))) other ∙ value_run k n vs rest other none
+value_run k n (v ∷ vs) rest other none = ap (λ b. cond b (Some v) (value_of k (map (option n) vs ++ rest))) other
+    ∙ value_run k n vs rest other none
 
-names_run : (version n : ℕ) (vs : List (List ℕ)) (rest : List CoapOption) → (n == if_match) ≡ false → if_match_names version rest ≡ false → if_match_names version (map (option n) vs ++ rest) ≡ false
+names_run : (version n : ℕ) (vs : List (List ℕ)) (rest : List CoapOption) → (n == if_match) ≡ false
+    → if_match_names version rest ≡ false → if_match_names version (map (option n) vs ++ rest) ≡ false
 names_run version n [] rest other none = none
-names_run version n (v ∷ vs) rest other none = ap (λ b. (b && matches version v) || if_match_names version (map (option n) vs ++ rest)) other ∙ names_run version n vs rest other none
+names_run version n (v ∷ vs) rest other none =
+    ap (λ b. (b && matches version v) || if_match_names version (map (option n) vs ++ rest)) other
+    ∙ names_run version n vs rest other none
 
 -- what stands behind the preconditions
 abbrev behind : C.Request → Method → Transfer → List CoapOption
 behind r m t = path_options r.path ++ (uint_option content_format (format_sent m r.format) ++ block_option t)
 
 -- one option, or none, of another number
-one_value : (k : ℕ) (os rest : List CoapOption) → value_of k os ≡ None → value_of k rest ≡ None → value_of k (os ++ rest) ≡ None
+one_value : (k : ℕ) (os rest : List CoapOption) → value_of k os ≡ None → value_of k rest ≡ None
+    → value_of k (os ++ rest) ≡ None
 one_value k os rest none more = value_front k os rest more ∙ none
 
-one_names : (version : ℕ) (os rest : List CoapOption) → if_match_names version os ≡ false → if_match_names version rest ≡ false → if_match_names version (os ++ rest) ≡ false
+one_names : (version : ℕ) (os rest : List CoapOption) → if_match_names version os ≡ false
+    → if_match_names version rest ≡ false → if_match_names version (os ++ rest) ≡ false
 one_names version os rest none more = names_front version os rest more ∙ none
 
 no_match_block : (t : Transfer) → value_of if_match (block_option t) ≡ None
@@ -72,7 +81,8 @@ no_flag_block (Fetches f) = by f.asked
     by (Some asked) = refl
 no_flag_block (Uploads u) = by (is_longer u)
   where
-    by : (b : Bool) → value_of if_none_match (cond b (option block1 (uint (block_value (block_to_send u))) ∷ []) []) ≡ None
+    by : (b : Bool) → value_of if_none_match (cond b (option block1 (uint (block_value (block_to_send u))) ∷ []) [])
+        ≡ None
     by true = refl
     by false = refl
 no_flag_block Single = refl
@@ -85,7 +95,8 @@ no_names_block version (Fetches f) = by f.asked
     by (Some asked) = refl
 no_names_block version (Uploads u) = by (is_longer u)
   where
-    by : (b : Bool) → if_match_names version (cond b (option block1 (uint (block_value (block_to_send u))) ∷ []) []) ≡ false
+    by : (b : Bool) → if_match_names version (cond b (option block1 (uint (block_value (block_to_send u))) ∷ []) [])
+        ≡ false
     by true = refl
     by false = refl
 no_names_block version Single = refl
@@ -102,20 +113,25 @@ module _ (r : C.Request) (m : Method) (t : Transfer) where
   no_match : value_of if_match (behind r m t) ≡ None
   no_match =
       value_run if_match uri_path r.path (uint_option content_format (format_sent m r.format) ++ block_option t) refl
-      (one_value if_match (uint_option content_format (format_sent m r.format)) (block_option t) (format_value if_match (format_sent m r.format) refl) (no_match_block t))
+      (one_value if_match (uint_option content_format (format_sent m r.format)) (block_option t)
+      (format_value if_match (format_sent m r.format) refl) (no_match_block t))
 
   no_flag : value_of if_none_match (behind r m t) ≡ None
   no_flag =
-      value_run if_none_match uri_path r.path (uint_option content_format (format_sent m r.format) ++ block_option t) refl
-      (one_value if_none_match (uint_option content_format (format_sent m r.format)) (block_option t) (format_value if_none_match (format_sent m r.format) refl) (no_flag_block t))
+      value_run if_none_match uri_path r.path (uint_option content_format (format_sent m r.format) ++ block_option t)
+      refl
+      (one_value if_none_match (uint_option content_format (format_sent m r.format)) (block_option t)
+      (format_value if_none_match (format_sent m r.format) refl) (no_flag_block t))
 
   no_names : (version : ℕ) → if_match_names version (behind r m t) ≡ false
   no_names version =
       names_run version uri_path r.path (uint_option content_format (format_sent m r.format) ++ block_option t) refl
-      (one_names version (uint_option content_format (format_sent m r.format)) (block_option t) (format_names version (format_sent m r.format)) (no_names_block version t))
+      (one_names version (uint_option content_format (format_sent m r.format)) (block_option t)
+      (format_names version (format_sent m r.format)) (no_names_block version t))
 
   split : in_order r m t ≡ conditions_of r ++ behind r m t
-  split = sym (append_assoc (map (option if_match) r.if_match) (flag_option if_none_match r.if_none_match) (behind r m t))
+  split = sym (append_assoc (map (option if_match) r.if_match) (flag_option if_none_match r.if_none_match)
+      (behind r m t))
 
   same_match : value_of if_match (in_order r m t) ≡ value_of if_match (conditions_of r)
   same_match = ap (value_of if_match) split ∙ value_front if_match (conditions_of r) (behind r m t) no_match
@@ -124,11 +140,16 @@ module _ (r : C.Request) (m : Method) (t : Transfer) where
   same_flag = ap (value_of if_none_match) split ∙ value_front if_none_match (conditions_of r) (behind r m t) no_flag
 
   same_names : (version : ℕ) → if_match_names version (in_order r m t) ≡ if_match_names version (conditions_of r)
-  same_names version = ap (if_match_names version) split ∙ names_front version (conditions_of r) (behind r m t) (no_names version)
+  same_names version = ap (if_match_names version) split
+      ∙ names_front version (conditions_of r) (behind r m t) (no_names version)
 
-  pub conditions_back : (o : Option Held) → precondition_fails o (in_order r m t) ≡ precondition_fails o (conditions_of r)
+  pub conditions_back : (o : Option Held) → precondition_fails o (in_order r m t)
+      ≡ precondition_fails o (conditions_of r)
   conditions_back None = ap is_some same_match
   conditions_back (Some held) =
-      ap (λ v. (is_some v && not (if_match_names held.version (in_order r m t))) || is_some (value_of if_none_match (in_order r m t))) same_match
-      ∙ (ap (λ n. (is_some (value_of if_match (conditions_of r)) && not n) || is_some (value_of if_none_match (in_order r m t))) (same_names held.version)
-      ∙ ap (λ v. (is_some (value_of if_match (conditions_of r)) && not (if_match_names held.version (conditions_of r))) || is_some v) same_flag)
+      ap (λ v. (is_some v && not (if_match_names held.version (in_order r m t)))
+      || is_some (value_of if_none_match (in_order r m t))) same_match
+      ∙ (ap (λ n. (is_some (value_of if_match (conditions_of r)) && not n)
+      || is_some (value_of if_none_match (in_order r m t))) (same_names held.version)
+      ∙ ap (λ v. (is_some (value_of if_match (conditions_of r)) && not (if_match_names held.version (conditions_of r)))
+      || is_some v) same_flag)

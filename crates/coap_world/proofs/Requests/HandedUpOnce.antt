@@ -22,11 +22,19 @@ use Rattle.coap_world.proofs.Requests.CameFrom.{UpOf, here, find, no_more}
 abbrev pub Any : Message → Type 0
 Any m = Unit {0}
 
-up_in : (a : Asked) (from : Endpoint) (bytes : List ℕ) (e : T.Entry) (answer : T.Answer) → e.call ≡ T.Receive from bytes → e.answer ≡ answer → asked_in (handed_up from answer) ≡ Some a → UpOf Any a e
+up_in : (a : Asked) (from : Endpoint) (bytes : List ℕ) (e : T.Entry) (answer : T.Answer) → e.call ≡ T.Receive from bytes
+    → e.answer ≡ answer → asked_in (handed_up from answer) ≡ Some a → UpOf Any a e
 up_in a from bytes e (T.Becomes (T.Request m true)) call is h =
     let same : asked_of from m ≡ a = cc h in
     let from_is : from ≡ a.from = ap (λ (x : Asked). x.from) same in
-    record { message = m; bytes = bytes; call = call ∙ ap (λ f. T.Receive f bytes) from_is; answer = is; asked_is = sym same ∙ ap (λ f. asked_of f m) from_is; verdict = tt }
+    record {
+      message = m;
+      bytes = bytes;
+      call = call ∙ ap (λ f. T.Receive f bytes) from_is;
+      answer = is;
+      asked_is = sym same ∙ ap (λ f. asked_of f m) from_is;
+      verdict = tt;
+    }
 up_in a from bytes e (T.Becomes u) call is h = absurd (cc h)
 up_in a from bytes e T.Nothing call is h = absurd (cc h)
 up_in a from bytes e (T.Is holds) call is h = absurd (cc h)
@@ -55,7 +63,8 @@ data Counts (a : Asked) (e : T.Entry) (n : ℕ) : Type 0 where
   counts : UpOf Any a e → n ≡ 1 → Counts a e n
   silent : n ≡ 0 → Counts a e n
 
-counts_by : (a : Asked) (e : T.Entry) (o : Option Asked) → asked_at e.call e.answer ≡ o → Counts a e (hits (same_asked a) o)
+counts_by : (a : Asked) (e : T.Entry) (o : Option Asked) → asked_at e.call e.answer ≡ o
+    → Counts a e (hits (same_asked a) o)
 counts_by a e None is = silent refl
 counts_by a e (Some b) is = by (same_asked a b) refl
   where
@@ -66,9 +75,11 @@ counts_by a e (Some b) is = by (same_asked a b) refl
 none_counted : (a : Asked) (hs : List Hop) → (Ever (OnFar (UpOf Any a)) hs → ⊥) → ups a (far_of hs) ≡ 0
 none_counted a [] f = refl
 none_counted a (Near e ∷ past) f = none_counted a past (λ k. f (inr k))
-none_counted a (Far e ∷ past) f = by (counts_by a e (asked_at e.call e.answer) refl) (none_counted a past (λ k. f (inr k)))
+none_counted a (Far e ∷ past) f = by (counts_by a e (asked_at e.call e.answer) refl)
+    (none_counted a past (λ k. f (inr k)))
   where
-    by : Counts a e (hits (same_asked a) (asked_at e.call e.answer)) → ups a (far_of past) ≡ 0 → hits (same_asked a) (asked_at e.call e.answer) + ups a (far_of past) ≡ 0
+    by : Counts a e (hits (same_asked a) (asked_at e.call e.answer)) → ups a (far_of past) ≡ 0
+        → hits (same_asked a) (asked_at e.call e.answer) + ups a (far_of past) ≡ 0
     by (counts u n) k = absurd (f (inl u))
     by (silent n) k = omega (arith, n, k)
 
@@ -80,14 +91,16 @@ once_counted a [] h = omega arith
 once_counted a (Near e ∷ past) h = once_counted a past h.1
 once_counted a (Far e ∷ past) h = by (counts_by a e (asked_at e.call e.answer) refl) (once_counted a past h.1)
   where
-    by : Counts a e (hits (same_asked a) (asked_at e.call e.answer)) → ups a (far_of past) ≤ 1 → hits (same_asked a) (asked_at e.call e.answer) + ups a (far_of past) ≤ 1
+    by : Counts a e (hits (same_asked a) (asked_at e.call e.answer)) → ups a (far_of past) ≤ 1
+        → hits (same_asked a) (asked_at e.call e.answer) + ups a (far_of past) ≤ 1
     by (counts u n) k = let z = none_counted a past (λ w. h.0 u w) in omega (arith, n, z)
     by (silent n) k = omega (arith, n, k)
 
 -- one CON has this token
 abbrev pub OneConBy : List ℕ → List T.Entry → Type 0
 OneConBy token t =
-    (a b : Open) → Ever (λ e. begun e ≡ Some a) t → Ever (λ e. begun e ≡ Some b) t → (x y : Message) → AreBytes a.bytes → AreBytes b.bytes → Spells a.bytes x → Spells b.bytes y → a.id ≡ x.id → b.id ≡ y.id
+    (a b : Open) → Ever (λ e. begun e ≡ Some a) t → Ever (λ e. begun e ≡ Some b) t → (x y : Message) → AreBytes a.bytes
+    → AreBytes b.bytes → Spells a.bytes x → Spells b.bytes y → a.id ≡ x.id → b.id ≡ y.id
     → x.token ≡ token → y.token ≡ token → a ≡ b
 
 module _ (one other : ℕ) (near far : Endpoint) (a : Asked) (from : a.from ≡ near) where
@@ -95,16 +108,26 @@ module _ (one other : ℕ) (near far : Endpoint) (a : Asked) (from : a.from ≡ 
   one_more (Near e) past f = λ x y k l. f x y (inr k) (inr l)
   one_more (Far e) past f = f
 
-  pub up_once : (hs : List Hop) → ChannelLaw one other near far hs → NoNons (near_of hs) → OneConBy a.token (near_of hs) → UpOnce a hs
+  pub up_once : (hs : List Hop) → ChannelLaw one other near far hs → NoNons (near_of hs) → OneConBy a.token (near_of hs)
+      → UpOnce a hs
   up_once [] law nons cons = tt
-  up_once (Near e ∷ past) law nons cons =
-      (λ u k. u, up_once past (earlier one other near far past (Near e) law) (no_more one other near far Any a from (Near e) past nons) (one_more (Near e) past cons))
-  up_once (Far e ∷ past) law nons cons = (λ u k. twice u k, up_once past (earlier one other near far past (Far e) law) nons cons)
+  up_once (Near e ∷ past) law nons cons = (
+    λ u k. u,
+    up_once past (earlier one other near far past (Near e) law)
+        (no_more one other near far Any a from (Near e) past nons) (one_more (Near e) past cons),
+  )
+  up_once (Far e ∷ past) law nons cons = (
+    λ u k. twice u k,
+    up_once past (earlier one other near far past (Far e) law) nons cons,
+  )
     where
       twice : UpOf Any a e → Ever (OnFar (UpOf Any a)) past → ⊥
       twice u k =
           let f = here one other near far Any a from past e law nons u in
           let g = find one other near far Any a from past (earlier one other near far past (Far e) law) nons k in
           let same : f.0.con ≡ g.con =
-          cons f.0.con g.con f.0.begun_before g.begun_before f.0.message g.message f.0.are_bytes g.are_bytes f.0.spells g.spells f.0.id g.id (sym (ap (λ (x : Asked). x.token) f.0.asked)) (sym (ap (λ (x : Asked). x.token) g.asked)) in
-          (handed_once one other near far (Far e ∷ past) law f.0.con f.0.begun_before).0 f.1 (subst (λ c. Ever (OnFar (HandsUpAs near c)) past) (sym same) g.arrived)
+          cons f.0.con g.con f.0.begun_before g.begun_before f.0.message g.message f.0.are_bytes g.are_bytes f.0.spells
+          g.spells f.0.id g.id (sym (ap (λ (x : Asked). x.token) f.0.asked))
+          (sym (ap (λ (x : Asked). x.token) g.asked)) in
+          (handed_once one other near far (Far e ∷ past) law f.0.con f.0.begun_before).0 f.1
+          (subst (λ c. Ever (OnFar (HandsUpAs near c)) past) (sym same) g.arrived)

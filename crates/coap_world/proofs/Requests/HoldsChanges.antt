@@ -13,7 +13,8 @@ use Rattle.coap_world.specs.Record.{Entry, OfClient, OfServer, server_trace}
 use Rattle.coap_world.specs.Words.{holds_at, last_at}
 
 -- a server begins with nothing: its delays change nothing
-begun_empty : (limit szx : ℕ) (ds : List S.Delay) (path : List (List ℕ)) → (own_of limit szx (map (λ (d : S.Delay). S.Delays d.path d.ms true) ds)).store.holds path ≡ None
+begun_empty : (limit szx : ℕ) (ds : List S.Delay) (path : List (List ℕ))
+    → (own_of limit szx (map (λ (d : S.Delay). S.Delays d.path d.ms true) ds)).store.holds path ≡ None
 begun_empty limit szx [] path = refl
 begun_empty limit szx (d ∷ ds) path = begun_empty limit szx ds path
 
@@ -37,27 +38,41 @@ module _ (config : Config) where
   stamped_back (OfServer c) past h = h.1
 
   -- a change says what its path holds
-  made_here : (past : List Entry) (c : S.Call) (x : Change) → change (own_of config.limit config.server_szx (server_trace config past)) c ≡ Some x → last_at config x.path (OfServer c ∷ past) ≡ x.held
+  made_here : (past : List Entry) (c : S.Call) (x : Change)
+      → change (own_of config.limit config.server_szx (server_trace config past)) c ≡ Some x
+      → last_at config x.path (OfServer c ∷ past) ≡ x.held
   made_here past c x is =
-      ap (λ o. held_then x.path o (last_at config x.path past)) is ∙ ap (λ b. cond b x.held (last_at config x.path past)) ((same_path-decides x.path x.path).1 refl)
+      ap (λ o. held_then x.path o (last_at config x.path past)) is
+      ∙ ap (λ b. cond b x.held (last_at config x.path past)) ((same_path-decides x.path x.path).1 refl)
 
   holds_here : (e : Entry) (past : List Entry) → Rows (e ∷ past) → Stamped (e ∷ past) → Holds config past e
-  holds_here (OfClient c) past rows h = record { last = last_is past rows; version = λ x is. absurd is; made = λ x is. absurd is; under = λ x held is there. absurd is }
+  holds_here (OfClient c) past rows h = record {
+    last = last_is past rows;
+    version = λ x is. absurd is;
+    made = λ x is. absurd is;
+    under = λ x held is there. absurd is;
+  }
   holds_here (OfServer c) past rows h =
       record {
         last = last_is (OfServer c ∷ past) rows;
-        version = (holds_changes config.limit config.server_szx (server_trace config (OfServer c ∷ past)) rows).0.version;
+        version = (holds_changes config.limit config.server_szx
+            (server_trace config (OfServer c ∷ past)) rows).0.version;
         made = λ x is. last_is (OfServer c ∷ past) rows x.path ∙ made_here past c x is;
         under = h.0.held;
       }
 
   each_holds : (t : List Entry) → Rows t → Stamped t → Always (Holds config) t
   each_holds [] rows h = tt
-  each_holds (e ∷ past) rows h = (holds_here e past rows h, each_holds past (rows_back e past rows) (stamped_back e past h))
+  each_holds (e ∷ past) rows h = (
+    holds_here e past rows h,
+    each_holds past (rows_back e past rows) (stamped_back e past h),
+  )
 
-  pub changes_held : (all : List Entry) → ServerLaw config.limit config.server_szx config.server_word (server_trace config all) → HoldsChanges config all
+  pub changes_held : (all : List Entry) → ServerLaw config.limit config.server_szx config.server_word
+      (server_trace config all) → HoldsChanges config all
   changes_held all law =
       record {
         first = begun_empty config.limit config.server_szx config.delays;
-        each = each_holds all law.rows (stamped config.limit config.server_szx config.server_word (server_trace config all) law);
+        each = each_holds all law.rows (stamped config.limit config.server_szx config.server_word
+            (server_trace config all) law);
       }

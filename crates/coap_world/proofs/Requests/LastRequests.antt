@@ -35,14 +35,29 @@ use Rattle.coap_world.specs.CameFrom.{request_of}
 use Rattle.coap_world.proofs.Requests.ReadBack.{Changes, options_in, in_order, bare_options, reads_all, block_back}
 
 -- what was sent for a call, of the whole of its calls so far
-pub of_call_at : (szx : ℕ) (t : List C.Call) → AreOfCalls szx t → (x : Sending) (k : ℕ) → WasSent szx x t → call_of x.operation ≡ Some k → IsOfCall szx k x t
+pub of_call_at : (szx : ℕ) (t : List C.Call) → AreOfCalls szx t → (x : Sending) (k : ℕ) → WasSent szx x t
+    → call_of x.operation ≡ Some k → IsOfCall szx k x t
 of_call_at szx [] law x k h of = absurd h
 of_call_at szx (c ∷ t) law x k (inl h) of =
     let g = law.0 x k h of in
-    record { request = g.request; taken = inr g.taken; transfer = g.transfer; operation = g.operation; carries = g.carries; message = g.message }
+    record {
+      request = g.request;
+      taken = inr g.taken;
+      transfer = g.transfer;
+      operation = g.operation;
+      carries = g.carries;
+      message = g.message;
+    }
 of_call_at szx (c ∷ t) law x k (inr h) of =
     let g = of_call_at szx t law.1 x k h of in
-    record { request = g.request; taken = inr g.taken; transfer = g.transfer; operation = g.operation; carries = g.carries; message = g.message }
+    record {
+      request = g.request;
+      taken = inr g.taken;
+      transfer = g.transfer;
+      operation = g.operation;
+      carries = g.carries;
+      message = g.message;
+    }
 
 pub method_is : (m : Method) → method_of (method_code m).0 ≡ Some m
 method_is Get = refl
@@ -63,7 +78,8 @@ no_fetch szx Post body f change h = h
 no_fetch szx Put body f change h = h
 no_fetch szx Delete body f change h = h
 
-pub sends_body : (szx : ℕ) (m : Method) (body : List ℕ) (u : UploadState) → Changes m → CarriesBody szx m body (Uploads u) → SendsBody szx body u
+pub sends_body : (szx : ℕ) (m : Method) (body : List ℕ) (u : UploadState) → Changes m
+    → CarriesBody szx m body (Uploads u) → SendsBody szx body u
 sends_body szx Get body u change h = absurd change
 sends_body szx Post body u change h = h
 sends_body szx Put body u change h = h
@@ -81,11 +97,13 @@ bit_small : (b : Bool) → more_bit b ≤ 8
 bit_small true = omega arith
 bit_small false = omega arith
 
-pub small_value : (num szx : ℕ) (more : Bool) → num ≤ 1048575 → szx ≤ 6 → block_value (record { num = num; more = more; szx = szx }) < 2 ^ 32
+pub small_value : (num szx : ℕ) (more : Bool) → num ≤ 1048575 → szx ≤ 6
+    → block_value (record { num = num; more = more; szx = szx }) < 2 ^ 32
 small_value num szx more n s = let b = bit_small more in omega (arith, n, s, b)
 
 -- the request of a call, as a server with blocks of this size reads it
-module _ (csz szx id k : ℕ) (small : csz ≤ 6) (x : Sending) (t : List C.Call) (g : IsOfCall csz k x t) (range : IfSome g.request.format (λ f. f < 65536)) where
+module _ (csz szx id k : ℕ) (small : csz ≤ 6) (x : Sending) (t : List C.Call) (g : IsOfCall csz k x t)
+    (range : IfSome g.request.format (λ f. f < 65536)) where
   abbrev m : Message
   m = request_of id x
 
@@ -98,7 +116,8 @@ module _ (csz szx id k : ℕ) (small : csz ≤ 6) (x : Sending) (t : List C.Call
   -- all its options are read
   pub options_read : HasNoFault m → Changes g.request.method → asks m ≡ in_order g.request g.request.method g.transfer
   options_read good change =
-      let none : lacks_critical Request (options_in g.request g.transfer) ≡ false = ap (lacks_critical Request) (sym options_are) ∙ good.critical in
+      let none : lacks_critical Request (options_in g.request g.transfer)
+      ≡ false = ap (lacks_critical Request) (sym options_are) ∙ good.critical in
       ap (recognised Request) options_are ∙ reads_all g.request g.transfer change range none
 
   good_of : (v : Verdict) → NoFaultIn m v → Final v → HasNoFault m
@@ -116,33 +135,41 @@ module _ (csz szx id k : ℕ) (small : csz ≤ 6) (x : Sending) (t : List C.Call
 
     -- the block that it says
     said : Changes g.request.method → uint_at block1 (asks m) ≡ uint_in (value_of block1 (block_option g.transfer))
-    said change = ap (uint_at block1) (options_read good change) ∙ ap uint_in (block_back g.request g.request.method g.transfer)
+    said change = ap (uint_at block1) (options_read good change)
+        ∙ ap uint_in (block_back g.request g.request.method g.transfer)
 
-    of_verdict : (u : UploadState) (n : ℕ) → n ≡ block_value (block_to_send u) → u.num ≤ 1048575 → u.szx ≤ 6 → (w : Verdict) → ReadsOf szx m w → Final w → uint_at block1 (asks m) ≡ Some n → more_follows u ≡ false
+    of_verdict : (u : UploadState) (n : ℕ) → n ≡ block_value (block_to_send u) → u.num ≤ 1048575 → u.szx ≤ 6
+        → (w : Verdict) → ReadsOf szx m w → Final w → uint_at block1 (asks m) ≡ Some n → more_follows u ≡ false
     of_verdict u n value num size Ignored r f h = absurd f
     of_verdict u n value num size (Refused code) r f h = absurd f
     of_verdict u n value num size (Asks q) r f h = let e : None ≡ Some n = sym r.1 ∙ h in absurd (cc e)
     of_verdict u n value num size (UploadsBlock q b) r f h =
         let e : Some r.1.0 ≡ Some n = sym r.1.1 ∙ h in
         let same : r.1.0 ≡ n = cc e in
-        let k : Some b ≡ Some (block_to_send u) = sym r.1.2 ∙ (ap block_by (same ∙ value) ∙ block_reads_back (block_to_send u) num size) in
+        let k : Some b ≡ Some (block_to_send u) = sym r.1.2
+        ∙ (ap block_by (same ∙ value) ∙ block_reads_back (block_to_send u) num size) in
         let block_is : b ≡ block_to_send u = cc k in
         sym (ap (λ (z : Block). z.more) block_is) ∙ f
 
-    last_by : Changes g.request.method → (tr : Transfer) → g.transfer ≡ tr → (r : C.Request) → is_last (Calling k r tr) ≡ true
+    last_by : Changes g.request.method → (tr : Transfer) → g.transfer ≡ tr → (r : C.Request)
+        → is_last (Calling k r tr) ≡ true
     last_by change Single e r = refl
-    last_by change (Fetches f) e r = absurd (no_fetch csz g.request.method g.request.body f change (subst (CarriesBody csz g.request.method g.request.body) e g.carries))
+    last_by change (Fetches f) e r = absurd (no_fetch csz g.request.method g.request.body f change
+        (subst (CarriesBody csz g.request.method g.request.body) e g.carries))
     last_by change (Uploads u) e r = by (is_longer u) refl
       where
         by : (b : Bool) → is_longer u ≡ b → not (more_follows u) ≡ true
         by false short = ap not (no_more u short)
         by true long =
-            let h = sends_body csz g.request.method g.request.body u change (subst (CarriesBody csz g.request.method g.request.body) e g.carries) in
+            let h = sends_body csz g.request.method g.request.body u change
+            (subst (CarriesBody csz g.request.method g.request.body) e g.carries) in
             let z = h.size in
             let size : u.szx ≤ 6 = omega (arith, z, small) in
             let n : ℕ = block_value (block_to_send u) in
-            let here : uint_at block1 (asks m) ≡ Some n = said change ∙ (ap (λ tr. uint_in (value_of block1 (block_option tr))) e
-            ∙ (ap (λ b. uint_in (value_of block1 (cond b (option block1 (uint n) ∷ []) []))) long ∙ uint_read n (small_value u.num u.szx (more_follows u) h.num size)))
+            let here : uint_at block1 (asks m) ≡ Some n = said change
+            ∙ (ap (λ tr. uint_in (value_of block1 (block_option tr))) e
+            ∙ (ap (λ b. uint_in (value_of block1 (cond b (option block1 (uint n) ∷ []) []))) long
+            ∙ uint_read n (small_value u.num u.szx (more_follows u) h.num size)))
             in
             ap not (of_verdict u n refl h.num size v reads final here)
 

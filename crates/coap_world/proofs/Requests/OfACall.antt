@@ -52,23 +52,33 @@ changes_by Put q old left h = tt
 changes_by Delete q old left h = tt
 
 -- what is asked of the store is of the request that was handed up
-pub final_of : (limit szx : ℕ) (past : List S.Call) (c : S.Call) (a : Asked) (q : Question) (v : Verdict) → AsksBy limit szx past c a q v → Final v
+pub final_of : (limit szx : ℕ) (past : List S.Call) (c : S.Call) (a : Asked) (q : Question) (v : Verdict)
+    → AsksBy limit szx past c a q v → Final v
 final_of limit szx past c a q Ignored h = h
 final_of limit szx past c a q (Refused code) h = h
 final_of limit szx past c a q (Asks p) h = tt
 final_of limit szx past c a q (Uploads p b) h = h.last
 
-pub method_asked : (limit szx : ℕ) (past : List S.Call) (c : S.Call) (a : Asked) (q : Question) (m : Message) (v : Verdict) → AsksBy limit szx past c a q v → ReadsOf szx m v → method_of m.code ≡ Some q.method
+pub method_asked : (limit szx : ℕ) (past : List S.Call) (c : S.Call) (a : Asked) (q : Question) (m : Message)
+    (v : Verdict) → AsksBy limit szx past c a q v → ReadsOf szx m v → method_of m.code ≡ Some q.method
 method_asked limit szx past c a q m Ignored h r = absurd h
 method_asked limit szx past c a q m (Refused code) h r = absurd h
 method_asked limit szx past c a q m (Asks p) h r = r.0.method ∙ ap (λ (z : Question). Some z.method) (sym h)
-method_asked limit szx past c a q m (Uploads p b) h r = r.0.method ∙ ap (λ (z : Question). Some z.method) (sym h.question)
+method_asked limit szx past c a q m (Uploads p b) h r = r.0.method
+    ∙ ap (λ (z : Question). Some z.method) (sym h.question)
 
-pub options_asked : (limit szx : ℕ) (past : List S.Call) (c : S.Call) (a : Asked) (q : Question) (m : Message) (v : Verdict) → AsksBy limit szx past c a q v → ReadsOf szx m v → (q.options ≡ asks m) × (q.path ≡ path_of (asks m))
+pub options_asked : (limit szx : ℕ) (past : List S.Call) (c : S.Call) (a : Asked) (q : Question) (m : Message)
+    (v : Verdict) → AsksBy limit szx past c a q v → ReadsOf szx m v → (q.options ≡ asks m) × (q.path ≡ path_of (asks m))
 options_asked limit szx past c a q m Ignored h r = absurd h
 options_asked limit szx past c a q m (Refused code) h r = absurd h
-options_asked limit szx past c a q m (Asks p) h r = (ap (λ (z : Question). z.options) h ∙ ap (λ (z : Question). z.options) r.0.is, ap (λ (z : Question). z.path) h ∙ ap (λ (z : Question). z.path) r.0.is)
-options_asked limit szx past c a q m (Uploads p b) h r = (ap (λ (z : Question). z.options) h.question ∙ ap (λ (z : Question). z.options) r.0.is, ap (λ (z : Question). z.path) h.question ∙ ap (λ (z : Question). z.path) r.0.is)
+options_asked limit szx past c a q m (Asks p) h r = (
+  ap (λ (z : Question). z.options) h ∙ ap (λ (z : Question). z.options) r.0.is,
+  ap (λ (z : Question). z.path) h ∙ ap (λ (z : Question). z.path) r.0.is,
+)
+options_asked limit szx past c a q m (Uploads p b) h r = (
+  ap (λ (z : Question). z.options) h.question ∙ ap (λ (z : Question). z.options) r.0.is,
+  ap (λ (z : Question). z.path) h.question ∙ ap (λ (z : Question). z.path) r.0.is,
+)
 
 -- the request of a call is neither a registration nor a cancel
 pub no_call : (x y : Sending) (k : ℕ) → call_of x.operation ≡ Some k → Deregisters x y → ⊥
@@ -77,7 +87,8 @@ no_call x y k of d = let e : None ≡ Some k = sym (ap call_of d.registers) ∙ 
 pub no_call_behind : (x y : Sending) (k : ℕ) → call_of y.operation ≡ Some k → Deregisters x y → ⊥
 no_call_behind x y k of d = let e : None ≡ Some k = sym (ap call_of d.cancels) ∙ of in cc e
 
-taken_later : (x : Taken) (past : List Entry) (e : Entry) → WasTaken x (client_of past) → WasTaken x (client_of (e ∷ past))
+taken_later : (x : Taken) (past : List Entry) (e : Entry) → WasTaken x (client_of past)
+    → WasTaken x (client_of (e ∷ past))
 taken_later x past (OfClient c) h = inr h
 taken_later x past (OfServer c) h = h
 
@@ -91,20 +102,24 @@ pub record Lawful (config : Config) (t : List Entry) : Type 0 where
 pub lawful_back : (config : Config) (past : List Entry) (e : Entry) → Lawful config (e ∷ past) → Lawful config past
 lawful_back config past (OfClient c) law =
     record {
-      channel = channel_back config.client_word config.server_word client_end server_end (hops_at config past (OfClient c)) (hops_in config past) law.channel;
+      channel = channel_back config.client_word config.server_word client_end server_end
+          (hops_at config past (OfClient c)) (hops_in config past) law.channel;
       client = client_facts.back server_end config.client_szx config.client_word (c ∷ []) (client_of past) law.client;
       server = law.server;
       came = law.came.1;
     }
 lawful_back config past (OfServer c) law =
     record {
-      channel = channel_back config.client_word config.server_word client_end server_end (hops_at config past (OfServer c)) (hops_in config past) law.channel;
+      channel = channel_back config.client_word config.server_word client_end server_end
+          (hops_at config past (OfServer c)) (hops_in config past) law.channel;
       client = law.client;
-      server = server_facts.back config.limit config.server_szx config.server_word (c ∷ []) (server_trace config past) law.server;
+      server = server_facts.back config.limit config.server_szx config.server_word (c ∷ [])
+          (server_trace config past) law.server;
       came = law.came.1;
     }
 
-module _ (config : Config) (number : ℕ) (all : List Entry) (small : config.client_szx ≤ 6) (whole : Lawful config all) (in_range : (x : Taken) → WasTaken x (client_of all) → IsRequest x.request) where
+module _ (config : Config) (number : ℕ) (all : List Entry) (small : config.client_szx ≤ 6) (whole : Lawful config all)
+    (in_range : (x : Taken) → WasTaken x (client_of all) → IsRequest x.request) where
   abbrev pub Begun : Open → List Entry → Type 0
   Begun con t = Ever (λ b. begun b ≡ Some con) (near_of (hops_in config t))
 
@@ -113,7 +128,8 @@ module _ (config : Config) (number : ℕ) (all : List Entry) (small : config.cli
 
   -- what was sent, and begun, is so for good
   abbrev pub Later : List Entry → Type 0
-  Later t = ((x : Sending) → Sent x t → Sent x all) × ((con : Open) → Begun con t → Begun con all) × ((x : Taken) → WasTaken x (client_of t) → WasTaken x (client_of all))
+  Later t = ((x : Sending) → Sent x t → Sent x all) × ((con : Open) → Begun con t → Begun con all)
+      × ((x : Taken) → WasTaken x (client_of t) → WasTaken x (client_of all))
 
   pub later_back : (e : Entry) (past : List Entry) → Later (e ∷ past) → Later past
   later_back e past h = (
@@ -146,40 +162,54 @@ module _ (config : Config) (number : ℕ) (all : List Entry) (small : config.cli
     pub options : x.question.options ≡ in_order request request.method transfer
 
   -- a token of the call is of that request alone
-  pub one_sending : (x y : Sending) → Sent x all → Sent y all → call_of y.operation ≡ Some number → x.token ≡ y.token → x ≡ y
-  one_sending x y sent there of token = by (client_facts.tokens server_end config.client_szx config.client_word (client_of all) whole.client x y sent there token)
+  pub one_sending : (x y : Sending) → Sent x all → Sent y all → call_of y.operation ≡ Some number → x.token ≡ y.token
+      → x ≡ y
+  one_sending x y sent there of token = by (client_facts.tokens server_end config.client_szx config.client_word
+      (client_of all) whole.client x y sent there token)
     where
       by : (x ≡ y) ⊎ (Deregisters x y ⊎ Deregisters y x) → x ≡ y
       by (inl same) = same
       by (inr (inl d)) = absurd (no_call_behind x y number of d)
       by (inr (inr d)) = absurd (no_call y x number of d)
 
-  pub known : (past : List Entry) (c : S.Call) → Later (OfServer c ∷ past) → Lawful config (OfServer c ∷ past) → (a : AppliesFor config number all past (OfServer c)) → Known (OfServer c ∷ past) a.request
+  pub known : (past : List Entry) (c : S.Call) → Later (OfServer c ∷ past) → Lawful config (OfServer c ∷ past)
+      → (a : AppliesFor config number all past (OfServer c)) → Known (OfServer c ∷ past) a.request
   known past c later law a =
       let x : Serving = a.request in
       let t : List S.Call = server_trace config past in
       let w : List Entry = OfServer c ∷ past in
-      let brings = (server_facts.handed config.limit config.server_szx config.server_word (c ∷ t) law.server).0 x a.here in
+      let brings = (server_facts.handed config.limit config.server_szx config.server_word (c ∷ t) law.server).0 x a.here
+      in
       let k = traced config x.asked x.question w law.came a.from (brought_in config x.asked x.question w brings) in
       let s : Sending = k.came.sending in
       let sent = later.0 s k.sent in
       let token : s.token ≡ x.asked.token = sym (ap (λ (z : Asked). z.token) k.came.asked) in
       let same : s ≡ a.belongs.0 = one_sending s a.belongs.0 sent a.belongs.1 a.belongs.2 (token ∙ sym a.belongs.3) in
       let of : call_of s.operation ≡ Some number = ap (λ (z : Sending). call_of z.operation) same ∙ a.belongs.2 in
-      let g = of_call_at config.client_szx (client_of past) (client_facts.of_calls config.client_szx (client_of past)) s number k.sent of in
-      let ranges = in_range (record { number = number; request = g.request }) (later.2 (record { number = number; request = g.request }) g.taken) in
+      let g = of_call_at config.client_szx (client_of past)
+      (client_facts.of_calls config.client_szx (client_of past)) s number k.sent of in
+      let ranges = in_range (record { number = number; request = g.request })
+      (later.2 (record { number = number; request = g.request }) g.taken) in
       let range = ranges.format in
-      let final = final_of config.limit config.server_szx (server_trace config k.past) k.call x.asked x.question k.verdict k.asks in
-      let read = reads config.client_szx config.server_szx k.came.con.id number small s (client_of past) g range k.verdict k.came.verdict final in
-      let method = method_asked config.limit config.server_szx (server_trace config k.past) k.call x.asked x.question (request_of k.came.con.id s) k.verdict k.asks read in
+      let final = final_of config.limit config.server_szx
+      (server_trace config k.past) k.call x.asked x.question k.verdict k.asks in
+      let read = reads config.client_szx config.server_szx k.came.con.id number small s
+      (client_of past) g range k.verdict k.came.verdict final in
+      let method = method_asked config.limit config.server_szx (server_trace config k.past) k.call x.asked x.question
+      (request_of k.came.con.id s) k.verdict k.asks read in
       let code = code_is config.client_szx config.server_szx k.came.con.id number small s (client_of past) g range in
-      let methods : Some x.question.method ≡ Some g.request.method = sym method ∙ (ap method_of code ∙ method_is g.request.method) in
+      let methods : Some x.question.method ≡ Some g.request.method = sym method
+      ∙ (ap method_of code ∙ method_is g.request.method) in
       let method_same : x.question.method ≡ g.request.method = cc methods in
-      let right = (server_facts.right config.limit config.server_szx config.server_word (c ∷ t) law.server).0.applied x a.here a.applied in
+      let right = (server_facts.right config.limit config.server_szx config.server_word (c ∷ t) law.server).0.applied x
+      a.here a.applied in
       let change = subst Changes method_same (changes_by x.question.method x.question x.old x.left right.does) in
-      let faultless = good config.client_szx config.server_szx k.came.con.id number small s (client_of past) g range k.verdict k.came.verdict final in
-      let all_read = options_read config.client_szx config.server_szx k.came.con.id number small s (client_of past) g range faultless change in
-      let read_as = options_asked config.limit config.server_szx (server_trace config k.past) k.call x.asked x.question (request_of k.came.con.id s) k.verdict k.asks read in
+      let faultless = good config.client_szx config.server_szx k.came.con.id number small s
+      (client_of past) g range k.verdict k.came.verdict final in
+      let all_read = options_read config.client_szx config.server_szx k.came.con.id number small s
+      (client_of past) g range faultless change in
+      let read_as = options_asked config.limit config.server_szx (server_trace config k.past) k.call x.asked x.question
+      (request_of k.came.con.id s) k.verdict k.asks read in
       record {
         sending = s;
         con = k.came.con;
@@ -189,7 +219,8 @@ module _ (config : Config) (number : ℕ) (all : List Entry) (small : config.cli
         spells = k.came.spells;
         asked = k.came.asked;
         of_call = of;
-        last = is_the_last config.client_szx config.server_szx k.came.con.id number small s (client_of past) g range k.verdict k.came.verdict final change;
+        last = is_the_last config.client_szx config.server_szx k.came.con.id number small s
+            (client_of past) g range k.verdict k.came.verdict final change;
         request = g.request;
         transfer = g.transfer;
         taken = g.taken;

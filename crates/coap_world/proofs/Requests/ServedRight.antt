@@ -14,16 +14,19 @@ use Rattle.coap_world.proofs.Requests.ServedLeaves.{leaves}
 use Rattle.coap_world.proofs.Requests.Traced.{brought_in}
 
 module _ (config : Config) where
-  served_here : (past : List Entry) (c : S.Call) → Lawful config (OfServer c ∷ past) → ServesRight config past (OfServer c)
+  served_here : (past : List Entry) (c : S.Call) → Lawful config (OfServer c ∷ past)
+      → ServesRight config past (OfServer c)
   served_here past c law =
       let t : List S.Call = server_trace config past in
       let s : S.Own = own_of config.limit config.server_szx t in
       let right = (server_facts.right config.limit config.server_szx config.server_word (c ∷ t) law.server).0 in
       record {
-        brought = λ x here. brought_in config x.asked x.question (OfServer c ∷ past) ((server_facts.handed config.limit config.server_szx config.server_word (c ∷ t) law.server).0 x here);
+        brought = λ x here. brought_in config x.asked x.question (OfServer c ∷ past)
+            ((server_facts.handed config.limit config.server_szx config.server_word (c ∷ t) law.server).0 x here);
         table = λ x here. served_now s c law.server.rows.0 x here;
         preconditions = λ x here applied.
-            ap (λ (o : Content). precondition_fails (o.holds x.question.path) x.question.options) (sym (leaves s c x here).found) ∙ (right.applied x here applied).preconditions;
+            ap (λ (o : Content). precondition_fails (o.holds x.question.path) x.question.options)
+            (sym (leaves s c x here).found) ∙ (right.applied x here applied).preconditions;
         methods = (server_facts.methods config.limit config.server_szx config.server_word (c ∷ t) law.server).0;
         uploads = (server_facts.uploads config.limit config.server_szx config.server_word (c ∷ t) law.server).0;
       }
@@ -31,7 +34,16 @@ module _ (config : Config) where
   pub served_right : (all : List Entry) → Lawful config all → AllServed config all
   served_right [] law = tt
   served_right (OfClient c ∷ past) law = (
-    record { brought = λ x here. absurd here; table = λ x here. absurd here; preconditions = λ x here applied. absurd here; methods = tt; uploads = tt },
+    record {
+      brought = λ x here. absurd here;
+      table = λ x here. absurd here;
+      preconditions = λ x here applied. absurd here;
+      methods = tt;
+      uploads = tt;
+    },
     served_right past (lawful_back config past (OfClient c) law),
   )
-  served_right (OfServer c ∷ past) law = (served_here past c law, served_right past (lawful_back config past (OfServer c) law))
+  served_right (OfServer c ∷ past) law = (
+    served_here past c law,
+    served_right past (lawful_back config past (OfServer c) law),
+  )

@@ -27,21 +27,25 @@ near_later P (Far e ∷ front) hs h = near_later P front hs h
 
 module _ (config : Config) where
   -- .. and what was sent
-  pub sent_later : (x : Sending) (past : List Entry) (e : Entry) → WasSent config.client_szx x (client_of past) → WasSent config.client_szx x (client_of (e ∷ past))
+  pub sent_later : (x : Sending) (past : List Entry) (e : Entry) → WasSent config.client_szx x (client_of past)
+      → WasSent config.client_szx x (client_of (e ∷ past))
   sent_later x past (OfClient c) h = inr h
   sent_later x past (OfServer c) h = h
 
   abbrev delays : List S.Delay → List S.Call
   delays ds = map (λ (d : S.Delay). S.Delays d.path d.ms true) ds
 
-  none_brought : (a : Asked) (q : Question) (ds : List S.Delay) → Sometime (λ old b. Brings config.limit config.server_szx config.server_word old b a q) (delays ds) → ⊥
+  none_brought : (a : Asked) (q : Question) (ds : List S.Delay)
+      → Sometime (λ old b. Brings config.limit config.server_szx config.server_word old b a q) (delays ds) → ⊥
   none_brought a q [] h = h
   none_brought a q (d ∷ ds) (inr h) = none_brought a q ds h
   none_brought a q (d ∷ ds) (inl k) =
       let none : [] ≡ k.comes.news = same_front [] k.comes.news (server_layer config (delays ds)) k.comes.is in
       subst (Ever (HandsUp config.server_szx a k.verdict)) (sym none) k.comes.here
 
-  pub brought_in : (a : Asked) (q : Question) (w : List Entry) → Sometime (λ old b. Brings config.limit config.server_szx config.server_word old b a q) (server_trace config w) → Sometime (BroughtAt config a q) w
+  pub brought_in : (a : Asked) (q : Question) (w : List Entry)
+      → Sometime (λ old b. Brings config.limit config.server_szx config.server_word old b a q) (server_trace config w)
+      → Sometime (BroughtAt config a q) w
   brought_in a q [] h = absurd (none_brought a q config.delays h)
   brought_in a q (OfClient c ∷ past) h = inr (brought_in a q past h)
   brought_in a q (OfServer c ∷ past) (inl h) = inl h
@@ -66,10 +70,12 @@ module _ (config : Config) where
         asks = k.asks;
         came = k.came;
         sent = sent_later k.came.sending w e k.sent;
-        begun_before = near_later (λ b. begun b ≡ Some k.came.con) (hops_at config w e) (hops_in config w) k.begun_before;
+        begun_before = near_later (λ b. begun b ≡ Some k.came.con) (hops_at config w e)
+            (hops_in config w) k.begun_before;
       }
 
-  pub traced : (a : Asked) (q : Question) (w : List Entry) → CamesFrom config w → a.from ≡ client_end → Sometime (BroughtAt config a q) w → Traced a q w
+  pub traced : (a : Asked) (q : Question) (w : List Entry) → CamesFrom config w → a.from ≡ client_end
+      → Sometime (BroughtAt config a q) w → Traced a q w
   traced a q [] came from h = absurd h
   traced a q (OfClient c ∷ w) came from (inl h) = absurd h
   traced a q (OfServer c ∷ w) came from (inl h) =
@@ -81,6 +87,7 @@ module _ (config : Config) where
         asks = h.asks;
         came = k;
         sent = k.sent;
-        begun_before = near_later (λ b. begun b ≡ Some k.con) (hops_at config w (OfServer c)) (hops_in config w) k.begun_before;
+        begun_before = near_later (λ b. begun b ≡ Some k.con) (hops_at config w (OfServer c))
+            (hops_in config w) k.begun_before;
       }
   traced a q (e ∷ w) came from (inr h) = later a q e w (traced a q w came.1 from h)

@@ -30,18 +30,23 @@ order_begun a b (e ∷ t) (inl h) = inl h.0
 order_begun a b (e ∷ t) (inr h) = inr (order_begun a b t h)
 
 one_begun : (a b : Open) (t : List T.Entry) → Ever (λ e. Begins a e × Begins b e) t → a ≡ b
-one_begun a b t h = some_of (a ≡ b) (λ e. Begins a e × Begins b e) (λ e k. let p = k.0 in let q = k.1 in let both : Some a ≡ Some b = sym p ∙ q in cc both) t h
+one_begun a b t h = some_of (a ≡ b) (λ e. Begins a e × Begins b e)
+    (λ e k. let p = k.0 in let q = k.1 in let both : Some a ≡ Some b = sym p ∙ q in cc both) t h
 
 -- of a beginning and of an order that happened, which was first
 order_first : (B : T.Entry → Type 0) (old new : Open) (t : List T.Entry) → Sometime (Order old new) t → Ever B t
-    → Ever (λ e. Begins new e × B e) t ⊎ (Sometime (λ p e. B e × Sometime (Order old new) p) t ⊎ Sometime (λ p e. Order old new p e × Ever B p) t)
+    → Ever (λ e. Begins new e × B e) t ⊎ (Sometime (λ p e. B e × Sometime (Order old new) p) t
+    ⊎ Sometime (λ p e. Order old new p e × Ever B p) t)
 order_first B old new [] a b = absurd a
 order_first B old new (e ∷ t) (inl a) (inl b) = inl (inl (a.0, b))
 order_first B old new (e ∷ t) (inl a) (inr b) = inr (inr (inl (a, b)))
 order_first B old new (e ∷ t) (inr a) (inl b) = inr (inl (inl (b, a)))
-order_first B old new (e ∷ t) (inr a) (inr b) = ⊎_elim (λ x. inl (inr x)) (λ y. ⊎_elim (λ x. inr (inl (inr x))) (λ x. inr (inr (inr x))) y) (order_first B old new t a b)
+order_first B old new (e ∷ t) (inr a) (inr b) =
+    ⊎_elim (λ x. inl (inr x)) (λ y. ⊎_elim (λ x. inr (inl (inr x))) (λ x. inr (inr (inr x))) y)
+    (order_first B old new t a b)
 
-module _ (config : Config) (all : List Entry) (small : config.client_szx ≤ 6) (whole : Lawful config all) (in_range : (x : Taken) → WasTaken x (client_of all) → IsRequest x.request) where
+module _ (config : Config) (all : List Entry) (small : config.client_szx ≤ 6) (whole : Lawful config all)
+    (in_range : (x : Taken) → WasTaken x (client_of all) → IsRequest x.request) where
   abbrev PartOf : List Entry → Type 0
   PartOf w = Part config all small whole in_range w
 
@@ -58,62 +63,88 @@ module _ (config : Config) (all : List Entry) (small : config.client_szx ≤ 6) 
     pub begun_before : Begun config con w
     pub up : Ever (OnFar (HandsUpAs client_end con)) (hops_in config w)
 
-  pub up_next : (con : Open) (x : Sending) (k : ℕ) (past : List Entry) (e : Entry) → Up con x k past → Up con x k (e ∷ past)
+  pub up_next : (con : Open) (x : Sending) (k : ℕ) (past : List Entry) (e : Entry) → Up con x k past
+      → Up con x k (e ∷ past)
   up_next con x k past e u =
-      record { known = u.known; to = u.to; begun_before = begun_later config past e (Begins con) u.begun_before; up = Ever_back (OnFar (HandsUpAs client_end con)) (hops_at config past e) (hops_in config past) u.up }
+      record {
+        known = u.known;
+        to = u.to;
+        begun_before = begun_later config past e (Begins con) u.begun_before;
+        up = Ever_back (OnFar (HandsUpAs client_end con)) (hops_at config past e) (hops_in config past) u.up;
+      }
 
   up_later : (con : Open) (x : Sending) (k : ℕ) (later w : List Entry) → Up con x k w → Up con x k (later ++ w)
   up_later con x k [] w u = u
   up_later con x k (e ∷ later) w u = up_next con x k (later ++ w) e (up_later con x k later w u)
 
-  order_next : (a b : Open) (past : List Entry) (e : Entry) → Sometime (Order a b) (near_of (hops_in config past)) → Sometime (Order a b) (near_of (hops_in config (e ∷ past)))
+  order_next : (a b : Open) (past : List Entry) (e : Entry) → Sometime (Order a b) (near_of (hops_in config past))
+      → Sometime (Order a b) (near_of (hops_in config (e ∷ past)))
   order_next a b past (OfClient c) k =
-      subst (Sometime (Order a b)) (sym (near_near (client_adds config (client_of past) c) (hops_in config past))) (Sometime_back (Order a b) (client_adds config (client_of past) c) (near_of (hops_in config past)) k)
-  order_next a b past (OfServer c) k = subst (Sometime (Order a b)) (sym (near_far (server_adds config (server_trace config past) c) (hops_in config past))) k
+      subst (Sometime (Order a b)) (sym (near_near (client_adds config (client_of past) c) (hops_in config past)))
+      (Sometime_back (Order a b) (client_adds config (client_of past) c) (near_of (hops_in config past)) k)
+  order_next a b past (OfServer c) k = subst (Sometime (Order a b))
+      (sym (near_far (server_adds config (server_trace config past) c) (hops_in config past))) k
 
-  order_later : (a b : Open) (later w : List Entry) → Sometime (Order a b) (near_of (hops_in config w)) → Sometime (Order a b) (near_of (hops_in config (later ++ w)))
+  order_later : (a b : Open) (later w : List Entry) → Sometime (Order a b) (near_of (hops_in config w))
+      → Sometime (Order a b) (near_of (hops_in config (later ++ w)))
   order_later a b [] w k = k
   order_later a b (e ∷ later) w k = order_next a b (later ++ w) e (order_later a b later w k)
 
   -- the block that is taken here
-  pub known_of : (z : Took) (past : List Entry) (c : S.Call) → PartOf (OfServer c ∷ past) → (o : Upload z past c) → KnownTo o.block.came.con o.block.came.sending o.number
+  pub known_of : (z : Took) (past : List Entry) (c : S.Call) → PartOf (OfServer c ∷ past) → (o : Upload z past c)
+      → KnownTo o.block.came.con o.block.came.sending o.number
   known_of z past c p o =
       let earlier = part_back config all small whole in_range past (OfServer c) p in
       let k = o.block.came in
-      record { sent = earlier.sent k.sending k.sent; begun_there = earlier.begun_there k.con k.begun_before; carries = record { is = k.is; are_bytes = k.are_bytes; spells = k.spells }; block = o.part_of }
+      record {
+        sent = earlier.sent k.sending k.sent;
+        begun_there = earlier.begun_there k.con k.begun_before;
+        carries = record { is = k.is; are_bytes = k.are_bytes; spells = k.spells };
+        block = o.part_of;
+      }
 
-  pub up_of : (z : Took) (past : List Entry) (c : S.Call) → PartOf (OfServer c ∷ past) → (o : Upload z past c) → Up o.block.came.con o.block.came.sending o.number (OfServer c ∷ past)
+  pub up_of : (z : Took) (past : List Entry) (c : S.Call) → PartOf (OfServer c ∷ past) → (o : Upload z past c)
+      → Up o.block.came.con o.block.came.sending o.number (OfServer c ∷ past)
   up_of z past c p o =
       let k = o.block.came in
       record {
         known = known_of z past c p o;
         to = (k.is).to;
         begun_before = begun_later config past (OfServer c) (Begins k.con) k.begun_before;
-        up = Ever_front (OnFar (HandsUpAs client_end k.con)) (hops_at config past (OfServer c)) (hops_in config past) k.arrives;
+        up = Ever_front (OnFar (HandsUpAs client_end k.con)) (hops_at config past (OfServer c))
+            (hops_in config past) k.arrives;
       }
 
   -- the requests of one CON are of one call
   same_call : (a b : Open) (x y : Sending) (i j : ℕ) → KnownTo a x i → KnownTo b y j → a ≡ b → i ≡ j
   same_call a b x y i j k l same =
-      let e : x ≡ y = is_that config all small whole in_range b y x j l k.sent (subst (λ z. IsRequestOf server_end z x) same (k.carries).is) in
-      let numbers : Some i ≡ Some j = sym (call_is x i k.block) ∙ (ap (λ (s : Sending). call_of s.operation) e ∙ call_is y j l.block) in
+      let e : x ≡ y = is_that config all small whole in_range b y x j l k.sent
+      (subst (λ z. IsRequestOf server_end z x) same (k.carries).is) in
+      let numbers : Some i ≡ Some j = sym (call_is x i k.block)
+      ∙ (ap (λ (s : Sending). call_of s.operation) e ∙ call_is y j l.block) in
       cc numbers
 
   -- here a block of one call comes, behind one of another call that began later
-  not_behind : (past : List Entry) (c : S.Call) → PartOf (OfServer c ∷ past) → (z : Took) (o : Upload z past c) (con : Open) (y : Sending) (j : ℕ) → Up con y j past → o.number ≢ j
+  not_behind : (past : List Entry) (c : S.Call) → PartOf (OfServer c ∷ past)
+      → (z : Took) (o : Upload z past c) (con : Open) (y : Sending) (j : ℕ) → Up con y j past → o.number ≢ j
       → Sometime (Order o.block.came.con con) (near_of (hops_in config past)) → ⊥
   not_behind past c p z o con y j u differ order =
       let earlier = part_back config all small whole in_range past (OfServer c) p in
       let k = o.block.came in
       let knows = known_of z past c p o in
-      let found = finds config all small whole in_range k.con con k.sending y o.number j knows u.known differ past earlier order in
-      let f = follows config all small whole in_range k.con con k.sending y o.number j knows u.known differ ((k.is).to ∙ sym u.to) past earlier found in
+      let found = finds config all small whole in_range k.con con k.sending y o.number j knows u.known differ past
+      earlier order in
+      let f = follows config all small whole in_range k.con con k.sending y o.number j knows u.known differ
+      ((k.is).to ∙ sym u.to) past earlier found in
       apart_at client_end k.con con (server_adds config (server_trace config past) c) (hops_in config past)
-      (cons_apart config.client_word config.server_word client_end server_end (hops_in config (OfServer c ∷ past)) p.law.channel) f u.up k.arrives
+      (cons_apart config.client_word config.server_word client_end server_end
+      (hops_in config (OfServer c ∷ past)) p.law.channel) f u.up k.arrives
 
-  turn_of : (w : List Entry) → PartOf w → (a b : Open) (x y : Sending) (i j : ℕ) → KnownTo a x i → KnownTo b y j → i ≢ j → Sometime (Order a b) (near_of (hops_in config w)) → i ≤ j
+  turn_of : (w : List Entry) → PartOf w → (a b : Open) (x y : Sending) (i j : ℕ) → KnownTo a x i → KnownTo b y j → i ≢ j
+      → Sometime (Order a b) (near_of (hops_in config w)) → i ≤ j
   turn_of w p a b x y i j k l differ order =
-      in_turn config all small whole in_range a b x y i j k l differ w p (finds config all small whole in_range a b x y i j k l differ w p order)
+      in_turn config all small whole in_range a b x y i j k l differ w p
+      (finds config all small whole in_range a b x y i j k l differ w p order)
 
   -- a block of a call came, freed from its place
   pub record First (n : ℕ) (w : List Entry) : Type 0 where
@@ -122,8 +153,10 @@ module _ (config : Config) (all : List Entry) (small : config.client_szx ≤ 6) 
     pub up : Up con sending n w
 
   -- the last block, of the call; one that came between, behind the first, is of it too
-  module _ (n : ℕ) (past : List Entry) (c : S.Call) (p : PartOf (OfServer c ∷ past)) (x : Took) (k : Upload x past c) (of_call : k.number ≡ n) where
-    module _ (later w : List Entry) (d : S.Call) (is : past ≡ later ++ OfServer d ∷ w) (q : PartOf (OfServer d ∷ w)) (z : Took) (l : Upload z w d) (f : First n w) (differ : l.number ≢ n) where
+  module _ (n : ℕ) (past : List Entry) (c : S.Call) (p : PartOf (OfServer c ∷ past)) (x : Took) (k : Upload x past c)
+      (of_call : k.number ≡ n) where
+    module _ (later w : List Entry) (d : S.Call) (is : past ≡ later ++ OfServer d ∷ w) (q : PartOf (OfServer d ∷ w))
+        (z : Took) (l : Upload z w d) (f : First n w) (differ : l.number ≢ n) where
       abbrev con : Open
       con = l.block.came.con
 
@@ -146,35 +179,47 @@ module _ (config : Config) (all : List Entry) (small : config.client_szx ≤ 6) 
       since = part_back config all small whole in_range past (OfServer c) p
 
       up : Up con middle l.number past
-      up = subst (Up con middle l.number) (sym is) (up_later con middle l.number later (OfServer d ∷ w) (up_of z w d q l))
+      up = subst (Up con middle l.number) (sym is)
+          (up_later con middle l.number later (OfServer d ∷ w) (up_of z w d q l))
 
       behind_first : Sometime (Order f.con con) (near_of (hops_in config w)) → ⊥
-      behind_first here = ⊎_elim same_last (λ r. ⊎_elim behind_middle before_last r) (order_first (Begins last) f.con con (near_of (hops_in config past)) there k.block.came.begun_before)
+      behind_first here = ⊎_elim same_last (λ r. ⊎_elim behind_middle before_last r)
+          (order_first (Begins last) f.con con (near_of (hops_in config past)) there k.block.came.begun_before)
         where
           there : Sometime (Order f.con con) (near_of (hops_in config past))
-          there = subst (λ t. Sometime (Order f.con con) (near_of (hops_in config t))) (sym is) (order_later f.con con later (OfServer d ∷ w) (order_next f.con con w (OfServer d) here))
+          there = subst (λ t. Sometime (Order f.con con) (near_of (hops_in config t))) (sym is)
+              (order_later f.con con later (OfServer d ∷ w) (order_next f.con con w (OfServer d) here))
 
           same_last : Ever (λ e. Begins con e × Begins last e) (near_of (hops_in config past)) → ⊥
-          same_last r = from_last (same_call con last middle k.block.came.sending l.number k.number known known_last (one_begun con last (near_of (hops_in config past)) r))
+          same_last r = from_last (same_call con last middle k.block.came.sending l.number k.number known known_last
+              (one_begun con last (near_of (hops_in config past)) r))
 
-          behind_middle : Sometime (λ t e. Begins last e × Sometime (Order f.con con) t) (near_of (hops_in config past)) → ⊥
+          behind_middle : Sometime (λ t e. Begins last e × Sometime (Order f.con con) t) (near_of (hops_in config past))
+              → ⊥
           behind_middle r =
-              let a = turn_of w (part_back config all small whole in_range w (OfServer d) q) f.con con f.sending middle n l.number f.up.known known (λ e. differ (sym e)) here in
-              let b = turn_of past since con last middle k.block.came.sending l.number k.number known known_last from_last
-              (Sometime_map (λ t e. Begins last e × Sometime (Order f.con con) t) (Order con last) (λ t e s. (s.0, order_begun f.con con t s.1)) (near_of (hops_in config past)) r)
+              let a = turn_of w (part_back config all small whole in_range w (OfServer d) q) f.con con f.sending middle
+              n l.number f.up.known known (λ e. differ (sym e)) here in
+              let b = turn_of past since con last middle k.block.came.sending l.number k.number known known_last
+              from_last
+              (Sometime_map (λ t e. Begins last e × Sometime (Order f.con con) t) (Order con last)
+              (λ t e s. (s.0, order_begun f.con con t s.1)) (near_of (hops_in config past)) r)
               in
               differ (omega (arith, a, b, of_call))
 
           before_last : Sometime (λ t e. Order f.con con t e × Ever (Begins last) t) (near_of (hops_in config past)) → ⊥
           before_last r =
               not_behind past c p x k con middle l.number up (λ e. from_last (sym e))
-              (Sometime_map (λ t e. Order f.con con t e × Ever (Begins last) t) (Order last con) (λ t e s. (s.0.0, s.1)) (near_of (hops_in config past)) r)
+              (Sometime_map (λ t e. Order f.con con t e × Ever (Begins last) t) (Order last con) (λ t e s. (s.0.0, s.1))
+              (near_of (hops_in config past)) r)
 
       pub none_between : ⊥
-      none_between = ⊎_elim same (λ r. ⊎_elim behind before r) (which_first (Begins f.con) (Begins con) (near_of (hops_in config w)) f.up.begun_before l.block.came.begun_before)
+      none_between = ⊎_elim same (λ r. ⊎_elim behind before r)
+          (which_first (Begins f.con) (Begins con) (near_of (hops_in config w)) f.up.begun_before
+          l.block.came.begun_before)
         where
           same : Ever (λ e. Begins f.con e × Begins con e) (near_of (hops_in config w)) → ⊥
-          same h = differ (sym (same_call f.con con f.sending middle n l.number f.up.known known (one_begun f.con con (near_of (hops_in config w)) h)))
+          same h = differ (sym (same_call f.con con f.sending middle n l.number f.up.known known
+              (one_begun f.con con (near_of (hops_in config w)) h)))
 
           before : Sometime (λ t e. Begins f.con e × Ever (Begins con) t) (near_of (hops_in config w)) → ⊥
           before h = not_behind w d q z l f.con f.sending n f.up differ h

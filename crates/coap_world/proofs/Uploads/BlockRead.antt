@@ -43,9 +43,12 @@ use Rattle.coap_world.proofs.Requests.LastRequests.{method_is, no_fetch, sends_b
 use Rattle.coap_world.proofs.Requests.ReadBack.{Changes, path_back, block_back}
 
 -- what uploads a block changes something
-uploading_changes : (method : Method) (p q : Question) (o : Option Block) (b : Block) → p.method ≡ method → uploading method p o ≡ UploadsBlock q b → Changes q.method
-uploading_changes Put p q (Some z) b is h = let same : p ≡ q = cc h in subst Changes (sym is ∙ ap (λ (k : Question). k.method) same) tt
-uploading_changes Post p q (Some z) b is h = let same : p ≡ q = cc h in subst Changes (sym is ∙ ap (λ (k : Question). k.method) same) tt
+uploading_changes : (method : Method) (p q : Question) (o : Option Block) (b : Block) → p.method ≡ method
+    → uploading method p o ≡ UploadsBlock q b → Changes q.method
+uploading_changes Put p q (Some z) b is h = let same : p
+    ≡ q = cc h in subst Changes (sym is ∙ ap (λ (k : Question). k.method) same) tt
+uploading_changes Post p q (Some z) b is h = let same : p
+    ≡ q = cc h in subst Changes (sym is ∙ ap (λ (k : Question). k.method) same) tt
 uploading_changes Get p q (Some z) b is h = absurd (cc h)
 uploading_changes Delete p q (Some z) b is h = absurd (cc h)
 uploading_changes Put p q None b is h = absurd (cc h)
@@ -53,17 +56,21 @@ uploading_changes Post p q None b is h = absurd (cc h)
 uploading_changes Get p q None b is h = absurd (cc h)
 uploading_changes Delete p q None b is h = absurd (cc h)
 
-cond_refused : (c d : Bool) (n k : ℕ) (v : Verdict) (q : Question) (b : Block) → cond c (Refused n) (cond d (Refused k) v) ≡ UploadsBlock q b → v ≡ UploadsBlock q b
+cond_refused : (c d : Bool) (n k : ℕ) (v : Verdict) (q : Question) (b : Block)
+    → cond c (Refused n) (cond d (Refused k) v) ≡ UploadsBlock q b → v ≡ UploadsBlock q b
 cond_refused true d n k v q b h = absurd (cc h)
 cond_refused false true n k v q b h = absurd (cc h)
 cond_refused false false n k v q b h = h
 
-asked_changes : (szx : ℕ) (o : Option Method) (m : Message) (q : Question) (b : Block) → asked_by szx o m ≡ UploadsBlock q b → Changes q.method
+asked_changes : (szx : ℕ) (o : Option Method) (m : Message) (q : Question) (b : Block)
+    → asked_by szx o m ≡ UploadsBlock q b → Changes q.method
 asked_changes szx None m q b h = absurd (cc h)
 asked_changes szx (Some method) m q b h =
     let said : Option Block = block_said (uint_at block1 (asks m)) in
     uploading_changes method (question szx method m) q said b refl
-    (cond_refused (nat_lt max_segments (length (path_of (asks m)))) (is_reserved (uint_at block1 (asks m)) || is_reserved (uint_at block2 (asks m))) bad_request bad_request (uploading method (question szx method m) said) q b h)
+    (cond_refused (nat_lt max_segments (length (path_of (asks m))))
+    (is_reserved (uint_at block1 (asks m)) || is_reserved (uint_at block2 (asks m))) bad_request bad_request
+    (uploading method (question szx method m) said) q b h)
 
 bad_none : (kind : Kind) (q : Question) (b : Block) → bad_by kind ≡ UploadsBlock q b → ⊥
 bad_none Con q b h = cc h
@@ -71,10 +78,13 @@ bad_none Non q b h = cc h
 bad_none Ack q b h = cc h
 bad_none Rst q b h = cc h
 
-pub uploads_change : (szx : ℕ) (m : Message) (q : Question) (b : Block) → verdict_on szx m ≡ UploadsBlock q b → Changes q.method
-uploads_change szx m q b h = by (lacks_critical Request m.options) (has proxy_uri (asks m) || has proxy_scheme (asks m)) h
+pub uploads_change : (szx : ℕ) (m : Message) (q : Question) (b : Block) → verdict_on szx m ≡ UploadsBlock q b
+    → Changes q.method
+uploads_change szx m q b h = by (lacks_critical Request m.options)
+    (has proxy_uri (asks m) || has proxy_scheme (asks m)) h
   where
-    by : (c d : Bool) → cond c (bad_by m.kind) (cond d (Refused proxying_not_supported) (asked_by szx (method_of m.code) m)) ≡ UploadsBlock q b → Changes q.method
+    by : (c d : Bool) → cond c (bad_by m.kind) (cond d (Refused proxying_not_supported)
+        (asked_by szx (method_of m.code) m)) ≡ UploadsBlock q b → Changes q.method
     by true d k = absurd (bad_none m.kind q b k)
     by false true k = absurd (cc k)
     by false false k = asked_changes szx (method_of m.code) m q b k
@@ -92,7 +102,9 @@ pub record ReadsBlock (x : Sending) (number : ℕ) (q : Question) (b : Block) (t
   pub method : q.method ≡ request.method
   pub payload : q.body ≡ part_of upload.body upload.num upload.szx
 
-module _ (csz szx id k : ℕ) (small : csz ≤ 6) (x : Sending) (t : List C.Call) (g : IsOfCall csz k x t) (range : IfSome g.request.format (λ f. f < 65536)) (q : Question) (b : Block) (is : verdict_on szx (request_of id x) ≡ UploadsBlock q b) where
+module _ (csz szx id k : ℕ) (small : csz ≤ 6) (x : Sending) (t : List C.Call) (g : IsOfCall csz k x t)
+    (range : IfSome g.request.format (λ f. f < 65536)) (q : Question) (b : Block)
+    (is : verdict_on szx (request_of id x) ≡ UploadsBlock q b) where
   abbrev m : Message
   m = request_of id x
 
@@ -103,36 +115,46 @@ module _ (csz szx id k : ℕ) (small : csz ≤ 6) (x : Sending) (t : List C.Call
   read = subst (ReadsOf szx m) is (server_facts.reads szx m)
 
   method_same : q.method ≡ g.request.method
-  method_same = let methods : Some q.method ≡ Some g.request.method = sym read.0.method ∙ (ap method_of (code_is csz szx id k small x t g range) ∙ method_is g.request.method) in cc methods
+  method_same = let methods : Some q.method ≡ Some g.request.method = sym read.0.method
+      ∙ (ap method_of (code_is csz szx id k small x t g range) ∙ method_is g.request.method) in cc methods
 
   change : Changes g.request.method
   change = subst Changes method_same (uploads_change szx m q b is)
 
   said : uint_at block1 (asks m) ≡ uint_in (value_of block1 (block_option g.transfer))
-  said = ap (uint_at block1) (options_read csz szx id k small x t g range faultless change) ∙ ap uint_in (block_back g.request g.request.method g.transfer)
+  said = ap (uint_at block1) (options_read csz szx id k small x t g range faultless change)
+      ∙ ap uint_in (block_back g.request g.request.method g.transfer)
 
   path_same : q.path ≡ g.request.path
-  path_same = ap (λ (z : Question). z.path) read.0.is ∙ (ap path_of (options_read csz szx id k small x t g range faultless change) ∙ path_back g.request g.request.method g.transfer)
+  path_same = ap (λ (z : Question). z.path) read.0.is
+      ∙ (ap path_of (options_read csz szx id k small x t g range faultless change)
+      ∙ path_back g.request g.request.method g.transfer)
 
   none_said : (tr : Transfer) → g.transfer ≡ tr → uint_in (value_of block1 (block_option tr)) ≡ None → ⊥
-  none_said tr e none = let both : Some read.1.0 ≡ None = sym read.1.1 ∙ (said ∙ (ap (λ z. uint_in (value_of block1 (block_option z))) e ∙ none)) in cc both
+  none_said tr e none = let both : Some read.1.0 ≡ None = sym read.1.1
+      ∙ (said ∙ (ap (λ z. uint_in (value_of block1 (block_option z))) e ∙ none)) in cc both
 
   of_upload : (u : UploadState) → g.transfer ≡ Uploads u → ReadsBlock x k q b t
   of_upload u e = by (is_longer u) refl
     where
       by : (z : Bool) → is_longer u ≡ z → ReadsBlock x k q b t
-      by false short = absurd (none_said (Uploads u) e (ap (λ z. uint_in (value_of block1 (cond z (option block1 (uint (block_value (block_to_send u))) ∷ []) []))) short))
+      by false short = absurd (none_said (Uploads u) e
+          (ap (λ z. uint_in (value_of block1 (cond z (option block1 (uint (block_value (block_to_send u))) ∷ []) [])))
+          short))
       by true long =
-          let h = sends_body csz g.request.method g.request.body u change (subst (CarriesBody csz g.request.method g.request.body) e g.carries) in
+          let h = sends_body csz g.request.method g.request.body u change
+          (subst (CarriesBody csz g.request.method g.request.body) e g.carries) in
           let z = h.size in
           let size : u.szx ≤ 6 = omega (arith, z, small) in
           let n : ℕ = block_value (block_to_send u) in
           let here : uint_at block1 (asks m) ≡ Some n = said ∙ (ap (λ tr. uint_in (value_of block1 (block_option tr))) e
-          ∙ (ap (λ c. uint_in (value_of block1 (cond c (option block1 (uint n) ∷ []) []))) long ∙ uint_read n (small_value u.num u.szx (more_follows u) h.num size)))
+          ∙ (ap (λ c. uint_in (value_of block1 (cond c (option block1 (uint n) ∷ []) []))) long
+          ∙ uint_read n (small_value u.num u.szx (more_follows u) h.num size)))
           in
           let value : Some read.1.0 ≡ Some n = sym read.1.1 ∙ here in
           let same : read.1.0 ≡ n = cc value in
-          let blocks : Some b ≡ Some (block_to_send u) = sym read.1.2 ∙ (ap block_by same ∙ block_reads_back (block_to_send u) h.num size) in
+          let blocks : Some b ≡ Some (block_to_send u) = sym read.1.2
+          ∙ (ap block_by same ∙ block_reads_back (block_to_send u) h.num size) in
           record {
             request = g.request;
             taken = g.taken;
@@ -148,7 +170,8 @@ module _ (csz szx id k : ℕ) (small : csz ≤ 6) (x : Sending) (t : List C.Call
 
   by_transfer : (tr : Transfer) → g.transfer ≡ tr → ReadsBlock x k q b t
   by_transfer Single e = absurd (none_said Single e refl)
-  by_transfer (Fetches f) e = absurd (no_fetch csz g.request.method g.request.body f change (subst (CarriesBody csz g.request.method g.request.body) e g.carries))
+  by_transfer (Fetches f) e = absurd (no_fetch csz g.request.method g.request.body f change
+      (subst (CarriesBody csz g.request.method g.request.body) e g.carries))
   by_transfer (Uploads u) e = of_upload u e
 
   pub reads_block : ReadsBlock x k q b t

@@ -13,7 +13,8 @@ near_far [] hs = refl
 near_far (x ∷ xs) hs = near_far xs hs
 
 -- it happened in the later part, or in the earlier one
-pub Sometime_append : {E : Type 0} (P : List E → E → Type 0) (s t : List E) → Sometime P (s ++ t) → Sometime (λ p e. P (p ++ t) e) s ⊎ Sometime P t
+pub Sometime_append : {E : Type 0} (P : List E → E → Type 0) (s t : List E) → Sometime P (s ++ t)
+    → Sometime (λ p e. P (p ++ t) e) s ⊎ Sometime P t
 Sometime_append P [] t h = inr h
 Sometime_append P (e ∷ s) t (inl h) = inl (inl h)
 Sometime_append P (e ∷ s) t (inr h) = ⊎_elim (λ k. inl (inr k)) (λ k. inr k) (Sometime_append P s t h)

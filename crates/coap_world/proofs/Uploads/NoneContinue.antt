@@ -52,9 +52,12 @@ uploading_not Delete q (Some b) = refl
 
 asked_not : (szx : ℕ) (o : Option Method) (m : Message) → refuses_so (asked_by szx o m) ≡ false
 asked_not szx None m = refl
-asked_not szx (Some method) m = by (nat_lt max_segments (length (path_of (asks m)))) (is_reserved (uint_at block1 (asks m)) || is_reserved (uint_at block2 (asks m)))
+asked_not szx (Some method) m = by (nat_lt max_segments (length (path_of (asks m))))
+    (is_reserved (uint_at block1 (asks m)) || is_reserved (uint_at block2 (asks m)))
   where
-    by : (b c : Bool) → refuses_so (cond b (Refused bad_request) (cond c (Refused bad_request) (uploading method (question szx method m) (block_said (uint_at block1 (asks m)))))) ≡ false
+    by : (b c : Bool) → refuses_so (cond b (Refused bad_request)
+        (cond c (Refused bad_request) (uploading method (question szx method m)
+        (block_said (uint_at block1 (asks m)))))) ≡ false
     by true c = refl
     by false true = refl
     by false false = uploading_not method (question szx method m) (block_said (uint_at block1 (asks m)))
@@ -68,27 +71,34 @@ bad_not Rst = refl
 verdict_not : (szx : ℕ) (m : Message) → refuses_so (verdict_on szx m) ≡ false
 verdict_not szx m = by (lacks_critical Request m.options) (has proxy_uri (asks m) || has proxy_scheme (asks m))
   where
-    by : (b c : Bool) → refuses_so (cond b (bad_by m.kind) (cond c (Refused proxying_not_supported) (asked_by szx (method_of m.code) m))) ≡ false
+    by : (b c : Bool) → refuses_so (cond b (bad_by m.kind)
+        (cond c (Refused proxying_not_supported) (asked_by szx (method_of m.code) m))) ≡ false
     by true c = bad_not m.kind
     by false true = refl
     by false false = asked_not szx (method_of m.code) m
 
 ruling_not : (v : BlockVerdict) (code : ℕ) → refusal_by v ≡ Some code → (code == continue) ≡ false
-ruling_not (Refuse BadRequest) code h = let e : (refusal_code BadRequest).0 ≡ code = cc h in ap (λ n. n == continue) (sym e)
-ruling_not (Refuse EntityIncomplete) code h = let e : (refusal_code EntityIncomplete).0 ≡ code = cc h in ap (λ n. n == continue) (sym e)
-ruling_not (Refuse EntityTooLarge) code h = let e : (refusal_code EntityTooLarge).0 ≡ code = cc h in ap (λ n. n == continue) (sym e)
-ruling_not (Refuse Unavailable) code h = let e : (refusal_code Unavailable).0 ≡ code = cc h in ap (λ n. n == continue) (sym e)
+ruling_not (Refuse BadRequest) code h = let e : (refusal_code BadRequest).0
+    ≡ code = cc h in ap (λ n. n == continue) (sym e)
+ruling_not (Refuse EntityIncomplete) code h = let e : (refusal_code EntityIncomplete).0
+    ≡ code = cc h in ap (λ n. n == continue) (sym e)
+ruling_not (Refuse EntityTooLarge) code h = let e : (refusal_code EntityTooLarge).0
+    ≡ code = cc h in ap (λ n. n == continue) (sym e)
+ruling_not (Refuse Unavailable) code h = let e : (refusal_code Unavailable).0
+    ≡ code = cc h in ap (λ n. n == continue) (sym e)
 ruling_not (Join szx) code h = absurd (cc h)
 ruling_not Done code h = absurd (cc h)
 
-of_verdict : (uploads : AssemblyState) (at : ℕ) (a : Asked) (v : Verdict) (code : ℕ) → refuses_so v ≡ false → refusal_of uploads at a v ≡ Some code → (code == continue) ≡ false
+of_verdict : (uploads : AssemblyState) (at : ℕ) (a : Asked) (v : Verdict) (code : ℕ) → refuses_so v ≡ false
+    → refusal_of uploads at a v ≡ Some code → (code == continue) ≡ false
 of_verdict uploads at a (Refused k) code n h = let e : k ≡ code = cc h in ap (λ i. i == continue) (sym e) ∙ n
 of_verdict uploads at a (Uploads q b) code n h = ruling_not (ruling_of uploads at a q b) code h
 of_verdict uploads at a Ignored code n h = absurd (cc h)
 of_verdict uploads at a (Asks q) code n h = absurd (cc h)
 
 pub refusal_not : (s : S.Own) (c : S.Call) (code : ℕ) → refusal_in s c ≡ Some code → code ≢ continue
-refusal_not s (S.Feeds now from bytes word up (Some p) h below) code e = not_so code (of_verdict s.uploads _ p.0 (verdict_on s.szx p.1) code (verdict_not s.szx p.1) e)
+refusal_not s (S.Feeds now from bytes word up (Some p) h below) code e =
+    not_so code (of_verdict s.uploads _ p.0 (verdict_on s.szx p.1) code (verdict_not s.szx p.1) e)
 refusal_not s c code e = absurd (cc e)
 
 -- nor a notification

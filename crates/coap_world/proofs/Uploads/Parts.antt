@@ -38,12 +38,14 @@ use Rattle.coap_ends.specs.ClientSide.ClientApart.{IsBlockOf}
 use Rattle.coap_world.proofs.Uploads.BlockRead.{uploads_change, ReadsBlock, reads_block}
 
 -- what is sent for no call is a GET
-get_at : (szx : ℕ) (t : List C.Call) → OthersAreGets szx t → (x : Sending) → WasSent szx x t → call_of x.operation ≡ None → x.request.code ≡ (method_code Get).0
+get_at : (szx : ℕ) (t : List C.Call) → OthersAreGets szx t → (x : Sending) → WasSent szx x t
+    → call_of x.operation ≡ None → x.request.code ≡ (method_code Get).0
 get_at szx [] law x h none = absurd h
 get_at szx (c ∷ t) law x (inl h) none = law.0 x h none
 get_at szx (c ∷ t) law x (inr h) none = get_at szx t law.1 x h none
 
-taken_later : (x : Taken) (past : List Entry) (e : Entry) → WasTaken x (client_of past) → WasTaken x (client_of (e ∷ past))
+taken_later : (x : Taken) (past : List Entry) (e : Entry) → WasTaken x (client_of past)
+    → WasTaken x (client_of (e ∷ past))
 taken_later x past (OfClient c) h = inr h
 taken_later x past (OfServer c) h = h
 
@@ -54,7 +56,8 @@ module _ (config : Config) where
   abbrev pub Sent : Sending → List Entry → Type 0
   Sent x w = WasSent config.client_szx x (client_of w)
 
-  pub begun_later : (past : List Entry) (e : Entry) (P : T.Entry → Type 0) → Ever P (near_of (hops_in config past)) → Ever P (near_of (hops_in config (e ∷ past)))
+  pub begun_later : (past : List Entry) (e : Entry) (P : T.Entry → Type 0) → Ever P (near_of (hops_in config past))
+      → Ever P (near_of (hops_in config (e ∷ past)))
   begun_later past e P k = near_later P (hops_at config past e) (hops_in config past) k
 
   -- the CON is this request that was sent
@@ -65,7 +68,8 @@ module _ (config : Config) where
 
   -- a CON has one token
   pub same_token : (con : Open) (x y : Sending) → Carries con x → IsRequestOf server_end con y → x.token ≡ y.token
-  same_token con x y k r = ap (λ (m : Message). m.token) (same_request con (request_of con.id x) y r k.are_bytes k.spells refl)
+  same_token con x y k r = ap (λ (m : Message). m.token)
+      (same_request con (request_of con.id x) y r k.are_bytes k.spells refl)
 
   -- the block that is taken here, and the request of the client in which it came
   pub record CameBlock (z : Took) (past : List Entry) (c : S.Call) : Type 0 where
@@ -74,12 +78,21 @@ module _ (config : Config) where
     pub is : z ≡ took z.asked question block
     pub came : CameFrom config past (OfServer c) z.asked (Uploads question block)
 
-  pub came_block : (z : Took) (past : List Entry) (c : S.Call) → Lawful config (OfServer c ∷ past) → takes_block (own_of config.limit config.server_szx (server_trace config past)) c ≡ Some z → z.asked.from ≡ client_end → CameBlock z past c
+  pub came_block : (z : Took) (past : List Entry) (c : S.Call) → Lawful config (OfServer c ∷ past)
+      → takes_block (own_of config.limit config.server_szx (server_trace config past)) c ≡ Some z
+      → z.asked.from ≡ client_end → CameBlock z past c
   came_block z past c law here from =
-      let k = (server_facts.blocks config.limit config.server_szx config.server_word (server_trace config (OfServer c ∷ past)) law.server).0 z here in
-      record { question = k.question; block = k.block; is = k.is; came = law.came.0 z.asked (Uploads k.question k.block) k.comes from }
+      let k = (server_facts.blocks config.limit config.server_szx config.server_word
+      (server_trace config (OfServer c ∷ past)) law.server).0 z here in
+      record {
+        question = k.question;
+        block = k.block;
+        is = k.is;
+        came = law.came.0 z.asked (Uploads k.question k.block) k.comes from;
+      }
 
-  module _ (all : List Entry) (small : config.client_szx ≤ 6) (whole : Lawful config all) (in_range : (x : Taken) → WasTaken x (client_of all) → IsRequest x.request) where
+  module _ (all : List Entry) (small : config.client_szx ≤ 6) (whole : Lawful config all)
+      (in_range : (x : Taken) → WasTaken x (client_of all) → IsRequest x.request) where
     -- the laws of a part of the record; what was sent then, was sent in the whole of it
     pub record Part (w : List Entry) : Type 0 where
       pub law : Lawful config w
@@ -96,8 +109,11 @@ module _ (config : Config) where
     }
 
     -- a token of a call is of one request
-    pub one_sending : (x y : Sending) (number : ℕ) → Sent x all → Sent y all → call_of y.operation ≡ Some number → x.token ≡ y.token → x ≡ y
-    one_sending x y number sent there of token = by (client_facts.tokens server_end config.client_szx config.client_word (client_of all) whole.client x y sent there token)
+    pub one_sending : (x y : Sending) (number : ℕ) → Sent x all → Sent y all → call_of y.operation ≡ Some number
+        → x.token ≡ y.token → x ≡ y
+    one_sending x y number sent there of token =
+        by (client_facts.tokens server_end config.client_szx config.client_word
+        (client_of all) whole.client x y sent there token)
       where
         by : (x ≡ y) ⊎ (Deregisters x y ⊎ Deregisters y x) → x ≡ y
         by (inl same) = same
@@ -105,19 +121,26 @@ module _ (config : Config) where
         by (inr (inr d)) = absurd (no_call y x number of d)
 
     -- .. and of one CON
-    not_registers : (k : Sending) (number : ℕ) → Sent k all → call_of k.operation ≡ Some number → (con other : Open) (m : Message) → AreBytes con.bytes → Spells con.bytes m → con.id ≡ m.id → m.token ≡ k.token
+    not_registers : (k : Sending) (number : ℕ) → Sent k all → call_of k.operation ≡ Some number
+        → (con other : Open) (m : Message) → AreBytes con.bytes → Spells con.bytes m → con.id ≡ m.id → m.token ≡ k.token
         → Ends server_end config.client_szx (client_of all) con other → ⊥
     not_registers k number sent of con other m are spells id token e =
-        let same = one_sending e.first k number e.first_sent sent of (sym (ap (λ (z : Message). z.token) (same_request con m e.first e.begins are spells id)) ∙ token) in
+        let same = one_sending e.first k number e.first_sent sent of
+        (sym (ap (λ (z : Message). z.token) (same_request con m e.first e.begins are spells id)) ∙ token) in
         no_call e.first e.second number (ap (λ (z : Sending). call_of z.operation) same ∙ of) e.deregisters
 
-    pub one_con : (k : Sending) (number : ℕ) → Sent k all → call_of k.operation ≡ Some number → (a b : Open) → Begun a all → Begun b all → (x y : Message) → AreBytes a.bytes → AreBytes b.bytes → Spells a.bytes x → Spells b.bytes y → a.id ≡ x.id → b.id ≡ y.id
+    pub one_con : (k : Sending) (number : ℕ) → Sent k all → call_of k.operation ≡ Some number → (a b : Open)
+        → Begun a all → Begun b all → (x y : Message) → AreBytes a.bytes → AreBytes b.bytes → Spells a.bytes x
+        → Spells b.bytes y → a.id ≡ x.id → b.id ≡ y.id
         → x.token ≡ k.token → y.token ≡ k.token → a ≡ b
     one_con k number sent of a b i j x y ab bb sa sb ia ib ta tb =
         let near = near_is config all in
-        by (client_facts.one_con server_end config.client_szx config.client_word (client_of all) whole.client a b (subst (Ever (λ e. begun e ≡ Some a)) near i) (subst (Ever (λ e. begun e ≡ Some b)) near j) x y ab bb sa sb (ta ∙ sym tb))
+        by (client_facts.one_con server_end config.client_szx config.client_word (client_of all) whole.client a b
+        (subst (Ever (λ e. begun e ≡ Some a)) near i) (subst (Ever (λ e. begun e ≡ Some b)) near j) x y ab bb sa sb
+        (ta ∙ sym tb))
       where
-        by : (a ≡ b) ⊎ (Ends server_end config.client_szx (client_of all) a b ⊎ Ends server_end config.client_szx (client_of all) b a) → a ≡ b
+        by : (a ≡ b) ⊎ (Ends server_end config.client_szx (client_of all) a b
+            ⊎ Ends server_end config.client_szx (client_of all) b a) → a ≡ b
         by (inl same) = same
         by (inr (inl e)) = absurd (not_registers k number sent of a b x ab sa ia ta e)
         by (inr (inr e)) = absurd (not_registers k number sent of b a y bb sb ib tb e)
@@ -130,7 +153,9 @@ module _ (config : Config) where
       pub reads : ReadsBlock block.came.sending number block.question block.block (client_of past)
       pub part_of : IsBlockOf block.came.sending number
 
-    pub of_upload : (z : Took) (past : List Entry) (c : S.Call) → Part (OfServer c ∷ past) → takes_block (own_of config.limit config.server_szx (server_trace config past)) c ≡ Some z → z.asked.from ≡ client_end → OfUpload z past c
+    pub of_upload : (z : Took) (past : List Entry) (c : S.Call) → Part (OfServer c ∷ past)
+        → takes_block (own_of config.limit config.server_szx (server_trace config past)) c ≡ Some z
+        → z.asked.from ≡ client_end → OfUpload z past c
     of_upload z past c p here from = by (call_of k.came.sending.operation) refl
       where
         k : CameBlock z past c
@@ -144,12 +169,27 @@ module _ (config : Config) where
 
         by : (o : Option ℕ) → call_of k.came.sending.operation ≡ o → OfUpload z past c
         by None none =
-            let code = get_at config.client_szx (client_of past) (client_facts.others config.client_szx (client_of past)) k.came.sending k.came.sent none in
+            let code = get_at config.client_szx (client_of past)
+            (client_facts.others config.client_szx (client_of past)) k.came.sending k.came.sent none in
             let methods : Some k.question.method ≡ Some Get = sym read.0.method ∙ (ap method_of code ∙ method_is Get) in
             let get : k.question.method ≡ Get = cc methods in
             absurd (subst Changes get (uploads_change config.server_szx m k.question k.block k.came.verdict))
         by (Some number) of =
-            let g = of_call_at config.client_szx (client_of past) (client_facts.of_calls config.client_szx (client_of past)) k.came.sending number k.came.sent of in
-            let range = (in_range (record { number = number; request = g.request }) (p.taken (record { number = number; request = g.request }) g.taken)).format in
-            let r = reads_block config.client_szx config.server_szx k.came.con.id number small k.came.sending (client_of past) g range k.question k.block k.came.verdict in
-            record { block = k; number = number; of = of; reads = r; part_of = record { block = record { number = number; upload = r.upload }; carries = r.carries; number_is = refl; longer = r.longer } }
+            let g = of_call_at config.client_szx (client_of past)
+            (client_facts.of_calls config.client_szx (client_of past)) k.came.sending number k.came.sent of in
+            let range = (in_range (record { number = number; request = g.request })
+            (p.taken (record { number = number; request = g.request }) g.taken)).format in
+            let r = reads_block config.client_szx config.server_szx k.came.con.id number small k.came.sending
+            (client_of past) g range k.question k.block k.came.verdict in
+            record {
+              block = k;
+              number = number;
+              of = of;
+              reads = r;
+              part_of = record {
+                block = record { number = number; upload = r.upload };
+                carries = r.carries;
+                number_is = refl;
+                longer = r.longer;
+              };
+            }

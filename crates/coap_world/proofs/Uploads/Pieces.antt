@@ -24,16 +24,29 @@ whole_is parts a b w pieces = one_body_at_server parts a b w (inl (in_order w))
   where
     in_order : WholeAtServer parts a → InOrder parts b
     in_order (inl k) = record { pieces = pieces; chained = k.chained; ends = k.ends }
-    in_order (inr k) = record { pieces = pieces; chained = k.chained; ends = subst Ends (sym k.split) (ends_behind k.front k.last k.closes) }
+    in_order (inr k) = record {
+      pieces = pieces;
+      chained = k.chained;
+      ends = subst Ends (sym k.split) (ends_behind k.front k.last k.closes);
+    }
 
 -- what is sent is a piece
-begins_at : (szx : ℕ) (t : List C.Call) → SendsPieces szx t → (x : Sending) (number : ℕ) (u : UploadState) → WasSent szx x t → carried x.operation ≡ Some (record { number = number; upload = u }) → Begins u.body u.num u.szx
+begins_at : (szx : ℕ) (t : List C.Call) → SendsPieces szx t → (x : Sending) (number : ℕ) (u : UploadState)
+    → WasSent szx x t → carried x.operation ≡ Some (record { number = number; upload = u }) → Begins u.body u.num u.szx
 begins_at szx [] law x number u h of = absurd h
 begins_at szx (c ∷ t) law x number u (inl h) of = ((law.0 x (record { number = number; upload = u }) h of).sent).begins
 begins_at szx (c ∷ t) law x number u (inr h) of = begins_at szx t law.1 x number u h of
 
-piece_of_body : (u : UploadState) → Begins u.body u.num u.szx → Piece u.body u.num (more_follows u) u.szx (part_of u.body u.num u.szx)
-piece_of_body u h = record { bytes = refl; begins = h; reaches_end = (λ k. ends (offset_of u.num u.szx + size_of u.szx) (length u.body) k, λ k. over (offset_of u.num u.szx + size_of u.szx) (length u.body) k) }
+piece_of_body : (u : UploadState) → Begins u.body u.num u.szx
+    → Piece u.body u.num (more_follows u) u.szx (part_of u.body u.num u.szx)
+piece_of_body u h = record {
+  bytes = refl;
+  begins = h;
+  reaches_end = (
+    λ k. ends (offset_of u.num u.szx + size_of u.szx) (length u.body) k,
+    λ k. over (offset_of u.num u.szx + size_of u.szx) (length u.body) k,
+  );
+}
   where
     ends : (a b : ℕ) → nat_lt a b ≡ false → b ≤ a
     ends a b k = grind (arith, nat_tests, k)
@@ -41,14 +54,19 @@ piece_of_body u h = record { bytes = refl; begins = h; reaches_end = (λ k. ends
     over : (a b : ℕ) → b ≤ a → nat_lt a b ≡ false
     over a b k = grind (arith, nat_tests, k)
 
-pub sent_piece : (szx : ℕ) (t : List C.Call) → SendsPieces szx t → (x : Sending) (number : ℕ) (u : UploadState) → WasSent szx x t → carried x.operation ≡ Some (record { number = number; upload = u })
-    → (q : Question) (b : Block) → b ≡ block_to_send u → q.body ≡ part_of u.body u.num u.szx → IsPieceOf u.body (part b None q.body)
+pub sent_piece : (szx : ℕ) (t : List C.Call) → SendsPieces szx t → (x : Sending) (number : ℕ) (u : UploadState)
+    → WasSent szx x t → carried x.operation ≡ Some (record { number = number; upload = u })
+    → (q : Question) (b : Block) → b ≡ block_to_send u → q.body ≡ part_of u.body u.num u.szx
+    → IsPieceOf u.body (part b None q.body)
 sent_piece szx t law x number u h of q b is payload =
-    subst (λ z. IsPieceOf u.body (part z None q.body)) (sym is) (subst (λ z. IsPieceOf u.body (part (block_to_send u) None z)) (sym payload) (piece_of_body u (begins_at szx t law x number u h of)))
+    subst (λ z. IsPieceOf u.body (part z None q.body)) (sym is)
+    (subst (λ z. IsPieceOf u.body (part (block_to_send u) None z)) (sym payload)
+    (piece_of_body u (begins_at szx t law x number u h of)))
 
 -- a number is of one call
 given_by : (x : Taken) (c : C.Call) → takes c ≡ Some x → number_given c ≡ Some x.number
-given_by x (C.Calls now r (Ok number)) h = let e : ◌≡◌ {A = Taken} (record { number = number; request = r }) x = cc h in ap (λ (z : Taken). Some z.number) e
+given_by x (C.Calls now r (Ok number)) h = let e : ◌≡◌ {A = Taken} (record { number = number; request = r }) x =
+    cc h in ap (λ (z : Taken). Some z.number) e
 given_by x (C.Calls now r (Err why)) h = absurd (cc h)
 given_by x (C.Observes now path answer) h = absurd (cc h)
 given_by x (C.Cancels now number answer) h = absurd (cc h)
@@ -64,12 +82,20 @@ ever_given x [] h = h
 ever_given x (c ∷ t) (inl h) = inl (given_by x c h)
 ever_given x (c ∷ t) (inr h) = inr (ever_given x t h)
 
-pub one_request : (number : ℕ) (r s : C.Request) (t : List C.Call) → NumbersOnce t → WasTaken (record { number = number; request = r }) t → WasTaken (record { number = number; request = s }) t → r ≡ s
+pub one_request : (number : ℕ) (r s : C.Request) (t : List C.Call) → NumbersOnce t
+    → WasTaken (record { number = number; request = r }) t → WasTaken (record { number = number; request = s }) t
+    → r ≡ s
 one_request number r s [] once a b = absurd a
 one_request number r s (c ∷ t) once (inl a) (inl b) =
-    let both : ◌≡◌ {A = Option Taken} (Some (record { number = number; request = r })) (Some (record { number = number; request = s })) = sym a ∙ b in
-    let same : ◌≡◌ {A = Taken} (record { number = number; request = r }) (record { number = number; request = s }) = cc both in
+    let both : ◌≡◌ {A = Option Taken} (Some (record { number = number; request = r }))
+    (Some (record { number = number; request = s })) = sym a ∙ b in
+    let same : ◌≡◌ {A = Taken} (record { number = number; request = r }) (record { number = number; request = s }) =
+    cc both in
     ap (λ (z : Taken). z.request) same
-one_request number r s (c ∷ t) once (inl a) (inr b) = absurd (once.0 number (given_by (record { number = number; request = r }) c a) (ever_given (record { number = number; request = s }) t b))
-one_request number r s (c ∷ t) once (inr a) (inl b) = absurd (once.0 number (given_by (record { number = number; request = s }) c b) (ever_given (record { number = number; request = r }) t a))
+one_request number r s (c ∷ t) once (inl a) (inr b) =
+    absurd (once.0 number (given_by (record { number = number; request = r }) c a)
+    (ever_given (record { number = number; request = s }) t b))
+one_request number r s (c ∷ t) once (inr a) (inl b) =
+    absurd (once.0 number (given_by (record { number = number; request = s }) c b)
+    (ever_given (record { number = number; request = r }) t a))
 one_request number r s (c ∷ t) once (inr a) (inr b) = one_request number r s t once.1 a b

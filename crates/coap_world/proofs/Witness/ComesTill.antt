@@ -33,13 +33,23 @@ use Rattle.coap_world.proofs.Witness.Gets.Server.{request, question}
 abbrev reply : Reply
 reply = bare 132 0
 
-sendable : IsSpelled (content_of (asked_of client_end request) (response_to (nothing 4194303) [] (asked_of client_end request) question reply))
+sendable : IsSpelled (content_of (asked_of client_end request)
+    (response_to (nothing 4194303) [] (asked_of client_end request) question reply))
 unfolding option_bytes options_bytes
-sendable = (sendable_when_short _ (record { some = omega arith; code = omega arith; id = omega arith; token = omega arith; order = refl; numbers = refl; short = refl }) (omega arith)).spelled
+sendable = (sendable_when_short _ (record {
+  some = omega arith;
+  code = omega arith;
+  id = omega arith;
+  token = omega arith;
+  order = refl;
+  numbers = refl;
+  short = refl;
+}) (omega arith)).spelled
 
 module _ (at : ℕ) where
   abbrev serves : S.Call
-  serves = S.Feeds at client_end get_bytes 0 (L.Becomes (L.Request request true)) (Some (asked_of client_end request, request)) (S.Serves question reply (nothing 4194303)) L.Nothing
+  serves = S.Feeds at client_end get_bytes 0 (L.Becomes (L.Request request true))
+      (Some (asked_of client_end request, request)) (S.Serves question reply (nothing 4194303)) L.Nothing
 
   abbrev calls : List S.Call
   calls = server_turn (to_client not_found_bytes ∷ []) (serves ∷ [])
@@ -55,19 +65,28 @@ module _ (at : ℕ) where
   run = answerer.lower_of (lower_of 4194303 6 calls)
 
   steps : Steps (start 0) run (left_after (start 0) run)
-  unfolding decoded frame_fault body_at walk walk_of option_at nibbles_at value_at extended payload_at option_bytes options_bytes
+  unfolding decoded frame_fault body_at walk walk_of option_at nibbles_at value_at extended payload_at option_bytes
+      options_bytes
   steps = (
     _,
     (
       _,
-      (_, (_, refl, record { may = bytes_are get_bytes refl; right = refl; new_is = refl }), record { may = refl; right = refl; new_is = refl }),
+      (
+        _,
+        (_, refl, record { may = bytes_are get_bytes refl; right = refl; new_is = refl }),
+        record { may = refl; right = refl; new_is = refl },
+      ),
       record { may = tt; right = refl; new_is = refl },
     ),
     record { may = tt; right = refl; new_is = refl },
   )
 
   pub lawful : ServerLaw 4194303 6 0 calls
-  lawful = record { rows = rows; exchanges = record { rows = answered; left = left_after (start 0) run; layer = steps } }
+  lawful = record {
+    rows = rows;
+    exchanges = record
+        { rows = answered; left = left_after (start 0) run; layer = steps };
+  }
 
   module _ (early : at ≤ 100000) where
     abbrev turns : List Turn
@@ -79,16 +98,30 @@ module _ (at : ℕ) where
 
     made : Always (λ past t. Makes past t.event.at t.event.word t.event.what t.refused t.entries) turns
     made = (
-      (from_client 0 get_bytes, inl (refl, refl), inl (refl, serves ∷ [], (_, (_, _, _, _, refl), refl), on_server (to_client not_found_bytes ∷ []) (serves ∷ []))),
       (
-        (client.ticked, ((_, _, _, _, _, refl), ((_, _, _, _, _, refl), tt)), on_client [] (to_server get_bytes ∷ []) client.ticked),
+        from_client 0 get_bytes,
+        inl (refl, refl),
+        inl (
+          refl,
+          serves ∷ [],
+          (_, (_, _, _, _, refl), refl),
+          on_server (to_client not_found_bytes ∷ []) (serves ∷ []),
+        ),
+      ),
+      (
+        (
+          client.ticked,
+          ((_, _, _, _, _, refl), ((_, _, _, _, _, refl), tt)),
+          on_client [] (to_server get_bytes ∷ []) client.ticked,
+        ),
         ((client.called, (_, (_, refl), refl), on_client [] [] client.called), tt),
       ),
     )
 
     legal : AllLegal turns
     legal = (
-      legal_at at (Deliver 0) (omega (arith, early)) tt (omega (arith, early)) (from_client 0 get_bytes, inl (refl, refl), inr refl, omega (arith, early)),
+      legal_at at (Deliver 0) (omega (arith, early)) tt (omega (arith, early))
+          (from_client 0 get_bytes, inl (refl, refl), inr refl, omega (arith, early)),
       (legal_at 0 TickClient (omega arith) tt (omega arith) tt, (legal_at 0 (Calls get) (omega arith) range tt tt, tt)),
     )
 

@@ -1,4 +1,5 @@
--- A legal run in which a late block completes an upload after its Timeout, behind another PUT (RFC 7252, section 4.8.2).
+-- A legal run in which a late block completes an upload after its Timeout, behind another PUT (RFC 7252, section
+-- 4.8.2).
 pub mod Client
 pub mod Server
 use Rattle.std.proofs.Common.{◌≡◌, inl, inr, Some, List, [], ◌∷◌, map, refl, arith}
@@ -15,7 +16,8 @@ use Rattle.coap_world.proofs.Witness.TurnsMade.{a_turn, client_turn, to_server, 
 use Rattle.coap_world.specs.BlockRuns.{key, by_16, answer_bytes}
 use Rattle.coap_world.specs.LateRuns.{uploading, continue, changed, second_done, failed_body, short_body, failed_first}
 use Rattle.coap_world.specs.LateRuns.{failed_second, short_bytes, created_bytes, CompletesLate}
-use Rattle.coap_world.proofs.Witness.LateTurns.{called, begins, goes_on, ends, copies, copied, expires, drops, answers, range}
+use Rattle.coap_world.proofs.Witness.LateTurns.{called, begins, goes_on, ends, copies, copied, expires, drops}
+use Rattle.coap_world.proofs.Witness.LateTurns.{answers, range}
 use Rattle.coap_world.proofs.Witness.LateTurns.{to_the_client, to_the_server, by_16_range}
 use Rattle.coap_world.proofs.Witness.CompletesLate.Client as client
 use Rattle.coap_world.proofs.Witness.CompletesLate.Server as server
@@ -56,19 +58,49 @@ turns_lost =
 
 made_lost : Always (λ past t. Makes past t.event.at t.event.word t.event.what t.refused t.entries) turns_lost
 made_lost = (
-  (copies 30000, ((_, _, _, _, _, refl), ((_, _, _, _, _, refl), tt)), on_client [] (to_server failed_second ∷ []) (copies 30000)),
   (
-    (copies 14000, ((_, _, _, _, _, refl), ((_, _, _, _, _, refl), tt)), on_client [] (to_server failed_second ∷ []) (copies 14000)),
+    copies 30000,
+    ((_, _, _, _, _, refl), ((_, _, _, _, _, refl), tt)),
+    on_client [] (to_server failed_second ∷ []) (copies 30000),
+  ),
+  (
     (
-      (copies 6000, ((_, _, _, _, _, refl), ((_, _, _, _, _, refl), tt)), on_client [] (to_server failed_second ∷ []) (copies 6000)),
+      copies 14000,
+      ((_, _, _, _, _, refl), ((_, _, _, _, _, refl), tt)),
+      on_client [] (to_server failed_second ∷ []) (copies 14000),
+    ),
+    (
       (
-        (copies 2000, ((_, _, _, _, _, refl), ((_, _, _, _, _, refl), tt)), on_client [] (to_server failed_second ∷ []) (copies 2000)),
+        copies 6000,
+        ((_, _, _, _, _, refl), ((_, _, _, _, _, refl), tt)),
+        on_client [] (to_server failed_second ∷ []) (copies 6000),
+      ),
+      (
         (
-          (given_1, inl (refl, refl), to_the_client 0 given_1 [] (to_server failed_second ∷ []) (goes_on 0 0 8 1) refl (_, _, _, _, _, _, refl)),
+          copies 2000,
+          ((_, _, _, _, _, refl), ((_, _, _, _, _, refl), tt)),
+          on_client [] (to_server failed_second ∷ []) (copies 2000),
+        ),
+        (
           (
-            (given_0, inl (refl, refl), to_the_server 0 given_0 (answer_bytes continue 0 8) server.takes_first refl (_, _, _, _, refl)),
+            given_1,
+            inl (refl, refl),
+            to_the_client 0 given_1 [] (to_server failed_second ∷ []) (goes_on 0 0 8 1) refl
+                (_, _, _, _, _, _, refl),
+          ),
+          (
             (
-              (begins 0 0, ((_, _, _, _, _, refl), ((_, _, _, _, _, refl), tt)), on_client [] (to_server failed_first ∷ []) (begins 0 0)),
+              given_0,
+              inl (refl, refl),
+              to_the_server 0 given_0 (answer_bytes continue 0 8) server.takes_first refl
+                  (_, _, _, _, refl),
+            ),
+            (
+              (
+                begins 0 0,
+                ((_, _, _, _, _, refl), ((_, _, _, _, _, refl), tt)),
+                on_client [] (to_server failed_first ∷ []) (begins 0 0),
+              ),
               ((called 0 0 failed_body, (_, (_, refl), refl), on_client [] [] (called 0 0 failed_body)), tt),
             ),
           ),
@@ -94,7 +126,8 @@ legal_lost = (
             (
               legal_at 0 TickClient (omega arith) tt (omega arith) tt,
               (
-                legal_at 0 (Calls (uploading failed_body)) (omega arith) (range failed_body (bytes_are failed_body refl)) tt tt,
+                legal_at 0 (Calls (uploading failed_body)) (omega arith)
+                    (range failed_body (bytes_are failed_body refl)) tt tt,
                 tt,
               ),
             ),
@@ -111,7 +144,8 @@ abbrev turns : List Turn
 turns =
     a_turn (event 130000 (Deliver 9)) (map OfClient (client_turn [] [] (drops (answer_bytes changed 1 16) ∷ []))) ∷
     a_turn (event 130000 (Deliver 6)) (map OfServer (answers (answer_bytes changed 1 16) server.completes)) ∷
-    a_turn (event 62000 (Deliver 8)) (map OfClient (client_turn (second_done ∷ []) [] (ends 62000 created_bytes client.short_answer ∷ []))) ∷
+    a_turn (event 62000 (Deliver 8)) (map OfClient
+    (client_turn (second_done ∷ []) [] (ends 62000 created_bytes client.short_answer ∷ []))) ∷
     a_turn (event 62000 (Deliver 7)) (map OfServer (answers created_bytes server.puts)) ∷
     a_turn (event 62000 TickClient) (map OfClient (client_turn [] (to_server short_bytes ∷ []) (begins 62000 2))) ∷
     a_turn (event 62000 (Calls (uploading short_body))) (map OfClient (client_turn [] [] (called 62000 1 short_body))) ∷
@@ -120,19 +154,42 @@ turns =
 
 made : Always (λ past t. Makes past t.event.at t.event.word t.event.what t.refused t.entries) turns
 made = (
-  (given_9, inl (refl, refl), to_the_client 130000 given_9 [] [] (drops (answer_bytes changed 1 16)) refl (_, _, _, _, _, _, refl)),
   (
-    (given_6, inr (inr (inl (refl, refl))), to_the_server 130000 given_6 (answer_bytes changed 1 16) server.completes refl (_, _, _, _, refl)),
+    given_9,
+    inl (refl, refl),
+    to_the_client 130000 given_9 [] [] (drops (answer_bytes changed 1 16)) refl
+        (_, _, _, _, _, _, refl),
+  ),
+  (
     (
-      (given_8, inl (refl, refl), to_the_client 62000 given_8 (second_done ∷ []) [] (ends 62000 created_bytes client.short_answer) refl (_, _, _, _, _, _, refl)),
+      given_6,
+      inr (inr (inl (refl, refl))),
+      to_the_server 130000 given_6
+          (answer_bytes changed 1 16) server.completes refl (_, _, _, _, refl),
+    ),
+    (
+      (
+        given_8,
+        inl (refl, refl),
+        to_the_client 62000 given_8 (second_done ∷ []) []
+            (ends 62000 created_bytes client.short_answer) refl (_, _, _, _, _, _, refl),
+      ),
       (
         (given_7, inl (refl, refl), to_the_server 62000 given_7 created_bytes server.puts refl (_, _, _, _, refl)),
         (
-          (begins 62000 2, ((_, _, _, _, _, refl), ((_, _, _, _, _, refl), tt)), on_client [] (to_server short_bytes ∷ []) (begins 62000 2)),
+          (
+            begins 62000 2,
+            ((_, _, _, _, _, refl), ((_, _, _, _, _, refl), tt)),
+            on_client [] (to_server short_bytes ∷ []) (begins 62000 2),
+          ),
           (
             (called 62000 1 short_body, (_, (_, refl), refl), on_client [] [] (called 62000 1 short_body)),
             (
-              (expires, ((_, _, _, _, _, refl), ((_, _, _, _, _, refl), tt)), on_client (reported Timeout ∷ []) [] expires),
+              (
+                expires,
+                ((_, _, _, _, _, refl), ((_, _, _, _, _, refl), tt)),
+                on_client (reported Timeout ∷ []) [] expires,
+              ),
               made_lost,
             ),
           ),
@@ -146,7 +203,8 @@ legal : AllLegal turns
 legal = (
   legal_at 130000 (Deliver 9) (omega arith) tt (omega arith) (given_9, inl (refl, refl), inl refl, omega arith),
   (
-    legal_at 130000 (Deliver 6) (omega arith) tt (omega arith) (given_6, inr (inr (inl (refl, refl))), inr refl, omega arith),
+    legal_at 130000 (Deliver 6) (omega arith) tt (omega arith)
+        (given_6, inr (inr (inl (refl, refl))), inr refl, omega arith),
     (
       legal_at 62000 (Deliver 8) (omega arith) tt (omega arith) (given_8, inl (refl, refl), inl refl, omega arith),
       (
@@ -154,7 +212,8 @@ legal = (
         (
           legal_at 62000 TickClient (omega arith) tt (omega arith) tt,
           (
-            legal_at 62000 (Calls (uploading short_body)) (omega arith) (range short_body (bytes_are short_body refl)) (omega arith) tt,
+            legal_at 62000 (Calls (uploading short_body)) (omega arith) (range short_body (bytes_are short_body refl))
+                (omega arith) tt,
             (legal_at 62000 TickClient (omega arith) tt (omega arith) tt, legal_lost),
           ),
         ),
@@ -172,13 +231,30 @@ sent_second : SentFor by_16 1 (key 2) all
 sent_second = (_, inr (inr (inr (inr (inr (inr (inr (inr (inr (inr (inr (inl refl))))))))))), refl, refl)
 
 applied_second : Sometime (AppliesFor by_16 1 all) all
-applied_second = inr (inr (inr (inr (inr (inr (inr (inr (inr (inr (inr (inr (inl (record { request = _; here = refl; applied = refl; from = refl; belongs = sent_second })))))))))))))
+applied_second = inr (inr (inr (inr (inr (inr
+    (inr (inr (inr (inr (inr (inr (inl (record {
+      request = _;
+      here = refl;
+      applied = refl;
+      from = refl;
+      belongs = sent_second;
+    })))))))))))))
 
 sent_first : SentFor by_16 0 (key 1) all
-sent_first = (_, inr (inr (inr (inr (inr (inr (inr (inr (inr (inr (inr (inr (inr (inr (inr (inr (inr (inr (inr (inr (inr (inr (inr (inr (inr (inr (inr (inr (inr (inr (inr (inr (inr (inr (inr (inr (inr (inr (inr (inr (inr (inr (inr (inl refl))))))))))))))))))))))))))))))))))))))))))), refl, refl)
+sent_first = (
+  _,
+  inr (inr (inr (inr (inr (inr
+      (inr (inr (inr (inr (inr (inr (inr (inr (inr
+      (inr (inr (inr (inr (inr (inr (inr (inr (inr
+      (inr (inr (inr (inr (inr (inr (inr (inr (inr
+      (inr (inr (inr (inr (inr (inr (inr (inr (inr (inr (inl refl))))))))))))))))))))))))))))))))))))))))))),
+  refl,
+  refl,
+)
 
 applied_first : Sometime (AppliesFor by_16 0 all) all
-applied_first = inr (inr (inr (inr (inr (inl (record { request = _; here = refl; applied = refl; from = refl; belongs = sent_first }))))))
+applied_first = inr (inr (inr (inr (inr (inl (record
+    { request = _; here = refl; applied = refl; from = refl; belongs = sent_first }))))))
 
 pub completed_late : CompletesLate
 completed_late = record {

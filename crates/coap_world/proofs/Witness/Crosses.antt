@@ -32,19 +32,48 @@ turns =
 
 made : Always (λ past t. Makes past t.event.at t.event.word t.event.what t.refused t.entries) turns
 made = (
-  (from_client 4 empty_ack, inr (inl (refl, refl)), inl (refl, observed.acknowledged 6, (_, (_, _, _, _, refl), refl), on_server [] (observed.acknowledged 6))),
   (
-    (from_server 5 client_end cancelled_bytes, inl (refl, refl), inr (refl, client.over, (_, (_, _, _, _, _, _, refl), refl), on_client (client.ended ∷ []) [] client.over)),
+    from_client 4 empty_ack,
+    inr (inl (refl, refl)),
+    inl (refl, observed.acknowledged 6, (_, (_, _, _, _, refl), refl), on_server [] (observed.acknowledged 6)),
+  ),
+  (
     (
-      (from_client 3 cancel_bytes, inr (inr (inl (refl, refl))), inl (refl, server.fed, (_, (_, _, _, _, refl), refl), on_server (to_client cancelled_bytes ∷ []) server.fed)),
+      from_server 5 client_end cancelled_bytes,
+      inl (refl, refl),
+      inr (refl, client.over, (_, (_, _, _, _, _, _, refl), refl), on_client (client.ended ∷ []) [] client.over),
+    ),
+    (
       (
-        (from_server 3 client_end second_bytes, inl (refl, refl), inr (refl, client.crossed, (_, (_, _, _, _, _, _, refl), refl), on_client [] (to_server empty_ack ∷ []) client.crossed)),
+        from_client 3 cancel_bytes,
+        inr (inr (inl (refl, refl))),
+        inl (refl, server.fed, (_, (_, _, _, _, refl), refl), on_server (to_client cancelled_bytes ∷ []) server.fed),
+      ),
+      (
         (
-          (observed.ticked, ((_, _, _, _, _, _, refl), ((_, _, _, _, _, _, refl), tt)), on_server (to_client second_bytes ∷ []) observed.ticked),
+          from_server 3 client_end second_bytes,
+          inl (refl, refl),
+          inr (
+            refl,
+            client.crossed,
+            (_, (_, _, _, _, _, _, refl), refl),
+            on_client [] (to_server empty_ack ∷ []) client.crossed,
+          ),
+        ),
+        (
+          (
+            observed.ticked,
+            ((_, _, _, _, _, _, refl), ((_, _, _, _, _, _, refl), tt)),
+            on_server (to_client second_bytes ∷ []) observed.ticked,
+          ),
           (
             (observed.second_set, (_, (_, _, refl), refl), on_server [] observed.second_set),
             (
-              (client.ticked, ((_, _, _, _, _, refl), ((_, _, _, _, _, refl), tt)), on_client [] (to_server cancel_bytes ∷ []) client.ticked),
+              (
+                client.ticked,
+                ((_, _, _, _, _, refl), ((_, _, _, _, _, refl), tt)),
+                on_client [] (to_server cancel_bytes ∷ []) client.ticked,
+              ),
               ((client.cancels, ((_, (_, refl), refl), refl), on_client [] [] client.cancels), made_before),
             ),
           ),
@@ -56,18 +85,26 @@ made = (
 
 legal : AllLegal turns
 legal = (
-  legal_at 6 (Deliver 4) (omega arith) tt (omega arith) (from_client 4 empty_ack, inr (inl (refl, refl)), inr refl, omega arith),
+  legal_at 6 (Deliver 4) (omega arith) tt (omega arith)
+      (from_client 4 empty_ack, inr (inl (refl, refl)), inr refl, omega arith),
   (
-    legal_at 6 (Deliver 5) (omega arith) tt (omega arith) (from_server 5 client_end cancelled_bytes, inl (refl, refl), inl refl, omega arith),
+    legal_at 6 (Deliver 5) (omega arith) tt (omega arith)
+        (from_server 5 client_end cancelled_bytes, inl (refl, refl), inl refl, omega arith),
     (
-      legal_at 5 (Deliver 2) (omega arith) tt (omega arith) (from_client 3 cancel_bytes, inr (inr (inl (refl, refl))), inr refl, omega arith),
+      legal_at 5 (Deliver 2) (omega arith) tt (omega arith)
+          (from_client 3 cancel_bytes, inr (inr (inl (refl, refl))), inr refl, omega arith),
       (
-        legal_at 4 (Deliver 3) (omega arith) tt (omega arith) (from_server 3 client_end second_bytes, inl (refl, refl), inl refl, omega arith),
+        legal_at 4 (Deliver 3) (omega arith) tt (omega arith)
+            (from_server 3 client_end second_bytes, inl (refl, refl), inl refl, omega arith),
         (
           legal_at 3 TickServer (omega arith) tt (omega arith) tt,
           (
-            legal_at 3 (puts (codes "b")) (omega arith) (t_is, omega arith, bytes_are (codes "b") refl) (omega arith) tt,
-            (legal_at 3 TickClient (omega arith) tt (omega arith) tt, (legal_at 3 (Cancels 0) (omega arith) (omega arith) (omega arith) tt, legal_before)),
+            legal_at 3 (puts (codes "b")) (omega arith) (t_is, omega arith, bytes_are (codes "b") refl)
+                (omega arith) tt,
+            (
+              legal_at 3 TickClient (omega arith) tt (omega arith) tt,
+              (legal_at 3 (Cancels 0) (omega arith) (omega arith) (omega arith) tt, legal_before),
+            ),
           ),
         ),
       ),

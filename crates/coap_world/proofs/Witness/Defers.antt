@@ -19,7 +19,8 @@ use Rattle.coap_world.proofs.Witness.Defers.Client as client
 use Rattle.coap_world.proofs.Witness.Defers.Server as server
 
 slow_range : IsConfig slow
-slow_range = configured (record { path = t; ms = 1000 } ∷ []) (of_one IsDelay (record { path = t; ms = 1000 }) (record { path = t_is; ms = omega arith })) (omega arith)
+slow_range = configured (record { path = t; ms = 1000 } ∷ [])
+    (of_one IsDelay (record { path = t; ms = 1000 }) (record { path = t_is; ms = omega arith })) (omega arith)
 
 abbrev turns : List Turn
 turns =
@@ -32,14 +33,42 @@ turns =
 
 made : Always (λ past t. Makes past t.event.at t.event.word t.event.what t.refused t.entries) turns
 made = (
-  (from_client 1000 empty_ack, inl (refl, refl), inl (refl, server.hears, (_, (_, _, _, _, refl), refl), on_server [] server.hears)),
   (
-    (from_server 1000 client_end separate_bytes, inl (refl, refl), inr (refl, client.hears, (_, (_, _, _, _, _, _, refl), refl), on_client (got ∷ []) (to_server empty_ack ∷ []) client.hears)),
+    from_client 1000 empty_ack,
+    inl (refl, refl),
+    inl (refl, server.hears, (_, (_, _, _, _, refl), refl), on_server [] server.hears),
+  ),
+  (
     (
-      (server.ticked, ((_, _, _, _, _, _, refl), ((_, _, _, _, _, _, refl), tt)), on_server (to_client separate_bytes ∷ []) server.ticked),
+      from_server 1000 client_end separate_bytes,
+      inl (refl, refl),
+      inr (
+        refl,
+        client.hears,
+        (_, (_, _, _, _, _, _, refl), refl),
+        on_client (got ∷ []) (to_server empty_ack ∷ []) client.hears,
+      ),
+    ),
+    (
       (
-        (from_server 0 client_end empty_ack, inl (refl, refl), inr (refl, client.awaits, (_, (_, _, _, _, _, _, refl), refl), on_client [] [] client.awaits)),
-        ((from_client 0 get_bytes, inl (refl, refl), inl (refl, server.waits, (_, (_, _, _, _, refl), refl), on_server (to_client empty_ack ∷ []) server.waits)), made_before),
+        server.ticked,
+        ((_, _, _, _, _, _, refl), ((_, _, _, _, _, _, refl), tt)),
+        on_server (to_client separate_bytes ∷ []) server.ticked,
+      ),
+      (
+        (
+          from_server 0 client_end empty_ack,
+          inl (refl, refl),
+          inr (refl, client.awaits, (_, (_, _, _, _, _, _, refl), refl), on_client [] [] client.awaits),
+        ),
+        (
+          (
+            from_client 0 get_bytes,
+            inl (refl, refl),
+            inl (refl, server.waits, (_, (_, _, _, _, refl), refl), on_server (to_client empty_ack ∷ []) server.waits),
+          ),
+          made_before,
+        ),
       ),
     ),
   ),
@@ -47,14 +76,21 @@ made = (
 
 legal : AllLegal turns
 legal = (
-  legal_at 1000 (Deliver 3) (omega arith) tt (omega arith) (from_client 1000 empty_ack, inl (refl, refl), inr refl, omega arith),
+  legal_at 1000 (Deliver 3) (omega arith) tt (omega arith)
+      (from_client 1000 empty_ack, inl (refl, refl), inr refl, omega arith),
   (
-    legal_at 1000 (Deliver 2) (omega arith) tt (omega arith) (from_server 1000 client_end separate_bytes, inl (refl, refl), inl refl, omega arith),
+    legal_at 1000 (Deliver 2) (omega arith) tt (omega arith)
+        (from_server 1000 client_end separate_bytes, inl (refl, refl), inl refl, omega arith),
     (
       legal_at 1000 TickServer (omega arith) tt (omega arith) tt,
       (
-        legal_at 0 (Deliver 1) (omega arith) tt (omega arith) (from_server 0 client_end empty_ack, inl (refl, refl), inl refl, omega arith),
-        (legal_at 0 (Deliver 0) (omega arith) tt (omega arith) (from_client 0 get_bytes, inl (refl, refl), inr refl, omega arith), legal_before),
+        legal_at 0 (Deliver 1) (omega arith) tt (omega arith)
+            (from_server 0 client_end empty_ack, inl (refl, refl), inl refl, omega arith),
+        (
+          legal_at 0 (Deliver 0) (omega arith) tt (omega arith)
+              (from_client 0 get_bytes, inl (refl, refl), inr refl, omega arith),
+          legal_before,
+        ),
       ),
     ),
   ),

@@ -32,7 +32,8 @@ turns =
     a_turn (event 4 (puts (codes "b"))) (map OfServer (server_turn [] server.refused)) ∷
     a_turn (event 3 (Removes log)) (map OfServer (server_turn [] server.removed)) ∷
     a_turn (event 2 (Sets log (Some plain) (codes "x"))) (map OfServer (server_turn [] server.set_log)) ∷
-    a_turn (event 1 (StrangerToServer stranger drop_bytes)) (map OfServer (server_turn (to_stranger dropped_bytes ∷ []) server.serves)) ∷
+    a_turn (event 1 (StrangerToServer stranger drop_bytes))
+    (map OfServer (server_turn (to_stranger dropped_bytes ∷ []) server.serves)) ∷
     a_turn (event 0 (puts (codes "a"))) (map OfServer (server_turn [] server.set_first)) ∷
     []
 
@@ -57,10 +58,15 @@ legal = (
   (
     legal_at 3 (Removes log) (omega arith) log_is (omega arith) tt,
     (
-      legal_at 2 (Sets log (Some plain) (codes "x")) (omega arith) (log_is, omega arith, bytes_are (codes "x") refl) (omega arith) tt,
+      legal_at 2 (Sets log (Some plain) (codes "x")) (omega arith) (log_is, omega arith, bytes_are (codes "x") refl)
+          (omega arith) tt,
       (
-        legal_at 1 (StrangerToServer stranger drop_bytes) (omega arith) (record { four = refl; bytes = bytes_are localhost refl; port = omega arith }, bytes_are drop_bytes refl) (omega arith)
-            ((λ h. let k = elsewhere _ h in absurd (omega (arith, k))), (λ h. let k = elsewhere _ h in absurd (omega (arith, k)))),
+        legal_at 1 (StrangerToServer stranger drop_bytes) (omega arith)
+            (record { four = refl; bytes = bytes_are localhost refl; port = omega arith }, bytes_are drop_bytes refl)
+            (omega arith) (
+              (λ h. let k = elsewhere _ h in absurd (omega (arith, k))),
+              (λ h. let k = elsewhere _ h in absurd (omega (arith, k))),
+            ),
         (legal_at 0 (puts (codes "a")) (omega arith) (t_is, omega arith, bytes_are (codes "a") refl) tt tt, tt),
       ),
     ),

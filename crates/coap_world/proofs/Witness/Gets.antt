@@ -31,7 +31,11 @@ turns_before =
 
 pub made_before : Always (λ past t. Makes past t.event.at t.event.word t.event.what t.refused t.entries) turns_before
 made_before = (
-  (client.ticked, ((_, _, _, _, _, refl), ((_, _, _, _, _, refl), tt)), on_client [] (to_server get_bytes ∷ []) client.ticked),
+  (
+    client.ticked,
+    ((_, _, _, _, _, refl), ((_, _, _, _, _, refl), tt)),
+    on_client [] (to_server get_bytes ∷ []) client.ticked,
+  ),
   (
     (client.called, (_, (_, refl), refl), on_client [] [] client.called),
     ((server.sets ∷ [], (_, (_, _, refl), refl), on_server [] (server.sets ∷ [])), tt),
@@ -57,18 +61,38 @@ turns =
 
 made : Always (λ past t. Makes past t.event.at t.event.word t.event.what t.refused t.entries) turns
 made = (
-  (from_server 5 client_end content_bytes, inl (refl, refl), inr (refl, client.hears ∷ [], (_, (_, _, _, _, _, _, refl), refl), on_client (client.got ∷ []) [] (client.hears ∷ []))),
   (
-    (from_client 0 get_bytes, inl (refl, refl), inl (refl, server.serves ∷ [], (_, (_, _, _, _, refl), refl), on_server (to_client content_bytes ∷ []) (server.serves ∷ []))),
+    from_server 5 client_end content_bytes,
+    inl (refl, refl),
+    inr (
+      refl,
+      client.hears ∷ [],
+      (_, (_, _, _, _, _, _, refl), refl),
+      on_client (client.got ∷ []) [] (client.hears ∷ []),
+    ),
+  ),
+  (
+    (
+      from_client 0 get_bytes,
+      inl (refl, refl),
+      inl (
+        refl,
+        server.serves ∷ [],
+        (_, (_, _, _, _, refl), refl),
+        on_server (to_client content_bytes ∷ []) (server.serves ∷ []),
+      ),
+    ),
     made_before,
   ),
 )
 
 legal : AllLegal turns
 legal = (
-  legal_at 9 (Deliver 1) (omega arith) tt (omega arith) (from_server 5 client_end content_bytes, inl (refl, refl), inl refl, omega arith),
+  legal_at 9 (Deliver 1) (omega arith) tt (omega arith)
+      (from_server 5 client_end content_bytes, inl (refl, refl), inl refl, omega arith),
   (
-    legal_at 5 (Deliver 0) (omega arith) tt (omega arith) (from_client 0 get_bytes, inl (refl, refl), inr refl, omega arith),
+    legal_at 5 (Deliver 0) (omega arith) tt (omega arith)
+        (from_client 0 get_bytes, inl (refl, refl), inr refl, omega arith),
     legal_before,
   ),
 )
@@ -95,20 +119,41 @@ turns_again =
 
 made_again : Always (λ past t. Makes past t.event.at t.event.word t.event.what t.refused t.entries) turns_again
 made_again = (
-  (from_server 5 client_end content_bytes, inl (refl, refl), inr (refl, client.hears ∷ [], (_, (_, _, _, _, _, _, refl), refl), on_client (client.got ∷ []) [] (client.hears ∷ []))),
   (
-    (from_client 0 get_bytes, inl (refl, refl), inl (refl, server.serves ∷ [], (_, (_, _, _, _, refl), refl), on_server (to_client content_bytes ∷ []) (server.serves ∷ []))),
+    from_server 5 client_end content_bytes,
+    inl (refl, refl),
+    inr (
+      refl,
+      client.hears ∷ [],
+      (_, (_, _, _, _, _, _, refl), refl),
+      on_client (client.got ∷ []) [] (client.hears ∷ []),
+    ),
+  ),
+  (
+    (
+      from_client 0 get_bytes,
+      inl (refl, refl),
+      inl (
+        refl,
+        server.serves ∷ [],
+        (_, (_, _, _, _, refl), refl),
+        on_server (to_client content_bytes ∷ []) (server.serves ∷ []),
+      ),
+    ),
     ((from_client 0 get_bytes, inl (refl, refl), inl (refl, [], refl, on_server [] [])), made_before),
   ),
 )
 
 legal_again : AllLegal turns_again
 legal_again = (
-  legal_at 9 (Deliver 1) (omega arith) tt (omega arith) (from_server 5 client_end content_bytes, inl (refl, refl), inl refl, omega arith),
+  legal_at 9 (Deliver 1) (omega arith) tt (omega arith)
+      (from_server 5 client_end content_bytes, inl (refl, refl), inl refl, omega arith),
   (
-    legal_at 5 (Deliver 0) (omega arith) tt (omega arith) (from_client 0 get_bytes, inl (refl, refl), inr refl, omega arith),
+    legal_at 5 (Deliver 0) (omega arith) tt (omega arith)
+        (from_client 0 get_bytes, inl (refl, refl), inr refl, omega arith),
     (
-      legal_refused 5 (Deliver 0) (omega arith) tt (omega arith) (from_client 0 get_bytes, inl (refl, refl), inr refl, omega arith),
+      legal_refused 5 (Deliver 0) (omega arith) tt (omega arith)
+          (from_client 0 get_bytes, inl (refl, refl), inr refl, omega arith),
       legal_before,
     ),
   ),

@@ -16,7 +16,8 @@ use Rattle.coap_world.specs.BlockRuns.{key, by_16, created, answer_bytes}
 use Rattle.coap_world.specs.LateRuns.{uploading, continue, second_done, lost_body, held_body, lost_first, lost_second}
 use Rattle.coap_world.specs.LateRuns.{held_first, held_second, held_third, HoldsBack}
 use Rattle.coap_world.proofs.Witness.Uploads.Client.{answer}
-use Rattle.coap_world.proofs.Witness.LateTurns.{called, begins, goes_on, ends, copies, copied, expires, drops, answers, range}
+use Rattle.coap_world.proofs.Witness.LateTurns.{called, begins, goes_on, ends, copies, copied, expires, drops}
+use Rattle.coap_world.proofs.Witness.LateTurns.{answers, range}
 use Rattle.coap_world.proofs.Witness.LateTurns.{to_the_client, to_the_server, by_16_range}
 use Rattle.coap_world.proofs.Witness.HoldsBack.Client as client
 use Rattle.coap_world.proofs.Witness.HoldsBack.Server as server
@@ -69,19 +70,49 @@ turns_lost =
 
 made_lost : Always (λ past t. Makes past t.event.at t.event.word t.event.what t.refused t.entries) turns_lost
 made_lost = (
-  (copies 30000, ((_, _, _, _, _, refl), ((_, _, _, _, _, refl), tt)), on_client [] (to_server lost_second ∷ []) (copies 30000)),
   (
-    (copies 14000, ((_, _, _, _, _, refl), ((_, _, _, _, _, refl), tt)), on_client [] (to_server lost_second ∷ []) (copies 14000)),
+    copies 30000,
+    ((_, _, _, _, _, refl), ((_, _, _, _, _, refl), tt)),
+    on_client [] (to_server lost_second ∷ []) (copies 30000),
+  ),
+  (
     (
-      (copies 6000, ((_, _, _, _, _, refl), ((_, _, _, _, _, refl), tt)), on_client [] (to_server lost_second ∷ []) (copies 6000)),
+      copies 14000,
+      ((_, _, _, _, _, refl), ((_, _, _, _, _, refl), tt)),
+      on_client [] (to_server lost_second ∷ []) (copies 14000),
+    ),
+    (
       (
-        (copies 2000, ((_, _, _, _, _, refl), ((_, _, _, _, _, refl), tt)), on_client [] (to_server lost_second ∷ []) (copies 2000)),
+        copies 6000,
+        ((_, _, _, _, _, refl), ((_, _, _, _, _, refl), tt)),
+        on_client [] (to_server lost_second ∷ []) (copies 6000),
+      ),
+      (
         (
-          (given_1, inl (refl, refl), to_the_client 0 given_1 [] (to_server lost_second ∷ []) (goes_on 0 0 8 1) refl (_, _, _, _, _, _, refl)),
+          copies 2000,
+          ((_, _, _, _, _, refl), ((_, _, _, _, _, refl), tt)),
+          on_client [] (to_server lost_second ∷ []) (copies 2000),
+        ),
+        (
           (
-            (given_0, inl (refl, refl), to_the_server 0 given_0 (answer_bytes continue 0 8) server.takes_lost_first refl (_, _, _, _, refl)),
+            given_1,
+            inl (refl, refl),
+            to_the_client 0 given_1 [] (to_server lost_second ∷ []) (goes_on 0 0 8 1) refl
+                (_, _, _, _, _, _, refl),
+          ),
+          (
             (
-              (begins 0 0, ((_, _, _, _, _, refl), ((_, _, _, _, _, refl), tt)), on_client [] (to_server lost_first ∷ []) (begins 0 0)),
+              given_0,
+              inl (refl, refl),
+              to_the_server 0 given_0 (answer_bytes continue 0 8) server.takes_lost_first refl
+                  (_, _, _, _, refl),
+            ),
+            (
+              (
+                begins 0 0,
+                ((_, _, _, _, _, refl), ((_, _, _, _, _, refl), tt)),
+                on_client [] (to_server lost_first ∷ []) (begins 0 0),
+              ),
               ((called 0 0 lost_body, (_, (_, refl), refl), on_client [] [] (called 0 0 lost_body)), tt),
             ),
           ),
@@ -107,7 +138,8 @@ legal_lost = (
             (
               legal_at 0 TickClient (omega arith) tt (omega arith) tt,
               (
-                legal_at 0 (Calls (uploading lost_body)) (omega arith) (range lost_body (bytes_are lost_body refl)) tt tt,
+                legal_at 0 (Calls (uploading lost_body)) (omega arith)
+                    (range lost_body (bytes_are lost_body refl)) tt tt,
                 tt,
               ),
             ),
@@ -122,11 +154,14 @@ legal_lost = (
 
 abbrev turns : List Turn
 turns =
-    a_turn (event 130001 (Deliver 13)) (map OfClient (client_turn (second_done ∷ []) [] (ends 130001 (answer_bytes created 4 32) (answer created 4 32) ∷ []))) ∷
+    a_turn (event 130001 (Deliver 13)) (map OfClient
+    (client_turn (second_done ∷ []) [] (ends 130001 (answer_bytes created 4 32) (answer created 4 32) ∷ []))) ∷
     a_turn (event 130001 (Deliver 12)) (map OfServer (answers (answer_bytes created 4 32) server.puts)) ∷
-    a_turn (event 130001 (Deliver 11)) (map OfClient (client_turn [] (to_server held_third ∷ []) (goes_on 130001 3 24 4 ∷ []))) ∷
+    a_turn (event 130001 (Deliver 11)) (map OfClient
+    (client_turn [] (to_server held_third ∷ []) (goes_on 130001 3 24 4 ∷ []))) ∷
     a_turn (event 130001 (Deliver 10)) (map OfServer (answers (answer_bytes continue 3 24) server.takes_second)) ∷
-    a_turn (event 130001 (Deliver 9)) (map OfClient (client_turn [] (to_server held_second ∷ []) (goes_on 130001 2 8 3 ∷ []))) ∷
+    a_turn (event 130001 (Deliver 9)) (map OfClient
+    (client_turn [] (to_server held_second ∷ []) (goes_on 130001 2 8 3 ∷ []))) ∷
     a_turn (event 130001 (Deliver 8)) (map OfServer (answers (answer_bytes continue 2 8) server.takes_first)) ∷
     a_turn (event 130001 TickClient) (map OfClient (client_turn [] (to_server held_first ∷ []) (begins 130001 2))) ∷
     a_turn (event 130000 (Deliver 7)) (map OfClient (client_turn [] [] (drops (answer_bytes continue 1 24) ∷ []))) ∷
@@ -138,29 +173,77 @@ turns =
 
 made : Always (λ past t. Makes past t.event.at t.event.word t.event.what t.refused t.entries) turns
 made = (
-  (given_13, inl (refl, refl), to_the_client 130001 given_13 (second_done ∷ []) [] (ends 130001 (answer_bytes created 4 32) (answer created 4 32)) refl (_, _, _, _, _, _, refl)),
   (
-    (given_12, inl (refl, refl), to_the_server 130001 given_12 (answer_bytes created 4 32) server.puts refl (_, _, _, _, refl)),
+    given_13,
+    inl (refl, refl),
+    to_the_client 130001 given_13 (second_done ∷ []) []
+        (ends 130001 (answer_bytes created 4 32) (answer created 4 32)) refl (_, _, _, _, _, _, refl),
+  ),
+  (
     (
-      (given_11, inl (refl, refl), to_the_client 130001 given_11 [] (to_server held_third ∷ []) (goes_on 130001 3 24 4) refl (_, _, _, _, _, _, refl)),
+      given_12,
+      inl (refl, refl),
+      to_the_server 130001 given_12 (answer_bytes created 4 32) server.puts refl
+          (_, _, _, _, refl),
+    ),
+    (
       (
-        (given_10, inl (refl, refl), to_the_server 130001 given_10 (answer_bytes continue 3 24) server.takes_second refl (_, _, _, _, refl)),
+        given_11,
+        inl (refl, refl),
+        to_the_client 130001 given_11 [] (to_server held_third ∷ [])
+            (goes_on 130001 3 24 4) refl (_, _, _, _, _, _, refl),
+      ),
+      (
         (
-          (given_9, inl (refl, refl), to_the_client 130001 given_9 [] (to_server held_second ∷ []) (goes_on 130001 2 8 3) refl (_, _, _, _, _, _, refl)),
+          given_10,
+          inl (refl, refl),
+          to_the_server 130001 given_10 (answer_bytes continue 3 24) server.takes_second refl
+              (_, _, _, _, refl),
+        ),
+        (
           (
-            (given_8, inl (refl, refl), to_the_server 130001 given_8 (answer_bytes continue 2 8) server.takes_first refl (_, _, _, _, refl)),
+            given_9,
+            inl (refl, refl),
+            to_the_client 130001 given_9 [] (to_server held_second ∷ [])
+                (goes_on 130001 2 8 3) refl (_, _, _, _, _, _, refl),
+          ),
+          (
             (
-              (begins 130001 2, ((_, _, _, _, _, refl), ((_, _, _, _, _, refl), tt)), on_client [] (to_server held_first ∷ []) (begins 130001 2)),
+              given_8,
+              inl (refl, refl),
+              to_the_server 130001 given_8 (answer_bytes continue 2 8) server.takes_first refl
+                  (_, _, _, _, refl),
+            ),
+            (
               (
-                (given_7, inl (refl, refl), to_the_client 130000 given_7 [] [] (drops (answer_bytes continue 1 24)) refl (_, _, _, _, _, _, refl)),
+                begins 130001 2,
+                ((_, _, _, _, _, refl), ((_, _, _, _, _, refl), tt)),
+                on_client [] (to_server held_first ∷ []) (begins 130001 2),
+              ),
+              (
                 (
-                  (given_6, inl (refl, refl), to_the_server 130000 given_6 (answer_bytes continue 1 24) server.takes_lost_second refl (_, _, _, _, refl)),
+                  given_7,
+                  inl (refl, refl),
+                  to_the_client 130000 given_7 [] [] (drops (answer_bytes continue 1 24)) refl
+                      (_, _, _, _, _, _, refl),
+                ),
+                (
+                  (
+                    given_6,
+                    inl (refl, refl),
+                    to_the_server 130000 given_6
+                        (answer_bytes continue 1 24) server.takes_lost_second refl (_, _, _, _, refl),
+                  ),
                   (
                     (rests 130000 ∷ [], ((_, _, _, _, _, refl), tt), on_client [] [] (rests 130000 ∷ [])),
                     (
                       (called 62000 1 held_body, (_, (_, refl), refl), on_client [] [] (called 62000 1 held_body)),
                       (
-                        (expires, ((_, _, _, _, _, refl), ((_, _, _, _, _, refl), tt)), on_client (reported Timeout ∷ []) [] expires),
+                        (
+                          expires,
+                          ((_, _, _, _, _, refl), ((_, _, _, _, _, refl), tt)),
+                          on_client (reported Timeout ∷ []) [] expires,
+                        ),
                         made_lost,
                       ),
                     ),
@@ -187,17 +270,21 @@ legal = (
         (
           legal_at 130001 (Deliver 9) (omega arith) tt (omega arith) (given_9, inl (refl, refl), inl refl, omega arith),
           (
-            legal_at 130001 (Deliver 8) (omega arith) tt (omega arith) (given_8, inl (refl, refl), inr refl, omega arith),
+            legal_at 130001 (Deliver 8) (omega arith) tt (omega arith)
+                (given_8, inl (refl, refl), inr refl, omega arith),
             (
               legal_at 130001 TickClient (omega arith) tt (omega arith) tt,
               (
-                legal_at 130000 (Deliver 7) (omega arith) tt (omega arith) (given_7, inl (refl, refl), inl refl, omega arith),
+                legal_at 130000 (Deliver 7) (omega arith) tt (omega arith)
+                    (given_7, inl (refl, refl), inl refl, omega arith),
                 (
-                  legal_at 130000 (Deliver 6) (omega arith) tt (omega arith) (given_6, inl (refl, refl), inr refl, omega arith),
+                  legal_at 130000 (Deliver 6) (omega arith) tt (omega arith)
+                      (given_6, inl (refl, refl), inr refl, omega arith),
                   (
                     legal_at 130000 TickClient (omega arith) tt (omega arith) tt,
                     (
-                      legal_at 62000 (Calls (uploading held_body)) (omega arith) (range held_body (bytes_are held_body refl)) (omega arith) tt,
+                      legal_at 62000 (Calls (uploading held_body)) (omega arith)
+                          (range held_body (bytes_are held_body refl)) (omega arith) tt,
                       (legal_at 62000 TickClient (omega arith) tt (omega arith) tt, legal_lost),
                     ),
                   ),
@@ -220,7 +307,8 @@ sent : SentFor by_16 1 (key 4) all
 sent = (_, inr (inr (inr (inr (inr (inr (inr (inl refl))))))), refl, refl)
 
 applied : Sometime (AppliesFor by_16 1 all) all
-applied = inr (inr (inr (inr (inr (inr (inl (record { request = _; here = refl; applied = refl; from = refl; belongs = sent })))))))
+applied = inr (inr (inr (inr (inr (inr (inl (record
+    { request = _; here = refl; applied = refl; from = refl; belongs = sent })))))))
 
 pub held_back : HoldsBack
 held_back = record {

@@ -26,7 +26,8 @@ range = record { path = t_is; format = tt; body = bytes_are [] refl; etags = no_
 
 abbrev turns : List Turn
 turns =
-    a_turn (event 0 (StrangerToServer stranger (delete_bytes 1))) (map OfServer (server_turn (to_stranger deleted_bytes ∷ []) server.serves)) ∷
+    a_turn (event 0 (StrangerToServer stranger (delete_bytes 1)))
+    (map OfServer (server_turn (to_stranger deleted_bytes ∷ []) server.serves)) ∷
     a_turn (event 0 TickClient) (map OfClient (client_turn [] (to_server (delete_bytes 0) ∷ []) client.ticked)) ∷
     a_turn (event 0 (Calls delete)) (map OfClient (client_turn [] [] client.called)) ∷
     a_turn (event 0 hi) (map OfServer (server_turn [] (sets ∷ []))) ∷
@@ -36,18 +37,32 @@ made : Always (λ past t. Makes past t.event.at t.event.word t.event.what t.refu
 made = (
   (server.serves, (_, (_, _, _, _, refl), refl), on_server (to_stranger deleted_bytes ∷ []) server.serves),
   (
-    (client.ticked, ((_, _, _, _, _, refl), ((_, _, _, _, _, refl), tt)), on_client [] (to_server (delete_bytes 0) ∷ []) client.ticked),
-    ((client.called, (_, (_, refl), refl), on_client [] [] client.called), ((sets ∷ [], (_, (_, _, refl), refl), on_server [] (sets ∷ [])), tt)),
+    (
+      client.ticked,
+      ((_, _, _, _, _, refl), ((_, _, _, _, _, refl), tt)),
+      on_client [] (to_server (delete_bytes 0) ∷ []) client.ticked,
+    ),
+    (
+      (client.called, (_, (_, refl), refl), on_client [] [] client.called),
+      ((sets ∷ [], (_, (_, _, refl), refl), on_server [] (sets ∷ [])), tt),
+    ),
   ),
 )
 
 legal : AllLegal turns
 legal = (
-  legal_at 0 (StrangerToServer stranger (delete_bytes 1)) (omega arith) (record { four = refl; bytes = bytes_are localhost refl; port = omega arith }, bytes_are (delete_bytes 1) refl) (omega arith)
-      ((λ h. let k = elsewhere _ h in absurd (omega (arith, k))), (λ h. let k = elsewhere _ h in absurd (omega (arith, k)))),
+  legal_at 0 (StrangerToServer stranger (delete_bytes 1)) (omega arith)
+      (record { four = refl; bytes = bytes_are localhost refl; port = omega arith }, bytes_are (delete_bytes 1) refl)
+      (omega arith) (
+        (λ h. let k = elsewhere _ h in absurd (omega (arith, k))),
+        (λ h. let k = elsewhere _ h in absurd (omega (arith, k))),
+      ),
   (
     legal_at 0 TickClient (omega arith) tt (omega arith) tt,
-    (legal_at 0 (Calls delete) (omega arith) range (omega arith) tt, (legal_at 0 hi (omega arith) (t_is, omega arith, bytes_are (codes "hi") refl) tt tt, tt)),
+    (
+      legal_at 0 (Calls delete) (omega arith) range (omega arith) tt,
+      (legal_at 0 hi (omega arith) (t_is, omega arith, bytes_are (codes "hi") refl) tt tt, tt),
+    ),
   ),
 )
 

@@ -1,5 +1,5 @@
--- The turns of uploads of which a block comes late: their calls, the newest first, that their events make them, and what goes out in
--- them (RFC 7252, section 4.2; RFC 7959, section 2.5).
+-- The turns of uploads of which a block comes late: their calls, the newest first, that their events make them, and
+-- what goes out in them (RFC 7252, section 4.2; RFC 7959, section 2.5).
 use Rattle.std.proofs.Common.{◌≡◌, ◌≤◌, ◌<◌, inl, inr, ℕ, true, false, Some, None, List, [], ◌∷◌, map, length, Ok, refl}
 use Rattle.std.proofs.Common.{arith}
 use Rattle.std.specs.Prelude.{codes}
@@ -43,7 +43,8 @@ goes_on at id value next =
     (Some (event.Answer (answer continue id value))) (L.Sent next) (Ok (key next)) false
 
 abbrev pub ends : ℕ → List ℕ → Message → C.Call
-ends at bytes m = C.Feeds at server_end bytes 0 (L.Becomes (L.Response m)) true (Some (event.Answer m)) L.Nothing (Ok []) false
+ends at bytes m = C.Feeds at server_end bytes 0 (L.Becomes (L.Response m)) true (Some (event.Answer m)) L.Nothing
+    (Ok []) false
 
 -- the second block is copied, and fails; the response to it comes too late
 
@@ -54,7 +55,8 @@ abbrev pub copied : List ℕ → ℕ → List C.Call
 copied bytes at = client_turn [] (to_server bytes ∷ []) (copies at)
 
 abbrev pub expires : List C.Call
-expires = rests 62000 ∷ C.Ticks 62000 0 (L.Expired server_end 1) (turn.End event.Timeout) L.Nothing (Ok []) false true ∷ []
+expires = rests 62000 ∷ C.Ticks 62000 0 (L.Expired server_end 1) (turn.End event.Timeout) L.Nothing (Ok []) false true ∷
+    []
 
 abbrev pub drops : List ℕ → C.Call
 drops bytes = C.Feeds 130000 server_end bytes 0 (L.Becomes L.Dropped) false None L.Nothing (Ok []) false
@@ -75,7 +77,8 @@ abbrev pub takes : ℕ → ℕ → ℕ → List ℕ → S.Call
 takes at id value payload =
     S.Feeds at client_end (block_bytes id value payload) 0 (L.Becomes (L.Request (block id value payload) true))
     (Some (asked_of client_end (block id value payload), block id value payload))
-    (S.Replies (record { code = continue; options = record { number = 27; value = value ∷ [] } ∷ []; payload = [] })) L.Nothing
+    (S.Replies (record { code = continue; options = record { number = 27; value = value ∷ [] } ∷ []; payload = [] }))
+    L.Nothing
 
 abbrev pub answers : List ℕ → S.Call → List S.Call
 answers bytes c = server_turn (to_client bytes ∷ []) (c ∷ [])
@@ -86,8 +89,10 @@ answered at id reply = record { from = client_end; id = id; at = at; con = true;
 
 -- what a delivery makes
 
-pub to_the_client : (at : ℕ) (g : Given) (reports : List C.Reported) (outs : List L.Packet) (c : C.Call) → g.packet.to ≡ client_end
-    → FeedsClient at 0 g.from g.packet.bytes c → Delivers g at 0 false (map OfClient (client_turn reports outs (c ∷ [])))
+pub to_the_client : (at : ℕ) (g : Given) (reports : List C.Reported) (outs : List L.Packet) (c : C.Call)
+    → g.packet.to ≡ client_end
+    → FeedsClient at 0 g.from g.packet.bytes c → Delivers g at 0 false
+    (map OfClient (client_turn reports outs (c ∷ [])))
 to_the_client at g reports outs c to feeds = inr (to, c ∷ [], (c, feeds, refl), on_client reports outs (c ∷ []))
 
 pub to_the_server : (at : ℕ) (g : Given) (reply : List ℕ) (c : S.Call) → g.packet.to ≡ server_end
@@ -115,7 +120,12 @@ block_spelled id value payload few = (sendable_when_short _ (record {
 }) (omega (arith, few))).spelled
 
 pub body_spelled : (id : ℕ) (payload : List ℕ) → length payload ≤ 16
-    → IsSpelled (record { code = 3; token = key id; options = record { number = 11; value = codes "t" } ∷ []; payload = payload })
+    → IsSpelled (record {
+      code = 3;
+      token = key id;
+      options = record { number = 11; value = codes "t" } ∷ [];
+      payload = payload;
+    })
 unfolding option_bytes options_bytes
 body_spelled id payload few = (sendable_when_short _ (record {
   some = omega arith;
@@ -130,7 +140,8 @@ body_spelled id payload few = (sendable_when_short _ (record {
 abbrev says : ℕ → ℕ → List CoapOption → L.Content
 says code id options = record { code = code; token = key id; options = options; payload = [] }
 
-pub response_spelled : (code id value : ℕ) → 0 < code → code < 256 → IsSpelled (says code id (record { number = 27; value = value ∷ [] } ∷ []))
+pub response_spelled : (code id value : ℕ) → 0 < code → code < 256
+    → IsSpelled (says code id (record { number = 27; value = value ∷ [] } ∷ []))
 unfolding option_bytes options_bytes
 response_spelled code id value some small = (sendable_when_short _ (record {
   some = omega (arith, some);

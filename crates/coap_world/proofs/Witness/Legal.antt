@@ -13,18 +13,30 @@ use Rattle.coap_world.proofs.Witness.NoneRuns.{events_of, newest}
 
 -- what comes from no end
 module _ (what : What) (range : InRange what) (comes : (past : List Turn) (at : ℕ) → MayCome past at what) where
-  happens : (past : List Turn) (at word : ℕ) → at < 2 ^ 64 → word < 2 ^ 64 → NotBefore past at → MayHappen past (at_with at word what)
-  happens past at word small word_small later = record { at = small; word = word_small; range = range; later = later; comes = comes past at }
+  happens : (past : List Turn) (at word : ℕ) → at < 2 ^ 64 → word < 2 ^ 64 → NotBefore past at
+      → MayHappen past (at_with at word what)
+  happens past at word small word_small later =
+      record { at = small; word = word_small; range = range; later = later; comes = comes past at }
 
   may : May what
-  may = record { first = λ at word small word_small. happens [] at word small word_small tt; then = λ last past at word small word_small later. happens (last ∷ past) at word small word_small later }
+  may = record {
+    first = λ at word small word_small. happens [] at word small word_small tt;
+    then = λ last past at word small word_small later. happens (last ∷ past) at word small word_small later;
+  }
 
 path_in : (path : List (List ℕ)) → Segments path → IsPath path
 path_in path s = record { bounds = record { few = s.0; short = s.1 }; bytes = s.2 }
 
 pub calls_may : CallsMay
 calls_may r path accept format body etags if_match =
-    may (Calls r) (record { path = path_in r.path path; format = format; body = body; etags = etags; if_match = if_match; accept = accept }) (λ past at. tt)
+    may (Calls r) (record {
+      path = path_in r.path path;
+      format = format;
+      body = body;
+      etags = etags;
+      if_match = if_match;
+      accept = accept;
+    }) (λ past at. tt)
 
 pub observes_may : ObservesMay
 observes_may path segments = may (Observes path) (path_in path segments) (λ past at. tt)
@@ -33,7 +45,8 @@ pub ends_may : EndsMay
 ends_may number small = (may (Cancels number) small (λ past at. tt), may (Forgets number) small (λ past at. tt))
 
 pub sets_may : SetsMay
-sets_may path format body segments small bytes = may (Sets path format body) (path_in path segments, small, bytes) (λ past at. tt)
+sets_may path format body segments small bytes =
+    may (Sets path format body) (path_in path segments, small, bytes) (λ past at. tt)
 
 pub removes_may : RemovesMay
 removes_may path segments = may (Removes path) (path_in path segments) (λ past at. tt)
@@ -44,19 +57,23 @@ ticks_may = (may TickClient tt (λ past at. tt), may TickServer tt (λ past at. 
 pub strangers_may : StrangersMay
 strangers_may ip port bytes four are small of_bytes client server =
     let from : Endpoint = record { ip = ip; port = port } in
-    let range : InRange (StrangerToServer from bytes) = (record { four = four; bytes = are; port = small }, of_bytes) in (
+    let range : InRange (StrangerToServer from bytes) =
+    (record { four = four; bytes = are; port = small }, of_bytes) in (
       may (StrangerToServer from bytes) range (λ past at. (client, server)),
       may (StrangerToClient from bytes) range (λ past at. (client, server)),
     )
 
 pub deliveries_may : DeliveriesMay 100000
-deliveries_may turn past at word number g small word_small later is to young = record { at = small; word = word_small; range = tt; later = later; comes = (g, is, to, young) }
+deliveries_may turn past at word number g small word_small later is to young =
+    record { at = small; word = word_small; range = tt; later = later; comes = (g, is, to, young) }
 
 -- .. and which are not
 
-last_at : (at : ℕ) (past : List Turn) (e : Event) (es : List Event) → events_of past ≡ e ∷ es → NotBefore past at → e.at ≤ at
+last_at : (at : ℕ) (past : List Turn) (e : Event) (es : List Event) → events_of past ≡ e ∷ es → NotBefore past at
+    → e.at ≤ at
 last_at at [] e es h later = absurd (cc h)
-last_at at (t ∷ past) e es h later = let same : t.event ≡ e = cc h in let k = ap (λ (x : Event). x.at) same in omega (arith, k, later)
+last_at at (t ∷ past) e es h later = let same : t.event
+    ≡ e = cc h in let k = ap (λ (x : Event). x.at) same in omega (arith, k, later)
 
 pub none_falls : NoneFalls
 none_falls at later falls config turns made legal =
@@ -65,11 +82,15 @@ none_falls at later falls config turns made legal =
     omega (arith, falls, k)
 
 pub none_over : NoneOver
-none_over at word (inl over) config turns made legal = let n = newest turns _ _ made.events_are legal in let k = n.at in omega (arith, over, k)
-none_over at word (inr over) config turns made legal = let n = newest turns _ _ made.events_are legal in let k = n.word in omega (arith, over, k)
+none_over at word (inl over) config turns made legal = let n = newest turns _ _ made.events_are legal in let k =
+    n.at in omega (arith, over, k)
+none_over at word (inr over) config turns made legal = let n = newest turns _ _ made.events_are legal in let k =
+    n.word in omega (arith, over, k)
 
 pub none_longer : NoneLonger
-none_longer path long config turns made legal = let n = newest turns _ _ made.events_are legal in let k = n.range.bounds.few in omega (arith, long, k)
+none_longer path long config turns made legal = let n = newest turns _ _ made.events_are legal in let k =
+    n.range.bounds.few in omega (arith, long, k)
 
 pub none_beyond : NoneBeyond
-none_beyond path format body over config turns made legal = let n = newest turns _ _ made.events_are legal in let k = n.range.1 in omega (arith, over, k)
+none_beyond path format body over config turns made legal = let n = newest turns _ _ made.events_are legal in let k =
+    n.range.1 in omega (arith, over, k)

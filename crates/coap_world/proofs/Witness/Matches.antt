@@ -27,10 +27,24 @@ one_tag = record {
 }
 
 range : IsRequest replace
-range = record { path = t_is; format = omega arith; body = bytes_are (codes "a") refl; etags = no_tags; if_match = one_tag; accept = tt }
+range = record {
+  path = t_is;
+  format = omega arith;
+  body = bytes_are (codes "a") refl;
+  etags = no_tags;
+  if_match = one_tag;
+  accept = tt;
+}
 
 range_next : IsRequest delete
-range_next = record { path = t_is; format = tt; body = bytes_are [] refl; etags = no_tags; if_match = no_tags; accept = tt }
+range_next = record {
+  path = t_is;
+  format = tt;
+  body = bytes_are [] refl;
+  etags = no_tags;
+  if_match = no_tags;
+  accept = tt;
+}
 
 abbrev turns : List Turn
 turns =
@@ -50,7 +64,12 @@ made = (
   (
     from_server 4 client_end gone_bytes,
     inl (refl, refl),
-    inr (refl, client.hears_last, (_, (_, _, _, _, _, _, refl), refl), on_client (client.last_report ∷ []) [] client.hears_last),
+    inr (
+      refl,
+      client.hears_last,
+      (_, (_, _, _, _, _, _, refl), refl),
+      on_client (client.last_report ∷ []) [] client.hears_last,
+    ),
   ),
   (
     (
@@ -59,23 +78,41 @@ made = (
       inl (refl, server.last, (_, (_, _, _, _, refl), refl), on_server (to_client gone_bytes ∷ []) server.last),
     ),
     (
-      ((sends 3 1), ((_, _, _, _, _, refl), ((_, _, _, _, _, refl), tt)), on_client [] (to_server next_delete ∷ []) (sends 3 1)),
+      (
+        (sends 3 1),
+        ((_, _, _, _, _, refl), ((_, _, _, _, _, refl), tt)),
+        on_client [] (to_server next_delete ∷ []) (sends 3 1),
+      ),
       (
         (client.called_next, (_, (_, refl), refl), on_client [] [] client.called_next),
         (
           (
             from_server 1 client_end changed_bytes,
             inl (refl, refl),
-            inr (refl, client.hears_first, (_, (_, _, _, _, _, _, refl), refl), on_client (client.first_report ∷ []) [] client.hears_first),
+            inr (
+              refl,
+              client.hears_first,
+              (_, (_, _, _, _, _, _, refl), refl),
+              on_client (client.first_report ∷ []) [] client.hears_first,
+            ),
           ),
           (
             (
               from_client 0 replace_bytes,
               inl (refl, refl),
-              inl (refl, server.first, (_, (_, _, _, _, refl), refl), on_server (to_client changed_bytes ∷ []) server.first),
+              inl (
+                refl,
+                server.first,
+                (_, (_, _, _, _, refl), refl),
+                on_server (to_client changed_bytes ∷ []) server.first,
+              ),
             ),
             (
-              ((sends 0 0), ((_, _, _, _, _, refl), ((_, _, _, _, _, refl), tt)), on_client [] (to_server replace_bytes ∷ []) (sends 0 0)),
+              (
+                (sends 0 0),
+                ((_, _, _, _, _, refl), ((_, _, _, _, _, refl), tt)),
+                on_client [] (to_server replace_bytes ∷ []) (sends 0 0),
+              ),
               (
                 (client.called, (_, (_, refl), refl), on_client [] [] client.called),
                 ((sets ∷ [], (_, (_, _, refl), refl), on_server [] (sets ∷ [])), tt),
@@ -90,17 +127,21 @@ made = (
 
 legal : AllLegal turns
 legal = (
-  legal_at 5 (Deliver 3) (omega arith) tt (omega arith) (from_server 4 client_end gone_bytes, inl (refl, refl), inl refl, omega arith),
+  legal_at 5 (Deliver 3) (omega arith) tt (omega arith)
+      (from_server 4 client_end gone_bytes, inl (refl, refl), inl refl, omega arith),
   (
-    legal_at 4 (Deliver 2) (omega arith) tt (omega arith) (from_client 3 next_delete, inl (refl, refl), inr refl, omega arith),
+    legal_at 4 (Deliver 2) (omega arith) tt (omega arith)
+        (from_client 3 next_delete, inl (refl, refl), inr refl, omega arith),
     (
       legal_at 3 TickClient (omega arith) tt (omega arith) tt,
       (
         legal_at 3 (Calls delete) (omega arith) range_next (omega arith) tt,
         (
-          legal_at 2 (Deliver 1) (omega arith) tt (omega arith) (from_server 1 client_end changed_bytes, inl (refl, refl), inl refl, omega arith),
+          legal_at 2 (Deliver 1) (omega arith) tt (omega arith)
+              (from_server 1 client_end changed_bytes, inl (refl, refl), inl refl, omega arith),
           (
-            legal_at 1 (Deliver 0) (omega arith) tt (omega arith) (from_client 0 replace_bytes, inl (refl, refl), inr refl, omega arith),
+            legal_at 1 (Deliver 0) (omega arith) tt (omega arith)
+                (from_client 0 replace_bytes, inl (refl, refl), inr refl, omega arith),
             (
               legal_at 0 TickClient (omega arith) tt (omega arith) tt,
               (

@@ -1,4 +1,5 @@
--- Events of which no run is legal: a datagram that comes too late, one that was never given out, and a stranger with an end's address.
+-- Events of which no run is legal: a datagram that comes too late, one that was never given out, and a stranger with an
+-- end's address.
 use Rattle.std.proofs.Common.{◌≡◌, ◌<◌, ◌^◌, inl, ℕ, List, [], ◌∷◌, map, ap, subst, refl, arith}
 use Rattle.coap_types.specs.Past.{Ever, all_of}
 use Rattle.coap_types.proofs.Facts.Traces.{Ever_of_Sometime}

@@ -28,9 +28,17 @@ turns_asked =
 
 pub made_asked : Always (λ past t. Makes past t.event.at t.event.word t.event.what t.refused t.entries) turns_asked
 made_asked = (
-  (from_client 0 observe_bytes, inl (refl, refl), inl (refl, server.fed, (_, (_, _, _, _, refl), refl), on_server (to_client first_bytes ∷ []) server.fed)),
   (
-    (client.ticked, ((_, _, _, _, _, refl), ((_, _, _, _, _, refl), tt)), on_client [] (to_server observe_bytes ∷ []) client.ticked),
+    from_client 0 observe_bytes,
+    inl (refl, refl),
+    inl (refl, server.fed, (_, (_, _, _, _, refl), refl), on_server (to_client first_bytes ∷ []) server.fed),
+  ),
+  (
+    (
+      client.ticked,
+      ((_, _, _, _, _, refl), ((_, _, _, _, _, refl), tt)),
+      on_client [] (to_server observe_bytes ∷ []) client.ticked,
+    ),
     (
       (client.observing, (_, (_, refl), refl), on_client [] [] client.observing),
       ((server.first_set, (_, (_, _, refl), refl), on_server [] server.first_set), tt),
@@ -40,7 +48,8 @@ made_asked = (
 
 pub legal_asked : AllLegal turns_asked
 legal_asked = (
-  legal_at 1 (Deliver 0) (omega arith) tt (omega arith) (from_client 0 observe_bytes, inl (refl, refl), inr refl, omega arith),
+  legal_at 1 (Deliver 0) (omega arith) tt (omega arith)
+      (from_client 0 observe_bytes, inl (refl, refl), inr refl, omega arith),
   (
     legal_at 0 TickClient (omega arith) tt (omega arith) tt,
     (
@@ -53,34 +62,67 @@ legal_asked = (
 -- .. and with it
 
 abbrev pub turns_before : List Turn
-turns_before = a_turn (event 2 (Deliver 1)) (map OfClient (client_turn (client.value 1 (codes "a") ∷ []) [] client.registered)) ∷ turns_asked
+turns_before = a_turn (event 2 (Deliver 1)) (map OfClient
+    (client_turn (client.value 1 (codes "a") ∷ []) [] client.registered)) ∷ turns_asked
 
 pub made_before : Always (λ past t. Makes past t.event.at t.event.word t.event.what t.refused t.entries) turns_before
 made_before = (
-  (from_server 1 client_end first_bytes, inl (refl, refl), inr (refl, client.registered, (_, (_, _, _, _, _, _, refl), refl), on_client (client.value 1 (codes "a") ∷ []) [] client.registered)),
+  (
+    from_server 1 client_end first_bytes,
+    inl (refl, refl),
+    inr (
+      refl,
+      client.registered,
+      (_, (_, _, _, _, _, _, refl), refl),
+      on_client (client.value 1 (codes "a") ∷ []) [] client.registered,
+    ),
+  ),
   made_asked,
 )
 
 pub legal_before : AllLegal turns_before
-legal_before = (legal_at 2 (Deliver 1) (omega arith) tt (omega arith) (from_server 1 client_end first_bytes, inl (refl, refl), inl refl, omega arith), legal_asked)
+legal_before = (
+  legal_at 2 (Deliver 1) (omega arith) tt (omega arith)
+      (from_server 1 client_end first_bytes, inl (refl, refl), inl refl, omega arith),
+  legal_asked,
+)
 
 -- the notification
 
 abbrev turns : List Turn
 turns =
     a_turn (event 5 (Deliver 3)) (map OfServer (server_turn [] (server.acknowledged 5))) ∷
-    a_turn (event 4 (Deliver 2)) (map OfClient (client_turn (client.value 2 (codes "b") ∷ []) (to_server empty_ack ∷ []) client.notified)) ∷
+    a_turn (event 4 (Deliver 2)) (map OfClient (client_turn (client.value 2 (codes "b") ∷ [])
+    (to_server empty_ack ∷ []) client.notified)) ∷
     a_turn (event 3 TickServer) (map OfServer (server_turn (to_client second_bytes ∷ []) server.ticked)) ∷
     a_turn (event 3 (puts (codes "b"))) (map OfServer (server_turn [] server.second_set)) ∷
     turns_before
 
 made : Always (λ past t. Makes past t.event.at t.event.word t.event.what t.refused t.entries) turns
 made = (
-  (from_client 4 empty_ack, inl (refl, refl), inl (refl, server.acknowledged 5, (_, (_, _, _, _, refl), refl), on_server [] (server.acknowledged 5))),
   (
-    (from_server 3 client_end second_bytes, inl (refl, refl), inr (refl, client.notified, (_, (_, _, _, _, _, _, refl), refl), on_client (client.value 2 (codes "b") ∷ []) (to_server empty_ack ∷ []) client.notified)),
+    from_client 4 empty_ack,
+    inl (refl, refl),
+    inl
+        (refl, server.acknowledged 5, (_, (_, _, _, _, refl), refl), on_server [] (server.acknowledged 5)),
+  ),
+  (
     (
-      (server.ticked, ((_, _, _, _, _, _, refl), ((_, _, _, _, _, _, refl), tt)), on_server (to_client second_bytes ∷ []) server.ticked),
+      from_server 3 client_end second_bytes,
+      inl (refl, refl),
+      inr (
+        refl,
+        client.notified,
+        (_, (_, _, _, _, _, _, refl), refl),
+        on_client (client.value 2 (codes "b") ∷ []) (to_server empty_ack ∷ []) client.notified,
+      ),
+    ),
+    (
+      (
+        server.ticked,
+        ((_, _, _, _, _, _, refl), ((_, _, _, _, _, _, refl), tt)),
+        on_server (to_client second_bytes ∷ []) server.ticked,
+      ),
       ((server.second_set, (_, (_, _, refl), refl), on_server [] server.second_set), made_before),
     ),
   ),
@@ -88,12 +130,17 @@ made = (
 
 legal : AllLegal turns
 legal = (
-  legal_at 5 (Deliver 3) (omega arith) tt (omega arith) (from_client 4 empty_ack, inl (refl, refl), inr refl, omega arith),
+  legal_at 5 (Deliver 3) (omega arith) tt (omega arith)
+      (from_client 4 empty_ack, inl (refl, refl), inr refl, omega arith),
   (
-    legal_at 4 (Deliver 2) (omega arith) tt (omega arith) (from_server 3 client_end second_bytes, inl (refl, refl), inl refl, omega arith),
+    legal_at 4 (Deliver 2) (omega arith) tt (omega arith)
+        (from_server 3 client_end second_bytes, inl (refl, refl), inl refl, omega arith),
     (
       legal_at 3 TickServer (omega arith) tt (omega arith) tt,
-      (legal_at 3 (puts (codes "b")) (omega arith) (t_is, omega arith, bytes_are (codes "b") refl) (omega arith) tt, legal_before),
+      (
+        legal_at 3 (puts (codes "b")) (omega arith) (t_is, omega arith, bytes_are (codes "b") refl) (omega arith) tt,
+        legal_before,
+      ),
     ),
   ),
 )

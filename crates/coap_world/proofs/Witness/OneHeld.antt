@@ -13,7 +13,8 @@ one path held tally = record { holds = λ other. cond (same_path path other) (So
 there : (path : List (List ℕ)) (held : Held) (tally : Tally) → (one path held tally).holds path ≡ Some held
 there path held tally = ap (λ b. cond b (Some held) None) ((same_path-decides path path).1 refl)
 
-elsewhere : (path other : List (List ℕ)) (held : Held) (tally : Tally) → other ≢ path → (one path held tally).holds other ≡ None
+elsewhere : (path other : List (List ℕ)) (held : Held) (tally : Tally) → other ≢ path
+    → (one path held tally).holds other ≡ None
 elsewhere path other held tally apart = go (same_path path other) refl
   where
     go : (b : Bool) → same_path path other ≡ b → cond b (Some held) None ≡ None
@@ -21,7 +22,8 @@ elsewhere path other held tally apart = go (same_path path other) refl
     go false same = refl
 
 -- the first change
-pub first : (limit now : ℕ) (path : List (List ℕ)) (held : Held) → Changes (nothing limit) now path (Some held) (one path held (counted (unused limit) now))
+pub first : (limit now : ℕ) (path : List (List ℕ)) (held : Held)
+    → Changes (nothing limit) now path (Some held) (one path held (counted (unused limit) now))
 first limit now path held = record {
   there = there path held (counted (unused limit) now);
   others = λ other apart. elsewhere path other held (counted (unused limit) now) apart;
@@ -30,10 +32,12 @@ first limit now path held = record {
 }
 
 -- a further one of the same path
-pub further : (now : ℕ) (path : List (List ℕ)) (old new : Held) (tally : Tally) → Changes (one path old tally) now path (Some new) (one path new (counted tally now))
+pub further : (now : ℕ) (path : List (List ℕ)) (old new : Held) (tally : Tally)
+    → Changes (one path old tally) now path (Some new) (one path new (counted tally now))
 further now path old new tally = record {
   there = there path new (counted tally now);
-  others = λ other apart. elsewhere path other new (counted tally now) apart ∙ sym (elsewhere path other old tally apart);
+  others = λ other apart. elsewhere path other new (counted tally now) apart
+      ∙ sym (elsewhere path other old tally apart);
   paths = ap (λ (held : Option Held). 1 + (if is_some held then 1 else 0)) (there path old tally);
   tally = refl;
 }
@@ -42,7 +46,8 @@ further now path old new tally = record {
 abbrev pub empty : Tally → Content
 empty tally = record { holds = λ other. None; paths = 0; tally = tally }
 
-pub removed : (now : ℕ) (path : List (List ℕ)) (held : Held) (tally : Tally) → Changes (one path held tally) now path None (empty (counted tally now))
+pub removed : (now : ℕ) (path : List (List ℕ)) (held : Held) (tally : Tally)
+    → Changes (one path held tally) now path None (empty (counted tally now))
 removed now path held tally = record {
   there = refl;
   others = λ other apart. sym (elsewhere path other held tally apart);
@@ -51,7 +56,8 @@ removed now path held tally = record {
 }
 
 -- .. and what it is given then
-pub anew : (now : ℕ) (path : List (List ℕ)) (held : Held) (tally : Tally) → Changes (empty tally) now path (Some held) (one path held (counted tally now))
+pub anew : (now : ℕ) (path : List (List ℕ)) (held : Held) (tally : Tally)
+    → Changes (empty tally) now path (Some held) (one path held (counted tally now))
 anew now path held tally = record {
   there = there path held (counted tally now);
   others = λ other apart. elsewhere path other held (counted tally now) apart;

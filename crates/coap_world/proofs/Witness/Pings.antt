@@ -19,7 +19,8 @@ use Rattle.coap_world.proofs.Witness.Pings.Server as server
 
 abbrev turns : List Turn
 turns =
-    a_turn (event 1 (StrangerToClient stranger ping)) (map OfClient (client_turn [] (to_stranger pong ∷ []) client.fed)) ∷
+    a_turn (event 1 (StrangerToClient stranger ping))
+    (map OfClient (client_turn [] (to_stranger pong ∷ []) client.fed)) ∷
     a_turn (event 0 (StrangerToServer stranger ping)) (map OfServer (server_turn (to_stranger pong ∷ []) server.fed)) ∷
     []
 
@@ -31,11 +32,17 @@ made = (
 
 legal : AllLegal turns
 legal = (
-  legal_at 1 (StrangerToClient stranger ping) (omega arith) (record { four = refl; bytes = bytes_are localhost refl; port = omega arith }, bytes_are ping refl) (omega arith)
-      ((λ h. let k = elsewhere _ h in absurd (omega (arith, k))), (λ h. let k = elsewhere _ h in absurd (omega (arith, k)))),
+  legal_at 1 (StrangerToClient stranger ping) (omega arith)
+      (record { four = refl; bytes = bytes_are localhost refl; port = omega arith }, bytes_are ping refl) (omega arith) (
+        (λ h. let k = elsewhere _ h in absurd (omega (arith, k))),
+        (λ h. let k = elsewhere _ h in absurd (omega (arith, k))),
+      ),
   (
-    legal_at 0 (StrangerToServer stranger ping) (omega arith) (record { four = refl; bytes = bytes_are localhost refl; port = omega arith }, bytes_are ping refl) tt
-        ((λ h. let k = elsewhere _ h in absurd (omega (arith, k))), (λ h. let k = elsewhere _ h in absurd (omega (arith, k)))),
+    legal_at 0 (StrangerToServer stranger ping) (omega arith)
+        (record { four = refl; bytes = bytes_are localhost refl; port = omega arith }, bytes_are ping refl) tt (
+          (λ h. let k = elsewhere _ h in absurd (omega (arith, k))),
+          (λ h. let k = elsewhere _ h in absurd (omega (arith, k))),
+        ),
     tt,
   ),
 )

@@ -20,7 +20,14 @@ use Rattle.coap_world.proofs.Witness.Queues.Client as client
 use Rattle.coap_world.proofs.Witness.Queues.Server as server
 
 range : IsRequest new
-range = record { path = t_is; format = omega arith; body = bytes_are (codes "hi") refl; etags = no_tags; if_match = no_tags; accept = tt }
+range = record {
+  path = t_is;
+  format = omega arith;
+  body = bytes_are (codes "hi") refl;
+  etags = no_tags;
+  if_match = no_tags;
+  accept = tt;
+}
 
 abbrev turns : List Turn
 turns =
@@ -39,7 +46,12 @@ made = (
   (
     from_server 3 client_end new_content_bytes,
     inl (refl, refl),
-    inr (refl, client.hears_last, (_, (_, _, _, _, _, _, refl), refl), on_client (client.last_report ∷ []) [] client.hears_last),
+    inr (
+      refl,
+      client.hears_last,
+      (_, (_, _, _, _, _, _, refl), refl),
+      on_client (client.last_report ∷ []) [] client.hears_last,
+    ),
   ),
   (
     (
@@ -48,21 +60,39 @@ made = (
       inl (refl, server.last, (_, (_, _, _, _, refl), refl), on_server (to_client new_content_bytes ∷ []) server.last),
     ),
     (
-      ((sends 2 1), ((_, _, _, _, _, refl), ((_, _, _, _, _, refl), tt)), on_client [] (to_server (first_get 1) ∷ []) (sends 2 1)),
+      (
+        (sends 2 1),
+        ((_, _, _, _, _, refl), ((_, _, _, _, _, refl), tt)),
+        on_client [] (to_server (first_get 1) ∷ []) (sends 2 1),
+      ),
       (
         (
           from_server 1 client_end created_bytes,
           inl (refl, refl),
-          inr (refl, client.hears_first, (_, (_, _, _, _, _, _, refl), refl), on_client (client.first_report ∷ []) [] client.hears_first),
+          inr (
+            refl,
+            client.hears_first,
+            (_, (_, _, _, _, _, _, refl), refl),
+            on_client (client.first_report ∷ []) [] client.hears_first,
+          ),
         ),
         (
           (
             from_client 0 new_bytes,
             inl (refl, refl),
-            inl (refl, server.first, (_, (_, _, _, _, refl), refl), on_server (to_client created_bytes ∷ []) server.first),
+            inl (
+              refl,
+              server.first,
+              (_, (_, _, _, _, refl), refl),
+              on_server (to_client created_bytes ∷ []) server.first,
+            ),
           ),
           (
-            ((sends 0 0), ((_, _, _, _, _, refl), ((_, _, _, _, _, refl), tt)), on_client [] (to_server new_bytes ∷ []) (sends 0 0)),
+            (
+              (sends 0 0),
+              ((_, _, _, _, _, refl), ((_, _, _, _, _, refl), tt)),
+              on_client [] (to_server new_bytes ∷ []) (sends 0 0),
+            ),
             (
               (client.called_next, (_, (_, refl), refl), on_client [] [] client.called_next),
               ((client.called, (_, (_, refl), refl), on_client [] [] client.called), tt),
@@ -76,18 +106,25 @@ made = (
 
 legal : AllLegal turns
 legal = (
-  legal_at 4 (Deliver 3) (omega arith) tt (omega arith) (from_server 3 client_end new_content_bytes, inl (refl, refl), inl refl, omega arith),
+  legal_at 4 (Deliver 3) (omega arith) tt (omega arith)
+      (from_server 3 client_end new_content_bytes, inl (refl, refl), inl refl, omega arith),
   (
-    legal_at 3 (Deliver 2) (omega arith) tt (omega arith) (from_client 2 (first_get 1), inl (refl, refl), inr refl, omega arith),
+    legal_at 3 (Deliver 2) (omega arith) tt (omega arith)
+        (from_client 2 (first_get 1), inl (refl, refl), inr refl, omega arith),
     (
       legal_at 2 TickClient (omega arith) tt (omega arith) tt,
       (
-        legal_at 2 (Deliver 1) (omega arith) tt (omega arith) (from_server 1 client_end created_bytes, inl (refl, refl), inl refl, omega arith),
+        legal_at 2 (Deliver 1) (omega arith) tt (omega arith)
+            (from_server 1 client_end created_bytes, inl (refl, refl), inl refl, omega arith),
         (
-          legal_at 1 (Deliver 0) (omega arith) tt (omega arith) (from_client 0 new_bytes, inl (refl, refl), inr refl, omega arith),
+          legal_at 1 (Deliver 0) (omega arith) tt (omega arith)
+              (from_client 0 new_bytes, inl (refl, refl), inr refl, omega arith),
           (
             legal_at 0 TickClient (omega arith) tt (omega arith) tt,
-            (legal_at 0 (Calls get) (omega arith) gets.range (omega arith) tt, (legal_at 0 (Calls new) (omega arith) range tt tt, tt)),
+            (
+              legal_at 0 (Calls get) (omega arith) gets.range (omega arith) tt,
+              (legal_at 0 (Calls new) (omega arith) range tt tt, tt),
+            ),
           ),
         ),
       ),

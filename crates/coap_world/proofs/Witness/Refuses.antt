@@ -23,7 +23,11 @@ range = record {
   format = omega arith;
   body = bytes_are (codes "a") refl;
   etags = no_tags;
-  if_match = record { few = omega arith; each = of_one IsTag (tag 2) (record { some = omega arith; few = omega arith; bytes = bytes_are (tag 2) refl }) };
+  if_match = record {
+    few = omega arith;
+    each =
+        of_one IsTag (tag 2) (record { some = omega arith; few = omega arith; bytes = bytes_are (tag 2) refl });
+  };
   accept = tt;
 }
 
@@ -38,11 +42,24 @@ turns =
 
 made : Always (λ past t. Makes past t.event.at t.event.word t.event.what t.refused t.entries) turns
 made = (
-  (from_server 5 client_end refused_bytes, inl (refl, refl), inr (refl, client.hears, (_, (_, _, _, _, _, _, refl), refl), on_client (client.failed ∷ []) [] client.hears)),
   (
-    (from_client 0 put_bytes, inl (refl, refl), inl (refl, server.serves, (_, (_, _, _, _, refl), refl), on_server (to_client refused_bytes ∷ []) server.serves)),
+    from_server 5 client_end refused_bytes,
+    inl (refl, refl),
+    inr (refl, client.hears, (_, (_, _, _, _, _, _, refl), refl), on_client (client.failed ∷ []) [] client.hears),
+  ),
+  (
     (
-      (client.ticked, ((_, _, _, _, _, refl), ((_, _, _, _, _, refl), tt)), on_client [] (to_server put_bytes ∷ []) client.ticked),
+      from_client 0 put_bytes,
+      inl (refl, refl),
+      inl
+          (refl, server.serves, (_, (_, _, _, _, refl), refl), on_server (to_client refused_bytes ∷ []) server.serves),
+    ),
+    (
+      (
+        client.ticked,
+        ((_, _, _, _, _, refl), ((_, _, _, _, _, refl), tt)),
+        on_client [] (to_server put_bytes ∷ []) client.ticked,
+      ),
       (
         (client.called, (_, (_, refl), refl), on_client [] [] client.called),
         ((sets ∷ [], (_, (_, _, refl), refl), on_server [] (sets ∷ [])), tt),
@@ -53,9 +70,11 @@ made = (
 
 legal : AllLegal turns
 legal = (
-  legal_at 9 (Deliver 1) (omega arith) tt (omega arith) (from_server 5 client_end refused_bytes, inl (refl, refl), inl refl, omega arith),
+  legal_at 9 (Deliver 1) (omega arith) tt (omega arith)
+      (from_server 5 client_end refused_bytes, inl (refl, refl), inl refl, omega arith),
   (
-    legal_at 5 (Deliver 0) (omega arith) tt (omega arith) (from_client 0 put_bytes, inl (refl, refl), inr refl, omega arith),
+    legal_at 5 (Deliver 0) (omega arith) tt (omega arith)
+        (from_client 0 put_bytes, inl (refl, refl), inr refl, omega arith),
     (
       legal_at 0 TickClient (omega arith) tt (omega arith) tt,
       (

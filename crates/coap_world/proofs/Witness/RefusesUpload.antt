@@ -1,7 +1,9 @@
--- A legal run in which an upload in two blocks is refused by its precondition (RFC 7252, section 5.10.8.1; RFC 7959, section 2.5).
+-- A legal run in which an upload in two blocks is refused by its precondition (RFC 7252, section 5.10.8.1; RFC 7959,
+-- section 2.5).
 pub mod Client
 pub mod Server
-use Rattle.std.proofs.Common.{◌≡◌, inl, inr, Bool, true, false, Option, Some, None, List, [], ◌∷◌, map, refl, ap, ◌∙◌, arith}
+use Rattle.std.proofs.Common.{◌≡◌, inl, inr, Bool, true, false, Option, Some, None, List, [], ◌∷◌, map, refl, ap, ◌∙◌}
+use Rattle.std.proofs.Common.{arith}
 use Rattle.std.specs.Prelude.{codes}
 use Rattle.coap_types.specs.Past.{Always, Sometime}
 use Rattle.coap_types.specs.EntityTag.{IsTag}
@@ -17,7 +19,8 @@ use Rattle.coap_world.specs.BlockRuns.{by_16, new_body, answer_bytes}
 use Rattle.coap_world.specs.LateRuns.{continue}
 use Rattle.coap_world.specs.RefusedRuns.{guarded, guarded_first, guarded_last, RefusesUpload}
 use Rattle.coap_world.proofs.Witness.InWords.{bytes_are, of_one, t_is, no_tags}
-use Rattle.coap_world.proofs.Witness.TurnsMade.{a_turn, client_turn, server_turn, to_server, on_client, on_server, legal_at}
+use Rattle.coap_world.proofs.Witness.TurnsMade.{a_turn, client_turn, server_turn, to_server, on_client, on_server}
+use Rattle.coap_world.proofs.Witness.TurnsMade.{legal_at}
 use Rattle.coap_world.proofs.Witness.LateTurns.{begins, goes_on, answers, to_the_client, to_the_server, by_16_range}
 use Rattle.coap_world.proofs.Witness.Gets.Server.{sets}
 use Rattle.coap_world.proofs.Witness.RefusesUpload.Client as client
@@ -63,15 +66,39 @@ turns =
 
 made : Always (λ past t. Makes past t.event.at t.event.word t.event.what t.refused t.entries) turns
 made = (
-  (given_3, inl (refl, refl), to_the_client 4 given_3 (client.failed ∷ []) [] client.hears refl (_, _, _, _, _, _, refl)),
   (
-    (given_2, inl (refl, refl), to_the_server 3 given_2 (answer_bytes precondition_failed 1 16) server.refuses refl (_, _, _, _, refl)),
+    given_3,
+    inl (refl, refl),
+    to_the_client 4 given_3 (client.failed ∷ []) [] client.hears refl
+        (_, _, _, _, _, _, refl),
+  ),
+  (
     (
-      (given_1, inl (refl, refl), to_the_client 2 given_1 [] (to_server guarded_last ∷ []) (goes_on 2 0 8 1) refl (_, _, _, _, _, _, refl)),
+      given_2,
+      inl (refl, refl),
+      to_the_server 3 given_2 (answer_bytes precondition_failed 1 16) server.refuses refl
+          (_, _, _, _, refl),
+    ),
+    (
       (
-        (given_0, inl (refl, refl), to_the_server 1 given_0 (answer_bytes continue 0 8) server.takes_first refl (_, _, _, _, refl)),
+        given_1,
+        inl (refl, refl),
+        to_the_client 2 given_1 [] (to_server guarded_last ∷ []) (goes_on 2 0 8 1) refl
+            (_, _, _, _, _, _, refl),
+      ),
+      (
         (
-          (begins 0 0, ((_, _, _, _, _, refl), ((_, _, _, _, _, refl), tt)), on_client [] (to_server guarded_first ∷ []) (begins 0 0)),
+          given_0,
+          inl (refl, refl),
+          to_the_server 1 given_0 (answer_bytes continue 0 8) server.takes_first refl
+              (_, _, _, _, refl),
+        ),
+        (
+          (
+            begins 0 0,
+            ((_, _, _, _, _, refl), ((_, _, _, _, _, refl), tt)),
+            on_client [] (to_server guarded_first ∷ []) (begins 0 0),
+          ),
           (
             (client.called, (_, (_, refl), refl), on_client [] [] client.called),
             ((sets ∷ [], (_, (_, _, refl), refl), on_server [] (sets ∷ [])), tt),
@@ -133,14 +160,22 @@ none (inr (inr (inr (inr (inr (inr (inr (inr (inr (inr (inr (inr (inr (inl h))))
 none (inr (inr (inr (inr (inr (inr (inr (inr (inr (inr (inr (inr (inr (inr (inl h))))))))))))))) = h.here
 none (inr (inr (inr (inr (inr (inr (inr (inr (inr (inr (inr (inr (inr (inr (inr (inl h)))))))))))))))) = h.here
 none (inr (inr (inr (inr (inr (inr (inr (inr (inr (inr (inr (inr (inr (inr (inr (inr (inl h))))))))))))))))) = h.here
-none (inr (inr (inr (inr (inr (inr (inr (inr (inr (inr (inr (inr (inr (inr (inr (inr (inr (inl h)))))))))))))))))) = h.here
-none (inr (inr (inr (inr (inr (inr (inr (inr (inr (inr (inr (inr (inr (inr (inr (inr (inr (inr (inl h))))))))))))))))))) = h.here
-none (inr (inr (inr (inr (inr (inr (inr (inr (inr (inr (inr (inr (inr (inr (inr (inr (inr (inr (inr (inl h)))))))))))))))))))) = h.here
-none (inr (inr (inr (inr (inr (inr (inr (inr (inr (inr (inr (inr (inr (inr (inr (inr (inr (inr (inr (inr (inl h))))))))))))))))))))) = h.here
-none (inr (inr (inr (inr (inr (inr (inr (inr (inr (inr (inr (inr (inr (inr (inr (inr (inr (inr (inr (inr (inr (inl h)))))))))))))))))))))) = h.here
-none (inr (inr (inr (inr (inr (inr (inr (inr (inr (inr (inr (inr (inr (inr (inr (inr (inr (inr (inr (inr (inr (inr (inl h))))))))))))))))))))))) = cc h.here
-none (inr (inr (inr (inr (inr (inr (inr (inr (inr (inr (inr (inr (inr (inr (inr (inr (inr (inr (inr (inr (inr (inr (inr (inl h)))))))))))))))))))))))) = cc h.here
-none (inr (inr (inr (inr (inr (inr (inr (inr (inr (inr (inr (inr (inr (inr (inr (inr (inr (inr (inr (inr (inr (inr (inr (inr h)))))))))))))))))))))))) = h
+none (inr (inr (inr (inr (inr (inr (inr (inr (inr (inr (inr (inr (inr (inr (inr (inr (inr (inl h)))))))))))))))))) =
+    h.here
+none (inr (inr (inr (inr (inr (inr (inr (inr (inr
+    (inr (inr (inr (inr (inr (inr (inr (inr (inr (inl h))))))))))))))))))) = h.here
+none (inr (inr (inr (inr (inr (inr (inr (inr (inr
+    (inr (inr (inr (inr (inr (inr (inr (inr (inr (inr (inl h)))))))))))))))))))) = h.here
+none (inr (inr (inr (inr (inr (inr (inr (inr (inr
+    (inr (inr (inr (inr (inr (inr (inr (inr (inr (inr (inr (inl h))))))))))))))))))))) = h.here
+none (inr (inr (inr (inr (inr (inr (inr (inr (inr
+    (inr (inr (inr (inr (inr (inr (inr (inr (inr (inr (inr (inr (inl h)))))))))))))))))))))) = h.here
+none (inr (inr (inr (inr (inr (inr (inr (inr (inr
+    (inr (inr (inr (inr (inr (inr (inr (inr (inr (inr (inr (inr (inr (inl h))))))))))))))))))))))) = cc h.here
+none (inr (inr (inr (inr (inr (inr (inr (inr (inr
+    (inr (inr (inr (inr (inr (inr (inr (inr (inr (inr (inr (inr (inr (inr (inl h)))))))))))))))))))))))) = cc h.here
+none (inr (inr (inr (inr (inr (inr (inr (inr (inr
+    (inr (inr (inr (inr (inr (inr (inr (inr (inr (inr (inr (inr (inr (inr (inr h)))))))))))))))))))))))) = h
 
 pub upload_refused : RefusesUpload
 upload_refused = record {

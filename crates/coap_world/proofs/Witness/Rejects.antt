@@ -36,12 +36,21 @@ made = (
   (
     (server.third_set, (_, (_, _, refl), refl), on_server [] server.third_set),
     (
-      (from_client 4 reset_bytes, inl (refl, refl), inl (refl, server.hears, (_, (_, _, _, _, refl), refl), on_server [] server.hears)),
+      (
+        from_client 4 reset_bytes,
+        inl (refl, refl),
+        inl (refl, server.hears, (_, (_, _, _, _, refl), refl), on_server [] server.hears),
+      ),
       (
         (
           from_server 3 client_end second_bytes,
           inl (refl, refl),
-          inr (refl, client.rejects, (_, (_, _, _, _, _, _, refl), refl), on_client [] (to_server reset_bytes ∷ []) client.rejects),
+          inr (
+            refl,
+            client.rejects,
+            (_, (_, _, _, _, _, _, refl), refl),
+            on_client [] (to_server reset_bytes ∷ []) client.rejects,
+          ),
         ),
         (
           (
@@ -65,13 +74,16 @@ legal = (
   (
     legal_at 6 (puts (codes "c")) (omega arith) (t_is, omega arith, bytes_are (codes "c") refl) (omega arith) tt,
     (
-      legal_at 5 (Deliver 3) (omega arith) tt (omega arith) (from_client 4 reset_bytes, inl (refl, refl), inr refl, omega arith),
+      legal_at 5 (Deliver 3) (omega arith) tt (omega arith)
+          (from_client 4 reset_bytes, inl (refl, refl), inr refl, omega arith),
       (
-        legal_at 4 (Deliver 2) (omega arith) tt (omega arith) (from_server 3 client_end second_bytes, inl (refl, refl), inl refl, omega arith),
+        legal_at 4 (Deliver 2) (omega arith) tt (omega arith)
+            (from_server 3 client_end second_bytes, inl (refl, refl), inl refl, omega arith),
         (
           legal_at 3 TickServer (omega arith) tt (omega arith) tt,
           (
-            legal_at 3 (puts (codes "b")) (omega arith) (t_is, omega arith, bytes_are (codes "b") refl) (omega arith) tt,
+            legal_at 3 (puts (codes "b")) (omega arith) (t_is, omega arith, bytes_are (codes "b") refl)
+                (omega arith) tt,
             (legal_at 3 (Forgets 0) (omega arith) (omega arith) (omega arith) tt, legal_before),
           ),
         ),

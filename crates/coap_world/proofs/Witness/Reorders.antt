@@ -22,7 +22,8 @@ use Rattle.coap_world.proofs.Witness.Reorders.Server as server
 abbrev turns : List Turn
 turns =
     a_turn (event 2005 (Deliver 1)) (map OfClient (client_turn [] [] client.late)) ∷
-    a_turn (event 2004 (Deliver 3)) (map OfClient (client_turn (value 2 (codes "b") ∷ []) (to_server empty_ack ∷ []) client.heard)) ∷
+    a_turn (event 2004 (Deliver 3)) (map OfClient
+    (client_turn (value 2 (codes "b") ∷ []) (to_server empty_ack ∷ []) client.heard)) ∷
     a_turn (event 2003 TickServer) (map OfServer (server_turn (to_client second_bytes ∷ []) server.copied)) ∷
     a_turn (event 3 TickServer) (map OfServer (server_turn (to_client second_bytes ∷ []) observed.ticked)) ∷
     a_turn (event 3 (puts (codes "b"))) (map OfServer (server_turn [] observed.second_set)) ∷
@@ -30,13 +31,34 @@ turns =
 
 made : Always (λ past t. Makes past t.event.at t.event.word t.event.what t.refused t.entries) turns
 made = (
-  (from_server 1 client_end first_bytes, inr (inr (inr (inl (refl, refl)))), inr (refl, client.late, (_, (_, _, _, _, _, _, refl), refl), on_client [] [] client.late)),
   (
-    (from_server 2003 client_end second_bytes, inl (refl, refl), inr (refl, client.heard, (_, (_, _, _, _, _, _, refl), refl), on_client (value 2 (codes "b") ∷ []) (to_server empty_ack ∷ []) client.heard)),
+    from_server 1 client_end first_bytes,
+    inr (inr (inr (inl (refl, refl)))),
+    inr (refl, client.late, (_, (_, _, _, _, _, _, refl), refl), on_client [] [] client.late),
+  ),
+  (
     (
-      (server.copied, ((_, _, _, _, _, _, refl), ((_, _, _, _, _, _, refl), tt)), on_server (to_client second_bytes ∷ []) server.copied),
+      from_server 2003 client_end second_bytes,
+      inl (refl, refl),
+      inr (
+        refl,
+        client.heard,
+        (_, (_, _, _, _, _, _, refl), refl),
+        on_client (value 2 (codes "b") ∷ []) (to_server empty_ack ∷ []) client.heard,
+      ),
+    ),
+    (
       (
-        (observed.ticked, ((_, _, _, _, _, _, refl), ((_, _, _, _, _, _, refl), tt)), on_server (to_client second_bytes ∷ []) observed.ticked),
+        server.copied,
+        ((_, _, _, _, _, _, refl), ((_, _, _, _, _, _, refl), tt)),
+        on_server (to_client second_bytes ∷ []) server.copied,
+      ),
+      (
+        (
+          observed.ticked,
+          ((_, _, _, _, _, _, refl), ((_, _, _, _, _, _, refl), tt)),
+          on_server (to_client second_bytes ∷ []) observed.ticked,
+        ),
         ((observed.second_set, (_, (_, _, refl), refl), on_server [] observed.second_set), made_asked),
       ),
     ),
@@ -45,14 +67,19 @@ made = (
 
 legal : AllLegal turns
 legal = (
-  legal_at 2005 (Deliver 1) (omega arith) tt (omega arith) (from_server 1 client_end first_bytes, inr (inr (inr (inl (refl, refl)))), inl refl, omega arith),
+  legal_at 2005 (Deliver 1) (omega arith) tt (omega arith)
+      (from_server 1 client_end first_bytes, inr (inr (inr (inl (refl, refl)))), inl refl, omega arith),
   (
-    legal_at 2004 (Deliver 3) (omega arith) tt (omega arith) (from_server 2003 client_end second_bytes, inl (refl, refl), inl refl, omega arith),
+    legal_at 2004 (Deliver 3) (omega arith) tt (omega arith)
+        (from_server 2003 client_end second_bytes, inl (refl, refl), inl refl, omega arith),
     (
       legal_at 2003 TickServer (omega arith) tt (omega arith) tt,
       (
         legal_at 3 TickServer (omega arith) tt (omega arith) tt,
-        (legal_at 3 (puts (codes "b")) (omega arith) (t_is, omega arith, bytes_are (codes "b") refl) (omega arith) tt, legal_asked),
+        (
+          legal_at 3 (puts (codes "b")) (omega arith) (t_is, omega arith, bytes_are (codes "b") refl) (omega arith) tt,
+          legal_asked,
+        ),
       ),
     ),
   ),

@@ -23,10 +23,14 @@ log_is = path_of_one (codes "log") (omega arith) (bytes_are (codes "log") refl)
 pub elsewhere : (e : Endpoint) → stranger ≡ e → e.port ≡ 9
 elsewhere e h = sym (ap (λ (x : Endpoint). x.port) h)
 
-legal_post : {past : List Turn} {es : List Entry} (at : ℕ) → at < 2 ^ 64 → NotBefore past at → IsLegal past (a_turn (posts at) es)
+legal_post : {past : List Turn} {es : List Entry} (at : ℕ) → at < 2 ^ 64 → NotBefore past at
+    → IsLegal past (a_turn (posts at) es)
 legal_post at small later =
-    legal_at at (StrangerToServer stranger post_bytes) small (record { four = refl; bytes = bytes_are localhost refl; port = omega arith }, bytes_are post_bytes refl) later
-    ((λ h. let k = elsewhere _ h in absurd (omega (arith, k))), (λ h. let k = elsewhere _ h in absurd (omega (arith, k))))
+    legal_at at (StrangerToServer stranger post_bytes) small
+    (record { four = refl; bytes = bytes_are localhost refl; port = omega arith }, bytes_are post_bytes refl) later (
+      (λ h. let k = elsewhere _ h in absurd (omega (arith, k))),
+      (λ h. let k = elsewhere _ h in absurd (omega (arith, k))),
+    )
 
 -- a turn in which it comes, and its reply goes out
 abbrev replied : ℕ → List S.Call → Turn
@@ -43,13 +47,29 @@ turns =
 
 made : Always (λ past t. Makes past t.event.at t.event.word t.event.what t.refused t.entries) turns
 made = (
-  (server.replays 247000, (_, (_, _, _, _, refl), refl), on_server (to_stranger posted_bytes ∷ []) (server.replays 247000)),
   (
-    (server.replays 147000, (_, (_, _, _, _, refl), refl), on_server (to_stranger posted_bytes ∷ []) (server.replays 147000)),
+    server.replays 247000,
+    (_, (_, _, _, _, refl), refl),
+    on_server (to_stranger posted_bytes ∷ []) (server.replays 247000),
+  ),
+  (
     (
-      (server.replays 60000, (_, (_, _, _, _, refl), refl), on_server (to_stranger posted_bytes ∷ []) (server.replays 60000)),
+      server.replays 147000,
+      (_, (_, _, _, _, refl), refl),
+      on_server (to_stranger posted_bytes ∷ []) (server.replays 147000),
+    ),
+    (
       (
-        (server.serves 0 server.b, (_, (_, _, _, _, refl), refl), on_server (to_stranger posted_bytes ∷ []) (server.serves 0 server.b)),
+        server.replays 60000,
+        (_, (_, _, _, _, refl), refl),
+        on_server (to_stranger posted_bytes ∷ []) (server.replays 60000),
+      ),
+      (
+        (
+          server.serves 0 server.b,
+          (_, (_, _, _, _, refl), refl),
+          on_server (to_stranger posted_bytes ∷ []) (server.serves 0 server.b),
+        ),
         ((server.set, (_, (_, _, refl), refl), on_server [] server.set), tt),
       ),
     ),
@@ -65,7 +85,11 @@ legal = (
       legal_post 60000 (omega arith) (omega arith),
       (
         legal_post 0 (omega arith) (omega arith),
-        (legal_at 0 (Sets log (Some plain) (codes "x")) (omega arith) (log_is, omega arith, bytes_are (codes "x") refl) tt tt, tt),
+        (
+          legal_at 0 (Sets log (Some plain) (codes "x")) (omega arith)
+              (log_is, omega arith, bytes_are (codes "x") refl) tt tt,
+          tt,
+        ),
       ),
     ),
   ),
@@ -85,7 +109,19 @@ repeated = record {
   holds = refl;
   later = record {
     turns = turns_later;
-    made = record { events_are = refl; made = ((server.serves 247001 server.c, (_, (_, _, _, _, refl), refl), on_server (to_stranger posted_bytes ∷ []) (server.serves 247001 server.c)), made); client = no_calls; server = server.lawful_later };
+    made = record {
+      events_are = refl;
+      made = (
+        (
+          server.serves 247001 server.c,
+          (_, (_, _, _, _, refl), refl),
+          on_server (to_stranger posted_bytes ∷ []) (server.serves 247001 server.c),
+        ),
+        made,
+      );
+      client = no_calls;
+      server = server.lawful_later;
+    };
     legal = record { range = config_range; events = (legal_post 247001 (omega arith) (omega arith), legal) };
     gives = refl;
   };

@@ -18,7 +18,14 @@ use Rattle.coap_world.proofs.Witness.TimesOut.Client as client
 use Rattle.coap_world.proofs.Witness.TimesOut.Server as server
 
 range : IsRequest post
-range = record { path = log_is; format = tt; body = bytes_are (codes "a") refl; etags = no_tags; if_match = no_tags; accept = tt }
+range = record {
+  path = log_is;
+  format = tt;
+  body = bytes_are (codes "a") refl;
+  etags = no_tags;
+  if_match = no_tags;
+  accept = tt;
+}
 
 abbrev turns : List Turn
 turns =
@@ -35,20 +42,51 @@ turns =
 
 made : Always (λ past t. Makes past t.event.at t.event.word t.event.what t.refused t.entries) turns
 made = (
-  (from_client 30000 call_bytes, inl (refl, refl), inl (refl, server.serves, (_, (_, _, _, _, refl), refl), on_server (to_client changed_bytes ∷ []) server.serves)),
   (
-    (client.expires, ((_, _, _, _, _, refl), ((_, _, _, _, _, refl), tt)), on_client (client.failed ∷ []) [] client.expires),
+    from_client 30000 call_bytes,
+    inl (refl, refl),
+    inl (refl, server.serves, (_, (_, _, _, _, refl), refl), on_server (to_client changed_bytes ∷ []) server.serves),
+  ),
+  (
     (
-      (client.copies 30000, ((_, _, _, _, _, refl), ((_, _, _, _, _, refl), tt)), on_client [] (to_server call_bytes ∷ []) (client.copies 30000)),
+      client.expires,
+      ((_, _, _, _, _, refl), ((_, _, _, _, _, refl), tt)),
+      on_client (client.failed ∷ []) [] client.expires,
+    ),
+    (
       (
-        (client.copies 14000, ((_, _, _, _, _, refl), ((_, _, _, _, _, refl), tt)), on_client [] (to_server call_bytes ∷ []) (client.copies 14000)),
+        client.copies 30000,
+        ((_, _, _, _, _, refl), ((_, _, _, _, _, refl), tt)),
+        on_client [] (to_server call_bytes ∷ []) (client.copies 30000),
+      ),
+      (
         (
-          (client.copies 6000, ((_, _, _, _, _, refl), ((_, _, _, _, _, refl), tt)), on_client [] (to_server call_bytes ∷ []) (client.copies 6000)),
+          client.copies 14000,
+          ((_, _, _, _, _, refl), ((_, _, _, _, _, refl), tt)),
+          on_client [] (to_server call_bytes ∷ []) (client.copies 14000),
+        ),
+        (
           (
-            (client.copies 2000, ((_, _, _, _, _, refl), ((_, _, _, _, _, refl), tt)), on_client [] (to_server call_bytes ∷ []) (client.copies 2000)),
+            client.copies 6000,
+            ((_, _, _, _, _, refl), ((_, _, _, _, _, refl), tt)),
+            on_client [] (to_server call_bytes ∷ []) (client.copies 6000),
+          ),
+          (
             (
-              (client.ticked, ((_, _, _, _, _, refl), ((_, _, _, _, _, refl), tt)), on_client [] (to_server call_bytes ∷ []) client.ticked),
-              ((client.called, (_, (_, refl), refl), on_client [] [] client.called), ((set, (_, (_, _, refl), refl), on_server [] set), tt)),
+              client.copies 2000,
+              ((_, _, _, _, _, refl), ((_, _, _, _, _, refl), tt)),
+              on_client [] (to_server call_bytes ∷ []) (client.copies 2000),
+            ),
+            (
+              (
+                client.ticked,
+                ((_, _, _, _, _, refl), ((_, _, _, _, _, refl), tt)),
+                on_client [] (to_server call_bytes ∷ []) client.ticked,
+              ),
+              (
+                (client.called, (_, (_, refl), refl), on_client [] [] client.called),
+                ((set, (_, (_, _, refl), refl), on_server [] set), tt),
+              ),
             ),
           ),
         ),
@@ -59,7 +97,8 @@ made = (
 
 legal : AllLegal turns
 legal = (
-  legal_at 130000 (Deliver 4) (omega arith) tt (omega arith) (from_client 30000 call_bytes, inl (refl, refl), inr refl, omega arith),
+  legal_at 130000 (Deliver 4) (omega arith) tt (omega arith)
+      (from_client 30000 call_bytes, inl (refl, refl), inr refl, omega arith),
   (
     legal_at 62000 TickClient (omega arith) tt (omega arith) tt,
     (
@@ -74,7 +113,11 @@ legal = (
               legal_at 0 TickClient (omega arith) tt (omega arith) tt,
               (
                 legal_at 0 (Calls post) (omega arith) range (omega arith) tt,
-                (legal_at 0 (Sets log (Some plain) (codes "x")) (omega arith) (log_is, omega arith, bytes_are (codes "x") refl) tt tt, tt),
+                (
+                  legal_at 0 (Sets log (Some plain) (codes "x")) (omega arith)
+                      (log_is, omega arith, bytes_are (codes "x") refl) tt tt,
+                  tt,
+                ),
               ),
             ),
           ),

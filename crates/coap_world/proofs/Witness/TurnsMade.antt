@@ -25,9 +25,11 @@ to_server bytes = record { to = server_end; bytes = bytes }
 -- the client's calls, the newest first: some, what they give out and what they report
 
 abbrev pub client_turn : List C.Reported → List L.Packet → List C.Call → List C.Call
-client_turn reports outs calls = C.NextReport None ∷ (map (λ r. C.NextReport (Some r)) reports ++ C.NextOut None ∷ (map (λ p. C.NextOut (Some p)) outs ++ calls))
+client_turn reports outs calls = C.NextReport None ∷
+    (map (λ r. C.NextReport (Some r)) reports ++ C.NextOut None ∷ (map (λ p. C.NextOut (Some p)) outs ++ calls))
 
-pub on_client : (reports : List C.Reported) (outs : List L.Packet) (calls : List C.Call) → OnClient calls (map OfClient (client_turn reports outs calls))
+pub on_client : (reports : List C.Reported) (outs : List L.Packet) (calls : List C.Call)
+    → OnClient calls (map OfClient (client_turn reports outs calls))
 on_client reports outs calls = record { outs = outs; reports = reports; is = refl }
 
 -- a tick that sends a request, and one that does nothing
@@ -51,13 +53,17 @@ to_client bytes = record { to = client_end; bytes = bytes }
 
 -- what is legal: words are 0
 
-pub legal_at : {past : List Turn} {es : List Entry} (at : ℕ) (what : events.What) → at < 2 ^ 64 → InRange what → NotBefore past at → MayCome past at what
+pub legal_at : {past : List Turn} {es : List Entry} (at : ℕ) (what : events.What) → at < 2 ^ 64 → InRange what
+    → NotBefore past at → MayCome past at what
     → IsLegal past (a_turn (may.event at what) es)
-legal_at at what small range later comes = record { at = small; word = omega arith; range = range; later = later; comes = comes }
+legal_at at what small range later comes = record
+    { at = small; word = omega arith; range = range; later = later; comes = comes }
 
-pub legal_refused : {past : List Turn} {es : List Entry} (at : ℕ) (what : events.What) → at < 2 ^ 64 → InRange what → NotBefore past at → MayCome past at what
+pub legal_refused : {past : List Turn} {es : List Entry} (at : ℕ) (what : events.What) → at < 2 ^ 64 → InRange what
+    → NotBefore past at → MayCome past at what
     → IsLegal past (refused_turn (may.event at what) es)
-legal_refused at what small range later comes = record { at = small; word = omega arith; range = range; later = later; comes = comes }
+legal_refused at what small range later comes =
+    record { at = small; word = omega arith; range = range; later = later; comes = comes }
 
 -- a client that is not called
 pub no_calls : ClientLaw server_end 6 0 []

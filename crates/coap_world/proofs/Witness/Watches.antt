@@ -19,13 +19,18 @@ abbrev turns : List Turn
 turns =
     a_turn (event 3 TickServer) (map OfServer (server_turn (to_stranger notice_bytes ∷ []) server.ticked)) ∷
     a_turn (event 3 (puts (codes "b"))) (map OfServer (server_turn [] server.second_set)) ∷
-    a_turn (event 1 (StrangerToServer stranger watch_bytes)) (map OfServer (server_turn (to_stranger watched_bytes ∷ []) server.fed)) ∷
+    a_turn (event 1 (StrangerToServer stranger watch_bytes))
+    (map OfServer (server_turn (to_stranger watched_bytes ∷ []) server.fed)) ∷
     a_turn (event 0 (puts (codes "a"))) (map OfServer (server_turn [] server.first_set)) ∷
     []
 
 made : Always (λ past t. Makes past t.event.at t.event.word t.event.what t.refused t.entries) turns
 made = (
-  (server.ticked, ((_, _, _, _, _, _, refl), ((_, _, _, _, _, _, refl), tt)), on_server (to_stranger notice_bytes ∷ []) server.ticked),
+  (
+    server.ticked,
+    ((_, _, _, _, _, _, refl), ((_, _, _, _, _, _, refl), tt)),
+    on_server (to_stranger notice_bytes ∷ []) server.ticked,
+  ),
   (
     (server.second_set, (_, (_, _, refl), refl), on_server [] server.second_set),
     (
@@ -45,8 +50,12 @@ legal = (
   (
     legal_at 3 (puts (codes "b")) (omega arith) (t_is, omega arith, bytes_are (codes "b") refl) (omega arith) tt,
     (
-      legal_at 1 (StrangerToServer stranger watch_bytes) (omega arith) (record { four = refl; bytes = bytes_are localhost refl; port = omega arith }, bytes_are watch_bytes refl) (omega arith)
-          ((λ h. let k = elsewhere _ h in absurd (omega (arith, k))), (λ h. let k = elsewhere _ h in absurd (omega (arith, k)))),
+      legal_at 1 (StrangerToServer stranger watch_bytes) (omega arith)
+          (record { four = refl; bytes = bytes_are localhost refl; port = omega arith }, bytes_are watch_bytes refl)
+          (omega arith) (
+            (λ h. let k = elsewhere _ h in absurd (omega (arith, k))),
+            (λ h. let k = elsewhere _ h in absurd (omega (arith, k))),
+          ),
       (legal_at 0 (puts (codes "a")) (omega arith) (t_is, omega arith, bytes_are (codes "a") refl) tt tt, tt),
     ),
   ),

@@ -45,7 +45,9 @@ use Rattle.coap_ends.proofs.ServerSide.Observing.ServerOutcomes.{never_notifies}
 never_ignored : (szx : ℕ) (o : Option Method) (m : Message) → asked_by szx o m ≡ Ignored → ⊥
 never_ignored szx None m h = cc h
 never_ignored szx (Some method) m h =
-    by (nat_lt max_segments (length (path_of (asks m)))) (is_reserved (uint_at block1 (asks m)) || is_reserved (uint_at block2 (asks m))) (block_said (uint_at block1 (asks m))) h
+    by (nat_lt max_segments (length (path_of (asks m))))
+    (is_reserved (uint_at block1 (asks m)) || is_reserved (uint_at block2 (asks m)))
+    (block_said (uint_at block1 (asks m))) h
   where
     one : (x : Method) (q : Question) (b : Option Block) → uploading x q b ≡ Ignored → ⊥
     one x q None k = cc k
@@ -54,7 +56,8 @@ never_ignored szx (Some method) m h =
     one Get q (Some b) k = cc k
     one Delete q (Some b) k = cc k
 
-    by : (b c : Bool) (o : Option Block) → cond b (Refused bad_request) (cond c (Refused bad_request) (uploading method (question szx method m) o)) ≡ Ignored → ⊥
+    by : (b c : Bool) (o : Option Block) → cond b (Refused bad_request)
+        (cond c (Refused bad_request) (uploading method (question szx method m) o)) ≡ Ignored → ⊥
     by true c o k = cc k
     by false true o k = cc k
     by false false o k = one method (question szx method m) o k
@@ -63,9 +66,12 @@ bad_kind : (k : Kind) → bad_by k ≡ Ignored → k ≢ Con
 bad_kind k h e = let z : bad_by Con ≡ Ignored = subst (λ x. bad_by x ≡ Ignored) e h in cc z
 
 is_ignored : (szx : ℕ) (m : Message) → verdict_on szx m ≡ Ignored → IsIgnored m
-is_ignored szx m h = by (lacks_critical direction.Request m.options) (has proxy_uri (asks m) || has proxy_scheme (asks m)) refl h
+is_ignored szx m h = by (lacks_critical direction.Request m.options)
+    (has proxy_uri (asks m) || has proxy_scheme (asks m)) refl h
   where
-    by : (b c : Bool) → lacks_critical direction.Request m.options ≡ b → cond b (bad_by m.kind) (cond c (Refused proxying_not_supported) (asked_by szx (method_of m.code) m)) ≡ Ignored → IsIgnored m
+    by : (b c : Bool) → lacks_critical direction.Request m.options ≡ b
+        → cond b (bad_by m.kind) (cond c (Refused proxying_not_supported) (asked_by szx (method_of m.code) m)) ≡ Ignored
+        → IsIgnored m
     by true c is k = record { kind = bad_kind m.kind k; option = is }
     by false true is k = absurd (cc k)
     by false false is k = absurd (never_ignored szx (method_of m.code) m k)
@@ -78,12 +84,14 @@ Says v _ = Unit {0}
 says_is : (v : Verdict) (h k : Handling) → h ≡ k → Says v k → Says v h
 says_is v h k e s = subst (Says v) (sym e) s
 
-by_waiting : (v : Verdict) (o : Option ℕ) (place : Bool) (old : Content) (at : ℕ) (q : Question) (h : Handling) → WaitsBy o place old at q h → Says v h
+by_waiting : (v : Verdict) (o : Option ℕ) (place : Bool) (old : Content) (at : ℕ) (q : Question) (h : Handling)
+    → WaitsBy o place old at q h → Says v h
 by_waiting v (Some d) true old at q h k = says_is v h (Waits q d) k tt
 by_waiting v (Some d) false old at q h k = says_is v h (Serves q k.reply k.left) k.is tt
 by_waiting v None place old at q h k = says_is v h (Serves q k.reply k.left) k.is tt
 
-by_block : (v : Verdict) (r : BlockVerdict) (s : Own) (a : Asked) (q : Question) (b : Block) (h : Handling) → HandlesBlock r s a q b h → Says v h
+by_block : (v : Verdict) (r : BlockVerdict) (s : Own) (a : Asked) (q : Question) (b : Block) (h : Handling)
+    → HandlesBlock r s a q b h → Says v h
 by_block v (Refuse why) s a q b h k = says_is v h _ k tt
 by_block v (Join szx) s a q b h k = says_is v h _ k tt
 by_block v Done s a q b h k =
@@ -93,7 +101,8 @@ by_block v Done s a q b h k =
 by_verdict : (v : Verdict) (s : Own) (a : Asked) (h : Handling) → Handles s a v h → Says v h
 by_verdict Ignored s a h k = says_is Ignored h Silent k refl
 by_verdict (Refused code) s a h k = says_is (Refused code) h _ k tt
-by_verdict (Asks q) s a h k = by_waiting (Asks q) (delay_for a.kind q.path s.delays) (may_defer s.exchanges.deferred) s.store s.clock q h k
+by_verdict (Asks q) s a h k = by_waiting (Asks q) (delay_for a.kind q.path s.delays)
+    (may_defer s.exchanges.deferred) s.store s.clock q h k
 by_verdict (Uploads q b) s a h k = by_block (Uploads q b) (ruling_of s.uploads s.clock a q b) s a q b h k
 
 one_came : {X : Type 0} (x y : X) → Some x ≡ Some y → x ≡ y
@@ -103,8 +112,10 @@ module _ (limit szx word : ℕ) where
   abbrev Attended : List Call → Call → Asked × Message → Type 0
   Attended t c p = AnswersIt limit szx t c p.0 ⊎ (WaitsToAsk limit szx t c p ⊎ IsIgnored p.1)
 
-  fed : (t : List Call) (now : ℕ) (from : Endpoint) (bytes : List ℕ) (w : ℕ) (up : L.Answer) (p : Asked × Message) (h : Handling) (below : L.Answer)
-      → ServerLaw limit szx word (Feeds now from bytes w up (Some p) h below ∷ t) → Attended t (Feeds now from bytes w up (Some p) h below) p
+  fed : (t : List Call) (now : ℕ) (from : Endpoint) (bytes : List ℕ) (w : ℕ) (up : L.Answer) (p : Asked × Message)
+      (h : Handling) (below : L.Answer)
+      → ServerLaw limit szx word (Feeds now from bytes w up (Some p) h below ∷ t)
+      → Attended t (Feeds now from bytes w up (Some p) h below) p
   fed t now from bytes w up p Silent below law =
       let s : Own = heard (own_of limit szx t) now (incoming (own_of limit szx t) now from bytes up (Some p)) in
       inr (inr (is_ignored s.szx p.1 (by_verdict (verdict_on s.szx p.1) s p.0 Silent law.rows.0)))
@@ -117,15 +128,20 @@ module _ (limit szx word : ℕ) where
       let asks = asks_by limit szx word t now from bytes w up p (Waits q d) below v q refl law.rows.0 refl in
       let waits : WaitsToAsk limit szx t (Feeds now from bytes w up (Some p) (Waits q d) below) p = record {
         question = q;
-        asks = subst (λ n. AsksBy limit szx t (Feeds now from bytes w up (Some p) (Waits q d) below) p.0 q (verdict_on n p.1)) (szx_is limit szx t) asks;
+        asks = subst (λ n. AsksBy limit szx t (Feeds now from bytes w up (Some p) (Waits q d) below) p.0 q
+            (verdict_on n p.1)) (szx_is limit szx t) asks;
         waits = record { delay = d; has_to = record { kind = k.0; has_delay = k.1; place = k.2 }; behind = refl };
       } in
       inr (inl waits)
   fed t now from bytes w up p (Notifies o reply) below law =
-      absurd (never_notifies (heard (own_of limit szx t) now (incoming (own_of limit szx t) now from bytes up (Some p))) p o reply law.rows.0)
+      absurd (never_notifies (heard (own_of limit szx t) now (incoming (own_of limit szx t) now from bytes up (Some p)))
+      p o reply law.rows.0)
 
-  here : (t : List Call) (c : Call) → ServerLaw limit szx word (c ∷ t) → (p : Asked × Message) → came_in c ≡ Some p → Attended t c p
-  here t (Feeds now from bytes w up (Some q) h below) law p is = subst (Attended t (Feeds now from bytes w up (Some q) h below)) (one_came q p is) (fed t now from bytes w up q h below law)
+  here : (t : List Call) (c : Call) → ServerLaw limit szx word (c ∷ t) → (p : Asked × Message) → came_in c ≡ Some p
+      → Attended t c p
+  here t (Feeds now from bytes w up (Some q) h below) law p is =
+      subst (Attended t (Feeds now from bytes w up (Some q) h below)) (one_came q p is)
+      (fed t now from bytes w up q h below law)
   here t (Feeds now from bytes w up None h below) law p is = absurd (cc is)
   here t (Ticks now w below room d passed h id answer) law p is = absurd (cc is)
   here t (Sets now path format body answer left) law p is = absurd (cc is)

@@ -8,7 +8,8 @@ use Rattle.coap_exchange.specs.AnswererTrace as E
 use Rattle.coap_exchange.specs.AnswererLaw as W
 use Rattle.coap_exchange.specs.AnswererLaw.{ResponseLaw}
 
-pub layer_led : (word : ℕ) (calls : List E.Call) (law : ResponseLaw word calls) → LayerLed word (W.below_of word calls) law.left
+pub layer_led : (word : ℕ) (calls : List E.Call) (law : ResponseLaw word calls)
+    → LayerLed word (W.below_of word calls) law.left
 layer_led word calls law =
     subst (λ t. LayerLed word t law.left) (append-nil (W.below_of word calls))
     (led_steps word [] (S.start word) law.left (W.lower_of calls) (record { law = tt; kept = refl }) law.layer)

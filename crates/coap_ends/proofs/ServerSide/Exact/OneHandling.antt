@@ -25,15 +25,19 @@ is_served old at q h k a b =
     let left = e.1 in
     a.is ∙ (cc (reply, left) ∙ sym b.is)
 
-waits_alike : (o : Option ℕ) (place : Bool) (old : Content) (at : ℕ) (q : Question) (h k : Handling) → WaitsBy o place old at q h → WaitsBy o place old at q k → h ≡ k
+waits_alike : (o : Option ℕ) (place : Bool) (old : Content) (at : ℕ) (q : Question) (h k : Handling)
+    → WaitsBy o place old at q h → WaitsBy o place old at q k → h ≡ k
 waits_alike None place old at q h k a b = is_served old at q h k a b
 waits_alike (Some delay) false old at q h k a b = is_served old at q h k a b
 waits_alike (Some delay) true old at q h k a b = a ∙ sym b
 
-whole_alike : (s : Own) (x : Asked) (q : Question) (h k : Handling) → HandlesWhole s x q h → HandlesWhole s x q k → h ≡ k
-whole_alike s x q h k a b = waits_alike (delay_for x.kind q.path s.delays) (may_defer s.exchanges.deferred) s.store s.clock q h k a b
+whole_alike : (s : Own) (x : Asked) (q : Question) (h k : Handling) → HandlesWhole s x q h → HandlesWhole s x q k
+    → h ≡ k
+whole_alike s x q h k a b = waits_alike (delay_for x.kind q.path s.delays)
+    (may_defer s.exchanges.deferred) s.store s.clock q h k a b
 
-block_alike : (v : BlockVerdict) (s : Own) (x : Asked) (q : Question) (u : Block) (h k : Handling) → HandlesBlock v s x q u h → HandlesBlock v s x q u k → h ≡ k
+block_alike : (v : BlockVerdict) (s : Own) (x : Asked) (q : Question) (u : Block) (h k : Handling)
+    → HandlesBlock v s x q u h → HandlesBlock v s x q u k → h ≡ k
 block_alike (Refuse why) s x q u h k a b = a ∙ sym b
 block_alike (Join szx) s x q u h k a b = a ∙ sym b
 block_alike Done s x q u h k a b = whole_alike s x (whole s.uploads s.clock x q u) h k a b
@@ -44,14 +48,17 @@ handles_alike s x (Refused code) h k a b = a ∙ sym b
 handles_alike s x (Asks q) h k a b = whole_alike s x q h k a b
 handles_alike s x (Uploads q u) h k a b = block_alike (ruling_of s.uploads s.clock x q u) s x q u h k a b
 
-pub came_alike : (s : Own) (came : Option (Asked × Message)) (h k : Handling) → HandlesCame s came h → HandlesCame s came k → h ≡ k
+pub came_alike : (s : Own) (came : Option (Asked × Message)) (h k : Handling) → HandlesCame s came h
+    → HandlesCame s came k → h ≡ k
 came_alike s None h k a b = a ∙ sym b
 came_alike s (Some p) h k a b = handles_alike s p.0 (verdict_on s.szx p.1) h k a b
 
-pub waited_alike : (o : Option Question) (old : Content) (at : ℕ) (h k : Handling) → AnswersWaiting o old at h → AnswersWaiting o old at k → h ≡ k
+pub waited_alike : (o : Option Question) (old : Content) (at : ℕ) (h k : Handling) → AnswersWaiting o old at h
+    → AnswersWaiting o old at k → h ≡ k
 waited_alike None old at h k a b = a ∙ sym b
 waited_alike (Some q) old at h k a b = is_served old at q h k a b
 
-pub next_alike : (o : Option Observer) (store : Content) (h k : Handling) → NotifiesNext o store h → NotifiesNext o store k → h ≡ k
+pub next_alike : (o : Option Observer) (store : Content) (h k : Handling) → NotifiesNext o store h
+    → NotifiesNext o store k → h ≡ k
 next_alike None store h k a b = a ∙ sym b
 next_alike (Some x) store h k a b = a ∙ sym b

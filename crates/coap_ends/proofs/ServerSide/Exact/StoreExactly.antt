@@ -16,32 +16,40 @@ use Rattle.coap_ends.specs.ServerSide.ServerLocal.{SetsBy, RemovesBy}
 
 -- what is left
 
-same_content : (x y : Content) → ((path : List (List ℕ)) → x.holds path ≡ y.holds path) → x.paths ≡ y.paths → x.tally ≡ y.tally → x ≡ y
+same_content : (x y : Content) → ((path : List (List ℕ)) → x.holds path ≡ y.holds path) → x.paths ≡ y.paths
+    → x.tally ≡ y.tally → x ≡ y
 same_content x y holds paths tally = λ i. record { holds = λ path. holds path i; paths = paths i; tally = tally i }
 
 same_sum : (a b k n : ℕ) → a + k ≡ n → b + k ≡ n → a ≡ b
 same_sum a b k n h g = omega (arith, h, g)
 
-changed_alike : (old : Content) (at : ℕ) (path : List (List ℕ)) (held : Option Held) (x y : Content) → Changes old at path held x → Changes old at path held y → x ≡ y
+changed_alike : (old : Content) (at : ℕ) (path : List (List ℕ)) (held : Option Held) (x y : Content)
+    → Changes old at path held x → Changes old at path held y → x ≡ y
 changed_alike old at path held x y c d =
-    same_content x y (λ p. by p (same_path p path) refl) (same_sum x.paths y.paths _ _ c.paths d.paths) (c.tally ∙ sym d.tally)
+    same_content x y (λ p. by p (same_path p path) refl) (same_sum x.paths y.paths _ _ c.paths d.paths)
+    (c.tally ∙ sym d.tally)
   where
     by : (p : List (List ℕ)) (b : Bool) → same_path p path ≡ b → x.holds p ≡ y.holds p
-    by p true h = let e : p ≡ path = (same_path-decides p path).0 h in ap x.holds e ∙ (c.there ∙ (sym d.there ∙ ap y.holds (sym e)))
-    by p false h = let other : p ≢ path = λ e. (let k : same_path p path ≡ true = (same_path-decides p path).1 e in cc (k, h)) in c.others p other ∙ sym (d.others p other)
+    by p true h = let e : p ≡ path = (same_path-decides p path).0 h in ap x.holds e
+        ∙ (c.there ∙ (sym d.there ∙ ap y.holds (sym e)))
+    by p false h = let other : p ≢ path = λ e. (let k : same_path p path
+        ≡ true = (same_path-decides p path).1 e in cc (k, h)) in c.others p other ∙ sym (d.others p other)
 
 -- local changes
 
-pub set_alike : (o : Option StoreRefusal) (old : Content) (at : ℕ) (path : List (List ℕ)) (format : Option ℕ) (body : List ℕ) (answer another : Result ℕ StoreRefusal) (x y : Content) → SetsBy o old at path format body answer x
+pub set_alike : (o : Option StoreRefusal) (old : Content) (at : ℕ) (path : List (List ℕ)) (format : Option ℕ)
+    (body : List ℕ) (answer another : Result ℕ StoreRefusal) (x y : Content) → SetsBy o old at path format body answer x
     → SetsBy o old at path format body another y → (answer ≡ another) × (x ≡ y)
 set_alike (Some why) old at path format body answer another x y h k = (h.0 ∙ sym k.0, h.1 ∙ sym k.1)
 set_alike None old at path format body answer another x y h k = (h.0 ∙ sym k.0, changed_alike old at path _ x y h.1 k.1)
 
-pub removed_alike : (o : Option Held) (why : Option StoreRefusal) (old : Content) (at : ℕ) (path : List (List ℕ)) (answer another : Result Bool StoreRefusal) (x y : Content) → RemovesBy o why old at path answer x
+pub removed_alike : (o : Option Held) (why : Option StoreRefusal) (old : Content) (at : ℕ) (path : List (List ℕ))
+    (answer another : Result Bool StoreRefusal) (x y : Content) → RemovesBy o why old at path answer x
     → RemovesBy o why old at path another y → (answer ≡ another) × (x ≡ y)
 removed_alike None why old at path answer another x y h k = (h.0 ∙ sym k.0, h.1 ∙ sym k.1)
 removed_alike (Some held) (Some why) old at path answer another x y h k = (h.0 ∙ sym k.0, h.1 ∙ sym k.1)
-removed_alike (Some held) None old at path answer another x y h k = (h.0 ∙ sym k.0, changed_alike old at path None x y h.1 k.1)
+removed_alike (Some held) None old at path answer another x y h k =
+    (h.0 ∙ sym k.0, changed_alike old at path None x y h.1 k.1)
 
 -- requests
 

@@ -16,14 +16,18 @@ use Rattle.coap_ends.specs.ServerSide.Follows.ServerTells.{Telling}
 use Rattle.coap_ends.proofs.ServerSide.Observing.ServerStore.{IsKept, IsChanged, Effect, kept_by}
 
 -- one pair or another
-pub pair_of : (to : Endpoint) (token : List ℕ) (by : Endpoint) (bytes : List ℕ) → ((to ≡ by) × (token ≡ bytes)) ⊎ IsOther to token by bytes
+pub pair_of : (to : Endpoint) (token : List ℕ) (by : Endpoint) (bytes : List ℕ)
+    → ((to ≡ by) × (token ≡ bytes)) ⊎ IsOther to token by bytes
 pair_of to token by bytes =
     let o : Observer = record { to = by; token = bytes; path = []; szx = 0; marked = false } in
     let d = is_of-decides to token o in
-    let go : (b : Bool) → is_of to token o ≡ b → ((to ≡ by) × (token ≡ bytes)) ⊎ IsOther to token by bytes = λ b e. case to token by bytes d.0 d.1 b e in
+    let go : (b : Bool) → is_of to token o ≡ b → ((to ≡ by) × (token ≡ bytes))
+    ⊎ IsOther to token by bytes = λ b e. case to token by bytes d.0 d.1 b e in
     go (is_of to token o) refl
   where
-    case : (to : Endpoint) (token : List ℕ) (by : Endpoint) (bytes : List ℕ) {z : Bool} → (z ≡ true → (by ≡ to) × (bytes ≡ token)) → ((by ≡ to) × (bytes ≡ token) → z ≡ true) → (b : Bool) → z ≡ b → ((to ≡ by) × (token ≡ bytes)) ⊎ IsOther to token by bytes
+    case : (to : Endpoint) (token : List ℕ) (by : Endpoint) (bytes : List ℕ) {z : Bool}
+        → (z ≡ true → (by ≡ to) × (bytes ≡ token)) → ((by ≡ to) × (bytes ≡ token) → z ≡ true) → (b : Bool) → z ≡ b
+        → ((to ≡ by) × (token ≡ bytes)) ⊎ IsOther to token by bytes
     case to token by bytes f g true e = let k = f e in inl (sym k.0, sym k.1)
     case to token by bytes f g false e = inr (λ k. let z = g (sym k.0, sym k.1) in absurd (cc (e, z)))
 
@@ -38,35 +42,46 @@ module _ (to : Endpoint) (token : List ℕ) where
     gone : reg ps ≡ None → Turn a b os ps
     kept : reg ps ≡ reg os → IsKept a b → Turn a b os ps
     sent : reg ps ≡ option_map unmark (reg os) → IsKept a b → Turn a b os ps
-    changed : (path : List (List ℕ)) → reg ps ≡ option_map (marked_by path) (reg os) → IsChanged path a b → Turn a b os ps
+    changed : (path : List (List ℕ)) → reg ps ≡ option_map (marked_by path) (reg os) → IsChanged path a b
+        → Turn a b os ps
 
   pub same_turn : (s : Content) (os : List Observer) → Turn s s os os
   same_turn s os = kept refl (kept_by s s refl)
 
-  pub removed_turn : (s : Content) (by : Endpoint) (bytes : List ℕ) (os : List Observer) → Turn s s os (removed by bytes os)
+  pub removed_turn : (s : Content) (by : Endpoint) (bytes : List ℕ) (os : List Observer)
+      → Turn s s os (removed by bytes os)
   removed_turn s by bytes os =
       elim (pair_of to token by bytes) [
-        | inl e ↦ gone (ap (λ p. registration p token (removed by bytes os)) e.0 ∙ (ap (λ n. registration by n (removed by bytes os)) e.1 ∙ registration-removed by bytes os))
+        | inl e ↦ gone (ap (λ p. registration p token (removed by bytes os)) e.0
+            ∙ (ap (λ n. registration by n (removed by bytes os)) e.1 ∙ registration-removed by bytes os))
         | inr n ↦ kept (others_stay to token by bytes os n).removed_stay (kept_by s s refl)
       ]
 
-  pub sent_turn : (s : Content) (by : Endpoint) (bytes : List ℕ) (os : List Observer) → Turn s s os (sent_to by bytes os)
+  pub sent_turn : (s : Content) (by : Endpoint) (bytes : List ℕ) (os : List Observer)
+      → Turn s s os (sent_to by bytes os)
   sent_turn s by bytes os =
       elim (pair_of to token by bytes) [
-        | inl e ↦ sent (ap (λ p. registration to token (sent_to p bytes os)) (sym e.0) ∙ (ap (λ n. registration to token (sent_to to n os)) (sym e.1) ∙ registration-sent_to to token os)) (kept_by s s refl)
+        | inl e ↦ sent (ap (λ p. registration to token (sent_to p bytes os)) (sym e.0)
+            ∙ (ap (λ n. registration to token (sent_to to n os)) (sym e.1) ∙ registration-sent_to to token os))
+            (kept_by s s refl)
         | inr n ↦ kept (others_stay to token by bytes os n).sent_stay (kept_by s s refl)
       ]
 
-  pub registered_turn : (s : Content) (by : Endpoint) (bytes : List ℕ) (path : List (List ℕ)) (szx : ℕ) (os : List Observer) → IsOther to token by bytes → Turn s s os (registered by bytes path szx os)
-  registered_turn s by bytes path szx os n = kept ((others_stay to token by bytes os n).registered_stay path szx) (kept_by s s refl)
+  pub registered_turn : (s : Content) (by : Endpoint) (bytes : List ℕ) (path : List (List ℕ)) (szx : ℕ)
+      (os : List Observer) → IsOther to token by bytes → Turn s s os (registered by bytes path szx os)
+  registered_turn s by bytes path szx os n = kept ((others_stay to token by bytes os n).registered_stay path szx)
+      (kept_by s s refl)
 
-  pub marked_turn : (path : List (List ℕ)) (a b : Content) (os : List Observer) → Effect path a b → Turn a b os (marked_if path a b os)
-  marked_turn path a b os (inl k) = by (b.tally.version == a.tally.version) ((unsigned_Decides b.tally.version a.tally.version).1 k.version)
+  pub marked_turn : (path : List (List ℕ)) (a b : Content) (os : List Observer) → Effect path a b
+      → Turn a b os (marked_if path a b os)
+  marked_turn path a b os (inl k) = by (b.tally.version == a.tally.version)
+      ((unsigned_Decides b.tally.version a.tally.version).1 k.version)
     where
       by : (n : Bool) → n ≡ true → Turn a b os (cond n os (changed_at path os))
       by true e = kept refl k
       by false e = absurd (cc e)
-  marked_turn path a b os (inr c) = by (b.tally.version == a.tally.version) ((unsigned_Decides b.tally.version a.tally.version).0)
+  marked_turn path a b os (inr c) = by (b.tally.version == a.tally.version)
+      ((unsigned_Decides b.tally.version a.tally.version).0)
     where
       by : (n : Bool) → (n ≡ true → b.tally.version ≡ a.tally.version) → Turn a b os (cond n os (changed_at path os))
       by true f = let e = f refl in let v = c.version in absurd (omega (arith, e, v))
@@ -122,12 +137,14 @@ module _ (x : Telling) (F : Type 0) where
         flies = l.flies;
       })
     where
-      by : (n : Bool) → same_path l.entry.path path ≡ n → (l.entry.marked || same_path l.entry.path path) ≡ true → (held : Held) → b.holds x.path ≡ Some held → x.version < held.version
+      by : (n : Bool) → same_path l.entry.path path ≡ n → (l.entry.marked || same_path l.entry.path path) ≡ true
+          → (held : Held) → b.holds x.path ≡ Some held → x.version < held.version
       by true is m held h =
           let here : x.path ≡ path = sym l.path ∙ (same_path-decides l.entry.path path).0 is in
           let v = c.stamp held (ap b.holds (sym here) ∙ h) in
           let k = l.low in
           omega (arith, v, k)
       by false is m held h =
-          let other : x.path ≢ path = λ e. (let z = (same_path-decides l.entry.path path).1 (l.path ∙ e) in cc (z, is)) in
+          let other : x.path ≢ path = λ e. (let z = (same_path-decides l.entry.path path).1 (l.path ∙ e) in cc (z, is))
+          in
           l.fresh (or_left l.entry.marked (same_path l.entry.path path) is m) held (sym (c.others x.path other) ∙ h)

@@ -37,13 +37,15 @@ module _ (word : ℕ) (calls : List E.Call) (law : ResponseLaw word calls) where
     pub law_of : ResponseLaw word (E.Defers at a delay false ∷ calls)
     pub can : Takes law_of.left (W.own_of (E.Defers at a delay false ∷ calls)).clock a
 
-  pub defers_not : (at : ℕ) (a : Asked) (delay : ℕ) → own.pending ≡ Some a → a.kind ≡ Con → P.may_defer own.deferred ≡ false → Takes left own.clock a → Refused at a delay
+  pub defers_not : (at : ℕ) (a : Asked) (delay : ℕ) → own.pending ≡ Some a → a.kind ≡ Con
+      → P.may_defer own.deferred ≡ false → Takes left own.clock a → Refused at a delay
   unfolding left_by
   defers_not at a delay pending con may can = record {
     law_of = record {
       rows = ((pending, con, sym may), law.rows);
       left = left_by left at L.Pass;
-      layer = subst (λ b. Steps (S.start word) ((P.deferring b a ++ asked at L.Pass L.Nothing ∷ []) ++ W.lower_of calls) (left_by left at L.Pass)) (sym may) (left, law.layer, one_step left at L.Pass tt);
+      layer = subst (λ b. Steps (S.start word) ((P.deferring b a ++ asked at L.Pass L.Nothing ∷ []) ++ W.lower_of calls)
+          (left_by left at L.Pass)) (sym may) (left, law.layer, one_step left at L.Pass tt);
     };
     can = record { awaits = can.awaits; kind = inl con; short = can.short };
   }
@@ -58,22 +60,30 @@ module _ (word : ℕ) (calls : List E.Call) (law : ResponseLaw word calls) where
   unfolding left_by
   asks at to = record {
     may = not (is_busy to left.open_cons) && is_free (max left.clock at) left.upcoming left.last_used;
-    law_of = record { rows = (tt, law.rows); left = left_by left at (L.Room to); layer = (left, law.layer, one_step left at (L.Room to) tt) };
+    law_of = record {
+      rows = (tt, law.rows);
+      left = left_by left at (L.Room to);
+      layer = (left, law.layer, one_step left at (L.Room to) tt);
+    };
     can = so;
   }
     where
-      so : (not (is_busy to left.open_cons) && is_free (max left.clock at) left.upcoming left.last_used) ≡ true → TakesCon (left_by left at (L.Room to)) at to
+      so : (not (is_busy to left.open_cons) && is_free (max left.clock at) left.upcoming left.last_used) ≡ true
+          → TakesCon (left_by left at (L.Room to)) at to
       so may =
-          let k = and_parts (not (is_busy to left.open_cons)) (is_free (max left.clock at) left.upcoming left.last_used) may in
+          let k = and_parts (not (is_busy to left.open_cons))
+          (is_free (max left.clock at) left.upcoming left.last_used) may in
           let moment : max (max left.clock at) at ≡ max left.clock at = omega arith in
-          let same : (left_by left at (L.Room to)).open_cons ≡ left.open_cons = left_same_nil (S.made left at (L.Room to)) (λ c. refl) left.open_cons in
+          let same : (left_by left at (L.Room to)).open_cons
+          ≡ left.open_cons = left_same_nil (S.made left at (L.Room to)) (λ c. refl) left.open_cons in
           record {
             alone = ap (is_busy to) same ∙ not_true (is_busy to left.open_cons) k.0;
             free = ap (λ n. is_free n left.upcoming left.last_used) moment ∙ k.1;
           }
 
   -- a notification
-  pub notifies : (at : ℕ) (to : Endpoint) (token : List ℕ) (r : E.Response) (w : ℕ) → P.IsResponseWith token r → TakesCon left at to → ResponseLaw word (E.Notifies at to token r w left.upcoming ∷ calls)
+  pub notifies : (at : ℕ) (to : Endpoint) (token : List ℕ) (r : E.Response) (w : ℕ) → P.IsResponseWith token r
+      → TakesCon left at to → ResponseLaw word (E.Notifies at to token r w left.upcoming ∷ calls)
   unfolding left_by
   notifies at to token r w response can =
       let call : L.Call = L.Confirm to (P.content_with token r) w in
@@ -85,7 +95,9 @@ module _ (word : ℕ) (calls : List E.Call) (law : ResponseLaw word calls) where
           law.layer,
           record {
             may = response.spelled;
-            right = sym (ap (λ b. cond b L.Busied (sending (is_free (max left.clock at) left.upcoming left.last_used) left.upcoming)) can.alone ∙ ap (λ b. sending b left.upcoming) can.free);
+            right = sym (ap (λ b. cond b L.Busied (sending
+                (is_free (max left.clock at) left.upcoming left.last_used) left.upcoming)) can.alone
+                ∙ ap (λ b. sending b left.upcoming) can.free);
             new_is = refl;
           },
         );
@@ -99,10 +111,19 @@ module _ (word at : ℕ) where
     pub can : (o : Observer) → behind passed os ≡ Some o → TakesCon law_of.left at o.to
 
   abbrev moved : {xs ys : List E.Call} → ResponseLaw word xs → xs ≡ ys → ResponseLaw word ys
-  moved {xs} {ys} l e = record { rows = subst W.AnswererLaw e l.rows; left = l.left; layer = subst (λ z. Steps (S.start word) (W.lower_of z) l.left) e l.layer }
+  moved {xs} {ys} l e = record {
+    rows = subst W.AnswererLaw e l.rows;
+    left = l.left;
+    layer = subst (λ z. Steps (S.start word) (W.lower_of z) l.left) e l.layer;
+  }
 
-  passes : (o : Observer) (os : List Observer) (calls : List E.Call) → Walked os (E.Ready at o.to false ∷ calls) → Walked (o ∷ os) calls
-  passes o os calls r = record { passed = suc r.passed; law_of = moved r.law_of (sym (joined (readies at r.passed os) (E.Ready at o.to false) calls)); can = λ x h. r.can x h }
+  passes : (o : Observer) (os : List Observer) (calls : List E.Call) → Walked os (E.Ready at o.to false ∷ calls)
+      → Walked (o ∷ os) calls
+  passes o os calls r = record {
+    passed = suc r.passed;
+    law_of = moved r.law_of (sym (joined (readies at r.passed os) (E.Ready at o.to false) calls));
+    can = λ x h. r.can x h;
+  }
 
   pub walks : (os : List Observer) (calls : List E.Call) → ResponseLaw word calls → Walked os calls
   walks [] calls law = record { passed = 0; law_of = law; can = λ o e. absurd (cc e) }
@@ -111,6 +132,12 @@ module _ (word at : ℕ) where
       k : IsAsked word calls law at o.to
       k = asks word calls law at o.to
 
-      by : (b : Bool) → (next : ResponseLaw word (E.Ready at o.to b ∷ calls)) → (b ≡ true → TakesCon next.left at o.to) → (ResponseLaw word (E.Ready at o.to false ∷ calls) → Walked os (E.Ready at o.to false ∷ calls)) → Walked (o ∷ os) calls
-      by true next can more = record { passed = 0; law_of = next; can = λ x e. (let same : o ≡ x = cc e in subst (λ (y : Observer). TakesCon next.left at y.to) same (can refl)) }
+      by : (b : Bool) → (next : ResponseLaw word (E.Ready at o.to b ∷ calls)) → (b ≡ true → TakesCon next.left at o.to)
+          → (ResponseLaw word (E.Ready at o.to false ∷ calls) → Walked os (E.Ready at o.to false ∷ calls))
+          → Walked (o ∷ os) calls
+      by true next can more = record {
+        passed = 0;
+        law_of = next;
+        can = λ x e. (let same : o ≡ x = cc e in subst (λ (y : Observer). TakesCon next.left at y.to) same (can refl));
+      }
       by false next can more = passes o os calls (more next)

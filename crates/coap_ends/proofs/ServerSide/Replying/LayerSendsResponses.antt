@@ -27,7 +27,8 @@ use Rattle.coap_ends.proofs.Replying.ClientReplies.{empty_of, ack_spells, reset_
 use Rattle.coap_ends.specs.Follows.Sources.{GivesMessage, Source}
 
 -- from the entries of the layer to what was asked of it
-pub called : (K : L.Call → Type 0) (old : S.State) (calls : List G.Asked) → Ever (λ (e : L.Entry). K e.call) (entries old calls) → Ever (λ (b : G.Asked). K b.call) calls
+pub called : (K : L.Call → Type 0) (old : S.State) (calls : List G.Asked)
+    → Ever (λ (e : L.Entry). K e.call) (entries old calls) → Ever (λ (b : G.Asked). K b.call) calls
 called K old [] h = h
 called K old (a ∷ earlier) (inl h) = inl h
 called K old (a ∷ earlier) (inr h) = inr (called K old earlier h)
@@ -45,7 +46,8 @@ module _ (p : L.Packet) where
 
   -- a reply's bytes
 
-  replied : (to : Endpoint) (n : ℕ) (bytes : List ℕ) → Source p (L.Reply to n bytes) → (p.to ≡ to) × (p.bytes ≡ bytes) × (n < 65536)
+  replied : (to : Endpoint) (n : ℕ) (bytes : List ℕ) → Source p (L.Reply to n bytes)
+      → (p.to ≡ to) × (p.bytes ≡ bytes) × (n < 65536)
   replied to n bytes (inl g) =
       let k = g.call_is in
       let same : n ≡ g.id = cc k in
@@ -54,7 +56,8 @@ module _ (p : L.Packet) where
   replied to n bytes (inr g) = elim g.call_is [ inl k ↦ absurd (cc k) | inr k ↦ let l = k.1 in absurd (cc l) ]
 
   -- a message's content
-  carried : (call : L.Call) (g : GivesMessage p call) (to : Endpoint) (token : List ℕ) (r : E.Response) → p.to ≡ to → g.content ≡ P.content_with token r → Carries p to token r
+  carried : (call : L.Call) (g : GivesMessage p call) (to : Endpoint) (token : List ℕ) (r : E.Response) → p.to ≡ to
+      → g.content ≡ P.content_with token r → Carries p to token r
   carried call g to token r there content =
       record {
         there = there;
@@ -66,21 +69,39 @@ module _ (p : L.Packet) where
 
   in_non : (a : Asked) (r : E.Response) → Source p (L.Plain a.from (P.content_of a r)) → Carries p a.from a.token r
   in_non a r (inl g) = let k = g.call_is in absurd (cc k)
-  in_non a r (inr g) = elim g.call_is [ inl k ↦ carried (L.Plain a.from (P.content_of a r)) g a.from a.token r (cc k) (cc k) | inr k ↦ let l = k.1 in absurd (cc l) ]
+  in_non a r (inr g) = elim g.call_is [
+    | inl k ↦ carried (L.Plain a.from (P.content_of a r)) g a.from a.token r (cc k)
+        (cc k)
+    | inr k ↦ let l = k.1 in absurd (cc l)
+  ]
 
-  in_con : (to : Endpoint) (token : List ℕ) (r : E.Response) (word : ℕ) → Source p (L.Confirm to (P.content_with token r) word) → Carries p to token r
+  in_con : (to : Endpoint) (token : List ℕ) (r : E.Response) (word : ℕ)
+      → Source p (L.Confirm to (P.content_with token r) word) → Carries p to token r
   in_con to token r word (inl g) = let k = g.call_is in absurd (cc k)
   in_con to token r word (inr g) =
-      elim g.call_is [ inl k ↦ absurd (cc k) | inr k ↦ let l = k.1 in carried (L.Confirm to (P.content_with token r) word) g to token r (cc l) (cc l) ]
+      elim g.call_is [
+        | inl k ↦ absurd (cc k)
+        | inr k ↦ let l =
+            k.1 in carried (L.Confirm to (P.content_with token r) word) g to token r (cc l) (cc l)
+      ]
 
   -- piggybacked
-  in_ack : (a : Asked) (r : E.Response) → P.IsResponse a r → Source p (L.Reply a.from a.id.0 (message_bytes (with_head Ack a.id.0 (P.content_of a r)))) → Carries p a.from a.token r
+  in_ack : (a : Asked) (r : E.Response) → P.IsResponse a r
+      → Source p (L.Reply a.from a.id.0 (message_bytes (with_head Ack a.id.0 (P.content_of a r))))
+      → Carries p a.from a.token r
   in_ack a r is h =
       let m : Message = with_head Ack a.id.0 (P.content_of a r) in
       let k = replied a.from a.id.0 (message_bytes m) h in
-      record { there = k.0; kind = Ack; id = a.id.0; bytes = k.1; spells = subst (λ b. Spells b m) (sym k.1) (is.spelled Ack a.id.0 k.2) }
+      record {
+        there = k.0;
+        kind = Ack;
+        id = a.id.0;
+        bytes = k.1;
+        spells = subst (λ b. Spells b m) (sym k.1) (is.spelled Ack a.id.0 k.2);
+      }
 
-  answer_of : (s : E.Own) (a : Asked) (r : E.Response) → P.IsResponse a r → (kind : Kind) → Source p (P.answering s kind a r) → Carries p a.from a.token r
+  answer_of : (s : E.Own) (a : Asked) (r : E.Response) → P.IsResponse a r → (kind : Kind)
+      → Source p (P.answering s kind a r) → Carries p a.from a.token r
   answer_of s a r is Con h = in_ack a r is h
   answer_of s a r is Non h = in_non a r h
   answer_of s a r is Ack h = in_non a r h
@@ -89,10 +110,12 @@ module _ (p : L.Packet) where
   -- Empty messages
 
   in_reset : (to : Endpoint) (n : ℕ) → Source p (L.Reply to n (reset_bytes n)) → IsEmpty p
-  in_reset to n h = let k = replied to n (reset_bytes n) h in (empty_of Rst n, subst (λ b. Spells b (empty_of Rst n)) (sym k.1) (reset_spells n k.2), refl)
+  in_reset to n h = let k = replied to n (reset_bytes n) h
+      in (empty_of Rst n, subst (λ b. Spells b (empty_of Rst n)) (sym k.1) (reset_spells n k.2), refl)
 
   in_bare_ack : (to : Endpoint) (n : ℕ) → Source p (L.Reply to n (ack_bytes n)) → IsEmpty p
-  in_bare_ack to n h = let k = replied to n (ack_bytes n) h in (empty_of Ack n, subst (λ b. Spells b (empty_of Ack n)) (sym k.1) (ack_spells n k.2), refl)
+  in_bare_ack to n h = let k = replied to n (ack_bytes n) h
+      in (empty_of Ack n, subst (λ b. Spells b (empty_of Ack n)) (sym k.1) (ack_spells n k.2), refl)
 
   rejected : (from : Endpoint) (up : L.Answer) → From (replying from (id_in up) (P.reject_by up)) → IsEmpty p
   rejected from (L.Becomes (L.Response m)) h = by (is_kept m.kind) h
@@ -116,13 +139,15 @@ module _ (p : L.Packet) where
   abbrev Quiet : L.Call → Type 0
   Quiet call = Source p call → ⊥
 
-  quiet_of : (call : L.Call) → ((to : Endpoint) (id : ℕ) (bytes : List ℕ) → call ≡ L.Reply to id bytes → ⊥) → ((to : Endpoint) (content : Content) → call ≡ L.Plain to content → ⊥)
+  quiet_of : (call : L.Call) → ((to : Endpoint) (id : ℕ) (bytes : List ℕ) → call ≡ L.Reply to id bytes → ⊥)
+      → ((to : Endpoint) (content : Content) → call ≡ L.Plain to content → ⊥)
       → ((to : Endpoint) (content : Content) (word : ℕ) → call ≡ L.Confirm to content word → ⊥) → Quiet call
   quiet_of call f g k (inl h) = f p.to h.id p.bytes h.call_is
   quiet_of call f g k (inr h) = elim h.call_is [ inl e ↦ g p.to h.content e | inr e ↦ k p.to h.content e.0 e.1 ]
 
   of_receive : (from : Endpoint) (bytes : List ℕ) → Quiet (L.Receive from bytes)
-  of_receive from bytes = quiet_of (L.Receive from bytes) (λ to id b h. absurd (cc h)) (λ to c h. absurd (cc h)) (λ to c w h. absurd (cc h))
+  of_receive from bytes = quiet_of (L.Receive from bytes) (λ to id b h. absurd (cc h)) (λ to c h. absurd (cc h))
+      (λ to c w h. absurd (cc h))
 
   of_room : (to : Endpoint) → Quiet (L.Room to)
   of_room to = quiet_of (L.Room to) (λ t id b h. absurd (cc h)) (λ t c h. absurd (cc h)) (λ t c w h. absurd (cc h))
@@ -141,21 +166,25 @@ module _ (p : L.Packet) where
   abbrev Makes : E.Call → Type 0
   Makes c = IsEmpty p ⊎ CarriesIn c
 
-  arrival_makes : (at : ℕ) (from : Endpoint) (bytes : List ℕ) (up : L.Answer) → From (replying from (id_in up) (P.reject_by up) ++ asked at (L.Receive from bytes) up ∷ []) → IsEmpty p
+  arrival_makes : (at : ℕ) (from : Endpoint) (bytes : List ℕ) (up : L.Answer)
+      → From (replying from (id_in up) (P.reject_by up) ++ asked at (L.Receive from bytes) up ∷ []) → IsEmpty p
   arrival_makes at from bytes up h =
-      elim (Ever_append (λ (b : G.Asked). Source p b.call) (replying from (id_in up) (P.reject_by up)) (asked at (L.Receive from bytes) up ∷ []) h) [
+      elim (Ever_append (λ (b : G.Asked). Source p b.call) (replying from (id_in up) (P.reject_by up))
+      (asked at (L.Receive from bytes) up ∷ []) h) [
         | inl k ↦ rejected from up k
         | inr k ↦ elim k [ inl g ↦ absurd (of_receive from bytes g) | inr g ↦ absurd g ]
       ]
 
-  deferral_makes : (at : ℕ) (a : Asked) (d : Bool) → From (P.deferring d a ++ asked at L.Pass L.Nothing ∷ []) → IsEmpty p
+  deferral_makes : (at : ℕ) (a : Asked) (d : Bool) → From (P.deferring d a ++ asked at L.Pass L.Nothing ∷ [])
+      → IsEmpty p
   deferral_makes at a true (inl g) = in_bare_ack a.from a.id.0 g
   deferral_makes at a true (inr (inl g)) = absurd (of_pass g)
   deferral_makes at a true (inr (inr g)) = absurd g
   deferral_makes at a false (inl g) = absurd (of_pass g)
   deferral_makes at a false (inr g) = absurd g
 
-  tick_quiet : (at : ℕ) (o : Option Deferred) (room : Bool) (below : L.Answer) → From (P.asking_room at o room ++ asked at L.Ticks below ∷ []) → ⊥
+  tick_quiet : (at : ℕ) (o : Option Deferred) (room : Bool) (below : L.Answer)
+      → From (P.asking_room at o room ++ asked at L.Ticks below ∷ []) → ⊥
   tick_quiet at None room below (inl g) = of_ticks g
   tick_quiet at None room below (inr g) = g
   tick_quiet at (Some d) room below (inl g) = of_room d.asked.from g

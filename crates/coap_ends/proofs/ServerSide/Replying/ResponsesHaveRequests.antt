@@ -84,7 +84,8 @@ uploading_not Delete q (Some b) = refl
 
 asked_not : (szx : ℕ) (o : Option Method) (m : Message) → refuses_so (asked_by szx o m) ≡ false
 asked_not szx None m = refl
-asked_not szx (Some method) m = by (nat_lt max_segments (length (path_of (asks m)))) (is_reserved (uint_at block1 (asks m)) || is_reserved (uint_at block2 (asks m)))
+asked_not szx (Some method) m = by (nat_lt max_segments (length (path_of (asks m))))
+    (is_reserved (uint_at block1 (asks m)) || is_reserved (uint_at block2 (asks m)))
   where
     last : Verdict
     last = uploading method (question szx method m) (block_said (uint_at block1 (asks m)))
@@ -101,9 +102,11 @@ bad_not Ack = refl
 bad_not Rst = refl
 
 verdict_not : (szx : ℕ) (m : Message) → refuses_so (verdict_on szx m) ≡ false
-verdict_not szx m = by (lacks_critical direction.Request m.options) (has proxy_uri (asks m) || has proxy_scheme (asks m))
+verdict_not szx m = by (lacks_critical direction.Request m.options)
+    (has proxy_uri (asks m) || has proxy_scheme (asks m))
   where
-    by : (b c : Bool) → refuses_so (cond b (bad_by m.kind) (cond c (Refused proxying_not_supported) (asked_by szx (method_of m.code) m))) ≡ false
+    by : (b c : Bool) → refuses_so (cond b (bad_by m.kind)
+        (cond c (Refused proxying_not_supported) (asked_by szx (method_of m.code) m))) ≡ false
     by true c = bad_not m.kind
     by false true = refl
     by false false = asked_not szx (method_of m.code) m
@@ -135,34 +138,49 @@ record IsContinue (s : Own) (a : Asked) (v : Verdict) (r : E.Response) : Type 0 
 one_response : (r k : E.Response) → Replies r ≡ Replies k → r ≡ k
 one_response r k e = cc e
 
-never_replies : (o : Option ℕ) (place : Bool) (old : Content) (at : ℕ) (q : Question) (r : E.Response) → WaitsBy o place old at q (Replies r) → ⊥
+never_replies : (o : Option ℕ) (place : Bool) (old : Content) (at : ℕ) (q : Question) (r : E.Response)
+    → WaitsBy o place old at q (Replies r) → ⊥
 never_replies (Some d) true old at q r h = cc h
 never_replies (Some d) false old at q r h = let e = h.is in cc e
 never_replies None place old at q r h = let e = h.is in cc e
 
-block_replies : (v : BlockVerdict) (s : Own) (a : Asked) (q : Question) (b : Block) (r : E.Response) → ruling_of s.uploads s.clock a q b ≡ v → HandlesBlock v s a q b (Replies r) → IsRefusal s a (Uploads q b) r ⊎ IsContinue s a (Uploads q b) r
-block_replies (Refuse why) s a q b r e h = inl (record { code = (refusal_code why).0; refuses = ap refusal_by e; other = not_continue (refusal_code why).0 (block_not why); is = one_response r _ h })
-block_replies (Join n) s a q b r e h = inr (record { question = q; block = b; size = n; verdict = refl; joins = e; is = one_response r _ h })
+block_replies : (v : BlockVerdict) (s : Own) (a : Asked) (q : Question) (b : Block) (r : E.Response)
+    → ruling_of s.uploads s.clock a q b ≡ v → HandlesBlock v s a q b (Replies r)
+    → IsRefusal s a (Uploads q b) r ⊎ IsContinue s a (Uploads q b) r
+block_replies (Refuse why) s a q b r e h = inl
+    (record {
+      code = (refusal_code why).0;
+      refuses = ap refusal_by e;
+      other = not_continue (refusal_code why).0 (block_not why);
+      is = one_response r _ h;
+    })
+block_replies (Join n) s a q b r e h = inr (record
+    { question = q; block = b; size = n; verdict = refl; joins = e; is = one_response r _ h })
 block_replies Done s a q b r e h =
     let it : Question = whole s.uploads s.clock a q b in
     absurd (never_replies (delay_for a.kind q.path s.delays) (may_defer s.exchanges.deferred) s.store s.clock it r h)
 
-replies : (v : Verdict) (s : Own) (a : Asked) (r : E.Response) → refuses_so v ≡ false → Handles s a v (Replies r) → IsRefusal s a v r ⊎ IsContinue s a v r
+replies : (v : Verdict) (s : Own) (a : Asked) (r : E.Response) → refuses_so v ≡ false → Handles s a v (Replies r)
+    → IsRefusal s a v r ⊎ IsContinue s a v r
 replies Ignored s a r n h = absurd (cc h)
-replies (Refused code) s a r n h = inl (record { code = code; refuses = refl; other = not_continue code n; is = one_response r _ h })
-replies (Asks q) s a r n h = absurd (never_replies (delay_for a.kind q.path s.delays) (may_defer s.exchanges.deferred) s.store s.clock q r h)
+replies (Refused code) s a r n h = inl (record
+    { code = code; refuses = refl; other = not_continue code n; is = one_response r _ h })
+replies (Asks q) s a r n h = absurd (never_replies (delay_for a.kind q.path s.delays)
+    (may_defer s.exchanges.deferred) s.store s.clock q r h)
 replies (Uploads q b) s a r n h = block_replies (ruling_of s.uploads s.clock a q b) s a q b r refl h
 
 -- a notification
 
-pub next_told : (x : Option Observer) (s : Content) (o : Observer) (reply : Reply) → NotifiesNext x s (Notifies o reply) → reply ≡ told s o
+pub next_told : (x : Option Observer) (s : Content) (o : Observer) (reply : Reply) → NotifiesNext x s (Notifies o reply)
+    → reply ≡ told s o
 next_told None s o reply h = absurd (cc h)
 next_told (Some y) s o reply h =
     let same : y ≡ o = cc h in
     let is : reply ≡ told s y = cc h in
     is ∙ ap (told s) same
 
-shows_held : (o : Observer) (held : Option Held) → NoticeOf o.szx held (response_with (got held (asks_for o)) (sequence held) None)
+shows_held : (o : Observer) (held : Option Held)
+    → NoticeOf o.szx held (response_with (got held (asks_for o)) (sequence held) None)
 shows_held o None = refl
 shows_held o (Some held) = refl
 
@@ -178,37 +196,55 @@ module _ (limit szx word : ℕ) (p : L.Packet) where
   abbrev In : List E.Call → Type 0
   In cs = Ever (CarriesIn p) cs
 
-  deferred_none : (o : Option ℕ) (place : Bool) (at : ℕ) (a : Asked) (first : E.Call) → (CarriesIn p first → ⊥) → In (deferral_by o place at a ++ first ∷ []) → ⊥
+  deferred_none : (o : Option ℕ) (place : Bool) (at : ℕ) (a : Asked) (first : E.Call) → (CarriesIn p first → ⊥)
+      → In (deferral_by o place at a ++ first ∷ []) → ⊥
   deferred_none None place at a first n (inl k) = n k
   deferred_none None place at a first n (inr k) = k
   deferred_none (Some d) place at a first n (inl k) = k
   deferred_none (Some d) place at a first n (inr (inl k)) = n k
   deferred_none (Some d) place at a first n (inr (inr k)) = k
 
-  deferral_none : (s : Own) (a : Asked) (q : Question) (first : E.Call) → (CarriesIn p first → ⊥) → In (deferral s a q ++ first ∷ []) → ⊥
-  deferral_none s a q first n h = deferred_none (delay_for a.kind q.path s.delays) (may_defer s.exchanges.deferred) s.clock a first n h
+  deferral_none : (s : Own) (a : Asked) (q : Question) (first : E.Call) → (CarriesIn p first → ⊥)
+      → In (deferral s a q ++ first ∷ []) → ⊥
+  deferral_none s a q first n h = deferred_none (delay_for a.kind q.path s.delays)
+      (may_defer s.exchanges.deferred) s.clock a first n h
 
   readies_none : (at n : ℕ) (os : List Observer) → In (readies at n os) → ⊥
   readies_none at n [] h = h
   readies_none at zero (o ∷ os) (inl k) = k
   readies_none at zero (o ∷ os) (inr k) = k
-  readies_none at (suc n) (o ∷ os) h = elim (Ever_append (CarriesIn p) (readies at n os) (E.Ready at o.to false ∷ []) h) [ inl k ↦ readies_none at n os k | inr k ↦ elim k [ inl z ↦ z | inr z ↦ z ] ]
+  readies_none at (suc n) (o ∷ os) h = elim (Ever_append (CarriesIn p) (readies at n os) (E.Ready at o.to false ∷ []) h)
+      [ inl k ↦ readies_none at n os k | inr k ↦ elim k [ inl z ↦ z | inr z ↦ z ] ]
 
-  idle_none : (at n : ℕ) (os : List Observer) (first : E.Call) → (CarriesIn p first → ⊥) → In (readies at n os ++ first ∷ []) → ⊥
-  idle_none at n os first f h = elim (Ever_append (CarriesIn p) (readies at n os) (first ∷ []) h) [ inl k ↦ readies_none at n os k | inr k ↦ elim k [ inl z ↦ f z | inr z ↦ z ] ]
+  idle_none : (at n : ℕ) (os : List Observer) (first : E.Call) → (CarriesIn p first → ⊥)
+      → In (readies at n os ++ first ∷ []) → ⊥
+  idle_none at n os first f h = elim (Ever_append (CarriesIn p) (readies at n os) (first ∷ []) h)
+      [ inl k ↦ readies_none at n os k | inr k ↦ elim k [ inl z ↦ f z | inr z ↦ z ] ]
 
   module _ (t : List Call) where
-    fed : (now : ℕ) (from : Endpoint) (bytes : List ℕ) (w : ℕ) (up : L.Answer) (came : Option (Asked × Message)) (h : Handling) (below : L.Answer) → ServerLaw limit szx word (Feeds now from bytes w up came h below ∷ t)
-        → In (lower (own t) (Feeds now from bytes w up came h below)) → CarriesResponse limit szx word p t (Feeds now from bytes w up came h below)
+    fed : (now : ℕ) (from : Endpoint) (bytes : List ℕ) (w : ℕ) (up : L.Answer) (came : Option (Asked × Message))
+        (h : Handling) (below : L.Answer) → ServerLaw limit szx word (Feeds now from bytes w up came h below ∷ t)
+        → In (lower (own t) (Feeds now from bytes w up came h below))
+        → CarriesResponse limit szx word p t (Feeds now from bytes w up came h below)
     fed now from bytes w up None h below law (inl k) = absurd k
     fed now from bytes w up None h below law (inr k) = absurd k
     fed now from bytes w up (Some a) Silent below law (inl k) = absurd k
     fed now from bytes w up (Some a) Silent below law (inr k) = absurd k
     fed now from bytes w up (Some a) (Notifies o reply) below law (inl k) = absurd k
     fed now from bytes w up (Some a) (Notifies o reply) below law (inr k) = absurd k
-    fed now from bytes w up (Some a) (Waits q delay) below law k = absurd (deferral_none (heard (own t) now (incoming (own t) now from bytes up (Some a))) a.0 q (incoming (own t) now from bytes up (Some a)) (λ z. z) k)
-    fed now from bytes w up (Some a) (Serves q reply left) below law (inl k) = inl (record { request = serving_of (heard (own t) now (incoming (own t) now from bytes up (Some a))) a.0 q reply left; here = refl; carries = k })
-    fed now from bytes w up (Some a) (Serves q reply left) below law (inr k) = absurd (deferral_none (heard (own t) now (incoming (own t) now from bytes up (Some a))) a.0 q (incoming (own t) now from bytes up (Some a)) (λ z. z) k)
+    fed now from bytes w up (Some a) (Waits q delay) below law k =
+        absurd (deferral_none (heard (own t) now (incoming (own t) now from bytes up (Some a))) a.0 q
+        (incoming (own t) now from bytes up (Some a)) (λ z. z) k)
+    fed now from bytes w up (Some a) (Serves q reply left) below law (inl k) =
+        inl (record {
+          request = serving_of (heard (own t) now (incoming (own t) now from bytes up (Some a))) a.0 q reply
+              left;
+          here = refl;
+          carries = k;
+        })
+    fed now from bytes w up (Some a) (Serves q reply left) below law (inr k) =
+        absurd (deferral_none (heard (own t) now (incoming (own t) now from bytes up (Some a))) a.0 q
+        (incoming (own t) now from bytes up (Some a)) (λ z. z) k)
     fed now from bytes w up (Some a) (Replies r) below law (inr (inl k)) = absurd k
     fed now from bytes w up (Some a) (Replies r) below law (inr (inr k)) = absurd k
     fed now from bytes w up (Some a) (Replies r) below law (inl k) =
@@ -229,9 +265,12 @@ module _ (limit szx word : ℕ) (p : L.Packet) where
               let u : AssemblyState = s.uploads in
               inr (inl (record {
                 block = took a.0 f.question f.block;
-                taken = ap (λ v. taken_by u s.clock a.0 v) f.verdict ∙ ap (λ v. took_by v (took a.0 f.question f.block)) f.joins;
+                taken = ap (λ v. taken_by u s.clock a.0 v) f.verdict
+                    ∙ ap (λ v. took_by v (took a.0 f.question f.block)) f.joins;
                 more =
-                    joins_more u.szx (reached (key_of a.0 f.question) (there_at u s.clock)) (length (without_key (key_of a.0 f.question) (there_at u s.clock))) f.block (length f.question.body) f.size f.joins;
+                    joins_more u.szx (reached (key_of a.0 f.question) (there_at u s.clock))
+                    (length (without_key (key_of a.0 f.question) (there_at u s.clock))) f.block
+                    (length f.question.body) f.size f.joins;
                 size = f.size;
                 asks = ap (λ v. size_of u s.clock a.0 v) f.verdict ∙ ap size_by f.joins;
                 carries = subst (Carries p a.0.from a.0.token) f.is k;
@@ -239,40 +278,59 @@ module _ (limit szx word : ℕ) (p : L.Packet) where
               )
         ]
 
-    ticked : (now w : ℕ) (below : L.Answer) (room : Bool) (d : Due) (passed : ℕ) (h : Handling) (id : ℕ) (answer : Bool) → ServerLaw limit szx word (Ticks now w below room d passed h id answer ∷ t)
-        → In (lower (own t) (Ticks now w below room d passed h id answer)) → CarriesResponse limit szx word p t (Ticks now w below room d passed h id answer)
+    ticked : (now w : ℕ) (below : L.Answer) (room : Bool) (d : Due) (passed : ℕ) (h : Handling) (id : ℕ) (answer : Bool)
+        → ServerLaw limit szx word (Ticks now w below room d passed h id answer ∷ t)
+        → In (lower (own t) (Ticks now w below room d passed h id answer))
+        → CarriesResponse limit szx word p t (Ticks now w below room d passed h id answer)
     ticked now w below room (due.Ready a) passed (Serves q reply left) id answer law (inl k) =
-        inl (record { request = serving_of (heard (own t) now (ticking (own t) now below room (due.Ready a))) a q reply left; here = refl; carries = k })
+        inl (record {
+          request = serving_of (heard (own t) now (ticking (own t) now below room (due.Ready a))) a q reply
+              left;
+          here = refl;
+          carries = k;
+        })
     ticked now w below room (due.Ready a) passed (Serves q reply left) id answer law (inr (inl k)) = absurd k
     ticked now w below room (due.Ready a) passed (Serves q reply left) id answer law (inr (inr k)) = absurd k
     ticked now w below room (due.Ready a) passed Silent id answer law k = elim k [ inl z ↦ absurd z | inr z ↦ absurd z ]
-    ticked now w below room (due.Ready a) passed (Replies r) id answer law k = elim k [ inl z ↦ absurd z | inr z ↦ absurd z ]
-    ticked now w below room (due.Ready a) passed (Waits q delay) id answer law k = elim k [ inl z ↦ absurd z | inr z ↦ absurd z ]
-    ticked now w below room (due.Ready a) passed (Notifies o reply) id answer law k = elim k [ inl z ↦ absurd z | inr z ↦ absurd z ]
+    ticked now w below room (due.Ready a) passed (Replies r) id answer law k =
+        elim k [ inl z ↦ absurd z | inr z ↦ absurd z ]
+    ticked now w below room (due.Ready a) passed (Waits q delay) id answer law k =
+        elim k [ inl z ↦ absurd z | inr z ↦ absurd z ]
+    ticked now w below room (due.Ready a) passed (Notifies o reply) id answer law k =
+        elim k [ inl z ↦ absurd z | inr z ↦ absurd z ]
     ticked now w below room due.Copied passed h id answer law k = elim k [ inl z ↦ absurd z | inr z ↦ absurd z ]
     ticked now w below room due.Expired passed h id answer law k = elim k [ inl z ↦ absurd z | inr z ↦ absurd z ]
     ticked now w below room due.Idle passed Silent id answer law k =
-        let s : Own = heard (own t) now (ticking (own t) now below room due.Idle) in absurd (idle_none s.clock passed (marked s.observers) (ticking (own t) now below room due.Idle) (λ z. z) k)
+        let s : Own = heard (own t) now (ticking (own t) now below room due.Idle) in absurd
+        (idle_none s.clock passed (marked s.observers) (ticking (own t) now below room due.Idle) (λ z. z) k)
     ticked now w below room due.Idle passed (Replies r) id answer law k =
-        let s : Own = heard (own t) now (ticking (own t) now below room due.Idle) in absurd (idle_none s.clock passed (marked s.observers) (ticking (own t) now below room due.Idle) (λ z. z) k)
+        let s : Own = heard (own t) now (ticking (own t) now below room due.Idle) in absurd
+        (idle_none s.clock passed (marked s.observers) (ticking (own t) now below room due.Idle) (λ z. z) k)
     ticked now w below room due.Idle passed (Waits q delay) id answer law k =
-        let s : Own = heard (own t) now (ticking (own t) now below room due.Idle) in absurd (idle_none s.clock passed (marked s.observers) (ticking (own t) now below room due.Idle) (λ z. z) k)
+        let s : Own = heard (own t) now (ticking (own t) now below room due.Idle) in absurd
+        (idle_none s.clock passed (marked s.observers) (ticking (own t) now below room due.Idle) (λ z. z) k)
     ticked now w below room due.Idle passed (Serves q reply left) id answer law k =
-        let s : Own = heard (own t) now (ticking (own t) now below room due.Idle) in absurd (idle_none s.clock passed (marked s.observers) (ticking (own t) now below room due.Idle) (λ z. z) k)
+        let s : Own = heard (own t) now (ticking (own t) now below room due.Idle) in absurd
+        (idle_none s.clock passed (marked s.observers) (ticking (own t) now below room due.Idle) (λ z. z) k)
     ticked now w below room due.Idle passed (Notifies o reply) id answer law (inr k) =
-        let s : Own = heard (own t) now (ticking (own t) now below room due.Idle) in absurd (idle_none s.clock passed (marked s.observers) (ticking (own t) now below room due.Idle) (λ z. z) k)
+        let s : Own = heard (own t) now (ticking (own t) now below room due.Idle) in absurd
+        (idle_none s.clock passed (marked s.observers) (ticking (own t) now below room due.Idle) (λ z. z) k)
     ticked now w below room due.Idle passed (Notifies o reply) id answer law (inl k) =
         let s : Own = heard (own t) now (ticking (own t) now below room due.Idle) in
         let right = law.rows.0.0 in
         let is = next_is (behind passed (marked s.observers)) s.store o reply right in
         let there = (marked_there s.observers o (behind_there passed (marked s.observers) o is)).0 in
-        let g = good_ended limit szx t (P.after (own t).exchanges (ticking (own t) now below room due.Idle)).ended (own t).observers (good limit szx t) in
+        let g = good_ended limit szx t (P.after (own t).exchanges (ticking (own t) now below room due.Idle)).ended
+        (own t).observers (good limit szx t) in
         inr (inr (inr (record {
           observer = o;
           reply = reply;
           here = refl;
           made = each_there (WasMade limit szx t) s.observers o g.made there;
-          shows = subst (λ z. NoticeOf o.szx (s.store.holds o.path) (response_with z (sequence (s.store.holds o.path)) None)) (sym (next_told (behind passed (marked s.observers)) s.store o reply right)) (shows_held o (s.store.holds o.path));
+          shows = subst (λ z. NoticeOf o.szx (s.store.holds o.path)
+              (response_with z (sequence (s.store.holds o.path)) None))
+              (sym (next_told (behind passed (marked s.observers)) s.store o reply right))
+              (shows_held o (s.store.holds o.path));
           carries = k;
         })))
 
@@ -286,7 +344,8 @@ module _ (limit szx word : ℕ) (p : L.Packet) where
     here (Ticks now w below room d passed h id answer) law k = ticked now w below room d passed h id answer law k
     here (NextOut answer) law k = elim k [ inl z ↦ absurd z | inr z ↦ absurd z ]
 
-  responded : (t : List Call) → ServerLaw limit szx word t → In (lower_of limit szx t) → Sometime (CarriesResponse limit szx word p) t
+  responded : (t : List Call) → ServerLaw limit szx word t → In (lower_of limit szx t)
+      → Sometime (CarriesResponse limit szx word p) t
   responded [] law h = absurd h
   responded (c ∷ t) law h =
       elim (Ever_append (CarriesIn p) (lower (own t) c) (lower_of limit szx t) h) [
@@ -299,9 +358,14 @@ sent_responses limit szx word t law p h =
     let calls : List E.Call = lower_of limit szx t in
     elim (sourced word p (W.below_of word calls) (layer_stands word calls law.exchanges) h) [
       | inl k ↦ inl k
-      | inr k ↦ elim (made p calls law.exchanges.rows (called (Source p) (S.start word) (W.lower_of calls) k)) [ inl x ↦ inl x | inr x ↦ inr (responded limit szx word p t law x) ]
+      | inr k ↦ elim (made p calls law.exchanges.rows (called (Source p) (S.start word) (W.lower_of calls) k))
+          [ inl x ↦ inl x | inr x ↦ inr (responded limit szx word p t law x) ]
     ]
 
-pub sends_responses : (limit szx word : ℕ) (t : List Call) → ServerLaw limit szx word t → SendsResponses limit szx word t
+pub sends_responses : (limit szx word : ℕ) (t : List Call) → ServerLaw limit szx word t
+    → SendsResponses limit szx word t
 sends_responses limit szx word [] law = tt
-sends_responses limit szx word (c ∷ t) law = (sent_responses limit szx word (c ∷ t) law, sends_responses limit szx word t (server_back limit szx word c t law))
+sends_responses limit szx word (c ∷ t) law = (
+  sent_responses limit szx word (c ∷ t) law,
+  sends_responses limit szx word t (server_back limit szx word c t law),
+)

@@ -21,7 +21,9 @@ module _ (limit szx word : ℕ) where
       let k = (goes_on limit szx word t law).ticks now w in
       by k.0 k.1 k.2 k.3 k.4 k.5 k.6 k.7
     where
-      by : (below : L.Answer) (room : Bool) (d : Due) (passed : ℕ) (h : Handling) (id : ℕ) (answer : Bool) → ServerLaw limit szx word (Ticks now w below room d passed h id answer ∷ t) → Next Law (size limit szx word now) (IsTickWith now w) t
+      by : (below : L.Answer) (room : Bool) (d : Due) (passed : ℕ) (h : Handling) (id : ℕ) (answer : Bool)
+          → ServerLaw limit szx word (Ticks now w below room d passed h id answer ∷ t)
+          → Next Law (size limit szx word now) (IsTickWith now w) t
       by below room d passed h id answer more = record {
         answer = answer;
         call = Ticks now w below room d passed h id answer;
@@ -30,7 +32,8 @@ module _ (limit szx word : ℕ) where
         fewer = λ is. fewer answer is more;
       }
         where
-          fewer : (b : Bool) → b ≡ true → ServerLaw limit szx word (Ticks now w below room d passed h id b ∷ t) → size limit szx word now (Ticks now w below room d passed h id b ∷ t) < size limit szx word now t
+          fewer : (b : Bool) → b ≡ true → ServerLaw limit szx word (Ticks now w below room d passed h id b ∷ t)
+              → size limit szx word now (Ticks now w below room d passed h id b ∷ t) < size limit szx word now t
           fewer true is law = less limit szx word now w t below room d passed h id law
           fewer false is law = absurd (cc is)
 
@@ -38,9 +41,11 @@ module _ (limit szx word : ℕ) where
   out_count : List Call → ℕ
   out_count t = length (behind_calls word (lower_of limit szx t)).queue
 
-  out_less : (t : List Call) (p : L.Packet) → ServerLaw limit szx word (NextOut (Some p) ∷ t) → out_count (NextOut (Some p) ∷ t) < out_count t
+  out_less : (t : List Call) (p : L.Packet) → ServerLaw limit szx word (NextOut (Some p) ∷ t)
+      → out_count (NextOut (Some p) ∷ t) < out_count t
   unfolding out_count
-  out_less t p law = take_less (S.start word) law.exchanges.left p (W.lower_of (lower_of limit szx t)) law.exchanges.layer
+  out_less t p law = take_less (S.start word) law.exchanges.left p
+      (W.lower_of (lower_of limit szx t)) law.exchanges.layer
 
   next_out : (t : List Call) → Law t → Takes Law out_count NextOut t
   next_out t law =
@@ -52,7 +57,8 @@ module _ (limit szx word : ℕ) where
       by (Some p) more = record { answer = Some p; law = more; less = out_less t p more }
 
   ticks_rest : (now w : ℕ) (t : List Call) → Law t → Rests Law (size limit szx word now) (IsTickWith now w) t
-  ticks_rest now w t law = rests Law (size limit szx word now) (IsTickWith now w) (next_tick now w) (size limit szx word now t) t law (omega arith)
+  ticks_rest now w t law = rests Law (size limit szx word now) (IsTickWith now w) (next_tick now w)
+      (size limit szx word now t) t law (omega arith)
 
   outs_end : (t : List Call) → Law t → Drains Law out_count NextOut t
   outs_end t law = drains Law out_count NextOut next_out (out_count t) t law (omega arith)

@@ -36,15 +36,19 @@ parts_with : (xs : List Took) (x : Took) → parts_of (xs ++ x ∷ []) ≡ parts
 parts_with [] x = refl
 parts_with (y ∷ xs) x = ap (λ z. y.part ∷ z) (parts_with xs x)
 
-behind_is : (xs : List Took) (a : Asked) (q : Question) (b : Block) (ps : List Part) → parts_of xs ≡ ps → parts_of (behind xs (took a q b)) ≡ A.behind ps b q.body
+behind_is : (xs : List Took) (a : Asked) (q : Question) (b : Block) (ps : List Part) → parts_of xs ≡ ps
+    → parts_of (behind xs (took a q b)) ≡ A.behind ps b q.body
 behind_is xs a q b ps e = by (b.num == 0)
   where
-    by : (n : Bool) → parts_of (cond n (took a q b ∷ []) (xs ++ took a q b ∷ [])) ≡ cond n (part b None q.body ∷ []) (ps ++ part b None q.body ∷ [])
+    by : (n : Bool) → parts_of (cond n (took a q b ∷ []) (xs ++ took a q b ∷ []))
+        ≡ cond n (part b None q.body ∷ []) (ps ++ part b None q.body ∷ [])
     by true = refl
     by false = parts_with xs (took a q b) ∙ ap (λ z. z ++ part b None q.body ∷ []) e
 
-since_same : (key : Key) (v : BlockVerdict) (xs : List Took) (a : Asked) (q : Question) (b : Block) (ps : List Part) → parts_of xs ≡ ps
-    → parts_of (since_with key (took_by v (took a q b)) xs) ≡ cond (same_key (key_of a q) key) (A.blocks_by v b q.body ps) ps
+since_same : (key : Key) (v : BlockVerdict) (xs : List Took) (a : Asked) (q : Question) (b : Block) (ps : List Part)
+    → parts_of xs ≡ ps
+    → parts_of (since_with key (took_by v (took a q b)) xs)
+    ≡ cond (same_key (key_of a q) key) (A.blocks_by v b q.body ps) ps
 since_same key (Refuse why) xs a q b ps e = by (same_key (key_of a q) key)
   where
     by : (n : Bool) → parts_of xs ≡ cond n ps ps
@@ -69,7 +73,8 @@ module _ (limit szx : ℕ) where
   history [] = Made szx
   history (c ∷ t) = arrived_in (history t) (own t) c
 
-  uploads_with : (v : Verdict) (at : ℕ) (a : Asked) (u : AssemblyState) (h : AssemblyTrace) → u ≡ state_after h → uploads_after at a v u ≡ state_after (arrived h at a v)
+  uploads_with : (v : Verdict) (at : ℕ) (a : Asked) (u : AssemblyState) (h : AssemblyTrace) → u ≡ state_after h
+      → uploads_after at a v u ≡ state_after (arrived h at a v)
   uploads_with Ignored at a u h e = e
   uploads_with (Refused code) at a u h e = e
   uploads_with (Asks q) at a u h e = e
@@ -84,11 +89,13 @@ module _ (limit szx : ℕ) where
   uploads_is (Gets path answer ∷ t) = uploads_is t
   uploads_is (TellsApplied answer ∷ t) = uploads_is t
   uploads_is (Feeds now from bytes word up None h below ∷ t) = uploads_is t
-  uploads_is (Feeds now from bytes word up (Some p) h below ∷ t) = uploads_with (verdict_on (own t).szx p.1) (max (own t).clock now) p.0 (own t).uploads (history t) (uploads_is t)
+  uploads_is (Feeds now from bytes word up (Some p) h below ∷ t) =
+      uploads_with (verdict_on (own t).szx p.1) (max (own t).clock now) p.0 (own t).uploads (history t) (uploads_is t)
   uploads_is (Ticks now word below room d passed h id answer ∷ t) = uploads_is t
   uploads_is (NextOut answer ∷ t) = uploads_is t
 
-  since_with_is : (key : Key) (v : Verdict) (at : ℕ) (a : Asked) (u : AssemblyState) (h : AssemblyTrace) (xs : List Took) → u ≡ state_after h → parts_of xs ≡ A.blocks_since key h
+  since_with_is : (key : Key) (v : Verdict) (at : ℕ) (a : Asked) (u : AssemblyState) (h : AssemblyTrace)
+      (xs : List Took) → u ≡ state_after h → parts_of xs ≡ A.blocks_since key h
       → parts_of (since_with key (taken_by u at a v) xs) ≡ A.blocks_since key (arrived h at a v)
   since_with_is key Ignored at a u h xs e f = f
   since_with_is key (Refused code) at a u h xs e f = f
@@ -107,6 +114,7 @@ module _ (limit szx : ℕ) where
   since_is key (TellsApplied answer ∷ t) = since_is key t
   since_is key (Feeds now from bytes word up None h below ∷ t) = since_is key t
   since_is key (Feeds now from bytes word up (Some p) h below ∷ t) =
-      since_with_is key (verdict_on (own t).szx p.1) (max (own t).clock now) p.0 (own t).uploads (history t) (blocks_since limit szx key t) (uploads_is t) (since_is key t)
+      since_with_is key (verdict_on (own t).szx p.1) (max (own t).clock now) p.0 (own t).uploads (history t)
+      (blocks_since limit szx key t) (uploads_is t) (since_is key t)
   since_is key (Ticks now word below room d passed h id answer ∷ t) = since_is key t
   since_is key (NextOut answer ∷ t) = since_is key t

@@ -13,7 +13,8 @@ use Rattle.coap_ends.proofs.ServerSide.Serving.ServedOnce.{handed_is}
 use Rattle.coap_ends.proofs.ServerSide.Serving.ServerBrought.{server_back}
 
 module _ (limit szx word : ℕ) where
-  as_often : (t : List Call) (a : Asked) → ServerLaw limit szx word t → times_handed limit szx a t ≤ ups a (layer_of limit szx word t)
+  as_often : (t : List Call) (a : Asked) → ServerLaw limit szx word t
+      → times_handed limit szx a t ≤ ups a (layer_of limit szx word t)
   as_often t a law =
       let p = handed_is limit szx a t in
       let q = handed_at_most a (lower_of limit szx t) law.exchanges.rows in

@@ -30,21 +30,25 @@ says_is old at h k e s = subst (Says old at) (sym e) s
 by_store : (old : Content) (at : ℕ) (q : Question) (h : Handling) → IsServed old at q h → Says old at h
 by_store old at q h k = says_is old at h (Serves q k.reply k.left) k.is k.serves
 
-by_waiting : (o : Option ℕ) (place : Bool) (old : Content) (at : ℕ) (q : Question) (h : Handling) → WaitsBy o place old at q h → Says old at h
+by_waiting : (o : Option ℕ) (place : Bool) (old : Content) (at : ℕ) (q : Question) (h : Handling)
+    → WaitsBy o place old at q h → Says old at h
 by_waiting (Some d) true old at q h k = says_is old at h (Waits q d) k tt
 by_waiting (Some d) false old at q h k = by_store old at q h k
 by_waiting None place old at q h k = by_store old at q h k
 
-by_block : (v : BlockVerdict) (s : Own) (a : Asked) (q : Question) (b : Block) (h : Handling) → HandlesBlock v s a q b h → Says s.store s.clock h
+by_block : (v : BlockVerdict) (s : Own) (a : Asked) (q : Question) (b : Block) (h : Handling) → HandlesBlock v s a q b h
+    → Says s.store s.clock h
 by_block (Refuse why) s a q b h k = says_is s.store s.clock h _ k tt
 by_block (Join szx) s a q b h k = says_is s.store s.clock h _ k tt
 by_block Done s a q b h k =
-    by_waiting (delay_for a.kind (whole s.uploads s.clock a q b).path s.delays) (may_defer s.exchanges.deferred) s.store s.clock (whole s.uploads s.clock a q b) h k
+    by_waiting (delay_for a.kind (whole s.uploads s.clock a q b).path s.delays)
+    (may_defer s.exchanges.deferred) s.store s.clock (whole s.uploads s.clock a q b) h k
 
 by_verdict : (v : Verdict) (s : Own) (a : Asked) (h : Handling) → Handles s a v h → Says s.store s.clock h
 by_verdict Ignored s a h k = says_is s.store s.clock h Silent k tt
 by_verdict (Refused code) s a h k = says_is s.store s.clock h _ k tt
-by_verdict (Asks q) s a h k = by_waiting (delay_for a.kind q.path s.delays) (may_defer s.exchanges.deferred) s.store s.clock q h k
+by_verdict (Asks q) s a h k = by_waiting (delay_for a.kind q.path s.delays)
+    (may_defer s.exchanges.deferred) s.store s.clock q h k
 by_verdict (Uploads q b) s a h k = by_block (ruling_of s.uploads s.clock a q b) s a q b h k
 
 by_ready : (o : Option Question) (old : Content) (at : ℕ) (h : Handling) → AnswersWaiting o old at h → Says old at h
@@ -61,10 +65,13 @@ of_it s c x y h k = let same : x ≡ y = cc h in subst (ServedNow s c) same k
 pub served_now : (s : Own) (c : Call) → IsRight s c → (x : Serving) → serving s c ≡ Some x → ServedNow s c x
 served_now s (Feeds now from bytes word up (Some p) (Serves q reply left) below) right x h =
     let w : Own = heard s now (incoming s now from bytes up (Some p)) in
-    of_it s (Feeds now from bytes word up (Some p) (Serves q reply left) below) (serving_of w p.0 q reply left) x h (by_verdict (verdict_on w.szx p.1) w p.0 (Serves q reply left) right)
+    of_it s (Feeds now from bytes word up (Some p) (Serves q reply left) below) (serving_of w p.0 q reply left) x h
+    (by_verdict (verdict_on w.szx p.1) w p.0 (Serves q reply left) right)
 served_now s (Ticks now word below room (due.Ready a) passed (Serves q reply left) id answer) right x h =
     let w : Own = heard s now (ticking s now below room (due.Ready a)) in
-    of_it s (Ticks now word below room (due.Ready a) passed (Serves q reply left) id answer) (serving_of w a q reply left) x h (by_ready (question_of w.clock a w.waiting) w.store w.clock (Serves q reply left) right.0)
+    of_it s (Ticks now word below room (due.Ready a) passed (Serves q reply left) id answer)
+    (serving_of w a q reply left) x h (by_ready (question_of w.clock a w.waiting) w.store w.clock
+    (Serves q reply left) right.0)
 served_now s (Feeds now from bytes word up None h below) right x e = absurd (cc e)
 served_now s (Feeds now from bytes word up (Some p) Silent below) right x e = absurd (cc e)
 served_now s (Feeds now from bytes word up (Some p) (Replies r) below) right x e = absurd (cc e)

@@ -31,11 +31,13 @@ module _ (szx : ℕ) (m : Message) where
   bad_reads Ack = tt
   bad_reads Rst = tt
 
-  uploading_reads : (method : Method) (o : Option ℕ) → uint_at block1 (asks m) ≡ o → is_reserved o ≡ false → ReadsAs szx m (question szx method m) → ReadsOf szx m (uploading method (question szx method m) (block_said o))
+  uploading_reads : (method : Method) (o : Option ℕ) → uint_at block1 (asks m) ≡ o → is_reserved o ≡ false
+      → ReadsAs szx m (question szx method m) → ReadsOf szx m (uploading method (question szx method m) (block_said o))
   uploading_reads method None e u r = (r, e)
   uploading_reads method (Some n) e u r = by (block_by n) refl method r
     where
-      by : (o : Option Block) → block_by n ≡ o → (k : Method) → ReadsAs szx m (question szx k m) → ReadsOf szx m (uploading k (question szx k m) o)
+      by : (o : Option Block) → block_by n ≡ o → (k : Method) → ReadsAs szx m (question szx k m)
+          → ReadsOf szx m (uploading k (question szx k m) o)
       by None h k r = let z : true ≡ false = sym (ap (λ (x : Option Block). not (is_some x)) h) ∙ u in cc z
       by (Some b) h Put r = (r, (n, e, h))
       by (Some b) h Post r = (r, (n, e, h))
@@ -45,18 +47,24 @@ module _ (szx : ℕ) (m : Message) where
   asked_reads : (o : Option Method) → method_of m.code ≡ o → ReadsOf szx m (asked_by szx o m)
   asked_reads None e = tt
   asked_reads (Some method) e =
-      by (nat_lt max_segments (length (path_of (asks m)))) (is_reserved (uint_at block1 (asks m))) refl (is_reserved (uint_at block2 (asks m)))
+      by (nat_lt max_segments (length (path_of (asks m)))) (is_reserved (uint_at block1 (asks m))) refl
+      (is_reserved (uint_at block2 (asks m)))
     where
-      by : (b c : Bool) → is_reserved (uint_at block1 (asks m)) ≡ c → (d : Bool) → ReadsOf szx m (cond b (Refused bad_request) (cond (c || d) (Refused bad_request) (uploading method (question szx method m) (block_said (uint_at block1 (asks m))))))
+      by : (b c : Bool) → is_reserved (uint_at block1 (asks m)) ≡ c → (d : Bool)
+          → ReadsOf szx m (cond b (Refused bad_request)
+          (cond (c || d) (Refused bad_request) (uploading method (question szx method m)
+          (block_said (uint_at block1 (asks m))))))
       by true c k d = tt
       by false true k d = tt
       by false false k true = tt
-      by false false k false = uploading_reads method (uint_at block1 (asks m)) refl k (record { method = e; is = refl })
+      by false false k false = uploading_reads method (uint_at block1 (asks m)) refl k
+          (record { method = e; is = refl })
 
   pub verdict_reads : ReadsOf szx m (verdict_on szx m)
   verdict_reads = by (lacks_critical direction.Request m.options) (has proxy_uri (asks m) || has proxy_scheme (asks m))
     where
-      by : (b c : Bool) → ReadsOf szx m (cond b (bad_by m.kind) (cond c (Refused proxying_not_supported) (asked_by szx (method_of m.code) m)))
+      by : (b c : Bool) → ReadsOf szx m (cond b (bad_by m.kind)
+          (cond c (Refused proxying_not_supported) (asked_by szx (method_of m.code) m)))
       by true c = bad_reads m.kind
       by false true = tt
       by false false = asked_reads (method_of m.code) refl

@@ -15,13 +15,15 @@ use Rattle.coap_ends.specs.ServerSide.ServerDeferring.{WaitsBy, HandlesWhole, de
 use Rattle.coap_ends.specs.ServerSide.ServerHandling.{HandlesBlock, Handles}
 
 -- the delay of a request is that of its path, where it is a CON
-pub delay_is : (k : Kind) (path : List (List ℕ)) (ds : List Delay) (d : ℕ) → delay_for k path ds ≡ Some d → (k ≡ Con) × (delay_of path ds ≡ Some d)
+pub delay_is : (k : Kind) (path : List (List ℕ)) (ds : List Delay) (d : ℕ) → delay_for k path ds ≡ Some d
+    → (k ≡ Con) × (delay_of path ds ≡ Some d)
 delay_is Con path ds d h = (refl, h)
 delay_is Non path ds d h = absurd (cc h)
 delay_is Ack path ds d h = absurd (cc h)
 delay_is Rst path ds d h = absurd (cc h)
 
-pub has_delay : (k : Kind) (path : List (List ℕ)) (ds : List Delay) (d : ℕ) → k ≡ Con → delay_of path ds ≡ Some d → delay_for k path ds ≡ Some d
+pub has_delay : (k : Kind) (path : List (List ℕ)) (ds : List Delay) (d : ℕ) → k ≡ Con → delay_of path ds ≡ Some d
+    → delay_for k path ds ≡ Some d
 has_delay k path ds d con h = subst (λ z. delay_for z path ds ≡ Some d) (sym con) h
 
 -- of what is to wait
@@ -33,8 +35,10 @@ module _ (s : Own) (a : Asked) (h : Handling) where
   so : (k : Handling) → h ≡ k → WaitsSo s a k → WaitsSo s a h
   so k e w = subst (WaitsSo s a) (sym e) w
 
-  by_delay : (q : Question) (o : Option ℕ) (place : Bool) → delay_for a.kind q.path s.delays ≡ o → may_defer s.exchanges.deferred ≡ place → WaitsBy o place s.store s.clock q h → WaitsSo s a h
-  by_delay q (Some d) true is place k = let c = delay_is a.kind q.path s.delays d is in so (Waits q d) k (c.0, c.1, place)
+  by_delay : (q : Question) (o : Option ℕ) (place : Bool) → delay_for a.kind q.path s.delays ≡ o
+      → may_defer s.exchanges.deferred ≡ place → WaitsBy o place s.store s.clock q h → WaitsSo s a h
+  by_delay q (Some d) true is place k = let c =
+      delay_is a.kind q.path s.delays d is in so (Waits q d) k (c.0, c.1, place)
   by_delay q (Some d) false is place k = so (Serves q k.reply k.left) k.is tt
   by_delay q None b is place k = so (Serves q k.reply k.left) k.is tt
 

@@ -60,7 +60,8 @@ total_append : (xs ys : List E.Call) → total (xs ++ ys) ≡ total xs + total y
 total_append [] ys = omega arith
 total_append (x ∷ xs) ys = let k = total_append xs ys in omega (arith, k)
 
-begins_con : (at : ℕ) (call : L.Call) (answer : L.Answer) (a : Open) → begun_in at call answer ≡ Some a → con_in call ≡ 1
+begins_con : (at : ℕ) (call : L.Call) (answer : L.Answer) (a : Open) → begun_in at call answer ≡ Some a
+    → con_in call ≡ 1
 begins_con at (L.Confirm to content word) answer a h = refl
 begins_con at (L.Receive from bytes) answer a h = absurd (cc h)
 begins_con at (L.Reply to id bytes) answer a h = absurd (cc h)
@@ -83,11 +84,14 @@ some_con old [] a h = absurd h
 some_con old (x ∷ earlier) a (inl h) = let k = begun_here (left_after old earlier) x a h in omega (arith, k)
 some_con old (x ∷ earlier) a (inr h) = let k = some_con old earlier a h in omega (arith, k)
 
-one_of : (old : S.State) (calls : List G.Asked) (a b : Open) → cons calls ≤ 1 → Begins a (entries old calls) → Begins b (entries old calls) → a ≡ b
+one_of : (old : S.State) (calls : List G.Asked) (a b : Open) → cons calls ≤ 1 → Begins a (entries old calls)
+    → Begins b (entries old calls) → a ≡ b
 one_of old [] a b few p q = absurd p
 one_of old (x ∷ earlier) a b few (inl p) (inl q) = let e : Some a ≡ Some b = sym p ∙ q in cc e
-one_of old (x ∷ earlier) a b few (inl p) (inr q) = let k = begun_here (left_after old earlier) x a p in let l = some_con old earlier b q in absurd (omega (arith, k, l, few))
-one_of old (x ∷ earlier) a b few (inr p) (inl q) = let k = begun_here (left_after old earlier) x b q in let l = some_con old earlier a p in absurd (omega (arith, k, l, few))
+one_of old (x ∷ earlier) a b few (inl p) (inr q) = let k = begun_here (left_after old earlier) x a p in let l =
+    some_con old earlier b q in absurd (omega (arith, k, l, few))
+one_of old (x ∷ earlier) a b few (inr p) (inl q) = let k = begun_here (left_after old earlier) x b q in let l =
+    some_con old earlier a p in absurd (omega (arith, k, l, few))
 one_of old (x ∷ earlier) a b few (inr p) (inr q) = one_of old earlier a b (omega (arith, few)) p q
 
 -- each call of the exchanges asks for as many
@@ -111,12 +115,17 @@ no_answer s Ack a r = refl
 no_answer s Rst a r = refl
 
 weighs : (s : E.Own) (c : E.Call) → cons (P.lower s c) ≡ weight c
-weighs s (E.Incoming at from bytes up came) = let k = cons_append (replying from (id_in up) (P.reject_by up)) (asked at (L.Receive from bytes) up ∷ []) in let z = no_reply from (id_in up) (P.reject_by up) in omega (arith, k, z)
+weighs s (E.Incoming at from bytes up came) = let k =
+    cons_append (replying from (id_in up) (P.reject_by up)) (asked at (L.Receive from bytes) up ∷ []) in let z =
+    no_reply from (id_in up) (P.reject_by up) in omega (arith, k, z)
 weighs s (E.Answers a r below) = let z = no_answer s a.kind a r in omega (arith, z)
-weighs s (E.Defers at a delay answer) = let k = cons_append (P.deferring (P.may_defer s.deferred) a) (asked at L.Pass L.Nothing ∷ []) in let z = no_deferring (P.may_defer s.deferred) a in omega (arith, k, z)
+weighs s (E.Defers at a delay answer) = let k =
+    cons_append (P.deferring (P.may_defer s.deferred) a) (asked at L.Pass L.Nothing ∷ []) in let z =
+    no_deferring (P.may_defer s.deferred) a in omega (arith, k, z)
 weighs s (E.Ticks at below room d) =
     let o : Option Deferred = P.ready_if below (P.ready_at s at) in
-    let k = cons_append (P.asking_room at o room) (asked at L.Ticks below ∷ []) in let z = no_room at o room in omega (arith, k, z)
+    let k = cons_append (P.asking_room at o room) (asked at L.Ticks below ∷ []) in let z =
+    no_room at o room in omega (arith, k, z)
 weighs s (E.Responds at a r word id) = refl
 weighs s (E.Ready at to answer) = refl
 weighs s (E.Notifies at to token r word id) = refl
@@ -142,9 +151,11 @@ no_deferred s a q = no_deferral (delay_for a.kind q.path s.delays) (P.may_defer 
 no_readies : (at n : ℕ) (os : List Observer) → total (readies at n os) ≡ 0
 no_readies at n [] = refl
 no_readies at zero (o ∷ os) = refl
-no_readies at (suc n) (o ∷ os) = let k = total_append (readies at n os) (E.Ready at o.to false ∷ []) in let z = no_readies at n os in omega (arith, k, z)
+no_readies at (suc n) (o ∷ os) = let k = total_append (readies at n os) (E.Ready at o.to false ∷ []) in let z =
+    no_readies at n os in omega (arith, k, z)
 
-few_answers : (s : Own) (came : Option (Asked × Message)) (h : Handling) (below : L.Answer) → total (answering s came h below) ≤ 1
+few_answers : (s : Own) (came : Option (Asked × Message)) (h : Handling) (below : L.Answer)
+    → total (answering s came h below) ≤ 1
 few_answers s None h below = omega arith
 few_answers s (Some p) Silent below = omega arith
 few_answers s (Some p) (Replies r) below = omega arith
@@ -152,7 +163,8 @@ few_answers s (Some p) (Serves q reply left) below = let z = no_deferred s p.0 q
 few_answers s (Some p) (Waits q d) below = let z = no_deferred s p.0 q in omega (arith, z)
 few_answers s (Some p) (Notifies o reply) below = omega arith
 
-few_responses : (s : Own) (d : Due) (passed : ℕ) (h : Handling) (word id : ℕ) → total (responding s d passed h word id) ≤ 1
+few_responses : (s : Own) (d : Due) (passed : ℕ) (h : Handling) (word id : ℕ)
+    → total (responding s d passed h word id) ≤ 1
 few_responses s (due.Ready a) passed (Serves q reply left) word id = omega arith
 few_responses s (due.Ready a) passed Silent word id = omega arith
 few_responses s (due.Ready a) passed (Replies r) word id = omega arith
@@ -160,11 +172,16 @@ few_responses s (due.Ready a) passed (Waits q d) word id = omega arith
 few_responses s (due.Ready a) passed (Notifies o reply) word id = omega arith
 few_responses s due.Copied passed h word id = omega arith
 few_responses s due.Expired passed h word id = omega arith
-few_responses s due.Idle passed (Notifies o reply) word id = let z = no_readies s.clock passed (marked s.observers) in omega (arith, z)
-few_responses s due.Idle passed Silent word id = let z = no_readies s.clock passed (marked s.observers) in omega (arith, z)
-few_responses s due.Idle passed (Replies r) word id = let z = no_readies s.clock passed (marked s.observers) in omega (arith, z)
-few_responses s due.Idle passed (Waits q d) word id = let z = no_readies s.clock passed (marked s.observers) in omega (arith, z)
-few_responses s due.Idle passed (Serves q reply left) word id = let z = no_readies s.clock passed (marked s.observers) in omega (arith, z)
+few_responses s due.Idle passed (Notifies o reply) word id = let z =
+    no_readies s.clock passed (marked s.observers) in omega (arith, z)
+few_responses s due.Idle passed Silent word id = let z =
+    no_readies s.clock passed (marked s.observers) in omega (arith, z)
+few_responses s due.Idle passed (Replies r) word id = let z =
+    no_readies s.clock passed (marked s.observers) in omega (arith, z)
+few_responses s due.Idle passed (Waits q d) word id = let z =
+    no_readies s.clock passed (marked s.observers) in omega (arith, z)
+few_responses s due.Idle passed (Serves q reply left) word id = let z =
+    no_readies s.clock passed (marked s.observers) in omega (arith, z)
 
 few : (s : Own) (c : Call) → total (lower s c) ≤ 1
 few s (Feeds now from bytes word up came h below) =
@@ -174,7 +191,8 @@ few s (Feeds now from bytes word up came h below) =
 few s (Ticks now word below room d passed h id answer) =
     let first : E.Call = ticking s now below room d in
     let cs : List E.Call = responding (heard s now first) d passed h word id in
-    let k = total_append cs (first ∷ []) in let z = few_responses (heard s now first) d passed h word id in omega (arith, k, z)
+    let k = total_append cs (first ∷ []) in let z =
+    few_responses (heard s now first) d passed h word id in omega (arith, k, z)
 few s (Sets now path format body answer left) = omega arith
 few s (Removes now path answer left) = omega arith
 few s (Delays path ms answer) = omega arith
@@ -182,9 +200,11 @@ few s (NextOut answer) = omega arith
 few s (Gets path answer) = omega arith
 few s (TellsApplied answer) = omega arith
 
-pub one_con : (limit szx word : ℕ) (past : List Call) (c : Call) (a b : Open) → Begins a (call_adds limit szx word past c) → Begins b (call_adds limit szx word past c) → a ≡ b
+pub one_con : (limit szx word : ℕ) (past : List Call) (c : Call) (a b : Open)
+    → Begins a (call_adds limit szx word past c) → Begins b (call_adds limit szx word past c) → a ≡ b
 one_con limit szx word past c a b p q =
     let calls : List E.Call = lower (own_of limit szx past) c in
     let w = all_weigh (lower_of limit szx past) calls in
     let f = few (own_of limit szx past) c in
-    one_of (left_after (S.start word) (all_asked limit szx past)) (call_asks limit szx past c) a b (omega (arith, w, f)) p q
+    one_of (left_after (S.start word) (all_asked limit szx past)) (call_asks limit szx past c) a b
+    (omega (arith, w, f)) p q

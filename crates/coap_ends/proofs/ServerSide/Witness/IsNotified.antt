@@ -46,7 +46,12 @@ elsewhere other h apart = go (same_path path other) refl
     go false same = refl
 
 first : Changes (nothing limit) 0 path (Some (held 1 (codes "a"))) a
-first = record { there = there (held 1 (codes "a")); others = λ other apart. elsewhere other (held 1 (codes "a")) apart; paths = refl; tally = refl }
+first = record {
+  there = there (held 1 (codes "a"));
+  others = λ other apart. elsewhere other (held 1 (codes "a")) apart;
+  paths = refl;
+  tally = refl;
+}
 
 second : Changes a 3 path (Some (held 2 (codes "b"))) b
 second = record {
@@ -60,11 +65,28 @@ second = record {
 
 response_spelled : IsSpelled (content_of asked (response_to a [] asked question (X.content_of 1 (codes "a"))))
 unfolding option_bytes options_bytes
-response_spelled = (sendable_when_short _ (record { some = omega arith; code = omega arith; id = omega arith; token = omega arith; order = refl; numbers = refl; short = refl }) (omega arith)).spelled
+response_spelled = (sendable_when_short _ (record {
+  some = omega arith;
+  code = omega arith;
+  id = omega arith;
+  token = omega arith;
+  order = refl;
+  numbers = refl;
+  short = refl;
+}) (omega arith)).spelled
 
 notification_spelled : IsSpelled (content_with token (N.notification b observer (X.content_of 2 (codes "b"))))
 unfolding option_bytes options_bytes
-notification_spelled = (sendable_when_short _ (record { some = omega arith; code = omega arith; id = omega arith; token = omega arith; order = refl; numbers = refl; short = refl }) (omega arith)).spelled
+notification_spelled = (sendable_when_short _
+    (record {
+      some = omega arith;
+      code = omega arith;
+      id = omega arith;
+      token = omega arith;
+      order = refl;
+      numbers = refl;
+      short = refl;
+    }) (omega arith)).spelled
 
 rows : ServerRows limit 6 run
 unfolding option_bytes options_bytes
@@ -80,7 +102,16 @@ rows = (
           (refl, refl),
           (
             (refl, second),
-            (tt, (tt, (record { reply = X.content_of 1 (codes "a"); left = a; serves = (refl, refl); is = refl }, ((refl, first), tt)))),
+            (
+              tt,
+              (
+                tt,
+                (
+                  record { reply = X.content_of 1 (codes "a"); left = a; serves = (refl, refl); is = refl },
+                  ((refl, first), tt),
+                ),
+              ),
+            ),
           ),
         ),
       ),
@@ -110,7 +141,8 @@ abbrev below : List Below
 below = W.lower_of (lower_of limit 6 run)
 
 steps : Steps (L.start 0) below (left_after (L.start 0) below)
-unfolding decoded frame_fault body_at walk walk_of option_at nibbles_at value_at extended payload_at option_bytes options_bytes
+unfolding decoded frame_fault body_at walk walk_of option_at nibbles_at value_at extended payload_at option_bytes
+    options_bytes
 steps = (
   _,
   (
@@ -154,4 +186,8 @@ steps = (
 )
 
 pub lawful : ServerLaw limit 6 0 run
-lawful = record { rows = rows; exchanges = record { rows = answered; left = left_after (L.start 0) below; layer = steps } }
+lawful = record {
+  rows = rows;
+  exchanges = record
+      { rows = answered; left = left_after (L.start 0) below; layer = steps };
+}

@@ -35,11 +35,27 @@ makes = record { there = there; others = elsewhere; paths = refl; tally = refl }
 
 continues_spelled : IsSpelled (content_of (asked 1 8 front) continues)
 unfolding option_bytes options_bytes
-continues_spelled = (sendable_when_short _ (record { some = omega arith; code = omega arith; id = omega arith; token = omega arith; order = refl; numbers = refl; short = refl }) (omega arith)).spelled
+continues_spelled = (sendable_when_short _ (record {
+  some = omega arith;
+  code = omega arith;
+  id = omega arith;
+  token = omega arith;
+  order = refl;
+  numbers = refl;
+  short = refl;
+}) (omega arith)).spelled
 
 created_spelled : IsSpelled (content_of (asked 2 16 last) created)
 unfolding option_bytes options_bytes
-created_spelled = (sendable_when_short _ (record { some = omega arith; code = omega arith; id = omega arith; token = omega arith; order = refl; numbers = refl; short = refl }) (omega arith)).spelled
+created_spelled = (sendable_when_short _ (record {
+  some = omega arith;
+  code = omega arith;
+  id = omega arith;
+  token = omega arith;
+  order = refl;
+  numbers = refl;
+  short = refl;
+}) (omega arith)).spelled
 
 rows : ServerRows limit 6 run
 unfolding option_bytes options_bytes
@@ -58,7 +74,8 @@ abbrev below : List Below
 below = W.lower_of (lower_of limit 6 run)
 
 steps : Steps (L.start 0) below (left_after (L.start 0) below)
-unfolding decoded frame_fault body_at walk walk_of option_at nibbles_at value_at extended payload_at option_bytes options_bytes
+unfolding decoded frame_fault body_at walk walk_of option_at nibbles_at value_at extended payload_at option_bytes
+    options_bytes
 steps = (
   _,
   (
@@ -82,4 +99,8 @@ steps = (
 )
 
 pub lawful : ServerLaw limit 6 0 run
-lawful = record { rows = rows; exchanges = record { rows = answered; left = left_after (L.start 0) below; layer = steps } }
+lawful = record {
+  rows = rows;
+  exchanges = record
+      { rows = answered; left = left_after (L.start 0) below; layer = steps };
+}

@@ -58,7 +58,8 @@ pub returns-clause-blocks : goal.returns-clause-blocks
 returns-clause-blocks c limit szx word t law = blocks_come limit szx word t law
 
 pub returns-clause-served : goal.returns-clause-served
-returns-clause-served c limit szx word t law = served_once limit szx t (are_responses (lower_of limit szx t) law.exchanges.rows)
+returns-clause-served c limit szx word t law =
+    served_once limit szx t (are_responses (lower_of limit szx t) law.exchanges.rows)
 
 pub returns-clause-gives : goal.returns-clause-gives
 returns-clause-gives c limit szx word t law = sends_responses limit szx word t law
@@ -103,7 +104,8 @@ pub returns-clause-back : goal.returns-clause-back
 returns-clause-back c limit szx word calls t law = servers_back limit szx word calls t law
 
 pub returns-clause-once : goal.returns-clause-once
-returns-clause-once c limit szx word t law = handed_up_once word (layer_of limit szx word t) (layer_stands word (lower_of limit szx t) law.exchanges)
+returns-clause-once c limit szx word t law = handed_up_once word (layer_of limit szx word t)
+    (layer_stands word (lower_of limit szx t) law.exchanges)
 
 pub returns-clause-right : goal.returns-clause-right
 returns-clause-right c limit szx word t law = all_served limit szx t law.rows

@@ -1,5 +1,5 @@
--- Each request that a server hands up is answered at once or waits, and what waits is answered when it can be (RFC 7252,
--- sections 4.7, 5.2.2 and 5.4.1).
+-- Each request that a server hands up is answered at once or waits, and what waits is answered when it can be (RFC
+-- 7252, sections 4.7, 5.2.2 and 5.4.1).
 use Rattle.std.specs.Prelude.{◌≡◌, ◌≢◌, ◌⊎◌, ◌≤◌, ℕ, ◌-◌, max, Bool, true, false, Option, Some, None, List, ◌∷◌, ◌++◌}
 use Rattle.std.specs.Prelude.{[]}
 use Rattle.coap_types.specs.Past.{Ever, Always}
@@ -29,7 +29,8 @@ abbrev pub came_in : Call → Option (Asked × Message)
 came_in (Feeds now from bytes word up came h below) = came
 came_in _ = None
 
--- a request without a response to a CON is ignored where it has an option that is critical and not recognised (section 5.4.1)
+-- a request without a response to a CON is ignored where it has an option that is critical and not recognised (section
+-- 5.4.1)
 pub record IsIgnored (m : Message) : Type 0 where
   pub kind : m.kind ≢ Con
   pub option : lacks_critical direction.Request m.options ≡ true
@@ -51,7 +52,8 @@ module _ (limit szx : ℕ) where
     pub has_to : HasToWait past a q delay
     pub behind :
         (own_of limit szx (c ∷ past)).waiting
-        ≡ (own_of limit szx past).waiting ++ record { asked = a; at = (own_of limit szx (c ∷ past)).clock; delay = delay; question = q } ∷ []
+        ≡ (own_of limit szx past).waiting ++ record
+        { asked = a; at = (own_of limit szx (c ∷ past)).clock; delay = delay; question = q } ∷ []
 
   -- .. what came, with the whole body of its blocks
   pub record WaitsToAsk (past : List Call) (c : Call) (p : Asked × Message) : Type 0 where
@@ -62,14 +64,17 @@ module _ (limit szx : ℕ) where
   -- Each request that is handed up is answered in that call, or waits, or is ignored.
   abbrev pub AllAttended : List Call → Type 0
   AllAttended t =
-      Always (λ past c. (p : Asked × Message) → came_in c ≡ Some p → AnswersIt past c p.0 ⊎ (WaitsToAsk past c p ⊎ IsIgnored p.1)) t
+      Always (λ past c. (p : Asked × Message) → came_in c ≡ Some p
+      → AnswersIt past c p.0 ⊎ (WaitsToAsk past c p ⊎ IsIgnored p.1)) t
 
   module _ (word : ℕ) where
     -- no Message ID is free for what is sent now
     abbrev pub NoId : List Call → ℕ → Type 0
-    NoId past now = Withholds word (layer_of limit szx word past) (max (clock (layer_of limit szx word past)) (max (own_of limit szx past).clock now))
+    NoId past now = Withholds word (layer_of limit szx word past)
+        (max (clock (layer_of limit szx word past)) (max (own_of limit szx past).clock now))
 
-    -- what came of a request that the message layer hands up: it is handed up, save a NON for which no Message ID is free
+    -- what came of a request that the message layer hands up: it is handed up, save a NON for which no Message ID is
+    -- free
     abbrev pub HandedOn : List Call → ℕ → Endpoint → Message → Bool → Option (Asked × Message) → Type 0
     HandedOn past now from m true came = came ≡ Some (asked_of from m, m)
     HandedOn past now from m false came = (m.kind ≡ Non) × NoId past now
@@ -77,7 +82,8 @@ module _ (limit szx : ℕ) where
     abbrev pub AllHandedOn : List Call → Type 0
     AllHandedOn t =
         Always (λ past c.
-        (now : ℕ) (from : Endpoint) (bytes : List ℕ) (w : ℕ) (m : Message) (kept : Bool) (came : Option (Asked × Message)) (h : Handling) (below : L.Answer)
+        (now : ℕ) (from : Endpoint) (bytes : List ℕ) (w : ℕ) (m : Message) (kept : Bool)
+        (came : Option (Asked × Message)) (h : Handling) (below : L.Answer)
         → c ≡ Feeds now from bytes w (L.Becomes (L.Request m kept)) came h below → HandedOn past now from m kept came) t
 
     -- what waits can be answered: its delay has passed, and no CON to its endpoint is unacknowledged (section 4.7)
@@ -89,6 +95,8 @@ module _ (limit szx : ℕ) where
     abbrev pub FirstIsAnswered : List Call → Type 0
     FirstIsAnswered t =
         Always (λ past c.
-        (now w : ℕ) (room : Bool) (d : Due) (passed : ℕ) (h : Handling) (id : ℕ) (answer : Bool) (before behind : List Waiting) (x : Waiting)
+        (now w : ℕ) (room : Bool) (d : Due) (passed : ℕ) (h : Handling) (id : ℕ) (answer : Bool)
+        (before behind : List Waiting) (x : Waiting)
         → c ≡ Ticks now w L.Idle room d passed h id answer → (own_of limit szx past).waiting ≡ before ++ x ∷ behind
-        → Each (λ y. CanAnswer past now y → ⊥) before → CanAnswer past now x → AnswersIt past c x.asked ⊎ NoId past now) t
+        → Each (λ y. CanAnswer past now y → ⊥) before → CanAnswer past now x
+        → AnswersIt past c x.asked ⊎ NoId past now) t

@@ -1,4 +1,5 @@
--- Where what a server serves, and each block that it takes, comes from (RFC 7252, sections 4.5 and 5.2; RFC 7959, section 2.5).
+-- Where what a server serves, and each block that it takes, comes from (RFC 7252, sections 4.5 and 5.2; RFC 7959,
+-- section 2.5).
 use Rattle.std.specs.Prelude.{◌≡◌, ℕ, true, false, Some, List, ◌∷◌, ◌++◌, map}
 use Rattle.coap_types.specs.Past.{Ever, Sometime, Always}
 use Rattle.coap_codec.specs.Message.{Message}
@@ -32,7 +33,8 @@ module _ (limit szx : ℕ) where
     pub here : Ever (HandsUp szx asked v) news
 
   -- the last block of an upload is taken, and the blocks since its block 0 are the whole body
-  pub record Completes (past : List Call) (c : Call) (a : Asked) (p : Question) (b : Block) (q : Question) : Type 0 where
+  pub record Completes (past : List Call) (c : Call) (a : Asked) (p : Question) (b : Block)
+      (q : Question) : Type 0 where
     pub takes : takes_block (own_of limit szx past) c ≡ Some (took a p b)
     pub last : b.more ≡ false
     pub whole : IsWholeBody (map (λ x. x.part) (blocks_since limit szx (key_of a p) (c ∷ past))) q.body
@@ -52,7 +54,8 @@ module _ (limit szx : ℕ) where
   -- What is served was handed up, at once or before, and asks this.
   abbrev pub AreHandedUp : ℕ → List Call → Type 0
   AreHandedUp word t =
-      Always (λ past c. (x : Serving) → serving (own_of limit szx past) c ≡ Some x → Sometime (λ old b. Brings word old b x.asked x.question) (c ∷ past)) t
+      Always (λ past c. (x : Serving) → serving (own_of limit szx past) c ≡ Some x
+      → Sometime (λ old b. Brings word old b x.asked x.question) (c ∷ past)) t
 
   -- A block that is taken came in a request that was handed up in this very call.
   pub record ComesIn (word : ℕ) (past : List Call) (c : Call) (x : Took) : Type 0 where
@@ -62,4 +65,5 @@ module _ (limit szx : ℕ) where
     pub comes : Comes word past c x.asked (Uploads question block)
 
   abbrev pub BlocksCome : ℕ → List Call → Type 0
-  BlocksCome word t = Always (λ past c. (x : Took) → takes_block (own_of limit szx past) c ≡ Some x → ComesIn word past c x) t
+  BlocksCome word t = Always (λ past c. (x : Took) → takes_block (own_of limit szx past) c ≡ Some x
+      → ComesIn word past c x) t

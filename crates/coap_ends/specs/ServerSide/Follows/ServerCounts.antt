@@ -9,4 +9,5 @@ use Rattle.coap_ends.specs.ServerSide.Follows.ServerServes.{times_handed}
 
 -- At each call, what came of a request so far came up from the layer.
 abbrev pub Counted : ℕ → ℕ → ℕ → List Call → Type 0
-Counted limit szx word t = Always (λ past c. (a : Asked) → times_handed limit szx a (c ∷ past) ≤ ups a (layer_of limit szx word (c ∷ past))) t
+Counted limit szx word t = Always (λ past c. (a : Asked)
+    → times_handed limit szx a (c ∷ past) ≤ ups a (layer_of limit szx word (c ∷ past))) t

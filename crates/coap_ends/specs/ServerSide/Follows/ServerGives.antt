@@ -1,5 +1,5 @@
--- What a server sends beside Empty messages: responses to the requests that were handed up, and notifications (RFC 7252,
--- sections 4.2 and 5.2; RFC 7641, sections 3.2 and 4.2; RFC 7959, section 2.9).
+-- What a server sends beside Empty messages: responses to the requests that were handed up, and notifications (RFC
+-- 7252, sections 4.2 and 5.2; RFC 7641, sections 3.2 and 4.2; RFC 7959, section 2.9).
 use Rattle.std.specs.Prelude.{◌≡◌, ◌≢◌, ◌⊎◌, ℕ, max, true, false, Option, Some, None, List, ◌∷◌}
 use Rattle.coap_types.specs.Past.{Ever, Sometime, Always}
 use Rattle.coap_types.specs.declared.endpoint.Endpoint.{Endpoint}
@@ -45,7 +45,8 @@ pub record Carries (p : L.Packet) (to : Endpoint) (token : List ℕ) (r : E.Resp
 abbrev pub IsEmpty : L.Packet → Type 0
 IsEmpty p = (m : Message) × Spells p.bytes m × (m.code ≡ 0)
 
--- The code with which a request is refused without the store: by the checks, or since the block of its upload is not taken.
+-- The code with which a request is refused without the store: by the checks, or since the block of its upload is not
+-- taken.
 
 abbrev pub refusal_by : BlockVerdict → Option ℕ
 refusal_by (Refuse why) = Some (refusal_code why).0
@@ -57,7 +58,8 @@ refusal_of uploads at a (Uploads q b) = refusal_by (ruling_of uploads at a q b)
 refusal_of uploads at a _ = None
 
 abbrev pub refusal_in : Own → Call → Option ℕ
-refusal_in s (Feeds now from bytes word up (Some p) h below) = refusal_of s.uploads (max s.clock now) p.0 (verdict_on s.szx p.1)
+refusal_in s (Feeds now from bytes word up (Some p) h below) =
+    refusal_of s.uploads (max s.clock now) p.0 (verdict_on s.szx p.1)
 refusal_in s _ = None
 
 -- the size that is asked for with 2.31, where the block is taken and there are more
@@ -71,20 +73,24 @@ size_of uploads at a (Uploads q b) = size_by (ruling_of uploads at a q b)
 size_of uploads at a _ = None
 
 abbrev pub size_in : Own → Call → Option ℕ
-size_in s (Feeds now from bytes word up (Some p) h below) = size_of s.uploads (max s.clock now) p.0 (verdict_on s.szx p.1)
+size_in s (Feeds now from bytes word up (Some p) h below) =
+    size_of s.uploads (max s.clock now) p.0 (verdict_on s.szx p.1)
 size_in s _ = None
 
--- a notification shows what a path holds: 2.05 with its version as Observe, or 4.04 without Observe where it holds nothing
+-- a notification shows what a path holds: 2.05 with its version as Observe, or 4.04 without Observe where it holds
+-- nothing
 abbrev pub NoticeOf : ℕ → Option Held → E.Response → Type 0
 NoticeOf szx None r = r ≡ response_with (bare 132 0) None None
-NoticeOf szx (Some held) r = r ≡ response_with (content_reply held false 0 szx) (Some (sequence_number held.version)) None
+NoticeOf szx (Some held) r = r ≡ response_with (content_reply held false 0 szx)
+    (Some (sequence_number held.version)) None
 
 module _ (limit szx : ℕ) where
   -- what the store served here
   pub record CarriesServed (past : List Call) (c : Call) (p : L.Packet) : Type 0 where
     pub request : Serving
     pub here : serving (own_of limit szx past) c ≡ Some request
-    pub carries : Carries p request.asked.from request.asked.token (response_with request.reply request.sequence (last_block request.question))
+    pub carries : Carries p request.asked.from request.asked.token
+        (response_with request.reply request.sequence (last_block request.question))
 
   -- 2.31 to a block that was taken here
   pub record CarriesContinue (past : List Call) (c : Call) (p : L.Packet) : Type 0 where
@@ -93,7 +99,8 @@ module _ (limit szx : ℕ) where
     pub more : block.part.more ≡ true
     pub size : ℕ
     pub asks : size_in (own_of limit szx past) c ≡ Some size
-    pub carries : Carries p block.asked.from block.asked.token (continuing size (record { num = block.part.num; more = true; szx = block.part.szx }))
+    pub carries : Carries p block.asked.from block.asked.token
+        (continuing size (record { num = block.part.num; more = true; szx = block.part.szx }))
 
   -- the refusal, without the store, of a request that was handed up here
   pub record CarriesRefusal (word : ℕ) (past : List Call) (c : Call) (p : L.Packet) : Type 0 where
@@ -113,15 +120,18 @@ module _ (limit szx : ℕ) where
     pub reply : Reply
     pub here : notice_in c ≡ Some (observer, reply)
     pub made : WasMade limit szx past observer
-    pub shows : NoticeOf observer.szx ((own_of limit szx past).store.holds observer.path) (notification (own_of limit szx past).store observer reply)
+    pub shows : NoticeOf observer.szx ((own_of limit szx past).store.holds observer.path)
+        (notification (own_of limit szx past).store observer reply)
     pub carries : Carries p observer.to observer.token (notification (own_of limit szx past).store observer reply)
 
   abbrev pub CarriesResponse : ℕ → L.Packet → List Call → Call → Type 0
-  CarriesResponse word p past c = CarriesServed past c p ⊎ (CarriesContinue past c p ⊎ (CarriesRefusal word past c p ⊎ CarriesNotice past c p))
+  CarriesResponse word p past c = CarriesServed past c p
+      ⊎ (CarriesContinue past c p ⊎ (CarriesRefusal word past c p ⊎ CarriesNotice past c p))
 
   -- what the message layer sent in all these calls is Empty, or carries a response that was made in them
   abbrev pub SentResponses : ℕ → List Call → Type 0
-  SentResponses word t = (p : L.Packet) → Ever (λ e. IsIn p e.out) (layer_of limit szx word t) → IsEmpty p ⊎ Sometime (CarriesResponse word p) t
+  SentResponses word t = (p : L.Packet) → Ever (λ e. IsIn p e.out) (layer_of limit szx word t)
+      → IsEmpty p ⊎ Sometime (CarriesResponse word p) t
 
   -- Whatever is sent, at any time, is Empty, or carries a response that was made by then.
   abbrev pub SendsResponses : ℕ → List Call → Type 0
@@ -129,4 +139,5 @@ module _ (limit szx : ℕ) where
 
   -- The store never answers 2.31.
   abbrev pub NoneContinues : List Call → Type 0
-  NoneContinues t = Always (λ past c. (x : Serving) → serving (own_of limit szx past) c ≡ Some x → x.reply.code ≢ continue) t
+  NoneContinues t = Always (λ past c. (x : Serving) → serving (own_of limit szx past) c ≡ Some x
+      → x.reply.code ≢ continue) t

@@ -17,11 +17,16 @@ use Rattle.coap_ends.specs.ServerSide.Follows.ServerServes.{Serving, serving}
 -- joins its body to what is there, after a DELETE nothing is there.
 abbrev pub Does : Method → Question → Content → Content → Type 0
 Does Get q old left = ⊥
-Does Put q old left = left.holds q.path ≡ Some (record { version = old.tally.version + 1; format = format_of q.options; body = q.body })
+Does Put q old left = left.holds q.path ≡ Some
+    (record { version = old.tally.version + 1; format = format_of q.options; body = q.body })
 Does Post q old left =
     (held : Held)
     × (old.holds q.path ≡ Some held)
-    × (left.holds q.path ≡ Some (record { version = old.tally.version + 1; format = held.format; body = held.body ++ q.body }))
+    × (left.holds q.path ≡ Some (record {
+      version = old.tally.version + 1;
+      format = held.format;
+      body = held.body ++ q.body;
+    }))
 Does Delete q old left = left.holds q.path ≡ None
 
 pub record IsApplied (x : Serving) : Type 0 where
@@ -76,11 +81,15 @@ module _ (limit szx : ℕ) where
   abbrev pub HoldsChanges : List Call → Type 0
   HoldsChanges trace = Always Holds trace
 
-  -- What is served is by the store's table, what is applied is applied whole, and nothing else that is served changes anything.
+  -- What is served is by the store's table, what is applied is applied whole, and nothing else that is served changes
+  -- anything.
   pub record ServesRight (past : List Call) (c : Call) : Type 0 where
-    pub serves : (x : Serving) → serving (own_of limit szx past) c ≡ Some x → (at : ℕ) × R.Serves x.old at x.question x.reply x.left
-    pub applied : (x : Serving) → serving (own_of limit szx past) c ≡ Some x → is_applied x.reply.code ≡ true → IsApplied x
-    pub changes_by : (x : Serving) (y : Change) → serving (own_of limit szx past) c ≡ Some x → change (own_of limit szx past) c ≡ Some y → is_applied x.reply.code ≡ true
+    pub serves : (x : Serving) → serving (own_of limit szx past) c ≡ Some x
+        → (at : ℕ) × R.Serves x.old at x.question x.reply x.left
+    pub applied : (x : Serving) → serving (own_of limit szx past) c ≡ Some x → is_applied x.reply.code ≡ true
+        → IsApplied x
+    pub changes_by : (x : Serving) (y : Change) → serving (own_of limit szx past) c ≡ Some x
+        → change (own_of limit szx past) c ≡ Some y → is_applied x.reply.code ≡ true
 
   abbrev pub AllServed : List Call → Type 0
   AllServed trace = Always ServesRight trace

@@ -47,7 +47,8 @@ module _ (limit szx : ℕ) where
     pub registers : registering (own_of limit szx past) c ≡ Some (record { to = to; token = token })
 
   -- .. with the block size of the server, or a smaller one that Block2 says (RFC 7959, section 2.6)
-  pub record MadeWith (to : Endpoint) (token : List ℕ) (path : List (List ℕ)) (size : ℕ) (past : List Call) (c : Call) : Type 0 where
+  pub record MadeWith (to : Endpoint) (token : List ℕ) (path : List (List ℕ)) (size : ℕ) (past : List Call)
+      (c : Call) : Type 0 where
     pub made : MadeBy to token path past c
     pub size_is : size ≡ szx_by (block_of made.request.question.options) made.request.question.szx
 
@@ -62,29 +63,39 @@ module _ (limit szx : ℕ) where
   -- What is told to have ended by a Reset or because it was given up, where it carried Observe, is observed no more.
   abbrev pub EndsObservation : List Call → Type 0
   EndsObservation t =
-      Always (λ past c. (x : Ended) → ends_in (own_of limit szx past) c ≡ Some x → x.observe ≡ true → registration x.to x.token (own_of limit szx (c ∷ past)).observers ≡ None) t
+      Always (λ past c. (x : Ended) → ends_in (own_of limit szx past) c ≡ Some x → x.observe ≡ true
+      → registration x.to x.token (own_of limit szx (c ∷ past)).observers ≡ None) t
 
-  -- A GET with Observe 1 that is served ends the observation of its endpoint and token, whatever it is answered (section 3.6).
+  -- A GET with Observe 1 that is served ends the observation of its endpoint and token, whatever it is answered
+  -- (section 3.6).
   abbrev pub EndsOnRequest : List Call → Type 0
   EndsOnRequest t =
-      Always (λ past c. (x : Serving) → serving (own_of limit szx past) c ≡ Some x → observes 1 x.question ≡ true → registration x.asked.from x.asked.token (own_of limit szx (c ∷ past)).observers ≡ None) t
+      Always (λ past c. (x : Serving) → serving (own_of limit szx past) c ≡ Some x → observes 1 x.question ≡ true
+      → registration x.asked.from x.asked.token (own_of limit szx (c ∷ past)).observers ≡ None) t
 
-  -- An observer is told a 4.04 where its path holds nothing, and what is no 2.05 is the last that it is told (section 4.2).
+  -- An observer is told a 4.04 where its path holds nothing, and what is no 2.05 is the last that it is told (section
+  -- 4.2).
   pub record EndsWith (past : List Call) (c : Call) (x : Notice) : Type 0 where
     pub gone : (own_of limit szx past).store.holds x.observer.path ≡ None → x.reply.code ≡ not_found
-    pub last : x.reply.code ≢ content → registration x.observer.to x.observer.token (own_of limit szx (c ∷ past)).observers ≡ None
+    pub last : x.reply.code ≢ content → registration x.observer.to x.observer.token
+        (own_of limit szx (c ∷ past)).observers ≡ None
 
   abbrev pub EndsOnNotice : List Call → Type 0
   EndsOnNotice t = Always (λ past c. (x : Notice) → notice c ≡ Some x → EndsWith past c x) t
 
-  -- The observation of this endpoint and token ends in this call: by what is told to have ended, a GET with Observe 1, or a notification.
+  -- The observation of this endpoint and token ends in this call: by what is told to have ended, a GET with Observe 1,
+  -- or a notification.
   pub data Ends (to : Endpoint) (token : List ℕ) (past : List Call) (c : Call) : Type 0 where
-    is_told : (x : Ended) → ends_in (own_of limit szx past) c ≡ Some x → x.observe ≡ true → x.to ≡ to → x.token ≡ token → Ends to token past c
-    cancels : (x : Serving) → serving (own_of limit szx past) c ≡ Some x → observes 1 x.question ≡ true → x.asked.from ≡ to → x.asked.token ≡ token → Ends to token past c
-    is_gone : (x : Notice) → notice c ≡ Some x → x.reply.code ≢ content → x.observer.to ≡ to → x.observer.token ≡ token → Ends to token past c
+    is_told : (x : Ended) → ends_in (own_of limit szx past) c ≡ Some x → x.observe ≡ true → x.to ≡ to → x.token ≡ token
+        → Ends to token past c
+    cancels : (x : Serving) → serving (own_of limit szx past) c ≡ Some x → observes 1 x.question ≡ true
+        → x.asked.from ≡ to → x.asked.token ≡ token → Ends to token past c
+    is_gone : (x : Notice) → notice c ≡ Some x → x.reply.code ≢ content → x.observer.to ≡ to → x.observer.token ≡ token
+        → Ends to token past c
 
   -- Nothing else ends it.
   abbrev pub EndsSo : List Call → Type 0
   EndsSo t =
       Always (λ past c.
-      (to : Endpoint) (token : List ℕ) (o : Observer) → registration to token (own_of limit szx past).observers ≡ Some o → registration to token (own_of limit szx (c ∷ past)).observers ≡ None → Ends to token past c) t
+      (to : Endpoint) (token : List ℕ) (o : Observer) → registration to token (own_of limit szx past).observers ≡ Some o
+      → registration to token (own_of limit szx (c ∷ past)).observers ≡ None → Ends to token past c) t

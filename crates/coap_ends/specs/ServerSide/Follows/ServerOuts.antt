@@ -8,4 +8,5 @@ use Rattle.coap_ends.specs.ServerSide.ServerLaw.{layer_of}
 
 -- It gives the first of the datagrams that were sent and not yet taken.
 abbrev pub GivesInOrder : ℕ → ℕ → ℕ → List Call → Type 0
-GivesInOrder limit szx word t = Always (λ past c. (answer : Option L.Packet) → c ≡ NextOut answer → answer ≡ slice_get (waiting (layer_of limit szx word past)) 0) t
+GivesInOrder limit szx word t = Always (λ past c. (answer : Option L.Packet) → c ≡ NextOut answer
+    → answer ≡ slice_get (waiting (layer_of limit szx word past)) 0) t

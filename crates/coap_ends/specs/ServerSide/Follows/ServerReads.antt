@@ -1,4 +1,5 @@
--- What a request asks, and which block it uploads, is what its message says (RFC 7252, section 5.8; RFC 7959, section 2.2).
+-- What a request asks, and which block it uploads, is what its message says (RFC 7252, section 5.8; RFC 7959, section
+-- 2.2).
 use Rattle.std.specs.Prelude.{◌≡◌, ℕ, Some, None}
 use Rattle.coap_codec.specs.Message.{Message}
 use Rattle.coap_resource.specs.Serves.{Question}

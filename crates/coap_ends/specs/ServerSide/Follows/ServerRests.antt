@@ -9,18 +9,22 @@ use Rattle.coap_ends.specs.ServerSide.ServerLaw.{ServerLaw}
 
 abbrev pub IsTick : ℕ → Bool → Call → Type 0
 IsTick now answer c =
-    (w : ℕ) × (below : L.Answer) × (room : Bool) × (due : Due) × (passed : ℕ) × (handling : Handling) × (id : ℕ) × (c ≡ Ticks now w below room due passed handling id answer)
+    (w : ℕ) × (below : L.Answer) × (room : Bool) × (due : Due) × (passed : ℕ) × (handling : Handling) × (id : ℕ)
+    × (c ≡ Ticks now w below room due passed handling id answer)
 
 -- so many ticks at most do something
 abbrev pub TicksEnd : ℕ → ℕ → ℕ → List Call → Type 0
 TicksEnd limit szx word t =
-    (now : ℕ) → (most : ℕ) × ((calls : List Call) → Each (IsTick now true) calls → ServerLaw limit szx word (calls ++ t) → length calls ≤ most)
+    (now : ℕ) → (most : ℕ) × ((calls : List Call) → Each (IsTick now true) calls → ServerLaw limit szx word (calls ++ t)
+    → length calls ≤ most)
 
 -- .. and each with the same word; up to the first that does nothing there is such a row, and what is taken ends too
 abbrev pub IsTickWith : ℕ → ℕ → Bool → Call → Type 0
 IsTickWith now w answer c =
-    (below : L.Answer) × (room : Bool) × (due : Due) × (passed : ℕ) × (handling : Handling) × (id : ℕ) × (c ≡ Ticks now w below room due passed handling id answer)
+    (below : L.Answer) × (room : Bool) × (due : Due) × (passed : ℕ) × (handling : Handling) × (id : ℕ)
+    × (c ≡ Ticks now w below room due passed handling id answer)
 
 pub record ComesToRest (limit szx word : ℕ) (t : List Call) : Type 0 where
-  pub ticks : (now w : ℕ) → (calls : List Call) × UpToIdle (IsTickWith now w) calls × ServerLaw limit szx word (calls ++ t)
+  pub ticks : (now w : ℕ) → (calls : List Call) × UpToIdle (IsTickWith now w) calls
+      × ServerLaw limit szx word (calls ++ t)
   pub outs : (packets : List L.Packet) × ServerLaw limit szx word (all_taken NextOut packets ++ t)

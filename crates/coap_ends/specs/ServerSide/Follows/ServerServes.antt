@@ -17,8 +17,8 @@ abbrev pub hands : Call → Option Asked
 hands (Feeds now from bytes word up came h below) = asked_in came
 hands _ = None
 
--- a request that the store serves: of which request, what is asked and answered, what the store held and what it is left,
--- and the number that Observe says in the response
+-- a request that the store serves: of which request, what is asked and answered, what the store held and what it is
+-- left, and the number that Observe says in the response
 pub record Serving : Type 0 where
   pub asked : Asked
   pub question : Question
@@ -60,4 +60,5 @@ module _ (limit szx : ℕ) where
 
   -- Each request that is handed up is served at most once, at once or later.
   abbrev pub ServedOnce : List Call → Type 0
-  ServedOnce trace = Always (λ past c. (x : Serving) → serving (own_of limit szx past) c ≡ Some x → times_served x.asked past < times_handed x.asked (c ∷ past)) trace
+  ServedOnce trace = Always (λ past c. (x : Serving) → serving (own_of limit szx past) c ≡ Some x
+      → times_served x.asked past < times_handed x.asked (c ∷ past)) trace

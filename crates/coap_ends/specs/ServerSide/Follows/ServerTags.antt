@@ -11,7 +11,8 @@ module _ (limit szx : ℕ) where
   -- A change has a version of 64 bits, and what it puts has that version.
   pub record IsStamped (past : List Call) (c : Call) : Type 0 where
     pub version : (x : Change) → change (own_of limit szx past) c ≡ Some x → x.version < 2 ^ 64
-    pub held : (x : Change) (held : Held) → change (own_of limit szx past) c ≡ Some x → x.held ≡ Some held → held.version ≡ x.version
+    pub held : (x : Change) (held : Held) → change (own_of limit szx past) c ≡ Some x → x.held ≡ Some held
+        → held.version ≡ x.version
 
   abbrev pub AreStamped : List Call → Type 0
   AreStamped = Always IsStamped
@@ -22,4 +23,5 @@ module _ (limit szx : ℕ) where
 
   -- What was held under one entity-tag, at any two moments, is one representation, of one path.
   abbrev pub OneTag : List Call → Type 0
-  OneTag t = (p q : List (List ℕ)) (g h : Held) → WasHeld p g t → WasHeld q h t → tag_of g.version ≡ tag_of h.version → (g ≡ h) × (p ≡ q)
+  OneTag t = (p q : List (List ℕ)) (g h : Held) → WasHeld p g t → WasHeld q h t → tag_of g.version ≡ tag_of h.version
+      → (g ≡ h) × (p ≡ q)

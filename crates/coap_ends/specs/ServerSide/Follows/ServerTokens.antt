@@ -9,6 +9,7 @@ use Rattle.coap_ends.specs.ServerSide.ServerLaw.{own_of}
 use Rattle.coap_ends.specs.ServerSide.Follows.ServerServes.{Serving, serving}
 
 pub record ShortTokens (limit szx : ℕ) (t : List Call) : Type 0 where
-  pub served : Always (λ past c. (x : Serving) → serving (own_of limit szx past) c ≡ Some x → length x.asked.token ≤ 8) t
+  pub served : Always (λ past c. (x : Serving) → serving (own_of limit szx past) c ≡ Some x
+      → length x.asked.token ≤ 8) t
   pub waiting : Each (λ (w : Waiting). length w.asked.token ≤ 8) (own_of limit szx t).waiting
   pub observers : Each (λ (o : Observer). length o.token ≤ 8) (own_of limit szx t).observers

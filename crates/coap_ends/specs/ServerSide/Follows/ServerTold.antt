@@ -46,15 +46,21 @@ module _ (limit szx : ℕ) where
 
   -- A notification that the message layer is given in a call, that very call tells.
   pub record TellsSent (word : ℕ) (past : List Call) (c : Call) : Type 0 where
-    pub begun_now : (con : Open) (m : Message) → Ever (λ b. begun b ≡ Some con) (call_adds limit szx word past c) → AreBytes con.bytes → Spells con.bytes m → is_notification m ≡ true
+    pub begun_now : (con : Open) (m : Message) → Ever (λ b. begun b ≡ Some con) (call_adds limit szx word past c)
+        → AreBytes con.bytes → Spells con.bytes m → is_notification m ≡ true
         → TellsIn (Some con.id) con.to m past c
-    pub replied : (to : Endpoint) (bytes : List ℕ) (m : Message) → Ever (λ b. b.call ≡ L.Reply to m.id bytes) (call_adds limit szx word past c) → AreBytes bytes → Spells bytes m → is_notification m ≡ true
+    pub replied : (to : Endpoint) (bytes : List ℕ) (m : Message)
+        → Ever (λ b. b.call ≡ L.Reply to m.id bytes) (call_adds limit szx word past c) → AreBytes bytes → Spells bytes m
+        → is_notification m ≡ true
         → TellsIn None to m past c
     -- It is in a NON where the request was no CON.
-    pub plain : (to : Endpoint) (bytes : List ℕ) (m : Message) → Ever (λ b. PlainOut b (record { to = to; bytes = bytes })) (call_adds limit szx word past c) → AreBytes bytes → Spells bytes m
+    pub plain : (to : Endpoint) (bytes : List ℕ) (m : Message)
+        → Ever (λ b. PlainOut b (record { to = to; bytes = bytes })) (call_adds limit szx word past c) → AreBytes bytes
+        → Spells bytes m
         → is_notification m ≡ true → TellsIn None to m past c × ServesNon to past c
     -- One CON begins in a call at most.
-    pub one : (a b : Open) → Ever (λ e. begun e ≡ Some a) (call_adds limit szx word past c) → Ever (λ e. begun e ≡ Some b) (call_adds limit szx word past c) → a ≡ b
+    pub one : (a b : Open) → Ever (λ e. begun e ≡ Some a) (call_adds limit szx word past c)
+        → Ever (λ e. begun e ≡ Some b) (call_adds limit szx word past c) → a ≡ b
 
   abbrev pub AllTellSent : ℕ → List Call → Type 0
   AllTellSent word t = Always (TellsSent word) t
@@ -72,17 +78,20 @@ module _ (limit szx : ℕ) where
 
   -- What makes a registration serves a request of that endpoint and token.
   abbrev pub AllServePairs : List Call → Type 0
-  AllServePairs t = Always (λ past c. (p : Pair) → registering (own_of limit szx past) c ≡ Some p → ServesPair p past c) t
+  AllServePairs t = Always (λ past c. (p : Pair) → registering (own_of limit szx past) c ≡ Some p
+      → ServesPair p past c) t
 
   -- What is told is told by the call that makes its registration, or later.
   abbrev pub IsUnder : List Call → Call → Type 0
   IsUnder past c =
       (x : Telling) → telling (own_of limit szx past) c ≡ Some x
-      → ((x.registers ≡ true) × ServesPair (pair_of x) past c) ⊎ ((x.registers ≡ false) × Sometime (ServesPair (pair_of x)) past)
+      → ((x.registers ≡ true) × ServesPair (pair_of x) past c)
+      ⊎ ((x.registers ≡ false) × Sometime (ServesPair (pair_of x)) past)
 
   abbrev pub AreUnder : List Call → Type 0
   AreUnder t = Always IsUnder t
 
   -- An acknowledgement that is heard the message layer takes in that very call.
   abbrev pub AcksArrive : ℕ → List Call → Type 0
-  AcksArrive word t = Always (λ past c. (to : Endpoint) (id : ℕ) → HearsAck to id c → Ever (TakesAck to id) (call_adds limit szx word past c)) t
+  AcksArrive word t = Always (λ past c. (to : Endpoint) (id : ℕ) → HearsAck to id c
+      → Ever (TakesAck to id) (call_adds limit szx word past c)) t

@@ -1,4 +1,5 @@
--- What waits at a server is what its exchanges defer, and what they say is ready is served then (RFC 7252, section 5.2.2).
+-- What waits at a server is what its exchanges defer, and what they say is ready is served then (RFC 7252, section
+-- 5.2.2).
 use Rattle.std.specs.Prelude.{◌≡◌, ℕ, Option, Some, None, List, map}
 use Rattle.coap_types.specs.Past.{Always}
 use Rattle.coap_exchange.specs.declared.answerer.Asked.{Asked}
@@ -24,4 +25,5 @@ module _ (limit szx : ℕ) where
 
   -- A request that is ready is served, at once.
   abbrev pub ReadyAreServed : List Call → Type 0
-  ReadyAreServed t = Always (λ past c. (a : Asked) → ready_in c ≡ Some a → (x : Serving) × (serving (own_of limit szx past) c ≡ Some x) × (x.asked ≡ a)) t
+  ReadyAreServed t = Always (λ past c. (a : Asked) → ready_in c ≡ Some a
+      → (x : Serving) × (serving (own_of limit szx past) c ≡ Some x) × (x.asked ≡ a)) t

@@ -11,7 +11,8 @@ loop-now-preserved g c =
     let state = g.E.End.state in
     let so_far = c.loop-now.invariant.0 in
     let did = c.loop-now-test.ensures.further refl in (
-      subst (λ (t : Tally). Steps g.E.End.ticks (state c.args.end.now) c.args.now.0 c.args.tally.now (state c.step.new.end) t) (sym did.1)
+      subst (λ (t : Tally). Steps g.E.End.ticks (state c.args.end.now) c.args.now.0 c.args.tally.now
+          (state c.step.new.end) t) (sym did.1)
           (further _ _ _ so_far did.0),
       refl,
     )

@@ -5,7 +5,8 @@ use Rattle.clap.specs.Words.{found_of}
 use Rattle.clap.proofs.WalkLemmas.{first_value-rows}
 use Rattle.coap_words.proofs.words.optional.Goals as goal
 
-told : (r : Option (Bor (List ℕ))) (f : Option (List ℕ)) → option_map (λ s. s.now) r ≡ f → MatchOption r (f ≡ None) (λ t. f ≡ Some t.now)
+told : (r : Option (Bor (List ℕ))) (f : Option (List ℕ)) → option_map (λ s. s.now) r ≡ f
+    → MatchOption r (f ≡ None) (λ t. f ≡ Some t.now)
 told None f e = sym e
 told (Some t) f e = sym e
 

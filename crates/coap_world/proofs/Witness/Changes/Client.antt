@@ -29,7 +29,8 @@ part n version block payload = record {
   code = 69;
   id = n;
   token = key n;
-  options = record { number = 4; value = tag version } ∷ record { number = 12; value = [] } ∷ record { number = 23; value = block ∷ [] } ∷ [];
+  options = record { number = 4; value = tag version } ∷ record { number = 12; value = [] } ∷ record
+      { number = 23; value = block ∷ [] } ∷ [];
   payload = payload;
 }
 
@@ -47,7 +48,9 @@ ticked = rests 0 ∷ asks 0 0 (key 0) ∷ []
 -- a part, on which the next one is asked for
 abbrev pub asks_on : ℕ → ℕ → ℕ → ℕ → List ℕ → ℕ → List C.Call
 asks_on at n version block payload next =
-    C.Feeds at server_end (part_bytes n version block payload) 0 (L.Becomes (L.Response (part n version block payload))) true (Some (event.Answer (part n version block payload))) (L.Sent next) (Ok (key next)) false ∷
+    C.Feeds at server_end (part_bytes n version block payload) 0
+    (L.Becomes (L.Response (part n version block payload))) true
+    (Some (event.Answer (part n version block payload))) (L.Sent next) (Ok (key next)) false ∷
     []
 
 abbrev pub first : List C.Call
@@ -60,7 +63,8 @@ abbrev pub third : List C.Call
 third = asks_on 7 2 2 8 (codes "ABCDEFGHIJKLMNOP") 3
 
 abbrev pub last : List C.Call
-last = C.Feeds 9 server_end (part_bytes 3 2 16 (codes "Q")) 0 (L.Becomes (L.Response (part 3 2 16 (codes "Q")))) true (Some (event.Answer (part 3 2 16 (codes "Q")))) L.Nothing (Ok []) false ∷ []
+last = C.Feeds 9 server_end (part_bytes 3 2 16 (codes "Q")) 0 (L.Becomes (L.Response (part 3 2 16 (codes "Q")))) true
+    (Some (event.Answer (part 3 2 16 (codes "Q")))) L.Nothing (Ok []) false ∷ []
 
 abbrev calls_asked : List C.Call
 calls_asked = client_turn [] (to_server (first_get 0) ∷ []) ticked ++ client_turn [] [] called
@@ -85,13 +89,58 @@ rows = (
     refl,
     (
       tt,
-      (tt, (refl, (tt, (tt, (tt, (refl, (tt, (tt, (tt, (refl, (tt, (tt, (tt, (refl, (tt, (tt, (refl, (refl, (refl, (tt, (refl, tt))))))))))))))))))))),
+      (
+        tt,
+        (
+          refl,
+          (
+            tt,
+            (
+              tt,
+              (
+                tt,
+                (
+                  refl,
+                  (
+                    tt,
+                    (
+                      tt,
+                      (tt, (refl, (tt, (tt, (tt, (refl, (tt, (tt, (refl, (refl, (refl, (tt, (refl, tt))))))))))))),
+                    ),
+                  ),
+                ),
+              ),
+            ),
+          ),
+        ),
+      ),
     ),
   ),
 )
 
 asked : asker.AskerLaw server_end 0 (lower_of 6 calls)
-asked = (tt, (refl, (tt, (tt, (refl, (refl, (tt, (tt, (refl, (refl, (tt, (tt, (refl, (refl, (tt, (tt, (refl, (refl, (refl, (tt, tt))))))))))))))))))))
+asked = (
+  tt,
+  (
+    refl,
+    (
+      tt,
+      (
+        tt,
+        (
+          refl,
+          (
+            refl,
+            (
+              tt,
+              (tt, (refl, (refl, (tt, (tt, (refl, (refl, (tt, (tt, (refl, (refl, (refl, (tt, tt))))))))))))),
+            ),
+          ),
+        ),
+      ),
+    ),
+  ),
+)
 
 -- the steps of its message layer
 
@@ -106,7 +155,8 @@ left_asked = record (start 0) {
 }
 
 pub steps_asked : Steps (start 0) run_asked left_asked
-unfolding decoded frame_fault body_at walk walk_of option_at nibbles_at value_at extended payload_at option_bytes options_bytes
+unfolding decoded frame_fault body_at walk walk_of option_at nibbles_at value_at extended payload_at option_bytes
+    options_bytes
 steps_asked = (
   _,
   (
@@ -115,8 +165,24 @@ steps_asked = (
       _,
       (
         _,
-        (_, (_, refl, record { may = tt; right = refl; new_is = refl }), record { may = tt; right = refl; new_is = refl }),
-        record { may = (sendable_when_short _ (record { some = omega arith; code = omega arith; id = omega arith; token = omega arith; order = refl; numbers = refl; short = refl }) (omega arith)).spelled; right = refl; new_is = refl },
+        (
+          _,
+          (_, refl, record { may = tt; right = refl; new_is = refl }),
+          record { may = tt; right = refl; new_is = refl },
+        ),
+        record {
+          may = (sendable_when_short _ (record {
+            some = omega arith;
+            code = omega arith;
+            id = omega arith;
+            token = omega arith;
+            order = refl;
+            numbers = refl;
+            short = refl;
+          }) (omega arith)).spelled;
+          right = refl;
+          new_is = refl;
+        },
       ),
       record { may = tt; right = refl; new_is = refl },
     ),
@@ -137,7 +203,8 @@ left_first = record left_asked {
 }
 
 pub steps_first : Steps (start 0) run_first left_first
-unfolding decoded frame_fault body_at walk walk_of option_at nibbles_at value_at extended payload_at option_bytes options_bytes
+unfolding decoded frame_fault body_at walk walk_of option_at nibbles_at value_at extended payload_at option_bytes
+    options_bytes
 steps_first = (
   _,
   (
@@ -146,10 +213,30 @@ steps_first = (
       _,
       (
         _,
-        (_, steps_asked, record { may = bytes_are (part_bytes 0 1 8 (codes "0123456789abcdef")) refl; right = refl; new_is = refl }),
+        (
+          _,
+          steps_asked,
+          record {
+            may = bytes_are (part_bytes 0 1 8 (codes "0123456789abcdef")) refl;
+            right = refl;
+            new_is = refl;
+          },
+        ),
         record { may = tt; right = refl; new_is = refl },
       ),
-      record { may = (sendable_when_short _ (record { some = omega arith; code = omega arith; id = omega arith; token = omega arith; order = refl; numbers = refl; short = refl }) (omega arith)).spelled; right = refl; new_is = refl },
+      record {
+        may = (sendable_when_short _ (record {
+          some = omega arith;
+          code = omega arith;
+          id = omega arith;
+          token = omega arith;
+          order = refl;
+          numbers = refl;
+          short = refl;
+        }) (omega arith)).spelled;
+        right = refl;
+        new_is = refl;
+      },
     ),
     record { may = tt; right = refl; new_is = refl },
   ),
@@ -168,7 +255,8 @@ left_second = record left_first {
 }
 
 pub steps_second : Steps (start 0) run_second left_second
-unfolding decoded frame_fault body_at walk walk_of option_at nibbles_at value_at extended payload_at option_bytes options_bytes
+unfolding decoded frame_fault body_at walk walk_of option_at nibbles_at value_at extended payload_at option_bytes
+    options_bytes
 steps_second = (
   _,
   (
@@ -180,7 +268,19 @@ steps_second = (
         (_, steps_first, record { may = bytes_are (part_bytes 1 2 16 (codes "Q")) refl; right = refl; new_is = refl }),
         record { may = tt; right = refl; new_is = refl },
       ),
-      record { may = (sendable_when_short _ (record { some = omega arith; code = omega arith; id = omega arith; token = omega arith; order = refl; numbers = refl; short = refl }) (omega arith)).spelled; right = refl; new_is = refl },
+      record {
+        may = (sendable_when_short _ (record {
+          some = omega arith;
+          code = omega arith;
+          id = omega arith;
+          token = omega arith;
+          order = refl;
+          numbers = refl;
+          short = refl;
+        }) (omega arith)).spelled;
+        right = refl;
+        new_is = refl;
+      },
     ),
     record { may = tt; right = refl; new_is = refl },
   ),
@@ -199,7 +299,8 @@ left_third = record left_second {
 }
 
 pub steps_third : Steps (start 0) run_third left_third
-unfolding decoded frame_fault body_at walk walk_of option_at nibbles_at value_at extended payload_at option_bytes options_bytes
+unfolding decoded frame_fault body_at walk walk_of option_at nibbles_at value_at extended payload_at option_bytes
+    options_bytes
 steps_third = (
   _,
   (
@@ -208,10 +309,30 @@ steps_third = (
       _,
       (
         _,
-        (_, steps_second, record { may = bytes_are (part_bytes 2 2 8 (codes "ABCDEFGHIJKLMNOP")) refl; right = refl; new_is = refl }),
+        (
+          _,
+          steps_second,
+          record {
+            may = bytes_are (part_bytes 2 2 8 (codes "ABCDEFGHIJKLMNOP")) refl;
+            right = refl;
+            new_is = refl;
+          },
+        ),
         record { may = tt; right = refl; new_is = refl },
       ),
-      record { may = (sendable_when_short _ (record { some = omega arith; code = omega arith; id = omega arith; token = omega arith; order = refl; numbers = refl; short = refl }) (omega arith)).spelled; right = refl; new_is = refl },
+      record {
+        may = (sendable_when_short _ (record {
+          some = omega arith;
+          code = omega arith;
+          id = omega arith;
+          token = omega arith;
+          order = refl;
+          numbers = refl;
+          short = refl;
+        }) (omega arith)).spelled;
+        right = refl;
+        new_is = refl;
+      },
     ),
     record { may = tt; right = refl; new_is = refl },
   ),
@@ -225,7 +346,8 @@ abbrev pub left_last : State
 left_last = record left_third { clock = 9; open_cons = [] }
 
 pub steps_last : Steps (start 0) run_last left_last
-unfolding decoded frame_fault body_at walk walk_of option_at nibbles_at value_at extended payload_at option_bytes options_bytes
+unfolding decoded frame_fault body_at walk walk_of option_at nibbles_at value_at extended payload_at option_bytes
+    options_bytes
 steps_last = (
   _,
   (

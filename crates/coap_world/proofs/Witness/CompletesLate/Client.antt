@@ -17,9 +17,11 @@ use Rattle.coap_world.specs.LegalRuns.{reported}
 use Rattle.coap_world.proofs.Witness.InWords.{bytes_are}
 use Rattle.coap_world.proofs.Witness.TurnsMade.{client_turn, to_server}
 use Rattle.coap_world.specs.BlockRuns.{created, key, answer_bytes}
-use Rattle.coap_world.specs.LateRuns.{continue, changed, second_done, failed_body, short_body, failed_first, failed_second}
+use Rattle.coap_world.specs.LateRuns.{continue, changed, second_done, failed_body, short_body, failed_first}
+use Rattle.coap_world.specs.LateRuns.{failed_second}
 use Rattle.coap_world.specs.LateRuns.{short_bytes, created_bytes}
-use Rattle.coap_world.proofs.Witness.LateTurns.{called, begins, goes_on, ends, copied, expires, drops, step, block_spelled}
+use Rattle.coap_world.proofs.Witness.LateTurns.{called, begins, goes_on, ends, copied, expires, drops, step}
+use Rattle.coap_world.proofs.Witness.LateTurns.{block_spelled}
 use Rattle.coap_world.proofs.Witness.LateTurns.{body_spelled}
 
 -- the response to the PUT in one message
@@ -115,7 +117,8 @@ left_begun = record (start 0) {
 }
 
 steps_begun : Steps (start 0) run_begun left_begun
-unfolding decoded frame_fault body_at walk walk_of option_at nibbles_at value_at extended payload_at option_bytes options_bytes
+unfolding decoded frame_fault body_at walk walk_of option_at nibbles_at value_at extended payload_at option_bytes
+    options_bytes
 steps_begun = (
   _,
   (
@@ -140,7 +143,8 @@ left_failing = record left_begun {
 }
 
 steps_failing : Steps (start 0) run_failing left_failing
-unfolding decoded frame_fault body_at walk walk_of option_at nibbles_at value_at extended payload_at option_bytes options_bytes
+unfolding decoded frame_fault body_at walk walk_of option_at nibbles_at value_at extended payload_at option_bytes
+    options_bytes
 steps_failing = (
   _,
   (
@@ -165,7 +169,8 @@ left_twice = record left_failing {
 }
 
 steps_twice : Steps (start 0) run_twice left_twice
-unfolding decoded frame_fault body_at walk walk_of option_at nibbles_at value_at extended payload_at option_bytes options_bytes
+unfolding decoded frame_fault body_at walk walk_of option_at nibbles_at value_at extended payload_at option_bytes
+    options_bytes
 steps_twice = (
   _,
   (_, (_, (_, (_, (_, (_, (_, steps_failing, step tt), step tt), step tt), step tt), step tt), step tt), step tt),
@@ -182,7 +187,8 @@ left_copied = record left_twice {
 }
 
 steps_copied : Steps (start 0) run_copied left_copied
-unfolding decoded frame_fault body_at walk walk_of option_at nibbles_at value_at extended payload_at option_bytes options_bytes
+unfolding decoded frame_fault body_at walk walk_of option_at nibbles_at value_at extended payload_at option_bytes
+    options_bytes
 steps_copied = (
   _,
   (_, (_, (_, (_, (_, (_, (_, steps_twice, step tt), step tt), step tt), step tt), step tt), step tt), step tt),
@@ -201,7 +207,8 @@ left_short = record left_copied {
 }
 
 steps_short : Steps (start 0) run_short left_short
-unfolding decoded frame_fault body_at walk walk_of option_at nibbles_at value_at extended payload_at option_bytes options_bytes
+unfolding decoded frame_fault body_at walk walk_of option_at nibbles_at value_at extended payload_at option_bytes
+    options_bytes
 steps_short = (
   _,
   (
@@ -227,7 +234,8 @@ abbrev left_done : State
 left_done = record left_short { clock = 130000; open_cons = [] }
 
 steps_done : Steps (start 0) run_done left_done
-unfolding decoded frame_fault body_at walk walk_of option_at nibbles_at value_at extended payload_at option_bytes options_bytes
+unfolding decoded frame_fault body_at walk walk_of option_at nibbles_at value_at extended payload_at option_bytes
+    options_bytes
 steps_done = (
   _,
   (

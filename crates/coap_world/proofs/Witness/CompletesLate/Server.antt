@@ -23,7 +23,8 @@ use Rattle.coap_world.specs.LegalRuns.{t}
 use Rattle.coap_world.proofs.Witness.InWords.{bytes_are}
 use Rattle.coap_world.proofs.Witness.OneHeld as store
 use Rattle.coap_world.specs.BlockRuns.{created, key, answer_bytes}
-use Rattle.coap_world.specs.LateRuns.{continue, changed, failed_body, short_body, failed_first, failed_second, short_bytes}
+use Rattle.coap_world.specs.LateRuns.{continue, changed, failed_body, short_body, failed_first, failed_second}
+use Rattle.coap_world.specs.LateRuns.{short_bytes}
 use Rattle.coap_world.specs.LateRuns.{created_bytes}
 use Rattle.coap_world.proofs.Witness.LateTurns.{block, takes, answers, answered, step, response_spelled, bare_spelled}
 
@@ -70,7 +71,8 @@ puts =
 
 abbrev pub completes : S.Call
 completes =
-    S.Feeds 130000 client_end failed_second 0 (L.Becomes (L.Request last_block true)) (Some (asked_of client_end last_block, last_block))
+    S.Feeds 130000 client_end failed_second 0 (L.Becomes (L.Request last_block true))
+    (Some (asked_of client_end last_block, last_block))
     (S.Serves (question last_block failed_body) (bare changed 0) replaced) L.Nothing
 
 -- its calls, a few turns after the others
@@ -147,7 +149,8 @@ left_put = record (start 0) {
 }
 
 steps_put : Steps (start 0) run_put left_put
-unfolding decoded frame_fault body_at walk walk_of option_at nibbles_at value_at extended payload_at option_bytes options_bytes
+unfolding decoded frame_fault body_at walk walk_of option_at nibbles_at value_at extended payload_at option_bytes
+    options_bytes
 steps_put = (
   _,
   (
@@ -176,8 +179,13 @@ left_completed = record left_put {
 }
 
 steps_completed : Steps (start 0) run_completed left_completed
-unfolding decoded frame_fault body_at walk walk_of option_at nibbles_at value_at extended payload_at option_bytes options_bytes
+unfolding decoded frame_fault body_at walk walk_of option_at nibbles_at value_at extended payload_at option_bytes
+    options_bytes
 steps_completed = (_, (_, (_, (_, steps_put, step (bytes_are failed_second refl)), step refl), step tt), step tt)
 
 pub lawful : ServerLaw 4194303 6 0 calls_completed
-lawful = record { rows = rows_completed; exchanges = record { rows = replied_completed; left = left_completed; layer = steps_completed } }
+lawful = record {
+  rows = rows_completed;
+  exchanges =
+      record { rows = replied_completed; left = left_completed; layer = steps_completed };
+}

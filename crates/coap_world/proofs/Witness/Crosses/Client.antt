@@ -24,7 +24,14 @@ use Rattle.coap_world.proofs.Witness.TurnsMade.{client_turn, to_server, asks, re
 
 -- the answer to the cancel
 abbrev pub cancelled : Message
-cancelled = record { kind = Ack; code = 69; id = 1; token = token; options = record { number = 4; value = tag 2 } ∷ record { number = 12; value = [] } ∷ []; payload = codes "b" }
+cancelled = record {
+  kind = Ack;
+  code = 69;
+  id = 1;
+  token = token;
+  options = record { number = 4; value = tag 2 } ∷ record { number = 12; value = [] } ∷ [];
+  payload = codes "b";
+}
 
 abbrev pub ended : C.Reported
 ended = reported C.Cancelled
@@ -38,15 +45,18 @@ abbrev pub ticked : List C.Call
 ticked = rests 3 ∷ asks 3 1 token ∷ []
 
 abbrev pub crossed : List C.Call
-crossed = C.Feeds 4 server_end second_bytes 0 (L.Becomes (L.Response (content Con 2 (codes "b")))) false None L.Nothing (Ok []) false ∷ []
+crossed = C.Feeds 4 server_end second_bytes 0 (L.Becomes (L.Response (content Con 2 (codes "b")))) false None L.Nothing
+    (Ok []) false ∷ []
 
 abbrev pub over : List C.Call
-over = C.Feeds 6 server_end cancelled_bytes 0 (L.Becomes (L.Response cancelled)) true (Some (event.Answer cancelled)) L.Nothing (Ok []) true ∷ []
+over = C.Feeds 6 server_end cancelled_bytes 0 (L.Becomes (L.Response cancelled)) true
+    (Some (event.Answer cancelled)) L.Nothing (Ok []) true ∷ []
 
 abbrev pub calls : List C.Call
 calls =
     client_turn (ended ∷ []) [] over ++
-    (client_turn [] (to_server empty_ack ∷ []) crossed ++ (client_turn [] (to_server cancel_bytes ∷ []) ticked ++ (client_turn [] [] cancels ++ calls_before)))
+    (client_turn [] (to_server empty_ack ∷ []) crossed
+    ++ (client_turn [] (to_server cancel_bytes ∷ []) ticked ++ (client_turn [] [] cancels ++ calls_before)))
 
 rows : ClientRows 6 calls
 unfolding option_bytes options_bytes
@@ -72,7 +82,25 @@ rows = (
                     tt,
                     (
                       tt,
-                      (refl, (refl, (refl, (tt, (refl, (refl, (refl, (tt, (tt, (refl, (tt, (tt, (refl, (refl, (refl, (tt, (refl, tt))))))))))))))))),
+                      (
+                        refl,
+                        (
+                          refl,
+                          (
+                            refl,
+                            (
+                              tt,
+                              (
+                                refl,
+                                (
+                                  refl,
+                                  (refl, (tt, (tt, (refl, (tt, (tt, (refl, (refl, (refl, (tt, (refl, tt))))))))))),
+                                ),
+                              ),
+                            ),
+                          ),
+                        ),
+                      ),
                     ),
                   ),
                 ),
@@ -86,7 +114,28 @@ rows = (
 )
 
 asked : asker.AskerLaw server_end 0 (lower_of 6 calls)
-asked = (tt, (refl, (refl, (tt, (tt, (refl, (tt, (tt, (refl, (refl, (refl, (tt, (tt, (refl, (refl, (tt, (tt, (refl, (refl, (refl, (tt, tt)))))))))))))))))))))
+asked = (
+  tt,
+  (
+    refl,
+    (
+      refl,
+      (
+        tt,
+        (
+          tt,
+          (
+            refl,
+            (
+              tt,
+              (tt, (refl, (refl, (refl, (tt, (tt, (refl, (refl, (tt, (tt, (refl, (refl, (refl, (tt, tt)))))))))))))),
+            ),
+          ),
+        ),
+      ),
+    ),
+  ),
+)
 
 -- the steps of its message layer
 
@@ -105,7 +154,8 @@ left_asked = record left_before {
 }
 
 pub steps_asked : Steps (start 0) run_asked left_asked
-unfolding decoded frame_fault body_at walk walk_of option_at nibbles_at value_at extended payload_at option_bytes options_bytes
+unfolding decoded frame_fault body_at walk walk_of option_at nibbles_at value_at extended payload_at option_bytes
+    options_bytes
 steps_asked = (
   _,
   (
@@ -114,8 +164,24 @@ steps_asked = (
       _,
       (
         _,
-        (_, (_, steps_before, record { may = tt; right = refl; new_is = refl }), record { may = tt; right = refl; new_is = refl }),
-        record { may = (sendable_when_short _ (record { some = omega arith; code = omega arith; id = omega arith; token = omega arith; order = refl; numbers = refl; short = refl }) (omega arith)).spelled; right = refl; new_is = refl },
+        (
+          _,
+          (_, steps_before, record { may = tt; right = refl; new_is = refl }),
+          record { may = tt; right = refl; new_is = refl },
+        ),
+        record {
+          may = (sendable_when_short _ (record {
+            some = omega arith;
+            code = omega arith;
+            id = omega arith;
+            token = omega arith;
+            order = refl;
+            numbers = refl;
+            short = refl;
+          }) (omega arith)).spelled;
+          right = refl;
+          new_is = refl;
+        },
       ),
       record { may = tt; right = refl; new_is = refl },
     ),
@@ -135,7 +201,8 @@ left_over = record left_asked {
 }
 
 pub steps_over : Steps (start 0) run_over left_over
-unfolding decoded frame_fault body_at walk walk_of option_at nibbles_at value_at extended payload_at option_bytes options_bytes
+unfolding decoded frame_fault body_at walk walk_of option_at nibbles_at value_at extended payload_at option_bytes
+    options_bytes
 steps_over = (
   _,
   (

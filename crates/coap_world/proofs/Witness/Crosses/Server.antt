@@ -1,4 +1,5 @@
--- The server of a legal run: it tells an observer of a change, and then the cancel comes (RFC 7641, sections 3.6 and 4.1).
+-- The server of a legal run: it tells an observer of a change, and then the cancel comes (RFC 7641, sections 3.6 and
+-- 4.1).
 use Rattle.std.proofs.Common.{true, false, Some, List, [], ◌∷◌, ◌++◌, refl, arith}
 use Rattle.std.specs.Prelude.{codes}
 use Rattle.coap_types.specs.declared.message.Kind.TheVariants.{Con}
@@ -32,7 +33,14 @@ use Rattle.coap_world.proofs.Witness.TurnsMade.{server_turn, to_client}
 -- the cancel
 
 abbrev pub request : Message
-request = record { kind = Con; code = 1; id = 1; token = token; options = record { number = 6; value = 1 ∷ [] } ∷ record { number = 11; value = codes "t" } ∷ []; payload = [] }
+request = record {
+  kind = Con;
+  code = 1;
+  id = 1;
+  token = token;
+  options = record { number = 6; value = 1 ∷ [] } ∷ record { number = 11; value = codes "t" } ∷ [];
+  payload = [];
+}
 
 abbrev pub asked : Request
 asked = asked_of client_end request
@@ -43,14 +51,24 @@ question = record { method = Get; path = t; options = request.options; body = []
 -- the calls of each turn from the cancel on, the newest first
 
 abbrev pub fed : List S.Call
-fed = S.Feeds 5 client_end cancel_bytes 0 (L.Becomes (L.Request request true)) (Some (asked, request)) (S.Serves question (content 2 (codes "b")) b) L.Nothing ∷ []
+fed = S.Feeds 5 client_end cancel_bytes 0 (L.Becomes (L.Request request true)) (Some (asked, request))
+    (S.Serves question (content 2 (codes "b")) b) L.Nothing ∷ []
 
 abbrev pub calls : List S.Call
 calls = server_turn [] (acknowledged 6) ++ (server_turn (to_client cancelled_bytes ∷ []) fed ++ calls_before)
 
-cancelled_sendable : IsSpelled (content_of asked (response_to b (record observer { marked = false } ∷ []) asked question (content 2 (codes "b"))))
+cancelled_sendable : IsSpelled (content_of asked
+    (response_to b (record observer { marked = false } ∷ []) asked question (content 2 (codes "b"))))
 unfolding option_bytes options_bytes
-cancelled_sendable = (sendable_when_short _ (record { some = omega arith; code = omega arith; id = omega arith; token = omega arith; order = refl; numbers = refl; short = refl }) (omega arith)).spelled
+cancelled_sendable = (sendable_when_short _ (record {
+  some = omega arith;
+  code = omega arith;
+  id = omega arith;
+  token = omega arith;
+  order = refl;
+  numbers = refl;
+  short = refl;
+}) (omega arith)).spelled
 
 rows : ServerRows 4194303 6 calls
 unfolding option_bytes options_bytes
@@ -78,7 +96,13 @@ rows = (
                       (refl, second),
                       (
                         tt,
-                        (tt, (record { reply = content 1 (codes "a"); left = a; serves = (refl, refl); is = refl }, (tt, ((refl, first_change), tt)))),
+                        (
+                          tt,
+                          (
+                            record { reply = content 1 (codes "a"); left = a; serves = (refl, refl); is = refl },
+                            (tt, ((refl, first_change), tt)),
+                          ),
+                        ),
                       ),
                     ),
                   ),
@@ -113,7 +137,25 @@ answered = (
                   refl,
                   (
                     record { code = refl; spelled = notice_sendable },
-                    (tt, (refl, (tt, (tt, (tt, ((refl, record { code = refl; spelled = answer_sendable }, refl), (refl, (tt, tt)))))))),
+                    (
+                      tt,
+                      (
+                        refl,
+                        (
+                          tt,
+                          (
+                            tt,
+                            (
+                              tt,
+                              (
+                                (refl, record { code = refl; spelled = answer_sendable }, refl),
+                                (refl, (tt, tt)),
+                              ),
+                            ),
+                          ),
+                        ),
+                      ),
+                    ),
                   ),
                 ),
               ),
@@ -129,7 +171,8 @@ abbrev run : List Asked
 run = answerer.lower_of (lower_of 4194303 6 calls)
 
 steps : Steps (start 0) run (left_after (start 0) run)
-unfolding decoded frame_fault body_at walk walk_of option_at nibbles_at value_at extended payload_at option_bytes options_bytes
+unfolding decoded frame_fault body_at walk walk_of option_at nibbles_at value_at extended payload_at option_bytes
+    options_bytes
 steps = (
   _,
   (

@@ -30,14 +30,37 @@ abbrev pub awaits : List C.Call
 awaits = C.Feeds 0 server_end empty_ack 0 (L.Becomes (L.Acked 0)) false None L.Nothing (Ok []) false ∷ []
 
 abbrev pub hears : List C.Call
-hears = C.Feeds 1000 server_end separate_bytes 0 (L.Becomes (L.Response separate)) false (Some (event.Answer separate)) L.Nothing (Ok []) false ∷ []
+hears = C.Feeds 1000 server_end separate_bytes 0 (L.Becomes (L.Response separate)) false
+    (Some (event.Answer separate)) L.Nothing (Ok []) false ∷ []
 
 abbrev pub calls : List C.Call
-calls = client_turn (got ∷ []) (to_server empty_ack ∷ []) hears ++ (client_turn [] [] awaits ++ (client_turn [] (to_server get_bytes ∷ []) ticked ++ client_turn [] [] called))
+calls = client_turn (got ∷ []) (to_server empty_ack ∷ []) hears
+    ++ (client_turn [] [] awaits ++ (client_turn [] (to_server get_bytes ∷ []) ticked ++ client_turn [] [] called))
 
 rows : ClientRows 6 calls
 unfolding option_bytes options_bytes
-rows = (refl, (refl, (tt, (tt, (tt, (refl, (tt, (tt, (refl, (tt, (tt, (refl, (refl, (refl, (tt, (refl, tt))))))))))))))))
+rows = (
+  refl,
+  (
+    refl,
+    (
+      tt,
+      (
+        tt,
+        (
+          tt,
+          (
+            refl,
+            (
+              tt,
+              (tt, (refl, (tt, (tt, (refl, (refl, (refl, (tt, (refl, tt))))))))),
+            ),
+          ),
+        ),
+      ),
+    ),
+  ),
+)
 
 asked : asker.AskerLaw server_end 0 (lower_of 6 calls)
 asked = (tt, (tt, (refl, (tt, (refl, (tt, (tt, (refl, (refl, (refl, (tt, tt)))))))))))
@@ -46,7 +69,8 @@ abbrev run : List Asked
 run = asker.lower_of server_end 0 (lower_of 6 calls)
 
 steps : Steps (start 0) run (left_after (start 0) run)
-unfolding decoded frame_fault body_at walk walk_of option_at nibbles_at value_at extended payload_at option_bytes options_bytes
+unfolding decoded frame_fault body_at walk walk_of option_at nibbles_at value_at extended payload_at option_bytes
+    options_bytes
 steps = (
   _,
   (
@@ -69,8 +93,24 @@ steps = (
                     _,
                     (
                       _,
-                      (_, (_, refl, record { may = tt; right = refl; new_is = refl }), record { may = tt; right = refl; new_is = refl }),
-                      record { may = (sendable_when_short _ (record { some = omega arith; code = omega arith; id = omega arith; token = omega arith; order = refl; numbers = refl; short = refl }) (omega arith)).spelled; right = refl; new_is = refl },
+                      (
+                        _,
+                        (_, refl, record { may = tt; right = refl; new_is = refl }),
+                        record { may = tt; right = refl; new_is = refl },
+                      ),
+                      record {
+                        may = (sendable_when_short _ (record {
+                          some = omega arith;
+                          code = omega arith;
+                          id = omega arith;
+                          token = omega arith;
+                          order = refl;
+                          numbers = refl;
+                          short = refl;
+                        }) (omega arith)).spelled;
+                        right = refl;
+                        new_is = refl;
+                      },
                     ),
                     record { may = tt; right = refl; new_is = refl },
                   ),

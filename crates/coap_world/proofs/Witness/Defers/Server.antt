@@ -25,7 +25,8 @@ asked = asked_of client_end request
 -- the calls of each turn, the newest first
 
 abbrev pub waits : List S.Call
-waits = S.Feeds 0 client_end get_bytes 0 (L.Becomes (L.Request request true)) (Some (asked, request)) (S.Waits question 1000) L.Nothing ∷ []
+waits = S.Feeds 0 client_end get_bytes 0 (L.Becomes (L.Request request true)) (Some (asked, request))
+    (S.Waits question 1000) L.Nothing ∷ []
 
 abbrev pub ticked : List S.Call
 ticked =
@@ -39,7 +40,8 @@ hears = S.Feeds 1000 client_end empty_ack 0 (L.Becomes (L.Acked 0)) None S.Silen
 abbrev pub calls : List S.Call
 calls =
     server_turn [] hears ++
-    (server_turn (to_client separate_bytes ∷ []) ticked ++ (server_turn (to_client empty_ack ∷ []) waits ++ (server_turn [] (sets ∷ []) ++ S.Delays t 1000 true ∷ [])))
+    (server_turn (to_client separate_bytes ∷ []) ticked
+    ++ (server_turn (to_client empty_ack ∷ []) waits ++ (server_turn [] (sets ∷ []) ++ S.Delays t 1000 true ∷ [])))
 
 rows : ServerRows 4194303 6 calls
 unfolding option_bytes options_bytes
@@ -53,7 +55,10 @@ rows = (
         tt,
         (
           (refl, refl),
-          ((record { reply = reply; left = stored; serves = (refl, refl); is = refl }, refl), (tt, (tt, (refl, (tt, ((refl, stores), (refl, tt))))))),
+          (
+            (record { reply = reply; left = stored; serves = (refl, refl); is = refl }, refl),
+            (tt, (tt, (refl, (tt, ((refl, stores), (refl, tt)))))),
+          ),
         ),
       ),
     ),
@@ -61,13 +66,32 @@ rows = (
 )
 
 answered : answerer.AnswererLaw (lower_of 4194303 6 calls)
-answered = (tt, (refl, (tt, (tt, (refl, ((refl, record { code = refl; spelled = sendable }), (refl, (tt, (tt, ((refl, refl, refl), (refl, (tt, tt))))))))))))
+answered = (
+  tt,
+  (
+    refl,
+    (
+      tt,
+      (
+        tt,
+        (
+          refl,
+          (
+            (refl, record { code = refl; spelled = sendable }),
+            (refl, (tt, (tt, ((refl, refl, refl), (refl, (tt, tt)))))),
+          ),
+        ),
+      ),
+    ),
+  ),
+)
 
 abbrev run : List Asked
 run = answerer.lower_of (lower_of 4194303 6 calls)
 
 steps : Steps (start 0) run (left_after (start 0) run)
-unfolding decoded frame_fault body_at walk walk_of option_at nibbles_at value_at extended payload_at option_bytes options_bytes
+unfolding decoded frame_fault body_at walk walk_of option_at nibbles_at value_at extended payload_at option_bytes
+    options_bytes
 steps = (
   _,
   (

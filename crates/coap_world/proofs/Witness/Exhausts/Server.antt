@@ -79,7 +79,8 @@ abbrev pub set_first : List S.Call
 set_first = S.Sets 0 t (Some plain) (codes "a") (Ok 1) given ∷ []
 
 abbrev pub serves : List S.Call
-serves = S.Feeds 1 stranger drop_bytes 0 (L.Becomes (L.Request request true)) (Some (asked_of stranger request, request)) (S.Serves question (bare deleted 0) dropped) (L.Sent 0) ∷ []
+serves = S.Feeds 1 stranger drop_bytes 0 (L.Becomes (L.Request request true))
+    (Some (asked_of stranger request, request)) (S.Serves question (bare deleted 0) dropped) (L.Sent 0) ∷ []
 
 abbrev pub set_log : List S.Call
 set_log = S.Sets 2 log (Some plain) (codes "x") (Ok 3) logged ∷ []
@@ -93,11 +94,21 @@ refused = S.Sets 4 t (Some plain) (codes "b") (Err RateExceeded) (later cleared 
 abbrev pub calls : List S.Call
 calls =
     server_turn [] refused ++
-    (server_turn [] removed ++ (server_turn [] set_log ++ (server_turn (to_stranger dropped_bytes ∷ []) serves ++ server_turn [] set_first)))
+    (server_turn [] removed ++ (server_turn [] set_log
+    ++ (server_turn (to_stranger dropped_bytes ∷ []) serves ++ server_turn [] set_first)))
 
-sendable : IsSpelled (content_of (asked_of stranger request) (response_to given [] (asked_of stranger request) question (bare deleted 0)))
+sendable : IsSpelled (content_of (asked_of stranger request)
+    (response_to given [] (asked_of stranger request) question (bare deleted 0)))
 unfolding option_bytes options_bytes
-sendable = (sendable_when_short _ (record { some = omega arith; code = omega arith; id = omega arith; token = omega arith; order = refl; numbers = refl; short = refl }) (omega arith)).spelled
+sendable = (sendable_when_short _ (record {
+  some = omega arith;
+  code = omega arith;
+  id = omega arith;
+  token = omega arith;
+  order = refl;
+  numbers = refl;
+  short = refl;
+}) (omega arith)).spelled
 
 rows : ServerRows 4 6 calls
 unfolding option_bytes options_bytes
@@ -113,7 +124,16 @@ rows = (
           tt,
           (
             (refl, sets_log),
-            (tt, (tt, (record { reply = bare deleted 0; left = dropped; serves = (refl, drops); is = refl }, (tt, ((refl, sets_t), tt))))),
+            (
+              tt,
+              (
+                tt,
+                (
+                  record { reply = bare deleted 0; left = dropped; serves = (refl, drops); is = refl },
+                  (tt, ((refl, sets_t), tt)),
+                ),
+              ),
+            ),
           ),
         ),
       ),
@@ -122,13 +142,32 @@ rows = (
 )
 
 answered : answerer.AnswererLaw (lower_of 4 6 calls)
-answered = (tt, (tt, (tt, (tt, (tt, ((refl, record { code = refl; spelled = sendable }, (_, refl)), (refl, (tt, tt))))))))
+answered = (
+  tt,
+  (
+    tt,
+    (
+      tt,
+      (
+        tt,
+        (
+          tt,
+          (
+            (refl, record { code = refl; spelled = sendable }, (_, refl)),
+            (refl, (tt, tt)),
+          ),
+        ),
+      ),
+    ),
+  ),
+)
 
 abbrev run : List Asked
 run = answerer.lower_of (lower_of 4 6 calls)
 
 steps : Steps (start 0) run (left_after (start 0) run)
-unfolding decoded frame_fault body_at walk walk_of option_at nibbles_at value_at extended payload_at option_bytes options_bytes
+unfolding decoded frame_fault body_at walk walk_of option_at nibbles_at value_at extended payload_at option_bytes
+    options_bytes
 steps = (
   _,
   (

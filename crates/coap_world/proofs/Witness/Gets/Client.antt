@@ -22,7 +22,14 @@ use Rattle.coap_world.proofs.Witness.TurnsMade.{client_turn, to_server, asks, re
 
 -- the response
 abbrev pub content : Message
-content = record { kind = Ack; code = 69; id = 0; token = token; options = record { number = 4; value = tag 1 } ∷ record { number = 12; value = [] } ∷ []; payload = codes "hi" }
+content = record {
+  kind = Ack;
+  code = 69;
+  id = 0;
+  token = token;
+  options = record { number = 4; value = tag 1 } ∷ record { number = 12; value = [] } ∷ [];
+  payload = codes "hi";
+}
 
 abbrev pub got : C.Reported
 got = record { number = 0; report = C.Body (Some (tag 1)) (Some plain) (codes "hi") }
@@ -36,10 +43,12 @@ abbrev pub ticked : List C.Call
 ticked = rests 0 ∷ asks 0 0 token ∷ []
 
 abbrev pub hears : C.Call
-hears = C.Feeds 9 server_end content_bytes 0 (L.Becomes (L.Response content)) true (Some (event.Answer content)) L.Nothing (Ok []) false
+hears = C.Feeds 9 server_end content_bytes 0 (L.Becomes (L.Response content)) true
+    (Some (event.Answer content)) L.Nothing (Ok []) false
 
 abbrev pub calls : List C.Call
-calls = client_turn (got ∷ []) [] (hears ∷ []) ++ (client_turn [] (to_server get_bytes ∷ []) ticked ++ client_turn [] [] called)
+calls = client_turn (got ∷ []) [] (hears ∷ [])
+    ++ (client_turn [] (to_server get_bytes ∷ []) ticked ++ client_turn [] [] called)
 
 rows : ClientRows 6 calls
 unfolding option_bytes options_bytes
@@ -52,7 +61,8 @@ abbrev run : List Asked
 run = asker.lower_of server_end 0 (lower_of 6 calls)
 
 steps : Steps (start 0) run (left_after (start 0) run)
-unfolding decoded frame_fault body_at walk walk_of option_at nibbles_at value_at extended payload_at option_bytes options_bytes
+unfolding decoded frame_fault body_at walk walk_of option_at nibbles_at value_at extended payload_at option_bytes
+    options_bytes
 steps = (
   _,
   (
@@ -67,8 +77,24 @@ steps = (
             _,
             (
               _,
-              (_, (_, refl, record { may = tt; right = refl; new_is = refl }), record { may = tt; right = refl; new_is = refl }),
-              record { may = (sendable_when_short _ (record { some = omega arith; code = omega arith; id = omega arith; token = omega arith; order = refl; numbers = refl; short = refl }) (omega arith)).spelled; right = refl; new_is = refl },
+              (
+                _,
+                (_, refl, record { may = tt; right = refl; new_is = refl }),
+                record { may = tt; right = refl; new_is = refl },
+              ),
+              record {
+                may = (sendable_when_short _ (record {
+                  some = omega arith;
+                  code = omega arith;
+                  id = omega arith;
+                  token = omega arith;
+                  order = refl;
+                  numbers = refl;
+                  short = refl;
+                }) (omega arith)).spelled;
+                right = refl;
+                new_is = refl;
+              },
             ),
             record { may = tt; right = refl; new_is = refl },
           ),
@@ -102,7 +128,8 @@ abbrev run_before : List Asked
 run_before = asker.lower_of server_end 0 (lower_of 6 calls_before)
 
 steps_before : Steps (start 0) run_before (left_after (start 0) run_before)
-unfolding decoded frame_fault body_at walk walk_of option_at nibbles_at value_at extended payload_at option_bytes options_bytes
+unfolding decoded frame_fault body_at walk walk_of option_at nibbles_at value_at extended payload_at option_bytes
+    options_bytes
 steps_before = (
   _,
   (
@@ -111,8 +138,24 @@ steps_before = (
       _,
       (
         _,
-        (_, (_, refl, record { may = tt; right = refl; new_is = refl }), record { may = tt; right = refl; new_is = refl }),
-        record { may = (sendable_when_short _ (record { some = omega arith; code = omega arith; id = omega arith; token = omega arith; order = refl; numbers = refl; short = refl }) (omega arith)).spelled; right = refl; new_is = refl },
+        (
+          _,
+          (_, refl, record { may = tt; right = refl; new_is = refl }),
+          record { may = tt; right = refl; new_is = refl },
+        ),
+        record {
+          may = (sendable_when_short _ (record {
+            some = omega arith;
+            code = omega arith;
+            id = omega arith;
+            token = omega arith;
+            order = refl;
+            numbers = refl;
+            short = refl;
+          }) (omega arith)).spelled;
+          right = refl;
+          new_is = refl;
+        },
       ),
       record { may = tt; right = refl; new_is = refl },
     ),
@@ -122,4 +165,8 @@ steps_before = (
 )
 
 pub lawful_before : ClientLaw server_end 6 0 calls_before
-lawful_before = record { rows = rows_before; exchanges = record { rows = asked_before; left = left_after (start 0) run_before; layer = steps_before } }
+lawful_before = record {
+  rows = rows_before;
+  exchanges =
+      record { rows = asked_before; left = left_after (start 0) run_before; layer = steps_before };
+}

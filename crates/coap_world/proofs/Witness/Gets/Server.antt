@@ -29,7 +29,14 @@ use Rattle.coap_world.proofs.Witness.TurnsMade.{server_turn, to_client}
 
 -- the request
 abbrev pub request : Message
-request = record { kind = Con; code = 1; id = 0; token = token; options = record { number = 11; value = codes "t" } ∷ []; payload = [] }
+request = record {
+  kind = Con;
+  code = 1;
+  id = 0;
+  token = token;
+  options = record { number = 11; value = codes "t" } ∷ [];
+  payload = [];
+}
 
 -- what the store holds, and what it answers
 
@@ -48,21 +55,41 @@ abbrev pub sets : S.Call
 sets = S.Sets 0 t (Some plain) (codes "hi") (Ok 1) stored
 
 abbrev pub serves : S.Call
-serves = S.Feeds 5 client_end get_bytes 0 (L.Becomes (L.Request request true)) (Some (asked_of client_end request, request)) (S.Serves question reply stored) L.Nothing
+serves = S.Feeds 5 client_end get_bytes 0 (L.Becomes (L.Request request true))
+    (Some (asked_of client_end request, request)) (S.Serves question reply stored) L.Nothing
 
 abbrev pub calls : List S.Call
 calls = server_turn (to_client content_bytes ∷ []) (serves ∷ []) ++ server_turn [] (sets ∷ [])
 
-pub stores : Changes (nothing 4194303) 0 t (Some (record { version = 1; format = Some plain; body = codes "hi" })) stored
+pub stores : Changes (nothing 4194303) 0 t (Some (record { version = 1; format = Some plain; body = codes "hi" }))
+    stored
 stores = first 4194303 0 t (record { version = 1; format = Some plain; body = codes "hi" })
 
-pub sendable : IsSpelled (content_of (asked_of client_end request) (response_to stored [] (asked_of client_end request) question reply))
+pub sendable : IsSpelled (content_of (asked_of client_end request)
+    (response_to stored [] (asked_of client_end request) question reply))
 unfolding option_bytes options_bytes
-sendable = (sendable_when_short _ (record { some = omega arith; code = omega arith; id = omega arith; token = omega arith; order = refl; numbers = refl; short = refl }) (omega arith)).spelled
+sendable = (sendable_when_short _ (record {
+  some = omega arith;
+  code = omega arith;
+  id = omega arith;
+  token = omega arith;
+  order = refl;
+  numbers = refl;
+  short = refl;
+}) (omega arith)).spelled
 
 rows : ServerRows 4194303 6 calls
 unfolding option_bytes options_bytes
-rows = (tt, (tt, (record { reply = reply; left = stored; serves = (refl, refl); is = refl }, (tt, ((refl, stores), tt)))))
+rows = (
+  tt,
+  (
+    tt,
+    (
+      record { reply = reply; left = stored; serves = (refl, refl); is = refl },
+      (tt, ((refl, stores), tt)),
+    ),
+  ),
+)
 
 answered : answerer.AnswererLaw (lower_of 4194303 6 calls)
 answered = (tt, (tt, ((refl, record { code = refl; spelled = sendable }, refl), (refl, (tt, tt)))))
@@ -71,14 +98,19 @@ abbrev run : List Asked
 run = answerer.lower_of (lower_of 4194303 6 calls)
 
 steps : Steps (start 0) run (left_after (start 0) run)
-unfolding decoded frame_fault body_at walk walk_of option_at nibbles_at value_at extended payload_at option_bytes options_bytes
+unfolding decoded frame_fault body_at walk walk_of option_at nibbles_at value_at extended payload_at option_bytes
+    options_bytes
 steps = (
   _,
   (
     _,
     (
       _,
-      (_, (_, refl, record { may = tt; right = refl; new_is = refl }), record { may = bytes_are get_bytes refl; right = refl; new_is = refl }),
+      (
+        _,
+        (_, refl, record { may = tt; right = refl; new_is = refl }),
+        record { may = bytes_are get_bytes refl; right = refl; new_is = refl },
+      ),
       record { may = refl; right = refl; new_is = refl },
     ),
     record { may = tt; right = refl; new_is = refl },
@@ -92,11 +124,21 @@ lawful = record { rows = rows; exchanges = record { rows = answered; left = left
 -- .. with a turn that is refused between them
 
 abbrev pub calls_again : List S.Call
-calls_again = server_turn (to_client content_bytes ∷ []) (serves ∷ []) ++ (server_turn [] [] ++ server_turn [] (sets ∷ []))
+calls_again = server_turn (to_client content_bytes ∷ []) (serves ∷ [])
+    ++ (server_turn [] [] ++ server_turn [] (sets ∷ []))
 
 rows_again : ServerRows 4194303 6 calls_again
 unfolding option_bytes options_bytes
-rows_again = (tt, (tt, (record { reply = reply; left = stored; serves = (refl, refl); is = refl }, (tt, (tt, ((refl, stores), tt))))))
+rows_again = (
+  tt,
+  (
+    tt,
+    (
+      record { reply = reply; left = stored; serves = (refl, refl); is = refl },
+      (tt, (tt, ((refl, stores), tt))),
+    ),
+  ),
+)
 
 answered_again : answerer.AnswererLaw (lower_of 4194303 6 calls_again)
 answered_again = (tt, (tt, ((refl, record { code = refl; spelled = sendable }, refl), (refl, (tt, (tt, tt))))))
@@ -105,7 +147,8 @@ abbrev run_again : List Asked
 run_again = answerer.lower_of (lower_of 4194303 6 calls_again)
 
 steps_again : Steps (start 0) run_again (left_after (start 0) run_again)
-unfolding decoded frame_fault body_at walk walk_of option_at nibbles_at value_at extended payload_at option_bytes options_bytes
+unfolding decoded frame_fault body_at walk walk_of option_at nibbles_at value_at extended payload_at option_bytes
+    options_bytes
 steps_again = (
   _,
   (
@@ -114,7 +157,11 @@ steps_again = (
       _,
       (
         _,
-        (_, (_, refl, record { may = tt; right = refl; new_is = refl }), record { may = tt; right = refl; new_is = refl }),
+        (
+          _,
+          (_, refl, record { may = tt; right = refl; new_is = refl }),
+          record { may = tt; right = refl; new_is = refl },
+        ),
         record { may = bytes_are get_bytes refl; right = refl; new_is = refl },
       ),
       record { may = refl; right = refl; new_is = refl },
@@ -125,4 +172,8 @@ steps_again = (
 )
 
 pub lawful_again : ServerLaw 4194303 6 0 calls_again
-lawful_again = record { rows = rows_again; exchanges = record { rows = answered_again; left = left_after (start 0) run_again; layer = steps_again } }
+lawful_again = record {
+  rows = rows_again;
+  exchanges =
+      record { rows = answered_again; left = left_after (start 0) run_again; layer = steps_again };
+}

@@ -18,7 +18,8 @@ use Rattle.coap_world.proofs.Witness.Uploads.Client.{answer}
 use Rattle.coap_world.specs.BlockRuns.{created, answer_bytes}
 use Rattle.coap_world.specs.LateRuns.{continue, second_done, lost_body, held_body, lost_first, lost_second, held_first}
 use Rattle.coap_world.specs.LateRuns.{held_second, held_third}
-use Rattle.coap_world.proofs.Witness.LateTurns.{called, begins, goes_on, ends, copied, expires, drops, step, block_spelled}
+use Rattle.coap_world.proofs.Witness.LateTurns.{called, begins, goes_on, ends, copied, expires, drops, step}
+use Rattle.coap_world.proofs.Witness.LateTurns.{block_spelled}
 
 -- its calls, a few turns after the others
 
@@ -130,7 +131,8 @@ left_begun = record (start 0) {
 }
 
 steps_begun : Steps (start 0) run_begun left_begun
-unfolding decoded frame_fault body_at walk walk_of option_at nibbles_at value_at extended payload_at option_bytes options_bytes
+unfolding decoded frame_fault body_at walk walk_of option_at nibbles_at value_at extended payload_at option_bytes
+    options_bytes
 steps_begun = (
   _,
   (
@@ -155,7 +157,8 @@ left_lost = record left_begun {
 }
 
 steps_lost : Steps (start 0) run_lost left_lost
-unfolding decoded frame_fault body_at walk walk_of option_at nibbles_at value_at extended payload_at option_bytes options_bytes
+unfolding decoded frame_fault body_at walk walk_of option_at nibbles_at value_at extended payload_at option_bytes
+    options_bytes
 steps_lost = (
   _,
   (
@@ -180,7 +183,8 @@ left_twice = record left_lost {
 }
 
 steps_twice : Steps (start 0) run_twice left_twice
-unfolding decoded frame_fault body_at walk walk_of option_at nibbles_at value_at extended payload_at option_bytes options_bytes
+unfolding decoded frame_fault body_at walk walk_of option_at nibbles_at value_at extended payload_at option_bytes
+    options_bytes
 steps_twice = (
   _,
   (_, (_, (_, (_, (_, (_, (_, steps_lost, step tt), step tt), step tt), step tt), step tt), step tt), step tt),
@@ -197,7 +201,8 @@ left_copied = record left_twice {
 }
 
 steps_copied : Steps (start 0) run_copied left_copied
-unfolding decoded frame_fault body_at walk walk_of option_at nibbles_at value_at extended payload_at option_bytes options_bytes
+unfolding decoded frame_fault body_at walk walk_of option_at nibbles_at value_at extended payload_at option_bytes
+    options_bytes
 steps_copied = (
   _,
   (_, (_, (_, (_, (_, (_, (_, steps_twice, step tt), step tt), step tt), step tt), step tt), step tt), step tt),
@@ -211,7 +216,8 @@ abbrev left_late : State
 left_late = record left_copied { clock = 130000; open_cons = [] }
 
 steps_late : Steps (start 0) run_late left_late
-unfolding decoded frame_fault body_at walk walk_of option_at nibbles_at value_at extended payload_at option_bytes options_bytes
+unfolding decoded frame_fault body_at walk walk_of option_at nibbles_at value_at extended payload_at option_bytes
+    options_bytes
 steps_late = (
   _,
   (
@@ -230,11 +236,13 @@ left_first = record left_late {
   clock = 130001;
   upcoming = 3;
   last_used = Some 130001 ∷ replicate 15 None;
-  open_cons = record { to = server_end; id = 2; bytes = held_first; timeout = 2000; first = 130001; last = 130001 } ∷ [];
+  open_cons = record { to = server_end; id = 2; bytes = held_first; timeout = 2000; first = 130001; last = 130001 } ∷
+      [];
 }
 
 steps_first : Steps (start 0) run_first left_first
-unfolding decoded frame_fault body_at walk walk_of option_at nibbles_at value_at extended payload_at option_bytes options_bytes
+unfolding decoded frame_fault body_at walk walk_of option_at nibbles_at value_at extended payload_at option_bytes
+    options_bytes
 steps_first = (
   _,
   (
@@ -251,11 +259,13 @@ run_second = asker.lower_of server_end 0 (lower_of 0 calls_second)
 abbrev left_second : State
 left_second = record left_first {
   upcoming = 4;
-  open_cons = record { to = server_end; id = 3; bytes = held_second; timeout = 2000; first = 130001; last = 130001 } ∷ [];
+  open_cons = record { to = server_end; id = 3; bytes = held_second; timeout = 2000; first = 130001; last = 130001 } ∷
+      [];
 }
 
 steps_second : Steps (start 0) run_second left_second
-unfolding decoded frame_fault body_at walk walk_of option_at nibbles_at value_at extended payload_at option_bytes options_bytes
+unfolding decoded frame_fault body_at walk walk_of option_at nibbles_at value_at extended payload_at option_bytes
+    options_bytes
 steps_second = (
   _,
   (
@@ -277,7 +287,8 @@ abbrev left_done : State
 left_done = record left_second { upcoming = 5; open_cons = [] }
 
 steps_done : Steps (start 0) run_done left_done
-unfolding decoded frame_fault body_at walk walk_of option_at nibbles_at value_at extended payload_at option_bytes options_bytes
+unfolding decoded frame_fault body_at walk walk_of option_at nibbles_at value_at extended payload_at option_bytes
+    options_bytes
 steps_done = (
   _,
   (

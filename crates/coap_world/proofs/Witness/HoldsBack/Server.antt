@@ -1,4 +1,5 @@
--- The server of a legal run: a late block of an upload is taken before the first of another one (RFC 7959, section 2.5).
+-- The server of a legal run: a late block of an upload is taken before the first of another one (RFC 7959, section
+-- 2.5).
 use Rattle.std.proofs.Common.{true, Some, None, List, [], ◌∷◌, ◌++◌, refl, arith}
 use Rattle.std.specs.Prelude.{codes}
 use Rattle.coap_types.specs.declared.request.Method.TheVariants.{Put}
@@ -56,13 +57,15 @@ question = record { method = Put; path = t; options = last_block.options; body =
 
 abbrev pub puts : S.Call
 puts =
-    S.Feeds 130001 client_end held_third 0 (L.Becomes (L.Request last_block true)) (Some (asked_of client_end last_block, last_block))
+    S.Feeds 130001 client_end held_third 0 (L.Becomes (L.Request last_block true))
+    (Some (asked_of client_end last_block, last_block))
     (S.Serves question (bare created 0) made) L.Nothing
 
 -- its calls, a few turns after the others
 
 abbrev pub calls_lost : List S.Call
-calls_lost = answers (answer_bytes continue 1 24) takes_lost_second ++ answers (answer_bytes continue 0 8) takes_lost_first
+calls_lost = answers (answer_bytes continue 1 24) takes_lost_second
+    ++ answers (answer_bytes continue 0 8) takes_lost_first
 
 abbrev pub calls_held : List S.Call
 calls_held =
@@ -161,7 +164,8 @@ left_lost = record (start 0) {
 }
 
 steps_lost : Steps (start 0) run_lost left_lost
-unfolding decoded frame_fault body_at walk walk_of option_at nibbles_at value_at extended payload_at option_bytes options_bytes
+unfolding decoded frame_fault body_at walk walk_of option_at nibbles_at value_at extended payload_at option_bytes
+    options_bytes
 steps_lost = (
   _,
   (
@@ -186,11 +190,13 @@ run_held = answerer.lower_of (lower_of 4194303 6 calls_held)
 abbrev left_held : State
 left_held = record left_lost {
   clock = 130001;
-  arrived = left_lost.arrived ++ answered 130001 2 (answer_bytes continue 2 8) ∷ answered 130001 3 (answer_bytes continue 3 24) ∷ [];
+  arrived = left_lost.arrived ++ answered 130001 2 (answer_bytes continue 2 8) ∷ answered 130001 3
+      (answer_bytes continue 3 24) ∷ [];
 }
 
 steps_held : Steps (start 0) run_held left_held
-unfolding decoded frame_fault body_at walk walk_of option_at nibbles_at value_at extended payload_at option_bytes options_bytes
+unfolding decoded frame_fault body_at walk walk_of option_at nibbles_at value_at extended payload_at option_bytes
+    options_bytes
 steps_held = (
   _,
   (
@@ -216,7 +222,8 @@ abbrev left_put : State
 left_put = record left_held { arrived = left_held.arrived ++ answered 130001 4 (answer_bytes created 4 32) ∷ [] }
 
 steps_put : Steps (start 0) run_put left_put
-unfolding decoded frame_fault body_at walk walk_of option_at nibbles_at value_at extended payload_at option_bytes options_bytes
+unfolding decoded frame_fault body_at walk walk_of option_at nibbles_at value_at extended payload_at option_bytes
+    options_bytes
 steps_put = (_, (_, (_, (_, steps_held, step (bytes_are held_third refl)), step refl), step tt), step tt)
 
 pub lawful : ServerLaw 4194303 6 0 calls_put

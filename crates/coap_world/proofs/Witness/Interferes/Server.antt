@@ -30,7 +30,14 @@ use Rattle.coap_world.proofs.Witness.TurnsMade.{server_turn}
 
 -- the request
 abbrev pub request : Message
-request = record { kind = Con; code = 4; id = 1; token = token; options = record { number = 11; value = codes "t" } ∷ []; payload = [] }
+request = record {
+  kind = Con;
+  code = 4;
+  id = 1;
+  token = token;
+  options = record { number = 11; value = codes "t" } ∷ [];
+  payload = [];
+}
 
 abbrev pub question : Question
 question = record { method = Delete; path = t; options = request.options; body = []; szx = 6 }
@@ -47,7 +54,8 @@ removes = store.removed 0 t (record { version = 1; format = Some plain; body = c
 -- the calls of each turn, the newest first
 
 abbrev pub serve : S.Call
-serve = S.Feeds 0 stranger (delete_bytes 1) 0 (L.Becomes (L.Request request true)) (Some (asked_of stranger request, request)) (S.Serves question reply left) L.Nothing
+serve = S.Feeds 0 stranger (delete_bytes 1) 0 (L.Becomes (L.Request request true))
+    (Some (asked_of stranger request, request)) (S.Serves question reply left) L.Nothing
 
 abbrev pub serves : List S.Call
 serves = serve ∷ []
@@ -55,13 +63,31 @@ serves = serve ∷ []
 abbrev pub calls : List S.Call
 calls = server_turn (to_stranger deleted_bytes ∷ []) serves ++ server_turn [] (sets ∷ [])
 
-sendable : IsSpelled (content_of (asked_of stranger request) (response_to stored [] (asked_of stranger request) question reply))
+sendable : IsSpelled (content_of (asked_of stranger request)
+    (response_to stored [] (asked_of stranger request) question reply))
 unfolding option_bytes options_bytes
-sendable = (sendable_when_short _ (record { some = omega arith; code = omega arith; id = omega arith; token = omega arith; order = refl; numbers = refl; short = refl }) (omega arith)).spelled
+sendable = (sendable_when_short _ (record {
+  some = omega arith;
+  code = omega arith;
+  id = omega arith;
+  token = omega arith;
+  order = refl;
+  numbers = refl;
+  short = refl;
+}) (omega arith)).spelled
 
 rows : ServerRows 4194303 6 calls
 unfolding option_bytes options_bytes
-rows = (tt, (tt, (record { reply = reply; left = left; serves = (refl, removes); is = refl }, (tt, ((refl, stores), tt)))))
+rows = (
+  tt,
+  (
+    tt,
+    (
+      record { reply = reply; left = left; serves = (refl, removes); is = refl },
+      (tt, ((refl, stores), tt)),
+    ),
+  ),
+)
 
 answered : answerer.AnswererLaw (lower_of 4194303 6 calls)
 answered = (tt, (tt, ((refl, record { code = refl; spelled = sendable }, refl), (refl, (tt, tt)))))
@@ -70,14 +96,19 @@ abbrev run : List Asked
 run = answerer.lower_of (lower_of 4194303 6 calls)
 
 steps : Steps (start 0) run (left_after (start 0) run)
-unfolding decoded frame_fault body_at walk walk_of option_at nibbles_at value_at extended payload_at option_bytes options_bytes
+unfolding decoded frame_fault body_at walk walk_of option_at nibbles_at value_at extended payload_at option_bytes
+    options_bytes
 steps = (
   _,
   (
     _,
     (
       _,
-      (_, (_, refl, record { may = tt; right = refl; new_is = refl }), record { may = bytes_are (delete_bytes 1) refl; right = refl; new_is = refl }),
+      (
+        _,
+        (_, refl, record { may = tt; right = refl; new_is = refl }),
+        record { may = bytes_are (delete_bytes 1) refl; right = refl; new_is = refl },
+      ),
       record { may = refl; right = refl; new_is = refl },
     ),
     record { may = tt; right = refl; new_is = refl },

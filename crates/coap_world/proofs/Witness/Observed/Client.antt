@@ -29,7 +29,8 @@ content kind version body = record {
   code = 69;
   id = 0;
   token = token;
-  options = record { number = 4; value = tag version } ∷ record { number = 6; value = version ∷ [] } ∷ record { number = 12; value = [] } ∷ [];
+  options = record { number = 4; value = tag version } ∷ record { number = 6; value = version ∷ [] } ∷ record
+      { number = 12; value = [] } ∷ [];
   payload = body;
 }
 
@@ -45,20 +46,44 @@ abbrev pub ticked : List C.Call
 ticked = rests 0 ∷ asks 0 0 token ∷ []
 
 abbrev pub registered : List C.Call
-registered = C.Feeds 2 server_end first_bytes 0 (L.Becomes (L.Response (content Ack 1 (codes "a")))) true (Some (event.Answer (content Ack 1 (codes "a")))) L.Nothing (Ok []) true ∷ []
+registered = C.Feeds 2 server_end first_bytes 0 (L.Becomes (L.Response (content Ack 1 (codes "a")))) true
+    (Some (event.Answer (content Ack 1 (codes "a")))) L.Nothing (Ok []) true ∷ []
 
 abbrev pub notified : List C.Call
-notified = C.Feeds 4 server_end second_bytes 0 (L.Becomes (L.Response (content Con 2 (codes "b")))) false (Some (event.Notice (content Con 2 (codes "b")))) L.Nothing (Ok []) false ∷ []
+notified = C.Feeds 4 server_end second_bytes 0 (L.Becomes (L.Response (content Con 2 (codes "b")))) false
+    (Some (event.Notice (content Con 2 (codes "b")))) L.Nothing (Ok []) false ∷ []
 
 abbrev pub calls_before : List C.Call
-calls_before = client_turn (value 1 (codes "a") ∷ []) [] registered ++ (client_turn [] (to_server observe_bytes ∷ []) ticked ++ client_turn [] [] observing)
+calls_before = client_turn (value 1 (codes "a") ∷ []) [] registered
+    ++ (client_turn [] (to_server observe_bytes ∷ []) ticked ++ client_turn [] [] observing)
 
 abbrev pub calls : List C.Call
 calls = client_turn (value 2 (codes "b") ∷ []) (to_server empty_ack ∷ []) notified ++ calls_before
 
 rows : ClientRows 6 calls
 unfolding option_bytes options_bytes
-rows = (refl, (refl, (tt, (tt, (tt, (refl, (refl, (tt, (tt, (refl, (tt, (tt, (refl, (refl, (refl, (tt, (refl, tt)))))))))))))))))
+rows = (
+  refl,
+  (
+    refl,
+    (
+      tt,
+      (
+        tt,
+        (
+          tt,
+          (
+            refl,
+            (
+              refl,
+              (tt, (tt, (refl, (tt, (tt, (refl, (refl, (refl, (tt, (refl, tt)))))))))),
+            ),
+          ),
+        ),
+      ),
+    ),
+  ),
+)
 
 asked : asker.AskerLaw server_end 0 (lower_of 6 calls)
 asked = (tt, (tt, (refl, (tt, (refl, (refl, (tt, (tt, (refl, (refl, (refl, (tt, tt))))))))))))
@@ -67,7 +92,8 @@ abbrev run : List Asked
 run = asker.lower_of server_end 0 (lower_of 6 calls)
 
 steps : Steps (start 0) run (left_after (start 0) run)
-unfolding decoded frame_fault body_at walk walk_of option_at nibbles_at value_at extended payload_at option_bytes options_bytes
+unfolding decoded frame_fault body_at walk walk_of option_at nibbles_at value_at extended payload_at option_bytes
+    options_bytes
 steps = (
   _,
   (
@@ -90,8 +116,24 @@ steps = (
                     _,
                     (
                       _,
-                      (_, (_, refl, record { may = tt; right = refl; new_is = refl }), record { may = tt; right = refl; new_is = refl }),
-                      record { may = (sendable_when_short _ (record { some = omega arith; code = omega arith; id = omega arith; token = omega arith; order = refl; numbers = refl; short = refl }) (omega arith)).spelled; right = refl; new_is = refl },
+                      (
+                        _,
+                        (_, refl, record { may = tt; right = refl; new_is = refl }),
+                        record { may = tt; right = refl; new_is = refl },
+                      ),
+                      record {
+                        may = (sendable_when_short _ (record {
+                          some = omega arith;
+                          code = omega arith;
+                          id = omega arith;
+                          token = omega arith;
+                          order = refl;
+                          numbers = refl;
+                          short = refl;
+                        }) (omega arith)).spelled;
+                        right = refl;
+                        new_is = refl;
+                      },
                     ),
                     record { may = tt; right = refl; new_is = refl },
                   ),
@@ -126,7 +168,8 @@ abbrev pub left_before : State
 left_before = record (start 0) { clock = 2; upcoming = 1; last_used = Some 0 ∷ replicate 15 None }
 
 pub steps_before : Steps (start 0) run_before left_before
-unfolding decoded frame_fault body_at walk walk_of option_at nibbles_at value_at extended payload_at option_bytes options_bytes
+unfolding decoded frame_fault body_at walk walk_of option_at nibbles_at value_at extended payload_at option_bytes
+    options_bytes
 steps_before = (
   _,
   (
@@ -141,8 +184,24 @@ steps_before = (
             _,
             (
               _,
-              (_, (_, refl, record { may = tt; right = refl; new_is = refl }), record { may = tt; right = refl; new_is = refl }),
-              record { may = (sendable_when_short _ (record { some = omega arith; code = omega arith; id = omega arith; token = omega arith; order = refl; numbers = refl; short = refl }) (omega arith)).spelled; right = refl; new_is = refl },
+              (
+                _,
+                (_, refl, record { may = tt; right = refl; new_is = refl }),
+                record { may = tt; right = refl; new_is = refl },
+              ),
+              record {
+                may = (sendable_when_short _ (record {
+                  some = omega arith;
+                  code = omega arith;
+                  id = omega arith;
+                  token = omega arith;
+                  order = refl;
+                  numbers = refl;
+                  short = refl;
+                }) (omega arith)).spelled;
+                right = refl;
+                new_is = refl;
+              },
             ),
             record { may = tt; right = refl; new_is = refl },
           ),

@@ -34,7 +34,14 @@ use Rattle.coap_world.proofs.Witness.TurnsMade.{server_turn, to_client}
 -- the request, and whom it registers
 
 abbrev pub request : Message
-request = record { kind = Con; code = 1; id = 0; token = token; options = record { number = 6; value = [] } ∷ record { number = 11; value = codes "t" } ∷ []; payload = [] }
+request = record {
+  kind = Con;
+  code = 1;
+  id = 0;
+  token = token;
+  options = record { number = 6; value = [] } ∷ record { number = 11; value = codes "t" } ∷ [];
+  payload = [];
+}
 
 abbrev pub asked : Request
 asked = asked_of client_end request
@@ -51,7 +58,8 @@ abbrev pub first_set : List S.Call
 first_set = S.Sets 0 t (Some plain) (codes "a") (Ok 1) a ∷ []
 
 abbrev pub fed : List S.Call
-fed = S.Feeds 1 client_end observe_bytes 0 (L.Becomes (L.Request request true)) (Some (asked, request)) (S.Serves question (content 1 (codes "a")) a) L.Nothing ∷ []
+fed = S.Feeds 1 client_end observe_bytes 0 (L.Becomes (L.Request request true)) (Some (asked, request))
+    (S.Serves question (content 1 (codes "a")) a) L.Nothing ∷ []
 
 abbrev pub second_set : List S.Call
 second_set = S.Sets 3 t (Some plain) (codes "b") (Ok 2) b ∷ []
@@ -67,18 +75,35 @@ acknowledged at = S.Feeds at client_end empty_ack 0 (L.Becomes (L.Acked 0)) None
 
 abbrev pub calls_before : List S.Call
 calls_before =
-    server_turn (to_client second_bytes ∷ []) ticked ++ (server_turn [] second_set ++ (server_turn (to_client first_bytes ∷ []) fed ++ server_turn [] first_set))
+    server_turn (to_client second_bytes ∷ []) ticked
+    ++ (server_turn [] second_set ++ (server_turn (to_client first_bytes ∷ []) fed ++ server_turn [] first_set))
 
 abbrev pub calls : List S.Call
 calls = server_turn [] (acknowledged 5) ++ calls_before
 
 pub answer_sendable : IsSpelled (content_of asked (response_to a [] asked question (content 1 (codes "a"))))
 unfolding option_bytes options_bytes
-answer_sendable = (sendable_when_short _ (record { some = omega arith; code = omega arith; id = omega arith; token = omega arith; order = refl; numbers = refl; short = refl }) (omega arith)).spelled
+answer_sendable = (sendable_when_short _ (record {
+  some = omega arith;
+  code = omega arith;
+  id = omega arith;
+  token = omega arith;
+  order = refl;
+  numbers = refl;
+  short = refl;
+}) (omega arith)).spelled
 
 pub notice_sendable : IsSpelled (content_with token (notification b observer (content 2 (codes "b"))))
 unfolding option_bytes options_bytes
-notice_sendable = (sendable_when_short _ (record { some = omega arith; code = omega arith; id = omega arith; token = omega arith; order = refl; numbers = refl; short = refl }) (omega arith)).spelled
+notice_sendable = (sendable_when_short _ (record {
+  some = omega arith;
+  code = omega arith;
+  id = omega arith;
+  token = omega arith;
+  order = refl;
+  numbers = refl;
+  short = refl;
+}) (omega arith)).spelled
 
 rows : ServerRows 4194303 6 calls
 unfolding option_bytes options_bytes
@@ -98,7 +123,16 @@ rows = (
               tt,
               (
                 (refl, second),
-                (tt, (tt, (record { reply = content 1 (codes "a"); left = a; serves = (refl, refl); is = refl }, (tt, ((refl, first_change), tt))))),
+                (
+                  tt,
+                  (
+                    tt,
+                    (
+                      record { reply = content 1 (codes "a"); left = a; serves = (refl, refl); is = refl },
+                      (tt, ((refl, first_change), tt)),
+                    ),
+                  ),
+                ),
               ),
             ),
           ),
@@ -121,7 +155,25 @@ answered = (
           refl,
           (
             record { code = refl; spelled = notice_sendable },
-            (tt, (refl, (tt, (tt, (tt, ((refl, record { code = refl; spelled = answer_sendable }, refl), (refl, (tt, tt)))))))),
+            (
+              tt,
+              (
+                refl,
+                (
+                  tt,
+                  (
+                    tt,
+                    (
+                      tt,
+                      (
+                        (refl, record { code = refl; spelled = answer_sendable }, refl),
+                        (refl, (tt, tt)),
+                      ),
+                    ),
+                  ),
+                ),
+              ),
+            ),
           ),
         ),
       ),
@@ -133,7 +185,8 @@ abbrev run : List Asked
 run = answerer.lower_of (lower_of 4194303 6 calls)
 
 steps : Steps (start 0) run (left_after (start 0) run)
-unfolding decoded frame_fault body_at walk walk_of option_at nibbles_at value_at extended payload_at option_bytes options_bytes
+unfolding decoded frame_fault body_at walk walk_of option_at nibbles_at value_at extended payload_at option_bytes
+    options_bytes
 steps = (
   _,
   (

@@ -33,10 +33,15 @@ abbrev run : List Asked
 run = asker.lower_of server_end 0 (lower_of 6 calls)
 
 steps : Steps (start 0) run (left_after (start 0) run)
-unfolding decoded frame_fault body_at walk walk_of option_at nibbles_at value_at extended payload_at option_bytes options_bytes
+unfolding decoded frame_fault body_at walk walk_of option_at nibbles_at value_at extended payload_at option_bytes
+    options_bytes
 steps = (
   _,
-  (_, (_, refl, record { may = bytes_are ping refl; right = refl; new_is = refl }), record { may = tt; right = refl; new_is = refl }),
+  (
+    _,
+    (_, refl, record { may = bytes_are ping refl; right = refl; new_is = refl }),
+    record { may = tt; right = refl; new_is = refl },
+  ),
   record { may = tt; right = refl; new_is = refl },
 )
 

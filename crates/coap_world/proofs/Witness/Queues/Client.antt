@@ -51,10 +51,12 @@ hears_last = ends 4 new_content_bytes last_answer
 abbrev calls_first : List C.Call
 calls_first =
     client_turn (first_report ∷ []) [] hears_first ++
-    (client_turn [] (to_server new_bytes ∷ []) (sends 0 0) ++ (client_turn [] [] called_next ++ client_turn [] [] called))
+    (client_turn [] (to_server new_bytes ∷ []) (sends 0 0)
+    ++ (client_turn [] [] called_next ++ client_turn [] [] called))
 
 abbrev pub calls : List C.Call
-calls = client_turn (last_report ∷ []) [] hears_last ++ (client_turn [] (to_server (first_get 1) ∷ []) (sends 2 1) ++ calls_first)
+calls = client_turn (last_report ∷ []) [] hears_last
+    ++ (client_turn [] (to_server (first_get 1) ∷ []) (sends 2 1) ++ calls_first)
 
 rows : ClientRows 6 calls
 unfolding option_bytes options_bytes
@@ -74,7 +76,28 @@ rows = (
               tt,
               (
                 refl,
-                (refl, (refl, (refl, (tt, (tt, (refl, (tt, (tt, (refl, (refl, (refl, (tt, (refl, (refl, (tt, (refl, tt)))))))))))))))),
+                (
+                  refl,
+                  (
+                    refl,
+                    (
+                      refl,
+                      (
+                        tt,
+                        (
+                          tt,
+                          (
+                            refl,
+                            (
+                              tt,
+                              (tt, (refl, (refl, (refl, (tt, (refl, (refl, (tt, (refl, tt))))))))),
+                            ),
+                          ),
+                        ),
+                      ),
+                    ),
+                  ),
+                ),
               ),
             ),
           ),
@@ -85,7 +108,28 @@ rows = (
 )
 
 asked : asker.AskerLaw server_end 0 (lower_of 6 calls)
-asked = (tt, (refl, (tt, (tt, (refl, (refl, (refl, (tt, (refl, (tt, (tt, (refl, (refl, (refl, (tt, (tt, tt))))))))))))))))
+asked = (
+  tt,
+  (
+    refl,
+    (
+      tt,
+      (
+        tt,
+        (
+          refl,
+          (
+            refl,
+            (
+              refl,
+              (tt, (refl, (tt, (tt, (refl, (refl, (refl, (tt, (tt, tt))))))))),
+            ),
+          ),
+        ),
+      ),
+    ),
+  ),
+)
 
 -- the steps of its message layer
 
@@ -96,7 +140,8 @@ abbrev pub left_first : State
 left_first = record (start 0) { clock = 2; upcoming = 1; last_used = Some 0 ∷ replicate 15 None }
 
 pub steps_first : Steps (start 0) run_first left_first
-unfolding decoded frame_fault body_at walk walk_of option_at nibbles_at value_at extended payload_at option_bytes options_bytes
+unfolding decoded frame_fault body_at walk walk_of option_at nibbles_at value_at extended payload_at option_bytes
+    options_bytes
 steps_first = (
   _,
   (
@@ -113,10 +158,26 @@ steps_first = (
               _,
               (
                 _,
-                (_, (_, refl, record { may = tt; right = refl; new_is = refl }), record { may = tt; right = refl; new_is = refl }),
+                (
+                  _,
+                  (_, refl, record { may = tt; right = refl; new_is = refl }),
+                  record { may = tt; right = refl; new_is = refl },
+                ),
                 record { may = tt; right = refl; new_is = refl },
               ),
-              record { may = (sendable_when_short _ (record { some = omega arith; code = omega arith; id = omega arith; token = omega arith; order = refl; numbers = refl; short = refl }) (omega arith)).spelled; right = refl; new_is = refl },
+              record {
+                may = (sendable_when_short _ (record {
+                  some = omega arith;
+                  code = omega arith;
+                  id = omega arith;
+                  token = omega arith;
+                  order = refl;
+                  numbers = refl;
+                  short = refl;
+                }) (omega arith)).spelled;
+                right = refl;
+                new_is = refl;
+              },
             ),
             record { may = tt; right = refl; new_is = refl },
           ),
@@ -138,7 +199,8 @@ abbrev pub left_last : State
 left_last = record left_first { clock = 4; upcoming = 2; last_used = Some 2 ∷ replicate 15 None }
 
 pub steps_last : Steps (start 0) run_last left_last
-unfolding decoded frame_fault body_at walk walk_of option_at nibbles_at value_at extended payload_at option_bytes options_bytes
+unfolding decoded frame_fault body_at walk walk_of option_at nibbles_at value_at extended payload_at option_bytes
+    options_bytes
 steps_last = (
   _,
   (
@@ -154,7 +216,19 @@ steps_last = (
             (
               _,
               (_, steps_first, record { may = tt; right = refl; new_is = refl }),
-              record { may = (sendable_when_short _ (record { some = omega arith; code = omega arith; id = omega arith; token = omega arith; order = refl; numbers = refl; short = refl }) (omega arith)).spelled; right = refl; new_is = refl },
+              record {
+                may = (sendable_when_short _ (record {
+                  some = omega arith;
+                  code = omega arith;
+                  id = omega arith;
+                  token = omega arith;
+                  order = refl;
+                  numbers = refl;
+                  short = refl;
+                }) (omega arith)).spelled;
+                right = refl;
+                new_is = refl;
+              },
             ),
             record { may = tt; right = refl; new_is = refl },
           ),

@@ -47,7 +47,13 @@ abbrev pub last_request : Message
 last_request = request 1 1 (option 11 (codes "t") ∷ []) []
 
 abbrev pub first_question : Question
-first_question = record { method = Put; path = t; options = first_request.options; body = first_request.payload; szx = 6 }
+first_question = record {
+  method = Put;
+  path = t;
+  options = first_request.options;
+  body = first_request.payload;
+  szx = 6;
+}
 
 abbrev pub last_question : Question
 last_question = record { method = Get; path = t; options = last_request.options; body = last_request.payload; szx = 6 }
@@ -75,12 +81,28 @@ calls = server_turn (to_client new_content_bytes ∷ []) last ++ calls_first
 first_sendable : IsSendable (nothing 4194303) first_request first_question first_reply
 unfolding option_bytes options_bytes
 first_sendable =
-    (sendable_when_short _ (record { some = omega arith; code = omega arith; id = omega arith; token = omega arith; order = refl; numbers = refl; short = refl }) (omega arith)).spelled
+    (sendable_when_short _ (record {
+      some = omega arith;
+      code = omega arith;
+      id = omega arith;
+      token = omega arith;
+      order = refl;
+      numbers = refl;
+      short = refl;
+    }) (omega arith)).spelled
 
 last_sendable : IsSendable served_first last_request last_question last_reply
 unfolding option_bytes options_bytes
 last_sendable =
-    (sendable_when_short _ (record { some = omega arith; code = omega arith; id = omega arith; token = omega arith; order = refl; numbers = refl; short = refl }) (omega arith)).spelled
+    (sendable_when_short _ (record {
+      some = omega arith;
+      code = omega arith;
+      id = omega arith;
+      token = omega arith;
+      order = refl;
+      numbers = refl;
+      short = refl;
+    }) (omega arith)).spelled
 
 rows : ServerRows 4194303 6 calls
 unfolding option_bytes options_bytes
@@ -116,7 +138,8 @@ abbrev pub left_first : State
 left_first = record (start 0) { clock = 1; arrived = remembered 0 1 created_bytes ∷ [] }
 
 pub steps_first : Steps (start 0) run_first left_first
-unfolding decoded frame_fault body_at walk walk_of option_at nibbles_at value_at extended payload_at option_bytes options_bytes
+unfolding decoded frame_fault body_at walk walk_of option_at nibbles_at value_at extended payload_at option_bytes
+    options_bytes
 steps_first = (
   _,
   (
@@ -135,10 +158,15 @@ abbrev run_last : List Asked
 run_last = answerer.lower_of (lower_of 4194303 6 calls)
 
 abbrev pub left_last : State
-left_last = record left_first { clock = 3; arrived = remembered 0 1 created_bytes ∷ remembered 1 3 new_content_bytes ∷ [] }
+left_last = record left_first {
+  clock = 3;
+  arrived =
+      remembered 0 1 created_bytes ∷ remembered 1 3 new_content_bytes ∷ [];
+}
 
 pub steps_last : Steps (start 0) run_last left_last
-unfolding decoded frame_fault body_at walk walk_of option_at nibbles_at value_at extended payload_at option_bytes options_bytes
+unfolding decoded frame_fault body_at walk walk_of option_at nibbles_at value_at extended payload_at option_bytes
+    options_bytes
 steps_last = (
   _,
   (

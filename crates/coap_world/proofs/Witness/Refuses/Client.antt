@@ -35,10 +35,12 @@ abbrev pub ticked : List C.Call
 ticked = rests 0 ∷ asks 0 0 token ∷ []
 
 abbrev pub hears : List C.Call
-hears = C.Feeds 9 server_end refused_bytes 0 (L.Becomes (L.Response refusal)) true (Some (event.Answer refusal)) L.Nothing (Ok []) false ∷ []
+hears = C.Feeds 9 server_end refused_bytes 0 (L.Becomes (L.Response refusal)) true
+    (Some (event.Answer refusal)) L.Nothing (Ok []) false ∷ []
 
 abbrev pub calls : List C.Call
-calls = client_turn (failed ∷ []) [] hears ++ (client_turn [] (to_server put_bytes ∷ []) ticked ++ client_turn [] [] called)
+calls = client_turn (failed ∷ []) [] hears ++ (client_turn [] (to_server put_bytes ∷ []) ticked
+    ++ client_turn [] [] called)
 
 rows : ClientRows 6 calls
 unfolding option_bytes options_bytes
@@ -51,7 +53,8 @@ abbrev run : List Asked
 run = asker.lower_of server_end 0 (lower_of 6 calls)
 
 steps : Steps (start 0) run (left_after (start 0) run)
-unfolding decoded frame_fault body_at walk walk_of option_at nibbles_at value_at extended payload_at option_bytes options_bytes
+unfolding decoded frame_fault body_at walk walk_of option_at nibbles_at value_at extended payload_at option_bytes
+    options_bytes
 steps = (
   _,
   (
@@ -66,8 +69,24 @@ steps = (
             _,
             (
               _,
-              (_, (_, refl, record { may = tt; right = refl; new_is = refl }), record { may = tt; right = refl; new_is = refl }),
-              record { may = (sendable_when_short _ (record { some = omega arith; code = omega arith; id = omega arith; token = omega arith; order = refl; numbers = refl; short = refl }) (omega arith)).spelled; right = refl; new_is = refl },
+              (
+                _,
+                (_, refl, record { may = tt; right = refl; new_is = refl }),
+                record { may = tt; right = refl; new_is = refl },
+              ),
+              record {
+                may = (sendable_when_short _ (record {
+                  some = omega arith;
+                  code = omega arith;
+                  id = omega arith;
+                  token = omega arith;
+                  order = refl;
+                  numbers = refl;
+                  short = refl;
+                }) (omega arith)).spelled;
+                right = refl;
+                new_is = refl;
+              },
             ),
             record { may = tt; right = refl; new_is = refl },
           ),

@@ -32,7 +32,8 @@ request = record {
   code = 3;
   id = 0;
   token = token;
-  options = record { number = 1; value = tag 2 } ∷ record { number = 11; value = codes "t" } ∷ record { number = 12; value = json ∷ [] } ∷ [];
+  options = record { number = 1; value = tag 2 } ∷ record { number = 11; value = codes "t" } ∷ record
+      { number = 12; value = json ∷ [] } ∷ [];
   payload = codes "a";
 }
 
@@ -43,18 +44,37 @@ abbrev pub reply : Reply
 reply = bare precondition_failed 0
 
 abbrev pub serves : List S.Call
-serves = S.Feeds 5 client_end put_bytes 0 (L.Becomes (L.Request request true)) (Some (asked_of client_end request, request)) (S.Serves question reply stored) L.Nothing ∷ []
+serves = S.Feeds 5 client_end put_bytes 0 (L.Becomes (L.Request request true))
+    (Some (asked_of client_end request, request)) (S.Serves question reply stored) L.Nothing ∷ []
 
 abbrev pub calls : List S.Call
 calls = server_turn (to_client refused_bytes ∷ []) serves ++ server_turn [] (sets ∷ [])
 
-sendable : IsSpelled (content_of (asked_of client_end request) (response_to stored [] (asked_of client_end request) question reply))
+sendable : IsSpelled (content_of (asked_of client_end request)
+    (response_to stored [] (asked_of client_end request) question reply))
 unfolding option_bytes options_bytes
-sendable = (sendable_when_short _ (record { some = omega arith; code = omega arith; id = omega arith; token = omega arith; order = refl; numbers = refl; short = refl }) (omega arith)).spelled
+sendable = (sendable_when_short _ (record {
+  some = omega arith;
+  code = omega arith;
+  id = omega arith;
+  token = omega arith;
+  order = refl;
+  numbers = refl;
+  short = refl;
+}) (omega arith)).spelled
 
 rows : ServerRows 4194303 6 calls
 unfolding option_bytes options_bytes
-rows = (tt, (tt, (record { reply = reply; left = stored; serves = (refl, refl); is = refl }, (tt, ((refl, stores), tt)))))
+rows = (
+  tt,
+  (
+    tt,
+    (
+      record { reply = reply; left = stored; serves = (refl, refl); is = refl },
+      (tt, ((refl, stores), tt)),
+    ),
+  ),
+)
 
 answered : answerer.AnswererLaw (lower_of 4194303 6 calls)
 answered = (tt, (tt, ((refl, record { code = refl; spelled = sendable }, refl), (refl, (tt, tt)))))
@@ -63,14 +83,19 @@ abbrev run : List Asked
 run = answerer.lower_of (lower_of 4194303 6 calls)
 
 steps : Steps (start 0) run (left_after (start 0) run)
-unfolding decoded frame_fault body_at walk walk_of option_at nibbles_at value_at extended payload_at option_bytes options_bytes
+unfolding decoded frame_fault body_at walk walk_of option_at nibbles_at value_at extended payload_at option_bytes
+    options_bytes
 steps = (
   _,
   (
     _,
     (
       _,
-      (_, (_, refl, record { may = tt; right = refl; new_is = refl }), record { may = bytes_are put_bytes refl; right = refl; new_is = refl }),
+      (
+        _,
+        (_, refl, record { may = tt; right = refl; new_is = refl }),
+        record { may = bytes_are put_bytes refl; right = refl; new_is = refl },
+      ),
       record { may = refl; right = refl; new_is = refl },
     ),
     record { may = tt; right = refl; new_is = refl },

@@ -44,7 +44,28 @@ calls = client_turn (failed ∷ []) [] (hears ∷ []) ++ calls_on
 
 rows : ClientRows 0 calls
 unfolding option_bytes options_bytes
-rows = (refl, (refl, (tt, (tt, (refl, (tt, (tt, (tt, (refl, (tt, (tt, (refl, (refl, (refl, (tt, (refl, tt))))))))))))))))
+rows = (
+  refl,
+  (
+    refl,
+    (
+      tt,
+      (
+        tt,
+        (
+          refl,
+          (
+            tt,
+            (
+              tt,
+              (tt, (refl, (tt, (tt, (refl, (refl, (refl, (tt, (refl, tt))))))))),
+            ),
+          ),
+        ),
+      ),
+    ),
+  ),
+)
 
 asked : asker.AskerLaw server_end 0 (lower_of 0 calls)
 asked = (tt, (refl, (tt, (tt, (refl, (refl, (tt, (tt, (refl, (refl, (refl, (tt, tt))))))))))))
@@ -85,7 +106,8 @@ left_begun = record (start 0) {
 }
 
 steps_begun : Steps (start 0) run_begun left_begun
-unfolding decoded frame_fault body_at walk walk_of option_at nibbles_at value_at extended payload_at option_bytes options_bytes
+unfolding decoded frame_fault body_at walk walk_of option_at nibbles_at value_at extended payload_at option_bytes
+    options_bytes
 steps_begun = (
   _,
   (
@@ -112,7 +134,8 @@ left_on = record left_begun {
 }
 
 steps_on : Steps (start 0) run_on left_on
-unfolding decoded frame_fault body_at walk walk_of option_at nibbles_at value_at extended payload_at option_bytes options_bytes
+unfolding decoded frame_fault body_at walk walk_of option_at nibbles_at value_at extended payload_at option_bytes
+    options_bytes
 steps_on = (
   _,
   (
@@ -134,7 +157,8 @@ abbrev left : State
 left = record left_on { clock = 4; open_cons = [] }
 
 steps : Steps (start 0) run left
-unfolding decoded frame_fault body_at walk walk_of option_at nibbles_at value_at extended payload_at option_bytes options_bytes
+unfolding decoded frame_fault body_at walk walk_of option_at nibbles_at value_at extended payload_at option_bytes
+    options_bytes
 steps = (_, (_, (_, steps_on, step (bytes_are (answer_bytes precondition_failed 1 16) refl)), step tt), step tt)
 
 pub lawful : ClientLaw server_end 0 0 calls

@@ -1,4 +1,5 @@
--- The server of a legal run: it refuses a body that came in two blocks (RFC 7252, section 5.10.8.1; RFC 7959, section 2.5).
+-- The server of a legal run: it refuses a body that came in two blocks (RFC 7252, section 5.10.8.1; RFC 7959, section
+-- 2.5).
 use Rattle.std.proofs.Common.{ℕ, true, Some, List, [], ◌∷◌, ◌++◌, refl, arith}
 use Rattle.std.specs.Prelude.{codes}
 use Rattle.coap_types.specs.declared.message.Kind.TheVariants.{Con}
@@ -58,12 +59,15 @@ reply = bare precondition_failed 0
 
 abbrev pub takes_first : S.Call
 takes_first =
-    S.Feeds 1 client_end guarded_first 0 (L.Becomes (L.Request first_block true)) (Some (asked_of client_end first_block, first_block))
-    (S.Replies (record { code = continue; options = record { number = 27; value = 8 ∷ [] } ∷ []; payload = [] })) L.Nothing
+    S.Feeds 1 client_end guarded_first 0 (L.Becomes (L.Request first_block true))
+    (Some (asked_of client_end first_block, first_block))
+    (S.Replies (record { code = continue; options = record { number = 27; value = 8 ∷ [] } ∷ []; payload = [] }))
+    L.Nothing
 
 abbrev pub refuses : S.Call
 refuses =
-    S.Feeds 3 client_end guarded_last 0 (L.Becomes (L.Request last_block true)) (Some (asked_of client_end last_block, last_block))
+    S.Feeds 3 client_end guarded_last 0 (L.Becomes (L.Request last_block true))
+    (Some (asked_of client_end last_block, last_block))
     (S.Serves question reply stored) L.Nothing
 
 abbrev calls_first : List S.Call
@@ -91,7 +95,11 @@ replied = (
   (
     tt,
     (
-      (refl, record { code = refl; spelled = response_spelled precondition_failed 1 16 (omega arith) (omega arith) }, refl),
+      (
+        refl,
+        record { code = refl; spelled = response_spelled precondition_failed 1 16 (omega arith) (omega arith) },
+        refl,
+      ),
       (
         refl,
         (
@@ -118,17 +126,23 @@ abbrev left_first : State
 left_first = record (start 0) { clock = 1; arrived = answered 1 0 (answer_bytes continue 0 8) ∷ [] }
 
 steps_first : Steps (start 0) run_first left_first
-unfolding decoded frame_fault body_at walk walk_of option_at nibbles_at value_at extended payload_at option_bytes options_bytes
+unfolding decoded frame_fault body_at walk walk_of option_at nibbles_at value_at extended payload_at option_bytes
+    options_bytes
 steps_first = (_, (_, (_, (_, (_, refl, step tt), step (bytes_are guarded_first refl)), step refl), step tt), step tt)
 
 abbrev run : List Asked
 run = answerer.lower_of (lower_of 4194303 6 calls)
 
 abbrev left : State
-left = record left_first { clock = 3; arrived = left_first.arrived ++ answered 3 1 (answer_bytes precondition_failed 1 16) ∷ [] }
+left = record left_first {
+  clock = 3;
+  arrived = left_first.arrived
+      ++ answered 3 1 (answer_bytes precondition_failed 1 16) ∷ [];
+}
 
 steps : Steps (start 0) run left
-unfolding decoded frame_fault body_at walk walk_of option_at nibbles_at value_at extended payload_at option_bytes options_bytes
+unfolding decoded frame_fault body_at walk walk_of option_at nibbles_at value_at extended payload_at option_bytes
+    options_bytes
 steps = (_, (_, (_, (_, steps_first, step (bytes_are guarded_last refl)), step refl), step tt), step tt)
 
 pub lawful : ServerLaw 4194303 6 0 calls

@@ -25,7 +25,8 @@ abbrev pub forgets : List C.Call
 forgets = C.Forgets 0 true true ∷ []
 
 abbrev pub rejects : List C.Call
-rejects = C.Feeds 4 server_end second_bytes 0 (L.Becomes (L.Response (content Con 2 (codes "b")))) false None L.Nothing (Ok []) false ∷ []
+rejects = C.Feeds 4 server_end second_bytes 0 (L.Becomes (L.Response (content Con 2 (codes "b")))) false None L.Nothing
+    (Ok []) false ∷ []
 
 abbrev pub calls : List C.Call
 calls = client_turn [] (to_server reset_bytes ∷ []) rejects ++ (client_turn [] [] forgets ++ calls_before)
@@ -34,7 +35,31 @@ rows : ClientRows 6 calls
 unfolding option_bytes options_bytes
 rows = (
   refl,
-  (tt, (tt, (tt, (refl, (tt, (refl, (refl, (refl, (tt, (tt, (refl, (tt, (tt, (refl, (refl, (refl, (tt, (refl, tt)))))))))))))))))),
+  (
+    tt,
+    (
+      tt,
+      (
+        tt,
+        (
+          refl,
+          (
+            tt,
+            (
+              refl,
+              (
+                refl,
+                (
+                  refl,
+                  (tt, (tt, (refl, (tt, (tt, (refl, (refl, (refl, (tt, (refl, tt)))))))))),
+                ),
+              ),
+            ),
+          ),
+        ),
+      ),
+    ),
+  ),
 )
 
 asked : asker.AskerLaw server_end 0 (lower_of 6 calls)
@@ -46,10 +71,15 @@ abbrev run : List Asked
 run = asker.lower_of server_end 0 (lower_of 6 calls)
 
 abbrev pub left : State
-left = record left_before { clock = 4; arrived = record { from = server_end; id = 0; at = 4; con = true; reply = Some reset_bytes } ∷ [] }
+left = record left_before {
+  clock = 4;
+  arrived =
+      record { from = server_end; id = 0; at = 4; con = true; reply = Some reset_bytes } ∷ [];
+}
 
 steps : Steps (start 0) run left
-unfolding decoded frame_fault body_at walk walk_of option_at nibbles_at value_at extended payload_at option_bytes options_bytes
+unfolding decoded frame_fault body_at walk walk_of option_at nibbles_at value_at extended payload_at option_bytes
+    options_bytes
 steps = (
   _,
   (

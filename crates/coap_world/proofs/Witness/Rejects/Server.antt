@@ -115,7 +115,25 @@ answered = (
                 refl,
                 (
                   record { code = refl; spelled = notice_sendable },
-                  (tt, (refl, (tt, (tt, (tt, ((refl, record { code = refl; spelled = answer_sendable }, refl), (refl, (tt, tt)))))))),
+                  (
+                    tt,
+                    (
+                      refl,
+                      (
+                        tt,
+                        (
+                          tt,
+                          (
+                            tt,
+                            (
+                              (refl, record { code = refl; spelled = answer_sendable }, refl),
+                              (refl, (tt, tt)),
+                            ),
+                          ),
+                        ),
+                      ),
+                    ),
+                  ),
                 ),
               ),
             ),
@@ -141,7 +159,8 @@ left_before = record (start 0) {
 }
 
 steps_before : Steps (start 0) run_before left_before
-unfolding decoded frame_fault body_at walk walk_of option_at nibbles_at value_at extended payload_at option_bytes options_bytes
+unfolding decoded frame_fault body_at walk walk_of option_at nibbles_at value_at extended payload_at option_bytes
+    options_bytes
 steps_before = (
   _,
   (
@@ -195,7 +214,8 @@ abbrev left : State
 left = record left_before { clock = 6; open_cons = [] }
 
 steps : Steps (start 0) run left
-unfolding decoded frame_fault body_at walk walk_of option_at nibbles_at value_at extended payload_at option_bytes options_bytes
+unfolding decoded frame_fault body_at walk walk_of option_at nibbles_at value_at extended payload_at option_bytes
+    options_bytes
 steps = (
   _,
   (

@@ -24,7 +24,8 @@ use Rattle.coap_world.proofs.Witness.TurnsMade.{client_turn, to_server}
 -- the calls of each turn, the newest first
 
 abbrev pub heard : List C.Call
-heard = C.Feeds 2004 server_end second_bytes 0 (L.Becomes (L.Response (content Con 2 (codes "b")))) true (Some (event.Answer (content Con 2 (codes "b")))) L.Nothing (Ok []) true ∷ []
+heard = C.Feeds 2004 server_end second_bytes 0 (L.Becomes (L.Response (content Con 2 (codes "b")))) true
+    (Some (event.Answer (content Con 2 (codes "b")))) L.Nothing (Ok []) true ∷ []
 
 abbrev pub late : List C.Call
 late = C.Feeds 2005 server_end first_bytes 0 (L.Becomes L.Dropped) false None L.Nothing (Ok []) false ∷ []
@@ -33,11 +34,33 @@ abbrev calls_before : List C.Call
 calls_before = client_turn [] (to_server observe_bytes ∷ []) ticked ++ client_turn [] [] observing
 
 abbrev pub calls : List C.Call
-calls = client_turn [] [] late ++ (client_turn (value 2 (codes "b") ∷ []) (to_server empty_ack ∷ []) heard ++ calls_before)
+calls = client_turn [] [] late ++ (client_turn (value 2 (codes "b") ∷ []) (to_server empty_ack ∷ []) heard
+    ++ calls_before)
 
 rows : ClientRows 6 calls
 unfolding option_bytes options_bytes
-rows = (refl, (tt, (tt, (refl, (refl, (tt, (tt, (tt, (refl, (tt, (tt, (refl, (refl, (refl, (tt, (refl, tt))))))))))))))))
+rows = (
+  refl,
+  (
+    tt,
+    (
+      tt,
+      (
+        refl,
+        (
+          refl,
+          (
+            tt,
+            (
+              tt,
+              (tt, (refl, (tt, (tt, (refl, (refl, (refl, (tt, (refl, tt))))))))),
+            ),
+          ),
+        ),
+      ),
+    ),
+  ),
+)
 
 asked : asker.AskerLaw server_end 0 (lower_of 6 calls)
 asked = (tt, (refl, (tt, (tt, (refl, (refl, (tt, (tt, (refl, (refl, (refl, (tt, tt))))))))))))
@@ -55,7 +78,8 @@ left_before = record (start 0) {
 }
 
 pub steps_before : Steps (start 0) run_before left_before
-unfolding decoded frame_fault body_at walk walk_of option_at nibbles_at value_at extended payload_at option_bytes options_bytes
+unfolding decoded frame_fault body_at walk walk_of option_at nibbles_at value_at extended payload_at option_bytes
+    options_bytes
 steps_before = (
   _,
   (
@@ -64,8 +88,24 @@ steps_before = (
       _,
       (
         _,
-        (_, (_, refl, record { may = tt; right = refl; new_is = refl }), record { may = tt; right = refl; new_is = refl }),
-        record { may = (sendable_when_short _ (record { some = omega arith; code = omega arith; id = omega arith; token = omega arith; order = refl; numbers = refl; short = refl }) (omega arith)).spelled; right = refl; new_is = refl },
+        (
+          _,
+          (_, refl, record { may = tt; right = refl; new_is = refl }),
+          record { may = tt; right = refl; new_is = refl },
+        ),
+        record {
+          may = (sendable_when_short _ (record {
+            some = omega arith;
+            code = omega arith;
+            id = omega arith;
+            token = omega arith;
+            order = refl;
+            numbers = refl;
+            short = refl;
+          }) (omega arith)).spelled;
+          right = refl;
+          new_is = refl;
+        },
       ),
       record { may = tt; right = refl; new_is = refl },
     ),
@@ -85,7 +125,8 @@ left_late = record left_before {
 }
 
 pub steps_late : Steps (start 0) run_late left_late
-unfolding decoded frame_fault body_at walk walk_of option_at nibbles_at value_at extended payload_at option_bytes options_bytes
+unfolding decoded frame_fault body_at walk walk_of option_at nibbles_at value_at extended payload_at option_bytes
+    options_bytes
 steps_late = (
   _,
   (

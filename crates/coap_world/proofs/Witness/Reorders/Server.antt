@@ -53,7 +53,13 @@ rows = (
                     (refl, second),
                     (
                       tt,
-                      (tt, (record { reply = content 1 (codes "a"); left = a; serves = (refl, refl); is = refl }, (tt, ((refl, first_change), tt)))),
+                      (
+                        tt,
+                        (
+                          record { reply = content 1 (codes "a"); left = a; serves = (refl, refl); is = refl },
+                          (tt, ((refl, first_change), tt)),
+                        ),
+                      ),
                     ),
                   ),
                 ),
@@ -83,7 +89,25 @@ answered = (
               refl,
               (
                 record { code = refl; spelled = notice_sendable },
-                (tt, (refl, (tt, (tt, (tt, ((refl, record { code = refl; spelled = answer_sendable }, refl), (refl, (tt, tt)))))))),
+                (
+                  tt,
+                  (
+                    refl,
+                    (
+                      tt,
+                      (
+                        tt,
+                        (
+                          tt,
+                          (
+                            (refl, record { code = refl; spelled = answer_sendable }, refl),
+                            (refl, (tt, tt)),
+                          ),
+                        ),
+                      ),
+                    ),
+                  ),
+                ),
               ),
             ),
           ),
@@ -108,7 +132,8 @@ left_before = record (start 0) {
 }
 
 pub steps_before : Steps (start 0) run_before left_before
-unfolding decoded frame_fault body_at walk walk_of option_at nibbles_at value_at extended payload_at option_bytes options_bytes
+unfolding decoded frame_fault body_at walk walk_of option_at nibbles_at value_at extended payload_at option_bytes
+    options_bytes
 steps_before = (
   _,
   (
@@ -165,12 +190,17 @@ left_copied = record left_before {
 }
 
 pub steps_copied : Steps (start 0) run_copied left_copied
-unfolding decoded frame_fault body_at walk walk_of option_at nibbles_at value_at extended payload_at option_bytes options_bytes
+unfolding decoded frame_fault body_at walk walk_of option_at nibbles_at value_at extended payload_at option_bytes
+    options_bytes
 steps_copied = (
   _,
   (
     _,
-    (_, (_, steps_before, record { may = tt; right = refl; new_is = refl }), record { may = tt; right = refl; new_is = refl }),
+    (
+      _,
+      (_, steps_before, record { may = tt; right = refl; new_is = refl }),
+      record { may = tt; right = refl; new_is = refl },
+    ),
     record { may = tt; right = refl; new_is = refl },
   ),
   record { may = tt; right = refl; new_is = refl },

@@ -45,7 +45,14 @@ c = store.one log (held 3 (codes "xaa")) (counted b.tally 247001)
 -- the request
 
 abbrev pub request : Message
-request = record { kind = Con; code = 2; id = 0x0a01; token = 1 ∷ []; options = record { number = 11; value = codes "log" } ∷ []; payload = codes "a" }
+request = record {
+  kind = Con;
+  code = 2;
+  id = 0x0a01;
+  token = 1 ∷ [];
+  options = record { number = 11; value = codes "log" } ∷ [];
+  payload = codes "a";
+}
 
 abbrev pub question : Question
 question = record { method = Post; path = log; options = request.options; body = codes "a"; szx = 6 }
@@ -56,7 +63,8 @@ abbrev pub set : List S.Call
 set = S.Sets 0 log (Some plain) (codes "x") (Ok 1) a ∷ []
 
 abbrev pub serves : ℕ → Content → List S.Call
-serves at left = S.Feeds at stranger post_bytes 0 (L.Becomes (L.Request request true)) (Some (asked_of stranger request, request)) (S.Serves question (bare 68 0) left) L.Nothing ∷ []
+serves at left = S.Feeds at stranger post_bytes 0 (L.Becomes (L.Request request true))
+    (Some (asked_of stranger request, request)) (S.Serves question (bare 68 0) left) L.Nothing ∷ []
 
 abbrev pub replays : ℕ → List S.Call
 replays at = S.Feeds at stranger post_bytes 0 (L.Becomes L.Replayed) None S.Silent L.Nothing ∷ []
@@ -83,13 +91,31 @@ second_change = store.further 0 log (held 1 (codes "x")) (held 2 (codes "xa")) a
 third_change : Changes b 247001 log (Some (held 3 (codes "xaa"))) c
 third_change = store.further 247001 log (held 2 (codes "xa")) (held 3 (codes "xaa")) b.tally
 
-first_sendable : IsSpelled (content_of (asked_of stranger request) (response_to a [] (asked_of stranger request) question (bare 68 0)))
+first_sendable : IsSpelled (content_of (asked_of stranger request)
+    (response_to a [] (asked_of stranger request) question (bare 68 0)))
 unfolding option_bytes options_bytes
-first_sendable = (sendable_when_short _ (record { some = omega arith; code = omega arith; id = omega arith; token = omega arith; order = refl; numbers = refl; short = refl }) (omega arith)).spelled
+first_sendable = (sendable_when_short _ (record {
+  some = omega arith;
+  code = omega arith;
+  id = omega arith;
+  token = omega arith;
+  order = refl;
+  numbers = refl;
+  short = refl;
+}) (omega arith)).spelled
 
-later_sendable : IsSpelled (content_of (asked_of stranger request) (response_to b [] (asked_of stranger request) question (bare 68 0)))
+later_sendable : IsSpelled (content_of (asked_of stranger request)
+    (response_to b [] (asked_of stranger request) question (bare 68 0)))
 unfolding option_bytes options_bytes
-later_sendable = (sendable_when_short _ (record { some = omega arith; code = omega arith; id = omega arith; token = omega arith; order = refl; numbers = refl; short = refl }) (omega arith)).spelled
+later_sendable = (sendable_when_short _ (record {
+  some = omega arith;
+  code = omega arith;
+  id = omega arith;
+  token = omega arith;
+  order = refl;
+  numbers = refl;
+  short = refl;
+}) (omega arith)).spelled
 
 rows : ServerRows 4194303 6 calls
 unfolding option_bytes options_bytes
@@ -111,7 +137,16 @@ rows = (
                 tt,
                 (
                   refl,
-                  (tt, (tt, (record { reply = bare 68 0; left = b; serves = (refl, second_change); is = refl }, (tt, ((refl, first_change), tt))))),
+                  (
+                    tt,
+                    (
+                      tt,
+                      (
+                        record { reply = bare 68 0; left = b; serves = (refl, second_change); is = refl },
+                        (tt, ((refl, first_change), tt)),
+                      ),
+                    ),
+                  ),
                 ),
               ),
             ),
@@ -125,7 +160,31 @@ rows = (
 answered : answerer.AnswererLaw (lower_of 4194303 6 calls)
 answered = (
   tt,
-  (tt, (refl, (tt, (tt, (refl, (tt, (tt, (refl, (tt, (tt, ((refl, record { code = refl; spelled = first_sendable }, refl), (refl, (tt, tt))))))))))))),
+  (
+    tt,
+    (
+      refl,
+      (
+        tt,
+        (
+          tt,
+          (
+            refl,
+            (
+              tt,
+              (
+                tt,
+                (
+                  refl,
+                  (tt, (tt, ((refl, record { code = refl; spelled = first_sendable }, refl), (refl, (tt, tt))))),
+                ),
+              ),
+            ),
+          ),
+        ),
+      ),
+    ),
+  ),
 )
 
 rows_later : ServerRows 4194303 6 calls_later
@@ -156,7 +215,13 @@ rows_later = (
                         refl,
                         (
                           tt,
-                          (tt, (record { reply = bare 68 0; left = b; serves = (refl, second_change); is = refl }, (tt, ((refl, first_change), tt)))),
+                          (
+                            tt,
+                            (
+                              record { reply = bare 68 0; left = b; serves = (refl, second_change); is = refl },
+                              (tt, ((refl, first_change), tt)),
+                            ),
+                          ),
                         ),
                       ),
                     ),
@@ -186,7 +251,31 @@ answered_later = (
             tt,
             (
               refl,
-              (tt, (tt, (refl, (tt, (tt, (refl, (tt, (tt, ((refl, record { code = refl; spelled = first_sendable }, refl), (refl, (tt, tt))))))))))),
+              (
+                tt,
+                (
+                  tt,
+                  (
+                    refl,
+                    (
+                      tt,
+                      (
+                        tt,
+                        (
+                          refl,
+                          (
+                            tt,
+                            (
+                              tt,
+                              ((refl, record { code = refl; spelled = first_sendable }, refl), (refl, (tt, tt))),
+                            ),
+                          ),
+                        ),
+                      ),
+                    ),
+                  ),
+                ),
+              ),
             ),
           ),
         ),
@@ -201,17 +290,25 @@ abbrev run_first : List Asked
 run_first = answerer.lower_of (lower_of 4194303 6 (calls_first))
 
 abbrev pub left_first : State
-left_first = record (start 0) { arrived = record { from = stranger; id = 0x0a01; at = 0; con = true; reply = Some posted_bytes } ∷ [] }
+left_first = record (start 0) {
+  arrived = record
+      { from = stranger; id = 0x0a01; at = 0; con = true; reply = Some posted_bytes } ∷ [];
+}
 
 pub steps_first : Steps (start 0) run_first left_first
-unfolding decoded frame_fault body_at walk walk_of option_at nibbles_at value_at extended payload_at option_bytes options_bytes
+unfolding decoded frame_fault body_at walk walk_of option_at nibbles_at value_at extended payload_at option_bytes
+    options_bytes
 steps_first = (
   _,
   (
     _,
     (
       _,
-      (_, (_, refl, record { may = tt; right = refl; new_is = refl }), record { may = bytes_are post_bytes refl; right = refl; new_is = refl }),
+      (
+        _,
+        (_, refl, record { may = tt; right = refl; new_is = refl }),
+        record { may = bytes_are post_bytes refl; right = refl; new_is = refl },
+      ),
       record { may = refl; right = refl; new_is = refl },
     ),
     record { may = tt; right = refl; new_is = refl },
@@ -226,7 +323,8 @@ abbrev pub left_again : State
 left_again = record left_first { clock = 247000 }
 
 pub steps_again : Steps (start 0) run_again left_again
-unfolding decoded frame_fault body_at walk walk_of option_at nibbles_at value_at extended payload_at option_bytes options_bytes
+unfolding decoded frame_fault body_at walk walk_of option_at nibbles_at value_at extended payload_at option_bytes
+    options_bytes
 steps_again = (
   _,
   (
@@ -265,15 +363,23 @@ abbrev run_later : List Asked
 run_later = answerer.lower_of (lower_of 4194303 6 (calls_later))
 
 abbrev pub left_later : State
-left_later = record left_again { clock = 247001; arrived = record { from = stranger; id = 0x0a01; at = 247001; con = true; reply = Some posted_bytes } ∷ [] }
+left_later = record left_again {
+  clock = 247001;
+  arrived = record { from = stranger; id = 0x0a01; at = 247001; con = true; reply = Some posted_bytes } ∷ [];
+}
 
 pub steps_later : Steps (start 0) run_later left_later
-unfolding decoded frame_fault body_at walk walk_of option_at nibbles_at value_at extended payload_at option_bytes options_bytes
+unfolding decoded frame_fault body_at walk walk_of option_at nibbles_at value_at extended payload_at option_bytes
+    options_bytes
 steps_later = (
   _,
   (
     _,
-    (_, (_, steps_again, record { may = bytes_are post_bytes refl; right = refl; new_is = refl }), record { may = refl; right = refl; new_is = refl }),
+    (
+      _,
+      (_, steps_again, record { may = bytes_are post_bytes refl; right = refl; new_is = refl }),
+      record { may = refl; right = refl; new_is = refl },
+    ),
     record { may = tt; right = refl; new_is = refl },
   ),
   record { may = tt; right = refl; new_is = refl },
@@ -283,4 +389,8 @@ pub lawful : ServerLaw 4194303 6 0 calls
 lawful = record { rows = rows; exchanges = record { rows = answered; left = left_again; layer = steps_again } }
 
 pub lawful_later : ServerLaw 4194303 6 0 calls_later
-lawful_later = record { rows = rows_later; exchanges = record { rows = answered_later; left = left_later; layer = steps_later } }
+lawful_later = record {
+  rows = rows_later;
+  exchanges =
+      record { rows = answered_later; left = left_later; layer = steps_later };
+}

@@ -33,7 +33,8 @@ abbrev pub copies : ℕ → List C.Call
 copies at = rests at ∷ C.Ticks at 0 (L.Copied server_end 0) turn.Copied L.Nothing (Ok []) false true ∷ []
 
 abbrev pub expires : List C.Call
-expires = rests 62000 ∷ C.Ticks 62000 0 (L.Expired server_end 0) (turn.End event.Timeout) L.Nothing (Ok []) false true ∷ []
+expires = rests 62000 ∷ C.Ticks 62000 0 (L.Expired server_end 0) (turn.End event.Timeout) L.Nothing (Ok []) false true ∷
+    []
 
 abbrev pub copied : ℕ → List C.Call
 copied at = client_turn [] (to_server call_bytes ∷ []) (copies at)
@@ -88,7 +89,25 @@ rows = (
                                   tt,
                                   (
                                     tt,
-                                    (refl, (refl, (refl, (tt, (tt, (refl, (refl, (refl, (tt, (tt, (refl, (refl, (refl, (tt, (refl, tt))))))))))))))),
+                                    (
+                                      refl,
+                                      (
+                                        refl,
+                                        (
+                                          refl,
+                                          (
+                                            tt,
+                                            (
+                                              tt,
+                                              (
+                                                refl,
+                                                (refl, (refl, (tt, (tt, (refl, (refl, (refl, (tt, (refl, tt))))))))),
+                                              ),
+                                            ),
+                                          ),
+                                        ),
+                                      ),
+                                    ),
                                   ),
                                 ),
                               ),
@@ -121,7 +140,31 @@ asked = (
           tt,
           (
             refl,
-            (refl, (tt, (tt, (refl, (refl, (tt, (tt, (refl, (refl, (tt, (tt, (refl, (refl, (tt, (tt, (refl, (refl, (refl, (tt, tt))))))))))))))))))),
+            (
+              refl,
+              (
+                tt,
+                (
+                  tt,
+                  (
+                    refl,
+                    (
+                      refl,
+                      (
+                        tt,
+                        (
+                          tt,
+                          (
+                            refl,
+                            (refl, (tt, (tt, (refl, (refl, (tt, (tt, (refl, (refl, (refl, (tt, tt))))))))))),
+                          ),
+                        ),
+                      ),
+                    ),
+                  ),
+                ),
+              ),
+            ),
           ),
         ),
       ),
@@ -142,7 +185,8 @@ left_asked = record (start 0) {
 }
 
 pub steps_asked : Steps (start 0) run_asked left_asked
-unfolding decoded frame_fault body_at walk walk_of option_at nibbles_at value_at extended payload_at option_bytes options_bytes
+unfolding decoded frame_fault body_at walk walk_of option_at nibbles_at value_at extended payload_at option_bytes
+    options_bytes
 steps_asked = (
   _,
   (
@@ -151,8 +195,24 @@ steps_asked = (
       _,
       (
         _,
-        (_, (_, refl, record { may = tt; right = refl; new_is = refl }), record { may = tt; right = refl; new_is = refl }),
-        record { may = (sendable_when_short _ (record { some = omega arith; code = omega arith; id = omega arith; token = omega arith; order = refl; numbers = refl; short = refl }) (omega arith)).spelled; right = refl; new_is = refl },
+        (
+          _,
+          (_, refl, record { may = tt; right = refl; new_is = refl }),
+          record { may = tt; right = refl; new_is = refl },
+        ),
+        record {
+          may = (sendable_when_short _ (record {
+            some = omega arith;
+            code = omega arith;
+            id = omega arith;
+            token = omega arith;
+            order = refl;
+            numbers = refl;
+            short = refl;
+          }) (omega arith)).spelled;
+          right = refl;
+          new_is = refl;
+        },
       ),
       record { may = tt; right = refl; new_is = refl },
     ),
@@ -165,10 +225,14 @@ abbrev run_twice : List Asked
 run_twice = asker.lower_of server_end 0 (lower_of 6 (calls_twice))
 
 abbrev pub left_twice : State
-left_twice = record left_asked { clock = 6000; open_cons = record { to = server_end; id = 0; bytes = call_bytes; timeout = 2000; first = 0; last = 6000 } ∷ [] }
+left_twice = record left_asked {
+  clock = 6000;
+  open_cons = record { to = server_end; id = 0; bytes = call_bytes; timeout = 2000; first = 0; last = 6000 } ∷ [];
+}
 
 pub steps_twice : Steps (start 0) run_twice left_twice
-unfolding decoded frame_fault body_at walk walk_of option_at nibbles_at value_at extended payload_at option_bytes options_bytes
+unfolding decoded frame_fault body_at walk walk_of option_at nibbles_at value_at extended payload_at option_bytes
+    options_bytes
 steps_twice = (
   _,
   (
@@ -181,7 +245,11 @@ steps_twice = (
           _,
           (
             _,
-            (_, (_, steps_asked, record { may = tt; right = refl; new_is = refl }), record { may = tt; right = refl; new_is = refl }),
+            (
+              _,
+              (_, steps_asked, record { may = tt; right = refl; new_is = refl }),
+              record { may = tt; right = refl; new_is = refl },
+            ),
             record { may = tt; right = refl; new_is = refl },
           ),
           record { may = tt; right = refl; new_is = refl },
@@ -199,10 +267,14 @@ abbrev run_copied : List Asked
 run_copied = asker.lower_of server_end 0 (lower_of 6 (calls_copied))
 
 abbrev pub left_copied : State
-left_copied = record left_twice { clock = 30000; open_cons = record { to = server_end; id = 0; bytes = call_bytes; timeout = 2000; first = 0; last = 30000 } ∷ [] }
+left_copied = record left_twice {
+  clock = 30000;
+  open_cons = record { to = server_end; id = 0; bytes = call_bytes; timeout = 2000; first = 0; last = 30000 } ∷ [];
+}
 
 pub steps_copied : Steps (start 0) run_copied left_copied
-unfolding decoded frame_fault body_at walk walk_of option_at nibbles_at value_at extended payload_at option_bytes options_bytes
+unfolding decoded frame_fault body_at walk walk_of option_at nibbles_at value_at extended payload_at option_bytes
+    options_bytes
 steps_copied = (
   _,
   (
@@ -215,7 +287,11 @@ steps_copied = (
           _,
           (
             _,
-            (_, (_, steps_twice, record { may = tt; right = refl; new_is = refl }), record { may = tt; right = refl; new_is = refl }),
+            (
+              _,
+              (_, steps_twice, record { may = tt; right = refl; new_is = refl }),
+              record { may = tt; right = refl; new_is = refl },
+            ),
             record { may = tt; right = refl; new_is = refl },
           ),
           record { may = tt; right = refl; new_is = refl },
@@ -236,10 +312,15 @@ abbrev pub left_expired : State
 left_expired = record left_copied { clock = 62000; open_cons = [] }
 
 pub steps_expired : Steps (start 0) run_expired left_expired
-unfolding decoded frame_fault body_at walk walk_of option_at nibbles_at value_at extended payload_at option_bytes options_bytes
+unfolding decoded frame_fault body_at walk walk_of option_at nibbles_at value_at extended payload_at option_bytes
+    options_bytes
 steps_expired = (
   _,
-  (_, (_, steps_copied, record { may = tt; right = refl; new_is = refl }), record { may = tt; right = refl; new_is = refl }),
+  (
+    _,
+    (_, steps_copied, record { may = tt; right = refl; new_is = refl }),
+    record { may = tt; right = refl; new_is = refl },
+  ),
   record { may = tt; right = refl; new_is = refl },
 )
 

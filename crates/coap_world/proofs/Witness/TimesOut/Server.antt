@@ -37,7 +37,14 @@ changes = store.further 130000 log (held 1 (codes "x")) (held 2 (codes "xa")) a.
 -- the request
 
 abbrev pub request : Message
-request = record { kind = Con; code = 2; id = 0; token = token; options = record { number = 11; value = codes "log" } ∷ []; payload = codes "a" }
+request = record {
+  kind = Con;
+  code = 2;
+  id = 0;
+  token = token;
+  options = record { number = 11; value = codes "log" } ∷ [];
+  payload = codes "a";
+}
 
 abbrev pub question : Question
 question = record { method = Post; path = log; options = request.options; body = codes "a"; szx = 6 }
@@ -45,18 +52,37 @@ question = record { method = Post; path = log; options = request.options; body =
 -- the calls of each turn, the newest first
 
 abbrev pub serves : List S.Call
-serves = S.Feeds 130000 client_end call_bytes 0 (L.Becomes (L.Request request true)) (Some (asked_of client_end request, request)) (S.Serves question (bare 68 0) late) L.Nothing ∷ []
+serves = S.Feeds 130000 client_end call_bytes 0 (L.Becomes (L.Request request true))
+    (Some (asked_of client_end request, request)) (S.Serves question (bare 68 0) late) L.Nothing ∷ []
 
 abbrev pub calls : List S.Call
 calls = server_turn (to_client changed_bytes ∷ []) serves ++ server_turn [] set
 
-sendable : IsSpelled (content_of (asked_of client_end request) (response_to a [] (asked_of client_end request) question (bare 68 0)))
+sendable : IsSpelled (content_of (asked_of client_end request)
+    (response_to a [] (asked_of client_end request) question (bare 68 0)))
 unfolding option_bytes options_bytes
-sendable = (sendable_when_short _ (record { some = omega arith; code = omega arith; id = omega arith; token = omega arith; order = refl; numbers = refl; short = refl }) (omega arith)).spelled
+sendable = (sendable_when_short _ (record {
+  some = omega arith;
+  code = omega arith;
+  id = omega arith;
+  token = omega arith;
+  order = refl;
+  numbers = refl;
+  short = refl;
+}) (omega arith)).spelled
 
 rows : ServerRows 4194303 6 calls
 unfolding option_bytes options_bytes
-rows = (tt, (tt, (record { reply = bare 68 0; left = late; serves = (refl, changes); is = refl }, (tt, ((refl, first_change), tt)))))
+rows = (
+  tt,
+  (
+    tt,
+    (
+      record { reply = bare 68 0; left = late; serves = (refl, changes); is = refl },
+      (tt, ((refl, first_change), tt)),
+    ),
+  ),
+)
 
 answered : answerer.AnswererLaw (lower_of 4194303 6 calls)
 answered = (tt, (tt, ((refl, record { code = refl; spelled = sendable }, refl), (refl, (tt, tt)))))
@@ -65,14 +91,19 @@ abbrev run : List Asked
 run = answerer.lower_of (lower_of 4194303 6 calls)
 
 steps : Steps (start 0) run (left_after (start 0) run)
-unfolding decoded frame_fault body_at walk walk_of option_at nibbles_at value_at extended payload_at option_bytes options_bytes
+unfolding decoded frame_fault body_at walk walk_of option_at nibbles_at value_at extended payload_at option_bytes
+    options_bytes
 steps = (
   _,
   (
     _,
     (
       _,
-      (_, (_, refl, record { may = tt; right = refl; new_is = refl }), record { may = bytes_are call_bytes refl; right = refl; new_is = refl }),
+      (
+        _,
+        (_, refl, record { may = tt; right = refl; new_is = refl }),
+        record { may = bytes_are call_bytes refl; right = refl; new_is = refl },
+      ),
       record { may = refl; right = refl; new_is = refl },
     ),
     record { may = tt; right = refl; new_is = refl },

@@ -43,7 +43,14 @@ makes = store.first 4194303 3 t held
 
 abbrev pub request : ℕ → ℕ → List ℕ → Message
 request n block payload =
-    record { kind = Con; code = 3; id = n; token = key n; options = record { number = 11; value = codes "t" } ∷ record { number = 27; value = block ∷ [] } ∷ []; payload = payload }
+    record {
+      kind = Con;
+      code = 3;
+      id = n;
+      token = key n;
+      options = record { number = 11; value = codes "t" } ∷ record { number = 27; value = block ∷ [] } ∷ [];
+      payload = payload;
+    }
 
 abbrev pub first_block : Message
 first_block = request 0 8 (codes "0123456789abcdef")
@@ -60,10 +67,12 @@ question = record { method = Put; path = t; options = last_block.options; body =
 -- the calls of each turn, the newest first
 
 abbrev pub first : List S.Call
-first = S.Feeds 1 client_end (block_bytes 0 8 (codes "0123456789abcdef")) 0 (L.Becomes (L.Request first_block true)) (Some (asked_of client_end first_block, first_block)) (S.Replies continues) L.Nothing ∷ []
+first = S.Feeds 1 client_end (block_bytes 0 8 (codes "0123456789abcdef")) 0 (L.Becomes (L.Request first_block true))
+    (Some (asked_of client_end first_block, first_block)) (S.Replies continues) L.Nothing ∷ []
 
 abbrev pub last : List S.Call
-last = S.Feeds 3 client_end (block_bytes 1 16 (codes "g")) 0 (L.Becomes (L.Request last_block true)) (Some (asked_of client_end last_block, last_block)) (S.Serves question (bare created 0) made) L.Nothing ∷ []
+last = S.Feeds 3 client_end (block_bytes 1 16 (codes "g")) 0 (L.Becomes (L.Request last_block true))
+    (Some (asked_of client_end last_block, last_block)) (S.Serves question (bare created 0) made) L.Nothing ∷ []
 
 abbrev calls_first : List S.Call
 calls_first = server_turn (to_client (answer_bytes 0x5f 0 8) ∷ []) first
@@ -73,15 +82,41 @@ calls = server_turn (to_client (answer_bytes 0x41 1 16) ∷ []) last ++ calls_fi
 
 continues_sendable : IsSpelled (content_of (asked_of client_end first_block) continues)
 unfolding option_bytes options_bytes
-continues_sendable = (sendable_when_short _ (record { some = omega arith; code = omega arith; id = omega arith; token = omega arith; order = refl; numbers = refl; short = refl }) (omega arith)).spelled
+continues_sendable = (sendable_when_short _ (record {
+  some = omega arith;
+  code = omega arith;
+  id = omega arith;
+  token = omega arith;
+  order = refl;
+  numbers = refl;
+  short = refl;
+}) (omega arith)).spelled
 
-created_sendable : IsSpelled (content_of (asked_of client_end last_block) (response_to (nothing 4194303) [] (asked_of client_end last_block) question (bare created 0)))
+created_sendable : IsSpelled (content_of (asked_of client_end last_block)
+    (response_to (nothing 4194303) [] (asked_of client_end last_block) question (bare created 0)))
 unfolding option_bytes options_bytes
-created_sendable = (sendable_when_short _ (record { some = omega arith; code = omega arith; id = omega arith; token = omega arith; order = refl; numbers = refl; short = refl }) (omega arith)).spelled
+created_sendable = (sendable_when_short _ (record {
+  some = omega arith;
+  code = omega arith;
+  id = omega arith;
+  token = omega arith;
+  order = refl;
+  numbers = refl;
+  short = refl;
+}) (omega arith)).spelled
 
 rows : ServerRows 4194303 6 calls
 unfolding option_bytes options_bytes
-rows = (tt, (tt, (record { reply = bare created 0; left = made; serves = (refl, makes); is = refl }, (tt, (tt, (refl, tt))))))
+rows = (
+  tt,
+  (
+    tt,
+    (
+      record { reply = bare created 0; left = made; serves = (refl, makes); is = refl },
+      (tt, (tt, (refl, tt))),
+    ),
+  ),
+)
 
 answered : answerer.AnswererLaw (lower_of 4194303 6 calls)
 answered = (
@@ -107,14 +142,23 @@ left_first = record (start 0) {
 }
 
 pub steps_first : Steps (start 0) run_first left_first
-unfolding decoded frame_fault body_at walk walk_of option_at nibbles_at value_at extended payload_at option_bytes options_bytes
+unfolding decoded frame_fault body_at walk walk_of option_at nibbles_at value_at extended payload_at option_bytes
+    options_bytes
 steps_first = (
   _,
   (
     _,
     (
       _,
-      (_, refl, record { may = bytes_are (block_bytes 0 8 (codes "0123456789abcdef")) refl; right = refl; new_is = refl }),
+      (
+        _,
+        refl,
+        record {
+          may = bytes_are (block_bytes 0 8 (codes "0123456789abcdef")) refl;
+          right = refl;
+          new_is = refl;
+        },
+      ),
       record { may = refl; right = refl; new_is = refl },
     ),
     record { may = tt; right = refl; new_is = refl },
@@ -135,7 +179,8 @@ left_last = record left_first {
 }
 
 pub steps_last : Steps (start 0) run_last left_last
-unfolding decoded frame_fault body_at walk walk_of option_at nibbles_at value_at extended payload_at option_bytes options_bytes
+unfolding decoded frame_fault body_at walk walk_of option_at nibbles_at value_at extended payload_at option_bytes
+    options_bytes
 steps_last = (
   _,
   (

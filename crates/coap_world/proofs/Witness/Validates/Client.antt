@@ -14,7 +14,8 @@ use Rattle.coap_ends.specs.ClientSide.ClientTrace as C
 use Rattle.coap_ends.specs.ClientSide.ClientLaw.{ClientLaw, ClientRows, lower_of}
 use Rattle.coap_world.specs.Events.{server_end}
 use Rattle.coap_world.specs.LegalRuns.{tag, reported}
-use Rattle.coap_world.specs.CallRuns.{validate, join, reported_next, changed, validate_bytes, valid_bytes, join_bytes, joined_bytes}
+use Rattle.coap_world.specs.CallRuns.{validate, join, reported_next, changed, validate_bytes, valid_bytes, join_bytes}
+use Rattle.coap_world.specs.CallRuns.{joined_bytes}
 use Rattle.coap_world.proofs.Witness.Exchanges.{option, response, sends, ends}
 use Rattle.coap_world.proofs.Witness.InWords.{bytes_are}
 use Rattle.coap_world.proofs.Witness.TurnsMade.{client_turn, to_server}
@@ -75,7 +76,28 @@ rows = (
               tt,
               (
                 refl,
-                (refl, (refl, (tt, (refl, (refl, (refl, (tt, (tt, (refl, (tt, (tt, (refl, (refl, (refl, (tt, (refl, tt)))))))))))))))),
+                (
+                  refl,
+                  (
+                    refl,
+                    (
+                      tt,
+                      (
+                        refl,
+                        (
+                          refl,
+                          (
+                            refl,
+                            (
+                              tt,
+                              (tt, (refl, (tt, (tt, (refl, (refl, (refl, (tt, (refl, tt))))))))),
+                            ),
+                          ),
+                        ),
+                      ),
+                    ),
+                  ),
+                ),
               ),
             ),
           ),
@@ -86,7 +108,28 @@ rows = (
 )
 
 asked : asker.AskerLaw server_end 0 (lower_of 6 calls)
-asked = (tt, (refl, (tt, (tt, (refl, (refl, (refl, (tt, (tt, (refl, (tt, (tt, (refl, (refl, (refl, (tt, tt))))))))))))))))
+asked = (
+  tt,
+  (
+    refl,
+    (
+      tt,
+      (
+        tt,
+        (
+          refl,
+          (
+            refl,
+            (
+              refl,
+              (tt, (tt, (refl, (tt, (tt, (refl, (refl, (refl, (tt, tt))))))))),
+            ),
+          ),
+        ),
+      ),
+    ),
+  ),
+)
 
 -- the steps of its message layer
 
@@ -97,7 +140,8 @@ abbrev pub left_first : State
 left_first = record (start 0) { clock = 2; upcoming = 1; last_used = Some 0 ∷ replicate 15 None }
 
 pub steps_first : Steps (start 0) run_first left_first
-unfolding decoded frame_fault body_at walk walk_of option_at nibbles_at value_at extended payload_at option_bytes options_bytes
+unfolding decoded frame_fault body_at walk walk_of option_at nibbles_at value_at extended payload_at option_bytes
+    options_bytes
 steps_first = (
   _,
   (
@@ -112,8 +156,24 @@ steps_first = (
             _,
             (
               _,
-              (_, (_, refl, record { may = tt; right = refl; new_is = refl }), record { may = tt; right = refl; new_is = refl }),
-              record { may = (sendable_when_short _ (record { some = omega arith; code = omega arith; id = omega arith; token = omega arith; order = refl; numbers = refl; short = refl }) (omega arith)).spelled; right = refl; new_is = refl },
+              (
+                _,
+                (_, refl, record { may = tt; right = refl; new_is = refl }),
+                record { may = tt; right = refl; new_is = refl },
+              ),
+              record {
+                may = (sendable_when_short _ (record {
+                  some = omega arith;
+                  code = omega arith;
+                  id = omega arith;
+                  token = omega arith;
+                  order = refl;
+                  numbers = refl;
+                  short = refl;
+                }) (omega arith)).spelled;
+                right = refl;
+                new_is = refl;
+              },
             ),
             record { may = tt; right = refl; new_is = refl },
           ),
@@ -135,7 +195,8 @@ abbrev pub left_last : State
 left_last = record left_first { clock = 5; upcoming = 2; last_used = Some 3 ∷ replicate 15 None }
 
 pub steps_last : Steps (start 0) run_last left_last
-unfolding decoded frame_fault body_at walk walk_of option_at nibbles_at value_at extended payload_at option_bytes options_bytes
+unfolding decoded frame_fault body_at walk walk_of option_at nibbles_at value_at extended payload_at option_bytes
+    options_bytes
 steps_last = (
   _,
   (
@@ -150,8 +211,24 @@ steps_last = (
             _,
             (
               _,
-              (_, (_, steps_first, record { may = tt; right = refl; new_is = refl }), record { may = tt; right = refl; new_is = refl }),
-              record { may = (sendable_when_short _ (record { some = omega arith; code = omega arith; id = omega arith; token = omega arith; order = refl; numbers = refl; short = refl }) (omega arith)).spelled; right = refl; new_is = refl },
+              (
+                _,
+                (_, steps_first, record { may = tt; right = refl; new_is = refl }),
+                record { may = tt; right = refl; new_is = refl },
+              ),
+              record {
+                may = (sendable_when_short _ (record {
+                  some = omega arith;
+                  code = omega arith;
+                  id = omega arith;
+                  token = omega arith;
+                  order = refl;
+                  numbers = refl;
+                  short = refl;
+                }) (omega arith)).spelled;
+                right = refl;
+                new_is = refl;
+              },
             ),
             record { may = tt; right = refl; new_is = refl },
           ),

@@ -47,7 +47,14 @@ b = one t (held 2 (codes "b")) (counted a.tally 3)
 -- the request, what it is answered, and whom it registers
 
 abbrev pub request : Message
-request = record { kind = Con; code = 1; id = 0x1234; token = 0x7a ∷ []; options = record { number = 6; value = [] } ∷ record { number = 11; value = codes "t" } ∷ []; payload = [] }
+request = record {
+  kind = Con;
+  code = 1;
+  id = 0x1234;
+  token = 0x7a ∷ [];
+  options = record { number = 6; value = [] } ∷ record { number = 11; value = codes "t" } ∷ [];
+  payload = [];
+}
 
 abbrev pub asked : Request
 asked = asked_of stranger request
@@ -56,7 +63,14 @@ abbrev pub question : Question
 question = record { method = Get; path = t; options = request.options; body = []; szx = 6 }
 
 abbrev pub content : ℕ → List ℕ → Reply
-content version body = record { code = 69; tag = Some (tag version); format = Some plain; block2 = None; part = body; offset = 0 }
+content version body = record {
+  code = 69;
+  tag = Some (tag version);
+  format = Some plain;
+  block2 = None;
+  part = body;
+  offset = 0;
+}
 
 abbrev pub observer : Observer
 observer = record { to = stranger; token = 0x7a ∷ []; path = t; szx = 6; marked = true }
@@ -70,7 +84,8 @@ abbrev pub first_set : List S.Call
 first_set = S.Sets 0 t (Some plain) (codes "a") (Ok 1) a ∷ []
 
 abbrev pub fed : List S.Call
-fed = S.Feeds 1 stranger watch_bytes 0 (L.Becomes (L.Request request true)) (Some (asked, request)) (S.Serves question (content 1 (codes "a")) a) L.Nothing ∷ []
+fed = S.Feeds 1 stranger watch_bytes 0 (L.Becomes (L.Request request true)) (Some (asked, request))
+    (S.Serves question (content 1 (codes "a")) a) L.Nothing ∷ []
 
 abbrev pub second_set : List S.Call
 second_set = S.Sets 3 t (Some plain) (codes "b") (Ok 2) b ∷ []
@@ -82,7 +97,8 @@ ticked =
     []
 
 abbrev pub calls : List S.Call
-calls = server_turn (to_stranger notice_bytes ∷ []) ticked ++ (server_turn [] second_set ++ (server_turn (to_stranger watched_bytes ∷ []) fed ++ server_turn [] first_set))
+calls = server_turn (to_stranger notice_bytes ∷ []) ticked
+    ++ (server_turn [] second_set ++ (server_turn (to_stranger watched_bytes ∷ []) fed ++ server_turn [] first_set))
 
 pub first_change : Changes (nothing 4194303) 0 t (Some (held 1 (codes "a"))) a
 first_change = first 4194303 0 t (held 1 (codes "a"))
@@ -92,11 +108,27 @@ second = further 3 t (held 1 (codes "a")) (held 2 (codes "b")) a.tally
 
 answer_sendable : IsSpelled (content_of asked (response_to a [] asked question (content 1 (codes "a"))))
 unfolding option_bytes options_bytes
-answer_sendable = (sendable_when_short _ (record { some = omega arith; code = omega arith; id = omega arith; token = omega arith; order = refl; numbers = refl; short = refl }) (omega arith)).spelled
+answer_sendable = (sendable_when_short _ (record {
+  some = omega arith;
+  code = omega arith;
+  id = omega arith;
+  token = omega arith;
+  order = refl;
+  numbers = refl;
+  short = refl;
+}) (omega arith)).spelled
 
 notice_sendable : IsSpelled (content_with (0x7a ∷ []) (notification b observer (content 2 (codes "b"))))
 unfolding option_bytes options_bytes
-notice_sendable = (sendable_when_short _ (record { some = omega arith; code = omega arith; id = omega arith; token = omega arith; order = refl; numbers = refl; short = refl }) (omega arith)).spelled
+notice_sendable = (sendable_when_short _ (record {
+  some = omega arith;
+  code = omega arith;
+  id = omega arith;
+  token = omega arith;
+  order = refl;
+  numbers = refl;
+  short = refl;
+}) (omega arith)).spelled
 
 rows : ServerRows 4194303 6 calls
 unfolding option_bytes options_bytes
@@ -112,7 +144,16 @@ rows = (
           tt,
           (
             (refl, second),
-            (tt, (tt, (record { reply = content 1 (codes "a"); left = a; serves = (refl, refl); is = refl }, (tt, ((refl, first_change), tt))))),
+            (
+              tt,
+              (
+                tt,
+                (
+                  record { reply = content 1 (codes "a"); left = a; serves = (refl, refl); is = refl },
+                  (tt, ((refl, first_change), tt)),
+                ),
+              ),
+            ),
           ),
         ),
       ),
@@ -129,7 +170,25 @@ answered = (
       refl,
       (
         record { code = refl; spelled = notice_sendable },
-        (tt, (refl, (tt, (tt, (tt, ((refl, record { code = refl; spelled = answer_sendable }, refl), (refl, (tt, tt)))))))),
+        (
+          tt,
+          (
+            refl,
+            (
+              tt,
+              (
+                tt,
+                (
+                  tt,
+                  (
+                    (refl, record { code = refl; spelled = answer_sendable }, refl),
+                    (refl, (tt, tt)),
+                  ),
+                ),
+              ),
+            ),
+          ),
+        ),
       ),
     ),
   ),
@@ -139,7 +198,8 @@ abbrev run : List Asked
 run = answerer.lower_of (lower_of 4194303 6 calls)
 
 steps : Steps (start 0) run (left_after (start 0) run)
-unfolding decoded frame_fault body_at walk walk_of option_at nibbles_at value_at extended payload_at option_bytes options_bytes
+unfolding decoded frame_fault body_at walk walk_of option_at nibbles_at value_at extended payload_at option_bytes
+    options_bytes
 steps = (
   _,
   (

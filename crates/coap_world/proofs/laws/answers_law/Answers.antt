@@ -6,10 +6,12 @@ use Rattle.coap_world.proofs.Requests.Promised.{lawful}
 use Rattle.coap_world.proofs.laws.answers_law.Goals as goal
 
 pub returns-clause-answered : goal.returns-clause-answered
-returns-clause-answered c config events turns run legal = all_answered config (entries_of turns) (lawful config events turns run legal)
+returns-clause-answered c config events turns run legal =
+    all_answered config (entries_of turns) (lawful config events turns run legal)
 
 pub returns-clause-given : goal.returns-clause-given
 returns-clause-given c config events turns run legal = all_given config turns run.made run.client.rows
 
 pub returns-clause-noticed : goal.returns-clause-noticed
-returns-clause-noticed c config events turns run legal = all_noticed config (entries_of turns) (lawful config events turns run legal)
+returns-clause-noticed c config events turns run legal =
+    all_noticed config (entries_of turns) (lawful config events turns run legal)

@@ -16,7 +16,9 @@ pub returns-clause-channel : goal.returns-clause-channel
 returns-clause-channel c config events turns made legal = joined.channel config events turns made legal.events
 
 pub returns-clause-back : goal.returns-clause-back
-returns-clause-back c config events turns made legal = channel_across config.client_word config.server_word client_end server_end (hops_of config turns) (joined.channel config events turns made legal.events)
+returns-clause-back c config events turns made legal =
+    channel_across config.client_word config.server_word client_end server_end (hops_of config turns)
+    (joined.channel config events turns made legal.events)
 
 pub returns-clause-at_once : goal.returns-clause-at_once
 returns-clause-at_once c config events turns made legal = (joined.run config events turns made legal.events).sent

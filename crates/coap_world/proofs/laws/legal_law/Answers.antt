@@ -6,4 +6,22 @@ use Rattle.coap_world.proofs.Witness.NoneRuns.{not_after, never, not_of_client, 
 use Rattle.coap_world.proofs.laws.legal_law.Goals as goal
 
 pub returns : goal.returns
-returns c = record { comes = may_come; late = not_after; calls = calls_may; observes = observes_may; ends = ends_may; sets = sets_may; removes = removes_may; ticks = ticks_may; strangers = strangers_may; deliveries = deliveries_may; falls = none_falls; over = none_over; longer = none_longer; beyond = none_beyond; given = never; of_client = not_of_client; of_server = not_of_server }
+returns c = record {
+  comes = may_come;
+  late = not_after;
+  calls = calls_may;
+  observes = observes_may;
+  ends = ends_may;
+  sets = sets_may;
+  removes = removes_may;
+  ticks = ticks_may;
+  strangers = strangers_may;
+  deliveries = deliveries_may;
+  falls = none_falls;
+  over = none_over;
+  longer = none_longer;
+  beyond = none_beyond;
+  given = never;
+  of_client = not_of_client;
+  of_server = not_of_server;
+}

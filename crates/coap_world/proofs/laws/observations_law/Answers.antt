@@ -5,7 +5,9 @@ use Rattle.coap_world.proofs.Observations.Rising.{all_rise}
 use Rattle.coap_world.proofs.laws.observations_law.Goals as goal
 
 pub returns-clause-rising : goal.returns-clause-rising
-returns-clause-rising c config events turns run legal = all_rise config (entries_of turns) (lawful config events turns run legal)
+returns-clause-rising c config events turns run legal =
+    all_rise config (entries_of turns) (lawful config events turns run legal)
 
 pub returns-clause-named : goal.returns-clause-named
-returns-clause-named c config events turns run legal = all_named config (entries_of turns) (lawful config events turns run legal)
+returns-clause-named c config events turns run legal =
+    all_named config (entries_of turns) (lawful config events turns run legal)

@@ -8,10 +8,12 @@ pub returns-clause-step : goal.returns-clause-step
 returns-clause-step g c = search rules
 
 pub invariant_of-self : goal.invariant_of-self
-invariant_of-self g c = led_on (NextOut c.next_out.result) _ _ (seen_led g.S.Store.content _ _ c.self.view_is c.self.invariant) (returns-clause-step g c)
+invariant_of-self g c = led_on (NextOut c.next_out.result) _ _
+    (seen_led g.S.Store.content _ _ c.self.view_is c.self.invariant) (returns-clause-step g c)
 
 pub returns-clause-none : goal.returns-clause-none
-returns-clause-none g c = if_none c.next_out.result _ _ (seen_led g.S.Store.content _ _ c.self.view_is c.self.invariant) (returns-clause-step g c)
+returns-clause-none g c = if_none c.next_out.result _ _ (seen_led g.S.Store.content _ _ c.self.view_is c.self.invariant)
+    (returns-clause-step g c)
 
 pub returns-clause-some : goal.returns-clause-some
 returns-clause-some g c = if_some c.next_out.result _ _ (returns-clause-step g c)

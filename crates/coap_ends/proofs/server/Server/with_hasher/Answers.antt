@@ -12,5 +12,7 @@ invariant_of-result g c = (
   c.args.szx,
   c.args.word,
   [],
-  subst (λ s. Led c.requires.fresh.0 c.args.szx c.args.word [] s) (sym (returns-clause-start g c c.requires.fresh.0 c.requires.fresh.1)) (led_empty c.requires.fresh.0 c.args.szx c.args.word),
+  subst (λ s. Led c.requires.fresh.0 c.args.szx c.args.word [] s)
+      (sym (returns-clause-start g c c.requires.fresh.0 c.requires.fresh.1))
+      (led_empty c.requires.fresh.0 c.args.szx c.args.word),
 )

@@ -5,4 +5,5 @@ use Rattle.coap_ends.proofs.server.deferring.delay_of.Given as goal
 
 -- none of those before has the path
 abbrev pub invariant-loop-delay : goal.invariant-loop-delay
-invariant-loop-delay g l = delay_of l.path (map delay_as (drop l.delay-index l.delays)) ≡ delay_of l.path (map delay_as l.delays)
+invariant-loop-delay g l = delay_of l.path (map delay_as (drop l.delay-index l.delays))
+    ≡ delay_of l.path (map delay_as l.delays)

@@ -12,5 +12,6 @@ returns g c =
     IfOk-weaker c.recognised.result _ _
     (λ found all.
     subst (λ (os : List CoapOption). Recognised Request os (options_of found.0.items) found.1)
-    (items_from_drains all.0 (all.1.1.0, all.1.1.1, λ whole. (all.1.0, all.1.1.2)) (YieldsList-from_first option_of (λ (s : List CoapOption). s) _ c.options.ensures.list)) all.2)
+    (items_from_drains all.0 (all.1.1.0, all.1.1.1, λ whole. (all.1.0, all.1.1.2))
+    (YieldsList-from_first option_of (λ (s : List CoapOption). s) _ c.options.ensures.list)) all.2)
     c.recognised.ensures

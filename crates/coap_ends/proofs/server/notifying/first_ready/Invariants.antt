@@ -9,7 +9,8 @@ use Rattle.coap_ends.proofs.server.notifying.first_ready.Given as goal
 abbrev pub invariant-observers : goal.invariant-observers
 invariant-observers g l = record {
   asked : Exchanged l.initial.exchanges.state (passing l.at.0 l.passed (marked l.observers)) l.exchanges.state;
-  same : (there : Endpoint) → takes_con l.exchanges.state l.at.0 there ≡ takes_con l.initial.exchanges.state l.at.0 there;
+  same : (there : Endpoint) → takes_con l.exchanges.state l.at.0 there
+      ≡ takes_con l.initial.exchanges.state l.at.0 there;
   before : l.exchanges.before ≡ l.initial.exchanges.before;
   within : l.passed ≤ length (marked l.observers);
 }

@@ -12,5 +12,7 @@ returns-clause-response g c =
     let o = told c.args.notice.now true in
     let store = g.S.Store.content c.args.store.now in
     let said = got_plain store _ c.args.now.0 o (reply_of c.in_ok-response.response) c.in_ok-response.ensures.served in
-    let number = c.sequence_of-sequence.ensures ∙ ap (λ s. sequence ((g.S.Store.content s).holds c.args.notice.now.path.now)) (c.in_ok-response.ensures.get refl) in
-    c.of.ensures ∙ (ap (λ r. response_with r c.sequence_of-sequence.result None) said ∙ ap (λ n. response_with (next.told store o) n None) number)
+    let number = c.sequence_of-sequence.ensures ∙ ap
+    (λ s. sequence ((g.S.Store.content s).holds c.args.notice.now.path.now)) (c.in_ok-response.ensures.get refl) in
+    c.of.ensures ∙ (ap (λ r. response_with r c.sequence_of-sequence.result None) said
+    ∙ ap (λ n. response_with (next.told store o) n None) number)

@@ -13,6 +13,8 @@ returns-clause-turned g c =
     let f = c.in_ok-notice.ensures.found in
     let o = told c.in-Some.notice true in
     let store = g.S.Store.content c.args.parts.now.store in
-    one_told _ _ c.args.word f.0 _ o c.send-id.result.0 _ (g.S.Store.content c.notification.new.store) c.note_sent.new.observers (sym f.1 ∙ ap told_due c.in-Some.is) f.2 c.send-id.ensures.step
+    one_told _ _ c.args.word f.0 _ o c.send-id.result.0 _
+    (g.S.Store.content c.notification.new.store) c.note_sent.new.observers
+    (sym f.1 ∙ ap told_due c.in-Some.is) f.2 c.send-id.ensures.step
     c.in_ok-response.ensures.response (ap g.S.Store.content c.in_ok-response.ensures.store)
     (c.note_sent.ensures (store.holds o.path) o (sym c.in_ok-response.ensures.there) refl refl) refl

@@ -7,8 +7,10 @@ use Rattle.std.proofs.Common.{map}
 
 abbrev pub invariant-requests : goal.invariant-requests
 invariant-requests g l = (szx : ℕ)
-    → (question_behind (waiting_as szx) l.at.0 l.asked l.i l.waiting ≡ question_of l.at.0 l.asked (map (waiting_as szx) l.waiting))
-    × (left_behind (waiting_as szx) l.at.0 l.asked l.i l.waiting ≡ without_waiting l.at.0 l.asked (map (waiting_as szx) l.waiting))
+    → (question_behind (waiting_as szx) l.at.0 l.asked l.i l.waiting
+    ≡ question_of l.at.0 l.asked (map (waiting_as szx) l.waiting))
+    × (left_behind (waiting_as szx) l.at.0 l.asked l.i l.waiting
+    ≡ without_waiting l.at.0 l.asked (map (waiting_as szx) l.waiting))
 
 abbrev pub decreases-requests : goal.decreases-requests
 decreases-requests g l = length l.waiting - l.i

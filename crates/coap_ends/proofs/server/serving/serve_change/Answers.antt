@@ -5,4 +5,5 @@ use Rattle.coap_ends.proofs.server.serving.serve_change.Goals as goal
 
 pub returns-clause-served : goal.returns-clause-served
 returns-clause-served g c =
-    change_served _ _ _ _ _ (reply_of c.in_ok-response.response) _ _ _ _ _ c.requires.change c.in_ok-response.ensures.served (search rules) (search rules) c.last_block.ensures.block c.of.ensures
+    change_served _ _ _ _ _ (reply_of c.in_ok-response.response) _ _ _ _ _ c.requires.change
+    c.in_ok-response.ensures.served (search rules) (search rules) c.last_block.ensures.block c.of.ensures
