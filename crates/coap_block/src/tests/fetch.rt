@@ -188,15 +188,16 @@ fn parts_without_an_entity_tag_are_refused(rt: HostRuntime) -> Result<(), AllocE
     play(&rt, &mut fetch, &bytes, &rows)
 }
 
-/// Hands in full blocks with M 1, one after the other: how many are taken before one is refused as
-/// too large.
+/// Hands in full blocks with M 1, each of the number that is asked for, 0 where none is: how many are
+/// taken before one is refused as too large.
 fn blocks_until_too_large<R: Abort>(
     rt: &R,
     fetch: &mut Fetch,
     szx: Szx,
     payload: &[u8],
 ) -> Result<u32, AllocError> {
-    for num in 0..5_000 {
+    for taken in 0..5_000 {
+        let num = fetch.asked().map_or(0, |asked| asked.num);
         let block = Block {
             num,
             more: true,
@@ -206,7 +207,7 @@ fn blocks_until_too_large<R: Abort>(
             Step::Next(_) => {}
             step => {
                 check(rt, &step, payload, TOO_LARGE);
-                return Ok(num);
+                return Ok(taken);
             }
         }
     }

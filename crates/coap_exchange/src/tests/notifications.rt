@@ -157,8 +157,10 @@ fn notified<R: Abort + AllocGlobal>(rt: &R) -> Result<Answerer<Global>, AllocErr
 #[test]
 fn a_reset_ends_a_notification(rt: HostRuntime) -> Result<(), AllocError> {
     let mut answerer = notified(&rt)?;
+    // From elsewhere it ends nothing, and nothing is sent.
     is_nothing(&rt, &mut answerer, 1, OTHER, RESET)?;
     assert!(rt; answerer.ended().is_none());
+    assert!(rt; answerer.next_out().is_none());
     is_nothing(&rt, &mut answerer, 1, CLIENT, RESET)?;
     has_ended(&rt, &answerer, true);
     is_nothing(&rt, &mut answerer, 1, CLIENT, RESET)?;
