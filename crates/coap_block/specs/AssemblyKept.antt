@@ -16,7 +16,7 @@ abbrev pub key_of : {A : Type 0} → UploadKey A → Key
 key_of k = record { from = k.from; path = k.path; method = k.method }
 
 abbrev pub body_of : {A : Type 0} → Partial A → PartialBody
-body_of p = record { key = key_of p.key; bytes = p.bytes.items; last = p.last.0 }
+body_of p = record { key = key_of p.key; bytes = p.bytes; last = p.last.0 }
 
 abbrev pub partials_of : {A : Type 0} → List (Partial A) → List PartialBody
 partials_of {A} ps = map (λ (p : Partial A). body_of p) ps

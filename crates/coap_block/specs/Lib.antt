@@ -1,5 +1,6 @@
 pub mod Whole
 pub mod FetchStep
+pub mod InMemory
 pub mod FetchState
 pub mod FetchAnswer
 pub mod Gathered

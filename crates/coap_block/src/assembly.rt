@@ -144,8 +144,7 @@ fn act<A: Allocator + Copy>(
             Ok((Took::Refused(why), change))
         }
         BlockVerdict::Done => {
-            let alloc = *partials.allocator();
-            let whole = whole(alloc, partials, key, now, num, payload)?;
+            let whole = whole(partials, key, now, num, payload)?;
             let change = take_out(partials, key, now);
             Ok((Took::Whole(whole), change))
         }

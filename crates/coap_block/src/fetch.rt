@@ -3,12 +3,12 @@ ghost use Rattle.coap_block.specs.FetchStep.{start, verdict};
 ghost use Rattle.coap_block.specs.FetchTrace.{FetchTrace, Led, Made, Took};
 ghost use Rattle.coap_block.specs.FetchAnswer.{block_asked, Takes, IsNumbered, IsQuiet};
 
-use crate::body::put_at;
 use crate::fetch_judging::judge;
 use crate::fetch_progress::{Asked, Before, Progress};
 use crate::fetch_step::Step;
 use crate::fetch_verdict::Verdict;
-use coap_types::{Block, MAX_NUM, Szx, Tag, appended};
+use crate::gathering::Gathering;
+use coap_types::{Block, MAX_NUM, Szx, Tag};
 use std::alloc::{AllocError, Allocator, Global};
 use std::marker::Model;
 use std::mem;
@@ -19,7 +19,7 @@ use std::mem;
 #[derive_where(Debug)]
 pub struct Fetch<A: Allocator = Global> {
     szx: Szx,
-    bytes: Vec<u8, A>,
+    bytes: Gathering<A>,
     progress: Progress,
     before: Before,
 }
@@ -29,9 +29,9 @@ impl<A: Allocator> Model for Fetch<A> {
 
     ghost Value = { FetchValue };
 
-    ghost view = { λ f. value_of f.szx f.bytes.items f.progress f.before };
+    ghost view = { λ f. value_of f.szx f.bytes f.progress f.before };
 
-    ghost invariant = { λ f. IsGoing f.progress f.bytes.items × IsGoingBefore f.before f.bytes.items };
+    ghost invariant = { λ f. IsGoing f.progress f.bytes × IsGoingBefore f.before f.bytes };
 }
 
 impl<A: Allocator + Copy> Fetch<A> {
@@ -43,7 +43,7 @@ impl<A: Allocator + Copy> Fetch<A> {
     {
         Fetch {
             szx,
-            bytes: Vec::new(alloc),
+            bytes: Gathering::new(alloc),
             progress: Progress::start(0),
             before: Before::Nothing,
         }
@@ -95,13 +95,12 @@ impl<A: Allocator + Copy> Fetch<A> {
                 Ok(Step::Restart)
             }
             Verdict::Done => {
-                let alloc = *self.bytes.allocator();
-                let whole = appended(alloc, &self.bytes[..self.progress.len], payload)?;
+                let whole = self.bytes.whole_at(self.progress.len, payload)?;
                 self.before = Before::Was(self.progress.start_again(0));
                 Ok(Step::Whole(whole))
             }
             Verdict::Ask(num, szx) => {
-                put_at(&mut self.bytes, self.progress.len, payload)?;
+                self.bytes.put_at(self.progress.len, payload)?;
                 let next = Asked { num, szx };
                 self.before = Before::Was(self.progress.go_on(payload.len(), next, tag));
                 Ok(Step::Next(block_to_ask(num, szx)))

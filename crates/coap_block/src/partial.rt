@@ -1,8 +1,10 @@
-ghost use Rattle.std.specs.Prelude.{◌≡◌, IfOk, OnOk, OnErr};
+ghost use Rattle.std.specs.Prelude.{◌≡◌, ◌++◌, IfOk, OnOk, OnErr, length};
 ghost use Rattle.coap_block.specs.AssemblyState.{is_live};
 ghost use Rattle.coap_block.specs.AssemblyKept.{begun, body_of, cut, grown, is_there, key_of};
 
+use crate::gathering::Gathering;
 use crate::upload_key::UploadKey;
+use bytes::Bytes;
 use coap_types::Moment;
 use coap_types::transmission::EXCHANGE_LIFETIME_MS;
 use std::alloc::{AllocError, Allocator};
@@ -20,7 +22,7 @@ pub(crate) struct Partial<A: Allocator> {
     /// Of which upload.
     pub(crate) key: UploadKey<A>,
     /// The bytes from the start of the body.
-    pub(crate) bytes: Vec<u8, A>,
+    pub(crate) bytes: Gathering<A>,
     /// When its last block came.
     pub(crate) last: Moment,
 }
@@ -37,9 +39,16 @@ impl<A: Allocator + Copy> Partial<A> {
     {
         Ok(Partial {
             key: key.copy()?,
-            bytes: Vec::from_slice(alloc, payload)?,
+            bytes: Gathering::of(alloc, payload)?,
             last: now,
         })
+    }
+
+    /// How many bytes it has.
+    pub(crate) fn len(&self) -> usize
+        ensures { result ≡ length (body_of self.now).bytes }
+    {
+        self.bytes.as_slice().len()
     }
 
     /// Whether its last block is no longer ago than it is kept.
@@ -61,9 +70,19 @@ impl<A: Allocator + Copy> Partial<A> {
         ensures ok { OnOk result (body_of self.new ≡ grown payload.now now.0 (body_of self.old)) }
         ensures err { OnErr result (body_of self.new ≡ body_of self.old) }
     {
-        self.bytes.extend_from_slice(payload)?;
+        let len = self.len();
+        self.bytes.put_at(len, payload)?;
         self.last = now;
         Ok(())
+    }
+
+    /// The body with its last payload. The bytes stay as they were, as a share of it.
+    pub(crate) fn whole_with(&mut self, payload: &[u8]) -> Result<Bytes<A>, AllocError>
+        ensures whole { IfOk result (λ whole. whole ≡ (body_of self.old).bytes ++ payload.now) }
+        ensures same { body_of self.new ≡ body_of self.old }
+    {
+        let len = self.len();
+        self.bytes.whole_at(len, payload)
     }
 
     /// Cuts it to its first bytes, with its last block at that moment.

@@ -1,7 +1,6 @@
-ghost use Rattle.std.specs.Prelude.{◌≡◌, ◌<◌, ◌≤◌, ◌+◌, ◌++◌, ◌∷◌, [], filter, length, option_copied, set, IfOk};
+ghost use Rattle.std.specs.Prelude.{◌≡◌, ◌<◌, ◌≤◌, ◌+◌, ◌++◌, ◌∷◌, [], filter, length, set, IfOk};
 ghost use Rattle.std.specs.Prelude.{IfSome, OnOk, OnErr, vec_len, vec_capacity};
-ghost use Rattle.std.specs.Option.{option_map};
-ghost use Rattle.coap_block.specs.AssemblyState.{body_with, forgotten, is_live, partial_of, put, reached, with_payload};
+ghost use Rattle.coap_block.specs.AssemblyState.{body_with, forgotten, is_live, put, reached, with_payload};
 ghost use Rattle.coap_block.specs.AssemblyState.{without_key};
 ghost use Rattle.coap_block.specs.AssemblyKept.{begun, body_of, changed_at, grown, partials_of, key_of, place_of};
 ghost use Rattle.coap_block.specs.AssemblyKept.{there_of, undone, AreFew, IsUndoable};
@@ -11,26 +10,11 @@ use crate::assembly_undo::Change;
 use crate::partial::Partial;
 use crate::upload_key::UploadKey;
 use bytes::Bytes;
-use coap_types::{Moment, appended};
+use coap_types::Moment;
 use std::alloc::{AllocError, Allocator};
 use std::mem;
 
-/// The partial body of a key, where there is one.
-pub(crate) fn find<'a, A: Allocator + Copy>(
-    partials: &'a [Partial<A>],
-    key: &UploadKey<A>,
-    now: Moment,
-) -> Option<&'a Partial<A>>
-    ensures { option_map body_of (option_copied result) ≡ partial_of (key_of key.now) (there_of now.0 partials.now) }
-{
-    match partials {
-        [] => None,
-        [first, ..] if first.is_there(key, now) => Some(first),
-        [_, rest @ ..] => find(rest, key, now),
-    }
-}
-
-// Its place.
+// The place of the partial body of a key, where there is one.
 fn place_of<A: Allocator + Copy>(
     partials: &[Partial<A>],
     key: &UploadKey<A>,
@@ -66,8 +50,8 @@ pub(crate) fn counts<A: Allocator + Copy>(
     ensures others { result.1 ≡ length (without_key (key_of key.now) (there_of now.0 partials.now)) }
 {
     let live = live(partials, now);
-    match find(partials, key, now) {
-        Some(partial) => (Some(partial.bytes.len()), live - 1),
+    match place_of(partials, key, now) {
+        Some(i) => (Some(partials[i].len()), live - 1),
         None => (None, live),
     }
 }
@@ -124,7 +108,7 @@ fn grow<A: Allocator + Copy>(
     ensures room { vec_capacity partials.new ≡ vec_capacity partials.old }
 {
     let partial = &mut partials[i];
-    let change = Change::Grown(i, partial.bytes.len(), partial.last);
+    let change = Change::Grown(i, partial.len(), partial.last);
     partial.grow(payload, now)?;
     Ok(change)
 }
@@ -203,21 +187,23 @@ pub(crate) fn join<A: Allocator + Copy>(
     }
 }
 
-/// The body of a key with its last block.
+/// The body of a key with its last block. The partial bodies stay as they are.
 pub(crate) fn whole<A: Allocator + Copy>(
-    alloc: A,
-    partials: &[Partial<A>],
+    partials: &mut Vec<Partial<A>, A>,
     key: &UploadKey<A>,
     now: Moment,
     num: u32,
     payload: &[u8],
 ) -> Result<Bytes<A>, AllocError>
-    ensures { IfOk result (λ whole.
-        whole ≡ with_payload (key_of key.now) num payload.now (there_of now.0 partials.now)) }
+    ensures whole { IfOk result (λ whole.
+        whole ≡ with_payload (key_of key.now) num payload.now (there_of now.0 partials.old.items)) }
+    ensures same { partials_of partials.new.items ≡ partials_of partials.old.items }
+    ensures len { vec_len partials.new ≡ vec_len partials.old }
+    ensures room { vec_capacity partials.new ≡ vec_capacity partials.old }
 {
-    match find(partials, key, now) {
-        Some(partial) if num > 0 => appended(alloc, &partial.bytes, payload),
-        _ => appended(alloc, &[], payload),
+    match place_of(partials, key, now) {
+        Some(i) if num > 0 => partials[i].whole_with(payload),
+        _ => Bytes::copy_from_slice(*partials.allocator(), payload),
     }
 }
 

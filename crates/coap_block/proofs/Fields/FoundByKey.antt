@@ -6,7 +6,7 @@ use Rattle.std.specs.List.{remove}
 use Rattle.std.proofs.lemmas.Bool.Decides.{nat_tests}
 use Rattle.std.proofs.lemmas.List.Elements.{filter-append}
 use Rattle.coap_block.specs.AssemblyState.{Key, PartialBody, same_key, is_live, forgotten, partial_of, without_key, put}
-use Rattle.coap_block.specs.AssemblyState.{bytes_of, joined_before}
+use Rattle.coap_block.specs.AssemblyState.{bytes_of, joined_before, with_payload}
 use Rattle.coap_block.specs.declared.partial.TheConstants.{PARTIAL_LIFETIME_MS as partial_lifetime}
 use Rattle.coap_block.specs.AssemblyKept.{is_there, place_of, changed_at, grown, begun}
 use Rattle.coap_block.proofs.Facts.Keys.{same_key-decides}
@@ -141,16 +141,43 @@ at_zero n h = grind (arith, nat_tests)
 begun_lives : (key : Key) (bytes : List ℕ) (t : ℕ) → is_live t (begun key bytes t) ≡ true
 begun_lives key bytes t = let e : nat_le (t - t) partial_lifetime ≡ true = grind (arith, nat_tests) in e
 
+-- the bytes that a block goes behind
+before_there : (key : Key) (t num : ℕ) (d : PartialBody) (ps : List PartialBody) (i : ℕ) → 0 < num → place_of key t ps ≡ Some i
+    → joined_before key num (forgotten t ps) ≡ (get_or ps i d).bytes
+before_there key t num d ps i some h =
+    ap (λ (b : Bool). if b then [] else bytes_of (partial_of key (forgotten t ps))) (over_zero num some) ∙ ap bytes_of (place_found key t d ps i h)
+
+before_anew : (key : Key) (num : ℕ) (ps : List PartialBody) → num ≤ 0 → joined_before key num ps ≡ []
+before_anew key num ps none = ap (λ (b : Bool). if b then [] else bytes_of (partial_of key ps)) (at_zero num none)
+
+none_before : (b : Bool) → (if b then [] else bytes_of None) ≡ []
+none_before true = refl
+none_before false = refl
+
+before_first : (key : Key) (t num : ℕ) (ps : List PartialBody) → place_of key t ps ≡ None → joined_before key num (forgotten t ps) ≡ []
+before_first key t num ps h = ap (λ (o : Option PartialBody). if num == 0 then [] else bytes_of o) (none_found key t ps h) ∙ none_before (num == 0)
+
+-- the body that it ends
+pub whole_there : (key : Key) (t num : ℕ) (payload : List ℕ) (p : PartialBody) (ps : List PartialBody) (i : ℕ) → 0 < num → place_of key t ps ≡ Some i
+    → p ≡ get_or ps i p → p.bytes ++ payload ≡ with_payload key num payload (forgotten t ps)
+whole_there key t num payload p ps i some h is =
+    ap (λ (l : List ℕ). l ++ payload) (ap (λ (q : PartialBody). q.bytes) is ∙ sym (before_there key t num p ps i some h))
+
+pub whole_anew : (key : Key) (num : ℕ) (payload : List ℕ) (ps : List PartialBody) → num ≤ 0 → payload ≡ with_payload key num payload ps
+whole_anew key num payload ps none = ap (λ (l : List ℕ). l ++ payload) (sym (before_anew key num ps none))
+
+pub whole_first : (key : Key) (t num : ℕ) (payload : List ℕ) (ps : List PartialBody) → place_of key t ps ≡ None
+    → payload ≡ with_payload key num payload (forgotten t ps)
+whole_first key t num payload ps h = ap (λ (l : List ℕ). l ++ payload) (sym (before_first key t num ps h))
+
 -- a block behind the partial body of its key
 pub put_grown : (key : Key) (t num : ℕ) (payload : List ℕ) (ps : List PartialBody) (i : ℕ) → 0 < num → place_of key t ps ≡ Some i
     → forgotten t (changed_at (grown payload t) i ps) ≡ put (begun key (joined_before key num (forgotten t ps) ++ payload) t) (forgotten t ps)
 put_grown key t num payload ps i some h =
     let d = begun key [] t in
     let k = place_key key t d ps i h in
-    let found = place_found key t d ps i h in
     let new = grown payload t (get_or ps i d) in
-    let before : joined_before key num (forgotten t ps) ≡ (get_or ps i d).bytes =
-    ap (λ (b : Bool). if b then [] else bytes_of (partial_of key (forgotten t ps))) (over_zero num some) ∙ ap bytes_of found in
+    let before = before_there key t num d ps i some h in
     let same : new ≡ begun key (joined_before key num (forgotten t ps) ++ payload) t = λ j. record { key = k j; bytes = sym before j ++ payload; last = t } in
     let put_at : forgotten t (set ps i new) ≡ put new (forgotten t ps) =
     place_put new t (begun_lives new.key new.bytes t) ps i (ap (λ (q : Key). place_of q t ps) k ∙ h) in
@@ -161,21 +188,16 @@ put_grown key t num payload ps i some h =
 pub put_anew : (key : Key) (t num : ℕ) (payload : List ℕ) (ps : List PartialBody) (i : ℕ) → num ≤ 0 → place_of key t ps ≡ Some i
     → forgotten t (set ps i (begun key payload t)) ≡ put (begun key (joined_before key num (forgotten t ps) ++ payload) t) (forgotten t ps)
 put_anew key t num payload ps i none h =
-    let before : joined_before key num (forgotten t ps) ≡ [] = ap (λ (b : Bool). if b then [] else bytes_of (partial_of key (forgotten t ps))) (at_zero num none) in
+    let before = before_anew key num (forgotten t ps) none in
     place_put (begun key payload t) t (begun_lives key payload t) ps i h
     ∙ ap (λ (l : List ℕ). put (begun key (l ++ payload) t) (forgotten t ps)) (sym before)
-
-none_before : (b : Bool) → (if b then [] else bytes_of None) ≡ []
-none_before true = refl
-none_before false = refl
 
 -- a block of a key that has none
 pub put_first : (key : Key) (was t num : ℕ) (payload : List ℕ) (ps : List PartialBody) → was ≤ t → place_of key t ps ≡ None
     → forgotten t (forgotten was ps ++ begun key payload t ∷ []) ≡ put (begun key (joined_before key num (forgotten t ps) ++ payload) t) (forgotten t ps)
 put_first key was t num payload ps le h =
     let none = none_found key t ps h in
-    let before : joined_before key num (forgotten t ps) ≡ [] =
-    ap (λ (o : Option PartialBody). if num == 0 then [] else bytes_of o) none ∙ none_before (num == 0) in
+    let before = before_first key t num ps h in
     let new = begun key payload t in
     let lives : forgotten t (new ∷ []) ≡ new ∷ [] = rw (begun_lives key payload t) refl in
     filter-append (is_live t) (forgotten was ps) (new ∷ [])

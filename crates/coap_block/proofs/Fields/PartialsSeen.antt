@@ -113,14 +113,14 @@ kept_changed {A} f ps i y d h e =
     ∙ grown_set f (partials_of ps) i (body_of y) (body_of d) (omega (arith, h, long_as ps)) (e ∙ ap f (kept_at ps i d))
 
 pub kept_cut_back : {A : Type 0} (payload : List ℕ) (t n : ℕ) (ps : List (Partial A)) (i : ℕ) (y d : Partial A) → i < length ps
-    → d ≡ get_or ps i d → n ≡ length d.bytes.items → body_of y ≡ grown payload t (body_of d)
+    → d ≡ get_or ps i d → n ≡ length d.bytes → body_of y ≡ grown payload t (body_of d)
     → changed_at (cut n d.last.0) i (partials_of (set ps i y)) ≡ partials_of ps
 kept_cut_back {A} payload t n ps i y d h is len e =
     let back = cut_back payload t (partials_of ps) i (body_of d) (omega (arith, h, long_as ps)) in
     let at : get_or (partials_of ps) i (body_of d) ≡ body_of d = sym (kept_at ps i d) ∙ sym (ap (λ (p : Partial A). body_of p) is) in
     let as_grown = kept_changed (grown payload t) ps i y d h (e ∙ ap (λ (p : Partial A). grown payload t (body_of p)) is) in
     ap (λ (k : ℕ). changed_at (cut k d.last.0) i (partials_of (set ps i y))) len
-    ∙ ap (λ (l : List PartialBody). changed_at (cut (length d.bytes.items) d.last.0) i l) as_grown
+    ∙ ap (λ (l : List PartialBody). changed_at (cut (length d.bytes) d.last.0) i l) as_grown
     ∙ subst (λ (b : PartialBody). changed_at (cut (length b.bytes) b.last) i (changed_at (grown payload t) i (partials_of ps)) ≡ partials_of ps) at back
 
 pub kept_set : {A : Type 0} (ps : List (Partial A)) (i : ℕ) (y : Partial A) (b : PartialBody) → body_of y ≡ b → partials_of (set ps i y) ≡ set (partials_of ps) i b
