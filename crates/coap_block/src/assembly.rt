@@ -6,6 +6,7 @@ ghost use Rattle.coap_block.specs.AssemblyAnswer.{IsRefused, TakesBlock, took};
 ghost use Rattle.coap_block.specs.AssemblyTrace.{Arrived, AssemblyTrace, Led, Made};
 ghost use Rattle.coap_block.specs.AssemblyKept.{partials_of, key_of, there_of, undone, AreFew, IsUndoable};
 
+use crate::arrival::Arrival;
 use crate::assembly_judging::{MAX_PARTIALS, judge};
 use crate::assembly_step::{AssemblyRefusal, Took};
 use crate::assembly_undo::{Before, Change};
@@ -78,11 +79,18 @@ impl<A: Allocator + Copy> Assembly<A> {
     {
         let num = block.num;
         let was = self.clock;
-        let now = later(was, now);
-        let (reached, others) = counts(&self.partials, key, now);
+        let at = later(was, now);
+        let (reached, others) = counts(&self.partials, key, at);
         let verdict = judge(self.szx, reached, others, block, payload.len());
-        let (took, change) = act(&mut self.partials, was, now, key, num, payload, verdict)?;
-        self.clock = now;
+        let arrival = Arrival {
+            was,
+            at,
+            key,
+            num,
+            payload,
+        };
+        let (took, change) = act(&mut self.partials, &arrival, verdict)?;
+        self.clock = at;
         self.before = Some(Before { clock: was, change });
         Ok(took)
     }
@@ -111,22 +119,18 @@ fn later(a: Moment, b: Moment) -> Moment
 // Does what the verdict says: the answer, and what `undo` is to take back.
 fn act<A: Allocator + Copy>(
     partials: &mut Vec<Partial<A>, A>,
-    was: Moment,
-    now: Moment,
-    key: &UploadKey<A>,
-    num: u32,
-    payload: &[u8],
+    arrival: &Arrival<'_, '_, A>,
     verdict: BlockVerdict,
 ) -> Result<(Took<A>, Change<A>), AllocError>
-    requires order { was.0 ≤ now.0 }
-    requires few { AreFew was.0 (partials_of partials.old.items) }
-    ensures answer { IfOk result (λ r.
-        r.0 ≡ took (with_payload (key_of key.now) num payload.now (there_of now.0 partials.old.items)) num verdict) }
-    ensures left { OnOk result (there_of now.0 partials.new.items
-        ≡ partials_by verdict (body_with (key_of key.now) num payload.now now.0 (there_of now.0 partials.old.items))
-        (there_of now.0 partials.old.items)) }
-    ensures back { IfOk result (λ r.
-        forgotten was.0 (undone r.1 partials.new.items) ≡ there_of was.0 partials.old.items) }
+    requires order { arrival.now.was.0 ≤ arrival.now.at.0 }
+    requires few { AreFew arrival.now.was.0 (partials_of partials.old.items) }
+    ensures answer { IfOk result (λ r. r.0 ≡ took (with_payload (key_of arrival.now.key.now) arrival.now.num
+        arrival.now.payload.now (there_of arrival.now.at.0 partials.old.items)) arrival.now.num verdict) }
+    ensures left { OnOk result (there_of arrival.now.at.0 partials.new.items ≡ partials_by verdict
+        (body_with (key_of arrival.now.key.now) arrival.now.num arrival.now.payload.now arrival.now.at.0
+        (there_of arrival.now.at.0 partials.old.items)) (there_of arrival.now.at.0 partials.old.items)) }
+    ensures back { IfOk result (λ r. forgotten arrival.now.was.0 (undone r.1 partials.new.items)
+        ≡ there_of arrival.now.was.0 partials.old.items) }
     ensures undoable { IfOk result (λ r. IsUndoable r.1 partials.new) }
     ensures few { OnOk result (length (partials_of partials.new.items) ≤ MAX_PARTIALS + 1) }
     ensures few_back { IfOk result (λ r. length (undone r.1 partials.new.items) ≤ MAX_PARTIALS + 1) }
@@ -138,19 +142,19 @@ fn act<A: Allocator + Copy>(
     match verdict {
         BlockVerdict::Refuse(why) => {
             let change = match why {
-                AssemblyRefusal::EntityTooLarge => take_out(partials, key, now),
+                AssemblyRefusal::EntityTooLarge => take_out(partials, arrival.key, arrival.at),
                 _ => Change::Clock,
             };
             Ok((Took::Refused(why), change))
         }
         BlockVerdict::Done => {
-            let whole = whole(partials, key, now, num, payload)?;
-            let change = take_out(partials, key, now);
+            let whole = whole(partials, arrival)?;
+            let change = take_out(partials, arrival.key, arrival.at);
             Ok((Took::Whole(whole), change))
         }
         BlockVerdict::Join(szx) => {
-            let change = join(partials, was, now, key, num, payload)?;
-            Ok((Took::More(block_to_answer(num, szx)), change))
+            let change = join(partials, arrival)?;
+            Ok((Took::More(block_to_answer(arrival.num, szx)), change))
         }
     }
 }

@@ -6,6 +6,7 @@
 //! here sends or receives anything: what came is handed in, and what is to go out is answered.
 #![tactic(auto)]
 
+mod arrival;
 mod assembly;
 mod assembly_judging;
 mod assembly_step;

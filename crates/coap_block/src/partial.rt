@@ -2,6 +2,7 @@ ghost use Rattle.std.specs.Prelude.{◌≡◌, ◌++◌, IfOk, OnOk, OnErr, leng
 ghost use Rattle.coap_block.specs.AssemblyState.{is_live};
 ghost use Rattle.coap_block.specs.AssemblyKept.{begun, body_of, cut, grown, is_there, key_of};
 
+use crate::arrival::Arrival;
 use crate::gathering::Gathering;
 use crate::upload_key::UploadKey;
 use bytes::Bytes;
@@ -29,18 +30,14 @@ pub(crate) struct Partial<A: Allocator> {
 
 impl<A: Allocator + Copy> Partial<A> {
     /// One of block 0.
-    pub(crate) fn new(
-        alloc: A,
-        key: &UploadKey<A>,
-        payload: &[u8],
-        now: Moment,
-    ) -> Result<Partial<A>, AllocError>
-        ensures { IfOk result (λ partial. body_of partial ≡ begun (key_of key.now) payload.now now.0) }
+    pub(crate) fn of(alloc: A, arrival: &Arrival<'_, '_, A>) -> Result<Partial<A>, AllocError>
+        ensures { IfOk result (λ partial. body_of partial
+            ≡ begun (key_of arrival.now.key.now) arrival.now.payload.now arrival.now.at.0) }
     {
         Ok(Partial {
-            key: key.copy()?,
-            bytes: Gathering::of(alloc, payload)?,
-            last: now,
+            key: arrival.key.copy()?,
+            bytes: Gathering::of(alloc, arrival.payload)?,
+            last: arrival.at,
         })
     }
 

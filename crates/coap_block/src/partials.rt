@@ -5,6 +5,7 @@ ghost use Rattle.coap_block.specs.AssemblyState.{without_key};
 ghost use Rattle.coap_block.specs.AssemblyKept.{begun, body_of, changed_at, grown, partials_of, key_of, place_of};
 ghost use Rattle.coap_block.specs.AssemblyKept.{there_of, undone, AreFew, IsUndoable};
 
+use crate::arrival::Arrival;
 use crate::assembly_judging::MAX_PARTIALS;
 use crate::assembly_undo::Change;
 use crate::partial::Partial;
@@ -95,12 +96,11 @@ fn push_within<A: Allocator + Copy>(partials: &mut Vec<Partial<A>, A>, partial: 
 fn grow<A: Allocator + Copy>(
     partials: &mut Vec<Partial<A>, A>,
     i: usize,
-    payload: &[u8],
-    now: Moment,
+    arrival: &Arrival<'_, '_, A>,
 ) -> Result<Change<A>, AllocError>
     requires { i < length partials.old.items }
     ensures ok { OnOk result (partials_of partials.new.items
-        ≡ changed_at (grown payload.now now.0) i (partials_of partials.old.items)) }
+        ≡ changed_at (grown arrival.now.payload.now arrival.now.at.0) i (partials_of partials.old.items)) }
     ensures back { IfOk result (λ change. undone change partials.new.items ≡ partials_of partials.old.items) }
     ensures undoable { IfOk result (λ change. IsUndoable change partials.new) }
     ensures err { OnErr result (partials_of partials.new.items ≡ partials_of partials.old.items) }
@@ -109,7 +109,7 @@ fn grow<A: Allocator + Copy>(
 {
     let partial = &mut partials[i];
     let change = Change::Grown(i, partial.len(), partial.last);
-    partial.grow(payload, now)?;
+    partial.grow(arrival.payload, arrival.at)?;
     Ok(change)
 }
 
@@ -117,18 +117,16 @@ fn grow<A: Allocator + Copy>(
 fn replace<A: Allocator + Copy>(
     partials: &mut Vec<Partial<A>, A>,
     i: usize,
-    key: &UploadKey<A>,
-    payload: &[u8],
-    now: Moment,
+    arrival: &Arrival<'_, '_, A>,
 ) -> Result<Change<A>, AllocError>
     requires { i < length partials.old.items }
-    ensures ok { OnOk result (partials_of partials.new.items
-        ≡ set (partials_of partials.old.items) i (begun (key_of key.now) payload.now now.0)) }
+    ensures ok { OnOk result (partials_of partials.new.items ≡ set (partials_of partials.old.items) i
+        (begun (key_of arrival.now.key.now) arrival.now.payload.now arrival.now.at.0)) }
     ensures back { IfOk result (λ change. undone change partials.new.items ≡ partials_of partials.old.items) }
     ensures undoable { IfOk result (λ change. IsUndoable change partials.new) }
     ensures err { OnErr result (partials.new ≡ partials.old) }
 {
-    let new = Partial::new(*partials.allocator(), key, payload, now)?;
+    let new = Partial::of(*partials.allocator(), arrival)?;
     let old = mem::replace(&mut partials[i], new);
     Ok(Change::Replaced(i, old))
 }
@@ -137,22 +135,20 @@ fn replace<A: Allocator + Copy>(
 // dropped, so that as many are kept as `undo` may ask for.
 fn begin<A: Allocator + Copy>(
     partials: &mut Vec<Partial<A>, A>,
-    was: Moment,
-    key: &UploadKey<A>,
-    payload: &[u8],
-    now: Moment,
+    arrival: &Arrival<'_, '_, A>,
 ) -> Result<Change<A>, AllocError>
-    ensures ok { OnOk result (partials_of partials.new.items
-        ≡ there_of was.0 partials.old.items ++ begun (key_of key.now) payload.now now.0 ∷ []) }
-    ensures back { IfOk result (λ change. undone change partials.new.items ≡ there_of was.0 partials.old.items) }
+    ensures ok { OnOk result (partials_of partials.new.items ≡ there_of arrival.now.was.0 partials.old.items
+        ++ begun (key_of arrival.now.key.now) arrival.now.payload.now arrival.now.at.0 ∷ []) }
+    ensures back { IfOk result (λ change.
+        undone change partials.new.items ≡ there_of arrival.now.was.0 partials.old.items) }
     ensures undoable { IfOk result (λ change. IsUndoable change partials.new) }
     ensures err { OnErr result (partials.new.items ≡ partials.old.items) }
     ensures len { OnErr result (vec_len partials.new ≡ vec_len partials.old) }
     ensures room { OnErr result (vec_capacity partials.old ≤ vec_capacity partials.new) }
 {
-    let new = Partial::new(*partials.allocator(), key, payload, now)?;
+    let new = Partial::of(*partials.allocator(), arrival)?;
     partials.reserve(1)?;
-    forget(partials, was);
+    forget(partials, arrival.was);
     push_within(partials, new);
     Ok(Change::Begun)
 }
@@ -160,19 +156,15 @@ fn begin<A: Allocator + Copy>(
 /// Joins a block to the partial body of its key, or begins one where it is block 0.
 pub(crate) fn join<A: Allocator + Copy>(
     partials: &mut Vec<Partial<A>, A>,
-    was: Moment,
-    now: Moment,
-    key: &UploadKey<A>,
-    num: u32,
-    payload: &[u8],
+    arrival: &Arrival<'_, '_, A>,
 ) -> Result<Change<A>, AllocError>
-    requires order { was.0 ≤ now.0 }
-    requires few { AreFew was.0 (partials_of partials.old.items) }
-    ensures ok { OnOk result (there_of now.0 partials.new.items
-        ≡ put (body_with (key_of key.now) num payload.now now.0 (there_of now.0 partials.old.items))
-        (there_of now.0 partials.old.items)) }
-    ensures back { IfOk result (λ change.
-        forgotten was.0 (undone change partials.new.items) ≡ there_of was.0 partials.old.items) }
+    requires order { arrival.now.was.0 ≤ arrival.now.at.0 }
+    requires few { AreFew arrival.now.was.0 (partials_of partials.old.items) }
+    ensures ok { OnOk result (there_of arrival.now.at.0 partials.new.items
+        ≡ put (body_with (key_of arrival.now.key.now) arrival.now.num arrival.now.payload.now arrival.now.at.0
+        (there_of arrival.now.at.0 partials.old.items)) (there_of arrival.now.at.0 partials.old.items)) }
+    ensures back { IfOk result (λ change. forgotten arrival.now.was.0 (undone change partials.new.items)
+        ≡ there_of arrival.now.was.0 partials.old.items) }
     ensures undoable { IfOk result (λ change. IsUndoable change partials.new) }
     ensures few { OnOk result (length (partials_of partials.new.items) ≤ MAX_PARTIALS + 1) }
     ensures few_back { IfOk result (λ change. length (undone change partials.new.items) ≤ MAX_PARTIALS + 1) }
@@ -180,30 +172,27 @@ pub(crate) fn join<A: Allocator + Copy>(
     ensures len { OnErr result (vec_len partials.new ≡ vec_len partials.old) }
     ensures room { OnErr result (vec_capacity partials.old ≤ vec_capacity partials.new) }
 {
-    match place_of(partials, key, now) {
-        Some(i) if num > 0 => grow(partials, i, payload, now),
-        Some(i) => replace(partials, i, key, payload, now),
-        None => begin(partials, was, key, payload, now),
+    match place_of(partials, arrival.key, arrival.at) {
+        Some(i) if arrival.num > 0 => grow(partials, i, arrival),
+        Some(i) => replace(partials, i, arrival),
+        None => begin(partials, arrival),
     }
 }
 
 /// The body of a key with its last block. The partial bodies stay as they are.
 pub(crate) fn whole<A: Allocator + Copy>(
     partials: &mut Vec<Partial<A>, A>,
-    key: &UploadKey<A>,
-    now: Moment,
-    num: u32,
-    payload: &[u8],
+    arrival: &Arrival<'_, '_, A>,
 ) -> Result<Bytes<A>, AllocError>
-    ensures whole { IfOk result (λ whole.
-        whole ≡ with_payload (key_of key.now) num payload.now (there_of now.0 partials.old.items)) }
+    ensures whole { IfOk result (λ whole. whole ≡ with_payload (key_of arrival.now.key.now) arrival.now.num
+        arrival.now.payload.now (there_of arrival.now.at.0 partials.old.items)) }
     ensures same { partials_of partials.new.items ≡ partials_of partials.old.items }
     ensures len { vec_len partials.new ≡ vec_len partials.old }
     ensures room { vec_capacity partials.new ≡ vec_capacity partials.old }
 {
-    match place_of(partials, key, now) {
-        Some(i) if num > 0 => partials[i].whole_with(payload),
-        _ => Bytes::copy_from_slice(*partials.allocator(), payload),
+    match place_of(partials, arrival.key, arrival.at) {
+        Some(i) if arrival.num > 0 => partials[i].whole_with(arrival.payload),
+        _ => Bytes::copy_from_slice(*partials.allocator(), arrival.payload),
     }
 }
 
