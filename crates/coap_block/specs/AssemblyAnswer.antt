@@ -29,7 +29,8 @@ took whole num (Join szx) = More (record { num = num; more = true; szx = szx })
 took whole num Done = Whole whole
 
 -- the answer to a block, and the state behind it
-pub record TakesBlock {A : Type 0} (s : AssemblyState) (now : ℕ) (key : Key) (b : Block) (payload : List ℕ) (answer : Took A) (new : AssemblyState) : Type 0 where
+pub record TakesBlock {A : Type 0} (s : AssemblyState) (now : ℕ) (key : Key) (b : Block) (payload : List ℕ)
+    (answer : Took A) (new : AssemblyState) : Type 0 where
   pub answer_is : answer ≡ took (with_block s now key b payload) b.num (verdict_at s now key b (length payload))
   pub new_is : new ≡ after_block s now key b payload
 

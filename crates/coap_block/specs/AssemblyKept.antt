@@ -79,8 +79,8 @@ abbrev pub IsUndoableBefore : {A : Type 0} → Option (Before A) → Vec (Partia
 IsUndoableBefore None v = Unit {0}
 IsUndoableBefore (Some b) v = IsUndoable b.change v
 
--- As many are there at the clock as a server keeps at most, and one more is kept, which the last input may have found dead, so that
--- it can be given back.
+-- As many are there at the clock as a server keeps at most, and one more is kept, which the last input may have found
+-- dead, so that it can be given back.
 pub record AreFew (clock : ℕ) (ps : List PartialBody) : Type 0 where
   pub there : length (forgotten clock ps) ≤ max_partials
   pub all : length ps ≤ max_partials + 1

@@ -36,7 +36,8 @@ blocks_by Done b payload parts = behind parts b payload
 abbrev pub blocks_since : Key → AssemblyTrace → List Part
 blocks_since key (Made szx) = []
 blocks_since key (Arrived earlier now k b payload) =
-    if same_key k key then blocks_by (verdict_at (state_after earlier) now k b (length payload)) b payload (blocks_since key earlier)
+    if same_key k key then blocks_by (verdict_at (state_after earlier) now k b (length payload)) b payload
+    (blocks_since key earlier)
     else blocks_since key earlier
 
 -- a partial body is these blocks, in order and each of its full size
@@ -79,7 +80,8 @@ WholeByBlocks = (t : AssemblyTrace) (s : AssemblyState) (now : ℕ) (key : Key) 
 -- a body that is answered leaves no partial body of its key
 abbrev pub NoneLeft : Type 0
 NoneLeft = (t : AssemblyTrace) (now : ℕ) (key : Key) (b : Block) (payload : List ℕ)
-    → verdict_at (state_after t) now key b (length payload) ≡ Done → partial_of key (state_after (Arrived t now key b payload)).partials ≡ None
+    → verdict_at (state_after t) now key b (length payload) ≡ Done
+    → partial_of key (state_after (Arrived t now key b payload)).partials ≡ None
 
 -- a block of one key leaves the partial body of another
 abbrev pub OthersStay : Type 0

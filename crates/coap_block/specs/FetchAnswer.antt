@@ -17,7 +17,8 @@ answer_of whole Done = Whole whole
 answer_of whole (Ask num szx) = Next (record { num = num; more = false; szx = szx })
 
 -- the answer to a part, and the state behind it
-pub record Takes {A : Type 0} (s : FetchState) (block : Option Block) (tag : Option (List ℕ)) (payload : List ℕ) (answer : Step A) (new : FetchState) : Type 0 where
+pub record Takes {A : Type 0} (s : FetchState) (block : Option Block) (tag : Option (List ℕ)) (payload : List ℕ)
+    (answer : Step A) (new : FetchState) : Type 0 where
   pub answer_is : answer ≡ answer_of (s.gathered ++ payload) (verdict s block tag (length payload))
   pub new_is : new ≡ after s tag payload (verdict s block tag (length payload))
 

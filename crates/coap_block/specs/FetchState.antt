@@ -10,7 +10,13 @@ use Rattle.coap_block.specs.declared.fetch_verdict.Verdict.TheVariants.{Refuse, 
 use Rattle.coap_block.specs.FetchStep.{FetchState}
 
 abbrev pub state_of : ℕ → List ℕ → Progress → FetchState
-state_of szx bytes p = record { szx = szx; gathered = take p.len bytes; asked = p.asked; tag = p.tag; restarts = p.restarts }
+state_of szx bytes p = record {
+  szx = szx;
+  gathered = take p.len bytes;
+  asked = p.asked;
+  tag = p.tag;
+  restarts = p.restarts;
+}
 
 abbrev pub before_of : ℕ → List ℕ → Progress → Before → Option FetchState
 before_of szx bytes p Nothing = None

@@ -78,4 +78,8 @@ abbrev pub after : FetchState → Option (List ℕ) → List ℕ → Verdict →
 after s tag payload (Refuse why) = s
 after s tag payload Again = start s.szx (s.restarts + 1)
 after s tag payload Done = start s.szx 0
-after s tag payload (Ask num szx) = record s { gathered = s.gathered ++ payload; asked = Some (record { num = num; szx = szx }); tag = tag }
+after s tag payload (Ask num szx) = record s {
+  gathered = s.gathered ++ payload;
+  asked = Some (record { num = num; szx = szx });
+  tag = tag;
+}

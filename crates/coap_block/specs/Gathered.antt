@@ -19,7 +19,8 @@ pub record IsFull (p : Part) : Type 0 where
 abbrev pub Awaits : Option Asked → Option (List ℕ) → List Part → Type 0
 Awaits None tag parts = parts ≡ []
 Awaits (Some asked) tag parts =
-    (offset_of asked.num asked.szx ≡ length (joined parts)) × (parts ≢ []) × ((t : List ℕ) × (tag ≡ Some t) × Each (HasTag t) parts)
+    (offset_of asked.num asked.szx ≡ length (joined parts)) × (parts ≢ [])
+    × ((t : List ℕ) × (tag ≡ Some t) × Each (HasTag t) parts)
 
 pub record Gathered (parts : List Part) (s : FetchState) : Type 0 where
   pub bytes : s.gathered ≡ joined parts
@@ -31,7 +32,8 @@ abbrev pub GatheredAtStart : Type 0
 GatheredAtStart = (szx restarts : ℕ) → Gathered [] (start szx restarts)
 
 abbrev pub GatheredByPart : Type 0
-GatheredByPart = (parts : List Part) (s : FetchState) (b : Block) (tag : Option (List ℕ)) (payload : List ℕ) (num szx : ℕ)
+GatheredByPart = (parts : List Part) (s : FetchState) (b : Block) (tag : Option (List ℕ)) (payload : List ℕ)
+    (num szx : ℕ)
     → Gathered parts s → verdict s (Some b) tag (length payload) ≡ Ask num szx
     → Gathered (parts ++ part b tag payload ∷ []) (after s tag payload (Ask num szx))
 

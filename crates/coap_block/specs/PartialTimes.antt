@@ -26,7 +26,8 @@ last_by Done b at last = None
 abbrev pub last_taken : Key → AssemblyTrace → Option ℕ
 last_taken key (Made szx) = None
 last_taken key (Arrived earlier now k b payload) =
-    if same_key k key then last_by (verdict_at (state_after earlier) now k b (length payload)) b (moment_at (state_after earlier) now) (last_taken key earlier)
+    if same_key k key then last_by (verdict_at (state_after earlier) now k b (length payload)) b
+    (moment_at (state_after earlier) now) (last_taken key earlier)
     else last_taken key earlier
 
 -- it was no longer ago than a partial body is kept
@@ -41,7 +42,8 @@ pub record IsThereExactly (last : Option ℕ) (at : ℕ) (found : Option Partial
 
 -- at the clock
 abbrev pub ThereByHistory : Type 0
-ThereByHistory = (t : AssemblyTrace) (key : Key) → IsThereExactly (last_taken key t) (state_after t).clock (partial_of key (state_after t).partials)
+ThereByHistory = (t : AssemblyTrace) (key : Key)
+    → IsThereExactly (last_taken key t) (state_after t).clock (partial_of key (state_after t).partials)
 
 -- and at a later moment, for the next block
 abbrev pub ThereAtMoment : Type 0
@@ -50,4 +52,5 @@ ThereAtMoment = (t : AssemblyTrace) (now : ℕ) (key : Key)
 
 -- more is behind a block that is joined
 abbrev pub JoinsWhereMore : Type 0
-JoinsWhereMore = (t : AssemblyTrace) (now : ℕ) (key : Key) (b : Block) (len szx : ℕ) → verdict_at (state_after t) now key b len ≡ Join szx → b.more ≡ true
+JoinsWhereMore = (t : AssemblyTrace) (now : ℕ) (key : Key) (b : Block) (len szx : ℕ)
+    → verdict_at (state_after t) now key b len ≡ Join szx → b.more ≡ true

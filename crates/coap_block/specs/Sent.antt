@@ -6,7 +6,13 @@ use Rattle.coap_block.specs.Whole.{Part, Each, joined, IsPieceOf, Chained, InOrd
 use Rattle.coap_block.specs.UploadStep.{UploadState, upload_start, more_follows, Continues, moved}
 
 abbrev pub part_to_send : UploadState → Part
-part_to_send s = record { num = s.num; more = more_follows s; szx = s.szx; tag = None; bytes = part_of s.body s.num s.szx }
+part_to_send s = record {
+  num = s.num;
+  more = more_follows s;
+  szx = s.szx;
+  tag = None;
+  bytes = part_of s.body s.num s.szx;
+}
 
 pub record Sent (parts : List Part) (s : UploadState) : Type 0 where
   pub pieces : Each (IsPieceOf s.body) parts

@@ -34,7 +34,8 @@ KeepsSize s szx = (szx ≡ s.szx) ⊎ ((s.num ≡ 0) × (szx < s.szx))
 -- answer has its number, M 1 and its size or at block 0 a smaller one, and the next block has a number.
 abbrev pub Continues : UploadState → Block → Type 0
 Continues s answer =
-    (more_follows s ≡ true) × (answer.num ≡ s.num) × (answer.more ≡ true) × KeepsSize s answer.szx × (number_after s answer.szx ≤ max_num)
+    (more_follows s ≡ true) × (answer.num ≡ s.num) × (answer.more ≡ true) × KeepsSize s answer.szx
+    × (number_after s answer.szx ≤ max_num)
 
 -- the same as tests
 abbrev pub keeps_size : UploadState → ℕ → Bool
@@ -42,7 +43,8 @@ keeps_size s szx = (szx == s.szx) || ((s.num == 0) && nat_lt szx s.szx)
 
 abbrev pub continues : UploadState → Block → Bool
 continues s answer =
-    more_follows s && ((answer.num == s.num) && (answer.more && (keeps_size s answer.szx && nat_le (number_after s answer.szx) max_num)))
+    more_follows s && ((answer.num == s.num) && (answer.more
+    && (keeps_size s answer.szx && nat_le (number_after s answer.szx) max_num)))
 
 abbrev pub ContinuesIsTested : Type 0
 ContinuesIsTested = (s : UploadState) (answer : Block) → IsTrue (continues s answer) ↔ Continues s answer

@@ -36,7 +36,8 @@ same_method-decides a b = (is_method a b, λ e. ap (λ (m : Method). same_method
 
 pub same_key-decides : (a b : Key) → Decides (same_key a b) (a ≡ b)
 same_key-decides a b =
-    let parts = Decides-and _ _ (same_endpoint-decides a.from b.from) (Decides-and _ _ (same_path-decides a.path b.path) (same_method-decides a.method b.method)) in (
+    let parts = Decides-and _ _ (same_endpoint-decides a.from b.from)
+    (Decides-and _ _ (same_path-decides a.path b.path) (same_method-decides a.method b.method)) in (
       λ h. let e = parts.0 h in λ i. record { from = e.0 i; path = e.1.0 i; method = e.1.1 i },
       λ e. parts.1 (ap (λ (k : Key). k.from) e, (ap (λ (k : Key). k.path) e, ap (λ (k : Key). k.method) e)),
     )

@@ -12,7 +12,8 @@ multiple num s c d e pos =
     let t : num * s + s ≡ (num * c + c) * d = rw e (omega arith) in
     rw t (ap (λ (q : ℕ). q * d) (mul-div_cancel (num * c + c) pos))
 
-pub aligned : (num szx m : ℕ) → (offset_of num szx + size_of szx) / size_of (min szx m) * size_of (min szx m) ≡ offset_of num szx + size_of szx
+pub aligned : (num szx m : ℕ) → (offset_of num szx + size_of szx) / size_of (min szx m) * size_of (min szx m)
+    ≡ offset_of num szx + size_of szx
 aligned num szx m =
     let e0 : (szx - min szx m) + (min szx m + 4) ≡ szx + 4 = omega arith in
     let e : size_of szx ≡ 2 ^ (szx - min szx m) * size_of (min szx m) =
@@ -23,4 +24,5 @@ pub aligned_to : (num szx m : ℕ) → m ≤ szx
     → (offset_of num szx + size_of szx) / size_of m * size_of m ≡ offset_of num szx + size_of szx
 aligned_to num szx m le =
     let e : min szx m ≡ m = omega (arith, le) in
-    subst (λ (k : ℕ). (offset_of num szx + size_of szx) / size_of k * size_of k ≡ offset_of num szx + size_of szx) e (aligned num szx m)
+    subst (λ (k : ℕ). (offset_of num szx + size_of szx) / size_of k * size_of k ≡ offset_of num szx + size_of szx) e
+    (aligned num szx m)

@@ -20,23 +20,29 @@ not_over : (n : ℕ) → nat_lt max_body_len n ≡ false → n ≤ max_body_len
 not_over n h = grind (arith, nat_tests)
 
 -- a part that fits begins where the others end
-short_by : (parts : List Part) (s : FetchState) (b : Block) (tag : Option (List ℕ)) (payload : List ℕ) → Gathered parts s
+short_by : (parts : List Part) (s : FetchState) (b : Block) (tag : Option (List ℕ)) (payload : List ℕ)
+    → Gathered parts s
     → (fits s.asked b.num b.szx && is_sized b.more b.num b.szx (length payload)) ≡ true
-    → nat_lt max_body_len (offset_of b.num b.szx + length payload) ≡ false → length (s.gathered ++ payload) ≤ max_body_len
+    → nat_lt max_body_len (offset_of b.num b.szx + length payload) ≡ false
+    → length (s.gathered ++ payload) ≤ max_body_len
 short_by parts s b tag payload g fit big =
-    let at = begins_at s.asked s.tag tag parts b.num b.szx g.awaits (and_left (fits s.asked b.num b.szx) (is_sized b.more b.num b.szx (length payload)) fit) in
+    let at = begins_at s.asked s.tag tag parts b.num b.szx g.awaits
+    (and_left (fits s.asked b.num b.szx) (is_sized b.more b.num b.szx (length payload)) fit) in
     let is = ap length g.bytes in
     omega (arith, at, is, not_over (offset_of b.num b.szx + length payload) big, length-append s.gathered payload)
 
-alone_short : (there : Bool) (n : ℕ) → (if there then Refuse BadBlock else if nat_lt max_body_len n then Refuse TooLarge else Done) ≡ Done → n ≤ max_body_len
+alone_short : (there : Bool) (n : ℕ) → (if there then Refuse BadBlock else if nat_lt max_body_len n then
+    Refuse TooLarge else Done) ≡ Done → n ≤ max_body_len
 alone_short there n h = by there (nat_lt max_body_len n) (not_over n) h
   where
-    by : (there big : Bool) → (big ≡ false → n ≤ max_body_len) → (if there then Refuse BadBlock else if big then Refuse TooLarge else Done) ≡ Done → n ≤ max_body_len
+    by : (there big : Bool) → (big ≡ false → n ≤ max_body_len)
+        → (if there then Refuse BadBlock else if big then Refuse TooLarge else Done) ≡ Done → n ≤ max_body_len
     by true big f h = absurd cc
     by false true f h = absurd cc
     by false false f h = f refl
 
-done_short : (parts : List Part) (s : FetchState) (block : Option Block) (tag : Option (List ℕ)) (payload : List ℕ) → Gathered parts s
+done_short : (parts : List Part) (s : FetchState) (block : Option Block) (tag : Option (List ℕ)) (payload : List ℕ)
+    → Gathered parts s
     → verdict s block tag (length payload) ≡ Done → length (s.gathered ++ payload) ≤ max_body_len
 done_short parts s None tag payload g h =
     let none = none_is_start s.asked s.tag parts (nat_lt max_body_len (length payload)) g.awaits h in
@@ -49,7 +55,8 @@ done_short parts s (Some b) tag payload g h =
     (differs s tag) (nat_le max_restarts s.restarts) b.more (next_num s b) (next_szx s b) h in
     short_by parts s b tag payload g says.0 says.3
 
-ask_short : (parts : List Part) (s : FetchState) (b : Block) (tag : Option (List ℕ)) (payload : List ℕ) (num szx : ℕ) → Gathered parts s
+ask_short : (parts : List Part) (s : FetchState) (b : Block) (tag : Option (List ℕ)) (payload : List ℕ) (num szx : ℕ)
+    → Gathered parts s
     → verdict s (Some b) tag (length payload) ≡ Ask num szx → length (s.gathered ++ payload) ≤ max_body_len
 ask_short parts s b tag payload num szx g h =
     let says = ask_says (fits s.asked b.num b.szx && is_sized b.more b.num b.szx (length payload))
@@ -57,18 +64,22 @@ ask_short parts s b tag payload num szx g h =
     (differs s tag) (nat_le max_restarts s.restarts) b.more (next_num s b) (next_szx s b) num szx h in
     short_by parts s b tag payload g says.0 says.6
 
-step : (v : Verdict) (parts : List Part) (s : FetchState) (block : Option Block) (tag : Option (List ℕ)) (payload : List ℕ) → Gathered parts s
-    → length s.gathered ≤ max_body_len → verdict s block tag (length payload) ≡ v → length (after s tag payload v).gathered ≤ max_body_len
+step : (v : Verdict) (parts : List Part) (s : FetchState) (block : Option Block) (tag : Option (List ℕ))
+    (payload : List ℕ) → Gathered parts s
+    → length s.gathered ≤ max_body_len → verdict s block tag (length payload) ≡ v
+    → length (after s tag payload v).gathered ≤ max_body_len
 step (Refuse why) parts s block tag payload g short h = short
 step Again parts s block tag payload g short h = omega arith
 step Done parts s block tag payload g short h = omega arith
-step (Ask num szx) parts s None tag payload g short h = absurd (none_asks (is_some s.asked) (nat_lt max_body_len (length payload)) num szx h)
+step (Ask num szx) parts s None tag payload g short h =
+    absurd (none_asks (is_some s.asked) (nat_lt max_body_len (length payload)) num szx h)
 step (Ask num szx) parts s (Some b) tag payload g short h = ask_short parts s b tag payload num szx g h
 
 all_short : (t : FetchTrace) → length (state_after t).gathered ≤ max_body_len
 all_short (Made szx) = omega arith
 all_short (Took earlier block tag payload) =
-    step (verdict (state_after earlier) block tag (length payload)) (parts_since earlier) (state_after earlier) block tag payload
+    step (verdict (state_after earlier) block tag (length payload)) (parts_since earlier)
+    (state_after earlier) block tag payload
     (parts_are_gathered earlier) (all_short earlier) refl
 
 pub gathered_is_short : GatheredIsShort
@@ -76,4 +87,5 @@ gathered_is_short t s led = subst (λ (x : FetchState). length x.gathered ≤ ma
 
 pub body_is_short : BodyIsShort
 body_is_short t s block tag payload led h =
-    done_short (parts_since t) s block tag payload (subst (λ (x : FetchState). Gathered (parts_since t) x) (sym led) (parts_are_gathered t)) h
+    done_short (parts_since t) s block tag payload
+    (subst (λ (x : FetchState). Gathered (parts_since t) x) (sym led) (parts_are_gathered t)) h

@@ -16,25 +16,31 @@ use Rattle.coap_block.proofs.Fetching.WholeByParts.{gathered_by_part, whole_by_p
 at_start : (szx restarts : ℕ) → Gathered [] (start szx restarts)
 at_start szx restarts = record { bytes = refl; chained = tt; full = tt; awaits = refl }
 
-pub none_asks : (there big : Bool) (num szx : ℕ) → (if there then Refuse BadBlock else if big then Refuse TooLarge else Done) ≡ Ask num szx → ⊥
+pub none_asks : (there big : Bool) (num szx : ℕ)
+    → (if there then Refuse BadBlock else if big then Refuse TooLarge else Done) ≡ Ask num szx → ⊥
 none_asks true big num szx h = cc
 none_asks false true num szx h = cc
 none_asks false false num szx h = cc
 
-step : (v : Verdict) (parts : List Part) (s : FetchState) (block : Option Block) (tag : Option (List ℕ)) (payload : List ℕ)
-    → Gathered parts s → verdict s block tag (length payload) ≡ v → Gathered (parts_by v block tag payload parts) (after s tag payload v)
+step : (v : Verdict) (parts : List Part) (s : FetchState) (block : Option Block) (tag : Option (List ℕ))
+    (payload : List ℕ)
+    → Gathered parts s → verdict s block tag (length payload) ≡ v
+    → Gathered (parts_by v block tag payload parts) (after s tag payload v)
 step (Refuse why) parts s block tag payload g h = g
 step Again parts s block tag payload g h = at_start s.szx (s.restarts + 1)
 step Done parts s block tag payload g h = at_start s.szx 0
-step (Ask num szx) parts s None tag payload g h = absurd (none_asks (is_some s.asked) (nat_lt max_body_len (length payload)) num szx h)
+step (Ask num szx) parts s None tag payload g h =
+    absurd (none_asks (is_some s.asked) (nat_lt max_body_len (length payload)) num szx h)
 step (Ask num szx) parts s (Some b) tag payload g h = gathered_by_part parts s b tag payload num szx g h
 
 pub parts_are_gathered : PartsAreGathered
 parts_are_gathered (Made szx) = at_start szx 0
 parts_are_gathered (Took earlier block tag payload) =
-    step (verdict (state_after earlier) block tag (length payload)) (parts_since earlier) (state_after earlier) block tag payload
+    step (verdict (state_after earlier) block tag (length payload)) (parts_since earlier)
+    (state_after earlier) block tag payload
     (parts_are_gathered earlier) refl
 
 pub whole_by_history : WholeByHistory
 whole_by_history t s block tag payload led h =
-    whole_by_parts (parts_since t) s block tag payload (subst (λ (x : FetchState). Gathered (parts_since t) x) (sym led) (parts_are_gathered t)) h
+    whole_by_parts (parts_since t) s block tag payload
+    (subst (λ (x : FetchState). Gathered (parts_since t) x) (sym led) (parts_are_gathered t)) h

@@ -12,19 +12,23 @@ split_taken zero xs = refl
 split_taken (suc n) [] = refl
 split_taken (suc n) (x ∷ xs) = ap (λ (r : List ℕ). x ∷ r) (split_taken n xs)
 
-last_rest : (body part : List ℕ) (at size : ℕ) → part ≡ take size (drop at body) → length body ≤ at + size → drop at body ≡ part ++ []
+last_rest : (body part : List ℕ) (at size : ℕ) → part ≡ take size (drop at body) → length body ≤ at + size
+    → drop at body ≡ part ++ []
 last_rest body part at size e le =
-    let all : take size (drop at body) ≡ drop at body = take_all size (drop at body) (omega (arith, length-drop at body)) in
+    let all : take size (drop at body) ≡ drop at body =
+    take_all size (drop at body) (omega (arith, length-drop at body)) in
     sym (append-nil part ∙ e ∙ all)
 
-middle_rest : (body part rest : List ℕ) (at size : ℕ) → part ≡ take size (drop at body) → drop (at + length part) body ≡ rest
+middle_rest : (body part rest : List ℕ) (at size : ℕ) → part ≡ take size (drop at body)
+    → drop (at + length part) body ≡ rest
     → drop at body ≡ part ++ rest
 middle_rest body part rest at size e r =
     let s = split_taken size (drop at body) in
     let d = drop-drop (length part) at body in
     rw (← e) at s ∙ ap (λ (x : List ℕ). part ++ x) (d ∙ r)
 
-rest_is_joined : (body : List ℕ) (at : ℕ) (parts : List Part) → Each (IsPieceOf body) parts → Chained at parts → Ends parts
+rest_is_joined : (body : List ℕ) (at : ℕ) (parts : List Part) → Each (IsPieceOf body) parts → Chained at parts
+    → Ends parts
     → drop at body ≡ joined parts
 rest_is_joined body at [] pieces chained ends = absurd ends
 rest_is_joined body at (p ∷ []) pieces chained ends =
@@ -48,7 +52,8 @@ one_body (Blocks parts) a b wa wb = in_order_is_joined a parts wa.0 ∙ sym (in_
 one_body (Alone payload) a b wa wb = sym wa ∙ wb
 
 -- parts that show the body, before an empty one at its end
-shown_is_joined : (body : List ℕ) (at : ℕ) (front : List Part) (last : Part) → Each (ShowsMore body) front → Chained at (front ++ last ∷ [])
+shown_is_joined : (body : List ℕ) (at : ℕ) (front : List Part) (last : Part) → Each (ShowsMore body) front
+    → Chained at (front ++ last ∷ [])
     → offset_of last.num last.szx ≡ length body → last.bytes ≡ [] → drop at body ≡ joined (front ++ last ∷ [])
 shown_is_joined body at [] last shown chained at_end empty =
     let e : at ≡ length body = sym chained.0 ∙ at_end in
@@ -61,7 +66,8 @@ shown_is_joined body at (p ∷ ps) last shown chained at_end empty =
 closed_is_joined : (body : List ℕ) (parts : List Part) → ClosedByEmpty parts body → body ≡ joined parts
 closed_is_joined body parts w =
     subst (λ (ps : List Part). body ≡ joined ps) (sym w.split)
-    (shown_is_joined body 0 w.front w.last w.shown (subst (λ (ps : List Part). Chained 0 ps) w.split w.chained) w.at_end w.empty)
+    (shown_is_joined body 0 w.front w.last w.shown
+    (subst (λ (ps : List Part). Chained 0 ps) w.split w.chained) w.at_end w.empty)
 
 at_server_is_joined : (body : List ℕ) (parts : List Part) → WholeAtServer parts body → body ≡ joined parts
 at_server_is_joined body parts (inl w) = in_order_is_joined body parts w

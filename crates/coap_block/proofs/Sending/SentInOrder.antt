@@ -45,7 +45,8 @@ sent_by_part parts s answer w k =
     let lt = more_is (offset_of s.num s.szx + size_of s.szx) (length s.body) k.0 in
     let full = full_len s.body (offset_of s.num s.szx) (size_of s.szx) lt in
     let next = aligned_to s.num s.szx answer.szx (keeps_at_most s answer.szx k.3) in
-    let len = ap length (joined_behind parts (part_to_send s)) ∙ length-append (joined parts) (part_of s.body s.num s.szx) in
+    let len = ap length (joined_behind parts (part_to_send s))
+    ∙ length-append (joined parts) (part_of s.body s.num s.szx) in
     let at = w.at in
     record {
       pieces = each_behind (IsPieceOf s.body) parts (part_to_send s) w.pieces (sent_is_piece s w.begins);
@@ -55,7 +56,8 @@ sent_by_part parts s answer w k =
     }
 
 -- the test of an answer
-and_parts : (a b c d e : Bool) → (a && (b && (c && (d && e)))) ≡ true → (a ≡ true) × (b ≡ true) × (c ≡ true) × (d ≡ true) × (e ≡ true)
+and_parts : (a b c d e : Bool) → (a && (b && (c && (d && e)))) ≡ true
+    → (a ≡ true) × (b ≡ true) × (c ≡ true) × (d ≡ true) × (e ≡ true)
 and_parts true true true true true h = (refl, refl, refl, refl, refl)
 and_parts true true true true false h = absurd cc
 and_parts true true true false e h = absurd cc
@@ -63,7 +65,8 @@ and_parts true true false d e h = absurd cc
 and_parts true false c d e h = absurd cc
 and_parts false b c d e h = absurd cc
 
-and_all : (a b c d e : Bool) → a ≡ true → b ≡ true → c ≡ true → d ≡ true → e ≡ true → (a && (b && (c && (d && e)))) ≡ true
+and_all : (a b c d e : Bool) → a ≡ true → b ≡ true → c ≡ true → d ≡ true → e ≡ true
+    → (a && (b && (c && (d && e)))) ≡ true
 and_all a b c d e ha hb hc hd he = rw (ha, hb, hc, hd, he) refl
 
 keeps_tested : (s : UploadState) (szx : ℕ) → keeps_size s szx ≡ true → KeepsSize s szx
@@ -90,7 +93,8 @@ at_most a b h = grind (arith, nat_tests)
 
 tested_keeps : (s : UploadState) (szx : ℕ) → KeepsSize s szx → keeps_size s szx ≡ true
 tested_keeps s szx (inl e) = let t = tests_equal szx s.szx e in rw t refl
-tested_keeps s szx (inr h) = by (szx == s.szx) ((s.num == 0) && nat_lt szx s.szx) (both (s.num == 0) (nat_lt szx s.szx) (tests_equal s.num 0 h.0) (tests_less szx s.szx h.1))
+tested_keeps s szx (inr h) = by (szx == s.szx) ((s.num == 0) && nat_lt szx s.szx)
+    (both (s.num == 0) (nat_lt szx s.szx) (tests_equal s.num 0 h.0) (tests_less szx s.szx h.1))
   where
     both : (a b : Bool) → a ≡ true → b ≡ true → (a && b) ≡ true
     both a b ha hb = rw (ha, hb) refl
@@ -102,9 +106,17 @@ tested_keeps s szx (inr h) = by (szx == s.szx) ((s.num == 0) && nat_lt szx s.szx
 pub continues_is_tested : ContinuesIsTested
 continues_is_tested s answer = (
   λ h.
-      let all = and_parts (more_follows s) (answer.num == s.num) answer.more (keeps_size s answer.szx) (nat_le (number_after s answer.szx) max_num) h in
-      (all.0, same_number answer.num s.num all.1, all.2, keeps_tested s answer.szx all.3, at_most (number_after s answer.szx) max_num all.4),
+      let all = and_parts (more_follows s) (answer.num == s.num) answer.more (keeps_size s answer.szx)
+      (nat_le (number_after s answer.szx) max_num) h in (
+        all.0,
+        same_number answer.num s.num all.1,
+        all.2,
+        keeps_tested s answer.szx all.3,
+        at_most (number_after s answer.szx) max_num all.4,
+      ),
   λ k.
-      and_all (more_follows s) (answer.num == s.num) answer.more (keeps_size s answer.szx) (nat_le (number_after s answer.szx) max_num)
-      k.0 (tests_equal answer.num s.num k.1) k.2 (tested_keeps s answer.szx k.3) (tests_most (number_after s answer.szx) max_num k.4),
+      and_all (more_follows s) (answer.num == s.num) answer.more (keeps_size s answer.szx)
+      (nat_le (number_after s answer.szx) max_num)
+      k.0 (tests_equal answer.num s.num k.1) k.2 (tested_keeps s answer.szx k.3)
+      (tests_most (number_after s answer.szx) max_num k.4),
 )

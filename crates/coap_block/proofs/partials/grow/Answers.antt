@@ -10,10 +10,13 @@ returns-in_err-grow-clause-err g c =
 
 pub returns-clause-ok : goal.returns-clause-ok
 returns-clause-ok g c =
-    kept_changed (grown c.args.arrival.now.payload.now c.args.arrival.now.at.0) c.args.partials.now.items c.args.i c.grow.new.self c.index_mut-partial.result.now c.requires
-    (c.in_ok-grow.ensures.ok ∙ ap (λ p. grown c.args.arrival.now.payload.now c.args.arrival.now.at.0 (body_of p)) c.index_mut-partial.ensures.value)
+    kept_changed (grown c.args.arrival.now.payload.now c.args.arrival.now.at.0) c.args.partials.now.items c.args.i
+    c.grow.new.self c.index_mut-partial.result.now c.requires
+    (c.in_ok-grow.ensures.ok ∙ ap (λ p. grown c.args.arrival.now.payload.now c.args.arrival.now.at.0 (body_of p))
+    c.index_mut-partial.ensures.value)
 
 pub returns-clause-back : goal.returns-clause-back
 returns-clause-back g c =
-    kept_cut_back c.args.arrival.now.payload.now c.args.arrival.now.at.0 c.len.result c.args.partials.now.items c.args.i c.grow.new.self c.index_mut-partial.result.now c.requires
+    kept_cut_back c.args.arrival.now.payload.now c.args.arrival.now.at.0 c.len.result c.args.partials.now.items c.args.i
+    c.grow.new.self c.index_mut-partial.result.now c.requires
     c.index_mut-partial.ensures.value (search rules) c.in_ok-grow.ensures.ok

@@ -5,7 +5,8 @@ use Rattle.coap_block.proofs.Fields.FoundByKey.{none_out, place_out}
 use Rattle.coap_block.proofs.partials.take_out.Goals as goal
 
 pub returns-in-None-clause-left : goal.returns-in-None-clause-left
-returns-in-None-clause-left g c = none_out (key_of c.args.key.now) c.args.now.0 (partials_of c.args.partials.now.items) (sym (rw c.deref.ensures.value at c.place_of.ensures.place) ∙ c.in-None.is)
+returns-in-None-clause-left g c = none_out (key_of c.args.key.now) c.args.now.0 (partials_of c.args.partials.now.items)
+    (sym (rw c.deref.ensures.value at c.place_of.ensures.place) ∙ c.in-None.is)
 
 pub returns-in-Some-clause-left : goal.returns-in-Some-clause-left
 returns-in-Some-clause-left g c =

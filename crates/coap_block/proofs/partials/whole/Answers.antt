@@ -9,8 +9,10 @@ use Rattle.coap_block.proofs.partials.whole.Goals.{in_default-via-in-Some+else-a
 
 pub returns-in-Some-clause-whole : goal.returns-in-Some-clause-whole
 returns-in-Some-clause-whole g c =
-    let is = ap body_of c.index_mut.ensures.value ∙ kept_at c.args.partials.now.items c.in-Some.i c.index_mut.result.now in
-    let there = whole_there _ _ _ c.args.arrival.now.payload.now _ _ _ c.if-arrival-gt0.true (sym (rw c.deref.ensures.value at c.place_of.ensures.place) ∙ c.in-Some.is) is in
+    let is = ap body_of c.index_mut.ensures.value
+    ∙ kept_at c.args.partials.now.items c.in-Some.i c.index_mut.result.now in
+    let there = whole_there _ _ _ c.args.arrival.now.payload.now _ _ _ c.if-arrival-gt0.true
+    (sym (rw c.deref.ensures.value at c.place_of.ensures.place) ∙ c.in-Some.is) is in
     subst (λ (l : List ℕ). IfOk c.whole_with.result (λ whole. whole ≡ l)) there c.whole_with.ensures.whole
 
 pub returns-in-Some-clause-same : goal.returns-in-Some-clause-same
@@ -20,8 +22,15 @@ returns-in-Some-clause-same g c =
 
 pub returns-in_default-clause-whole : goal.returns-in_default-clause-whole
 returns-in_default-clause-whole g c =
-    let alone = elim c.in_default.branch as (λ x. c.args.arrival.now.payload.now ≡ with_payload (key_of c.args.arrival.now.key.now) c.args.arrival.now.num c.args.arrival.now.payload.now (there_of c.args.arrival.now.at.0 c.args.partials.now.items)) [
-      | in_default-via-in-Some+else-arrival-gt0 w ↦ whole_anew (key_of c.args.arrival.now.key.now) c.args.arrival.now.num c.args.arrival.now.payload.now (there_of c.args.arrival.now.at.0 c.args.partials.now.items) w.if-arrival-gt0.false
-      | in_default-via-in_default w ↦ whole_first (key_of c.args.arrival.now.key.now) c.args.arrival.now.at.0 c.args.arrival.now.num c.args.arrival.now.payload.now (partials_of c.args.partials.now.items) (sym (rw c.deref.ensures.value at c.place_of.ensures.place) ∙ w.in_default.is)
+    let alone = elim c.in_default.branch as (λ x. c.args.arrival.now.payload.now
+    ≡ with_payload (key_of c.args.arrival.now.key.now) c.args.arrival.now.num c.args.arrival.now.payload.now
+    (there_of c.args.arrival.now.at.0 c.args.partials.now.items)) [
+      | in_default-via-in-Some+else-arrival-gt0 w ↦ whole_anew
+          (key_of c.args.arrival.now.key.now) c.args.arrival.now.num c.args.arrival.now.payload.now
+          (there_of c.args.arrival.now.at.0 c.args.partials.now.items) w.if-arrival-gt0.false
+      | in_default-via-in_default w ↦ whole_first
+          (key_of c.args.arrival.now.key.now) c.args.arrival.now.at.0 c.args.arrival.now.num
+          c.args.arrival.now.payload.now (partials_of c.args.partials.now.items)
+          (sym (rw c.deref.ensures.value at c.place_of.ensures.place) ∙ w.in_default.is)
     ] in
     subst (λ (l : List ℕ). IfOk c.copy_from_slice.result (λ whole. whole ≡ l)) alone c.copy_from_slice.ensures
