@@ -8,17 +8,18 @@ use Rattle.hex.specs.Hex.{decode_of}
 use Rattle.coap_words.specs.CommandLine.{coap_app}
 use Rattle.coap_commands.specs.Statuses.{CarriesOut, Ends, IsAnswered, IsCarriedOut, IsTold, RunsScript, status_number, status_of}
 use Rattle.coap_words.specs.Numbers.{IsNumber, argument_of, most_of}
-use Rattle.coap_words.specs.Words.{AsksFor, AsksForIn, Enters, HasBadHex, HasBytes, HasNoBytes, HasNoNumber, HasNoPath, HasNumber, HasPath, HasWord, IsPathFine, IsRefusedBy, IsValue, IsWrong, NamesNoNumber, NamesNoPath, TakesNumber, TakesPath}
+use Rattle.coap_words.specs.Words.{AsksFor, AsksForIn, Enters, HasBadHex, HasBytes, HasNoBytes, HasNoNumber, HasNoPath, HasNoStore, HasNumber, HasPath, HasStore, HasWord, IsPathFine, IsRefusedBy, IsValue, IsWrong, NamesNoNumber, NamesNoPath, NamesNoStore, TakesNumber, TakesPath, store_name}
 use Rattle.coap_commands.specs.declared.status.Status.{Status}
 use Rattle.coap_commands.specs.declared.status.Status.TheVariants as status
 use Rattle.coap_commands.specs.declared.status.Stop.{Stop}
 use Rattle.coap_commands.specs.declared.status.Stop.TheVariants as stop
 use Rattle.coap_words.specs.declared.orders.Order.{Order}
 use Rattle.coap_words.specs.declared.orders.Order.TheVariants.{Show, Answer, Pair, Serve, Get, Sim}
+use Rattle.coap_words.specs.declared.orders.StoreKind.{StoreKind}
 use Rattle.coap_words.specs.declared.orders.NumberRefusal.{NumberRefusal}
 use Rattle.coap_words.specs.declared.orders.NumberRefusal.TheVariants.{Port, Count, Word}
 use Rattle.coap_words.specs.declared.orders.Wrong.{Wrong}
-use Rattle.coap_words.specs.declared.orders.Wrong.TheVariants.{Words, Path, Number, Hex, Memory}
+use Rattle.coap_words.specs.declared.orders.Wrong.TheVariants.{Words, Path, Number, Store, Hex, Memory}
 use Rattle.coap_types.specs.declared.path.PathRefusal.{PathRefusal}
 use Rattle.coap_types.specs.declared.path.TheConstants.{MAX_SEGMENT_LEN as max_segment_len, MAX_SEGMENTS as max_segments}
 
@@ -86,7 +87,7 @@ has_path name v (Answer path body datagram) takes h = (path, h.1, h.2)
 has_path name v (Pair path body word) takes h = (path, h.1, h.2)
 has_path name v (Serve port count word) takes h = absurd (takes_none (codes "serve") name refl refl refl h.0 takes)
 has_path name v (Get port path word) takes h = (path, h.2, h.3)
-has_path name v (Sim file) takes h = absurd (takes_none (codes "sim") name refl refl refl h.0 takes)
+has_path name v (Sim file store) takes h = absurd (takes_none (codes "sim") name refl refl refl h.0 takes)
 
 asked_path : (words : List Text) (order : Order) (why : PathRefusal) → AsksFor words order → NamesNoPath words why → ⊥
 asked_path words order why (name, v, e, asks) (other, u, f, takes, none) =
@@ -115,7 +116,7 @@ has_number name v (Serve port count word) Word takes h = of_word v word h.3
 has_number name v (Get port path word) Port takes h = inr (port, h.1)
 has_number name v (Get port path word) Count e h = absurd (differ (codes "get") (codes "serve") name refl h.0 e)
 has_number name v (Get port path word) Word takes h = of_word v word h.4
-has_number name v (Sim file) why takes h = absurd (counts_none (codes "sim") name why refl refl refl h.0 takes)
+has_number name v (Sim file store) why takes h = absurd (counts_none (codes "sim") name why refl refl refl h.0 takes)
 
 number_or_not : (v : List Row) (why : NumberRefusal) → MayHave why v → HasNoNumber why v → ⊥
 number_or_not v why (inl none) q =
@@ -138,7 +139,7 @@ has_bytes name v (Answer path body datagram) h fine = (datagram.items, h.4)
 has_bytes name v (Pair path body word) h fine = absurd (hexless (codes "pair") name v refl refl h.0 fine)
 has_bytes name v (Serve port count word) h fine = absurd (hexless (codes "serve") name v refl refl h.0 fine)
 has_bytes name v (Get port path word) h fine = absurd (hexless (codes "get") name v refl refl h.0 fine)
-has_bytes name v (Sim file) h fine = absurd (hexless (codes "sim") name v refl refl h.0 fine)
+has_bytes name v (Sim file store) h fine = absurd (hexless (codes "sim") name v refl refl h.0 fine)
 
 asked_hex : (words : List Text) (order : Order) → AsksFor words order → HasBadHex words → ⊥
 asked_hex words order (name, v, e, asks) (other, u, f, fine, none) =
@@ -146,6 +147,25 @@ asked_hex words order (name, v, e, asks) (other, u, f, fine, none) =
     let fine_v = subst (IsPathFine name) (sym one.1) (subst (λ (n : Text). IsPathFine n u) (sym one.0) fine) in
     let b = has_bytes name v order asks fine_v in
     bytes_or_not u b.0 (subst (λ (r : List Row). HasBytes r b.0) one.1 b.1) none
+
+store_or_not : (v : List Row) (store : StoreKind) → HasStore v store → HasNoStore v → ⊥
+store_or_not v store (inl none) q = absurd (cc (sym none.0 ∙ q.1))
+store_or_not v store (inr is) q = q.2 store (value_one (codes "store") v q.0 (store_name store) q.1 is)
+
+has_store : (name : Text) (v : List Row) (order : Order) → name ≡ codes "sim" → AsksForIn name v order
+    → (store : StoreKind) × HasStore v store
+has_store name v (Show datagram) sim h = absurd (differ (codes "show") (codes "sim") name refl h.0 sim)
+has_store name v (Answer path body datagram) sim h = absurd (differ (codes "answer") (codes "sim") name refl h.0 sim)
+has_store name v (Pair path body word) sim h = absurd (differ (codes "pair") (codes "sim") name refl h.0 sim)
+has_store name v (Serve port count word) sim h = absurd (differ (codes "serve") (codes "sim") name refl h.0 sim)
+has_store name v (Get port path word) sim h = absurd (differ (codes "get") (codes "sim") name refl h.0 sim)
+has_store name v (Sim file store) sim h = (store, h.2)
+
+asked_store : (words : List Text) (order : Order) → AsksFor words order → NamesNoStore words → ⊥
+asked_store words order (name, v, e, asks) (other, u, f, sim, none) =
+    let one = enters_one words name other v u e f in
+    let s = has_store name v order (one.0 ∙ sim) asks in
+    store_or_not u s.0 (subst (λ (r : List Row). HasStore r s.0) one.1 s.1) none
 
 -- ---- one wrong
 
@@ -165,6 +185,14 @@ number_hex words why (own, v, e, takes, none) (name, u, f, fine, bad) =
       | inr h ↦ counts_none (codes "answer") own why refl refl refl (one.0 ∙ h.0) takes
     ]
 
+store_hex : (words : List Text) → NamesNoStore words → HasBadHex words → ⊥
+store_hex words (own, v, e, sim, none) (name, u, f, fine, bad) =
+    let one = enters_one words own name v u e f in
+    elim fine [
+      | inl shows ↦ differ (codes "sim") (codes "show") own refl sim (one.0 ∙ shows)
+      | inr h ↦ differ (codes "sim") (codes "answer") own refl sim (one.0 ∙ h.0)
+    ]
+
 -- ---- the statuses
 
 abbrev number : Result Status Stop → ℕ
@@ -181,6 +209,7 @@ with_2 : (wrong : Wrong) (n : ℕ) → n ≡ 2 → IsAnswered wrong n
 with_2 (Words error) n is = inl is
 with_2 (Path why) n is = inl is
 with_2 (Number why) n is = inl is
+with_2 Store n is = inl is
 with_2 Hex n is = inl is
 with_2 Memory n is = tt
 
@@ -188,6 +217,7 @@ with_4 : (wrong : Wrong) (n : ℕ) → n ≡ 4 → IsAnswered wrong n
 with_4 (Words error) n is = inr is
 with_4 (Path why) n is = inr is
 with_4 (Number why) n is = inr is
+with_4 Store n is = inr is
 with_4 Hex n is = inr (inr is)
 with_4 Memory n is = tt
 
@@ -196,6 +226,7 @@ with_3 : (words : List Text) (wrong : Wrong) (n : ℕ) → HasBadHex words → I
 with_3 words (Words error) n (name, v, e, fine, bad) is three = absurd (not_refused words error e.taken is)
 with_3 words (Path why) n bad is three = absurd (path_hex words why is bad)
 with_3 words (Number why) n bad is three = absurd (number_hex words why is bad)
+with_3 words Store n bad is three = absurd (store_hex words is bad)
 with_3 words Hex n bad is three = inr (inl three)
 with_3 words Memory n bad is three = tt
 
@@ -203,6 +234,7 @@ order_answered : (words : List Text) (order : Order) (wrong : Wrong) (n : ℕ) �
 order_answered words order (Words error) n (name, v, e, asks) is = absurd (not_refused words error e.taken is)
 order_answered words order (Path why) n asks is = absurd (asked_path words order why asks is)
 order_answered words order (Number why) n asks is = absurd (asked_number words order why asks is)
+order_answered words order Store n asks is = absurd (asked_store words order asks is)
 order_answered words order Hex n asks is = absurd (asked_hex words order asks is)
 order_answered words order Memory n asks is = tt
 
@@ -210,6 +242,7 @@ wrong_answered : (words : List Text) (ended : Result Status Stop) (own wrong : W
 wrong_answered words ended (Words error) wrong own told is = with_2 wrong _ (ap number told)
 wrong_answered words ended (Path why) wrong own told is = with_2 wrong _ (ap number told)
 wrong_answered words ended (Number why) wrong own told is = with_2 wrong _ (ap number told)
+wrong_answered words ended Store wrong own told is = with_2 wrong _ (ap number told)
 wrong_answered words ended Hex wrong own (inl told) is = with_2 wrong _ (ap number told)
 wrong_answered words ended Hex wrong own (inr told) is = with_3 words wrong _ own is (ap number told)
 wrong_answered words ended Memory wrong own told is = with_4 wrong _ (ap number told)
@@ -229,6 +262,7 @@ of_words : (words : List Text) (ended : Result Status Stop) (wrong : Wrong) → 
 of_words words ended (Words error) is told h = (Words error, is, λ e. cc e)
 of_words words ended (Path why) is told h = (Path why, is, λ e. cc e)
 of_words words ended (Number why) is told h = (Number why, is, λ e. cc e)
+of_words words ended Store is told h = (Store, is, λ e. cc e)
 of_words words ended Hex is told h = (Hex, is, λ e. cc e)
 of_words words ended Memory is told h = absurd (let n : 4 ≡ 2 = sym (ap number told) ∙ h in omega (arith, n))
 
@@ -239,7 +273,7 @@ script_only (Answer path body datagram) ended c h = absurd (carried_out ended c 
 script_only (Pair path body word) ended c h = absurd (carried_out ended c h)
 script_only (Serve port count word) ended c h = absurd (carried_out ended c h)
 script_only (Get port path word) ended c h = absurd (carried_out ended c h)
-script_only (Sim file) ended c h = tt
+script_only (Sim file store) ended c h = tt
 
 -- 2 says that something is wrong in the words, or that they run a script
 pub wrong_words : (words : List Text) (ended : Result Status Stop) → Ends words ended → number ended ≡ 2
@@ -251,6 +285,7 @@ told_more : (ended : Result Status Stop) (wrong : Wrong) → IsTold wrong ended 
 told_more ended (Words error) told h = absurd (let n : number ended ≡ 2 = ap number told in omega (arith, n, h))
 told_more ended (Path why) told h = absurd (let n : number ended ≡ 2 = ap number told in omega (arith, n, h))
 told_more ended (Number why) told h = absurd (let n : number ended ≡ 2 = ap number told in omega (arith, n, h))
+told_more ended Store told h = absurd (let n : number ended ≡ 2 = ap number told in omega (arith, n, h))
 told_more ended Hex (inl told) h = absurd (let n : number ended ≡ 2 = ap number told in omega (arith, n, h))
 told_more ended Hex (inr told) h = absurd (let n : number ended ≡ 3 = ap number told in omega (arith, n, h))
 told_more ended Memory told h = absurd (let n : number ended ≡ 4 = ap number told in omega (arith, n, h))

@@ -9,7 +9,7 @@ use Rattle.coap_commands.specs.declared.status.Stop.TheVariants as stop
 use Rattle.coap_words.specs.declared.orders.Order.{Order}
 use Rattle.coap_words.specs.declared.orders.Order.TheVariants.{Sim}
 use Rattle.coap_words.specs.declared.orders.Wrong.{Wrong}
-use Rattle.coap_words.specs.declared.orders.Wrong.TheVariants.{Words, Path, Number, Hex, Memory}
+use Rattle.coap_words.specs.declared.orders.Wrong.TheVariants.{Words, Path, Number, Store, Hex, Memory}
 
 abbrev pub status_number : Status → ℕ
 status_number status.Done = 0
@@ -34,12 +34,12 @@ IsOfScript s = (s ≡ status.Done) ⊎ ((s ≡ status.Refused) ⊎ (s ≡ status
 
 -- the order runs a script
 abbrev pub RunsScript : Order → Type 0
-RunsScript (Sim file) = ⊤
+RunsScript (Sim file store) = ⊤
 RunsScript _ = ⊥
 
 -- what this order comes to, carried out to its end
 abbrev pub CarriesOut : Order → Status → Type 0
-CarriesOut (Sim file) s = IsOfScript s
+CarriesOut (Sim file store) s = IsOfScript s
 CarriesOut _ s = IsCarriedOut s
 
 -- what telling of a wrong comes to: bad hex is told on standard output, which may fail
@@ -47,6 +47,7 @@ abbrev pub IsTold : Wrong → Result Status Stop → Type 0
 IsTold (Words error) ended = ended ≡ Ok status.Words
 IsTold (Path refusal) ended = ended ≡ Ok status.Words
 IsTold (Number refusal) ended = ended ≡ Ok status.Words
+IsTold Store ended = ended ≡ Ok status.Words
 IsTold Hex ended = (ended ≡ Ok status.Words) ⊎ (ended ≡ Err stop.Failed)
 IsTold Memory ended = ended ≡ Err stop.Memory
 
@@ -56,6 +57,7 @@ abbrev pub IsAnswered : Wrong → ℕ → Type 0
 IsAnswered (Words error) n = (n ≡ 2) ⊎ (n ≡ 4)
 IsAnswered (Path refusal) n = (n ≡ 2) ⊎ (n ≡ 4)
 IsAnswered (Number refusal) n = (n ≡ 2) ⊎ (n ≡ 4)
+IsAnswered Store n = (n ≡ 2) ⊎ (n ≡ 4)
 IsAnswered Hex n = (n ≡ 2) ⊎ ((n ≡ 3) ⊎ (n ≡ 4))
 IsAnswered Memory n = ⊤
 

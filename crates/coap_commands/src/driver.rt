@@ -40,7 +40,7 @@ fn perform<R: AllocGlobal + Files + Net + Clock + RandomSource, W: Write>(
         Order::Pair { path, body, word } => pair(rt, path, body, *word, out),
         Order::Serve { port, count, word } => serve(rt, *port, *count, *word, out),
         Order::Get { port, path, word } => get(rt, *port, path, *word, out),
-        Order::Sim { file } => sim(rt, file, out),
+        Order::Sim { file, store } => sim(rt, file, *store, out),
     }
 }
 
@@ -54,7 +54,7 @@ pub fn refuse<O: Write, E: Write>(wrong: Wrong, out: &mut O, err: &mut E) -> Res
             writeln!(out, "{wrong}")?;
             Ok(Status::Words)
         }
-        Wrong::Words(_) | Wrong::Path(_) | Wrong::Number(_) => {
+        Wrong::Words(_) | Wrong::Path(_) | Wrong::Number(_) | Wrong::Store => {
             let _ = writeln!(err, "{wrong}");
             Ok(Status::Words)
         }

@@ -30,6 +30,6 @@ pub use get::get_over;
 pub use pair::pair_over;
 pub use script::{ScriptRefusal, events_of};
 pub use serve::{hold_resource, serve_over};
-pub use sim::sim_to;
+pub use sim::{sim_to, sim_with};
 pub use status::{Status, Stop};
 pub use timekeeper::{ProgramTime, Timekeeper};

@@ -5,8 +5,9 @@ use crate::ends::largest_szx;
 use crate::script::{ScriptRefusal, events_of};
 use crate::status::{Status, Stop};
 use crate::telling::tell;
-use coap_resource::MAX_CHANGES_PER_WINDOW;
-use coap_world::{Event, RunRefusal, WorldConfig, run};
+use coap_resource::{ListStore, MAX_CHANGES_PER_WINDOW, MapStore};
+use coap_words::StoreKind;
+use coap_world::{Event, RunRefusal, WorldConfig, run_with};
 use std::alloc::Allocator;
 use std::io::{ErrorKind, Read, Write};
 use std::rt::Files;
@@ -17,10 +18,23 @@ const WORD: u64 = 0;
 
 const _: () = prove!(WORD == 0);
 
-/// Runs a script over a client and a server, and prints what comes of it.
+/// Runs a script over a client and a server, which keeps its resources in a map, and prints what
+/// comes of it.
 pub fn sim_to<A: Allocator + Copy, R: Read, W: Write>(
     alloc: A,
     script: &mut R,
+    out: &mut W,
+) -> Result<Status, Stop>
+    ensures { IfOk result IsOfScript }
+{
+    sim_with(alloc, script, StoreKind::Map, out)
+}
+
+/// Runs a script as [`sim_to`] does, over a server with such a store.
+pub fn sim_with<A: Allocator + Copy, R: Read, W: Write>(
+    alloc: A,
+    script: &mut R,
+    store: StoreKind,
     out: &mut W,
 ) -> Result<Status, Stop>
     ensures { IfOk result IsOfScript }
@@ -30,7 +44,7 @@ pub fn sim_to<A: Allocator + Copy, R: Read, W: Write>(
         return Err(stop_of(&error));
     }
     match events_of(alloc, text.as_slice()) {
-        Ok(events) => run_events(alloc, events.as_slice(), out),
+        Ok(events) => run_events(alloc, events.as_slice(), store, out),
         Err(ScriptRefusal::Line(number)) => {
             writeln!(out, "bad line {number}")?;
             Ok(Status::Words)
@@ -60,11 +74,17 @@ fn plain_config<A: Allocator + Copy>(alloc: A) -> WorldConfig<A> {
 fn run_events<A: Allocator + Copy, W: Write>(
     alloc: A,
     events: &[Event<A>],
+    store: StoreKind,
     out: &mut W,
 ) -> Result<Status, Stop>
     ensures { IfOk result IsOfScript }
 {
-    match run(events, &plain_config(alloc)) {
+    let config = plain_config(alloc);
+    let ran = match store {
+        StoreKind::List => run_with::<ListStore<A>, A>(events, &config),
+        StoreKind::Map => run_with::<MapStore<A>, A>(events, &config),
+    };
+    match ran {
         Ok(record) => {
             tell(alloc, events, &record, out)?;
             Ok(Status::Done)
@@ -77,16 +97,17 @@ fn run_events<A: Allocator + Copy, W: Write>(
     }
 }
 
-/// Runs the script in a file.
+/// Runs the script in a file, over a server with such a store.
 pub fn sim<R: AllocGlobal + Files, W: Write>(
     rt: &R,
     file: &str,
+    store: StoreKind,
     out: &mut W,
 ) -> Result<Status, Stop>
     ensures { IfOk result IsOfScript }
 {
     match fs::open(rt, file) {
-        Ok(mut script) => sim_to(rt.alloc(), &mut script, out),
+        Ok(mut script) => sim_with(rt.alloc(), &mut script, store, out),
         Err(error) => Err(stop_of(&error)),
     }
 }

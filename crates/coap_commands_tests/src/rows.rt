@@ -108,7 +108,7 @@ fn check_wrong<R: Abort + AllocGlobal + Files + Net + Clock + RandomSource>(
 
 #[test]
 fn wrong_words(rt: HostRuntime) -> Result<(), Fail> {
-    let cases: [&[&str]; 20] = [
+    let cases: [&[&str]; 26] = [
         &["pair"],
         &["pair", "t"],
         &["pair", "t", "hi", "--word"],
@@ -120,6 +120,12 @@ fn wrong_words(rt: HostRuntime) -> Result<(), Fail> {
         &["serve", "5683", "one"],
         &["get", "5683"],
         &["get", "", "t"],
+        &["sim"],
+        &["sim", "ping.sim", "--store"],
+        &["sim", "ping.sim", "--store", "tree"],
+        &["sim", "ping.sim", "--store", "Map"],
+        &["sim", "ping.sim", "--store", ""],
+        &["sim", "ping.sim", "--store", "list", "--store", "list"],
         &[],
         &["--help"],
         &["fetch"],

@@ -11,7 +11,8 @@ mod strangers;
 mod uploads;
 
 use crate::rows::words_of;
-use coap_commands::{close, command, sim_to};
+use coap_commands::{close, command, sim_to, sim_with};
+use coap_words::StoreKind;
 use std::alloc::{AllocError, Global};
 use std::io::{ErrorKind, Read};
 use std::process::Abort;
@@ -21,15 +22,24 @@ use std::{fs, io};
 // The status that a script ends with, and what it prints.
 type Ending<'a> = (u8, &'a [u8]);
 
-// Runs one script, which ends so.
+// Runs one script over each store, where the map is the one that is not named. Both runs end so.
 fn check_script(rt: &impl Abort, alloc: Global, name: &str, script: &[u8], ending: Ending<'_>) {
     let (status, printed) = ending;
-    let mut out = Vec::new(alloc);
-    let mut err = Vec::new(alloc);
-    let mut reader = script;
-    let ended = sim_to(alloc, &mut reader, &mut out);
-    assert_eq!(rt; out.as_slice(), printed, "at {name}");
-    assert_eq!(rt; close(ended, &mut err).number(), status, "at {name}");
+    for store in [None, Some(StoreKind::List)] {
+        let mut out = Vec::new(alloc);
+        let mut err = Vec::new(alloc);
+        let mut reader = script;
+        let ended = match store {
+            None => sim_to(alloc, &mut reader, &mut out),
+            Some(store) => sim_with(alloc, &mut reader, store, &mut out),
+        };
+        assert_eq!(rt; out.as_slice(), printed, "at {name} over {store:?}");
+        assert_eq!(rt;
+            close(ended, &mut err).number(),
+            status,
+            "at {name} over {store:?}"
+        );
+    }
 }
 
 // The text with each of its repetitions written out.
@@ -165,7 +175,15 @@ fn bytes_of_scripts(rt: HostRuntime) {
 #[test]
 fn a_script_in_a_file(rt: HostRuntime) -> Result<(), Fail> {
     fs::write(&rt, "ping.sim", "0 stranger server 9 40000001\n")?;
-    crate::rows::check_row(&rt, &["sim", "ping.sim"], 0, "0 out 0 server 70000001\n")?;
+    let runs: [&[&str]; 4] = [
+        &["sim", "ping.sim"],
+        &["sim", "--store", "list", "ping.sim"],
+        &["sim", "ping.sim", "--store", "map"],
+        &["sim", "ping.sim", "--store=list"],
+    ];
+    for words in runs {
+        crate::rows::check_row(&rt, words, 0, "0 out 0 server 70000001\n")?;
+    }
     let words = words_of(rt.alloc(), &["sim", "no such file"])?;
     let mut out = Vec::new(rt.alloc());
     let mut err = Vec::new(rt.alloc());

@@ -10,7 +10,7 @@ use Rattle.coap_words.specs.CommandLine.{coap_app}
 use Rattle.coap_words.specs.Words.{Enters, IsGiven, IsWrong, IsWrongIn, AsksFor, AsksForIn}
 use Rattle.coap_words.specs.declared.orders.Order.{Order}
 use Rattle.coap_words.specs.declared.orders.Wrong.{Wrong}
-use Rattle.coap_words.specs.declared.orders.Wrong.TheVariants.{Words, Path, Number, Hex, Memory}
+use Rattle.coap_words.specs.declared.orders.Wrong.TheVariants.{Words, Path, Number, Store, Hex, Memory}
 use Rattle.coap_words.proofs.Entered.{enters}
 use Rattle.coap_words.proofs.GivenWords.{required_word}
 
@@ -145,6 +145,7 @@ wrong_in : (words : List Text) (name : Text) (rows : List Row) (w : Wrong) → E
 wrong_in words name rows (Words error) e h = absurd h
 wrong_in words name rows (Path refusal) e h = (name, rows, e, h.0, h.1)
 wrong_in words name rows (Number refusal) e h = (name, rows, e, h.0, h.1)
+wrong_in words name rows Store e h = (name, rows, e, h.0, h.1)
 wrong_in words name rows Hex e h = (name, rows, e, h.0, h.1)
 wrong_in words name rows Memory e h = tt
 

@@ -1,5 +1,6 @@
 -- The command line of the program, as a value: `coap show HEX`, `coap answer PATH BODY HEX`, `coap pair PATH BODY`,
--- `coap serve PORT COUNT` and `coap get PORT PATH`, where these three take `--word N`, and `coap sim FILE`.
+-- `coap serve PORT COUNT` and `coap get PORT PATH`, where these three take `--word N`, and `coap sim FILE`, which takes
+-- `--store list|map`.
 use Rattle.std.specs.Prelude.{Some, true, codes}
 use Rattle.clap.specs.Words.{App, Rule, Text, new_app, new_rule, with_rule, with_subcommand}
 use Rattle.clap.specs.declared.builder.ArgAction.TheVariants.{Set}
@@ -8,9 +9,17 @@ use Rattle.clap.specs.declared.builder.ArgAction.TheVariants.{Set}
 abbrev pub required_word : Text → Rule
 required_word name = record (new_rule name) { action = Some Set; required = true }
 
--- `--word N`, which may be left out
+-- `--NAME` and a value of it, which may be left out
+abbrev pub option_of : Text → Rule
+option_of name = record (new_rule name) { long = Some name; action = Some Set; value_names = 1 }
+
+-- `--word N`
 abbrev pub word_option : Rule
-word_option = record (new_rule (codes "word")) { long = Some (codes "word"); action = Some Set; value_names = 1 }
+word_option = option_of (codes "word")
+
+-- `--store list|map`
+abbrev pub store_option : Rule
+store_option = option_of (codes "store")
 
 abbrev pub show_app : App
 show_app = with_rule (new_app (codes "show")) (required_word (codes "HEX"))
@@ -28,7 +37,7 @@ abbrev pub get_app : App
 get_app = with_rule (with_rule (with_rule (new_app (codes "get")) (required_word (codes "PORT"))) (required_word (codes "PATH"))) word_option
 
 abbrev pub sim_app : App
-sim_app = with_rule (new_app (codes "sim")) (required_word (codes "FILE"))
+sim_app = with_rule (with_rule (new_app (codes "sim")) (required_word (codes "FILE"))) store_option
 
 -- the program, without its subcommands
 abbrev pub base_app : App

@@ -13,9 +13,11 @@ use Rattle.coap_words.specs.declared.orders.Order.{Order}
 use Rattle.coap_words.specs.declared.orders.Order.TheVariants.{Show, Answer, Pair, Serve, Get, Sim}
 use Rattle.coap_words.specs.declared.orders.NumberRefusal.{NumberRefusal}
 use Rattle.coap_words.specs.declared.orders.NumberRefusal.TheVariants.{Port, Count, Word}
+use Rattle.coap_words.specs.declared.orders.StoreKind.{StoreKind}
+use Rattle.coap_words.specs.declared.orders.StoreKind.TheVariants as kind
 use Rattle.coap_words.specs.declared.orders.TheConstants.{DEFAULT_WORD as default_word}
 use Rattle.coap_words.specs.declared.orders.Wrong.{Wrong}
-use Rattle.coap_words.specs.declared.orders.Wrong.TheVariants.{Words, Path, Number, Hex, Memory}
+use Rattle.coap_words.specs.declared.orders.Wrong.TheVariants.{Words, Path, Number, Store, Hex, Memory}
 
 -- clap takes the words, which enter this subcommand, and these are the values of its arguments
 pub record Enters (words : List Text) (subcommand : Text) (values : List Row) : Type 0 where
@@ -58,6 +60,21 @@ HasNoNumber argument values = (text : Text) × IsValue (argument_of argument) va
 abbrev pub HasWord : List Row → ℕ → Type 0
 HasWord values n = ((first_of (codes "word") values ≡ None) × (n ≡ default_word)) ⊎ HasNumber Word values n
 
+-- how a store is named
+abbrev pub store_name : StoreKind → Text
+store_name kind.List = codes "list"
+store_name kind.Map = codes "map"
+
+-- `--store` names this store, or is left out and stands for the map
+abbrev pub HasStore : List Row → StoreKind → Type 0
+HasStore values store = ((first_of (codes "store") values ≡ None) × (store ≡ kind.Map))
+    ⊎ IsValue (codes "store") values (store_name store)
+
+-- `--store` has a value that names no store
+abbrev pub HasNoStore : List Row → Type 0
+HasNoStore values = (text : Text) × IsValue (codes "store") values text
+    × ((store : StoreKind) → text ≢ store_name store)
+
 -- the subcommand with these values says this order
 abbrev pub AsksForIn : Text → List Row → Order → Type 0
 AsksForIn subcommand values (Show datagram) = (subcommand ≡ codes "show") × HasBytes values datagram.items
@@ -69,7 +86,8 @@ AsksForIn subcommand values (Serve port count word) =
     (subcommand ≡ codes "serve") × HasNumber Port values port × HasNumber Count values count × HasWord values word
 AsksForIn subcommand values (Get port path word) =
     (subcommand ≡ codes "get") × HasNumber Port values port × HasPath values path × HoldsAtMost max_segments max_segment_len path × HasWord values word
-AsksForIn subcommand values (Sim file) = (subcommand ≡ codes "sim") × IsValue (codes "FILE") values file.now
+AsksForIn subcommand values (Sim file store) =
+    (subcommand ≡ codes "sim") × IsValue (codes "FILE") values file.now × HasStore values store
 
 -- the words say this order
 abbrev pub AsksFor : List Text → Order → Type 0
@@ -103,6 +121,12 @@ abbrev pub NamesNoNumber : List Text → NumberRefusal → Type 0
 NamesNoNumber words refusal =
     (subcommand : Text) × (values : List Row) × Enters words subcommand values × TakesNumber refusal subcommand × HasNoNumber refusal values
 
+-- clap takes the words, which run a script, and `--store` among them names no store
+abbrev pub NamesNoStore : List Text → Type 0
+NamesNoStore words =
+    (subcommand : Text) × (values : List Row) × Enters words subcommand values
+    × (subcommand ≡ codes "sim") × HasNoStore values
+
 -- clap takes the words, a PATH among them is a text of a path, and HEX is the hex of no list of bytes
 abbrev pub HasBadHex : List Text → Type 0
 HasBadHex words = (subcommand : Text) × (values : List Row) × Enters words subcommand values × IsPathFine subcommand values × HasNoBytes values
@@ -112,6 +136,7 @@ abbrev pub IsWrong : List Text → Wrong → Type 0
 IsWrong words (Words error) = IsRefusedBy error words
 IsWrong words (Path refusal) = NamesNoPath words refusal
 IsWrong words (Number refusal) = NamesNoNumber words refusal
+IsWrong words Store = NamesNoStore words
 IsWrong words Hex = HasBadHex words
 IsWrong words Memory = ⊤
 
@@ -120,5 +145,6 @@ abbrev pub IsWrongIn : Text → List Row → Wrong → Type 0
 IsWrongIn subcommand values (Words error) = ⊥
 IsWrongIn subcommand values (Path refusal) = TakesPath subcommand × HasNoPath values refusal
 IsWrongIn subcommand values (Number refusal) = TakesNumber refusal subcommand × HasNoNumber refusal values
+IsWrongIn subcommand values Store = (subcommand ≡ codes "sim") × HasNoStore values
 IsWrongIn subcommand values Hex = IsPathFine subcommand values × HasNoBytes values
 IsWrongIn subcommand values Memory = ⊤

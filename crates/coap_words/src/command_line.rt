@@ -2,7 +2,7 @@
 ghost use Rattle.std.specs.Prelude.{◌≡◌, IfOk, false};
 ghost use Rattle.clap.specs.Words.{app_of, rule_of, with_rule, with_subcommand};
 ghost use Rattle.clap.specs.declared.builder.command.Command.TheViews.{out-Command};
-ghost use Rattle.coap_words.specs.CommandLine.{answer_app, coap_app, datagram_app, get_app, pair_app, required_word, serve_app, show_app, sim_app, word_option};
+ghost use Rattle.coap_words.specs.CommandLine.{answer_app, coap_app, datagram_app, get_app, option_of, pair_app, required_word, serve_app, show_app, sim_app, store_option, word_option};
 
 use crate::put_away::put_away;
 use clap::{Arg, ArgAction, Command};
@@ -18,15 +18,33 @@ fn positional<'a>(alloc: Global, name: &'a str, help: &'a str) -> Arg<'a>
         .action(ArgAction::Set)
 }
 
+// An argument that may be left out: its name, how help names its value, and what help says of it.
+fn option<'a>(alloc: Global, name: &'a str, value_name: &'a str, help: &'a str) -> Arg<'a>
+    ensures rule { rule_of result ≡ option_of name.entry.now }
+    ensures own { result.global ≡ false }
+{
+    Arg::new(alloc, name)
+        .long(name)
+        .value_name(value_name)
+        .help(help)
+        .action(ArgAction::Set)
+}
+
 fn word_argument<'a>(alloc: Global) -> Arg<'a>
     ensures rule { rule_of result ≡ word_option }
     ensures own { result.global ≡ false }
 {
-    Arg::new(alloc, "word")
-        .long("word")
-        .value_name("N")
-        .help("the word that an end begins with, 1 where it is left out")
-        .action(ArgAction::Set)
+    let help = "the word that an end begins with, 1 where it is left out";
+    option(alloc, "word", "N", help)
+}
+
+fn store_argument<'a>(alloc: Global) -> Arg<'a>
+    ensures rule { rule_of result ≡ store_option }
+    ensures own { result.global ≡ false }
+{
+    let help =
+        "what the server keeps its resources in, a list or a map; the map where it is left out";
+    option(alloc, "store", "list|map", help)
 }
 
 // A command with one more argument, which is no subcommand's.
@@ -140,10 +158,11 @@ fn sim_command<'a>(alloc: Global) -> Result<Command<'a>, AllocError>
     let command = Command::new(alloc, "sim").about(
         "Runs a script over a client and a server, and prints what comes of it",
     );
-    with_argument(
+    let command = with_argument(
         command,
         positional(alloc, "FILE", "the file of the script, as examples/get.sim"),
-    )
+    )?;
+    with_argument(command, store_argument(alloc))
 }
 
 fn with_show<'a>(alloc: Global, program: Command<'a>) -> Result<Command<'a>, AllocError>

@@ -9,6 +9,6 @@ mod put_away;
 mod words;
 
 pub use command_line::coap_command;
-pub use orders::{DEFAULT_WORD, NumberRefusal, Order, Wrong};
+pub use orders::{DEFAULT_WORD, NumberRefusal, Order, StoreKind, Wrong};
 pub use path_text::path_of_text;
 pub use words::order;

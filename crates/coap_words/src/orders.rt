@@ -56,7 +56,19 @@ pub enum Order<'a> {
     Sim {
         /// The file that it is in.
         file: &'a str,
+        /// What its server keeps its resources in.
+        store: StoreKind,
     },
+}
+
+/// Which store the server of a script keeps its resources in. Both keep the same law, and where memory
+/// is ample a script prints the same over either.
+#[derive(Clone, Copy, Debug, PartialEq, Eq)]
+pub enum StoreKind {
+    /// A list of entries.
+    List,
+    /// A map by path.
+    Map,
 }
 
 /// The word that an end begins with where none is given.
@@ -78,8 +90,8 @@ pub enum NumberRefusal {
     Word,
 }
 
-/// Why the words give no order. `Words`, `Path` and `Number` are one refusal, that of wrong words,
-/// with a text of its own for each. The refusals are tested in the order of their numbers.
+/// Why the words give no order. `Words`, `Path`, `Number` and `Store` are one refusal, that of wrong
+/// words, with a text of its own for each. The refusals are tested in the order of their numbers.
 #[derive(Debug, Drop, Error)]
 pub enum Wrong {
     /// The words are no command line of the program, or ask for help.
@@ -91,6 +103,9 @@ pub enum Wrong {
     /// A number is out of its range.
     #[error("{0}")]
     Number(NumberRefusal),
+    /// `--store` names no store.
+    #[error("--store is neither list nor map")]
+    Store,
     /// HEX is not the hex of any list of bytes.
     #[error("bad hex")]
     Hex,
@@ -105,7 +120,7 @@ impl Wrong {
         ensures { result ≡ wrong_number self.now }
     {
         match self {
-            Wrong::Words(_) | Wrong::Path(_) | Wrong::Number(_) => 1,
+            Wrong::Words(_) | Wrong::Path(_) | Wrong::Number(_) | Wrong::Store => 1,
             Wrong::Hex => 2,
             Wrong::Memory => 3,
         }

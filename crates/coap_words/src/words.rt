@@ -1,12 +1,12 @@
 //! The words of the program, read.
 ghost use Rattle.std.specs.Prelude.{◌≡◌, ◌<◌, ◌-◌, ◌^◌, ℕ, IfOk, IfErr, None, MatchOption, MatchResult, map, codes, string_bytes};
 ghost use Rattle.clap.specs.Words.{first_of, found_of, rows_of};
-ghost use Rattle.coap_words.specs.Words.{AsksFor, AsksForIn, HasNoNumber, HasNumber, HasWord, IsGiven, IsValue, IsWrong, IsWrongIn};
+ghost use Rattle.coap_words.specs.Words.{AsksFor, AsksForIn, HasNoNumber, HasNoStore, HasNumber, HasStore, HasWord, IsGiven, IsValue, IsWrong, IsWrongIn};
 ghost use Rattle.coap_words.specs.Numbers.{IsNumber};
 ghost use Rattle.coap_words.specs.declared.orders.NumberRefusal.TheVariants.{Count, Port, Word};
 
 use crate::command_line::coap_command;
-use crate::orders::{DEFAULT_WORD, NumberRefusal, Order, Wrong};
+use crate::orders::{DEFAULT_WORD, NumberRefusal, Order, StoreKind, Wrong};
 use crate::path_text::path_of_text;
 use clap::ArgMatches;
 use std::alloc::Global;
@@ -20,6 +20,7 @@ pub fn order<'a>(alloc: Global, words: &'a [String]) -> Result<Order<'a>, Wrong>
     // What is called wrong is wrong. `Words`: clap refuses the words, with an error of a kind that
     // they call for. `Path`: clap takes them, and PATH is no path, for the reason that is given.
     // `Number`: clap takes them, and an argument is no number in its range.
+    // `Store`: clap takes them, and `--store` names no store.
     // `Hex`: clap takes them, PATH is a path where there is one, and HEX is the hex of no bytes.
     // `Memory` says nothing of the words.
     ensures wrong { IfErr result (IsWrong (map string_bytes words.now)) }
@@ -34,7 +35,7 @@ pub fn order<'a>(alloc: Global, words: &'a [String]) -> Result<Order<'a>, Wrong>
         "pair" => pair_order(alloc, given),
         "serve" => serve_order(given),
         "get" => get_order(alloc, given),
-        "sim" => Ok(sim_order(given)),
+        "sim" => sim_order(given),
         _ => unreachable!(),
     }
 }
@@ -120,13 +121,16 @@ fn get_order<'a>(alloc: Global, given: &ArgMatches<'a>) -> Result<Order<'a>, Wro
 }
 
 // `coap sim FILE`
-fn sim_order<'a>(given: &ArgMatches<'a>) -> Order<'a>
+fn sim_order<'a>(given: &ArgMatches<'a>) -> Result<Order<'a>, Wrong>
     requires { IsGiven (codes "FILE") (rows_of (found_of given.now)) }
-    ensures { AsksForIn (codes "sim") (rows_of (found_of given.now)) result }
+    ensures { MatchResult result (AsksForIn (codes "sim") (rows_of (found_of given.now)))
+        (IsWrongIn (codes "sim") (rows_of (found_of given.now))) }
 {
-    Order::Sim {
-        file: value(given, "FILE"),
-    }
+    let Some(store) = store(given) else {
+        return Err(Wrong::Store);
+    };
+    let file = value(given, "FILE");
+    Ok(Order::Sim { file, store })
 }
 
 // A number of 64 bits.
@@ -163,6 +167,21 @@ fn word(given: &ArgMatches<'_>) -> Option<u64>
     match optional(given, "word") {
         Some(text) => number(text),
         None => Some(DEFAULT_WORD),
+    }
+}
+
+// The store that a script is run over, where `--store` names one.
+fn store(given: &ArgMatches<'_>) -> Option<StoreKind>
+    ensures { MatchOption result (HasNoStore (rows_of (found_of given.now)))
+        (HasStore (rows_of (found_of given.now))) }
+{
+    let Some(name) = optional(given, "store") else {
+        return Some(StoreKind::Map);
+    };
+    match name {
+        "list" => Some(StoreKind::List),
+        "map" => Some(StoreKind::Map),
+        _ => None,
     }
 }
 

@@ -1,4 +1,4 @@
-use Rattle.std.proofs.Common.{refl, inl, inr, codes}
+use Rattle.std.proofs.Common.{refl, inl, inr}
 use Rattle.coap_words.proofs.CoapWords.{enters_met, ours, said_by, wrong_by, show_hex, answer_hex, answer_path, answer_body, pair_body, pair_path, serve_count, serve_port, get_path, get_port, sim_file}
 use Rattle.coap_words.proofs.words.order.Goals as goal
 
@@ -60,7 +60,7 @@ sim_order-requires c =
 pub returns-in-sim : goal.returns-in-sim
 returns-in-sim c =
     let enters = enters_met _ c.in_ok-coap_command.ensures _ _ c.in_ok-matches.ensures.matches c.in_ok-matches.ensures.kinds _ _ _ c.in-sim.is c.in-Some.ensures.name c.in-Some.ensures.rows in
-    record { ok = (codes "sim", _, enters, c.sim_order.ensures); wrong = tt }
+    record { ok = said_by _ _ _ c.sim_order.result enters c.sim_order.ensures; wrong = wrong_by _ _ _ c.sim_order.result enters c.sim_order.ensures }
 
 pub unreachable-requires-in_default-subcommand : goal.unreachable-requires-in_default-subcommand
 unreachable-requires-in_default-subcommand c =
