@@ -54,7 +54,7 @@ const GET: &str = "40017d34bb74656d7065726174757265";
 
 #[test]
 fn shown_datagrams(rt: HostRuntime) -> Result<(), Fail> {
-    let rows: [Row<'_>; 14] = [
+    let rows: [Row<'_>; 24] = [
         (
             &["show", GET],
             0,
@@ -67,11 +67,22 @@ fn shown_datagrams(rt: HostRuntime) -> Result<(), Fail> {
         ),
         (&["show", "5102ABCDEF"], 0, "NON 0.02 abcd ef\n"),
         (&["show", "70000001"], 0, "RST 0.00 0001 -\n"),
+        // The numbers at which the spelling of a first option grows, and the greatest.
+        (&["show", "40010001c0"], 0, "CON 0.01 0001 -\n12 -\n"),
+        (&["show", "40010001d000"], 0, "CON 0.01 0001 -\n13 -\n"),
+        (&["show", "40010001d0ff"], 0, "CON 0.01 0001 -\n268 -\n"),
+        (&["show", "40010001e00000"], 0, "CON 0.01 0001 -\n269 -\n"),
         (&["show", "40010001e0fef2"], 0, "CON 0.01 0001 -\n65535 -\n"),
         (&["show", ""], 1, "fault 1 Short at 0\n"),
         (&["show", "40"], 1, "fault 1 Short at 1\n"),
         (&["show", "80010001"], 1, "fault 2 Version at 0\n"),
         (&["show", "49011234"], 1, "fault 3 TokenLength at 0\n"),
+        (&["show", "4201123407"], 1, "fault 4 TokenCut at 5\n"),
+        (&["show", "41000001"], 1, "fault 5 EmptyNotBare at 4\n"),
+        (&["show", "40010001f0"], 1, "fault 6 DeltaReserved at 4\n"),
+        (&["show", "400100011f"], 1, "fault 7 LengthReserved at 4\n"),
+        (&["show", "40010001d0"], 1, "fault 8 OptionCut at 5\n"),
+        (&["show", "40010001b274"], 1, "fault 8 OptionCut at 6\n"),
         (
             &["show", "40010001e0fef210"],
             1,
