@@ -4,6 +4,8 @@
 #[cfg(test)]
 mod client;
 #[cfg(test)]
+mod hashers;
+#[cfg(test)]
 mod pair;
 #[cfg(test)]
 mod refused_growths;
