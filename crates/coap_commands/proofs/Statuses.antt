@@ -1,14 +1,19 @@
 -- Words that ask for an order have nothing wrong, and what is wrong in words is one thing.
-use Rattle.std.proofs.Common.{◌≡◌, ◌≢◌, ◌∙◌, inl, inr, ap, sym, subst, ℕ, ◌≤◌, ◌<◌, List, [], ◌∷◌, Option, Some, None, unwrap_or, codes, true, false, true≢false, refl, ◌⊎◌, arith, Result, Ok, Err, IfOk}
+use Rattle.std.proofs.Common.{◌≡◌, ◌≢◌, ◌∙◌, inl, inr, ap, sym, subst, ℕ, ◌≤◌, ◌<◌, List, [], ◌∷◌, Option, Some, None}
+use Rattle.std.proofs.Common.{unwrap_or, codes, true, false, true≢false, refl, ◌⊎◌, arith, Result, Ok, Err, IfOk}
 use Rattle.std.specs.Str.{bytes_eq}
 use Rattle.std.proofs.lemmas.Slice.Eq.{bytes_eq-Decides}
 use Rattle.clap.specs.Words.{Row, Text, IsAmong, fault_of, first_of}
 use Rattle.coap_types.specs.Path.{HoldsAtMost}
 use Rattle.hex.specs.Hex.{decode_of}
 use Rattle.coap_words.specs.CommandLine.{coap_app}
-use Rattle.coap_commands.specs.Statuses.{CarriesOut, Ends, IsAnswered, IsCarriedOut, IsTold, RunsScript, status_number, status_of}
+use Rattle.coap_commands.specs.Statuses.{CarriesOut, Ends, IsAnswered, IsCarriedOut, IsTold, RunsScript}
+use Rattle.coap_commands.specs.Statuses.{status_number, status_of}
 use Rattle.coap_words.specs.Numbers.{IsNumber, argument_of, most_of}
-use Rattle.coap_words.specs.Words.{AsksFor, AsksForIn, Enters, HasBadHex, HasBytes, HasNoBytes, HasNoNumber, HasNoPath, HasNoStore, HasNumber, HasPath, HasStore, HasWord, IsPathFine, IsRefusedBy, IsValue, IsWrong, NamesNoNumber, NamesNoPath, NamesNoStore, TakesNumber, TakesPath, store_name}
+use Rattle.coap_words.specs.Words.{AsksFor, AsksForIn, Enters, HasBadHex, HasBytes, HasNoBytes, HasNoNumber}
+use Rattle.coap_words.specs.Words.{HasNoPath, HasNoStore, HasNumber, HasPath, HasStore, HasWord, IsPathFine}
+use Rattle.coap_words.specs.Words.{IsRefusedBy, IsValue, IsWrong, NamesNoNumber, NamesNoPath, NamesNoStore}
+use Rattle.coap_words.specs.Words.{TakesNumber, TakesPath, store_name}
 use Rattle.coap_commands.specs.declared.status.Status.{Status}
 use Rattle.coap_commands.specs.declared.status.Status.TheVariants as status
 use Rattle.coap_commands.specs.declared.status.Stop.{Stop}
@@ -21,14 +26,18 @@ use Rattle.coap_words.specs.declared.orders.NumberRefusal.TheVariants.{Port, Cou
 use Rattle.coap_words.specs.declared.orders.Wrong.{Wrong}
 use Rattle.coap_words.specs.declared.orders.Wrong.TheVariants.{Words, Path, Number, Store, Hex, Memory}
 use Rattle.coap_types.specs.declared.path.PathRefusal.{PathRefusal}
-use Rattle.coap_types.specs.declared.path.TheConstants.{MAX_SEGMENT_LEN as max_segment_len, MAX_SEGMENTS as max_segments}
+use Rattle.coap_types.specs.declared.path.TheConstants.{MAX_SEGMENT_LEN as max_segment_len}
+use Rattle.coap_types.specs.declared.path.TheConstants.{MAX_SEGMENTS as max_segments}
 
 -- ---- one subcommand, and one value of an argument
 
-same_pair : (a b : Text) (v u : List Row) → ◌≡◌ {A = Option (Text × List Row)} (Some (a, v)) (Some (b, u)) → (a ≡ b) × (v ≡ u)
+same_pair : (a b : Text) (v u : List Row) → ◌≡◌ {A = Option (Text × List Row)} (Some (a, v)) (Some (b, u))
+    → (a ≡ b) × (v ≡ u)
 same_pair a b v u h =
-    let none : Text × List Row = (a, v) in
-    (ap (λ (o : Option (Text × List Row)). (unwrap_or o none).0) h, ap (λ (o : Option (Text × List Row)). (unwrap_or o none).1) h)
+    let none : Text × List Row = (a, v) in (
+      ap (λ (o : Option (Text × List Row)). (unwrap_or o none).0) h,
+      ap (λ (o : Option (Text × List Row)). (unwrap_or o none).1) h,
+    )
 
 enters_one : (words : List Text) (a b : Text) (v u : List Row) → Enters words a v → Enters words b u → (a ≡ b) × (v ≡ u)
 enters_one words a b v u e f = same_pair a b v u (sym e.entered ∙ f.entered)
@@ -43,30 +52,36 @@ differ a b name other is_a is_b =
     true≢false (sym same ∙ other)
 
 bytes_or_not : (v : List Row) (bytes : List ℕ) → HasBytes v bytes → HasNoBytes v → ⊥
-bytes_or_not v bytes p q = q.2 bytes (subst (λ (t : Text). decode_of t ≡ Ok bytes) (value_one (codes "HEX") v p.0 q.0 p.1 q.1) p.2)
+bytes_or_not v bytes p q = q.2 bytes (subst (λ (t : Text). decode_of t ≡ Ok bytes)
+    (value_one (codes "HEX") v p.0 q.0 p.1 q.1) p.2)
 
-path_or_not : (v : List Row) (path : List (List ℕ)) (why : PathRefusal) → HasPath v path → HoldsAtMost max_segments max_segment_len path → HasNoPath v why → ⊥
+path_or_not : (v : List Row) (path : List (List ℕ)) (why : PathRefusal) → HasPath v path
+    → HoldsAtMost max_segments max_segment_len path → HasNoPath v why → ⊥
 path_or_not v path why p holds q =
     let same = value_one (codes "PATH") v p.0 q.0 p.1 q.1 in
     q.2 path (subst (λ (t : Text). Rattle.coap_words.specs.PathText.IsPathText t path) same p.2) holds
 
 -- ---- words that ask for an order
 
-none_refused : (kind : Rattle.clap.specs.declared.error.kind.ErrorKind.ErrorKind) (faults : Rattle.clap.specs.Kinds.Kinds) → faults ≡ [] → IsAmong kind faults → ⊥
+none_refused : (kind : Rattle.clap.specs.declared.error.kind.ErrorKind.ErrorKind)
+    (faults : Rattle.clap.specs.Kinds.Kinds) → faults ≡ [] → IsAmong kind faults → ⊥
 none_refused kind [] is h = h
 none_refused kind (x ∷ xs) is h = absurd (cc is)
 
-not_refused : (words : List Text) (error : Rattle.clap.specs.declared.error.Error.Error) → fault_of coap_app words ≡ [] → IsRefusedBy error words → ⊥
+not_refused : (words : List Text) (error : Rattle.clap.specs.declared.error.Error.Error) → fault_of coap_app words ≡ []
+    → IsRefusedBy error words → ⊥
 not_refused words error taken h = none_refused _ (fault_of coap_app words) taken h
 
 -- who takes no PATH, and who takes no number
-takes_none : (known name : Text) → bytes_eq known (codes "answer") ≡ false → bytes_eq known (codes "pair") ≡ false → bytes_eq known (codes "get") ≡ false
+takes_none : (known name : Text) → bytes_eq known (codes "answer") ≡ false → bytes_eq known (codes "pair") ≡ false
+    → bytes_eq known (codes "get") ≡ false
     → name ≡ known → TakesPath name → ⊥
 takes_none known name a p g is (inl e) = differ known (codes "answer") name a is e
 takes_none known name a p g is (inr (inl e)) = differ known (codes "pair") name p is e
 takes_none known name a p g is (inr (inr e)) = differ known (codes "get") name g is e
 
-counts_none : (known name : Text) (why : NumberRefusal) → bytes_eq known (codes "pair") ≡ false → bytes_eq known (codes "serve") ≡ false → bytes_eq known (codes "get") ≡ false
+counts_none : (known name : Text) (why : NumberRefusal) → bytes_eq known (codes "pair") ≡ false
+    → bytes_eq known (codes "serve") ≡ false → bytes_eq known (codes "get") ≡ false
     → name ≡ known → TakesNumber why name → ⊥
 counts_none known name Port p s g is (inl e) = differ known (codes "serve") name s is e
 counts_none known name Port p s g is (inr e) = differ known (codes "get") name g is e
@@ -76,12 +91,14 @@ counts_none known name Word p s g is (inr (inl e)) = differ known (codes "serve"
 counts_none known name Word p s g is (inr (inr e)) = differ known (codes "get") name g is e
 
 -- who takes no HEX
-hexless : (known name : Text) (v : List Row) → bytes_eq known (codes "show") ≡ false → bytes_eq known (codes "answer") ≡ false
+hexless : (known name : Text) (v : List Row) → bytes_eq known (codes "show") ≡ false
+    → bytes_eq known (codes "answer") ≡ false
     → name ≡ known → IsPathFine name v → ⊥
 hexless known name v s a is (inl e) = differ known (codes "show") name s is e
 hexless known name v s a is (inr e) = differ known (codes "answer") name a is e.0
 
-has_path : (name : Text) (v : List Row) (order : Order) → TakesPath name → AsksForIn name v order → (path : List (List ℕ)) × HasPath v path × HoldsAtMost max_segments max_segment_len path
+has_path : (name : Text) (v : List Row) (order : Order) → TakesPath name → AsksForIn name v order
+    → (path : List (List ℕ)) × HasPath v path × HoldsAtMost max_segments max_segment_len path
 has_path name v (Show datagram) takes h = absurd (takes_none (codes "show") name refl refl refl h.0 takes)
 has_path name v (Answer path body datagram) takes h = (path, h.1, h.2)
 has_path name v (Pair path body word) takes h = (path, h.1, h.2)
@@ -103,9 +120,11 @@ of_word : (v : List Row) (n : ℕ) → HasWord v n → MayHave Word v
 of_word v n (inl none) = inl none.0
 of_word v n (inr has) = inr (n, has)
 
-has_number : (name : Text) (v : List Row) (order : Order) (why : NumberRefusal) → TakesNumber why name → AsksForIn name v order → MayHave why v
+has_number : (name : Text) (v : List Row) (order : Order) (why : NumberRefusal) → TakesNumber why name
+    → AsksForIn name v order → MayHave why v
 has_number name v (Show datagram) why takes h = absurd (counts_none (codes "show") name why refl refl refl h.0 takes)
-has_number name v (Answer path body datagram) why takes h = absurd (counts_none (codes "answer") name why refl refl refl h.0 takes)
+has_number name v (Answer path body datagram) why takes h =
+    absurd (counts_none (codes "answer") name why refl refl refl h.0 takes)
 has_number name v (Pair path body word) Port (inl e) h = absurd (differ (codes "pair") (codes "serve") name refl h.0 e)
 has_number name v (Pair path body word) Port (inr e) h = absurd (differ (codes "pair") (codes "get") name refl h.0 e)
 has_number name v (Pair path body word) Count e h = absurd (differ (codes "pair") (codes "serve") name refl h.0 e)
@@ -127,13 +146,15 @@ number_or_not v why (inr has) q =
     let most = has.1.2.1 in
     absurd (omega (arith, over, most))
 
-asked_number : (words : List Text) (order : Order) (why : NumberRefusal) → AsksFor words order → NamesNoNumber words why → ⊥
+asked_number : (words : List Text) (order : Order) (why : NumberRefusal) → AsksFor words order → NamesNoNumber words why
+    → ⊥
 asked_number words order why (name, v, e, asks) (other, u, f, takes, none) =
     let one = enters_one words name other v u e f in
     let has = has_number name v order why (subst (TakesNumber why) (sym one.0) takes) asks in
     number_or_not u why (subst (MayHave why) one.1 has) none
 
-has_bytes : (name : Text) (v : List Row) (order : Order) → AsksForIn name v order → IsPathFine name v → (bytes : List ℕ) × HasBytes v bytes
+has_bytes : (name : Text) (v : List Row) (order : Order) → AsksForIn name v order → IsPathFine name v
+    → (bytes : List ℕ) × HasBytes v bytes
 has_bytes name v (Show datagram) h fine = (datagram.items, h.1)
 has_bytes name v (Answer path body datagram) h fine = (datagram.items, h.4)
 has_bytes name v (Pair path body word) h fine = absurd (hexless (codes "pair") name v refl refl h.0 fine)
@@ -222,7 +243,8 @@ with_4 Hex n is = inr (inr is)
 with_4 Memory n is = tt
 
 -- bad hex that can't be printed
-with_3 : (words : List Text) (wrong : Wrong) (n : ℕ) → HasBadHex words → IsWrong words wrong → n ≡ 3 → IsAnswered wrong n
+with_3 : (words : List Text) (wrong : Wrong) (n : ℕ) → HasBadHex words → IsWrong words wrong → n ≡ 3
+    → IsAnswered wrong n
 with_3 words (Words error) n (name, v, e, fine, bad) is three = absurd (not_refused words error e.taken is)
 with_3 words (Path why) n bad is three = absurd (path_hex words why is bad)
 with_3 words (Number why) n bad is three = absurd (number_hex words why is bad)
@@ -230,7 +252,8 @@ with_3 words Store n bad is three = absurd (store_hex words is bad)
 with_3 words Hex n bad is three = inr (inl three)
 with_3 words Memory n bad is three = tt
 
-order_answered : (words : List Text) (order : Order) (wrong : Wrong) (n : ℕ) → AsksFor words order → IsWrong words wrong → IsAnswered wrong n
+order_answered : (words : List Text) (order : Order) (wrong : Wrong) (n : ℕ) → AsksFor words order → IsWrong words wrong
+    → IsAnswered wrong n
 order_answered words order (Words error) n (name, v, e, asks) is = absurd (not_refused words error e.taken is)
 order_answered words order (Path why) n asks is = absurd (asked_path words order why asks is)
 order_answered words order (Number why) n asks is = absurd (asked_number words order why asks is)
@@ -238,7 +261,8 @@ order_answered words order Store n asks is = absurd (asked_store words order ask
 order_answered words order Hex n asks is = absurd (asked_hex words order asks is)
 order_answered words order Memory n asks is = tt
 
-wrong_answered : (words : List Text) (ended : Result Status Stop) (own wrong : Wrong) → IsWrong words own → IsTold own ended → IsWrong words wrong → IsAnswered wrong (number ended)
+wrong_answered : (words : List Text) (ended : Result Status Stop) (own wrong : Wrong) → IsWrong words own
+    → IsTold own ended → IsWrong words wrong → IsAnswered wrong (number ended)
 wrong_answered words ended (Words error) wrong own told is = with_2 wrong _ (ap number told)
 wrong_answered words ended (Path why) wrong own told is = with_2 wrong _ (ap number told)
 wrong_answered words ended (Number why) wrong own told is = with_2 wrong _ (ap number told)
@@ -248,7 +272,8 @@ wrong_answered words ended Hex wrong own (inr told) is = with_3 words wrong _ ow
 wrong_answered words ended Memory wrong own told is = with_4 wrong _ (ap number told)
 
 -- what is wrong is answered so
-pub answered : (words : List Text) (ended : Result Status Stop) → Ends words ended → (wrong : Wrong) → IsWrong words wrong → IsAnswered wrong (number ended)
+pub answered : (words : List Text) (ended : Result Status Stop) → Ends words ended → (wrong : Wrong)
+    → IsWrong words wrong → IsAnswered wrong (number ended)
 answered words ended (inl h) wrong is = order_answered words h.0 wrong _ h.1 is
 answered words ended (inr h) wrong is = wrong_answered words ended h.0 wrong h.1 h.2 is
 
@@ -258,7 +283,8 @@ carried_out (Ok s) (inr is) h = absurd (let n : 1 ≡ 2 = sym (ap status_number 
 carried_out (Err stop.Failed) c h = absurd (let n : 3 ≡ 2 = h in omega (arith, n))
 carried_out (Err stop.Memory) c h = absurd (let n : 4 ≡ 2 = h in omega (arith, n))
 
-of_words : (words : List Text) (ended : Result Status Stop) (wrong : Wrong) → IsWrong words wrong → IsTold wrong ended → number ended ≡ 2 → (wrong : Wrong) × IsWrong words wrong × (wrong ≢ Memory)
+of_words : (words : List Text) (ended : Result Status Stop) (wrong : Wrong) → IsWrong words wrong → IsTold wrong ended
+    → number ended ≡ 2 → (wrong : Wrong) × IsWrong words wrong × (wrong ≢ Memory)
 of_words words ended (Words error) is told h = (Words error, is, λ e. cc e)
 of_words words ended (Path why) is told h = (Path why, is, λ e. cc e)
 of_words words ended (Number why) is told h = (Number why, is, λ e. cc e)
@@ -267,7 +293,8 @@ of_words words ended Hex is told h = (Hex, is, λ e. cc e)
 of_words words ended Memory is told h = absurd (let n : 4 ≡ 2 = sym (ap number told) ∙ h in omega (arith, n))
 
 -- an order that is carried out comes to 2 only where it runs a script
-script_only : (order : Order) (ended : Result Status Stop) → IfOk ended (CarriesOut order) → number ended ≡ 2 → RunsScript order
+script_only : (order : Order) (ended : Result Status Stop) → IfOk ended (CarriesOut order) → number ended ≡ 2
+    → RunsScript order
 script_only (Show datagram) ended c h = absurd (carried_out ended c h)
 script_only (Answer path body datagram) ended c h = absurd (carried_out ended c h)
 script_only (Pair path body word) ended c h = absurd (carried_out ended c h)
@@ -277,7 +304,8 @@ script_only (Sim file store) ended c h = tt
 
 -- 2 says that something is wrong in the words, or that they run a script
 pub wrong_words : (words : List Text) (ended : Result Status Stop) → Ends words ended → number ended ≡ 2
-    → ((wrong : Wrong) × IsWrong words wrong × (wrong ≢ Memory)) ⊎ ((order : Order) × AsksFor words order × RunsScript order)
+    → ((wrong : Wrong) × IsWrong words wrong × (wrong ≢ Memory))
+    ⊎ ((order : Order) × AsksFor words order × RunsScript order)
 wrong_words words ended (inl e) h = inr (e.0, e.1, script_only e.0 ended e.2 h)
 wrong_words words ended (inr e) h = inl (of_words words ended e.0 e.1 e.2 h)
 
@@ -291,6 +319,7 @@ told_more ended Hex (inr told) h = absurd (let n : number ended ≡ 3 = ap numbe
 told_more ended Memory told h = absurd (let n : number ended ≡ 4 = ap number told in omega (arith, n, h))
 
 -- 0 and 1 say that the words ask for an order
-pub asked : (words : List Text) (ended : Result Status Stop) → Ends words ended → number ended ≤ 1 → (order : Order) × AsksFor words order
+pub asked : (words : List Text) (ended : Result Status Stop) → Ends words ended → number ended ≤ 1
+    → (order : Order) × AsksFor words order
 asked words ended (inl e) h = (e.0, e.1)
 asked words ended (inr e) h = absurd (told_more ended e.0 e.2 h)

@@ -51,8 +51,8 @@ IsTold Store ended = ended ≡ Ok status.Words
 IsTold Hex ended = (ended ≡ Ok status.Words) ⊎ (ended ≡ Err stop.Failed)
 IsTold Memory ended = ended ≡ Err stop.Memory
 
--- What is wrong in the words is answered so: 2, or 4 where memory is refused; where bad hex can't be printed, 3. Want of memory says
--- nothing of the words.
+-- What is wrong in the words is answered so: 2, or 4 where memory is refused; where bad hex can't be printed, 3. Want
+-- of memory says nothing of the words.
 abbrev pub IsAnswered : Wrong → ℕ → Type 0
 IsAnswered (Words error) n = (n ≡ 2) ⊎ (n ≡ 4)
 IsAnswered (Path refusal) n = (n ≡ 2) ⊎ (n ≡ 4)

@@ -1,6 +1,7 @@
 //! One run of the program, over the writers that it is handed.
 ghost use Rattle.std.specs.Prelude.{◌≡◌, ◌≢◌, ◌≤◌, ◌⊎◌, IfOk, map, string_bytes};
-ghost use Rattle.coap_commands.specs.Statuses.{CarriesOut, Ends, IsAnswered, IsTold, RunsScript, status_number, status_of};
+ghost use Rattle.coap_commands.specs.Statuses.{CarriesOut, Ends, IsAnswered, IsTold, RunsScript, status_number};
+ghost use Rattle.coap_commands.specs.Statuses.{status_of};
 ghost use Rattle.coap_words.specs.Words.{AsksFor, IsWrong};
 ghost use Rattle.coap_words.specs.declared.orders.Order.{Order};
 ghost use Rattle.coap_words.specs.declared.orders.Wrong.{Wrong};

@@ -25,16 +25,20 @@ abbrev pub show_app : App
 show_app = with_rule (new_app (codes "show")) (required_word (codes "HEX"))
 
 abbrev pub answer_app : App
-answer_app = with_rule (with_rule (with_rule (new_app (codes "answer")) (required_word (codes "PATH"))) (required_word (codes "BODY"))) (required_word (codes "HEX"))
+answer_app = with_rule (with_rule (with_rule (new_app (codes "answer")) (required_word (codes "PATH")))
+    (required_word (codes "BODY"))) (required_word (codes "HEX"))
 
 abbrev pub pair_app : App
-pair_app = with_rule (with_rule (with_rule (new_app (codes "pair")) (required_word (codes "PATH"))) (required_word (codes "BODY"))) word_option
+pair_app = with_rule (with_rule (with_rule (new_app (codes "pair")) (required_word (codes "PATH")))
+    (required_word (codes "BODY"))) word_option
 
 abbrev pub serve_app : App
-serve_app = with_rule (with_rule (with_rule (new_app (codes "serve")) (required_word (codes "PORT"))) (required_word (codes "COUNT"))) word_option
+serve_app = with_rule (with_rule (with_rule (new_app (codes "serve")) (required_word (codes "PORT")))
+    (required_word (codes "COUNT"))) word_option
 
 abbrev pub get_app : App
-get_app = with_rule (with_rule (with_rule (new_app (codes "get")) (required_word (codes "PORT"))) (required_word (codes "PATH"))) word_option
+get_app = with_rule (with_rule (with_rule (new_app (codes "get")) (required_word (codes "PORT")))
+    (required_word (codes "PATH"))) word_option
 
 abbrev pub sim_app : App
 sim_app = with_rule (with_rule (new_app (codes "sim")) (required_word (codes "FILE"))) store_option
@@ -49,4 +53,5 @@ datagram_app = with_subcommand (with_subcommand base_app show_app.top) answer_ap
 
 -- the program, whose words name one of its subcommands
 abbrev pub coap_app : App
-coap_app = with_subcommand (with_subcommand (with_subcommand (with_subcommand datagram_app pair_app.top) serve_app.top) get_app.top) sim_app.top
+coap_app = with_subcommand (with_subcommand (with_subcommand (with_subcommand datagram_app pair_app.top) serve_app.top)
+    get_app.top) sim_app.top

@@ -4,7 +4,8 @@ use Rattle.std.specs.List.{join_with_byte}
 use Rattle.coap_types.specs.Path.{HoldsAtMost}
 use Rattle.coap_types.specs.declared.path.PathRefusal.{PathRefusal}
 use Rattle.coap_types.specs.declared.path.PathRefusal.TheVariants.{SegmentTooLong, TooManySegments, Memory}
-use Rattle.coap_types.specs.declared.path.TheConstants.{MAX_SEGMENT_LEN as max_segment_len, MAX_SEGMENTS as max_segments}
+use Rattle.coap_types.specs.declared.path.TheConstants.{MAX_SEGMENT_LEN as max_segment_len}
+use Rattle.coap_types.specs.declared.path.TheConstants.{MAX_SEGMENTS as max_segments}
 
 -- the text, of which one leading `/` is dropped
 abbrev pub without_leading_slash : List ℕ → List ℕ
@@ -23,10 +24,12 @@ IsPathText text segments = Joins (without_leading_slash text) segments
 
 -- what the text says is no path: it has too many segments, or one that is too long
 abbrev pub IsNoPath : List ℕ → Type 0
-IsNoPath text = (segments : List (List ℕ)) → IsPathText text segments → HoldsAtMost max_segments max_segment_len segments → ⊥
+IsNoPath text = (segments : List (List ℕ)) → IsPathText text segments
+    → HoldsAtMost max_segments max_segment_len segments → ⊥
 
 -- the refusal is true of what the text says
 abbrev pub IsTrueOf : PathRefusal → List ℕ → Type 0
-IsTrueOf SegmentTooLong text = (segments : List (List ℕ)) × IsPathText text segments × Any (λ s. max_segment_len < length s) segments
+IsTrueOf SegmentTooLong text = (segments : List (List ℕ)) × IsPathText text segments
+    × Any (λ s. max_segment_len < length s) segments
 IsTrueOf TooManySegments text = (segments : List (List ℕ)) × IsPathText text segments × (max_segments < length segments)
 IsTrueOf Memory text = ⊥

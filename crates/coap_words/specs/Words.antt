@@ -4,7 +4,8 @@ use Rattle.clap.specs.Words.{IsAmong, Row, Text, fault_of, first_of, kind_of, su
 use Rattle.clap.specs.declared.error.Error.{Error}
 use Rattle.coap_types.specs.Path.{HoldsAtMost}
 use Rattle.coap_types.specs.declared.path.PathRefusal.{PathRefusal}
-use Rattle.coap_types.specs.declared.path.TheConstants.{MAX_SEGMENT_LEN as max_segment_len, MAX_SEGMENTS as max_segments}
+use Rattle.coap_types.specs.declared.path.TheConstants.{MAX_SEGMENT_LEN as max_segment_len}
+use Rattle.coap_types.specs.declared.path.TheConstants.{MAX_SEGMENTS as max_segments}
 use Rattle.hex.specs.Hex.{decode_of}
 use Rattle.coap_words.specs.CommandLine.{coap_app}
 use Rattle.coap_words.specs.Numbers.{IsInRange, IsOutOfRange, argument_of}
@@ -79,24 +80,29 @@ HasNoStore values = (text : Text) × IsValue (codes "store") values text
 abbrev pub AsksForIn : Text → List Row → Order → Type 0
 AsksForIn subcommand values (Show datagram) = (subcommand ≡ codes "show") × HasBytes values datagram.items
 AsksForIn subcommand values (Answer path body datagram) =
-    (subcommand ≡ codes "answer") × HasPath values path × HoldsAtMost max_segments max_segment_len path × IsValue (codes "BODY") values body.now × HasBytes values datagram.items
+    (subcommand ≡ codes "answer") × HasPath values path × HoldsAtMost max_segments max_segment_len path
+    × IsValue (codes "BODY") values body.now × HasBytes values datagram.items
 AsksForIn subcommand values (Pair path body word) =
-    (subcommand ≡ codes "pair") × HasPath values path × HoldsAtMost max_segments max_segment_len path × IsValue (codes "BODY") values body.now × HasWord values word
+    (subcommand ≡ codes "pair") × HasPath values path × HoldsAtMost max_segments max_segment_len path
+    × IsValue (codes "BODY") values body.now × HasWord values word
 AsksForIn subcommand values (Serve port count word) =
     (subcommand ≡ codes "serve") × HasNumber Port values port × HasNumber Count values count × HasWord values word
 AsksForIn subcommand values (Get port path word) =
-    (subcommand ≡ codes "get") × HasNumber Port values port × HasPath values path × HoldsAtMost max_segments max_segment_len path × HasWord values word
+    (subcommand ≡ codes "get") × HasNumber Port values port × HasPath values path
+    × HoldsAtMost max_segments max_segment_len path × HasWord values word
 AsksForIn subcommand values (Sim file store) =
     (subcommand ≡ codes "sim") × IsValue (codes "FILE") values file.now × HasStore values store
 
 -- the words say this order
 abbrev pub AsksFor : List Text → Order → Type 0
-AsksFor words order = (subcommand : Text) × (values : List Row) × Enters words subcommand values × AsksForIn subcommand values order
+AsksFor words order = (subcommand : Text) × (values : List Row) × Enters words subcommand values
+    × AsksForIn subcommand values order
 
 -- the subcommand takes no PATH, or its PATH is a text of a path
 abbrev pub IsPathFine : Text → List Row → Type 0
 IsPathFine subcommand values = (subcommand ≡ codes "show")
-    ⊎ ((subcommand ≡ codes "answer") × (segments : List (List ℕ)) × HasPath values segments × HoldsAtMost max_segments max_segment_len segments)
+    ⊎ ((subcommand ≡ codes "answer") × (segments : List (List ℕ)) × HasPath values segments
+    × HoldsAtMost max_segments max_segment_len segments)
 
 -- the subcommand takes a PATH
 abbrev pub TakesPath : Text → Type 0
@@ -114,12 +120,14 @@ IsRefusedBy error words = IsAmong (kind_of error) (fault_of coap_app words)
 
 -- clap takes the words, and the PATH among them is a text of no path, for this reason
 abbrev pub NamesNoPath : List Text → PathRefusal → Type 0
-NamesNoPath words refusal = (subcommand : Text) × (values : List Row) × Enters words subcommand values × TakesPath subcommand × HasNoPath values refusal
+NamesNoPath words refusal = (subcommand : Text) × (values : List Row) × Enters words subcommand values
+    × TakesPath subcommand × HasNoPath values refusal
 
 -- clap takes the words, and this argument among them is no number in its range
 abbrev pub NamesNoNumber : List Text → NumberRefusal → Type 0
 NamesNoNumber words refusal =
-    (subcommand : Text) × (values : List Row) × Enters words subcommand values × TakesNumber refusal subcommand × HasNoNumber refusal values
+    (subcommand : Text) × (values : List Row) × Enters words subcommand values × TakesNumber refusal subcommand
+    × HasNoNumber refusal values
 
 -- clap takes the words, which run a script, and `--store` among them names no store
 abbrev pub NamesNoStore : List Text → Type 0
@@ -129,7 +137,8 @@ NamesNoStore words =
 
 -- clap takes the words, a PATH among them is a text of a path, and HEX is the hex of no list of bytes
 abbrev pub HasBadHex : List Text → Type 0
-HasBadHex words = (subcommand : Text) × (values : List Row) × Enters words subcommand values × IsPathFine subcommand values × HasNoBytes values
+HasBadHex words = (subcommand : Text) × (values : List Row) × Enters words subcommand values
+    × IsPathFine subcommand values × HasNoBytes values
 
 -- this is wrong in the words; of memory that is refused they say nothing
 abbrev pub IsWrong : List Text → Wrong → Type 0

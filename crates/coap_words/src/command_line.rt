@@ -2,7 +2,9 @@
 ghost use Rattle.std.specs.Prelude.{◌≡◌, IfOk, false};
 ghost use Rattle.clap.specs.Words.{app_of, rule_of, with_rule, with_subcommand};
 ghost use Rattle.clap.specs.declared.builder.command.Command.TheViews.{out-Command};
-ghost use Rattle.coap_words.specs.CommandLine.{answer_app, coap_app, datagram_app, get_app, option_of, pair_app, required_word, serve_app, show_app, sim_app, store_option, word_option};
+ghost use Rattle.coap_words.specs.CommandLine.{answer_app, coap_app, datagram_app, get_app, option_of, pair_app};
+ghost use Rattle.coap_words.specs.CommandLine.{required_word, serve_app, show_app, sim_app, store_option};
+ghost use Rattle.coap_words.specs.CommandLine.{word_option};
 
 use crate::put_away::put_away;
 use clap::{Arg, ArgAction, Command};

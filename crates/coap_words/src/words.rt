@@ -1,7 +1,9 @@
 //! The words of the program, read.
-ghost use Rattle.std.specs.Prelude.{◌≡◌, ◌<◌, ◌-◌, ◌^◌, ℕ, IfOk, IfErr, None, MatchOption, MatchResult, map, codes, string_bytes};
+ghost use Rattle.std.specs.Prelude.{◌≡◌, ◌<◌, ◌-◌, ◌^◌, ℕ, IfOk, IfErr, None, MatchOption, MatchResult, map, codes};
+ghost use Rattle.std.specs.Prelude.{string_bytes};
 ghost use Rattle.clap.specs.Words.{first_of, found_of, rows_of};
-ghost use Rattle.coap_words.specs.Words.{AsksFor, AsksForIn, HasNoNumber, HasNoStore, HasNumber, HasStore, HasWord, IsGiven, IsValue, IsWrong, IsWrongIn};
+ghost use Rattle.coap_words.specs.Words.{AsksFor, AsksForIn, HasNoNumber, HasNoStore, HasNumber, HasStore, HasWord};
+ghost use Rattle.coap_words.specs.Words.{IsGiven, IsValue, IsWrong, IsWrongIn};
 ghost use Rattle.coap_words.specs.Numbers.{IsNumber};
 ghost use Rattle.coap_words.specs.declared.orders.NumberRefusal.TheVariants.{Count, Port, Word};
 

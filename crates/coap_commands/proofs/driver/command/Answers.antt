@@ -5,15 +5,18 @@ use Rattle.coap_commands.proofs.driver.command.Goals as goal
 
 pub returns-clause-wrong : goal.returns-clause-wrong
 returns-clause-wrong g c = λ wrong is.
-    let n : c.number.result ≡ status_number (status_of c.run-ended.result) = c.number.ensures ∙ ap status_number c.close.ensures in
+    let n : c.number.result ≡ status_number (status_of c.run-ended.result) = c.number.ensures
+    ∙ ap status_number c.close.ensures in
     subst (IsAnswered wrong) (sym n) (answered _ _ c.run-ended.ensures wrong is)
 
 pub returns-clause-words : goal.returns-clause-words
 returns-clause-words g c = λ h.
-    let n : c.number.result ≡ status_number (status_of c.run-ended.result) = c.number.ensures ∙ ap status_number c.close.ensures in
+    let n : c.number.result ≡ status_number (status_of c.run-ended.result) = c.number.ensures
+    ∙ ap status_number c.close.ensures in
     wrong_words _ _ c.run-ended.ensures (sym n ∙ h)
 
 pub returns-clause-done : goal.returns-clause-done
 returns-clause-done g c = λ h.
-    let n : c.number.result ≡ status_number (status_of c.run-ended.result) = c.number.ensures ∙ ap status_number c.close.ensures in
+    let n : c.number.result ≡ status_number (status_of c.run-ended.result) = c.number.ensures
+    ∙ ap status_number c.close.ensures in
     asked _ _ c.run-ended.ensures (subst (λ k. k ≤ 1) n h)

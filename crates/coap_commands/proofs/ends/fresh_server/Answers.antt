@@ -7,5 +7,6 @@ use Rattle.coap_commands.proofs.ends.fresh_server.Goals as goal
 
 pub returns : goal.returns
 returns g c =
-    subst (λ (szx : ℕ). Led max_changes szx c.args.word [] (state_of content_of c.with_hasher.result)) c.largest_szx.ensures
+    subst (λ (szx : ℕ). Led max_changes szx c.args.word [] (state_of content_of c.with_hasher.result))
+    c.largest_szx.ensures
     (c.with_hasher.ensures.led max_changes c.in-Some.ensures.empty)

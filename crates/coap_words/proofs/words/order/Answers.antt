@@ -1,70 +1,103 @@
 use Rattle.std.proofs.Common.{refl, inl, inr}
-use Rattle.coap_words.proofs.CoapWords.{enters_met, ours, said_by, wrong_by, show_hex, answer_hex, answer_path, answer_body, pair_body, pair_path, serve_count, serve_port, get_path, get_port, sim_file}
+use Rattle.coap_words.proofs.CoapWords.{enters_met, ours, said_by, wrong_by, show_hex, answer_hex, answer_path}
+use Rattle.coap_words.proofs.CoapWords.{answer_body, pair_body, pair_path, serve_count, serve_port, get_path}
+use Rattle.coap_words.proofs.CoapWords.{get_port, sim_file}
 use Rattle.coap_words.proofs.words.order.Goals as goal
 
 pub show_order-requires : goal.show_order-requires
 show_order-requires c =
-    let enters = enters_met _ c.in_ok-coap_command.ensures _ _ c.in_ok-matches.ensures.matches c.in_ok-matches.ensures.kinds _ _ _ c.in-show.is c.in-Some.ensures.name c.in-Some.ensures.rows in
+    let enters = enters_met _ c.in_ok-coap_command.ensures _ _ c.in_ok-matches.ensures.matches
+    c.in_ok-matches.ensures.kinds _ _ _ c.in-show.is c.in-Some.ensures.name c.in-Some.ensures.rows in
     show_hex _ _ enters
 
 pub returns-in-show : goal.returns-in-show
 returns-in-show c =
-    let enters = enters_met _ c.in_ok-coap_command.ensures _ _ c.in_ok-matches.ensures.matches c.in_ok-matches.ensures.kinds _ _ _ c.in-show.is c.in-Some.ensures.name c.in-Some.ensures.rows in
-    record { ok = said_by _ _ _ c.show_order.result enters c.show_order.ensures; wrong = wrong_by _ _ _ c.show_order.result enters c.show_order.ensures }
+    let enters = enters_met _ c.in_ok-coap_command.ensures _ _ c.in_ok-matches.ensures.matches
+    c.in_ok-matches.ensures.kinds _ _ _ c.in-show.is c.in-Some.ensures.name c.in-Some.ensures.rows in
+    record {
+      ok = said_by _ _ _ c.show_order.result enters c.show_order.ensures;
+      wrong = wrong_by _ _ _ c.show_order.result enters c.show_order.ensures;
+    }
 
 pub answer_order-requires : goal.answer_order-requires
 answer_order-requires c =
-    let enters = enters_met _ c.in_ok-coap_command.ensures _ _ c.in_ok-matches.ensures.matches c.in_ok-matches.ensures.kinds _ _ _ c.in-answer.is c.in-Some.ensures.name c.in-Some.ensures.rows in
+    let enters = enters_met _ c.in_ok-coap_command.ensures _ _ c.in_ok-matches.ensures.matches
+    c.in_ok-matches.ensures.kinds _ _ _ c.in-answer.is c.in-Some.ensures.name c.in-Some.ensures.rows in
     record { path = answer_path _ _ enters; body = answer_body _ _ enters; hex = answer_hex _ _ enters }
 
 pub returns-in-answer : goal.returns-in-answer
 returns-in-answer c =
-    let enters = enters_met _ c.in_ok-coap_command.ensures _ _ c.in_ok-matches.ensures.matches c.in_ok-matches.ensures.kinds _ _ _ c.in-answer.is c.in-Some.ensures.name c.in-Some.ensures.rows in
-    record { ok = said_by _ _ _ c.answer_order.result enters c.answer_order.ensures; wrong = wrong_by _ _ _ c.answer_order.result enters c.answer_order.ensures }
+    let enters = enters_met _ c.in_ok-coap_command.ensures _ _ c.in_ok-matches.ensures.matches
+    c.in_ok-matches.ensures.kinds _ _ _ c.in-answer.is c.in-Some.ensures.name c.in-Some.ensures.rows in
+    record {
+      ok = said_by _ _ _ c.answer_order.result enters c.answer_order.ensures;
+      wrong = wrong_by _ _ _ c.answer_order.result enters c.answer_order.ensures;
+    }
 
 pub pair_order-requires : goal.pair_order-requires
 pair_order-requires c =
-    let enters = enters_met _ c.in_ok-coap_command.ensures _ _ c.in_ok-matches.ensures.matches c.in_ok-matches.ensures.kinds _ _ _ c.in-pair.is c.in-Some.ensures.name c.in-Some.ensures.rows in
+    let enters = enters_met _ c.in_ok-coap_command.ensures _ _ c.in_ok-matches.ensures.matches
+    c.in_ok-matches.ensures.kinds _ _ _ c.in-pair.is c.in-Some.ensures.name c.in-Some.ensures.rows in
     record { path = pair_path _ _ enters; body = pair_body _ _ enters }
 
 pub returns-in-pair : goal.returns-in-pair
 returns-in-pair c =
-    let enters = enters_met _ c.in_ok-coap_command.ensures _ _ c.in_ok-matches.ensures.matches c.in_ok-matches.ensures.kinds _ _ _ c.in-pair.is c.in-Some.ensures.name c.in-Some.ensures.rows in
-    record { ok = said_by _ _ _ c.pair_order.result enters c.pair_order.ensures; wrong = wrong_by _ _ _ c.pair_order.result enters c.pair_order.ensures }
+    let enters = enters_met _ c.in_ok-coap_command.ensures _ _ c.in_ok-matches.ensures.matches
+    c.in_ok-matches.ensures.kinds _ _ _ c.in-pair.is c.in-Some.ensures.name c.in-Some.ensures.rows in
+    record {
+      ok = said_by _ _ _ c.pair_order.result enters c.pair_order.ensures;
+      wrong = wrong_by _ _ _ c.pair_order.result enters c.pair_order.ensures;
+    }
 
 pub serve_order-requires : goal.serve_order-requires
 serve_order-requires c =
-    let enters = enters_met _ c.in_ok-coap_command.ensures _ _ c.in_ok-matches.ensures.matches c.in_ok-matches.ensures.kinds _ _ _ c.in-serve.is c.in-Some.ensures.name c.in-Some.ensures.rows in
+    let enters = enters_met _ c.in_ok-coap_command.ensures _ _ c.in_ok-matches.ensures.matches
+    c.in_ok-matches.ensures.kinds _ _ _ c.in-serve.is c.in-Some.ensures.name c.in-Some.ensures.rows in
     record { port = serve_port _ _ enters; count = serve_count _ _ enters }
 
 pub returns-in-serve : goal.returns-in-serve
 returns-in-serve c =
-    let enters = enters_met _ c.in_ok-coap_command.ensures _ _ c.in_ok-matches.ensures.matches c.in_ok-matches.ensures.kinds _ _ _ c.in-serve.is c.in-Some.ensures.name c.in-Some.ensures.rows in
-    record { ok = said_by _ _ _ c.serve_order.result enters c.serve_order.ensures; wrong = wrong_by _ _ _ c.serve_order.result enters c.serve_order.ensures }
+    let enters = enters_met _ c.in_ok-coap_command.ensures _ _ c.in_ok-matches.ensures.matches
+    c.in_ok-matches.ensures.kinds _ _ _ c.in-serve.is c.in-Some.ensures.name c.in-Some.ensures.rows in
+    record {
+      ok = said_by _ _ _ c.serve_order.result enters c.serve_order.ensures;
+      wrong = wrong_by _ _ _ c.serve_order.result enters c.serve_order.ensures;
+    }
 
 pub get_order-requires : goal.get_order-requires
 get_order-requires c =
-    let enters = enters_met _ c.in_ok-coap_command.ensures _ _ c.in_ok-matches.ensures.matches c.in_ok-matches.ensures.kinds _ _ _ c.in-get.is c.in-Some.ensures.name c.in-Some.ensures.rows in
+    let enters = enters_met _ c.in_ok-coap_command.ensures _ _ c.in_ok-matches.ensures.matches
+    c.in_ok-matches.ensures.kinds _ _ _ c.in-get.is c.in-Some.ensures.name c.in-Some.ensures.rows in
     record { port = get_port _ _ enters; path = get_path _ _ enters }
 
 pub returns-in-get : goal.returns-in-get
 returns-in-get c =
-    let enters = enters_met _ c.in_ok-coap_command.ensures _ _ c.in_ok-matches.ensures.matches c.in_ok-matches.ensures.kinds _ _ _ c.in-get.is c.in-Some.ensures.name c.in-Some.ensures.rows in
-    record { ok = said_by _ _ _ c.get_order.result enters c.get_order.ensures; wrong = wrong_by _ _ _ c.get_order.result enters c.get_order.ensures }
+    let enters = enters_met _ c.in_ok-coap_command.ensures _ _ c.in_ok-matches.ensures.matches
+    c.in_ok-matches.ensures.kinds _ _ _ c.in-get.is c.in-Some.ensures.name c.in-Some.ensures.rows in
+    record {
+      ok = said_by _ _ _ c.get_order.result enters c.get_order.ensures;
+      wrong = wrong_by _ _ _ c.get_order.result enters c.get_order.ensures;
+    }
 
 pub sim_order-requires : goal.sim_order-requires
 sim_order-requires c =
-    let enters = enters_met _ c.in_ok-coap_command.ensures _ _ c.in_ok-matches.ensures.matches c.in_ok-matches.ensures.kinds _ _ _ c.in-sim.is c.in-Some.ensures.name c.in-Some.ensures.rows in
+    let enters = enters_met _ c.in_ok-coap_command.ensures _ _ c.in_ok-matches.ensures.matches
+    c.in_ok-matches.ensures.kinds _ _ _ c.in-sim.is c.in-Some.ensures.name c.in-Some.ensures.rows in
     sim_file _ _ enters
 
 pub returns-in-sim : goal.returns-in-sim
 returns-in-sim c =
-    let enters = enters_met _ c.in_ok-coap_command.ensures _ _ c.in_ok-matches.ensures.matches c.in_ok-matches.ensures.kinds _ _ _ c.in-sim.is c.in-Some.ensures.name c.in-Some.ensures.rows in
-    record { ok = said_by _ _ _ c.sim_order.result enters c.sim_order.ensures; wrong = wrong_by _ _ _ c.sim_order.result enters c.sim_order.ensures }
+    let enters = enters_met _ c.in_ok-coap_command.ensures _ _ c.in_ok-matches.ensures.matches
+    c.in_ok-matches.ensures.kinds _ _ _ c.in-sim.is c.in-Some.ensures.name c.in-Some.ensures.rows in
+    record {
+      ok = said_by _ _ _ c.sim_order.result enters c.sim_order.ensures;
+      wrong = wrong_by _ _ _ c.sim_order.result enters c.sim_order.ensures;
+    }
 
 pub unreachable-requires-in_default-subcommand : goal.unreachable-requires-in_default-subcommand
 unreachable-requires-in_default-subcommand c =
-    let enters = enters_met _ c.in_ok-coap_command.ensures _ _ c.in_ok-matches.ensures.matches c.in_ok-matches.ensures.kinds _ _ _ refl c.in-Some.ensures.name c.in-Some.ensures.rows in
+    let enters = enters_met _ c.in_ok-coap_command.ensures _ _ c.in_ok-matches.ensures.matches
+    c.in_ok-matches.ensures.kinds _ _ _ refl c.in-Some.ensures.name c.in-Some.ensures.rows in
     elim (ours _ _ _ enters) [
       | inl is ↦ c.in_default-subcommand.not-show is
       | inr (inl is) ↦ c.in_default-subcommand.not-answer is
