@@ -1,0 +1,17 @@
+//! Runs of a client and a server, by the public calls of `coap_world`.
+#![tactic(auto)]
+
+#[cfg(test)]
+mod calls;
+#[cfg(test)]
+mod configs;
+#[cfg(test)]
+mod legality;
+#[cfg(test)]
+mod refused_growths;
+#[cfg(test)]
+mod script;
+#[cfg(test)]
+mod stores;
+#[cfg(test)]
+mod uploads;

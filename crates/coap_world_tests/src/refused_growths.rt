@@ -1,0 +1,119 @@
+//! Each growth of a run refused in turn. Where an end meets that, its input is lost, and the rest of
+//! the run is as if it had been; else there is no record.
+use crate::script::{config_of, events_of, find, run_text, told, wanted};
+use crate::{calls, uploads};
+use coap_resource::{ListStore, MapStore};
+use failing::Failing;
+use std::alloc::{Allocator, Global};
+use std::test::Fail;
+
+/// No run takes so many growths.
+const MANY: u64 = 1_000_000;
+
+/// A tick keeps what its steps did before the one that meets want of memory.
+const KEPT: &str = "a_tick_of_two_steps
+0 call get /t
+> takes 0
+0 call get /t
+> takes 1
+0 tick client
+> out 0 0 C S 4801_0000_0000000000000000_b174
+62000 tick client
+> reports 0 timeout
+> memory
+";
+
+#[test]
+fn each_growth_is_refused(rt: HostRuntime) -> Result<(), Fail> {
+    let alloc = rt.alloc();
+    for name in [
+        "a_resource_is_read",
+        "a_post_that_comes_twice",
+        "a_post_is_applied_when_it_is_due",
+        "a_resource_is_observed",
+    ] {
+        refuse_each(alloc, find(calls::RUNS, name)?, "")?;
+    }
+    refuse_each(
+        alloc,
+        find(
+            uploads::RUNS,
+            "a_late_block_behind_a_request_in_one_message",
+        )?,
+        "",
+    )?;
+    refuse_each(alloc, find(calls::RUNS, "a_tick_of_two_steps")?, KEPT)
+}
+
+// Refuses the growths of the run one after the other, each in a run of its own, until there is no
+// further one. The one where the last step of a tick meets it tells this, if there is such a one.
+fn refuse_each(alloc: Global, text: &str, kept: &str) -> Result<(), Fail> {
+    let allowed = allowed(alloc, text, kept)?;
+    let mut is_kept = kept.is_empty();
+    for number in growths_before(alloc, text)?.saturating_add(1)..MANY {
+        let memory = Failing::new(alloc, number);
+        let told = run_over(alloc, &memory, text, number % 2 == 0)?;
+        if memory.left() != 0 {
+            return match is_kept
+                && told.as_str()
+                    == run_text::<MapStore, Global>(alloc, alloc, text, None)?.as_str()
+            {
+                true => Ok(()),
+                false => Err(Fail::new(format_args!("without a refusal: {}", told.as_str()))),
+            };
+        }
+        if told.as_str() == "no memory\n" {
+            continue;
+        }
+        let Some(place) = allowed
+            .iter()
+            .position(|other| is_same(told.as_str(), other.as_str()))
+        else {
+            return Err(Fail::new(format_args!("at growth {number}: {}", told.as_str())));
+        };
+        is_kept = is_kept || place == 0;
+    }
+    Err(Fail::new("it takes too many growths"))
+}
+
+// How many growths there are before the run begins.
+fn growths_before(alloc: Global, text: &str) -> Result<u64, Fail> {
+    let memory = Failing::new(alloc, MANY);
+    let _config = config_of(&memory, text)?;
+    let _events = events_of(alloc, &memory, text, None)?;
+    Ok(MANY.saturating_sub(memory.left()))
+}
+
+// What is told of a run that takes its memory there, over a list or over a map.
+fn run_over<A: Allocator + Copy>(
+    alloc: Global,
+    memory: A,
+    text: &str,
+    is_listed: bool,
+) -> Result<String, Fail> {
+    if is_listed {
+        run_text::<ListStore<A>, A>(alloc, memory, text, None)
+    } else {
+        run_text::<MapStore<A>, A>(alloc, memory, text, None)
+    }
+}
+
+// What may be told where a growth of an end was refused: what a tick keeps, or what is told where the
+// first, the second and so on of the events is lost.
+fn allowed(alloc: Global, text: &str, kept: &str) -> Result<Vec<String>, Fail> {
+    let mut allowed = Vec::new(alloc);
+    allowed.push(wanted(alloc, kept)?)?;
+    for lost in 0..events_of(alloc, alloc, text, None)?.len() {
+        allowed.push(run_text::<MapStore, Global>(alloc, alloc, text, Some(lost))?)?;
+    }
+    Ok(allowed)
+}
+
+// Both tell the same, where one tells want of memory and the other that nothing is forgotten.
+fn is_same(came: &str, lost: &str) -> bool {
+    came == lost
+        || (came.lines().count() == lost.lines().count()
+            && came.lines().zip(lost.lines()).all(|(came, lost)| {
+                came == lost || (came == "memory" && lost == "forgets false")
+            }))
+}

@@ -1,0 +1,70 @@
+//! The same runs over each store.
+use crate::script::{config_of, events_of, run_text, told, wanted};
+use crate::{calls, legality, uploads};
+use coap_resource::{ListStore, MapStore};
+use coap_world::run;
+use std::alloc::Global;
+use std::process::Abort;
+use std::test::Fail;
+
+// A window of 256,000 ms takes so many changes, local ones and those of requests together.
+const RUNS: &str = "
+== two_changes_in_a_window
+with changes=2
+0 set /t 0 a
+> puts 1
+> changes /t 1 0 61
+255999 set /t 0 b
+> puts 2
+> changes /t 2 0 62
+255999 set /t 0 c
+> refused 4
+256000 set /t 0 d
+> puts 3
+> changes /t 3 0 64
+
+== changes_of_requests_count_too
+with changes=2
+0 set /t 0 a
+> puts 1
+> changes /t 1 0 61
+1 stranger server 9 40030001b174ff62
+> applies - 9 - put /t 2
+> changes /t 2 - 62
+> out 0 1 S 9 60440001
+2 stranger server 9 40030002b174ff63
+> out 1 2 S 9 60a30002
+2 remove /t
+> refused 4
+256000 remove /t
+> removes true
+> changes /t 3 gone
+";
+
+#[test]
+fn what_is_told(rt: HostRuntime) -> Result<(), Fail> {
+    for theme in [RUNS, calls::RUNS, uploads::RUNS, legality::RUNS] {
+        for text in theme.split("\n== ").skip(1) {
+            check_run(&rt, rt.alloc(), text)?;
+        }
+    }
+    Ok(())
+}
+
+// Over each store the run tells what its text says.
+fn check_run(rt: &impl Abort, alloc: Global, text: &str) -> Result<(), Fail> {
+    let wanted = wanted(alloc, text)?;
+    let listed = run_text::<ListStore, Global>(alloc, alloc, text, None)?;
+    assert_eq!(rt; listed.as_str(), wanted.as_str(), "over a list: {text}");
+    let mapped = run_text::<MapStore, Global>(alloc, alloc, text, None)?;
+    assert_eq!(rt; mapped.as_str(), wanted.as_str(), "over a map: {text}");
+    let config = config_of(alloc, text)?;
+    let events = events_of(alloc, alloc, text, None)?;
+    let plain = told(alloc, &run(events.as_slice(), &config))?;
+    assert_eq!(rt;
+        plain.as_str(),
+        wanted.as_str(),
+        "over the default store: {text}"
+    );
+    Ok(())
+}
