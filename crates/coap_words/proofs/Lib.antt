@@ -1,5 +1,5 @@
 pub mod CoapWords
 pub mod Entered
+pub mod Facts
 pub mod FilledRows
 pub mod GivenWords
-pub mod PathTexts

@@ -5,7 +5,7 @@ use Rattle.std.proofs.lemmas.Iterator.Splits.{YieldsList-from_str_split}
 use Rattle.std.proofs.lemmas.Str.Pattern.{strip_prefix_char}
 use Rattle.std.specs.Str.Iter.{split_text, split_has_more, split_pattern}
 use Rattle.coap_words.specs.PathText.{IsPathText, without_leading_slash}
-use Rattle.coap_words.proofs.PathTexts.{not_empty, one_path, passed_up, refused_part, rest_is, says_parts}
+use Rattle.coap_words.proofs.Facts.PathTexts.{not_empty, one_path, passed_up, refused_part, rest_is, says_parts}
 use Rattle.coap_words.proofs.path_text.path_of_text.Goals as goal
 
 pub returns-in_err-push-clause-refused : goal.returns-in_err-push-clause-refused
