@@ -1,1 +1,3 @@
+pub mod PathWords
+pub mod ScriptWords
 pub mod Statuses

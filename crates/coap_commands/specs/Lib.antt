@@ -1,2 +1,5 @@
 pub mod Bearing
+pub mod Script
+pub mod ScriptRefusals
+pub mod ScriptWords
 pub mod Statuses

@@ -1,4 +1,8 @@
 //! The event that a line says.
+ghost use Rattle.std.specs.Prelude.{◌≡◌, IfOk};
+ghost use Rattle.coap_ends.specs.ClientObject.CallShown.{shown_request};
+ghost use Rattle.coap_commands.specs.Script.{SaysPath, SaysPathAndBody, plain_request};
+
 use crate::script::fields::{cut, last_word, number, path, side};
 use crate::script::refusal::LineRefusal;
 use bytes::Bytes;
@@ -68,7 +72,9 @@ fn request<A: Allocator + Copy>(alloc: A, line: &[u8]) -> Result<Request<A>, Lin
 }
 
 // A request without a condition, and without a format.
-fn plain<A: Allocator + Copy>(method: Method, path: Path<A>, body: Bytes<A>) -> Request<A> {
+fn plain<A: Allocator + Copy>(method: Method, path: Path<A>, body: Bytes<A>) -> Request<A>
+    ensures { shown_request result ≡ plain_request method path body }
+{
     Request {
         method,
         path,
@@ -82,7 +88,9 @@ fn plain<A: Allocator + Copy>(method: Method, path: Path<A>, body: Bytes<A>) -> 
 }
 
 // A path that ends a line.
-fn last_path<A: Allocator + Copy>(alloc: A, line: &[u8]) -> Result<Path<A>, LineRefusal> {
+fn last_path<A: Allocator + Copy>(alloc: A, line: &[u8]) -> Result<Path<A>, LineRefusal>
+    ensures { IfOk result (λ path. SaysPath line.now path) }
+{
     path(alloc, last_word(line)?)
 }
 
@@ -90,7 +98,9 @@ fn last_path<A: Allocator + Copy>(alloc: A, line: &[u8]) -> Result<Path<A>, Line
 fn path_and_body<A: Allocator + Copy>(
     alloc: A,
     line: &[u8],
-) -> Result<(Path<A>, Bytes<A>), LineRefusal> {
+) -> Result<(Path<A>, Bytes<A>), LineRefusal>
+    ensures { IfOk result (λ parts. SaysPathAndBody line.now parts.0 parts.1) }
+{
     let (word, body) = cut(line)?;
     if word.is_empty() {
         return Err(LineRefusal::Unreadable);

@@ -1,4 +1,9 @@
 //! Why a script can't be read.
+ghost use Rattle.std.specs.Prelude.{◌≡◌};
+ghost use Rattle.coap_commands.specs.ScriptRefusals.{of_hex, of_line, of_path};
+ghost use Rattle.coap_commands.specs.declared.script.refusal.LineRefusal.TheVariants as line;
+ghost use Rattle.coap_commands.specs.declared.script.refusal.ScriptRefusal.TheVariants as script;
+
 use coap_types::PathRefusal;
 use hex::FromHexError;
 use std::alloc::{AllocError, AllocFailed};
@@ -23,7 +28,9 @@ pub(super) enum LineRefusal {
 
 impl LineRefusal {
     /// The refusal of the script that has such a line.
-    pub(super) fn at(self, number: usize) -> ScriptRefusal {
+    pub(super) fn at(self, number: usize) -> ScriptRefusal
+        ensures { result ≡ of_line number self }
+    {
         match self {
             LineRefusal::Unreadable => ScriptRefusal::Line(number),
             LineRefusal::Memory => ScriptRefusal::Memory,
@@ -32,30 +39,40 @@ impl LineRefusal {
 }
 
 impl From<AllocError> for ScriptRefusal {
+    ghost from_gives = { λ _ e. e ≡ script.Memory };
+
     fn from(_error: AllocError) -> ScriptRefusal {
         ScriptRefusal::Memory
     }
 }
 
 impl<T: Drop> From<AllocFailed<T>> for ScriptRefusal {
+    ghost from_gives = { λ _ e. e ≡ script.Memory };
+
     fn from(_: AllocFailed<T>) -> ScriptRefusal {
         ScriptRefusal::Memory
     }
 }
 
 impl From<AllocError> for LineRefusal {
+    ghost from_gives = { λ _ e. e ≡ line.Memory };
+
     fn from(_error: AllocError) -> LineRefusal {
         LineRefusal::Memory
     }
 }
 
 impl<T: Drop> From<AllocFailed<T>> for LineRefusal {
+    ghost from_gives = { λ _ e. e ≡ line.Memory };
+
     fn from(_: AllocFailed<T>) -> LineRefusal {
         LineRefusal::Memory
     }
 }
 
 impl From<PathRefusal> for LineRefusal {
+    ghost from_gives = { λ refusal e. e ≡ of_path refusal };
+
     fn from(refusal: PathRefusal) -> LineRefusal {
         match refusal {
             PathRefusal::Memory => LineRefusal::Memory,
@@ -65,6 +82,8 @@ impl From<PathRefusal> for LineRefusal {
 }
 
 impl From<FromHexError> for LineRefusal {
+    ghost from_gives = { λ error e. e ≡ of_hex error };
+
     fn from(error: FromHexError) -> LineRefusal {
         match error {
             FromHexError::OutOfMemory => LineRefusal::Memory,
