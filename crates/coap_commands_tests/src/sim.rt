@@ -7,6 +7,7 @@ mod calls;
 mod examples;
 mod legality;
 mod observations;
+mod refused_growths;
 mod strangers;
 mod uploads;
 
@@ -81,11 +82,16 @@ fn status_of(printed: &str) -> u8 {
     }
 }
 
-fn check_case(rt: &impl Abort, alloc: Global, case: &str) -> Result<(), Fail> {
-    let (name, lines) = case.split_once('\n').unwrap_or((case, ""));
+// The name of a script.
+fn name_of(case: &str) -> &str {
+    case.split_once('\n').unwrap_or((case, "")).0
+}
+
+// A script, and what it prints.
+fn parts_of(alloc: Global, case: &str) -> Result<(String, String), Fail> {
     let mut script = String::new(alloc);
     let mut printed = String::new(alloc);
-    for line in lines.lines() {
+    for line in case.lines().skip(1) {
         if line.is_empty() || line.starts_with('#') {
             continue;
         }
@@ -94,8 +100,15 @@ fn check_case(rt: &impl Abort, alloc: Global, case: &str) -> Result<(), Fail> {
             None => add_line(alloc, line, &mut script)?,
         }
     }
+    Ok((script, printed))
+}
+
+// Memory is ample, and no input wants any.
+fn check_case(rt: &impl Abort, alloc: Global, case: &str) -> Result<(), Fail> {
+    let (script, printed) = parts_of(alloc, case)?;
+    assert!(rt; !printed.as_str().contains(" memory\n"));
     let ending = (status_of(printed.as_str()), printed.as_bytes());
-    check_script(rt, alloc, name, script.as_bytes(), ending);
+    check_script(rt, alloc, name_of(case), script.as_bytes(), ending);
     Ok(())
 }
 

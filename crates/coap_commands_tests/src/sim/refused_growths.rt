@@ -1,0 +1,136 @@
+//! Each growth of a script refused in turn: an input that meets that inside an end counts as lost, and
+//! elsewhere the script ends for want of memory.
+use super::{calls, name_of, observations, parts_of};
+use coap_commands::{close, sim_to};
+use failing::Failing;
+use std::alloc::{Allocator, Global};
+use std::test::Fail;
+
+/// No script takes so many growths.
+const MANY: u64 = 1_000_000;
+
+/// The status for want of memory.
+const NO_MEMORY: u8 = 4;
+
+// How a script ends, and what it prints.
+#[derive(Drop)]
+struct Ended {
+    status: u8,
+    printed: Vec<u8>,
+}
+
+#[test]
+fn each_growth_is_refused(rt: HostRuntime) -> Result<(), Fail> {
+    let alloc = rt.alloc();
+    for name in ["a_get", "a_post_that_comes_twice"] {
+        refuse_each(alloc, script_of(alloc, calls::SCRIPTS, name)?.as_str())?;
+    }
+    for name in ["an_observation", "an_observed_path_that_is_removed"] {
+        refuse_each(
+            alloc,
+            script_of(alloc, observations::SCRIPTS, name)?.as_str(),
+        )?;
+    }
+    Ok(())
+}
+
+fn script_of(alloc: Global, scripts: &str, name: &str) -> Result<String, Fail> {
+    for case in scripts.split("\n== ").skip(1) {
+        if name_of(case) == name {
+            let (script, _printed) = parts_of(alloc, case)?;
+            return Ok(script);
+        }
+    }
+    Err(Fail::new("there is no such script"))
+}
+
+// Refuses the growths of the script one after the other, each in a run of its own, until there is no
+// further one.
+fn refuse_each(alloc: Global, script: &str) -> Result<(), Fail> {
+    let whole = ended_over(alloc, alloc, script);
+    let lost = each_lost(alloc, script)?;
+    for number in 1..MANY {
+        let memory = Failing::new(alloc, number);
+        let ended = ended_over(alloc, &memory, script);
+        if memory.left() != 0 {
+            return is_right(number, is_same(&ended, &whole));
+        }
+        let is_so = match ended.status {
+            NO_MEMORY => whole.printed.starts_with(ended.printed.as_slice()),
+            _ => lost.iter().any(|lost| is_same(&ended, lost)),
+        };
+        is_right(number, is_so)?;
+    }
+    Err(Fail::new("it takes too many growths"))
+}
+
+fn is_right(number: u64, is_so: bool) -> Result<(), Fail> {
+    if is_so {
+        return Ok(());
+    }
+    Err(Fail::new(format_args!("at growth {number}")))
+}
+
+fn is_same(ended: &Ended, other: &Ended) -> bool {
+    ended.status == other.status && ended.printed == other.printed
+}
+
+// How the script ends that takes its memory there.
+fn ended_over<A: Allocator + Copy>(alloc: Global, memory: A, script: &str) -> Ended {
+    let mut printed = Vec::new(alloc);
+    let mut err = Vec::new(alloc);
+    let mut reader = script.as_bytes();
+    let ended = sim_to(memory, &mut reader, &mut printed);
+    Ended {
+        status: close(ended, &mut err).number(),
+        printed,
+    }
+}
+
+// How the script ends where the first of its inputs is lost for want of memory, where the second is,
+// and so on.
+fn each_lost(alloc: Global, script: &str) -> Result<Vec<Ended>, Fail> {
+    let mut each = Vec::new(alloc);
+    for number in 0..script.lines().count() {
+        each.push(one_lost(alloc, script, number)?)?;
+    }
+    Ok(each)
+}
+
+// The input of this number is lost: nothing that never was is forgotten in its place, which prints
+// nothing, and behind what is printed before it stands that memory was wanting.
+fn one_lost(alloc: Global, script: &str, number: usize) -> Result<Ended, Fail> {
+    let mut before = String::new(alloc);
+    let mut with_loss = String::new(alloc);
+    let mut told = String::new(alloc);
+    for (place, line) in script.lines().enumerate() {
+        if place < number {
+            before.push_str(line)?;
+            before.push('\n')?;
+        }
+        if place == number {
+            let moment = line.split(' ').next().unwrap_or("");
+            with_loss.push_str(format!(in alloc; "{moment} forget {}\n", u64::MAX)?.as_str())?;
+            told.push_str(format!(in alloc; "{moment} memory\n")?.as_str())?;
+        } else {
+            with_loss.push_str(line)?;
+            with_loss.push('\n')?;
+        }
+    }
+    let ended = ended_over(alloc, alloc, with_loss.as_str());
+    if ended.status != 0 {
+        return Ok(ended);
+    }
+    let before = ended_over(alloc, alloc, before.as_str());
+    let Some(after) = ended
+        .printed
+        .as_slice()
+        .strip_prefix(before.printed.as_slice())
+    else {
+        return Err(Fail::new("a script goes on otherwise"));
+    };
+    let mut printed = before.printed.clone()?;
+    printed.extend_from_slice(told.as_bytes())?;
+    printed.extend_from_slice(after)?;
+    Ok(Ended { status: 0, printed })
+}
