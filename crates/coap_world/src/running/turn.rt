@@ -28,143 +28,142 @@ use coap_resource::Store;
 use coap_types::{Endpoint, Path, Request};
 use std::alloc::{AllocError, Allocator};
 
+// When an event happens, in milliseconds, and with which word.
+#[derive(Clone, Copy)]
+struct When {
+    at: u64,
+    word: u64,
+}
+
 fn on_call<A: Allocator + Copy>(
     client: &mut ClientEnd<A>,
     log: &mut Record<A>,
-    at: u64,
-    word: u64,
+    when: When,
     request: &Request<A>,
 ) -> Result<(), AllocError>
     ensures { OnOk result ((past : List Turn)
-        → ClientTurned past (record { at = at; word = word; what = Calls (shown_request request.now) })
+        → ClientTurned past (record { at = when.at; word = when.word; what = Calls (shown_request request.now) })
         client.old log.old client.new log.new) }
 {
     let request = copied(request)?;
-    log.note(Kind::Begins(at))?;
-    let refused = call_client(client, log, at, request)?;
-    finish_client(client, at, refused, log)?;
+    log.note(Kind::Begins(when.at))?;
+    let refused = call_client(client, log, when.at, request)?;
+    finish_client(client, when.at, refused, log)?;
     Ok(())
 }
 
 fn on_observe<A: Allocator + Copy>(
     client: &mut ClientEnd<A>,
     log: &mut Record<A>,
-    at: u64,
-    word: u64,
+    when: When,
     path: &Path<A>,
 ) -> Result<(), AllocError>
     ensures { OnOk result ((past : List Turn)
-        → ClientTurned past (record { at = at; word = word; what = Observes path.now })
+        → ClientTurned past (record { at = when.at; word = when.word; what = Observes path.now })
         client.old log.old client.new log.new) }
 {
     let path = path.clone()?;
-    log.note(Kind::Begins(at))?;
-    let refused = observe_client(client, log, at, path)?;
-    finish_client(client, at, refused, log)?;
+    log.note(Kind::Begins(when.at))?;
+    let refused = observe_client(client, log, when.at, path)?;
+    finish_client(client, when.at, refused, log)?;
     Ok(())
 }
 
 fn on_cancel<A: Allocator + Copy>(
     client: &mut ClientEnd<A>,
     log: &mut Record<A>,
-    at: u64,
-    word: u64,
+    when: When,
     id: CallId,
 ) -> Result<(), AllocError>
     ensures { OnOk result ((past : List Turn)
-        → ClientTurned past (record { at = at; word = word; what = Cancels id.0 })
+        → ClientTurned past (record { at = when.at; word = when.word; what = Cancels id.0 })
         client.old log.old client.new log.new) }
 {
-    log.note(Kind::Begins(at))?;
-    cancel_client(client, log, at, id)?;
-    finish_client(client, at, false, log)?;
+    log.note(Kind::Begins(when.at))?;
+    cancel_client(client, log, when.at, id)?;
+    finish_client(client, when.at, false, log)?;
     Ok(())
 }
 
 fn on_forget<A: Allocator + Copy>(
     client: &mut ClientEnd<A>,
     log: &mut Record<A>,
-    at: u64,
-    word: u64,
+    when: When,
     id: CallId,
 ) -> Result<(), AllocError>
     ensures { OnOk result ((past : List Turn)
-        → ClientTurned past (record { at = at; word = word; what = Forgets id.0 })
+        → ClientTurned past (record { at = when.at; word = when.word; what = Forgets id.0 })
         client.old log.old client.new log.new) }
 {
-    log.note(Kind::Begins(at))?;
-    forget_client(client, log, at, id)?;
-    finish_client(client, at, false, log)?;
+    log.note(Kind::Begins(when.at))?;
+    forget_client(client, log, when.at, id)?;
+    finish_client(client, when.at, false, log)?;
     Ok(())
 }
 
 fn on_client_tick<A: Allocator + Copy>(
     client: &mut ClientEnd<A>,
     log: &mut Record<A>,
-    at: u64,
-    word: u64,
+    when: When,
 ) -> Result<(), AllocError>
     ensures { OnOk result ((past : List Turn)
-        → ClientTurned past (record { at = at; word = word; what = TickClient })
+        → ClientTurned past (record { at = when.at; word = when.word; what = TickClient })
         client.old log.old client.new log.new) }
 {
-    log.note(Kind::Begins(at))?;
-    let refused = client_ticks(client, at, word)?;
-    finish_client(client, at, refused, log)?;
+    log.note(Kind::Begins(when.at))?;
+    let refused = client_ticks(client, when.at, when.word)?;
+    finish_client(client, when.at, refused, log)?;
     Ok(())
 }
 
 fn on_client_stranger<A: Allocator + Copy>(
     client: &mut ClientEnd<A>,
     log: &mut Record<A>,
-    at: u64,
-    word: u64,
+    when: When,
     from: Endpoint,
     bytes: &[u8],
 ) -> Result<(), AllocError>
-    ensures { OnOk result ((past : List Turn) → MayCome past at (StrangerToClient from bytes.now)
-        → ClientTurned past (record { at = at; word = word; what = StrangerToClient from bytes.now })
+    ensures { OnOk result ((past : List Turn) → MayCome past when.at (StrangerToClient from bytes.now)
+        → ClientTurned past (record { at = when.at; word = when.word; what = StrangerToClient from bytes.now })
         client.old log.old client.new log.new) }
 {
-    log.note(Kind::Begins(at))?;
-    let refused = feed_client(client, at, word, from, bytes)?;
-    finish_client(client, at, refused, log)?;
+    log.note(Kind::Begins(when.at))?;
+    let refused = feed_client(client, when.at, when.word, from, bytes)?;
+    finish_client(client, when.at, refused, log)?;
     Ok(())
 }
 
 fn on_set<S: Store<A>, A: Allocator + Copy>(
     server: &mut ServerEnd<S, A>,
     log: &mut Record<A>,
-    at: u64,
-    word: u64,
+    when: When,
     path: &Path<A>,
     format: Option<u16>,
     body: &[u8],
 ) -> Result<(), AllocError>
     ensures { OnOk result ((sender : List ℕ → Option ℕ) (past : List Turn)
-        → ServerTurned S.content sender past (record { at = at; word = word; what = Sets path.now format body.now })
+        → ServerTurned S.content sender past (record { at = when.at; word = when.word; what = Sets path.now format body.now })
         server.old log.old server.new log.new) }
 {
-    log.note(Kind::Begins(at))?;
-    let refused = set_server(server, log, at, path, format, body)?;
-    finish_server(server, at, refused, log)?;
+    log.note(Kind::Begins(when.at))?;
+    let refused = set_server(server, log, when.at, path, format, body)?;
+    finish_server(server, when.at, refused, log)?;
     Ok(())
 }
 
 fn on_remove<S: Store<A>, A: Allocator + Copy>(
     server: &mut ServerEnd<S, A>,
     log: &mut Record<A>,
-    at: u64,
-    word: u64,
+    when: When,
     path: &Path<A>,
 ) -> Result<(), AllocError>
     ensures { OnOk result ((sender : List ℕ → Option ℕ) (past : List Turn)
-        → ServerTurned S.content sender past (record { at = at; word = word; what = Removes path.now })
+        → ServerTurned S.content sender past (record { at = when.at; word = when.word; what = Removes path.now })
         server.old log.old server.new log.new) }
 {
-    log.note(Kind::Begins(at))?;
-    remove_server(server, log, at, path)?;
-    finish_server(server, at, false, log)?;
+    log.note(Kind::Begins(when.at))?;
+    remove_server(server, log, when.at, path)?;
+    finish_server(server, when.at, false, log)?;
     Ok(())
 }
 
@@ -172,16 +171,15 @@ fn on_server_tick<S: Store<A>, A: Allocator + Copy>(
     server: &mut ServerEnd<S, A>,
     senders: &Senders<A>,
     log: &mut Record<A>,
-    at: u64,
-    word: u64,
+    when: When,
 ) -> Result<(), AllocError>
     ensures { OnOk result ((past : List Turn)
-        → ServerTurned S.content (sender_in senders.now) past (record { at = at; word = word; what = TickServer })
+        → ServerTurned S.content (sender_in senders.now) past (record { at = when.at; word = when.word; what = TickServer })
         server.old log.old server.new log.new) }
 {
-    log.note(Kind::Begins(at))?;
-    let refused = server_ticks(server, senders, log, at, word)?;
-    finish_server(server, at, refused, log)?;
+    log.note(Kind::Begins(when.at))?;
+    let refused = server_ticks(server, senders, log, when.at, when.word)?;
+    finish_server(server, when.at, refused, log)?;
     Ok(())
 }
 
@@ -189,19 +187,18 @@ fn on_server_stranger<S: Store<A>, A: Allocator + Copy>(
     server: &mut ServerEnd<S, A>,
     senders: &Senders<A>,
     log: &mut Record<A>,
-    at: u64,
-    word: u64,
+    when: When,
     from: Endpoint,
     bytes: &[u8],
 ) -> Result<(), AllocError>
-    ensures { OnOk result ((past : List Turn) → MayCome past at (StrangerToServer from bytes.now)
-        → ServerTurned S.content (sender_in senders.now) past (record { at = at; word = word; what = StrangerToServer from bytes.now })
+    ensures { OnOk result ((past : List Turn) → MayCome past when.at (StrangerToServer from bytes.now)
+        → ServerTurned S.content (sender_in senders.now) past (record { at = when.at; word = when.word; what = StrangerToServer from bytes.now })
         server.old log.old server.new log.new) }
 {
-    let refused = feed_server(server, at, word, from, bytes);
-    log.note(Kind::Begins(at))?;
+    let refused = feed_server(server, when.at, when.word, from, bytes);
+    log.note(Kind::Begins(when.at))?;
     tell_fed(server, senders, refused, log)?;
-    finish_server(server, at, refused, log)?;
+    finish_server(server, when.at, refused, log)?;
     Ok(())
 }
 
@@ -221,24 +218,17 @@ pub(crate) fn turn<S: Store<A>, A: Allocator + Copy>(
     ensures wrong { result ≡ Err Stop.NotLegal → (past : List Turn) → log.old.given ≡ given_of past
         → MayCome past at (what_of what.now) → ⊥ }
 {
+    let when = When { at, word };
     match what {
-        What::Call(request) => on_call(client, log, at, word, request)?,
-        What::Observe(path) => on_observe(client, log, at, word, path)?,
-        What::Cancel(id) => on_cancel(client, log, at, word, *id)?,
-        What::Forget(id) => on_forget(client, log, at, word, *id)?,
-        What::Set(path, format, body) => on_set(
-            server,
-            log,
-            at,
-            word,
-            path,
-            *format,
-            body.as_slice(),
-        )?,
-        What::Remove(path) => on_remove(server, log, at, word, path)?,
+        What::Call(request) => on_call(client, log, when, request)?,
+        What::Observe(path) => on_observe(client, log, when, path)?,
+        What::Cancel(id) => on_cancel(client, log, when, *id)?,
+        What::Forget(id) => on_forget(client, log, when, *id)?,
+        What::Set(path, format, body) => on_set(server, log, when, path, *format, body.as_slice())?,
+        What::Remove(path) => on_remove(server, log, when, path)?,
         What::Tick(side) => match side {
-            Side::Client => on_client_tick(client, log, at, word)?,
-            Side::Server => on_server_tick(server, &client.senders, log, at, word)?,
+            Side::Client => on_client_tick(client, log, when)?,
+            Side::Server => on_server_tick(server, &client.senders, log, when)?,
         },
         What::Deliver(number) => deliver(client, server, log, at, word, *number)?,
         What::Stranger(side, from, bytes) => {
@@ -249,19 +239,9 @@ pub(crate) fn turn<S: Store<A>, A: Allocator + Copy>(
                 return Err(Stop::NotLegal);
             }
             match side {
-                Side::Client => {
-                    on_client_stranger(client, log, at, word, *from, bytes.as_slice())?
-                }
+                Side::Client => { on_client_stranger(client, log, when, *from, bytes.as_slice())? }
                 Side::Server => {
-                    on_server_stranger(
-                        server,
-                        &client.senders,
-                        log,
-                        at,
-                        word,
-                        *from,
-                        bytes.as_slice(),
-                    )?
+                    on_server_stranger(server, &client.senders, log, when, *from, bytes.as_slice())?
                 }
             }
         }
