@@ -4,6 +4,7 @@ mod answers;
 mod codes;
 mod downloads;
 pub(crate) mod fetches;
+mod flooding;
 mod observations;
 mod refusals;
 mod uploads;

@@ -23,6 +23,7 @@
 //! | `observe 0 /t` · `cancel 0 3` · `forget 3` | an observation · its end |
 //! | `told 3 body 01 0 = hi` · `told nothing` | that is reported next of that number: tag, format, body · nothing is |
 //! | `asked 3 01` · `asked nothing` | the last input sent a request for the first time, of this number and with this token · none |
+//! | `watch /t` | from now on a step that wants memory leaves both ends as they were, with what this path holds |
 //! | `notified 9` | the server sets `t` so often at 0, and each time the notification is acknowledged |
 //! | `not-found 9` | the client gets `t` so often at 0, and each time the answer is 4.04 |
 //!
@@ -40,6 +41,7 @@ mod ends;
 mod reports;
 mod rounds;
 mod serving;
+mod shown;
 mod words;
 
 use ends::Ends;
@@ -58,7 +60,7 @@ pub(crate) enum End {
 /// Memory is ample, and no step wants any.
 pub(crate) fn run(alloc: Global, end: End, scripts: &str) -> Result<(), Fail> {
     for script in scripts.split("\n== ").skip(1) {
-        if run_script(alloc, alloc, end, script)? != 0 {
+        if run_script(alloc, alloc, end, "", script)? != 0 {
             return Err(Fail::new("a step wants memory"));
         }
     }
@@ -75,24 +77,26 @@ pub(crate) fn find<'a>(scripts: &'a str, name: &str) -> Result<&'a str, Fail> {
     Err(Fail::new("there is no such script"))
 }
 
-/// Carries out a script, once for each of its rows, or once if it has none, over ends that take their
-/// memory there. A step that wants memory is carried out once more: how many did.
+/// Carries out a script behind this step, if any, once for each of its rows, or once if it has none,
+/// over ends that take their memory there. A step that wants memory is carried out once more: how many
+/// did.
 pub(crate) fn run_script<A: Allocator + Copy>(
     alloc: Global,
     memory: A,
     end: End,
+    first: &str,
     script: &str,
 ) -> Result<u64, Fail> {
     let mut wants = None;
     for line in script.lines() {
         if let Some(row) = line.strip_prefix("| ") {
-            let more = run_row(alloc, memory, end, script, row)?;
+            let more = run_row(alloc, memory, end, first, script, row)?;
             wants = Some(more.saturating_add(wants.unwrap_or(0)));
         }
     }
     match wants {
         Some(wants) => Ok(wants),
-        None => run_row(alloc, memory, end, script, ""),
+        None => run_row(alloc, memory, end, first, script, ""),
     }
 }
 
@@ -100,11 +104,15 @@ fn run_row<A: Allocator + Copy>(
     alloc: Global,
     memory: A,
     end: End,
+    first: &str,
     script: &str,
     row: &str,
 ) -> Result<u64, Fail> {
     let (name, steps) = cut(script, "\n");
     let mut ends = Ends::new(alloc, memory, end, name)?;
+    if is_step(first) {
+        ends.run_step(name, first)?;
+    }
     for line in steps.lines() {
         if is_step(line) {
             let step = filled(alloc, line, row)?;

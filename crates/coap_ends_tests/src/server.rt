@@ -2,6 +2,7 @@
 //! are those of the standard's tables, worked out by hand.
 mod deferring;
 mod ending;
+mod flooding;
 mod identifiers;
 mod observing;
 pub(crate) mod replies;

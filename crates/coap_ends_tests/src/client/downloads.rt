@@ -85,6 +85,7 @@ told 0 too-large
 idle 0
 
 == a_body_that_is_fetched_in_small_blocks_has_no_more
+new szx=$1
 call 0 get /t
 tick 0
 out S 48010000 0000000000000000 b174
@@ -94,6 +95,8 @@ times 16..4096: out S 4801{4} {16} b174 c2{3}0; feed 0 S 6845{4} {16} 4800000000
 out S 48011000 0000000000001000 b174 c3010000
 feed 0 S 68451000 0000000000001000 480000000000000001 d306010008 ff 78*16
 told 0 too-large
+| 0
+| 6
 
 == a_first_block_that_is_fetched_is_looked_at
 call 0 get /t

@@ -97,7 +97,7 @@ impl<A: Allocator + Copy> Ends<'_, A> {
     }
 
     pub(super) fn told(&mut self, words: &str, text: &str) -> Result<(), Fail> {
-        let Some((CallId(id), report)) = self.client.next_report() else {
+        let Some((CallId(id), report)) = self.next_report() else {
             return self.is_same("nothing", words);
         };
         let head = head_of(self.alloc, &report)?;

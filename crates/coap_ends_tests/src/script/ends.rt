@@ -2,10 +2,10 @@
 use super::delivery::Sent;
 use super::words::{CLIENT, SERVER, bytes_of, cut, endpoint, first, hex_of, is_of_client, port_of};
 use super::{End, counted};
-use coap_ends::{Client, Server};
+use coap_ends::{CallId, Client, Report, Server};
 use coap_layer::Datagram;
 use coap_resource::{ListStore, MAX_CHANGES_PER_WINDOW, Store};
-use coap_types::{MAX_SZX, Moment, Szx};
+use coap_types::{MAX_SZX, Moment, Path, Szx};
 use std::alloc::{AllocError, Allocator, Global};
 use std::test::Fail;
 
@@ -27,6 +27,10 @@ pub(super) struct Ends<'a, A: Allocator + Copy> {
     pub(super) end: End,
     pub(super) last: Sent,
     pub(super) kept: Sent,
+    /// What this path holds is as before where a step wants memory.
+    pub(super) watched: Option<Path<A>>,
+    /// A report that is to be said before any other.
+    pub(super) report: Option<(CallId, Report<A>)>,
     script: &'a str,
     line: &'a str,
 }
@@ -47,6 +51,8 @@ impl<'a, A: Allocator + Copy> Ends<'a, A> {
             end,
             last: Sent::nothing(alloc),
             kept: Sent::nothing(alloc),
+            watched: None,
+            report: None,
             script,
             line: "",
         })
@@ -76,23 +82,13 @@ impl<'a, A: Allocator + Copy> Ends<'a, A> {
         Ok(())
     }
 
-    // Carries out a step, and once more where it wanted memory.
-    fn carry_through(&mut self, step: &str) -> Result<(), Fail> {
-        let before = self.wants;
-        self.carry_out(step)?;
-        if self.wants == before {
-            return Ok(());
-        }
-        self.carry_out(step)
-    }
-
     /// The step wants memory: it is counted, and nothing more comes of the step.
     pub(super) fn wants_memory(&mut self) -> Result<(), Fail> {
         self.wants = self.wants.saturating_add(1);
         Ok(())
     }
 
-    fn carry_out(&mut self, step: &str) -> Result<(), Fail> {
+    pub(super) fn carry_out(&mut self, step: &str) -> Result<(), Fail> {
         let step = self.without_end(step);
         let (step, answer) = cut(step, " -> ");
         let (step, text) = cut(step, " = ");
@@ -114,6 +110,7 @@ impl<'a, A: Allocator + Copy> Ends<'a, A> {
             "asked" => self.asked(words),
             "notified" => self.notified(words),
             "not-found" => self.not_found(words),
+            "watch" => self.watch(words),
             _ => self.serve(verb, words, text, answer),
         }
     }
