@@ -2,6 +2,8 @@
 #![tactic(auto)]
 
 #[cfg(test)]
+mod changed_bytes;
+#[cfg(test)]
 mod client;
 #[cfg(test)]
 mod hashers;

@@ -36,6 +36,7 @@
 //! Lines that begin with `| ` are rows: the script is carried out for each, with its columns for
 //! `$1` to `$3`.
 mod asking;
+mod changing;
 mod delivery;
 mod ends;
 mod reports;
@@ -44,6 +45,7 @@ mod serving;
 mod shown;
 mod words;
 
+pub(crate) use changing::change_each;
 use ends::Ends;
 use std::alloc::{Allocator, Global};
 use std::test::Fail;

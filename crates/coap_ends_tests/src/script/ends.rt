@@ -29,10 +29,13 @@ pub(super) struct Ends<'a, A: Allocator + Copy> {
     pub(super) kept: Sent,
     /// What this path holds is as before where a step wants memory.
     pub(super) watched: Option<Path<A>>,
+    /// The moment of what is heard with a byte changed, and whether the server applied some of it.
+    pub(super) at: u64,
+    pub(super) is_changed: bool,
     /// A report that is to be said before any other.
     pub(super) report: Option<(CallId, Report<A>)>,
     script: &'a str,
-    line: &'a str,
+    pub(super) line: &'a str,
 }
 
 impl<'a, A: Allocator + Copy> Ends<'a, A> {
@@ -52,6 +55,8 @@ impl<'a, A: Allocator + Copy> Ends<'a, A> {
             last: Sent::nothing(alloc),
             kept: Sent::nothing(alloc),
             watched: None,
+            at: 0,
+            is_changed: false,
             report: None,
             script,
             line: "",
@@ -219,7 +224,7 @@ impl<'a, A: Allocator + Copy> Ends<'a, A> {
         }
     }
 
-    fn out(&mut self, words: &str) -> Result<(), Fail> {
+    pub(super) fn out(&mut self, words: &str) -> Result<(), Fail> {
         let (port, hex) = first(words);
         let port = port_of(port)?;
         let datagram = if is_of_client(port) {

@@ -90,7 +90,7 @@ impl<A: Allocator + Copy> Ends<'_, A> {
         Ok(())
     }
 
-    fn applied(&mut self, words: &str) -> Result<(), Fail> {
+    pub(super) fn applied(&mut self, words: &str) -> Result<(), Fail> {
         let Some(applied) = self.server.applied() else {
             return self.is_same("nothing", words);
         };

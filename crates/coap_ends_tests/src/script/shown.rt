@@ -53,6 +53,22 @@ impl<A: Allocator + Copy> Ends<'_, A> {
         Ok(format!(in self.alloc; "{version} {format:?} {body}")?)
     }
 
+    /// The reply to `D` and the GET of the path that is watched, by what it holds: 4.04, or 2.05 with its
+    /// entity-tag, its format, which is 0 or none, and its body (RFC 7252, sections 5.8.1 and 5.10).
+    pub(super) fn held_reply(&self) -> Result<String, Fail> {
+        let Some(path) = &self.watched else {
+            return Err(self.wrong("no path is watched"));
+        };
+        let Some(held) = self.server.get(path) else {
+            return Ok(String::from_str(self.alloc, "D 60847d34")?);
+        };
+        let version = held.version;
+        let format = if held.format.is_some() { "80" } else { "" };
+        let marker = if held.body.is_empty() { "" } else { "ff" };
+        let body = hex::encode(self.alloc, held.body.as_slice())?;
+        Ok(format!(in self.alloc; "D 60457d3448{version:016x}{format}{marker}{body}")?)
+    }
+
     fn applied_text(&self) -> Result<String, Fail> {
         let Some(applied) = self.server.applied() else {
             return Ok(String::from_str(self.alloc, "nothing is applied")?);

@@ -1,0 +1,191 @@
+//! Datagrams with one byte changed, which both ends take as they come.
+use super::ends::Ends;
+use super::words::{CLIENT, SERVER, bytes_of, cut, endpoint, port_of};
+use super::{End, is_step};
+use coap_codec::decode;
+use coap_layer::Datagram;
+use coap_types::limits::MAX_MESSAGE_LEN;
+use coap_types::transmission::EXCHANGE_LIFETIME_MS;
+use std::alloc::{Allocator, Global};
+use std::ops::Range;
+use std::test::Fail;
+
+/// No message is remembered for so long (RFC 7252, section 4.8.2).
+const LATER_MS: u64 = EXCHANGE_LIFETIME_MS + 1;
+
+/// A datagram of a talk, in hex and in bytes, and the port that it goes to.
+#[derive(Drop)]
+struct Said<'a> {
+    hex: &'a str,
+    bytes: Vec<u8>,
+    to: u16,
+    /// What the server and the client answer to it where it comes from another.
+    answers: [&'a str; 2],
+}
+
+/// What two ends say to each other, behind the steps that it begins with.
+#[derive(Drop)]
+struct Talk<'a> {
+    name: &'a str,
+    steps: Vec<&'a str>,
+    said: Vec<Said<'a>>,
+}
+
+/// Changes each byte of those datagrams of a talk that have these numbers to each value: both ends are
+/// fed what comes of it, then the datagram itself, which comes from others.
+///
+/// A line that begins with `> ` is a datagram of the client, one with `< ` one of the server, in the
+/// order in which they go, with ` | ` and the answers of the server to `D` and of the client to `X`;
+/// `D held` is that to the GET of the path that is watched. The other lines are the steps before them.
+pub(crate) fn change_each(alloc: Global, text: &str, numbers: Range<usize>) -> Result<(), Fail> {
+    let talk = talk_of(alloc, text)?;
+    for number in numbers {
+        let Some(own) = talk.said.get(number) else {
+            return Err(Fail::new("it is not said"));
+        };
+        for place in 0..own.bytes.len() {
+            change_byte(alloc, &talk, number, place)?;
+        }
+    }
+    Ok(())
+}
+
+fn talk_of<'a>(alloc: Global, text: &'a str) -> Result<Talk<'a>, Fail> {
+    let (name, lines) = cut(text, "\n");
+    let mut steps = Vec::new(alloc);
+    let mut said = Vec::new(alloc);
+    for line in lines.lines() {
+        if let Some(words) = line.strip_prefix("> ") {
+            said.push(said_to(alloc, SERVER, words)?)?;
+        } else if let Some(words) = line.strip_prefix("< ") {
+            said.push(said_to(alloc, CLIENT, words)?)?;
+        } else if is_step(line) {
+            steps.push(line)?;
+        }
+    }
+    Ok(Talk { name, steps, said })
+}
+
+fn said_to<'a>(alloc: Global, to: u16, words: &'a str) -> Result<Said<'a>, Fail> {
+    let (hex, answers) = cut(words, " | ");
+    let (of_server, of_client) = cut(answers, " | ");
+    Ok(Said {
+        hex,
+        bytes: bytes_of(alloc, hex)?,
+        to,
+        answers: [of_server, of_client],
+    })
+}
+
+// Gives this byte of the datagram of this number each value, one so much later than the other that
+// no message is remembered and no partial body is left. Ends of which something came begin anew.
+fn change_byte(alloc: Global, talk: &Talk<'_>, number: usize, place: usize) -> Result<(), Fail> {
+    let before = talk.said.get(..number).unwrap_or(&[]);
+    let behind = talk.said.get(number..).unwrap_or(&[]);
+    let Some(own) = behind.first() else {
+        return Ok(());
+    };
+    let mut ends = begun(alloc, talk)?;
+    let mut changed = own.bytes.clone()?;
+    for value in 0..=u8::MAX {
+        if let Some(byte) = changed.get_mut(place) {
+            *byte = value;
+        }
+        ends.at = LATER_MS.saturating_mul(u64::from(value));
+        ends.line = own.hex;
+        ends.go_to(before, own)?;
+        ends.bear(changed.as_slice(), own)?;
+        if decode(changed.as_slice()).is_err() {
+            ends.go_on(behind)?;
+        }
+        if own.to == CLIENT || ends.is_changed {
+            ends = begun(alloc, talk)?;
+        }
+    }
+    Ok(())
+}
+
+// Both ends after the first steps of a talk.
+fn begun<'a>(alloc: Global, talk: &Talk<'a>) -> Result<Ends<'a, Global>, Fail> {
+    let mut ends = Ends::new(alloc, alloc, End::Client, talk.name)?;
+    for step in talk.steps.iter() {
+        ends.run_step(step, step)?;
+    }
+    Ok(ends)
+}
+
+impl<A: Allocator + Copy> Ends<'_, A> {
+    // What is said before to the same end arrives.
+    fn go_to(&mut self, before: &[Said<'_>], own: &Said<'_>) -> Result<(), Fail> {
+        self.pass_on()?;
+        for said in before {
+            if said.to == own.to {
+                self.hear(said.to, said.bytes.as_slice())?;
+                self.pass_on()?;
+            }
+        }
+        Ok(())
+    }
+
+    // Takes a datagram to this port, of the other end.
+    fn hear(&mut self, to: u16, bytes: &[u8]) -> Result<(), Fail> {
+        let from = if to == SERVER { CLIENT } else { SERVER };
+        self.feed(self.at, from, bytes)?;
+        if self.server.applied().is_some() {
+            self.is_changed = true;
+        }
+        Ok(())
+    }
+
+    // At most one datagram goes out of the server and two of the client, each to the other end.
+    fn pass_on(&mut self) -> Result<(), Fail> {
+        let replied = self.server.next_out();
+        self.goes_to(CLIENT, &replied)?;
+        let acknowledged = self.client.next_out();
+        self.goes_to(SERVER, &acknowledged)?;
+        let asked = self.client.next_out();
+        self.goes_to(SERVER, &asked)
+    }
+
+    fn goes_to(&self, port: u16, datagram: &Option<Datagram<A>>) -> Result<(), Fail> {
+        match datagram {
+            Some(d) if d.to() != endpoint(port) || d.bytes().len() > MAX_MESSAGE_LEN => {
+                Err(self.wrong("it goes to another, or is too long"))
+            }
+            _ => Ok(()),
+        }
+    }
+
+    // Both ends take the changed datagram from one another, and then its original from others.
+    fn bear(&mut self, changed: &[u8], own: &Said<'_>) -> Result<(), Fail> {
+        for to in [SERVER, CLIENT] {
+            self.hear(to, changed)?;
+            self.pass_on()?;
+        }
+        let _reported = self.client.next_report();
+        for answer in own.answers {
+            self.feed(self.at, port_of(cut(answer, " ").0)?, own.bytes.as_slice())?;
+            match answer {
+                "D held" => self.out(self.held_reply()?.as_str())?,
+                _ => self.out(answer)?,
+            }
+        }
+        self.applied("nothing")?;
+        self.told("nothing", "")
+    }
+
+    // What was malformed changed nothing: the original gets the next one of the talk.
+    fn go_on(&mut self, behind: &[Said<'_>]) -> Result<(), Fail> {
+        let Some((own, behind)) = behind.split_first() else {
+            return Ok(());
+        };
+        self.hear(own.to, own.bytes.as_slice())?;
+        match behind.first() {
+            Some(next) => {
+                let words = format!(in self.alloc; "{} {}", next.to, next.hex)?;
+                self.out(words.as_str())
+            }
+            None => self.is_quiet(),
+        }
+    }
+}
