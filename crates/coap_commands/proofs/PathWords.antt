@@ -1,5 +1,6 @@
 -- The path that a word of a script says, segment by segment.
-use Rattle.std.proofs.Common.{◌≡◌, ◌≢◌, ◌∙◌, ◌⊎◌, ap, sym, refl, subst, ℕ, false, ◌<◌, List, [], ◌∷◌, ◌++◌, length, get_or, arith, inl, inr, eqb, All}
+use Rattle.std.proofs.Common.{◌≡◌, ◌≢◌, ◌∙◌, ◌⊎◌, ap, sym, refl, subst, ℕ, false, ◌<◌, List, [], ◌∷◌, ◌++◌, length}
+use Rattle.std.proofs.Common.{get_or, arith, inl, inr, eqb, All}
 use Rattle.std.proofs.lemmas.Bool.Decides.{nat_tests}
 use Rattle.std.proofs.lemmas.List.{append_assoc, length-append}
 use Rattle.std.proofs.lemmas.List.Splits.{slice_split_at, slice_split_none}
@@ -27,11 +28,14 @@ pub last_part : (left : List ℕ) → Lacks 47 left → parts left ≡ left ∷ 
 last_part left lacks = slice_split_none is_slash left (bare left lacks)
 
 -- one segment more
-pub one_on : (path whole : List (List ℕ)) (left first rest : List ℕ) → path ++ parts left ≡ whole → IsCut 47 left first rest → (path ++ first ∷ []) ++ parts rest ≡ whole
-one_on path whole left first rest so cut = append_assoc path (first ∷ []) (parts rest) ∙ ap (λ ps. path ++ ps) (sym (cut_parts left first rest cut)) ∙ so
+pub one_on : (path whole : List (List ℕ)) (left first rest : List ℕ) → path ++ parts left ≡ whole
+    → IsCut 47 left first rest → (path ++ first ∷ []) ++ parts rest ≡ whole
+one_on path whole left first rest so cut = append_assoc path (first ∷ []) (parts rest)
+    ∙ ap (λ ps. path ++ ps) (sym (cut_parts left first rest cut)) ∙ so
 
 -- the segment that comes next is the part of that number
-pub next_part : (path more whole : List (List ℕ)) (s : List ℕ) → path ++ s ∷ more ≡ whole → (length path < length whole) × (s ≡ get_or whole (length path) s)
+pub next_part : (path more whole : List (List ℕ)) (s : List ℕ) → path ++ s ∷ more ≡ whole
+    → (length path < length whole) × (s ≡ get_or whole (length path) s)
 next_part path more whole s so =
     let len = length-append path (s ∷ more) in
     let same = ap length so in (
@@ -40,7 +44,8 @@ next_part path more whole s so =
     )
 
 -- why a path is refused is why its line is
-pub line_refused : (e : PathRefusal) (text : List ℕ) → (e ≡ Memory) ⊎ (IsNoPath text × IsTrueOf e text) → (of_path e ≡ line.Memory) ⊎ ((of_path e ≡ line.Unreadable) × IsNoPath text)
+pub line_refused : (e : PathRefusal) (text : List ℕ) → (e ≡ Memory) ⊎ (IsNoPath text × IsTrueOf e text)
+    → (of_path e ≡ line.Memory) ⊎ ((of_path e ≡ line.Unreadable) × IsNoPath text)
 line_refused Memory text h = inl refl
 line_refused SegmentTooLong text (inl is) = absurd (cc is)
 line_refused SegmentTooLong text (inr h) = inr (refl, h.0)

@@ -16,4 +16,13 @@ SaysPathAndBody line path body = (word : List ℕ) × IsCut 32 line word body ×
 -- a request whose only option is its path
 abbrev pub plain_request : Method → List (List ℕ) → List ℕ → Request
 plain_request method path body =
-    record { method = method; path = path; format = None; body = body; etags = []; if_match = []; if_none_match = false; accept = None }
+    record {
+      method = method;
+      path = path;
+      format = None;
+      body = body;
+      etags = [];
+      if_match = [];
+      if_none_match = false;
+      accept = None;
+    }

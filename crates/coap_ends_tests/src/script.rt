@@ -9,20 +9,24 @@
 //!
 //! | Step | What happens, or what has to be so |
 //! |---|---|
-//! | `new szx=6 word=0 changes=4194303` | the end begins anew, with its block size, its word, how many changes a window takes |
+//! | `new szx=6 word=0 changes=4194303` | the end begins anew, with its block size, its word, how many changes a window
+//! takes |
 //! | `feed 0 C 40010001` | a datagram arrives from there |
 //! | `tick 0` · `idle 0` | a tick does something · finds nothing due |
 //! | `out C 6045` · `out C nothing` | that goes out next, to there · nothing does |
 //! | `arrives 0` | what was given out last arrives at the other end |
 //! | `keep` · `late 0` | what was given out last is kept · arrives at the other end |
-//! | `set 0 /t 0 = hi` · `remove 0 /t` | the server's own side sets the path to a text of this format (`-` for none) · removes what it holds |
+//! | `set 0 /t 0 = hi` · `remove 0 /t` | the server's own side sets the path to a text of this format (`-` for none) ·
+//! removes what it holds |
 //! | `delay /t 1000` | the path has a delay |
 //! | `holds /t 1 0 = hi` · `holds /t nothing` | it holds this, of this version · nothing |
-//! | `applied C put /t 01 1` · `applied nothing` | the last input applied the request of this port and token, with this version · none |
+//! | `applied C put /t 01 1` · `applied nothing` | the last input applied the request of this port and token, with this
+//! version · none |
 //! | `call 0 put /t format=0 if-match=01 if-none-match etag=01 accept=0 = hi` | a request |
 //! | `observe 0 /t` · `cancel 0 3` · `forget 3` | an observation · its end |
 //! | `told 3 body 01 0 = hi` · `told nothing` | that is reported next of that number: tag, format, body · nothing is |
-//! | `asked 3 01` · `asked nothing` | the last input sent a request for the first time, of this number and with this token · none |
+//! | `asked 3 01` · `asked nothing` | the last input sent a request for the first time, of this number and with this
+//! token · none |
 //! | `watch /t` | from now on a step that wants memory leaves both ends as they were, with what this path holds |
 //! | `notified 9` | the server sets `t` so often at 0, and each time the notification is acknowledged |
 //! | `not-found 9` | the client gets `t` so often at 0, and each time the answer is 4.04 |

@@ -54,8 +54,10 @@ fn run_over<S: Store<A>, A: Allocator + Copy>(
     log: &mut Record<A>,
 ) -> Result<(), RunRefusal>
     ensures record { OnOk result ((config : Config)
-        → Stands ClientLed (ServerLed S.content) config [] [] client.old server.old log.old 0 → (turns : List Turn) × (last : ℕ)
-        × Stands ClientLed (ServerLed S.content) config (reverse (map event_of events.now)) turns client.new server.new log.new last) }
+        → Stands ClientLed (ServerLed S.content) config [] [] client.old server.old log.old 0
+        → (turns : List Turn) × (last : ℕ)
+        × Stands ClientLed (ServerLed S.content) config
+        (reverse (map event_of events.now)) turns client.new server.new log.new last) }
     ensures wrong { (number : ℕ) → result ≡ Err (RunRefusal.NotLegal number) → (config : Config)
         → Stands ClientLed (ServerLed S.content) config [] [] client.old server.old log.old 0
         → IsFirstWrong config (map event_of events.now) number }

@@ -7,17 +7,23 @@
 //!
 //! | Line | What it says |
 //! |---|---|
-//! | `with word=0 client-szx=6 server-szx=6 changes=4194303` | both ends begin with this word, which each event has, too; their block sizes; how many changes a window takes |
+//! | `with word=0 client-szx=6 server-szx=6 changes=4194303` | both ends begin with this word, which each event has,
+//! too; their block sizes; how many changes a window takes |
 //! | `delay /t 1000` | the requests of the path wait for so many milliseconds |
-//! | `0 call put /t hi` · `0 observe /t` · `0 cancel 0` · `0 forget 0` | at this moment: a request whose only option is its path, an observation, its end |
-//! | `0 set /t 0 hi` · `0 remove /t` | the server's own side sets the path to a text of this format (`-` for none) · removes what it holds |
+//! | `0 call put /t hi` · `0 observe /t` · `0 cancel 0` · `0 forget 0` | at this moment: a request whose only option is
+//! its path, an observation, its end |
+//! | `0 set /t 0 hi` · `0 remove /t` | the server's own side sets the path to a text of this format (`-` for none) ·
+//! removes what it holds |
 //! | `0 tick client` · `0 deliver 0` | the ticks of an end · a datagram comes |
-//! | `0 stranger server 9 40000001` | one comes to this end from there: a port, `C` for that of the client, `S` for the server's |
+//! | `0 stranger server 9 40000001` | one comes to this end from there: a port, `C` for that of the client, `S` for the
+//! server's |
 //!
 //! | Line | What is told |
 //! |---|---|
-//! | `> takes 0` · `> cancels` · `> forgets true` · `> puts 1` · `> removes true` · `> refused 1` | what the call answers |
-//! | `> applies 0 C 01 put /t 1` | a request is applied: its call (`-` for none), where it came from, its token, method, path and version |
+//! | `> takes 0` · `> cancels` · `> forgets true` · `> puts 1` · `> removes true` · `> refused 1` | what the call
+//! answers |
+//! | `> applies 0 C 01 put /t 1` | a request is applied: its call (`-` for none), where it came from, its token,
+//! method, path and version |
 //! | `> changes /t 1 0 6869` · `> changes /t 2 gone` | a change: path, version, format and body |
 //! | `> out 0 5 C S 40000001` | a datagram is given out: its number and moment, by which end, for whom |
 //! | `> reports 0 body 01 0 6869` | a report of this number |

@@ -76,7 +76,8 @@ pub(super) fn number(word: &[u8]) -> Result<u64, LineRefusal>
 /// The end that a word names.
 pub(super) fn side(word: &[u8]) -> Result<Side, LineRefusal>
     ensures named { IfOk result (λ side. word.now ≡ side_word side) }
-    ensures refused { IfErr result (λ e. (e ≡ LineRefusal.Unreadable) × ((side : Side) → word.now ≡ side_word side → ⊥)) }
+    ensures refused { IfErr result (λ e. (e ≡ LineRefusal.Unreadable)
+        × ((side : Side) → word.now ≡ side_word side → ⊥)) }
 {
     match word {
         b"client" => Ok(Side::Client),
@@ -99,7 +100,8 @@ pub(super) fn path<A: Allocator + Copy>(alloc: A, word: &[u8]) -> Result<Path<A>
     ensures said { IfOk result (λ path. IsPathText word.now path × HoldsAtMost MAX_SEGMENTS MAX_SEGMENT_LEN path) }
     ensures only { IfOk result (λ path. (segments : List (List ℕ)) → IsPathText word.now segments → segments ≡ path) }
     // A word is refused only where what it says is no path, or for want of memory.
-    ensures refused { IfErr result (λ e. (e ≡ LineRefusal.Memory) ⊎ ((e ≡ LineRefusal.Unreadable) × IsNoPath word.now)) }
+    ensures refused { IfErr result (λ e. (e ≡ LineRefusal.Memory)
+        ⊎ ((e ≡ LineRefusal.Unreadable) × IsNoPath word.now)) }
 {
     let mut path = Path::new(alloc);
     let rest = without_slash(word);

@@ -11,23 +11,27 @@ abbrev pub Moves : {X S : Type 0} → (Config → List X → S → Type 0) → S
 Moves led old calls new = (config : Config) (t : List _) → led config t old → led config (calls ++ t) new
 
 -- an input: one call, and none where it met want of memory
-pub record Fed {X S : Type 0} (led : Config → List X → S → Type 0) (Is : X → Type 0) (refused : Bool) (old new : S) : Type 0 where
+pub record Fed {X S : Type 0} (led : Config → List X → S → Type 0) (Is : X → Type 0) (refused : Bool)
+    (old new : S) : Type 0 where
   pub calls : List X
   pub are : IsOne Is refused calls
   pub moves : Moves led old calls new
 
 -- ticks of a moment, up to the first that does nothing or meets want of memory
-pub record Passed {X S : Type 0} (led : Config → List X → S → Type 0) (IsTick : Bool → X → Type 0) (refused : Bool) (old new : S) : Type 0 where
+pub record Passed {X S : Type 0} (led : Config → List X → S → Type 0) (IsTick : Bool → X → Type 0) (refused : Bool)
+    (old new : S) : Type 0 where
   pub calls : List X
   pub are : AreTicks IsTick refused calls
   pub moves : Moves led old calls new
 
-module _ {X S : Type 0} (led : Config → List X → S → Type 0) (of : X → Entry) (tells : Config → List X → X → List Line) (at : ℕ) where
+module _ {X S : Type 0} (led : Config → List X → S → Type 0) (of : X → Entry) (tells : Config → List X → X → List Line)
+    (at : ℕ) where
   -- These calls, and what the log tells of them.
   pub record Acts (calls : List X) (old : S) (log : Log) (new : S) (left : Log) : Type 0 where
     pub moves : Moves led old calls new
     pub given : left.given ≡ log.given ++ reverse (all_of (given_by at) (map of calls))
-    pub lines : (config : Config) (t : List X) → led config t old → left.lines ≡ log.lines ++ lines_upon (tells config) t calls
+    pub lines : (config : Config) (t : List X) → led config t old
+        → left.lines ≡ log.lines ++ lines_upon (tells config) t calls
 
   -- It takes what is out, until there is none.
   pub record TakesAll {A : Type 0} (call : Option A → X) (old : S) (log : Log) (new : S) (left : Log) : Type 0 where
@@ -35,7 +39,8 @@ module _ {X S : Type 0} (led : Config → List X → S → Type 0) (of : X → E
     pub acts : Acts (all_taken call taken) old log new left
 
   -- ticks of a moment, and what they tell
-  pub record Ticked (IsTick : Bool → X → Type 0) (refused : Bool) (old : S) (log : Log) (new : S) (left : Log) : Type 0 where
+  pub record Ticked (IsTick : Bool → X → Type 0) (refused : Bool) (old : S) (log : Log) (new : S)
+      (left : Log) : Type 0 where
     pub calls : List X
     pub are : AreTicks IsTick refused calls
     pub acts : Acts calls old log new left

@@ -16,7 +16,8 @@ delays_as {A} ds = map (λ (d : PathDelay A). delay_as d) ds
 abbrev pub delays_of_others : {A : Type 0} → List (List ℕ) → List (PathDelay A) → List (PathDelay A)
 delays_of_others {A} path ds = filter (λ (d : PathDelay A). not (same_path d.path path)) ds
 
-abbrev pub config_of : {A : Type 0} → (client_word client_szx server_word server_szx limit : ℕ) → List (PathDelay A) → Config
+abbrev pub config_of : {A : Type 0} → (client_word client_szx server_word server_szx limit : ℕ) → List (PathDelay A)
+    → Config
 config_of client_word client_szx server_word server_szx limit delays =
     record {
       client_word = client_word;

@@ -18,6 +18,7 @@ pub record ClientLed {A : Type 0} (config : Config) (t : List C.Call) (e : Clien
   pub senders : (token : List ℕ) → sender_in e.senders token ≡ sender_of config.client_szx token t
 
 -- a server over a store, by what that holds, and how many changes there were
-pub record ServerLed {K A : Type 0} (content : K → Content) (config : Config) (t : List S.Call) (e : ServerEnd K A) : Type 0 where
+pub record ServerLed {K A : Type 0} (content : K → Content) (config : Config) (t : List S.Call)
+    (e : ServerEnd K A) : Type 0 where
   pub led : server.Led config.limit config.server_szx config.server_word t (state_of content e.server)
   pub version : e.version ≡ changes config.limit config.server_szx t

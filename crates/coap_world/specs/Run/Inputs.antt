@@ -20,7 +20,8 @@ abbrev pub IsForgetting : ℕ → C.Call → Type 0
 IsForgetting number c = (kept : Bool) × (answer : Bool) × (c ≡ C.Forgets number kept answer)
 
 abbrev pub IsSet : ℕ → List (List ℕ) → Option ℕ → List ℕ → S.Call → Type 0
-IsSet at path format body c = (answer : Result ℕ StoreRefusal) × (left : Content) × (c ≡ S.Sets at path format body answer left)
+IsSet at path format body c = (answer : Result ℕ StoreRefusal) × (left : Content)
+    × (c ≡ S.Sets at path format body answer left)
 
 abbrev pub IsRemoval : ℕ → List (List ℕ) → S.Call → Type 0
 IsRemoval at path c = (answer : Result Bool StoreRefusal) × (left : Content) × (c ≡ S.Removes at path answer left)

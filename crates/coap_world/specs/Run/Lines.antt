@@ -6,7 +6,8 @@ use Rattle.coap_ends.specs.ServerSide.ServerTrace.{Applied}
 use Rattle.coap_ends.specs.ServerSide.Follows.ServerHolds as server
 use Rattle.coap_ends.specs.declared.client.report.CallId.{CallId}
 use Rattle.coap_resource.specs.Shown.{shown}
-use Rattle.coap_world.specs.Run.Log.{Line, Begins, Takes, Cancels, Forgets, Puts, Removes, Applies, Changes, Out, Reports, Refused}
+use Rattle.coap_world.specs.Run.Log.{Line, Begins, Takes, Cancels, Forgets, Puts, Removes, Applies, Changes, Out}
+use Rattle.coap_world.specs.Run.Log.{Reports, Refused}
 use Rattle.coap_world.specs.declared.running.record.AppliedRequest.{AppliedRequest}
 use Rattle.coap_world.specs.declared.running.record.Change.{Change}
 use Rattle.coap_world.specs.declared.running.record.Kind.{Kind}

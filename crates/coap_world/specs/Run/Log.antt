@@ -1,5 +1,6 @@
 -- What a run tells, in order: the oldest first.
-use Rattle.std.specs.Prelude.{ℕ, Bool, true, false, Option, Some, None, List, [], ◌∷◌, ◌++◌, reverse, Result, if◌then◌else◌}
+use Rattle.std.specs.Prelude.{ℕ, Bool, true, false, Option, Some, None, List, [], ◌∷◌, ◌++◌, reverse, Result}
+use Rattle.std.specs.Prelude.{if◌then◌else◌}
 use Rattle.coap_types.specs.Past.{all_of}
 use Rattle.coap_types.specs.SameEndpoint.{same_endpoint}
 use Rattle.coap_resource.specs.declared.refusal.StoreRefusal.{StoreRefusal}
@@ -12,13 +13,15 @@ use Rattle.coap_ends.specs.ServerSide.ServerTrace as S
 use Rattle.coap_ends.specs.ServerSide.Follows.ServerHolds.{Change, change}
 use Rattle.coap_ends.specs.ServerSide.Follows.ServerServes.{Serving, serving}
 use Rattle.coap_world.specs.Events.{Config, client_end}
-use Rattle.coap_world.specs.Record.{Entry, OfClient, OfServer, Given, given_in, Turn, entries_of, client_of, server_trace}
+use Rattle.coap_world.specs.Record.{Entry, OfClient, OfServer, Given, given_in, Turn, entries_of, client_of}
+use Rattle.coap_world.specs.Record.{server_trace}
 use Rattle.coap_world.specs.Run.Senders.{sender_of}
 
--- An event begins, at its moment; what its call answers: the number of a call or an observation, or why it is not taken; why
--- a cancel is not taken, if it is not; whether an observation is forgotten; the version of a local change, or why there is
--- none; whether something is removed. A request is applied, for this call, if it is one of the client's; and a path is
--- changed. Then the next datagram is given out, and a report is taken; and at last, that its input met want of memory.
+-- An event begins, at its moment; what its call answers: the number of a call or an observation, or why it is not
+-- taken; why a cancel is not taken, if it is not; whether an observation is forgotten; the version of a local change,
+-- or why there is none; whether something is removed. A request is applied, for this call, if it is one of the
+-- client's; and a path is changed. Then the next datagram is given out, and a report is taken; and at last, that its
+-- input met want of memory.
 pub data Line : Type 0 where
   Begins : (at : ℕ) → Line
   Takes : (answer : Result ℕ CallRefusal) → Line
@@ -60,7 +63,13 @@ call_if true number = number
 call_if false number = None
 
 abbrev pub applied_as : Serving → S.Applied
-applied_as x = record { from = x.asked.from; token = x.asked.token; path = x.question.path; method = x.question.method; version = version_made x.old x.left }
+applied_as x = record {
+  from = x.asked.from;
+  token = x.asked.token;
+  path = x.question.path;
+  method = x.question.method;
+  version = version_made x.old x.left;
+}
 
 module _ (sender : List ℕ → Option ℕ) where
   abbrev pub call_for : S.Applied → Option ℕ
@@ -87,7 +96,8 @@ refused_line false = []
 module _ (config : Config) where
   abbrev pub lines_by : List Entry → Entry → List Line
   lines_by past (OfClient c) = client_lines c
-  lines_by past (OfServer c) = server_lines (λ token. sender_of config.client_szx token (client_of past)) config (server_trace config past) c
+  lines_by past (OfServer c) = server_lines (λ token. sender_of config.client_szx token (client_of past)) config
+      (server_trace config past) c
 
   -- the lines of a turn
   abbrev pub lines_in : List Entry → ℕ → Bool → List Entry → List Line

@@ -18,5 +18,6 @@ module _ (config : Config) where
   abbrev pub EachNamed : List Entry → Type 0
   EachNamed all =
       Always
-      (λ past e. (x : Serving) → ServesAt config x past e → is_applied x.reply.code ≡ true → (number : ℕ) → (named x past ≡ Some number) ↔ ((x.asked.from ≡ client_end) × SentFor config number x.asked.token all))
+      (λ past e. (x : Serving) → ServesAt config x past e → is_applied x.reply.code ≡ true → (number : ℕ)
+      → (named x past ≡ Some number) ↔ ((x.asked.from ≡ client_end) × SentFor config number x.asked.token all))
       all

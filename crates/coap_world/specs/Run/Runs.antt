@@ -8,8 +8,8 @@ use Rattle.coap_world.specs.Record.{Turn, RecordOf, entries_of}
 use Rattle.coap_world.specs.Run.Log.{Log, log_of}
 use Rattle.coap_world.specs.Run.Named.{EachNamed}
 
--- The log of the record of these events, the oldest first, each of which is legal in it: of each request that is applied it names
--- the call to which that belongs. And that record keeps the promise.
+-- The log of the record of these events, the oldest first, each of which is legal in it: of each request that is
+-- applied it names the call to which that belongs. And that record keeps the promise.
 pub record IsRunOf (config : Config) (events : List Event) (log : Log) : Type 0 where
   pub turns : List Turn
   pub made : RecordOf config (reverse events) turns

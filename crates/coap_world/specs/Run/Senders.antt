@@ -15,7 +15,8 @@ use Rattle.coap_world.specs.declared.running.senders.Senders as declared
 -- what was sent, by the number of its call or observation, if it has one
 abbrev pub sent_as : Option Sending → Option Requested
 sent_as None = None
-sent_as (Some x) = option_map (λ (number : ℕ). record { number = number; token = x.token }) (operation_number x.operation)
+sent_as (Some x) = option_map (λ (number : ℕ). record { number = number; token = x.token })
+    (operation_number x.operation)
 
 abbrev pub number_if : Bool → ℕ → Option ℕ → Option ℕ
 number_if true number before = Some number

@@ -1,4 +1,5 @@
--- How the lines of a call of the server are read from it: from what it says that it applied last, and from what its paths hold.
+-- How the lines of a call of the server are read from it: from what it says that it applied last, and from what its
+-- paths hold.
 use Rattle.std.specs.Prelude.{◌≡◌, ℕ, ◌==◌, Bool, true, false, Option, List, [], ◌∷◌, if◌then◌else◌}
 use Rattle.coap_resource.specs.Content.{Content, Held}
 use Rattle.coap_ends.specs.ServerObject.ServerShown.{state_of}
@@ -28,4 +29,5 @@ version_told (a ∷ rest) before = version_after a.version before
 -- a datagram or a tick, of which nothing is told yet: one call, and none where it met want of memory
 abbrev pub IsFed : {K A : Type 0} → (K → Content) → (Call → Type 0) → Bool → ServerEnd K A → ServerEnd K A → Type 0
 IsFed content Is true old new = new ≡ old
-IsFed content Is false old new = (c : Call) × Is c × Step (state_of content old.server) c (state_of content new.server) × (new.version ≡ old.version)
+IsFed content Is false old new = (c : Call) × Is c × Step (state_of content old.server) c (state_of content new.server)
+    × (new.version ≡ old.version)

@@ -46,7 +46,8 @@ fn give_delays<S: Store<A>, A: Allocator + Copy>(
     config: &WorldConfig<A>,
 ) -> Result<(), AllocError>
     requires { Led config.now.limit config.now.server_szx config.now.server_word [] (state_of S.content server.old) }
-    ensures { OnOk result (Led config.now.limit config.now.server_szx config.now.server_word (begun_with config.now) (state_of S.content server.new)) }
+    ensures { OnOk result (Led config.now.limit config.now.server_szx config.now.server_word (begun_with config.now)
+        (state_of S.content server.new)) }
 {
     let mut left = config.delays.len();
     'delays: while left > 0 {

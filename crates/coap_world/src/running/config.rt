@@ -34,7 +34,8 @@ impl<A: Allocator + Copy> Model for WorldConfig<A> {
 
     ghost view = { λ c. config_of c.client_word c.client_szx c.server_word c.server_szx c.changes c.delays.items };
 
-    ghost invariant = { λ c. IsConfig (config_of c.client_word c.client_szx c.server_word c.server_szx c.changes c.delays.items) };
+    ghost invariant = { λ c. IsConfig (config_of c.client_word c.client_szx c.server_word c.server_szx c.changes
+        c.delays.items) };
 }
 
 impl<A: Allocator + Copy> WorldConfig<A> {

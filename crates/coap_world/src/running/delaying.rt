@@ -1,6 +1,7 @@
 //! The delays of paths with which a run begins (RFC 7252, section 5.2.2; that a path has one is a
 //! profile).
-ghost use Rattle.std.specs.Prelude.{◌≡◌, ◌≢◌, ◌≤◌, ◌<◌, ◌++◌, ◌∷◌, [], true, false, Err, is_some, length, slice_get, IfSome, IfNone, IfOk, IsOk, OnErr, OnOk, vec_len, vec_capacity};
+ghost use Rattle.std.specs.Prelude.{◌≡◌, ◌≢◌, ◌≤◌, ◌<◌, ◌++◌, ◌∷◌, [], true, false, Err, is_some, length, slice_get};
+ghost use Rattle.std.specs.Prelude.{IfSome, IfNone, IfOk, IsOk, OnErr, OnOk, vec_len, vec_capacity};
 ghost use Rattle.coap_ends.specs.ServerSide.ServerDeferring.{delay_of, delays_with, may_delay};
 ghost use Rattle.coap_world.specs.Run.Configs.{delays_as, delays_of_others};
 

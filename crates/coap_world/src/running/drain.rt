@@ -60,7 +60,9 @@ fn server_outs<S: Store<A>, A: Allocator + Copy>(
     at: u64,
     log: &mut Record<A>,
 ) -> Result<(), AllocError>
-    ensures { OnOk result ((sender : List ℕ → Option ℕ) → TakesAll (ServerLed S.content) OfServer (server_lines sender) at served.NextOut end.old log.old end.new log.new) }
+    ensures { OnOk result ((sender : List ℕ → Option ℕ)
+        → TakesAll (ServerLed S.content) OfServer (server_lines sender) at served.NextOut end.old log.old end.new
+        log.new) }
 {
     'outs: while let Some(datagram) = end.server.next_out() {
         log.give(at, SERVER_END, datagram)?;
@@ -90,7 +92,8 @@ pub(crate) fn finish_server<S: Store<A>, A: Allocator + Copy>(
     refused: bool,
     log: &mut Record<A>,
 ) -> Result<(), AllocError>
-    ensures { OnOk result ((sender : List ℕ → Option ℕ) → ServerEnds (ServerLed S.content) (server_lines sender) at refused end.old log.old end.new log.new) }
+    ensures { OnOk result ((sender : List ℕ → Option ℕ)
+        → ServerEnds (ServerLed S.content) (server_lines sender) at refused end.old log.old end.new log.new) }
 {
     server_outs(end, at, log)?;
     log.end(refused)?;

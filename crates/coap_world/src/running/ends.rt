@@ -21,7 +21,9 @@ impl<A: Allocator + Copy> ClientEnd<A> {
     /// Notes the request that the last datagram or tick sent, if it sent one.
     pub(crate) fn note_asked(&mut self) -> Result<(), AllocError>
         ensures same { OnOk result (self.new.client ≡ self.old.client) }
-        ensures noted { OnOk result ((token : List ℕ) → sender_in self.new.senders token ≡ noted token self.old.client.own.asked (sender_in self.old.senders token)) }
+        ensures noted { OnOk result ((token : List ℕ)
+            → sender_in self.new.senders token ≡ noted token self.old.client.own.asked
+            (sender_in self.old.senders token)) }
     {
         if let Some((id, token)) = self.client.asked() {
             self.senders.note(id, token)?;
@@ -46,7 +48,9 @@ impl<S: Store<A>, A: Allocator + Copy> ServerEnd<S, A> {
         log: &mut Record<A>,
     ) -> Result<(), AllocError>
         ensures same { OnOk result (self.new.server ≡ self.old.server) }
-        ensures told { OnOk result (log.new ≡ lines_put (applied_told (sender_in senders.now) self.old.server.applied (S.content self.old.server.store).holds) log.old) }
+        ensures told { OnOk result (log.new ≡ lines_put
+            (applied_told (sender_in senders.now) self.old.server.applied (S.content self.old.server.store).holds)
+            log.old) }
         ensures version { OnOk result (self.new.version ≡ version_told self.old.server.applied self.old.version) }
     {
         let Some(applied) = self.server.applied() else {

@@ -64,7 +64,8 @@ pub(crate) fn tell_fed<S: Store<A>, A: Allocator + Copy>(
 ) -> Result<(), AllocError>
     ensures { OnOk result ((before : ServerEnd S A) (at word : ℕ) (from : Endpoint) (bytes : List ℕ)
         → IsFed S.content (FeedsServer at word from bytes) refused before end.old
-        → Taken (ServerLed S.content) OfServer (server_lines (sender_in senders.now)) at (FeedsServer at word from bytes) refused before log.old end.new log.new) }
+        → Taken (ServerLed S.content) OfServer (server_lines (sender_in senders.now)) at
+        (FeedsServer at word from bytes) refused before log.old end.new log.new) }
 {
     if refused {
         return Ok(());
@@ -96,7 +97,8 @@ pub(crate) fn call_client<A: Allocator + Copy>(
     at: u64,
     request: Request<A>,
 ) -> Result<bool, AllocError>
-    ensures { IfOk result (λ refused. Taken ClientLed OfClient of_client at (IsCall at (shown_request request)) refused end.old log.old end.new log.new) }
+    ensures { IfOk result (λ refused. Taken ClientLed OfClient of_client at
+        (IsCall at (shown_request request)) refused end.old log.old end.new log.new) }
 {
     let answer = end.client.call(Moment(at), request);
     if lacks_memory(answer) {
@@ -113,7 +115,8 @@ pub(crate) fn observe_client<A: Allocator + Copy>(
     at: u64,
     path: Path<A>,
 ) -> Result<bool, AllocError>
-    ensures { IfOk result (λ refused. Taken ClientLed OfClient of_client at (IsObservation at path) refused end.old log.old end.new log.new) }
+    ensures { IfOk result (λ refused. Taken ClientLed OfClient of_client at
+        (IsObservation at path) refused end.old log.old end.new log.new) }
 {
     let answer = end.client.observe(Moment(at), path);
     if lacks_memory(answer) {
@@ -130,7 +133,8 @@ pub(crate) fn cancel_client<A: Allocator + Copy>(
     at: u64,
     id: CallId,
 ) -> Result<(), AllocError>
-    ensures { OnOk result (Taken ClientLed OfClient of_client at (IsCancel at id.0) false end.old log.old end.new log.new) }
+    ensures { OnOk result (Taken ClientLed OfClient of_client at
+        (IsCancel at id.0) false end.old log.old end.new log.new) }
 {
     let answer = end.client.cancel(Moment(at), id);
     log.note(Kind::Cancels(answer))?;
@@ -144,7 +148,8 @@ pub(crate) fn forget_client<A: Allocator + Copy>(
     at: u64,
     id: CallId,
 ) -> Result<(), AllocError>
-    ensures { OnOk result (Taken ClientLed OfClient of_client at (IsForgetting id.0) false end.old log.old end.new log.new) }
+    ensures { OnOk result (Taken ClientLed OfClient of_client at
+        (IsForgetting id.0) false end.old log.old end.new log.new) }
 {
     let answer = end.client.forget(id);
     log.note(Kind::Forgets(answer))?;
@@ -160,7 +165,9 @@ pub(crate) fn set_server<S: Store<A>, A: Allocator + Copy>(
     format: Option<u16>,
     body: &[u8],
 ) -> Result<bool, AllocError>
-    ensures { IfOk result (λ refused. (sender : List ℕ → Option ℕ) → Taken (ServerLed S.content) OfServer (server_lines sender) at (IsSet at path.now format body.now) refused end.old log.old end.new log.new) }
+    ensures { IfOk result (λ refused. (sender : List ℕ → Option ℕ)
+        → Taken (ServerLed S.content) OfServer (server_lines sender) at
+        (IsSet at path.now format body.now) refused end.old log.old end.new log.new) }
 {
     let answer = end.server.set(Moment(at), path, format, body);
     if store_lacks_memory(answer) {
@@ -183,7 +190,9 @@ pub(crate) fn remove_server<S: Store<A>, A: Allocator + Copy>(
     at: u64,
     path: &Path<A>,
 ) -> Result<(), AllocError>
-    ensures { OnOk result ((sender : List ℕ → Option ℕ) → Taken (ServerLed S.content) OfServer (server_lines sender) at (IsRemoval at path.now) false end.old log.old end.new log.new) }
+    ensures { OnOk result ((sender : List ℕ → Option ℕ)
+        → Taken (ServerLed S.content) OfServer (server_lines sender) at
+        (IsRemoval at path.now) false end.old log.old end.new log.new) }
 {
     let answer = end.server.remove(Moment(at), path);
     log.note(Kind::Removes(answer))?;

@@ -219,7 +219,8 @@ impl<A: Allocator + Copy> Record<A> {
         call: Option<CallId>,
         applied: &Applied<A>,
     ) -> Result<(), AllocError>
-        ensures { OnOk result (self.new ≡ line_put (Applies (option_map (λ (id : CallId). id.0) call) (applied_as applied.now)) self.old) }
+        ensures { OnOk result (self.new ≡ line_put
+            (Applies (option_map (λ (id : CallId). id.0) call) (applied_as applied.now)) self.old) }
     {
         let path = applied.path.clone()?;
         self.note(Kind::Applies(AppliedRequest {
@@ -240,7 +241,8 @@ impl<A: Allocator + Copy> Record<A> {
         version: u64,
         held: Option<&Representation<A>>,
     ) -> Result<(), AllocError>
-        ensures { OnOk result (self.new ≡ lines_put (change_told path.now version (shown (option_copied held.entry))) self.old) }
+        ensures { OnOk result (self.new ≡ lines_put
+            (change_told path.now version (shown (option_copied held.entry))) self.old) }
     {
         let path = path.clone()?;
         let held = copied_holding(held)?;

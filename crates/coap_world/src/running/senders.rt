@@ -33,7 +33,8 @@ impl<A: Allocator + Copy> Senders<A> {
 
     /// Notes that a token was sent for it.
     pub(crate) fn note(&mut self, id: CallId, token: Token) -> Result<(), AllocError>
-        ensures { OnOk result ((other : List ℕ) → sender_in self.new other ≡ number_if (same_token token other) id.0 (sender_in self.old other)) }
+        ensures { OnOk result ((other : List ℕ) → sender_in self.new other
+            ≡ number_if (same_token token other) id.0 (sender_in self.old other)) }
     {
         let _before = self.ids.insert(token, id)?;
         Ok(())
@@ -48,7 +49,8 @@ impl<A: Allocator + Copy> Senders<A> {
 
     /// The call of a request that comes from this address, if that is the client's.
     pub(crate) fn call_of(&self, from: Endpoint, token: &Token) -> Option<CallId>
-        ensures { option_map (λ (id : CallId). id.0) result ≡ call_if (same_endpoint from client_end) (sender_in self.now token.now) }
+        ensures { option_map (λ (id : CallId). id.0) result
+            ≡ call_if (same_endpoint from client_end) (sender_in self.now token.now) }
     {
         if is_end(from, CLIENT_END) {
             self.sender(token)

@@ -43,7 +43,8 @@ pub(crate) fn server_ticks<S: Store<A>, A: Allocator + Copy>(
     at: u64,
     word: u64,
 ) -> Result<bool, AllocError>
-    ensures { IfOk result (λ refused. Ticked (ServerLed S.content) OfServer (server_lines (sender_in senders.now)) at (ServerTick at word) refused end.old log.old end.new log.new) }
+    ensures { IfOk result (λ refused. Ticked (ServerLed S.content) OfServer (server_lines (sender_in senders.now)) at
+        (ServerTick at word) refused end.old log.old end.new log.new) }
 {
     'ticks: loop {
         match end.server.tick(Moment(at), word) {

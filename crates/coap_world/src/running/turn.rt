@@ -1,7 +1,8 @@
 //! The turn of each event.
 ghost use Rattle.std.specs.Prelude.{◌≡◌, ◌<◌, ◌^◌, ℕ, Err, List, OnOk, Option};
 ghost use Rattle.coap_ends.specs.ClientObject.CallShown.{shown_request};
-ghost use Rattle.coap_world.specs.Events.{Calls, Observes, Cancels, Forgets, Sets, Removes, TickClient, TickServer, StrangerToClient, StrangerToServer};
+ghost use Rattle.coap_world.specs.Events.{Calls, Observes, Cancels, Forgets, Sets, Removes, TickClient, TickServer};
+ghost use Rattle.coap_world.specs.Events.{StrangerToClient, StrangerToServer};
 ghost use Rattle.coap_world.specs.Legal.{MayCome};
 ghost use Rattle.coap_world.specs.Record.{Turn};
 ghost use Rattle.coap_world.specs.Run.Ends.{ClientLed, ServerLed};
@@ -142,7 +143,8 @@ fn on_set<S: Store<A>, A: Allocator + Copy>(
     body: &[u8],
 ) -> Result<(), AllocError>
     ensures { OnOk result ((sender : List ℕ → Option ℕ) (past : List Turn)
-        → ServerTurned S.content sender past (record { at = when.at; word = when.word; what = Sets path.now format body.now })
+        → ServerTurned S.content sender past (record
+        { at = when.at; word = when.word; what = Sets path.now format body.now })
         server.old log.old server.new log.new) }
 {
     log.note(Kind::Begins(when.at))?;
@@ -174,7 +176,8 @@ fn on_server_tick<S: Store<A>, A: Allocator + Copy>(
     when: When,
 ) -> Result<(), AllocError>
     ensures { OnOk result ((past : List Turn)
-        → ServerTurned S.content (sender_in senders.now) past (record { at = when.at; word = when.word; what = TickServer })
+        → ServerTurned S.content (sender_in senders.now) past
+        (record { at = when.at; word = when.word; what = TickServer })
         server.old log.old server.new log.new) }
 {
     log.note(Kind::Begins(when.at))?;
@@ -192,7 +195,8 @@ fn on_server_stranger<S: Store<A>, A: Allocator + Copy>(
     bytes: &[u8],
 ) -> Result<(), AllocError>
     ensures { OnOk result ((past : List Turn) → MayCome past when.at (StrangerToServer from bytes.now)
-        → ServerTurned S.content (sender_in senders.now) past (record { at = when.at; word = when.word; what = StrangerToServer from bytes.now })
+        → ServerTurned S.content (sender_in senders.now) past
+        (record { at = when.at; word = when.word; what = StrangerToServer from bytes.now })
         server.old log.old server.new log.new) }
 {
     let refused = feed_server(server, when.at, when.word, from, bytes);

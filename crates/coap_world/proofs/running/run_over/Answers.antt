@@ -18,8 +18,10 @@ events-preserved g c =
           let st = c.events.invariant.stands config start in
           let more = c.in-Ok.ensures.ok config _ st.0 st.1 in (
             more.0 ∷ st.0,
-            subst (λ es. Stands ClientLed (ServerLed g.S.Store.content) config es (more.0 ∷ st.0) c.step.new.client c.step.new.server c.step.new.log c.step.new.last)
-                (one_more event_of c.args.events.now c.events.number c.index-events-number.result c.events-test.true c.index-events-number.is) more.1,
+            subst (λ es. Stands ClientLed (ServerLed g.S.Store.content) config es
+                (more.0 ∷ st.0) c.step.new.client c.step.new.server c.step.new.log c.step.new.last)
+                (one_more event_of c.args.events.now c.events.number c.index-events-number.result c.events-test.true
+                c.index-events-number.is) more.1,
           );
     }
 
@@ -28,7 +30,9 @@ returns-clause-record g c = λ config start.
     let st = c.events.invariant.stands config start in (
       st.0,
       c.events.last,
-      to_the_end event_of c.args.events.now c.events.number (λ es. Stands ClientLed (ServerLed g.S.Store.content) config es st.0 c.events.client c.events.server c.events.log c.events.last) c.events-test.false st.1,
+      to_the_end event_of c.args.events.now c.events.number
+          (λ es. Stands ClientLed (ServerLed g.S.Store.content) config es st.0 c.events.client c.events.server
+          c.events.log c.events.last) c.events-test.false st.1,
     )
 
 pub returns-in-Err-NotLegal-clause-wrong : goal.returns-in-Err-NotLegal-clause-wrong
@@ -36,6 +40,7 @@ returns-in-Err-NotLegal-clause-wrong g c = λ number e config start.
     let st = c.events.invariant.stands config start in
     let same = same_number c.events.number number _ refl e in
     subst (λ n. IsFirstWrong config (map event_of c.args.events.now) n) same
-    (first_wrong event_of c.args.events.now c.events.number config st.0 c.index-events-number.result c.events-test.true c.index-events-number.is
+    (first_wrong event_of c.args.events.now c.events.number config st.0 c.index-events-number.result c.events-test.true
+    c.index-events-number.is
     (recorded g.S.Store.content config _ st.0 _ _ _ _ st.1) st.1.legal
     (c.step.ensures.wrong (c.in-Err-NotLegal.is ∙ ap Err c.in-Err-NotLegal.field-0-is) config _ st.0 st.1))

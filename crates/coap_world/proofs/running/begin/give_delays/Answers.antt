@@ -13,10 +13,12 @@ use Rattle.coap_world.proofs.running.begin.give_delays.Goals as goal
 pub delays-init : goal.delays-init
 delays-init g c =
     let k = c.args.config.now in
-    let none = none_yet c.config.inside.delays.items k.delays c.len-left.result (ap (λ (k : Config). k.delays) c.config.view_is) (c.len-left.ensures ∙ c.config.inside.delays.ok.0) in
+    let none = none_yet c.config.inside.delays.items k.delays c.len-left.result
+    (ap (λ (k : Config). k.delays) c.config.view_is) (c.len-left.ensures ∙ c.config.inside.delays.ok.0) in
     record {
       within = none.0;
-      led = subst (λ t. Led k.limit k.server_szx k.server_word t (state_of g.S.Store.content c.args.server.now)) none.1 c.requires;
+      led = subst (λ t. Led k.limit k.server_szx k.server_word t (state_of g.S.Store.content c.args.server.now)) none.1
+          c.requires;
     }
 
 pub delays-preserved : goal.delays-preserved
@@ -30,9 +32,15 @@ delays-preserved g c =
       within = omega (arith, c.delays.invariant.within);
       led =
           subst (λ t. Led k.limit k.server_szx k.server_word t (state_of g.S.Store.content c.set_delay.new.self))
-          (next_given c.config.inside.delays.items k.delays n c.delays.left c.index-delay.result.now are (omega (arith, c.delays-test.true)) (omega (arith, long, c.delays.invariant.within, c.delays-test.true)) c.index-delay.ensures)
-          (subst (λ b. Led k.limit k.server_szx k.server_word (Delays c.index-delay.result.now.path c.index-delay.result.now.ms b ∷ gives (drop c.delays.left k.delays)) (state_of g.S.Store.content c.set_delay.new.self)) ok
-          (c.set_delay.ensures.led k.limit k.server_szx k.server_word (gives (drop c.delays.left k.delays)) c.delays.invariant.led (λ e. let clash = sym c.in-Ok.is ∙ e in cc)));
+          (next_given c.config.inside.delays.items k.delays n c.delays.left c.index-delay.result.now are
+          (omega (arith, c.delays-test.true)) (omega (arith, long, c.delays.invariant.within, c.delays-test.true))
+          c.index-delay.ensures)
+          (subst (λ b. Led k.limit k.server_szx k.server_word
+          (Delays c.index-delay.result.now.path c.index-delay.result.now.ms b ∷ gives (drop c.delays.left k.delays))
+          (state_of g.S.Store.content c.set_delay.new.self)) ok
+          (c.set_delay.ensures.led k.limit k.server_szx k.server_word
+          (gives (drop c.delays.left k.delays)) c.delays.invariant.led
+          (λ e. let clash = sym c.in-Ok.is ∙ e in cc)));
     }
 
 pub unreachable-requires : goal.unreachable-requires
@@ -40,6 +48,8 @@ unreachable-requires g c =
     let k = c.args.config.now in
     let is = c.in-Err-Full.is ∙ ap Err c.in-Err-Full.field-0-is in
     let step = c.set_delay.ensures.step (λ e. let clash = sym is ∙ e in cc) in
-    let few = few_left k.delays c.delays.left c.delays-test.true c.delays.invariant.within (subst (λ (k : Config). length k.delays ≤ max_delays) c.config.view_is c.config.invariant.few) in
+    let few = few_left k.delays c.delays.left c.delays-test.true c.delays.invariant.within
+    (subst (λ (k : Config). length k.delays ≤ max_delays) c.config.view_is c.config.invariant.few) in
     none_full k.limit k.server_szx (drop c.delays.left k.delays) c.index-delay.result.now.path few
-    (sym (ap is_ok is) ∙ step.right ∙ ap (λ (o : Own). may_delay c.index-delay.result.now.path o.delays) c.delays.invariant.led.own_is)
+    (sym (ap is_ok is) ∙ step.right ∙ ap (λ (o : Own). may_delay c.index-delay.result.now.path o.delays)
+    c.delays.invariant.led.own_is)

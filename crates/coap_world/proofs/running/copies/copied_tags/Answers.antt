@@ -10,7 +10,10 @@ tags-preserved c =
     let room : length c.tags.copy < max_tags = omega (arith, long, c.tags-test.true, c.requires) in
     record {
       within = omega (arith, c.tags-test.true);
-      are = one_copied c.args.tags.now c.tags.copy c.push-fits.new.self c.tags.i c.index-tags-i.result c.tags-test.true c.index-tags-i.is c.tags.invariant.are
-          (is_added c.push-fits.result max_tags c.tags.copy c.push-fits.new.self c.index-tags-i.result (subst (λ t. OnOk c.push-fits.result (c.push-fits.new.self ≡ c.tags.copy ++ t ∷ [])) c.copy.ensures c.push-fits.ensures.added)
+      are = one_copied c.args.tags.now c.tags.copy c.push-fits.new.self c.tags.i c.index-tags-i.result c.tags-test.true
+          c.index-tags-i.is c.tags.invariant.are
+          (is_added c.push-fits.result max_tags c.tags.copy c.push-fits.new.self c.index-tags-i.result
+          (subst (λ t. OnOk c.push-fits.result (c.push-fits.new.self ≡ c.tags.copy ++ t ∷ [])) c.copy.ensures
+          c.push-fits.ensures.added)
           c.push-fits.ensures.full room);
     }

@@ -3,7 +3,8 @@ use Rattle.coap_world.specs.Run.Configs.{delays_of_others}
 use Rattle.coap_world.proofs.running.delaying.delay_place.Given as goal
 
 abbrev pub invariant-delays : goal.invariant-delays
-invariant-delays g l = take l.i l.delays ++ delays_of_others l.path (drop l.i l.delays) ≡ delays_of_others l.path l.delays
+invariant-delays g l = take l.i l.delays ++ delays_of_others l.path (drop l.i l.delays)
+    ≡ delays_of_others l.path l.delays
 
 abbrev pub decreases-delays : goal.decreases-delays
 decreases-delays g l = length l.delays - l.i

@@ -8,4 +8,5 @@ use Rattle.coap_world.proofs.running.step.step.Goals as goal
 pub returns-clause-ok : goal.returns-clause-ok
 returns-clause-ok g c = λ config events turns st.
     goes_on ClientLed (ServerLed g.S.Store.content) config events turns (event_of c.args.event.now) _ _ _ _ _ _ _ st
-    (c.in_ok-turn.ensures.ok turns (ap (λ (l : Log). l.given) st.log_is)) c.turn.ensures.small.0 c.turn.ensures.small.1 c.show_ranges.ensures c.if-at-last.false
+    (c.in_ok-turn.ensures.ok turns (ap (λ (l : Log). l.given) st.log_is)) c.turn.ensures.small.0 c.turn.ensures.small.1
+    c.show_ranges.ensures c.if-at-last.false

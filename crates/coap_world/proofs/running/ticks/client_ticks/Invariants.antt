@@ -10,4 +10,5 @@ abbrev pub decreases-ticks : goal.decreases-ticks
 decreases-ticks g l = work l.end.client l.at
 
 abbrev pub invariant-ticks : goal.invariant-ticks
-invariant-ticks g l = (calls : List _) × Always (λ past c. ClientTick l.at l.word true c) calls × Moves ClientLed l.initial.end calls l.end
+invariant-ticks g l = (calls : List _) × Always (λ past c. ClientTick l.at l.word true c) calls
+    × Moves ClientLed l.initial.end calls l.end

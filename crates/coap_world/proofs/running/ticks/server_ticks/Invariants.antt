@@ -11,4 +11,5 @@ abbrev pub decreases-ticks : goal.decreases-ticks
 decreases-ticks g l = work (state_of g.S.Store.content l.end.server) l.at
 
 abbrev pub invariant-ticks : goal.invariant-ticks
-invariant-ticks g l = TicksSo (ServerLed g.S.Store.content) OfServer (server_lines (sender_in l.fn.senders)) l.at (ServerTick l.at l.word) l.initial.end l.initial.log l.end l.log
+invariant-ticks g l = TicksSo (ServerLed g.S.Store.content) OfServer (server_lines (sender_in l.fn.senders)) l.at
+    (ServerTick l.at l.word) l.initial.end l.initial.log l.end l.log

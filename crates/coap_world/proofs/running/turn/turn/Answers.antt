@@ -54,14 +54,22 @@ returns-in_ok-on_server_tick-in-Server-clause-ok g c = λ past is.
     (ap what_of c.in-Tick.is ∙ ap (λ e. what_of {A = g.row.A.Denot} (Tick e)) c.in-Server.is)
     _ _ _ _ _ (c.in_ok-on_server_tick-in-Server.ensures past)
 
-pub returns-in_ok-on_client_stranger-in-Client-side-clause-ok : goal.returns-in_ok-on_client_stranger-in-Client-side-clause-ok
+pub returns-in_ok-on_client_stranger-in-Client-side-clause-ok :
+    goal.returns-in_ok-on_client_stranger-in-Client-side-clause-ok
 returns-in_ok-on_client_stranger-in-Client-side-clause-ok g c = λ past is.
     by_client g.S.Store.content past c.args.at c.args.word _ _
-    (ap what_of c.in-Stranger.is ∙ ap (λ e. what_of {A = g.row.A.Denot} (Stranger e c.in-Stranger.from c.in-Stranger.bytes)) c.in-Client-side.is ∙ ap (λ b. StrangerToClient c.in-Stranger.from b) (sym c.as_slice-in-Client-side.ensures))
-    _ _ _ _ _ (c.in_ok-on_client_stranger-in-Client-side.ensures past (c.is_end.ensures.no c.if-is_end.false, c.is_end-in-Stranger.ensures.no c.if-is_end-2.false))
+    (ap what_of c.in-Stranger.is ∙ ap (λ e. what_of {A = g.row.A.Denot}
+    (Stranger e c.in-Stranger.from c.in-Stranger.bytes)) c.in-Client-side.is
+    ∙ ap (λ b. StrangerToClient c.in-Stranger.from b) (sym c.as_slice-in-Client-side.ensures))
+    _ _ _ _ _ (c.in_ok-on_client_stranger-in-Client-side.ensures past
+    (c.is_end.ensures.no c.if-is_end.false, c.is_end-in-Stranger.ensures.no c.if-is_end-2.false))
 
-pub returns-in_ok-on_server_stranger-in-Server-side-clause-ok : goal.returns-in_ok-on_server_stranger-in-Server-side-clause-ok
+pub returns-in_ok-on_server_stranger-in-Server-side-clause-ok :
+    goal.returns-in_ok-on_server_stranger-in-Server-side-clause-ok
 returns-in_ok-on_server_stranger-in-Server-side-clause-ok g c = λ past is.
     by_server g.S.Store.content past c.args.at c.args.word _ _
-    (ap what_of c.in-Stranger.is ∙ ap (λ e. what_of {A = g.row.A.Denot} (Stranger e c.in-Stranger.from c.in-Stranger.bytes)) c.in-Server-side.is ∙ ap (λ b. StrangerToServer c.in-Stranger.from b) (sym c.as_slice-in-Server-side.ensures))
-    _ _ _ _ _ (c.in_ok-on_server_stranger-in-Server-side.ensures past (c.is_end.ensures.no c.if-is_end.false, c.is_end-in-Stranger.ensures.no c.if-is_end-2.false))
+    (ap what_of c.in-Stranger.is ∙ ap (λ e. what_of {A = g.row.A.Denot}
+    (Stranger e c.in-Stranger.from c.in-Stranger.bytes)) c.in-Server-side.is
+    ∙ ap (λ b. StrangerToServer c.in-Stranger.from b) (sym c.as_slice-in-Server-side.ensures))
+    _ _ _ _ _ (c.in_ok-on_server_stranger-in-Server-side.ensures past
+    (c.is_end.ensures.no c.if-is_end.false, c.is_end-in-Stranger.ensures.no c.if-is_end-2.false))
