@@ -1,5 +1,6 @@
 pub mod Above
 pub mod ClientSide
+pub mod Exchanges
 pub mod Moves
 pub mod SameToken
 pub mod ServerSide

@@ -6,5 +6,6 @@ pub mod HandedUp
 pub mod Hops
 pub mod Laws
 pub mod Sendable
+pub mod Sendings
 pub mod Spelling
 pub mod StepsOfLayer

@@ -25,7 +25,7 @@ use Rattle.coap_exchange.specs.AskerArrivals.{turn_of}
 use Rattle.coap_exchange.specs.AskerRequests.{opening_of, request_token}
 use Rattle.coap_exchange.specs.AskerLaw as X
 use Rattle.coap_exchange.specs.AskerTells.{TellsRunning, AreRefused}
-use Rattle.coap_exchange.proofs.Exchanges.OneAtATime as one_at_a_time
+use Rattle.coap_exchange.proofs.Facts.Exchanges as exchanges
 use Rattle.coap_exchange.proofs.Facts.ClientSide.{are_refused}
 use Rattle.coap_exchange.proofs.Facts.Moves.{token_in}
 use Rattle.coap_ends.specs.declared.limits.TheConstants.{MAX_OBSERVATIONS as max_observations}
@@ -210,7 +210,7 @@ module _ (server : Endpoint) (szx word : ℕ) where
       not_running is =
           let o = behind.0.runs m w (message_of e.own.observations op) sent
           (ap (λ z. E.Ask m (message_of e.own.observations op) w sent z) (given_so ∙ ap (λ y. Err y) is)) in
-          let k = (one_at_a_time.known server word (input ∷ lower_of szx t) rows_behind.1).1.runs.runs_it o.0 o.1 in
+          let k = (exchanges.known server word (input ∷ lower_of szx t) rows_behind.1).1.runs.runs_it o.0 o.1 in
           let none : None ≡ Some o.0 = ap token_in (sym none_runs) ∙ k in
           cc none
 

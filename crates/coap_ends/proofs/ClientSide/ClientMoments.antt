@@ -8,7 +8,7 @@ use Rattle.coap_layer.specs.Machine.State.{State, start, made, moment as moment_
 use Rattle.coap_layer.specs.Machine.Steps.{Asked, left_after, entries}
 use Rattle.coap_layer.specs.Trace as L
 use Rattle.coap_layer.specs.Words.{Open, begun}
-use Rattle.coap_layer.proofs.Numbers.OneEntryForAnId.{begins_of}
+use Rattle.coap_layer.proofs.Facts.Sendings.{begins_of}
 use Rattle.coap_exchange.specs.declared.asker.AskRefusal.{AskRefusal}
 use Rattle.coap_exchange.specs.declared.asker.Exchange.{Exchange}
 use Rattle.coap_exchange.specs.declared.matching.Opening.{Opening}

@@ -11,7 +11,7 @@ use Rattle.coap_layer.specs.Machine.Steps.{Asked, Steps, left_after, entries}
 use Rattle.coap_layer.specs.Sends.{IsIn, IsOpen, SendsIt}
 use Rattle.coap_layer.specs.Trace as L
 use Rattle.coap_layer.specs.Words.{Open, begun, copies_in}
-use Rattle.coap_layer.proofs.Copies.WhatIsOpen.{copied_by}
+use Rattle.coap_layer.proofs.Facts.Sendings.{copied_by}
 use Rattle.coap_layer.proofs.Facts.StepsOfLayer.{steps_split}
 use Rattle.coap_exchange.specs.declared.asker.AskRefusal.{AskRefusal}
 use Rattle.coap_exchange.specs.declared.asker.Exchange.{Exchange}
