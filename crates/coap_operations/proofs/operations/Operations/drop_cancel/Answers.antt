@@ -1,0 +1,20 @@
+use Rattle.std.proofs.Common.{◌≡◌, ◌<◌, ◌++◌, [], ◌∷◌, None, Some, not, drop, filter, length, remove, set, option_copied, slice_get, OnOk, ℕ, ap, sym, subst, refl, ◌∙◌, arith, rules}
+use Rattle.std.specs.List.{list_any}
+use Rattle.slab.specs.Slab.{get}
+use Rattle.coap_operations.specs.declared.queued.Queued.TheVariants as queued
+use Rattle.coap_operations.specs.declared.running.Running.TheVariants as running
+use Rattle.coap_operations.specs.Keys.{EachOnce, is_cancel_key, live_of, queue_of, running_of}
+use Rattle.coap_operations.specs.Listed.{Listed, is_cancel}
+use Rattle.coap_operations.proofs.KeyLemmas.{drop_queued, dropped_once, listed_is}
+use Rattle.coap_operations.proofs.operations.Operations.drop_cancel.Goals as goal
+
+pub invariant_of-self : goal.invariant_of-self
+invariant_of-self g c =
+    let s = c.self.inside in
+    subst (λ q. EachOnce (get s.entries) q s.running s.live.items) (sym c.drop_cancel.ensures) (dropped_once (get s.entries) c.args.number s.queue.items s.running s.live.items c.self.invariant)
+
+pub returns : goal.returns
+returns g c =
+    let s = c.self.inside in
+    listed_is _ _ _ _ _ _ _ _ (ap (queue_of (get s.entries)) c.drop_cancel.ensures ∙ drop_queued (get s.entries) c.args.number s.queue.items) refl refl
+    ∙ ap (λ (v : Listed g.row.W.Denot g.row.O.Denot). record v { queue = filter (λ q. not (is_cancel c.args.number q)) v.queue }) c.self.view_is
