@@ -6,4 +6,6 @@ mod layer;
 #[cfg(test)]
 mod observe;
 #[cfg(test)]
+mod operations;
+#[cfg(test)]
 mod types;
