@@ -1,7 +1,7 @@
 -- The operations of a slab, by their keys.
-use Rattle.std.proofs.Common.{◌≡◌, ◌≤◌, ◌<◌, ℕ, suc, ◌+◌, Bool, true, false, cond, not, ◌||◌, Option, Some, None, List, [], ◌∷◌, ◌++◌}
+use Rattle.std.proofs.Common.{◌≡◌, ◌≤◌, ℕ, suc, ◌+◌, Bool, true, false, cond, not, ◌||◌, Option, Some, None, List, [], ◌∷◌, ◌++◌}
 use Rattle.std.proofs.Common.{filter, length, option_map, IsSome, is_some, zero, set, slice_get, remove, refl, sym, ap, ◌∙◌, subst, inl, inr, arith}
-use Rattle.std.specs.Prelude.{◌==◌, drop}
+use Rattle.std.specs.Prelude.{◌==◌}
 use Rattle.std.specs.List.{list_any}
 use Rattle.std.proofs.lemmas.List.Sums.{sum_by-set}
 use Rattle.slab.specs.Slab.{Slab, get, slab_len, with_value}
@@ -13,7 +13,7 @@ use Rattle.coap_operations.specs.declared.queued.Queued.{Queued}
 use Rattle.coap_operations.specs.declared.queued.Queued.TheVariants.{Starts, Cancels}
 use Rattle.coap_operations.specs.declared.running.Running.{Running}
 use Rattle.coap_operations.specs.declared.running.Running.TheVariants.{Started, Fetching, Cancelling, Dropped}
-use Rattle.coap_operations.specs.Listed.{Listed, first_runs, is_cancel, without_fetch}
+use Rattle.coap_operations.specs.Listed.{Listed, is_cancel}
 use Rattle.coap_operations.specs.Keys.{EachOnce, hit, in_live, in_queue, in_running, is_cancel_key}
 use Rattle.coap_operations.specs.Keys.{live_first, live_of, observation_in, observations, operation_in, operations, queue_of, running_of, started, waits_first}
 

@@ -1,5 +1,5 @@
 -- How the operations stand in a slab, by their keys. No public clause cites this module.
-use Rattle.std.specs.Prelude.{◌≡◌, ℕ, ◌+◌, ◌==◌, Bool, true, false, if◌then◌else◌, Option, Some, None, List, [], ◌∷◌}
+use Rattle.std.specs.Prelude.{◌≡◌, ℕ, ◌+◌, ◌==◌, Bool, false, if◌then◌else◌, Option, Some, None, List, [], ◌∷◌}
 use Rattle.coap_operations.specs.declared.entry.Entry.{Entry}
 use Rattle.coap_operations.specs.declared.entry.Entry.TheVariants.{Operation, Observation}
 use Rattle.coap_operations.specs.declared.queued.Queued.{Queued}

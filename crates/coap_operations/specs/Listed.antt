@@ -1,5 +1,5 @@
 -- What a client's operations are seen as.
-use Rattle.std.specs.Prelude.{ℕ, ◌==◌, Bool, true, false, if◌then◌else◌, Option, Some, None, List, [], ◌∷◌}
+use Rattle.std.specs.Prelude.{ℕ, ◌==◌, Bool, false, if◌then◌else◌, Option, Some, None, List, [], ◌∷◌}
 use Rattle.coap_operations.specs.declared.queued.Queued.{Queued}
 use Rattle.coap_operations.specs.declared.queued.Queued.TheVariants.{Starts, Cancels}
 use Rattle.coap_operations.specs.declared.running.Running.{Running}

@@ -1,8 +1,8 @@
-use Rattle.std.proofs.Common.{◌≡◌, None, Some, length, option_copied, option_map, slice_get, Bor, ap, sym, subst, refl, ◌∙◌}
+use Rattle.std.proofs.Common.{◌≡◌, None, Some, length, option_copied, slice_get, ap, sym, subst, refl, ◌∙◌}
 use Rattle.std.proofs.lemmas.Bool.{ltb-false, ltb-true}
 use Rattle.std.proofs.lemmas.Option.{slice_get_past, slice_get_read}
 use Rattle.slab.specs.Slab.{get}
-use Rattle.coap_operations.specs.Listed.{Listed, queued_map}
+use Rattle.coap_operations.specs.Listed.{Listed}
 use Rattle.coap_operations.proofs.KeyLemmas.{living_at, look_live}
 use Rattle.coap_operations.proofs.operations.Operations.live.Goals as goal
 

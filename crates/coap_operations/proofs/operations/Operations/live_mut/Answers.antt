@@ -1,8 +1,8 @@
-use Rattle.std.proofs.Common.{◌≡◌, ◌<◌, ◌-◌, ◌++◌, [], ◌∷◌, None, Some, is_some, cond, length, set, option_copied, slice_get, option_map, ℕ, Bor, ap, sym, subst, refl, ◌∙◌, arith, rules}
+use Rattle.std.proofs.Common.{◌-◌, Some, length, set, slice_get, ap, sym, subst, refl, ◌∙◌, arith}
 use Rattle.std.proofs.lemmas.Option.{slice_get_read}
 use Rattle.slab.specs.Slab.{get}
-use Rattle.coap_operations.specs.Keys.{EachOnce, live_of, queue_of, running_of}
-use Rattle.coap_operations.specs.Listed.{Listed, queued_map}
+use Rattle.coap_operations.specs.Keys.{live_of, queue_of, running_of}
+use Rattle.coap_operations.specs.Listed.{Listed}
 use Rattle.std.proofs.Common.{IsSome}
 use Rattle.std.specs.Vec.{vec_capacity}
 use Rattle.slab.specs.Slab.{with_value}

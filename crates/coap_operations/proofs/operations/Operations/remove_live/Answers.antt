@@ -1,8 +1,8 @@
-use Rattle.std.proofs.Common.{◌≡◌, ◌<◌, ◌-◌, ◌++◌, [], ◌∷◌, None, Some, not, drop, filter, length, remove, set, option_copied, slice_get, OnOk, ℕ, ap, sym, subst, refl, ◌∙◌, arith, rules}
+use Rattle.std.proofs.Common.{◌-◌, length, remove, ap, sym, subst, refl, ◌∙◌, arith}
 use Rattle.std.proofs.lemmas.Option.{slice_get_read}
 use Rattle.slab.specs.Slab.{get, slab_len}
-use Rattle.coap_operations.specs.Keys.{EachOnce, is_cancel_key, live_of, queue_of, running_of}
-use Rattle.coap_operations.specs.Listed.{Listed, is_cancel}
+use Rattle.coap_operations.specs.Keys.{EachOnce, live_of, queue_of, running_of}
+use Rattle.coap_operations.specs.Listed.{Listed}
 use Rattle.coap_operations.proofs.KeyLemmas.{listed_is, living_len, removed_live, removed_once, same_queue, same_running}
 use Rattle.coap_operations.proofs.operations.Operations.remove_live.Goals as goal
 

@@ -1,10 +1,6 @@
-use Rattle.std.proofs.Common.{◌≡◌, ◌<◌, ◌++◌, [], ◌∷◌, None, Some, not, drop, filter, length, remove, set, option_copied, slice_get, OnOk, ℕ, ap, sym, subst, refl, ◌∙◌, arith, rules}
-use Rattle.std.specs.List.{list_any}
+use Rattle.std.proofs.Common.{length, ap, ◌∙◌}
 use Rattle.slab.specs.Slab.{get}
-use Rattle.coap_operations.specs.declared.queued.Queued.TheVariants as queued
-use Rattle.coap_operations.specs.declared.running.Running.TheVariants as running
-use Rattle.coap_operations.specs.Keys.{EachOnce, is_cancel_key, live_of, queue_of, running_of}
-use Rattle.coap_operations.specs.Listed.{Listed, is_cancel}
+use Rattle.coap_operations.specs.Listed.{Listed}
 use Rattle.coap_operations.proofs.KeyLemmas.{waiting_len}
 use Rattle.coap_operations.proofs.operations.Operations.waiting_len.Goals as goal
 
