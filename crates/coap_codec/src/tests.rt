@@ -1,6 +1,9 @@
+mod faults;
+
 use super::*;
 use coap_types::{Code, Id, Kind, Opt, Token};
 use std::alloc::{AllocError, Global};
+use std::process::Abort;
 use std::test::*;
 
 // A message and its spelling.
@@ -111,24 +114,36 @@ fn are_these(mut options: Options<'_>, wanted: &[Opt<'_>]) -> bool {
     options.next().is_none()
 }
 
+// The spelling is read as the message.
+fn is_read<R: Abort>(rt: &R, row: &Row) -> Result<(), Fail> {
+    let view = decode(row.bytes).ok().ok_or("a message")?;
+    assert_eq!(rt;
+        (view.kind(), view.code(), view.id()),
+        (row.kind, Code(row.code), Id(row.id))
+    );
+    assert_eq!(rt; view.token(), row.token);
+    assert!(rt; are_these(view.options(), row.options));
+    assert_eq!(rt; view.payload(), row.payload);
+    Ok(())
+}
+
+// The message is written as its spelling, and nothing is written behind that.
+fn is_written<R: Abort>(rt: &R, row: &Row) -> Result<(), Fail> {
+    let head = head_of(row).ok_or("a token")?;
+    let mut out = [0x99; 40];
+    let end = encode(&head, row.options, row.payload, &mut out)
+        .ok()
+        .ok_or("room")?;
+    assert_eq!(rt; &out[..end], row.bytes);
+    assert!(rt; out[end..].iter().all(|&byte| byte == 0x99));
+    Ok(())
+}
+
 #[test]
 fn messages_are_read_and_written(rt: HostRuntime) -> Result<(), Fail> {
     for row in [GET, CONTENT, PING, CONTINUE, LONG] {
-        let view = decode(row.bytes).ok().ok_or("a message")?;
-        assert_eq!(rt; view.kind(), row.kind);
-        assert_eq!(rt; view.code(), Code(row.code));
-        assert_eq!(rt; view.id(), Id(row.id));
-        assert_eq!(rt; view.token(), row.token);
-        assert!(rt; are_these(view.options(), row.options));
-        assert_eq!(rt; view.payload(), row.payload);
-
-        let head = head_of(&row).ok_or("a token")?;
-        let mut out = [0x99; 40];
-        let end = encode(&head, row.options, row.payload, &mut out)
-            .ok()
-            .ok_or("room")?;
-        assert_eq!(rt; &out[..end], row.bytes);
-        assert!(rt; out[end..].iter().all(|&byte| byte == 0x99));
+        is_read(&rt, &row)?;
+        is_written(&rt, &row)?;
     }
     Ok(())
 }
@@ -212,92 +227,20 @@ fn tokens_have_0_to_8_bytes(rt: HostRuntime) -> Result<(), Fail> {
     Ok(())
 }
 
-// What a front of a datagram comes to.
-#[derive(Clone, Copy)]
-enum Front {
-    Message,
-    Cut(Reason),
-}
+// A message of this code and these options, the refusal and its number.
+type Refused<'a> = (u8, &'a [Opt<'a>], Refusal, u8);
 
-#[test]
-fn fronts_of_datagrams(rt: HostRuntime) -> Result<(), Fail> {
-    for (row, is_content) in [(GET, false), (CONTENT, true)] {
-        for len in 0..=row.bytes.len() {
-            let front = match (len, is_content) {
-                (0..=3, _) => Front::Cut(Reason::Short),
-                (5..=12, true) | (5..=15, false) => Front::Cut(Reason::OptionCut),
-                (15, true) => Front::Cut(Reason::NoPayload),
-                _ => Front::Message,
-            };
-            match (front, decode(&row.bytes[..len])) {
-                (Front::Message, Ok(view)) => assert_eq!(rt; view.id(), Id(row.id), "at {len}"),
-                (Front::Cut(reason), Err(fault)) => {
-                    assert_eq!(rt; fault.reason, reason, "at {len}");
-                    assert_eq!(rt; fault.at, len);
-                }
-                _ => assert!(rt; false, "at {len}"),
-            }
-        }
-    }
-    Ok(())
-}
-
-#[test]
-fn faults_have_a_reason_a_place_and_a_head(rt: HostRuntime) -> Result<(), Fail> {
-    let con = Some((Kind::Con, Id(0x1234)));
-    let non = Some((Kind::Non, Id(0x1234)));
-    let ack = Some((Kind::Ack, Id(0x1234)));
-    let cases: [(&[u8], Reason, u8, usize, Option<(Kind, Id)>); 18] = [
-        (b"", Reason::Short, 1, 0, None),
-        (b"\x40", Reason::Short, 1, 1, None),
-        (b"\x80\x01\x12\x34", Reason::Version, 2, 0, None),
-        (b"\x49\x01\x12\x34", Reason::TokenLength, 3, 0, con),
-        (b"\x59\x01\x12\x34", Reason::TokenLength, 3, 0, non),
-        (b"\x42\x01\x12\x34\x07", Reason::TokenCut, 4, 5, con),
-        (b"\x41\x00\x12\x34", Reason::EmptyNotBare, 5, 4, con),
-        (b"\x40\x00\x12\x34\xff", Reason::EmptyNotBare, 5, 4, con),
-        (
-            b"\x40\x01\x12\x34\xb1t\xf1",
-            Reason::DeltaReserved,
-            6,
-            6,
-            con,
-        ),
-        (
-            b"\x40\x01\x12\x34\xb1t\x1f",
-            Reason::LengthReserved,
-            7,
-            6,
-            con,
-        ),
-        (b"\x40\x01\x12\x34\xd0", Reason::OptionCut, 8, 5, con),
-        (b"\x40\x01\x12\x34\xdd\x00", Reason::OptionCut, 8, 6, con),
-        (
-            b"\x40\x01\x12\x34\xe0\xfe\xf2\x10",
-            Reason::NumberTooLarge,
-            9,
-            7,
-            con,
-        ),
-        (
-            b"\x40\x01\x12\x34\xe1\xff\xff",
-            Reason::NumberTooLarge,
-            9,
-            4,
-            con,
-        ),
-        (b"\x40\x01\x12\x34\xb2t", Reason::OptionCut, 8, 6, con),
-        (b"\x40\x01\x12\x34\xff", Reason::NoPayload, 10, 5, con),
-        (b"\x60\x01\x12\x34\xff", Reason::NoPayload, 10, 5, ack),
-        (b"\x60\x01\x12\x34\xb1t\xff", Reason::NoPayload, 10, 7, ack),
-    ];
-    for (bytes, reason, number, at, head) in cases {
-        let fault = decode(bytes).err().ok_or("a fault")?;
-        assert_eq!(rt; fault.reason, reason, "{number}");
-        assert_eq!(rt; reason.number(), number, "{number}");
-        assert_eq!(rt; fault.at, at, "{number}");
-        assert_eq!(rt; fault.head, head, "{number}");
-    }
+// The message is refused, and nothing is written.
+fn is_refused<R: Abort>(rt: &R, (code, options, refusal, number): Refused<'_>) -> Result<(), Fail> {
+    let head = head_of(&Row { code, ..GET }).ok_or("a token")?;
+    let mut out = [0x99; 10];
+    assert_eq!(rt;
+        encode(&head, options, b"", &mut out),
+        Err(refusal),
+        "{number}"
+    );
+    assert_eq!(rt; refusal.number(), number, "{number}");
+    assert_eq!(rt; out, [0x99; 10], "{number}");
     Ok(())
 }
 
@@ -318,22 +261,14 @@ fn refusals_come_in_order(rt: HostRuntime) -> Result<(), Fail> {
             value: b"",
         },
     ];
-    let cases: [(u8, &[Opt<'_>], Refusal, u8); 4] = [
+    let cases: [Refused<'_>; 4] = [
         (0x00, &falling, Refusal::EmptyNotBare, 4),
         (0x01, &falling, Refusal::OptionOrder, 2),
         (0x01, &[long], Refusal::OptionTooLong, 3),
         (0x01, &[longest], Refusal::NoRoom, 1),
     ];
-    for (code, options, refusal, number) in cases {
-        let head = head_of(&Row { code, ..GET }).ok_or("a token")?;
-        let mut out = [0x99; 10];
-        assert_eq!(rt;
-            encode(&head, options, b"", &mut out),
-            Err(refusal),
-            "{number}"
-        );
-        assert_eq!(rt; refusal.number(), number, "{number}");
-        assert_eq!(rt; out, [0x99; 10], "{number}");
+    for case in cases {
+        is_refused(&rt, case)?;
     }
     Ok(())
 }
