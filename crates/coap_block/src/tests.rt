@@ -1,3 +1,5 @@
+ghost use Rattle.std.specs.Prelude.{IsSome};
+
 mod assembly;
 mod fetch;
 mod transfer;
@@ -5,7 +7,8 @@ mod transfer;
 use crate::{Block, Upload, body_law, fetch_law, slice, upload_law};
 use bytes::Bytes;
 use coap_types::Szx;
-use std::alloc::{AllocError, Global};
+use std::alloc::{AllocError, AllocGlobal, Global};
+use std::process::Abort;
 
 // A body of which no two neighbouring bytes are equal.
 fn body_of(alloc: Global, len: usize) -> Result<Vec<u8>, AllocError> {
@@ -28,6 +31,16 @@ fn part(body: &[u8], from: usize, to: usize) -> &[u8] {
     body.get(from..to).unwrap_or(&[])
 }
 
+// The block of this value is that part of the body, or it begins behind its end.
+fn is_slice<R: Abort>(rt: &R, body: &[u8], value: u8, place: Option<(usize, usize)>) {
+    let block = Block::read(&[value]).expect(rt, "no SZX 7");
+    match (place, slice(body, block)) {
+        (Some((from, to)), Some(block)) => assert_eq!(rt; block, part(body, from, to)),
+        (None, None) => {}
+        _ => assert!(rt; false, "{value}"),
+    }
+}
+
 #[test]
 fn a_slice_is_a_block_of_the_body(rt: HostRuntime) -> Result<(), AllocError> {
     let body = body_of(rt.alloc(), 40)?;
@@ -38,12 +51,7 @@ fn a_slice_is_a_block_of_the_body(rt: HostRuntime) -> Result<(), AllocError> {
         (0x01, Some((0, 32))),
     ];
     for (value, place) in cases {
-        let block = Block::read(&[value]).expect(&rt, "no SZX 7");
-        match (place, slice(&body, block)) {
-            (Some((from, to)), Some(block)) => assert_eq!(rt; block, part(&body, from, to)),
-            (None, None) => {}
-            _ => assert!(rt; false, "{value}"),
-        }
+        is_slice(&rt, &body, value, place);
     }
     Ok(())
 }
@@ -73,11 +81,37 @@ fn a_body_is_sent_in_blocks(rt: HostRuntime) -> Result<(), AllocError> {
     Ok(())
 }
 
+// An upload in blocks of 128 bytes.
+fn upload_of<R: Abort + AllocGlobal>(rt: &R, body: &[u8]) -> Result<Upload, AllocError> {
+    let szx = Szx::new(3).expect(rt, "at most 6");
+    Ok(Upload::new(Bytes::copy_from_slice(rt.alloc(), body)?, szx))
+}
+
+// The upload goes on or not after an answer with this Block1.
+fn is_answered<R: Abort>(rt: &R, upload: &mut Upload, answer: u8, goes_on: bool)
+    ensures { IsSome upload.new.before }
+{
+    let answer = Block::read(&[answer]).expect(rt, "no SZX 7");
+    assert_eq!(rt; upload.accepted(answer), goes_on);
+}
+
+// What the upload sends next has this Block1.
+fn sends_block<R: Abort>(rt: &R, upload: &Upload, value: u8) {
+    let (block, _) = upload.next();
+    assert_eq!(rt; Some(block), Block::read(&[value]));
+}
+
+// What the upload sends next has this Block1 and this payload.
+fn sends<R: Abort>(rt: &R, upload: &Upload, value: u8, payload: &[u8]) {
+    sends_block(rt, upload, value);
+    let (_, sent) = upload.next();
+    assert_eq!(rt; sent, payload);
+}
+
 #[test]
 fn an_answer_that_misfits_moves_nothing(rt: HostRuntime) -> Result<(), AllocError> {
     let body = body_of(rt.alloc(), 300)?;
-    let szx = Szx::new(3).expect(&rt, "at most 6");
-    let mut upload = Upload::new(Bytes::copy_from_slice(rt.alloc(), &body)?, szx);
+    let mut upload = upload_of(&rt, &body)?;
     // To block 0 of 128 bytes: larger blocks, M 0, another number. To block 2 of 64 bytes: smaller
     // blocks, and the sizes from before.
     let rows: [(u8, bool, u8); 8] = [
@@ -91,10 +125,8 @@ fn an_answer_that_misfits_moves_nothing(rt: HostRuntime) -> Result<(), AllocErro
         (0x2a, false, 0x3a),
     ];
     for (answer, goes_on, next) in rows {
-        let answer = Block::read(&[answer]).expect(&rt, "no SZX 7");
-        assert_eq!(rt; upload.accepted(answer), goes_on);
-        let (block, _) = upload.next();
-        assert_eq!(rt; Some(block), Block::read(&[next]));
+        is_answered(&rt, &mut upload, answer, goes_on);
+        sends_block(&rt, &upload, next);
     }
     Ok(())
 }
@@ -102,21 +134,14 @@ fn an_answer_that_misfits_moves_nothing(rt: HostRuntime) -> Result<(), AllocErro
 #[test]
 fn an_accepted_block_is_taken_back(rt: HostRuntime) -> Result<(), AllocError> {
     let body = body_of(rt.alloc(), 300)?;
-    let szx = Szx::new(3).expect(&rt, "at most 6");
-    let mut upload = Upload::new(Bytes::copy_from_slice(rt.alloc(), &body)?, szx);
-    let answer = Block::read(&[0x0a]).expect(&rt, "no SZX 7");
-    assert!(rt; upload.accepted(answer));
-    upload.undo();
-    let (block, payload) = upload.next();
-    assert_eq!(rt; Some(block), Block::read(&[0x0b]));
-    assert_eq!(rt; payload, part(&body, 0, 128));
+    let mut upload = upload_of(&rt, &body)?;
     // An answer that misfits, too.
-    let misfit = Block::read(&[0x03]).expect(&rt, "no SZX 7");
-    assert!(rt; !upload.accepted(misfit));
-    upload.undo();
-    assert!(rt; upload.accepted(answer));
-    let (block, payload) = upload.next();
-    assert_eq!(rt; Some(block), Block::read(&[0x2a]));
-    assert_eq!(rt; payload, part(&body, 128, 192));
+    for (answer, goes_on) in [(0x0a, true), (0x03, false)] {
+        is_answered(&rt, &mut upload, answer, goes_on);
+        upload.undo();
+        sends(&rt, &upload, 0x0b, part(&body, 0, 128));
+    }
+    is_answered(&rt, &mut upload, 0x0a, true);
+    sends(&rt, &upload, 0x2a, part(&body, 128, 192));
     Ok(())
 }

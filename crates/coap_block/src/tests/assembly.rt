@@ -1,98 +1,17 @@
-ghost use Rattle.std.specs.Prelude.{IsSome, OnOk};
+mod turns;
 
-use super::{body_of, part};
+use super::body_of;
 use crate::{Assembly, AssemblyRefusal, Block, Took, UploadKey, assembly_law};
-use coap_types::{Code, Endpoint, Method, Moment, Path, Szx};
-use std::alloc::{AllocError, AllocGlobal};
+use coap_types::{Code, Method, Moment};
+use std::alloc::AllocError;
 use std::process::Abort;
-
-/// What a block is to lead to: the Block1 of a 2.31 by its value, a body by its place in the test's
-/// bytes, or a refusal.
-#[derive(Clone, Copy)]
-enum Says {
-    More(u8),
-    Whole(usize, usize),
-    Refused(AssemblyRefusal),
-}
-
-const BAD_REQUEST: Says = Says::Refused(AssemblyRefusal::BadRequest);
-
-const INCOMPLETE: Says = Says::Refused(AssemblyRefusal::EntityIncomplete);
-
-const TOO_LARGE: Says = Says::Refused(AssemblyRefusal::EntityTooLarge);
-
-const UNAVAILABLE: Says = Says::Refused(AssemblyRefusal::Unavailable);
-
-/// A block: its moment, the value of its Block1, its place in the test's bytes, and what it is to
-/// lead to.
-type Row<'a> = (u64, &'a [u8], (usize, usize), Says);
-
-fn key_of<R: Abort + AllocGlobal>(rt: &R, port: u16, name: &[u8], method: Method) -> UploadKey {
-    let mut path = Path::new(rt.alloc());
-    path.push(name).expect(rt, "a short segment");
-    let from = Endpoint {
-        ip: [192, 0, 2, 1],
-        port,
-    };
-    UploadKey { from, path, method }
-}
-
-/// A PUT to one path, from this port.
-fn put_from<R: Abort + AllocGlobal>(rt: &R, port: u16) -> UploadKey {
-    key_of(rt, port, b"t", Method::Put)
-}
-
-fn assembly_of<R: Abort + AllocGlobal>(rt: &R, szx: u8) -> Assembly {
-    Assembly::new(rt.alloc(), Szx::new(szx).expect(rt, "at most 6"))
-}
-
-fn check<R: Abort>(rt: &R, took: &Took, bytes: &[u8], says: Says) {
-    match (took, says) {
-        (Took::More(more), Says::More(value)) => assert_eq!(rt; Some(*more), Block::read(&[value])),
-        (Took::Whole(whole), Says::Whole(from, to)) => {
-            assert_eq!(rt; whole.as_slice(), part(bytes, from, to));
-        }
-        (Took::Refused(why), Says::Refused(other)) => assert_eq!(rt; *why, other),
-        _ => assert!(rt; false, "another answer"),
-    }
-}
-
-/// Hands a block of a key in.
-fn play_row<R: Abort>(
-    rt: &R,
-    server: &mut Assembly,
-    key: &UploadKey,
-    bytes: &[u8],
-    row: Row<'_>,
-) -> Result<(), AllocError>
-    ensures { OnOk result (IsSome server.new.before) }
-{
-    let (now, value, (from, to), says) = row;
-    let block = Block::read(value).expect(rt, "no SZX 7");
-    let took = server.take(Moment(now), key, block, part(bytes, from, to))?;
-    check(rt, &took, bytes, says);
-    Ok(())
-}
-
-/// Hands the blocks of a key in, one after the other.
-fn play<R: Abort>(
-    rt: &R,
-    server: &mut Assembly,
-    key: &UploadKey,
-    bytes: &[u8],
-    rows: &[Row<'_>],
-) -> Result<(), AllocError> {
-    for row in rows {
-        play_row(rt, server, key, bytes, *row)?;
-    }
-    Ok(())
-}
+use turns::{
+    BAD_REQUEST, FIRST, INCOMPLETE, OTHER, Row, Says, TOO_LARGE, Turn, UNAVAILABLE, Who,
+    assembly_of, fill, key_of, play_turns,
+};
 
 #[test]
 fn a_body_is_joined(rt: HostRuntime) -> Result<(), AllocError> {
-    let bytes = body_of(rt.alloc(), 200)?;
-    let key = put_from(&rt, 5683);
-    let mut server = assembly_of(&rt, 1);
     let rows: [Row<'_>; 5] = [
         (0, &[0x0b], (0, 128), Says::More(0x09)),
         (0, &[0x49], (128, 160), Says::More(0x49)),
@@ -102,14 +21,11 @@ fn a_body_is_joined(rt: HostRuntime) -> Result<(), AllocError> {
         (0, &[0x61], (192, 200), INCOMPLETE),
     ];
     assembly_law();
-    play(&rt, &mut server, &key, &bytes, &rows)
+    play_turns(&rt, 1, 200, &[Turn::Blocks(FIRST, &rows)])
 }
 
 #[test]
 fn a_block_that_does_not_go_on_is_incomplete(rt: HostRuntime) -> Result<(), AllocError> {
-    let bytes = body_of(rt.alloc(), 300)?;
-    let key = put_from(&rt, 5683);
-    let mut server = assembly_of(&rt, 3);
     let rows: [Row<'_>; 8] = [
         (0, &[0x3b], (0, 128), INCOMPLETE),
         (0, &[0x0b], (0, 128), Says::More(0x0b)),
@@ -123,14 +39,11 @@ fn a_block_that_does_not_go_on_is_incomplete(rt: HostRuntime) -> Result<(), Allo
         // The partial body stayed. Block 4 of 64 bytes begins where it ends.
         (0, &[0x42], (256, 300), Says::Whole(0, 300)),
     ];
-    play(&rt, &mut server, &key, &bytes, &rows)
+    play_turns(&rt, 3, 300, &[Turn::Blocks(FIRST, &rows)])
 }
 
 #[test]
 fn a_payload_is_of_the_size_of_its_block(rt: HostRuntime) -> Result<(), AllocError> {
-    let bytes = body_of(rt.alloc(), 300)?;
-    let key = put_from(&rt, 5683);
-    let mut server = assembly_of(&rt, 3);
     let rows: [Row<'_>; 8] = [
         (0, &[0x0b], (0, 128), Says::More(0x0b)),
         (0, &[0x1b], (128, 255), BAD_REQUEST),
@@ -142,14 +55,12 @@ fn a_payload_is_of_the_size_of_its_block(rt: HostRuntime) -> Result<(), AllocErr
         // The partial body stayed, and the last block may be empty.
         (0, &[0x13], (128, 128), Says::Whole(0, 128)),
     ];
-    play(&rt, &mut server, &key, &bytes, &rows)
+    play_turns(&rt, 3, 300, &[Turn::Blocks(FIRST, &rows)])
 }
 
 #[test]
 fn block_0_begins_anew(rt: HostRuntime) -> Result<(), AllocError> {
-    let bytes = body_of(rt.alloc(), 400)?;
-    let key = key_of(&rt, 5683, b"t", Method::Post);
-    let mut server = assembly_of(&rt, 6);
+    let who = (5683, b"t".as_slice(), Method::Post);
     let rows: [Row<'_>; 6] = [
         (0, &[0x0b], (0, 128), Says::More(0x0b)),
         (0, &[0x0b], (200, 328), Says::More(0x0b)),
@@ -159,13 +70,11 @@ fn block_0_begins_anew(rt: HostRuntime) -> Result<(), AllocError> {
         (0, &[0x03], (5, 9), Says::Whole(5, 9)),
         (0, &[0x13], (128, 256), INCOMPLETE),
     ];
-    play(&rt, &mut server, &key, &bytes, &rows)
+    play_turns(&rt, 6, 400, &[Turn::Blocks(who, &rows)])
 }
 
 #[test]
 fn uploads_are_told_apart(rt: HostRuntime) -> Result<(), AllocError> {
-    let bytes = body_of(rt.alloc(), 200)?;
-    let key = put_from(&rt, 5683);
     let first: [Row<'_>; 1] = [(0, &[0x0b], (0, 128), Says::More(0x0b))];
     let others: [Row<'_>; 2] = [
         (0, &[0x13], (128, 200), INCOMPLETE),
@@ -173,52 +82,18 @@ fn uploads_are_told_apart(rt: HostRuntime) -> Result<(), AllocError> {
         (0, &[0x03], (5, 9), Says::Whole(5, 9)),
     ];
     let last: [Row<'_>; 1] = [(0, &[0x13], (128, 200), Says::Whole(0, 200))];
-    let mut server = assembly_of(&rt, 3);
-    play(&rt, &mut server, &key, &bytes, &first)?;
-    play(&rt, &mut server, &put_from(&rt, 5684), &bytes, &others)?;
-    let path = key_of(&rt, 5683, b"u", Method::Put);
-    play(&rt, &mut server, &path, &bytes, &others)?;
-    let method = key_of(&rt, 5683, b"t", Method::Post);
-    play(&rt, &mut server, &method, &bytes, &others)?;
-    play(&rt, &mut server, &key, &bytes, &last)
-}
-
-/// Block `num` of 1,024 bytes, with more behind it.
-fn full_block<R: Abort>(rt: &R, num: u32) -> Block {
-    let szx = Szx::new(6).expect(rt, "at most 6");
-    Block {
-        num,
-        more: true,
-        szx,
-    }
-}
-
-/// The block is taken, and answered with its own Block1.
-fn check_full<R: Abort>(rt: &R, took: &Took, num: u32) {
-    match took {
-        Took::More(more) => assert_eq!(rt; *more, full_block(rt, num)),
-        _ => assert!(rt; false, "block {num} is not taken"),
-    }
-}
-
-/// Hands in 64 full blocks of 1,024 bytes with M 1.
-fn fill<R: Abort>(
-    rt: &R,
-    server: &mut Assembly,
-    key: &UploadKey,
-    bytes: &[u8],
-) -> Result<(), AllocError> {
-    for num in 0..64 {
-        let took = server.take(Moment(0), key, full_block(rt, num), bytes)?;
-        check_full(rt, &took, num);
-    }
-    Ok(())
+    let turns = [
+        Turn::Blocks(FIRST, &first),
+        Turn::Blocks(OTHER, &others),
+        Turn::Blocks((5683, b"u", Method::Put), &others),
+        Turn::Blocks((5683, b"t", Method::Post), &others),
+        Turn::Blocks(FIRST, &last),
+    ];
+    play_turns(&rt, 3, 200, &turns)
 }
 
 #[test]
 fn a_body_over_the_bound_is_dropped(rt: HostRuntime) -> Result<(), AllocError> {
-    let bytes = body_of(rt.alloc(), 1_024)?;
-    let key = put_from(&rt, 5683);
     let rows: [Row<'_>; 4] = [
         // Block 64, with a byte too many.
         (0, &[0x04, 0x06], (0, 1), TOO_LARGE),
@@ -227,77 +102,71 @@ fn a_body_over_the_bound_is_dropped(rt: HostRuntime) -> Result<(), AllocError> {
         (0, &[0x04, 0x06], (0, 0), INCOMPLETE),
         (0, &[0x16], (0, 0), INCOMPLETE),
     ];
-    let mut server = assembly_of(&rt, 6);
-    fill(&rt, &mut server, &key, &bytes)?;
-    play(&rt, &mut server, &key, &bytes, &rows)?;
-    fill(&rt, &mut server, &key, &bytes)?;
-    let more: Row<'_> = (0, &[0x04, 0x0e], (0, 1_024), TOO_LARGE);
-    play_row(&rt, &mut server, &key, &bytes, more)
+    let more: [Row<'_>; 1] = [(0, &[0x04, 0x0e], (0, 1_024), TOO_LARGE)];
+    let turns = [
+        Turn::Full(FIRST),
+        Turn::Blocks(FIRST, &rows),
+        Turn::Full(FIRST),
+        Turn::Blocks(FIRST, &more),
+    ];
+    play_turns(&rt, 6, 1_024, &turns)
 }
 
-#[test]
-fn a_body_of_the_bound_is_whole(rt: HostRuntime) -> Result<(), AllocError> {
-    let bytes = body_of(rt.alloc(), 1_024)?;
-    let key = put_from(&rt, 5683);
-    let mut server = assembly_of(&rt, 6);
-    fill(&rt, &mut server, &key, &bytes)?;
-    // The last block is empty: 65,536 bytes.
-    let last = Block::read(&[0x04, 0x06]).expect(&rt, "no SZX 7");
-    match server.take(Moment(0), &key, last, &[])? {
+/// The last block is empty: 65,536 bytes.
+fn ends_in_full<R: Abort>(
+    rt: &R,
+    server: &mut Assembly,
+    key: &UploadKey,
+) -> Result<(), AllocError> {
+    let last = Block::read(&[0x04, 0x06]).expect(rt, "no SZX 7");
+    match server.take(Moment(0), key, last, &[])? {
         Took::Whole(whole) => assert_eq!(rt; whole.len(), 65_536),
         _ => assert!(rt; false, "not whole"),
     }
     Ok(())
 }
 
-/// Begins uploads of these ports at that moment.
-fn begin<R: Abort + AllocGlobal>(
-    rt: &R,
-    server: &mut Assembly,
-    bytes: &[u8],
-    now: u64,
-    first: u16,
-    end: u16,
-) -> Result<(), AllocError> {
-    for port in first..end {
-        let rows: Row<'_> = (now, &[0x08], (0, 16), Says::More(0x08));
-        play_row(rt, server, &put_from(rt, port), bytes, rows)?;
-    }
-    Ok(())
+#[test]
+fn a_body_of_the_bound_is_whole(rt: HostRuntime) -> Result<(), AllocError> {
+    let bytes = body_of(rt.alloc(), 1_024)?;
+    let key = key_of(&rt, FIRST);
+    let mut server = assembly_of(&rt, 6);
+    fill(&rt, &mut server, &key, &bytes)?;
+    ends_in_full(&rt, &mut server, &key)
 }
+
+const PORT_0: Who<'static> = (0, b"t", Method::Put);
+
+const PORT_16: Who<'static> = (16, b"t", Method::Put);
 
 #[test]
 fn sixteen_uploads_at_once(rt: HostRuntime) -> Result<(), AllocError> {
-    let bytes = body_of(rt.alloc(), 16)?;
-    let first = put_from(&rt, 0);
-    let next = put_from(&rt, 16);
-    let mut server = assembly_of(&rt, 0);
-    begin(&rt, &mut server, &bytes, 0, 0, 16)?;
-    let rows: [Row<'_>; 2] = [
+    let more: [Row<'_>; 2] = [
         (0, &[0x08], (0, 16), UNAVAILABLE),
         // A body of one block needs no place.
         (0, &[0x00], (0, 16), Says::Whole(0, 16)),
     ];
-    play(&rt, &mut server, &next, &bytes, &rows)?;
     // One of the 16 may begin anew.
-    let anew: Row<'_> = (0, &[0x08], (0, 16), Says::More(0x08));
-    play_row(&rt, &mut server, &first, &bytes, anew)?;
+    let anew: [Row<'_>; 1] = [(0, &[0x08], (0, 16), Says::More(0x08))];
     // They are kept for 247,000 ms, and no longer.
     let later: [Row<'_>; 2] = [
         (247_000, &[0x08], (0, 16), UNAVAILABLE),
         (247_001, &[0x08], (0, 16), Says::More(0x08)),
     ];
-    play(&rt, &mut server, &next, &bytes, &later)?;
-    begin(&rt, &mut server, &bytes, 247_001, 1, 16)?;
-    let full: Row<'_> = (247_001, &[0x08], (0, 16), UNAVAILABLE);
-    play_row(&rt, &mut server, &first, &bytes, full)
+    let full: [Row<'_>; 1] = [(247_001, &[0x08], (0, 16), UNAVAILABLE)];
+    let turns = [
+        Turn::Begin(0, 0, 16),
+        Turn::Blocks(PORT_16, &more),
+        Turn::Blocks(PORT_0, &anew),
+        Turn::Blocks(PORT_16, &later),
+        Turn::Begin(247_001, 1, 16),
+        Turn::Blocks(PORT_0, &full),
+    ];
+    play_turns(&rt, 0, 16, &turns)
 }
 
 #[test]
 fn a_partial_body_is_kept_for_its_lifetime(rt: HostRuntime) -> Result<(), AllocError> {
-    let bytes = body_of(rt.alloc(), 48)?;
-    let key = put_from(&rt, 5683);
-    let mut server = assembly_of(&rt, 0);
     let rows: [Row<'_>; 5] = [
         (1_000, &[0x08], (0, 16), Says::More(0x08)),
         (248_000, &[0x18], (16, 32), Says::More(0x18)),
@@ -307,7 +176,7 @@ fn a_partial_body_is_kept_for_its_lifetime(rt: HostRuntime) -> Result<(), AllocE
         // A moment before the last one counts as the last one.
         (248_000, &[0x20], (32, 48), INCOMPLETE),
     ];
-    play(&rt, &mut server, &key, &bytes, &rows)
+    play_turns(&rt, 0, 48, &[Turn::Blocks(FIRST, &rows)])
 }
 
 #[test]
@@ -322,27 +191,8 @@ fn a_refusal_has_its_code(rt: HostRuntime) {
     }
 }
 
-/// Hands the blocks of a key in, each once, taken back, and once more.
-fn play_twice<R: Abort>(
-    rt: &R,
-    server: &mut Assembly,
-    key: &UploadKey,
-    bytes: &[u8],
-    rows: &[Row<'_>],
-) -> Result<(), AllocError> {
-    for row in rows {
-        play_row(rt, server, key, bytes, *row)?;
-        server.undo();
-        play_row(rt, server, key, bytes, *row)?;
-    }
-    Ok(())
-}
-
 #[test]
 fn a_block_is_taken_back(rt: HostRuntime) -> Result<(), AllocError> {
-    let bytes = body_of(rt.alloc(), 300)?;
-    let key = put_from(&rt, 5683);
-    let mut server = assembly_of(&rt, 3);
     // The first one, one behind it, one that is refused, one that begins anew, the last one.
     let rows: [Row<'_>; 6] = [
         (0, &[0x0b], (128, 256), Says::More(0x0b)),
@@ -352,40 +202,34 @@ fn a_block_is_taken_back(rt: HostRuntime) -> Result<(), AllocError> {
         (9, &[0x1b], (128, 256), Says::More(0x1b)),
         (9, &[0x23], (256, 300), Says::Whole(0, 300)),
     ];
-    play_twice(&rt, &mut server, &key, &bytes, &rows)
+    play_turns(&rt, 3, 300, &[Turn::Twice(FIRST, &rows)])
 }
 
 #[test]
 fn what_was_replaced_or_died_is_put_back(rt: HostRuntime) -> Result<(), AllocError> {
-    let bytes = body_of(rt.alloc(), 300)?;
-    let key = put_from(&rt, 5683);
-    let other = put_from(&rt, 5684);
-    let mut server = assembly_of(&rt, 3);
-    let first: Row<'_> = (9, &[0x0b], (0, 128), Says::More(0x0b));
-    play_row(&rt, &mut server, &key, &bytes, first)?;
-    let anew: Row<'_> = (9, &[0x0b], (100, 228), Says::More(0x0b));
-    play_row(&rt, &mut server, &key, &bytes, anew)?;
-    server.undo();
-    // The clock goes back too.
-    let late: Row<'_> = (300_000, &[0x0b], (0, 128), Says::More(0x0b));
-    play_row(&rt, &mut server, &other, &bytes, late)?;
-    server.undo();
-    let last: Row<'_> = (247_009, &[0x13], (128, 200), Says::Whole(0, 200));
-    play_row(&rt, &mut server, &key, &bytes, last)
+    let first: [Row<'_>; 1] = [(9, &[0x0b], (0, 128), Says::More(0x0b))];
+    let last: [Row<'_>; 1] = [(247_009, &[0x13], (128, 200), Says::Whole(0, 200))];
+    let turns = [
+        Turn::Blocks(FIRST, &first),
+        Turn::InVain(FIRST, (9, &[0x0b], (100, 228), Says::More(0x0b))),
+        // The clock goes back too.
+        Turn::InVain(OTHER, (300_000, &[0x0b], (0, 128), Says::More(0x0b))),
+        Turn::Blocks(FIRST, &last),
+    ];
+    play_turns(&rt, 3, 300, &turns)
 }
 
 #[test]
 fn a_body_that_was_dropped_is_put_back(rt: HostRuntime) -> Result<(), AllocError> {
-    let bytes = body_of(rt.alloc(), 1_024)?;
-    let key = put_from(&rt, 5683);
-    let other = put_from(&rt, 5684);
-    let mut server = assembly_of(&rt, 6);
-    fill(&rt, &mut server, &key, &bytes)?;
-    let first: Row<'_> = (0, &[0x0e], (0, 1_024), Says::More(0x0e));
-    play_row(&rt, &mut server, &other, &bytes, first)?;
+    let first: [Row<'_>; 1] = [(0, &[0x0e], (0, 1_024), Says::More(0x0e))];
     let over: [Row<'_>; 1] = [(0, &[0x04, 0x0e], (0, 1_024), TOO_LARGE)];
-    play_twice(&rt, &mut server, &key, &bytes, &over)?;
     // The other one stayed.
-    let last: Row<'_> = (0, &[0x16], (0, 0), Says::Whole(0, 1_024));
-    play_row(&rt, &mut server, &other, &bytes, last)
+    let last: [Row<'_>; 1] = [(0, &[0x16], (0, 0), Says::Whole(0, 1_024))];
+    let turns = [
+        Turn::Full(FIRST),
+        Turn::Blocks(OTHER, &first),
+        Turn::Twice(FIRST, &over),
+        Turn::Blocks(OTHER, &last),
+    ];
+    play_turns(&rt, 6, 1_024, &turns)
 }

@@ -52,6 +52,23 @@ fn send_block<R: Abort>(
     }
 }
 
+/// Hands the blocks that an upload sends to an assembly, until the body is whole.
+fn send_blocks<R: Abort>(
+    rt: &R,
+    upload: &mut Upload,
+    assembly: &mut Assembly,
+    key: &UploadKey,
+    body: &[u8],
+) -> Result<(), AllocError> {
+    for _ in 0..ENOUGH_BLOCKS {
+        if send_block(rt, upload, assembly, key, body)? {
+            return Ok(());
+        }
+    }
+    assert!(rt; false, "the body is not whole");
+    Ok(())
+}
+
 /// Carries a body from an upload to an assembly.
 fn send<R: Abort + AllocGlobal>(
     rt: &R,
@@ -61,14 +78,7 @@ fn send<R: Abort + AllocGlobal>(
 ) -> Result<(), AllocError> {
     let mut upload = Upload::new(Bytes::copy_from_slice(rt.alloc(), body)?, client);
     let mut assembly = Assembly::new(rt.alloc(), server);
-    let key = key_of(rt);
-    for _ in 0..ENOUGH_BLOCKS {
-        if send_block(rt, &mut upload, &mut assembly, &key, body)? {
-            return Ok(());
-        }
-    }
-    assert!(rt; false, "the body is not whole");
-    Ok(())
+    send_blocks(rt, &mut upload, &mut assembly, &key_of(rt), body)
 }
 
 /// The part that a server with blocks of that size answers to what is asked for, with its Block2
