@@ -112,40 +112,58 @@ fn bodies_are_their_blocks(rt: HostRuntime) -> Result<(), AllocError> {
     Ok(())
 }
 
+// The length of a body, Block2, the offset that it asks for, and NUM, M, SZX and the length of the
+// part.
+type Served = (usize, &'static [u8], u32, (u32, bool, u8), usize);
+
+// The answer of a server of size exponent 6, whose `t` has this length, to a GET of `t`.
+fn get_of_length<R: Abort + AllocGlobal>(
+    rt: &R,
+    len: usize,
+    block2: &[u8],
+) -> Result<Response, AllocError> {
+    let path = path_of(rt.alloc(), b"t")?;
+    let mut store: ListStore = Store::new(rt.alloc(), 1).expect(rt, "in range");
+    let body = Vec::from_elem(rt.alloc(), 7u8, len)?;
+    assert_eq!(rt; store.put(Moment(0), &path, None, &body), Ok(1));
+    let options = [Opt {
+        number: 23,
+        value: block2,
+    }];
+    let szx = Szx::new(6).expect(rt, "at most 6");
+    ask(&mut store, Method::Get, &path, &options, b"", szx)
+}
+
+fn is_served<R: Abort + AllocGlobal>(
+    rt: &R,
+    (len, block2, offset, block, part): Served,
+) -> Result<(), AllocError> {
+    let response = get_of_length(rt, len, block2)?;
+    assert_eq!(rt; response.code, Code::CONTENT);
+    let (num, more, szx) = response.block2.expect(rt, "asked for");
+    assert_eq!(rt; (num, more, szx.get()), block);
+    assert_eq!(rt; (response.part.len(), response.offset), (part, offset));
+    Ok(())
+}
+
 #[test]
 fn bodies_are_served_in_blocks(rt: HostRuntime) -> Result<(), AllocError> {
-    let path = path_of(rt.alloc(), b"t")?;
-    let szx = Szx::new(6).expect(&rt, "at most 6");
-    // The length of the body, Block2, the offset that it asks for, and NUM, M, SZX and the length of
-    // the part.
-    let cases: [(usize, &[u8], u32, u32, bool, u8, usize); 12] = [
-        (0, &[0x00], 0, 0, false, 0, 0),
-        (1, &[0x06], 0, 0, false, 6, 1),
-        (16, &[0x00], 0, 0, false, 0, 16),
-        (17, &[0x00], 0, 0, true, 0, 16),
-        (17, &[0x10], 16, 1, false, 0, 1),
-        (300, &[0x13], 128, 1, true, 3, 128),
-        (300, &[0x23], 256, 2, false, 3, 44),
-        (1_024, &[0x06], 0, 0, false, 6, 1_024),
-        (1_025, &[], 0, 0, true, 0, 16),
-        (1_025, &[0x16], 1_024, 1, false, 6, 1),
-        (65_536, &[0x03, 0xf6], 64_512, 63, false, 6, 1_024),
-        (65_536, &[0xff, 0xf0], 65_520, 4_095, false, 0, 16),
+    let cases: [Served; 12] = [
+        (0, &[0x00], 0, (0, false, 0), 0),
+        (1, &[0x06], 0, (0, false, 6), 1),
+        (16, &[0x00], 0, (0, false, 0), 16),
+        (17, &[0x00], 0, (0, true, 0), 16),
+        (17, &[0x10], 16, (1, false, 0), 1),
+        (300, &[0x13], 128, (1, true, 3), 128),
+        (300, &[0x23], 256, (2, false, 3), 44),
+        (1_024, &[0x06], 0, (0, false, 6), 1_024),
+        (1_025, &[], 0, (0, true, 0), 16),
+        (1_025, &[0x16], 1_024, (1, false, 6), 1),
+        (65_536, &[0x03, 0xf6], 64_512, (63, false, 6), 1_024),
+        (65_536, &[0xff, 0xf0], 65_520, (4_095, false, 0), 16),
     ];
-    for (len, block2, offset, num, more, exponent, part) in cases {
-        let mut store: ListStore = Store::new(rt.alloc(), 1).expect(&rt, "in range");
-        let body = Vec::from_elem(rt.alloc(), 7u8, len)?;
-        assert_eq!(rt; store.put(Moment(0), &path, None, &body), Ok(1));
-        let options = [Opt {
-            number: 23,
-            value: block2,
-        }];
-        let response = ask(&mut store, Method::Get, &path, &options, b"", szx)?;
-        assert_eq!(rt; response.code, Code::CONTENT);
-        let sent = response.block2.expect(&rt, "asked for");
-        assert_eq!(rt; (sent.0, sent.1, sent.2.get()), (num, more, exponent));
-        assert_eq!(rt; response.part.len(), part);
-        assert_eq!(rt; response.offset, offset);
+    for case in cases {
+        is_served(&rt, case)?;
     }
     Ok(())
 }

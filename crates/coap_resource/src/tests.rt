@@ -1,11 +1,8 @@
-use crate::{
-    Asking, ListStore, MAX_PATHS, MapStore, Response, Store, StoreRefusal, rate_law, serve,
-    served_law, value_of,
-};
-use StoreRefusal::{RateExceeded, TooLarge, TooManyPaths};
+mod changes;
+
+use crate::{Asking, ListStore, MapStore, Response, Store, serve, value_of};
 use coap_types::{Code, Direction, Method, Moment, Opt, Path, Szx, recognised};
 use std::alloc::{AllocError, Global};
-use std::process::Abort;
 
 /// A path of one segment.
 pub(crate) fn path_of(alloc: Global, segment: &[u8]) -> Result<Path, AllocError> {
@@ -280,95 +277,4 @@ fn the_first_option_of_a_number_is_found(rt: HostRuntime) {
     ];
     assert_eq!(rt; value_of(&options, 17), Some([50].as_slice()));
     assert_eq!(rt; value_of(&options, 12), None);
-}
-
-// A store's changes, one by one.
-fn check_changes<R: Abort + AllocGlobal, S: Store<Global>>(rt: &R) -> Result<(), AllocError> {
-    let path = path_of(rt.alloc(), b"log")?;
-    let mut store = S::new(rt.alloc(), 4_194_303).expect(rt, "in range");
-    assert_eq!(rt; store.version(), 0);
-    assert_eq!(rt; store.append(Moment(0), &path, b"a"), Ok(None));
-    assert_eq!(rt; store.delete(Moment(0), &path), Ok(None));
-    assert_eq!(rt; store.put(Moment(0), &path, None, b"x"), Ok(1));
-    assert_eq!(rt; store.append(Moment(0), &path, b"a"), Ok(Some(2)));
-    assert_eq!(rt; store.append(Moment(0), &path, b"a"), Ok(Some(3)));
-    let held = store.get(&path).expect(rt, "it is there");
-    assert_eq!(rt; held.body.as_slice(), b"xaa".as_slice());
-    assert_eq!(rt; (held.version, held.format), (3, None));
-    assert_eq!(rt; store.delete(Moment(0), &path), Ok(Some(4)));
-    assert!(rt; store.get(&path).is_none());
-    assert_eq!(rt; store.version(), 4);
-    Ok(())
-}
-
-#[test]
-fn changes_are_numbered_joined_and_taken_away(rt: HostRuntime) -> Result<(), AllocError> {
-    check_changes::<HostRuntime, ListStore>(&rt)?;
-    check_changes::<HostRuntime, MapStore>(&rt)
-}
-
-// A store that takes two changes in a window.
-fn check_rate<R: Abort + AllocGlobal, S: Store<Global>>(rt: &R) -> Result<(), AllocError> {
-    let path = path_of(rt.alloc(), b"t")?;
-    let large = Vec::from_elem(rt.alloc(), 0u8, 65_537)?;
-    let mut store = S::new(rt.alloc(), 2).expect(rt, "in range");
-    assert_eq!(rt; store.put(Moment(0), &path, None, b"a"), Ok(1));
-    assert_eq!(rt; store.put(Moment(255_999), &path, None, b"b"), Ok(2));
-    assert_eq!(rt;
-        store.put(Moment(255_999), &path, None, b"c"),
-        Err(RateExceeded)
-    );
-    assert_eq!(rt; store.delete(Moment(255_999), &path), Err(RateExceeded));
-    assert_eq!(rt;
-        store.put(Moment(256_000), &path, None, &large),
-        Err(TooLarge)
-    );
-    // The moment of the refused one has counted.
-    assert_eq!(rt; store.put(Moment(255_999), &path, None, b"c"), Ok(3));
-    assert_eq!(rt; store.append(Moment(511_999), &path, b"d"), Ok(Some(4)));
-    assert_eq!(rt;
-        store.append(Moment(511_999), &path, b"e"),
-        Err(RateExceeded)
-    );
-    let refused: [u32; 2] = [0, 4_194_304];
-    for changes in refused {
-        let none = S::new(rt.alloc(), changes);
-        assert!(rt; none.is_none());
-    }
-    Ok(())
-}
-
-#[test]
-fn a_window_of_256_s_takes_so_many_changes(rt: HostRuntime) -> Result<(), AllocError> {
-    rate_law();
-    served_law();
-    check_rate::<HostRuntime, ListStore>(&rt)?;
-    check_rate::<HostRuntime, MapStore>(&rt)
-}
-
-// A store at its bounds.
-fn check_bounds<R: Abort + AllocGlobal, S: Store<Global>>(rt: &R) -> Result<(), AllocError> {
-    let mut store = S::new(rt.alloc(), 4_194_303).expect(rt, "in range");
-    let full = Vec::from_elem(rt.alloc(), 7u8, 65_536)?;
-    for number in 0..MAX_PATHS {
-        let segment = [(number / 256) as u8, (number % 256) as u8];
-        let path = path_of(rt.alloc(), &segment)?;
-        assert!(rt; store.put(Moment(0), &path, None, b"").is_ok());
-    }
-    let first = path_of(rt.alloc(), &[0, 0])?;
-    let another = path_of(rt.alloc(), &[1, 0])?;
-    assert_eq!(rt;
-        store.put(Moment(0), &another, None, b""),
-        Err(TooManyPaths)
-    );
-    assert_eq!(rt; store.put(Moment(0), &first, None, &full), Ok(257));
-    assert_eq!(rt; store.append(Moment(0), &first, b"a"), Err(TooLarge));
-    assert_eq!(rt; store.append(Moment(0), &first, b""), Ok(Some(258)));
-    Ok(())
-}
-
-#[test]
-fn bodies_and_paths_are_bounded(rt: HostRuntime) -> Result<(), AllocError> {
-    check_bounds::<HostRuntime, ListStore>(&rt)?;
-    check_bounds::<HostRuntime, MapStore>(&rt)
 }

@@ -1,0 +1,156 @@
+use super::path_of;
+use crate::{ListStore, MAX_PATHS, MapStore, Store, StoreRefusal, rate_law, served_law};
+use StoreRefusal::{RateExceeded, TooLarge, TooManyPaths};
+use coap_types::{Moment, Path};
+use std::alloc::{AllocError, AllocGlobal, Global};
+use std::process::Abort;
+
+// A change of what is at a path, and what the store says to it.
+#[derive(Clone, Copy)]
+enum Change<'a> {
+    Put(&'a [u8], Result<u64, StoreRefusal>),
+    Append(&'a [u8], Result<Option<u64>, StoreRefusal>),
+    Delete(Result<Option<u64>, StoreRefusal>),
+}
+
+// The store says that to the change.
+fn takes<R: Abort, S: Store<Global>>(
+    rt: &R,
+    store: &mut S,
+    path: &Path,
+    now: u64,
+    change: Change<'_>,
+) {
+    match change {
+        Change::Put(body, says) => assert_eq!(rt; store.put(Moment(now), path, None, body), says),
+        Change::Append(body, says) => assert_eq!(rt; store.append(Moment(now), path, body), says),
+        Change::Delete(says) => assert_eq!(rt; store.delete(Moment(now), path), says),
+    }
+}
+
+// A store of so many changes in a window.
+fn store_of<R: Abort + AllocGlobal, S: Store<Global>>(rt: &R, changes: u32) -> S {
+    S::new(rt.alloc(), changes).expect(rt, "in range")
+}
+
+// The path holds that body, of that version and without a format.
+fn holds<R: Abort, S: Store<Global>>(rt: &R, store: &S, path: &Path, body: &[u8], version: u64) {
+    let held = store.get(path).expect(rt, "it is there");
+    assert_eq!(rt; held.body.as_slice(), body);
+    assert_eq!(rt; (held.version, held.format), (version, None));
+}
+
+// A store's changes, one by one.
+fn check_changes<R: Abort + AllocGlobal, S: Store<Global>>(rt: &R) -> Result<(), AllocError> {
+    let path = path_of(rt.alloc(), b"log")?;
+    let mut store: S = store_of(rt, 4_194_303);
+    assert_eq!(rt; store.version(), 0);
+    let rows = [
+        Change::Append(b"a", Ok(None)),
+        Change::Delete(Ok(None)),
+        Change::Put(b"x", Ok(1)),
+        Change::Append(b"a", Ok(Some(2))),
+        Change::Append(b"a", Ok(Some(3))),
+    ];
+    for change in rows {
+        takes(rt, &mut store, &path, 0, change);
+    }
+    holds(rt, &store, &path, b"xaa", 3);
+    takes(rt, &mut store, &path, 0, Change::Delete(Ok(Some(4))));
+    assert!(rt; store.get(&path).is_none());
+    assert_eq!(rt; store.version(), 4);
+    Ok(())
+}
+
+#[test]
+fn changes_are_numbered_joined_and_taken_away(rt: HostRuntime) -> Result<(), AllocError> {
+    check_changes::<HostRuntime, ListStore>(&rt)?;
+    check_changes::<HostRuntime, MapStore>(&rt)
+}
+
+// A store that takes two changes in a window.
+fn check_rate<R: Abort + AllocGlobal, S: Store<Global>>(rt: &R) -> Result<(), AllocError> {
+    let path = path_of(rt.alloc(), b"t")?;
+    let large = Vec::from_elem(rt.alloc(), 0u8, 65_537)?;
+    let mut store: S = store_of(rt, 2);
+    let rows = [
+        (0, Change::Put(b"a", Ok(1))),
+        (255_999, Change::Put(b"b", Ok(2))),
+        (255_999, Change::Put(b"c", Err(RateExceeded))),
+        (255_999, Change::Delete(Err(RateExceeded))),
+        (256_000, Change::Put(&large, Err(TooLarge))),
+        // The moment of the refused one has counted.
+        (255_999, Change::Put(b"c", Ok(3))),
+        (511_999, Change::Append(b"d", Ok(Some(4)))),
+        (511_999, Change::Append(b"e", Err(RateExceeded))),
+    ];
+    for (now, change) in rows {
+        takes(rt, &mut store, &path, now, change);
+    }
+    let refused: [u32; 2] = [0, 4_194_304];
+    for changes in refused {
+        let none = S::new(rt.alloc(), changes);
+        assert!(rt; none.is_none());
+    }
+    Ok(())
+}
+
+#[test]
+fn a_window_of_256_s_takes_so_many_changes(rt: HostRuntime) -> Result<(), AllocError> {
+    rate_law();
+    served_law();
+    check_rate::<HostRuntime, ListStore>(&rt)?;
+    check_rate::<HostRuntime, MapStore>(&rt)
+}
+
+// As many paths as a store has.
+fn fill_paths<R: Abort + AllocGlobal, S: Store<Global>>(
+    rt: &R,
+    store: &mut S,
+) -> Result<(), AllocError> {
+    for number in 0..MAX_PATHS {
+        let segment = [(number / 256) as u8, (number % 256) as u8];
+        let path = path_of(rt.alloc(), &segment)?;
+        assert!(rt; store.put(Moment(0), &path, None, b"").is_ok());
+    }
+    Ok(())
+}
+
+// Changes of the first path of a store whose paths are all there.
+fn check_full<R: Abort + AllocGlobal, S: Store<Global>>(
+    rt: &R,
+    store: &mut S,
+) -> Result<(), AllocError> {
+    let full = Vec::from_elem(rt.alloc(), 7u8, 65_536)?;
+    let first = path_of(rt.alloc(), &[0, 0])?;
+    let rows = [
+        Change::Put(&full, Ok(257)),
+        Change::Append(b"a", Err(TooLarge)),
+        Change::Append(b"", Ok(Some(258))),
+    ];
+    for change in rows {
+        takes(rt, store, &first, 0, change);
+    }
+    Ok(())
+}
+
+// A store at its bounds.
+fn check_bounds<R: Abort + AllocGlobal, S: Store<Global>>(rt: &R) -> Result<(), AllocError> {
+    let mut store: S = store_of(rt, 4_194_303);
+    fill_paths(rt, &mut store)?;
+    let another = path_of(rt.alloc(), &[1, 0])?;
+    takes(
+        rt,
+        &mut store,
+        &another,
+        0,
+        Change::Put(b"", Err(TooManyPaths)),
+    );
+    check_full(rt, &mut store)
+}
+
+#[test]
+fn bodies_and_paths_are_bounded(rt: HostRuntime) -> Result<(), AllocError> {
+    check_bounds::<HostRuntime, ListStore>(&rt)?;
+    check_bounds::<HostRuntime, MapStore>(&rt)
+}
