@@ -116,6 +116,18 @@ fn bodies_are_their_blocks(rt: HostRuntime) -> Result<(), AllocError> {
 // part.
 type Served = (usize, &'static [u8], u32, (u32, bool, u8), usize);
 
+// A store whose `t` has this length.
+fn store_of_length<R: Abort + AllocGlobal>(
+    rt: &R,
+    path: &Path,
+    len: usize,
+) -> Result<ListStore, AllocError> {
+    let mut store: ListStore = Store::new(rt.alloc(), 1).expect(rt, "in range");
+    let body = Vec::from_elem(rt.alloc(), 7u8, len)?;
+    assert_eq!(rt; store.put(Moment(0), path, None, &body), Ok(1));
+    Ok(store)
+}
+
 // The answer of a server of size exponent 6, whose `t` has this length, to a GET of `t`.
 fn get_of_length<R: Abort + AllocGlobal>(
     rt: &R,
@@ -123,9 +135,7 @@ fn get_of_length<R: Abort + AllocGlobal>(
     block2: &[u8],
 ) -> Result<Response, AllocError> {
     let path = path_of(rt.alloc(), b"t")?;
-    let mut store: ListStore = Store::new(rt.alloc(), 1).expect(rt, "in range");
-    let body = Vec::from_elem(rt.alloc(), 7u8, len)?;
-    assert_eq!(rt; store.put(Moment(0), &path, None, &body), Ok(1));
+    let mut store = store_of_length(rt, &path, len)?;
     let options = [Opt {
         number: 23,
         value: block2,
