@@ -1,11 +1,14 @@
 ghost use Rattle.std.specs.Prelude.{◌≡◌};
 
-use crate::{Ask, AskRefusal, Asker, Event, Turn, askable_law};
-use coap_types::option_number::URI_PATH;
-use coap_types::{Endpoint, Method, Moment, Opt, Token};
+mod steps;
+
+use crate::{Asker, Event, Turn};
+use coap_types::{Endpoint, Moment};
 use std::alloc::{AllocError, AllocGlobal, Global};
 use std::process::Abort;
 use std::test::*;
+use steps::Step::{Asks, Cancels, Gets, IsSilent, Keeps, Releases, Runs, Sends, Ticks};
+use steps::{Tells, Tick, ask, asked, from_asked, from_new, take_steps, token};
 
 const SERVER: Endpoint = Endpoint {
     ip: [127, 0, 0, 1],
@@ -40,329 +43,316 @@ const EMPTY_ACK: &[u8] = &[0x60, 0, 0, 0];
 
 const RESET: &[u8] = &[0x70, 0, 0, 0];
 
-/// Asks for `t`, with the token of an observation that is cancelled or a fresh one.
-fn ask<R: Abort + AllocGlobal>(
-    rt: &R,
-    asker: &mut Asker<Global>,
-    now: u64,
-    cancelled: Option<&Token>,
-) -> Result<Token, AskRefusal>
-    ensures { asker.new.before ≡ asker.old.before }
-{
-    askable_law();
-    let options = [Opt {
-        number: URI_PATH,
-        value: b"t",
-    }];
-    let get = Ask {
-        method: Method::Get,
-        token: cancelled,
-        options: &options,
-        payload: b"",
-    };
-    asker.ask(Moment(now), &get, 0)
-}
-
-fn token<R: Abort>(rt: &R, number: u8) -> Token {
-    Token::new(&[0, 0, 0, 0, 0, 0, 0, number]).expect(rt, "8 bytes")
-}
-
-/// What is to be sent next goes to the server and has these bytes.
-fn is_sent<R: Abort + AllocGlobal>(rt: &R, asker: &mut Asker<Global>, to: Endpoint, bytes: &[u8]) {
-    let datagram = asker.next_out().expect(rt, "a datagram");
-    assert_eq!(rt; datagram.to(), to);
-    assert_eq!(rt; datagram.bytes(), bytes);
-}
-
-/// A client's side that asked for `t` at 0.
-fn asked<R: Abort + AllocGlobal>(rt: &R) -> Asker<Global> {
-    let mut asker = Asker::new(rt.alloc(), SERVER, 0);
-    assert_eq!(rt; ask(rt, &mut asker, 0, None), Ok(token(rt, 0)));
-    is_sent(rt, &mut asker, SERVER, GET_T);
-    asker
-}
-
-/// The datagram is the answer, `hi`.
-fn is_answer<R: Abort + AllocGlobal>(
-    rt: &R,
-    asker: &mut Asker<Global>,
-    now: u64,
-    bytes: &[u8],
-) -> Result<(), AllocError> {
-    match asker.receive(Moment(now), SERVER, bytes)? {
-        Some(Event::Answer(response)) => assert_eq!(rt; response.payload(), b"hi".as_slice()),
-        _ => panic!(rt; "no answer"),
-    }
-    Ok(())
-}
-
-/// The datagram tells nothing.
-fn is_nothing<R: Abort + AllocGlobal>(
-    rt: &R,
-    asker: &mut Asker<Global>,
-    now: u64,
-    from: Endpoint,
-    bytes: &[u8],
-) -> Result<(), AllocError> {
-    assert!(rt; asker.receive(Moment(now), from, bytes)?.is_none());
-    Ok(())
-}
-
 #[test]
 fn a_piggybacked_response_answers_its_request(rt: HostRuntime) -> Result<(), AllocError> {
-    let mut asker = asked(&rt);
-    is_answer(&rt, &mut asker, 5, ANSWER)?;
-    assert!(rt; asker.next_out().is_none());
-    Ok(())
+    let steps = [Gets(5, SERVER, ANSWER, Tells::Answer), IsSilent];
+    from_asked(&rt, &steps)
 }
 
 #[test]
 fn a_separate_response_answers_its_request(rt: HostRuntime) -> Result<(), AllocError> {
-    let mut asker = asked(&rt);
-    is_nothing(&rt, &mut asker, 0, SERVER, EMPTY_ACK)?;
-    is_answer(&rt, &mut asker, 5, SEPARATE)?;
-    is_sent(&rt, &mut asker, SERVER, &[0x60, 0, 0, 7]);
-    // A duplicate is acknowledged again, and not told.
-    is_nothing(&rt, &mut asker, 6, SERVER, SEPARATE)?;
-    is_sent(&rt, &mut asker, SERVER, &[0x60, 0, 0, 7]);
-    Ok(())
+    let steps = [
+        Gets(0, SERVER, EMPTY_ACK, Tells::Nothing),
+        Gets(5, SERVER, SEPARATE, Tells::Answer),
+        Sends(SERVER, &[0x60, 0, 0, 7]),
+        // A duplicate is acknowledged again, and not told.
+        Gets(6, SERVER, SEPARATE, Tells::Nothing),
+        Sends(SERVER, &[0x60, 0, 0, 7]),
+    ];
+    from_asked(&rt, &steps)
 }
 
 #[test]
 fn a_response_may_overtake_the_acknowledgement(rt: HostRuntime) -> Result<(), AllocError> {
-    let mut asker = asked(&rt);
-    is_answer(&rt, &mut asker, 5, SEPARATE_NON)?;
-    is_nothing(&rt, &mut asker, 6, SERVER, EMPTY_ACK)?;
-    assert!(rt; asker.next_out().is_none());
-    // It also ended the retransmission of the request.
-    assert!(rt; matches!(asker.tick(Moment(2_000))?, Turn::Idle));
-    Ok(())
+    let steps = [
+        Gets(5, SERVER, SEPARATE_NON, Tells::Answer),
+        Gets(6, SERVER, EMPTY_ACK, Tells::Nothing),
+        IsSilent,
+        // It also ended the retransmission of the request.
+        Ticks(2_000, Tick::Idle),
+    ];
+    from_asked(&rt, &steps)
 }
 
 #[test]
 fn an_answer_counts_until_the_tick(rt: HostRuntime) -> Result<(), AllocError> {
-    let mut asker = asked(&rt);
-    is_answer(&rt, &mut asker, 70_000, ANSWER)?;
-    assert!(rt; matches!(asker.tick(Moment(70_000))?, Turn::Idle));
-    Ok(())
+    let steps = [
+        Gets(70_000, SERVER, ANSWER, Tells::Answer),
+        Ticks(70_000, Tick::Idle),
+    ];
+    from_asked(&rt, &steps)
 }
 
 #[test]
 fn a_separate_response_counts_until_the_tick(rt: HostRuntime) -> Result<(), AllocError> {
-    let mut asker = asked(&rt);
-    is_nothing(&rt, &mut asker, 0, SERVER, EMPTY_ACK)?;
-    is_answer(&rt, &mut asker, 250_000, SEPARATE)?;
-    assert!(rt; matches!(asker.tick(Moment(250_000))?, Turn::Idle));
-    Ok(())
+    let steps = [
+        Gets(0, SERVER, EMPTY_ACK, Tells::Nothing),
+        Gets(250_000, SERVER, SEPARATE, Tells::Answer),
+        Ticks(250_000, Tick::Idle),
+    ];
+    from_asked(&rt, &steps)
 }
 
 #[test]
 fn no_second_acknowledgement_counts(rt: HostRuntime) -> Result<(), AllocError> {
-    let mut asker = asked(&rt);
-    is_nothing(&rt, &mut asker, 0, SERVER, EMPTY_ACK)?;
-    // The request is outstanding no more, so a piggybacked response to it is dropped.
-    is_nothing(&rt, &mut asker, 1, SERVER, ANSWER)?;
-    // Another Empty acknowledgement doesn't lengthen the wait.
-    is_nothing(&rt, &mut asker, 1, SERVER, EMPTY_ACK)?;
-    assert!(rt; asker.next_out().is_none());
-    assert_eq!(rt; ask(&rt, &mut asker, 1, None), Err(AskRefusal::Running));
-    assert!(rt; matches!(asker.tick(Moment(247_000))?, Turn::End(Event::NoResponse)));
-    Ok(())
+    let steps = [
+        Gets(0, SERVER, EMPTY_ACK, Tells::Nothing),
+        // The request is outstanding no more, so a piggybacked response to it is dropped.
+        Gets(1, SERVER, ANSWER, Tells::Nothing),
+        // Another Empty acknowledgement doesn't lengthen the wait.
+        Gets(1, SERVER, EMPTY_ACK, Tells::Nothing),
+        IsSilent,
+        Runs(1),
+        Ticks(247_000, Tick::NoResponse),
+    ];
+    from_asked(&rt, &steps)
 }
 
 #[test]
 fn no_response_comes_after_the_acknowledgement(rt: HostRuntime) -> Result<(), AllocError> {
-    let mut asker = asked(&rt);
-    is_nothing(&rt, &mut asker, 0, SERVER, EMPTY_ACK)?;
-    assert!(rt; matches!(asker.tick(Moment(246_999))?, Turn::Idle));
-    assert!(rt; matches!(asker.tick(Moment(247_000))?, Turn::End(Event::NoResponse)));
-    assert!(rt; matches!(asker.tick(Moment(247_000))?, Turn::Idle));
-    Ok(())
+    let steps = [
+        Gets(0, SERVER, EMPTY_ACK, Tells::Nothing),
+        Ticks(246_999, Tick::Idle),
+        Ticks(247_000, Tick::NoResponse),
+        Ticks(247_000, Tick::Idle),
+    ];
+    from_asked(&rt, &steps)
 }
 
 #[test]
 fn a_request_fails(rt: HostRuntime) -> Result<(), AllocError> {
-    let mut asker = asked(&rt);
-    assert!(rt; matches!(asker.tick(Moment(1_999))?, Turn::Idle));
-    assert!(rt; matches!(asker.tick(Moment(2_000))?, Turn::Copied));
-    is_sent(&rt, &mut asker, SERVER, GET_T);
-    assert!(rt; matches!(asker.tick(Moment(61_999))?, Turn::Idle));
-    assert!(rt; matches!(asker.tick(Moment(62_000))?, Turn::End(Event::Timeout)));
-    Ok(())
+    let steps = [
+        Ticks(1_999, Tick::Idle),
+        Ticks(2_000, Tick::Copied),
+        Sends(SERVER, GET_T),
+        Ticks(61_999, Tick::Idle),
+        Ticks(62_000, Tick::Timeout),
+    ];
+    from_asked(&rt, &steps)
 }
 
 #[test]
 fn what_does_not_match_is_rejected(rt: HostRuntime) -> Result<(), AllocError> {
-    let mut asker = asked(&rt);
-    // An unknown token, in a NON.
-    is_nothing(
-        &rt,
-        &mut asker,
-        1,
-        SERVER,
-        &[0x51, 0x45, 0, 9, 0x99, 0xff, 0x61],
-    )?;
-    is_sent(&rt, &mut asker, SERVER, &[0x70, 0, 0, 9]);
-    // The right token from the wrong endpoint.
-    is_nothing(&rt, &mut asker, 1, STRANGER, SEPARATE)?;
-    is_sent(&rt, &mut asker, STRANGER, &[0x70, 0, 0, 7]);
-    // An ACK with the right Message ID and the wrong token.
-    is_nothing(
-        &rt,
-        &mut asker,
-        1,
-        SERVER,
-        &[0x61, 0x45, 0, 0, 1, 0xff, 0x61],
-    )?;
-    assert!(rt; asker.next_out().is_none());
-    is_answer(&rt, &mut asker, 2, ANSWER)
+    let steps = [
+        // An unknown token, in a NON.
+        Gets(
+            1,
+            SERVER,
+            &[0x51, 0x45, 0, 9, 0x99, 0xff, 0x61],
+            Tells::Nothing,
+        ),
+        Sends(SERVER, &[0x70, 0, 0, 9]),
+        // The right token from the wrong endpoint.
+        Gets(1, STRANGER, SEPARATE, Tells::Nothing),
+        Sends(STRANGER, &[0x70, 0, 0, 7]),
+        // An ACK with the right Message ID and the wrong token.
+        Gets(
+            1,
+            SERVER,
+            &[0x61, 0x45, 0, 0, 1, 0xff, 0x61],
+            Tells::Nothing,
+        ),
+        IsSilent,
+        Gets(2, SERVER, ANSWER, Tells::Answer),
+    ];
+    from_asked(&rt, &steps)
 }
 
 #[test]
 fn a_stranger_answers_nothing(rt: HostRuntime) -> Result<(), AllocError> {
-    let mut asker = asked(&rt);
-    assert!(rt; asker.keep(&token(&rt, 0)));
-    is_nothing(&rt, &mut asker, 1, STRANGER, SEPARATE_NON)?;
-    is_sent(&rt, &mut asker, STRANGER, &[0x70, 0, 0, 7]);
-    is_nothing(&rt, &mut asker, 1, STRANGER, NOTIFICATION)?;
-    is_sent(&rt, &mut asker, STRANGER, &[0x70, 0, 0, 8]);
-    // A response, an acknowledgement and a Reset with the Message ID of the request.
-    is_nothing(&rt, &mut asker, 1, STRANGER, ANSWER)?;
-    is_nothing(&rt, &mut asker, 1, STRANGER, EMPTY_ACK)?;
-    is_nothing(&rt, &mut asker, 1, STRANGER, RESET)?;
-    assert!(rt; asker.next_out().is_none());
-    assert!(rt; matches!(asker.tick(Moment(2_000))?, Turn::Copied));
-    is_answer(&rt, &mut asker, 2_000, ANSWER)
+    let steps = [
+        Keeps(0, true),
+        Gets(1, STRANGER, SEPARATE_NON, Tells::Nothing),
+        Sends(STRANGER, &[0x70, 0, 0, 7]),
+        Gets(1, STRANGER, NOTIFICATION, Tells::Nothing),
+        Sends(STRANGER, &[0x70, 0, 0, 8]),
+        // A response, an acknowledgement and a Reset with the Message ID of the request.
+        Gets(1, STRANGER, ANSWER, Tells::Nothing),
+        Gets(1, STRANGER, EMPTY_ACK, Tells::Nothing),
+        Gets(1, STRANGER, RESET, Tells::Nothing),
+        IsSilent,
+        Ticks(2_000, Tick::Copied),
+        Gets(2_000, SERVER, ANSWER, Tells::Answer),
+    ];
+    from_asked(&rt, &steps)
 }
 
 #[test]
 fn a_request_at_a_client_is_rejected(rt: HostRuntime) -> Result<(), AllocError> {
-    let mut asker = Asker::new(rt.alloc(), SERVER, 0);
-    is_nothing(&rt, &mut asker, 0, SERVER, GET_T)?;
-    is_sent(&rt, &mut asker, SERVER, RESET);
-    is_nothing(&rt, &mut asker, 0, SERVER, &[0x50, 0x01, 0, 1])?;
-    assert!(rt; asker.next_out().is_none());
-    Ok(())
+    let steps = [
+        Gets(0, SERVER, GET_T, Tells::Nothing),
+        Sends(SERVER, RESET),
+        Gets(0, SERVER, &[0x50, 0x01, 0, 1], Tells::Nothing),
+        IsSilent,
+    ];
+    from_new(&rt, &steps)
 }
 
 #[test]
 fn one_exchange_runs(rt: HostRuntime) -> Result<(), AllocError> {
-    let mut asker = asked(&rt);
-    assert_eq!(rt; ask(&rt, &mut asker, 0, None), Err(AskRefusal::Running));
-    is_answer(&rt, &mut asker, 5, ANSWER)?;
-    assert_eq!(rt; ask(&rt, &mut asker, 5, None), Ok(token(&rt, 1)));
-    Ok(())
+    let steps = [Runs(0), Gets(5, SERVER, ANSWER, Tells::Answer), Asks(5, 1)];
+    from_asked(&rt, &steps)
 }
 
 #[test]
-fn sixteen_tokens_are_kept(rt: HostRuntime) {
+fn sixteen_tokens_are_kept(rt: HostRuntime) -> Result<(), AllocError> {
     let mut asker = Asker::new(rt.alloc(), SERVER, 0);
     for number in 0..16 {
-        assert!(rt; asker.keep(&token(&rt, number)));
+        take_steps(&rt, &mut asker, &[Keeps(number, true)])?;
     }
-    assert!(rt; !asker.keep(&token(&rt, 16)));
-    assert!(rt; asker.keep(&token(&rt, 15)));
-    assert!(rt; asker.release(&token(&rt, 3)));
-    assert!(rt; !asker.release(&token(&rt, 3)));
-    assert!(rt; asker.keep(&token(&rt, 16)));
+    let steps = [
+        Keeps(16, false),
+        Keeps(15, true),
+        Releases(3, true),
+        Releases(3, false),
+        Keeps(16, true),
+    ];
+    take_steps(&rt, &mut asker, &steps)
 }
 
 #[test]
 fn a_kept_token_is_noticed(rt: HostRuntime) -> Result<(), AllocError> {
-    let mut asker = Asker::new(rt.alloc(), SERVER, 0);
-    assert!(rt; asker.keep(&token(&rt, 0)));
-    match asker.receive(Moment(0), SERVER, SEPARATE)? {
-        Some(Event::Notice(response)) => assert_eq!(&rt; response.payload(), b"hi".as_slice()),
-        _ => panic!(&rt; "no notice"),
-    }
-    is_sent(&rt, &mut asker, SERVER, &[0x60, 0, 0, 7]);
-    Ok(())
+    let steps = [
+        Keeps(0, true),
+        Gets(0, SERVER, SEPARATE, Tells::Notice),
+        Sends(SERVER, &[0x60, 0, 0, 7]),
+    ];
+    from_new(&rt, &steps)
 }
 
 #[test]
 fn a_cancel_has_the_token_of_its_observation(rt: HostRuntime) -> Result<(), AllocError> {
-    let mut asker = Asker::new(rt.alloc(), SERVER, 0);
-    let observed = token(&rt, 0);
-    assert_eq!(rt; ask(&rt, &mut asker, 0, Some(&observed)), Ok(token(&rt, 0)));
-    is_sent(&rt, &mut asker, SERVER, GET_T);
-    // A notification that was under way, in a CON and in a NON.
-    is_nothing(&rt, &mut asker, 1, SERVER, NOTIFICATION)?;
-    is_sent(&rt, &mut asker, SERVER, &[0x60, 0, 0, 8]);
-    is_nothing(&rt, &mut asker, 1, SERVER, NOTIFICATION_NON)?;
-    assert!(rt; asker.next_out().is_none());
-    is_answer(&rt, &mut asker, 2, ANSWER)?;
-    // The first fresh token was not given yet.
-    assert_eq!(rt; ask(&rt, &mut asker, 2, None), Ok(token(&rt, 0)));
+    let steps = [
+        Cancels(0, 0),
+        Sends(SERVER, GET_T),
+        // A notification that was under way, in a CON and in a NON.
+        Gets(1, SERVER, NOTIFICATION, Tells::Nothing),
+        Sends(SERVER, &[0x60, 0, 0, 8]),
+        Gets(1, SERVER, NOTIFICATION_NON, Tells::Nothing),
+        IsSilent,
+        Gets(2, SERVER, ANSWER, Tells::Answer),
+        // The first fresh token was not given yet.
+        Asks(2, 0),
+    ];
+    from_new(&rt, &steps)
+}
+
+/// It keeps the first token and asks again.
+fn goes_on<R: Abort + AllocGlobal>(rt: &R, asker: &mut Asker<Global>, now: u64)
+    ensures { asker.new.before ≡ asker.old.before }
+{
+    assert!(rt; asker.keep(&token(rt, 0)));
+    assert_eq!(rt; ask(rt, asker, now, None), Ok(token(rt, 1)));
+}
+
+/// The answer comes, its token is kept and it asks again, and all of that is taken back.
+fn answered_in_vain<R: Abort + AllocGlobal>(
+    rt: &R,
+    asker: &mut Asker<Global>,
+) -> Result<(), AllocError> {
+    let is_told = asker.receive(Moment(5), SERVER, ANSWER)?.is_some();
+    assert!(rt; is_told);
+    goes_on(rt, asker, 5);
+    asker.undo();
     Ok(())
 }
 
 #[test]
 fn an_arrival_and_what_came_since_are_taken_back(rt: HostRuntime) -> Result<(), AllocError> {
-    let mut asker = asked(&rt);
-    let is_told = asker.receive(Moment(5), SERVER, ANSWER)?.is_some();
-    assert!(rt; is_told);
-    assert!(rt; asker.keep(&token(&rt, 0)));
-    assert_eq!(rt; ask(&rt, &mut asker, 5, None), Ok(token(&rt, 1)));
+    let mut asker = asked(&rt)?;
+    answered_in_vain(&rt, &mut asker)?;
+    let steps = [
+        Releases(0, false),
+        IsSilent,
+        Gets(5, SERVER, ANSWER, Tells::Answer),
+        Asks(5, 1),
+    ];
+    take_steps(&rt, &mut asker, &steps)
+}
+
+/// A notice comes and its token is released, and both are taken back.
+fn released_in_vain<R: Abort + AllocGlobal>(
+    rt: &R,
+    asker: &mut Asker<Global>,
+) -> Result<(), AllocError> {
+    let notice = asker.receive(Moment(5), SERVER, NOTIFICATION)?;
+    assert!(rt; matches!(notice, Some(Event::Notice(_))));
+    assert!(rt; asker.release(&token(rt, 0)));
     asker.undo();
-    assert!(rt; !asker.release(&token(&rt, 0)));
-    assert!(rt; asker.next_out().is_none());
-    is_answer(&rt, &mut asker, 5, ANSWER)?;
-    assert_eq!(rt; ask(&rt, &mut asker, 5, None), Ok(token(&rt, 1)));
     Ok(())
 }
 
 #[test]
 fn a_release_is_taken_back(rt: HostRuntime) -> Result<(), AllocError> {
     let mut asker = Asker::new(rt.alloc(), SERVER, 0);
-    let observed = token(&rt, 0);
-    assert!(rt; asker.keep(&observed));
-    let notice = asker.receive(Moment(5), SERVER, NOTIFICATION)?;
-    assert!(rt; matches!(notice, Some(Event::Notice(_))));
-    assert!(rt; asker.release(&observed));
+    take_steps(&rt, &mut asker, &[Keeps(0, true)])?;
+    released_in_vain(&rt, &mut asker)?;
+    let steps = [
+        IsSilent,
+        Gets(5, SERVER, NOTIFICATION, Tells::EmptyNotice),
+        Sends(SERVER, &[0x60, 0, 0, 8]),
+    ];
+    take_steps(&rt, &mut asker, &steps)
+}
+
+/// The request fails and it asks again, and both are taken back.
+fn failed_in_vain<R: Abort + AllocGlobal>(
+    rt: &R,
+    asker: &mut Asker<Global>,
+) -> Result<(), AllocError> {
+    assert!(rt; matches!(asker.tick(Moment(62_000))?, Turn::End(Event::Timeout)));
+    assert_eq!(rt; ask(rt, asker, 62_000, None), Ok(token(rt, 1)));
     asker.undo();
-    assert!(rt; asker.next_out().is_none());
-    let again = asker.receive(Moment(5), SERVER, NOTIFICATION)?;
-    assert!(rt; matches!(again, Some(Event::Notice(_))));
-    is_sent(&rt, &mut asker, SERVER, &[0x60, 0, 0, 8]);
+    assert_eq!(rt; asker.clock(), Moment(0));
+    Ok(())
+}
+
+/// A copy is sent, and that is taken back.
+fn copied_in_vain<R: Abort + AllocGlobal>(
+    rt: &R,
+    asker: &mut Asker<Global>,
+) -> Result<(), AllocError> {
+    assert!(rt; matches!(asker.tick(Moment(2_000))?, Turn::Copied));
+    asker.undo();
     Ok(())
 }
 
 #[test]
 fn a_tick_and_what_came_since_are_taken_back(rt: HostRuntime) -> Result<(), AllocError> {
-    let mut asker = asked(&rt);
-    assert!(rt; matches!(asker.tick(Moment(62_000))?, Turn::End(Event::Timeout)));
-    assert_eq!(rt; ask(&rt, &mut asker, 62_000, None), Ok(token(&rt, 1)));
-    asker.undo();
-    assert_eq!(rt; asker.clock(), Moment(0));
-    assert!(rt; asker.next_out().is_none());
-    assert_eq!(rt; ask(&rt, &mut asker, 0, None), Err(AskRefusal::Running));
-    assert!(rt; matches!(asker.tick(Moment(2_000))?, Turn::Copied));
-    asker.undo();
-    assert!(rt; asker.next_out().is_none());
-    assert!(rt; matches!(asker.tick(Moment(1_999))?, Turn::Idle));
-    assert!(rt; matches!(asker.tick(Moment(2_000))?, Turn::Copied));
-    is_sent(&rt, &mut asker, SERVER, GET_T);
-    is_answer(&rt, &mut asker, 2_001, ANSWER)
+    let mut asker = asked(&rt)?;
+    failed_in_vain(&rt, &mut asker)?;
+    take_steps(&rt, &mut asker, &[IsSilent, Runs(0)])?;
+    copied_in_vain(&rt, &mut asker)?;
+    let steps = [
+        IsSilent,
+        Ticks(1_999, Tick::Idle),
+        Ticks(2_000, Tick::Copied),
+        Sends(SERVER, GET_T),
+        Gets(2_001, SERVER, ANSWER, Tells::Answer),
+    ];
+    take_steps(&rt, &mut asker, &steps)
 }
 
 #[test]
 fn a_rejected_request_ends_its_exchange(rt: HostRuntime) -> Result<(), AllocError> {
-    let mut asker = asked(&rt);
-    // A Reset of another Message ID is not its own.
-    is_nothing(&rt, &mut asker, 1, SERVER, &[0x70, 0, 0, 1])?;
-    let event = asker.receive(Moment(1), SERVER, RESET)?;
-    assert!(rt; matches!(event, Some(Event::Reset)));
-    assert_eq!(rt; ask(&rt, &mut asker, 1, None), Ok(token(&rt, 1)));
-    Ok(())
+    let steps = [
+        // A Reset of another Message ID is not its own.
+        Gets(1, SERVER, &[0x70, 0, 0, 1], Tells::Nothing),
+        Gets(1, SERVER, RESET, Tells::Reset),
+        Asks(1, 1),
+    ];
+    from_asked(&rt, &steps)
 }
 
 #[test]
 fn a_critical_option_that_is_not_recognised_is_rejected(rt: HostRuntime) -> Result<(), AllocError> {
-    let mut asker = asked(&rt);
-    is_nothing(&rt, &mut asker, 1, SERVER, CRITICAL)?;
-    is_sent(&rt, &mut asker, SERVER, &[0x70, 0, 0, 7]);
-    is_nothing(&rt, &mut asker, 1, SERVER, CRITICAL_NON)?;
-    is_nothing(&rt, &mut asker, 1, SERVER, CRITICAL_ACK)?;
-    assert!(rt; asker.next_out().is_none());
-    is_answer(&rt, &mut asker, 2, ANSWER)
+    let steps = [
+        Gets(1, SERVER, CRITICAL, Tells::Nothing),
+        Sends(SERVER, &[0x70, 0, 0, 7]),
+        Gets(1, SERVER, CRITICAL_NON, Tells::Nothing),
+        Gets(1, SERVER, CRITICAL_ACK, Tells::Nothing),
+        IsSilent,
+        Gets(2, SERVER, ANSWER, Tells::Answer),
+    ];
+    from_asked(&rt, &steps)
 }

@@ -1,5 +1,5 @@
 use Rattle.std.proofs.Common.{None, [], ◌∷◌, refl, arith}
-use Rattle.coap_exchange.proofs.tests.client.ask.Goals as goal
+use Rattle.coap_exchange.proofs.tests.client.steps.ask.Goals as goal
 
 pub ask-requires : goal.ask-requires
 ask-requires g c token few =
