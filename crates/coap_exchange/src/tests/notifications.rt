@@ -126,6 +126,11 @@ fn is_sent<R: Abort + AllocGlobal>(
     assert_eq!(rt; datagram.bytes(), bytes);
 }
 
+/// Nothing is to be sent.
+fn is_silent<R: Abort + AllocGlobal>(rt: &R, answerer: &mut Answerer<Global>) {
+    assert!(rt; answerer.next_out().is_none());
+}
+
 /// The datagram brings no request.
 fn is_nothing<R: Abort + AllocGlobal>(
     rt: &R,
@@ -154,13 +159,44 @@ fn notified<R: Abort + AllocGlobal>(rt: &R) -> Result<Answerer<Global>, AllocErr
     Ok(answerer)
 }
 
+/// Sends the client a second notification.
+fn notify_again<R: Abort + AllocGlobal>(
+    rt: &R,
+    answerer: &mut Answerer<Global>,
+    now: u64,
+) -> Result<(), AllocError> {
+    assert_eq!(rt; notify(rt, answerer, now, CLIENT)?, Id(1));
+    is_sent(rt, answerer, CLIENT, NOTIFICATION_1);
+    Ok(())
+}
+
+/// The tick does nothing.
+fn is_idle<R: Abort + AllocGlobal>(
+    rt: &R,
+    answerer: &mut Answerer<Global>,
+    now: u64,
+) -> Result<(), AllocError> {
+    assert!(rt; matches!(answerer.tick(Moment(now))?, Due::Idle));
+    Ok(())
+}
+
+/// A deferred request is ready.
+fn is_ready<R: Abort + AllocGlobal>(
+    rt: &R,
+    answerer: &mut Answerer<Global>,
+    now: u64,
+) -> Result<(), AllocError> {
+    assert!(rt; matches!(answerer.tick(Moment(now))?, Due::Ready(_)));
+    Ok(())
+}
+
 #[test]
 fn a_reset_ends_a_notification(rt: HostRuntime) -> Result<(), AllocError> {
     let mut answerer = notified(&rt)?;
     // From elsewhere it ends nothing, and nothing is sent.
     is_nothing(&rt, &mut answerer, 1, OTHER, RESET)?;
     assert!(rt; answerer.ended().is_none());
-    assert!(rt; answerer.next_out().is_none());
+    is_silent(&rt, &mut answerer);
     is_nothing(&rt, &mut answerer, 1, CLIENT, RESET)?;
     has_ended(&rt, &answerer, true);
     is_nothing(&rt, &mut answerer, 1, CLIENT, RESET)?;
@@ -173,7 +209,7 @@ fn a_failure_ends_a_notification(rt: HostRuntime) -> Result<(), AllocError> {
     let mut answerer = notified(&rt)?;
     assert!(rt; matches!(answerer.tick(Moment(2_000))?, Due::Copied));
     is_sent(&rt, &mut answerer, CLIENT, NOTIFICATION);
-    assert!(rt; matches!(answerer.tick(Moment(61_999))?, Due::Idle));
+    is_idle(&rt, &mut answerer, 61_999)?;
     assert!(rt; answerer.ended().is_none());
     assert!(rt; matches!(answerer.tick(Moment(62_000))?, Due::Expired));
     has_ended(&rt, &answerer, true);
@@ -199,9 +235,7 @@ fn a_notification_waits_for_the_one_before(rt: HostRuntime) -> Result<(), AllocE
     assert!(rt; answerer.ready(Moment(1), OTHER)?);
     is_nothing(&rt, &mut answerer, 2, CLIENT, EMPTY_ACK)?;
     assert!(rt; answerer.ended().is_none());
-    assert_eq!(rt; notify(&rt, &mut answerer, 2, CLIENT)?, Id(1));
-    is_sent(&rt, &mut answerer, CLIENT, NOTIFICATION_1);
-    Ok(())
+    notify_again(&rt, &mut answerer, 2)
 }
 
 #[test]
@@ -235,10 +269,9 @@ fn a_deferred_request_waits_for_the_notification(rt: HostRuntime) -> Result<(), 
     is_sent(&rt, &mut answerer, CLIENT, EMPTY_ACK);
     assert_eq!(rt; notify(&rt, &mut answerer, 0, CLIENT)?, Id(0));
     is_sent(&rt, &mut answerer, CLIENT, NOTIFICATION);
-    assert!(rt; matches!(answerer.tick(Moment(1))?, Due::Idle));
+    is_idle(&rt, &mut answerer, 1)?;
     is_nothing(&rt, &mut answerer, 1, CLIENT, EMPTY_ACK)?;
-    assert!(rt; matches!(answerer.tick(Moment(1))?, Due::Ready(_)));
-    Ok(())
+    is_ready(&rt, &mut answerer, 1)
 }
 
 /// Asks whether a notification could be sent to the other endpoint, and then answers the request.
@@ -280,7 +313,7 @@ fn notify_in_vain<R: Abort + AllocGlobal>(
     assert!(rt; answerer.ended().is_none());
     assert_eq!(rt; notify(rt, answerer, 2, CLIENT)?, Id(1));
     answerer.undo();
-    assert!(rt; answerer.next_out().is_none());
+    is_silent(rt, answerer);
     Ok(())
 }
 
@@ -292,7 +325,5 @@ fn a_notification_is_taken_back(rt: HostRuntime) -> Result<(), AllocError> {
     notify_in_vain(&rt, &mut answerer)?;
     has_ended(&rt, &answerer, true);
     assert_eq!(rt; answerer.clock(), Moment(1));
-    assert_eq!(rt; notify(&rt, &mut answerer, 1, CLIENT)?, Id(1));
-    is_sent(&rt, &mut answerer, CLIENT, NOTIFICATION_1);
-    Ok(())
+    notify_again(&rt, &mut answerer, 1)
 }

@@ -136,6 +136,21 @@ fn asks<R: Abort + AllocGlobal>(
     assert_eq!(rt; ask(rt, asker, now, cancelled), Ok(token(rt, number)));
 }
 
+/// Nothing is to be sent.
+fn is_silent<R: Abort + AllocGlobal>(rt: &R, asker: &mut Asker<Global>) {
+    assert!(rt; asker.next_out().is_none());
+}
+
+/// The token of this number is kept, or not.
+fn keeps<R: Abort>(rt: &R, asker: &mut Asker<Global>, number: u8, kept: bool) {
+    assert_eq!(rt; asker.keep(&token(rt, number)), kept);
+}
+
+/// The token of this number was kept and is no more, or was not.
+fn releases<R: Abort>(rt: &R, asker: &mut Asker<Global>, number: u8, was: bool) {
+    assert_eq!(rt; asker.release(&token(rt, number)), was);
+}
+
 fn take_step<R: Abort + AllocGlobal>(
     rt: &R,
     asker: &mut Asker<Global>,
@@ -147,10 +162,10 @@ fn take_step<R: Abort + AllocGlobal>(
         Step::Runs(now) => assert_eq!(rt; ask(rt, asker, now, None), Err(AskRefusal::Running)),
         Step::Gets(now, from, bytes, tells) => gets(rt, asker, now, from, bytes, tells)?,
         Step::Sends(to, bytes) => is_sent(rt, asker, to, bytes),
-        Step::IsSilent => assert!(rt; asker.next_out().is_none()),
+        Step::IsSilent => is_silent(rt, asker),
         Step::Ticks(now, tick) => ticks(rt, asker, now, tick)?,
-        Step::Keeps(number, kept) => assert_eq!(rt; asker.keep(&token(rt, number)), kept),
-        Step::Releases(number, was) => assert_eq!(rt; asker.release(&token(rt, number)), was),
+        Step::Keeps(number, kept) => keeps(rt, asker, number, kept),
+        Step::Releases(number, was) => releases(rt, asker, number, was),
     }
     Ok(())
 }

@@ -152,6 +152,11 @@ fn is_sent<R: Abort + AllocGlobal>(
     assert_eq!(rt; datagram.bytes(), bytes);
 }
 
+/// Nothing is to be sent.
+fn is_silent<R: Abort + AllocGlobal>(rt: &R, answerer: &mut Answerer<Global>) {
+    assert!(rt; answerer.next_out().is_none());
+}
+
 /// The datagram brings no request.
 pub(super) fn is_nothing<R: Abort + AllocGlobal>(
     rt: &R,
@@ -181,7 +186,7 @@ fn answer_in_vain<R: Abort + AllocGlobal>(
 ) -> Result<(), AllocError> {
     answer(rt, answerer, 0, CLIENT, GET_T)?;
     answerer.undo();
-    assert!(rt; answerer.next_out().is_none());
+    is_silent(rt, answerer);
     Ok(())
 }
 
@@ -192,7 +197,7 @@ fn defer_in_vain<R: Abort + AllocGlobal>(
 ) -> Result<(), AllocError> {
     assert!(rt; defer(rt, answerer, 0, CLIENT, GET_T, 1_000)?);
     answerer.undo();
-    assert!(rt; answerer.next_out().is_none());
+    is_silent(rt, answerer);
     Ok(())
 }
 
@@ -203,7 +208,7 @@ fn respond_in_vain<R: Abort + AllocGlobal>(
 ) -> Result<(), AllocError> {
     assert_eq!(rt; respond(rt, answerer, 1_000)?, Id(0));
     answerer.undo();
-    assert!(rt; answerer.next_out().is_none());
+    is_silent(rt, answerer);
     Ok(())
 }
 
@@ -236,7 +241,7 @@ fn take_step<R: Abort + AllocGlobal>(
         Step::Notifies(now, id) => assert_eq!(rt; notify(rt, answerer, now)?, Id(id)),
         Step::Ignores(now, from, bytes) => is_nothing(rt, answerer, now, from, bytes)?,
         Step::Sends(to, bytes) => is_sent(rt, answerer, to, bytes),
-        Step::IsSilent => assert!(rt; answerer.next_out().is_none()),
+        Step::IsSilent => is_silent(rt, answerer),
         Step::Ticks(now, tick) => ticks(rt, answerer, now, tick)?,
         Step::Ended(observe) => has_ended(rt, answerer, observe),
         Step::NoneEnded => assert!(rt; answerer.ended().is_none()),
