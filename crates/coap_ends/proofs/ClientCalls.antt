@@ -1,10 +1,10 @@
-pub mod QueueLemmas
 pub mod ClientHappening
 pub mod GoodOptions
 pub mod AskableRequests
 pub mod ClientWatched
 pub mod ResponseLemmas
 pub mod HeldLemmas
+pub mod LiveLemmas
 pub mod FetchingLemmas
 pub mod NoticingLemmas
 pub mod AnsweringLemmas

@@ -1,4 +1,3 @@
-pub mod Queued
 pub mod CallShown
 pub mod ClientSends
 pub mod ClientShown

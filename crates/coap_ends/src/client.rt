@@ -1,5 +1,4 @@
 //! The client (RFC 7252, section 5; RFC 7641; RFC 7959).
-mod call_queue;
 mod cancelling;
 mod end;
 mod failing;

@@ -7,31 +7,24 @@ use Rattle.std.specs.Cmp.{unsigned_Decides}
 use Rattle.std.specs.Option.{option_map}
 use Rattle.coap_block.specs.declared.fetch_progress.Asked.{Asked}
 use Rattle.coap_exchange.specs.AskerTrace as E
-use Rattle.coap_ends.specs.ClientSide.ClientOwn.{Operation, Fetching, Notified, Observation, Own}
+use Rattle.coap_ends.specs.ClientSide.ClientOwn.{Operation, Fetching, Dropped, Notified, Observation, Own}
 use Rattle.coap_ends.specs.ClientSide.ClientObservations.{dropped, is_cancel_of, observation_of, observed_path, over}
 use Rattle.coap_ends.specs.ClientSide.ClientObservations.{with_rest}
 use Rattle.coap_ends.specs.ClientSide.ClientObserving.{releases}
 use Rattle.coap_ends.specs.ClientSide.ClientRequests.{block2_option, get, message_of, path_options}
 use Rattle.coap_ends.specs.ClientSide.ClientPlaces.{hit, in_observations}
-use Rattle.coap_ends.specs.ClientObject.Queued.{is_cancel}
-use Rattle.coap_ends.specs.declared.client.call_queue.Queued.{Queued}
-use Rattle.coap_ends.specs.declared.client.call_queue.Queued.TheVariants.{Starts, Cancels}
+use Rattle.coap_operations.specs.Listed.{Listed, is_cancel, without_fetch}
+use Rattle.coap_operations.specs.declared.running.Running.{Running}
+use Rattle.coap_operations.specs.declared.running.Running.TheVariants as running_of
+use Rattle.coap_operations.specs.declared.queued.Queued.{Queued}
+use Rattle.coap_operations.specs.declared.queued.Queued.TheVariants.{Starts, Cancels}
+use Rattle.coap_ends.specs.declared.client.held.Held.{Held}
 use Rattle.coap_ends.specs.declared.client.operation.Waiting as W
 use Rattle.coap_ends.specs.declared.client.operation.Waiting.TheVariants as waiting
 use Rattle.coap_ends.specs.declared.client.operation.Observation as B
 use Rattle.coap_ends.specs.ClientObject.ClientHappens.{Apart, releasing, resting, running}
-use Rattle.coap_ends.specs.ClientObject.ClientShown.{shown_observation, shown_queued}
-
-pub shown_without : {A : Type 0} (number : ℕ) (os : List (B.Observation A)) → map shown_observation (filter (λ o. not (o.number == number)) os) ≡ filter (λ o. not (o.number == number)) (map shown_observation os)
-shown_without number [] = refl
-shown_without number (o ∷ os) = by (shown_without number os) (not (o.number == number))
-  where
-    by : map shown_observation (filter (λ o. not (o.number == number)) os) ≡ filter (λ o. not (o.number == number)) (map shown_observation os) → (b : Bool) → map shown_observation (cond b (o ∷ filter (λ o. not (o.number == number)) os) (filter (λ o. not (o.number == number)) os)) ≡ cond b (shown_observation o ∷ filter (λ o. not (o.number == number)) (map shown_observation os)) (filter (λ o. not (o.number == number)) (map shown_observation os))
-    by ih true = ap (λ l. shown_observation o ∷ l) ih
-    by ih false = ih
-
-pub shown_kept : {A : Type 0} (number : ℕ) (os new : List (B.Observation A)) → new ≡ filter (λ o. not (o.number == number)) os → map shown_observation new ≡ filter (λ o. not (o.number == number)) (map shown_observation os)
-shown_kept number os new is = ap (λ l. map shown_observation l) is ∙ shown_without number os
+use Rattle.coap_ends.specs.ClientObject.ClientHeld.{own_of}
+use Rattle.coap_ends.specs.ClientObject.ClientShown.{shown_observation, shown_operation, shown_queued}
 
 same_cancel : {A : Type 0} (number : ℕ) (q : Queued (W.Waiting A)) → is_cancel number q ≡ is_cancel_of number (shown_queued q)
 same_cancel number (Starts (waiting.Calling n c)) = refl
@@ -58,24 +51,6 @@ none_set number rest (o ∷ os) h = by (none_set number rest os) (o.number == nu
     by : (in_observations number os ≤ 0 → with_rest number rest os ≡ os) → (b : Bool) → cond b 1 0 + in_observations number os ≤ 0 → cond b (record o { rest = rest }) o ∷ with_rest number rest os ≡ o ∷ os
     by ih true h = absurd (omega (arith, h))
     by ih false h = ap (λ l. o ∷ l) (ih (omega (arith, h)))
-
-first_set_so : (number : ℕ) (rest : Option Notified) (o : Observation) (os : List Observation) → (o.number == number) ≡ true → in_observations number (o ∷ os) ≤ 1
-    → (record o { rest = rest }) ∷ os ≡ with_rest number rest (o ∷ os)
-first_set_so number rest o os is h =
-    let none : in_observations number os ≤ 0 = (let a = ap (λ b. cond b 1 0 + in_observations number os) is in omega (arith, a, h)) in
-    ap (λ l. (record o { rest = rest }) ∷ l) (sym (none_set number rest os none)) ∙ ap (λ b. cond b (record o { rest = rest }) o ∷ with_rest number rest os) (sym is)
-
--- the first with the number, where there is one at most
-pub first_set : (number : ℕ) (rest : Option Notified) (o new : Observation) (os : List Observation) → (o.number == number) ≡ true → in_observations number (o ∷ os) ≤ 1 → new ≡ record o { rest = rest }
-    → new ∷ os ≡ with_rest number rest (o ∷ os)
-first_set number rest o new os is h new_is =
-    ap (λ p. p ∷ os) new_is ∙ first_set_so number rest o os is h
-
-pub other_set : (number : ℕ) (rest : Option Notified) (o : Observation) (os new : List Observation) → (o.number == number) ≡ false → new ≡ with_rest number rest os → o ∷ new ≡ with_rest number rest (o ∷ os)
-other_set number rest o os new is h = ap (λ l. o ∷ l) h ∙ ap (λ b. cond b (record o { rest = rest }) o ∷ with_rest number rest os) (sym is)
-
-pub fewer_behind : (number : ℕ) (o : Observation) (os : List Observation) → in_observations number (o ∷ os) ≤ 1 → in_observations number os ≤ 1
-fewer_behind number o os h = omega (arith, h)
 
 -- what is set is found
 
@@ -158,12 +133,32 @@ releasing_is (Some o) = refl
 pub seen_cancels : {A : Type 0} (number : ℕ) (old new : List (Queued (W.Waiting A))) → new ≡ filter (λ q. not (is_cancel number q)) old → map shown_queued new ≡ filter (λ op. not (is_cancel_of number op)) (map shown_queued old)
 seen_cancels number old new is = ap (λ l. map shown_queued l) is ∙ queue_over number old
 
--- a vector whose elements were worked on
-pub rejoin : {X : Type 0} (len : ℕ) (new rest : List X) → len ≡ length new → take len (new ++ rest) ≡ new
-rejoin len new rest is = ap (λ k. take k (new ++ rest)) is ∙ take-append_seam new rest
+-- what is fetched no longer counts
+pub dropped_shown : {A : Type 0} (number : ℕ) (r : Option (Running (W.Waiting A))) → dropped number (option_map shown_operation r) ≡ option_map shown_operation (without_fetch number r)
+dropped_shown number None = refl
+dropped_shown number (Some (running_of.Started (waiting.Calling n c))) = refl
+dropped_shown number (Some (running_of.Started (waiting.Registering n path))) = refl
+dropped_shown {A} number (Some (running_of.Fetching n)) = by (n == number)
+  where
+    by : (b : Bool) → cond b (Some Dropped) (Some (Fetching n)) ≡ option_map (shown_operation {A = A}) (cond b (Some running_of.Dropped) (Some (running_of.Fetching n)))
+    by true = refl
+    by false = refl
+dropped_shown number (Some (running_of.Cancelling n)) = refl
+dropped_shown number (Some running_of.Dropped) = refl
 
--- the first of a list
+-- only the live observations are others
+module _ {A : Type 0} (h : Held A) (v : Listed (W.Waiting A) (B.Observation A)) (same : v ≡ record h.operations { live = v.live }) where
+  pub taken_own : own_of (record h { operations = v }) ≡ record (own_of h) { observations = map shown_observation v.live }
+  taken_own = ap (λ o. own_of (record h { operations = o })) same
 
-pub first_put : (number : ℕ) (rest : Option Notified) (o new : Observation) (os all : List Observation) → all ≡ o ∷ os → o.number ≡ number → in_observations number all ≤ 1 → new ≡ record o { rest = rest } → new ∷ os ≡ with_rest number rest all
-first_put number rest o new os all is here one new_is =
-    first_set number rest o new os ((unsigned_Decides o.number number).1 here) (subst (λ l. in_observations number l ≤ 1) is one) new_is ∙ ap (with_rest number rest) (sym is)
+  -- .. and nothing runs
+  pub idle_own : h.operations.running ≡ None → own_of (record h { operations = v }) ≡ record (own_of h) { running = None; observations = map shown_observation v.live }
+  idle_own idle = taken_own ∙ ap (λ r. record (own_of h) { running = option_map shown_operation r; observations = map shown_observation v.live }) idle
+
+  -- .. and a fetch runs again
+  pub fetched_own : (number : ℕ) (set new : Listed (W.Waiting A) (B.Observation A)) → set ≡ record v { live = set.live } → new ≡ record set { running = Some (running_of.Fetching number) }
+      → own_of (record h { operations = new }) ≡ record (own_of h) { running = Some (Fetching number); observations = map shown_observation set.live }
+  fetched_own number set new set_is new_is =
+      ap (λ o. own_of (record h { operations = o })) new_is
+      ∙ (ap (λ (o : Listed (W.Waiting A) (B.Observation A)). own_of (record h { operations = record o { running = Some (running_of.Fetching number) } })) set_is
+      ∙ ap (λ (o : Listed (W.Waiting A) (B.Observation A)). own_of (record h { operations = record o { live = set.live; running = Some (running_of.Fetching number) } })) same)

@@ -109,6 +109,15 @@ found_by token told os l r v is same list value = ap (λ k. observation_with tok
 pub watched_one : (number n : ℕ) (w : Mark) (os : List Observation) → in_observations n os ≤ 1 → in_observations n (setting number (watching w) os) ≤ 1
 watched_one number n w os h = let a = watched_number number n w os in omega (arith, a, h)
 
+-- .. of what is live
+pub watched_is : {B : Type 0} (f : B → Observation) (number : ℕ) (w : Mark) (seen : List Observation) (old new : List B) → new ≡ old → seen ≡ setting number (watching w) (map f new) → seen ≡ setting number (watching w) (map f old)
+watched_is f number w seen old new is h = h ∙ ap (λ l. setting number (watching w) (map f l)) is
+
+-- what waits is as before
+pub as_queued : (s own : Own) (queue : List Operation) (running : Option Operation) (os : List Observation) (report : Option Reported) → queue ≡ s.queue
+    → own ≡ reporting (record { own = record s { queue = queue; running = running; observations = os }; report = report; deed = Rests }) → own ≡ reporting (record { own = record s { running = running; observations = os }; report = report; deed = Rests })
+as_queued s own queue running os report is h = h ∙ ap (λ q. reporting (record { own = record s { queue = q; running = running; observations = os }; report = report; deed = Rests })) is
+
 pub renewed_own : (number : ℕ) (w : Mark) (m : Message) (s first : Own) (running : Option Operation) (seen set : List Observation) (r : Option Notified) (report : Option Reported) (own : Own) → first ≡ s → running ≡ dropped number first.running
     → seen ≡ setting number (watching w) first.observations → set ≡ with_rest number r seen → r ≡ first_rest s.szx m → report ≡ first_value number s.szx m
     → own ≡ reporting (record { own = record first { running = running; observations = set }; report = report; deed = Rests }) → own ≡ renewing number w m s

@@ -5,9 +5,9 @@ use Rattle.std.specs.Prelude.{is_some}
 use Rattle.std.specs.Option.{option_map}
 use Rattle.std.proofs.lemmas.List.{append-nil}
 use Rattle.coap_exchange.specs.AskerLaw as X
-use Rattle.coap_ends.specs.declared.client.call_queue.Queued.{Queued}
-use Rattle.coap_ends.specs.declared.client.call_queue.Queued.TheVariants.{Starts, Cancels}
-use Rattle.coap_ends.specs.ClientObject.Queued.{first_cancel, first_operation}
+use Rattle.coap_operations.specs.declared.queued.Queued.{Queued}
+use Rattle.coap_operations.specs.declared.queued.Queued.TheVariants.{Starts, Cancels}
+use Rattle.coap_operations.specs.Listed.{first_runs}
 use Rattle.coap_ends.specs.ClientSide.ClientTrace.{Report}
 use Rattle.coap_ends.specs.ClientSide.ClientOwn.{Transfer, Observation, Operation, Calling, Registering, Fetching}
 use Rattle.coap_ends.specs.ClientSide.ClientOwn.{Cancelling, Dropped, Own, clocked}
@@ -18,7 +18,7 @@ use Rattle.coap_ends.specs.ClientSide.ClientObserving.{releases}
 use Rattle.coap_ends.specs.ClientSide.ClientSteps.{asking, asks}
 use Rattle.coap_ends.specs.declared.client.operation.Waiting.{Waiting}
 use Rattle.coap_ends.specs.ClientObject.ClientHappens.{Comes, left}
-use Rattle.coap_ends.specs.ClientObject.ClientShown.{shown_queued, shown_waiting}
+use Rattle.coap_ends.specs.ClientObject.ClientShown.{shown_operation, shown_queued, shown_waiting}
 use Rattle.coap_ends.proofs.ClientCalls.ClientHappening.{AsksNothing, rests_happens}
 use Rattle.coap_ends.specs.ClientObject.Starts.{may_start}
 
@@ -90,18 +90,34 @@ shown_none f (Some x) h = absurd (cc h)
 
 -- the first of what waits
 
+pub may_some : (m : ℕ) (s : Own) (q : List Operation) → may_start m s q ≡ true → (op : Operation) × (slice_get q 0 ≡ Some op)
+may_some m s [] h = absurd (cc h)
+may_some m s (op ∷ q) h = (op, refl)
+
 module _ {A : Type 0} where
-  pub may_first : (m : ℕ) (s : Own) (q : List (Queued (Waiting A))) (w : Waiting A) → first_operation q ≡ Some w → may_start m s (map shown_queued q) ≡ not (is_upload_op (shown_waiting w) && is_held s m)
+  pub first_runs_shown : (q : List (Queued (Waiting A))) → option_map shown_operation (first_runs q) ≡ slice_get (map shown_queued q) 0
+  first_runs_shown [] = refl
+  first_runs_shown (Starts w ∷ q) = refl
+  first_runs_shown (Cancels n ∷ q) = refl
+
+  pub drop_shown : (q : List (Queued (Waiting A))) → map shown_queued (drop 1 q) ≡ drop 1 (map shown_queued q)
+  drop_shown [] = refl
+  drop_shown (x ∷ q) = refl
+
+  pub may_first : (m : ℕ) (s : Own) (q : List (Queued (Waiting A))) (w : Waiting A) → slice_get q 0 ≡ Some (Starts w) → may_start m s (map shown_queued q) ≡ not (is_upload_op (shown_waiting w) && is_held s m)
   may_first m s [] w e = absurd (cc e)
-  may_first m s (Cancels n ∷ q) w e = absurd (cc e)
-  may_first m s (Starts t ∷ q) w e = ap (λ (o : Option (Waiting A)). elim o [ None ↦ false | Some u ↦ not (is_upload_op (shown_waiting u) && is_held s m) ]) e
+  may_first m s (x ∷ q) w e =
+      let is : x ≡ Starts w = cc e in ap (λ y. may_start m s (map shown_queued (y ∷ q))) is
 
-  pub may_cancel : (m : ℕ) (s : Own) (q : List (Queued (Waiting A))) → first_operation q ≡ None → is_some (first_cancel q) ≡ may_start m s (map shown_queued q)
-  may_cancel m s [] e = refl
-  may_cancel m s (Cancels n ∷ q) e = refl
-  may_cancel m s (Starts t ∷ q) e = absurd (cc e)
+  pub may_cancel : (m : ℕ) (s : Own) (q : List (Queued (Waiting A))) (n : ℕ) → slice_get q 0 ≡ Some (Cancels n) → true ≡ may_start m s (map shown_queued q)
+  may_cancel m s [] n e = absurd (cc e)
+  may_cancel m s (x ∷ q) n e =
+      let is : x ≡ Cancels n = cc e in ap (λ y. may_start m s (map shown_queued (y ∷ q))) (sym is)
 
-  pub cancel_first : (q : List (Queued (Waiting A))) (n : ℕ) (op : Operation) → first_cancel q ≡ Some n → slice_get (map shown_queued q) 0 ≡ Some op → op ≡ Cancelling n
-  cancel_first [] n op e h = absurd (cc e)
-  cancel_first (Starts t ∷ q) n op e h = absurd (cc e)
-  cancel_first (Cancels k ∷ q) n op e h = cc (e, h)
+  pub may_nothing : (m : ℕ) (s : Own) (q : List (Queued (Waiting A))) → slice_get q 0 ≡ None → false ≡ may_start m s (map shown_queued q)
+  may_nothing m s [] e = refl
+  may_nothing m s (x ∷ q) e = absurd (cc e)
+
+  pub first_shown : (q : List (Queued (Waiting A))) (x : Queued (Waiting A)) (op : Operation) → slice_get q 0 ≡ Some x → slice_get (map shown_queued q) 0 ≡ Some op → op ≡ shown_queued x
+  first_shown [] x op e h = absurd (cc e)
+  first_shown (y ∷ q) x op e h = let is : y ≡ x = cc e in let here : shown_queued y ≡ op = cc h in sym here ∙ ap shown_queued is

@@ -6,9 +6,9 @@ use Rattle.std.specs.List.{list_any}
 use Rattle.std.proofs.lemmas.List.Folds.{list_any-append}
 use Rattle.std.proofs.lemmas.List.{length-append}
 use Rattle.std.proofs.lemmas.List.Elements.{filter-append}
-use Rattle.coap_ends.specs.declared.client.call_queue.Queued.{Queued}
-use Rattle.coap_ends.specs.declared.client.call_queue.Queued.TheVariants.{Starts, Cancels}
-use Rattle.coap_ends.specs.ClientObject.Queued.{is_cancel, operations_of}
+use Rattle.coap_operations.specs.declared.queued.Queued.{Queued}
+use Rattle.coap_operations.specs.declared.queued.Queued.TheVariants.{Starts, Cancels}
+use Rattle.coap_operations.specs.Listed.{is_cancel}
 use Rattle.coap_ends.specs.ClientSide.ClientOwn.{Operation}
 use Rattle.coap_ends.specs.ClientSide.ClientObservations.{is_cancel_of, observation_of}
 use Rattle.coap_ends.specs.ClientSide.ClientQueue.{is_registration}
@@ -16,7 +16,6 @@ use Rattle.coap_ends.specs.declared.client.operation.Observation as B
 use Rattle.coap_ends.specs.declared.client.operation.Waiting.{Waiting}
 use Rattle.coap_ends.specs.declared.client.operation.Waiting.TheVariants as waiting
 use Rattle.coap_ends.specs.ClientObject.ClientShown.{shown_observation, shown_queued, shown_waiting}
-use Rattle.coap_ends.specs.ClientObject.CallAnswers.{has_number}
 
 -- of what an Ok has
 
@@ -33,23 +32,14 @@ length_map f [] = refl
 length_map f (x ∷ xs) = ap suc (length_map f xs)
 
 module _ {A : Type 0} where
-  -- the registrations that wait are those of the operations that wait
-  pub registrations_wait : (q : List (Queued (Waiting A))) → length (filter is_registration (map shown_queued q)) ≡ length (filter (λ w. is_registration (shown_waiting w)) (operations_of q))
-  registrations_wait [] = refl
-  registrations_wait (Starts (waiting.Calling n c) ∷ q) = registrations_wait q
-  registrations_wait (Starts (waiting.Registering n p) ∷ q) = ap suc (registrations_wait q)
-  registrations_wait (Cancels n ∷ q) = registrations_wait q
-
-  -- .. or run
-  pub registrations_are : (running : List Operation) (q : List (Queued (Waiting A))) → length (filter is_registration (running ++ map shown_queued q)) ≡ length (filter is_registration running) + length (filter (λ w. is_registration (shown_waiting w)) (operations_of q))
-  registrations_are running q =
-      ap length (filter-append is_registration running (map shown_queued q)) ∙ (length-append (filter is_registration running) (filter is_registration (map shown_queued q))
-      ∙ ap (λ k. length (filter is_registration running) + k) (registrations_wait q))
-
+  -- the registrations that run, wait and are live
   pub observed_is : (running : List Operation) (q : List (Queued (Waiting A))) (os : List (B.Observation A))
-      → length (filter is_registration running) + length (filter (λ w. is_registration (shown_waiting w)) (operations_of q)) + length os
+      → length (filter is_registration running) + length (filter is_registration (map shown_queued q)) + length os
       ≡ length (filter is_registration (running ++ map shown_queued q)) + length (map shown_observation os)
-  observed_is running q os = let e = registrations_are running q in let l = length_map (shown_observation {A = A}) os in grind (arith, e, l)
+  observed_is running q os =
+      let e = ap length (filter-append is_registration running (map shown_queued q)) ∙ length-append (filter is_registration running) (filter is_registration (map shown_queued q)) in
+      let l = length_map (shown_observation {A = A}) os in
+      grind (arith, e, l)
 
   -- a cancel waits by its key
   pub cancels_wait : (number : ℕ) (q : List (Queued (Waiting A))) → list_any (is_cancel_of number) (map shown_queued q) ≡ list_any (is_cancel number) q
@@ -62,13 +52,3 @@ module _ {A : Type 0} where
   pub cancels_are : (number : ℕ) (running : List Operation) (q : List (Queued (Waiting A))) → list_any (is_cancel_of number) (running ++ map shown_queued q) ≡ (list_any (is_cancel_of number) running || list_any (is_cancel number) q)
   cancels_are number running q =
       list_any-append (is_cancel_of number) running (map shown_queued q) ∙ ap (λ b. list_any (is_cancel_of number) running || b) (cancels_wait number q)
-
-  -- an observation is live that is there
-  pub live_is : (number : ℕ) (os : List (B.Observation A)) → is_some (observation_of number (map shown_observation os)) ≡ list_any (has_number number) os
-  live_is number [] = refl
-  live_is number (o ∷ os) = by (o.number == number) (live_is number os)
-    where
-      by : (b : Bool) → is_some (observation_of number (map shown_observation os)) ≡ list_any (has_number number) os
-          → is_some (cond b (Some (shown_observation o)) (observation_of number (map shown_observation os))) ≡ (b || list_any (has_number number) os)
-      by true h = refl
-      by false h = h

@@ -13,9 +13,9 @@ module _ {A : Type 0} where
         clock = h.clock;
         szx = h.szx;
         taken = h.taken;
-        queue = map shown_queued h.queue;
-        running = option_map shown_operation h.running;
-        observations = map shown_observation h.observations.items;
+        queue = map shown_queued h.operations.queue;
+        running = option_map shown_operation h.operations.running;
+        observations = map shown_observation h.operations.live;
         sent = h.sent;
         hold = h.hold;
         reports = map shown_reported h.reports.items;

@@ -7,10 +7,10 @@ use Rattle.coap_ends.specs.ClientSide.ClientTrace.{Cancelled, Failed, Timeout, R
 use Rattle.coap_ends.specs.ClientSide.ClientTrace.{NoTag, TooLarge, NoIds}
 use Rattle.coap_ends.specs.ClientSide.ClientOwn.{Operation, Calling, Registering, Fetching, Cancelling, Dropped}
 use Rattle.coap_ends.specs.ClientSide.ClientOwn.{Notified, Observation}
-use Rattle.coap_ends.specs.declared.client.call_queue.Queued.{Queued}
-use Rattle.coap_ends.specs.declared.client.call_queue.Queued.TheVariants.{Starts, Cancels}
-use Rattle.coap_ends.specs.declared.client.operation.Operation as O
-use Rattle.coap_ends.specs.declared.client.operation.Operation.TheVariants as operation
+use Rattle.coap_operations.specs.declared.queued.Queued.{Queued}
+use Rattle.coap_operations.specs.declared.queued.Queued.TheVariants.{Starts, Cancels}
+use Rattle.coap_operations.specs.declared.running.Running.{Running}
+use Rattle.coap_operations.specs.declared.running.Running.TheVariants as running
 use Rattle.coap_ends.specs.declared.client.operation.Waiting as W
 use Rattle.coap_ends.specs.declared.client.operation.Waiting.TheVariants as waiting
 use Rattle.coap_ends.specs.declared.client.operation.Notified as N
@@ -20,17 +20,17 @@ use Rattle.coap_ends.specs.declared.client.report.Report as R
 use Rattle.coap_ends.specs.declared.client.report.Report.TheVariants as report
 
 module _ {A : Type 0} where
-  abbrev pub shown_operation : O.Operation A → Operation
-  shown_operation (operation.Calling number c) = Calling number c.request c.transfer
-  shown_operation (operation.Registering number path) = Registering number path
-  shown_operation (operation.Fetching number) = Fetching number
-  shown_operation (operation.Cancelling number) = Cancelling number
-  shown_operation operation.Dropped = Dropped
-
-  -- what waits
+  -- what waits or runs
   abbrev pub shown_waiting : W.Waiting A → Operation
   shown_waiting (waiting.Calling number c) = Calling number c.request c.transfer
   shown_waiting (waiting.Registering number path) = Registering number path
+
+  -- what runs
+  abbrev pub shown_operation : Running (W.Waiting A) → Operation
+  shown_operation (running.Started w) = shown_waiting w
+  shown_operation (running.Fetching number) = Fetching number
+  shown_operation (running.Cancelling number) = Cancelling number
+  shown_operation running.Dropped = Dropped
 
   abbrev pub shown_queued : Queued (W.Waiting A) → Operation
   shown_queued (Starts w) = shown_waiting w

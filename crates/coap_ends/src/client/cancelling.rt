@@ -28,9 +28,9 @@ pub fn cancel<A: Allocator + Copy>(
     if !is_live(held, id.0) || is_cancelled(held, id.0) {
         return Err(CancelRefusal::Unknown);
     }
-    if held.queue.len() >= MAX_WAITING_CALLS {
+    if held.operations.waiting_len() >= MAX_WAITING_CALLS {
         return Err(CancelRefusal::QueueFull);
     }
-    held.queue.push_cancel(id.0);
+    held.operations.push_cancel(id.0);
     Ok(())
 }

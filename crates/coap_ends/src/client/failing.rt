@@ -1,11 +1,12 @@
 //! How what runs ends without an answer, and how an observation ends.
-ghost use Rattle.std.specs.Prelude.{◌≡◌, ◌<◌, Some, if◌then◌else◌};
+ghost use Rattle.std.specs.Prelude.{◌≡◌, ◌<◌, ◌≤◌, Some};
 ghost use Rattle.std.specs.Option.{option_map};
 ghost use Rattle.std.specs.VecDeque.{deque_len, deque_capacity};
 ghost use Rattle.coap_ends.specs.ClientSide.ClientEffects.{ends, held_by, of};
 ghost use Rattle.coap_ends.specs.ClientSide.ClientObserving.{is_over, releases};
-ghost use Rattle.coap_ends.specs.ClientSide.ClientOwn.{Operation as Running, Dropped, operation_number};
-ghost use Rattle.coap_ends.specs.ClientSide.ClientObservations.{dropped, observation_of, over};
+ghost use Rattle.coap_ends.specs.ClientSide.ClientOwn.{Operation as Op, operation_number};
+ghost use Rattle.coap_ends.specs.ClientSide.ClientObservations.{observation_of, over};
+ghost use Rattle.coap_ends.specs.ClientSide.ClientPlaces.{in_observations};
 ghost use Rattle.coap_ends.specs.ClientSide.ClientSteps.{reporting};
 ghost use Rattle.coap_ends.specs.ClientObject.ClientHappens.{failing, left, releasing, Apart, IsDone, Closes};
 ghost use Rattle.coap_ends.specs.ClientObject.ClientHeld.{own_of};
@@ -13,11 +14,12 @@ ghost use Rattle.coap_ends.specs.ClientObject.ClientShown.{shown_asked, shown_op
 
 use crate::client::held::Held;
 use crate::client::observations;
-use crate::client::operation::Operation;
+use crate::client::operation::{ClientOperations, Waiting};
 use crate::client::report::{CallId, Report};
 use crate::client::reporting::give;
 use crate::client::taken_call::TakenCall;
 use coap_exchange::Asker;
+use coap_operations::Running;
 use coap_types::{Moment, Token};
 use std::alloc::Allocator;
 use std::hash::BuildHasher;
@@ -38,7 +40,7 @@ pub fn end_call<A: Allocator + Copy>(
     if unanswered && call.is_upload() {
         held.hold = Some(held.sent);
     }
-    held.running = None;
+    held.operations.finish();
     give(held, number, report);
 }
 
@@ -50,6 +52,7 @@ pub fn end_observation<A: Allocator + Copy, H: BuildHasher>(
     report: Report<A>,
 )
     requires room { deque_len held.old.reports < deque_capacity held.old.reports }
+    requires one { in_observations number (own_of held.old).observations ≤ 1 }
     ensures own { own_of held.new ≡ reporting (is_over number (shown_report report) (own_of held.old)) }
     ensures deed { IsDone asker.old.state (is_over number (shown_report report) (own_of held.old)).deed asker.new.state }
     ensures before { asker.new.before ≡ asker.old.before }
@@ -65,15 +68,16 @@ pub fn leave<A: Allocator + Copy, H: BuildHasher>(
     held: &mut Held<A>,
     number: u64,
 )
+    requires one { in_observations number (own_of held.old).observations ≤ 1 }
     ensures own { own_of held.new ≡ over number (own_of held.old) }
     ensures reports { held.new.reports ≡ held.old.reports }
     ensures deed { IsDone asker.old.state (releases (observation_of number (own_of held.old).observations)) asker.new.state }
     ensures before { asker.new.before ≡ asker.old.before }
 {
-    let_go(asker, observations::token_of(&held.observations, number));
-    held.queue.drop_cancel(number);
-    drop_fetch(&mut held.running, number);
-    observations::remove(&mut held.observations, number);
+    let_go(asker, observations::token_of(&held.operations, number));
+    held.operations.drop_cancel(number);
+    held.operations.drop_fetch(number);
+    observations::remove(&mut held.operations, number);
 }
 
 // A token is kept no more, if there is one.
@@ -83,29 +87,6 @@ fn let_go<A: Allocator + Copy, H: BuildHasher>(asker: &mut Asker<A, H>, token: O
 {
     if let Some(token) = token {
         let _kept = asker.release(&token);
-    }
-}
-
-/// What is fetched for the observation no longer counts.
-pub fn drop_fetch<A: Allocator + Copy>(running: &mut Option<Operation<A>>, number: u64)
-    ensures { option_map shown_operation running.new ≡ dropped number (option_map shown_operation running.old) }
-{
-    if is_fetch_of(running, number) {
-        *running = Some(Operation::Dropped);
-    }
-}
-
-// Whether something is fetched for the observation.
-fn is_fetch_of<A: Allocator + Copy>(running: &Option<Operation<A>>, number: u64) -> bool
-    ensures { dropped number (option_map shown_operation running.now) ≡ (if result then Some Dropped else option_map shown_operation running.now) }
-{
-    match running {
-        None => false,
-        Some(Operation::Calling(_, _)) => false,
-        Some(Operation::Registering(_, _)) => false,
-        Some(Operation::Fetching(other)) => *other == number,
-        Some(Operation::Cancelling(_)) => false,
-        Some(Operation::Dropped) => false,
     }
 }
 
@@ -123,17 +104,17 @@ pub fn fail<A: Allocator + Copy, H: BuildHasher>(
     ensures deed { IsDone asker.old.state (failing unsent (shown_report report) (own_of held.old)).deed asker.new.state }
     ensures before { asker.new.before ≡ asker.old.before }
 {
-    match held.running.take() {
-        None | Some(Operation::Dropped) => {}
-        Some(Operation::Calling(number, call)) => {
+    match held.operations.take_running() {
+        None | Some(Running::Dropped) => {}
+        Some(Running::Started(Waiting::Calling(number, call))) => {
             let unanswered = !unsent || call.has_sent();
             end_call(held, number, &call, unanswered, report);
         }
-        Some(Operation::Registering(number, _)) => give(held, number, report),
-        Some(Operation::Fetching(number)) => {
-            observations::set_rest(&mut held.observations, number, None);
+        Some(Running::Started(Waiting::Registering(number, _))) => give(held, number, report),
+        Some(Running::Fetching(number)) => {
+            observations::set_rest(&mut held.operations, number, None);
         }
-        Some(Operation::Cancelling(number)) => end_observation(asker, held, number, report),
+        Some(Running::Cancelling(number)) => end_observation(asker, held, number, report),
     }
 }
 
@@ -153,7 +134,7 @@ pub fn close<A: Allocator + Copy, H: BuildHasher>(
     match given {
         Some(token) => {
             held.sent = at.0;
-            Some((CallId(number_of(&held.running)?), token))
+            Some((CallId(number_of(&held.operations)?), token))
         }
         None => {
             fail(asker, held, true, Report::NoIds);
@@ -163,14 +144,14 @@ pub fn close<A: Allocator + Copy, H: BuildHasher>(
 }
 
 // The number of an operation.
-fn number_of<A: Allocator + Copy>(running: &Option<Operation<A>>) -> Option<u64>
-    ensures { (op : Running) → option_map shown_operation running.now ≡ Some op → result ≡ operation_number op }
+fn number_of<A: Allocator + Copy>(operations: &ClientOperations<A>) -> Option<u64>
+    ensures { (op : Op) → option_map shown_operation operations.now.running ≡ Some op → result ≡ operation_number op }
 {
-    match running.as_ref()? {
-        Operation::Calling(number, _)
-        | Operation::Registering(number, _)
-        | Operation::Fetching(number)
-        | Operation::Cancelling(number) => Some(*number),
-        Operation::Dropped => None,
+    match operations.running()? {
+        Running::Started(Waiting::Calling(number, _) | Waiting::Registering(number, _)) => {
+            Some(*number)
+        }
+        Running::Fetching(number) | Running::Cancelling(number) => Some(number),
+        Running::Dropped => None,
     }
 }

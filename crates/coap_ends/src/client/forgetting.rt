@@ -3,7 +3,7 @@ ghost use Rattle.std.specs.Prelude.{◌≡◌, ◌==◌, Bool, not, filter, map}
 ghost use Rattle.coap_ends.specs.ClientSide.ClientQueue.{may_forget};
 ghost use Rattle.coap_ends.specs.ClientSide.ClientStep.{Step};
 ghost use Rattle.coap_ends.specs.ClientSide.ClientTrace.{Forgets};
-ghost use Rattle.coap_ends.specs.ClientObject.ClientHappens.{left};
+ghost use Rattle.coap_ends.specs.ClientObject.ClientHappens.{Apart, left};
 ghost use Rattle.coap_ends.specs.ClientObject.ClientHeld.{own_of};
 ghost use Rattle.coap_ends.specs.ClientObject.ClientShown.{shown_reported};
 
@@ -24,6 +24,7 @@ pub fn forget<A: Allocator + Copy, H: BuildHasher>(
     held: &mut Held<A>,
     id: CallId,
 ) -> bool
+    requires apart { Apart (own_of held.old) }
     ensures step { (kept : Bool) × Step (left (own_of held.old) asker.old.state) (Forgets id.0 kept result) (left (own_of held.new) asker.new.state) }
     ensures before { asker.new.before ≡ asker.old.before }
 {

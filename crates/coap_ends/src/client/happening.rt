@@ -13,11 +13,12 @@ use crate::client::failing::{close, end_call, end_observation, fail};
 use crate::client::heard::Heard;
 use crate::client::held::Held;
 use crate::client::observing::{fetch_answered, noticed, registered};
-use crate::client::operation::Operation;
+use crate::client::operation::Waiting;
 use crate::client::report::{CallId, Report};
 use crate::client::taken_call::TakenCall;
 use coap_codec::View;
 use coap_exchange::{Asker, Event};
+use coap_operations::Running;
 use coap_types::{Moment, Token};
 use std::alloc::{AllocError, Allocator};
 use std::hash::BuildHasher;
@@ -115,18 +116,18 @@ fn answered<A: Allocator + Copy, H: BuildHasher>(
     ensures held { OnErr result (own_of held.new ≡ own_of held.old) }
     ensures before { asker.new.before ≡ asker.old.before }
 {
-    match held.running.take() {
+    match held.operations.take_running() {
         None => Ok(None),
-        Some(Operation::Dropped) => Ok(None),
-        Some(Operation::Calling(number, call)) => {
+        Some(Running::Dropped) => Ok(None),
+        Some(Running::Started(Waiting::Calling(number, call))) => {
             call_answered(asker, held, at, word, number, call, m)
         }
-        Some(Operation::Registering(number, path)) => {
+        Some(Running::Started(Waiting::Registering(number, path))) => {
             registered(asker, held, at, number, path, m)?;
             Ok(None)
         }
-        Some(Operation::Fetching(number)) => fetch_answered(asker, held, at, word, number, m),
-        Some(Operation::Cancelling(number)) => {
+        Some(Running::Fetching(number)) => fetch_answered(asker, held, at, word, number, m),
+        Some(Running::Cancelling(number)) => {
             end_observation(asker, held, number, Report::Cancelled);
             Ok(None)
         }
@@ -145,6 +146,8 @@ fn call_answered<A: Allocator + Copy, H: BuildHasher>(
 ) -> Result<Option<(CallId, Token)>, AllocError>
     requires room { deque_len held.old.reports < deque_capacity held.old.reports }
     requires apart { Apart (running (Calling number call.request call.transfer) (own_of held.old)) }
+    requires idle { held.old.operations.running ≡ None }
+    requires spare { 0 < held.old.operations.spare }
     ensures happens { IfOk result (λ asked. Happens asker.old.state (called number call.request call.transfer (own_of held.old) (answer call.request call.transfer m.now)) at.0 word (shown_asked asked) (left (own_of held.new) asker.new.state)) }
     ensures held { OnErr result (own_of held.new ≡ running (Calling number call.request call.transfer) (own_of held.old)) }
     ensures before { asker.new.before ≡ asker.old.before }
@@ -156,7 +159,7 @@ fn call_answered<A: Allocator + Copy, H: BuildHasher>(
         }
         Ok(Heard::Asks) => ask_next(asker, held, at, word, number, call),
         Err(refused) => {
-            held.running = Some(Operation::Calling(number, call));
+            held.operations.run(Waiting::Calling(number, call));
             Err(refused)
         }
     }
@@ -173,6 +176,8 @@ fn ask_next<A: Allocator + Copy, H: BuildHasher>(
 ) -> Result<Option<(CallId, Token)>, AllocError>
     requires room { deque_len held.old.reports < deque_capacity held.old.reports }
     requires apart { Apart (running (Calling number call.request call.transfer) (own_of held.old)) }
+    requires idle { held.old.operations.running ≡ None }
+    requires spare { 0 < held.old.operations.spare }
     requires before { IsSome call.before }
     ensures happens { IfOk result (λ asked. Happens asker.old.state (runs (Calling number call.request call.transfer) (own_of held.old)) at.0 word (shown_asked asked) (left (own_of held.new) asker.new.state)) }
     ensures held { OnErr result ((before : Transfer) → call.before ≡ Some before → own_of held.new ≡ running (Calling number call.request before) (own_of held.old)) }
@@ -180,12 +185,12 @@ fn ask_next<A: Allocator + Copy, H: BuildHasher>(
 {
     match call.send(asker, at, word) {
         Ok(given) => {
-            held.running = Some(Operation::Calling(number, call));
+            held.operations.run(Waiting::Calling(number, call));
             Ok(close(asker, held, at, given))
         }
         Err(refused) => {
             call.undo();
-            held.running = Some(Operation::Calling(number, call));
+            held.operations.run(Waiting::Calling(number, call));
             Err(refused)
         }
     }

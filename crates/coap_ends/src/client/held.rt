@@ -2,9 +2,9 @@ ghost use Rattle.std.specs.Prelude.{◌≡◌};
 ghost use Rattle.coap_ends.specs.ClientSide.ClientOwn.{start};
 ghost use Rattle.coap_ends.specs.ClientObject.ClientHeld.{own_of};
 
-use crate::client::call_queue::Queue;
-use crate::client::operation::{Observation, Operation, Waiting};
+use crate::client::operation::ClientOperations;
 use crate::client::report::{CallId, Report};
+use coap_operations::Operations;
 use coap_types::{Szx, Token};
 use std::alloc::{Allocator, Global};
 use std::collections::VecDeque;
@@ -18,12 +18,8 @@ pub struct Held<A: Allocator + Copy = Global> {
     pub szx: Szx,
     /// How many numbers were given.
     pub taken: u64,
-    /// The operations that wait.
-    pub queue: Queue<Waiting<A>, A>,
-    /// The operation that runs.
-    pub running: Option<Operation<A>>,
-    /// The live observations, in the order of their numbers.
-    pub observations: Vec<Observation<A>, A>,
+    /// What waits, what runs, and the live observations, in the order of their numbers.
+    pub operations: ClientOperations<A>,
     /// When the last datagram of the running operation was sent.
     pub sent: u64,
     /// .. of the upload that holds back others.
@@ -43,9 +39,7 @@ impl<A: Allocator + Copy> Held<A> {
             clock: 0,
             szx,
             taken: 0,
-            queue: Queue::new(alloc),
-            running: None,
-            observations: Vec::new(alloc),
+            operations: Operations::new(alloc),
             sent: 0,
             hold: None,
             reports: VecDeque::new(alloc),

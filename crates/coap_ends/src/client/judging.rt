@@ -22,11 +22,11 @@ pub(crate) fn judge_call<A: Allocator + Copy>(
     ensures answer { result ≡ call_answer (own_of held.now) (shown_request request.now) }
     ensures number { IfOk result (λ number. number ≡ held.now.taken) }
     ensures more { OnOk result (held.now.taken < 2 ^ 64 - 1) }
-    ensures room { OnOk result (length held.now.queue < MAX_WAITING_CALLS) }
+    ensures room { OnOk result (length held.now.operations.queue < MAX_WAITING_CALLS) }
     ensures short { OnOk result (is_long (shown_request request.now) ≡ false) }
     ensures memory { result ≢ Err refusals.Memory }
 {
-    if held.queue.len() >= MAX_WAITING_CALLS {
+    if held.operations.waiting_len() >= MAX_WAITING_CALLS {
         return Err(CallRefusal::QueueFull);
     }
     if request.body.len() > MAX_BODY_LEN {
@@ -49,11 +49,11 @@ pub(crate) fn judge_observation<A: Allocator + Copy>(
     ensures answer { result ≡ observe_answer (own_of held.now) path.now }
     ensures number { IfOk result (λ number. number ≡ held.now.taken) }
     ensures more { OnOk result (held.now.taken < 2 ^ 64 - 1) }
-    ensures room { OnOk result (length held.now.queue < MAX_WAITING_CALLS) }
+    ensures room { OnOk result (length held.now.operations.queue < MAX_WAITING_CALLS) }
     ensures short { OnOk result (is_long_path path.now ≡ false) }
     ensures memory { result ≢ Err refusals.Memory }
 {
-    if held.queue.len() >= MAX_WAITING_CALLS {
+    if held.operations.waiting_len() >= MAX_WAITING_CALLS {
         return Err(CallRefusal::QueueFull);
     }
     if long {

@@ -1,6 +1,5 @@
 //! What the notifications of a client's observations make of it (RFC 7641, sections 3.2 to 3.6).
-ghost use Rattle.std.specs.Prelude.{◌≡◌, ◌<◌, ◌≤◌, ◌++◌, ◌∷◌, [], ℕ, None, Some, true, false, is_some, IfOk, IsSome, OnOk, OnErr};
-ghost use Rattle.std.specs.Vec.{vec_len, vec_capacity};
+ghost use Rattle.std.specs.Prelude.{◌≡◌, ◌<◌, ◌≤◌, ◌++◌, ◌∷◌, [], ℕ, None, Some, true, false, is_some, length, IfOk, IsSome, OnOk, OnErr};
 ghost use Rattle.std.specs.VecDeque.{deque_len, deque_capacity};
 ghost use Rattle.std.specs.Option.{option_map};
 ghost use Rattle.coap_block.specs.FetchStep.{FetchState};
@@ -17,12 +16,12 @@ ghost use Rattle.coap_ends.specs.ClientObject.ClientHeld.{own_of};
 ghost use Rattle.coap_ends.specs.ClientObject.ClientShown.{reported, shown_asked, shown_rest};
 ghost use Rattle.coap_ends.specs.ClientObject.ClientSteps.{CanTakeBack, rest_by, value_by, verdict_on};
 
-use crate::client::failing::{close, drop_fetch, end_observation};
+use crate::client::failing::{close, end_observation};
 use crate::client::fetching::whole;
 use crate::client::heard::Part;
 use crate::client::held::Held;
 use crate::client::observations;
-use crate::client::operation::{Notified, Observation, Operation};
+use crate::client::operation::{Notified, Observation, Waiting};
 use crate::client::report::{CallId, Report};
 use crate::client::reporting::{give, give_some};
 use crate::client::request_options::bytes_in;
@@ -89,12 +88,13 @@ pub fn registered<A: Allocator + Copy, H: BuildHasher>(
     m: &View<'_>,
 ) -> Result<(), AllocError>
     requires room { deque_len held.old.reports < deque_capacity held.old.reports }
+    requires idle { held.old.operations.running ≡ None }
+    requires spare { 0 < held.old.operations.spare }
     ensures happens { (word : ℕ) → OnOk result (Happens asker.old.state (registered number path (own_of held.old) at.0 m.now) at.0 word None (left (own_of held.new) asker.new.state)) }
     ensures held { OnErr result (own_of held.new ≡ running (Registering number path) (own_of held.old)) }
     ensures before { asker.new.before ≡ asker.old.before }
 {
     let Some(sequence) = notified(m) else {
-        held.running = None;
         give(held, number, Report::Ended(m.code()));
         return Ok(());
     };
@@ -106,7 +106,7 @@ pub fn registered<A: Allocator + Copy, H: BuildHasher>(
             Ok(())
         }
         Err(refused) => {
-            held.running = Some(Operation::Registering(number, path));
+            held.operations.run(Waiting::Registering(number, path));
             Err(refused)
         }
     }
@@ -120,12 +120,13 @@ fn begin<A: Allocator + Copy>(
 ) -> Result<(Option<Notified<A>>, Option<Report<A>>), AllocError>
     ensures rest { sequence ≡ sequence_in m.now → IfOk result (λ r. option_map shown_rest r.0 ≡ first_rest held.old.szx m.now) }
     ensures value { (number : ℕ) → sequence ≡ sequence_in m.now → IfOk result (λ r. reported number r.1 ≡ first_value number held.old.szx m.now) }
-    ensures room { OnOk result (vec_len held.new.observations < vec_capacity held.new.observations) }
+    ensures room { OnOk result (length held.new.operations.live < held.new.operations.places) }
+    ensures operations { held.new.operations ≡ record held.old.operations { places = held.new.operations.places } }
     ensures reports { held.new.reports ≡ held.old.reports }
     ensures same { own_of held.new ≡ own_of held.old }
 {
-    held.observations.reserve(1)?;
-    let alloc = *held.observations.allocator();
+    held.operations.reserve_live()?;
+    let alloc = held.operations.allocator();
     first_part(alloc, held.szx, sequence, m)
 }
 
@@ -139,7 +140,9 @@ fn live<A: Allocator + Copy>(
     rest: Option<Notified<A>>,
     m: &View<'_>,
 ) -> Token
-    requires room { vec_len held.old.observations < vec_capacity held.old.observations }
+    requires room { length held.old.operations.live < held.old.operations.places }
+    requires idle { held.old.operations.running ≡ None }
+    requires spare { 0 < held.old.operations.spare }
     requires rest { option_map shown_rest rest ≡ first_rest held.old.szx m.now }
     requires sequence { sequence ≡ sequence_in m.now }
     ensures token { result ≡ m.now.token }
@@ -149,7 +152,6 @@ fn live<A: Allocator + Copy>(
     let token = token_in(m);
     let mut watch = Watch::new();
     let _first = watch.arrive(at, sequence);
-    held.running = None;
     let observation = Observation {
         number,
         path,
@@ -157,7 +159,7 @@ fn live<A: Allocator + Copy>(
         watch,
         rest,
     };
-    held.observations.push_reserved(observation);
+    held.operations.go_live(observation);
     token
 }
 
@@ -179,28 +181,24 @@ pub fn fetch_answered<A: Allocator + Copy, H: BuildHasher>(
 ) -> Result<Option<(CallId, Token)>, AllocError>
     requires room { deque_len held.old.reports < deque_capacity held.old.reports }
     requires apart { Apart (own_of held.old) }
+    requires idle { held.old.operations.running ≡ None }
     ensures happens { IfOk result (λ asked. Happens asker.old.state (fetch_answered number (rest_of number (own_of held.old).observations) (own_of held.old) m.now) at.0 word (shown_asked asked) (left (own_of held.new) asker.new.state)) }
     ensures held { OnErr result (own_of held.new ≡ running (Fetching number) (own_of held.old)) }
     ensures before { asker.new.before ≡ asker.old.before }
 {
-    let Some(mut rest) = observations::take_rest(&mut held.observations, number) else {
-        held.running = None;
+    let Some(mut rest) = observations::take_rest(&mut held.operations, number) else {
         return Ok(None);
     };
     match take_if_content(&mut rest, m) {
         Ok(Part::Asks) => ask_next(asker, held, at, word, number, rest),
         Ok(Part::Whole(report)) => {
-            held.running = None;
             give(held, number, report);
             Ok(None)
         }
-        Ok(Part::Useless) => {
-            held.running = None;
-            Ok(None)
-        }
+        Ok(Part::Useless) => Ok(None),
         Err(refused) => {
-            observations::set_rest(&mut held.observations, number, Some(rest));
-            held.running = Some(Operation::Fetching(number));
+            observations::set_rest(&mut held.operations, number, Some(rest));
+            held.operations.fetch(number);
             Err(refused)
         }
     }
@@ -237,12 +235,13 @@ fn ask_next<A: Allocator + Copy, H: BuildHasher>(
     requires room { deque_len held.old.reports < deque_capacity held.old.reports }
     requires apart { Apart (own_of held.old) }
     requires before { IsSome rest.fetch.before }
+    requires idle { held.old.operations.running ≡ None }
     ensures happens { IfOk result (λ asked. Happens asker.old.state (runs (Fetching number) (resting number (Some (shown_rest rest)) (own_of held.old))) at.0 word (shown_asked asked) (left (own_of held.new) asker.new.state)) }
     ensures held { OnErr result ((before : FetchState) → rest.fetch.before ≡ Some before → own_of held.new ≡ running (Fetching number) (resting number (Some (record { sequence = rest.sequence; fetch = before })) (own_of held.old))) }
     ensures before { asker.new.before ≡ asker.old.before }
 {
     let block = block2_of(&rest.fetch);
-    let path = observations::segments_of(&held.observations, number);
+    let path = observations::segments_of(&held.operations, number);
     match get(asker, None, None, path, bytes_in(&block), at, word) {
         Ok(given) => {
             resume(held, number, rest);
@@ -258,12 +257,13 @@ fn ask_next<A: Allocator + Copy, H: BuildHasher>(
 
 // The fetch runs, with that still to be fetched.
 fn resume<A: Allocator + Copy>(held: &mut Held<A>, number: u64, rest: Notified<A>)
-    requires { in_observations number (own_of held.old).observations ≤ 1 }
+    requires one { in_observations number (own_of held.old).observations ≤ 1 }
+    requires idle { held.old.operations.running ≡ None }
     ensures own { own_of held.new ≡ running (Fetching number) (resting number (Some (shown_rest rest)) (own_of held.old)) }
     ensures reports { held.new.reports ≡ held.old.reports }
 {
-    observations::set_rest(&mut held.observations, number, Some(rest));
-    held.running = Some(Operation::Fetching(number));
+    observations::set_rest(&mut held.operations, number, Some(rest));
+    held.operations.fetch(number);
 }
 
 /// What a notification makes of a client. After an `Err` it is as before.
@@ -280,7 +280,7 @@ pub fn noticed<A: Allocator + Copy, H: BuildHasher>(
     ensures held { OnErr result (own_of held.new ≡ own_of held.old) }
     ensures before { asker.new.before ≡ asker.old.before }
 {
-    let Some(observation) = observations::find_with(&held.observations, m.token()) else {
+    let Some(observation) = observations::find_with(&held.operations, m.token()) else {
         return Ok(());
     };
     let number = observation.number;
@@ -314,7 +314,7 @@ fn tell<A: Allocator + Copy>(
     if watch.arrive(at, sequence) {
         renew(held, number, watch, sequence, m)
     } else {
-        observations::set_watch(&mut held.observations, number, watch);
+        observations::set_watch(&mut held.operations, number, watch);
         Ok(())
     }
 }
@@ -334,9 +334,9 @@ fn renew<A: Allocator + Copy>(
     ensures held { OnErr result (own_of held.new ≡ own_of held.old) }
 {
     let (rest, report) = begin(held, sequence, m)?;
-    drop_fetch(&mut held.running, number);
-    observations::set_watch(&mut held.observations, number, watch);
-    observations::set_rest(&mut held.observations, number, rest);
+    held.operations.drop_fetch(number);
+    observations::set_watch(&mut held.operations, number, watch);
+    observations::set_rest(&mut held.operations, number, rest);
     give_some(held, number, report);
     Ok(())
 }

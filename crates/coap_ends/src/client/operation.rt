@@ -2,10 +2,11 @@ use crate::client::short_path::ShortPath;
 use crate::client::taken_call::TakenCall;
 use coap_block::Fetch;
 use coap_observe::Watch;
+use coap_operations::Operations;
 use coap_types::Token;
 use std::alloc::{Allocator, Global};
 
-/// What waits, beside the cancels of observations.
+/// What waits or runs, beside the fetches and cancels of observations.
 #[derive(Drop)]
 pub enum Waiting<A: Allocator = Global> {
     /// A call, by its number.
@@ -14,20 +15,8 @@ pub enum Waiting<A: Allocator = Global> {
     Registering(u64, ShortPath<A>),
 }
 
-/// An operation, by its role. One runs at a time (NSTART is 1: RFC 7252, section 4.7).
-#[derive(Drop)]
-pub enum Operation<A: Allocator = Global> {
-    /// A call, by its number.
-    Calling(u64, TakenCall<A>),
-    /// The registration of an observation (RFC 7641, section 3.1): its number and its path.
-    Registering(u64, ShortPath<A>),
-    /// The fetch of the rest of an observation's representation (RFC 7959, section 2.6).
-    Fetching(u64),
-    /// The cancel of an observation (RFC 7641, section 3.6).
-    Cancelling(u64),
-    /// A fetch that no longer counts, whose exchange goes on to its end.
-    Dropped,
-}
+/// What a client does, and what waits at it.
+pub type ClientOperations<A = Global> = Operations<Waiting<A>, Observation<A>, A>;
 
 /// What is fetched for a notification.
 #[derive(Drop)]

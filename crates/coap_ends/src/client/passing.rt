@@ -17,11 +17,12 @@ ghost use Rattle.coap_ends.specs.ClientObject.Starts.{idle_now, may_start, start
 
 use crate::client::failing::fail;
 use crate::client::held::Held;
-use crate::client::operation::{Operation, Waiting};
+use crate::client::operation::Waiting;
 use crate::client::report::Report;
 use crate::client::sending::{cancel, fetch};
-use crate::client::starting::{begin, is_held, is_upload, send_waiting, take_first, to_fetch};
+use crate::client::starting::{begin, is_held, is_upload, send_waiting, to_fetch};
 use coap_exchange::{Asker, Event, Turn};
+use coap_operations::Queued;
 use coap_types::{Moment, Token};
 use std::alloc::{AllocError, Allocator};
 use std::hash::BuildHasher;
@@ -108,11 +109,11 @@ fn pass_idly<A: Allocator + Copy, H: BuildHasher>(
     ensures before { asker.new.before ≡ asker.old.before }
     ensures quiet { asks (idle_now at.0 (own_of held.old)).deed ≡ false → IsOk result }
 {
-    if held.running.is_some() {
+    if held.operations.running().is_some() {
         rest(held, at);
         return Ok(false);
     }
-    match to_fetch(held.observations.as_slice()) {
+    match to_fetch(&held.operations) {
         Some(number) => start_fetch(asker, held, at, word, number),
         None => start_first(asker, held, at, word),
     }
@@ -127,15 +128,16 @@ fn start_fetch<A: Allocator + Copy, H: BuildHasher>(
     number: u64,
 ) -> Result<bool, AllocError>
     requires apart { Apart (own_of held.old) }
-    requires none { held.old.running ≡ None }
+    requires none { held.old.operations.running ≡ None }
     ensures happens { OnOk result (Comes asker.old.state (runs (Fetching number) (clocked at.0 (own_of held.old))) at.0 word (left (own_of held.new) asker.new.state)) }
     ensures did { IfOk result (λ did. did ≡ true) }
     ensures held { OnErr result (own_of held.new ≡ own_of held.old) }
     ensures before { asker.new.before ≡ asker.old.before }
 {
     held.reports.reserve(1)?;
-    let given = fetch(asker, held.observations.as_slice(), number, at, word)?;
-    begin(asker, held, at, Operation::Fetching(number), given);
+    let given = fetch(asker, &held.operations, number, at, word)?;
+    held.operations.fetch(number);
+    begin(asker, held, at, given);
     Ok(true)
 }
 
@@ -147,7 +149,7 @@ fn start_first<A: Allocator + Copy, H: BuildHasher>(
     word: u64,
 ) -> Result<bool, AllocError>
     requires apart { Apart (own_of held.old) }
-    requires none { held.old.running ≡ None }
+    requires none { held.old.operations.running ≡ None }
     ensures happens { OnOk result (Comes asker.old.state (starts_now at.0 (own_of held.old)) at.0 word (left (own_of held.new) asker.new.state)) }
     ensures did { IfOk result (λ did. did ≡ asks (starts_now at.0 (own_of held.old)).deed) }
     ensures held { OnErr result (own_of held.new ≡ own_of held.old) }
@@ -174,27 +176,26 @@ fn take_and_begin<A: Allocator + Copy, H: BuildHasher>(
 )
     requires room { deque_len held.old.reports < deque_capacity held.old.reports }
     requires apart { Apart (own_of held.old) }
-    requires none { held.old.running ≡ None }
+    requires none { held.old.operations.running ≡ None }
     requires may { may_start at.0 (own_of held.old) (own_of held.old).queue ≡ true }
     ensures begun { (behind : exchange.State) (word : ℕ)
-        → ((op : Op) → slice_get (map shown_queued held.old.queue) 0 ≡ Some op
-        → Sends behind at.0 (message_of (map shown_observation held.old.observations.items) op) word given asker.old.state)
+        → ((op : Op) → slice_get (map shown_queued held.old.operations.queue) 0 ≡ Some op
+        → Sends behind at.0 (message_of (map shown_observation held.old.operations.live) op) word given asker.old.state)
         → Comes behind (starts_now at.0 (own_of held.old)) at.0 word (left (own_of held.new) asker.new.state) }
     ensures before { asker.new.before ≡ asker.old.before }
 {
-    match take_first(&mut held.queue) {
-        Some(operation) => begin(asker, held, at, operation, given),
-        None => unreachable!("something waits"),
-    }
+    held.operations.start_first();
+    begin(asker, held, at, given);
 }
 
 // Whether something waits whose first is not an upload that is held back.
 fn may_start<A: Allocator + Copy>(held: &Held<A>, at: Moment) -> bool
     ensures { result ≡ may_start at.0 (own_of held.now) (own_of held.now).queue }
 {
-    match held.queue.first_operation() {
-        Some(waiting) => !is_held_back(waiting, held.hold, at),
-        None => held.queue.first_cancel().is_some(),
+    match held.operations.waiting(0) {
+        Some(Queued::Starts(waiting)) => !is_held_back(waiting, held.hold, at),
+        Some(Queued::Cancels(_)) => true,
+        None => false,
     }
 }
 
@@ -212,16 +213,14 @@ fn send_first<A: Allocator + Copy, H: BuildHasher>(
     at: Moment,
     word: u64,
 ) -> Result<Option<Token>, AllocError>
-    ensures sends { IfOk result (λ token. (op : Op) → slice_get (map shown_queued held.now.queue) 0 ≡ Some op
-        → Sends asker.old.state at.0 (message_of (map shown_observation held.now.observations.items) op) word token asker.new.state) }
+    ensures sends { IfOk result (λ token. (op : Op) → slice_get (map shown_queued held.now.operations.queue) 0 ≡ Some op
+        → Sends asker.old.state at.0 (message_of (map shown_observation held.now.operations.live) op) word token asker.new.state) }
     ensures before { asker.new.before ≡ asker.old.before }
     ensures err { OnErr result (asker.new ≡ asker.old) }
 {
-    match held.queue.first_operation() {
-        Some(waiting) => send_waiting(asker, waiting, at, word),
-        None => match held.queue.first_cancel() {
-            Some(number) => cancel(asker, held.observations.as_slice(), number, at, word),
-            None => Ok(None),
-        },
+    match held.operations.waiting(0) {
+        Some(Queued::Starts(waiting)) => send_waiting(asker, waiting, at, word),
+        Some(Queued::Cancels(number)) => cancel(asker, &held.operations, number, at, word),
+        None => Ok(None),
     }
 }

@@ -10,7 +10,7 @@ ghost use Rattle.coap_ends.specs.ClientObject.ClientSends.{Sends};
 ghost use Rattle.coap_ends.specs.ClientObject.ClientShown.{shown_observation};
 
 use crate::client::observations::{block_asked, segments_of, token_of};
-use crate::client::operation::Observation;
+use crate::client::operation::ClientOperations;
 use crate::client::request_options::{bytes_in, get_options};
 use crate::client::short_path::ShortPath;
 use coap_exchange::{Ask, AskRefusal, Asker};
@@ -72,35 +72,35 @@ pub fn register<A: Allocator + Copy, H: BuildHasher>(
 /// The fetch of the rest of a representation (RFC 7959, section 2.6).
 pub fn fetch<A: Allocator + Copy, H: BuildHasher>(
     asker: &mut Asker<A, H>,
-    observations: &[Observation<A>],
+    operations: &ClientOperations<A>,
     number: u64,
     at: Moment,
     word: u64,
 ) -> Result<Option<Token>, AllocError>
-    ensures sends { IfOk result (λ token. Sends asker.old.state at.0 (message_of (map shown_observation observations.now) (Fetching number)) word token asker.new.state) }
+    ensures sends { IfOk result (λ token. Sends asker.old.state at.0 (message_of (map shown_observation operations.now.live) (Fetching number)) word token asker.new.state) }
     ensures before { asker.new.before ≡ asker.old.before }
     ensures err { OnErr result (asker.new ≡ asker.old) }
 {
-    let block = block_asked(observations, number);
-    let path = segments_of(observations, number);
+    let block = block_asked(operations, number);
+    let path = segments_of(operations, number);
     get(asker, None, None, path, bytes_in(&block), at, word)
 }
 
 /// The cancel of an observation, with its token (RFC 7641, section 3.6).
 pub fn cancel<A: Allocator + Copy, H: BuildHasher>(
     asker: &mut Asker<A, H>,
-    observations: &[Observation<A>],
+    operations: &ClientOperations<A>,
     number: u64,
     at: Moment,
     word: u64,
 ) -> Result<Option<Token>, AllocError>
-    ensures sends { IfOk result (λ token. Sends asker.old.state at.0 (message_of (map shown_observation observations.now) (Cancelling number)) word token asker.new.state) }
+    ensures sends { IfOk result (λ token. Sends asker.old.state at.0 (message_of (map shown_observation operations.now.live) (Cancelling number)) word token asker.new.state) }
     ensures before { asker.new.before ≡ asker.old.before }
     ensures err { OnErr result (asker.new ≡ asker.old) }
 {
-    let token = token_of(observations, number);
+    let token = token_of(operations, number);
     let observe = uint_bytes(DEREGISTER);
-    let path = segments_of(observations, number);
+    let path = segments_of(operations, number);
     get(
         asker,
         token.as_ref(),

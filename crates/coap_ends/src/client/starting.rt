@@ -7,18 +7,17 @@ ghost use Rattle.coap_exchange.specs.AskerLaw as exchange;
 ghost use Rattle.coap_ends.specs.ClientSide.ClientEffects.{runs, stays};
 ghost use Rattle.coap_ends.specs.ClientSide.ClientEvents.{idle, is_held, is_upload_op, starts};
 ghost use Rattle.coap_ends.specs.ClientSide.ClientObservations.{to_fetch};
-ghost use Rattle.coap_ends.specs.ClientSide.ClientOwn.{Observation as Observed, Own, clocked};
+ghost use Rattle.coap_ends.specs.ClientSide.ClientOwn.{Observation as Observed, Operation as Op, Own, clocked};
 ghost use Rattle.coap_ends.specs.ClientSide.ClientRequests.{message_of};
-ghost use Rattle.coap_ends.specs.ClientObject.ClientHappens.{Apart, Comes, left, running};
+ghost use Rattle.coap_ends.specs.ClientObject.ClientHappens.{Apart, Comes, left};
 ghost use Rattle.coap_ends.specs.ClientObject.ClientHeld.{own_of};
 ghost use Rattle.coap_ends.specs.ClientObject.ClientSends.{Sends};
-ghost use Rattle.coap_ends.specs.ClientObject.ClientShown.{shown_observation, shown_operation, shown_queued, shown_waiting};
+ghost use Rattle.coap_ends.specs.ClientObject.ClientShown.{shown_observation, shown_waiting};
 ghost use Rattle.coap_ends.specs.ClientObject.Starts.{first_runs};
 
-use crate::client::call_queue::{Queue, Queued};
 use crate::client::failing::close;
 use crate::client::held::Held;
-use crate::client::operation::{Observation, Operation, Waiting};
+use crate::client::operation::{ClientOperations, Waiting};
 use crate::client::sending::register;
 use coap_exchange::Asker;
 use coap_types::transmission::MAX_LATENCY_MS;
@@ -27,13 +26,24 @@ use std::alloc::{AllocError, Allocator};
 use std::hash::BuildHasher;
 
 /// The first observation for which something is to be fetched: that of the lowest number.
-pub(crate) fn to_fetch<A: Allocator + Copy>(observations: &[Observation<A>]) -> Option<u64>
-    ensures { result ≡ to_fetch (map shown_observation observations.now) }
+pub(crate) fn to_fetch<A: Allocator + Copy>(operations: &ClientOperations<A>) -> Option<u64>
+    ensures { result ≡ to_fetch (map shown_observation operations.now.live) }
 {
-    match observations {
-        [] => None,
-        [first, ..] if first.rest.is_some() => Some(first.number),
-        [_, others @ ..] => to_fetch(others),
+    to_fetch_from(operations, 0)
+}
+
+// .. of those from that place on.
+fn to_fetch_from<A: Allocator + Copy>(operations: &ClientOperations<A>, from: usize) -> Option<u64>
+    ensures { result ≡ to_fetch (map shown_observation (drop from operations.now.live)) }
+{
+    if from >= operations.live_len() {
+        return None;
+    }
+    let first = operations.live(from)?;
+    if first.rest.is_some() {
+        Some(first.number)
+    } else {
+        to_fetch_from(operations, from + 1)
     }
 }
 
@@ -57,22 +67,6 @@ pub(crate) fn is_upload<A: Allocator + Copy>(waiting: &Waiting<A>) -> bool
     }
 }
 
-/// Takes the first out of the queue.
-pub(crate) fn take_first<A: Allocator + Copy>(
-    queue: &mut Queue<Waiting<A>, A>,
-) -> Option<Operation<A>>
-    ensures first { option_map shown_operation result ≡ slice_get (map shown_queued queue.old) 0 }
-    ensures left { map shown_queued queue.new ≡ drop 1 (map shown_queued queue.old) }
-{
-    match queue.pop_front()? {
-        Queued::Starts(Waiting::Calling(number, call)) => Some(Operation::Calling(number, call)),
-        Queued::Starts(Waiting::Registering(number, path)) => {
-            Some(Operation::Registering(number, path))
-        }
-        Queued::Cancels(number) => Some(Operation::Cancelling(number)),
-    }
-}
-
 /// Sends the first request of what waits.
 pub(crate) fn send_waiting<A: Allocator + Copy, H: BuildHasher>(
     asker: &mut Asker<A, H>,
@@ -91,23 +85,21 @@ pub(crate) fn send_waiting<A: Allocator + Copy, H: BuildHasher>(
     }
 }
 
-/// What becomes of a client by the sending of the first request of an operation, which was given a
-/// token or could not be sent.
+/// What becomes of a client by the sending of the first request of the operation that runs, which was
+/// given a token or could not be sent.
 pub(crate) fn begin<A: Allocator + Copy, H: BuildHasher>(
     asker: &mut Asker<A, H>,
     held: &mut Held<A>,
     at: Moment,
-    operation: Operation<A>,
     given: Option<Token>,
 )
     requires room { deque_len held.old.reports < deque_capacity held.old.reports }
-    requires apart { Apart (running (shown_operation operation) (own_of held.old)) }
-    ensures begun { (behind : exchange.State) (word : ℕ)
-        → Sends behind at.0 (message_of (map shown_observation held.old.observations.items) (shown_operation operation)) word given asker.old.state
-        → Comes behind (runs (shown_operation operation) (clocked at.0 (own_of held.old))) at.0 word (left (own_of held.new) asker.new.state) }
+    requires apart { Apart (own_of held.old) }
+    ensures begun { (op : Op) (behind : exchange.State) (word : ℕ) → (own_of held.old).running ≡ Some op
+        → Sends behind at.0 (message_of (map shown_observation held.old.operations.live) op) word given asker.old.state
+        → Comes behind (runs op (clocked at.0 (own_of held.old))) at.0 word (left (own_of held.new) asker.new.state) }
     ensures before { asker.new.before ≡ asker.old.before }
 {
     held.clock = at.0;
-    held.running = Some(operation);
     held.asked = close(asker, held, at, given);
 }

@@ -87,12 +87,12 @@ fn take<A: Allocator + Copy>(
     now: Moment,
     waiting: Waiting<A>,
 ) -> Result<(), AllocError>
-    requires room { length held.old.queue < MAX_WAITING_CALLS }
+    requires room { length held.old.operations.queue < MAX_WAITING_CALLS }
     requires more { held.old.taken < 2 ^ 64 - 1 }
     ensures taken { OnOk result (own_of held.new ≡ numbered (λ n. shown_waiting waiting) (Ok held.old.taken) (at now.0 (own_of held.old))) }
     ensures err { OnErr result (own_of held.new ≡ own_of held.old) }
 {
-    held.queue.push(waiting)?;
+    held.operations.push(waiting)?;
     held.taken += 1;
     pass(held, now);
     Ok(())

@@ -1,8 +1,28 @@
-use Rattle.std.proofs.Common.{rules, not}
-use Rattle.std.specs.Prelude.{◌==◌}
-use Rattle.std.proofs.lemmas.Fn.{filter_same}
-use Rattle.coap_ends.proofs.ClientCalls.HeldLemmas.{shown_kept}
+use Rattle.std.proofs.Common.{◌≡◌, ◌<◌, None, Some, true, false, map, remove, set, slice_get, drop, Bor, ap, sym, subst, refl, ◌∙◌, rules}
+use Rattle.std.proofs.lemmas.List.{length-map}
+use Rattle.std.proofs.lemmas.Option.{slice_get-map}
+use Rattle.std.specs.Option.{option_map}
+use Rattle.coap_operations.specs.Listed.{Listed}
+use Rattle.coap_ends.specs.ClientSide.ClientOwn.{Observation}
+use Rattle.coap_ends.specs.ClientObject.ClientShown.{shown_observation, shown_rest}
+use Rattle.coap_ends.proofs.ClientCalls.LiveLemmas.{map_remove, none_removed, one_removed, place_within}
 use Rattle.coap_ends.proofs.client.observations.remove.Goals as goal
 
-pub returns : goal.returns
-returns g c = shown_kept c.args.number _ _ (filter_same _ (λ o. not (o.number == c.args.number)) _ (λ x b f' k. search rules) _ _ c.retain.ensures.filtered)
+pub remove_live-requires : goal.remove_live-requires
+remove_live-requires g c =
+    let live = c.args.operations.now.live in
+    let os = map (shown_observation {A = g.row.A.Denot}) live in
+    subst (λ k. c.in-Some.place < k) (length-map live (shown_observation {A = g.row.A.Denot})) (place_within c.args.number os c.in-Some.place (sym c.in-Some.ensures))
+
+pub returns-in-Some-clause-live : goal.returns-in-Some-clause-live
+returns-in-Some-clause-live g c =
+    let live = c.args.operations.now.live in
+    let os = map (shown_observation {A = g.row.A.Denot}) live in
+    let p = c.in-Some.place in
+    ap (λ v. map (shown_observation {A = g.row.A.Denot}) v.live) c.remove_live.ensures ∙ (map_remove (shown_observation {A = g.row.A.Denot}) live p ∙ one_removed c.args.number os p (sym c.in-Some.ensures) c.requires)
+
+pub returns-in_default-clause-live : goal.returns-in_default-clause-live
+returns-in_default-clause-live g c =
+    let live = c.args.operations.now.live in
+    let os = map (shown_observation {A = g.row.A.Denot}) live in
+    none_removed c.args.number os (sym c.place_of.ensures ∙ c.in_default.is)

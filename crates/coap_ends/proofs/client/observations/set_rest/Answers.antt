@@ -1,15 +1,30 @@
-use Rattle.std.proofs.Common.{◌≤◌, ap, map, rules, subst, sym, ◌∙◌}
+use Rattle.std.proofs.Common.{◌≡◌, ◌<◌, None, Some, true, false, map, remove, set, slice_get, drop, Bor, ap, sym, subst, refl, ◌∙◌, rules}
+use Rattle.std.proofs.lemmas.List.{length-map}
+use Rattle.std.proofs.lemmas.Option.{slice_get-map}
 use Rattle.std.specs.Option.{option_map}
-use Rattle.coap_ends.specs.ClientSide.ClientObservations.{with_rest}
-use Rattle.coap_ends.specs.ClientSide.ClientPlaces.{in_observations}
+use Rattle.coap_operations.specs.Listed.{Listed}
+use Rattle.coap_ends.specs.ClientSide.ClientOwn.{Observation}
 use Rattle.coap_ends.specs.ClientObject.ClientShown.{shown_observation, shown_rest}
-use Rattle.coap_ends.proofs.ClientCalls.HeldLemmas.{rejoin}
+use Rattle.coap_ends.proofs.ClientCalls.LiveLemmas.{map_set, none_changed, one_changed, place_within}
 use Rattle.coap_ends.proofs.client.observations.set_rest.Goals as goal
 
-pub put_first-requires : goal.put_first-requires
-put_first-requires g c = subst (λ l. in_observations c.args.number (map shown_observation l) ≤ 1) (sym c.deref_mut.ensures.value) c.requires
+pub live_mut-requires : goal.live_mut-requires
+live_mut-requires g c =
+    let live = c.args.operations.now.live in
+    let os = map (shown_observation {A = g.row.A.Denot}) live in
+    subst (λ k. c.in-Some.place < k) (length-map live (shown_observation {A = g.row.A.Denot})) (place_within c.args.number os c.in-Some.place (sym c.in-Some.ensures))
 
-pub returns : goal.returns
-returns g c =
-    ap (λ l. map shown_observation l) (rejoin _ c.put_first.new.observations _ (search rules))
-    ∙ (c.put_first.ensures.set ∙ ap (λ l. with_rest c.args.number (option_map shown_rest c.args.rest) (map shown_observation l)) c.deref_mut.ensures.value)
+pub returns-in-Some-clause-live : goal.returns-in-Some-clause-live
+returns-in-Some-clause-live g c =
+    let live = c.args.operations.now.live in
+    let os = map (shown_observation {A = g.row.A.Denot}) live in
+    let p = c.in-Some.place in
+    let o = c.live_mut.result.now in
+    let found = slice_get-map (shown_observation {A = g.row.A.Denot}) live p ∙ ap (option_map (shown_observation {A = g.row.A.Denot})) c.live_mut.ensures.value in
+    map_set (shown_observation {A = g.row.A.Denot}) live p (record o { rest = c.args.rest }) ∙ one_changed c.args.number (λ (o : Observation). record o { rest = option_map shown_rest c.args.rest }) os p (shown_observation o) (sym c.in-Some.ensures) c.requires found
+
+pub returns-in_default-clause-live : goal.returns-in_default-clause-live
+returns-in_default-clause-live g c =
+    let live = c.args.operations.now.live in
+    let os = map (shown_observation {A = g.row.A.Denot}) live in
+    sym (none_changed c.args.number (λ (o : Observation). record o { rest = option_map shown_rest c.args.rest }) os (sym c.place_of.ensures ∙ c.in_default.is))

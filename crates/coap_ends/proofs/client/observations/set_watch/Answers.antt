@@ -1,11 +1,30 @@
-use Rattle.std.proofs.Common.{ap, cond, map, rules, ◌∙◌}
-use Rattle.std.specs.Prelude.{◌==◌}
+use Rattle.std.proofs.Common.{◌≡◌, ◌<◌, None, Some, true, false, map, remove, set, slice_get, drop, Bor, ap, sym, subst, refl, ◌∙◌, rules}
+use Rattle.std.proofs.lemmas.List.{length-map}
+use Rattle.std.proofs.lemmas.Option.{slice_get-map}
+use Rattle.std.specs.Option.{option_map}
+use Rattle.coap_operations.specs.Listed.{Listed}
 use Rattle.coap_ends.specs.ClientSide.ClientOwn.{Observation}
-use Rattle.coap_ends.specs.ClientObject.ClientShown.{shown_observation}
-use Rattle.coap_ends.proofs.ClientCalls.HeldLemmas.{rejoin}
+use Rattle.coap_ends.specs.ClientObject.ClientShown.{shown_observation, shown_rest}
+use Rattle.coap_ends.proofs.ClientCalls.LiveLemmas.{map_set, none_changed, one_changed, place_within}
 use Rattle.coap_ends.proofs.client.observations.set_watch.Goals as goal
 
-pub returns : goal.returns
-returns g c =
-    ap (λ l. map shown_observation l) (rejoin _ c.watch_each.new.observations _ (search rules))
-    ∙ (c.watch_each.ensures.watched ∙ ap (λ l. map (λ (o : Observation). cond (o.number == c.args.number) (record o { watch = c.args.watch }) o) (map shown_observation l)) c.deref_mut.ensures.value)
+pub live_mut-requires : goal.live_mut-requires
+live_mut-requires g c =
+    let live = c.args.operations.now.live in
+    let os = map (shown_observation {A = g.row.A.Denot}) live in
+    subst (λ k. c.in-Some.place < k) (length-map live (shown_observation {A = g.row.A.Denot})) (place_within c.args.number os c.in-Some.place (sym c.in-Some.ensures))
+
+pub returns-in-Some-clause-live : goal.returns-in-Some-clause-live
+returns-in-Some-clause-live g c =
+    let live = c.args.operations.now.live in
+    let os = map (shown_observation {A = g.row.A.Denot}) live in
+    let p = c.in-Some.place in
+    let o = c.live_mut.result.now in
+    let found = slice_get-map (shown_observation {A = g.row.A.Denot}) live p ∙ ap (option_map (shown_observation {A = g.row.A.Denot})) c.live_mut.ensures.value in
+    map_set (shown_observation {A = g.row.A.Denot}) live p (record o { watch = c.args.watch }) ∙ one_changed c.args.number (λ (o : Observation). record o { watch = c.args.watch }) os p (shown_observation o) (sym c.in-Some.ensures) c.requires found
+
+pub returns-in_default-clause-live : goal.returns-in_default-clause-live
+returns-in_default-clause-live g c =
+    let live = c.args.operations.now.live in
+    let os = map (shown_observation {A = g.row.A.Denot}) live in
+    sym (none_changed c.args.number (λ (o : Observation). record o { watch = c.args.watch }) os (sym c.place_of.ensures ∙ c.in_default.is))

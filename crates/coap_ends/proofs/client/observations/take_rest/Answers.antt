@@ -1,17 +1,46 @@
-use Rattle.std.proofs.Common.{◌≤◌, None, ap, map, rules, subst, sym, ◌∙◌}
-use Rattle.coap_ends.specs.ClientSide.ClientObservations.{rest_of, with_rest}
-use Rattle.coap_ends.specs.ClientSide.ClientPlaces.{in_observations}
-use Rattle.coap_ends.specs.ClientObject.ClientShown.{shown_observation}
-use Rattle.coap_ends.proofs.ClientCalls.HeldLemmas.{rejoin}
+use Rattle.std.proofs.Common.{◌≡◌, ◌<◌, None, Some, true, false, map, remove, set, slice_get, drop, Bor, ap, sym, subst, refl, ◌∙◌, rules}
+use Rattle.std.proofs.lemmas.List.{length-map}
+use Rattle.std.proofs.lemmas.Option.{slice_get-map}
+use Rattle.std.specs.Option.{option_map}
+use Rattle.coap_operations.specs.Listed.{Listed}
+use Rattle.coap_ends.specs.ClientSide.ClientOwn.{Observation}
+use Rattle.coap_ends.specs.ClientObject.ClientShown.{shown_observation, shown_rest}
+use Rattle.coap_ends.proofs.ClientCalls.LiveLemmas.{found_at, found_none, map_set, none_changed, one_changed, place_within}
+use Rattle.coap_ends.proofs.ClientCalls.HeldLemmas.{rest_in}
 use Rattle.coap_ends.proofs.client.observations.take_rest.Goals as goal
 
-pub take_first-requires : goal.take_first-requires
-take_first-requires g c = subst (λ l. in_observations c.args.number (map shown_observation l) ≤ 1) (sym c.deref_mut.ensures.value) c.requires
+pub returns-in_err-place-clause-rest : goal.returns-in_err-place-clause-rest
+returns-in_err-place-clause-rest g c =
+    let live = c.args.operations.now.live in
+    let os = map (shown_observation {A = g.row.A.Denot}) live in
+    ap (option_map shown_rest) c.from_residual.ensures ∙ sym (ap rest_in (found_none c.args.number os (sym c.in_err-place.ensures)))
+
+pub returns-in_err-place-clause-left : goal.returns-in_err-place-clause-left
+returns-in_err-place-clause-left g c =
+    let live = c.args.operations.now.live in
+    let os = map (shown_observation {A = g.row.A.Denot}) live in
+    sym (none_changed c.args.number (λ (o : Observation). record o { rest = None }) os (sym c.in_err-place.ensures))
+
+pub live_mut-requires : goal.live_mut-requires
+live_mut-requires g c =
+    let live = c.args.operations.now.live in
+    let os = map (shown_observation {A = g.row.A.Denot}) live in
+    subst (λ k. c.in_ok-place.place < k) (length-map live (shown_observation {A = g.row.A.Denot})) (place_within c.args.number os c.in_ok-place.place (sym c.in_ok-place.ensures))
 
 pub returns-clause-rest : goal.returns-clause-rest
-returns-clause-rest g c = c.take_first.ensures.rest ∙ ap (λ l. rest_of c.args.number (map shown_observation l)) c.deref_mut.ensures.value
+returns-clause-rest g c =
+    let live = c.args.operations.now.live in
+    let os = map (shown_observation {A = g.row.A.Denot}) live in
+    let p = c.in_ok-place.place in
+    let found = slice_get-map (shown_observation {A = g.row.A.Denot}) live p ∙ ap (option_map (shown_observation {A = g.row.A.Denot})) c.live_mut.ensures.value in
+    ap (option_map shown_rest) c.take.ensures.value ∙ ap rest_in (sym found ∙ found_at c.args.number os p (sym c.in_ok-place.ensures))
 
 pub returns-clause-left : goal.returns-clause-left
 returns-clause-left g c =
-    ap (λ l. map shown_observation l) (rejoin _ c.take_first.new.observations _ (search rules))
-    ∙ (c.take_first.ensures.left ∙ ap (λ l. with_rest c.args.number None (map shown_observation l)) c.deref_mut.ensures.value)
+    let live = c.args.operations.now.live in
+    let os = map (shown_observation {A = g.row.A.Denot}) live in
+    let p = c.in_ok-place.place in
+    let o = c.live_mut.result.now in
+    let found = slice_get-map (shown_observation {A = g.row.A.Denot}) live p ∙ ap (option_map (shown_observation {A = g.row.A.Denot})) c.live_mut.ensures.value in
+    ap (λ r. map (shown_observation {A = g.row.A.Denot}) (set live p (record o { rest = r }))) c.take.ensures.after
+    ∙ (map_set (shown_observation {A = g.row.A.Denot}) live p (record o { rest = None }) ∙ one_changed c.args.number (λ (o : Observation). record o { rest = None }) os p (shown_observation o) (sym c.in_ok-place.ensures) c.requires found)

@@ -4,14 +4,18 @@ use Rattle.coap_exchange.specs.AskerLaw as X
 use Rattle.coap_ends.specs.ClientSide.ClientEffects.{Rests, of}
 use Rattle.coap_ends.specs.ClientSide.ClientSteps.{reporting}
 use Rattle.coap_ends.specs.ClientSide.ClientTrace.{Ended}
+use Rattle.std.specs.Option.{option_map}
 use Rattle.coap_ends.specs.ClientObject.ClientHeld.{own_of}
+use Rattle.coap_ends.specs.ClientObject.ClientShown.{shown_operation}
 use Rattle.coap_ends.proofs.ClientCalls.ClientHappening.{begun_own, not_registered, registered_number, was_registered}
 use Rattle.coap_ends.proofs.client.observing.registered.Goals as goal
 
 pub returns-in_default-clause-happens : goal.returns-in_default-clause-happens
 returns-in_default-clause-happens g c word =
     not_registered c.args.asker.now.state c.args.number c.args.path (own_of c.args.held.now) _ c.args.at.0 word c.args.m.now c.notified.result c.notified.ensures c.in_default.is
-    (c.give.ensures ∙ ap (λ k. reporting (record { own = record (own_of c.args.held.now) { running = None }; report = of c.args.number (Ended k); deed = Rests })) c.code.ensures)
+    (c.give.ensures
+    ∙ (ap (λ r. reporting (record { own = record (own_of c.args.held.now) { running = option_map shown_operation r }; report = of c.args.number (Ended c.code.result.0); deed = Rests })) c.requires.idle
+    ∙ ap (λ k. reporting (record { own = record (own_of c.args.held.now) { running = None }; report = of c.args.number (Ended k); deed = Rests })) c.code.ensures))
 
 pub returns-in-Ok-clause-happens : goal.returns-in-Ok-clause-happens
 returns-in-Ok-clause-happens g c word =

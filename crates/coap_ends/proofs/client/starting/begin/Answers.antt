@@ -1,13 +1,13 @@
 use Rattle.std.proofs.Common.{refl}
 use Rattle.coap_ends.specs.ClientObject.ClientHeld.{own_of}
-use Rattle.coap_ends.specs.ClientObject.ClientShown.{shown_asked, shown_operation}
+use Rattle.coap_ends.specs.ClientObject.ClientShown.{shown_asked}
 use Rattle.coap_ends.proofs.client.starting.begin.Goals as goal
 
 pub returns-clause-begun : goal.returns-clause-begun
-returns-clause-begun g c behind word sends =
+returns-clause-begun g c op behind word runs sends =
     record {
       asked = shown_asked c.close-held.result;
       own = own_of c.close-held.new.held;
-      happens = c.close-held.ensures.closes (shown_operation c.args.operation) behind word refl sends;
+      happens = c.close-held.ensures.closes op behind word runs sends;
       own_is = refl;
     }

@@ -1,5 +1,0 @@
-use Rattle.std.proofs.Common.{length}
-use Rattle.coap_ends.proofs.client.observations.+put_first.Given as goal
-
-abbrev pub decreases-put_first : goal.decreases-put_first
-decreases-put_first g l = length l.observations.now
