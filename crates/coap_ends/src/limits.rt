@@ -1,10 +1,11 @@
 //! What an end takes at most (a profile).
 
+use coap_operations::MAX_WAITING;
 use coap_types::limits::MAX_MESSAGE_LEN;
 use coap_types::{MAX_SZX, MAX_TOKEN_LEN};
 
 /// How many calls wait at a client at most.
-pub const MAX_WAITING_CALLS: usize = 8;
+pub const MAX_WAITING_CALLS: usize = MAX_WAITING;
 
 /// How many observations wait, run or are live at a client at most.
 pub const MAX_OBSERVATIONS: usize = 16;

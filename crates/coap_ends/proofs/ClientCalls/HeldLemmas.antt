@@ -1,9 +1,7 @@
 -- The lists of a client's parts, as they are seen.
 use Rattle.std.proofs.Common.{◌≡◌, ◌≤◌, ℕ, ◌+◌, Bool, true, false, cond, not, Option, Some, None, List, [], ◌∷◌, ◌++◌}
-use Rattle.std.proofs.Common.{length, take, map, ap, sym, ◌∙◌, subst, refl, arith}
+use Rattle.std.proofs.Common.{map, ap, sym, ◌∙◌, refl, arith}
 use Rattle.std.specs.Prelude.{filter, is_some, ◌==◌}
-use Rattle.std.proofs.Math.Seq.{take-append_seam}
-use Rattle.std.specs.Cmp.{unsigned_Decides}
 use Rattle.std.specs.Option.{option_map}
 use Rattle.coap_block.specs.declared.fetch_progress.Asked.{Asked}
 use Rattle.coap_exchange.specs.AskerTrace as E

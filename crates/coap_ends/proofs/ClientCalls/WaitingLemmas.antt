@@ -1,7 +1,7 @@
 -- What waits at a client, as its operations.
-use Rattle.std.proofs.Common.{◌≡◌, ℕ, Bool, true, false, cond, Some, List, [], ◌∷◌, ◌++◌, filter, length, map, refl, ap}
+use Rattle.std.proofs.Common.{◌≡◌, ℕ, List, [], ◌∷◌, ◌++◌, filter, length, map, refl, ap}
 use Rattle.std.proofs.Common.{◌∙◌, arith, suc}
-use Rattle.std.specs.Prelude.{◌==◌, ◌||◌, ◌+◌, is_some, IfOk, Result, Ok, Err}
+use Rattle.std.specs.Prelude.{◌==◌, ◌||◌, ◌+◌, IfOk, Result, Ok, Err}
 use Rattle.std.specs.List.{list_any}
 use Rattle.std.proofs.lemmas.List.Folds.{list_any-append}
 use Rattle.std.proofs.lemmas.List.{length-append}
@@ -10,12 +10,12 @@ use Rattle.coap_operations.specs.declared.queued.Queued.{Queued}
 use Rattle.coap_operations.specs.declared.queued.Queued.TheVariants.{Starts, Cancels}
 use Rattle.coap_operations.specs.Listed.{is_cancel}
 use Rattle.coap_ends.specs.ClientSide.ClientOwn.{Operation}
-use Rattle.coap_ends.specs.ClientSide.ClientObservations.{is_cancel_of, observation_of}
+use Rattle.coap_ends.specs.ClientSide.ClientObservations.{is_cancel_of}
 use Rattle.coap_ends.specs.ClientSide.ClientQueue.{is_registration}
 use Rattle.coap_ends.specs.declared.client.operation.Observation as B
 use Rattle.coap_ends.specs.declared.client.operation.Waiting.{Waiting}
 use Rattle.coap_ends.specs.declared.client.operation.Waiting.TheVariants as waiting
-use Rattle.coap_ends.specs.ClientObject.ClientShown.{shown_observation, shown_queued, shown_waiting}
+use Rattle.coap_ends.specs.ClientObject.ClientShown.{shown_observation, shown_queued}
 
 -- of what an Ok has
 

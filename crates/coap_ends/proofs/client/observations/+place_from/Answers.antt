@@ -1,10 +1,5 @@
-use Rattle.std.proofs.Common.{◌≡◌, ◌<◌, None, Some, true, false, map, remove, set, slice_get, drop, Bor, ap, sym, subst, refl, ◌∙◌, rules}
-use Rattle.std.proofs.lemmas.List.{length-map}
-use Rattle.std.proofs.lemmas.Option.{slice_get-map}
-use Rattle.std.specs.Option.{option_map}
-use Rattle.coap_operations.specs.Listed.{Listed}
-use Rattle.coap_ends.specs.ClientSide.ClientOwn.{Observation}
-use Rattle.coap_ends.specs.ClientObject.ClientShown.{shown_observation, shown_rest}
+use Rattle.std.proofs.Common.{map, ap, sym, ◌∙◌}
+use Rattle.coap_ends.specs.ClientObject.ClientShown.{shown_observation}
 use Rattle.coap_ends.proofs.ClientCalls.LiveLemmas.{behind, place_behind, place_here}
 use Rattle.coap_ends.proofs.client.observations.+place_from.Goals as goal
 

@@ -1,8 +1,7 @@
-use Rattle.std.proofs.Common.{◌≡◌, ◌<◌, None, Some, true, false, map, remove, set, slice_get, drop, Bor, ap, sym, subst, refl, ◌∙◌, rules}
+use Rattle.std.proofs.Common.{◌<◌, None, map, set, ap, sym, subst, ◌∙◌}
 use Rattle.std.proofs.lemmas.List.{length-map}
 use Rattle.std.proofs.lemmas.Option.{slice_get-map}
 use Rattle.std.specs.Option.{option_map}
-use Rattle.coap_operations.specs.Listed.{Listed}
 use Rattle.coap_ends.specs.ClientSide.ClientOwn.{Observation}
 use Rattle.coap_ends.specs.ClientObject.ClientShown.{shown_observation, shown_rest}
 use Rattle.coap_ends.proofs.ClientCalls.LiveLemmas.{found_at, found_none, map_set, none_changed, one_changed, place_within}

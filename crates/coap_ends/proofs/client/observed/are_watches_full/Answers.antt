@@ -1,4 +1,4 @@
-use Rattle.std.proofs.Common.{◌+◌, filter, length, ap, ◌∙◌}
+use Rattle.std.proofs.Common.{◌+◌, filter, length, map, ap, ◌∙◌}
 use Rattle.std.specs.Prelude.{nat_le, option_to_list}
 use Rattle.std.specs.Option.{option_map}
 use Rattle.coap_ends.specs.declared.limits.TheConstants.{MAX_OBSERVATIONS}

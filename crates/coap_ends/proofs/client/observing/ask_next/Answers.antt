@@ -1,10 +1,9 @@
-use Rattle.std.proofs.Common.{ap, map, sym, subst, refl, ◌∙◌}
+use Rattle.std.proofs.Common.{ap, sym, subst, refl, ◌∙◌}
 use Rattle.coap_types.specs.OptionValues.{option_with}
 use Rattle.coap_ends.specs.ClientSide.ClientOwn.{Fetching}
-use Rattle.coap_ends.specs.ClientSide.ClientObservations.{observed_path}
 use Rattle.coap_ends.specs.ClientObject.ClientHappens.{Apart}
 use Rattle.coap_ends.specs.ClientObject.ClientHeld.{own_of}
-use Rattle.coap_ends.specs.ClientObject.ClientShown.{shown_observation, shown_rest}
+use Rattle.coap_ends.specs.ClientObject.ClientShown.{shown_rest}
 use Rattle.coap_ends.proofs.ClientCalls.HeldLemmas.{one_observation, resumed_apart}
 use Rattle.coap_ends.proofs.ClientCalls.FetchingLemmas.{closed_as, fetch_request, sends_as}
 use Rattle.coap_ends.proofs.client.observing.ask_next.Goals as goal

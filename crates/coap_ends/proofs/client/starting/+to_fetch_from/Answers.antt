@@ -1,4 +1,4 @@
-use Rattle.std.proofs.Common.{◌≡◌, true, false, map, drop, ap, sym, ◌∙◌}
+use Rattle.std.proofs.Common.{map, ap, sym, ◌∙◌}
 use Rattle.std.specs.Prelude.{is_some}
 use Rattle.coap_ends.specs.ClientObject.ClientShown.{shown_observation, shown_rest}
 use Rattle.coap_ends.proofs.ClientCalls.LiveLemmas.{behind, fetch_behind, fetch_here}
