@@ -85,24 +85,24 @@ fn change_byte(alloc: Global, talk: &Talk<'_>, number: usize, place: usize) -> R
     let Some(own) = behind.first() else {
         return Ok(());
     };
-    let mut ends = begun(alloc, talk)?;
     let mut changed = own.bytes.clone()?;
+    let mut ends = begun(alloc, talk)?;
     for value in 0..=u8::MAX {
-        if let Some(byte) = changed.get_mut(place) {
-            *byte = value;
-        }
+        put(&mut changed, place, value);
         ends.at = LATER_MS.saturating_mul(u64::from(value));
         ends.line = own.hex;
-        ends.go_to(before, own)?;
-        ends.bear(changed.as_slice(), own)?;
-        if decode(changed.as_slice()).is_err() {
-            ends.go_on(behind)?;
-        }
+        ends.bear_changed(before, behind, changed.as_slice())?;
         if own.to == CLIENT || ends.is_changed {
             ends = begun(alloc, talk)?;
         }
     }
     Ok(())
+}
+
+fn put(bytes: &mut [u8], place: usize, value: u8) {
+    if let Some(byte) = bytes.get_mut(place) {
+        *byte = value;
+    }
 }
 
 // Both ends after the first steps of a talk.
@@ -115,6 +115,24 @@ fn begun<'a>(alloc: Global, talk: &Talk<'a>) -> Result<Ends<'a, Global>, Fail> {
 }
 
 impl<A: Allocator + Copy> Ends<'_, A> {
+    // Both ends take a changed datagram, the first of those that go behind the others.
+    fn bear_changed(
+        &mut self,
+        before: &[Said<'_>],
+        behind: &[Said<'_>],
+        changed: &[u8],
+    ) -> Result<(), Fail> {
+        let Some(own) = behind.first() else {
+            return Ok(());
+        };
+        self.go_to(before, own)?;
+        self.bear(changed, own)?;
+        if decode(changed).is_err() {
+            self.go_on(behind)?;
+        }
+        Ok(())
+    }
+
     // What is said before to the same end arrives.
     fn go_to(&mut self, before: &[Said<'_>], own: &Said<'_>) -> Result<(), Fail> {
         self.pass_on()?;
