@@ -20,7 +20,7 @@ use crate::lists::Lists;
 use crate::mark::{Awaiting, Mark};
 use crate::outstanding::{due_copy, put_back};
 use crate::retransmission::{end_all, find_step, is_busy, is_outstanding, is_step, ticked};
-use crate::room::{Brings, Room, filled, grow, make_room, take_room};
+use crate::room::{Brings, Room, filled, fitted, grow, make_room, take_room};
 use crate::sending::{FirstSending, refusal, send_con, send_non};
 use crate::taking::{Arrived, Moments, take_in, take_tick};
 use crate::{Content, Datagram, IdSource, SendRefusal, Tick, Up};
@@ -174,7 +174,9 @@ impl<A: Allocator + Copy, S: BuildHasher> Layer<A, S> {
     }
 
     /// Sends the reply to the message that was handed up last, and stores it for a Confirmable one,
-    /// so that a duplicate gets it again (RFC 7252, sections 4.2 and 4.5). It takes no memory.
+    /// so that a duplicate gets it again (RFC 7252, sections 4.2 and 4.5). It takes no memory: where the
+    /// stored reply needs less than half of its room, the allocator's `shrink` is asked to take the rest back,
+    /// and the room stays as it is where that is refused.
     pub fn reply(&mut self, to: Endpoint, id: Id, bytes: &[u8])
         requires may { MayReply self.old to id.0 }
         requires short { length bytes.now ≤ max_message_len }
@@ -185,7 +187,7 @@ impl<A: Allocator + Copy, S: BuildHasher> Layer<A, S> {
         if let Some(room) = self.room.take() {
             let Room { sent, kept } = room;
             let sent = filled(sent, bytes);
-            let stored = filled(kept, bytes);
+            let stored = fitted(kept, bytes);
             self.lists.entries.store_reply(to, id, stored);
             push_within(&mut self.lists.waiting, Datagram { to, bytes: sent });
             self.awaits = None;

@@ -125,3 +125,16 @@ pub(crate) fn filled<A: Allocator + Copy>(mut buffer: Vec<u8, A>, bytes: &[u8]) 
     let _ = buffer.extend_from_slice(bytes);
     buffer
 }
+
+/// The same, for what is kept for long: where less than half of the room is needed, the rest is given
+/// back, unless the allocator refuses to.
+pub(crate) fn fitted<A: Allocator + Copy>(buffer: Vec<u8, A>, bytes: &[u8]) -> Vec<u8, A>
+    requires { length bytes.now ≤ vec_capacity buffer }
+    ensures { result.items ≡ bytes.now }
+{
+    let mut kept = filled(buffer, bytes);
+    if kept.len() < kept.capacity() / 2 {
+        kept.shrink_to_fit();
+    }
+    kept
+}

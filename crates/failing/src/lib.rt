@@ -3,7 +3,7 @@
 //! [`Failing`] hands each call on to the allocator beneath it, but the one of the number that it was
 //! made with, which it refuses. A test makes it anew for each number from 1 on, lends it as
 //! `&failing` to what is tested, and has tried each of the calls once [`Failing::left`] is not 0 in
-//! the end.
+//! the end. A call that gives room back, to free a block or to make it smaller, is not counted.
 //!
 //! It is proved to be an allocator: each block that it gives out is one of the allocator beneath,
 //! and goes back there. What a cell holds is no part of a contract, so which call is refused is
@@ -58,6 +58,17 @@ unsafe impl<B: Allocator> Allocator for Failing<B> {
 
     unsafe fn deallocate(&self, ptr: *mut u8, size: usize, align: usize) {
         self.inner.deallocate(ptr, size, align);
+    }
+
+    // Giving room back is no growth: it isn't counted, and not refused here.
+    unsafe fn shrink<T>(
+        &self,
+        ptr: *mut T,
+        len: usize,
+        old_cap: usize,
+        new_cap: usize,
+    ) -> Result<*mut T, AllocError> {
+        self.inner.shrink(ptr, len, old_cap, new_cap)
     }
 }
 

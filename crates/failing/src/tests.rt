@@ -36,3 +36,30 @@ fn no_other_call_is_refused(rt: HostRuntime) -> Result<(), Fail> {
     assert!(rt; later.left() == 5);
     Ok(())
 }
+
+#[test]
+fn giving_room_back_is_not_counted(rt: HostRuntime) -> Result<(), Fail> {
+    let alloc = Failing::new(rt.alloc(), 2);
+    let mut list = Vec::with_capacity(&alloc, 8)?;
+    for item in 1..4u8 {
+        list.push(item)?;
+    }
+    assert!(rt; alloc.left() == 1);
+    list.shrink_to_fit();
+    assert!(rt; list.capacity() == 3);
+    assert!(rt; alloc.left() == 1);
+    assert!(rt; list.as_slice() == [1u8, 2, 3].as_slice());
+    Ok(())
+}
+
+#[test]
+fn the_growth_after_it_is_counted(rt: HostRuntime) -> Result<(), Fail> {
+    let alloc = Failing::new(rt.alloc(), 2);
+    let mut list = Vec::with_capacity(&alloc, 8)?;
+    list.push(7u8)?;
+    list.shrink_to_fit();
+    assert!(rt; list.push(8).is_err());
+    assert!(rt; alloc.left() == 0);
+    assert!(rt; list.as_slice() == [7u8].as_slice());
+    Ok(())
+}

@@ -22,7 +22,7 @@ invariant_of-self g c =
             c.store_reply.ensures.newest))
             (upto_more c.self.inside.clock.0 old.settled _
             (upto_front c.self.inside.clock.0 old.settled _ c.self.invariant.2.0)
-            (upto_stored c.self.inside.clock.0 c.args.to c.args.id.0 c.filled-stored.result.items old.newest
+            (upto_stored c.self.inside.clock.0 c.args.to c.args.id.0 c.fitted-stored.result.items old.newest
             (upto_back c.self.inside.clock.0 old.settled _ c.self.invariant.2.0))),
         tt,
       ),
@@ -40,7 +40,7 @@ returns-in-Some-clause-step g c =
     let stored : arrivals_in c.store_reply.new.self ≡ old.settled
     ++ option_to_list (option_map (storing c.args.to id bytes) old.newest) =
     same_arrivals c.store_reply.ensures.settled
-    (c.store_reply.ensures.newest ∙ ap (λ b. option_map (storing c.args.to id b) old.newest) c.filled-stored.ensures) in
+    (c.store_reply.ensures.newest ∙ ap (λ b. option_map (storing c.args.to id b) old.newest) c.fitted-stored.ensures) in
     step_of h c.args.self.now.state _ 0 h.clock (Reply c.args.to id bytes) Nothing
     (record { to = c.args.to; bytes = bytes } ∷ []) (ap (λ s. s.state) c.self.view_is)
     (ap (λ s. s.state.awaits) c.self.view_is ∙ c.requires.may.awaited) refl refl refl
