@@ -9,3 +9,4 @@ pub mod Sendable
 pub mod Sendings
 pub mod Spelling
 pub mod StepsOfLayer
+pub mod Taken

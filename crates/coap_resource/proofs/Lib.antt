@@ -1,5 +1,6 @@
 pub mod EntryLemmas
 pub mod MapLemmas
+pub mod OnlyGot
 pub mod QuietLemmas
 pub mod RateLemmas
 pub mod ServedContent

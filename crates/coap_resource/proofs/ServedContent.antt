@@ -1,32 +1,20 @@
 -- A 2.05 of the store comes from a GET of what a path holds, which changes nothing (RFC 7252, section 5.8.1; RFC 7959,
 -- section 2.4).
 use Rattle.std.proofs.Common.{◌≡◌, ℕ, ◌==◌, nat_lt, nat_le, Bool, true, false, ◌&&◌, not, Option, Some, None, is_some}
-use Rattle.std.proofs.Common.{length, refl, ap, cond}
+use Rattle.std.proofs.Common.{length, refl, cond, ap, sym, ◌∙◌}
 use Rattle.coap_types.specs.declared.message.TheConstants.Code as codes
-use Rattle.coap_types.specs.declared.request.Method.{Method}
-use Rattle.coap_types.specs.declared.request.Method.TheVariants.{Get, Post, Put, Delete}
+use Rattle.coap_types.specs.declared.request.Method.TheVariants.{Get}
 use Rattle.coap_resource.specs.declared.refusal.StoreRefusal.{StoreRefusal}
 use Rattle.coap_resource.specs.declared.refusal.StoreRefusal.TheVariants.{Memory, TooLarge, TooManyPaths, RateExceeded}
 use Rattle.coap_resource.specs.declared.refusal.StoreRefusal.TheVariants.{VersionsSpent}
-use Rattle.coap_resource.specs.Content.{Content, Held, append_refusal, put_refusal}
-use Rattle.coap_resource.specs.Rate.{rate_refusal}
-use Rattle.coap_resource.specs.RequestOptions.{precondition_fails, accepts, etag_names, block_of, offset_by, tag_of}
-use Rattle.coap_resource.specs.RequestOptions.{szx_by}
+use Rattle.coap_resource.specs.Content.{Content, Held}
+use Rattle.coap_resource.specs.RequestOptions.{accepts, etag_names, block_of, offset_by, tag_of, szx_by}
 use Rattle.coap_resource.specs.ServedLaw.{IsContent, ContentLaw}
-use Rattle.coap_resource.specs.Serves.{Question, Reply, bare, got, refusal_code, content_reply, PutBy, JoinBy, PostBy}
-use Rattle.coap_resource.specs.Serves.{RemoveBy, DeleteBy, ServesMethod, ServesUnless}
+use Rattle.coap_resource.specs.Serves.{Question, Reply, bare, got, refusal_code, content_reply}
+use Rattle.coap_resource.proofs.OnlyGot.{IsOfGet, only_got, other_code}
 
 abbrev content : ℕ
 content = codes.CONTENT.0
-
--- no other response has this code
-
-other_code : (reply : Reply) (code offset : ℕ) → reply ≡ bare code offset → (code == content) ≡ false
-    → reply.code ≡ content → ⊥
-other_code reply code offset is other h =
-    let e : (reply.code == content) ≡ (code == content) = ap (λ (r : Reply). r.code == content) is in
-    let f : (reply.code == content) ≡ true = ap (λ k. k == content) h in
-    cc (e, f, other)
 
 refusal_other : (why : StoreRefusal) → (refusal_code why == content) ≡ false
 refusal_other Memory = refl
@@ -35,35 +23,15 @@ refusal_other TooManyPaths = refl
 refusal_other RateExceeded = refl
 refusal_other VersionsSpent = refl
 
-put_other : (o : Option StoreRefusal) (old : Content) (at : ℕ) (q : Question) (reply : Reply) (new : Content)
-    → PutBy o old at q reply new → reply.code ≡ content → ⊥
-put_other (Some why) old at q reply new h k = other_code reply (refusal_code why) 0 h.0 (refusal_other why) k
-put_other None old at q reply new h k = other_code reply _ 0 h.0 (by (is_some (old.holds q.path))) k
-  where
-    by : (b : Bool) → (cond b codes.CHANGED.0 codes.CREATED.0 == content) ≡ false
-    by true = refl
-    by false = refl
-
-join_other : (o : Option StoreRefusal) (was : Held) (old : Content) (at : ℕ) (q : Question) (reply : Reply)
-    (new : Content) → JoinBy o was old at q reply new → reply.code ≡ content → ⊥
-join_other (Some why) was old at q reply new h k = other_code reply (refusal_code why) 0 h.0 (refusal_other why) k
-join_other None was old at q reply new h k = other_code reply codes.CHANGED.0 0 h.0 refl k
-
-post_other : (o : Option Held) (old : Content) (at : ℕ) (q : Question) (reply : Reply) (new : Content)
-    → PostBy o old at q reply new → reply.code ≡ content → ⊥
-post_other None old at q reply new h k = other_code reply codes.NOT_FOUND.0 0 h.0 refl k
-post_other (Some was) old at q reply new h k =
-    join_other (append_refusal old at was (length q.body)) was old at q reply new h k
-
-remove_other : (o : Option StoreRefusal) (old : Content) (at : ℕ) (q : Question) (reply : Reply) (new : Content)
-    → RemoveBy o old at q reply new → reply.code ≡ content → ⊥
-remove_other (Some why) old at q reply new h k = other_code reply (refusal_code why) 0 h.0 (refusal_other why) k
-remove_other None old at q reply new h k = other_code reply codes.DELETED.0 0 h.0 refl k
-
-delete_other : (o : Option Held) (old : Content) (at : ℕ) (q : Question) (reply : Reply) (new : Content)
-    → DeleteBy o old at q reply new → reply.code ≡ content → ⊥
-delete_other None old at q reply new h k = other_code reply codes.DELETED.0 0 h.0 refl k
-delete_other (Some was) old at q reply new h k = remove_other (rate_refusal old.tally at) old at q reply new h k
+of_get : IsOfGet content
+of_get = record {
+  refused = refusal_other;
+  created = refl;
+  changed = refl;
+  deleted = refl;
+  not_found = refl;
+  failed = refl;
+}
 
 -- a GET
 
@@ -73,20 +41,19 @@ get_by_tests : (held : Held) (reply : Reply) (offset : ℕ) (part : Reply) (a e 
     (cond e (record (bare codes.VALID.0 offset) { tag = Some (tag_of held.version) })
     (cond b (bare codes.BAD_REQUEST.0 offset) part))
     → reply.code ≡ content → (b ≡ false) × (reply ≡ part)
-get_by_tests held reply offset part true e b is h k = absurd (other_code reply codes.NOT_ACCEPTABLE.0 offset h refl k)
+get_by_tests held reply offset part true e b is h k = absurd (other_code content reply codes.NOT_ACCEPTABLE.0 offset h refl k)
 get_by_tests held reply offset part false true b is h k =
-    absurd (let e : (reply.code == content) ≡ false =
-    ap (λ (r : Reply). r.code == content) h in let f : (reply.code == content)
-    ≡ true = ap (λ c. c == content) k in cc (e, f))
+    absurd (other_code content (bare codes.VALID.0 offset) codes.VALID.0 offset refl refl
+    (sym (ap (λ (r : Reply). r.code) h) ∙ k))
 get_by_tests held reply offset part false false true is h k =
-    absurd (other_code reply codes.BAD_REQUEST.0 offset h refl k)
+    absurd (other_code content reply codes.BAD_REQUEST.0 offset h refl k)
 get_by_tests held reply offset part false false false is h k = (refl, h)
 
 get_content : (o : Option Held) (old : Content) (q : Question) (reply : Reply) (new : Content) → q.method ≡ Get
     → old.holds q.path ≡ o → reply ≡ got o q → new ≡ old → reply.code ≡ content
     → IsContent old q reply new
 get_content None old q reply new get is h same k =
-    absurd (other_code reply codes.NOT_FOUND.0 (offset_by (block_of q.options)) h refl k)
+    absurd (other_code content reply codes.NOT_FOUND.0 (offset_by (block_of q.options)) h refl k)
 get_content (Some held) old q reply new get is h same k =
     let block = block_of q.options in
     let t = get_by_tests held reply (offset_by block)
@@ -95,19 +62,7 @@ get_content (Some held) old q reply new get is h same k =
     (nat_lt 0 (offset_by block) && nat_le (length held.body) (offset_by block)) refl h k in
     record { method = get; held = held; is_held = is; within = t.0; is = t.1; same = same }
 
-method_content : (m : Method) (old : Content) (at : ℕ) (q : Question) (reply : Reply) (new : Content) → q.method ≡ m
-    → ServesMethod m old at q reply new → reply.code ≡ content → IsContent old q reply new
-method_content Get old at q reply new m h k = get_content (old.holds q.path) old q reply new m refl h.0 h.1 k
-method_content Post old at q reply new m h k = absurd (post_other (old.holds q.path) old at q reply new h k)
-method_content Put old at q reply new m h k =
-    absurd (put_other (put_refusal old at q.path (length q.body)) old at q reply new h k)
-method_content Delete old at q reply new m h k = absurd (delete_other (old.holds q.path) old at q reply new h k)
-
-unless_content : (f : Bool) (old : Content) (at : ℕ) (q : Question) (reply : Reply) (new : Content)
-    → ServesUnless f old at q reply new → reply.code ≡ content → IsContent old q reply new
-unless_content true old at q reply new h k = absurd (other_code reply codes.PRECONDITION_FAILED.0 _ h.0 refl k)
-unless_content false old at q reply new h k = method_content q.method old at q reply new refl h k
-
 pub content_law : ContentLaw
-content_law old new at q reply h k = unless_content
-    (precondition_fails (old.holds q.path) q.options) old at q reply new h k
+content_law old new at q reply h k =
+    let g = only_got content of_get old new at q reply h k in
+    get_content (old.holds q.path) old q reply new g.method refl g.is g.same k

@@ -12,6 +12,7 @@ pub use Rattle.coap_exchange.proofs.Leading.ClientLeads.{led_start, led_call, le
 pub use Rattle.coap_exchange.proofs.Leading.ClientLeads.{exchanged_join, exchanged_split, exchanged_own}
 pub use Rattle.coap_exchange.proofs.Exact.ClientExactly.{exact}
 pub use Rattle.coap_exchange.proofs.Telling.FromServer.{came_from, server_is}
+pub use Rattle.coap_exchange.proofs.Telling.ResponsesMatch.{matched}
 pub use Rattle.coap_exchange.proofs.Ending.WhenDue.{when_due}
 
 pub are_exchanges : (server : Endpoint) (word : ℕ) (t : List Call) → AskerLaw server word t → AreExchanges t

@@ -8,10 +8,15 @@ use Rattle.coap_layer.specs.Ids.{Issued, upcoming}
 use Rattle.coap_layer.specs.Trace.{Receive, Entry}
 use Rattle.coap_layer.specs.Words.{Open, begun}
 use Rattle.coap_layer.specs.Rows.{LayerLaw}
-use Rattle.coap_layer.specs.Follows.{HandedUpOnce, CopiesInTime}
+use Rattle.coap_layer.specs.Apart.{ConsApart}
+use Rattle.coap_layer.specs.Follows.{HandedUpOnce, CopiesInTime, OneOutstanding, ResponsesSpelled}
 use Rattle.coap_layer.specs.Sends.{Begins, ConsSpelled, SpellsCon, EachGoesOut, TakenSince}
-use Rattle.coap_layer.specs.Channel.{Hop, Far, near_of, HandedAsSpelled, ChannelLaw, BegunAs, NonsSent, HandedOnce}
+use Rattle.coap_layer.specs.Channel.{Hop, Far, near_of, HandedAsSpelled, AcksHeard, ChannelLaw, BegunAs, NonsSent}
+use Rattle.coap_layer.specs.Channel.{HandedOnce, AcksReplied, AcksTaken, OnlyThatCon}
 use Rattle.coap_types.specs.declared.message.TheConstants.{MESSAGE_IDS as message_ids}
+use Rattle.coap_layer.proofs.Arrivals.ResponsesAreSpelled as responses
+use Rattle.coap_layer.proofs.Between.AcksAreReplies as acks
+use Rattle.coap_layer.proofs.Between.GoneIsNotBehind as gone
 use Rattle.coap_layer.proofs.Between.WhatComesByType as comes
 use Rattle.coap_layer.proofs.Copies.CopiesInTime as copies
 use Rattle.coap_layer.proofs.Arrivals.HandedAsSpelled as handed
@@ -27,6 +32,9 @@ handed_up_once = copies.handed_up_once
 
 pub copies_in_time : (word : ℕ) (t : List Entry) → LayerLaw word t → CopiesInTime t
 copies_in_time = copies.copies_in_time
+
+pub one_outstanding : (word : ℕ) (t : List Entry) → LayerLaw word t → OneOutstanding t
+one_outstanding = copies.one_outstanding
 
 -- a Message ID has 16 bits
 pub small : (word : ℕ) (t : List Issued) → upcoming word t < message_ids
@@ -55,6 +63,12 @@ taken_since = order.taken_since
 pub handed_spelled : (word : ℕ) (t : List Entry) → LayerLaw word t → HandedAsSpelled t
 handed_spelled = handed.handed_spelled
 
+pub acks_heard : (word : ℕ) (t : List Entry) → LayerLaw word t → AcksHeard t
+acks_heard = handed.acks_heard
+
+pub responses_spelled : (word : ℕ) (t : List Entry) → LayerLaw word t → ResponsesSpelled t
+responses_spelled = responses.responses_spelled
+
 module _ (one other : ℕ) (near far : Endpoint) where
   pub begun_as : (past : List Hop) (x : Entry) (bytes : List ℕ) (m : Message)
       → ChannelLaw one other near far (Far x ∷ past) → x.call ≡ Receive near bytes → Spells bytes m → m.kind ≡ Con
@@ -66,3 +80,15 @@ module _ (one other : ℕ) (near far : Endpoint) where
 
   pub handed_once : (all : List Hop) → ChannelLaw one other near far all → HandedOnce near all
   handed_once = takings.handed_once one other near far
+
+  pub only_that_con : (all : List Hop) → ChannelLaw one other near far all → OnlyThatCon near far all
+  only_that_con = takings.only_that_con one other near far
+
+  pub cons_apart : (all : List Hop) → ChannelLaw one other near far all → ConsApart near all
+  cons_apart = gone.cons_apart one other near far
+
+  pub acks_replied : (all : List Hop) → ChannelLaw one other near far all → AcksReplied near far all
+  acks_replied = acks.acks_replied one other near far
+
+  pub acks_taken : (all : List Hop) → ChannelLaw one other near far all → AcksTaken near far all
+  acks_taken = acks.acks_taken one other near far
