@@ -41,7 +41,8 @@ in_queue_kept k n (Starts key ∷ q) = ap (λ m. hit key k + m) (in_queue_kept k
 in_queue_kept k n (Cancels j ∷ q) = by (j == n) (in_queue_kept k n q)
   where
     by : (b : Bool) → in_queue k (filter (λ x. not (is_cancel_key n x)) q) ≡ in_queue k q
-        → in_queue k (cond (not b) (Cancels j ∷ filter (λ x. not (is_cancel_key n x)) q) (filter (λ x. not (is_cancel_key n x)) q)) ≡ in_queue k q
+        → in_queue k (cond (not b) (Cancels j ∷ filter (λ x. not (is_cancel_key n x)) q)
+        (filter (λ x. not (is_cancel_key n x)) q)) ≡ in_queue k q
     by true h = h
     by false h = h
 
@@ -49,12 +50,15 @@ in_queue_kept k n (Cancels j ∷ q) = by (j == n) (in_queue_kept k n q)
 
 found_in : (l : List ℕ) (p key : ℕ) → slice_get l p ≡ Some key → 1 ≤ in_live key l
 found_in [] p key h = absurd (cc h)
-found_in (j ∷ l) zero key h = let is : j ≡ key = cc h in let a : hit j key ≡ 1 = ap (λ x. hit x key) is ∙ hit_same key in omega (arith, a)
+found_in (j ∷ l) zero key h = let is : j ≡ key = cc h in let a : hit j key ≡ 1 =
+    ap (λ x. hit x key) is ∙ hit_same key in omega (arith, a)
 found_in (j ∷ l) (suc p) key h = let a = found_in l p key h in omega (arith, a)
 
-pub in_live_without : (k key : ℕ) (l : List ℕ) (p : ℕ) → slice_get l p ≡ Some key → in_live k (remove l p) + hit key k ≡ in_live k l
+pub in_live_without : (k key : ℕ) (l : List ℕ) (p : ℕ) → slice_get l p ≡ Some key
+    → in_live k (remove l p) + hit key k ≡ in_live k l
 in_live_without k key [] p h = absurd (cc h)
-in_live_without k key (j ∷ l) zero h = let is : j ≡ key = cc h in let a : hit j k ≡ hit key k = ap (λ x. hit x k) is in omega (arith, a)
+in_live_without k key (j ∷ l) zero h = let is : j ≡ key = cc h in let a : hit j k ≡ hit key k = ap (λ x. hit x k) is in
+    omega (arith, a)
 in_live_without k key (j ∷ l) (suc p) h = let a = in_live_without k key l p h in omega (arith, a)
 
 module _ {W O : Type 0} where
@@ -80,19 +84,23 @@ module _ {W O : Type 0} where
   abbrev Lives : (ℕ → Option (Entry W O)) → List ℕ → Type 0
   Lives at l = (k : ℕ) → in_live k l ≤ observations (at k)
 
-  waiting : (at : ℕ → Option (Entry W O)) (q : List (Queued ℕ)) (r : Option (Running ℕ)) (l : List ℕ) → EachOnce at q r l → Waits at q
+  waiting : (at : ℕ → Option (Entry W O)) (q : List (Queued ℕ)) (r : Option (Running ℕ)) (l : List ℕ)
+      → EachOnce at q r l → Waits at q
   waiting at q r l once k = let a = once.operation k in omega (arith, a)
 
-  living : (at : ℕ → Option (Entry W O)) (q : List (Queued ℕ)) (r : Option (Running ℕ)) (l : List ℕ) → EachOnce at q r l → Lives at l
+  living : (at : ℕ → Option (Entry W O)) (q : List (Queued ℕ)) (r : Option (Running ℕ)) (l : List ℕ) → EachOnce at q r l
+      → Lives at l
   living at q r l once k = let a = once.observation k in omega (arith, a)
 
-  waits_first_is : (at : ℕ → Option (Entry W O)) (key : ℕ) (q : List (Queued ℕ)) → Waits at (Starts key ∷ q) → (w : W) × (at key ≡ Some (Operation w))
+  waits_first_is : (at : ℕ → Option (Entry W O)) (key : ℕ) (q : List (Queued ℕ)) → Waits at (Starts key ∷ q) → (w : W)
+      × (at key ≡ Some (Operation w))
   waits_first_is at key q h = operation_there (at key) (let a = h key in let b = hit_same key in omega (arith, a, b))
 
   waits_behind : (at : ℕ → Option (Entry W O)) (key : ℕ) (q : List (Queued ℕ)) → Waits at (Starts key ∷ q) → Waits at q
   waits_behind at key q h k = let a = h k in omega (arith, a)
 
-  lives_first_is : (at : ℕ → Option (Entry W O)) (key : ℕ) (l : List ℕ) → Lives at (key ∷ l) → (o : O) × (at key ≡ Some (Observation o))
+  lives_first_is : (at : ℕ → Option (Entry W O)) (key : ℕ) (l : List ℕ) → Lives at (key ∷ l) → (o : O)
+      × (at key ≡ Some (Observation o))
   lives_first_is at key l h = observation_there (at key) (let a = h key in let b = hit_same key in omega (arith, a, b))
 
   lives_behind : (at : ℕ → Option (Entry W O)) (key : ℕ) (l : List ℕ) → Lives at (key ∷ l) → Lives at l
@@ -102,27 +110,33 @@ module _ {W O : Type 0} where
   queue_len at [] h = refl
   queue_len at (Cancels n ∷ q) h = ap suc (queue_len at q h)
   queue_len at (Starts key ∷ q) h =
-      ap suc (queue_len at q (waits_behind at key q h)) ∙ ap (λ e. length (waits_first e (queue_of at q))) (sym (waits_first_is at key q h).1)
+      ap suc (queue_len at q (waits_behind at key q h))
+      ∙ ap (λ e. length (waits_first e (queue_of at q))) (sym (waits_first_is at key q h).1)
 
-  pub waiting_len : (at : ℕ → Option (Entry W O)) (q : List (Queued ℕ)) (r : Option (Running ℕ)) (l : List ℕ) → EachOnce at q r l → length q ≡ length (queue_of at q)
+  pub waiting_len : (at : ℕ → Option (Entry W O)) (q : List (Queued ℕ)) (r : Option (Running ℕ)) (l : List ℕ)
+      → EachOnce at q r l → length q ≡ length (queue_of at q)
   waiting_len at q r l once = queue_len at q (waiting at q r l once)
 
   live_len : (at : ℕ → Option (Entry W O)) (l : List ℕ) → Lives at l → length l ≡ length (live_of at l)
   live_len at [] h = refl
   live_len at (key ∷ l) h =
-      ap suc (live_len at l (lives_behind at key l h)) ∙ ap (λ e. length (live_first e (live_of at l))) (sym (lives_first_is at key l h).1)
+      ap suc (live_len at l (lives_behind at key l h))
+      ∙ ap (λ e. length (live_first e (live_of at l))) (sym (lives_first_is at key l h).1)
 
-  pub living_len : (at : ℕ → Option (Entry W O)) (q : List (Queued ℕ)) (r : Option (Running ℕ)) (l : List ℕ) → EachOnce at q r l → length l ≡ length (live_of at l)
+  pub living_len : (at : ℕ → Option (Entry W O)) (q : List (Queued ℕ)) (r : Option (Running ℕ)) (l : List ℕ)
+      → EachOnce at q r l → length l ≡ length (live_of at l)
   living_len at q r l once = live_len at l (living at q r l once)
 
   -- one list of keys behind another
 
-  queue_append : (at : ℕ → Option (Entry W O)) (q p : List (Queued ℕ)) → queue_of at (q ++ p) ≡ queue_of at q ++ queue_of at p
+  queue_append : (at : ℕ → Option (Entry W O)) (q p : List (Queued ℕ))
+      → queue_of at (q ++ p) ≡ queue_of at q ++ queue_of at p
   queue_append at [] p = refl
   queue_append at (Cancels n ∷ q) p = ap (λ l. Cancels n ∷ l) (queue_append at q p)
   queue_append at (Starts key ∷ q) p = by (at key) (queue_append at q p)
     where
-      by : (e : Option (Entry W O)) → queue_of at (q ++ p) ≡ queue_of at q ++ queue_of at p → waits_first e (queue_of at (q ++ p)) ≡ waits_first e (queue_of at q) ++ queue_of at p
+      by : (e : Option (Entry W O)) → queue_of at (q ++ p) ≡ queue_of at q ++ queue_of at p
+          → waits_first e (queue_of at (q ++ p)) ≡ waits_first e (queue_of at q) ++ queue_of at p
       by None h = h
       by (Some (Operation w)) h = ap (λ l. Starts w ∷ l) h
       by (Some (Observation o)) h = h
@@ -131,28 +145,32 @@ module _ {W O : Type 0} where
   live_append at [] m = refl
   live_append at (key ∷ l) m = by (at key) (live_append at l m)
     where
-      by : (e : Option (Entry W O)) → live_of at (l ++ m) ≡ live_of at l ++ live_of at m → live_first e (live_of at (l ++ m)) ≡ live_first e (live_of at l) ++ live_of at m
+      by : (e : Option (Entry W O)) → live_of at (l ++ m) ≡ live_of at l ++ live_of at m
+          → live_first e (live_of at (l ++ m)) ≡ live_first e (live_of at l) ++ live_of at m
       by None h = h
       by (Some (Operation w)) h = h
       by (Some (Observation o)) h = ap (λ k. o ∷ k) h
 
   -- where a key is not there, what it finds does not count
 
-  queue_frame : (at to : ℕ → Option (Entry W O)) (key : ℕ) → SaveAt key to at → (q : List (Queued ℕ)) → in_queue key q ≡ 0 → queue_of to q ≡ queue_of at q
+  queue_frame : (at to : ℕ → Option (Entry W O)) (key : ℕ) → SaveAt key to at → (q : List (Queued ℕ))
+      → in_queue key q ≡ 0 → queue_of to q ≡ queue_of at q
   queue_frame at to key save [] h = refl
   queue_frame at to key save (Cancels n ∷ q) h = ap (λ l. Cancels n ∷ l) (queue_frame at to key save q h)
   queue_frame at to key save (Starts j ∷ q) h =
       ap (λ e. waits_first e (queue_of to q)) (save j (apart j key (in_queue key q) h))
       ∙ ap (λ l. waits_first (at j) l) (queue_frame at to key save q (omega (arith, h)))
 
-  running_frame : (at to : ℕ → Option (Entry W O)) (key : ℕ) → SaveAt key to at → (r : Option (Running ℕ)) → in_running key r ≡ 0 → running_of to r ≡ running_of at r
+  running_frame : (at to : ℕ → Option (Entry W O)) (key : ℕ) → SaveAt key to at → (r : Option (Running ℕ))
+      → in_running key r ≡ 0 → running_of to r ≡ running_of at r
   running_frame at to key save None h = refl
   running_frame at to key save (Some (Started j)) h = ap started (save j (apart j key 0 (omega (arith, h))))
   running_frame at to key save (Some (Fetching n)) h = refl
   running_frame at to key save (Some (Cancelling n)) h = refl
   running_frame at to key save (Some Dropped) h = refl
 
-  live_frame : (at to : ℕ → Option (Entry W O)) (key : ℕ) → SaveAt key to at → (l : List ℕ) → in_live key l ≡ 0 → live_of to l ≡ live_of at l
+  live_frame : (at to : ℕ → Option (Entry W O)) (key : ℕ) → SaveAt key to at → (l : List ℕ) → in_live key l ≡ 0
+      → live_of to l ≡ live_of at l
   live_frame at to key save [] h = refl
   live_frame at to key save (j ∷ l) h =
       ap (λ e. live_first e (live_of to l)) (save j (apart j key (in_live key l) h))
@@ -160,18 +178,22 @@ module _ {W O : Type 0} where
 
   -- how many a key finds, where one entry changes
 
-  same_count : (f : Option (Entry W O) → ℕ) (at to : ℕ → Option (Entry W O)) (key : ℕ) → SaveAt key to at → f (to key) ≡ f (at key) → (k : ℕ) → f (to k) ≡ f (at k)
+  same_count : (f : Option (Entry W O) → ℕ) (at to : ℕ → Option (Entry W O)) (key : ℕ) → SaveAt key to at
+      → f (to key) ≡ f (at key) → (k : ℕ) → f (to k) ≡ f (at k)
   same_count f at to key save same k =
       elim (cases_eq k key) [
         | inl is ↦ subst (λ x. f (to x) ≡ f (at x)) (sym is) same
         | inr differs ↦ ap f (save k differs)
       ]
 
-  more_count : (f : Option (Entry W O) → ℕ) (at to : ℕ → Option (Entry W O)) (key : ℕ) → SaveAt key to at → f (at key) ≡ 0 → f (to key) ≡ 1 → (k : ℕ) → f (to k) ≡ f (at k) + hit key k
+  more_count : (f : Option (Entry W O) → ℕ) (at to : ℕ → Option (Entry W O)) (key : ℕ) → SaveAt key to at
+      → f (at key) ≡ 0 → f (to key) ≡ 1 → (k : ℕ) → f (to k) ≡ f (at k) + hit key k
   more_count f at to key save none one k =
       elim (cases_eq k key) [
-        | inl is ↦ subst (λ x. f (to x) ≡ f (at x) + hit key x) (sym is) (let h = hit_same key in omega (arith, h, none, one))
-        | inr differs ↦ (let h = hit_other key k (λ e. differs (sym e)) in let s = ap f (save k differs) in omega (arith, h, s))
+        | inl is ↦ subst (λ x. f (to x) ≡ f (at x) + hit key x) (sym is)
+            (let h = hit_same key in omega (arith, h, none, one))
+        | inr differs ↦ (let h = hit_other key k (λ e. differs (sym e)) in let s = ap f (save k differs) in
+            omega (arith, h, s))
       ]
 
   -- the parts of a list
@@ -179,14 +201,17 @@ module _ {W O : Type 0} where
   abbrev pub listed : List (Queued W) → Option (Running W) → List O → ℕ → ℕ → Listed W O
   listed q r l spare places = record { queue = q; running = r; live = l; spare = spare; places = places }
 
-  pub listed_is : (q new_q : List (Queued W)) (r new_r : Option (Running W)) (l new_l : List O) (spare places : ℕ) → new_q ≡ q → new_r ≡ r → new_l ≡ l
+  pub listed_is : (q new_q : List (Queued W)) (r new_r : Option (Running W)) (l new_l : List O) (spare places : ℕ)
+      → new_q ≡ q → new_r ≡ r → new_l ≡ l
       → listed new_q new_r new_l spare places ≡ listed q r l spare places
   listed_is q new_q r new_r l new_l spare places eq er el =
-      ap (λ x. listed x new_r new_l spare places) eq ∙ (ap (λ x. listed q x new_l spare places) er ∙ ap (λ x. listed q r x spare places) el)
+      ap (λ x. listed x new_r new_l spare places) eq
+      ∙ (ap (λ x. listed q x new_l spare places) er ∙ ap (λ x. listed q r x spare places) el)
 
   -- an operation that is new
 
-  module _ (at to : ℕ → Option (Entry W O)) (q : List (Queued ℕ)) (r : Option (Running ℕ)) (l : List ℕ) (key : ℕ) (w : W) (was : at key ≡ None) (is : to key ≡ Some (Operation w)) (save : SaveAt key to at)
+  module _ (at to : ℕ → Option (Entry W O)) (q : List (Queued ℕ)) (r : Option (Running ℕ)) (l : List ℕ) (key : ℕ)
+      (w : W) (was : at key ≡ None) (is : to key ≡ Some (Operation w)) (save : SaveAt key to at)
       (once : EachOnce at q r l) where
     not_live : in_live key l ≡ 0
     not_live = once.observation key ∙ ap observations was
@@ -203,7 +228,8 @@ module _ {W O : Type 0} where
     pub pushed_once : EachOnce to (q ++ Starts key ∷ []) r l
     pushed_once =
         record {
-          operation = λ k. let a = in_queue_append k q (Starts key ∷ []) in let b = counted k in let c = once.operation k in omega (arith, a, b, c);
+          operation = λ k. let a = in_queue_append k q (Starts key ∷ []) in let b = counted k in let c =
+              once.operation k in omega (arith, a, b, c);
           observation = λ k. once.observation k ∙ sym (uncounted k);
         }
 
@@ -224,19 +250,23 @@ module _ {W O : Type 0} where
 
   -- an operation that is new runs, where nothing did
 
-  pub runs_once : (at to : ℕ → Option (Entry W O)) (q : List (Queued ℕ)) (l : List ℕ) (key : ℕ) (w : W) → at key ≡ None → to key ≡ Some (Operation w) → SaveAt key to at
+  pub runs_once : (at to : ℕ → Option (Entry W O)) (q : List (Queued ℕ)) (l : List ℕ) (key : ℕ) (w : W) → at key ≡ None
+      → to key ≡ Some (Operation w) → SaveAt key to at
       → EachOnce at q None l → EachOnce to q (Some (Started key)) l
   runs_once at to q l key w was is save once =
       record {
-        operation = λ k. let b = counted at to q None l key w was is save once k in let c = once.operation k in omega (arith, b, c);
+        operation = λ k. let b = counted at to q None l key w was is save once k in let c = once.operation k in
+            omega (arith, b, c);
         observation = λ k. once.observation k ∙ sym (uncounted at to q None l key w was is save once k);
       }
 
   -- nothing runs where nothing is seen to
-  pub none_runs : (at : ℕ → Option (Entry W O)) (q : List (Queued ℕ)) (r : Option (Running ℕ)) (l : List ℕ) → EachOnce at q r l → running_of at r ≡ None → r ≡ None
+  pub none_runs : (at : ℕ → Option (Entry W O)) (q : List (Queued ℕ)) (r : Option (Running ℕ)) (l : List ℕ)
+      → EachOnce at q r l → running_of at r ≡ None → r ≡ None
   none_runs at q None l once h = refl
   none_runs at q (Some (Started key)) l once h =
-      let there = operation_there (at key) (let a = once.operation key in let b = hit_same key in omega (arith, a, b)) in
+      let there = operation_there (at key) (let a = once.operation key in let b = hit_same key in omega (arith, a, b))
+      in
       let no : started (at key) ≡ Some (Started there.0) = ap started there.1 in
       absurd (cc)
   none_runs at q (Some (Fetching n)) l once h = absurd (cc h)
@@ -245,48 +275,60 @@ module _ {W O : Type 0} where
 
   -- the cancels of an observation
 
-  pub has_queued : (at : ℕ → Option (Entry W O)) (n : ℕ) (q : List (Queued ℕ)) → list_any (is_cancel_key n) q ≡ list_any (is_cancel n) (queue_of at q)
+  pub has_queued : (at : ℕ → Option (Entry W O)) (n : ℕ) (q : List (Queued ℕ))
+      → list_any (is_cancel_key n) q ≡ list_any (is_cancel n) (queue_of at q)
   has_queued at n [] = refl
   has_queued at n (Cancels k ∷ q) = ap (λ b. (k == n) || b) (has_queued at n q)
   has_queued at n (Starts key ∷ q) = by (at key) (has_queued at n q)
     where
-      by : (e : Option (Entry W O)) → list_any (is_cancel_key n) q ≡ list_any (is_cancel n) (queue_of at q) → list_any (is_cancel_key n) q ≡ list_any (is_cancel n) (waits_first e (queue_of at q))
+      by : (e : Option (Entry W O)) → list_any (is_cancel_key n) q ≡ list_any (is_cancel n) (queue_of at q)
+          → list_any (is_cancel_key n) q ≡ list_any (is_cancel n) (waits_first e (queue_of at q))
       by None h = h
       by (Some (Operation w)) h = h
       by (Some (Observation o)) h = h
 
-  pub drop_queued : (at : ℕ → Option (Entry W O)) (n : ℕ) (q : List (Queued ℕ)) → queue_of at (filter (λ x. not (is_cancel_key n x)) q) ≡ filter (λ x. not (is_cancel n x)) (queue_of at q)
+  pub drop_queued : (at : ℕ → Option (Entry W O)) (n : ℕ) (q : List (Queued ℕ))
+      → queue_of at (filter (λ x. not (is_cancel_key n x)) q) ≡ filter (λ x. not (is_cancel n x)) (queue_of at q)
   drop_queued at n [] = refl
   drop_queued at n (Cancels k ∷ q) = by (k == n) (drop_queued at n q)
     where
-      by : (b : Bool) → queue_of at (filter (λ x. not (is_cancel_key n x)) q) ≡ filter (λ x. not (is_cancel n x)) (queue_of at q)
-          → queue_of at (cond (not b) (Cancels k ∷ filter (λ x. not (is_cancel_key n x)) q) (filter (λ x. not (is_cancel_key n x)) q))
-          ≡ cond (not b) (Cancels k ∷ filter (λ x. not (is_cancel n x)) (queue_of at q)) (filter (λ x. not (is_cancel n x)) (queue_of at q))
+      by : (b : Bool) → queue_of at (filter (λ x. not (is_cancel_key n x)) q)
+          ≡ filter (λ x. not (is_cancel n x)) (queue_of at q)
+          → queue_of at (cond (not b) (Cancels k ∷ filter (λ x. not (is_cancel_key n x)) q)
+          (filter (λ x. not (is_cancel_key n x)) q))
+          ≡ cond (not b) (Cancels k ∷ filter (λ x. not (is_cancel n x)) (queue_of at q))
+          (filter (λ x. not (is_cancel n x)) (queue_of at q))
       by true h = h
       by false h = ap (λ l. Cancels k ∷ l) h
   drop_queued at n (Starts key ∷ q) = by (at key) (drop_queued at n q)
     where
-      by : (e : Option (Entry W O)) → queue_of at (filter (λ x. not (is_cancel_key n x)) q) ≡ filter (λ x. not (is_cancel n x)) (queue_of at q)
-          → waits_first e (queue_of at (filter (λ x. not (is_cancel_key n x)) q)) ≡ filter (λ x. not (is_cancel n x)) (waits_first e (queue_of at q))
+      by : (e : Option (Entry W O)) → queue_of at (filter (λ x. not (is_cancel_key n x)) q)
+          ≡ filter (λ x. not (is_cancel n x)) (queue_of at q)
+          → waits_first e (queue_of at (filter (λ x. not (is_cancel_key n x)) q))
+          ≡ filter (λ x. not (is_cancel n x)) (waits_first e (queue_of at q))
       by None h = h
       by (Some (Operation w)) h = ap (λ l. Starts w ∷ l) h
       by (Some (Observation o)) h = h
 
-  pub dropped_once : (at : ℕ → Option (Entry W O)) (n : ℕ) (q : List (Queued ℕ)) (r : Option (Running ℕ)) (l : List ℕ) → EachOnce at q r l → EachOnce at (filter (λ x. not (is_cancel_key n x)) q) r l
+  pub dropped_once : (at : ℕ → Option (Entry W O)) (n : ℕ) (q : List (Queued ℕ)) (r : Option (Running ℕ)) (l : List ℕ)
+      → EachOnce at q r l → EachOnce at (filter (λ x. not (is_cancel_key n x)) q) r l
   dropped_once at n q r l once =
       record {
         operation = λ k. ap (λ m. m + in_running k r) (in_queue_kept k n q) ∙ once.operation k;
         observation = once.observation;
       }
 
-  pub cancel_once : (at : ℕ → Option (Entry W O)) (n : ℕ) (q : List (Queued ℕ)) (r : Option (Running ℕ)) (l : List ℕ) → EachOnce at q r l → EachOnce at (q ++ Cancels n ∷ []) r l
+  pub cancel_once : (at : ℕ → Option (Entry W O)) (n : ℕ) (q : List (Queued ℕ)) (r : Option (Running ℕ)) (l : List ℕ)
+      → EachOnce at q r l → EachOnce at (q ++ Cancels n ∷ []) r l
   cancel_once at n q r l once =
       record {
-        operation = λ k. let a = in_queue_append k q (Cancels n ∷ []) in let b = once.operation k in omega (arith, a, b);
+        operation = λ k. let a = in_queue_append k q (Cancels n ∷ []) in let b = once.operation k in
+            omega (arith, a, b);
         observation = once.observation;
       }
 
-  pub cancel_queued : (at : ℕ → Option (Entry W O)) (n : ℕ) (q : List (Queued ℕ)) → queue_of at (q ++ Cancels n ∷ []) ≡ queue_of at q ++ Cancels n ∷ []
+  pub cancel_queued : (at : ℕ → Option (Entry W O)) (n : ℕ) (q : List (Queued ℕ))
+      → queue_of at (q ++ Cancels n ∷ []) ≡ queue_of at q ++ Cancels n ∷ []
   cancel_queued at n q = queue_append at q (Cancels n ∷ [])
 
   -- what a place finds
@@ -299,67 +341,84 @@ module _ {W O : Type 0} where
   look at (Some (Starts key)) = waits_in (at key)
   look at (Some (Cancels n)) = Some (Cancels n)
 
-  queue_at : (at : ℕ → Option (Entry W O)) (q : List (Queued ℕ)) → Waits at q → (p : ℕ) → slice_get (queue_of at q) p ≡ look at (slice_get q p)
+  queue_at : (at : ℕ → Option (Entry W O)) (q : List (Queued ℕ)) → Waits at q → (p : ℕ)
+      → slice_get (queue_of at q) p ≡ look at (slice_get q p)
   queue_at at [] h p = refl
   queue_at at (Cancels n ∷ q) h zero = refl
   queue_at at (Cancels n ∷ q) h (suc p) = queue_at at q h p
   queue_at at (Starts key ∷ q) h zero =
-      let there = waits_first_is at key q h in ap (λ e. slice_get (waits_first e (queue_of at q)) 0) there.1 ∙ sym (ap waits_in there.1)
+      let there = waits_first_is at key q h in
+      ap (λ e. slice_get (waits_first e (queue_of at q)) 0) there.1 ∙ sym (ap waits_in there.1)
   queue_at at (Starts key ∷ q) h (suc p) =
-      ap (λ e. slice_get (waits_first e (queue_of at q)) (suc p)) (waits_first_is at key q h).1 ∙ queue_at at q (waits_behind at key q h) p
+      ap (λ e. slice_get (waits_first e (queue_of at q)) (suc p)) (waits_first_is at key q h).1
+      ∙ queue_at at q (waits_behind at key q h) p
 
-  pub waiting_at : (at : ℕ → Option (Entry W O)) (q : List (Queued ℕ)) (r : Option (Running ℕ)) (l : List ℕ) → EachOnce at q r l → (p : ℕ) → slice_get (queue_of at q) p ≡ look at (slice_get q p)
+  pub waiting_at : (at : ℕ → Option (Entry W O)) (q : List (Queued ℕ)) (r : Option (Running ℕ)) (l : List ℕ)
+      → EachOnce at q r l → (p : ℕ) → slice_get (queue_of at q) p ≡ look at (slice_get q p)
   waiting_at at q r l once = queue_at at q (waiting at q r l once)
 
   abbrev pub look_live : (ℕ → Option (Entry W O)) → Option ℕ → Option O
   look_live at None = None
   look_live at (Some key) = observation_in (at key)
 
-  live_at : (at : ℕ → Option (Entry W O)) (l : List ℕ) → Lives at l → (p : ℕ) → slice_get (live_of at l) p ≡ look_live at (slice_get l p)
+  live_at : (at : ℕ → Option (Entry W O)) (l : List ℕ) → Lives at l → (p : ℕ)
+      → slice_get (live_of at l) p ≡ look_live at (slice_get l p)
   live_at at [] h p = refl
-  live_at at (key ∷ l) h zero = let there = lives_first_is at key l h in ap (λ e. slice_get (live_first e (live_of at l)) 0) there.1 ∙ sym (ap observation_in there.1)
-  live_at at (key ∷ l) h (suc p) = ap (λ e. slice_get (live_first e (live_of at l)) (suc p)) (lives_first_is at key l h).1 ∙ live_at at l (lives_behind at key l h) p
+  live_at at (key ∷ l) h zero = let there = lives_first_is at key l h in
+      ap (λ e. slice_get (live_first e (live_of at l)) 0) there.1 ∙ sym (ap observation_in there.1)
+  live_at at (key ∷ l) h (suc p) = ap (λ e. slice_get (live_first e (live_of at l)) (suc p))
+      (lives_first_is at key l h).1 ∙ live_at at l (lives_behind at key l h) p
 
-  pub living_at : (at : ℕ → Option (Entry W O)) (q : List (Queued ℕ)) (r : Option (Running ℕ)) (l : List ℕ) → EachOnce at q r l → (p : ℕ) → slice_get (live_of at l) p ≡ look_live at (slice_get l p)
+  pub living_at : (at : ℕ → Option (Entry W O)) (q : List (Queued ℕ)) (r : Option (Running ℕ)) (l : List ℕ)
+      → EachOnce at q r l → (p : ℕ) → slice_get (live_of at l) p ≡ look_live at (slice_get l p)
   living_at at q r l once = live_at at l (living at q r l once)
 
   -- one observation is written
 
-  live_set : (at to : ℕ → Option (Entry W O)) (key : ℕ) (o : O) → SaveAt key to at → to key ≡ Some (Observation o) → (l : List ℕ) → Lives at l → in_live key l ≤ 1 → (p : ℕ) → slice_get l p ≡ Some key
+  live_set : (at to : ℕ → Option (Entry W O)) (key : ℕ) (o : O) → SaveAt key to at → to key ≡ Some (Observation o)
+      → (l : List ℕ) → Lives at l → in_live key l ≤ 1 → (p : ℕ) → slice_get l p ≡ Some key
       → live_of to l ≡ set (live_of at l) p o
   live_set at to key o save is [] h one p found = absurd (cc found)
   live_set at to key o save is (j ∷ l) h one zero found =
       let same : j ≡ key = cc found in
       let a : hit j key ≡ 1 = ap (λ x. hit x key) same ∙ hit_same key in
       ap (λ e. live_first e (live_of to l)) (ap to same ∙ is)
-      ∙ (ap (λ m. o ∷ m) (live_frame at to key save l (omega (arith, a, one))) ∙ ap (λ e. set (live_first e (live_of at l)) 0 o) (sym (lives_first_is at j l h).1))
+      ∙ (ap (λ m. o ∷ m) (live_frame at to key save l (omega (arith, a, one)))
+      ∙ ap (λ e. set (live_first e (live_of at l)) 0 o) (sym (lives_first_is at j l h).1))
   live_set at to key o save is (j ∷ l) h one (suc p) found =
       let there = lives_first_is at j l h in
       let a = found_in l p key found in
       let none : hit j key + 0 ≡ 0 = omega (arith, a, one) in
       ap (λ e. live_first e (live_of to l)) (save j (apart j key 0 none) ∙ there.1)
-      ∙ (ap (λ m. there.0 ∷ m) (live_set at to key o save is l (lives_behind at j l h) (omega (arith, one)) p found) ∙ ap (λ e. set (live_first e (live_of at l)) (suc p) o) (sym there.1))
+      ∙ (ap (λ m. there.0 ∷ m) (live_set at to key o save is l (lives_behind at j l h) (omega (arith, one)) p found)
+      ∙ ap (λ e. set (live_first e (live_of at l)) (suc p) o) (sym there.1))
 
-  live_without : (at to : ℕ → Option (Entry W O)) (key : ℕ) → SaveAt key to at → (l : List ℕ) → Lives at l → in_live key l ≤ 1 → (p : ℕ) → slice_get l p ≡ Some key
+  live_without : (at to : ℕ → Option (Entry W O)) (key : ℕ) → SaveAt key to at → (l : List ℕ) → Lives at l
+      → in_live key l ≤ 1 → (p : ℕ) → slice_get l p ≡ Some key
       → live_of to (remove l p) ≡ remove (live_of at l) p
   live_without at to key save [] h one p found = absurd (cc found)
   live_without at to key save (j ∷ l) h one zero found =
       let same : j ≡ key = cc found in
       let a : hit j key ≡ 1 = ap (λ x. hit x key) same ∙ hit_same key in
-      live_frame at to key save l (omega (arith, a, one)) ∙ ap (λ e. remove (live_first e (live_of at l)) 0) (sym (lives_first_is at j l h).1)
+      live_frame at to key save l (omega (arith, a, one))
+      ∙ ap (λ e. remove (live_first e (live_of at l)) 0) (sym (lives_first_is at j l h).1)
   live_without at to key save (j ∷ l) h one (suc p) found =
       let there = lives_first_is at j l h in
       let a = found_in l p key found in
       let none : hit j key + 0 ≡ 0 = omega (arith, a, one) in
       ap (λ e. live_first e (live_of to (remove l p))) (save j (apart j key 0 none) ∙ there.1)
-      ∙ (ap (λ m. there.0 ∷ m) (live_without at to key save l (lives_behind at j l h) (omega (arith, one)) p found) ∙ ap (λ e. remove (live_first e (live_of at l)) (suc p)) (sym there.1))
+      ∙ (ap (λ m. there.0 ∷ m) (live_without at to key save l (lives_behind at j l h) (omega (arith, one)) p found)
+      ∙ ap (λ e. remove (live_first e (live_of at l)) (suc p)) (sym there.1))
 
-  pub live_there : (at : ℕ → Option (Entry W O)) (q : List (Queued ℕ)) (r : Option (Running ℕ)) (l : List ℕ) → EachOnce at q r l → (p key : ℕ) → slice_get l p ≡ Some key → (o : O) × (at key ≡ Some (Observation o))
-  live_there at q r l once p key found = observation_there (at key) (let a = once.observation key in let b = found_in l p key found in omega (arith, a, b))
+  pub live_there : (at : ℕ → Option (Entry W O)) (q : List (Queued ℕ)) (r : Option (Running ℕ)) (l : List ℕ)
+      → EachOnce at q r l → (p key : ℕ) → slice_get l p ≡ Some key → (o : O) × (at key ≡ Some (Observation o))
+  live_there at q r l once p key found = observation_there (at key)
+      (let a = once.observation key in let b = found_in l p key found in omega (arith, a, b))
 
   -- the entry of a live observation changes
 
-  module _ (at to : ℕ → Option (Entry W O)) (q : List (Queued ℕ)) (r : Option (Running ℕ)) (l : List ℕ) (key p : ℕ) (found : slice_get l p ≡ Some key) (save : SaveAt key to at) (once : EachOnce at q r l) where
+  module _ (at to : ℕ → Option (Entry W O)) (q : List (Queued ℕ)) (r : Option (Running ℕ)) (l : List ℕ) (key p : ℕ)
+      (found : slice_get l p ≡ Some key) (save : SaveAt key to at) (once : EachOnce at q r l) where
     observed : (o : O) × (at key ≡ Some (Observation o))
     observed = live_there at q r l once p key found
 
@@ -381,8 +440,10 @@ module _ {W O : Type 0} where
     pub set_once : (o : O) → to key ≡ Some (Observation o) → EachOnce to q r l
     set_once o is =
         record {
-          operation = λ k. once.operation k ∙ sym (same_count operations at to key save (ap operations is ∙ sym (ap operations observed.1)) k);
-          observation = λ k. once.observation k ∙ sym (same_count observations at to key save (ap observations is ∙ sym (ap observations observed.1)) k);
+          operation = λ k. once.operation k ∙ sym
+              (same_count operations at to key save (ap operations is ∙ sym (ap operations observed.1)) k);
+          observation = λ k. once.observation k
+              ∙ sym (same_count observations at to key save (ap observations is ∙ sym (ap observations observed.1)) k);
         }
 
     pub removed_live : live_of to (remove l p) ≡ remove (live_of at l) p
@@ -391,17 +452,20 @@ module _ {W O : Type 0} where
     pub removed_once : to key ≡ None → EachOnce to q r (remove l p)
     removed_once gone =
         record {
-          operation = λ k. once.operation k ∙ sym (same_count operations at to key save (ap operations gone ∙ sym (ap operations observed.1)) k);
+          operation = λ k. once.operation k ∙ sym
+              (same_count operations at to key save (ap operations gone ∙ sym (ap operations observed.1)) k);
           observation = λ k.
               let a = once.observation k in
               let b = in_live_without k key l p found in
-              let c = more_count observations to at key (λ j differs. sym (save j differs)) (ap observations gone) (ap observations observed.1) k in
+              let c = more_count observations to at key (λ j differs. sym (save j differs)) (ap observations gone)
+              (ap observations observed.1) k in
               omega (arith, a, b, c);
         }
 
   -- an observation that is new
 
-  module _ (at to : ℕ → Option (Entry W O)) (q : List (Queued ℕ)) (r : Option (Running ℕ)) (l : List ℕ) (key : ℕ) (o : O) (was : at key ≡ None) (is : to key ≡ Some (Observation o)) (save : SaveAt key to at)
+  module _ (at to : ℕ → Option (Entry W O)) (q : List (Queued ℕ)) (r : Option (Running ℕ)) (l : List ℕ) (key : ℕ)
+      (o : O) (was : at key ≡ None) (is : to key ≡ Some (Observation o)) (save : SaveAt key to at)
       (once : EachOnce at q r l) where
     nowhere : in_queue key q + in_running key r ≡ 0
     nowhere = once.operation key ∙ ap operations was
@@ -409,7 +473,8 @@ module _ {W O : Type 0} where
     pub observed_once : EachOnce to q r (l ++ key ∷ [])
     observed_once =
         record {
-          operation = λ k. once.operation k ∙ sym (same_count operations at to key save (ap operations is ∙ sym (ap operations was)) k);
+          operation = λ k. once.operation k ∙ sym
+              (same_count operations at to key save (ap operations is ∙ sym (ap operations was)) k);
           observation = λ k.
               let a = in_live_append k l (key ∷ []) in
               let b = once.observation k in
@@ -426,23 +491,28 @@ module _ {W O : Type 0} where
     pub observed_live : live_of to (l ++ key ∷ []) ≡ live_of at l ++ o ∷ []
     observed_live =
         live_append to l (key ∷ [])
-        ∙ (ap (λ m. m ++ live_first (to key) []) (live_frame at to key save l (once.observation key ∙ ap observations was))
+        ∙ (ap (λ m. m ++ live_first (to key) [])
+        (live_frame at to key save l (once.observation key ∙ ap observations was))
         ∙ ap (λ e. live_of at l ++ live_first e []) is)
 
   -- what ran leaves
 
-  module _ (at to : ℕ → Option (Entry W O)) (q : List (Queued ℕ)) (l : List ℕ) (key : ℕ) (w : W) (was : at key ≡ Some (Operation w)) (save : SaveAt key to at) (once : EachOnce at q (Some (Started key)) l) where
+  module _ (at to : ℕ → Option (Entry W O)) (q : List (Queued ℕ)) (l : List ℕ) (key : ℕ) (w : W)
+      (was : at key ≡ Some (Operation w)) (save : SaveAt key to at) (once : EachOnce at q (Some (Started key)) l) where
     pub left_queue : queue_of to q ≡ queue_of at q
-    left_queue = queue_frame at to key save q (let a = once.operation key in let b = hit_same key in let c = ap operations was in omega (arith, a, b, c))
+    left_queue = queue_frame at to key save q (let a = once.operation key in let b = hit_same key in let c =
+        ap operations was in omega (arith, a, b, c))
 
     pub left_live : live_of to l ≡ live_of at l
     left_live = live_frame at to key save l (once.observation key ∙ ap observations was)
 
-  pub started_is : (at : ℕ → Option (Entry W O)) (key : ℕ) (w : W) → at key ≡ Some (Operation w) → running_of at (Some (Started key)) ≡ Some (Started w)
+  pub started_is : (at : ℕ → Option (Entry W O)) (key : ℕ) (w : W) → at key ≡ Some (Operation w)
+      → running_of at (Some (Started key)) ≡ Some (Started w)
   started_is at key w is = ap started is
 
 -- one entry is written
-pub set_count : {T : Type 0} (s : Slab T) (key : ℕ) (new : T) {old : T} → get s key ≡ Some old → slab_len (with_value s key new) ≡ slab_len s
+pub set_count : {T : Type 0} (s : Slab T) (key : ℕ) (new : T) {old : T} → get s key ≡ Some old
+    → slab_len (with_value s key new) ≡ slab_len s
 set_count {T} s key new {old} was =
     let f : Option T → ℕ = λ o. cond (is_some o) 1 0 in
     let set_is = sum_by-set f s.slots key (Some new) None (ContainsKey-within s key (subst IsSome (sym was) refl)) in

@@ -83,7 +83,9 @@ module _ {W O : Type 0} where
   live_of at [] = []
   live_of at (key ∷ keys) = live_first (at key) (live_of at keys)
 
-  -- Each operation of the slab waits or runs, once, each observation of it is live, once, and no other key waits, runs or is live.
-  pub record EachOnce (at : ℕ → Option (Entry W O)) (q : List (Queued ℕ)) (r : Option (Running ℕ)) (l : List ℕ) : Type 0 where
+  -- Each operation of the slab waits or runs, once, each observation of it is live, once, and no other key waits, runs
+  -- or is live.
+  pub record EachOnce (at : ℕ → Option (Entry W O)) (q : List (Queued ℕ)) (r : Option (Running ℕ))
+      (l : List ℕ) : Type 0 where
     pub operation : (key : ℕ) → in_queue key q + in_running key r ≡ operations (at key)
     pub observation : (key : ℕ) → in_live key l ≡ observations (at key)

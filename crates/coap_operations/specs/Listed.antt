@@ -5,8 +5,8 @@ use Rattle.coap_operations.specs.declared.queued.Queued.TheVariants.{Starts, Can
 use Rattle.coap_operations.specs.declared.running.Running.{Running}
 use Rattle.coap_operations.specs.declared.running.Running.TheVariants.{Started, Fetching, Cancelling, Dropped}
 
--- what waits, in order; what runs; the live observations, in the order in which they went live; how many more operations and
--- observations need no memory, and how many observations are listed in the memory that is there
+-- what waits, in order; what runs; the live observations, in the order in which they went live; how many more
+-- operations and observations need no memory, and how many observations are listed in the memory that is there
 pub record Listed (W O : Type 0) : Type 0 where
   pub queue : List (Queued W)
   pub running : Option (Running W)

@@ -75,7 +75,8 @@ impl<W: Drop, O: Drop, A: Allocator + Copy> Operations<W, O, A> {
     /// Puts an operation behind those that wait. After an `Err` what waits, runs and is live is as before.
     pub fn push(&mut self, operation: W) -> Result<(), AllocError>
         requires { length self.old.queue < MAX_WAITING }
-        ensures added { OnOk result (self.new ≡ record self.old { queue = self.old.queue ++ queued.Starts operation ∷ []; spare = self.new.spare }) }
+        ensures added { OnOk result (self.new ≡ record self.old
+            { queue = self.old.queue ++ queued.Starts operation ∷ []; spare = self.new.spare }) }
         ensures err { OnErr result (self.new ≡ record self.old { spare = self.new.spare }) }
     {
         let Ok(key) = self.entries.insert(Entry::Operation(operation)) else {

@@ -8,10 +8,13 @@ use Rattle.coap_operations.proofs.operations.Operations.drop_cancel.Goals as goa
 pub invariant_of-self : goal.invariant_of-self
 invariant_of-self g c =
     let s = c.self.inside in
-    subst (λ q. EachOnce (get s.entries) q s.running s.live.items) (sym c.drop_cancel.ensures) (dropped_once (get s.entries) c.args.number s.queue.items s.running s.live.items c.self.invariant)
+    subst (λ q. EachOnce (get s.entries) q s.running s.live.items) (sym c.drop_cancel.ensures)
+    (dropped_once (get s.entries) c.args.number s.queue.items s.running s.live.items c.self.invariant)
 
 pub returns : goal.returns
 returns g c =
     let s = c.self.inside in
-    listed_is _ _ _ _ _ _ _ _ (ap (queue_of (get s.entries)) c.drop_cancel.ensures ∙ drop_queued (get s.entries) c.args.number s.queue.items) refl refl
-    ∙ ap (λ (v : Listed g.row.W.Denot g.row.O.Denot). record v { queue = filter (λ q. not (is_cancel c.args.number q)) v.queue }) c.self.view_is
+    listed_is _ _ _ _ _ _ _ _ (ap (queue_of (get s.entries)) c.drop_cancel.ensures
+    ∙ drop_queued (get s.entries) c.args.number s.queue.items) refl refl
+    ∙ ap (λ (v : Listed g.row.W.Denot g.row.O.Denot). record v
+    { queue = filter (λ q. not (is_cancel c.args.number q)) v.queue }) c.self.view_is

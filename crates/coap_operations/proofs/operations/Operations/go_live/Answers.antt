@@ -20,7 +20,8 @@ invariant_of-self g c =
     let to = get c.insert_reserved-key.new.self in
     let e = c.insert_reserved-key.ensures in
     subst (λ l. EachOnce to s.queue.items s.running l) (sym c.push_reserved.ensures.items)
-    (observed_once (get s.entries) to s.queue.items s.running s.live.items c.insert_reserved-key.result c.args.observation e.was_vacant e.updates.changed e.updates.others c.self.invariant)
+    (observed_once (get s.entries) to s.queue.items s.running s.live.items c.insert_reserved-key.result
+    c.args.observation e.was_vacant e.updates.changed e.updates.others c.self.invariant)
 
 pub returns : goal.returns
 returns g c =
@@ -31,9 +32,25 @@ returns g c =
     let e = c.insert_reserved-key.ensures in
     let o = c.args.observation in
     let cap : c.push_reserved.new.self.cap ≡ s.live.cap = c.push_reserved.ensures.capacity in
-    ap (λ p. record { queue = queue_of to s.queue.items; running = running_of to s.running; live = live_of to c.push_reserved.new.self.items; spare = c.insert_reserved-key.new.self.capacity - slab_len c.insert_reserved-key.new.self; places = p }) cap
+    ap (λ p. record {
+      queue = queue_of to s.queue.items;
+      running = running_of to s.running;
+      live =
+          live_of to c.push_reserved.new.self.items;
+      spare =
+          c.insert_reserved-key.new.self.capacity - slab_len c.insert_reserved-key.new.self;
+      places = p;
+    }) cap
     ∙ (listed_is _ _ _ _ _ _ _ _
-    (observed_queue at to s.queue.items s.running s.live.items k o e.was_vacant e.updates.changed e.updates.others c.self.invariant)
-    (observed_running at to s.queue.items s.running s.live.items k o e.was_vacant e.updates.changed e.updates.others c.self.invariant)
-    (ap (live_of to) c.push_reserved.ensures.items ∙ observed_live at to s.queue.items s.running s.live.items k o e.was_vacant e.updates.changed e.updates.others c.self.invariant)
-    ∙ ap (λ (v : Listed g.row.W.Denot g.row.O.Denot). record v { live = v.live ++ o ∷ []; spare = c.insert_reserved-key.new.self.capacity - slab_len c.insert_reserved-key.new.self }) c.self.view_is)
+    (observed_queue at to s.queue.items s.running s.live.items k o e.was_vacant e.updates.changed e.updates.others
+    c.self.invariant)
+    (observed_running at to s.queue.items s.running s.live.items k o e.was_vacant e.updates.changed e.updates.others
+    c.self.invariant)
+    (ap (live_of to) c.push_reserved.ensures.items
+    ∙ observed_live at to s.queue.items s.running s.live.items k o e.was_vacant e.updates.changed e.updates.others
+    c.self.invariant)
+    ∙ ap (λ (v : Listed g.row.W.Denot g.row.O.Denot). record v {
+      live = v.live ++ o ∷ [];
+      spare = c.insert_reserved-key.new.self.capacity - slab_len
+          c.insert_reserved-key.new.self;
+    }) c.self.view_is)

@@ -30,7 +30,8 @@ index_mut-requires g c =
     let r = c.requires in
     let k = c.index-key.result.now in
     let p = c.args.place in
-    let found = slice_get_read s.live.items (length s.live.items) p k refl (omega (arith, a, b, r)) c.index-key.ensures in
+    let found = slice_get_read s.live.items (length s.live.items) p k refl
+    (omega (arith, a, b, r)) c.index-key.ensures in
     let there = live_there at s.queue.items s.running s.live.items c.self.invariant p k found in
     subst IsSome (sym there.1) refl
 
@@ -43,7 +44,8 @@ observation_mut-requires g c =
     let r = c.requires in
     let k = c.index-key.result.now in
     let p = c.args.place in
-    let found = slice_get_read s.live.items (length s.live.items) p k refl (omega (arith, a, b, r)) c.index-key.ensures in
+    let found = slice_get_read s.live.items (length s.live.items) p k refl
+    (omega (arith, a, b, r)) c.index-key.ensures in
     let there = live_there at s.queue.items s.running s.live.items c.self.invariant p k found in
     let same = sym c.index_mut.ensures.value ∙ there.1 in
     (there.0, cc same)
@@ -57,7 +59,8 @@ returns g c =
     let r = c.requires in
     let k = c.index-key.result.now in
     let p = c.args.place in
-    let found = slice_get_read s.live.items (length s.live.items) p k refl (omega (arith, a, b, r)) c.index-key.ensures in
+    let found = slice_get_read s.live.items (length s.live.items) p k refl
+    (omega (arith, a, b, r)) c.index-key.ensures in
     let there = live_there at s.queue.items s.running s.live.items c.self.invariant p k found in
     let value = c.index_mut.ensures.value ∙ ap (λ e. Some e) c.observation_mut.ensures.value in
     let has = subst IsSome (sym there.1) refl in (
@@ -67,7 +70,9 @@ returns g c =
             let e = Observation w in
             let new = with_value s.entries k e in
             let u = Updates-with_value s.entries k e has in
-            ap (λ n. listed (queue_of (get new) s.queue.items) (running_of (get new) s.running) (live_of (get new) s.live.items) (s.entries.capacity - n) (vec_capacity s.live)) (set_count s.entries k e there.1)
+            ap (λ n. listed (queue_of (get new) s.queue.items) (running_of (get new) s.running)
+            (live_of (get new) s.live.items) (s.entries.capacity - n) (vec_capacity s.live))
+            (set_count s.entries k e there.1)
             ∙ (listed_is _ _ _ _ _ _ _ _
             (same_queue at (get new) s.queue.items s.running s.live.items k p found u.others c.self.invariant)
             (same_running at (get new) s.queue.items s.running s.live.items k p found u.others c.self.invariant)
@@ -76,6 +81,8 @@ returns g c =
       ),
       record {
         writes_back = tt;
-        value = ap (λ (v : Listed g.row.W.Denot g.row.O.Denot). slice_get v.live p) (sym c.self.view_is) ∙ (living_at at s.queue.items s.running s.live.items c.self.invariant p ∙ (ap (look_live at) found ∙ ap observation_in value));
+        value = ap (λ (v : Listed g.row.W.Denot g.row.O.Denot). slice_get v.live p) (sym c.self.view_is)
+            ∙ (living_at at s.queue.items s.running s.live.items c.self.invariant p
+            ∙ (ap (look_live at) found ∙ ap observation_in value));
       },
     )

@@ -8,7 +8,8 @@ use Rattle.coap_operations.proofs.operations.Operations.push_cancel.Goals as goa
 
 pub push-requires : goal.push-requires
 push-requires g c =
-    let a = waiting_len (get c.self.inside.entries) c.self.inside.queue.items c.self.inside.running c.self.inside.live.items c.self.invariant in
+    let a = waiting_len (get c.self.inside.entries) c.self.inside.queue.items c.self.inside.running
+    c.self.inside.live.items c.self.invariant in
     let b = ap (λ (v : Listed g.row.W.Denot g.row.O.Denot). length v.queue) c.self.view_is in
     let r = c.requires in
     (omega arith, omega (arith, a, b, r))
@@ -16,10 +17,13 @@ push-requires g c =
 pub invariant_of-self : goal.invariant_of-self
 invariant_of-self g c =
     let s = c.self.inside in
-    subst (λ q. EachOnce (get s.entries) q s.running s.live.items) (sym c.push.ensures.items) (cancel_once (get s.entries) c.args.number s.queue.items s.running s.live.items c.self.invariant)
+    subst (λ q. EachOnce (get s.entries) q s.running s.live.items) (sym c.push.ensures.items)
+    (cancel_once (get s.entries) c.args.number s.queue.items s.running s.live.items c.self.invariant)
 
 pub returns : goal.returns
 returns g c =
     let s = c.self.inside in
-    listed_is _ _ _ _ _ _ _ _ (ap (queue_of (get s.entries)) c.push.ensures.items ∙ cancel_queued (get s.entries) c.args.number s.queue.items) refl refl
-    ∙ ap (λ (v : Listed g.row.W.Denot g.row.O.Denot). record v { queue = v.queue ++ queued.Cancels c.args.number ∷ [] }) c.self.view_is
+    listed_is _ _ _ _ _ _ _ _ (ap (queue_of (get s.entries)) c.push.ensures.items
+    ∙ cancel_queued (get s.entries) c.args.number s.queue.items) refl refl
+    ∙ ap (λ (v : Listed g.row.W.Denot g.row.O.Denot). record v { queue = v.queue ++ queued.Cancels c.args.number ∷ [] })
+    c.self.view_is

@@ -14,7 +14,13 @@ returns g c =
     let e = c.insert_reserved-key.ensures in
     let op = c.args.operation in
     listed_is _ _ _ _ _ _ _ _
-    (new_queue at to s.queue.items s.running s.live.items k op e.was_vacant e.updates.changed e.updates.others c.self.invariant)
+    (new_queue at to s.queue.items s.running s.live.items k op e.was_vacant e.updates.changed e.updates.others
+    c.self.invariant)
     (started_is to k op e.updates.changed)
-    (new_live at to s.queue.items s.running s.live.items k op e.was_vacant e.updates.changed e.updates.others c.self.invariant)
-    ∙ ap (λ (v : Listed g.row.W.Denot g.row.O.Denot). record v { running = Some (running.Started c.args.operation); spare = c.insert_reserved-key.new.self.capacity - slab_len c.insert_reserved-key.new.self }) c.self.view_is
+    (new_live at to s.queue.items s.running s.live.items k op e.was_vacant e.updates.changed e.updates.others
+    c.self.invariant)
+    ∙ ap (λ (v : Listed g.row.W.Denot g.row.O.Denot). record v {
+      running = Some (running.Started c.args.operation);
+      spare =
+          c.insert_reserved-key.new.self.capacity - slab_len c.insert_reserved-key.new.self;
+    }) c.self.view_is

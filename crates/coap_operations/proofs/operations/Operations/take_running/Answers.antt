@@ -17,7 +17,9 @@ returns-in-Operation-clause-after g c =
     let was : at k ≡ Some (Operation c.in-Operation.operation) = search rules in
     let once = subst (λ r. EachOnce at s.queue.items r s.live.items) runs c.self.invariant in
     listed_is _ _ _ _ _ _ _ _
-    (left_queue at to s.queue.items s.live.items k c.in-Operation.operation was c.try_remove.ensures.updates.others once)
+    (left_queue at to s.queue.items s.live.items k c.in-Operation.operation was c.try_remove.ensures.updates.others
+    once)
     (ap (running_of to) c.take.ensures.after)
     (left_live at to s.queue.items s.live.items k c.in-Operation.operation was c.try_remove.ensures.updates.others once)
-    ∙ ap (λ (v : Listed g.row.W.Denot g.row.O.Denot). record v { running = None; spare = c.try_remove.new.self.capacity - slab_len c.try_remove.new.self }) c.self.view_is
+    ∙ ap (λ (v : Listed g.row.W.Denot g.row.O.Denot). record v
+    { running = None; spare = c.try_remove.new.self.capacity - slab_len c.try_remove.new.self }) c.self.view_is
