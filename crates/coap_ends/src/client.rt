@@ -152,11 +152,13 @@ impl<A: Allocator + Copy, H: BuildHasher> Client<A, H> {
     pub fn call(&mut self, now: Moment, request: Request<A>) -> Result<CallId, CallRefusal>
         ensures step { result ≢ Err refusals.Memory
             → Step self.old (Calls now.0 (shown_request request) (number_of result)) self.new }
-        ensures led { (server : Endpoint) (szx w : ℕ) (t : List Call) → Led server szx w t self.old → result ≢ Err refusals.Memory
+        ensures led { (server : Endpoint) (szx w : ℕ) (t : List Call) → Led server szx w t self.old
+            → result ≢ Err refusals.Memory
             → Led server szx w (Calls now.0 (shown_request request) (number_of result) ∷ t) self.new }
         ensures memory { result ≡ Err refusals.Memory → self.new ≡ self.old }
         // Where it is refused for another reason, it takes no memory.
-        ensures refused { is_ok (call_answer self.old.own (shown_request request)) ≡ false → result ≢ Err refusals.Memory }
+        ensures refused { is_ok (call_answer self.old.own (shown_request request)) ≡ false
+            → result ≢ Err refusals.Memory }
     {
         let long = is_long_request(&request);
         taking::call(self.alloc, &mut self.held, now, request, long)
@@ -167,7 +169,8 @@ impl<A: Allocator + Copy, H: BuildHasher> Client<A, H> {
     pub fn observe(&mut self, now: Moment, path: Path<A>) -> Result<CallId, CallRefusal>
         ensures step { result ≢ Err refusals.Memory
             → Step self.old (Observes now.0 path (number_of result)) self.new }
-        ensures led { (server : Endpoint) (szx w : ℕ) (t : List Call) → Led server szx w t self.old → result ≢ Err refusals.Memory
+        ensures led { (server : Endpoint) (szx w : ℕ) (t : List Call) → Led server szx w t self.old
+            → result ≢ Err refusals.Memory
             → Led server szx w (Observes now.0 path (number_of result) ∷ t) self.new }
         ensures memory { result ≡ Err refusals.Memory → self.new ≡ self.old }
         ensures refused { is_ok (observe_answer self.old.own path) ≡ false → result ≢ Err refusals.Memory }
@@ -203,10 +206,12 @@ impl<A: Allocator + Copy, H: BuildHasher> Client<A, H> {
     /// Call it until it answers false: it does at most as often as much is due. After an `Err` the
     /// client is as before.
     pub fn tick(&mut self, now: Moment, word: u64) -> Result<bool, AllocError>
-        ensures step { IfOk result (λ did. (below : L.Answer) × (due : Turn) × (sent : L.Answer) × (token : Result (List ℕ) AskRefusal)
+        ensures step { IfOk result (λ did. (below : L.Answer) × (due : Turn) × (sent : L.Answer)
+            × (token : Result (List ℕ) AskRefusal)
             × (kept : Bool) × Step self.old (Ticks now.0 word below due sent token kept did) self.new) }
         ensures led { (server : Endpoint) (szx w : ℕ) (t : List Call) → Led server szx w t self.old
-            → IfOk result (λ did. (below : L.Answer) × (due : Turn) × (sent : L.Answer) × (token : Result (List ℕ) AskRefusal)
+            → IfOk result (λ did. (below : L.Answer) × (due : Turn) × (sent : L.Answer)
+            × (token : Result (List ℕ) AskRefusal)
             × (kept : Bool) × Led server szx w (Ticks now.0 word below due sent token kept did ∷ t) self.new) }
         // Each tick that does something leaves less to be done at its moment.
         ensures less { result ≡ Ok true → work self.new now.0 < work self.old now.0 }

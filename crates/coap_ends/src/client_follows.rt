@@ -26,9 +26,10 @@ pub fn client_follows_law()
     // .. and none is begun but for such a request (RFC 7252, section 5.2).
     ensures begins { (server : Endpoint) (szx word : ℕ) (t : List Call) → ClientLaw server szx word t
         → ConsAreRequests server szx word t }
-    // Requests are sent in the order of the numbers, none of a call behind its last, and each of a call where those before
-    // it were answered (RFC 7252, sections 4.7 and 5.3; RFC 7959, section 2.5).
-    ensures order { (server : Endpoint) (szx word : ℕ) (t : List Call) → ClientLaw server szx word t → AreInOrder szx t }
+    // Requests are sent in the order of the numbers, none of a call behind its last, and each of a call where those
+    // before it were answered (RFC 7252, sections 4.7 and 5.3; RFC 7959, section 2.5).
+    ensures order { (server : Endpoint) (szx word : ℕ) (t : List Call) → ClientLaw server szx word t
+        → AreInOrder szx t }
     // A call has one last request.
     ensures one_last { (server : Endpoint) (szx word : ℕ) (t : List Call) → ClientLaw server szx word t
         → OneLast szx t }
@@ -46,11 +47,12 @@ pub fn client_follows_law()
     // A request of a call is answered once (RFC 7252, section 5.3.2).
     ensures heard_once { (server : Endpoint) (szx word : ℕ) (t : List Call) → ClientLaw server szx word t
         → HeardOnce szx t }
-    // A body is whole by the parts that its call took since it asked for the first block, under one ETag where there are
-    // several; without Block2 it answers that request (RFC 7959, section 2.4).
+    // A body is whole by the parts that its call took since it asked for the first block, under one ETag where there
+    // are several; without Block2 it answers that request (RFC 7959, section 2.4).
     ensures bodies { (server : Endpoint) (szx word : ℕ) (t : List Call) → ClientLaw server szx word t
         → BodiesAreWhole szx t }
-    // What is heard its message layer handed up in that very call, as it came from the server (RFC 7252, section 5.3.2).
+    // What is heard its message layer handed up in that very call, as it came from the server (RFC 7252, section
+    // 5.3.2).
     ensures heard { (server : Endpoint) (szx word : ℕ) (t : List Call) → ClientLaw server szx word t
         → AreHandedUp server szx word t }
     // Each later notification that is taken of an observation is newer than the one before (RFC 7641, section 3.4).
@@ -67,27 +69,29 @@ pub fn client_follows_law()
     // .. and what is sent for an observation asks for a representation.
     ensures others { (server : Endpoint) (szx word : ℕ) (t : List Call) → ClientLaw server szx word t
         → OthersAreGets szx t }
-    // A GET asks for at most all blocks of a body, anew at most MAX_RESTARTS times; an upload sends at most all blocks; any
-    // other call asks once (RFC 7959, sections 2.4 and 2.5).
+    // A GET asks for at most all blocks of a body, anew at most MAX_RESTARTS times; an upload sends at most all blocks;
+    // any other call asks once (RFC 7959, sections 2.4 and 2.5).
     ensures bounded { (server : Endpoint) (szx word : ℕ) (t : List Call) → ClientLaw server szx word t
         → AreBounded szx t }
     // An observation is registered once, and cancelled once (RFC 7641, sections 2 and 3.6).
     ensures asks_once { (server : Endpoint) (szx word : ℕ) (t : List Call) → ClientLaw server szx word t
         → AskOnce szx t }
-    // A block of an upload is sent where each block of another upload was answered, or went out for the last time more than
-    // MAX_LATENCY before (RFC 7252, section 4.8.2; RFC 7959, section 2.5; profile).
+    // A block of an upload is sent where each block of another upload was answered, or went out for the last time more
+    // than MAX_LATENCY before (RFC 7252, section 4.8.2; RFC 7959, section 2.5; profile).
     ensures apart { (server : Endpoint) (szx word : ℕ) (t : List Call) → ClientLaw server szx word t
         → BlocksApart server szx word t }
-    // Success and failure are reported of a call where its last request is answered so (RFC 7252, sections 5.8 and 5.9).
+    // Success and failure are reported of a call where its last request is answered so (RFC 7252, sections 5.8 and
+    // 5.9).
     ensures codes { (server : Endpoint) (szx word : ℕ) (t : List Call) → ClientLaw server szx word t
         → ReportsCodes szx t }
-    // Each report is of a number that was given; Timeout, Reset and NoResponse are reported where the exchange of a call, a
-    // registration or a cancel ends so, and NoIds where its request can't be sent (RFC 7252, sections 4.2, 4.4 and 5.2.2).
+    // Each report is of a number that was given; Timeout, Reset and NoResponse are reported where the exchange of a
+    // call, a registration or a cancel ends so, and NoIds where its request can't be sent (RFC 7252, sections 4.2, 4.4
+    // and 5.2.2).
     ensures ends { (server : Endpoint) (szx word : ℕ) (t : List Call) → ClientLaw server szx word t → AllEnds szx t }
     // A notification comes in a CON or a NON, the answer to a request in an acknowledgement too (RFC 7252, section 5.2;
     // RFC 7641, section 3.5).
     ensures types { (server : Endpoint) (szx word : ℕ) (t : List Call) → ClientLaw server szx word t → AreOfTypes t }
-    // A call, an observation and a cancel are refused exactly where they have to be, and what waits starts in its order (the
-    // bounds are a profile).
+    // A call, an observation and a cancel are refused exactly where they have to be, and what waits starts in its order
+    // (the bounds are a profile).
     ensures taken { (server : Endpoint) (szx word : ℕ) (t : List Call) → ClientLaw server szx word t → AllTaken szx t }
 {}

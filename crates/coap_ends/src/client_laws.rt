@@ -38,7 +38,8 @@ pub fn client_law()
         → ClientLaw server szx word t }
     // The law leaves each call one answer.
     ensures exact { (server : Endpoint) (szx word : ℕ) (past : List Call) → IsExact server szx word past }
-    // A retransmission is of a CON that was begun at most LAST_RETRANSMISSION_MS before, with the same bytes (RFC 7252, section 4.2).
+    // A retransmission is of a CON that was begun at most LAST_RETRANSMISSION_MS before, with the same bytes (RFC 7252,
+    // section 4.2).
     ensures copies { (server : Endpoint) (szx word : ℕ) (t : List Call) → ClientLaw server szx word t
         → CopiesInTime (layer_of server szx word t) }
     // It sends no NON (RFC 7252, section 4.3).
@@ -72,7 +73,8 @@ pub fn client_law()
         → SendsPieces szx t }
     // An upload that ended without a final response holds back the later ones (RFC 7252, section 4.8.2; profile).
     ensures holds { (server : Endpoint) (szx word : ℕ) (t : List Call) → ClientLaw server szx word t → AllHold szx t }
-    // A tick that does nothing leaves an exchange that is not due, an upload that is held back, or nothing (RFC 7252, sections 4.2, 4.7 and 5.2.2).
+    // A tick that does nothing leaves an exchange that is not due, an upload that is held back, or nothing (RFC 7252,
+    // sections 4.2, 4.7 and 5.2.2).
     ensures resting { (server : Endpoint) (szx word : ℕ) (t : List Call) → ClientLaw server szx word t
         → AreResting server szx word t }
     // A call that was taken is reported, or waits for one of these.

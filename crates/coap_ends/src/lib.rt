@@ -20,5 +20,5 @@ pub use client_values::client_values_law;
 pub use end::End;
 pub use limits::{MAX_DELAYS, MAX_OBSERVATIONS, MAX_OPTIONS_LEN, MAX_WAITING_CALLS};
 pub use refusals::{CallRefusal, CancelRefusal};
-pub use server::{Applied, DelayRefusal, Server};
+pub use server::{Applied, Delay, DelayRefusal, Server, give_delay};
 pub use server_laws::{server_law, server_runs};

@@ -2,7 +2,6 @@
 mod begin;
 mod config;
 mod copies;
-mod delaying;
 mod deliver;
 mod drain;
 mod ends;

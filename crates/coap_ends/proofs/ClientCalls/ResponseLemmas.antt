@@ -13,20 +13,31 @@ use Rattle.coap_types.specs.declared.direction.Direction.{Direction}
 use Rattle.coap_types.specs.declared.direction.Direction.TheVariants as direction
 
 abbrev Found : Direction → ℕ → List ℕ → Type 0
-Found d number v = (before : List CoapOption) × (o : CoapOption) × (o.number ≡ number) × (o.value ≡ v) × (is_recognised d before o ≡ true)
+Found d number v = (before : List CoapOption) × (o : CoapOption) × (o.number ≡ number) × (o.value ≡ v)
+    × (is_recognised d before o ≡ true)
 
-found : (d : Direction) (number : ℕ) (ps : List (List CoapOption × CoapOption)) (v : List ℕ) → value_of number (map (λ p. p.1) (filter (λ p. is_recognised d p.0 p.1) ps)) ≡ Some v → Found d number v
+found : (d : Direction) (number : ℕ) (ps : List (List CoapOption × CoapOption)) (v : List ℕ)
+    → value_of number (map (λ p. p.1) (filter (λ p. is_recognised d p.0 p.1) ps)) ≡ Some v → Found d number v
 found d number [] v h = absurd (cc h)
 found d number (p ∷ ps) v h = by (found d number ps v) (is_recognised d p.0 p.1) refl h
   where
     rest : Option (List ℕ)
     rest = value_of number (map (λ q. q.1) (filter (λ q. is_recognised d q.0 q.1) ps))
 
-    here : (rest ≡ Some v → Found d number v) → (c : Bool) → (p.1.number == number) ≡ c → is_recognised d p.0 p.1 ≡ true → cond c (Some p.1.value) rest ≡ Some v → Found d number v
-    here ih true q e k = (p.0, p.1, (unsigned_Decides p.1.number number).0 q, ap (λ (o : Option (List ℕ)). elim o [ None ↦ [] | Some x ↦ x ]) k, e)
+    here : (rest ≡ Some v → Found d number v) → (c : Bool) → (p.1.number == number) ≡ c → is_recognised d p.0 p.1 ≡ true
+        → cond c (Some p.1.value) rest ≡ Some v → Found d number v
+    here ih true q e k = (
+      p.0,
+      p.1,
+      (unsigned_Decides p.1.number number).0 q,
+      ap (λ (o : Option (List ℕ)). elim o [ None ↦ [] | Some x ↦ x ]) k,
+      e,
+    )
     here ih false q e k = ih k
 
-    by : (rest ≡ Some v → Found d number v) → (b : Bool) → is_recognised d p.0 p.1 ≡ b → value_of number (map (λ q. q.1) (cond b (p ∷ filter (λ q. is_recognised d q.0 q.1) ps) (filter (λ q. is_recognised d q.0 q.1) ps))) ≡ Some v → Found d number v
+    by : (rest ≡ Some v → Found d number v) → (b : Bool) → is_recognised d p.0 p.1 ≡ b
+        → value_of number (map (λ q. q.1) (cond b (p ∷ filter (λ q. is_recognised d q.0 q.1) ps)
+        (filter (λ q. is_recognised d q.0 q.1) ps))) ≡ Some v → Found d number v
     by ih true e k = here ih (p.1.number == number) refl e k
     by ih false e k = ih k
 
@@ -36,14 +47,18 @@ last_two true true false h = absurd (cc h)
 last_two true false c h = absurd (cc h)
 last_two false b c h = absurd (cc h)
 
-pub etag_few : (options : List CoapOption) (v : List ℕ) → value_of 4 (recognised direction.Response options) ≡ Some v → (1 ≤ length v) × (length v ≤ 8)
+pub etag_few : (options : List CoapOption) (v : List ℕ) → value_of 4 (recognised direction.Response options) ≡ Some v
+    → (1 ≤ length v) × (length v ≤ 8)
 etag_few options v h =
     let f = found direction.Response 4 (placed [] options) v h in
-    let z = last_two _ (nat_le 1 (length f.1.value)) (nat_le (length f.1.value) 8) (subst (λ n. passes (option_rule n) direction.Response f.0 f.1 ≡ true) f.2 f.4) in
+    let z = last_two _ (nat_le 1 (length f.1.value)) (nat_le (length f.1.value) 8)
+    (subst (λ n. passes (option_rule n) direction.Response f.0 f.1 ≡ true) f.2 f.4) in
     (subst (λ w. 1 ≤ length w) f.3 (leb-true 1 _ z.0), subst (λ w. length w ≤ 8) f.3 (leb-true _ 8 z.1))
 
-pub observe_few : (options : List CoapOption) (v : List ℕ) → value_of 6 (recognised direction.Response options) ≡ Some v → length v ≤ 4
+pub observe_few : (options : List CoapOption) (v : List ℕ) → value_of 6 (recognised direction.Response options) ≡ Some v
+    → length v ≤ 4
 observe_few options v h =
     let f = found direction.Response 6 (placed [] options) v h in
-    let z = last_two _ (nat_le 0 (length f.1.value)) (nat_le (length f.1.value) 3) (subst (λ n. passes (option_rule n) direction.Response f.0 f.1 ≡ true) f.2 f.4) in
+    let z = last_two _ (nat_le 0 (length f.1.value)) (nat_le (length f.1.value) 3)
+    (subst (λ n. passes (option_rule n) direction.Response f.0 f.1 ≡ true) f.2 f.4) in
     subst (λ w. length w ≤ 4) f.3 (let l = leb-true _ 3 z.1 in omega (arith, l))

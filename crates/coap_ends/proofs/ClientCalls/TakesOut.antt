@@ -17,10 +17,12 @@ use Rattle.coap_ends.proofs.Rest.FirstOut.{OnlyLive, behind, layer_empty, layer_
 
 live : (s : State) → WasLed s → OnlyLive s.layer.layer
 live s (server, szx, word, t, led) =
-    only_live word _ s.layer.layer (led_exchanged server word [] (lower_of szx t) (X.fresh_state server word) s.layer (led_start server word) led.layer).layer
+    only_live word _ s.layer.layer (led_exchanged server word [] (lower_of szx t) (X.fresh_state server word) s.layer
+    (led_start server word) led.layer).layer
 
 module _ (old new : State) where
-  layer_step : (answer : Option L.Packet) → Step old (NextOut answer) new → S.Step old.layer.layer 0 L.Take (L.Gives answer) new.layer.layer
+  layer_step : (answer : Option L.Packet) → Step old (NextOut answer) new
+      → S.Step old.layer.layer 0 L.Take (L.Gives answer) new.layer.layer
   layer_step answer step =
       let under = step.under in
       let taken = under.2.under in
@@ -32,17 +34,20 @@ module _ (old new : State) where
       let one = layer_step None step in
       let layer : new.layer.layer ≡ old.layer.layer = layer_none old.layer.layer new.layer.layer (live old led) one in
       let held : new.layer.own ≡ old.layer.own = step.under.2.own_is ∙ ap (λ (x : X.State). x.own) step.under.1 in
-      let exchanges : new.layer ≡ old.layer = ap (λ (o : E.Own). record new.layer { own = o }) held ∙ ap (λ (l : S.State). record old.layer { layer = l }) layer in
+      let exchanges : new.layer ≡ old.layer = ap (λ (o : E.Own). record new.layer { own = o }) held
+      ∙ ap (λ (l : S.State). record old.layer { layer = l }) layer in
       let own : new.own ≡ old.own = step.own_is in (
         layer_empty old.layer.layer new.layer.layer one,
         ap (λ (o : Own). record new { own = o }) own ∙ ap (λ (x : X.State). record old { layer = x }) exchanges,
       )
 
-pub if_none : (r : Option L.Packet) (old new : State) → WasLed old → Step old (NextOut r) new → IfNone r ((old.layer.layer.queue ≡ []) × (new ≡ old))
+pub if_none : (r : Option L.Packet) (old new : State) → WasLed old → Step old (NextOut r) new
+    → IfNone r ((old.layer.layer.queue ≡ []) × (new ≡ old))
 if_none None old new led step = takes_none old new led step
 if_none (Some p) old new led step = tt
 
-pub if_some : (r : Option L.Packet) (old new : State) → Step old (NextOut r) new → IfSome r (λ p. old.layer.layer.queue ≡ p ∷ new.layer.layer.queue)
+pub if_some : (r : Option L.Packet) (old new : State) → Step old (NextOut r) new
+    → IfSome r (λ p. old.layer.layer.queue ≡ p ∷ new.layer.layer.queue)
 if_some None old new step = tt
 if_some (Some p) old new step = layer_some old.layer.layer new.layer.layer p (layer_step old new (Some p) step)
 
@@ -50,7 +55,8 @@ if_some (Some p) old new step = layer_some old.layer.layer new.layer.layer p (la
 
 module _ (old new : State) where
   first_report : (r : Reported) → Step old (NextReport (Some r)) new → old.own.reports ≡ r ∷ new.own.reports
-  first_report r step = behind old.own.reports r step.right ∙ ap (λ rs. r ∷ rs) (sym (ap (λ (s : Own). s.reports) step.own_is))
+  first_report r step = behind old.own.reports r step.right
+      ∙ ap (λ rs. r ∷ rs) (sym (ap (λ (s : Own). s.reports) step.own_is))
 
   no_report : Step old (NextReport None) new → (old.own.reports ≡ []) × (new ≡ old)
   no_report step =
@@ -60,10 +66,12 @@ module _ (old new : State) where
       (none, ap (λ (o : Own). record new { own = o }) own ∙ ap (λ (x : X.State). record old { layer = x }) step.under)
 
 module _ {X : Type 0} (f : X → Reported) where
-  pub if_no_report : (r : Option X) (old new : State) → Step old (NextReport (option_map f r)) new → IfNone r ((old.own.reports ≡ []) × (new ≡ old))
+  pub if_no_report : (r : Option X) (old new : State) → Step old (NextReport (option_map f r)) new
+      → IfNone r ((old.own.reports ≡ []) × (new ≡ old))
   if_no_report None old new step = no_report old new step
   if_no_report (Some x) old new step = tt
 
-  pub if_report : (r : Option X) (old new : State) → Step old (NextReport (option_map f r)) new → IfSome r (λ x. old.own.reports ≡ f x ∷ new.own.reports)
+  pub if_report : (r : Option X) (old new : State) → Step old (NextReport (option_map f r)) new
+      → IfSome r (λ x. old.own.reports ≡ f x ∷ new.own.reports)
   if_report None old new step = tt
   if_report (Some x) old new step = first_report old new (f x) step

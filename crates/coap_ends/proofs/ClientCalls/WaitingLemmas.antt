@@ -23,7 +23,8 @@ pub if_map : {X Y : Type 0} {P Q : X → Type 0} (r : Result X Y) → ((x : X) �
 if_map (Ok x) f h = f x h
 if_map (Err y) f h = tt
 
-pub if_all : {X Y Z : Type 0} (P : Z → X → Type 0) (r : Result X Y) → ((z : Z) → IfOk r (P z)) → IfOk r (λ x. (z : Z) → P z x)
+pub if_all : {X Y Z : Type 0} (P : Z → X → Type 0) (r : Result X Y) → ((z : Z) → IfOk r (P z))
+    → IfOk r (λ x. (z : Z) → P z x)
 if_all P (Ok x) h = h
 if_all P (Err y) h = tt
 
@@ -37,18 +38,23 @@ module _ {A : Type 0} where
       → length (filter is_registration running) + length (filter is_registration (map shown_queued q)) + length os
       ≡ length (filter is_registration (running ++ map shown_queued q)) + length (map shown_observation os)
   observed_is running q os =
-      let e = ap length (filter-append is_registration running (map shown_queued q)) ∙ length-append (filter is_registration running) (filter is_registration (map shown_queued q)) in
+      let e = ap length (filter-append is_registration running (map shown_queued q))
+      ∙ length-append (filter is_registration running) (filter is_registration (map shown_queued q)) in
       let l = length_map (shown_observation {A = A}) os in
       grind (arith, e, l)
 
   -- a cancel waits by its key
-  pub cancels_wait : (number : ℕ) (q : List (Queued (Waiting A))) → list_any (is_cancel_of number) (map shown_queued q) ≡ list_any (is_cancel number) q
+  pub cancels_wait : (number : ℕ) (q : List (Queued (Waiting A)))
+      → list_any (is_cancel_of number) (map shown_queued q) ≡ list_any (is_cancel number) q
   cancels_wait number [] = refl
   cancels_wait number (Starts (waiting.Calling n c) ∷ q) = cancels_wait number q
   cancels_wait number (Starts (waiting.Registering n p) ∷ q) = cancels_wait number q
   cancels_wait number (Cancels n ∷ q) = ap (λ b. (n == number) || b) (cancels_wait number q)
 
   -- .. or runs
-  pub cancels_are : (number : ℕ) (running : List Operation) (q : List (Queued (Waiting A))) → list_any (is_cancel_of number) (running ++ map shown_queued q) ≡ (list_any (is_cancel_of number) running || list_any (is_cancel number) q)
+  pub cancels_are : (number : ℕ) (running : List Operation) (q : List (Queued (Waiting A)))
+      → list_any (is_cancel_of number) (running ++ map shown_queued q)
+      ≡ (list_any (is_cancel_of number) running || list_any (is_cancel number) q)
   cancels_are number running q =
-      list_any-append (is_cancel_of number) running (map shown_queued q) ∙ ap (λ b. list_any (is_cancel_of number) running || b) (cancels_wait number q)
+      list_any-append (is_cancel_of number) running (map shown_queued q)
+      ∙ ap (λ b. list_any (is_cancel_of number) running || b) (cancels_wait number q)

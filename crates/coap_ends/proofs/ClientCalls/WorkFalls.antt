@@ -47,13 +47,15 @@ fewer_wait running [] = omega arith
 fewer_wait running (o ∷ os) = by (is_some o.rest) (is_fetched running o) (fewer_wait running os)
   where
     by : (r f : Bool) → fetches running os ≤ fetches None os
-        → length (cond (r && not f) (o ∷ filter (awaits_fetch running) os) (filter (awaits_fetch running) os)) ≤ length (cond (r && not false) (o ∷ filter (awaits_fetch None) os) (filter (awaits_fetch None) os))
+        → length (cond (r && not f) (o ∷ filter (awaits_fetch running) os) (filter (awaits_fetch running) os))
+        ≤ length (cond (r && not false) (o ∷ filter (awaits_fetch None) os) (filter (awaits_fetch None) os))
     by true true h = omega (arith, h)
     by true false h = omega (arith, h)
     by false f h = h
 
 -- .. the first for which something is to be fetched
-fetched_fewer : (os : List Observation) (number : ℕ) → to_fetch os ≡ Some number → fetches (Some (Fetching number)) os + 1 ≤ fetches None os
+fetched_fewer : (os : List Observation) (number : ℕ) → to_fetch os ≡ Some number
+    → fetches (Some (Fetching number)) os + 1 ≤ fetches None os
 fetched_fewer [] number h = absurd (cc h)
 fetched_fewer (o ∷ os) number h = by (is_some o.rest) h (fetched_fewer os number)
   where
@@ -63,7 +65,10 @@ fetched_fewer (o ∷ os) number h = by (is_some o.rest) h (fetched_fewer os numb
     all : List Observation
     all = filter (awaits_fetch None) os
 
-    by : (r : Bool) → cond r (Some o.number) (to_fetch os) ≡ Some number → (to_fetch os ≡ Some number → length left + 1 ≤ length all) → length (cond (r && not (o.number == number)) (o ∷ left) left) + 1 ≤ length (cond (r && not false) (o ∷ all) all)
+    by : (r : Bool) → cond r (Some o.number) (to_fetch os) ≡ Some number
+        → (to_fetch os ≡ Some number → length left + 1 ≤ length all)
+        → length (cond (r && not (o.number == number)) (o ∷ left) left) + 1
+        ≤ length (cond (r && not false) (o ∷ all) all)
     by true e f =
         let same : (o.number == number) ≡ true = (unsigned_Decides o.number number).1 (cc e) in
         let k = fewer_wait (Some (Fetching number)) os in
@@ -71,7 +76,8 @@ fetched_fewer (o ∷ os) number h = by (is_some o.rest) h (fetched_fewer os numb
     by false e f = f e
 
 -- .. where that fetch is over
-fetch_over_least : (number : ℕ) (os : List Observation) → fetches None (with_rest number None os) ≤ fetches (Some (Fetching number)) os
+fetch_over_least : (number : ℕ) (os : List Observation)
+    → fetches None (with_rest number None os) ≤ fetches (Some (Fetching number)) os
 fetch_over_least number [] = omega arith
 fetch_over_least number (o ∷ os) = by (o.number == number) (is_some o.rest) refl (fetch_over_least number os)
   where
@@ -81,18 +87,22 @@ fetch_over_least number (o ∷ os) = by (o.number == number) (is_some o.rest) re
     all : List Observation
     all = filter (awaits_fetch (Some (Fetching number))) os
 
-    both : (r : Bool) → length left ≤ length all → length (cond (r && not false) (o ∷ left) left) ≤ length (cond (r && not false) (o ∷ all) all)
+    both : (r : Bool) → length left ≤ length all
+        → length (cond (r && not false) (o ∷ left) left) ≤ length (cond (r && not false) (o ∷ all) all)
     both true h = omega (arith, h)
     both false h = h
 
     by : (b r : Bool) → is_some o.rest ≡ r → length left ≤ length all
-        → length (cond (is_some (cond b (record o { rest = None }) o).rest && not false) (cond b (record o { rest = None }) o ∷ left) left) ≤ length (cond (r && not b) (o ∷ all) all)
+        → length (cond (is_some (cond b (record o { rest = None }) o).rest && not false)
+        (cond b (record o { rest = None }) o ∷ left) left) ≤ length (cond (r && not b) (o ∷ all) all)
     by true true e h = h
     by true false e h = h
-    by false r e h = subst (λ q. length (cond (q && not false) (o ∷ left) left) ≤ length (cond (r && not false) (o ∷ all) all)) (sym e) (both r h)
+    by false r e h = subst (λ q. length (cond (q && not false) (o ∷ left) left)
+        ≤ length (cond (r && not false) (o ∷ all) all)) (sym e) (both r h)
 
 -- .. of some of the observations
-some_least : (p : Observation → Bool) (running : Option Operation) (os : List Observation) → fetches running (filter p os) ≤ fetches running os
+some_least : (p : Observation → Bool) (running : Option Operation) (os : List Observation)
+    → fetches running (filter p os) ≤ fetches running os
 some_least p running [] = omega arith
 some_least p running (o ∷ os) = by (p o) (awaits_fetch running o) refl (some_least p running os)
   where
@@ -102,7 +112,9 @@ some_least p running (o ∷ os) = by (p o) (awaits_fetch running o) refl (some_l
     all : List Observation
     all = filter (awaits_fetch running) os
 
-    by : (b w : Bool) → awaits_fetch running o ≡ w → length left ≤ length all → length (filter (awaits_fetch running) (cond b (o ∷ filter p os) (filter p os))) ≤ length (cond w (o ∷ all) all)
+    by : (b w : Bool) → awaits_fetch running o ≡ w → length left ≤ length all
+        → length (filter (awaits_fetch running) (cond b (o ∷ filter p os) (filter p os)))
+        ≤ length (cond w (o ∷ all) all)
     by true true e h = subst (λ q. length (cond q (o ∷ left) left) ≤ length (o ∷ all)) (sym e) (omega (arith, h))
     by true false e h = subst (λ q. length (cond q (o ∷ left) left) ≤ length all) (sym e) h
     by false true e h = omega (arith, h)
@@ -116,7 +128,8 @@ abbrev left_by : Option Operation → Own → ℕ
 left_by running s = length s.queue + fetches running s.observations
 
 -- a failure begins nothing
-failed_least : (u : Transfer → Bool) (report : Report) (s : Own) (running : Option Operation) → to_begin (failed u report s running).own ≤ left_by running s
+failed_least : (u : Transfer → Bool) (report : Report) (s : Own) (running : Option Operation)
+    → to_begin (failed u report s running).own ≤ left_by running s
 failed_least u report s None = let k = fewer_wait s.running s.observations in omega (arith, k)
 failed_least u report s (Some (Calling number r t)) = by (u t && is_upload t)
   where
@@ -132,7 +145,8 @@ failed_least u report s (Some (Cancelling number)) =
 failed_least u report s (Some Dropped) = omega arith
 
 -- .. nor does a request, beside the operation that runs
-asked_least : (m : ℕ) (op : Operation) (s : Own) (token : Result (List ℕ) AskRefusal) → to_begin (closed m (runs op s) (Asks op) token).own ≤ left_by (Some op) s
+asked_least : (m : ℕ) (op : Operation) (s : Own) (token : Result (List ℕ) AskRefusal)
+    → to_begin (closed m (runs op s) (Asks op) token).own ≤ left_by (Some op) s
 asked_least m op s (Ok token) = omega arith
 asked_least m op s (Err why) = failed_least has_sent NoIds (runs op s).own (Some op)
 
@@ -141,28 +155,35 @@ asked_least m op s (Err why) = failed_least has_sent NoIds (runs op s).own (Some
 abbrev LessBegins : ℕ → Effect → Result (List ℕ) AskRefusal → ℕ → Type 0
 LessBegins m e token n = asks e.deed ≡ true → to_begin (closed m e e.deed token).own + 1 ≤ n
 
-starts_fewer : (m now : ℕ) (s : Own) (token : Result (List ℕ) AskRefusal) (q : List Operation) → LessBegins m (starts s now q) token (length q + fetches None s.observations)
+starts_fewer : (m now : ℕ) (s : Own) (token : Result (List ℕ) AskRefusal) (q : List Operation)
+    → LessBegins m (starts s now q) token (length q + fetches None s.observations)
 starts_fewer m now s token [] h = absurd (cc h)
 starts_fewer m now s token (op ∷ q) h = by (is_upload_op op && is_held s now) h
   where
-    by : (b : Bool) → LessBegins m (cond b (stays s) (runs op (record s { queue = q }))) token (length (op ∷ q) + fetches None s.observations)
+    by : (b : Bool) → LessBegins m (cond b (stays s) (runs op (record s { queue = q }))) token
+        (length (op ∷ q) + fetches None s.observations)
     by true h = absurd (cc h)
-    by false h = let k = asked_least m op (record s { queue = q }) token in let f = fewer_wait (Some op) s.observations in omega (arith, k, f)
+    by false h = let k = asked_least m op (record s { queue = q }) token in let f =
+        fewer_wait (Some op) s.observations in omega (arith, k, f)
 
-idle_fewer : (m : ℕ) (s : Own) (token : Result (List ℕ) AskRefusal) (running : Option Operation) (number : Option ℕ) → to_fetch s.observations ≡ number → LessBegins m (idle s m running number) token (left_by running s)
+idle_fewer : (m : ℕ) (s : Own) (token : Result (List ℕ) AskRefusal) (running : Option Operation) (number : Option ℕ)
+    → to_fetch s.observations ≡ number → LessBegins m (idle s m running number) token (left_by running s)
 idle_fewer m s token (Some op) number is h = absurd (cc h)
-idle_fewer m s token None (Some number) is h = let k = asked_least m (Fetching number) s token in let f = fetched_fewer s.observations number is in omega (arith, k, f)
+idle_fewer m s token None (Some number) is h = let k = asked_least m (Fetching number) s token in let f =
+    fetched_fewer s.observations number is in omega (arith, k, f)
 idle_fewer m s token None None is h = starts_fewer m m s token s.queue h
 
 -- where no request is asked for
 
-silent_deed : (m : ℕ) (e : Effect) (token : Result (List ℕ) AskRefusal) (d : Deed) → e.deed ≡ d → AsksNothing d → (closed m e d token).deed ≡ Rests
+silent_deed : (m : ℕ) (e : Effect) (token : Result (List ℕ) AskRefusal) (d : Deed) → e.deed ≡ d → AsksNothing d
+    → (closed m e d token).deed ≡ Rests
 silent_deed m e token Rests is n = is
 silent_deed m e token (Keeps t) is n = refl
 silent_deed m e token (Releases t) is n = refl
 silent_deed m e token (Asks op) is n = absurd n
 
-silent_own : (m : ℕ) (e : Effect) (token : Result (List ℕ) AskRefusal) (d : Deed) → AsksNothing d → (closed m e d token).own ≡ e.own
+silent_own : (m : ℕ) (e : Effect) (token : Result (List ℕ) AskRefusal) (d : Deed) → AsksNothing d
+    → (closed m e d token).own ≡ e.own
 silent_own m e token Rests n = refl
 silent_own m e token (Keeps t) n = refl
 silent_own m e token (Releases t) n = refl
@@ -196,15 +217,18 @@ module _ (m w : ℕ) (sent : L.Answer) (token : Result (List ℕ) AskRefusal) (k
       let under = h.2.under in
       let r = message_of o.observations op in
       let e = h.0.own in
-      let k = opened_least under.0 y.layer m (Q.opening_of e r) e.server (Q.content_of (Q.request_token e r) r) w sent under.2 in
+      let k = opened_least under.0 y.layer m (Q.opening_of e r) e.server
+      (Q.content_of (Q.request_token e r) r) w sent under.2 in
       let clock = k.0 in
       let same = k.1 in
-      subst (λ s. Least m s y.layer) (under.1 ∙ ap (λ (z : X.State). z.layer) h.1) (record { clock = omega (arith, clock); least = omega (arith, same) })
+      subst (λ s. Least m s y.layer) (under.1 ∙ ap (λ (z : X.State). z.layer) h.1)
+      (record { clock = omega (arith, clock); least = omega (arith, same) })
 
   silent_runs : (d : Deed) (o : Own) (x y : X.State) → AsksNothing d → Done d o x y → y.own.running ≡ x.own.running
   silent_runs Rests o x y n h = ap (λ (z : X.State). z.own.running) h
   silent_runs (Keeps t) o x y n h = ap (λ (e : E.Own). e.running) h.2.own_is ∙ ap (λ (z : X.State). z.own.running) h.1
-  silent_runs (Releases t) o x y n h = ap (λ (e : E.Own). e.running) h.2.own_is ∙ ap (λ (z : X.State). z.own.running) h.1
+  silent_runs (Releases t) o x y n h = ap (λ (e : E.Own). e.running) h.2.own_is
+      ∙ ap (λ (z : X.State). z.own.running) h.1
   silent_runs (Asks op) o x y n h = absurd n
 
 abbrev running : Option Exchange → ℕ
@@ -216,7 +240,8 @@ one_at_most (Some x) = omega arith
 
 -- a tick
 
-module _ (old new : State) (now w : ℕ) (below : L.Answer) (sent : L.Answer) (token : Result (List ℕ) AskRefusal) (kept : Bool) where
+module _ (old new : State) (now w : ℕ) (below : L.Answer) (sent : L.Answer) (token : Result (List ℕ) AskRefusal)
+    (kept : Bool) where
   abbrev m : ℕ
   m = max old.own.clock now
 
@@ -246,7 +271,14 @@ module _ (old new : State) (now w : ℕ) (below : L.Answer) (sent : L.Answer) (t
       let last = deeds (closing d).deed (closing d).own m w sent token kept in
       let k = exchanged_split old.layer new.layer last (first ++ E.Ticks m below d ∷ []) step.under in
       let j = exchanged_split old.layer k.0 first (E.Ticks m below d ∷ []) k.1 in
-      record { ticked = j.0; between = k.0; tick = subst (λ x. X.Step x (E.Ticks m below d) j.0) j.1.1 j.1.2; first = j.2; last = k.2 }
+      record {
+        ticked = j.0;
+        between = k.0;
+        tick = subst (λ x. X.Step x (E.Ticks m below d) j.0) j.1.1 j.1.2;
+        first =
+            j.2;
+        last = k.2;
+      }
 
   begin_is : (d : Turn) → Ticked d → to_begin new.own ≡ to_begin (closing d).own
   begin_is d step = ap to_begin step.own_is
@@ -260,32 +292,42 @@ module _ (old new : State) (now w : ℕ) (below : L.Answer) (sent : L.Answer) (t
   takes : (d : Turn) → Ticked d → Parts d → Takes d
   takes d step p =
       let under = p.tick.under in
-      let tick : S.Step old.layer.layer m L.Ticks below p.ticked.layer = subst (λ s. S.Step s m L.Ticks below p.ticked.layer) under.1 under.2 in
+      let tick : S.Step old.layer.layer m L.Ticks below p.ticked.layer =
+      subst (λ s. S.Step s m L.Ticks below p.ticked.layer) under.1 under.2 in
       let clock = step_clock old.layer.layer p.ticked.layer m L.Ticks below tick in
       let rest = then_least m p.ticked.layer p.between.layer new.layer.layer
       (deed_least m w sent token kept (effect d).deed (effect d).own p.ticked p.between p.first)
       (deed_least m w sent token kept (closing d).deed (closing d).own p.between new.layer p.last) in
-      let own : new.own.clock ≡ m = ap (λ (s : Own). s.clock) step.own_is ∙ (steadied (at now old.own) m (effect d) token (effect d).deed refl (passes_steady (at now old.own) m d)).clock in
+      let own : new.own.clock ≡ m = ap (λ (s : Own). s.clock) step.own_is
+      ∙ (steadied (at now old.own) m (effect d) token (effect d).deed refl
+      (passes_steady (at now old.own) m d)).clock in
       let later = rest.clock in
       let ticked_at : max p.ticked.layer.clock m ≡ max old.layer.layer.clock m = omega (arith, clock) in
-      let moment : max new.layer.layer.clock (max new.own.clock now) ≡ max old.layer.layer.clock m = omega (arith, own, later, ticked_at) in
-      let behind : due new.layer.layer ≤ due p.ticked.layer = subst (λ n. due_count n new.layer.layer.open_cons ≤ due_count n p.ticked.layer.open_cons) ticked_at rest.least in
+      let moment : max new.layer.layer.clock (max new.own.clock now) ≡ max old.layer.layer.clock m =
+      omega (arith, own, later, ticked_at) in
+      let behind : due new.layer.layer ≤ due p.ticked.layer =
+      subst (λ n. due_count n new.layer.layer.open_cons ≤ due_count n p.ticked.layer.open_cons) ticked_at rest.least
+      in
       let first = ticks_least old.layer.layer p.ticked.layer m below tick in
       record {
-        now_due = ap (λ n. due_count n new.layer.layer.open_cons + (running new.layer.own.running + 2 * to_begin new.own)) moment;
+        now_due = ap (λ n. due_count n new.layer.layer.open_cons
+            + (running new.layer.own.running + 2 * to_begin new.own)) moment;
         least = omega (arith, behind, first);
-        fewer = λ is. (let less = ticks_fewer old.layer.layer p.ticked.layer m below tick is in omega (arith, behind, less));
+        fewer = λ is. (let less = ticks_fewer old.layer.layer p.ticked.layer m below tick is in
+            omega (arith, behind, less));
       }
 
   -- .. where no request is asked for
   runs_still : (d : Turn) → AsksNothing (effect d).deed → (p : Parts d) → new.layer.own.running ≡ p.ticked.own.running
   runs_still d n p =
-      silent_runs m w sent token kept (closing d).deed (closing d).own p.between new.layer (subst AsksNothing (sym (silent_deed m (effect d) token (effect d).deed refl n)) tt) p.last
+      silent_runs m w sent token kept (closing d).deed (closing d).own p.between new.layer
+      (subst AsksNothing (sym (silent_deed m (effect d) token (effect d).deed refl n)) tt) p.last
       ∙ silent_runs m w sent token kept (effect d).deed (effect d).own p.ticked p.between n p.first
 
   by_turn : (d : Turn) → Ticked d → (p : Parts d) → Takes d → work new now < work old now
   by_turn turn.Idle step p k =
-      let less = idle_fewer m (at now old.own) token old.own.running (to_fetch old.own.observations) refl (sym step.right) in
+      let less = idle_fewer m (at now old.own) token old.own.running (to_fetch old.own.observations) refl
+      (sym step.right) in
       let begin = begin_is turn.Idle step in
       let is = k.now_due in
       let least = k.least in
@@ -294,10 +336,12 @@ module _ (old new : State) (now w : ℕ) (below : L.Answer) (sent : L.Answer) (t
   by_turn turn.Copied step p k =
       let begin = begin_is turn.Copied step in
       let is = k.now_due in
-      let fewer = k.fewer (subst (λ t. IsTaken t below old.layer.own.running) (sym p.tick.right) (turn_taken old.layer.own (max old.layer.own.clock m) below)) in
+      let fewer = k.fewer (subst (λ t. IsTaken t below old.layer.own.running) (sym p.tick.right)
+      (turn_taken old.layer.own (max old.layer.own.clock m) below)) in
       let same = ap running (runs_still turn.Copied tt p ∙ ap (λ (e : E.Own). e.running) p.tick.own_is) in
       omega (arith, begin, is, fewer, same)
-  by_turn (turn.End e) step p k = by (subst (λ t. IsTaken t below old.layer.own.running) (sym p.tick.right) (turn_taken old.layer.own (max old.layer.own.clock m) below))
+  by_turn (turn.End e) step p k = by (subst (λ t. IsTaken t below old.layer.own.running) (sym p.tick.right)
+      (turn_taken old.layer.own (max old.layer.own.clock m) below))
     where
       silent : AsksNothing (effect (turn.End e)).deed
       silent = fails_silently (λ t. true) (lapse e) (at now old.own) old.own.running
@@ -313,8 +357,10 @@ module _ (old new : State) (now w : ℕ) (below : L.Answer) (sent : L.Answer) (t
           omega (arith, a, b, c)
 
       by : (is_step below ≡ true) ⊎ (is_some old.layer.own.running ≡ true) → work new now < work old now
-      by (inl is) = let fewer = k.fewer is in let a = over in let b = begin in let n = k.now_due in omega (arith, fewer, a, b, n)
-      by (inr some) = let least = k.least in let one = ap one_if some in let a = over in let b = begin in let n = k.now_due in omega (arith, least, one, a, b, n)
+      by (inl is) = let fewer = k.fewer is in let a = over in let b = begin in let n = k.now_due in
+          omega (arith, fewer, a, b, n)
+      by (inr some) = let least = k.least in let one = ap one_if some in let a = over in let b = begin in let n =
+          k.now_due in omega (arith, least, one, a, b, n)
 
   pub work_falls : (d : Turn) → Ticked d → work new now < work old now
   work_falls d step = let p = parts d step in by_turn d step p (takes d step p)
@@ -323,9 +369,11 @@ module _ (old new : State) (now w : ℕ) (below : L.Answer) (sent : L.Answer) (t
 
 abbrev TickedSo : State → ℕ → ℕ → State → Bool → Type 0
 TickedSo old now w new did =
-    (below : L.Answer) × (d : Turn) × (sent : L.Answer) × (token : Result (List ℕ) AskRefusal) × (kept : Bool) × Step old (Ticks now w below d sent token kept did) new
+    (below : L.Answer) × (d : Turn) × (sent : L.Answer) × (token : Result (List ℕ) AskRefusal) × (kept : Bool)
+    × Step old (Ticks now w below d sent token kept did) new
 
-pub ticks_fall : {Y : Type 0} (r : Result Bool Y) (old new : State) (now w : ℕ) → IfOk r (λ did. TickedSo old now w new did) → r ≡ Ok true → work new now < work old now
+pub ticks_fall : {Y : Type 0} (r : Result Bool Y) (old new : State) (now w : ℕ)
+    → IfOk r (λ did. TickedSo old now w new did) → r ≡ Ok true → work new now < work old now
 ticks_fall (Ok true) old new now w s e = work_falls old new now w s.0 s.2 s.3 s.4 s.1 s.5
 ticks_fall (Ok false) old new now w s e = absurd (cc e)
 ticks_fall (Err x) old new now w s e = absurd (cc e)

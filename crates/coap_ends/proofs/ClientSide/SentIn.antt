@@ -6,8 +6,7 @@ use Rattle.coap_types.specs.declared.endpoint.Endpoint.{Endpoint}
 use Rattle.coap_layer.specs.Sends.{IsIn, IsOpen, SendsIt, as_begun}
 use Rattle.coap_layer.specs.Trace as L
 use Rattle.coap_layer.specs.Words.{Open, begun, outstanding}
-use Rattle.coap_layer.proofs.Facts.Sendings.{some_in}
-use Rattle.coap_layer.proofs.Copies.CopiesInTime.{was_begun}
+use Rattle.coap_layer.proofs.Facts.Sendings.{some_in, was_begun}
 use Rattle.coap_ends.specs.ClientSide.ClientTrace.{Call}
 use Rattle.coap_ends.specs.ClientSide.ClientOwn.{Operation, Calling, Registering, Fetching, Cancelling, Dropped}
 use Rattle.coap_ends.specs.ClientSide.ClientLaw.{ClientLaw, own_of, layer_of}

@@ -9,9 +9,8 @@ use Rattle.coap_layer.specs.Trace.{Entry}
 use Rattle.coap_layer.specs.Words.{Open, left_by, begun, outstanding}
 use Rattle.coap_layer.specs.Rows.{LayerLaw}
 use Rattle.coap_layer.specs.Sends.{as_begun, IsOpen}
-use Rattle.coap_layer.proofs.Copies.CopiesInTime.{left_same, begun_fresh, one_outstanding}
-use Rattle.coap_layer.proofs.Copies.WhatIsOpen.{place_same}
-use Rattle.coap_layer.proofs.Numbers.OneEntryForAnId.{begun_once}
+use Rattle.coap_layer.proofs.Facts.Laws.{one_outstanding}
+use Rattle.coap_layer.proofs.Facts.Sendings.{left_same, begun_fresh, begun_once, place_same}
 
 -- a CON to this place begins
 pub record BeginsTo (to : Endpoint) (e : Entry) : Type 0 where

@@ -21,9 +21,10 @@ use Rattle.coap_ends.specs.ClientSide.ClientDeeds.{close, deeds}
 use Rattle.coap_ends.specs.ClientSide.ClientStep.{State, Led}
 use Rattle.coap_ends.specs.ClientObject.ClientSends.{Sends}
 
--- What is asked for the effect, and then for what the sending makes of it (`sent`, `token` and `kept` are answered beneath), and
--- what is left; which request was sent first.
-pub record Happens (behind : X.State) (e : Effect) (now word : ℕ) (asked : Option Requested) (new : State) : Type 0 where
+-- What is asked for the effect, and then for what the sending makes of it (`sent`, `token` and `kept` are answered
+-- beneath), and what is left; which request was sent first.
+pub record Happens (behind : X.State) (e : Effect) (now word : ℕ) (asked : Option Requested)
+    (new : State) : Type 0 where
   pub sent : L.Answer
   pub token : Result (List ℕ) AskRefusal
   pub kept : Bool
@@ -33,7 +34,8 @@ pub record Happens (behind : X.State) (e : Effect) (now word : ℕ) (asked : Opt
   pub own_is : new.own ≡ reporting (close now e token)
   pub asked_is : asked ≡ requested e.deed token
 
--- An upload that ended by a lapse of its exchange holds back others; one whose request couldn't be sent does so where it sent a block.
+-- An upload that ended by a lapse of its exchange holds back others; one whose request couldn't be sent does so where
+-- it sent a block.
 abbrev pub unanswered : Bool → Transfer → Bool
 unanswered false t = true
 unanswered true t = has_sent t
@@ -45,16 +47,20 @@ failing unsent report s = failed (λ t. unanswered unsent t) report s s.running
 -- a deed is done, for which no request is sent
 abbrev pub IsDone : X.State → Deed → X.State → Type 0
 IsDone old deed new =
-    (kept : Bool) × ((s : Own) (at word : ℕ) (sent : L.Answer) (token : Result (List ℕ) AskRefusal) → Exchanged old (deeds deed s at word sent token kept) new)
+    (kept : Bool) × ((s : Own) (at word : ℕ) (sent : L.Answer) (token : Result (List ℕ) AskRefusal)
+    → Exchanged old (deeds deed s at word sent token kept) new)
 
 -- what a client is left as, with its exchanges
 abbrev pub left : Own → X.State → State
 left own x = record { own = own; layer = x }
 
--- The request of the operation that runs was sent, with this token, or couldn't be: so the client was left, and so it is now.
-abbrev pub Closes : (s : Own) (at : ℕ) (given : Option (List ℕ)) (x : X.State) (asked : Option Requested) (new : State) → Type 0
+-- The request of the operation that runs was sent, with this token, or couldn't be: so the client was left, and so it
+-- is now.
+abbrev pub Closes : (s : Own) (at : ℕ) (given : Option (List ℕ)) (x : X.State) (asked : Option Requested) (new : State)
+    → Type 0
 Closes s at given x asked new =
-    (op : Operation) (behind : X.State) (word : ℕ) → s.running ≡ Some op → Sends behind at (message_of s.observations op) word given x → Happens behind (runs op s) at word asked new
+    (op : Operation) (behind : X.State) (word : ℕ) → s.running ≡ Some op
+    → Sends behind at (message_of s.observations op) word given x → Happens behind (runs op s) at word asked new
 
 -- the same operation runs
 abbrev pub running : Operation → Own → Own
@@ -89,7 +95,10 @@ WasLed s = (server : Endpoint) × (szx : ℕ) × (word : ℕ) × (t : List Call)
 
 -- the observation of that number is as fresh as that ..
 abbrev pub watching : ℕ → Mark → Own → Own
-watching number w s = record s { observations = map (λ (p : Observation). if p.number == number then record p { watch = w } else p) s.observations }
+watching number w s = record s {
+  observations =
+      map (λ (p : Observation). if p.number == number then record p { watch = w } else p) s.observations;
+}
 
 -- .. and a newer notification replaces what is fetched for an older one, with what it reports
 abbrev pub renewing : ℕ → Mark → Message → Own → Own
@@ -97,7 +106,8 @@ renewing number w m s =
     reporting (record {
       own = record s {
         running = dropped number s.running;
-        observations = map (λ (p : Observation). if p.number == number then record p { watch = w; rest = first_rest s.szx m } else p) s.observations;
+        observations = map (λ (p : Observation). if p.number == number then record p
+            { watch = w; rest = first_rest s.szx m } else p) s.observations;
       };
       report = first_value number s.szx m;
       deed = Rests;

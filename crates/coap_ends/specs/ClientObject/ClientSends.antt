@@ -12,7 +12,8 @@ token_in (Ok token) = Some token
 token_in (Err why) = None
 
 -- a request is sent, with this token, or no Message ID or no token is free for it
-pub record Sends (old : X.State) (now : ℕ) (r : E.Request) (word : ℕ) (given : Option (List ℕ)) (new : X.State) : Type 0 where
+pub record Sends (old : X.State) (now : ℕ) (r : E.Request) (word : ℕ) (given : Option (List ℕ))
+    (new : X.State) : Type 0 where
   pub sent : L.Answer
   pub token : Result (List ℕ) AskRefusal
   pub step : Exchanged old (E.Ask now r word sent token ∷ []) new

@@ -40,7 +40,14 @@ module _ {A : Type 0} where
   shown_rest n = record { sequence = n.sequence; fetch = n.fetch.state }
 
   abbrev pub shown_observation : B.Observation A → Observation
-  shown_observation o = record { number = o.number; path = o.path; token = o.token; watch = o.watch; rest = option_map shown_rest o.rest }
+  shown_observation o = record {
+    number = o.number;
+    path = o.path;
+    token = o.token;
+    watch = o.watch;
+    rest =
+        option_map shown_rest o.rest;
+  }
 
   abbrev pub shown_report : R.Report A → Report
   shown_report (report.Body f) = Body f.tag f.format f.body

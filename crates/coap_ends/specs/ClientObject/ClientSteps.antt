@@ -1,4 +1,5 @@
--- What a call, and a fetch for a notification, make of an answer (RFC 7252, section 5.8; RFC 7959, sections 2.4 to 2.6).
+-- What a call, and a fetch for a notification, make of an answer (RFC 7252, section 5.8; RFC 7959, sections 2.4 to
+-- 2.6).
 use Rattle.std.specs.Prelude.{◌≡◌, ℕ, ◌==◌, Option, Some, None, ◌++◌, if◌then◌else◌}
 use Rattle.coap_codec.specs.Message.{Message}
 use Rattle.coap_block.specs.declared.fetch_step.Step.{Step}
@@ -37,8 +38,10 @@ module _ {A : Type 0} where
 
   -- what a call makes of an answer, by what it is to make of it
   abbrev pub Hears : CallState → calls.Next → H.Heard A → CallState → Type 0
-  Hears old next heard.Asks new = (new.request ≡ old.request) × (next ≡ calls.Asks new.transfer) × (new.before ≡ Some old.transfer)
-  Hears old next (heard.Over final report) new = (next ≡ calls.Ends final (shown_report report)) × (is_upload new.transfer ≡ is_upload old.transfer)
+  Hears old next heard.Asks new = (new.request ≡ old.request) × (next ≡ calls.Asks new.transfer)
+      × (new.before ≡ Some old.transfer)
+  Hears old next (heard.Over final report) new =
+      (next ≡ calls.Ends final (shown_report report)) × (is_upload new.transfer ≡ is_upload old.transfer)
 
   -- what is left to be fetched, and what is reported, of a part
   abbrev pub rest_by : P.Part A → Notified → Option Notified
@@ -57,7 +60,8 @@ module _ {A : Type 0} where
 
   abbrev pub HearsUpload : UploadState → calls.Next → H.Heard A → UploadValue → Type 0
   HearsUpload old next heard.Asks new = (next ≡ calls.Asks (Uploads new.state)) × (new.before ≡ Some old)
-  HearsUpload old next (heard.Over final report) new = (next ≡ calls.Ends final (shown_report report)) × (new.state ≡ old)
+  HearsUpload old next (heard.Over final report) new =
+      (next ≡ calls.Ends final (shown_report report)) × (new.state ≡ old)
 
   -- where the next block is asked for, the part can be taken back
   abbrev pub CanTakeBack : P.Part A → FetchState → FetchValue → Type 0

@@ -54,7 +54,8 @@ pub fn end_observation<A: Allocator + Copy, H: BuildHasher>(
     requires room { deque_len held.old.reports < deque_capacity held.old.reports }
     requires one { in_observations number (own_of held.old).observations ≤ 1 }
     ensures own { own_of held.new ≡ reporting (is_over number (shown_report report) (own_of held.old)) }
-    ensures deed { IsDone asker.old.state (is_over number (shown_report report) (own_of held.old)).deed asker.new.state }
+    ensures deed { IsDone asker.old.state (is_over number (shown_report report) (own_of held.old)).deed
+        asker.new.state }
     ensures before { asker.new.before ≡ asker.old.before }
 {
     leave(asker, held, number);
@@ -71,7 +72,8 @@ pub fn leave<A: Allocator + Copy, H: BuildHasher>(
     requires one { in_observations number (own_of held.old).observations ≤ 1 }
     ensures own { own_of held.new ≡ over number (own_of held.old) }
     ensures reports { held.new.reports ≡ held.old.reports }
-    ensures deed { IsDone asker.old.state (releases (observation_of number (own_of held.old).observations)) asker.new.state }
+    ensures deed { IsDone asker.old.state (releases (observation_of number (own_of held.old).observations))
+        asker.new.state }
     ensures before { asker.new.before ≡ asker.old.before }
 {
     let_go(asker, observations::token_of(&held.operations, number));
@@ -101,7 +103,8 @@ pub fn fail<A: Allocator + Copy, H: BuildHasher>(
     requires room { deque_len held.old.reports < deque_capacity held.old.reports }
     requires apart { Apart (own_of held.old) }
     ensures own { own_of held.new ≡ reporting (failing unsent (shown_report report) (own_of held.old)) }
-    ensures deed { IsDone asker.old.state (failing unsent (shown_report report) (own_of held.old)).deed asker.new.state }
+    ensures deed { IsDone asker.old.state (failing unsent (shown_report report) (own_of held.old)).deed
+        asker.new.state }
     ensures before { asker.new.before ≡ asker.old.before }
 {
     match held.operations.take_running() {
@@ -128,7 +131,8 @@ pub fn close<A: Allocator + Copy, H: BuildHasher>(
 ) -> Option<(CallId, Token)>
     requires room { deque_len held.old.reports < deque_capacity held.old.reports }
     requires apart { Apart (own_of held.old) }
-    ensures closes { Closes (own_of held.old) at.0 given asker.old.state (shown_asked result) (left (own_of held.new) asker.new.state) }
+    ensures closes { Closes (own_of held.old) at.0 given asker.old.state (shown_asked result)
+        (left (own_of held.new) asker.new.state) }
     ensures before { asker.new.before ≡ asker.old.before }
 {
     match given {

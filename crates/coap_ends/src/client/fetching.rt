@@ -22,7 +22,8 @@ pub fn got<A: Allocator + Copy>(
     request: &Request<A>,
     m: &View<'_>,
 ) -> Result<Heard<A>, AllocError>
-    ensures hears { IfOk result (λ heard. HearsFetch fetch.old.state (got (shown_request request.now) fetch.old.state m.now) heard fetch.new) }
+    ensures hears { IfOk result (λ heard. HearsFetch fetch.old.state
+        (got (shown_request request.now) fetch.old.state m.now) heard fetch.new) }
     ensures err { OnErr result (fetch.new.state ≡ fetch.old.state) }
 {
     match m.code() {
@@ -36,7 +37,8 @@ pub fn got<A: Allocator + Copy>(
 
 // .. of a 2.05.
 fn fetched<A: Allocator + Copy>(fetch: &mut Fetch<A>, m: &View<'_>) -> Result<Heard<A>, AllocError>
-    ensures hears { IfOk result (λ heard. HearsFetch fetch.old.state (fetched fetch.old.state m.now (part fetch.old.state m.now)) heard fetch.new) }
+    ensures hears { IfOk result (λ heard. HearsFetch fetch.old.state
+        (fetched fetch.old.state m.now (part fetch.old.state m.now)) heard fetch.new) }
     ensures err { OnErr result (fetch.new.state ≡ fetch.old.state) }
 {
     match take_part(fetch, m)? {

@@ -25,7 +25,8 @@ pub fn forget<A: Allocator + Copy, H: BuildHasher>(
     id: CallId,
 ) -> bool
     requires apart { Apart (own_of held.old) }
-    ensures step { (kept : Bool) × Step (left (own_of held.old) asker.old.state) (Forgets id.0 kept result) (left (own_of held.new) asker.new.state) }
+    ensures step { (kept : Bool) × Step (left (own_of held.old) asker.old.state) (Forgets id.0 kept result)
+        (left (own_of held.new) asker.new.state) }
     ensures before { asker.new.before ≡ asker.old.before }
 {
     let may = may_forget(held, id.0);
@@ -45,7 +46,8 @@ fn may_forget<A: Allocator + Copy>(held: &Held<A>, number: u64) -> bool
 
 // The reports of that observation are given no more.
 fn withdraw<A: Allocator + Copy>(reports: &mut VecDeque<(CallId, Report<A>), A>, number: u64)
-    ensures { map shown_reported reports.new.items ≡ filter (λ r. not (r.number == number)) (map shown_reported reports.old.items) }
+    ensures { map shown_reported reports.new.items
+        ≡ filter (λ r. not (r.number == number)) (map shown_reported reports.old.items) }
 {
     reports.retain(|report| report.0.0 != number);
 }

@@ -35,7 +35,9 @@ pub fn happen<A: Allocator + Copy, H: BuildHasher>(
 ) -> Result<(), AllocError>
     requires apart { Apart (own_of held.old) }
     requires watched { Watched at.0 (own_of held.old) }
-    ensures happens { OnOk result (Comes asker.old.state (happened (clocked at.0 (own_of held.old)) at.0 event.entry) at.0 word (left (own_of held.new) asker.new.state)) }
+    ensures happens { OnOk result (Comes asker.old.state
+        (happened (clocked at.0 (own_of held.old)) at.0 event.entry) at.0 word
+        (left (own_of held.new) asker.new.state)) }
     ensures held { OnErr result (own_of held.new ≡ own_of held.old) }
     ensures before { asker.new.before ≡ asker.old.before }
     // A datagram that tells nothing takes no memory.
@@ -71,7 +73,9 @@ fn happen_now<A: Allocator + Copy, H: BuildHasher>(
     requires room { deque_len held.old.reports < deque_capacity held.old.reports }
     requires apart { Apart (own_of held.old) }
     requires watched { Watched at.0 (own_of held.old) }
-    ensures happens { IfOk result (λ asked. Happens asker.old.state (happened (own_of held.old) at.0 (Some event.entry)) at.0 word (shown_asked asked) (left (own_of held.new) asker.new.state)) }
+    ensures happens { IfOk result (λ asked. Happens asker.old.state
+        (happened (own_of held.old) at.0 (Some event.entry)) at.0 word (shown_asked asked)
+        (left (own_of held.new) asker.new.state)) }
     ensures held { OnErr result (own_of held.new ≡ own_of held.old) }
     ensures before { asker.new.before ≡ asker.old.before }
 {
@@ -95,7 +99,9 @@ fn failed<A: Allocator + Copy, H: BuildHasher>(
 ) -> Option<(CallId, Token)>
     requires room { deque_len held.old.reports < deque_capacity held.old.reports }
     requires apart { Apart (own_of held.old) }
-    ensures happens { (at word : ℕ) → Happens asker.old.state (failed (λ t. true) (shown_report report) (own_of held.old) (own_of held.old).running) at word (shown_asked result) (left (own_of held.new) asker.new.state) }
+    ensures happens { (at word : ℕ) → Happens asker.old.state
+        (failed (λ t. true) (shown_report report) (own_of held.old) (own_of held.old).running) at word
+        (shown_asked result) (left (own_of held.new) asker.new.state) }
     ensures before { asker.new.before ≡ asker.old.before }
 {
     fail(asker, held, false, report);
@@ -112,7 +118,9 @@ fn answered<A: Allocator + Copy, H: BuildHasher>(
 ) -> Result<Option<(CallId, Token)>, AllocError>
     requires room { deque_len held.old.reports < deque_capacity held.old.reports }
     requires apart { Apart (own_of held.old) }
-    ensures happens { IfOk result (λ asked. Happens asker.old.state (answered (own_of held.old) at.0 m.now (own_of held.old).running) at.0 word (shown_asked asked) (left (own_of held.new) asker.new.state)) }
+    ensures happens { IfOk result (λ asked. Happens asker.old.state
+        (answered (own_of held.old) at.0 m.now (own_of held.old).running) at.0 word (shown_asked asked)
+        (left (own_of held.new) asker.new.state)) }
     ensures held { OnErr result (own_of held.new ≡ own_of held.old) }
     ensures before { asker.new.before ≡ asker.old.before }
 {
@@ -120,7 +128,7 @@ fn answered<A: Allocator + Copy, H: BuildHasher>(
         None => Ok(None),
         Some(Running::Dropped) => Ok(None),
         Some(Running::Started(Waiting::Calling(number, call))) => {
-            call_answered(asker, held, at, word, number, call, m)
+            call_answered(asker, held, at, word, Ongoing { number, call }, m)
         }
         Some(Running::Started(Waiting::Registering(number, path))) => {
             registered(asker, held, at, number, path, m)?;
@@ -134,24 +142,36 @@ fn answered<A: Allocator + Copy, H: BuildHasher>(
     }
 }
 
+// A call whose request was sent, and its number.
+#[derive(Drop)]
+struct Ongoing<A: Allocator> {
+    number: u64,
+    call: TakenCall<A>,
+}
+
 // The answer to the request of a call.
 fn call_answered<A: Allocator + Copy, H: BuildHasher>(
     asker: &mut Asker<A, H>,
     held: &mut Held<A>,
     at: Moment,
     word: u64,
-    number: u64,
-    mut call: TakenCall<A>,
+    ongoing: Ongoing<A>,
     m: &View<'_>,
 ) -> Result<Option<(CallId, Token)>, AllocError>
     requires room { deque_len held.old.reports < deque_capacity held.old.reports }
-    requires apart { Apart (running (Calling number call.request call.transfer) (own_of held.old)) }
+    requires apart { Apart (running (Calling ongoing.number ongoing.call.request ongoing.call.transfer)
+        (own_of held.old)) }
     requires idle { held.old.operations.running ≡ None }
     requires spare { 0 < held.old.operations.spare }
-    ensures happens { IfOk result (λ asked. Happens asker.old.state (called number call.request call.transfer (own_of held.old) (answer call.request call.transfer m.now)) at.0 word (shown_asked asked) (left (own_of held.new) asker.new.state)) }
-    ensures held { OnErr result (own_of held.new ≡ running (Calling number call.request call.transfer) (own_of held.old)) }
+    ensures happens { IfOk result (λ asked. Happens asker.old.state
+        (called ongoing.number ongoing.call.request ongoing.call.transfer (own_of held.old)
+        (answer ongoing.call.request ongoing.call.transfer m.now)) at.0 word
+        (shown_asked asked) (left (own_of held.new) asker.new.state)) }
+    ensures held { OnErr result (own_of held.new
+        ≡ running (Calling ongoing.number ongoing.call.request ongoing.call.transfer) (own_of held.old)) }
     ensures before { asker.new.before ≡ asker.old.before }
 {
+    let Ongoing { number, mut call } = ongoing;
     match call.hear(m) {
         Ok(Heard::Over(answered, report)) => {
             end_call(held, number, &call, !answered, report);
@@ -179,8 +199,11 @@ fn ask_next<A: Allocator + Copy, H: BuildHasher>(
     requires idle { held.old.operations.running ≡ None }
     requires spare { 0 < held.old.operations.spare }
     requires before { IsSome call.before }
-    ensures happens { IfOk result (λ asked. Happens asker.old.state (runs (Calling number call.request call.transfer) (own_of held.old)) at.0 word (shown_asked asked) (left (own_of held.new) asker.new.state)) }
-    ensures held { OnErr result ((before : Transfer) → call.before ≡ Some before → own_of held.new ≡ running (Calling number call.request before) (own_of held.old)) }
+    ensures happens { IfOk result (λ asked. Happens asker.old.state
+        (runs (Calling number call.request call.transfer) (own_of held.old)) at.0 word (shown_asked asked)
+        (left (own_of held.new) asker.new.state)) }
+    ensures held { OnErr result ((before : Transfer) → call.before ≡ Some before
+        → own_of held.new ≡ running (Calling number call.request before) (own_of held.old)) }
     ensures before { asker.new.before ≡ asker.old.before }
 {
     match call.send(asker, at, word) {

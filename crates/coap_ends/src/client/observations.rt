@@ -31,7 +31,8 @@ fn place_from<A: Allocator + Copy>(
     from: usize,
     number: u64,
 ) -> Option<usize>
-    ensures { result ≡ option_map (λ k. from + k) (place_in number (map shown_observation (drop from operations.now.live))) }
+    ensures { result ≡ option_map (λ k. from + k)
+        (place_in number (map shown_observation (drop from operations.now.live))) }
 {
     if from >= operations.live_len() {
         return None;
@@ -49,7 +50,8 @@ pub fn find<A: Allocator + Copy>(
     operations: &ClientOperations<A>,
     number: u64,
 ) -> Option<&Observation<A>>
-    ensures { option_map (λ o. shown_observation o.now) result ≡ observation_of number (map shown_observation operations.now.live) }
+    ensures { option_map (λ o. shown_observation o.now) result
+        ≡ observation_of number (map shown_observation operations.now.live) }
 {
     operations.live(place_of(operations, number)?)
 }
@@ -59,7 +61,8 @@ pub fn find_with<'a, A: Allocator + Copy>(
     operations: &'a ClientOperations<A>,
     token: &[u8],
 ) -> Option<&'a Observation<A>>
-    ensures { option_map (λ o. shown_observation o.now) result ≡ observation_with token.now (map shown_observation operations.now.live) }
+    ensures { option_map (λ o. shown_observation o.now) result
+        ≡ observation_with token.now (map shown_observation operations.now.live) }
 {
     find_with_from(operations, 0, token)
 }
@@ -70,7 +73,8 @@ fn find_with_from<'a, A: Allocator + Copy>(
     from: usize,
     token: &[u8],
 ) -> Option<&'a Observation<A>>
-    ensures { option_map (λ o. shown_observation o.now) result ≡ observation_with token.now (map shown_observation (drop from operations.now.live)) }
+    ensures { option_map (λ o. shown_observation o.now) result
+        ≡ observation_with token.now (map shown_observation (drop from operations.now.live)) }
 {
     if from >= operations.live_len() {
         return None;
@@ -110,7 +114,8 @@ pub fn set_watch<A: Allocator + Copy>(
 )
     requires { in_observations number (map shown_observation operations.old.live) ≤ 1 }
     ensures live { map shown_observation operations.new.live
-        ≡ map (λ (o : Observed). if o.number == number then record o { watch = watch } else o) (map shown_observation operations.old.live) }
+        ≡ map (λ (o : Observed). if o.number == number then record o { watch = watch } else o)
+        (map shown_observation operations.old.live) }
     ensures same { operations.new ≡ record operations.old { live = operations.new.live } }
 {
     if let Some(place) = place_of(operations, number) {
@@ -141,7 +146,8 @@ pub fn take_rest<A: Allocator + Copy>(
 ) -> Option<Notified<A>>
     requires { in_observations number (map shown_observation operations.old.live) ≤ 1 }
     ensures rest { option_map shown_rest result ≡ rest_of number (map shown_observation operations.old.live) }
-    ensures left { map shown_observation operations.new.live ≡ with_rest number None (map shown_observation operations.old.live) }
+    ensures left { map shown_observation operations.new.live
+        ≡ with_rest number None (map shown_observation operations.old.live) }
     ensures same { operations.new ≡ record operations.old { live = operations.new.live } }
 {
     let place = place_of(operations, number)?;
@@ -168,7 +174,8 @@ pub fn block_asked<A: Allocator + Copy>(
     operations: &ClientOperations<A>,
     number: u64,
 ) -> Option<UintBytes>
-    ensures option { option_with BLOCK2 result ≡ block2_option (fetch_of number (map shown_observation operations.now.live)) }
+    ensures option { option_with BLOCK2 result
+        ≡ block2_option (fetch_of number (map shown_observation operations.now.live)) }
     ensures few { IsFew result }
 {
     block2_of(&find(operations, number)?.rest.as_ref()?.fetch)

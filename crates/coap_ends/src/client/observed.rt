@@ -38,7 +38,8 @@ fn reach(a: usize, b: usize, c: usize, most: usize) -> bool
 
 // How many registrations run.
 fn running_registrations<A: Allocator + Copy>(operations: &ClientOperations<A>) -> usize
-    ensures count { result ≡ length (filter is_registration (option_to_list (option_map shown_operation operations.now.running))) }
+    ensures count { result ≡ length (filter is_registration
+        (option_to_list (option_map shown_operation operations.now.running))) }
     ensures few { result ≤ 1 }
 {
     match operations.running() {
@@ -88,7 +89,8 @@ pub(crate) fn is_cancelled<A: Allocator + Copy>(held: &Held<A>, number: u64) -> 
 
 // Whether what runs is the cancel of that observation.
 fn is_cancel_of<A: Allocator + Copy>(operations: &ClientOperations<A>, number: u64) -> bool
-    ensures { result ≡ list_any (is_cancel_of number) (option_to_list (option_map shown_operation operations.now.running)) }
+    ensures { result ≡ list_any (is_cancel_of number)
+        (option_to_list (option_map shown_operation operations.now.running)) }
 {
     match operations.running() {
         Some(Running::Cancelling(other)) => other == number,

@@ -26,7 +26,7 @@ use crate::client::report::{CallId, Report};
 use crate::client::reporting::{give, give_some};
 use crate::client::request_options::bytes_in;
 use crate::client::responses::{notified, take_part};
-use crate::client::sending::get;
+use crate::client::sending::{When, get};
 use crate::client::short_path::ShortPath;
 use crate::client::transfer::block2_of;
 use coap_block::{Fetch, Step};
@@ -42,8 +42,11 @@ pub fn take<A: Allocator + Copy>(
     rest: &mut Notified<A>,
     m: &View<'_>,
 ) -> Result<Part<A>, AllocError>
-    ensures rest { IfOk result (λ p. rest_by p (shown_rest rest.new) ≡ rest_after rest.old.sequence rest.old.fetch.state m.now (part rest.old.fetch.state m.now)) }
-    ensures value { (number : ℕ) → IfOk result (λ p. value_by number p ≡ value number rest.old.sequence rest.old.fetch.state m.now (part rest.old.fetch.state m.now)) }
+    ensures rest { IfOk result (λ p. rest_by p (shown_rest rest.new)
+        ≡ rest_after rest.old.sequence rest.old.fetch.state m.now (part rest.old.fetch.state m.now)) }
+    ensures value { (number : ℕ) → IfOk result
+        (λ p. value_by number p ≡ value number rest.old.sequence rest.old.fetch.state m.now
+        (part rest.old.fetch.state m.now)) }
     ensures back { IfOk result (λ p. CanTakeBack p rest.old.fetch.state rest.new.fetch) }
     ensures sequence { rest.new.sequence ≡ rest.old.sequence }
     ensures err { OnErr result (rest.new.fetch.state ≡ rest.old.fetch.state) }
@@ -64,7 +67,8 @@ pub fn first_part<A: Allocator + Copy>(
     m: &View<'_>,
 ) -> Result<(Option<Notified<A>>, Option<Report<A>>), AllocError>
     ensures rest { sequence ≡ sequence_in m.now → IfOk result (λ r. option_map shown_rest r.0 ≡ first_rest szx m.now) }
-    ensures value { (number : ℕ) → sequence ≡ sequence_in m.now → IfOk result (λ r. reported number r.1 ≡ first_value number szx m.now) }
+    ensures value { (number : ℕ) → sequence ≡ sequence_in m.now
+        → IfOk result (λ r. reported number r.1 ≡ first_value number szx m.now) }
 {
     let mut rest = Notified {
         sequence,
@@ -90,7 +94,9 @@ pub fn registered<A: Allocator + Copy, H: BuildHasher>(
     requires room { deque_len held.old.reports < deque_capacity held.old.reports }
     requires idle { held.old.operations.running ≡ None }
     requires spare { 0 < held.old.operations.spare }
-    ensures happens { (word : ℕ) → OnOk result (Happens asker.old.state (registered number path (own_of held.old) at.0 m.now) at.0 word None (left (own_of held.new) asker.new.state)) }
+    ensures happens { (word : ℕ) → OnOk result
+        (Happens asker.old.state (registered number path (own_of held.old) at.0 m.now) at.0 word None
+        (left (own_of held.new) asker.new.state)) }
     ensures held { OnErr result (own_of held.new ≡ running (Registering number path) (own_of held.old)) }
     ensures before { asker.new.before ≡ asker.old.before }
 {
@@ -100,7 +106,13 @@ pub fn registered<A: Allocator + Copy, H: BuildHasher>(
     };
     match begin(held, sequence, m) {
         Ok((rest, report)) => {
-            let token = live(held, at, number, path, sequence, rest, m);
+            let first = Begun {
+                number,
+                path,
+                sequence,
+                rest,
+            };
+            let token = live(held, at, first, m);
             let _kept = asker.keep(&token);
             give_some(held, number, report);
             Ok(())
@@ -118,8 +130,10 @@ fn begin<A: Allocator + Copy>(
     sequence: u32,
     m: &View<'_>,
 ) -> Result<(Option<Notified<A>>, Option<Report<A>>), AllocError>
-    ensures rest { sequence ≡ sequence_in m.now → IfOk result (λ r. option_map shown_rest r.0 ≡ first_rest held.old.szx m.now) }
-    ensures value { (number : ℕ) → sequence ≡ sequence_in m.now → IfOk result (λ r. reported number r.1 ≡ first_value number held.old.szx m.now) }
+    ensures rest { sequence ≡ sequence_in m.now
+        → IfOk result (λ r. option_map shown_rest r.0 ≡ first_rest held.old.szx m.now) }
+    ensures value { (number : ℕ) → sequence ≡ sequence_in m.now
+        → IfOk result (λ r. reported number r.1 ≡ first_value number held.old.szx m.now) }
     ensures room { OnOk result (length held.new.operations.live < held.new.operations.places) }
     ensures operations { held.new.operations ≡ record held.old.operations { places = held.new.operations.places } }
     ensures reports { held.new.reports ≡ held.old.reports }
@@ -130,34 +144,40 @@ fn begin<A: Allocator + Copy>(
     first_part(alloc, held.szx, sequence, m)
 }
 
-// The observation is live: its token.
-fn live<A: Allocator + Copy>(
-    held: &mut Held<A>,
-    at: Moment,
+// An observation that begins: the sequence number of its first notification, and what is left to be
+// fetched for that.
+#[derive(Drop)]
+struct Begun<A: Allocator> {
     number: u64,
     path: ShortPath<A>,
     sequence: u32,
     rest: Option<Notified<A>>,
-    m: &View<'_>,
-) -> Token
+}
+
+// The observation is live: its token.
+fn live<A: Allocator + Copy>(held: &mut Held<A>, at: Moment, first: Begun<A>, m: &View<'_>) -> Token
     requires room { length held.old.operations.live < held.old.operations.places }
     requires idle { held.old.operations.running ≡ None }
     requires spare { 0 < held.old.operations.spare }
-    requires rest { option_map shown_rest rest ≡ first_rest held.old.szx m.now }
-    requires sequence { sequence ≡ sequence_in m.now }
+    requires rest { option_map shown_rest first.rest ≡ first_rest held.old.szx m.now }
+    requires sequence { first.sequence ≡ sequence_in m.now }
     ensures token { result ≡ m.now.token }
     ensures reports { held.new.reports ≡ held.old.reports }
-    ensures live { own_of held.new ≡ record (own_of held.old) { running = None; observations = (own_of held.old).observations ++ begun number path held.old.szx at.0 m.now ∷ [] } }
+    ensures live { own_of held.new ≡ record (own_of held.old) {
+      running = None;
+      observations = (own_of held.old).observations ++ begun first.number first.path held.old.szx at.0 m.now
+          ∷ [];
+    } }
 {
     let token = token_in(m);
     let mut watch = Watch::new();
-    let _first = watch.arrive(at, sequence);
+    let _is_newer = watch.arrive(at, first.sequence);
     let observation = Observation {
-        number,
-        path,
+        number: first.number,
+        path: first.path,
         token: token.copy(),
         watch,
-        rest,
+        rest: first.rest,
     };
     held.operations.go_live(observation);
     token
@@ -182,7 +202,9 @@ pub fn fetch_answered<A: Allocator + Copy, H: BuildHasher>(
     requires room { deque_len held.old.reports < deque_capacity held.old.reports }
     requires apart { Apart (own_of held.old) }
     requires idle { held.old.operations.running ≡ None }
-    ensures happens { IfOk result (λ asked. Happens asker.old.state (fetch_answered number (rest_of number (own_of held.old).observations) (own_of held.old) m.now) at.0 word (shown_asked asked) (left (own_of held.new) asker.new.state)) }
+    ensures happens { IfOk result (λ asked. Happens asker.old.state
+        (fetch_answered number (rest_of number (own_of held.old).observations) (own_of held.old) m.now) at.0 word
+        (shown_asked asked) (left (own_of held.new) asker.new.state)) }
     ensures held { OnErr result (own_of held.new ≡ running (Fetching number) (own_of held.old)) }
     ensures before { asker.new.before ≡ asker.old.before }
 {
@@ -209,8 +231,11 @@ fn take_if_content<A: Allocator + Copy>(
     rest: &mut Notified<A>,
     m: &View<'_>,
 ) -> Result<Part<A>, AllocError>
-    ensures rest { IfOk result (λ p. rest_by p (shown_rest rest.new) ≡ rest_after rest.old.sequence rest.old.fetch.state m.now (verdict_on rest.old.fetch.state m.now)) }
-    ensures value { (number : ℕ) → IfOk result (λ p. value_by number p ≡ value number rest.old.sequence rest.old.fetch.state m.now (verdict_on rest.old.fetch.state m.now)) }
+    ensures rest { IfOk result (λ p. rest_by p (shown_rest rest.new)
+        ≡ rest_after rest.old.sequence rest.old.fetch.state m.now (verdict_on rest.old.fetch.state m.now)) }
+    ensures value { (number : ℕ) → IfOk result
+        (λ p. value_by number p ≡ value number rest.old.sequence rest.old.fetch.state m.now
+        (verdict_on rest.old.fetch.state m.now)) }
     ensures back { IfOk result (λ p. CanTakeBack p rest.old.fetch.state rest.new.fetch) }
     ensures sequence { rest.new.sequence ≡ rest.old.sequence }
     ensures err { OnErr result (rest.new.fetch.state ≡ rest.old.fetch.state) }
@@ -236,13 +261,17 @@ fn ask_next<A: Allocator + Copy, H: BuildHasher>(
     requires apart { Apart (own_of held.old) }
     requires before { IsSome rest.fetch.before }
     requires idle { held.old.operations.running ≡ None }
-    ensures happens { IfOk result (λ asked. Happens asker.old.state (runs (Fetching number) (resting number (Some (shown_rest rest)) (own_of held.old))) at.0 word (shown_asked asked) (left (own_of held.new) asker.new.state)) }
-    ensures held { OnErr result ((before : FetchState) → rest.fetch.before ≡ Some before → own_of held.new ≡ running (Fetching number) (resting number (Some (record { sequence = rest.sequence; fetch = before })) (own_of held.old))) }
+    ensures happens { IfOk result (λ asked. Happens asker.old.state
+        (runs (Fetching number) (resting number (Some (shown_rest rest)) (own_of held.old))) at.0 word
+        (shown_asked asked) (left (own_of held.new) asker.new.state)) }
+    ensures held { OnErr result ((before : FetchState) → rest.fetch.before ≡ Some before
+        → own_of held.new ≡ running (Fetching number)
+        (resting number (Some (record { sequence = rest.sequence; fetch = before })) (own_of held.old))) }
     ensures before { asker.new.before ≡ asker.old.before }
 {
     let block = block2_of(&rest.fetch);
     let path = observations::segments_of(&held.operations, number);
-    match get(asker, None, None, path, bytes_in(&block), at, word) {
+    match get(asker, None, None, path, bytes_in(&block), When { at, word }) {
         Ok(given) => {
             resume(held, number, rest);
             Ok(close(asker, held, at, given))
@@ -259,7 +288,8 @@ fn ask_next<A: Allocator + Copy, H: BuildHasher>(
 fn resume<A: Allocator + Copy>(held: &mut Held<A>, number: u64, rest: Notified<A>)
     requires one { in_observations number (own_of held.old).observations ≤ 1 }
     requires idle { held.old.operations.running ≡ None }
-    ensures own { own_of held.new ≡ running (Fetching number) (resting number (Some (shown_rest rest)) (own_of held.old)) }
+    ensures own { own_of held.new ≡ running (Fetching number)
+        (resting number (Some (shown_rest rest)) (own_of held.old)) }
     ensures reports { held.new.reports ≡ held.old.reports }
 {
     observations::set_rest(&mut held.operations, number, Some(rest));
@@ -276,7 +306,9 @@ pub fn noticed<A: Allocator + Copy, H: BuildHasher>(
     requires room { deque_len held.old.reports < deque_capacity held.old.reports }
     requires apart { Apart (own_of held.old) }
     requires watched { Watched at.0 (own_of held.old) }
-    ensures happens { (word : ℕ) → OnOk result (Happens asker.old.state (noticed (own_of held.old) at.0 m.now) at.0 word None (left (own_of held.new) asker.new.state)) }
+    ensures happens { (word : ℕ) → OnOk result
+        (Happens asker.old.state (noticed (own_of held.old) at.0 m.now) at.0 word None
+        (left (own_of held.new) asker.new.state)) }
     ensures held { OnErr result (own_of held.new ≡ own_of held.old) }
     ensures before { asker.new.before ≡ asker.old.before }
 {
@@ -307,8 +339,10 @@ fn tell<A: Allocator + Copy>(
     requires one { in_observations number (own_of held.old).observations ≤ 1 }
     requires sequence { sequence ≡ sequence_in m.now }
     requires clock { watch.clock ≤ at.0 }
-    ensures old { is_newer watch.mark sequence at.0 ≡ false → OnOk result (own_of held.new ≡ watching number (record watch { clock = at.0 }) (own_of held.old)) }
-    ensures new { is_newer watch.mark sequence at.0 ≡ true → OnOk result (own_of held.new ≡ renewing number (arrived watch sequence at.0 true) m.now (own_of held.old)) }
+    ensures old { is_newer watch.mark sequence at.0 ≡ false
+        → OnOk result (own_of held.new ≡ watching number (record watch { clock = at.0 }) (own_of held.old)) }
+    ensures new { is_newer watch.mark sequence at.0 ≡ true
+        → OnOk result (own_of held.new ≡ renewing number (arrived watch sequence at.0 true) m.now (own_of held.old)) }
     ensures held { OnErr result (own_of held.new ≡ own_of held.old) }
 {
     if watch.arrive(at, sequence) {

@@ -37,8 +37,10 @@ pub fn pass_time<A: Allocator + Copy, H: BuildHasher>(
     turn: Turn,
 ) -> Result<bool, AllocError>
     requires apart { Apart (own_of held.old) }
-    ensures happens { OnOk result (Comes asker.old.state (passes (clocked at.0 (own_of held.old)) at.0 turn) at.0 word (left (own_of held.new) asker.new.state)) }
-    ensures did { IfOk result (λ did. did ≡ (not (is_idle turn) || asks (passes (clocked at.0 (own_of held.old)) at.0 turn).deed)) }
+    ensures happens { OnOk result (Comes asker.old.state (passes (clocked at.0 (own_of held.old)) at.0 turn) at.0 word
+        (left (own_of held.new) asker.new.state)) }
+    ensures did { IfOk result (λ did. did ≡ (not (is_idle turn) || asks
+        (passes (clocked at.0 (own_of held.old)) at.0 turn).deed)) }
     ensures held { OnErr result (own_of held.new ≡ own_of held.old) }
     ensures before { asker.new.before ≡ asker.old.before }
     // Where nothing was due and nothing begins, it takes no memory.
@@ -87,7 +89,9 @@ fn lapse<A: Allocator + Copy, H: BuildHasher>(
 )
     requires room { deque_len held.old.reports < deque_capacity held.old.reports }
     requires apart { Apart (own_of held.old) }
-    ensures comes { (word : ℕ) → Comes asker.old.state (failed (λ t. true) (shown_report report) (clocked at.0 (own_of held.old)) (own_of held.old).running) at.0 word (left (own_of held.new) asker.new.state) }
+    ensures comes { (word : ℕ) → Comes asker.old.state
+        (failed (λ t. true) (shown_report report) (clocked at.0 (own_of held.old)) (own_of held.old).running) at.0 word
+        (left (own_of held.new) asker.new.state) }
     ensures before { asker.new.before ≡ asker.old.before }
 {
     held.clock = at.0;
@@ -103,7 +107,8 @@ fn pass_idly<A: Allocator + Copy, H: BuildHasher>(
     word: u64,
 ) -> Result<bool, AllocError>
     requires apart { Apart (own_of held.old) }
-    ensures happens { OnOk result (Comes asker.old.state (idle_now at.0 (own_of held.old)) at.0 word (left (own_of held.new) asker.new.state)) }
+    ensures happens { OnOk result (Comes asker.old.state (idle_now at.0 (own_of held.old)) at.0 word
+        (left (own_of held.new) asker.new.state)) }
     ensures did { IfOk result (λ did. did ≡ asks (idle_now at.0 (own_of held.old)).deed) }
     ensures held { OnErr result (own_of held.new ≡ own_of held.old) }
     ensures before { asker.new.before ≡ asker.old.before }
@@ -129,7 +134,8 @@ fn start_fetch<A: Allocator + Copy, H: BuildHasher>(
 ) -> Result<bool, AllocError>
     requires apart { Apart (own_of held.old) }
     requires none { held.old.operations.running ≡ None }
-    ensures happens { OnOk result (Comes asker.old.state (runs (Fetching number) (clocked at.0 (own_of held.old))) at.0 word (left (own_of held.new) asker.new.state)) }
+    ensures happens { OnOk result (Comes asker.old.state
+        (runs (Fetching number) (clocked at.0 (own_of held.old))) at.0 word (left (own_of held.new) asker.new.state)) }
     ensures did { IfOk result (λ did. did ≡ true) }
     ensures held { OnErr result (own_of held.new ≡ own_of held.old) }
     ensures before { asker.new.before ≡ asker.old.before }
@@ -150,7 +156,8 @@ fn start_first<A: Allocator + Copy, H: BuildHasher>(
 ) -> Result<bool, AllocError>
     requires apart { Apart (own_of held.old) }
     requires none { held.old.operations.running ≡ None }
-    ensures happens { OnOk result (Comes asker.old.state (starts_now at.0 (own_of held.old)) at.0 word (left (own_of held.new) asker.new.state)) }
+    ensures happens { OnOk result (Comes asker.old.state (starts_now at.0 (own_of held.old)) at.0 word
+        (left (own_of held.new) asker.new.state)) }
     ensures did { IfOk result (λ did. did ≡ asks (starts_now at.0 (own_of held.old)).deed) }
     ensures held { OnErr result (own_of held.new ≡ own_of held.old) }
     ensures before { asker.new.before ≡ asker.old.before }
@@ -214,7 +221,8 @@ fn send_first<A: Allocator + Copy, H: BuildHasher>(
     word: u64,
 ) -> Result<Option<Token>, AllocError>
     ensures sends { IfOk result (λ token. (op : Op) → slice_get (map shown_queued held.now.operations.queue) 0 ≡ Some op
-        → Sends asker.old.state at.0 (message_of (map shown_observation held.now.operations.live) op) word token asker.new.state) }
+        → Sends asker.old.state at.0 (message_of (map shown_observation held.now.operations.live) op) word token
+        asker.new.state) }
     ensures before { asker.new.before ≡ asker.old.before }
     ensures err { OnErr result (asker.new ≡ asker.old) }
 {

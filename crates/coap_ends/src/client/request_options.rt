@@ -170,7 +170,8 @@ fn push_before<'a, A: Allocator + Copy>(options: &mut RequestOptions<'a>, reques
 // The option behind the path.
 fn push_after<'a>(options: &mut RequestOptions<'a>, method: Method, told: Option<&'a [u8]>)
     requires room { length options.old < 23 }
-    ensures list { (r : Asking) → option_copied told.entry ≡ option_map uint (told_number method r) → options.new ≡ options.old ++ after_path method r }
+    ensures list { (r : Asking) → option_copied told.entry ≡ option_map uint (told_number method r)
+        → options.new ≡ options.old ++ after_path method r }
     ensures len { length options.new ≤ length options.old + 1 }
 {
     match method {

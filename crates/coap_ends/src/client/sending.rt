@@ -53,7 +53,9 @@ pub fn register<A: Allocator + Copy, H: BuildHasher>(
     at: Moment,
     word: u64,
 ) -> Result<Option<Token>, AllocError>
-    ensures sends { (os : List Observed) (number : ℕ) → IfOk result (λ token. Sends asker.old.state at.0 (message_of os (Registering number path.now)) word token asker.new.state) }
+    ensures sends { (os : List Observed) (number : ℕ)
+        → IfOk result (λ token. Sends asker.old.state at.0
+        (message_of os (Registering number path.now)) word token asker.new.state) }
     ensures before { asker.new.before ≡ asker.old.before }
     ensures err { OnErr result (asker.new ≡ asker.old) }
 {
@@ -64,8 +66,7 @@ pub fn register<A: Allocator + Copy, H: BuildHasher>(
         Some(observe.as_slice()),
         path.segments(),
         None,
-        at,
-        word,
+        When { at, word },
     )
 }
 
@@ -77,13 +78,15 @@ pub fn fetch<A: Allocator + Copy, H: BuildHasher>(
     at: Moment,
     word: u64,
 ) -> Result<Option<Token>, AllocError>
-    ensures sends { IfOk result (λ token. Sends asker.old.state at.0 (message_of (map shown_observation operations.now.live) (Fetching number)) word token asker.new.state) }
+    ensures sends { IfOk result (λ token. Sends asker.old.state at.0
+        (message_of (map shown_observation operations.now.live) (Fetching number)) word token asker.new.state) }
     ensures before { asker.new.before ≡ asker.old.before }
     ensures err { OnErr result (asker.new ≡ asker.old) }
 {
     let block = block_asked(operations, number);
     let path = segments_of(operations, number);
-    get(asker, None, None, path, bytes_in(&block), at, word)
+    let block = bytes_in(&block);
+    get(asker, None, None, path, block, When { at, word })
 }
 
 /// The cancel of an observation, with its token (RFC 7641, section 3.6).
@@ -94,7 +97,8 @@ pub fn cancel<A: Allocator + Copy, H: BuildHasher>(
     at: Moment,
     word: u64,
 ) -> Result<Option<Token>, AllocError>
-    ensures sends { IfOk result (λ token. Sends asker.old.state at.0 (message_of (map shown_observation operations.now.live) (Cancelling number)) word token asker.new.state) }
+    ensures sends { IfOk result (λ token. Sends asker.old.state at.0
+        (message_of (map shown_observation operations.now.live) (Cancelling number)) word token asker.new.state) }
     ensures before { asker.new.before ≡ asker.old.before }
     ensures err { OnErr result (asker.new ≡ asker.old) }
 {
@@ -107,9 +111,15 @@ pub fn cancel<A: Allocator + Copy, H: BuildHasher>(
         Some(observe.as_slice()),
         path,
         None,
-        at,
-        word,
+        When { at, word },
     )
+}
+
+/// When a request is sent: its moment, and the random word of the call that sends it.
+#[derive(Drop)]
+pub struct When {
+    pub at: Moment,
+    pub word: u64,
 }
 
 /// A GET: its token, if it is not a fresh one, its Observe, its path and its Block2.
@@ -119,14 +129,15 @@ pub fn get<A: Allocator + Copy, H: BuildHasher>(
     observe: Option<&[u8]>,
     path: &[Vec<u8, A>],
     block: Option<&[u8]>,
-    at: Moment,
-    word: u64,
+    when: When,
 ) -> Result<Option<Token>, AllocError>
     requires observe { IsFew (option_copied observe) }
     requires path { IsShortPath (segments_of path.now) }
     requires block { IsFew (option_copied block) }
-    ensures sends { IfOk result (λ given. Sends asker.old.state at.0 (get (option_map (λ t. t.now) token.entry)
-        (option_with OBSERVE (option_copied observe.entry) ++ (path_options (segments_of path.now) ++ option_with BLOCK2 (option_copied block.entry)))) word given asker.new.state) }
+    ensures sends { IfOk result (λ given. Sends asker.old.state when.at.0 (get (option_map (λ t. t.now) token.entry)
+        (option_with OBSERVE (option_copied observe.entry)
+        ++ (path_options (segments_of path.now) ++ option_with BLOCK2 (option_copied block.entry)))) when.word given
+        asker.new.state) }
     ensures before { asker.new.before ≡ asker.old.before }
     ensures err { OnErr result (asker.new ≡ asker.old) }
 {
@@ -137,5 +148,5 @@ pub fn get<A: Allocator + Copy, H: BuildHasher>(
         options: options.as_slice(),
         payload: &[],
     };
-    ask(asker, at, &request, word)
+    ask(asker, when.at, &request, when.word)
 }

@@ -39,9 +39,15 @@ impl<A: Allocator> Model for TakenCall<A> {
 
     ghost Value = { CallState };
 
-    ghost view = { λ c. record { request = shown_request c.request; transfer = shown_transfer c.transfer; before = shown_before c.transfer } };
+    ghost view = { λ c. record {
+      request = shown_request c.request;
+      transfer = shown_transfer c.transfer;
+      before =
+          shown_before c.transfer;
+    } };
 
-    ghost invariant = { λ c. (is_long (shown_request c.request) ≡ false) × FitsMethod c.request.method (shown_transfer c.transfer) };
+    ghost invariant = { λ c. (is_long (shown_request c.request) ≡ false)
+        × FitsMethod c.request.method (shown_transfer c.transfer) };
 }
 
 impl<A: Allocator + Copy> TakenCall<A> {
@@ -62,7 +68,8 @@ impl<A: Allocator + Copy> TakenCall<A> {
 
     /// What the call makes of the answer to its request. After an `Err` it is as before.
     pub fn hear(&mut self, m: &View<'_>) -> Result<Heard<A>, AllocError>
-        ensures hears { IfOk result (λ heard. Hears self.old (answer self.old.request self.old.transfer m.now) heard self.new) }
+        ensures hears { IfOk result (λ heard. Hears self.old
+            (answer self.old.request self.old.transfer m.now) heard self.new) }
         ensures request { OnErr result (self.new.request ≡ self.old.request) }
         ensures transfer { OnErr result (self.new.transfer ≡ self.old.transfer) }
     {
@@ -114,7 +121,8 @@ impl<A: Allocator + Copy> TakenCall<A> {
         word: u64,
     ) -> Result<Option<Token>, AllocError>
         ensures sends { IfOk result (λ token. (os : List Observation) (number : ℕ)
-            → Sends asker.old.state at.0 (message_of os (Calling number self.now.request self.now.transfer)) word token asker.new.state) }
+            → Sends asker.old.state at.0 (message_of os (Calling number self.now.request self.now.transfer)) word token
+            asker.new.state) }
         ensures before { asker.new.before ≡ asker.old.before }
         ensures err { OnErr result (asker.new ≡ asker.old) }
     {

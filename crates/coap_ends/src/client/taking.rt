@@ -32,9 +32,11 @@ pub fn call<A: Allocator + Copy>(
 ) -> Result<CallId, CallRefusal>
     requires { long ≡ is_long (shown_request request) }
     ensures step { result ≢ Err refusals.Memory → (x : X.State)
-        → Step (left (own_of held.old) x) (Calls now.0 (shown_request request) (number_of result)) (left (own_of held.new) x) }
+        → Step (left (own_of held.old) x) (Calls now.0 (shown_request request) (number_of result))
+        (left (own_of held.new) x) }
     ensures memory { result ≡ Err refusals.Memory → own_of held.new ≡ own_of held.old }
-    ensures refused { is_ok (call_answer (own_of held.old) (shown_request request)) ≡ false → result ≢ Err refusals.Memory }
+    ensures refused { is_ok (call_answer (own_of held.old) (shown_request request)) ≡ false
+        → result ≢ Err refusals.Memory }
 {
     match judge_call(held, &request, long) {
         Err(why) => {
@@ -89,7 +91,8 @@ fn take<A: Allocator + Copy>(
 ) -> Result<(), AllocError>
     requires room { length held.old.operations.queue < MAX_WAITING_CALLS }
     requires more { held.old.taken < 2 ^ 64 - 1 }
-    ensures taken { OnOk result (own_of held.new ≡ numbered (λ n. shown_waiting waiting) (Ok held.old.taken) (at now.0 (own_of held.old))) }
+    ensures taken { OnOk result (own_of held.new
+        ≡ numbered (λ n. shown_waiting waiting) (Ok held.old.taken) (at now.0 (own_of held.old))) }
     ensures err { OnErr result (own_of held.new ≡ own_of held.old) }
 {
     held.operations.push(waiting)?;

@@ -25,8 +25,10 @@ pub fn tick<A: Allocator + Copy, H: BuildHasher>(
     word: u64,
 ) -> Result<bool, AllocError>
     requires apart { Apart (own_of held.old) }
-    ensures step { IfOk result (λ did. (below : L.Answer) × (due : Due) × (sent : L.Answer) × (token : Result (List ℕ) AskRefusal) × (kept : Bool)
-        × Step (left (own_of held.old) asker.old.state) (Ticks now.0 word below due sent token kept did) (left (own_of held.new) asker.new.state)) }
+    ensures step { IfOk result (λ did. (below : L.Answer) × (due : Due) × (sent : L.Answer)
+        × (token : Result (List ℕ) AskRefusal) × (kept : Bool)
+        × Step (left (own_of held.old) asker.old.state) (Ticks now.0 word below due sent token kept did)
+        (left (own_of held.new) asker.new.state)) }
     ensures own { OnErr result (own_of held.new ≡ own_of held.old) }
     ensures layer { OnErr result (asker.new.state ≡ asker.old.state) }
     ensures quiet { IsIdle (left (own_of held.old) asker.old.state) now.0 → IsOk result }

@@ -94,8 +94,9 @@ fn add_delay<A: Allocator + Copy>(
     Ok(())
 }
 
-// Gives a path a delay, in place of an earlier one: false where `MAX_DELAYS` other paths have one.
-fn give_delay<A: Allocator + Copy>(
+/// Gives a path a delay, in place of an earlier one: false where `MAX_DELAYS` other paths have one.
+/// It takes no memory where they have, or the path has one; after an `Err` nothing has changed.
+pub fn give_delay<A: Allocator + Copy>(
     delays: &mut Vec<Delay<A>, A>,
     path: &Path<A>,
     ms: u64,

@@ -43,7 +43,8 @@ impl<A: Allocator> Model for FullResponse<A> {
 
     ghost view = { λ r. response_as r.code.0 r.tag r.observe r.format r.block2 r.block1 r.payload };
 
-    ghost invariant = { λ r. IsShortAnswer (response_as r.code.0 r.tag r.observe r.format r.block2 r.block1 r.payload) };
+    ghost invariant = { λ r.
+        IsShortAnswer (response_as r.code.0 r.tag r.observe r.format r.block2 r.block1 r.payload) };
 }
 
 // The bytes that spell a number, where there is one.

@@ -87,7 +87,8 @@ fn send<A: Allocator + Copy, H: BuildHasher>(
     word: u64,
 ) -> Id
     requires may { MayNotify exchanges.old at.0 to }
-    ensures step { Step exchanges.old.state (Notifies at.0 to token.now response.now word result.0) exchanges.new.state }
+    ensures step { Step exchanges.old.state (Notifies at.0 to token.now response.now word result.0)
+        exchanges.new.state }
     ensures before { exchanges.new.before ≡ exchanges.old.before }
 {
     let options = response.options();

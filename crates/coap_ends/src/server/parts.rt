@@ -8,13 +8,14 @@ use coap_types::{Endpoint, Method, Moment, Path, Szx, Token};
 use std::alloc::Allocator;
 use std::hash::BuildHasher;
 
-/// A path whose requests are answered later (RFC 7252, section 5.2.2).
+/// A path whose requests are answered later (RFC 7252, section 5.2.2; that a path has a delay is a
+/// profile).
 #[derive(Drop)]
-pub(crate) struct Delay<A: Allocator> {
+pub struct Delay<A: Allocator> {
     /// Of which resource.
-    pub(crate) path: Path<A>,
+    pub path: Path<A>,
     /// By how many milliseconds.
-    pub(crate) ms: u64,
+    pub ms: u64,
 }
 
 /// An option of a request that is kept (RFC 7252, section 3.1).

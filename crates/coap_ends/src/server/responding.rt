@@ -70,7 +70,6 @@ fn lent<'a, A: Allocator + Copy>(
 
 // Serves a request that waited. After an `Err` all is as before.
 fn serve_waiting<S: Store<A>, A: Allocator + Copy>(
-    alloc: A,
     store: &mut S,
     observers: &mut Observers<A>,
     at: Moment,
@@ -84,7 +83,7 @@ fn serve_waiting<S: Store<A>, A: Allocator + Copy>(
     ensures store { OnErr result (store.new ≡ store.old) }
     ensures observers { OnErr result (observers.new ≡ observers.old) }
 {
-    let options = lent(alloc, &waiting.options)?;
+    let options = lent(*waiting.options.allocator(), &waiting.options)?;
     let asking = Asking {
         method: waiting.method,
         path: &waiting.path,
@@ -133,7 +132,6 @@ pub(crate) fn respond_ready<S: Store<A>, A: Allocator + Copy, H: BuildHasher>(
         return Ok(());
     };
     let served = serve_waiting(
-        parts.alloc,
         &mut parts.store,
         &mut parts.observers,
         at,

@@ -8,12 +8,9 @@ use Rattle.coap_layer.specs.Channel.{Hop, Near, Far, near_of, far_of, OnFar, Cha
 use Rattle.coap_layer.specs.Rows.{LayerLaw}
 use Rattle.coap_layer.specs.Trace as T
 use Rattle.coap_layer.specs.Words.{Open, begun, clock}
-use Rattle.coap_layer.proofs.Arrivals.HandedAsSpelled.{acks_heard}
-use Rattle.coap_layer.proofs.Arrivals.HandedUpOnce.{taken_handed}
-use Rattle.coap_layer.proofs.Between.AcksAreReplies.{acks_taken}
-use Rattle.coap_layer.proofs.Between.TakenOnce.{alone, kept_by}
 use Rattle.coap_layer.proofs.Facts.Hops.{earlier, far_ever, to_far}
-use Rattle.coap_layer.proofs.Facts.Laws.{handed_once}
+use Rattle.coap_layer.proofs.Facts.Laws.{acks_heard, acks_taken, handed_once}
+use Rattle.coap_layer.proofs.Facts.Taken.{alone, kept_by, taken_handed}
 use Rattle.coap_ends.specs.ServerSide.ServerTrace as S
 use Rattle.coap_ends.specs.ServerSide.Follows.ServerTold.{TakesAck}
 use Rattle.coap_ends.proofs.Facts.OfServerCalls.{acks_arrive}

@@ -11,11 +11,9 @@ use Rattle.coap_layer.specs.Channel.{OnFarThen, RepliesTo}
 use Rattle.coap_layer.specs.Sends.{PlainOut}
 use Rattle.coap_layer.specs.Trace as T
 use Rattle.coap_layer.specs.Words.{Open, begun, handed, handed_in, Incoming, is_kept}
-use Rattle.coap_layer.proofs.Arrivals.HandedAsSpelled.{acks_heard}
-use Rattle.coap_layer.proofs.Arrivals.ResponsesAreSpelled.{responses_spelled}
-use Rattle.coap_layer.proofs.Between.AcksAreReplies.{acks_replied}
 use Rattle.coap_layer.proofs.Facts.Hops.{earlier, far_ever}
-use Rattle.coap_layer.proofs.Facts.Laws.{begun_as, handed_spelled, nons_sent}
+use Rattle.coap_layer.proofs.Facts.Laws.{acks_heard, acks_replied, begun_as, handed_spelled, nons_sent}
+use Rattle.coap_layer.proofs.Facts.Laws.{responses_spelled}
 use Rattle.coap_ends.specs.Follows.ClientHears.{Hears}
 use Rattle.coap_ends.specs.ClientSide.ClientResponses.{is_notification}
 use Rattle.coap_ends.specs.ClientSide.ClientTrace as C

@@ -1,17 +1,18 @@
 -- The server of a run is given its delays.
 use Rattle.std.proofs.Common.{◌≡◌, ◌≤◌, ◌<◌, ℕ, ◌+◌, Bool, true, false, not, List, [], ◌∷◌, map, length, drop, get_or}
 use Rattle.std.proofs.Common.{refl, sym, ap, ◌∙◌, arith}
+use Rattle.std.proofs.lemmas.Bool.{lt-ltb}
 use Rattle.std.proofs.lemmas.List.{drop-map, drop_more, drop_all, length-append, length-drop, length-map}
+use Rattle.std.proofs.lemmas.List.Filters.{length-filter_both}
 use Rattle.coap_types.specs.Path.{same_path}
-use Rattle.coap_layer.proofs.ListLemmas.{true_lt}
-use Rattle.coap_observe.proofs.ListLemmas.{length_filter}
 use Rattle.coap_ends.specs.ServerSide.ServerDeferring.{others, may_delay}
 use Rattle.coap_ends.specs.ServerSide.ServerLaw.{own_of}
 use Rattle.coap_ends.specs.ServerSide.Follows.ServerHolds.{changes}
 use Rattle.coap_ends.specs.ServerSide.ServerTrace as S
 use Rattle.coap_ends.specs.declared.limits.TheConstants.{MAX_DELAYS as max_delays}
-use Rattle.coap_world.specs.declared.running.delaying.PathDelay.{PathDelay}
-use Rattle.coap_world.specs.Run.Configs.{delay_as, gives}
+use Rattle.coap_ends.specs.declared.server.parts.Delay.{Delay as PathDelay}
+use Rattle.coap_ends.specs.ServerObject.ServerShown.{delay_as}
+use Rattle.coap_world.specs.Run.Configs.{gives}
 use Rattle.coap_world.proofs.Recording.Applying.{zero_plus}
 
 not_both : (b : Bool) → false ≡ b → b ≡ true → ⊥
@@ -25,7 +26,8 @@ module _ (limit szx : ℕ) where
   few_given (d ∷ ds) =
       let before = (own_of limit szx (gives ds)).delays in
       let rest = few_given ds in
-      let left = length_filter (λ (x : S.Delay). not (same_path x.path d.path)) before in
+      let left = length-filter_both (λ (x : S.Delay). not (same_path x.path d.path))
+      (λ (x : S.Delay). not (not (same_path x.path d.path))) (λ x. refl) before in
       let long = length-append (others d.path before) (record { path = d.path; ms = d.ms } ∷ []) in
       omega (arith, rest, left, long)
 
@@ -34,10 +36,11 @@ module _ (limit szx : ℕ) where
       → false ≡ may_delay path (own_of limit szx (gives ds)).delays → ⊥
   none_full ds path few full =
       let before = (own_of limit szx (gives ds)).delays in
-      let left = length_filter (λ (x : S.Delay). not (same_path x.path path)) before in
+      let left = length-filter_both (λ (x : S.Delay). not (same_path x.path path))
+      (λ (x : S.Delay). not (not (same_path x.path path))) (λ x. refl) before in
       let rest = few_given ds in
       let room : length (others path before) < max_delays = omega (arith, rest, left, few) in
-      not_both (may_delay path before) full (true_lt (length (others path before)) max_delays room)
+      not_both (may_delay path before) full (lt-ltb (length (others path before)) max_delays room)
 
 -- the next delay, from the last to the first
 pub next_given :

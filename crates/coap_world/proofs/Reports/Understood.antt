@@ -11,7 +11,7 @@ use Rattle.coap_exchange.specs.declared.asker.Event.TheVariants as event_of
 use Rattle.coap_exchange.specs.AskerFollows.{message_told}
 use Rattle.coap_exchange.specs.AskerLaw.{ExchangeLaw}
 use Rattle.coap_exchange.specs.AskerTrace as E
-use Rattle.coap_exchange.proofs.Telling.ResponsesMatch.{matched}
+use Rattle.coap_exchange.proofs.Facts.ClientSide.{matched}
 use Rattle.coap_ends.specs.ClientSide.ClientDeeds.{at}
 use Rattle.coap_ends.specs.ClientSide.ClientEvents.{happened}
 use Rattle.coap_ends.specs.ClientSide.ClientLaw.{ClientLaw, own_of, lower_of}

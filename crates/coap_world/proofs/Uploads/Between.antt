@@ -6,7 +6,7 @@ use Rattle.coap_types.proofs.Facts.Traces.{Ever_front, Ever_back, Sometime_map, 
 use Rattle.coap_layer.specs.Channel.{near_of, OnFar, HandsUpAs}
 use Rattle.coap_layer.specs.Trace as T
 use Rattle.coap_layer.specs.Words.{Open, begun}
-use Rattle.coap_layer.proofs.Between.GoneIsNotBehind.{cons_apart}
+use Rattle.coap_layer.proofs.Facts.Laws.{cons_apart}
 use Rattle.coap_ends.specs.ClientSide.ClientBegins.{IsRequestOf}
 use Rattle.coap_ends.specs.ClientSide.ClientOrder.{call_of}
 use Rattle.coap_ends.specs.ClientSide.ClientWords.{Taken, WasTaken, Sending}

@@ -8,7 +8,7 @@ use Rattle.coap_codec.specs.Message.{Message, Spells}
 use Rattle.coap_layer.specs.Channel.{Hop, Near, OnFar, HandsUpAs, Takes}
 use Rattle.coap_layer.specs.Trace as T
 use Rattle.coap_layer.specs.Words.{Open}
-use Rattle.coap_layer.proofs.Between.TakenOnce.{only_that_con}
+use Rattle.coap_layer.proofs.Facts.Laws.{only_that_con}
 use Rattle.coap_resource.specs.Serves.{Question}
 use Rattle.coap_exchange.specs.declared.answerer.Asked.{Asked}
 use Rattle.coap_ends.specs.ClientSide.ClientOrder.{call_of, HearsBy}

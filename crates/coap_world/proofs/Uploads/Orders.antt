@@ -10,7 +10,7 @@ use Rattle.coap_layer.specs.Channel.{Hop, Near, Far, near_of, OnFar, HandsUpAs, 
 use Rattle.coap_layer.specs.Sends.{SendsIt}
 use Rattle.coap_layer.specs.Trace as T
 use Rattle.coap_layer.specs.Words.{Open, begun}
-use Rattle.coap_layer.proofs.Numbers.OneEntryForAnId.{begins_of}
+use Rattle.coap_layer.proofs.Facts.Laws.{begins_of}
 use Rattle.coap_ends.specs.ClientSide.ClientBegins.{IsRequestOf}
 use Rattle.coap_ends.specs.ClientSide.ClientBlocks.{Carried, carried}
 use Rattle.coap_ends.specs.ClientSide.ClientLaw.{own_of}

@@ -4,8 +4,7 @@ ghost use Rattle.coap_ends.specs.ServerSide.ServerDeferring.{delay_of, delays_wi
 ghost use Rattle.coap_ends.specs.declared.server.delaying.DelayRefusal.TheVariants as delay_refusals;
 ghost use Rattle.coap_world.specs.Run.Configs.{with_delays};
 
-use crate::running::delaying::{PathDelay, give_delay};
-use coap_ends::DelayRefusal;
+use coap_ends::{Delay, DelayRefusal, give_delay};
 use coap_resource::MAX_CHANGES_PER_WINDOW;
 use coap_types::{Path, Szx};
 use std::alloc::{Allocator, Global};
@@ -21,7 +20,7 @@ pub struct WorldConfig<A: Allocator + Copy = Global> {
     pub(crate) server_word: u64,
     pub(crate) server_szx: Szx,
     pub(crate) changes: u32,
-    pub(crate) delays: Vec<PathDelay<A>, A>,
+    pub(crate) delays: Vec<Delay<A>, A>,
 }
 
 impl<A: Allocator + Copy> Model for WorldConfig<A> {

@@ -58,13 +58,15 @@ pub returns-clause-answered : goal.returns-clause-answered
 returns-clause-answered c = are_answered
 
 pub returns-clause-copies : goal.returns-clause-copies
-returns-clause-copies c server szx word t law = copies_in_time word (layer_of server szx word t) (client_layer server szx word t law)
+returns-clause-copies c server szx word t law =
+    copies_in_time word (layer_of server szx word t) (client_layer server szx word t law)
 
 pub returns-clause-nons : goal.returns-clause-nons
 returns-clause-nons c server szx word t law = no_nons server word (lower_of szx t)
 
 pub returns-clause-replies : goal.returns-clause-replies
-returns-clause-replies c server szx word t law = replies_so server word (lower_of szx t) law.exchanges.rows law.exchanges.left law.exchanges.layer
+returns-clause-replies c server szx word t law =
+    replies_so server word (lower_of szx t) law.exchanges.rows law.exchanges.left law.exchanges.layer
 
 pub returns-clause-numbers : goal.returns-clause-numbers
 returns-clause-numbers c server szx word t law = numbers_once server szx word t law.rows law.exchanges.rows

@@ -5,7 +5,8 @@ use Rattle.coap_ends.proofs.ClientCalls.ClientIsLed.{seen_still}
 use Rattle.coap_ends.proofs.client.Client.asked.Goals as goal
 
 pub returns-clause-step : goal.returns-clause-step
-returns-clause-step g c = seen_still (left (own_of c.self.inside.held) c.self.inside.asker.state) _ _ c.self.view_is (c.asked.ensures.step c.self.inside.asker.state)
+returns-clause-step g c = seen_still (left (own_of c.self.inside.held) c.self.inside.asker.state) _ _ c.self.view_is
+    (c.asked.ensures.step c.self.inside.asker.state)
 
 pub returns-clause-led : goal.returns-clause-led
 returns-clause-led g c server szx w t led = led_client server szx w t _ _ _ led (returns-clause-step g c)

@@ -9,7 +9,8 @@ use Rattle.coap_ends.proofs.ClientCalls.TakesOut.{if_no_report, if_report}
 use Rattle.coap_ends.proofs.client.Client.next_report.Goals as goal
 
 pub invariant_of-self : goal.invariant_of-self
-invariant_of-self g c = led_step (left (own_of c.self.inside.held) c.self.inside.asker.state) _ (NextReport (option_map shown_reported c.pop_front.result)) c.self.invariant (search rules)
+invariant_of-self g c = led_step (left (own_of c.self.inside.held) c.self.inside.asker.state) _
+    (NextReport (option_map shown_reported c.pop_front.result)) c.self.invariant (search rules)
 
 pub returns-clause-step : goal.returns-clause-step
 returns-clause-step g c = search rules

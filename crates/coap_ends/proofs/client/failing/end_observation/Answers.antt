@@ -6,4 +6,5 @@ use Rattle.coap_ends.proofs.client.failing.end_observation.Goals as goal
 
 pub returns-clause-own : goal.returns-clause-own
 returns-clause-own g c =
-    c.give.ensures ∙ ap (λ s. reporting (record { own = s; report = of c.args.number (shown_report c.args.report); deed = Rests })) c.leave.ensures.own
+    c.give.ensures ∙ ap (λ s. reporting (record
+    { own = s; report = of c.args.number (shown_report c.args.report); deed = Rests })) c.leave.ensures.own

@@ -6,5 +6,7 @@ use Rattle.coap_ends.proofs.client.happening.ask_next.Goals as goal
 
 pub returns-in-Ok-clause-happens : goal.returns-in-Ok-clause-happens
 returns-in-Ok-clause-happens g c =
-    closed_as _ _ _ _ _ _ _ (ap (λ o. own_of (record c.args.held.now { operations = o })) c.run.ensures) c.close.ensures.closes (Calling c.args.number c.args.call.request c.args.call.transfer) c.args.asker.now.state c.args.word refl
+    closed_as _ _ _ _ _ _ _ (ap (λ o. own_of (record c.args.held.now { operations = o })) c.run.ensures)
+    c.close.ensures.closes (Calling c.args.number c.args.call.request c.args.call.transfer) c.args.asker.now.state
+    c.args.word refl
     (c.in-Ok.ensures.sends (own_of c.args.held.now).observations c.args.number)

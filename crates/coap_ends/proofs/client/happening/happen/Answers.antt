@@ -4,4 +4,5 @@ use Rattle.coap_ends.proofs.ClientCalls.ClientHappening.{nothing_comes}
 use Rattle.coap_ends.proofs.client.happening.happen.Goals as goal
 
 pub returns-in_default-clause-happens : goal.returns-in_default-clause-happens
-returns-in_default-clause-happens g c = nothing_comes (own_of c.args.held.now) _ c.args.asker.now.state c.args.at.0 c.args.word c.args.event c.in_default.is refl
+returns-in_default-clause-happens g c = nothing_comes
+    (own_of c.args.held.now) _ c.args.asker.now.state c.args.at.0 c.args.word c.args.event c.in_default.is refl

@@ -9,7 +9,8 @@ pub returns-in_err-place_of : goal.returns-in_err-place_of
 returns-in_err-place_of g c =
     let live = c.args.operations.now.live in
     let os = map (shown_observation {A = g.row.A.Denot}) live in
-    ap (option_map (λ o. shown_observation o.now)) c.from_residual.ensures ∙ sym (found_none c.args.number os (sym c.in_err-place_of.ensures))
+    ap (option_map (λ o. shown_observation o.now)) c.from_residual.ensures
+    ∙ sym (found_none c.args.number os (sym c.in_err-place_of.ensures))
 
 pub returns : goal.returns
 returns g c =
@@ -17,4 +18,6 @@ returns g c =
     let os = map (shown_observation {A = g.row.A.Denot}) live in
     let p = c.in_ok-place_of.field-0 in
     shown_copied (shown_observation {A = g.row.A.Denot}) c.live.result
-    ∙ (ap (option_map (shown_observation {A = g.row.A.Denot})) c.live.ensures ∙ (sym (slice_get-map (shown_observation {A = g.row.A.Denot}) live p) ∙ found_at c.args.number os p (sym c.in_ok-place_of.ensures)))
+    ∙ (ap (option_map (shown_observation {A = g.row.A.Denot})) c.live.ensures
+    ∙ (sym (slice_get-map (shown_observation {A = g.row.A.Denot}) live p)
+    ∙ found_at c.args.number os p (sym c.in_ok-place_of.ensures)))

@@ -10,5 +10,8 @@ use Rattle.coap_ends.proofs.client.observed.is_cancelled.Goals as goal
 pub returns-else-is_cancel_of : goal.returns-else-is_cancel_of
 returns-else-is_cancel_of g c =
     c.has_cancel.ensures
-    ∙ sym (cancels_are {A = g.row.A.Denot} c.args.number (option_to_list (option_map shown_operation c.args.held.now.operations.running)) c.args.held.now.operations.queue
-    ∙ ap (λ b. b || list_any (is_cancel c.args.number) c.args.held.now.operations.queue) (sym c.is_cancel_of.ensures ∙ c.if-is_cancel_of.false))
+    ∙ sym (cancels_are {A = g.row.A.Denot} c.args.number
+    (option_to_list (option_map shown_operation c.args.held.now.operations.running))
+    c.args.held.now.operations.queue
+    ∙ ap (λ b. b || list_any (is_cancel c.args.number) c.args.held.now.operations.queue)
+    (sym c.is_cancel_of.ensures ∙ c.if-is_cancel_of.false))

@@ -14,7 +14,8 @@ returns-clause-comes g c word =
     record {
       asked = None;
       own = own_of c.fail.new.held;
-      happens = deed_happens c.args.asker.now.state c.fail.new.asker.state (failed (λ t. true) (shown_report c.args.report) s s.running) c.args.at.0 word (own_of c.fail.new.held)
+      happens = deed_happens c.args.asker.now.state c.fail.new.asker.state
+          (failed (λ t. true) (shown_report c.args.report) s s.running) c.args.at.0 word (own_of c.fail.new.held)
           (fails_silently (λ t. true) (shown_report c.args.report) s s.running) c.fail.ensures.deed c.fail.ensures.own;
       own_is = refl;
     }

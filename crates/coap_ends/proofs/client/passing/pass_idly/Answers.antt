@@ -18,15 +18,24 @@ use Rattle.coap_ends.proofs.client.passing.pass_idly.Goals as goal
 pub returns-then-is_some-clause-happens : goal.returns-then-is_some-clause-happens
 returns-then-is_some-clause-happens g c =
     let s = own_of c.args.held.now in
-    rest_comes (clocked c.args.at.0 s) (own_of c.rest.new.held) c.args.asker.now.state (idle_now c.args.at.0 s) c.args.at.0 c.args.word
-    (idle_stays (clocked c.args.at.0 s) c.args.at.0 s.running (to_fetch s.observations) (shown_some (shown_operation {A = g.row.A.Denot}) c.args.held.now.operations.running (ap is_some (sym c.running.ensures) ∙ shown_some (running_map (λ (w : Bor (Waiting g.row.A.Denot)). w.now)) c.running.result (sym c.is_some.ensures ∙ c.if-is_some.true)))) c.rest.ensures
+    rest_comes (clocked c.args.at.0 s) (own_of c.rest.new.held) c.args.asker.now.state
+    (idle_now c.args.at.0 s) c.args.at.0 c.args.word
+    (idle_stays (clocked c.args.at.0 s) c.args.at.0 s.running (to_fetch s.observations)
+    (shown_some (shown_operation {A = g.row.A.Denot}) c.args.held.now.operations.running
+    (ap is_some (sym c.running.ensures) ∙ shown_some
+    (running_map (λ (w : Bor (Waiting g.row.A.Denot)). w.now)) c.running.result
+    (sym c.is_some.ensures ∙ c.if-is_some.true)))) c.rest.ensures
 
 pub returns-in-Some-clause-happens : goal.returns-in-Some-clause-happens
 returns-in-Some-clause-happens g c =
     let s = own_of c.args.held.now in
-    subst (λ (e : Effect). OnOk c.start_fetch.result (Comes c.args.asker.now.state e c.args.at.0 c.args.word (left (own_of c.start_fetch.new.held) c.start_fetch.new.asker.state)))
+    subst (λ (e : Effect). OnOk c.start_fetch.result
+    (Comes c.args.asker.now.state e c.args.at.0 c.args.word
+    (left (own_of c.start_fetch.new.held) c.start_fetch.new.asker.state)))
     (sym (idle_fetches (clocked c.args.at.0 s) c.args.at.0 s.running (to_fetch s.observations) c.in-Some.number
-    (ap (option_map (shown_operation {A = g.row.A.Denot})) (sym c.running.ensures ∙ shown_none (running_map (λ (w : Bor (Waiting g.row.A.Denot)). w.now)) c.running.result (sym c.is_some.ensures ∙ c.if-is_some.false)))
+    (ap (option_map (shown_operation {A = g.row.A.Denot}))
+    (sym c.running.ensures ∙ shown_none (running_map (λ (w : Bor (Waiting g.row.A.Denot)). w.now)) c.running.result
+    (sym c.is_some.ensures ∙ c.if-is_some.false)))
     (sym c.to_fetch.ensures ∙ c.in-Some.is)))
     c.start_fetch.ensures.happens
 
@@ -35,16 +44,22 @@ returns-in-Some-clause-did g c =
     let s = own_of c.args.held.now in
     subst (λ (e : Effect). IfOk c.start_fetch.result (λ did. did ≡ asks e.deed))
     (sym (idle_fetches (clocked c.args.at.0 s) c.args.at.0 s.running (to_fetch s.observations) c.in-Some.number
-    (ap (option_map (shown_operation {A = g.row.A.Denot})) (sym c.running.ensures ∙ shown_none (running_map (λ (w : Bor (Waiting g.row.A.Denot)). w.now)) c.running.result (sym c.is_some.ensures ∙ c.if-is_some.false)))
+    (ap (option_map (shown_operation {A = g.row.A.Denot}))
+    (sym c.running.ensures ∙ shown_none (running_map (λ (w : Bor (Waiting g.row.A.Denot)). w.now)) c.running.result
+    (sym c.is_some.ensures ∙ c.if-is_some.false)))
     (sym c.to_fetch.ensures ∙ c.in-Some.is)))
     c.start_fetch.ensures.did
 
 pub returns-in-None-clause-happens : goal.returns-in-None-clause-happens
 returns-in-None-clause-happens g c =
     let s = own_of c.args.held.now in
-    subst (λ (e : Effect). OnOk c.start_first.result (Comes c.args.asker.now.state e c.args.at.0 c.args.word (left (own_of c.start_first.new.held) c.start_first.new.asker.state)))
+    subst (λ (e : Effect). OnOk c.start_first.result
+    (Comes c.args.asker.now.state e c.args.at.0 c.args.word
+    (left (own_of c.start_first.new.held) c.start_first.new.asker.state)))
     (sym (idle_starts (clocked c.args.at.0 s) c.args.at.0 s.running (to_fetch s.observations)
-    (ap (option_map (shown_operation {A = g.row.A.Denot})) (sym c.running.ensures ∙ shown_none (running_map (λ (w : Bor (Waiting g.row.A.Denot)). w.now)) c.running.result (sym c.is_some.ensures ∙ c.if-is_some.false)))
+    (ap (option_map (shown_operation {A = g.row.A.Denot}))
+    (sym c.running.ensures ∙ shown_none (running_map (λ (w : Bor (Waiting g.row.A.Denot)). w.now)) c.running.result
+    (sym c.is_some.ensures ∙ c.if-is_some.false)))
     (sym c.to_fetch.ensures ∙ c.in-None.is)))
     c.start_first.ensures.happens
 
@@ -53,7 +68,9 @@ returns-in-None-clause-did g c =
     let s = own_of c.args.held.now in
     subst (λ (e : Effect). IfOk c.start_first.result (λ did. did ≡ asks e.deed))
     (sym (idle_starts (clocked c.args.at.0 s) c.args.at.0 s.running (to_fetch s.observations)
-    (ap (option_map (shown_operation {A = g.row.A.Denot})) (sym c.running.ensures ∙ shown_none (running_map (λ (w : Bor (Waiting g.row.A.Denot)). w.now)) c.running.result (sym c.is_some.ensures ∙ c.if-is_some.false)))
+    (ap (option_map (shown_operation {A = g.row.A.Denot}))
+    (sym c.running.ensures ∙ shown_none (running_map (λ (w : Bor (Waiting g.row.A.Denot)). w.now)) c.running.result
+    (sym c.is_some.ensures ∙ c.if-is_some.false)))
     (sym c.to_fetch.ensures ∙ c.in-None.is)))
     c.start_first.ensures.did
 
@@ -61,8 +78,11 @@ pub returns-in-Some-clause-quiet : goal.returns-in-Some-clause-quiet
 returns-in-Some-clause-quiet g c h =
     let s = own_of c.args.held.now in
     let none : true ≡ false =
-    sym (ap (λ (e : Effect). asks e.deed) (idle_fetches (clocked c.args.at.0 s) c.args.at.0 s.running (to_fetch s.observations) c.in-Some.number
-    (ap (option_map (shown_operation {A = g.row.A.Denot})) (sym c.running.ensures ∙ shown_none (running_map (λ (w : Bor (Waiting g.row.A.Denot)). w.now)) c.running.result (sym c.is_some.ensures ∙ c.if-is_some.false)))
+    sym (ap (λ (e : Effect). asks e.deed) (idle_fetches (clocked c.args.at.0 s) c.args.at.0 s.running
+    (to_fetch s.observations) c.in-Some.number
+    (ap (option_map (shown_operation {A = g.row.A.Denot}))
+    (sym c.running.ensures ∙ shown_none (running_map (λ (w : Bor (Waiting g.row.A.Denot)). w.now)) c.running.result
+    (sym c.is_some.ensures ∙ c.if-is_some.false)))
     (sym c.to_fetch.ensures ∙ c.in-Some.is))) ∙ h in
     absurd (cc none)
 
@@ -71,12 +91,18 @@ returns-in-None-clause-quiet g c =
     let s = own_of c.args.held.now in
     subst (λ (e : Effect). asks e.deed ≡ false → IsOk c.start_first.result)
     (sym (idle_starts (clocked c.args.at.0 s) c.args.at.0 s.running (to_fetch s.observations)
-    (ap (option_map (shown_operation {A = g.row.A.Denot})) (sym c.running.ensures ∙ shown_none (running_map (λ (w : Bor (Waiting g.row.A.Denot)). w.now)) c.running.result (sym c.is_some.ensures ∙ c.if-is_some.false)))
+    (ap (option_map (shown_operation {A = g.row.A.Denot}))
+    (sym c.running.ensures ∙ shown_none (running_map (λ (w : Bor (Waiting g.row.A.Denot)). w.now)) c.running.result
+    (sym c.is_some.ensures ∙ c.if-is_some.false)))
     (sym c.to_fetch.ensures ∙ c.in-None.is)))
     c.start_first.ensures.quiet
 
 pub start_fetch-requires-clause-none : goal.start_fetch-requires-clause-none
-start_fetch-requires-clause-none g c = sym c.running.ensures ∙ shown_none (running_map (λ (w : Bor (Waiting g.row.A.Denot)). w.now)) c.running.result (sym c.is_some.ensures ∙ c.if-is_some.false)
+start_fetch-requires-clause-none g c = sym c.running.ensures
+    ∙ shown_none (running_map (λ (w : Bor (Waiting g.row.A.Denot)). w.now)) c.running.result
+    (sym c.is_some.ensures ∙ c.if-is_some.false)
 
 pub start_first-requires-clause-none : goal.start_first-requires-clause-none
-start_first-requires-clause-none g c = sym c.running.ensures ∙ shown_none (running_map (λ (w : Bor (Waiting g.row.A.Denot)). w.now)) c.running.result (sym c.is_some.ensures ∙ c.if-is_some.false)
+start_first-requires-clause-none g c = sym c.running.ensures
+    ∙ shown_none (running_map (λ (w : Bor (Waiting g.row.A.Denot)). w.now)) c.running.result
+    (sym c.is_some.ensures ∙ c.if-is_some.false)

@@ -5,4 +5,6 @@ use Rattle.coap_ends.proofs.ClientCalls.AskableRequests.{uncounted}
 use Rattle.coap_ends.proofs.client.request_options.exceed.Goals as goal
 
 pub returns-in-None : goal.returns-in-None
-returns-in-None c = uncounted c.args.options.now c.requires (subst (λ os. (bytes : List ℕ) → Options 0 bytes os → length bytes < 2 ^ 64 → ⊥) c.as_slice.ensures c.in-None.ensures.none)
+returns-in-None c = uncounted c.args.options.now c.requires
+    (subst (λ os. (bytes : List ℕ) → Options 0 bytes os → length bytes < 2 ^ 64 → ⊥) c.as_slice.ensures
+    c.in-None.ensures.none)

@@ -8,4 +8,6 @@ use Rattle.coap_ends.proofs.client.request_options.is_long_path.Goals as goal
 pub exceed-requires : goal.exceed-requires
 exceed-requires g c =
     subst (IsGood 0) (sym c.get_options-options.ensures)
-    (good_get None (Some (255 ∷ 255 ∷ 255 ∷ [])) (segments_of c.segments.result.now) tt (omega arith) (subst (λ p. All (λ (v : List ℕ). length v ≤ 255) p) (sym c.segments.ensures.segments) c.segments.ensures.bounds.short))
+    (good_get None (Some (255 ∷ 255 ∷ 255 ∷ [])) (segments_of c.segments.result.now) tt (omega arith)
+    (subst (λ p. All (λ (v : List ℕ). length v ≤ 255) p)
+    (sym c.segments.ensures.segments) c.segments.ensures.bounds.short))

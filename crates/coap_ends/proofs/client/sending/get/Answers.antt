@@ -6,5 +6,11 @@ use Rattle.coap_ends.proofs.client.sending.get.Goals as goal
 
 pub ask-requires : goal.ask-requires
 ask-requires g c =
-    subst (λ os. IsAskable (record { code = 1; token = option_map (λ t. t.now) c.args.token; options = os; payload = [] })) (sym (c.as_slice.ensures ∙ c.get_options-options.ensures))
+    subst (λ os. IsAskable (record {
+      code = 1;
+      token = option_map (λ t. t.now) c.args.token;
+      options = os;
+      payload =
+          [];
+    })) (sym (c.as_slice.ensures ∙ c.get_options-options.ensures))
     (get_askable (option_map (λ t. t.now) c.args.token) _ _ _ c.requires.observe c.requires.path c.requires.block)

@@ -8,11 +8,16 @@ use Rattle.coap_ends.proofs.client.starting.+to_fetch_from.Goals as goal
 pub returns-then-is_some : goal.returns-then-is_some
 returns-then-is_some g t c =
     let first = c.in_ok-first.first.now in
-    let split = ap (λ l. map (shown_observation {A = g.row.A.Denot}) l) (behind c.args.operations.now.live c.args.from first (sym c.in_ok-first.ensures)) in
-    fetch_here _ _ (shown_observation first) split (shown_some (shown_rest {A = g.row.A.Denot}) first.rest (sym c.is_some.ensures ∙ c.if-is_some.true))
+    let split = ap (λ l. map (shown_observation {A = g.row.A.Denot}) l)
+    (behind c.args.operations.now.live c.args.from first (sym c.in_ok-first.ensures)) in
+    fetch_here _ _ (shown_observation first) split
+    (shown_some (shown_rest {A = g.row.A.Denot}) first.rest (sym c.is_some.ensures ∙ c.if-is_some.true))
 
 pub returns-else-is_some : goal.returns-else-is_some
 returns-else-is_some g t c =
     let first = c.in_ok-first.first.now in
-    let split = ap (λ l. map (shown_observation {A = g.row.A.Denot}) l) (behind c.args.operations.now.live c.args.from first (sym c.in_ok-first.ensures)) in
-    c.to_fetch_from.ensures ∙ fetch_behind _ _ (shown_observation first) split (ap is_some (shown_none (shown_rest {A = g.row.A.Denot}) first.rest (sym c.is_some.ensures ∙ c.if-is_some.false)))
+    let split = ap (λ l. map (shown_observation {A = g.row.A.Denot}) l)
+    (behind c.args.operations.now.live c.args.from first (sym c.in_ok-first.ensures)) in
+    c.to_fetch_from.ensures ∙ fetch_behind _ _ (shown_observation first) split
+    (ap is_some (shown_none (shown_rest {A = g.row.A.Denot}) first.rest
+    (sym c.is_some.ensures ∙ c.if-is_some.false)))

@@ -5,5 +5,6 @@ use Rattle.coap_ends.proofs.client.request_options.RequestOptions.push_path.Give
 
 abbrev pub invariant-loop-segment : goal.invariant-loop-segment
 invariant-loop-segment g l =
-    (l.self ++ path_options (segments_of (drop l.segment-index l.path)) ≡ l.initial.self ++ path_options (segments_of l.path))
+    (l.self ++ path_options (segments_of (drop l.segment-index l.path))
+    ≡ l.initial.self ++ path_options (segments_of l.path))
     × (length l.self + length (drop l.segment-index l.path) ≡ length l.initial.self + length l.path)

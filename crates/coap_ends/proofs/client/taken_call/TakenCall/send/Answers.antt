@@ -13,7 +13,21 @@ ask-requires g c =
     let t = shown_transfer c.self.inside.transfer in
     let b = c.block_of-number.ensures in
     let p = c.payload_of.ensures in
-    subst (λ os. IsAskable (record { code = (method_code r.method).0; token = None; options = os; payload = c.payload_of.result.now }))
-    (sym (c.as_slice.ensures ∙ (c.call_options-options.ensures ∙ ap (λ l. options_of r ++ l) (ap (option_with c.block_of-number.result.0) c.bytes_in-2.ensures ∙ b.option))))
-    (subst (λ l. IsAskable (record { code = (method_code r.method).0; token = None; options = options_of r ++ block_option t; payload = l })) (sym p.payload)
-    (call_askable [] 0 r t _ _ (ranges_of c.self.inside.request c.ranges-2.ensures) c.self.invariant.0 c.self.invariant.1 b.number b.option b.few (subst (λ l. length l ≤ 1024) p.payload p.few)))
+    subst (λ os. IsAskable (record {
+      code = (method_code r.method).0;
+      token = None;
+      options = os;
+      payload =
+          c.payload_of.result.now;
+    }))
+    (sym (c.as_slice.ensures ∙ (c.call_options-options.ensures
+    ∙ ap (λ l. options_of r ++ l) (ap (option_with c.block_of-number.result.0) c.bytes_in-2.ensures ∙ b.option))))
+    (subst (λ l. IsAskable (record {
+      code = (method_code r.method).0;
+      token = None;
+      options =
+          options_of r ++ block_option t;
+      payload = l;
+    })) (sym p.payload)
+    (call_askable [] 0 r t _ _ (ranges_of c.self.inside.request c.ranges-2.ensures) c.self.invariant.0
+    c.self.invariant.1 b.number b.option b.few (subst (λ l. length l ≤ 1024) p.payload p.few)))
