@@ -81,18 +81,59 @@ fn is_answered<R: Abort + AllocGlobal, H: BuildHasher>(
     Ok(())
 }
 
-#[test]
-fn a_full_table_forgets_nothing_with_random_keys(rt: HostRuntime) -> Result<(), Fail> {
-    let mut server = fresh_server(&rt, RandomState::new(&rt)?);
+/// The server remembers messages from ports 1 to 4,096, for their time.
+fn is_full_for_its_time<R: Abort + AllocGlobal, H: BuildHasher>(
+    rt: &R,
+    server: &mut Server<MapStore, Global, H>,
+) -> Result<(), AllocError> {
     for port in 1..4_097 {
-        is_answered(&rt, &mut server, Moment(0), port)?;
+        is_answered(rt, server, Moment(0), port)?;
     }
     // A new request is dropped; the first and the last are still remembered.
-    server.feed(Moment(247_000), at_port(4_097), GET, 0)?;
+    is_dropped(rt, server, Moment(247_000), 4_097)?;
+    is_answered(rt, server, Moment(247_000), 1)?;
+    is_answered(rt, server, Moment(247_000), 4_096)?;
+    is_answered(rt, server, Moment(247_001), 4_097)
+}
+
+/// The GET from this port is not answered.
+fn is_dropped<R: Abort + AllocGlobal, H: BuildHasher>(
+    rt: &R,
+    server: &mut Server<MapStore, Global, H>,
+    now: Moment,
+    port: u16,
+) -> Result<(), AllocError> {
+    server.feed(now, at_port(port), GET, 0)?;
     assert!(rt; server.next_out().is_none());
-    is_answered(&rt, &mut server, Moment(247_000), 1)?;
-    is_answered(&rt, &mut server, Moment(247_000), 4_096)?;
-    is_answered(&rt, &mut server, Moment(247_001), 4_097)?;
+    Ok(())
+}
+
+/// A server with this hasher forgets nothing while its table is full.
+fn forgets_nothing<R: Abort + AllocGlobal, H: BuildHasher + Drop>(
+    rt: &R,
+    hasher: H,
+) -> Result<(), AllocError> {
+    let mut server = fresh_server(rt, hasher);
+    is_full_for_its_time(rt, &mut server)
+}
+
+#[test]
+fn a_full_table_forgets_nothing_with_random_keys(rt: HostRuntime) -> Result<(), Fail> {
+    forgets_nothing(&rt, RandomState::new(&rt)?)?;
+    Ok(())
+}
+
+/// Each new request to the server begins a hash.
+fn hashes_each_request<R: Abort + AllocGlobal>(
+    rt: &R,
+    server: &mut Server<MapStore, Global, Counts<'_>>,
+    uses: &Cell<u32>,
+) -> Result<(), AllocError> {
+    for port in 0..20 {
+        uses.set(0);
+        is_answered(rt, server, Moment(0), port)?;
+        assert!(rt; uses.get() > 0);
+    }
     Ok(())
 }
 
@@ -100,31 +141,58 @@ fn a_full_table_forgets_nothing_with_random_keys(rt: HostRuntime) -> Result<(), 
 fn a_server_hashes_each_new_request(rt: HostRuntime) -> Result<(), AllocError> {
     let uses = Cell::new(0);
     let mut server = fresh_server(&rt, counting(&uses));
-    for port in 0..20 {
-        uses.set(0);
-        is_answered(&rt, &mut server, Moment(0), port)?;
-        assert!(rt; uses.get() > 0);
+    hashes_each_request(&rt, &mut server, &uses)
+}
+
+/// Where the client's server is.
+const THERE: Endpoint = Endpoint {
+    ip: [127, 0, 0, 1],
+    port: 5_683,
+};
+
+/// The client observes the path of no segment.
+fn is_registered<R: Abort + AllocGlobal, H: BuildHasher>(
+    rt: &R,
+    client: &mut Client<Global, H>,
+) -> Result<(), AllocError> {
+    assert!(rt; client.observe(Moment(0), Path::new(rt.alloc())).is_ok());
+    assert!(rt; client.tick(Moment(0), 0)?);
+    is_sent(rt, client.next_out(), THERE, REGISTRATION);
+    client.feed(Moment(0), THERE, REGISTERED, 0)
+}
+
+/// A notification in a CON, of this Message ID and number, begins a hash, and is acknowledged.
+fn hashes_notification<R: Abort + AllocGlobal>(
+    rt: &R,
+    client: &mut Client<Global, Counts<'_>>,
+    uses: &Cell<u32>,
+    number: u8,
+) -> Result<(), AllocError> {
+    uses.set(0);
+    let bytes = [0x48, 0x45, 0, number, 0, 0, 0, 0, 0, 0, 0, 0, 0x61, number];
+    client.feed(Moment(0), THERE, &bytes, 0)?;
+    assert!(rt; uses.get() > 0);
+    is_sent(rt, client.next_out(), THERE, &[0x60, 0, 0, number]);
+    Ok(())
+}
+
+/// Each new notification to the client begins a hash, and is newer than the one before.
+fn hashes_each_notification<R: Abort + AllocGlobal>(
+    rt: &R,
+    client: &mut Client<Global, Counts<'_>>,
+    uses: &Cell<u32>,
+) -> Result<(), AllocError> {
+    is_registered(rt, client)?;
+    for number in 2..22 {
+        hashes_notification(rt, client, uses, number)?;
     }
     Ok(())
 }
 
 #[test]
 fn a_client_hashes_each_new_response(rt: HostRuntime) -> Result<(), AllocError> {
-    let there = at_port(5_683);
     let uses = Cell::new(0);
     let szx = Szx::new(0).expect(&rt, "a block size");
-    let mut client = Client::with_hasher(rt.alloc(), there, szx, 0, counting(&uses));
-    assert!(rt; client.observe(Moment(0), Path::new(rt.alloc())).is_ok());
-    assert!(rt; client.tick(Moment(0), 0)?);
-    is_sent(&rt, client.next_out(), there, REGISTRATION);
-    client.feed(Moment(0), there, REGISTERED, 0)?;
-    // Notifications in CONs, each of a Message ID of its own and newer than the one before.
-    for number in 2..22 {
-        uses.set(0);
-        let bytes = [0x48, 0x45, 0, number, 0, 0, 0, 0, 0, 0, 0, 0, 0x61, number];
-        client.feed(Moment(0), there, &bytes, 0)?;
-        assert!(rt; uses.get() > 0);
-        is_sent(&rt, client.next_out(), there, &[0x60, 0, 0, number]);
-    }
-    Ok(())
+    let mut client = Client::with_hasher(rt.alloc(), THERE, szx, 0, counting(&uses));
+    hashes_each_notification(&rt, &mut client, &uses)
 }

@@ -116,17 +116,28 @@ fn run_row<A: Allocator + Copy>(
 ) -> Result<u64, Fail> {
     let (name, steps) = cut(script, "\n");
     let mut ends = Ends::new(alloc, memory, end, name)?;
-    if is_step(first) {
-        ends.run_step(name, first)?;
-    }
-    for line in steps.lines() {
-        if is_step(line) {
-            let step = filled(alloc, line, row)?;
-            ends.run_step(line, step.as_str())?;
+    ends.run_steps(first, steps, row)
+}
+
+impl<'a, A: Allocator + Copy> Ends<'a, A> {
+    // Carries out a step, if it is one, and those behind it, with the columns of a row: how many wanted
+    // memory.
+    fn run_steps(&mut self, first: &'a str, steps: &'a str, row: &str) -> Result<u64, Fail> {
+        self.run_line(first, "")?;
+        for line in steps.lines() {
+            self.run_line(line, row)?;
         }
+        self.is_over()?;
+        Ok(self.wants)
     }
-    ends.is_over()?;
-    Ok(ends.wants)
+
+    fn run_line(&mut self, line: &'a str, row: &str) -> Result<(), Fail> {
+        if !is_step(line) {
+            return Ok(());
+        }
+        let step = filled(self.alloc, line, row)?;
+        self.run_step(line, step.as_str())
+    }
 }
 
 fn is_step(line: &str) -> bool {

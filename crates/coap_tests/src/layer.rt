@@ -1,9 +1,11 @@
 ghost use Rattle.std.specs.Prelude.{◌≡◌};
 
 mod arrivals;
+mod came;
 mod hashers;
 mod message_ids;
 mod sendings;
+mod steps;
 mod undo;
 
 use coap_layer::{Content, Datagram, Layer, SendRefusal, sendable_law};
@@ -28,9 +30,9 @@ pub(crate) fn at_port(port: u16) -> Endpoint {
 }
 
 /// Begins a Confirmable GET without options.
-pub(crate) fn confirm_get<R: Abort + AllocGlobal>(
+pub(crate) fn confirm_get<R: Abort + AllocGlobal, S: BuildHasher>(
     rt: &R,
-    layer: &mut Layer<Global>,
+    layer: &mut Layer<Global, S>,
     now: u64,
     to: Endpoint,
     word: u64,
@@ -46,6 +48,23 @@ pub(crate) fn confirm_get<R: Abort + AllocGlobal>(
     };
     sendable_law();
     layer.confirm(Moment(now), to, &content, word)
+}
+
+/// Sends a Non-confirmable response.
+pub(crate) fn plain_content<R: Abort + AllocGlobal, S: BuildHasher>(
+    rt: &R,
+    layer: &mut Layer<Global, S>,
+    now: u64,
+) -> Result<Id, SendRefusal> {
+    let token = Token::empty();
+    let content = Content {
+        code: Code::CONTENT,
+        token: &token,
+        options: &[],
+        payload: b"hi",
+    };
+    sendable_law();
+    layer.plain(Moment(now), THERE, &content)
 }
 
 /// What is to be sent next goes there and has these bytes.

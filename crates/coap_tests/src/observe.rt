@@ -1,9 +1,11 @@
+mod steps;
+
 use coap_observe::{
-    HALF_RANGE, MAX_OBSERVERS, Notice, Observers, REORDERING_MS, SEQUENCE_BITS, Watch,
-    sequence_number,
+    HALF_RANGE, MAX_OBSERVERS, Observers, REORDERING_MS, SEQUENCE_BITS, Watch, sequence_number,
 };
-use coap_types::{Endpoint, Moment, Path, Szx, Token};
-use std::alloc::{AllocError, Global};
+use coap_types::Moment;
+use std::alloc::AllocError;
+use steps::{Step, from_new, registers, take_steps};
 
 // A first number at moment 0, then a second one: whether the second is newer.
 fn second_is_newer(first: u32, second: u32, after: u64) -> bool {
@@ -87,108 +89,61 @@ fn versions_are_numbered_modulo_2_to_the_24(rt: HostRuntime) {
     assert!(rt; second_is_newer(sequence_number(16_777_215), sequence_number(16_777_216), 0));
 }
 
-const SERVER_PORT: u16 = 5683;
-
-fn endpoint(last: u8) -> Endpoint {
-    Endpoint {
-        ip: [127, 0, 0, last],
-        port: SERVER_PORT,
-    }
-}
-
-fn token(byte: u8) -> Token {
-    Token::new(&[byte]).unwrap_or_else(Token::empty)
-}
-
-fn path(alloc: Global, segment: &[u8]) -> Result<Path, AllocError> {
-    let mut path = Path::new(alloc);
-    path.push(segment).map_err(|_| AllocError)?;
-    Ok(path)
-}
-
-fn register(observers: &mut Observers, from: u8, byte: u8, path: Path) -> Result<bool, AllocError> {
-    match Szx::new(6) {
-        Some(szx) => observers.register(endpoint(from), token(byte), path, szx),
-        None => Ok(false),
-    }
-}
-
-// Which observer it is, by the last byte of its endpoint and the byte of its token.
-fn who(notice: &Notice<'_>) -> (u8, Option<u8>) {
-    (notice.to.ip[3], notice.token.as_slice().first().copied())
-}
-
 #[test]
 fn who_is_due_comes_in_order_of_registration(rt: HostRuntime) -> Result<(), AllocError> {
-    let mut observers = Observers::new(rt.alloc());
-    assert!(rt; register(&mut observers, 1, 10, path(rt.alloc(), b"t")?)?);
-    assert!(rt; register(&mut observers, 1, 11, path(rt.alloc(), b"t")?)?);
-    assert!(rt; observers.due(endpoint(1)).is_none());
-    observers.changed(&path(rt.alloc(), b"t")?);
-    observers.changed(&path(rt.alloc(), b"t")?);
-    assert!(rt; observers.due(endpoint(2)).is_none());
-    assert_eq!(rt;
-        observers.due(endpoint(1)).map(|n| who(&n)),
-        Some((1, Some(10)))
-    );
-    assert!(rt; observers.sent(endpoint(1), &token(10)));
-    assert!(rt; !observers.sent(endpoint(1), &token(10)));
-    assert_eq!(rt;
-        observers.due(endpoint(1)).map(|n| who(&n)),
-        Some((1, Some(11)))
-    );
-    assert!(rt; !observers.sent(endpoint(2), &token(11)));
-    assert!(rt; observers.sent(endpoint(1), &token(11)));
-    assert!(rt; observers.due(endpoint(1)).is_none());
     coap_observe::observer_laws();
-    Ok(())
+    from_new(
+        &rt,
+        &[
+            Step::Registers(1, 10, b't', true),
+            Step::Registers(1, 11, b't', true),
+            Step::Due(1, None),
+            Step::Changes(b't'),
+            Step::Changes(b't'),
+            Step::Due(2, None),
+            Step::Due(1, Some(10)),
+            Step::Sends(1, 10, true),
+            Step::Sends(1, 10, false),
+            Step::Due(1, Some(11)),
+            Step::Sends(2, 11, false),
+            Step::Sends(1, 11, true),
+            Step::Due(1, None),
+        ],
+    )
 }
 
 #[test]
 fn a_change_is_due_to_each_observer_of_its_path(rt: HostRuntime) -> Result<(), AllocError> {
-    let mut observers = Observers::new(rt.alloc());
-    let rows = [
-        (1, 10, b"t", true),
-        (1, 11, b"u", false),
-        (2, 10, b"t", true),
-        (2, 12, b"t", true),
-        (3, 10, b"T", false),
-    ];
-    for (from, byte, segment, _) in rows {
-        assert!(rt; register(&mut observers, from, byte, path(rt.alloc(), segment)?)?);
-    }
-    observers.changed(&path(rt.alloc(), b"t")?);
-    let mut place = 0;
-    for (from, byte, segment, due) in rows {
-        let (notice, marked) = observers.at(place).expect(&rt, "five are there");
-        assert_eq!(rt; who(&notice), (from, Some(byte)));
-        assert!(rt; *notice.path == path(rt.alloc(), segment)?);
-        assert_eq!(rt; (notice.szx.get(), marked), (6, due));
-        place += 1;
-    }
-    assert!(rt; observers.at(5).is_none());
-    let due = [(0, (1, 10)), (1, (2, 10)), (2, (2, 12))];
-    for (passed, (from, byte)) in due {
-        let notice = observers.due_after(passed).expect(&rt, "three are due");
-        assert_eq!(rt; who(&notice), (from, Some(byte)));
-    }
-    assert!(rt; observers.due_after(3).is_none());
-    assert!(rt; observers.remove(endpoint(2), &token(10)));
-    assert!(rt; !observers.remove(endpoint(2), &token(10)));
-    assert!(rt; observers.at(4).is_none());
-    assert_eq!(rt;
-        observers.due(endpoint(2)).map(|n| who(&n)),
-        Some((2, Some(12)))
-    );
-    // Registered again: last, with nothing due.
-    assert!(rt; register(&mut observers, 1, 10, path(rt.alloc(), b"u")?)?);
-    assert!(rt; observers.due(endpoint(1)).is_none());
-    assert_eq!(rt;
-        observers.at(3).map(|p| (who(&p.0), p.1)),
-        Some(((1, Some(10)), false))
-    );
-    assert!(rt; observers.at(4).is_none());
-    Ok(())
+    from_new(
+        &rt,
+        &[
+            Step::Registers(1, 10, b't', true),
+            Step::Registers(1, 11, b'u', true),
+            Step::Registers(2, 10, b't', true),
+            Step::Registers(2, 12, b't', true),
+            Step::Registers(3, 10, b'T', true),
+            Step::Changes(b't'),
+            Step::At(0, 1, 10, b't', true),
+            Step::At(1, 1, 11, b'u', false),
+            Step::At(2, 2, 10, b't', true),
+            Step::At(3, 2, 12, b't', true),
+            Step::At(4, 3, 10, b'T', false),
+            Step::NoneAt(5),
+            Step::DueAfter(0, Some((1, 10))),
+            Step::DueAfter(1, Some((2, 10))),
+            Step::DueAfter(2, Some((2, 12))),
+            Step::DueAfter(3, None),
+            Step::Removes(2, 10, true),
+            Step::Removes(2, 10, false),
+            Step::NoneAt(4),
+            Step::Due(2, Some(12)),
+            // Registered again: last, with nothing due.
+            Step::Registers(1, 10, b'u', true),
+            Step::Due(1, None),
+            Step::At(3, 1, 10, b'u', false),
+            Step::NoneAt(4),
+        ],
+    )
 }
 
 #[test]
@@ -199,26 +154,22 @@ fn at_most_64_are_registered(rt: HostRuntime) -> Result<(), AllocError> {
     );
     let mut observers = Observers::new(rt.alloc());
     for byte in 0..64 {
-        assert!(rt; register(&mut observers, 1, byte, path(rt.alloc(), b"t")?)?);
+        registers(&rt, &mut observers, 1, byte, b't', true)?;
     }
-    assert!(rt; !register(&mut observers, 1, 64, path(rt.alloc(), b"t")?)?);
-    assert!(rt; !register(&mut observers, 2, 0, path(rt.alloc(), b"t")?)?);
-    assert!(rt; observers.at(64).is_none());
-    assert_eq!(rt; observers.at(0).map(|p| who(&p.0)), Some((1, Some(0))));
-    assert_eq!(rt; observers.at(63).map(|p| who(&p.0)), Some((1, Some(63))));
-    // One that is there moves to the end, also where 64 are there.
-    observers.changed(&path(rt.alloc(), b"t")?);
-    assert!(rt; register(&mut observers, 1, 0, path(rt.alloc(), b"t")?)?);
-    assert!(rt; observers.at(64).is_none());
-    assert_eq!(rt;
-        observers.at(0).map(|p| (who(&p.0), p.1)),
-        Some(((1, Some(1)), true))
-    );
-    assert_eq!(rt;
-        observers.at(63).map(|p| (who(&p.0), p.1)),
-        Some(((1, Some(0)), false))
-    );
-    assert!(rt; observers.remove(endpoint(1), &token(40)));
-    assert!(rt; register(&mut observers, 2, 0, path(rt.alloc(), b"t")?)?);
-    Ok(())
+    let steps = [
+        Step::Registers(1, 64, b't', false),
+        Step::Registers(2, 0, b't', false),
+        Step::NoneAt(64),
+        Step::At(0, 1, 0, b't', false),
+        Step::At(63, 1, 63, b't', false),
+        // One that is there moves to the end, also where 64 are there.
+        Step::Changes(b't'),
+        Step::Registers(1, 0, b't', true),
+        Step::NoneAt(64),
+        Step::At(0, 1, 1, b't', true),
+        Step::At(63, 1, 0, b't', false),
+        Step::Removes(1, 40, true),
+        Step::Registers(2, 0, b't', true),
+    ];
+    take_steps(&rt, &mut observers, &steps)
 }

@@ -1,5 +1,7 @@
 use coap_operations::{MAX_WAITING, Operations, Queued, Running};
-use std::alloc::{AllocError, Global};
+use std::alloc::{AllocError, AllocGlobal, Global};
+use std::process::Abort;
+use std::test::*;
 
 // Operations and observations that are characters.
 type Listed = Operations<char, char, Global>;
@@ -91,47 +93,59 @@ fn shown(listed: &Listed) -> Result<String, AllocError> {
     Ok(text)
 }
 
+// Carries out a step: they are as this text shows them then.
+fn goes_on<R: Abort + AllocGlobal>(
+    rt: &R,
+    listed: &mut Listed,
+    step: Step,
+    after: &str,
+) -> Result<(), AllocError> {
+    carry_out(listed, step)?;
+    assert_eq!(rt; shown(listed)?.as_str(), after);
+    Ok(())
+}
+
+const ROWS: [(Step, &str); 31] = [
+    (Step::Start, "||"),
+    (Step::Finish, "||"),
+    (Step::Push('a'), "a||"),
+    (Step::Push('b'), "ab||"),
+    (Step::PushCancel(1), "ab/||"),
+    (Step::Start, "b/|a|"),
+    (Step::Start, "b/|a|"),
+    (Step::Again, "b/|a|"),
+    (Step::Push('c'), "b/c|a|"),
+    (Step::GoLive, "b/c||a"),
+    (Step::Start, "/c|b|a"),
+    (Step::Finish, "/c||a"),
+    (Step::DropCancel(2), "/c||a"),
+    (Step::Start, "c|/|a"),
+    (Step::Finish, "c||a"),
+    (Step::Fetch(1), "c|+|a"),
+    (Step::DropFetch(2), "c|+|a"),
+    (Step::DropFetch(1), "c|-|a"),
+    (Step::Finish, "c||a"),
+    (Step::Write(0, 'x'), "c||x"),
+    (Step::Start, "|c|x"),
+    (Step::GoLive, "||xc"),
+    (Step::Push('d'), "d||xc"),
+    (Step::PushCancel(3), "d/||xc"),
+    (Step::DropCancel(3), "d||xc"),
+    (Step::Remove(0), "d||c"),
+    (Step::Remove(1), "d||c"),
+    (Step::Push('e'), "de||c"),
+    (Step::Start, "e|d|c"),
+    (Step::GoLive, "e||cd"),
+    (Step::Write(1, 'y'), "e||cy"),
+];
+
 #[test]
 fn what_waits_starts_in_order_and_what_is_live_stays_in_order(
     rt: HostRuntime,
 ) -> Result<(), AllocError> {
-    let rows = [
-        (Step::Start, "||"),
-        (Step::Finish, "||"),
-        (Step::Push('a'), "a||"),
-        (Step::Push('b'), "ab||"),
-        (Step::PushCancel(1), "ab/||"),
-        (Step::Start, "b/|a|"),
-        (Step::Start, "b/|a|"),
-        (Step::Again, "b/|a|"),
-        (Step::Push('c'), "b/c|a|"),
-        (Step::GoLive, "b/c||a"),
-        (Step::Start, "/c|b|a"),
-        (Step::Finish, "/c||a"),
-        (Step::DropCancel(2), "/c||a"),
-        (Step::Start, "c|/|a"),
-        (Step::Finish, "c||a"),
-        (Step::Fetch(1), "c|+|a"),
-        (Step::DropFetch(2), "c|+|a"),
-        (Step::DropFetch(1), "c|-|a"),
-        (Step::Finish, "c||a"),
-        (Step::Write(0, 'x'), "c||x"),
-        (Step::Start, "|c|x"),
-        (Step::GoLive, "||xc"),
-        (Step::Push('d'), "d||xc"),
-        (Step::PushCancel(3), "d/||xc"),
-        (Step::DropCancel(3), "d||xc"),
-        (Step::Remove(0), "d||c"),
-        (Step::Remove(1), "d||c"),
-        (Step::Push('e'), "de||c"),
-        (Step::Start, "e|d|c"),
-        (Step::GoLive, "e||cd"),
-        (Step::Write(1, 'y'), "e||cy"),
-    ];
     let mut listed = Operations::new(rt.alloc());
-    for (step, after) in rows {
-        carry_out(&mut listed, step)?;
-        assert_eq!(rt; shown(&listed)?.as_str(), after);
+    for (step, after) in ROWS {
+        goes_on(&rt, &mut listed, step, after)?;
     }
     Ok(())
 }
@@ -144,7 +158,5 @@ fn eight_wait_at_most(rt: HostRuntime) -> Result<(), AllocError> {
     }
     carry_out(&mut listed, Step::PushCancel(1))?;
     carry_out(&mut listed, Step::Push('h'))?;
-    carry_out(&mut listed, Step::PushCancel(2))?;
-    assert_eq!(rt; shown(&listed)?.as_str(), "abcdefg/||");
-    Ok(())
+    goes_on(&rt, &mut listed, Step::PushCancel(2), "abcdefg/||")
 }

@@ -1,15 +1,19 @@
 mod block_values;
+mod paths;
 mod recognising;
 
 use Occurrence::{Never, Once, Repeatable};
 use bytes::Bytes;
 use coap_types::{
-    Code, Endpoint, Id, Kind, Method, Moment, Occurrence, Opt, Path, PathRefusal, Request, Role,
-    Rule, Szx, Tag, Tags, Token, appended, option_number, path_law, rule, uint_bytes, uint_laws,
-    uint_of,
+    Code, Endpoint, Id, Kind, Method, Moment, Occurrence, Opt, Request, Role, Rule, Szx, Tag, Tags,
+    Token, appended, option_number, rule, uint_bytes, uint_laws, uint_of,
 };
-use std::alloc::AllocError;
+use paths::path_of;
+use std::alloc::{AllocError, AllocGlobal};
+use std::fmt::Display;
 use std::hash::{DefaultHasher, Hash, Hasher};
+use std::process::Abort;
+use std::test::*;
 
 fn hash_of<T: Hash>(x: &T) -> u64 {
     let mut state = DefaultHasher::new();
@@ -28,94 +32,6 @@ fn slices_are_joined(rt: HostRuntime) -> Result<(), AllocError> {
         let body = appended(rt.alloc(), front.as_bytes(), back.as_bytes())?;
         assert_eq!(rt; &body[..], whole.as_bytes());
     }
-    Ok(())
-}
-
-#[test]
-fn a_path_refuses_what_it_cannot_hold(rt: HostRuntime) -> Result<(), AllocError> {
-    let bytes = [b'a'; 256];
-    let mut path = Path::new(rt.alloc());
-    assert!(rt; path.is_empty());
-    assert_eq!(rt; path.push(&bytes), Err(PathRefusal::SegmentTooLong));
-    assert!(rt; path.is_empty());
-    for _ in 0..16 {
-        assert_eq!(rt; path.push(&bytes[..255]), Ok(()));
-    }
-    let full = path.clone()?;
-    assert_eq!(rt; path.push(b""), Err(PathRefusal::TooManySegments));
-    assert!(rt; path == full);
-    assert_eq!(rt; path.push(&bytes), Err(PathRefusal::SegmentTooLong));
-    assert!(rt; path == full);
-    assert_eq!(rt; path.len(), 16);
-    for segment in path.segments() {
-        assert_eq!(rt; segment.as_slice(), &bytes[..255]);
-    }
-    assert!(rt; !path.is_empty());
-    Ok(())
-}
-
-#[test]
-fn a_path_is_read_from_options(rt: HostRuntime) -> Result<(), AllocError> {
-    let long = [b'a'; 256];
-    let segment = |value| Opt {
-        number: option_number::URI_PATH,
-        value,
-    };
-    // coap://example.net/.well-known/core (RFC 7252, section 5.10.1).
-    let options = [
-        Opt {
-            number: option_number::URI_HOST,
-            value: b"example.net",
-        },
-        segment(b".well-known"),
-        segment(b"core"),
-        Opt {
-            number: option_number::ACCEPT,
-            value: &[40],
-        },
-    ];
-    let path = Path::of_options(rt.alloc(), &options).expect(&rt, "two short segments");
-    let mut core = Path::new(rt.alloc());
-    assert_eq!(rt; core.push(b".well-known"), Ok(()));
-    assert_eq!(rt; core.push(b"core"), Ok(()));
-    assert!(rt; path == core);
-    let many = [segment(b""); 17];
-    assert!(rt; matches!(Path::of_options(rt.alloc(), &many[..16]), Ok(path) if path.len() == 16));
-    let refused: [(&[Opt<'_>], PathRefusal); 3] = [
-        (&many, PathRefusal::TooManySegments),
-        (&[segment(&long)], PathRefusal::SegmentTooLong),
-        (
-            &[segment(b"a"), segment(&long)],
-            PathRefusal::SegmentTooLong,
-        ),
-    ];
-    for (options, why) in refused {
-        assert!(rt; matches!(Path::of_options(rt.alloc(), options), Err(is) if is == why));
-    }
-    path_law();
-    Ok(())
-}
-
-#[test]
-fn paths_are_compared_by_bytes_segment_by_segment(rt: HostRuntime) -> Result<(), AllocError> {
-    let root = Path::new(rt.alloc());
-    let mut whole = Path::new(rt.alloc());
-    assert_eq!(rt; whole.push(b"ab"), Ok(()));
-    let mut split = Path::new(rt.alloc());
-    assert_eq!(rt; split.push(b"a"), Ok(()));
-    assert_eq!(rt; split.push(b"b"), Ok(()));
-    let mut upper = Path::new(rt.alloc());
-    assert_eq!(rt; upper.push(b"AB"), Ok(()));
-    assert!(rt; whole != split);
-    assert!(rt; whole != upper);
-    assert!(rt; whole == whole.clone()?);
-    assert!(rt; root < upper);
-    assert!(rt; upper < split);
-    assert!(rt; split < whole);
-    assert!(rt; hash_of(&whole) == hash_of(&whole.clone()?));
-    assert!(rt; hash_of(&whole) != hash_of(&split));
-    let text = format!(in rt.alloc(); "{}", PathRefusal::SegmentTooLong)?;
-    assert_eq!(rt; text.as_str(), "a segment of over 255 bytes");
     Ok(())
 }
 
@@ -153,6 +69,12 @@ fn options_are_recognised_by_the_table(rt: HostRuntime) {
     }
 }
 
+// A number is written and read by these bytes.
+fn is_spelled<R: Abort>(rt: &R, number: u32, bytes: &[u8]) {
+    assert_eq!(rt; uint_bytes(number).as_slice(), bytes, "{number}");
+    assert_eq!(rt; uint_of(bytes), Some(number), "{number}");
+}
+
 #[test]
 fn numbers_are_read_and_written_by_bytes(rt: HostRuntime) {
     let spellings: [(u32, &[u8]); 9] = [
@@ -167,8 +89,7 @@ fn numbers_are_read_and_written_by_bytes(rt: HostRuntime) {
         (4_294_967_295, &[255, 255, 255, 255]),
     ];
     for (number, bytes) in spellings {
-        assert_eq!(rt; uint_bytes(number).as_slice(), bytes, "{number}");
-        assert_eq!(rt; uint_of(bytes), Some(number), "{number}");
+        is_spelled(&rt, number, bytes);
     }
     assert_eq!(rt; uint_of(&[0]), Some(0));
     assert_eq!(rt; uint_of(&[0, 0, 1, 2]), Some(258));
@@ -232,51 +153,61 @@ fn tokens_and_tags_are_compared_by_bytes(rt: HostRuntime) -> Result<(), AllocErr
     Ok(())
 }
 
+// It is written so.
+fn is_written<R: Abort + AllocGlobal, T: Display + Drop>(
+    rt: &R,
+    value: T,
+    expected: &str,
+) -> Result<(), AllocError> {
+    let text = format!(in rt.alloc(); "{value}")?;
+    assert_eq!(rt; text.as_str(), expected);
+    Ok(())
+}
+
+const REGISTRY: [(Code, &str); 22] = [
+    (Code::EMPTY, "0.00"),
+    (Code::GET, "0.01"),
+    (Code::POST, "0.02"),
+    (Code::PUT, "0.03"),
+    (Code::DELETE, "0.04"),
+    (Code::CREATED, "2.01"),
+    (Code::DELETED, "2.02"),
+    (Code::VALID, "2.03"),
+    (Code::CHANGED, "2.04"),
+    (Code::CONTENT, "2.05"),
+    (Code::CONTINUE, "2.31"),
+    (Code::BAD_REQUEST, "4.00"),
+    (Code::BAD_OPTION, "4.02"),
+    (Code::NOT_FOUND, "4.04"),
+    (Code::METHOD_NOT_ALLOWED, "4.05"),
+    (Code::NOT_ACCEPTABLE, "4.06"),
+    (Code::REQUEST_ENTITY_INCOMPLETE, "4.08"),
+    (Code::PRECONDITION_FAILED, "4.12"),
+    (Code::REQUEST_ENTITY_TOO_LARGE, "4.13"),
+    (Code::SERVICE_UNAVAILABLE, "5.03"),
+    (Code::PROXYING_NOT_SUPPORTED, "5.05"),
+    (Code(0xff), "7.31"),
+];
+
 #[test]
 fn codes_are_written_as_the_registry_has_them(rt: HostRuntime) -> Result<(), AllocError> {
-    let registry = [
-        (Code::EMPTY, "0.00"),
-        (Code::GET, "0.01"),
-        (Code::POST, "0.02"),
-        (Code::PUT, "0.03"),
-        (Code::DELETE, "0.04"),
-        (Code::CREATED, "2.01"),
-        (Code::DELETED, "2.02"),
-        (Code::VALID, "2.03"),
-        (Code::CHANGED, "2.04"),
-        (Code::CONTENT, "2.05"),
-        (Code::CONTINUE, "2.31"),
-        (Code::BAD_REQUEST, "4.00"),
-        (Code::BAD_OPTION, "4.02"),
-        (Code::NOT_FOUND, "4.04"),
-        (Code::METHOD_NOT_ALLOWED, "4.05"),
-        (Code::NOT_ACCEPTABLE, "4.06"),
-        (Code::REQUEST_ENTITY_INCOMPLETE, "4.08"),
-        (Code::PRECONDITION_FAILED, "4.12"),
-        (Code::REQUEST_ENTITY_TOO_LARGE, "4.13"),
-        (Code::SERVICE_UNAVAILABLE, "5.03"),
-        (Code::PROXYING_NOT_SUPPORTED, "5.05"),
-        (Code(0xff), "7.31"),
-    ];
-    for (code, expected) in registry {
-        let text = format!(in rt.alloc(); "{code}")?;
-        assert_eq!(rt; text.as_str(), expected);
+    for (code, expected) in REGISTRY {
+        is_written(&rt, code, expected)?;
     }
     assert_eq!(rt; (Code(0x45).class(), Code(0x45).detail()), (2, 5));
-    for (kind, expected) in [
-        (Kind::Con, "CON"),
-        (Kind::Non, "NON"),
-        (Kind::Ack, "ACK"),
-        (Kind::Rst, "RST"),
-    ] {
-        let text = format!(in rt.alloc(); "{kind}")?;
-        assert_eq!(rt; text.as_str(), expected);
-    }
     Ok(())
 }
 
 #[test]
-fn a_request_holds_what_it_was_given(rt: HostRuntime) {
+fn types_are_written_by_three_letters(rt: HostRuntime) -> Result<(), AllocError> {
+    is_written(&rt, Kind::Con, "CON")?;
+    is_written(&rt, Kind::Non, "NON")?;
+    is_written(&rt, Kind::Ack, "ACK")?;
+    is_written(&rt, Kind::Rst, "RST")
+}
+
+#[test]
+fn methods_have_codes(rt: HostRuntime) {
     let methods = [
         (Method::Get, 1),
         (Method::Post, 2),
@@ -290,21 +221,28 @@ fn a_request_holds_what_it_was_given(rt: HostRuntime) {
     for byte in [0, 5, 31, 69] {
         assert_eq!(rt; Method::of(Code(byte)), None);
     }
+}
+
+// Four entity-tags, beside which there is no room for one more.
+fn four_tags<R: Abort>(rt: &R) -> Tags {
     let mut etags = Tags::new();
     for byte in 0..4 {
-        let tag = Tag::new(&[byte]).expect(&rt, "one byte");
+        let tag = Tag::new(&[byte]).expect(rt, "one byte");
         assert_eq!(rt; etags.push(tag), Ok(()));
     }
-    let tag = Tag::new(&[4]).expect(&rt, "one byte");
+    let tag = Tag::new(&[4]).expect(rt, "one byte");
     assert_eq!(rt; etags.push(tag.copy()), Err(tag));
-    let mut path = Path::new(rt.alloc());
-    assert_eq!(rt; path.push(b"temperature"), Ok(()));
+    etags
+}
+
+#[test]
+fn a_request_holds_what_it_was_given(rt: HostRuntime) {
     let request = Request {
         method: Method::Put,
-        path,
+        path: path_of(&rt, &["temperature"]),
         format: Some(0),
         body: Bytes::from_static(b"22.3 C"),
-        etags,
+        etags: four_tags(&rt),
         if_match: Tags::new(),
         if_none_match: false,
         accept: None,

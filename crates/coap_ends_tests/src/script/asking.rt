@@ -3,7 +3,7 @@ use super::ends::Ends;
 use super::reports::{body_of, head_of};
 use super::words::{cut, first, method_of, path_of, push_tag, text_of};
 use bytes::Bytes;
-use coap_ends::{CallId, CallRefusal};
+use coap_ends::{CallId, CallRefusal, Report};
 use coap_types::{Moment, Request, Tags};
 use std::alloc::Allocator;
 use std::test::Fail;
@@ -97,14 +97,24 @@ impl<A: Allocator + Copy> Ends<'_, A> {
     }
 
     pub(super) fn told(&mut self, words: &str, text: &str) -> Result<(), Fail> {
-        let Some((CallId(id), report)) = self.next_report() else {
-            return self.is_same("nothing", words);
-        };
-        let head = head_of(self.alloc, &report)?;
+        match self.next_report() {
+            Some((id, report)) => self.is_report(id, &report, words, text),
+            None => self.is_same("nothing", words),
+        }
+    }
+
+    fn is_report(
+        &self,
+        CallId(id): CallId,
+        report: &Report<A>,
+        words: &str,
+        text: &str,
+    ) -> Result<(), Fail> {
+        let head = head_of(self.alloc, report)?;
         let came = format!(in self.alloc; "{id} {head}")?;
         self.is_same(came.as_str(), words)?;
         let body = text_of(self.alloc, text)?;
-        if body_of(&report) != body.as_bytes() {
+        if body_of(report) != body.as_bytes() {
             return Err(self.wrong("another body is reported"));
         }
         Ok(())

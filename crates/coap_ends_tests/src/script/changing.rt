@@ -80,20 +80,30 @@ fn said_to<'a>(alloc: Global, to: u16, words: &'a str) -> Result<Said<'a>, Fail>
 // Gives this byte of the datagram of this number each value, one so much later than the other that
 // no message is remembered and no partial body is left. Ends of which something came begin anew.
 fn change_byte(alloc: Global, talk: &Talk<'_>, number: usize, place: usize) -> Result<(), Fail> {
+    let mut ends = begun(alloc, talk)?;
+    bear_each(alloc, talk, number, place, &mut ends)
+}
+
+fn bear_each<'a>(
+    alloc: Global,
+    talk: &Talk<'a>,
+    number: usize,
+    place: usize,
+    ends: &mut Ends<'a, Global>,
+) -> Result<(), Fail> {
     let before = talk.said.get(..number).unwrap_or(&[]);
     let behind = talk.said.get(number..).unwrap_or(&[]);
     let Some(own) = behind.first() else {
         return Ok(());
     };
     let mut changed = own.bytes.clone()?;
-    let mut ends = begun(alloc, talk)?;
     for value in 0..=u8::MAX {
         put(&mut changed, place, value);
         ends.at = LATER_MS.saturating_mul(u64::from(value));
         ends.line = own.hex;
         ends.bear_changed(before, behind, changed.as_slice())?;
         if own.to == CLIENT || ends.is_changed {
-            ends = begun(alloc, talk)?;
+            begin_anew(alloc, talk, ends)?;
         }
     }
     Ok(())
@@ -108,10 +118,20 @@ fn put(bytes: &mut [u8], place: usize, value: u8) {
 // Both ends after the first steps of a talk.
 fn begun<'a>(alloc: Global, talk: &Talk<'a>) -> Result<Ends<'a, Global>, Fail> {
     let mut ends = Ends::new(alloc, alloc, End::Client, talk.name)?;
+    begin(&mut ends, talk)?;
+    Ok(ends)
+}
+
+fn begin<'a>(ends: &mut Ends<'a, Global>, talk: &Talk<'a>) -> Result<(), Fail> {
     for step in talk.steps.iter() {
         ends.run_step(step, step)?;
     }
-    Ok(ends)
+    Ok(())
+}
+
+fn begin_anew<'a>(alloc: Global, talk: &Talk<'a>, ends: &mut Ends<'a, Global>) -> Result<(), Fail> {
+    *ends = begun(alloc, talk)?;
+    Ok(())
 }
 
 impl<A: Allocator + Copy> Ends<'_, A> {
@@ -176,20 +196,33 @@ impl<A: Allocator + Copy> Ends<'_, A> {
 
     // Both ends take the changed datagram from one another, and then its original from others.
     fn bear(&mut self, changed: &[u8], own: &Said<'_>) -> Result<(), Fail> {
-        for to in [SERVER, CLIENT] {
-            self.hear(to, changed)?;
-            self.pass_on()?;
-        }
-        let _reported = self.client.next_report();
-        for answer in own.answers {
-            self.feed(self.at, port_of(cut(answer, " ").0)?, own.bytes.as_slice())?;
-            match answer {
-                "D held" => self.out(self.held_reply()?.as_str())?,
-                _ => self.out(answer)?,
-            }
-        }
+        self.take(SERVER, changed)?;
+        self.take(CLIENT, changed)?;
+        self.pass_report();
+        let [of_server, of_client] = own.answers;
+        self.answers(own.bytes.as_slice(), of_server)?;
+        self.answers(own.bytes.as_slice(), of_client)?;
         self.applied("nothing")?;
         self.told("nothing", "")
+    }
+
+    fn take(&mut self, to: u16, changed: &[u8]) -> Result<(), Fail> {
+        self.hear(to, changed)?;
+        self.pass_on()
+    }
+
+    // What is reported may be anything.
+    fn pass_report(&mut self) {
+        let _reported = self.client.next_report();
+    }
+
+    // The original gets this answer where it comes from another.
+    fn answers(&mut self, bytes: &[u8], answer: &str) -> Result<(), Fail> {
+        self.feed(self.at, port_of(cut(answer, " ").0)?, bytes)?;
+        match answer {
+            "D held" => self.out(self.held_reply()?.as_str()),
+            _ => self.out(answer),
+        }
     }
 
     // What was malformed changed nothing: the original gets the next one of the talk.

@@ -178,15 +178,20 @@ impl<'a, A: Allocator + Copy> Ends<'a, A> {
 
     fn begin_with(&mut self, szx: Szx, word: u64, changes: u32) -> Result<(), Fail> {
         match self.end {
-            End::Client => {
-                self.client_word = word;
-                self.client = Client::new(self.memory, endpoint(SERVER), szx, word);
-            }
-            End::Server => {
-                self.server_word = word;
-                self.server = server(self.memory, changes, szx, word)?;
-            }
+            End::Client => self.begin_client(szx, word),
+            End::Server => self.begin_server(szx, word, changes)?,
         }
+        Ok(())
+    }
+
+    fn begin_client(&mut self, szx: Szx, word: u64) {
+        self.client_word = word;
+        self.client = Client::new(self.memory, endpoint(SERVER), szx, word);
+    }
+
+    fn begin_server(&mut self, szx: Szx, word: u64, changes: u32) -> Result<(), Fail> {
+        self.server_word = word;
+        self.server = server(self.memory, changes, szx, word)?;
         Ok(())
     }
 

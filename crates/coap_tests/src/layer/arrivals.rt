@@ -1,257 +1,120 @@
-ghost use Rattle.std.specs.Prelude.{◌≤◌, length};
-ghost use Rattle.coap_types.specs.declared.limits.TheConstants.{MAX_MESSAGE_LEN as max_message_len};
-
-use super::sendings::plain_content;
-use super::{THERE, confirm_get, is_sent};
-use coap_layer::{Layer, Up};
-use coap_types::{Code, Id, Moment};
-use std::alloc::{AllocError, AllocGlobal, Global};
-use std::process::Abort;
-use std::test::*;
-
-// What an arrival came to, without the message.
-#[derive(Clone, Copy, Debug, PartialEq, Eq)]
-enum Came {
-    Dropped,
-    Replayed,
-    Rejected,
-    Request,
-    Unremembered,
-    Response,
-    Acked,
-    Reset,
-}
-
-fn outcome(up: &Up<'_>) -> Came {
-    match up {
-        Up::Dropped => Came::Dropped,
-        Up::Replayed => Came::Replayed,
-        Up::Rejected => Came::Rejected,
-        Up::Request { remembered, .. } => {
-            if *remembered {
-                Came::Request
-            } else {
-                Came::Unremembered
-            }
-        }
-        Up::Response(_) => Came::Response,
-        Up::Acked(_) => Came::Acked,
-        Up::Reset(_) => Came::Reset,
-    }
-}
-
-// Hands in a datagram: what it came to, and what is sent at once.
-fn arrives<R: Abort + AllocGlobal>(
-    rt: &R,
-    layer: &mut Layer<Global>,
-    now: u64,
-    bytes: &[u8],
-    answer: Came,
-    sent: &[u8],
-) -> Result<(), AllocError> {
-    let up = layer.receive(Moment(now), THERE, bytes)?;
-    assert_eq!(rt; outcome(&up), answer);
-    if sent.is_empty() {
-        assert!(rt; layer.next_out().is_none());
-    } else {
-        is_sent(rt, layer, THERE, sent);
-    }
-    Ok(())
-}
+use super::THERE;
+use super::came::Came;
+use super::steps::{GET_0000, Step, from_new};
+use coap_types::Id;
+use std::alloc::AllocError;
 
 #[test]
 fn each_line_of_the_table_of_arrivals(rt: HostRuntime) -> Result<(), AllocError> {
-    let mut layer = Layer::new(rt.alloc(), 0);
-    let rows: [(&[u8], Came, &[u8]); 22] = [
-        // No header, another version.
-        (&[0x40], Came::Dropped, &[]),
-        (&[0x00, 0x01, 0x00, 0x09], Came::Dropped, &[]),
-        // A reserved token length, by type.
-        (
-            &[0x49, 0x01, 0x12, 0x34],
-            Came::Rejected,
-            &[0x70, 0x00, 0x12, 0x34],
-        ),
-        (&[0x59, 0x01, 0x12, 0x34], Came::Dropped, &[]),
-        (&[0x69, 0x01, 0x12, 0x34], Came::Dropped, &[]),
-        (&[0x79, 0x01, 0x12, 0x34], Came::Dropped, &[]),
-        // Empty, and codes of a reserved class.
-        (
-            &[0x40, 0x00, 0x00, 0x01],
-            Came::Rejected,
-            &[0x70, 0x00, 0x00, 0x01],
-        ),
-        (
-            &[0x40, 0x20, 0x00, 0x02],
-            Came::Rejected,
-            &[0x70, 0x00, 0x00, 0x02],
-        ),
-        (
-            &[0x40, 0xe0, 0x00, 0x03],
-            Came::Rejected,
-            &[0x70, 0x00, 0x00, 0x03],
-        ),
-        (&[0x50, 0x00, 0x00, 0x01], Came::Dropped, &[]),
-        (&[0x50, 0xc0, 0x00, 0x01], Came::Dropped, &[]),
-        // A Reset that is not Empty, an acknowledgement that is a request or reserved.
-        (&[0x70, 0x45, 0x00, 0x00], Came::Dropped, &[]),
-        (&[0x60, 0x01, 0x00, 0x00], Came::Dropped, &[]),
-        (&[0x60, 0x20, 0x00, 0x00], Came::Dropped, &[]),
-        // Of nothing that is outstanding.
-        (&[0x60, 0x00, 0x00, 0x07], Came::Dropped, &[]),
-        (&[0x70, 0x00, 0x00, 0x07], Came::Dropped, &[]),
-        (&[0x60, 0x45, 0x00, 0x07], Came::Dropped, &[]),
-        // Requests and responses.
-        (&[0x40, 0x01, 0x00, 0x0a], Came::Request, &[]),
-        (&[0x50, 0x01, 0x00, 0x0b], Came::Request, &[]),
-        (&[0x40, 0x45, 0x00, 0x0c], Came::Response, &[]),
-        (&[0x50, 0x45, 0x00, 0x0d], Came::Response, &[]),
-        // No reply was given.
-        (&[0x40, 0x01, 0x00, 0x0a], Came::Replayed, &[]),
-    ];
-    for (bytes, answer, sent) in rows {
-        arrives(&rt, &mut layer, 0, bytes, answer, sent)?;
-    }
-    Ok(())
+    from_new(
+        &rt,
+        &[
+            // No header, another version.
+            Step::Comes(0, "40", Came::Dropped, ""),
+            Step::Comes(0, "00010009", Came::Dropped, ""),
+            // A reserved token length, by type.
+            Step::Comes(0, "49011234", Came::Rejected, "70001234"),
+            Step::Comes(0, "59011234", Came::Dropped, ""),
+            Step::Comes(0, "69011234", Came::Dropped, ""),
+            Step::Comes(0, "79011234", Came::Dropped, ""),
+            // Empty, and codes of a reserved class.
+            Step::Comes(0, "40000001", Came::Rejected, "70000001"),
+            Step::Comes(0, "40200002", Came::Rejected, "70000002"),
+            Step::Comes(0, "40e00003", Came::Rejected, "70000003"),
+            Step::Comes(0, "50000001", Came::Dropped, ""),
+            Step::Comes(0, "50c00001", Came::Dropped, ""),
+            // A Reset that is not Empty, an acknowledgement that is a request or reserved.
+            Step::Comes(0, "70450000", Came::Dropped, ""),
+            Step::Comes(0, "60010000", Came::Dropped, ""),
+            Step::Comes(0, "60200000", Came::Dropped, ""),
+            // Of nothing that is outstanding.
+            Step::Comes(0, "60000007", Came::Dropped, ""),
+            Step::Comes(0, "70000007", Came::Dropped, ""),
+            Step::Comes(0, "60450007", Came::Dropped, ""),
+            // Requests and responses.
+            Step::Comes(0, "4001000a", Came::Request, ""),
+            Step::Comes(0, "5001000b", Came::Request, ""),
+            Step::Comes(0, "4045000c", Came::Response, ""),
+            Step::Comes(0, "5045000d", Came::Response, ""),
+            // No reply was given.
+            Step::Comes(0, "4001000a", Came::Replayed, ""),
+        ],
+    )
 }
 
 #[test]
 fn what_is_outstanding_is_acknowledged_and_reset(rt: HostRuntime) -> Result<(), AllocError> {
-    let mut layer = Layer::new(rt.alloc(), 0);
-    assert_eq!(rt; confirm_get(&rt, &mut layer, 0, THERE, 0), Ok(Id(0)));
-    is_sent(&rt, &mut layer, THERE, &[0x40, 0x01, 0x00, 0x00]);
-    arrives(
+    from_new(
         &rt,
-        &mut layer,
-        0,
-        &[0x60, 0x00, 0x00, 0x01],
-        Came::Dropped,
-        &[],
-    )?;
-    arrives(
-        &rt,
-        &mut layer,
-        0,
-        &[0x60, 0x45, 0x00, 0x00],
-        Came::Response,
-        &[],
-    )?;
-    arrives(
-        &rt,
-        &mut layer,
-        0,
-        &[0x60, 0x00, 0x00, 0x00],
-        Came::Acked,
-        &[],
-    )?;
-    arrives(
-        &rt,
-        &mut layer,
-        0,
-        &[0x60, 0x00, 0x00, 0x00],
-        Came::Dropped,
-        &[],
-    )?;
-    assert_eq!(rt; confirm_get(&rt, &mut layer, 0, THERE, 0), Ok(Id(1)));
-    is_sent(&rt, &mut layer, THERE, &[0x40, 0x01, 0x00, 0x01]);
-    arrives(
-        &rt,
-        &mut layer,
-        0,
-        &[0x70, 0x00, 0x00, 0x01],
-        Came::Reset,
-        &[],
-    )?;
-    arrives(
-        &rt,
-        &mut layer,
-        0,
-        &[0x70, 0x00, 0x00, 0x01],
-        Came::Dropped,
-        &[],
+        &[
+            Step::Confirms(0, THERE, 0, Ok(Id(0))),
+            Step::Sends(GET_0000),
+            Step::Comes(0, "60000001", Came::Dropped, ""),
+            Step::Comes(0, "60450000", Came::Response, ""),
+            Step::Comes(0, "60000000", Came::Acked(Id(0)), ""),
+            Step::Comes(0, "60000000", Came::Dropped, ""),
+            Step::Confirms(0, THERE, 0, Ok(Id(1))),
+            Step::Sends("40010001"),
+            Step::Comes(0, "70000001", Came::Reset(Id(1)), ""),
+            Step::Comes(0, "70000001", Came::Dropped, ""),
+        ],
     )
 }
 
-// Answers the request that is handed in.
-fn is_answered<R: Abort + AllocGlobal>(
-    rt: &R,
-    layer: &mut Layer<Global>,
-    now: u64,
-    request: &[u8],
-    reply: &[u8],
-) -> Result<(), AllocError>
-    requires { length reply.now ≤ max_message_len }
-{
-    match layer.receive(Moment(now), THERE, request)? {
-        Up::Request { message, .. } => {
-            let id = message.id();
-            layer.reply(THERE, id, reply);
-            is_sent(rt, layer, THERE, reply);
-        }
-        _ => assert!(rt; false, "no request"),
-    }
-    Ok(())
-}
+const POST: &str = "41020a0101";
+
+const CHANGED: &str = "61440a0101";
 
 #[test]
 fn a_duplicate_gets_the_stored_reply(rt: HostRuntime) -> Result<(), AllocError> {
-    let mut layer = Layer::new(rt.alloc(), 0);
-    let post = &[0x41, 0x02, 0x0a, 0x01, 0x01];
-    let changed = &[0x61, 0x44, 0x0a, 0x01, 0x01];
-    is_answered(&rt, &mut layer, 0, post, changed)?;
-    arrives(&rt, &mut layer, 60_000, post, Came::Replayed, changed)?;
-    arrives(&rt, &mut layer, 147_000, post, Came::Replayed, changed)?;
-    arrives(&rt, &mut layer, 247_000, post, Came::Replayed, changed)?;
-    arrives(&rt, &mut layer, 247_001, post, Came::Request, &[])
+    from_new(
+        &rt,
+        &[
+            Step::Replies(0, POST, CHANGED),
+            Step::Sends(CHANGED),
+            Step::Comes(60_000, POST, Came::Replayed, CHANGED),
+            Step::Comes(147_000, POST, Came::Replayed, CHANGED),
+            Step::Comes(247_000, POST, Came::Replayed, CHANGED),
+            Step::Comes(247_001, POST, Came::Request, ""),
+        ],
+    )
 }
 
 #[test]
 fn a_non_confirmable_message_and_a_confirmable_one_may_be_the_same(
     rt: HostRuntime,
 ) -> Result<(), AllocError> {
-    let mut layer = Layer::new(rt.alloc(), 0);
-    arrives(
+    from_new(
         &rt,
-        &mut layer,
-        0,
-        &[0x50, 0x01, 0x00, 0x07],
-        Came::Request,
-        &[],
-    )?;
-    arrives(
-        &rt,
-        &mut layer,
-        0,
-        &[0x40, 0x01, 0x00, 0x07],
-        Came::Replayed,
-        &[],
+        &[
+            Step::Comes(0, "50010007", Came::Request, ""),
+            Step::Comes(0, "40010007", Came::Replayed, ""),
+        ],
     )
 }
 
-// Sends so many Non-confirmable messages.
-fn sends_plain<R: Abort + AllocGlobal>(rt: &R, layer: &mut Layer<Global>, count: u32) {
-    for _ in 0..count {
-        assert!(rt; plain_content(rt, layer, 0).is_ok());
-        assert!(rt; layer.next_out().is_some());
-    }
-}
+const NON: &str = "50010007";
+
+const CON: &str = "40010008";
 
 #[test]
 fn a_request_that_can_not_be_answered_is_not_remembered(rt: HostRuntime) -> Result<(), AllocError> {
-    let mut layer = Layer::new(rt.alloc(), 0);
-    sends_plain(&rt, &mut layer, 65_536);
-    assert!(rt; !layer.is_free(Moment(0)));
-    let get = &[0x50, 0x01, 0x00, 0x07];
-    arrives(&rt, &mut layer, 0, get, Came::Unremembered, &[])?;
-    arrives(&rt, &mut layer, 400_000, get, Came::Unremembered, &[])?;
-    // A Confirmable one is answered in its acknowledgement, and remembered.
-    let con = &[0x40, 0x01, 0x00, 0x08];
-    arrives(&rt, &mut layer, 400_000, con, Came::Request, &[])?;
-    arrives(&rt, &mut layer, 400_000, con, Came::Replayed, &[])?;
-    // Once a Message ID is free again, it is remembered.
-    layer.pass(Moment(400_001));
-    assert!(rt; layer.is_free(Moment(0)));
-    arrives(&rt, &mut layer, 0, get, Came::Request, &[])?;
-    arrives(&rt, &mut layer, 0, get, Came::Replayed, &[])?;
-    layer.reserve()
+    from_new(
+        &rt,
+        &[
+            Step::Floods(65_536),
+            Step::IsFree(0, false),
+            Step::Comes(0, NON, Came::Unremembered, ""),
+            Step::Comes(400_000, NON, Came::Unremembered, ""),
+            // A Confirmable one is answered in its acknowledgement, and remembered.
+            Step::Comes(400_000, CON, Came::Request, ""),
+            Step::Comes(400_000, CON, Came::Replayed, ""),
+            // Once a Message ID is free again, it is remembered.
+            Step::Passes(400_001),
+            Step::IsFree(0, true),
+            Step::Comes(0, NON, Came::Request, ""),
+            Step::Comes(0, NON, Came::Replayed, ""),
+            Step::Reserves,
+        ],
+    )
 }

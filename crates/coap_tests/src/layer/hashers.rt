@@ -1,6 +1,7 @@
-use super::{THERE, at_port, is_sent};
-use coap_layer::{Layer, Up};
-use coap_types::Moment;
+use super::came::Came;
+use super::steps::{Step, comes_to, take_steps};
+use super::{THERE, at_port};
+use coap_layer::Layer;
 use std::alloc::{AllocError, AllocGlobal, Global};
 use std::cell::Cell;
 use std::hash::{BuildHasher, FoldHasher, RandomState};
@@ -8,36 +9,47 @@ use std::io;
 use std::process::Abort;
 use std::test::*;
 
-const GET: &[u8] = &[0x40, 0x01, 0x00, 0x01];
+const GET: &str = "40010001";
 
-const CONTENT: &[u8] = &[0x60, 0x45, 0x00, 0x01];
+const CONTENT: &str = "60450001";
+
+// A request from each of so many ports is new.
+fn fills<R: Abort + AllocGlobal, S: BuildHasher>(
+    rt: &R,
+    layer: &mut Layer<Global, S>,
+    ports: u16,
+) -> Result<(), AllocError> {
+    for port in 0..ports {
+        comes_to(rt, layer, 0, at_port(port), GET, Came::Request)?;
+    }
+    Ok(())
+}
+
+// The first and the last are still remembered.
+fn remembers<R: Abort + AllocGlobal, S: BuildHasher>(
+    rt: &R,
+    layer: &mut Layer<Global, S>,
+    late: u64,
+) -> Result<(), AllocError> {
+    comes_to(rt, layer, late, at_port(0), GET, Came::Replayed)?;
+    comes_to(rt, layer, late, at_port(4_095), GET, Came::Replayed)
+}
 
 // A full table takes no message, and forgets none before its time.
 fn is_full_for_its_time<R: Abort + AllocGlobal, S: BuildHasher>(
     rt: &R,
     layer: &mut Layer<Global, S>,
 ) -> Result<(), AllocError> {
-    for port in 0..4_096 {
-        let up = layer.receive(Moment(0), at_port(port), GET)?;
-        assert!(rt; matches!(up, Up::Request { .. }));
-    }
-    let late = Moment(247_000);
-    assert!(rt; matches!(layer.receive(late, THERE, GET)?, Up::Dropped));
-    // The first and the last are still remembered.
-    assert!(rt; matches!(layer.receive(late, at_port(0), GET)?, Up::Replayed));
-    assert!(rt; matches!(layer.receive(late, at_port(4_095), GET)?, Up::Replayed));
-    assert!(rt; layer.next_out().is_none());
-    match layer.receive(Moment(247_001), THERE, GET)? {
-        Up::Request { message, .. } => {
-            let id = message.id();
-            layer.reply(THERE, id, CONTENT);
-            is_sent(rt, layer, THERE, CONTENT);
-        }
-        _ => assert!(rt; false, "no request"),
-    }
-    assert!(rt; matches!(layer.receive(Moment(247_001), THERE, GET)?, Up::Replayed));
-    is_sent(rt, layer, THERE, CONTENT);
-    Ok(())
+    fills(rt, layer, 4_096)?;
+    comes_to(rt, layer, 247_000, THERE, GET, Came::Dropped)?;
+    remembers(rt, layer, 247_000)?;
+    let steps = [
+        Step::Sends(""),
+        Step::Replies(247_001, GET, CONTENT),
+        Step::Sends(CONTENT),
+        Step::Comes(247_001, GET, Came::Replayed, CONTENT),
+    ];
+    take_steps(rt, layer, &steps)
 }
 
 #[test]
@@ -82,8 +94,7 @@ fn each_new_request_is_hashed(rt: HostRuntime) -> Result<(), AllocError> {
     let mut layer = Layer::with_hasher(rt.alloc(), 0, hasher);
     for port in 0..20 {
         uses.set(0);
-        let up = layer.receive(Moment(0), at_port(port), GET)?;
-        assert!(rt; matches!(up, Up::Request { .. }));
+        comes_to(&rt, &mut layer, 0, at_port(port), GET, Came::Request)?;
         assert!(rt; uses.get() > 0);
     }
     Ok(())

@@ -1,4 +1,12 @@
 use coap_types::{Block, MAX_NUM, Szx, block_law};
+use std::process::Abort;
+use std::test::*;
+
+// These bytes are that block.
+fn is_read<R: Abort>(rt: &R, bytes: &[u8], num: u32, more: bool, n: u8) {
+    let szx = Szx::new(n).expect(rt, "at most 6");
+    assert_eq!(rt; Block::read(bytes), Some(Block { num, more, szx }));
+}
 
 #[test]
 fn a_block_option_is_read(rt: HostRuntime) {
@@ -15,13 +23,17 @@ fn a_block_option_is_read(rt: HostRuntime) {
         (&[0xff, 0xff, 0xf6], 1_048_575, false, 6),
     ];
     for (bytes, num, more, n) in table {
-        let szx = Szx::new(n).expect(&rt, "at most 6");
-        assert_eq!(rt; Block::read(bytes), Some(Block { num, more, szx }));
+        is_read(&rt, bytes, num, more, n);
     }
     let refused: [&[u8]; 4] = [&[0x07], &[0x0f], &[0xff, 0xff], &[0, 0, 0, 0]];
     for bytes in refused {
         assert!(rt; Block::read(bytes).is_none());
     }
+    block_law();
+}
+
+#[test]
+fn a_block_has_a_number_of_20_bits(rt: HostRuntime) {
     let largest = (1 << 24) - 2;
     let szx = Szx::new(6);
     assert!(rt;
@@ -29,7 +41,6 @@ fn a_block_option_is_read(rt: HostRuntime) {
     );
     assert_eq!(rt; Block::of(largest + 1), None);
     assert_eq!(rt; Block::of(largest + 2), None);
-    block_law();
 }
 
 #[test]
