@@ -10,7 +10,7 @@ mod server;
 mod work;
 
 use std::hint::black_box;
-use work::Timed;
+use work::{Store, Timed};
 
 /// How many timings the least is taken of.
 const TIMINGS: usize = 301;
@@ -32,6 +32,8 @@ const BLOCKS: u32 = 64;
 enum Work {
     /// So many requests before those that are timed, so many milliseconds apart.
     Gets(u32, u64),
+    /// Of the last of 256 paths.
+    GetsOfMany(Store),
     /// The PUT of a body in blocks.
     Put,
     /// Its GET.
@@ -46,6 +48,7 @@ impl Work {
     fn of_proved(self) -> Timed {
         match self {
             Work::Gets(before, step) => proved::gets(before, REQUESTS, step),
+            Work::GetsOfMany(store) => proved::gets_of_many(store, REQUESTS),
             Work::Put => proved::bodies(&body())[0],
             Work::Get => proved::bodies(&body())[1],
         }
@@ -54,6 +57,7 @@ impl Work {
     fn of_plain(self) -> Timed {
         match self {
             Work::Gets(before, step) => plain::gets(before, REQUESTS, step),
+            Work::GetsOfMany(_) => plain::gets_of_many(REQUESTS),
             Work::Put => plain::bodies(&body())[0],
             Work::Get => plain::bodies(&body())[1],
         }
@@ -61,7 +65,7 @@ impl Work {
 
     fn exchanges(self) -> u32 {
         match self {
-            Work::Gets(..) => REQUESTS,
+            Work::Gets(..) | Work::GetsOfMany(_) => REQUESTS,
             Work::Put | Work::Get => BLOCKS,
         }
     }
@@ -105,6 +109,8 @@ fn rows() -> Vec<Row> {
         Row::new("GET, 4,000 to 4,064 remembered", Work::Gets(4_000, 0)),
         Row::new("PUT of 65,536 bytes, a block", Work::Put),
         Row::new("GET of 65,536 bytes, a block", Work::Get),
+        Row::new("GET, 256 paths in a list", Work::GetsOfMany(Store::List)),
+        Row::new("GET, 256 paths in a map", Work::GetsOfMany(Store::Map)),
         Row::new("GET, 2 remembered, one forgotten", Work::Gets(10, SPARSE)),
         Row::new(
             "GET, 3,984 remembered, one forgotten",

@@ -3,15 +3,18 @@
 use crate::client::{Client, Report};
 use crate::message::Endpoint;
 use crate::server::Server;
-use crate::work::{Timed, get_datagram};
+use crate::work::{GET_LAST, GET_ONE, Timed, numbered};
 use std::time::Instant;
 
 const CLIENT: Endpoint = ([127, 0, 0, 1], 40_001);
 const PATH: [&[u8]; 1] = [b"temperature"];
 const BODY: &[u8] = b"22.3 C";
 
-fn get(server: &mut Server, number: u32, now: u64) -> u64 {
-    server.feed(now, CLIENT, &get_datagram(number));
+/// How many paths a server holds at most.
+const MAX_PATHS: u32 = 256;
+
+fn get(server: &mut Server, datagram: &[u8], now: u64) -> u64 {
+    server.feed(now, CLIENT, datagram);
     server.next_out().map_or(0, |(_, bytes)| bytes.len() as u64)
 }
 
@@ -23,13 +26,27 @@ pub fn gets(before: u32, timed: u32, step: u64) -> Timed {
     let mut sum = 0;
     for number in 0..before {
         now += step;
-        sum += get(&mut server, number, now);
+        sum += get(&mut server, &numbered(GET_ONE, number), now);
     }
     let begin = Instant::now();
     for number in before..before + timed {
         now += step;
-        sum += get(&mut server, number, now);
+        sum += get(&mut server, &numbered(GET_ONE, number), now);
     }
+    let nanoseconds = begin.elapsed().as_nanos() as u64;
+    Timed { sum, nanoseconds }
+}
+
+/// The same as `proved::gets_of_many`, in a list.
+pub fn gets_of_many(timed: u32) -> Timed {
+    let mut server = Server::default();
+    for number in 0..MAX_PATHS {
+        server.set(&[PATH[0], &[number as u8]], BODY);
+    }
+    let begin = Instant::now();
+    let sum = (0..timed)
+        .map(|number| get(&mut server, &numbered(GET_LAST, number), 0))
+        .sum();
     let nanoseconds = begin.elapsed().as_nanos() as u64;
     Timed { sum, nanoseconds }
 }

@@ -1,6 +1,6 @@
 //! The proved ends, as the static library exports them.
 
-use crate::work::Timed;
+use crate::work::{Store, Timed};
 
 /// The library's functions, as `library.rt.in` declares them: a slice is a pointer and a length.
 mod library {
@@ -12,6 +12,10 @@ mod library {
             nanoseconds: &mut u64,
         ) -> u64;
 
+        pub safe fn coap_bench_in_map(timed: u32, nanoseconds: &mut u64) -> u64;
+
+        pub safe fn coap_bench_in_list(timed: u32, nanoseconds: &mut u64) -> u64;
+
         /// The length must be that of the memory at the pointer.
         pub fn coap_bench_bodies(body: *const u8, len: usize, put: &mut u64, get: &mut u64) -> u64;
     }
@@ -22,6 +26,17 @@ mod library {
 pub fn gets(before: u32, timed: u32, step: u64) -> Timed {
     let mut nanoseconds = 0;
     let sum = library::coap_bench_gets(before, timed, step, &mut nanoseconds);
+    Timed { sum, nanoseconds }
+}
+
+/// Hands a server that holds 256 paths, in that store, GET requests of the last: how many bytes go
+/// out.
+pub fn gets_of_many(store: Store, timed: u32) -> Timed {
+    let mut nanoseconds = 0;
+    let sum = match store {
+        Store::List => library::coap_bench_in_list(timed, &mut nanoseconds),
+        Store::Map => library::coap_bench_in_map(timed, &mut nanoseconds),
+    };
     Timed { sum, nanoseconds }
 }
 

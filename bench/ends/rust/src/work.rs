@@ -7,9 +7,21 @@ pub struct Timed {
     pub nanoseconds: u64,
 }
 
-/// A GET of `temperature` with a Message ID of its own.
-pub fn get_datagram(number: u32) -> [u8; 16] {
-    let mut datagram = *b"\x40\x01\0\0\xbbtemperature";
+/// Where a proved server holds what it has.
+#[derive(Clone, Copy)]
+pub enum Store {
+    List,
+    Map,
+}
+
+/// A GET of `temperature`.
+pub const GET_ONE: [u8; 16] = *b"\x40\x01\0\0\xbbtemperature";
+
+/// A GET of the last of many paths: `temperature`, and a byte.
+pub const GET_LAST: [u8; 18] = *b"\x40\x01\0\0\xbbtemperature\x01\xff";
+
+/// The datagram with a Message ID of its own.
+pub fn numbered<const N: usize>(mut datagram: [u8; N], number: u32) -> [u8; N] {
     let [_, _, high, low] = number.to_be_bytes();
     datagram[2] = high;
     datagram[3] = low;
