@@ -1,4 +1,3 @@
 mod client;
 mod hashers;
-mod notifications;
 mod server;

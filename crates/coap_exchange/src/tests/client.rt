@@ -1,14 +1,13 @@
-ghost use Rattle.std.specs.Prelude.{◌≡◌};
-
 mod steps;
 
-use crate::{Asker, Event, Turn};
-use coap_types::{Endpoint, Moment};
-use std::alloc::{AllocError, AllocGlobal, Global};
-use std::process::Abort;
+use coap_types::Endpoint;
+use std::alloc::AllocError;
 use std::test::*;
-use steps::Step::{Asks, Cancels, Gets, IsSilent, Keeps, Releases, Runs, Sends, Ticks};
-use steps::{Tells, Tick, ask, asked, from_asked, from_new, take_steps, token};
+use steps::Step::{
+    AnsweredInVain, Asks, Cancels, CopiesInVain, FailsInVain, Gets, IsSilent, Keeps, KeepsSixteen,
+    Releases, ReleasesInVain, Runs, Sends, Ticks,
+};
+use steps::{Tells, Tick, from_asked, from_new};
 
 const SERVER: Endpoint = Endpoint {
     ip: [127, 0, 0, 1],
@@ -196,18 +195,15 @@ fn one_exchange_runs(rt: HostRuntime) -> Result<(), AllocError> {
 
 #[test]
 fn sixteen_tokens_are_kept(rt: HostRuntime) -> Result<(), AllocError> {
-    let mut asker = Asker::new(rt.alloc(), SERVER, 0);
-    for number in 0..16 {
-        take_steps(&rt, &mut asker, &[Keeps(number, true)])?;
-    }
     let steps = [
+        KeepsSixteen,
         Keeps(16, false),
         Keeps(15, true),
         Releases(3, true),
         Releases(3, false),
         Keeps(16, true),
     ];
-    take_steps(&rt, &mut asker, &steps)
+    from_new(&rt, &steps)
 }
 
 #[test]
@@ -237,100 +233,44 @@ fn a_cancel_has_the_token_of_its_observation(rt: HostRuntime) -> Result<(), Allo
     from_new(&rt, &steps)
 }
 
-/// It keeps the first token and asks again.
-fn goes_on<R: Abort + AllocGlobal>(rt: &R, asker: &mut Asker<Global>, now: u64)
-    ensures { asker.new.before ≡ asker.old.before }
-{
-    assert!(rt; asker.keep(&token(rt, 0)));
-    assert_eq!(rt; ask(rt, asker, now, None), Ok(token(rt, 1)));
-}
-
-/// The answer comes, its token is kept and it asks again, and all of that is taken back.
-fn answered_in_vain<R: Abort + AllocGlobal>(
-    rt: &R,
-    asker: &mut Asker<Global>,
-) -> Result<(), AllocError> {
-    let is_told = asker.receive(Moment(5), SERVER, ANSWER)?.is_some();
-    assert!(rt; is_told);
-    goes_on(rt, asker, 5);
-    asker.undo();
-    Ok(())
-}
-
 #[test]
 fn an_arrival_and_what_came_since_are_taken_back(rt: HostRuntime) -> Result<(), AllocError> {
-    let mut asker = asked(&rt)?;
-    answered_in_vain(&rt, &mut asker)?;
     let steps = [
+        AnsweredInVain,
         Releases(0, false),
         IsSilent,
         Gets(5, SERVER, ANSWER, Tells::Answer),
         Asks(5, 1),
     ];
-    take_steps(&rt, &mut asker, &steps)
-}
-
-/// A notice comes and its token is released, and both are taken back.
-fn released_in_vain<R: Abort + AllocGlobal>(
-    rt: &R,
-    asker: &mut Asker<Global>,
-) -> Result<(), AllocError> {
-    let notice = asker.receive(Moment(5), SERVER, NOTIFICATION)?;
-    assert!(rt; matches!(notice, Some(Event::Notice(_))));
-    assert!(rt; asker.release(&token(rt, 0)));
-    asker.undo();
-    Ok(())
+    from_asked(&rt, &steps)
 }
 
 #[test]
 fn a_release_is_taken_back(rt: HostRuntime) -> Result<(), AllocError> {
-    let mut asker = Asker::new(rt.alloc(), SERVER, 0);
-    take_steps(&rt, &mut asker, &[Keeps(0, true)])?;
-    released_in_vain(&rt, &mut asker)?;
     let steps = [
+        Keeps(0, true),
+        ReleasesInVain,
         IsSilent,
         Gets(5, SERVER, NOTIFICATION, Tells::EmptyNotice),
         Sends(SERVER, &[0x60, 0, 0, 8]),
     ];
-    take_steps(&rt, &mut asker, &steps)
-}
-
-/// The request fails and it asks again, and both are taken back.
-fn failed_in_vain<R: Abort + AllocGlobal>(
-    rt: &R,
-    asker: &mut Asker<Global>,
-) -> Result<(), AllocError> {
-    assert!(rt; matches!(asker.tick(Moment(62_000))?, Turn::End(Event::Timeout)));
-    assert_eq!(rt; ask(rt, asker, 62_000, None), Ok(token(rt, 1)));
-    asker.undo();
-    assert_eq!(rt; asker.clock(), Moment(0));
-    Ok(())
-}
-
-/// A copy is sent, and that is taken back.
-fn copied_in_vain<R: Abort + AllocGlobal>(
-    rt: &R,
-    asker: &mut Asker<Global>,
-) -> Result<(), AllocError> {
-    assert!(rt; matches!(asker.tick(Moment(2_000))?, Turn::Copied));
-    asker.undo();
-    Ok(())
+    from_new(&rt, &steps)
 }
 
 #[test]
 fn a_tick_and_what_came_since_are_taken_back(rt: HostRuntime) -> Result<(), AllocError> {
-    let mut asker = asked(&rt)?;
-    failed_in_vain(&rt, &mut asker)?;
-    take_steps(&rt, &mut asker, &[IsSilent, Runs(0)])?;
-    copied_in_vain(&rt, &mut asker)?;
     let steps = [
+        FailsInVain,
+        IsSilent,
+        Runs(0),
+        CopiesInVain,
         IsSilent,
         Ticks(1_999, Tick::Idle),
         Ticks(2_000, Tick::Copied),
         Sends(SERVER, GET_T),
         Gets(2_001, SERVER, ANSWER, Tells::Answer),
     ];
-    take_steps(&rt, &mut asker, &steps)
+    from_asked(&rt, &steps)
 }
 
 #[test]

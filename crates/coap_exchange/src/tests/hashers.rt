@@ -162,6 +162,24 @@ fn a_request_is_handed_up_once_with_random_keys(rt: HostRuntime) -> io::Result<(
     Ok(())
 }
 
+/// Each new notification is hashed: those of Message IDs 8 to 27, in CONs.
+fn hashes_each_notification<R: Abort + AllocGlobal>(
+    rt: &R,
+    asker: &mut Asker<Global, Counts<'_>>,
+    uses: &Cell<u32>,
+) -> Result<(), AllocError> {
+    tells_a_response_once(rt, asker)?;
+    assert!(rt; asker.keep(&eight_zeros(rt)));
+    for id in 8..28 {
+        uses.set(0);
+        let bytes = [0x48, 0x45, 0, id, 0, 0, 0, 0, 0, 0, 0, 0, 0x61, id];
+        let told = asker.receive(Moment(7), SERVER, &bytes)?;
+        assert!(rt; matches!(told, Some(Event::Notice(_))));
+        assert!(rt; uses.get() > 0);
+    }
+    Ok(())
+}
+
 #[test]
 fn each_new_response_is_hashed(rt: HostRuntime) -> Result<(), AllocError> {
     let uses = Cell::new(0);
@@ -170,14 +188,22 @@ fn each_new_response_is_hashed(rt: HostRuntime) -> Result<(), AllocError> {
         hasher: FoldHasher::default(),
     };
     let mut asker = Asker::with_hasher(rt.alloc(), SERVER, 0, hasher);
-    tells_a_response_once(&rt, &mut asker)?;
-    // Notifications of Message IDs 8 to 27, in CONs.
-    assert!(rt; asker.keep(&eight_zeros(&rt)));
-    for id in 8..28 {
+    hashes_each_notification(&rt, &mut asker, &uses)
+}
+
+/// Each new request is hashed: those of Message IDs 1 to 20, in CONs.
+fn hashes_each_request<R: Abort + AllocGlobal>(
+    rt: &R,
+    answerer: &mut Answerer<Global, Counts<'_>>,
+    uses: &Cell<u32>,
+) -> Result<(), AllocError> {
+    hands_up_a_request_once(rt, answerer)?;
+    for id in 1..21 {
         uses.set(0);
-        let bytes = [0x48, 0x45, 0, id, 0, 0, 0, 0, 0, 0, 0, 0, 0x61, id];
-        let told = asker.receive(Moment(7), SERVER, &bytes)?;
-        assert!(rt; matches!(told, Some(Event::Notice(_))));
+        let is_request = answerer
+            .incoming(Moment(247_001), CLIENT, &[0x40, 0x01, 0, id])?
+            .is_some();
+        assert!(rt; is_request);
         assert!(rt; uses.get() > 0);
     }
     Ok(())
@@ -191,14 +217,5 @@ fn each_new_request_is_hashed(rt: HostRuntime) -> Result<(), AllocError> {
         hasher: FoldHasher::default(),
     };
     let mut answerer = Answerer::with_hasher(rt.alloc(), 0, hasher);
-    hands_up_a_request_once(&rt, &mut answerer)?;
-    for id in 1..21 {
-        uses.set(0);
-        let is_request = answerer
-            .incoming(Moment(247_001), CLIENT, &[0x40, 0x01, 0, id])?
-            .is_some();
-        assert!(rt; is_request);
-        assert!(rt; uses.get() > 0);
-    }
-    Ok(())
+    hashes_each_request(&rt, &mut answerer, &uses)
 }

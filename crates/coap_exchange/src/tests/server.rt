@@ -1,15 +1,16 @@
+mod notifications;
+mod notifying;
 mod steps;
 
-use crate::Answerer;
-use coap_types::{Endpoint, Moment};
-use std::alloc::{AllocError, AllocGlobal, Global};
-use std::process::Abort;
+use coap_types::Endpoint;
+use std::alloc::AllocError;
 use std::test::*;
 use steps::Step::{
-    Answers, AnswersInVain, Defers, DefersInVain, Ended, Ignores, IsSilent, NoneEnded, Notifies,
-    Responds, RespondsInVain, Sends, Ticks,
+    Answers, AnswersInVain, ClockIs, Defers, DefersInVain, DefersSixteen, Ended, EndsInVain,
+    Ignores, IgnoresInVain, IsSilent, NoneEnded, Responds, RespondsInVain, RespondsObserved, Sends,
+    Ticks,
 };
-use steps::{Tick, from_new, from_responded, has_ended, is_nothing, responded, take_steps};
+use steps::{Tick, from_new, from_responded};
 
 const CLIENT: Endpoint = Endpoint {
     ip: [127, 0, 0, 1],
@@ -31,6 +32,10 @@ const PIGGYBACKED: &[u8] = &[0x68, 0x45, 0, 0, 0, 0, 0, 0, 0, 0, 0, 0, 0xff, 0x6
 const ANSWER_NON: &[u8] = &[0x58, 0x45, 0, 0, 0, 0, 0, 0, 0, 0, 0, 0, 0xff, 0x68, 0x69];
 
 const SEPARATE: &[u8] = &[0x48, 0x45, 0, 0, 0, 0, 0, 0, 0, 0, 0, 0, 0xff, 0x68, 0x69];
+/// A notification of Message ID 0, with a token of eight zeros: 2.05, Observe 0 and `hi`.
+const NOTIFICATION: &[u8] = &[
+    0x48, 0x45, 0, 0, 0, 0, 0, 0, 0, 0, 0, 0, 0x60, 0xff, 0x68, 0x69,
+];
 /// The Empty acknowledgement and the Reset of Message ID 0.
 const EMPTY_ACK: &[u8] = &[0x60, 0, 0, 0];
 
@@ -71,16 +76,8 @@ fn a_deferred_request_is_responded_to(rt: HostRuntime) -> Result<(), AllocError>
 
 #[test]
 fn sixteen_requests_are_deferred(rt: HostRuntime) -> Result<(), AllocError> {
-    let mut answerer = Answerer::new(rt.alloc(), 0);
-    for id in 0..16 {
-        let (request, sent) = ([0x40, 0x01, 0, id], [0x60, 0, 0, id]);
-        let steps = [
-            Defers(0, CLIENT, &request, 1_000, true),
-            Sends(CLIENT, &sent),
-        ];
-        take_steps(&rt, &mut answerer, &steps)?;
-    }
     let steps = [
+        DefersSixteen,
         Defers(0, CLIENT, &[0x40, 0x01, 0, 16], 1_000, false),
         IsSilent,
         Answers(0, CLIENT, &[0x40, 0x01, 0, 17]),
@@ -89,7 +86,7 @@ fn sixteen_requests_are_deferred(rt: HostRuntime) -> Result<(), AllocError> {
         Sends(CLIENT, &[0x40, 0x45, 0, 0, 0xff, 0x68, 0x69]),
         Defers(1_000, CLIENT, &[0x40, 0x01, 0, 18], 1_000, true),
     ];
-    take_steps(&rt, &mut answerer, &steps)
+    from_new(&rt, &steps)
 }
 
 #[test]
@@ -155,43 +152,18 @@ fn a_failed_response_is_told_once(rt: HostRuntime) -> Result<(), AllocError> {
     from_responded(&rt, &steps)
 }
 
-/// The end of the response is told, and that is taken back.
-fn ended_in_vain<R: Abort + AllocGlobal>(
-    rt: &R,
-    answerer: &mut Answerer<Global>,
-) -> Result<(), AllocError> {
-    is_nothing(rt, answerer, 1_001, CLIENT, RESET)?;
-    has_ended(rt, answerer, false);
-    answerer.undo();
-    assert!(rt; answerer.ended().is_none());
-    Ok(())
-}
-
-/// A Reset from elsewhere tells of no end, and is taken back.
-fn ignored_in_vain<R: Abort + AllocGlobal>(
-    rt: &R,
-    answerer: &mut Answerer<Global>,
-) -> Result<(), AllocError> {
-    is_nothing(rt, answerer, 3_001, OTHER, RESET)?;
-    assert!(rt; answerer.ended().is_none());
-    answerer.undo();
-    Ok(())
-}
-
 #[test]
 fn an_end_is_taken_back(rt: HostRuntime) -> Result<(), AllocError> {
-    let mut answerer = responded(&rt)?;
-    ended_in_vain(&rt, &mut answerer)?;
     let steps = [
+        EndsInVain,
         Ticks(3_000, Tick::Copied),
         Sends(CLIENT, SEPARATE),
         Ignores(3_001, CLIENT, RESET),
+        // What comes next tells of no end, and with it taken back the end is told as before.
+        IgnoresInVain,
+        Ended(false),
     ];
-    take_steps(&rt, &mut answerer, &steps)?;
-    // What comes next tells of no end, and with it taken back the end is told as before.
-    ignored_in_vain(&rt, &mut answerer)?;
-    has_ended(&rt, &answerer, false);
-    Ok(())
+    from_responded(&rt, &steps)
 }
 
 #[test]
@@ -199,7 +171,7 @@ fn the_end_of_a_notification_is_told(rt: HostRuntime) -> Result<(), AllocError> 
     let steps = [
         Defers(0, CLIENT, GET_T, 0, true),
         Sends(CLIENT, EMPTY_ACK),
-        Notifies(0, 0),
+        RespondsObserved(0, 0),
         Ignores(1, CLIENT, RESET),
         Ended(true),
     ];
@@ -208,7 +180,6 @@ fn the_end_of_a_notification_is_told(rt: HostRuntime) -> Result<(), AllocError> 
 
 #[test]
 fn an_arrival_and_what_came_since_are_taken_back(rt: HostRuntime) -> Result<(), AllocError> {
-    let mut answerer = Answerer::new(rt.alloc(), 0);
     let steps = [
         AnswersInVain,
         DefersInVain,
@@ -218,8 +189,7 @@ fn an_arrival_and_what_came_since_are_taken_back(rt: HostRuntime) -> Result<(), 
         RespondsInVain,
         Responds(1_000, 0),
         Sends(CLIENT, SEPARATE),
+        ClockIs(1_000),
     ];
-    take_steps(&rt, &mut answerer, &steps)?;
-    assert_eq!(rt; answerer.clock(), Moment(1_000));
-    Ok(())
+    from_new(&rt, &steps)
 }

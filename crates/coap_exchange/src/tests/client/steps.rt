@@ -1,6 +1,6 @@
 ghost use Rattle.std.specs.Prelude.{◌≡◌};
 
-use super::{GET_T, SERVER};
+use super::{ANSWER, GET_T, NOTIFICATION, SERVER};
 use crate::{Ask, AskRefusal, Asker, Event, Turn, askable_law};
 use coap_types::option_number::URI_PATH;
 use coap_types::{Endpoint, Method, Moment, Opt, Token};
@@ -50,10 +50,20 @@ pub(super) enum Step<'a> {
     Keeps(u8, bool),
     /// It releases the token of this number, or not, since it is not kept.
     Releases(u8, bool),
+    /// It keeps the tokens of the numbers 0 to 15.
+    KeepsSixteen,
+    /// The answer comes, its token is kept and it asks again, and all of that is taken back.
+    AnsweredInVain,
+    /// A notice comes and its token is released, and both are taken back.
+    ReleasesInVain,
+    /// The request fails and it asks again, and both are taken back.
+    FailsInVain,
+    /// A copy is sent, and that is taken back.
+    CopiesInVain,
 }
 
 /// Asks for `t`, with the token of an observation that is cancelled or a fresh one.
-pub(super) fn ask<R: Abort + AllocGlobal>(
+fn ask<R: Abort + AllocGlobal>(
     rt: &R,
     asker: &mut Asker<Global>,
     now: u64,
@@ -75,7 +85,7 @@ pub(super) fn ask<R: Abort + AllocGlobal>(
     asker.ask(Moment(now), &get, 0)
 }
 
-pub(super) fn token<R: Abort>(rt: &R, number: u8) -> Token {
+fn token<R: Abort>(rt: &R, number: u8) -> Token {
     Token::new(&[0, 0, 0, 0, 0, 0, 0, number]).expect(rt, "8 bytes")
 }
 
@@ -151,6 +161,67 @@ fn releases<R: Abort>(rt: &R, asker: &mut Asker<Global>, number: u8, was: bool) 
     assert_eq!(rt; asker.release(&token(rt, number)), was);
 }
 
+/// It keeps 16 tokens.
+fn keep_sixteen<R: Abort>(rt: &R, asker: &mut Asker<Global>) {
+    for number in 0..16 {
+        keeps(rt, asker, number, true);
+    }
+}
+
+/// It keeps the first token and asks again.
+fn goes_on<R: Abort + AllocGlobal>(rt: &R, asker: &mut Asker<Global>, now: u64)
+    ensures { asker.new.before ≡ asker.old.before }
+{
+    assert!(rt; asker.keep(&token(rt, 0)));
+    assert_eq!(rt; ask(rt, asker, now, None), Ok(token(rt, 1)));
+}
+
+/// The answer comes, its token is kept and it asks again, and all of that is taken back.
+fn answer_in_vain<R: Abort + AllocGlobal>(
+    rt: &R,
+    asker: &mut Asker<Global>,
+) -> Result<(), AllocError> {
+    let is_told = asker.receive(Moment(5), SERVER, ANSWER)?.is_some();
+    assert!(rt; is_told);
+    goes_on(rt, asker, 5);
+    asker.undo();
+    Ok(())
+}
+
+/// A notice comes and its token is released, and both are taken back.
+fn release_in_vain<R: Abort + AllocGlobal>(
+    rt: &R,
+    asker: &mut Asker<Global>,
+) -> Result<(), AllocError> {
+    let notice = asker.receive(Moment(5), SERVER, NOTIFICATION)?;
+    assert!(rt; matches!(notice, Some(Event::Notice(_))));
+    assert!(rt; asker.release(&token(rt, 0)));
+    asker.undo();
+    Ok(())
+}
+
+/// The request fails and it asks again, and both are taken back.
+fn fail_in_vain<R: Abort + AllocGlobal>(
+    rt: &R,
+    asker: &mut Asker<Global>,
+) -> Result<(), AllocError> {
+    assert!(rt; matches!(asker.tick(Moment(62_000))?, Turn::End(Event::Timeout)));
+    assert_eq!(rt; ask(rt, asker, 62_000, None), Ok(token(rt, 1)));
+    asker.undo();
+    assert_eq!(rt; asker.clock(), Moment(0));
+    Ok(())
+}
+
+/// A copy is sent, and that is taken back.
+fn copy_in_vain<R: Abort + AllocGlobal>(
+    rt: &R,
+    asker: &mut Asker<Global>,
+) -> Result<(), AllocError> {
+    assert!(rt; matches!(asker.tick(Moment(2_000))?, Turn::Copied));
+    asker.undo();
+    Ok(())
+}
+
 fn take_step<R: Abort + AllocGlobal>(
     rt: &R,
     asker: &mut Asker<Global>,
@@ -166,12 +237,17 @@ fn take_step<R: Abort + AllocGlobal>(
         Step::Ticks(now, tick) => ticks(rt, asker, now, tick)?,
         Step::Keeps(number, kept) => keeps(rt, asker, number, kept),
         Step::Releases(number, was) => releases(rt, asker, number, was),
+        Step::KeepsSixteen => keep_sixteen(rt, asker),
+        Step::AnsweredInVain => answer_in_vain(rt, asker)?,
+        Step::ReleasesInVain => release_in_vain(rt, asker)?,
+        Step::FailsInVain => fail_in_vain(rt, asker)?,
+        Step::CopiesInVain => copy_in_vain(rt, asker)?,
     }
     Ok(())
 }
 
 /// A client's side takes the steps, one after the other.
-pub(super) fn take_steps<R: Abort + AllocGlobal>(
+fn take_steps<R: Abort + AllocGlobal>(
     rt: &R,
     asker: &mut Asker<Global>,
     steps: &[Step<'_>],
@@ -180,17 +256,6 @@ pub(super) fn take_steps<R: Abort + AllocGlobal>(
         take_step(rt, asker, *step)?;
     }
     Ok(())
-}
-
-/// A client's side that asked for `t` at 0.
-pub(super) fn asked<R: Abort + AllocGlobal>(rt: &R) -> Result<Asker<Global>, AllocError> {
-    let mut asker = Asker::new(rt.alloc(), SERVER, 0);
-    take_steps(
-        rt,
-        &mut asker,
-        &[Step::Asks(0, 0), Step::Sends(SERVER, GET_T)],
-    )?;
-    Ok(asker)
 }
 
 /// A new client's side takes the steps.
@@ -207,6 +272,16 @@ pub(super) fn from_asked<R: Abort + AllocGlobal>(
     rt: &R,
     steps: &[Step<'_>],
 ) -> Result<(), AllocError> {
-    let mut asker = asked(rt)?;
-    take_steps(rt, &mut asker, steps)
+    let mut asker = Asker::new(rt.alloc(), SERVER, 0);
+    ask_and_take(rt, &mut asker, steps)
+}
+
+fn ask_and_take<R: Abort + AllocGlobal>(
+    rt: &R,
+    asker: &mut Asker<Global>,
+    steps: &[Step<'_>],
+) -> Result<(), AllocError> {
+    let first = [Step::Asks(0, 0), Step::Sends(SERVER, GET_T)];
+    take_steps(rt, asker, &first)?;
+    take_steps(rt, asker, steps)
 }

@@ -1,19 +1,23 @@
 ghost use Rattle.std.specs.Prelude.{IsSome, OnOk};
 
-use super::{CLIENT, EMPTY_ACK, GET_T, SEPARATE};
+use super::notifying::{
+    answer_after_ready, notify, notify_after_taking, notify_gone, notify_in_vain, respond_observed,
+};
+use super::{CLIENT, EMPTY_ACK, GET_T, NOTIFICATION, OTHER, RESET, SEPARATE};
 use crate::{Answerer, Due, Response, answerable_law};
-use coap_types::option_number::OBSERVE;
-use coap_types::{Code, Endpoint, Id, Kind, Moment, Opt};
+use coap_types::{Code, Endpoint, Id, Kind, Moment};
 use std::alloc::{AllocError, AllocGlobal, Global};
 use std::process::Abort;
 use std::test::*;
 
-/// What a tick is to say, where it hands no request up.
+/// What a tick is to say.
 #[derive(Clone, Copy)]
 pub(super) enum Tick {
     Idle,
     Copied,
     Expired,
+    /// A deferred request is ready.
+    Ready,
 }
 
 /// What a server's side does, from the moment on that stands first.
@@ -23,10 +27,25 @@ pub(super) enum Step<'a> {
     Answers(u64, Endpoint, &'a [u8]),
     /// It gets a request from there, and defers it by that time, or not, since 16 are deferred.
     Defers(u64, Endpoint, &'a [u8], u64, bool),
+    /// It gets 16 requests from the client, of Message IDs 0 to 15, acknowledges each, and defers
+    /// it by 1,000 ms.
+    DefersSixteen,
     /// It responds to the deferred request that is ready, with this Message ID.
     Responds(u64, u16),
     /// The same, with Observe.
-    Notifies(u64, u16),
+    RespondsObserved(u64, u16),
+    /// It notifies that endpoint, with this Message ID.
+    Notifies(u64, Endpoint, u16),
+    /// The same, that the resource is gone.
+    NotifiesGone(u64, Endpoint, u16),
+    /// It notifies the other endpoint that the resource is gone, with this Message ID, after what
+    /// waits was taken.
+    NotifiesAfterTaking(u16),
+    /// Whether a notification could be sent there.
+    IsReady(u64, Endpoint, bool),
+    /// It answers the request from the client, after it was asked whether a notification could be
+    /// sent to the other endpoint.
+    AnswersAfterReady,
     /// It gets a datagram from there, which brings no request.
     Ignores(u64, Endpoint, &'a [u8]),
     /// What it sends next goes there and has these bytes.
@@ -34,7 +53,7 @@ pub(super) enum Step<'a> {
     /// It sends nothing.
     IsSilent,
     Ticks(u64, Tick),
-    /// The response to the client has ended, and carried Observe or not.
+    /// What was sent to the client has ended, and carried Observe or not.
     Ended(bool),
     /// None has ended.
     NoneEnded,
@@ -42,6 +61,14 @@ pub(super) enum Step<'a> {
     AnswersInVain,
     DefersInVain,
     RespondsInVain,
+    /// It lets time pass and notifies the client, and that is taken back.
+    NotifiesInVain,
+    /// It is told that its response has ended, and that is taken back.
+    EndsInVain,
+    /// It gets a Reset from elsewhere, which tells of no end, and that is taken back.
+    IgnoresInVain,
+    /// The last moment that counted.
+    ClockIs(u64),
 }
 
 /// Answers the request with 2.05 and `hi`.
@@ -90,6 +117,18 @@ fn defer<R: Abort + AllocGlobal>(
     }
 }
 
+/// Defers 16 requests by 1,000 ms.
+fn defer_sixteen<R: Abort + AllocGlobal>(
+    rt: &R,
+    answerer: &mut Answerer<Global>,
+) -> Result<(), AllocError> {
+    for id in 0..16 {
+        assert!(rt; defer(rt, answerer, 0, CLIENT, &[0x40, 0x01, 0, id], 1_000)?);
+        is_sent(rt, answerer, CLIENT, &[0x60, 0, 0, id]);
+    }
+    Ok(())
+}
+
 /// Responds to the deferred request that is ready, with 2.05 and `hi`.
 fn respond<R: Abort + AllocGlobal>(
     rt: &R,
@@ -102,32 +141,6 @@ fn respond<R: Abort + AllocGlobal>(
     let hi = Response {
         code: Code::CONTENT,
         options: &[],
-        payload: b"hi",
-    };
-    let due = answerer.tick(Moment(now))?;
-    match due {
-        Due::Ready(asked) => {
-            let _few = asked.token.as_slice();
-            Ok(answerer.respond(Moment(now), &asked, &hi, 0))
-        }
-        _ => panic!(rt; "none is ready"),
-    }
-}
-
-/// Responds with 2.05, Observe and `hi`.
-fn notify<R: Abort + AllocGlobal>(
-    rt: &R,
-    answerer: &mut Answerer<Global>,
-    now: u64,
-) -> Result<Id, AllocError> {
-    answerable_law();
-    let options = [Opt {
-        number: OBSERVE,
-        value: b"",
-    }];
-    let hi = Response {
-        code: Code::CONTENT,
-        options: &options,
         payload: b"hi",
     };
     let due = answerer.tick(Moment(now))?;
@@ -153,12 +166,12 @@ fn is_sent<R: Abort + AllocGlobal>(
 }
 
 /// Nothing is to be sent.
-fn is_silent<R: Abort + AllocGlobal>(rt: &R, answerer: &mut Answerer<Global>) {
+pub(super) fn is_silent<R: Abort + AllocGlobal>(rt: &R, answerer: &mut Answerer<Global>) {
     assert!(rt; answerer.next_out().is_none());
 }
 
 /// The datagram brings no request.
-pub(super) fn is_nothing<R: Abort + AllocGlobal>(
+fn is_nothing<R: Abort + AllocGlobal>(
     rt: &R,
     answerer: &mut Answerer<Global>,
     now: u64,
@@ -171,8 +184,8 @@ pub(super) fn is_nothing<R: Abort + AllocGlobal>(
     Ok(())
 }
 
-/// The separate response to the client has ended, and carried Observe or not.
-pub(super) fn has_ended<R: Abort>(rt: &R, answerer: &Answerer<Global>, observe: bool) {
+/// What was sent to the client has ended, and carried Observe or not.
+fn has_ended<R: Abort>(rt: &R, answerer: &Answerer<Global>, observe: bool) {
     let ended = answerer.ended().expect(rt, "an end");
     assert_eq!(rt; ended.to, CLIENT);
     assert_eq!(rt; ended.token.as_slice(), [0; 8].as_slice());
@@ -212,6 +225,29 @@ fn respond_in_vain<R: Abort + AllocGlobal>(
     Ok(())
 }
 
+/// The end of the response is told, and that is taken back.
+fn end_in_vain<R: Abort + AllocGlobal>(
+    rt: &R,
+    answerer: &mut Answerer<Global>,
+) -> Result<(), AllocError> {
+    is_nothing(rt, answerer, 1_001, CLIENT, RESET)?;
+    has_ended(rt, answerer, false);
+    answerer.undo();
+    assert!(rt; answerer.ended().is_none());
+    Ok(())
+}
+
+/// A Reset from elsewhere tells of no end, and is taken back.
+fn ignore_in_vain<R: Abort + AllocGlobal>(
+    rt: &R,
+    answerer: &mut Answerer<Global>,
+) -> Result<(), AllocError> {
+    is_nothing(rt, answerer, 3_001, OTHER, RESET)?;
+    assert!(rt; answerer.ended().is_none());
+    answerer.undo();
+    Ok(())
+}
+
 /// The tick says that.
 fn ticks<R: Abort + AllocGlobal>(
     rt: &R,
@@ -220,11 +256,32 @@ fn ticks<R: Abort + AllocGlobal>(
     tick: Tick,
 ) -> Result<(), AllocError> {
     match (answerer.tick(Moment(now))?, tick) {
-        (Due::Idle, Tick::Idle) | (Due::Copied, Tick::Copied) | (Due::Expired, Tick::Expired) => Ok(
-            (),
-        ),
+        (Due::Idle, Tick::Idle)
+        | (Due::Copied, Tick::Copied)
+        | (Due::Expired, Tick::Expired)
+        | (Due::Ready(_), Tick::Ready) => Ok(()),
         _ => panic!(rt; "it says something else"),
     }
+}
+
+/// The Message ID is this one.
+fn is_id<R: Abort>(rt: &R, id: Id, number: u16) {
+    assert_eq!(rt; id, Id(number));
+}
+
+/// The answer is that one.
+fn is_said<R: Abort>(rt: &R, said: bool, expected: bool) {
+    assert_eq!(rt; said, expected);
+}
+
+/// None has ended.
+fn none_ended<R: Abort>(rt: &R, answerer: &Answerer<Global>) {
+    assert!(rt; answerer.ended().is_none());
+}
+
+/// The last moment that counted is this one.
+fn clock_is<R: Abort>(rt: &R, answerer: &Answerer<Global>, now: u64) {
+    assert_eq!(rt; answerer.clock(), Moment(now));
 }
 
 fn take_step<R: Abort + AllocGlobal>(
@@ -235,25 +292,35 @@ fn take_step<R: Abort + AllocGlobal>(
     match step {
         Step::Answers(now, from, bytes) => answer(rt, answerer, now, from, bytes)?,
         Step::Defers(now, from, bytes, delay, deferred) => {
-            assert_eq!(rt; defer(rt, answerer, now, from, bytes, delay)?, deferred);
+            is_said(rt, defer(rt, answerer, now, from, bytes, delay)?, deferred);
         }
-        Step::Responds(now, id) => assert_eq!(rt; respond(rt, answerer, now)?, Id(id)),
-        Step::Notifies(now, id) => assert_eq!(rt; notify(rt, answerer, now)?, Id(id)),
+        Step::DefersSixteen => defer_sixteen(rt, answerer)?,
+        Step::Responds(now, id) => is_id(rt, respond(rt, answerer, now)?, id),
+        Step::RespondsObserved(now, id) => is_id(rt, respond_observed(rt, answerer, now)?, id),
+        Step::Notifies(now, to, id) => is_id(rt, notify(rt, answerer, now, to)?, id),
+        Step::NotifiesGone(now, to, id) => is_id(rt, notify_gone(rt, answerer, now, to)?, id),
+        Step::NotifiesAfterTaking(id) => is_id(rt, notify_after_taking(rt, answerer)?, id),
+        Step::IsReady(now, to, ready) => is_said(rt, answerer.ready(Moment(now), to)?, ready),
+        Step::AnswersAfterReady => answer_after_ready(rt, answerer)?,
         Step::Ignores(now, from, bytes) => is_nothing(rt, answerer, now, from, bytes)?,
         Step::Sends(to, bytes) => is_sent(rt, answerer, to, bytes),
         Step::IsSilent => is_silent(rt, answerer),
         Step::Ticks(now, tick) => ticks(rt, answerer, now, tick)?,
         Step::Ended(observe) => has_ended(rt, answerer, observe),
-        Step::NoneEnded => assert!(rt; answerer.ended().is_none()),
+        Step::NoneEnded => none_ended(rt, answerer),
+        Step::ClockIs(now) => clock_is(rt, answerer, now),
         Step::AnswersInVain => answer_in_vain(rt, answerer)?,
         Step::DefersInVain => defer_in_vain(rt, answerer)?,
         Step::RespondsInVain => respond_in_vain(rt, answerer)?,
+        Step::NotifiesInVain => notify_in_vain(rt, answerer)?,
+        Step::EndsInVain => end_in_vain(rt, answerer)?,
+        Step::IgnoresInVain => ignore_in_vain(rt, answerer)?,
     }
     Ok(())
 }
 
 /// A server's side takes the steps, one after the other.
-pub(super) fn take_steps<R: Abort + AllocGlobal>(
+fn take_steps<R: Abort + AllocGlobal>(
     rt: &R,
     answerer: &mut Answerer<Global>,
     steps: &[Step<'_>],
@@ -273,24 +340,49 @@ pub(super) fn from_new<R: Abort + AllocGlobal>(
     take_steps(rt, &mut answerer, steps)
 }
 
-/// A server's side that deferred the request from 0 by 1,000 ms, and responds at 1,000.
-pub(super) fn responded<R: Abort + AllocGlobal>(rt: &R) -> Result<Answerer<Global>, AllocError> {
+/// A new server's side first takes some steps, and then the others.
+fn from_first<R: Abort + AllocGlobal>(
+    rt: &R,
+    first: &[Step<'_>],
+    steps: &[Step<'_>],
+) -> Result<(), AllocError> {
     let mut answerer = Answerer::new(rt.alloc(), 0);
-    let steps = [
+    take_both(rt, &mut answerer, first, steps)
+}
+
+fn take_both<R: Abort + AllocGlobal>(
+    rt: &R,
+    answerer: &mut Answerer<Global>,
+    first: &[Step<'_>],
+    steps: &[Step<'_>],
+) -> Result<(), AllocError> {
+    take_steps(rt, answerer, first)?;
+    take_steps(rt, answerer, steps)
+}
+
+/// A server's side that deferred the request from 0 by 1,000 ms, and responded at 1,000, takes the
+/// steps.
+pub(super) fn from_responded<R: Abort + AllocGlobal>(
+    rt: &R,
+    steps: &[Step<'_>],
+) -> Result<(), AllocError> {
+    let first = [
         Step::Defers(0, CLIENT, GET_T, 1_000, true),
         Step::Sends(CLIENT, EMPTY_ACK),
         Step::Responds(1_000, 0),
         Step::Sends(CLIENT, SEPARATE),
     ];
-    take_steps(rt, &mut answerer, &steps)?;
-    Ok(answerer)
+    from_first(rt, &first, steps)
 }
 
-/// The same takes the steps.
-pub(super) fn from_responded<R: Abort + AllocGlobal>(
+/// One that notified the client at 0 takes them.
+pub(super) fn from_notified<R: Abort + AllocGlobal>(
     rt: &R,
     steps: &[Step<'_>],
 ) -> Result<(), AllocError> {
-    let mut answerer = responded(rt)?;
-    take_steps(rt, &mut answerer, steps)
+    let first = [
+        Step::Notifies(0, CLIENT, 0),
+        Step::Sends(CLIENT, NOTIFICATION),
+    ];
+    from_first(rt, &first, steps)
 }

@@ -1,5 +1,5 @@
 use Rattle.std.proofs.Common.{[], ◌∷◌, refl, arith}
-use Rattle.coap_exchange.proofs.tests.notifications.answer_after_ready.Goals as goal
+use Rattle.coap_exchange.proofs.tests.server.notifying.answer_after_ready.Goals as goal
 
 pub answer-requires-clause-response : goal.answer-requires-clause-response
 answer-requires-clause-response g c =

@@ -1,5 +1,5 @@
 use Rattle.std.proofs.Common.{[], ◌∷◌, refl, arith}
-use Rattle.coap_exchange.proofs.tests.server.steps.notify.Goals as goal
+use Rattle.coap_exchange.proofs.tests.server.notifying.respond_observed.Goals as goal
 
 pub respond-requires-clause-may : goal.respond-requires-clause-may
 respond-requires-clause-may g c = c.in_ok-due.ensures.ready c.in-Ready.asked c.in-Ready.is

@@ -1,5 +1,5 @@
 use Rattle.std.proofs.Common.{[], refl, arith}
-use Rattle.coap_exchange.proofs.tests.notifications.notify_after_taking.Goals as goal
+use Rattle.coap_exchange.proofs.tests.server.notifying.notify_gone.Goals as goal
 
 pub notify-requires-clause-response : goal.notify-requires-clause-response
 notify-requires-clause-response g c =
@@ -14,6 +14,3 @@ notify-requires-clause-response g c =
       short = refl;
       fits = omega arith;
     })
-
-pub notify-requires-clause-may : goal.notify-requires-clause-may
-notify-requires-clause-may g c = c.next_out.ensures.kept 0 _ (c.in_ok-ready.ensures.may c.if-branch.true)

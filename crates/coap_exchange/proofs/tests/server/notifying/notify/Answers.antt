@@ -1,5 +1,5 @@
 use Rattle.std.proofs.Common.{[], ◌∷◌, refl, arith}
-use Rattle.coap_exchange.proofs.tests.notifications.notify.Goals as goal
+use Rattle.coap_exchange.proofs.tests.server.notifying.notify.Goals as goal
 
 pub notify-requires-clause-response : goal.notify-requires-clause-response
 notify-requires-clause-response g c =
