@@ -12,7 +12,7 @@ use std::mem;
 #[derive_where(Debug)]
 pub(crate) struct Gathering<A: Allocator> {
     own: Vec<u8, A>,
-    /// In place of `own`: the front of the body that was given out.
+    // In place of `own`: the front of the body that was given out.
     shared: Option<Bytes<A>>,
 }
 

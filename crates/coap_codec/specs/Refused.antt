@@ -4,6 +4,7 @@ use Rattle.std.specs.List.{list_all}
 use Rattle.coap_types.specs.CoapOption.{CoapOption}
 use Rattle.coap_types.specs.declared.message.TheConstants.Code.{EMPTY as empty_code}
 use Rattle.coap_codec.specs.Message.{Message, Spells}
+use Rattle.coap_codec.specs.declared.nibble.TheConstants.{MAX_EXTENDED as max_extended}
 use Rattle.coap_codec.specs.declared.encoder.Refusal.{Refusal}
 use Rattle.coap_codec.specs.declared.encoder.Refusal.TheVariants.{NoRoom, OptionOrder, OptionTooLong, EmptyNotBare}
 
@@ -30,9 +31,9 @@ abbrev pub ascends : ℕ → List CoapOption → Bool
 ascends base [] = true
 ascends base (option ∷ options) = nat_le base option.number && ascends option.number options
 
--- The value is at most 65804 bytes long, the longest that an extended length says.
+-- The value is at most 65,804 bytes long, the longest that an extended length says.
 abbrev pub is_short : CoapOption → Bool
-is_short option = nat_le (length option.value) 65804
+is_short option = nat_le (length option.value) max_extended
 
 -- The message is refused for this room. Each case says what the cases before it leave.
 abbrev pub Refused : Refusal → Message → ℕ → Type 0

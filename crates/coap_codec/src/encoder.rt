@@ -2,6 +2,7 @@ ghost use Rattle.std.specs.Prelude.{◌≡◌, ◌≤◌, true, length, take, dr
 ghost use Rattle.std.specs.Prelude.{OnErr, ◌↔◌};
 ghost use Rattle.std.specs.List.{list_all};
 ghost use Rattle.coap_types.specs.CoapOption.{options_of};
+ghost use Rattle.coap_types.specs.declared.token.TheConstants.{MAX_TOKEN_LEN as max_token_len};
 ghost use Rattle.coap_codec.specs.Message.{Spells, message};
 ghost use Rattle.coap_codec.specs.Refused.{HasNoSpelling, IsEmptyNotBare, Refused, ascends, is_short, refusal_number};
 ghost use Rattle.coap_codec.specs.Writing.{Puts, IsWritable, spelled_length};
@@ -83,7 +84,7 @@ fn is_empty_not_bare(head: &Head, options: &[Opt<'_>], payload: &[u8]) -> bool
 
 // There is room for a message with this token.
 fn has_room(token: &[u8], options: &[Opt<'_>], payload: &[u8], room: usize) -> bool
-    requires token { length token.now ≤ 8 }
+    requires token { length token.now ≤ max_token_len }
     requires order { ascends 0 (options_of options.now) ≡ true }
     requires short { list_all is_short (options_of options.now) ≡ true }
     ensures { result ≡ nat_le (spelled_length token.now (options_of options.now) payload.now) room }

@@ -1,4 +1,5 @@
 ghost use Rattle.std.specs.Prelude.{◌≡◌, ◌≤◌, ◌<◌, ◌^◌, true, length};
+ghost use Rattle.coap_types.specs.declared.token.TheConstants.{MAX_TOKEN_LEN as max_token_len};
 ghost use Rattle.coap_codec.specs.Message.{HasSpelling};
 ghost use Rattle.coap_codec.specs.Refused.{ascends};
 
@@ -53,7 +54,7 @@ impl<'a> View<'a> {
     /// The token, of 0 to 8 bytes.
     pub fn token(&self) -> &'a [u8]
         ensures bytes { result.now ≡ self.now.token }
-        ensures few { length result.now ≤ 8 }
+        ensures few { length result.now ≤ max_token_len }
     {
         self.token
     }

@@ -11,14 +11,14 @@ use std::alloc::Global;
 use std::hash::{BuildHasherDefault, FoldHasher};
 use std::io::Write;
 
-/// The word that the server begins with, and that it is handed with the datagram.
+// The word that the server begins with, and that it is handed with the datagram.
 const WORD: u64 = 0;
-/// When the datagram comes.
+// When the datagram comes.
 const ARRIVAL: Moment = Moment(0);
 
 const _: () = prove!(WORD == 0 && ARRIVAL.0 == 0);
 
-/// Where the datagram comes from.
+// Where the datagram comes from.
 const PEER: Endpoint = Endpoint {
     ip: [127, 0, 0, 1],
     port: 40_001,

@@ -14,7 +14,7 @@ use coap_types::{Endpoint, MAX_SZX, Moment, Path, Szx};
 use std::alloc::Global;
 use std::hash::BuildHasher;
 
-/// Content-Format 0: text/plain (RFC 7252, section 12.3).
+// Content-Format 0: text/plain (RFC 7252, section 12.3).
 const TEXT_PLAIN: u16 = 0;
 
 const _: () = prove!(TEXT_PLAIN == 0);

@@ -8,7 +8,7 @@ use coap_world::Event;
 pub use refusal::ScriptRefusal;
 use std::alloc::Allocator;
 
-/// What ends a line.
+// What ends a line.
 const LINE_END: u8 = b'\n';
 
 /// The events that the lines of a script say, in its order. Behind its last line there may be a line

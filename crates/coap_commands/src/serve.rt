@@ -43,7 +43,7 @@ pub fn serve_over<A: Allocator + Copy, E: End<A>, L: Link, T: Timekeeper, W: Wri
     Ok(Status::Done)
 }
 
-/// The resource that is served, and what it holds.
+// The resource that is served, and what it holds.
 const PATH: &str = "temperature";
 
 const BODY: &str = "22.3 C";

@@ -13,7 +13,7 @@ use std::io::{ErrorKind, Read, Write};
 use std::rt::Files;
 use std::{fs, io};
 
-/// The word that each end begins with.
+// The word that each end begins with.
 const WORD: u64 = 0;
 
 const _: () = prove!(WORD == 0);

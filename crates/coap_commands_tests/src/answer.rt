@@ -6,7 +6,7 @@ use std::random::RandomSource;
 use std::rt::{Clock, Files};
 use std::test::Fail;
 
-/// A datagram to a server that holds `hi` at `t`, and what is printed.
+// A datagram to a server that holds `hi` at `t`, and what is printed.
 type Reply<'a> = (&'a str, &'a str);
 
 fn check_replies<R: Abort + AllocGlobal + Files + Net + Clock + RandomSource>(
@@ -19,11 +19,11 @@ fn check_replies<R: Abort + AllocGlobal + Files + Net + Clock + RandomSource>(
     Ok(())
 }
 
-/// 2.05 with `hi`: entity-tag 1, format text/plain.
+// 2.05 with `hi`: entity-tag 1, format text/plain.
 const CONTENT: &str = "6045000148000000000000000180ff6869\n";
-/// The same, to an observer: Observe 1.
+// The same, to an observer: Observe 1.
 const OBSERVED: &str = "60450001480000000000000001210160ff6869\n";
-/// 2.04, 4.00, 4.02, 4.12.
+// 2.04, 4.00, 4.02, 4.12.
 const CHANGED: &str = "60440001\n";
 
 const BAD_REQUEST: &str = "60800001\n";

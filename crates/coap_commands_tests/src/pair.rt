@@ -97,10 +97,10 @@ fn check_run<R: Abort + AllocGlobal>(
     Ok(faults)
 }
 
-/// Both requests succeed.
+// Both requests succeed.
 const BOTH: (u8, &str) = (0, "put 2.01\nget 2.05 2\n");
 
-/// More calls than a run makes of one kind before it ends.
+// More calls than a run makes of one kind before it ends.
 const ENOUGH_CALLS: u64 = 1_000;
 
 // How the links fail where the n-th call of a kind does: a send or a receive of the client, or of the server.

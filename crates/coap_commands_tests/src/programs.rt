@@ -93,7 +93,7 @@ fn a_port_that_is_taken(rt: HostRuntime) -> Result<(), Fail> {
 
 // ---- one end over a link in memory
 
-/// A datagram that is dropped, as it is too long.
+// A datagram that is dropped, as it is too long.
 const TOO_LONG: [u8; 2_049] = [0; 2_049];
 
 // A GET of the path by a client of word 0, to whose first message this comes: the exit status.

@@ -184,7 +184,7 @@ fn refused_memory(rt: HostRuntime) -> Result<(), Fail> {
     Ok(())
 }
 
-/// A writer that fails.
+// A writer that fails.
 #[derive(Drop)]
 struct Broken;
 

@@ -9,18 +9,18 @@ use std::hash::{BuildHasher, FoldHasher, RandomState};
 use std::process::Abort;
 use std::test::*;
 
-/// A GET in a CON of Message ID 1, and what a server answers that holds nothing: 4.04.
+// A GET in a CON of Message ID 1, and what a server answers that holds nothing: 4.04.
 const GET: &[u8] = &[0x40, 0x01, 0, 1];
 
 const NOT_FOUND: &[u8] = &[0x60, 0x84, 0, 1];
 
-/// The GET with Observe 0 that a client of the word 0 begins with, and the answer to it in its
-/// acknowledgement: 2.05 with Observe 1.
+// The GET with Observe 0 that a client of the word 0 begins with, and the answer to it in its
+// acknowledgement: 2.05 with Observe 1.
 const REGISTRATION: &[u8] = &[0x48, 0x01, 0, 0, 0, 0, 0, 0, 0, 0, 0, 0, 0x60];
 
 const REGISTERED: &[u8] = &[0x68, 0x45, 0, 0, 0, 0, 0, 0, 0, 0, 0, 0, 0x61, 1];
 
-/// Counts how many hashes are begun.
+// Counts how many hashes are begun.
 #[derive(Clone, Copy)]
 struct Counts<'c> {
     uses: &'c Cell<u32>,
@@ -52,7 +52,7 @@ fn at_port(port: u16) -> Endpoint {
     }
 }
 
-/// A server that holds nothing.
+// A server that holds nothing.
 fn fresh_server<R: Abort + AllocGlobal, H: BuildHasher>(
     rt: &R,
     hasher: H,
@@ -62,14 +62,14 @@ fn fresh_server<R: Abort + AllocGlobal, H: BuildHasher>(
     Server::with_hasher(rt.alloc(), store, szx, 0, hasher)
 }
 
-/// This goes out, to there.
+// This goes out, to there.
 fn is_sent<R: Abort>(rt: &R, datagram: Option<Datagram<Global>>, to: Endpoint, bytes: &[u8]) {
     let datagram = datagram.expect(rt, "a datagram");
     assert_eq!(rt; datagram.to(), to);
     assert_eq!(rt; datagram.bytes(), bytes);
 }
 
-/// The GET from this port is answered, or its answer is given once more.
+// The GET from this port is answered, or its answer is given once more.
 fn is_answered<R: Abort + AllocGlobal, H: BuildHasher>(
     rt: &R,
     server: &mut Server<MapStore, Global, H>,
@@ -81,7 +81,7 @@ fn is_answered<R: Abort + AllocGlobal, H: BuildHasher>(
     Ok(())
 }
 
-/// The server remembers messages from ports 1 to 4,096, for their time.
+// The server remembers messages from ports 1 to 4,096, for their time.
 fn is_full_for_its_time<R: Abort + AllocGlobal, H: BuildHasher>(
     rt: &R,
     server: &mut Server<MapStore, Global, H>,
@@ -96,7 +96,7 @@ fn is_full_for_its_time<R: Abort + AllocGlobal, H: BuildHasher>(
     is_answered(rt, server, Moment(247_001), 4_097)
 }
 
-/// The GET from this port is not answered.
+// The GET from this port is not answered.
 fn is_dropped<R: Abort + AllocGlobal, H: BuildHasher>(
     rt: &R,
     server: &mut Server<MapStore, Global, H>,
@@ -108,7 +108,7 @@ fn is_dropped<R: Abort + AllocGlobal, H: BuildHasher>(
     Ok(())
 }
 
-/// A server with this hasher forgets nothing while its table is full.
+// A server with this hasher forgets nothing while its table is full.
 fn forgets_nothing<R: Abort + AllocGlobal, H: BuildHasher + Drop>(
     rt: &R,
     hasher: H,
@@ -123,7 +123,7 @@ fn a_full_table_forgets_nothing_with_random_keys(rt: HostRuntime) -> Result<(), 
     Ok(())
 }
 
-/// Each new request to the server begins a hash.
+// Each new request to the server begins a hash.
 fn hashes_each_request<R: Abort + AllocGlobal>(
     rt: &R,
     server: &mut Server<MapStore, Global, Counts<'_>>,
@@ -144,13 +144,13 @@ fn a_server_hashes_each_new_request(rt: HostRuntime) -> Result<(), AllocError> {
     hashes_each_request(&rt, &mut server, &uses)
 }
 
-/// Where the client's server is.
+// Where the client's server is.
 const THERE: Endpoint = Endpoint {
     ip: [127, 0, 0, 1],
     port: 5_683,
 };
 
-/// The client observes the path of no segment.
+// The client observes the path of no segment.
 fn is_registered<R: Abort + AllocGlobal, H: BuildHasher>(
     rt: &R,
     client: &mut Client<Global, H>,
@@ -161,7 +161,7 @@ fn is_registered<R: Abort + AllocGlobal, H: BuildHasher>(
     client.feed(Moment(0), THERE, REGISTERED, 0)
 }
 
-/// A notification in a CON, of this Message ID and number, begins a hash, and is acknowledged.
+// A notification in a CON, of this Message ID and number, begins a hash, and is acknowledged.
 fn hashes_notification<R: Abort + AllocGlobal>(
     rt: &R,
     client: &mut Client<Global, Counts<'_>>,
@@ -176,7 +176,7 @@ fn hashes_notification<R: Abort + AllocGlobal>(
     Ok(())
 }
 
-/// Each new notification to the client begins a hash, and is newer than the one before.
+// Each new notification to the client begins a hash, and is newer than the one before.
 fn hashes_each_notification<R: Abort + AllocGlobal>(
     rt: &R,
     client: &mut Client<Global, Counts<'_>>,

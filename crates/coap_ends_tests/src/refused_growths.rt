@@ -8,7 +8,7 @@ use failing::Failing;
 use std::alloc::Global;
 use std::test::Fail;
 
-/// No script takes so many growths.
+// No script takes so many growths.
 const MANY: u64 = 100_000;
 
 // Each script, with the path of which the ends are compared.

@@ -42,7 +42,7 @@ pub struct Layer<A: Allocator + Copy, S: BuildHasher = BuildHasherDefault<FoldHa
     ids: IdSource,
     lists: Lists<A, S>,
     room: Option<Room<A>>,
-    /// A reply may be given to the message that was handed up last.
+    // A reply may be given to the message that was handed up last.
     replies: bool,
     mark: Option<Mark>,
 }

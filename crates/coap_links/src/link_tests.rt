@@ -46,7 +46,7 @@ pub(super) fn give(link: &mut MemoryLink, bytes: &[u8]) -> Result<(), AllocError
     link.give(FAR, bytes)
 }
 
-// The next datagram that was handed over, and whether there was one.
+/// The next datagram that was handed over, and whether there was one.
 pub(super) fn tell_handed(link: &mut MemoryLink, told: &mut Vec<u8>) -> Result<bool, AllocError> {
     match link.next_handed() {
         Some(handed) if handed.peer() == FAR => {
@@ -144,7 +144,7 @@ fn the_nth_receive_fails_once_and_loses_nothing(rt: HostRuntime) -> Result<(), F
     Ok(())
 }
 
-/// More bytes than a link carries.
+// More bytes than a link carries.
 static BYTES: [u8; 4_000] = [7; 4_000];
 
 // So many bytes.
@@ -168,7 +168,7 @@ fn carried_len<L: Link, M: Link>(near: &mut L, far: &mut M, len: usize) -> Optio
     received_len(far, from)
 }
 
-/// How long datagrams of these lengths come.
+// How long datagrams of these lengths come.
 const LENGTHS: [(usize, Option<usize>); 5] = [
     (3, Some(3)),
     (0, Some(0)),

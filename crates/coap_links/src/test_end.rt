@@ -23,7 +23,7 @@ pub struct TestEnd {
     refuses_feeds: bool,
 }
 
-/// The Reset with this Message ID, to this endpoint.
+// The Reset with this Message ID, to this endpoint.
 fn reset_to(alloc: Global, to: Endpoint, id: u8) -> Result<Option<Datagram<Global>>, AllocError> {
     let mut layer = Layer::new(alloc, 0);
     let pinged = ping(&mut layer, to, id);

@@ -9,7 +9,7 @@ use std::io::ErrorKind;
 use std::net::{Ipv4Addr, Net, SocketAddr, UdpSocket};
 use std::time::Duration;
 
-/// How long a receive waits for a datagram.
+// How long a receive waits for a datagram.
 const RECEIVE_WAIT_MS: u64 = 10;
 
 const _: () = prove!(RECEIVE_WAIT_MS == 10);

@@ -1,6 +1,8 @@
 -- The operations of a slab, by their keys.
-use Rattle.std.proofs.Common.{◌≡◌, ◌≤◌, ℕ, suc, ◌+◌, Bool, true, false, cond, not, ◌||◌, Option, Some, None, List, [], ◌∷◌, ◌++◌}
-use Rattle.std.proofs.Common.{filter, length, option_map, IsSome, is_some, zero, set, slice_get, remove, refl, sym, ap, ◌∙◌, subst, inl, inr, arith}
+use Rattle.std.proofs.Common.{◌≡◌, ◌≤◌, ℕ, suc, ◌+◌, Bool, true, false, cond, not, ◌||◌, Option, Some, None, List, []}
+use Rattle.std.proofs.Common.{◌∷◌, ◌++◌}
+use Rattle.std.proofs.Common.{filter, length, option_map, IsSome, is_some, zero, set, slice_get, remove, refl, sym, ap}
+use Rattle.std.proofs.Common.{◌∙◌, subst, inl, inr, arith}
 use Rattle.std.specs.Prelude.{◌==◌}
 use Rattle.std.specs.List.{list_any}
 use Rattle.std.proofs.lemmas.List.Sums.{sum_by-set}
@@ -15,7 +17,8 @@ use Rattle.coap_operations.specs.declared.running.Running.{Running}
 use Rattle.coap_operations.specs.declared.running.Running.TheVariants.{Started, Fetching, Cancelling, Dropped}
 use Rattle.coap_operations.specs.Listed.{Listed, is_cancel}
 use Rattle.coap_operations.specs.Keys.{EachOnce, hit, in_live, in_queue, in_running, is_cancel_key}
-use Rattle.coap_operations.specs.Keys.{live_first, live_of, observation_in, observations, operation_in, operations, queue_of, running_of, started, waits_first}
+use Rattle.coap_operations.specs.Keys.{live_first, live_of, observation_in, observations, operation_in, operations}
+use Rattle.coap_operations.specs.Keys.{queue_of, running_of, started, waits_first}
 
 hit_same : (k : ℕ) → hit k k ≡ 1
 hit_same k = ap (λ b. cond b 1 0) (eq-eqb k k refl)
@@ -248,18 +251,6 @@ module _ {W O : Type 0} where
     pub new_live : live_of to l ≡ live_of at l
     new_live = live_frame at to key save l not_live
 
-  -- an operation that is new runs, where nothing did
-
-  pub runs_once : (at to : ℕ → Option (Entry W O)) (q : List (Queued ℕ)) (l : List ℕ) (key : ℕ) (w : W) → at key ≡ None
-      → to key ≡ Some (Operation w) → SaveAt key to at
-      → EachOnce at q None l → EachOnce to q (Some (Started key)) l
-  runs_once at to q l key w was is save once =
-      record {
-        operation = λ k. let b = counted at to q None l key w was is save once k in let c = once.operation k in
-            omega (arith, b, c);
-        observation = λ k. once.observation k ∙ sym (uncounted at to q None l key w was is save once k);
-      }
-
   -- nothing runs where nothing is seen to
   pub none_runs : (at : ℕ → Option (Entry W O)) (q : List (Queued ℕ)) (r : Option (Running ℕ)) (l : List ℕ)
       → EachOnce at q r l → running_of at r ≡ None → r ≡ None
@@ -436,15 +427,6 @@ module _ {W O : Type 0} where
 
     pub set_live : (o : O) → to key ≡ Some (Observation o) → live_of to l ≡ set (live_of at l) p o
     set_live o is = live_set at to key o save is l (living at q r l once) lone p found
-
-    pub set_once : (o : O) → to key ≡ Some (Observation o) → EachOnce to q r l
-    set_once o is =
-        record {
-          operation = λ k. once.operation k ∙ sym
-              (same_count operations at to key save (ap operations is ∙ sym (ap operations observed.1)) k);
-          observation = λ k. once.observation k
-              ∙ sym (same_count observations at to key save (ap observations is ∙ sym (ap observations observed.1)) k);
-        }
 
     pub removed_live : live_of to (remove l p) ≡ remove (live_of at l) p
     removed_live = live_without at to key save l (living at q r l once) lone p found

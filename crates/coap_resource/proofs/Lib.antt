@@ -1,7 +1,6 @@
 pub mod EntryLemmas
 pub mod MapLemmas
 pub mod OnlyGot
-pub mod QuietLemmas
 pub mod RateLemmas
 pub mod ServedContent
 pub mod ServedParts

@@ -41,7 +41,8 @@ get_by_tests : (held : Held) (reply : Reply) (offset : ℕ) (part : Reply) (a e 
     (cond e (record (bare codes.VALID.0 offset) { tag = Some (tag_of held.version) })
     (cond b (bare codes.BAD_REQUEST.0 offset) part))
     → reply.code ≡ content → (b ≡ false) × (reply ≡ part)
-get_by_tests held reply offset part true e b is h k = absurd (other_code content reply codes.NOT_ACCEPTABLE.0 offset h refl k)
+get_by_tests held reply offset part true e b is h k =
+    absurd (other_code content reply codes.NOT_ACCEPTABLE.0 offset h refl k)
 get_by_tests held reply offset part false true b is h k =
     absurd (other_code content (bare codes.VALID.0 offset) codes.VALID.0 offset refl refl
     (sym (ap (λ (r : Reply). r.code) h) ∙ k))

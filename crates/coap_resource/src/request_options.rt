@@ -97,12 +97,7 @@ pub(crate) fn precondition_fails<A: Allocator>(
 pub(crate) fn format_of(options: &[Opt<'_>]) -> Option<u16>
     ensures { result ≡ format_of (options_of options.now) }
 {
-    let number = uint_at(options, CONTENT_FORMAT)?;
-    if number <= 0xffff {
-        Some(number as u16)
-    } else {
-        None
-    }
+    u16::try_from(uint_at(options, CONTENT_FORMAT)?).ok()
 }
 
 /// Whether a representation of this format is acceptable (RFC 7252, section 5.10.4).

@@ -62,7 +62,7 @@ fn sixteen_paths_have_a_delay(rt: HostRuntime) -> Result<(), Fail> {
     Ok(())
 }
 
-/// No delay takes so many growths.
+// No delay takes so many growths.
 const MANY: u64 = 10;
 
 // It is refused as often as it takes memory, which leaves the others as they are; then it is given.

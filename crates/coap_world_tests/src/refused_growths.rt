@@ -7,10 +7,10 @@ use failing::Failing;
 use std::alloc::{Allocator, Global};
 use std::test::Fail;
 
-/// No run takes so many growths.
+// No run takes so many growths.
 const MANY: u64 = 1_000_000;
 
-/// A tick keeps what its steps did before the one that meets want of memory.
+// A tick keeps what its steps did before the one that meets want of memory.
 const KEPT: &str = "a_tick_of_two_steps
 0 call get /t
 > takes 0

@@ -112,7 +112,7 @@ fn a_body_over_the_bound_is_dropped(rt: HostRuntime) -> Result<(), AllocError> {
     play_turns(&rt, 6, 1_024, &turns)
 }
 
-/// The last block is empty: 65,536 bytes.
+// The last block is empty: 65,536 bytes.
 fn ends_in_full<R: Abort>(
     rt: &R,
     server: &mut Assembly,

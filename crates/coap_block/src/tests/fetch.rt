@@ -6,8 +6,8 @@ use coap_types::{Szx, Tag};
 use std::alloc::{AllocError, AllocGlobal};
 use std::process::Abort;
 
-/// What a part is to lead to: a block to ask for by its value, a body by its place in the test's
-/// bytes, a restart or a refusal.
+// What a part is to lead to: a block to ask for by its value, a body by its place in the test's
+// bytes, a restart or a refusal.
 #[derive(Clone, Copy)]
 enum Says {
     Next(u8),
@@ -24,8 +24,8 @@ const TOO_LARGE: Says = Says::Refused(FetchRefusal::TooLarge);
 
 const CHANGED: Says = Says::Refused(FetchRefusal::Changed);
 
-/// A part: the value of its Block2, its ETag (0: none), its place in the test's bytes, and what it
-/// is to lead to.
+// A part: the value of its Block2, its ETag (0: none), its place in the test's bytes, and what it
+// is to lead to.
 type Row<'a> = (&'a [u8], u8, (usize, usize), Says);
 
 fn fetch_of<R: Abort + AllocGlobal>(rt: &R, szx: u8) -> Fetch {
@@ -51,7 +51,7 @@ fn check<R: Abort>(rt: &R, step: &Step, bytes: &[u8], says: Says) {
     }
 }
 
-/// Hands a part in.
+// Hands a part in.
 fn play_row<R: Abort>(
     rt: &R,
     fetch: &mut Fetch,
@@ -70,7 +70,7 @@ fn play_row<R: Abort>(
     Ok(())
 }
 
-/// Hands the parts in, one after the other.
+// Hands the parts in, one after the other.
 fn play<R: Abort>(
     rt: &R,
     fetch: &mut Fetch,
@@ -188,8 +188,8 @@ fn parts_without_an_entity_tag_are_refused(rt: HostRuntime) -> Result<(), AllocE
     play(&rt, &mut fetch, &bytes, &rows)
 }
 
-/// Hands in full blocks with M 1, each of the number that is asked for, 0 where none is: how many are
-/// taken before one is refused as too large.
+// Hands in full blocks with M 1, each of the number that is asked for, 0 where none is: how many are
+// taken before one is refused as too large.
 fn blocks_until_too_large<R: Abort>(
     rt: &R,
     fetch: &mut Fetch,
@@ -242,7 +242,7 @@ fn a_body_without_block2_is_whole(rt: HostRuntime) -> Result<(), AllocError> {
     Ok(())
 }
 
-/// Hands the parts in, each once, taken back, and once more.
+// Hands the parts in, each once, taken back, and once more.
 fn play_twice<R: Abort>(
     rt: &R,
     fetch: &mut Fetch,

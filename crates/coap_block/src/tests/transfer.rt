@@ -5,10 +5,10 @@ use coap_types::{Endpoint, Method, Moment, Path, Szx, Tag};
 use std::alloc::{AllocError, AllocGlobal};
 use std::process::Abort;
 
-/// The lengths of the bodies, in bytes.
+// The lengths of the bodies, in bytes.
 const LENS: [usize; 6] = [0, 1, 16, 17, 200, 65_536];
 
-/// More blocks than any body has.
+// More blocks than any body has.
 const ENOUGH_BLOCKS: usize = 4_097;
 
 fn szx_of<R: Abort>(rt: &R, n: u8) -> Szx {
@@ -27,7 +27,7 @@ fn key_of<R: AllocGlobal>(rt: &R) -> UploadKey {
     }
 }
 
-/// Hands the block that an upload sends to an assembly: whether the body was whole with it.
+// Hands the block that an upload sends to an assembly: whether the body was whole with it.
 fn send_block<R: Abort>(
     rt: &R,
     upload: &mut Upload,
@@ -52,7 +52,7 @@ fn send_block<R: Abort>(
     }
 }
 
-/// Hands the blocks that an upload sends to an assembly, until the body is whole.
+// Hands the blocks that an upload sends to an assembly, until the body is whole.
 fn send_blocks<R: Abort>(
     rt: &R,
     upload: &mut Upload,
@@ -69,7 +69,7 @@ fn send_blocks<R: Abort>(
     Ok(())
 }
 
-/// Carries a body from an upload to an assembly.
+// Carries a body from an upload to an assembly.
 fn send<R: Abort + AllocGlobal>(
     rt: &R,
     body: &[u8],
@@ -81,8 +81,8 @@ fn send<R: Abort + AllocGlobal>(
     send_blocks(rt, &mut upload, &mut assembly, &key_of(rt), body)
 }
 
-/// The part that a server with blocks of that size answers to what is asked for, with its Block2
-/// (RFC 7959, section 2.4).
+// The part that a server with blocks of that size answers to what is asked for, with its Block2
+// (RFC 7959, section 2.4).
 fn part_of<'a, R: Abort>(rt: &R, body: &'a [u8], asked: Block, server: Szx) -> (Block, &'a [u8]) {
     let offset = asked.num as usize * asked.szx.size();
     let szx = if asked.szx.get() < server.get() {
@@ -96,7 +96,7 @@ fn part_of<'a, R: Abort>(rt: &R, body: &'a [u8], asked: Block, server: Szx) -> (
     (Block { num, more, szx }, part)
 }
 
-/// Hands the part that is asked for to a fetch: what it asks for next, None where the body was whole.
+// Hands the part that is asked for to a fetch: what it asks for next, None where the body was whole.
 fn get_part<R: Abort>(
     rt: &R,
     fetch: &mut Fetch,
@@ -118,7 +118,7 @@ fn get_part<R: Abort>(
     }
 }
 
-/// Carries a body from a server that slices it to a fetch.
+// Carries a body from a server that slices it to a fetch.
 fn get<R: Abort + AllocGlobal>(
     rt: &R,
     body: &[u8],

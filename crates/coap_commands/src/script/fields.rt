@@ -11,11 +11,11 @@ use coap_world::Side;
 use std::alloc::Allocator;
 use std::str;
 
-/// What stands between two words.
+// What stands between two words.
 const SPACE: u8 = b' ';
-/// What may stand before a number elsewhere.
+// What may stand before a number elsewhere.
 const PLUS: u8 = b'+';
-/// What stands between two segments of a path.
+// What stands between two segments of a path.
 const SLASH: u8 = b'/';
 
 // What stands before the first such byte, and what stands behind it.

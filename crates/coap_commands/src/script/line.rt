@@ -11,11 +11,11 @@ use coap_types::{Endpoint, Method, Path, Request, Tags};
 use coap_world::{Event, What};
 use std::alloc::Allocator;
 
-/// The word that each event has.
+// The word that each event has.
 const WORD: u64 = 0;
-/// The format of what the server's own side sets: text/plain (RFC 7252, section 12.3).
+// The format of what the server's own side sets: text/plain (RFC 7252, section 12.3).
 const TEXT_PLAIN: u16 = 0;
-/// Where strangers are.
+// Where strangers are.
 const STRANGER_IP: [u8; 4] = [127, 0, 0, 1];
 
 /// The event that a line says: its moment, a word and the words behind that.

@@ -6,10 +6,10 @@ use failing::Failing;
 use std::alloc::{Allocator, Global};
 use std::test::Fail;
 
-/// No script takes so many growths.
+// No script takes so many growths.
 const MANY: u64 = 1_000_000;
 
-/// The status for want of memory.
+// The status for want of memory.
 const NO_MEMORY: u8 = 4;
 
 // How a script ends, and what it prints.

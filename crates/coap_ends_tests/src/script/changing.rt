@@ -10,20 +10,20 @@ use std::alloc::{Allocator, Global};
 use std::ops::Range;
 use std::test::Fail;
 
-/// No message is remembered for so long (RFC 7252, section 4.8.2).
+// No message is remembered for so long (RFC 7252, section 4.8.2).
 const LATER_MS: u64 = EXCHANGE_LIFETIME_MS + 1;
 
-/// A datagram of a talk, in hex and in bytes, and the port that it goes to.
+// A datagram of a talk, in hex and in bytes, and the port that it goes to.
 #[derive(Drop)]
 struct Said<'a> {
     hex: &'a str,
     bytes: Vec<u8>,
     to: u16,
-    /// What the server and the client answer to it where it comes from another.
+    // What the server and the client answer to it where it comes from another.
     answers: [&'a str; 2],
 }
 
-/// What two ends say to each other, behind the steps that it begins with.
+// What two ends say to each other, behind the steps that it begins with.
 #[derive(Drop)]
 struct Talk<'a> {
     name: &'a str,

@@ -67,7 +67,7 @@ pub(super) fn format_of(word: &str) -> Result<Option<u16>, Fail> {
     })
 }
 
-/// A text whose words, parted by this, are joined: `ab*3` stands for `ababab`.
+// A text whose words, parted by this, are joined: `ab*3` stands for `ababab`.
 fn joined(alloc: Global, text: &str, parted_by: char) -> Result<String, Fail> {
     let mut whole = String::new(alloc);
     for word in text.split(parted_by) {

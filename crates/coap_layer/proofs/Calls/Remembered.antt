@@ -134,15 +134,6 @@ module _ (now : ℕ) (k : Key) where
   found_reply (e ∷ es) d = reply_step e es d (same_key k e.0) refl
       (found_reply es (IsDistinct-tail same_key e.0 (keys_of es) d))
 
--- the newest is the sought one, or none
-pub newest_any : {Z : Type 0} (now : ℕ) (k : Key) (e : Key × Kept Z) → same_key k e.0 ≡ true
-    → is_some (live_of now (Some e.1)) ≡ is_remembered now k.from k.id.0 (arrived_as e ∷ [])
-newest_any now k e h = let first = sought_here now k e h in live (is_live now (arrived_as e)) ∙ cc (first)
-  where
-    live : (b : Bool) → is_some (cond b (Some e.1) None) ≡ (b || false)
-    live true = refl
-    live false = refl
-
 pub some_copied : {X : Type 0} (r : Option (Bor X)) → is_some r ≡ is_some (option_copied r)
 some_copied None = refl
 some_copied (Some x) = refl

@@ -9,6 +9,7 @@ use Rattle.coap_codec.specs.Spelling.{message_bytes}
 use Rattle.coap_layer.specs.Sendable.{IsSendable}
 use Rattle.coap_layer.specs.Trace.{Content, with_head}
 use Rattle.coap_types.specs.declared.message.TheConstants.{MESSAGE_IDS as message_ids}
+use Rattle.coap_types.specs.declared.limits.TheConstants.{MAX_MESSAGE_LEN as max_message_len}
 
 -- its parts are those of the message
 pub same_message : (kind a : Kind) (id b code d : ℕ) (token t : List ℕ) (options : List CoapOption) (payload : List ℕ)
@@ -22,9 +23,9 @@ same_message kind a id b code d token t options payload content k e i f is =
     cc (k, e, i, f, os, p)
 
 pub not_refused : (content : Content) (kind : Kind) (id : ℕ) (m : Message) → IsSendable content → id < message_ids
-    → m ≡ with_head kind id content → HasNoSpelling m 1152 → ⊥
+    → m ≡ with_head kind id content → HasNoSpelling m max_message_len → ⊥
 not_refused content kind id m ok small is none =
-    subst (λ x. HasNoSpelling x 1152) is none (message_bytes (with_head kind id content)) (ok.spelled kind id small)
+    subst (λ x. HasNoSpelling x max_message_len) is none (message_bytes (with_head kind id content)) (ok.spelled kind id small)
     (ok.fits kind id small)
 
 pub spelled_so : OneSpelling → (content : Content) (kind : Kind) (id : ℕ) (m : Message) (bytes : List ℕ)

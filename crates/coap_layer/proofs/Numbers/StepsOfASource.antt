@@ -23,7 +23,7 @@ get_other (x ∷ xs) (suc i) (suc j) w h = get_other xs i j w (λ e. h (ap suc e
 
 -- a number more
 pub uses_more : (past : List Issued) (uses : List (Option ℕ)) (g : Issued) → g.id < 65536 → AreUses past uses
-    → AreUses (g ∷ past) (slice_set uses (g.id / 4096) (Some g.at))
+    → AreUses (g ∷ past) (slice_set uses (g.id / group_size) (Some g.at))
 uses_more past uses g small h group le = go (g.id / group_size == group) refl
   where
     go : (b : Bool) → (g.id / group_size == group) ≡ b
@@ -55,25 +55,6 @@ free_led word t s now b led may held = record {
         → IdRow word (numbers t) (max (clock t) now) (IsFree b)
     go true may held = subst (λ (x : ℕ). MayGive word (numbers t) (max x now)) led.kept.clock (may refl)
     go false may held = subst (λ (x : ℕ). Withholds word (numbers t) (max x now)) led.kept.clock (held refl)
-
-pub none_led : (word : ℕ) (t : List IdEntry) (s : IdState) (now : ℕ) → Led word t s
-    → Withholds word (numbers t) (max s.clock now)
-    → Led word (next_entry t now None ∷ t) (record s { clock = max s.clock now })
-none_led word t s now led held = record {
-  law = (
-    record {
-      time = omega arith;
-      row = subst
-          (λ (x : ℕ). Withholds word (numbers t) (max x now)) led.kept.clock held;
-    },
-    led.law,
-  );
-  kept = record {
-    clock = ap (λ (x : ℕ). max x now) led.kept.clock;
-    upcoming = led.kept.upcoming;
-    last_used = led.kept.last_used;
-  };
-}
 
 pub next_led : (word : ℕ) (t : List IdEntry) (s : IdState) (now : ℕ) → s.upcoming < message_ids → Led word t s
     → MayGive word (numbers t) (max s.clock now)

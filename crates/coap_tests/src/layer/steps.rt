@@ -59,7 +59,7 @@ pub(super) enum Step<'a> {
     ConfirmsInVain(u64, u64),
 }
 
-/// The bytes of a datagram.
+// The bytes of a datagram.
 fn bytes_of<R: Abort + AllocGlobal>(rt: &R, hex: &str) -> Vec<u8> {
     hex::decode(rt.alloc(), hex).expect(rt, "digits of hex")
 }
@@ -81,12 +81,12 @@ pub(super) fn comes_to<R: Abort + AllocGlobal, S: BuildHasher>(
     Ok(())
 }
 
-/// Nothing is to be sent.
+// Nothing is to be sent.
 fn is_silent<R: Abort + AllocGlobal, S: BuildHasher>(rt: &R, layer: &mut Layer<Global, S>) {
     assert!(rt; layer.next_out().is_none());
 }
 
-/// What is to be sent next goes to `THERE` and has these bytes, or nothing is where there is none.
+// What is to be sent next goes to `THERE` and has these bytes, or nothing is where there is none.
 fn sends<R: Abort + AllocGlobal, S: BuildHasher>(rt: &R, layer: &mut Layer<Global, S>, hex: &str) {
     if hex.is_empty() {
         is_silent(rt, layer);
@@ -128,7 +128,7 @@ fn is_replied<R: Abort + AllocGlobal, S: BuildHasher>(
     Ok(())
 }
 
-/// Gives the reply to a request.
+// Gives the reply to a request.
 fn replies<R: Abort + AllocGlobal, S: BuildHasher>(
     rt: &R,
     layer: &mut Layer<Global, S>,
@@ -155,7 +155,7 @@ fn ticks<R: Abort + AllocGlobal, S: BuildHasher>(
     Ok(())
 }
 
-/// A tick does this and sends that, if anything.
+// A tick does this and sends that, if anything.
 fn ticks_and_sends<R: Abort + AllocGlobal, S: BuildHasher>(
     rt: &R,
     layer: &mut Layer<Global, S>,
@@ -232,7 +232,7 @@ fn may_confirm<R: Abort + AllocGlobal, S: BuildHasher>(
     Ok(())
 }
 
-/// What came last is taken back, and nothing is to be sent.
+// What came last is taken back, and nothing is to be sent.
 fn takes_back<R: Abort + AllocGlobal, S: BuildHasher>(rt: &R, layer: &mut Layer<Global, S>)
     requires { IsSome layer.old.before }
 {
@@ -275,7 +275,7 @@ fn ticks_in_vain<R: Abort + AllocGlobal, S: BuildHasher>(
     Ok(())
 }
 
-/// Nothing is due, a first GET begins, and both are taken back.
+// Nothing is due, a first GET begins, and both are taken back.
 fn confirms_in_vain<R: Abort + AllocGlobal, S: BuildHasher>(
     rt: &R,
     layer: &mut Layer<Global, S>,

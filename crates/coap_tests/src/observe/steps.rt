@@ -70,7 +70,7 @@ fn changes<R: Abort + AllocGlobal>(
     Ok(())
 }
 
-/// It is this observer.
+// It is this observer.
 fn is_of<R: Abort>(rt: &R, notice: &Notice<'_>, from: u8, byte: u8) {
     assert_eq!(rt; notice.to.ip[3], from);
     assert_eq!(rt; notice.token.as_slice().first().copied(), Some(byte));

@@ -74,7 +74,7 @@ fn check<R: Abort>(rt: &R, took: &Took, bytes: &[u8], says: Says) {
     }
 }
 
-/// Hands a block of a key in.
+// Hands a block of a key in.
 fn play_row<R: Abort>(
     rt: &R,
     server: &mut Assembly,
@@ -91,7 +91,7 @@ fn play_row<R: Abort>(
     Ok(())
 }
 
-/// Hands the blocks of a key in, one after the other.
+// Hands the blocks of a key in, one after the other.
 fn play<R: Abort>(
     rt: &R,
     server: &mut Assembly,
@@ -105,7 +105,7 @@ fn play<R: Abort>(
     Ok(())
 }
 
-/// Hands the blocks of a key in, each once, taken back, and once more.
+// Hands the blocks of a key in, each once, taken back, and once more.
 fn play_twice<R: Abort>(
     rt: &R,
     server: &mut Assembly,
@@ -121,7 +121,7 @@ fn play_twice<R: Abort>(
     Ok(())
 }
 
-/// Hands a block of a key in, and takes it back.
+// Hands a block of a key in, and takes it back.
 fn play_in_vain<R: Abort>(
     rt: &R,
     server: &mut Assembly,
@@ -134,7 +134,7 @@ fn play_in_vain<R: Abort>(
     Ok(())
 }
 
-/// Block `num` of 1,024 bytes, with more behind it.
+// Block `num` of 1,024 bytes, with more behind it.
 fn full_block<R: Abort>(rt: &R, num: u32) -> Block {
     let szx = Szx::new(6).expect(rt, "at most 6");
     Block {
@@ -144,7 +144,7 @@ fn full_block<R: Abort>(rt: &R, num: u32) -> Block {
     }
 }
 
-/// The block is taken, and answered with its own Block1.
+// The block is taken, and answered with its own Block1.
 fn check_full<R: Abort>(rt: &R, took: &Took, num: u32) {
     match took {
         Took::More(more) => assert_eq!(rt; *more, full_block(rt, num)),
@@ -166,7 +166,7 @@ pub(super) fn fill<R: Abort>(
     Ok(())
 }
 
-/// Begins uploads of these ports at that moment.
+// Begins uploads of these ports at that moment.
 fn begin<R: Abort + AllocGlobal>(
     rt: &R,
     server: &mut Assembly,
