@@ -2,7 +2,7 @@
 use Rattle.std.proofs.Common.{◌≡◌, ◌⊎◌, inl, inr, ℕ, Some, List, [], ◌∷◌, ap, sym, ◌∙◌}
 use Rattle.coap_types.specs.RequestPath.{path_of}
 use Rattle.coap_ends.specs.ClientSide.ClientBegins.{WasSent}
-use Rattle.coap_ends.specs.ClientSide.ClientOfObservations.{AsksFor, IsOfObservation, AreOfObservations}
+use Rattle.coap_ends.specs.ClientSide.ClientOfObservations.{AsksFor, AreOfObservations}
 use Rattle.coap_ends.specs.ClientSide.ClientOfObservations.{observation_for}
 use Rattle.coap_ends.specs.ClientSide.ClientOfObservations as of
 use Rattle.coap_ends.specs.ClientSide.ClientOwn.{Operation, Calling, Registering, Fetching, Cancelling, Dropped}
