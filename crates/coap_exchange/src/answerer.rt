@@ -2,6 +2,7 @@ ghost use Rattle.std.specs.Prelude.{◌≡◌, ◌≢◌, ◌≤◌, ◌<◌, �
 ghost use Rattle.std.specs.Prelude.{IsSome, is_some, Ok, IsOk, IfOk, OnOk, OnErr};
 ghost use Rattle.coap_types.specs.declared.endpoint.Endpoint.{Endpoint as EndpointSpec};
 ghost use Rattle.coap_types.specs.declared.message.Kind.TheVariants.{Con};
+ghost use Rattle.coap_types.specs.declared.token.TheConstants.{MAX_TOKEN_LEN as max_token_len};
 ghost use Rattle.coap_layer.specs.Machine.State.{answer_of, copies, made};
 ghost use Rattle.coap_layer.specs.Trace as below;
 ghost use Rattle.coap_layer.specs.Machine.Ups.{IsQuiet};
@@ -47,7 +48,7 @@ impl Asked {
     /// The same again. It takes no memory.
     pub fn copy(&self) -> Asked
         ensures same { result ≡ self.now }
-        ensures few { length result.token ≤ 8 }
+        ensures few { length result.token ≤ max_token_len }
     {
         let _few = self.token.as_slice();
         Asked {
@@ -186,7 +187,8 @@ impl<A: Allocator + Copy, S: BuildHasher> Answerer<A, S> {
     /// The separate response or the notification that a Reset or a failure ended in the last
     /// `incoming` or `tick` (RFC 7252, section 5.2.2; RFC 7641, sections 3.6 and 4.5).
     pub fn ended(&self) -> Option<Ended>
-        ensures { result ≡ self.now.state.own.ended }
+        ensures same { result ≡ self.now.state.own.ended }
+        ensures few { IfSome result (λ ended. length ended.token ≤ max_token_len) }
     {
         copied_end(&self.ended)
     }
@@ -205,7 +207,8 @@ impl<A: Allocator + Copy, S: BuildHasher> Answerer<A, S> {
         ensures led { IfOk result (λ answer. (up : below.Answer)
             × Leads self.old (Incoming now.0 from bytes.now up answer) self.new) }
         ensures answerable { OnOk result (self.new.answerable ≡ true) }
-        ensures few { IfOk result (λ answer. IfSome (asked_in answer) (λ asked. length asked.token ≤ 8)) }
+        ensures few { IfOk result (λ answer. IfSome (asked_in answer)
+            (λ asked. length asked.token ≤ max_token_len)) }
         // What hands up a request ends nothing.
         ensures ends_none { IfOk result (λ answer. is_some answer ≡ true → self.new.state.own.ended ≡ None) }
         // Where a notification could be sent and nothing is sent now, it still can.
@@ -285,7 +288,7 @@ impl<A: Allocator + Copy, S: BuildHasher> Answerer<A, S> {
         ensures led { IfOk result (λ due. (done : below.Answer) × (room : Bool)
             × Leads self.old (Ticks now.0 done room due) self.new) }
         ensures ready { IfOk result (λ due. (a : AskedSpec) → due ≡ dues.Ready a → MayRespond self.new now.0 a) }
-        ensures few { IfOk result (λ due. (a : AskedSpec) → due ≡ dues.Ready a → length a.token ≤ 8) }
+        ensures few { IfOk result (λ due. (a : AskedSpec) → due ≡ dues.Ready a → length a.token ≤ max_token_len) }
         // Where a notification could be sent, it still can.
         ensures kept { OnOk result ((at : ℕ) (there : EndpointSpec) → MayNotify self.old at there
             → MayNotify self.new at there) }

@@ -1,5 +1,6 @@
 ghost use Rattle.std.specs.Prelude.{◌≡◌, ◌≢◌, ◌≤◌, ◌<◌, ◌^◌, length, IfSome, Bool, false, [], None, Some, Err, IsOk};
 ghost use Rattle.std.specs.Prelude.{IfOk, OnOk, OnErr, IsSome, max};
+ghost use Rattle.coap_types.specs.declared.token.TheConstants.{MAX_TOKEN_LEN as max_token_len};
 ghost use Rattle.coap_layer.specs.Machine.State.{answer_of, copies, made};
 ghost use Rattle.coap_layer.specs.Trace as below;
 ghost use Rattle.coap_layer.specs.Machine.Ups.{IsQuiet};
@@ -175,7 +176,7 @@ impl<A: Allocator + Copy, S: BuildHasher> Asker<A, S> {
             × Step self.old.state (Asks now.0 ask.now word answer result) self.new.state }
         ensures led { result ≢ Err refusals.Memory → (answer : below.Answer)
             × Leads self.old (Asks now.0 ask.now word answer result) self.new }
-        ensures few { IfOk result (λ token. length token ≤ 8) }
+        ensures few { IfOk result (λ token. length token ≤ max_token_len) }
         ensures before { self.new.before ≡ self.old.before }
         ensures memory { result ≡ Err refusals.Memory → self.new ≡ self.old }
         // Where it refuses for another reason, it takes no memory.
@@ -201,7 +202,7 @@ impl<A: Allocator + Copy, S: BuildHasher> Asker<A, S> {
         requires opening { opening_of self.old.state.own ask.now ≡ openings.Sends }
         ensures step { result ≢ Err refusals.Memory → (answer : below.Answer)
             × Step self.old.state (Asks now.0 ask.now word answer result) self.new.state }
-        ensures few { IfOk result (λ token. length token ≤ 8) }
+        ensures few { IfOk result (λ token. length token ≤ max_token_len) }
         ensures before { self.new.before ≡ self.old.before }
         ensures memory { result ≡ Err refusals.Memory → self.new ≡ self.old }
         ensures quiet { answer_of self.old.state.layer (max self.old.state.own.clock now.0)
@@ -237,7 +238,7 @@ impl<A: Allocator + Copy, S: BuildHasher> Asker<A, S> {
             × Step self.old.state (Receive now.0 from bytes.now up settled event) self.new.state) }
         ensures led { IfOk result (λ event. (up : below.Answer) × (settled : Bool)
             × Leads self.old (Receive now.0 from bytes.now up settled event) self.new) }
-        ensures few { IfOk result (λ event. IfSome (message_told event) (λ m. length m.token ≤ 8)) }
+        ensures few { IfOk result (λ event. IfSome (message_told event) (λ m. length m.token ≤ max_token_len)) }
         ensures before { OnOk result (self.new.before ≡ Some self.old.state) }
         ensures err { OnErr result (self.new ≡ self.old) }
         // Where the layer sends nothing and hands nothing up, it takes no memory.

@@ -1,5 +1,6 @@
 ghost use Rattle.std.specs.Prelude.{◌≡◌, ◌≤◌, ◌<◌, [], length, remove, IfSome, IfNone};
 ghost use Rattle.std.specs.Option.{option_map};
+ghost use Rattle.coap_types.specs.declared.token.TheConstants.{MAX_TOKEN_LEN as max_token_len};
 ghost use Rattle.coap_exchange.specs.AnswererSteps.{max_deferred, deferred_with, first_ready, may_defer, without_ready};
 ghost use Rattle.coap_exchange.specs.Machine.Listed.{listed};
 
@@ -44,7 +45,7 @@ fn copied(requests: &[Deferred]) -> ArrayVec<Deferred, MAX_DEFERRED>
 
 // The first that is ready.
 fn first_ready(requests: &[Deferred], at: Moment, separate: &[Listed<Separate>]) -> Option<Asked>
-    ensures few { IfSome result (λ a. length a.token ≤ 8) }
+    ensures few { IfSome result (λ a. length a.token ≤ max_token_len) }
     ensures first { result ≡ option_map (λ d. d.asked) (first_ready at.0 (listed separate.now) requests.now) }
 {
     for request in requests {
@@ -91,7 +92,7 @@ impl Deferrals {
 
     /// The first that is ready at this moment.
     pub(crate) fn ready(&self, at: Moment, separate: &[Listed<Separate>]) -> Option<Asked>
-        ensures few { IfSome result (λ a. length a.token ≤ 8) }
+        ensures few { IfSome result (λ a. length a.token ≤ max_token_len) }
         ensures first { result ≡ option_map (λ d. d.asked) (first_ready at.0 (listed separate.now) self.now) }
     {
         first_ready(self.requests.as_slice(), at, separate)

@@ -2,6 +2,7 @@ ghost use Rattle.std.specs.Prelude.{◌≡◌, ◌≤◌, ℕ, Some, None, IfSom
 ghost use Rattle.std.specs.Vec.{vec_len, vec_capacity};
 ghost use Rattle.coap_types.specs.declared.message.Kind.TheVariants.{Con, Ack};
 ghost use Rattle.coap_types.specs.declared.limits.TheConstants.{MAX_MESSAGE_LEN as max_message_len};
+ghost use Rattle.coap_types.specs.declared.token.TheConstants.{MAX_TOKEN_LEN as max_token_len};
 ghost use Rattle.coap_codec.specs.Message.{Message};
 ghost use Rattle.coap_codec.specs.Spelling.{message_bytes};
 ghost use Rattle.coap_layer.specs.Sendable.{IsSendable};
@@ -42,9 +43,11 @@ pub(crate) fn copied(asked: &Option<Asked>) -> Option<Asked>
 
 /// The same end again, if there is one.
 pub(crate) fn copied_end(ended: &Option<Ended>) -> Option<Ended>
-    ensures { result ≡ ended.now }
+    ensures same { result ≡ ended.now }
+    ensures few { IfSome result (λ e. length e.token ≤ max_token_len) }
 {
     let ended = ended.as_ref()?;
+    let _few = ended.token.as_slice();
     Some(Ended {
         to: ended.to,
         token: ended.token.copy(),
@@ -54,7 +57,7 @@ pub(crate) fn copied_end(ended: &Option<Ended>) -> Option<Ended>
 
 // What the response needs of its request.
 fn asked_of(from: Endpoint, request: &View<'_>) -> Asked
-    requires { length request.now.token ≤ 8 }
+    requires { length request.now.token ≤ max_token_len }
     ensures { result ≡ asked_of from request.now }
 {
     match Token::new(request.token()) {
@@ -70,9 +73,9 @@ fn asked_of(from: Endpoint, request: &View<'_>) -> Asked
 
 /// The request that is handed up, as its response needs it.
 pub(crate) fn asked_in(from: Endpoint, up: &Up<'_>) -> Option<Asked>
-    requires { (m : Message) → handed_by (answer_as up.now) ≡ Some m → length m.token ≤ 8 }
+    requires { (m : Message) → handed_by (answer_as up.now) ≡ Some m → length m.token ≤ max_token_len }
     ensures asked { result ≡ asked_in (handed_up from (answer_as up.now)) }
-    ensures few { IfSome result (λ a. length a.token ≤ 8) }
+    ensures few { IfSome result (λ a. length a.token ≤ max_token_len) }
 {
     match up {
         Up::Request {

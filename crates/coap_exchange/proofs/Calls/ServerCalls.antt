@@ -3,6 +3,7 @@ use Rattle.std.proofs.Common.{◌≡◌, ◌≢◌, ◌&&◌, not, ℕ, ◌≤�
 use Rattle.std.proofs.Common.{refl, ap, sym, subst, ◌∙◌, is_some, length, cond, ◌⊎◌, inl, inr, map, arith}
 use Rattle.coap_types.specs.declared.message.Kind.{Kind}
 use Rattle.coap_types.specs.declared.message.Kind.TheVariants.{Con, Non, Ack, Rst}
+use Rattle.coap_types.specs.declared.token.TheConstants.{MAX_TOKEN_LEN as max_token_len}
 use Rattle.coap_codec.specs.Message.{Message}
 use Rattle.coap_types.specs.declared.endpoint.Endpoint.{Endpoint}
 use Rattle.coap_types.specs.declared.message.Id.{Id}
@@ -95,7 +96,7 @@ in_message (T.Expired to id) m h = absurd (cc h)
 in_message (T.Gives packet) m h = absurd (cc h)
 
 pub short_token : (old new : L.State) (now : ℕ) (from : Endpoint) (bytes : List ℕ) (up : T.Answer) (m : Message)
-    → L.Step old now (T.Receive from bytes) up new → handed_by up ≡ Some m → length m.token ≤ 8
+    → L.Step old now (T.Receive from bytes) up new → handed_by up ≡ Some m → length m.token ≤ max_token_len
 short_token old new now from bytes up m step h = (spelled old new now from bytes up m step (in_message up m h)).token
 
 -- what an acknowledgement and a Reset take off the list

@@ -1,6 +1,7 @@
 -- The token of what the client's side tells has at most 8 bytes.
 use Rattle.std.proofs.Common.{◌≡◌, ◌≤◌, ℕ, Option, Some, None, IfSome, List, length, refl, sym, subst}
 use Rattle.coap_types.specs.declared.endpoint.Endpoint.{Endpoint}
+use Rattle.coap_types.specs.declared.token.TheConstants.{MAX_TOKEN_LEN as max_token_len}
 use Rattle.coap_codec.specs.Message.{Message}
 use Rattle.coap_layer.specs.Machine.State as L
 use Rattle.coap_layer.specs.Trace as T
@@ -34,8 +35,9 @@ each (Some m) P Q h f = f m h
 
 pub told_few : (s : Own) (old new : L.State) (now : ℕ) (from : Endpoint) (bytes : List ℕ) (up : T.Answer)
     → L.Step old now (T.Receive from bytes) up new
-    → IfSome (message_told (told (verdict_on s from up) up)) (λ m. length m.token ≤ 8)
+    → IfSome (message_told (told (verdict_on s from up) up)) (λ m. length m.token ≤ max_token_len)
 told_few s old new now from bytes up step =
-    each (message_told (told (verdict_on s from up) up)) (λ m. message_in up ≡ Some m) (λ m. length m.token ≤ 8)
+    each (message_told (told (verdict_on s from up) up)) (λ m. message_in up ≡ Some m)
+    (λ m. length m.token ≤ max_token_len)
     (told_in s from up (verdict_on s from up) (verdict_fits s from up))
     (λ m h. (spelled old new now from bytes up m step h).token)

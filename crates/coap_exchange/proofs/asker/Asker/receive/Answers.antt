@@ -1,4 +1,5 @@
 use Rattle.std.proofs.Common.{◌≤◌, IfSome, length, rules, ap, sym, subst, ◌∙◌}
+use Rattle.coap_types.specs.declared.token.TheConstants.{MAX_TOKEN_LEN as max_token_len}
 use Rattle.coap_layer.specs.Machine.Shown.{MayReply}
 use Rattle.coap_layer.specs.Machine.Ups.{answer_as}
 use Rattle.coap_exchange.specs.Machine.AskerShown.{own_with}
@@ -43,6 +44,6 @@ returns-clause-few g c =
     let up = answer_as c.in_ok-up.up in
     let own = own_with i.layer.state.clock i.server i.word i.held in
     let told_is = c.told.ensures ∙ ap (λ v. told v up) (c.verdict-verdict.ensures i.layer.state.clock i.word) in
-    subst (λ e. IfSome (message_told e) (λ m. length m.token ≤ 8)) (sym told_is)
+    subst (λ e. IfSome (message_told e) (λ m. length m.token ≤ max_token_len)) (sym told_is)
     (told_few own i.layer.state c.receive.new.self.state c.args.now.0 c.args.from c.args.bytes.now up
     c.in_ok-up.ensures.step)
