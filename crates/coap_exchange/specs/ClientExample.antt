@@ -2,6 +2,7 @@
 -- meanwhile, and its Timeout at 93,000 (RFC 7252, sections 4.2 and 4.7).
 use Rattle.std.specs.Prelude.{None, List, [], ◌∷◌, Ok, Err}
 use Rattle.coap_types.specs.declared.endpoint.Endpoint.{Endpoint}
+use Rattle.coap_types.specs.declared.message.TheConstants.Code as codes
 use Rattle.coap_layer.specs.Trace as T
 use Rattle.coap_exchange.specs.declared.asker.AskRefusal.TheVariants as refusal
 use Rattle.coap_exchange.specs.declared.asker.Event.TheVariants as event
@@ -14,7 +15,7 @@ server = record { ip = 127 ∷ 0 ∷ 0 ∷ 1 ∷ []; port = 5683 }
 
 -- a GET with nothing more
 abbrev pub get : Request
-get = record { code = 1; token = None; options = []; payload = [] }
+get = record { code = codes.GET.0; token = None; options = []; payload = [] }
 
 -- the calls, the newest first
 abbrev pub run : List Call

@@ -3,6 +3,7 @@
 use Rattle.std.specs.Prelude.{ℕ, true, Some, List, [], ◌∷◌, ◌++◌}
 use Rattle.coap_types.specs.declared.endpoint.Endpoint.{Endpoint}
 use Rattle.coap_types.specs.declared.message.Kind.TheVariants.{Con}
+use Rattle.coap_types.specs.declared.message.TheConstants.Code as codes
 use Rattle.coap_codec.specs.Message.{Message}
 use Rattle.coap_layer.specs.Trace as T
 use Rattle.coap_exchange.specs.declared.answerer.Asked.{Asked}
@@ -27,7 +28,7 @@ abbrev pub request : Message
 request =
     record {
       kind = Con;
-      code = 1;
+      code = codes.GET.0;
       id = 0;
       token = token;
       options = record { number = 11; value = 0x74 ∷ [] } ∷ [];
@@ -39,11 +40,16 @@ asked = asked_of client request
 
 -- 2.05 with `hi`
 abbrev pub content : Response
-content = record { code = 69; options = []; payload = 0x68 ∷ 0x69 ∷ [] }
+content = record { code = codes.CONTENT.0; options = []; payload = 0x68 ∷ 0x69 ∷ [] }
 
 -- .. and with Observe
 abbrev pub notification : Response
-notification = record { code = 69; options = record { number = 6; value = [] } ∷ []; payload = 0x68 ∷ 0x69 ∷ [] }
+notification =
+    record {
+      code = codes.CONTENT.0;
+      options = record { number = 6; value = [] } ∷ [];
+      payload = 0x68 ∷ 0x69 ∷ [];
+    }
 
 -- the calls, the newest first
 abbrev pub run : List Call

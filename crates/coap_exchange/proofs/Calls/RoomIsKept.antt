@@ -1,11 +1,12 @@
 -- A CON that can be sent can still be sent after a call that sends nothing.
-use Rattle.std.proofs.Common.{◌≡◌, ◌≤◌, ℕ, ◌+◌, ◌/◌, ◌%◌, ◌==◌, nat_lt, max, Bool, true, false, Option, Some, None}
-use Rattle.std.proofs.Common.{List, [], ◌∷◌, ◌++◌, length, cond, option_to_list, refl, ap, sym, subst, ◌∙◌, ◌||◌, not}
-use Rattle.std.proofs.Common.{slice_get, arith}
+use Rattle.std.proofs.Common.{◌≡◌, ◌≤◌, ℕ, ◌+◌, nat_lt, max, Bool, true, false, Option, Some, None}
+use Rattle.std.proofs.Common.{List, [], ◌∷◌, ◌++◌, length, cond, option_to_list, refl, ap, sym, subst, ◌∙◌, ◌||◌}
+use Rattle.std.proofs.Common.{arith}
 use Rattle.std.proofs.lemmas.Bool.Decides.{nat_tests}
 use Rattle.std.specs.List.{filter_map, cons_option}
 use Rattle.std.proofs.lemmas.List.{append-nil, length-append}
 use Rattle.coap_types.specs.declared.endpoint.Endpoint.{Endpoint}
+use Rattle.coap_types.specs.declared.transmission.TheConstants.{ID_REUSE_AFTER_MS as id_reuse_after}
 use Rattle.coap_layer.specs.Machine.State as L
 use Rattle.coap_layer.specs.Machine.State.{is_busy, is_free, is_rested, moment, next_after, out_of, uses_after}
 use Rattle.coap_layer.specs.Trace as T
@@ -23,7 +24,8 @@ use Rattle.coap_exchange.specs.Machine.AnswererShown.{Shown, MayNotify}
 use Rattle.coap_layer.proofs.Facts.CallsOfLayer.{entry_of, step_clock, step_opens}
 
 -- a Message ID that is free stays free
-lt_later : (last now later : ℕ) → now ≤ later → nat_lt (last + 400000) now ≡ true → nat_lt (last + 400000) later ≡ true
+lt_later : (last now later : ℕ) → now ≤ later → nat_lt (last + id_reuse_after) now ≡ true
+    → nat_lt (last + id_reuse_after) later ≡ true
 lt_later last now later le h = grind (arith, nat_tests)
 
 rested_later : (now later : ℕ) (used : Option (Option ℕ)) → now ≤ later → is_rested now used ≡ true
@@ -38,9 +40,7 @@ either false b c f h = f h
 
 pub free_later : (now later n : ℕ) (uses : List (Option ℕ)) → now ≤ later → is_free now n uses ≡ true
     → is_free later n uses ≡ true
-free_later now later n uses le h =
-    either (not (n % 4096 == 0)) (is_rested now (slice_get uses (n / 4096)))
-    (is_rested later (slice_get uses (n / 4096))) (rested_later now later (slice_get uses (n / 4096)) le) h
+free_later now later n uses le h = either _ _ _ (rested_later now later _ le) h
 
 -- where no CON to an endpoint is outstanding, none is after some have ended or were sent again
 

@@ -2,6 +2,9 @@
 use Rattle.std.proofs.Common.{◌≡◌, ◌≤◌, ◌<◌, ℕ, ◌+◌, ◌++◌, List, [], ◌∷◌, length, arith}
 use Rattle.std.proofs.lemmas.List.{length-append}
 use Rattle.coap_types.specs.declared.message.Kind.{Kind}
+use Rattle.coap_types.specs.declared.limits.TheConstants.{MAX_MESSAGE_LEN as max_message_len}
+use Rattle.coap_types.specs.declared.message.TheConstants.{MESSAGE_IDS as message_ids}
+use Rattle.coap_types.specs.declared.token.TheConstants.{MAX_TOKEN_LEN as max_token_len}
 use Rattle.coap_layer.proofs.Facts.Sendable.{sendable_when_short}
 use Rattle.coap_layer.specs.Trace.{with_head}
 use Rattle.coap_codec.specs.BoundedSpelling.{CanBeSpelled, most_bytes}
@@ -13,7 +16,8 @@ use Rattle.coap_exchange.specs.ShortRequests.{IsAskableWhenShort, IsAskableWhenS
 use Rattle.coap_exchange.specs.AnswererSteps as answer
 use Rattle.coap_exchange.specs.ShortAnswers.{IsAnswerWhenShort, IsNotificationWhenShort}
 
-shorter : (t n : ℕ) → t ≤ 8 → 4 + (8 + n) ≤ 1152 → 4 + (t + n) ≤ 1152
+shorter : (t n : ℕ) → t ≤ max_token_len → 4 + (max_token_len + n) ≤ max_message_len
+    → 4 + (t + n) ≤ max_message_len
 shorter t n a b = omega (arith, a, b)
 
 pub askable_when_short : IsAskableWhenShort
@@ -47,7 +51,7 @@ marked_most (b ∷ bytes) = omega arith
 pub askable_when_short_exactly : IsAskableWhenShortExactly
 askable_when_short_exactly r s token few =
     let p = s.parts in
-    let can : (kind : Kind) (id : ℕ) → id < 65536 → CanBeSpelled (with_head kind id (content_of token r)) =
+    let can : (kind : Kind) (id : ℕ) → id < message_ids → CanBeSpelled (with_head kind id (content_of token r)) =
     λ kind id small. record {
       some = p.some;
       code = p.code;
