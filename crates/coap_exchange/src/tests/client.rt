@@ -19,25 +19,25 @@ const STRANGER: Endpoint = Endpoint {
     port: 5_684,
 };
 
-/// A GET of `t`, with token and Message ID 0.
+// A GET of `t`, with token and Message ID 0.
 const GET_T: &[u8] = &[0x48, 0x01, 0, 0, 0, 0, 0, 0, 0, 0, 0, 0, 0xb1, 0x74];
-/// The piggybacked response to it, 2.05 with `hi`.
+// The piggybacked response to it, 2.05 with `hi`.
 const ANSWER: &[u8] = &[0x68, 0x45, 0, 0, 0, 0, 0, 0, 0, 0, 0, 0, 0xff, 0x68, 0x69];
-/// The same as a separate response, in a CON of Message ID 7 and in a NON.
+// The same as a separate response, in a CON of Message ID 7 and in a NON.
 const SEPARATE: &[u8] = &[0x48, 0x45, 0, 7, 0, 0, 0, 0, 0, 0, 0, 0, 0xff, 0x68, 0x69];
 
 const SEPARATE_NON: &[u8] = &[0x58, 0x45, 0, 7, 0, 0, 0, 0, 0, 0, 0, 0, 0xff, 0x68, 0x69];
-/// A notification with its token, in a CON of Message ID 8 and in a NON of Message ID 9.
+// A notification with its token, in a CON of Message ID 8 and in a NON of Message ID 9.
 const NOTIFICATION: &[u8] = &[0x48, 0x45, 0, 8, 0, 0, 0, 0, 0, 0, 0, 0, 0x61, 0x05];
 
 const NOTIFICATION_NON: &[u8] = &[0x58, 0x45, 0, 9, 0, 0, 0, 0, 0, 0, 0, 0, 0x61, 0x06];
-/// A response with its token and Uri-Path, which no response has, in a CON, in a NON and in an ACK.
+// A response with its token and Uri-Path, which no response has, in a CON, in a NON and in an ACK.
 const CRITICAL: &[u8] = &[0x48, 0x45, 0, 7, 0, 0, 0, 0, 0, 0, 0, 0, 0xb1, 0x74];
 
 const CRITICAL_NON: &[u8] = &[0x58, 0x45, 0, 9, 0, 0, 0, 0, 0, 0, 0, 0, 0xb1, 0x74];
 
 const CRITICAL_ACK: &[u8] = &[0x68, 0x45, 0, 0, 0, 0, 0, 0, 0, 0, 0, 0, 0xb1, 0x74];
-/// The Empty acknowledgement and the Reset of the GET.
+// The Empty acknowledgement and the Reset of the GET.
 const EMPTY_ACK: &[u8] = &[0x60, 0, 0, 0];
 
 const RESET: &[u8] = &[0x70, 0, 0, 0];

@@ -17,20 +17,20 @@ const CLIENT: Endpoint = Endpoint {
     port: 40_001,
 };
 
-/// A GET in a CON with Message ID 0: with a token of eight zeros, and with none.
+// A GET in a CON with Message ID 0: with a token of eight zeros, and with none.
 const GET: &[u8] = &[0x48, 0x01, 0, 0, 0, 0, 0, 0, 0, 0, 0, 0];
 
 const GET_PLAIN: &[u8] = &[0x40, 0x01, 0, 0];
-/// The response to the second in its acknowledgement, 2.05 with `hi`.
+// The response to the second in its acknowledgement, 2.05 with `hi`.
 const PIGGYBACKED: &[u8] = &[0x60, 0x45, 0, 0, 0xff, 0x68, 0x69];
-/// The Empty acknowledgement of the GET.
+// The Empty acknowledgement of the GET.
 const EMPTY_ACK: &[u8] = &[0x60, 0, 0, 0];
-/// A separate response to the first, 2.05 with `hi`, in a CON of Message ID 7.
+// A separate response to the first, 2.05 with `hi`, in a CON of Message ID 7.
 const SEPARATE: &[u8] = &[0x48, 0x45, 0, 7, 0, 0, 0, 0, 0, 0, 0, 0, 0xff, 0x68, 0x69];
-/// The Empty acknowledgement of that.
+// The Empty acknowledgement of that.
 const ACK_7: &[u8] = &[0x60, 0, 0, 7];
 
-/// Counts how many hashes are begun.
+// Counts how many hashes are begun.
 #[derive(Clone, Copy)]
 struct Counts<'c> {
     uses: &'c Cell<u32>,
@@ -48,12 +48,12 @@ impl BuildHasher for Counts<'_> {
     }
 }
 
-/// The token of eight zeros.
+// The token of eight zeros.
 fn eight_zeros<R: Abort>(rt: &R) -> Token {
     Token::new(&[0; 8]).expect(rt, "a token")
 }
 
-/// What the client sends next goes to the server and has these bytes.
+// What the client sends next goes to the server and has these bytes.
 fn asker_sends<R: Abort + AllocGlobal, S: BuildHasher>(
     rt: &R,
     asker: &mut Asker<Global, S>,
@@ -64,7 +64,7 @@ fn asker_sends<R: Abort + AllocGlobal, S: BuildHasher>(
     assert_eq!(rt; datagram.bytes(), bytes);
 }
 
-/// What the server sends next goes to the client and has these bytes.
+// What the server sends next goes to the client and has these bytes.
 fn answerer_sends<R: Abort + AllocGlobal, S: BuildHasher>(
     rt: &R,
     answerer: &mut Answerer<Global, S>,
@@ -75,7 +75,7 @@ fn answerer_sends<R: Abort + AllocGlobal, S: BuildHasher>(
     assert_eq!(rt; datagram.bytes(), bytes);
 }
 
-/// Sends a GET with a token of eight zeros.
+// Sends a GET with a token of eight zeros.
 fn asks<R: Abort + AllocGlobal, S: BuildHasher>(rt: &R, asker: &mut Asker<Global, S>) {
     askable_law();
     let get = Ask {
@@ -88,7 +88,7 @@ fn asks<R: Abort + AllocGlobal, S: BuildHasher>(rt: &R, asker: &mut Asker<Global
     asker_sends(rt, asker, GET);
 }
 
-/// A separate response is told once, and its duplicate is acknowledged again.
+// A separate response is told once, and its duplicate is acknowledged again.
 fn tells_a_response_once<R: Abort + AllocGlobal, S: BuildHasher>(
     rt: &R,
     asker: &mut Asker<Global, S>,
@@ -114,7 +114,7 @@ fn a_response_is_told_once_with_random_keys(rt: HostRuntime) -> io::Result<()> {
     Ok(())
 }
 
-/// Answers the request with 2.05 and `hi`.
+// Answers the request with 2.05 and `hi`.
 fn answers<R: Abort + AllocGlobal, S: BuildHasher>(
     rt: &R,
     answerer: &mut Answerer<Global, S>,
@@ -137,7 +137,7 @@ fn answers<R: Abort + AllocGlobal, S: BuildHasher>(
     Ok(())
 }
 
-/// A request is handed up once in 247 s; until then its duplicate gets the response again.
+// A request is handed up once in 247 s; until then its duplicate gets the response again.
 fn hands_up_a_request_once<R: Abort + AllocGlobal, S: BuildHasher>(
     rt: &R,
     answerer: &mut Answerer<Global, S>,
@@ -162,7 +162,7 @@ fn a_request_is_handed_up_once_with_random_keys(rt: HostRuntime) -> io::Result<(
     Ok(())
 }
 
-/// Each new notification is hashed: those of Message IDs 8 to 27, in CONs.
+// Each new notification is hashed: those of Message IDs 8 to 27, in CONs.
 fn hashes_each_notification<R: Abort + AllocGlobal>(
     rt: &R,
     asker: &mut Asker<Global, Counts<'_>>,
@@ -191,7 +191,7 @@ fn each_new_response_is_hashed(rt: HostRuntime) -> Result<(), AllocError> {
     hashes_each_notification(&rt, &mut asker, &uses)
 }
 
-/// Each new request is hashed: those of Message IDs 1 to 20, in CONs.
+// Each new request is hashed: those of Message IDs 1 to 20, in CONs.
 fn hashes_each_request<R: Abort + AllocGlobal>(
     rt: &R,
     answerer: &mut Answerer<Global, Counts<'_>>,

@@ -22,21 +22,21 @@ const OTHER: Endpoint = Endpoint {
     port: 40_002,
 };
 
-/// A GET of `t`, with Message ID 0 and a token of eight zeros, in a CON.
+// A GET of `t`, with Message ID 0 and a token of eight zeros, in a CON.
 const GET_T: &[u8] = &[0x48, 0x01, 0, 0, 0, 0, 0, 0, 0, 0, 0, 0, 0xb1, 0x74];
-/// The same with Message ID 5 in a NON.
+// The same with Message ID 5 in a NON.
 const GET_T_NON: &[u8] = &[0x58, 0x01, 0, 5, 0, 0, 0, 0, 0, 0, 0, 0, 0xb1, 0x74];
-/// The response to it, 2.05 with `hi`: in the acknowledgement, in a NON and in a CON of Message ID 0.
+// The response to it, 2.05 with `hi`: in the acknowledgement, in a NON and in a CON of Message ID 0.
 const PIGGYBACKED: &[u8] = &[0x68, 0x45, 0, 0, 0, 0, 0, 0, 0, 0, 0, 0, 0xff, 0x68, 0x69];
 
 const ANSWER_NON: &[u8] = &[0x58, 0x45, 0, 0, 0, 0, 0, 0, 0, 0, 0, 0, 0xff, 0x68, 0x69];
 
 const SEPARATE: &[u8] = &[0x48, 0x45, 0, 0, 0, 0, 0, 0, 0, 0, 0, 0, 0xff, 0x68, 0x69];
-/// A notification of Message ID 0, with a token of eight zeros: 2.05, Observe 0 and `hi`.
+// A notification of Message ID 0, with a token of eight zeros: 2.05, Observe 0 and `hi`.
 const NOTIFICATION: &[u8] = &[
     0x48, 0x45, 0, 0, 0, 0, 0, 0, 0, 0, 0, 0, 0x60, 0xff, 0x68, 0x69,
 ];
-/// The Empty acknowledgement and the Reset of Message ID 0.
+// The Empty acknowledgement and the Reset of Message ID 0.
 const EMPTY_ACK: &[u8] = &[0x60, 0, 0, 0];
 
 const RESET: &[u8] = &[0x70, 0, 0, 0];

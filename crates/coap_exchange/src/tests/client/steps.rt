@@ -62,7 +62,7 @@ pub(super) enum Step<'a> {
     CopiesInVain,
 }
 
-/// Asks for `t`, with the token of an observation that is cancelled or a fresh one.
+// Asks for `t`, with the token of an observation that is cancelled or a fresh one.
 fn ask<R: Abort + AllocGlobal>(
     rt: &R,
     asker: &mut Asker<Global>,
@@ -89,14 +89,14 @@ fn token<R: Abort>(rt: &R, number: u8) -> Token {
     Token::new(&[0, 0, 0, 0, 0, 0, 0, number]).expect(rt, "8 bytes")
 }
 
-/// What is to be sent next goes to the server and has these bytes.
+// What is to be sent next goes to the server and has these bytes.
 fn is_sent<R: Abort + AllocGlobal>(rt: &R, asker: &mut Asker<Global>, to: Endpoint, bytes: &[u8]) {
     let datagram = asker.next_out().expect(rt, "a datagram");
     assert_eq!(rt; datagram.to(), to);
     assert_eq!(rt; datagram.bytes(), bytes);
 }
 
-/// The datagram tells that.
+// The datagram tells that.
 fn gets<R: Abort + AllocGlobal>(
     rt: &R,
     asker: &mut Asker<Global>,
@@ -119,7 +119,7 @@ fn gets<R: Abort + AllocGlobal>(
     Ok(())
 }
 
-/// The tick says that.
+// The tick says that.
 fn ticks<R: Abort + AllocGlobal>(
     rt: &R,
     asker: &mut Asker<Global>,
@@ -135,7 +135,7 @@ fn ticks<R: Abort + AllocGlobal>(
     }
 }
 
-/// It asks with this token.
+// It asks with this token.
 fn asks<R: Abort + AllocGlobal>(
     rt: &R,
     asker: &mut Asker<Global>,
@@ -146,29 +146,29 @@ fn asks<R: Abort + AllocGlobal>(
     assert_eq!(rt; ask(rt, asker, now, cancelled), Ok(token(rt, number)));
 }
 
-/// Nothing is to be sent.
+// Nothing is to be sent.
 fn is_silent<R: Abort + AllocGlobal>(rt: &R, asker: &mut Asker<Global>) {
     assert!(rt; asker.next_out().is_none());
 }
 
-/// The token of this number is kept, or not.
+// The token of this number is kept, or not.
 fn keeps<R: Abort>(rt: &R, asker: &mut Asker<Global>, number: u8, kept: bool) {
     assert_eq!(rt; asker.keep(&token(rt, number)), kept);
 }
 
-/// The token of this number was kept and is no more, or was not.
+// The token of this number was kept and is no more, or was not.
 fn releases<R: Abort>(rt: &R, asker: &mut Asker<Global>, number: u8, was: bool) {
     assert_eq!(rt; asker.release(&token(rt, number)), was);
 }
 
-/// It keeps 16 tokens.
+// It keeps 16 tokens.
 fn keep_sixteen<R: Abort>(rt: &R, asker: &mut Asker<Global>) {
     for number in 0..16 {
         keeps(rt, asker, number, true);
     }
 }
 
-/// It keeps the first token and asks again.
+// It keeps the first token and asks again.
 fn goes_on<R: Abort + AllocGlobal>(rt: &R, asker: &mut Asker<Global>, now: u64)
     ensures { asker.new.before ≡ asker.old.before }
 {
@@ -176,7 +176,7 @@ fn goes_on<R: Abort + AllocGlobal>(rt: &R, asker: &mut Asker<Global>, now: u64)
     assert_eq!(rt; ask(rt, asker, now, None), Ok(token(rt, 1)));
 }
 
-/// The answer comes, its token is kept and it asks again, and all of that is taken back.
+// The answer comes, its token is kept and it asks again, and all of that is taken back.
 fn answer_in_vain<R: Abort + AllocGlobal>(
     rt: &R,
     asker: &mut Asker<Global>,
@@ -188,7 +188,7 @@ fn answer_in_vain<R: Abort + AllocGlobal>(
     Ok(())
 }
 
-/// A notice comes and its token is released, and both are taken back.
+// A notice comes and its token is released, and both are taken back.
 fn release_in_vain<R: Abort + AllocGlobal>(
     rt: &R,
     asker: &mut Asker<Global>,
@@ -200,7 +200,7 @@ fn release_in_vain<R: Abort + AllocGlobal>(
     Ok(())
 }
 
-/// The request fails and it asks again, and both are taken back.
+// The request fails and it asks again, and both are taken back.
 fn fail_in_vain<R: Abort + AllocGlobal>(
     rt: &R,
     asker: &mut Asker<Global>,
@@ -212,7 +212,7 @@ fn fail_in_vain<R: Abort + AllocGlobal>(
     Ok(())
 }
 
-/// A copy is sent, and that is taken back.
+// A copy is sent, and that is taken back.
 fn copy_in_vain<R: Abort + AllocGlobal>(
     rt: &R,
     asker: &mut Asker<Global>,
@@ -246,7 +246,7 @@ fn take_step<R: Abort + AllocGlobal>(
     Ok(())
 }
 
-/// A client's side takes the steps, one after the other.
+// A client's side takes the steps, one after the other.
 fn take_steps<R: Abort + AllocGlobal>(
     rt: &R,
     asker: &mut Asker<Global>,

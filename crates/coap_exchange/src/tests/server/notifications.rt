@@ -7,13 +7,13 @@ use super::{CLIENT, EMPTY_ACK, GET_T, NOTIFICATION, OTHER, PIGGYBACKED, RESET};
 use std::alloc::AllocError;
 use std::test::*;
 
-/// A notification of Message ID 1, with a token of eight zeros: 2.05, Observe 0 and `hi`.
+// A notification of Message ID 1, with a token of eight zeros: 2.05, Observe 0 and `hi`.
 const NOTIFICATION_1: &[u8] = &[
     0x48, 0x45, 0, 1, 0, 0, 0, 0, 0, 0, 0, 0, 0x60, 0xff, 0x68, 0x69,
 ];
-/// A notification of Message ID 0 that the resource is gone: 4.04, without options.
+// A notification of Message ID 0 that the resource is gone: 4.04, without options.
 const GONE: &[u8] = &[0x48, 0x84, 0, 0, 0, 0, 0, 0, 0, 0, 0, 0];
-/// The same of Message ID 1.
+// The same of Message ID 1.
 const GONE_1: &[u8] = &[0x48, 0x84, 0, 1, 0, 0, 0, 0, 0, 0, 0, 0];
 
 #[test]

@@ -10,7 +10,7 @@ use std::alloc::{AllocError, AllocGlobal, Global};
 use std::process::Abort;
 use std::test::*;
 
-/// The token of eight zeros.
+// The token of eight zeros.
 fn eight_zeros<R: Abort>(rt: &R) -> Token {
     Token::new(&[0; 8]).expect(rt, "a token")
 }

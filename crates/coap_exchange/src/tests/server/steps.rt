@@ -71,7 +71,7 @@ pub(super) enum Step<'a> {
     ClockIs(u64),
 }
 
-/// Answers the request with 2.05 and `hi`.
+// Answers the request with 2.05 and `hi`.
 fn answer<R: Abort + AllocGlobal>(
     rt: &R,
     answerer: &mut Answerer<Global>,
@@ -97,7 +97,7 @@ fn answer<R: Abort + AllocGlobal>(
     Ok(())
 }
 
-/// Defers the request.
+// Defers the request.
 fn defer<R: Abort + AllocGlobal>(
     rt: &R,
     answerer: &mut Answerer<Global>,
@@ -117,7 +117,7 @@ fn defer<R: Abort + AllocGlobal>(
     }
 }
 
-/// Defers 16 requests by 1,000 ms.
+// Defers 16 requests by 1,000 ms.
 fn defer_sixteen<R: Abort + AllocGlobal>(
     rt: &R,
     answerer: &mut Answerer<Global>,
@@ -129,7 +129,7 @@ fn defer_sixteen<R: Abort + AllocGlobal>(
     Ok(())
 }
 
-/// Responds to the deferred request that is ready, with 2.05 and `hi`.
+// Responds to the deferred request that is ready, with 2.05 and `hi`.
 fn respond<R: Abort + AllocGlobal>(
     rt: &R,
     answerer: &mut Answerer<Global>,
@@ -153,7 +153,7 @@ fn respond<R: Abort + AllocGlobal>(
     }
 }
 
-/// What is to be sent next goes there and has these bytes.
+// What is to be sent next goes there and has these bytes.
 fn is_sent<R: Abort + AllocGlobal>(
     rt: &R,
     answerer: &mut Answerer<Global>,
@@ -170,7 +170,7 @@ pub(super) fn is_silent<R: Abort + AllocGlobal>(rt: &R, answerer: &mut Answerer<
     assert!(rt; answerer.next_out().is_none());
 }
 
-/// The datagram brings no request.
+// The datagram brings no request.
 fn is_nothing<R: Abort + AllocGlobal>(
     rt: &R,
     answerer: &mut Answerer<Global>,
@@ -184,7 +184,7 @@ fn is_nothing<R: Abort + AllocGlobal>(
     Ok(())
 }
 
-/// What was sent to the client has ended, and carried Observe or not.
+// What was sent to the client has ended, and carried Observe or not.
 fn has_ended<R: Abort>(rt: &R, answerer: &Answerer<Global>, observe: bool) {
     let ended = answerer.ended().expect(rt, "an end");
     assert_eq!(rt; ended.to, CLIENT);
@@ -192,7 +192,7 @@ fn has_ended<R: Abort>(rt: &R, answerer: &Answerer<Global>, observe: bool) {
     assert_eq!(rt; ended.observe, observe);
 }
 
-/// Answers the request, and takes that back.
+// Answers the request, and takes that back.
 fn answer_in_vain<R: Abort + AllocGlobal>(
     rt: &R,
     answerer: &mut Answerer<Global>,
@@ -203,7 +203,7 @@ fn answer_in_vain<R: Abort + AllocGlobal>(
     Ok(())
 }
 
-/// Defers the request, and takes that back.
+// Defers the request, and takes that back.
 fn defer_in_vain<R: Abort + AllocGlobal>(
     rt: &R,
     answerer: &mut Answerer<Global>,
@@ -214,7 +214,7 @@ fn defer_in_vain<R: Abort + AllocGlobal>(
     Ok(())
 }
 
-/// Responds to the deferred request that is ready, and takes that back.
+// Responds to the deferred request that is ready, and takes that back.
 fn respond_in_vain<R: Abort + AllocGlobal>(
     rt: &R,
     answerer: &mut Answerer<Global>,
@@ -225,7 +225,7 @@ fn respond_in_vain<R: Abort + AllocGlobal>(
     Ok(())
 }
 
-/// The end of the response is told, and that is taken back.
+// The end of the response is told, and that is taken back.
 fn end_in_vain<R: Abort + AllocGlobal>(
     rt: &R,
     answerer: &mut Answerer<Global>,
@@ -237,7 +237,7 @@ fn end_in_vain<R: Abort + AllocGlobal>(
     Ok(())
 }
 
-/// A Reset from elsewhere tells of no end, and is taken back.
+// A Reset from elsewhere tells of no end, and is taken back.
 fn ignore_in_vain<R: Abort + AllocGlobal>(
     rt: &R,
     answerer: &mut Answerer<Global>,
@@ -248,7 +248,7 @@ fn ignore_in_vain<R: Abort + AllocGlobal>(
     Ok(())
 }
 
-/// The tick says that.
+// The tick says that.
 fn ticks<R: Abort + AllocGlobal>(
     rt: &R,
     answerer: &mut Answerer<Global>,
@@ -264,22 +264,22 @@ fn ticks<R: Abort + AllocGlobal>(
     }
 }
 
-/// The Message ID is this one.
+// The Message ID is this one.
 fn is_id<R: Abort>(rt: &R, id: Id, number: u16) {
     assert_eq!(rt; id, Id(number));
 }
 
-/// The answer is that one.
+// The answer is that one.
 fn is_said<R: Abort>(rt: &R, said: bool, expected: bool) {
     assert_eq!(rt; said, expected);
 }
 
-/// None has ended.
+// None has ended.
 fn none_ended<R: Abort>(rt: &R, answerer: &Answerer<Global>) {
     assert!(rt; answerer.ended().is_none());
 }
 
-/// The last moment that counted is this one.
+// The last moment that counted is this one.
 fn clock_is<R: Abort>(rt: &R, answerer: &Answerer<Global>, now: u64) {
     assert_eq!(rt; answerer.clock(), Moment(now));
 }
@@ -319,7 +319,7 @@ fn take_step<R: Abort + AllocGlobal>(
     Ok(())
 }
 
-/// A server's side takes the steps, one after the other.
+// A server's side takes the steps, one after the other.
 fn take_steps<R: Abort + AllocGlobal>(
     rt: &R,
     answerer: &mut Answerer<Global>,
@@ -340,7 +340,7 @@ pub(super) fn from_new<R: Abort + AllocGlobal>(
     take_steps(rt, &mut answerer, steps)
 }
 
-/// A new server's side first takes some steps, and then the others.
+// A new server's side first takes some steps, and then the others.
 fn from_first<R: Abort + AllocGlobal>(
     rt: &R,
     first: &[Step<'_>],
