@@ -16,10 +16,11 @@ pub fn tell<A: Allocator + Copy, W: Write>(
     let mut number = 0;
     let turns = record.lines().split(|line| is_begin(line));
     for (event, lines) in events.iter().zip(turns.skip(1)) {
-        number = tell_outs(alloc, event.at, lines, record, number, out)?;
-        tell_applied(event.at, lines, out)?;
-        tell_reports(alloc, event.at, lines, out)?;
-        tell_refusals(event.at, lines, out)?;
+        let at = event.at.0;
+        number = tell_outs(alloc, at, lines, record, number, out)?;
+        tell_applied(at, lines, out)?;
+        tell_reports(alloc, at, lines, out)?;
+        tell_refusals(at, lines, out)?;
     }
     Ok(())
 }

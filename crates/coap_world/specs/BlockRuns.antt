@@ -2,6 +2,7 @@
 -- newest event, or datagram, first.
 use Rattle.std.specs.Prelude.{ℕ, Some, None, List, [], ◌∷◌, ◌++◌, codes}
 use Rattle.coap_ends.specs.ClientSide.ClientTrace.{Request, Body, Done}
+use Rattle.coap_ends.specs.SuccessCodes.{created}
 use Rattle.coap_world.specs.Events.{client_end, Config, Calls, TickClient, Deliver}
 use Rattle.coap_world.specs.Events.{Event}
 use Rattle.coap_world.specs.LegalEvents.{event}
@@ -36,10 +37,6 @@ block_bytes n block payload = 0x48 ∷ 3 ∷ 0 ∷ n ∷ key n ++ 0xb1 ∷ codes
 
 abbrev pub answer_bytes : ℕ → ℕ → ℕ → List ℕ
 answer_bytes code n block = 0x68 ∷ code ∷ 0 ∷ n ∷ key n ++ 0xd1 ∷ 0x0e ∷ block ∷ []
-
--- 2.01 (Created)
-abbrev pub created : ℕ
-created = 65
 
 pub record Uploads : Type 0 where
   pub run : Runs by_16 uploads

@@ -8,27 +8,20 @@ use Rattle.coap_resource.specs.declared.refusal.StoreRefusal.{StoreRefusal}
 use Rattle.coap_resource.specs.declared.refusal.StoreRefusal.TheVariants.{RateExceeded}
 use Rattle.coap_ends.specs.ClientSide.ClientTrace.{Request, Report, Reported, Body, Valid, Done, Value}
 use Rattle.coap_ends.specs.ServerSide.ServerTrace as S
+use Rattle.coap_ends.specs.SuccessCodes.{created, changed, deleted}
 use Rattle.coap_world.specs.Events.{client_end, Config, Calls, Observes, Forgets, Sets, Removes, TickClient, TickServer}
 use Rattle.coap_world.specs.Events.{Deliver, StrangerToServer, Event}
 use Rattle.coap_world.specs.LegalEvents.{event}
 use Rattle.coap_world.specs.Record.{Entry, OfServer, entries_of}
 use Rattle.coap_world.specs.LegalRuns.{config, from_client, from_server, Runs, reported, Reports, Holds, tag, plain}
 use Rattle.coap_world.specs.LegalRuns.{json, t, hi, get, put, delete, log, changed_bytes, stranger, puts}
-use Rattle.coap_world.specs.BlockRuns.{key, created, first_get}
+use Rattle.coap_world.specs.BlockRuns.{key, first_get}
 use Rattle.coap_world.specs.ObservationRuns.{observe_bytes, first_bytes, second_bytes}
 use Rattle.coap_world.specs.Words.{holds_at}
 
 -- a report of the second call
 abbrev pub reported_next : Report → Reported
 reported_next report = record { number = 1; report = report }
-
--- 2.04 (Changed) and 2.02 (Deleted)
-
-abbrev pub changed : ℕ
-changed = 68
-
-abbrev pub deleted : ℕ
-deleted = 66
 
 -- A PUT and a GET of one path are called at one moment: the GET waits until the PUT is answered, by a 2.01, and gets
 -- what that put (RFC 7252, sections 4.7, 5.8.1 and 5.8.3).

@@ -2,12 +2,14 @@
 -- (RFC 7252, section 4.8.2; RFC 7959, section 2.5). Each is the newest event, or datagram, first.
 use Rattle.std.specs.Prelude.{◌≡◌, ℕ, Some, None, List, [], ◌∷◌, ◌++◌, codes}
 use Rattle.coap_types.specs.Past.{Sometime}
+use Rattle.coap_types.specs.declared.message.TheConstants.Code.{CONTINUE}
 use Rattle.coap_ends.specs.ClientSide.ClientTrace.{Request, Timeout, Done, Reported}
+use Rattle.coap_ends.specs.SuccessCodes.{created, changed}
 use Rattle.coap_world.specs.Events.{client_end, Config, Calls, TickClient, Deliver, Event}
 use Rattle.coap_world.specs.LegalEvents.{event}
 use Rattle.coap_world.specs.LegalRuns.{from_client, from_server, Runs, reported, Reports, Holds, t, put}
 use Rattle.coap_world.specs.Record.{Given, entries_of}
-use Rattle.coap_world.specs.BlockRuns.{key, by_16, block_bytes, answer_bytes, created}
+use Rattle.coap_world.specs.BlockRuns.{key, by_16, block_bytes, answer_bytes}
 use Rattle.coap_world.specs.Words.{AppliesFor, changes_in, holds_at}
 
 -- a request of this call is applied in it; its server makes so many changes in all; before one of its calls `t` held
@@ -33,7 +35,7 @@ second_done = record { number = 1; report = Done created }
 
 -- 2.31 (Continue)
 abbrev pub continue : ℕ
-continue = 95
+continue = CONTINUE.0
 
 -- a datagram that goes out at 0 and is copied four times
 abbrev pub five_times : List ℕ → List Given
@@ -134,10 +136,8 @@ completes_late =
     event 0 (Calls (uploading failed_body)) ∷
     []
 
--- Block1 is 0/1/16 as 8, and 1/0/16 as 16; the short body goes without it
-
-abbrev pub failed_first : List ℕ
-failed_first = block_bytes 0 8 (codes "abcdefghijklmnop")
+-- The first block is that of the lost body above, in Block1 0/1/16 as 8; the second has 1/0/16 as 16, and the short
+-- body none.
 
 abbrev pub failed_second : List ℕ
 failed_second = block_bytes 1 16 (codes "q")
@@ -148,15 +148,11 @@ short_bytes = 0x48 ∷ 3 ∷ 0 ∷ 2 ∷ key 2 ++ 0xb1 ∷ codes "t" ++ 0xff ∷
 abbrev pub created_bytes : List ℕ
 created_bytes = 0x68 ∷ created ∷ 0 ∷ 2 ∷ key 2
 
--- 2.04 (Changed)
-abbrev pub changed : ℕ
-changed = 68
-
 pub record CompletesLate : Type 0 where
   pub run : Runs by_16 completes_late
       (from_server 130000 client_end (answer_bytes changed 1 16) ∷
       from_server 62000 client_end created_bytes ∷ from_client 62000 short_bytes ∷ five_times failed_second ++
-      from_server 0 client_end (answer_bytes continue 0 8) ∷ from_client 0 failed_first ∷ [])
+      from_server 0 client_end (answer_bytes continue 0 8) ∷ from_client 0 lost_first ∷ [])
   pub reports : Reports run (reported Timeout ∷ second_done ∷ [])
   pub applied_second : Applied run 1
   pub applied_first : Applied run 0

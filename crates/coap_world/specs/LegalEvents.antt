@@ -3,6 +3,8 @@
 use Rattle.std.specs.Prelude.{◌≡◌, ◌≢◌, ◌⊎◌, ◌≤◌, ◌<◌, ℕ, ◌+◌, ◌^◌, false, Option, Some, IfSome, List, [], ◌∷◌, length}
 use Rattle.std.specs.Prelude.{All}
 use Rattle.coap_types.specs.declared.endpoint.Endpoint.{Endpoint}
+use Rattle.coap_types.specs.declared.path.TheConstants.{MAX_SEGMENTS as max_segments}
+use Rattle.coap_types.specs.declared.path.TheConstants.{MAX_SEGMENT_LEN as max_segment_len}
 use Rattle.coap_types.specs.EntityTag.{AreTags}
 use Rattle.coap_world.specs.Events.{client_end, server_end, Config, What, Calls, Observes, Cancels, Forgets, Sets}
 use Rattle.coap_world.specs.Events.{Removes, TickClient, TickServer, Deliver, StrangerToServer, StrangerToClient, Event}
@@ -33,10 +35,10 @@ pub record May (what : What) : Type 0 where
   pub then : (last : Turn) (past : List Turn) (at word : ℕ) → at < 2 ^ 64 → word < 2 ^ 64 → last.event.at ≤ at
       → MayHappen (last ∷ past) (at_with at word what)
 
--- a path of at most 16 segments, each of at most 255 bytes; a number of 16 bits, if any; an endpoint of IPv4
+-- a path of at most MAX_SEGMENTS segments, each of at most MAX_SEGMENT_LEN bytes; a number of 16 bits, if any
 
 abbrev pub Segments : List (List ℕ) → Type 0
-Segments path = (length path ≤ 16) × All (λ s. length s ≤ 255) path × All AreBytes path
+Segments path = (length path ≤ max_segments) × All (λ s. length s ≤ max_segment_len) path × All AreBytes path
 
 abbrev pub Is16 : Option ℕ → Type 0
 Is16 o = IfSome o (λ n. n < 2 ^ 16)
@@ -85,7 +87,7 @@ abbrev pub NoneOver : Type 0
 NoneOver = (at word : ℕ) → (2 ^ 64 ≤ at) ⊎ (2 ^ 64 ≤ word) → NoneRuns (at_with at word TickClient ∷ [])
 
 abbrev pub NoneLonger : Type 0
-NoneLonger = (path : List (List ℕ)) → 16 < length path → NoneRuns (event 0 (Removes path) ∷ [])
+NoneLonger = (path : List (List ℕ)) → max_segments < length path → NoneRuns (event 0 (Removes path) ∷ [])
 
 abbrev pub NoneBeyond : Type 0
 NoneBeyond = (path : List (List ℕ)) (format : ℕ) (body : List ℕ) → 2 ^ 16 ≤ format

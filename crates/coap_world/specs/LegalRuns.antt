@@ -3,7 +3,9 @@
 use Rattle.std.specs.Prelude.{◌≡◌, ◌≤◌, ℕ, true, false, Option, Some, None, List, [], ◌∷◌, ◌++◌, codes}
 use Rattle.coap_types.specs.Past.{Sometime, all_of}
 use Rattle.coap_types.specs.declared.endpoint.Endpoint.{Endpoint}
+use Rattle.coap_types.specs.declared.message.TheConstants.Code.{PRECONDITION_FAILED}
 use Rattle.coap_types.specs.declared.request.Method.TheVariants.{Get, Post, Put, Delete}
+use Rattle.coap_resource.specs.declared.tally.TheConstants.{MAX_CHANGES_PER_WINDOW as max_changes}
 use Rattle.coap_ends.specs.ClientSide.ClientTrace.{Request, Report, Body, Failed, Timeout, Reported}
 use Rattle.coap_ends.specs.ClientSide.ClientGives as C
 use Rattle.coap_ends.specs.ServerSide.ServerTrace.{Delay}
@@ -15,14 +17,14 @@ use Rattle.coap_world.specs.LegalEvents.{event, comes_at}
 use Rattle.coap_world.specs.Record.{Given, Turn, given_in, RecordOf, entries_of, client_of}
 use Rattle.coap_world.specs.Words.{AppliesFor, holds_at}
 
--- words 0, blocks of 1,024 bytes, 4,194,303 changes a window
+-- words 0, blocks of 1,024 bytes, as many changes a window as there may be
 abbrev pub with_delays : List Delay → Config
 with_delays delays = record {
   client_word = 0;
   client_szx = 6;
   server_word = 0;
   server_szx = 6;
-  limit = 4194303;
+  limit = max_changes;
   delays = delays;
 }
 
@@ -156,7 +158,7 @@ put_bytes = 0x48 ∷ 3 ∷ 0 ∷ 0 ∷ token ++ 0x18 ∷ tag 2 ++ 0xa1 ∷ codes
 
 -- 4.12 (Precondition Failed)
 abbrev pub precondition_failed : ℕ
-precondition_failed = 140
+precondition_failed = PRECONDITION_FAILED.0
 
 abbrev pub refused_bytes : List ℕ
 refused_bytes = 0x68 ∷ 0x8c ∷ 0 ∷ 0 ∷ token

@@ -30,6 +30,7 @@ use crate::running::put_away::put_away;
 use crate::running::step::step;
 use crate::running::stop::Stop;
 use coap_resource::{MapStore, Store};
+use coap_types::Moment;
 pub use config::WorldConfig;
 pub use drain::{CLIENT_END, SERVER_END};
 pub use event::{Event, Side, What};
@@ -61,7 +62,7 @@ fn run_over<S: Store<A>, A: Allocator + Copy>(
         → Stands ClientLed (ServerLed S.content) config [] [] client.old server.old log.old 0
         → IsFirstWrong config (map event_of events.now) number }
 {
-    let mut last = 0;
+    let mut last = Moment(0);
     let mut number = 0;
     'events: while number < events.len() {
         match step(client, server, log, &mut last, &events[number]) {

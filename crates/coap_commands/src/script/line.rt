@@ -7,7 +7,7 @@ use crate::script::fields::{cut, last_word, number, path, side};
 use crate::script::refusal::LineRefusal;
 use bytes::Bytes;
 use coap_ends::CallId;
-use coap_types::{Endpoint, Method, Path, Request, Tags};
+use coap_types::{Endpoint, Method, Moment, Path, Request, Tags};
 use coap_world::{Event, What};
 use std::alloc::Allocator;
 
@@ -24,7 +24,7 @@ pub(super) fn event_of_line<A: Allocator + Copy>(
     line: &[u8],
 ) -> Result<Event<A>, LineRefusal> {
     let (moment, rest) = cut(line)?;
-    let at = number(moment)?;
+    let at = Moment(number(moment)?);
     let what = what(alloc, rest)?;
     Ok(Event {
         at,

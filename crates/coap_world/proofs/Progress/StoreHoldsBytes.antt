@@ -1,19 +1,19 @@
 -- What the store of a server holds, and what it replies, are bytes, where what it is given is (RFC 7252, section 5.8).
 use Rattle.std.proofs.Common.{◌≡◌, ℕ, ◌+◌, ◌^◌, nat_lt, nat_le, Bool, true, false, not, ◌&&◌, is_some, Option, Some}
-use Rattle.std.proofs.Common.{None, List, ◌++◌, length, take, drop, ap}
+use Rattle.std.proofs.Common.{None, List, ◌++◌, length, drop, ap}
 use Rattle.std.proofs.Common.{sym, subst, ◌∙◌, cond, Result, refl, arith}
 use Rattle.std.specs.Prelude.{IfSome, ◌<◌, ◌≤◌}
 use Rattle.std.proofs.lemmas.Bool.Decides.{nat_tests}
-use Rattle.std.proofs.lemmas.List.{take-append-drop}
 use Rattle.coap_types.specs.CoapOption.{CoapOption}
 use Rattle.coap_types.specs.OptionValues.{uint_at}
+use Rattle.coap_types.specs.declared.message.TheConstants.Code as codes
 use Rattle.coap_types.specs.declared.option_number.TheConstants.{CONTENT_FORMAT as content_format, BLOCK2 as block2}
 use Rattle.coap_types.specs.Path.{same_path}
 use Rattle.coap_types.proofs.Facts.Paths.{same_path-decides}
 use Rattle.coap_types.specs.declared.request.Method.{Method}
 use Rattle.coap_types.specs.declared.request.Method.TheVariants.{Get, Post, Put, Delete}
 use Rattle.coap_types.specs.Bytes.{AreBytes}
-use Rattle.coap_types.proofs.Facts.Bytes.{AreBytes-drop, AreBytes-front}
+use Rattle.coap_types.proofs.Facts.Bytes.{AreBytes-drop, AreBytes-take}
 use Rattle.coap_resource.specs.declared.refusal.StoreRefusal.{StoreRefusal}
 use Rattle.coap_resource.specs.Content.{Content, Held, Changes, later, append_refusal, put_refusal}
 use Rattle.coap_resource.specs.Rate.{rate_refusal}
@@ -39,8 +39,8 @@ pub record StoreAre (s : Content) : Type 0 where
 same_are : (old left : Content) → left.holds ≡ old.holds → StoreAre old → StoreAre left
 same_are old left same b = record { each = λ path held h. b.each path held (sym (ap (λ f. f path) same) ∙ h) }
 
-unchanged_are : (old left : Content) (at : ℕ) → left ≡ later old at → StoreAre old → StoreAre left
-unchanged_are old left at h b = same_are old left (ap (λ (s : Content). s.holds) h) b
+waited_are : (old left : Content) (at : ℕ) → left ≡ later old at → StoreAre old → StoreAre left
+waited_are old left at h b = same_are old left (ap (λ (s : Content). s.holds) h) b
 
 kept_are : (old left : Content) → left ≡ old → StoreAre old → StoreAre left
 kept_are old left h b = same_are old left (ap (λ (s : Content). s.holds) h) b
@@ -82,9 +82,6 @@ bare_are reply code offset is = subst ReplyAre (sym is) (bare_reply code offset)
 tag_are : (version : ℕ) → AreBytes (tag_of version)
 tag_are version = high_are 8 version
 
-take_are : (n : ℕ) (bytes : List ℕ) → AreBytes bytes → AreBytes (take n bytes)
-take_are n bytes h = AreBytes-front (take n bytes) (drop n bytes) (subst AreBytes (sym (take-append-drop n bytes)) h)
-
 by_tests : (a e b : Bool) (r1 r2 r3 r4 : Reply) → ReplyAre r1 → ReplyAre r2 → ReplyAre r3 → ReplyAre r4
     → ReplyAre (cond a r1 (cond e r2 (cond b r3 r4)))
 by_tests true e b r1 r2 r3 r4 h1 h2 h3 h4 = h1
@@ -104,12 +101,14 @@ got_are (Some held) q small f =
     let is = f held refl in
     let reply : Reply = content_reply held (is_some block) (offset_by block) (szx_by block q.szx) in
     by_tests (not (accepts held.format q.options)) (etag_names held.version q.options)
-    (nat_lt 0 (offset_by block) && nat_le (length held.body) (offset_by block)) (bare 134 (offset_by block))
-    (record (bare 67 (offset_by block)) { tag = Some (tag_of held.version) }) (bare 128 (offset_by block)) reply
+    (nat_lt 0 (offset_by block) && nat_le (length held.body) (offset_by block))
+    (bare codes.NOT_ACCEPTABLE.0 (offset_by block))
+    (record (bare codes.VALID.0 (offset_by block)) { tag = Some (tag_of held.version) })
+    (bare codes.BAD_REQUEST.0 (offset_by block)) reply
     (bare_reply _ _)
     (record { part = none_are; tag = tag_are held.version; format = tt; block2 = tt }) (bare_reply _ _)
     (record {
-      part = take_are (2 ^ (szx_by block q.szx + 4)) (drop (offset_by block) held.body)
+      part = AreBytes-take (2 ^ (szx_by block q.szx + 4)) (drop (offset_by block) held.body)
           (AreBytes-drop (offset_by block) held.body is.body);
       tag = tag_are held.version;
       format = is.format;
@@ -138,7 +137,7 @@ Leaves reply left = ReplyAre reply × StoreAre left
 module _ (old : Content) (at : ℕ) (q : Question) (reply : Reply) (left : Content) (b : StoreAre old)
     (is : QuestionAre q) where
   by_put : (o : Option StoreRefusal) → PutBy o old at q reply left → Leaves reply left
-  by_put (Some why) h = (bare_are reply _ 0 h.0, unchanged_are old left at h.1 b)
+  by_put (Some why) h = (bare_are reply _ 0 h.0, waited_are old left at h.1 b)
   by_put None h = (
     bare_are reply _ 0 h.0,
     put_are old left at q.path
@@ -147,7 +146,7 @@ module _ (old : Content) (at : ℕ) (q : Question) (reply : Reply) (left : Conte
   )
 
   by_join : (o : Option StoreRefusal) (was : Held) → HeldAre was → JoinBy o was old at q reply left → Leaves reply left
-  by_join (Some why) was w h = (bare_are reply _ 0 h.0, unchanged_are old left at h.1 b)
+  by_join (Some why) was w h = (bare_are reply _ 0 h.0, waited_are old left at h.1 b)
   by_join None was w h = (
     bare_are reply _ 0 h.0,
     put_are old left at q.path (record {
@@ -159,15 +158,15 @@ module _ (old : Content) (at : ℕ) (q : Question) (reply : Reply) (left : Conte
   )
 
   by_post : (o : Option Held) → old.holds q.path ≡ o → PostBy o old at q reply left → Leaves reply left
-  by_post None e h = (bare_are reply _ 0 h.0, unchanged_are old left at h.1 b)
+  by_post None e h = (bare_are reply _ 0 h.0, waited_are old left at h.1 b)
   by_post (Some was) e h = by_join (append_refusal old at was (length q.body)) was (b.each q.path was e) h
 
   by_remove : (o : Option StoreRefusal) → RemoveBy o old at q reply left → Leaves reply left
-  by_remove (Some why) h = (bare_are reply _ 0 h.0, unchanged_are old left at h.1 b)
+  by_remove (Some why) h = (bare_are reply _ 0 h.0, waited_are old left at h.1 b)
   by_remove None h = (bare_are reply _ 0 h.0, gone_are old left at q.path h.1 b)
 
   by_delete : (o : Option Held) → DeleteBy o old at q reply left → Leaves reply left
-  by_delete None h = (bare_are reply _ 0 h.0, unchanged_are old left at h.1 b)
+  by_delete None h = (bare_are reply _ 0 h.0, waited_are old left at h.1 b)
   by_delete (Some was) h = by_remove (rate_refusal old.tally at) h
 
   by_method : (m : Method) → ServesMethod m old at q reply left → Leaves reply left
@@ -191,7 +190,7 @@ module _ (old : Content) (at : ℕ) (q : Question) (reply : Reply) (left : Conte
 pub sets_are : (o : Option StoreRefusal) (old : Content) (at : ℕ) (path : List (List ℕ)) (format : Option ℕ)
     (body : List ℕ) (answer : Result ℕ StoreRefusal) (left : Content) → AreBytes body → IfSome format (λ f. f < 2 ^ 16)
     → SetsBy o old at path format body answer left → StoreAre old → StoreAre left
-sets_are (Some why) old at path format body answer left k f h b = unchanged_are old left at h.1 b
+sets_are (Some why) old at path format body answer left k f h b = waited_are old left at h.1 b
 sets_are None old at path format body answer left k f h b =
     put_are old left at path (record { version = old.tally.version + 1; format = format; body = body }) h.1
     (record { body = k; format = f }) b
@@ -199,6 +198,6 @@ sets_are None old at path format body answer left k f h b =
 pub removes_are : (o : Option Held) (why : Option StoreRefusal) (old : Content) (at : ℕ) (path : List (List ℕ))
     (answer : Result Bool StoreRefusal) (left : Content) → RemovesBy o why old at path answer left → StoreAre old
     → StoreAre left
-removes_are None why old at path answer left h b = unchanged_are old left at h.1 b
-removes_are (Some was) (Some why) old at path answer left h b = unchanged_are old left at h.1 b
+removes_are None why old at path answer left h b = waited_are old left at h.1 b
+removes_are (Some was) (Some why) old at path answer left h b = waited_are old left at h.1 b
 removes_are (Some was) None old at path answer left h b = gone_are old left at path h.1 b

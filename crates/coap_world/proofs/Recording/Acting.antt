@@ -32,14 +32,6 @@ module _ {X S : Type 0} (led : Config → List X → S → Type 0) where
   moves_join ys xs a b c m n config t h = subst (λ all. led config all c) (sym (append_assoc ys xs t))
       (n config (xs ++ t) (m config t h))
 
-  -- an input that met want of memory
-  pub none_fed : (Is : X → Type 0) (old new : S) → new ≡ old → Fed led Is true old new
-  none_fed Is old new is = record {
-    calls = [];
-    are = refl;
-    moves = λ config t h. subst (λ s. led config t s) (sym is) h;
-  }
-
   pub one_fed : (Is : X → Type 0) (c : X) (old new : S) → Is c → Moves led old (c ∷ []) new → Fed led Is false old new
   one_fed Is c old new is moves = record { calls = c ∷ []; are = (c, is, refl); moves = moves }
 
@@ -63,14 +55,6 @@ module _ {X S : Type 0} (led : Config → List X → S → Type 0) where
           are = (subst (λ v. IsTick v x) is tick, so.1);
           moves = λ config t h. moves config (so.0 ++ t) (so.2 config t h);
         }
-
-    pub tick_refused : (a b c : S) → c ≡ b → (calls : List X) × Always (λ past c. IsTick true c) calls
-        × Moves led a calls b → Passed led IsTick true a c
-    tick_refused a b c is so = record {
-      calls = so.0;
-      are = so.1;
-      moves = subst (λ s. Moves led a so.0 s) (sym is) so.2;
-    }
 
 module _ {X S : Type 0} (led : Config → List X → S → Type 0) (of : X → Entry) (lines : Config → List X → X → List Line)
     (at : ℕ) where
@@ -157,12 +141,3 @@ module _ {X S : Type 0} (led : Config → List X → S → Type 0) (of : X → E
           are = (subst (λ v. IsTick v x) is tick, so.1);
           acts = acts_join (x ∷ []) so.0 a b c l m n so.2 acts;
         }
-
-    pub told_refused : (a b c : S) (l m n : Log) → c ≡ b → n ≡ m → TicksSo a l b m
-        → Ticked led of lines at IsTick true a l c n
-    told_refused a b c l m n same is so = record {
-      calls = so.0;
-      are = so.1;
-      acts = subst (λ s. Acts led of lines at so.0 a l s n) (sym same)
-          (subst (λ x. Acts led of lines at so.0 a l b x) (sym is) so.2);
-    }

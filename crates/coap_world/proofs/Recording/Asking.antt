@@ -24,7 +24,7 @@ use Rattle.coap_ends.specs.ClientSide.ClientWords.{sent_by, sends}
 use Rattle.coap_ends.proofs.Facts.OfClientCalls.{led_client}
 use Rattle.coap_world.specs.Events.{client_end, server_end}
 use Rattle.coap_world.specs.Record.{OfClient, ClientTick, FeedsClient, given_by}
-use Rattle.coap_world.specs.Run.Acts.{Moves, Acts, Fed, Taken, TakesAll}
+use Rattle.coap_world.specs.Run.Acts.{Moves, Acts, Fed, Taken}
 use Rattle.coap_world.specs.Run.Ends.{ClientLed}
 use Rattle.coap_world.specs.Run.Inputs.{IsCall, IsObservation, IsCancel, IsForgetting}
 use Rattle.coap_world.specs.Run.Log.{Log, Takes, Cancels, Forgets, Reports, client_lines, given_put, line_put}
@@ -32,7 +32,7 @@ use Rattle.coap_world.specs.Run.Senders.{noted, number_if, sender_in, sender_of,
 use Rattle.coap_world.specs.Run.Turning.{of_client}
 use Rattle.coap_world.specs.declared.running.ends.ClientEnd.{ClientEnd}
 use Rattle.coap_world.specs.declared.running.senders.Senders.{Senders}
-use Rattle.coap_world.proofs.Recording.Acting.{acts_join, one_acts, one_fed, one_taken, quiet_acts}
+use Rattle.coap_world.proofs.Recording.Acting.{one_acts, one_fed, one_taken}
 
 -- what a client says that it asked is what it sent
 asked_so : (e : Effect) (d : Deed) (token : Result (List ℕ) AskRefusal)
@@ -164,38 +164,6 @@ module _ {A : Type 0} where
   client_report at r old new log left step same is =
       one_acts ClientLed OfClient of_client at (C.NextReport (Some r)) (Reports r ∷ []) old new log left refl
       (still_moves (C.NextReport (Some r)) old new (λ s. refl) step same) (λ config t h. refl) is
-
-  -- .. until there is none
-
-  pub client_outs_end :
-      (at : ℕ) (a old new : ClientEnd A) (l log : Log)
-      → (taken : List Packet) × Acts ClientLed OfClient of_client at
-      (map (λ p. C.NextOut (Some p)) taken) a l old log
-      → client.Step old.client (C.NextOut None) new.client → new.senders ≡ old.senders
-      → TakesAll ClientLed OfClient of_client at C.NextOut a l new log
-  client_outs_end at a old new l log (taken, acts) step same =
-      record {
-        taken = taken;
-        acts = acts_join ClientLed OfClient of_client at (C.NextOut None ∷ [])
-            (map (λ p. C.NextOut (Some p)) taken) a old new l log log acts
-            (quiet_acts ClientLed OfClient of_client at (C.NextOut None ∷ []) old new log
-            (still_moves (C.NextOut None) old new (λ s. refl) step same) refl (λ config t. refl));
-      }
-
-  pub client_reports_end :
-      (at : ℕ) (a old new : ClientEnd A) (l log : Log)
-      → (taken : List C.Reported) × Acts ClientLed OfClient of_client at
-      (map (λ r. C.NextReport (Some r)) taken) a l old log
-      → client.Step old.client (C.NextReport None) new.client → new.senders ≡ old.senders
-      → TakesAll ClientLed OfClient of_client at C.NextReport a l new log
-  client_reports_end at a old new l log (taken, acts) step same =
-      record {
-        taken = taken;
-        acts = acts_join ClientLed OfClient of_client at (C.NextReport None ∷ [])
-            (map (λ r. C.NextReport (Some r)) taken) a old new l log log acts
-            (quiet_acts ClientLed OfClient of_client at (C.NextReport None ∷ []) old new log
-            (still_moves (C.NextReport None) old new (λ s. refl) step same) refl (λ config t. refl));
-      }
 
   -- an input of which nothing is told
 

@@ -5,10 +5,12 @@ use Rattle.std.proofs.Common.{None, List, [], ◌∷◌, ◌++◌, length, refl,
 use Rattle.std.specs.Prelude.{IfSome}
 use Rattle.std.proofs.lemmas.List.{length-append}
 use Rattle.coap_types.specs.Path.{same_path}
+use Rattle.coap_types.specs.declared.limits.TheConstants.{MAX_BODY_LEN as max_body_len}
 use Rattle.coap_types.specs.declared.request.Method.{Method}
 use Rattle.coap_types.specs.declared.request.Method.TheVariants.{Get, Post, Put, Delete}
 use Rattle.coap_resource.specs.declared.refusal.StoreRefusal.{StoreRefusal}
 use Rattle.coap_resource.specs.declared.refusal.StoreRefusal.TheVariants.{TooLarge, TooManyPaths}
+use Rattle.coap_resource.specs.declared.store.TheConstants.{MAX_PATHS as max_paths}
 use Rattle.coap_resource.specs.Content.{Content, Held, later, append_refusal, put_refusal}
 use Rattle.coap_resource.specs.Rate.{rate_refusal}
 use Rattle.coap_resource.specs.RequestOptions.{precondition_fails}
@@ -31,27 +33,28 @@ use Rattle.coap_world.proofs.Requests.ServedLeaves.{leaves}
 use Rattle.coap_world.proofs.Reports.FormatsHeld.{change_held}
 
 abbrev pub IsShort : Option Held → Type 0
-IsShort o = IfSome o (λ (h : Held). length h.body ≤ 65536)
+IsShort o = IfSome o (λ (h : Held). length h.body ≤ max_body_len)
 
 -- what the tests of a change let through
 
-put_short : (old : Content) (at : ℕ) (path : List (List ℕ)) (len : ℕ) → put_refusal old at path len ≡ None → len ≤ 65536
-put_short old at path len none = by (nat_lt 65536 len)
-    (not (is_some (old.holds path)) && nat_le 256 old.paths) refl none
+put_short : (old : Content) (at : ℕ) (path : List (List ℕ)) (len : ℕ) → put_refusal old at path len ≡ None
+    → len ≤ max_body_len
+put_short old at path len none = by (nat_lt max_body_len len)
+    (not (is_some (old.holds path)) && nat_le max_paths old.paths) refl none
   where
-    by : (a b : Bool) → nat_lt 65536 len ≡ a → cond a (Some TooLarge)
-        (cond b (Some TooManyPaths) (rate_refusal old.tally at)) ≡ None → len ≤ 65536
+    by : (a b : Bool) → nat_lt max_body_len len ≡ a → cond a (Some TooLarge)
+        (cond b (Some TooManyPaths) (rate_refusal old.tally at)) ≡ None → len ≤ max_body_len
     by true b is h = absurd (cc h)
-    by false b is h = lt_not 65536 len is
+    by false b is h = lt_not max_body_len len is
 
 append_short : (old : Content) (at : ℕ) (was : Held) (more : List ℕ) → append_refusal old at was (length more) ≡ None
-    → length (was.body ++ more) ≤ 65536
-append_short old at was more none = by (nat_lt 65536 (length was.body + length more)) refl none
+    → length (was.body ++ more) ≤ max_body_len
+append_short old at was more none = by (nat_lt max_body_len (length was.body + length more)) refl none
   where
-    by : (a : Bool) → nat_lt 65536 (length was.body + length more) ≡ a
-        → cond a (Some TooLarge) (rate_refusal old.tally at) ≡ None → length (was.body ++ more) ≤ 65536
+    by : (a : Bool) → nat_lt max_body_len (length was.body + length more) ≡ a
+        → cond a (Some TooLarge) (rate_refusal old.tally at) ≡ None → length (was.body ++ more) ≤ max_body_len
     by true is h = absurd (cc h)
-    by false is h = let k = lt_not 65536 (length was.body + length more) is in let all =
+    by false is h = let k = lt_not max_body_len (length was.body + length more) is in let all =
         length-append was.body more in omega (arith, k, all)
 
 -- what a request leaves there
@@ -61,32 +64,32 @@ module _ (old : Content) (at : ℕ) (q : Question) (reply : Reply) (left : Conte
   abbrev Left : Type 0
   Left = IsShort (left.holds q.path)
 
-  unchanged : left ≡ later old at → Left
-  unchanged h = subst IsShort (sym (ap (λ (s : Content). s.holds q.path) h)) short
+  waited : left ≡ later old at → Left
+  waited h = subst IsShort (sym (ap (λ (s : Content). s.holds q.path) h)) short
 
   kept : left ≡ old → Left
   kept h = subst IsShort (sym (ap (λ (s : Content). s.holds q.path) h)) short
 
   by_put : (o : Option StoreRefusal) → put_refusal old at q.path (length q.body) ≡ o → PutBy o old at q reply left
       → Left
-  by_put (Some why) is h = unchanged h.1
+  by_put (Some why) is h = waited h.1
   by_put None is h = subst IsShort (sym h.1.there) (put_short old at q.path (length q.body) is)
 
   by_join : (was : Held) (o : Option StoreRefusal) → append_refusal old at was (length q.body) ≡ o
       → JoinBy o was old at q reply left → Left
-  by_join was (Some why) is h = unchanged h.1
+  by_join was (Some why) is h = waited h.1
   by_join was None is h = subst IsShort (sym h.1.there) (append_short old at was q.body is)
 
   by_post : (o : Option Held) → PostBy o old at q reply left → Left
-  by_post None h = unchanged h.1
+  by_post None h = waited h.1
   by_post (Some was) h = by_join was (append_refusal old at was (length q.body)) refl h
 
   by_remove : (o : Option StoreRefusal) → RemoveBy o old at q reply left → Left
-  by_remove (Some why) h = unchanged h.1
+  by_remove (Some why) h = waited h.1
   by_remove None h = subst IsShort (sym h.1.there) tt
 
   by_delete : (o : Option Held) → DeleteBy o old at q reply left → Left
-  by_delete None h = unchanged h.1
+  by_delete None h = waited h.1
   by_delete (Some was) h = by_remove (rate_refusal old.tally at) h
 
   by_method : (m : Method) → ServesMethod m old at q reply left → Left
@@ -181,12 +184,12 @@ module _ (limit szx : ℕ) where
   all_short (c ∷ t) rows = short_step t c rows (all_short t rows.1)
 
   held_short : (path : List (List ℕ)) (held : Held) (t : List S.Call) → ServerRows limit szx t
-      → held_at limit szx path t ≡ Some held → length held.body ≤ 65536
+      → held_at limit szx path t ≡ Some held → length held.body ≤ max_body_len
   held_short path held t rows is = subst IsShort is (all_short t rows path)
 
   -- what was held too
   pub was_short : (path : List (List ℕ)) (held : Held) (t : List S.Call) → ServerRows limit szx t
-      → WasHeld limit szx path held t → length held.body ≤ 65536
+      → WasHeld limit szx path held t → length held.body ≤ max_body_len
   was_short path held [] rows h = absurd h
   was_short path held (c ∷ t) rows (inl is) = held_short path held (c ∷ t) rows is
   was_short path held (c ∷ t) rows (inr h) = was_short path held t rows.1 h

@@ -7,6 +7,7 @@ use Rattle.coap_types.specs.declared.block.Block.{Block}
 use Rattle.coap_types.specs.declared.direction.Direction.TheVariants as direction
 use Rattle.coap_types.specs.declared.message.Kind.{Kind}
 use Rattle.coap_types.specs.declared.message.Kind.TheVariants.{Con, Non, Ack, Rst}
+use Rattle.coap_types.specs.declared.message.TheConstants.Code as codes
 use Rattle.coap_types.specs.declared.request.Method.{Method}
 use Rattle.coap_types.specs.declared.request.Method.TheVariants.{Get, Post, Put, Delete}
 use Rattle.coap_types.specs.MethodCode.{method_of}
@@ -108,8 +109,8 @@ module _ (szx k : ℕ) (r : C.Request) (body : List ℕ) (code : ℕ) where
 abbrev Right : Method → ℕ → Type 0
 Right method code = is_applied code ≡ applied_by method code
 
-refusal_right : (method : Method) (w : StoreRefusal) → Right method 141 → Right method 163
-    → Right method (R.refusal_code w)
+refusal_right : (method : Method) (w : StoreRefusal) → Right method codes.REQUEST_ENTITY_TOO_LARGE.0
+    → Right method codes.SERVICE_UNAVAILABLE.0 → Right method (R.refusal_code w)
 refusal_right method why.TooLarge large other = large
 refusal_right method why.Memory large other = other
 refusal_right method why.TooManyPaths large other = other
@@ -121,8 +122,8 @@ bare_right : (method : Method) (code offset : ℕ) (r : Reply) → Right method 
 bare_right method code offset r k is = subst (Right method) (sym (ap (λ (x : Reply). x.code) is)) k
 
 got_right : (o t : ℕ) (a b c : Bool) (tag : Option (List ℕ)) (r : Reply) → is_applied r.code ≡ false
-    → is_applied (cond a (R.bare 134 o) (cond b (record (R.bare 67 o) { tag = tag }) (cond c (R.bare 128 o) r))).code
-    ≡ false
+    → is_applied (cond a (R.bare codes.NOT_ACCEPTABLE.0 o)
+    (cond b (record (R.bare codes.VALID.0 o) { tag = tag }) (cond c (R.bare codes.BAD_REQUEST.0 o) r))).code ≡ false
 got_right o t true b c tag r k = refl
 got_right o t false true c tag r k = refl
 got_right o t false false true tag r k = refl
@@ -143,24 +144,24 @@ module _ (old : Content) (at : ℕ) (q : Question) (reply : Reply) (left : Conte
   put_right (Some w) h = bare_right Put (R.refusal_code w) 0 reply (refusal_right Put w refl refl) h.0
   put_right None h = by (is_some (old.holds q.path)) h.0
     where
-      by : (b : Bool) → reply ≡ R.bare (cond b 68 65) 0 → Right Put reply.code
-      by true k = bare_right Put 68 0 reply refl k
-      by false k = bare_right Put 65 0 reply refl k
+      by : (b : Bool) → reply ≡ R.bare (cond b changed created) 0 → Right Put reply.code
+      by true k = bare_right Put changed 0 reply refl k
+      by false k = bare_right Put created 0 reply refl k
 
   join_right : (o : Option StoreRefusal) (held : Held) → R.JoinBy o held old at q reply left → Right Post reply.code
   join_right (Some w) held h = bare_right Post (R.refusal_code w) 0 reply (refusal_right Post w refl refl) h.0
-  join_right None held h = bare_right Post 68 0 reply refl h.0
+  join_right None held h = bare_right Post changed 0 reply refl h.0
 
   post_right : (o : Option Held) → R.PostBy o old at q reply left → Right Post reply.code
-  post_right None h = bare_right Post 132 0 reply refl h.0
+  post_right None h = bare_right Post codes.NOT_FOUND.0 0 reply refl h.0
   post_right (Some held) h = join_right (append_refusal old at held (length q.body)) held h
 
   remove_right : (o : Option StoreRefusal) → R.RemoveBy o old at q reply left → Right Delete reply.code
   remove_right (Some w) h = bare_right Delete (R.refusal_code w) 0 reply (refusal_right Delete w refl refl) h.0
-  remove_right None h = bare_right Delete 66 0 reply refl h.0
+  remove_right None h = bare_right Delete deleted 0 reply refl h.0
 
   delete_right : (o : Option Held) → R.DeleteBy o old at q reply left → Right Delete reply.code
-  delete_right None h = bare_right Delete 66 0 reply refl h.0
+  delete_right None h = bare_right Delete deleted 0 reply refl h.0
   delete_right (Some held) h = remove_right (rate_refusal old.tally at) h
 
   method_right : (method : Method) → R.ServesMethod method old at q reply left → Right method reply.code
@@ -169,14 +170,15 @@ module _ (old : Content) (at : ℕ) (q : Question) (reply : Reply) (left : Conte
   method_right Put h = put_right (put_refusal old at q.path (length q.body)) h
   method_right Delete h = delete_right (old.holds q.path) h
 
-  failing : (method : Method) → Right method 140
+  failing : (method : Method) → Right method codes.PRECONDITION_FAILED.0
   failing Get = refl
   failing Post = refl
   failing Put = refl
   failing Delete = refl
 
   unless_right : (b : Bool) → R.ServesUnless b old at q reply left → Right q.method reply.code
-  unless_right true h = bare_right q.method 140 (R.asked_offset q.method q.options) reply (failing q.method) h.0
+  unless_right true h =
+      bare_right q.method codes.PRECONDITION_FAILED.0 (R.asked_offset q.method q.options) reply (failing q.method) h.0
   unless_right false h = method_right q.method h
 
   -- a reply says success where the request is applied, and only there
@@ -190,7 +192,7 @@ code_of a code h k = let same : a ≡ code = cc h in subst (λ n. is_applied n �
 
 module _ (szx : ℕ) (m : Message) (code : ℕ) where
   bad_code : (k : Kind) → checks.bad_by k ≡ checks.Refused code → is_applied code ≡ false
-  bad_code Con h = code_of 130 code h refl
+  bad_code Con h = code_of checks.bad_option code h refl
   bad_code Non h = absurd (cc h)
   bad_code Ack h = absurd (cc h)
   bad_code Rst h = absurd (cc h)
@@ -203,18 +205,18 @@ module _ (szx : ℕ) (m : Message) (code : ℕ) where
   upload_code Delete q None h = absurd (cc h)
   upload_code Put q (Some b) h = absurd (cc h)
   upload_code Post q (Some b) h = absurd (cc h)
-  upload_code Get q (Some b) h = code_of 128 code h refl
-  upload_code Delete q (Some b) h = code_of 128 code h refl
+  upload_code Get q (Some b) h = code_of checks.bad_request code h refl
+  upload_code Delete q (Some b) h = code_of checks.bad_request code h refl
 
   check_code : (v : Verdict) (a b : Bool) → (v ≡ checks.Refused code → is_applied code ≡ false)
       → cond a (checks.Refused checks.bad_request) (cond b (checks.Refused checks.bad_request) v) ≡ checks.Refused code
       → is_applied code ≡ false
-  check_code v true b n h = code_of 128 code h refl
-  check_code v false true n h = code_of 128 code h refl
+  check_code v true b n h = code_of checks.bad_request code h refl
+  check_code v false true n h = code_of checks.bad_request code h refl
   check_code v false false n h = n h
 
   asked_code : (o : Option Method) → checks.asked_by szx o m ≡ checks.Refused code → is_applied code ≡ false
-  asked_code None h = code_of 133 code h refl
+  asked_code None h = code_of checks.method_not_allowed code h refl
   asked_code (Some method) h =
       check_code (checks.uploading method (checks.question szx method m) (block_said (uint_at block1 (asks m))))
       (nat_lt max_segments (length (path_of (asks m))))
@@ -223,7 +225,7 @@ module _ (szx : ℕ) (m : Message) (code : ℕ) where
 
   proxy_code : (b : Bool) → cond b (checks.Refused checks.proxying_not_supported)
       (checks.asked_by szx (method_of m.code) m) ≡ checks.Refused code → is_applied code ≡ false
-  proxy_code true h = code_of 165 code h refl
+  proxy_code true h = code_of checks.proxying_not_supported code h refl
   proxy_code false h = asked_code (method_of m.code) h
 
   checked_code : (b : Bool) → cond b (checks.bad_by m.kind)

@@ -46,7 +46,8 @@ is_named : (tag : _) (reply : Reply) (offset : ℕ) (part : Reply) (a e b : Bool
     → reply ≡ cond a (bare codes.NOT_ACCEPTABLE.0 offset)
     (cond e (record (bare codes.VALID.0 offset) { tag = tag }) (cond b (bare codes.BAD_REQUEST.0 offset) part))
     → reply.code ≡ valid → (e ≡ true) × (reply ≡ record (bare codes.VALID.0 offset) { tag = tag })
-is_named tag reply offset part true e b other h k = absurd (other_code valid reply codes.NOT_ACCEPTABLE.0 offset h refl k)
+is_named tag reply offset part true e b other h k =
+    absurd (other_code valid reply codes.NOT_ACCEPTABLE.0 offset h refl k)
 is_named tag reply offset part false true b other h k = (refl, h)
 is_named tag reply offset part false false true other h k =
     absurd (other_code valid reply codes.BAD_REQUEST.0 offset h refl k)

@@ -5,6 +5,7 @@ pub mod Server
 use Rattle.std.proofs.Common.{◌≡◌, inl, inr, Some, List, [], ◌∷◌, map, refl, arith}
 use Rattle.coap_types.specs.Past.{Always, Sometime}
 use Rattle.coap_ends.specs.ClientSide.ClientTrace.{Timeout}
+use Rattle.coap_ends.specs.SuccessCodes.{changed}
 use Rattle.coap_world.specs.Events.{Calls, TickClient, Deliver, client_end}
 use Rattle.coap_world.specs.Legal.{AllLegal}
 use Rattle.coap_world.specs.LegalEvents.{event}
@@ -14,7 +15,7 @@ use Rattle.coap_world.specs.LegalRuns.{from_client, from_server, reported}
 use Rattle.coap_world.proofs.Witness.InWords.{bytes_are}
 use Rattle.coap_world.proofs.Witness.TurnsMade.{a_turn, client_turn, to_server, on_client, legal_at}
 use Rattle.coap_world.specs.BlockRuns.{key, by_16, answer_bytes}
-use Rattle.coap_world.specs.LateRuns.{uploading, continue, changed, second_done, failed_body, short_body, failed_first}
+use Rattle.coap_world.specs.LateRuns.{uploading, continue, second_done, failed_body, short_body, lost_first}
 use Rattle.coap_world.specs.LateRuns.{failed_second, short_bytes, created_bytes, CompletesLate}
 use Rattle.coap_world.proofs.Witness.LateTurns.{called, begins, goes_on, ends, copies, copied, expires, drops}
 use Rattle.coap_world.proofs.Witness.LateTurns.{answers, range}
@@ -25,7 +26,7 @@ use Rattle.coap_world.proofs.Witness.CompletesLate.Server as server
 -- the datagrams that are delivered, by their numbers
 
 abbrev given_0 : Given
-given_0 = from_client 0 failed_first
+given_0 = from_client 0 lost_first
 
 abbrev given_1 : Given
 given_1 = from_server 0 client_end (answer_bytes continue 0 8)
@@ -52,7 +53,7 @@ turns_lost =
     a_turn (event 2000 TickClient) (map OfClient (copied failed_second 2000)) ∷
     a_turn (event 0 (Deliver 1)) (map OfClient (client_turn [] (to_server failed_second ∷ []) (goes_on 0 0 8 1 ∷ []))) ∷
     a_turn (event 0 (Deliver 0)) (map OfServer (answers (answer_bytes continue 0 8) server.takes_first)) ∷
-    a_turn (event 0 TickClient) (map OfClient (client_turn [] (to_server failed_first ∷ []) (begins 0 0))) ∷
+    a_turn (event 0 TickClient) (map OfClient (client_turn [] (to_server lost_first ∷ []) (begins 0 0))) ∷
     a_turn (event 0 (Calls (uploading failed_body))) (map OfClient (client_turn [] [] (called 0 0 failed_body))) ∷
     []
 
@@ -99,7 +100,7 @@ made_lost = (
               (
                 begins 0 0,
                 ((_, _, _, _, _, refl), ((_, _, _, _, _, refl), tt)),
-                on_client [] (to_server failed_first ∷ []) (begins 0 0),
+                on_client [] (to_server lost_first ∷ []) (begins 0 0),
               ),
               ((called 0 0 failed_body, (_, (_, refl), refl), on_client [] [] (called 0 0 failed_body)), tt),
             ),

@@ -4,6 +4,7 @@ pub mod Server
 use Rattle.std.proofs.Common.{◌≡◌, inl, inr, Some, List, [], ◌∷◌, map, refl, arith}
 use Rattle.coap_types.specs.Past.{Always, Sometime}
 use Rattle.coap_ends.specs.ClientSide.ClientTrace.{Timeout}
+use Rattle.coap_ends.specs.SuccessCodes.{created}
 use Rattle.coap_world.specs.Events.{Calls, TickClient, Deliver, client_end}
 use Rattle.coap_world.specs.Legal.{AllLegal}
 use Rattle.coap_world.specs.LegalEvents.{event}
@@ -12,7 +13,7 @@ use Rattle.coap_world.specs.Words.{AppliesFor, SentFor}
 use Rattle.coap_world.specs.LegalRuns.{from_client, from_server, reported}
 use Rattle.coap_world.proofs.Witness.InWords.{bytes_are}
 use Rattle.coap_world.proofs.Witness.TurnsMade.{a_turn, client_turn, to_server, on_client, rests, legal_at}
-use Rattle.coap_world.specs.BlockRuns.{key, by_16, created, answer_bytes}
+use Rattle.coap_world.specs.BlockRuns.{key, by_16, answer_bytes}
 use Rattle.coap_world.specs.LateRuns.{uploading, continue, second_done, lost_body, held_body, lost_first, lost_second}
 use Rattle.coap_world.specs.LateRuns.{held_first, held_second, held_third, HoldsBack}
 use Rattle.coap_world.proofs.Witness.Uploads.Client.{answer}

@@ -33,7 +33,8 @@ made = (
 legal : AllLegal turns
 legal = (
   legal_at 1 (StrangerToClient stranger ping) (omega arith)
-      (record { four = refl; bytes = bytes_are localhost refl; port = omega arith }, bytes_are ping refl) (omega arith) (
+      (record { four = refl; bytes = bytes_are localhost refl; port = omega arith }, bytes_are ping refl)
+      (omega arith) (
         (λ h. let k = elsewhere _ h in absurd (omega (arith, k))),
         (λ h. let k = elsewhere _ h in absurd (omega (arith, k))),
       ),

@@ -22,4 +22,4 @@ module _ {A : Type 0} where
   what_of (what.Stranger side.Server from bytes) = StrangerToServer from bytes
 
   abbrev pub event_of : E.Event A → Event
-  event_of e = record { at = e.at; word = e.word; what = what_of e.what }
+  event_of e = record { at = e.at.0; word = e.word; what = what_of e.what }

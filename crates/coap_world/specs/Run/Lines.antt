@@ -21,7 +21,7 @@ module _ {A : Type 0} where
   change_of c = record { path = c.path; version = c.version; held = shown c.held }
 
   abbrev pub line_of : Kind A → Line
-  line_of (kind.Begins at) = Begins at
+  line_of (kind.Begins at) = Begins at.0
   line_of (kind.Takes answer) = Takes (number_of answer)
   line_of (kind.Cancels answer) = Cancels (refusal_in answer)
   line_of (kind.Forgets answer) = Forgets answer

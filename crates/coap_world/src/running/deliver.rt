@@ -13,8 +13,8 @@ use crate::running::inputs::{feed_client, feed_server, tell_fed};
 use crate::running::record::{Kind, Record};
 use crate::running::stop::Stop;
 use coap_resource::Store;
-use coap_types::Endpoint;
 use coap_types::transmission::MAX_LATENCY_MS;
+use coap_types::{Endpoint, Moment};
 use std::alloc::Allocator;
 
 /// Whether the address is that of this end.
@@ -31,20 +31,20 @@ pub(crate) fn deliver<S: Store<A>, A: Allocator + Copy>(
     client: &mut ClientEnd<A>,
     server: &mut ServerEnd<S, A>,
     log: &mut Record<A>,
-    at: u64,
+    at: Moment,
     word: u64,
     number: usize,
 ) -> Result<(), Stop>
     ensures ok { OnOk result ((past : List Turn) → log.old.given ≡ given_of past
-        → Turned ClientLed (ServerLed S.content) past (record { at = at; word = word; what = Deliver number })
+        → Turned ClientLed (ServerLed S.content) past (record { at = at.0; word = word; what = Deliver number })
         client.old server.old log.old client.new server.new log.new) }
     ensures wrong { result ≡ Err Stop.NotLegal → (past : List Turn) → log.old.given ≡ given_of past
-        → MayCome past at (Deliver number) → ⊥ }
+        → MayCome past at.0 (Deliver number) → ⊥ }
 {
     let Some(given) = log.get(number) else {
         return Err(Stop::NotLegal);
     };
-    if at.saturating_sub(given.at()) > MAX_LATENCY_MS {
+    if at.since(given.at()) > MAX_LATENCY_MS {
         return Err(Stop::NotLegal);
     }
     let from = given.from();

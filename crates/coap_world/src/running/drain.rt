@@ -11,7 +11,7 @@ ghost use Rattle.coap_world.specs.Run.Turning.{ClientEnds, ServerEnds, of_client
 use crate::running::ends::{ClientEnd, ServerEnd};
 use crate::running::record::Record;
 use coap_resource::Store;
-use coap_types::Endpoint;
+use coap_types::{Endpoint, Moment};
 use std::alloc::{AllocError, Allocator};
 
 /// The address of the client of a run.
@@ -29,10 +29,10 @@ pub const SERVER_END: Endpoint = Endpoint {
 // Takes all that the client has out.
 fn client_outs<A: Allocator + Copy>(
     end: &mut ClientEnd<A>,
-    at: u64,
+    at: Moment,
     log: &mut Record<A>,
 ) -> Result<(), AllocError>
-    ensures { OnOk result (TakesAll ClientLed OfClient of_client at asked.NextOut end.old log.old end.new log.new) }
+    ensures { OnOk result (TakesAll ClientLed OfClient of_client at.0 asked.NextOut end.old log.old end.new log.new) }
 {
     'outs: while let Some(datagram) = end.client.next_out() {
         log.give(at, CLIENT_END, datagram)?;
@@ -43,10 +43,11 @@ fn client_outs<A: Allocator + Copy>(
 // Takes all its reports.
 fn client_reports<A: Allocator + Copy>(
     end: &mut ClientEnd<A>,
-    at: u64,
+    at: Moment,
     log: &mut Record<A>,
 ) -> Result<(), AllocError>
-    ensures { OnOk result (TakesAll ClientLed OfClient of_client at asked.NextReport end.old log.old end.new log.new) }
+    ensures { OnOk result (TakesAll ClientLed OfClient of_client at.0 asked.NextReport end.old log.old end.new
+        log.new) }
 {
     'reports: while let Some(told) = end.client.next_report() {
         log.report(told)?;
@@ -57,11 +58,11 @@ fn client_reports<A: Allocator + Copy>(
 // Takes all that the server has out.
 fn server_outs<S: Store<A>, A: Allocator + Copy>(
     end: &mut ServerEnd<S, A>,
-    at: u64,
+    at: Moment,
     log: &mut Record<A>,
 ) -> Result<(), AllocError>
     ensures { OnOk result ((sender : List ℕ → Option ℕ)
-        → TakesAll (ServerLed S.content) OfServer (server_lines sender) at served.NextOut end.old log.old end.new
+        → TakesAll (ServerLed S.content) OfServer (server_lines sender) at.0 served.NextOut end.old log.old end.new
         log.new) }
 {
     'outs: while let Some(datagram) = end.server.next_out() {
@@ -74,11 +75,11 @@ fn server_outs<S: Store<A>, A: Allocator + Copy>(
 #[tactic(auto, using(crate::proofs::Recording::Finishing::client_ends))]
 pub(crate) fn finish_client<A: Allocator + Copy>(
     end: &mut ClientEnd<A>,
-    at: u64,
+    at: Moment,
     refused: bool,
     log: &mut Record<A>,
 ) -> Result<(), AllocError>
-    ensures { OnOk result (ClientEnds ClientLed at refused end.old log.old end.new log.new) }
+    ensures { OnOk result (ClientEnds ClientLed at.0 refused end.old log.old end.new log.new) }
 {
     client_outs(end, at, log)?;
     client_reports(end, at, log)?;
@@ -88,12 +89,12 @@ pub(crate) fn finish_client<A: Allocator + Copy>(
 /// Ends the turn of the server.
 pub(crate) fn finish_server<S: Store<A>, A: Allocator + Copy>(
     end: &mut ServerEnd<S, A>,
-    at: u64,
+    at: Moment,
     refused: bool,
     log: &mut Record<A>,
 ) -> Result<(), AllocError>
     ensures { OnOk result ((sender : List ℕ → Option ℕ)
-        → ServerEnds (ServerLed S.content) (server_lines sender) at refused end.old log.old end.new log.new) }
+        → ServerEnds (ServerLed S.content) (server_lines sender) at.0 refused end.old log.old end.new log.new) }
 {
     server_outs(end, at, log)?;
     log.end(refused)?;

@@ -1,7 +1,7 @@
 //! What happens in a run.
 use bytes::Bytes;
 use coap_ends::CallId;
-use coap_types::{Endpoint, Path, Request};
+use coap_types::{Endpoint, Moment, Path, Request};
 use std::alloc::{Allocator, Global};
 
 /// One of the two ends.
@@ -34,10 +34,10 @@ pub enum What<A: Allocator = Global> {
     Stranger(Side, Endpoint, Bytes<A>),
 }
 
-/// At a moment in milliseconds, with a word.
+/// At a moment, with a word.
 #[derive(Drop)]
 pub struct Event<A: Allocator = Global> {
-    pub at: u64,
+    pub at: Moment,
     pub word: u64,
     pub what: What<A>,
 }

@@ -24,14 +24,14 @@ use std::alloc::{AllocError, Allocator};
 /// A datagram comes to the client; whether it met want of memory.
 pub(crate) fn feed_client<A: Allocator + Copy>(
     end: &mut ClientEnd<A>,
-    at: u64,
+    at: Moment,
     word: u64,
     from: Endpoint,
     bytes: &[u8],
 ) -> Result<bool, AllocError>
-    ensures { IfOk result (λ refused. Fed ClientLed (FeedsClient at word from bytes.now) refused end.old end.new) }
+    ensures { IfOk result (λ refused. Fed ClientLed (FeedsClient at.0 word from bytes.now) refused end.old end.new) }
 {
-    match end.client.feed(Moment(at), from, bytes, word) {
+    match end.client.feed(at, from, bytes, word) {
         Ok(()) => {}
         Err(_) => return Ok(true),
     }
@@ -42,14 +42,14 @@ pub(crate) fn feed_client<A: Allocator + Copy>(
 /// A datagram comes to the server; whether it met want of memory.
 pub(crate) fn feed_server<S: Store<A>, A: Allocator + Copy>(
     end: &mut ends::ServerEnd<S, A>,
-    at: u64,
+    at: Moment,
     word: u64,
     from: Endpoint,
     bytes: &[u8],
 ) -> bool
-    ensures { IsFed S.content (FeedsServer at word from bytes.now) result end.old end.new }
+    ensures { IsFed S.content (FeedsServer at.0 word from bytes.now) result end.old end.new }
 {
-    match end.server.feed(Moment(at), from, bytes, word) {
+    match end.server.feed(at, from, bytes, word) {
         Ok(()) => false,
         Err(_) => true,
     }
@@ -94,13 +94,13 @@ fn store_lacks_memory(answer: Result<u64, StoreRefusal>) -> bool
 pub(crate) fn call_client<A: Allocator + Copy>(
     end: &mut ClientEnd<A>,
     log: &mut Record<A>,
-    at: u64,
+    at: Moment,
     request: Request<A>,
 ) -> Result<bool, AllocError>
-    ensures { IfOk result (λ refused. Taken ClientLed OfClient of_client at
-        (IsCall at (shown_request request)) refused end.old log.old end.new log.new) }
+    ensures { IfOk result (λ refused. Taken ClientLed OfClient of_client at.0
+        (IsCall at.0 (shown_request request)) refused end.old log.old end.new log.new) }
 {
-    let answer = end.client.call(Moment(at), request);
+    let answer = end.client.call(at, request);
     if lacks_memory(answer) {
         return Ok(true);
     }
@@ -112,13 +112,13 @@ pub(crate) fn call_client<A: Allocator + Copy>(
 pub(crate) fn observe_client<A: Allocator + Copy>(
     end: &mut ClientEnd<A>,
     log: &mut Record<A>,
-    at: u64,
+    at: Moment,
     path: Path<A>,
 ) -> Result<bool, AllocError>
-    ensures { IfOk result (λ refused. Taken ClientLed OfClient of_client at
-        (IsObservation at path) refused end.old log.old end.new log.new) }
+    ensures { IfOk result (λ refused. Taken ClientLed OfClient of_client at.0
+        (IsObservation at.0 path) refused end.old log.old end.new log.new) }
 {
-    let answer = end.client.observe(Moment(at), path);
+    let answer = end.client.observe(at, path);
     if lacks_memory(answer) {
         return Ok(true);
     }
@@ -130,13 +130,13 @@ pub(crate) fn observe_client<A: Allocator + Copy>(
 pub(crate) fn cancel_client<A: Allocator + Copy>(
     end: &mut ClientEnd<A>,
     log: &mut Record<A>,
-    at: u64,
+    at: Moment,
     id: CallId,
 ) -> Result<(), AllocError>
-    ensures { OnOk result (Taken ClientLed OfClient of_client at
-        (IsCancel at id.0) false end.old log.old end.new log.new) }
+    ensures { OnOk result (Taken ClientLed OfClient of_client at.0
+        (IsCancel at.0 id.0) false end.old log.old end.new log.new) }
 {
-    let answer = end.client.cancel(Moment(at), id);
+    let answer = end.client.cancel(at, id);
     log.note(Kind::Cancels(answer))?;
     Ok(())
 }
@@ -145,10 +145,10 @@ pub(crate) fn cancel_client<A: Allocator + Copy>(
 pub(crate) fn forget_client<A: Allocator + Copy>(
     end: &mut ClientEnd<A>,
     log: &mut Record<A>,
-    at: u64,
+    at: Moment,
     id: CallId,
 ) -> Result<(), AllocError>
-    ensures { OnOk result (Taken ClientLed OfClient of_client at
+    ensures { OnOk result (Taken ClientLed OfClient of_client at.0
         (IsForgetting id.0) false end.old log.old end.new log.new) }
 {
     let answer = end.client.forget(id);
@@ -160,16 +160,16 @@ pub(crate) fn forget_client<A: Allocator + Copy>(
 pub(crate) fn set_server<S: Store<A>, A: Allocator + Copy>(
     end: &mut ends::ServerEnd<S, A>,
     log: &mut Record<A>,
-    at: u64,
+    at: Moment,
     path: &Path<A>,
     format: Option<u16>,
     body: &[u8],
 ) -> Result<bool, AllocError>
     ensures { IfOk result (λ refused. (sender : List ℕ → Option ℕ)
-        → Taken (ServerLed S.content) OfServer (server_lines sender) at
-        (IsSet at path.now format body.now) refused end.old log.old end.new log.new) }
+        → Taken (ServerLed S.content) OfServer (server_lines sender) at.0
+        (IsSet at.0 path.now format body.now) refused end.old log.old end.new log.new) }
 {
-    let answer = end.server.set(Moment(at), path, format, body);
+    let answer = end.server.set(at, path, format, body);
     if store_lacks_memory(answer) {
         return Ok(true);
     }
@@ -187,14 +187,14 @@ pub(crate) fn set_server<S: Store<A>, A: Allocator + Copy>(
 pub(crate) fn remove_server<S: Store<A>, A: Allocator + Copy>(
     end: &mut ends::ServerEnd<S, A>,
     log: &mut Record<A>,
-    at: u64,
+    at: Moment,
     path: &Path<A>,
 ) -> Result<(), AllocError>
     ensures { OnOk result ((sender : List ℕ → Option ℕ)
-        → Taken (ServerLed S.content) OfServer (server_lines sender) at
-        (IsRemoval at path.now) false end.old log.old end.new log.new) }
+        → Taken (ServerLed S.content) OfServer (server_lines sender) at.0
+        (IsRemoval at.0 path.now) false end.old log.old end.new log.new) }
 {
-    let answer = end.server.remove(Moment(at), path);
+    let answer = end.server.remove(at, path);
     log.note(Kind::Removes(answer))?;
     match answer {
         Ok(true) => {}

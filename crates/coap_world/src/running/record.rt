@@ -13,14 +13,14 @@ use crate::running::copies::copied_holding;
 use coap_ends::{Applied, CallId, CallRefusal, CancelRefusal, Report};
 use coap_layer::Datagram;
 use coap_resource::{Representation, StoreRefusal};
-use coap_types::{Endpoint, Method, Path, Token};
+use coap_types::{Endpoint, Method, Moment, Path, Token};
 use std::alloc::{AllocError, Allocator, Global};
 use std::marker::Model;
 
 /// A datagram that an end gave out.
 #[derive(Drop)]
 pub struct Given<A: Allocator + Copy = Global> {
-    at: u64,
+    at: Moment,
     from: Endpoint,
     datagram: Datagram<A>,
 }
@@ -30,13 +30,13 @@ impl<A: Allocator + Copy> Model for Given<A> {
 
     ghost Value = { Given };
 
-    ghost view = { λ g. record { at = g.at; from = g.from; packet = g.datagram } };
+    ghost view = { λ g. record { at = g.at.0; from = g.from; packet = g.datagram } };
 }
 
 impl<A: Allocator + Copy> Given<A> {
     /// When it was given out.
-    pub fn at(&self) -> u64
-        ensures { result ≡ self.now.at }
+    pub fn at(&self) -> Moment
+        ensures { result.0 ≡ self.now.at }
     {
         self.at
     }
@@ -95,7 +95,7 @@ pub struct Change<A: Allocator + Copy = Global> {
 #[derive(Drop)]
 pub enum Kind<A: Allocator + Copy = Global> {
     /// An event begins, at this moment.
-    Begins(u64),
+    Begins(Moment),
     /// The answer to a call or an observation.
     Takes(Result<CallId, CallRefusal>),
     /// The answer to a cancel.
@@ -257,11 +257,11 @@ impl<A: Allocator + Copy> Record<A> {
     /// Notes a datagram, given out at this moment by the end of this address.
     pub(crate) fn give(
         &mut self,
-        at: u64,
+        at: Moment,
         from: Endpoint,
         datagram: Datagram<A>,
     ) -> Result<(), AllocError>
-        ensures { OnOk result (self.new ≡ given_put (record { at = at; from = from; packet = datagram }) self.old) }
+        ensures { OnOk result (self.new ≡ given_put (record { at = at.0; from = from; packet = datagram }) self.old) }
     {
         self.given.push(Given { at, from, datagram })?;
         self.note(Kind::Out)?;

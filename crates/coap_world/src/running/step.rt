@@ -14,6 +14,7 @@ use crate::running::record::Record;
 use crate::running::stop::Stop;
 use crate::running::turn::turn;
 use coap_resource::Store;
+use coap_types::Moment;
 use std::alloc::Allocator;
 
 /// One event of a run, where it is legal.
@@ -21,20 +22,20 @@ pub(crate) fn step<S: Store<A>, A: Allocator + Copy>(
     client: &mut ClientEnd<A>,
     server: &mut ServerEnd<S, A>,
     log: &mut Record<A>,
-    last: &mut u64,
+    last: &mut Moment,
     event: &event::Event<A>,
 ) -> Result<(), Stop>
     ensures ok { OnOk result ((config : Config) (events : List Event) (turns : List Turn)
-        → Stands ClientLed (ServerLed S.content) config events turns client.old server.old log.old last.old
+        → Stands ClientLed (ServerLed S.content) config events turns client.old server.old log.old last.old.0
         → (turn : Turn) × Stands ClientLed (ServerLed S.content) config (event_of event.now ∷ events) (turn ∷ turns)
-        client.new server.new log.new last.new) }
+        client.new server.new log.new last.new.0) }
     ensures wrong { result ≡ Err Stop.NotLegal → (config : Config) (events : List Event) (turns : List Turn)
-        → Stands ClientLed (ServerLed S.content) config events turns client.old server.old log.old last.old
+        → Stands ClientLed (ServerLed S.content) config events turns client.old server.old log.old last.old.0
         → MayHappen turns (event_of event.now) → ⊥ }
 {
     let at = event.at;
     let word = event.word;
-    if at < *last {
+    if at.0 < last.0 {
         return Err(Stop::NotLegal);
     }
     show_ranges(&event.what);

@@ -17,13 +17,13 @@ use std::alloc::{AllocError, Allocator};
 /// met that.
 pub(crate) fn client_ticks<A: Allocator + Copy>(
     end: &mut ClientEnd<A>,
-    at: u64,
+    at: Moment,
     word: u64,
 ) -> Result<bool, AllocError>
-    ensures { IfOk result (λ refused. Passed ClientLed (ClientTick at word) refused end.old end.new) }
+    ensures { IfOk result (λ refused. Passed ClientLed (ClientTick at.0 word) refused end.old end.new) }
 {
     'ticks: loop {
-        match end.client.tick(Moment(at), word) {
+        match end.client.tick(at, word) {
             Ok(did) => {
                 end.note_asked()?;
                 if !did {
@@ -40,14 +40,14 @@ pub(crate) fn server_ticks<S: Store<A>, A: Allocator + Copy>(
     end: &mut ServerEnd<S, A>,
     senders: &Senders<A>,
     log: &mut Record<A>,
-    at: u64,
+    at: Moment,
     word: u64,
 ) -> Result<bool, AllocError>
-    ensures { IfOk result (λ refused. Ticked (ServerLed S.content) OfServer (server_lines (sender_in senders.now)) at
-        (ServerTick at word) refused end.old log.old end.new log.new) }
+    ensures { IfOk result (λ refused. Ticked (ServerLed S.content) OfServer (server_lines (sender_in senders.now)) at.0
+        (ServerTick at.0 word) refused end.old log.old end.new log.new) }
 {
     'ticks: loop {
-        match end.server.tick(Moment(at), word) {
+        match end.server.tick(at, word) {
             Ok(did) => {
                 end.tell(senders, log)?;
                 if !did {

@@ -26,13 +26,13 @@ use crate::running::stop::Stop;
 use crate::running::ticks::{client_ticks, server_ticks};
 use coap_ends::CallId;
 use coap_resource::Store;
-use coap_types::{Endpoint, Path, Request};
+use coap_types::{Endpoint, Moment, Path, Request};
 use std::alloc::{AllocError, Allocator};
 
-// When an event happens, in milliseconds, and with which word.
+// When an event happens, and with which word.
 #[derive(Clone, Copy)]
 struct When {
-    at: u64,
+    at: Moment,
     word: u64,
 }
 
@@ -43,7 +43,7 @@ fn on_call<A: Allocator + Copy>(
     request: &Request<A>,
 ) -> Result<(), AllocError>
     ensures { OnOk result ((past : List Turn)
-        → ClientTurned past (record { at = when.at; word = when.word; what = Calls (shown_request request.now) })
+        → ClientTurned past (record { at = when.at.0; word = when.word; what = Calls (shown_request request.now) })
         client.old log.old client.new log.new) }
 {
     let request = copied(request)?;
@@ -60,7 +60,7 @@ fn on_observe<A: Allocator + Copy>(
     path: &Path<A>,
 ) -> Result<(), AllocError>
     ensures { OnOk result ((past : List Turn)
-        → ClientTurned past (record { at = when.at; word = when.word; what = Observes path.now })
+        → ClientTurned past (record { at = when.at.0; word = when.word; what = Observes path.now })
         client.old log.old client.new log.new) }
 {
     let path = path.clone()?;
@@ -77,7 +77,7 @@ fn on_cancel<A: Allocator + Copy>(
     id: CallId,
 ) -> Result<(), AllocError>
     ensures { OnOk result ((past : List Turn)
-        → ClientTurned past (record { at = when.at; word = when.word; what = Cancels id.0 })
+        → ClientTurned past (record { at = when.at.0; word = when.word; what = Cancels id.0 })
         client.old log.old client.new log.new) }
 {
     log.note(Kind::Begins(when.at))?;
@@ -93,7 +93,7 @@ fn on_forget<A: Allocator + Copy>(
     id: CallId,
 ) -> Result<(), AllocError>
     ensures { OnOk result ((past : List Turn)
-        → ClientTurned past (record { at = when.at; word = when.word; what = Forgets id.0 })
+        → ClientTurned past (record { at = when.at.0; word = when.word; what = Forgets id.0 })
         client.old log.old client.new log.new) }
 {
     log.note(Kind::Begins(when.at))?;
@@ -108,7 +108,7 @@ fn on_client_tick<A: Allocator + Copy>(
     when: When,
 ) -> Result<(), AllocError>
     ensures { OnOk result ((past : List Turn)
-        → ClientTurned past (record { at = when.at; word = when.word; what = TickClient })
+        → ClientTurned past (record { at = when.at.0; word = when.word; what = TickClient })
         client.old log.old client.new log.new) }
 {
     log.note(Kind::Begins(when.at))?;
@@ -124,8 +124,8 @@ fn on_client_stranger<A: Allocator + Copy>(
     from: Endpoint,
     bytes: &[u8],
 ) -> Result<(), AllocError>
-    ensures { OnOk result ((past : List Turn) → MayCome past when.at (StrangerToClient from bytes.now)
-        → ClientTurned past (record { at = when.at; word = when.word; what = StrangerToClient from bytes.now })
+    ensures { OnOk result ((past : List Turn) → MayCome past when.at.0 (StrangerToClient from bytes.now)
+        → ClientTurned past (record { at = when.at.0; word = when.word; what = StrangerToClient from bytes.now })
         client.old log.old client.new log.new) }
 {
     log.note(Kind::Begins(when.at))?;
@@ -144,7 +144,7 @@ fn on_set<S: Store<A>, A: Allocator + Copy>(
 ) -> Result<(), AllocError>
     ensures { OnOk result ((sender : List ℕ → Option ℕ) (past : List Turn)
         → ServerTurned S.content sender past (record
-        { at = when.at; word = when.word; what = Sets path.now format body.now })
+        { at = when.at.0; word = when.word; what = Sets path.now format body.now })
         server.old log.old server.new log.new) }
 {
     log.note(Kind::Begins(when.at))?;
@@ -160,7 +160,7 @@ fn on_remove<S: Store<A>, A: Allocator + Copy>(
     path: &Path<A>,
 ) -> Result<(), AllocError>
     ensures { OnOk result ((sender : List ℕ → Option ℕ) (past : List Turn)
-        → ServerTurned S.content sender past (record { at = when.at; word = when.word; what = Removes path.now })
+        → ServerTurned S.content sender past (record { at = when.at.0; word = when.word; what = Removes path.now })
         server.old log.old server.new log.new) }
 {
     log.note(Kind::Begins(when.at))?;
@@ -177,7 +177,7 @@ fn on_server_tick<S: Store<A>, A: Allocator + Copy>(
 ) -> Result<(), AllocError>
     ensures { OnOk result ((past : List Turn)
         → ServerTurned S.content (sender_in senders.now) past
-        (record { at = when.at; word = when.word; what = TickServer })
+        (record { at = when.at.0; word = when.word; what = TickServer })
         server.old log.old server.new log.new) }
 {
     log.note(Kind::Begins(when.at))?;
@@ -194,9 +194,9 @@ fn on_server_stranger<S: Store<A>, A: Allocator + Copy>(
     from: Endpoint,
     bytes: &[u8],
 ) -> Result<(), AllocError>
-    ensures { OnOk result ((past : List Turn) → MayCome past when.at (StrangerToServer from bytes.now)
+    ensures { OnOk result ((past : List Turn) → MayCome past when.at.0 (StrangerToServer from bytes.now)
         → ServerTurned S.content (sender_in senders.now) past
-        (record { at = when.at; word = when.word; what = StrangerToServer from bytes.now })
+        (record { at = when.at.0; word = when.word; what = StrangerToServer from bytes.now })
         server.old log.old server.new log.new) }
 {
     let refused = feed_server(server, when.at, when.word, from, bytes);
@@ -211,16 +211,16 @@ pub(crate) fn turn<S: Store<A>, A: Allocator + Copy>(
     client: &mut ClientEnd<A>,
     server: &mut ServerEnd<S, A>,
     log: &mut Record<A>,
-    at: u64,
+    at: Moment,
     word: u64,
     what: &What<A>,
 ) -> Result<(), Stop>
     ensures ok { OnOk result ((past : List Turn) → log.old.given ≡ given_of past
-        → Turned ClientLed (ServerLed S.content) past (record { at = at; word = word; what = what_of what.now })
+        → Turned ClientLed (ServerLed S.content) past (record { at = at.0; word = word; what = what_of what.now })
         client.old server.old log.old client.new server.new log.new) }
-    ensures small { (at < 2 ^ 64) × (word < 2 ^ 64) }
+    ensures small { (at.0 < 2 ^ 64) × (word < 2 ^ 64) }
     ensures wrong { result ≡ Err Stop.NotLegal → (past : List Turn) → log.old.given ≡ given_of past
-        → MayCome past at (what_of what.now) → ⊥ }
+        → MayCome past at.0 (what_of what.now) → ⊥ }
 {
     let when = When { at, word };
     match what {

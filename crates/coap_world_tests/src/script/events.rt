@@ -4,7 +4,7 @@ use super::words::{cut, endpoint_of, format_of, method_of, path_of, spelt, szx_o
 use bytes::Bytes;
 use coap_ends::CallId;
 use coap_resource::MAX_CHANGES_PER_WINDOW;
-use coap_types::{MAX_SZX, Request, Tags};
+use coap_types::{MAX_SZX, Moment, Request, Tags};
 use coap_world::{Event, Side, What, WorldConfig};
 use std::alloc::{Allocator, Global};
 use std::test::Fail;
@@ -82,7 +82,7 @@ pub(crate) fn events_of<A: Allocator + Copy>(
                 what_of(alloc, memory, words)?
             };
             events.push(Event {
-                at: at.parse()?,
+                at: Moment(at.parse()?),
                 word,
                 what,
             })?;

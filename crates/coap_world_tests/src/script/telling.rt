@@ -45,7 +45,7 @@ fn given_text<A: Allocator + Copy>(
     let Some(given) = given else {
         return Err(Fail::new("a datagram that is given out is not there"));
     };
-    let at = given.at();
+    let at = given.at().0;
     let from = end_text(alloc, given.from())?;
     let to = end_text(alloc, given.to())?;
     let bytes = hex_text(alloc, given.bytes())?;
@@ -54,7 +54,10 @@ fn given_text<A: Allocator + Copy>(
 
 fn line_text<A: Allocator + Copy>(alloc: Global, kind: &Kind<A>) -> Result<String, Fail> {
     Ok(match kind {
-        Kind::Begins(at) => format!(in alloc; "begins {at}")?,
+        Kind::Begins(at) => {
+            let at = at.0;
+            format!(in alloc; "begins {at}")?
+        }
         Kind::Applies(request) => applied_text(alloc, request)?,
         Kind::Changes(change) => change_text(alloc, change)?,
         Kind::Reports(id, report) => {

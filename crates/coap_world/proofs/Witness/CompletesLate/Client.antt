@@ -12,12 +12,13 @@ use Rattle.coap_layer.specs.Machine.Steps.{Asked, Steps}
 use Rattle.coap_exchange.specs.AskerLaw as asker
 use Rattle.coap_ends.specs.ClientSide.ClientTrace as C
 use Rattle.coap_ends.specs.ClientSide.ClientLaw.{ClientLaw, ClientRows, lower_of}
+use Rattle.coap_ends.specs.SuccessCodes.{created, changed}
 use Rattle.coap_world.specs.Events.{server_end}
 use Rattle.coap_world.specs.LegalRuns.{reported}
 use Rattle.coap_world.proofs.Witness.InWords.{bytes_are}
 use Rattle.coap_world.proofs.Witness.TurnsMade.{client_turn, to_server}
-use Rattle.coap_world.specs.BlockRuns.{created, key, answer_bytes}
-use Rattle.coap_world.specs.LateRuns.{continue, changed, second_done, failed_body, short_body, failed_first}
+use Rattle.coap_world.specs.BlockRuns.{key, answer_bytes}
+use Rattle.coap_world.specs.LateRuns.{continue, second_done, failed_body, short_body, lost_first}
 use Rattle.coap_world.specs.LateRuns.{failed_second}
 use Rattle.coap_world.specs.LateRuns.{short_bytes, created_bytes}
 use Rattle.coap_world.proofs.Witness.LateTurns.{called, begins, goes_on, ends, copied, expires, drops, step}
@@ -31,7 +32,7 @@ short_answer = record { kind = Ack; code = created; id = 2; token = key 2; optio
 -- its calls, a few turns after the others
 
 abbrev pub calls_begun : List C.Call
-calls_begun = client_turn [] (to_server failed_first ∷ []) (begins 0 0) ++ client_turn [] [] (called 0 0 failed_body)
+calls_begun = client_turn [] (to_server lost_first ∷ []) (begins 0 0) ++ client_turn [] [] (called 0 0 failed_body)
 
 abbrev pub calls_failing : List C.Call
 calls_failing = client_turn [] (to_server failed_second ∷ []) (goes_on 0 0 8 1 ∷ []) ++ calls_begun
@@ -113,7 +114,7 @@ abbrev left_begun : State
 left_begun = record (start 0) {
   upcoming = 1;
   last_used = Some 0 ∷ replicate 15 None;
-  open_cons = record { to = server_end; id = 0; bytes = failed_first; timeout = 2000; first = 0; last = 0 } ∷ [];
+  open_cons = record { to = server_end; id = 0; bytes = lost_first; timeout = 2000; first = 0; last = 0 } ∷ [];
 }
 
 steps_begun : Steps (start 0) run_begun left_begun

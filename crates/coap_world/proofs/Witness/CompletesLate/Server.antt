@@ -18,12 +18,13 @@ use Rattle.coap_exchange.specs.AnswererLaw as answerer
 use Rattle.coap_exchange.specs.AnswererSteps.{asked_of}
 use Rattle.coap_ends.specs.ServerSide.ServerTrace as S
 use Rattle.coap_ends.specs.ServerSide.ServerLaw.{ServerLaw, ServerRows, lower_of}
+use Rattle.coap_ends.specs.SuccessCodes.{created, changed}
 use Rattle.coap_world.specs.Events.{client_end}
 use Rattle.coap_world.specs.LegalRuns.{t}
 use Rattle.coap_world.proofs.Witness.InWords.{bytes_are}
 use Rattle.coap_world.proofs.Witness.OneHeld as store
-use Rattle.coap_world.specs.BlockRuns.{created, key, answer_bytes}
-use Rattle.coap_world.specs.LateRuns.{continue, changed, failed_body, short_body, failed_first, failed_second}
+use Rattle.coap_world.specs.BlockRuns.{key, answer_bytes}
+use Rattle.coap_world.specs.LateRuns.{continue, failed_body, short_body, lost_first, failed_second}
 use Rattle.coap_world.specs.LateRuns.{short_bytes}
 use Rattle.coap_world.specs.LateRuns.{created_bytes}
 use Rattle.coap_world.proofs.Witness.LateTurns.{block, takes, answers, answered, step, response_spelled, bare_spelled}
@@ -159,7 +160,7 @@ steps_put = (
       _,
       (
         _,
-        (_, (_, (_, (_, refl, step (bytes_are failed_first refl)), step refl), step tt), step tt),
+        (_, (_, (_, (_, refl, step (bytes_are lost_first refl)), step refl), step tt), step tt),
         step (bytes_are short_bytes refl),
       ),
       step refl,

@@ -10,12 +10,13 @@ use Rattle.coap_layer.specs.Machine.Steps.{Asked, Steps}
 use Rattle.coap_exchange.specs.AskerLaw as asker
 use Rattle.coap_ends.specs.ClientSide.ClientTrace as C
 use Rattle.coap_ends.specs.ClientSide.ClientLaw.{ClientLaw, ClientRows, lower_of}
+use Rattle.coap_ends.specs.SuccessCodes.{created}
 use Rattle.coap_world.specs.Events.{server_end}
 use Rattle.coap_world.specs.LegalRuns.{reported}
 use Rattle.coap_world.proofs.Witness.InWords.{bytes_are}
 use Rattle.coap_world.proofs.Witness.TurnsMade.{client_turn, to_server, rests}
 use Rattle.coap_world.proofs.Witness.Uploads.Client.{answer}
-use Rattle.coap_world.specs.BlockRuns.{created, answer_bytes}
+use Rattle.coap_world.specs.BlockRuns.{answer_bytes}
 use Rattle.coap_world.specs.LateRuns.{continue, second_done, lost_body, held_body, lost_first, lost_second, held_first}
 use Rattle.coap_world.specs.LateRuns.{held_second, held_third}
 use Rattle.coap_world.proofs.Witness.LateTurns.{called, begins, goes_on, ends, copied, expires, drops, step}

@@ -12,9 +12,10 @@ use Rattle.coap_layer.specs.Machine.Steps.{Asked, Steps}
 use Rattle.coap_exchange.specs.AskerLaw as asker
 use Rattle.coap_ends.specs.ClientSide.ClientTrace as C
 use Rattle.coap_ends.specs.ClientSide.ClientLaw.{ClientLaw, ClientRows, lower_of}
+use Rattle.coap_ends.specs.SuccessCodes.{changed, deleted}
 use Rattle.coap_world.specs.Events.{server_end}
 use Rattle.coap_world.specs.LegalRuns.{reported, delete, changed_bytes}
-use Rattle.coap_world.specs.CallRuns.{replace, reported_next, changed, deleted, replace_bytes, next_delete, gone_bytes}
+use Rattle.coap_world.specs.CallRuns.{replace, reported_next, replace_bytes, next_delete, gone_bytes}
 use Rattle.coap_world.proofs.Witness.Exchanges.{response, sends, ends}
 use Rattle.coap_world.proofs.Witness.InWords.{bytes_are}
 use Rattle.coap_world.proofs.Witness.TurnsMade.{client_turn, to_server}

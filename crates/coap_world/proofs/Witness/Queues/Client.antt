@@ -12,9 +12,10 @@ use Rattle.coap_layer.specs.Machine.Steps.{Asked, Steps}
 use Rattle.coap_exchange.specs.AskerLaw as asker
 use Rattle.coap_ends.specs.ClientSide.ClientTrace as C
 use Rattle.coap_ends.specs.ClientSide.ClientLaw.{ClientLaw, ClientRows, lower_of}
+use Rattle.coap_ends.specs.SuccessCodes.{created}
 use Rattle.coap_world.specs.Events.{server_end}
 use Rattle.coap_world.specs.LegalRuns.{tag, json, get, reported}
-use Rattle.coap_world.specs.BlockRuns.{created, first_get}
+use Rattle.coap_world.specs.BlockRuns.{first_get}
 use Rattle.coap_world.specs.CallRuns.{new, reported_next, new_bytes, created_bytes, new_content_bytes}
 use Rattle.coap_world.proofs.Witness.Exchanges.{option, response, sends, ends}
 use Rattle.coap_world.proofs.Witness.InWords.{bytes_are}

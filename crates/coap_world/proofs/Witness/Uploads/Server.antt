@@ -21,12 +21,13 @@ use Rattle.coap_exchange.specs.AnswererSteps.{asked_of, content_of}
 use Rattle.coap_ends.specs.ServerSide.ServerTrace as S
 use Rattle.coap_ends.specs.ServerSide.ServerServing.{response_to}
 use Rattle.coap_ends.specs.ServerSide.ServerLaw.{ServerLaw, ServerRows, lower_of}
+use Rattle.coap_ends.specs.SuccessCodes.{created}
 use Rattle.coap_world.specs.Events.{client_end}
 use Rattle.coap_world.proofs.Witness.InWords.{bytes_are}
 use Rattle.coap_exchange.specs.AnswererTrace as E
 use Rattle.coap_resource.specs.Content.{Held}
 use Rattle.coap_world.specs.LegalRuns.{t}
-use Rattle.coap_world.specs.BlockRuns.{key, created, old_body, block_bytes, answer_bytes}
+use Rattle.coap_world.specs.BlockRuns.{key, old_body, block_bytes, answer_bytes}
 use Rattle.coap_world.proofs.Witness.OneHeld as store
 use Rattle.coap_world.proofs.Witness.TurnsMade.{server_turn, to_client}
 

@@ -12,9 +12,10 @@ use Rattle.coap_layer.specs.Machine.Steps.{Asked, Steps}
 use Rattle.coap_exchange.specs.AskerLaw as asker
 use Rattle.coap_ends.specs.ClientSide.ClientTrace as C
 use Rattle.coap_ends.specs.ClientSide.ClientLaw.{ClientLaw, ClientRows, lower_of}
+use Rattle.coap_ends.specs.SuccessCodes.{changed}
 use Rattle.coap_world.specs.Events.{server_end}
 use Rattle.coap_world.specs.LegalRuns.{tag, reported}
-use Rattle.coap_world.specs.CallRuns.{validate, join, reported_next, changed, validate_bytes, valid_bytes, join_bytes}
+use Rattle.coap_world.specs.CallRuns.{validate, join, reported_next, validate_bytes, valid_bytes, join_bytes}
 use Rattle.coap_world.specs.CallRuns.{joined_bytes}
 use Rattle.coap_world.proofs.Witness.Exchanges.{option, response, sends, ends}
 use Rattle.coap_world.proofs.Witness.InWords.{bytes_are}

@@ -16,8 +16,9 @@ use Rattle.coap_resource.specs.Serves.{Question, Reply, bare}
 use Rattle.coap_exchange.specs.AnswererLaw as answerer
 use Rattle.coap_ends.specs.ServerSide.ServerTrace as S
 use Rattle.coap_ends.specs.ServerSide.ServerLaw.{ServerLaw, ServerRows, lower_of}
+use Rattle.coap_ends.specs.SuccessCodes.{changed}
 use Rattle.coap_world.specs.LegalRuns.{tag, plain, t}
-use Rattle.coap_world.specs.CallRuns.{changed, validate_bytes, valid_bytes, join_bytes, joined_bytes}
+use Rattle.coap_world.specs.CallRuns.{validate_bytes, valid_bytes, join_bytes, joined_bytes}
 use Rattle.coap_world.proofs.Witness.OneHeld as store
 use Rattle.coap_world.proofs.Witness.Gets.Server.{stored, sets, stores}
 use Rattle.coap_world.proofs.Witness.Exchanges.{option, request, serves, IsSendable, remembered}

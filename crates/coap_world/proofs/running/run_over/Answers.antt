@@ -19,7 +19,7 @@ events-preserved g c =
           let more = c.in-Ok.ensures.ok config _ st.0 st.1 in (
             more.0 ∷ st.0,
             subst (λ es. Stands ClientLed (ServerLed g.S.Store.content) config es
-                (more.0 ∷ st.0) c.step.new.client c.step.new.server c.step.new.log c.step.new.last)
+                (more.0 ∷ st.0) c.step.new.client c.step.new.server c.step.new.log c.step.new.last.0)
                 (one_more event_of c.args.events.now c.events.number c.index-events-number.result c.events-test.true
                 c.index-events-number.is) more.1,
           );
@@ -29,10 +29,10 @@ pub returns-clause-record : goal.returns-clause-record
 returns-clause-record g c = λ config start.
     let st = c.events.invariant.stands config start in (
       st.0,
-      c.events.last,
+      c.events.last.0,
       to_the_end event_of c.args.events.now c.events.number
           (λ es. Stands ClientLed (ServerLed g.S.Store.content) config es st.0 c.events.client c.events.server
-          c.events.log c.events.last) c.events-test.false st.1,
+          c.events.log c.events.last.0) c.events-test.false st.1,
     )
 
 pub returns-in-Err-NotLegal-clause-wrong : goal.returns-in-Err-NotLegal-clause-wrong

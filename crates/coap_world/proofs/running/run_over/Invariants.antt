@@ -17,5 +17,5 @@ invariant-events g l =
           (config : Config) → Stands ClientLed (ServerLed g.S.Store.content) config []
           [] l.initial.client l.initial.server l.initial.log 0
           → (turns : List Turn) × Stands ClientLed (ServerLed g.S.Store.content) config
-          (reverse (map event_of (take l.number l.events))) turns l.client l.server l.log l.last;
+          (reverse (map event_of (take l.number l.events))) turns l.client l.server l.log l.last.0;
     }

@@ -10,7 +10,7 @@ use Rattle.coap_world.proofs.running.drain.client_reports.Goals as goal
 
 pub reports-preserved : goal.reports-preserved
 reports-preserved g c =
-    out_more ClientLed OfClient of_client c.args.at NextReport
+    out_more ClientLed OfClient of_client c.args.at.0 NextReport
     (shown_reported c.in-Some.told) _ _ _ _ _ _ c.reports.invariant
-    (client_report c.args.at (shown_reported c.in-Some.told) c.reports.end _ _ _ c.in-Some.ensures.step refl
+    (client_report c.args.at.0 (shown_reported c.in-Some.told) c.reports.end _ _ _ c.in-Some.ensures.step refl
     c.in_ok-report.ensures)

@@ -10,5 +10,5 @@ abbrev pub decreases-reports : goal.decreases-reports
 decreases-reports g l = length l.end.client.own.reports
 
 abbrev pub invariant-reports : goal.invariant-reports
-invariant-reports g l = (taken : List _) × Acts ClientLed OfClient of_client l.fn.at
+invariant-reports g l = (taken : List _) × Acts ClientLed OfClient of_client l.fn.at.0
     (map (λ r. NextReport (Some r)) taken) l.initial.end l.initial.log l.end l.log

@@ -7,8 +7,8 @@ use Rattle.coap_world.specs.Run.Ends.{ClientLed}
 use Rattle.coap_world.proofs.running.ticks.client_ticks.Given as goal
 
 abbrev pub decreases-ticks : goal.decreases-ticks
-decreases-ticks g l = work l.end.client l.at
+decreases-ticks g l = work l.end.client l.at.0
 
 abbrev pub invariant-ticks : goal.invariant-ticks
-invariant-ticks g l = (calls : List _) × Always (λ past c. ClientTick l.at l.word true c) calls
+invariant-ticks g l = (calls : List _) × Always (λ past c. ClientTick l.at.0 l.word true c) calls
     × Moves ClientLed l.initial.end calls l.end

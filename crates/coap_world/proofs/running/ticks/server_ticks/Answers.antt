@@ -9,19 +9,19 @@ use Rattle.coap_world.proofs.running.ticks.server_ticks.Goals as goal
 
 pub ticks-preserved : goal.ticks-preserved
 ticks-preserved g c =
-    told_more (ServerLed g.S.Store.content) OfServer (server_lines (sender_in c.args.senders.now)) c.args.at
-    (ServerTick c.args.at c.args.word) _ _ _ _ _ _ c.in-Ok.did
+    told_more (ServerLed g.S.Store.content) OfServer (server_lines (sender_in c.args.senders.now)) c.args.at.0
+    (ServerTick c.args.at.0 c.args.word) _ _ _ _ _ _ c.in-Ok.did
     (search (rules, c.if-not-did.false)) c.ticks.invariant
-    (server_ticked g.S.Store.content (sender_in c.args.senders.now) c.args.at c.args.word c.in-Ok.did c.ticks.end
+    (server_ticked g.S.Store.content (sender_in c.args.senders.now) c.args.at.0 c.args.word c.in-Ok.did c.ticks.end
     (record { server = c.tick.new.self; version = c.ticks.end.version }) c.tell.new.self c.ticks.log _
     c.in-Ok.ensures.step refl c.in_ok-tell-in-Ok.ensures.same c.in_ok-tell-in-Ok.ensures.told
     c.in_ok-tell-in-Ok.ensures.version)
 
 pub returns-then-not-did : goal.returns-then-not-did
 returns-then-not-did g c =
-    told_last (ServerLed g.S.Store.content) OfServer (server_lines (sender_in c.args.senders.now)) c.args.at
-    (ServerTick c.args.at c.args.word) _ _ _ _ _ _ c.in-Ok.did (search (rules, c.if-not-did.true)) c.ticks.invariant
-    (server_ticked g.S.Store.content (sender_in c.args.senders.now) c.args.at c.args.word c.in-Ok.did c.ticks.end
+    told_last (ServerLed g.S.Store.content) OfServer (server_lines (sender_in c.args.senders.now)) c.args.at.0
+    (ServerTick c.args.at.0 c.args.word) _ _ _ _ _ _ c.in-Ok.did (search (rules, c.if-not-did.true)) c.ticks.invariant
+    (server_ticked g.S.Store.content (sender_in c.args.senders.now) c.args.at.0 c.args.word c.in-Ok.did c.ticks.end
     (record { server = c.tick.new.self; version = c.ticks.end.version }) c.tell.new.self c.ticks.log _
     c.in-Ok.ensures.step refl c.in_ok-tell-in-Ok.ensures.same c.in_ok-tell-in-Ok.ensures.told
     c.in_ok-tell-in-Ok.ensures.version)

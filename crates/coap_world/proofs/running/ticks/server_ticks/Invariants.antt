@@ -8,8 +8,8 @@ use Rattle.coap_world.proofs.Recording.Acting.{TicksSo}
 use Rattle.coap_world.proofs.running.ticks.server_ticks.Given as goal
 
 abbrev pub decreases-ticks : goal.decreases-ticks
-decreases-ticks g l = work (state_of g.S.Store.content l.end.server) l.at
+decreases-ticks g l = work (state_of g.S.Store.content l.end.server) l.at.0
 
 abbrev pub invariant-ticks : goal.invariant-ticks
-invariant-ticks g l = TicksSo (ServerLed g.S.Store.content) OfServer (server_lines (sender_in l.fn.senders)) l.at
-    (ServerTick l.at l.word) l.initial.end l.initial.log l.end l.log
+invariant-ticks g l = TicksSo (ServerLed g.S.Store.content) OfServer (server_lines (sender_in l.fn.senders)) l.at.0
+    (ServerTick l.at.0 l.word) l.initial.end l.initial.log l.end l.log

@@ -3,5 +3,5 @@ use Rattle.coap_world.proofs.running.turn.on_set.Goals as goal
 
 pub returns : goal.returns
 returns g c = λ sender past.
-    was_set g.S.Store.content sender c.args.when.at c.args.when.word _ _ _ _ _ _ _ c.in_ok-note.ensures _ _ _ _
+    was_set g.S.Store.content sender c.args.when.at.0 c.args.when.word _ _ _ _ _ _ _ c.in_ok-note.ensures _ _ _ _
     (c.in_ok-refused.ensures sender) (c.in_ok-finish_server.ensures sender) past
