@@ -1,6 +1,7 @@
 //! What came of a run, in print.
 use crate::status::Stop;
 use crate::text::{hex_or_dash, report_text};
+use coap_types::Moment;
 use coap_world::{CLIENT_END, Event, Given, Kind, Line, Record};
 use std::alloc::Allocator;
 use std::io::Write;
@@ -16,11 +17,10 @@ pub fn tell<A: Allocator + Copy, W: Write>(
     let mut number = 0;
     let turns = record.lines().split(|line| is_begin(line));
     for (event, lines) in events.iter().zip(turns.skip(1)) {
-        let at = event.at.0;
-        number = tell_outs(alloc, at, lines, record, number, out)?;
-        tell_applied(at, lines, out)?;
-        tell_reports(alloc, at, lines, out)?;
-        tell_refusals(at, lines, out)?;
+        number = tell_outs(alloc, event.at, lines, record, number, out)?;
+        tell_applied(event.at, lines, out)?;
+        tell_reports(alloc, event.at, lines, out)?;
+        tell_refusals(event.at, lines, out)?;
     }
     Ok(())
 }
@@ -33,7 +33,7 @@ fn is_begin<A: Allocator + Copy>(line: &Line<A>) -> bool {
 // The datagrams that were given out, of which the first has this number; the number of the next one.
 fn tell_outs<A: Allocator + Copy, W: Write>(
     alloc: A,
-    at: u64,
+    at: Moment,
     lines: &[Line<A>],
     record: &Record<A>,
     first: usize,
@@ -54,11 +54,12 @@ fn tell_outs<A: Allocator + Copy, W: Write>(
 // A datagram that was given out.
 fn tell_out<A: Allocator + Copy, W: Write>(
     alloc: A,
-    at: u64,
+    at: Moment,
     number: usize,
     given: &Given<A>,
     out: &mut W,
 ) -> Result<(), Stop> {
+    let at = at.0;
     let end = if given.from() == CLIENT_END {
         "client"
     } else {
@@ -71,10 +72,11 @@ fn tell_out<A: Allocator + Copy, W: Write>(
 
 // The applied requests that belong to calls.
 fn tell_applied<A: Allocator + Copy, W: Write>(
-    at: u64,
+    at: Moment,
     lines: &[Line<A>],
     out: &mut W,
 ) -> Result<(), Stop> {
+    let at = at.0;
     for line in lines {
         if let Kind::Applies(request) = &line.kind {
             if let Some(call) = request.call {
@@ -89,10 +91,11 @@ fn tell_applied<A: Allocator + Copy, W: Write>(
 // The reports.
 fn tell_reports<A: Allocator + Copy, W: Write>(
     alloc: A,
-    at: u64,
+    at: Moment,
     lines: &[Line<A>],
     out: &mut W,
 ) -> Result<(), Stop> {
+    let at = at.0;
     for line in lines {
         if let Kind::Reports(call, report) = &line.kind {
             let number = call.0;
@@ -105,10 +108,11 @@ fn tell_reports<A: Allocator + Copy, W: Write>(
 
 // The refusal of a call, or want of memory.
 fn tell_refusals<A: Allocator + Copy, W: Write>(
-    at: u64,
+    at: Moment,
     lines: &[Line<A>],
     out: &mut W,
 ) -> Result<(), Stop> {
+    let at = at.0;
     for line in lines {
         if let Some(number) = refused(&line.kind) {
             writeln!(out, "{at} refused {number}")?;
