@@ -32,6 +32,7 @@ pub mod ClientHeardOnce
 pub mod ClientOneCon
 pub mod ClientOrigins
 pub mod ClientBodies
+pub mod AllWaiting
 pub mod ClientHandedUp
 pub mod ClientMarks
 pub mod ClientValid

@@ -1,4 +1,3 @@
-pub mod ServedWasHandedUp
 pub mod ServedOnce
 pub mod HandedUpAsOften
 pub mod ServerWaiting

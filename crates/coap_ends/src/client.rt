@@ -27,7 +27,8 @@ mod ticking;
 mod transfer;
 mod uploading;
 
-ghost use Rattle.std.specs.Prelude.{◌≡◌, ◌≢◌, ◌<◌, ◌^◌, ℕ, Bool, false, true, List, ◌∷◌, [], length, Option, Result, Ok, Err, None, IfNone, IfOk, IfSome, IsOk, OnOk, OnErr, is_ok};
+ghost use Rattle.std.specs.Prelude.{◌≡◌, ◌≢◌, ◌<◌, ◌^◌, ℕ, Bool, false, true, List, ◌∷◌, [], length, Option, Result};
+ghost use Rattle.std.specs.Prelude.{Ok, Err, None, IfNone, IfOk, IfSome, IsOk, OnOk, OnErr, is_ok};
 ghost use Rattle.std.specs.Option.{option_map};
 ghost use Rattle.coap_types.specs.declared.endpoint.Endpoint.{Endpoint};
 ghost use Rattle.coap_layer.specs.Trace as L;
@@ -39,7 +40,8 @@ ghost use Rattle.coap_ends.specs.ClientObject.CallShown.{shown_request};
 ghost use Rattle.coap_ends.specs.ClientObject.CallAnswers.{refusal_in};
 ghost use Rattle.coap_ends.specs.ClientSide.ClientQueue.{call_answer, observe_answer};
 ghost use Rattle.coap_ends.specs.ClientSide.ClientStep.{Step, Led, fresh_state};
-ghost use Rattle.coap_ends.specs.ClientSide.ClientTrace.{Call, Calls, Observes, Cancels, Forgets, Feeds, Ticks, NextOut, NextReport, Asked};
+ghost use Rattle.coap_ends.specs.ClientSide.ClientTrace.{Call, Calls, Observes, Cancels, Forgets, Feeds, Ticks};
+ghost use Rattle.coap_ends.specs.ClientSide.ClientTrace.{NextOut, NextReport, Asked};
 ghost use Rattle.coap_ends.specs.ClientObject.ClientShown.{number_of, shown_asked, shown_reported};
 ghost use Rattle.coap_ends.specs.ClientTurns.ClientQuiet.{IsIdle, TellsNothing};
 ghost use Rattle.coap_ends.specs.ClientTurns.ClientWork.{work};
@@ -123,7 +125,7 @@ impl<A: Allocator + Copy, H: BuildHasher> Client<A, H> {
         // Where nothing is sent, kept or told, as for an acknowledgement that matches nothing, it takes no memory.
         ensures quiet { TellsNothing self.old now.0 from bytes.now → IsOk result }
     {
-        let at = Moment(self.held.clock.max(now.0));
+        let at = self.held.clock.later(now);
         let event = self.asker.receive(at, from, bytes)?;
         let done = happen(&mut self.asker, &mut self.held, at, word, event);
         if done.is_err() {

@@ -183,7 +183,8 @@ module _ (x : X.State) (number : ℕ) (s : Own) (m : Message) (at word : ℕ) (o
 
   -- its part is of no use
   pub useless_fetch : (n : Notified) → rest_of number s.observations ≡ Some n
-      → None ≡ rest n.sequence n.fetch m (verdict_on n.fetch m) → None ≡ value number n.sequence n.fetch m (verdict_on n.fetch m)
+      → None ≡ rest n.sequence n.fetch m (verdict_on n.fetch m)
+      → None ≡ value number n.sequence n.fetch m (verdict_on n.fetch m)
       → Happens x (fetch_answered number (rest_of number s.observations) s m) at word None
       (left (record s { running = None; observations = os }) x)
   useless_fetch n there none useless =

@@ -1,5 +1,6 @@
 -- The live observations of a client, by their places.
-use Rattle.std.proofs.Common.{◌≡◌, ◌≤◌, ◌<◌, ℕ, zero, suc, ◌+◌, Bool, true, false, cond, not, Option, Some, None, List, [], ◌∷◌, filter}
+use Rattle.std.proofs.Common.{◌≡◌, ◌≤◌, ◌<◌, ℕ, zero, suc, ◌+◌, Bool, true, false, cond, not, Option, Some, None}
+use Rattle.std.proofs.Common.{List, [], ◌∷◌, filter}
 use Rattle.std.proofs.Common.{length, drop, remove, set, slice_get, map, ap, sym, ◌∙◌, refl, arith}
 use Rattle.std.proofs.Common.{Bor, option_copied}
 use Rattle.std.proofs.lemmas.Bool.{eq-eqb, ne_eqb}
@@ -33,9 +34,6 @@ module _ {X : Type 0} where
   map_set f (y ∷ xs) (suc i) x = ap (λ l. f y ∷ l) (map_set f xs i x)
 
 -- the place of an observation, among those from a place on
-
-pub place_end : (f number : ℕ) (os : List Observation) → os ≡ [] → None ≡ option_map (λ k. f + k) (place_in number os)
-place_end f number os is = ap (λ l. option_map (λ k. f + k) (place_in number l)) (sym is)
 
 pub place_here : (f number : ℕ) (os rest : List Observation) (o : Observation) → os ≡ o ∷ rest → o.number ≡ number
     → Some f ≡ option_map (λ k. f + k) (place_in number os)

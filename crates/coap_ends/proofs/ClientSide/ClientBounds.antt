@@ -54,7 +54,7 @@ use Rattle.coap_ends.proofs.ClientSide.ClientInTurn.{Rises, Turns, turns}
 use Rattle.coap_ends.proofs.ClientSide.ClientNumbers.{numbers_once}
 use Rattle.coap_ends.proofs.ClientSide.ClientOneByOne.{sent_now}
 use Rattle.coap_ends.specs.ClientSide.ClientBounds.{most_requests, one_of, one_sent, requests, AreBounded}
-use Rattle.coap_ends.proofs.ClientSide.ClientValid.{all_to, all_more}
+use Rattle.coap_ends.proofs.ClientSide.AllWaiting.{all_to, all_more}
 use Rattle.coap_ends.proofs.ClientSide.TransferSteps.{lt_not, FetchWithin, fetch_begins, fetch_more, fetch_anew}
 use Rattle.coap_ends.proofs.ClientSide.TransferSteps.{fetch_bound, UploadWithin, upload_more, upload_bound}
 

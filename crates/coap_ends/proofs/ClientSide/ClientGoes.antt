@@ -50,7 +50,7 @@ use Rattle.coap_ends.proofs.ClientSide.ClientTokens.{live, live_found, short_tok
 use Rattle.coap_ends.specs.ClientSide.ClientGoesOn.{GoesOn}
 use Rattle.coap_ends.proofs.Progress.ClientGoing.{takes, ticks, asks, receives}
 use Rattle.coap_ends.proofs.ClientSide.ClientTokens.{live_without, live_failed, live_moves, same_observations}
-use Rattle.coap_ends.proofs.ClientSide.ClientValid.{all_more}
+use Rattle.coap_ends.proofs.ClientSide.AllWaiting.{all_more}
 use Rattle.coap_ends.proofs.ClientSide.RequestsSpelled.{IsShortPath, IsShortOp, AreShortPaths, request_spelled}
 
 -- What waits, what runs and what is observed has options that are few.

@@ -1,5 +1,5 @@
 -- No first block is sent at most 100,000 ms after a datagram of an upload that ended without a final response.
-use Rattle.std.proofs.Common.{◌≡◌, ◌≤◌, ◌⊎◌, inl, inr, ℕ, ◌+◌, max, Bool, true, false, cond, not, ◌&&◌, Option, Some}
+use Rattle.std.proofs.Common.{◌≡◌, ◌≤◌, ◌⊎◌, inl, inr, ℕ, ◌+◌, max, Bool, true, false, cond, ◌&&◌, Option, Some}
 use Rattle.std.proofs.Common.{None, List, [], ◌∷◌, ◌++◌, refl, ap, sym, subst, ◌∙◌, arith, Result, Ok, Err}
 use Rattle.std.specs.Prelude.{◌==◌, nat_le}
 use Rattle.coap_types.specs.Past.{Sometime}
@@ -21,28 +21,26 @@ use Rattle.coap_exchange.specs.AskerArrivals as A
 use Rattle.coap_exchange.specs.AskerSteps as P
 use Rattle.coap_exchange.specs.AskerLaw as X
 use Rattle.coap_types.specs.declared.option_number.TheConstants.{BLOCK1 as block1}
-use Rattle.coap_observe.specs.Newer.{is_newer}
 use Rattle.coap_block.specs.UploadStep.{continues}
-use Rattle.coap_ends.specs.ClientSide.ClientTrace.{is_value, Request, Report, Reported, Call, Calls, Observes, Cancels}
+use Rattle.coap_ends.specs.ClientSide.ClientTrace.{is_value, Request, Call, Calls, Observes, Cancels}
 use Rattle.coap_ends.specs.ClientSide.ClientTrace.{Forgets, Feeds, Ticks, NextOut, NextReport, Asked}
 use Rattle.coap_ends.specs.ClientSide.ClientTrace as R
 use Rattle.coap_types.specs.declared.transmission.TheConstants.{MAX_LATENCY_MS as max_latency}
 use Rattle.coap_ends.specs.ClientSide.ClientOwn.{Transfer, Fetches, Uploads, Single, Operation, Calling, Registering}
-use Rattle.coap_ends.specs.ClientSide.ClientOwn.{Fetching, Cancelling, Dropped, Notified, Observation, Own}
+use Rattle.coap_ends.specs.ClientSide.ClientOwn.{Fetching, Cancelling, Dropped, Notified, Own}
 use Rattle.coap_ends.specs.ClientSide.ClientObservations.{observation_of, observation_with, rest_of, to_fetch, dropped}
 use Rattle.coap_ends.specs.ClientSide.ClientObservations.{over}
 use Rattle.coap_ends.specs.ClientSide.ClientRequests.{is_longer, message_of}
-use Rattle.coap_ends.specs.ClientSide.ClientResponses.{content, continue, block_at, is_notification, sequence_in, part}
+use Rattle.coap_ends.specs.ClientSide.ClientResponses.{content, continue, block_at, is_notification, part}
 use Rattle.coap_ends.specs.ClientSide.ClientResponses as T
 use Rattle.coap_ends.specs.ClientSide.ClientReports.{lapse}
 use Rattle.coap_ends.specs.ClientSide.ClientReports as reports_of
 use Rattle.coap_ends.specs.ClientSide.ClientCalls.{Next, answer}
 use Rattle.coap_ends.specs.ClientSide.ClientCalls as calls
-use Rattle.coap_ends.specs.ClientSide.ClientEffects.{Deed, Rests, Asks, Keeps, Releases, Effect, stays, runs, ends, of}
+use Rattle.coap_ends.specs.ClientSide.ClientEffects.{Deed, Rests, Asks, Keeps, Releases, Effect, stays, runs, of}
 use Rattle.coap_ends.specs.ClientSide.ClientFetching.{fetch_by, fetch_answered}
-use Rattle.coap_ends.specs.ClientSide.ClientObserving.{begun, first_value, is_over, registered, releases, renewed}
-use Rattle.coap_ends.specs.ClientSide.ClientObserving.{passed, noticed_by}
-use Rattle.coap_ends.specs.ClientSide.ClientEvents.{called, answered, failed, happened, is_held, is_upload_op, starts}
+use Rattle.coap_ends.specs.ClientSide.ClientObserving.{begun, first_value, registered}
+use Rattle.coap_ends.specs.ClientSide.ClientEvents.{called, answered, happened, is_held, is_upload_op, starts}
 use Rattle.coap_ends.specs.ClientSide.ClientEvents.{idle, passes, closed}
 use Rattle.coap_ends.specs.ClientSide.ClientDeeds.{at, close, deeds}
 use Rattle.coap_ends.specs.ClientSide.ClientSteps.{lower, reports}
@@ -52,6 +50,7 @@ use Rattle.coap_ends.specs.ClientSide.ClientBlocks.{Carried, carried}
 use Rattle.coap_ends.specs.ClientSide.ClientPlaces.{hit, in_running, places, final_of, gone}
 use Rattle.coap_ends.specs.ClientSide.ClientHolds.{moment, is_copy, is_final, is_upload_of, sends_of, SendsOf}
 use Rattle.coap_ends.specs.ClientSide.ClientHolds.{EndsUnanswered, Holds, AllHold}
+use Rattle.coap_ends.proofs.ClientSide.ClientSends.{failed_quiet, keeps_or_ends, noticed_quiet, releases_quiet}
 use Rattle.coap_ends.proofs.ClientSide.PlaceLemmas.{same_number, hit_self}
 use Rattle.coap_ends.proofs.ClientSide.UploadSteps.{number_moved}
 use Rattle.coap_ends.proofs.ClientSide.ExchangeCame.{came}
@@ -123,10 +122,6 @@ called_later k r t s (calls.Asks (Uploads u)) h op y is c zero =
 quiet_later : (d : Deed) → ((op : Operation) → d ≡ Asks op → ⊥) → Later d
 quiet_later d q op y is c zero = q op is
 
-releases_quiet : (o : Option Observation) (op : Operation) → releases o ≡ Asks op → ⊥
-releases_quiet None op h = cc h
-releases_quiet (Some o) op h = cc h
-
 by_later : (k : ℕ) (n : Notified) (s : Own) (m : Message) (v : Verdict) → Later (fetch_by k n s m v).deed
 by_later k n s m (verdict.Ask num szx) op y is c zero = let same : Fetching k ≡ op = cc is in let e : None
     ≡ Some y = ap carried same ∙ c in cc e
@@ -137,11 +132,6 @@ by_later k n s m (verdict.Refuse why) op y is c zero = cc is
 fetch_later : (k : ℕ) (o : Option Notified) (s : Own) (m : Message) → Later (fetch_answered k o s m).deed
 fetch_later k None s m op y is c zero = cc is
 fetch_later k (Some n) s m op y is c zero = by_later k n s m _ op y is c zero
-
-keeps_or_ends : (b : Bool) (e : Own) (r o : Option Reported) (token : List ℕ) (s : Own) (op : Operation)
-    → (cond b (record { own = e; report = r; deed = Keeps token }) (ends o s)).deed ≡ Asks op → ⊥
-keeps_or_ends true e r o token s op h = cc h
-keeps_or_ends false e r o token s op h = cc h
 
 registered_quiet : (k : ℕ) (path : List (List ℕ)) (s : Own) (m : ℕ) (a : Message) (op : Operation)
     → (registered k path s m a).deed ≡ Asks op → ⊥
@@ -162,26 +152,6 @@ answered_later s m a (Some (Registering k path)) = registered_later k path s m a
 answered_later s m a (Some (Fetching k)) = fetch_later k (rest_of k s.observations) s a
 answered_later s m a (Some (Cancelling k)) = quiet_later _ (releases_quiet (observation_of k s.observations))
 answered_later s m a (Some Dropped) = quiet_later _ (λ op h. cc h)
-
-failed_quiet : (u : Transfer → Bool) (report : Report) (s : Own) (running : Option Operation) (op : Operation)
-    → (failed u report s running).deed ≡ Asks op → ⊥
-failed_quiet u report s None op h = cc h
-failed_quiet u report s (Some (Calling k r t)) op h = cc h
-failed_quiet u report s (Some (Registering k path)) op h = cc h
-failed_quiet u report s (Some (Fetching k)) op h = cc h
-failed_quiet u report s (Some Dropped) op h = cc h
-failed_quiet u report s (Some (Cancelling k)) op h = releases_quiet (observation_of k s.observations) op h
-
-noticed_quiet : (s : Own) (m : ℕ) (a : Message) (o : Option Observation) (op : Operation)
-    → (noticed_by o s m a).deed ≡ Asks op → ⊥
-noticed_quiet s m a None op h = cc h
-noticed_quiet s m a (Some o) op h = by (not (is_notification a)) (is_newer o.watch.mark (sequence_in a) m) h
-  where
-    by : (b c : Bool) → (cond b (is_over o.number (R.Ended a.code) s)
-        (cond c (renewed o s m a) (stays (passed o s m a)))).deed ≡ Asks op → ⊥
-    by true c h = releases_quiet (observation_of o.number s.observations) op h
-    by false true h = cc h
-    by false false h = cc h
 
 happened_later : (s : Own) (m : ℕ) (e : Option Event) → Later (happened s m e).deed
 happened_later s m None = quiet_later _ (λ op h. cc h)

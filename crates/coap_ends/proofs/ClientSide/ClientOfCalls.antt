@@ -1,6 +1,6 @@
 -- What is sent for a call is what that call asks for, as it was taken.
 use Rattle.std.proofs.Common.{◌≡◌, inl, inr, ℕ, max, Bool, true, false, cond, not, ◌&&◌, arith, Option, Some, None}
-use Rattle.std.proofs.Common.{List, ◌∷◌, ◌++◌, [], refl, ap, sym, subst, ◌∙◌, Ok, Err}
+use Rattle.std.proofs.Common.{List, ◌∷◌, [], refl, ap, sym, subst, ◌∙◌, Ok, Err}
 use Rattle.std.specs.Prelude.{◌==◌}
 use Rattle.coap_types.specs.declared.block.Block.{Block}
 use Rattle.coap_types.specs.declared.option_number.TheConstants.{BLOCK1 as block1}
@@ -23,20 +23,20 @@ use Rattle.coap_ends.specs.ClientSide.ClientReports.{done, lapse}
 use Rattle.coap_ends.specs.ClientSide.ClientCalls.{answer, has_tags}
 use Rattle.coap_ends.specs.ClientSide.ClientCalls as calls
 use Rattle.coap_ends.specs.ClientSide.ClientEffects.{Effect, has_sent, is_upload}
-use Rattle.coap_ends.specs.ClientSide.ClientEvents.{failed, closed, happened, passes}
+use Rattle.coap_ends.specs.ClientSide.ClientEvents.{failed, closed}
 use Rattle.coap_ends.specs.ClientSide.ClientDeeds.{at}
-use Rattle.coap_ends.specs.ClientSide.ClientQueue.{transfer_of, calling}
+use Rattle.coap_ends.specs.ClientSide.ClientQueue.{transfer_of}
 use Rattle.coap_ends.specs.ClientSide.ClientLaw.{own_of}
 use Rattle.coap_ends.specs.ClientSide.ClientWords.{Taken, WasTaken, takes, Sending, sends}
 use Rattle.coap_ends.specs.ClientSide.ClientOrder.{call_of}
 use Rattle.coap_ends.specs.ClientSide.ClientOfCalls.{SendsBody, CarriesBody, IsOfCall, AreOfCalls, OthersAreGets}
-use Rattle.coap_ends.proofs.ClientSide.ClientSends.{AllOf, all_uncancelled, happened_runs, passes_runs}
+use Rattle.coap_ends.proofs.ClientSide.ClientSends.{AllOf}
 use Rattle.coap_ends.proofs.ClientSide.ClientMoves as mv
 use Rattle.coap_ends.proofs.ClientSide.ClientMoves.{Move, left_by}
-use Rattle.coap_ends.proofs.ClientSide.ClientTurns.{Closing, closing, Turned, quiet, goes_out, is_refused, sending_of}
+use Rattle.coap_ends.proofs.ClientSide.ClientTurns.{Closing, Turned, quiet, goes_out, is_refused, sending_of}
 use Rattle.coap_ends.proofs.ClientSide.ClientTurns.{fed_turned, ticked_turned}
 use Rattle.coap_ends.proofs.ClientSide.ClientOrigins.{Origin, kept, begins, follows, origin}
-use Rattle.coap_ends.proofs.ClientSide.ClientBodies.{waits_closed}
+use Rattle.coap_ends.proofs.ClientSide.AllWaiting.{all_wait}
 use Rattle.coap_ends.proofs.ClientSide.ClientOneByOne.{sent_now}
 use Rattle.coap_ends.proofs.ClientSide.UploadSteps.{continues_is}
 
@@ -210,16 +210,6 @@ taken_later szx t c (Fetching k) h = tt
 taken_later szx t c (Cancelling k) h = tt
 taken_later szx t c Dropped h = tt
 
-all_to : (P Q : Operation → Type 0) → ((op : Operation) → P op → Q op) → (ops : List Operation) → AllOf P ops
-    → AllOf Q ops
-all_to P Q f [] h = tt
-all_to P Q f (op ∷ ops) h = (f op h.0, all_to P Q f ops h.1)
-
-all_more : (P : Operation → Type 0) (ops : List Operation) (op : Operation) → AllOf P ops → P op
-    → AllOf P (ops ++ op ∷ [])
-all_more P [] op h k = (k, tt)
-all_more P (x ∷ ops) op h k = (h.0, all_more P ops op h.1 k)
-
 -- a call that sends takes none
 sends_takes : (s : Own) (c : Call) (x : Sending) (y : Taken) → sends s c ≡ Some x → takes c ≡ Some y → ⊥
 sends_takes s (Feeds now from bytes w up settled event sent token was) x y h k = cc k
@@ -278,45 +268,14 @@ module _ (szx : ℕ) where
   abbrev IsTaken : List Call → Operation → Type 0
   IsTaken t op = IsTakenBy szx t op
 
-  taken_step : (t : List Call) (c : Call) → AllOf (IsTaken (c ∷ t)) (own_of szx t).queue
-      → AllOf (IsTaken (c ∷ t)) (own_of szx (c ∷ t)).queue
-  taken_step t (Calls now r (Ok n)) h =
-      all_more (IsTaken (Calls now r (Ok n) ∷ t)) (own_of szx t).queue (calling (own_of szx t).szx n r) h (
-        r,
-        inl refl,
-        refl,
-        subst (λ n. CarriesBody szx r.method r.body (transfer_of n r r.method))
-            (sym (size_is szx t)) (fresh_carries szx r r.method),
-      )
-  taken_step t (Calls now r (Err why)) h = h
-  taken_step t (Observes now path (Ok n)) h = all_more (IsTaken (Observes now path (Ok n) ∷ t)) (own_of szx t).queue
-      (Registering n path) h tt
-  taken_step t (Observes now path (Err why)) h = h
-  taken_step t (Cancels now k None) h = all_more (IsTaken (Cancels now k None ∷ t)) (own_of szx t).queue
-      (Cancelling k) h tt
-  taken_step t (Cancels now k (Some why)) h = h
-  taken_step t (Forgets k was true) h = all_uncancelled k (IsTaken (Forgets k was true ∷ t)) (own_of szx t).queue h
-  taken_step t (Forgets k was false) h = h
-  taken_step t (NextOut did) h = h
-  taken_step t (NextReport did) h = h
-  taken_step t (Asked did) h = h
-  taken_step t (Feeds now from bytes w up settled event sent token was) h =
-      let s : Own = own_of szx t in
-      let m : ℕ = max s.clock now in
-      let e : Effect = happened (at now s) m event in
-      let P : Operation → Type 0 = IsTaken (Feeds now from bytes w up settled event sent token was ∷ t) in
-      waits_closed P m e token ((happened_runs (at now s) m event).waits P h) (closing m e token)
-  taken_step t (Ticks now w below turn sent token was did) h =
-      let s : Own = own_of szx t in
-      let m : ℕ = max s.clock now in
-      let e : Effect = passes (at now s) m turn in
-      let P : Operation → Type 0 = IsTaken (Ticks now w below turn sent token was did ∷ t) in
-      waits_closed P m e token ((passes_runs (at now s) m turn).waits P h) (closing m e token)
-
   all_taken : (t : List Call) → AllOf (IsTaken t) (own_of szx t).queue
-  all_taken [] = tt
-  all_taken (c ∷ t) = taken_step t c (all_to (IsTaken t) (IsTaken (c ∷ t)) (taken_later szx t c) (own_of szx t).queue
-      (all_taken t))
+  all_taken = all_wait szx IsTaken (taken_later szx) (λ t now r n. (
+    r,
+    inl refl,
+    refl,
+    subst (λ m. CarriesBody szx r.method r.body (transfer_of m r r.method))
+        (sym (size_is szx t)) (fresh_carries szx r r.method),
+  )) (λ t now path n. tt) (λ t now n. tt)
 
   taken_here : (t : List Call) (c : Call) (k : ℕ) (r : Request) (tr : Transfer) → Origin szx t c k r tr
       → ((old : Transfer) → (own_of szx t).running ≡ Some (Calling k r old) → IsTaken t (Calling k r old))

@@ -1,6 +1,6 @@
 -- What is sent for an observation asks for the path that is observed.
 use Rattle.std.proofs.Common.{◌≡◌, ◌≤◌, inl, inr, ℕ, max, Bool, true, false, cond, Option, Some}
-use Rattle.std.proofs.Common.{None, is_some, List, ◌∷◌, ◌++◌, [], map, refl, ap, sym, subst, ◌∙◌, Ok, Err}
+use Rattle.std.proofs.Common.{None, is_some, List, ◌∷◌, ◌++◌, [], map, refl, ap, sym, subst, ◌∙◌}
 use Rattle.std.proofs.Common.{arith}
 use Rattle.std.specs.Prelude.{◌==◌}
 use Rattle.std.specs.Option.{option_map}
@@ -25,29 +25,27 @@ use Rattle.coap_ends.specs.ClientSide.ClientObservations.{observation_of, observ
 use Rattle.coap_ends.specs.ClientSide.ClientObservations.{to_fetch, with_rest}
 use Rattle.coap_ends.specs.ClientSide.ClientRequests.{path_options, block2_option, get, message_of}
 use Rattle.coap_ends.specs.ClientSide.ClientEffects.{Asks, Effect}
-use Rattle.coap_ends.specs.ClientSide.ClientEvents.{failed, happened, passes}
+use Rattle.coap_ends.specs.ClientSide.ClientEvents.{failed}
 use Rattle.coap_ends.specs.ClientSide.ClientReports.{lapse}
 use Rattle.coap_ends.specs.ClientSide.ClientDeeds.{at}
-use Rattle.coap_ends.specs.ClientSide.ClientQueue.{calling}
 use Rattle.coap_ends.specs.ClientSide.ClientLaw.{ClientLaw, own_of, lower_of}
 use Rattle.coap_ends.specs.ClientSide.ClientPlaces.{hit, in_observations}
 use Rattle.coap_ends.specs.ClientSide.ClientWords.{Sending, sends}
 use Rattle.coap_ends.specs.ClientSide.ClientBegins.{WasSent}
 use Rattle.coap_ends.proofs.ClientSide.PlaceLemmas.{same_number, number_self}
 use Rattle.coap_ends.proofs.ClientSide.PlaceEffects.{AllWait}
-use Rattle.coap_ends.proofs.ClientSide.ClientSends.{AllOf, all_uncancelled, happened_runs, passes_runs}
+use Rattle.coap_ends.proofs.ClientSide.ClientSends.{AllOf}
 use Rattle.coap_ends.proofs.ClientSide.ClientOnce.{known}
-use Rattle.coap_ends.proofs.ClientSide.ClientBodies.{waits_closed}
+use Rattle.coap_ends.proofs.ClientSide.AllWaiting.{all_wait}
 use Rattle.coap_ends.proofs.ClientSide.ClientAsked as asked
 use Rattle.coap_ends.proofs.ClientSide.ClientLeading.{client_back}
 use Rattle.coap_ends.proofs.ClientSide.ClientTokens.{Registered, live, was_asked}
 use Rattle.coap_ends.proofs.ClientSide.ClientMoves as mv
 use Rattle.coap_ends.proofs.ClientSide.ClientMoves.{Move, left_by, releases_none}
-use Rattle.coap_ends.proofs.ClientSide.ClientTurns.{Closing, closing, Turned, quiet, goes_out, is_refused, sending_of}
+use Rattle.coap_ends.proofs.ClientSide.ClientTurns.{Closing, Turned, quiet, goes_out, is_refused, sending_of}
 use Rattle.coap_ends.proofs.ClientSide.ClientTurns.{fed_turned, ticked_turned}
 use Rattle.coap_ends.specs.ClientSide.ClientOfObservations.{WasObserved, observation_for, AsksFor}
 use Rattle.coap_ends.specs.ClientSide.ClientOfObservations.{IsOfObservation, AreOfObservations}
-use Rattle.coap_ends.proofs.ClientSide.ClientValid.{all_to, all_more}
 use Rattle.coap_ends.proofs.ClientSide.ObservationOrigins.{In, in_count}
 use Rattle.coap_ends.proofs.ClientSide.ClientNotified.{live_in, most}
 use Rattle.coap_ends.proofs.ClientSide.ClientValues.{found_rest, Fetched, fetched}
@@ -194,39 +192,8 @@ cancel_token word (b ∷ calls) law r token given has (inl h) =
 cancel_token word (b ∷ calls) law r token given has (inr h) = cancel_token word calls law.1 r token given has h
 
 module _ (szx : ℕ) where
-  taken_step : (t : List Call) (c : Call) → AllOf (IsTaken (c ∷ t)) (own_of szx t).queue
-      → AllOf (IsTaken (c ∷ t)) (own_of szx (c ∷ t)).queue
-  taken_step t (Calls now r (Ok n)) h = all_more (IsTaken (Calls now r (Ok n) ∷ t)) (own_of szx t).queue
-      (calling (own_of szx t).szx n r) h tt
-  taken_step t (Calls now r (Err why)) h = h
-  taken_step t (Observes now path (Ok n)) h = all_more (IsTaken (Observes now path (Ok n) ∷ t)) (own_of szx t).queue
-      (Registering n path) h (inl refl)
-  taken_step t (Observes now path (Err why)) h = h
-  taken_step t (Cancels now k None) h = all_more (IsTaken (Cancels now k None ∷ t)) (own_of szx t).queue
-      (Cancelling k) h tt
-  taken_step t (Cancels now k (Some why)) h = h
-  taken_step t (Forgets k was true) h = all_uncancelled k (IsTaken (Forgets k was true ∷ t)) (own_of szx t).queue h
-  taken_step t (Forgets k was false) h = h
-  taken_step t (NextOut answer) h = h
-  taken_step t (NextReport answer) h = h
-  taken_step t (Asked answer) h = h
-  taken_step t (Feeds now from bytes w up settled event sent token was) h =
-      let s : Own = own_of szx t in
-      let m : ℕ = max s.clock now in
-      let e : Effect = happened (at now s) m event in
-      let P : Operation → Type 0 = IsTaken (Feeds now from bytes w up settled event sent token was ∷ t) in
-      waits_closed P m e token ((happened_runs (at now s) m event).waits P h) (closing m e token)
-  taken_step t (Ticks now w below turn sent token was answer) h =
-      let s : Own = own_of szx t in
-      let m : ℕ = max s.clock now in
-      let e : Effect = passes (at now s) m turn in
-      let P : Operation → Type 0 = IsTaken (Ticks now w below turn sent token was answer ∷ t) in
-      waits_closed P m e token ((passes_runs (at now s) m turn).waits P h) (closing m e token)
-
   all_taken : (t : List Call) → AllOf (IsTaken t) (own_of szx t).queue
-  all_taken [] = tt
-  all_taken (c ∷ t) = taken_step t c (all_to (IsTaken t) (IsTaken (c ∷ t)) (taken_later t c) (own_of szx t).queue
-      (all_taken t))
+  all_taken = all_wait szx IsTaken taken_later (λ t now r n. tt) (λ t now path n. inl refl) (λ t now n. tt)
 
   -- what is sent, as which message
   pub record SentAs (t : List Call) (x : Sending) : Type 0 where

@@ -81,11 +81,11 @@ no_carry s heard e a none deed op y is c =
     let same : a ≡ op = cc (deed, is) in
     let k : None ≡ Some y = sym none ∙ (ap carried same ∙ c) in absurd (cc k)
 
-releases_quiet : (o : Option Observation) (op : Operation) → releases o ≡ Asks op → ⊥
+pub releases_quiet : (o : Option Observation) (op : Operation) → releases o ≡ Asks op → ⊥
 releases_quiet None op h = cc h
 releases_quiet (Some o) op h = cc h
 
-failed_quiet : (u : Transfer → Bool) (report : Report) (s : Own) (running : Option Operation) (op : Operation)
+pub failed_quiet : (u : Transfer → Bool) (report : Report) (s : Own) (running : Option Operation) (op : Operation)
     → (failed u report s running).deed ≡ Asks op → ⊥
 failed_quiet u report s None op h = cc h
 failed_quiet u report s (Some (Calling k r t)) op h = cc h
@@ -94,7 +94,7 @@ failed_quiet u report s (Some (Fetching k)) op h = cc h
 failed_quiet u report s (Some Dropped) op h = cc h
 failed_quiet u report s (Some (Cancelling k)) op h = releases_quiet (observation_of k s.observations) op h
 
-noticed_quiet : (s : Own) (m : ℕ) (a : Message) (o : Option Observation) (op : Operation)
+pub noticed_quiet : (s : Own) (m : ℕ) (a : Message) (o : Option Observation) (op : Operation)
     → (noticed_by o s m a).deed ≡ Asks op → ⊥
 noticed_quiet s m a None op h = cc h
 noticed_quiet s m a (Some o) op h = by (not (is_notification a)) (is_newer o.watch.mark (sequence_in a) m) h
@@ -105,7 +105,7 @@ noticed_quiet s m a (Some o) op h = by (not (is_notification a)) (is_newer o.wat
     by false true h = cc h
     by false false h = cc h
 
-keeps_or_ends : (b : Bool) (e : Own) (r o : Option Reported) (token : List ℕ) (s : Own) (op : Operation)
+pub keeps_or_ends : (b : Bool) (e : Own) (r o : Option Reported) (token : List ℕ) (s : Own) (op : Operation)
     → (cond b (record { own = e; report = r; deed = Keeps token }) (ends o s)).deed ≡ Asks op → ⊥
 keeps_or_ends true e r o token s op h = cc h
 keeps_or_ends false e r o token s op h = cc h

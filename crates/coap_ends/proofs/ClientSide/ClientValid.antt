@@ -1,6 +1,6 @@
 -- A representation is reported as valid where the call carries ETags, and a 2.03 was heard.
 use Rattle.std.proofs.Common.{◌≡◌, ◌⊎◌, inl, inr, ℕ, max, Bool, true, false, cond, ◌&&◌, Option, Some, None, List}
-use Rattle.std.proofs.Common.{◌∷◌, ◌++◌, [], refl, ap, sym, subst, ◌∙◌, Ok, Err}
+use Rattle.std.proofs.Common.{◌∷◌, [], refl, ap, sym, subst, ◌∙◌}
 use Rattle.std.specs.Prelude.{◌==◌}
 use Rattle.coap_types.specs.declared.block.Block.{Block}
 use Rattle.coap_types.specs.declared.endpoint.Endpoint.{Endpoint}
@@ -28,24 +28,23 @@ use Rattle.coap_ends.specs.ClientSide.ClientCalls.{answer, has_tags}
 use Rattle.coap_ends.specs.ClientSide.ClientCalls as calls
 use Rattle.coap_ends.specs.ClientSide.ClientEffects.{Effect, has_sent, of}
 use Rattle.coap_ends.specs.ClientSide.ClientFetching.{value}
-use Rattle.coap_ends.specs.ClientSide.ClientEvents.{failed, happened, passes}
+use Rattle.coap_ends.specs.ClientSide.ClientEvents.{failed}
 use Rattle.coap_ends.specs.ClientSide.ClientDeeds.{at}
-use Rattle.coap_ends.specs.ClientSide.ClientQueue.{calling}
 use Rattle.coap_ends.specs.ClientSide.ClientSteps.{reports}
 use Rattle.coap_ends.specs.ClientSide.ClientLaw.{ClientLaw, own_of}
 use Rattle.coap_ends.specs.ClientSide.ClientAnswers.{AnswersLast}
 use Rattle.coap_ends.specs.ClientSide.ClientWords.{WasTaken, hears}
 use Rattle.coap_ends.proofs.ClientSide.PlaceLemmas.{same_number}
-use Rattle.coap_ends.proofs.ClientSide.ClientSends.{AllOf, all_uncancelled, heard_in, happened_runs}
-use Rattle.coap_ends.proofs.ClientSide.ClientSends.{passes_runs}
+use Rattle.coap_ends.proofs.ClientSide.ClientSends.{AllOf, heard_in}
 use Rattle.coap_ends.proofs.ClientSide.ClientPieces.{answers_last}
 use Rattle.coap_ends.specs.ClientSide.ClientValid.{IsValidated, ValidOfTags}
 use Rattle.coap_ends.proofs.ClientSide.ClientMoves as mv
 use Rattle.coap_ends.proofs.ClientSide.ClientMoves.{Move, left_by}
-use Rattle.coap_ends.proofs.ClientSide.ClientTurns.{Closing, closing, Turned, quiet, goes_out, is_refused, fed_turned}
+use Rattle.coap_ends.proofs.ClientSide.ClientTurns.{Closing, Turned, quiet, goes_out, is_refused, fed_turned}
 use Rattle.coap_ends.proofs.ClientSide.ClientTurns.{ticked_turned}
 use Rattle.coap_ends.proofs.ClientSide.ClientOrigins.{Origin, kept, begins, follows, origin}
-use Rattle.coap_ends.proofs.ClientSide.ClientBodies.{waits_closed, heard_for}
+use Rattle.coap_ends.proofs.ClientSide.ClientBodies.{heard_for}
+use Rattle.coap_ends.proofs.ClientSide.AllWaiting.{all_wait}
 
 -- whether it is such a report
 
@@ -210,54 +209,13 @@ taken_later t c (Fetching k) h = tt
 taken_later t c (Cancelling k) h = tt
 taken_later t c Dropped h = tt
 
-pub all_to : (P Q : Operation → Type 0) → ((op : Operation) → P op → Q op) → (ops : List Operation) → AllOf P ops
-    → AllOf Q ops
-all_to P Q f [] h = tt
-all_to P Q f (op ∷ ops) h = (f op h.0, all_to P Q f ops h.1)
-
-pub all_more : (P : Operation → Type 0) (ops : List Operation) (op : Operation) → AllOf P ops → P op
-    → AllOf P (ops ++ op ∷ [])
-all_more P [] op h k = (k, tt)
-all_more P (x ∷ ops) op h k = (h.0, all_more P ops op h.1 k)
-
 some_tags : (tags : List (List ℕ)) → has_tags tags ≡ true → tags ≡ [] → ⊥
 some_tags [] h none = cc h
 some_tags (x ∷ tags) h none = cc none
 
 module _ (szx : ℕ) where
-  taken_step : (t : List Call) (c : Call) → AllOf (IsTaken (c ∷ t)) (own_of szx t).queue
-      → AllOf (IsTaken (c ∷ t)) (own_of szx (c ∷ t)).queue
-  taken_step t (Calls now r (Ok n)) h = all_more (IsTaken (Calls now r (Ok n) ∷ t)) (own_of szx t).queue
-      (calling (own_of szx t).szx n r) h (r, inl refl, refl)
-  taken_step t (Calls now r (Err why)) h = h
-  taken_step t (Observes now path (Ok n)) h = all_more (IsTaken (Observes now path (Ok n) ∷ t)) (own_of szx t).queue
-      (Registering n path) h tt
-  taken_step t (Observes now path (Err why)) h = h
-  taken_step t (Cancels now k None) h = all_more (IsTaken (Cancels now k None ∷ t)) (own_of szx t).queue
-      (Cancelling k) h tt
-  taken_step t (Cancels now k (Some why)) h = h
-  taken_step t (Forgets k was true) h = all_uncancelled k (IsTaken (Forgets k was true ∷ t)) (own_of szx t).queue h
-  taken_step t (Forgets k was false) h = h
-  taken_step t (NextOut answer) h = h
-  taken_step t (NextReport answer) h = h
-  taken_step t (Asked answer) h = h
-  taken_step t (Feeds now from bytes w up settled event sent token was) h =
-      let s : Own = own_of szx t in
-      let m : ℕ = max s.clock now in
-      let e : Effect = happened (at now s) m event in
-      let P : Operation → Type 0 = IsTaken (Feeds now from bytes w up settled event sent token was ∷ t) in
-      waits_closed P m e token ((happened_runs (at now s) m event).waits P h) (closing m e token)
-  taken_step t (Ticks now w below turn sent token was answer) h =
-      let s : Own = own_of szx t in
-      let m : ℕ = max s.clock now in
-      let e : Effect = passes (at now s) m turn in
-      let P : Operation → Type 0 = IsTaken (Ticks now w below turn sent token was answer ∷ t) in
-      waits_closed P m e token ((passes_runs (at now s) m turn).waits P h) (closing m e token)
-
   all_taken : (t : List Call) → AllOf (IsTaken t) (own_of szx t).queue
-  all_taken [] = tt
-  all_taken (c ∷ t) = taken_step t c (all_to (IsTaken t) (IsTaken (c ∷ t)) (taken_later t c) (own_of szx t).queue
-      (all_taken t))
+  all_taken = all_wait szx IsTaken taken_later (λ t now r n. (r, inl refl, refl)) (λ t now path n. tt) (λ t now n. tt)
 
   taken_here : (t : List Call) (c : Call) (k : ℕ) (r : Request) (tr : Transfer) → Origin szx t c k r tr
       → ((old : Transfer) → (own_of szx t).running ≡ Some (Calling k r old) → IsTaken t (Calling k r old))

@@ -84,7 +84,8 @@ module _ (server : Endpoint) (word : ℕ) where
   begins_here con t (E.Receive now from bytes up settled answer) right h =
       let s : E.Own = own t in
       let v : Verdict = R.verdict_on s from up in
-      absurd (elim (Ever_append (Asks con) (R.acts s from up settled v) (Q.asked now (L.Receive from bytes) up ∷ []) h) [
+      absurd (elim (Ever_append (Asks con) (R.acts s from up settled v)
+      (Q.asked now (L.Receive from bytes) up ∷ []) h) [
         | inl p ↦ elim (Ever_append (Asks con) (R.settling (R.settles v) s.server s.running settled)
             (R.replying from (R.id_in up) (R.reply_by v (R.id_in up))) p) [
               | inl x ↦ no_settle con (R.settles v) s.server s.running settled x

@@ -250,7 +250,8 @@ module _ (szx : ℕ) where
         (carried_turn y.operation b carries).1 (call_turn x.operation k is) in
         absurd (omega (arith, le, less))
     since_first (c ∷ t) law x y k b (inr first) (inr was) is carries longer zero less =
-        elim (since_first t (client_back server szx word (c ∷ []) t law) x y k b first was is carries longer zero less) [
+        elim (since_first t (client_back server szx word (c ∷ []) t law) x y k b first was is carries longer zero
+        less) [
           | inl h ↦ inl (inr h)
           | inr g ↦ (let here = moment_same (own_of szx t) c in let from = moment_from (own_of szx t) c in let till =
               g.by in inr (record {

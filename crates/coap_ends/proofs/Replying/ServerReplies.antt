@@ -108,6 +108,24 @@ came_by from (T.Becomes (T.Request n true)) a m h =
     }
 came_by from up a m h = absurd (cc h)
 
+-- the request that came is what was handed up
+pub hands_up : (from : Endpoint) (up : T.Answer) (a : Asked) (m : Message) → Came from up a m → Hands up m
+hands_up from up a m c = record { up_is = ap handed_by c.up_is; in_is = ap message_in c.up_is }
+
+-- the acknowledgement that carries the response to it
+pub carrying : (from : Endpoint) (up : T.Answer) (a : Asked) (m : Message) (r : E.Response) → Came from up a m
+    → P.IsResponse a r → m.id < 65536 → a.kind ≡ Con
+    → Fits m a.id.0 (message_bytes (with_head Ack a.id.0 (P.content_of a r)))
+carrying from up a m r c is low k =
+    let id_is : a.id.0 ≡ m.id = ap (λ (x : Asked). x.id.0) c.asked_is in
+    let kind_is : m.kind ≡ Con = sym (ap (λ (x : Asked). x.kind) c.asked_is) ∙ k in
+    record {
+      reply = with_head Ack a.id.0 (P.content_of a r);
+      spells = is.spelled Ack a.id.0 (omega (arith, low, id_is));
+      id_is = refl;
+      kind = inr (refl, kind_is);
+    }
+
 -- a response that is rejected
 reject_hands : (up : T.Answer) (b : List ℕ) → P.reject_by up ≡ Some b
     → (m : Message) × Hands up m × (id_in up ≡ m.id) × (b ≡ reset_bytes m.id)
@@ -154,18 +172,10 @@ module _ (begin : L.State) (from : Endpoint) (now : ℕ) (bytes : List ℕ) (up 
   piggybacked s a m r below c is Ack k = ((λ to id b h. absurd (cc h)), taken)
   piggybacked s a m r below c is Rst k = ((λ to id b h. absurd (cc h)), taken)
   piggybacked s a m r below c is Con k =
-      let h : Hands up m = record { up_is = ap handed_by c.up_is; in_is = ap message_in c.up_is } in
-      let low = small begin from now bytes up rest mid new before step m h in
-      let id_is : a.id.0 ≡ m.id = ap (λ (x : Asked). x.id.0) c.asked_is in
+      let h = hands_up from up a m c in
+      let f = carrying from up a m r c is (small begin from now bytes up rest mid new before step m h) k in
       let from_is : a.from ≡ from = ap (λ (x : Asked). x.from) c.asked_is in
-      let kind_is : m.kind ≡ Con = sym (ap (λ (x : Asked). x.kind) c.asked_is) ∙ k in
-      let b : List ℕ = message_bytes (with_head Ack a.id.0 (P.content_of a r)) in
-      let f : Fits m a.id.0 b = record {
-        reply = with_head Ack a.id.0 (P.content_of a r);
-        spells = is.spelled Ack a.id.0 (omega (arith, low, id_is));
-        id_is = refl;
-        kind = inr (refl, kind_is);
-      } in (
+      let b : List ℕ = message_bytes (with_head Ack a.id.0 (P.content_of a r)) in (
         subst (λ e. RepliesSo (entries begin first) (L.made (left_after begin first) 0 (T.Reply e a.id.0 b)))
             (sym from_is) (at_once begin from now bytes up rest mid new before step m a.id.0 b h f),
         taken,

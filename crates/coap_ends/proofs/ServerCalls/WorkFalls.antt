@@ -4,6 +4,7 @@ use Rattle.std.proofs.Common.{length, Result, Ok, Err, IfOk, OnOk, OnErr}
 use Rattle.coap_layer.specs.Trace as L
 use Rattle.coap_layer.specs.Machine.State as S
 use Rattle.coap_layer.proofs.Facts.Calls.{steps_left}
+use Rattle.coap_observe.specs.declared.observers.TheConstants.{MAX_OBSERVERS as max_observers}
 use Rattle.coap_resource.specs.Content.{Content}
 use Rattle.coap_resource.specs.declared.refusal.StoreRefusal.{StoreRefusal}
 use Rattle.coap_resource.specs.declared.refusal.StoreRefusal.TheVariants as store_refusals
@@ -25,9 +26,9 @@ module _ (limit szx word : ℕ) where
   work_is : (now : ℕ) (t : List Call) (s : State) → Led limit szx word t s → work s now ≡ size limit szx word now t
   work_is now t s led =
       ap (λ (o : Own). due_count (max s.layer.clock (max o.clock now)) s.layer.open_cons +
-      (length (marked o.observers) + 65 * length o.waiting)) led.own_is
+      (length (marked o.observers) + (1 + max_observers) * length o.waiting)) led.own_is
       ∙ (ap (λ (l : S.State). due_count (max l.clock (max (own_of limit szx t).clock now)) l.open_cons +
-      (length (marked (own_of limit szx t).observers) + 65 * length (own_of limit szx t).waiting))
+      (length (marked (own_of limit szx t).observers) + (1 + max_observers) * length (own_of limit szx t).waiting))
       (steps_left (S.start word) (X.lower_of (lower_of limit szx t)) s.layer led.exchanges.layer)
       ∙ sym (size_is limit szx word now t))
 

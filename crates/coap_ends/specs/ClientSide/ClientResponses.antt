@@ -15,26 +15,11 @@ use Rattle.coap_block.specs.FetchStep.{FetchState, verdict}
 use Rattle.coap_types.specs.OptionValues.{value_of}
 use Rattle.coap_resource.specs.RequestOptions.{format_of}
 use Rattle.coap_types.specs.declared.option_number.TheConstants.{ETAG as etag, OBSERVE as observe, BLOCK2 as block2}
+pub use Rattle.coap_ends.specs.SuccessCodes.{created, deleted, changed, content, continue}
 
--- the codes (RFC 7252, section 5.9; RFC 7959, section 2.9.1)
-
-abbrev pub created : ℕ
-created = codes.CREATED.0
-
-abbrev pub deleted : ℕ
-deleted = codes.DELETED.0
-
+-- what a client has is fresh (RFC 7252, section 5.9.1.3)
 abbrev pub valid : ℕ
 valid = codes.VALID.0
-
-abbrev pub changed : ℕ
-changed = codes.CHANGED.0
-
-abbrev pub content : ℕ
-content = codes.CONTENT.0
-
-abbrev pub continue : ℕ
-continue = codes.CONTINUE.0
 
 -- the options that are recognised, in order
 abbrev pub said : Message → List CoapOption

@@ -22,7 +22,7 @@ option_as o = record { number = o.number; value = o.value.items }
 abbrev pub waiting_as : {A : Type 0} → ℕ → Waiting A → T.Waiting
 waiting_as szx w = record {
   asked = w.asked;
-  at = w.at;
+  at = w.at.0;
   delay = w.delay;
   question = record {
     method = w.method;

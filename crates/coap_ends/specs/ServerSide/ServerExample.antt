@@ -2,12 +2,14 @@
 -- 7641, section 1.3).
 use Rattle.std.specs.Prelude.{ℕ, true, false, cond, Some, None, List, [], ◌∷◌, ◌++◌, codes, Ok}
 use Rattle.coap_types.specs.declared.endpoint.Endpoint.{Endpoint}
+use Rattle.coap_types.specs.declared.message.TheConstants.Code as code
 use Rattle.coap_types.specs.declared.message.Kind.TheVariants.{Con}
 use Rattle.coap_types.specs.declared.request.Method.TheVariants.{Get}
 use Rattle.coap_types.specs.Path.{same_path}
 use Rattle.coap_codec.specs.Message.{Message}
 use Rattle.coap_layer.specs.Trace as L
 use Rattle.coap_observe.specs.Observers.{Observer}
+use Rattle.coap_resource.specs.declared.tally.TheConstants.{MAX_CHANGES_PER_WINDOW as max_changes}
 use Rattle.coap_resource.specs.Content.{Content, Held}
 use Rattle.coap_resource.specs.Rate.{counted, unused}
 use Rattle.coap_resource.specs.RequestOptions.{tag_of}
@@ -18,7 +20,7 @@ use Rattle.coap_exchange.specs.AnswererSteps.{asked_of}
 use Rattle.coap_ends.specs.ServerSide.ServerTrace.{Silent, Serves, Notifies, Call, Sets, Feeds, Ticks, NextOut}
 
 abbrev pub limit : ℕ
-limit = 4194303
+limit = max_changes
 
 abbrev pub client : Endpoint
 client = record { ip = 127 ∷ 0 ∷ 0 ∷ 1 ∷ []; port = 40001 }
@@ -70,7 +72,7 @@ question = record { method = Get; path = path; options = request.options; body =
 -- 2.05 with the tag of the version, and the body
 abbrev pub content_of : ℕ → List ℕ → Reply
 content_of version body = record {
-  code = 69;
+  code = code.CONTENT.0;
   tag = Some (tag_of version);
   format = Some 0;
   block2 = None;

@@ -2,6 +2,7 @@
 -- 3.2).
 use Rattle.std.specs.Prelude.{ℕ, true, cond, Some, None, List, [], ◌∷◌, ◌++◌, codes}
 use Rattle.coap_types.specs.CoapOption.{CoapOption}
+use Rattle.coap_types.specs.declared.message.TheConstants.Code as code
 use Rattle.coap_types.specs.declared.message.Kind.TheVariants.{Con}
 use Rattle.coap_types.specs.declared.request.Method.TheVariants.{Put}
 use Rattle.coap_types.specs.Path.{same_path}
@@ -54,10 +55,10 @@ asked id block payload = asked_of client (request id block payload)
 
 -- 2.31 with Block1 0/1/16, and 2.01 with Block1 1/0/16
 abbrev pub continues : E.Response
-continues = record { code = 95; options = record { number = 27; value = 8 ∷ [] } ∷ []; payload = [] }
+continues = record { code = code.CONTINUE.0; options = record { number = 27; value = 8 ∷ [] } ∷ []; payload = [] }
 
 abbrev pub created : E.Response
-created = record { code = 65; options = record { number = 27; value = 16 ∷ [] } ∷ []; payload = [] }
+created = record { code = code.CREATED.0; options = record { number = 27; value = 16 ∷ [] } ∷ []; payload = [] }
 
 abbrev pub reply : ℕ → ℕ → ℕ → List ℕ
 reply code id block = 0x60 ∷ code ∷ 0 ∷ id ∷ 0xd1 ∷ 0x0e ∷ block ∷ []
@@ -73,7 +74,7 @@ abbrev pub run : List Call
 run =
     sends (reply 0x41 2 16) ∷
     Feeds 1 client (put 2 16 last) 0 (L.Becomes (L.Request (request 2 16 last) true))
-    (Some (asked 2 16 last, request 2 16 last)) (Serves question (bare 65 0) made) L.Nothing ∷
+    (Some (asked 2 16 last, request 2 16 last)) (Serves question (bare code.CREATED.0 0) made) L.Nothing ∷
     sends (reply 0x5f 1 8) ∷
     Feeds 0 client (put 1 8 front) 0 (L.Becomes (L.Request (request 1 8 front) true))
     (Some (asked 1 8 front, request 1 8 front)) (Replies continues) L.Nothing ∷

@@ -9,15 +9,12 @@ use Rattle.coap_types.specs.BlockValue.{block_value}
 use Rattle.coap_resource.specs.Serves.{Question}
 use Rattle.coap_exchange.specs.declared.answerer.Asked.{Asked}
 use Rattle.coap_exchange.specs.AnswererTrace as E
-use Rattle.coap_types.specs.declared.message.TheConstants.Code as codes
 use Rattle.coap_types.specs.declared.option_number.TheConstants.{BLOCK1 as block1}
 use Rattle.coap_types.specs.OptionValues.{uint_at, uint_option}
 use Rattle.coap_resource.specs.RequestOptions.{block_said}
 use Rattle.coap_types.specs.OptionValues.{uint_option}
+pub use Rattle.coap_ends.specs.SuccessCodes.{continue}
 use Rattle.coap_ends.specs.ServerSide.ServerChecks.{Verdict, Uploads}
-
-abbrev pub continue : ℕ
-continue = codes.CONTINUE.0
 
 -- an upload is that of an endpoint, to a path, by a method
 abbrev pub key_of : Asked → Question → Key

@@ -137,7 +137,7 @@ pub fn close<A: Allocator + Copy, H: BuildHasher>(
 {
     match given {
         Some(token) => {
-            held.sent = at.0;
+            held.sent = at;
             Some((CallId(number_of(&held.operations)?), token))
         }
         None => {

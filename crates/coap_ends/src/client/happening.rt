@@ -44,12 +44,12 @@ pub fn happen<A: Allocator + Copy, H: BuildHasher>(
     ensures quiet { event.entry ≡ None → IsOk result }
 {
     let Some(event) = event else {
-        held.clock = at.0;
+        held.clock = at;
         held.asked = None;
         return Ok(());
     };
     held.reports.reserve(1)?;
-    let was = mem::replace(&mut held.clock, at.0);
+    let was = mem::replace(&mut held.clock, at);
     match happen_now(asker, held, at, word, event) {
         Ok(asked) => {
             held.asked = asked;

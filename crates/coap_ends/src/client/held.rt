@@ -5,7 +5,7 @@ ghost use Rattle.coap_ends.specs.ClientObject.ClientHeld.{own_of};
 use crate::client::operation::ClientOperations;
 use crate::client::report::{CallId, Report};
 use coap_operations::Operations;
-use coap_types::{Szx, Token};
+use coap_types::{Moment, Szx, Token};
 use std::alloc::{Allocator, Global};
 use std::collections::VecDeque;
 
@@ -13,7 +13,7 @@ use std::collections::VecDeque;
 #[derive(Drop)]
 pub struct Held<A: Allocator + Copy = Global> {
     /// The latest moment.
-    pub clock: u64,
+    pub clock: Moment,
     /// The client's block size.
     pub szx: Szx,
     /// How many numbers were given.
@@ -21,9 +21,9 @@ pub struct Held<A: Allocator + Copy = Global> {
     /// What waits, what runs, and the live observations, in the order of their numbers.
     pub operations: ClientOperations<A>,
     /// When the last datagram of the running operation was sent.
-    pub sent: u64,
+    pub sent: Moment,
     /// .. of the upload that holds back others.
-    pub hold: Option<u64>,
+    pub hold: Option<Moment>,
     /// The reports that wait to be taken.
     pub reports: VecDeque<(CallId, Report<A>), A>,
     /// The request that the last datagram or tick sent first, and of which call.
@@ -36,11 +36,11 @@ impl<A: Allocator + Copy> Held<A> {
         ensures { own_of result ≡ start szx }
     {
         Held {
-            clock: 0,
+            clock: Moment(0),
             szx,
             taken: 0,
             operations: Operations::new(alloc),
-            sent: 0,
+            sent: Moment(0),
             hold: None,
             reports: VecDeque::new(alloc),
             asked: None,

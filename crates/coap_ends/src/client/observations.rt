@@ -1,7 +1,8 @@
 //! The live observations of a client (RFC 7641, section 3.2).
 ghost use Rattle.std.specs.Prelude.{◌≡◌, ◌≤◌, ◌==◌, ◌+◌, not, drop, filter, map, if◌then◌else◌, None};
 ghost use Rattle.std.specs.Option.{option_map};
-ghost use Rattle.coap_ends.specs.ClientSide.ClientObservations.{fetch_of, observation_of, observation_with, observed_path, rest_of, token_of, with_rest};
+ghost use Rattle.coap_ends.specs.ClientSide.ClientObservations.{fetch_of, observation_of, observation_with};
+ghost use Rattle.coap_ends.specs.ClientSide.ClientObservations.{observed_path, rest_of, token_of, with_rest};
 ghost use Rattle.coap_ends.specs.ClientSide.ClientOwn.{Observation as Observed};
 ghost use Rattle.coap_ends.specs.ClientSide.ClientRequests.{block2_option};
 ghost use Rattle.coap_types.specs.OptionValues.{option_with};
@@ -18,7 +19,7 @@ use coap_types::option_number::BLOCK2;
 use coap_types::{Token, UintBytes};
 use std::alloc::Allocator;
 
-/// The place of the observation of that number.
+// The place of the observation of that number.
 fn place_of<A: Allocator + Copy>(operations: &ClientOperations<A>, number: u64) -> Option<usize>
     ensures { result ≡ place_in number (map shown_observation operations.now.live) }
 {

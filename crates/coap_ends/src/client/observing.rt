@@ -1,5 +1,6 @@
 //! What the notifications of a client's observations make of it (RFC 7641, sections 3.2 to 3.6).
-ghost use Rattle.std.specs.Prelude.{◌≡◌, ◌<◌, ◌≤◌, ◌++◌, ◌∷◌, [], ℕ, None, Some, true, false, is_some, length, IfOk, IsSome, OnOk, OnErr};
+ghost use Rattle.std.specs.Prelude.{◌≡◌, ◌<◌, ◌≤◌, ◌++◌, ◌∷◌, [], ℕ, None, Some, true, false, is_some, length, IfOk};
+ghost use Rattle.std.specs.Prelude.{IsSome, OnOk, OnErr};
 ghost use Rattle.std.specs.VecDeque.{deque_len, deque_capacity};
 ghost use Rattle.std.specs.Option.{option_map};
 ghost use Rattle.coap_block.specs.FetchStep.{FetchState};
@@ -11,7 +12,8 @@ ghost use Rattle.coap_ends.specs.ClientSide.ClientObservations.{observation_of, 
 ghost use Rattle.coap_ends.specs.ClientSide.ClientOwn.{Fetching, Registering};
 ghost use Rattle.coap_ends.specs.ClientSide.ClientPlaces.{in_observations};
 ghost use Rattle.coap_ends.specs.ClientSide.ClientResponses.{part, sequence_in};
-ghost use Rattle.coap_ends.specs.ClientObject.ClientHappens.{Apart, Happens, Watched, left, renewing, resting, running, watching};
+ghost use Rattle.coap_ends.specs.ClientObject.ClientHappens.{Apart, Happens, Watched, left, renewing, resting};
+ghost use Rattle.coap_ends.specs.ClientObject.ClientHappens.{running, watching};
 ghost use Rattle.coap_ends.specs.ClientObject.ClientHeld.{own_of};
 ghost use Rattle.coap_ends.specs.ClientObject.ClientShown.{reported, shown_asked, shown_rest};
 ghost use Rattle.coap_ends.specs.ClientObject.ClientSteps.{CanTakeBack, rest_by, value_by, verdict_on};

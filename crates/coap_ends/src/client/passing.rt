@@ -1,5 +1,6 @@
 //! What time makes of a client (RFC 7252, sections 4.2, 4.7 and 5.2.2).
-ghost use Rattle.std.specs.Prelude.{◌≡◌, ◌||◌, ◌&&◌, ◌<◌, ℕ, not, false, true, map, slice_get, None, Some, IfOk, IsOk, OnErr, OnOk};
+ghost use Rattle.std.specs.Prelude.{◌≡◌, ◌||◌, ◌&&◌, ◌<◌, ℕ, not, false, true, map, slice_get, None, Some, IfOk};
+ghost use Rattle.std.specs.Prelude.{IsOk, OnErr, OnOk};
 ghost use Rattle.std.specs.VecDeque.{deque_len, deque_capacity};
 ghost use Rattle.coap_exchange.specs.AskerLaw as exchange;
 ghost use Rattle.coap_exchange.specs.declared.asker.Turn.TheVariants as turns;
@@ -9,10 +10,11 @@ ghost use Rattle.coap_ends.specs.ClientSide.ClientOwn.{Fetching, Operation as Op
 ghost use Rattle.coap_ends.specs.ClientSide.ClientReports.{lapse};
 ghost use Rattle.coap_ends.specs.ClientSide.ClientSteps.{asking, asks, is_idle};
 ghost use Rattle.coap_ends.specs.ClientObject.ClientHappens.{Apart, Comes, left};
-ghost use Rattle.coap_ends.specs.ClientObject.ClientHeld.{own_of};
+ghost use Rattle.coap_ends.specs.ClientObject.ClientHeld.{own_of, shown_hold};
 ghost use Rattle.coap_ends.specs.ClientSide.ClientRequests.{message_of};
 ghost use Rattle.coap_ends.specs.ClientObject.ClientSends.{Sends};
-ghost use Rattle.coap_ends.specs.ClientObject.ClientShown.{shown_observation, shown_queued, shown_report, shown_waiting};
+ghost use Rattle.coap_ends.specs.ClientObject.ClientShown.{shown_observation, shown_queued, shown_report};
+ghost use Rattle.coap_ends.specs.ClientObject.ClientShown.{shown_waiting};
 ghost use Rattle.coap_ends.specs.ClientObject.Starts.{idle_now, may_start, starts_now};
 
 use crate::client::failing::fail;
@@ -49,7 +51,7 @@ pub fn pass_time<A: Allocator + Copy, H: BuildHasher>(
     match turn {
         Turn::Idle => pass_idly(asker, held, at, word),
         Turn::Copied => {
-            held.sent = at.0;
+            held.sent = at;
             rest(held, at);
             Ok(true)
         }
@@ -76,7 +78,7 @@ fn report_of<A: Allocator + Copy>(event: Event<'static>) -> Report<A>
 fn rest<A: Allocator + Copy>(held: &mut Held<A>, at: Moment)
     ensures { own_of held.new ≡ asking None (clocked at.0 (own_of held.old)) }
 {
-    held.clock = at.0;
+    held.clock = at;
     held.asked = None;
 }
 
@@ -94,7 +96,7 @@ fn lapse<A: Allocator + Copy, H: BuildHasher>(
         (left (own_of held.new) asker.new.state) }
     ensures before { asker.new.before ≡ asker.old.before }
 {
-    held.clock = at.0;
+    held.clock = at;
     fail(asker, held, false, report);
     held.asked = None;
 }
@@ -207,8 +209,9 @@ fn may_start<A: Allocator + Copy>(held: &Held<A>, at: Moment) -> bool
 }
 
 // Whether it is an upload that is held back.
-fn is_held_back<A: Allocator + Copy>(waiting: &Waiting<A>, hold: Option<u64>, at: Moment) -> bool
-    ensures { (s : Own) → s.hold ≡ hold → result ≡ (is_upload_op (shown_waiting waiting.now) && is_held s at.0) }
+fn is_held_back<A: Allocator + Copy>(waiting: &Waiting<A>, hold: Option<Moment>, at: Moment) -> bool
+    ensures { (s : Own) → s.hold ≡ shown_hold hold
+        → result ≡ (is_upload_op (shown_waiting waiting.now) && is_held s at.0) }
 {
     is_upload(waiting) && is_held(hold, at)
 }

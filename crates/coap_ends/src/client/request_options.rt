@@ -1,6 +1,8 @@
 //! The options of the requests of a client (RFC 7252, section 5.10).
 ghost use Rattle.std.specs.Prelude.{◌≡◌, ◌<◌, ◌≤◌, ◌+◌, ◌++◌, ◌∷◌, [], length, map, nat_lt, option_copied};
 ghost use Rattle.std.specs.Option.{option_map};
+ghost use Rattle.coap_types.specs.declared.path.TheConstants.{MAX_SEGMENTS as max_segments};
+ghost use Rattle.coap_types.specs.declared.tag.TheConstants.{MAX_TAGS as max_tags};
 ghost use Rattle.coap_types.specs.CoapOption.{option, options_of as of_list};
 ghost use Rattle.coap_types.specs.OptionValues.{option_with};
 ghost use Rattle.coap_types.specs.Path.{segments_of};
@@ -9,7 +11,8 @@ ghost use Rattle.coap_codec.specs.Spelling.{options_bytes};
 ghost use Rattle.coap_ends.specs.ClientSide.ClientQueue.{block_number};
 ghost use Rattle.coap_ends.specs.ClientSide.ClientRequests.{after_path, before_path, options_of, path_options};
 ghost use Rattle.coap_ends.specs.ClientSide.ClientTrace.{Request as Asking};
-ghost use Rattle.coap_ends.specs.ClientObject.CallShown.{IsGood, is_long, is_long_path, shown_request, told as told_value, told_number};
+ghost use Rattle.coap_ends.specs.ClientObject.CallShown.{IsGood, is_long, is_long_path, shown_request};
+ghost use Rattle.coap_ends.specs.ClientObject.CallShown.{told as told_value, told_number};
 
 use crate::MAX_OPTIONS_LEN;
 use coap_codec::options_len;
@@ -36,12 +39,13 @@ pub struct RequestOptions<'a> {
 impl<'a> Model for RequestOptions<'a> {
     ghost use Rattle.std.specs.Prelude.{List, ◌≡◌, ◌≤◌, length, take};
     ghost use Rattle.coap_types.specs.CoapOption.{CoapOption, options_of};
+    ghost use Rattle.coap_ends.specs.declared.client.request_options.TheConstants.{MAX_OPTIONS};
 
     ghost Value = { List CoapOption };
 
     ghost view = { λ o. options_of (take o.len o.options) };
 
-    ghost invariant = { λ o. (length o.options ≡ 24) × (o.len ≤ 24) };
+    ghost invariant = { λ o. (length o.options ≡ MAX_OPTIONS) × (o.len ≤ MAX_OPTIONS) };
 }
 
 impl<'a> RequestOptions<'a> {
@@ -61,7 +65,7 @@ impl<'a> RequestOptions<'a> {
 
     /// Adds an option at the end.
     pub fn push(&mut self, number: u16, value: &'a [u8])
-        requires room { length self.old < 24 }
+        requires room { length self.old < MAX_OPTIONS }
         ensures list { self.new ≡ self.old ++ option number value.now ∷ [] }
         ensures len { length self.new ≡ length self.old + 1 }
     {
@@ -71,7 +75,7 @@ impl<'a> RequestOptions<'a> {
 
     /// .. where it has a value.
     pub fn push_some(&mut self, number: u16, value: Option<&'a [u8]>)
-        requires room { length self.old < 24 }
+        requires room { length self.old < MAX_OPTIONS }
         ensures list { self.new ≡ self.old ++ option_with number (option_copied value.entry) }
         ensures len { length self.new ≤ length self.old + 1 }
     {
@@ -82,7 +86,7 @@ impl<'a> RequestOptions<'a> {
 
     /// Adds an option for each tag.
     pub fn push_tags(&mut self, number: u16, tags: &'a Tags)
-        requires room { length self.old + length tags.now ≤ 24 }
+        requires room { length self.old + length tags.now ≤ MAX_OPTIONS }
         ensures list { self.new ≡ self.old ++ map (option number) tags.now }
         ensures len { length self.new ≡ length self.old + length tags.now }
     {
@@ -93,7 +97,7 @@ impl<'a> RequestOptions<'a> {
 
     /// Adds an option for each segment (RFC 7252, section 5.10.1).
     pub fn push_path<A: Allocator + Copy>(&mut self, path: &'a [Vec<u8, A>])
-        requires room { length self.old + length path.now ≤ 24 }
+        requires room { length self.old + length path.now ≤ MAX_OPTIONS }
         ensures list { self.new ≡ self.old ++ path_options (segments_of path.now) }
         ensures len { length self.new ≡ length self.old + length path.now }
     {
@@ -153,7 +157,7 @@ pub fn call_options<'a, A: Allocator + Copy>(
 fn push_before<'a, A: Allocator + Copy>(options: &mut RequestOptions<'a>, request: &'a Request<A>)
     requires { options.old ≡ [] }
     ensures list { options.new ≡ before_path request.now.method (shown_request request.now) }
-    ensures few { length options.new ≤ 5 }
+    ensures few { length options.new ≤ max_tags + 1 }
 {
     request.ranges();
     match request.method {
@@ -169,7 +173,7 @@ fn push_before<'a, A: Allocator + Copy>(options: &mut RequestOptions<'a>, reques
 
 // The option behind the path.
 fn push_after<'a>(options: &mut RequestOptions<'a>, method: Method, told: Option<&'a [u8]>)
-    requires room { length options.old < 23 }
+    requires room { length options.old + 1 < MAX_OPTIONS }
     ensures list { (r : Asking) → option_copied told.entry ≡ option_map uint (told_number method r)
         → options.new ≡ options.old ++ after_path method r }
     ensures len { length options.new ≤ length options.old + 1 }
@@ -187,7 +191,7 @@ pub fn get_options<'a, A: Allocator + Copy>(
     path: &'a [Vec<u8, A>],
     block: Option<&'a [u8]>,
 ) -> RequestOptions<'a>
-    requires { length path.now ≤ 16 }
+    requires { length path.now ≤ max_segments }
     ensures { result ≡ option_with OBSERVE (option_copied observe.entry)
         ++ (path_options (segments_of path.now) ++ option_with BLOCK2 (option_copied block.entry)) }
 {

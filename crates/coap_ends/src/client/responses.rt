@@ -3,7 +3,8 @@ ghost use Rattle.std.specs.Prelude.{◌≡◌, option_copied, if◌then◌else�
 ghost use Rattle.coap_block.specs.FetchState.{FetchValue};
 ghost use Rattle.coap_block.specs.FetchStep.{after};
 ghost use Rattle.coap_types.specs.OptionValues.{value_of};
-ghost use Rattle.coap_ends.specs.ClientSide.ClientResponses.{said, tag_in, format_in, is_notification, sequence_in, block_at, part};
+ghost use Rattle.coap_ends.specs.ClientSide.ClientResponses.{said, tag_in, format_in, is_notification, sequence_in};
+ghost use Rattle.coap_ends.specs.ClientSide.ClientResponses.{block_at, part};
 ghost use Rattle.coap_ends.specs.ClientObject.ClientSteps.{Takes, CanGoBack};
 
 use coap_block::{Fetch, FetchRefusal, Step};
@@ -12,7 +13,7 @@ use coap_types::option_number::{BLOCK2, CONTENT_FORMAT, ETAG, OBSERVE};
 use coap_types::{Block, Code, Direction, Tag, recognised_value, uint_of};
 use std::alloc::{AllocError, Allocator};
 
-/// The value of the first option of this number that is recognised.
+// The value of the first option of this number that is recognised.
 fn value_in<'a>(number: u16, m: &View<'a>) -> Option<&'a [u8]>
     ensures { option_copied result ≡ value_of number (said m.now) }
 {

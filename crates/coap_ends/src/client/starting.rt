@@ -1,6 +1,7 @@
 //! What a tick starts where nothing runs: a fetch for an observation, or the first of what waits
 //! (RFC 7252, section 4.7).
-ghost use Rattle.std.specs.Prelude.{◌≡◌, ◌<◌, ◌≤◌, ℕ, List, None, Some, drop, false, true, length, map, slice_get, if◌then◌else◌, IfOk, OnErr, OnOk};
+ghost use Rattle.std.specs.Prelude.{◌≡◌, ◌<◌, ◌≤◌, ℕ, List, None, Some, drop, false, true, length, map, slice_get};
+ghost use Rattle.std.specs.Prelude.{if◌then◌else◌, IfOk, OnErr, OnOk};
 ghost use Rattle.std.specs.Option.{option_map};
 ghost use Rattle.std.specs.VecDeque.{deque_len, deque_capacity};
 ghost use Rattle.coap_exchange.specs.AskerLaw as exchange;
@@ -10,7 +11,7 @@ ghost use Rattle.coap_ends.specs.ClientSide.ClientObservations.{to_fetch};
 ghost use Rattle.coap_ends.specs.ClientSide.ClientOwn.{Observation as Observed, Operation as Op, Own, clocked};
 ghost use Rattle.coap_ends.specs.ClientSide.ClientRequests.{message_of};
 ghost use Rattle.coap_ends.specs.ClientObject.ClientHappens.{Apart, Comes, left};
-ghost use Rattle.coap_ends.specs.ClientObject.ClientHeld.{own_of};
+ghost use Rattle.coap_ends.specs.ClientObject.ClientHeld.{own_of, shown_hold};
 ghost use Rattle.coap_ends.specs.ClientObject.ClientSends.{Sends};
 ghost use Rattle.coap_ends.specs.ClientObject.ClientShown.{shown_observation, shown_waiting};
 ghost use Rattle.coap_ends.specs.ClientObject.Starts.{first_runs};
@@ -48,12 +49,12 @@ fn to_fetch_from<A: Allocator + Copy>(operations: &ClientOperations<A>, from: us
 }
 
 /// Whether an upload that ended without a final response holds back the later ones (profile).
-pub(crate) fn is_held(hold: Option<u64>, at: Moment) -> bool
-    ensures { (s : Own) → s.hold ≡ hold → result ≡ is_held s at.0 }
+pub(crate) fn is_held(hold: Option<Moment>, at: Moment) -> bool
+    ensures { (s : Own) → s.hold ≡ shown_hold hold → result ≡ is_held s at.0 }
 {
     match hold {
         None => false,
-        Some(last) => at.0.saturating_sub(last) <= MAX_LATENCY_MS,
+        Some(last) => at.since(last) <= MAX_LATENCY_MS,
     }
 }
 
@@ -100,6 +101,6 @@ pub(crate) fn begin<A: Allocator + Copy, H: BuildHasher>(
         → Comes behind (runs op (clocked at.0 (own_of held.old))) at.0 word (left (own_of held.new) asker.new.state) }
     ensures before { asker.new.before ≡ asker.old.before }
 {
-    held.clock = at.0;
+    held.clock = at;
     held.asked = close(asker, held, at, given);
 }

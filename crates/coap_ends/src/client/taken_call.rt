@@ -35,7 +35,8 @@ pub struct TakenCall<A: Allocator = Global> {
 
 impl<A: Allocator> Model for TakenCall<A> {
     ghost use Rattle.std.specs.Prelude.{◌≡◌, false};
-    ghost use Rattle.coap_ends.specs.ClientObject.CallShown.{CallState, FitsMethod, is_long, shown_before, shown_request, shown_transfer};
+    ghost use Rattle.coap_ends.specs.ClientObject.CallShown.{CallState, FitsMethod, is_long, shown_before};
+    ghost use Rattle.coap_ends.specs.ClientObject.CallShown.{shown_request, shown_transfer};
 
     ghost Value = { CallState };
 

@@ -105,5 +105,5 @@ fn take<A: Allocator + Copy>(
 pub(crate) fn pass<A: Allocator + Copy>(held: &mut Held<A>, now: Moment)
     ensures own { own_of held.new ≡ at now.0 (own_of held.old) }
 {
-    held.clock = held.clock.max(now.0);
+    held.clock = held.clock.later(now);
 }

@@ -33,7 +33,7 @@ pub fn tick<A: Allocator + Copy, H: BuildHasher>(
     ensures layer { OnErr result (asker.new.state ≡ asker.old.state) }
     ensures quiet { IsIdle (left (own_of held.old) asker.old.state) now.0 → IsOk result }
 {
-    let at = Moment(held.clock.max(now.0));
+    let at = held.clock.later(now);
     let turn = asker.tick(at)?;
     let done = pass_time(asker, held, at, word, turn);
     if done.is_err() {

@@ -114,7 +114,7 @@ fn defer<S: Store<A>, A: Allocator + Copy, H: BuildHasher>(
 {
     let waiting = Waiting {
         asked: asked.copy(),
-        at: parts.clock.0,
+        at: parts.clock,
         delay,
         method: asking.method,
         path: asking.path.clone()?,

@@ -14,9 +14,9 @@ use coap_types::option_number::{BLOCK2, OBSERVE};
 use coap_types::{Block, Code, Method, Opt, Path, Szx, uint_of};
 use std::alloc::{AllocError, Allocator};
 
-/// What Observe says in a GET that registers (RFC 7641, section 2).
+// What Observe says in a GET that registers (RFC 7641, section 2).
 const REGISTER: u32 = 0;
-/// What Observe says in a GET that deregisters (RFC 7641, section 2).
+// What Observe says in a GET that deregisters (RFC 7641, section 2).
 const DEREGISTER: u32 = 1;
 
 const _: () = prove!(REGISTER == 0 && DEREGISTER == 1);

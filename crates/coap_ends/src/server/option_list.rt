@@ -5,8 +5,8 @@ ghost use Rattle.coap_types.specs.OptionValues.{option_with};
 use coap_types::Opt;
 use std::marker::Model;
 
-/// The most options that a response of a server has: ETag, Observe, Content-Format, Block2 and
-/// Block1.
+// The most options that a response of a server has: ETag, Observe, Content-Format, Block2 and
+// Block1.
 const MAX_OPTIONS: usize = 5;
 
 const _: () = prove!(MAX_OPTIONS == 5);
@@ -21,12 +21,13 @@ pub(crate) struct OptionList<'a> {
 impl<'a> Model for OptionList<'a> {
     ghost use Rattle.std.specs.Prelude.{List, ◌≡◌, ◌≤◌, length, take};
     ghost use Rattle.coap_types.specs.CoapOption.{CoapOption, options_of};
+    ghost use Rattle.coap_ends.specs.declared.server.option_list.TheConstants.{MAX_OPTIONS};
 
     ghost Value = { List CoapOption };
 
     ghost view = { λ o. options_of (take o.len o.options) };
 
-    ghost invariant = { λ o. (length o.options ≡ 5) × (o.len ≤ 5) };
+    ghost invariant = { λ o. (length o.options ≡ MAX_OPTIONS) × (o.len ≤ MAX_OPTIONS) };
 }
 
 impl<'a> OptionList<'a> {
@@ -46,7 +47,7 @@ impl<'a> OptionList<'a> {
 
     /// Adds an option at the end, where it has a value.
     pub(crate) fn push(&mut self, number: u16, value: Option<&'a [u8]>)
-        requires room { length self.old < 5 }
+        requires room { length self.old < MAX_OPTIONS }
         ensures { self.new ≡ self.old ++ option_with number (option_copied value.entry) }
     {
         let Some(value) = value else {

@@ -32,8 +32,8 @@ pub(crate) struct KeptOption<A: Allocator> {
 pub(crate) struct Waiting<A: Allocator> {
     /// Whose it is.
     pub(crate) asked: Asked,
-    /// Since when, in milliseconds.
-    pub(crate) at: u64,
+    /// Since when.
+    pub(crate) at: Moment,
     /// By how many milliseconds.
     pub(crate) delay: u64,
     /// What it asks for.

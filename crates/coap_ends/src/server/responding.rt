@@ -26,7 +26,7 @@ use std::hash::BuildHasher;
 fn is_ready<A: Allocator>(waiting: &Waiting<A>, at: Moment, asked: &Asked) -> bool
     ensures { (szx : ℕ) → result ≡ is_of at.0 asked.now (waiting_as szx waiting.now) }
 {
-    *asked == waiting.asked && at.0.saturating_sub(waiting.at) >= waiting.delay
+    *asked == waiting.asked && at.since(waiting.at) >= waiting.delay
 }
 
 // Where the request that is ready waits.

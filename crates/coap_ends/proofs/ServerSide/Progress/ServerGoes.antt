@@ -73,7 +73,8 @@ use Rattle.coap_ends.proofs.ServerSide.Progress.PathsCounted.{store_counted}
 use Rattle.coap_ends.proofs.ServerSide.Progress.ResponsesSpelled.{bare_response, continue_response, reply_response}
 use Rattle.coap_ends.proofs.ServerSide.Progress.StoreReplies.{is_answered, got_good}
 use Rattle.coap_ends.proofs.ServerSide.Progress.TokensShort.{asked_short, waiting_short, observers_short}
-use Rattle.coap_ends.proofs.ServerSide.Serving.ServerWaiting.{Mirrors, mirrors, found_ready, taken}
+use Rattle.coap_ends.proofs.ServerSide.Serving.ServerWaiting.{Mirrors, mirrors, taken}
+use Rattle.coap_ends.proofs.Serving.ServerWaiting.{found_ready}
 
 -- a refusal has a code of a response
 abbrev IsRefusal : Verdict → Type 0

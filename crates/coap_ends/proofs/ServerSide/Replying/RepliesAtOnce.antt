@@ -1,6 +1,6 @@
 -- Each reply of a server's message layer is given at once, also where a deferral was refused before.
-use Rattle.std.proofs.Common.{◌≡◌, inr, ℕ, zero, suc, Bool, true, false, Option, Some, None, List, [], ◌∷◌, ◌++◌, refl}
-use Rattle.std.proofs.Common.{ap, sym, subst, ◌∙◌, arith}
+use Rattle.std.proofs.Common.{◌≡◌, ℕ, zero, suc, Bool, true, false, Option, Some, None, List, [], ◌∷◌, ◌++◌, refl}
+use Rattle.std.proofs.Common.{ap, sym, subst}
 use Rattle.coap_types.specs.declared.endpoint.Endpoint.{Endpoint}
 use Rattle.coap_types.specs.declared.message.Kind.{Kind}
 use Rattle.coap_types.specs.declared.message.Kind.TheVariants.{Con, Non, Ack, Rst}
@@ -8,7 +8,6 @@ use Rattle.coap_codec.specs.Message.{Message}
 use Rattle.coap_codec.specs.Spelling.{message_bytes}
 use Rattle.coap_layer.specs.Trace as T
 use Rattle.coap_layer.specs.Trace.{with_head}
-use Rattle.coap_layer.specs.Words.{handed_by}
 use Rattle.coap_layer.specs.Machine.State as L
 use Rattle.coap_layer.specs.Machine.Steps as G
 use Rattle.coap_layer.specs.Machine.Steps.{Steps, entries, left_after}
@@ -21,7 +20,6 @@ use Rattle.coap_exchange.specs.AnswererTrace as E
 use Rattle.coap_exchange.specs.AnswererSteps as P
 use Rattle.coap_exchange.specs.AnswererLaw as W
 use Rattle.coap_exchange.specs.AskerRequests.{asked}
-use Rattle.coap_layer.proofs.Facts.HandedUp.{message_in}
 use Rattle.coap_ends.specs.ServerSide.ServerTrace.{Own, Handling, Silent, Replies, Serves, Waits, Notifies, Call, Sets}
 use Rattle.coap_ends.specs.ServerSide.ServerTrace.{Removes, Delays, Feeds, Ticks, NextOut, Gets, TellsApplied}
 use Rattle.coap_ends.specs.ServerSide.ServerServing.{response_to}
@@ -31,7 +29,7 @@ use Rattle.coap_ends.specs.ServerSide.ServerHandling.{incoming, ticking, heard}
 use Rattle.coap_ends.specs.ServerSide.ServerAsks.{answering, responding}
 use Rattle.coap_ends.specs.ServerSide.ServerLaw.{ServerLaw, own_of, lower_of}
 use Rattle.coap_ends.proofs.Replying.ClientReplies.{NoReplies, So, over}
-use Rattle.coap_ends.proofs.Replying.ServerReplies.{Hands, Fits, Came, came_by, small, at_once_then}
+use Rattle.coap_ends.proofs.Replying.ServerReplies.{Came, came_by, hands_up, carrying, small, at_once_then}
 use Rattle.coap_ends.proofs.Replying.ServerRepliesSo as N
 use Rattle.coap_ends.proofs.Replying.ServerRepliesSo.{Under, Left, one_back, asking_none}
 use Rattle.coap_ends.proofs.ServerSide.Serving.ServerBrought.{server_back}
@@ -53,18 +51,10 @@ module _ (begin : L.State) (from : Endpoint) (now : ℕ) (bytes : List ℕ) (up 
   behind_refusal s a m r below c is Ack k = ((λ to id b h. absurd (cc h)), taken)
   behind_refusal s a m r below c is Rst k = ((λ to id b h. absurd (cc h)), taken)
   behind_refusal s a m r below c is Con k =
-      let h : Hands up m = record { up_is = ap handed_by c.up_is; in_is = ap message_in c.up_is } in
-      let low = small begin from now bytes up rest mid new before step m h in
-      let id_is : a.id.0 ≡ m.id = ap (λ (x : Asked). x.id.0) c.asked_is in
+      let h = hands_up from up a m c in
+      let f = carrying from up a m r c is (small begin from now bytes up rest mid new before step m h) k in
       let from_is : a.from ≡ from = ap (λ (x : Asked). x.from) c.asked_is in
-      let kind_is : m.kind ≡ Con = sym (ap (λ (x : Asked). x.kind) c.asked_is) ∙ k in
-      let b : List ℕ = message_bytes (with_head Ack a.id.0 (P.content_of a r)) in
-      let f : Fits m a.id.0 b = record {
-        reply = with_head Ack a.id.0 (P.content_of a r);
-        spells = is.spelled Ack a.id.0 (omega (arith, low, id_is));
-        id_is = refl;
-        kind = inr (refl, kind_is);
-      } in (
+      let b : List ℕ = message_bytes (with_head Ack a.id.0 (P.content_of a r)) in (
         subst (λ e. RepliesSo (entries begin first) (L.made (left_after begin first) 0 (T.Reply e a.id.0 b)))
             (sym from_is) (at_once_then begin from now bytes up rest mid new before step m a.id.0 b h f),
         taken,

@@ -8,6 +8,7 @@ use Rattle.coap_layer.specs.Machine.State as S
 use Rattle.coap_layer.specs.Machine.Steps.{Asked, Steps, left_after}
 use Rattle.coap_layer.specs.Trace as L
 use Rattle.coap_block.specs.Whole.{Each}
+use Rattle.coap_observe.specs.declared.observers.TheConstants.{MAX_OBSERVERS as max_observers}
 use Rattle.coap_observe.specs.Observers.{Observer, is_of, removed, sent_to, unmarked_by}
 use Rattle.coap_observe.proofs.Facts.Registrations.{is_of-decides}
 use Rattle.coap_resource.specs.Content.{Held}
@@ -254,14 +255,14 @@ module _ (limit szx word : ℕ) where
   layer t = behind_calls word (lower_of limit szx t)
 
   -- CONs with a step due at this moment; observers that are marked; and requests that wait, each for a change that can
-  -- mark all 64 observers
+  -- mark every observer
   pub size : ℕ → List Call → ℕ
   size now t = due_count (max (layer t).clock (max (own t).clock now)) (layer t).open_cons +
-      (marks (own t).observers + 65 * length (own t).waiting)
+      (marks (own t).observers + (1 + max_observers) * length (own t).waiting)
 
   pub size_is : (now : ℕ) (t : List Call) → size now t
       ≡ due_count (max (layer t).clock (max (own t).clock now)) (layer t).open_cons +
-      (marks (own t).observers + 65 * length (own t).waiting)
+      (marks (own t).observers + (1 + max_observers) * length (own t).waiting)
   unfolding size
   size_is now t = refl
 

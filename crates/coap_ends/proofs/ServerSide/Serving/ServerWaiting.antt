@@ -37,6 +37,7 @@ use Rattle.coap_ends.specs.ServerSide.ServerSteps.{exchanges_after}
 use Rattle.coap_ends.specs.ServerSide.ServerLaw.{ServerLaw, own_of, lower_of}
 use Rattle.coap_ends.specs.ServerSide.Follows.ServerServes.{Serving, serving, serving_of}
 use Rattle.coap_exchange.specs.AnswererSteps.{may_defer}
+use Rattle.coap_ends.proofs.Serving.ServerWaiting.{FoundReady, found_ready}
 use Rattle.coap_ends.proofs.ServerSide.Serving.ServerBrought.{server_back}
 use Rattle.coap_ends.proofs.ServerSide.Observing.EndsObservation.{first_row}
 use Rattle.coap_ends.proofs.ServerSide.Exact.ServerLeads.{exchanges_kept}
@@ -106,29 +107,6 @@ module _ (at : ℕ) (xs : List Separate) (a : Asked) where
             (ap (λ b. cond b (map deferred_as ws) (deferred_as w ∷ without_ready at xs (map deferred_as ws)))
             ready));
       }
-
--- what is due is a request only where the layer was idle, and the first that is ready
-pub record FoundReady (below : L.Answer) (o : Option Deferred) (a : Asked) : Type 0 where
-  pub idle : below ≡ L.Idle
-  pub deferred : Deferred
-  pub first : o ≡ Some deferred
-  pub asked : deferred.asked ≡ a
-
-pub found_ready : (below : L.Answer) (o : Option Deferred) (room : Bool) (a : Asked)
-    → due.Ready a ≡ P.due_of below o room → FoundReady below o a
-found_ready L.Idle (Some d) true a h = record
-    { idle = refl; deferred = d; first = refl; asked = (let e : a ≡ d.asked = cc h in sym e) }
-found_ready L.Idle (Some d) false a h = absurd (cc h)
-found_ready L.Idle None room a h = absurd (cc h)
-found_ready (L.Copied to id) o room a h = absurd (cc h)
-found_ready (L.Expired to id) o room a h = absurd (cc h)
-found_ready (L.Becomes u) o room a h = absurd (cc h)
-found_ready L.Nothing o room a h = absurd (cc h)
-found_ready (L.Is holds) o room a h = absurd (cc h)
-found_ready (L.Sent id) o room a h = absurd (cc h)
-found_ready L.Busied o room a h = absurd (cc h)
-found_ready L.NoIds o room a h = absurd (cc h)
-found_ready (L.Gives packet) o room a h = absurd (cc h)
 
 -- what a handling says of a deferral
 

@@ -3,8 +3,9 @@
 use Rattle.std.specs.Prelude.{◌≡◌, ◌≢◌, ◌⊎◌, ℕ, max, true, false, Option, Some, None, List, ◌∷◌}
 use Rattle.coap_types.specs.Past.{Ever, Sometime, Always}
 use Rattle.coap_types.specs.declared.endpoint.Endpoint.{Endpoint}
+use Rattle.coap_types.specs.declared.message.TheConstants.Code as codes
 use Rattle.coap_types.specs.declared.message.Kind.{Kind}
-use Rattle.coap_codec.specs.Message.{Message, Spells}
+use Rattle.coap_codec.specs.Message.{Spells}
 use Rattle.coap_codec.specs.Spelling.{message_bytes}
 use Rattle.coap_layer.specs.Sends.{IsIn}
 use Rattle.coap_layer.specs.Trace as L
@@ -20,6 +21,7 @@ use Rattle.coap_resource.specs.Serves.{Reply, bare, content_reply}
 use Rattle.coap_exchange.specs.declared.answerer.Asked.{Asked}
 use Rattle.coap_exchange.specs.AnswererTrace as E
 use Rattle.coap_exchange.specs.AnswererSteps.{content_with}
+pub use Rattle.coap_ends.specs.Follows.ServerGives.{IsEmpty}
 use Rattle.coap_ends.specs.ServerSide.ServerTrace.{Own, Call, Feeds}
 use Rattle.coap_ends.specs.ServerSide.ServerResponses.{response_with}
 use Rattle.coap_ends.specs.ServerSide.ServerResponses as R
@@ -40,10 +42,6 @@ pub record Carries (p : L.Packet) (to : Endpoint) (token : List ℕ) (r : E.Resp
   pub id : ℕ
   pub bytes : p.bytes ≡ message_bytes (with_head kind id (content_with token r))
   pub spells : Spells p.bytes (with_head kind id (content_with token r))
-
--- neither a request nor a response: code 0.00
-abbrev pub IsEmpty : L.Packet → Type 0
-IsEmpty p = (m : Message) × Spells p.bytes m × (m.code ≡ 0)
 
 -- The code with which a request is refused without the store: by the checks, or since the block of its upload is not
 -- taken.
@@ -80,7 +78,7 @@ size_in s _ = None
 -- a notification shows what a path holds: 2.05 with its version as Observe, or 4.04 without Observe where it holds
 -- nothing
 abbrev pub NoticeOf : ℕ → Option Held → E.Response → Type 0
-NoticeOf szx None r = r ≡ response_with (bare 132 0) None None
+NoticeOf szx None r = r ≡ response_with (bare codes.NOT_FOUND.0 0) None None
 NoticeOf szx (Some held) r = r ≡ response_with (content_reply held false 0 szx)
     (Some (sequence_number held.version)) None
 

@@ -11,7 +11,7 @@ happen-done-requires-clause-apart g c = apart (left (own_of c.self.inside.held) 
     c.self.invariant
 
 pub happen-done-requires-clause-watched : goal.happen-done-requires-clause-watched
-happen-done-requires-clause-watched g c = subst (λ k. Watched k (own_of c.self.inside.held)) (sym c.max.ensures)
+happen-done-requires-clause-watched g c = subst (λ k. Watched k (own_of c.self.inside.held)) (sym c.later-at.ensures)
     (watched (left (own_of c.self.inside.held) c.self.inside.asker.state) c.args.now.0 c.self.invariant)
 
 pub returns-else-is_err-clause-step : goal.returns-else-is_err-clause-step
@@ -20,8 +20,8 @@ returns-else-is_err-clause-step g c =
     on_ok c.happen-done.result
     (λ h.
     let s = fed_by (own_of c.self.inside.held) c.self.inside.asker.state c.receive.new.self.state c.args.self.now _
-    c.args.now.0 c.max.result c.args.from c.args.bytes.now c.args.word step.0 step.1 c.in_ok-event.event
-    c.self.view_is c.max.ensures step.2 h in
+    c.args.now.0 c.later-at.result.0 c.args.from c.args.bytes.now c.args.word step.0 step.1 c.in_ok-event.event
+    c.self.view_is c.later-at.ensures step.2 h in
     (step.0, step.1, c.in_ok-event.event, s.0, s.1, s.2, s.3))
     c.happen-done.ensures.happens
 
@@ -37,8 +37,8 @@ invariant_of-self-else-is_err g c =
     let step = c.in_ok-event.ensures.step in
     let h = ok_of c.happen-done.result (sym c.is_err.ensures.value ∙ c.if-is_err.false) c.happen-done.ensures.happens in
     let s = fed_by (own_of c.self.inside.held) c.self.inside.asker.state c.receive.new.self.state old _ c.args.now.0
-    c.max.result c.args.from c.args.bytes.now c.args.word step.0 step.1 c.in_ok-event.event refl c.max.ensures
-    step.2 h in
+    c.later-at.result.0 c.args.from c.args.bytes.now c.args.word step.0 step.1 c.in_ok-event.event refl
+    c.later-at.ensures step.2 h in
     led_step old _ _ c.self.invariant s.3
 
 pub invariant_of-self-then-is_err : goal.invariant_of-self-then-is_err

@@ -4,7 +4,8 @@ use Rattle.std.proofs.lemmas.Option.{slice_get-map}
 use Rattle.std.specs.Option.{option_map}
 use Rattle.coap_ends.specs.ClientSide.ClientOwn.{Observation}
 use Rattle.coap_ends.specs.ClientObject.ClientShown.{shown_observation, shown_rest}
-use Rattle.coap_ends.proofs.ClientCalls.LiveLemmas.{found_at, found_none, map_set, none_changed, one_changed, place_within}
+use Rattle.coap_ends.proofs.ClientCalls.LiveLemmas.{found_at, found_none, map_set, none_changed, one_changed}
+use Rattle.coap_ends.proofs.ClientCalls.LiveLemmas.{place_within}
 use Rattle.coap_ends.proofs.ClientCalls.HeldLemmas.{rest_in}
 use Rattle.coap_ends.proofs.client.observations.take_rest.Goals as goal
 

@@ -11,7 +11,8 @@ use Rattle.coap_ends.specs.ClientObject.ClientHappens.{Apart, Happens, left, res
 use Rattle.coap_ends.specs.ClientObject.ClientHeld.{own_of}
 use Rattle.coap_ends.specs.ClientObject.ClientShown.{shown_asked, shown_observation, shown_report, shown_rest}
 use Rattle.coap_ends.proofs.ClientCalls.ClientHappening.{on_err}
-use Rattle.coap_ends.proofs.ClientCalls.HeldLemmas.{fetched_own, idle_own, one_observation, rested_apart, set_one, taken_own}
+use Rattle.coap_ends.proofs.ClientCalls.HeldLemmas.{fetched_own, idle_own, one_observation, rested_apart, set_one}
+use Rattle.coap_ends.proofs.ClientCalls.HeldLemmas.{taken_own}
 use Rattle.coap_ends.proofs.ClientCalls.FetchingLemmas.{asks_back, asks_next, asks_rest, fetch_held, if_ok, rest_there}
 use Rattle.coap_ends.proofs.ClientCalls.FetchingLemmas.{same_rest, unfetched, useless_fetch, useless_rest}
 use Rattle.coap_ends.proofs.ClientCalls.FetchingLemmas.{useless_value, whole_fetch, whole_rest, whole_value}

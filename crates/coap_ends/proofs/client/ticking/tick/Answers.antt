@@ -7,7 +7,7 @@ returns-else-is_err-clause-step g c =
     let step = c.in_ok-turn.ensures.step in
     ok_both c.pass_time-done.result
     (λ did comes does.
-    let s = ticked_by (own_of c.args.held.now) c.args.asker.now.state c.tick.new.self.state _ c.args.now.0 c.max.result
-    c.args.word step.0 c.in_ok-turn.turn did c.max.ensures step.1 comes does in
+    let s = ticked_by (own_of c.args.held.now) c.args.asker.now.state c.tick.new.self.state _ c.args.now.0
+    c.later-at.result.0 c.args.word step.0 c.in_ok-turn.turn did c.later-at.ensures step.1 comes does in
     (step.0, c.in_ok-turn.turn, s.0, s.1, s.2, s.3))
     c.pass_time-done.ensures.happens c.pass_time-done.ensures.did
