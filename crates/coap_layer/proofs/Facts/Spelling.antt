@@ -25,7 +25,8 @@ same_message kind a id b code d token t options payload content k e i f is =
 pub not_refused : (content : Content) (kind : Kind) (id : ℕ) (m : Message) → IsSendable content → id < message_ids
     → m ≡ with_head kind id content → HasNoSpelling m max_message_len → ⊥
 not_refused content kind id m ok small is none =
-    subst (λ x. HasNoSpelling x max_message_len) is none (message_bytes (with_head kind id content)) (ok.spelled kind id small)
+    subst (λ x. HasNoSpelling x max_message_len) is none (message_bytes (with_head kind id content))
+    (ok.spelled kind id small)
     (ok.fits kind id small)
 
 pub spelled_so : OneSpelling → (content : Content) (kind : Kind) (id : ℕ) (m : Message) (bytes : List ℕ)
