@@ -1,5 +1,6 @@
 ghost use Rattle.std.specs.Prelude.{◌≡◌, ◌≤◌, length};
-ghost use Rattle.coap_types.specs.Piece.{part_of};
+ghost use Rattle.coap_types.specs.declared.szx.TheConstants.{MAX_SZX as max_szx};
+ghost use Rattle.coap_types.specs.Piece.{part_of, size_of};
 ghost use Rattle.coap_types.specs.OptionValues.{option_with};
 ghost use Rattle.coap_ends.specs.ClientSide.ClientRequests.{block_option, block2_option, payload_of};
 ghost use Rattle.coap_ends.specs.ClientObject.CallShown.{IsFew, block_of, shown_transfer};
@@ -46,7 +47,7 @@ pub fn block2_of<A: Allocator + Copy>(fetch: &Fetch<A>) -> Option<UintBytes>
 /// The payload of the next request.
 pub fn payload_of<A: Allocator + Copy>(transfer: &Transfer<A>) -> &[u8]
     ensures payload { result.now ≡ payload_of (shown_transfer transfer.now) }
-    ensures few { length result.now ≤ 1024 }
+    ensures few { length result.now ≤ size_of max_szx }
 {
     match transfer {
         Transfer::Uploads(upload) => part_to_send(upload),
@@ -58,7 +59,7 @@ pub fn payload_of<A: Allocator + Copy>(transfer: &Transfer<A>) -> &[u8]
 #[tactic(auto, using(crate::proofs::ClientCalls::AskableRequests::piece_short))]
 fn part_to_send<A: Allocator + Copy>(upload: &Upload<A>) -> &[u8]
     ensures part { result.now ≡ part_of upload.now.state.body upload.now.state.num upload.now.state.szx }
-    ensures few { length result.now ≤ 1024 }
+    ensures few { length result.now ≤ size_of max_szx }
 {
     let (block, part) = upload.next();
     let _most = block.szx.size();
