@@ -25,7 +25,7 @@ use Rattle.coap_exchange.specs.Machine.AskerShown.{IsAskable}
 use Rattle.coap_exchange.proofs.Facts.Requests.{askable_when_short_exactly}
 use Rattle.coap_ends.specs.ClientSide.ClientTrace.{Request}
 use Rattle.coap_ends.specs.ClientSide.ClientOwn.{Transfer, Fetches, Uploads, Single, Observation, Calling}
-use Rattle.coap_ends.specs.ClientSide.ClientQueue.{block_number}
+use Rattle.coap_ends.specs.ClientSide.ClientQueue.{block_option_number}
 use Rattle.coap_ends.specs.ClientSide.ClientRequests.{after_path, before_path, block_option, flag_option, get}
 use Rattle.coap_ends.specs.ClientSide.ClientRequests.{message_of, options_of, path_options, payload_of}
 use Rattle.coap_ends.specs.ClientObject.CallShown.{FitsMethod, IsFew, IsGood, IsShortPath, block_of, is_long}
@@ -231,7 +231,8 @@ get_askable token o b path few short more_few =
     let e = front_length 0 observe o (path_options path ++ option_with block2 b) few in
     askable_by Get token os [] (good_get o b path few more_few short.bounds.short) (omega (arith, a, c, d, e))
 
-upload_method : (m : Method) (t : Transfer) → FitsMethod m t → (payload_of t ≡ []) ⊎ (block_of t ≡ block_number m)
+upload_method : (m : Method) (t : Transfer) → FitsMethod m t
+    → (payload_of t ≡ []) ⊎ (block_of t ≡ block_option_number m)
 upload_method m (Fetches f) h = inl refl
 upload_method m Single h = inl refl
 upload_method Get (Uploads u) h = absurd h
@@ -272,11 +273,12 @@ call_askable os number r t n o ranges short fits n_is block few small =
     (askable_by r.method None (options_of r ++ option_with n o) (payload_of t)
     (good_call r (option_with n o) ranges tail) (by most (upload_method r.method t fits)))
   where
-    by : length (options_bytes 0 (options_of r ++ option (block_number r.method) (255 ∷ 255 ∷ 255 ∷ []) ∷ [])) ≤ 115
-        → (payload_of t ≡ []) ⊎ (block_of t ≡ block_number r.method)
+    by : length (options_bytes 0 (options_of r
+        ++ option (block_option_number r.method) (255 ∷ 255 ∷ 255 ∷ []) ∷ [])) ≤ 115
+        → (payload_of t ≡ []) ⊎ (block_of t ≡ block_option_number r.method)
         → 4 + (8 + (length (options_bytes 0 (options_of r ++ option_with n o)) + (1 + length (payload_of t)))) ≤ 1152
     by most (inl none) =
-        let a = longer_with 0 (options_of r) (option (block_number r.method) (255 ∷ 255 ∷ 255 ∷ []) ∷ []) in
+        let a = longer_with 0 (options_of r) (option (block_option_number r.method) (255 ∷ 255 ∷ 255 ∷ []) ∷ []) in
         let b = with_length 0 n o (options_of r) few in
         let c = ap (λ (p : List ℕ). length p) none in
         omega (arith, most, a, b, c)

@@ -31,7 +31,8 @@ use Rattle.coap_ends.specs.ClientSide.ClientResponses.{content, valid, continue,
 use Rattle.coap_ends.specs.ClientSide.ClientReports.{lapse, done}
 use Rattle.coap_ends.specs.ClientSide.ClientCalls.{answer, has_tags}
 use Rattle.coap_ends.specs.ClientSide.ClientCalls as calls
-use Rattle.coap_ends.specs.ClientSide.ClientQueue.{are_long, block_number, is_full, taken_by, call_answer, transfer_of}
+use Rattle.coap_ends.specs.ClientSide.ClientQueue.{are_long, block_option_number, is_full, taken_by, call_answer}
+use Rattle.coap_ends.specs.ClientSide.ClientQueue.{transfer_of}
 use Rattle.coap_ends.specs.ClientSide.ClientQueue.{calling}
 use Rattle.coap_ends.specs.ClientSide.ClientEffects.{Effect, ends, of, is_upload, has_sent}
 use Rattle.coap_ends.specs.ClientSide.ClientEvents.{failed, happened, passes, closed}
@@ -242,7 +243,7 @@ waits_later szx t c Dropped h = tt
 -- a call that is taken has a body that can be joined
 body_small : (s : Own) (r : Request) (n : ℕ) → Ok n ≡ call_answer s r → length r.body ≤ 65536
 body_small s r n is = by (is_full s) (nat_lt max_body (length r.body))
-    (are_long (block_number r.method) (options_of r)) refl is
+    (are_long (block_option_number r.method) (options_of r)) refl is
   where
     by : (a b c : Bool) → nat_lt max_body (length r.body) ≡ b
         → Ok n ≡ cond a (Err QueueFull) (cond b (Err BodyTooLarge) (cond c (Err BadPath) (taken_by s)))

@@ -37,7 +37,7 @@ use Rattle.coap_ends.specs.ClientSide.ClientTrace.{NextReport, Asked}
 use Rattle.coap_ends.specs.ClientSide.ClientOwn.{Operation, Own}
 use Rattle.coap_ends.specs.ClientSide.ClientObservations.{to_fetch}
 use Rattle.coap_ends.specs.ClientSide.ClientRequests.{message_of, options_of, path_options}
-use Rattle.coap_ends.specs.ClientSide.ClientQueue.{max_numbers, are_long, block_number, is_full, observed}
+use Rattle.coap_ends.specs.ClientSide.ClientQueue.{max_numbers, are_long, block_option_number, is_full, observed}
 use Rattle.coap_ends.specs.ClientSide.ClientReports.{lapse}
 use Rattle.coap_ends.specs.ClientSide.ClientEffects.{Asks, Effect}
 use Rattle.coap_ends.specs.ClientSide.ClientEvents.{happened, passes}
@@ -99,7 +99,8 @@ module _ (server : Endpoint) (szx word : ℕ) where
   given [] rows law n h = let a = ltb-true n 0 h in absurd (omega (arith, a))
   given (Calls now r (Ok k) ∷ t) rows law n h =
       let s : Own = own_of szx t in
-      let is = given_is (is_full s) (nat_lt max_body (length r.body)) (are_long (block_number r.method) (options_of r))
+      let is = given_is (is_full s) (nat_lt max_body (length r.body))
+      (are_long (block_option_number r.method) (options_of r))
       (s.taken == max_numbers) QueueFull BodyTooLarge BadPath CallsSpent k s.taken rows.0 in
       next_given t (Calls now r (Ok k)) k n refl is (λ low. given t rows.1 law n low) h
   given (Calls now r (Err why) ∷ t) rows law n h = inr (given t rows.1 law n h)

@@ -31,7 +31,8 @@ use Rattle.coap_ends.specs.ClientSide.ClientOwn.{Dropped, Observation, Own}
 use Rattle.coap_ends.specs.ClientSide.ClientObservations.{observation_of, token_of, dropped, over}
 use Rattle.coap_ends.specs.ClientSide.ClientRequests.{before_path, after_path, options_of, path_options, message_of}
 use Rattle.coap_ends.specs.ClientSide.ClientReports.{lapse}
-use Rattle.coap_ends.specs.ClientSide.ClientQueue.{are_long, block_number, is_full, observed, taken_by, call_answer}
+use Rattle.coap_ends.specs.ClientSide.ClientQueue.{are_long, block_option_number, is_full, observed, taken_by}
+use Rattle.coap_ends.specs.ClientSide.ClientQueue.{call_answer}
 use Rattle.coap_ends.specs.ClientSide.ClientQueue.{observe_answer, cancel_answer, may_forget, calling, numbered}
 use Rattle.coap_ends.specs.ClientSide.ClientEffects.{Deed, Rests, Asks, Keeps, Releases, Effect, ends, of, is_upload}
 use Rattle.coap_ends.specs.ClientSide.ClientEffects.{has_sent}
@@ -193,15 +194,16 @@ module _ (szx : ℕ) where
   shorts_called s now r (Err why) is h = h
   shorts_called s now r (Ok number) is h = (
     all_more IsShortOp s.queue (calling s.szx number r) h.0
-        (ap (are_long (block_number r.method)) (same_options r)
-        ∙ by (is_full s) (nat_lt max_body (length r.body)) (are_long (block_number r.method) (options_of r)) refl is),
+        (ap (are_long (block_option_number r.method)) (same_options r)
+        ∙ by (is_full s) (nat_lt max_body (length r.body))
+        (are_long (block_option_number r.method) (options_of r)) refl is),
     h.1,
     h.2,
   )
     where
-      by : (a b c : Bool) → are_long (block_number r.method) (options_of r) ≡ c
+      by : (a b c : Bool) → are_long (block_option_number r.method) (options_of r) ≡ c
           → Ok number ≡ cond a (Err QueueFull) (cond b (Err BodyTooLarge) (cond c (Err BadPath) (taken_by s)))
-          → are_long (block_number r.method) (options_of r) ≡ false
+          → are_long (block_option_number r.method) (options_of r) ≡ false
       by true b c short e = absurd (cc e)
       by false true c short e = absurd (cc e)
       by false false true short e = absurd (cc e)

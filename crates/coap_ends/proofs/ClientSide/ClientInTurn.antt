@@ -18,7 +18,8 @@ use Rattle.coap_ends.specs.ClientSide.ClientRequests.{options_of, path_options}
 use Rattle.coap_ends.specs.ClientSide.ClientReports.{lapse}
 use Rattle.coap_ends.specs.ClientSide.ClientEffects.{Asks, Effect, has_sent, ends, of, is_upload}
 use Rattle.coap_ends.specs.ClientSide.ClientEvents.{failed, closed}
-use Rattle.coap_ends.specs.ClientSide.ClientQueue.{max_numbers, are_long, block_number, is_full, observed, calling}
+use Rattle.coap_ends.specs.ClientSide.ClientQueue.{max_numbers, are_long, block_option_number, is_full, observed}
+use Rattle.coap_ends.specs.ClientSide.ClientQueue.{calling}
 use Rattle.coap_ends.specs.ClientSide.ClientDeeds.{at}
 use Rattle.coap_ends.specs.ClientSide.ClientLaw.{ClientRows, own_of}
 use Rattle.coap_ends.specs.ClientSide.ClientWords.{Sending, sends, sent_by}
@@ -448,7 +449,7 @@ module _ (szx : ℕ) where
   goes t (Calls now r (Ok n)) h rows =
       let s : Own = own_of szx t in
       let is : n ≡ s.taken = given_is (is_full s) (nat_lt max_body (length r.body))
-      (are_long (block_number r.method) (options_of r))
+      (are_long (block_option_number r.method) (options_of r))
       (s.taken == max_numbers) QueueFull BodyTooLarge BadPath CallsSpent n s.taken rows.0 in
       queued t (Calls now r (Ok n)) h (calling s.szx n r) refl (ap (λ z. Some z) is) refl refl refl
   goes t (Observes now path (Err why)) h rows =

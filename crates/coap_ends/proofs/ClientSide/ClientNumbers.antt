@@ -14,7 +14,7 @@ use Rattle.coap_ends.specs.ClientSide.ClientTrace.{Call, Calls, Observes, Cancel
 use Rattle.coap_ends.specs.ClientSide.ClientTrace.{NextReport, Asked}
 use Rattle.coap_ends.specs.ClientSide.ClientOwn.{Own}
 use Rattle.coap_ends.specs.ClientSide.ClientRequests.{options_of, path_options}
-use Rattle.coap_ends.specs.ClientSide.ClientQueue.{max_numbers, are_long, block_number, is_full, observed}
+use Rattle.coap_ends.specs.ClientSide.ClientQueue.{max_numbers, are_long, block_option_number, is_full, observed}
 use Rattle.coap_ends.specs.ClientSide.ClientSteps.{lower}
 use Rattle.coap_ends.specs.ClientSide.ClientLaw.{ClientRows, own_of, lower_of}
 use Rattle.coap_ends.specs.ClientSide.ClientNumbers.{number_given, NumbersOnce}
@@ -31,7 +31,7 @@ module _ (server : Endpoint) (szx word : ℕ) where
       let s : Own = own_of szx t in
       let same : k ≡ n = cc h in (
         sym same ∙ given_is (is_full s) (nat_lt max_body (length r.body))
-            (are_long (block_number r.method) (options_of r))
+            (are_long (block_option_number r.method) (options_of r))
             (s.taken == max_numbers) QueueFull BodyTooLarge BadPath CallsSpent k s.taken rows.0,
         refl,
       )

@@ -30,7 +30,8 @@ use Rattle.coap_ends.specs.ClientSide.ClientRequests.{options_of, path_options}
 use Rattle.coap_ends.specs.ClientSide.ClientEffects.{Asks, Effect}
 use Rattle.coap_ends.specs.ClientSide.ClientObserving.{releases, is_over}
 use Rattle.coap_ends.specs.ClientSide.ClientEvents.{happened, passes}
-use Rattle.coap_ends.specs.ClientSide.ClientQueue.{max_numbers, are_long, block_number, is_full, observed, call_answer}
+use Rattle.coap_ends.specs.ClientSide.ClientQueue.{max_numbers, are_long, block_option_number, is_full, observed}
+use Rattle.coap_ends.specs.ClientSide.ClientQueue.{call_answer}
 use Rattle.coap_ends.specs.ClientSide.ClientQueue.{observe_answer, cancel_answer, may_forget, calling}
 use Rattle.coap_ends.specs.ClientSide.ClientDeeds.{at, close, deeds, done_for}
 use Rattle.coap_ends.specs.ClientSide.ClientSteps.{lower, reports, reporting, asking}
@@ -249,7 +250,7 @@ module _ (server : Endpoint) (szx word : ℕ) where
   called t now r (Ok number) right k =
       let s : Own = own_of szx t in
       let is : number ≡ s.taken = given_is (is_full s) (nat_lt max_body (length r.body))
-      (are_long (block_number r.method) (options_of r))
+      (are_long (block_option_number r.method) (options_of r))
       (s.taken == max_numbers) QueueFull BodyTooLarge BadPath CallsSpent number s.taken right in
       record {
         waits = wait_behind s.observations s.queue (calling s.szx number r) k.waits tt;

@@ -24,7 +24,7 @@ use Rattle.coap_ends.specs.ClientSide.ClientObservations.{to_fetch, observation_
 use Rattle.coap_ends.specs.ClientSide.ClientObserving.{releases}
 use Rattle.coap_ends.specs.declared.refusals.CancelRefusal.TheVariants as cancel
 use Rattle.coap_ends.specs.ClientSide.ClientObservations.{is_live, is_cancelled}
-use Rattle.coap_ends.specs.ClientSide.ClientQueue.{cancel_answer, max_numbers, are_long, block_number, is_full}
+use Rattle.coap_ends.specs.ClientSide.ClientQueue.{cancel_answer, max_numbers, are_long, block_option_number, is_full}
 use Rattle.coap_ends.specs.ClientSide.ClientQueue.{observed, call_answer, observe_answer, calling}
 use Rattle.coap_ends.specs.ClientSide.ClientRequests.{path_options, options_of}
 use Rattle.coap_ends.specs.ClientSide.ClientReports.{lapse}
@@ -284,11 +284,11 @@ module _ (server : Endpoint) (szx word : ℕ) where
     pub call_is : (r : Request) → call_answer own r ≡ taking_of szx t r
     call_is r =
         ap (λ b. cond b (Err QueueFull) (cond (nat_lt max_body (length r.body)) (Err BodyTooLarge)
-        (cond (are_long (block_number r.method) (options_of r)) (Err BadPath)
+        (cond (are_long (block_option_number r.method) (options_of r)) (Err BadPath)
         (cond (own.taken == max_numbers) (Err CallsSpent) (Ok own.taken))))) full_is
         ∙ ap (λ z. cond (nat_le max_waiting (length (waiting_in szx t))) (Err QueueFull)
         (cond (nat_lt max_body (length r.body)) (Err BodyTooLarge)
-        (cond (are_long (block_number r.method) (options_of r)) (Err BadPath) z)))
+        (cond (are_long (block_option_number r.method) (options_of r)) (Err BadPath) z)))
         (next_by (numbers_in t) (counted t rows law))
 
     pub observation_is : (path : List (List ℕ)) → observe_answer own path ≡ observing_of szx t path

@@ -26,7 +26,7 @@ use Rattle.coap_ends.specs.ClientSide.ClientTrace.{Request}
 use Rattle.coap_ends.specs.ClientSide.ClientOwn.{Transfer, Fetches, Uploads, Single, Operation, Calling, Registering}
 use Rattle.coap_ends.specs.ClientSide.ClientOwn.{Fetching, Cancelling, Dropped, Observation}
 use Rattle.coap_ends.specs.ClientSide.ClientObservations.{observation_of, observed_path, token_of, fetch_of}
-use Rattle.coap_ends.specs.ClientSide.ClientQueue.{are_long, block_number}
+use Rattle.coap_ends.specs.ClientSide.ClientQueue.{are_long, block_option_number}
 use Rattle.coap_ends.specs.ClientSide.ClientRequests.{flag_option, path_options, before_path, after_path, options_of}
 use Rattle.coap_ends.specs.ClientSide.ClientRequests.{block2_option, block1_option, block_option, is_longer, payload_of}
 use Rattle.coap_ends.specs.ClientSide.ClientRequests.{message_of}
@@ -180,7 +180,7 @@ abbrev pub IsShortPath : List (List ℕ) → Type 0
 IsShortPath path = are_long block2 (path_options path) ≡ false
 
 abbrev pub IsShortOp : Operation → Type 0
-IsShortOp (Calling number r t) = are_long (block_number r.method) (options_of r) ≡ false
+IsShortOp (Calling number r t) = are_long (block_option_number r.method) (options_of r) ≡ false
 IsShortOp (Registering number path) = IsShortPath path
 IsShortOp (Fetching number) = Unit {0}
 IsShortOp (Cancelling number) = Unit {0}
@@ -206,7 +206,7 @@ pub request_spelled : (os : List Observation) (op : Operation) (token : List ℕ
 request_spelled os (Calling k r t) token short paths few =
     spelled r.method None (options_of r ++ block_option t) (payload_of t) token
     (ordered_call r (block_option t) (ordered_block t))
-    (short_join (options_of r) (block_option t) (short_unless_long (block_number r.method) (options_of r) short)
+    (short_join (options_of r) (block_option t) (short_unless_long (block_option_number r.method) (options_of r) short)
     (short_block t)) few
 request_spelled os (Registering k path) token short paths few =
     spelled Get None (option observe (uint 0) ∷ path_options path) [] token

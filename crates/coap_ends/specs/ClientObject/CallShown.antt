@@ -15,7 +15,7 @@ use Rattle.coap_types.specs.declared.request.Request as Q
 use Rattle.coap_types.specs.declared.option_number.TheConstants.{BLOCK2 as block2, BLOCK1 as block1}
 use Rattle.coap_ends.specs.ClientSide.ClientTrace.{Request}
 use Rattle.coap_ends.specs.ClientSide.ClientOwn.{Transfer, Fetches, Uploads, Single}
-use Rattle.coap_ends.specs.ClientSide.ClientQueue.{are_long, block_number}
+use Rattle.coap_ends.specs.ClientSide.ClientQueue.{are_long, block_option_number}
 use Rattle.coap_ends.specs.ClientSide.ClientRequests.{options_of, path_options}
 use Rattle.coap_ends.specs.declared.client.transfer.Transfer as T
 use Rattle.coap_ends.specs.declared.client.transfer.Transfer.TheVariants as transfer
@@ -64,7 +64,7 @@ told r = option_map uint (told_number r.method r)
 -- the options of its longest message fit a message with the largest block (RFC 7252, section 4.6)
 
 abbrev pub is_long : Request → Bool
-is_long r = are_long (block_number r.method) (options_of r)
+is_long r = are_long (block_option_number r.method) (options_of r)
 
 abbrev pub is_long_path : List (List ℕ) → Bool
 is_long_path path = are_long block2 (path_options path)

@@ -33,9 +33,9 @@ abbrev pub are_long : ℕ → List CoapOption → Bool
 are_long block options = nat_lt max_options (length
     (options_bytes 0 (options ++ option block (255 ∷ 255 ∷ 255 ∷ []) ∷ [])))
 
-abbrev pub block_number : Method → ℕ
-block_number Get = block2
-block_number method = block1
+abbrev pub block_option_number : Method → ℕ
+block_option_number Get = block2
+block_option_number method = block1
 
 abbrev pub is_full : Own → Bool
 is_full s = nat_le max_waiting (length s.queue)
@@ -57,7 +57,7 @@ abbrev pub call_answer : Own → Request → Result ℕ CallRefusal
 call_answer s r =
     if is_full s then Err QueueFull
     else (if nat_lt max_body (length r.body) then Err BodyTooLarge
-    else (if are_long (block_number r.method) (options_of r) then Err BadPath
+    else (if are_long (block_option_number r.method) (options_of r) then Err BadPath
     else taken_by s))
 
 abbrev pub observe_answer : Own → List (List ℕ) → Result ℕ CallRefusal

@@ -19,7 +19,7 @@ use Rattle.coap_ends.specs.ClientSide.ClientTrace.{is_value, Request, Reported, 
 use Rattle.coap_ends.specs.ClientSide.ClientTrace.{Ticks}
 use Rattle.coap_ends.specs.ClientSide.ClientOwn.{Operation, Calling, Registering, Fetching, Cancelling, Dropped, Own}
 use Rattle.coap_ends.specs.ClientSide.ClientNumbers.{number_given}
-use Rattle.coap_ends.specs.ClientSide.ClientQueue.{max_numbers, are_long, block_number, observed}
+use Rattle.coap_ends.specs.ClientSide.ClientQueue.{max_numbers, are_long, block_option_number, observed}
 use Rattle.coap_ends.specs.ClientSide.ClientRequests.{path_options, options_of}
 use Rattle.coap_ends.specs.ClientSide.ClientSteps.{reports}
 use Rattle.coap_ends.specs.ClientSide.ClientLaw.{own_of}
@@ -103,7 +103,7 @@ module _ (szx : ℕ) where
   taking_of past r =
       if nat_le max_waiting (length (waiting_in past)) then Err QueueFull
       else (if nat_lt max_body (length r.body) then Err BodyTooLarge
-      else (if are_long (block_number r.method) (options_of r) then Err BadPath
+      else (if are_long (block_option_number r.method) (options_of r) then Err BadPath
       else next_number past))
 
   -- .. and an observation also where so many observations wait, run or are live

@@ -8,7 +8,7 @@ ghost use Rattle.coap_types.specs.OptionValues.{option_with};
 ghost use Rattle.coap_types.specs.Path.{segments_of};
 ghost use Rattle.coap_types.specs.Uint.{uint};
 ghost use Rattle.coap_codec.specs.Spelling.{options_bytes};
-ghost use Rattle.coap_ends.specs.ClientSide.ClientQueue.{block_number};
+ghost use Rattle.coap_ends.specs.ClientSide.ClientQueue.{block_option_number};
 ghost use Rattle.coap_ends.specs.ClientSide.ClientRequests.{after_path, before_path, options_of, path_options};
 ghost use Rattle.coap_ends.specs.ClientSide.ClientTrace.{Request as Asking};
 ghost use Rattle.coap_ends.specs.ClientObject.CallShown.{IsGood, is_long, is_long_path, shown_request};
@@ -138,18 +138,18 @@ pub fn told<A: Allocator + Copy>(request: &Request<A>) -> Option<UintBytes>
 pub fn call_options<'a, A: Allocator + Copy>(
     request: &'a Request<A>,
     told: Option<&'a [u8]>,
-    block_number: u16,
+    number: u16,
     block: Option<&'a [u8]>,
 ) -> RequestOptions<'a>
     requires { option_copied told ≡ told_value (shown_request request.now) }
-    ensures { result ≡ options_of (shown_request request.now) ++ option_with block_number (option_copied block.entry) }
+    ensures { result ≡ options_of (shown_request request.now) ++ option_with number (option_copied block.entry) }
 {
     request.ranges();
     let mut options = RequestOptions::new();
     push_before(&mut options, request);
     options.push_path(request.path.segments());
     push_after(&mut options, request.method, told);
-    options.push_some(block_number, block);
+    options.push_some(number, block);
     options
 }
 
@@ -206,8 +206,8 @@ pub fn get_options<'a, A: Allocator + Copy>(
 const LONGEST_BLOCK: [u8; 3] = [255; 3];
 
 // The number of the Block option of the requests of a method.
-fn block_number(method: Method) -> u16
-    ensures number { result ≡ block_number method }
+fn block_option_number(method: Method) -> u16
+    ensures number { result ≡ block_option_number method }
     ensures least { 17 ≤ result }
     ensures most { result < 65536 }
 {
@@ -225,7 +225,7 @@ pub fn is_long_request<A: Allocator + Copy>(request: &Request<A>) -> bool
 {
     request.ranges();
     let told = told(request);
-    let number = block_number(request.method);
+    let number = block_option_number(request.method);
     let longest = LONGEST_BLOCK;
     let options = call_options(request, bytes_in(&told), number, Some(&longest));
     exceed(&options)
