@@ -11,7 +11,9 @@ pub const WINDOW_MS: u64 = 256_000;
 /// section 4.4).
 pub const MAX_CHANGES_PER_WINDOW: u32 = 4_194_303;
 
-const _: () = prove!(WINDOW_MS == 256_000 && 2 * MAX_CHANGES_PER_WINDOW < 1 << 23);
+const _: () = prove!(WINDOW_MS == 256_000 && MAX_CHANGES_PER_WINDOW == 4_194_303);
+
+const _: () = prove!(2 * MAX_CHANGES_PER_WINDOW < 1 << 23);
 
 /// The changes of a store, as numbers.
 #[derive(Clone, Copy, Debug)]
