@@ -14,3 +14,4 @@ pub mod Ups
 pub mod IdState
 pub mod IdStep
 pub mod Moves
+pub mod Calls

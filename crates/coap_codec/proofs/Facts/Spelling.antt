@@ -1,11 +1,11 @@
 -- The spelling of a message and of its options: there is one, these bytes, and it is as long as its parts (RFC 7252,
 -- sections 3 and 3.1).
-use Rattle.std.proofs.Common.{◌≡◌, ℕ, true, List}
+use Rattle.std.proofs.Common.{◌≡◌, ℕ, ◌+◌, true, List, length}
 use Rattle.std.specs.List.{list_all}
 use Rattle.coap_types.specs.CoapOption.{CoapOption}
 use Rattle.coap_codec.specs.BoundedSpelling.{BoundedSpelling, CanBeSpelled, is_numbered}
 use Rattle.coap_codec.specs.Laws.{OneSpelling, SpelledByItsBytes, SpelledByNoOthers, NoOtherIsSpelled}
-use Rattle.coap_codec.specs.Message.{Message, Spells}
+use Rattle.coap_codec.specs.Message.{Message, Spells, marked}
 use Rattle.coap_codec.specs.OfBytes.{BytesSpellBytes, SpelledInBytes}
 use Rattle.coap_codec.specs.Options.{Options}
 use Rattle.coap_codec.specs.Refused.{ascends, is_short}
@@ -27,6 +27,10 @@ pub options_only : (os : List CoapOption) (base : ℕ) (bytes : List ℕ) → Op
 options_only = law.options_only
 
 -- messages
+
+pub message_length : (m : Message) → length (message_bytes m)
+    ≡ 4 + (length m.token + (length (options_bytes 0 m.options) + length (marked m.payload)))
+message_length = spell.message_length
 
 pub one_spelling : OneSpelling
 one_spelling = one.one_spelling

@@ -24,7 +24,8 @@ use Rattle.coap_layer.proofs.Between.WhatComesByType.{one_message, replied_call}
 use Rattle.coap_layer.proofs.Arrivals.HandedAsSpelled.{handed_so, Heard, heard, IsOf, latest_is}
 use Rattle.coap_layer.proofs.Facts.Hops.{to_far, near_later, earlier, each_hop}
 use Rattle.coap_layer.proofs.Between.WhatArrivesWasSent.{begun_as}
-use Rattle.coap_layer.proofs.Numbers.OneEntryForAnId.{IsBegun, one_con}
+use Rattle.coap_layer.specs.Machine.Calls.{IsBegun}
+use Rattle.coap_layer.proofs.Numbers.OneEntryForAnId.{one_con}
 use Rattle.coap_layer.proofs.Out.EachGoesOut.{goes_out}
 use Rattle.coap_layer.proofs.Between.TakenOnce.{alone, takes_it}
 

@@ -16,7 +16,8 @@ use Rattle.coap_layer.specs.Channel.{HandsUpAs}
 use Rattle.coap_layer.specs.Apart.{Follows, OnNearAfter, ConsApart}
 use Rattle.coap_layer.proofs.Copies.CopiesInTime.{left_same, begun_fresh, one_outstanding}
 use Rattle.coap_layer.proofs.Copies.WhatIsOpen.{copied_by, place_same}
-use Rattle.coap_layer.proofs.Numbers.OneEntryForAnId.{IsBegun, begins_of, begun_once, one_con}
+use Rattle.coap_layer.specs.Machine.Calls.{IsBegun}
+use Rattle.coap_layer.proofs.Numbers.OneEntryForAnId.{begins_of, begun_once, one_con}
 use Rattle.coap_layer.proofs.Facts.Hops.{far_ever, each_hop}
 use Rattle.coap_layer.proofs.Between.WhatComesByType.{Comes, a_con, a_non, a_reply, a_stored, a_reset, comes}
 use Rattle.coap_layer.proofs.Between.WhatComesByType.{spelled_begun}

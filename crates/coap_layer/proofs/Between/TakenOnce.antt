@@ -23,21 +23,15 @@ use Rattle.coap_layer.proofs.Arrivals.HandedAsSpelled.{handed_so}
 use Rattle.coap_layer.proofs.Facts.Hops.{far_ever, each_hop, earlier, near_later}
 use Rattle.coap_layer.proofs.Between.WhatArrivesWasSent.{Came, con_came, non_came, reply_came, came}
 use Rattle.coap_layer.proofs.ListLemmas.{both, and_left, and_right, same_nat}
-use Rattle.coap_layer.proofs.Numbers.OneEntryForAnId.{IsBegun, SendsPlain, begins_of, one_con, no_plain}
+use Rattle.coap_layer.specs.Machine.Calls.{IsBegun, IsTaken}
+use Rattle.coap_layer.proofs.Numbers.OneEntryForAnId.{SendsPlain, begins_of, one_con, no_plain}
 use Rattle.coap_layer.proofs.Arrivals.HandedUpOnce.{up_new}
 
--- what is remembered from there with this Message ID
-pub record Kept (from : Endpoint) (id : ℕ) (e : Entry) : Type 0 where
-  pub message : Incoming
-  pub is : taken e ≡ Some message
-  pub from_is : message.from ≡ from
-  pub id_is : message.message.id ≡ id
-
-pub kept_by : (from : Endpoint) (id : ℕ) (e : Entry) → hands_up from id e ≡ true → Kept from id e
+pub kept_by : (from : Endpoint) (id : ℕ) (e : Entry) → hands_up from id e ≡ true → IsTaken from id e
 kept_by from id e h = go (taken e) refl h
   where
     go : (o : Option Incoming) → taken e ≡ o → elim o [ Some m ↦ is_from from id m | None ↦ false ] ≡ true
-        → Kept from id e
+        → IsTaken from id e
     go None is k = absurd (cc k)
     go (Some m) is k = record {
       message = m;

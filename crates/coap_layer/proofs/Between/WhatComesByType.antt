@@ -21,7 +21,8 @@ use Rattle.coap_layer.specs.Channel.{RepliesAtOnce, RepliesSo}
 use Rattle.coap_types.specs.declared.transmission.TheConstants.{LAST_RETRANSMISSION_MS as last_retransmission}
 use Rattle.coap_layer.proofs.ListLemmas.{same_nat, and_left, and_right}
 use Rattle.coap_layer.proofs.Out.EachGoesOut.{cons_spelled}
-use Rattle.coap_layer.proofs.Numbers.OneEntryForAnId.{IsBegun, SendsPlain, begins_of}
+use Rattle.coap_layer.specs.Machine.Calls.{IsBegun}
+use Rattle.coap_layer.proofs.Numbers.OneEntryForAnId.{SendsPlain, begins_of}
 
 pub one_message : (bytes : List ℕ) (m n : Message) → AreBytes bytes → Spells bytes m → Spells bytes n → m ≡ n
 one_message bytes m n are s t = let a = spelled_decoded bytes m are s in let b =

@@ -15,6 +15,7 @@ use Rattle.coap_layer.specs.Words.{begun, outstanding, numbers}
 use Rattle.coap_layer.specs.Rows.{Busy, Stands, LayerLaw, Row, Arrives, Sorts, HandedAs, rejects, drops, takes_ack}
 use Rattle.coap_layer.specs.Rows.{takes_reset, takes_answer, replays, hands_over, SendsAs, RefusesIds, copies, expires}
 use Rattle.coap_layer.specs.Rows.{rests, HasStep, Fails, CopyDue, IsFirst, Copies}
+use Rattle.coap_layer.specs.Sends.{IsIn, as_begun}
 use Rattle.coap_layer.specs.Follows.{HandedUpOnce, CopyOf, CopiesInTime, IdsApart, OneOutstanding}
 use Rattle.coap_types.proofs.Facts.Traces.{Ever_append}
 use Rattle.coap_types.specs.declared.transmission.TheConstants.{LAST_RETRANSMISSION_MS as last_retransmission}
@@ -28,33 +29,25 @@ pub handed_up_once : (word : ℕ) (t : List Entry) → LayerLaw word t → Hande
 handed_up_once word [] law = tt
 handed_up_once word (e ∷ past) law = ((λ m h. up_new word past e m law.0 h), handed_up_once word past law.1)
 
--- it is in the list
-abbrev pub In : {A : Type 0} → A → List A → Type 0
-In x xs = Ever (λ y. y ≡ x) xs
-
-pub in_option : {A : Type 0} (x : A) (o : Option A) → In x (option_to_list o) → o ≡ Some x
+pub in_option : {A : Type 0} (x : A) (o : Option A) → IsIn x (option_to_list o) → o ≡ Some x
 in_option x (Some y) (inl h) = ap Some h
 in_option x (Some y) (inr h) = absurd h
 in_option x None h = absurd h
 
-pub option_in : {A : Type 0} (x : A) (o : Option A) → o ≡ Some x → In x (option_to_list o)
+pub option_in : {A : Type 0} (x : A) (o : Option A) → o ≡ Some x → IsIn x (option_to_list o)
 option_in x (Some y) h = inl (cc h)
 option_in x None h = absurd (cc h)
 
-pub in_filter_map : {A B : Type 0} (f : A → Option B) (y : B) (xs : List A) → In y (filter_map f xs)
-    → (x : A) × In x xs × (f x ≡ Some y)
+pub in_filter_map : {A B : Type 0} (f : A → Option B) (y : B) (xs : List A) → IsIn y (filter_map f xs)
+    → (x : A) × IsIn x xs × (f x ≡ Some y)
 in_filter_map f y [] h = absurd h
 in_filter_map {A = A} {B = B} f y (x ∷ xs) h = go (f x) refl h (in_filter_map f y xs)
   where
-    go : (o : Option B) → f x ≡ o → In y (cons_option o (filter_map f xs))
-        → (In y (filter_map f xs) → (z : A) × In z xs × (f z ≡ Some y)) → (z : A) × In z (x ∷ xs) × (f z ≡ Some y)
+    go : (o : Option B) → f x ≡ o → IsIn y (cons_option o (filter_map f xs))
+        → (IsIn y (filter_map f xs) → (z : A) × IsIn z xs × (f z ≡ Some y)) → (z : A) × IsIn z (x ∷ xs) × (f z ≡ Some y)
     go (Some w) e (inl k) r = (x, inl refl, e ∙ ap Some k)
     go (Some w) e (inr k) r = let q = r k in (q.0, inr q.1, q.2)
     go None e k r = let q = r k in (q.0, inr q.1, q.2)
-
--- the CON as it was begun
-abbrev pub as_begun : Open → Open
-as_begun c = record c { last = c.first }
 
 -- the CON that is begun
 begun_as : (at : ℕ) (to : Endpoint) (content : Content) (wish : ℕ) (o : Option ℕ) (c : Open)
@@ -97,19 +90,19 @@ left_same e c d h = go (ends_in e.call e.answer c.to c.id) (copies_in e.call e.a
     go false false k = let g : c ≡ d = cc k in ap as_begun g
 
 -- what is outstanding was begun, with the same bytes
-pub was_begun : (t : List Entry) (c : Open) → In c (outstanding t) → Ever (λ b. begun b ≡ Some (as_begun c)) t
+pub was_begun : (t : List Entry) (c : Open) → IsIn c (outstanding t) → Ever (λ b. begun b ≡ Some (as_begun c)) t
 was_begun [] c h = absurd h
 was_begun (e ∷ past) c h = ⊎_elim (old (was_begun past)) new
     (Ever_append (λ y. y ≡ c) (filter_map (left_by e) (outstanding past)) (option_to_list (begun e)) h)
   where
-    new : In c (option_to_list (begun e)) → Ever (λ b. begun b ≡ Some (as_begun c)) (e ∷ past)
+    new : IsIn c (option_to_list (begun e)) → Ever (λ b. begun b ≡ Some (as_begun c)) (e ∷ past)
     new k =
         let is : begun e ≡ Some c = in_option c (begun e) k in
         let f = begun_fresh e.at e.call e.answer c is in
         inl (is ∙ ap (λ (n : ℕ). Some (record c { last = n })) (f.1 ∙ sym f.0))
 
-    old : ((d : Open) → In d (outstanding past) → Ever (λ b. begun b ≡ Some (as_begun d)) past)
-        → In c (filter_map (left_by e) (outstanding past)) → Ever (λ b. begun b ≡ Some (as_begun c)) (e ∷ past)
+    old : ((d : Open) → IsIn d (outstanding past) → Ever (λ b. begun b ≡ Some (as_begun d)) past)
+        → IsIn c (filter_map (left_by e) (outstanding past)) → Ever (λ b. begun b ≡ Some (as_begun c)) (e ∷ past)
     old f k = let q = in_filter_map (left_by e) c (outstanding past) k in
         inr (subst (λ (d : Open). Ever (λ b. begun b ≡ Some d) past) (left_same e q.0 c q.2) (f q.0 q.1))
 
@@ -119,7 +112,7 @@ begun_by word [] c law h = absurd h
 begun_by word (e ∷ past) c law (inl h) = let f = begun_fresh e.at e.call e.answer c h in omega (arith, f.0)
 begun_by word (e ∷ past) c law (inr h) = let k = begun_by word past c law.1 h in omega (arith, k, law.0.time)
 
-pub in_first : (P : Open → Type 0) (c : Open) (cs : List Open) → IsFirst P c cs → In c cs
+pub in_first : (P : Open → Type 0) (c : Open) (cs : List Open) → IsFirst P c cs → IsIn c cs
 in_first P c [] h = h
 in_first P c (x ∷ cs) (inl h) = inl h.0
 in_first P c (x ∷ cs) (inr h) = inr (in_first P c cs h.1)

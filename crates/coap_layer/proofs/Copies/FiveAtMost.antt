@@ -12,7 +12,8 @@ use Rattle.coap_layer.specs.Sends.{AtLeast, IsIn, as_begun, SendsIt, FiveAtMost}
 use Rattle.coap_layer.proofs.Copies.CopiesInTime.{in_option, in_filter_map, left_same, was_begun, in_first, copies_row}
 use Rattle.coap_layer.proofs.Copies.DueMoments.{passed, passed_more, at_most_all, due_passed}
 use Rattle.coap_layer.proofs.Copies.WhatIsOpen.{some_in, first_has, one_open, copied_by, Left, left_of, last_by}
-use Rattle.coap_layer.proofs.Numbers.OneEntryForAnId.{IsBegun, begun_once, begins_of}
+use Rattle.coap_layer.specs.Machine.Calls.{IsBegun}
+use Rattle.coap_layer.proofs.Numbers.OneEntryForAnId.{begun_once, begins_of}
 
 -- how many of them the last sending of an outstanding CON has passed
 abbrev count : Open → ℕ

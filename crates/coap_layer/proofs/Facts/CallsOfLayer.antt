@@ -1,20 +1,12 @@
 -- What a call of the layer leaves of its clock and of the CONs that are outstanding.
-use Rattle.std.proofs.Common.{◌≡◌, ℕ, Some, List, [], ◌∷◌, ◌++◌, refl, ap, sym, ◌∙◌, option_to_list}
+use Rattle.std.proofs.Common.{◌≡◌, ℕ, Some, List, [], ◌∷◌, ◌++◌, refl, ap, sym, ◌∙◌}
 use Rattle.std.specs.List.{filter_map, cons_option}
 use Rattle.std.proofs.lemmas.List.{append-nil}
 use Rattle.coap_layer.specs.Machine.State as L
 use Rattle.coap_layer.specs.Machine.State.{out_of, moment}
-use Rattle.coap_layer.specs.Trace.{Packet, Call, Answer, Entry}
-use Rattle.coap_layer.specs.Words.{Open, left_by, begun_in}
-
--- a call
-
-abbrev pub entry_of : ℕ → Call → Answer → List Packet → Entry
-entry_of at call answer out = record { at = at; call = call; answer = answer; out = out }
-
-abbrev pub opens_then : ℕ → Call → Answer → List Packet → List Open → List Open
-opens_then at call answer out cs = filter_map (left_by (entry_of at call answer out)) cs
-    ++ option_to_list (begun_in at call answer)
+use Rattle.coap_layer.specs.Trace.{Call, Answer, Entry}
+use Rattle.coap_layer.specs.Words.{Open, left_by}
+use Rattle.coap_layer.specs.Machine.Calls.{opens_then}
 
 pub step_clock : (old new : L.State) (now : ℕ) (call : Call) (answer : Answer) → L.Step old now call answer new
     → new.clock ≡ moment old now call

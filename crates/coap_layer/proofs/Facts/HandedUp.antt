@@ -11,32 +11,24 @@ use Rattle.coap_layer.specs.Arrivals.{Arrival, Unreadable, Faulted, Whole, Shows
 use Rattle.coap_layer.specs.Machine.State as L
 use Rattle.coap_layer.specs.Machine.State.{answer_to}
 use Rattle.coap_layer.specs.Machine.Table.{up_of, again_or}
+use Rattle.coap_layer.specs.Machine.Calls.{message_in}
 use Rattle.coap_layer.specs.Trace as T
 use Rattle.coap_layer.specs.Words.{is_con}
 use Rattle.coap_layer.proofs.Facts.Arrivals.{shows_at}
 
--- the message that is handed up
-abbrev pub handed_in : T.Disposition → Option Message
-handed_in (T.Request m kept) = Some m
-handed_in (T.Response m) = Some m
-handed_in _ = None
-
-abbrev pub message_in : T.Answer → Option Message
-message_in (T.Becomes what) = handed_in what
-message_in _ = None
-
--- it is this one, if any
+-- the message that is handed up is this one, if any
 abbrev Only : Message → Option Message → Type 0
 Only n None = Unit {0}
 Only n (Some m) = (n ≡ m)
 
-again_only : (n : Message) (a : T.Disposition) → Only n (handed_in a) → (r f : Bool)
-    → Only n (handed_in (again_or r f a))
+again_only : (n : Message) (a : T.Disposition) → Only n (message_in (T.Becomes a)) → (r f : Bool)
+    → Only n (message_in (T.Becomes (again_or r f a)))
 again_only n a h true f = tt
 again_only n a h false true = tt
 again_only n a h false false = h
 
-up_only : (kind : Kind) (c : Role) (n : Message) (o r f i : Bool) → Only n (handed_in (up_of kind c n o r f i))
+up_only : (kind : Kind) (c : Role) (n : Message) (o r f i : Bool)
+    → Only n (message_in (T.Becomes (up_of kind c n o r f i)))
 up_only Con role.Empty n o r f i = tt
 up_only Con role.Reserved n o r f i = tt
 up_only Con role.Request n o r f i = again_only n (T.Request n true) refl r f
@@ -57,12 +49,12 @@ up_only Rst role.Request n o r f i = tt
 up_only Rst role.Response n o r f i = tt
 up_only Rst role.Reserved n o r f i = tt
 
-fault_none : (b : Bool) → handed_in (cond b T.Rejected T.Dropped) ≡ None
+fault_none : (b : Bool) → message_in (T.Becomes (cond b T.Rejected T.Dropped)) ≡ None
 fault_none true = refl
 fault_none false = refl
 
 spelled_by : (s : L.State) (at : ℕ) (from : Endpoint) (bytes : List ℕ) (m : Message) (what : Arrival) → Shows bytes what
-    → handed_in (answer_to s at from what) ≡ Some m → Spells bytes m
+    → message_in (T.Becomes (answer_to s at from what)) ≡ Some m → Spells bytes m
 spelled_by s at from bytes m Unreadable shows h = absurd (cc h)
 spelled_by s at from bytes m (Faulted kind id) shows h = let k = fault_none (is_con kind) in absurd (cc (h, k))
 spelled_by s at from bytes m (Whole n) shows h =

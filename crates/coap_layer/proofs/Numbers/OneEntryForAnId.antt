@@ -13,6 +13,7 @@ use Rattle.coap_layer.specs.Trace.{Expired, Gives, Entry}
 use Rattle.coap_layer.specs.Words.{Open, sent_by, open_of, begun_in, begun, issued_by, issued, numbers}
 use Rattle.coap_layer.specs.Rows.{LayerLaw}
 use Rattle.coap_layer.specs.Sends.{Begins}
+use Rattle.coap_layer.specs.Machine.Calls.{IsBegun}
 use Rattle.coap_types.specs.declared.transmission.TheConstants.{ID_REUSE_AFTER_MS as id_reuse_after}
 use Rattle.coap_types.specs.declared.transmission.TheConstants.{ACK_TIMEOUT_MS as ack_timeout}
 use Rattle.coap_types.specs.declared.transmission.TheConstants.{TIMEOUT_VALUES as timeout_values}
@@ -113,9 +114,6 @@ module _ (P Q : Entry → Type 0) (g h : Issued) (f : (e : Entry) → P e → Nu
   one_entry word (e ∷ past) law (inr a) (inl b) =
       absurd (fresh word past e h law (k e b) (given_there h g id after P f past a))
   one_entry word (e ∷ past) law (inr a) (inr b) = inr (one_entry word past law.1 a b)
-
-abbrev pub IsBegun : Open → Entry → Type 0
-IsBegun c e = begun e ≡ Some c
 
 -- two CONs under one Message ID, begun no more than 400 s apart, are one
 pub one_con : (word : ℕ) (t : List Entry) (c d : Open) → LayerLaw word t → Ever (IsBegun c) t → Ever (IsBegun d) t
