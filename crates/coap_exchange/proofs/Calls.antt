@@ -5,4 +5,5 @@ pub mod Lists
 pub mod RoomIsKept
 pub mod ServerCalls
 pub mod ServerTicks
+pub mod VerdictsFit
 pub mod WhatIsDue

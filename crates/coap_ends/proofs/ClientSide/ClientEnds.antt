@@ -211,7 +211,7 @@ module _ (server : Endpoint) (szx word : ℕ) where
       not_running is =
           let o = behind.0.runs m w (message_of e.own.observations op) sent
           (ap (λ z. E.Ask m (message_of e.own.observations op) w sent z) (given_so ∙ ap (λ y. Err y) is)) in
-          let k = (exchanges.known server word (input ∷ lower_of szx t) rows_behind.1).1.runs.runs_it o.0 o.1 in
+          let k = exchanges.runs_it server word (input ∷ lower_of szx t) rows_behind.1 o.0 o.1 in
           let none : None ≡ Some o.0 = ap token_in (sym none_runs) ∙ k in
           cc none
 

@@ -13,7 +13,8 @@ use Rattle.coap_layer.specs.Trace as L
 use Rattle.coap_layer.specs.Words.{Open, begun, left_by, outstanding}
 use Rattle.coap_exchange.specs.AskerLaw as X
 use Rattle.coap_exchange.specs.AskerFollows.{last_begun}
-use Rattle.coap_exchange.proofs.Facts.Exchanges.{Lone, fits}
+use Rattle.coap_exchange.specs.Machine.Outstanding.{Lone}
+use Rattle.coap_exchange.proofs.Facts.Exchanges.{fits}
 use Rattle.coap_ends.specs.ClientSide.ClientTrace.{Call}
 use Rattle.coap_ends.specs.ClientSide.ClientLaw.{ClientLaw, own_of, lower_of, layer_of}
 use Rattle.coap_ends.specs.ClientSide.ClientWords.{Sending, sends}

@@ -21,7 +21,8 @@ use Rattle.coap_exchange.specs.AnswererTrace as E
 use Rattle.coap_exchange.specs.AnswererSteps as P
 use Rattle.coap_exchange.specs.AskerRequests.{asked}
 use Rattle.coap_exchange.specs.AskerArrivals.{id_in, replying}
-use Rattle.coap_layer.proofs.Facts.HandedUp.{message_in, spelled}
+use Rattle.coap_layer.specs.Machine.Calls.{message_in}
+use Rattle.coap_layer.proofs.Facts.HandedUp.{spelled}
 use Rattle.coap_ends.proofs.Replying.ClientReplies.{empty_of, ack_spells, reset_spells, So, over}
 
 -- what is handed up

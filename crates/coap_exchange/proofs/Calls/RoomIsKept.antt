@@ -21,7 +21,8 @@ use Rattle.coap_exchange.specs.declared.separate.Deferred.{Deferred}
 use Rattle.coap_exchange.specs.AnswererSteps.{asking_room}
 use Rattle.coap_exchange.specs.AskerArrivals.{replying}
 use Rattle.coap_exchange.specs.Machine.AnswererShown.{Shown, MayNotify}
-use Rattle.coap_layer.proofs.Facts.CallsOfLayer.{entry_of, step_clock, step_opens}
+use Rattle.coap_layer.specs.Machine.Calls.{entry_of}
+use Rattle.coap_layer.proofs.Facts.CallsOfLayer.{step_clock, step_opens}
 
 -- a Message ID that is free stays free
 lt_later : (last now later : ℕ) → now ≤ later → nat_lt (last + id_reuse_after) now ≡ true

@@ -40,7 +40,8 @@ use Rattle.coap_exchange.specs.AskerRequests.{asked}
 use Rattle.coap_exchange.specs.Machine.Listed.{listed}
 use Rattle.coap_exchange.specs.Machine.Outstanding.{over}
 use Rattle.coap_layer.proofs.Facts.StepsOfLayer.{steps_join}
-use Rattle.coap_layer.proofs.Facts.HandedUp.{message_in, spelled}
+use Rattle.coap_layer.specs.Machine.Calls.{message_in}
+use Rattle.coap_layer.proofs.Facts.HandedUp.{spelled}
 use Rattle.coap_layer.proofs.Facts.CallsOfLayer.{step_clock}
 use Rattle.coap_exchange.proofs.Calls.Lists.{over_is}
 

@@ -30,7 +30,8 @@ use Rattle.coap_exchange.specs.Machine.Listed.{listed}
 use Rattle.coap_exchange.specs.Machine.Outstanding.{over}
 use Rattle.coap_layer.proofs.Facts.StepsOfLayer.{steps_join}
 use Rattle.std.proofs.lemmas.Bool.{and_parts}
-use Rattle.coap_layer.proofs.Facts.CallsOfLayer.{entry_of, step_clock, step_opens, left_same_nil}
+use Rattle.coap_layer.specs.Machine.Calls.{entry_of}
+use Rattle.coap_layer.proofs.Facts.CallsOfLayer.{step_clock, step_opens, left_same_nil}
 use Rattle.coap_exchange.proofs.Calls.Lists.{over_is}
 
 clock_then : (a n : ℕ) → max (max a n) n ≡ max a n

@@ -12,7 +12,8 @@ use Rattle.coap_layer.specs.Trace as T
 use Rattle.coap_layer.specs.Words.{Open}
 use Rattle.coap_layer.specs.declared.up.Tick.{Tick}
 use Rattle.coap_layer.specs.declared.up.Tick.TheVariants as tick
-use Rattle.coap_layer.proofs.Facts.CallsOfLayer.{entry_of, step_clock, step_opens, left_same_nil}
+use Rattle.coap_layer.specs.Machine.Calls.{entry_of}
+use Rattle.coap_layer.proofs.Facts.CallsOfLayer.{step_clock, step_opens, left_same_nil}
 use Rattle.coap_exchange.specs.declared.answerer.Asked.{Asked}
 use Rattle.coap_exchange.specs.declared.answerer.Due.TheVariants as due
 use Rattle.coap_exchange.specs.declared.separate.Deferred.{Deferred}

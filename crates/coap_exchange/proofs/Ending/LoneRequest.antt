@@ -1,10 +1,9 @@
 -- The CON that is outstanding is the request of the exchange that runs: what each call does to it.
-use Rattle.std.proofs.Common.{◌≡◌, ◌⊎◌, inl, inr, ◌≤◌, ℕ, ◌*◌, ◌-◌, ◌==◌, Bool, true, false, Option, Some, None, List}
+use Rattle.std.proofs.Common.{◌≡◌, inl, inr, ◌≤◌, ℕ, ◌*◌, ◌-◌, ◌==◌, Bool, true, false, Option, Some, None, List}
 use Rattle.std.proofs.Common.{[], ◌∷◌, ◌++◌, refl, ap, sym, subst, ◌∙◌, ◌&&◌, cond}
 use Rattle.std.specs.List.{filter_map, cons_option}
 use Rattle.std.specs.Cmp.{unsigned_Decides}
 use Rattle.coap_types.specs.declared.endpoint.Endpoint.{Endpoint}
-use Rattle.coap_types.specs.declared.endpoint.Moment.{Moment}
 use Rattle.coap_types.specs.declared.transmission.TheConstants.{FAILURE_TIMEOUTS as failure_timeouts}
 use Rattle.coap_types.specs.SameEndpoint.{same_endpoint}
 use Rattle.coap_types.proofs.Facts.Endpoints.{same_endpoint_is, same_endpoint_self}
@@ -16,29 +15,8 @@ use Rattle.coap_exchange.specs.declared.asker.Exchange.{Exchange}
 use Rattle.coap_exchange.specs.AskerTrace.{Own}
 use Rattle.coap_exchange.specs.AskerArrivals.{has_id, is_of_request}
 use Rattle.coap_exchange.specs.AskerFollows.{Begun}
+use Rattle.coap_exchange.specs.Machine.Outstanding.{IsSent, Lone}
 use Rattle.std.proofs.lemmas.Bool.{and_parts}
-
--- it was sent when the exchange began, and is not acknowledged
-pub record IsSent (server : Endpoint) (x : Exchange) (b : Option Begun) (cs : List Open) : Type 0 where
-  pub con : Open
-  pub only : cs ≡ con ∷ []
-  pub to_is : con.to ≡ server
-  pub id_is : con.id ≡ x.id.0
-  pub unheard : x.acked ≡ None
-  pub begun : Begun
-  pub last : b ≡ Some begun
-  pub first : con.first ≡ begun.at
-  pub timeout : con.timeout ≡ begun.timeout
-
--- it was acknowledged
-pub record IsHeard (x : Exchange) (cs : List Open) : Type 0 where
-  pub none : cs ≡ []
-  pub at : Moment
-  pub since : x.acked ≡ Some at
-
-abbrev pub Lone : Endpoint → Option Exchange → Option Begun → List Open → Type 0
-Lone server None b cs = cs ≡ []
-Lone server (Some x) b cs = IsSent server x b cs ⊎ IsHeard x cs
 
 -- the end of one retransmission
 abbrev pub without : Endpoint → ℕ → List Open → List Open

@@ -22,8 +22,10 @@ use Rattle.coap_exchange.specs.AskerArrivals.{running_after, running_unless, tur
 use Rattle.coap_exchange.specs.AskerLaw.{own_of, lower_of, AskerLaw}
 use Rattle.coap_exchange.specs.AskerFollows.{last_begun, TimesOut, GivesUp, EndInTime}
 use Rattle.coap_layer.proofs.Facts.StepsOfLayer.{steps_split}
-use Rattle.coap_layer.proofs.Facts.CallsOfLayer.{opens_then, step_clock, step_opens, left_same_nil, entry_of}
-use Rattle.coap_exchange.proofs.Ending.LoneRequest.{Lone, failed}
+use Rattle.coap_layer.specs.Machine.Calls.{opens_then, entry_of}
+use Rattle.coap_layer.proofs.Facts.CallsOfLayer.{step_clock, step_opens, left_same_nil}
+use Rattle.coap_exchange.specs.Machine.Outstanding.{IsBeneath, Lone}
+use Rattle.coap_exchange.proofs.Ending.LoneRequest.{failed}
 use Rattle.coap_exchange.proofs.Ending.RequestIsOutstanding.{Opens, ask_opens, refused_lone, sent_lone, settled_opens}
 use Rattle.coap_exchange.proofs.Ending.RequestIsOutstanding.{replying_opens, settling_opens, left_by_verdict}
 use Rattle.coap_exchange.proofs.Ending.RequestIsOutstanding.{turned_lone}
@@ -32,19 +34,14 @@ use Rattle.coap_exchange.proofs.Facts.Moves as move
 use Rattle.coap_exchange.proofs.Facts.Moves.{AskRow, ask_row}
 
 module _ (server : Endpoint) (word : ℕ) where
-  -- the moments are one, and the CON that is outstanding is the request of the exchange that runs
-  pub record Fits (t : List Call) (h : L.State) : Type 0 where
-    pub clock : h.clock ≡ (own_of server word t).clock
-    pub lone : Lone (own_of server word t).server (own_of server word t).running (last_begun server word t) h.open_cons
-
-  module _ (t : List Call) (mid : L.State) (old : Fits t mid) (h : L.State) where
+  module _ (t : List Call) (mid : L.State) (old : IsBeneath server word t mid) (h : L.State) where
     abbrev s : Own
     s = own_of server word t
 
     asked_fits : (now w : ℕ) (r : Request) (below : T.Answer) (answer : Result (List ℕ) AskRefusal)
         → AskRow s r below answer → Opens mid h now s.server (content_of (request_token s r) r) w
         (sent_as (opening_of s r) below)
-        → Fits (Ask now r w below answer ∷ t) h
+        → IsBeneath server word (Ask now r w below answer ∷ t) h
     asked_fits now w r below answer (move.refused e is none) o = record {
       clock = o.clock ∙ ap (λ z. max z now) old.clock;
       lone = subst (λ a. Lone (after s (Ask now r w below answer)).server (after s (Ask now r w below answer)).running
@@ -60,7 +57,7 @@ module _ (server : Endpoint) (word : ℕ) where
 
     received_fits : (now : ℕ) (from : Endpoint) (bytes : List ℕ) (up : T.Answer) (settled : Bool) (answer : _)
         → Steps mid (acts s from up settled (verdict_on s from up) ++ asked now (T.Receive from bytes) up ∷ []) h
-        → Fits (Receive now from bytes up settled answer ∷ t) h
+        → IsBeneath server word (Receive now from bytes up settled answer ∷ t) h
     received_fits now from bytes up settled answer steps =
         let v = verdict_on s from up in
         let first = steps_split mid h (acts s from up settled v) (asked now (T.Receive from bytes) up ∷ []) steps in
@@ -87,7 +84,7 @@ module _ (server : Endpoint) (word : ℕ) where
         }
 
     ticked_fits : (now : ℕ) (below : T.Answer) (answer : Turn) → answer ≡ turn_of s (max s.clock now) below
-        → L.Step mid now T.Ticks below h → Fits (Ticks now below answer ∷ t) h
+        → L.Step mid now T.Ticks below h → IsBeneath server word (Ticks now below answer ∷ t) h
     ticked_fits now below answer right step =
         let at : ℕ = max mid.clock now in
         let out : List T.Packet = out_of mid at T.Ticks in
@@ -101,7 +98,7 @@ module _ (server : Endpoint) (word : ℕ) where
         }
 
   pub fits : (t : List Call) → AskerLaw server word t → (h : L.State) → Steps (L.start word) (lower_of server word t) h
-      → Fits t h
+      → IsBeneath server word t h
   fits [] law h steps = record {
     clock = ap (λ (z : L.State). z.clock) steps;
     lone = ap (λ (z : L.State). z.open_cons) steps;

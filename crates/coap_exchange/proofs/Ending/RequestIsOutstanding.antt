@@ -22,8 +22,10 @@ use Rattle.coap_exchange.specs.AskerRequests.{beneath, opening_of, opened, sent_
 use Rattle.coap_exchange.specs.AskerArrivals.{is_of_request, verdict_on, settles, replying, settling, running_after}
 use Rattle.coap_exchange.specs.AskerArrivals.{running_unless, turn_of, has_waited, acked_in}
 use Rattle.coap_exchange.specs.AskerFollows.{Begun}
-use Rattle.coap_layer.proofs.Facts.CallsOfLayer.{opens_then, entry_of, step_clock, step_opens, left_same, left_same_nil}
-use Rattle.coap_exchange.proofs.Ending.LoneRequest.{Lone, without, ends_of, other_left, copied_left}
+use Rattle.coap_layer.specs.Machine.Calls.{opens_then, entry_of}
+use Rattle.coap_layer.proofs.Facts.CallsOfLayer.{step_clock, step_opens, left_same, left_same_nil}
+use Rattle.coap_exchange.specs.Machine.Outstanding.{Lone}
+use Rattle.coap_exchange.proofs.Ending.LoneRequest.{without, ends_of, other_left, copied_left}
 use Rattle.coap_exchange.proofs.Facts.Verdicts as match
 use Rattle.coap_exchange.proofs.Facts.Verdicts.{OfRequest, of_request}
 use Rattle.coap_exchange.proofs.Facts.Moves.{not_running, opened_none, opened_some}

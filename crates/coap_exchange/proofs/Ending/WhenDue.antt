@@ -32,7 +32,7 @@ use Rattle.coap_exchange.specs.AskerLaw.{own_of, lower_of, AskerLaw}
 use Rattle.coap_exchange.specs.AskerDue.{last_acked, FailsWhenDue, EndWhenDue}
 use Rattle.coap_exchange.specs.AskerFollows.{Begun, last_begun, moment}
 use Rattle.coap_layer.proofs.Facts.StepsOfLayer.{steps_split}
-use Rattle.coap_exchange.proofs.Ending.LoneRequest.{Lone, IsSent}
+use Rattle.coap_exchange.specs.Machine.Outstanding.{Lone, IsSent}
 use Rattle.coap_exchange.proofs.Ending.NoEarlier.{fits}
 use Rattle.coap_exchange.proofs.Facts.Moves as move
 use Rattle.coap_exchange.proofs.Facts.Moves.{AskRow, ask_row, opened_none, opened_some}

@@ -27,7 +27,8 @@ use Rattle.coap_exchange.specs.AskerArrivals.{id_in, replying}
 use Rattle.coap_exchange.specs.EmptyMessages.{ack_bytes}
 use Rattle.coap_layer.proofs.Facts.StepsOfLayer.{steps_split}
 use Rattle.coap_exchange.proofs.Ending.RequestIsOutstanding.{replying_opens}
-use Rattle.coap_layer.proofs.Facts.CallsOfLayer.{opens_then, entry_of, step_opens, left_same, left_same_nil}
+use Rattle.coap_layer.specs.Machine.Calls.{opens_then, entry_of}
+use Rattle.coap_layer.proofs.Facts.CallsOfLayer.{step_opens, left_same, left_same_nil}
 
 -- one goes where the other goes, under its Message ID
 abbrev Mirrors : List Separate → List Open → Type 0

@@ -23,7 +23,7 @@ use Rattle.coap_exchange.specs.Tokens.{is_spent}
 use Rattle.coap_exchange.proofs.Exchanges.OneAtATime.{known}
 use Rattle.coap_exchange.proofs.Ending.NoEarlier.{fits}
 use Rattle.coap_layer.proofs.Facts.StepsOfLayer.{steps_split}
-use Rattle.coap_exchange.proofs.Ending.LoneRequest.{Lone}
+use Rattle.coap_exchange.specs.Machine.Outstanding.{Lone}
 use Rattle.coap_exchange.proofs.Facts.Moves.{token_in, not_running}
 
 -- the layer beneath is not busy where nothing is outstanding

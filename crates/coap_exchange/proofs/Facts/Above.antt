@@ -27,9 +27,6 @@ module _ {Own Call Below Layer : Type 0} (IsRight : Own → Call → Type 0) (af
   chain_own old new (c ∷ earlier) h = h.2.own_is ∙ ap (λ s. after s c) (chain_own old h.0 earlier h.1)
 
   module _ (start : Own) (fresh : Layer) where
-    abbrev Stands : List Call → Type 0
-    Stands = Law IsRight after lower Steps start fresh
-
     -- one call more, where steps of the object beneath can be joined
     pub led_call :
         ((old mid new : Layer) (later earlier : List Below) → Steps old earlier mid → Steps mid later new
@@ -55,14 +52,16 @@ module _ {Own Call Below Layer : Type 0} (IsRight : Own → Call → Type 0) (af
     led_chain join t (c ∷ calls) old new led h =
         led_call join (calls ++ t) c h.0 new (led_chain join t calls old h.0 led h.1) h.2
 
-    pub led_law : (t : List Call) (s : State Own Layer) → Led IsRight after lower Steps start fresh t s → Stands t
+    pub led_law : (t : List Call) (s : State Own Layer) → Led IsRight after lower Steps start fresh t s
+        → Law IsRight after lower Steps start fresh t
     led_law t s led = record { rows = led.rows; left = s.layer; layer = led.layer }
 
     -- the law of the calls before, where they can be split
     pub law_back :
         ((old new : Layer) (later earlier : List Below) → Steps old (later ++ earlier) new
         → (mid : Layer) × Steps old earlier mid × Steps mid later new)
-        → (calls t : List Call) → Stands (calls ++ t) → Stands t
+        → (calls t : List Call) → Law IsRight after lower Steps start fresh (calls ++ t)
+        → Law IsRight after lower Steps start fresh t
     law_back split [] t law = law
     law_back split (c ∷ calls) t law =
         let k = split fresh law.left (lower (sum_of start after (calls ++ t)) c)

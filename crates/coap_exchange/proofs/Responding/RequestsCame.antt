@@ -13,7 +13,8 @@ use Rattle.coap_exchange.specs.AnswererFollows.{AreRequests}
 use Rattle.coap_exchange.specs.AskerRequests.{asked}
 use Rattle.coap_exchange.specs.AskerArrivals.{id_in, replying}
 use Rattle.coap_layer.proofs.Facts.StepsOfLayer.{steps_split}
-use Rattle.coap_layer.proofs.Facts.HandedUp.{message_in, spelled}
+use Rattle.coap_layer.specs.Machine.Calls.{message_in}
+use Rattle.coap_layer.proofs.Facts.HandedUp.{spelled}
 
 abbrev IsOf : Endpoint → Asked → Message → T.Answer → Type 0
 IsOf from a m up = (a ≡ asked_of from m) × (message_in up ≡ Some m)

@@ -1,6 +1,5 @@
 -- A short request may be asked, and a short response given.
-use Rattle.std.proofs.Common.{◌≡◌, ◌≤◌, ◌<◌, ℕ, ◌+◌, ◌++◌, List, [], ◌∷◌, length, arith}
-use Rattle.std.proofs.lemmas.List.{length-append}
+use Rattle.std.proofs.Common.{◌≤◌, ◌<◌, ℕ, ◌+◌, List, [], ◌∷◌, length, arith}
 use Rattle.coap_types.specs.declared.message.Kind.{Kind}
 use Rattle.coap_types.specs.declared.limits.TheConstants.{MAX_MESSAGE_LEN as max_message_len}
 use Rattle.coap_types.specs.declared.message.TheConstants.{MESSAGE_IDS as message_ids}
@@ -8,9 +7,8 @@ use Rattle.coap_types.specs.declared.token.TheConstants.{MAX_TOKEN_LEN as max_to
 use Rattle.coap_layer.proofs.Facts.Sendable.{sendable_when_short}
 use Rattle.coap_layer.specs.Trace.{with_head}
 use Rattle.coap_codec.specs.BoundedSpelling.{CanBeSpelled, most_bytes}
-use Rattle.coap_codec.specs.Message.{Message, marked}
-use Rattle.coap_codec.specs.Spelling.{message_bytes, options_bytes}
-use Rattle.coap_codec.proofs.Facts.Spelling.{spelled_by}
+use Rattle.coap_codec.specs.Message.{marked}
+use Rattle.coap_codec.proofs.Facts.Spelling.{message_length, spelled_by}
 use Rattle.coap_exchange.specs.AskerRequests.{content_of}
 use Rattle.coap_exchange.specs.ShortRequests.{IsAskableWhenShort, IsAskableWhenShortExactly}
 use Rattle.coap_exchange.specs.AnswererSteps as answer
@@ -35,14 +33,6 @@ askable_when_short r s token few =
     (shorter (length token) (most_bytes r.options + (1 + length r.payload)) few s.fits)
 
 -- by the very length of the options
-
-message_length : (m : Message) → length (message_bytes m)
-    ≡ 4 + (length m.token + (length (options_bytes 0 m.options) + length (marked m.payload)))
-message_length m = omega (
-  arith,
-  length-append m.token (options_bytes 0 m.options ++ marked m.payload),
-  length-append (options_bytes 0 m.options) (marked m.payload),
-)
 
 marked_most : (payload : List ℕ) → length (marked payload) ≤ 1 + length payload
 marked_most [] = omega arith

@@ -11,7 +11,8 @@ use Rattle.coap_exchange.specs.declared.matching.Verdict.TheVariants.{NoticeCon,
 use Rattle.coap_exchange.specs.AskerTrace.{Own}
 use Rattle.coap_exchange.specs.AskerArrivals.{told, verdict_on}
 use Rattle.coap_exchange.specs.AskerFollows.{message_told}
-use Rattle.coap_layer.proofs.Facts.HandedUp.{message_in, spelled}
+use Rattle.coap_layer.specs.Machine.Calls.{message_in}
+use Rattle.coap_layer.proofs.Facts.HandedUp.{spelled}
 use Rattle.coap_exchange.proofs.Facts.Verdicts.{Fits, verdict_fits}
 
 -- what is told is what was handed up

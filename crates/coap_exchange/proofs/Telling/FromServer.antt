@@ -18,7 +18,8 @@ use Rattle.coap_exchange.specs.AskerArrivals.{told, verdict_on, acts}
 use Rattle.coap_exchange.specs.AskerLaw.{own_of, lower_of, AskerLaw}
 use Rattle.coap_exchange.specs.AskerFollows.{carried, AreFromServer}
 use Rattle.coap_layer.proofs.Facts.StepsOfLayer.{steps_split}
-use Rattle.coap_layer.proofs.Facts.HandedUp.{message_in, spelled}
+use Rattle.coap_layer.specs.Machine.Calls.{message_in}
+use Rattle.coap_layer.proofs.Facts.HandedUp.{spelled}
 use Rattle.coap_exchange.proofs.Facts.Verdicts.{Fits, verdict_fits}
 
 opened_server : (s : Own) (r : Request) (o : Option ℕ) → (opened s r o).server ≡ s.server
