@@ -3,11 +3,10 @@ use Rattle.std.proofs.Common.{◌≡◌, ◌≢◌, ◌≤◌, ℕ, Bool, true, 
 use Rattle.std.proofs.Common.{sym, subst, arith, Option, Some, None, IfSome, is_some, if◌then◌else◌, length-append}
 use Rattle.std.specs.List.{filter}
 use Rattle.coap_resource.specs.declared.entry.Entry.{Entry}
-use Rattle.coap_resource.specs.declared.tally.Tally.{Tally}
 use Rattle.coap_types.specs.Path.{same_path}
 use Rattle.coap_types.specs.declared.limits.TheConstants.{MAX_BODY_LEN as max_body_len}
 use Rattle.coap_resource.specs.Content.{Held, Changes}
-use Rattle.coap_resource.specs.Rate.{counted}
+use Rattle.coap_resource.specs.Rate.{Tally, counted}
 use Rattle.coap_resource.specs.Entries.{entry_of, held_entries, find, without_path, Unique, AreShort, Enters, Listed}
 use Rattle.coap_resource.specs.Entries.{content_of}
 use Rattle.coap_types.proofs.Facts.Paths.{same_path-decides}

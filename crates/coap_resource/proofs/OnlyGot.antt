@@ -9,23 +9,9 @@ use Rattle.coap_resource.specs.declared.refusal.StoreRefusal.{StoreRefusal}
 use Rattle.coap_resource.specs.Content.{Content, Held, append_refusal, put_refusal}
 use Rattle.coap_resource.specs.Rate.{rate_refusal}
 use Rattle.coap_resource.specs.RequestOptions.{precondition_fails}
-use Rattle.coap_resource.specs.Serves.{Question, Reply, bare, got, refusal_code, PutBy, JoinBy, PostBy}
+use Rattle.coap_resource.specs.ServedLaw.{IsGot, IsOfGet}
+use Rattle.coap_resource.specs.Serves.{Question, Reply, bare, refusal_code, PutBy, JoinBy, PostBy}
 use Rattle.coap_resource.specs.Serves.{RemoveBy, DeleteBy, ServesMethod, ServesUnless, Serves}
-
--- none of those has this code
-pub record IsOfGet (code : ℕ) : Type 0 where
-  pub refused : (why : StoreRefusal) → (refusal_code why == code) ≡ false
-  pub created : (codes.CREATED.0 == code) ≡ false
-  pub changed : (codes.CHANGED.0 == code) ≡ false
-  pub deleted : (codes.DELETED.0 == code) ≡ false
-  pub not_found : (codes.NOT_FOUND.0 == code) ≡ false
-  pub failed : (codes.PRECONDITION_FAILED.0 == code) ≡ false
-
--- the reply to a GET, which changes nothing
-pub record IsGot (old : Content) (q : Question) (reply : Reply) (new : Content) : Type 0 where
-  pub method : q.method ≡ Get
-  pub is : reply ≡ got (old.holds q.path) q
-  pub same : new ≡ old
 
 pub other_code : (code : ℕ) (reply : Reply) (other offset : ℕ) → reply ≡ bare other offset → (other == code) ≡ false
     → reply.code ≡ code → ⊥

@@ -3,15 +3,14 @@
 use Rattle.std.proofs.Common.{◌≡◌, ◌≢◌, ◌≤◌, ◌<◌, ℕ, Bool, true, false, ◌&&◌, ◌+◌, ◌==◌, ◌∙◌, max, ◌↔◌, List, [], ◌∷◌}
 use Rattle.std.proofs.Common.{refl, sym, ap, arith, Some, None, if◌then◌else◌, leb}
 use Rattle.std.proofs.lemmas.Grind.{common_steps}
-use Rattle.coap_resource.specs.declared.tally.Tally.{Tally}
-use Rattle.coap_resource.specs.Rate.{window, used, rate_refusal, waited, counted}
+use Rattle.coap_resource.specs.Rate.{Tally, window, used, rate_refusal, waited, counted}
 use Rattle.coap_resource.specs.Content.{Content, nothing}
 use Rattle.coap_resource.specs.declared.refusal.StoreRefusal.TheVariants.{RateExceeded, VersionsSpent}
 use Rattle.coap_resource.specs.RateLaw.{Goes, Leads, last, changes_between, changes_in, CountLaw, ExceededLaw, RateLaw}
 
 -- what a tally says of the calls
 pub record Counts (limit : ℕ) (calls : List (ℕ × Bool)) (t : Tally) : Type 0 where
-  pub clock : t.clock.0 ≡ last calls
+  pub clock : t.clock ≡ last calls
   pub limited : t.limit ≡ limit
   pub now : t.changes ≡ changes_in (window (last calls)) calls
   pub each : (w : ℕ) → changes_in w calls ≤ limit

@@ -9,9 +9,9 @@ use Rattle.coap_resource.specs.declared.refusal.StoreRefusal.TheVariants.{Memory
 use Rattle.coap_resource.specs.declared.refusal.StoreRefusal.TheVariants.{VersionsSpent}
 use Rattle.coap_resource.specs.Content.{Content, Held}
 use Rattle.coap_resource.specs.RequestOptions.{accepts, etag_names, block_of, offset_by, tag_of, szx_by}
-use Rattle.coap_resource.specs.ServedLaw.{IsContent, ContentLaw}
+use Rattle.coap_resource.specs.ServedLaw.{IsContent, IsOfGet, ContentLaw}
 use Rattle.coap_resource.specs.Serves.{Question, Reply, bare, got, refusal_code, content_reply}
-use Rattle.coap_resource.proofs.OnlyGot.{IsOfGet, only_got, other_code}
+use Rattle.coap_resource.proofs.OnlyGot.{only_got, other_code}
 
 abbrev content : ℕ
 content = codes.CONTENT.0

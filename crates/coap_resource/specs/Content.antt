@@ -1,13 +1,12 @@
 -- What a store holds, when a change of it is refused, and what a change is (RFC 7252, section 5.8).
-use Rattle.std.specs.Prelude.{◌≡◌, ◌≢◌, ℕ, not, ◌&&◌, ◌+◌, nat_lt, nat_le, List, length, Option, Some, None, is_some}
-use Rattle.std.specs.Prelude.{if◌then◌else◌}
+use Rattle.std.specs.Prelude.{◌≡◌, ◌≢◌, ℕ, Bool, not, ◌&&◌, ◌+◌, nat_lt, nat_le, List, length, Option, Some, None}
+use Rattle.std.specs.Prelude.{is_some, if◌then◌else◌}
 use Rattle.coap_resource.specs.declared.refusal.StoreRefusal.{StoreRefusal}
 use Rattle.coap_resource.specs.declared.refusal.StoreRefusal.TheVariants.{Memory, TooLarge, TooManyPaths, RateExceeded}
 use Rattle.coap_resource.specs.declared.refusal.StoreRefusal.TheVariants.{VersionsSpent}
 use Rattle.coap_types.specs.declared.limits.TheConstants.{MAX_BODY_LEN as max_body_len}
 use Rattle.coap_resource.specs.declared.store.TheConstants.{MAX_PATHS as max_paths}
-use Rattle.coap_resource.specs.declared.tally.Tally.{Tally}
-use Rattle.coap_resource.specs.Rate.{unused, rate_refusal, waited, counted}
+use Rattle.coap_resource.specs.Rate.{Tally, unused, rate_refusal, waited, counted}
 
 -- what a path holds: the number of the change that made it, the format, and the body
 pub record Held : Type 0 where
@@ -37,17 +36,25 @@ refusal_number TooManyPaths = 3
 refusal_number RateExceeded = 4
 refusal_number VersionsSpent = 5
 
--- why a path can't be given a body of this length, in the order of the tests
-abbrev pub put_refusal : Content → ℕ → List (List ℕ) → ℕ → Option StoreRefusal
-put_refusal s now path len =
+-- why a body of this length can't be put, in the order of the tests, where the path holds something or not and so many
+-- paths do
+abbrev pub put_refusal_by : Tally → ℕ → Bool → ℕ → ℕ → Option StoreRefusal
+put_refusal_by tally now there paths len =
     if nat_lt max_body_len len then Some TooLarge
-    else if not (is_some (s.holds path)) && nat_le max_paths s.paths then Some TooManyPaths
-    else rate_refusal s.tally now
+    else if not there && nat_le max_paths paths then Some TooManyPaths
+    else rate_refusal tally now
 
--- why so many bytes can't be joined to what a path holds, in the order of the tests
+-- why a path can't be given a body of this length
+abbrev pub put_refusal : Content → ℕ → List (List ℕ) → ℕ → Option StoreRefusal
+put_refusal s now path len = put_refusal_by s.tally now (is_some (s.holds path)) s.paths len
+
+-- why so many bytes can't be joined to a body of this length, in the order of the tests
+abbrev pub append_refusal_by : Tally → ℕ → ℕ → ℕ → Option StoreRefusal
+append_refusal_by tally now had len = if nat_lt max_body_len (had + len) then Some TooLarge else rate_refusal tally now
+
+-- why so many bytes can't be joined to what a path holds
 abbrev pub append_refusal : Content → ℕ → Held → ℕ → Option StoreRefusal
-append_refusal s now held len = if nat_lt max_body_len (length held.body + len) then Some TooLarge else
-    rate_refusal s.tally now
+append_refusal s now held len = append_refusal_by s.tally now (length held.body) len
 
 -- one change: this path holds that from now on, and the others what they held
 pub record Changes (old : Content) (now : ℕ) (path : List (List ℕ)) (held : Option Held) (new : Content) : Type 0 where

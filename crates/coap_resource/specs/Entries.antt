@@ -6,8 +6,8 @@ use Rattle.coap_types.specs.Path.{same_path}
 use Rattle.coap_resource.specs.declared.entry.Entry.{Entry}
 use Rattle.coap_resource.specs.declared.representation.Representation.{Representation}
 use Rattle.coap_types.specs.declared.limits.TheConstants.{MAX_BODY_LEN as max_body_len}
-use Rattle.coap_resource.specs.declared.tally.Tally.{Tally}
 use Rattle.coap_resource.specs.Content.{Held, Content}
+use Rattle.coap_resource.specs.Rate.{Tally}
 use Rattle.coap_resource.specs.Shown.{held_of}
 
 abbrev pub entry_of : {A : Type 0} → Entry A → List (List ℕ) × Held

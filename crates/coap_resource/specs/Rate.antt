@@ -3,12 +3,22 @@
 use Rattle.std.specs.Prelude.{ℕ, ◌+◌, ◌-◌, ◌^◌, ◌/◌, ◌==◌, max, nat_le, Option, Some, None, if◌then◌else◌}
 use Rattle.coap_resource.specs.declared.refusal.StoreRefusal.{StoreRefusal}
 use Rattle.coap_resource.specs.declared.refusal.StoreRefusal.TheVariants.{RateExceeded, VersionsSpent}
-use Rattle.coap_resource.specs.declared.tally.Tally.{Tally}
 use Rattle.coap_resource.specs.declared.tally.TheConstants.{WINDOW_MS as window_ms}
+
+-- the changes of a store, as numbers
+pub record Tally : Type 0 where
+  -- how many there were: the version of the last one
+  pub version : ℕ
+  -- the last moment that counted, in ms
+  pub clock : ℕ
+  -- how many a window takes
+  pub limit : ℕ
+  -- how many there were in the window of that moment
+  pub changes : ℕ
 
 -- no change yet, and no moment
 abbrev pub unused : ℕ → Tally
-unused limit = record { version = 0; clock = record { 0 = 0 }; limit = limit; changes = 0 }
+unused limit = record { version = 0; clock = 0; limit = limit; changes = 0 }
 
 -- the window of a moment, by its number
 abbrev pub window : ℕ → ℕ
@@ -16,7 +26,7 @@ window moment = moment / window_ms
 
 -- the changes in the window of a moment; a moment before the last one counts as the last one
 abbrev pub used : Tally → ℕ → ℕ
-used t now = if window (max t.clock.0 now) == window t.clock.0 then t.changes else 0
+used t now = if window (max t.clock now) == window t.clock then t.changes else 0
 
 -- why there is no further change: the window is full, or the version is the greatest of 64 bits
 abbrev pub rate_refusal : Tally → ℕ → Option StoreRefusal
@@ -27,8 +37,8 @@ rate_refusal t now =
 
 -- a moment that counts, and changes nothing
 abbrev pub waited : Tally → ℕ → Tally
-waited t now = record t { clock = record { 0 = max t.clock.0 now }; changes = used t now }
+waited t now = record t { clock = max t.clock now; changes = used t now }
 
 -- a change at a moment
 abbrev pub counted : Tally → ℕ → Tally
-counted t now = record t { version = t.version + 1; clock = record { 0 = max t.clock.0 now }; changes = used t now + 1 }
+counted t now = record t { version = t.version + 1; clock = max t.clock now; changes = used t now + 1 }

@@ -4,10 +4,27 @@ use Rattle.std.specs.Prelude.{◌≡◌, ◌⊎◌, ℕ, Bool, false, ◌&&◌, 
 use Rattle.std.specs.Prelude.{None, is_some}
 use Rattle.coap_types.specs.declared.message.TheConstants.Code as codes
 use Rattle.coap_types.specs.declared.request.Method.TheVariants.{Get}
+use Rattle.coap_resource.specs.declared.refusal.StoreRefusal.{StoreRefusal}
 use Rattle.coap_resource.specs.Content.{Content, Held, later}
 use Rattle.coap_types.specs.Piece.{Piece}
 use Rattle.coap_resource.specs.RequestOptions.{block_of, offset_by, szx_by}
-use Rattle.coap_resource.specs.Serves.{Question, Reply, Serves, content_reply}
+use Rattle.coap_resource.specs.Serves.{Question, Reply, Serves, content_reply, got, refusal_code}
+
+-- a code that no refusal of the store has, nor 2.01, 2.04, 2.02, 4.04 or 4.12: so no POST, PUT or DELETE is answered
+-- with it, and no precondition that fails
+pub record IsOfGet (code : ℕ) : Type 0 where
+  pub refused : (why : StoreRefusal) → (refusal_code why == code) ≡ false
+  pub created : (codes.CREATED.0 == code) ≡ false
+  pub changed : (codes.CHANGED.0 == code) ≡ false
+  pub deleted : (codes.DELETED.0 == code) ≡ false
+  pub not_found : (codes.NOT_FOUND.0 == code) ≡ false
+  pub failed : (codes.PRECONDITION_FAILED.0 == code) ≡ false
+
+-- a GET, which is answered by what its path holds, and changes nothing
+pub record IsGot (old : Content) (q : Question) (reply : Reply) (new : Content) : Type 0 where
+  pub method : q.method ≡ Get
+  pub is : reply ≡ got (old.holds q.path) q
+  pub same : new ≡ old
 
 -- a GET of what a path holds, of a block that begins within the body
 pub record IsContent (old : Content) (q : Question) (reply : Reply) (new : Content) : Type 0 where

@@ -1,5 +1,5 @@
 ghost use Rattle.std.specs.Prelude.{◌≡◌, ◌<◌, ◌≤◌, vec_len, ◌++◌, [], ◌∷◌, not, OnOk, OnErr, vec_capacity};
-ghost use Rattle.std.specs.Prelude.{option_copied};
+ghost use Rattle.std.specs.Prelude.{length, option_copied};
 ghost use Rattle.std.specs.List.{filter};
 ghost use Rattle.coap_types.specs.Path.{same_path};
 ghost use Rattle.coap_resource.specs.Entries.{find, held_entries, without_path};
@@ -27,6 +27,13 @@ pub(crate) fn find<'a, A: Allocator + Copy>(
             }
         }
     }
+}
+
+/// How many paths hold something.
+pub(crate) fn paths<A: Allocator + Copy>(entries: &[Entry<A>]) -> usize
+    ensures { result ≡ length (held_entries entries.now) }
+{
+    entries.len()
 }
 
 /// Takes the path's entry out.

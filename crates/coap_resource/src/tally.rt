@@ -1,8 +1,12 @@
-ghost use Rattle.std.specs.Prelude.{◌≡◌, ◌<◌, None, max};
-ghost use Rattle.coap_resource.specs.Rate.{counted, rate_refusal, used, waited, window};
+ghost use Rattle.std.specs.Prelude.{◌≡◌, ◌<◌, ◌≤◌, ◌+◌, None, max};
+ghost use Rattle.coap_resource.specs.Content.{append_refusal_by, put_refusal_by};
+ghost use Rattle.coap_resource.specs.Rate.{counted, rate_refusal, unused, used, waited, window};
 
 use crate::refusal::StoreRefusal;
+use crate::store::MAX_PATHS;
 use coap_types::Moment;
+use coap_types::limits::MAX_BODY_LEN;
+use std::marker::Model;
 
 /// How long a window is in which changes are counted, in milliseconds (profile: the 256 s within
 /// which sequence numbers have to tell notifications apart, RFC 7641, section 4.4).
@@ -28,6 +32,21 @@ pub(crate) struct Tally {
     pub(crate) changes: u32,
 }
 
+impl Model for Tally {
+    ghost use Rattle.coap_resource.specs.Rate.{Tally};
+
+    ghost Value = { Tally };
+
+    ghost view = { λ t. record { version = t.version; clock = t.clock.0; limit = t.limit; changes = t.changes } };
+
+    ghost inverse = { λ t. record {
+      version = t.version;
+      clock = record { 0 = t.clock };
+      limit = t.limit;
+      changes = t.changes;
+    } };
+}
+
 // The window of a moment, by its number.
 fn window(moment: Moment) -> u64
     ensures { result ≡ window moment.0 }
@@ -36,9 +55,21 @@ fn window(moment: Moment) -> u64
 }
 
 impl Tally {
+    /// No change yet, and no moment.
+    pub(crate) fn new(changes_per_window: u32) -> Tally
+        ensures { result ≡ unused changes_per_window }
+    {
+        Tally {
+            version: 0,
+            clock: Moment(0),
+            limit: changes_per_window,
+            changes: 0,
+        }
+    }
+
     // The last moment that counted, when this one has: one before the last counts as the last.
     fn clock_at(&self, now: Moment) -> Moment
-        ensures { result.0 ≡ max self.now.clock.0 now.0 }
+        ensures { result.0 ≡ max self.now.clock now.0 }
     {
         self.clock.max(now)
     }
@@ -67,6 +98,43 @@ impl Tally {
             return Some(StoreRefusal::VersionsSpent);
         }
         None
+    }
+
+    /// Why a body of this length can't be put, where the path holds something or not and so many paths do.
+    pub(crate) fn put_refusal(
+        &self,
+        now: Moment,
+        there: bool,
+        paths: usize,
+        len: usize,
+    ) -> Option<StoreRefusal>
+        ensures refusal { result ≡ put_refusal_by self.now now.0 there paths len }
+        ensures rate { result ≡ None → rate_refusal self.now now.0 ≡ None }
+        ensures room { result ≡ None → used self.now now.0 < self.now.limit }
+        ensures next { result ≡ None → self.now.version < u64.MAX }
+        ensures short { result ≡ None → len ≤ MAX_BODY_LEN }
+    {
+        if len > MAX_BODY_LEN {
+            return Some(StoreRefusal::TooLarge);
+        }
+        if !there && paths >= MAX_PATHS {
+            return Some(StoreRefusal::TooManyPaths);
+        }
+        self.refusal(now)
+    }
+
+    /// Why so many bytes can't be joined to a body of this length.
+    pub(crate) fn append_refusal(&self, now: Moment, had: usize, len: usize) -> Option<StoreRefusal>
+        ensures refusal { result ≡ append_refusal_by self.now now.0 had len }
+        ensures rate { result ≡ None → rate_refusal self.now now.0 ≡ None }
+        ensures room { result ≡ None → used self.now now.0 < self.now.limit }
+        ensures next { result ≡ None → self.now.version < u64.MAX }
+        ensures short { result ≡ None → had + len ≤ MAX_BODY_LEN }
+    {
+        if had.saturating_add(len) > MAX_BODY_LEN {
+            return Some(StoreRefusal::TooLarge);
+        }
+        self.refusal(now)
     }
 
     /// The tally when this moment has counted, and nothing changed.

@@ -9,8 +9,9 @@ use Rattle.coap_resource.specs.declared.refusal.StoreRefusal.TheVariants.{Memory
 use Rattle.coap_resource.specs.declared.refusal.StoreRefusal.TheVariants.{VersionsSpent}
 use Rattle.coap_resource.specs.Content.{Content, Held}
 use Rattle.coap_resource.specs.RequestOptions.{accepts, etag_names, block_of, offset_by, tag_of, szx_by}
+use Rattle.coap_resource.specs.ServedLaw.{IsOfGet}
 use Rattle.coap_resource.specs.Serves.{Question, Reply, Serves, bare, got, refusal_code, content_reply}
-use Rattle.coap_resource.proofs.Facts.Served.{IsOfGet, only_got, other_code}
+use Rattle.coap_resource.proofs.Facts.Served.{only_got, other_code}
 
 abbrev valid : ℕ
 valid = codes.VALID.0

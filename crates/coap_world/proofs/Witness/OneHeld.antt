@@ -4,8 +4,7 @@ use Rattle.std.proofs.Common.{refl, ap, sym, ◌∙◌, cond}
 use Rattle.coap_types.specs.Path.{same_path}
 use Rattle.coap_types.proofs.Facts.Paths.{same_path-decides}
 use Rattle.coap_resource.specs.Content.{Content, Held, Changes, nothing}
-use Rattle.coap_resource.specs.Rate.{counted, unused}
-use Rattle.coap_resource.specs.declared.tally.Tally.{Tally}
+use Rattle.coap_resource.specs.Rate.{Tally, counted, unused}
 
 abbrev pub one : List (List ℕ) → Held → Tally → Content
 one path held tally = record { holds = λ other. cond (same_path path other) (Some held) None; paths = 1; tally = tally }

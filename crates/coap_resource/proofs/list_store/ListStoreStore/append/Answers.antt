@@ -6,7 +6,7 @@ pub invariant_of-self-2 : goal.invariant_of-self-2
 invariant_of-self-2 g c =
     let body = rw c.deref-2.ensures at c.in_ok-body.ensures in
     let short = short_joined _ c.in-Some.held.now.body c.args.body.now body
-    (c.in_default-append_refusal.ensures.short refl) in
+    (rw c.len.ensures.value at c.in_default-append_refusal.ensures.short refl) in
     rw c.in_ok-put_in.ensures.ok (unique_put _ _ _ c.self.invariant.0, short_put _ _ _ c.self.invariant.1 short)
 
 pub returns-clause-change : goal.returns-clause-change
