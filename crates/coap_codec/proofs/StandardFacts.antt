@@ -1,12 +1,10 @@
 -- Figures of RFC 7252, said of the specs, so that a slip in a definition or in a test does not check.
-use Rattle.std.proofs.Common.{◌≡◌, ℕ, Bool, true, List, [], ◌∷◌, Ok, Err, refl, arith}
-use Rattle.std.proofs.lemmas.Bool.{and_parts, ltb-true}
+use Rattle.std.proofs.Common.{◌≡◌, ℕ, true, List, [], ◌∷◌, Ok, Err, refl, arith}
 use Rattle.std.specs.Prelude.{nat_lt, codes}
 use Rattle.std.specs.List.{list_all}
 use Rattle.coap_types.specs.declared.message.Kind.TheVariants.{Con, Non, Ack, Rst}
-use Rattle.coap_types.proofs.Facts.Bytes.{AreBytes-cons, AreBytes-nil}
+use Rattle.coap_types.proofs.Facts.Bytes.{bytes_are}
 use Rattle.coap_codec.specs.Extension.{Ext}
-use Rattle.coap_types.specs.Bytes.{AreBytes}
 use Rattle.coap_codec.specs.Message.{Message, Spells}
 use Rattle.coap_codec.specs.Faulty.{Faulty}
 use Rattle.coap_codec.specs.declared.fault.Reason.{Reason}
@@ -44,16 +42,8 @@ greatest_length = (omega arith, omega arith, refl, refl)
 
 -- ---- messages, from their bytes
 
-abbrev pub is_byte : ℕ → Bool
-is_byte b = nat_lt b 256
-
-bytes_are : (bytes : List ℕ) → list_all is_byte bytes ≡ true → AreBytes bytes
-bytes_are [] e = AreBytes-nil
-bytes_are (b ∷ bytes) e =
-    let p = and_parts (is_byte b) (list_all is_byte bytes) e in
-    AreBytes-cons b bytes (ltb-true b 256 p.0) (bytes_are bytes p.1)
-
-spelled : (bytes : List ℕ) (m : Message) → list_all is_byte bytes ≡ true → decoded bytes ≡ Ok m → Spells bytes m
+spelled : (bytes : List ℕ) (m : Message) → list_all (λ b. nat_lt b 256) bytes ≡ true → decoded bytes ≡ Ok m
+    → Spells bytes m
 spelled bytes m fits read = message_reads bytes (bytes_are bytes fits) m read
 
 -- a Confirmable request, GET /temperature, and its piggybacked response (Appendix A)
@@ -118,7 +108,7 @@ greatest_option = spelled _ _ refl refl
 
 -- ---- faults
 
-at_fault : (bytes : List ℕ) (reason : Reason) (at : ℕ) → list_all is_byte bytes ≡ true
+at_fault : (bytes : List ℕ) (reason : Reason) (at : ℕ) → list_all (λ b. nat_lt b 256) bytes ≡ true
     → decoded bytes ≡ Err (reason, at) → Faulty bytes reason at
 at_fault bytes reason at fits read = message_faults bytes (bytes_are bytes fits) reason at read
 

@@ -1,7 +1,8 @@
 -- Parts of bytes are bytes.
-use Rattle.std.proofs.Common.{ℕ, ◌<◌, List, [], ◌∷◌, ◌++◌, take, drop, length, subst, sym, arith, inl, inr}
-use Rattle.std.specs.Prelude.{slice_index}
-use Rattle.std.proofs.lemmas.Bool.{cases_lt}
+use Rattle.std.proofs.Common.{◌≡◌, ℕ, true, ◌<◌, List, [], ◌∷◌, ◌++◌, take, drop, length, subst, sym, arith, inl, inr}
+use Rattle.std.specs.Prelude.{nat_lt, slice_index}
+use Rattle.std.specs.List.{list_all}
+use Rattle.std.proofs.lemmas.Bool.{and_parts, cases_lt, ltb-true}
 use Rattle.std.proofs.lemmas.List.{get_or_past, take-append-drop}
 use Rattle.std.proofs.lemmas.List.Elements.{All-append, All-cons, All-from_get_or, All-get_or, All-nil, All-tail}
 use Rattle.coap_types.specs.Bytes.{AreBytes}
@@ -14,6 +15,13 @@ AreBytes-nil = All-nil is_byte
 
 pub AreBytes-cons : (b : ℕ) (bytes : List ℕ) → b < 256 → AreBytes bytes → AreBytes (b ∷ bytes)
 AreBytes-cons b bytes = All-cons is_byte b bytes
+
+-- bytes, by a test
+pub bytes_are : (bytes : List ℕ) → list_all (λ b. nat_lt b 256) bytes ≡ true → AreBytes bytes
+bytes_are [] e = AreBytes-nil
+bytes_are (b ∷ bytes) e =
+    let p = and_parts (nat_lt b 256) (list_all (λ x. nat_lt x 256) bytes) e in
+    AreBytes-cons b bytes (ltb-true b 256 p.0) (bytes_are bytes p.1)
 
 pub AreBytes-tail : (b : ℕ) (bytes : List ℕ) → AreBytes (b ∷ bytes) → AreBytes bytes
 AreBytes-tail b bytes h = All-tail is_byte b bytes h

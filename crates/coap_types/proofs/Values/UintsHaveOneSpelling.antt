@@ -5,9 +5,10 @@ use native.Mathlib.Numerals.{unary_clauses}
 use Rattle.std.proofs.Math.Nat.{pow-le-pow_right}
 use Rattle.std.proofs.lemmas.Bool.{cases_lt, cond-true, le-leb}
 use Rattle.std.proofs.lemmas.Bool.Decides.{nat_tests}
-use Rattle.std.proofs.lemmas.List.Elements.{All-cons, All-nil, All-tail}
+use Rattle.std.proofs.lemmas.List.Elements.{All-tail}
 use Rattle.std.proofs.lemmas.Nat.{div-mul-add, mul-add-lt, mul-le}
 use Rattle.coap_types.specs.Bytes.{AreBytes}
+use Rattle.coap_types.proofs.Facts.Bytes.{AreBytes-nil, AreBytes-cons}
 use Rattle.coap_types.specs.Uint.{IsSpelling, LeadsWithNoZero, number_of, uint, uint_value}
 
 -- what follows a byte
@@ -79,19 +80,16 @@ few_bytes (b ∷ bs) number most s below =
 
 -- the fewest bytes, by how many they are
 
-abbrev is_byte : ℕ → Type 0
-is_byte b = b < 256
-
 -- these are bytes
 are_2 : (a b : ℕ) → a < 256 → b < 256 → AreBytes (a ∷ b ∷ [])
-are_2 a b small_a small_b = All-cons is_byte a (b ∷ []) small_a (All-cons is_byte b [] small_b (All-nil is_byte))
+are_2 a b small_a small_b = AreBytes-cons a (b ∷ []) small_a (AreBytes-cons b [] small_b AreBytes-nil)
 
 are_3 : (a b c : ℕ) → a < 256 → b < 256 → c < 256 → AreBytes (a ∷ b ∷ c ∷ [])
-are_3 a b c small_a small_b small_c = All-cons is_byte a (b ∷ c ∷ []) small_a (are_2 b c small_b small_c)
+are_3 a b c small_a small_b small_c = AreBytes-cons a (b ∷ c ∷ []) small_a (are_2 b c small_b small_c)
 
 one_byte : (n : ℕ) → n ≢ 0 → n < 256 → IsSpelling (n ∷ []) n
 one_byte n some below = record {
-  are_bytes = All-cons is_byte n [] below (All-nil is_byte);
+  are_bytes = AreBytes-cons n [] below AreBytes-nil;
   spelt = omega arith;
   no_zero = omega arith;
 }
@@ -114,7 +112,7 @@ four_bytes : (n : ℕ) → 16777216 ≤ n → n < 2 ^ 32
     → IsSpelling (n / 16777216 ∷ n / 65536 % 256 ∷ n / 256 % 256 ∷ n % 256 ∷ []) n
 four_bytes n least below = record {
   are_bytes =
-      All-cons is_byte (n / 16777216) (n / 65536 % 256 ∷ n / 256 % 256 ∷ n % 256 ∷ []) (omega arith)
+      AreBytes-cons (n / 16777216) (n / 65536 % 256 ∷ n / 256 % 256 ∷ n % 256 ∷ []) (omega arith)
       (are_3 (n / 65536 % 256) (n / 256 % 256) (n % 256) (omega arith) (omega arith) (omega arith));
   spelt = omega arith;
   no_zero = omega arith;
@@ -129,7 +127,7 @@ uint_spells n small = by (n == 0) (nat_lt n 256) (nat_lt n 65536) (nat_lt n 1677
         else if c then n / 65536 ∷ n / 256 % 256 ∷ n % 256 ∷ [] else
         n / 16777216 ∷ n / 65536 % 256 ∷ n / 256 % 256 ∷ n % 256 ∷ []) n
     by true a b c is_z is_a is_b is_c = record {
-      are_bytes = All-nil is_byte;
+      are_bytes = AreBytes-nil;
       spelt = grind (arith, nat_tests);
       no_zero = tt;
     }
