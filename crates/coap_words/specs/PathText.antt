@@ -1,6 +1,6 @@
 -- The text of a path: its segments, joined by `/` (47).
-use Rattle.std.specs.Prelude.{ℕ, List, [], ◌∷◌, ◌≡◌, ◌≢◌, ◌<◌, ◌==◌, All, Any, length, if◌then◌else◌}
-use Rattle.std.specs.List.{join_with_byte}
+use Rattle.std.specs.Prelude.{ℕ, Bool, List, [], ◌∷◌, ◌≡◌, ◌≢◌, ◌<◌, ◌==◌, All, Any, length, if◌then◌else◌}
+use Rattle.std.specs.List.{join_with_byte, slice_split}
 use Rattle.coap_types.specs.Path.{HoldsAtMost}
 use Rattle.coap_types.specs.declared.path.PathRefusal.{PathRefusal}
 use Rattle.coap_types.specs.declared.path.PathRefusal.TheVariants.{SegmentTooLong, TooManySegments, Memory}
@@ -12,11 +12,21 @@ abbrev pub without_leading_slash : List ℕ → List ℕ
 without_leading_slash [] = []
 without_leading_slash (b ∷ bs) = if b == 47 then bs else b ∷ bs
 
+abbrev pub is_slash : ℕ → Bool
+is_slash b = b == 47
+
+abbrev pub HasNoSlash : List ℕ → Type 0
+HasNoSlash segment = All (λ b. b ≢ 47) segment
+
+-- what stands between the slashes
+abbrev pub parts : List ℕ → List (List ℕ)
+parts text = slice_split is_slash text
+
 -- Nothing is the path without segments. Any other text is its segments with a `/` between each two,
 -- and none of them has a `/`. So the path of one empty segment has no text.
 abbrev pub Joins : List ℕ → List (List ℕ) → Type 0
 Joins [] segments = segments ≡ []
-Joins (b ∷ bs) segments = ((b ∷ bs) ≡ join_with_byte 47 segments) × All (λ s. All (λ x. x ≢ 47) s) segments
+Joins (b ∷ bs) segments = ((b ∷ bs) ≡ join_with_byte 47 segments) × All HasNoSlash segments
 
 -- the text says the path of these segments
 abbrev pub IsPathText : List ℕ → List (List ℕ) → Type 0

@@ -2,7 +2,7 @@
 use Rattle.std.proofs.Common.{◌≡◌, ◌≢◌, ◌∙◌, ◌⊎◌, ap, sym, refl, subst, ℕ, Bool, true, false, cond, ◌<◌, ◌≤◌, List}
 use Rattle.std.proofs.Common.{[], ◌∷◌, length, get_or, Option, Some, None, arith, inl, inr, eqb, true≢false, Result}
 use Rattle.std.proofs.Common.{Ok, Err}
-use Rattle.std.specs.List.{All, Any, join_with_byte, slice_split}
+use Rattle.std.specs.List.{All, Any, join_with_byte}
 use Rattle.std.specs.Option.{MatchOption, unwrap_or}
 use Rattle.std.specs.Result.{IfErr, IsErrAnd}
 use Rattle.std.specs.Borrow.{Bor}
@@ -11,16 +11,8 @@ use Rattle.std.proofs.lemmas.List.Elements.{All-cons, All-head, All-tail, All-ni
 use Rattle.std.proofs.lemmas.List.Splits.{join_with_byte-slice_split, slice_split_at, slice_split_none}
 use Rattle.coap_types.specs.declared.path.PathRefusal.{PathRefusal}
 use Rattle.coap_types.specs.declared.path.PathRefusal.TheVariants.{SegmentTooLong, TooManySegments, Memory}
-use Rattle.coap_words.specs.PathText.{IsNoPath, IsPathText, IsTrueOf, Joins, without_leading_slash}
-
-abbrev pub is_slash : ℕ → Bool
-is_slash b = eqb b 47
-
-abbrev pub parts : List ℕ → List (List ℕ)
-parts rest = slice_split is_slash rest
-
-abbrev Bare : List ℕ → Type 0
-Bare s = All (λ x. x ≢ 47) s
+use Rattle.coap_words.specs.PathText.{HasNoSlash, IsNoPath, IsPathText, IsTrueOf, Joins, is_slash, parts}
+use Rattle.coap_words.specs.PathText.{without_leading_slash}
 
 -- what is left once a leading `/` is taken off
 pub rest_is : (text : Bor (List ℕ)) (r : Option (Bor (List ℕ)))
@@ -45,18 +37,18 @@ slash_is b e = grind (arith, nat_tests)
 no_slash : (b : ℕ) → b ≢ 47 → eqb b 47 ≡ false
 no_slash b e = grind (arith, nat_tests)
 
-bare_part : (b : ℕ) (t : Bool) (ps : List (List ℕ)) → eqb b 47 ≡ t → All Bare ps
-    → All Bare (cond t ([] ∷ ps) (Rattle.std.specs.List.onto_first b ps))
-bare_part b true ps e h = All-cons Bare [] ps (All-nil (λ x. x ≢ 47)) h
+bare_part : (b : ℕ) (t : Bool) (ps : List (List ℕ)) → eqb b 47 ≡ t → All HasNoSlash ps
+    → All HasNoSlash (cond t ([] ∷ ps) (Rattle.std.specs.List.onto_first b ps))
+bare_part b true ps e h = All-cons HasNoSlash [] ps (All-nil (λ x. x ≢ 47)) h
 bare_part b false [] e h =
     let first : b ≢ 47 = λ is. true≢false (sym (ap is_slash is) ∙ e) in
-    All-cons Bare (b ∷ []) [] (All-cons (λ x. x ≢ 47) b [] first (All-nil (λ x. x ≢ 47))) h
+    All-cons HasNoSlash (b ∷ []) [] (All-cons (λ x. x ≢ 47) b [] first (All-nil (λ x. x ≢ 47))) h
 bare_part b false (p ∷ ps) e h =
     let first : b ≢ 47 = λ is. true≢false (sym (ap is_slash is) ∙ e) in
-    All-cons Bare (b ∷ p) ps (All-cons (λ x. x ≢ 47) b p first (All-head Bare p ps h)) (All-tail Bare p ps h)
+    All-cons HasNoSlash (b ∷ p) ps (All-cons (λ x. x ≢ 47) b p first (All-head HasNoSlash p ps h)) (All-tail HasNoSlash p ps h)
 
-parts_bare : (bs : List ℕ) → All Bare (parts bs)
-parts_bare [] = All-cons Bare [] [] (All-nil (λ x. x ≢ 47)) (All-nil Bare)
+parts_bare : (bs : List ℕ) → All HasNoSlash (parts bs)
+parts_bare [] = All-cons HasNoSlash [] [] (All-nil (λ x. x ≢ 47)) (All-nil HasNoSlash)
 parts_bare (b ∷ bs) = bare_part b (eqb b 47) (parts bs) refl (parts_bare bs)
 
 -- the parts between slashes are what the text says
@@ -64,15 +56,15 @@ pub parts_join : (rest : List ℕ) → rest ≢ [] → Joins rest (parts rest)
 parts_join [] some = absurd (some refl)
 parts_join (b ∷ bs) some = (sym (join_with_byte-slice_split 47 (b ∷ bs)), parts_bare (b ∷ bs))
 
-bare_passes : (s : List ℕ) → Bare s → All (λ x. is_slash x ≡ false) s
+bare_passes : (s : List ℕ) → HasNoSlash s → All (λ x. is_slash x ≡ false) s
 bare_passes s h = λ k d lt. no_slash _ (h k d lt)
 
 -- and nothing else is
-parts_of_join : (x : List ℕ) (xs : List (List ℕ)) → All Bare (x ∷ xs) → parts (join_with_byte 47 (x ∷ xs)) ≡ x ∷ xs
-parts_of_join x [] h = slice_split_none is_slash x (bare_passes x (All-head Bare x [] h))
+parts_of_join : (x : List ℕ) (xs : List (List ℕ)) → All HasNoSlash (x ∷ xs) → parts (join_with_byte 47 (x ∷ xs)) ≡ x ∷ xs
+parts_of_join x [] h = slice_split_none is_slash x (bare_passes x (All-head HasNoSlash x [] h))
 parts_of_join x (y ∷ ys) h =
-    slice_split_at is_slash x 47 (join_with_byte 47 (y ∷ ys)) (bare_passes x (All-head Bare x (y ∷ ys) h)) refl
-    ∙ ap (λ l. x ∷ l) (parts_of_join y ys (All-tail Bare x (y ∷ ys) h))
+    slice_split_at is_slash x 47 (join_with_byte 47 (y ∷ ys)) (bare_passes x (All-head HasNoSlash x (y ∷ ys) h)) refl
+    ∙ ap (λ l. x ∷ l) (parts_of_join y ys (All-tail HasNoSlash x (y ∷ ys) h))
 
 pub joined_once : (rest : List ℕ) (segments : List (List ℕ)) → rest ≢ [] → Joins rest segments → segments ≡ parts rest
 joined_once [] segments some h = absurd (some refl)
