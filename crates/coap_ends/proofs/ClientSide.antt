@@ -31,6 +31,7 @@ pub mod ClientTokens
 pub mod ClientHeardOnce
 pub mod ClientOneCon
 pub mod ClientOrigins
+pub mod AnswerReports
 pub mod ClientBodies
 pub mod AllWaiting
 pub mod ClientHandedUp

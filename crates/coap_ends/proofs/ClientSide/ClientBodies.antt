@@ -57,6 +57,7 @@ use Rattle.coap_ends.proofs.ClientSide.ClientMoves as mv
 use Rattle.coap_ends.proofs.ClientSide.ClientMoves.{Move, left_by}
 use Rattle.coap_ends.proofs.ClientSide.ClientTurns.{Closing, closing, Turned, quiet, goes_out, is_refused}
 use Rattle.coap_ends.proofs.ClientSide.ClientTurns.{fed_turned, ticked_turned}
+use Rattle.coap_ends.proofs.ClientSide.AnswerReports.{GivesReport, gives_of}
 use Rattle.coap_ends.proofs.ClientSide.ClientOrigins.{Origin, kept, begins, follows, origin}
 use Rattle.coap_ends.proofs.ClientSide.ClientTokens.{last_was_sent}
 
@@ -210,13 +211,9 @@ fetch_next r (Fetches b) m f h = by (m.code == content) refl ((m.code == valid) 
 
 -- which answer gives a body
 
-abbrev pub is_body : Report → Bool
+abbrev is_body : Report → Bool
 is_body (Body tag format body) = true
 is_body report = false
-
-abbrev body_reported : Option Reported → Bool
-body_reported None = false
-body_reported (Some x) = is_body x.report
 
 refused_none : (why : FetchRefusal) → is_body (refused why) ≡ false
 refused_none refusal.Changed = refl
@@ -231,31 +228,8 @@ done_none method code = by (is_success method code)
     by true = refl
     by false = refl
 
-lapse_none : (e : Event) → is_body (lapse e) ≡ false
-lapse_none (event_of.Answer m) = refl
-lapse_none (event_of.Notice m) = refl
-lapse_none event_of.Timeout = refl
-lapse_none event_of.Reset = refl
-lapse_none event_of.NoResponse = refl
-
-value_none : (k sequence : ℕ) (f : FetchState) (m : Message) (v : Verdict)
-    → body_reported (value k sequence f m v) ≡ false
-value_none k sequence f m (verdict.Refuse why) = refl
-value_none k sequence f m verdict.Done = refl
-value_none k sequence f m verdict.Again = refl
-value_none k sequence f m (verdict.Ask num size) = refl
-
-failed_none : (u : Transfer → Bool) (report : Report) (s : Own) (running : Option Operation) → is_body report ≡ false
-    → body_reported (failed u report s running).report ≡ false
-failed_none u report s None h = refl
-failed_none u report s (Some (Calling k r t)) h = h
-failed_none u report s (Some (Registering k path)) h = h
-failed_none u report s (Some (Fetching k)) h = refl
-failed_none u report s (Some (Cancelling k)) h = h
-failed_none u report s (Some Dropped) h = refl
-
 -- a call is over with a body
-pub record GivesBody (s : Own) (heard : Option Message) (k : ℕ) (report : Report) : Type 0 where
+record GivesBody (s : Own) (heard : Option Message) (k : ℕ) (report : Report) : Type 0 where
   pub request : Request
   pub fetch : FetchState
   pub message : Message
@@ -323,47 +297,6 @@ done_as r (Fetches f) m final report h body = by (m.code == content) refl ((m.co
     by true is d h = by_verdict (same_number m.code content is) (part f m) refl h
     by false is true h = let a : false ≡ true = ap (λ n. has_body (report_next n)) h ∙ body in absurd (cc a)
     by false is false h = let a : false ≡ true = ap (λ n. has_body (report_next n)) h ∙ body in absurd (cc a)
-
--- each other move gives none
-move_body : (s : Own) (now : ℕ) (told : Option Event) (mo : Move s now told)
-    → (body_reported (left_by s now told mo).report ≡ false)
-    ⊎ ((k : ℕ) × (report : Report) × ((left_by s now told mo).report ≡ of k report)
-    × (is_body report ≡ true → GivesBody s (heard_in told) k report))
-move_body s now told (mv.rests un) = inl refl
-move_body s now told (mv.copies q) = inl refl
-move_body s now told (mv.starts_next op queue none rest first q) = inl refl
-move_body s now told (mv.fetches k none rest q) = inl refl
-move_body s now told (mv.goes_on k r tr next a hears_it runs asks) = inl refl
-move_body s now told (mv.is_done k r tr final rep a hears_it runs ends_so) =
-    inr (
-      k,
-      rep,
-      refl,
-      λ body. (let d = done_as r tr a final rep ends_so body in record {
-        request = r;
-        fetch = d.fetch;
-        message = a;
-        runs = runs ∙ ap (λ z. Some (Calling k r z)) d.transfer;
-        heard_it = ap heard_in hears_it;
-        code = d.code;
-        done_so = d.done_so;
-        is = d.is;
-      }),
-    )
-move_body s now told (mv.registers k path a hears_it runs note) =
-    inl (value_none k _ (F.start s.szx 0) a (part (F.start s.szx 0) a))
-move_body s now told (mv.refuses k path a hears_it runs note) = inl refl
-move_body s now told (mv.fetches_on k n a num size hears_it runs rest code asks) = inl refl
-move_body s now told (mv.fetched k n a hears_it runs rest code done) = inl refl
-move_body s now told (mv.gives_up k a hears_it runs) = inl refl
-move_body s now told (mv.fetched_none k a hears_it runs) = inl refl
-move_body s now told (mv.cancels k a hears_it runs) = inl refl
-move_body s now told (mv.is_dropped a hears_it runs) = inl refl
-move_body s now told (mv.fails e un) = inl (failed_none (λ t. true) (lapse e) s s.running (lapse_none e))
-move_body s now told (mv.is_ended o a notes found note) = inl refl
-move_body s now told (mv.renews o a notes found note newer) =
-    inl (value_none o.number _ (F.start s.szx 0) a (part (F.start s.szx 0) a))
-move_body s now told (mv.passes_by o a notes found note newer) = inl refl
 
 pub each_append : (P : Part → Type 0) (xs : List Part) (y : Part) → Each P xs → P y → Each P (xs ++ y ∷ [])
 each_append P [] y h k = (k, tt)
@@ -504,65 +437,20 @@ module _ (szx : ℕ) where
       (λ q g runs. parts_of t answers.1 k q g runs)
 
   -- at a call
-  body_from : (t : List Call) (c : Call) → Turned szx t c → (k : ℕ) (report : Report) → is_body report ≡ true
-      → reports (own_of szx t) c ≡ of k report → GivesBody (own_of szx t) (hears c) k report
-  body_from t c z k report body made = by z.closes
-      (move_body (at z.now (own_of szx t)) (max (own_of szx t).clock z.now) z.told z.move)
-    where
-      s : Own
-      s = at z.now (own_of szx t)
-
-      e : Effect
-      e = left_by (at z.now (own_of szx t)) (max (own_of szx t).clock z.now) z.told z.move
-
-      shows : (o : Option Reported) → reports (own_of szx t) c ≡ o → body_reported o ≡ false → ⊥
-      shows o is none = let a : body_reported (of k report) ≡ false = ap body_reported (sym made ∙ is)
-          ∙ none in cc (a, body)
-
-      by : Closing (max (own_of szx t).clock z.now) e z.token
-          → (body_reported e.report ≡ false) ⊎ ((j : ℕ) × (rep : Report) × (e.report ≡ of j rep)
-          × (is_body rep ≡ true → GivesBody (at z.now (own_of szx t)) (heard_in z.told) j rep))
-          → GivesBody (own_of szx t) (hears c) k report
-      by (goes_out op key asks given sends_it own_same report_same) m =
-          absurd (shows None (z.reports_is ∙ report_same) refl)
-      by (is_refused op why asks given none all) m =
-          absurd (shows (failed has_sent NoIds e.own (Some op)).report
-          (z.reports_is ∙ ap (λ (x : Effect). x.report) all) (failed_none has_sent NoIds e.own (Some op) refl))
-      by (quiet q none own_same report_same) (inl m) = absurd (shows e.report (z.reports_is ∙ report_same) m)
-      by (quiet q none own_same report_same) (inr m) =
-          let same : of m.0 m.1 ≡ of k report = sym m.2 ∙ (sym report_same ∙ (sym z.reports_is ∙ made)) in
-          let record_same : ◌≡◌ {A = Reported} (record { number = m.0; report = m.1 })
-          (record { number = k; report = report }) = cc same in
-          let n : m.0 ≡ k = ap (λ (x : Reported). x.number) record_same in
-          let rep : m.1 ≡ report = ap (λ (x : Reported). x.report) record_same in
-          let g = subst (GivesBody (own_of szx t) (hears c) m.0) rep
-          (let g0 = m.3 (ap is_body rep ∙ body) in record {
-            request = g0.request;
-            fetch = g0.fetch;
-            message = g0.message;
-            runs = g0.runs;
-            heard_it = z.hears_is ∙ g0.heard_it;
-            code = g0.code;
-            done_so = g0.done_so;
-            is = g0.is;
-          }) in
-          subst (λ j. GivesBody (own_of szx t) (hears c) j report) n g
-
-  gives_of : (t : List Call) (c : Call) (k : ℕ) (report : Report) → is_body report ≡ true
-      → reports (own_of szx t) c ≡ of k report → GivesBody (own_of szx t) (hears c) k report
-  gives_of t (Feeds now from bytes w up settled event sent token was) k report body made =
-      body_from t (Feeds now from bytes w up settled event sent token was)
-      (fed_turned szx t now from bytes w up settled event sent token was) k report body made
-  gives_of t (Ticks now w below turn sent token was answer) k report body made =
-      body_from t (Ticks now w below turn sent token was answer)
-      (ticked_turned szx t now w below turn sent token was answer) k report body made
-  gives_of t (Calls now r answer) k report body made = absurd (cc made)
-  gives_of t (Observes now path answer) k report body made = absurd (cc made)
-  gives_of t (Cancels now n answer) k report body made = absurd (cc made)
-  gives_of t (Forgets n was answer) k report body made = absurd (cc made)
-  gives_of t (NextOut answer) k report body made = absurd (cc made)
-  gives_of t (NextReport answer) k report body made = absurd (cc made)
-  gives_of t (Asked answer) k report body made = absurd (cc made)
+  gives_body : (t : List Call) (c : Call) (k : ℕ) (report : Report) → is_body report ≡ true
+      → GivesReport (own_of szx t) (hears c) k report → GivesBody (own_of szx t) (hears c) k report
+  gives_body t c k report body g =
+      let d = done_as g.request g.transfer g.message g.final report g.ends_so body in
+      record {
+        request = g.request;
+        fetch = d.fetch;
+        message = g.message;
+        runs = g.runs ∙ ap (λ z. Some (Calling k g.request z)) d.transfer;
+        heard_it = g.heard_it;
+        code = d.code;
+        done_so = d.done_so;
+        is = d.is;
+      }
 
   -- the request that runs was sent last, as it is
   runs_as : (server : Endpoint) (word : ℕ) (t : List Call) → ClientLaw server szx word t
@@ -583,7 +471,7 @@ module _ (szx : ℕ) where
       → AnswersLast szx (c ∷ t) → (k : ℕ) (tag : Option (List ℕ)) (format : Option ℕ) (body : List ℕ)
       → reports (own_of szx t) c ≡ of k (Body tag format body) → IsFetched szx k tag format body t c
   whole_here server word t c law answers k tag format body made =
-      let g = gives_of t c k (Body tag format body) refl made in
+      let g = gives_body t c k (Body tag format body) refl (gives_of szx t c k (Body tag format body) refl made) in
       let p = parts_of t answers.1 k g.request g.fetch g.runs in
       let a = answers.0 g.message g.heard_it in
       let tag_is : tag ≡ tag_in g.message = cc (g.is) in

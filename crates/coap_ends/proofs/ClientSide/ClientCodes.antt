@@ -40,145 +40,10 @@ use Rattle.coap_ends.proofs.ClientSide.ClientTokens.{last_was_sent}
 use Rattle.coap_ends.proofs.ClientSide.ClientTurns.{Closing, Turned, quiet, goes_out, is_refused, fed_turned}
 use Rattle.coap_ends.proofs.ClientSide.ClientTurns.{ticked_turned}
 use Rattle.coap_ends.specs.ClientSide.ClientCodes.{Succeeds, Fails, IsOfCode, ReportsCodes}
-use Rattle.coap_ends.proofs.ClientSide.AnswerCodes.{is_code, done_of, failed_of, each_done_of, each_failed_of}
-
-abbrev code_reported : Option Reported → Bool
-code_reported None = false
-code_reported (Some x) = is_code x.report
-
--- what gives none
-
-lapse_none : (e : Event) → is_code (lapse e) ≡ false
-lapse_none (event_of.Answer m) = refl
-lapse_none (event_of.Notice m) = refl
-lapse_none event_of.Timeout = refl
-lapse_none event_of.Reset = refl
-lapse_none event_of.NoResponse = refl
-
-value_none : (k sequence : ℕ) (f : FetchState) (m : Message) (v : Verdict)
-    → code_reported (value k sequence f m v) ≡ false
-value_none k sequence f m (verdict.Refuse why) = refl
-value_none k sequence f m verdict.Done = refl
-value_none k sequence f m verdict.Again = refl
-value_none k sequence f m (verdict.Ask num size) = refl
-
-failed_none : (u : Transfer → Bool) (report : Report) (s : Own) (running : Option Operation) → is_code report ≡ false
-    → code_reported (failed u report s running).report ≡ false
-failed_none u report s None h = refl
-failed_none u report s (Some (Calling k r t)) h = h
-failed_none u report s (Some (Registering k path)) h = h
-failed_none u report s (Some (Fetching k)) h = refl
-failed_none u report s (Some (Cancelling k)) h = h
-failed_none u report s (Some Dropped) h = refl
-
--- the answer that gives it
-pub record GivesCode (s : Own) (heard : Option Message) (k : ℕ) (report : Report) : Type 0 where
-  pub request : Request
-  pub transfer : Transfer
-  pub message : Message
-  pub runs : s.running ≡ Some (Calling k request transfer)
-  pub heard_it : heard ≡ Some message
-  pub final : Bool
-  pub ends_so : answer request transfer message ≡ calls.Ends final report
-
-move_code : (s : Own) (now : ℕ) (told : Option Event) (mo : Move s now told)
-    → (code_reported (left_by s now told mo).report ≡ false)
-    ⊎ ((k : ℕ) × (report : Report) × ((left_by s now told mo).report ≡ of k report)
-    × GivesCode s (heard_in told) k report)
-move_code s now told (mv.rests un) = inl refl
-move_code s now told (mv.copies q) = inl refl
-move_code s now told (mv.starts_next op queue none rest first q) = inl refl
-move_code s now told (mv.fetches k none rest q) = inl refl
-move_code s now told (mv.goes_on k r tr next a hears_it runs asks) = inl refl
-move_code s now told (mv.is_done k r tr final rep a hears_it runs ends_so) =
-    inr (
-      k,
-      rep,
-      refl,
-      record {
-        request = r;
-        transfer = tr;
-        message = a;
-        runs = runs;
-        heard_it = ap heard_in hears_it;
-        final = final;
-        ends_so = ends_so;
-      },
-    )
-move_code s now told (mv.registers k path a hears_it runs note) =
-    inl (value_none k _ (F.start s.szx 0) a (part (F.start s.szx 0) a))
-move_code s now told (mv.refuses k path a hears_it runs note) = inl refl
-move_code s now told (mv.fetches_on k n a num size hears_it runs rest code asks) = inl refl
-move_code s now told (mv.fetched k n a hears_it runs rest code done) = inl refl
-move_code s now told (mv.gives_up k a hears_it runs) = inl refl
-move_code s now told (mv.fetched_none k a hears_it runs) = inl refl
-move_code s now told (mv.cancels k a hears_it runs) = inl refl
-move_code s now told (mv.is_dropped a hears_it runs) = inl refl
-move_code s now told (mv.fails e un) = inl (failed_none (λ t. true) (lapse e) s s.running (lapse_none e))
-move_code s now told (mv.is_ended o a notes found note) = inl refl
-move_code s now told (mv.renews o a notes found note newer) =
-    inl (value_none o.number _ (F.start s.szx 0) a (part (F.start s.szx 0) a))
-move_code s now told (mv.passes_by o a notes found note newer) = inl refl
+use Rattle.coap_ends.proofs.ClientSide.AnswerReports.{GivesReport, gives_of}
+use Rattle.coap_ends.proofs.ClientSide.AnswerCodes.{done_of, failed_of, each_done_of, each_failed_of}
 
 module _ (szx : ℕ) where
-  code_from : (t : List Call) (c : Call) → Turned szx t c → (k : ℕ) (report : Report) → is_code report ≡ true
-      → reports (own_of szx t) c ≡ of k report → GivesCode (own_of szx t) (hears c) k report
-  code_from t c z k report is_it made = by z.closes
-      (move_code (at z.now (own_of szx t)) (max (own_of szx t).clock z.now) z.told z.move)
-    where
-      e : Effect
-      e = left_by (at z.now (own_of szx t)) (max (own_of szx t).clock z.now) z.told z.move
-
-      shows : (o : Option Reported) → reports (own_of szx t) c ≡ o → code_reported o ≡ false → ⊥
-      shows o is none = let a : code_reported (of k report) ≡ false = ap code_reported (sym made ∙ is)
-          ∙ none in cc (a, is_it)
-
-      by : Closing (max (own_of szx t).clock z.now) e z.token
-          → (code_reported e.report ≡ false) ⊎ ((j : ℕ) × (rep : Report) × (e.report ≡ of j rep)
-          × GivesCode (at z.now (own_of szx t)) (heard_in z.told) j rep) → GivesCode (own_of szx t) (hears c) k report
-      by (goes_out op key asks given sends_it own_same report_same) m =
-          absurd (shows None (z.reports_is ∙ report_same) refl)
-      by (is_refused op why asks given none all) m =
-          absurd (shows (failed has_sent NoIds e.own (Some op)).report
-          (z.reports_is ∙ ap (λ (x : Effect). x.report) all) (failed_none has_sent NoIds e.own (Some op) refl))
-      by (quiet q none own_same report_same) (inl m) = absurd (shows e.report (z.reports_is ∙ report_same) m)
-      by (quiet q none own_same report_same) (inr m) =
-          let same : of m.0 m.1 ≡ of k report = sym m.2 ∙ (sym report_same ∙ (sym z.reports_is ∙ made)) in
-          let record_same : ◌≡◌ {A = Reported} (record { number = m.0; report = m.1 })
-          (record { number = k; report = report }) = cc same in
-          let n : m.0 ≡ k = ap (λ (x : Reported). x.number) record_same in
-          let rep : m.1 ≡ report = ap (λ (x : Reported). x.report) record_same in
-          let g0 = m.3 in
-          let g : GivesCode (own_of szx t) (hears c) m.0 m.1
-          = record {
-            request = g0.request;
-            transfer = g0.transfer;
-            message = g0.message;
-            runs = g0.runs;
-            heard_it = z.hears_is ∙ g0.heard_it;
-            final = g0.final;
-            ends_so = g0.ends_so;
-          }
-          in
-          subst (λ j. GivesCode (own_of szx t) (hears c) j report) n
-          (subst (GivesCode (own_of szx t) (hears c) m.0) rep g)
-
-  gives_of : (t : List Call) (c : Call) (k : ℕ) (report : Report) → is_code report ≡ true
-      → reports (own_of szx t) c ≡ of k report → GivesCode (own_of szx t) (hears c) k report
-  gives_of t (Feeds now from bytes w up settled event sent token was) k report is_it made =
-      code_from t (Feeds now from bytes w up settled event sent token was)
-      (fed_turned szx t now from bytes w up settled event sent token was) k report is_it made
-  gives_of t (Ticks now w below turn sent token was answer) k report is_it made =
-      code_from t (Ticks now w below turn sent token was answer)
-      (ticked_turned szx t now w below turn sent token was answer) k report is_it made
-  gives_of t (Calls now r answer) k report is_it made = absurd (cc made)
-  gives_of t (Observes now path answer) k report is_it made = absurd (cc made)
-  gives_of t (Cancels now n answer) k report is_it made = absurd (cc made)
-  gives_of t (Forgets n was answer) k report is_it made = absurd (cc made)
-  gives_of t (NextOut answer) k report is_it made = absurd (cc made)
-  gives_of t (NextReport answer) k report is_it made = absurd (cc made)
-  gives_of t (Asked answer) k report is_it made = absurd (cc made)
-
   -- the answer to the call that runs is reported
 
   reports_answer : (s : Own) (c : Call) (k : ℕ) (r : Request) (tr : Transfer) (m : Message) (final : Bool)
@@ -256,7 +121,7 @@ module _ (szx : ℕ) where
     module _ (t : List Call) (c : Call) (law : ClientLaw server szx word t)
         (answers : (m : Message) → hears c ≡ Some m → Answers szx t c m) (k : ℕ) where
       of_code : (Means : Operation → ℕ → Type 0) (report : Report) (code : ℕ)
-          (g : GivesCode (own_of szx t) (hears c) k report) → Means (Calling k g.request g.transfer) g.message.code
+          (g : GivesReport (own_of szx t) (hears c) k report) → Means (Calling k g.request g.transfer) g.message.code
           → g.message.code ≡ code → IsOfCode szx Means k code t c
       of_code Means report code g means same =
           let a = answers g.message g.heard_it in
@@ -281,14 +146,14 @@ module _ (szx : ℕ) where
 
       done_so : (code : ℕ) → reports (own_of szx t) c ≡ of k (Done code) → IsOfCode szx Succeeds k code t c
       done_so code made =
-          let g = gives_of t c k (Done code) refl made in
+          let g = gives_of szx t c k (Done code) refl made in
           let runs = runs_as t law k g.request g.transfer g.runs in
           let d = done_of szx k g.request runs.body g.message g.transfer runs.carries g.final code g.ends_so in
           of_code Succeeds (Done code) code g d.0 d.1
 
       failed_so : (code : ℕ) → reports (own_of szx t) c ≡ of k (Failed code) → IsOfCode szx Fails k code t c
       failed_so code made =
-          let g = gives_of t c k (Failed code) refl made in
+          let g = gives_of szx t c k (Failed code) refl made in
           let runs = runs_as t law k g.request g.transfer g.runs in
           let d = failed_of szx k g.request runs.body g.message g.transfer runs.carries g.final code g.ends_so in
           of_code Fails (Failed code) code g d.0 d.1

@@ -42,6 +42,7 @@ use Rattle.coap_ends.proofs.ClientSide.ClientMoves as mv
 use Rattle.coap_ends.proofs.ClientSide.ClientMoves.{Move, left_by}
 use Rattle.coap_ends.proofs.ClientSide.ClientTurns.{Closing, Turned, quiet, goes_out, is_refused, fed_turned}
 use Rattle.coap_ends.proofs.ClientSide.ClientTurns.{ticked_turned}
+use Rattle.coap_ends.proofs.ClientSide.AnswerReports.{gives_of}
 use Rattle.coap_ends.proofs.ClientSide.ClientOrigins.{Origin, kept, begins, follows, origin}
 use Rattle.coap_ends.proofs.ClientSide.ClientBodies.{heard_for}
 use Rattle.coap_ends.proofs.ClientSide.AllWaiting.{all_wait}
@@ -51,33 +52,6 @@ use Rattle.coap_ends.proofs.ClientSide.AllWaiting.{all_wait}
 abbrev is_valid : Report → Bool
 is_valid (Valid tag) = true
 is_valid report = false
-
-abbrev valid_reported : Option Reported → Bool
-valid_reported None = false
-valid_reported (Some x) = is_valid x.report
-
-lapse_none : (e : Event) → is_valid (lapse e) ≡ false
-lapse_none (event_of.Answer m) = refl
-lapse_none (event_of.Notice m) = refl
-lapse_none event_of.Timeout = refl
-lapse_none event_of.Reset = refl
-lapse_none event_of.NoResponse = refl
-
-value_none : (k sequence : ℕ) (f : FetchState) (m : Message) (v : Verdict)
-    → valid_reported (value k sequence f m v) ≡ false
-value_none k sequence f m (verdict.Refuse why) = refl
-value_none k sequence f m verdict.Done = refl
-value_none k sequence f m verdict.Again = refl
-value_none k sequence f m (verdict.Ask num size) = refl
-
-failed_none : (u : Transfer → Bool) (report : Report) (s : Own) (running : Option Operation) → is_valid report ≡ false
-    → valid_reported (failed u report s running).report ≡ false
-failed_none u report s None h = refl
-failed_none u report s (Some (Calling k r t)) h = h
-failed_none u report s (Some (Registering k path)) h = h
-failed_none u report s (Some (Fetching k)) h = refl
-failed_none u report s (Some (Cancelling k)) h = h
-failed_none u report s (Some Dropped) h = refl
 
 -- which answer gives it
 
@@ -151,52 +125,6 @@ valid_as r (Fetches f) m final report h is = by (m.code == content) ((m.code == 
     by false true e h = let k = and_split (m.code == valid) (has_tags r.etags) e in record
         { code = same_number m.code valid k.0; tags = k.1; is = sym (ap next_report h) }
 
-record GivesValid (s : Own) (heard : Option Message) (k : ℕ) (report : Report) : Type 0 where
-  request : Request
-  transfer : Transfer
-  message : Message
-  runs : s.running ≡ Some (Calling k request transfer)
-  heard_it : heard ≡ Some message
-  shown : ValidAs request message report
-
-move_valid : (s : Own) (now : ℕ) (told : Option Event) (mo : Move s now told)
-    → (valid_reported (left_by s now told mo).report ≡ false)
-    ⊎ ((k : ℕ) × (report : Report) × ((left_by s now told mo).report ≡ of k report)
-    × (is_valid report ≡ true → GivesValid s (heard_in told) k report))
-move_valid s now told (mv.rests un) = inl refl
-move_valid s now told (mv.copies q) = inl refl
-move_valid s now told (mv.starts_next op queue none rest first q) = inl refl
-move_valid s now told (mv.fetches k none rest q) = inl refl
-move_valid s now told (mv.goes_on k r tr next a hears_it runs asks) = inl refl
-move_valid s now told (mv.is_done k r tr final rep a hears_it runs ends_so) =
-    inr (
-      k,
-      rep,
-      refl,
-      λ is. record {
-        request = r;
-        transfer = tr;
-        message = a;
-        runs = runs;
-        heard_it = ap heard_in hears_it;
-        shown = valid_as r tr a final rep ends_so is;
-      },
-    )
-move_valid s now told (mv.registers k path a hears_it runs note) =
-    inl (value_none k _ (F.start s.szx 0) a (part (F.start s.szx 0) a))
-move_valid s now told (mv.refuses k path a hears_it runs note) = inl refl
-move_valid s now told (mv.fetches_on k n a num size hears_it runs rest code asks) = inl refl
-move_valid s now told (mv.fetched k n a hears_it runs rest code done) = inl refl
-move_valid s now told (mv.gives_up k a hears_it runs) = inl refl
-move_valid s now told (mv.fetched_none k a hears_it runs) = inl refl
-move_valid s now told (mv.cancels k a hears_it runs) = inl refl
-move_valid s now told (mv.is_dropped a hears_it runs) = inl refl
-move_valid s now told (mv.fails e un) = inl (failed_none (λ t. true) (lapse e) s s.running (lapse_none e))
-move_valid s now told (mv.is_ended o a notes found note) = inl refl
-move_valid s now told (mv.renews o a notes found note newer) =
-    inl (value_none o.number _ (F.start s.szx 0) a (part (F.start s.szx 0) a))
-move_valid s now told (mv.passes_by o a notes found note newer) = inl refl
-
 -- what waits and what runs is of a call that was taken
 abbrev IsTaken : List Call → Operation → Type 0
 IsTaken t (Calling k r tr) = (q : Request) × WasTaken (record { number = k; request = q }) t × (r.etags ≡ q.etags)
@@ -231,74 +159,20 @@ module _ (szx : ℕ) where
   running_taken (c ∷ t) k r tr is = taken_here t c k r tr (origin szx t c k r tr is)
       (λ old runs. running_taken t k r old runs)
 
-  valid_from : (t : List Call) (c : Call) → Turned szx t c → (k : ℕ) (report : Report) → is_valid report ≡ true
-      → reports (own_of szx t) c ≡ of k report → GivesValid (own_of szx t) (hears c) k report
-  valid_from t c z k report is_it made = by z.closes
-      (move_valid (at z.now (own_of szx t)) (max (own_of szx t).clock z.now) z.told z.move)
-    where
-      e : Effect
-      e = left_by (at z.now (own_of szx t)) (max (own_of szx t).clock z.now) z.told z.move
-
-      shows : (o : Option Reported) → reports (own_of szx t) c ≡ o → valid_reported o ≡ false → ⊥
-      shows o is none = let a : valid_reported (of k report) ≡ false = ap valid_reported (sym made ∙ is)
-          ∙ none in cc (a, is_it)
-
-      by : Closing (max (own_of szx t).clock z.now) e z.token
-          → (valid_reported e.report ≡ false) ⊎ ((j : ℕ) × (rep : Report) × (e.report ≡ of j rep)
-          × (is_valid rep ≡ true → GivesValid (at z.now (own_of szx t)) (heard_in z.told) j rep))
-          → GivesValid (own_of szx t) (hears c) k report
-      by (goes_out op key asks given sends_it own_same report_same) m =
-          absurd (shows None (z.reports_is ∙ report_same) refl)
-      by (is_refused op why asks given none all) m =
-          absurd (shows (failed has_sent NoIds e.own (Some op)).report
-          (z.reports_is ∙ ap (λ (x : Effect). x.report) all) (failed_none has_sent NoIds e.own (Some op) refl))
-      by (quiet q none own_same report_same) (inl m) = absurd (shows e.report (z.reports_is ∙ report_same) m)
-      by (quiet q none own_same report_same) (inr m) =
-          let same : of m.0 m.1 ≡ of k report = sym m.2 ∙ (sym report_same ∙ (sym z.reports_is ∙ made)) in
-          let record_same : ◌≡◌ {A = Reported} (record { number = m.0; report = m.1 })
-          (record { number = k; report = report }) = cc same in
-          let n : m.0 ≡ k = ap (λ (x : Reported). x.number) record_same in
-          let rep : m.1 ≡ report = ap (λ (x : Reported). x.report) record_same in
-          let g = subst (GivesValid (own_of szx t) (hears c) m.0) rep
-          (let g0 = m.3 (ap is_valid rep ∙ is_it) in record {
-            request = g0.request;
-            transfer = g0.transfer;
-            message = g0.message;
-            runs = g0.runs;
-            heard_it = z.hears_is ∙ g0.heard_it;
-            shown = g0.shown;
-          }) in
-          subst (λ j. GivesValid (own_of szx t) (hears c) j report) n g
-
-  gives_of : (t : List Call) (c : Call) (k : ℕ) (report : Report) → is_valid report ≡ true
-      → reports (own_of szx t) c ≡ of k report → GivesValid (own_of szx t) (hears c) k report
-  gives_of t (Feeds now from bytes w up settled event sent token was) k report is_it made =
-      valid_from t (Feeds now from bytes w up settled event sent token was)
-      (fed_turned szx t now from bytes w up settled event sent token was) k report is_it made
-  gives_of t (Ticks now w below turn sent token was answer) k report is_it made =
-      valid_from t (Ticks now w below turn sent token was answer)
-      (ticked_turned szx t now w below turn sent token was answer) k report is_it made
-  gives_of t (Calls now r answer) k report is_it made = absurd (cc made)
-  gives_of t (Observes now path answer) k report is_it made = absurd (cc made)
-  gives_of t (Cancels now n answer) k report is_it made = absurd (cc made)
-  gives_of t (Forgets n was answer) k report is_it made = absurd (cc made)
-  gives_of t (NextOut answer) k report is_it made = absurd (cc made)
-  gives_of t (NextReport answer) k report is_it made = absurd (cc made)
-  gives_of t (Asked answer) k report is_it made = absurd (cc made)
-
   validated : (t : List Call) (c : Call) → AnswersLast szx (c ∷ t) → (k : ℕ) (tag : Option (List ℕ))
       → reports (own_of szx t) c ≡ of k (Valid tag) → IsValidated szx k tag t c
   validated t c answers k tag made =
-      let g = gives_of t c k (Valid tag) refl made in
+      let g = gives_of szx t c k (Valid tag) refl made in
+      let shown = valid_as g.request g.transfer g.message g.final (Valid tag) g.ends_so refl in
       let q = running_taken t k g.request g.transfer g.runs in
       record {
         request = q.0;
         taken = q.1;
-        etags = λ none. some_tags g.request.etags g.shown.tags (q.2 ∙ none);
+        etags = λ none. some_tags g.request.etags shown.tags (q.2 ∙ none);
         message = g.message;
         heard = heard_for szx t c g.message k g.request g.transfer (answers.0 g.message g.heard_it) g.runs g.heard_it;
-        code = g.shown.code;
-        tag_is = cc (g.shown.is);
+        code = shown.code;
+        tag_is = cc (shown.is);
       }
 
   all_validated : (t : List Call) → AnswersLast szx t → ValidOfTags szx t
