@@ -17,6 +17,8 @@ pub mod ClientStep
 pub mod ClientExact
 pub mod ClientExample
 pub mod ClientWords
+pub mod ClientMoves
+pub mod ClientClosing
 pub mod ClientPlaces
 pub mod ClientAnswered
 pub mod ClientAnswers
@@ -28,6 +30,7 @@ pub mod ClientHears
 pub mod ClientNumbers
 pub mod ClientGives
 pub mod ClientAdds
+pub mod ClientClock
 pub mod ClientBegins
 pub mod ClientOrder
 pub mod ClientTokens
@@ -46,6 +49,7 @@ pub mod ClientOfObservations
 pub mod ClientGoesOn
 pub mod ClientRests
 pub mod ClientBounds
+pub mod ClientBeyond
 pub mod ClientCodes
 pub mod ClientApart
 pub mod ClientTypes

@@ -2,7 +2,6 @@
 pub mod Answered
 pub mod ResponseRead
 pub mod PathRead
-pub mod RefusalsShowNothing
 pub mod FormatsSet
 pub mod FormatsHeld
 pub mod BodiesShort

@@ -14,11 +14,12 @@ use Rattle.coap_ends.specs.ClientSide.ClientLaw.{ClientLaw, ClientRows, own_of}
 use Rattle.coap_ends.specs.ClientSide.ClientOrder.{turn_of}
 use Rattle.coap_ends.specs.ClientSide.ClientBegins.{WasSent}
 use Rattle.coap_ends.specs.ClientSide.ClientWords.{Sending, sends}
+use Rattle.coap_ends.specs.ClientSide.ClientMoves as mv
+use Rattle.coap_ends.specs.ClientSide.ClientMoves.{Move, left_by}
+use Rattle.coap_ends.specs.ClientSide.ClientClosing.{Closing, quiet, goes_out, is_refused, sending_of}
 use Rattle.coap_ends.proofs.ClientSide.ClientLeading.{client_back}
-use Rattle.coap_ends.proofs.ClientSide.ClientMoves as mv
-use Rattle.coap_ends.proofs.ClientSide.ClientMoves.{Move, left_by, releases_none}
-use Rattle.coap_ends.proofs.ClientSide.ClientTurns.{Closing, Turned, quiet, goes_out, is_refused, sending_of}
-use Rattle.coap_ends.proofs.ClientSide.ClientTurns.{fed_turned, ticked_turned}
+use Rattle.coap_ends.proofs.ClientSide.ClientMoves.{releases_none}
+use Rattle.coap_ends.proofs.ClientSide.ClientTurns.{Turned, fed_turned, ticked_turned}
 use Rattle.coap_ends.proofs.ClientSide.ClientInTurn.{Rises, Turns, turns}
 use Rattle.coap_ends.specs.ClientSide.ClientBounds.{registers, cancels, BothDo, AskOnce}
 use Rattle.coap_ends.proofs.ClientSide.ClientTokens.{one_cancel}

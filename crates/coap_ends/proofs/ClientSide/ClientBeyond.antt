@@ -3,25 +3,21 @@
 use Rattle.std.proofs.Common.{◌≡◌, ◌≤◌, ◌⊎◌, inl, inr, ℕ, ◌+◌, ◌*◌, Bool, true, false, cond, nat_lt}
 use Rattle.std.proofs.Common.{Some, List, [], ◌∷◌, length, refl, ap, subst, ◌∙◌, arith}
 use Rattle.std.proofs.lemmas.Bool.{ltb-true}
-use Rattle.coap_types.specs.Past.{Sometime}
-use Rattle.coap_types.specs.Piece.{size_of, offset_of}
+use Rattle.coap_types.specs.Piece.{size_of}
 use Rattle.coap_types.specs.declared.block.Block.{Block}
 use Rattle.coap_types.specs.declared.endpoint.Endpoint.{Endpoint}
-use Rattle.coap_types.specs.declared.limits.TheConstants.{MAX_BODY_LEN as max_body}
-use Rattle.coap_types.specs.declared.option_number.TheConstants.{BLOCK2 as block2}
 use Rattle.coap_codec.specs.Message.{Message}
-use Rattle.coap_block.specs.declared.fetch_judging.TheConstants.{MAX_RESTARTS as max_restarts}
 use Rattle.coap_block.specs.declared.fetch_verdict.Verdict.TheVariants as verdict
 use Rattle.coap_block.specs.FetchStep.{FetchState}
 use Rattle.coap_block.specs.FetchStep as F
 use Rattle.coap_ends.specs.ClientSide.ClientTrace.{Request, Call}
 use Rattle.coap_ends.specs.ClientSide.ClientOwn.{Transfer, Fetches, Uploads, Single, Calling}
-use Rattle.coap_ends.specs.ClientSide.ClientResponses.{content, tag_in, block_at, part}
+use Rattle.coap_ends.specs.ClientSide.ClientResponses.{content, tag_in, part}
 use Rattle.coap_ends.specs.ClientSide.ClientCalls.{answer}
 use Rattle.coap_ends.specs.ClientSide.ClientCalls as calls
 use Rattle.coap_ends.specs.ClientSide.ClientAnswers.{Answers, AnswersLast}
-use Rattle.coap_ends.specs.ClientSide.ClientBodies.{HeardFor}
-use Rattle.coap_ends.specs.ClientSide.ClientBounds.{max_blocks, one_of, one_sent, requests}
+use Rattle.coap_ends.specs.ClientSide.ClientBeyond.{GoesBeyond, HearsBeyond, IsWithin}
+use Rattle.coap_ends.specs.ClientSide.ClientBounds.{one_of, one_sent, requests}
 use Rattle.coap_ends.specs.ClientSide.ClientLaw.{ClientLaw, ClientRows, own_of}
 use Rattle.coap_ends.specs.ClientSide.ClientOrder.{call_of}
 use Rattle.coap_ends.specs.ClientSide.ClientWords.{Sending, sends, hears}
@@ -33,25 +29,6 @@ use Rattle.coap_ends.proofs.ClientSide.ClientOrigins.{Origin, kept, begins, foll
 use Rattle.coap_ends.proofs.ClientSide.ClientPieces.{answers_last}
 use Rattle.coap_ends.proofs.ClientSide.TransferSteps.{FetchWithin, asks_more, at_gathered, size_least, upload_bound}
 use Rattle.coap_ends.proofs.ClientSide.TransferSteps.{lt_not}
-
--- all passes
-abbrev pub all_passes : ℕ
-all_passes = (max_restarts + 1) * max_blocks
-
--- a block that ends where the longest body does, or behind that, and more follows
-pub record GoesBeyond (m : Message) : Type 0 where
-  pub block : Block
-  pub says : block_at block2 m ≡ Some block
-  pub more : block.more ≡ true
-  pub beyond : max_body ≤ offset_of block.num block.szx + size_of block.szx
-
-module _ (szx : ℕ) where
-  -- such a part is heard for the call
-  pub record HearsBeyond (number : ℕ) (past : List Call) (c : Call) : Type 0 where
-    pub message : Message
-    pub heard : HeardFor szx number message past c
-    pub code : message.code ≡ content
-    pub part : GoesBeyond message
 
 last_asks : (f : FetchState) (m : Message) (n num size : ℕ) → part f m ≡ verdict.Ask num size → FetchWithin f n
     → n ≡ 16384 → GoesBeyond m
@@ -128,16 +105,13 @@ module _ (szx : ℕ) where
         let runs = (sent_now szx t c x is).runs ∙ ap (λ o. Some o) op.2 in
         by_origin x is op.0 op.1 op.2 runs (origin szx t c k op.0 op.1 runs)
 
-  abbrev pub IsWithin : ℕ → List Call → Type 0
-  IsWithin k t = (requests szx k t ≤ all_passes) ⊎ Sometime (HearsBeyond szx k) t
-
   step : (t : List Call) (c : Call) (k : ℕ) → ClientRows szx (c ∷ t)
-      → ((m : Message) → hears c ≡ Some m → Answers szx t c m) → IsWithin k t → IsWithin k (c ∷ t)
+      → ((m : Message) → hears c ≡ Some m → Answers szx t c m) → IsWithin szx k t → IsWithin szx k (c ∷ t)
   step t c k rows answers (inr h) = inr (inr h)
   step t c k rows answers (inl few) = by (sent_or_not k (sends (own_of szx t) c))
     where
       by_count : (x : Sending) → sends (own_of szx t) c ≡ Some x → call_of x.operation ≡ Some k → (b : Bool)
-          → nat_lt (requests szx k t) 16384 ≡ b → IsWithin k (c ∷ t)
+          → nat_lt (requests szx k t) 16384 ≡ b → IsWithin szx k (c ∷ t)
       by_count x is of true less = let one = at_most_one k (sends (own_of szx t) c) in let l =
           ltb-true (requests szx k t) 16384 less in inl (omega (arith, one, l))
       by_count x is of false not_less =
@@ -145,11 +119,12 @@ module _ (szx : ℕ) where
           inr (inl (hears_beyond t c k rows answers (omega (arith, few, l)) x is of))
 
       by : (one_sent k (sends (own_of szx t) c) ≡ 0)
-          ⊎ ((x : Sending) × (sends (own_of szx t) c ≡ Some x) × (call_of x.operation ≡ Some k)) → IsWithin k (c ∷ t)
+          ⊎ ((x : Sending) × (sends (own_of szx t) c ≡ Some x) × (call_of x.operation ≡ Some k))
+          → IsWithin szx k (c ∷ t)
       by (inl none) = inl (omega (arith, few, none))
       by (inr h) = by_count h.0 h.1 h.2 (nat_lt (requests szx k t) 16384) refl
 
-  all_within : (t : List Call) → ClientRows szx t → AnswersLast szx t → (k : ℕ) → IsWithin k t
+  all_within : (t : List Call) → ClientRows szx t → AnswersLast szx t → (k : ℕ) → IsWithin szx k t
   all_within [] rows answers k = inl (omega arith)
   all_within (c ∷ t) rows answers k = step t c k rows answers.0 (all_within t rows.1 answers.1 k)
 

@@ -53,10 +53,10 @@ use Rattle.coap_ends.proofs.ClientSide.ClientLeading.{client_back}
 use Rattle.coap_ends.specs.ClientSide.ClientBodies.{ComesLast, is_first, is_first_of, HeardFor}
 use Rattle.coap_ends.specs.ClientSide.ClientBodies.{TookPart, IsFetched, BodiesAreWhole}
 use Rattle.coap_ends.specs.ClientSide.ClientOrder.{call_of}
-use Rattle.coap_ends.proofs.ClientSide.ClientMoves as mv
-use Rattle.coap_ends.proofs.ClientSide.ClientMoves.{Move, left_by}
-use Rattle.coap_ends.proofs.ClientSide.ClientTurns.{Closing, closing, Turned, quiet, goes_out, is_refused}
-use Rattle.coap_ends.proofs.ClientSide.ClientTurns.{fed_turned, ticked_turned}
+use Rattle.coap_ends.specs.ClientSide.ClientMoves as mv
+use Rattle.coap_ends.specs.ClientSide.ClientMoves.{Move, left_by}
+use Rattle.coap_ends.specs.ClientSide.ClientClosing.{Closing, quiet, goes_out, is_refused}
+use Rattle.coap_ends.proofs.ClientSide.ClientTurns.{closing, Turned, fed_turned, ticked_turned}
 use Rattle.coap_ends.proofs.ClientSide.AnswerReports.{GivesReport, gives_of}
 use Rattle.coap_ends.proofs.ClientSide.ClientOrigins.{Origin, kept, begins, follows, origin}
 use Rattle.coap_ends.proofs.ClientSide.ClientTokens.{last_was_sent}

@@ -32,8 +32,7 @@ use Rattle.coap_ends.specs.ClientSide.ClientReports.{lapse, done}
 use Rattle.coap_ends.specs.ClientSide.ClientCalls.{answer, has_tags}
 use Rattle.coap_ends.specs.ClientSide.ClientCalls as calls
 use Rattle.coap_ends.specs.ClientSide.ClientQueue.{are_long, block_option_number, is_full, taken_by, call_answer}
-use Rattle.coap_ends.specs.ClientSide.ClientQueue.{transfer_of}
-use Rattle.coap_ends.specs.ClientSide.ClientQueue.{calling}
+use Rattle.coap_ends.specs.ClientSide.ClientQueue.{transfer_of, calling}
 use Rattle.coap_ends.specs.ClientSide.ClientEffects.{Effect, ends, of, is_upload, has_sent}
 use Rattle.coap_ends.specs.ClientSide.ClientEvents.{failed, happened, passes, closed}
 use Rattle.coap_ends.specs.ClientSide.ClientDeeds.{at}
@@ -43,12 +42,12 @@ use Rattle.coap_ends.specs.ClientSide.ClientOrder.{call_of, turn_of}
 use Rattle.coap_ends.specs.ClientSide.ClientBegins.{WasSent}
 use Rattle.coap_ends.specs.ClientSide.ClientNumbers.{number_given, NumbersOnce}
 use Rattle.coap_ends.specs.ClientSide.ClientWords.{Taken, takes, WasTaken, Sending, sends}
+use Rattle.coap_ends.specs.ClientSide.ClientMoves as mv
+use Rattle.coap_ends.specs.ClientSide.ClientMoves.{Move, left_by}
+use Rattle.coap_ends.specs.ClientSide.ClientClosing.{Closing, quiet, goes_out, is_refused}
 use Rattle.coap_ends.proofs.ClientSide.PlaceLemmas.{same_number, number_self}
 use Rattle.coap_ends.proofs.ClientSide.ClientSends.{AllOf, all_uncancelled, happened_runs, passes_runs}
-use Rattle.coap_ends.proofs.ClientSide.ClientMoves as mv
-use Rattle.coap_ends.proofs.ClientSide.ClientMoves.{Move, left_by}
-use Rattle.coap_ends.proofs.ClientSide.ClientTurns.{Closing, closing, Turned, quiet, goes_out, is_refused, fed_turned}
-use Rattle.coap_ends.proofs.ClientSide.ClientTurns.{ticked_turned}
+use Rattle.coap_ends.proofs.ClientSide.ClientTurns.{closing, Turned, fed_turned, ticked_turned}
 use Rattle.coap_ends.proofs.ClientSide.ClientOrigins.{Origin, kept, begins, follows, origin}
 use Rattle.coap_ends.proofs.ClientSide.ClientBodies.{waits_closed}
 use Rattle.coap_ends.proofs.ClientSide.ClientInTurn.{Rises, Turns, turns}

@@ -10,8 +10,7 @@ use Rattle.coap_block.specs.FetchStep as F
 use Rattle.coap_exchange.specs.declared.asker.Event.{Event}
 use Rattle.coap_exchange.specs.declared.asker.Event.TheVariants as event_of
 use Rattle.coap_ends.specs.ClientSide.ClientTrace.{Request, Report, Failed, Done, NoIds, Reported, Call, Calls}
-use Rattle.coap_ends.specs.ClientSide.ClientTrace.{Observes, Cancels, Forgets, Feeds, Ticks}
-use Rattle.coap_ends.specs.ClientSide.ClientTrace.{NextOut, NextReport, Asked}
+use Rattle.coap_ends.specs.ClientSide.ClientTrace.{Observes, Cancels, Forgets, Feeds, Ticks, NextOut, NextReport, Asked}
 use Rattle.coap_ends.specs.ClientSide.ClientOwn.{Transfer, Operation, Calling, Registering, Fetching, Cancelling}
 use Rattle.coap_ends.specs.ClientSide.ClientOwn.{Dropped, Own}
 use Rattle.coap_ends.specs.ClientSide.ClientResponses.{part}
@@ -29,16 +28,16 @@ use Rattle.coap_ends.specs.ClientSide.ClientBegins.{WasSent}
 use Rattle.coap_ends.specs.ClientSide.ClientOfCalls.{CarriesBody, IsOfCall, AreOfCalls}
 use Rattle.coap_ends.specs.ClientSide.ClientOrder.{call_of}
 use Rattle.coap_ends.specs.ClientSide.ClientWords.{Sending, hears, last_sent}
+use Rattle.coap_ends.specs.ClientSide.ClientMoves as mv
+use Rattle.coap_ends.specs.ClientSide.ClientMoves.{Move, left_by}
+use Rattle.coap_ends.specs.ClientSide.ClientClosing.{Closing, quiet, goes_out, is_refused}
 use Rattle.coap_ends.proofs.ClientSide.ClientLeading.{client_back}
-use Rattle.coap_ends.proofs.ClientSide.ClientMoves as mv
-use Rattle.coap_ends.proofs.ClientSide.ClientMoves.{Move, left_by}
 use Rattle.coap_ends.proofs.ClientSide.ClientOfCalls.{are_of_calls}
 use Rattle.coap_ends.proofs.ClientSide.ClientOnce.{beneath}
 use Rattle.coap_ends.proofs.ClientSide.ClientPieces.{IfTracked, Tracked, all_sends, answers_last}
 use Rattle.coap_ends.proofs.ClientSide.ClientSends.{heard_in}
 use Rattle.coap_ends.proofs.ClientSide.ClientTokens.{last_was_sent}
-use Rattle.coap_ends.proofs.ClientSide.ClientTurns.{Closing, Turned, quiet, goes_out, is_refused, fed_turned}
-use Rattle.coap_ends.proofs.ClientSide.ClientTurns.{ticked_turned}
+use Rattle.coap_ends.proofs.ClientSide.ClientTurns.{Turned, fed_turned, ticked_turned}
 use Rattle.coap_ends.specs.ClientSide.ClientCodes.{Succeeds, Fails, IsOfCode, ReportsCodes}
 use Rattle.coap_ends.proofs.ClientSide.AnswerReports.{GivesReport, gives_of}
 use Rattle.coap_ends.proofs.ClientSide.AnswerCodes.{done_of, failed_of, each_done_of, each_failed_of}

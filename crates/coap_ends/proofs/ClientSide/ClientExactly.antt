@@ -98,7 +98,8 @@ module _ (server : Endpoint) (word : ℕ) where
 
     -- the input alone
     pub stripped : (e : Effect) (input : A.Call) (calls : List A.Call)
-        → Law (done_for e now w sent token kept input ++ calls) → Law (input ∷ calls)
+        → ExchangeLaw server word (done_for e now w sent token kept input ++ calls)
+        → ExchangeLaw server word (input ∷ calls)
     stripped e input calls p =
         let c = close now e token in
         let later = deeds c.deed c.own now w sent token kept in

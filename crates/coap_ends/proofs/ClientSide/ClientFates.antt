@@ -21,14 +21,15 @@ use Rattle.coap_ends.specs.ClientSide.ClientLaw.{own_of}
 use Rattle.coap_ends.specs.ClientSide.ClientAnswered.{of_call}
 use Rattle.coap_ends.specs.ClientSide.ClientPlaces.{final_of}
 use Rattle.coap_ends.specs.ClientSide.ClientWords.{Sending, sends, sent_by, hears}
+use Rattle.coap_ends.specs.ClientSide.ClientMoves as mv
+use Rattle.coap_ends.specs.ClientSide.ClientMoves.{Move, left_by}
+use Rattle.coap_ends.specs.ClientSide.ClientClosing.{Closing, quiet, goes_out, is_refused, sending_of}
 use Rattle.coap_ends.proofs.ClientSide.ClientSends.{heard_in}
 use Rattle.coap_ends.proofs.ClientSide.PlaceLemmas.{hit_self}
 use Rattle.coap_ends.proofs.ClientSide.PlaceEffects.{final_hit}
 use Rattle.coap_ends.proofs.ClientSide.PlaceEvents.{lapse_last, answer_last, LastOnly}
-use Rattle.coap_ends.proofs.ClientSide.ClientMoves as mv
-use Rattle.coap_ends.proofs.ClientSide.ClientMoves.{Move, left_by, releases_none}
-use Rattle.coap_ends.proofs.ClientSide.ClientTurns.{Closing, Turned, quiet, goes_out, is_refused, sending_of, left_with}
-use Rattle.coap_ends.proofs.ClientSide.ClientTurns.{fed_turned, ticked_turned}
+use Rattle.coap_ends.proofs.ClientSide.ClientMoves.{releases_none}
+use Rattle.coap_ends.proofs.ClientSide.ClientTurns.{Turned, left_with, fed_turned, ticked_turned}
 
 -- a call or a cancel
 abbrev pub IsLone : Operation → Type 0

@@ -3,7 +3,6 @@ use Rattle.std.proofs.Common.{◌≡◌, ℕ, max, Bool, true, false, Option, So
 use Rattle.std.proofs.Common.{◌∙◌, append_assoc, drop, Ok, Err}
 use Rattle.std.specs.Prelude.{◌==◌, not, slice_get, option_to_list, filter}
 use Rattle.std.proofs.lemmas.List.{append-nil}
-use Rattle.coap_types.specs.Past.{Always}
 use Rattle.coap_ends.specs.ClientSide.ClientTrace.{Reported, Call, Calls, Observes, Cancels, Forgets, Feeds, Ticks}
 use Rattle.coap_ends.specs.ClientSide.ClientTrace.{NextOut, NextReport, Asked}
 use Rattle.coap_ends.specs.ClientSide.ClientOwn.{Own}
@@ -11,7 +10,7 @@ use Rattle.coap_ends.specs.ClientSide.ClientEffects.{Effect}
 use Rattle.coap_ends.specs.ClientSide.ClientEvents.{happened, passes}
 use Rattle.coap_ends.specs.ClientSide.ClientDeeds.{at, close}
 use Rattle.coap_ends.specs.ClientSide.ClientLaw.{ClientRows, own_of}
-use Rattle.coap_ends.specs.ClientSide.ClientGives.{made, given, reports_given, forgotten}
+use Rattle.coap_ends.specs.ClientSide.ClientGives.{made, given, reports_given, NoneDropped}
 use Rattle.coap_ends.proofs.ClientSide.ClientHolding.{steadied, happened_steady, passes_steady}
 
 -- a call that gives none, and reports these
@@ -38,11 +37,7 @@ taken xs ys (z ∷ zs) (Some r) is h =
     append-nil xs ∙ (h ∙ (sym (append_assoc ys (z ∷ []) zs) ∙ ap (λ w. (ys ++ w ∷ []) ++ zs) e))
 
 module _ (szx : ℕ) where
-  -- nothing waits where an observation is forgotten
-  abbrev pub NoneDropped : List Call → Type 0
-  NoneDropped t = Always (λ past c. (number : ℕ) → forgotten c ≡ Some number → (own_of szx past).reports ≡ []) t
-
-  pub all_wait : (t : List Call) → ClientRows szx t → NoneDropped t → made szx t ≡ given t ++ (own_of szx t).reports
+  pub all_wait : (t : List Call) → ClientRows szx t → NoneDropped szx t → made szx t ≡ given t ++ (own_of szx t).reports
   all_wait [] rows none = refl
   all_wait (Calls now r (Ok n) ∷ t) rows none =
       same (made szx t) (given t) (own_of szx t).reports (all_wait t rows.1 none.1)

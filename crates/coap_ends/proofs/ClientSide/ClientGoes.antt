@@ -19,8 +19,7 @@ use Rattle.coap_exchange.specs.AskerRequests as Q
 use Rattle.coap_exchange.specs.AskerRequests.{content_of}
 use Rattle.coap_exchange.specs.AskerLaw as E
 use Rattle.coap_exchange.specs.AskerLaw.{ExchangeLaw}
-use Rattle.coap_exchange.specs.Tokens.{may_keep, is_kept}
-use Rattle.coap_exchange.specs.Tokens.{token_of as given_token}
+use Rattle.coap_exchange.specs.Tokens.{may_keep, is_kept, token_of as given_token}
 use Rattle.coap_ends.specs.declared.limits.TheConstants.{MAX_OBSERVATIONS as max_observations}
 use Rattle.coap_ends.specs.declared.refusals.CallRefusal.{CallRefusal}
 use Rattle.coap_ends.specs.declared.refusals.CallRefusal.TheVariants.{QueueFull, BodyTooLarge, BadPath, WatchesFull}
@@ -41,11 +40,12 @@ use Rattle.coap_ends.specs.ClientSide.ClientEvents.{failed, happened, passes, cl
 use Rattle.coap_ends.specs.ClientSide.ClientDeeds.{at, deeds}
 use Rattle.coap_ends.specs.ClientSide.ClientSteps.{IsRight, is_idle, asks as is_asked}
 use Rattle.coap_ends.specs.ClientSide.ClientLaw.{ClientLaw, ClientRows, own_of, lower_of}
+use Rattle.coap_ends.specs.ClientSide.ClientMoves as mv
+use Rattle.coap_ends.specs.ClientSide.ClientMoves.{Move, Moved, left_by}
+use Rattle.coap_ends.specs.ClientSide.ClientClosing.{Closing, quiet, goes_out, is_refused}
 use Rattle.coap_ends.proofs.ClientSide.ClientSends.{AllOf, all_uncancelled}
-use Rattle.coap_ends.proofs.ClientSide.ClientMoves as mv
-use Rattle.coap_ends.proofs.ClientSide.ClientMoves.{Move, Moved, left_by, releases_none, happened_moves, passes_moves}
-use Rattle.coap_ends.proofs.ClientSide.ClientTurns.{Closing, Turned, quiet, goes_out, is_refused, fed_turned}
-use Rattle.coap_ends.proofs.ClientSide.ClientTurns.{ticked_turned}
+use Rattle.coap_ends.proofs.ClientSide.ClientMoves.{happened_moves, passes_moves}
+use Rattle.coap_ends.proofs.ClientSide.ClientTurns.{Turned, fed_turned, ticked_turned}
 use Rattle.coap_ends.proofs.ClientSide.ClientOneByOne.{asks_runs}
 use Rattle.coap_ends.proofs.ClientSide.ClientTokens.{live, live_found, short_tokens}
 use Rattle.coap_ends.specs.ClientSide.ClientGoesOn.{GoesOn}

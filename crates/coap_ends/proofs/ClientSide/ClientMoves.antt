@@ -1,4 +1,4 @@
--- What a datagram or time makes of a client, case by case.
+-- What a datagram or time makes of a client is one of its moves.
 use Rattle.std.proofs.Common.{◌≡◌, ℕ, Bool, true, false, cond, not, ◌&&◌, Option, Some, None, List, ◌∷◌, ◌++◌, [], refl}
 use Rattle.std.proofs.Common.{ap, sym, ◌∙◌}
 use Rattle.std.specs.Prelude.{◌==◌}
@@ -11,20 +11,23 @@ use Rattle.coap_exchange.specs.declared.asker.Event.TheVariants as event_of
 use Rattle.coap_exchange.specs.declared.asker.Turn.{Turn}
 use Rattle.coap_exchange.specs.declared.asker.Turn.TheVariants as turn_of
 use Rattle.coap_observe.specs.Newer.{is_newer}
-use Rattle.coap_ends.specs.ClientSide.ClientTrace.{Request, Report, Ended, Cancelled}
+use Rattle.coap_ends.specs.ClientSide.ClientTrace.{Request, Ended}
 use Rattle.coap_ends.specs.ClientSide.ClientOwn.{Transfer, Operation, Calling, Registering, Fetching, Cancelling}
 use Rattle.coap_ends.specs.ClientSide.ClientOwn.{Dropped, Notified, Observation, Own}
 use Rattle.coap_ends.specs.ClientSide.ClientObservations.{observation_with, rest_of, to_fetch}
 use Rattle.coap_ends.specs.ClientSide.ClientResponses.{content, is_notification, sequence_in, part}
-use Rattle.coap_ends.specs.ClientSide.ClientReports.{lapse}
 use Rattle.coap_ends.specs.ClientSide.ClientCalls.{Next, answer}
 use Rattle.coap_ends.specs.ClientSide.ClientCalls as calls
-use Rattle.coap_ends.specs.ClientSide.ClientEffects.{Asks, Keeps, Effect, stays, runs, ends, of, held_by}
-use Rattle.coap_ends.specs.ClientSide.ClientFetching.{fetch_by, fetch_over, fetch_answered}
+use Rattle.coap_ends.specs.ClientSide.ClientEffects.{Asks, Keeps, stays, runs, ends, of}
+use Rattle.coap_ends.specs.ClientSide.ClientFetching.{fetch_by, fetch_answered}
 use Rattle.coap_ends.specs.ClientSide.ClientObserving.{begun, first_value, is_over, releases, registered, renewed}
 use Rattle.coap_ends.specs.ClientSide.ClientObserving.{passed, noticed_by}
-use Rattle.coap_ends.specs.ClientSide.ClientEvents.{called, cancel_over, answered, failed, happened, is_held}
+use Rattle.coap_ends.specs.ClientSide.ClientEvents.{called, answered, happened, is_held}
 use Rattle.coap_ends.specs.ClientSide.ClientEvents.{is_upload_op, starts, idle, passes}
+use Rattle.coap_ends.specs.ClientSide.ClientMoves.{Hears, Notes, Unheard, Moved, rests, copies, starts_next, fetches}
+use Rattle.coap_ends.specs.ClientSide.ClientMoves.{goes_on, is_done, registers, refuses, fetches_on, fetched, gives_up}
+use Rattle.coap_ends.specs.ClientSide.ClientMoves.{fetched_none, cancels, is_dropped, fails, is_ended, renews}
+use Rattle.coap_ends.specs.ClientSide.ClientMoves.{passes_by}
 use Rattle.coap_ends.proofs.ClientSide.PlaceLemmas.{same_number}
 
 -- a release asks for no request
@@ -32,80 +35,9 @@ pub releases_none : (o : Option Observation) (op : Operation) → releases o ≡
 releases_none None op h = cc h
 releases_none (Some o) op h = cc h
 
--- an answer, a notification, as the event
-abbrev pub Hears : Option Event → Message → Type 0
-Hears told m = told ≡ Some (event_of.Answer m)
-
-abbrev pub Notes : Option Event → Message → Type 0
-Notes told m = told ≡ Some (event_of.Notice m)
-
--- no answer to what runs, and no notification of a live observation
-pub record Unheard (s : Own) (told : Option Event) : Type 0 where
-  pub answer : (m : Message) → Hears told m → s.running ≡ None
-  pub notice : (m : Message) → Notes told m → observation_with m.token s.observations ≡ None
-
-pub data Move (s : Own) (now : ℕ) (told : Option Event) : Type 0 where
-  rests : Unheard s told → Move s now told
-  copies : told ≡ None → Move s now told
-  starts_next : (op : Operation) (queue : List Operation) → s.running ≡ None → to_fetch s.observations ≡ None
-      → s.queue ≡ op ∷ queue → told ≡ None → Move s now told
-  fetches : (k : ℕ) → s.running ≡ None → to_fetch s.observations ≡ Some k → told ≡ None → Move s now told
-  goes_on : (k : ℕ) (r : Request) (t next : Transfer) (m : Message) → Hears told m → s.running ≡ Some (Calling k r t)
-      → answer r t m ≡ calls.Asks next → Move s now told
-  is_done : (k : ℕ) (r : Request) (t : Transfer) (final : Bool) (report : Report) (m : Message) → Hears told m
-      → s.running ≡ Some (Calling k r t) → answer r t m ≡ calls.Ends final report → Move s now told
-  registers : (k : ℕ) (path : List (List ℕ)) (m : Message) → Hears told m → s.running ≡ Some (Registering k path)
-      → is_notification m ≡ true → Move s now told
-  refuses : (k : ℕ) (path : List (List ℕ)) (m : Message) → Hears told m → s.running ≡ Some (Registering k path)
-      → is_notification m ≡ false → Move s now told
-  fetches_on : (k : ℕ) (n : Notified) (m : Message) (num szx : ℕ) → Hears told m → s.running ≡ Some (Fetching k)
-      → rest_of k s.observations ≡ Some n → m.code ≡ content → part n.fetch m ≡ verdict.Ask num szx → Move s now told
-  fetched : (k : ℕ) (n : Notified) (m : Message) → Hears told m → s.running ≡ Some (Fetching k)
-      → rest_of k s.observations ≡ Some n → m.code ≡ content → part n.fetch m ≡ verdict.Done → Move s now told
-  gives_up : (k : ℕ) (m : Message) → Hears told m → s.running ≡ Some (Fetching k) → Move s now told
-  fetched_none : (k : ℕ) (m : Message) → Hears told m → s.running ≡ Some (Fetching k) → Move s now told
-  cancels : (k : ℕ) (m : Message) → Hears told m → s.running ≡ Some (Cancelling k) → Move s now told
-  is_dropped : (m : Message) → Hears told m → s.running ≡ Some Dropped → Move s now told
-  fails : (e : Event) → Unheard s told → Move s now told
-  is_ended : (o : Observation) (m : Message) → Notes told m → observation_with m.token s.observations ≡ Some o
-      → is_notification m ≡ false → Move s now told
-  renews : (o : Observation) (m : Message) → Notes told m → observation_with m.token s.observations ≡ Some o
-      → is_notification m ≡ true → is_newer o.watch.mark (sequence_in m) now ≡ true → Move s now told
-  passes_by : (o : Observation) (m : Message) → Notes told m → observation_with m.token s.observations ≡ Some o
-      → is_notification m ≡ true → is_newer o.watch.mark (sequence_in m) now ≡ false → Move s now told
-
--- what each leaves
-abbrev pub left_by : (s : Own) (now : ℕ) (told : Option Event) → Move s now told → Effect
-left_by s now told (rests un) = stays s
-left_by s now told (copies quiet_so) = stays (record s { sent = now })
-left_by s now told (starts_next op queue none rest first quiet_so) = runs op (record s { queue = queue })
-left_by s now told (fetches k none rest quiet_so) = runs (Fetching k) s
-left_by s now told (goes_on k r t next m hears is asks) = runs (Calling k r next) s
-left_by s now told (is_done k r t final report m hears is ends_it) = ends (of k report) (held_by (not final) t s)
-left_by s now told (registers k path m hears is note) = record {
-  own = record s { running = None; observations = s.observations ++ begun k path s.szx now m ∷ [] };
-  report = first_value k s.szx m;
-  deed = Keeps m.token;
-}
-left_by s now told (refuses k path m hears is note) = ends (of k (Ended m.code)) s
-left_by s now told (fetches_on k n m num szx hears is rest code asks) = fetch_by k n s m (verdict.Ask num szx)
-left_by s now told (fetched k n m hears is rest code done) = fetch_by k n s m verdict.Done
-left_by s now told (gives_up k m hears is) = fetch_over k None s
-left_by s now told (fetched_none k m hears is) = ends None s
-left_by s now told (cancels k m hears is) = cancel_over k Cancelled s
-left_by s now told (is_dropped m hears is) = ends None s
-left_by s now told (fails e un) = failed (λ t. true) (lapse e) s s.running
-left_by s now told (is_ended o m notes found note) = is_over o.number (Ended m.code) s
-left_by s now told (renews o m notes found note newer) = renewed o s now m
-left_by s now told (passes_by o m notes found note newer) = stays (passed o s now m)
-
 untold : (s : Own) (told : Option Event) → ((m : Message) → Hears told m → ⊥) → ((m : Message) → Notes told m → ⊥)
     → Unheard s told
 untold s told a n = record { answer = λ m h. absurd (a m h); notice = λ m h. absurd (n m h) }
-
--- one of them is what it makes
-abbrev pub Moved : (s : Own) (now : ℕ) (told : Option Event) → Effect → Type 0
-Moved s now told e = (mv : Move s now told) × (e ≡ left_by s now told mv)
 
 module _ (s : Own) (now : ℕ) (m : Message) where
   abbrev told : Option Event

@@ -32,6 +32,9 @@ use Rattle.coap_ends.specs.ClientSide.ClientLaw.{ClientLaw, own_of, lower_of}
 use Rattle.coap_ends.specs.ClientSide.ClientPlaces.{hit, in_observations}
 use Rattle.coap_ends.specs.ClientSide.ClientWords.{Sending, sends}
 use Rattle.coap_ends.specs.ClientSide.ClientBegins.{WasSent}
+use Rattle.coap_ends.specs.ClientSide.ClientMoves as mv
+use Rattle.coap_ends.specs.ClientSide.ClientMoves.{Move, left_by}
+use Rattle.coap_ends.specs.ClientSide.ClientClosing.{Closing, quiet, goes_out, is_refused, sending_of}
 use Rattle.coap_ends.proofs.ClientSide.PlaceLemmas.{same_number, number_self}
 use Rattle.coap_ends.proofs.ClientSide.PlaceEffects.{AllWait}
 use Rattle.coap_ends.proofs.ClientSide.ClientSends.{AllOf}
@@ -40,10 +43,8 @@ use Rattle.coap_ends.proofs.ClientSide.AllWaiting.{all_wait}
 use Rattle.coap_ends.proofs.ClientSide.ClientAsked as asked
 use Rattle.coap_ends.proofs.ClientSide.ClientLeading.{client_back}
 use Rattle.coap_ends.proofs.ClientSide.ClientTokens.{Registered, live, was_asked}
-use Rattle.coap_ends.proofs.ClientSide.ClientMoves as mv
-use Rattle.coap_ends.proofs.ClientSide.ClientMoves.{Move, left_by, releases_none}
-use Rattle.coap_ends.proofs.ClientSide.ClientTurns.{Closing, Turned, quiet, goes_out, is_refused, sending_of}
-use Rattle.coap_ends.proofs.ClientSide.ClientTurns.{fed_turned, ticked_turned}
+use Rattle.coap_ends.proofs.ClientSide.ClientMoves.{releases_none}
+use Rattle.coap_ends.proofs.ClientSide.ClientTurns.{Turned, fed_turned, ticked_turned}
 use Rattle.coap_ends.specs.ClientSide.ClientOfObservations.{WasObserved, observation_for, AsksFor}
 use Rattle.coap_ends.specs.ClientSide.ClientOfObservations.{IsOfObservation, AreOfObservations}
 use Rattle.coap_ends.proofs.ClientSide.ObservationOrigins.{In, in_count}

@@ -17,7 +17,7 @@ use Rattle.coap_ends.specs.ClientSide.ClientOwn.{Fetching, Cancelling, Dropped, 
 use Rattle.coap_ends.specs.ClientSide.ClientRequests.{is_longer}
 use Rattle.coap_ends.specs.ClientSide.ClientResponses.{continue, block_at}
 use Rattle.coap_ends.specs.ClientSide.ClientReports.{done}
-use Rattle.coap_ends.specs.ClientSide.ClientCalls.{Next, answer}
+use Rattle.coap_ends.specs.ClientSide.ClientCalls.{answer}
 use Rattle.coap_ends.specs.ClientSide.ClientCalls as calls
 use Rattle.coap_ends.specs.ClientSide.ClientEffects.{Asks, Effect}
 use Rattle.coap_ends.specs.ClientSide.ClientEvents.{failed, closed}
@@ -35,10 +35,11 @@ use Rattle.coap_ends.proofs.ClientSide.ClientPieces.{answers_last}
 use Rattle.coap_ends.proofs.ClientSide.ClientLeading.{client_back}
 use Rattle.coap_ends.specs.ClientSide.ClientBegins.{WasSent}
 use Rattle.coap_ends.specs.ClientSide.ClientOrder.{call_of, is_last, HearsBy, InOrder, AreInOrder, OneLast}
-use Rattle.coap_ends.proofs.ClientSide.ClientMoves as mv
-use Rattle.coap_ends.proofs.ClientSide.ClientMoves.{Move, left_by, releases_none}
-use Rattle.coap_ends.proofs.ClientSide.ClientTurns.{Closing, Turned, quiet, goes_out, is_refused, sending_of, left_with}
-use Rattle.coap_ends.proofs.ClientSide.ClientTurns.{fed_turned, ticked_turned}
+use Rattle.coap_ends.specs.ClientSide.ClientMoves as mv
+use Rattle.coap_ends.specs.ClientSide.ClientMoves.{Move, left_by}
+use Rattle.coap_ends.specs.ClientSide.ClientClosing.{Closing, quiet, goes_out, is_refused, sending_of}
+use Rattle.coap_ends.proofs.ClientSide.ClientMoves.{releases_none}
+use Rattle.coap_ends.proofs.ClientSide.ClientTurns.{Turned, left_with, fed_turned, ticked_turned}
 use Rattle.coap_ends.proofs.ClientSide.ClientFates.{IsLone, Fate, runs_on, goes_on, ends_it, fate}
 use Rattle.coap_ends.proofs.ClientSide.ClientInTurn.{in_turn}
 

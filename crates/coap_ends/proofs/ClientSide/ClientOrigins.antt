@@ -18,11 +18,12 @@ use Rattle.coap_ends.specs.ClientSide.ClientEvents.{failed, closed}
 use Rattle.coap_ends.specs.ClientSide.ClientDeeds.{at}
 use Rattle.coap_ends.specs.ClientSide.ClientLaw.{own_of}
 use Rattle.coap_ends.specs.ClientSide.ClientWords.{Sending, sends, sent_by, hears}
+use Rattle.coap_ends.specs.ClientSide.ClientMoves as mv
+use Rattle.coap_ends.specs.ClientSide.ClientMoves.{Move, left_by}
+use Rattle.coap_ends.specs.ClientSide.ClientClosing.{Closing, quiet, goes_out, is_refused, sending_of}
 use Rattle.coap_ends.proofs.ClientSide.ClientSends.{heard_in}
-use Rattle.coap_ends.proofs.ClientSide.ClientMoves as mv
-use Rattle.coap_ends.proofs.ClientSide.ClientMoves.{Move, left_by, releases_none}
-use Rattle.coap_ends.proofs.ClientSide.ClientTurns.{Closing, Turned, quiet, goes_out, is_refused, sending_of, left_with}
-use Rattle.coap_ends.proofs.ClientSide.ClientTurns.{fed_turned, ticked_turned}
+use Rattle.coap_ends.proofs.ClientSide.ClientMoves.{releases_none}
+use Rattle.coap_ends.proofs.ClientSide.ClientTurns.{Turned, left_with, fed_turned, ticked_turned}
 
 -- it ran before, and nothing is sent; it was the first of the queue; or it goes on
 pub data Origin (szx : ℕ) (t : List Call) (c : Call) (k : ℕ) (r : Request) (tr : Transfer) : Type 0 where

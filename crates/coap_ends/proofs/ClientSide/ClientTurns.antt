@@ -8,37 +8,19 @@ use Rattle.coap_exchange.specs.declared.asker.Event.TheVariants as event_of
 use Rattle.coap_exchange.specs.declared.asker.Turn.{Turn}
 use Rattle.coap_layer.specs.Trace as L
 use Rattle.coap_types.specs.declared.endpoint.Endpoint.{Endpoint}
-use Rattle.coap_ends.specs.ClientSide.ClientTrace.{NoIds, Requested, Call}
-use Rattle.coap_ends.specs.ClientSide.ClientTrace.{Feeds, Ticks}
-use Rattle.coap_ends.specs.ClientSide.ClientOwn.{Operation, Own}
-use Rattle.coap_ends.specs.ClientSide.ClientRequests.{message_of}
-use Rattle.coap_ends.specs.ClientSide.ClientEffects.{Deed, Rests, Asks, Keeps, Releases, Effect, has_sent}
-use Rattle.coap_ends.specs.ClientSide.ClientEvents.{failed, happened, passes, closed}
+use Rattle.coap_ends.specs.ClientSide.ClientTrace.{Requested, Call, Feeds, Ticks}
+use Rattle.coap_ends.specs.ClientSide.ClientOwn.{Own}
+use Rattle.coap_ends.specs.ClientSide.ClientEffects.{Deed, Rests, Asks, Keeps, Releases, Effect}
+use Rattle.coap_ends.specs.ClientSide.ClientEvents.{happened, passes, closed}
 use Rattle.coap_ends.specs.ClientSide.ClientDeeds.{at}
 use Rattle.coap_ends.specs.ClientSide.ClientSteps.{reports, reporting, requested, asking}
 use Rattle.coap_ends.specs.ClientSide.ClientLaw.{own_of}
-use Rattle.coap_ends.specs.ClientSide.ClientWords.{Sending, sends, sent_by, hears}
+use Rattle.coap_ends.specs.ClientSide.ClientWords.{sends, sent_by, hears}
 use Rattle.coap_ends.proofs.ClientSide.ClientSends.{heard_in}
 use Rattle.coap_ends.specs.ClientSide.ClientNewer.{taken_by, notifies}
-use Rattle.coap_ends.proofs.ClientSide.ClientMoves.{Move, left_by, happened_moves, passes_moves}
-
-abbrev pub sending_of : Effect → Operation → List ℕ → Sending
-sending_of e op key = record { operation = op; token = key; request = message_of e.own.observations op }
-
--- what the sending makes of it
-pub data Closing (now : ℕ) (e : Effect) (token : Result (List ℕ) AskRefusal) : Type 0 where
-  quiet :
-      ((op : Operation) → e.deed ≡ Asks op → ⊥) → sent_by e e.deed token ≡ None
-      → (closed now e e.deed token).own ≡ e.own → (closed now e e.deed token).report ≡ e.report
-      → Closing now e token
-  goes_out :
-      (op : Operation) (key : List ℕ) → e.deed ≡ Asks op → token ≡ Ok key
-      → sent_by e e.deed token ≡ Some (sending_of e op key)
-      → (closed now e e.deed token).own ≡ record e.own { sent = now } → (closed now e e.deed token).report ≡ None
-      → Closing now e token
-  is_refused :
-      (op : Operation) (why : AskRefusal) → e.deed ≡ Asks op → token ≡ Err why → sent_by e e.deed token ≡ None
-      → closed now e e.deed token ≡ failed has_sent NoIds e.own (Some op) → Closing now e token
+use Rattle.coap_ends.specs.ClientSide.ClientClosing.{Closing, quiet, goes_out, is_refused}
+use Rattle.coap_ends.specs.ClientSide.ClientMoves.{Move, left_by}
+use Rattle.coap_ends.proofs.ClientSide.ClientMoves.{happened_moves, passes_moves}
 
 module _ (now : ℕ) (e : Effect) where
   closing_by : (d : Deed) → e.deed ≡ d → (token : Result (List ℕ) AskRefusal) → Closing now e token

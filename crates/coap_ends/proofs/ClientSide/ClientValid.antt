@@ -38,10 +38,10 @@ use Rattle.coap_ends.proofs.ClientSide.PlaceLemmas.{same_number}
 use Rattle.coap_ends.proofs.ClientSide.ClientSends.{AllOf, heard_in}
 use Rattle.coap_ends.proofs.ClientSide.ClientPieces.{answers_last}
 use Rattle.coap_ends.specs.ClientSide.ClientValid.{IsValidated, ValidOfTags}
-use Rattle.coap_ends.proofs.ClientSide.ClientMoves as mv
-use Rattle.coap_ends.proofs.ClientSide.ClientMoves.{Move, left_by}
-use Rattle.coap_ends.proofs.ClientSide.ClientTurns.{Closing, Turned, quiet, goes_out, is_refused, fed_turned}
-use Rattle.coap_ends.proofs.ClientSide.ClientTurns.{ticked_turned}
+use Rattle.coap_ends.specs.ClientSide.ClientMoves as mv
+use Rattle.coap_ends.specs.ClientSide.ClientMoves.{Move, left_by}
+use Rattle.coap_ends.specs.ClientSide.ClientClosing.{Closing, quiet, goes_out, is_refused}
+use Rattle.coap_ends.proofs.ClientSide.ClientTurns.{Turned, fed_turned, ticked_turned}
 use Rattle.coap_ends.proofs.ClientSide.AnswerReports.{gives_of}
 use Rattle.coap_ends.proofs.ClientSide.ClientOrigins.{Origin, kept, begins, follows, origin}
 use Rattle.coap_ends.proofs.ClientSide.ClientBodies.{heard_for}

@@ -36,21 +36,20 @@ use Rattle.coap_ends.specs.ClientSide.ClientAnswers.{Answers}
 use Rattle.coap_ends.specs.ClientSide.ClientBodies.{ComesAs}
 use Rattle.coap_ends.specs.ClientSide.ClientWords.{hears, runs_fetch}
 use Rattle.coap_ends.specs.ClientSide.ClientNewer.{Newly, newly, registers, renews, taken_by, notifies}
+use Rattle.coap_ends.specs.ClientSide.ClientMoves as mv
+use Rattle.coap_ends.specs.ClientSide.ClientMoves.{Move, left_by, Hears}
+use Rattle.coap_ends.specs.ClientSide.ClientClosing.{Closing, quiet, goes_out, is_refused}
 use Rattle.coap_ends.proofs.ClientSide.PlaceLemmas.{same_number, number_self}
 use Rattle.coap_ends.proofs.ClientSide.PlaceEvents.{lapse_last, answer_last, LastOnly}
 use Rattle.coap_ends.proofs.ClientSide.ClientSends.{heard_in}
 use Rattle.coap_ends.proofs.ClientSide.ClientPieces.{answers_last}
-use Rattle.coap_ends.proofs.ClientSide.ClientBodies.{part_asks, part_done}
+use Rattle.coap_ends.proofs.ClientSide.ClientBodies.{part_asks, part_done, gathered_none, each_append, each_map}
 use Rattle.coap_ends.proofs.ClientSide.ClientLeading.{client_back}
 use Rattle.coap_ends.proofs.ClientSide.ClientTokens.{last_was_sent}
-use Rattle.coap_ends.proofs.ClientSide.ClientMoves as mv
-use Rattle.coap_ends.proofs.ClientSide.ClientMoves.{Move, left_by, Hears}
-use Rattle.coap_ends.proofs.ClientSide.ClientTurns.{Closing, Turned, quiet, goes_out, is_refused, fed_turned}
-use Rattle.coap_ends.proofs.ClientSide.ClientTurns.{ticked_turned}
+use Rattle.coap_ends.proofs.ClientSide.ClientTurns.{Turned, fed_turned, ticked_turned}
 use Rattle.coap_ends.specs.ClientSide.ClientNotified.{is_newly_of, newest}
 use Rattle.coap_ends.specs.ClientSide.ClientRising.{value_reported, ShowsValue}
 use Rattle.coap_ends.specs.ClientSide.ClientValues.{HeardToFetch, TookRest, IsObserved, ValuesAreWhole}
-use Rattle.coap_ends.proofs.ClientSide.ClientBodies.{gathered_none, each_append, each_map}
 use Rattle.coap_ends.proofs.ClientSide.ClientMarks.{answer_none}
 use Rattle.coap_ends.proofs.ClientSide.FetchesSince.{fetch_since}
 use Rattle.coap_ends.proofs.ClientSide.ObservationOrigins.{In, SourceOf, kept, rests, goes_on, comes}

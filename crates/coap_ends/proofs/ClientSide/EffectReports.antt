@@ -17,8 +17,7 @@ use Rattle.coap_exchange.specs.declared.asker.AskRefusal.{AskRefusal}
 use Rattle.coap_ends.specs.ClientSide.ClientTrace.{Request, Report, Valid, Failed, Done, BadBlock, NoIds, Ended}
 use Rattle.coap_ends.specs.ClientSide.ClientTrace.{Reported}
 use Rattle.coap_ends.specs.ClientSide.ClientOwn.{Transfer, Fetches, Uploads, Single, Operation, Calling, Registering}
-use Rattle.coap_ends.specs.ClientSide.ClientOwn.{Fetching, Cancelling, Dropped}
-use Rattle.coap_ends.specs.ClientSide.ClientOwn.{Notified, Observation, Own}
+use Rattle.coap_ends.specs.ClientSide.ClientOwn.{Fetching, Cancelling, Dropped, Notified, Observation, Own}
 use Rattle.coap_ends.specs.ClientSide.ClientRequests.{is_longer}
 use Rattle.coap_ends.specs.ClientSide.ClientResponses.{content, valid, continue, tag_in, block_at, part}
 use Rattle.coap_ends.specs.ClientSide.ClientResponses.{is_notification, sequence_in}
@@ -33,7 +32,7 @@ use Rattle.coap_ends.specs.ClientSide.ClientObserving.{first_value}
 use Rattle.coap_ends.specs.ClientSide.ClientEffects.{Rests, Keeps, Releases}
 use Rattle.coap_ends.specs.ClientSide.ClientEvents.{called, answered, failed, closed, starts, idle, is_held}
 use Rattle.coap_ends.specs.ClientSide.ClientEvents.{is_upload_op}
-use Rattle.coap_ends.proofs.ClientSide.ClientTurns.{Closing, quiet, goes_out, is_refused}
+use Rattle.coap_ends.specs.ClientSide.ClientClosing.{Closing, quiet, goes_out, is_refused}
 use Rattle.coap_ends.specs.ClientSide.ClientEnds.{is_end, reported_of, report_to, Unsent, unsent_by}
 
 -- the end of an exchange, or that none began

@@ -21,14 +21,15 @@ use Rattle.coap_ends.specs.ClientSide.ClientDeeds.{at}
 use Rattle.coap_ends.specs.ClientSide.ClientSteps.{reports}
 use Rattle.coap_ends.specs.ClientSide.ClientLaw.{own_of}
 use Rattle.coap_ends.specs.ClientSide.ClientPlaces.{hit, in_observations, final_of, forgotten_by}
+use Rattle.coap_ends.specs.ClientSide.ClientMoves as mv
+use Rattle.coap_ends.specs.ClientSide.ClientMoves.{Move, left_by}
+use Rattle.coap_ends.specs.ClientSide.ClientClosing.{Closing, quiet, goes_out, is_refused}
 use Rattle.coap_ends.proofs.ClientSide.PlaceLemmas.{in_map, in_observations_append, number_if}
 use Rattle.coap_ends.proofs.ClientSide.PlaceLemmas.{without, in_without_other}
 use Rattle.coap_ends.proofs.ClientSide.PlaceEvents.{lapse_last}
 use Rattle.coap_ends.proofs.ClientSide.PlaceEffects.{final_hit}
-use Rattle.coap_ends.proofs.ClientSide.ClientMoves as mv
-use Rattle.coap_ends.proofs.ClientSide.ClientMoves.{Move, left_by, releases_none}
-use Rattle.coap_ends.proofs.ClientSide.ClientTurns.{Closing, Turned, quiet, goes_out, is_refused, fed_turned}
-use Rattle.coap_ends.proofs.ClientSide.ClientTurns.{ticked_turned}
+use Rattle.coap_ends.proofs.ClientSide.ClientMoves.{releases_none}
+use Rattle.coap_ends.proofs.ClientSide.ClientTurns.{Turned, fed_turned, ticked_turned}
 
 -- without one number each other is there
 count_without : (n k : ℕ) (os : List Observation) → 1 ≤ in_observations n os

@@ -11,6 +11,7 @@ use Rattle.coap_ends.specs.ClientSide.ClientAnswered.{NoneAfter, ReportedOnce}
 use Rattle.coap_ends.specs.ClientSide.ClientBegins.{BeginAtOnce, ConsAreRequests}
 use Rattle.coap_ends.specs.ClientSide.ClientBlocks.{SendsPieces}
 use Rattle.coap_ends.specs.ClientSide.ClientBodies.{BodiesAreWhole}
+use Rattle.coap_ends.specs.ClientSide.ClientClock.{moment_of}
 use Rattle.coap_ends.specs.ClientSide.ClientContinued.{AreContinued}
 use Rattle.coap_ends.specs.ClientSide.ClientDeeds.{effect, at}
 use Rattle.coap_ends.specs.ClientSide.ClientGives.{GivesInOrder}
@@ -125,19 +126,7 @@ others szx t = others_are_gets szx t
 pub waits : (szx : ℕ) (t : List Call) → ClientRows szx t → GivesInOrder szx t
 waits szx t rows = gives.waits szx t rows
 
--- The moment of a call counts: the later of it and the latest so far.
-
-abbrev pub moment_of : Own → Call → ℕ
-moment_of s (Calls now r answer) = max s.clock now
-moment_of s (Observes now path answer) = max s.clock now
-moment_of s (Cancels now number answer) = max s.clock now
-moment_of s (Forgets number kept answer) = s.clock
-moment_of s (Feeds now from bytes word up settled event sent token kept) = max s.clock now
-moment_of s (Ticks now word below t sent token kept answer) = max s.clock now
-moment_of s (NextOut answer) = s.clock
-moment_of s (NextReport answer) = s.clock
-moment_of s (Asked answer) = s.clock
-
+-- The moment of a call counts.
 pub clock_is : (s : Own) (c : Call) → (after s c).clock ≡ moment_of s c
 clock_is s (Calls now r (Ok number)) = refl
 clock_is s (Calls now r (Err why)) = refl

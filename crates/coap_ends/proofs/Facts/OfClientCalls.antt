@@ -2,14 +2,14 @@
 pub use Rattle.coap_ends.proofs.ClientSide.AnswerCodes.{apart}
 pub use Rattle.coap_ends.proofs.ClientSide.BlocksApart.{blocks_apart}
 pub use Rattle.coap_ends.proofs.ClientSide.ClientAsksOnce.{ask_once}
-pub use Rattle.coap_ends.proofs.ClientSide.ClientBeyond.{GoesBeyond, HearsBeyond, within_or_beyond}
+pub use Rattle.coap_ends.proofs.ClientSide.ClientBeyond.{within_or_beyond}
 pub use Rattle.coap_ends.proofs.ClientSide.ClientBodies.{part_asks}
 pub use Rattle.coap_ends.proofs.ClientSide.ClientBounds.{are_bounded}
 pub use Rattle.coap_ends.proofs.ClientSide.ClientCodes.{reports_codes}
 pub use Rattle.coap_ends.proofs.ClientSide.ClientEnded.{are_over}
 pub use Rattle.coap_ends.proofs.ClientSide.ClientEnds.{all_ends}
 pub use Rattle.coap_ends.proofs.ClientSide.ClientExactly.{stripped}
-pub use Rattle.coap_ends.proofs.ClientSide.ClientGivesAll.{NoneDropped, all_wait}
+pub use Rattle.coap_ends.proofs.ClientSide.ClientGivesAll.{all_wait}
 pub use Rattle.coap_ends.proofs.ClientSide.ClientGoes.{goes_on}
 pub use Rattle.coap_ends.proofs.ClientSide.ClientNoted.{are_noted}
 pub use Rattle.coap_ends.proofs.ClientSide.ClientNotified.{are_taken}
@@ -18,7 +18,7 @@ pub use Rattle.coap_ends.proofs.ClientSide.ClientOneByOne.{asks_runs}
 pub use Rattle.coap_ends.proofs.ClientSide.ClientRest.{comes_to_rest}
 pub use Rattle.coap_ends.proofs.ClientSide.ClientRising.{values_rise}
 pub use Rattle.coap_ends.proofs.ClientSide.ClientTaken.{all_taken}
-pub use Rattle.coap_ends.proofs.ClientSide.ClientTurns.{Closing, closing, goes_out, is_refused, quiet}
+pub use Rattle.coap_ends.proofs.ClientSide.ClientTurns.{closing}
 pub use Rattle.coap_ends.proofs.ClientSide.ClientTypes.{are_of_types}
 pub use Rattle.coap_ends.proofs.ClientSide.ClientValues.{values_are_whole}
 pub use Rattle.coap_ends.proofs.ClientSide.PlaceLemmas.{same_number}

@@ -39,7 +39,6 @@ use Rattle.coap_ends.proofs.ServerSide.Serving.ServerBrought.{servers_back}
 use Rattle.coap_ends.proofs.ServerSide.Serving.ServerReads.{verdicts_read}
 use Rattle.coap_ends.proofs.ServerSide.Serving.ServerWaiting.{ready_are_served}
 pub use Rattle.coap_ends.proofs.ServerSide.Holding.ServerHolds.{version_is, held_is, all_served, holds_changes}
-pub use Rattle.coap_ends.proofs.ServerSide.Serving.ServedWasHandedUp.{same_asked_is}
 
 pub reads : VerdictsRead
 reads = verdicts_read

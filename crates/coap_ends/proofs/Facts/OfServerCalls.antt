@@ -1,4 +1,5 @@
 -- What each call of a server does, for proofs above.
+pub use Rattle.coap_ends.proofs.ServerSide.Replying.RefusalsAreErrors.{refusals_are_errors}
 pub use Rattle.coap_ends.proofs.ServerSide.Serving.ServedNow.{served_now}
 pub use Rattle.coap_ends.proofs.ServerSide.Serving.ServedWasHandedUp.{same_asked_is}
 pub use Rattle.coap_ends.proofs.ServerSide.Serving.ServerBrought.{comes_here, szx_is}

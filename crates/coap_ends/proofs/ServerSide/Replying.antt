@@ -1,5 +1,6 @@
 pub mod LayerSendsResponses
 pub mod NoneContinues
+pub mod RefusalsAreErrors
 pub mod ResponsesHaveRequests
 pub mod RepliesAtOnce
 pub mod GivenInOrder

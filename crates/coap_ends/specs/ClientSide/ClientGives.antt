@@ -1,7 +1,7 @@
 -- Which reports a client gives: those that it made, in their order, each once, but for those of a forgotten observation
 -- (RFC 7252, section 5.2).
 use Rattle.std.specs.Prelude.{◌≡◌, ℕ, Bool, true, Option, Some, None, List, [], ◌∷◌, ◌++◌, filter, option_to_list}
-use Rattle.coap_types.specs.Past.{Ever}
+use Rattle.coap_types.specs.Past.{Ever, Always}
 use Rattle.coap_ends.specs.ClientSide.ClientTrace.{Reported, Call, Forgets, NextReport}
 use Rattle.coap_ends.specs.ClientSide.ClientSteps.{reports}
 use Rattle.coap_ends.specs.ClientSide.ClientLaw.{own_of}
@@ -35,3 +35,7 @@ module _ (szx : ℕ) where
   abbrev pub GivesInOrder : List Call → Type 0
   GivesInOrder t = (p : Reported → Bool) → NoneForgotten p t
       → filter p (made t) ≡ filter p (given t) ++ filter p (own_of szx t).reports
+
+  -- No report waits as an observation is forgotten.
+  abbrev pub NoneDropped : List Call → Type 0
+  NoneDropped t = Always (λ past c. (number : ℕ) → forgotten c ≡ Some number → (own_of szx past).reports ≡ []) t

@@ -21,8 +21,9 @@ use Rattle.coap_ends.specs.ClientSide.ClientObservations.{observation_of}
 use Rattle.coap_ends.specs.ClientSide.ClientDeeds.{deeds, done_for, close, effect}
 use Rattle.coap_ends.specs.ClientSide.ClientLaw.{own_of, lower_of}
 use Rattle.coap_ends.specs.Adds.{asked_by_client}
+use Rattle.coap_ends.specs.ClientSide.ClientClock.{moment_of}
 use Rattle.coap_ends.proofs.Facts.Adds.{left_append}
-use Rattle.coap_ends.proofs.Facts.OfClient.{moment_of, clock_is}
+use Rattle.coap_ends.proofs.Facts.OfClient.{clock_is}
 use Rattle.coap_world.specs.Delivery.{FedToClient}
 use Rattle.coap_world.specs.Events.{server_end, Config}
 use Rattle.coap_world.specs.Record.{OfClient}

@@ -28,18 +28,17 @@ use Rattle.coap_ends.specs.ClientSide.ClientOwn.{Operation, Calling, Registering
 use Rattle.coap_ends.specs.ClientSide.ClientOwn.{Notified, Observation, Own}
 use Rattle.coap_ends.specs.ClientSide.ClientObservations.{observation_of}
 use Rattle.coap_ends.specs.ClientSide.ClientRequests.{flag_option, path_options, before_path, after_path, options_of}
-use Rattle.coap_ends.specs.ClientSide.ClientRequests.{block_option, block2_option}
-use Rattle.coap_ends.specs.ClientSide.ClientRequests.{message_of}
+use Rattle.coap_ends.specs.ClientSide.ClientRequests.{block_option, block2_option, message_of}
 use Rattle.coap_ends.specs.ClientSide.ClientEffects.{Deed, Rests, Asks, Keeps, Releases, Effect, has_sent}
 use Rattle.coap_ends.specs.ClientSide.ClientEvents.{failed, happened, passes, closed}
 use Rattle.coap_ends.specs.ClientSide.ClientDeeds.{at, deeds}
 use Rattle.coap_ends.specs.ClientSide.ClientHears.{AreFromServer}
 use Rattle.coap_ends.specs.ClientSide.ClientSteps.{lower}
 use Rattle.coap_ends.specs.ClientSide.ClientLaw.{ClientLaw, own_of, lower_of, layer_of}
+use Rattle.coap_ends.specs.ClientSide.ClientMoves.{Moved, left_by, Hears}
 use Rattle.coap_ends.proofs.Facts.OfClient as facts
-use Rattle.coap_ends.proofs.Facts.MovesOfClient.{Moved, left_by, releases_none, happened_moves, passes_moves, Hears}
-use Rattle.coap_ends.proofs.Facts.OfClientCalls.{asks_runs}
-use Rattle.coap_ends.proofs.Facts.OfClientCalls.{closing}
+use Rattle.coap_ends.proofs.Facts.MovesOfClient.{releases_none, happened_moves, passes_moves}
+use Rattle.coap_ends.proofs.Facts.OfClientCalls.{asks_runs, closing}
 use Rattle.coap_world.specs.Legal.{IsRequest}
 use Rattle.coap_world.proofs.Progress.EachElement.{Each, each_join, each_front, each_back, last_of}
 use Rattle.coap_world.proofs.Progress.SpelledInBytes.{ValuesAre, none_are, values_append}

@@ -1,40 +1,20 @@
 -- What the code of a response says: which reply is that of a request that is applied, which refusal is none.
-use Rattle.std.proofs.Common.{◌≡◌, inl, inr, ℕ, max, ◌==◌, nat_lt, Bool, true, false, ◌&&◌, ◌||◌, not, Option, Some}
-use Rattle.std.proofs.Common.{None, List, length, refl, ap, sym, subst, ◌∙◌, cond}
+use Rattle.std.proofs.Common.{◌≡◌, ◌≤◌, inl, inr, ℕ, ◌==◌, nat_lt, Bool, true, false, ◌&&◌, ◌||◌, not, Option, Some}
+use Rattle.std.proofs.Common.{None, List, length, refl, ap, sym, subst, ◌∙◌, cond, arith}
 use Rattle.std.specs.Prelude.{nat_le, is_some}
-use Rattle.coap_types.specs.Recognised.{lacks_critical}
-use Rattle.coap_types.specs.declared.block.Block.{Block}
-use Rattle.coap_types.specs.declared.direction.Direction.TheVariants as direction
-use Rattle.coap_types.specs.declared.message.Kind.{Kind}
-use Rattle.coap_types.specs.declared.message.Kind.TheVariants.{Con, Non, Ack, Rst}
 use Rattle.coap_types.specs.declared.message.TheConstants.Code as codes
 use Rattle.coap_types.specs.declared.request.Method.{Method}
 use Rattle.coap_types.specs.declared.request.Method.TheVariants.{Get, Post, Put, Delete}
-use Rattle.coap_types.specs.MethodCode.{method_of}
-use Rattle.coap_types.specs.OptionValues.{has, uint_at}
-use Rattle.coap_types.specs.RequestPath.{path_of}
-use Rattle.coap_types.specs.declared.path.TheConstants.{MAX_SEGMENTS as max_segments}
-use Rattle.coap_types.specs.declared.option_number.TheConstants.{BLOCK1 as block1, BLOCK2 as block2}
-use Rattle.coap_types.specs.declared.option_number.TheConstants.{PROXY_URI as proxy_uri, PROXY_SCHEME as proxy_scheme}
-use Rattle.coap_codec.specs.Message.{Message}
-use Rattle.coap_block.specs.AssemblyAnswer.{refusal_code}
-use Rattle.coap_block.specs.AssemblyState.{AssemblyState}
-use Rattle.coap_block.specs.declared.assembly_step.AssemblyRefusal.{AssemblyRefusal}
-use Rattle.coap_block.specs.declared.assembly_step.AssemblyRefusal.TheVariants.{BadRequest, EntityIncomplete}
-use Rattle.coap_block.specs.declared.assembly_step.AssemblyRefusal.TheVariants.{EntityTooLarge, Unavailable}
-use Rattle.coap_block.specs.declared.block_verdict.BlockVerdict.{BlockVerdict}
-use Rattle.coap_block.specs.declared.block_verdict.BlockVerdict.TheVariants.{Refuse, Join, Done}
 use Rattle.coap_block.specs.UploadStep.{UploadState, more_follows}
 use Rattle.coap_resource.specs.Content.{Content, Held, append_refusal, put_refusal}
 use Rattle.coap_resource.specs.Rate.{rate_refusal}
-use Rattle.coap_resource.specs.RequestOptions.{block_said, tag_of, precondition_fails, accepts, etag_names, block_of}
+use Rattle.coap_resource.specs.RequestOptions.{tag_of, precondition_fails, accepts, etag_names, block_of}
 use Rattle.coap_resource.specs.RequestOptions.{offset_by, szx_by}
 use Rattle.coap_resource.specs.Serves.{Question, Reply}
 use Rattle.coap_resource.specs.Serves as R
 use Rattle.coap_resource.specs.declared.refusal.StoreRefusal.{StoreRefusal}
 use Rattle.coap_resource.specs.declared.refusal.StoreRefusal.TheVariants as why
 use Rattle.coap_exchange.specs.AnswererTrace as E
-use Rattle.coap_exchange.specs.declared.answerer.Asked.{Asked}
 use Rattle.coap_ends.specs.ClientSide.ClientOfCalls.{CarriesBody}
 use Rattle.coap_ends.specs.ClientSide.ClientOrder.{is_last}
 use Rattle.coap_ends.specs.ClientSide.ClientOwn.{Transfer, Fetches, Uploads, Single, Operation, Calling, Registering}
@@ -42,13 +22,12 @@ use Rattle.coap_ends.specs.ClientSide.ClientOwn.{Fetching, Cancelling, Dropped}
 use Rattle.coap_ends.specs.ClientSide.ClientReports.{is_success}
 use Rattle.coap_ends.specs.ClientSide.ClientResponses.{created, deleted, changed}
 use Rattle.coap_ends.specs.ClientSide.ClientTrace as C
-use Rattle.coap_ends.specs.ServerSide.Follows.ServerGives.{refusal_by, refusal_of, refusal_in, NoticeOf}
-use Rattle.coap_ends.specs.ServerSide.ServerChecks as checks
-use Rattle.coap_ends.specs.ServerSide.ServerChecks.{Verdict, asks, is_reserved, verdict_on}
+use Rattle.coap_ends.specs.ServerSide.Follows.ServerGives.{refusal_in, NoticeOf}
+use Rattle.coap_ends.specs.ServerSide.ServerChecks.{bad_request}
 use Rattle.coap_ends.specs.ServerSide.ServerServing.{is_applied}
 use Rattle.coap_ends.specs.ServerSide.ServerTrace as S
-use Rattle.coap_ends.specs.ServerSide.ServerUploads.{ruling_of}
 use Rattle.coap_ends.proofs.Facts.OfClientCalls.{apart}
+use Rattle.coap_ends.proofs.Facts.OfServerCalls.{refusals_are_errors}
 use Rattle.coap_ends.specs.ClientSide.ClientCodes.{Succeeds, Fails}
 
 -- the codes by which a request of a method is applied
@@ -185,93 +164,18 @@ module _ (old : Content) (at : ℕ) (q : Question) (reply : Reply) (left : Conte
   pub reply_right : R.Serves old at q reply left → is_applied reply.code ≡ applied_by q.method reply.code
   reply_right h = unless_right (precondition_fails (old.holds q.path) q.options) h
 
--- what a request is refused with
-
-code_of : (a code : ℕ) → checks.Refused a ≡ checks.Refused code → is_applied a ≡ false → is_applied code ≡ false
-code_of a code h k = let same : a ≡ code = cc h in subst (λ n. is_applied n ≡ false) same k
-
-module _ (szx : ℕ) (m : Message) (code : ℕ) where
-  bad_code : (k : Kind) → checks.bad_by k ≡ checks.Refused code → is_applied code ≡ false
-  bad_code Con h = code_of checks.bad_option code h refl
-  bad_code Non h = absurd (cc h)
-  bad_code Ack h = absurd (cc h)
-  bad_code Rst h = absurd (cc h)
-
-  upload_code : (method : Method) (q : Question) (o : Option Block) → checks.uploading method q o ≡ checks.Refused code
-      → is_applied code ≡ false
-  upload_code Get q None h = absurd (cc h)
-  upload_code Post q None h = absurd (cc h)
-  upload_code Put q None h = absurd (cc h)
-  upload_code Delete q None h = absurd (cc h)
-  upload_code Put q (Some b) h = absurd (cc h)
-  upload_code Post q (Some b) h = absurd (cc h)
-  upload_code Get q (Some b) h = code_of checks.bad_request code h refl
-  upload_code Delete q (Some b) h = code_of checks.bad_request code h refl
-
-  check_code : (v : Verdict) (a b : Bool) → (v ≡ checks.Refused code → is_applied code ≡ false)
-      → cond a (checks.Refused checks.bad_request) (cond b (checks.Refused checks.bad_request) v) ≡ checks.Refused code
-      → is_applied code ≡ false
-  check_code v true b n h = code_of checks.bad_request code h refl
-  check_code v false true n h = code_of checks.bad_request code h refl
-  check_code v false false n h = n h
-
-  asked_code : (o : Option Method) → checks.asked_by szx o m ≡ checks.Refused code → is_applied code ≡ false
-  asked_code None h = code_of checks.method_not_allowed code h refl
-  asked_code (Some method) h =
-      check_code (checks.uploading method (checks.question szx method m) (block_said (uint_at block1 (asks m))))
-      (nat_lt max_segments (length (path_of (asks m))))
-      (is_reserved (uint_at block1 (asks m)) || is_reserved (uint_at block2 (asks m)))
-      (upload_code method (checks.question szx method m) (block_said (uint_at block1 (asks m)))) h
-
-  proxy_code : (b : Bool) → cond b (checks.Refused checks.proxying_not_supported)
-      (checks.asked_by szx (method_of m.code) m) ≡ checks.Refused code → is_applied code ≡ false
-  proxy_code true h = code_of checks.proxying_not_supported code h refl
-  proxy_code false h = asked_code (method_of m.code) h
-
-  checked_code : (b : Bool) → cond b (checks.bad_by m.kind)
-      (cond (has proxy_uri (asks m) || has proxy_scheme (asks m)) (checks.Refused checks.proxying_not_supported)
-      (checks.asked_by szx (method_of m.code) m)) ≡ checks.Refused code
-      → is_applied code ≡ false
-  checked_code true h = bad_code m.kind h
-  checked_code false h = proxy_code (has proxy_uri (asks m) || has proxy_scheme (asks m)) h
-
-  verdict_code : verdict_on szx m ≡ checks.Refused code → is_applied code ≡ false
-  verdict_code h = checked_code (lacks_critical direction.Request m.options) h
-
-block_code : (w : AssemblyRefusal) → is_applied (refusal_code w).0 ≡ false
-block_code BadRequest = refl
-block_code EntityIncomplete = refl
-block_code EntityTooLarge = refl
-block_code Unavailable = refl
-
-some_is : (a b : ℕ) → Some a ≡ Some b → a ≡ b
-some_is a b h = cc h
-
-ruled_code : (v : BlockVerdict) (code : ℕ) → refusal_by v ≡ Some code → is_applied code ≡ false
-ruled_code (Refuse w) code h = subst (λ n. is_applied n ≡ false) (some_is (refusal_code w).0 code h) (block_code w)
-ruled_code (Join size) code h = absurd (cc h)
-ruled_code Done code h = absurd (cc h)
-
-refused_code : (szx : ℕ) (m : Message) (uploads : AssemblyState) (at : ℕ) (a : Asked) (code : ℕ) (v : Verdict)
-    → verdict_on szx m ≡ v → refusal_of uploads at a v ≡ Some code → is_applied code ≡ false
-refused_code szx m uploads at a code checks.Ignored is h = absurd (cc h)
-refused_code szx m uploads at a code (checks.Refused n) is h =
-    verdict_code szx m code (is ∙ ap checks.Refused (some_is n code h))
-refused_code szx m uploads at a code (checks.Asks q) is h = absurd (cc h)
-refused_code szx m uploads at a code (checks.Uploads q b) is h = ruled_code (ruling_of uploads at a q b) code h
-
 -- no refusal says success
 pub refusal_none : (s : S.Own) (c : S.Call) (code : ℕ) → refusal_in s c ≡ Some code → is_applied code ≡ false
-refusal_none s (S.Feeds now from bytes word up (Some p) h below) code is =
-    refused_code s.szx p.1 s.uploads (max s.clock now) p.0 code (verdict_on s.szx p.1) refl is
-refusal_none s (S.Feeds now from bytes word up None h below) code is = absurd (cc is)
-refusal_none s (S.Sets now path format body answer left) code is = absurd (cc is)
-refusal_none s (S.Removes now path answer left) code is = absurd (cc is)
-refusal_none s (S.Delays path ms answer) code is = absurd (cc is)
-refusal_none s (S.Gets path answer) code is = absurd (cc is)
-refusal_none s (S.TellsApplied answer) code is = absurd (cc is)
-refusal_none s (S.Ticks now word below room d passed h id answer) code is = absurd (cc is)
-refusal_none s (S.NextOut answer) code is = absurd (cc is)
+refusal_none s c code is = all_apart (apart code created (λ e. omega (arith, h, e)))
+    (apart code deleted (λ e. omega (arith, h, e))) (apart code changed (λ e. omega (arith, h, e)))
+  where
+    h : bad_request ≤ code
+    h = refusals_are_errors s c code is
+
+    all_apart : (code == created) ≡ false → (code == deleted) ≡ false → (code == changed) ≡ false
+        → is_applied code ≡ false
+    all_apart x y z = ap (λ b. b || ((code == deleted) || (code == changed))) x
+        ∙ (ap (λ b. b || (code == changed)) y ∙ z)
 
 -- .. and no notification does
 pub notice_none : (szx : ℕ) (held : Option Held) (r : E.Response) → NoticeOf szx held r → is_applied r.code ≡ false

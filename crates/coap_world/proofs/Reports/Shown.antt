@@ -1,7 +1,7 @@
 -- What a 2.05 shows that a client takes, the server held at the path that the client asked for, when it made that
 -- answer.
-use Rattle.std.proofs.Common.{◌≡◌, ◌<◌, ◌≤◌, inl, inr, ℕ, ◌==◌, Bool, true, false, ◌||◌, Option, Some, None, List, []}
-use Rattle.std.proofs.Common.{◌∷◌, is_some, refl, ap, sym, subst, ◌∙◌}
+use Rattle.std.proofs.Common.{◌≡◌, ◌<◌, ◌≤◌, inl, inr, ℕ, ◌==◌, Bool, true, false, Option, Some, None, List, []}
+use Rattle.std.proofs.Common.{◌∷◌, is_some, refl, ap, sym, subst, ◌∙◌, arith}
 use Rattle.std.specs.Prelude.{IfSome}
 use Rattle.coap_types.specs.Past.{Sometime}
 use Rattle.coap_types.specs.Recognised.{lacks_critical}
@@ -18,16 +18,16 @@ use Rattle.coap_resource.proofs.Facts.Served.{content_law, part_law}
 use Rattle.coap_exchange.specs.AnswererTrace as E
 use Rattle.coap_exchange.specs.declared.answerer.Due.TheVariants as due
 use Rattle.coap_ends.specs.ClientSide.ClientBegins.{WasSent}
-use Rattle.coap_ends.specs.ClientSide.ClientResponses.{content, valid}
+use Rattle.coap_ends.specs.ClientSide.ClientResponses.{content}
 use Rattle.coap_ends.specs.ClientSide.ClientWords.{Sending}
+use Rattle.coap_ends.specs.ServerSide.ServerChecks.{bad_request}
 use Rattle.coap_ends.specs.ServerSide.ServerLaw.{own_of}
 use Rattle.coap_ends.specs.ServerSide.ServerNotifying.{notification, told, asks_for}
 use Rattle.coap_ends.specs.ServerSide.ServerObservers.{sequence_if}
 use Rattle.coap_ends.specs.ServerSide.ServerResponses.{response_with}
 use Rattle.coap_ends.specs.ServerSide.ServerSteps.{after}
 use Rattle.coap_ends.specs.ServerSide.ServerTrace.{Own, Silent, Replies, Serves, Waits, Notifies, Call, Sets, Removes}
-use Rattle.coap_ends.specs.ServerSide.ServerTrace.{Delays, Feeds, Ticks, NextOut, Gets}
-use Rattle.coap_ends.specs.ServerSide.ServerTrace.{TellsApplied}
+use Rattle.coap_ends.specs.ServerSide.ServerTrace.{Delays, Feeds, Ticks, NextOut, Gets, TellsApplied}
 use Rattle.coap_ends.specs.ServerSide.ServerTrace as S
 use Rattle.coap_ends.specs.ServerSide.ServerUploads.{last_block}
 use Rattle.coap_ends.specs.ServerSide.Follows.ServerGives.{NoticeOf}
@@ -36,6 +36,8 @@ use Rattle.coap_ends.specs.ServerSide.Follows.ServerServes.{Serving, serving}
 use Rattle.coap_ends.specs.ServerSide.Follows.ServerShows.{notice_in}
 use Rattle.coap_ends.proofs.Facts.OfServer as server_facts
 use Rattle.coap_ends.proofs.Facts.OfServer.{held_is}
+use Rattle.coap_ends.proofs.Facts.OfClientCalls.{apart}
+use Rattle.coap_ends.proofs.Facts.OfServerCalls.{refusals_are_errors}
 use Rattle.coap_world.specs.Answers.{IsResponse, IsAnswer, replies, continues, refuses, notifies, AnswersAt}
 use Rattle.coap_world.specs.Events.{Config}
 use Rattle.coap_world.specs.Record.{Entry, OfClient, OfServer, client_of, server_trace}
@@ -46,7 +48,6 @@ use Rattle.coap_world.proofs.Reports.AskedBy.{asked_by, registered_by, szx_least
 use Rattle.coap_world.proofs.Reports.ContentRead.{IsShown, content_read}
 use Rattle.coap_world.proofs.Reports.FormatsHeld.{IsSmall, formats_held}
 use Rattle.coap_world.proofs.Reports.FormatsSet.{FormatsIn}
-use Rattle.coap_world.proofs.Reports.RefusalsShowNothing.{shows, none_shows}
 
 -- the number that a response to a request says is that of the version that the path holds
 pub record Numbered (s : Own) (x : Serving) : Type 0 where
@@ -200,12 +201,8 @@ module _ (config : Config) where
     no_code : (n : ℕ) → m.code ≡ n → (n == content) ≡ false → ⊥
     no_code n is other = let e : true ≡ false = ap (λ k. k == content) (sym code ∙ is) ∙ other in cc e
 
-    refused_not : (n : ℕ) → shows n ≡ false → (n == content) ≡ false
-    refused_not n h = by (n == content) h
-      where
-        by : (b : Bool) → (b || (n == valid)) ≡ false → b ≡ false
-        by true k = absurd (cc k)
-        by false k = refl
+    refused_not : (n : ℕ) → bad_request ≤ n → (n == content) ≡ false
+    refused_not n h = apart n content (λ is. omega (arith, h, is))
 
     by_held : (o : Observer) (reply : Reply) (h : Option Held) → own.store.holds o.path ≡ h
         → notice_in c ≡ Some (o, reply) → WasMade config.limit config.server_szx t o
@@ -220,7 +217,7 @@ module _ (config : Config) where
     shown_here (replies x here r) = by_reply x here r
     shown_here (continues x size taken more asks r) = absurd (no_code codes.CONTINUE.0 r.code refl)
     shown_here (refuses a v n comes handed unserved refusal r) =
-        absurd (no_code n r.code (refused_not n (none_shows own c n refusal)))
+        absurd (no_code n r.code (refused_not n (refusals_are_errors own c n refusal)))
     shown_here (notifies o reply here made notice r) =
         by_held o reply (own.store.holds o.path) refl here made notice r (notifies o reply here made notice r)
 

@@ -1,7 +1,7 @@
 -- The version that a 2.03 names, the server held at the path that the client asked for, when it made that answer; and
 -- one of the request's ETags named it.
-use Rattle.std.proofs.Common.{◌≡◌, inl, inr, ℕ, ◌==◌, Bool, true, false, ◌||◌, Option, Some, None, List, [], ◌∷◌, refl}
-use Rattle.std.proofs.Common.{ap, sym, subst, ◌∙◌}
+use Rattle.std.proofs.Common.{◌≡◌, ◌≤◌, inl, inr, ℕ, ◌==◌, true, false, Option, Some, None, List, [], ◌∷◌, refl}
+use Rattle.std.proofs.Common.{ap, sym, subst, ◌∙◌, arith}
 use Rattle.coap_types.specs.Past.{Sometime}
 use Rattle.coap_types.specs.Recognised.{lacks_critical}
 use Rattle.coap_types.specs.RequestPath.{path_of}
@@ -16,6 +16,7 @@ use Rattle.coap_exchange.specs.AnswererTrace as E
 use Rattle.coap_ends.specs.ClientSide.ClientBegins.{WasSent}
 use Rattle.coap_ends.specs.ClientSide.ClientResponses.{content, valid, tag_in}
 use Rattle.coap_ends.specs.ClientSide.ClientWords.{Sending}
+use Rattle.coap_ends.specs.ServerSide.ServerChecks.{bad_request}
 use Rattle.coap_ends.specs.ServerSide.ServerLaw.{own_of}
 use Rattle.coap_ends.specs.ServerSide.ServerNotifying.{notification}
 use Rattle.coap_ends.specs.ServerSide.ServerObservers.{sequence_if}
@@ -27,6 +28,8 @@ use Rattle.coap_ends.specs.ServerSide.Follows.ServerGives.{NoticeOf}
 use Rattle.coap_ends.specs.ServerSide.Follows.ServerServes.{Serving, serving}
 use Rattle.coap_ends.proofs.Facts.OfServer as server_facts
 use Rattle.coap_ends.proofs.Facts.OfServer.{held_is}
+use Rattle.coap_ends.proofs.Facts.OfClientCalls.{apart}
+use Rattle.coap_ends.proofs.Facts.OfServerCalls.{refusals_are_errors}
 use Rattle.coap_world.specs.Answers.{IsResponse, IsAnswer, replies, continues, refuses, notifies, AnswersAt}
 use Rattle.coap_world.specs.Events.{Config}
 use Rattle.coap_world.specs.Record.{Entry, OfClient, OfServer, client_of, server_trace}
@@ -35,7 +38,6 @@ use Rattle.coap_world.proofs.Requests.OfACall.{Lawful, lawful_back}
 use Rattle.coap_world.proofs.Requests.ServedLeaves.{leaves}
 use Rattle.coap_world.proofs.Reports.AskedBy.{asked_by}
 use Rattle.coap_world.proofs.Reports.ContentRead.{valid_read}
-use Rattle.coap_world.proofs.Reports.RefusalsShowNothing.{shows, none_shows}
 use Rattle.coap_world.proofs.Reports.ServedValid.{valid_law}
 use Rattle.coap_world.proofs.Reports.Shown.{numbered}
 use Rattle.coap_world.proofs.Reports.TagsOwn.{names_read}
@@ -91,12 +93,8 @@ module _ (config : Config) where
     no_code : (n : ℕ) → m.code ≡ n → (n == valid) ≡ false → ⊥
     no_code n is other = let e : true ≡ false = ap (λ k. k == valid) (sym code ∙ is) ∙ other in cc e
 
-    refused_not : (n : ℕ) → shows n ≡ false → (n == valid) ≡ false
-    refused_not n h = by (n == content) h
-      where
-        by : (b : Bool) → (b || (n == valid)) ≡ false → (n == valid) ≡ false
-        by true k = absurd (cc k)
-        by false k = k
+    refused_not : (n : ℕ) → bad_request ≤ n → (n == valid) ≡ false
+    refused_not n h = apart n valid (λ is. omega (arith, h, is))
 
     told_not : (o : Observer) (reply : Reply) (h : Option Held) → NoticeOf o.szx h (notification own.store o reply)
         → IsResponse m o.to o.token (notification own.store o reply) → ⊥
@@ -107,7 +105,7 @@ module _ (config : Config) where
     named_here (replies x here r) = by_reply x here r
     named_here (continues x size taken more asks r) = absurd (no_code codes.CONTINUE.0 r.code refl)
     named_here (refuses a v n comes handed unserved refusal r) =
-        absurd (no_code n r.code (refused_not n (none_shows own c n refusal)))
+        absurd (no_code n r.code (refused_not n (refusals_are_errors own c n refusal)))
     named_here (notifies o reply here made notice r) = absurd (told_not o reply (own.store.holds o.path) notice r)
 
   pub named_in : (m : Message) → m.code ≡ valid → lacks_critical Response m.options ≡ false → (w : List Entry)

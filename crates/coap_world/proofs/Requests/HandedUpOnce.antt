@@ -15,7 +15,7 @@ use Rattle.coap_exchange.specs.AnswererFollows.{hits, same_asked}
 use Rattle.coap_exchange.specs.AnswererSteps.{asked_of, asked_in, handed_up}
 use Rattle.coap_ends.specs.Follows.ClientSendings.{NoNons}
 use Rattle.coap_ends.specs.Follows.ServerCounts.{asked_at, ups}
-use Rattle.coap_ends.proofs.Facts.OfServer.{same_asked_is}
+use Rattle.coap_ends.proofs.Facts.OfServerCalls.{same_asked_is}
 use Rattle.coap_world.proofs.Requests.CameFrom.{UpOf, here, find, no_more}
 
 -- an entry that hands up this request

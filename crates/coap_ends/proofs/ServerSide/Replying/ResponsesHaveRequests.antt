@@ -1,28 +1,13 @@
 -- What a server sends beside Empty messages carries a response to a request that was handed up, or a notification.
-use Rattle.coap_types.specs.declared.path.TheConstants.{MAX_SEGMENTS as max_segments}
-use Rattle.coap_types.specs.declared.option_number.TheConstants.{PROXY_URI as proxy_uri}
-use Rattle.coap_types.specs.declared.option_number.TheConstants.{PROXY_SCHEME as proxy_scheme}
-use Rattle.coap_types.specs.declared.option_number.TheConstants.{BLOCK2 as block2}
-use Rattle.coap_types.specs.declared.option_number.TheConstants.{BLOCK1 as block1}
-use Rattle.coap_resource.specs.RequestOptions.{block_said}
-use Rattle.std.proofs.Common.{◌≡◌, ◌≢◌, ◌⊎◌, inl, inr, ℕ, zero, suc, ◌==◌, ◌||◌, nat_lt, Bool, true, false, Option}
-use Rattle.std.proofs.Common.{Some, None, List, [], ◌∷◌, ◌++◌, length, refl, ap, sym, subst, ◌∙◌, cond}
+use Rattle.std.proofs.Common.{◌≡◌, ◌≢◌, ◌≤◌, ◌⊎◌, inl, inr, ℕ, zero, suc, Bool, true, false, Option}
+use Rattle.std.proofs.Common.{Some, None, List, [], ◌∷◌, ◌++◌, length, refl, ap, sym, subst, ◌∙◌, arith}
 use Rattle.coap_types.specs.Past.{Ever, Sometime}
 use Rattle.coap_types.proofs.Facts.Traces.{Ever_append}
-use Rattle.coap_types.specs.Recognised.{lacks_critical}
-use Rattle.coap_types.specs.declared.direction.Direction.TheVariants as direction
 use Rattle.coap_types.specs.declared.endpoint.Endpoint.{Endpoint}
-use Rattle.coap_types.specs.declared.message.Kind.{Kind}
-use Rattle.coap_types.specs.declared.message.Kind.TheVariants.{Con, Non, Ack, Rst}
-use Rattle.coap_types.specs.declared.request.Method.{Method}
-use Rattle.coap_types.specs.declared.request.Method.TheVariants.{Get, Post, Put, Delete}
 use Rattle.coap_codec.specs.Message.{Message}
 use Rattle.coap_layer.specs.Machine.State as S
 use Rattle.coap_layer.specs.Trace as L
 use Rattle.coap_types.specs.declared.block.Block.{Block}
-use Rattle.coap_block.specs.declared.assembly_step.AssemblyRefusal.{AssemblyRefusal}
-use Rattle.coap_block.specs.declared.assembly_step.AssemblyRefusal.TheVariants.{BadRequest, EntityIncomplete}
-use Rattle.coap_block.specs.declared.assembly_step.AssemblyRefusal.TheVariants.{EntityTooLarge, Unavailable}
 use Rattle.coap_block.specs.declared.block_verdict.BlockVerdict.{BlockVerdict}
 use Rattle.coap_block.specs.declared.block_verdict.BlockVerdict.TheVariants.{Refuse, Join, Done}
 use Rattle.coap_block.specs.AssemblyAnswer.{refusal_code}
@@ -31,7 +16,6 @@ use Rattle.coap_block.specs.AssemblyStep.{there_at}
 use Rattle.coap_block.specs.Whole.{Each}
 use Rattle.coap_observe.specs.Observers.{Observer}
 use Rattle.coap_resource.specs.Content.{Content, Held}
-use Rattle.coap_types.specs.OptionValues.{has, uint_at}
 use Rattle.coap_resource.specs.Serves.{Question, Reply, got}
 use Rattle.coap_exchange.specs.declared.answerer.Asked.{Asked}
 use Rattle.coap_exchange.specs.declared.answerer.Due.{Due}
@@ -44,12 +28,9 @@ use Rattle.coap_exchange.proofs.Facts.ServerSide.{layer_stands}
 use Rattle.coap_ends.specs.ServerSide.ServerTrace.{Own, Handling, Silent, Replies, Serves, Waits, Notifies, Call, Sets}
 use Rattle.coap_ends.specs.ServerSide.ServerTrace.{Removes, Delays, Feeds, Ticks, NextOut, Gets, TellsApplied}
 use Rattle.coap_ends.specs.ServerSide.ServerResponses.{bare, response_with}
-use Rattle.coap_ends.specs.ServerSide.ServerChecks.{Verdict, Ignored, Refused, Asks, Uploads, verdict_on, bad_by}
-use Rattle.coap_ends.specs.ServerSide.ServerChecks.{asked_by, uploading, question, asks, is_reserved, bad_request}
-use Rattle.coap_ends.specs.ServerSide.ServerChecks.{proxying_not_supported}
-use Rattle.coap_types.specs.RequestPath.{path_of}
-use Rattle.coap_types.specs.MethodCode.{method_of}
-use Rattle.coap_ends.specs.ServerSide.ServerUploads.{key_of, ruling_of, whole, continuing}
+use Rattle.coap_ends.specs.ServerSide.ServerChecks.{Verdict, Ignored, Refused, Asks, Uploads, verdict_on}
+use Rattle.coap_ends.specs.ServerSide.ServerChecks.{bad_request}
+use Rattle.coap_ends.specs.ServerSide.ServerUploads.{key_of, ruling_of, whole, continue, continuing}
 use Rattle.coap_ends.specs.ServerSide.ServerObservers.{sequence}
 use Rattle.coap_ends.specs.ServerSide.ServerDeferring.{WaitsBy, deferral, deferral_by, delay_for}
 use Rattle.coap_ends.specs.ServerSide.ServerNotifying.{NotifiesNext, marked, behind, readies, told, asks_for}
@@ -66,65 +47,17 @@ use Rattle.coap_ends.proofs.ServerSide.Serving.ServedWasHandedUp.{joins_more}
 use Rattle.coap_ends.proofs.ServerSide.Observing.ObserversWereMade.{good, good_ended}
 use Rattle.coap_ends.proofs.ServerSide.Observing.VersionsRise.{IsThere, behind_there, marked_there, next_is}
 use Rattle.coap_ends.proofs.ServerSide.Replying.LayerSendsResponses.{called, CarriesIn, made}
+use Rattle.coap_ends.proofs.ServerSide.Replying.RefusalsAreErrors.{refused_with}
 use Rattle.coap_ends.specs.Follows.Sources.{Source}
 use Rattle.coap_ends.proofs.Facts.Sources.{sourced}
 
--- no refusal is 2.31
+not_continue : (code : ℕ) → bad_request ≤ code → code ≢ continue
+not_continue code h is = omega (arith, h, is)
 
-abbrev refuses_so : Verdict → Bool
-refuses_so (Refused code) = code == 95
-refuses_so _ = false
-
-uploading_not : (m : Method) (q : Question) (o : Option Block) → refuses_so (uploading m q o) ≡ false
-uploading_not m q None = refl
-uploading_not Put q (Some b) = refl
-uploading_not Post q (Some b) = refl
-uploading_not Get q (Some b) = refl
-uploading_not Delete q (Some b) = refl
-
-asked_not : (szx : ℕ) (o : Option Method) (m : Message) → refuses_so (asked_by szx o m) ≡ false
-asked_not szx None m = refl
-asked_not szx (Some method) m = by (nat_lt max_segments (length (path_of (asks m))))
-    (is_reserved (uint_at block1 (asks m)) || is_reserved (uint_at block2 (asks m)))
-  where
-    last : Verdict
-    last = uploading method (question szx method m) (block_said (uint_at block1 (asks m)))
-
-    by : (b c : Bool) → refuses_so (cond b (Refused bad_request) (cond c (Refused bad_request) last)) ≡ false
-    by true c = refl
-    by false true = refl
-    by false false = uploading_not method (question szx method m) (block_said (uint_at block1 (asks m)))
-
-bad_not : (k : Kind) → refuses_so (bad_by k) ≡ false
-bad_not Con = refl
-bad_not Non = refl
-bad_not Ack = refl
-bad_not Rst = refl
-
-verdict_not : (szx : ℕ) (m : Message) → refuses_so (verdict_on szx m) ≡ false
-verdict_not szx m = by (lacks_critical direction.Request m.options)
-    (has proxy_uri (asks m) || has proxy_scheme (asks m))
-  where
-    by : (b c : Bool) → refuses_so (cond b (bad_by m.kind)
-        (cond c (Refused proxying_not_supported) (asked_by szx (method_of m.code) m))) ≡ false
-    by true c = bad_not m.kind
-    by false true = refl
-    by false false = asked_not szx (method_of m.code) m
-
-not_continue : (code : ℕ) → (code == 95) ≡ false → code ≢ 95
-not_continue code e k = let z : true ≡ false = sym (ap (λ n. n == 95) k) ∙ e in cc z
-
-block_not : (why : AssemblyRefusal) → ((refusal_code why).0 == 95) ≡ false
-block_not BadRequest = refl
-block_not EntityIncomplete = refl
-block_not EntityTooLarge = refl
-block_not Unavailable = refl
-
--- a response without_key the store refuses, or asks for the next block
+-- a response that refuses without the store, or asks for the next block
 record IsRefusal (s : Own) (a : Asked) (v : Verdict) (r : E.Response) : Type 0 where
   code : ℕ
   refuses : refusal_of s.uploads s.clock a v ≡ Some code
-  other : code ≢ 95
   is : r ≡ bare code
 
 record IsContinue (s : Own) (a : Asked) (v : Verdict) (r : E.Response) : Type 0 where
@@ -151,7 +84,6 @@ block_replies (Refuse why) s a q b r e h = inl
     (record {
       code = (refusal_code why).0;
       refuses = ap refusal_by e;
-      other = not_continue (refusal_code why).0 (block_not why);
       is = one_response r _ h;
     })
 block_replies (Join n) s a q b r e h = inr (record
@@ -160,14 +92,13 @@ block_replies Done s a q b r e h =
     let it : Question = whole s.uploads s.clock a q b in
     absurd (never_replies (delay_for a.kind q.path s.delays) (may_defer s.exchanges.deferred) s.store s.clock it r h)
 
-replies : (v : Verdict) (s : Own) (a : Asked) (r : E.Response) → refuses_so v ≡ false → Handles s a v (Replies r)
+replies : (v : Verdict) (s : Own) (a : Asked) (r : E.Response) → Handles s a v (Replies r)
     → IsRefusal s a v r ⊎ IsContinue s a v r
-replies Ignored s a r n h = absurd (cc h)
-replies (Refused code) s a r n h = inl (record
-    { code = code; refuses = refl; other = not_continue code n; is = one_response r _ h })
-replies (Asks q) s a r n h = absurd (never_replies (delay_for a.kind q.path s.delays)
+replies Ignored s a r h = absurd (cc h)
+replies (Refused code) s a r h = inl (record { code = code; refuses = refl; is = one_response r _ h })
+replies (Asks q) s a r h = absurd (never_replies (delay_for a.kind q.path s.delays)
     (may_defer s.exchanges.deferred) s.store s.clock q r h)
-replies (Uploads q b) s a r n h = block_replies (ruling_of s.uploads s.clock a q b) s a q b r refl h
+replies (Uploads q b) s a r h = block_replies (ruling_of s.uploads s.clock a q b) s a q b r refl h
 
 -- a notification
 
@@ -249,7 +180,7 @@ module _ (limit szx word : ℕ) (p : L.Packet) where
     fed now from bytes w up (Some a) (Replies r) below law (inr (inr k)) = absurd k
     fed now from bytes w up (Some a) (Replies r) below law (inl k) =
         let s : Own = heard (own t) now (incoming (own t) now from bytes up (Some a)) in
-        elim (replies (verdict_on s.szx a.1) s a.0 r (verdict_not s.szx a.1) law.rows.0) [
+        elim (replies (verdict_on s.szx a.1) s a.0 r law.rows.0) [
           | inl f ↦ inr (inr (inl (record {
             asked = a.0;
             verdict = verdict_on szx a.1;
@@ -258,7 +189,7 @@ module _ (limit szx word : ℕ) (p : L.Packet) where
             handed = refl;
             unserved = refl;
             refuses = f.refuses;
-            not_continue = f.other;
+            not_continue = not_continue f.code (refused_with s.szx a.1 s.uploads s.clock a.0 f.code f.refuses);
             carries = subst (Carries p a.0.from a.0.token) f.is k;
           })))
           | inr f ↦ (

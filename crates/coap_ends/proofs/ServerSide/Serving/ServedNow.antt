@@ -56,13 +56,14 @@ by_ready None old at h k = says_is old at h Silent k tt
 by_ready (Some q) old at h k = by_store old at q h k
 
 -- what the call serves, and what it leaves
-abbrev pub ServedNow : Own → Call → Serving → Type 0
+abbrev ServedNow : Own → Call → Serving → Type 0
 ServedNow s c x = R.Serves s.store (after s c).clock x.question x.reply (after s c).store
 
 of_it : (s : Own) (c : Call) (x y : Serving) → Some x ≡ Some y → ServedNow s c x → ServedNow s c y
 of_it s c x y h k = let same : x ≡ y = cc h in subst (ServedNow s c) same k
 
-pub served_now : (s : Own) (c : Call) → IsRight s c → (x : Serving) → serving s c ≡ Some x → ServedNow s c x
+pub served_now : (s : Own) (c : Call) → IsRight s c → (x : Serving) → serving s c ≡ Some x
+    → R.Serves s.store (after s c).clock x.question x.reply (after s c).store
 served_now s (Feeds now from bytes word up (Some p) (Serves q reply left) below) right x h =
     let w : Own = heard s now (incoming s now from bytes up (Some p)) in
     of_it s (Feeds now from bytes word up (Some p) (Serves q reply left) below) (serving_of w p.0 q reply left) x h
