@@ -1,5 +1,5 @@
 -- Which reports an answer alone gives: a body, a 2.03, success and failure come of the answer to the call that runs.
-use Rattle.std.proofs.Common.{◌≡◌, ◌⊎◌, inl, inr, ℕ, max, Bool, true, false, Option, Some, None, List, ◌∷◌, [], refl}
+use Rattle.std.proofs.Common.{◌≡◌, ◌⊎◌, inl, inr, ℕ, max, Bool, true, false, Option, Some, None, List, refl}
 use Rattle.std.proofs.Common.{ap, sym, subst, ◌∙◌}
 use Rattle.coap_codec.specs.Message.{Message}
 use Rattle.coap_block.specs.declared.fetch_verdict.Verdict.{Verdict}

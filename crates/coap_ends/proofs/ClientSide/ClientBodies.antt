@@ -22,22 +22,19 @@ use Rattle.coap_block.specs.UploadStep.{UploadState, more_follows, moved, contin
 use Rattle.coap_block.specs.Whole.{Part, Each, Whole}
 use Rattle.coap_block.proofs.Facts.Laws.{gathered_by_part, whole_by_parts}
 use Rattle.coap_exchange.specs.declared.asker.AskRefusal.{AskRefusal}
-use Rattle.coap_exchange.specs.declared.asker.Event.{Event}
-use Rattle.coap_exchange.specs.declared.asker.Event.TheVariants as event_of
 use Rattle.coap_ends.specs.ClientSide.ClientTrace.{Request, Report, Body, Valid, Failed, Done, BadBlock, NoIds}
-use Rattle.coap_ends.specs.ClientSide.ClientTrace.{Reported, Call, Calls, Observes, Cancels, Forgets, Feeds}
+use Rattle.coap_ends.specs.ClientSide.ClientTrace.{Call, Calls, Observes, Cancels, Forgets, Feeds}
 use Rattle.coap_ends.specs.ClientSide.ClientTrace.{Ticks, NextOut, NextReport, Asked}
 use Rattle.coap_ends.specs.ClientSide.ClientOwn.{Transfer, Fetches, Uploads, Single, Operation, Calling, Registering}
 use Rattle.coap_ends.specs.ClientSide.ClientOwn.{Fetching, Cancelling, Dropped, Own}
 use Rattle.coap_ends.specs.ClientSide.ClientRequests.{is_longer}
 use Rattle.coap_ends.specs.ClientSide.ClientResponses.{content, valid, continue, said, tag_in, format_in, block_at}
 use Rattle.coap_ends.specs.ClientSide.ClientResponses.{part}
-use Rattle.coap_ends.specs.ClientSide.ClientReports.{lapse, refused, done, is_success}
+use Rattle.coap_ends.specs.ClientSide.ClientReports.{refused, done, is_success}
 use Rattle.coap_ends.specs.ClientSide.ClientCalls.{answer, has_tags}
 use Rattle.coap_ends.specs.ClientSide.ClientCalls as calls
 use Rattle.coap_ends.specs.ClientSide.ClientEffects.{Effect, has_sent, of}
-use Rattle.coap_ends.specs.ClientSide.ClientFetching.{value}
-use Rattle.coap_ends.specs.ClientSide.ClientEvents.{failed, closed, happened, passes}
+use Rattle.coap_ends.specs.ClientSide.ClientEvents.{closed, happened, passes}
 use Rattle.coap_ends.specs.ClientSide.ClientDeeds.{at}
 use Rattle.coap_ends.specs.ClientSide.ClientQueue.{transfer_of, calling}
 use Rattle.coap_ends.specs.ClientSide.ClientSteps.{reports}
@@ -45,7 +42,7 @@ use Rattle.coap_ends.specs.ClientSide.ClientLaw.{ClientLaw, own_of}
 use Rattle.coap_ends.specs.ClientSide.ClientAnswers.{Answers, AnswersLast}
 use Rattle.coap_ends.specs.ClientSide.ClientWords.{Sending, sends, hears, last_sent, runs_call}
 use Rattle.coap_ends.proofs.ClientSide.PlaceLemmas.{same_number, number_self}
-use Rattle.coap_ends.proofs.ClientSide.ClientSends.{AllOf, all_uncancelled, heard_in, failed_runs, happened_runs}
+use Rattle.coap_ends.proofs.ClientSide.ClientSends.{AllOf, all_uncancelled, failed_runs, happened_runs}
 use Rattle.coap_ends.proofs.ClientSide.ClientSends.{passes_runs}
 use Rattle.coap_ends.proofs.ClientSide.ClientOnce.{beneath}
 use Rattle.coap_ends.proofs.ClientSide.ClientPieces.{Tracked, IfTracked, all_sends, answers_last}
@@ -53,10 +50,8 @@ use Rattle.coap_ends.proofs.ClientSide.ClientLeading.{client_back}
 use Rattle.coap_ends.specs.ClientSide.ClientBodies.{ComesLast, is_first, is_first_of, HeardFor}
 use Rattle.coap_ends.specs.ClientSide.ClientBodies.{TookPart, IsFetched, BodiesAreWhole}
 use Rattle.coap_ends.specs.ClientSide.ClientOrder.{call_of}
-use Rattle.coap_ends.specs.ClientSide.ClientMoves as mv
-use Rattle.coap_ends.specs.ClientSide.ClientMoves.{Move, left_by}
 use Rattle.coap_ends.specs.ClientSide.ClientClosing.{Closing, quiet, goes_out, is_refused}
-use Rattle.coap_ends.proofs.ClientSide.ClientTurns.{closing, Turned, fed_turned, ticked_turned}
+use Rattle.coap_ends.proofs.ClientSide.ClientTurns.{closing}
 use Rattle.coap_ends.proofs.ClientSide.AnswerReports.{GivesReport, gives_of}
 use Rattle.coap_ends.proofs.ClientSide.ClientOrigins.{Origin, kept, begins, follows, origin}
 use Rattle.coap_ends.proofs.ClientSide.ClientTokens.{last_was_sent}

@@ -1,25 +1,17 @@
 -- Success and failure are reported of a call where its request is answered so, and there alone.
-use Rattle.std.proofs.Common.{◌≡◌, ◌⊎◌, inl, inr, ℕ, max, Bool, true, false, Option, Some, None, List, ◌∷◌, [], refl}
+use Rattle.std.proofs.Common.{◌≡◌, ◌⊎◌, inl, inr, ℕ, max, Bool, true, Some, None, List, ◌∷◌, [], refl}
 use Rattle.std.proofs.Common.{ap, sym, subst, ◌∙◌}
 use Rattle.coap_types.specs.declared.endpoint.Endpoint.{Endpoint}
 use Rattle.coap_codec.specs.Message.{Message}
-use Rattle.coap_block.specs.declared.fetch_verdict.Verdict.{Verdict}
-use Rattle.coap_block.specs.declared.fetch_verdict.Verdict.TheVariants as verdict
-use Rattle.coap_block.specs.FetchStep.{FetchState}
-use Rattle.coap_block.specs.FetchStep as F
-use Rattle.coap_exchange.specs.declared.asker.Event.{Event}
 use Rattle.coap_exchange.specs.declared.asker.Event.TheVariants as event_of
-use Rattle.coap_ends.specs.ClientSide.ClientTrace.{Request, Report, Failed, Done, NoIds, Reported, Call, Calls}
+use Rattle.coap_ends.specs.ClientSide.ClientTrace.{Request, Report, Failed, Done, Call, Calls}
 use Rattle.coap_ends.specs.ClientSide.ClientTrace.{Observes, Cancels, Forgets, Feeds, Ticks, NextOut, NextReport, Asked}
-use Rattle.coap_ends.specs.ClientSide.ClientOwn.{Transfer, Operation, Calling, Registering, Fetching, Cancelling}
+use Rattle.coap_ends.specs.ClientSide.ClientOwn.{Transfer, Operation, Calling}
 use Rattle.coap_ends.specs.ClientSide.ClientOwn.{Dropped, Own}
-use Rattle.coap_ends.specs.ClientSide.ClientResponses.{part}
-use Rattle.coap_ends.specs.ClientSide.ClientReports.{lapse}
 use Rattle.coap_ends.specs.ClientSide.ClientCalls.{answer}
 use Rattle.coap_ends.specs.ClientSide.ClientCalls as calls
-use Rattle.coap_ends.specs.ClientSide.ClientEffects.{Effect, has_sent, of}
-use Rattle.coap_ends.specs.ClientSide.ClientFetching.{value}
-use Rattle.coap_ends.specs.ClientSide.ClientEvents.{called, answered, failed}
+use Rattle.coap_ends.specs.ClientSide.ClientEffects.{of}
+use Rattle.coap_ends.specs.ClientSide.ClientEvents.{called, answered}
 use Rattle.coap_ends.specs.ClientSide.ClientDeeds.{at, close}
 use Rattle.coap_ends.specs.ClientSide.ClientSteps.{reports}
 use Rattle.coap_ends.specs.ClientSide.ClientLaw.{ClientLaw, own_of}
@@ -28,16 +20,11 @@ use Rattle.coap_ends.specs.ClientSide.ClientBegins.{WasSent}
 use Rattle.coap_ends.specs.ClientSide.ClientOfCalls.{CarriesBody, IsOfCall, AreOfCalls}
 use Rattle.coap_ends.specs.ClientSide.ClientOrder.{call_of}
 use Rattle.coap_ends.specs.ClientSide.ClientWords.{Sending, hears, last_sent}
-use Rattle.coap_ends.specs.ClientSide.ClientMoves as mv
-use Rattle.coap_ends.specs.ClientSide.ClientMoves.{Move, left_by}
-use Rattle.coap_ends.specs.ClientSide.ClientClosing.{Closing, quiet, goes_out, is_refused}
 use Rattle.coap_ends.proofs.ClientSide.ClientLeading.{client_back}
 use Rattle.coap_ends.proofs.ClientSide.ClientOfCalls.{are_of_calls}
 use Rattle.coap_ends.proofs.ClientSide.ClientOnce.{beneath}
 use Rattle.coap_ends.proofs.ClientSide.ClientPieces.{IfTracked, Tracked, all_sends, answers_last}
-use Rattle.coap_ends.proofs.ClientSide.ClientSends.{heard_in}
 use Rattle.coap_ends.proofs.ClientSide.ClientTokens.{last_was_sent}
-use Rattle.coap_ends.proofs.ClientSide.ClientTurns.{Turned, fed_turned, ticked_turned}
 use Rattle.coap_ends.specs.ClientSide.ClientCodes.{Succeeds, Fails, IsOfCode, ReportsCodes}
 use Rattle.coap_ends.proofs.ClientSide.AnswerReports.{GivesReport, gives_of}
 use Rattle.coap_ends.proofs.ClientSide.AnswerCodes.{done_of, failed_of, each_done_of, each_failed_of}

@@ -1,5 +1,5 @@
 -- A representation is reported as valid where the call carries ETags, and a 2.03 was heard.
-use Rattle.std.proofs.Common.{◌≡◌, ◌⊎◌, inl, inr, ℕ, max, Bool, true, false, cond, ◌&&◌, Option, Some, None, List}
+use Rattle.std.proofs.Common.{◌≡◌, inl, inr, ℕ, Bool, true, false, cond, ◌&&◌, Option, Some, None, List}
 use Rattle.std.proofs.Common.{◌∷◌, [], refl, ap, sym, subst, ◌∙◌}
 use Rattle.std.specs.Prelude.{◌==◌}
 use Rattle.coap_types.specs.declared.block.Block.{Block}
@@ -12,36 +12,25 @@ use Rattle.coap_block.specs.declared.fetch_step.FetchRefusal.TheVariants as refu
 use Rattle.coap_block.specs.declared.fetch_verdict.Verdict.{Verdict}
 use Rattle.coap_block.specs.declared.fetch_verdict.Verdict.TheVariants as verdict
 use Rattle.coap_block.specs.FetchStep.{FetchState}
-use Rattle.coap_block.specs.FetchStep as F
 use Rattle.coap_block.specs.UploadStep.{UploadState, more_follows, moved, continues}
-use Rattle.coap_exchange.specs.declared.asker.Event.{Event}
-use Rattle.coap_exchange.specs.declared.asker.Event.TheVariants as event_of
 use Rattle.coap_ends.specs.ClientSide.ClientTrace.{Request, Report, Valid, Failed, Done, BadBlock, NoIds}
-use Rattle.coap_ends.specs.ClientSide.ClientTrace.{Reported, Call, Calls, Observes, Cancels, Forgets, Feeds, Ticks}
-use Rattle.coap_ends.specs.ClientSide.ClientTrace.{NextOut, NextReport, Asked}
+use Rattle.coap_ends.specs.ClientSide.ClientTrace.{Call}
 use Rattle.coap_ends.specs.ClientSide.ClientOwn.{Transfer, Fetches, Uploads, Single, Operation, Calling, Registering}
-use Rattle.coap_ends.specs.ClientSide.ClientOwn.{Fetching, Cancelling, Dropped, Own}
+use Rattle.coap_ends.specs.ClientSide.ClientOwn.{Fetching, Cancelling, Dropped}
 use Rattle.coap_ends.specs.ClientSide.ClientRequests.{is_longer}
 use Rattle.coap_ends.specs.ClientSide.ClientResponses.{content, valid, continue, tag_in, block_at, part}
-use Rattle.coap_ends.specs.ClientSide.ClientReports.{lapse, refused, done, is_success}
+use Rattle.coap_ends.specs.ClientSide.ClientReports.{refused, done, is_success}
 use Rattle.coap_ends.specs.ClientSide.ClientCalls.{answer, has_tags}
 use Rattle.coap_ends.specs.ClientSide.ClientCalls as calls
-use Rattle.coap_ends.specs.ClientSide.ClientEffects.{Effect, has_sent, of}
-use Rattle.coap_ends.specs.ClientSide.ClientFetching.{value}
-use Rattle.coap_ends.specs.ClientSide.ClientEvents.{failed}
-use Rattle.coap_ends.specs.ClientSide.ClientDeeds.{at}
+use Rattle.coap_ends.specs.ClientSide.ClientEffects.{of}
 use Rattle.coap_ends.specs.ClientSide.ClientSteps.{reports}
 use Rattle.coap_ends.specs.ClientSide.ClientLaw.{ClientLaw, own_of}
 use Rattle.coap_ends.specs.ClientSide.ClientAnswers.{AnswersLast}
-use Rattle.coap_ends.specs.ClientSide.ClientWords.{WasTaken, hears}
+use Rattle.coap_ends.specs.ClientSide.ClientWords.{WasTaken}
 use Rattle.coap_ends.proofs.ClientSide.PlaceLemmas.{same_number}
-use Rattle.coap_ends.proofs.ClientSide.ClientSends.{AllOf, heard_in}
+use Rattle.coap_ends.proofs.ClientSide.ClientSends.{AllOf}
 use Rattle.coap_ends.proofs.ClientSide.ClientPieces.{answers_last}
 use Rattle.coap_ends.specs.ClientSide.ClientValid.{IsValidated, ValidOfTags}
-use Rattle.coap_ends.specs.ClientSide.ClientMoves as mv
-use Rattle.coap_ends.specs.ClientSide.ClientMoves.{Move, left_by}
-use Rattle.coap_ends.specs.ClientSide.ClientClosing.{Closing, quiet, goes_out, is_refused}
-use Rattle.coap_ends.proofs.ClientSide.ClientTurns.{Turned, fed_turned, ticked_turned}
 use Rattle.coap_ends.proofs.ClientSide.AnswerReports.{gives_of}
 use Rattle.coap_ends.proofs.ClientSide.ClientOrigins.{Origin, kept, begins, follows, origin}
 use Rattle.coap_ends.proofs.ClientSide.ClientBodies.{heard_for}
