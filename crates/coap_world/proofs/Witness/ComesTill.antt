@@ -23,7 +23,8 @@ use Rattle.coap_world.specs.LegalEvents.{event, comes_at}
 use Rattle.coap_world.specs.Record.{OfClient, OfServer, Turn, Makes}
 use Rattle.coap_world.specs.LegalRuns.{config, from_client, from_server, get, get_bytes, not_found_bytes, Runs}
 use Rattle.coap_world.specs.LegalRuns.{MayComeTill}
-use Rattle.coap_world.proofs.Witness.InWords.{config_range, bytes_are}
+use Rattle.coap_types.proofs.Facts.Bytes.{bytes_are}
+use Rattle.coap_world.proofs.Witness.InWords.{config_range}
 use Rattle.coap_world.proofs.Witness.TurnsMade.{a_turn, client_turn, server_turn, to_server, to_client, on_client}
 use Rattle.coap_world.proofs.Witness.TurnsMade.{on_server, legal_at}
 use Rattle.coap_world.proofs.Witness.Gets.{range}

@@ -9,7 +9,8 @@ use Rattle.coap_world.specs.LegalEvents.{event}
 use Rattle.coap_world.specs.Record.{OfServer, Turn, Makes}
 use Rattle.coap_world.specs.LegalRuns.{plain, log, stranger, puts}
 use Rattle.coap_world.specs.CallRuns.{four, drop_bytes, dropped_bytes, Exhausts}
-use Rattle.coap_world.proofs.Witness.InWords.{config_range, bytes_are, t_is}
+use Rattle.coap_types.proofs.Facts.Bytes.{bytes_are}
+use Rattle.coap_world.proofs.Witness.InWords.{config_range, t_is}
 use Rattle.coap_world.proofs.Witness.TurnsMade.{a_turn, server_turn, on_server, legal_at, no_calls}
 use Rattle.coap_world.proofs.Witness.Repeats.{log_is, elsewhere}
 use Rattle.coap_world.proofs.Witness.Watches.Server.{to_stranger}

@@ -10,7 +10,8 @@ use Rattle.coap_world.specs.LegalEvents.{event}
 use Rattle.coap_world.specs.Record.{OfClient, OfServer, Turn, Makes}
 use Rattle.coap_world.specs.LegalRuns.{from_client, from_server, plain, t, hi, get, get_bytes, content_bytes, Gets}
 use Rattle.coap_world.specs.LegalRuns.{GetsAgain}
-use Rattle.coap_world.proofs.Witness.InWords.{config_range, bytes_are, t_is, no_tags}
+use Rattle.coap_types.proofs.Facts.Bytes.{bytes_are}
+use Rattle.coap_world.proofs.Witness.InWords.{config_range, t_is, no_tags}
 use Rattle.coap_world.proofs.Witness.TurnsMade.{a_turn, refused_turn, client_turn, server_turn, to_server, to_client}
 use Rattle.coap_world.proofs.Witness.TurnsMade.{on_client, on_server, legal_at}
 use Rattle.coap_world.proofs.Witness.TurnsMade.{legal_refused}

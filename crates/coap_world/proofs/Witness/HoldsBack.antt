@@ -11,7 +11,7 @@ use Rattle.coap_world.specs.LegalEvents.{event}
 use Rattle.coap_world.specs.Record.{Given, Entry, OfClient, OfServer, Turn, Makes, entries_of}
 use Rattle.coap_world.specs.Words.{AppliesFor, SentFor}
 use Rattle.coap_world.specs.LegalRuns.{from_client, from_server, reported}
-use Rattle.coap_world.proofs.Witness.InWords.{bytes_are}
+use Rattle.coap_types.proofs.Facts.Bytes.{bytes_are}
 use Rattle.coap_world.proofs.Witness.TurnsMade.{a_turn, client_turn, to_server, on_client, rests, legal_at}
 use Rattle.coap_world.specs.BlockRuns.{key, by_16, answer_bytes}
 use Rattle.coap_world.specs.LateRuns.{uploading, continue, second_done, lost_body, held_body, lost_first, lost_second}

@@ -1,24 +1,14 @@
 -- Bytes, paths and configurations that are in range.
-use Rattle.std.proofs.Common.{◌≡◌, ◌≤◌, ◌<◌, ℕ, suc, zero, Bool, true, List, [], ◌∷◌, length, arith, refl}
-use Rattle.std.proofs.lemmas.Bool.{and_parts, ltb-true}
-use Rattle.std.proofs.lemmas.List.Elements.{All-nil, All-cons}
-use Rattle.std.specs.Prelude.{All, nat_lt, codes}
-use Rattle.std.specs.List.{list_all}
+use Rattle.std.proofs.Common.{◌≤◌, ℕ, suc, zero, List, [], ◌∷◌, length, arith, refl}
+use Rattle.std.proofs.lemmas.List.Elements.{All-nil}
+use Rattle.std.specs.Prelude.{All, codes}
 use Rattle.coap_types.specs.Bytes.{AreBytes}
+use Rattle.coap_types.proofs.Facts.Bytes.{bytes_are}
 use Rattle.coap_types.specs.EntityTag.{AreTags}
 use Rattle.coap_types.specs.Path.{IsPath}
 use Rattle.coap_ends.specs.ServerSide.ServerTrace.{Delay}
 use Rattle.coap_world.specs.Legal.{IsDelay, IsConfig}
 use Rattle.coap_world.specs.LegalRuns.{with_delays, config, t}
-
-abbrev pub is_byte : ℕ → Bool
-is_byte b = nat_lt b 256
-
-pub bytes_are : (bytes : List ℕ) → list_all is_byte bytes ≡ true → AreBytes bytes
-bytes_are [] e = All-nil (λ b. b < 256)
-bytes_are (b ∷ bytes) e =
-    let k = and_parts (is_byte b) (list_all is_byte bytes) e in
-    All-cons (λ x. x < 256) b bytes (ltb-true b 256 k.0) (bytes_are bytes k.1)
 
 pub of_one : {X : Type 0} (P : X → Type 0) (x : X) → P x → All P (x ∷ [])
 of_one P x h zero d small = h

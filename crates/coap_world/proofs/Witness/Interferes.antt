@@ -11,7 +11,8 @@ use Rattle.coap_world.specs.Events.{Calls, Sets, TickClient, StrangerToServer, l
 use Rattle.coap_world.specs.Legal.{IsRequest, AllLegal}
 use Rattle.coap_world.specs.LegalEvents.{event}
 use Rattle.coap_world.specs.Record.{Entry, OfClient, OfServer, Turn, Makes, entries_of}
-use Rattle.coap_world.proofs.Witness.InWords.{config_range, bytes_are, t_is, no_tags}
+use Rattle.coap_types.proofs.Facts.Bytes.{bytes_are}
+use Rattle.coap_world.proofs.Witness.InWords.{config_range, t_is, no_tags}
 use Rattle.coap_world.proofs.Witness.TurnsMade.{a_turn, client_turn, server_turn, to_server, to_client, on_client}
 use Rattle.coap_world.proofs.Witness.TurnsMade.{on_server, legal_at}
 use Rattle.coap_world.specs.LegalRuns.{config, hi, stranger, delete, delete_bytes, deleted_bytes, Interferes}

@@ -18,7 +18,8 @@ use Rattle.coap_world.specs.LegalRuns.{from_client, from_server, tag, hi, precon
 use Rattle.coap_world.specs.BlockRuns.{by_16, new_body, answer_bytes}
 use Rattle.coap_world.specs.LateRuns.{continue}
 use Rattle.coap_world.specs.RefusedRuns.{guarded, guarded_first, guarded_last, RefusesUpload}
-use Rattle.coap_world.proofs.Witness.InWords.{bytes_are, of_one, t_is, no_tags}
+use Rattle.coap_types.proofs.Facts.Bytes.{bytes_are}
+use Rattle.coap_world.proofs.Witness.InWords.{of_one, t_is, no_tags}
 use Rattle.coap_world.proofs.Witness.TurnsMade.{a_turn, client_turn, server_turn, to_server, on_client, on_server}
 use Rattle.coap_world.proofs.Witness.TurnsMade.{legal_at}
 use Rattle.coap_world.proofs.Witness.LateTurns.{begins, goes_on, answers, to_the_client, to_the_server, by_16_range}

@@ -11,7 +11,8 @@ use Rattle.coap_world.specs.LegalEvents.{event}
 use Rattle.coap_world.specs.Record.{Entry, OfServer, Turn, Makes}
 use Rattle.coap_ends.specs.ServerSide.ServerTrace as S
 use Rattle.coap_world.specs.LegalRuns.{plain, stranger, log, posts, post_bytes, posted_bytes, Repeats}
-use Rattle.coap_world.proofs.Witness.InWords.{config_range, bytes_are, path_of_one}
+use Rattle.coap_types.proofs.Facts.Bytes.{bytes_are}
+use Rattle.coap_world.proofs.Witness.InWords.{config_range, path_of_one}
 use Rattle.coap_world.proofs.Witness.TurnsMade.{a_turn, server_turn, on_server, legal_at, no_calls}
 use Rattle.coap_world.proofs.Witness.Watches.Server.{to_stranger}
 use Rattle.coap_world.proofs.Witness.Repeats.Server as server

@@ -8,7 +8,8 @@ use Rattle.coap_world.specs.Events.{Calls, Sets, TickClient, Deliver, client_end
 use Rattle.coap_world.specs.Legal.{IsRequest, AllLegal}
 use Rattle.coap_world.specs.LegalEvents.{event}
 use Rattle.coap_world.specs.Record.{OfClient, OfServer, Turn, Makes}
-use Rattle.coap_world.proofs.Witness.InWords.{config_range, bytes_are, no_tags}
+use Rattle.coap_types.proofs.Facts.Bytes.{bytes_are}
+use Rattle.coap_world.proofs.Witness.InWords.{config_range, no_tags}
 use Rattle.coap_world.proofs.Witness.TurnsMade.{a_turn, client_turn, server_turn, to_server, to_client, on_client}
 use Rattle.coap_world.proofs.Witness.TurnsMade.{on_server, legal_at}
 use Rattle.coap_world.specs.LegalRuns.{from_client, from_server, plain, log, post, call_bytes, changed_bytes, TimesOut}

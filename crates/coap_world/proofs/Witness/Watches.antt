@@ -10,7 +10,8 @@ use Rattle.coap_world.specs.LegalEvents.{event}
 use Rattle.coap_world.specs.Record.{OfServer, Turn, Makes}
 use Rattle.coap_world.specs.LegalRuns.{plain, puts, stranger}
 use Rattle.coap_world.specs.ObservationRuns.{watch_bytes, watched_bytes, notice_bytes, Watches}
-use Rattle.coap_world.proofs.Witness.InWords.{config_range, bytes_are, t_is}
+use Rattle.coap_types.proofs.Facts.Bytes.{bytes_are}
+use Rattle.coap_world.proofs.Witness.InWords.{config_range, t_is}
 use Rattle.coap_world.proofs.Witness.TurnsMade.{a_turn, server_turn, on_server, legal_at, no_calls}
 use Rattle.coap_world.proofs.Witness.Watches.Server as server
 use Rattle.coap_world.proofs.Witness.Watches.Server.{to_stranger}

@@ -16,7 +16,7 @@ use Rattle.coap_exchange.specs.AskerLaw as asker
 use Rattle.coap_ends.specs.ClientSide.ClientTrace as C
 use Rattle.coap_ends.specs.ClientSide.ClientLaw.{ClientLaw, ClientRows, lower_of}
 use Rattle.coap_world.specs.Events.{server_end}
-use Rattle.coap_world.proofs.Witness.InWords.{bytes_are}
+use Rattle.coap_types.proofs.Facts.Bytes.{bytes_are}
 use Rattle.coap_layer.specs.Trace.{Answer}
 use Rattle.coap_world.specs.LegalRuns.{tag, plain, get, reported}
 use Rattle.coap_world.specs.BlockRuns.{key, new_body, first_get, second_get, part_bytes}

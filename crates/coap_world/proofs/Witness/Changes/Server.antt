@@ -22,7 +22,7 @@ use Rattle.coap_ends.specs.ServerSide.ServerTrace as S
 use Rattle.coap_ends.specs.ServerSide.ServerServing.{response_to}
 use Rattle.coap_ends.specs.ServerSide.ServerLaw.{ServerLaw, ServerRows, lower_of}
 use Rattle.coap_world.specs.Events.{client_end}
-use Rattle.coap_world.proofs.Witness.InWords.{bytes_are}
+use Rattle.coap_types.proofs.Facts.Bytes.{bytes_are}
 use Rattle.coap_resource.specs.Content.{Held}
 use Rattle.coap_world.specs.LegalRuns.{tag, plain, t}
 use Rattle.coap_world.specs.BlockRuns.{key, old_body, new_body, first_get, second_get, part_bytes}

@@ -21,7 +21,7 @@ use Rattle.coap_ends.specs.ServerSide.ServerLaw.{ServerLaw, ServerRows, lower_of
 use Rattle.coap_ends.specs.SuccessCodes.{created, changed}
 use Rattle.coap_world.specs.Events.{client_end}
 use Rattle.coap_world.specs.LegalRuns.{t}
-use Rattle.coap_world.proofs.Witness.InWords.{bytes_are}
+use Rattle.coap_types.proofs.Facts.Bytes.{bytes_are}
 use Rattle.coap_world.proofs.Witness.OneHeld as store
 use Rattle.coap_world.specs.BlockRuns.{key, answer_bytes}
 use Rattle.coap_world.specs.LateRuns.{continue, failed_body, short_body, lost_first, failed_second}

@@ -16,7 +16,7 @@ use Rattle.coap_exchange.specs.AskerLaw as asker
 use Rattle.coap_ends.specs.ClientSide.ClientTrace as C
 use Rattle.coap_ends.specs.ClientSide.ClientLaw.{ClientLaw, ClientRows, lower_of}
 use Rattle.coap_world.specs.Events.{server_end}
-use Rattle.coap_world.proofs.Witness.InWords.{bytes_are}
+use Rattle.coap_types.proofs.Facts.Bytes.{bytes_are}
 use Rattle.coap_world.specs.LegalRuns.{token, tag, reported, empty_ack}
 use Rattle.coap_world.specs.ObservationRuns.{second_bytes, cancel_bytes, cancelled_bytes}
 use Rattle.coap_world.proofs.Witness.Observed.Client.{content, calls_before, left_before, steps_before}

@@ -12,7 +12,7 @@ use Rattle.coap_exchange.specs.AnswererSteps.{asked_of}
 use Rattle.coap_ends.specs.ServerSide.ServerTrace as S
 use Rattle.coap_ends.specs.ServerSide.ServerLaw.{ServerLaw, ServerRows, lower_of}
 use Rattle.coap_world.specs.Events.{client_end}
-use Rattle.coap_world.proofs.Witness.InWords.{bytes_are}
+use Rattle.coap_types.proofs.Facts.Bytes.{bytes_are}
 use Rattle.coap_exchange.specs.declared.answerer.Asked.{Asked as Request}
 use Rattle.coap_exchange.specs.declared.answerer.Due.TheVariants as due
 use Rattle.coap_world.specs.LegalRuns.{t, get_bytes, empty_ack, separate_bytes}

@@ -25,7 +25,7 @@ use Rattle.coap_ends.specs.ServerSide.ServerLaw.{ServerLaw, ServerRows, lower_of
 use Rattle.coap_ends.specs.SuccessCodes.{deleted}
 use Rattle.coap_world.specs.LegalRuns.{plain, t, log, stranger}
 use Rattle.coap_world.specs.CallRuns.{drop_bytes, dropped_bytes}
-use Rattle.coap_world.proofs.Witness.InWords.{bytes_are}
+use Rattle.coap_types.proofs.Facts.Bytes.{bytes_are}
 use Rattle.coap_world.proofs.Witness.OneHeld as store
 use Rattle.coap_world.proofs.Witness.TurnsMade.{server_turn}
 use Rattle.coap_world.proofs.Witness.Watches.Server.{to_stranger}

@@ -17,7 +17,7 @@ use Rattle.coap_world.specs.Events.{server_end}
 use Rattle.coap_world.specs.LegalRuns.{reported, delete, changed_bytes}
 use Rattle.coap_world.specs.CallRuns.{replace, reported_next, replace_bytes, next_delete, gone_bytes}
 use Rattle.coap_world.proofs.Witness.Exchanges.{response, sends, ends}
-use Rattle.coap_world.proofs.Witness.InWords.{bytes_are}
+use Rattle.coap_types.proofs.Facts.Bytes.{bytes_are}
 use Rattle.coap_world.proofs.Witness.TurnsMade.{client_turn, to_server}
 
 -- the responses

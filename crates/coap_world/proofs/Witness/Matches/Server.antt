@@ -22,7 +22,7 @@ use Rattle.coap_world.specs.CallRuns.{replace_bytes, next_delete, gone_bytes}
 use Rattle.coap_world.proofs.Witness.OneHeld as store
 use Rattle.coap_world.proofs.Witness.Gets.Server.{stored, sets, stores}
 use Rattle.coap_world.proofs.Witness.Exchanges.{option, request, serves, IsSendable, remembered}
-use Rattle.coap_world.proofs.Witness.InWords.{bytes_are}
+use Rattle.coap_types.proofs.Facts.Bytes.{bytes_are}
 use Rattle.coap_world.proofs.Witness.TurnsMade.{server_turn, to_client}
 
 -- what the path holds

@@ -11,7 +11,7 @@ use Rattle.coap_exchange.specs.AskerLaw as asker
 use Rattle.coap_ends.specs.ClientSide.ClientTrace as C
 use Rattle.coap_ends.specs.ClientSide.ClientLaw.{ClientLaw, ClientRows, lower_of}
 use Rattle.coap_world.specs.Events.{server_end}
-use Rattle.coap_world.proofs.Witness.InWords.{bytes_are}
+use Rattle.coap_types.proofs.Facts.Bytes.{bytes_are}
 use Rattle.coap_world.specs.LegalRuns.{stranger, ping, pong}
 use Rattle.coap_world.proofs.Witness.TurnsMade.{client_turn}
 use Rattle.coap_world.proofs.Witness.Watches.Server.{to_stranger}

@@ -18,7 +18,7 @@ use Rattle.coap_world.specs.LegalRuns.{tag, json, get, reported}
 use Rattle.coap_world.specs.BlockRuns.{first_get}
 use Rattle.coap_world.specs.CallRuns.{new, reported_next, new_bytes, created_bytes, new_content_bytes}
 use Rattle.coap_world.proofs.Witness.Exchanges.{option, response, sends, ends}
-use Rattle.coap_world.proofs.Witness.InWords.{bytes_are}
+use Rattle.coap_types.proofs.Facts.Bytes.{bytes_are}
 use Rattle.coap_world.proofs.Witness.TurnsMade.{client_turn, to_server}
 
 -- the responses

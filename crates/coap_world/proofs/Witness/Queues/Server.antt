@@ -22,7 +22,7 @@ use Rattle.coap_world.specs.BlockRuns.{first_get}
 use Rattle.coap_world.specs.CallRuns.{new_bytes, created_bytes, new_content_bytes}
 use Rattle.coap_world.proofs.Witness.OneHeld as store
 use Rattle.coap_world.proofs.Witness.Exchanges.{option, request, serves, IsSendable, remembered}
-use Rattle.coap_world.proofs.Witness.InWords.{bytes_are}
+use Rattle.coap_types.proofs.Facts.Bytes.{bytes_are}
 use Rattle.coap_world.proofs.Witness.TurnsMade.{server_turn, to_client}
 
 -- what the path holds

@@ -17,7 +17,7 @@ use Rattle.coap_world.specs.LegalRuns.{reported, tag, precondition_failed}
 use Rattle.coap_world.specs.BlockRuns.{key, answer_bytes}
 use Rattle.coap_world.specs.LateRuns.{continue}
 use Rattle.coap_world.specs.RefusedRuns.{guarded, guarded_first, guarded_last}
-use Rattle.coap_world.proofs.Witness.InWords.{bytes_are}
+use Rattle.coap_types.proofs.Facts.Bytes.{bytes_are}
 use Rattle.coap_world.proofs.Witness.TurnsMade.{client_turn, to_server}
 use Rattle.coap_world.proofs.Witness.LateTurns.{begins, goes_on, ends, step}
 use Rattle.coap_world.proofs.Witness.Uploads.Client.{answer}

@@ -22,7 +22,7 @@ use Rattle.coap_world.specs.LegalRuns.{tag, t, precondition_failed}
 use Rattle.coap_world.specs.BlockRuns.{key, new_body, answer_bytes}
 use Rattle.coap_world.specs.LateRuns.{continue}
 use Rattle.coap_world.specs.RefusedRuns.{guarded_first, guarded_last}
-use Rattle.coap_world.proofs.Witness.InWords.{bytes_are}
+use Rattle.coap_types.proofs.Facts.Bytes.{bytes_are}
 use Rattle.coap_world.proofs.Witness.TurnsMade.{server_turn}
 use Rattle.coap_world.proofs.Witness.LateTurns.{answers, answered, step, response_spelled}
 use Rattle.coap_world.proofs.Witness.Gets.Server.{stored, sets, stores}

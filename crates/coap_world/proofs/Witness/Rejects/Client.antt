@@ -15,7 +15,7 @@ use Rattle.coap_ends.specs.ClientSide.ClientLaw.{ClientLaw, ClientRows, lower_of
 use Rattle.coap_world.specs.Events.{server_end}
 use Rattle.coap_world.specs.ObservationRuns.{second_bytes}
 use Rattle.coap_world.specs.CallRuns.{reset_bytes}
-use Rattle.coap_world.proofs.Witness.InWords.{bytes_are}
+use Rattle.coap_types.proofs.Facts.Bytes.{bytes_are}
 use Rattle.coap_world.proofs.Witness.Observed.Client.{content, calls_before, left_before, steps_before}
 use Rattle.coap_world.proofs.Witness.TurnsMade.{client_turn, to_server}
 

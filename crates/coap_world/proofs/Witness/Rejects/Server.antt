@@ -19,7 +19,7 @@ use Rattle.coap_world.specs.LegalRuns.{plain, t}
 use Rattle.coap_world.specs.ObservationRuns.{observe_bytes, first_bytes, second_bytes}
 use Rattle.coap_world.specs.CallRuns.{reset_bytes}
 use Rattle.coap_world.proofs.Witness.Exchanges.{remembered}
-use Rattle.coap_world.proofs.Witness.InWords.{bytes_are}
+use Rattle.coap_types.proofs.Facts.Bytes.{bytes_are}
 use Rattle.coap_world.proofs.Witness.OneHeld.{one, further}
 use Rattle.coap_world.proofs.Witness.Watches.Server.{held, a, b, content, first_change, second}
 use Rattle.coap_world.proofs.Witness.Observed.Server.{calls_before, answer_sendable, notice_sendable}

@@ -23,7 +23,7 @@ use Rattle.coap_ends.specs.ServerSide.ServerServing.{response_to}
 use Rattle.coap_ends.specs.ServerSide.ServerLaw.{ServerLaw, ServerRows, lower_of}
 use Rattle.coap_ends.specs.SuccessCodes.{created}
 use Rattle.coap_world.specs.Events.{client_end}
-use Rattle.coap_world.proofs.Witness.InWords.{bytes_are}
+use Rattle.coap_types.proofs.Facts.Bytes.{bytes_are}
 use Rattle.coap_exchange.specs.AnswererTrace as E
 use Rattle.coap_resource.specs.Content.{Held}
 use Rattle.coap_world.specs.LegalRuns.{t}

@@ -18,7 +18,7 @@ use Rattle.coap_world.specs.LegalRuns.{tag, reported}
 use Rattle.coap_world.specs.CallRuns.{validate, join, reported_next, validate_bytes, valid_bytes, join_bytes}
 use Rattle.coap_world.specs.CallRuns.{joined_bytes}
 use Rattle.coap_world.proofs.Witness.Exchanges.{option, response, sends, ends}
-use Rattle.coap_world.proofs.Witness.InWords.{bytes_are}
+use Rattle.coap_types.proofs.Facts.Bytes.{bytes_are}
 use Rattle.coap_world.proofs.Witness.TurnsMade.{client_turn, to_server}
 
 -- the responses
