@@ -7,8 +7,7 @@ use Rattle.std.proofs.lemmas.List.Splits.{slice_split_at, slice_split_none}
 use Rattle.std.proofs.Math.Seq.{get_or-append_seam}
 use Rattle.coap_types.specs.declared.path.PathRefusal.{PathRefusal}
 use Rattle.coap_types.specs.declared.path.PathRefusal.TheVariants.{SegmentTooLong, TooManySegments, Memory}
-use Rattle.coap_words.specs.PathText.{IsNoPath, IsTrueOf}
-use Rattle.coap_words.proofs.Facts.PathTexts.{is_slash, parts}
+use Rattle.coap_words.specs.PathText.{IsNoPath, IsTrueOf, is_slash, parts}
 use Rattle.coap_commands.specs.ScriptRefusals.{of_path}
 use Rattle.coap_commands.specs.ScriptWords.{IsCut, Lacks}
 use Rattle.coap_commands.specs.declared.script.refusal.LineRefusal.TheVariants as line

@@ -1,6 +1,6 @@
 use Rattle.std.proofs.Common.{◌≡◌, ◌∙◌, sym, ap, subst, rules, [], ◌++◌, length, Err}
-use Rattle.coap_words.specs.PathText.{IsPathText, without_leading_slash}
-use Rattle.coap_words.proofs.Facts.PathTexts.{not_empty, one_path, parts, passed_up, refused_part, says_parts}
+use Rattle.coap_words.specs.PathText.{IsPathText, parts, without_leading_slash}
+use Rattle.coap_words.proofs.Facts.PathTexts.{not_empty, one_path, passed_up, refused_part, says_parts}
 use Rattle.coap_commands.specs.ScriptRefusals.{of_path}
 use Rattle.coap_commands.proofs.PathWords.{cut_parts, last_part, line_refused, next_part, one_on}
 use Rattle.coap_commands.proofs.script.fields.path.Goals as goal

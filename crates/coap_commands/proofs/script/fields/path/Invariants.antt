@@ -2,7 +2,7 @@ use Rattle.std.proofs.Common.{◌≡◌, ◌++◌, length}
 use Rattle.coap_types.specs.Path.{HoldsAtMost}
 use Rattle.coap_types.specs.declared.path.TheConstants.{MAX_SEGMENT_LEN as max_segment_len}
 use Rattle.coap_types.specs.declared.path.TheConstants.{MAX_SEGMENTS as max_segments}
-use Rattle.coap_words.proofs.Facts.PathTexts.{parts}
+use Rattle.coap_words.specs.PathText.{parts}
 use Rattle.coap_commands.proofs.script.fields.path.Given as goal
 
 abbrev pub decreases-segments : goal.decreases-segments
