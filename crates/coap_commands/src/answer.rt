@@ -6,23 +6,18 @@ use crate::put_away::put_away;
 use crate::status::{Status, Stop};
 use coap_ends::{End, Server};
 use coap_resource::{MapStore, StoreRefusal};
-use coap_types::{Endpoint, Moment, Path};
+use coap_types::{Moment, Path};
+use coap_world::CLIENT_END;
 use std::alloc::Global;
 use std::hash::{BuildHasherDefault, FoldHasher};
 use std::io::Write;
 
 // The word that the server begins with, and that it is handed with the datagram.
 const WORD: u64 = 0;
-// When the datagram comes.
+// When the datagram comes. It comes from where the client of a run is.
 const ARRIVAL: Moment = Moment(0);
 
 const _: () = prove!(WORD == 0 && ARRIVAL.0 == 0);
-
-// Where the datagram comes from.
-const PEER: Endpoint = Endpoint {
-    ip: [127, 0, 0, 1],
-    port: 40_001,
-};
 
 /// Prints what a server with this one resource sends at once when it is handed the datagram.
 pub fn answer<W: Write>(
@@ -67,7 +62,7 @@ fn reply<W: Write>(
 ) -> Result<Status, Stop>
     ensures { IfOk result IsCarriedOut }
 {
-    server.feed(ARRIVAL, PEER, datagram, WORD)?;
+    server.feed(ARRIVAL, CLIENT_END, datagram, WORD)?;
     print_sent(alloc, server, out)?;
     Ok(Status::Done)
 }

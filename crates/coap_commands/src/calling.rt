@@ -1,13 +1,15 @@
 //! A request of a client: how it is made, and what becomes of it.
-ghost use Rattle.std.specs.Prelude.{◌≡◌, false, [], None, IfOk};
+ghost use Rattle.std.specs.Prelude.{◌≡◌, [], IfOk};
 ghost use Rattle.coap_types.specs.declared.request.Method.TheVariants.{Get, Put};
+ghost use Rattle.coap_ends.specs.ClientObject.CallShown.{shown_request};
+ghost use Rattle.coap_commands.specs.Script.{plain_request};
 
 use crate::status::Stop;
 use crate::text::report_text;
 use bytes::Bytes;
 use coap_ends::{CallRefusal, Client, Report};
 use coap_types::{Method, Moment, Path, Request, Tags};
-use std::alloc::{AllocError, Global};
+use std::alloc::{AllocError, Allocator, Global};
 use std::hash::BuildHasher;
 
 /// What became of a request.
@@ -19,18 +21,9 @@ pub enum Outcome {
     Reported(Report),
 }
 
-// A request without a condition.
-fn request(method: Method, path: Path, body: Bytes) -> Request
-    ensures { result ≡ record {
-      method = method;
-      path = path;
-      format = None;
-      body = body;
-      etags = [];
-      if_match = [];
-      if_none_match = false;
-      accept = None;
-    } }
+/// A request whose only option is its path.
+pub(crate) fn plain<A: Allocator>(method: Method, path: Path<A>, body: Bytes<A>) -> Request<A>
+    ensures { shown_request result ≡ plain_request method path body }
 {
     Request {
         method,
@@ -46,35 +39,17 @@ fn request(method: Method, path: Path, body: Bytes) -> Request
 
 /// A PUT of a body at a path (RFC 7252, section 5.8.3).
 pub fn put_request(alloc: Global, path: &Path, body: &[u8]) -> Result<Request, AllocError>
-    ensures { IfOk result (λ made. made ≡ record {
-      method = Put;
-      path = path.now;
-      format = None;
-      body = body.now;
-      etags = [];
-      if_match = [];
-      if_none_match = false;
-      accept = None;
-    }) }
+    ensures { IfOk result (λ made. shown_request made ≡ plain_request Put path.now body.now) }
 {
     let body = Bytes::copy_from_slice(alloc, body)?;
-    Ok(request(Method::Put, path.clone()?, body))
+    Ok(plain(Method::Put, path.clone()?, body))
 }
 
 /// A GET of what is at a path (RFC 7252, section 5.8.1).
 pub fn get_request(path: &Path) -> Result<Request, AllocError>
-    ensures { IfOk result (λ made. made ≡ record {
-      method = Get;
-      path = path.now;
-      format = None;
-      body = [];
-      etags = [];
-      if_match = [];
-      if_none_match = false;
-      accept = None;
-    }) }
+    ensures { IfOk result (λ made. shown_request made ≡ plain_request Get path.now []) }
 {
-    Ok(request(Method::Get, path.clone()?, Bytes::new()))
+    Ok(plain(Method::Get, path.clone()?, Bytes::new()))
 }
 
 /// Hands a request to a client; the refusal where it does not take it.

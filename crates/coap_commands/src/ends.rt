@@ -14,8 +14,8 @@ use coap_types::{Endpoint, MAX_SZX, Moment, Path, Szx};
 use std::alloc::Global;
 use std::hash::BuildHasher;
 
-// Content-Format 0: text/plain (RFC 7252, section 12.3).
-const TEXT_PLAIN: u16 = 0;
+/// The format of what the server's own side sets: text/plain (RFC 7252, section 12.3).
+pub(crate) const TEXT_PLAIN: u16 = 0;
 
 const _: () = prove!(TEXT_PLAIN == 0);
 

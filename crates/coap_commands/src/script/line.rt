@@ -1,20 +1,19 @@
 //! The event that a line says.
-ghost use Rattle.std.specs.Prelude.{◌≡◌, IfOk};
-ghost use Rattle.coap_ends.specs.ClientObject.CallShown.{shown_request};
-ghost use Rattle.coap_commands.specs.Script.{SaysPath, SaysPathAndBody, plain_request};
+ghost use Rattle.std.specs.Prelude.{IfOk};
+ghost use Rattle.coap_commands.specs.Script.{SaysPath, SaysPathAndBody};
 
+use crate::calling::plain;
+use crate::ends::TEXT_PLAIN;
 use crate::script::fields::{cut, last_word, number, path, side};
 use crate::script::refusal::LineRefusal;
 use bytes::Bytes;
 use coap_ends::CallId;
-use coap_types::{Endpoint, Method, Moment, Path, Request, Tags};
+use coap_types::{Endpoint, Method, Moment, Path, Request};
 use coap_world::{Event, What};
 use std::alloc::Allocator;
 
 // The word that each event has.
 const WORD: u64 = 0;
-// The format of what the server's own side sets: text/plain (RFC 7252, section 12.3).
-const TEXT_PLAIN: u16 = 0;
 // Where strangers are.
 const STRANGER_IP: [u8; 4] = [127, 0, 0, 1];
 
@@ -68,22 +67,6 @@ fn request<A: Allocator + Copy>(alloc: A, line: &[u8]) -> Result<Request<A>, Lin
             Ok(plain(Method::Post, path, body))
         }
         _ => Err(LineRefusal::Unreadable),
-    }
-}
-
-// A request without a condition, and without a format.
-fn plain<A: Allocator + Copy>(method: Method, path: Path<A>, body: Bytes<A>) -> Request<A>
-    ensures { shown_request result ≡ plain_request method path body }
-{
-    Request {
-        method,
-        path,
-        format: None,
-        body,
-        etags: Tags::new(),
-        if_match: Tags::new(),
-        if_none_match: false,
-        accept: None,
     }
 }
 
