@@ -17,8 +17,6 @@ pub mod ClientStep
 pub mod ClientExact
 pub mod ClientExample
 pub mod ClientWords
-pub mod ClientMoves
-pub mod ClientClosing
 pub mod ClientPlaces
 pub mod ClientAnswered
 pub mod ClientAnswers

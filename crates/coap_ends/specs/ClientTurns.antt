@@ -1,2 +1,4 @@
 pub mod ClientWork
 pub mod ClientQuiet
+pub mod ClientMoves
+pub mod ClientClosing

@@ -24,9 +24,9 @@ use Rattle.coap_ends.specs.ClientSide.ClientDeeds.{at}
 use Rattle.coap_ends.specs.ClientSide.ClientSteps.{reports}
 use Rattle.coap_ends.specs.ClientSide.ClientLaw.{own_of}
 use Rattle.coap_ends.specs.ClientSide.ClientWords.{hears}
-use Rattle.coap_ends.specs.ClientSide.ClientMoves as mv
-use Rattle.coap_ends.specs.ClientSide.ClientMoves.{Move, left_by}
-use Rattle.coap_ends.specs.ClientSide.ClientClosing.{Closing, quiet, goes_out, is_refused}
+use Rattle.coap_ends.specs.ClientTurns.ClientMoves as mv
+use Rattle.coap_ends.specs.ClientTurns.ClientMoves.{Move, left_by}
+use Rattle.coap_ends.specs.ClientTurns.ClientClosing.{Closing, quiet, goes_out, is_refused}
 use Rattle.coap_ends.proofs.ClientSide.ClientSends.{heard_in}
 use Rattle.coap_ends.proofs.ClientSide.ClientTurns.{Turned, fed_turned, ticked_turned}
 

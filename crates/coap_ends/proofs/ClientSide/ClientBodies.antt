@@ -50,7 +50,7 @@ use Rattle.coap_ends.proofs.ClientSide.ClientLeading.{client_back}
 use Rattle.coap_ends.specs.ClientSide.ClientBodies.{ComesLast, is_first, is_first_of, HeardFor}
 use Rattle.coap_ends.specs.ClientSide.ClientBodies.{TookPart, IsFetched, BodiesAreWhole}
 use Rattle.coap_ends.specs.ClientSide.ClientOrder.{call_of}
-use Rattle.coap_ends.specs.ClientSide.ClientClosing.{Closing, quiet, goes_out, is_refused}
+use Rattle.coap_ends.specs.ClientTurns.ClientClosing.{Closing, quiet, goes_out, is_refused}
 use Rattle.coap_ends.proofs.ClientSide.ClientTurns.{closing}
 use Rattle.coap_ends.proofs.ClientSide.AnswerReports.{GivesReport, gives_of}
 use Rattle.coap_ends.proofs.ClientSide.ClientOrigins.{Origin, kept, begins, follows, origin}

@@ -42,9 +42,9 @@ use Rattle.coap_ends.specs.ClientSide.ClientOrder.{call_of, turn_of}
 use Rattle.coap_ends.specs.ClientSide.ClientBegins.{WasSent}
 use Rattle.coap_ends.specs.ClientSide.ClientNumbers.{number_given, NumbersOnce}
 use Rattle.coap_ends.specs.ClientSide.ClientWords.{Taken, takes, WasTaken, Sending, sends}
-use Rattle.coap_ends.specs.ClientSide.ClientMoves as mv
-use Rattle.coap_ends.specs.ClientSide.ClientMoves.{Move, left_by}
-use Rattle.coap_ends.specs.ClientSide.ClientClosing.{Closing, quiet, goes_out, is_refused}
+use Rattle.coap_ends.specs.ClientTurns.ClientMoves as mv
+use Rattle.coap_ends.specs.ClientTurns.ClientMoves.{Move, left_by}
+use Rattle.coap_ends.specs.ClientTurns.ClientClosing.{Closing, quiet, goes_out, is_refused}
 use Rattle.coap_ends.proofs.ClientSide.PlaceLemmas.{same_number, number_self}
 use Rattle.coap_ends.proofs.ClientSide.ClientSends.{AllOf, all_uncancelled, happened_runs, passes_runs}
 use Rattle.coap_ends.proofs.ClientSide.ClientTurns.{closing, Turned, fed_turned, ticked_turned}

@@ -16,7 +16,7 @@ use Rattle.coap_ends.specs.ClientSide.ClientDeeds.{at}
 use Rattle.coap_ends.specs.ClientSide.ClientSteps.{lower}
 use Rattle.coap_ends.specs.ClientSide.ClientLaw.{ClientRows, own_of, lower_of}
 use Rattle.coap_ends.specs.ClientSide.ClientWords.{Sending, sends, sent_by, last_sent}
-use Rattle.coap_ends.specs.ClientSide.ClientClosing.{Closing, quiet, goes_out, is_refused, sending_of}
+use Rattle.coap_ends.specs.ClientTurns.ClientClosing.{Closing, quiet, goes_out, is_refused, sending_of}
 use Rattle.coap_ends.proofs.ClientSide.ClientHolds.{goes_fed, goes_ticked}
 use Rattle.coap_ends.proofs.ClientSide.ClientOnce.{beneath, law_back, known}
 use Rattle.coap_ends.proofs.ClientSide.ClientOneByOne.{last_same}

@@ -21,9 +21,9 @@ use Rattle.coap_ends.specs.ClientSide.ClientLaw.{own_of}
 use Rattle.coap_ends.specs.ClientSide.ClientAnswered.{of_call}
 use Rattle.coap_ends.specs.ClientSide.ClientPlaces.{final_of}
 use Rattle.coap_ends.specs.ClientSide.ClientWords.{Sending, sends, sent_by, hears}
-use Rattle.coap_ends.specs.ClientSide.ClientMoves as mv
-use Rattle.coap_ends.specs.ClientSide.ClientMoves.{Move, left_by}
-use Rattle.coap_ends.specs.ClientSide.ClientClosing.{Closing, quiet, goes_out, is_refused, sending_of}
+use Rattle.coap_ends.specs.ClientTurns.ClientMoves as mv
+use Rattle.coap_ends.specs.ClientTurns.ClientMoves.{Move, left_by}
+use Rattle.coap_ends.specs.ClientTurns.ClientClosing.{Closing, quiet, goes_out, is_refused, sending_of}
 use Rattle.coap_ends.proofs.ClientSide.ClientSends.{heard_in}
 use Rattle.coap_ends.proofs.ClientSide.PlaceLemmas.{hit_self}
 use Rattle.coap_ends.proofs.ClientSide.PlaceEffects.{final_hit}

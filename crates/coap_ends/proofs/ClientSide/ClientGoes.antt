@@ -40,9 +40,9 @@ use Rattle.coap_ends.specs.ClientSide.ClientEvents.{failed, happened, passes, cl
 use Rattle.coap_ends.specs.ClientSide.ClientDeeds.{at, deeds}
 use Rattle.coap_ends.specs.ClientSide.ClientSteps.{IsRight, is_idle, asks as is_asked}
 use Rattle.coap_ends.specs.ClientSide.ClientLaw.{ClientLaw, ClientRows, own_of, lower_of}
-use Rattle.coap_ends.specs.ClientSide.ClientMoves as mv
-use Rattle.coap_ends.specs.ClientSide.ClientMoves.{Move, Moved, left_by}
-use Rattle.coap_ends.specs.ClientSide.ClientClosing.{Closing, quiet, goes_out, is_refused}
+use Rattle.coap_ends.specs.ClientTurns.ClientMoves as mv
+use Rattle.coap_ends.specs.ClientTurns.ClientMoves.{Move, Moved, left_by}
+use Rattle.coap_ends.specs.ClientTurns.ClientClosing.{Closing, quiet, goes_out, is_refused}
 use Rattle.coap_ends.proofs.ClientSide.ClientSends.{AllOf, all_uncancelled}
 use Rattle.coap_ends.proofs.ClientSide.ClientMoves.{happened_moves, passes_moves}
 use Rattle.coap_ends.proofs.ClientSide.ClientTurns.{Turned, fed_turned, ticked_turned}

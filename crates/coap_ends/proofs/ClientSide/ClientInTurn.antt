@@ -26,9 +26,9 @@ use Rattle.coap_ends.specs.ClientSide.ClientWords.{Sending, sends, sent_by}
 use Rattle.coap_ends.proofs.ClientSide.ClientOnce.{given_is}
 use Rattle.coap_ends.specs.ClientSide.ClientBegins.{WasSent}
 use Rattle.coap_ends.specs.ClientSide.ClientOrder.{turn_of}
-use Rattle.coap_ends.specs.ClientSide.ClientMoves as mv
-use Rattle.coap_ends.specs.ClientSide.ClientMoves.{Move, left_by}
-use Rattle.coap_ends.specs.ClientSide.ClientClosing.{Closing, quiet, goes_out, is_refused, sending_of}
+use Rattle.coap_ends.specs.ClientTurns.ClientMoves as mv
+use Rattle.coap_ends.specs.ClientTurns.ClientMoves.{Move, left_by}
+use Rattle.coap_ends.specs.ClientTurns.ClientClosing.{Closing, quiet, goes_out, is_refused, sending_of}
 use Rattle.coap_ends.proofs.ClientSide.ClientMoves.{releases_none}
 use Rattle.coap_ends.proofs.ClientSide.ClientTurns.{Turned, left_with, fed_turned, ticked_turned}
 

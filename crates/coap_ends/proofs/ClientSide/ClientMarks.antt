@@ -32,9 +32,9 @@ use Rattle.coap_ends.proofs.ClientSide.ClientOnce.{known, sound_of}
 use Rattle.coap_ends.proofs.ClientSide.ClientLeading.{client_back}
 use Rattle.coap_ends.specs.ClientSide.ClientNewer.{Newly, newly, registers, renews, taken_by, notifies, mark_if}
 use Rattle.coap_ends.specs.ClientSide.ClientNewer.{last_mark, AreNewer}
-use Rattle.coap_ends.specs.ClientSide.ClientMoves as mv
-use Rattle.coap_ends.specs.ClientSide.ClientMoves.{Move, left_by, Unheard, Hears}
-use Rattle.coap_ends.specs.ClientSide.ClientClosing.{Closing, quiet, goes_out, is_refused}
+use Rattle.coap_ends.specs.ClientTurns.ClientMoves as mv
+use Rattle.coap_ends.specs.ClientTurns.ClientMoves.{Move, left_by, Unheard, Hears}
+use Rattle.coap_ends.specs.ClientTurns.ClientClosing.{Closing, quiet, goes_out, is_refused}
 use Rattle.coap_ends.proofs.ClientSide.ClientTurns.{Turned, fed_turned, ticked_turned}
 
 -- of the live observations, by number and mark

@@ -24,10 +24,10 @@ use Rattle.coap_ends.specs.ClientSide.ClientObserving.{begun, first_value, is_ov
 use Rattle.coap_ends.specs.ClientSide.ClientObserving.{passed, noticed_by}
 use Rattle.coap_ends.specs.ClientSide.ClientEvents.{called, answered, happened, is_held}
 use Rattle.coap_ends.specs.ClientSide.ClientEvents.{is_upload_op, starts, idle, passes}
-use Rattle.coap_ends.specs.ClientSide.ClientMoves.{Hears, Notes, Unheard, Moved, rests, copies, starts_next, fetches}
-use Rattle.coap_ends.specs.ClientSide.ClientMoves.{goes_on, is_done, registers, refuses, fetches_on, fetched, gives_up}
-use Rattle.coap_ends.specs.ClientSide.ClientMoves.{fetched_none, cancels, is_dropped, fails, is_ended, renews}
-use Rattle.coap_ends.specs.ClientSide.ClientMoves.{passes_by}
+use Rattle.coap_ends.specs.ClientTurns.ClientMoves.{Hears, Notes, Unheard, Moved, rests, copies, starts_next, fetches}
+use Rattle.coap_ends.specs.ClientTurns.ClientMoves.{goes_on, is_done, registers, refuses, fetches_on, fetched, gives_up}
+use Rattle.coap_ends.specs.ClientTurns.ClientMoves.{fetched_none, cancels, is_dropped, fails, is_ended, renews}
+use Rattle.coap_ends.specs.ClientTurns.ClientMoves.{passes_by}
 use Rattle.coap_ends.proofs.ClientSide.PlaceLemmas.{same_number}
 
 -- a release asks for no request

@@ -32,9 +32,9 @@ use Rattle.coap_ends.specs.ClientSide.ClientLaw.{ClientLaw, own_of, lower_of}
 use Rattle.coap_ends.specs.ClientSide.ClientPlaces.{hit, in_observations}
 use Rattle.coap_ends.specs.ClientSide.ClientWords.{Sending, sends}
 use Rattle.coap_ends.specs.ClientSide.ClientBegins.{WasSent}
-use Rattle.coap_ends.specs.ClientSide.ClientMoves as mv
-use Rattle.coap_ends.specs.ClientSide.ClientMoves.{Move, left_by}
-use Rattle.coap_ends.specs.ClientSide.ClientClosing.{Closing, quiet, goes_out, is_refused, sending_of}
+use Rattle.coap_ends.specs.ClientTurns.ClientMoves as mv
+use Rattle.coap_ends.specs.ClientTurns.ClientMoves.{Move, left_by}
+use Rattle.coap_ends.specs.ClientTurns.ClientClosing.{Closing, quiet, goes_out, is_refused, sending_of}
 use Rattle.coap_ends.proofs.ClientSide.PlaceLemmas.{same_number, number_self}
 use Rattle.coap_ends.proofs.ClientSide.PlaceEffects.{AllWait}
 use Rattle.coap_ends.proofs.ClientSide.ClientSends.{AllOf}

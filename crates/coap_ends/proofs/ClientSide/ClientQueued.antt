@@ -23,7 +23,7 @@ use Rattle.coap_ends.specs.ClientSide.ClientEffects.{Asks, Keeps, Effect, stays,
 use Rattle.coap_ends.specs.ClientSide.ClientFetching.{fetch_by, fetch_answered}
 use Rattle.coap_ends.specs.ClientSide.ClientObserving.{begun, first_value, is_over, renewed, passed, noticed_by}
 use Rattle.coap_ends.specs.ClientSide.ClientEvents.{called, answered, failed, happened, closed}
-use Rattle.coap_ends.specs.ClientSide.ClientClosing.{Closing, quiet, goes_out, is_refused}
+use Rattle.coap_ends.specs.ClientTurns.ClientClosing.{Closing, quiet, goes_out, is_refused}
 use Rattle.coap_ends.proofs.ClientSide.PlaceEvents.{lapse_last}
 
 abbrev pub uncancelled : ℕ → List Operation → List Operation

@@ -39,9 +39,9 @@ use Rattle.coap_ends.proofs.ClientSide.ClientPieces.{Tracked, IfTracked, all_sen
 use Rattle.coap_ends.proofs.ClientSide.ClientLeading.{client_back}
 use Rattle.coap_ends.specs.ClientSide.ClientBegins.{WasSent}
 use Rattle.coap_ends.specs.ClientSide.ClientTokens.{Deregisters, OwnTokens, OneOfToken, ShortTokens}
-use Rattle.coap_ends.specs.ClientSide.ClientMoves as mv
-use Rattle.coap_ends.specs.ClientSide.ClientMoves.{Move, left_by, Hears}
-use Rattle.coap_ends.specs.ClientSide.ClientClosing.{Closing, quiet, goes_out, is_refused, sending_of}
+use Rattle.coap_ends.specs.ClientTurns.ClientMoves as mv
+use Rattle.coap_ends.specs.ClientTurns.ClientMoves.{Move, left_by, Hears}
+use Rattle.coap_ends.specs.ClientTurns.ClientClosing.{Closing, quiet, goes_out, is_refused, sending_of}
 use Rattle.coap_ends.proofs.ClientSide.ClientAsked.{AsksFor, sent_if_asked, asked_if_sent}
 use Rattle.coap_ends.proofs.ClientSide.ClientMoves.{releases_none}
 use Rattle.coap_ends.proofs.ClientSide.ClientTurns.{Turned, fed_turned, ticked_turned}

@@ -18,8 +18,8 @@ use Rattle.coap_ends.specs.ClientSide.ClientLaw.{own_of}
 use Rattle.coap_ends.specs.ClientSide.ClientWords.{sends, sent_by, hears}
 use Rattle.coap_ends.proofs.ClientSide.ClientSends.{heard_in}
 use Rattle.coap_ends.specs.ClientSide.ClientNewer.{taken_by, notifies}
-use Rattle.coap_ends.specs.ClientSide.ClientClosing.{Closing, quiet, goes_out, is_refused}
-use Rattle.coap_ends.specs.ClientSide.ClientMoves.{Move, left_by}
+use Rattle.coap_ends.specs.ClientTurns.ClientClosing.{Closing, quiet, goes_out, is_refused}
+use Rattle.coap_ends.specs.ClientTurns.ClientMoves.{Move, left_by}
 use Rattle.coap_ends.proofs.ClientSide.ClientMoves.{happened_moves, passes_moves}
 
 module _ (now : ℕ) (e : Effect) where

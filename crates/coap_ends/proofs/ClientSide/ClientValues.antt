@@ -36,9 +36,9 @@ use Rattle.coap_ends.specs.ClientSide.ClientAnswers.{Answers}
 use Rattle.coap_ends.specs.ClientSide.ClientBodies.{ComesAs}
 use Rattle.coap_ends.specs.ClientSide.ClientWords.{hears, runs_fetch}
 use Rattle.coap_ends.specs.ClientSide.ClientNewer.{Newly, newly, registers, renews, taken_by, notifies}
-use Rattle.coap_ends.specs.ClientSide.ClientMoves as mv
-use Rattle.coap_ends.specs.ClientSide.ClientMoves.{Move, left_by, Hears}
-use Rattle.coap_ends.specs.ClientSide.ClientClosing.{Closing, quiet, goes_out, is_refused}
+use Rattle.coap_ends.specs.ClientTurns.ClientMoves as mv
+use Rattle.coap_ends.specs.ClientTurns.ClientMoves.{Move, left_by, Hears}
+use Rattle.coap_ends.specs.ClientTurns.ClientClosing.{Closing, quiet, goes_out, is_refused}
 use Rattle.coap_ends.proofs.ClientSide.PlaceLemmas.{same_number, number_self}
 use Rattle.coap_ends.proofs.ClientSide.PlaceEvents.{lapse_last, answer_last, LastOnly}
 use Rattle.coap_ends.proofs.ClientSide.ClientSends.{heard_in}

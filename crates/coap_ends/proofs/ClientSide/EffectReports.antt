@@ -32,7 +32,7 @@ use Rattle.coap_ends.specs.ClientSide.ClientObserving.{first_value}
 use Rattle.coap_ends.specs.ClientSide.ClientEffects.{Rests, Keeps, Releases}
 use Rattle.coap_ends.specs.ClientSide.ClientEvents.{called, answered, failed, closed, starts, idle, is_held}
 use Rattle.coap_ends.specs.ClientSide.ClientEvents.{is_upload_op}
-use Rattle.coap_ends.specs.ClientSide.ClientClosing.{Closing, quiet, goes_out, is_refused}
+use Rattle.coap_ends.specs.ClientTurns.ClientClosing.{Closing, quiet, goes_out, is_refused}
 use Rattle.coap_ends.specs.ClientSide.ClientEnds.{is_end, reported_of, report_to, Unsent, unsent_by}
 
 -- the end of an exchange, or that none began

@@ -19,9 +19,9 @@ use Rattle.coap_ends.specs.ClientSide.ClientNewer.{newly, renews, taken_by, noti
 use Rattle.coap_ends.specs.ClientSide.ClientNotified.{is_newly_of}
 use Rattle.coap_ends.specs.ClientSide.ClientValues.{SentSince}
 use Rattle.coap_ends.specs.ClientSide.ClientWords.{Sending, sends, last_sent}
-use Rattle.coap_ends.specs.ClientSide.ClientMoves as mv
-use Rattle.coap_ends.specs.ClientSide.ClientMoves.{Move, left_by}
-use Rattle.coap_ends.specs.ClientSide.ClientClosing.{Closing, quiet, goes_out, is_refused, sending_of}
+use Rattle.coap_ends.specs.ClientTurns.ClientMoves as mv
+use Rattle.coap_ends.specs.ClientTurns.ClientMoves.{Move, left_by}
+use Rattle.coap_ends.specs.ClientTurns.ClientClosing.{Closing, quiet, goes_out, is_refused, sending_of}
 use Rattle.coap_ends.proofs.ClientSide.PlaceEffects.{flip_other}
 use Rattle.coap_ends.proofs.ClientSide.ClientMarks.{unheard_none, answer_none}
 use Rattle.coap_ends.proofs.ClientSide.ClientTurns.{Turned, fed_turned, ticked_turned}

@@ -11,7 +11,7 @@ use Rattle.coap_ends.specs.ClientSide.ClientEvents.{failed, happened, passes, cl
 use Rattle.coap_ends.specs.ClientSide.ClientDeeds.{at}
 use Rattle.coap_ends.specs.ClientSide.ClientLaw.{own_of}
 use Rattle.coap_ends.specs.ClientSide.ClientWords.{sends, sent_by}
-use Rattle.coap_ends.specs.ClientSide.ClientClosing.{Closing, quiet, goes_out, is_refused}
+use Rattle.coap_ends.specs.ClientTurns.ClientClosing.{Closing, quiet, goes_out, is_refused}
 use Rattle.coap_ends.proofs.ClientSide.ClientFates.{IsLone, dropped_lone}
 use Rattle.coap_ends.proofs.ClientSide.ClientSends.{Runs, happened_runs, passes_runs}
 use Rattle.coap_ends.proofs.ClientSide.ClientTurns.{closing}

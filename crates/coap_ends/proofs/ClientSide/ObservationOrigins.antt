@@ -29,9 +29,9 @@ use Rattle.coap_ends.specs.ClientSide.ClientLaw.{own_of}
 use Rattle.coap_ends.specs.ClientSide.ClientPlaces.{hit, in_running, in_observations, places}
 use Rattle.coap_ends.specs.ClientSide.ClientNewer.{Newly, newly, registers, renews, taken_by, notifies}
 use Rattle.coap_ends.specs.ClientSide.ClientWords.{hears}
-use Rattle.coap_ends.specs.ClientSide.ClientMoves as mv
-use Rattle.coap_ends.specs.ClientSide.ClientMoves.{Move, left_by}
-use Rattle.coap_ends.specs.ClientSide.ClientClosing.{Closing, quiet, goes_out, is_refused}
+use Rattle.coap_ends.specs.ClientTurns.ClientMoves as mv
+use Rattle.coap_ends.specs.ClientTurns.ClientMoves.{Move, left_by}
+use Rattle.coap_ends.specs.ClientTurns.ClientClosing.{Closing, quiet, goes_out, is_refused}
 use Rattle.coap_ends.proofs.ClientSide.PlaceLemmas.{same_number, number_self, hit_self}
 use Rattle.coap_ends.proofs.ClientSide.PlaceEvents.{lapse_last, answer_last, LastOnly}
 use Rattle.coap_ends.proofs.ClientSide.PlaceEffects.{flip_other}

@@ -26,9 +26,9 @@ use Rattle.coap_ends.specs.ClientSide.ClientFetching.{rest}
 use Rattle.coap_ends.specs.ClientSide.ClientObserving.{begun, first_rest}
 use Rattle.coap_ends.specs.ClientSide.ClientEvents.{failed, closed}
 use Rattle.coap_ends.specs.ClientSide.ClientDeeds.{at}
-use Rattle.coap_ends.specs.ClientSide.ClientMoves as mv
-use Rattle.coap_ends.specs.ClientSide.ClientMoves.{Move, left_by, Hears}
-use Rattle.coap_ends.specs.ClientSide.ClientClosing.{Closing, quiet, goes_out, is_refused}
+use Rattle.coap_ends.specs.ClientTurns.ClientMoves as mv
+use Rattle.coap_ends.specs.ClientTurns.ClientMoves.{Move, left_by, Hears}
+use Rattle.coap_ends.specs.ClientTurns.ClientClosing.{Closing, quiet, goes_out, is_refused}
 use Rattle.coap_world.specs.Legal.{IsRequest}
 use Rattle.coap_world.proofs.Progress.EachElement.{Each, each_join, each_filter, each_changed}
 use Rattle.coap_world.proofs.Progress.TransfersInBytes.{TransferAre, RestAre, answer_are, rest_are}

@@ -35,7 +35,7 @@ use Rattle.coap_ends.specs.ClientSide.ClientDeeds.{at, deeds}
 use Rattle.coap_ends.specs.ClientSide.ClientHears.{AreFromServer}
 use Rattle.coap_ends.specs.ClientSide.ClientSteps.{lower}
 use Rattle.coap_ends.specs.ClientSide.ClientLaw.{ClientLaw, own_of, lower_of, layer_of}
-use Rattle.coap_ends.specs.ClientSide.ClientMoves.{Moved, left_by, Hears}
+use Rattle.coap_ends.specs.ClientTurns.ClientMoves.{Moved, left_by, Hears}
 use Rattle.coap_ends.proofs.Facts.OfClient as facts
 use Rattle.coap_ends.proofs.Facts.MovesOfClient.{releases_none, happened_moves, passes_moves}
 use Rattle.coap_ends.proofs.Facts.OfClientCalls.{asks_runs, closing}
