@@ -57,8 +57,8 @@ value_none k sequence f m verdict.Done = refl
 value_none k sequence f m verdict.Again = refl
 value_none k sequence f m (verdict.Ask num size) = refl
 
-failed_none : (u : Transfer → Bool) (report : Report) (s : Own) (running : Option Operation) → is_of_answer report ≡ false
-    → answer_reported (failed u report s running).report ≡ false
+failed_none : (u : Transfer → Bool) (report : Report) (s : Own) (running : Option Operation)
+    → is_of_answer report ≡ false → answer_reported (failed u report s running).report ≡ false
 failed_none u report s None h = refl
 failed_none u report s (Some (Calling k r t)) h = h
 failed_none u report s (Some (Registering k path)) h = h
@@ -130,7 +130,8 @@ module _ (szx : ℕ) where
 
       by : Closing (max (own_of szx t).clock z.now) e z.token
           → (answer_reported e.report ≡ false) ⊎ ((j : ℕ) × (rep : Report) × (e.report ≡ of j rep)
-          × GivesReport (at z.now (own_of szx t)) (heard_in z.told) j rep) → GivesReport (own_of szx t) (hears c) k report
+          × GivesReport (at z.now (own_of szx t)) (heard_in z.told) j rep)
+          → GivesReport (own_of szx t) (hears c) k report
       by (goes_out op key asks given sends_it own_same report_same) m =
           absurd (shows None (z.reports_is ∙ report_same) refl)
       by (is_refused op why asks given none all) m =

@@ -45,7 +45,8 @@ bare_part b false [] e h =
     All-cons HasNoSlash (b ∷ []) [] (All-cons (λ x. x ≢ 47) b [] first (All-nil (λ x. x ≢ 47))) h
 bare_part b false (p ∷ ps) e h =
     let first : b ≢ 47 = λ is. true≢false (sym (ap is_slash is) ∙ e) in
-    All-cons HasNoSlash (b ∷ p) ps (All-cons (λ x. x ≢ 47) b p first (All-head HasNoSlash p ps h)) (All-tail HasNoSlash p ps h)
+    All-cons HasNoSlash (b ∷ p) ps (All-cons (λ x. x ≢ 47) b p first (All-head HasNoSlash p ps h))
+    (All-tail HasNoSlash p ps h)
 
 parts_bare : (bs : List ℕ) → All HasNoSlash (parts bs)
 parts_bare [] = All-cons HasNoSlash [] [] (All-nil (λ x. x ≢ 47)) (All-nil HasNoSlash)
@@ -60,7 +61,8 @@ bare_passes : (s : List ℕ) → HasNoSlash s → All (λ x. is_slash x ≡ fals
 bare_passes s h = λ k d lt. no_slash _ (h k d lt)
 
 -- and nothing else is
-parts_of_join : (x : List ℕ) (xs : List (List ℕ)) → All HasNoSlash (x ∷ xs) → parts (join_with_byte 47 (x ∷ xs)) ≡ x ∷ xs
+parts_of_join : (x : List ℕ) (xs : List (List ℕ)) → All HasNoSlash (x ∷ xs)
+    → parts (join_with_byte 47 (x ∷ xs)) ≡ x ∷ xs
 parts_of_join x [] h = slice_split_none is_slash x (bare_passes x (All-head HasNoSlash x [] h))
 parts_of_join x (y ∷ ys) h =
     slice_split_at is_slash x 47 (join_with_byte 47 (y ∷ ys)) (bare_passes x (All-head HasNoSlash x (y ∷ ys) h)) refl
