@@ -2,10 +2,10 @@
 ghost use Rattle.std.specs.Prelude.{◌≡◌, ◌<◌, ℕ, [], ◌∷◌, Ok, Some, IfOk, IfNone, IfErr, length};
 ghost use Rattle.coap_resource.specs.Content.{Content};
 ghost use Rattle.coap_resource.specs.Entries.{content_of};
-ghost use Rattle.coap_ends.specs.ClientSide.ClientStep.{Led as ClientLed};
-ghost use Rattle.coap_ends.specs.ServerObject.ServerShown.{state_of};
-ghost use Rattle.coap_ends.specs.ServerSide.ServerLed.{Led};
-ghost use Rattle.coap_ends.specs.ServerSide.ServerTrace.{Sets};
+ghost use Rattle.coap_client.specs.ClientSide.ClientStep.{Led as ClientLed};
+ghost use Rattle.coap_server.specs.ServerObject.ServerShown.{state_of};
+ghost use Rattle.coap_server.specs.ServerSide.ServerLed.{Led};
+ghost use Rattle.coap_server.specs.ServerSide.ServerTrace.{Sets};
 
 use crate::status::Stop;
 use coap_ends::{Client, Server};

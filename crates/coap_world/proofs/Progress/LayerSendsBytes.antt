@@ -11,8 +11,8 @@ use Rattle.coap_layer.specs.Trace as L
 use Rattle.coap_layer.specs.Trace.{with_head}
 use Rattle.coap_exchange.specs.AskerArrivals.{replying}
 use Rattle.coap_exchange.specs.EmptyMessages.{ack_bytes, reset_bytes}
-use Rattle.coap_ends.specs.Follows.Sources.{Source}
-use Rattle.coap_ends.proofs.Facts.Sources.{called, sourced}
+use Rattle.coap_server.specs.Follows.Sources.{Source}
+use Rattle.coap_server.proofs.Facts.Sources.{called, sourced}
 use Rattle.coap_world.proofs.Progress.SpelledInBytes.{ValuesAre, none_are, cons_are, message_are, empty_are}
 use Rattle.coap_world.proofs.Progress.EachElement.{Each}
 

@@ -6,22 +6,22 @@ use Rattle.std.specs.Cmp.Lexicographic.{slice_cmp, texts_ties}
 use Rattle.std.specs.Option.{option_map}
 use Rattle.std.specs.Ordering.{nat_cmp}
 use Rattle.coap_exchange.specs.Tokens.{same_token}
-use Rattle.coap_ends.specs.declared.client.report.CallId.{CallId}
+use Rattle.coap_client.specs.declared.client.report.CallId.{CallId}
 use Rattle.coap_types.specs.Past.{all_of}
 use Rattle.coap_types.specs.declared.endpoint.Endpoint.{Endpoint}
 use Rattle.coap_layer.specs.Trace.{Packet}
 use Rattle.coap_exchange.specs.declared.asker.AskRefusal.{AskRefusal}
-use Rattle.coap_ends.specs.declared.refusals.CallRefusal.{CallRefusal}
-use Rattle.coap_ends.specs.declared.refusals.CancelRefusal.{CancelRefusal}
-use Rattle.coap_ends.specs.ClientSide.ClientDeeds.{effect}
-use Rattle.coap_ends.specs.ClientSide.ClientEffects.{Deed, Rests, Asks, Keeps, Releases, Effect}
-use Rattle.coap_ends.specs.ClientSide.ClientLaw.{own_of}
-use Rattle.coap_ends.specs.ClientSide.ClientOwn.{Own}
-use Rattle.coap_ends.specs.ClientSide.ClientStep as client
-use Rattle.coap_ends.specs.ClientSide.ClientSteps.{after, requested}
-use Rattle.coap_ends.specs.ClientSide.ClientTrace as C
-use Rattle.coap_ends.specs.ClientSide.ClientWords.{sent_by, sends}
-use Rattle.coap_ends.proofs.Facts.OfClientCalls.{led_client}
+use Rattle.coap_client.specs.declared.refusals.CallRefusal.{CallRefusal}
+use Rattle.coap_client.specs.declared.refusals.CancelRefusal.{CancelRefusal}
+use Rattle.coap_client.specs.ClientSide.ClientDeeds.{effect}
+use Rattle.coap_client.specs.ClientSide.ClientEffects.{Deed, Rests, Asks, Keeps, Releases, Effect}
+use Rattle.coap_client.specs.ClientSide.ClientLaw.{own_of}
+use Rattle.coap_client.specs.ClientSide.ClientOwn.{Own}
+use Rattle.coap_client.specs.ClientSide.ClientStep as client
+use Rattle.coap_client.specs.ClientSide.ClientSteps.{after, requested}
+use Rattle.coap_client.specs.ClientSide.ClientTrace as C
+use Rattle.coap_client.specs.ClientSide.ClientWords.{sent_by, sends}
+use Rattle.coap_client.proofs.Facts.OfClientCalls.{led_client}
 use Rattle.coap_world.specs.Events.{client_end, server_end}
 use Rattle.coap_world.specs.Record.{OfClient, ClientTick, FeedsClient, given_by}
 use Rattle.coap_world.specs.Run.Acts.{Moves, Acts, Fed, Taken}

@@ -13,22 +13,22 @@ use Rattle.coap_codec.specs.Message.{Message}
 use Rattle.coap_observe.specs.Observers.{Observer}
 use Rattle.coap_resource.specs.Serves.{Question}
 use Rattle.coap_exchange.specs.declared.answerer.Asked.{Asked}
-use Rattle.coap_ends.specs.ClientSide.ClientOrder.{call_of, is_last}
-use Rattle.coap_ends.specs.ClientSide.ClientTrace as C
-use Rattle.coap_ends.specs.ClientSide.ClientWords.{Taken, WasTaken, Sending}
-use Rattle.coap_ends.specs.ServerSide.Follows.ServerBrings.{Comes}
-use Rattle.coap_ends.specs.ServerSide.Follows.ServerGives.{refusal_by, refusal_of, refusal_in}
-use Rattle.coap_ends.specs.ServerSide.Follows.ServerObserves.{WasMade}
-use Rattle.coap_ends.specs.ServerSide.Follows.ServerServes.{Serving, serving, hands, times_handed}
-use Rattle.coap_ends.specs.ServerSide.Follows.ServerTakes.{Took, took, took_by, taken_by, takes_block}
-use Rattle.coap_ends.specs.ServerSide.ServerChecks.{Verdict, Ignored, Refused, Asks, Uploads, verdict_on}
-use Rattle.coap_ends.specs.ServerSide.ServerLaw.{own_of}
-use Rattle.coap_ends.specs.ServerSide.ServerObservers.{is_get}
-use Rattle.coap_ends.specs.ServerSide.ServerTrace as S
-use Rattle.coap_ends.specs.ServerSide.ServerUploads.{ruling_of}
-use Rattle.coap_ends.proofs.Facts.OfClient as client_facts
-use Rattle.coap_ends.proofs.Facts.OfServer as server_facts
-use Rattle.coap_ends.proofs.Facts.OfServerCalls.{szx_is, comes_here}
+use Rattle.coap_client.specs.ClientSide.ClientOrder.{call_of, is_last}
+use Rattle.coap_client.specs.ClientSide.ClientTrace as C
+use Rattle.coap_client.specs.ClientSide.ClientWords.{Taken, WasTaken, Sending}
+use Rattle.coap_server.specs.ServerSide.Follows.ServerBrings.{Comes}
+use Rattle.coap_server.specs.ServerSide.Follows.ServerGives.{refusal_by, refusal_of, refusal_in}
+use Rattle.coap_server.specs.ServerSide.Follows.ServerObserves.{WasMade}
+use Rattle.coap_server.specs.ServerSide.Follows.ServerServes.{Serving, serving, hands, times_handed}
+use Rattle.coap_server.specs.ServerSide.Follows.ServerTakes.{Took, took, took_by, taken_by, takes_block}
+use Rattle.coap_server.specs.ServerSide.ServerChecks.{Verdict, Ignored, Refused, Asks, Uploads, verdict_on}
+use Rattle.coap_server.specs.ServerSide.ServerLaw.{own_of}
+use Rattle.coap_server.specs.ServerSide.ServerObservers.{is_get}
+use Rattle.coap_server.specs.ServerSide.ServerTrace as S
+use Rattle.coap_server.specs.ServerSide.ServerUploads.{ruling_of}
+use Rattle.coap_client.proofs.Facts.OfClient as client_facts
+use Rattle.coap_server.proofs.Facts.OfServer as server_facts
+use Rattle.coap_server.proofs.Facts.OfServerCalls.{szx_is, comes_here}
 use Rattle.coap_world.specs.Answers.{IsAnswer, replies, continues, refuses, notifies, AnswersAt}
 use Rattle.coap_world.specs.CameFrom.{request_of}
 use Rattle.coap_world.specs.Events.{client_end, server_end, Config}
@@ -39,8 +39,8 @@ use Rattle.coap_world.proofs.Reports.Answered.{all_answered}
 use Rattle.coap_world.proofs.Requests.LastRequests.{Final, method_is}
 use Rattle.coap_world.proofs.Requests.OfACall.{Lawful, lawful_back, later_back}
 use Rattle.coap_world.proofs.Requests.ReadBack.{Changes}
-use Rattle.coap_ends.specs.ClientSide.ClientCodes.{Fails}
-use Rattle.coap_ends.proofs.Facts.OfClientCalls.{reports_codes}
+use Rattle.coap_client.specs.ClientSide.ClientCodes.{Fails}
+use Rattle.coap_client.proofs.Facts.OfClientCalls.{reports_codes}
 use Rattle.coap_world.specs.Done.{NeverFailed}
 use Rattle.coap_world.proofs.Reports.AppliedRequest.{Applied, applied_in, same_sending, same_asked, same_verdict}
 use Rattle.coap_world.proofs.Reports.AppliedRequest.{handed_few}
@@ -92,7 +92,7 @@ record RefusedIn (limit szx word : ℕ) (past : List S.Call) (c : S.Call) (a : A
   refuses_so : refusal_of uploads at a verdict ≡ Some code
 
 refused_in : (limit szx word : ℕ) (past : List S.Call) (c : S.Call) (a : Asked) (code : ℕ)
-    → Rattle.coap_ends.specs.ServerSide.ServerLaw.ServerLaw limit szx word (c ∷ past)
+    → Rattle.coap_server.specs.ServerSide.ServerLaw.ServerLaw limit szx word (c ∷ past)
     → hands c ≡ Some a → refusal_in (own_of limit szx past) c ≡ Some code → RefusedIn limit szx word past c a
 refused_in limit szx word past (S.Feeds now from bytes w up (Some p) h below) a code law is refuses_so =
     let s : S.Own = own_of limit szx past in

@@ -12,15 +12,15 @@ use Rattle.coap_exchange.specs.AskerFollows.{message_told}
 use Rattle.coap_exchange.specs.AskerLaw.{ExchangeLaw}
 use Rattle.coap_exchange.specs.AskerTrace as E
 use Rattle.coap_exchange.proofs.Facts.ClientSide.{matched}
-use Rattle.coap_ends.specs.ClientSide.ClientDeeds.{at}
-use Rattle.coap_ends.specs.ClientSide.ClientEvents.{happened}
-use Rattle.coap_ends.specs.ClientSide.ClientLaw.{ClientLaw, own_of, lower_of}
-use Rattle.coap_ends.specs.ClientSide.ClientNotified.{notes}
-use Rattle.coap_ends.specs.ClientSide.ClientOwn.{Own}
-use Rattle.coap_ends.specs.ClientSide.ClientTrace.{Call, Calls, Observes, Cancels, Forgets, Feeds, Ticks, NextOut}
-use Rattle.coap_ends.specs.ClientSide.ClientTrace.{NextReport, Asked}
-use Rattle.coap_ends.specs.ClientSide.ClientWords.{hears}
-use Rattle.coap_ends.proofs.Facts.OfClientCalls.{stripped}
+use Rattle.coap_client.specs.ClientSide.ClientDeeds.{at}
+use Rattle.coap_client.specs.ClientSide.ClientEvents.{happened}
+use Rattle.coap_client.specs.ClientSide.ClientLaw.{ClientLaw, own_of, lower_of}
+use Rattle.coap_client.specs.ClientSide.ClientNotified.{notes}
+use Rattle.coap_client.specs.ClientSide.ClientOwn.{Own}
+use Rattle.coap_client.specs.ClientSide.ClientTrace.{Call, Calls, Observes, Cancels, Forgets, Feeds, Ticks, NextOut}
+use Rattle.coap_client.specs.ClientSide.ClientTrace.{NextReport, Asked}
+use Rattle.coap_client.specs.ClientSide.ClientWords.{hears}
+use Rattle.coap_client.proofs.Facts.OfClientCalls.{stripped}
 
 module _ (server : Endpoint) (szx word : ℕ) where
   understood_here :

@@ -11,24 +11,24 @@ use Rattle.coap_resource.specs.RequestOptions.{format_of, precondition_fails}
 use Rattle.coap_resource.specs.Serves.{Question}
 use Rattle.coap_exchange.specs.declared.answerer.Asked.{Asked}
 use Rattle.coap_exchange.specs.AnswererSteps.{asked_of}
-use Rattle.coap_ends.specs.ClientSide.ClientBlocks.{Carried, carried}
-use Rattle.coap_ends.specs.ClientSide.ClientOfCalls.{CarriesBody}
-use Rattle.coap_ends.specs.ClientSide.ClientOrder.{call_of}
-use Rattle.coap_ends.specs.ClientSide.ClientOwn.{Transfer, Fetches, Uploads, Single, Calling}
-use Rattle.coap_ends.specs.ClientSide.ClientRequests.{payload_of}
-use Rattle.coap_ends.specs.ClientSide.ClientTrace as C
-use Rattle.coap_ends.specs.ClientSide.ClientWords.{Taken, WasTaken, Sending}
-use Rattle.coap_ends.specs.ServerSide.Follows.ServerBrings.{Comes, AsksBy}
-use Rattle.coap_ends.specs.ServerSide.Follows.ServerHolds as D
-use Rattle.coap_ends.specs.ServerSide.Follows.ServerReads.{ReadsOf}
-use Rattle.coap_ends.specs.ServerSide.Follows.ServerServes.{Serving}
-use Rattle.coap_ends.specs.ServerSide.Follows.ServerTakes.{took}
-use Rattle.coap_ends.specs.ServerSide.ServerChecks.{Verdict, Ignored, Refused, Asks, Uploads as UploadsBlock}
-use Rattle.coap_ends.specs.ServerSide.ServerLaw.{own_of}
-use Rattle.coap_ends.specs.ServerSide.ServerTrace as S
-use Rattle.coap_ends.proofs.Facts.OfClient as client_facts
-use Rattle.coap_ends.proofs.Facts.OfServer as server_facts
-use Rattle.coap_ends.proofs.Facts.OfServer.{version_is}
+use Rattle.coap_client.specs.ClientSide.ClientBlocks.{Carried, carried}
+use Rattle.coap_client.specs.ClientSide.ClientOfCalls.{CarriesBody}
+use Rattle.coap_client.specs.ClientSide.ClientOrder.{call_of}
+use Rattle.coap_client.specs.ClientSide.ClientOwn.{Transfer, Fetches, Uploads, Single, Calling}
+use Rattle.coap_client.specs.ClientSide.ClientRequests.{payload_of}
+use Rattle.coap_client.specs.ClientSide.ClientTrace as C
+use Rattle.coap_client.specs.ClientSide.ClientWords.{Taken, WasTaken, Sending}
+use Rattle.coap_server.specs.ServerSide.Follows.ServerBrings.{Comes, AsksBy}
+use Rattle.coap_server.specs.ServerSide.Follows.ServerHolds as D
+use Rattle.coap_server.specs.ServerSide.Follows.ServerReads.{ReadsOf}
+use Rattle.coap_server.specs.ServerSide.Follows.ServerServes.{Serving}
+use Rattle.coap_server.specs.ServerSide.Follows.ServerTakes.{took}
+use Rattle.coap_server.specs.ServerSide.ServerChecks.{Verdict, Ignored, Refused, Asks, Uploads as UploadsBlock}
+use Rattle.coap_server.specs.ServerSide.ServerLaw.{own_of}
+use Rattle.coap_server.specs.ServerSide.ServerTrace as S
+use Rattle.coap_client.proofs.Facts.OfClient as client_facts
+use Rattle.coap_server.proofs.Facts.OfServer as server_facts
+use Rattle.coap_server.proofs.Facts.OfServer.{version_is}
 use Rattle.coap_world.specs.Applied.{Does}
 use Rattle.coap_world.specs.CameFrom.{request_of, ComesAt}
 use Rattle.coap_world.specs.Events.{client_end, server_end, Config}

@@ -2,10 +2,10 @@
 use Rattle.std.specs.Prelude.{◌≡◌, ℕ, Bool, Option, List, Result}
 use Rattle.coap_resource.specs.Content.{Content}
 use Rattle.coap_resource.specs.declared.refusal.StoreRefusal.{StoreRefusal}
-use Rattle.coap_ends.specs.declared.refusals.CallRefusal.{CallRefusal}
-use Rattle.coap_ends.specs.declared.refusals.CancelRefusal.{CancelRefusal}
-use Rattle.coap_ends.specs.ClientSide.ClientTrace as C
-use Rattle.coap_ends.specs.ServerSide.ServerTrace as S
+use Rattle.coap_client.specs.declared.refusals.CallRefusal.{CallRefusal}
+use Rattle.coap_client.specs.declared.refusals.CancelRefusal.{CancelRefusal}
+use Rattle.coap_client.specs.ClientSide.ClientTrace as C
+use Rattle.coap_server.specs.ServerSide.ServerTrace as S
 
 abbrev pub IsCall : ℕ → C.Request → C.Call → Type 0
 IsCall at r c = (answer : Result ℕ CallRefusal) × (c ≡ C.Calls at r answer)

@@ -1,10 +1,10 @@
 -- A line of the record.
 use Rattle.std.specs.Option.{option_map}
-use Rattle.coap_ends.specs.ClientObject.CallAnswers.{refusal_in}
-use Rattle.coap_ends.specs.ClientObject.ClientShown.{number_of, shown_reported}
-use Rattle.coap_ends.specs.ServerSide.ServerTrace.{Applied}
-use Rattle.coap_ends.specs.ServerSide.Follows.ServerHolds as server
-use Rattle.coap_ends.specs.declared.client.report.CallId.{CallId}
+use Rattle.coap_client.specs.ClientObject.CallAnswers.{refusal_in}
+use Rattle.coap_client.specs.ClientObject.ClientShown.{number_of, shown_reported}
+use Rattle.coap_server.specs.ServerSide.ServerTrace.{Applied}
+use Rattle.coap_server.specs.ServerSide.Follows.ServerHolds as server
+use Rattle.coap_client.specs.declared.client.report.CallId.{CallId}
 use Rattle.coap_resource.specs.Shown.{shown}
 use Rattle.coap_world.specs.Run.Log.{Line, Begins, Takes, Cancels, Forgets, Puts, Removes, Applies, Changes, Out}
 use Rattle.coap_world.specs.Run.Log.{Reports, Refused}

@@ -4,14 +4,14 @@ use Rattle.std.specs.Prelude.{if◌then◌else◌}
 use Rattle.coap_types.specs.Past.{all_of}
 use Rattle.coap_types.specs.SameEndpoint.{same_endpoint}
 use Rattle.coap_resource.specs.declared.refusal.StoreRefusal.{StoreRefusal}
-use Rattle.coap_ends.specs.declared.refusals.CallRefusal.{CallRefusal}
-use Rattle.coap_ends.specs.declared.refusals.CancelRefusal.{CancelRefusal}
-use Rattle.coap_ends.specs.ClientSide.ClientTrace as C
-use Rattle.coap_ends.specs.ServerSide.ServerLaw.{own_of}
-use Rattle.coap_ends.specs.ServerSide.ServerServing.{is_applied, version_made}
-use Rattle.coap_ends.specs.ServerSide.ServerTrace as S
-use Rattle.coap_ends.specs.ServerSide.Follows.ServerHolds.{Change, change}
-use Rattle.coap_ends.specs.ServerSide.Follows.ServerServes.{Serving, serving}
+use Rattle.coap_client.specs.declared.refusals.CallRefusal.{CallRefusal}
+use Rattle.coap_client.specs.declared.refusals.CancelRefusal.{CancelRefusal}
+use Rattle.coap_client.specs.ClientSide.ClientTrace as C
+use Rattle.coap_server.specs.ServerSide.ServerLaw.{own_of}
+use Rattle.coap_server.specs.ServerSide.ServerServing.{is_applied, version_made}
+use Rattle.coap_server.specs.ServerSide.ServerTrace as S
+use Rattle.coap_server.specs.ServerSide.Follows.ServerHolds.{Change, change}
+use Rattle.coap_server.specs.ServerSide.Follows.ServerServes.{Serving, serving}
 use Rattle.coap_world.specs.Events.{Config, client_end}
 use Rattle.coap_world.specs.Record.{Entry, OfClient, OfServer, Given, given_in, Turn, entries_of, client_of}
 use Rattle.coap_world.specs.Record.{server_trace}

@@ -5,11 +5,11 @@ use Rattle.std.specs.Cmp.Lexicographic.{slice_cmp}
 use Rattle.std.specs.Option.{option_map}
 use Rattle.std.specs.Ordering.{nat_cmp}
 use Rattle.coap_exchange.specs.Tokens.{same_token}
-use Rattle.coap_ends.specs.ClientSide.ClientLaw.{own_of}
-use Rattle.coap_ends.specs.ClientSide.ClientOwn.{operation_number}
-use Rattle.coap_ends.specs.ClientSide.ClientTrace.{Call, Requested}
-use Rattle.coap_ends.specs.ClientSide.ClientWords.{Sending, sends}
-use Rattle.coap_ends.specs.declared.client.report.CallId.{CallId}
+use Rattle.coap_client.specs.ClientSide.ClientLaw.{own_of}
+use Rattle.coap_client.specs.ClientSide.ClientOwn.{operation_number}
+use Rattle.coap_client.specs.ClientSide.ClientTrace.{Call, Requested}
+use Rattle.coap_client.specs.ClientSide.ClientWords.{Sending, sends}
+use Rattle.coap_client.specs.declared.client.report.CallId.{CallId}
 use Rattle.coap_world.specs.declared.running.senders.Senders as declared
 
 -- what was sent, by the number of its call or observation, if it has one

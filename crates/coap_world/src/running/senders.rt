@@ -1,7 +1,7 @@
 //! For which call or observation the client of a run sent each token (RFC 7252, section 5.3.1).
 ghost use Rattle.std.specs.Prelude.{◌≡◌, ℕ, List, None, OnOk};
 ghost use Rattle.std.specs.Option.{option_map};
-ghost use Rattle.coap_ends.specs.declared.client.report.CallId.{CallId};
+ghost use Rattle.coap_client.specs.declared.client.report.CallId.{CallId};
 ghost use Rattle.coap_exchange.specs.Tokens.{same_token};
 ghost use Rattle.coap_types.specs.SameEndpoint.{same_endpoint};
 ghost use Rattle.coap_world.specs.Events.{client_end};

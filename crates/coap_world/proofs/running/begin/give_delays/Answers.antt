@@ -1,10 +1,10 @@
 use Rattle.std.proofs.Common.{◌≤◌, ◌-◌, ◌∷◌, Err, length, drop, is_ok, sym, ap, subst, ◌∙◌, arith}
 use Rattle.std.proofs.lemmas.List.{length-map}
-use Rattle.coap_ends.specs.ServerObject.ServerShown.{delay_as, state_of}
-use Rattle.coap_ends.specs.ServerSide.ServerDeferring.{may_delay}
-use Rattle.coap_ends.specs.ServerSide.ServerLed.{Led}
-use Rattle.coap_ends.specs.ServerSide.ServerTrace.{Own, Delays}
-use Rattle.coap_ends.specs.declared.limits.TheConstants.{MAX_DELAYS as max_delays}
+use Rattle.coap_server.specs.ServerObject.ServerShown.{delay_as, state_of}
+use Rattle.coap_server.specs.ServerSide.ServerDeferring.{may_delay}
+use Rattle.coap_server.specs.ServerSide.ServerLed.{Led}
+use Rattle.coap_server.specs.ServerSide.ServerTrace.{Own, Delays}
+use Rattle.coap_server.specs.declared.limits.TheConstants.{MAX_DELAYS as max_delays}
 use Rattle.coap_world.specs.Events.{Config}
 use Rattle.coap_world.specs.Run.Configs.{gives}
 use Rattle.coap_world.proofs.Recording.Beginning.{none_full, next_given, none_yet, few_left}

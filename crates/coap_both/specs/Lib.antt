@@ -1,0 +1,5 @@
+pub mod Adds
+pub mod Endings
+pub mod Notifications
+pub mod StepsDue
+pub mod SuccessCodes

@@ -1,0 +1,3 @@
+pub mod OfClient
+pub mod OfClientCalls
+pub mod MovesOfClient

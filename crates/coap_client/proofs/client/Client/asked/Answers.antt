@@ -1,0 +1,12 @@
+use Rattle.coap_client.proofs.ClientSide.ClientLeading.{led_client}
+use Rattle.coap_client.specs.ClientObject.ClientHappens.{left}
+use Rattle.coap_client.specs.ClientObject.ClientHeld.{own_of}
+use Rattle.coap_client.proofs.ClientCalls.ClientIsLed.{seen_still}
+use Rattle.coap_client.proofs.client.Client.asked.Goals as goal
+
+pub returns-clause-step : goal.returns-clause-step
+returns-clause-step g c = seen_still (left (own_of c.self.inside.held) c.self.inside.asker.state) _ _ c.self.view_is
+    (c.asked.ensures.step c.self.inside.asker.state)
+
+pub returns-clause-led : goal.returns-clause-led
+returns-clause-led g c server szx w t led = led_client server szx w t _ _ _ led (returns-clause-step g c)

@@ -1,0 +1,22 @@
+use Rattle.std.proofs.Common.{ap}
+use Rattle.coap_client.proofs.ClientSide.ClientLeading.{led_client}
+use Rattle.coap_client.specs.ClientObject.ClientHappens.{left}
+use Rattle.coap_client.specs.ClientObject.ClientHeld.{own_of}
+use Rattle.coap_client.proofs.ClientCalls.ClientIsLed.{closes_call, same_led, seen_step}
+use Rattle.coap_client.proofs.ClientCalls.ClientWatched.{led_step}
+use Rattle.coap_client.proofs.client.Client.call.Goals as goal
+
+pub invariant_of-self : goal.invariant_of-self
+invariant_of-self g c =
+    closes_call c.call.result
+    (λ other. led_step (left (own_of c.self.inside.held) c.self.inside.asker.state) _ _ c.self.invariant
+    (c.call.ensures.step other c.self.inside.asker.state))
+    (λ memory. same_led (left (own_of c.self.inside.held) c.self.inside.asker.state) _ c.self.invariant
+    (ap (λ o. left o c.self.inside.asker.state) (c.call.ensures.memory memory)))
+
+pub returns-clause-step : goal.returns-clause-step
+returns-clause-step g c other = seen_step (left (own_of c.self.inside.held) c.self.inside.asker.state) _ _ _
+    c.self.view_is (c.call.ensures.step other c.self.inside.asker.state)
+
+pub returns-clause-led : goal.returns-clause-led
+returns-clause-led g c server szx w t led other = led_client server szx w t _ _ _ led (returns-clause-step g c other)

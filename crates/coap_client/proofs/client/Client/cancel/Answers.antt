@@ -1,0 +1,17 @@
+use Rattle.coap_client.proofs.ClientSide.ClientLeading.{led_client}
+use Rattle.coap_client.specs.ClientObject.ClientHappens.{left}
+use Rattle.coap_client.specs.ClientObject.ClientHeld.{own_of}
+use Rattle.coap_client.proofs.ClientCalls.ClientIsLed.{seen_step}
+use Rattle.coap_client.proofs.ClientCalls.ClientWatched.{led_step}
+use Rattle.coap_client.proofs.client.Client.cancel.Goals as goal
+
+pub invariant_of-self : goal.invariant_of-self
+invariant_of-self g c = led_step (left (own_of c.self.inside.held) c.self.inside.asker.state) _ _ c.self.invariant
+    (c.cancel.ensures.step c.self.inside.asker.state)
+
+pub returns-clause-step : goal.returns-clause-step
+returns-clause-step g c = seen_step (left (own_of c.self.inside.held) c.self.inside.asker.state) _ _ _ c.self.view_is
+    (c.cancel.ensures.step c.self.inside.asker.state)
+
+pub returns-clause-led : goal.returns-clause-led
+returns-clause-led g c server szx w t led = led_client server szx w t _ _ _ led (returns-clause-step g c)

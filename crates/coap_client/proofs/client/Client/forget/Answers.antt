@@ -1,0 +1,14 @@
+use Rattle.coap_client.specs.ClientObject.ClientHappens.{left}
+use Rattle.coap_client.specs.ClientObject.ClientHeld.{own_of}
+use Rattle.coap_client.proofs.ClientCalls.ClientWatched.{apart, led_step}
+use Rattle.coap_client.proofs.client.Client.forget.Goals as goal
+
+pub invariant_of-self : goal.invariant_of-self
+invariant_of-self g c = led_step (left (own_of c.self.inside.held) c.self.inside.asker.state) _ _ c.self.invariant
+    c.forget.ensures.step.1
+
+pub forget-requires : goal.forget-requires
+forget-requires g c = record {
+  apart = apart (left (own_of c.self.inside.held) c.self.inside.asker.state)
+      c.self.invariant;
+}

@@ -1,0 +1,22 @@
+use Rattle.std.proofs.Common.{rules}
+use Rattle.std.specs.Option.{option_map}
+use Rattle.coap_client.specs.ClientSide.ClientTrace.{NextReport}
+use Rattle.coap_client.specs.ClientObject.ClientHappens.{left}
+use Rattle.coap_client.specs.ClientObject.ClientHeld.{own_of}
+use Rattle.coap_client.specs.ClientObject.ClientShown.{shown_reported}
+use Rattle.coap_client.proofs.ClientCalls.ClientWatched.{led_step}
+use Rattle.coap_client.proofs.ClientCalls.TakesOut.{if_no_report, if_report}
+use Rattle.coap_client.proofs.client.Client.next_report.Goals as goal
+
+pub invariant_of-self : goal.invariant_of-self
+invariant_of-self g c = led_step (left (own_of c.self.inside.held) c.self.inside.asker.state) _
+    (NextReport (option_map shown_reported c.pop_front.result)) c.self.invariant (search rules)
+
+pub returns-clause-step : goal.returns-clause-step
+returns-clause-step g c = search rules
+
+pub returns-clause-none : goal.returns-clause-none
+returns-clause-none g c = if_no_report shown_reported c.pop_front.result _ _ (returns-clause-step g c)
+
+pub returns-clause-some : goal.returns-clause-some
+returns-clause-some g c = if_report shown_reported c.pop_front.result _ _ (returns-clause-step g c)

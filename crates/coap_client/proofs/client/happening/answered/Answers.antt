@@ -1,0 +1,29 @@
+use Rattle.std.proofs.Common.{Some, ap, rules, sym, ◌∙◌}
+use Rattle.std.specs.Option.{option_map}
+use Rattle.coap_client.specs.ClientObject.ClientHeld.{own_of}
+use Rattle.coap_client.specs.ClientObject.ClientShown.{shown_operation}
+use Rattle.coap_client.proofs.ClientCalls.AnsweringLemmas.{answered_cancelling, answered_dropped, answered_none}
+use Rattle.coap_client.proofs.client.happening.answered.Goals as goal
+
+pub returns-in-None-clause-happens : goal.returns-in-None-clause-happens
+returns-in-None-clause-happens g c =
+    let s = own_of c.args.held.now in
+    answered_none c.args.asker.now.state s c.args.at.0 c.args.word c.args.m.now _
+    (ap (option_map shown_operation) (sym c.take_running.ensures.value ∙ c.in-None.is))
+    (ap (λ o. own_of (record c.args.held.now { operations = o })) c.take_running.ensures.after)
+
+pub returns-in-Some-Dropped-clause-happens : goal.returns-in-Some-Dropped-clause-happens
+returns-in-Some-Dropped-clause-happens g c =
+    let s = own_of c.args.held.now in
+    answered_dropped c.args.asker.now.state s c.args.at.0 c.args.word c.args.m.now _
+    (ap (option_map shown_operation) (sym c.take_running.ensures.value
+    ∙ (c.in-Some-Dropped.is ∙ ap (λ o. Some o) c.in-Some-Dropped.field-0-is)))
+    (ap (λ o. own_of (record c.args.held.now { operations = o })) c.take_running.ensures.after)
+
+pub returns-in-Some-Cancelling-clause-happens : goal.returns-in-Some-Cancelling-clause-happens
+returns-in-Some-Cancelling-clause-happens g c =
+    let s = own_of c.args.held.now in
+    answered_cancelling c.args.asker.now.state s c.args.at.0 c.args.word c.args.m.now c.in-Some-Cancelling.number
+    c.end_observation.new.asker.state _
+    (ap (option_map shown_operation) (sym c.take_running.ensures.value
+    ∙ (c.in-Some-Cancelling.is ∙ ap (λ o. Some o) c.in-Some-Cancelling.field-0-is))) (search rules) (search rules)

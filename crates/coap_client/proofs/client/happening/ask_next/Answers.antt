@@ -1,0 +1,12 @@
+use Rattle.std.proofs.Common.{ap, refl}
+use Rattle.coap_client.specs.ClientSide.ClientOwn.{Calling}
+use Rattle.coap_client.specs.ClientObject.ClientHeld.{own_of}
+use Rattle.coap_client.proofs.ClientCalls.FetchingLemmas.{closed_as}
+use Rattle.coap_client.proofs.client.happening.ask_next.Goals as goal
+
+pub returns-in-Ok-clause-happens : goal.returns-in-Ok-clause-happens
+returns-in-Ok-clause-happens g c =
+    closed_as _ _ _ _ _ _ _ (ap (λ o. own_of (record c.args.held.now { operations = o })) c.run.ensures)
+    c.close.ensures.closes (Calling c.args.number c.args.call.request c.args.call.transfer) c.args.asker.now.state
+    c.args.word refl
+    (c.in-Ok.ensures.sends (own_of c.args.held.now).observations c.args.number)

@@ -1,0 +1,7 @@
+use Rattle.coap_client.specs.ClientObject.ClientHeld.{own_of}
+use Rattle.coap_client.proofs.ClientCalls.ClientHappening.{failed_happens}
+use Rattle.coap_client.proofs.client.happening.failed.Goals as goal
+
+pub returns-clause-happens : goal.returns-clause-happens
+returns-clause-happens g c at word = failed_happens _ _
+    (own_of c.args.held.now) _ _ at word c.fail.ensures.deed c.fail.ensures.own

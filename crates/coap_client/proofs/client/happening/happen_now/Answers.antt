@@ -1,0 +1,16 @@
+use Rattle.std.proofs.Common.{sym}
+use Rattle.coap_client.specs.ClientObject.ClientHeld.{own_of}
+use Rattle.coap_client.proofs.ClientCalls.ClientHappening.{event_happens}
+use Rattle.coap_client.proofs.client.happening.happen_now.Goals as goal
+
+pub returns-in-Timeout-clause-happens : goal.returns-in-Timeout-clause-happens
+returns-in-Timeout-clause-happens g c = event_happens _ (own_of c.args.held.now) c.args.at.0 c.args.word _ _ _ _
+    (sym c.in-Timeout.is) (c.failed.ensures.happens c.args.at.0 c.args.word)
+
+pub returns-in-Reset-clause-happens : goal.returns-in-Reset-clause-happens
+returns-in-Reset-clause-happens g c = event_happens _ (own_of c.args.held.now) c.args.at.0 c.args.word _ _ _ _
+    (sym c.in-Reset.is) (c.failed-in-Reset.ensures.happens c.args.at.0 c.args.word)
+
+pub returns-in-NoResponse-clause-happens : goal.returns-in-NoResponse-clause-happens
+returns-in-NoResponse-clause-happens g c = event_happens _ (own_of c.args.held.now) c.args.at.0 c.args.word _ _ _ _
+    (sym c.in-NoResponse.is) (c.failed-in-NoResponse.ensures.happens c.args.at.0 c.args.word)

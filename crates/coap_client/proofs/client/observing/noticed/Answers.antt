@@ -1,0 +1,52 @@
+use Rattle.std.proofs.Common.{ap, refl, subst, ◌∙◌}
+use Rattle.std.specs.Option.{option_map}
+use Rattle.coap_client.specs.ClientSide.ClientObserving.{is_over}
+use Rattle.coap_client.specs.ClientSide.ClientSteps.{reporting}
+use Rattle.coap_client.specs.ClientSide.ClientTrace.{Ended}
+use Rattle.coap_client.specs.ClientObject.ClientHappens.{IsDone}
+use Rattle.coap_client.specs.ClientObject.ClientHeld.{own_of}
+use Rattle.coap_client.specs.ClientObject.ClientShown.{shown_observation}
+use Rattle.coap_client.proofs.ClientCalls.HeldLemmas.{one_observation}
+use Rattle.coap_client.proofs.ClientCalls.NoticingLemmas.{found_by, found_fresh, noticed_none, noticed_over}
+use Rattle.coap_client.proofs.ClientCalls.NoticingLemmas.{told_happens}
+use Rattle.coap_client.proofs.client.observing.noticed.Goals as goal
+
+pub returns-in_default-clause-happens : goal.returns-in_default-clause-happens
+returns-in_default-clause-happens g c word =
+    let s = own_of c.args.held.now in
+    noticed_none c.args.asker.now.state s c.args.at.0 word c.args.m.now
+    (found_by c.args.m.now.token c.token.result.now s.observations s.observations _ _ c.find_with.ensures
+    c.token.ensures.bytes refl
+    (ap (λ r. option_map (λ o. shown_observation o.now) r) c.in_default.is))
+
+pub tell-requires-clause-clock : goal.tell-requires-clause-clock
+tell-requires-clause-clock g c =
+    let s = own_of c.args.held.now in
+    found_fresh c.args.at.0 c.args.m.now.token
+    (shown_observation c.in-Some.observation.now) s.observations c.requires.watched
+    (found_by c.args.m.now.token c.token.result.now s.observations s.observations _ _ c.find_with.ensures
+    c.token.ensures.bytes refl
+    (ap (λ r. option_map (λ o. shown_observation o.now) r) c.in-Some.is))
+
+pub returns-in-Some-notified-clause-happens : goal.returns-in-Some-notified-clause-happens
+returns-in-Some-notified-clause-happens g c word =
+    let s = own_of c.args.held.now in
+    told_happens c.args.asker.now.state s c.args.at.0 word c.args.m.now (shown_observation c.in-Some.observation.now)
+    (found_by c.args.m.now.token c.token.result.now s.observations s.observations _ _ c.find_with.ensures
+    c.token.ensures.bytes refl
+    (ap (λ r. option_map (λ o. shown_observation o.now) r) c.in-Some.is)) c.notified.result c.notified.ensures
+    c.in-Some-notified.sequence _ c.tell.result c.in-Some-notified.is
+    (one_observation s _ c.requires.apart) c.tell.ensures.old c.tell.ensures.new
+
+pub returns-in-None-clause-happens : goal.returns-in-None-clause-happens
+returns-in-None-clause-happens g c word =
+    let s = own_of c.args.held.now in
+    let o = shown_observation c.in-Some.observation.now in
+    noticed_over c.args.asker.now.state s c.args.at.0 word c.args.m.now o
+    (found_by c.args.m.now.token c.token.result.now s.observations s.observations _ _ c.find_with.ensures
+    c.token.ensures.bytes refl
+    (ap (λ r. option_map (λ o. shown_observation o.now) r) c.in-Some.is)) c.notified.result c.notified.ensures
+    c.end_observation.new.asker.state _ c.in-None.is
+    (subst (λ k. IsDone c.args.asker.now.state (is_over o.number (Ended k) s).deed c.end_observation.new.asker.state)
+    c.code.ensures c.end_observation.ensures.deed)
+    (c.end_observation.ensures.own ∙ ap (λ k. reporting (is_over o.number (Ended k) s)) c.code.ensures)

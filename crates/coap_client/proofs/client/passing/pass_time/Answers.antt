@@ -1,0 +1,30 @@
+use Rattle.std.proofs.Common.{map, ap, sym, subst, true}
+use Rattle.coap_client.specs.ClientSide.ClientOwn.{Own, clocked}
+use Rattle.coap_client.specs.ClientSide.ClientEffects.{Effect}
+use Rattle.coap_client.specs.ClientSide.ClientEvents.{failed, passes}
+use Rattle.coap_client.specs.ClientObject.ClientHappens.{Comes, left}
+use Rattle.coap_client.specs.ClientObject.ClientHeld.{own_of}
+use Rattle.coap_client.specs.ClientObject.ClientShown.{shown_report, shown_reported}
+use Rattle.coap_client.proofs.ClientCalls.PassingLemmas.{rest_comes}
+use Rattle.coap_client.proofs.client.passing.pass_time.Goals as goal
+
+pub returns-in-Copied-clause-happens : goal.returns-in-Copied-clause-happens
+returns-in-Copied-clause-happens g c =
+    let s = clocked c.args.at.0 (own_of c.args.held.now) in
+    rest_comes (record s { sent = c.args.at.0 }) (own_of c.rest.new.held) c.args.asker.now.state
+    (passes s c.args.at.0 c.args.turn) c.args.at.0 c.args.word
+    (ap (λ t. passes s c.args.at.0 t) c.in-Copied.is) c.rest.ensures
+
+pub returns-in_ok-reserve-in-End-clause-happens : goal.returns-in_ok-reserve-in-End-clause-happens
+returns-in_ok-reserve-in-End-clause-happens g c =
+    let s = own_of c.args.held.now in
+    let new = left (own_of c.lapse.new.held) c.lapse.new.asker.state in
+    subst (λ (e : Effect). Comes c.args.asker.now.state e c.args.at.0 c.args.word new)
+    (sym (ap (λ t. passes (clocked c.args.at.0 s) c.args.at.0 t) c.in-End.is))
+    (subst (λ report. Comes c.args.asker.now.state
+    (failed (λ t. true) report (clocked c.args.at.0 s) s.running) c.args.at.0 c.args.word new) c.report_of.ensures
+    (subst (λ (o : Own). Comes c.args.asker.now.state
+    (failed (λ t. true) (shown_report {A = g.row.A.Denot} c.report_of.result) (clocked c.args.at.0 o) o.running)
+    c.args.at.0 c.args.word new)
+    (ap (λ rs. record s { reports = map (shown_reported {A = g.row.A.Denot}) rs }) c.reserve.ensures.items)
+    (c.lapse.ensures.comes c.args.word)))

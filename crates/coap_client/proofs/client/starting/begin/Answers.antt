@@ -1,0 +1,13 @@
+use Rattle.std.proofs.Common.{refl}
+use Rattle.coap_client.specs.ClientObject.ClientHeld.{own_of}
+use Rattle.coap_client.specs.ClientObject.ClientShown.{shown_asked}
+use Rattle.coap_client.proofs.client.starting.begin.Goals as goal
+
+pub returns-clause-begun : goal.returns-clause-begun
+returns-clause-begun g c op behind word runs sends =
+    record {
+      asked = shown_asked c.close-held.result;
+      own = own_of c.close-held.new.held;
+      happens = c.close-held.ensures.closes op behind word runs sends;
+      own_is = refl;
+    }

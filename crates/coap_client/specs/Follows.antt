@@ -1,0 +1,2 @@
+pub mod ClientHears
+pub mod ClientSendings

@@ -1,0 +1,263 @@
+//! The client (RFC 7252, section 5; RFC 7641; RFC 7959).
+mod cancelling;
+mod failing;
+mod fetching;
+mod forgetting;
+mod happening;
+mod heard;
+mod held;
+mod judging;
+mod last_request;
+mod observations;
+mod observed;
+mod observing;
+mod operation;
+mod passing;
+mod report;
+mod reporting;
+mod request_options;
+mod responses;
+mod sending;
+mod short_path;
+mod starting;
+mod taken_call;
+mod taking;
+mod ticking;
+mod transfer;
+mod uploading;
+
+ghost use Rattle.std.specs.Prelude.{◌≡◌, ◌≢◌, ◌<◌, ◌^◌, ℕ, Bool, false, true, List, ◌∷◌, [], length, Option, Result};
+ghost use Rattle.std.specs.Prelude.{Ok, Err, None, IfNone, IfOk, IfSome, IsOk, OnOk, OnErr, is_ok};
+ghost use Rattle.std.specs.Option.{option_map};
+ghost use Rattle.coap_types.specs.declared.endpoint.Endpoint.{Endpoint};
+ghost use Rattle.coap_layer.specs.Trace as L;
+ghost use Rattle.coap_exchange.specs.declared.asker.AskRefusal.{AskRefusal};
+ghost use Rattle.coap_exchange.specs.declared.asker.Event.{Event};
+ghost use Rattle.coap_exchange.specs.declared.asker.Turn.{Turn};
+ghost use Rattle.coap_client.specs.declared.refusals.CallRefusal.TheVariants as refusals;
+ghost use Rattle.coap_client.specs.ClientObject.CallShown.{shown_request};
+ghost use Rattle.coap_client.specs.ClientObject.CallAnswers.{refusal_in};
+ghost use Rattle.coap_client.specs.ClientSide.ClientQueue.{call_answer, observe_answer};
+ghost use Rattle.coap_client.specs.ClientSide.ClientStep.{Step, Led, fresh_state};
+ghost use Rattle.coap_client.specs.ClientSide.ClientTrace.{Call, Calls, Observes, Cancels, Forgets, Feeds, Ticks};
+ghost use Rattle.coap_client.specs.ClientSide.ClientTrace.{NextOut, NextReport, Asked};
+ghost use Rattle.coap_client.specs.ClientObject.ClientShown.{number_of, shown_asked, shown_reported};
+ghost use Rattle.coap_client.specs.ClientTurns.ClientQuiet.{IsIdle, TellsNothing};
+ghost use Rattle.coap_client.specs.ClientTurns.ClientWork.{work};
+
+use crate::client::happening::happen;
+use crate::client::held::Held;
+use crate::client::request_options::{is_long_path, is_long_request};
+use crate::{CallRefusal, CancelRefusal};
+use coap_exchange::Asker;
+use coap_layer::Datagram;
+use coap_types::{Endpoint, Moment, Path, Request, Szx, Token};
+pub use report::{CallId, Fetched, Report};
+use std::alloc::{AllocError, Allocator};
+use std::hash::{BuildHasher, BuildHasherDefault, FoldHasher};
+use std::marker::Model;
+
+/// A client of one server (RFC 7252, section 5; RFC 7641; RFC 7959). One operation runs at a time.
+///
+/// After each call take `next_out` and `next_report` until None; a moment before the last one counts
+/// as the last.
+#[derive(Drop)]
+pub struct Client<A: Allocator + Copy, H: BuildHasher = BuildHasherDefault<FoldHasher>> {
+    alloc: A,
+    asker: Asker<A, H>,
+    held: Held<A>,
+}
+
+impl<A: Allocator + Copy, H: BuildHasher> Model for Client<A, H> {
+    ghost use Rattle.coap_client.specs.ClientSide.ClientStep.{State};
+    ghost use Rattle.coap_client.specs.ClientObject.ClientHappens.{WasLed, left};
+    ghost use Rattle.coap_client.specs.ClientObject.ClientHeld.{own_of};
+
+    ghost Value = { State };
+
+    ghost view = { λ c. left (own_of c.held) c.asker.state };
+
+    ghost invariant = { λ c. WasLed (left (own_of c.held) c.asker.state) };
+}
+
+impl<A: Allocator + Copy> Client<A, BuildHasherDefault<FoldHasher>> {
+    /// A client to which nothing has happened, which sends blocks of at most that size. The word picks
+    /// the first token and the first Message ID.
+    pub fn new(alloc: A, server: Endpoint, szx: Szx, word: u64) -> Self
+        ensures led { Led server szx word [] result }
+        ensures start { result ≡ fresh_state server szx word }
+    {
+        Client::with_hasher(alloc, server, szx, word, BuildHasherDefault::new())
+    }
+}
+
+impl<A: Allocator + Copy, H: BuildHasher> Client<A, H> {
+    /// The same, with a hasher for the messages that are remembered.
+    pub fn with_hasher(alloc: A, server: Endpoint, szx: Szx, word: u64, hasher: H) -> Self
+        ensures led { Led server szx word [] result }
+        ensures start { result ≡ fresh_state server szx word }
+    {
+        Client {
+            alloc,
+            asker: Asker::with_hasher(alloc, server, word, hasher),
+            held: Held::new(alloc, szx),
+        }
+    }
+
+    /// Takes a datagram that arrived at this moment, in milliseconds (RFC 7252, sections 4.2 and 5.3.2).
+    /// The word picks the initial timeout of what is sent. After an `Err` the client is as before.
+    pub fn feed(
+        &mut self,
+        now: Moment,
+        from: Endpoint,
+        bytes: &[u8],
+        word: u64,
+    ) -> Result<(), AllocError>
+        ensures step { OnOk result ((up : L.Answer) × (settled : Bool) × (event : Option Event) × (sent : L.Answer)
+            × (token : Result (List ℕ) AskRefusal) × (kept : Bool)
+            × Step self.old (Feeds now.0 from bytes.now word up settled event sent token kept) self.new) }
+        ensures led { OnOk result ((server : Endpoint) (szx w : ℕ) (t : List Call) → Led server szx w t self.old
+            → (up : L.Answer) × (settled : Bool) × (event : Option Event) × (sent : L.Answer)
+            × (token : Result (List ℕ) AskRefusal) × (kept : Bool)
+            × Led server szx w (Feeds now.0 from bytes.now word up settled event sent token kept ∷ t) self.new) }
+        ensures err { OnErr result (self.new ≡ self.old) }
+        // Where nothing is sent, kept or told, as for an acknowledgement that matches nothing, it takes no memory.
+        ensures quiet { TellsNothing self.old now.0 from bytes.now → IsOk result }
+    {
+        let at = self.held.clock.later(now);
+        let event = self.asker.receive(at, from, bytes)?;
+        let done = happen(&mut self.asker, &mut self.held, at, word, event);
+        if done.is_err() {
+            self.asker.undo();
+        }
+        done
+    }
+
+    /// Takes a request, which starts at a later tick: its number, or why it is not taken. The lowest
+    /// number of a refusal is answered, and `Memory` only where none other holds (the bounds are a
+    /// profile). After `Memory` the client is as before; after another refusal its moment has counted
+    /// alone.
+    ///
+    /// ```
+    /// let id = client.call(now, request)?;
+    /// while client.tick(now, word)? {}
+    /// while let Some(datagram) = client.next_out() {
+    ///     send(datagram.to(), datagram.bytes());
+    /// }
+    /// // .. and what arrives is fed, until
+    /// if let Some((of, Report::Body(fetched))) = client.next_report() {
+    ///     // of == id
+    ///     print(fetched.body.as_slice());
+    /// }
+    /// ```
+    pub fn call(&mut self, now: Moment, request: Request<A>) -> Result<CallId, CallRefusal>
+        ensures step { result ≢ Err refusals.Memory
+            → Step self.old (Calls now.0 (shown_request request) (number_of result)) self.new }
+        ensures led { (server : Endpoint) (szx w : ℕ) (t : List Call) → Led server szx w t self.old
+            → result ≢ Err refusals.Memory
+            → Led server szx w (Calls now.0 (shown_request request) (number_of result) ∷ t) self.new }
+        ensures memory { result ≡ Err refusals.Memory → self.new ≡ self.old }
+        // Where it is refused for another reason, it takes no memory.
+        ensures refused { is_ok (call_answer self.old.own (shown_request request)) ≡ false
+            → result ≢ Err refusals.Memory }
+    {
+        let long = is_long_request(&request);
+        taking::call(self.alloc, &mut self.held, now, request, long)
+    }
+
+    /// Takes an observation, whose registration starts at a later tick (RFC 7641, section 3.1): its
+    /// number, or why it is not taken, as `call` says it.
+    pub fn observe(&mut self, now: Moment, path: Path<A>) -> Result<CallId, CallRefusal>
+        ensures step { result ≢ Err refusals.Memory
+            → Step self.old (Observes now.0 path (number_of result)) self.new }
+        ensures led { (server : Endpoint) (szx w : ℕ) (t : List Call) → Led server szx w t self.old
+            → result ≢ Err refusals.Memory
+            → Led server szx w (Observes now.0 path (number_of result) ∷ t) self.new }
+        ensures memory { result ≡ Err refusals.Memory → self.new ≡ self.old }
+        ensures refused { is_ok (observe_answer self.old.own path) ≡ false → result ≢ Err refusals.Memory }
+    {
+        let long = is_long_path(&path);
+        taking::observe(&mut self.held, now, path, long)
+    }
+
+    /// Takes the cancel of an observation, which starts at a later tick (RFC 7641, section 3.6). It
+    /// takes no memory.
+    pub fn cancel(&mut self, now: Moment, id: CallId) -> Result<(), CancelRefusal>
+        ensures step { Step self.old (Cancels now.0 id.0 (refusal_in result)) self.new }
+        ensures led { (server : Endpoint) (szx w : ℕ) (t : List Call) → Led server szx w t self.old
+            → Led server szx w (Cancels now.0 id.0 (refusal_in result) ∷ t) self.new }
+    {
+        cancelling::cancel(&mut self.held, now, id)
+    }
+
+    /// Forgets an observation, without a message: a later notification is rejected, which ends it at
+    /// the server, and no report of it comes later (RFC 7641, section 3.6). False where it is not live,
+    /// or is being cancelled. It takes no memory.
+    pub fn forget(&mut self, id: CallId) -> bool
+        ensures step { (kept : Bool) × Step self.old (Forgets id.0 kept result) self.new }
+        ensures led { (server : Endpoint) (szx w : ℕ) (t : List Call) → Led server szx w t self.old
+            → (kept : Bool) × Led server szx w (Forgets id.0 kept result ∷ t) self.new }
+    {
+        forgetting::forget(&mut self.asker, &mut self.held, id)
+    }
+
+    /// Does the first that is due at this moment, in milliseconds: an exchange that failed, a
+    /// retransmission, the end of a wait, the start of a fetch or of what waits; whether something was
+    /// (RFC 7252, sections 4.2, 4.7 and 5.2.2). The word picks the initial timeout of what is sent.
+    /// Call it until it answers false: it does at most as often as much is due. After an `Err` the
+    /// client is as before.
+    pub fn tick(&mut self, now: Moment, word: u64) -> Result<bool, AllocError>
+        ensures step { IfOk result (λ did. (below : L.Answer) × (due : Turn) × (sent : L.Answer)
+            × (token : Result (List ℕ) AskRefusal)
+            × (kept : Bool) × Step self.old (Ticks now.0 word below due sent token kept did) self.new) }
+        ensures led { (server : Endpoint) (szx w : ℕ) (t : List Call) → Led server szx w t self.old
+            → IfOk result (λ did. (below : L.Answer) × (due : Turn) × (sent : L.Answer)
+            × (token : Result (List ℕ) AskRefusal)
+            × (kept : Bool) × Led server szx w (Ticks now.0 word below due sent token kept did ∷ t) self.new) }
+        // Each tick that does something leaves less to be done at its moment.
+        ensures less { result ≡ Ok true → work self.new now.0 < work self.old now.0 }
+        ensures err { OnErr result (self.new ≡ self.old) }
+        // Where nothing is due and nothing begins, it takes no memory.
+        ensures quiet { IsIdle self.old now.0 → IsOk result }
+    {
+        ticking::tick(&mut self.asker, &mut self.held, now, word)
+    }
+
+    /// The request that the last `feed` or `tick` sent for the first time: of which call or
+    /// observation, and its token. It takes no memory.
+    pub fn asked(&self) -> Option<(CallId, Token)>
+        ensures step { Step self.now (Asked (shown_asked result)) self.now }
+        ensures led { (server : Endpoint) (szx w : ℕ) (t : List Call) → Led server szx w t self.now
+            → Led server szx w (Asked (shown_asked result) ∷ t) self.now }
+    {
+        last_request::asked(&self.held)
+    }
+
+    /// The datagram that is to be sent next. It takes no memory.
+    pub fn next_out(&mut self) -> Option<Datagram<A>>
+        ensures step { Step self.old (NextOut result) self.new }
+        ensures led { (server : Endpoint) (szx w : ℕ) (t : List Call) → Led server szx w t self.old
+            → Led server szx w (NextOut result ∷ t) self.new }
+        ensures some { IfSome result (λ datagram. self.old.layer.layer.queue ≡ datagram ∷ self.new.layer.layer.queue) }
+        ensures none { IfNone result ((self.old.layer.layer.queue ≡ []) × (self.new ≡ self.old)) }
+        // No more datagrams wait than a list in memory holds.
+        ensures few { length self.old.layer.layer.queue < 2 ^ 64 }
+    {
+        self.asker.next_out()
+    }
+
+    /// The report that is to be taken next. It takes no memory.
+    pub fn next_report(&mut self) -> Option<(CallId, Report<A>)>
+        ensures step { Step self.old (NextReport (option_map shown_reported result)) self.new }
+        ensures led { (server : Endpoint) (szx w : ℕ) (t : List Call) → Led server szx w t self.old
+            → Led server szx w (NextReport (option_map shown_reported result) ∷ t) self.new }
+        // Each report that is taken leaves one less to be taken.
+        ensures some { IfSome result (λ report. self.old.own.reports ≡ shown_reported report ∷ self.new.own.reports) }
+        ensures none { IfNone result ((self.old.own.reports ≡ []) × (self.new ≡ self.old)) }
+        // No more reports wait than a list in memory holds.
+        ensures few { length self.old.own.reports < 2 ^ 64 }
+    {
+        let _waiting = self.held.reports.len();
+        self.held.reports.pop_front()
+    }
+}

@@ -1,0 +1,49 @@
+ghost use Rattle.std.specs.Prelude.{◌≡◌};
+ghost use Rattle.coap_client.specs.ClientSide.ClientOwn.{start};
+ghost use Rattle.coap_client.specs.ClientObject.ClientHeld.{own_of};
+
+use crate::client::operation::ClientOperations;
+use crate::client::report::{CallId, Report};
+use coap_operations::Operations;
+use coap_types::{Moment, Szx, Token};
+use std::alloc::{Allocator, Global};
+use std::collections::VecDeque;
+
+/// What a client keeps beside its exchanges.
+#[derive(Drop)]
+pub struct Held<A: Allocator + Copy = Global> {
+    /// The latest moment.
+    pub clock: Moment,
+    /// The client's block size.
+    pub szx: Szx,
+    /// How many numbers were given.
+    pub taken: u64,
+    /// What waits, what runs, and the live observations, in the order of their numbers.
+    pub operations: ClientOperations<A>,
+    /// When the last datagram of the running operation was sent.
+    pub sent: Moment,
+    /// .. of the upload that holds back others.
+    pub hold: Option<Moment>,
+    /// The reports that wait to be taken.
+    pub reports: VecDeque<(CallId, Report<A>), A>,
+    /// The request that the last datagram or tick sent first, and of which call.
+    pub asked: Option<(CallId, Token)>,
+}
+
+impl<A: Allocator + Copy> Held<A> {
+    /// Nothing yet.
+    pub fn new(alloc: A, szx: Szx) -> Held<A>
+        ensures { own_of result ≡ start szx }
+    {
+        Held {
+            clock: Moment(0),
+            szx,
+            taken: 0,
+            operations: Operations::new(alloc),
+            sent: Moment(0),
+            hold: None,
+            reports: VecDeque::new(alloc),
+            asked: None,
+        }
+    }
+}

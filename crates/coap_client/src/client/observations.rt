@@ -1,0 +1,183 @@
+//! The live observations of a client (RFC 7641, section 3.2).
+ghost use Rattle.std.specs.Prelude.{◌≡◌, ◌≤◌, ◌==◌, ◌+◌, not, drop, filter, map, if◌then◌else◌, None};
+ghost use Rattle.std.specs.Option.{option_map};
+ghost use Rattle.coap_client.specs.ClientSide.ClientObservations.{fetch_of, observation_of, observation_with};
+ghost use Rattle.coap_client.specs.ClientSide.ClientObservations.{observed_path, rest_of, token_of, with_rest};
+ghost use Rattle.coap_client.specs.ClientSide.ClientOwn.{Observation as Observed};
+ghost use Rattle.coap_client.specs.ClientSide.ClientRequests.{block2_option};
+ghost use Rattle.coap_types.specs.OptionValues.{option_with};
+ghost use Rattle.coap_types.specs.Path.{segments_of};
+ghost use Rattle.coap_client.specs.ClientObject.CallShown.{IsFew, IsShortPath};
+ghost use Rattle.coap_client.specs.ClientObject.CallAnswers.{place_in};
+ghost use Rattle.coap_client.specs.ClientSide.ClientPlaces.{in_observations};
+ghost use Rattle.coap_client.specs.ClientObject.ClientShown.{shown_observation, shown_rest};
+
+use crate::client::operation::{ClientOperations, Notified, Observation};
+use crate::client::transfer::block2_of;
+use coap_observe::Watch;
+use coap_types::option_number::BLOCK2;
+use coap_types::{Token, UintBytes};
+use std::alloc::Allocator;
+
+// The place of the observation of that number.
+fn place_of<A: Allocator + Copy>(operations: &ClientOperations<A>, number: u64) -> Option<usize>
+    ensures { result ≡ place_in number (map shown_observation operations.now.live) }
+{
+    place_from(operations, 0, number)
+}
+
+// .. among those from that place on.
+fn place_from<A: Allocator + Copy>(
+    operations: &ClientOperations<A>,
+    from: usize,
+    number: u64,
+) -> Option<usize>
+    ensures { result ≡ option_map (λ k. from + k)
+        (place_in number (map shown_observation (drop from operations.now.live))) }
+{
+    if from >= operations.live_len() {
+        return None;
+    }
+    let first = operations.live(from)?;
+    if first.number == number {
+        Some(from)
+    } else {
+        place_from(operations, from + 1, number)
+    }
+}
+
+/// The observation of that number.
+pub fn find<A: Allocator + Copy>(
+    operations: &ClientOperations<A>,
+    number: u64,
+) -> Option<&Observation<A>>
+    ensures { option_map (λ o. shown_observation o.now) result
+        ≡ observation_of number (map shown_observation operations.now.live) }
+{
+    operations.live(place_of(operations, number)?)
+}
+
+/// The observation of that token.
+pub fn find_with<'a, A: Allocator + Copy>(
+    operations: &'a ClientOperations<A>,
+    token: &[u8],
+) -> Option<&'a Observation<A>>
+    ensures { option_map (λ o. shown_observation o.now) result
+        ≡ observation_with token.now (map shown_observation operations.now.live) }
+{
+    find_with_from(operations, 0, token)
+}
+
+// .. among those from that place on.
+fn find_with_from<'a, A: Allocator + Copy>(
+    operations: &'a ClientOperations<A>,
+    from: usize,
+    token: &[u8],
+) -> Option<&'a Observation<A>>
+    ensures { option_map (λ o. shown_observation o.now) result
+        ≡ observation_with token.now (map shown_observation (drop from operations.now.live)) }
+{
+    if from >= operations.live_len() {
+        return None;
+    }
+    let first = operations.live(from)?;
+    if token == first.token.as_slice() {
+        Some(first)
+    } else {
+        find_with_from(operations, from + 1, token)
+    }
+}
+
+/// The token of the observation of that number.
+pub fn token_of<A: Allocator + Copy>(operations: &ClientOperations<A>, number: u64) -> Option<Token>
+    ensures { result ≡ token_of number (map shown_observation operations.now.live) }
+{
+    Some(find(operations, number)?.token.copy())
+}
+
+/// The observation of that number, of which there is one at most, is live no more.
+pub fn remove<A: Allocator + Copy>(operations: &mut ClientOperations<A>, number: u64)
+    requires { in_observations number (map shown_observation operations.old.live) ≤ 1 }
+    ensures live { map shown_observation operations.new.live
+        ≡ filter (λ o. not (o.number == number)) (map shown_observation operations.old.live) }
+    ensures same { operations.new ≡ record operations.old { live = operations.new.live; spare = operations.new.spare } }
+{
+    if let Some(place) = place_of(operations, number) {
+        operations.remove_live(place);
+    }
+}
+
+/// How fresh the observation of that number is now, of which there is one at most.
+pub fn set_watch<A: Allocator + Copy>(
+    operations: &mut ClientOperations<A>,
+    number: u64,
+    watch: Watch,
+)
+    requires { in_observations number (map shown_observation operations.old.live) ≤ 1 }
+    ensures live { map shown_observation operations.new.live
+        ≡ map (λ (o : Observed). if o.number == number then record o { watch = watch } else o)
+        (map shown_observation operations.old.live) }
+    ensures same { operations.new ≡ record operations.old { live = operations.new.live } }
+{
+    if let Some(place) = place_of(operations, number) {
+        operations.live_mut(place).watch = watch;
+    }
+}
+
+/// What is to be fetched for the observation of that number, of which there is one at most.
+pub fn set_rest<A: Allocator + Copy>(
+    operations: &mut ClientOperations<A>,
+    number: u64,
+    rest: Option<Notified<A>>,
+)
+    requires { in_observations number (map shown_observation operations.old.live) ≤ 1 }
+    ensures live { map shown_observation operations.new.live
+        ≡ with_rest number (option_map shown_rest rest) (map shown_observation operations.old.live) }
+    ensures same { operations.new ≡ record operations.old { live = operations.new.live } }
+{
+    if let Some(place) = place_of(operations, number) {
+        operations.live_mut(place).rest = rest;
+    }
+}
+
+/// .. and nothing is to be fetched any more.
+pub fn take_rest<A: Allocator + Copy>(
+    operations: &mut ClientOperations<A>,
+    number: u64,
+) -> Option<Notified<A>>
+    requires { in_observations number (map shown_observation operations.old.live) ≤ 1 }
+    ensures rest { option_map shown_rest result ≡ rest_of number (map shown_observation operations.old.live) }
+    ensures left { map shown_observation operations.new.live
+        ≡ with_rest number None (map shown_observation operations.old.live) }
+    ensures same { operations.new ≡ record operations.old { live = operations.new.live } }
+{
+    let place = place_of(operations, number)?;
+    operations.live_mut(place).rest.take()
+}
+
+/// The path of the observation of that number, none where there is none.
+#[tactic(auto, using(crate::proofs::ClientCalls::AskableRequests::empty_short))]
+pub fn segments_of<A: Allocator + Copy>(
+    operations: &ClientOperations<A>,
+    number: u64,
+) -> &[Vec<u8, A>]
+    ensures path { segments_of result.now ≡ observed_path number (map shown_observation operations.now.live) }
+    ensures short { IsShortPath (segments_of result.now) }
+{
+    match find(operations, number) {
+        Some(o) => o.path.segments(),
+        None => &[],
+    }
+}
+
+/// The value of the Block2 that asks for what is to be fetched for the observation of that number.
+pub fn block_asked<A: Allocator + Copy>(
+    operations: &ClientOperations<A>,
+    number: u64,
+) -> Option<UintBytes>
+    ensures option { option_with BLOCK2 result
+        ≡ block2_option (fetch_of number (map shown_observation operations.now.live)) }
+    ensures few { IsFew result }
+{
+    block2_of(&find(operations, number)?.rest.as_ref()?.fetch)
+}

@@ -1,0 +1,252 @@
+//! The options of the requests of a client (RFC 7252, section 5.10).
+ghost use Rattle.std.specs.Prelude.{◌≡◌, ◌<◌, ◌≤◌, ◌+◌, ◌++◌, ◌∷◌, [], length, map, nat_lt, option_copied};
+ghost use Rattle.std.specs.Option.{option_map};
+ghost use Rattle.coap_types.specs.declared.path.TheConstants.{MAX_SEGMENTS as max_segments};
+ghost use Rattle.coap_types.specs.declared.tag.TheConstants.{MAX_TAGS as max_tags};
+ghost use Rattle.coap_types.specs.CoapOption.{option, options_of as of_list};
+ghost use Rattle.coap_types.specs.OptionValues.{option_with};
+ghost use Rattle.coap_types.specs.Path.{segments_of};
+ghost use Rattle.coap_types.specs.Uint.{uint};
+ghost use Rattle.coap_codec.specs.Spelling.{options_bytes};
+ghost use Rattle.coap_client.specs.ClientSide.ClientQueue.{block_option_number};
+ghost use Rattle.coap_client.specs.ClientSide.ClientRequests.{after_path, before_path, options_of, path_options};
+ghost use Rattle.coap_client.specs.ClientSide.ClientTrace.{Request as Asking};
+ghost use Rattle.coap_client.specs.ClientObject.CallShown.{IsGood, is_long, is_long_path, shown_request};
+ghost use Rattle.coap_client.specs.ClientObject.CallShown.{told as told_value, told_number};
+
+use crate::MAX_OPTIONS_LEN;
+use coap_codec::options_len;
+use coap_types::option_number::{
+    ACCEPT, BLOCK1, BLOCK2, CONTENT_FORMAT, ETAG, IF_MATCH, IF_NONE_MATCH, OBSERVE, URI_PATH,
+};
+use coap_types::{Method, Opt, Path, Request, Tags, UintBytes, uint_bytes};
+use std::alloc::Allocator;
+use std::marker::Model;
+
+/// The most options that a request has: the tags, If-None-Match, the path, Content-Format or
+/// Accept, and a Block option.
+pub const MAX_OPTIONS: usize = 24;
+
+const _: () = prove!(MAX_OPTIONS == 24);
+
+/// At most `MAX_OPTIONS` options, in order.
+#[derive(Drop)]
+pub struct RequestOptions<'a> {
+    options: [Opt<'a>; MAX_OPTIONS],
+    len: usize,
+}
+
+impl<'a> Model for RequestOptions<'a> {
+    ghost use Rattle.std.specs.Prelude.{List, ◌≡◌, ◌≤◌, length, take};
+    ghost use Rattle.coap_types.specs.CoapOption.{CoapOption, options_of};
+    ghost use Rattle.coap_client.specs.declared.client.request_options.TheConstants.{MAX_OPTIONS};
+
+    ghost Value = { List CoapOption };
+
+    ghost view = { λ o. options_of (take o.len o.options) };
+
+    ghost invariant = { λ o. (length o.options ≡ MAX_OPTIONS) × (o.len ≤ MAX_OPTIONS) };
+}
+
+impl<'a> RequestOptions<'a> {
+    /// No option.
+    pub fn new() -> RequestOptions<'a>
+        ensures { result ≡ [] }
+    {
+        let unused = Opt {
+            number: 0,
+            value: &[],
+        };
+        RequestOptions {
+            options: [unused; MAX_OPTIONS],
+            len: 0,
+        }
+    }
+
+    /// Adds an option at the end.
+    pub fn push(&mut self, number: u16, value: &'a [u8])
+        requires room { length self.old < MAX_OPTIONS }
+        ensures list { self.new ≡ self.old ++ option number value.now ∷ [] }
+        ensures len { length self.new ≡ length self.old + 1 }
+    {
+        self.options[self.len] = Opt { number, value };
+        self.len += 1;
+    }
+
+    /// .. where it has a value.
+    pub fn push_some(&mut self, number: u16, value: Option<&'a [u8]>)
+        requires room { length self.old < MAX_OPTIONS }
+        ensures list { self.new ≡ self.old ++ option_with number (option_copied value.entry) }
+        ensures len { length self.new ≤ length self.old + 1 }
+    {
+        if let Some(value) = value {
+            self.push(number, value);
+        }
+    }
+
+    /// Adds an option for each tag.
+    pub fn push_tags(&mut self, number: u16, tags: &'a Tags)
+        requires room { length self.old + length tags.now ≤ MAX_OPTIONS }
+        ensures list { self.new ≡ self.old ++ map (option number) tags.now }
+        ensures len { length self.new ≡ length self.old + length tags.now }
+    {
+        for tag in tags.as_slice() {
+            self.push(number, tag.as_slice());
+        }
+    }
+
+    /// Adds an option for each segment (RFC 7252, section 5.10.1).
+    pub fn push_path<A: Allocator + Copy>(&mut self, path: &'a [Vec<u8, A>])
+        requires room { length self.old + length path.now ≤ MAX_OPTIONS }
+        ensures list { self.new ≡ self.old ++ path_options (segments_of path.now) }
+        ensures len { length self.new ≡ length self.old + length path.now }
+    {
+        for segment in path {
+            self.push(URI_PATH, segment.as_slice());
+        }
+    }
+
+    /// The options in order.
+    pub fn as_slice(&self) -> &[Opt<'a>]
+        ensures { of_list result.now ≡ self.now }
+    {
+        &self.options[..self.len]
+    }
+}
+
+/// The bytes that were spelled, where there are some.
+pub fn bytes_in(bytes: &Option<UintBytes>) -> Option<&[u8]>
+    ensures { option_copied result ≡ bytes.now }
+{
+    Some(bytes.as_ref()?.as_slice())
+}
+
+/// The value of the option behind the path: Accept of a GET, Content-Format of a POST or a PUT.
+pub fn told<A: Allocator + Copy>(request: &Request<A>) -> Option<UintBytes>
+    ensures { result ≡ told_value (shown_request request.now) }
+{
+    let number = match request.method {
+        Method::Get => request.accept,
+        Method::Post | Method::Put => request.format,
+        Method::Delete => None,
+    };
+    Some(uint_bytes(u32::from(number?)))
+}
+
+/// The options of a call, in the order of their numbers, with that Block option (RFC 7252, section
+/// 5.10).
+pub fn call_options<'a, A: Allocator + Copy>(
+    request: &'a Request<A>,
+    told: Option<&'a [u8]>,
+    number: u16,
+    block: Option<&'a [u8]>,
+) -> RequestOptions<'a>
+    requires { option_copied told ≡ told_value (shown_request request.now) }
+    ensures { result ≡ options_of (shown_request request.now) ++ option_with number (option_copied block.entry) }
+{
+    request.ranges();
+    let mut options = RequestOptions::new();
+    push_before(&mut options, request);
+    options.push_path(request.path.segments());
+    push_after(&mut options, request.method, told);
+    options.push_some(number, block);
+    options
+}
+
+// The options before the path.
+fn push_before<'a, A: Allocator + Copy>(options: &mut RequestOptions<'a>, request: &'a Request<A>)
+    requires { options.old ≡ [] }
+    ensures list { options.new ≡ before_path request.now.method (shown_request request.now) }
+    ensures few { length options.new ≤ max_tags + 1 }
+{
+    request.ranges();
+    match request.method {
+        Method::Get => options.push_tags(ETAG, &request.etags),
+        Method::Post | Method::Put | Method::Delete => {
+            options.push_tags(IF_MATCH, &request.if_match);
+            if request.if_none_match {
+                options.push(IF_NONE_MATCH, &[]);
+            }
+        }
+    }
+}
+
+// The option behind the path.
+fn push_after<'a>(options: &mut RequestOptions<'a>, method: Method, told: Option<&'a [u8]>)
+    requires room { length options.old + 1 < MAX_OPTIONS }
+    ensures list { (r : Asking) → option_copied told.entry ≡ option_map uint (told_number method r)
+        → options.new ≡ options.old ++ after_path method r }
+    ensures len { length options.new ≤ length options.old + 1 }
+{
+    match method {
+        Method::Get => options.push_some(ACCEPT, told),
+        Method::Post | Method::Put => options.push_some(CONTENT_FORMAT, told),
+        Method::Delete => {}
+    }
+}
+
+/// The options of a GET of that path, with those values of Observe and Block2.
+pub fn get_options<'a, A: Allocator + Copy>(
+    observe: Option<&'a [u8]>,
+    path: &'a [Vec<u8, A>],
+    block: Option<&'a [u8]>,
+) -> RequestOptions<'a>
+    requires { length path.now ≤ max_segments }
+    ensures { result ≡ option_with OBSERVE (option_copied observe.entry)
+        ++ (path_options (segments_of path.now) ++ option_with BLOCK2 (option_copied block.entry)) }
+{
+    let mut options = RequestOptions::new();
+    options.push_some(OBSERVE, observe);
+    options.push_path(path);
+    options.push_some(BLOCK2, block);
+    options
+}
+
+// The longest value of a Block option (RFC 7959, section 2.2).
+const LONGEST_BLOCK: [u8; 3] = [255; 3];
+
+// The number of the Block option of the requests of a method.
+fn block_option_number(method: Method) -> u16
+    ensures number { result ≡ block_option_number method }
+    ensures least { 17 ≤ result }
+    ensures most { result < 65536 }
+{
+    match method {
+        Method::Get => BLOCK2,
+        Method::Post => BLOCK1,
+        Method::Put => BLOCK1,
+        Method::Delete => BLOCK1,
+    }
+}
+
+/// Whether the options of the longest message of a call are too long. It takes no memory.
+pub fn is_long_request<A: Allocator + Copy>(request: &Request<A>) -> bool
+    ensures { result ≡ is_long (shown_request request.now) }
+{
+    request.ranges();
+    let told = told(request);
+    let number = block_option_number(request.method);
+    let longest = LONGEST_BLOCK;
+    let options = call_options(request, bytes_in(&told), number, Some(&longest));
+    exceed(&options)
+}
+
+/// Whether the options of the longest message of an observation are too long. It takes no memory.
+pub fn is_long_path<A: Allocator + Copy>(path: &Path<A>) -> bool
+    ensures { result ≡ is_long_path path.now }
+{
+    let longest = LONGEST_BLOCK;
+    let options = get_options(None, path.segments(), Some(&longest));
+    exceed(&options)
+}
+
+// Whether options take over `MAX_OPTIONS_LEN` bytes.
+fn exceed(options: &RequestOptions<'_>) -> bool
+    requires { IsGood 0 options.now }
+    ensures { result ≡ nat_lt MAX_OPTIONS_LEN (length (options_bytes 0 options.now)) }
+{
+    match options_len(options.as_slice()) {
+        Some(len) => len > MAX_OPTIONS_LEN,
+        None => true,
+    }
+}

@@ -1,7 +1,0 @@
-pub mod ClientGoing
-pub mod AnswererComing
-pub mod AnswererGoing
-pub mod AnswererTiming
-pub mod RequestsKept
-pub mod PathsAreCounted
-pub mod ClientSpelled

@@ -1,5 +1,0 @@
-pub mod ClientReplies
-pub mod ServerReplies
-pub mod ServerRepliesSo
-pub mod LayerSendsResponses
-pub mod Sources

@@ -1,4 +1,0 @@
-pub mod ServedOnce
-pub mod HandedUpAsOften
-pub mod ServerWaiting
-pub mod ComesUp

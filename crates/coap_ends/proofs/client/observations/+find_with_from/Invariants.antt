@@ -1,5 +1,0 @@
-use Rattle.std.proofs.Common.{◌-◌, length}
-use Rattle.coap_ends.proofs.client.observations.+find_with_from.Given as goal
-
-abbrev pub decreases-find_with_from : goal.decreases-find_with_from
-decreases-find_with_from g l = length l.operations.now.live - l.from

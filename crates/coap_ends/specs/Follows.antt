@@ -1,6 +1,0 @@
-pub mod ClientHears
-pub mod ClientSendings
-pub mod Endings
-pub mod ServerGives
-pub mod ServerCounts
-pub mod Sources

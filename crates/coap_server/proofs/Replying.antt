@@ -1,0 +1,4 @@
+pub mod ServerReplies
+pub mod ServerRepliesSo
+pub mod LayerSendsResponses
+pub mod Sources

@@ -1,0 +1,3 @@
+pub mod ServedOnce
+pub mod HandedUpAsOften
+pub mod ServerWaiting

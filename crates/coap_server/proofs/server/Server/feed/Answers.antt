@@ -1,0 +1,20 @@
+use Rattle.coap_server.proofs.ServerCalls.FeedIsACall.{on_ok, seen_step}
+use Rattle.coap_server.proofs.ServerCalls.WorkFalls.{closes, led_on, on_err, same_led}
+use Rattle.coap_server.proofs.ServerSide.Exact.ServerLeads.{led_further}
+use Rattle.coap_server.proofs.server.Server.feed.Goals as goal
+
+pub invariant_of-self : goal.invariant_of-self
+invariant_of-self g c =
+    closes c.feed_parts.result (on_ok c.feed_parts.result
+    (λ f. let s = f c.args.word in led_on _ _ _ c.self.invariant s.4) c.feed_parts.ensures.step)
+    (on_err c.feed_parts.result (λ e. same_led g.S.Store.content _ _ c.self.invariant e) c.feed_parts.ensures.err)
+
+pub returns-clause-step : goal.returns-clause-step
+returns-clause-step g c =
+    on_ok c.feed_parts.result (λ f. let s = f c.args.word
+    in (s.0, s.1, s.2, s.3, seen_step g.S.Store.content _ _ _ _ c.self.view_is s.4)) c.feed_parts.ensures.step
+
+pub returns-clause-led : goal.returns-clause-led
+returns-clause-led g c limit szx begin t led =
+    on_ok c.feed_parts.result (λ s. (s.0, s.1, s.2, s.3, led_further limit szx begin t _ _ _ led s.4))
+    (returns-clause-step g c)

@@ -1,0 +1,18 @@
+use Rattle.std.proofs.Common.{rules, [], sym, subst}
+use Rattle.coap_server.specs.ServerSide.ServerLed.{Led}
+use Rattle.coap_server.proofs.ServerSide.Exact.ServerLeads.{led_empty}
+use Rattle.coap_server.proofs.server.Server.with_hasher.Goals as goal
+
+pub returns-clause-start : goal.returns-clause-start
+returns-clause-start g c = search rules
+
+pub invariant_of-result : goal.invariant_of-result
+invariant_of-result g c = (
+  c.requires.fresh.0,
+  c.args.szx,
+  c.args.word,
+  [],
+  subst (λ s. Led c.requires.fresh.0 c.args.szx c.args.word [] s)
+      (sym (returns-clause-start g c c.requires.fresh.0 c.requires.fresh.1))
+      (led_empty c.requires.fresh.0 c.args.szx c.args.word),
+)

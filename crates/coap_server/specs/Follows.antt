@@ -1,0 +1,3 @@
+pub mod ServerGives
+pub mod ServerCounts
+pub mod Sources

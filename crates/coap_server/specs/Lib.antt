@@ -1,0 +1,4 @@
+pub mod Follows
+pub mod ServerSide
+pub mod ServerObject
+pub mod ServerTurns

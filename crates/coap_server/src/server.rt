@@ -1,0 +1,303 @@
+//! The server (RFC 7252, section 5; RFC 7641; RFC 7959).
+mod answering;
+mod deferring;
+mod delaying;
+mod full_response;
+mod handling;
+mod local;
+mod moments;
+mod notifying;
+mod observing;
+mod option_list;
+mod parts;
+mod request_checks;
+mod responding;
+mod serving;
+mod turning;
+mod uploading;
+
+ghost use Rattle.std.specs.Prelude.{◌≡◌, ◌≢◌, ◌<◌, ◌^◌, ℕ, max, Bool, true, false, Option, List, [], ◌∷◌, Ok, Err};
+ghost use Rattle.std.specs.Prelude.{is_ok, is_some, length, IfNone, IfOk, IfSome, IsOk, OnErr, OnOk, option_copied};
+ghost use Rattle.coap_codec.specs.Message.{Message};
+ghost use Rattle.coap_layer.specs.Machine.State.{answer_of, copies, made};
+ghost use Rattle.coap_layer.specs.Machine.Ups.{IsQuiet};
+ghost use Rattle.coap_layer.specs.Trace as below;
+ghost use Rattle.coap_resource.specs.Content.{nothing};
+ghost use Rattle.coap_resource.specs.Shown.{shown};
+ghost use Rattle.coap_resource.specs.declared.refusal.StoreRefusal.TheVariants as store_refusals;
+ghost use Rattle.coap_exchange.specs.declared.answerer.Asked.{Asked as AskedSpec};
+ghost use Rattle.coap_exchange.specs.declared.answerer.Due.{Due};
+ghost use Rattle.coap_server.specs.ServerSide.ServerDeferring.{delay_of, may_delay};
+ghost use Rattle.coap_server.specs.declared.server.delaying.DelayRefusal.TheVariants as delay_refusals;
+ghost use Rattle.coap_server.specs.ServerSide.ServerLed.{Led, Step, fresh_state};
+ghost use Rattle.coap_server.specs.ServerSide.ServerTrace.{Call, Delays, Feeds, Gets, Handling, NextOut, Removes, Sets};
+ghost use Rattle.coap_server.specs.ServerSide.ServerTrace.{TellsApplied, Ticks};
+ghost use Rattle.coap_server.specs.ServerObject.ServerShown.{applied_list, kept_of, seen, state_of};
+ghost use Rattle.coap_server.specs.ServerTurns.ServerIdle.{IsIdle, moment};
+ghost use Rattle.coap_server.specs.ServerTurns.ServerWork.{work};
+
+use crate::server::delaying::set_delay_parts;
+use crate::server::handling::handle;
+use crate::server::local::{remove_parts, set_parts};
+use crate::server::moments::{forget, later};
+use crate::server::parts::Parts;
+use crate::server::turning::tick_parts;
+use coap_block::Assembly;
+use coap_exchange::Answerer;
+use coap_layer::Datagram;
+use coap_observe::Observers;
+use coap_resource::{Representation, Store, StoreRefusal};
+use coap_types::{Endpoint, Moment, Path, Szx};
+pub use delaying::{DelayRefusal, give_delay};
+pub use parts::{Applied, Delay};
+use std::alloc::{AllocError, Allocator};
+use std::hash::{BuildHasher, BuildHasherDefault, FoldHasher};
+use std::marker::Model;
+
+/// A server (RFC 7252, section 5; RFC 7641; RFC 7959).
+///
+/// After each call take `next_out` until None; a moment before the last one counts as the last.
+#[derive(Drop)]
+pub struct Server<
+    S: Store<A>,
+    A: Allocator + Copy,
+    H: BuildHasher = BuildHasherDefault<FoldHasher>,
+> {
+    parts: Parts<S, A, H>,
+}
+
+impl<S: Store<A>, A: Allocator + Copy, H: BuildHasher> Model for Server<S, A, H> {
+    ghost use Rattle.coap_server.specs.ServerObject.ServerShown.{Kept, kept_of, state_of};
+    ghost use Rattle.coap_server.specs.ServerTurns.ServerWork.{WasLed};
+
+    ghost Value = { Kept S };
+
+    ghost view = { λ s. kept_of s.parts };
+
+    ghost invariant = { λ s. WasLed (state_of S.content (kept_of s.parts)) };
+}
+
+impl<S: Store<A>, A: Allocator + Copy> Server<S, A, BuildHasherDefault<FoldHasher>> {
+    /// A server to which nothing has happened. Its store holds nothing and was handed no moment;
+    /// the word picks its first Message ID.
+    pub fn new(alloc: A, store: S, szx: Szx, word: u64) -> Self
+        requires fresh { (limit : ℕ) × (S.content store ≡ nothing limit) }
+        ensures led { (limit : ℕ) → S.content store ≡ nothing limit
+            → Led limit szx word [] (state_of S.content result) }
+        ensures start { (limit : ℕ) → S.content store ≡ nothing limit → state_of S.content result
+            ≡ fresh_state limit szx word }
+    {
+        Server::with_hasher(alloc, store, szx, word, BuildHasherDefault::new())
+    }
+}
+
+impl<S: Store<A>, A: Allocator + Copy, H: BuildHasher> Server<S, A, H> {
+    /// The same, with a hasher for the messages that are remembered.
+    pub fn with_hasher(alloc: A, store: S, szx: Szx, word: u64, hasher: H) -> Self
+        requires fresh { (limit : ℕ) × (S.content store ≡ nothing limit) }
+        ensures led { (limit : ℕ) → S.content store ≡ nothing limit
+            → Led limit szx word [] (state_of S.content result) }
+        ensures start { (limit : ℕ) → S.content store ≡ nothing limit → state_of S.content result
+            ≡ fresh_state limit szx word }
+    {
+        Server {
+            parts: Parts {
+                alloc,
+                szx,
+                clock: Moment(0),
+                exchanges: Answerer::with_hasher(alloc, word, hasher),
+                store,
+                uploads: Assembly::new(alloc, szx),
+                observers: Observers::new(alloc),
+                delays: Vec::new(alloc),
+                waiting: Vec::new(alloc),
+                applied: None,
+            },
+        }
+    }
+
+    /// Takes a datagram that arrived at this moment, in milliseconds: a request is answered, deferred
+    /// or passed over, what a Reset ends is no longer observed (RFC 7252, section 5.2; RFC 7641,
+    /// section 4.5). After an `Err` the server is as before, and the datagram counts as lost.
+    ///
+    /// ```
+    /// server.set(now, &path, Some(TEXT_PLAIN), b"22.3 C")?;
+    /// server.feed(now, from, datagram, word)?;
+    /// while let Some(reply) = server.next_out() {
+    ///     send(reply.to(), reply.bytes());
+    /// }
+    /// ```
+    pub fn feed(
+        &mut self,
+        now: Moment,
+        from: Endpoint,
+        bytes: &[u8],
+        word: u64,
+    ) -> Result<(), AllocError>
+        ensures step { OnOk result ((up : below.Answer) × (came : Option (AskedSpec × Message)) × (h : Handling)
+            × (sent : below.Answer)
+            × Step (state_of S.content self.old) (Feeds now.0 from bytes.now word up came h sent)
+            (state_of S.content self.new)) }
+        ensures led { (limit szx begin : ℕ) (t : List Call) → Led limit szx begin t (state_of S.content self.old)
+            → OnOk result ((up : below.Answer) × (came : Option (AskedSpec × Message)) × (h : Handling)
+            × (sent : below.Answer)
+            × Led limit szx begin (Feeds now.0 from bytes.now word up came h sent ∷ t) (state_of S.content self.new)) }
+        ensures err { OnErr result (self.new ≡ self.old) }
+        // Where the message layer sends nothing and hands nothing up, it takes no memory.
+        ensures quiet { IsQuiet (made self.old.exchanges.layer (max self.old.clock now.0)
+            (below.Receive from bytes.now)) → IsOk result }
+    {
+        feed_parts(&mut self.parts, now, from, bytes)
+    }
+
+    /// Does the first that is due at this moment, in milliseconds: the failure of a response, which
+    /// ends an observation, a retransmission, the response to a deferred request, a notification;
+    /// whether something was (RFC 7252, sections 4.2 and 5.2.2; RFC 7641, section 4.5). The word picks
+    /// the initial timeout of what is sent. Call it until it answers false. After an `Err` the server
+    /// is as before.
+    pub fn tick(&mut self, now: Moment, word: u64) -> Result<bool, AllocError>
+        ensures step { IfOk result (λ did. (done : below.Answer) × (room : Bool) × (due : Due) × (passed : ℕ)
+            × (h : Handling) × (id : ℕ)
+            × Step (state_of S.content self.old) (Ticks now.0 word done room due passed h id did)
+            (state_of S.content self.new)) }
+        ensures led { (limit szx begin : ℕ) (t : List Call) → Led limit szx begin t (state_of S.content self.old)
+            → IfOk result (λ did. (done : below.Answer) × (room : Bool) × (due : Due) × (passed : ℕ) × (h : Handling)
+            × (id : ℕ)
+            × Led limit szx begin (Ticks now.0 word done room due passed h id did ∷ t) (state_of S.content self.new)) }
+        // Each tick that does something leaves less to be done at its moment.
+        ensures less { result ≡ Ok true
+            → work (state_of S.content self.new) now.0 < work (state_of S.content self.old) now.0 }
+        ensures err { OnErr result (self.new ≡ self.old) }
+        // Where nothing is to be sent, or a failure comes first, it takes no memory.
+        ensures quiet { IsIdle (state_of S.content self.old) now.0 → IsOk result }
+        ensures fails { copies (moment (state_of S.content self.old) now.0) self.old.exchanges.layer.open_cons ≡ []
+            → answer_of self.old.exchanges.layer (moment (state_of S.content self.old) now.0) below.Ticks ≢ below.Idle
+            → IsOk result }
+    {
+        tick_parts(&mut self.parts, now, word)
+    }
+
+    /// Puts a body of at most `MAX_BODY_LEN` bytes, of that Content-Format (RFC 7252, section 12.3), in
+    /// place of what the path holds, and marks its observers; answers the version. After `Memory`
+    /// nothing changed; after another refusal its moment has counted alone.
+    pub fn set(
+        &mut self,
+        now: Moment,
+        path: &Path<A>,
+        format: Option<u16>,
+        body: &[u8],
+    ) -> Result<u64, StoreRefusal>
+        ensures step { result ≢ Err store_refusals.Memory → Step (state_of S.content self.old)
+            (Sets now.0 path.now format body.now result (state_of S.content self.new).own.store)
+            (state_of S.content self.new) }
+        ensures led { (limit szx begin : ℕ) (t : List Call) → Led limit szx begin t (state_of S.content self.old)
+            → result ≢ Err store_refusals.Memory
+            → Led limit szx begin (Sets now.0 path.now format body.now result
+            (state_of S.content self.new).own.store ∷ t) (state_of S.content self.new) }
+        ensures memory { result ≡ Err store_refusals.Memory → self.new ≡ self.old }
+    {
+        set_parts(&mut self.parts, now, path, format, body)
+    }
+
+    /// Takes away what the path holds, and marks its observers; false where it holds nothing. It takes
+    /// no memory.
+    pub fn remove(&mut self, now: Moment, path: &Path<A>) -> Result<bool, StoreRefusal>
+        ensures step { Step (state_of S.content self.old)
+            (Removes now.0 path.now result (state_of S.content self.new).own.store) (state_of S.content self.new) }
+        ensures led { (limit szx begin : ℕ) (t : List Call) → Led limit szx begin t (state_of S.content self.old)
+            → Led limit szx begin (Removes now.0 path.now result (state_of S.content self.new).own.store ∷ t)
+            (state_of S.content self.new) }
+    {
+        remove_parts(&mut self.parts, now, path)
+    }
+
+    /// Has each Confirmable request of the path wait for so many milliseconds and be answered then,
+    /// by a separate response (RFC 7252, section 5.2.2; a profile). It takes no memory where
+    /// `MAX_DELAYS` other paths have a delay, or the path has one.
+    pub fn set_delay(&mut self, path: &Path<A>, ms: u64) -> Result<(), DelayRefusal>
+        ensures step { result ≢ Err delay_refusals.Memory → Step (state_of S.content self.old)
+            (Delays path.now ms (is_ok result)) (state_of S.content self.new) }
+        ensures led { (limit szx begin : ℕ) (t : List Call) → Led limit szx begin t (state_of S.content self.old)
+            → result ≢ Err delay_refusals.Memory
+            → Led limit szx begin (Delays path.now ms (is_ok result) ∷ t) (state_of S.content self.new) }
+        ensures memory { result ≡ Err delay_refusals.Memory → self.new ≡ self.old }
+        ensures full { may_delay path.now (state_of S.content self.old).own.delays ≡ false → result
+            ≡ Err delay_refusals.Full }
+        ensures again { is_some (delay_of path.now (state_of S.content self.old).own.delays) ≡ true
+            → result ≢ Err delay_refusals.Memory }
+    {
+        set_delay_parts(&mut self.parts, path, ms)
+    }
+
+    /// What the path holds: its version, its format and its body. It takes no memory.
+    pub fn get(&self, path: &Path<A>) -> Option<&Representation<A>>
+        ensures step { Step (state_of S.content self.now) (Gets path.now (shown (option_copied result)))
+            (state_of S.content self.now) }
+        ensures led { (limit szx begin : ℕ) (t : List Call) → Led limit szx begin t (state_of S.content self.now)
+            → Led limit szx begin (Gets path.now (shown (option_copied result)) ∷ t) (state_of S.content self.now) }
+    {
+        self.parts.store.get(path)
+    }
+
+    /// What the last `feed` or `tick` applied: the PUT, POST or DELETE that it answered 2.01, 2.02 or
+    /// 2.04, if any. It takes no memory.
+    pub fn applied(&self) -> Option<&Applied<A>>
+        ensures step { Step (state_of S.content self.now) (TellsApplied (applied_list (option_copied result)))
+            (state_of S.content self.now) }
+        ensures led { (limit szx begin : ℕ) (t : List Call) → Led limit szx begin t (state_of S.content self.now)
+            → Led limit szx begin (TellsApplied (applied_list (option_copied result)) ∷ t)
+            (state_of S.content self.now) }
+    {
+        self.parts.applied.as_ref()
+    }
+
+    /// The datagram that is to be sent next. It takes no memory.
+    pub fn next_out(&mut self) -> Option<Datagram<A>>
+        ensures step { Step (state_of S.content self.old) (NextOut result) (state_of S.content self.new) }
+        ensures led { (limit szx begin : ℕ) (t : List Call) → Led limit szx begin t (state_of S.content self.old)
+            → Led limit szx begin (NextOut result ∷ t) (state_of S.content self.new) }
+        ensures some { IfSome result (λ datagram. self.old.exchanges.layer.queue
+            ≡ datagram ∷ self.new.exchanges.layer.queue) }
+        ensures none { IfNone result ((self.old.exchanges.layer.queue ≡ [])
+            × (state_of S.content self.new ≡ state_of S.content self.old)) }
+        // No more datagrams wait than a list in memory holds.
+        ensures few { length self.old.exchanges.layer.queue < 2 ^ 64 }
+    {
+        self.parts.exchanges.next_out()
+    }
+}
+
+// Takes a datagram.
+fn feed_parts<S: Store<A>, A: Allocator + Copy, H: BuildHasher>(
+    parts: &mut Parts<S, A, H>,
+    now: Moment,
+    from: Endpoint,
+    bytes: &[u8],
+) -> Result<(), AllocError>
+    ensures step { OnOk result ((word : ℕ) → (up : below.Answer) × (came : Option (AskedSpec × Message))
+        × (h : Handling) × (sent : below.Answer)
+        × Step (seen S.content parts.old) (Feeds now.0 from bytes.now word up came h sent) (seen S.content parts.new)) }
+    ensures err { OnErr result (kept_of parts.new ≡ kept_of parts.old) }
+    ensures quiet { IsQuiet (made parts.old.exchanges.state.layer (max parts.old.clock.0 now.0)
+        (below.Receive from bytes.now)) → IsOk result }
+{
+    let was = parts.clock;
+    let at = later(was, now);
+    let came = parts.exchanges.incoming(at, from, bytes)?;
+    parts.clock = at;
+    match came {
+        None => {
+            forget(&mut parts.observers, parts.exchanges.ended());
+            parts.applied = None;
+            Ok(())
+        }
+        Some((asked, request)) => {
+            let done = handle(parts, &asked, &request);
+            if done.is_err() {
+                parts.exchanges.undo();
+                parts.clock = was;
+            }
+            done
+        }
+    }
+}
