@@ -1,3 +1,3 @@
-pub mod OfClient
-pub mod OfClientCalls
-pub mod MovesOfClient
+pub mod EachCall
+pub mod EachMove
+pub mod Laws

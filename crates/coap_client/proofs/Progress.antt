@@ -1,1 +1,3 @@
-pub mod ClientSpelled
+pub mod GoesOn
+pub mod RequestsSpelled
+pub mod Spelled

@@ -1,1 +1,4 @@
+pub mod ComesToRest
+pub mod Ending
 pub mod ExchangeTurns
+pub mod Resting

@@ -1,2 +1,16 @@
+pub mod ApartLists
+pub mod Asked
+pub mod Begun
 pub mod ConsAreRequests
+pub mod ExchangeBegins
+pub mod Moments
 pub mod NoNons
+pub mod OfCalls
+pub mod OneCon
+pub mod OpenRuns
+pub mod SendingsOfACon
+pub mod SendsBegin
+pub mod SentIn
+pub mod StaysOpen
+pub mod TokenOfBytes
+pub mod Tokens

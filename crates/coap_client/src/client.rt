@@ -35,15 +35,15 @@ ghost use Rattle.coap_exchange.specs.declared.asker.AskRefusal.{AskRefusal};
 ghost use Rattle.coap_exchange.specs.declared.asker.Event.{Event};
 ghost use Rattle.coap_exchange.specs.declared.asker.Turn.{Turn};
 ghost use Rattle.coap_client.specs.declared.refusals.CallRefusal.TheVariants as refusals;
-ghost use Rattle.coap_client.specs.ClientObject.CallShown.{shown_request};
-ghost use Rattle.coap_client.specs.ClientObject.CallAnswers.{refusal_in};
-ghost use Rattle.coap_client.specs.ClientSide.ClientQueue.{call_answer, observe_answer};
-ghost use Rattle.coap_client.specs.ClientSide.ClientStep.{Step, Led, fresh_state};
-ghost use Rattle.coap_client.specs.ClientSide.ClientTrace.{Call, Calls, Observes, Cancels, Forgets, Feeds, Ticks};
-ghost use Rattle.coap_client.specs.ClientSide.ClientTrace.{NextOut, NextReport, Asked};
-ghost use Rattle.coap_client.specs.ClientObject.ClientShown.{number_of, shown_asked, shown_reported};
-ghost use Rattle.coap_client.specs.ClientTurns.ClientQuiet.{IsIdle, TellsNothing};
-ghost use Rattle.coap_client.specs.ClientTurns.ClientWork.{work};
+ghost use Rattle.coap_client.specs.Object.CallShown.{shown_request};
+ghost use Rattle.coap_client.specs.Object.CallAnswers.{refusal_in};
+ghost use Rattle.coap_client.specs.Queue.{call_answer, observe_answer};
+ghost use Rattle.coap_client.specs.Led.{Step, Led, fresh_state};
+ghost use Rattle.coap_client.specs.Trace.{Call, Calls, Observes, Cancels, Forgets, Feeds, Ticks};
+ghost use Rattle.coap_client.specs.Trace.{NextOut, NextReport, Asked};
+ghost use Rattle.coap_client.specs.Object.Shown.{number_of, shown_asked, shown_reported};
+ghost use Rattle.coap_client.specs.Turns.Quiet.{IsIdle, TellsNothing};
+ghost use Rattle.coap_client.specs.Turns.Work.{work};
 
 use crate::client::happening::happen;
 use crate::client::held::Held;
@@ -69,9 +69,9 @@ pub struct Client<A: Allocator + Copy, H: BuildHasher = BuildHasherDefault<FoldH
 }
 
 impl<A: Allocator + Copy, H: BuildHasher> Model for Client<A, H> {
-    ghost use Rattle.coap_client.specs.ClientSide.ClientStep.{State};
-    ghost use Rattle.coap_client.specs.ClientObject.ClientHappens.{WasLed, left};
-    ghost use Rattle.coap_client.specs.ClientObject.ClientHeld.{own_of};
+    ghost use Rattle.coap_client.specs.Led.{State};
+    ghost use Rattle.coap_client.specs.Object.Happens.{WasLed, left};
+    ghost use Rattle.coap_client.specs.Object.Held.{own_of};
 
     ghost Value = { State };
 

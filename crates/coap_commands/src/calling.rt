@@ -1,7 +1,7 @@
 //! A request of a client: how it is made, and what becomes of it.
 ghost use Rattle.std.specs.Prelude.{◌≡◌, [], IfOk};
 ghost use Rattle.coap_types.specs.declared.request.Method.TheVariants.{Get, Put};
-ghost use Rattle.coap_client.specs.ClientObject.CallShown.{shown_request};
+ghost use Rattle.coap_client.specs.Object.CallShown.{shown_request};
 ghost use Rattle.coap_commands.specs.Script.{plain_request};
 
 use crate::status::Stop;

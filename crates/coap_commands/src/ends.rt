@@ -2,10 +2,10 @@
 ghost use Rattle.std.specs.Prelude.{◌≡◌, ◌<◌, ℕ, [], ◌∷◌, Ok, Some, IfOk, IfNone, IfErr, length};
 ghost use Rattle.coap_resource.specs.Content.{Content};
 ghost use Rattle.coap_resource.specs.Entries.{content_of};
-ghost use Rattle.coap_client.specs.ClientSide.ClientStep.{Led as ClientLed};
-ghost use Rattle.coap_server.specs.ServerObject.ServerShown.{state_of};
-ghost use Rattle.coap_server.specs.ServerSide.ServerLed.{Led};
-ghost use Rattle.coap_server.specs.ServerSide.ServerTrace.{Sets};
+ghost use Rattle.coap_client.specs.Led.{Led as ClientLed};
+ghost use Rattle.coap_server.specs.Object.Shown.{state_of};
+ghost use Rattle.coap_server.specs.Led.{Led};
+ghost use Rattle.coap_server.specs.Trace.{Sets};
 
 use crate::status::Stop;
 use coap_ends::{Client, Server};

@@ -12,9 +12,9 @@ impl<A: Allocator + Copy, H: BuildHasher> End<A> for Client<A, H> {
     ghost use Rattle.coap_exchange.specs.declared.asker.AskRefusal.{AskRefusal};
     ghost use Rattle.coap_exchange.specs.declared.asker.Event.{Event};
     ghost use Rattle.coap_exchange.specs.declared.asker.Turn.{Turn};
-    ghost use Rattle.coap_client.specs.ClientSide.ClientStep.{State as ClientState, Step};
-    ghost use Rattle.coap_client.specs.ClientSide.ClientTrace.{Feeds, NextOut, Ticks};
-    ghost use Rattle.coap_client.specs.ClientTurns.ClientWork.{work as work_left};
+    ghost use Rattle.coap_client.specs.Led.{State as ClientState, Step};
+    ghost use Rattle.coap_client.specs.Trace.{Feeds, NextOut, Ticks};
+    ghost use Rattle.coap_client.specs.Turns.Work.{work as work_left};
 
     ghost State = { ClientState };
 

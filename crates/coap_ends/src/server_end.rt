@@ -13,10 +13,10 @@ impl<S: Store<A>, A: Allocator + Copy, H: BuildHasher> End<A> for Server<S, A, H
     ghost use Rattle.coap_layer.specs.Trace.{Answer};
     ghost use Rattle.coap_exchange.specs.declared.answerer.Asked.{Asked};
     ghost use Rattle.coap_exchange.specs.declared.answerer.Due.{Due};
-    ghost use Rattle.coap_server.specs.ServerSide.ServerLed.{State as ServerState, Step};
-    ghost use Rattle.coap_server.specs.ServerSide.ServerTrace.{Feeds, Handling, NextOut, Ticks};
-    ghost use Rattle.coap_server.specs.ServerObject.ServerShown.{state_of};
-    ghost use Rattle.coap_server.specs.ServerTurns.ServerWork.{work as work_left};
+    ghost use Rattle.coap_server.specs.Led.{State as ServerState, Step};
+    ghost use Rattle.coap_server.specs.Trace.{Feeds, Handling, NextOut, Ticks};
+    ghost use Rattle.coap_server.specs.Object.Shown.{state_of};
+    ghost use Rattle.coap_server.specs.Turns.Work.{work as work_left};
 
     ghost State = { ServerState };
 

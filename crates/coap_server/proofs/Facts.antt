@@ -1,3 +1,3 @@
+pub mod EachCall
+pub mod Laws
 pub mod Sources
-pub mod OfServer
-pub mod OfServerCalls

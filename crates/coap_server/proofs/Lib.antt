@@ -1,6 +1,12 @@
 pub mod Facts
+pub mod Answering
+pub mod Calls
+pub mod Exact
+pub mod Holding
+pub mod Observing
 pub mod Progress
-pub mod Serving
 pub mod Replying
-pub mod ServerSide
-pub mod ServerCalls
+pub mod Rest
+pub mod Serving
+pub mod Telling
+pub mod Witness

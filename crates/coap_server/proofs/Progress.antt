@@ -1,5 +1,11 @@
 pub mod AnswererComing
 pub mod AnswererGoing
 pub mod AnswererTiming
+pub mod ExchangesGo
+pub mod GoesOn
+pub mod PathsCounted
 pub mod RequestsKept
-pub mod PathsAreCounted
+pub mod ResponsesSpelled
+pub mod StoreCountsPaths
+pub mod StoreReplies
+pub mod TokensShort

@@ -1,4 +1,10 @@
-pub mod ServerReplies
-pub mod ServerRepliesSo
+pub mod AskedInEntries
+pub mod GivenInOrder
 pub mod LayerSendsResponses
-pub mod Sources
+pub mod NoneContinues
+pub mod RefusalsAreErrors
+pub mod Replies
+pub mod RepliesAtOnce
+pub mod RepliesSo
+pub mod ResponsesHaveRequests
+pub mod Sourced

@@ -1,3 +1,13 @@
-pub mod ServedOnce
+pub mod BlocksTaken
+pub mod Brought
+pub mod FoundReady
+pub mod HandedAtMost
 pub mod HandedUpAsOften
-pub mod ServerWaiting
+pub mod MethodsServed
+pub mod Reads
+pub mod ServedNow
+pub mod ServedOnce
+pub mod ServedWasHandedUp
+pub mod TimesHanded
+pub mod Waiting
+pub mod WaitsByDelay

@@ -3,8 +3,8 @@
 
 mod limits;
 mod server;
-mod server_laws;
+mod laws;
 
 pub use limits::MAX_DELAYS;
 pub use server::{Applied, Delay, DelayRefusal, Server, give_delay};
-pub use server_laws::{server_law, server_runs};
+pub use laws::{server_law, server_runs};

@@ -27,14 +27,14 @@ ghost use Rattle.coap_resource.specs.Shown.{shown};
 ghost use Rattle.coap_resource.specs.declared.refusal.StoreRefusal.TheVariants as store_refusals;
 ghost use Rattle.coap_exchange.specs.declared.answerer.Asked.{Asked as AskedSpec};
 ghost use Rattle.coap_exchange.specs.declared.answerer.Due.{Due};
-ghost use Rattle.coap_server.specs.ServerSide.ServerDeferring.{delay_of, may_delay};
+ghost use Rattle.coap_server.specs.Deferring.{delay_of, may_delay};
 ghost use Rattle.coap_server.specs.declared.server.delaying.DelayRefusal.TheVariants as delay_refusals;
-ghost use Rattle.coap_server.specs.ServerSide.ServerLed.{Led, Step, fresh_state};
-ghost use Rattle.coap_server.specs.ServerSide.ServerTrace.{Call, Delays, Feeds, Gets, Handling, NextOut, Removes, Sets};
-ghost use Rattle.coap_server.specs.ServerSide.ServerTrace.{TellsApplied, Ticks};
-ghost use Rattle.coap_server.specs.ServerObject.ServerShown.{applied_list, kept_of, seen, state_of};
-ghost use Rattle.coap_server.specs.ServerTurns.ServerIdle.{IsIdle, moment};
-ghost use Rattle.coap_server.specs.ServerTurns.ServerWork.{work};
+ghost use Rattle.coap_server.specs.Led.{Led, Step, fresh_state};
+ghost use Rattle.coap_server.specs.Trace.{Call, Delays, Feeds, Gets, Handling, NextOut, Removes, Sets};
+ghost use Rattle.coap_server.specs.Trace.{TellsApplied, Ticks};
+ghost use Rattle.coap_server.specs.Object.Shown.{applied_list, kept_of, seen, state_of};
+ghost use Rattle.coap_server.specs.Turns.Idle.{IsIdle, moment};
+ghost use Rattle.coap_server.specs.Turns.Work.{work};
 
 use crate::server::delaying::set_delay_parts;
 use crate::server::handling::handle;
@@ -67,8 +67,8 @@ pub struct Server<
 }
 
 impl<S: Store<A>, A: Allocator + Copy, H: BuildHasher> Model for Server<S, A, H> {
-    ghost use Rattle.coap_server.specs.ServerObject.ServerShown.{Kept, kept_of, state_of};
-    ghost use Rattle.coap_server.specs.ServerTurns.ServerWork.{WasLed};
+    ghost use Rattle.coap_server.specs.Object.Shown.{Kept, kept_of, state_of};
+    ghost use Rattle.coap_server.specs.Turns.Work.{WasLed};
 
     ghost Value = { Kept S };
 

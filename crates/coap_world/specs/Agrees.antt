@@ -1,11 +1,11 @@
 -- What is promised of the record of a legal run.
 use Rattle.std.specs.Prelude.{List}
-use Rattle.coap_client.specs.ClientSide.ClientAnswered.{NoneAfter, ReportedOnce}
-use Rattle.coap_client.specs.ClientSide.ClientNumbers.{NumbersOnce}
-use Rattle.coap_client.specs.ClientSide.ClientOrder.{AreInOrder}
-use Rattle.coap_server.specs.ServerSide.Follows.ServerAnswers.{AllAttended, FirstIsAnswered}
-use Rattle.coap_server.specs.ServerSide.Follows.ServerServes.{ServedOnce}
-use Rattle.coap_server.specs.ServerSide.Follows.ServerWaits.{ReadyAreServed}
+use Rattle.coap_client.specs.Follows.Answered.{NoneAfter, ReportedOnce}
+use Rattle.coap_client.specs.Follows.Numbers.{NumbersOnce}
+use Rattle.coap_client.specs.Follows.Order.{AreInOrder}
+use Rattle.coap_server.specs.Follows.Attended.{AllAttended, FirstIsAnswered}
+use Rattle.coap_server.specs.Follows.Serves.{ServedOnce}
+use Rattle.coap_server.specs.Follows.Waits.{ReadyAreServed}
 use Rattle.coap_world.specs.Applied.{EachBelongs, AppliedWhole, AtMostOnce}
 use Rattle.coap_world.specs.Answers.{AllAnswered}
 use Rattle.coap_world.specs.Events.{server_end, Config}
@@ -17,9 +17,9 @@ use Rattle.coap_world.specs.Noticed.{AllNoticed}
 use Rattle.coap_world.specs.Record.{Entry, client_of, server_trace}
 use Rattle.coap_world.specs.Rising.{HeldAreNamed, ValuesRise}
 use Rattle.coap_world.specs.Serves.{AllServed}
-use Rattle.coap_client.specs.ClientSide.ClientCodes.{ReportsCodes}
-use Rattle.coap_client.specs.ClientSide.ClientEnds.{AllEnds}
-use Rattle.coap_client.specs.ClientSide.ClientTaken.{AllTaken}
+use Rattle.coap_client.specs.Follows.Codes.{ReportsCodes}
+use Rattle.coap_client.specs.Follows.Ends.{AllEnds}
+use Rattle.coap_client.specs.Follows.Taken.{AllTaken}
 use Rattle.coap_world.specs.Done.{OnceDone, NeverFailed}
 
 module _ (config : Config) where

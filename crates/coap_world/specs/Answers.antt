@@ -8,19 +8,19 @@ use Rattle.coap_observe.specs.Observers.{Observer}
 use Rattle.coap_resource.specs.Serves.{Reply}
 use Rattle.coap_exchange.specs.declared.answerer.Asked.{Asked}
 use Rattle.coap_exchange.specs.AnswererTrace as E
-use Rattle.coap_client.specs.ClientSide.ClientWords.{hears}
-use Rattle.coap_server.specs.ServerSide.ServerChecks.{Verdict}
-use Rattle.coap_server.specs.ServerSide.ServerLaw.{own_of}
-use Rattle.coap_server.specs.ServerSide.ServerNotifying.{notification}
-use Rattle.coap_server.specs.ServerSide.ServerResponses.{response_with, bare}
-use Rattle.coap_server.specs.ServerSide.ServerUploads.{continuing, last_block}
-use Rattle.coap_server.specs.ServerSide.Follows.ServerBrings.{Comes}
-use Rattle.coap_server.specs.ServerSide.Follows.ServerGives.{refusal_in, size_in, NoticeOf}
-use Rattle.coap_server.specs.ServerSide.Follows.ServerObserves.{WasMade}
-use Rattle.coap_server.specs.ServerSide.Follows.ServerServes.{Serving, serving, hands}
-use Rattle.coap_server.specs.ServerSide.Follows.ServerShows.{notice_in}
-use Rattle.coap_server.specs.ServerSide.Follows.ServerTakes.{Took, takes_block}
-use Rattle.coap_server.specs.ServerSide.ServerTrace as S
+use Rattle.coap_client.specs.Follows.Words.{hears}
+use Rattle.coap_server.specs.Checks.{Verdict}
+use Rattle.coap_server.specs.Law.{own_of}
+use Rattle.coap_server.specs.Notifying.{notification}
+use Rattle.coap_server.specs.Responses.{response_with, bare}
+use Rattle.coap_server.specs.Uploads.{continuing, last_block}
+use Rattle.coap_server.specs.Follows.Brings.{Comes}
+use Rattle.coap_server.specs.Follows.Gives.{refusal_in, size_in, NoticeOf}
+use Rattle.coap_server.specs.Follows.Observes.{WasMade}
+use Rattle.coap_server.specs.Follows.Serves.{Serving, serving, hands}
+use Rattle.coap_server.specs.Follows.Shows.{notice_in}
+use Rattle.coap_server.specs.Follows.Takes.{Took, takes_block}
+use Rattle.coap_server.specs.Trace as S
 use Rattle.coap_world.specs.Events.{client_end, Config}
 use Rattle.coap_world.specs.Record.{Entry, OfClient, OfServer, server_trace}
 

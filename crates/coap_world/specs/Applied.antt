@@ -7,10 +7,10 @@ use Rattle.coap_types.specs.declared.request.Method.{Method}
 use Rattle.coap_types.specs.declared.request.Method.TheVariants.{Get, Post, Put, Delete}
 use Rattle.coap_resource.specs.Content.{Held}
 use Rattle.coap_resource.specs.RequestOptions.{precondition_fails}
-use Rattle.coap_client.specs.ClientSide.ClientRequests.{flag_option}
-use Rattle.coap_client.specs.ClientSide.ClientTrace.{Request}
-use Rattle.coap_server.specs.ServerSide.ServerServing.{is_applied}
-use Rattle.coap_server.specs.ServerSide.Follows.ServerServes.{Serving}
+use Rattle.coap_client.specs.Requests.{flag_option}
+use Rattle.coap_client.specs.Trace.{Request}
+use Rattle.coap_server.specs.Serving.{is_applied}
+use Rattle.coap_server.specs.Follows.Serves.{Serving}
 use Rattle.coap_world.specs.Events.{client_end, Config}
 use Rattle.coap_world.specs.Record.{Entry}
 use Rattle.coap_world.specs.Words.{WasCalled, SentFor, ServesAt, AppliesFor, holds_at, changes_in}

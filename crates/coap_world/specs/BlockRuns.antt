@@ -1,8 +1,8 @@
 -- Legal runs with bodies of several blocks, with the datagrams that the ends give out in them (RFC 7959). Each is the
 -- newest event, or datagram, first.
 use Rattle.std.specs.Prelude.{ℕ, Some, None, List, [], ◌∷◌, ◌++◌, codes}
-use Rattle.coap_client.specs.ClientSide.ClientTrace.{Request, Body, Done}
-use Rattle.coap_both.specs.SuccessCodes.{created}
+use Rattle.coap_client.specs.Trace.{Request, Body, Done}
+use Rattle.coap_common.specs.SuccessCodes.{created}
 use Rattle.coap_world.specs.Events.{client_end, Config, Calls, TickClient, Deliver}
 use Rattle.coap_world.specs.Events.{Event}
 use Rattle.coap_world.specs.LegalEvents.{event}

@@ -7,9 +7,9 @@ use Rattle.coap_types.specs.declared.request.Method.{Method}
 use Rattle.coap_types.specs.declared.request.Method.TheVariants.{Get, Post, Put, Delete}
 use Rattle.coap_block.specs.declared.fetch_judging.TheConstants.{MAX_RESTARTS as max_restarts}
 use Rattle.coap_resource.specs.Content.{Held}
-use Rattle.coap_client.specs.ClientSide.ClientBounds.{max_blocks, most_requests, requests}
-use Rattle.coap_client.specs.ClientSide.ClientTrace.{Request}
-use Rattle.coap_client.specs.ClientSide.ClientWords.{Taken, WasTaken}
+use Rattle.coap_client.specs.Follows.Bounds.{max_blocks, most_requests, requests}
+use Rattle.coap_client.specs.Trace.{Request}
+use Rattle.coap_client.specs.Follows.Words.{Taken, WasTaken}
 use Rattle.coap_world.specs.Events.{Config}
 use Rattle.coap_world.specs.Record.{Entry, client_of}
 use Rattle.coap_world.specs.Words.{last_at}

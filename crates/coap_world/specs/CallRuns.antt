@@ -6,9 +6,9 @@ use Rattle.coap_types.specs.Past.{Ever}
 use Rattle.coap_types.specs.declared.request.Method.TheVariants.{Post}
 use Rattle.coap_resource.specs.declared.refusal.StoreRefusal.{StoreRefusal}
 use Rattle.coap_resource.specs.declared.refusal.StoreRefusal.TheVariants.{RateExceeded}
-use Rattle.coap_client.specs.ClientSide.ClientTrace.{Request, Report, Reported, Body, Valid, Done, Value}
-use Rattle.coap_server.specs.ServerSide.ServerTrace as S
-use Rattle.coap_both.specs.SuccessCodes.{created, changed, deleted}
+use Rattle.coap_client.specs.Trace.{Request, Report, Reported, Body, Valid, Done, Value}
+use Rattle.coap_server.specs.Trace as S
+use Rattle.coap_common.specs.SuccessCodes.{created, changed, deleted}
 use Rattle.coap_world.specs.Events.{client_end, Config, Calls, Observes, Forgets, Sets, Removes, TickClient, TickServer}
 use Rattle.coap_world.specs.Events.{Deliver, StrangerToServer, Event}
 use Rattle.coap_world.specs.LegalEvents.{event}

@@ -10,10 +10,10 @@ use Rattle.coap_layer.specs.Words.{Open, begun}
 use Rattle.coap_exchange.specs.declared.answerer.Asked.{Asked}
 use Rattle.coap_exchange.specs.AskerRequests.{content_of}
 use Rattle.coap_exchange.specs.AnswererSteps.{asked_of}
-use Rattle.coap_client.specs.ClientSide.ClientBegins.{WasSent, IsRequestOf}
-use Rattle.coap_client.specs.ClientSide.ClientWords.{Sending}
-use Rattle.coap_server.specs.ServerSide.ServerChecks.{Verdict, verdict_on}
-use Rattle.coap_server.specs.ServerSide.Follows.ServerBrings.{Comes}
+use Rattle.coap_client.specs.Follows.Begins.{WasSent, IsRequestOf}
+use Rattle.coap_client.specs.Follows.Words.{Sending}
+use Rattle.coap_server.specs.Checks.{Verdict, verdict_on}
+use Rattle.coap_server.specs.Follows.Brings.{Comes}
 use Rattle.coap_world.specs.Events.{client_end, server_end, Config}
 use Rattle.coap_world.specs.Hops.{hops_at, hops_in}
 use Rattle.coap_world.specs.Record.{Entry, OfClient, OfServer, client_of, server_trace}

@@ -6,8 +6,8 @@ use Rattle.coap_world.specs.Legal.{max_delivery}
 use Rattle.coap_world.specs.Record.{Given, Entry, OfClient, OfServer, Turn, given_in}
 use Rattle.coap_types.specs.Past.{Ever, Always, all_of}
 use Rattle.coap_world.specs.Events.{client_end, server_end}
-use Rattle.coap_client.specs.ClientSide.ClientTrace as C
-use Rattle.coap_server.specs.ServerSide.ServerTrace as S
+use Rattle.coap_client.specs.Trace as C
+use Rattle.coap_server.specs.Trace as S
 
 pub record GaveOut (from to : Endpoint) (bytes : List ℕ) (when : ℕ) (g : Given) : Type 0 where
   pub packet : g.packet ≡ record { to = to; bytes = bytes }

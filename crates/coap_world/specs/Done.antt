@@ -2,7 +2,7 @@
 -- 5.8 and 5.9).
 use Rattle.std.specs.Prelude.{ℕ, List}
 use Rattle.coap_types.specs.Past.{Sometime, Always}
-use Rattle.coap_client.specs.ClientSide.ClientTrace.{Request, Done, Failed}
+use Rattle.coap_client.specs.Trace.{Request, Done, Failed}
 use Rattle.coap_world.specs.Events.{Config}
 use Rattle.coap_world.specs.Record.{Entry}
 use Rattle.coap_world.specs.Words.{ReportsAt, WasCalled, AppliesFor}

@@ -2,8 +2,8 @@
 -- 7641; RFC 7959).
 use Rattle.std.specs.Prelude.{ℕ, List, [], ◌∷◌, Option}
 use Rattle.coap_types.specs.declared.endpoint.Endpoint.{Endpoint}
-use Rattle.coap_client.specs.ClientSide.ClientTrace.{Request}
-use Rattle.coap_server.specs.ServerSide.ServerTrace.{Delay}
+use Rattle.coap_client.specs.Trace.{Request}
+use Rattle.coap_server.specs.Trace.{Delay}
 
 -- the addresses of the ends
 abbrev pub localhost : List ℕ

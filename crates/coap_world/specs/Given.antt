@@ -1,7 +1,7 @@
 -- Which reports are taken in a record.
 use Rattle.std.specs.Prelude.{◌≡◌, List, []}
-use Rattle.coap_client.specs.ClientSide.ClientGives.{given, made}
-use Rattle.coap_client.specs.ClientSide.ClientLaw.{own_of}
+use Rattle.coap_client.specs.Follows.Gives.{given, made}
+use Rattle.coap_client.specs.Law.{own_of}
 use Rattle.coap_world.specs.Events.{Config}
 use Rattle.coap_world.specs.Record.{Entry, client_of}
 

@@ -5,8 +5,8 @@ use Rattle.coap_types.specs.Past.{Ever, Sometime, Always}
 use Rattle.coap_observe.specs.Versions.{sequence_number}
 use Rattle.coap_resource.specs.Content.{Held}
 use Rattle.coap_resource.specs.RequestOptions.{tag_of}
-use Rattle.coap_client.specs.ClientSide.ClientOfObservations as C
-use Rattle.coap_client.specs.ClientSide.ClientTrace.{Request, Body, Valid, Value}
+use Rattle.coap_client.specs.Follows.OfObservations as C
+use Rattle.coap_client.specs.Trace.{Request, Body, Valid, Value}
 use Rattle.coap_world.specs.Events.{Config}
 use Rattle.coap_world.specs.Record.{Entry, client_of}
 use Rattle.coap_world.specs.Words.{ReportsAt, WasCalled, last_at}

@@ -8,14 +8,14 @@ use Rattle.coap_world.specs.Record.{Given, Entry, OfClient, OfServer, client_of,
 use Rattle.coap_world.specs.Record.{entries_of}
 use Rattle.coap_layer.specs.Machine.State.{start}
 use Rattle.coap_layer.specs.Machine.Steps.{Asked, left_after, entries}
-use Rattle.coap_both.specs.Adds.{asked_by_server}
+use Rattle.coap_common.specs.Adds.{asked_by_server}
 use Rattle.coap_layer.specs.Trace as L
 use Rattle.coap_exchange.specs.AnswererLaw as answerer
-use Rattle.coap_client.specs.ClientSide.ClientAdds as adds
-use Rattle.coap_client.specs.ClientSide.ClientTrace as C
-use Rattle.coap_server.specs.ServerSide.ServerAsks as asks
-use Rattle.coap_server.specs.ServerSide.ServerLaw as server
-use Rattle.coap_server.specs.ServerSide.ServerTrace as S
+use Rattle.coap_client.specs.Follows.Adds as adds
+use Rattle.coap_client.specs.Trace as C
+use Rattle.coap_server.specs.Asks as asks
+use Rattle.coap_server.specs.Law as server
+use Rattle.coap_server.specs.Trace as S
 
 -- the same hops, with the server's layer as the near one
 abbrev pub across : List Hop → List Hop

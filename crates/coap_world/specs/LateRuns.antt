@@ -3,8 +3,8 @@
 use Rattle.std.specs.Prelude.{◌≡◌, ℕ, Some, None, List, [], ◌∷◌, ◌++◌, codes}
 use Rattle.coap_types.specs.Past.{Sometime}
 use Rattle.coap_types.specs.declared.message.TheConstants.Code.{CONTINUE}
-use Rattle.coap_client.specs.ClientSide.ClientTrace.{Request, Timeout, Done, Reported}
-use Rattle.coap_both.specs.SuccessCodes.{created, changed}
+use Rattle.coap_client.specs.Trace.{Request, Timeout, Done, Reported}
+use Rattle.coap_common.specs.SuccessCodes.{created, changed}
 use Rattle.coap_world.specs.Events.{client_end, Config, Calls, TickClient, Deliver, Event}
 use Rattle.coap_world.specs.LegalEvents.{event}
 use Rattle.coap_world.specs.LegalRuns.{from_client, from_server, Runs, reported, Reports, Holds, t, put}

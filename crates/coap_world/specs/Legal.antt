@@ -7,9 +7,9 @@ use Rattle.coap_types.specs.Bytes.{AreBytes}
 use Rattle.coap_types.specs.EntityTag.{AreTags}
 use Rattle.coap_types.specs.Past.{Always}
 use Rattle.coap_types.specs.Path.{IsPath}
-use Rattle.coap_client.specs.ClientSide.ClientTrace.{Request}
+use Rattle.coap_client.specs.Trace.{Request}
 use Rattle.coap_server.specs.declared.limits.TheConstants.{MAX_DELAYS as max_delays}
-use Rattle.coap_server.specs.ServerSide.ServerTrace.{Delay}
+use Rattle.coap_server.specs.Trace.{Delay}
 use Rattle.coap_resource.specs.declared.tally.TheConstants.{MAX_CHANGES_PER_WINDOW as max_changes}
 use Rattle.coap_world.specs.Record.{Given, Turn, IsNumber}
 use Rattle.coap_world.specs.Events.{client_end, server_end, Config, What, Calls, Observes, Cancels, Forgets, Sets}

@@ -9,7 +9,7 @@ use Rattle.coap_types.specs.EntityTag.{AreTags}
 use Rattle.coap_world.specs.Events.{client_end, server_end, Config, What, Calls, Observes, Cancels, Forgets, Sets}
 use Rattle.coap_world.specs.Events.{Removes, TickClient, TickServer, Deliver, StrangerToServer, StrangerToClient, Event}
 use Rattle.coap_types.specs.Bytes.{AreBytes}
-use Rattle.coap_client.specs.ClientSide.ClientTrace.{Request}
+use Rattle.coap_client.specs.Trace.{Request}
 use Rattle.coap_world.specs.Legal.{IsLegal, AllLegal}
 use Rattle.coap_world.specs.Record.{Given, Turn, RecordOf, IsNumber}
 

@@ -6,9 +6,9 @@ use Rattle.coap_types.specs.declared.endpoint.Endpoint.{Endpoint}
 use Rattle.coap_types.specs.declared.message.TheConstants.Code.{PRECONDITION_FAILED}
 use Rattle.coap_types.specs.declared.request.Method.TheVariants.{Get, Post, Put, Delete}
 use Rattle.coap_resource.specs.declared.tally.TheConstants.{MAX_CHANGES_PER_WINDOW as max_changes}
-use Rattle.coap_client.specs.ClientSide.ClientTrace.{Request, Report, Body, Failed, Timeout, Reported}
-use Rattle.coap_client.specs.ClientSide.ClientGives as C
-use Rattle.coap_server.specs.ServerSide.ServerTrace.{Delay}
+use Rattle.coap_client.specs.Trace.{Request, Report, Body, Failed, Timeout, Reported}
+use Rattle.coap_client.specs.Follows.Gives as C
+use Rattle.coap_server.specs.Trace.{Delay}
 use Rattle.coap_world.specs.Events.{client_end, server_end, localhost, Config, What, Calls, Sets, TickClient}
 use Rattle.coap_world.specs.Events.{TickServer, Deliver}
 use Rattle.coap_world.specs.Events.{StrangerToServer, StrangerToClient, Event}

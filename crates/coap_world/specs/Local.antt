@@ -5,8 +5,8 @@ use Rattle.coap_types.specs.Past.{Always}
 use Rattle.coap_resource.specs.Content.{put_refusal}
 use Rattle.coap_resource.specs.Rate.{rate_refusal}
 use Rattle.coap_resource.specs.declared.refusal.StoreRefusal.{StoreRefusal}
-use Rattle.coap_server.specs.ServerSide.ServerTrace as S
-use Rattle.coap_server.specs.ServerSide.ServerLaw.{own_of}
+use Rattle.coap_server.specs.Trace as S
+use Rattle.coap_server.specs.Law.{own_of}
 use Rattle.coap_world.specs.Events.{Config}
 use Rattle.coap_world.specs.Record.{Entry, OfServer, server_trace}
 use Rattle.coap_world.specs.Words.{holds_at, changes_in}

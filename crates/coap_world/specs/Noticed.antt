@@ -3,7 +3,7 @@
 use Rattle.std.specs.Prelude.{◌≡◌, Some, List}
 use Rattle.coap_types.specs.Past.{Sometime, Always}
 use Rattle.coap_codec.specs.Message.{Message}
-use Rattle.coap_client.specs.ClientSide.ClientNotified.{notes}
+use Rattle.coap_client.specs.Follows.Notified.{notes}
 use Rattle.coap_world.specs.Answers.{AnswersAt}
 use Rattle.coap_world.specs.Events.{Config}
 use Rattle.coap_world.specs.Record.{Entry, OfClient, OfServer}

@@ -1,7 +1,7 @@
 -- Legal runs with observations, with the datagrams that the ends give out in them (RFC 7641). Each is the newest event,
 -- or datagram, first.
 use Rattle.std.specs.Prelude.{ℕ, Some, List, [], ◌∷◌, ◌++◌, codes}
-use Rattle.coap_client.specs.ClientSide.ClientTrace.{Value, Cancelled}
+use Rattle.coap_client.specs.Trace.{Value, Cancelled}
 use Rattle.coap_world.specs.Events.{client_end, Observes, Cancels, TickClient, TickServer, Deliver}
 use Rattle.coap_world.specs.Events.{StrangerToServer, Event}
 use Rattle.coap_world.specs.LegalEvents.{event}

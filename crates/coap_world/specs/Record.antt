@@ -3,12 +3,12 @@ use Rattle.std.specs.Prelude.{◌≡◌, ◌⊎◌, ℕ, Bool, true, false, Opti
 use Rattle.coap_types.specs.Past.{Always, Sometime, all_of}
 use Rattle.coap_types.specs.declared.endpoint.Endpoint.{Endpoint}
 use Rattle.coap_layer.specs.Trace.{Packet}
-use Rattle.coap_client.specs.ClientSide.ClientLaw.{ClientLaw}
-use Rattle.coap_server.specs.ServerSide.ServerLaw.{ServerLaw}
+use Rattle.coap_client.specs.Law.{ClientLaw}
+use Rattle.coap_server.specs.Law.{ServerLaw}
 use Rattle.coap_world.specs.Events.{client_end, server_end, Config, What, Calls, Observes, Cancels, Forgets, Sets}
 use Rattle.coap_world.specs.Events.{Removes, TickClient, TickServer, Deliver, StrangerToClient, StrangerToServer, Event}
-use Rattle.coap_client.specs.ClientSide.ClientTrace as C
-use Rattle.coap_server.specs.ServerSide.ServerTrace as S
+use Rattle.coap_client.specs.Trace as C
+use Rattle.coap_server.specs.Trace as S
 
 -- a datagram that an end gave out
 pub record Given : Type 0 where

@@ -1,7 +1,7 @@
 -- A legal run in which an upload in blocks is refused by its precondition, with the datagrams that the ends give out in
 -- it (RFC 7252, section 5.10.8.1; RFC 7959, section 2.5). Each is the newest event, or datagram, first.
 use Rattle.std.specs.Prelude.{ℕ, Some, None, List, [], ◌∷◌, ◌++◌, codes}
-use Rattle.coap_client.specs.ClientSide.ClientTrace.{Request, Failed}
+use Rattle.coap_client.specs.Trace.{Request, Failed}
 use Rattle.coap_world.specs.Events.{client_end, Calls, TickClient, Deliver, Event}
 use Rattle.coap_world.specs.LegalEvents.{event}
 use Rattle.coap_world.specs.LegalRuns.{from_client, from_server, Runs, reported, Reports, Holds, tag, plain, t, hi, put}

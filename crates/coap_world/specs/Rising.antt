@@ -3,7 +3,7 @@ use Rattle.std.specs.Prelude.{◌≡◌, ◌<◌, ◌^◌, ℕ, Option, Some, Li
 use Rattle.coap_types.specs.Past.{Sometime, Always}
 use Rattle.coap_resource.specs.Content.{Held}
 use Rattle.coap_resource.specs.RequestOptions.{tag_of}
-use Rattle.coap_client.specs.ClientSide.ClientTrace.{Value}
+use Rattle.coap_client.specs.Trace.{Value}
 use Rattle.coap_world.specs.Events.{Config}
 use Rattle.coap_world.specs.Record.{Entry}
 use Rattle.coap_world.specs.Words.{ReportsAt, last_at}

@@ -6,12 +6,12 @@ use Rattle.coap_resource.specs.RequestOptions.{precondition_fails}
 use Rattle.coap_resource.specs.Serves.{Question}
 use Rattle.coap_resource.specs.Serves as R
 use Rattle.coap_exchange.specs.declared.answerer.Asked.{Asked}
-use Rattle.coap_server.specs.ServerSide.Follows.ServerBrings.{Brings}
-use Rattle.coap_server.specs.ServerSide.Follows.ServerServes.{Serving}
-use Rattle.coap_server.specs.ServerSide.Follows.ServerTable.{MethodsHere, UploadsHere}
-use Rattle.coap_server.specs.ServerSide.ServerLaw.{own_of}
-use Rattle.coap_server.specs.ServerSide.ServerServing.{is_applied}
-use Rattle.coap_server.specs.ServerSide.ServerTrace.{Own}
+use Rattle.coap_server.specs.Follows.Brings.{Brings}
+use Rattle.coap_server.specs.Follows.Serves.{Serving}
+use Rattle.coap_server.specs.Follows.Table.{MethodsHere, UploadsHere}
+use Rattle.coap_server.specs.Law.{own_of}
+use Rattle.coap_server.specs.Serving.{is_applied}
+use Rattle.coap_server.specs.Trace.{Own}
 use Rattle.coap_world.specs.Events.{Config}
 use Rattle.coap_world.specs.Record.{Entry, OfClient, OfServer, server_trace}
 use Rattle.coap_world.specs.Words.{ServesAt, holds_at}

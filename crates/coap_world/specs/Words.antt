@@ -2,16 +2,16 @@
 -- holds.
 use Rattle.std.specs.Prelude.{◌≡◌, ℕ, true, Option, Some, List}
 use Rattle.coap_resource.specs.Content.{Held}
-use Rattle.coap_client.specs.ClientSide.ClientTrace.{Request, Reported}
-use Rattle.coap_client.specs.ClientSide.ClientSteps.{reports}
-use Rattle.coap_client.specs.ClientSide.ClientBegins.{WasSent}
-use Rattle.coap_client.specs.ClientSide.ClientLaw as C
-use Rattle.coap_client.specs.ClientSide.ClientOrder.{call_of}
-use Rattle.coap_client.specs.ClientSide.ClientWords.{Sending, WasTaken}
-use Rattle.coap_server.specs.ServerSide.ServerLaw.{own_of}
-use Rattle.coap_server.specs.ServerSide.ServerServing.{is_applied}
-use Rattle.coap_server.specs.ServerSide.Follows.ServerHolds.{held_at, changes}
-use Rattle.coap_server.specs.ServerSide.Follows.ServerServes.{Serving, serving}
+use Rattle.coap_client.specs.Trace.{Request, Reported}
+use Rattle.coap_client.specs.Steps.{reports}
+use Rattle.coap_client.specs.Follows.Begins.{WasSent}
+use Rattle.coap_client.specs.Law as C
+use Rattle.coap_client.specs.Follows.Order.{call_of}
+use Rattle.coap_client.specs.Follows.Words.{Sending, WasTaken}
+use Rattle.coap_server.specs.Law.{own_of}
+use Rattle.coap_server.specs.Serving.{is_applied}
+use Rattle.coap_server.specs.Follows.Holds.{held_at, changes}
+use Rattle.coap_server.specs.Follows.Serves.{Serving, serving}
 use Rattle.coap_world.specs.Events.{client_end, Config}
 use Rattle.coap_world.specs.Record.{Entry, OfClient, OfServer, client_of, server_trace}
 

@@ -1,8 +1,8 @@
 ghost use Rattle.std.specs.Prelude.{◌≡◌, List};
 ghost use Rattle.coap_types.specs.declared.transmission.TheConstants.{MAX_LATENCY_MS as max_latency};
 ghost use Rattle.coap_layer.specs.Channel.{ChannelLaw, near_of, far_of};
-ghost use Rattle.coap_client.specs.ClientSide.ClientLaw as clients;
-ghost use Rattle.coap_server.specs.ServerSide.ServerLaw as servers;
+ghost use Rattle.coap_client.specs.Law as clients;
+ghost use Rattle.coap_server.specs.Law as servers;
 ghost use Rattle.coap_world.specs.Applied.{AppliedWhole, AtMostOnce, EachBelongs};
 ghost use Rattle.coap_world.specs.Agrees.{Agrees};
 ghost use Rattle.coap_world.specs.Answers.{AllAnswered};

@@ -15,7 +15,7 @@ use Rattle.coap_exchange.specs.AskerRequests as Q
 use Rattle.coap_exchange.specs.AskerArrivals as R
 use Rattle.coap_exchange.specs.AskerSteps as P
 use Rattle.coap_exchange.specs.AskerLaw as W
-use Rattle.coap_client.specs.Follows.ClientSendings.{SendsNon, NoNons}
+use Rattle.coap_client.specs.Follows.Sendings.{SendsNon, NoNons}
 
 abbrev AsksNon : Asked → Type 0
 AsksNon a = (to : Endpoint) × (content : L.Content) × (a.call ≡ L.Plain to content)

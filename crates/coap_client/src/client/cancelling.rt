@@ -1,10 +1,10 @@
 //! How an observation is cancelled (RFC 7641, section 3.6).
 ghost use Rattle.coap_exchange.specs.AskerLaw as X;
-ghost use Rattle.coap_client.specs.ClientSide.ClientStep.{Step};
-ghost use Rattle.coap_client.specs.ClientSide.ClientTrace.{Cancels};
-ghost use Rattle.coap_client.specs.ClientObject.ClientHappens.{left};
-ghost use Rattle.coap_client.specs.ClientObject.ClientHeld.{own_of};
-ghost use Rattle.coap_client.specs.ClientObject.CallAnswers.{refusal_in};
+ghost use Rattle.coap_client.specs.Led.{Step};
+ghost use Rattle.coap_client.specs.Trace.{Cancels};
+ghost use Rattle.coap_client.specs.Object.Happens.{left};
+ghost use Rattle.coap_client.specs.Object.Held.{own_of};
+ghost use Rattle.coap_client.specs.Object.CallAnswers.{refusal_in};
 
 use crate::client::held::Held;
 use crate::client::observed::{is_cancelled, is_live};

@@ -2,15 +2,15 @@
 ghost use Rattle.std.specs.Prelude.{◌≡◌, ◌<◌, ◌≤◌, Some};
 ghost use Rattle.std.specs.Option.{option_map};
 ghost use Rattle.std.specs.VecDeque.{deque_len, deque_capacity};
-ghost use Rattle.coap_client.specs.ClientSide.ClientEffects.{ends, held_by, of};
-ghost use Rattle.coap_client.specs.ClientSide.ClientObserving.{is_over, releases};
-ghost use Rattle.coap_client.specs.ClientSide.ClientOwn.{Operation as Op, operation_number};
-ghost use Rattle.coap_client.specs.ClientSide.ClientObservations.{observation_of, over};
-ghost use Rattle.coap_client.specs.ClientSide.ClientPlaces.{in_observations};
-ghost use Rattle.coap_client.specs.ClientSide.ClientSteps.{reporting};
-ghost use Rattle.coap_client.specs.ClientObject.ClientHappens.{failing, left, releasing, Apart, IsDone, Closes};
-ghost use Rattle.coap_client.specs.ClientObject.ClientHeld.{own_of};
-ghost use Rattle.coap_client.specs.ClientObject.ClientShown.{shown_asked, shown_operation, shown_report};
+ghost use Rattle.coap_client.specs.Effects.{ends, held_by, of};
+ghost use Rattle.coap_client.specs.Observing.{is_over, releases};
+ghost use Rattle.coap_client.specs.Own.{Operation as Op, operation_number};
+ghost use Rattle.coap_client.specs.Observations.{observation_of, over};
+ghost use Rattle.coap_client.specs.Follows.Places.{in_observations};
+ghost use Rattle.coap_client.specs.Steps.{reporting};
+ghost use Rattle.coap_client.specs.Object.Happens.{failing, left, releasing, Apart, IsDone, Closes};
+ghost use Rattle.coap_client.specs.Object.Held.{own_of};
+ghost use Rattle.coap_client.specs.Object.Shown.{shown_asked, shown_operation, shown_report};
 
 use crate::client::held::Held;
 use crate::client::observations;

@@ -1,11 +1,11 @@
 //! A Block2 transfer of a call, and of an observation (RFC 7959, sections 2.4 and 2.6).
 ghost use Rattle.std.specs.Prelude.{◌≡◌, ℕ, IfOk, OnErr, Some};
-ghost use Rattle.coap_client.specs.ClientSide.ClientCalls.{got, fetched};
-ghost use Rattle.coap_client.specs.ClientSide.ClientReports.{refused};
-ghost use Rattle.coap_client.specs.ClientSide.ClientResponses.{format_in, part, tag_in};
-ghost use Rattle.coap_client.specs.ClientObject.CallShown.{shown_request};
-ghost use Rattle.coap_client.specs.ClientObject.ClientShown.{shown_report};
-ghost use Rattle.coap_client.specs.ClientObject.ClientSteps.{HearsFetch};
+ghost use Rattle.coap_client.specs.Calls.{got, fetched};
+ghost use Rattle.coap_client.specs.Reports.{refused};
+ghost use Rattle.coap_client.specs.Responses.{format_in, part, tag_in};
+ghost use Rattle.coap_client.specs.Object.CallShown.{shown_request};
+ghost use Rattle.coap_client.specs.Object.Shown.{shown_report};
+ghost use Rattle.coap_client.specs.Object.AnswerSteps.{HearsFetch};
 
 use crate::client::heard::Heard;
 use crate::client::report::{Fetched, Report};

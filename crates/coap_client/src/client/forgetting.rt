@@ -1,11 +1,11 @@
 //! How an observation is forgotten (RFC 7641, section 3.6).
 ghost use Rattle.std.specs.Prelude.{◌≡◌, ◌==◌, Bool, not, filter, map};
-ghost use Rattle.coap_client.specs.ClientSide.ClientQueue.{may_forget};
-ghost use Rattle.coap_client.specs.ClientSide.ClientStep.{Step};
-ghost use Rattle.coap_client.specs.ClientSide.ClientTrace.{Forgets};
-ghost use Rattle.coap_client.specs.ClientObject.ClientHappens.{Apart, left};
-ghost use Rattle.coap_client.specs.ClientObject.ClientHeld.{own_of};
-ghost use Rattle.coap_client.specs.ClientObject.ClientShown.{shown_reported};
+ghost use Rattle.coap_client.specs.Queue.{may_forget};
+ghost use Rattle.coap_client.specs.Led.{Step};
+ghost use Rattle.coap_client.specs.Trace.{Forgets};
+ghost use Rattle.coap_client.specs.Object.Happens.{Apart, left};
+ghost use Rattle.coap_client.specs.Object.Held.{own_of};
+ghost use Rattle.coap_client.specs.Object.Shown.{shown_reported};
 
 use crate::client::failing::leave;
 use crate::client::held::Held;

@@ -1,13 +1,13 @@
 //! What a datagram makes of a client (RFC 7252, sections 4.2, 5.2 and 5.3.2).
 ghost use Rattle.std.specs.Prelude.{◌≡◌, ◌<◌, ℕ, true, None, Some, IfOk, IsOk, IsSome, OnOk, OnErr};
 ghost use Rattle.std.specs.VecDeque.{deque_len, deque_capacity};
-ghost use Rattle.coap_client.specs.ClientSide.ClientCalls.{answer};
-ghost use Rattle.coap_client.specs.ClientSide.ClientEffects.{runs};
-ghost use Rattle.coap_client.specs.ClientSide.ClientEvents.{answered, called, failed, happened};
-ghost use Rattle.coap_client.specs.ClientSide.ClientOwn.{Calling, Transfer, clocked};
-ghost use Rattle.coap_client.specs.ClientObject.ClientHappens.{Apart, Comes, Happens, Watched, left, running};
-ghost use Rattle.coap_client.specs.ClientObject.ClientHeld.{own_of};
-ghost use Rattle.coap_client.specs.ClientObject.ClientShown.{shown_asked, shown_report};
+ghost use Rattle.coap_client.specs.Calls.{answer};
+ghost use Rattle.coap_client.specs.Effects.{runs};
+ghost use Rattle.coap_client.specs.Events.{answered, called, failed, happened};
+ghost use Rattle.coap_client.specs.Own.{Calling, Transfer, clocked};
+ghost use Rattle.coap_client.specs.Object.Happens.{Apart, Comes, Happens, Watched, left, running};
+ghost use Rattle.coap_client.specs.Object.Held.{own_of};
+ghost use Rattle.coap_client.specs.Object.Shown.{shown_asked, shown_report};
 
 use crate::client::failing::{close, end_call, end_observation, fail};
 use crate::client::heard::Heard;

@@ -1,6 +1,6 @@
 ghost use Rattle.std.specs.Prelude.{◌≡◌};
-ghost use Rattle.coap_client.specs.ClientSide.ClientOwn.{start};
-ghost use Rattle.coap_client.specs.ClientObject.ClientHeld.{own_of};
+ghost use Rattle.coap_client.specs.Own.{start};
+ghost use Rattle.coap_client.specs.Object.Held.{own_of};
 
 use crate::client::operation::ClientOperations;
 use crate::client::report::{CallId, Report};

@@ -1,9 +1,9 @@
 //! Whether a client takes a call, an observation or a cancel.
 ghost use Rattle.std.specs.Prelude.{◌≡◌, ◌≢◌, ◌<◌, ◌^◌, ◌-◌, false, length, Err, IfOk, OnOk};
 ghost use Rattle.coap_client.specs.declared.refusals.CallRefusal.TheVariants as refusals;
-ghost use Rattle.coap_client.specs.ClientSide.ClientQueue.{call_answer, observe_answer, taken_by};
-ghost use Rattle.coap_client.specs.ClientObject.CallShown.{is_long, is_long_path, shown_request};
-ghost use Rattle.coap_client.specs.ClientObject.ClientHeld.{own_of};
+ghost use Rattle.coap_client.specs.Queue.{call_answer, observe_answer, taken_by};
+ghost use Rattle.coap_client.specs.Object.CallShown.{is_long, is_long_path, shown_request};
+ghost use Rattle.coap_client.specs.Object.Held.{own_of};
 
 use crate::client::held::Held;
 use crate::client::observed::are_watches_full;

@@ -1,10 +1,10 @@
 //! The request that a client sent last.
 ghost use Rattle.coap_exchange.specs.AskerLaw as exchange;
-ghost use Rattle.coap_client.specs.ClientSide.ClientStep.{Step};
-ghost use Rattle.coap_client.specs.ClientSide.ClientTrace.{Asked};
-ghost use Rattle.coap_client.specs.ClientObject.ClientHappens.{left};
-ghost use Rattle.coap_client.specs.ClientObject.ClientHeld.{own_of};
-ghost use Rattle.coap_client.specs.ClientObject.ClientShown.{shown_asked};
+ghost use Rattle.coap_client.specs.Led.{Step};
+ghost use Rattle.coap_client.specs.Trace.{Asked};
+ghost use Rattle.coap_client.specs.Object.Happens.{left};
+ghost use Rattle.coap_client.specs.Object.Held.{own_of};
+ghost use Rattle.coap_client.specs.Object.Shown.{shown_asked};
 
 use crate::client::held::Held;
 use crate::client::report::CallId;

@@ -1,16 +1,16 @@
 //! The live observations of a client (RFC 7641, section 3.2).
 ghost use Rattle.std.specs.Prelude.{◌≡◌, ◌≤◌, ◌==◌, ◌+◌, not, drop, filter, map, if◌then◌else◌, None};
 ghost use Rattle.std.specs.Option.{option_map};
-ghost use Rattle.coap_client.specs.ClientSide.ClientObservations.{fetch_of, observation_of, observation_with};
-ghost use Rattle.coap_client.specs.ClientSide.ClientObservations.{observed_path, rest_of, token_of, with_rest};
-ghost use Rattle.coap_client.specs.ClientSide.ClientOwn.{Observation as Observed};
-ghost use Rattle.coap_client.specs.ClientSide.ClientRequests.{block2_option};
+ghost use Rattle.coap_client.specs.Observations.{fetch_of, observation_of, observation_with};
+ghost use Rattle.coap_client.specs.Observations.{observed_path, rest_of, token_of, with_rest};
+ghost use Rattle.coap_client.specs.Own.{Observation as Observed};
+ghost use Rattle.coap_client.specs.Requests.{block2_option};
 ghost use Rattle.coap_types.specs.OptionValues.{option_with};
 ghost use Rattle.coap_types.specs.Path.{segments_of};
-ghost use Rattle.coap_client.specs.ClientObject.CallShown.{IsFew, IsShortPath};
-ghost use Rattle.coap_client.specs.ClientObject.CallAnswers.{place_in};
-ghost use Rattle.coap_client.specs.ClientSide.ClientPlaces.{in_observations};
-ghost use Rattle.coap_client.specs.ClientObject.ClientShown.{shown_observation, shown_rest};
+ghost use Rattle.coap_client.specs.Object.CallShown.{IsFew, IsShortPath};
+ghost use Rattle.coap_client.specs.Object.CallAnswers.{place_in};
+ghost use Rattle.coap_client.specs.Follows.Places.{in_observations};
+ghost use Rattle.coap_client.specs.Object.Shown.{shown_observation, shown_rest};
 
 use crate::client::operation::{ClientOperations, Notified, Observation};
 use crate::client::transfer::block2_of;

@@ -3,10 +3,10 @@
 ghost use Rattle.std.specs.Prelude.{◌≡◌, ◌≤◌, ◌+◌, nat_le, drop, filter, length, map, option_to_list};
 ghost use Rattle.std.specs.List.{list_any};
 ghost use Rattle.std.specs.Option.{option_map};
-ghost use Rattle.coap_client.specs.ClientSide.ClientObservations.{is_cancel_of, is_cancelled, is_live};
-ghost use Rattle.coap_client.specs.ClientSide.ClientQueue.{is_registration, observed};
-ghost use Rattle.coap_client.specs.ClientObject.ClientHeld.{own_of};
-ghost use Rattle.coap_client.specs.ClientObject.ClientShown.{shown_operation, shown_queued, shown_waiting};
+ghost use Rattle.coap_client.specs.Observations.{is_cancel_of, is_cancelled, is_live};
+ghost use Rattle.coap_client.specs.Queue.{is_registration, observed};
+ghost use Rattle.coap_client.specs.Object.Held.{own_of};
+ghost use Rattle.coap_client.specs.Object.Shown.{shown_operation, shown_queued, shown_waiting};
 
 use crate::MAX_OBSERVATIONS;
 use crate::client::held::Held;

@@ -1,10 +1,10 @@
 ghost use Rattle.std.specs.Prelude.{◌≡◌, ◌<◌};
 ghost use Rattle.std.specs.VecDeque.{deque_len, deque_capacity};
-ghost use Rattle.coap_client.specs.ClientSide.ClientEffects.{Rests, of};
-ghost use Rattle.coap_client.specs.ClientSide.ClientReports.{done};
-ghost use Rattle.coap_client.specs.ClientSide.ClientSteps.{reporting};
-ghost use Rattle.coap_client.specs.ClientObject.ClientHeld.{own_of};
-ghost use Rattle.coap_client.specs.ClientObject.ClientShown.{shown_report, reported};
+ghost use Rattle.coap_client.specs.Effects.{Rests, of};
+ghost use Rattle.coap_client.specs.Reports.{done};
+ghost use Rattle.coap_client.specs.Steps.{reporting};
+ghost use Rattle.coap_client.specs.Object.Held.{own_of};
+ghost use Rattle.coap_client.specs.Object.Shown.{shown_report, reported};
 
 use crate::client::held::Held;
 use crate::client::report::{CallId, Report};

@@ -8,11 +8,11 @@ ghost use Rattle.coap_types.specs.OptionValues.{option_with};
 ghost use Rattle.coap_types.specs.Path.{segments_of};
 ghost use Rattle.coap_types.specs.Uint.{uint};
 ghost use Rattle.coap_codec.specs.Spelling.{options_bytes};
-ghost use Rattle.coap_client.specs.ClientSide.ClientQueue.{block_option_number};
-ghost use Rattle.coap_client.specs.ClientSide.ClientRequests.{after_path, before_path, options_of, path_options};
-ghost use Rattle.coap_client.specs.ClientSide.ClientTrace.{Request as Asking};
-ghost use Rattle.coap_client.specs.ClientObject.CallShown.{IsGood, is_long, is_long_path, shown_request};
-ghost use Rattle.coap_client.specs.ClientObject.CallShown.{told as told_value, told_number};
+ghost use Rattle.coap_client.specs.Queue.{block_option_number};
+ghost use Rattle.coap_client.specs.Requests.{after_path, before_path, options_of, path_options};
+ghost use Rattle.coap_client.specs.Trace.{Request as Asking};
+ghost use Rattle.coap_client.specs.Object.CallShown.{IsGood, is_long, is_long_path, shown_request};
+ghost use Rattle.coap_client.specs.Object.CallShown.{told as told_value, told_number};
 
 use crate::MAX_OPTIONS_LEN;
 use coap_codec::options_len;

@@ -3,9 +3,9 @@ ghost use Rattle.std.specs.Prelude.{◌≡◌, option_copied, if◌then◌else�
 ghost use Rattle.coap_block.specs.FetchState.{FetchValue};
 ghost use Rattle.coap_block.specs.FetchStep.{after};
 ghost use Rattle.coap_types.specs.OptionValues.{value_of};
-ghost use Rattle.coap_client.specs.ClientSide.ClientResponses.{said, tag_in, format_in, is_notification, sequence_in};
-ghost use Rattle.coap_client.specs.ClientSide.ClientResponses.{block_at, part};
-ghost use Rattle.coap_client.specs.ClientObject.ClientSteps.{Takes, CanGoBack};
+ghost use Rattle.coap_client.specs.Responses.{said, tag_in, format_in, is_notification, sequence_in};
+ghost use Rattle.coap_client.specs.Responses.{block_at, part};
+ghost use Rattle.coap_client.specs.Object.AnswerSteps.{Takes, CanGoBack};
 
 use coap_block::{Fetch, FetchRefusal, Step};
 use coap_codec::View;

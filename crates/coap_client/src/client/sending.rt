@@ -2,12 +2,12 @@ ghost use Rattle.std.specs.Prelude.{◌≡◌, ◌++◌, ℕ, List, map, option_
 ghost use Rattle.std.specs.Option.{option_map};
 ghost use Rattle.coap_types.specs.OptionValues.{option_with};
 ghost use Rattle.coap_types.specs.Path.{segments_of};
-ghost use Rattle.coap_client.specs.ClientSide.ClientOwn.{Observation as Observed, Registering, Fetching, Cancelling};
-ghost use Rattle.coap_client.specs.ClientObject.CallShown.{IsFew, IsShortPath};
+ghost use Rattle.coap_client.specs.Own.{Observation as Observed, Registering, Fetching, Cancelling};
+ghost use Rattle.coap_client.specs.Object.CallShown.{IsFew, IsShortPath};
 ghost use Rattle.coap_exchange.specs.Machine.AskerShown.{IsAskable};
-ghost use Rattle.coap_client.specs.ClientSide.ClientRequests.{get, message_of, path_options};
-ghost use Rattle.coap_client.specs.ClientObject.ClientSends.{Sends};
-ghost use Rattle.coap_client.specs.ClientObject.ClientShown.{shown_observation};
+ghost use Rattle.coap_client.specs.Requests.{get, message_of, path_options};
+ghost use Rattle.coap_client.specs.Object.Sends.{Sends};
+ghost use Rattle.coap_client.specs.Object.Shown.{shown_observation};
 
 use crate::client::observations::{block_asked, segments_of, token_of};
 use crate::client::operation::ClientOperations;

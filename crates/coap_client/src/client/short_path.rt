@@ -1,6 +1,6 @@
 ghost use Rattle.std.specs.Prelude.{◌≡◌, false};
 ghost use Rattle.coap_types.specs.Path.{segments_of};
-ghost use Rattle.coap_client.specs.ClientObject.CallShown.{IsShortPath, is_long_path};
+ghost use Rattle.coap_client.specs.Object.CallShown.{IsShortPath, is_long_path};
 
 use coap_types::Path;
 use std::alloc::{Allocator, Global};
@@ -15,7 +15,7 @@ pub struct ShortPath<A: Allocator = Global> {
 
 impl<A: Allocator> Model for ShortPath<A> {
     ghost use Rattle.std.specs.Prelude.{ℕ, List, ◌≡◌, false};
-    ghost use Rattle.coap_client.specs.ClientObject.CallShown.{is_long_path};
+    ghost use Rattle.coap_client.specs.Object.CallShown.{is_long_path};
 
     ghost Value = { List (List ℕ) };
 

@@ -1,12 +1,12 @@
 ghost use Rattle.std.specs.Prelude.{◌≡◌, ℕ, Bool, false, [], List, Some, IsSome, IfOk, OnErr};
-ghost use Rattle.coap_client.specs.ClientSide.ClientCalls.{answer};
-ghost use Rattle.coap_client.specs.ClientSide.ClientEffects.{is_upload, has_sent};
-ghost use Rattle.coap_client.specs.ClientSide.ClientOwn.{Observation, Calling};
-ghost use Rattle.coap_client.specs.ClientSide.ClientQueue.{transfer_of};
-ghost use Rattle.coap_client.specs.ClientSide.ClientRequests.{message_of};
-ghost use Rattle.coap_client.specs.ClientObject.CallShown.{is_long, shown_request};
-ghost use Rattle.coap_client.specs.ClientObject.ClientSends.{Sends};
-ghost use Rattle.coap_client.specs.ClientObject.ClientSteps.{Hears};
+ghost use Rattle.coap_client.specs.Calls.{answer};
+ghost use Rattle.coap_client.specs.Effects.{is_upload, has_sent};
+ghost use Rattle.coap_client.specs.Own.{Observation, Calling};
+ghost use Rattle.coap_client.specs.Queue.{transfer_of};
+ghost use Rattle.coap_client.specs.Requests.{message_of};
+ghost use Rattle.coap_client.specs.Object.CallShown.{is_long, shown_request};
+ghost use Rattle.coap_client.specs.Object.Sends.{Sends};
+ghost use Rattle.coap_client.specs.Object.AnswerSteps.{Hears};
 
 use crate::client::fetching::got;
 use crate::client::heard::Heard;
@@ -35,8 +35,8 @@ pub struct TakenCall<A: Allocator = Global> {
 
 impl<A: Allocator> Model for TakenCall<A> {
     ghost use Rattle.std.specs.Prelude.{◌≡◌, false};
-    ghost use Rattle.coap_client.specs.ClientObject.CallShown.{CallState, FitsMethod, is_long, shown_before};
-    ghost use Rattle.coap_client.specs.ClientObject.CallShown.{shown_request, shown_transfer};
+    ghost use Rattle.coap_client.specs.Object.CallShown.{CallState, FitsMethod, is_long, shown_before};
+    ghost use Rattle.coap_client.specs.Object.CallShown.{shown_request, shown_transfer};
 
     ghost Value = { CallState };
 

@@ -2,14 +2,14 @@
 ghost use Rattle.std.specs.Prelude.{◌≡◌, ◌≢◌, ◌<◌, ◌^◌, ◌-◌, false, is_ok, Err, Ok, IfOk, OnErr, OnOk, length};
 ghost use Rattle.coap_exchange.specs.AskerLaw as X;
 ghost use Rattle.coap_client.specs.declared.refusals.CallRefusal.TheVariants as refusals;
-ghost use Rattle.coap_client.specs.ClientSide.ClientDeeds.{at};
-ghost use Rattle.coap_client.specs.ClientSide.ClientQueue.{call_answer, numbered, observe_answer};
-ghost use Rattle.coap_client.specs.ClientSide.ClientStep.{Step};
-ghost use Rattle.coap_client.specs.ClientSide.ClientTrace.{Calls, Observes};
-ghost use Rattle.coap_client.specs.ClientObject.CallShown.{is_long, is_long_path, shown_request};
-ghost use Rattle.coap_client.specs.ClientObject.ClientHappens.{left};
-ghost use Rattle.coap_client.specs.ClientObject.ClientHeld.{own_of};
-ghost use Rattle.coap_client.specs.ClientObject.ClientShown.{number_of, shown_waiting};
+ghost use Rattle.coap_client.specs.Deeds.{at};
+ghost use Rattle.coap_client.specs.Queue.{call_answer, numbered, observe_answer};
+ghost use Rattle.coap_client.specs.Led.{Step};
+ghost use Rattle.coap_client.specs.Trace.{Calls, Observes};
+ghost use Rattle.coap_client.specs.Object.CallShown.{is_long, is_long_path, shown_request};
+ghost use Rattle.coap_client.specs.Object.Happens.{left};
+ghost use Rattle.coap_client.specs.Object.Held.{own_of};
+ghost use Rattle.coap_client.specs.Object.Shown.{number_of, shown_waiting};
 
 use crate::client::held::Held;
 use crate::client::judging::{judge_call, judge_observation};

@@ -3,11 +3,11 @@ ghost use Rattle.std.specs.Prelude.{◌≡◌, ℕ, Bool, List, Result, IfOk, Is
 ghost use Rattle.coap_layer.specs.Trace as L;
 ghost use Rattle.coap_exchange.specs.declared.asker.AskRefusal.{AskRefusal};
 ghost use Rattle.coap_exchange.specs.declared.asker.Turn.{Turn as Due};
-ghost use Rattle.coap_client.specs.ClientSide.ClientStep.{Step};
-ghost use Rattle.coap_client.specs.ClientSide.ClientTrace.{Ticks};
-ghost use Rattle.coap_client.specs.ClientObject.ClientHappens.{Apart, left};
-ghost use Rattle.coap_client.specs.ClientObject.ClientHeld.{own_of};
-ghost use Rattle.coap_client.specs.ClientTurns.ClientQuiet.{IsIdle};
+ghost use Rattle.coap_client.specs.Led.{Step};
+ghost use Rattle.coap_client.specs.Trace.{Ticks};
+ghost use Rattle.coap_client.specs.Object.Happens.{Apart, left};
+ghost use Rattle.coap_client.specs.Object.Held.{own_of};
+ghost use Rattle.coap_client.specs.Turns.Quiet.{IsIdle};
 
 use crate::client::held::Held;
 use crate::client::passing::pass_time;

@@ -2,8 +2,8 @@ ghost use Rattle.std.specs.Prelude.{◌≡◌, ◌≤◌, length};
 ghost use Rattle.coap_types.specs.declared.szx.TheConstants.{MAX_SZX as max_szx};
 ghost use Rattle.coap_types.specs.Piece.{part_of, size_of};
 ghost use Rattle.coap_types.specs.OptionValues.{option_with};
-ghost use Rattle.coap_client.specs.ClientSide.ClientRequests.{block_option, block2_option, payload_of};
-ghost use Rattle.coap_client.specs.ClientObject.CallShown.{IsFew, block_of, shown_transfer};
+ghost use Rattle.coap_client.specs.Requests.{block_option, block2_option, payload_of};
+ghost use Rattle.coap_client.specs.Object.CallShown.{IsFew, block_of, shown_transfer};
 
 use crate::client::uploading::is_longer;
 use coap_block::{Fetch, Upload};

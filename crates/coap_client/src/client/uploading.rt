@@ -1,10 +1,10 @@
 //! A Block1 transfer of a call (RFC 7959, section 2.5).
 ghost use Rattle.std.specs.Prelude.{◌≡◌};
-ghost use Rattle.coap_client.specs.ClientSide.ClientCalls.{sent, continued};
-ghost use Rattle.coap_client.specs.ClientSide.ClientResponses.{block_at};
+ghost use Rattle.coap_client.specs.Calls.{sent, continued};
+ghost use Rattle.coap_client.specs.Responses.{block_at};
 ghost use Rattle.coap_types.specs.declared.option_number.TheConstants.{BLOCK1 as block1};
-ghost use Rattle.coap_client.specs.ClientSide.ClientRequests.{is_longer};
-ghost use Rattle.coap_client.specs.ClientObject.ClientSteps.{HearsUpload};
+ghost use Rattle.coap_client.specs.Requests.{is_longer};
+ghost use Rattle.coap_client.specs.Object.AnswerSteps.{HearsUpload};
 
 use crate::client::heard::Heard;
 use crate::client::report::Report;

@@ -21,7 +21,7 @@ use Rattle.coap_exchange.specs.AskerRequests.{asked}
 use Rattle.coap_exchange.specs.AskerArrivals.{id_in, replying}
 use Rattle.coap_exchange.specs.EmptyMessages.{reset_bytes}
 use Rattle.coap_layer.proofs.Facts.HandedUp.{spelled}
-use Rattle.coap_both.proofs.Facts.ClientGoing.{left_by, answer_by, one_step}
+use Rattle.coap_common.proofs.Facts.AskerGoing.{left_by, answer_by, one_step}
 use Rattle.coap_server.proofs.Progress.AnswererGoing.{Takes}
 use Rattle.coap_server.proofs.Progress.RequestsKept.{KeptIn, kept_to}
 

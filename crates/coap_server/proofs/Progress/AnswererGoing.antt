@@ -17,7 +17,7 @@ use Rattle.coap_exchange.specs.AnswererLaw as W
 use Rattle.coap_exchange.specs.AnswererLaw.{ResponseLaw}
 use Rattle.coap_exchange.specs.AskerRequests.{asked}
 use Rattle.coap_exchange.specs.EmptyMessages.{ack_bytes}
-use Rattle.coap_both.proofs.Facts.ClientGoing.{left_by, one_step}
+use Rattle.coap_common.proofs.Facts.AskerGoing.{left_by, one_step}
 
 -- the layer takes the response to this request
 pub record Takes (s : S.State) (at : ℕ) (a : Asked) : Type 0 where

@@ -18,8 +18,8 @@ use Rattle.coap_exchange.specs.AskerRequests.{asked}
 use Rattle.coap_layer.proofs.Facts.StepsOfLayer.{steps_join}
 use Rattle.std.proofs.lemmas.Bool.{and_parts}
 use Rattle.coap_layer.proofs.Facts.CallsOfLayer.{left_same_nil}
-use Rattle.coap_both.proofs.Facts.ClientGoing.{left_by, answer_by, one_step}
-use Rattle.coap_server.proofs.Serving.ServerWaiting.{found_ready}
+use Rattle.coap_common.proofs.Facts.AskerGoing.{left_by, answer_by, one_step}
+use Rattle.coap_server.proofs.Serving.FoundReady.{found_ready}
 use Rattle.coap_server.proofs.Progress.AnswererGoing.{TakesCon}
 
 not_true : (b : Bool) → not b ≡ true → b ≡ false

@@ -9,7 +9,7 @@ ghost use Rattle.coap_layer.specs.Trace as below;
 ghost use Rattle.coap_exchange.specs.AnswererLaw.{Step};
 ghost use Rattle.coap_exchange.specs.AnswererTrace.{Answers};
 ghost use Rattle.coap_exchange.specs.Machine.AnswererShown.{MayAnswer};
-ghost use Rattle.coap_server.specs.ServerObject.ServerShown.{kept_of};
+ghost use Rattle.coap_server.specs.Object.Shown.{kept_of};
 
 use crate::server::full_response::FullResponse;
 use crate::server::parts::Parts;

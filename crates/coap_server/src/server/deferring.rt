@@ -5,9 +5,9 @@ ghost use Rattle.coap_resource.specs.Serves.{question_of};
 ghost use Rattle.coap_exchange.specs.AnswererLaw.{Step};
 ghost use Rattle.coap_exchange.specs.AnswererTrace.{Defers};
 ghost use Rattle.coap_exchange.specs.Machine.AnswererShown.{MayAnswer};
-ghost use Rattle.coap_server.specs.ServerSide.ServerDeferring.{delay_for, delay_of};
-ghost use Rattle.coap_server.specs.ServerObject.ServerHandled.{IsWhole, ServesNow};
-ghost use Rattle.coap_server.specs.ServerObject.ServerShown.{delay_as, kept_of, option_as, seen, waiting_as};
+ghost use Rattle.coap_server.specs.Deferring.{delay_for, delay_of};
+ghost use Rattle.coap_server.specs.Object.Handled.{IsWhole, ServesNow};
+ghost use Rattle.coap_server.specs.Object.Shown.{delay_as, kept_of, option_as, seen, waiting_as};
 
 use crate::server::answering::answer;
 use crate::server::parts::{Delay, KeptOption, Parts, Waiting, push_within};

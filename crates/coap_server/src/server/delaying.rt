@@ -1,11 +1,11 @@
 //! The delays of paths (RFC 7252, section 5.2.2; that a path has one is a profile).
 ghost use Rattle.std.specs.Prelude.{◌≡◌, ◌≢◌, ◌≤◌, ◌<◌, ◌++◌, ◌∷◌, [], true, false, Err, is_ok, is_some, length};
 ghost use Rattle.std.specs.Prelude.{slice_get, IfSome, IfNone, IfOk, IsOk, OnErr, OnOk, vec_len, vec_capacity};
-ghost use Rattle.coap_server.specs.ServerSide.ServerDeferring.{delay_of, delays_with, may_delay};
-ghost use Rattle.coap_server.specs.ServerSide.ServerLed.{Step};
-ghost use Rattle.coap_server.specs.ServerSide.ServerTrace.{Delays};
-ghost use Rattle.coap_server.specs.ServerObject.ServerShown.{kept_of, seen};
-ghost use Rattle.coap_server.specs.ServerTurns.DelaysShown.{delays_as, delays_of_others};
+ghost use Rattle.coap_server.specs.Deferring.{delay_of, delays_with, may_delay};
+ghost use Rattle.coap_server.specs.Led.{Step};
+ghost use Rattle.coap_server.specs.Trace.{Delays};
+ghost use Rattle.coap_server.specs.Object.Shown.{kept_of, seen};
+ghost use Rattle.coap_server.specs.Turns.DelaysShown.{delays_as, delays_of_others};
 ghost use Rattle.coap_server.specs.declared.server.delaying.DelayRefusal.TheVariants.{Full, Memory};
 
 use crate::MAX_DELAYS;

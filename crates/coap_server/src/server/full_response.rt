@@ -9,8 +9,8 @@ ghost use Rattle.coap_types.specs.declared.role.Role.TheVariants as role;
 ghost use Rattle.coap_resource.specs.ResponseOptions.{Fits, block_number};
 ghost use Rattle.coap_resource.specs.Serves.{reply_of};
 ghost use Rattle.coap_exchange.specs.Machine.AnswererShown.{IsAnswerWith};
-ghost use Rattle.coap_server.specs.ServerSide.ServerResponses.{response_with};
-ghost use Rattle.coap_server.specs.ServerObject.FullResponses.{response_as};
+ghost use Rattle.coap_server.specs.Responses.{response_with};
+ghost use Rattle.coap_server.specs.Object.FullResponses.{response_as};
 
 use crate::server::option_list::OptionList;
 use bytes::Bytes;
@@ -37,7 +37,7 @@ pub(crate) struct FullResponse<A: Allocator> {
 impl<A: Allocator> Model for FullResponse<A> {
     ghost use Rattle.coap_exchange.specs.AnswererTrace.{Response};
     ghost use Rattle.coap_exchange.specs.ShortAnswers.{IsShortAnswer};
-    ghost use Rattle.coap_server.specs.ServerObject.FullResponses.{response_as};
+    ghost use Rattle.coap_server.specs.Object.FullResponses.{response_as};
 
     ghost Value = { Response };
 

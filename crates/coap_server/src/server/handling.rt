@@ -5,8 +5,8 @@ ghost use Rattle.coap_types.specs.CoapOption.{options_of};
 ghost use Rattle.coap_types.specs.Recognised.{Recognised};
 ghost use Rattle.coap_types.specs.declared.direction.Direction.TheVariants as direction;
 ghost use Rattle.coap_exchange.specs.Machine.AnswererShown.{MayAnswer};
-ghost use Rattle.coap_server.specs.ServerObject.ServerHandled.{IsHandled};
-ghost use Rattle.coap_server.specs.ServerObject.ServerShown.{kept_of, seen};
+ghost use Rattle.coap_server.specs.Object.Handled.{IsHandled};
+ghost use Rattle.coap_server.specs.Object.Shown.{kept_of, seen};
 
 use crate::server::answering::reply;
 use crate::server::deferring::handle_whole;

@@ -3,10 +3,10 @@ ghost use Rattle.std.specs.Prelude.{◌≡◌, ◌≢◌, Err, length};
 ghost use Rattle.coap_resource.specs.declared.refusal.StoreRefusal.TheVariants.{Memory};
 ghost use Rattle.coap_resource.specs.Content.{put_refusal};
 ghost use Rattle.coap_resource.specs.Rate.{rate_refusal};
-ghost use Rattle.coap_server.specs.ServerSide.ServerLed.{Step};
-ghost use Rattle.coap_server.specs.ServerSide.ServerLocal.{RemovesBy, SetsBy};
-ghost use Rattle.coap_server.specs.ServerSide.ServerTrace.{Removes, Sets};
-ghost use Rattle.coap_server.specs.ServerObject.ServerShown.{kept_of, seen};
+ghost use Rattle.coap_server.specs.Led.{Step};
+ghost use Rattle.coap_server.specs.Local.{RemovesBy, SetsBy};
+ghost use Rattle.coap_server.specs.Trace.{Removes, Sets};
+ghost use Rattle.coap_server.specs.Object.Shown.{kept_of, seen};
 
 use crate::server::moments::later;
 use crate::server::parts::Parts;

@@ -1,5 +1,5 @@
 ghost use Rattle.std.specs.Prelude.{◌≡◌, max};
-ghost use Rattle.coap_server.specs.ServerSide.ServerObservers.{unless_ended};
+ghost use Rattle.coap_server.specs.Observers.{unless_ended};
 
 use coap_exchange::Ended;
 use coap_observe::Observers;

@@ -7,11 +7,11 @@ ghost use Rattle.coap_exchange.specs.declared.answerer.Due.TheVariants as dues;
 ghost use Rattle.coap_exchange.specs.AnswererLaw.{Exchanged, Step};
 ghost use Rattle.coap_exchange.specs.AnswererTrace.{Notifies};
 ghost use Rattle.coap_exchange.specs.Machine.AnswererShown.{MayNotify};
-ghost use Rattle.coap_server.specs.ServerSide.ServerNotifying as next;
-ghost use Rattle.coap_server.specs.ServerSide.ServerNotifying.{behind, marked, notified, readies};
-ghost use Rattle.coap_server.specs.ServerObject.ServerShown.{kept_of, seen};
-ghost use Rattle.coap_server.specs.ServerTurns.ServerIdle.{takes_notice};
-ghost use Rattle.coap_server.specs.ServerTurns.ServerTurned.{IsTurned};
+ghost use Rattle.coap_server.specs.Notifying as next;
+ghost use Rattle.coap_server.specs.Notifying.{behind, marked, notified, readies};
+ghost use Rattle.coap_server.specs.Object.Shown.{kept_of, seen};
+ghost use Rattle.coap_server.specs.Turns.Idle.{takes_notice};
+ghost use Rattle.coap_server.specs.Turns.Turned.{IsTurned};
 
 use crate::server::full_response::FullResponse;
 use crate::server::observing::sequence_of;

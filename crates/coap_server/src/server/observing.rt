@@ -3,9 +3,9 @@ ghost use Rattle.coap_types.specs.CoapOption.{options_of};
 ghost use Rattle.coap_types.specs.OptionValues.{uint_at};
 ghost use Rattle.coap_resource.specs.RequestOptions.{block_of, szx_by};
 ghost use Rattle.coap_resource.specs.Serves.{question_of, reply_of};
-ghost use Rattle.coap_server.specs.ServerSide.ServerObservers.{observers_with, observes, registers, sequence};
-ghost use Rattle.coap_server.specs.ServerSide.ServerObservers.{sequence_if};
-ghost use Rattle.coap_server.specs.ServerObject.Registering.{has_place, may_register, registered_by};
+ghost use Rattle.coap_server.specs.Observers.{observers_with, observes, registers, sequence};
+ghost use Rattle.coap_server.specs.Observers.{sequence_if};
+ghost use Rattle.coap_server.specs.Object.Registering.{has_place, may_register, registered_by};
 
 use coap_exchange::Asked;
 use coap_observe::{Observers, sequence_number};

@@ -7,9 +7,9 @@ ghost use Rattle.coap_types.specs.RequestPath.{path_of};
 ghost use Rattle.coap_types.specs.declared.direction.Direction.TheVariants as direction;
 ghost use Rattle.coap_codec.specs.Message.{Message};
 ghost use Rattle.coap_resource.specs.RequestOptions.{block_said};
-ghost use Rattle.coap_server.specs.ServerSide.ServerChecks.{asked_by, asks, bad_by, is_reserved, question, uploading};
-ghost use Rattle.coap_server.specs.ServerSide.ServerChecks.{verdict_on};
-ghost use Rattle.coap_server.specs.ServerObject.ServerChecked.{CanBeAnswered, verdict_as};
+ghost use Rattle.coap_server.specs.Checks.{asked_by, asks, bad_by, is_reserved, question, uploading};
+ghost use Rattle.coap_server.specs.Checks.{verdict_on};
+ghost use Rattle.coap_server.specs.Object.Checked.{CanBeAnswered, verdict_as};
 
 use crate::server::observing::number_at;
 use coap_resource::has;

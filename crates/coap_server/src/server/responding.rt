@@ -7,10 +7,10 @@ ghost use Rattle.coap_exchange.specs.declared.answerer.Due.TheVariants as dues;
 ghost use Rattle.coap_exchange.specs.AnswererLaw.{Step};
 ghost use Rattle.coap_exchange.specs.AnswererTrace.{Responds};
 ghost use Rattle.coap_exchange.specs.Machine.AnswererShown.{MayRespond};
-ghost use Rattle.coap_server.specs.ServerSide.ServerDeferring.{is_of, question_of, without_waiting};
-ghost use Rattle.coap_server.specs.ServerObject.ServerHandled.{ServesRequest};
-ghost use Rattle.coap_server.specs.ServerObject.ServerShown.{applied_list, kept_of, option_as, seen, waiting_as};
-ghost use Rattle.coap_server.specs.ServerTurns.ServerTurned.{IsTurned};
+ghost use Rattle.coap_server.specs.Deferring.{is_of, question_of, without_waiting};
+ghost use Rattle.coap_server.specs.Object.Handled.{ServesRequest};
+ghost use Rattle.coap_server.specs.Object.Shown.{applied_list, kept_of, option_as, seen, waiting_as};
+ghost use Rattle.coap_server.specs.Turns.Turned.{IsTurned};
 
 use crate::server::full_response::FullResponse;
 use crate::server::parts::{KeptOption, Parts, Waiting};

@@ -4,11 +4,11 @@ ghost use Rattle.coap_types.specs.BlockValue.{block_value};
 ghost use Rattle.coap_types.specs.CoapOption.{options_of};
 ghost use Rattle.coap_observe.specs.Observers.{changed_at};
 ghost use Rattle.coap_resource.specs.Serves.{question_of};
-ghost use Rattle.coap_server.specs.ServerSide.ServerObservers.{is_get};
-ghost use Rattle.coap_server.specs.ServerSide.ServerServing.{is_applied};
-ghost use Rattle.coap_server.specs.ServerSide.ServerUploads.{last_block};
-ghost use Rattle.coap_server.specs.ServerObject.ServerHandled.{ServesRequest};
-ghost use Rattle.coap_server.specs.ServerObject.ServerShown.{applied_list};
+ghost use Rattle.coap_server.specs.Observers.{is_get};
+ghost use Rattle.coap_server.specs.Serving.{is_applied};
+ghost use Rattle.coap_server.specs.Uploads.{last_block};
+ghost use Rattle.coap_server.specs.Object.Handled.{ServesRequest};
+ghost use Rattle.coap_server.specs.Object.Shown.{applied_list};
 
 use crate::server::full_response::FullResponse;
 use crate::server::observing::{number_at, observe};

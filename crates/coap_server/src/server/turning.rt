@@ -7,11 +7,11 @@ ghost use Rattle.coap_exchange.specs.declared.answerer.Asked.{Asked as AskedSpec
 ghost use Rattle.coap_exchange.specs.declared.answerer.Due.{Due as DueSpec};
 ghost use Rattle.coap_exchange.specs.declared.answerer.Due.TheVariants as dues;
 ghost use Rattle.coap_exchange.specs.Machine.AnswererShown.{MayRespond};
-ghost use Rattle.coap_server.specs.ServerSide.ServerLed.{Step};
-ghost use Rattle.coap_server.specs.ServerSide.ServerTrace.{Handling, Ticks};
-ghost use Rattle.coap_server.specs.ServerObject.ServerShown.{kept_of, seen};
-ghost use Rattle.coap_server.specs.ServerTurns.ServerIdle.{IsIdle, moment, takes_notice};
-ghost use Rattle.coap_server.specs.ServerTurns.ServerTurned.{IsTurned};
+ghost use Rattle.coap_server.specs.Led.{Step};
+ghost use Rattle.coap_server.specs.Trace.{Handling, Ticks};
+ghost use Rattle.coap_server.specs.Object.Shown.{kept_of, seen};
+ghost use Rattle.coap_server.specs.Turns.Idle.{IsIdle, moment, takes_notice};
+ghost use Rattle.coap_server.specs.Turns.Turned.{IsTurned};
 
 use crate::server::moments::{forget, later};
 use crate::server::notifying::notify_next;

@@ -4,8 +4,8 @@ ghost use Rattle.coap_types.specs.declared.token.TheConstants.{MAX_TOKEN_LEN as 
 ghost use Rattle.coap_types.specs.CoapOption.{options_of};
 ghost use Rattle.coap_resource.specs.Serves.{question_of};
 ghost use Rattle.coap_exchange.specs.Machine.AnswererShown.{MayAnswer};
-ghost use Rattle.coap_server.specs.ServerObject.ServerHandled.{IsUploaded};
-ghost use Rattle.coap_server.specs.ServerObject.ServerShown.{kept_of, seen};
+ghost use Rattle.coap_server.specs.Object.Handled.{IsUploaded};
+ghost use Rattle.coap_server.specs.Object.Shown.{kept_of, seen};
 
 use crate::server::answering::reply;
 use crate::server::deferring::handle_whole;

@@ -12,18 +12,18 @@ use Rattle.coap_exchange.specs.declared.asker.AskRefusal.{AskRefusal}
 use Rattle.coap_exchange.specs.declared.asker.Exchange.{Exchange}
 use Rattle.coap_exchange.specs.declared.matching.Opening.{Opening}
 use Rattle.coap_exchange.specs.declared.matching.Opening.TheVariants.{Running, Spent, Sends}
-use Rattle.coap_client.specs.ClientSide.ClientTrace.{Call, Calls, Observes, Cancels, Forgets, Feeds, Ticks, NextOut}
-use Rattle.coap_client.specs.ClientSide.ClientTrace.{NextReport, Asked}
-use Rattle.coap_client.specs.ClientSide.ClientOwn.{Own, Observation}
-use Rattle.coap_client.specs.ClientSide.ClientEffects.{Deed, Rests, Asks, Keeps, Releases, Effect}
-use Rattle.coap_client.specs.ClientSide.ClientObserving.{releases}
-use Rattle.coap_client.specs.ClientSide.ClientObservations.{observation_of}
-use Rattle.coap_client.specs.ClientSide.ClientDeeds.{deeds, done_for, close, effect}
-use Rattle.coap_client.specs.ClientSide.ClientLaw.{own_of, lower_of}
-use Rattle.coap_both.specs.Adds.{asked_by_client}
-use Rattle.coap_client.specs.ClientSide.ClientClock.{moment_of}
-use Rattle.coap_both.proofs.Facts.Adds.{left_append}
-use Rattle.coap_client.proofs.Facts.OfClient.{clock_is}
+use Rattle.coap_client.specs.Trace.{Call, Calls, Observes, Cancels, Forgets, Feeds, Ticks, NextOut}
+use Rattle.coap_client.specs.Trace.{NextReport, Asked}
+use Rattle.coap_client.specs.Own.{Own, Observation}
+use Rattle.coap_client.specs.Effects.{Deed, Rests, Asks, Keeps, Releases, Effect}
+use Rattle.coap_client.specs.Observing.{releases}
+use Rattle.coap_client.specs.Observations.{observation_of}
+use Rattle.coap_client.specs.Deeds.{deeds, done_for, close, effect}
+use Rattle.coap_client.specs.Law.{own_of, lower_of}
+use Rattle.coap_common.specs.Adds.{asked_by_client}
+use Rattle.coap_client.specs.Follows.Clock.{moment_of}
+use Rattle.coap_common.proofs.Facts.Adds.{left_append}
+use Rattle.coap_client.proofs.Facts.Laws.{clock_is}
 use Rattle.coap_world.specs.Delivery.{FedToClient}
 use Rattle.coap_world.specs.Events.{server_end, Config}
 use Rattle.coap_world.specs.Record.{OfClient}

@@ -13,7 +13,7 @@ use Rattle.coap_layer.specs.Trace.{Packet}
 use Rattle.coap_layer.specs.Words.{waiting}
 use Rattle.coap_layer.proofs.Facts.Calls.{steps_left, led_steps}
 use Rattle.coap_layer.proofs.Facts.StepsOfLayer.{steps_split}
-use Rattle.coap_client.specs.ClientSide.ClientTrace.{Call, NextOut, NextReport, Reported}
+use Rattle.coap_client.specs.Trace.{Call, NextOut, NextReport, Reported}
 use Rattle.coap_world.specs.Delivery.{FedToClient}
 use Rattle.coap_world.specs.Events.{client_end, server_end, Config}
 use Rattle.coap_world.specs.Record.{Entry, OfClient, client_of, server_trace, begun_with, Given, given_by}

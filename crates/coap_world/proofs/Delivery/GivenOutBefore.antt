@@ -11,8 +11,8 @@ use Rattle.coap_world.specs.Events.{client_end, server_end, What, Calls, Observe
 use Rattle.coap_world.specs.Events.{TickClient, TickServer, Deliver, StrangerToClient, StrangerToServer}
 use Rattle.coap_world.specs.Legal.{NotBefore, MayCome, AllLegal}
 use Rattle.coap_world.specs.Delivery.{GaveOut, FedToServer, FedToClient, AllFair}
-use Rattle.coap_client.specs.ClientSide.ClientTrace as C
-use Rattle.coap_server.specs.ServerSide.ServerTrace as S
+use Rattle.coap_client.specs.Trace as C
+use Rattle.coap_server.specs.Trace as S
 
 pub as_at : (at : ℕ) (from : Endpoint) (o : Option Packet) (g : Given) → Ever (λ h. h ≡ g) (given_as at from o)
     → g.at ≡ at

@@ -3,8 +3,8 @@ use Rattle.std.proofs.Common.{List, sym, subst}
 use Rattle.coap_types.specs.Past.{Always}
 use Rattle.coap_layer.specs.Channel.{RepliesSo, ChannelLaw}
 use Rattle.coap_layer.specs.Rows.{LayerLaw}
-use Rattle.coap_client.proofs.Facts.OfClient as client_facts
-use Rattle.coap_server.proofs.Facts.OfServer as server_facts
+use Rattle.coap_client.proofs.Facts.Laws as client_facts
+use Rattle.coap_server.proofs.Facts.Laws as server_facts
 use Rattle.coap_world.specs.Events.{client_end, server_end, Config, Event}
 use Rattle.coap_world.specs.Hops.{hops_of}
 use Rattle.coap_world.specs.Legal.{AllLegal}

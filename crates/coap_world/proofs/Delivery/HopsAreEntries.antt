@@ -5,17 +5,17 @@ use Rattle.coap_layer.specs.Machine.State.{start}
 use Rattle.coap_layer.specs.Machine.Steps.{entries}
 use Rattle.coap_world.specs.Events.{server_end, Config}
 use Rattle.coap_world.specs.Record.{Entry, OfClient, OfServer, client_of, server_trace}
-use Rattle.coap_both.proofs.Facts.Adds.{answerer_append, entries_append}
+use Rattle.coap_common.proofs.Facts.Adds.{answerer_append, entries_append}
 use Rattle.coap_world.specs.Hops.{client_asks, client_asked, client_adds, server_asks, server_asked, server_adds}
 use Rattle.coap_world.specs.Hops.{hops_in}
 use Rattle.coap_layer.specs.Trace as L
 use Rattle.coap_exchange.specs.AnswererLaw as answerer
-use Rattle.coap_client.specs.ClientSide.ClientTrace as C
-use Rattle.coap_client.specs.ClientSide.ClientLaw as client
-use Rattle.coap_server.specs.ServerSide.ServerTrace as S
-use Rattle.coap_server.specs.ServerSide.ServerLaw as server
-use Rattle.coap_server.specs.ServerSide.ServerAsks as asks
-use Rattle.coap_client.proofs.Facts.OfClient as client_facts
+use Rattle.coap_client.specs.Trace as C
+use Rattle.coap_client.specs.Law as client
+use Rattle.coap_server.specs.Trace as S
+use Rattle.coap_server.specs.Law as server
+use Rattle.coap_server.specs.Asks as asks
+use Rattle.coap_client.proofs.Facts.Laws as client_facts
 
 -- hops
 

@@ -19,8 +19,8 @@ use Rattle.coap_world.proofs.Delivery.AfterATurn.{Still, Goes}
 use Rattle.coap_world.proofs.Delivery.OneEndATurn.{ClientTurn, ServerTurn, side}
 use Rattle.coap_layer.specs.Trace as L
 use Rattle.coap_world.specs.Delivery as D
-use Rattle.coap_server.specs.ServerSide.ServerTrace as S
-use Rattle.coap_server.specs.ServerSide.ServerLaw as server_law
+use Rattle.coap_server.specs.Trace as S
+use Rattle.coap_server.specs.Law as server_law
 use Rattle.coap_exchange.specs.AnswererLaw as answerer
 use Rattle.coap_world.proofs.Delivery.ClientInTime as client
 use Rattle.coap_world.proofs.Delivery.ClientTurns as client_turns

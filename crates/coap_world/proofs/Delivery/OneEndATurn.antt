@@ -10,8 +10,8 @@ use Rattle.coap_world.proofs.Delivery.EntriesInTime.{Every}
 use Rattle.coap_types.proofs.Facts.Traces.{Ever_append}
 use Rattle.coap_world.specs.Events.{client_end, server_end, What, Calls, Observes, Cancels, Forgets, Sets, Removes}
 use Rattle.coap_world.specs.Events.{TickClient, TickServer, Deliver, StrangerToClient, StrangerToServer}
-use Rattle.coap_client.specs.ClientSide.ClientTrace as C
-use Rattle.coap_server.specs.ServerSide.ServerTrace as S
+use Rattle.coap_client.specs.Trace as C
+use Rattle.coap_server.specs.Trace as S
 use Rattle.coap_world.proofs.Delivery.ClientInTime as client
 use Rattle.coap_world.proofs.Delivery.ServerInTime as server
 

@@ -6,11 +6,11 @@ use Rattle.std.specs.Prelude.{slice_get}
 use Rattle.std.proofs.lemmas.List.{append-nil}
 use Rattle.coap_types.specs.Past.{Always}
 use Rattle.coap_layer.specs.Trace.{Packet}
-use Rattle.coap_client.specs.ClientSide.ClientLaw.{own_of, ClientRows}
-use Rattle.coap_client.specs.ClientSide.ClientGives.{made, given, forgotten, NoneDropped}
-use Rattle.coap_client.specs.ClientSide.ClientTrace as C
-use Rattle.coap_server.specs.ServerSide.ServerTrace as S
-use Rattle.coap_client.proofs.Facts.OfClientCalls.{all_wait}
+use Rattle.coap_client.specs.Law.{own_of, ClientRows}
+use Rattle.coap_client.specs.Follows.Gives.{made, given, forgotten, NoneDropped}
+use Rattle.coap_client.specs.Trace as C
+use Rattle.coap_server.specs.Trace as S
+use Rattle.coap_client.proofs.Facts.EachCall.{all_wait}
 use Rattle.coap_world.specs.Events.{Config, What, Calls, Observes, Cancels, Forgets, Sets, Removes, TickClient}
 use Rattle.coap_world.specs.Events.{TickServer, Deliver, StrangerToClient, StrangerToServer}
 use Rattle.coap_world.specs.Given.{AllGiven}

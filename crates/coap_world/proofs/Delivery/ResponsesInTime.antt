@@ -13,7 +13,7 @@ use Rattle.coap_exchange.specs.AnswererTrace as R
 use Rattle.coap_exchange.specs.AnswererSteps.{reject_by, deferring, may_defer, asking_room, ready_if, ready_at}
 use Rattle.coap_exchange.specs.AnswererSteps as answerer_steps
 use Rattle.coap_exchange.specs.AnswererLaw as answerer
-use Rattle.coap_both.specs.Adds.{asked_by_server}
+use Rattle.coap_common.specs.Adds.{asked_by_server}
 use Rattle.coap_world.proofs.Delivery.EntriesInTime.{Every, every_join, Wish, Ends, ends_over}
 use Rattle.coap_world.proofs.Delivery.ClientInTime.{replying_wish, timed_wish, receive_wish}
 

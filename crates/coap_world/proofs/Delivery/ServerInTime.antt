@@ -12,17 +12,17 @@ use Rattle.coap_exchange.specs.declared.answerer.Due.{Due}
 use Rattle.coap_exchange.specs.declared.answerer.Due.TheVariants as due
 use Rattle.coap_exchange.specs.AnswererTrace as R
 use Rattle.coap_exchange.specs.AnswererLaw as answerer
-use Rattle.coap_server.specs.ServerSide.ServerAsks.{answering, responding}
-use Rattle.coap_server.specs.ServerSide.ServerAsks as asks_of
-use Rattle.coap_server.specs.ServerSide.ServerDeferring.{deferral_by, deferral}
-use Rattle.coap_server.specs.ServerSide.ServerHandling.{incoming, ticking, heard}
-use Rattle.coap_server.specs.ServerSide.ServerLaw.{own_of, lower_of}
-use Rattle.coap_server.specs.ServerSide.ServerNotifying.{marked, readies}
-use Rattle.coap_server.specs.ServerSide.ServerSteps as steps
-use Rattle.coap_server.specs.ServerSide.ServerTrace.{Own, Handling, Silent, Replies, Serves, Waits, Notifies, Call}
-use Rattle.coap_server.specs.ServerSide.ServerTrace.{Sets}
-use Rattle.coap_server.specs.ServerSide.ServerTrace.{Removes, Delays, Feeds, Ticks, NextOut, Gets, TellsApplied}
-use Rattle.coap_both.proofs.Facts.Adds.{left_append}
+use Rattle.coap_server.specs.Asks.{answering, responding}
+use Rattle.coap_server.specs.Asks as asks_of
+use Rattle.coap_server.specs.Deferring.{deferral_by, deferral}
+use Rattle.coap_server.specs.Handling.{incoming, ticking, heard}
+use Rattle.coap_server.specs.Law.{own_of, lower_of}
+use Rattle.coap_server.specs.Notifying.{marked, readies}
+use Rattle.coap_server.specs.Steps as steps
+use Rattle.coap_server.specs.Trace.{Own, Handling, Silent, Replies, Serves, Waits, Notifies, Call}
+use Rattle.coap_server.specs.Trace.{Sets}
+use Rattle.coap_server.specs.Trace.{Removes, Delays, Feeds, Ticks, NextOut, Gets, TellsApplied}
+use Rattle.coap_common.proofs.Facts.Adds.{left_append}
 use Rattle.coap_world.specs.Delivery.{FedToServer}
 use Rattle.coap_world.specs.Events.{Config}
 use Rattle.coap_world.specs.Hops.{server_asks, server_asked, server_adds}

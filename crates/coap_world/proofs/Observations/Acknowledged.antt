@@ -11,9 +11,9 @@ use Rattle.coap_layer.specs.Words.{Open, begun, clock}
 use Rattle.coap_layer.proofs.Facts.Hops.{earlier, far_ever, to_far}
 use Rattle.coap_layer.proofs.Facts.Laws.{acks_heard, acks_taken, handed_once}
 use Rattle.coap_layer.proofs.Facts.Taken.{alone, kept_by, taken_handed}
-use Rattle.coap_server.specs.ServerSide.ServerTrace as S
-use Rattle.coap_server.specs.ServerSide.Follows.ServerTold.{TakesAck}
-use Rattle.coap_server.proofs.Facts.OfServerCalls.{acks_arrive}
+use Rattle.coap_server.specs.Trace as S
+use Rattle.coap_server.specs.Follows.Told.{TakesAck}
+use Rattle.coap_server.proofs.Facts.EachCall.{acks_arrive}
 use Rattle.coap_world.specs.Events.{client_end, server_end, Config}
 use Rattle.coap_world.specs.Hops.{hops_at, hops_in, across, server_adds}
 use Rattle.coap_world.specs.Record.{Entry, OfClient, OfServer, server_trace}

@@ -7,15 +7,15 @@ use Rattle.coap_types.specs.declared.endpoint.Endpoint.{Endpoint}
 use Rattle.coap_codec.specs.Message.{Message}
 use Rattle.coap_layer.specs.Trace as L
 use Rattle.coap_layer.specs.Words.{Open, begun}
-use Rattle.coap_server.specs.ServerSide.ServerTrace.{Own, Call}
-use Rattle.coap_server.specs.ServerSide.ServerLaw.{ServerLaw, own_of, layer_of}
-use Rattle.coap_server.specs.ServerSide.Follows.ServerTells.{Pair, Telling, telling, HearsAck, FollowsOn, NoneMade}
-use Rattle.coap_server.proofs.Facts.OfServer as facts
-use Rattle.coap_server.specs.ServerSide.ServerAdds.{call_adds}
-use Rattle.coap_server.specs.ServerSide.Follows.ServerTold.{Conveys, TellsIn, ServesPair, pair_of, IsUnder}
-use Rattle.coap_server.specs.ServerSide.Follows.ServerTold.{AllServePairs}
-use Rattle.coap_server.proofs.Facts.OfServerCalls.{layer_next}
-use Rattle.coap_server.proofs.Facts.OfServerCalls.{all_serve_pairs, are_under}
+use Rattle.coap_server.specs.Trace.{Own, Call}
+use Rattle.coap_server.specs.Law.{ServerLaw, own_of, layer_of}
+use Rattle.coap_server.specs.Follows.Tells.{Pair, Telling, telling, HearsAck, FollowsOn, NoneMade}
+use Rattle.coap_server.proofs.Facts.Laws as facts
+use Rattle.coap_server.specs.Follows.Adds.{call_adds}
+use Rattle.coap_server.specs.Follows.Told.{Conveys, TellsIn, ServesPair, pair_of, IsUnder}
+use Rattle.coap_server.specs.Follows.Told.{AllServePairs}
+use Rattle.coap_server.proofs.Facts.EachCall.{layer_next}
+use Rattle.coap_server.proofs.Facts.EachCall.{all_serve_pairs, are_under}
 
 -- where something happened, and what came behind it and before
 pub record Split {E : Type 0} (P : List E → E → Type 0) (t : List E) : Type 0 where

@@ -14,14 +14,14 @@ use Rattle.coap_layer.specs.Words.{Open, begun, handed, handed_in, Incoming, is_
 use Rattle.coap_layer.proofs.Facts.Hops.{earlier, far_ever}
 use Rattle.coap_layer.proofs.Facts.Laws.{acks_heard, acks_replied, begun_as, handed_spelled, nons_sent}
 use Rattle.coap_layer.proofs.Facts.Laws.{responses_spelled}
-use Rattle.coap_client.specs.Follows.ClientHears.{Hears}
-use Rattle.coap_client.specs.ClientSide.ClientResponses.{is_notification}
-use Rattle.coap_client.specs.ClientSide.ClientTrace as C
-use Rattle.coap_server.specs.ServerSide.ServerLaw.{layer_of}
-use Rattle.coap_server.specs.ServerSide.ServerTrace as S
-use Rattle.coap_server.specs.ServerSide.ServerAdds.{call_adds}
-use Rattle.coap_server.specs.ServerSide.Follows.ServerTold.{TellsIn, ServesNon, TellsSent}
-use Rattle.coap_server.proofs.Facts.OfServerCalls.{all_tell_sent}
+use Rattle.coap_client.specs.Follows.Hears.{Hears}
+use Rattle.coap_client.specs.Responses.{is_notification}
+use Rattle.coap_client.specs.Trace as C
+use Rattle.coap_server.specs.Law.{layer_of}
+use Rattle.coap_server.specs.Trace as S
+use Rattle.coap_server.specs.Follows.Adds.{call_adds}
+use Rattle.coap_server.specs.Follows.Told.{TellsIn, ServesNon, TellsSent}
+use Rattle.coap_server.proofs.Facts.EachCall.{all_tell_sent}
 use Rattle.coap_world.specs.Events.{client_end, server_end, Config}
 use Rattle.coap_world.specs.Hops.{hops_in, across, client_adds}
 use Rattle.coap_world.specs.Record.{Entry, OfClient, client_of, server_trace}

@@ -1,8 +1,8 @@
 -- What a path holds has a version of 64 bits.
 use Rattle.std.proofs.Common.{List, [], ◌∷◌, refl}
-use Rattle.coap_server.specs.ServerSide.ServerTrace as S
-use Rattle.coap_server.proofs.Facts.OfServer as server_facts
-use Rattle.coap_server.proofs.Facts.OfServerCalls.{held_small}
+use Rattle.coap_server.specs.Trace as S
+use Rattle.coap_server.proofs.Facts.Laws as server_facts
+use Rattle.coap_server.proofs.Facts.EachCall.{held_small}
 use Rattle.coap_world.specs.Events.{Config}
 use Rattle.coap_world.specs.Record.{Entry, server_trace}
 use Rattle.coap_world.proofs.Requests.OfACall.{Lawful, lawful_back}

@@ -10,20 +10,20 @@ use Rattle.coap_exchange.specs.declared.answerer.Asked.{Asked}
 use Rattle.coap_exchange.specs.AnswererFollows.{hits, same_asked}
 use Rattle.coap_exchange.specs.AnswererSteps.{asked_of}
 use Rattle.coap_exchange.proofs.Facts.ServerSide.{self_hits}
-use Rattle.coap_client.specs.Follows.ClientSendings.{NoNons}
-use Rattle.coap_server.specs.Follows.ServerCounts.{ups}
-use Rattle.coap_client.specs.ClientSide.ClientBegins.{WasSent}
-use Rattle.coap_client.specs.ClientSide.ClientEnded.{WasCancelled}
-use Rattle.coap_client.specs.ClientSide.ClientOwn.{Registering, Cancelling}
-use Rattle.coap_client.specs.ClientSide.ClientTokens.{Deregisters, Ends}
-use Rattle.coap_client.specs.ClientSide.ClientWords.{Sending}
-use Rattle.coap_server.specs.ServerSide.Follows.ServerServes.{Serving, serving, asked_of as served_as, times_served}
-use Rattle.coap_server.specs.ServerSide.Follows.ServerTells.{Pair}
-use Rattle.coap_server.specs.ServerSide.ServerLaw.{own_of}
-use Rattle.coap_server.specs.ServerSide.ServerTrace as S
-use Rattle.coap_client.proofs.Facts.OfClient as client_facts
-use Rattle.coap_server.proofs.Facts.OfServer as server_facts
-use Rattle.coap_server.specs.ServerSide.Follows.ServerTold.{ServesNon, ServesPair}
+use Rattle.coap_client.specs.Follows.Sendings.{NoNons}
+use Rattle.coap_server.specs.Follows.Counts.{ups}
+use Rattle.coap_client.specs.Follows.Begins.{WasSent}
+use Rattle.coap_client.specs.Follows.Ended.{WasCancelled}
+use Rattle.coap_client.specs.Own.{Registering, Cancelling}
+use Rattle.coap_client.specs.Follows.Tokens.{Deregisters, Ends}
+use Rattle.coap_client.specs.Follows.Words.{Sending}
+use Rattle.coap_server.specs.Follows.Serves.{Serving, serving, asked_of as served_as, times_served}
+use Rattle.coap_server.specs.Follows.Tells.{Pair}
+use Rattle.coap_server.specs.Law.{own_of}
+use Rattle.coap_server.specs.Trace as S
+use Rattle.coap_client.proofs.Facts.Laws as client_facts
+use Rattle.coap_server.proofs.Facts.Laws as server_facts
+use Rattle.coap_server.specs.Follows.Told.{ServesNon, ServesPair}
 use Rattle.coap_world.specs.CameFrom.{request_of}
 use Rattle.coap_world.specs.Events.{client_end, server_end, Config}
 use Rattle.coap_world.specs.Hops.{hops_at, hops_in}

@@ -4,11 +4,11 @@ use Rattle.coap_types.specs.Past.{Ever, Sometime}
 use Rattle.coap_types.proofs.Facts.Traces.{Ever_append}
 use Rattle.coap_layer.specs.Channel.{Hop, Near, Far}
 use Rattle.coap_layer.specs.Trace as L
-use Rattle.coap_client.specs.ClientSide.ClientTrace as C
-use Rattle.coap_server.specs.ServerSide.ServerTrace as S
-use Rattle.coap_server.specs.ServerSide.ServerLaw.{layer_of}
-use Rattle.coap_server.specs.ServerSide.ServerAdds.{call_adds}
-use Rattle.coap_server.proofs.Facts.OfServerCalls.{layer_next}
+use Rattle.coap_client.specs.Trace as C
+use Rattle.coap_server.specs.Trace as S
+use Rattle.coap_server.specs.Law.{layer_of}
+use Rattle.coap_server.specs.Follows.Adds.{call_adds}
+use Rattle.coap_server.proofs.Facts.EachCall.{layer_next}
 use Rattle.coap_world.specs.Events.{Config}
 use Rattle.coap_world.specs.Hops.{across}
 use Rattle.coap_world.specs.Record.{Entry, OfClient, OfServer, client_of, server_trace}

@@ -11,28 +11,28 @@ use Rattle.coap_layer.specs.Channel.{Hop, Far, near_of, OnFar, HandsUpAs}
 use Rattle.coap_layer.specs.Trace as T
 use Rattle.coap_layer.specs.Words.{Open, begun}
 use Rattle.coap_resource.specs.RequestOptions.{tag_of}
-use Rattle.coap_client.specs.Follows.ClientHears.{Hears}
-use Rattle.coap_client.specs.ClientSide.ClientEnded.{WasCancelled}
-use Rattle.coap_client.specs.ClientSide.ClientLaw as C
-use Rattle.coap_client.specs.ClientSide.ClientNewer.{Newly, notifies}
-use Rattle.coap_client.specs.ClientSide.ClientNotified.{WasRegistered, IsFirst, IsLater, IsTaken}
-use Rattle.coap_client.specs.ClientSide.ClientResponses.{is_notification, tag_in}
-use Rattle.coap_client.specs.ClientSide.ClientRising.{ComesAfter, Shows}
-use Rattle.coap_client.specs.ClientSide.ClientTrace.{Call}
-use Rattle.coap_client.specs.ClientSide.ClientWords.{Sending}
-use Rattle.coap_server.specs.ServerSide.Follows.ServerTells.{Telling}
-use Rattle.coap_server.specs.ServerSide.ServerTrace as S
-use Rattle.coap_client.proofs.Facts.OfClient as client_facts
-use Rattle.coap_client.proofs.Facts.OfClientCalls.{ask_once}
-use Rattle.coap_client.proofs.Facts.OfClientCalls.{are_over}
-use Rattle.coap_client.proofs.Facts.OfClientCalls.{are_noted}
-use Rattle.coap_client.proofs.Facts.OfClientCalls.{are_taken}
-use Rattle.coap_client.proofs.Facts.OfClientCalls.{values_rise}
-use Rattle.coap_client.proofs.Facts.OfClientCalls.{values_are_whole}
-use Rattle.coap_client.specs.ClientSide.ClientTypes.{IsOfType}
-use Rattle.coap_server.specs.ServerSide.Follows.ServerTold.{Conveys, TellsIn, TellsSent}
-use Rattle.coap_client.proofs.Facts.OfClientCalls.{are_of_types}
-use Rattle.coap_server.proofs.Facts.OfServerCalls.{all_tell_sent}
+use Rattle.coap_client.specs.Follows.Hears.{Hears}
+use Rattle.coap_client.specs.Follows.Ended.{WasCancelled}
+use Rattle.coap_client.specs.Law as C
+use Rattle.coap_client.specs.Follows.Newer.{Newly, notifies}
+use Rattle.coap_client.specs.Follows.Notified.{WasRegistered, IsFirst, IsLater, IsTaken}
+use Rattle.coap_client.specs.Responses.{is_notification, tag_in}
+use Rattle.coap_client.specs.Follows.Rising.{ComesAfter, Shows}
+use Rattle.coap_client.specs.Trace.{Call}
+use Rattle.coap_client.specs.Follows.Words.{Sending}
+use Rattle.coap_server.specs.Follows.Tells.{Telling}
+use Rattle.coap_server.specs.Trace as S
+use Rattle.coap_client.proofs.Facts.Laws as client_facts
+use Rattle.coap_client.proofs.Facts.EachCall.{ask_once}
+use Rattle.coap_client.proofs.Facts.EachCall.{are_over}
+use Rattle.coap_client.proofs.Facts.EachCall.{are_noted}
+use Rattle.coap_client.proofs.Facts.EachCall.{are_taken}
+use Rattle.coap_client.proofs.Facts.EachCall.{values_rise}
+use Rattle.coap_client.proofs.Facts.EachCall.{values_are_whole}
+use Rattle.coap_client.specs.Follows.Types.{IsOfType}
+use Rattle.coap_server.specs.Follows.Told.{Conveys, TellsIn, TellsSent}
+use Rattle.coap_client.proofs.Facts.EachCall.{are_of_types}
+use Rattle.coap_server.proofs.Facts.EachCall.{all_tell_sent}
 use Rattle.coap_world.specs.Events.{client_end, server_end, Config}
 use Rattle.coap_world.specs.Hops.{hops_at, hops_in, across, client_adds}
 use Rattle.coap_world.specs.Record.{Entry, OfClient, OfServer, client_of, server_trace}

@@ -5,20 +5,20 @@ use Rattle.std.specs.Cmp.{unsigned_Decides}
 use Rattle.coap_types.specs.declared.block.Block.{Block}
 use Rattle.coap_block.specs.Gathered.{part, payloads_of}
 use Rattle.coap_block.specs.Whole.{Part, Each, HasTag, OneTag, Whole}
-use Rattle.coap_client.specs.ClientSide.ClientBegins.{WasSent}
-use Rattle.coap_client.specs.ClientSide.ClientBodies.{ComesLast}
-use Rattle.coap_client.specs.ClientSide.ClientBounds.{registers, AskOnce}
-use Rattle.coap_client.specs.ClientSide.ClientEffects.{of}
-use Rattle.coap_client.specs.ClientSide.ClientLaw.{own_of}
-use Rattle.coap_client.specs.ClientSide.ClientNewer.{Newly, notifies}
-use Rattle.coap_client.specs.ClientSide.ClientNotified.{is_newly_of, newest_if, newest}
-use Rattle.coap_client.specs.ClientSide.ClientOwn.{Registering}
-use Rattle.coap_client.specs.ClientSide.ClientResponses.{tag_in}
-use Rattle.coap_client.specs.ClientSide.ClientRising.{value_reported, Shows}
-use Rattle.coap_client.specs.ClientSide.ClientSteps.{reports}
-use Rattle.coap_client.specs.ClientSide.ClientTrace.{Value, Call}
-use Rattle.coap_client.specs.ClientSide.ClientValues.{IsAlone, IsFetchedFor, IsObserved}
-use Rattle.coap_client.specs.ClientSide.ClientWords.{Sending}
+use Rattle.coap_client.specs.Follows.Begins.{WasSent}
+use Rattle.coap_client.specs.Follows.Bodies.{ComesLast}
+use Rattle.coap_client.specs.Follows.Bounds.{registers, AskOnce}
+use Rattle.coap_client.specs.Effects.{of}
+use Rattle.coap_client.specs.Law.{own_of}
+use Rattle.coap_client.specs.Follows.Newer.{Newly, notifies}
+use Rattle.coap_client.specs.Follows.Notified.{is_newly_of, newest_if, newest}
+use Rattle.coap_client.specs.Own.{Registering}
+use Rattle.coap_client.specs.Responses.{tag_in}
+use Rattle.coap_client.specs.Follows.Rising.{value_reported, Shows}
+use Rattle.coap_client.specs.Steps.{reports}
+use Rattle.coap_client.specs.Trace.{Value, Call}
+use Rattle.coap_client.specs.Follows.Values.{IsAlone, IsFetchedFor, IsObserved}
+use Rattle.coap_client.specs.Follows.Words.{Sending}
 
 -- of several parts the first and the last have one tag
 

@@ -2,8 +2,8 @@
 use Rattle.std.proofs.Common.{inl, inr, ℕ, Bool, true, false, Some, None, List, [], ◌∷◌, ◌++◌, map, sym, subst}
 use Rattle.coap_types.specs.Past.{Always}
 use Rattle.coap_layer.specs.Trace.{Packet}
-use Rattle.coap_client.specs.ClientSide.ClientTrace as C
-use Rattle.coap_server.specs.ServerSide.ServerTrace as S
+use Rattle.coap_client.specs.Trace as C
+use Rattle.coap_server.specs.Trace as S
 use Rattle.coap_world.specs.Events.{Config, What, Calls, Observes, Cancels, Forgets, Sets, Removes, TickClient}
 use Rattle.coap_world.specs.Events.{TickServer, Deliver, StrangerToClient}
 use Rattle.coap_world.specs.Events.{StrangerToServer}

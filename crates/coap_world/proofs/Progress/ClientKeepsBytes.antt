@@ -14,21 +14,21 @@ use Rattle.coap_observe.specs.Newer.{arrived}
 use Rattle.coap_exchange.specs.declared.asker.AskRefusal.{AskRefusal}
 use Rattle.coap_exchange.specs.declared.asker.Event.{Event}
 use Rattle.coap_client.specs.declared.refusals.CallRefusal.{CallRefusal}
-use Rattle.coap_client.specs.ClientSide.ClientTrace.{Request, Report, Reported, NoIds}
-use Rattle.coap_client.specs.ClientSide.ClientOwn.{Transfer, Operation, Calling, Registering, Fetching, Cancelling}
-use Rattle.coap_client.specs.ClientSide.ClientOwn.{Dropped, Notified, Observation, Own}
-use Rattle.coap_client.specs.ClientSide.ClientObservations.{dropped, over, with_rest}
-use Rattle.coap_client.specs.ClientSide.ClientReports.{lapse}
-use Rattle.coap_client.specs.ClientSide.ClientResponses.{sequence_in}
-use Rattle.coap_client.specs.ClientSide.ClientQueue.{transfer_of, calling, numbered}
-use Rattle.coap_client.specs.ClientSide.ClientEffects.{Effect, ends, of, is_upload, has_sent}
-use Rattle.coap_client.specs.ClientSide.ClientFetching.{rest}
-use Rattle.coap_client.specs.ClientSide.ClientObserving.{begun, first_rest}
-use Rattle.coap_client.specs.ClientSide.ClientEvents.{failed, closed}
-use Rattle.coap_client.specs.ClientSide.ClientDeeds.{at}
-use Rattle.coap_client.specs.ClientTurns.ClientMoves as mv
-use Rattle.coap_client.specs.ClientTurns.ClientMoves.{Move, left_by, Hears}
-use Rattle.coap_client.specs.ClientTurns.ClientClosing.{Closing, quiet, goes_out, is_refused}
+use Rattle.coap_client.specs.Trace.{Request, Report, Reported, NoIds}
+use Rattle.coap_client.specs.Own.{Transfer, Operation, Calling, Registering, Fetching, Cancelling}
+use Rattle.coap_client.specs.Own.{Dropped, Notified, Observation, Own}
+use Rattle.coap_client.specs.Observations.{dropped, over, with_rest}
+use Rattle.coap_client.specs.Reports.{lapse}
+use Rattle.coap_client.specs.Responses.{sequence_in}
+use Rattle.coap_client.specs.Queue.{transfer_of, calling, numbered}
+use Rattle.coap_client.specs.Effects.{Effect, ends, of, is_upload, has_sent}
+use Rattle.coap_client.specs.Fetching.{rest}
+use Rattle.coap_client.specs.Observing.{begun, first_rest}
+use Rattle.coap_client.specs.Events.{failed, closed}
+use Rattle.coap_client.specs.Deeds.{at}
+use Rattle.coap_client.specs.Turns.Moves as mv
+use Rattle.coap_client.specs.Turns.Moves.{Move, left_by, Hears}
+use Rattle.coap_client.specs.Turns.Closing.{Closing, quiet, goes_out, is_refused}
 use Rattle.coap_world.specs.Legal.{IsRequest}
 use Rattle.coap_world.proofs.Progress.EachElement.{Each, each_join, each_filter, each_changed}
 use Rattle.coap_world.proofs.Progress.TransfersInBytes.{TransferAre, RestAre, answer_are, rest_are}

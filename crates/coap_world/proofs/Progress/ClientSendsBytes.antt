@@ -22,23 +22,23 @@ use Rattle.coap_exchange.specs.declared.asker.Event.{Event}
 use Rattle.coap_exchange.specs.AskerTrace as E
 use Rattle.coap_exchange.specs.AskerLaw as W
 use Rattle.coap_exchange.proofs.Facts.ClientSide.{layer_stands}
-use Rattle.coap_client.specs.ClientSide.ClientTrace.{Request, NoIds, Call, Calls, Observes, Cancels, Forgets, Feeds}
-use Rattle.coap_client.specs.ClientSide.ClientTrace.{Ticks, NextOut, NextReport, Asked}
-use Rattle.coap_client.specs.ClientSide.ClientOwn.{Operation, Calling, Registering, Fetching, Cancelling, Dropped}
-use Rattle.coap_client.specs.ClientSide.ClientOwn.{Notified, Observation, Own}
-use Rattle.coap_client.specs.ClientSide.ClientObservations.{observation_of}
-use Rattle.coap_client.specs.ClientSide.ClientRequests.{flag_option, path_options, before_path, after_path, options_of}
-use Rattle.coap_client.specs.ClientSide.ClientRequests.{block_option, block2_option, message_of}
-use Rattle.coap_client.specs.ClientSide.ClientEffects.{Deed, Rests, Asks, Keeps, Releases, Effect, has_sent}
-use Rattle.coap_client.specs.ClientSide.ClientEvents.{failed, happened, passes, closed}
-use Rattle.coap_client.specs.ClientSide.ClientDeeds.{at, deeds}
-use Rattle.coap_client.specs.ClientSide.ClientHears.{AreFromServer}
-use Rattle.coap_client.specs.ClientSide.ClientSteps.{lower}
-use Rattle.coap_client.specs.ClientSide.ClientLaw.{ClientLaw, own_of, lower_of, layer_of}
-use Rattle.coap_client.specs.ClientTurns.ClientMoves.{Moved, left_by, Hears}
-use Rattle.coap_client.proofs.Facts.OfClient as facts
-use Rattle.coap_client.proofs.Facts.MovesOfClient.{releases_none, happened_moves, passes_moves}
-use Rattle.coap_client.proofs.Facts.OfClientCalls.{asks_runs, closing}
+use Rattle.coap_client.specs.Trace.{Request, NoIds, Call, Calls, Observes, Cancels, Forgets, Feeds}
+use Rattle.coap_client.specs.Trace.{Ticks, NextOut, NextReport, Asked}
+use Rattle.coap_client.specs.Own.{Operation, Calling, Registering, Fetching, Cancelling, Dropped}
+use Rattle.coap_client.specs.Own.{Notified, Observation, Own}
+use Rattle.coap_client.specs.Observations.{observation_of}
+use Rattle.coap_client.specs.Requests.{flag_option, path_options, before_path, after_path, options_of}
+use Rattle.coap_client.specs.Requests.{block_option, block2_option, message_of}
+use Rattle.coap_client.specs.Effects.{Deed, Rests, Asks, Keeps, Releases, Effect, has_sent}
+use Rattle.coap_client.specs.Events.{failed, happened, passes, closed}
+use Rattle.coap_client.specs.Deeds.{at, deeds}
+use Rattle.coap_client.specs.Follows.FromServer.{AreFromServer}
+use Rattle.coap_client.specs.Steps.{lower}
+use Rattle.coap_client.specs.Law.{ClientLaw, own_of, lower_of, layer_of}
+use Rattle.coap_client.specs.Turns.Moves.{Moved, left_by, Hears}
+use Rattle.coap_client.proofs.Facts.Laws as facts
+use Rattle.coap_client.proofs.Facts.EachMove.{releases_none, happened_moves, passes_moves}
+use Rattle.coap_client.proofs.Facts.EachCall.{asks_runs, closing}
 use Rattle.coap_world.specs.Legal.{IsRequest}
 use Rattle.coap_world.proofs.Progress.EachElement.{Each, each_join, each_front, each_back, last_of}
 use Rattle.coap_world.proofs.Progress.SpelledInBytes.{ValuesAre, none_are, values_append}
@@ -179,7 +179,7 @@ closed_rests now e (Keeps t) token op is h = cc h
 closed_rests now e (Releases t) token op is h = cc h
 
 releases_are : (o : Option Observation) (s : Own) (kept : Bool)
-    → Each RequestAre (deeds (Rattle.coap_client.specs.ClientSide.ClientObserving.releases o) s 0 0 L.Nothing
+    → Each RequestAre (deeds (Rattle.coap_client.specs.Observing.releases o) s 0 0 L.Nothing
     (Ok []) kept)
 releases_are None s kept = tt
 releases_are (Some o) s kept = (tt, tt)

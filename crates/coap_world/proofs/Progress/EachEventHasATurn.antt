@@ -7,17 +7,17 @@ use Rattle.coap_types.specs.declared.endpoint.Endpoint.{Endpoint}
 use Rattle.coap_types.specs.Bytes.{AreBytes}
 use Rattle.std.proofs.lemmas.Bool.{lt-ltb}
 use Rattle.coap_layer.specs.Machine.State as layer
-use Rattle.coap_client.specs.ClientSide.ClientTrace as C
-use Rattle.coap_client.specs.ClientSide.ClientLaw.{ClientLaw}
-use Rattle.coap_both.specs.Endings.{UpToIdle, all_taken}
-use Rattle.coap_server.specs.ServerSide.ServerTrace as S
-use Rattle.coap_server.specs.ServerSide.ServerLaw.{ServerLaw, own_of}
+use Rattle.coap_client.specs.Trace as C
+use Rattle.coap_client.specs.Law.{ClientLaw}
+use Rattle.coap_common.specs.Endings.{UpToIdle, all_taken}
+use Rattle.coap_server.specs.Trace as S
+use Rattle.coap_server.specs.Law.{ServerLaw, own_of}
 use Rattle.coap_server.specs.declared.limits.TheConstants.{MAX_DELAYS as max_delays}
-use Rattle.coap_server.specs.ServerSide.ServerDeferring.{others}
-use Rattle.coap_client.specs.ClientSide.ClientGoesOn as client_goes_spec
-use Rattle.coap_server.specs.ServerSide.Follows.ServerGoesOn as server_goes_spec
-use Rattle.coap_server.proofs.Facts.OfServer as server_facts
-use Rattle.coap_client.proofs.Facts.OfClientCalls as client_calls
+use Rattle.coap_server.specs.Deferring.{others}
+use Rattle.coap_client.specs.Follows.GoesOn as client_goes_spec
+use Rattle.coap_server.specs.Follows.GoesOn as server_goes_spec
+use Rattle.coap_server.proofs.Facts.Laws as server_facts
+use Rattle.coap_client.proofs.Facts.EachCall as client_calls
 use Rattle.coap_world.specs.Events.{server_end, Config, What, Calls, Observes, Cancels, Forgets, Sets, Removes}
 use Rattle.coap_world.specs.Events.{TickClient, TickServer, Deliver}
 use Rattle.coap_world.specs.Events.{StrangerToClient, StrangerToServer, Event}

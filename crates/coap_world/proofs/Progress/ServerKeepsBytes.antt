@@ -38,19 +38,19 @@ use Rattle.coap_resource.specs.Serves.{Question, Reply}
 use Rattle.coap_exchange.specs.declared.answerer.Asked.{Asked}
 use Rattle.coap_exchange.specs.declared.answerer.Ended.{Ended}
 use Rattle.coap_exchange.specs.AnswererFollows.{same_asked}
-use Rattle.coap_server.specs.ServerSide.ServerTrace.{Waiting, Handling, Silent, Replies, Serves, Waits, Notifies}
-use Rattle.coap_server.specs.ServerSide.ServerChecks.{Verdict, Ignored, Refused, Asks, Uploads, bad_by, bad_request}
-use Rattle.coap_server.specs.ServerSide.ServerChecks.{proxying_not_supported, asks, is_reserved}
-use Rattle.coap_server.specs.ServerSide.ServerChecks.{asked_by, uploading, question, verdict_on}
-use Rattle.coap_server.specs.ServerSide.ServerDeferring.{question_of, without_waiting, waiting_with}
-use Rattle.coap_server.specs.ServerSide.ServerDeferring as defer
-use Rattle.coap_server.specs.ServerSide.ServerObservers.{registers, observes, observers_with, marked_if, unless_ended}
-use Rattle.coap_server.specs.ServerSide.ServerObservers.{sequence, sequence_if}
-use Rattle.coap_server.specs.ServerSide.ServerNotifying.{notified}
-use Rattle.coap_server.specs.ServerSide.ServerResponses.{response_with}
-use Rattle.coap_server.specs.ServerSide.ServerSteps.{store_after, observers_after}
-use Rattle.coap_server.specs.ServerSide.ServerUploads.{last_block, uploads_after}
-use Rattle.coap_server.proofs.Facts.OfServerCalls.{same_asked_is}
+use Rattle.coap_server.specs.Trace.{Waiting, Handling, Silent, Replies, Serves, Waits, Notifies}
+use Rattle.coap_server.specs.Checks.{Verdict, Ignored, Refused, Asks, Uploads, bad_by, bad_request}
+use Rattle.coap_server.specs.Checks.{proxying_not_supported, asks, is_reserved}
+use Rattle.coap_server.specs.Checks.{asked_by, uploading, question, verdict_on}
+use Rattle.coap_server.specs.Deferring.{question_of, without_waiting, waiting_with}
+use Rattle.coap_server.specs.Deferring as defer
+use Rattle.coap_server.specs.Observers.{registers, observes, observers_with, marked_if, unless_ended}
+use Rattle.coap_server.specs.Observers.{sequence, sequence_if}
+use Rattle.coap_server.specs.Notifying.{notified}
+use Rattle.coap_server.specs.Responses.{response_with}
+use Rattle.coap_server.specs.Steps.{store_after, observers_after}
+use Rattle.coap_server.specs.Uploads.{last_block, uploads_after}
+use Rattle.coap_server.proofs.Facts.EachCall.{same_asked_is}
 use Rattle.coap_world.proofs.Progress.BlocksInRange.{IsBlock, said_small, ended_small}
 use Rattle.coap_world.proofs.Progress.EachElement.{Each, each_join, each_filter, each_changed}
 use Rattle.coap_world.proofs.Progress.ExchangesSendBytes.{ResponseAre}

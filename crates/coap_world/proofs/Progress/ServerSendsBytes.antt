@@ -30,21 +30,21 @@ use Rattle.coap_exchange.specs.AnswererTrace as E
 use Rattle.coap_exchange.specs.AnswererLaw as W
 use Rattle.coap_exchange.specs.AnswererSteps.{may_defer}
 use Rattle.coap_exchange.proofs.Facts.ServerSide.{came_in, layer_stands}
-use Rattle.coap_server.specs.ServerSide.ServerTrace.{Waiting, Own, Handling, Silent, Replies, Serves, Waits, Notifies}
-use Rattle.coap_server.specs.ServerSide.ServerTrace.{Call, Sets, Removes, Delays, Feeds}
-use Rattle.coap_server.specs.ServerSide.ServerTrace.{Ticks, NextOut, Gets, TellsApplied}
-use Rattle.coap_server.specs.ServerSide.ServerChecks.{Verdict, Ignored, Refused, Asks, Uploads, verdict_on}
-use Rattle.coap_server.specs.ServerSide.ServerDeferring.{question_of, deferral_by, delay_for, WaitsBy, AnswersWaiting}
-use Rattle.coap_server.specs.ServerSide.ServerDeferring.{HandlesWhole}
-use Rattle.coap_server.specs.ServerSide.ServerUploads.{key_of, ruling_of, whole}
-use Rattle.coap_server.specs.ServerSide.ServerServing.{IsServed, response_to}
-use Rattle.coap_server.specs.ServerSide.ServerNotifying.{marked, behind, readies, asks_for, NotifiesNext}
-use Rattle.coap_server.specs.ServerSide.ServerHandling.{incoming, ticking, heard, HandlesBlock, Handles, HandlesCame}
-use Rattle.coap_server.specs.ServerSide.ServerHandling.{HandlesDue}
-use Rattle.coap_server.specs.ServerSide.ServerAsks.{answering, responding, lower}
-use Rattle.coap_server.specs.ServerSide.ServerObservers.{registers}
-use Rattle.coap_server.specs.ServerSide.ServerSteps.{IsRight, after, uploads_came, waiting_came, waiting_due, ready_in}
-use Rattle.coap_server.specs.ServerSide.ServerLaw.{ServerLaw, ServerRows, own_of, lower_of, layer_of}
+use Rattle.coap_server.specs.Trace.{Waiting, Own, Handling, Silent, Replies, Serves, Waits, Notifies}
+use Rattle.coap_server.specs.Trace.{Call, Sets, Removes, Delays, Feeds}
+use Rattle.coap_server.specs.Trace.{Ticks, NextOut, Gets, TellsApplied}
+use Rattle.coap_server.specs.Checks.{Verdict, Ignored, Refused, Asks, Uploads, verdict_on}
+use Rattle.coap_server.specs.Deferring.{question_of, deferral_by, delay_for, WaitsBy, AnswersWaiting}
+use Rattle.coap_server.specs.Deferring.{HandlesWhole}
+use Rattle.coap_server.specs.Uploads.{key_of, ruling_of, whole}
+use Rattle.coap_server.specs.Serving.{IsServed, response_to}
+use Rattle.coap_server.specs.Notifying.{marked, behind, readies, asks_for, NotifiesNext}
+use Rattle.coap_server.specs.Handling.{incoming, ticking, heard, HandlesBlock, Handles, HandlesCame}
+use Rattle.coap_server.specs.Handling.{HandlesDue}
+use Rattle.coap_server.specs.Asks.{answering, responding, lower}
+use Rattle.coap_server.specs.Observers.{registers}
+use Rattle.coap_server.specs.Steps.{IsRight, after, uploads_came, waiting_came, waiting_due, ready_in}
+use Rattle.coap_server.specs.Law.{ServerLaw, ServerRows, own_of, lower_of, layer_of}
 use Rattle.coap_world.proofs.Progress.BlocksInRange.{IsBlock, continued_small}
 use Rattle.coap_world.proofs.Progress.EachElement.{Each, each_join, each_front, each_back, each_filter, last_of}
 use Rattle.coap_world.proofs.Progress.ExchangesSendBytes.{ResponseAre, RespondAre, each_are, steps_are, CameAre}
@@ -260,7 +260,7 @@ token_in (Some p) c = c.0
 -- the observers behind a tick
 observers_then : (s : Own) (d : Due) (passed : ℕ) (h : Handling) → OwnAre s → HandlesDue s d passed h → HandlingAre h
     → Each WatcherAre
-    (Rattle.coap_server.specs.ServerSide.ServerSteps.observers_after s.store (ready_in d) h s.observers)
+    (Rattle.coap_server.specs.Steps.observers_after s.store (ready_in d) h s.observers)
 observers_then s (due.Ready a) passed (Serves q reply left) own k is =
     observers_are s.store (Some a) (Serves q reply left) s.observers (ready_are s a q reply left own k) is own.observers
 observers_then s (due.Ready a) passed (Notifies o reply) own k is = absurd (by (question_of s.clock a s.waiting) k)

@@ -23,7 +23,7 @@ use Rattle.coap_resource.specs.ResponseOptions.{block_number}
 use Rattle.coap_resource.specs.Serves.{Question, Reply, bare, got, content_reply, PutBy, JoinBy, PostBy, RemoveBy}
 use Rattle.coap_resource.specs.Serves.{DeleteBy, ServesMethod, ServesUnless}
 use Rattle.coap_resource.specs.Serves as R
-use Rattle.coap_server.specs.ServerSide.ServerLocal.{SetsBy, RemovesBy}
+use Rattle.coap_server.specs.Local.{SetsBy, RemovesBy}
 use Rattle.coap_world.proofs.Progress.SpelledInBytes.{none_are, append_are, high_are}
 use Rattle.coap_world.proofs.Progress.BlocksInRange.{content_small}
 

@@ -25,18 +25,18 @@ use Rattle.coap_block.specs.declared.fetch_verdict.Verdict.TheVariants as verdic
 use Rattle.coap_block.specs.FetchStep.{FetchState, fits, is_sized, lacks_tag, differs, next_num, next_szx}
 use Rattle.coap_block.specs.FetchStep as F
 use Rattle.coap_block.specs.UploadStep.{UploadState, KeepsSize, block_to_send, more_follows, continues, moved}
-use Rattle.coap_client.specs.ClientSide.ClientTrace.{Request, BadBlock, Valid, Failed}
-use Rattle.coap_client.specs.ClientSide.ClientOwn.{Transfer, Fetches, Uploads, Single, Notified}
-use Rattle.coap_client.specs.ClientSide.ClientRequests.{is_longer, block2_option, block_option, payload_of}
-use Rattle.coap_client.specs.ClientSide.ClientReports.{done}
-use Rattle.coap_client.specs.ClientSide.ClientResponses.{content, valid, continue, tag_in, block_at, part}
-use Rattle.coap_client.specs.ClientSide.ClientCalls.{Next, Asks, Ends, has_tags, fetched, got, continued, sent}
-use Rattle.coap_client.specs.ClientSide.ClientCalls.{is_below_errors, answer}
-use Rattle.coap_client.specs.ClientSide.ClientFetching.{rest}
-use Rattle.coap_client.proofs.Facts.OfClientCalls.{part_asks}
-use Rattle.coap_client.proofs.Facts.OfClientCalls.{lt_not}
-use Rattle.coap_client.proofs.Facts.OfClientCalls.{same_number}
-use Rattle.coap_client.proofs.Facts.OfClientCalls.{continues_is}
+use Rattle.coap_client.specs.Trace.{Request, BadBlock, Valid, Failed}
+use Rattle.coap_client.specs.Own.{Transfer, Fetches, Uploads, Single, Notified}
+use Rattle.coap_client.specs.Requests.{is_longer, block2_option, block_option, payload_of}
+use Rattle.coap_client.specs.Reports.{done}
+use Rattle.coap_client.specs.Responses.{content, valid, continue, tag_in, block_at, part}
+use Rattle.coap_client.specs.Calls.{Next, Asks, Ends, has_tags, fetched, got, continued, sent}
+use Rattle.coap_client.specs.Calls.{is_below_errors, answer}
+use Rattle.coap_client.specs.Fetching.{rest}
+use Rattle.coap_client.proofs.Facts.EachCall.{part_asks}
+use Rattle.coap_client.proofs.Facts.EachCall.{lt_not}
+use Rattle.coap_client.proofs.Facts.EachCall.{same_number}
+use Rattle.coap_client.proofs.Facts.EachCall.{continues_is}
 use Rattle.coap_world.proofs.Progress.SpelledInBytes.{ValuesAre, none_are}
 
 -- a number of 32 bits

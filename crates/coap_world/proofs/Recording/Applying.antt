@@ -4,13 +4,13 @@ use Rattle.std.proofs.Common.{sym, ap, ◌∙◌, arith, if◌then◌else◌}
 use Rattle.std.proofs.lemmas.Bool.Decides.{Decides-eqb}
 use Rattle.coap_resource.specs.Content.{Content, Held}
 use Rattle.coap_exchange.specs.declared.answerer.Due.TheVariants as due
-use Rattle.coap_server.specs.ServerSide.ServerLaw.{ServerRows, own_of}
-use Rattle.coap_server.specs.ServerSide.ServerServing.{is_applied}
-use Rattle.coap_server.specs.ServerSide.ServerSteps.{after}
-use Rattle.coap_server.specs.ServerSide.ServerTrace as S
-use Rattle.coap_server.specs.ServerSide.Follows.ServerHolds.{Change, change, changed_by, counted, changes}
-use Rattle.coap_server.specs.ServerSide.Follows.ServerServes.{Serving, serving}
-use Rattle.coap_server.proofs.Facts.OfServer.{all_served, holds_changes}
+use Rattle.coap_server.specs.Law.{ServerRows, own_of}
+use Rattle.coap_server.specs.Serving.{is_applied}
+use Rattle.coap_server.specs.Steps.{after}
+use Rattle.coap_server.specs.Trace as S
+use Rattle.coap_server.specs.Follows.Holds.{Change, change, changed_by, counted, changes}
+use Rattle.coap_server.specs.Follows.Serves.{Serving, serving}
+use Rattle.coap_server.proofs.Facts.Laws.{all_served, holds_changes}
 use Rattle.coap_world.specs.Run.Log.{Applies, Changes, applied_as, applied_lines, call_for, line_if}
 use Rattle.coap_world.specs.Run.Telling.{applied_told, made_told, version_after, version_told}
 

@@ -13,15 +13,15 @@ use Rattle.coap_layer.specs.Trace.{Packet}
 use Rattle.coap_exchange.specs.declared.asker.AskRefusal.{AskRefusal}
 use Rattle.coap_client.specs.declared.refusals.CallRefusal.{CallRefusal}
 use Rattle.coap_client.specs.declared.refusals.CancelRefusal.{CancelRefusal}
-use Rattle.coap_client.specs.ClientSide.ClientDeeds.{effect}
-use Rattle.coap_client.specs.ClientSide.ClientEffects.{Deed, Rests, Asks, Keeps, Releases, Effect}
-use Rattle.coap_client.specs.ClientSide.ClientLaw.{own_of}
-use Rattle.coap_client.specs.ClientSide.ClientOwn.{Own}
-use Rattle.coap_client.specs.ClientSide.ClientStep as client
-use Rattle.coap_client.specs.ClientSide.ClientSteps.{after, requested}
-use Rattle.coap_client.specs.ClientSide.ClientTrace as C
-use Rattle.coap_client.specs.ClientSide.ClientWords.{sent_by, sends}
-use Rattle.coap_client.proofs.Facts.OfClientCalls.{led_client}
+use Rattle.coap_client.specs.Deeds.{effect}
+use Rattle.coap_client.specs.Effects.{Deed, Rests, Asks, Keeps, Releases, Effect}
+use Rattle.coap_client.specs.Law.{own_of}
+use Rattle.coap_client.specs.Own.{Own}
+use Rattle.coap_client.specs.Led as client
+use Rattle.coap_client.specs.Steps.{after, requested}
+use Rattle.coap_client.specs.Trace as C
+use Rattle.coap_client.specs.Follows.Words.{sent_by, sends}
+use Rattle.coap_client.proofs.Facts.EachCall.{led_client}
 use Rattle.coap_world.specs.Events.{client_end, server_end}
 use Rattle.coap_world.specs.Record.{OfClient, ClientTick, FeedsClient, given_by}
 use Rattle.coap_world.specs.Run.Acts.{Moves, Acts, Fed, Taken}

@@ -5,13 +5,13 @@ use Rattle.std.proofs.lemmas.Bool.{lt-ltb}
 use Rattle.std.proofs.lemmas.List.{drop-map, drop_more, drop_all, length-append, length-drop, length-map}
 use Rattle.std.proofs.lemmas.List.Filters.{length-filter_both}
 use Rattle.coap_types.specs.Path.{same_path}
-use Rattle.coap_server.specs.ServerSide.ServerDeferring.{others, may_delay}
-use Rattle.coap_server.specs.ServerSide.ServerLaw.{own_of}
-use Rattle.coap_server.specs.ServerSide.Follows.ServerHolds.{changes}
-use Rattle.coap_server.specs.ServerSide.ServerTrace as S
+use Rattle.coap_server.specs.Deferring.{others, may_delay}
+use Rattle.coap_server.specs.Law.{own_of}
+use Rattle.coap_server.specs.Follows.Holds.{changes}
+use Rattle.coap_server.specs.Trace as S
 use Rattle.coap_server.specs.declared.limits.TheConstants.{MAX_DELAYS as max_delays}
 use Rattle.coap_server.specs.declared.server.parts.Delay.{Delay as PathDelay}
-use Rattle.coap_server.specs.ServerObject.ServerShown.{delay_as}
+use Rattle.coap_server.specs.Object.Shown.{delay_as}
 use Rattle.coap_world.specs.Run.Configs.{gives}
 use Rattle.coap_world.proofs.Recording.Applying.{zero_plus}
 

@@ -5,9 +5,9 @@ use Rattle.std.proofs.lemmas.Bool.{ltb-true}
 use Rattle.std.proofs.lemmas.List.{length-append}
 use Rattle.std.proofs.lemmas.List.Elements.{All-filter, All-push}
 use Rattle.coap_types.specs.Path.{IsPath, same_path}
-use Rattle.coap_server.specs.ServerSide.ServerTrace as T
-use Rattle.coap_server.specs.ServerSide.ServerDeferring.{others, delays_with, may_delay}
-use Rattle.coap_server.specs.ServerTurns.DelaysShown.{delays_as}
+use Rattle.coap_server.specs.Trace as T
+use Rattle.coap_server.specs.Deferring.{others, delays_with, may_delay}
+use Rattle.coap_server.specs.Turns.DelaysShown.{delays_as}
 use Rattle.coap_server.specs.declared.limits.TheConstants.{MAX_DELAYS as max_delays}
 use Rattle.coap_server.specs.declared.server.parts.Delay.{Delay as PathDelay}
 use Rattle.coap_world.specs.Legal.{IsConfig, IsDelay}

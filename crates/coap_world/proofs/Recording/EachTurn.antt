@@ -2,7 +2,7 @@
 use Rattle.std.proofs.Common.{◌≡◌, ℕ, Bool, false, Option, List, refl, sym, subst}
 use Rattle.coap_types.specs.declared.endpoint.Endpoint.{Endpoint}
 use Rattle.coap_resource.specs.Content.{Content}
-use Rattle.coap_client.specs.ClientSide.ClientTrace as C
+use Rattle.coap_client.specs.Trace as C
 use Rattle.coap_world.specs.Events.{Event, What, Calls, Observes, Cancels, Forgets, Sets, Removes, TickClient}
 use Rattle.coap_world.specs.Events.{TickServer, StrangerToClient, StrangerToServer}
 use Rattle.coap_world.specs.Legal.{MayCome}

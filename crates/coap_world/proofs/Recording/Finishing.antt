@@ -1,8 +1,8 @@
 -- The end of a turn.
 use Rattle.std.proofs.Common.{◌≡◌, ℕ, Bool, List}
-use Rattle.coap_client.specs.ClientSide.ClientTrace as C
-use Rattle.coap_server.specs.ServerSide.ServerTrace as S
-use Rattle.coap_both.specs.Endings.{all_taken}
+use Rattle.coap_client.specs.Trace as C
+use Rattle.coap_server.specs.Trace as S
+use Rattle.coap_common.specs.Endings.{all_taken}
 use Rattle.coap_world.specs.Events.{Config}
 use Rattle.coap_world.specs.Record.{OfClient, OfServer}
 use Rattle.coap_world.specs.Run.Log.{Log, Line, lines_put, refused_line}

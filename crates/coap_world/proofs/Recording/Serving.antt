@@ -10,17 +10,17 @@ use Rattle.coap_layer.specs.Trace.{Packet}
 use Rattle.coap_resource.specs.Content.{Content, Held, put_refusal}
 use Rattle.coap_resource.specs.Rate.{rate_refusal}
 use Rattle.coap_resource.specs.declared.refusal.StoreRefusal.{StoreRefusal}
-use Rattle.coap_server.specs.ServerObject.ServerShown.{state_of}
-use Rattle.coap_server.specs.ServerSide.ServerLaw.{own_of}
-use Rattle.coap_server.specs.ServerSide.ServerLed as server
-use Rattle.coap_server.specs.ServerSide.ServerLocal.{SetsBy, RemovesBy}
-use Rattle.coap_server.specs.ServerSide.ServerSteps.{after}
-use Rattle.coap_server.specs.ServerSide.ServerTrace as S
-use Rattle.coap_server.specs.ServerSide.Follows.ServerHolds.{Change, change, change_of, changes, counted}
-use Rattle.coap_server.specs.ServerSide.Follows.ServerServes.{serving}
-use Rattle.coap_server.proofs.Facts.OfServer as server_facts
-use Rattle.coap_server.proofs.Facts.OfServer.{version_is}
-use Rattle.coap_server.proofs.Facts.OfServerCalls.{led_further, led_lawful}
+use Rattle.coap_server.specs.Object.Shown.{state_of}
+use Rattle.coap_server.specs.Law.{own_of}
+use Rattle.coap_server.specs.Led as server
+use Rattle.coap_server.specs.Local.{SetsBy, RemovesBy}
+use Rattle.coap_server.specs.Steps.{after}
+use Rattle.coap_server.specs.Trace as S
+use Rattle.coap_server.specs.Follows.Holds.{Change, change, change_of, changes, counted}
+use Rattle.coap_server.specs.Follows.Serves.{serving}
+use Rattle.coap_server.proofs.Facts.Laws as server_facts
+use Rattle.coap_server.proofs.Facts.Laws.{version_is}
+use Rattle.coap_server.proofs.Facts.EachCall.{led_further, led_lawful}
 use Rattle.coap_world.specs.Events.{server_end, Config}
 use Rattle.coap_world.specs.Record.{OfServer, ServerTick, FeedsServer, given_by}
 use Rattle.coap_world.specs.Run.Acts.{Moves, Acts, Taken, TakesAll}

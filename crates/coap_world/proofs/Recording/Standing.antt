@@ -2,11 +2,11 @@
 use Rattle.std.proofs.Common.{◌≡◌, ◌≤◌, ◌<◌, ℕ, ◌^◌, List, [], ◌∷◌, ◌++◌, reverse, refl, sym, ap, ◌∙◌, arith}
 use Rattle.std.proofs.lemmas.List.{reverse-append}
 use Rattle.coap_types.specs.Past.{all_of}
-use Rattle.coap_client.specs.ClientSide.ClientTrace as C
-use Rattle.coap_server.specs.ServerSide.ServerTrace as S
-use Rattle.coap_server.specs.ServerObject.ServerShown.{state_of}
-use Rattle.coap_client.proofs.Facts.OfClientCalls.{client_stands}
-use Rattle.coap_server.proofs.Facts.OfServerCalls.{led_lawful}
+use Rattle.coap_client.specs.Trace as C
+use Rattle.coap_server.specs.Trace as S
+use Rattle.coap_server.specs.Object.Shown.{state_of}
+use Rattle.coap_client.proofs.Facts.EachCall.{client_stands}
+use Rattle.coap_server.proofs.Facts.EachCall.{led_lawful}
 use Rattle.coap_resource.specs.Content.{Content}
 use Rattle.coap_world.specs.Events.{Config, Event, server_end}
 use Rattle.coap_world.specs.Legal.{IsConfig, InRange, NotBefore}

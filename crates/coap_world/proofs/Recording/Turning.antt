@@ -5,13 +5,13 @@ use Rattle.coap_types.specs.Past.{Always, all_of}
 use Rattle.coap_types.specs.SameEndpoint.{same_endpoint}
 use Rattle.coap_types.specs.declared.endpoint.Endpoint.{Endpoint}
 use Rattle.coap_resource.specs.Content.{Content}
-use Rattle.coap_client.specs.ClientSide.ClientTrace as C
-use Rattle.coap_server.specs.ServerSide.ServerLaw.{own_of}
-use Rattle.coap_server.specs.ServerSide.ServerServing.{is_applied}
-use Rattle.coap_server.specs.ServerSide.ServerTrace as S
-use Rattle.coap_server.specs.ServerSide.Follows.ServerHolds.{change}
-use Rattle.coap_server.specs.ServerSide.Follows.ServerServes.{Serving, serving}
-use Rattle.coap_both.specs.Endings.{all_taken}
+use Rattle.coap_client.specs.Trace as C
+use Rattle.coap_server.specs.Law.{own_of}
+use Rattle.coap_server.specs.Serving.{is_applied}
+use Rattle.coap_server.specs.Trace as S
+use Rattle.coap_server.specs.Follows.Holds.{change}
+use Rattle.coap_server.specs.Follows.Serves.{Serving, serving}
+use Rattle.coap_common.specs.Endings.{all_taken}
 use Rattle.coap_world.specs.Events.{client_end, Config, Event}
 use Rattle.coap_world.specs.Legal.{MayCome}
 use Rattle.coap_world.specs.Record.{Entry, OfClient, OfServer, Turn, given_by, server_of, client_of, server_trace}

@@ -13,14 +13,14 @@ use Rattle.coap_layer.proofs.Facts.Hops.{far_ever}
 use Rattle.coap_observe.specs.Observers.{Observer}
 use Rattle.coap_exchange.specs.AnswererSteps.{content_with}
 use Rattle.coap_exchange.specs.AnswererTrace as R
-use Rattle.coap_client.specs.Follows.ClientHears.{Hears}
-use Rattle.coap_client.specs.ClientSide.ClientTrace as C
-use Rattle.coap_client.specs.ClientSide.ClientWords.{hears}
-use Rattle.coap_server.specs.ServerSide.Follows.ServerGives.{Carries, IsEmpty, CarriesResponse}
-use Rattle.coap_server.specs.ServerSide.Follows.ServerObserves.{WasMade}
-use Rattle.coap_server.specs.ServerSide.ServerTrace as S
-use Rattle.coap_client.proofs.Facts.OfClient as client_facts
-use Rattle.coap_server.proofs.Facts.OfServer as server_facts
+use Rattle.coap_client.specs.Follows.Hears.{Hears}
+use Rattle.coap_client.specs.Trace as C
+use Rattle.coap_client.specs.Follows.Words.{hears}
+use Rattle.coap_server.specs.Follows.Gives.{Carries, IsEmpty, CarriesResponse}
+use Rattle.coap_server.specs.Follows.Observes.{WasMade}
+use Rattle.coap_server.specs.Trace as S
+use Rattle.coap_client.proofs.Facts.Laws as client_facts
+use Rattle.coap_server.proofs.Facts.Laws as server_facts
 use Rattle.coap_world.specs.Answers.{IsResponse, replies, continues, refuses, notifies, AnswersAt}
 use Rattle.coap_world.specs.Answers.{AllAnswered}
 use Rattle.coap_world.specs.Events.{client_end, server_end, Config}

@@ -4,16 +4,16 @@ use Rattle.coap_types.specs.Past.{Sometime}
 use Rattle.coap_layer.specs.Channel.{near_of}
 use Rattle.coap_exchange.specs.declared.answerer.Asked.{Asked}
 use Rattle.coap_exchange.specs.AnswererSteps.{asked_of}
-use Rattle.coap_client.specs.Follows.ClientSendings.{NoNons}
-use Rattle.coap_server.specs.Follows.ServerCounts.{ups}
-use Rattle.coap_client.specs.ClientSide.ClientOrder.{call_of}
-use Rattle.coap_client.specs.ClientSide.ClientWords.{Taken, WasTaken, Sending}
-use Rattle.coap_server.specs.ServerSide.Follows.ServerServes.{Serving, serving, times_handed}
-use Rattle.coap_server.specs.ServerSide.ServerChecks.{Verdict, Uploads, verdict_on}
-use Rattle.coap_server.specs.ServerSide.ServerLaw.{own_of}
-use Rattle.coap_server.specs.ServerSide.ServerTrace as S
-use Rattle.coap_client.proofs.Facts.OfClient as client_facts
-use Rattle.coap_server.proofs.Facts.OfServer as server_facts
+use Rattle.coap_client.specs.Follows.Sendings.{NoNons}
+use Rattle.coap_server.specs.Follows.Counts.{ups}
+use Rattle.coap_client.specs.Follows.Order.{call_of}
+use Rattle.coap_client.specs.Follows.Words.{Taken, WasTaken, Sending}
+use Rattle.coap_server.specs.Follows.Serves.{Serving, serving, times_handed}
+use Rattle.coap_server.specs.Checks.{Verdict, Uploads, verdict_on}
+use Rattle.coap_server.specs.Law.{own_of}
+use Rattle.coap_server.specs.Trace as S
+use Rattle.coap_client.proofs.Facts.Laws as client_facts
+use Rattle.coap_server.proofs.Facts.Laws as server_facts
 use Rattle.coap_world.specs.CameFrom.{request_of}
 use Rattle.coap_world.specs.Events.{client_end, server_end, Config}
 use Rattle.coap_world.specs.Hops.{hops_in}

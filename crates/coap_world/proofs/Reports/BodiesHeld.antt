@@ -4,13 +4,13 @@ use Rattle.coap_types.specs.Past.{Sometime, Always}
 use Rattle.coap_types.specs.RequestPath.{path_of}
 use Rattle.coap_codec.specs.Message.{Message}
 use Rattle.coap_block.specs.Whole.{Part, Each}
-use Rattle.coap_client.specs.ClientSide.ClientBodies.{TookPart, IsFetched}
-use Rattle.coap_client.specs.ClientSide.ClientResponses.{content}
-use Rattle.coap_client.specs.ClientSide.ClientTrace as C
-use Rattle.coap_client.specs.ClientSide.ClientTrace.{Body}
-use Rattle.coap_client.specs.ClientSide.ClientWords.{hears}
-use Rattle.coap_client.proofs.Facts.OfClient as client_facts
-use Rattle.coap_server.proofs.Facts.OfServer as server_facts
+use Rattle.coap_client.specs.Follows.Bodies.{TookPart, IsFetched}
+use Rattle.coap_client.specs.Responses.{content}
+use Rattle.coap_client.specs.Trace as C
+use Rattle.coap_client.specs.Trace.{Body}
+use Rattle.coap_client.specs.Follows.Words.{hears}
+use Rattle.coap_client.proofs.Facts.Laws as client_facts
+use Rattle.coap_server.proofs.Facts.Laws as server_facts
 use Rattle.coap_world.specs.Events.{server_end, Config}
 use Rattle.coap_world.specs.Record.{Entry, OfClient, OfServer, client_of, server_trace}
 use Rattle.coap_world.specs.Words.{ReportsAt, last_at}

@@ -17,14 +17,14 @@ use Rattle.coap_resource.specs.RequestOptions.{precondition_fails}
 use Rattle.coap_resource.specs.Serves.{Question, Reply, PutBy, JoinBy, PostBy, RemoveBy, DeleteBy, ServesMethod}
 use Rattle.coap_resource.specs.Serves.{ServesUnless}
 use Rattle.coap_resource.specs.Serves as R
-use Rattle.coap_server.specs.ServerSide.ServerLaw.{own_of, ServerRows}
-use Rattle.coap_server.specs.ServerSide.ServerLocal.{SetsBy, RemovesBy}
-use Rattle.coap_server.specs.ServerSide.ServerTrace as S
-use Rattle.coap_server.specs.ServerSide.Follows.ServerHolds.{Change, changed_by, change, held_then, held_at}
-use Rattle.coap_server.specs.ServerSide.Follows.ServerServes.{Serving, serving}
-use Rattle.coap_server.specs.ServerSide.Follows.ServerTags.{WasHeld}
-use Rattle.coap_client.proofs.Facts.OfClientCalls.{lt_not}
-use Rattle.coap_server.proofs.Facts.OfServer.{held_is, all_served}
+use Rattle.coap_server.specs.Law.{own_of, ServerRows}
+use Rattle.coap_server.specs.Local.{SetsBy, RemovesBy}
+use Rattle.coap_server.specs.Trace as S
+use Rattle.coap_server.specs.Follows.Holds.{Change, changed_by, change, held_then, held_at}
+use Rattle.coap_server.specs.Follows.Serves.{Serving, serving}
+use Rattle.coap_server.specs.Follows.Tags.{WasHeld}
+use Rattle.coap_client.proofs.Facts.EachCall.{lt_not}
+use Rattle.coap_server.proofs.Facts.Laws.{held_is, all_served}
 use Rattle.coap_world.specs.Bounds.{AreShort}
 use Rattle.coap_world.specs.Events.{Config}
 use Rattle.coap_world.specs.Record.{Entry, server_trace}

@@ -15,20 +15,20 @@ use Rattle.coap_resource.specs.Serves as R
 use Rattle.coap_resource.specs.declared.refusal.StoreRefusal.{StoreRefusal}
 use Rattle.coap_resource.specs.declared.refusal.StoreRefusal.TheVariants as why
 use Rattle.coap_exchange.specs.AnswererTrace as E
-use Rattle.coap_client.specs.ClientSide.ClientOfCalls.{CarriesBody}
-use Rattle.coap_client.specs.ClientSide.ClientOrder.{is_last}
-use Rattle.coap_client.specs.ClientSide.ClientOwn.{Transfer, Fetches, Uploads, Single, Operation, Calling, Registering}
-use Rattle.coap_client.specs.ClientSide.ClientOwn.{Fetching, Cancelling, Dropped}
-use Rattle.coap_client.specs.ClientSide.ClientReports.{is_success}
-use Rattle.coap_client.specs.ClientSide.ClientResponses.{created, deleted, changed}
-use Rattle.coap_client.specs.ClientSide.ClientTrace as C
-use Rattle.coap_server.specs.ServerSide.Follows.ServerGives.{refusal_in, NoticeOf}
-use Rattle.coap_server.specs.ServerSide.ServerChecks.{bad_request}
-use Rattle.coap_server.specs.ServerSide.ServerServing.{is_applied}
-use Rattle.coap_server.specs.ServerSide.ServerTrace as S
-use Rattle.coap_client.proofs.Facts.OfClientCalls.{apart}
-use Rattle.coap_server.proofs.Facts.OfServerCalls.{refusals_are_errors}
-use Rattle.coap_client.specs.ClientSide.ClientCodes.{Succeeds, Fails}
+use Rattle.coap_client.specs.Follows.OfCalls.{CarriesBody}
+use Rattle.coap_client.specs.Follows.Order.{is_last}
+use Rattle.coap_client.specs.Own.{Transfer, Fetches, Uploads, Single, Operation, Calling, Registering}
+use Rattle.coap_client.specs.Own.{Fetching, Cancelling, Dropped}
+use Rattle.coap_client.specs.Reports.{is_success}
+use Rattle.coap_client.specs.Responses.{created, deleted, changed}
+use Rattle.coap_client.specs.Trace as C
+use Rattle.coap_server.specs.Follows.Gives.{refusal_in, NoticeOf}
+use Rattle.coap_server.specs.Checks.{bad_request}
+use Rattle.coap_server.specs.Serving.{is_applied}
+use Rattle.coap_server.specs.Trace as S
+use Rattle.coap_client.proofs.Facts.EachCall.{apart}
+use Rattle.coap_server.proofs.Facts.EachCall.{refusals_are_errors}
+use Rattle.coap_client.specs.Follows.Codes.{Succeeds, Fails}
 
 -- the codes by which a request of a method is applied
 abbrev pub applied_by : Method → ℕ → Bool
@@ -52,7 +52,7 @@ succeeds_applied Dropped code h = absurd h
 -- .. and failure of the last request of a call is not
 module _ (szx k : ℕ) (r : C.Request) (body : List ℕ) (code : ℕ) where
   none_of_upload : (u : UploadState) (b : Bool) → not b ≡ true
-      → Rattle.coap_client.specs.ClientSide.ClientCodes.FailsBlock b u code
+      → Rattle.coap_client.specs.Follows.Codes.FailsBlock b u code
       → ((code == created) || (code == changed)) ≡ false
   none_of_upload u true last h = absurd (cc last)
   none_of_upload u false last h = ap (λ b. b || (code == changed)) (apart code created h.0) ∙ apart code changed h.1

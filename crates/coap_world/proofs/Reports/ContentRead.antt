@@ -21,10 +21,10 @@ use Rattle.coap_resource.specs.RequestOptions.{tag_of, format_of}
 use Rattle.coap_resource.specs.ResponseOptions.{block_number}
 use Rattle.coap_resource.specs.ServedLaw.{IsPart}
 use Rattle.coap_resource.specs.Serves.{bare, content_reply, block2_of}
-use Rattle.coap_client.specs.ClientSide.ClientResponses.{content, said, tag_in, format_in, is_notification, sequence_in}
-use Rattle.coap_client.specs.ClientSide.ClientResponses.{block_at}
-use Rattle.coap_server.specs.ServerSide.ServerObservers.{sequence_if}
-use Rattle.coap_server.specs.ServerSide.ServerResponses.{response_with}
+use Rattle.coap_client.specs.Responses.{content, said, tag_in, format_in, is_notification, sequence_in}
+use Rattle.coap_client.specs.Responses.{block_at}
+use Rattle.coap_server.specs.Observers.{sequence_if}
+use Rattle.coap_server.specs.Responses.{response_with}
 use Rattle.coap_world.proofs.Reports.ResponseRead.{written, all_read, sequence_read, format_read, block_read}
 use Rattle.coap_world.proofs.Reports.ResponseRead.{same_block}
 

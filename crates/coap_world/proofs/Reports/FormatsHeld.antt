@@ -14,13 +14,13 @@ use Rattle.coap_resource.specs.Rate.{rate_refusal}
 use Rattle.coap_resource.specs.RequestOptions.{within_16}
 use Rattle.coap_resource.specs.Serves.{Question}
 use Rattle.coap_resource.specs.declared.refusal.StoreRefusal.{StoreRefusal}
-use Rattle.coap_server.specs.ServerSide.ServerLaw.{own_of, ServerRows}
-use Rattle.coap_server.specs.ServerSide.ServerLocal.{SetsBy, RemovesBy}
-use Rattle.coap_server.specs.ServerSide.ServerTrace as S
-use Rattle.coap_server.specs.ServerSide.Follows.ServerHolds.{Does, Change, change_of, changed_by, change, held_then}
-use Rattle.coap_server.specs.ServerSide.Follows.ServerHolds.{held_at}
-use Rattle.coap_server.specs.ServerSide.Follows.ServerServes.{Serving, serving}
-use Rattle.coap_server.proofs.Facts.OfServer.{held_is, all_served}
+use Rattle.coap_server.specs.Law.{own_of, ServerRows}
+use Rattle.coap_server.specs.Local.{SetsBy, RemovesBy}
+use Rattle.coap_server.specs.Trace as S
+use Rattle.coap_server.specs.Follows.Holds.{Does, Change, change_of, changed_by, change, held_then}
+use Rattle.coap_server.specs.Follows.Holds.{held_at}
+use Rattle.coap_server.specs.Follows.Serves.{Serving, serving}
+use Rattle.coap_server.proofs.Facts.Laws.{held_is, all_served}
 use Rattle.coap_world.specs.Events.{Config}
 use Rattle.coap_world.specs.Record.{Entry, OfClient, OfServer, server_trace}
 use Rattle.coap_world.specs.Words.{last_at}

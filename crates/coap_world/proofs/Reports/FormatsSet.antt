@@ -3,8 +3,8 @@ use Rattle.std.proofs.Common.{◌<◌, inl, inr, ℕ, Bool, true, false, Some, N
 use Rattle.std.specs.Prelude.{IfSome}
 use Rattle.coap_types.specs.Past.{Always}
 use Rattle.coap_layer.specs.Trace.{Packet}
-use Rattle.coap_client.specs.ClientSide.ClientTrace as C
-use Rattle.coap_server.specs.ServerSide.ServerTrace as S
+use Rattle.coap_client.specs.Trace as C
+use Rattle.coap_server.specs.Trace as S
 use Rattle.coap_world.specs.Events.{What, Calls, Observes, Cancels, Forgets, Sets, Removes, TickClient, TickServer}
 use Rattle.coap_world.specs.Events.{Deliver, StrangerToClient}
 use Rattle.coap_world.specs.Events.{StrangerToServer}

@@ -5,12 +5,12 @@ use Rattle.coap_types.proofs.Facts.Traces.{Sometime_map}
 use Rattle.coap_exchange.specs.declared.answerer.Asked.{Asked}
 use Rattle.coap_exchange.specs.AnswererFollows.{hits, same_asked}
 use Rattle.coap_exchange.proofs.Facts.ServerSide.{self_hits}
-use Rattle.coap_server.specs.Follows.ServerCounts.{ups}
-use Rattle.coap_server.specs.ServerSide.Follows.ServerCounts.{Counted}
-use Rattle.coap_server.specs.ServerSide.Follows.ServerServes.{Serving, serving, hands, asked_of, times_handed}
-use Rattle.coap_server.specs.ServerSide.Follows.ServerServes.{times_served, ServedOnce}
-use Rattle.coap_server.specs.ServerSide.ServerLaw.{own_of, layer_of}
-use Rattle.coap_server.specs.ServerSide.ServerTrace.{Call}
+use Rattle.coap_server.specs.Follows.Counts.{ups}
+use Rattle.coap_server.specs.Follows.HandedUpAsOften.{Counted}
+use Rattle.coap_server.specs.Follows.Serves.{Serving, serving, hands, asked_of, times_handed}
+use Rattle.coap_server.specs.Follows.Serves.{times_served, ServedOnce}
+use Rattle.coap_server.specs.Law.{own_of, layer_of}
+use Rattle.coap_server.specs.Trace.{Call}
 
 -- what happens once only: two accounts of it are of one entry
 pub once_same : {E : Type 0} (P Q R : List E → E → Type 0) → (t : List E)

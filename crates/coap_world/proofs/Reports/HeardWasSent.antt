@@ -15,7 +15,7 @@ use Rattle.coap_layer.specs.Rows.{takes_answer, replays, hands_over}
 use Rattle.coap_layer.specs.Sends.{IsIn}
 use Rattle.coap_layer.specs.Trace as T
 use Rattle.coap_layer.proofs.Facts.Hops.{earlier}
-use Rattle.coap_client.specs.Follows.ClientHears.{Hears}
+use Rattle.coap_client.specs.Follows.Hears.{Hears}
 
 -- a response that is handed up is what the datagram spells
 pub record Reads (bytes : List ℕ) (m : Message) : Type 0 where

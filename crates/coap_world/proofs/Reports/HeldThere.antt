@@ -4,15 +4,15 @@ use Rattle.coap_types.specs.Past.{Sometime}
 use Rattle.coap_types.specs.RequestPath.{path_of}
 use Rattle.coap_codec.specs.Message.{Message}
 use Rattle.coap_resource.specs.Content.{Held}
-use Rattle.coap_client.specs.ClientSide.ClientBegins.{WasSent}
-use Rattle.coap_client.specs.ClientSide.ClientOrder.{call_of}
-use Rattle.coap_client.specs.ClientSide.ClientOwn.{Transfer}
-use Rattle.coap_client.specs.ClientSide.ClientRequests.{options_of, block_option}
-use Rattle.coap_client.specs.ClientSide.ClientTokens.{Deregisters}
-use Rattle.coap_client.specs.ClientSide.ClientTrace.{Request}
-use Rattle.coap_client.specs.ClientSide.ClientWords.{Sending}
-use Rattle.coap_server.specs.ServerSide.Follows.ServerTags.{WasHeld}
-use Rattle.coap_client.proofs.Facts.OfClient as client_facts
+use Rattle.coap_client.specs.Follows.Begins.{WasSent}
+use Rattle.coap_client.specs.Follows.Order.{call_of}
+use Rattle.coap_client.specs.Own.{Transfer}
+use Rattle.coap_client.specs.Requests.{options_of, block_option}
+use Rattle.coap_client.specs.Follows.Tokens.{Deregisters}
+use Rattle.coap_client.specs.Trace.{Request}
+use Rattle.coap_client.specs.Follows.Words.{Sending}
+use Rattle.coap_server.specs.Follows.Tags.{WasHeld}
+use Rattle.coap_client.proofs.Facts.Laws as client_facts
 use Rattle.coap_world.specs.Events.{server_end, Config}
 use Rattle.coap_world.specs.Record.{Entry, OfClient, OfServer, client_of, server_trace}
 use Rattle.coap_world.specs.Words.{WasCalled}

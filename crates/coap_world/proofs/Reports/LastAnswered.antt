@@ -3,15 +3,15 @@ use Rattle.std.proofs.Common.{◌≡◌, inl, inr, ℕ, true, Option, Some, None
 use Rattle.coap_types.specs.Past.{Sometime}
 use Rattle.coap_types.proofs.Facts.Traces.{Sometime_map}
 use Rattle.coap_types.specs.declared.endpoint.Endpoint.{Endpoint}
-use Rattle.coap_client.specs.ClientSide.ClientTrace.{Failed, Reported, Call}
-use Rattle.coap_client.specs.ClientSide.ClientOwn.{Operation, Calling, Registering, Fetching, Cancelling, Dropped}
-use Rattle.coap_client.specs.ClientSide.ClientAnswered.{of_call, HasReport, IsFinal, NoneAfter}
-use Rattle.coap_client.specs.ClientSide.ClientBegins.{WasSent}
-use Rattle.coap_client.specs.ClientSide.ClientEffects.{of}
-use Rattle.coap_client.specs.ClientSide.ClientLaw.{own_of}
-use Rattle.coap_client.specs.ClientSide.ClientOrder.{call_of, is_last, AreInOrder}
-use Rattle.coap_client.specs.ClientSide.ClientSteps.{reports}
-use Rattle.coap_client.specs.ClientSide.ClientWords.{Sending, sends, last_sent}
+use Rattle.coap_client.specs.Trace.{Failed, Reported, Call}
+use Rattle.coap_client.specs.Own.{Operation, Calling, Registering, Fetching, Cancelling, Dropped}
+use Rattle.coap_client.specs.Follows.Answered.{of_call, HasReport, IsFinal, NoneAfter}
+use Rattle.coap_client.specs.Follows.Begins.{WasSent}
+use Rattle.coap_client.specs.Effects.{of}
+use Rattle.coap_client.specs.Law.{own_of}
+use Rattle.coap_client.specs.Follows.Order.{call_of, is_last, AreInOrder}
+use Rattle.coap_client.specs.Steps.{reports}
+use Rattle.coap_client.specs.Follows.Words.{Sending, sends, last_sent}
 
 of_it : (op : Operation) (k : ℕ) → call_of op ≡ Some k → of_call op ≡ Some k
 of_it (Calling n r t) k h = h

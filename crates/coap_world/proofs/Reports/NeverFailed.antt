@@ -13,22 +13,22 @@ use Rattle.coap_codec.specs.Message.{Message}
 use Rattle.coap_observe.specs.Observers.{Observer}
 use Rattle.coap_resource.specs.Serves.{Question}
 use Rattle.coap_exchange.specs.declared.answerer.Asked.{Asked}
-use Rattle.coap_client.specs.ClientSide.ClientOrder.{call_of, is_last}
-use Rattle.coap_client.specs.ClientSide.ClientTrace as C
-use Rattle.coap_client.specs.ClientSide.ClientWords.{Taken, WasTaken, Sending}
-use Rattle.coap_server.specs.ServerSide.Follows.ServerBrings.{Comes}
-use Rattle.coap_server.specs.ServerSide.Follows.ServerGives.{refusal_by, refusal_of, refusal_in}
-use Rattle.coap_server.specs.ServerSide.Follows.ServerObserves.{WasMade}
-use Rattle.coap_server.specs.ServerSide.Follows.ServerServes.{Serving, serving, hands, times_handed}
-use Rattle.coap_server.specs.ServerSide.Follows.ServerTakes.{Took, took, took_by, taken_by, takes_block}
-use Rattle.coap_server.specs.ServerSide.ServerChecks.{Verdict, Ignored, Refused, Asks, Uploads, verdict_on}
-use Rattle.coap_server.specs.ServerSide.ServerLaw.{own_of}
-use Rattle.coap_server.specs.ServerSide.ServerObservers.{is_get}
-use Rattle.coap_server.specs.ServerSide.ServerTrace as S
-use Rattle.coap_server.specs.ServerSide.ServerUploads.{ruling_of}
-use Rattle.coap_client.proofs.Facts.OfClient as client_facts
-use Rattle.coap_server.proofs.Facts.OfServer as server_facts
-use Rattle.coap_server.proofs.Facts.OfServerCalls.{szx_is, comes_here}
+use Rattle.coap_client.specs.Follows.Order.{call_of, is_last}
+use Rattle.coap_client.specs.Trace as C
+use Rattle.coap_client.specs.Follows.Words.{Taken, WasTaken, Sending}
+use Rattle.coap_server.specs.Follows.Brings.{Comes}
+use Rattle.coap_server.specs.Follows.Gives.{refusal_by, refusal_of, refusal_in}
+use Rattle.coap_server.specs.Follows.Observes.{WasMade}
+use Rattle.coap_server.specs.Follows.Serves.{Serving, serving, hands, times_handed}
+use Rattle.coap_server.specs.Follows.Takes.{Took, took, took_by, taken_by, takes_block}
+use Rattle.coap_server.specs.Checks.{Verdict, Ignored, Refused, Asks, Uploads, verdict_on}
+use Rattle.coap_server.specs.Law.{own_of}
+use Rattle.coap_server.specs.Observers.{is_get}
+use Rattle.coap_server.specs.Trace as S
+use Rattle.coap_server.specs.Uploads.{ruling_of}
+use Rattle.coap_client.proofs.Facts.Laws as client_facts
+use Rattle.coap_server.proofs.Facts.Laws as server_facts
+use Rattle.coap_server.proofs.Facts.EachCall.{szx_is, comes_here}
 use Rattle.coap_world.specs.Answers.{IsAnswer, replies, continues, refuses, notifies, AnswersAt}
 use Rattle.coap_world.specs.CameFrom.{request_of}
 use Rattle.coap_world.specs.Events.{client_end, server_end, Config}
@@ -39,8 +39,8 @@ use Rattle.coap_world.proofs.Reports.Answered.{all_answered}
 use Rattle.coap_world.proofs.Requests.LastRequests.{Final, method_is}
 use Rattle.coap_world.proofs.Requests.OfACall.{Lawful, lawful_back, later_back}
 use Rattle.coap_world.proofs.Requests.ReadBack.{Changes}
-use Rattle.coap_client.specs.ClientSide.ClientCodes.{Fails}
-use Rattle.coap_client.proofs.Facts.OfClientCalls.{reports_codes}
+use Rattle.coap_client.specs.Follows.Codes.{Fails}
+use Rattle.coap_client.proofs.Facts.EachCall.{reports_codes}
 use Rattle.coap_world.specs.Done.{NeverFailed}
 use Rattle.coap_world.proofs.Reports.AppliedRequest.{Applied, applied_in, same_sending, same_asked, same_verdict}
 use Rattle.coap_world.proofs.Reports.AppliedRequest.{handed_few}
@@ -92,7 +92,7 @@ record RefusedIn (limit szx word : ℕ) (past : List S.Call) (c : S.Call) (a : A
   refuses_so : refusal_of uploads at a verdict ≡ Some code
 
 refused_in : (limit szx word : ℕ) (past : List S.Call) (c : S.Call) (a : Asked) (code : ℕ)
-    → Rattle.coap_server.specs.ServerSide.ServerLaw.ServerLaw limit szx word (c ∷ past)
+    → Rattle.coap_server.specs.Law.ServerLaw limit szx word (c ∷ past)
     → hands c ≡ Some a → refusal_in (own_of limit szx past) c ≡ Some code → RefusedIn limit szx word past c a
 refused_in limit szx word past (S.Feeds now from bytes w up (Some p) h below) a code law is refuses_so =
     let s : S.Own = own_of limit szx past in

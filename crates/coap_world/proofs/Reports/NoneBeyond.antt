@@ -5,11 +5,11 @@ use Rattle.coap_types.specs.Past.{Sometime}
 use Rattle.coap_types.specs.Piece.{size_of, offset_of, Piece}
 use Rattle.coap_types.specs.declared.request.Method.{Method}
 use Rattle.coap_types.specs.declared.request.Method.TheVariants.{Get, Post, Put, Delete}
-use Rattle.coap_client.specs.ClientSide.ClientBounds.{most_requests, requests}
-use Rattle.coap_client.specs.ClientSide.ClientTrace as C
-use Rattle.coap_client.specs.ClientSide.ClientTrace.{Request}
-use Rattle.coap_client.specs.ClientSide.ClientBeyond.{HearsBeyond}
-use Rattle.coap_client.proofs.Facts.OfClientCalls.{within_or_beyond, are_bounded}
+use Rattle.coap_client.specs.Follows.Bounds.{most_requests, requests}
+use Rattle.coap_client.specs.Trace as C
+use Rattle.coap_client.specs.Trace.{Request}
+use Rattle.coap_client.specs.Follows.Beyond.{HearsBeyond}
+use Rattle.coap_client.proofs.Facts.EachCall.{within_or_beyond, are_bounded}
 use Rattle.coap_world.specs.Bounds.{most_exchanges, AreBounded}
 use Rattle.coap_world.specs.Events.{server_end, Config}
 use Rattle.coap_world.specs.Record.{Entry, OfClient, OfServer, client_of, server_trace}

@@ -2,9 +2,9 @@
 use Rattle.std.proofs.Common.{◌≡◌, Some, List, [], ◌∷◌}
 use Rattle.coap_types.specs.Past.{Sometime}
 use Rattle.coap_codec.specs.Message.{Message}
-use Rattle.coap_client.specs.ClientSide.ClientNotified.{notes}
-use Rattle.coap_client.specs.ClientSide.ClientTrace as C
-use Rattle.coap_client.proofs.Facts.OfClientCalls.{are_noted}
+use Rattle.coap_client.specs.Follows.Notified.{notes}
+use Rattle.coap_client.specs.Trace as C
+use Rattle.coap_client.proofs.Facts.EachCall.{are_noted}
 use Rattle.coap_world.specs.Answers.{AnswersAt}
 use Rattle.coap_world.specs.Events.{server_end, Config}
 use Rattle.coap_world.specs.Record.{Entry, OfClient, OfServer, client_of}

@@ -1,16 +1,16 @@
 -- Which observation it is that a request is for, by its token, and which path it asks for.
 use Rattle.std.proofs.Common.{◌≡◌, ◌⊎◌, inl, inr, ℕ, Some, List, [], ◌∷◌, ap, sym, ◌∙◌}
 use Rattle.coap_types.specs.RequestPath.{path_of}
-use Rattle.coap_client.specs.ClientSide.ClientBegins.{WasSent}
-use Rattle.coap_client.specs.ClientSide.ClientOfObservations.{AsksFor, AreOfObservations}
-use Rattle.coap_client.specs.ClientSide.ClientOfObservations.{observation_for}
-use Rattle.coap_client.specs.ClientSide.ClientOfObservations as of
-use Rattle.coap_client.specs.ClientSide.ClientOwn.{Operation, Calling, Registering, Fetching, Cancelling, Dropped}
-use Rattle.coap_client.specs.ClientSide.ClientTokens.{Deregisters}
-use Rattle.coap_client.specs.ClientSide.ClientTrace as C
-use Rattle.coap_client.specs.ClientSide.ClientWords.{Sending}
-use Rattle.coap_client.proofs.Facts.OfClient as client_facts
-use Rattle.coap_client.proofs.Facts.OfClientCalls.{are_of_observations}
+use Rattle.coap_client.specs.Follows.Begins.{WasSent}
+use Rattle.coap_client.specs.Follows.OfObservations.{AsksFor, AreOfObservations}
+use Rattle.coap_client.specs.Follows.OfObservations.{observation_for}
+use Rattle.coap_client.specs.Follows.OfObservations as of
+use Rattle.coap_client.specs.Own.{Operation, Calling, Registering, Fetching, Cancelling, Dropped}
+use Rattle.coap_client.specs.Follows.Tokens.{Deregisters}
+use Rattle.coap_client.specs.Trace as C
+use Rattle.coap_client.specs.Follows.Words.{Sending}
+use Rattle.coap_client.proofs.Facts.Laws as client_facts
+use Rattle.coap_client.proofs.Facts.EachCall.{are_of_observations}
 use Rattle.coap_world.specs.Events.{server_end, Config}
 use Rattle.coap_world.specs.Record.{Entry, client_of}
 use Rattle.coap_world.proofs.Requests.OfACall.{Lawful}

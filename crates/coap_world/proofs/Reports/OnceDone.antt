@@ -3,13 +3,13 @@ use Rattle.std.proofs.Common.{◌≡◌, ◌≤◌, inl, inr, ℕ, true, false, 
 use Rattle.coap_types.specs.Past.{Sometime, Always}
 use Rattle.coap_codec.specs.Message.{Message}
 use Rattle.coap_exchange.specs.declared.answerer.Asked.{Asked}
-use Rattle.coap_client.specs.ClientSide.ClientOrder.{call_of}
-use Rattle.coap_client.specs.ClientSide.ClientTrace as C
-use Rattle.coap_client.specs.ClientSide.ClientWords.{Taken, WasTaken, Sending}
-use Rattle.coap_server.specs.ServerSide.ServerLaw.{own_of}
-use Rattle.coap_server.specs.ServerSide.ServerServing.{is_applied}
-use Rattle.coap_server.specs.ServerSide.ServerTrace as S
-use Rattle.coap_client.proofs.Facts.OfClient as client_facts
+use Rattle.coap_client.specs.Follows.Order.{call_of}
+use Rattle.coap_client.specs.Trace as C
+use Rattle.coap_client.specs.Follows.Words.{Taken, WasTaken, Sending}
+use Rattle.coap_server.specs.Law.{own_of}
+use Rattle.coap_server.specs.Serving.{is_applied}
+use Rattle.coap_server.specs.Trace as S
+use Rattle.coap_client.proofs.Facts.Laws as client_facts
 use Rattle.coap_world.specs.Answers.{IsAnswer, replies, continues, refuses, notifies, AnswersAt}
 use Rattle.coap_world.specs.Events.{server_end, Config}
 use Rattle.coap_world.specs.Legal.{IsRequest}
@@ -18,7 +18,7 @@ use Rattle.coap_world.specs.Words.{ReportsAt}
 use Rattle.coap_world.proofs.Reports.Answered.{all_answered}
 use Rattle.coap_world.proofs.Requests.LastRequests.{of_call_at}
 use Rattle.coap_world.proofs.Requests.OfACall.{Lawful, lawful_back, later_back, one_sending}
-use Rattle.coap_client.proofs.Facts.OfClientCalls.{reports_codes}
+use Rattle.coap_client.proofs.Facts.EachCall.{reports_codes}
 use Rattle.coap_world.specs.Done.{AppliesSince, OnceDone}
 use Rattle.coap_world.proofs.Reports.Codes.{succeeds_applied, refusal_none, notice_none}
 use Rattle.coap_world.proofs.Reports.Located.{LaterAll, SentAll, brought_served}

@@ -8,10 +8,10 @@ use Rattle.coap_block.specs.Whole.{Part, Each, IsPieceOf, HasTag, OneTag, Blocks
 use Rattle.coap_block.proofs.Facts.Laws.{one_body}
 use Rattle.coap_resource.specs.Content.{Held}
 use Rattle.coap_resource.specs.RequestOptions.{tag_of}
-use Rattle.coap_client.specs.ClientSide.ClientBodies.{ComesAs, ComesLast}
-use Rattle.coap_client.specs.ClientSide.ClientResponses.{tag_in}
-use Rattle.coap_server.specs.ServerSide.Follows.ServerTags as server
-use Rattle.coap_server.specs.ServerSide.ServerTrace as S
+use Rattle.coap_client.specs.Follows.Bodies.{ComesAs, ComesLast}
+use Rattle.coap_client.specs.Responses.{tag_in}
+use Rattle.coap_server.specs.Follows.Tags as server
+use Rattle.coap_server.specs.Trace as S
 use Rattle.coap_world.proofs.Reports.ContentRead.{IsShown}
 
 each_split : (P : Part → Type 0) (xs : List Part) (y : Part) → Each P (xs ++ y ∷ []) → Each P xs × P y

@@ -20,10 +20,10 @@ use Rattle.coap_types.specs.declared.request.Method.{Method}
 use Rattle.coap_types.specs.declared.request.Method.TheVariants.{Get, Post, Put, Delete}
 use Rattle.coap_block.specs.declared.fetch_progress.Asked.{Asked}
 use Rattle.coap_block.specs.UploadStep.{block_to_send}
-use Rattle.coap_client.specs.ClientSide.ClientOwn.{Transfer, Fetches, Uploads, Single}
-use Rattle.coap_client.specs.ClientSide.ClientRequests.{flag_option, path_options, before_path, after_path, options_of}
-use Rattle.coap_client.specs.ClientSide.ClientRequests.{block2_option, is_longer, block_option}
-use Rattle.coap_client.specs.ClientSide.ClientTrace as C
+use Rattle.coap_client.specs.Own.{Transfer, Fetches, Uploads, Single}
+use Rattle.coap_client.specs.Requests.{flag_option, path_options, before_path, after_path, options_of}
+use Rattle.coap_client.specs.Requests.{block2_option, is_longer, block_option}
+use Rattle.coap_client.specs.Trace as C
 
 abbrev kept : List CoapOption → List CoapOption → List CoapOption
 kept before os = map (λ p. p.1) (filter (λ p. is_recognised Request p.0 p.1) (placed before os))

@@ -1,7 +1,7 @@
 -- What is promised of a legal run, clause by clause.
 use Rattle.std.proofs.Common.{List}
-use Rattle.coap_client.proofs.Facts.OfClient as client_facts
-use Rattle.coap_server.proofs.Facts.OfServer as server_facts
+use Rattle.coap_client.proofs.Facts.Laws as client_facts
+use Rattle.coap_server.proofs.Facts.Laws as server_facts
 use Rattle.coap_world.specs.Events.{server_end, Config, Event}
 use Rattle.coap_world.specs.Legal.{Legal}
 use Rattle.coap_world.specs.Record.{Entry, Turn, RecordOf, entries_of, client_of, server_trace}
@@ -12,9 +12,9 @@ use Rattle.coap_world.proofs.Requests.ChangesOwned as O
 use Rattle.coap_world.proofs.Requests.HoldsChanges.{changes_held}
 use Rattle.coap_world.proofs.Requests.LocalChanges.{local_right}
 use Rattle.coap_world.proofs.Requests.Promised.{lawful, belongs, once, served}
-use Rattle.coap_client.proofs.Facts.OfClientCalls.{reports_codes}
-use Rattle.coap_client.proofs.Facts.OfClientCalls.{all_ends}
-use Rattle.coap_client.proofs.Facts.OfClientCalls.{all_taken}
+use Rattle.coap_client.proofs.Facts.EachCall.{reports_codes}
+use Rattle.coap_client.proofs.Facts.EachCall.{all_ends}
+use Rattle.coap_client.proofs.Facts.EachCall.{all_taken}
 use Rattle.coap_world.specs.Agrees.{Agrees}
 use Rattle.coap_world.specs.Bounds.{AreBounded}
 use Rattle.coap_world.proofs.Uploads.AppliedWhole.{applied_whole}

@@ -17,27 +17,27 @@ use Rattle.coap_resource.specs.Serves.{Reply, got, content_reply, ServesUnless}
 use Rattle.coap_resource.proofs.Facts.Served.{content_law, part_law}
 use Rattle.coap_exchange.specs.AnswererTrace as E
 use Rattle.coap_exchange.specs.declared.answerer.Due.TheVariants as due
-use Rattle.coap_client.specs.ClientSide.ClientBegins.{WasSent}
-use Rattle.coap_client.specs.ClientSide.ClientResponses.{content}
-use Rattle.coap_client.specs.ClientSide.ClientWords.{Sending}
-use Rattle.coap_server.specs.ServerSide.ServerChecks.{bad_request}
-use Rattle.coap_server.specs.ServerSide.ServerLaw.{own_of}
-use Rattle.coap_server.specs.ServerSide.ServerNotifying.{notification, told, asks_for}
-use Rattle.coap_server.specs.ServerSide.ServerObservers.{sequence_if}
-use Rattle.coap_server.specs.ServerSide.ServerResponses.{response_with}
-use Rattle.coap_server.specs.ServerSide.ServerSteps.{after}
-use Rattle.coap_server.specs.ServerSide.ServerTrace.{Own, Silent, Replies, Serves, Waits, Notifies, Call, Sets, Removes}
-use Rattle.coap_server.specs.ServerSide.ServerTrace.{Delays, Feeds, Ticks, NextOut, Gets, TellsApplied}
-use Rattle.coap_server.specs.ServerSide.ServerTrace as S
-use Rattle.coap_server.specs.ServerSide.ServerUploads.{last_block}
-use Rattle.coap_server.specs.ServerSide.Follows.ServerGives.{NoticeOf}
-use Rattle.coap_server.specs.ServerSide.Follows.ServerObserves.{WasMade}
-use Rattle.coap_server.specs.ServerSide.Follows.ServerServes.{Serving, serving}
-use Rattle.coap_server.specs.ServerSide.Follows.ServerShows.{notice_in}
-use Rattle.coap_server.proofs.Facts.OfServer as server_facts
-use Rattle.coap_server.proofs.Facts.OfServer.{held_is}
-use Rattle.coap_client.proofs.Facts.OfClientCalls.{apart}
-use Rattle.coap_server.proofs.Facts.OfServerCalls.{refusals_are_errors}
+use Rattle.coap_client.specs.Follows.Begins.{WasSent}
+use Rattle.coap_client.specs.Responses.{content}
+use Rattle.coap_client.specs.Follows.Words.{Sending}
+use Rattle.coap_server.specs.Checks.{bad_request}
+use Rattle.coap_server.specs.Law.{own_of}
+use Rattle.coap_server.specs.Notifying.{notification, told, asks_for}
+use Rattle.coap_server.specs.Observers.{sequence_if}
+use Rattle.coap_server.specs.Responses.{response_with}
+use Rattle.coap_server.specs.Steps.{after}
+use Rattle.coap_server.specs.Trace.{Own, Silent, Replies, Serves, Waits, Notifies, Call, Sets, Removes}
+use Rattle.coap_server.specs.Trace.{Delays, Feeds, Ticks, NextOut, Gets, TellsApplied}
+use Rattle.coap_server.specs.Trace as S
+use Rattle.coap_server.specs.Uploads.{last_block}
+use Rattle.coap_server.specs.Follows.Gives.{NoticeOf}
+use Rattle.coap_server.specs.Follows.Observes.{WasMade}
+use Rattle.coap_server.specs.Follows.Serves.{Serving, serving}
+use Rattle.coap_server.specs.Follows.Shows.{notice_in}
+use Rattle.coap_server.proofs.Facts.Laws as server_facts
+use Rattle.coap_server.proofs.Facts.Laws.{held_is}
+use Rattle.coap_client.proofs.Facts.EachCall.{apart}
+use Rattle.coap_server.proofs.Facts.EachCall.{refusals_are_errors}
 use Rattle.coap_world.specs.Answers.{IsResponse, IsAnswer, replies, continues, refuses, notifies, AnswersAt}
 use Rattle.coap_world.specs.Events.{Config}
 use Rattle.coap_world.specs.Record.{Entry, OfClient, OfServer, client_of, server_trace}

@@ -12,15 +12,15 @@ use Rattle.coap_exchange.specs.AskerFollows.{message_told}
 use Rattle.coap_exchange.specs.AskerLaw.{ExchangeLaw}
 use Rattle.coap_exchange.specs.AskerTrace as E
 use Rattle.coap_exchange.proofs.Facts.ClientSide.{matched}
-use Rattle.coap_client.specs.ClientSide.ClientDeeds.{at}
-use Rattle.coap_client.specs.ClientSide.ClientEvents.{happened}
-use Rattle.coap_client.specs.ClientSide.ClientLaw.{ClientLaw, own_of, lower_of}
-use Rattle.coap_client.specs.ClientSide.ClientNotified.{notes}
-use Rattle.coap_client.specs.ClientSide.ClientOwn.{Own}
-use Rattle.coap_client.specs.ClientSide.ClientTrace.{Call, Calls, Observes, Cancels, Forgets, Feeds, Ticks, NextOut}
-use Rattle.coap_client.specs.ClientSide.ClientTrace.{NextReport, Asked}
-use Rattle.coap_client.specs.ClientSide.ClientWords.{hears}
-use Rattle.coap_client.proofs.Facts.OfClientCalls.{stripped}
+use Rattle.coap_client.specs.Deeds.{at}
+use Rattle.coap_client.specs.Events.{happened}
+use Rattle.coap_client.specs.Law.{ClientLaw, own_of, lower_of}
+use Rattle.coap_client.specs.Follows.Notified.{notes}
+use Rattle.coap_client.specs.Own.{Own}
+use Rattle.coap_client.specs.Trace.{Call, Calls, Observes, Cancels, Forgets, Feeds, Ticks, NextOut}
+use Rattle.coap_client.specs.Trace.{NextReport, Asked}
+use Rattle.coap_client.specs.Follows.Words.{hears}
+use Rattle.coap_client.proofs.Facts.EachCall.{stripped}
 
 module _ (server : Endpoint) (szx word : ℕ) where
   understood_here :

@@ -4,10 +4,10 @@ use Rattle.std.proofs.Common.{◌≡◌, inl, inr, ℕ, Option, Some, List, [], 
 use Rattle.coap_types.specs.Past.{Sometime, Always}
 use Rattle.coap_types.proofs.Facts.Traces.{Ever_map}
 use Rattle.coap_resource.specs.RequestOptions.{tag_of, etag_names}
-use Rattle.coap_client.specs.ClientSide.ClientTrace as C
-use Rattle.coap_client.specs.ClientSide.ClientTrace.{Valid}
-use Rattle.coap_client.specs.ClientSide.ClientValid.{IsValidated}
-use Rattle.coap_client.proofs.Facts.OfClient as client_facts
+use Rattle.coap_client.specs.Trace as C
+use Rattle.coap_client.specs.Trace.{Valid}
+use Rattle.coap_client.specs.Follows.Valid.{IsValidated}
+use Rattle.coap_client.proofs.Facts.Laws as client_facts
 use Rattle.coap_world.specs.Events.{server_end, Config}
 use Rattle.coap_world.specs.Record.{Entry, OfClient, OfServer, client_of}
 use Rattle.coap_world.specs.Words.{ReportsAt, last_at}

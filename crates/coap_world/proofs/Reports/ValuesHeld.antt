@@ -8,16 +8,16 @@ use Rattle.coap_block.specs.Whole.{Part, Each}
 use Rattle.coap_observe.specs.Versions.{sequence_number}
 use Rattle.coap_resource.specs.Content.{Held}
 use Rattle.coap_resource.specs.RequestOptions.{tag_of}
-use Rattle.coap_client.specs.ClientSide.ClientBegins.{WasSent}
-use Rattle.coap_client.specs.ClientSide.ClientNewer.{Newly}
-use Rattle.coap_client.specs.ClientSide.ClientOfObservations.{observation_for}
-use Rattle.coap_client.specs.ClientSide.ClientResponses.{is_notification}
-use Rattle.coap_client.specs.ClientSide.ClientTrace as C
-use Rattle.coap_client.specs.ClientSide.ClientTrace.{Value}
-use Rattle.coap_client.specs.ClientSide.ClientValues.{TookRest, IsAlone, IsFetchedFor, IsObserved}
-use Rattle.coap_client.specs.ClientSide.ClientWords.{Sending}
-use Rattle.coap_client.proofs.Facts.OfClientCalls.{values_are_whole}
-use Rattle.coap_server.proofs.Facts.OfServer as server_facts
+use Rattle.coap_client.specs.Follows.Begins.{WasSent}
+use Rattle.coap_client.specs.Follows.Newer.{Newly}
+use Rattle.coap_client.specs.Follows.OfObservations.{observation_for}
+use Rattle.coap_client.specs.Responses.{is_notification}
+use Rattle.coap_client.specs.Trace as C
+use Rattle.coap_client.specs.Trace.{Value}
+use Rattle.coap_client.specs.Follows.Values.{TookRest, IsAlone, IsFetchedFor, IsObserved}
+use Rattle.coap_client.specs.Follows.Words.{Sending}
+use Rattle.coap_client.proofs.Facts.EachCall.{values_are_whole}
+use Rattle.coap_server.proofs.Facts.Laws as server_facts
 use Rattle.coap_world.specs.Events.{server_end, Config}
 use Rattle.coap_world.specs.Record.{Entry, OfClient, OfServer, client_of, server_trace}
 use Rattle.coap_world.specs.Words.{ReportsAt, last_at}

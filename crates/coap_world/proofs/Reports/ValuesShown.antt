@@ -7,12 +7,12 @@ use Rattle.coap_types.specs.Past.{Sometime}
 use Rattle.coap_types.specs.OptionValues.{value_of}
 use Rattle.coap_types.specs.declared.option_number.TheConstants.{OBSERVE as observe}
 use Rattle.coap_codec.specs.Message.{Message}
-use Rattle.coap_client.specs.ClientSide.ClientLaw.{own_of}
-use Rattle.coap_client.specs.ClientSide.ClientNewer.{Newly, notifies}
-use Rattle.coap_client.specs.ClientSide.ClientNotified.{notes, is_newly_of, newest_if, newest, WasRegistered}
-use Rattle.coap_client.specs.ClientSide.ClientResponses.{content, said, is_notification}
-use Rattle.coap_client.specs.ClientSide.ClientTrace as C
-use Rattle.coap_client.proofs.Facts.OfClientCalls.{are_taken}
+use Rattle.coap_client.specs.Law.{own_of}
+use Rattle.coap_client.specs.Follows.Newer.{Newly, notifies}
+use Rattle.coap_client.specs.Follows.Notified.{notes, is_newly_of, newest_if, newest, WasRegistered}
+use Rattle.coap_client.specs.Responses.{content, said, is_notification}
+use Rattle.coap_client.specs.Trace as C
+use Rattle.coap_client.proofs.Facts.EachCall.{are_taken}
 use Rattle.coap_world.specs.Events.{server_end, Config}
 use Rattle.coap_world.specs.Record.{Entry, OfClient, OfServer, client_of}
 use Rattle.coap_world.proofs.Requests.OfACall.{Lawful, lawful_back}

@@ -16,18 +16,18 @@ use Rattle.coap_codec.specs.Message.{Message}
 use Rattle.coap_block.specs.UploadStep.{UploadState, block_to_send, more_follows}
 use Rattle.coap_resource.specs.Serves.{Question}
 use Rattle.coap_exchange.specs.declared.answerer.Asked.{Asked}
-use Rattle.coap_client.specs.ClientSide.ClientBegins.{WasSent}
-use Rattle.coap_client.specs.ClientSide.ClientBlocks.{carried, SendsPieces}
-use Rattle.coap_client.specs.ClientSide.ClientOfCalls.{CarriesBody}
-use Rattle.coap_client.specs.ClientSide.ClientOwn.{Transfer, Fetches, Uploads, Single, Calling}
-use Rattle.coap_client.specs.ClientSide.ClientRequests.{is_longer, block_option, payload_of}
-use Rattle.coap_client.specs.ClientSide.ClientTrace as C
-use Rattle.coap_client.specs.ClientSide.ClientWords.{Taken, WasTaken, Sending}
-use Rattle.coap_server.specs.ServerSide.Follows.ServerReads.{ReadsOf}
-use Rattle.coap_server.specs.ServerSide.Follows.ServerServes.{Serving}
-use Rattle.coap_server.specs.ServerSide.ServerChecks.{Verdict, Asks}
-use Rattle.coap_client.proofs.Facts.OfClient as client_facts
-use Rattle.coap_server.proofs.Facts.OfServer as server_facts
+use Rattle.coap_client.specs.Follows.Begins.{WasSent}
+use Rattle.coap_client.specs.Follows.Blocks.{carried, SendsPieces}
+use Rattle.coap_client.specs.Follows.OfCalls.{CarriesBody}
+use Rattle.coap_client.specs.Own.{Transfer, Fetches, Uploads, Single, Calling}
+use Rattle.coap_client.specs.Requests.{is_longer, block_option, payload_of}
+use Rattle.coap_client.specs.Trace as C
+use Rattle.coap_client.specs.Follows.Words.{Taken, WasTaken, Sending}
+use Rattle.coap_server.specs.Follows.Reads.{ReadsOf}
+use Rattle.coap_server.specs.Follows.Serves.{Serving}
+use Rattle.coap_server.specs.Checks.{Verdict, Asks}
+use Rattle.coap_client.proofs.Facts.Laws as client_facts
+use Rattle.coap_server.proofs.Facts.Laws as server_facts
 use Rattle.coap_world.specs.CameFrom.{request_of, ComesAt, CameFrom, CamesFrom}
 use Rattle.coap_world.specs.Events.{client_end, server_end, Config}
 use Rattle.coap_world.specs.Legal.{IsRequest}

@@ -5,18 +5,18 @@ use Rattle.coap_types.specs.Past.{Always}
 use Rattle.coap_types.specs.declared.request.Method.TheVariants.{Get}
 use Rattle.coap_codec.specs.Message.{Message}
 use Rattle.coap_exchange.specs.declared.answerer.Asked.{Asked}
-use Rattle.coap_client.specs.ClientSide.ClientBegins.{WasSent}
-use Rattle.coap_client.specs.ClientSide.ClientOfCalls.{OthersAreGets}
-use Rattle.coap_client.specs.ClientSide.ClientOrder.{call_of}
-use Rattle.coap_client.specs.ClientSide.ClientTrace as C
-use Rattle.coap_client.specs.ClientSide.ClientWords.{Sending}
-use Rattle.coap_server.specs.ServerSide.Follows.ServerHolds.{Does}
-use Rattle.coap_server.specs.ServerSide.Follows.ServerReads.{ReadsOf}
-use Rattle.coap_server.specs.ServerSide.Follows.ServerServes.{Serving}
-use Rattle.coap_server.specs.ServerSide.ServerServing.{is_applied}
-use Rattle.coap_server.specs.ServerSide.ServerTrace as S
-use Rattle.coap_client.proofs.Facts.OfClient as client_facts
-use Rattle.coap_server.proofs.Facts.OfServer as server_facts
+use Rattle.coap_client.specs.Follows.Begins.{WasSent}
+use Rattle.coap_client.specs.Follows.OfCalls.{OthersAreGets}
+use Rattle.coap_client.specs.Follows.Order.{call_of}
+use Rattle.coap_client.specs.Trace as C
+use Rattle.coap_client.specs.Follows.Words.{Sending}
+use Rattle.coap_server.specs.Follows.Holds.{Does}
+use Rattle.coap_server.specs.Follows.Reads.{ReadsOf}
+use Rattle.coap_server.specs.Follows.Serves.{Serving}
+use Rattle.coap_server.specs.Serving.{is_applied}
+use Rattle.coap_server.specs.Trace as S
+use Rattle.coap_client.proofs.Facts.Laws as client_facts
+use Rattle.coap_server.proofs.Facts.Laws as server_facts
 use Rattle.coap_world.specs.Applied.{EachBelongs}
 use Rattle.coap_world.specs.CameFrom.{request_of}
 use Rattle.coap_world.specs.Events.{client_end, Config}

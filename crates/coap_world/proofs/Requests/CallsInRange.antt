@@ -5,10 +5,10 @@ use Rattle.coap_types.specs.Past.{Ever, Always}
 use Rattle.coap_types.proofs.Facts.Traces.{Ever_append}
 use Rattle.coap_layer.specs.Trace.{Packet}
 use Rattle.coap_client.specs.declared.refusals.CallRefusal.{CallRefusal}
-use Rattle.coap_client.specs.ClientSide.ClientTrace as C
-use Rattle.coap_client.specs.ClientSide.ClientTrace.{Request}
-use Rattle.coap_client.specs.ClientSide.ClientWords.{Taken, takes, WasTaken}
-use Rattle.coap_server.specs.ServerSide.ServerTrace as S
+use Rattle.coap_client.specs.Trace as C
+use Rattle.coap_client.specs.Trace.{Request}
+use Rattle.coap_client.specs.Follows.Words.{Taken, takes, WasTaken}
+use Rattle.coap_server.specs.Trace as S
 use Rattle.coap_world.specs.Events.{What, Calls, Observes, Cancels, Forgets, Sets, Removes, TickClient, TickServer}
 use Rattle.coap_world.specs.Events.{Deliver, StrangerToClient, StrangerToServer}
 use Rattle.coap_world.specs.Legal.{IsRequest, InRange, AllLegal}

@@ -15,21 +15,21 @@ use Rattle.coap_layer.proofs.Facts.Laws.{handed_spelled, begun_as, nons_sent}
 use Rattle.coap_layer.proofs.Facts.Hops.{earlier}
 use Rattle.coap_exchange.specs.declared.answerer.Asked.{Asked}
 use Rattle.coap_exchange.specs.AnswererSteps.{asked_of}
-use Rattle.coap_client.specs.Follows.ClientSendings.{SendsNon, NoNons}
+use Rattle.coap_client.specs.Follows.Sendings.{SendsNon, NoNons}
 use Rattle.coap_codec.proofs.Facts.EveryDatagram.{one_message}
-use Rattle.coap_client.specs.ClientSide.ClientBegins.{IsRequestOf}
-use Rattle.coap_client.specs.ClientSide.ClientLaw.{ClientLaw}
-use Rattle.coap_client.specs.ClientSide.ClientWords.{Sending}
-use Rattle.coap_server.specs.ServerSide.Follows.ServerBrings.{HandsUp, Comes}
-use Rattle.coap_server.specs.ServerSide.ServerChecks.{Verdict, verdict_on}
+use Rattle.coap_client.specs.Follows.Begins.{IsRequestOf}
+use Rattle.coap_client.specs.Law.{ClientLaw}
+use Rattle.coap_client.specs.Follows.Words.{Sending}
+use Rattle.coap_server.specs.Follows.Brings.{HandsUp, Comes}
+use Rattle.coap_server.specs.Checks.{Verdict, verdict_on}
 use Rattle.coap_world.specs.CameFrom.{request_of, IsChannel, CameFrom, CamesFrom}
 use Rattle.coap_world.specs.Events.{client_end, server_end, Config}
 use Rattle.coap_world.specs.Hops.{hops_at, hops_in, server_adds}
 use Rattle.coap_world.specs.Record.{Entry, OfClient, OfServer, client_of, server_trace}
 use Rattle.coap_world.proofs.Delivery.HopsAreEntries.{near_far, near_is, server_next}
 use Rattle.coap_layer.specs.Trace as T
-use Rattle.coap_server.specs.ServerSide.ServerTrace as S
-use Rattle.coap_client.proofs.Facts.OfClient as client_facts
+use Rattle.coap_server.specs.Trace as S
+use Rattle.coap_client.proofs.Facts.Laws as client_facts
 
 -- a request of this is handed up
 pub record UpOf (V : Message → Type 0) (a : Asked) (e : T.Entry) : Type 0 where

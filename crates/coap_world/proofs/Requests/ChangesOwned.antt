@@ -5,13 +5,13 @@ use Rattle.coap_types.specs.Past.{Always}
 use Rattle.coap_types.specs.Path.{same_path}
 use Rattle.coap_types.proofs.Facts.Paths.{same_path-decides}
 use Rattle.coap_resource.specs.Content.{Content}
-use Rattle.coap_server.specs.ServerSide.ServerTrace.{Own, Call, Sets, Removes, Delays, Feeds, Ticks, NextOut, Gets}
-use Rattle.coap_server.specs.ServerSide.ServerTrace.{TellsApplied}
-use Rattle.coap_server.specs.ServerSide.ServerLaw.{own_of}
-use Rattle.coap_server.specs.ServerSide.Follows.ServerHolds.{Change, change, change_of, changed_by, held_then}
-use Rattle.coap_server.specs.ServerSide.Follows.ServerHolds.{ServesRight}
-use Rattle.coap_server.specs.ServerSide.Follows.ServerServes.{Serving, serving}
-use Rattle.coap_server.proofs.Facts.OfServer.{all_served}
+use Rattle.coap_server.specs.Trace.{Own, Call, Sets, Removes, Delays, Feeds, Ticks, NextOut, Gets}
+use Rattle.coap_server.specs.Trace.{TellsApplied}
+use Rattle.coap_server.specs.Law.{own_of}
+use Rattle.coap_server.specs.Follows.Holds.{Change, change, change_of, changed_by, held_then}
+use Rattle.coap_server.specs.Follows.Holds.{ServesRight}
+use Rattle.coap_server.specs.Follows.Serves.{Serving, serving}
+use Rattle.coap_server.proofs.Facts.Laws.{all_served}
 use Rattle.coap_world.specs.Events.{Config}
 use Rattle.coap_world.specs.Holds.{ChangesLocally, AppliesTo, Changes, IsOwned, ChangesOwned}
 use Rattle.coap_world.specs.Record.{Entry, OfClient, OfServer, server_trace}

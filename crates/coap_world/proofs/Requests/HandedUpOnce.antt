@@ -13,9 +13,9 @@ use Rattle.coap_layer.proofs.Facts.Laws.{handed_once}
 use Rattle.coap_exchange.specs.declared.answerer.Asked.{Asked}
 use Rattle.coap_exchange.specs.AnswererFollows.{hits, same_asked}
 use Rattle.coap_exchange.specs.AnswererSteps.{asked_of, asked_in, handed_up}
-use Rattle.coap_client.specs.Follows.ClientSendings.{NoNons}
-use Rattle.coap_server.specs.Follows.ServerCounts.{asked_at, ups}
-use Rattle.coap_server.proofs.Facts.OfServerCalls.{same_asked_is}
+use Rattle.coap_client.specs.Follows.Sendings.{NoNons}
+use Rattle.coap_server.specs.Follows.Counts.{asked_at, ups}
+use Rattle.coap_server.proofs.Facts.EachCall.{same_asked_is}
 use Rattle.coap_world.proofs.Requests.CameFrom.{UpOf, here, find, no_more}
 
 -- an entry that hands up this request

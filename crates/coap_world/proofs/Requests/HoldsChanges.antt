@@ -2,11 +2,11 @@
 use Rattle.std.proofs.Common.{◌≡◌, ℕ, true, None, Some, List, [], ◌∷◌, refl, ap, ◌∙◌, cond, map}
 use Rattle.coap_types.specs.Past.{Always}
 use Rattle.coap_types.proofs.Facts.Paths.{same_path-decides}
-use Rattle.coap_server.specs.ServerSide.ServerTrace as S
-use Rattle.coap_server.specs.ServerSide.ServerLaw.{own_of, ServerRows, ServerLaw}
-use Rattle.coap_server.specs.ServerSide.Follows.ServerHolds.{Change, change, held_then}
-use Rattle.coap_server.specs.ServerSide.Follows.ServerTags.{AreStamped}
-use Rattle.coap_server.proofs.Facts.OfServer.{held_is, holds_changes, stamped}
+use Rattle.coap_server.specs.Trace as S
+use Rattle.coap_server.specs.Law.{own_of, ServerRows, ServerLaw}
+use Rattle.coap_server.specs.Follows.Holds.{Change, change, held_then}
+use Rattle.coap_server.specs.Follows.Tags.{AreStamped}
+use Rattle.coap_server.proofs.Facts.Laws.{held_is, holds_changes, stamped}
 use Rattle.coap_world.specs.Events.{Config}
 use Rattle.coap_world.specs.Holds.{Holds, HoldsChanges}
 use Rattle.coap_world.specs.Record.{Entry, OfClient, OfServer, server_trace}

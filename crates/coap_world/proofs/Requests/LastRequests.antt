@@ -19,18 +19,18 @@ use Rattle.coap_types.proofs.Facts.Blocks.{block_reads_back}
 use Rattle.coap_types.proofs.Facts.Uints.{uint_read}
 use Rattle.coap_codec.specs.Message.{Message}
 use Rattle.coap_block.specs.UploadStep.{UploadState, block_to_send, more_follows}
-use Rattle.coap_client.specs.ClientSide.ClientBegins.{WasSent}
-use Rattle.coap_client.specs.ClientSide.ClientOfCalls.{CarriesBody, SendsBody, IsOfCall, AreOfCalls}
-use Rattle.coap_client.specs.ClientSide.ClientOrder.{call_of, is_last}
-use Rattle.coap_client.specs.ClientSide.ClientOwn.{Transfer, Fetches, Uploads, Single, Calling}
-use Rattle.coap_client.specs.ClientSide.ClientRequests.{is_longer, block_option}
-use Rattle.coap_client.specs.ClientSide.ClientTrace as C
-use Rattle.coap_client.specs.ClientSide.ClientWords.{Sending}
-use Rattle.coap_server.specs.ServerSide.Follows.ServerReads.{ReadsOf}
-use Rattle.coap_server.specs.ServerSide.Follows.ServerTable.{HasNoFault, NoFaultIn}
-use Rattle.coap_server.specs.ServerSide.ServerChecks.{Verdict, Ignored, Refused, Asks, Uploads as UploadsBlock, asks}
-use Rattle.coap_server.specs.ServerSide.ServerChecks.{verdict_on}
-use Rattle.coap_server.proofs.Facts.OfServer as server_facts
+use Rattle.coap_client.specs.Follows.Begins.{WasSent}
+use Rattle.coap_client.specs.Follows.OfCalls.{CarriesBody, SendsBody, IsOfCall, AreOfCalls}
+use Rattle.coap_client.specs.Follows.Order.{call_of, is_last}
+use Rattle.coap_client.specs.Own.{Transfer, Fetches, Uploads, Single, Calling}
+use Rattle.coap_client.specs.Requests.{is_longer, block_option}
+use Rattle.coap_client.specs.Trace as C
+use Rattle.coap_client.specs.Follows.Words.{Sending}
+use Rattle.coap_server.specs.Follows.Reads.{ReadsOf}
+use Rattle.coap_server.specs.Follows.Table.{HasNoFault, NoFaultIn}
+use Rattle.coap_server.specs.Checks.{Verdict, Ignored, Refused, Asks, Uploads as UploadsBlock, asks}
+use Rattle.coap_server.specs.Checks.{verdict_on}
+use Rattle.coap_server.proofs.Facts.Laws as server_facts
 use Rattle.coap_world.specs.CameFrom.{request_of}
 use Rattle.coap_world.proofs.Requests.ReadBack.{Changes, options_in, in_order, bare_options, reads_all, block_back}
 

@@ -4,10 +4,10 @@ use Rattle.std.proofs.Common.{Result}
 use Rattle.coap_resource.specs.Content.{Content, Held, Changes, put_refusal, later}
 use Rattle.coap_resource.specs.Rate.{rate_refusal}
 use Rattle.coap_resource.specs.declared.refusal.StoreRefusal.{StoreRefusal}
-use Rattle.coap_server.specs.ServerSide.ServerTrace as S
-use Rattle.coap_server.specs.ServerSide.ServerLocal.{SetsBy, RemovesBy}
-use Rattle.coap_server.specs.ServerSide.ServerLaw.{own_of}
-use Rattle.coap_server.proofs.Facts.OfServer.{version_is}
+use Rattle.coap_server.specs.Trace as S
+use Rattle.coap_server.specs.Local.{SetsBy, RemovesBy}
+use Rattle.coap_server.specs.Law.{own_of}
+use Rattle.coap_server.proofs.Facts.Laws.{version_is}
 use Rattle.coap_world.specs.Events.{Config}
 use Rattle.coap_world.specs.Local.{IsSame, SetsRight, RemovesRight, IsLocalRight, LocalRight}
 use Rattle.coap_world.specs.Record.{Entry, OfClient, OfServer, server_trace}

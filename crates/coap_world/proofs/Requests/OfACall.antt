@@ -14,24 +14,24 @@ use Rattle.coap_resource.specs.Content.{Content}
 use Rattle.coap_resource.specs.Serves.{Question}
 use Rattle.coap_exchange.specs.declared.answerer.Asked.{Asked}
 use Rattle.coap_exchange.specs.AnswererSteps.{asked_of}
-use Rattle.coap_client.specs.ClientSide.ClientBegins.{WasSent}
-use Rattle.coap_client.specs.ClientSide.ClientLaw.{ClientLaw}
-use Rattle.coap_client.specs.ClientSide.ClientOrder.{call_of, is_last}
-use Rattle.coap_client.specs.ClientSide.ClientOfCalls.{CarriesBody}
-use Rattle.coap_client.specs.ClientSide.ClientOwn.{Transfer, Calling}
-use Rattle.coap_client.specs.ClientSide.ClientRequests.{message_of}
-use Rattle.coap_client.specs.ClientSide.ClientTrace as C
-use Rattle.coap_client.specs.ClientSide.ClientTokens.{Deregisters}
-use Rattle.coap_client.specs.ClientSide.ClientWords.{Taken, WasTaken, Sending}
-use Rattle.coap_server.specs.ServerSide.Follows.ServerBrings.{AsksBy}
-use Rattle.coap_server.specs.ServerSide.Follows.ServerHolds.{Does}
-use Rattle.coap_server.specs.ServerSide.Follows.ServerReads.{ReadsOf}
-use Rattle.coap_server.specs.ServerSide.Follows.ServerServes.{Serving}
-use Rattle.coap_server.specs.ServerSide.ServerChecks.{Verdict, Ignored, Refused, Asks, Uploads, asks}
-use Rattle.coap_server.specs.ServerSide.ServerLaw.{ServerLaw}
-use Rattle.coap_server.specs.ServerSide.ServerTrace as S
-use Rattle.coap_client.proofs.Facts.OfClient as client_facts
-use Rattle.coap_server.proofs.Facts.OfServer as server_facts
+use Rattle.coap_client.specs.Follows.Begins.{WasSent}
+use Rattle.coap_client.specs.Law.{ClientLaw}
+use Rattle.coap_client.specs.Follows.Order.{call_of, is_last}
+use Rattle.coap_client.specs.Follows.OfCalls.{CarriesBody}
+use Rattle.coap_client.specs.Own.{Transfer, Calling}
+use Rattle.coap_client.specs.Requests.{message_of}
+use Rattle.coap_client.specs.Trace as C
+use Rattle.coap_client.specs.Follows.Tokens.{Deregisters}
+use Rattle.coap_client.specs.Follows.Words.{Taken, WasTaken, Sending}
+use Rattle.coap_server.specs.Follows.Brings.{AsksBy}
+use Rattle.coap_server.specs.Follows.Holds.{Does}
+use Rattle.coap_server.specs.Follows.Reads.{ReadsOf}
+use Rattle.coap_server.specs.Follows.Serves.{Serving}
+use Rattle.coap_server.specs.Checks.{Verdict, Ignored, Refused, Asks, Uploads, asks}
+use Rattle.coap_server.specs.Law.{ServerLaw}
+use Rattle.coap_server.specs.Trace as S
+use Rattle.coap_client.proofs.Facts.Laws as client_facts
+use Rattle.coap_server.proofs.Facts.Laws as server_facts
 use Rattle.coap_world.specs.CameFrom.{request_of, IsChannel, CamesFrom}
 use Rattle.coap_world.specs.Events.{client_end, server_end, Config}
 use Rattle.coap_world.specs.Hops.{hops_at, hops_in}

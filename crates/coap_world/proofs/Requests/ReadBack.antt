@@ -20,10 +20,10 @@ use Rattle.coap_types.proofs.Facts.Uints.{uint_read}
 use Rattle.coap_resource.specs.RequestOptions.{format_of, within_16}
 use Rattle.coap_block.specs.declared.fetch_progress.Asked.{Asked}
 use Rattle.coap_block.specs.UploadStep.{block_to_send}
-use Rattle.coap_client.specs.ClientSide.ClientOwn.{Transfer, Fetches, Uploads, Single}
-use Rattle.coap_client.specs.ClientSide.ClientRequests.{flag_option, path_options, before_path, after_path, options_of}
-use Rattle.coap_client.specs.ClientSide.ClientRequests.{block2_option, is_longer, block_option}
-use Rattle.coap_client.specs.ClientSide.ClientTrace as C
+use Rattle.coap_client.specs.Own.{Transfer, Fetches, Uploads, Single}
+use Rattle.coap_client.specs.Requests.{flag_option, path_options, before_path, after_path, options_of}
+use Rattle.coap_client.specs.Requests.{block2_option, is_longer, block_option}
+use Rattle.coap_client.specs.Trace as C
 use Rattle.coap_world.proofs.Requests.AllRecognised.{KnownElective, NoFormat, all_recognised, run_known, one_known}
 use Rattle.coap_world.proofs.Requests.AllRecognised.{format_known, critical_known}
 

@@ -1,10 +1,10 @@
 -- What a serving finds in the store is what the server holds, and what it leaves is what the server holds then.
 use Rattle.std.proofs.Common.{◌≡◌, Some, None, refl, ap, sym, ◌∙◌}
 use Rattle.coap_exchange.specs.declared.answerer.Due.TheVariants as due
-use Rattle.coap_server.specs.ServerSide.ServerTrace.{Own, Silent, Replies, Serves, Waits, Notifies, Call, Sets, Removes}
-use Rattle.coap_server.specs.ServerSide.ServerTrace.{Delays, Feeds, Ticks, NextOut, Gets, TellsApplied}
-use Rattle.coap_server.specs.ServerSide.ServerSteps.{after}
-use Rattle.coap_server.specs.ServerSide.Follows.ServerServes.{Serving, serving}
+use Rattle.coap_server.specs.Trace.{Own, Silent, Replies, Serves, Waits, Notifies, Call, Sets, Removes}
+use Rattle.coap_server.specs.Trace.{Delays, Feeds, Ticks, NextOut, Gets, TellsApplied}
+use Rattle.coap_server.specs.Steps.{after}
+use Rattle.coap_server.specs.Follows.Serves.{Serving, serving}
 
 pub record Leaves (s : Own) (c : Call) (x : Serving) : Type 0 where
   pub found : x.old ≡ s.store

@@ -2,10 +2,10 @@
 use Rattle.std.proofs.Common.{List, [], ◌∷◌, ap, sym, ◌∙◌}
 use Rattle.coap_resource.specs.Content.{Content}
 use Rattle.coap_resource.specs.RequestOptions.{precondition_fails}
-use Rattle.coap_server.specs.ServerSide.ServerLaw.{own_of}
-use Rattle.coap_server.specs.ServerSide.ServerTrace as S
-use Rattle.coap_server.proofs.Facts.OfServer as server_facts
-use Rattle.coap_server.proofs.Facts.OfServerCalls.{served_now}
+use Rattle.coap_server.specs.Law.{own_of}
+use Rattle.coap_server.specs.Trace as S
+use Rattle.coap_server.proofs.Facts.Laws as server_facts
+use Rattle.coap_server.proofs.Facts.EachCall.{served_now}
 use Rattle.coap_world.specs.Events.{Config}
 use Rattle.coap_world.specs.Record.{Entry, OfClient, OfServer, server_trace}
 use Rattle.coap_world.specs.Serves.{ServesRight, AllServed}

@@ -6,11 +6,11 @@ use Rattle.coap_layer.specs.Trace as T
 use Rattle.coap_layer.specs.Words.{begun}
 use Rattle.coap_resource.specs.Serves.{Question}
 use Rattle.coap_exchange.specs.declared.answerer.Asked.{Asked}
-use Rattle.coap_client.specs.ClientSide.ClientBegins.{WasSent}
-use Rattle.coap_client.specs.ClientSide.ClientWords.{Sending}
-use Rattle.coap_server.specs.ServerSide.Follows.ServerBrings.{AsksBy, Brings, HandsUp}
-use Rattle.coap_server.specs.ServerSide.ServerChecks.{Verdict}
-use Rattle.coap_server.specs.ServerSide.ServerTrace as S
+use Rattle.coap_client.specs.Follows.Begins.{WasSent}
+use Rattle.coap_client.specs.Follows.Words.{Sending}
+use Rattle.coap_server.specs.Follows.Brings.{AsksBy, Brings, HandsUp}
+use Rattle.coap_server.specs.Checks.{Verdict}
+use Rattle.coap_server.specs.Trace as S
 use Rattle.coap_world.specs.CameFrom.{CameFrom, CamesFrom}
 use Rattle.coap_world.specs.Events.{client_end, Config}
 use Rattle.coap_world.specs.Hops.{hops_at, hops_in}

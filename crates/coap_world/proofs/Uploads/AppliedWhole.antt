@@ -11,24 +11,24 @@ use Rattle.coap_resource.specs.RequestOptions.{format_of, precondition_fails}
 use Rattle.coap_resource.specs.Serves.{Question}
 use Rattle.coap_exchange.specs.declared.answerer.Asked.{Asked}
 use Rattle.coap_exchange.specs.AnswererSteps.{asked_of}
-use Rattle.coap_client.specs.ClientSide.ClientBlocks.{Carried, carried}
-use Rattle.coap_client.specs.ClientSide.ClientOfCalls.{CarriesBody}
-use Rattle.coap_client.specs.ClientSide.ClientOrder.{call_of}
-use Rattle.coap_client.specs.ClientSide.ClientOwn.{Transfer, Fetches, Uploads, Single, Calling}
-use Rattle.coap_client.specs.ClientSide.ClientRequests.{payload_of}
-use Rattle.coap_client.specs.ClientSide.ClientTrace as C
-use Rattle.coap_client.specs.ClientSide.ClientWords.{Taken, WasTaken, Sending}
-use Rattle.coap_server.specs.ServerSide.Follows.ServerBrings.{Comes, AsksBy}
-use Rattle.coap_server.specs.ServerSide.Follows.ServerHolds as D
-use Rattle.coap_server.specs.ServerSide.Follows.ServerReads.{ReadsOf}
-use Rattle.coap_server.specs.ServerSide.Follows.ServerServes.{Serving}
-use Rattle.coap_server.specs.ServerSide.Follows.ServerTakes.{took}
-use Rattle.coap_server.specs.ServerSide.ServerChecks.{Verdict, Ignored, Refused, Asks, Uploads as UploadsBlock}
-use Rattle.coap_server.specs.ServerSide.ServerLaw.{own_of}
-use Rattle.coap_server.specs.ServerSide.ServerTrace as S
-use Rattle.coap_client.proofs.Facts.OfClient as client_facts
-use Rattle.coap_server.proofs.Facts.OfServer as server_facts
-use Rattle.coap_server.proofs.Facts.OfServer.{version_is}
+use Rattle.coap_client.specs.Follows.Blocks.{Carried, carried}
+use Rattle.coap_client.specs.Follows.OfCalls.{CarriesBody}
+use Rattle.coap_client.specs.Follows.Order.{call_of}
+use Rattle.coap_client.specs.Own.{Transfer, Fetches, Uploads, Single, Calling}
+use Rattle.coap_client.specs.Requests.{payload_of}
+use Rattle.coap_client.specs.Trace as C
+use Rattle.coap_client.specs.Follows.Words.{Taken, WasTaken, Sending}
+use Rattle.coap_server.specs.Follows.Brings.{Comes, AsksBy}
+use Rattle.coap_server.specs.Follows.Holds as D
+use Rattle.coap_server.specs.Follows.Reads.{ReadsOf}
+use Rattle.coap_server.specs.Follows.Serves.{Serving}
+use Rattle.coap_server.specs.Follows.Takes.{took}
+use Rattle.coap_server.specs.Checks.{Verdict, Ignored, Refused, Asks, Uploads as UploadsBlock}
+use Rattle.coap_server.specs.Law.{own_of}
+use Rattle.coap_server.specs.Trace as S
+use Rattle.coap_client.proofs.Facts.Laws as client_facts
+use Rattle.coap_server.proofs.Facts.Laws as server_facts
+use Rattle.coap_server.proofs.Facts.Laws.{version_is}
 use Rattle.coap_world.specs.Applied.{Does}
 use Rattle.coap_world.specs.CameFrom.{request_of, ComesAt}
 use Rattle.coap_world.specs.Events.{client_end, server_end, Config}

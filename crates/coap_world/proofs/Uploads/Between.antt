@@ -7,11 +7,11 @@ use Rattle.coap_layer.specs.Channel.{near_of, OnFar, HandsUpAs}
 use Rattle.coap_layer.specs.Trace as T
 use Rattle.coap_layer.specs.Words.{Open, begun}
 use Rattle.coap_layer.proofs.Facts.Laws.{cons_apart}
-use Rattle.coap_client.specs.ClientSide.ClientBegins.{IsRequestOf}
-use Rattle.coap_client.specs.ClientSide.ClientOrder.{call_of}
-use Rattle.coap_client.specs.ClientSide.ClientWords.{Taken, WasTaken, Sending}
-use Rattle.coap_server.specs.ServerSide.Follows.ServerTakes.{Took}
-use Rattle.coap_server.specs.ServerSide.ServerTrace as S
+use Rattle.coap_client.specs.Follows.Begins.{IsRequestOf}
+use Rattle.coap_client.specs.Follows.Order.{call_of}
+use Rattle.coap_client.specs.Follows.Words.{Taken, WasTaken, Sending}
+use Rattle.coap_server.specs.Follows.Takes.{Took}
+use Rattle.coap_server.specs.Trace as S
 use Rattle.coap_world.specs.Events.{client_end, server_end, Config}
 use Rattle.coap_world.specs.Hops.{hops_in, hops_at, client_adds, server_adds}
 use Rattle.coap_world.specs.Legal.{IsRequest}

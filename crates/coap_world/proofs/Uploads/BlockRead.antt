@@ -26,19 +26,19 @@ use Rattle.coap_codec.specs.Message.{Message}
 use Rattle.coap_block.specs.UploadStep.{UploadState, block_to_send, more_follows}
 use Rattle.coap_resource.specs.RequestOptions.{block_said}
 use Rattle.coap_resource.specs.Serves.{Question}
-use Rattle.coap_client.specs.ClientSide.ClientBlocks.{carried}
-use Rattle.coap_client.specs.ClientSide.ClientOfCalls.{CarriesBody, IsOfCall}
-use Rattle.coap_client.specs.ClientSide.ClientOwn.{Transfer, Fetches, Uploads, Single, Calling}
-use Rattle.coap_client.specs.ClientSide.ClientRequests.{is_longer, block_option, payload_of}
-use Rattle.coap_client.specs.ClientSide.ClientTrace as C
-use Rattle.coap_client.specs.ClientSide.ClientWords.{WasTaken, Sending}
-use Rattle.coap_server.specs.ServerSide.Follows.ServerReads.{ReadsOf}
-use Rattle.coap_server.specs.ServerSide.Follows.ServerTable.{HasNoFault, NoFaultIn}
-use Rattle.coap_server.specs.ServerSide.ServerChecks.{Verdict, Refused, Uploads as UploadsBlock, asks, verdict_on}
-use Rattle.coap_server.specs.ServerSide.ServerChecks.{bad_by}
-use Rattle.coap_server.specs.ServerSide.ServerChecks.{proxying_not_supported}
-use Rattle.coap_server.specs.ServerSide.ServerChecks.{bad_request, asked_by, uploading, question, is_reserved}
-use Rattle.coap_server.proofs.Facts.OfServer as server_facts
+use Rattle.coap_client.specs.Follows.Blocks.{carried}
+use Rattle.coap_client.specs.Follows.OfCalls.{CarriesBody, IsOfCall}
+use Rattle.coap_client.specs.Own.{Transfer, Fetches, Uploads, Single, Calling}
+use Rattle.coap_client.specs.Requests.{is_longer, block_option, payload_of}
+use Rattle.coap_client.specs.Trace as C
+use Rattle.coap_client.specs.Follows.Words.{WasTaken, Sending}
+use Rattle.coap_server.specs.Follows.Reads.{ReadsOf}
+use Rattle.coap_server.specs.Follows.Table.{HasNoFault, NoFaultIn}
+use Rattle.coap_server.specs.Checks.{Verdict, Refused, Uploads as UploadsBlock, asks, verdict_on}
+use Rattle.coap_server.specs.Checks.{bad_by}
+use Rattle.coap_server.specs.Checks.{proxying_not_supported}
+use Rattle.coap_server.specs.Checks.{bad_request, asked_by, uploading, question, is_reserved}
+use Rattle.coap_server.proofs.Facts.Laws as server_facts
 use Rattle.coap_world.specs.CameFrom.{request_of}
 use Rattle.coap_world.proofs.Requests.LastRequests.{method_is, no_fetch, sends_body, small_value, code_is, options_read}
 use Rattle.coap_world.proofs.Requests.ReadBack.{Changes, path_back, block_back}

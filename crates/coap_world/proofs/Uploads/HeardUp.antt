@@ -11,15 +11,15 @@ use Rattle.coap_layer.specs.Words.{Open}
 use Rattle.coap_layer.proofs.Facts.Laws.{only_that_con}
 use Rattle.coap_resource.specs.Serves.{Question}
 use Rattle.coap_exchange.specs.declared.answerer.Asked.{Asked}
-use Rattle.coap_client.specs.ClientSide.ClientOrder.{call_of, HearsBy}
-use Rattle.coap_client.specs.ClientSide.ClientTrace as C
-use Rattle.coap_client.specs.ClientSide.ClientWords.{Taken, WasTaken, Sending}
-use Rattle.coap_server.specs.ServerSide.Follows.ServerObserves.{MadeBy, MadeWith, WasMade}
-use Rattle.coap_server.specs.ServerSide.Follows.ServerServes.{Serving, serving}
-use Rattle.coap_server.specs.ServerSide.ServerChecks.{Verdict, Uploads}
-use Rattle.coap_server.specs.ServerSide.ServerLaw.{own_of}
-use Rattle.coap_server.specs.ServerSide.ServerTrace as S
-use Rattle.coap_server.proofs.Facts.OfServer as server_facts
+use Rattle.coap_client.specs.Follows.Order.{call_of, HearsBy}
+use Rattle.coap_client.specs.Trace as C
+use Rattle.coap_client.specs.Follows.Words.{Taken, WasTaken, Sending}
+use Rattle.coap_server.specs.Follows.Observes.{MadeBy, MadeWith, WasMade}
+use Rattle.coap_server.specs.Follows.Serves.{Serving, serving}
+use Rattle.coap_server.specs.Checks.{Verdict, Uploads}
+use Rattle.coap_server.specs.Law.{own_of}
+use Rattle.coap_server.specs.Trace as S
+use Rattle.coap_server.proofs.Facts.Laws as server_facts
 use Rattle.coap_world.specs.Answers.{IsAnswer, AnswersAt, replies, continues, refuses, notifies}
 use Rattle.coap_world.specs.CameFrom.{request_of, ComesAt}
 use Rattle.coap_world.specs.Events.{client_end, server_end, Config}

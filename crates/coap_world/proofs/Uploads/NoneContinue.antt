@@ -3,10 +3,10 @@ use Rattle.std.proofs.Common.{◌≡◌, ◌≢◌, ℕ, true, false, Option, So
 use Rattle.std.specs.Prelude.{◌==◌}
 use Rattle.coap_resource.specs.Content.{Held}
 use Rattle.coap_exchange.specs.AnswererTrace as E
-use Rattle.coap_server.specs.ServerSide.Follows.ServerGives.{refusal_in, NoticeOf}
-use Rattle.coap_server.specs.ServerSide.ServerTrace as S
-use Rattle.coap_server.specs.ServerSide.ServerUploads.{continue}
-use Rattle.coap_server.proofs.Facts.OfServerCalls.{refusals_are_errors}
+use Rattle.coap_server.specs.Follows.Gives.{refusal_in, NoticeOf}
+use Rattle.coap_server.specs.Trace as S
+use Rattle.coap_server.specs.Uploads.{continue}
+use Rattle.coap_server.proofs.Facts.EachCall.{refusals_are_errors}
 
 not_so : (code : ℕ) → (code == continue) ≡ false → code ≢ continue
 not_so code e k = let z : true ≡ false = sym (ap (λ n. n == continue) k) ∙ e in cc z

@@ -11,23 +11,23 @@ use Rattle.coap_layer.specs.Sends.{SendsIt}
 use Rattle.coap_layer.specs.Trace as T
 use Rattle.coap_layer.specs.Words.{Open, begun}
 use Rattle.coap_layer.proofs.Facts.Laws.{begins_of}
-use Rattle.coap_client.specs.ClientSide.ClientBegins.{IsRequestOf}
-use Rattle.coap_client.specs.ClientSide.ClientBlocks.{Carried, carried}
-use Rattle.coap_client.specs.ClientSide.ClientLaw.{own_of}
-use Rattle.coap_client.specs.ClientSide.ClientOrder.{call_of, turn_of}
-use Rattle.coap_client.specs.ClientSide.ClientOwn.{Fetches, Uploads, Single, Operation, Calling, Registering, Fetching}
-use Rattle.coap_client.specs.ClientSide.ClientOwn.{Cancelling, Dropped}
-use Rattle.coap_client.specs.ClientSide.ClientTrace as C
-use Rattle.coap_client.specs.ClientSide.ClientWords.{Taken, WasTaken, Sending, sends}
-use Rattle.coap_client.proofs.Facts.OfClient as client_facts
+use Rattle.coap_client.specs.Follows.Begins.{IsRequestOf}
+use Rattle.coap_client.specs.Follows.Blocks.{Carried, carried}
+use Rattle.coap_client.specs.Law.{own_of}
+use Rattle.coap_client.specs.Follows.Order.{call_of, turn_of}
+use Rattle.coap_client.specs.Own.{Fetches, Uploads, Single, Operation, Calling, Registering, Fetching}
+use Rattle.coap_client.specs.Own.{Cancelling, Dropped}
+use Rattle.coap_client.specs.Trace as C
+use Rattle.coap_client.specs.Follows.Words.{Taken, WasTaken, Sending, sends}
+use Rattle.coap_client.proofs.Facts.Laws as client_facts
 use Rattle.coap_world.specs.Events.{client_end, server_end, Config}
 use Rattle.coap_world.specs.Hops.{hops_in, hops_at, client_adds, server_adds}
 use Rattle.coap_world.specs.Legal.{IsRequest}
 use Rattle.coap_world.specs.Record.{Entry, OfClient, OfServer, client_of, server_trace}
 use Rattle.coap_world.proofs.Delivery.HopsAreEntries.{near_is}
 use Rattle.coap_world.proofs.Requests.OfACall.{Lawful}
-use Rattle.coap_client.specs.ClientSide.ClientApart.{IsBlockOf, IsQuiet}
-use Rattle.coap_client.proofs.Facts.OfClientCalls.{blocks_apart}
+use Rattle.coap_client.specs.Follows.Apart.{IsBlockOf, IsQuiet}
+use Rattle.coap_client.proofs.Facts.EachCall.{blocks_apart}
 use Rattle.coap_world.proofs.Uploads.HeardUp.{heard_taken}
 use Rattle.coap_world.proofs.Uploads.HopLists.{near_near, near_far, Sometime_append}
 use Rattle.coap_world.proofs.Uploads.Parts.{Begun, Sent, Carries, same_token, Part, part_back, one_sending}

@@ -10,19 +10,19 @@ use Rattle.coap_layer.specs.Channel.{near_of}
 use Rattle.coap_layer.specs.Trace as T
 use Rattle.coap_layer.specs.Words.{Open, begun}
 use Rattle.coap_resource.specs.Serves.{Question}
-use Rattle.coap_client.specs.ClientSide.ClientBegins.{WasSent, IsRequestOf}
-use Rattle.coap_client.specs.ClientSide.ClientOfCalls.{OthersAreGets}
-use Rattle.coap_client.specs.ClientSide.ClientOrder.{call_of}
-use Rattle.coap_client.specs.ClientSide.ClientTokens.{Deregisters, Ends}
-use Rattle.coap_client.specs.ClientSide.ClientTrace as C
-use Rattle.coap_client.specs.ClientSide.ClientWords.{Taken, WasTaken, Sending}
-use Rattle.coap_server.specs.ServerSide.Follows.ServerReads.{ReadsOf}
-use Rattle.coap_server.specs.ServerSide.Follows.ServerTakes.{Took, took, takes_block}
-use Rattle.coap_server.specs.ServerSide.ServerChecks.{Uploads}
-use Rattle.coap_server.specs.ServerSide.ServerLaw.{own_of}
-use Rattle.coap_server.specs.ServerSide.ServerTrace as S
-use Rattle.coap_client.proofs.Facts.OfClient as client_facts
-use Rattle.coap_server.proofs.Facts.OfServer as server_facts
+use Rattle.coap_client.specs.Follows.Begins.{WasSent, IsRequestOf}
+use Rattle.coap_client.specs.Follows.OfCalls.{OthersAreGets}
+use Rattle.coap_client.specs.Follows.Order.{call_of}
+use Rattle.coap_client.specs.Follows.Tokens.{Deregisters, Ends}
+use Rattle.coap_client.specs.Trace as C
+use Rattle.coap_client.specs.Follows.Words.{Taken, WasTaken, Sending}
+use Rattle.coap_server.specs.Follows.Reads.{ReadsOf}
+use Rattle.coap_server.specs.Follows.Takes.{Took, took, takes_block}
+use Rattle.coap_server.specs.Checks.{Uploads}
+use Rattle.coap_server.specs.Law.{own_of}
+use Rattle.coap_server.specs.Trace as S
+use Rattle.coap_client.proofs.Facts.Laws as client_facts
+use Rattle.coap_server.proofs.Facts.Laws as server_facts
 use Rattle.coap_world.specs.CameFrom.{request_of, CameFrom}
 use Rattle.coap_world.specs.Events.{client_end, server_end, Config}
 use Rattle.coap_world.specs.Hops.{hops_in, hops_at}
@@ -34,7 +34,7 @@ use Rattle.coap_world.proofs.Requests.LastRequests.{of_call_at, method_is}
 use Rattle.coap_world.proofs.Requests.OfACall.{Lawful, lawful_back, no_call, no_call_behind}
 use Rattle.coap_world.proofs.Requests.ReadBack.{Changes}
 use Rattle.coap_world.proofs.Requests.Traced.{near_later, sent_later}
-use Rattle.coap_client.specs.ClientSide.ClientApart.{IsBlockOf}
+use Rattle.coap_client.specs.Follows.Apart.{IsBlockOf}
 use Rattle.coap_world.proofs.Uploads.BlockRead.{uploads_change, ReadsBlock, reads_block}
 
 -- what is sent for no call is a GET

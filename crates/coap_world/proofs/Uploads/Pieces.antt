@@ -12,11 +12,11 @@ use Rattle.coap_block.specs.Whole.{Part, Each, IsPieceOf, Ends, InOrder, WholeAt
 use Rattle.coap_block.proofs.Facts.Laws.{one_body_at_server}
 use Rattle.coap_block.proofs.Facts.Parts.{ends_behind}
 use Rattle.coap_resource.specs.Serves.{Question}
-use Rattle.coap_client.specs.ClientSide.ClientBegins.{WasSent}
-use Rattle.coap_client.specs.ClientSide.ClientBlocks.{carried, SendsPieces}
-use Rattle.coap_client.specs.ClientSide.ClientNumbers.{number_given, NumbersOnce}
-use Rattle.coap_client.specs.ClientSide.ClientTrace as C
-use Rattle.coap_client.specs.ClientSide.ClientWords.{Taken, takes, WasTaken, Sending}
+use Rattle.coap_client.specs.Follows.Begins.{WasSent}
+use Rattle.coap_client.specs.Follows.Blocks.{carried, SendsPieces}
+use Rattle.coap_client.specs.Follows.Numbers.{number_given, NumbersOnce}
+use Rattle.coap_client.specs.Trace as C
+use Rattle.coap_client.specs.Follows.Words.{Taken, takes, WasTaken, Sending}
 
 -- pieces, chained to the end, are the body
 pub whole_is : (parts : List Part) (a b : List ℕ) → WholeAtServer parts a → Each (IsPieceOf b) parts → a ≡ b

@@ -14,17 +14,17 @@ use Rattle.coap_block.specs.Whole.{Each, IsPieceOf}
 use Rattle.coap_block.proofs.Facts.Keys.{same_key-decides, same_key_self}
 use Rattle.coap_block.proofs.Facts.Parts.{each_behind}
 use Rattle.coap_exchange.specs.declared.answerer.Asked.{Asked}
-use Rattle.coap_client.specs.ClientSide.ClientBlocks.{Carried, carried}
-use Rattle.coap_client.specs.ClientSide.ClientContinued.{HearsContinue}
-use Rattle.coap_client.specs.ClientSide.ClientOrder.{call_of}
-use Rattle.coap_client.specs.ClientSide.ClientTrace as C
-use Rattle.coap_client.specs.ClientSide.ClientWords.{Taken, WasTaken, Sending}
-use Rattle.coap_server.specs.ServerSide.Follows.ServerTakes.{Took, takes_block, behind, since_with, blocks_since}
-use Rattle.coap_server.specs.ServerSide.ServerLaw.{own_of}
-use Rattle.coap_server.specs.ServerSide.ServerTrace as S
-use Rattle.coap_server.specs.ServerSide.ServerUploads.{continue}
-use Rattle.coap_client.proofs.Facts.OfClient as client_facts
-use Rattle.coap_server.proofs.Facts.OfServer as server_facts
+use Rattle.coap_client.specs.Follows.Blocks.{Carried, carried}
+use Rattle.coap_client.specs.Follows.Continued.{HearsContinue}
+use Rattle.coap_client.specs.Follows.Order.{call_of}
+use Rattle.coap_client.specs.Trace as C
+use Rattle.coap_client.specs.Follows.Words.{Taken, WasTaken, Sending}
+use Rattle.coap_server.specs.Follows.Takes.{Took, takes_block, behind, since_with, blocks_since}
+use Rattle.coap_server.specs.Law.{own_of}
+use Rattle.coap_server.specs.Trace as S
+use Rattle.coap_server.specs.Uploads.{continue}
+use Rattle.coap_client.proofs.Facts.Laws as client_facts
+use Rattle.coap_server.proofs.Facts.Laws as server_facts
 use Rattle.coap_world.specs.Answers.{IsAnswer, AnswersAt, replies, continues, refuses, notifies}
 use Rattle.coap_world.specs.Events.{client_end, server_end, Config}
 use Rattle.coap_world.specs.Legal.{IsRequest}

@@ -14,9 +14,9 @@ use Rattle.coap_resource.specs.Content.{nothing}
 use Rattle.coap_resource.specs.Serves.{Reply, bare}
 use Rattle.coap_exchange.specs.AnswererLaw as answerer
 use Rattle.coap_exchange.specs.AnswererSteps.{asked_of, content_of}
-use Rattle.coap_server.specs.ServerSide.ServerTrace as S
-use Rattle.coap_server.specs.ServerSide.ServerServing.{response_to}
-use Rattle.coap_server.specs.ServerSide.ServerLaw.{ServerLaw, ServerRows, lower_of}
+use Rattle.coap_server.specs.Trace as S
+use Rattle.coap_server.specs.Serving.{response_to}
+use Rattle.coap_server.specs.Law.{ServerLaw, ServerRows, lower_of}
 use Rattle.coap_world.specs.Events.{Calls, TickClient, Deliver, client_end}
 use Rattle.coap_world.specs.Legal.{AllLegal}
 use Rattle.coap_world.specs.LegalEvents.{event, comes_at}

@@ -4,8 +4,8 @@ pub mod Client
 pub mod Server
 use Rattle.std.proofs.Common.{◌≡◌, inl, inr, Some, List, [], ◌∷◌, map, refl, arith}
 use Rattle.coap_types.specs.Past.{Always, Sometime}
-use Rattle.coap_client.specs.ClientSide.ClientTrace.{Timeout}
-use Rattle.coap_both.specs.SuccessCodes.{changed}
+use Rattle.coap_client.specs.Trace.{Timeout}
+use Rattle.coap_common.specs.SuccessCodes.{changed}
 use Rattle.coap_world.specs.Events.{Calls, TickClient, Deliver, client_end}
 use Rattle.coap_world.specs.Legal.{AllLegal}
 use Rattle.coap_world.specs.LegalEvents.{event}

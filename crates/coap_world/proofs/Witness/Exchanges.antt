@@ -11,9 +11,9 @@ use Rattle.coap_resource.specs.Content.{Content}
 use Rattle.coap_resource.specs.Serves.{Question, Reply}
 use Rattle.coap_exchange.specs.AnswererSteps.{asked_of, content_of}
 use Rattle.coap_exchange.specs.declared.asker.Event.TheVariants as event
-use Rattle.coap_client.specs.ClientSide.ClientTrace as C
-use Rattle.coap_server.specs.ServerSide.ServerServing.{response_to}
-use Rattle.coap_server.specs.ServerSide.ServerTrace as S
+use Rattle.coap_client.specs.Trace as C
+use Rattle.coap_server.specs.Serving.{response_to}
+use Rattle.coap_server.specs.Trace as S
 use Rattle.coap_world.specs.BlockRuns.{key}
 use Rattle.coap_world.specs.Events.{client_end, server_end}
 use Rattle.coap_world.proofs.Witness.TurnsMade.{asks, rests}

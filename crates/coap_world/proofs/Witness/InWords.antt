@@ -6,7 +6,7 @@ use Rattle.coap_types.specs.Bytes.{AreBytes}
 use Rattle.coap_types.proofs.Facts.Bytes.{bytes_are}
 use Rattle.coap_types.specs.EntityTag.{AreTags}
 use Rattle.coap_types.specs.Path.{IsPath}
-use Rattle.coap_server.specs.ServerSide.ServerTrace.{Delay}
+use Rattle.coap_server.specs.Trace.{Delay}
 use Rattle.coap_world.specs.Legal.{IsDelay, IsConfig}
 use Rattle.coap_world.specs.LegalRuns.{with_delays, config, t}
 

@@ -5,7 +5,7 @@ use Rattle.std.proofs.Common.{◌≡◌, inl, inr, ℕ, Option, Some, None, List
 use Rattle.std.specs.Prelude.{codes}
 use Rattle.coap_types.specs.Past.{Always, Sometime}
 use Rattle.coap_types.specs.declared.endpoint.Endpoint.{Endpoint}
-use Rattle.coap_server.specs.ServerSide.Follows.ServerServes.{Serving}
+use Rattle.coap_server.specs.Follows.Serves.{Serving}
 use Rattle.coap_world.specs.Words.{AppliesFor}
 use Rattle.coap_world.specs.Events.{Calls, Sets, TickClient, StrangerToServer, localhost}
 use Rattle.coap_world.specs.Legal.{IsRequest, AllLegal}

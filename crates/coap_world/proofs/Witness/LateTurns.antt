@@ -15,8 +15,8 @@ use Rattle.coap_layer.specs.Trace as L
 use Rattle.coap_exchange.specs.AnswererSteps.{asked_of}
 use Rattle.coap_exchange.specs.declared.asker.Event.TheVariants as event
 use Rattle.coap_exchange.specs.declared.asker.Turn.TheVariants as turn
-use Rattle.coap_client.specs.ClientSide.ClientTrace as C
-use Rattle.coap_server.specs.ServerSide.ServerTrace as S
+use Rattle.coap_client.specs.Trace as C
+use Rattle.coap_server.specs.Trace as S
 use Rattle.coap_world.specs.Events.{client_end, server_end}
 use Rattle.coap_world.specs.Legal.{IsConfig, IsRequest}
 use Rattle.coap_world.specs.Record.{Given, OfClient, OfServer, FeedsClient, FeedsServer, Delivers}

@@ -7,8 +7,8 @@ use Rattle.std.proofs.Common.{arith}
 use Rattle.std.specs.Prelude.{codes}
 use Rattle.coap_types.specs.Past.{Always, Sometime}
 use Rattle.coap_types.specs.EntityTag.{IsTag}
-use Rattle.coap_server.specs.ServerSide.ServerServing.{is_applied}
-use Rattle.coap_server.specs.ServerSide.Follows.ServerServes.{Serving}
+use Rattle.coap_server.specs.Serving.{is_applied}
+use Rattle.coap_server.specs.Follows.Serves.{Serving}
 use Rattle.coap_world.specs.Events.{Calls, TickClient, Deliver, client_end}
 use Rattle.coap_world.specs.Legal.{IsRequest, AllLegal}
 use Rattle.coap_world.specs.LegalEvents.{event}

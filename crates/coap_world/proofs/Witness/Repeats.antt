@@ -9,7 +9,7 @@ use Rattle.coap_world.specs.Events.{localhost, Sets, StrangerToServer}
 use Rattle.coap_world.specs.Legal.{NotBefore, IsLegal, AllLegal}
 use Rattle.coap_world.specs.LegalEvents.{event}
 use Rattle.coap_world.specs.Record.{Entry, OfServer, Turn, Makes}
-use Rattle.coap_server.specs.ServerSide.ServerTrace as S
+use Rattle.coap_server.specs.Trace as S
 use Rattle.coap_world.specs.LegalRuns.{plain, stranger, log, posts, post_bytes, posted_bytes, Repeats}
 use Rattle.coap_types.proofs.Facts.Bytes.{bytes_are}
 use Rattle.coap_world.proofs.Witness.InWords.{config_range, path_of_one}

@@ -2,10 +2,10 @@
 use Rattle.std.proofs.Common.{◌<◌, ◌^◌, ℕ, true, false, Some, None, List, [], ◌∷◌, ◌++◌, map, Ok, refl, arith}
 use Rattle.coap_layer.specs.Trace as L
 use Rattle.coap_exchange.specs.declared.asker.Turn.TheVariants as turn
-use Rattle.coap_client.specs.ClientSide.ClientTrace as C
-use Rattle.coap_client.specs.ClientSide.ClientLaw.{ClientLaw}
+use Rattle.coap_client.specs.Trace as C
+use Rattle.coap_client.specs.Law.{ClientLaw}
 use Rattle.coap_layer.specs.Machine.State as layer
-use Rattle.coap_server.specs.ServerSide.ServerTrace as S
+use Rattle.coap_server.specs.Trace as S
 use Rattle.coap_world.specs.Events.{client_end, server_end, Event, Calls, Sets, TickClient, Deliver}
 use Rattle.coap_world.specs.Legal.{NotBefore, IsLegal, InRange, MayCome}
 use Rattle.coap_world.specs.LegalEvents as may

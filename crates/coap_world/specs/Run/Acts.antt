@@ -1,7 +1,7 @@
 -- What calls of an end add to its trace, and to the log.
 use Rattle.std.specs.Prelude.{◌≡◌, ℕ, Bool, Option, List, ◌++◌, map, reverse}
 use Rattle.coap_types.specs.Past.{all_of}
-use Rattle.coap_both.specs.Endings.{all_taken}
+use Rattle.coap_common.specs.Endings.{all_taken}
 use Rattle.coap_world.specs.Events.{Config}
 use Rattle.coap_world.specs.Record.{Entry, IsOne, AreTicks, given_by}
 use Rattle.coap_world.specs.Run.Log.{Log, Line, lines_upon}

@@ -1,9 +1,9 @@
 -- With what a run begins.
 use Rattle.std.specs.Prelude.{ℕ, true, List, map}
 use Rattle.coap_server.specs.declared.server.parts.Delay.{Delay as PathDelay}
-use Rattle.coap_server.specs.ServerTurns.DelaysShown.{delays_as}
-use Rattle.coap_server.specs.ServerSide.ServerTrace as S
-use Rattle.coap_server.specs.ServerSide.ServerTrace.{Delay}
+use Rattle.coap_server.specs.Turns.DelaysShown.{delays_as}
+use Rattle.coap_server.specs.Trace as S
+use Rattle.coap_server.specs.Trace.{Delay}
 use Rattle.coap_world.specs.Events.{Config}
 
 abbrev pub config_of : {A : Type 0} → (client_word client_szx server_word server_szx limit : ℕ) → List (PathDelay A)

@@ -1,12 +1,12 @@
 -- Which calls can leave an end of a run as it is (RFC 7252, section 5).
 use Rattle.std.specs.Prelude.{◌≡◌, ℕ, List}
 use Rattle.coap_resource.specs.Content.{Content}
-use Rattle.coap_server.specs.ServerObject.ServerShown.{state_of}
-use Rattle.coap_client.specs.ClientSide.ClientStep as client
-use Rattle.coap_client.specs.ClientSide.ClientTrace as C
-use Rattle.coap_server.specs.ServerSide.Follows.ServerHolds.{changes}
-use Rattle.coap_server.specs.ServerSide.ServerLed as server
-use Rattle.coap_server.specs.ServerSide.ServerTrace as S
+use Rattle.coap_server.specs.Object.Shown.{state_of}
+use Rattle.coap_client.specs.Led as client
+use Rattle.coap_client.specs.Trace as C
+use Rattle.coap_server.specs.Follows.Holds.{changes}
+use Rattle.coap_server.specs.Led as server
+use Rattle.coap_server.specs.Trace as S
 use Rattle.coap_world.specs.Events.{server_end, Config}
 use Rattle.coap_world.specs.Run.Senders.{sender_in, sender_of}
 use Rattle.coap_world.specs.declared.running.ends.ClientEnd.{ClientEnd}

@@ -1,5 +1,5 @@
 -- The events of a run as the specification sees them.
-use Rattle.coap_client.specs.ClientObject.CallShown.{shown_request}
+use Rattle.coap_client.specs.Object.CallShown.{shown_request}
 use Rattle.coap_world.specs.Events.{Event, What, Calls, Observes, Cancels, Forgets, Sets, Removes, TickClient}
 use Rattle.coap_world.specs.Events.{TickServer, Deliver, StrangerToClient, StrangerToServer}
 use Rattle.coap_world.specs.declared.running.event.Event as E

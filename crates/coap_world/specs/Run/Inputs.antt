@@ -4,8 +4,8 @@ use Rattle.coap_resource.specs.Content.{Content}
 use Rattle.coap_resource.specs.declared.refusal.StoreRefusal.{StoreRefusal}
 use Rattle.coap_client.specs.declared.refusals.CallRefusal.{CallRefusal}
 use Rattle.coap_client.specs.declared.refusals.CancelRefusal.{CancelRefusal}
-use Rattle.coap_client.specs.ClientSide.ClientTrace as C
-use Rattle.coap_server.specs.ServerSide.ServerTrace as S
+use Rattle.coap_client.specs.Trace as C
+use Rattle.coap_server.specs.Trace as S
 
 abbrev pub IsCall : ℕ → C.Request → C.Call → Type 0
 IsCall at r c = (answer : Result ℕ CallRefusal) × (c ≡ C.Calls at r answer)

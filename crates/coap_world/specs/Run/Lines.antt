@@ -1,9 +1,9 @@
 -- A line of the record.
 use Rattle.std.specs.Option.{option_map}
-use Rattle.coap_client.specs.ClientObject.CallAnswers.{refusal_in}
-use Rattle.coap_client.specs.ClientObject.ClientShown.{number_of, shown_reported}
-use Rattle.coap_server.specs.ServerSide.ServerTrace.{Applied}
-use Rattle.coap_server.specs.ServerSide.Follows.ServerHolds as server
+use Rattle.coap_client.specs.Object.CallAnswers.{refusal_in}
+use Rattle.coap_client.specs.Object.Shown.{number_of, shown_reported}
+use Rattle.coap_server.specs.Trace.{Applied}
+use Rattle.coap_server.specs.Follows.Holds as server
 use Rattle.coap_client.specs.declared.client.report.CallId.{CallId}
 use Rattle.coap_resource.specs.Shown.{shown}
 use Rattle.coap_world.specs.Run.Log.{Line, Begins, Takes, Cancels, Forgets, Puts, Removes, Applies, Changes, Out}

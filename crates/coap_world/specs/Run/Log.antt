@@ -6,12 +6,12 @@ use Rattle.coap_types.specs.SameEndpoint.{same_endpoint}
 use Rattle.coap_resource.specs.declared.refusal.StoreRefusal.{StoreRefusal}
 use Rattle.coap_client.specs.declared.refusals.CallRefusal.{CallRefusal}
 use Rattle.coap_client.specs.declared.refusals.CancelRefusal.{CancelRefusal}
-use Rattle.coap_client.specs.ClientSide.ClientTrace as C
-use Rattle.coap_server.specs.ServerSide.ServerLaw.{own_of}
-use Rattle.coap_server.specs.ServerSide.ServerServing.{is_applied, version_made}
-use Rattle.coap_server.specs.ServerSide.ServerTrace as S
-use Rattle.coap_server.specs.ServerSide.Follows.ServerHolds.{Change, change}
-use Rattle.coap_server.specs.ServerSide.Follows.ServerServes.{Serving, serving}
+use Rattle.coap_client.specs.Trace as C
+use Rattle.coap_server.specs.Law.{own_of}
+use Rattle.coap_server.specs.Serving.{is_applied, version_made}
+use Rattle.coap_server.specs.Trace as S
+use Rattle.coap_server.specs.Follows.Holds.{Change, change}
+use Rattle.coap_server.specs.Follows.Serves.{Serving, serving}
 use Rattle.coap_world.specs.Events.{Config, client_end}
 use Rattle.coap_world.specs.Record.{Entry, OfClient, OfServer, Given, given_in, Turn, entries_of, client_of}
 use Rattle.coap_world.specs.Record.{server_trace}

@@ -1,8 +1,8 @@
 -- For which call a record says that a request is applied (RFC 7252, section 5.3.1).
 use Rattle.std.specs.Prelude.{◌≡◌, ◌↔◌, ℕ, true, Option, Some, List}
 use Rattle.coap_types.specs.Past.{Always}
-use Rattle.coap_server.specs.ServerSide.ServerServing.{is_applied}
-use Rattle.coap_server.specs.ServerSide.Follows.ServerServes.{Serving}
+use Rattle.coap_server.specs.Serving.{is_applied}
+use Rattle.coap_server.specs.Follows.Serves.{Serving}
 use Rattle.coap_world.specs.Events.{client_end, Config}
 use Rattle.coap_world.specs.Record.{Entry, client_of}
 use Rattle.coap_world.specs.Words.{SentFor, ServesAt}

@@ -5,10 +5,10 @@ use Rattle.std.specs.Cmp.Lexicographic.{slice_cmp}
 use Rattle.std.specs.Option.{option_map}
 use Rattle.std.specs.Ordering.{nat_cmp}
 use Rattle.coap_exchange.specs.Tokens.{same_token}
-use Rattle.coap_client.specs.ClientSide.ClientLaw.{own_of}
-use Rattle.coap_client.specs.ClientSide.ClientOwn.{operation_number}
-use Rattle.coap_client.specs.ClientSide.ClientTrace.{Call, Requested}
-use Rattle.coap_client.specs.ClientSide.ClientWords.{Sending, sends}
+use Rattle.coap_client.specs.Law.{own_of}
+use Rattle.coap_client.specs.Own.{operation_number}
+use Rattle.coap_client.specs.Trace.{Call, Requested}
+use Rattle.coap_client.specs.Follows.Words.{Sending, sends}
 use Rattle.coap_client.specs.declared.client.report.CallId.{CallId}
 use Rattle.coap_world.specs.declared.running.senders.Senders as declared
 

@@ -2,9 +2,9 @@
 -- paths hold.
 use Rattle.std.specs.Prelude.{◌≡◌, ℕ, ◌==◌, Bool, true, false, Option, List, [], ◌∷◌, if◌then◌else◌}
 use Rattle.coap_resource.specs.Content.{Content, Held}
-use Rattle.coap_server.specs.ServerObject.ServerShown.{state_of}
-use Rattle.coap_server.specs.ServerSide.ServerLed.{Step}
-use Rattle.coap_server.specs.ServerSide.ServerTrace.{Applied, Call}
+use Rattle.coap_server.specs.Object.Shown.{state_of}
+use Rattle.coap_server.specs.Led.{Step}
+use Rattle.coap_server.specs.Trace.{Applied, Call}
 use Rattle.coap_world.specs.declared.running.ends.ServerEnd.{ServerEnd}
 use Rattle.coap_world.specs.Run.Log.{Line, Applies, Changes, call_for}
 

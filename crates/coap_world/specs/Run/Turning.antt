@@ -2,9 +2,9 @@
 use Rattle.std.specs.Prelude.{◌≡◌, ℕ, Bool, Option, List, [], ◌∷◌, ◌++◌, map, reverse}
 use Rattle.coap_types.specs.Past.{Always, all_of}
 use Rattle.coap_layer.specs.Trace.{Packet}
-use Rattle.coap_client.specs.ClientSide.ClientTrace as C
-use Rattle.coap_server.specs.ServerSide.ServerTrace as S
-use Rattle.coap_both.specs.Endings.{all_taken}
+use Rattle.coap_client.specs.Trace as C
+use Rattle.coap_server.specs.Trace as S
+use Rattle.coap_common.specs.Endings.{all_taken}
 use Rattle.coap_world.specs.Events.{Config, Event}
 use Rattle.coap_world.specs.Legal.{Legal, MayCome}
 use Rattle.coap_world.specs.Record.{Entry, OfClient, OfServer, Turn, given_by, Makes, entries_of, client_of}

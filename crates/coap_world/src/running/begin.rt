@@ -1,7 +1,7 @@
 //! The two ends with which a run begins.
 ghost use Rattle.std.specs.Prelude.{◌≡◌, [], IfOk, OnOk};
-ghost use Rattle.coap_server.specs.ServerObject.ServerShown.{state_of};
-ghost use Rattle.coap_server.specs.ServerSide.ServerLed.{Led};
+ghost use Rattle.coap_server.specs.Object.Shown.{state_of};
+ghost use Rattle.coap_server.specs.Led.{Led};
 ghost use Rattle.coap_world.specs.Record.{begun_with};
 ghost use Rattle.coap_world.specs.Run.Ends.{ClientLed, ServerLed};
 

@@ -1,6 +1,6 @@
 //! With what a run begins.
 ghost use Rattle.std.specs.Prelude.{◌≡◌, ◌≢◌, ◌≤◌, ◌↔◌, [], true, false, Err, is_some, IfSome, IsSome, OnErr, OnOk};
-ghost use Rattle.coap_server.specs.ServerSide.ServerDeferring.{delay_of, delays_with, may_delay};
+ghost use Rattle.coap_server.specs.Deferring.{delay_of, delays_with, may_delay};
 ghost use Rattle.coap_server.specs.declared.server.delaying.DelayRefusal.TheVariants as delay_refusals;
 ghost use Rattle.coap_world.specs.Run.Configs.{with_delays};
 

@@ -1,7 +1,7 @@
 //! What an end gives after the call of an event.
 ghost use Rattle.std.specs.Prelude.{ℕ, List, OnOk, Option};
-ghost use Rattle.coap_client.specs.ClientSide.ClientTrace as asked;
-ghost use Rattle.coap_server.specs.ServerSide.ServerTrace as served;
+ghost use Rattle.coap_client.specs.Trace as asked;
+ghost use Rattle.coap_server.specs.Trace as served;
 ghost use Rattle.coap_world.specs.Record.{OfClient, OfServer};
 ghost use Rattle.coap_world.specs.Run.Acts.{TakesAll};
 ghost use Rattle.coap_world.specs.Run.Ends.{ClientLed, ServerLed};

@@ -1,7 +1,7 @@
 //! The call that an event is.
 ghost use Rattle.std.specs.Prelude.{◌≡◌, ◌≢◌, ℕ, List, Option, true, false, Err, IfOk, OnOk};
 ghost use Rattle.coap_types.specs.declared.endpoint.Endpoint.{Endpoint};
-ghost use Rattle.coap_client.specs.ClientObject.CallShown.{shown_request};
+ghost use Rattle.coap_client.specs.Object.CallShown.{shown_request};
 ghost use Rattle.coap_world.specs.Record.{FeedsClient, FeedsServer, OfClient, OfServer};
 ghost use Rattle.coap_world.specs.Run.Acts.{Fed, Taken};
 ghost use Rattle.coap_world.specs.Run.Ends.{ClientLed, ServerLed};

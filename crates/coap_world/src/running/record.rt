@@ -1,9 +1,9 @@
 //! What a run tells.
 ghost use Rattle.std.specs.Prelude.{◌≡◌, [], OnOk, option_copied, slice_get};
 ghost use Rattle.std.specs.Option.{option_map};
-ghost use Rattle.coap_client.specs.ClientObject.ClientShown.{shown_reported};
+ghost use Rattle.coap_client.specs.Object.Shown.{shown_reported};
 ghost use Rattle.coap_client.specs.declared.client.report.CallId.{CallId};
-ghost use Rattle.coap_server.specs.ServerObject.ServerShown.{applied_as};
+ghost use Rattle.coap_server.specs.Object.Shown.{applied_as};
 ghost use Rattle.coap_resource.specs.Shown.{shown};
 ghost use Rattle.coap_world.specs.Run.Lines.{line_of};
 ghost use Rattle.coap_world.specs.Run.Log.{Applies, Reports, given_put, line_put, lines_put, refused_line};

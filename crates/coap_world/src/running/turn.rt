@@ -1,6 +1,6 @@
 //! The turn of each event.
 ghost use Rattle.std.specs.Prelude.{◌≡◌, ◌<◌, ◌^◌, ℕ, Err, List, OnOk, Option};
-ghost use Rattle.coap_client.specs.ClientObject.CallShown.{shown_request};
+ghost use Rattle.coap_client.specs.Object.CallShown.{shown_request};
 ghost use Rattle.coap_world.specs.Events.{Calls, Observes, Cancels, Forgets, Sets, Removes, TickClient, TickServer};
 ghost use Rattle.coap_world.specs.Events.{StrangerToClient, StrangerToServer};
 ghost use Rattle.coap_world.specs.Legal.{MayCome};

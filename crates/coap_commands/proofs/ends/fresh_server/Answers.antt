@@ -1,8 +1,8 @@
 use Rattle.std.proofs.Common.{ℕ, [], subst}
 use Rattle.coap_resource.specs.Entries.{content_of}
 use Rattle.coap_resource.specs.declared.tally.TheConstants.{MAX_CHANGES_PER_WINDOW as max_changes}
-use Rattle.coap_server.specs.ServerObject.ServerShown.{state_of}
-use Rattle.coap_server.specs.ServerSide.ServerLed.{Led}
+use Rattle.coap_server.specs.Object.Shown.{state_of}
+use Rattle.coap_server.specs.Led.{Led}
 use Rattle.coap_commands.proofs.ends.fresh_server.Goals as goal
 
 pub returns : goal.returns

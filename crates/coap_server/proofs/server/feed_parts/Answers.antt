@@ -1,5 +1,5 @@
 use Rattle.std.proofs.Common.{refl, Some}
-use Rattle.coap_server.proofs.ServerCalls.FeedIsACall.{fed_by, on_ok}
+use Rattle.coap_server.proofs.Calls.FeedIsACall.{fed_by, on_ok}
 use Rattle.coap_server.proofs.server.feed_parts.Goals as goal
 
 pub returns-else-is_err-clause-step : goal.returns-else-is_err-clause-step

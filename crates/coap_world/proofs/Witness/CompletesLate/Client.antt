@@ -10,9 +10,9 @@ use Rattle.coap_codec.specs.Decoded.{decoded}
 use Rattle.coap_layer.specs.Machine.State.{State, start}
 use Rattle.coap_layer.specs.Machine.Steps.{Asked, Steps}
 use Rattle.coap_exchange.specs.AskerLaw as asker
-use Rattle.coap_client.specs.ClientSide.ClientTrace as C
-use Rattle.coap_client.specs.ClientSide.ClientLaw.{ClientLaw, ClientRows, lower_of}
-use Rattle.coap_both.specs.SuccessCodes.{created, changed}
+use Rattle.coap_client.specs.Trace as C
+use Rattle.coap_client.specs.Law.{ClientLaw, ClientRows, lower_of}
+use Rattle.coap_common.specs.SuccessCodes.{created, changed}
 use Rattle.coap_world.specs.Events.{server_end}
 use Rattle.coap_world.specs.LegalRuns.{reported}
 use Rattle.coap_types.proofs.Facts.Bytes.{bytes_are}

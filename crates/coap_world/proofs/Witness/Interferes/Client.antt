@@ -8,8 +8,8 @@ use Rattle.coap_layer.proofs.Facts.Sendable.{sendable_when_short}
 use Rattle.coap_layer.specs.Machine.State.{start}
 use Rattle.coap_layer.specs.Machine.Steps.{Asked, Steps, left_after}
 use Rattle.coap_exchange.specs.AskerLaw as asker
-use Rattle.coap_client.specs.ClientSide.ClientTrace as C
-use Rattle.coap_client.specs.ClientSide.ClientLaw.{ClientLaw, ClientRows, lower_of}
+use Rattle.coap_client.specs.Trace as C
+use Rattle.coap_client.specs.Law.{ClientLaw, ClientRows, lower_of}
 use Rattle.coap_world.specs.Events.{server_end}
 use Rattle.coap_world.specs.LegalRuns.{token, delete, delete_bytes}
 use Rattle.coap_world.proofs.Witness.TurnsMade.{client_turn, to_server, asks, rests}

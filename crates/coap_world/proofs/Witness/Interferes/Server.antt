@@ -18,9 +18,9 @@ use Rattle.coap_resource.specs.Rate.{counted}
 use Rattle.coap_resource.specs.Serves.{Question, Reply, bare}
 use Rattle.coap_exchange.specs.AnswererLaw as answerer
 use Rattle.coap_exchange.specs.AnswererSteps.{asked_of, content_of}
-use Rattle.coap_server.specs.ServerSide.ServerTrace as S
-use Rattle.coap_server.specs.ServerSide.ServerServing.{response_to}
-use Rattle.coap_server.specs.ServerSide.ServerLaw.{ServerLaw, ServerRows, lower_of}
+use Rattle.coap_server.specs.Trace as S
+use Rattle.coap_server.specs.Serving.{response_to}
+use Rattle.coap_server.specs.Law.{ServerLaw, ServerRows, lower_of}
 use Rattle.coap_types.proofs.Facts.Bytes.{bytes_are}
 use Rattle.coap_world.specs.LegalRuns.{token, plain, t, stranger, delete_bytes, deleted_bytes}
 use Rattle.coap_world.proofs.Witness.OneHeld as store

@@ -14,9 +14,9 @@ use Rattle.coap_resource.specs.Content.{Content, Held, Changes}
 use Rattle.coap_resource.specs.Rate.{counted}
 use Rattle.coap_resource.specs.Serves.{Question, Reply, bare}
 use Rattle.coap_exchange.specs.AnswererLaw as answerer
-use Rattle.coap_server.specs.ServerSide.ServerTrace as S
-use Rattle.coap_server.specs.ServerSide.ServerLaw.{ServerLaw, ServerRows, lower_of}
-use Rattle.coap_both.specs.SuccessCodes.{changed, deleted}
+use Rattle.coap_server.specs.Trace as S
+use Rattle.coap_server.specs.Law.{ServerLaw, ServerRows, lower_of}
+use Rattle.coap_common.specs.SuccessCodes.{changed, deleted}
 use Rattle.coap_world.specs.LegalRuns.{tag, plain, json, t, changed_bytes}
 use Rattle.coap_world.specs.CallRuns.{replace_bytes, next_delete, gone_bytes}
 use Rattle.coap_world.proofs.Witness.OneHeld as store

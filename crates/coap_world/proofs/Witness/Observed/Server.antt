@@ -16,16 +16,16 @@ use Rattle.coap_layer.specs.Trace as L
 use Rattle.coap_resource.specs.Serves.{Question}
 use Rattle.coap_exchange.specs.AnswererLaw as answerer
 use Rattle.coap_exchange.specs.AnswererSteps.{asked_of, content_of}
-use Rattle.coap_server.specs.ServerSide.ServerTrace as S
-use Rattle.coap_server.specs.ServerSide.ServerServing.{response_to}
-use Rattle.coap_server.specs.ServerSide.ServerLaw.{ServerLaw, ServerRows, lower_of}
+use Rattle.coap_server.specs.Trace as S
+use Rattle.coap_server.specs.Serving.{response_to}
+use Rattle.coap_server.specs.Law.{ServerLaw, ServerRows, lower_of}
 use Rattle.coap_world.specs.Events.{client_end}
 use Rattle.coap_types.proofs.Facts.Bytes.{bytes_are}
 use Rattle.coap_observe.specs.Observers.{Observer}
 use Rattle.coap_exchange.specs.declared.answerer.Asked.{Asked as Request}
 use Rattle.coap_exchange.specs.declared.answerer.Due.TheVariants as due
 use Rattle.coap_exchange.specs.AnswererSteps.{content_with}
-use Rattle.coap_server.specs.ServerSide.ServerNotifying.{notification}
+use Rattle.coap_server.specs.Notifying.{notification}
 use Rattle.coap_world.specs.LegalRuns.{token, plain, t, empty_ack}
 use Rattle.coap_world.specs.ObservationRuns.{observe_bytes, first_bytes, second_bytes}
 use Rattle.coap_world.proofs.Witness.Watches.Server.{a, b, content, first_change, second}

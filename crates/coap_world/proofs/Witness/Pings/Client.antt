@@ -8,8 +8,8 @@ use Rattle.coap_layer.specs.Machine.State.{start}
 use Rattle.coap_layer.specs.Machine.Steps.{Asked, Steps, left_after}
 use Rattle.coap_layer.specs.Trace as L
 use Rattle.coap_exchange.specs.AskerLaw as asker
-use Rattle.coap_client.specs.ClientSide.ClientTrace as C
-use Rattle.coap_client.specs.ClientSide.ClientLaw.{ClientLaw, ClientRows, lower_of}
+use Rattle.coap_client.specs.Trace as C
+use Rattle.coap_client.specs.Law.{ClientLaw, ClientRows, lower_of}
 use Rattle.coap_world.specs.Events.{server_end}
 use Rattle.coap_types.proofs.Facts.Bytes.{bytes_are}
 use Rattle.coap_world.specs.LegalRuns.{stranger, ping, pong}

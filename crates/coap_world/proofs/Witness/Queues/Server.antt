@@ -14,9 +14,9 @@ use Rattle.coap_resource.specs.Content.{Content, Held, Changes, nothing}
 use Rattle.coap_resource.specs.Rate.{counted, unused}
 use Rattle.coap_resource.specs.Serves.{Question, Reply, bare}
 use Rattle.coap_exchange.specs.AnswererLaw as answerer
-use Rattle.coap_server.specs.ServerSide.ServerTrace as S
-use Rattle.coap_server.specs.ServerSide.ServerLaw.{ServerLaw, ServerRows, lower_of}
-use Rattle.coap_both.specs.SuccessCodes.{created}
+use Rattle.coap_server.specs.Trace as S
+use Rattle.coap_server.specs.Law.{ServerLaw, ServerRows, lower_of}
+use Rattle.coap_common.specs.SuccessCodes.{created}
 use Rattle.coap_world.specs.LegalRuns.{tag, json, t}
 use Rattle.coap_world.specs.BlockRuns.{first_get}
 use Rattle.coap_world.specs.CallRuns.{new_bytes, created_bytes, new_content_bytes}

@@ -15,8 +15,8 @@ use Rattle.coap_layer.specs.Trace as L
 use Rattle.coap_resource.specs.Serves.{Question, Reply, bare}
 use Rattle.coap_exchange.specs.AnswererLaw as answerer
 use Rattle.coap_exchange.specs.AnswererSteps.{asked_of}
-use Rattle.coap_server.specs.ServerSide.ServerTrace as S
-use Rattle.coap_server.specs.ServerSide.ServerLaw.{ServerLaw, ServerRows, lower_of}
+use Rattle.coap_server.specs.Trace as S
+use Rattle.coap_server.specs.Law.{ServerLaw, ServerRows, lower_of}
 use Rattle.coap_world.specs.Events.{client_end}
 use Rattle.coap_world.specs.LegalRuns.{tag, t, precondition_failed}
 use Rattle.coap_world.specs.BlockRuns.{key, new_body, answer_bytes}

@@ -14,9 +14,9 @@ use Rattle.coap_resource.specs.Content.{Content, Held, Changes}
 use Rattle.coap_resource.specs.Rate.{counted}
 use Rattle.coap_resource.specs.Serves.{Question, Reply, bare}
 use Rattle.coap_exchange.specs.AnswererLaw as answerer
-use Rattle.coap_server.specs.ServerSide.ServerTrace as S
-use Rattle.coap_server.specs.ServerSide.ServerLaw.{ServerLaw, ServerRows, lower_of}
-use Rattle.coap_both.specs.SuccessCodes.{changed}
+use Rattle.coap_server.specs.Trace as S
+use Rattle.coap_server.specs.Law.{ServerLaw, ServerRows, lower_of}
+use Rattle.coap_common.specs.SuccessCodes.{changed}
 use Rattle.coap_world.specs.LegalRuns.{tag, plain, t}
 use Rattle.coap_world.specs.CallRuns.{validate_bytes, valid_bytes, join_bytes, joined_bytes}
 use Rattle.coap_world.proofs.Witness.OneHeld as store

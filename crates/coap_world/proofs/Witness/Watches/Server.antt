@@ -18,16 +18,16 @@ use Rattle.coap_resource.specs.Rate.{counted, unused}
 use Rattle.coap_resource.specs.Serves.{Question, Reply}
 use Rattle.coap_exchange.specs.AnswererLaw as answerer
 use Rattle.coap_exchange.specs.AnswererSteps.{asked_of, content_of}
-use Rattle.coap_server.specs.ServerSide.ServerTrace as S
-use Rattle.coap_server.specs.ServerSide.ServerServing.{response_to}
-use Rattle.coap_server.specs.ServerSide.ServerLaw.{ServerLaw, ServerRows, lower_of}
+use Rattle.coap_server.specs.Trace as S
+use Rattle.coap_server.specs.Serving.{response_to}
+use Rattle.coap_server.specs.Law.{ServerLaw, ServerRows, lower_of}
 use Rattle.coap_types.proofs.Facts.Bytes.{bytes_are}
 use Rattle.coap_observe.specs.Observers.{Observer}
 use Rattle.coap_resource.specs.Content.{Held}
 use Rattle.coap_exchange.specs.declared.answerer.Asked.{Asked as Request}
 use Rattle.coap_exchange.specs.declared.answerer.Due.TheVariants as due
 use Rattle.coap_exchange.specs.AnswererSteps.{content_with}
-use Rattle.coap_server.specs.ServerSide.ServerNotifying.{notification}
+use Rattle.coap_server.specs.Notifying.{notification}
 use Rattle.coap_world.specs.LegalRuns.{tag, plain, t, stranger}
 use Rattle.coap_world.specs.ObservationRuns.{watch_bytes, watched_bytes, notice_bytes}
 use Rattle.coap_world.proofs.Witness.OneHeld.{one, first, further}

@@ -1,7 +1,7 @@
-use Rattle.coap_client.proofs.ClientSide.ClientLeading.{led_client}
-use Rattle.coap_client.specs.ClientObject.ClientHappens.{left}
-use Rattle.coap_client.specs.ClientObject.ClientHeld.{own_of}
-use Rattle.coap_client.proofs.ClientCalls.ClientIsLed.{seen_still}
+use Rattle.coap_client.proofs.Turning.Leading.{led_client}
+use Rattle.coap_client.specs.Object.Happens.{left}
+use Rattle.coap_client.specs.Object.Held.{own_of}
+use Rattle.coap_client.proofs.Calls.IsLed.{seen_still}
 use Rattle.coap_client.proofs.client.Client.asked.Goals as goal
 
 pub returns-clause-step : goal.returns-clause-step

@@ -1,9 +1,9 @@
 use Rattle.std.proofs.Common.{refl, sym, subst, ◌∙◌}
-use Rattle.coap_client.proofs.ClientSide.ClientLeading.{led_client}
-use Rattle.coap_client.specs.ClientObject.ClientHappens.{Watched, left}
-use Rattle.coap_client.specs.ClientObject.ClientHeld.{own_of}
-use Rattle.coap_client.proofs.ClientCalls.ClientHappening.{err_of, fed_by, ok_of, on_ok}
-use Rattle.coap_client.proofs.ClientCalls.ClientWatched.{apart, led_step, undone, watched}
+use Rattle.coap_client.proofs.Turning.Leading.{led_client}
+use Rattle.coap_client.specs.Object.Happens.{Watched, left}
+use Rattle.coap_client.specs.Object.Held.{own_of}
+use Rattle.coap_client.proofs.Calls.Happening.{err_of, fed_by, ok_of, on_ok}
+use Rattle.coap_client.proofs.Calls.Watched.{apart, led_step, undone, watched}
 use Rattle.coap_client.proofs.client.Client.feed.Goals as goal
 
 pub happen-done-requires-clause-apart : goal.happen-done-requires-clause-apart

@@ -1,6 +1,6 @@
-use Rattle.coap_client.specs.ClientObject.ClientHappens.{left}
-use Rattle.coap_client.specs.ClientObject.ClientHeld.{own_of}
-use Rattle.coap_client.proofs.ClientCalls.ClientWatched.{apart, led_step}
+use Rattle.coap_client.specs.Object.Happens.{left}
+use Rattle.coap_client.specs.Object.Held.{own_of}
+use Rattle.coap_client.proofs.Calls.Watched.{apart, led_step}
 use Rattle.coap_client.proofs.client.Client.forget.Goals as goal
 
 pub invariant_of-self : goal.invariant_of-self

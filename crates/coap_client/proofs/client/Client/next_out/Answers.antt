@@ -1,8 +1,8 @@
 use Rattle.std.proofs.Common.{rules, subst}
-use Rattle.coap_client.specs.ClientObject.ClientHappens.{WasLed}
-use Rattle.coap_client.specs.ClientObject.ClientHeld.{own_of}
-use Rattle.coap_client.proofs.ClientCalls.ClientWatched.{led_step, taken_out}
-use Rattle.coap_client.proofs.ClientCalls.TakesOut.{if_none, if_some}
+use Rattle.coap_client.specs.Object.Happens.{WasLed}
+use Rattle.coap_client.specs.Object.Held.{own_of}
+use Rattle.coap_client.proofs.Calls.Watched.{led_step, taken_out}
+use Rattle.coap_client.proofs.Calls.TakesOut.{if_none, if_some}
 use Rattle.coap_client.proofs.client.Client.next_out.Goals as goal
 
 pub invariant_of-self : goal.invariant_of-self

@@ -1,11 +1,11 @@
 use Rattle.std.proofs.Common.{rules}
 use Rattle.std.specs.Option.{option_map}
-use Rattle.coap_client.specs.ClientSide.ClientTrace.{NextReport}
-use Rattle.coap_client.specs.ClientObject.ClientHappens.{left}
-use Rattle.coap_client.specs.ClientObject.ClientHeld.{own_of}
-use Rattle.coap_client.specs.ClientObject.ClientShown.{shown_reported}
-use Rattle.coap_client.proofs.ClientCalls.ClientWatched.{led_step}
-use Rattle.coap_client.proofs.ClientCalls.TakesOut.{if_no_report, if_report}
+use Rattle.coap_client.specs.Trace.{NextReport}
+use Rattle.coap_client.specs.Object.Happens.{left}
+use Rattle.coap_client.specs.Object.Held.{own_of}
+use Rattle.coap_client.specs.Object.Shown.{shown_reported}
+use Rattle.coap_client.proofs.Calls.Watched.{led_step}
+use Rattle.coap_client.proofs.Calls.TakesOut.{if_no_report, if_report}
 use Rattle.coap_client.proofs.client.Client.next_report.Goals as goal
 
 pub invariant_of-self : goal.invariant_of-self

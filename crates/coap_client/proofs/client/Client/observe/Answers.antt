@@ -1,9 +1,9 @@
 use Rattle.std.proofs.Common.{ap}
-use Rattle.coap_client.proofs.ClientSide.ClientLeading.{led_client}
-use Rattle.coap_client.specs.ClientObject.ClientHappens.{left}
-use Rattle.coap_client.specs.ClientObject.ClientHeld.{own_of}
-use Rattle.coap_client.proofs.ClientCalls.ClientIsLed.{closes_call, same_led, seen_step}
-use Rattle.coap_client.proofs.ClientCalls.ClientWatched.{led_step}
+use Rattle.coap_client.proofs.Turning.Leading.{led_client}
+use Rattle.coap_client.specs.Object.Happens.{left}
+use Rattle.coap_client.specs.Object.Held.{own_of}
+use Rattle.coap_client.proofs.Calls.IsLed.{closes_call, same_led, seen_step}
+use Rattle.coap_client.proofs.Calls.Watched.{led_step}
 use Rattle.coap_client.proofs.client.Client.observe.Goals as goal
 
 pub invariant_of-self : goal.invariant_of-self

@@ -1,10 +1,10 @@
-use Rattle.coap_client.proofs.ClientSide.ClientLeading.{led_client}
-use Rattle.coap_client.specs.ClientObject.ClientHappens.{left}
-use Rattle.coap_client.specs.ClientObject.ClientHeld.{own_of}
-use Rattle.coap_client.proofs.ClientCalls.ClientIsLed.{both_err, closes_if, if_ok, on_err, same_led, same_left}
-use Rattle.coap_client.proofs.ClientCalls.ClientIsLed.{seen_step}
-use Rattle.coap_client.proofs.ClientCalls.ClientWatched.{apart, led_step}
-use Rattle.coap_client.proofs.ClientCalls.WorkFalls.{ticks_fall}
+use Rattle.coap_client.proofs.Turning.Leading.{led_client}
+use Rattle.coap_client.specs.Object.Happens.{left}
+use Rattle.coap_client.specs.Object.Held.{own_of}
+use Rattle.coap_client.proofs.Calls.IsLed.{both_err, closes_if, if_ok, on_err, same_led, same_left}
+use Rattle.coap_client.proofs.Calls.IsLed.{seen_step}
+use Rattle.coap_client.proofs.Calls.Watched.{apart, led_step}
+use Rattle.coap_client.proofs.Calls.WorkFalls.{ticks_fall}
 use Rattle.coap_client.proofs.client.Client.tick.Goals as goal
 
 pub tick-requires : goal.tick-requires

@@ -1,5 +1,5 @@
 use Rattle.std.proofs.Common.{[]}
-use Rattle.coap_client.proofs.ClientCalls.ClientWatched.{led_new}
+use Rattle.coap_client.proofs.Calls.Watched.{led_new}
 use Rattle.coap_client.proofs.client.Client.with_hasher.Goals as goal
 
 pub invariant_of-result : goal.invariant_of-result

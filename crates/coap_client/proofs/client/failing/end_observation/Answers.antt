@@ -1,7 +1,7 @@
 use Rattle.std.proofs.Common.{ap, ◌∙◌}
-use Rattle.coap_client.specs.ClientSide.ClientEffects.{Rests, of}
-use Rattle.coap_client.specs.ClientSide.ClientSteps.{reporting}
-use Rattle.coap_client.specs.ClientObject.ClientShown.{shown_report}
+use Rattle.coap_client.specs.Effects.{Rests, of}
+use Rattle.coap_client.specs.Steps.{reporting}
+use Rattle.coap_client.specs.Object.Shown.{shown_report}
 use Rattle.coap_client.proofs.client.failing.end_observation.Goals as goal
 
 pub returns-clause-own : goal.returns-clause-own

@@ -4,13 +4,13 @@ use Rattle.std.specs.Option.{option_map}
 use Rattle.coap_operations.specs.Listed.{Listed, without_fetch}
 use Rattle.coap_client.specs.declared.client.operation.Observation as B
 use Rattle.coap_client.specs.declared.client.operation.Waiting.{Waiting}
-use Rattle.coap_client.specs.ClientSide.ClientOwn.{Observation}
-use Rattle.coap_client.specs.ClientSide.ClientObservations.{observation_of}
-use Rattle.coap_client.specs.ClientSide.ClientPlaces.{in_observations}
-use Rattle.coap_client.specs.ClientObject.ClientHappens.{IsDone, releasing}
-use Rattle.coap_client.specs.ClientObject.ClientHeld.{own_of}
-use Rattle.coap_client.specs.ClientObject.ClientShown.{shown_observation, shown_operation}
-use Rattle.coap_client.proofs.ClientCalls.HeldLemmas.{dropped_shown, over_is, releasing_is, seen_cancels}
+use Rattle.coap_client.specs.Own.{Observation}
+use Rattle.coap_client.specs.Observations.{observation_of}
+use Rattle.coap_client.specs.Follows.Places.{in_observations}
+use Rattle.coap_client.specs.Object.Happens.{IsDone, releasing}
+use Rattle.coap_client.specs.Object.Held.{own_of}
+use Rattle.coap_client.specs.Object.Shown.{shown_observation, shown_operation}
+use Rattle.coap_client.proofs.Calls.HeldLemmas.{dropped_shown, over_is, releasing_is, seen_cancels}
 use Rattle.coap_client.proofs.client.failing.leave.Goals as goal
 
 pub remove-requires : goal.remove-requires

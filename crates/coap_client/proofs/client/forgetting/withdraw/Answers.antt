@@ -1,7 +1,7 @@
 use Rattle.std.proofs.Common.{rules, not}
 use Rattle.std.specs.Prelude.{◌==◌}
 use Rattle.std.proofs.lemmas.Fn.{filter_same}
-use Rattle.coap_client.proofs.ClientCalls.TickSteps.{reports_are}
+use Rattle.coap_client.proofs.Calls.TickSteps.{reports_are}
 use Rattle.coap_client.proofs.client.forgetting.withdraw.Goals as goal
 
 pub returns : goal.returns

@@ -1,8 +1,8 @@
 use Rattle.std.proofs.Common.{Some, ap, rules, sym, ◌∙◌}
 use Rattle.std.specs.Option.{option_map}
-use Rattle.coap_client.specs.ClientObject.ClientHeld.{own_of}
-use Rattle.coap_client.specs.ClientObject.ClientShown.{shown_operation}
-use Rattle.coap_client.proofs.ClientCalls.AnsweringLemmas.{answered_cancelling, answered_dropped, answered_none}
+use Rattle.coap_client.specs.Object.Held.{own_of}
+use Rattle.coap_client.specs.Object.Shown.{shown_operation}
+use Rattle.coap_client.proofs.Calls.AnsweringLemmas.{answered_cancelling, answered_dropped, answered_none}
 use Rattle.coap_client.proofs.client.happening.answered.Goals as goal
 
 pub returns-in-None-clause-happens : goal.returns-in-None-clause-happens

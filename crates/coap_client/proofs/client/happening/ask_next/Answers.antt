@@ -1,7 +1,7 @@
 use Rattle.std.proofs.Common.{ap, refl}
-use Rattle.coap_client.specs.ClientSide.ClientOwn.{Calling}
-use Rattle.coap_client.specs.ClientObject.ClientHeld.{own_of}
-use Rattle.coap_client.proofs.ClientCalls.FetchingLemmas.{closed_as}
+use Rattle.coap_client.specs.Own.{Calling}
+use Rattle.coap_client.specs.Object.Held.{own_of}
+use Rattle.coap_client.proofs.Calls.FetchingLemmas.{closed_as}
 use Rattle.coap_client.proofs.client.happening.ask_next.Goals as goal
 
 pub returns-in-Ok-clause-happens : goal.returns-in-Ok-clause-happens

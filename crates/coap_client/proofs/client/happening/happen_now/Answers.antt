@@ -1,6 +1,6 @@
 use Rattle.std.proofs.Common.{sym}
-use Rattle.coap_client.specs.ClientObject.ClientHeld.{own_of}
-use Rattle.coap_client.proofs.ClientCalls.ClientHappening.{event_happens}
+use Rattle.coap_client.specs.Object.Held.{own_of}
+use Rattle.coap_client.proofs.Calls.Happening.{event_happens}
 use Rattle.coap_client.proofs.client.happening.happen_now.Goals as goal
 
 pub returns-in-Timeout-clause-happens : goal.returns-in-Timeout-clause-happens

@@ -1,6 +1,6 @@
 use Rattle.std.proofs.Common.{◌≡◌, true, false, map, ap, sym, ◌∙◌, rules}
-use Rattle.coap_client.specs.ClientObject.ClientShown.{shown_observation}
-use Rattle.coap_client.proofs.ClientCalls.LiveLemmas.{behind, with_behind, with_here}
+use Rattle.coap_client.specs.Object.Shown.{shown_observation}
+use Rattle.coap_client.proofs.Calls.LiveLemmas.{behind, with_behind, with_here}
 use Rattle.coap_exchange.specs.Tokens.{same_token}
 use Rattle.coap_client.proofs.client.observations.+find_with_from.Goals as goal
 

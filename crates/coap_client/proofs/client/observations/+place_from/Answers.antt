@@ -1,6 +1,6 @@
 use Rattle.std.proofs.Common.{map, ap, sym, ◌∙◌}
-use Rattle.coap_client.specs.ClientObject.ClientShown.{shown_observation}
-use Rattle.coap_client.proofs.ClientCalls.LiveLemmas.{behind, place_behind, place_here}
+use Rattle.coap_client.specs.Object.Shown.{shown_observation}
+use Rattle.coap_client.proofs.Calls.LiveLemmas.{behind, place_behind, place_here}
 use Rattle.coap_client.proofs.client.observations.+place_from.Goals as goal
 
 pub returns-then-first-number : goal.returns-then-first-number

@@ -1,8 +1,8 @@
 use Rattle.std.proofs.Common.{map, ap, sym, ◌∙◌}
 use Rattle.std.proofs.lemmas.Option.{slice_get-map}
 use Rattle.std.specs.Option.{option_map}
-use Rattle.coap_client.specs.ClientObject.ClientShown.{shown_observation}
-use Rattle.coap_client.proofs.ClientCalls.LiveLemmas.{found_at, found_none, shown_copied}
+use Rattle.coap_client.specs.Object.Shown.{shown_observation}
+use Rattle.coap_client.proofs.Calls.LiveLemmas.{found_at, found_none, shown_copied}
 use Rattle.coap_client.proofs.client.observations.find.Goals as goal
 
 pub returns-in_err-place_of : goal.returns-in_err-place_of

@@ -1,7 +1,7 @@
 use Rattle.std.proofs.Common.{◌<◌, map, ap, sym, subst, ◌∙◌}
 use Rattle.std.proofs.lemmas.List.{length-map}
-use Rattle.coap_client.specs.ClientObject.ClientShown.{shown_observation}
-use Rattle.coap_client.proofs.ClientCalls.LiveLemmas.{map_remove, none_removed, one_removed, place_within}
+use Rattle.coap_client.specs.Object.Shown.{shown_observation}
+use Rattle.coap_client.proofs.Calls.LiveLemmas.{map_remove, none_removed, one_removed, place_within}
 use Rattle.coap_client.proofs.client.observations.remove.Goals as goal
 
 pub remove_live-requires : goal.remove_live-requires

@@ -2,9 +2,9 @@ use Rattle.std.proofs.Common.{◌<◌, map, ap, sym, subst, ◌∙◌}
 use Rattle.std.proofs.lemmas.List.{length-map}
 use Rattle.std.proofs.lemmas.Option.{slice_get-map}
 use Rattle.std.specs.Option.{option_map}
-use Rattle.coap_client.specs.ClientSide.ClientOwn.{Observation}
-use Rattle.coap_client.specs.ClientObject.ClientShown.{shown_observation}
-use Rattle.coap_client.proofs.ClientCalls.LiveLemmas.{map_set, none_changed, one_changed, place_within}
+use Rattle.coap_client.specs.Own.{Observation}
+use Rattle.coap_client.specs.Object.Shown.{shown_observation}
+use Rattle.coap_client.proofs.Calls.LiveLemmas.{map_set, none_changed, one_changed, place_within}
 use Rattle.coap_client.proofs.client.observations.set_watch.Goals as goal
 
 pub live_mut-requires : goal.live_mut-requires

@@ -2,9 +2,9 @@ use Rattle.std.proofs.Common.{◌+◌, filter, length, map, ap, ◌∙◌}
 use Rattle.std.specs.Prelude.{nat_le, option_to_list}
 use Rattle.std.specs.Option.{option_map}
 use Rattle.coap_client.specs.declared.limits.TheConstants.{MAX_OBSERVATIONS}
-use Rattle.coap_client.specs.ClientSide.ClientQueue.{is_registration}
-use Rattle.coap_client.specs.ClientObject.ClientShown.{shown_operation, shown_queued}
-use Rattle.coap_client.proofs.ClientCalls.WaitingLemmas.{observed_is}
+use Rattle.coap_client.specs.Queue.{is_registration}
+use Rattle.coap_client.specs.Object.Shown.{shown_operation, shown_queued}
+use Rattle.coap_client.proofs.Calls.WaitingLemmas.{observed_is}
 use Rattle.coap_client.proofs.client.observed.are_watches_full.Goals as goal
 
 pub returns : goal.returns

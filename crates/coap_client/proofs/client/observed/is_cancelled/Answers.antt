@@ -3,8 +3,8 @@ use Rattle.std.specs.Prelude.{option_to_list}
 use Rattle.std.specs.List.{list_any}
 use Rattle.std.specs.Option.{option_map}
 use Rattle.coap_operations.specs.Listed.{is_cancel}
-use Rattle.coap_client.specs.ClientObject.ClientShown.{shown_operation}
-use Rattle.coap_client.proofs.ClientCalls.WaitingLemmas.{cancels_are}
+use Rattle.coap_client.specs.Object.Shown.{shown_operation}
+use Rattle.coap_client.proofs.Calls.WaitingLemmas.{cancels_are}
 use Rattle.coap_client.proofs.client.observed.is_cancelled.Goals as goal
 
 pub returns-else-is_cancel_of : goal.returns-else-is_cancel_of

@@ -1,11 +1,11 @@
 use Rattle.std.proofs.Common.{ap, sym, subst, refl, ◌∙◌}
 use Rattle.coap_types.specs.OptionValues.{option_with}
-use Rattle.coap_client.specs.ClientSide.ClientOwn.{Fetching}
-use Rattle.coap_client.specs.ClientObject.ClientHappens.{Apart}
-use Rattle.coap_client.specs.ClientObject.ClientHeld.{own_of}
-use Rattle.coap_client.specs.ClientObject.ClientShown.{shown_rest}
-use Rattle.coap_client.proofs.ClientCalls.HeldLemmas.{one_observation, resumed_apart}
-use Rattle.coap_client.proofs.ClientCalls.FetchingLemmas.{closed_as, fetch_request, sends_as}
+use Rattle.coap_client.specs.Own.{Fetching}
+use Rattle.coap_client.specs.Object.Happens.{Apart}
+use Rattle.coap_client.specs.Object.Held.{own_of}
+use Rattle.coap_client.specs.Object.Shown.{shown_rest}
+use Rattle.coap_client.proofs.Calls.HeldLemmas.{one_observation, resumed_apart}
+use Rattle.coap_client.proofs.Calls.FetchingLemmas.{closed_as, fetch_request, sends_as}
 use Rattle.coap_client.proofs.client.observing.ask_next.Goals as goal
 
 pub resume-requires : goal.resume-requires

@@ -1,22 +1,22 @@
 use Rattle.std.proofs.Common.{◌≡◌, ◌≤◌, true, None, Some, ap, map, subst, sym, ◌∙◌}
 use Rattle.std.specs.Prelude.{is_some}
 use Rattle.std.specs.Option.{option_map}
-use Rattle.coap_client.specs.ClientSide.ClientObservations.{observation_of, rest_of, with_rest}
-use Rattle.coap_client.specs.ClientSide.ClientEffects.{Rests, of}
-use Rattle.coap_client.specs.ClientSide.ClientFetching.{fetch_answered}
-use Rattle.coap_client.specs.ClientSide.ClientOwn.{Fetching}
-use Rattle.coap_client.specs.ClientSide.ClientPlaces.{in_observations}
-use Rattle.coap_client.specs.ClientSide.ClientSteps.{reporting}
-use Rattle.coap_client.specs.ClientObject.ClientHappens.{Apart, Happens, left, resting, running}
-use Rattle.coap_client.specs.ClientObject.ClientHeld.{own_of}
-use Rattle.coap_client.specs.ClientObject.ClientShown.{shown_asked, shown_observation, shown_report, shown_rest}
-use Rattle.coap_client.proofs.ClientCalls.ClientHappening.{on_err}
-use Rattle.coap_client.proofs.ClientCalls.HeldLemmas.{fetched_own, idle_own, one_observation, rested_apart, set_one}
-use Rattle.coap_client.proofs.ClientCalls.HeldLemmas.{taken_own}
-use Rattle.coap_client.proofs.ClientCalls.FetchingLemmas.{asks_back, asks_next, asks_rest, fetch_held, if_ok}
-use Rattle.coap_client.proofs.ClientCalls.FetchingLemmas.{rest_there}
-use Rattle.coap_client.proofs.ClientCalls.FetchingLemmas.{same_rest, unfetched, useless_fetch, useless_rest}
-use Rattle.coap_client.proofs.ClientCalls.FetchingLemmas.{useless_value, whole_fetch, whole_rest, whole_value}
+use Rattle.coap_client.specs.Observations.{observation_of, rest_of, with_rest}
+use Rattle.coap_client.specs.Effects.{Rests, of}
+use Rattle.coap_client.specs.Fetching.{fetch_answered}
+use Rattle.coap_client.specs.Own.{Fetching}
+use Rattle.coap_client.specs.Follows.Places.{in_observations}
+use Rattle.coap_client.specs.Steps.{reporting}
+use Rattle.coap_client.specs.Object.Happens.{Apart, Happens, left, resting, running}
+use Rattle.coap_client.specs.Object.Held.{own_of}
+use Rattle.coap_client.specs.Object.Shown.{shown_asked, shown_observation, shown_report, shown_rest}
+use Rattle.coap_client.proofs.Calls.Happening.{on_err}
+use Rattle.coap_client.proofs.Calls.HeldLemmas.{fetched_own, idle_own, one_observation, rested_apart, set_one}
+use Rattle.coap_client.proofs.Calls.HeldLemmas.{taken_own}
+use Rattle.coap_client.proofs.Calls.FetchingLemmas.{asks_back, asks_next, asks_rest, fetch_held, if_ok}
+use Rattle.coap_client.proofs.Calls.FetchingLemmas.{rest_there}
+use Rattle.coap_client.proofs.Calls.FetchingLemmas.{same_rest, unfetched, useless_fetch, useless_rest}
+use Rattle.coap_client.proofs.Calls.FetchingLemmas.{useless_value, whole_fetch, whole_rest, whole_value}
 use Rattle.coap_client.proofs.client.observing.fetch_answered.Goals as goal
 
 pub returns-in_default-clause-happens : goal.returns-in_default-clause-happens

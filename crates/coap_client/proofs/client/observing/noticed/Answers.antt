@@ -1,14 +1,14 @@
 use Rattle.std.proofs.Common.{ap, refl, subst, ◌∙◌}
 use Rattle.std.specs.Option.{option_map}
-use Rattle.coap_client.specs.ClientSide.ClientObserving.{is_over}
-use Rattle.coap_client.specs.ClientSide.ClientSteps.{reporting}
-use Rattle.coap_client.specs.ClientSide.ClientTrace.{Ended}
-use Rattle.coap_client.specs.ClientObject.ClientHappens.{IsDone}
-use Rattle.coap_client.specs.ClientObject.ClientHeld.{own_of}
-use Rattle.coap_client.specs.ClientObject.ClientShown.{shown_observation}
-use Rattle.coap_client.proofs.ClientCalls.HeldLemmas.{one_observation}
-use Rattle.coap_client.proofs.ClientCalls.NoticingLemmas.{found_by, found_fresh, noticed_none, noticed_over}
-use Rattle.coap_client.proofs.ClientCalls.NoticingLemmas.{told_happens}
+use Rattle.coap_client.specs.Observing.{is_over}
+use Rattle.coap_client.specs.Steps.{reporting}
+use Rattle.coap_client.specs.Trace.{Ended}
+use Rattle.coap_client.specs.Object.Happens.{IsDone}
+use Rattle.coap_client.specs.Object.Held.{own_of}
+use Rattle.coap_client.specs.Object.Shown.{shown_observation}
+use Rattle.coap_client.proofs.Calls.HeldLemmas.{one_observation}
+use Rattle.coap_client.proofs.Calls.NoticingLemmas.{found_by, found_fresh, noticed_none, noticed_over}
+use Rattle.coap_client.proofs.Calls.NoticingLemmas.{told_happens}
 use Rattle.coap_client.proofs.client.observing.noticed.Goals as goal
 
 pub returns-in_default-clause-happens : goal.returns-in_default-clause-happens

@@ -1,13 +1,13 @@
 use Rattle.std.proofs.Common.{None, ap, subst, ◌∙◌}
 use Rattle.coap_exchange.specs.AskerTrace as E
 use Rattle.coap_exchange.specs.AskerLaw as X
-use Rattle.coap_client.specs.ClientSide.ClientEffects.{Rests, of}
-use Rattle.coap_client.specs.ClientSide.ClientSteps.{reporting}
-use Rattle.coap_client.specs.ClientSide.ClientTrace.{Ended}
+use Rattle.coap_client.specs.Effects.{Rests, of}
+use Rattle.coap_client.specs.Steps.{reporting}
+use Rattle.coap_client.specs.Trace.{Ended}
 use Rattle.std.specs.Option.{option_map}
-use Rattle.coap_client.specs.ClientObject.ClientHeld.{own_of}
-use Rattle.coap_client.specs.ClientObject.ClientShown.{shown_operation}
-use Rattle.coap_client.proofs.ClientCalls.ClientHappening.{begun_own, not_registered, registered_number, was_registered}
+use Rattle.coap_client.specs.Object.Held.{own_of}
+use Rattle.coap_client.specs.Object.Shown.{shown_operation}
+use Rattle.coap_client.proofs.Calls.Happening.{begun_own, not_registered, registered_number, was_registered}
 use Rattle.coap_client.proofs.client.observing.registered.Goals as goal
 
 pub returns-in_default-clause-happens : goal.returns-in_default-clause-happens

@@ -3,12 +3,12 @@ use Rattle.std.specs.Option.{option_map}
 use Rattle.coap_operations.specs.Listed.{Listed}
 use Rattle.coap_client.specs.declared.client.operation.Observation as B
 use Rattle.coap_client.specs.declared.client.operation.Waiting.{Waiting}
-use Rattle.coap_client.specs.ClientSide.ClientOwn.{Own}
-use Rattle.coap_client.specs.ClientSide.ClientPlaces.{in_observations}
-use Rattle.coap_client.specs.ClientObject.ClientHeld.{own_of}
-use Rattle.coap_client.specs.ClientObject.ClientShown.{shown_observation, shown_operation, shown_queued}
-use Rattle.coap_client.proofs.ClientCalls.HeldLemmas.{dropped_shown}
-use Rattle.coap_client.proofs.ClientCalls.NoticingLemmas.{as_queued, renewed_own, watched_is, watched_one}
+use Rattle.coap_client.specs.Own.{Own}
+use Rattle.coap_client.specs.Follows.Places.{in_observations}
+use Rattle.coap_client.specs.Object.Held.{own_of}
+use Rattle.coap_client.specs.Object.Shown.{shown_observation, shown_operation, shown_queued}
+use Rattle.coap_client.proofs.Calls.HeldLemmas.{dropped_shown}
+use Rattle.coap_client.proofs.Calls.NoticingLemmas.{as_queued, renewed_own, watched_is, watched_one}
 use Rattle.coap_client.proofs.client.observing.renew.Goals as goal
 
 pub set_rest-requires : goal.set_rest-requires

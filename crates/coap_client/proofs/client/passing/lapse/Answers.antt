@@ -1,11 +1,11 @@
 use Rattle.std.proofs.Common.{true, refl}
-use Rattle.coap_client.specs.ClientSide.ClientOwn.{clocked}
-use Rattle.coap_client.specs.ClientSide.ClientEvents.{failed}
+use Rattle.coap_client.specs.Own.{clocked}
+use Rattle.coap_client.specs.Events.{failed}
 use Rattle.std.specs.Prelude.{None}
-use Rattle.coap_client.specs.ClientObject.ClientHeld.{own_of}
-use Rattle.coap_client.specs.ClientObject.ClientShown.{shown_report}
-use Rattle.coap_client.proofs.ClientCalls.ClientHappening.{deed_happens}
-use Rattle.coap_client.proofs.ClientCalls.PassingLemmas.{fails_silently}
+use Rattle.coap_client.specs.Object.Held.{own_of}
+use Rattle.coap_client.specs.Object.Shown.{shown_report}
+use Rattle.coap_client.proofs.Calls.Happening.{deed_happens}
+use Rattle.coap_client.proofs.Calls.PassingLemmas.{fails_silently}
 use Rattle.coap_client.proofs.client.passing.lapse.Goals as goal
 
 pub returns-clause-comes : goal.returns-clause-comes

@@ -2,8 +2,8 @@ use Rattle.std.proofs.Common.{not, Bor, Some, ap, sym, ◌∙◌, refl}
 use Rattle.std.specs.Option.{option_map}
 use Rattle.coap_operations.specs.Listed.{queued_map}
 use Rattle.coap_client.specs.declared.client.operation.Waiting.{Waiting}
-use Rattle.coap_client.specs.ClientObject.ClientHeld.{own_of}
-use Rattle.coap_client.proofs.ClientCalls.PassingLemmas.{may_cancel, may_first, may_nothing}
+use Rattle.coap_client.specs.Object.Held.{own_of}
+use Rattle.coap_client.proofs.Calls.PassingLemmas.{may_cancel, may_first, may_nothing}
 use Rattle.coap_client.proofs.client.passing.may_start.Goals as goal
 
 pub returns-in-Some-Starts : goal.returns-in-Some-Starts

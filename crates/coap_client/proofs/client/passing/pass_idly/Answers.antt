@@ -3,16 +3,16 @@ use Rattle.std.specs.Prelude.{is_some, IfOk, IsOk, OnOk}
 use Rattle.std.specs.Option.{option_map}
 use Rattle.coap_operations.specs.Listed.{running_map}
 use Rattle.coap_client.specs.declared.client.operation.Waiting.{Waiting}
-use Rattle.coap_client.specs.ClientSide.ClientObservations.{to_fetch}
-use Rattle.coap_client.specs.ClientSide.ClientOwn.{clocked}
-use Rattle.coap_client.specs.ClientSide.ClientEffects.{Effect}
-use Rattle.coap_client.specs.ClientSide.ClientSteps.{asks}
-use Rattle.coap_client.specs.ClientObject.ClientHappens.{Comes, left}
-use Rattle.coap_client.specs.ClientObject.ClientHeld.{own_of}
-use Rattle.coap_client.specs.ClientObject.ClientShown.{shown_operation}
-use Rattle.coap_client.specs.ClientObject.Starts.{idle_now}
-use Rattle.coap_client.proofs.ClientCalls.PassingLemmas.{idle_fetches, idle_starts, idle_stays, rest_comes, shown_none}
-use Rattle.coap_client.proofs.ClientCalls.PassingLemmas.{shown_some}
+use Rattle.coap_client.specs.Observations.{to_fetch}
+use Rattle.coap_client.specs.Own.{clocked}
+use Rattle.coap_client.specs.Effects.{Effect}
+use Rattle.coap_client.specs.Steps.{asks}
+use Rattle.coap_client.specs.Object.Happens.{Comes, left}
+use Rattle.coap_client.specs.Object.Held.{own_of}
+use Rattle.coap_client.specs.Object.Shown.{shown_operation}
+use Rattle.coap_client.specs.Object.Starts.{idle_now}
+use Rattle.coap_client.proofs.Calls.PassingLemmas.{idle_fetches, idle_starts, idle_stays, rest_comes, shown_none}
+use Rattle.coap_client.proofs.Calls.PassingLemmas.{shown_some}
 use Rattle.coap_client.proofs.client.passing.pass_idly.Goals as goal
 
 pub returns-then-is_some-clause-happens : goal.returns-then-is_some-clause-happens

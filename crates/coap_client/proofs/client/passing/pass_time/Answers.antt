@@ -1,11 +1,11 @@
 use Rattle.std.proofs.Common.{map, ap, sym, subst, true}
-use Rattle.coap_client.specs.ClientSide.ClientOwn.{Own, clocked}
-use Rattle.coap_client.specs.ClientSide.ClientEffects.{Effect}
-use Rattle.coap_client.specs.ClientSide.ClientEvents.{failed, passes}
-use Rattle.coap_client.specs.ClientObject.ClientHappens.{Comes, left}
-use Rattle.coap_client.specs.ClientObject.ClientHeld.{own_of}
-use Rattle.coap_client.specs.ClientObject.ClientShown.{shown_report, shown_reported}
-use Rattle.coap_client.proofs.ClientCalls.PassingLemmas.{rest_comes}
+use Rattle.coap_client.specs.Own.{Own, clocked}
+use Rattle.coap_client.specs.Effects.{Effect}
+use Rattle.coap_client.specs.Events.{failed, passes}
+use Rattle.coap_client.specs.Object.Happens.{Comes, left}
+use Rattle.coap_client.specs.Object.Held.{own_of}
+use Rattle.coap_client.specs.Object.Shown.{shown_report, shown_reported}
+use Rattle.coap_client.proofs.Calls.PassingLemmas.{rest_comes}
 use Rattle.coap_client.proofs.client.passing.pass_time.Goals as goal
 
 pub returns-in-Copied-clause-happens : goal.returns-in-Copied-clause-happens

@@ -3,11 +3,11 @@ use Rattle.std.specs.Option.{option_map}
 use Rattle.coap_operations.specs.Listed.{queued_map}
 use Rattle.coap_operations.specs.declared.queued.Queued.TheVariants.{Starts, Cancels}
 use Rattle.coap_client.specs.declared.client.operation.Waiting.{Waiting}
-use Rattle.coap_client.specs.ClientSide.ClientRequests.{message_of}
-use Rattle.coap_client.specs.ClientObject.ClientSends.{Sends}
-use Rattle.coap_client.specs.ClientObject.ClientShown.{shown_observation}
-use Rattle.coap_client.proofs.ClientCalls.WaitingLemmas.{if_map}
-use Rattle.coap_client.proofs.ClientCalls.PassingLemmas.{first_shown}
+use Rattle.coap_client.specs.Requests.{message_of}
+use Rattle.coap_client.specs.Object.Sends.{Sends}
+use Rattle.coap_client.specs.Object.Shown.{shown_observation}
+use Rattle.coap_client.proofs.Calls.WaitingLemmas.{if_map}
+use Rattle.coap_client.proofs.Calls.PassingLemmas.{first_shown}
 use Rattle.coap_client.proofs.client.passing.send_first.Goals as goal
 
 pub returns-in-Some-Starts-clause-sends : goal.returns-in-Some-Starts-clause-sends

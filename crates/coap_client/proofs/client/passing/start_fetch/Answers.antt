@@ -1,12 +1,12 @@
 use Rattle.std.proofs.Common.{map, ap, sym, subst, ◌∙◌}
 use Rattle.std.specs.Option.{option_map}
-use Rattle.coap_client.specs.ClientSide.ClientOwn.{Fetching, clocked}
-use Rattle.coap_client.specs.ClientSide.ClientEffects.{runs}
-use Rattle.coap_client.specs.ClientSide.ClientRequests.{message_of}
-use Rattle.coap_client.specs.ClientObject.ClientHappens.{Comes, left}
-use Rattle.coap_client.specs.ClientObject.ClientHeld.{own_of}
-use Rattle.coap_client.specs.ClientObject.ClientSends.{Sends}
-use Rattle.coap_client.specs.ClientObject.ClientShown.{shown_observation, shown_operation, shown_reported}
+use Rattle.coap_client.specs.Own.{Fetching, clocked}
+use Rattle.coap_client.specs.Effects.{runs}
+use Rattle.coap_client.specs.Requests.{message_of}
+use Rattle.coap_client.specs.Object.Happens.{Comes, left}
+use Rattle.coap_client.specs.Object.Held.{own_of}
+use Rattle.coap_client.specs.Object.Sends.{Sends}
+use Rattle.coap_client.specs.Object.Shown.{shown_observation, shown_operation, shown_reported}
 use Rattle.coap_client.proofs.client.passing.start_fetch.Goals as goal
 
 pub returns-clause-happens : goal.returns-clause-happens

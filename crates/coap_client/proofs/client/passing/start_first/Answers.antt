@@ -1,12 +1,12 @@
 use Rattle.std.proofs.Common.{◌≡◌, true, false, map, ap, sym, subst, ◌∙◌}
-use Rattle.coap_client.specs.ClientSide.ClientOwn.{Own, clocked}
-use Rattle.coap_client.specs.ClientSide.ClientEffects.{Effect}
-use Rattle.coap_client.specs.ClientSide.ClientSteps.{asks}
-use Rattle.coap_client.specs.ClientObject.ClientHappens.{Comes, left}
-use Rattle.coap_client.specs.ClientObject.ClientHeld.{own_of}
-use Rattle.coap_client.specs.ClientObject.ClientShown.{shown_reported}
-use Rattle.coap_client.specs.ClientObject.Starts.{starts_now}
-use Rattle.coap_client.proofs.ClientCalls.PassingLemmas.{rest_comes, starts_ask, starts_rests}
+use Rattle.coap_client.specs.Own.{Own, clocked}
+use Rattle.coap_client.specs.Effects.{Effect}
+use Rattle.coap_client.specs.Steps.{asks}
+use Rattle.coap_client.specs.Object.Happens.{Comes, left}
+use Rattle.coap_client.specs.Object.Held.{own_of}
+use Rattle.coap_client.specs.Object.Shown.{shown_reported}
+use Rattle.coap_client.specs.Object.Starts.{starts_now}
+use Rattle.coap_client.proofs.Calls.PassingLemmas.{rest_comes, starts_ask, starts_rests}
 use Rattle.coap_client.proofs.client.passing.start_first.Goals as goal
 
 pub returns-in_ok-given-clause-happens : goal.returns-in_ok-given-clause-happens

@@ -1,8 +1,8 @@
 use Rattle.std.proofs.Common.{◌≤◌, ℕ, None, Some, [], ◌∷◌, List, length, subst, sym, arith}
 use Rattle.std.specs.List.{All}
 use Rattle.coap_types.specs.Path.{segments_of}
-use Rattle.coap_client.specs.ClientObject.CallShown.{IsGood}
-use Rattle.coap_client.proofs.ClientCalls.AskableRequests.{good_get}
+use Rattle.coap_client.specs.Object.CallShown.{IsGood}
+use Rattle.coap_client.proofs.Calls.AskableRequests.{good_get}
 use Rattle.coap_client.proofs.client.request_options.is_long_path.Goals as goal
 
 pub exceed-requires : goal.exceed-requires

@@ -1,9 +1,9 @@
 use Rattle.std.proofs.Common.{IfOk, map, rules, ◌∙◌, subst}
 use Rattle.std.specs.Option.{option_map}
 use Rattle.coap_types.specs.Path.{segments_of}
-use Rattle.coap_client.specs.ClientObject.ClientSends.{Sends}
-use Rattle.coap_client.specs.ClientObject.ClientShown.{shown_observation}
-use Rattle.coap_client.proofs.ClientCalls.FetchingLemmas.{cancel_request}
+use Rattle.coap_client.specs.Object.Sends.{Sends}
+use Rattle.coap_client.specs.Object.Shown.{shown_observation}
+use Rattle.coap_client.proofs.Calls.FetchingLemmas.{cancel_request}
 use Rattle.coap_client.proofs.client.sending.cancel.Goals as goal
 
 pub returns-clause-sends : goal.returns-clause-sends

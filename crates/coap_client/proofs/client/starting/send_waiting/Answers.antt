@@ -1,9 +1,9 @@
 use Rattle.std.proofs.Common.{sym, subst}
 use Rattle.std.specs.Prelude.{IfOk}
-use Rattle.coap_client.specs.ClientSide.ClientRequests.{message_of}
-use Rattle.coap_client.specs.ClientObject.ClientSends.{Sends}
-use Rattle.coap_client.specs.ClientObject.ClientShown.{shown_waiting}
-use Rattle.coap_client.proofs.ClientCalls.WaitingLemmas.{if_all, if_map}
+use Rattle.coap_client.specs.Requests.{message_of}
+use Rattle.coap_client.specs.Object.Sends.{Sends}
+use Rattle.coap_client.specs.Object.Shown.{shown_waiting}
+use Rattle.coap_client.proofs.Calls.WaitingLemmas.{if_all, if_map}
 use Rattle.coap_client.proofs.client.starting.send_waiting.Goals as goal
 
 pub returns-in-Calling-clause-sends : goal.returns-in-Calling-clause-sends

@@ -1,5 +1,5 @@
-use Rattle.coap_client.specs.ClientObject.ClientHeld.{own_of}
-use Rattle.coap_client.proofs.ClientCalls.TickSteps.{ok_both, ticked_by}
+use Rattle.coap_client.specs.Object.Held.{own_of}
+use Rattle.coap_client.proofs.Calls.TickSteps.{ok_both, ticked_by}
 use Rattle.coap_client.proofs.client.ticking.tick.Goals as goal
 
 pub returns-else-is_err-clause-step : goal.returns-else-is_err-clause-step

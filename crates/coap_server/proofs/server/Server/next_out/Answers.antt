@@ -1,7 +1,7 @@
 use Rattle.std.proofs.Common.{rules}
-use Rattle.coap_server.specs.ServerSide.ServerTrace.{NextOut}
-use Rattle.coap_server.proofs.ServerCalls.TakesOut.{if_none, if_some}
-use Rattle.coap_server.proofs.ServerCalls.WorkFalls.{led_on, seen_led}
+use Rattle.coap_server.specs.Trace.{NextOut}
+use Rattle.coap_server.proofs.Calls.TakesOut.{if_none, if_some}
+use Rattle.coap_server.proofs.Calls.WorkFalls.{led_on, seen_led}
 use Rattle.coap_server.proofs.server.Server.next_out.Goals as goal
 
 pub returns-clause-step : goal.returns-clause-step

@@ -1,4 +1,4 @@
-use Rattle.coap_server.proofs.ServerCalls.WorkFalls.{led_on}
+use Rattle.coap_server.proofs.Calls.WorkFalls.{led_on}
 use Rattle.coap_server.proofs.server.Server.remove.Goals as goal
 
 pub invariant_of-self : goal.invariant_of-self

@@ -1,4 +1,4 @@
-use Rattle.coap_server.proofs.ServerCalls.WorkFalls.{closes_delay, led_on, same_led}
+use Rattle.coap_server.proofs.Calls.WorkFalls.{closes_delay, led_on, same_led}
 use Rattle.coap_server.proofs.server.Server.set_delay.Goals as goal
 
 pub invariant_of-self : goal.invariant_of-self

@@ -1,6 +1,6 @@
-use Rattle.coap_server.proofs.ServerCalls.FeedIsACall.{seen_step}
-use Rattle.coap_server.proofs.ServerCalls.WorkFalls.{closes_if, if_ok, led_on, on_err, same_led, seen_led, ticks_fall}
-use Rattle.coap_server.proofs.ServerSide.Exact.ServerLeads.{led_further}
+use Rattle.coap_server.proofs.Calls.FeedIsACall.{seen_step}
+use Rattle.coap_server.proofs.Calls.WorkFalls.{closes_if, if_ok, led_on, on_err, same_led, seen_led, ticks_fall}
+use Rattle.coap_server.proofs.Exact.Leads.{led_further}
 use Rattle.coap_server.proofs.server.Server.tick.Goals as goal
 
 pub invariant_of-self : goal.invariant_of-self

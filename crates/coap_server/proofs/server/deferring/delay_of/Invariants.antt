@@ -1,6 +1,6 @@
 use Rattle.std.proofs.Common.{◌≡◌, map, drop}
-use Rattle.coap_server.specs.ServerSide.ServerDeferring.{delay_of}
-use Rattle.coap_server.specs.ServerObject.ServerShown.{delay_as}
+use Rattle.coap_server.specs.Deferring.{delay_of}
+use Rattle.coap_server.specs.Object.Shown.{delay_as}
 use Rattle.coap_server.proofs.server.deferring.delay_of.Given as goal
 
 -- none of those before has the path

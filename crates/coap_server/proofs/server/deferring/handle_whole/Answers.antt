@@ -1,8 +1,8 @@
 use Rattle.std.proofs.Common.{rules}
 use Rattle.coap_resource.specs.Serves.{question_of}
-use Rattle.coap_server.specs.ServerObject.ServerShown.{seen}
-use Rattle.coap_server.proofs.ServerCalls.FeedIsACall.{on_ok}
-use Rattle.coap_server.proofs.ServerCalls.RequestIsHandled.{at_once, behind, waits}
+use Rattle.coap_server.specs.Object.Shown.{seen}
+use Rattle.coap_server.proofs.Calls.FeedIsACall.{on_ok}
+use Rattle.coap_server.proofs.Calls.RequestIsHandled.{at_once, behind, waits}
 use Rattle.coap_server.proofs.server.deferring.handle_whole.Goals as goal
 
 pub returns-in_default-clause-handled : goal.returns-in_default-clause-handled

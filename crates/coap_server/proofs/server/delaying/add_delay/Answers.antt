@@ -1,5 +1,5 @@
 use Rattle.std.proofs.Common.{rules, refl}
-use Rattle.coap_server.proofs.ServerCalls.DelayLists.{with_kept}
+use Rattle.coap_server.proofs.Calls.DelayLists.{with_kept}
 use Rattle.coap_server.proofs.server.delaying.add_delay.Goals as goal
 
 pub returns-clause-ok : goal.returns-clause-ok

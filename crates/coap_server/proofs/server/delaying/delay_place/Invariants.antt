@@ -1,5 +1,5 @@
 use Rattle.std.proofs.Common.{◌≡◌, ◌++◌, ◌-◌, length, take, drop}
-use Rattle.coap_server.specs.ServerTurns.DelaysShown.{delays_of_others}
+use Rattle.coap_server.specs.Turns.DelaysShown.{delays_of_others}
 use Rattle.coap_server.proofs.server.delaying.delay_place.Given as goal
 
 abbrev pub invariant-delays : goal.invariant-delays

@@ -1,6 +1,6 @@
 use Rattle.std.proofs.Common.{◌≡◌, length, refl, ap, sym, arith}
-use Rattle.coap_server.specs.ServerTurns.DelaysShown.{delays_of_others}
-use Rattle.coap_server.proofs.ServerCalls.DelayLists.{none_free, one_free, some_of}
+use Rattle.coap_server.specs.Turns.DelaysShown.{delays_of_others}
+use Rattle.coap_server.proofs.Calls.DelayLists.{none_free, one_free, some_of}
 use Rattle.coap_server.proofs.server.delaying.give_delay.Goals as goal
 
 pub returns-then-other_delays-ge-MAX_DELAYS-clause-given : goal.returns-then-other_delays-ge-MAX_DELAYS-clause-given

@@ -1,5 +1,5 @@
 use Rattle.std.proofs.Common.{rules, refl}
-use Rattle.coap_server.proofs.ServerCalls.DelayLists.{replaced, path_at}
+use Rattle.coap_server.proofs.Calls.DelayLists.{replaced, path_at}
 use Rattle.coap_server.proofs.server.delaying.replace_delay.Goals as goal
 
 pub returns : goal.returns

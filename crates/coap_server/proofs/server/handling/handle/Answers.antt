@@ -1,12 +1,12 @@
 use Rattle.std.proofs.Common.{rules, refl, ap, sym, ◌∙◌}
 use Rattle.coap_types.specs.CoapOption.{options_of}
-use Rattle.coap_server.specs.ServerSide.ServerChecks.{Ignored, Refused}
-use Rattle.coap_server.specs.ServerSide.ServerHandling.{Handles}
-use Rattle.coap_server.specs.ServerSide.ServerResponses.{bare}
-use Rattle.coap_server.specs.ServerObject.ServerChecked.{verdict_as}
-use Rattle.coap_server.specs.ServerObject.ServerShown.{seen, state_of}
-use Rattle.coap_server.proofs.ServerCalls.FeedIsACall.{on_ok}
-use Rattle.coap_server.proofs.ServerCalls.RequestIsHandled.{handled_by, ignored, answered, asks_whole, asks_block}
+use Rattle.coap_server.specs.Checks.{Ignored, Refused}
+use Rattle.coap_server.specs.Handling.{Handles}
+use Rattle.coap_server.specs.Responses.{bare}
+use Rattle.coap_server.specs.Object.Checked.{verdict_as}
+use Rattle.coap_server.specs.Object.Shown.{seen, state_of}
+use Rattle.coap_server.proofs.Calls.FeedIsACall.{on_ok}
+use Rattle.coap_server.proofs.Calls.RequestIsHandled.{handled_by, ignored, answered, asks_whole, asks_block}
 use Rattle.coap_server.proofs.server.handling.handle.Goals as goal
 
 pub returns-in-Ignored-clause-handled : goal.returns-in-Ignored-clause-handled

@@ -3,9 +3,9 @@ use Rattle.std.proofs.lemmas.Option.{slice_get_within}
 use Rattle.coap_observe.specs.Notices.{told}
 use Rattle.coap_observe.specs.Observers.{Observer}
 use Rattle.coap_exchange.specs.Machine.WhatIsDue.{takes_con}
-use Rattle.coap_server.specs.ServerSide.ServerNotifying.{marked}
-use Rattle.coap_server.proofs.ServerCalls.PassedOver.{stops, goes_on, all_passed, all_behind, found_behind, marked_most}
-use Rattle.coap_server.proofs.ServerCalls.PassedOver.{none_taken}
+use Rattle.coap_server.specs.Notifying.{marked}
+use Rattle.coap_server.proofs.Calls.PassedOver.{stops, goes_on, all_passed, all_behind, found_behind, marked_most}
+use Rattle.coap_server.proofs.Calls.PassedOver.{none_taken}
 use Rattle.coap_server.proofs.server.notifying.first_ready.Goals as goal
 
 pub returns-then-branch-clause-found : goal.returns-then-branch-clause-found

@@ -2,8 +2,8 @@ use Rattle.std.proofs.Common.{◌≡◌, ◌≤◌, ◌-◌, length}
 use Rattle.coap_types.specs.declared.endpoint.Endpoint.{Endpoint}
 use Rattle.coap_exchange.specs.AnswererLaw.{Exchanged}
 use Rattle.coap_exchange.specs.Machine.WhatIsDue.{takes_con}
-use Rattle.coap_server.specs.ServerSide.ServerNotifying.{marked}
-use Rattle.coap_server.proofs.ServerCalls.PassedOver.{passing}
+use Rattle.coap_server.specs.Notifying.{marked}
+use Rattle.coap_server.proofs.Calls.PassedOver.{passing}
 use Rattle.coap_server.proofs.server.notifying.first_ready.Given as goal
 
 abbrev pub invariant-observers : goal.invariant-observers

@@ -1,10 +1,10 @@
 use Rattle.std.proofs.Common.{true, None, refl, ap, ◌∙◌}
 use Rattle.coap_observe.specs.Notices.{told}
 use Rattle.coap_resource.specs.Serves.{reply_of}
-use Rattle.coap_server.specs.ServerSide.ServerNotifying as next
-use Rattle.coap_server.specs.ServerSide.ServerObservers.{sequence}
-use Rattle.coap_server.specs.ServerSide.ServerResponses.{response_with}
-use Rattle.coap_server.proofs.ServerCalls.TurnSteps.{got_plain}
+use Rattle.coap_server.specs.Notifying as next
+use Rattle.coap_server.specs.Observers.{sequence}
+use Rattle.coap_server.specs.Responses.{response_with}
+use Rattle.coap_server.proofs.Calls.TurnSteps.{got_plain}
 use Rattle.coap_server.proofs.server.notifying.notification.Goals as goal
 
 pub returns-clause-response : goal.returns-clause-response

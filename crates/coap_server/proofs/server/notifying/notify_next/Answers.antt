@@ -1,6 +1,6 @@
 use Rattle.std.proofs.Common.{true, refl, ap, sym, ◌∙◌}
 use Rattle.coap_observe.specs.Notices.{told, told_due}
-use Rattle.coap_server.proofs.ServerCalls.TurnSteps.{none_notified, one_told}
+use Rattle.coap_server.proofs.Calls.TurnSteps.{none_notified, one_told}
 use Rattle.coap_server.proofs.server.notifying.notify_next.Goals as goal
 
 pub returns-in_default-clause-turned : goal.returns-in_default-clause-turned

@@ -1,6 +1,6 @@
 use Rattle.std.proofs.Common.{◌≡◌, ◌++◌, map, drop}
 use Rattle.coap_types.specs.CoapOption.{options_of}
-use Rattle.coap_server.specs.ServerObject.ServerShown.{option_as}
+use Rattle.coap_server.specs.Object.Shown.{option_as}
 use Rattle.coap_server.proofs.server.responding.lent.Given as goal
 
 -- the options so far and those that are left make the whole

@@ -1,7 +1,7 @@
 use Rattle.std.proofs.Common.{true, false, sym, ◌∙◌, arith}
-use Rattle.coap_server.specs.ServerObject.ServerShown.{waiting_as}
-use Rattle.coap_server.proofs.ServerCalls.WaitingLists.{question_found, left_found, question_passes, left_passes}
-use Rattle.coap_server.proofs.ServerCalls.WaitingLists.{same_is}
+use Rattle.coap_server.specs.Object.Shown.{waiting_as}
+use Rattle.coap_server.proofs.Calls.WaitingLists.{question_found, left_found, question_passes, left_passes}
+use Rattle.coap_server.proofs.Calls.WaitingLists.{same_is}
 use Rattle.coap_server.proofs.server.responding.ready_place.Goals as goal
 
 pub returns-then-is_ready-clause-question : goal.returns-then-is_ready-clause-question

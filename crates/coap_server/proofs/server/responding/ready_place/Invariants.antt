@@ -1,7 +1,7 @@
 use Rattle.std.proofs.Common.{◌≡◌, ◌-◌, ℕ, length}
-use Rattle.coap_server.specs.ServerSide.ServerDeferring.{question_of, without_waiting}
-use Rattle.coap_server.specs.ServerObject.ServerShown.{waiting_as}
-use Rattle.coap_server.proofs.ServerCalls.WaitingLists.{question_behind, left_behind}
+use Rattle.coap_server.specs.Deferring.{question_of, without_waiting}
+use Rattle.coap_server.specs.Object.Shown.{waiting_as}
+use Rattle.coap_server.proofs.Calls.WaitingLists.{question_behind, left_behind}
 use Rattle.coap_server.proofs.server.responding.ready_place.Given as goal
 use Rattle.std.proofs.Common.{map}
 

@@ -1,6 +1,6 @@
 use Rattle.std.proofs.Common.{Some, map, refl, ap, sym, ◌∙◌}
-use Rattle.coap_server.specs.ServerObject.ServerShown.{waiting_as, applied_list}
-use Rattle.coap_server.proofs.ServerCalls.TurnSteps.{none_waits, responded}
+use Rattle.coap_server.specs.Object.Shown.{waiting_as, applied_list}
+use Rattle.coap_server.proofs.Calls.TurnSteps.{none_waits, responded}
 use Rattle.coap_server.proofs.server.responding.respond_ready.Goals as goal
 
 pub returns-in_default-clause-turned : goal.returns-in_default-clause-turned

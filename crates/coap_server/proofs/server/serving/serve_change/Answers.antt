@@ -1,6 +1,6 @@
 use Rattle.std.proofs.Common.{rules}
 use Rattle.coap_resource.specs.Serves.{reply_of}
-use Rattle.coap_server.proofs.ServerCalls.RequestIsServed.{change_served}
+use Rattle.coap_server.proofs.Calls.RequestIsServed.{change_served}
 use Rattle.coap_server.proofs.server.serving.serve_change.Goals as goal
 
 pub returns-clause-served : goal.returns-clause-served

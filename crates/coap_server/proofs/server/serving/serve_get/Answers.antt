@@ -1,6 +1,6 @@
 use Rattle.std.proofs.Common.{ap}
 use Rattle.coap_resource.specs.Serves.{reply_of}
-use Rattle.coap_server.proofs.ServerCalls.RequestIsServed.{get_served}
+use Rattle.coap_server.proofs.Calls.RequestIsServed.{get_served}
 use Rattle.coap_server.proofs.server.serving.serve_get.Goals as goal
 
 pub returns-clause-served : goal.returns-clause-served

@@ -1,5 +1,5 @@
 use Rattle.std.proofs.Common.{refl}
-use Rattle.coap_server.proofs.ServerCalls.TurnSteps.{if_ok, ticked_by}
+use Rattle.coap_server.proofs.Calls.TurnSteps.{if_ok, ticked_by}
 use Rattle.coap_server.proofs.server.turning.tick_parts.Goals as goal
 
 pub returns-else-is_err-clause-step : goal.returns-else-is_err-clause-step

@@ -1,8 +1,8 @@
 use Rattle.std.proofs.Common.{rules, ap}
 use Rattle.coap_types.specs.CoapOption.{options_of}
 use Rattle.coap_resource.specs.Serves.{Question}
-use Rattle.coap_server.specs.ServerObject.ServerShown.{seen, state_of}
-use Rattle.coap_server.proofs.ServerCalls.RequestIsHandled.{refused, continued, completed}
+use Rattle.coap_server.specs.Object.Shown.{seen, state_of}
+use Rattle.coap_server.proofs.Calls.RequestIsHandled.{refused, continued, completed}
 use Rattle.coap_server.proofs.server.uploading.handle_block.Goals as goal
 
 pub returns-in-Refused-clause-handled : goal.returns-in-Refused-clause-handled

@@ -1,5 +1,5 @@
 use Rattle.std.proofs.Common.{[], subst}
-use Rattle.coap_client.specs.ClientSide.ClientStep.{Led}
+use Rattle.coap_client.specs.Led.{Led}
 use Rattle.coap_world.specs.Events.{server_end, Config}
 use Rattle.coap_world.proofs.running.begin.client_of.Goals as goal
 

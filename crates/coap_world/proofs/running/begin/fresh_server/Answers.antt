@@ -1,6 +1,6 @@
 use Rattle.std.proofs.Common.{[], subst}
-use Rattle.coap_server.specs.ServerObject.ServerShown.{state_of}
-use Rattle.coap_server.specs.ServerSide.ServerLed.{Led}
+use Rattle.coap_server.specs.Object.Shown.{state_of}
+use Rattle.coap_server.specs.Led.{Led}
 use Rattle.coap_world.specs.Events.{Config}
 use Rattle.coap_world.proofs.running.begin.fresh_server.Goals as goal
 

@@ -1,9 +1,9 @@
 use Rattle.std.proofs.Common.{◌≤◌, ◌-◌, ◌∷◌, Err, length, drop, is_ok, sym, ap, subst, ◌∙◌, arith}
 use Rattle.std.proofs.lemmas.List.{length-map}
-use Rattle.coap_server.specs.ServerObject.ServerShown.{delay_as, state_of}
-use Rattle.coap_server.specs.ServerSide.ServerDeferring.{may_delay}
-use Rattle.coap_server.specs.ServerSide.ServerLed.{Led}
-use Rattle.coap_server.specs.ServerSide.ServerTrace.{Own, Delays}
+use Rattle.coap_server.specs.Object.Shown.{delay_as, state_of}
+use Rattle.coap_server.specs.Deferring.{may_delay}
+use Rattle.coap_server.specs.Led.{Led}
+use Rattle.coap_server.specs.Trace.{Own, Delays}
 use Rattle.coap_server.specs.declared.limits.TheConstants.{MAX_DELAYS as max_delays}
 use Rattle.coap_world.specs.Events.{Config}
 use Rattle.coap_world.specs.Run.Configs.{gives}

@@ -1,5 +1,5 @@
 use Rattle.std.proofs.Common.{refl}
-use Rattle.coap_client.specs.ClientSide.ClientTrace.{NextOut}
+use Rattle.coap_client.specs.Trace.{NextOut}
 use Rattle.coap_world.specs.Record.{OfClient}
 use Rattle.coap_world.specs.Run.Ends.{ClientLed}
 use Rattle.coap_world.specs.Run.Turning.{of_client}

@@ -1,6 +1,6 @@
 use Rattle.std.proofs.Common.{refl}
-use Rattle.coap_client.specs.ClientObject.ClientShown.{shown_reported}
-use Rattle.coap_client.specs.ClientSide.ClientTrace.{NextReport}
+use Rattle.coap_client.specs.Object.Shown.{shown_reported}
+use Rattle.coap_client.specs.Trace.{NextReport}
 use Rattle.coap_world.specs.Record.{OfClient}
 use Rattle.coap_world.specs.Run.Ends.{ClientLed}
 use Rattle.coap_world.specs.Run.Turning.{of_client}

@@ -1,7 +1,7 @@
 use Rattle.std.proofs.Common.{refl, subst}
-use Rattle.coap_server.specs.ServerObject.ServerShown.{state_of}
-use Rattle.coap_server.specs.ServerSide.ServerLed.{Step}
-use Rattle.coap_server.specs.ServerSide.ServerTrace.{NextOut}
+use Rattle.coap_server.specs.Object.Shown.{state_of}
+use Rattle.coap_server.specs.Led.{Step}
+use Rattle.coap_server.specs.Trace.{NextOut}
 use Rattle.coap_world.specs.Record.{OfServer}
 use Rattle.coap_world.specs.Run.Ends.{ServerLed}
 use Rattle.coap_world.specs.Run.Log.{server_lines}

@@ -1,5 +1,5 @@
 use Rattle.std.proofs.Common.{ℕ, List, Option, Some, map, length}
-use Rattle.coap_server.specs.ServerSide.ServerTrace.{NextOut}
+use Rattle.coap_server.specs.Trace.{NextOut}
 use Rattle.coap_world.specs.Record.{OfServer}
 use Rattle.coap_world.specs.Run.Acts.{Acts}
 use Rattle.coap_world.specs.Run.Ends.{ServerLed}

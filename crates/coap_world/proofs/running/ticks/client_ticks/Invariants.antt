@@ -1,6 +1,6 @@
 use Rattle.std.proofs.Common.{List, true}
 use Rattle.coap_types.specs.Past.{Always}
-use Rattle.coap_client.specs.ClientTurns.ClientWork.{work}
+use Rattle.coap_client.specs.Turns.Work.{work}
 use Rattle.coap_world.specs.Record.{ClientTick}
 use Rattle.coap_world.specs.Run.Acts.{Moves}
 use Rattle.coap_world.specs.Run.Ends.{ClientLed}

@@ -1,5 +1,5 @@
-use Rattle.coap_server.specs.ServerObject.ServerShown.{state_of}
-use Rattle.coap_server.specs.ServerTurns.ServerWork.{work}
+use Rattle.coap_server.specs.Object.Shown.{state_of}
+use Rattle.coap_server.specs.Turns.Work.{work}
 use Rattle.coap_world.specs.Record.{OfServer, ServerTick}
 use Rattle.coap_world.specs.Run.Ends.{ServerLed}
 use Rattle.coap_world.specs.Run.Log.{server_lines}

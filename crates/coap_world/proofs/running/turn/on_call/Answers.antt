@@ -1,5 +1,5 @@
 use Rattle.std.proofs.Common.{ap}
-use Rattle.coap_client.specs.ClientObject.CallShown.{shown_request}
+use Rattle.coap_client.specs.Object.CallShown.{shown_request}
 use Rattle.coap_world.proofs.Recording.EachTurn.{called}
 use Rattle.coap_world.proofs.running.turn.on_call.Goals as goal
 

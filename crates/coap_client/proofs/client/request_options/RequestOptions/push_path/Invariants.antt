@@ -1,6 +1,6 @@
 use Rattle.std.proofs.Common.{◌≡◌, ◌+◌, ◌++◌, drop, length}
 use Rattle.coap_types.specs.Path.{segments_of}
-use Rattle.coap_client.specs.ClientSide.ClientRequests.{path_options}
+use Rattle.coap_client.specs.Requests.{path_options}
 use Rattle.coap_client.proofs.client.request_options.RequestOptions.push_path.Given as goal
 
 abbrev pub invariant-loop-segment : goal.invariant-loop-segment

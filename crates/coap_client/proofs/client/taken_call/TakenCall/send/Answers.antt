@@ -2,9 +2,9 @@ use Rattle.std.proofs.Common.{◌≤◌, None, [], ◌++◌, ap, length, sym, su
 use Rattle.coap_types.specs.MethodCode.{method_code}
 use Rattle.coap_types.specs.OptionValues.{option_with}
 use Rattle.coap_exchange.specs.Machine.AskerShown.{IsAskable}
-use Rattle.coap_client.specs.ClientSide.ClientRequests.{block_option, options_of}
-use Rattle.coap_client.specs.ClientObject.CallShown.{shown_request, shown_transfer}
-use Rattle.coap_client.proofs.ClientCalls.AskableRequests.{call_askable, ranges_of}
+use Rattle.coap_client.specs.Requests.{block_option, options_of}
+use Rattle.coap_client.specs.Object.CallShown.{shown_request, shown_transfer}
+use Rattle.coap_client.proofs.Calls.AskableRequests.{call_askable, ranges_of}
 use Rattle.coap_client.proofs.client.taken_call.TakenCall.send.Goals as goal
 
 pub ask-requires : goal.ask-requires

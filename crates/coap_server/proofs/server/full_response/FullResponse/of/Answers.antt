@@ -1,4 +1,4 @@
-use Rattle.coap_server.proofs.ServerCalls.ShortResponses.{short_response, at_most, above_none}
+use Rattle.coap_server.proofs.Calls.ShortResponses.{short_response, at_most, above_none}
 use Rattle.coap_server.proofs.server.full_response.FullResponse.of.Goals as goal
 
 pub invariant_of-result : goal.invariant_of-result

@@ -1,5 +1,5 @@
 use Rattle.std.proofs.Common.{rules}
-use Rattle.coap_server.proofs.ServerCalls.ShortResponses.{sendable_as}
+use Rattle.coap_server.proofs.Calls.ShortResponses.{sendable_as}
 use Rattle.coap_server.proofs.server.full_response.FullResponse.with.Goals as goal
 
 pub returns-clause-sendable : goal.returns-clause-sendable

@@ -1,9 +1,0 @@
-pub mod Adds
-pub mod ClientGoing
-pub mod ClientReplies
-pub mod ComesUp
-pub mod Comparisons
-pub mod Ending
-pub mod FirstOut
-pub mod LastStep
-pub mod StepsDue

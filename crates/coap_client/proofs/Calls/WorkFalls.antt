@@ -1,0 +1,380 @@
+-- A tick of a client that does something leaves less to be done at its moment.
+use Rattle.std.proofs.Common.{◌≡◌, ◌≤◌, ◌<◌, inl, inr, ◌⊎◌, ℕ, ◌+◌, ◌*◌, max, Bool, true, false, not, ◌&&◌, cond}
+use Rattle.std.proofs.Common.{Option, Some, None, is_some, List, [], ◌∷◌, ◌++◌, length, filter, Result, Ok, Err, IfOk}
+use Rattle.std.proofs.Common.{refl, ap, sym, subst, ◌∙◌, arith}
+use Rattle.std.specs.Prelude.{◌==◌}
+use Rattle.std.specs.Cmp.{unsigned_Decides}
+use Rattle.std.proofs.lemmas.List.Sums.{length-filter, count_by-le-length}
+use Rattle.coap_layer.specs.Machine.State as S
+use Rattle.coap_layer.specs.Trace as L
+use Rattle.coap_layer.proofs.Facts.CallsOfLayer.{step_clock}
+use Rattle.coap_exchange.specs.declared.asker.AskRefusal.{AskRefusal}
+use Rattle.coap_exchange.specs.declared.asker.Exchange.{Exchange}
+use Rattle.coap_exchange.specs.declared.asker.Turn.{Turn}
+use Rattle.coap_exchange.specs.declared.asker.Turn.TheVariants as turn
+use Rattle.coap_exchange.specs.AskerTrace as E
+use Rattle.coap_exchange.specs.AskerRequests as Q
+use Rattle.coap_exchange.specs.AskerLaw as X
+use Rattle.coap_exchange.proofs.Facts.ClientSide.{exchanged_split}
+use Rattle.coap_common.specs.StepsDue.{one_if, due_count}
+use Rattle.coap_client.specs.Trace.{Report, NoIds, Ticks}
+use Rattle.coap_client.specs.Own.{Transfer, Operation, Calling, Registering, Fetching, Cancelling}
+use Rattle.coap_client.specs.Own.{Dropped, Observation, Own}
+use Rattle.coap_client.specs.Observations.{is_cancel_of, to_fetch, with_rest}
+use Rattle.coap_client.specs.Effects.{Deed, Rests, Asks, Keeps, Releases, Effect, stays, runs}
+use Rattle.coap_client.specs.Effects.{is_upload}
+use Rattle.coap_client.specs.Effects.{has_sent}
+use Rattle.coap_client.specs.Events.{closed, failed, idle, is_held, is_upload_op, passes, starts}
+use Rattle.coap_client.specs.Reports.{lapse}
+use Rattle.coap_client.specs.Requests.{message_of}
+use Rattle.coap_client.specs.Deeds.{at, close, deeds}
+use Rattle.coap_client.specs.Steps.{asks}
+use Rattle.coap_client.specs.Led.{State, Step}
+use Rattle.coap_client.specs.Turns.Work.{awaits_fetch, is_fetched, to_begin, work}
+use Rattle.coap_client.proofs.Rest.ExchangeTurns.{IsTaken, opened_least, turn_taken}
+use Rattle.coap_common.proofs.Facts.StepsDue.{is_step, ticks_least, ticks_fewer}
+use Rattle.coap_client.proofs.Uploading.Holding.{passes_steady, steadied}
+use Rattle.coap_client.proofs.Calls.Happening.{AsksNothing}
+use Rattle.coap_client.proofs.Calls.PassingLemmas.{fails_silently}
+
+-- how many observations wait to be fetched
+
+abbrev fetches : Option Operation → List Observation → ℕ
+fetches running os = length (filter (awaits_fetch running) os)
+
+-- .. where one is fetched
+fewer_wait : (running : Option Operation) (os : List Observation) → fetches running os ≤ fetches None os
+fewer_wait running [] = omega arith
+fewer_wait running (o ∷ os) = by (is_some o.rest) (is_fetched running o) (fewer_wait running os)
+  where
+    by : (r f : Bool) → fetches running os ≤ fetches None os
+        → length (cond (r && not f) (o ∷ filter (awaits_fetch running) os) (filter (awaits_fetch running) os))
+        ≤ length (cond (r && not false) (o ∷ filter (awaits_fetch None) os) (filter (awaits_fetch None) os))
+    by true true h = omega (arith, h)
+    by true false h = omega (arith, h)
+    by false f h = h
+
+-- .. the first for which something is to be fetched
+fetched_fewer : (os : List Observation) (number : ℕ) → to_fetch os ≡ Some number
+    → fetches (Some (Fetching number)) os + 1 ≤ fetches None os
+fetched_fewer [] number h = absurd (cc h)
+fetched_fewer (o ∷ os) number h = by (is_some o.rest) h (fetched_fewer os number)
+  where
+    left : List Observation
+    left = filter (awaits_fetch (Some (Fetching number))) os
+
+    all : List Observation
+    all = filter (awaits_fetch None) os
+
+    by : (r : Bool) → cond r (Some o.number) (to_fetch os) ≡ Some number
+        → (to_fetch os ≡ Some number → length left + 1 ≤ length all)
+        → length (cond (r && not (o.number == number)) (o ∷ left) left) + 1
+        ≤ length (cond (r && not false) (o ∷ all) all)
+    by true e f =
+        let same : (o.number == number) ≡ true = (unsigned_Decides o.number number).1 (cc e) in
+        let k = fewer_wait (Some (Fetching number)) os in
+        subst (λ b. length (cond (not b) (o ∷ left) left) + 1 ≤ length (o ∷ all)) (sym same) (omega (arith, k))
+    by false e f = f e
+
+-- .. where that fetch is over
+fetch_over_least : (number : ℕ) (os : List Observation)
+    → fetches None (with_rest number None os) ≤ fetches (Some (Fetching number)) os
+fetch_over_least number [] = omega arith
+fetch_over_least number (o ∷ os) = by (o.number == number) (is_some o.rest) refl (fetch_over_least number os)
+  where
+    left : List Observation
+    left = filter (awaits_fetch None) (with_rest number None os)
+
+    all : List Observation
+    all = filter (awaits_fetch (Some (Fetching number))) os
+
+    both : (r : Bool) → length left ≤ length all
+        → length (cond (r && not false) (o ∷ left) left) ≤ length (cond (r && not false) (o ∷ all) all)
+    both true h = omega (arith, h)
+    both false h = h
+
+    by : (b r : Bool) → is_some o.rest ≡ r → length left ≤ length all
+        → length (cond (is_some (cond b (record o { rest = None }) o).rest && not false)
+        (cond b (record o { rest = None }) o ∷ left) left) ≤ length (cond (r && not b) (o ∷ all) all)
+    by true true e h = h
+    by true false e h = h
+    by false r e h = subst (λ q. length (cond (q && not false) (o ∷ left) left)
+        ≤ length (cond (r && not false) (o ∷ all) all)) (sym e) (both r h)
+
+-- .. of some of the observations
+some_least : (p : Observation → Bool) (running : Option Operation) (os : List Observation)
+    → fetches running (filter p os) ≤ fetches running os
+some_least p running [] = omega arith
+some_least p running (o ∷ os) = by (p o) (awaits_fetch running o) refl (some_least p running os)
+  where
+    left : List Observation
+    left = filter (awaits_fetch running) (filter p os)
+
+    all : List Observation
+    all = filter (awaits_fetch running) os
+
+    by : (b w : Bool) → awaits_fetch running o ≡ w → length left ≤ length all
+        → length (filter (awaits_fetch running) (cond b (o ∷ filter p os) (filter p os)))
+        ≤ length (cond w (o ∷ all) all)
+    by true true e h = subst (λ q. length (cond q (o ∷ left) left) ≤ length (o ∷ all)) (sym e) (omega (arith, h))
+    by true false e h = subst (λ q. length (cond q (o ∷ left) left) ≤ length all) (sym e) h
+    by false true e h = omega (arith, h)
+    by false false e h = h
+
+fewer_pass : {A : Type 0} (p : A → Bool) (xs : List A) → length (filter p xs) ≤ length xs
+fewer_pass p xs = let a = length-filter p xs in let b = count_by-le-length p xs in omega (arith, a, b)
+
+-- what has not begun, where that runs
+abbrev left_by : Option Operation → Own → ℕ
+left_by running s = length s.queue + fetches running s.observations
+
+-- a failure begins nothing
+failed_least : (u : Transfer → Bool) (report : Report) (s : Own) (running : Option Operation)
+    → to_begin (failed u report s running).own ≤ left_by running s
+failed_least u report s None = let k = fewer_wait s.running s.observations in omega (arith, k)
+failed_least u report s (Some (Calling number r t)) = by (u t && is_upload t)
+  where
+    by : (b : Bool) → to_begin (record (cond b (record s { hold = Some s.sent }) s) { running = None }) ≤ left_by None s
+    by true = omega arith
+    by false = omega arith
+failed_least u report s (Some (Registering number path)) = omega arith
+failed_least u report s (Some (Fetching number)) = let k = fetch_over_least number s.observations in omega (arith, k)
+failed_least u report s (Some (Cancelling number)) =
+    let a = fewer_pass (λ op. not (is_cancel_of number op)) s.queue in
+    let b = some_least (λ o. not (o.number == number)) None s.observations in
+    omega (arith, a, b)
+failed_least u report s (Some Dropped) = omega arith
+
+-- .. nor does a request, beside the operation that runs
+asked_least : (m : ℕ) (op : Operation) (s : Own) (token : Result (List ℕ) AskRefusal)
+    → to_begin (closed m (runs op s) (Asks op) token).own ≤ left_by (Some op) s
+asked_least m op s (Ok token) = omega arith
+asked_least m op s (Err why) = failed_least has_sent NoIds (runs op s).own (Some op)
+
+-- what begins at a tick
+
+abbrev LessBegins : ℕ → Effect → Result (List ℕ) AskRefusal → ℕ → Type 0
+LessBegins m e token n = asks e.deed ≡ true → to_begin (closed m e e.deed token).own + 1 ≤ n
+
+starts_fewer : (m now : ℕ) (s : Own) (token : Result (List ℕ) AskRefusal) (q : List Operation)
+    → LessBegins m (starts s now q) token (length q + fetches None s.observations)
+starts_fewer m now s token [] h = absurd (cc h)
+starts_fewer m now s token (op ∷ q) h = by (is_upload_op op && is_held s now) h
+  where
+    by : (b : Bool) → LessBegins m (cond b (stays s) (runs op (record s { queue = q }))) token
+        (length (op ∷ q) + fetches None s.observations)
+    by true h = absurd (cc h)
+    by false h = let k = asked_least m op (record s { queue = q }) token in let f =
+        fewer_wait (Some op) s.observations in omega (arith, k, f)
+
+idle_fewer : (m : ℕ) (s : Own) (token : Result (List ℕ) AskRefusal) (running : Option Operation) (number : Option ℕ)
+    → to_fetch s.observations ≡ number → LessBegins m (idle s m running number) token (left_by running s)
+idle_fewer m s token (Some op) number is h = absurd (cc h)
+idle_fewer m s token None (Some number) is h = let k = asked_least m (Fetching number) s token in let f =
+    fetched_fewer s.observations number is in omega (arith, k, f)
+idle_fewer m s token None None is h = starts_fewer m m s token s.queue h
+
+-- where no request is asked for
+
+silent_deed : (m : ℕ) (e : Effect) (token : Result (List ℕ) AskRefusal) (d : Deed) → e.deed ≡ d → AsksNothing d
+    → (closed m e d token).deed ≡ Rests
+silent_deed m e token Rests is n = is
+silent_deed m e token (Keeps t) is n = refl
+silent_deed m e token (Releases t) is n = refl
+silent_deed m e token (Asks op) is n = absurd n
+
+silent_own : (m : ℕ) (e : Effect) (token : Result (List ℕ) AskRefusal) (d : Deed) → AsksNothing d
+    → (closed m e d token).own ≡ e.own
+silent_own m e token Rests n = refl
+silent_own m e token (Keeps t) n = refl
+silent_own m e token (Releases t) n = refl
+silent_own m e token (Asks op) n = absurd n
+
+-- what is asked of the exchanges has no step due
+
+record Least (m : ℕ) (s t : S.State) : Type 0 where
+  clock : max t.clock m ≡ max s.clock m
+  least : due_count (max s.clock m) t.open_cons ≤ due_count (max s.clock m) s.open_cons
+
+same_least : (m : ℕ) (s t : S.State) → t ≡ s → Least m s t
+same_least m s t is = subst (Least m s) (sym is) (record { clock = refl; least = omega arith })
+
+then_least : (m : ℕ) (s t u : S.State) → Least m s t → Least m t u → Least m s u
+then_least m s t u h k =
+    let later : due_count (max s.clock m) u.open_cons ≤ due_count (max s.clock m) t.open_cons =
+    subst (λ n. due_count n u.open_cons ≤ due_count n t.open_cons) h.clock k.least in
+    let first = h.least in
+    record { clock = k.clock ∙ h.clock; least = omega (arith, later, first) }
+
+module _ (m w : ℕ) (sent : L.Answer) (token : Result (List ℕ) AskRefusal) (kept : Bool) where
+  abbrev Done : Deed → Own → X.State → X.State → Type 0
+  Done d o x y = X.Exchanged x (deeds d o m w sent token kept) y
+
+  deed_least : (d : Deed) (o : Own) (x y : X.State) → Done d o x y → Least m x.layer y.layer
+  deed_least Rests o x y h = same_least m x.layer y.layer (ap (λ (z : X.State). z.layer) h)
+  deed_least (Keeps t) o x y h = same_least m x.layer y.layer (h.2.under ∙ ap (λ (z : X.State). z.layer) h.1)
+  deed_least (Releases t) o x y h = same_least m x.layer y.layer (h.2.under ∙ ap (λ (z : X.State). z.layer) h.1)
+  deed_least (Asks op) o x y h =
+      let under = h.2.under in
+      let r = message_of o.observations op in
+      let e = h.0.own in
+      let k = opened_least under.0 y.layer m (Q.opening_of e r) e.server
+      (Q.content_of (Q.request_token e r) r) w sent under.2 in
+      let clock = k.0 in
+      let same = k.1 in
+      subst (λ s. Least m s y.layer) (under.1 ∙ ap (λ (z : X.State). z.layer) h.1)
+      (record { clock = omega (arith, clock); least = omega (arith, same) })
+
+  silent_runs : (d : Deed) (o : Own) (x y : X.State) → AsksNothing d → Done d o x y → y.own.running ≡ x.own.running
+  silent_runs Rests o x y n h = ap (λ (z : X.State). z.own.running) h
+  silent_runs (Keeps t) o x y n h = ap (λ (e : E.Own). e.running) h.2.own_is ∙ ap (λ (z : X.State). z.own.running) h.1
+  silent_runs (Releases t) o x y n h = ap (λ (e : E.Own). e.running) h.2.own_is
+      ∙ ap (λ (z : X.State). z.own.running) h.1
+  silent_runs (Asks op) o x y n h = absurd n
+
+abbrev running : Option Exchange → ℕ
+running o = one_if (is_some o)
+
+one_at_most : (o : Option Exchange) → running o ≤ 1
+one_at_most None = omega arith
+one_at_most (Some x) = omega arith
+
+-- a tick
+
+module _ (old new : State) (now w : ℕ) (below : L.Answer) (sent : L.Answer) (token : Result (List ℕ) AskRefusal)
+    (kept : Bool) where
+  abbrev m : ℕ
+  m = max old.own.clock now
+
+  abbrev effect : Turn → Effect
+  effect d = passes (at now old.own) m d
+
+  abbrev closing : Turn → Effect
+  closing d = close m (effect d) token
+
+  abbrev Ticked : Turn → Type 0
+  Ticked d = Step old (Ticks now w below d sent token kept true) new
+
+  -- what is due at this moment
+  abbrev due : S.State → ℕ
+  due s = due_count (max old.layer.layer.clock m) s.open_cons
+
+  record Parts (d : Turn) : Type 0 where
+    ticked : X.State
+    between : X.State
+    tick : X.Step old.layer (E.Ticks m below d) ticked
+    first : Done m w sent token kept (effect d).deed (effect d).own ticked between
+    last : Done m w sent token kept (closing d).deed (closing d).own between new.layer
+
+  parts : (d : Turn) → Ticked d → Parts d
+  parts d step =
+      let first = deeds (effect d).deed (effect d).own m w sent token kept in
+      let last = deeds (closing d).deed (closing d).own m w sent token kept in
+      let k = exchanged_split old.layer new.layer last (first ++ E.Ticks m below d ∷ []) step.under in
+      let j = exchanged_split old.layer k.0 first (E.Ticks m below d ∷ []) k.1 in
+      record {
+        ticked = j.0;
+        between = k.0;
+        tick = subst (λ x. X.Step x (E.Ticks m below d) j.0) j.1.1 j.1.2;
+        first =
+            j.2;
+        last = k.2;
+      }
+
+  begin_is : (d : Turn) → Ticked d → to_begin new.own ≡ to_begin (closing d).own
+  begin_is d step = ap to_begin step.own_is
+
+  -- CONs with a step due
+  record Takes (d : Turn) : Type 0 where
+    now_due : work new now ≡ due new.layer.layer + (running new.layer.own.running + 2 * to_begin new.own)
+    least : due new.layer.layer ≤ due old.layer.layer
+    fewer : is_step below ≡ true → due new.layer.layer < due old.layer.layer
+
+  takes : (d : Turn) → Ticked d → Parts d → Takes d
+  takes d step p =
+      let under = p.tick.under in
+      let tick : S.Step old.layer.layer m L.Ticks below p.ticked.layer =
+      subst (λ s. S.Step s m L.Ticks below p.ticked.layer) under.1 under.2 in
+      let clock = step_clock old.layer.layer p.ticked.layer m L.Ticks below tick in
+      let rest = then_least m p.ticked.layer p.between.layer new.layer.layer
+      (deed_least m w sent token kept (effect d).deed (effect d).own p.ticked p.between p.first)
+      (deed_least m w sent token kept (closing d).deed (closing d).own p.between new.layer p.last) in
+      let own : new.own.clock ≡ m = ap (λ (s : Own). s.clock) step.own_is
+      ∙ (steadied (at now old.own) m (effect d) token (effect d).deed refl
+      (passes_steady (at now old.own) m d)).clock in
+      let later = rest.clock in
+      let ticked_at : max p.ticked.layer.clock m ≡ max old.layer.layer.clock m = omega (arith, clock) in
+      let moment : max new.layer.layer.clock (max new.own.clock now) ≡ max old.layer.layer.clock m =
+      omega (arith, own, later, ticked_at) in
+      let behind : due new.layer.layer ≤ due p.ticked.layer =
+      subst (λ n. due_count n new.layer.layer.open_cons ≤ due_count n p.ticked.layer.open_cons) ticked_at rest.least
+      in
+      let first = ticks_least old.layer.layer p.ticked.layer m below tick in
+      record {
+        now_due = ap (λ n. due_count n new.layer.layer.open_cons
+            + (running new.layer.own.running + 2 * to_begin new.own)) moment;
+        least = omega (arith, behind, first);
+        fewer = λ is. (let less = ticks_fewer old.layer.layer p.ticked.layer m below tick is in
+            omega (arith, behind, less));
+      }
+
+  -- .. where no request is asked for
+  runs_still : (d : Turn) → AsksNothing (effect d).deed → (p : Parts d) → new.layer.own.running ≡ p.ticked.own.running
+  runs_still d n p =
+      silent_runs m w sent token kept (closing d).deed (closing d).own p.between new.layer
+      (subst AsksNothing (sym (silent_deed m (effect d) token (effect d).deed refl n)) tt) p.last
+      ∙ silent_runs m w sent token kept (effect d).deed (effect d).own p.ticked p.between n p.first
+
+  by_turn : (d : Turn) → Ticked d → (p : Parts d) → Takes d → work new now < work old now
+  by_turn turn.Idle step p k =
+      let less = idle_fewer m (at now old.own) token old.own.running (to_fetch old.own.observations) refl
+      (sym step.right) in
+      let begin = begin_is turn.Idle step in
+      let is = k.now_due in
+      let least = k.least in
+      let few = one_at_most new.layer.own.running in
+      omega (arith, less, begin, is, least, few)
+  by_turn turn.Copied step p k =
+      let begin = begin_is turn.Copied step in
+      let is = k.now_due in
+      let fewer = k.fewer (subst (λ t. IsTaken t below old.layer.own.running) (sym p.tick.right)
+      (turn_taken old.layer.own (max old.layer.own.clock m) below)) in
+      let same = ap running (runs_still turn.Copied tt p ∙ ap (λ (e : E.Own). e.running) p.tick.own_is) in
+      omega (arith, begin, is, fewer, same)
+  by_turn (turn.End e) step p k = by (subst (λ t. IsTaken t below old.layer.own.running) (sym p.tick.right)
+      (turn_taken old.layer.own (max old.layer.own.clock m) below))
+    where
+      silent : AsksNothing (effect (turn.End e)).deed
+      silent = fails_silently (λ t. true) (lapse e) (at now old.own) old.own.running
+
+      over : running new.layer.own.running ≡ 0
+      over = ap running (runs_still (turn.End e) silent p ∙ ap (λ (x : E.Own). x.running) p.tick.own_is)
+
+      begin : to_begin new.own ≤ to_begin old.own
+      begin =
+          let a = begin_is (turn.End e) step in
+          let b = ap to_begin (silent_own m (effect (turn.End e)) token (effect (turn.End e)).deed silent) in
+          let c = failed_least (λ t. true) (lapse e) (at now old.own) old.own.running in
+          omega (arith, a, b, c)
+
+      by : (is_step below ≡ true) ⊎ (is_some old.layer.own.running ≡ true) → work new now < work old now
+      by (inl is) = let fewer = k.fewer is in let a = over in let b = begin in let n = k.now_due in
+          omega (arith, fewer, a, b, n)
+      by (inr some) = let least = k.least in let one = ap one_if some in let a = over in let b = begin in let n =
+          k.now_due in omega (arith, least, one, a, b, n)
+
+  pub work_falls : (d : Turn) → Ticked d → work new now < work old now
+  work_falls d step = let p = parts d step in by_turn d step p (takes d step p)
+
+-- .. as contracts say it
+
+abbrev TickedSo : State → ℕ → ℕ → State → Bool → Type 0
+TickedSo old now w new did =
+    (below : L.Answer) × (d : Turn) × (sent : L.Answer) × (token : Result (List ℕ) AskRefusal) × (kept : Bool)
+    × Step old (Ticks now w below d sent token kept did) new
+
+pub ticks_fall : {Y : Type 0} (r : Result Bool Y) (old new : State) (now w : ℕ)
+    → IfOk r (λ did. TickedSo old now w new did) → r ≡ Ok true → work new now < work old now
+ticks_fall (Ok true) old new now w s e = work_falls old new now w s.0 s.2 s.3 s.4 s.1 s.5
+ticks_fall (Ok false) old new now w s e = absurd (cc e)
+ticks_fall (Err x) old new now w s e = absurd (cc e)

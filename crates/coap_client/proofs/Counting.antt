@@ -1,0 +1,3 @@
+pub mod AsksOnce
+pub mod Beyond
+pub mod Bounds

@@ -1,0 +1,462 @@
+-- How many requests a call sends at most.
+use Rattle.std.proofs.Common.{◌≡◌, ◌≤◌, ◌⊎◌, inl, inr, ℕ, ◌+◌, max, Bool, true, false, cond, not, ◌&&◌, nat_lt, Option}
+use Rattle.std.proofs.Common.{Some, None, List, [], ◌∷◌, length, refl, ap, sym, subst, ◌∙◌, Result, Ok, Err, arith}
+use Rattle.std.specs.Prelude.{◌==◌}
+use Rattle.std.proofs.lemmas.Bool.{and_parts}
+use Rattle.coap_types.specs.Past.{Ever}
+use Rattle.coap_types.proofs.Facts.Traces.{Ever_map}
+use Rattle.coap_types.specs.declared.block.Block.{Block}
+use Rattle.coap_types.specs.declared.endpoint.Endpoint.{Endpoint}
+use Rattle.coap_types.specs.declared.limits.TheConstants.{MAX_BODY_LEN as max_body}
+use Rattle.coap_types.specs.declared.option_number.TheConstants.{BLOCK1 as block1}
+use Rattle.coap_types.specs.declared.request.Method.{Method}
+use Rattle.coap_types.specs.declared.request.Method.TheVariants.{Get, Post, Put, Delete}
+use Rattle.coap_types.specs.Piece.{size_of}
+use Rattle.coap_codec.specs.Message.{Message}
+use Rattle.coap_block.specs.declared.fetch_verdict.Verdict.{Verdict}
+use Rattle.coap_block.specs.declared.fetch_verdict.Verdict.TheVariants as verdict
+use Rattle.coap_block.specs.FetchStep.{FetchState}
+use Rattle.coap_block.specs.FetchStep as F
+use Rattle.coap_block.specs.UploadStep.{UploadState, more_follows, continues, moved}
+use Rattle.coap_exchange.specs.declared.asker.AskRefusal.{AskRefusal}
+use Rattle.coap_exchange.specs.declared.asker.Event.{Event}
+use Rattle.coap_client.specs.declared.refusals.CallRefusal.TheVariants.{QueueFull, BodyTooLarge, BadPath}
+use Rattle.coap_client.specs.Trace.{Request, Report, Valid, Failed, BadBlock, NoIds, Reported, Call}
+use Rattle.coap_client.specs.Trace.{Calls, Observes, Cancels, Forgets, Feeds, Ticks, NextOut}
+use Rattle.coap_client.specs.Trace.{NextReport}
+use Rattle.coap_client.specs.Trace.{Asked}
+use Rattle.coap_client.specs.Own.{Transfer, Fetches, Uploads, Single, Operation, Calling, Registering}
+use Rattle.coap_client.specs.Own.{Fetching, Cancelling, Dropped, Own}
+use Rattle.coap_client.specs.Requests.{options_of, is_longer}
+use Rattle.coap_client.specs.Responses.{content, valid, continue, tag_in, block_at, part}
+use Rattle.coap_client.specs.Reports.{lapse, done}
+use Rattle.coap_client.specs.Calls.{answer, has_tags}
+use Rattle.coap_client.specs.Calls as calls
+use Rattle.coap_client.specs.Queue.{are_long, block_option_number, is_full, taken_by, call_answer}
+use Rattle.coap_client.specs.Queue.{transfer_of, calling}
+use Rattle.coap_client.specs.Effects.{Effect, ends, of, is_upload, has_sent}
+use Rattle.coap_client.specs.Events.{failed, happened, passes, closed}
+use Rattle.coap_client.specs.Deeds.{at}
+use Rattle.coap_client.specs.Steps.{IsRight}
+use Rattle.coap_client.specs.Law.{ClientLaw, ClientRows, own_of}
+use Rattle.coap_client.specs.Follows.Order.{call_of, turn_of}
+use Rattle.coap_client.specs.Follows.Begins.{WasSent}
+use Rattle.coap_client.specs.Follows.Numbers.{number_given, NumbersOnce}
+use Rattle.coap_client.specs.Follows.Words.{Taken, takes, WasTaken, Sending, sends}
+use Rattle.coap_client.specs.Turns.Moves as mv
+use Rattle.coap_client.specs.Turns.Moves.{Move, left_by}
+use Rattle.coap_client.specs.Turns.Closing.{Closing, quiet, goes_out, is_refused}
+use Rattle.coap_client.proofs.Places.PlaceLemmas.{same_number, number_self}
+use Rattle.coap_client.proofs.Turning.BlockByBlock.{AllOf, all_uncancelled, happened_runs, passes_runs}
+use Rattle.coap_client.proofs.Turning.Turns.{closing, Turned, fed_turned, ticked_turned}
+use Rattle.coap_client.proofs.Turning.Origins.{Origin, kept, begins, follows, origin}
+use Rattle.coap_client.proofs.Reporting.Bodies.{waits_closed}
+use Rattle.coap_client.proofs.Queueing.InTurn.{Rises, Turns, turns}
+use Rattle.coap_client.proofs.Places.Numbers.{numbers_once}
+use Rattle.coap_client.proofs.Queueing.OneByOne.{sent_now}
+use Rattle.coap_client.specs.Follows.Bounds.{most_requests, one_of, one_sent, requests, AreBounded}
+use Rattle.coap_client.proofs.Turning.AllWaiting.{all_to, all_more}
+use Rattle.coap_client.proofs.Uploading.TransferSteps.{lt_not, FetchWithin, fetch_begins, fetch_more, fetch_anew}
+use Rattle.coap_client.proofs.Uploading.TransferSteps.{fetch_bound, UploadWithin, upload_more, upload_bound}
+
+-- how far the transfer of a call is, by so many requests
+
+abbrev pub IsUploading : Method → Type 0
+IsUploading Get = ⊥
+IsUploading Post = Unit {0}
+IsUploading Put = Unit {0}
+IsUploading Delete = ⊥
+
+abbrev pub Within : ℕ → Request → Transfer → ℕ → Type 0
+Within szx q (Fetches f) n = (q.method ≡ Get) × FetchWithin f n
+Within szx q (Uploads u) n = IsUploading q.method × UploadWithin szx q.body u n
+Within szx q Single n = n ≤ 1
+
+begins_within : (szx : ℕ) (q : Request) (m : Method) (n : ℕ) → q.method ≡ m → n ≤ 1
+    → Within szx q (transfer_of szx q m) n
+begins_within szx q Get n is one = (is, fetch_begins szx n one)
+begins_within szx q Post n is one = (subst IsUploading (sym is) tt, inl (refl, one))
+begins_within szx q Put n is one = (subst IsUploading (sym is) tt, inl (refl, one))
+begins_within szx q Delete n is one = one
+
+module _ (szx : ℕ) (q r : Request) (m : Message) (next : Transfer) (n : ℕ) where
+  fetch_within : (f : FetchState) → answer r (Fetches f) m ≡ calls.Asks next → Within szx q (Fetches f) n
+      → Within szx q next (1 + n)
+  fetch_within f h w = by (m.code == content) ((m.code == valid) && has_tags r.etags) h
+    where
+      by_verdict : (v : Verdict) → part f m ≡ v → calls.fetched f m v ≡ calls.Asks next → Within szx q next (1 + n)
+      by_verdict (verdict.Refuse why) is h = absurd (cc h)
+      by_verdict verdict.Done is h = absurd (cc h)
+      by_verdict verdict.Again is h = let e : Fetches (F.after f (tag_in m) m.payload verdict.Again)
+          ≡ next = cc h in subst (λ t. Within szx q t (1 + n)) e (w.0, fetch_anew f m n is w.1)
+      by_verdict (verdict.Ask num size) is h =
+          let e : Fetches (F.after f (tag_in m) m.payload (verdict.Ask num size))
+          ≡ next = cc h in subst (λ t. Within szx q t (1 + n)) e (w.0, fetch_more f m n num size is w.1)
+
+      by : (c d : Bool) → cond c (calls.fetched f m (part f m))
+          (cond d (calls.Ends true (Valid (tag_in m))) (calls.Ends true (Failed m.code))) ≡ calls.Asks next
+          → Within szx q next (1 + n)
+      by true d h = by_verdict (part f m) refl h
+      by false true h = absurd (cc h)
+      by false false h = absurd (cc h)
+
+  upload_within : (u : UploadState) → answer r (Uploads u) m ≡ calls.Asks next → Within szx q (Uploads u) n
+      → Within szx q next (1 + n)
+  upload_within u h w = by ((m.code == continue) && is_longer u) refl (more_follows u && calls.is_below_errors m.code) h
+    where
+      step : is_longer u ≡ true → (b : Block) (c : Bool) → continues u b ≡ c
+          → cond c (calls.Asks (Uploads (moved u b))) (calls.Ends false BadBlock) ≡ calls.Asks next
+          → Within szx q next (1 + n)
+      step long b true may h = let e : Uploads (moved u b)
+          ≡ next = cc h in subst (λ t. Within szx q t (1 + n)) e (w.0, upload_more szx q.body u b n may long w.1)
+      step long b false may h = absurd (cc h)
+
+      by_block : is_longer u ≡ true → (o : Option Block) → calls.continued u o ≡ calls.Asks next
+          → Within szx q next (1 + n)
+      by_block long None h = absurd (cc h)
+      by_block long (Some b) h = step long b (continues u b) refl h
+
+      by : (b : Bool) → ((m.code == continue) && is_longer u) ≡ b → (p : Bool)
+          → cond b (calls.continued u (block_at block1 m))
+          (cond p (calls.Ends true BadBlock) (calls.Ends true (done r.method m.code))) ≡ calls.Asks next
+          → Within szx q next (1 + n)
+      by true is p h = by_block (and_parts (m.code == continue) (is_longer u) is).1 (block_at block1 m) h
+      by false is true h = absurd (cc h)
+      by false is false h = absurd (cc h)
+
+  next_within : (old : Transfer) → answer r old m ≡ calls.Asks next → Within szx q old n → Within szx q next (1 + n)
+  next_within (Fetches f) h w = fetch_within f h w
+  next_within (Uploads u) h w = upload_within u h w
+  next_within Single h w = absurd (cc h)
+
+within_bound : (szx : ℕ) (q : Request) (tr : Transfer) (n : ℕ) → length q.body ≤ 65536 → Within szx q tr n
+    → n ≤ most_requests szx q q.method
+within_bound szx q (Fetches f) n small w = subst (λ m. n ≤ most_requests szx q m) (sym w.0) (fetch_bound f n w.1)
+within_bound szx q (Uploads u) n small w = by q.method w.0
+  where
+    by : (m : Method) → IsUploading m → n ≤ most_requests szx q m
+    by Get h = absurd h
+    by Post h = upload_bound szx q.body u n small w.1
+    by Put h = upload_bound szx q.body u n small w.1
+    by Delete h = absurd h
+within_bound szx q Single n small w = by q.method
+  where
+    one : (b : Bool) → n ≤ cond b 4096 1
+    one true = omega (arith, w)
+    one false = w
+
+    by : (m : Method) → n ≤ most_requests szx q m
+    by Get = omega (arith, w)
+    by Post = one (nat_lt (size_of szx) (length q.body))
+    by Put = one (nat_lt (size_of szx) (length q.body))
+    by Delete = w
+
+-- the client's block size stays
+
+szx_held : (s : Own) (c : Bool) (report : Option Reported)
+    → (ends report (cond c (record s { hold = Some s.sent }) s)).own.szx ≡ s.szx
+szx_held s true report = refl
+szx_held s false report = refl
+
+szx_failed : (u : Transfer → Bool) (report : Report) (s : Own) (running : Option Operation)
+    → (failed u report s running).own.szx ≡ s.szx
+szx_failed u report s None = refl
+szx_failed u report s (Some (Calling k r t)) = szx_held s (u t && is_upload t) (of k report)
+szx_failed u report s (Some (Registering k path)) = refl
+szx_failed u report s (Some (Fetching k)) = refl
+szx_failed u report s (Some (Cancelling k)) = refl
+szx_failed u report s (Some Dropped) = refl
+
+szx_moves : (s : Own) (now : ℕ) (told : Option Event) (mo : Move s now told) → (left_by s now told mo).own.szx ≡ s.szx
+szx_moves s now told (mv.rests un) = refl
+szx_moves s now told (mv.copies q) = refl
+szx_moves s now told (mv.starts_next op queue none rest first q) = refl
+szx_moves s now told (mv.fetches k none rest q) = refl
+szx_moves s now told (mv.goes_on k r tr next a hears runs asks) = refl
+szx_moves s now told (mv.is_done k r tr final rep a hears runs ends_so) =
+    szx_held s (not final && is_upload tr) (of k rep)
+szx_moves s now told (mv.registers k path a hears runs note) = refl
+szx_moves s now told (mv.refuses k path a hears runs note) = refl
+szx_moves s now told (mv.fetches_on k n a num size hears runs rest code asks) = refl
+szx_moves s now told (mv.fetched k n a hears runs rest code done_so) = refl
+szx_moves s now told (mv.gives_up k a hears runs) = refl
+szx_moves s now told (mv.fetched_none k a hears runs) = refl
+szx_moves s now told (mv.cancels k a hears runs) = refl
+szx_moves s now told (mv.is_dropped a hears runs) = refl
+szx_moves s now told (mv.fails e un) = szx_failed (λ t. true) (lapse e) s s.running
+szx_moves s now told (mv.is_ended o a notes found note) = refl
+szx_moves s now told (mv.renews o a notes found note newer) = refl
+szx_moves s now told (mv.passes_by o a notes found note newer) = refl
+
+szx_closed : (now : ℕ) (e : Effect) (token : Result (List ℕ) AskRefusal) → Closing now e token
+    → (closed now e e.deed token).own.szx ≡ e.own.szx
+szx_closed now e token (quiet q none own_same report_same) = ap (λ (o : Own). o.szx) own_same
+szx_closed now e token (goes_out op key asks given sends_it own_same report_same) = ap (λ (o : Own). o.szx) own_same
+szx_closed now e token (is_refused op why asks given none all) = ap (λ (c : Effect). c.own.szx) all
+    ∙ szx_failed has_sent NoIds e.own (Some op)
+
+szx_turned : (szx : ℕ) (t : List Call) (c : Call) → Turned szx t c → (own_of szx (c ∷ t)).szx ≡ (own_of szx t).szx
+szx_turned szx t c k =
+    let m : ℕ = max (own_of szx t).clock k.now in
+    let s : Own = at k.now (own_of szx t) in
+    ap (λ (o : Own). o.szx) k.own_is ∙ (szx_closed m (left_by s m k.told k.move) k.token k.closes
+    ∙ szx_moves s m k.told k.move)
+
+szx_same : (szx : ℕ) (t : List Call) → (own_of szx t).szx ≡ szx
+szx_same szx [] = refl
+szx_same szx (c ∷ t) = by c ∙ szx_same szx t
+  where
+    by : (c : Call) → (own_of szx (c ∷ t)).szx ≡ (own_of szx t).szx
+    by (Calls now r (Ok n)) = refl
+    by (Calls now r (Err why)) = refl
+    by (Observes now path (Ok n)) = refl
+    by (Observes now path (Err why)) = refl
+    by (Cancels now k None) = refl
+    by (Cancels now k (Some why)) = refl
+    by (Forgets k was true) = refl
+    by (Forgets k was false) = refl
+    by (Feeds now from bytes w up settled event sent token was) =
+        szx_turned szx t _ (fed_turned szx t now from bytes w up settled event sent token was)
+    by (Ticks now w below turn sent token was answer) =
+        szx_turned szx t _ (ticked_turned szx t now w below turn sent token was answer)
+    by (NextOut answer) = refl
+    by (NextReport answer) = refl
+    by (Asked answer) = refl
+
+-- what waits was taken, and is at its start
+
+abbrev pub taken : ℕ → Request → Taken
+taken k q = record { number = k; request = q }
+
+abbrev Waits : ℕ → List Call → Operation → Type 0
+Waits szx t (Calling k r tr) = (q : Request) × WasTaken (taken k q) t × (length q.body ≤ 65536)
+    × (tr ≡ transfer_of szx q q.method)
+Waits szx t op = Unit {0}
+
+waits_later : (szx : ℕ) (t : List Call) (c : Call) (op : Operation) → Waits szx t op → Waits szx (c ∷ t) op
+waits_later szx t c (Calling k r tr) h = (h.0, inr h.1, h.2, h.3)
+waits_later szx t c (Registering k path) h = tt
+waits_later szx t c (Fetching k) h = tt
+waits_later szx t c (Cancelling k) h = tt
+waits_later szx t c Dropped h = tt
+
+-- a call that is taken has a body that can be joined
+body_small : (s : Own) (r : Request) (n : ℕ) → Ok n ≡ call_answer s r → length r.body ≤ 65536
+body_small s r n is = by (is_full s) (nat_lt max_body (length r.body))
+    (are_long (block_option_number r.method) (options_of r)) refl is
+  where
+    by : (a b c : Bool) → nat_lt max_body (length r.body) ≡ b
+        → Ok n ≡ cond a (Err QueueFull) (cond b (Err BodyTooLarge) (cond c (Err BadPath) (taken_by s)))
+        → length r.body ≤ 65536
+    by true b c small e = absurd (cc e)
+    by false true c small e = absurd (cc e)
+    by false false c small e = lt_not max_body (length r.body) small
+
+call_turns : (op : Operation) (k : ℕ) → call_of op ≡ Some k → turn_of op ≡ Some k
+call_turns (Calling n r t) k is = is
+call_turns (Registering n path) k is = absurd (cc is)
+call_turns (Fetching n) k is = absurd (cc is)
+call_turns (Cancelling n) k is = absurd (cc is)
+call_turns Dropped k is = absurd (cc is)
+
+pub the_call : (op : Operation) (k : ℕ) → call_of op ≡ Some k → (r : Request) × (tr : Transfer) × (op ≡ Calling k r tr)
+the_call (Calling n r t) k is = let e : n ≡ k = cc is in (r, t, ap (λ i. Calling i r t) e)
+the_call (Registering n path) k is = absurd (cc is)
+the_call (Fetching n) k is = absurd (cc is)
+the_call (Cancelling n) k is = absurd (cc is)
+the_call Dropped k is = absurd (cc is)
+
+-- counting
+
+pub at_most_one : (k : ℕ) (o : Option Sending) → one_sent k o ≤ 1
+at_most_one k None = omega arith
+at_most_one k (Some x) = by (call_of x.operation)
+  where
+    by : (o : Option ℕ) → one_of k o ≤ 1
+    by None = omega arith
+    by (Some n) = go (n == k)
+      where
+        go : (b : Bool) → cond b 1 0 ≤ 1
+        go true = omega arith
+        go false = omega arith
+
+-- a request is of this call, or of no use for it
+pub sent_or_not : (k : ℕ) (o : Option Sending)
+    → (one_sent k o ≡ 0) ⊎ ((x : Sending) × (o ≡ Some x) × (call_of x.operation ≡ Some k))
+sent_or_not k None = inl refl
+sent_or_not k (Some x) = by (call_of x.operation) refl
+  where
+    by : (o : Option ℕ) → call_of x.operation ≡ o
+        → (one_of k o ≡ 0) ⊎ ((y : Sending) × (◌≡◌ {A = Option Sending} (Some x) (Some y))
+        × (call_of y.operation ≡ Some k))
+    by None is = inl refl
+    by (Some n) is = go (n == k) refl
+      where
+        go : (b : Bool) → (n == k) ≡ b → (◌≡◌ {A = ℕ} (cond b 1 0) 0)
+            ⊎ ((y : Sending) × (◌≡◌ {A = Option Sending} (Some x) (Some y)) × (call_of y.operation ≡ Some k))
+        go true e = inr (x, refl, is ∙ ap (λ i. Some i) (same_number n k e))
+        go false e = inl refl
+
+module _ (szx : ℕ) where
+  none_sent : (k : ℕ) (t : List Call) → ((x : Sending) → WasSent szx x t → call_of x.operation ≡ Some k → ⊥)
+      → requests szx k t ≡ 0
+  none_sent k [] f = refl
+  none_sent k (c ∷ t) f =
+      elim (sent_or_not k (sends (own_of szx t) c)) [
+        | inl e ↦ (let ih = none_sent k t (λ x was. f x (inr was)) in omega (arith, e, ih))
+        | inr h ↦ absurd (f h.0 (inl h.1) h.2)
+      ]
+
+  waits_step : (t : List Call) (c : Call) → IsRight (own_of szx t) c → AllOf (Waits szx (c ∷ t)) (own_of szx t).queue
+      → AllOf (Waits szx (c ∷ t)) (own_of szx (c ∷ t)).queue
+  waits_step t (Calls now r (Ok n)) right h =
+      all_more (Waits szx (Calls now r (Ok n) ∷ t)) (own_of szx t).queue (calling (own_of szx t).szx n r) h
+      (r, inl refl, body_small (own_of szx t) r n right, ap (λ i. transfer_of i r r.method) (szx_same szx t))
+  waits_step t (Calls now r (Err why)) right h = h
+  waits_step t (Observes now path (Ok n)) right h =
+      all_more (Waits szx (Observes now path (Ok n) ∷ t)) (own_of szx t).queue (Registering n path) h tt
+  waits_step t (Observes now path (Err why)) right h = h
+  waits_step t (Cancels now k None) right h = all_more (Waits szx (Cancels now k None ∷ t)) (own_of szx t).queue
+      (Cancelling k) h tt
+  waits_step t (Cancels now k (Some why)) right h = h
+  waits_step t (Forgets k was true) right h = all_uncancelled k (Waits szx (Forgets k was true ∷ t))
+      (own_of szx t).queue h
+  waits_step t (Forgets k was false) right h = h
+  waits_step t (NextOut answer) right h = h
+  waits_step t (NextReport answer) right h = h
+  waits_step t (Asked answer) right h = h
+  waits_step t (Feeds now from bytes w up settled event sent token was) right h =
+      let s : Own = own_of szx t in
+      let m : ℕ = max s.clock now in
+      let e : Effect = happened (at now s) m event in
+      let P : Operation → Type 0 = Waits szx (Feeds now from bytes w up settled event sent token was ∷ t) in
+      waits_closed P m e token ((happened_runs (at now s) m event).waits P h) (closing m e token)
+  waits_step t (Ticks now w below turn sent token was answer) right h =
+      let s : Own = own_of szx t in
+      let m : ℕ = max s.clock now in
+      let e : Effect = passes (at now s) m turn in
+      let P : Operation → Type 0 = Waits szx (Ticks now w below turn sent token was answer ∷ t) in
+      waits_closed P m e token ((passes_runs (at now s) m turn).waits P h) (closing m e token)
+
+  all_wait : (t : List Call) → ClientRows szx t → AllOf (Waits szx t) (own_of szx t).queue
+  all_wait [] rows = tt
+  all_wait (c ∷ t) rows = waits_step t c rows.0
+      (all_to (Waits szx t) (Waits szx (c ∷ t)) (waits_later szx t c) (own_of szx t).queue (all_wait t rows.1))
+
+  -- the call that runs sent so many
+  pub record Runs (t : List Call) (k : ℕ) (tr : Transfer) : Type 0 where
+    pub request : Request
+    pub taken_it : WasTaken (taken k request) t
+    pub small : length request.body ≤ 65536
+    pub within : Within szx request tr (requests szx k t)
+
+  pub started : (t : List Call) → ClientRows szx t → (k : ℕ) (r : Request) (tr : Transfer) (queue : List Operation)
+      → (own_of szx t).queue ≡ Calling k r tr ∷ queue → requests szx k t ≡ 0
+  started t rows k r tr queue is =
+      let h : Turns szx t = turns szx t rows in
+      let w : Rises h.low (Calling k r tr ∷ queue) (own_of szx t).taken =
+      subst (λ ops. Rises h.low ops (own_of szx t).taken) is h.waits in
+      let low = w.0 in
+      none_sent k t (λ x was of_it. (let less = h.sent x k was (call_turns x.operation k of_it) in absurd
+      (omega (arith, less, low))))
+
+  runs_here : (t : List Call) (c : Call) → ClientRows szx t → (k : ℕ) (r : Request) (tr : Transfer)
+      → Origin szx t c k r tr → ((old : Transfer) → (own_of szx t).running ≡ Some (Calling k r old) → Runs t k old)
+      → Runs (c ∷ t) k tr
+  runs_here t c rows k r tr (kept runs none) ih =
+      let h = ih tr runs in
+      let same : requests szx k (c ∷ t) ≡ requests szx k t = (let e = ap (one_sent k) none in omega (arith, e)) in
+      record {
+        request = h.request;
+        taken_it = inr h.taken_it;
+        small = h.small;
+        within = subst (Within szx h.request tr) (sym same) h.within;
+      }
+  runs_here t c rows k r tr (follows old m x runs heard asks sends_it op_is) ih =
+      let h = ih old runs in
+      let one : one_sent k (sends (own_of szx t) c) ≡ 1 = ap (one_sent k) sends_it
+      ∙ (ap (λ op. one_of k (call_of op)) op_is ∙ ap (λ b. cond b 1 0) (number_self k)) in
+      let more : requests szx k (c ∷ t) ≡ 1 + requests szx k t = omega (arith, one) in
+      record {
+        request = h.request;
+        taken_it = inr h.taken_it;
+        small = h.small;
+        within = subst (Within szx h.request tr) (sym more)
+            (next_within szx h.request r m tr (requests szx k t) old asks h.within);
+      }
+  runs_here t c rows k r tr (begins queue is) ih =
+      let all : AllOf (Waits szx t) (Calling k r tr ∷ queue) = subst (AllOf (Waits szx t)) is (all_wait t rows) in
+      let g = all.0 in
+      let none = started t rows k r tr queue is in
+      let one = at_most_one k (sends (own_of szx t) c) in
+      record {
+        request = g.0;
+        taken_it = inr g.1;
+        small = g.2;
+        within = subst (λ z. Within szx g.0 z (requests szx k (c ∷ t))) (sym g.3)
+            (begins_within szx g.0 g.0.method (requests szx k (c ∷ t)) refl (omega (arith, none, one)));
+      }
+
+  pub runs_within : (t : List Call) → ClientRows szx t → (k : ℕ) (r : Request) (tr : Transfer)
+      → (own_of szx t).running ≡ Some (Calling k r tr) → Runs t k tr
+  runs_within [] rows k r tr is = absurd (cc is)
+  runs_within (c ∷ t) rows k r tr is = runs_here t c rows.1 k r tr (origin szx t c k r tr is)
+      (λ old runs. runs_within t rows.1 k r old runs)
+
+  -- so each call sent none, or so many
+  abbrev Bounded : ℕ → List Call → Type 0
+  Bounded k t = (requests szx k t ≡ 0) ⊎ ((q : Request) × WasTaken (taken k q) t
+      × (requests szx k t ≤ most_requests szx q q.method))
+
+  bounded : (t : List Call) → ClientRows szx t → (k : ℕ) → Bounded k t
+  bounded [] rows k = inl refl
+  bounded (c ∷ t) rows k = by (sent_or_not k (sends (own_of szx t) c)) (bounded t rows.1 k)
+    where
+      by : (one_sent k (sends (own_of szx t) c) ≡ 0)
+          ⊎ ((x : Sending) × (sends (own_of szx t) c ≡ Some x) × (call_of x.operation ≡ Some k)) → Bounded k t
+          → Bounded k (c ∷ t)
+      by (inl none) (inl zero) = inl (omega (arith, none, zero))
+      by (inl none) (inr h) = inr (h.0, inr h.1, (let least = h.2 in omega (arith, none, least)))
+      by (inr h) ih =
+          let op = the_call h.0.operation k h.2 in
+          let g = runs_within (c ∷ t) rows k op.0 op.1 ((sent_now szx t c h.0 h.1).runs ∙ ap (λ o. Some o) op.2) in
+          inr (g.request, g.taken_it, within_bound szx g.request op.1 (requests szx k (c ∷ t)) g.small g.within)
+
+-- a number is given to one request
+
+gives_number : (k : ℕ) (q : Request) (c : Call) → takes c ≡ Some (taken k q) → number_given c ≡ Some k
+gives_number k q (Calls now r (Ok n)) is = let e : ◌≡◌ {A = Taken} (taken n r) (taken k q) =
+    cc is in ap (λ (x : Taken). Some x.number) e
+gives_number k q (Calls now r (Err why)) is = absurd (cc is)
+gives_number k q (Observes now path answer) is = absurd (cc is)
+gives_number k q (Cancels now n answer) is = absurd (cc is)
+gives_number k q (Forgets n was answer) is = absurd (cc is)
+gives_number k q (Feeds now from bytes w up settled event sent token was) is = absurd (cc is)
+gives_number k q (Ticks now w below turn sent token was answer) is = absurd (cc is)
+gives_number k q (NextOut answer) is = absurd (cc is)
+gives_number k q (NextReport answer) is = absurd (cc is)
+gives_number k q (Asked answer) is = absurd (cc is)
+
+given_before : (k : ℕ) (q : Request) (t : List Call) → WasTaken (taken k q) t → Ever (λ b. number_given b ≡ Some k) t
+given_before k q t h = Ever_map (λ b. takes b ≡ Some (taken k q)) (λ b. number_given b ≡ Some k)
+    (λ b is. gives_number k q b is) t h
+
+one_request : (k : ℕ) (a b : Request) (t : List Call) → NumbersOnce t → WasTaken (taken k a) t → WasTaken (taken k b) t
+    → a ≡ b
+one_request k a b [] once h i = absurd h
+one_request k a b (c ∷ t) once (inl h) (inl i) =
+    let e : ◌≡◌ {A = Option Taken} (Some (taken k a)) (Some (taken k b)) = sym h
+    ∙ i in let z : taken k a ≡ taken k b = cc e in ap (λ (x : Taken). x.request) z
+one_request k a b (c ∷ t) once (inl h) (inr i) = absurd (once.0 k (gives_number k a c h) (given_before k b t i))
+one_request k a b (c ∷ t) once (inr h) (inl i) = absurd (once.0 k (gives_number k b c i) (given_before k a t h))
+one_request k a b (c ∷ t) once (inr h) (inr i) = one_request k a b t once.1 h i
+
+pub are_bounded : (server : Endpoint) (szx word : ℕ) (t : List Call) → ClientLaw server szx word t → AreBounded szx t
+are_bounded server szx word t law x was = by (bounded szx t law.rows x.number)
+  where
+    by : Bounded szx x.number t → requests szx x.number t ≤ most_requests szx x.request x.request.method
+    by (inl none) = omega (arith, none)
+    by (inr h) =
+        let same : h.0 ≡ x.request = one_request x.number h.0 x.request t
+        (numbers_once server szx word t law.rows law.exchanges.rows) h.1 was in
+        subst (λ (q : Request). requests szx x.number t ≤ most_requests szx q q.method) same h.2

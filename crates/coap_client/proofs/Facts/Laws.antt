@@ -1,0 +1,148 @@
+-- What follows from the whole law of a client: the clauses of `client_law` and `client_follows_law`, for proofs above;
+-- and what its calls add to its message layer, and when.
+use Rattle.std.proofs.Common.{◌≡◌, ℕ, max, true, false, Some, None, List, ◌∷◌, ◌++◌, refl, Ok, Err}
+use Rattle.coap_types.specs.Past.{Always}
+use Rattle.coap_types.specs.declared.endpoint.Endpoint.{Endpoint}
+use Rattle.coap_layer.specs.Channel.{RepliesSo}
+use Rattle.coap_layer.specs.Rows.{LayerLaw}
+use Rattle.coap_client.specs.Follows.Sendings.{NoNons}
+use Rattle.coap_client.specs.Follows.Adds.{call_asks, all_asked, call_adds}
+use Rattle.coap_client.specs.Follows.Answered.{NoneAfter, ReportedOnce}
+use Rattle.coap_client.specs.Follows.Begins.{BeginAtOnce, ConsAreRequests}
+use Rattle.coap_client.specs.Follows.Blocks.{SendsPieces}
+use Rattle.coap_client.specs.Follows.Bodies.{BodiesAreWhole}
+use Rattle.coap_client.specs.Follows.Clock.{moment_of}
+use Rattle.coap_client.specs.Follows.Continued.{AreContinued}
+use Rattle.coap_client.specs.Deeds.{effect, at}
+use Rattle.coap_client.specs.Follows.Gives.{GivesInOrder}
+use Rattle.coap_client.specs.Follows.FromServer.{AreFromServer}
+use Rattle.coap_client.specs.Law.{ClientLaw, ClientRows, lower_of, layer_of}
+use Rattle.coap_client.specs.Follows.Numbers.{NumbersOnce}
+use Rattle.coap_client.specs.Follows.OfCalls.{AreOfCalls, OthersAreGets}
+use Rattle.coap_client.specs.Follows.Order.{AreInOrder, OneLast}
+use Rattle.coap_client.specs.Follows.HandedUp.{AreHandedUp}
+use Rattle.coap_client.specs.Follows.Tokens.{OneConOrCancel, OneOfToken}
+use Rattle.coap_client.specs.Trace.{Call, Calls, Observes, Cancels, Forgets, Feeds, Ticks, NextOut}
+use Rattle.coap_client.specs.Trace.{NextReport, Asked}
+use Rattle.coap_client.specs.Own.{Own}
+use Rattle.coap_client.specs.Steps.{after}
+use Rattle.coap_client.specs.Follows.Valid.{ValidOfTags}
+use Rattle.coap_common.proofs.Facts.AskerReplies.{replies_so}
+use Rattle.coap_client.proofs.Sending.NoNons.{no_nons}
+use Rattle.coap_client.proofs.Sending.Begun as begun
+use Rattle.coap_client.proofs.Reporting.Bodies.{bodies_are_whole}
+use Rattle.coap_client.proofs.Uploading.Continued.{are_continued}
+use Rattle.coap_client.proofs.Places.Gives as gives
+use Rattle.coap_client.proofs.Hearing.HandedUp.{are_handed_up}
+use Rattle.coap_client.proofs.Hearing.FromServer.{are_from_server}
+use Rattle.coap_client.proofs.Uploading.Holding.{happened_steady, passes_steady, steadied}
+use Rattle.coap_client.proofs.Turning.Leading.{client_layer, client_back}
+use Rattle.coap_client.proofs.Places.Numbers.{numbers_once}
+use Rattle.coap_client.proofs.Sending.OfCalls.{are_of_calls, others_are_gets}
+use Rattle.coap_client.proofs.Places.Once as once_of
+use Rattle.coap_client.proofs.Queueing.OneByOne as one_by_one
+use Rattle.coap_client.proofs.Sending.OneCon as cons
+use Rattle.coap_client.proofs.Uploading.Pieces as blocks
+use Rattle.coap_client.proofs.Sending.Tokens as token
+use Rattle.coap_client.proofs.Reporting.Valid.{valid_of_tags}
+
+module _ (server : Endpoint) (szx word : ℕ) where
+  pub back : (calls t : List Call) → ClientLaw server szx word (calls ++ t) → ClientLaw server szx word t
+  back calls t law = client_back server szx word calls t law
+
+  -- whatever the calls are
+  pub nons : (t : List Call) → NoNons (layer_of server szx word t)
+  nons t = no_nons server word (lower_of szx t)
+
+  -- what a call asks of the layer, and adds there, stands in front
+  pub asked_next : (past : List Call) (c : Call)
+      → all_asked server szx word (c ∷ past) ≡ call_asks server szx word past c ++ all_asked server szx word past
+  asked_next past c = begun.adds_front server szx word past c
+
+  pub layer_next : (past : List Call) (c : Call)
+      → layer_of server szx word (c ∷ past) ≡ call_adds server szx word past c ++ layer_of server szx word past
+  layer_next past c = begun.layer_next server szx word past c
+
+  module _ (t : List Call) (law : ClientLaw server szx word t) where
+    pub layer : LayerLaw word (layer_of server szx word t)
+    layer = client_layer server szx word t law
+
+    pub replies : Always RepliesSo (layer_of server szx word t)
+    replies = replies_so server word (lower_of szx t) law.exchanges.rows law.exchanges.left law.exchanges.layer
+
+    pub begins : ConsAreRequests server szx word t
+    begins = begun.cons_are_requests server szx word t law
+
+    pub begins_now : BeginAtOnce server szx word t
+    begins_now = begun.begin_at_once server szx word t law
+
+    pub one_con : OneConOrCancel server szx word t
+    one_con = cons.one_con server szx word t law
+
+    pub tokens : OneOfToken szx t
+    tokens = token.one_of_token szx server word t law
+
+    pub order : AreInOrder szx t
+    order = one_by_one.are_in_order szx server word t law
+
+    pub one_last : OneLast szx t
+    one_last = one_by_one.one_last szx server word t law
+
+    pub handed_up : AreHandedUp server szx word t
+    handed_up = are_handed_up server szx word t law
+
+    pub from_server : AreFromServer server t
+    from_server = are_from_server server szx word t law
+
+    pub pieces : SendsPieces szx t
+    pieces = blocks.sends_pieces szx server word t law
+
+    pub continued : AreContinued szx t
+    continued = are_continued server szx word t law
+
+    pub numbers : NumbersOnce t
+    numbers = numbers_once server szx word t law.rows law.exchanges.rows
+
+    pub once : ReportedOnce server szx word t
+    once = once_of.reported_once server szx word t law
+
+    pub none_after : NoneAfter server szx word t
+    none_after = blocks.none_after szx server word t law
+
+    pub bodies : BodiesAreWhole szx t
+    bodies = bodies_are_whole server szx word t law
+
+    pub valid : ValidOfTags szx t
+    valid = valid_of_tags server szx word t law
+
+-- whatever the calls are
+pub of_calls : (szx : ℕ) (t : List Call) → AreOfCalls szx t
+of_calls szx t = are_of_calls szx t
+
+pub others : (szx : ℕ) (t : List Call) → OthersAreGets szx t
+others szx t = others_are_gets szx t
+
+-- the reports that were made and not given wait
+pub waits : (szx : ℕ) (t : List Call) → ClientRows szx t → GivesInOrder szx t
+waits szx t rows = gives.waits szx t rows
+
+-- The moment of a call counts.
+pub clock_is : (s : Own) (c : Call) → (after s c).clock ≡ moment_of s c
+clock_is s (Calls now r (Ok number)) = refl
+clock_is s (Calls now r (Err why)) = refl
+clock_is s (Observes now path (Ok number)) = refl
+clock_is s (Observes now path (Err why)) = refl
+clock_is s (Cancels now number None) = refl
+clock_is s (Cancels now number (Some why)) = refl
+clock_is s (Forgets number kept true) = refl
+clock_is s (Forgets number kept false) = refl
+clock_is s (Feeds now from bytes word up settled event sent token kept) =
+    let e = effect s (Feeds now from bytes word up settled event sent token kept) in
+    (steadied (at now s) (max s.clock now) e token e.deed refl
+    (happened_steady (at now s) (max s.clock now) event)).clock
+clock_is s (Ticks now word below t sent token kept answer) =
+    let e = effect s (Ticks now word below t sent token kept answer) in
+    (steadied (at now s) (max s.clock now) e token e.deed refl (passes_steady (at now s) (max s.clock now) t)).clock
+clock_is s (NextOut answer) = refl
+clock_is s (NextReport answer) = refl
+clock_is s (Asked answer) = refl

@@ -1,2 +1,0 @@
--- What a call of a client moves, for proofs above.
-pub use Rattle.coap_client.proofs.ClientSide.ClientMoves.{happened_moves, passes_moves, releases_none}

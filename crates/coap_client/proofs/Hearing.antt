@@ -1,0 +1,5 @@
+pub mod FromServer
+pub mod HandedUp
+pub mod HeardOnce
+pub mod Noted
+pub mod Types

@@ -1,0 +1,350 @@
+-- A notification that is taken of an observation is the answer to its registration, the first of all, or newer than the
+-- one before.
+use Rattle.std.proofs.Common.{◌≡◌, ◌≤◌, ◌⊎◌, inl, inr, ℕ, zero, suc, ◌+◌, max, Bool, true, false, cond, not, Option}
+use Rattle.std.proofs.Common.{Some, None, List, ◌∷◌, ◌++◌, [], map, refl, ap, sym, subst, ◌∙◌, arith}
+use Rattle.std.specs.Prelude.{◌==◌, nat_lt}
+use Rattle.coap_types.specs.declared.endpoint.Endpoint.{Endpoint}
+use Rattle.coap_codec.specs.Message.{Message}
+use Rattle.coap_exchange.specs.declared.asker.Event.TheVariants as event_of
+use Rattle.coap_exchange.specs.Tokens.{same_token}
+use Rattle.coap_observe.specs.Newer.{IsNewer, is_newer, arrived}
+use Rattle.coap_observe.proofs.Facts.Newer.{newer_is_decided}
+use Rattle.coap_client.specs.Trace.{Ended, Call, Calls, Observes, Cancels, Forgets, Feeds, Ticks}
+use Rattle.coap_client.specs.Trace.{NextOut, NextReport, Asked}
+use Rattle.coap_client.specs.Own.{Operation, Calling, Registering, Fetching, Cancelling, Dropped}
+use Rattle.coap_client.specs.Own.{Observation, Own}
+use Rattle.coap_client.specs.Observations.{observation_with}
+use Rattle.coap_client.specs.Responses.{is_notification, sequence_in}
+use Rattle.coap_client.specs.Effects.{Keeps, Effect, stays, ends, of}
+use Rattle.coap_client.specs.Observing.{begun, first_value, first_rest, is_over, renewed, passed}
+use Rattle.coap_client.specs.Observing.{noticed_by}
+use Rattle.coap_client.specs.Events.{answered, happened, closed}
+use Rattle.coap_client.specs.Deeds.{at}
+use Rattle.coap_client.specs.Steps.{lower, reports}
+use Rattle.coap_client.specs.Law.{ClientLaw, own_of, lower_of}
+use Rattle.coap_client.specs.Follows.Places.{in_running, in_observations, places}
+use Rattle.coap_client.specs.Follows.Places.{gone}
+use Rattle.coap_client.specs.Follows.Words.{Sending, hears}
+use Rattle.coap_client.specs.Follows.AnswersLastRequest.{Answers}
+use Rattle.coap_client.specs.Follows.Newer.{Newly, newly, registers, renews, notifies}
+use Rattle.coap_client.proofs.Places.PlaceLemmas.{same_number, number_self, hit_self, in_map}
+use Rattle.coap_client.proofs.Places.PlaceLemmas.{in_observations_append}
+use Rattle.coap_client.proofs.Places.PlaceLemmas.{number_if, found_by_token}
+use Rattle.coap_client.proofs.Places.Once.{law_back, beneath, known, sound_of}
+use Rattle.coap_client.proofs.Uploading.Pieces.{Tracked, IfTracked, all_sends, answers_last}
+use Rattle.coap_client.proofs.Turning.Leading.{client_back}
+use Rattle.coap_client.proofs.Sending.Tokens.{AllLive, Registered, live, last_was_sent}
+use Rattle.coap_client.specs.Follows.Notified.{is_newly_of, newest_if, newest, WasRegistered}
+use Rattle.coap_client.specs.Follows.Notified.{IsTaken, AreTaken}
+use Rattle.coap_client.proofs.Observing.ObservationOrigins.{In, Same, Source, kept, rests, goes_on, comes, source}
+use Rattle.coap_client.proofs.Places.LiveOrGone.{stays_live}
+
+-- what is taken: the answer to a registration, or a newer notification
+
+abbrev pub newly_as : ℕ → ℕ → Message → Newly
+newly_as k now m = record { number = k; mark = record { number = sequence_in m; at = now }; message = m }
+
+pub record RegistersAs (running : Option Operation) (now : ℕ) (m : Message) (n : Newly) : Type 0 where
+  pub number : ℕ
+  pub path : List (List ℕ)
+  pub runs : running ≡ Some (Registering number path)
+  pub note : is_notification m ≡ true
+  pub is : n ≡ newly_as number now m
+
+pub registers_as : (running : Option Operation) (now : ℕ) (m : Message) (n : Newly) → registers running now m ≡ Some n
+    → RegistersAs running now m n
+registers_as None now m n h = absurd (cc h)
+registers_as (Some (Calling k r t)) now m n h = absurd (cc h)
+registers_as (Some (Fetching k)) now m n h = absurd (cc h)
+registers_as (Some (Cancelling k)) now m n h = absurd (cc h)
+registers_as (Some Dropped) now m n h = absurd (cc h)
+registers_as (Some (Registering k path)) now m n h = by (is_notification m) refl h
+  where
+    by : (b : Bool) → is_notification m ≡ b → cond b (newly k now m) None ≡ Some n
+        → RegistersAs (Some (Registering k path)) now m n
+    by false e h = absurd (cc h)
+    by true e h = let same : newly_as k now m ≡ n =
+        cc h in record { number = k; path = path; runs = refl; note = e; is = sym same }
+
+pub record RenewsAs (o : Option Observation) (now : ℕ) (m : Message) (n : Newly) : Type 0 where
+  pub observation : Observation
+  pub found : o ≡ Some observation
+  pub note : is_notification m ≡ true
+  pub newer : is_newer observation.watch.mark (sequence_in m) now ≡ true
+  pub is : n ≡ newly_as observation.number now m
+
+pub renews_as : (o : Option Observation) (now : ℕ) (m : Message) (n : Newly) → renews o now m ≡ Some n
+    → RenewsAs o now m n
+renews_as None now m n h = absurd (cc h)
+renews_as (Some o) now m n h = by (is_notification m) refl (is_newer o.watch.mark (sequence_in m) now) refl h
+  where
+    by : (b : Bool) → is_notification m ≡ b → (c : Bool) → is_newer o.watch.mark (sequence_in m) now ≡ c
+        → cond b (cond c (newly o.number now m) None) None ≡ Some n → RenewsAs (Some o) now m n
+    by false e c f h = absurd (cc h)
+    by true e false f h = absurd (cc h)
+    by true e true f h = let same : newly_as o.number now m
+        ≡ n = cc h in record { observation = o; found = refl; note = e; newer = f; is = sym same }
+
+-- what it makes of the client
+
+abbrev pub registered_to : Own → ℕ → Message → ℕ → List (List ℕ) → Effect
+registered_to s now m k path = record {
+  own = record s { running = None; observations = s.observations ++ begun k path s.szx now m ∷ [] };
+  report = first_value k s.szx m;
+  deed = Keeps m.token;
+}
+
+pub registered_effect : (s : Own) (now : ℕ) (m : Message) (k : ℕ) (path : List (List ℕ))
+    → s.running ≡ Some (Registering k path) → is_notification m ≡ true
+    → happened s now (Some (event_of.Answer m)) ≡ registered_to s now m k path
+registered_effect s now m k path runs note = ap (answered s now m) runs
+    ∙ ap (λ b. cond b (registered_to s now m k path) (ends (of k (Ended m.code)) s)) note
+
+pub renewed_effect : (s : Own) (now : ℕ) (m : Message) (o : Observation)
+    → observation_with m.token s.observations ≡ Some o → is_notification m ≡ true
+    → is_newer o.watch.mark (sequence_in m) now ≡ true
+    → happened s now (Some (event_of.Notice m)) ≡ renewed o s now m
+renewed_effect s now m o found note newer =
+    ap (λ x. noticed_by x s now m) found
+    ∙ (ap (λ b. cond (not b) (is_over o.number (Ended m.code) s)
+    (cond (is_newer o.watch.mark (sequence_in m) now) (renewed o s now m) (stays (passed o s now m)))) note
+    ∙ ap (λ b. cond b (renewed o s now m) (stays (passed o s now m))) newer)
+
+-- lists
+
+pub in_found : (token : List ℕ) (os : List Observation) (o : Observation) → observation_with token os ≡ Some o → In o os
+in_found token [] o h = absurd (cc h)
+in_found token (p ∷ os) o h = by (same_token token p.token) h (in_found token os o)
+  where
+    by : (b : Bool) → cond b (Some p) (observation_with token os) ≡ Some o
+        → (observation_with token os ≡ Some o → In o os) → In o (p ∷ os)
+    by true e ih = inl (cc e)
+    by false e ih = inr (ih e)
+
+pub live_in : (P : ℕ → List (List ℕ) → List ℕ → Type 0) (os : List Observation) (o : Observation) → AllLive P os
+    → In o os → P o.number o.path o.token
+live_in P [] o h there = absurd there
+live_in P (p ∷ os) o h (inl e) = subst (λ (x : Observation). P x.number x.path x.token) e h.0
+live_in P (p ∷ os) o h (inr there) = live_in P os o h.1 there
+
+one_of_two : (a b : ℕ) → 1 ≤ a + b → (1 ≤ a) ⊎ (1 ≤ b)
+one_of_two zero b h = inr (omega (arith, h))
+one_of_two (suc a) b h = inl (omega arith)
+
+pub at_most_one : (b : Bool) → cond b 1 0 ≤ 1
+at_most_one true = omega arith
+at_most_one false = omega arith
+
+module _ (szx : ℕ) where
+  -- the newest, where none comes and where one does
+
+  pub newest_kept : (t : List Call) (c : Call) (k : ℕ) → is_newly_of k (notifies (own_of szx t) c) ≡ false
+      → newest szx k (c ∷ t) ≡ newest szx k t
+  newest_kept t c k h = ap (λ b. newest_if (notifies (own_of szx t) c) b (newest szx k t)) h
+
+  pub newest_now : (t : List Call) (c : Call) (k : ℕ) (n : Newly) → notifies (own_of szx t) c ≡ Some n → n.number ≡ k
+      → newest szx k (c ∷ t) ≡ Some n
+  newest_now t c k n is number = ap (λ b. newest_if (notifies (own_of szx t) c) b (newest szx k t))
+      (ap (is_newly_of k) is ∙ (ap (λ i. i == k) number ∙ number_self k)) ∙ is
+
+  -- .. by which of both
+  pub came_now : (t : List Call) (c : Call) (k : ℕ) (n : Newly) → is_newly_of k (notifies (own_of szx t) c) ≡ true
+      → newest szx k (c ∷ t) ≡ Some n → (notifies (own_of szx t) c ≡ Some n) × (n.number ≡ k)
+  came_now t c k n e h =
+      let is : notifies (own_of szx t) c ≡ Some n =
+      sym (ap (λ b. newest_if (notifies (own_of szx t) c) b (newest szx k t)) e) ∙ h in
+      (is, same_number n.number k (sym (ap (is_newly_of k) is) ∙ e))
+
+  -- an observation of which a notification came is live
+  live_now : (t : List Call) (c : Call) (n : Newly) → notifies (own_of szx t) c ≡ Some n
+      → 1 ≤ in_observations n.number (own_of szx (c ∷ t)).observations
+  live_now t (Feeds now from bytes w up settled (Some (event_of.Answer m)) sent token was) n is =
+      let s : Own = at now (own_of szx t) in
+      let z : ℕ = max (own_of szx t).clock now in
+      let r = registers_as (own_of szx t).running z m n is in
+      let c : Call = Feeds now from bytes w up settled (Some (event_of.Answer m)) sent token was in
+      let new : Observation = begun r.number r.path s.szx z m in
+      let left : (own_of szx (c ∷ t)).observations ≡ s.observations
+      ++ new ∷ [] = ap (λ (x : Effect). (closed z x x.deed token).own.observations)
+      (registered_effect s z m r.number r.path r.runs r.note) in
+      let a = ap (in_observations r.number) left in
+      let b = in_observations_append r.number s.observations (new ∷ []) in
+      let d = hit_self r.number in
+      subst (λ i. 1 ≤ in_observations i (own_of szx (c ∷ t)).observations) (sym (ap (λ (x : Newly). x.number) r.is))
+      (omega (arith, a, b, d))
+  live_now t (Feeds now from bytes w up settled (Some (event_of.Notice m)) sent token was) n is =
+      let s : Own = at now (own_of szx t) in
+      let z : ℕ = max (own_of szx t).clock now in
+      let r = renews_as (observation_with m.token s.observations) z m n is in
+      let o = r.observation in
+      let c : Call = Feeds now from bytes w up settled (Some (event_of.Notice m)) sent token was in
+      let f : Observation → Observation = λ p. cond (p.number == o.number)
+      (record p { watch = arrived p.watch (sequence_in m) z true; rest = first_rest s.szx m }) p in
+      let left : (own_of szx (c ∷ t)).observations
+      ≡ map f s.observations = ap (λ (x : Effect). (closed z x x.deed token).own.observations)
+      (renewed_effect s z m o r.found r.note r.newer) in
+      let a = ap (in_observations o.number) left in
+      let b = in_map o.number f (λ p. number_if (p.number == o.number) p
+      (record p { watch = arrived p.watch (sequence_in m) z true; rest = first_rest s.szx m }) refl) s.observations
+      in
+      let d = (found_by_token m.token s.observations o r.found).1 in
+      subst (λ i. 1 ≤ in_observations i (own_of szx (c ∷ t)).observations) (sym (ap (λ (x : Newly). x.number) r.is))
+      (omega (arith, a, b, d))
+  live_now t (Feeds now from bytes w up settled (Some event_of.Reset) sent token was) n is = absurd (cc is)
+  live_now t (Feeds now from bytes w up settled (Some event_of.Timeout) sent token was) n is = absurd (cc is)
+  live_now t (Feeds now from bytes w up settled (Some event_of.NoResponse) sent token was) n is = absurd (cc is)
+  live_now t (Feeds now from bytes w up settled None sent token was) n is = absurd (cc is)
+  live_now t (Ticks now w below turn sent token was answer) n is = absurd (cc is)
+  live_now t (Calls now r answer) n is = absurd (cc is)
+  live_now t (Observes now path answer) n is = absurd (cc is)
+  live_now t (Cancels now k answer) n is = absurd (cc is)
+  live_now t (Forgets k was answer) n is = absurd (cc is)
+  live_now t (NextOut answer) n is = absurd (cc is)
+  live_now t (NextReport answer) n is = absurd (cc is)
+  live_now t (Asked answer) n is = absurd (cc is)
+
+  -- .. or it is over
+  live_or_gone : (t : List Call) (k : ℕ) (n : Newly) → newest szx k t ≡ Some n
+      → 1 ≤ in_observations k (own_of szx t).observations + gone szx k t
+  live_or_gone [] k n h = absurd (cc h)
+  live_or_gone (c ∷ t) k n h = by (is_newly_of k (notifies (own_of szx t) c)) refl (live_or_gone t k n)
+    where
+      by : (b : Bool) → is_newly_of k (notifies (own_of szx t) c) ≡ b
+          → (newest szx k t ≡ Some n → 1 ≤ in_observations k (own_of szx t).observations + gone szx k t)
+          → 1 ≤ in_observations k (own_of szx (c ∷ t)).observations + gone szx k (c ∷ t)
+      by true e ih = let z = came_now t c k n e h in let a =
+          subst (λ i. 1 ≤ in_observations i (own_of szx (c ∷ t)).observations) z.1 (live_now t c n z.0) in omega
+          (arith, a)
+      by false e ih = elim (one_of_two (in_observations k (own_of szx t).observations) (gone szx k t)
+          (ih (sym (newest_kept t c k e) ∙ h))) [
+            | inl there ↦ (let a = stays_live szx t c k there in omega (arith, a))
+            | inr over ↦ omega (arith, over)
+          ]
+
+module _ (server : Endpoint) (szx word : ℕ) where
+  pub most : (t : List Call) → ClientLaw server szx word t → (n : ℕ) → places n (own_of szx t) ≤ 1
+  most t law = (sound_of server szx word t (known server szx word t law.rows law.exchanges.rows)).at_most
+
+  -- the mark of a live observation is that of its newest notification
+  pub record HasNewest (t : List Call) (x : Observation) : Type 0 where
+    pub newly : Newly
+    pub is : newest szx x.number t ≡ Some newly
+    pub mark : x.watch.mark ≡ Some newly.mark
+
+  newest_later : (t : List Call) (c : Call) (o x : Observation) → Same o x
+      → is_newly_of x.number (notifies (own_of szx t) c) ≡ false → HasNewest t o → HasNewest (c ∷ t) x
+  newest_later t c o x same apart h = record {
+    newly = h.newly;
+    is = newest_kept szx t c x.number apart ∙ (ap (λ i. newest szx i t) same.number ∙ h.is);
+    mark = same.mark ∙ h.mark;
+  }
+
+  pub has_newest : (t : List Call) → ClientLaw server szx word t → (x : Observation) → In x (own_of szx t).observations
+      → HasNewest t x
+  has_newest [] law x h = absurd h
+  has_newest (c ∷ t) law x h = let past = client_back server szx word (c ∷ []) t law in by
+      (source szx t c (most t past) x h) (has_newest t past)
+    where
+      by : Source (own_of szx t).observations (own_of szx t).running (notifies (own_of szx t) c) (hears c)
+          (Rattle.coap_client.specs.Follows.Rising.value_reported (reports (own_of szx t) c)) x
+          → ((o : Observation) → In o (own_of szx t).observations → HasNewest t o) → HasNewest (c ∷ t) x
+      by (kept o there same rest apart none) ih = newest_later t c o x same apart (ih o there)
+      by (rests o there same rest apart) ih = newest_later t c o x same apart (ih o there)
+      by (goes_on o n m num size there same runs rest is code asks left apart none) ih =
+          newest_later t c o x same apart (ih o there)
+      by (comes n is number mark rest) ih = record
+          { newly = n; is = newest_now szx t c x.number n is number; mark = mark }
+
+  -- a registration that runs had no notification before
+  none_before : (t : List Call) → ClientLaw server szx word t → (k : ℕ) (path : List (List ℕ))
+      → (own_of szx t).running ≡ Some (Registering k path) → newest szx k t ≡ None
+  none_before t law k path runs = by (newest szx k t) refl
+    where
+      by : (o : Option Newly) → newest szx k t ≡ o → o ≡ None
+      by None e = refl
+      by (Some n) e =
+          let a = live_or_gone szx t k n e in
+          let b = (known server szx word t law.rows law.exchanges.rows).one k in
+          let d = at_most_one (nat_lt k (own_of szx t).taken) in
+          let f = ap (in_running k) runs in
+          let g = hit_self k in
+          absurd (omega (arith, a, b, d, f, g))
+
+  -- its answer has the token under which it was sent
+  registration_sent : (t : List Call) (c : Call) → ClientLaw server szx word (c ∷ t)
+      → (m : Message) (k : ℕ) (path : List (List ℕ)) → hears c ≡ Some m
+      → (own_of szx t).running ≡ Some (Registering k path) → WasRegistered szx k m.token t
+  registration_sent t c law m k path heard runs =
+      let past = law_back server word (lower (own_of szx t) c) (lower_of szx t) law.exchanges.rows in
+      let tracked : Tracked szx t (Registering k path) (beneath server szx word t).running =
+      subst (λ o. IfTracked szx t o (beneath server szx word t).running) runs
+      (all_sends szx server word t law.rows.1 past).tracked in
+      let a : Answers szx t c m = (answers_last szx server word (c ∷ t) law).0 m heard in
+      let same : a.sending ≡ tracked.sending = (let z : Some a.sending ≡ Some tracked.sending = sym a.last
+      ∙ tracked.last in cc z) in
+      record {
+        path = path;
+        sending = a.sending;
+        sent = last_was_sent szx t a.sending a.last;
+        registers = elim tracked.same [ inl d ↦ absurd (cc d) | inr e ↦ ap (λ (z : Sending). z.operation) same ∙ e ];
+        token_is = a.token;
+      }
+
+  live_token : (t : List Call) → ClientLaw server szx word t → (o : Observation) → In o (own_of szx t).observations
+      → WasRegistered szx o.number o.token t
+  live_token t law o there =
+      let r : Registered szx t o.number o.path o.token =
+      live_in (Registered szx t) (own_of szx t).observations o (live szx server word t law) there in
+      record { path = o.path; sending = r.sending; sent = r.sent; registers = r.operation; token_is = r.token_is }
+
+  taken_here : (t : List Call) (c : Call) → ClientLaw server szx word (c ∷ t) → (n : Newly)
+      → notifies (own_of szx t) c ≡ Some n → IsTaken szx n t c
+  taken_here t (Feeds now from bytes w up settled (Some (event_of.Answer m)) sent token was) law n is =
+      let c : Call = Feeds now from bytes w up settled (Some (event_of.Answer m)) sent token was in
+      let past = client_back server szx word (c ∷ []) t law in
+      let z : ℕ = max (own_of szx t).clock now in
+      let r = registers_as (own_of szx t).running z m n is in
+      subst (λ x. IsTaken szx x t c) (sym r.is) (record {
+        notification = r.note;
+        sequence = refl;
+        registered = registration_sent t c law m r.number r.path refl r.runs;
+        comes = inl (record { heard = refl; none = none_before t past r.number r.path r.runs });
+      })
+  taken_here t (Feeds now from bytes w up settled (Some (event_of.Notice m)) sent token was) law n is =
+      let c : Call = Feeds now from bytes w up settled (Some (event_of.Notice m)) sent token was in
+      let past = client_back server szx word (c ∷ []) t law in
+      let z : ℕ = max (own_of szx t).clock now in
+      let os : List Observation = (own_of szx t).observations in
+      let r = renews_as (observation_with m.token os) z m n is in
+      let o = r.observation in
+      let there = in_found m.token os o r.found in
+      let b = has_newest t past o there in
+      subst (λ x. IsTaken szx x t c) (sym r.is) (record {
+        notification = r.note;
+        sequence = refl;
+        registered = subst (λ key. WasRegistered szx o.number key t) (sym (found_by_token m.token os o r.found).0)
+            (live_token t past o there);
+        comes = inr (record {
+          noted = refl;
+          before = b.newly;
+          last = b.is;
+          newer = subst (λ x. IsNewer x (sequence_in m) z) b.mark
+              ((newer_is_decided o.watch.mark (sequence_in m) z).0 r.newer);
+        });
+      })
+  taken_here t (Feeds now from bytes w up settled (Some event_of.Reset) sent token was) law n is = absurd (cc is)
+  taken_here t (Feeds now from bytes w up settled (Some event_of.Timeout) sent token was) law n is = absurd (cc is)
+  taken_here t (Feeds now from bytes w up settled (Some event_of.NoResponse) sent token was) law n is = absurd (cc is)
+  taken_here t (Feeds now from bytes w up settled None sent token was) law n is = absurd (cc is)
+  taken_here t (Ticks now w below turn sent token was answer) law n is = absurd (cc is)
+  taken_here t (Calls now r answer) law n is = absurd (cc is)
+  taken_here t (Observes now path answer) law n is = absurd (cc is)
+  taken_here t (Cancels now k answer) law n is = absurd (cc is)
+  taken_here t (Forgets k was answer) law n is = absurd (cc is)
+  taken_here t (NextOut answer) law n is = absurd (cc is)
+  taken_here t (NextReport answer) law n is = absurd (cc is)
+  taken_here t (Asked answer) law n is = absurd (cc is)
+
+  pub are_taken : (t : List Call) → ClientLaw server szx word t → AreTaken szx t
+  are_taken [] law = tt
+  are_taken (c ∷ t) law = (taken_here t c law, are_taken t (client_back server szx word (c ∷ []) t law))

@@ -1,0 +1,459 @@
+-- Where each live observation comes from: it was there before, or a notification of it came.
+use Rattle.std.proofs.Common.{◌≡◌, ◌≤◌, ◌⊎◌, inl, inr, ℕ, max, Bool, true, false, cond, not, ◌&&◌, Option, Some}
+use Rattle.std.proofs.Common.{None, List, ◌∷◌, [], map, refl, ap, sym, subst, ◌∙◌, Result, Ok, Err, arith}
+use Rattle.std.specs.Prelude.{◌==◌, filter}
+use Rattle.coap_types.specs.Past.{Ever}
+use Rattle.coap_types.proofs.Facts.Traces.{Ever_append}
+use Rattle.coap_codec.specs.Message.{Message}
+use Rattle.coap_block.specs.declared.fetch_verdict.Verdict.{Verdict}
+use Rattle.coap_block.specs.declared.fetch_verdict.Verdict.TheVariants as verdict
+use Rattle.coap_block.specs.FetchStep.{FetchState}
+use Rattle.coap_block.specs.FetchStep as F
+use Rattle.coap_exchange.specs.declared.asker.AskRefusal.{AskRefusal}
+use Rattle.coap_exchange.specs.declared.asker.Event.{Event}
+use Rattle.coap_observe.specs.Newer.{is_newer, arrived}
+use Rattle.coap_client.specs.Trace.{is_value, Report, NoIds, Reported, Call, Calls, Observes}
+use Rattle.coap_client.specs.Trace.{Cancels, Forgets, Feeds, Ticks, NextOut, NextReport, Asked}
+use Rattle.coap_client.specs.Own.{Transfer, Operation, Calling, Registering, Fetching, Cancelling}
+use Rattle.coap_client.specs.Own.{Dropped, Notified, Observation, Own}
+use Rattle.coap_client.specs.Observations.{rest_of}
+use Rattle.coap_client.specs.Responses.{content, sequence_in, tag_in, part}
+use Rattle.coap_client.specs.Reports.{lapse}
+use Rattle.coap_client.specs.Effects.{Effect, of, ends, is_upload, has_sent}
+use Rattle.coap_client.specs.Fetching.{value, rest as rest_left}
+use Rattle.coap_client.specs.Observing.{begun, first_rest, first_value}
+use Rattle.coap_client.specs.Events.{failed, closed}
+use Rattle.coap_client.specs.Deeds.{at}
+use Rattle.coap_client.specs.Steps.{reports}
+use Rattle.coap_client.specs.Law.{own_of}
+use Rattle.coap_client.specs.Follows.Places.{hit, in_running, in_observations, places}
+use Rattle.coap_client.specs.Follows.Newer.{Newly, newly, registers, renews, taken_by, notifies}
+use Rattle.coap_client.specs.Follows.Words.{hears}
+use Rattle.coap_client.specs.Turns.Moves as mv
+use Rattle.coap_client.specs.Turns.Moves.{Move, left_by}
+use Rattle.coap_client.specs.Turns.Closing.{Closing, quiet, goes_out, is_refused}
+use Rattle.coap_client.proofs.Places.PlaceLemmas.{same_number, number_self, hit_self}
+use Rattle.coap_client.proofs.Places.PlaceEvents.{lapse_last, answer_last, LastOnly}
+use Rattle.coap_client.proofs.Places.PlaceEffects.{flip_other}
+use Rattle.coap_client.proofs.Turning.BlockByBlock.{heard_in}
+use Rattle.coap_client.proofs.Turning.Turns.{Turned, fed_turned, ticked_turned}
+use Rattle.coap_client.specs.Follows.Notified.{is_newly_of}
+use Rattle.coap_client.specs.Follows.Rising.{value_reported}
+use Rattle.coap_client.proofs.Observing.Marks.{unheard_none, answer_none}
+
+-- it is there
+abbrev pub In : Observation → List Observation → Type 0
+In x os = Ever (λ o. o ≡ x) os
+
+pub in_count : (x : Observation) (os : List Observation) → In x os → 1 ≤ in_observations x.number os
+in_count x [] h = absurd h
+in_count x (o ∷ os) (inl h) = let a : hit o.number x.number ≡ 1 = ap (λ (y : Observation). hit y.number x.number) h
+    ∙ hit_self x.number in omega (arith, a)
+in_count x (o ∷ os) (inr h) = let a = in_count x os h in omega (arith, a)
+
+in_changed : (k : ℕ) (f : Observation → Observation) (os : List Observation) (x : Observation)
+    → In x (map (λ (o : Observation). cond (o.number == k) (f o) o) os)
+    → (o : Observation) × In o os × ((((o.number == k) ≡ true) × (x ≡ f o)) ⊎ (((o.number == k) ≡ false) × (x ≡ o)))
+in_changed k f [] x h = absurd h
+in_changed k f (o ∷ os) x (inr h) = let r = in_changed k f os x h in (r.0, inr r.1, r.2)
+in_changed k f (o ∷ os) x (inl h) = by (o.number == k) refl h
+  where
+    by : (b : Bool) → (o.number == k) ≡ b → cond b (f o) o ≡ x
+        → (p : Observation) × In p (o ∷ os) × ((((p.number == k) ≡ true) × (x ≡ f p))
+        ⊎ (((p.number == k) ≡ false) × (x ≡ p)))
+    by true e h = (o, inl refl, inl (e, sym h))
+    by false e h = (o, inl refl, inr (e, sym h))
+
+in_without : (k : ℕ) (os : List Observation) (x : Observation)
+    → In x (filter (λ (o : Observation). not (o.number == k)) os) → In x os
+in_without k [] x h = h
+in_without k (o ∷ os) x h = by (o.number == k) h (in_without k os x)
+  where
+    by : (b : Bool) → In x (cond (not b) (o ∷ filter (λ (p : Observation). not (p.number == k)) os)
+        (filter (λ (p : Observation). not (p.number == k)) os))
+        → (In x (filter (λ (p : Observation). not (p.number == k)) os) → In x os) → In x (o ∷ os)
+    by true h ih = inr (ih h)
+    by false (inl h) ih = inl h
+    by false (inr h) ih = inr (ih h)
+
+-- the number and the mark stay
+pub record Same (o x : Observation) : Type 0 where
+  pub number : x.number ≡ o.number
+  pub mark : x.watch.mark ≡ o.watch.mark
+
+same_self : (o x : Observation) → x ≡ o → Same o x
+same_self o x e = record {
+  number = ap (λ (y : Observation). y.number) e;
+  mark = ap (λ (y : Observation). y.watch.mark) e;
+}
+
+-- by what was there, what ran, what is taken as newer, what is heard, and of which observation a value is reported
+pub data Source (before : List Observation) (running : Option Operation) (new : Option Newly) (heard : Option Message)
+    (shown : Option ℕ) (x : Observation) : Type 0 where
+  -- nothing of it came
+  kept : (o : Observation) → In o before → Same o x → x.rest ≡ o.rest → is_newly_of x.number new ≡ false
+      → (shown ≡ Some x.number → ⊥) → Source before running new heard shown x
+  -- nothing of it is to be fetched any more
+  rests : (o : Observation) → In o before → Same o x → x.rest ≡ None → is_newly_of x.number new ≡ false
+      → Source before running new heard shown x
+  -- a part of it was fetched, and more is to be
+  goes_on :
+      (o : Observation) (n : Notified) (m : Message) (num size : ℕ) → In o before → Same o x
+      → running ≡ Some (Fetching x.number) → rest_of x.number before ≡ Some n → heard ≡ Some m → m.code ≡ content
+      → part n.fetch m ≡ verdict.Ask num size
+      → x.rest ≡ rest_left n.sequence n.fetch m (verdict.Ask num size) → is_newly_of x.number new ≡ false
+      → (shown ≡ Some x.number → ⊥) → Source before running new heard shown x
+  -- a notification of it came
+  comes :
+      (n : Newly) → new ≡ Some n → n.number ≡ x.number → x.watch.mark ≡ Some n.mark
+      → ((r : Notified) → x.rest ≡ Some r → (size : ℕ) × (first_rest size n.message ≡ Some r)
+      × (shown ≡ Some x.number → ⊥)) → Source before running new heard shown x
+
+no_value : (n : ℕ) → None ≡ Some n → ⊥
+no_value n h = cc h
+
+-- where no value is reported
+silent : (before : List Observation) (running : Option Operation) (new : Option Newly) (heard : Option Message)
+    (shown : Option ℕ) (x : Observation) → Source before running new heard shown x
+    → Source before running new heard None x
+silent before running new heard shown x (kept o there same rest apart none) =
+    kept o there same rest apart (no_value x.number)
+silent before running new heard shown x (rests o there same rest apart) = rests o there same rest apart
+silent before running new heard shown x (goes_on o n m num size there same runs rest is code asks left apart none) =
+    goes_on o n m num size there same runs rest is code asks left apart (no_value x.number)
+silent before running new heard shown x (comes n is number mark rest) =
+    comes n is number mark (λ r e. (let k = rest r e in (k.0, k.1, no_value x.number)))
+
+-- .. and nothing is to be fetched
+without_rest : (before : List Observation) (running : Option Operation) (new : Option Newly) (heard : Option Message)
+    (shown : Option ℕ) (x : Observation) → Source before running new heard shown x
+    → Source before running new heard None (record x { rest = None })
+without_rest before running new heard shown x (kept o there same rest apart none) =
+    rests o there (record { number = same.number; mark = same.mark }) refl apart
+without_rest before running new heard shown x (rests o there same rest apart) =
+    rests o there (record { number = same.number; mark = same.mark }) refl apart
+without_rest before running new heard shown x
+    (goes_on o n m num size there same runs rest is code asks left apart none) =
+    rests o there (record { number = same.number; mark = same.mark }) refl apart
+without_rest before running new heard shown x (comes n is number mark rest) =
+    comes n is number mark (λ r e. absurd (cc e))
+
+-- a failure leaves those that are there, or one without what is to be fetched
+
+in_held : (s : Own) (c : Bool) (report : Option Reported) (x : Observation)
+    → In x (ends report (cond c (record s { hold = Some s.sent }) s)).own.observations → In x s.observations
+in_held s true report x h = h
+in_held s false report x h = h
+
+in_failed : (u : Transfer → Bool) (report : Report) (s : Own) (running : Option Operation) (x : Observation)
+    → In x (failed u report s running).own.observations
+    → (o : Observation) × In o s.observations × ((x ≡ o) ⊎ (x ≡ record o { rest = None }))
+in_failed u report s None x h = (x, h, inl refl)
+in_failed u report s (Some (Calling k r t)) x h = (x, in_held s (u t && is_upload t) (of k report) x h, inl refl)
+in_failed u report s (Some (Registering k path)) x h = (x, h, inl refl)
+in_failed u report s (Some (Fetching k)) x h = let a =
+    in_changed k (λ o. record o { rest = None }) s.observations x h
+    in (a.0, a.1, elim a.2 [ inl e ↦ inr e.1 | inr e ↦ inl e.1 ])
+in_failed u report s (Some (Cancelling k)) x h = (x, in_without k s.observations x h, inl refl)
+in_failed u report s (Some Dropped) x h = (x, h, inl refl)
+
+-- .. and reports no value
+
+pub last_value : (k : ℕ) (report : Report) → is_value report ≡ false → value_reported (of k report) ≡ None
+last_value k report h = ap (λ b. cond b (Some k) None) h
+
+pub failed_value : (u : Transfer → Bool) (report : Report) (s : Own) (running : Option Operation)
+    → is_value report ≡ false → value_reported (failed u report s running).report ≡ None
+failed_value u report s None h = refl
+failed_value u report s (Some (Calling k r t)) h = last_value k report h
+failed_value u report s (Some (Registering k path)) h = last_value k report h
+failed_value u report s (Some (Fetching k)) h = refl
+failed_value u report s (Some (Cancelling k)) h = last_value k report h
+failed_value u report s (Some Dropped) h = refl
+
+-- which part gives a value, and which lets a fetch go on
+
+pub value_number : (k sequence : ℕ) (f : FetchState) (m : Message) (v : Verdict) (n : ℕ)
+    → value_reported (value k sequence f m v) ≡ Some n → k ≡ n
+value_number k sequence f m verdict.Done n h = cc h
+value_number k sequence f m verdict.Again n h = absurd (cc h)
+value_number k sequence f m (verdict.Refuse why) n h = absurd (cc h)
+value_number k sequence f m (verdict.Ask num size) n h = absurd (cc h)
+
+-- more of it is to be fetched
+pub record AsksMore (sequence : ℕ) (f : FetchState) (m : Message) (v : Verdict) (r : Notified) : Type 0 where
+  pub num : ℕ
+  pub size : ℕ
+  pub asks : v ≡ verdict.Ask num size
+  pub left : r ≡ record { sequence = sequence; fetch = F.after f (tag_in m) m.payload (verdict.Ask num size) }
+
+pub rest_asks : (sequence : ℕ) (f : FetchState) (m : Message) (v : Verdict) (r : Notified)
+    → rest_left sequence f m v ≡ Some r → AsksMore sequence f m v r
+rest_asks sequence f m verdict.Done r h = absurd (cc h)
+rest_asks sequence f m verdict.Again r h = absurd (cc h)
+rest_asks sequence f m (verdict.Refuse why) r h = absurd (cc h)
+rest_asks sequence f m (verdict.Ask num size) r h = record {
+  num = num;
+  size = size;
+  asks = refl;
+  left = (let e : ◌≡◌ {A = Notified} (record {
+    sequence = sequence;
+    fetch = F.after f (tag_in m) m.payload (verdict.Ask num size);
+  }) r = cc h in sym e);
+}
+
+-- a notification that leaves more to be fetched gives no value
+first_silent : (k size : ℕ) (m : Message) (r : Notified) (n : ℕ) → first_rest size m ≡ Some r
+    → value_reported (first_value k size m) ≡ Some n → ⊥
+first_silent k size m r n h shown =
+    let a = rest_asks (sequence_in m) (F.start size 0) m (part (F.start size 0) m) r h in
+    let e : None ≡ Some n = sym (ap (λ v. value_reported (value k (sequence_in m) (F.start size 0) m v)) a.asks)
+    ∙ shown in
+    cc e
+
+-- each move
+module _ (s : Own) (now : ℕ) (told : Option Event) (at_most : (n : ℕ) → places n s ≤ 1) where
+  abbrev By : Option ℕ → Observation → Type 0
+  By shown x = Source s.observations s.running (taken_by s now told) (heard_in told) shown x
+
+  quietly : taken_by s now told ≡ None → (n : ℕ) → is_newly_of n (taken_by s now told) ≡ false
+  quietly none n = ap (is_newly_of n) none
+
+  -- as it was, where nothing is taken and no value is reported
+  stays_by : taken_by s now told ≡ None → (shown : Option ℕ) → shown ≡ None → (x : Observation) → In x s.observations
+      → By shown x
+  stays_by none shown is x h = kept x h (same_self x x refl) refl (quietly none x.number)
+      (λ e. no_value x.number (sym is ∙ e))
+
+  failed_by : taken_by s now told ≡ None → (u : Transfer → Bool) (report : Report) → is_value report ≡ false
+      → (running : Option Operation) (x : Observation) → In x (failed u report s running).own.observations
+      → By (value_reported (failed u report s running).report) x
+  failed_by none u report last running x h =
+      let a = in_failed u report s running x h in
+      let o = a.0 in
+      let v = value_reported (failed u report s running).report in
+      let is : v ≡ None = failed_value u report s running last in
+      elim a.2 [
+        | inl e ↦ kept o a.1 (same_self o x e) (ap (λ (y : Observation). y.rest) e) (quietly none x.number)
+            (λ z. no_value x.number (sym is ∙ z))
+        | inr e ↦ rests o a.1 (record {
+          number = ap (λ (y : Observation). y.number) e;
+          mark = ap (λ (y : Observation). y.watch.mark) e;
+        }) (ap (λ (y : Observation). y.rest) e)
+            (quietly none x.number)
+      ]
+
+  -- a notification of one, the others stay
+  others_by : (k : ℕ) (m : Message) → taken_by s now told ≡ newly k now m → (x : Observation) → In x s.observations
+      → (k == x.number) ≡ false → By (value_reported (first_value k s.szx m)) x
+  others_by k m is x h apart =
+      kept x h (same_self x x refl) refl (ap (is_newly_of x.number) is ∙ apart)
+      (λ z. (let e = value_number k (sequence_in m) (F.start s.szx 0) m
+      (part (F.start s.szx 0) m) x.number z in let f : (k == x.number) ≡ true = ap (λ i. k == i) (sym e)
+      ∙ number_self k in cc (apart, f)))
+
+  comes_by : (k : ℕ) (m : Message) → taken_by s now told ≡ newly k now m → (x : Observation) → k ≡ x.number
+      → x.watch.mark ≡ Some (record { number = sequence_in m; at = now }) → x.rest ≡ first_rest s.szx m
+      → By (value_reported (first_value k s.szx m)) x
+  comes_by k m is x number mark rest =
+      comes (record { number = k; mark = record { number = sequence_in m; at = now }; message = m }) is number mark
+      (λ r e. (let f : first_rest s.szx m ≡ Some r = sym rest ∙ e in (s.szx, f, first_silent k s.szx m r x.number f)))
+
+  source_by : (mo : Move s now told) (x : Observation) → In x (left_by s now told mo).own.observations
+      → By (value_reported (left_by s now told mo).report) x
+  source_by (mv.rests un) x h = stays_by (unheard_none s now told un) None refl x h
+  source_by (mv.copies q) x h = stays_by (ap (taken_by s now) q) None refl x h
+  source_by (mv.starts_next op queue none rest first q) x h = stays_by (ap (taken_by s now) q) None refl x h
+  source_by (mv.fetches k none rest q) x h = stays_by (ap (taken_by s now) q) None refl x h
+  source_by (mv.goes_on k r tr next a hears_it runs asks) x h =
+      stays_by (answer_none s now told a (Calling k r tr) (λ z. refl) hears_it runs) None refl x h
+  source_by (mv.is_done k r tr final rep a hears_it runs ends_so) x h =
+      stays_by (answer_none s now told a (Calling k r tr) (λ z. refl) hears_it runs) (value_reported (of k rep))
+      (last_value k rep (subst LastOnly ends_so (answer_last r tr a))) x
+      (in_held s (not final && is_upload tr) (of k rep) x h)
+  source_by (mv.registers k path a hears_it runs note) x h =
+      let is : taken_by s now told ≡ newly k now a = ap (taken_by s now) hears_it
+      ∙ (ap (λ r. registers r now a) runs ∙ ap (λ b. cond b (newly k now a) None) note) in
+      let p = at_most k in
+      let q = ap (in_running k) runs in
+      let one = hit_self k in
+      let none : in_observations k s.observations ≡ 0 = omega (arith, p, q, one) in
+      by is none (Ever_append (λ o. o ≡ x) s.observations (begun k path s.szx now a ∷ []) h)
+    where
+      by : taken_by s now told ≡ newly k now a → in_observations k s.observations ≡ 0
+          → In x s.observations ⊎ In x (begun k path s.szx now a ∷ []) → By (value_reported (first_value k s.szx a)) x
+      by is none (inl there) = others_by k a is x there (other (k == x.number) refl)
+        where
+          other : (b : Bool) → (k == x.number) ≡ b → b ≡ false
+          other false e = refl
+          other true e = let c = in_count x s.observations there in let d : in_observations x.number s.observations
+              ≡ 0 = subst (λ i. in_observations i s.observations ≡ 0) (same_number k x.number e) none in absurd
+              (omega (arith, c, d))
+      by is none (inr (inl e)) = comes_by k a is x (ap (λ (y : Observation). y.number) e)
+          (sym (ap (λ (y : Observation). y.watch.mark) e)) (sym (ap (λ (y : Observation). y.rest) e))
+      by is none (inr (inr there)) = absurd there
+  source_by (mv.refuses k path a hears_it runs note) x h =
+      stays_by (ap (taken_by s now) hears_it ∙ (ap (λ r. registers r now a) runs
+      ∙ ap (λ b. cond b (newly k now a) None) note)) None refl x h
+  source_by (mv.fetches_on k n a num size hears_it runs rest code asks) x h =
+      let none = answer_none s now told a (Fetching k) (λ z. refl) hears_it runs in
+      let i = in_changed k (λ o. record o { rest = rest_left n.sequence n.fetch a (verdict.Ask num size) })
+      s.observations x h in
+      let o = i.0 in
+      elim i.2 [
+        | inl e ↦ (
+            let number : x.number ≡ o.number = ap (λ (y : Observation). y.number) e.1 in
+            let is : k ≡ x.number = sym (same_number o.number k e.0) ∙ sym number in
+            goes_on o n a num size i.1 (record { number = number; mark = ap (λ (y : Observation). y.watch.mark) e.1 })
+            (runs ∙ ap (λ j. Some (Fetching j)) is) (subst (λ j. rest_of j s.observations ≡ Some n) is rest)
+            (ap heard_in hears_it) code asks
+            (ap (λ (y : Observation). y.rest) e.1) (quietly none x.number) (no_value x.number))
+        | inr e ↦ kept o i.1 (same_self o x e.1) (ap (λ (y : Observation). y.rest) e.1) (quietly none x.number)
+            (no_value x.number)
+      ]
+  source_by (mv.fetched k n a hears_it runs rest code done) x h =
+      let none = answer_none s now told a (Fetching k) (λ z. refl) hears_it runs in
+      let i = in_changed k (λ o. record o { rest = None }) s.observations x h in
+      let o = i.0 in
+      elim i.2 [
+        | inl e ↦ rests o i.1 (record {
+          number = ap (λ (y : Observation). y.number) e.1;
+          mark = ap (λ (y : Observation). y.watch.mark) e.1;
+        }) (ap (λ (y : Observation). y.rest) e.1)
+            (quietly none x.number)
+        | inr e ↦ kept o i.1 (same_self o x e.1) (ap (λ (y : Observation). y.rest) e.1) (quietly none x.number) (λ z. (
+            let same = value_number k n.sequence n.fetch a verdict.Done x.number z in
+            let f : (o.number == k) ≡ true = ap (λ j. j == k) (sym (ap (λ (y : Observation). y.number) e.1) ∙ sym same)
+            ∙ number_self k in
+            let apart = e.0 in
+            cc (apart, f)))
+      ]
+  source_by (mv.gives_up k a hears_it runs) x h =
+      let none = answer_none s now told a (Fetching k) (λ z. refl) hears_it runs in
+      let i = in_changed k (λ o. record o { rest = None }) s.observations x h in
+      let o = i.0 in
+      elim i.2 [
+        | inl e ↦ rests o i.1 (record {
+          number = ap (λ (y : Observation). y.number) e.1;
+          mark = ap (λ (y : Observation). y.watch.mark) e.1;
+        }) (ap (λ (y : Observation). y.rest) e.1)
+            (quietly none x.number)
+        | inr e ↦ kept o i.1 (same_self o x e.1) (ap (λ (y : Observation). y.rest) e.1) (quietly none x.number)
+            (no_value x.number)
+      ]
+  source_by (mv.fetched_none k a hears_it runs) x h =
+      stays_by (answer_none s now told a (Fetching k) (λ z. refl) hears_it runs) None refl x h
+  source_by (mv.cancels k a hears_it runs) x h =
+      stays_by (answer_none s now told a (Cancelling k) (λ z. refl) hears_it runs) None refl x
+      (in_without k s.observations x h)
+  source_by (mv.is_dropped a hears_it runs) x h =
+      stays_by (answer_none s now told a Dropped (λ z. refl) hears_it runs) None refl x h
+  source_by (mv.fails e un) x h = failed_by (unheard_none s now told un) (λ t. true) (lapse e)
+      (lapse_last e) s.running x h
+  source_by (mv.is_ended o a notes found note) x h =
+      stays_by (ap (taken_by s now) notes ∙ (ap (λ z. renews z now a) found
+      ∙ ap (λ b. cond b (cond (is_newer o.watch.mark (sequence_in a) now) (newly o.number now a) None) None) note))
+      None refl x (in_without o.number s.observations x h)
+  source_by (mv.renews o a notes found note newer) x h =
+      let is : taken_by s now told ≡ newly o.number now a = ap (taken_by s now) notes
+      ∙ (ap (λ z. renews z now a) found ∙ (ap (λ b. cond b
+      (cond (is_newer o.watch.mark (sequence_in a) now) (newly o.number now a) None) None) note
+      ∙ ap (λ b. cond b (newly o.number now a) None) newer)) in
+      let i = in_changed o.number (λ p. record p {
+        watch = arrived p.watch (sequence_in a) now true;
+        rest = first_rest s.szx a;
+      }) s.observations x h in
+      let p = i.0 in
+      elim i.2 [
+        | inl e ↦ comes_by o.number a is x (sym (same_number p.number o.number e.0)
+            ∙ sym (ap (λ (y : Observation). y.number) e.1)) (ap (λ (y : Observation). y.watch.mark) e.1)
+            (ap (λ (y : Observation). y.rest) e.1)
+        | inr e ↦ (
+            let same : x ≡ p = e.1 in
+            others_by o.number a is x (subst (λ y. In y s.observations) (sym same) i.1)
+            (ap (λ j. o.number == j) (ap (λ (y : Observation). y.number) same) ∙ flip_other p.number o.number e.0))
+      ]
+  source_by (mv.passes_by o a notes found note newer) x h =
+      let none : taken_by s now told ≡ None = ap (taken_by s now) notes
+      ∙ (ap (λ z. renews z now a) found ∙ (ap (λ b. cond b
+      (cond (is_newer o.watch.mark (sequence_in a) now) (newly o.number now a) None) None) note
+      ∙ ap (λ b. cond b (newly o.number now a) None) newer)) in
+      let i = in_changed o.number (λ p. record p { watch = arrived p.watch (sequence_in a) now false }) s.observations x
+      h in
+      let p = i.0 in
+      elim i.2 [
+        | inl e ↦ kept p i.1 (record {
+          number = ap (λ (y : Observation). y.number) e.1;
+          mark = ap (λ (y : Observation). y.watch.mark) e.1;
+        }) (ap (λ (y : Observation). y.rest) e.1)
+            (quietly none x.number) (no_value x.number)
+        | inr e ↦ kept p i.1 (same_self p x e.1) (ap (λ (y : Observation). y.rest) e.1) (quietly none x.number)
+            (no_value x.number)
+      ]
+
+  -- .. and then what the sending makes of it
+  closed_by : (e : Effect) (token : Result (List ℕ) AskRefusal)
+      → ((x : Observation) → In x e.own.observations → By (value_reported e.report) x) → Closing now e token
+      → (x : Observation) → In x (closed now e e.deed token).own.observations
+      → By (value_reported (closed now e e.deed token).report) x
+  closed_by e token f (quiet q none own_same report_same) x h =
+      subst (λ r. By (value_reported r) x) (sym report_same) (f x (subst (λ (o : Own). In x o.observations) own_same h))
+  closed_by e token f (goes_out op key asks given sends_it own_same report_same) x h =
+      subst (λ r. By (value_reported r) x) (sym report_same)
+      (silent s.observations s.running (taken_by s now told) (heard_in told) (value_reported e.report) x
+      (f x (subst (λ (o : Own). In x o.observations) own_same h)))
+  closed_by e token f (is_refused op why asks given none all) x h =
+      let a = in_failed has_sent NoIds e.own (Some op) x (subst (λ (c : Effect). In x c.own.observations) all h) in
+      let v : value_reported (closed now e e.deed token).report
+      ≡ None = ap (λ (c : Effect). value_reported c.report) all
+      ∙ failed_value has_sent NoIds e.own (Some op) refl in
+      let o = a.0 in
+      subst (λ i. By i x) (sym v) (elim a.2 [
+        | inl same ↦ subst (λ y. By None y) (sym same)
+            (silent s.observations s.running (taken_by s now told) (heard_in told) (value_reported e.report) o
+            (f o a.1))
+        | inr same ↦ subst (λ y. By None y) (sym same)
+            (without_rest s.observations s.running (taken_by s now told) (heard_in told) (value_reported e.report) o
+            (f o a.1))
+      ])
+
+module _ (szx : ℕ) where
+  abbrev pub SourceOf : List Call → Call → Observation → Type 0
+  SourceOf t c x = Source (own_of szx t).observations (own_of szx t).running (notifies (own_of szx t) c) (hears c)
+      (value_reported (reports (own_of szx t) c)) x
+
+  source_turned : (t : List Call) (c : Call) → Turned szx t c → ((n : ℕ) → places n (own_of szx t) ≤ 1)
+      → (x : Observation) → In x (own_of szx (c ∷ t)).observations → SourceOf t c x
+  source_turned t c k at_most x h =
+      let m : ℕ = max (own_of szx t).clock k.now in
+      let s : Own = at k.now (own_of szx t) in
+      let e : Effect = left_by s m k.told k.move in
+      let z = closed_by s m k.told at_most e k.token (source_by s m k.told at_most k.move) k.closes x
+      (subst (λ (o : Own). In x o.observations) k.own_is h) in
+      subst (λ r. Source s.observations s.running (notifies (own_of szx t) c) (hears c) (value_reported r) x)
+      (sym k.reports_is)
+      (subst (λ a. Source s.observations s.running (notifies (own_of szx t) c) a
+      (value_reported (closed m e e.deed k.token).report) x) (sym k.hears_is)
+      (subst (λ n. Source s.observations s.running n (heard_in k.told)
+      (value_reported (closed m e e.deed k.token).report) x) (sym k.notifies_is) z))
+
+  pub source : (t : List Call) (c : Call) → ((n : ℕ) → places n (own_of szx t) ≤ 1) → (x : Observation)
+      → In x (own_of szx (c ∷ t)).observations → SourceOf t c x
+  source t (Calls now r (Ok n)) at_most x h = kept x h (same_self x x refl) refl refl (no_value x.number)
+  source t (Calls now r (Err why)) at_most x h = kept x h (same_self x x refl) refl refl (no_value x.number)
+  source t (Observes now path (Ok n)) at_most x h = kept x h (same_self x x refl) refl refl (no_value x.number)
+  source t (Observes now path (Err why)) at_most x h = kept x h (same_self x x refl) refl refl (no_value x.number)
+  source t (Cancels now k None) at_most x h = kept x h (same_self x x refl) refl refl (no_value x.number)
+  source t (Cancels now k (Some why)) at_most x h = kept x h (same_self x x refl) refl refl (no_value x.number)
+  source t (Forgets k was true) at_most x h = kept x (in_without k (own_of szx t).observations x h)
+      (same_self x x refl) refl refl (no_value x.number)
+  source t (Forgets k was false) at_most x h = kept x h (same_self x x refl) refl refl (no_value x.number)
+  source t (NextOut answer) at_most x h = kept x h (same_self x x refl) refl refl (no_value x.number)
+  source t (NextReport answer) at_most x h = kept x h (same_self x x refl) refl refl (no_value x.number)
+  source t (Asked answer) at_most x h = kept x h (same_self x x refl) refl refl (no_value x.number)
+  source t (Feeds now from bytes w up settled event sent token was) at_most x h =
+      source_turned t (Feeds now from bytes w up settled event sent token was)
+      (fed_turned szx t now from bytes w up settled event sent token was) at_most x h
+  source t (Ticks now w below turn sent token was answer) at_most x h =
+      source_turned t (Ticks now w below turn sent token was answer)
+      (ticked_turned szx t now w below turn sent token was answer) at_most x h

@@ -1,0 +1,9 @@
+pub mod Answered
+pub mod Gives
+pub mod GivesAll
+pub mod LiveOrGone
+pub mod Numbers
+pub mod Once
+pub mod PlaceEffects
+pub mod PlaceEvents
+pub mod PlaceLemmas

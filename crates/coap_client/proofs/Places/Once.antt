@@ -1,0 +1,415 @@
+-- Each number that a client gave is in one place, and a call is reported for the last time at most once.
+use Rattle.std.proofs.Common.{◌≡◌, ◌≤◌, inl, inr, ℕ, ◌+◌, max, Bool, true, false, cond, not, ◌&&◌, ◌||◌, Option, Some}
+use Rattle.std.proofs.Common.{None, List, [], ◌∷◌, ◌++◌, refl, ap, sym, subst, ◌∙◌, arith, Result, Ok, Err}
+use Rattle.std.specs.Prelude.{◌==◌, nat_lt, nat_le, length, option_to_list}
+use Rattle.std.specs.List.{list_any}
+use Rattle.std.proofs.lemmas.List.{append_assoc}
+use Rattle.std.proofs.lemmas.Bool.Decides.{nat_tests}
+use Rattle.coap_types.specs.declared.endpoint.Endpoint.{Endpoint}
+use Rattle.coap_layer.specs.Trace as L
+use Rattle.std.proofs.lemmas.Bool.{ltb-true}
+use Rattle.coap_exchange.specs.declared.asker.AskRefusal.{AskRefusal}
+use Rattle.coap_exchange.specs.declared.asker.Event.{Event}
+use Rattle.coap_exchange.specs.declared.asker.Turn.{Turn}
+use Rattle.coap_exchange.specs.AskerTrace as E
+use Rattle.coap_exchange.specs.AskerSteps as P
+use Rattle.coap_exchange.specs.AskerLaw as X
+use Rattle.coap_types.specs.declared.limits.TheConstants.{MAX_BODY_LEN as max_body}
+use Rattle.coap_client.specs.declared.limits.TheConstants.{MAX_OBSERVATIONS as max_observations}
+use Rattle.coap_client.specs.declared.refusals.CallRefusal.{CallRefusal}
+use Rattle.coap_client.specs.declared.refusals.CallRefusal.TheVariants.{QueueFull, BodyTooLarge, BadPath, WatchesFull}
+use Rattle.coap_client.specs.declared.refusals.CallRefusal.TheVariants.{CallsSpent}
+use Rattle.coap_client.specs.declared.refusals.CancelRefusal.{CancelRefusal}
+use Rattle.coap_client.specs.declared.refusals.CancelRefusal.TheVariants as cancel
+use Rattle.coap_types.specs.declared.option_number.TheConstants.{BLOCK2 as block2}
+use Rattle.coap_client.specs.Trace.{Request, Reported, Requested, Ended, Call, Calls, Observes}
+use Rattle.coap_client.specs.Trace.{Cancels}
+use Rattle.coap_client.specs.Trace.{Forgets, Feeds, Ticks, NextOut, NextReport, Asked}
+use Rattle.coap_client.specs.Own.{Operation, Registering, Cancelling, Observation, Own}
+use Rattle.coap_client.specs.Observations.{observation_of, is_cancel_of, is_cancelled, is_live, over}
+use Rattle.coap_client.specs.Requests.{options_of, path_options}
+use Rattle.coap_client.specs.Effects.{Asks, Effect}
+use Rattle.coap_client.specs.Observing.{releases, is_over}
+use Rattle.coap_client.specs.Events.{happened, passes}
+use Rattle.coap_client.specs.Queue.{max_numbers, are_long, block_option_number, is_full, observed}
+use Rattle.coap_client.specs.Queue.{call_answer}
+use Rattle.coap_client.specs.Queue.{observe_answer, cancel_answer, may_forget, calling}
+use Rattle.coap_client.specs.Deeds.{at, close, deeds, done_for}
+use Rattle.coap_client.specs.Steps.{lower, reports, reporting, asking}
+use Rattle.coap_client.specs.Law.{ClientLaw, ClientRows, own_of, lower_of}
+use Rattle.coap_client.specs.Follows.Answered.{HasReport, ReportedOnce}
+use Rattle.coap_client.specs.Follows.Places.{hit, in_op, in_running, in_queue, in_observations, places}
+use Rattle.coap_client.specs.Follows.Places.{final_of}
+use Rattle.coap_client.specs.Follows.Places.{forgotten_by, gone, InOnePlace}
+use Rattle.coap_client.proofs.Places.PlaceLemmas.{same_number, number_self, hit_self, in_queue_append}
+use Rattle.coap_client.proofs.Places.PlaceLemmas.{found_by_number}
+use Rattle.coap_client.proofs.Turning.ExchangeCame.{came}
+use Rattle.coap_client.proofs.Places.PlaceEffects.{Waits, AllWait, IfRuns, Sound, Linked, Goes, NoCancel, over_goes}
+use Rattle.coap_client.proofs.Places.PlaceEvents.{happened_goes, passes_goes, ran, AreRight, ran_append}
+use Rattle.coap_client.proofs.Places.PlaceEvents.{are_right_back, are_right_front, Closes, closes, quiet_deeds}
+use Rattle.coap_client.proofs.Places.PlaceEvents.{linked_of}
+
+-- of exchanges' calls, those behind others
+
+pub own_ran : (server : Endpoint) (word : ℕ) (cs rest : List E.Call)
+    → X.own_of server word (cs ++ rest) ≡ ran (X.own_of server word rest) cs
+own_ran server word [] rest = refl
+own_ran server word (c ∷ cs) rest = ap (λ y. P.after y c) (own_ran server word cs rest)
+
+pub law_back : (server : Endpoint) (word : ℕ) (cs rest : List E.Call) → X.AskerLaw server word (cs ++ rest)
+    → X.AskerLaw server word rest
+law_back server word [] rest h = h
+law_back server word (c ∷ cs) rest h = law_back server word cs rest h.1
+
+pub law_front : (server : Endpoint) (word : ℕ) (cs rest : List E.Call) → X.AskerLaw server word (cs ++ rest)
+    → AreRight (X.own_of server word rest) cs
+law_front server word [] rest h = tt
+law_front server word (c ∷ cs) rest h = (
+  subst (λ y. P.IsRight y c) (own_ran server word cs rest) h.0,
+  law_front server word cs rest h.1,
+)
+
+-- an input, and what is asked behind it
+module _ (x : E.Own) (later first : List E.Call) (input : E.Call) where
+  pub done_ran : ran x (later ++ (first ++ input ∷ [])) ≡ ran (P.after x input) (later ++ first)
+  done_ran = ap (ran x) (sym (append_assoc later first (input ∷ []))) ∙ ran_append x (later ++ first) (input ∷ [])
+
+  pub done_right : AreRight x (later ++ (first ++ input ∷ []))
+      → P.IsRight x input × AreRight (P.after x input) (later ++ first)
+  done_right h =
+      let k = subst (AreRight x) (sym (append_assoc later first (input ∷ []))) h in
+      ((are_right_back x (later ++ first) (input ∷ []) k).0, are_right_front x (later ++ first) (input ∷ []) k)
+
+-- how many numbers there are
+not_lt : (a b : ℕ) → nat_lt a b ≡ false → b ≤ a
+not_lt a b h = grind (arith, nat_tests)
+
+abbrev one_if : Bool → ℕ
+one_if b = cond b 1 0
+
+abbrev below : ℕ → ℕ → ℕ
+below n m = cond (nat_lt n m) 1 0
+
+below_zero : (n : ℕ) → below n 0 ≡ 0
+below_zero n = by (nat_lt n 0) refl
+  where
+    by : (b : Bool) → nat_lt n 0 ≡ b → one_if b ≡ 0
+    by true h = let k = ltb-true n 0 h in absurd (omega (arith, k))
+    by false h = refl
+
+below_next : (n m : ℕ) → cond (nat_lt n (m + 1)) 1 0 ≡ cond (nat_lt n m) 1 0 + hit m n
+below_next n m = by (nat_lt n (m + 1)) refl (nat_lt n m) refl (m == n) refl
+  where
+    by : (b : Bool) → nat_lt n (m + 1) ≡ b → (c : Bool) → nat_lt n m ≡ c → (d : Bool) → (m == n) ≡ d
+        → one_if b ≡ one_if c + one_if d
+    by true h true k false e = omega arith
+    by true h true k true e = let a = ltb-true n m k in let q = same_number m n e in absurd (omega (arith, a, q))
+    by true h false k true e = omega arith
+    by true h false k false e =
+        let a = ltb-true n (m + 1) h in
+        let q = not_lt n m k in
+        let same : m ≡ n = omega (arith, a, q) in
+        let t : (m == n) ≡ true = ap (λ i. m == i) (sym same) ∙ number_self m in
+        absurd (cc (t, e))
+    by false h true k d e = let a = not_lt n (m + 1) h in let q = ltb-true n m k in absurd (omega (arith, a, q))
+    by false h false k true e = let a = not_lt n (m + 1) h in let q = same_number m n e in absurd (omega (arith, a, q))
+    by false h false k false e = omega arith
+
+at_most_one : (a b : ℕ) (c : Bool) → a + b ≡ cond c 1 0 → a ≤ 1
+at_most_one a b true h = omega (arith, h)
+at_most_one a b false h = omega (arith, h)
+
+pub both_one : (a b : ℕ) (c : Bool) → a + b ≡ cond c 1 0 → 1 ≤ a → 1 ≤ b → ⊥
+both_one a b true h p q = absurd (omega (arith, h, p, q))
+both_one a b false h p q = absurd (omega (arith, h, p, q))
+
+-- a number that is given
+pub given_is : (a b c d : Bool) (e f g i : CallRefusal) (k taken : ℕ)
+    → Ok k ≡ cond a (Err e) (cond b (Err f) (cond c (Err g) (cond d (Err i) (Ok taken)))) → k ≡ taken
+given_is true b c d e f g i k taken h = absurd (cc h)
+given_is false true c d e f g i k taken h = absurd (cc h)
+given_is false false true d e f g i k taken h = absurd (cc h)
+given_is false false false true e f g i k taken h = absurd (cc h)
+given_is false false false false e f g i k taken h = cc h
+
+live_if : (live cancelled full : Bool) → None
+    ≡ cond (not live || cancelled) (Some cancel.Unknown) (cond full (Some cancel.QueueFull) None) → live ≡ true
+live_if true cancelled full h = refl
+live_if false cancelled full h = absurd (cc h)
+
+pub and_both : (a b : Bool) → true ≡ (a && b) → (a ≡ true) × (b ≡ true)
+and_both true b h = (refl, sym h)
+and_both false b h = absurd (cc h)
+
+wait_behind : (os : List Observation) (q : List Operation) (op : Operation) → AllWait os q → Waits os op
+    → AllWait os (q ++ op ∷ [])
+wait_behind os [] op h w = (w, tt)
+wait_behind os (x ∷ q) op h w = (h.0, wait_behind os q op h.1 w)
+
+releases_none : (o : Option Observation) (op : Operation) → releases o ≡ Asks op → ⊥
+releases_none None op h = cc h
+releases_none (Some o) op h = cc h
+
+-- no cancel runs where none is there
+no_cancel : (s : Own) (k : ℕ) → not (is_cancelled k s) ≡ true → NoCancel k s.running
+no_cancel s k h j is = by (j == k) (ap (λ r. not (list_any (is_cancel_of k) (option_to_list r ++ s.queue))) (sym is)
+    ∙ h)
+  where
+    by : (b : Bool) → not (b || list_any (is_cancel_of k) s.queue) ≡ true → b ≡ false
+    by true e = absurd (cc e)
+    by false e = refl
+
+module _ (server : Endpoint) (szx word : ℕ) where
+  abbrev pub beneath : List Call → E.Own
+  beneath t = X.own_of server word (lower_of szx t)
+
+  pub record Known (t : List Call) : Type 0 where
+    pub waits : AllWait (own_of szx t).observations (own_of szx t).queue
+    pub runs_on : IfRuns (own_of szx t).observations (own_of szx t).running
+    pub linked : Linked (own_of szx t).running (own_of szx t).observations (beneath t).running
+    pub one : InOnePlace szx t
+
+  pub sound_of : (t : List Call) → Known t → Sound (own_of szx t)
+  sound_of t k = record { at_most = λ n. at_most_one _ _ _ (k.one n); waits = k.waits; runs_on = k.runs_on }
+
+  -- an event, or a turn
+  module _ (t : List Call) (now w : ℕ) (sent : L.Answer) (token : Result (List ℕ) AskRefusal) (kept : Bool) (e : Effect)
+      (input : E.Call) where
+    abbrev s : Own
+    s = at now (own_of szx t)
+
+    abbrev m : ℕ
+    m = max (own_of szx t).clock now
+
+    abbrev later : List E.Call
+    later = deeds (close m e token).deed (close m e token).own m w sent token kept
+
+    abbrev first : List E.Call
+    first = deeds e.deed e.own m w sent token kept
+
+    stepped : Known t → X.AskerLaw server word (done_for e m w sent token kept input ++ lower_of szx t)
+        → (P.IsRight (beneath t) input → Goes s (P.after (beneath t) input).running e)
+        → Closes s (close m e token) (X.own_of server word
+        (done_for e m w sent token kept input ++ lower_of szx t)).running
+    stepped k law goes =
+        let right = done_right (beneath t) later first input
+        (law_front server word (later ++ (first ++ input ∷ [])) (lower_of szx t) law) in
+        let sound : Sound s = (let z = sound_of t k in record
+        { at_most = z.at_most; waits = z.waits; runs_on = z.runs_on }) in
+        let c = closes s e (P.after (beneath t) input) sound (goes right.0) m w sent kept token right.1 in
+        subst (Closes s (close m e token)) (sym (ap (λ (y : E.Own). y.running)
+        (own_ran server word (later ++ (first ++ input ∷ [])) (lower_of szx t)
+        ∙ done_ran (beneath t) later first input))) c
+
+  pub fed : (t : List Call) (now : ℕ) (from : Endpoint) (bytes : List ℕ) (w : ℕ) (up : L.Answer) (settled : Bool)
+      (event : Option Event) (sent : L.Answer) (token : Result (List ℕ) AskRefusal) (kept : Bool) → Known t
+      → X.AskerLaw server word (lower_of szx (Feeds now from bytes w up settled event sent token kept ∷ t))
+      → Closes (at now (own_of szx t)) (close (max (own_of szx t).clock now)
+      (happened (at now (own_of szx t)) (max (own_of szx t).clock now) event) token)
+      (beneath (Feeds now from bytes w up settled event sent token kept ∷ t)).running
+  fed t now from bytes w up settled event sent token kept k law =
+      let m : ℕ = max (own_of szx t).clock now in
+      let z = sound_of t k in
+      stepped t now w sent token kept (happened (at now (own_of szx t)) m event)
+      (E.Receive m from bytes up settled event) k law
+      (λ right. happened_goes (at now (own_of szx t)) (beneath t).running _
+      (record { at_most = z.at_most; waits = z.waits; runs_on = z.runs_on }) k.linked m event
+      (came (beneath t) from _ up event right))
+
+  pub ticked : (t : List Call) (now w : ℕ) (below : L.Answer) (turn : Turn) (sent : L.Answer)
+      (token : Result (List ℕ) AskRefusal) (kept answer : Bool) → Known t
+      → X.AskerLaw server word (lower_of szx (Ticks now w below turn sent token kept answer ∷ t))
+      → Closes (at now (own_of szx t)) (close (max (own_of szx t).clock now)
+      (passes (at now (own_of szx t)) (max (own_of szx t).clock now) turn) token)
+      (beneath (Ticks now w below turn sent token kept answer ∷ t)).running
+  ticked t now w below turn sent token kept answer k law =
+      let m : ℕ = max (own_of szx t).clock now in
+      let z = sound_of t k in
+      stepped t now w sent token kept (passes (at now (own_of szx t)) m turn) (E.Ticks m below turn) k law
+      (λ right. passes_goes (at now (own_of szx t)) (beneath t).running
+      (record { at_most = z.at_most; waits = z.waits; runs_on = z.runs_on }) k.linked m turn)
+
+  -- one number more waits
+  queued : (t : List Call) (c : Call) (op : Operation) (k : ℕ) → Known t → ((n : ℕ) → in_op n op ≡ hit k n)
+      → k ≡ (own_of szx t).taken → (n : ℕ)
+      → (in_running n (own_of szx t).running + (in_queue n ((own_of szx t).queue ++ op ∷ []) + in_observations n
+      (own_of szx t).observations)) + gone szx n t ≡ cond (nat_lt n ((own_of szx t).taken + 1)) 1 0
+  queued t c op k known place is n =
+      let a = in_queue_append n (own_of szx t).queue (op ∷ []) in
+      let b = below_next n (own_of szx t).taken in
+      let d = place n ∙ ap (λ i. hit i n) is in
+      let e = known.one n in
+      omega (arith, a, b, d, e)
+
+  called : (t : List Call) (now : ℕ) (r : Request) (answer : Result ℕ CallRefusal)
+      → answer ≡ call_answer (own_of szx t) r → Known t → Known (Calls now r answer ∷ t)
+  called t now r (Err why) right k = record {
+    waits = k.waits;
+    runs_on = k.runs_on;
+    linked = k.linked;
+    one = λ n. let e = k.one n in omega (arith, e);
+  }
+  called t now r (Ok number) right k =
+      let s : Own = own_of szx t in
+      let is : number ≡ s.taken = given_is (is_full s) (nat_lt max_body (length r.body))
+      (are_long (block_option_number r.method) (options_of r))
+      (s.taken == max_numbers) QueueFull BodyTooLarge BadPath CallsSpent number s.taken right in
+      record {
+        waits = wait_behind s.observations s.queue (calling s.szx number r) k.waits tt;
+        runs_on = k.runs_on;
+        linked = k.linked;
+        one = λ n. let e = queued t (Calls now r (Ok number)) (calling s.szx number r) number k
+            (λ i. refl) is n in omega (arith, e);
+      }
+
+  observed_by : (t : List Call) (now : ℕ) (path : List (List ℕ)) (answer : Result ℕ CallRefusal)
+      → answer ≡ observe_answer (own_of szx t) path → Known t → Known (Observes now path answer ∷ t)
+  observed_by t now path (Err why) right k = record
+      { waits = k.waits; runs_on = k.runs_on; linked = k.linked; one = λ n. let e = k.one n in omega (arith, e) }
+  observed_by t now path (Ok number) right k =
+      let s : Own = own_of szx t in
+      let is : number ≡ s.taken = given_is (is_full s) (are_long block2 (path_options path))
+      (nat_le max_observations (observed s)) (s.taken == max_numbers) QueueFull BadPath WatchesFull CallsSpent
+      number s.taken right in
+      record {
+        waits = wait_behind s.observations s.queue (Registering number path) k.waits tt;
+        runs_on = k.runs_on;
+        linked = k.linked;
+        one = λ n. let e = queued t (Observes now path (Ok number)) (Registering number path) number k
+            (λ i. refl) is n in omega (arith, e);
+      }
+
+  cancelled : (t : List Call) (now number : ℕ) (answer : Option CancelRefusal)
+      → answer ≡ cancel_answer (own_of szx t) number → Known t → Known (Cancels now number answer ∷ t)
+  cancelled t now number (Some why) right k = record
+      { waits = k.waits; runs_on = k.runs_on; linked = k.linked; one = λ n. let e = k.one n in omega (arith, e) }
+  cancelled t now number None right k =
+      let s : Own = own_of szx t in
+      let live = found_by_number number s.observations
+      (live_if (is_live number s) (is_cancelled number s) (is_full s) right) in
+      record {
+        waits = wait_behind s.observations s.queue (Cancelling number) k.waits live;
+        runs_on = k.runs_on;
+        linked = k.linked;
+        one = λ n. let e = k.one n in let a = in_queue_append n s.queue (Cancelling number ∷ []) in omega (arith, a, e);
+      }
+
+  forgot : (t : List Call) (number : ℕ) (kept answer : Bool) → answer ≡ may_forget (own_of szx t) number → Known t
+      → Known (Forgets number kept answer ∷ t)
+  forgot t number kept false right k = record {
+    waits = k.waits;
+    runs_on = k.runs_on;
+    linked = k.linked;
+    one = λ n. let e = k.one n in omega (arith, e);
+  }
+  forgot t number kept true right k =
+      let s : Own = own_of szx t in
+      let both = and_both (is_live number s) (not (is_cancelled number s)) right in
+      let g = over_goes s (beneath t).running (sound_of t k) k.linked number (Ended 0)
+      (found_by_number number s.observations both.0) (no_cancel s number both.1) refl in
+      let apart : (op : Operation) → releases (observation_of number s.observations) ≡ Asks op
+      → ⊥ = releases_none (observation_of number s.observations) in
+      let cs : List E.Call = deeds (releases (observation_of number s.observations)) s 0 0 L.Nothing (Ok []) kept in
+      let same = ap (λ (y : E.Own). y.running) (own_ran server word cs (lower_of szx t))
+      ∙ quiet_deeds 0 0 L.Nothing kept (Ok []) (releases (observation_of number s.observations)) s
+      (beneath t) apart in
+      record {
+        waits = g.waits;
+        runs_on = g.runs_on;
+        linked = subst (Linked (over number s).running (over number s).observations) (sym same)
+            (linked_of (releases (observation_of number s.observations)) (is_over number (Ended 0) s)
+            (beneath t).running apart g.leaves);
+        one = λ n. let a = g.conserved n in let e = k.one n in omega (arith, a, e);
+      }
+
+  closed_known : (t : List Call) (c : Call) (now : ℕ) (e : Effect) (request : Option Requested)
+      → own_of szx (c ∷ t) ≡ asking request (reporting e) → reports (own_of szx t) c ≡ e.report
+      → ((n : ℕ) → forgotten_by n c ≡ 0) → Known t → Closes (at now (own_of szx t)) e (beneath (c ∷ t)).running
+      → Known (c ∷ t)
+  closed_known t c now e request own_is report_is none k z = record {
+    waits = subst (λ (o : Own). AllWait o.observations o.queue) (sym own_is) z.waits;
+    runs_on = subst (λ (o : Own). IfRuns o.observations o.running) (sym own_is) z.runs_on;
+    linked = subst (λ (o : Own). Linked o.running o.observations (beneath (c ∷ t)).running) (sym own_is) z.linked;
+    one = λ n.
+        subst (λ (o : Own). places n o + gone szx n (c ∷ t) ≡ cond (nat_lt n o.taken) 1 0) (sym own_is)
+        (let a = z.conserved n in let b = k.one n in let d = ap (final_of n) report_is in let f = none n in let i =
+        ap (below n) z.taken_is in omega (arith, a, b, d, f, i));
+  }
+
+  pub known : (t : List Call) → ClientRows szx t → X.AskerLaw server word (lower_of szx t) → Known t
+  known [] rows law = record {
+    waits = tt;
+    runs_on = tt;
+    linked = refl;
+    one = λ n. let z = below_zero n in omega (arith, z);
+  }
+  known (Calls now r answer ∷ t) rows law = called t now r answer rows.0 (known t rows.1 law)
+  known (Observes now path answer ∷ t) rows law = observed_by t now path answer rows.0 (known t rows.1 law)
+  known (Cancels now number answer ∷ t) rows law = cancelled t now number answer rows.0 (known t rows.1 law)
+  known (Forgets number kept answer ∷ t) rows law =
+      forgot t number kept answer rows.0 (known t rows.1
+      (law_back server word (lower (own_of szx t) (Forgets number kept answer)) (lower_of szx t) law))
+  known (Feeds now from bytes w up settled event sent token kept ∷ t) rows law =
+      let c : Call = Feeds now from bytes w up settled event sent token kept in
+      let k = known t rows.1 (law_back server word (lower (own_of szx t) c) (lower_of szx t) law) in
+      closed_known t c now _ _ refl refl (λ n. refl) k (fed t now from bytes w up settled event sent token kept k law)
+  known (Ticks now w below turn sent token kept answer ∷ t) rows law =
+      let c : Call = Ticks now w below turn sent token kept answer in
+      let k = known t rows.1 (law_back server word (lower (own_of szx t) c) (lower_of szx t) law) in
+      closed_known t c now _ _ refl refl (λ n. refl) k (ticked t now w below turn sent token kept answer k law)
+  known (NextOut answer ∷ t) rows law = let k =
+      known t rows.1 law.1 in record {
+        waits = k.waits;
+        runs_on = k.runs_on;
+        linked = k.linked;
+        one = λ n. let e = k.one n in omega (arith, e);
+      }
+  known (NextReport answer ∷ t) rows law = let k =
+      known t rows.1 law in record {
+        waits = k.waits;
+        runs_on = k.runs_on;
+        linked = k.linked;
+        one = λ n. let e = k.one n in omega (arith, e);
+      }
+  known (Asked answer ∷ t) rows law = let k = known t rows.1 law in record
+      { waits = k.waits; runs_on = k.runs_on; linked = k.linked; one = λ n. let e = k.one n in omega (arith, e) }
+
+  -- what is reported is of a number that was in a place
+  pub from_place : (t : List Call) (c : Call) → Known t → X.AskerLaw server word (lower_of szx (c ∷ t)) → (x : Reported)
+      → reports (own_of szx t) c ≡ Some x → 1 ≤ places x.number (own_of szx t)
+  from_place t (Calls now r answer) k law x h = absurd (cc h)
+  from_place t (Observes now path answer) k law x h = absurd (cc h)
+  from_place t (Cancels now number answer) k law x h = absurd (cc h)
+  from_place t (Forgets number kept answer) k law x h = absurd (cc h)
+  from_place t (NextOut answer) k law x h = absurd (cc h)
+  from_place t (NextReport answer) k law x h = absurd (cc h)
+  from_place t (Asked answer) k law x h = absurd (cc h)
+  from_place t (Feeds now from bytes w up settled event sent token kept) k law x h =
+      (fed t now from bytes w up settled event sent token kept k law).source x h
+  from_place t (Ticks now w below turn sent token kept answer) k law x h =
+      (ticked t now w below turn sent token kept answer k law).source x h
+
+  -- what was reported for the last time is gone
+  pub final_gone : (number : ℕ) (t : List Call) → HasReport server szx word number t → 1 ≤ gone szx number t
+  final_gone number [] h = absurd h
+  final_gone number (c ∷ t) (inr h) = let ih = final_gone number t h in omega (arith, ih)
+  final_gone number (c ∷ t) (inl h) =
+      let a : final_of number (reports (own_of szx t) c) ≡ final_of number (Some h.0) = ap (final_of number) h.2.made in
+      let b : final_of number (Some h.0) ≡ hit h.0.number number =
+      ap (λ v. cond v 0 (hit h.0.number number)) h.2.final in
+      let d : hit h.0.number number ≡ 1 = ap (λ i. hit i number) h.1 ∙ hit_self number in
+      omega (arith, a, b, d)
+
+  pub reported_once : (t : List Call) → ClientLaw server szx word t → ReportedOnce server szx word t
+  reported_once t law = all t law.rows law.exchanges.rows
+    where
+      all : (t : List Call) → ClientRows szx t → X.AskerLaw server word (lower_of szx t)
+          → ReportedOnce server szx word t
+      all [] rows law = tt
+      all (c ∷ t) rows law =
+          let below = law_back server word (lower (own_of szx t) c) (lower_of szx t) law in
+          let k = known t rows.1 below in (
+            λ x made h. both_one (places x.number (own_of szx t)) (gone szx x.number t) _ (k.one x.number)
+                (from_place t c k law x made) (final_gone x.number t h),
+            all t rows.1 below,
+          )

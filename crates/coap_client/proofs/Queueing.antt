@@ -1,0 +1,5 @@
+pub mod InTurn
+pub mod OneByOne
+pub mod Queued
+pub mod Taken
+pub mod WaitingLists

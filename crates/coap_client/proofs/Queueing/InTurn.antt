@@ -1,0 +1,502 @@
+-- Calls and registrations take their turns, in the order of their numbers.
+use Rattle.std.proofs.Common.{◌≡◌, ◌≤◌, inl, inr, ℕ, ◌+◌, max, Bool, true, false, cond, not, ◌&&◌, Option, Some, None}
+use Rattle.std.proofs.Common.{List, ◌∷◌, ◌++◌, [], refl, ap, sym, subst, ◌∙◌, Result, Ok, Err, arith}
+use Rattle.std.specs.Prelude.{◌==◌, nat_lt, nat_le, length, filter}
+use Rattle.coap_types.specs.declared.limits.TheConstants.{MAX_BODY_LEN as max_body}
+use Rattle.coap_types.specs.declared.option_number.TheConstants.{BLOCK2 as block2}
+use Rattle.coap_exchange.specs.declared.asker.AskRefusal.{AskRefusal}
+use Rattle.coap_exchange.specs.declared.asker.Event.{Event}
+use Rattle.coap_client.specs.declared.limits.TheConstants.{MAX_OBSERVATIONS as max_observations}
+use Rattle.coap_client.specs.declared.refusals.CallRefusal.TheVariants.{QueueFull, BodyTooLarge, BadPath, WatchesFull}
+use Rattle.coap_client.specs.declared.refusals.CallRefusal.TheVariants.{CallsSpent}
+use Rattle.coap_client.specs.Trace.{Report, NoIds, Reported, Requested, Call, Calls, Observes, Cancels}
+use Rattle.coap_client.specs.Trace.{Forgets, Feeds, Ticks, NextOut, NextReport, Asked}
+use Rattle.coap_client.specs.Own.{Transfer, Operation, Calling, Registering, Fetching, Cancelling}
+use Rattle.coap_client.specs.Own.{Dropped, Own}
+use Rattle.coap_client.specs.Observations.{is_cancel_of, dropped, over}
+use Rattle.coap_client.specs.Requests.{options_of, path_options}
+use Rattle.coap_client.specs.Reports.{lapse}
+use Rattle.coap_client.specs.Effects.{Asks, Effect, has_sent, ends, of, is_upload}
+use Rattle.coap_client.specs.Events.{failed, closed}
+use Rattle.coap_client.specs.Queue.{max_numbers, are_long, block_option_number, is_full, observed}
+use Rattle.coap_client.specs.Queue.{calling}
+use Rattle.coap_client.specs.Deeds.{at}
+use Rattle.coap_client.specs.Law.{ClientRows, own_of}
+use Rattle.coap_client.specs.Follows.Words.{Sending, sends, sent_by}
+use Rattle.coap_client.proofs.Places.Once.{given_is}
+use Rattle.coap_client.specs.Follows.Begins.{WasSent}
+use Rattle.coap_client.specs.Follows.Order.{turn_of}
+use Rattle.coap_client.specs.Turns.Moves as mv
+use Rattle.coap_client.specs.Turns.Moves.{Move, left_by}
+use Rattle.coap_client.specs.Turns.Closing.{Closing, quiet, goes_out, is_refused, sending_of}
+use Rattle.coap_client.proofs.Turning.Moves.{releases_none}
+use Rattle.coap_client.proofs.Turning.Turns.{Turned, left_with, fed_turned, ticked_turned}
+
+-- the numbers that wait rise, from this one on and below those to come
+abbrev pub Rises : ℕ → List Operation → ℕ → Type 0
+Rises low [] taken = low ≤ taken
+Rises low (Calling n r t ∷ ops) taken = (low ≤ n) × Rises (n + 1) ops taken
+Rises low (Registering n path ∷ ops) taken = (low ≤ n) × Rises (n + 1) ops taken
+Rises low (Fetching n ∷ ops) taken = Rises low ops taken
+Rises low (Cancelling n ∷ ops) taken = Rises low ops taken
+Rises low (Dropped ∷ ops) taken = Rises low ops taken
+
+rises_lower : (low less : ℕ) (ops : List Operation) (taken : ℕ) → less ≤ low → Rises low ops taken
+    → Rises less ops taken
+rises_lower low less [] taken le h = omega (arith, le, h)
+rises_lower low less (Calling n r t ∷ ops) taken le h = (let a = h.0 in omega (arith, le, a), h.1)
+rises_lower low less (Registering n path ∷ ops) taken le h = (let a = h.0 in omega (arith, le, a), h.1)
+rises_lower low less (Fetching n ∷ ops) taken le h = rises_lower low less ops taken le h
+rises_lower low less (Cancelling n ∷ ops) taken le h = rises_lower low less ops taken le h
+rises_lower low less (Dropped ∷ ops) taken le h = rises_lower low less ops taken le h
+
+rises_tail : (low : ℕ) (op : Operation) (ops : List Operation) (taken : ℕ) → Rises low (op ∷ ops) taken
+    → Rises low ops taken
+rises_tail low (Calling n r t) ops taken h = rises_lower (n + 1) low ops taken (let a = h.0 in omega (arith, a)) h.1
+rises_tail low (Registering n path) ops taken h =
+    rises_lower (n + 1) low ops taken (let a = h.0 in omega (arith, a)) h.1
+rises_tail low (Fetching n) ops taken h = h
+rises_tail low (Cancelling n) ops taken h = h
+rises_tail low Dropped ops taken h = h
+
+abbrev IsNext : ℕ → Operation → Type 0
+IsNext n op = turn_of op ≡ Some n
+
+rises_one : (low n : ℕ) (op : Operation) → IsNext n op → low ≤ n → Rises low (op ∷ []) (n + 1)
+rises_one low n (Calling k r t) is le = let e : k ≡ n = cc is in (omega (arith, e, le), omega (arith, e))
+rises_one low n (Registering k path) is le = let e : k ≡ n = cc is in (omega (arith, e, le), omega (arith, e))
+rises_one low n (Fetching k) is le = absurd (cc is)
+rises_one low n (Cancelling k) is le = absurd (cc is)
+rises_one low n Dropped is le = absurd (cc is)
+
+-- one more waits
+rises_more : (low n : ℕ) (op : Operation) → IsNext n op → (ops : List Operation) → Rises low ops n
+    → Rises low (ops ++ op ∷ []) (n + 1)
+rises_more low n op is [] h = rises_one low n op is h
+rises_more low n op is (Calling k r t ∷ ops) h = (h.0, rises_more (k + 1) n op is ops h.1)
+rises_more low n op is (Registering k path ∷ ops) h = (h.0, rises_more (k + 1) n op is ops h.1)
+rises_more low n op is (Fetching k ∷ ops) h = rises_more low n op is ops h
+rises_more low n op is (Cancelling k ∷ ops) h = rises_more low n op is ops h
+rises_more low n op is (Dropped ∷ ops) h = rises_more low n op is ops h
+
+rises_cancel : (low taken k : ℕ) (ops : List Operation) → Rises low ops taken
+    → Rises low (ops ++ Cancelling k ∷ []) taken
+rises_cancel low taken k [] h = h
+rises_cancel low taken k (Calling n r t ∷ ops) h = (h.0, rises_cancel (n + 1) taken k ops h.1)
+rises_cancel low taken k (Registering n path ∷ ops) h = (h.0, rises_cancel (n + 1) taken k ops h.1)
+rises_cancel low taken k (Fetching n ∷ ops) h = rises_cancel low taken k ops h
+rises_cancel low taken k (Cancelling n ∷ ops) h = rises_cancel low taken k ops h
+rises_cancel low taken k (Dropped ∷ ops) h = rises_cancel low taken k ops h
+
+-- cancels leave
+rises_without : (low taken k : ℕ) (ops : List Operation) → Rises low ops taken
+    → Rises low (filter (λ op. not (is_cancel_of k op)) ops) taken
+rises_without low taken k [] h = h
+rises_without low taken k (Calling n r t ∷ ops) h = (h.0, rises_without (n + 1) taken k ops h.1)
+rises_without low taken k (Registering n path ∷ ops) h = (h.0, rises_without (n + 1) taken k ops h.1)
+rises_without low taken k (Fetching n ∷ ops) h = rises_without low taken k ops h
+rises_without low taken k (Dropped ∷ ops) h = rises_without low taken k ops h
+rises_without low taken k (Cancelling n ∷ ops) h = by (n == k) (rises_without low taken k ops h)
+  where
+    by : (b : Bool) → Rises low (filter (λ op. not (is_cancel_of k op)) ops) taken
+        → Rises low (cond (not b) (Cancelling n ∷ filter (λ op. not (is_cancel_of k op)) ops)
+        (filter (λ op. not (is_cancel_of k op)) ops)) taken
+    by true ih = ih
+    by false ih = ih
+
+-- what takes no turn leaves the queue in its order, and starts nothing
+record Still (s o : Own) : Type 0 where
+  queue : (low taken : ℕ) → Rises low s.queue taken → Rises low o.queue taken
+  running : (op : Operation) (n : ℕ) → o.running ≡ Some op → turn_of op ≡ Some n → s.running ≡ Some op
+  taken_is : o.taken ≡ s.taken
+
+still_same : (s o : Own) → o.queue ≡ s.queue → o.running ≡ s.running → o.taken ≡ s.taken → Still s o
+still_same s o q r k = record {
+  queue = λ low taken h. subst (λ z. Rises low z taken) (sym q) h;
+  running = λ op n is turn. sym r ∙ is;
+  taken_is = k;
+}
+
+still_none : (s o : Own) → o.queue ≡ s.queue → o.running ≡ None → o.taken ≡ s.taken → Still s o
+still_none s o q r k = record {
+  queue = λ low taken h. subst (λ z. Rises low z taken) (sym q) h;
+  running = λ op n is turn. (let e : None ≡ Some op = sym r ∙ is in absurd (cc e));
+  taken_is = k;
+}
+
+dropped_turn : (k : ℕ) (running : Option Operation) (op : Operation) (n : ℕ) → dropped k running ≡ Some op
+    → turn_of op ≡ Some n → running ≡ Some op
+dropped_turn k None op n is turn = absurd (cc is)
+dropped_turn k (Some (Calling j r t)) op n is turn = is
+dropped_turn k (Some (Registering j path)) op n is turn = is
+dropped_turn k (Some (Cancelling j)) op n is turn = is
+dropped_turn k (Some Dropped) op n is turn = is
+dropped_turn k (Some (Fetching j)) op n is turn = absurd (by (j == k) is)
+  where
+    by : (b : Bool) → cond b (Some Dropped) (Some (Fetching j)) ≡ Some op → ⊥
+    by true e = let a : Dropped ≡ op = cc e in let b : None ≡ Some n = ap turn_of a ∙ turn in cc b
+    by false e = let a : Fetching j ≡ op = cc e in let b : None ≡ Some n = ap turn_of a ∙ turn in cc b
+
+still_dropped : (s o : Own) (k : ℕ) → o.queue ≡ s.queue → o.running ≡ dropped k s.running → o.taken ≡ s.taken
+    → Still s o
+still_dropped s o k q r t = record {
+  queue = λ low taken h. subst (λ z. Rises low z taken) (sym q) h;
+  running = λ op n is turn. dropped_turn k s.running op n (sym r ∙ is) turn;
+  taken_is = t;
+}
+
+still_over : (s : Own) (k : ℕ) → Still s (over k s)
+still_over s k = record {
+  queue = λ low taken h. rises_without low taken k s.queue h;
+  running = λ op n is turn. dropped_turn k s.running op n is turn;
+  taken_is = refl;
+}
+
+still_then : (a b c : Own) → Still a b → Still b c → Still a c
+still_then a b c h k = record {
+  queue = λ low taken z. k.queue low taken (h.queue low taken z);
+  running = λ op n is turn. h.running op n (k.running op n is turn) turn;
+  taken_is = k.taken_is ∙ h.taken_is;
+}
+
+still_held : (s : Own) (c : Bool) (report : Option Reported)
+    → Still s (ends report (cond c (record s { hold = Some s.sent }) s)).own
+still_held s true report = still_none s _ refl refl refl
+still_held s false report = still_none s _ refl refl refl
+
+still_failed : (s : Own) (u : Transfer → Bool) (report : Report) (running : Option Operation) → s.running ≡ running
+    → Still s (failed u report s running).own
+still_failed s u report None is = still_same s s refl refl refl
+still_failed s u report (Some (Calling k r t)) is = still_held s (u t && is_upload t) (of k report)
+still_failed s u report (Some (Registering k path)) is = still_none s _ refl refl refl
+still_failed s u report (Some (Fetching k)) is = still_none s _ refl refl refl
+still_failed s u report (Some (Cancelling k)) is =
+    still_then s (record s { running = None }) _ (still_none s (record s { running = None }) refl refl refl)
+    (still_over (record s { running = None }) k)
+still_failed s u report (Some Dropped) is = still_none s _ refl refl refl
+
+module _ (szx : ℕ) where
+  -- what was sent is below what waits
+  pub record Turns (t : List Call) : Type 0 where
+    pub low : ℕ
+    pub waits : Rises low (own_of szx t).queue (own_of szx t).taken
+    pub running : (op : Operation) (n : ℕ) → (own_of szx t).running ≡ Some op → turn_of op ≡ Some n → low ≡ n + 1
+    pub sent : (x : Sending) (n : ℕ) → WasSent szx x t → turn_of x.operation ≡ Some n → n + 1 ≤ low
+
+  -- .. and what is sent is not below that
+  abbrev pub NotBelow : ℕ → List Call → Call → Type 0
+  NotBelow low t c = (y : Sending) (j : ℕ) → sends (own_of szx t) c ≡ Some y → turn_of y.operation ≡ Some j
+      → low ≤ j + 1
+
+  abbrev Goes : List Call → Call → ℕ → Type 0
+  Goes t c low = Turns (c ∷ t) × NotBelow low t c
+
+  still : (t : List Call) (c : Call) (h : Turns t) → sends (own_of szx t) c ≡ None
+      → Still (own_of szx t) (own_of szx (c ∷ t)) → Goes t c h.low
+  still t c h none k = (
+    record {
+      low = h.low;
+      waits = subst (λ n. Rises h.low (own_of szx (c ∷ t)).queue n) (sym k.taken_is)
+          (k.queue h.low (own_of szx t).taken h.waits);
+      running = λ op n is turn. h.running op n (k.running op n is turn) turn;
+      sent = λ x n was turn. elim was [
+        | inl now ↦
+            (let e : None ≡ Some x = sym none ∙ now in absurd (cc e))
+        | inr before ↦ h.sent x n before turn
+      ];
+    },
+    λ y j is turn. (let e : None ≡ Some y = sym none ∙ is in absurd (cc e)),
+  )
+
+  -- a request goes out
+  module _ (t : List Call) (c : Call) (h : Turns t) (op : Operation) (x : Sending)
+      (is_sent : sends (own_of szx t) c ≡ Some x) (op_is : x.operation ≡ op)
+      (runs : (own_of szx (c ∷ t)).running ≡ Some op)
+      (taken_is : (own_of szx (c ∷ t)).taken ≡ (own_of szx t).taken) where
+    number_is : (y : Sending) (j : ℕ) → sends (own_of szx t) c ≡ Some y → turn_of y.operation ≡ Some j
+        → turn_of op ≡ Some j
+    number_is y j is turn = let e : x ≡ y = let k : Some x ≡ Some y = sym is_sent ∙ is in cc k in ap turn_of (sym op_is)
+        ∙ (ap (λ (z : Sending). turn_of z.operation) e ∙ turn)
+
+    runs_as : (o : Operation) (n : ℕ) → (own_of szx (c ∷ t)).running ≡ Some o → turn_of o ≡ Some n → turn_of op ≡ Some n
+    runs_as o n is turn = let e : op ≡ o = let k : Some op ≡ Some o = sym runs ∙ is in cc k in ap turn_of e ∙ turn
+
+    out_with : (low : ℕ) → h.low ≤ low → ((j : ℕ) → turn_of op ≡ Some j → low ≡ j + 1)
+        → Rises low (own_of szx (c ∷ t)).queue (own_of szx t).taken → Goes t c h.low
+    out_with low le by waits = (
+      record {
+        low = low;
+        waits = subst (λ n. Rises low (own_of szx (c ∷ t)).queue n) (sym taken_is) waits;
+        running = λ o n is turn. by n (runs_as o n is turn);
+        sent = λ y n was turn. elim was [
+          | inl now ↦ (let e = by n (number_is y n now turn) in omega (arith, e))
+          | inr before ↦ (let e = h.sent y n before turn in omega (arith, e, le))
+        ];
+      },
+      λ y j is turn. (let e = by j (number_is y j is turn) in omega (arith, e, le)),
+    )
+
+  first_out : (t : List Call) (c : Call) (h : Turns t) (op : Operation) (queue : List Operation) (x : Sending)
+      → (own_of szx t).queue ≡ op ∷ queue → sends (own_of szx t) c ≡ Some x → x.operation ≡ op
+      → (own_of szx (c ∷ t)).running ≡ Some op
+      → (own_of szx (c ∷ t)).taken ≡ (own_of szx t).taken → (own_of szx (c ∷ t)).queue ≡ queue → Goes t c h.low
+  first_out t c h op queue x first is_sent op_is runs taken_is queue_is =
+      by op (subst (λ q. Rises h.low q (own_of szx t).taken) first h.waits) op_is runs
+    where
+      by : (o : Operation) → Rises h.low (o ∷ queue) (own_of szx t).taken → x.operation ≡ o
+          → (own_of szx (c ∷ t)).running ≡ Some o → Goes t c h.low
+      by (Calling n r tr) w e run =
+          out_with t c h (Calling n r tr) x is_sent e run taken_is (n + 1) (let a = w.0 in omega (arith, a))
+          (λ j i. (let z : n ≡ j = cc i in omega (arith, z)))
+          (subst (λ q. Rises (n + 1) q (own_of szx t).taken) (sym queue_is) w.1)
+      by (Registering n path) w e run =
+          out_with t c h (Registering n path) x is_sent e run taken_is (n + 1) (let a = w.0 in omega (arith, a))
+          (λ j i. (let z : n ≡ j = cc i in omega (arith, z)))
+          (subst (λ q. Rises (n + 1) q (own_of szx t).taken) (sym queue_is) w.1)
+      by (Fetching n) w e run = out_with t c h (Fetching n) x is_sent e run taken_is h.low (omega arith)
+          (λ j i. absurd (cc i)) (subst (λ q. Rises h.low q (own_of szx t).taken) (sym queue_is) w)
+      by (Cancelling n) w e run = out_with t c h (Cancelling n) x is_sent e run taken_is h.low (omega arith)
+          (λ j i. absurd (cc i)) (subst (λ q. Rises h.low q (own_of szx t).taken) (sym queue_is) w)
+      by Dropped w e run = out_with t c h Dropped x is_sent e run taken_is h.low (omega arith) (λ j i. absurd (cc i))
+          (subst (λ q. Rises h.low q (own_of szx t).taken) (sym queue_is) w)
+
+  module _ (t : List Call) (c : Call) (now : ℕ) (told : Option Event) (token : Result (List ℕ) AskRefusal)
+      (request : Option Requested) (h : Turns t) where
+    abbrev s : Own
+    s = at now (own_of szx t)
+
+    abbrev m : ℕ
+    m = max (own_of szx t).clock now
+
+    -- nothing is asked for
+    rests_by : (e : Effect) → Still (own_of szx t) e.own → ((o : Operation) → e.deed ≡ Asks o → ⊥) → Closing m e token
+        → own_of szx (c ∷ t) ≡ left_with request (closed m e e.deed token)
+        → sends (own_of szx t) c ≡ sent_by e e.deed token → Goes t c h.low
+    rests_by e on quiet_so (quiet q none own_same report_same) own sending =
+        still t c h (sending ∙ none) (still_then (own_of szx t) e.own (own_of szx (c ∷ t)) on
+        (let same : (closed m e e.deed token).own ≡ e.own =
+        own_same in still_same e.own (own_of szx (c ∷ t))
+        (ap (λ (o : Own). o.queue) own ∙ ap (λ (o : Own). o.queue) same)
+        (ap (λ (o : Own). o.running) own ∙ ap (λ (o : Own). o.running) same)
+        (ap (λ (o : Own). o.taken) own ∙ ap (λ (o : Own). o.taken) same)))
+    rests_by e on quiet_so (goes_out o key asks given sends_it own_same report_same) own sending =
+        absurd (quiet_so o asks)
+    rests_by e on quiet_so (is_refused o why asks given none all) own sending = absurd (quiet_so o asks)
+
+    -- what is asked for is refused
+    refused_by : (e : Effect) (op : Operation) → Still (own_of szx t) (record e.own { running = None })
+        → e.own.running ≡ Some op → own_of szx (c ∷ t) ≡ left_with request (failed has_sent NoIds e.own (Some op))
+        → sends (own_of szx t) c ≡ None → Goes t c h.low
+    refused_by e op on runs own sending =
+        let f = (failed has_sent NoIds e.own (Some op)).own in
+        let k = still_failed e.own has_sent NoIds (Some op) runs in
+        still t c h sending (record {
+          queue = λ low taken z. subst (λ q. Rises low q taken) (sym (ap (λ (o : Own). o.queue) own))
+              (k.queue low taken (on.queue low taken z));
+          running = λ o n is turn. (let z : None ≡ Some o = sym (failed_none e.own op)
+              ∙ (sym (ap (λ (y : Own). y.running) own) ∙ is) in absurd (cc z));
+          taken_is = ap (λ (o : Own). o.taken) own ∙ (k.taken_is ∙ on.taken_is);
+        })
+      where
+        failed_none : (o : Own) (op : Operation) → (failed has_sent NoIds o (Some op)).own.running ≡ None
+        failed_none o (Calling k r u) = refl
+        failed_none o (Registering k path) = refl
+        failed_none o (Fetching k) = refl
+        failed_none o (Cancelling k) = refl
+        failed_none o Dropped = refl
+
+    turn_by : (mo : Move s m told) → Closing m (left_by s m told mo) token
+        → own_of szx (c ∷ t) ≡ left_with request (closed m (left_by s m told mo) (left_by s m told mo).deed token)
+        → sends (own_of szx t) c ≡ sent_by (left_by s m told mo) (left_by s m told mo).deed token → Goes t c h.low
+    turn_by (mv.rests un) cl own sending = rests_by (left_by s m told (mv.rests un))
+        (still_same (own_of szx t) s refl refl refl) (λ o i. cc i) cl own sending
+    turn_by (mv.copies quiet_so) cl own sending =
+        rests_by (left_by s m told (mv.copies quiet_so))
+        (still_same (own_of szx t) (record s { sent = m }) refl refl refl) (λ o i. cc i) cl own sending
+    turn_by (mv.starts_next op queue none rest first quiet_so) cl own sending = by token own sending
+      where
+        e : Effect
+        e = left_by s m told (mv.starts_next op queue none rest first quiet_so)
+
+        by : (z : Result (List ℕ) AskRefusal) → own_of szx (c ∷ t) ≡ left_with request (closed m e (Asks op) z)
+            → sends (own_of szx t) c ≡ sent_by e (Asks op) z → Goes t c h.low
+        by (Ok key) own sending = first_out t c h op queue (sending_of e op key) first sending refl
+            (ap (λ (o : Own). o.running) own) (ap (λ (o : Own). o.taken) own) (ap (λ (o : Own). o.queue) own)
+        by (Err why) own sending = refused_by e op (record {
+          queue = λ low taken z. rises_tail low op queue taken (subst (λ q. Rises low q taken) first z);
+          running = λ o n is turn. absurd (cc is);
+          taken_is = refl;
+        }) refl own sending
+    turn_by (mv.fetches k none rest quiet_so) cl own sending = by token own sending
+      where
+        e : Effect
+        e = left_by s m told (mv.fetches k none rest quiet_so)
+
+        by : (z : Result (List ℕ) AskRefusal) → own_of szx (c ∷ t)
+            ≡ left_with request (closed m e (Asks (Fetching k)) z)
+            → sends (own_of szx t) c ≡ sent_by e (Asks (Fetching k)) z → Goes t c h.low
+        by (Ok key) own sending =
+            out_with t c h (Fetching k) (sending_of e (Fetching k) key) sending refl (ap (λ (o : Own). o.running) own)
+            (ap (λ (o : Own). o.taken) own) h.low (omega arith) (λ j i. absurd (cc i))
+            (subst (λ q. Rises h.low q (own_of szx t).taken) (sym (ap (λ (o : Own). o.queue) own)) h.waits)
+        by (Err why) own sending = refused_by e (Fetching k)
+            (still_none (own_of szx t) _ refl refl refl) refl own sending
+    turn_by (mv.goes_on k r tr next a hears runs asks) cl own sending = by token own sending
+      where
+        e : Effect
+        e = left_by s m told (mv.goes_on k r tr next a hears runs asks)
+
+        by : (z : Result (List ℕ) AskRefusal) → own_of szx (c ∷ t)
+            ≡ left_with request (closed m e (Asks (Calling k r next)) z)
+            → sends (own_of szx t) c ≡ sent_by e (Asks (Calling k r next)) z → Goes t c h.low
+        by (Ok key) own sending =
+            out_with t c h (Calling k r next) (sending_of e (Calling k r next) key) sending refl
+            (ap (λ (o : Own). o.running) own) (ap (λ (o : Own). o.taken) own) h.low (omega arith)
+            (λ j i. h.running (Calling k r tr) j runs i)
+            (subst (λ q. Rises h.low q (own_of szx t).taken) (sym (ap (λ (o : Own). o.queue) own)) h.waits)
+        by (Err why) own sending = refused_by e (Calling k r next)
+            (still_none (own_of szx t) _ refl refl refl) refl own sending
+    turn_by (mv.is_done k r tr final rep a hears runs ends_so) cl own sending =
+        rests_by (left_by s m told (mv.is_done k r tr final rep a hears runs ends_so))
+        (still_then (own_of szx t) s _ (still_same (own_of szx t) s refl refl refl)
+        (still_held s (not final && is_upload tr) (of k rep))) (λ o i. cc i) cl own sending
+    turn_by (mv.registers k path a hears runs note) cl own sending =
+        rests_by (left_by s m told (mv.registers k path a hears runs note)) (still_none (own_of szx t) _ refl refl refl)
+        (λ o i. cc i) cl own sending
+    turn_by (mv.refuses k path a hears runs note) cl own sending =
+        rests_by (left_by s m told (mv.refuses k path a hears runs note)) (still_none (own_of szx t) _ refl refl refl)
+        (λ o i. cc i) cl own sending
+    turn_by (mv.fetches_on k n a num size hears runs rest code asks) cl own sending = by token own sending
+      where
+        e : Effect
+        e = left_by s m told (mv.fetches_on k n a num size hears runs rest code asks)
+
+        by : (z : Result (List ℕ) AskRefusal) → own_of szx (c ∷ t)
+            ≡ left_with request (closed m e (Asks (Fetching k)) z)
+            → sends (own_of szx t) c ≡ sent_by e (Asks (Fetching k)) z → Goes t c h.low
+        by (Ok key) own sending =
+            out_with t c h (Fetching k) (sending_of e (Fetching k) key) sending refl (ap (λ (o : Own). o.running) own)
+            (ap (λ (o : Own). o.taken) own) h.low (omega arith) (λ j i. absurd (cc i))
+            (subst (λ q. Rises h.low q (own_of szx t).taken) (sym (ap (λ (o : Own). o.queue) own)) h.waits)
+        by (Err why) own sending = refused_by e (Fetching k)
+            (still_none (own_of szx t) _ refl refl refl) refl own sending
+    turn_by (mv.fetched k n a hears runs rest code done) cl own sending =
+        rests_by (left_by s m told (mv.fetched k n a hears runs rest code done))
+        (still_none (own_of szx t) _ refl refl refl) (λ o i. cc i) cl own sending
+    turn_by (mv.gives_up k a hears runs) cl own sending =
+        rests_by (left_by s m told (mv.gives_up k a hears runs)) (still_none (own_of szx t) _ refl refl refl)
+        (λ o i. cc i) cl own sending
+    turn_by (mv.fetched_none k a hears runs) cl own sending =
+        rests_by (left_by s m told (mv.fetched_none k a hears runs)) (still_none (own_of szx t) _ refl refl refl)
+        (λ o i. cc i) cl own sending
+    turn_by (mv.cancels k a hears runs) cl own sending =
+        let z : Own = record s { running = None } in
+        rests_by (left_by s m told (mv.cancels k a hears runs))
+        (still_then (own_of szx t) z _ (still_none (own_of szx t) z refl refl refl) (still_over z k))
+        (releases_none _) cl own sending
+    turn_by (mv.is_dropped a hears runs) cl own sending =
+        rests_by (left_by s m told (mv.is_dropped a hears runs)) (still_none (own_of szx t) _ refl refl refl)
+        (λ o i. cc i) cl own sending
+    turn_by (mv.fails e un) cl own sending =
+        rests_by (left_by s m told (mv.fails e un))
+        (still_then (own_of szx t) s _ (still_same (own_of szx t) s refl refl refl)
+        (still_failed s (λ z. true) (lapse e) s.running refl)) (failed_quiet s.running) cl own sending
+      where
+        failed_quiet : (running : Option Operation) (op : Operation)
+            → (failed (λ z. true) (lapse e) s running).deed ≡ Asks op → ⊥
+        failed_quiet None op h = cc h
+        failed_quiet (Some (Calling k r t)) op h = cc h
+        failed_quiet (Some (Registering k path)) op h = cc h
+        failed_quiet (Some (Fetching k)) op h = cc h
+        failed_quiet (Some Dropped) op h = cc h
+        failed_quiet (Some (Cancelling k)) op h = releases_none _ op h
+    turn_by (mv.is_ended o a notes found note) cl own sending =
+        rests_by (left_by s m told (mv.is_ended o a notes found note))
+        (still_then (own_of szx t) s _ (still_same (own_of szx t) s refl refl refl) (still_over s o.number))
+        (releases_none _) cl own sending
+    turn_by (mv.renews o a notes found note newer) cl own sending =
+        rests_by (left_by s m told (mv.renews o a notes found note newer))
+        (still_dropped (own_of szx t) _ o.number refl refl refl) (λ z i. cc i) cl own sending
+    turn_by (mv.passes_by o a notes found note newer) cl own sending =
+        rests_by (left_by s m told (mv.passes_by o a notes found note newer))
+        (still_same (own_of szx t) _ refl refl refl) (λ z i. cc i) cl own sending
+
+  turned : (t : List Call) (c : Call) (h : Turns t) → Turned szx t c → Goes t c h.low
+  turned t c h k = turn_by t c k.now k.told k.token k.request h k.move k.closes k.own_is k.sends_is
+
+  queued : (t : List Call) (c : Call) (h : Turns t) (op : Operation) → sends (own_of szx t) c ≡ None
+      → turn_of op ≡ Some (own_of szx t).taken → (own_of szx (c ∷ t)).queue ≡ (own_of szx t).queue ++ op ∷ []
+      → (own_of szx (c ∷ t)).running ≡ (own_of szx t).running
+      → (own_of szx (c ∷ t)).taken ≡ (own_of szx t).taken + 1 → Goes t c h.low
+  queued t c h op none turn queue running taken = (
+    record {
+      low = h.low;
+      waits = subst (λ n. Rises h.low (own_of szx (c ∷ t)).queue n) (sym taken)
+          (subst (λ q. Rises h.low q ((own_of szx t).taken + 1)) (sym queue)
+          (rises_more h.low (own_of szx t).taken op turn (own_of szx t).queue h.waits));
+      running = λ o n is k. h.running o n (sym running ∙ is) k;
+      sent = λ x n was k. elim was [
+        | inl now ↦ (let e : None ≡ Some x = sym none ∙ now in absurd (cc e))
+        | inr before ↦
+            h.sent x n before k
+      ];
+    },
+    λ y j is k. (let e : None ≡ Some y = sym none ∙ is in absurd (cc e)),
+  )
+
+  goes : (t : List Call) (c : Call) (h : Turns t) → ClientRows szx (c ∷ t) → Goes t c h.low
+  goes t (Calls now r (Err why)) h rows = still t (Calls now r (Err why)) h refl
+      (still_same (own_of szx t) _ refl refl refl)
+  goes t (Calls now r (Ok n)) h rows =
+      let s : Own = own_of szx t in
+      let is : n ≡ s.taken = given_is (is_full s) (nat_lt max_body (length r.body))
+      (are_long (block_option_number r.method) (options_of r))
+      (s.taken == max_numbers) QueueFull BodyTooLarge BadPath CallsSpent n s.taken rows.0 in
+      queued t (Calls now r (Ok n)) h (calling s.szx n r) refl (ap (λ z. Some z) is) refl refl refl
+  goes t (Observes now path (Err why)) h rows =
+      still t (Observes now path (Err why)) h refl (still_same (own_of szx t) _ refl refl refl)
+  goes t (Observes now path (Ok n)) h rows =
+      let s : Own = own_of szx t in
+      let is : n ≡ s.taken = given_is (is_full s) (are_long block2 (path_options path))
+      (nat_le max_observations (observed s)) (s.taken == max_numbers) QueueFull BadPath WatchesFull CallsSpent n
+      s.taken rows.0 in
+      queued t (Observes now path (Ok n)) h (Registering n path) refl (ap (λ z. Some z) is) refl refl refl
+  goes t (Cancels now k (Some why)) h rows = still t (Cancels now k (Some why)) h refl
+      (still_same (own_of szx t) _ refl refl refl)
+  goes t (Cancels now k None) h rows = still t (Cancels now k None) h refl
+      (record {
+        queue = λ low taken z. rises_cancel low taken k (own_of szx t).queue z;
+        running = λ op n is turn. is;
+        taken_is = refl;
+      })
+  goes t (Forgets k kept false) h rows = still t (Forgets k kept false) h refl
+      (still_same (own_of szx t) _ refl refl refl)
+  goes t (Forgets k kept true) h rows = still t (Forgets k kept true) h refl
+      (let z = still_over (own_of szx t) k in record { queue = z.queue; running = z.running; taken_is = z.taken_is })
+  goes t (NextOut answer) h rows = still t (NextOut answer) h refl (still_same (own_of szx t) _ refl refl refl)
+  goes t (NextReport answer) h rows = still t (NextReport answer) h refl (still_same (own_of szx t) _ refl refl refl)
+  goes t (Asked answer) h rows = still t (Asked answer) h refl (still_same (own_of szx t) _ refl refl refl)
+  goes t (Feeds now from bytes w up settled event sent token kept) h rows =
+      turned t (Feeds now from bytes w up settled event sent token kept) h
+      (fed_turned szx t now from bytes w up settled event sent token kept)
+  goes t (Ticks now w below turn sent token kept answer) h rows =
+      turned t (Ticks now w below turn sent token kept answer) h
+      (ticked_turned szx t now w below turn sent token kept answer)
+
+  pub turns : (t : List Call) → ClientRows szx t → Turns t
+  turns [] rows = record {
+    low = 0;
+    waits = omega arith;
+    running = λ op n is turn. absurd (cc is);
+    sent = λ x n was turn. absurd was;
+  }
+  turns (c ∷ t) rows = (goes t c (turns t rows.1) rows).0
+
+  pub in_turn : (t : List Call) (c : Call) → ClientRows szx (c ∷ t) → (x y : Sending) (i j : ℕ)
+      → sends (own_of szx t) c ≡ Some y → WasSent szx x t → turn_of x.operation ≡ Some i → turn_of y.operation ≡ Some j
+      → i ≤ j
+  in_turn t c rows x y i j is was first second =
+      let h = turns t rows.1 in
+      let a = (goes t c h rows).1 y j is second in
+      let b = h.sent x i was first in
+      omega (arith, a, b)

@@ -1,0 +1,9 @@
+pub mod AnswerCodes
+pub mod AnswerReports
+pub mod Bodies
+pub mod Codes
+pub mod Dropped
+pub mod EffectReports
+pub mod Ends
+pub mod ExchangeEnds
+pub mod Valid

@@ -1,0 +1,172 @@
+-- A representation is reported as valid where the call carries ETags, and a 2.03 was heard.
+use Rattle.std.proofs.Common.{◌≡◌, inl, inr, ℕ, Bool, true, false, cond, ◌&&◌, Option, Some, None, List}
+use Rattle.std.proofs.Common.{◌∷◌, [], refl, ap, sym, subst, ◌∙◌}
+use Rattle.std.specs.Prelude.{◌==◌}
+use Rattle.coap_types.specs.declared.block.Block.{Block}
+use Rattle.coap_types.specs.declared.endpoint.Endpoint.{Endpoint}
+use Rattle.coap_types.specs.declared.option_number.TheConstants.{BLOCK1 as block1}
+use Rattle.coap_types.specs.declared.request.Method.{Method}
+use Rattle.coap_codec.specs.Message.{Message}
+use Rattle.coap_block.specs.declared.fetch_step.FetchRefusal.{FetchRefusal}
+use Rattle.coap_block.specs.declared.fetch_step.FetchRefusal.TheVariants as refusal
+use Rattle.coap_block.specs.declared.fetch_verdict.Verdict.{Verdict}
+use Rattle.coap_block.specs.declared.fetch_verdict.Verdict.TheVariants as verdict
+use Rattle.coap_block.specs.FetchStep.{FetchState}
+use Rattle.coap_block.specs.UploadStep.{UploadState, more_follows, moved, continues}
+use Rattle.coap_client.specs.Trace.{Request, Report, Valid, Failed, Done, BadBlock, NoIds}
+use Rattle.coap_client.specs.Trace.{Call}
+use Rattle.coap_client.specs.Own.{Transfer, Fetches, Uploads, Single, Operation, Calling, Registering}
+use Rattle.coap_client.specs.Own.{Fetching, Cancelling, Dropped}
+use Rattle.coap_client.specs.Requests.{is_longer}
+use Rattle.coap_client.specs.Responses.{content, valid, continue, tag_in, block_at, part}
+use Rattle.coap_client.specs.Reports.{refused, done, is_success}
+use Rattle.coap_client.specs.Calls.{answer, has_tags}
+use Rattle.coap_client.specs.Calls as calls
+use Rattle.coap_client.specs.Effects.{of}
+use Rattle.coap_client.specs.Steps.{reports}
+use Rattle.coap_client.specs.Law.{ClientLaw, own_of}
+use Rattle.coap_client.specs.Follows.AnswersLastRequest.{AnswersLast}
+use Rattle.coap_client.specs.Follows.Words.{WasTaken}
+use Rattle.coap_client.proofs.Places.PlaceLemmas.{same_number}
+use Rattle.coap_client.proofs.Turning.BlockByBlock.{AllOf}
+use Rattle.coap_client.proofs.Uploading.Pieces.{answers_last}
+use Rattle.coap_client.specs.Follows.Valid.{IsValidated, ValidOfTags}
+use Rattle.coap_client.proofs.Reporting.AnswerReports.{gives_of}
+use Rattle.coap_client.proofs.Turning.Origins.{Origin, kept, begins, follows, origin}
+use Rattle.coap_client.proofs.Reporting.Bodies.{heard_for}
+use Rattle.coap_client.proofs.Turning.AllWaiting.{all_wait}
+
+-- whether it is such a report
+
+abbrev is_valid : Report → Bool
+is_valid (Valid tag) = true
+is_valid report = false
+
+-- which answer gives it
+
+refused_none : (why : FetchRefusal) → is_valid (refused why) ≡ false
+refused_none refusal.Changed = refl
+refused_none refusal.BadBlock = refl
+refused_none refusal.NoTag = refl
+refused_none refusal.TooLarge = refl
+
+done_none : (method : Method) (code : ℕ) → is_valid (done method code) ≡ false
+done_none method code = by (is_success method code)
+  where
+    by : (b : Bool) → is_valid (cond b (Done code) (Failed code)) ≡ false
+    by true = refl
+    by false = refl
+
+abbrev next_valid : calls.Next → Bool
+next_valid (calls.Asks t) = false
+next_valid (calls.Ends final report) = is_valid report
+
+continued_none : (u : UploadState) (o : Option Block) → next_valid (calls.continued u o) ≡ false
+continued_none u None = refl
+continued_none u (Some b) = by (continues u b)
+  where
+    by : (c : Bool) → next_valid (cond c (calls.Asks (Uploads (moved u b))) (calls.Ends false BadBlock)) ≡ false
+    by true = refl
+    by false = refl
+
+upload_none : (method : Method) (u : UploadState) (m : Message) → next_valid (calls.sent method u m) ≡ false
+upload_none method u m = by ((m.code == continue) && is_longer u) (more_follows u && calls.is_below_errors m.code)
+  where
+    by : (b p : Bool) → next_valid (cond b (calls.continued u (block_at block1 m))
+        (cond p (calls.Ends true BadBlock) (calls.Ends true (done method m.code)))) ≡ false
+    by true p = continued_none u (block_at block1 m)
+    by false true = refl
+    by false false = done_none method m.code
+
+fetched_none : (f : FetchState) (m : Message) (v : Verdict) → next_valid (calls.fetched f m v) ≡ false
+fetched_none f m (verdict.Refuse why) = refused_none why
+fetched_none f m verdict.Again = refl
+fetched_none f m verdict.Done = refl
+fetched_none f m (verdict.Ask num size) = refl
+
+abbrev next_report : calls.Next → Report
+next_report (calls.Asks t) = NoIds
+next_report (calls.Ends final report) = report
+
+and_split : (a b : Bool) → (a && b) ≡ true → (a ≡ true) × (b ≡ true)
+and_split true b h = (refl, h)
+and_split false b h = absurd (cc h)
+
+record ValidAs (r : Request) (m : Message) (report : Report) : Type 0 where
+  code : m.code ≡ valid
+  tags : has_tags r.etags ≡ true
+  is : report ≡ Valid (tag_in m)
+
+valid_as : (r : Request) (tr : Transfer) (m : Message) (final : Bool) (report : Report)
+    → answer r tr m ≡ calls.Ends final report → is_valid report ≡ true → ValidAs r m report
+valid_as r Single m final report h is = let a : is_valid (done r.method m.code) ≡ true = ap next_valid h
+    ∙ is in let b = done_none r.method m.code in absurd (cc (a, b))
+valid_as r (Uploads u) m final report h is = let a : next_valid (calls.sent r.method u m) ≡ true = ap next_valid h
+    ∙ is in let b = upload_none r.method u m in absurd (cc (a, b))
+valid_as r (Fetches f) m final report h is = by (m.code == content) ((m.code == valid) && has_tags r.etags) refl h
+  where
+    by : (c d : Bool) → ((m.code == valid) && has_tags r.etags) ≡ d
+        → cond c (calls.fetched f m (part f m)) (cond d (calls.Ends true (Valid (tag_in m)))
+        (calls.Ends true (Failed m.code))) ≡ calls.Ends final report → ValidAs r m report
+    by true d e h = let a : next_valid (calls.fetched f m (part f m)) ≡ true = ap next_valid h
+        ∙ is in let b = fetched_none f m (part f m) in absurd (cc (a, b))
+    by false false e h = let a : false ≡ true = ap next_valid h ∙ is in absurd (cc a)
+    by false true e h = let k = and_split (m.code == valid) (has_tags r.etags) e in record
+        { code = same_number m.code valid k.0; tags = k.1; is = sym (ap next_report h) }
+
+-- what waits and what runs is of a call that was taken
+abbrev IsTaken : List Call → Operation → Type 0
+IsTaken t (Calling k r tr) = (q : Request) × WasTaken (record { number = k; request = q }) t × (r.etags ≡ q.etags)
+IsTaken t op = Unit {0}
+
+taken_later : (t : List Call) (c : Call) (op : Operation) → IsTaken t op → IsTaken (c ∷ t) op
+taken_later t c (Calling k r tr) h = (h.0, inr h.1, h.2)
+taken_later t c (Registering k path) h = tt
+taken_later t c (Fetching k) h = tt
+taken_later t c (Cancelling k) h = tt
+taken_later t c Dropped h = tt
+
+some_tags : (tags : List (List ℕ)) → has_tags tags ≡ true → tags ≡ [] → ⊥
+some_tags [] h none = cc h
+some_tags (x ∷ tags) h none = cc none
+
+module _ (szx : ℕ) where
+  all_taken : (t : List Call) → AllOf (IsTaken t) (own_of szx t).queue
+  all_taken = all_wait szx IsTaken taken_later (λ t now r n. (r, inl refl, refl)) (λ t now path n. tt) (λ t now n. tt)
+
+  taken_here : (t : List Call) (c : Call) (k : ℕ) (r : Request) (tr : Transfer) → Origin szx t c k r tr
+      → ((old : Transfer) → (own_of szx t).running ≡ Some (Calling k r old) → IsTaken t (Calling k r old))
+      → IsTaken (c ∷ t) (Calling k r tr)
+  taken_here t c k r tr (kept runs none) ih = let h = ih tr runs in (h.0, inr h.1, h.2)
+  taken_here t c k r tr (follows old m x runs heard asks sends_it op_is) ih = let h = ih old runs in (h.0, inr h.1, h.2)
+  taken_here t c k r tr (begins queue is) ih = let h : AllOf (IsTaken t) (Calling k r tr ∷ queue) =
+      subst (AllOf (IsTaken t)) is (all_taken t) in let g = h.0 in (g.0, inr g.1, g.2)
+
+  running_taken : (t : List Call) (k : ℕ) (r : Request) (tr : Transfer) → (own_of szx t).running ≡ Some (Calling k r tr)
+      → IsTaken t (Calling k r tr)
+  running_taken [] k r tr is = absurd (cc is)
+  running_taken (c ∷ t) k r tr is = taken_here t c k r tr (origin szx t c k r tr is)
+      (λ old runs. running_taken t k r old runs)
+
+  validated : (t : List Call) (c : Call) → AnswersLast szx (c ∷ t) → (k : ℕ) (tag : Option (List ℕ))
+      → reports (own_of szx t) c ≡ of k (Valid tag) → IsValidated szx k tag t c
+  validated t c answers k tag made =
+      let g = gives_of szx t c k (Valid tag) refl made in
+      let shown = valid_as g.request g.transfer g.message g.final (Valid tag) g.ends_so refl in
+      let q = running_taken t k g.request g.transfer g.runs in
+      record {
+        request = q.0;
+        taken = q.1;
+        etags = λ none. some_tags g.request.etags shown.tags (q.2 ∙ none);
+        message = g.message;
+        heard = heard_for szx t c g.message k g.request g.transfer (answers.0 g.message g.heard_it) g.runs g.heard_it;
+        code = shown.code;
+        tag_is = cc (shown.is);
+      }
+
+  all_validated : (t : List Call) → AnswersLast szx t → ValidOfTags szx t
+  all_validated [] answers = tt
+  all_validated (c ∷ t) answers = (validated t c answers, all_validated t answers.1)
+
+pub valid_of_tags : (server : Endpoint) (szx word : ℕ) (t : List Call) → ClientLaw server szx word t → ValidOfTags szx t
+valid_of_tags server szx word t law = all_validated szx t (answers_last szx server word t law)

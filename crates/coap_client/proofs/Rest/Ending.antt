@@ -1,0 +1,114 @@
+-- At one moment, the ticks of a client end, and so do what it has out and its reports (RFC 7252, sections 4.2 and 5.2).
+use Rattle.std.proofs.Common.{◌≡◌, ◌≤◌, ◌<◌, ℕ, ◌+◌, true, Some, List, [], ◌∷◌, ◌++◌, length, refl, ap, subst, arith}
+use Rattle.std.proofs.Common.{drop, slice_get}
+use Rattle.std.specs.Prelude.{Bool, Result}
+use Rattle.coap_types.specs.declared.endpoint.Endpoint.{Endpoint}
+use Rattle.coap_layer.specs.Machine.State as S
+use Rattle.coap_layer.specs.Machine.Steps.{Steps, left_after}
+use Rattle.coap_layer.specs.Trace as L
+use Rattle.coap_layer.proofs.Facts.StepsOfLayer.{steps_split}
+use Rattle.coap_block.specs.Whole.{Each}
+use Rattle.coap_exchange.specs.declared.asker.AskRefusal.{AskRefusal}
+use Rattle.coap_exchange.specs.declared.asker.Turn.{Turn}
+use Rattle.coap_exchange.specs.AskerTrace as E
+use Rattle.coap_exchange.specs.AskerSteps as P
+use Rattle.coap_exchange.specs.AskerLaw as X
+use Rattle.coap_exchange.specs.AskerLaw.{ExchangeLaw}
+use Rattle.coap_client.specs.Trace.{Reported, Call, Ticks, NextOut, NextReport}
+use Rattle.coap_client.specs.Steps.{lower}
+use Rattle.coap_client.specs.Law.{ClientLaw, own_of, lower_of}
+use Rattle.coap_client.specs.Led.{State, Step}
+use Rattle.coap_common.proofs.Facts.LastStep.{take_less}
+use Rattle.coap_common.proofs.Facts.ComesUp.{left_is}
+use Rattle.coap_client.proofs.Turning.Leading.{client_back}
+use Rattle.coap_client.specs.Follows.Rests.{IsTick, TicksEnd}
+use Rattle.coap_client.specs.Turns.Work.{work}
+use Rattle.coap_client.proofs.Calls.WorkFalls.{work_falls}
+
+-- a report that was taken is no more there
+first_less : (rs : List Reported) (r : Reported) → Some r ≡ slice_get rs 0 → length (drop 1 rs) < length rs
+first_less [] r h = absurd (cc h)
+first_less (x ∷ rs) r h = omega arith
+
+-- what the calls of the exchanges leave
+module _ (server : Endpoint) (word : ℕ) where
+  abbrev beneath : List E.Call → X.State
+  beneath calls = record {
+    own = X.own_of server word calls;
+    layer = left_after (S.start word) (X.lower_of server word calls);
+  }
+
+  exchanged : (cs calls : List E.Call) → ExchangeLaw server word (cs ++ calls)
+      → X.Exchanged (beneath calls) cs (beneath (cs ++ calls))
+  exchanged [] calls law = refl
+  exchanged (c ∷ cs) calls law =
+      let earlier = X.lower_of server word (cs ++ calls) in
+      let later = P.lower (X.own_of server word (cs ++ calls)) c in
+      let k = steps_split (S.start word) law.left later earlier law.layer in
+      let under = subst (λ s. Steps s later law.left) (left_is (S.start word) k.0 earlier k.1) k.2 in (
+        beneath (cs ++ calls),
+        exchanged cs calls (record { rows = law.rows.1; left = k.0; layer = k.1 }),
+        record {
+          right = law.rows.0;
+          own_is = refl;
+          under = subst (Steps (beneath (cs ++ calls)).layer later)
+              (left_is (S.start word) law.left (later ++ earlier) law.layer) under;
+        },
+      )
+
+module _ (server : Endpoint) (szx word : ℕ) where
+  -- what the calls so far leave: each takes one step
+  abbrev state : List Call → State
+  state t = record { own = own_of szx t; layer = beneath server word (lower_of szx t) }
+
+  stepped : (t : List Call) (c : Call) → ClientLaw server szx word (c ∷ t) → Step (state t) c (state (c ∷ t))
+  stepped t c law = record {
+    right = law.rows.0;
+    own_is = refl;
+    under = exchanged server word (lower (own_of szx t) c) (lower_of szx t) law.exchanges;
+  }
+
+  pub size : ℕ → List Call → ℕ
+  size now t = work (state t) now
+
+  pub out_count : List Call → ℕ
+  out_count t = length (state t).layer.layer.queue
+
+  pub report_count : List Call → ℕ
+  report_count t = length (state t).own.reports
+
+  pub less : (now w : ℕ) (t : List Call) (below sent : L.Answer) (token : Result (List ℕ) AskRefusal) (kept : Bool)
+      (d : Turn)
+      → ClientLaw server szx word (Ticks now w below d sent token kept true ∷ t)
+      → size now (Ticks now w below d sent token kept true ∷ t) < size now t
+  unfolding size
+  less now w t below sent token kept d law =
+      let c : Call = Ticks now w below d sent token kept true in
+      work_falls (state t) (state (c ∷ t)) now w below sent token kept d (stepped t c law)
+
+  pub out_less : (t : List Call) (p : L.Packet) → ClientLaw server szx word (NextOut (Some p) ∷ t)
+      → out_count (NextOut (Some p) ∷ t) < out_count t
+  unfolding out_count
+  out_less t p law = take_less (S.start word) law.exchanges.left p
+      (X.lower_of server word (lower_of szx t)) law.exchanges.layer
+
+  pub report_less : (t : List Call) (r : Reported) → ClientLaw server szx word (NextReport (Some r) ∷ t)
+      → report_count (NextReport (Some r) ∷ t) < report_count t
+  unfolding report_count
+  report_less t r law = first_less (own_of szx t).reports r law.rows.0
+
+  so_many : (now : ℕ) (t calls : List Call) → Each (IsTick now true) calls → ClientLaw server szx word (calls ++ t)
+      → length calls + size now (calls ++ t) ≤ size now t
+  so_many now t [] h law = omega arith
+  so_many now t (c ∷ calls) h law =
+      let k = so_many now t calls h.1 (client_back server szx word (c ∷ []) (calls ++ t) law) in
+      let w = h.0.0 in
+      let b = h.0.1 in
+      let one = less now w (calls ++ t) b.0 b.2 b.3 b.4 b.1
+      (subst (λ d. ClientLaw server szx word (d ∷ (calls ++ t))) b.5 law) in
+      let same : size now (c ∷ (calls ++ t)) ≡ size now (Ticks now w b.0 b.1 b.2 b.3 b.4 true ∷ (calls ++ t)) =
+      ap (λ d. size now (d ∷ (calls ++ t))) b.5 in
+      omega (arith, k, one, same)
+
+  pub ticks_end : (t : List Call) → TicksEnd server szx word t
+  ticks_end t now = (size now t, λ calls h law. (let k = so_many now t calls h law in omega (arith, k)))

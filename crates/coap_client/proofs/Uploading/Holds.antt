@@ -1,0 +1,570 @@
+-- No first block is sent at most 100,000 ms after a datagram of an upload that ended without a final response.
+use Rattle.std.proofs.Common.{◌≡◌, ◌≤◌, ◌⊎◌, inl, inr, ℕ, ◌+◌, max, Bool, true, false, cond, ◌&&◌, Option, Some}
+use Rattle.std.proofs.Common.{None, List, [], ◌∷◌, ◌++◌, refl, ap, sym, subst, ◌∙◌, arith, Result, Ok, Err}
+use Rattle.std.specs.Prelude.{◌==◌, nat_le}
+use Rattle.coap_types.specs.Past.{Sometime}
+use Rattle.coap_types.specs.declared.endpoint.Endpoint.{Endpoint}
+use Rattle.coap_codec.specs.Message.{Message}
+use Rattle.coap_types.specs.declared.block.Block.{Block}
+use Rattle.coap_block.specs.declared.fetch_verdict.Verdict.{Verdict}
+use Rattle.coap_block.specs.declared.fetch_verdict.Verdict.TheVariants as verdict
+use Rattle.coap_block.specs.UploadStep.{UploadState, moved, more_follows}
+use Rattle.coap_layer.specs.Trace as L
+use Rattle.std.proofs.lemmas.Bool.{le-leb}
+use Rattle.coap_exchange.specs.declared.asker.AskRefusal.{AskRefusal}
+use Rattle.coap_exchange.specs.declared.asker.Event.{Event}
+use Rattle.coap_exchange.specs.declared.asker.Event.TheVariants as event_of
+use Rattle.coap_exchange.specs.declared.asker.Turn.{Turn}
+use Rattle.coap_exchange.specs.declared.asker.Turn.TheVariants as turn_of
+use Rattle.coap_exchange.specs.AskerTrace as E
+use Rattle.coap_exchange.specs.AskerArrivals as A
+use Rattle.coap_exchange.specs.AskerSteps as P
+use Rattle.coap_exchange.specs.AskerLaw as X
+use Rattle.coap_types.specs.declared.option_number.TheConstants.{BLOCK1 as block1}
+use Rattle.coap_block.specs.UploadStep.{continues}
+use Rattle.coap_client.specs.Trace.{is_value, Request, Call, Calls, Observes, Cancels}
+use Rattle.coap_client.specs.Trace.{Forgets, Feeds, Ticks, NextOut, NextReport, Asked}
+use Rattle.coap_client.specs.Trace as R
+use Rattle.coap_types.specs.declared.transmission.TheConstants.{MAX_LATENCY_MS as max_latency}
+use Rattle.coap_client.specs.Own.{Transfer, Fetches, Uploads, Single, Operation, Calling, Registering}
+use Rattle.coap_client.specs.Own.{Fetching, Cancelling, Dropped, Notified, Own}
+use Rattle.coap_client.specs.Observations.{observation_of, observation_with, rest_of, to_fetch}
+use Rattle.coap_client.specs.Observations.{dropped}
+use Rattle.coap_client.specs.Observations.{over}
+use Rattle.coap_client.specs.Requests.{is_longer, message_of}
+use Rattle.coap_client.specs.Responses.{content, continue, block_at, is_notification, part}
+use Rattle.coap_client.specs.Responses as T
+use Rattle.coap_client.specs.Reports.{lapse}
+use Rattle.coap_client.specs.Reports as reports_of
+use Rattle.coap_client.specs.Calls.{Next, answer}
+use Rattle.coap_client.specs.Calls as calls
+use Rattle.coap_client.specs.Effects.{Deed, Rests, Asks, Keeps, Releases, Effect, stays, runs, of}
+use Rattle.coap_client.specs.Fetching.{fetch_by, fetch_answered}
+use Rattle.coap_client.specs.Observing.{begun, first_value, registered}
+use Rattle.coap_client.specs.Events.{called, answered, happened, is_held, is_upload_op, starts}
+use Rattle.coap_client.specs.Events.{idle, passes, closed}
+use Rattle.coap_client.specs.Deeds.{at, close, deeds}
+use Rattle.coap_client.specs.Steps.{lower, reports}
+use Rattle.coap_client.specs.Law.{ClientLaw, ClientRows, own_of, lower_of}
+use Rattle.coap_client.specs.Follows.Words.{Sending, sends, sent_by}
+use Rattle.coap_client.specs.Follows.Blocks.{Carried, carried}
+use Rattle.coap_client.specs.Follows.Places.{hit, in_running, places, final_of, gone}
+use Rattle.coap_client.specs.Follows.Holds.{moment, is_copy, is_final, is_upload_of, sends_of, SendsOf}
+use Rattle.coap_client.specs.Follows.Holds.{EndsUnanswered, Holds, AllHold}
+use Rattle.coap_client.proofs.Turning.BlockByBlock.{failed_quiet, keeps_or_ends, noticed_quiet, releases_quiet}
+use Rattle.coap_client.proofs.Places.PlaceLemmas.{same_number, hit_self}
+use Rattle.coap_client.proofs.Uploading.UploadSteps.{number_moved}
+use Rattle.coap_client.proofs.Turning.ExchangeCame.{came}
+use Rattle.coap_client.proofs.Places.PlaceEffects.{Goes}
+use Rattle.coap_client.proofs.Places.PlaceEvents.{happened_goes, passes_goes}
+use Rattle.coap_client.proofs.Places.Once.{law_back, law_front, done_right, both_one, beneath, Known}
+use Rattle.coap_client.proofs.Places.Once.{sound_of}
+use Rattle.coap_client.proofs.Places.Once.{known, from_place}
+use Rattle.coap_client.proofs.Uploading.Holding.{Steadied, steadied, happened_steady, passes_steady, IsOver}
+use Rattle.coap_client.proofs.Uploading.Holding.{up_of}
+use Rattle.coap_client.proofs.Uploading.Holding.{happened_fate, passes_fate, finality, closed_fate}
+
+-- what is sent on an answer is no first block
+
+abbrev Later : Deed → Type 0
+Later d = (op : Operation) (y : Carried) → d ≡ Asks op → carried op ≡ Some y → y.upload.num ≡ 0 → ⊥
+
+abbrev LaterNext : Next → Type 0
+LaterNext (calls.Asks (Uploads u)) = u.num ≡ 0 → ⊥
+LaterNext (calls.Asks (Fetches f)) = Unit {0}
+LaterNext (calls.Asks Single) = Unit {0}
+LaterNext (calls.Ends final report) = Unit {0}
+
+later_if : (b : Bool) (x y : Next) → LaterNext x → LaterNext y → LaterNext (cond b x y)
+later_if true x y h k = h
+later_if false x y h k = k
+
+fetched_later : (f : _) (m : Message) (v : Verdict) → LaterNext (calls.fetched f m v)
+fetched_later f m (verdict.Refuse why) = tt
+fetched_later f m verdict.Again = tt
+fetched_later f m verdict.Done = tt
+fetched_later f m (verdict.Ask num szx) = tt
+
+continued_later : (u : UploadState) (o : Option Block) → LaterNext (calls.continued u o)
+continued_later u None = tt
+continued_later u (Some b) = by (continues u b) refl
+  where
+    by : (c : Bool) → continues u b ≡ c → LaterNext
+        (cond c (calls.Asks (Uploads (moved u b))) (calls.Ends false R.BadBlock))
+    by true h = number_moved u b h
+    by false h = tt
+
+answer_later : (r : Request) (t : Transfer) (m : Message) → LaterNext (answer r t m)
+answer_later r (Fetches f) m =
+    later_if (m.code == content) (calls.fetched f m (part f m))
+    (cond ((m.code == T.valid) && calls.has_tags r.etags) (calls.Ends true (R.Valid (T.tag_in m)))
+    (calls.Ends true (R.Failed m.code))) (fetched_later f m (part f m))
+    (later_if ((m.code == T.valid) && calls.has_tags r.etags) (calls.Ends true (R.Valid (T.tag_in m)))
+    (calls.Ends true (R.Failed m.code)) tt tt)
+answer_later r (Uploads u) m =
+    later_if ((m.code == continue) && is_longer u) (calls.continued u (block_at block1 m))
+    (cond (more_follows u && calls.is_below_errors m.code) (calls.Ends true R.BadBlock)
+    (calls.Ends true (reports_of.done r.method m.code))) (continued_later u (block_at block1 m))
+    (later_if (more_follows u && calls.is_below_errors m.code) (calls.Ends true R.BadBlock)
+    (calls.Ends true (reports_of.done r.method m.code)) tt tt)
+answer_later r Single m = tt
+
+called_later : (k : ℕ) (r : Request) (t : Transfer) (s : Own) (next : Next) → LaterNext next
+    → Later (called k r t s next).deed
+called_later k r t s (calls.Ends final report) h op y is c zero = cc is
+called_later k r t s (calls.Asks (Fetches f)) h op y is c zero = let same : Calling k r (Fetches f)
+    ≡ op = cc is in let e : None ≡ Some y = ap carried same ∙ c in cc e
+called_later k r t s (calls.Asks Single) h op y is c zero = let same : Calling k r Single ≡ op = cc is in let e : None
+    ≡ Some y = ap carried same ∙ c in cc e
+called_later k r t s (calls.Asks (Uploads u)) h op y is c zero =
+    let same : Calling k r (Uploads u) ≡ op = cc is in
+    let e : ◌≡◌ {A = Option Carried} (Some (record { number = k; upload = u })) (Some y) = ap carried same ∙ c in
+    let e2 : ◌≡◌ {A = Carried} (record { number = k; upload = u }) y = cc e in
+    h (ap (λ (z : Carried). z.upload.num) e2 ∙ zero)
+
+quiet_later : (d : Deed) → ((op : Operation) → d ≡ Asks op → ⊥) → Later d
+quiet_later d q op y is c zero = q op is
+
+by_later : (k : ℕ) (n : Notified) (s : Own) (m : Message) (v : Verdict) → Later (fetch_by k n s m v).deed
+by_later k n s m (verdict.Ask num szx) op y is c zero = let same : Fetching k ≡ op = cc is in let e : None
+    ≡ Some y = ap carried same ∙ c in cc e
+by_later k n s m verdict.Done op y is c zero = cc is
+by_later k n s m verdict.Again op y is c zero = cc is
+by_later k n s m (verdict.Refuse why) op y is c zero = cc is
+
+fetch_later : (k : ℕ) (o : Option Notified) (s : Own) (m : Message) → Later (fetch_answered k o s m).deed
+fetch_later k None s m op y is c zero = cc is
+fetch_later k (Some n) s m op y is c zero = by_later k n s m _ op y is c zero
+
+registered_quiet : (k : ℕ) (path : List (List ℕ)) (s : Own) (m : ℕ) (a : Message) (op : Operation)
+    → (registered k path s m a).deed ≡ Asks op → ⊥
+registered_quiet k path s m a op h =
+    keeps_or_ends (is_notification a) (record s {
+      running = None;
+      observations = s.observations ++ begun k path s.szx m a ∷ [];
+    }) (first_value k s.szx a)
+    (of k (R.Ended a.code)) a.token s op h
+
+registered_later : (k : ℕ) (path : List (List ℕ)) (s : Own) (m : ℕ) (a : Message) → Later (registered k path s m a).deed
+registered_later k path s m a op y is c zero = registered_quiet k path s m a op is
+
+answered_later : (s : Own) (m : ℕ) (a : Message) (running : Option Operation) → Later (answered s m a running).deed
+answered_later s m a None = quiet_later _ (λ op h. cc h)
+answered_later s m a (Some (Calling k r t)) = called_later k r t s (answer r t a) (answer_later r t a)
+answered_later s m a (Some (Registering k path)) = registered_later k path s m a
+answered_later s m a (Some (Fetching k)) = fetch_later k (rest_of k s.observations) s a
+answered_later s m a (Some (Cancelling k)) = quiet_later _ (releases_quiet (observation_of k s.observations))
+answered_later s m a (Some Dropped) = quiet_later _ (λ op h. cc h)
+
+happened_later : (s : Own) (m : ℕ) (e : Option Event) → Later (happened s m e).deed
+happened_later s m None = quiet_later _ (λ op h. cc h)
+happened_later s m (Some (event_of.Answer a)) = answered_later s m a s.running
+happened_later s m (Some (event_of.Notice a)) =
+    quiet_later _ (noticed_quiet s m a (observation_with a.token s.observations))
+happened_later s m (Some event_of.Reset) = quiet_later _ (failed_quiet (λ t. true) R.Reset s s.running)
+happened_later s m (Some event_of.Timeout) = quiet_later _ (failed_quiet (λ t. true) R.Timeout s s.running)
+happened_later s m (Some event_of.NoResponse) = quiet_later _ (failed_quiet (λ t. true) R.NoResponse s s.running)
+
+-- what a turn starts, nothing runs and it is not held back
+abbrev IsFree : Own → ℕ → Deed → Type 0
+IsFree s m d = (op : Operation) (y : Carried) → d ≡ Asks op → carried op ≡ Some y → is_longer y.upload ≡ true
+    → (s.running ≡ None) × (is_held s m ≡ false)
+
+upload_op : (op : Operation) (y : Carried) → carried op ≡ Some y → is_longer y.upload ≡ true → is_upload_op op ≡ true
+upload_op (Calling k r (Uploads u)) y c h = let e : ◌≡◌ {A = Carried} (record { number = k; upload = u }) y =
+    cc c in ap (λ (z : Carried). is_longer z.upload) e ∙ h
+upload_op (Calling k r (Fetches f)) y c h = absurd (cc c)
+upload_op (Calling k r Single) y c h = absurd (cc c)
+upload_op (Registering k path) y c h = absurd (cc c)
+upload_op (Fetching k) y c h = absurd (cc c)
+upload_op (Cancelling k) y c h = absurd (cc c)
+upload_op Dropped y c h = absurd (cc c)
+
+module _ (s : Own) (m : ℕ) where
+  starts_free : (queue : List Operation) → s.running ≡ None → IsFree s m (starts s m queue).deed
+  starts_free [] none op y is c l = absurd (cc is)
+  starts_free (first ∷ queue) none op y is c l = by (is_upload_op first) refl (is_held s m) refl is
+    where
+      by : (a : Bool) → is_upload_op first ≡ a → (b : Bool) → is_held s m ≡ b
+          → (cond (a && b) (stays s) (runs first (record s { queue = queue }))).deed ≡ Asks op
+          → (s.running ≡ None) × (is_held s m ≡ false)
+      by true e true k i = absurd (cc i)
+      by true e false k i = (none, k)
+      by false e b k i =
+          let same : first ≡ op = cc i in
+          let up : is_upload_op first ≡ true = ap is_upload_op same ∙ upload_op op y c l in
+          absurd (cc (e, up))
+
+  idle_free : (running : Option Operation) → s.running ≡ running → (number : Option ℕ)
+      → IsFree s m (idle s m running number).deed
+  idle_free (Some x) r number op y is c l = absurd (cc is)
+  idle_free None r (Some k) op y is c l = let same : Fetching k ≡ op = cc is in let e : None ≡ Some y = ap carried same
+      ∙ c in absurd (cc e)
+  idle_free None r None op y is c l = starts_free s.queue r op y is c l
+
+  passes_free : (t : Turn) → IsFree s m (passes s m t).deed
+  passes_free turn_of.Idle op y is c l = idle_free s.running refl (to_fetch s.observations) op y is c l
+  passes_free turn_of.Copied op y is c l = absurd (cc is)
+  passes_free (turn_of.End e) op y is c l = absurd (failed_quiet (λ t. true) (lapse e) s s.running op is)
+
+-- a sending is that of the deed
+pub record SentOf (e : Effect) (d : Deed) (token : Result (List ℕ) AskRefusal) (x : Sending) : Type 0 where
+  pub asks : d ≡ Asks x.operation
+  pub given : token ≡ Ok x.token
+  pub request : x.request ≡ message_of e.own.observations x.operation
+
+pub sent_of : (e : Effect) (d : Deed) (token : Result (List ℕ) AskRefusal) (x : Sending) → sent_by e d token ≡ Some x
+    → SentOf e d token x
+sent_of e (Asks op) (Ok token) x h =
+    let same : ◌≡◌ {A = Sending} (record { operation = op; token = token; request = message_of e.own.observations op })
+    x = cc h in
+    record {
+      asks = ap (λ (z : Sending). Asks z.operation) same;
+      given = ap (λ (z : Sending). Ok z.token) same;
+      request = sym (ap (λ (z : Sending). z.request) same)
+          ∙ ap (λ (z : Sending). message_of e.own.observations z.operation) same;
+    }
+sent_of e (Asks op) (Err why) x h = absurd (cc h)
+sent_of e Rests token x h = absurd (cc h)
+sent_of e (Keeps t) token x h = absurd (cc h)
+sent_of e (Releases t) token x h = absurd (cc h)
+
+-- where a transfer's block is sent, it runs from then on
+sends_now : (m other : ℕ) (e : Effect) (token : Result (List ℕ) AskRefusal) (d : Deed)
+    → ((op : Operation) → d ≡ Asks op → e.own.running ≡ Some op) → sends_of other (sent_by e d token) ≡ true
+    → ((closed m e d token).own.sent ≡ m) × (is_upload_of other (closed m e d token).own.running ≡ true)
+sends_now m other e (Ok token) (Asks op) f h = (refl, ap (is_upload_of other) (f op refl) ∙ h)
+sends_now m other e (Err why) (Asks op) f h = absurd (cc h)
+sends_now m other e token Rests f h = absurd (cc h)
+sends_now m other e token (Keeps t) f h = absurd (cc h)
+sends_now m other e token (Releases t) f h = absurd (cc h)
+
+copies_now : (m other : ℕ) (s : Own) (t : Turn) (token : Result (List ℕ) AskRefusal) → t ≡ turn_of.Copied
+    → is_upload_of other s.running ≡ true → ((close m (passes s m t) token).own.sent ≡ m)
+    × (is_upload_of other (close m (passes s m t) token).own.running ≡ true)
+copies_now m other s t token is up = subst (λ u. ((close m (passes s m u) token).own.sent ≡ m)
+    × (is_upload_of other (close m (passes s m u) token).own.running ≡ true)) (sym is) (refl, up)
+
+-- an upload that runs has its place
+up_place : (other : ℕ) (s : Own) → is_upload_of other s.running ≡ true → 1 ≤ places other s
+up_place other s h =
+    let u = up_of other s.running h in
+    let a : in_running other s.running ≡ hit u.number other = ap (in_running other) u.runs_it in
+    let b : hit u.number other ≡ 1 = ap (λ i. hit i other) (same_number u.number other u.same) ∙ hit_self other in
+    omega (arith, a, b)
+
+dropped_up : (other k : ℕ) (running : Option Operation) → is_upload_of other running ≡ true
+    → is_upload_of other (dropped k running) ≡ true
+dropped_up other k running h = let u = up_of other running h in subst (λ r. is_upload_of other (dropped k r) ≡ true)
+    (sym u.runs_it) (ap (is_upload_of other) (sym u.runs_it) ∙ h)
+
+module _ (server : Endpoint) (szx word : ℕ) where
+  abbrev own : List Call → Own
+  own t = own_of szx t
+
+  -- the exchange beneath, and the effect
+  pub goes_fed : (t : List Call) (now : ℕ) (from : Endpoint) (bytes : List ℕ) (w : ℕ) (up : L.Answer) (settled : Bool)
+      (event : Option Event) (sent : L.Answer) (token : Result (List ℕ) AskRefusal) (kept : Bool)
+      → Known server szx word t
+      → X.AskerLaw server word (lower_of szx (Feeds now from bytes w up settled event sent token kept ∷ t))
+      → Goes (at now (own t)) (P.after (beneath server szx word t)
+      (E.Receive (max (own t).clock now) from bytes up settled event)).running
+      (happened (at now (own t)) (max (own t).clock now) event)
+  goes_fed t now from bytes w up settled event sent token kept k law =
+      let m : ℕ = max (own t).clock now in
+      let e : Effect = happened (at now (own t)) m event in
+      let z = sound_of server szx word t k in
+      let i : E.Call = E.Receive m from bytes up settled event in
+      let later : List E.Call = deeds (close m e token).deed (close m e token).own m w sent token kept in
+      let first : List E.Call = deeds e.deed e.own m w sent token kept in
+      let right = done_right (beneath server szx word t) later first i
+      (law_front server word (later ++ (first ++ i ∷ [])) (lower_of szx t) law) in
+      happened_goes (at now (own t)) (beneath server szx word t).running _
+      (record { at_most = z.at_most; waits = z.waits; runs_on = z.runs_on }) k.linked m event
+      (came (beneath server szx word t) from _ up event right.0)
+
+  pub goes_ticked : (t : List Call) (now : ℕ) (turn : Turn) → Known server szx word t
+      → Goes (at now (own t)) (A.running_unless turn (beneath server szx word t).running)
+      (passes (at now (own t)) (max (own t).clock now) turn)
+  goes_ticked t now turn k =
+      let z = sound_of server szx word t k in
+      passes_goes (at now (own t)) (beneath server szx word t).running
+      (record { at_most = z.at_most; waits = z.waits; runs_on = z.runs_on }) k.linked (max (own t).clock now) turn
+
+  unanswered_gone : (other : ℕ) (t : List Call) → Sometime (EndsUnanswered szx other) t → 1 ≤ gone szx other t
+  unanswered_gone other [] h = absurd h
+  unanswered_gone other (c ∷ t) (inr h) = let ih = unanswered_gone other t h in omega (arith, ih)
+  unanswered_gone other (c ∷ t) (inl h) =
+      let a : final_of other (reports (own t) c) ≡ final_of other (Some h.report) = ap (final_of other) h.made in
+      let b : final_of other (Some h.report) ≡ hit h.report.number other =
+      ap (λ v. cond v 0 (hit h.report.number other)) h.last in
+      let d : hit h.report.number other ≡ 1 = ap (λ i. hit i other) h.is ∙ hit_self other in
+      omega (arith, a, b, d)
+
+  abbrev Till : ℕ → Own → Type 0
+  Till z s = (h : ℕ) × (s.hold ≡ Some h) × (z ≤ h + max_latency)
+
+  abbrev IsThen : ℕ → ℕ → List Call → Type 0
+  IsThen other z t = Sometime (λ earlier b. SendsOf szx other earlier b × (z ≤ moment (own earlier) b + max_latency)) t
+
+  -- it runs, or it is over and holds back
+  abbrev Stands : ℕ → ℕ → List Call → Type 0
+  Stands other z t =
+      (z ≤ (own t).sent + max_latency) × ((is_upload_of other (own t).running ≡ true)
+      ⊎ ((1 ≤ gone szx other t) × (Sometime (EndsUnanswered szx other) t → Till z (own t))))
+
+  pub record Keeping (t : List Call) : Type 0 where
+    pub sent : (own t).sent ≤ (own t).clock
+    pub stands : (other z : ℕ) → IsThen other z t → Stands other z t
+
+  -- a call that sends and reports nothing
+  plain : (t : List Call) (c : Call) → sends (own t) c ≡ None → is_copy c ≡ false → reports (own t) c ≡ None
+      → (own (c ∷ t)).sent ≡ (own t).sent → (own (c ∷ t)).hold ≡ (own t).hold → (own t).clock ≤ (own (c ∷ t)).clock
+      → ((other : ℕ) → is_upload_of other (own t).running ≡ true → is_upload_of other (own (c ∷ t)).running ≡ true)
+      → Keeping t → Keeping (c ∷ t)
+  plain t c no_sending no_copy no_report sent hold clock still k = record {
+    sent = let a = k.sent in omega (arith, a, sent, clock);
+    stands = λ other z h. elim h [
+      | inl now ↦ absurd (elim now.0 [
+        | inl x ↦ (let e : false ≡ true = sym (ap (sends_of other) no_sending) ∙ x in cc e)
+        | inr x ↦ (let e : false ≡ true = sym no_copy ∙ x.0 in cc e)
+      ])
+      | inr before ↦ (let g = k.stands other z before in
+          let bound = g.0 in (
+            omega (arith, bound, sent),
+            elim g.1 [
+              | inl up ↦ inl (still other up)
+              | inr over ↦ (let o = over.0 in inr (
+                omega (arith, o),
+                λ w. elim w [
+                  | inl y ↦ absurd (cc (no_report, y.made))
+                  | inr y ↦ (let q = over.1 y in (q.0, hold ∙ q.1, q.2))
+                ],
+              ))
+            ],
+          ))
+    ];
+  }
+
+  -- an event, or a turn
+  module _ (t : List Call) (c : Call) (now : ℕ) (e : Effect) (token : Result (List ℕ) AskRefusal)
+      (k : Known server szx word t) (law : X.AskerLaw server word (lower_of szx (c ∷ t))) (keeping : Keeping t) where
+    abbrev m : ℕ
+    m = max (own t).clock now
+
+    abbrev s : Own
+    s = at now (own t)
+
+    abbrev done : Effect
+    done = close m e token
+
+    moved_on : (final : Bool) → moment (own t) c ≡ m → (own (c ∷ t)).sent ≡ done.own.sent
+        → (own (c ∷ t)).hold ≡ done.own.hold → (own (c ∷ t)).clock ≡ done.own.clock
+        → (own (c ∷ t)).running ≡ done.own.running
+        → reports (own t) c ≡ done.report → is_final c ≡ final → Steadied s m done
+        → ((other : ℕ) → is_upload_of other (own t).running ≡ true
+        → IsOver final other s done ⊎ (is_upload_of other done.own.running ≡ true))
+        → ((other : ℕ) → SendsOf szx other t c → (done.own.sent ≡ m) × (is_upload_of other done.own.running ≡ true))
+        → Keeping (c ∷ t)
+    moved_on final moment_is sent hold clock running report final_is st fate first = record {
+      sent = later_sent;
+      stands = λ other z h. elim h [
+        | inl now ↦ (let f = first other now.0 in let b = now.1 in let x =
+            f.0 in (omega (arith, b, x, sent, moment_is), inl (ap (is_upload_of other) running ∙ f.1)))
+        | inr before ↦ (let g = keeping.stands other z before in (
+          bounded z g.0,
+          elim g.1 [
+            | inl up ↦ elim (fate other up) [
+              | inl o ↦ inr (
+                over_gone other o,
+                λ w. elim w [
+                  | inl y ↦ ((own t).sent, hold ∙ o.holds (sym final_is ∙ y.not_final), g.0)
+                  | inr y ↦ absurd (both_one (places other (own t)) (gone szx other t) _ (k.one other)
+                      (up_place other (own t) up) (unanswered_gone other t y))
+                ],
+              )
+              | inr r ↦ inl (ap (is_upload_of other) running ∙ r)
+            ]
+            | inr over ↦ (let o = over.0 in inr (
+              omega (arith, o),
+              λ w. elim w [
+                | inl y ↦ absurd (both_one (places y.report.number (own t)) (gone szx y.report.number t) _
+                    (k.one y.report.number) (from_place server szx word t c k law y.report y.made)
+                    (subst (λ i. 1 ≤ gone szx i t) (sym y.is) o))
+                | inr y ↦ elim st.hold [
+                  | inl same ↦ (let q = over.1 y in (q.0, hold ∙ (same ∙ q.1), q.2))
+                  | inr set ↦ ((own t).sent, hold ∙ set, g.0)
+                ]
+              ],
+            ))
+          ],
+        ))
+      ];
+    }
+      where
+        later_sent : (own (c ∷ t)).sent ≤ (own (c ∷ t)).clock
+        later_sent =
+            let a = keeping.sent in
+            let q = st.clock in
+            elim st.sent [ inl x ↦ omega (arith, a, x, sent, clock, q) | inr x ↦ omega (arith, x, sent, clock, q) ]
+
+        bounded : (z : ℕ) → z ≤ (own t).sent + max_latency → z ≤ (own (c ∷ t)).sent + max_latency
+        bounded z b = let a = keeping.sent in elim st.sent
+            [ inl x ↦ omega (arith, b, x, sent) | inr x ↦ omega (arith, a, b, x, sent) ]
+
+        over_gone : (other : ℕ) → IsOver final other s done
+            → 1 ≤ final_of other (reports (own t) c) +
+            (Rattle.coap_client.specs.Follows.Places.forgotten_by other c + gone szx other t)
+        over_gone other o =
+            let a : final_of other (reports (own t) c)
+            ≡ final_of other (of other o.report) = ap (final_of other) (report ∙ o.made) in
+            let b : final_of other (of other o.report)
+            ≡ hit other other = ap (λ v. cond v 0 (hit other other)) o.last in
+            let d = hit_self other in
+            omega (arith, a, b, d)
+
+  final_of_event : (now : ℕ) (from : Endpoint) (bytes : List ℕ) (w : ℕ) (up : L.Answer) (settled : Bool)
+      (event : Option Event) (sent : L.Answer) (token : Result (List ℕ) AskRefusal) (kept : Bool) (other : ℕ) (s : Own)
+      (m : ℕ) (u : is_upload_of other s.running ≡ true)
+      → is_final (Feeds now from bytes w up settled event sent token kept) ≡ finality other s m u event
+  final_of_event now from bytes w up settled None sent token kept other s m u = refl
+  final_of_event now from bytes w up settled (Some (event_of.Answer a)) sent token kept other s m u = refl
+  final_of_event now from bytes w up settled (Some (event_of.Notice a)) sent token kept other s m u = refl
+  final_of_event now from bytes w up settled (Some event_of.Reset) sent token kept other s m u = refl
+  final_of_event now from bytes w up settled (Some event_of.Timeout) sent token kept other s m u = refl
+  final_of_event now from bytes w up settled (Some event_of.NoResponse) sent token kept other s m u = refl
+
+  copy_is : (now w : ℕ) (below : L.Answer) (turn : Turn) (sent : L.Answer) (token : Result (List ℕ) AskRefusal)
+      (kept answer : Bool) → is_copy (Ticks now w below turn sent token kept answer) ≡ true → turn ≡ turn_of.Copied
+  copy_is now w below turn_of.Copied sent token kept answer h = refl
+  copy_is now w below turn_of.Idle sent token kept answer h = absurd (cc h)
+  copy_is now w below (turn_of.End e) sent token kept answer h = absurd (cc h)
+
+  answer_keeps : (o : Result ℕ _) (f : ℕ → Operation) (s : Own)
+      → ((Rattle.coap_client.specs.Queue.numbered f o s).sent ≡ s.sent)
+      × ((Rattle.coap_client.specs.Queue.numbered f o s).hold ≡ s.hold)
+      × ((Rattle.coap_client.specs.Queue.numbered f o s).clock ≡ s.clock)
+      × ((Rattle.coap_client.specs.Queue.numbered f o s).running ≡ s.running)
+  answer_keeps (Ok k) f s = (refl, refl, refl, refl)
+  answer_keeps (Err why) f s = (refl, refl, refl, refl)
+
+  cancel_keeps : (o : Option _) (k : ℕ) (s : Own)
+      → ((Rattle.coap_client.specs.Queue.cancelling k o s).sent ≡ s.sent)
+      × ((Rattle.coap_client.specs.Queue.cancelling k o s).hold ≡ s.hold)
+      × ((Rattle.coap_client.specs.Queue.cancelling k o s).clock ≡ s.clock)
+      × ((Rattle.coap_client.specs.Queue.cancelling k o s).running ≡ s.running)
+  cancel_keeps None k s = (refl, refl, refl, refl)
+  cancel_keeps (Some why) k s = (refl, refl, refl, refl)
+
+  pub keeping : (t : List Call) → ClientRows szx t → X.AskerLaw server word (lower_of szx t) → Keeping t
+  keeping [] rows law = record { sent = omega arith; stands = λ other z h. absurd h }
+  keeping (Calls now r answer ∷ t) rows law =
+      let a = answer_keeps answer
+      (λ number. Rattle.coap_client.specs.Queue.calling (own t).szx number r)
+      (at now (own t)) in
+      let q = a.2 in
+      plain t (Calls now r answer) refl refl refl a.0 a.1 (omega (arith, q))
+      (λ other h. ap (is_upload_of other) a.3 ∙ h) (keeping t rows.1 law)
+  keeping (Observes now path answer ∷ t) rows law =
+      let a = answer_keeps answer (λ number. Registering number path) (at now (own t)) in
+      let q = a.2 in
+      plain t (Observes now path answer) refl refl refl a.0 a.1 (omega (arith, q))
+      (λ other h. ap (is_upload_of other) a.3 ∙ h) (keeping t rows.1 law)
+  keeping (Cancels now number answer ∷ t) rows law =
+      let a = cancel_keeps answer number (at now (own t)) in
+      let q = a.2 in
+      plain t (Cancels now number answer) refl refl refl a.0 a.1 (omega (arith, q))
+      (λ other h. ap (is_upload_of other) a.3 ∙ h) (keeping t rows.1 law)
+  keeping (Forgets number kept true ∷ t) rows law =
+      plain t (Forgets number kept true) refl refl refl refl refl (omega arith)
+      (λ other h. dropped_up other number (own t).running h)
+      (keeping t rows.1 (law_back server word (lower (own t) (Forgets number kept true)) (lower_of szx t) law))
+  keeping (Forgets number kept false ∷ t) rows law =
+      plain t (Forgets number kept false) refl refl refl refl refl (omega arith) (λ other h. h) (keeping t rows.1 law)
+  keeping (NextOut answer ∷ t) rows law = plain t (NextOut answer) refl refl refl refl refl (omega arith) (λ other h. h)
+      (keeping t rows.1 law.1)
+  keeping (NextReport answer ∷ t) rows law = plain t (NextReport answer) refl refl refl refl refl (omega arith)
+      (λ other h. h) (keeping t rows.1 law)
+  keeping (Asked answer ∷ t) rows law = plain t (Asked answer) refl refl refl refl refl (omega arith) (λ other h. h)
+      (keeping t rows.1 law)
+  keeping (Feeds now from bytes w up settled event sent token kept ∷ t) rows law =
+      let c : Call = Feeds now from bytes w up settled event sent token kept in
+      let below = law_back server word (lower (own t) c) (lower_of szx t) law in
+      let k = known server szx word t rows.1 below in
+      let m : ℕ = max (own t).clock now in
+      let s : Own = at now (own t) in
+      let e : Effect = happened s m event in
+      let g = goes_fed t now from bytes w up settled event sent token kept k law in
+      moved_on t c now e token k law (keeping t rows.1 below) (is_final c) refl refl refl refl refl refl refl
+      (steadied s m e token e.deed refl (happened_steady s m event))
+      (λ other u. subst (λ f. IsOver f other s (close m e token)
+      ⊎ (is_upload_of other (close m e token).own.running ≡ true))
+      (sym (final_of_event now from bytes w up settled event sent token kept other s m u))
+      (closed_fate other s m u (finality other s m u event) e token (happened_fate other s m u event)
+      (λ op h. (g.asks op h).0) e.deed refl))
+      (λ other h. elim h [
+        | inl x ↦ sends_now m other e token e.deed (λ op i. (g.asks op i).1) x
+        | inr x ↦ absurd
+            (cc x.0)
+      ])
+  keeping (Ticks now w below turn sent token kept answer ∷ t) rows law =
+      let c : Call = Ticks now w below turn sent token kept answer in
+      let under = law_back server word (lower (own t) c) (lower_of szx t) law in
+      let k = known server szx word t rows.1 under in
+      let m : ℕ = max (own t).clock now in
+      let s : Own = at now (own t) in
+      let e : Effect = passes s m turn in
+      let g = goes_ticked t now turn k in
+      moved_on t c now e token k law (keeping t rows.1 under) false refl refl refl refl refl refl refl
+      (steadied s m e token e.deed refl (passes_steady s m turn))
+      (λ other u. closed_fate other s m u false e token (passes_fate other s m u turn)
+      (λ op h. (g.asks op h).0) e.deed refl)
+      (λ other h. elim h [
+        | inl x ↦ sends_now m other e token e.deed
+            (λ op i. (g.asks op i).1) x
+        | inr x ↦ copies_now m other s turn token
+            (copy_is now w below turn sent token kept answer x.0) x.1
+      ])
+
+  -- a first block
+  module _ (t : List Call) (k : Keeping t) (now : ℕ) where
+    free : (other m : ℕ) → (own t).running ≡ None → is_held (at now (own t)) m ≡ false
+        → Sometime (EndsUnanswered szx other) t → IsThen other m t → ⊥
+    free other m none apart ended h =
+        let g = k.stands other m h in
+        elim g.1 [
+          | inl up ↦ (let e : false ≡ true = sym (ap (is_upload_of other) none) ∙ up in cc e)
+          | inr over ↦ (let q = over.1 ended in
+              let is : is_held (at now (own t)) m ≡ nat_le m (q.0 + max_latency) =
+              ap (λ o. elim o [ None ↦ false | Some last ↦ nat_le m (last + max_latency) ]) q.1 in
+              let yes_it : nat_le m (q.0 + max_latency) ≡ true = le-leb m (q.0 + max_latency) q.2 in
+              cc (apart, is, yes_it))
+        ]
+
+  holds_here : (t : List Call) (c : Call) → Keeping t → (x : Sending) (y : Carried) → sends (own t) c ≡ Some x
+      → carried x.operation ≡ Some y → is_longer y.upload ≡ true → y.upload.num ≡ 0 → Holds szx t c y.number
+  holds_here t (Feeds now from bytes w up settled event sent token kept) k x y h c l zero =
+      let m : ℕ = max (own t).clock now in
+      let e : Effect = happened (at now (own t)) m event in
+      absurd (happened_later (at now (own t)) m event x.operation y (sent_of e e.deed token x h).asks c zero)
+  holds_here t (Ticks now w below turn sent token kept answer) k x y h c l zero =
+      let m : ℕ = max (own t).clock now in
+      let e : Effect = passes (at now (own t)) m turn in
+      let f = passes_free (at now (own t)) m turn x.operation y (sent_of e e.deed token x h).asks c l in
+      record { held = λ other ended is. free t k now other m f.0 f.1 ended is }
+  holds_here t (Calls now r answer) k x y h c l zero = absurd (cc h)
+  holds_here t (Observes now path answer) k x y h c l zero = absurd (cc h)
+  holds_here t (Cancels now number answer) k x y h c l zero = absurd (cc h)
+  holds_here t (Forgets number kept answer) k x y h c l zero = absurd (cc h)
+  holds_here t (NextOut answer) k x y h c l zero = absurd (cc h)
+  holds_here t (NextReport answer) k x y h c l zero = absurd (cc h)
+  holds_here t (Asked answer) k x y h c l zero = absurd (cc h)
+
+  pub all_hold : (t : List Call) → ClientLaw server szx word t → AllHold szx t
+  all_hold t law = all t law.rows law.exchanges.rows
+    where
+      all : (t : List Call) → ClientRows szx t → X.AskerLaw server word (lower_of szx t) → AllHold szx t
+      all [] rows law = tt
+      all (c ∷ t) rows law =
+          let under = law_back server word (lower (own t) c) (lower_of szx t) law in
+          (λ x y h carries l zero. holds_here t c (keeping t rows.1 under) x y h carries l zero, all t rows.1 under)

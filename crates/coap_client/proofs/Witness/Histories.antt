@@ -1,0 +1,161 @@
+-- The history of a client that observes stands in its law.
+use Rattle.std.proofs.Common.{◌≡◌, ℕ, true, List, [], ◌∷◌, refl, arith}
+use Rattle.std.specs.Prelude.{nat_lt}
+use Rattle.std.specs.List.{list_all}
+use Rattle.std.proofs.lemmas.Bool.{and_parts, ltb-true}
+use Rattle.coap_types.specs.Bytes.{AreBytes}
+use Rattle.coap_types.proofs.Facts.Bytes.{AreBytes-nil, AreBytes-cons}
+use Rattle.coap_codec.specs.Spelling.{option_bytes, options_bytes}
+use Rattle.coap_codec.specs.Reading.{extended, value_at, nibbles_at, option_at, walk_of, walk, payload_at, frame_fault}
+use Rattle.coap_codec.specs.Reading.{body_at}
+use Rattle.coap_codec.specs.Decoded.{decoded}
+use Rattle.coap_layer.specs.Machine.State as L
+use Rattle.coap_layer.specs.Machine.Steps.{Asked, Steps, left_after}
+use Rattle.coap_layer.proofs.Facts.Sendable.{sendable_when_short}
+use Rattle.coap_exchange.specs.AskerLaw as X
+use Rattle.coap_client.specs.Law.{ClientLaw, ClientRows, lower_of}
+use Rattle.coap_client.specs.Examples.Histories.{server, first, second, run, continue, upload}
+
+bytes_are : (bytes : List ℕ) → list_all (λ b. nat_lt b 256) bytes ≡ true → AreBytes bytes
+bytes_are [] e = AreBytes-nil
+bytes_are (b ∷ bytes) e =
+    let k = and_parts (nat_lt b 256) (list_all (λ x. nat_lt x 256) bytes) e in
+    AreBytes-cons b bytes (ltb-true b 256 k.0) (bytes_are bytes k.1)
+
+abbrev below : List Asked
+below = X.lower_of server 0 (lower_of 6 run)
+
+rows_of : ClientRows 6 run
+unfolding option_bytes options_bytes
+rows_of = (refl, (tt, (tt, (refl, (tt, (tt, (refl, (refl, (refl, tt)))))))))
+
+asked_of : X.AskerLaw server 0 (lower_of 6 run)
+asked_of = (tt, (refl, (refl, (refl, (tt, (refl, (refl, (refl, tt))))))))
+
+steps_of : Steps (L.start 0) below (left_after (L.start 0) below)
+unfolding decoded frame_fault body_at walk walk_of option_at nibbles_at value_at extended payload_at option_bytes
+    options_bytes
+steps_of = (
+  _,
+  (
+    _,
+    (
+      _,
+      (
+        _,
+        (
+          _,
+          (
+            _,
+            (
+              _,
+              (
+                _,
+                (_, refl, record { may = tt; right = refl; new_is = refl }),
+                record {
+                  may = (sendable_when_short _ (record {
+                    some = omega arith;
+                    code = omega arith;
+                    id = omega arith;
+                    token = omega arith;
+                    order = refl;
+                    numbers = refl;
+                    short = refl;
+                  }) (omega arith)).spelled;
+                  right = refl;
+                  new_is = refl;
+                },
+              ),
+              record { may = tt; right = refl; new_is = refl },
+            ),
+            record { may = tt; right = refl; new_is = refl },
+          ),
+          record { may = bytes_are first refl; right = refl; new_is = refl },
+        ),
+        record { may = tt; right = refl; new_is = refl },
+      ),
+      record { may = bytes_are second refl; right = refl; new_is = refl },
+    ),
+    record { may = refl; right = refl; new_is = refl },
+  ),
+  record { may = tt; right = refl; new_is = refl },
+)
+
+pub witness : ClientLaw server 6 0 run
+witness = record {
+  rows = rows_of;
+  exchanges =
+      record { rows = asked_of; left = left_after (L.start 0) below; layer = steps_of };
+}
+
+-- .. and that of an upload
+
+abbrev below_upload : List Asked
+below_upload = X.lower_of server 0 (lower_of 3 upload)
+
+upload_rows : ClientRows 3 upload
+unfolding option_bytes options_bytes
+upload_rows = (tt, (tt, (tt, (refl, (refl, tt)))))
+
+upload_asked : X.AskerLaw server 0 (lower_of 3 upload)
+upload_asked = (tt, (refl, (refl, (tt, (refl, (refl, tt))))))
+
+upload_steps : Steps (L.start 0) below_upload (left_after (L.start 0) below_upload)
+unfolding decoded frame_fault body_at walk walk_of option_at nibbles_at value_at extended payload_at option_bytes
+    options_bytes
+upload_steps = (
+  _,
+  (
+    _,
+    (
+      _,
+      (
+        _,
+        (
+          _,
+          (
+            _,
+            (_, refl, record { may = tt; right = refl; new_is = refl }),
+            record {
+              may = (sendable_when_short _ (record {
+                some = omega arith;
+                code = omega arith;
+                id = omega arith;
+                token = omega arith;
+                order = refl;
+                numbers = refl;
+                short = refl;
+              }) (omega arith)).spelled;
+              right = refl;
+              new_is = refl;
+            },
+          ),
+          record { may = tt; right = refl; new_is = refl },
+        ),
+        record { may = bytes_are continue refl; right = refl; new_is = refl },
+      ),
+      record { may = tt; right = refl; new_is = refl },
+    ),
+    record {
+      may = (sendable_when_short _ (record {
+        some = omega arith;
+        code = omega arith;
+        id = omega arith;
+        token = omega arith;
+        order = refl;
+        numbers = refl;
+        short = refl;
+      }) (omega arith)).spelled;
+      right = refl;
+      new_is = refl;
+    },
+  ),
+  record { may = tt; right = refl; new_is = refl },
+)
+
+pub uploads : ClientLaw server 3 0 upload
+uploads = record {
+  rows = upload_rows;
+  exchanges =
+      record { rows = upload_asked; left = left_after (L.start 0) below_upload; layer = upload_steps };
+}

@@ -1,0 +1,78 @@
+use Rattle.coap_layer.proofs.Facts.Laws.{copies_in_time}
+use Rattle.coap_client.specs.Law.{lower_of, layer_of}
+use Rattle.coap_client.proofs.Sending.NoNons.{no_nons}
+use Rattle.coap_common.proofs.Facts.AskerReplies.{replies_so}
+use Rattle.coap_client.proofs.Turning.Leading.{client_start, led_client, client_stands, client_layer}
+use Rattle.coap_client.proofs.Turning.Leading.{client_back}
+use Rattle.coap_client.proofs.Exact.Exactly.{is_exact}
+use Rattle.coap_client.proofs.Places.Once.{known, reported_once}
+use Rattle.coap_client.proofs.Places.Gives.{waits}
+use Rattle.coap_client.proofs.Hearing.FromServer.{are_from_server}
+use Rattle.coap_client.proofs.Places.Numbers.{numbers_once}
+use Rattle.coap_client.proofs.Uploading.Holds.{all_hold}
+use Rattle.coap_client.proofs.Rest.Resting.{are_resting}
+use Rattle.coap_client.proofs.Places.Answered.{are_answered}
+use Rattle.coap_client.proofs.Uploading.Pieces.{none_after, answers_last, sends_pieces}
+use Rattle.coap_client.proofs.laws.client_law.Goals as goal
+
+pub returns-clause-start : goal.returns-clause-start
+returns-clause-start c = client_start
+
+pub returns-clause-step : goal.returns-clause-step
+returns-clause-step c = led_client
+
+pub returns-clause-law : goal.returns-clause-law
+returns-clause-law c = client_stands
+
+pub returns-clause-layer : goal.returns-clause-layer
+returns-clause-layer c = client_layer
+
+pub returns-clause-exact : goal.returns-clause-exact
+returns-clause-exact c = is_exact
+
+pub returns-clause-back : goal.returns-clause-back
+returns-clause-back c = client_back
+
+pub returns-clause-places : goal.returns-clause-places
+returns-clause-places c server szx word t law = (known server szx word t law.rows law.exchanges.rows).one
+
+pub returns-clause-once : goal.returns-clause-once
+returns-clause-once c = reported_once
+
+pub returns-clause-none_after : goal.returns-clause-none_after
+returns-clause-none_after c server szx word t law = none_after szx server word t law
+
+pub returns-clause-answers : goal.returns-clause-answers
+returns-clause-answers c server szx word t law = answers_last szx server word t law
+
+pub returns-clause-pieces : goal.returns-clause-pieces
+returns-clause-pieces c server szx word t law = sends_pieces szx server word t law
+
+pub returns-clause-holds : goal.returns-clause-holds
+returns-clause-holds c = all_hold
+
+pub returns-clause-resting : goal.returns-clause-resting
+returns-clause-resting c = are_resting
+
+pub returns-clause-answered : goal.returns-clause-answered
+returns-clause-answered c = are_answered
+
+pub returns-clause-copies : goal.returns-clause-copies
+returns-clause-copies c server szx word t law =
+    copies_in_time word (layer_of server szx word t) (client_layer server szx word t law)
+
+pub returns-clause-nons : goal.returns-clause-nons
+returns-clause-nons c server szx word t law = no_nons server word (lower_of szx t)
+
+pub returns-clause-replies : goal.returns-clause-replies
+returns-clause-replies c server szx word t law =
+    replies_so server word (lower_of szx t) law.exchanges.rows law.exchanges.left law.exchanges.layer
+
+pub returns-clause-numbers : goal.returns-clause-numbers
+returns-clause-numbers c server szx word t law = numbers_once server szx word t law.rows law.exchanges.rows
+
+pub returns-clause-from_server : goal.returns-clause-from_server
+returns-clause-from_server c = are_from_server
+
+pub returns-clause-in_order : goal.returns-clause-in_order
+returns-clause-in_order c server szx word t law = waits szx t law.rows

@@ -1,0 +1,13 @@
+use Rattle.coap_client.proofs.Progress.GoesOn.{goes_on}
+use Rattle.coap_client.proofs.Rest.Ending.{ticks_end}
+use Rattle.coap_client.proofs.Rest.ComesToRest.{comes_to_rest}
+use Rattle.coap_client.proofs.rests.client_rests_law.Goals as goal
+
+pub returns-clause-goes : goal.returns-clause-goes
+returns-clause-goes c = goes_on
+
+pub returns-clause-ticks : goal.returns-clause-ticks
+returns-clause-ticks c = ticks_end
+
+pub returns-clause-rests : goal.returns-clause-rests
+returns-clause-rests c = comes_to_rest

@@ -1,0 +1,25 @@
+use Rattle.coap_client.proofs.Observing.OfObservations.{are_of_observations}
+use Rattle.coap_client.proofs.Hearing.Noted.{are_noted}
+use Rattle.coap_client.proofs.Observing.Ended.{are_over}
+use Rattle.coap_client.proofs.Observing.Notified.{are_taken}
+use Rattle.coap_client.proofs.Observing.Rising.{values_rise}
+use Rattle.coap_client.proofs.Observing.Values.{values_are_whole}
+use Rattle.coap_client.proofs.values.client_values_law.Goals as goal
+
+pub returns-clause-notified : goal.returns-clause-notified
+returns-clause-notified c = are_taken
+
+pub returns-clause-values : goal.returns-clause-values
+returns-clause-values c server szx word t law = values_are_whole szx server word t law
+
+pub returns-clause-rising : goal.returns-clause-rising
+returns-clause-rising c server szx word t law = values_rise szx server word t law
+
+pub returns-clause-ended : goal.returns-clause-ended
+returns-clause-ended c server szx word t law = are_over szx server word t law
+
+pub returns-clause-noted : goal.returns-clause-noted
+returns-clause-noted c = are_noted
+
+pub returns-clause-of_observations : goal.returns-clause-of_observations
+returns-clause-of_observations c server szx word t law = are_of_observations szx server word t law

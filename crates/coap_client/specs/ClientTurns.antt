@@ -1,4 +1,0 @@
-pub mod ClientWork
-pub mod ClientQuiet
-pub mod ClientMoves
-pub mod ClientClosing

@@ -1,0 +1,82 @@
+-- Why a call has no report yet after a tick that did nothing (RFC 7252, sections 4.2, 4.7 and 5.2.2).
+use Rattle.std.specs.Prelude.{◌≡◌, ◌<◌, ◌⊎◌, ℕ, ◌-◌, ◌*◌, true, false, Option, Some, None, List, [], ◌∷◌}
+use Rattle.coap_types.specs.Past.{Sometime, Always}
+use Rattle.coap_types.specs.declared.endpoint.Endpoint.{Endpoint}
+use Rattle.coap_types.specs.declared.endpoint.Moment.{Moment}
+use Rattle.coap_types.specs.declared.transmission.TheConstants.{EXCHANGE_LIFETIME_MS as exchange_lifetime}
+use Rattle.coap_types.specs.declared.transmission.TheConstants.{FAILURE_TIMEOUTS as failure_timeouts}
+use Rattle.coap_exchange.specs.declared.asker.Exchange.{Exchange}
+use Rattle.coap_exchange.specs.AskerFollows.{Begun}
+use Rattle.coap_exchange.specs.AskerFollows as A
+use Rattle.coap_exchange.specs.AskerLaw as X
+use Rattle.coap_client.specs.Trace.{is_value, Reported, Call, Ticks}
+use Rattle.coap_client.specs.Own.{Operation, Calling, Registering, Fetching, Cancelling, Dropped, Own}
+use Rattle.coap_client.specs.Events.{is_held, is_upload_op}
+use Rattle.coap_client.specs.Steps.{reports}
+use Rattle.coap_client.specs.Law.{own_of, lower_of}
+use Rattle.coap_client.specs.Follows.Words.{Taken, WasTaken, Sending, sends}
+
+module _ (server : Endpoint) (szx word : ℕ) where
+  -- A call has at most one report that is final.
+  pub record IsFinal (past : List Call) (c : Call) (x : Reported) : Type 0 where
+    pub made : reports (own_of szx past) c ≡ Some x
+    pub final : is_value x.report ≡ false
+
+  abbrev pub HasReport : ℕ → List Call → Type 0
+  HasReport number t = Sometime (λ past c. (x : Reported) × (x.number ≡ number) × IsFinal past c x) t
+
+  abbrev pub ReportedOnce : List Call → Type 0
+  ReportedOnce trace = Always (λ past c. (x : Reported) → reports (own_of szx past) c ≡ Some x → HasReport x.number past
+      → ⊥) trace
+
+  -- The exchange that runs is not due: FAILURE_TIMEOUTS initial timeouts after its request without an acknowledgement,
+  -- or EXCHANGE_LIFETIME after that.
+  pub record IsNotDue (t : List Call) (at : ℕ) : Type 0 where
+    pub exchange : Exchange
+    pub running : (X.own_of server word (lower_of szx t)).running ≡ Some exchange
+    pub not_due :
+        ((exchange.acked ≡ None) × ((begun : Begun) × (A.last_begun server word (lower_of szx t) ≡ Some begun)
+        × (at - begun.at < begun.timeout * failure_timeouts)))
+        ⊎ ((acked : Moment) × (exchange.acked ≡ Some acked) × (at - acked.0 < exchange_lifetime))
+
+  -- the first of what waits is an upload that is held back
+  pub record IsHeld (s : Own) : Type 0 where
+    pub operation : Operation
+    pub queue : List Operation
+    pub first : s.queue ≡ operation ∷ queue
+    pub none : s.running ≡ None
+    pub upload : is_upload_op operation ≡ true
+    pub held : is_held s s.clock ≡ true
+
+  abbrev pub WaitsFor : List Call → Call → Type 0
+  WaitsFor past c = IsNotDue (c ∷ past) (own_of szx (c ∷ past)).clock ⊎ IsHeld (own_of szx (c ∷ past))
+
+  abbrev pub IsIdleTick : Call → Type 0
+  IsIdleTick c = (now w : ℕ) × (below : _) × (turn : _) × (sent : _) × (token : _) × (kept : _)
+      × (c ≡ Ticks now w below turn sent token kept false)
+
+  -- .. or nothing waits, and nothing runs
+  pub record IsEmpty (s : Own) : Type 0 where
+    pub queue : s.queue ≡ []
+    pub none : s.running ≡ None
+
+  abbrev pub AreResting : List Call → Type 0
+  AreResting trace = Always (λ past c. IsIdleTick c → WaitsFor past c ⊎ IsEmpty (own_of szx (c ∷ past))) trace
+
+  abbrev pub AreAnswered : List Call → Type 0
+  AreAnswered trace = Always (λ past c. IsIdleTick c → (x : Taken) → WasTaken x past → (HasReport x.number past → ⊥)
+      → WaitsFor past c) trace
+
+-- the number of the call, or of the observation, that an operation is of
+abbrev pub of_call : Operation → Option ℕ
+of_call (Calling number r t) = Some number
+of_call (Registering number path) = Some number
+of_call (Fetching number) = Some number
+of_call (Cancelling number) = Some number
+of_call Dropped = None
+
+module _ (server : Endpoint) (szx word : ℕ) where
+  -- Nothing is sent for a number behind its last report.
+  abbrev pub NoneAfter : List Call → Type 0
+  NoneAfter trace = Always (λ past c. (x : Sending) (number : ℕ) → sends (own_of szx past) c ≡ Some x
+      → of_call x.operation ≡ Some number → HasReport server szx word number past → ⊥) trace

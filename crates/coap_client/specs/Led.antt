@@ -1,0 +1,23 @@
+-- What a client keeps, with its exchanges; one call of it; and what leads to it (RFC 7252, section 5.2).
+use Rattle.std.specs.Prelude.{ℕ, List}
+use Rattle.coap_types.specs.declared.endpoint.Endpoint.{Endpoint}
+use Rattle.coap_exchange.specs.Above as above
+use Rattle.coap_exchange.specs.AskerLaw as X
+use Rattle.coap_client.specs.Trace.{Call}
+use Rattle.coap_client.specs.Own.{Own, start}
+use Rattle.coap_client.specs.Steps.{lower, IsRight, after}
+
+-- what is kept: by the client itself, and by its exchanges
+abbrev pub State : Type 0
+State = above.State Own X.State
+
+abbrev pub fresh_state : Endpoint → (szx word : ℕ) → State
+fresh_state server szx word = record { own = start szx; layer = X.fresh_state server word }
+
+-- one call
+abbrev pub Step : State → Call → State → Type 0
+Step old c new = above.Step IsRight after lower X.Exchanged old c new
+
+-- these calls can leave it so
+abbrev pub Led : Endpoint → (szx word : ℕ) → List Call → State → Type 0
+Led server szx word trace s = above.Led IsRight after lower X.Exchanged (start szx) (X.fresh_state server word) trace s

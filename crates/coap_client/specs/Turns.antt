@@ -1,0 +1,4 @@
+pub mod Closing
+pub mod Moves
+pub mod Quiet
+pub mod Work

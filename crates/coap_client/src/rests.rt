@@ -1,0 +1,18 @@
+ghost use Rattle.std.specs.Prelude.{ℕ, List};
+ghost use Rattle.coap_types.specs.declared.endpoint.Endpoint.{Endpoint};
+ghost use Rattle.coap_client.specs.Law.{ClientLaw};
+ghost use Rattle.coap_client.specs.Trace.{Call};
+ghost use Rattle.coap_client.specs.Follows.GoesOn.{GoesOn};
+ghost use Rattle.coap_client.specs.Follows.Rests.{ComesToRest, TicksEnd};
+
+/// How a client goes on, and comes to rest.
+pub fn client_rests_law()
+    // It can go on: each further call has answers that stand in the law.
+    ensures goes { (server : Endpoint) (szx word : ℕ) (t : List Call) → ClientLaw server szx word t
+        → GoesOn server szx word t }
+    // At one moment its ticks end.
+    ensures ticks { (server : Endpoint) (szx word : ℕ) (t : List Call) → TicksEnd server szx word t }
+    // .. and it comes to rest: so do what it has out and its reports.
+    ensures rests { (server : Endpoint) (szx word : ℕ) (t : List Call) → ClientLaw server szx word t
+        → ComesToRest server szx word t }
+{}

@@ -1,0 +1,34 @@
+ghost use Rattle.std.specs.Prelude.{ℕ, List};
+ghost use Rattle.coap_types.specs.declared.endpoint.Endpoint.{Endpoint};
+ghost use Rattle.coap_client.specs.Law.{ClientLaw};
+ghost use Rattle.coap_client.specs.Trace.{Call};
+ghost use Rattle.coap_client.specs.Follows.Ended.{AreOver};
+ghost use Rattle.coap_client.specs.Follows.Noted.{AreNoted};
+ghost use Rattle.coap_client.specs.Follows.Notified.{AreTaken};
+ghost use Rattle.coap_client.specs.Follows.OfObservations.{AreOfObservations};
+ghost use Rattle.coap_client.specs.Follows.Rising.{ValuesRise};
+ghost use Rattle.coap_client.specs.Follows.Values.{ValuesAreWhole};
+
+/// What follows from the law of a client for the values of its observations.
+pub fn client_values_law()
+    // What it sends for an observation asks for the path that is observed (RFC 7641, sections 2 and 3.6).
+    ensures of_observations { (server : Endpoint) (szx word : ℕ) (t : List Call) → ClientLaw server szx word t
+        → AreOfObservations szx t }
+    // Of an observation it takes the answer to its registration, and then each newer notification, under the token of
+    // that (RFC 7641, sections 3.2 to 3.4).
+    ensures notified { (server : Endpoint) (szx word : ℕ) (t : List Call) → ClientLaw server szx word t
+        → AreTaken szx t }
+    // What comes as a notification its message layer handed up in that very call, as it came from the server.
+    ensures noted { (server : Endpoint) (szx word : ℕ) (t : List Call) → ClientLaw server szx word t
+        → AreNoted server szx word t }
+    // A value is whole by the newest notification and what was fetched for that, by requests that were sent since then,
+    // under one ETag where there are several parts (RFC 7959, section 2.6).
+    ensures values { (server : Endpoint) (szx word : ℕ) (t : List Call) → ClientLaw server szx word t
+        → ValuesAreWhole szx t }
+    // Of two values the notification of the later one came later (RFC 7641, section 3.4).
+    ensures rising { (server : Endpoint) (szx word : ℕ) (t : List Call) → ClientLaw server szx word t
+        → ValuesRise szx t }
+    // None is reported of an observation that is over, or that is being cancelled (RFC 7641, section 3.6).
+    ensures ended { (server : Endpoint) (szx word : ℕ) (t : List Call) → ClientLaw server szx word t
+        → AreOver szx server word t }
+{}

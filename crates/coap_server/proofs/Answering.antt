@@ -1,0 +1,4 @@
+pub mod AttendedAtOnce
+pub mod FirstAnswered
+pub mod HandedOn
+pub mod LayerIsLed

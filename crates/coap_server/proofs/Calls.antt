@@ -1,0 +1,10 @@
+pub mod DelayLists
+pub mod FeedIsACall
+pub mod PassedOver
+pub mod RequestIsHandled
+pub mod RequestIsServed
+pub mod ShortResponses
+pub mod TakesOut
+pub mod TurnSteps
+pub mod WaitingLists
+pub mod WorkFalls

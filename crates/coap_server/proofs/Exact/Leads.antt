@@ -1,0 +1,64 @@
+-- One call more, for all calls of a server.
+use Rattle.std.proofs.Common.{◌≡◌, ℕ, List, [], ◌∷◌, ◌++◌, refl, ap, ◌∙◌, subst, sym}
+use Rattle.coap_exchange.specs.AnswererTrace as E
+use Rattle.coap_exchange.specs.AnswererLaw as X
+use Rattle.coap_exchange.specs.AnswererSteps as P
+use Rattle.coap_exchange.proofs.Facts.ServerSide.{led_start, led_exchanged, led_law}
+use Rattle.coap_server.specs.Trace.{Own, Call, Sets, Removes, Delays, Feeds, Ticks, NextOut, Gets}
+use Rattle.coap_server.specs.Trace.{TellsApplied}
+use Rattle.coap_server.specs.Handling.{incoming, ticking, heard}
+use Rattle.coap_server.specs.Asks.{answering, responding, lower}
+use Rattle.coap_server.specs.Steps.{IsRight, after, exchanges_after}
+use Rattle.coap_server.specs.Law.{own_of, lower_of, ServerLaw}
+use Rattle.coap_server.proofs.Exact.Asked.{joined}
+use Rattle.coap_server.specs.Led.{State, exchanges_of, fresh_state, Step, Led}
+
+-- what they keep is what their calls add up to
+calls_kept : (cs past : List E.Call) → exchanges_after (X.own_of past) cs ≡ X.own_of (cs ++ past)
+calls_kept [] past = refl
+calls_kept (c ∷ cs) past = ap (λ s. P.after s c) (calls_kept cs past)
+
+pub kept_behind : (s : E.Own) (first : E.Call) (asks past : List E.Call) → s ≡ X.own_of past
+    → exchanges_after (P.after s first) asks ≡ X.own_of ((asks ++ first ∷ []) ++ past)
+kept_behind s first asks past e = ap (λ z. exchanges_after (P.after z first) asks) e
+    ∙ (calls_kept asks (first ∷ past) ∙ ap X.own_of (sym (joined asks first past)))
+
+pub exchanges_kept : (limit szx : ℕ) (t : List Call) → (own_of limit szx t).exchanges ≡ X.own_of (lower_of limit szx t)
+exchanges_kept limit szx [] = refl
+exchanges_kept limit szx (Sets now path format body answer left ∷ t) = exchanges_kept limit szx t
+exchanges_kept limit szx (Removes now path answer left ∷ t) = exchanges_kept limit szx t
+exchanges_kept limit szx (Delays path ms answer ∷ t) = exchanges_kept limit szx t
+exchanges_kept limit szx (Gets path answer ∷ t) = exchanges_kept limit szx t
+exchanges_kept limit szx (TellsApplied answer ∷ t) = exchanges_kept limit szx t
+exchanges_kept limit szx (Feeds now from bytes word up came h below ∷ t) =
+    let s : Own = own_of limit szx t in
+    let first : E.Call = incoming s now from bytes up came in
+    kept_behind s.exchanges first (answering (heard s now first) came h below) (lower_of limit szx t)
+    (exchanges_kept limit szx t)
+exchanges_kept limit szx (Ticks now word below room d passed h id answer ∷ t) =
+    let s : Own = own_of limit szx t in
+    let first : E.Call = ticking s now below room d in
+    kept_behind s.exchanges first (responding (heard s now first) d passed h word id) (lower_of limit szx t)
+    (exchanges_kept limit szx t)
+exchanges_kept limit szx (NextOut answer ∷ t) = ap (λ s. P.after s (E.Take answer)) (exchanges_kept limit szx t)
+
+module _ (limit szx word : ℕ) where
+  pub led_empty : Led limit szx word [] (fresh_state limit szx word)
+  led_empty = record { rows = tt; own_is = refl; exchanges = led_start word }
+
+  pub led_further : (t : List Call) (c : Call) (old new : State) → Led limit szx word t old → Step old c new
+      → Led limit szx word (c ∷ t) new
+  led_further t c old new led step =
+      record {
+        rows = (subst (λ s. IsRight s c) led.own_is step.right, led.rows);
+        own_is = step.own_is ∙ ap (λ s. after s c) led.own_is;
+        exchanges = led_exchanged word (lower_of limit szx t) (lower (own_of limit szx t) c) (exchanges_of old)
+            (exchanges_of new) led.exchanges
+            (subst (λ s. X.Exchanged (exchanges_of old) (lower s c) (exchanges_of new)) led.own_is step.under);
+      }
+
+  pub led_lawful : (t : List Call) (s : State) → Led limit szx word t s → ServerLaw limit szx word t
+  led_lawful t s led = record {
+    rows = led.rows;
+    exchanges = led_law word (lower_of limit szx t) (exchanges_of s) led.exchanges;
+  }

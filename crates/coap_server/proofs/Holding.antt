@@ -1,0 +1,5 @@
+pub mod AppliedWhole
+pub mod Holds
+pub mod OneTag
+pub mod Shown
+pub mod Stamps

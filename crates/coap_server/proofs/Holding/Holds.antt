@@ -1,0 +1,230 @@
+-- The versions of a server's changes are 1, 2, 3 and so on; a path holds its last change; what is served is served
+-- right.
+use Rattle.std.proofs.Common.{◌≡◌, inl, inr, ℕ, ◌+◌, ◌==◌, max, Bool, true, false, Option, Some, None, List, [], ◌∷◌}
+use Rattle.std.proofs.Common.{refl, ap, sym, subst, ◌∙◌, cond, arith, length}
+use Rattle.std.specs.Cmp.{unsigned_Decides}
+use Rattle.coap_types.specs.Path.{same_path}
+use Rattle.coap_types.proofs.Facts.Paths.{same_path-decides}
+use Rattle.coap_resource.specs.Content.{Content, put_refusal}
+use Rattle.coap_resource.specs.Rate.{rate_refusal}
+use Rattle.coap_resource.specs.Serves.{Question}
+use Rattle.coap_resource.specs.Serves as R
+use Rattle.coap_exchange.specs.declared.answerer.Due.TheVariants as due
+use Rattle.coap_server.specs.Trace.{Own, Silent, Replies, Serves, Waits, Notifies, Call, Sets, Removes}
+use Rattle.coap_server.specs.Trace.{Delays, Feeds, Ticks, NextOut, Gets, TellsApplied}
+use Rattle.coap_server.specs.Serving.{is_applied}
+use Rattle.coap_server.specs.Deferring.{question_of}
+use Rattle.coap_server.specs.Notifying.{marked, behind}
+use Rattle.coap_server.specs.Handling.{incoming, ticking, heard}
+use Rattle.coap_server.specs.Steps.{IsRight, after}
+use Rattle.coap_server.specs.Law.{own_of, ServerRows}
+use Rattle.coap_server.specs.Follows.Serves.{Serving, serving, serving_of}
+use Rattle.coap_server.specs.Follows.Holds.{Change, change_of, changed_by, change, counted, held_then}
+use Rattle.coap_server.specs.Follows.Holds.{changes, held_at, HoldsChanges, AllServed}
+use Rattle.coap_server.proofs.Observing.StoreChanges.{Effect, IsKept, IsChanged, served_effect, sets_effect}
+use Rattle.coap_server.proofs.Observing.StoreChanges.{removes_effect}
+use Rattle.coap_server.proofs.Observing.Outcomes.{serves_came, serves_waited}
+use Rattle.coap_server.proofs.Observing.VersionsRise.{next_serves}
+use Rattle.coap_server.proofs.Holding.AppliedWhole.{applied_whole, kept_or_applied}
+
+-- a call that serves does so by the store's table
+pub serves_right : (s : Own) (c : Call) → IsRight s c → (x : Serving) → serving s c ≡ Some x
+    → (at : ℕ) × (x.old ≡ s.store) × R.Serves x.old at x.question x.reply x.left
+serves_right s (Feeds now from bytes word up (Some p) (Serves q reply left) below) right x h =
+    let w : Own = heard s now (incoming s now from bytes up (Some p)) in
+    let same : ◌≡◌ {A = Serving} (serving_of w p.0 q reply left) x = cc h in
+    let k = serves_came w p q reply left right in (
+      k.0,
+      sym (ap (λ (y : Serving). y.old) same),
+      subst (λ (y : Serving). R.Serves y.old k.0 y.question y.reply y.left) same k.1,
+    )
+serves_right s (Ticks now word below room (due.Ready a) passed (Serves q reply left) id answer) right x h =
+    let w : Own = heard s now (ticking s now below room (due.Ready a)) in
+    let same : ◌≡◌ {A = Serving} (serving_of w a q reply left) x = cc h in
+    let k = serves_waited (question_of w.clock a w.waiting) w.store w.clock q reply left right.0 in (
+      k.0,
+      sym (ap (λ (y : Serving). y.old) same),
+      subst (λ (y : Serving). R.Serves y.old k.0 y.question y.reply y.left) same k.1,
+    )
+serves_right s (Feeds now from bytes word up None h below) right x e = absurd (cc e)
+serves_right s (Feeds now from bytes word up (Some p) Silent below) right x e = absurd (cc e)
+serves_right s (Feeds now from bytes word up (Some p) (Replies r) below) right x e = absurd (cc e)
+serves_right s (Feeds now from bytes word up (Some p) (Waits q d) below) right x e = absurd (cc e)
+serves_right s (Feeds now from bytes word up (Some p) (Notifies o reply) below) right x e = absurd (cc e)
+serves_right s (Ticks now word below room due.Idle passed h id answer) right x e = absurd (cc e)
+serves_right s (Ticks now word below room due.Copied passed h id answer) right x e = absurd (cc e)
+serves_right s (Ticks now word below room due.Expired passed h id answer) right x e = absurd (cc e)
+serves_right s (Ticks now word below room (due.Ready a) passed Silent id answer) right x e = absurd (cc e)
+serves_right s (Ticks now word below room (due.Ready a) passed (Replies r) id answer) right x e = absurd (cc e)
+serves_right s (Ticks now word below room (due.Ready a) passed (Waits q d) id answer) right x e = absurd (cc e)
+serves_right s (Ticks now word below room (due.Ready a) passed (Notifies o reply) id answer) right x e = absurd (cc e)
+serves_right s (Sets now path format body answer left) right x e = absurd (cc e)
+serves_right s (Removes now path answer left) right x e = absurd (cc e)
+serves_right s (Delays path ms answer) right x e = absurd (cc e)
+serves_right s (Gets path answer) right x e = absurd (cc e)
+serves_right s (TellsApplied answer) right x e = absurd (cc e)
+serves_right s (NextOut answer) right x e = absurd (cc e)
+
+-- what a change leaves
+
+is_same : (n : ℕ) → (n == n) ≡ true
+is_same n = (unsigned_Decides n n).1 refl
+
+is_next : (n m : ℕ) (b : Bool) → (n == m) ≡ b → n ≡ m + 1 → b ≡ false
+is_next n m true h k = let e : n ≡ m = (unsigned_Decides n m).0 h in absurd (omega (arith, e, k))
+is_next n m false h k = refl
+
+abbrev some_change : List (List ℕ) → Content → Change
+some_change path left = record { path = path; version = left.tally.version; held = left.holds path }
+
+none_kept : (path : List (List ℕ)) (old left : Content) → IsKept old left → change_of path old left ≡ None
+none_kept path old left k = ap (λ b. cond b None (Some (some_change path left)))
+    (ap (λ v. v == old.tally.version) k.version ∙ is_same old.tally.version)
+
+one_changed : (path : List (List ℕ)) (old left : Content) → IsChanged path old left
+    → change_of path old left ≡ Some (some_change path left)
+one_changed path old left k = ap (λ b. cond b None (Some (some_change path left)))
+    (is_next left.tally.version old.tally.version (left.tally.version == old.tally.version) refl k.version)
+
+-- the change that a call makes of the store, and what is held then
+pub record Moves (old left : Content) (x : Option Change) : Type 0 where
+  pub version : left.tally.version ≡ counted x + old.tally.version
+  pub held : (path : List (List ℕ)) → left.holds path ≡ held_then path x (old.holds path)
+  pub new : (y : Change) → x ≡ Some y → y.version ≡ old.tally.version + 1
+
+held_by : (path other : List (List ℕ)) (old left : Content) → IsChanged path old left → (b : Bool)
+    → same_path path other ≡ b → left.holds other ≡ cond b (left.holds path) (old.holds other)
+held_by path other old left k true h = ap left.holds (sym ((same_path-decides path other).0 h))
+held_by path other old left k false h = k.others other
+    (λ e. let same : same_path path other ≡ true = (same_path-decides path other).1 (sym e) in cc (same, h))
+
+pub moves : (path : List (List ℕ)) (old left : Content) → Effect path old left
+    → Moves old left (change_of path old left)
+moves path old left (inl k) =
+    subst (Moves old left) (sym (none_kept path old left k))
+    (record {
+      version = (let v = k.version in omega (arith, v));
+      held = λ p. ap (λ f. f p) k.holds;
+      new = λ y h. absurd (cc h);
+    })
+moves path old left (inr k) =
+    subst (Moves old left) (sym (one_changed path old left k)) (
+    record {
+      version = (let v = k.version in omega (arith, v));
+      held = λ p. held_by path p old left k (same_path path p) refl;
+      new = λ y h. (let same : ◌≡◌ {A = Change} (some_change path left) y = cc h in let e : left.tally.version
+          ≡ y.version = ap (λ (z : Change). z.version) same in let v = k.version in omega (arith, e, v));
+    })
+
+stays : (s : Own) → Moves s.store s.store None
+stays s = record { version = omega arith; held = λ path. refl; new = λ y h. absurd (cc h) }
+
+serving_moves : (s : Own) (c : Call) → IsRight s c → (x : Serving) → serving s c ≡ Some x
+    → Moves x.old x.left (change_of x.question.path x.old x.left)
+serving_moves s c right x h = let k = serves_right s c right x h in moves x.question.path x.old x.left
+    (served_effect x.old k.0 x.question x.reply x.left k.2)
+
+pub moves_by : (s : Own) (c : Call) → IsRight s c → Moves s.store (after s c).store (change s c)
+moves_by s (Sets now path format body answer left) right =
+    moves path s.store left (sets_effect (put_refusal s.store (max s.clock now) path (length body)) s.store
+    (max s.clock now) path format body answer left right)
+moves_by s (Removes now path answer left) right =
+    moves path s.store left (removes_effect (s.store.holds path) (rate_refusal s.store.tally (max s.clock now)) s.store
+    (max s.clock now) path answer left right)
+moves_by s (Delays path ms answer) right = stays s
+moves_by s (Gets path answer) right = stays s
+moves_by s (TellsApplied answer) right = stays s
+moves_by s (NextOut answer) right = stays s
+moves_by s (Feeds now from bytes word up (Some p) (Serves q reply left) below) right =
+    serving_moves s (Feeds now from bytes word up (Some p) (Serves q reply left) below) right _ refl
+moves_by s (Ticks now word below room (due.Ready a) passed (Serves q reply left) id answer) right =
+    serving_moves s (Ticks now word below room (due.Ready a) passed (Serves q reply left) id answer) right _ refl
+moves_by s (Feeds now from bytes word up None (Serves q reply left) below) right = absurd (cc right)
+moves_by s (Feeds now from bytes word up None Silent below) right = stays s
+moves_by s (Feeds now from bytes word up None (Replies r) below) right = stays s
+moves_by s (Feeds now from bytes word up None (Waits q d) below) right = stays s
+moves_by s (Feeds now from bytes word up None (Notifies o reply) below) right = stays s
+moves_by s (Feeds now from bytes word up (Some p) Silent below) right = stays s
+moves_by s (Feeds now from bytes word up (Some p) (Replies r) below) right = stays s
+moves_by s (Feeds now from bytes word up (Some p) (Waits q d) below) right = stays s
+moves_by s (Feeds now from bytes word up (Some p) (Notifies o reply) below) right = stays s
+moves_by s (Ticks now word below room due.Idle passed (Serves q reply left) id answer) right =
+    let w : Own = heard s now (ticking s now below room due.Idle) in absurd
+    (next_serves (behind passed (marked w.observers)) w.store q reply left right.0)
+moves_by s (Ticks now word below room due.Copied passed (Serves q reply left) id answer) right = let e =
+    right.0 in absurd (cc e)
+moves_by s (Ticks now word below room due.Expired passed (Serves q reply left) id answer) right = let e =
+    right.0 in absurd (cc e)
+moves_by s (Ticks now word below room due.Idle passed Silent id answer) right = stays s
+moves_by s (Ticks now word below room due.Idle passed (Replies r) id answer) right = stays s
+moves_by s (Ticks now word below room due.Idle passed (Waits q e) id answer) right = stays s
+moves_by s (Ticks now word below room due.Idle passed (Notifies o reply) id answer) right = stays s
+moves_by s (Ticks now word below room due.Copied passed Silent id answer) right = stays s
+moves_by s (Ticks now word below room due.Copied passed (Replies r) id answer) right = stays s
+moves_by s (Ticks now word below room due.Copied passed (Waits q e) id answer) right = stays s
+moves_by s (Ticks now word below room due.Copied passed (Notifies o reply) id answer) right = stays s
+moves_by s (Ticks now word below room due.Expired passed Silent id answer) right = stays s
+moves_by s (Ticks now word below room due.Expired passed (Replies r) id answer) right = stays s
+moves_by s (Ticks now word below room due.Expired passed (Waits q e) id answer) right = stays s
+moves_by s (Ticks now word below room due.Expired passed (Notifies o reply) id answer) right = stays s
+moves_by s (Ticks now word below room (due.Ready a) passed Silent id answer) right = stays s
+moves_by s (Ticks now word below room (due.Ready a) passed (Replies r) id answer) right = stays s
+moves_by s (Ticks now word below room (due.Ready a) passed (Waits q e) id answer) right = stays s
+moves_by s (Ticks now word below room (due.Ready a) passed (Notifies o reply) id answer) right = stays s
+
+module _ (limit szx : ℕ) where
+  pub version_is : (t : List Call) → ServerRows limit szx t
+      → (own_of limit szx t).store.tally.version ≡ changes limit szx t
+  version_is [] law = refl
+  version_is (c ∷ t) law = (moves_by (own_of limit szx t) c law.0).version
+      ∙ ap (λ n. counted (change (own_of limit szx t) c) + n) (version_is t law.1)
+
+  pub held_is : (t : List Call) → ServerRows limit szx t → (path : List (List ℕ))
+      → (own_of limit szx t).store.holds path ≡ held_at limit szx path t
+  held_is [] law path = refl
+  held_is (c ∷ t) law path = (moves_by (own_of limit szx t) c law.0).held path
+      ∙ ap (held_then path (change (own_of limit szx t) c)) (held_is t law.1 path)
+
+  pub holds_changes : (t : List Call) → ServerRows limit szx t → HoldsChanges limit szx t
+  holds_changes [] law = tt
+  holds_changes (c ∷ t) law = (
+    record {
+      version = λ x h. (moves_by (own_of limit szx t) c law.0).new x h ∙ ap (λ n. n + 1) (version_is t law.1);
+      held = held_is t law.1;
+    },
+    holds_changes t law.1,
+  )
+
+-- only what is applied changes anything
+
+served_changes : (s : Own) (c : Call) (x : Serving) (y : Change) → serving s c ≡ Some x → change s c ≡ Some y
+    → change_of x.question.path x.old x.left ≡ Some y
+served_changes s (Sets now path format body answer left) x y h k = absurd (cc h)
+served_changes s (Removes now path answer left) x y h k = absurd (cc h)
+served_changes s (Delays path ms answer) x y h k = absurd (cc h)
+served_changes s (Gets path answer) x y h k = absurd (cc h)
+served_changes s (TellsApplied answer) x y h k = absurd (cc h)
+served_changes s (NextOut answer) x y h k = absurd (cc h)
+served_changes s (Feeds now from bytes word up came w below) x y h k = sym (ap changed_by h) ∙ k
+served_changes s (Ticks now word below room d passed w id answer) x y h k = sym (ap changed_by h) ∙ k
+
+applied_by : (s : Own) (c : Call) → IsRight s c → (x : Serving) (y : Change) → serving s c ≡ Some x
+    → change s c ≡ Some y → is_applied x.reply.code ≡ true
+applied_by s c right x y h k =
+    let r = serves_right s c right x h in
+    elim (kept_or_applied x.old r.0 x.question x.reply x.left r.2) [
+      | inl kept ↦ (let e = none_kept x.question.path x.old x.left kept in let f =
+          served_changes s c x y h k in absurd (cc (e, f)))
+      | inr good ↦ good
+    ]
+
+pub all_served : (limit szx : ℕ) (t : List Call) → ServerRows limit szx t → AllServed limit szx t
+all_served limit szx [] law = tt
+all_served limit szx (c ∷ t) law = (
+  record {
+    serves = λ x h. (let k = serves_right (own_of limit szx t) c law.0 x h in (k.0, k.2));
+    applied = λ x h yes. (let k = serves_right (own_of limit szx t) c law.0 x h in applied_whole x k.0 k.2 yes);
+    changes_by = λ x y h k. applied_by (own_of limit szx t) c law.0 x y h k;
+  },
+  all_served limit szx t law.1,
+)

@@ -1,0 +1,11 @@
+pub mod ConsAreAcknowledged
+pub mod EndsObservation
+pub mod LatestRegistration
+pub mod ObservationEnds
+pub mod ObservationStays
+pub mod ObserversWereMade
+pub mod OneRegistration
+pub mod Outcomes
+pub mod StoreChanges
+pub mod ToldInOrder
+pub mod VersionsRise

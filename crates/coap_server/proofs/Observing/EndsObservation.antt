@@ -1,0 +1,182 @@
+-- Of what is told to have ended, the observation ends; what is served, the store served; what a request reads.
+use Rattle.std.proofs.Common.{◌≡◌, ℕ, max, Bool, true, Option, Some, None, List, [], ◌∷◌, ◌++◌, ap, subst, ◌∙◌, cond}
+use Rattle.coap_types.specs.declared.endpoint.Endpoint.{Endpoint}
+use Rattle.coap_codec.specs.Message.{Message}
+use Rattle.coap_layer.specs.Trace as L
+use Rattle.coap_observe.specs.Observers.{Observer, registration, removed}
+use Rattle.coap_observe.proofs.Facts.Registrations.{registration-removed}
+use Rattle.coap_resource.specs.Serves.{Question, Reply}
+use Rattle.coap_resource.specs.Serves as R
+use Rattle.coap_exchange.specs.declared.answerer.Asked.{Asked}
+use Rattle.coap_exchange.specs.declared.answerer.Due.{Due}
+use Rattle.coap_exchange.specs.declared.answerer.Due.TheVariants as due
+use Rattle.coap_exchange.specs.declared.answerer.Ended.{Ended}
+use Rattle.coap_exchange.specs.declared.separate.Deferred.{Deferred}
+use Rattle.coap_exchange.specs.declared.separate.Separate.{Separate}
+use Rattle.coap_exchange.specs.AnswererTrace as E
+use Rattle.coap_exchange.specs.AnswererSteps as P
+use Rattle.coap_exchange.specs.AnswererSteps.{reset_by, failed_by}
+use Rattle.coap_exchange.specs.AnswererLaw as W
+use Rattle.coap_server.specs.Trace.{Own, Handling, Silent, Replies, Serves, Waits, Notifies, Call}
+use Rattle.coap_server.specs.Trace.{Sets}
+use Rattle.coap_server.specs.Trace.{Removes, Delays, Feeds, Ticks, NextOut, Gets, TellsApplied}
+use Rattle.coap_server.specs.Checks.{asks}
+use Rattle.coap_server.specs.Observers.{unless_ended}
+use Rattle.coap_server.specs.Deferring.{question_of}
+use Rattle.coap_server.specs.Handling.{incoming, ticking, heard, HandlesCame}
+use Rattle.coap_server.specs.Asks.{answering, responding}
+use Rattle.coap_server.specs.Law.{ServerLaw, own_of, lower_of}
+use Rattle.coap_server.specs.Follows.Serves.{Serving, serving, serving_of}
+use Rattle.coap_server.specs.Follows.Gives.{NoneContinues}
+use Rattle.coap_server.specs.Follows.Observes.{ends_in, EndsObservation}
+use Rattle.coap_server.proofs.Exact.Asked.{joined, back}
+use Rattle.coap_server.proofs.Serving.Brought.{server_back}
+use Rattle.coap_server.proofs.Observing.Outcomes.{serves_came, serves_waited}
+use Rattle.coap_server.proofs.Replying.NoneContinues.{never_continues}
+
+-- the row of the first call that a call makes of the exchanges
+pub first_row : (word : ℕ) (asks : List E.Call) (first : E.Call) (older : List E.Call)
+    → W.ResponseLaw word ((asks ++ first ∷ []) ++ older) → P.IsRight (W.own_of older) first
+first_row word asks first older law = (back word asks (first ∷ older)
+    (subst (W.ResponseLaw word) (joined asks first older) law)).rows.0
+
+-- a Reset hands up no request
+reset_came : (from : Endpoint) (up : L.Answer) (came : Option (Asked × Message)) (xs : List Separate) (x : Ended)
+    → came ≡ P.handed_up from up → reset_by from up xs ≡ Some x → came ≡ None
+reset_came from (L.Becomes (L.Reset id)) came xs x e h = e
+reset_came from (L.Becomes u) came xs x e h = absurd (cc h)
+reset_came from L.Nothing came xs x e h = absurd (cc h)
+reset_came from (L.Is holds) came xs x e h = absurd (cc h)
+reset_came from (L.Sent id) came xs x e h = absurd (cc h)
+reset_came from L.Busied came xs x e h = absurd (cc h)
+reset_came from L.NoIds came xs x e h = absurd (cc h)
+reset_came from L.Idle came xs x e h = absurd (cc h)
+reset_came from (L.Copied to id) came xs x e h = absurd (cc h)
+reset_came from (L.Expired to id) came xs x e h = absurd (cc h)
+reset_came from (L.Gives packet) came xs x e h = absurd (cc h)
+
+failed_due : (below : L.Answer) (d : Due) (o : Option Deferred) (room : Bool) (xs : List Separate) (x : Ended)
+    → d ≡ P.due_of below o room → failed_by below xs ≡ Some x → d ≡ due.Expired
+failed_due (L.Expired to id) d o room xs x e h = e
+failed_due (L.Becomes u) d o room xs x e h = absurd (cc h)
+failed_due L.Nothing d o room xs x e h = absurd (cc h)
+failed_due (L.Is holds) d o room xs x e h = absurd (cc h)
+failed_due (L.Sent id) d o room xs x e h = absurd (cc h)
+failed_due L.Busied d o room xs x e h = absurd (cc h)
+failed_due L.NoIds d o room xs x e h = absurd (cc h)
+failed_due L.Idle d o room xs x e h = absurd (cc h)
+failed_due (L.Copied to id) d o room xs x e h = absurd (cc h)
+failed_due (L.Gives packet) d o room xs x e h = absurd (cc h)
+
+removes_it : (e : Option Ended) (x : Ended) (os : List Observer) → e ≡ Some x → x.observe ≡ true
+    → registration x.to x.token (unless_ended e os) ≡ None
+removes_it e x os is o =
+    ap (λ z. registration x.to x.token (unless_ended z os)) is
+    ∙ (ap (λ b. registration x.to x.token (cond b (removed x.to x.token os) os)) o
+    ∙ registration-removed x.to x.token os)
+
+module _ (limit szx word : ℕ) where
+  abbrev own : List Call → Own
+  own t = own_of limit szx t
+
+  silent_fed : (t : List Call) (now : ℕ) (from : Endpoint) (bytes : List ℕ) (w : ℕ) (up : L.Answer)
+      (came : Option (Asked × Message)) (h : Handling) (below : L.Answer) → came ≡ None
+      → HandlesCame (heard (own t) now (incoming (own t) now from bytes up came)) came h → (x : Ended)
+      → reset_by from up (own t).exchanges.separate ≡ Some x → x.observe ≡ true
+      → registration x.to x.token (own (Feeds now from bytes w up came h below ∷ t)).observers ≡ None
+  silent_fed t now from bytes w up None Silent below e right x is o =
+      removes_it (reset_by from up (own t).exchanges.separate) x (own t).observers is o
+  silent_fed t now from bytes w up None (Replies r) below e right x is o = absurd (cc right)
+  silent_fed t now from bytes w up None (Serves q reply left) below e right x is o = absurd (cc right)
+  silent_fed t now from bytes w up None (Waits q d) below e right x is o = absurd (cc right)
+  silent_fed t now from bytes w up None (Notifies n reply) below e right x is o = absurd (cc right)
+  silent_fed t now from bytes w up (Some p) h below e right x is o = absurd (cc e)
+
+  silent_ticked : (t : List Call) (now w : ℕ) (below : L.Answer) (room : Bool) (d : Due) (passed : ℕ) (h : Handling)
+      (id : ℕ) (answer : Bool) → d ≡ due.Expired → ServerLaw limit szx word
+      (Ticks now w below room d passed h id answer ∷ t)
+      → (x : Ended) → failed_by below (own t).exchanges.separate ≡ Some x → x.observe ≡ true
+      → registration x.to x.token (own (Ticks now w below room d passed h id answer ∷ t)).observers ≡ None
+  silent_ticked t now w below room due.Expired passed Silent id answer e law x is o =
+      removes_it (failed_by below (own t).exchanges.separate) x (own t).observers is o
+  silent_ticked t now w below room due.Expired passed (Replies r) id answer e law x is o = let k =
+      law.rows.0.0 in absurd (cc k)
+  silent_ticked t now w below room due.Expired passed (Serves q reply left) id answer e law x is o = let k =
+      law.rows.0.0 in absurd (cc k)
+  silent_ticked t now w below room due.Expired passed (Waits q d) id answer e law x is o = let k =
+      law.rows.0.0 in absurd (cc k)
+  silent_ticked t now w below room due.Expired passed (Notifies n reply) id answer e law x is o = let k =
+      law.rows.0.0 in absurd (cc k)
+  silent_ticked t now w below room due.Idle passed h id answer e law x is o = absurd (cc e)
+  silent_ticked t now w below room due.Copied passed h id answer e law x is o = absurd (cc e)
+  silent_ticked t now w below room (due.Ready a) passed h id answer e law x is o = absurd (cc e)
+
+  ends_here : (t : List Call) (c : Call) → ServerLaw limit szx word (c ∷ t) → (x : Ended) → ends_in (own t) c ≡ Some x
+      → x.observe ≡ true → registration x.to x.token (own (c ∷ t)).observers ≡ None
+  ends_here t (Feeds now from bytes w up came h below) law x is o =
+      let s : Own = own t in
+      let first : E.Call = incoming s now from bytes up came in
+      let row = first_row word (answering (heard s now first) came h below) first
+      (lower_of limit szx t) law.exchanges in
+      silent_fed t now from bytes w up came h below
+      (reset_came from up came s.exchanges.separate x row is) law.rows.0 x is o
+  ends_here t (Ticks now w below room d passed h id answer) law x is o =
+      let s : Own = own t in
+      let first : E.Call = ticking s now below room d in
+      let row = first_row word (responding (heard s now first) d passed h w id) first
+      (lower_of limit szx t) law.exchanges in
+      silent_ticked t now w below room d passed h id answer
+      (failed_due below d (P.ready_at (W.own_of (lower_of limit szx t)) (max s.clock now)) room s.exchanges.separate
+      x row is) law x is o
+  ends_here t (Sets now path format body answer left) law x is o = absurd (cc is)
+  ends_here t (Removes now path answer left) law x is o = absurd (cc is)
+  ends_here t (Delays path ms answer) law x is o = absurd (cc is)
+  ends_here t (Gets path answer) law x is o = absurd (cc is)
+  ends_here t (TellsApplied answer) law x is o = absurd (cc is)
+  ends_here t (NextOut answer) law x is o = absurd (cc is)
+
+  pub ends_observation : (t : List Call) → ServerLaw limit szx word t → EndsObservation limit szx t
+  ends_observation [] law = tt
+  ends_observation (c ∷ t) law = (
+    λ x is o. ends_here t c law x is o,
+    ends_observation t (server_back limit szx word c t law),
+  )
+
+  -- what is served, the store served
+  pub serves_right : (t : List Call) (c : Call) → ServerLaw limit szx word (c ∷ t) → (x : Serving)
+      → serving (own t) c ≡ Some x → (at : ℕ) × R.Serves x.old at x.question x.reply x.left
+  serves_right t (Feeds now from bytes w up (Some p) (Serves q reply left) below) law x h =
+      let s : Own = heard (own t) now (incoming (own t) now from bytes up (Some p)) in
+      let same : ◌≡◌ {A = Serving} (serving_of s p.0 q reply left) x = cc h in
+      subst (λ (y : Serving). (at : ℕ) × R.Serves y.old at y.question y.reply y.left) same
+      (serves_came s p q reply left law.rows.0)
+  serves_right t (Ticks now w below room (due.Ready a) passed (Serves q reply left) id answer) law x h =
+      let s : Own = heard (own t) now (ticking (own t) now below room (due.Ready a)) in
+      let same : ◌≡◌ {A = Serving} (serving_of s a q reply left) x = cc h in
+      subst (λ (y : Serving). (at : ℕ) × R.Serves y.old at y.question y.reply y.left) same
+      (serves_waited (question_of s.clock a s.waiting) s.store s.clock q reply left law.rows.0.0)
+  serves_right t (Feeds now from bytes w up None h below) law x e = absurd (cc e)
+  serves_right t (Feeds now from bytes w up (Some p) Silent below) law x e = absurd (cc e)
+  serves_right t (Feeds now from bytes w up (Some p) (Replies r) below) law x e = absurd (cc e)
+  serves_right t (Feeds now from bytes w up (Some p) (Waits q d) below) law x e = absurd (cc e)
+  serves_right t (Feeds now from bytes w up (Some p) (Notifies o reply) below) law x e = absurd (cc e)
+  serves_right t (Ticks now w below room due.Copied passed h id answer) law x e = absurd (cc e)
+  serves_right t (Ticks now w below room due.Expired passed h id answer) law x e = absurd (cc e)
+  serves_right t (Ticks now w below room due.Idle passed h id answer) law x e = absurd (cc e)
+  serves_right t (Ticks now w below room (due.Ready a) passed Silent id answer) law x e = absurd (cc e)
+  serves_right t (Ticks now w below room (due.Ready a) passed (Replies r) id answer) law x e = absurd (cc e)
+  serves_right t (Ticks now w below room (due.Ready a) passed (Waits q d) id answer) law x e = absurd (cc e)
+  serves_right t (Ticks now w below room (due.Ready a) passed (Notifies o reply) id answer) law x e = absurd (cc e)
+  serves_right t (Sets now path format body answer left) law x e = absurd (cc e)
+  serves_right t (Removes now path answer left) law x e = absurd (cc e)
+  serves_right t (Delays path ms answer) law x e = absurd (cc e)
+  serves_right t (Gets path answer) law x e = absurd (cc e)
+  serves_right t (TellsApplied answer) law x e = absurd (cc e)
+  serves_right t (NextOut answer) law x e = absurd (cc e)
+
+  pub none_continues : (t : List Call) → ServerLaw limit szx word t → NoneContinues limit szx t
+  none_continues [] law = tt
+  none_continues (c ∷ t) law = (
+    λ x is. (let k = serves_right t c law x is in never_continues x.old k.0 x.question x.reply x.left k.1),
+    none_continues t (server_back limit szx word c t law),
+  )

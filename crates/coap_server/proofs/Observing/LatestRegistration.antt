@@ -1,0 +1,257 @@
+-- Each observer of a server is of the latest registration of its endpoint and token.
+use Rattle.std.proofs.Common.{◌≡◌, ℕ, ◌==◌, ◌&&◌, nat_lt, Bool, true, false, not, Option, Some, None, List, [], ◌∷◌}
+use Rattle.std.proofs.Common.{◌++◌, length, filter, map, refl, ap, sym, subst, ◌∙◌, cond}
+use Rattle.std.proofs.lemmas.Bool.{and_parts}
+use Rattle.std.specs.Cmp.{unsigned_Decides}
+use Rattle.coap_types.specs.declared.endpoint.Endpoint.{Endpoint}
+use Rattle.coap_codec.specs.Message.{Message}
+use Rattle.coap_layer.specs.Trace as L
+use Rattle.coap_block.specs.Whole.{Each}
+use Rattle.coap_observe.specs.declared.observers.TheConstants.{MAX_OBSERVERS as max_observers}
+use Rattle.coap_observe.specs.Observers.{Observer, is_of, removed, registered, changed_at, marked_by, unmarked_by}
+use Rattle.coap_observe.proofs.Facts.Registrations.{is_of-decides}
+use Rattle.coap_resource.specs.Content.{Content, Held}
+use Rattle.coap_resource.specs.RequestOptions.{block_of, szx_by}
+use Rattle.coap_resource.specs.Serves.{Question, Reply}
+use Rattle.coap_exchange.specs.declared.answerer.Asked.{Asked}
+use Rattle.coap_exchange.specs.declared.answerer.Due.{Due}
+use Rattle.coap_exchange.specs.declared.answerer.Due.TheVariants as due
+use Rattle.coap_exchange.specs.declared.answerer.Ended.{Ended}
+use Rattle.coap_exchange.specs.AnswererSteps as P
+use Rattle.coap_common.specs.SuccessCodes.{content}
+use Rattle.coap_server.specs.Trace.{Own, Handling, Silent, Replies, Serves, Waits, Notifies, Call}
+use Rattle.coap_server.specs.Trace.{Sets}
+use Rattle.coap_server.specs.Trace.{Removes, Delays, Feeds, Ticks, NextOut, Gets, TellsApplied}
+use Rattle.coap_server.specs.Observers.{observes, registers, observers_with, marked_if, unless_ended}
+use Rattle.coap_server.specs.Notifying.{notified}
+use Rattle.coap_server.specs.Handling.{incoming, ticking, heard}
+use Rattle.coap_server.specs.Steps.{observers_after, ready_in}
+use Rattle.coap_server.specs.Law.{own_of}
+use Rattle.coap_server.specs.Follows.Serves.{serving, serving_of}
+use Rattle.coap_server.specs.Follows.Tells.{Pair, registers_by, registering}
+use Rattle.coap_server.specs.Follows.Observes.{MadeBy}
+use Rattle.coap_server.specs.Follows.Latest.{LatestMade, IsLatest, AreLatest}
+
+-- lists of which each has a property, or another one
+
+module _ (Q R : Observer → Type 0) where
+  each_to : ((o : Observer) → Q o → R o) → (os : List Observer) → Each Q os → Each R os
+  each_to f [] h = tt
+  each_to f (o ∷ os) h = (f o h.0, each_to f os h.1)
+
+  each_chosen : (p : Observer → Bool) → ((o : Observer) → p o ≡ true → Q o → R o) → (os : List Observer) → Each Q os
+      → Each R (filter p os)
+  each_chosen p f [] h = tt
+  each_chosen p f (o ∷ os) h = by (p o) refl (each_chosen p f os h.1)
+    where
+      by : (b : Bool) → p o ≡ b → Each R (filter p os) → Each R (cond b (o ∷ filter p os) (filter p os))
+      by true is k = (f o is h.0, k)
+      by false is k = k
+
+module _ (Q : Observer → Type 0) where
+  each_with : (os : List Observer) (o : Observer) → Each Q os → Q o → Each Q (os ++ o ∷ [])
+  each_with [] o h k = (k, tt)
+  each_with (x ∷ os) o h k = (h.0, each_with os o h.1 k)
+
+  each_map : (f : Observer → Observer) → ((o : Observer) → Q o → Q (f o)) → (os : List Observer) → Each Q os
+      → Each Q (map f os)
+  each_map f g [] h = tt
+  each_map f g (o ∷ os) h = (g o h.0, each_map f g os h.1)
+
+  each_removed : (to : Endpoint) (token : List ℕ) (os : List Observer) → Each Q os → Each Q (removed to token os)
+  each_removed to token os h = each_chosen Q Q (λ o. not (is_of to token o)) (λ o is q. q) os h
+
+  each_ended : (e : Option Ended) (os : List Observer) → Each Q os → Each Q (unless_ended e os)
+  each_ended None os h = h
+  each_ended (Some x) os h = by x.observe
+    where
+      by : (b : Bool) → Each Q (cond b (removed x.to x.token os) os)
+      by true = each_removed x.to x.token os h
+      by false = h
+
+module _ (limit szx : ℕ) where
+  abbrev own : List Call → Own
+  own t = own_of limit szx t
+
+  abbrev pair : Endpoint → List ℕ → Option Pair
+  pair to token = Some (record { to = to; token = token })
+
+  -- the call that a trace ends with
+  made_now : (c : Call) (t : List Call) (to : Endpoint) (token : List ℕ) (path : List (List ℕ))
+      → MadeBy limit szx to token path t c → LatestMade limit szx (c ∷ t) to token path
+  made_now c t to token path made = record { newer = []; call = c; older = t; split = refl; made = made; latest = tt }
+
+  made_before : (c : Call) (t : List Call) (to : Endpoint) (token : List ℕ) (path : List (List ℕ))
+      → (registering (own t) c ≡ pair to token → ⊥) → LatestMade limit szx t to token path
+      → LatestMade limit szx (c ∷ t) to token path
+  made_before c t to token path none k = record {
+    newer = c ∷ k.newer;
+    call = k.call;
+    older = k.older;
+    split = ap (λ z. c ∷ z) k.split;
+    made = k.made;
+    latest = (λ h. none (ap (λ z. registering (own z) c) k.split ∙ h), k.latest);
+  }
+
+  module _ (t : List Call) where
+    abbrev Now : Call → List Observer → Type 0
+    Now c os = Each (IsLatest limit szx (c ∷ t)) os
+
+    abbrev Before : List Observer → Type 0
+    Before os = Each (IsLatest limit szx t) os
+
+    -- a call that makes no registration
+    later : (c : Call) → registering (own t) c ≡ None → (os : List Observer) → Before os → Now c os
+    later c none os h =
+        each_to (IsLatest limit szx t) (IsLatest limit szx (c ∷ t))
+        (λ o k. made_before c t o.to o.token o.path
+        (λ is. absurd (let e : None ≡ pair o.to o.token = sym none ∙ is in cc e)) k) os h
+
+    marked_now : (c : Call) (path : List (List ℕ)) (old left : Content) (os : List Observer) → Now c os
+        → Now c (marked_if path old left os)
+    marked_now c path old left os h = by (left.tally.version == old.tally.version)
+      where
+        by : (b : Bool) → Now c (cond b os (changed_at path os))
+        by true = h
+        by false = each_map (IsLatest limit szx (c ∷ t)) (marked_by path) (λ o k. k) os h
+
+    notified_now : (c : Call) (held : Option Held) (o : Observer) (os : List Observer) → Now c os
+        → Now c (notified held o os)
+    notified_now c None o os h = each_removed (IsLatest limit szx (c ∷ t)) o.to o.token os h
+    notified_now c (Some held) o os h = each_map (IsLatest limit szx (c ∷ t)) (unmarked_by o.to o.token) (λ x k. k) os h
+
+    -- a request that is served may make one
+    module _ (c : Call) (s : Own) (a : Asked) (q : Question) (reply : Reply) (left : Content) where
+      served : registering (own t) c ≡ registers_by s a q reply → serving (own t) c ≡ Some (serving_of s a q reply left)
+          → Before s.observers → Now c (observers_with a q reply s.observers)
+      served is here h = by (registers a q reply s.observers) refl (observes 1 q)
+        where
+          made : registers a q reply s.observers ≡ true → MadeBy limit szx a.from a.token q.path t c
+          made so =
+              let x = and_parts (observes 0 q) ((reply.code == content)
+              && ((reply.offset == 0) && nat_lt (length (removed a.from a.token s.observers)) max_observers)) so in
+              let y = and_parts (reply.code == content)
+              ((reply.offset == 0) && nat_lt (length (removed a.from a.token s.observers)) max_observers) x.1 in
+              record {
+                request = serving_of s a q reply left;
+                here = here;
+                from = refl;
+                token_is = refl;
+                path_is = refl;
+                observe = x.0;
+                code = (unsigned_Decides reply.code content).0 y.0;
+                registers = is ∙ ap (λ b. cond b (pair a.from a.token) None) so;
+              }
+
+          -- it is not the pair of those that stay
+          other : registers a q reply s.observers ≡ true → (o : Observer) → not (is_of a.from a.token o) ≡ true
+              → registering (own t) c ≡ pair o.to o.token → ⊥
+          other so o stays h =
+              let e : pair a.from a.token ≡ pair o.to o.token =
+              sym (is ∙ ap (λ b. cond b (pair a.from a.token) None) so) ∙ h in
+              let p : ◌≡◌ {A = Pair} (record { to = a.from; token = a.token }) (record { to = o.to; token = o.token }) =
+              cc e in
+              let z = (is_of-decides a.from a.token o).1
+              (ap (λ (x : Pair). x.to) (sym p), ap (λ (x : Pair). x.token) (sym p)) in
+              cc (z, stays)
+
+          none : registers a q reply s.observers ≡ false → registering (own t) c ≡ None
+          none so = is ∙ ap (λ b. cond b (pair a.from a.token) None) so
+
+          by : (b : Bool) → registers a q reply s.observers ≡ b → (m : Bool)
+              → Now c (cond b (registered a.from a.token q.path (szx_by (block_of q.options) q.szx) s.observers)
+              (cond m (removed a.from a.token s.observers) s.observers))
+          by true so m =
+              each_with (IsLatest limit szx (c ∷ t)) (removed a.from a.token s.observers) _
+              (each_chosen (IsLatest limit szx t) (IsLatest limit szx (c ∷ t)) (λ o. not (is_of a.from a.token o))
+              (λ o stays k. made_before c t o.to o.token o.path (other so o stays) k) s.observers h)
+              (made_now c t a.from a.token q.path (made so))
+          by false so true = each_removed (IsLatest limit szx (c ∷ t)) a.from a.token s.observers
+              (later c (none so) s.observers h)
+          by false so false = later c (none so) s.observers h
+
+    fed : (now : ℕ) (from : Endpoint) (bytes : List ℕ) (w : ℕ) (up below : L.Answer) (came : Option (Asked × Message))
+        (h : Handling) → Before (heard (own t) now (incoming (own t) now from bytes up came)).observers
+        → Now (Feeds now from bytes w up came h below) (own (Feeds now from bytes w up came h below ∷ t)).observers
+    fed now from bytes w up below None Silent g = later _ refl _ g
+    fed now from bytes w up below None (Replies r) g = later _ refl _ g
+    fed now from bytes w up below None (Serves q reply left) g = later _ refl _ g
+    fed now from bytes w up below None (Waits q d) g = later _ refl _ g
+    fed now from bytes w up below None (Notifies o reply) g =
+        let s : Own = heard (own t) now (incoming (own t) now from bytes up None) in notified_now _
+        (s.store.holds o.path) o s.observers (later _ refl s.observers g)
+    fed now from bytes w up below (Some p) Silent g = later _ refl _ g
+    fed now from bytes w up below (Some p) (Replies r) g = later _ refl _ g
+    fed now from bytes w up below (Some p) (Waits q d) g = later _ refl _ g
+    fed now from bytes w up below (Some p) (Notifies o reply) g =
+        let s : Own = heard (own t) now (incoming (own t) now from bytes up (Some p)) in notified_now _
+        (s.store.holds o.path) o s.observers (later _ refl s.observers g)
+    fed now from bytes w up below (Some p) (Serves q reply left) g =
+        let s : Own = heard (own t) now (incoming (own t) now from bytes up (Some p)) in
+        let c : Call = Feeds now from bytes w up (Some p) (Serves q reply left) below in
+        marked_now c q.path s.store left (observers_with p.0 q reply s.observers)
+        (served c s p.0 q reply left refl refl g)
+
+    module _ (now w : ℕ) (below : L.Answer) (room : Bool) (passed id : ℕ) (answer : Bool) where
+      abbrev tick : Due → Handling → Call
+      tick d h = Ticks now w below room d passed h id answer
+
+      abbrev stage : Due → Own
+      stage d = heard (own t) now (ticking (own t) now below room d)
+
+      -- no request that waits is ready
+      idle : (d : Due) (h : Handling) → registering (own t) (tick d h) ≡ None
+          → (own (tick d h ∷ t)).observers ≡ observers_after (stage d).store None h (stage d).observers
+          → Before (stage d).observers → Now (tick d h) (own (tick d h ∷ t)).observers
+      idle d h none is g = subst (Now (tick d h)) (sym is) (by h)
+        where
+          by : (k : Handling) → Now (tick d h) (observers_after (stage d).store None k (stage d).observers)
+          by Silent = later _ none _ g
+          by (Replies r) = later _ none _ g
+          by (Serves q reply left) = later _ none _ g
+          by (Waits q e) = later _ none _ g
+          by (Notifies o reply) = notified_now _ ((stage d).store.holds o.path) o (stage d).observers (later _ none _ g)
+
+      silent : (d : Due) (h : Handling) → ready_in d ≡ None → registering (own t) (tick d h) ≡ None
+      silent due.Idle h is = refl
+      silent due.Copied h is = refl
+      silent due.Expired h is = refl
+      silent (due.Ready a) h is = absurd (cc is)
+
+      ticked : (d : Due) (h : Handling) → Before (stage d).observers → Now (tick d h) (own (tick d h ∷ t)).observers
+      ticked due.Idle h g = idle due.Idle h (silent due.Idle h refl) refl g
+      ticked due.Copied h g = idle due.Copied h (silent due.Copied h refl) refl g
+      ticked due.Expired h g = idle due.Expired h (silent due.Expired h refl) refl g
+      ticked (due.Ready a) Silent g = later _ refl _ g
+      ticked (due.Ready a) (Replies r) g = later _ refl _ g
+      ticked (due.Ready a) (Waits q d) g = later _ refl _ g
+      ticked (due.Ready a) (Notifies o reply) g = let s : Own =
+          stage (due.Ready a) in notified_now _ (s.store.holds o.path) o s.observers (later _ refl s.observers g)
+      ticked (due.Ready a) (Serves q reply left) g =
+          let s : Own = stage (due.Ready a) in
+          let c : Call = tick (due.Ready a) (Serves q reply left) in
+          marked_now c q.path s.store left (observers_with a q reply s.observers)
+          (served c s a q reply left refl refl g)
+
+  pub are_latest : (t : List Call) → AreLatest limit szx t
+  are_latest [] = tt
+  are_latest (c ∷ t) = by c (are_latest t)
+    where
+      by : (c : Call) → Each (IsLatest limit szx t) (own t).observers
+          → Each (IsLatest limit szx (c ∷ t)) (own (c ∷ t)).observers
+      by (Sets now path format body answer left) g =
+          marked_now t (Sets now path format body answer left) path (own t).store left (own t).observers
+          (later t _ refl _ g)
+      by (Removes now path answer left) g = marked_now t (Removes now path answer left) path (own t).store left
+          (own t).observers (later t _ refl _ g)
+      by (Delays path ms answer) g = later t _ refl _ g
+      by (Gets path answer) g = later t _ refl _ g
+      by (TellsApplied answer) g = later t _ refl _ g
+      by (NextOut answer) g = later t _ refl _ g
+      by (Feeds now from bytes w up came h below) g =
+          fed t now from bytes w up below came h (each_ended (IsLatest limit szx t)
+          (P.after (own t).exchanges (incoming (own t) now from bytes up came)).ended (own t).observers g)
+      by (Ticks now w below room d passed h id answer) g =
+          ticked t now w below room passed id answer d h
+          (each_ended (IsLatest limit szx t) (P.after (own t).exchanges (ticking (own t) now below room d)).ended
+          (own t).observers g)

@@ -1,0 +1,265 @@
+-- The observers of a server are registrations, and each was made by a GET that was served.
+use Rattle.coap_observe.specs.declared.observers.TheConstants.{MAX_OBSERVERS as max_observers}
+use Rattle.std.proofs.Common.{◌≡◌, ◌<◌, inl, inr, ℕ, ◌==◌, ◌&&◌, nat_lt, Bool, true, false, not, Option, Some, None}
+use Rattle.std.proofs.Common.{List, [], ◌∷◌, ◌++◌, length, filter, map, refl, ap, sym, subst, cond, arith}
+use Rattle.std.proofs.lemmas.Bool.{ltb-true}
+use Rattle.std.specs.Cmp.{unsigned_Decides}
+use Rattle.coap_types.specs.Past.{Sometime}
+use Rattle.coap_types.specs.declared.endpoint.Endpoint.{Endpoint}
+use Rattle.coap_codec.specs.Message.{Message}
+use Rattle.coap_layer.specs.Trace as L
+use Rattle.coap_block.specs.Whole.{Each}
+use Rattle.coap_observe.specs.Observers.{Observer, AreRegistrations, is_of, removed, registered, changed_at, marked_by}
+use Rattle.coap_observe.specs.Observers.{unmarked_by}
+use Rattle.coap_observe.proofs.Facts.Registrations.{registrations-changed, registrations-registered}
+use Rattle.coap_observe.proofs.Facts.Registrations.{registrations-removed, registrations-sent}
+use Rattle.coap_resource.specs.Content.{Content, Held}
+use Rattle.coap_resource.specs.RequestOptions.{block_of, szx_by}
+use Rattle.coap_resource.specs.Serves.{Question, Reply}
+use Rattle.coap_exchange.specs.declared.answerer.Asked.{Asked}
+use Rattle.coap_exchange.specs.declared.answerer.Due.{Due}
+use Rattle.coap_exchange.specs.declared.answerer.Due.TheVariants as due
+use Rattle.coap_exchange.specs.declared.answerer.Ended.{Ended}
+use Rattle.coap_exchange.specs.AnswererSteps as P
+use Rattle.std.proofs.lemmas.Bool.{and_parts}
+use Rattle.coap_common.specs.SuccessCodes.{content}
+use Rattle.coap_server.specs.Trace.{Own, Handling, Silent, Replies, Serves, Waits, Notifies, Call}
+use Rattle.coap_server.specs.Trace.{Sets}
+use Rattle.coap_server.specs.Trace.{Removes, Delays, Feeds, Ticks, NextOut, Gets, TellsApplied}
+use Rattle.coap_server.specs.Serving.{observers_served}
+use Rattle.coap_server.specs.Observers.{observes, registers, observers_with, marked_if, unless_ended}
+use Rattle.coap_server.specs.Notifying.{notified}
+use Rattle.coap_server.specs.Handling.{incoming, ticking, heard}
+use Rattle.coap_server.specs.Steps.{observers_after, ready_in}
+use Rattle.coap_server.specs.Law.{own_of}
+use Rattle.coap_server.specs.Follows.Tells.{Pair}
+use Rattle.coap_server.specs.Follows.Serves.{serving_of}
+use Rattle.coap_server.specs.Follows.Observes.{MadeWith, WasMade, AreObservers}
+
+module _ (Q : Observer → Type 0) where
+  each_kept : (p : Observer → Bool) (os : List Observer) → Each Q os → Each Q (filter p os)
+  each_kept p [] h = tt
+  each_kept p (o ∷ os) h = by (p o) (each_kept p os h.1)
+    where
+      by : (b : Bool) → Each Q (filter p os) → Each Q (cond b (o ∷ filter p os) (filter p os))
+      by true k = (h.0, k)
+      by false k = k
+
+  each_with : (os : List Observer) (o : Observer) → Each Q os → Q o → Each Q (os ++ o ∷ [])
+  each_with [] o h k = (k, tt)
+  each_with (x ∷ os) o h k = (h.0, each_with os o h.1 k)
+
+  each_map : (f : Observer → Observer) → ((o : Observer) → Q o → Q (f o)) → (os : List Observer) → Each Q os
+      → Each Q (map f os)
+  each_map f g [] h = tt
+  each_map f g (o ∷ os) h = (g o h.0, each_map f g os h.1)
+
+abbrev pair_of : Asked → Pair
+pair_of a = record { to = a.from; token = a.token }
+
+-- what a registration needs
+record Registers (a : Asked) (q : Question) (reply : Reply) (os : List Observer) : Type 0 where
+  so : registers a q reply os ≡ true
+  observe : observes 0 q ≡ true
+  code : reply.code ≡ content
+  room : length (removed a.from a.token os) < 64
+
+registers_so : (a : Asked) (q : Question) (reply : Reply) (os : List Observer) → registers a q reply os ≡ true
+    → Registers a q reply os
+registers_so a q reply os h =
+    let x = and_parts (observes 0 q) ((reply.code == content)
+    && ((reply.offset == 0) && nat_lt (length (removed a.from a.token os)) max_observers)) h in
+    let y = and_parts (reply.code == content) ((reply.offset == 0)
+    && nat_lt (length (removed a.from a.token os)) max_observers) x.1 in
+    let z = and_parts (reply.offset == 0) (nat_lt (length (removed a.from a.token os)) max_observers) y.1 in
+    record {
+      so = h;
+      observe = x.0;
+      code = (unsigned_Decides reply.code content).0 y.0;
+      room = ltb-true (length (removed a.from a.token os)) 64 z.1;
+    }
+
+module _ (limit szx : ℕ) (t : List Call) where
+  pub record Good (os : List Observer) : Type 0 where
+    pub registrations : AreRegistrations os
+    pub made : Each (WasMade limit szx t) os
+
+  good_removed : (to : Endpoint) (token : List ℕ) (os : List Observer) → Good os → Good (removed to token os)
+  good_removed to token os g =
+      record {
+        registrations = registrations-removed to token os g.registrations;
+        made = each_kept (WasMade limit szx t) (λ o. not (is_of to token o)) os g.made;
+      }
+
+  pub good_ended : (e : Option Ended) (os : List Observer) → Good os → Good (unless_ended e os)
+  good_ended None os g = g
+  good_ended (Some x) os g = by x.observe
+    where
+      by : (b : Bool) → Good (cond b (removed x.to x.token os) os)
+      by true = good_removed x.to x.token os g
+      by false = g
+
+  good_marked : (path : List (List ℕ)) (old left : Content) (os : List Observer) → Good os
+      → Good (marked_if path old left os)
+  good_marked path old left os g = by (left.tally.version == old.tally.version)
+    where
+      by : (b : Bool) → Good (cond b os (changed_at path os))
+      by true = g
+      by false = record {
+        registrations = registrations-changed path os g.registrations;
+        made = each_map (WasMade limit szx t) (marked_by path) (λ o h. h) os g.made;
+      }
+
+  good_notified : (held : Option Held) (o : Observer) (os : List Observer) → Good os → Good (notified held o os)
+  good_notified None o os g = good_removed o.to o.token os g
+  good_notified (Some h) o os g =
+      record {
+        registrations = registrations-sent o.to o.token os g.registrations;
+        made = each_map (WasMade limit szx t) (unmarked_by o.to o.token) (λ x h. h) os g.made;
+      }
+
+  good_with : (a : Asked) (q : Question) (reply : Reply) (os : List Observer)
+      → (Registers a q reply os → Sometime (MadeWith limit szx a.from a.token q.path
+      (szx_by (block_of q.options) q.szx)) t) → Good os → Good (observers_with a q reply os)
+  good_with a q reply os new g = by (registers a q reply os) refl (observes 1 q)
+    where
+      by : (b : Bool) → registers a q reply os ≡ b → (m : Bool)
+          → Good (cond b (registered a.from a.token q.path (szx_by (block_of q.options) q.szx) os)
+          (cond m (removed a.from a.token os) os))
+      by true e m =
+          let k = registers_so a q reply os e in
+          record {
+            registrations = registrations-registered a.from a.token q.path
+                (szx_by (block_of q.options) q.szx) os g.registrations k.room;
+            made = each_with (WasMade limit szx t) (removed a.from a.token os) _
+                (each_kept (WasMade limit szx t) (λ o. not (is_of a.from a.token o)) os g.made) (new k);
+          }
+      by false e true = good_removed a.from a.token os g
+      by false e false = g
+
+  good_served : (old : Content) (a : Asked) (q : Question) (reply : Reply) (left : Content) (os : List Observer)
+      → (Registers a q reply os → Sometime (MadeWith limit szx a.from a.token q.path
+      (szx_by (block_of q.options) q.szx)) t) → Good os → Good (observers_served old a q reply left os)
+  good_served old a q reply left os new g = good_marked q.path old left (observers_with a q reply os)
+      (good_with a q reply os new g)
+
+module _ (limit szx : ℕ) where
+  abbrev own : List Call → Own
+  own t = own_of limit szx t
+
+  good_later : (c : Call) (t : List Call) (os : List Observer) → Good limit szx t os → Good limit szx (c ∷ t) os
+  good_later c t os g = record { registrations = g.registrations; made = go os g.made }
+    where
+      go : (os : List Observer) → Each (WasMade limit szx t) os → Each (WasMade limit szx (c ∷ t)) os
+      go [] h = tt
+      go (o ∷ os) h = (inr h.0, go os h.1)
+
+  module _ (t : List Call) (now : ℕ) (from : Endpoint) (bytes : List ℕ) (w : ℕ) (up : L.Answer) (below : L.Answer) where
+    fed : (came : Option (Asked × Message)) (h : Handling)
+        → Good limit szx (Feeds now from bytes w up came h below ∷ t)
+        (heard (own t) now (incoming (own t) now from bytes up came)).observers
+        → Good limit szx (Feeds now from bytes w up came h below ∷ t)
+        (own (Feeds now from bytes w up came h below ∷ t)).observers
+    fed None Silent g = g
+    fed None (Replies r) g = g
+    fed None (Serves q reply left) g = g
+    fed None (Waits q d) g = g
+    fed None (Notifies o reply) g =
+        let s : Own = heard (own t) now (incoming (own t) now from bytes up None) in good_notified limit szx
+        (Feeds now from bytes w up None (Notifies o reply) below ∷ t) (s.store.holds o.path) o s.observers g
+    fed (Some p) Silent g = g
+    fed (Some p) (Replies r) g = g
+    fed (Some p) (Waits q d) g = g
+    fed (Some p) (Notifies o reply) g =
+        let s : Own = heard (own t) now (incoming (own t) now from bytes up (Some p)) in good_notified limit szx
+        (Feeds now from bytes w up (Some p) (Notifies o reply) below ∷ t) (s.store.holds o.path) o s.observers g
+    fed (Some p) (Serves q reply left) g =
+        let s : Own = heard (own t) now (incoming (own t) now from bytes up (Some p)) in
+        good_served limit szx (Feeds now from bytes w up (Some p) (Serves q reply left) below ∷ t) s.store p.0 q reply
+        left s.observers
+        (λ k. inl (record {
+          made = record {
+            request = serving_of s p.0 q reply left;
+            here = refl;
+            from = refl;
+            token_is = refl;
+            path_is = refl;
+            observe = k.observe;
+            code = k.code;
+            registers = ap (λ b. cond b (Some (pair_of p.0)) None) k.so;
+          };
+          size_is = refl;
+        })) g
+
+  module _ (t : List Call) (now w : ℕ) (below : L.Answer) (room : Bool) (passed id : ℕ) (answer : Bool) where
+    abbrev call : Due → Handling → Call
+    call d h = Ticks now w below room d passed h id answer
+
+    abbrev stage : Due → Own
+    stage d = heard (own t) now (ticking (own t) now below room d)
+
+    ended_ticks : (d : Due) (h : Handling) → ready_in d ≡ None → Good limit szx (call d h ∷ t) (stage d).observers
+        → Good limit szx (call d h ∷ t) (observers_after (stage d).store (ready_in d) h (stage d).observers)
+    ended_ticks d h none g = subst (λ a. Good limit szx (call d h ∷ t)
+        (observers_after (stage d).store a h (stage d).observers)) (sym none) (by h g)
+      where
+        by : (k : Handling) → Good limit szx (call d h ∷ t) (stage d).observers
+            → Good limit szx (call d h ∷ t) (observers_after (stage d).store None k (stage d).observers)
+        by Silent g = g
+        by (Replies r) g = g
+        by (Serves q reply left) g = g
+        by (Waits q e) g = g
+        by (Notifies o reply) g = good_notified limit szx (call d h ∷ t) ((stage d).store.holds o.path) o
+            (stage d).observers g
+
+    ticked : (d : Due) (h : Handling) → Good limit szx (call d h ∷ t) (stage d).observers
+        → Good limit szx (call d h ∷ t) (own (call d h ∷ t)).observers
+    ticked due.Idle h g = ended_ticks due.Idle h refl g
+    ticked due.Copied h g = ended_ticks due.Copied h refl g
+    ticked due.Expired h g = ended_ticks due.Expired h refl g
+    ticked (due.Ready a) Silent g = g
+    ticked (due.Ready a) (Replies r) g = g
+    ticked (due.Ready a) (Waits q d) g = g
+    ticked (due.Ready a) (Notifies o reply) g =
+        let s : Own = stage (due.Ready a) in good_notified limit szx (call (due.Ready a) (Notifies o reply) ∷ t)
+        (s.store.holds o.path) o s.observers g
+    ticked (due.Ready a) (Serves q reply left) g =
+        let s : Own = stage (due.Ready a) in
+        good_served limit szx (call (due.Ready a) (Serves q reply left) ∷ t) s.store a q reply left s.observers
+        (λ k. inl (record {
+          made = record {
+            request = serving_of s a q reply left;
+            here = refl;
+            from = refl;
+            token_is = refl;
+            path_is = refl;
+            observe = k.observe;
+            code = k.code;
+            registers = ap (λ b. cond b (Some (pair_of a)) None) k.so;
+          };
+          size_is = refl;
+        })) g
+
+  pub good : (t : List Call) → Good limit szx t (own t).observers
+  good [] = record { registrations = record { few = omega arith; distinct = tt }; made = tt }
+  good (c ∷ t) = by c (good_later c t (own t).observers (good t))
+    where
+      by : (c : Call) → Good limit szx (c ∷ t) (own t).observers → Good limit szx (c ∷ t) (own (c ∷ t)).observers
+      by (Sets now path format body answer left) g =
+          good_marked limit szx (Sets now path format body answer left ∷ t) path (own t).store left (own t).observers g
+      by (Removes now path answer left) g = good_marked limit szx (Removes now path answer left ∷ t) path
+          (own t).store left (own t).observers g
+      by (Delays path ms answer) g = g
+      by (Gets path answer) g = g
+      by (TellsApplied answer) g = g
+      by (Feeds now from bytes w up came h below) g =
+          fed t now from bytes w up below came h (good_ended limit szx (Feeds now from bytes w up came h below ∷ t)
+          (P.after (own t).exchanges (incoming (own t) now from bytes up came)).ended (own t).observers g)
+      by (Ticks now w below room d passed h id answer) g =
+          ticked t now w below room passed id answer d h
+          (good_ended limit szx (Ticks now w below room d passed h id answer ∷ t)
+          (P.after (own t).exchanges (ticking (own t) now below room d)).ended (own t).observers g)
+      by (NextOut answer) g = g
+
+  pub are_observers : (t : List Call) → AreObservers limit szx t
+  are_observers t = let g = good t in record { registrations = g.registrations; made = g.made }

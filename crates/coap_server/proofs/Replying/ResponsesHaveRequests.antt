@@ -1,0 +1,304 @@
+-- What a server sends beside Empty messages carries a response to a request that was handed up, or a notification.
+use Rattle.std.proofs.Common.{◌≡◌, ◌≢◌, ◌≤◌, ◌⊎◌, inl, inr, ℕ, zero, suc, Bool, true, false, Option}
+use Rattle.std.proofs.Common.{Some, None, List, [], ◌∷◌, ◌++◌, length, refl, ap, sym, subst, ◌∙◌, arith}
+use Rattle.coap_types.specs.Past.{Ever, Sometime}
+use Rattle.coap_types.proofs.Facts.Traces.{Ever_append}
+use Rattle.coap_types.specs.declared.endpoint.Endpoint.{Endpoint}
+use Rattle.coap_codec.specs.Message.{Message}
+use Rattle.coap_layer.specs.Machine.State as S
+use Rattle.coap_layer.specs.Trace as L
+use Rattle.coap_types.specs.declared.block.Block.{Block}
+use Rattle.coap_block.specs.declared.block_verdict.BlockVerdict.{BlockVerdict}
+use Rattle.coap_block.specs.declared.block_verdict.BlockVerdict.TheVariants.{Refuse, Join, Done}
+use Rattle.coap_block.specs.AssemblyAnswer.{refusal_code}
+use Rattle.coap_block.specs.AssemblyState.{AssemblyState, reached, without_key}
+use Rattle.coap_block.specs.AssemblyStep.{there_at}
+use Rattle.coap_block.specs.Whole.{Each}
+use Rattle.coap_observe.specs.Observers.{Observer}
+use Rattle.coap_resource.specs.Content.{Content, Held}
+use Rattle.coap_resource.specs.Serves.{Question, Reply, got}
+use Rattle.coap_exchange.specs.declared.answerer.Asked.{Asked}
+use Rattle.coap_exchange.specs.declared.answerer.Due.{Due}
+use Rattle.coap_exchange.specs.declared.answerer.Due.TheVariants as due
+use Rattle.coap_exchange.specs.AnswererSteps as P
+use Rattle.coap_exchange.specs.AnswererSteps.{may_defer}
+use Rattle.coap_exchange.specs.AnswererTrace as E
+use Rattle.coap_exchange.specs.AnswererLaw as W
+use Rattle.coap_exchange.proofs.Facts.ServerSide.{layer_stands}
+use Rattle.coap_server.specs.Trace.{Own, Handling, Silent, Replies, Serves, Waits, Notifies, Call}
+use Rattle.coap_server.specs.Trace.{Sets}
+use Rattle.coap_server.specs.Trace.{Removes, Delays, Feeds, Ticks, NextOut, Gets, TellsApplied}
+use Rattle.coap_server.specs.Responses.{bare, response_with}
+use Rattle.coap_server.specs.Checks.{Verdict, Ignored, Refused, Asks, Uploads, verdict_on}
+use Rattle.coap_server.specs.Checks.{bad_request}
+use Rattle.coap_server.specs.Uploads.{key_of, ruling_of, whole, continue, continuing}
+use Rattle.coap_server.specs.Observers.{sequence}
+use Rattle.coap_server.specs.Deferring.{WaitsBy, deferral, deferral_by, delay_for}
+use Rattle.coap_server.specs.Notifying.{NotifiesNext, marked, behind, readies, told, asks_for}
+use Rattle.coap_server.specs.Handling.{incoming, ticking, heard, HandlesBlock, Handles}
+use Rattle.coap_server.specs.Asks.{lower}
+use Rattle.coap_server.specs.Law.{ServerLaw, own_of, lower_of}
+use Rattle.coap_server.specs.Follows.Serves.{serving_of}
+use Rattle.coap_server.specs.Follows.Takes.{took, took_by, taken_by}
+use Rattle.coap_server.specs.Follows.Observes.{WasMade}
+use Rattle.coap_server.specs.Follows.Gives.{Carries, refusal_by, refusal_of, size_by, size_of}
+use Rattle.coap_server.specs.Follows.Gives.{NoticeOf}
+use Rattle.coap_server.specs.Follows.Gives.{CarriesResponse, SentResponses, SendsResponses}
+use Rattle.coap_server.proofs.Serving.Brought.{server_back, comes_here}
+use Rattle.coap_server.proofs.Serving.ServedWasHandedUp.{joins_more}
+use Rattle.coap_server.proofs.Observing.ObserversWereMade.{good, good_ended}
+use Rattle.coap_server.proofs.Observing.VersionsRise.{IsThere, behind_there, marked_there, next_is}
+use Rattle.coap_server.proofs.Replying.LayerSendsResponses.{called, CarriesIn, made}
+use Rattle.coap_server.proofs.Replying.RefusalsAreErrors.{refused_with}
+use Rattle.coap_server.specs.Follows.Sources.{Source}
+use Rattle.coap_server.proofs.Facts.Sources.{sourced}
+
+not_continue : (code : ℕ) → bad_request ≤ code → code ≢ continue
+not_continue code h is = omega (arith, h, is)
+
+-- a response that refuses without the store, or asks for the next block
+record IsRefusal (s : Own) (a : Asked) (v : Verdict) (r : E.Response) : Type 0 where
+  code : ℕ
+  refuses : refusal_of s.uploads s.clock a v ≡ Some code
+  is : r ≡ bare code
+
+record IsContinue (s : Own) (a : Asked) (v : Verdict) (r : E.Response) : Type 0 where
+  question : Question
+  block : Block
+  size : ℕ
+  verdict : v ≡ Uploads question block
+  joins : ruling_of s.uploads s.clock a question block ≡ Join size
+  is : r ≡ continuing size block
+
+one_response : (r k : E.Response) → Replies r ≡ Replies k → r ≡ k
+one_response r k e = cc e
+
+never_replies : (o : Option ℕ) (place : Bool) (old : Content) (at : ℕ) (q : Question) (r : E.Response)
+    → WaitsBy o place old at q (Replies r) → ⊥
+never_replies (Some d) true old at q r h = cc h
+never_replies (Some d) false old at q r h = let e = h.is in cc e
+never_replies None place old at q r h = let e = h.is in cc e
+
+block_replies : (v : BlockVerdict) (s : Own) (a : Asked) (q : Question) (b : Block) (r : E.Response)
+    → ruling_of s.uploads s.clock a q b ≡ v → HandlesBlock v s a q b (Replies r)
+    → IsRefusal s a (Uploads q b) r ⊎ IsContinue s a (Uploads q b) r
+block_replies (Refuse why) s a q b r e h = inl
+    (record {
+      code = (refusal_code why).0;
+      refuses = ap refusal_by e;
+      is = one_response r _ h;
+    })
+block_replies (Join n) s a q b r e h = inr (record
+    { question = q; block = b; size = n; verdict = refl; joins = e; is = one_response r _ h })
+block_replies Done s a q b r e h =
+    let it : Question = whole s.uploads s.clock a q b in
+    absurd (never_replies (delay_for a.kind q.path s.delays) (may_defer s.exchanges.deferred) s.store s.clock it r h)
+
+replies : (v : Verdict) (s : Own) (a : Asked) (r : E.Response) → Handles s a v (Replies r)
+    → IsRefusal s a v r ⊎ IsContinue s a v r
+replies Ignored s a r h = absurd (cc h)
+replies (Refused code) s a r h = inl (record { code = code; refuses = refl; is = one_response r _ h })
+replies (Asks q) s a r h = absurd (never_replies (delay_for a.kind q.path s.delays)
+    (may_defer s.exchanges.deferred) s.store s.clock q r h)
+replies (Uploads q b) s a r h = block_replies (ruling_of s.uploads s.clock a q b) s a q b r refl h
+
+-- a notification
+
+pub next_told : (x : Option Observer) (s : Content) (o : Observer) (reply : Reply) → NotifiesNext x s (Notifies o reply)
+    → reply ≡ told s o
+next_told None s o reply h = absurd (cc h)
+next_told (Some y) s o reply h =
+    let same : y ≡ o = cc h in
+    let is : reply ≡ told s y = cc h in
+    is ∙ ap (told s) same
+
+shows_held : (o : Observer) (held : Option Held)
+    → NoticeOf o.szx held (response_with (got held (asks_for o)) (sequence held) None)
+shows_held o None = refl
+shows_held o (Some held) = refl
+
+each_there : (Q : Observer → Type 0) (os : List Observer) (o : Observer) → Each Q os → IsThere o os → Q o
+each_there Q [] o h k = absurd k
+each_there Q (y ∷ os) o h (inl e) = subst Q e h.0
+each_there Q (y ∷ os) o h (inr k) = each_there Q os o h.1 k
+
+module _ (limit szx word : ℕ) (p : L.Packet) where
+  abbrev own : List Call → Own
+  own t = own_of limit szx t
+
+  abbrev In : List E.Call → Type 0
+  In cs = Ever (CarriesIn p) cs
+
+  deferred_none : (o : Option ℕ) (place : Bool) (at : ℕ) (a : Asked) (first : E.Call) → (CarriesIn p first → ⊥)
+      → In (deferral_by o place at a ++ first ∷ []) → ⊥
+  deferred_none None place at a first n (inl k) = n k
+  deferred_none None place at a first n (inr k) = k
+  deferred_none (Some d) place at a first n (inl k) = k
+  deferred_none (Some d) place at a first n (inr (inl k)) = n k
+  deferred_none (Some d) place at a first n (inr (inr k)) = k
+
+  deferral_none : (s : Own) (a : Asked) (q : Question) (first : E.Call) → (CarriesIn p first → ⊥)
+      → In (deferral s a q ++ first ∷ []) → ⊥
+  deferral_none s a q first n h = deferred_none (delay_for a.kind q.path s.delays)
+      (may_defer s.exchanges.deferred) s.clock a first n h
+
+  readies_none : (at n : ℕ) (os : List Observer) → In (readies at n os) → ⊥
+  readies_none at n [] h = h
+  readies_none at zero (o ∷ os) (inl k) = k
+  readies_none at zero (o ∷ os) (inr k) = k
+  readies_none at (suc n) (o ∷ os) h = elim (Ever_append (CarriesIn p) (readies at n os) (E.Ready at o.to false ∷ []) h)
+      [ inl k ↦ readies_none at n os k | inr k ↦ elim k [ inl z ↦ z | inr z ↦ z ] ]
+
+  idle_none : (at n : ℕ) (os : List Observer) (first : E.Call) → (CarriesIn p first → ⊥)
+      → In (readies at n os ++ first ∷ []) → ⊥
+  idle_none at n os first f h = elim (Ever_append (CarriesIn p) (readies at n os) (first ∷ []) h)
+      [ inl k ↦ readies_none at n os k | inr k ↦ elim k [ inl z ↦ f z | inr z ↦ z ] ]
+
+  module _ (t : List Call) where
+    fed : (now : ℕ) (from : Endpoint) (bytes : List ℕ) (w : ℕ) (up : L.Answer) (came : Option (Asked × Message))
+        (h : Handling) (below : L.Answer) → ServerLaw limit szx word (Feeds now from bytes w up came h below ∷ t)
+        → In (lower (own t) (Feeds now from bytes w up came h below))
+        → CarriesResponse limit szx word p t (Feeds now from bytes w up came h below)
+    fed now from bytes w up None h below law (inl k) = absurd k
+    fed now from bytes w up None h below law (inr k) = absurd k
+    fed now from bytes w up (Some a) Silent below law (inl k) = absurd k
+    fed now from bytes w up (Some a) Silent below law (inr k) = absurd k
+    fed now from bytes w up (Some a) (Notifies o reply) below law (inl k) = absurd k
+    fed now from bytes w up (Some a) (Notifies o reply) below law (inr k) = absurd k
+    fed now from bytes w up (Some a) (Waits q delay) below law k =
+        absurd (deferral_none (heard (own t) now (incoming (own t) now from bytes up (Some a))) a.0 q
+        (incoming (own t) now from bytes up (Some a)) (λ z. z) k)
+    fed now from bytes w up (Some a) (Serves q reply left) below law (inl k) =
+        inl (record {
+          request = serving_of (heard (own t) now (incoming (own t) now from bytes up (Some a))) a.0 q reply
+              left;
+          here = refl;
+          carries = k;
+        })
+    fed now from bytes w up (Some a) (Serves q reply left) below law (inr k) =
+        absurd (deferral_none (heard (own t) now (incoming (own t) now from bytes up (Some a))) a.0 q
+        (incoming (own t) now from bytes up (Some a)) (λ z. z) k)
+    fed now from bytes w up (Some a) (Replies r) below law (inr (inl k)) = absurd k
+    fed now from bytes w up (Some a) (Replies r) below law (inr (inr k)) = absurd k
+    fed now from bytes w up (Some a) (Replies r) below law (inl k) =
+        let s : Own = heard (own t) now (incoming (own t) now from bytes up (Some a)) in
+        elim (replies (verdict_on s.szx a.1) s a.0 r law.rows.0) [
+          | inl f ↦ inr (inr (inl (record {
+            asked = a.0;
+            verdict = verdict_on szx a.1;
+            code = f.code;
+            comes = comes_here limit szx word t now from bytes w up a (Replies r) below law;
+            handed = refl;
+            unserved = refl;
+            refuses = f.refuses;
+            not_continue = not_continue f.code (refused_with s.szx a.1 s.uploads s.clock a.0 f.code f.refuses);
+            carries = subst (Carries p a.0.from a.0.token) f.is k;
+          })))
+          | inr f ↦ (
+              let u : AssemblyState = s.uploads in
+              inr (inl (record {
+                block = took a.0 f.question f.block;
+                taken = ap (λ v. taken_by u s.clock a.0 v) f.verdict
+                    ∙ ap (λ v. took_by v (took a.0 f.question f.block)) f.joins;
+                more =
+                    joins_more u.szx (reached (key_of a.0 f.question) (there_at u s.clock))
+                    (length (without_key (key_of a.0 f.question) (there_at u s.clock))) f.block
+                    (length f.question.body) f.size f.joins;
+                size = f.size;
+                asks = ap (λ v. size_of u s.clock a.0 v) f.verdict ∙ ap size_by f.joins;
+                carries = subst (Carries p a.0.from a.0.token) f.is k;
+              }))
+              )
+        ]
+
+    ticked : (now w : ℕ) (below : L.Answer) (room : Bool) (d : Due) (passed : ℕ) (h : Handling) (id : ℕ) (answer : Bool)
+        → ServerLaw limit szx word (Ticks now w below room d passed h id answer ∷ t)
+        → In (lower (own t) (Ticks now w below room d passed h id answer))
+        → CarriesResponse limit szx word p t (Ticks now w below room d passed h id answer)
+    ticked now w below room (due.Ready a) passed (Serves q reply left) id answer law (inl k) =
+        inl (record {
+          request = serving_of (heard (own t) now (ticking (own t) now below room (due.Ready a))) a q reply
+              left;
+          here = refl;
+          carries = k;
+        })
+    ticked now w below room (due.Ready a) passed (Serves q reply left) id answer law (inr (inl k)) = absurd k
+    ticked now w below room (due.Ready a) passed (Serves q reply left) id answer law (inr (inr k)) = absurd k
+    ticked now w below room (due.Ready a) passed Silent id answer law k = elim k [ inl z ↦ absurd z | inr z ↦ absurd z ]
+    ticked now w below room (due.Ready a) passed (Replies r) id answer law k =
+        elim k [ inl z ↦ absurd z | inr z ↦ absurd z ]
+    ticked now w below room (due.Ready a) passed (Waits q delay) id answer law k =
+        elim k [ inl z ↦ absurd z | inr z ↦ absurd z ]
+    ticked now w below room (due.Ready a) passed (Notifies o reply) id answer law k =
+        elim k [ inl z ↦ absurd z | inr z ↦ absurd z ]
+    ticked now w below room due.Copied passed h id answer law k = elim k [ inl z ↦ absurd z | inr z ↦ absurd z ]
+    ticked now w below room due.Expired passed h id answer law k = elim k [ inl z ↦ absurd z | inr z ↦ absurd z ]
+    ticked now w below room due.Idle passed Silent id answer law k =
+        let s : Own = heard (own t) now (ticking (own t) now below room due.Idle) in absurd
+        (idle_none s.clock passed (marked s.observers) (ticking (own t) now below room due.Idle) (λ z. z) k)
+    ticked now w below room due.Idle passed (Replies r) id answer law k =
+        let s : Own = heard (own t) now (ticking (own t) now below room due.Idle) in absurd
+        (idle_none s.clock passed (marked s.observers) (ticking (own t) now below room due.Idle) (λ z. z) k)
+    ticked now w below room due.Idle passed (Waits q delay) id answer law k =
+        let s : Own = heard (own t) now (ticking (own t) now below room due.Idle) in absurd
+        (idle_none s.clock passed (marked s.observers) (ticking (own t) now below room due.Idle) (λ z. z) k)
+    ticked now w below room due.Idle passed (Serves q reply left) id answer law k =
+        let s : Own = heard (own t) now (ticking (own t) now below room due.Idle) in absurd
+        (idle_none s.clock passed (marked s.observers) (ticking (own t) now below room due.Idle) (λ z. z) k)
+    ticked now w below room due.Idle passed (Notifies o reply) id answer law (inr k) =
+        let s : Own = heard (own t) now (ticking (own t) now below room due.Idle) in absurd
+        (idle_none s.clock passed (marked s.observers) (ticking (own t) now below room due.Idle) (λ z. z) k)
+    ticked now w below room due.Idle passed (Notifies o reply) id answer law (inl k) =
+        let s : Own = heard (own t) now (ticking (own t) now below room due.Idle) in
+        let right = law.rows.0.0 in
+        let is = next_is (behind passed (marked s.observers)) s.store o reply right in
+        let there = (marked_there s.observers o (behind_there passed (marked s.observers) o is)).0 in
+        let g = good_ended limit szx t (P.after (own t).exchanges (ticking (own t) now below room due.Idle)).ended
+        (own t).observers (good limit szx t) in
+        inr (inr (inr (record {
+          observer = o;
+          reply = reply;
+          here = refl;
+          made = each_there (WasMade limit szx t) s.observers o g.made there;
+          shows = subst (λ z. NoticeOf o.szx (s.store.holds o.path)
+              (response_with z (sequence (s.store.holds o.path)) None))
+              (sym (next_told (behind passed (marked s.observers)) s.store o reply right))
+              (shows_held o (s.store.holds o.path));
+          carries = k;
+        })))
+
+    here : (c : Call) → ServerLaw limit szx word (c ∷ t) → In (lower (own t) c) → CarriesResponse limit szx word p t c
+    here (Sets now path format body answer left) law k = absurd k
+    here (Removes now path answer left) law k = absurd k
+    here (Delays path ms answer) law k = absurd k
+    here (Gets path answer) law k = absurd k
+    here (TellsApplied answer) law k = absurd k
+    here (Feeds now from bytes w up came h below) law k = fed now from bytes w up came h below law k
+    here (Ticks now w below room d passed h id answer) law k = ticked now w below room d passed h id answer law k
+    here (NextOut answer) law k = elim k [ inl z ↦ absurd z | inr z ↦ absurd z ]
+
+  responded : (t : List Call) → ServerLaw limit szx word t → In (lower_of limit szx t)
+      → Sometime (CarriesResponse limit szx word p) t
+  responded [] law h = absurd h
+  responded (c ∷ t) law h =
+      elim (Ever_append (CarriesIn p) (lower (own t) c) (lower_of limit szx t) h) [
+        | inl k ↦ inl (here t c law k)
+        | inr k ↦ inr (responded t (server_back limit szx word c t law) k)
+      ]
+
+pub sent_responses : (limit szx word : ℕ) (t : List Call) → ServerLaw limit szx word t → SentResponses limit szx word t
+sent_responses limit szx word t law p h =
+    let calls : List E.Call = lower_of limit szx t in
+    elim (sourced word p (W.below_of word calls) (layer_stands word calls law.exchanges) h) [
+      | inl k ↦ inl k
+      | inr k ↦ elim (made p calls law.exchanges.rows (called (Source p) (S.start word) (W.lower_of calls) k))
+          [ inl x ↦ inl x | inr x ↦ inr (responded limit szx word p t law x) ]
+    ]
+
+pub sends_responses : (limit szx word : ℕ) (t : List Call) → ServerLaw limit szx word t
+    → SendsResponses limit szx word t
+sends_responses limit szx word [] law = tt
+sends_responses limit szx word (c ∷ t) law = (
+  sent_responses limit szx word (c ∷ t) law,
+  sends_responses limit szx word t (server_back limit szx word c t law),
+)

@@ -1,0 +1,437 @@
+-- At one moment, the ticks of a server end (RFC 7252, sections 4.2 and 5.2.2; RFC 7641, section 4.5).
+use Rattle.std.proofs.Common.{◌≡◌, ◌≤◌, ◌<◌, inl, inr, ℕ, zero, suc, ◌+◌, ◌*◌, ◌&&◌, max, not, Bool, true, false}
+use Rattle.std.proofs.Common.{Option, Some, None, List, [], ◌∷◌, ◌++◌, length, filter, refl, ap, sym, subst, ◌∙◌, cond}
+use Rattle.std.proofs.Common.{arith}
+use Rattle.std.proofs.lemmas.List.Filters.{length-filter_both}
+use Rattle.coap_types.specs.declared.endpoint.Endpoint.{Endpoint}
+use Rattle.coap_layer.specs.Machine.State as S
+use Rattle.coap_layer.specs.Machine.Steps.{Asked, Steps, left_after}
+use Rattle.coap_layer.specs.Trace as L
+use Rattle.coap_block.specs.Whole.{Each}
+use Rattle.coap_observe.specs.declared.observers.TheConstants.{MAX_OBSERVERS as max_observers}
+use Rattle.coap_observe.specs.Observers.{Observer, is_of, removed, sent_to, unmarked_by}
+use Rattle.coap_observe.proofs.Facts.Registrations.{is_of-decides}
+use Rattle.coap_resource.specs.Content.{Held}
+use Rattle.coap_resource.specs.Serves.{Question}
+use Rattle.coap_exchange.specs.declared.answerer.Asked as answerer
+use Rattle.coap_exchange.specs.declared.answerer.Due.{Due}
+use Rattle.coap_exchange.specs.declared.answerer.Due.TheVariants as due
+use Rattle.coap_exchange.specs.declared.answerer.Ended.{Ended}
+use Rattle.coap_exchange.specs.declared.separate.Deferred.{Deferred}
+use Rattle.coap_exchange.specs.AnswererTrace as E
+use Rattle.coap_exchange.specs.AnswererSteps as P
+use Rattle.coap_exchange.specs.AnswererLaw as W
+use Rattle.coap_exchange.specs.AskerRequests.{asked}
+use Rattle.coap_server.specs.Trace.{Own, Waiting, Handling, Silent, Replies, Serves, Waits, Notifies}
+use Rattle.coap_server.specs.Trace.{Call, Ticks}
+use Rattle.coap_server.specs.Observers.{unless_ended}
+use Rattle.coap_server.specs.Deferring.{AnswersWaiting, question_of, without_waiting}
+use Rattle.coap_server.specs.Deferring as D
+use Rattle.coap_server.specs.Notifying.{marked, behind, readies, notification, notified}
+use Rattle.coap_server.specs.Notifying as N
+use Rattle.coap_server.specs.Serving as R
+use Rattle.coap_server.specs.Handling.{ticking, heard}
+use Rattle.coap_server.specs.Law.{ServerLaw, own_of, lower_of}
+use Rattle.coap_server.specs.Follows.Rests.{IsTick, TicksEnd}
+use Rattle.coap_common.proofs.Facts.LastStep.{last_step}
+use Rattle.coap_server.proofs.Exact.Asked.{joined, back}
+use Rattle.coap_server.proofs.Serving.Brought.{server_back}
+use Rattle.coap_server.proofs.Observing.ObserversWereMade.{are_observers}
+use Rattle.coap_server.proofs.Observing.VersionsRise.{IsThere, behind_there, marked_there, next_is}
+use Rattle.coap_server.proofs.Observing.VersionsRise.{next_serves}
+use Rattle.coap_server.proofs.Serving.Waiting.{ready_are_served}
+use Rattle.coap_common.specs.StepsDue.{due_count}
+use Rattle.coap_common.proofs.Facts.StepsDue.{is_step, ticks_least, ticks_fewer, confirm_least, room_same}
+
+-- how many are marked
+
+abbrev marks : List Observer → ℕ
+marks os = length (marked os)
+
+cons_least : (b c : Bool) (x y : Observer) (xs ys : List Observer) → length xs ≤ length ys → (b ≡ true → c ≡ true)
+    → length (cond b (x ∷ xs) xs) ≤ length (cond c (y ∷ ys) ys)
+cons_least true true x y xs ys h f = omega (arith, h)
+cons_least true false x y xs ys h f = let e = f refl in absurd (cc e)
+cons_least false true x y xs ys h f = omega (arith, h)
+cons_least false false x y xs ys h f = h
+
+-- what a list loses
+dropped_least : (p : Observer → Bool) (os : List Observer) → marks (filter p os) ≤ marks os
+dropped_least p [] = omega arith
+dropped_least p (o ∷ os) = by (p o) o.marked refl (dropped_least p os)
+  where
+    by : (b c : Bool) → o.marked ≡ c → marks (filter p os) ≤ marks os
+        → marks (cond b (o ∷ filter p os) (filter p os)) ≤ length (cond c (o ∷ marked os) (marked os))
+    by true c e h = subst (λ z. length (cond z (o ∷ marked (filter p os)) (marked (filter p os))) ≤ length
+        (cond c (o ∷ marked os) (marked os))) (sym e) (cons_least c c o o (marked (filter p os)) (marked os) h (λ k. k))
+    by false true e h = omega (arith, h)
+    by false false e h = h
+
+dropped_fewer : (p : Observer → Bool) (o : Observer) (os : List Observer) → o.marked ≡ true → p o ≡ false → IsThere o os
+    → marks (filter p os) < marks os
+dropped_fewer p o [] m n h = absurd h
+dropped_fewer p o (y ∷ os) m n (inl e) =
+    let k = dropped_least p os in
+    let out : p y ≡ false = ap p e ∙ n in
+    let there : y.marked ≡ true = ap (λ (z : Observer). z.marked) e ∙ m in
+    let left : marks (filter p (y ∷ os)) ≡ marks (filter p os) =
+    ap (λ b. marks (cond b (y ∷ filter p os) (filter p os))) out in
+    let was : marks (y ∷ os) ≡ suc (marks os) = ap (λ b. length (cond b (y ∷ marked os) (marked os))) there in
+    omega (arith, k, left, was)
+dropped_fewer p o (y ∷ os) m n (inr h) = by (p y) y.marked refl (dropped_fewer p o os m n h)
+  where
+    by : (b c : Bool) → y.marked ≡ c → marks (filter p os) < marks os
+        → marks (cond b (y ∷ filter p os) (filter p os)) < length (cond c (y ∷ marked os) (marked os))
+    by true true e k = let f : marks (y ∷ filter p os)
+        ≡ suc (marks (filter p os)) = ap (λ z. length (cond z (y ∷ marked (filter p os)) (marked (filter p os)))) e
+        in omega (arith, k, f)
+    by true false e k = let f : marks (y ∷ filter p os)
+        ≡ marks (filter p os) = ap (λ z. length (cond z (y ∷ marked (filter p os)) (marked (filter p os)))) e in omega
+        (arith, k, f)
+    by false true e k = omega (arith, k)
+    by false false e k = k
+
+sent_least : (to : Endpoint) (token : List ℕ) (os : List Observer) → marks (sent_to to token os) ≤ marks os
+sent_least to token [] = omega arith
+sent_least to token (o ∷ os) = cons_least (o.marked && not (is_of to token o)) o.marked (unmarked_by to token o) o
+    (marked (sent_to to token os)) (marked os) (sent_least to token os) (left o.marked (not (is_of to token o)))
+  where
+    left : (b c : Bool) → (b && c) ≡ true → b ≡ true
+    left true c e = refl
+    left false c e = absurd (cc e)
+
+sent_fewer : (o : Observer) (os : List Observer) → o.marked ≡ true → IsThere o os
+    → marks (sent_to o.to o.token os) < marks os
+sent_fewer o [] m h = absurd h
+sent_fewer o (y ∷ os) m (inl e) =
+    let k = sent_least o.to o.token os in
+    let mine : is_of o.to o.token y ≡ true = (is_of-decides o.to o.token y).1
+    (ap (λ (z : Observer). z.to) e, ap (λ (z : Observer). z.token) e) in
+    let there : y.marked ≡ true = ap (λ (z : Observer). z.marked) e ∙ m in
+    let gone : (y.marked && not (is_of o.to o.token y)) ≡ false = ap (λ b. b && not (is_of o.to o.token y)) there
+    ∙ ap not mine in
+    let left : marks (sent_to o.to o.token (y ∷ os)) ≡ marks (sent_to o.to o.token os) =
+    ap (λ b. length (cond b (unmarked_by o.to o.token y ∷ marked (sent_to o.to o.token os))
+    (marked (sent_to o.to o.token os)))) gone in
+    let was : marks (y ∷ os) ≡ suc (marks os) = ap (λ b. length (cond b (y ∷ marked os) (marked os))) there in
+    omega (arith, k, left, was)
+sent_fewer o (y ∷ os) m (inr h) = by y.marked (is_of o.to o.token y) (sent_fewer o os m h)
+  where
+    by : (b c : Bool) → marks (sent_to o.to o.token os) < marks os
+        → length (cond (b && not c) (unmarked_by o.to o.token y ∷ marked (sent_to o.to o.token os))
+        (marked (sent_to o.to o.token os))) < length (cond b (y ∷ marked os) (marked os))
+    by true true k = omega (arith, k)
+    by true false k = omega (arith, k)
+    by false c k = k
+
+notified_fewer : (held : Option Held) (o : Observer) (os : List Observer) → o.marked ≡ true → IsThere o os
+    → marks (notified held o os) < marks os
+notified_fewer None o os m h =
+    let mine : is_of o.to o.token o ≡ true = (is_of-decides o.to o.token o).1 (refl, refl) in
+    dropped_fewer (λ x. not (is_of o.to o.token x)) o os m (ap not mine) h
+notified_fewer (Some held) o os m h = sent_fewer o os m h
+
+ended_least : (e : Option Ended) (os : List Observer) → marks (unless_ended e os) ≤ marks os
+ended_least None os = omega arith
+ended_least (Some x) os = by x.observe
+  where
+    by : (b : Bool) → marks (cond b (removed x.to x.token os) os) ≤ marks os
+    by true = dropped_least (λ o. not (is_of x.to x.token o)) os
+    by false = omega arith
+
+-- what is due
+
+abbrev IsTaken : Due → L.Answer → Type 0
+IsTaken due.Copied below = is_step below ≡ true
+IsTaken due.Expired below = is_step below ≡ true
+IsTaken d below = Unit {0}
+
+if_taken : (below : L.Answer) (o : Option Deferred) (room : Bool) → IsTaken (P.due_if o room) below
+if_taken below None room = tt
+if_taken below (Some d) true = tt
+if_taken below (Some d) false = tt
+
+due_taken : (below : L.Answer) (o : Option Deferred) (room : Bool) → IsTaken (P.due_of below o room) below
+due_taken (L.Copied to id) o room = refl
+due_taken (L.Expired to id) o room = refl
+due_taken L.Idle o room = if_taken L.Idle o room
+due_taken (L.Becomes u) o room = tt
+due_taken L.Nothing o room = tt
+due_taken (L.Is holds) o room = tt
+due_taken (L.Sent id) o room = tt
+due_taken L.Busied o room = tt
+due_taken L.NoIds o room = tt
+due_taken (L.Gives packet) o room = tt
+
+-- a request that is ready waits no more
+without_one : (at : ℕ) (a : answerer.Asked) (ws : List Waiting) (q : Question) → question_of at a ws ≡ Some q
+    → length (without_waiting at a ws) + 1 ≡ length ws
+without_one at a [] q h = absurd (cc h)
+without_one at a (w ∷ ws) q h = by (D.is_of at a w) h (without_one at a ws q)
+  where
+    by : (b : Bool) → cond b (Some w.question) (question_of at a ws) ≡ Some q
+        → (question_of at a ws ≡ Some q → length (without_waiting at a ws) + 1 ≡ length ws)
+        → length (cond b ws (w ∷ without_waiting at a ws)) + 1 ≡ length (w ∷ ws)
+    by true k f = omega arith
+    by false k f = let e = f k in omega (arith, e)
+
+-- the layer, where it is asked at one moment
+module _ (word at : ℕ) (rest : List Asked) (below : L.Answer) where
+  abbrev begin : S.State
+  begin = left_after (S.start word) rest
+
+  abbrev moment : ℕ
+  moment = max begin.clock at
+
+  abbrev asking : Option Deferred → Bool → List Asked
+  asking o room = (P.asking_room at o room ++ asked at L.Ticks below ∷ []) ++ rest
+
+  record Asks (o : Option Deferred) (room : Bool) : Type 0 where
+    clock : max (left_after (S.start word) (asking o room)).clock at ≡ moment
+    least : due_count moment (left_after (S.start word) (asking o room)).open_cons ≤ due_count moment begin.open_cons
+    fewer : is_step below ≡ true → due_count moment
+        (left_after (S.start word) (asking o room)).open_cons < due_count moment begin.open_cons
+
+  ticks : (new : S.State) (room : Bool) → Steps (S.start word) (asking None room) new → Asks None room
+  ticks new room h =
+      let step = last_step (S.start word) new (asked at L.Ticks below) rest h in
+      record {
+        clock = omega arith;
+        least = ticks_least begin _ at below step;
+        fewer = λ is. ticks_fewer begin _ at below step is;
+      }
+
+  asks : (new : S.State) (o : Option Deferred) (room : Bool) → Steps (S.start word) (asking o room) new → Asks o room
+  asks new None room h = ticks new room h
+  asks new (Some d) room h =
+      let k = ticks h.0 room h.1 in
+      let step = last_step (S.start word) new (asked at (L.Room d.asked.from) (L.Is room)) (asking None room) h in
+      let same = room_same _ _ at d.asked.from (L.Is room) step in
+      let first = k.least in
+      let clock = k.clock in
+      record {
+        clock = omega (arith, clock);
+        least = subst (λ cs. due_count moment cs ≤ due_count moment begin.open_cons) (sym same) first;
+        fewer = λ is. subst (λ cs. due_count moment cs < due_count moment begin.open_cons) (sym same) (k.fewer is);
+      }
+
+-- what calls of the exchanges leave of the layer
+abbrev pub behind_calls : ℕ → List E.Call → S.State
+behind_calls word calls = left_after (S.start word) (W.lower_of calls)
+
+-- rooms that are asked for
+module _ (word at : ℕ) where
+  record Rooms (before after : S.State) : Type 0 where
+    opens : after.open_cons ≡ before.open_cons
+    clock : max after.clock at ≡ max before.clock at
+
+  one_room : (to : Endpoint) (b : Bool) (calls : List E.Call) → W.ResponseLaw word (E.Ready at to b ∷ calls)
+      → Rooms (behind_calls word calls) (behind_calls word (E.Ready at to b ∷ calls))
+  one_room to b calls law =
+      let step = last_step (S.start word) law.left (asked at (L.Room to) (L.Is b)) (W.lower_of calls) law.layer in
+      record { opens = room_same _ _ at to (L.Is b) step; clock = omega arith }
+
+  more_rooms : (a b c : S.State) → Rooms a b → Rooms b c → Rooms a c
+  more_rooms a b c x y = record { opens = y.opens ∙ x.opens; clock = y.clock ∙ x.clock }
+
+  rooms : (n : ℕ) (os : List Observer) (calls : List E.Call) → W.ResponseLaw word (readies at n os ++ calls)
+      → Rooms (behind_calls word calls) (behind_calls word (readies at n os ++ calls))
+  rooms n [] calls law = record { opens = refl; clock = refl }
+  rooms zero (o ∷ os) calls law = one_room o.to true calls law
+  rooms (suc n) (o ∷ os) calls law =
+      let ready : E.Call = E.Ready at o.to false in
+      let e = joined (readies at n os) ready calls in
+      let later = subst (W.ResponseLaw word) e law in
+      let first = one_room o.to false calls (back word (readies at n os) (ready ∷ calls) later) in
+      subst (λ z. Rooms (behind_calls word calls) (behind_calls word z)) (sym e)
+      (more_rooms (behind_calls word calls) (behind_calls word (ready ∷ calls))
+      (behind_calls word (readies at n os ++ ready ∷ calls)) first (rooms n os (ready ∷ calls) later))
+
+module _ (limit szx word : ℕ) where
+  abbrev own : List Call → Own
+  own t = own_of limit szx t
+
+  abbrev layer : List Call → S.State
+  layer t = behind_calls word (lower_of limit szx t)
+
+  -- CONs with a step due at this moment; observers that are marked; and requests that wait, each for a change that can
+  -- mark every observer
+  pub size : ℕ → List Call → ℕ
+  size now t = due_count (max (layer t).clock (max (own t).clock now)) (layer t).open_cons +
+      (marks (own t).observers + (1 + max_observers) * length (own t).waiting)
+
+  pub size_is : (now : ℕ) (t : List Call) → size now t
+      ≡ due_count (max (layer t).clock (max (own t).clock now)) (layer t).open_cons +
+      (marks (own t).observers + (1 + max_observers) * length (own t).waiting)
+  unfolding size
+  size_is now t = refl
+
+  module _ (now w : ℕ) (t : List Call) (below : L.Answer) (room : Bool) where
+    abbrev at : ℕ
+    at = max (own t).clock now
+
+    abbrev under : List E.Call
+    under = lower_of limit szx t
+
+    abbrev ready : Option Deferred
+    ready = P.ready_if below (P.ready_at (W.own_of under) at)
+
+    abbrev asked_room : S.State
+    asked_room = left_after (S.start word) (asking word at (W.lower_of under) below ready room)
+
+    abbrev before : ℕ
+    before = due_count (max (layer t).clock at) (layer t).open_cons
+
+    abbrev after : S.State → ℕ
+    after s = due_count (max s.clock (max at now)) s.open_cons
+
+    taken_less : (new : S.State) → Steps (S.start word) (asking word at (W.lower_of under) below ready room) new
+        → is_step below ≡ true → after asked_room < before
+    taken_less new steps is =
+        let k = asks word at (W.lower_of under) below new ready room steps in
+        let clock = k.clock in
+        let fewer = k.fewer is in
+        let now_same : max at now ≡ at = omega arith in
+        let moved : after asked_room ≡ due_count (max (layer t).clock at) asked_room.open_cons =
+        ap (λ n. due_count (max asked_room.clock n) asked_room.open_cons) now_same
+        ∙ ap (λ n. due_count n asked_room.open_cons) clock in
+        omega (arith, moved, fewer)
+
+    -- a CON that begins now is not due
+    begun_least : (b : S.State) (calls : List Asked) (to : Endpoint) (content : L.Content) (id : ℕ) (new : S.State)
+        → b ≡ left_after (S.start word) calls → b.open_cons ≡ asked_room.open_cons
+        → max b.clock at ≡ max asked_room.clock at
+        → (mid : S.State) → Steps (S.start word) (asking word at (W.lower_of under) below ready room) mid
+        → Steps (S.start word) (asked at (L.Confirm to content w) (L.Sent id) ∷ calls) new
+        → after (left_after (S.start word) (asked at (L.Confirm to content w) (L.Sent id) ∷ calls)) ≤ before
+    begun_least b calls to content id new b_is opens clocks mid turn steps =
+        let a : S.State = left_after (S.start word) calls in
+        let last : S.State = left_after (S.start word) (asked at (L.Confirm to content w) (L.Sent id) ∷ calls) in
+        let k = asks word at (W.lower_of under) below mid ready room turn in
+        let step = last_step (S.start word) new (asked at (L.Confirm to content w) (L.Sent id)) calls steps in
+        let same = confirm_least a last at to content w (L.Sent id) step in
+        let clock = k.clock in
+        let least = k.least in
+        let a_opens : a.open_cons ≡ asked_room.open_cons = ap (λ (s : S.State). s.open_cons) (sym b_is) ∙ opens in
+        let a_clock : max a.clock at ≡ max asked_room.clock at = ap (λ (s : S.State). max s.clock at) (sym b_is)
+        ∙ clocks in
+        let later : max (max a.clock at) (max at now) ≡ max a.clock at = omega arith in
+        let moved : after last ≡ due_count (max (layer t).clock at) asked_room.open_cons =
+        ap (λ n. due_count n last.open_cons) later
+        ∙ (same ∙ (ap (λ n. due_count n a.open_cons) (a_clock ∙ clock)
+        ∙ ap (λ cs. due_count (max (layer t).clock at) cs) a_opens)) in
+        omega (arith, moved, least)
+
+    pub less : (d : Due) (passed : ℕ) (h : Handling) (id : ℕ)
+        → ServerLaw limit szx word (Ticks now w below room d passed h id true ∷ t)
+        → size now (Ticks now w below room d passed h id true ∷ t) < size now t
+    unfolding size
+    less due.Copied passed Silent id law =
+        let k = taken_less law.exchanges.left law.exchanges.layer
+        (subst (λ d. IsTaken d below) (sym law.exchanges.rows.0)
+        (due_taken below (P.ready_at (W.own_of under) at) room)) in
+        let l = ended_least (P.failed_by below (own t).exchanges.separate) (own t).observers in
+        omega (arith, k, l)
+    less due.Expired passed Silent id law =
+        let k = taken_less law.exchanges.left law.exchanges.layer
+        (subst (λ d. IsTaken d below) (sym law.exchanges.rows.0)
+        (due_taken below (P.ready_at (W.own_of under) at) room)) in
+        let l = ended_least (P.failed_by below (own t).exchanges.separate) (own t).observers in
+        omega (arith, k, l)
+    less due.Copied passed (Replies r) id law = let e = law.rows.0.0 in absurd (cc e)
+    less due.Copied passed (Serves q reply left) id law = let e = law.rows.0.0 in absurd (cc e)
+    less due.Copied passed (Waits q d) id law = let e = law.rows.0.0 in absurd (cc e)
+    less due.Copied passed (Notifies o reply) id law = let e = law.rows.0.0 in absurd (cc e)
+    less due.Expired passed (Replies r) id law = let e = law.rows.0.0 in absurd (cc e)
+    less due.Expired passed (Serves q reply left) id law = let e = law.rows.0.0 in absurd (cc e)
+    less due.Expired passed (Waits q d) id law = let e = law.rows.0.0 in absurd (cc e)
+    less due.Expired passed (Notifies o reply) id law = let e = law.rows.0.0 in absurd (cc e)
+    less due.Idle passed Silent id law = let no = law.rows.0.1 in absurd (cc no)
+    less due.Idle passed (Replies r) id law = absurd (next_replies (behind passed (marked s.observers)) law.rows.0.0)
+      where
+        s : Own
+        s = heard (own t) now (ticking (own t) now below room due.Idle)
+
+        next_replies : (o : Option Observer) → N.NotifiesNext o s.store (Replies r) → ⊥
+        next_replies None h = cc h
+        next_replies (Some x) h = cc h
+    less due.Idle passed (Waits q d) id law = absurd (next_waits (behind passed (marked s.observers)) law.rows.0.0)
+      where
+        s : Own
+        s = heard (own t) now (ticking (own t) now below room due.Idle)
+
+        next_waits : (o : Option Observer) → N.NotifiesNext o s.store (Waits q d) → ⊥
+        next_waits None h = cc h
+        next_waits (Some x) h = cc h
+    less due.Idle passed (Serves q reply left) id law =
+        let s : Own = heard (own t) now (ticking (own t) now below room due.Idle) in absurd
+        (next_serves (behind passed (marked s.observers)) s.store q reply left law.rows.0.0)
+    less due.Idle passed (Notifies o reply) id law =
+        let s : Own = heard (own t) now (ticking (own t) now below room due.Idle) in
+        let is = next_is (behind passed (marked s.observers)) s.store o reply law.rows.0.0 in
+        let there = marked_there s.observers o (behind_there passed (marked s.observers) o is) in
+        let fewer = notified_fewer (s.store.holds o.path) o s.observers there.1 there.0 in
+        let l = ended_least (P.failed_by below (own t).exchanges.separate) (own t).observers in
+        let first : E.Call = ticking (own t) now below room due.Idle in
+        let cs : List E.Call = readies at passed (marked s.observers) in
+        let calls : List E.Call = (cs ++ first ∷ []) ++ under in
+        let e = joined cs first under in
+        let rest = back word (E.Notifies at o.to o.token (notification s.store o reply) w id ∷ []) calls law.exchanges
+        in
+        let room_law = subst (W.ResponseLaw word) e rest in
+        let r = subst (λ z. Rooms word at asked_room (behind_calls word z)) (sym e)
+        (rooms word at passed (marked s.observers) (first ∷ under) room_law) in
+        let turn = back word cs (first ∷ under) room_law in
+        let k = begun_least (behind_calls word calls) (W.lower_of calls) o.to
+        (P.content_with o.token (notification s.store o reply)) id law.exchanges.left refl r.opens r.clock turn.left
+        turn.layer law.exchanges.layer in
+        omega (arith, k, l, fewer)
+    less (due.Ready a) passed (Serves q reply left) id law = by (question_of at a (own t).waiting) refl law.rows.0.0
+      where
+        c : Call
+        c = Ticks now w below room (due.Ready a) passed (Serves q reply left) id true
+
+        s : Own
+        s = heard (own t) now (ticking (own t) now below room (due.Ready a))
+
+        by : (o : Option Question) → question_of at a (own t).waiting ≡ o
+            → AnswersWaiting o (own t).store at (Serves q reply left) → size now (c ∷ t) < size now t
+        by None is h = absurd (cc h)
+        by (Some x) is h =
+            let turn = back word (E.Responds at a (R.response_to s.store s.observers a q reply) w id ∷ [])
+            (ticking (own t) now below room (due.Ready a) ∷ under) law.exchanges in
+            let k = begun_least asked_room (asking word at (W.lower_of under) below ready room) a.from
+            (P.content_of a (R.response_to s.store s.observers a q reply)) id law.exchanges.left refl refl refl
+            turn.left turn.layer law.exchanges.layer in
+            let few = (are_observers limit szx (c ∷ t)).registrations.few in
+            let most = length-filter_both (λ (o : Observer). o.marked) (λ (o : Observer). not o.marked) (λ o. refl)
+            (own (c ∷ t)).observers in
+            let one = without_one at a (own t).waiting x is in
+            omega (arith, k, few, most, one)
+    less (due.Ready a) passed Silent id law = let k =
+        (ready_are_served limit szx word (Ticks now w below room (due.Ready a) passed Silent id true ∷ t) law).0 a refl
+        in let no = k.1 in absurd (cc no)
+    less (due.Ready a) passed (Replies r) id law = let k =
+        (ready_are_served limit szx word (Ticks now w below room (due.Ready a) passed (Replies r) id true ∷ t) law).0 a
+        refl in let no = k.1 in absurd (cc no)
+    less (due.Ready a) passed (Waits q d) id law = let k =
+        (ready_are_served limit szx word (Ticks now w below room (due.Ready a) passed (Waits q d) id true ∷ t) law).0 a
+        refl in let no = k.1 in absurd (cc no)
+    less (due.Ready a) passed (Notifies o reply) id law =
+        let k = (ready_are_served limit szx word (Ticks now w below room (due.Ready a) passed
+        (Notifies o reply) id true ∷ t) law).0 a refl in let no = k.1 in absurd (cc no)
+
+  so_many : (now : ℕ) (t calls : List Call) → Each (IsTick now true) calls → ServerLaw limit szx word (calls ++ t)
+      → length calls + size now (calls ++ t) ≤ size now t
+  so_many now t [] h law = omega arith
+  so_many now t (c ∷ calls) h law =
+      let k = so_many now t calls h.1 (server_back limit szx word c (calls ++ t) law) in
+      let b = h.0 in
+      let one = less now b.0 (calls ++ t) b.1 b.2 b.3 b.4 b.5 b.6
+      (subst (λ d. ServerLaw limit szx word (d ∷ (calls ++ t))) b.7 law) in
+      let same : size now (c ∷ (calls ++ t)) ≡ size now (Ticks now b.0 b.1 b.2 b.3 b.4 b.5 b.6 true ∷ (calls ++ t)) =
+      ap (λ d. size now (d ∷ (calls ++ t))) b.7 in
+      omega (arith, k, one, same)
+
+  pub ticks_end : (t : List Call) → TicksEnd limit szx word t
+  ticks_end t now = (size now t, λ calls h law. (let k = so_many now t calls h law in omega (arith, k)))

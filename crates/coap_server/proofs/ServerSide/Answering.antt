@@ -1,4 +1,0 @@
-pub mod LayerIsLed
-pub mod AttendedAtOnce
-pub mod HandedOn
-pub mod FirstAnswered

@@ -1,6 +1,0 @@
-pub mod LayerSendsResponses
-pub mod NoneContinues
-pub mod RefusalsAreErrors
-pub mod ResponsesHaveRequests
-pub mod RepliesAtOnce
-pub mod GivenInOrder

@@ -1,2 +1,0 @@
-pub mod ServerEnding
-pub mod ServerResting

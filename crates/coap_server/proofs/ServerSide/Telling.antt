@@ -1,6 +1,0 @@
-pub mod NotedOptions
-pub mod LayerCalls
-pub mod OneConACall
-pub mod SentNow
-pub mod UnderRegistrations
-pub mod ServerTold

@@ -1,0 +1,6 @@
+pub mod LayerCalls
+pub mod NotedOptions
+pub mod OneConACall
+pub mod SentNow
+pub mod Told
+pub mod UnderRegistrations

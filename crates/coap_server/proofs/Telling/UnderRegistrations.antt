@@ -1,0 +1,196 @@
+-- What a server tells is told by the call that makes the registration, or behind it.
+use Rattle.std.proofs.Common.{◌≡◌, ◌⊎◌, inl, inr, ℕ, Bool, true, false, Option, Some, None, List, [], ◌∷◌, refl, ap}
+use Rattle.std.proofs.Common.{sym, subst, ◌∙◌, cond}
+use Rattle.coap_types.specs.Past.{Sometime}
+use Rattle.coap_types.proofs.Facts.Traces.{Sometime_map}
+use Rattle.coap_block.specs.Whole.{Each}
+use Rattle.coap_observe.specs.Observers.{Observer}
+use Rattle.coap_resource.specs.Content.{Content, Held}
+use Rattle.coap_resource.specs.Serves.{Question, Reply}
+use Rattle.coap_exchange.specs.declared.answerer.Asked.{Asked}
+use Rattle.coap_exchange.specs.declared.answerer.Due.TheVariants as due
+use Rattle.coap_exchange.specs.AnswererSteps as P
+use Rattle.coap_server.specs.Trace.{Own, Silent, Replies, Serves, Waits, Notifies, Call, Sets, Removes}
+use Rattle.coap_server.specs.Trace.{Delays, Feeds, Ticks, NextOut}
+use Rattle.coap_server.specs.Trace.{Gets, TellsApplied}
+use Rattle.coap_server.specs.Observers.{registers}
+use Rattle.coap_server.specs.Notifying.{marked, behind}
+use Rattle.coap_server.specs.Handling.{incoming, ticking, heard}
+use Rattle.coap_server.specs.Law.{ServerLaw, own_of}
+use Rattle.coap_server.specs.Follows.Observes.{MadeWith, WasMade}
+use Rattle.coap_server.specs.Follows.Serves.{serving, serving_of}
+use Rattle.coap_server.specs.Follows.Tells.{Pair, registers_by, registering, Telling, tells, tells_if}
+use Rattle.coap_server.specs.Follows.Tells.{answer_tells}
+use Rattle.coap_server.proofs.Observing.ObserversWereMade.{good_ended, good}
+use Rattle.coap_server.proofs.Observing.VersionsRise.{IsThere, behind_there, marked_there, next_is}
+use Rattle.coap_server.proofs.Serving.Brought.{server_back}
+use Rattle.coap_server.specs.Follows.Told.{ServesPair, AllServePairs, pair_of, IsUnder, AreUnder}
+
+each_there : (Q : Observer → Type 0) (os : List Observer) (o : Observer) → Each Q os → IsThere o os → Q o
+each_there Q [] o h k = absurd k
+each_there Q (y ∷ os) o h (inl e) = subst Q e h.0
+each_there Q (y ∷ os) o h (inr k) = each_there Q os o h.1 k
+
+module _ (limit szx word : ℕ) (t : List Call) where
+  abbrev own : Own
+  own = own_of limit szx t
+
+  abbrev Under : Call → Telling → Type 0
+  Under c z = ((z.registers ≡ true) × ServesPair limit szx (pair_of limit szx z) t c)
+      ⊎ ((z.registers ≡ false) × Sometime (ServesPair limit szx (pair_of limit szx z)) t)
+
+  -- the answer that registers
+  answered : (c : Call) (s : Own) (a : Asked) (q : Question) (reply : Reply) (left : Content) (con : Option ℕ)
+      → registering own c ≡ registers_by s a q reply → serving own c ≡ Some (serving_of s a q reply left)
+      → (x : Telling) → answer_tells s a q reply con ≡ Some x → Under c x
+  answered c s a q reply left con is here x h = by (registers a q reply s.observers) (s.store.holds q.path) refl refl h
+    where
+      by : (b : Bool) (o : Option Held) → registers a q reply s.observers ≡ b → s.store.holds q.path ≡ o
+          → tells_if b s a q con ≡ Some x → Under c x
+      by false o so e k = absurd (cc k)
+      by true None so e k = let z = ap (tells a.from a.token q.path con true) (sym e) ∙ k in absurd (cc z)
+      by true (Some held) so e k =
+          let y : Telling = record {
+            to = a.from;
+            token = a.token;
+            path = q.path;
+            version = held.version;
+            con = con;
+            registers = true;
+          } in
+          let z : Some y ≡ Some x = ap (tells a.from a.token q.path con true) (sym e) ∙ k in
+          let same : y ≡ x = cc z in
+          subst (Under c) same (inl (
+            refl,
+            record {
+              registers = is ∙ ap (λ b. cond {A = Option Pair} b (Some (record { to = a.from; token = a.token })) None)
+                  so;
+              request = serving_of s a q reply left;
+              here = here;
+              from = refl;
+              token_is = refl;
+            },
+          ))
+
+  made_so : (o : Observer) (past : List Call) (b : Call) → MadeWith limit szx o.to o.token o.path o.szx past b
+      → ServesPair limit szx (record { to = o.to; token = o.token }) past b
+  made_so o past b k = let m = k.made in record
+      { registers = m.registers; request = m.request; here = m.here; from = m.from; token_is = m.token_is }
+
+  -- a notification
+  notified : (c : Call) (o : Observer) (id : ℕ) (held : Option Held) → WasMade limit szx t o → (x : Telling)
+      → tells o.to o.token o.path (Some id) false held ≡ Some x → Under c x
+  notified c o id None made x k = absurd (cc k)
+  notified c o id (Some held) made x k =
+      let y : Telling = record {
+        to = o.to;
+        token = o.token;
+        path = o.path;
+        version = held.version;
+        con = Some id;
+        registers = false;
+      } in
+      let same : y ≡ x = cc k in
+      subst (Under c) same (inr (
+        refl,
+        Sometime_map (MadeWith limit szx o.to o.token o.path o.szx)
+            (ServesPair limit szx (record { to = o.to; token = o.token })) (made_so o) t made,
+      ))
+
+  told_under : (c : Call) → ServerLaw limit szx word (c ∷ t) → IsUnder limit szx t c
+  told_under (Feeds now from bytes w up (Some p) (Serves q reply left) below) law x h =
+      answered (Feeds now from bytes w up (Some p) (Serves q reply left) below)
+      (heard own now (incoming own now from bytes up (Some p))) p.0 q reply left None refl refl x h
+  told_under (Ticks now w below room (due.Ready a) passed (Serves q reply left) id answer) law x h =
+      answered (Ticks now w below room (due.Ready a) passed (Serves q reply left) id answer)
+      (heard own now (ticking own now below room (due.Ready a))) a q reply left (Some id) refl refl x h
+  told_under (Ticks now w below room due.Idle passed (Notifies o reply) id answer) law x h =
+      let s : Own = heard own now (ticking own now below room due.Idle) in
+      let is = next_is (behind passed (marked s.observers)) s.store o reply law.rows.0.0 in
+      let there = (marked_there s.observers o (behind_there passed (marked s.observers) o is)).0 in
+      let g = good_ended limit szx t (P.after own.exchanges (ticking own now below room due.Idle)).ended own.observers
+      (good limit szx t) in
+      notified (Ticks now w below room due.Idle passed (Notifies o reply) id answer) o id (s.store.holds o.path)
+      (each_there (WasMade limit szx t) s.observers o g.made there) x h
+  told_under (Feeds now from bytes w up None h below) law x e = absurd (cc e)
+  told_under (Feeds now from bytes w up (Some p) Silent below) law x e = absurd (cc e)
+  told_under (Feeds now from bytes w up (Some p) (Replies r) below) law x e = absurd (cc e)
+  told_under (Feeds now from bytes w up (Some p) (Waits q d) below) law x e = absurd (cc e)
+  told_under (Feeds now from bytes w up (Some p) (Notifies o reply) below) law x e = absurd (cc e)
+  told_under (Ticks now w below room due.Copied passed h id answer) law x e = absurd (cc e)
+  told_under (Ticks now w below room due.Expired passed h id answer) law x e = absurd (cc e)
+  told_under (Ticks now w below room due.Idle passed Silent id answer) law x e = absurd (cc e)
+  told_under (Ticks now w below room due.Idle passed (Replies r) id answer) law x e = absurd (cc e)
+  told_under (Ticks now w below room due.Idle passed (Serves q reply left) id answer) law x e = absurd (cc e)
+  told_under (Ticks now w below room due.Idle passed (Waits q d) id answer) law x e = absurd (cc e)
+  told_under (Ticks now w below room (due.Ready a) passed Silent id answer) law x e = absurd (cc e)
+  told_under (Ticks now w below room (due.Ready a) passed (Replies r) id answer) law x e = absurd (cc e)
+  told_under (Ticks now w below room (due.Ready a) passed (Waits q d) id answer) law x e = absurd (cc e)
+  told_under (Ticks now w below room (due.Ready a) passed (Notifies o reply) id answer) law x e = absurd (cc e)
+  told_under (Sets now path format body answer left) law x e = absurd (cc e)
+  told_under (Removes now path answer left) law x e = absurd (cc e)
+  told_under (Delays path ms answer) law x e = absurd (cc e)
+  told_under (NextOut answer) law x e = absurd (cc e)
+  told_under (Gets path answer) law x e = absurd (cc e)
+  told_under (TellsApplied answer) law x e = absurd (cc e)
+
+module _ (limit szx : ℕ) (t : List Call) where
+  abbrev at_hand : Own
+  at_hand = own_of limit szx t
+
+  -- a request that is served and registers
+  registered : (c : Call) (s : Own) (a : Asked) (q : Question) (reply : Reply) (left : Content)
+      → registering at_hand c ≡ registers_by s a q reply → serving at_hand c ≡ Some (serving_of s a q reply left)
+      → (p : Pair) → registers_by s a q reply ≡ Some p → ServesPair limit szx p t c
+  registered c s a q reply left is here p h = by (registers a q reply s.observers) h
+    where
+      by : (b : Bool) → cond {A = Option Pair} b (Some (record { to = a.from; token = a.token })) None ≡ Some p
+          → ServesPair limit szx p t c
+      by false k = absurd (cc k)
+      by true k =
+          let y : Pair = record { to = a.from; token = a.token } in
+          let same : y ≡ p = cc k in
+          record {
+            registers = is ∙ h;
+            request = serving_of s a q reply left;
+            here = here;
+            from = ap (λ (z : Pair). z.to) same;
+            token_is = ap (λ (z : Pair). z.token) same;
+          }
+
+  serves_pair : (c : Call) (p : Pair) → registering at_hand c ≡ Some p → ServesPair limit szx p t c
+  serves_pair (Feeds now from bytes w up (Some m) (Serves q reply left) below) p h =
+      registered (Feeds now from bytes w up (Some m) (Serves q reply left) below)
+      (heard at_hand now (incoming at_hand now from bytes up (Some m))) m.0 q reply left refl refl p h
+  serves_pair (Ticks now w below room (due.Ready a) passed (Serves q reply left) id answer) p h =
+      registered (Ticks now w below room (due.Ready a) passed (Serves q reply left) id answer)
+      (heard at_hand now (ticking at_hand now below room (due.Ready a))) a q reply left refl refl p h
+  serves_pair (Feeds now from bytes w up None h below) p e = absurd (cc e)
+  serves_pair (Feeds now from bytes w up (Some m) Silent below) p e = absurd (cc e)
+  serves_pair (Feeds now from bytes w up (Some m) (Replies r) below) p e = absurd (cc e)
+  serves_pair (Feeds now from bytes w up (Some m) (Waits q d) below) p e = absurd (cc e)
+  serves_pair (Feeds now from bytes w up (Some m) (Notifies o reply) below) p e = absurd (cc e)
+  serves_pair (Ticks now w below room due.Copied passed h id answer) p e = absurd (cc e)
+  serves_pair (Ticks now w below room due.Expired passed h id answer) p e = absurd (cc e)
+  serves_pair (Ticks now w below room due.Idle passed h id answer) p e = absurd (cc e)
+  serves_pair (Ticks now w below room (due.Ready a) passed Silent id answer) p e = absurd (cc e)
+  serves_pair (Ticks now w below room (due.Ready a) passed (Replies r) id answer) p e = absurd (cc e)
+  serves_pair (Ticks now w below room (due.Ready a) passed (Waits q d) id answer) p e = absurd (cc e)
+  serves_pair (Ticks now w below room (due.Ready a) passed (Notifies o reply) id answer) p e = absurd (cc e)
+  serves_pair (Sets now path format body answer left) p e = absurd (cc e)
+  serves_pair (Removes now path answer left) p e = absurd (cc e)
+  serves_pair (Delays path ms answer) p e = absurd (cc e)
+  serves_pair (NextOut answer) p e = absurd (cc e)
+  serves_pair (Gets path answer) p e = absurd (cc e)
+  serves_pair (TellsApplied answer) p e = absurd (cc e)
+
+pub all_serve_pairs : (limit szx : ℕ) (t : List Call) → AllServePairs limit szx t
+all_serve_pairs limit szx [] = tt
+all_serve_pairs limit szx (c ∷ t) = (serves_pair limit szx t c, all_serve_pairs limit szx t)
+
+pub are_under : (limit szx word : ℕ) (t : List Call) → ServerLaw limit szx word t → AreUnder limit szx t
+are_under limit szx word [] law = tt
+are_under limit szx word (c ∷ t) law = (
+  told_under limit szx word t c law,
+  are_under limit szx word t (server_back limit szx word c t law),
+)

@@ -1,0 +1,3 @@
+pub mod Observation
+pub mod ObserverTold
+pub mod Upload

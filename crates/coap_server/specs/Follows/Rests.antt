@@ -1,0 +1,30 @@
+-- At one moment the ticks of a server end (RFC 7252, sections 4.2 and 5.2.2; RFC 7641, section 4.5).
+use Rattle.std.specs.Prelude.{◌≡◌, ◌≤◌, ℕ, Bool, true, List, ◌++◌, length}
+use Rattle.coap_layer.specs.Trace as L
+use Rattle.coap_block.specs.Whole.{Each}
+use Rattle.coap_exchange.specs.declared.answerer.Due.{Due}
+use Rattle.coap_common.specs.Endings.{UpToIdle, all_taken}
+use Rattle.coap_server.specs.Trace.{Handling, Call, Ticks, NextOut}
+use Rattle.coap_server.specs.Law.{ServerLaw}
+
+abbrev pub IsTick : ℕ → Bool → Call → Type 0
+IsTick now answer c =
+    (w : ℕ) × (below : L.Answer) × (room : Bool) × (due : Due) × (passed : ℕ) × (handling : Handling) × (id : ℕ)
+    × (c ≡ Ticks now w below room due passed handling id answer)
+
+-- so many ticks at most do something
+abbrev pub TicksEnd : ℕ → ℕ → ℕ → List Call → Type 0
+TicksEnd limit szx word t =
+    (now : ℕ) → (most : ℕ) × ((calls : List Call) → Each (IsTick now true) calls → ServerLaw limit szx word (calls ++ t)
+    → length calls ≤ most)
+
+-- .. and each with the same word; up to the first that does nothing there is such a row, and what is taken ends too
+abbrev pub IsTickWith : ℕ → ℕ → Bool → Call → Type 0
+IsTickWith now w answer c =
+    (below : L.Answer) × (room : Bool) × (due : Due) × (passed : ℕ) × (handling : Handling) × (id : ℕ)
+    × (c ≡ Ticks now w below room due passed handling id answer)
+
+pub record ComesToRest (limit szx word : ℕ) (t : List Call) : Type 0 where
+  pub ticks : (now w : ℕ) → (calls : List Call) × UpToIdle (IsTickWith now w) calls
+      × ServerLaw limit szx word (calls ++ t)
+  pub outs : (packets : List L.Packet) × ServerLaw limit szx word (all_taken NextOut packets ++ t)

@@ -1,0 +1,31 @@
+-- The state of a server as an object, one call of it, and which calls can leave it so (RFC 7252, section 5).
+use Rattle.std.specs.Prelude.{◌≡◌, ℕ, List}
+use Rattle.coap_layer.specs.Machine.State as L
+use Rattle.coap_exchange.specs.AnswererLaw as X
+use Rattle.coap_server.specs.Trace.{Own, start, Call}
+use Rattle.coap_server.specs.Asks.{lower}
+use Rattle.coap_server.specs.Steps.{IsRight, after}
+use Rattle.coap_server.specs.Law.{own_of, lower_of, ServerRows}
+
+-- what the server itself keeps, that of its exchanges included, and its message layer
+pub record State : Type 0 where
+  pub own : Own
+  pub layer : L.State
+
+abbrev pub exchanges_of : State → X.State
+exchanges_of s = record { own = s.own.exchanges; layer = s.layer }
+
+abbrev pub fresh_state : ℕ → ℕ → ℕ → State
+fresh_state limit szx word = record { own = start limit szx; layer = L.start word }
+
+-- one call
+pub record Step (old : State) (c : Call) (new : State) : Type 0 where
+  pub right : IsRight old.own c
+  pub own_is : new.own ≡ after old.own c
+  pub under : X.Exchanged (exchanges_of old) (lower old.own c) (exchanges_of new)
+
+-- these calls can leave it so
+pub record Led (limit szx word : ℕ) (trace : List Call) (s : State) : Type 0 where
+  pub rows : ServerRows limit szx trace
+  pub own_is : s.own ≡ own_of limit szx trace
+  pub exchanges : X.Led word (lower_of limit szx trace) (exchanges_of s)

@@ -1,4 +1,0 @@
-pub mod DelaysShown
-pub mod ServerTurned
-pub mod ServerWork
-pub mod ServerIdle

@@ -1,0 +1,4 @@
+pub mod DelaysShown
+pub mod Idle
+pub mod Turned
+pub mod Work
