@@ -4,15 +4,15 @@
 mod client;
 mod follows;
 mod laws;
-mod rests;
-mod values;
 mod limits;
 mod refusals;
+mod rests;
+mod values;
 
 pub use client::{CallId, Client, Fetched, Report};
 pub use follows::client_follows_law;
 pub use laws::{client_law, client_witness};
-pub use rests::client_rests_law;
-pub use values::client_values_law;
 pub use limits::{MAX_OBSERVATIONS, MAX_OPTIONS_LEN, MAX_WAITING_CALLS};
 pub use refusals::{CallRefusal, CancelRefusal};
+pub use rests::client_rests_law;
+pub use values::client_values_law;

@@ -156,7 +156,7 @@ pub fn take_rest<A: Allocator + Copy>(
 }
 
 /// The path of the observation of that number, none where there is none.
-#[tactic(auto, using(crate::proofs::ClientCalls::AskableRequests::empty_short))]
+#[tactic(auto, using(crate::proofs::Calls::AskableRequests::empty_short))]
 pub fn segments_of<A: Allocator + Copy>(
     operations: &ClientOperations<A>,
     number: u64,

@@ -21,7 +21,7 @@ fn value_in<'a>(number: u16, m: &View<'a>) -> Option<&'a [u8]>
 }
 
 /// The entity-tag of the representation.
-#[tactic(auto, using(crate::proofs::ClientCalls::ResponseLemmas::etag_few))]
+#[tactic(auto, using(crate::proofs::Calls::ResponseLemmas::etag_few))]
 pub fn tag_in(m: &View<'_>) -> Option<Tag>
     ensures { result ≡ tag_in m.now }
 {
@@ -36,7 +36,7 @@ pub fn format_in(m: &View<'_>) -> Option<u16>
 }
 
 /// The sequence number of a notification, which is a 2.05 with Observe.
-#[tactic(auto, using(crate::proofs::ClientCalls::ResponseLemmas::observe_few))]
+#[tactic(auto, using(crate::proofs::Calls::ResponseLemmas::observe_few))]
 pub fn notified(m: &View<'_>) -> Option<u32>
     ensures { result ≡ (if is_notification m.now then Some (sequence_in m.now) else None) }
 {

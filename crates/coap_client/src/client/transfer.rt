@@ -56,7 +56,7 @@ pub fn payload_of<A: Allocator + Copy>(transfer: &Transfer<A>) -> &[u8]
 }
 
 // The bytes of the block to send.
-#[tactic(auto, using(crate::proofs::ClientCalls::AskableRequests::piece_short))]
+#[tactic(auto, using(crate::proofs::Calls::AskableRequests::piece_short))]
 fn part_to_send<A: Allocator + Copy>(upload: &Upload<A>) -> &[u8]
     ensures part { result.now ≡ part_of upload.now.state.body upload.now.state.num upload.now.state.szx }
     ensures few { length result.now ≤ size_of max_szx }
