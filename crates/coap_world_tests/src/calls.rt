@@ -1,4 +1,4 @@
-//! Calls, observations, local changes and strangers, with all that the record tells of them.
+//! Calls, local changes and strangers, with all that the record tells of them.
 
 pub(crate) const RUNS: &str = "
 == a_resource_is_read
@@ -18,7 +18,7 @@ pub(crate) const RUNS: &str = "
 0 set /log 0 x
 > puts 1
 > changes /log 1 0 78
-0 call post /log a
+0 call post /log = a
 > takes 0
 0 tick client
 > out 0 0 C S 4802_0000_0000000000000000_b36c6f67_ff61
@@ -33,6 +33,7 @@ pub(crate) const RUNS: &str = "
 7 deliver 2
 
 == a_post_that_a_stranger_repeats
+# It comes four times in EXCHANGE_LIFETIME and is applied once, and 1 ms later anew (RFC 7252, section 4.5).
 0 set /log 0 x
 > puts 1
 > changes /log 1 0 78
@@ -46,14 +47,13 @@ pub(crate) const RUNS: &str = "
 > out 2 147000 S 9 61440a0101
 247000 stranger server 9 41020a0101b36c6f67ff61
 > out 3 247000 S 9 61440a0101
-# It is remembered no longer.
 247001 stranger server 9 41020a0101b36c6f67ff61
 > applies - 9 01 post /log 3
 > changes /log 3 0 786161
 > out 4 247001 S 9 61440a0101
 
 == a_resource_is_put_and_deleted_twice
-0 call put /t a
+0 call put /t = a
 > takes 0
 0 tick client
 > out 0 0 C S 4803_0000_0000000000000000_b174_ff61
@@ -85,13 +85,112 @@ pub(crate) const RUNS: &str = "
 > reports 2 done 2.02
 
 == the_token_of_a_call_from_elsewhere
+# A stranger's DELETE, under the token of a call, is applied, and not for that call (RFC 7252, section 5.8.4).
+0 set /t 0 hi
+> puts 1
+> changes /t 1 0 6869
 0 call delete /t
 > takes 0
 0 tick client
 > out 0 0 C S 4804_0000_0000000000000000_b174
 0 stranger server 9 480400010000000000000000b174
-> applies - 9 0000000000000000 delete /t 0
+> applies - 9 0000000000000000 delete /t 2
+> changes /t 2 gone
 > out 1 0 S 9 6842_0001_0000000000000000
+
+== a_stranger_pings_each_end
+# Each answers with a Reset (RFC 7252, section 4.3).
+0 stranger server 9 40000001
+> out 0 0 S 9 70000001
+1 stranger client 9 40000001
+> out 1 1 C 9 70000001
+
+== a_put_whose_if_match_fails
+# It is refused with 4.12, and changes nothing (RFC 7252, section 5.10.8.1).
+0 set /t 0 hi
+> puts 1
+> changes /t 1 0 6869
+0 call put /t format=50 if-match=0000000000000002 = a
+> takes 0
+0 tick client
+> out 0 0 C S 4803_0000_0000000000000000_180000000000000002_a174_1132_ff61
+5 deliver 0
+> out 1 5 S C 688c_0000_0000000000000000
+9 deliver 1
+> reports 0 failed 4.12
+
+== a_put_whose_if_match_holds_and_a_delete
+# Both succeed, by a 2.04 and a 2.02 (RFC 7252, sections 5.8.3, 5.8.4 and 5.10.8.1).
+0 set /t 0 hi
+> puts 1
+> changes /t 1 0 6869
+0 call put /t format=50 if-match=0000000000000001 = a
+> takes 0
+0 tick client
+> out 0 0 C S 4803_0000_0000000000000000_180000000000000001_a174_1132_ff61
+1 deliver 0
+> applies 0 C 0000000000000000 put /t 2
+> changes /t 2 50 61
+> out 1 1 S C 6844_0000_0000000000000000
+2 deliver 1
+> reports 0 done 2.04
+3 call delete /t
+> takes 1
+3 tick client
+> out 2 3 C S 4804_0001_0000000000000001_b174
+4 deliver 2
+> applies 1 C 0000000000000001 delete /t 3
+> changes /t 3 gone
+> out 3 4 S C 6842_0001_0000000000000001
+5 deliver 3
+> reports 1 done 2.02
+
+== a_get_of_what_is_valid_and_a_post
+# What the client has is valid still, by a 2.03; then the body of its POST is joined to that, by a 2.04 (RFC 7252,
+# sections 5.8.2, 5.9.1.3 and 5.10.6.2).
+0 set /t 0 hi
+> puts 1
+> changes /t 1 0 6869
+0 call get /t etag=0000000000000001
+> takes 0
+0 tick client
+> out 0 0 C S 4801_0000_0000000000000000_480000000000000001_7174
+1 deliver 0
+> out 1 1 S C 6843_0000_0000000000000000_480000000000000001
+2 deliver 1
+> reports 0 valid 0000000000000001
+3 call post /t = a
+> takes 1
+3 tick client
+> out 2 3 C S 4802_0001_0000000000000001_b174_ff61
+4 deliver 2
+> applies 1 C 0000000000000001 post /t 2
+> changes /t 2 0 686961
+> out 3 4 S C 6844_0001_0000000000000001
+5 deliver 3
+> reports 1 done 2.04
+
+== a_get_waits_behind_a_put
+# It is called at the same moment, waits until the PUT is answered, and gets what that put (RFC 7252, sections 4.7,
+# 5.8.1 and 5.8.3).
+0 call put /t format=50 = hi
+> takes 0
+0 call get /t
+> takes 1
+0 tick client
+> out 0 0 C S 4803_0000_0000000000000000_b174_1132_ff6869
+1 deliver 0
+> applies 0 C 0000000000000000 put /t 1
+> changes /t 1 50 6869
+> out 1 1 S C 6841_0000_0000000000000000
+2 deliver 1
+> reports 0 done 2.01
+2 tick client
+> out 2 2 C S 4801_0001_0000000000000001_b174
+3 deliver 2
+> out 3 3 S C 6845_0001_0000000000000001_480000000000000001_8132_ff6869
+4 deliver 3
+> reports 1 body 0000000000000001 50 6869
 
 == the_server_changes_what_it_holds
 0 remove /t
@@ -136,7 +235,7 @@ delay /t 2000
 0 set /t 0 a
 > puts 1
 > changes /t 1 0 61
-0 call post /t b
+0 call post /t = b
 > takes 0
 0 tick client
 > out 0 0 C S 4802_0000_0000000000000000_b174_ff62
@@ -150,63 +249,6 @@ delay /t 2000
 2001 deliver 2
 > out 3 2001 C S 60000000
 > reports 0 done 2.04
-
-== a_resource_is_observed
-0 set /t 0 a
-> puts 1
-> changes /t 1 0 61
-0 observe /t
-> takes 0
-0 tick client
-> out 0 0 C S 4801_0000_0000000000000000_60_5174
-1 deliver 0
-> out 1 1 S C 6845_0000_0000000000000000_480000000000000001_2101_60_ff61
-2 deliver 1
-> reports 0 value 1 0000000000000001 0 61
-3 set /t 0 b
-> puts 2
-> changes /t 2 0 62
-3 tick server
-> out 2 3 S C 4845_0000_0000000000000000_480000000000000002_2102_60_ff62
-4 deliver 2
-> out 3 4 C S 60000000
-> reports 0 value 2 0000000000000002 0 62
-5 deliver 3
-
-== an_observation_is_cancelled_and_another_forgotten
-0 cancel 0
-> refused 1
-0 forget 0
-> forgets false
-0 set /t 0 a
-> puts 1
-> changes /t 1 0 61
-0 observe /t
-> takes 0
-0 tick client
-> out 0 0 C S 4801_0000_0000000000000000_60_5174
-1 deliver 0
-> out 1 1 S C 6845_0000_0000000000000000_480000000000000001_2101_60_ff61
-2 deliver 1
-> reports 0 value 1 0000000000000001 0 61
-3 cancel 0
-> cancels
-3 tick client
-> out 2 3 C S 4801_0001_0000000000000000_6101_5174
-4 deliver 2
-> out 3 4 S C 6845_0001_0000000000000000_480000000000000001_80_ff61
-5 deliver 3
-> reports 0 cancelled
-6 observe /t
-> takes 1
-6 tick client
-> out 4 6 C S 4801_0002_0000000000000001_60_5174
-7 deliver 4
-> out 5 7 S C 6845_0002_0000000000000001_480000000000000001_2101_60_ff61
-8 deliver 5
-> reports 1 value 1 0000000000000001 0 61
-9 forget 1
-> forgets true
 
 == a_tick_of_two_steps
 0 call get /t

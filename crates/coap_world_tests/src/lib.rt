@@ -2,11 +2,15 @@
 #![tactic(auto)]
 
 #[cfg(test)]
+mod blocks;
+#[cfg(test)]
 mod calls;
 #[cfg(test)]
 mod configs;
 #[cfg(test)]
 mod legality;
+#[cfg(test)]
+mod observations;
 #[cfg(test)]
 mod refused_growths;
 #[cfg(test)]

@@ -1,7 +1,7 @@
 //! Each growth of a run refused in turn. Where an end meets that, its input is lost, and the rest of
 //! the run is as if it had been; else there is no record.
 use crate::script::{config_of, events_of, find, run_text, told, wanted};
-use crate::{calls, uploads};
+use crate::{calls, observations, uploads};
 use coap_resource::{ListStore, MapStore};
 use failing::Failing;
 use std::alloc::{Allocator, Global};
@@ -23,6 +23,23 @@ const KEPT: &str = "a_tick_of_two_steps
 > memory
 ";
 
+// A GET comes where the server meets want of memory, comes again, and is answered (RFC 7252, section 5.2.1).
+const AGAIN: &str = "a_get_that_comes_again
+0 set /t 0 hi
+> puts 1
+> changes /t 1 0 6869
+0 call get /t
+> takes 0
+0 tick client
+> out 0 0 C S 4801_0000_0000000000000000_b174
+5 deliver 0
+> memory
+5 deliver 0
+> out 1 5 S C 6845_0000_0000000000000000_480000000000000001_80_ff6869
+9 deliver 1
+> reports 0 body 0000000000000001 0 6869
+";
+
 #[test]
 fn each_growth_is_refused(rt: HostRuntime) -> Result<(), Fail> {
     let alloc = rt.alloc();
@@ -30,10 +47,14 @@ fn each_growth_is_refused(rt: HostRuntime) -> Result<(), Fail> {
         "a_resource_is_read",
         "a_post_that_comes_twice",
         "a_post_is_applied_when_it_is_due",
-        "a_resource_is_observed",
     ] {
         refuse_each(alloc, find(calls::RUNS, name)?, "")?;
     }
+    refuse_each(
+        alloc,
+        find(observations::RUNS, "a_resource_is_observed")?,
+        "",
+    )?;
     refuse_each(
         alloc,
         find(
@@ -42,6 +63,7 @@ fn each_growth_is_refused(rt: HostRuntime) -> Result<(), Fail> {
         )?,
         "",
     )?;
+    refuse_each(alloc, AGAIN, AGAIN)?;
     refuse_each(alloc, find(calls::RUNS, "a_tick_of_two_steps")?, KEPT)
 }
 

@@ -10,8 +10,9 @@
 //! | `with word=0 client-szx=6 server-szx=6 changes=4194303` | both ends begin with this word, which each event has,
 //! too; their block sizes; how many changes a window takes |
 //! | `delay /t 1000` | the requests of the path wait for so many milliseconds |
-//! | `0 call put /t hi` · `0 observe /t` · `0 cancel 0` · `0 forget 0` | at this moment: a request whose only option is
-//! its path, an observation, its end |
+//! | `0 call put /t format=0 if-match=01 if-none-match etag=01 accept=0 = hi` | at this moment: a request with these
+//! options and this body, each if there is any |
+//! | `0 observe /t` · `0 cancel 0` · `0 forget 0` | an observation, its end |
 //! | `0 set /t 0 hi` · `0 remove /t` | the server's own side sets the path to a text of this format (`-` for none) ·
 //! removes what it holds |
 //! | `0 tick client` · `0 deliver 0` | the ticks of an end · a datagram comes |

@@ -1,6 +1,6 @@
 //! The same runs over each store.
 use crate::script::{config_of, events_of, run_text, told, wanted};
-use crate::{calls, legality, uploads};
+use crate::{blocks, calls, legality, observations, uploads};
 use coap_resource::{ListStore, MapStore};
 use coap_world::run;
 use std::alloc::Global;
@@ -39,11 +39,38 @@ with changes=2
 256000 remove /t
 > removes true
 > changes /t 3 gone
+
+== a_window_of_four_changes
+# A local change, a stranger's Non-confirmable DELETE, another local change and a removal are all that it takes (RFC
+# 7252, sections 4.3 and 5.8.4; RFC 7641, section 4.4).
+with changes=4
+0 set /t 0 a
+> puts 1
+> changes /t 1 0 61
+1 stranger server 9 51040a0101b174
+> applies - 9 01 delete /t 2
+> changes /t 2 gone
+> out 0 1 S 9 5142_0000_01
+2 set /log 0 x
+> puts 3
+> changes /log 3 0 78
+3 remove /log
+> removes true
+> changes /log 4 gone
+4 set /t 0 b
+> refused 4
 ";
 
 #[test]
 fn what_is_told(rt: HostRuntime) -> Result<(), Fail> {
-    for theme in [RUNS, calls::RUNS, uploads::RUNS, legality::RUNS] {
+    for theme in [
+        RUNS,
+        calls::RUNS,
+        observations::RUNS,
+        blocks::RUNS,
+        uploads::RUNS,
+        legality::RUNS,
+    ] {
         for text in theme.split("\n== ").skip(1) {
             check_run(&rt, rt.alloc(), text)?;
         }

@@ -2,8 +2,10 @@
 
 pub(crate) const RUNS: &str = "
 == a_late_block_of_one_upload_before_the_next
+# The next upload is held back until no block of the failed one can come, and is applied alone (RFC 7252, section
+# 4.8.2).
 with word=1000 client-szx=3 server-szx=3
-0 call put /t {a*300}
+0 call put /t = {a*300}
 > takes 0
 0 tick client
 > out 0 0 C S 4803_8000_00000000000003e8_b174_d1030b_ff{61*128}
@@ -22,7 +24,7 @@ with word=1000 client-szx=3 server-szx=3
 92999 tick client
 93000 tick client
 > reports 0 timeout
-93000 call put /t {b*300}
+93000 call put /t = {b*300}
 > takes 1
 93000 tick client
 145000 tick client
@@ -48,8 +50,10 @@ with word=1000 client-szx=3 server-szx=3
 > reports 1 done 2.01
 
 == a_late_block_behind_a_request_in_one_message
+# It completes an upload after its Timeout, behind a PUT that is not held back (RFC 7252, section 4.8.2; RFC 7959,
+# section 2.5).
 with word=1000 client-szx=3 server-szx=3
-0 call put /t {a*200}
+0 call put /t = {a*200}
 > takes 0
 0 tick client
 > out 0 0 C S 4803_8000_00000000000003e8_b174_d1030b_ff{61*128}
@@ -67,7 +71,7 @@ with word=1000 client-szx=3 server-szx=3
 > out 6 45000 C S 4803_8001_00000000000003e9_b174_d10313_ff{61*72}
 93000 tick client
 > reports 0 timeout
-93000 call put /t {b*10}
+93000 call put /t = {b*10}
 > takes 1
 93000 tick client
 > out 7 93000 C S 4803_8002_00000000000003ea_b174_ff{62*10}
@@ -85,7 +89,7 @@ with word=1000 client-szx=3 server-szx=3
 
 == blocks_of_the_size_that_the_server_takes
 with client-szx=3 server-szx=1
-0 call put /t {a*200}
+0 call put /t = {a*200}
 > takes 0
 0 tick client
 > out 0 0 C S 4803_0000_0000000000000000_b174_d1030b_ff{61*128}

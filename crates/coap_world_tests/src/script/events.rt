@@ -1,6 +1,6 @@
 //! With what a run begins, and its events.
 use super::is_event;
-use super::words::{cut, endpoint_of, format_of, method_of, path_of, spelt, szx_of};
+use super::words::{cut, endpoint_of, format_of, method_of, path_of, push_tag, spelt, szx_of};
 use bytes::Bytes;
 use coap_ends::CallId;
 use coap_resource::MAX_CHANGES_PER_WINDOW;
@@ -118,9 +118,10 @@ fn request_of<A: Allocator + Copy>(
     memory: A,
     words: &str,
 ) -> Result<Request<A>, Fail> {
+    let (words, body) = cut(words, " = ");
     let (method, words) = cut(words, " ");
-    let (path, body) = cut(words, " ");
-    Ok(Request {
+    let (path, options) = cut(words, " ");
+    let mut request = Request {
         method: method_of(method)?,
         path: path_of(memory, path)?,
         format: None,
@@ -129,7 +130,29 @@ fn request_of<A: Allocator + Copy>(
         if_match: Tags::new(),
         if_none_match: false,
         accept: None,
-    })
+    };
+    for option in options.split(' ') {
+        put_option(alloc, &mut request, option)?;
+    }
+    Ok(request)
+}
+
+fn put_option<A: Allocator + Copy>(
+    alloc: Global,
+    request: &mut Request<A>,
+    option: &str,
+) -> Result<(), Fail> {
+    let (name, value) = cut(option, "=");
+    match name {
+        "" => {}
+        "format" => request.format = Some(value.parse()?),
+        "accept" => request.accept = Some(value.parse()?),
+        "if-none-match" => request.if_none_match = true,
+        "etag" => push_tag(alloc, &mut request.etags, value)?,
+        "if-match" => push_tag(alloc, &mut request.if_match, value)?,
+        _ => return Err(Fail::new("no option")),
+    }
+    Ok(())
 }
 
 fn body_of<A: Allocator + Copy>(alloc: Global, memory: A, text: &str) -> Result<Bytes<A>, Fail> {

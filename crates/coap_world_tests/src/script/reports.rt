@@ -16,6 +16,10 @@ pub(super) fn report_text<A: Allocator>(alloc: Global, report: &Report<A>) -> Re
             let fetched = fetched_text(alloc, fetched)?;
             format!(in alloc; "value {number} {fetched}")?
         }
+        Report::Valid(tag) => {
+            let tag = tag_text(alloc, tag)?;
+            format!(in alloc; "valid {tag}")?
+        }
         Report::Done(code) => format!(in alloc; "done {code}")?,
         Report::Ended(code) => format!(in alloc; "ended {code}")?,
         Report::Failed(code) => format!(in alloc; "failed {code}")?,
@@ -28,11 +32,13 @@ pub(super) fn report_text<A: Allocator>(alloc: Global, report: &Report<A>) -> Re
 }
 
 fn fetched_text<A: Allocator>(alloc: Global, fetched: &Fetched<A>) -> Result<String, Fail> {
-    let tag = hex_text(
-        alloc,
-        fetched.tag.as_ref().map_or(&[], |tag: &Tag| tag.as_slice()),
-    )?;
+    let tag = tag_text(alloc, &fetched.tag)?;
     let format = format_text(alloc, fetched.format)?;
     let body = hex_text(alloc, fetched.body.as_slice())?;
     Ok(format!(in alloc; "{tag} {format} {body}")?)
+}
+
+// An entity-tag in hex, or `-` for none.
+fn tag_text(alloc: Global, tag: &Option<Tag>) -> Result<String, Fail> {
+    hex_text(alloc, tag.as_ref().map_or(&[], |tag: &Tag| tag.as_slice()))
 }

@@ -1,5 +1,5 @@
 //! What the words of a line mean.
-use coap_types::{Endpoint, Method, Path, Szx};
+use coap_types::{Endpoint, Method, Path, Szx, Tag, Tags};
 use coap_world::{CLIENT_END, SERVER_END};
 use std::alloc::{Allocator, Global};
 use std::test::Fail;
@@ -63,6 +63,18 @@ pub(super) fn format_of(word: &str) -> Result<Option<u16>, Fail> {
         "-" => None,
         _ => Some(word.parse()?),
     })
+}
+
+/// Adds an entity-tag, in hex.
+pub(super) fn push_tag(alloc: Global, tags: &mut Tags, word: &str) -> Result<(), Fail> {
+    let bytes: Vec<u8> = hex::decode(alloc, word)?;
+    let Some(tag) = Tag::new(bytes.as_slice()) else {
+        return Err(Fail::new("a tag has 1 to 8 bytes"));
+    };
+    match tags.push(tag) {
+        Ok(()) => Ok(()),
+        Err(_) => Err(Fail::new("there are at most 4 tags")),
+    }
 }
 
 /// A size exponent.
